@@ -1,0 +1,90 @@
+-- Messages in place of names: one traversal for each sort, and what it puts where.
+use Rattle.std.specs.Prelude.{ℕ, suc, ◌+◌, map, if◌then◌else◌, ◌==◌}
+use Rattle.spi_term.specs.Term.{Message, bound, name, unit, pair, in_left, in_right, enc, hash, Atom, ends, checks, many, Effect, Ty, un, unit_ty, pair_ty, sum_ty, key, nonce, Leaf, Sends, Stops, Prefix, Recvs, Serves, Splits, Selects, Decrypts, Checks, Begins, Ends, EndManys, Casts, Makes, Fork, Cases, Pars, Process, leaf, prefix, fork, binds, fork_binds}
+
+-- f on the message of an atom, and of each atom
+abbrev pub atom_map : (Message → Message) → Atom → Atom
+atom_map f (ends m) = ends (f m)
+atom_map f (checks m) = checks (f m)
+atom_map f (many m) = many (f m)
+
+abbrev pub effect_map : (Message → Message) → Effect → Effect
+effect_map f es = map (atom_map f) es
+
+-- f d on each message of a type, where d is k and the number of binders passed
+abbrev pub ty_map : (ℕ → Message → Message) → ℕ → Ty → Ty
+ty_map f k un = un
+ty_map f k unit_ty = unit_ty
+ty_map f k (pair_ty t u) = pair_ty (ty_map f k t) (ty_map f (suc k) u)
+ty_map f k (sum_ty t u) = sum_ty (ty_map f k t) (ty_map f k u)
+ty_map f k (key t) = key (ty_map f k t)
+ty_map f k (nonce es) = nonce (effect_map (f k) es)
+
+-- the same for a form and a process
+abbrev pub leaf_map : (ℕ → Message → Message) → ℕ → Leaf → Leaf
+leaf_map f k (Sends m n) = Sends (f k m) (f k n)
+leaf_map f k Stops = Stops
+
+abbrev pub prefix_map : (ℕ → Message → Message) → ℕ → Prefix → Prefix
+prefix_map f k (Recvs m t) = Recvs (f k m) (ty_map f k t)
+prefix_map f k (Serves m t) = Serves (f k m) (ty_map f k t)
+prefix_map f k (Splits m t u) = Splits (f k m) (ty_map f k t) (ty_map f (suc k) u)
+prefix_map f k (Selects m t n u) = Selects (f k m) (ty_map f k t) (f k n) (ty_map f (suc k) u)
+prefix_map f k (Decrypts m t n) = Decrypts (f k m) (ty_map f k t) (f k n)
+prefix_map f k (Checks m n) = Checks (f k m) (f k n)
+prefix_map f k (Begins m) = Begins (f k m)
+prefix_map f k (Ends m) = Ends (f k m)
+prefix_map f k (EndManys m) = EndManys (f k m)
+prefix_map f k (Casts m t) = Casts (f k m) (ty_map f k t)
+prefix_map f k (Makes t) = Makes (ty_map f k t)
+
+abbrev pub fork_map : (ℕ → Message → Message) → ℕ → Fork → Fork
+fork_map f k (Cases m t u) = Cases (f k m) (ty_map f k t) (ty_map f k u)
+fork_map f k Pars = Pars
+
+abbrev pub process_map : (ℕ → Message → Message) → ℕ → Process → Process
+process_map f k (leaf l) = leaf (leaf_map f k l)
+process_map f k (prefix b p) = prefix (prefix_map f k b) (process_map f (k + binds b) p)
+process_map f k (fork b p q) = fork (fork_map f k b) (process_map f (k + fork_binds b) p) (process_map f (k + fork_binds b) q)
+
+-- n for the bound name k
+abbrev pub put : Message → ℕ → Message → Message
+put n k (bound i) = if i == k then n else bound i
+put n k (name x) = name x
+put n k unit = unit
+put n k (pair a b) = pair (put n k a) (put n k b)
+put n k (in_left a) = in_left (put n k a)
+put n k (in_right a) = in_right (put n k a)
+put n k (enc a b) = enc (put n k a) (put n k b)
+put n k (hash a) = hash (put n k a)
+
+-- n for the outermost binder of a type, and of a process
+abbrev pub ty_put : Message → Ty → Ty
+ty_put n t = ty_map (put n) 0 t
+
+abbrev pub process_put : Message → Process → Process
+process_put n p = process_map (put n) 0 p
+
+-- m and n for the two names that `split` binds
+abbrev pub process_put_two : Message → Message → Process → Process
+process_put_two m n p = process_map (put n) 0 (process_map (put m) 1 p)
+
+-- s x for each free name x, all at once
+abbrev pub replace : (ℕ → Message) → Message → Message
+replace s (bound i) = bound i
+replace s (name x) = s x
+replace s unit = unit
+replace s (pair a b) = pair (replace s a) (replace s b)
+replace s (in_left a) = in_left (replace s a)
+replace s (in_right a) = in_right (replace s a)
+replace s (enc a b) = enc (replace s a) (replace s b)
+replace s (hash a) = hash (replace s a)
+
+abbrev pub effect_replace : (ℕ → Message) → Effect → Effect
+effect_replace s es = effect_map (replace s) es
+
+abbrev pub ty_replace : (ℕ → Message) → Ty → Ty
+ty_replace s t = ty_map (λ d. replace s) 0 t
+
+abbrev pub process_replace : (ℕ → Message) → Process → Process
+process_replace s p = process_map (λ d. replace s) 0 p
