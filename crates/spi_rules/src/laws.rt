@@ -1,0 +1,21 @@
+// Laws of the type system.
+
+ghost use Rattle.std.specs.Prelude.{◌↔◌, List, []};
+ghost use Rattle.spi_term.specs.Term.{Message, Effect, Ty, Process};
+ghost use Rattle.spi_term.specs.Counts.{SameEffect};
+ghost use Rattle.spi_rules.specs.Environment.{Env, HasNoLooseIndex};
+ghost use Rattle.spi_rules.specs.Messages.{HasType, IsLabel};
+ghost use Rattle.spi_rules.specs.Derivations.{RuleUse, Proves};
+ghost use Rattle.spi_rules.specs.Deriv.{IsTree};
+
+/// A message is a label exactly where it has some type, in an environment whose types have no loose index.
+pub fn label_is_typed()
+    ensures { (env : Env) (m : Message) → HasNoLooseIndex env → IsLabel [] env m ↔ ((t : Ty) × HasType [] env m t) }
+{}
+
+/// The rule uses of a derivation are one tree in preorder. They, with the effects written at `ProcSub`, determine
+/// what it proves of a process, up to equal counts.
+pub fn uses_determine_effect()
+    ensures tree { (d : List RuleUse) (env : Env) (p : Process) (es : Effect) → Proves d env p es → IsTree d }
+    ensures effect { (d : List RuleUse) (env : Env) (p : Process) (es fs : Effect) → Proves d env p es → Proves d env p fs → SameEffect es fs }
+{}
