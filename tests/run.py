@@ -1,0 +1,87 @@
+#!/usr/bin/env python3
+"""Runs the program on the cases of tests/cases/*.jsonl, and compares what it writes and its status.
+
+A case is a JSON object on a line: `shows` (what it shows), `words` (the command line), its standard input as `input`
+(text), `input_base64`, or `input_parts` (pairs of a text and how often it stands), `output` (what is written) and
+`status`. The program is built once, without proofs, by `rt try`; `--program FILE` runs a program that is there.
+--passed and --failed are counts to add. The last line is 'N passed, M failed'."""
+
+import argparse
+import base64
+import glob
+import json
+import os
+import re
+import subprocess
+import sys
+import tempfile
+
+ROOT = os.path.dirname(os.path.dirname(os.path.abspath(__file__)))
+
+
+def cases_of(pattern):
+    for path in sorted(glob.glob(f"{ROOT}/tests/cases/{pattern}")):
+        with open(path, encoding="utf-8") as lines:
+            for line in lines:
+                yield json.loads(line)
+
+
+def input_of(case):
+    if "input_base64" in case:
+        return base64.b64decode(case["input_base64"])
+    if "input_parts" in case:
+        return b"".join(part.encode() * times for part, times in case["input_parts"])
+    return case.get("input", "").encode()
+
+
+def run_built(cases):
+    """The status and the output of each case, by one build of the sources."""
+    with tempfile.TemporaryDirectory(prefix="cryptyc-cases-") as folder:
+        for number, case in enumerate(cases):
+            name = f"{folder}/{number:05}"
+            with open(name, "wb") as file:
+                file.write(input_of(case))
+            with open(f"{name}.args", "w", encoding="utf-8") as file:
+                file.write("".join(word + "\n" for word in case["words"]))
+            with open(f"{name}.stdout", "w", encoding="utf-8") as file:
+                file.write(case["output"])
+        run = subprocess.run(["rt", "try", "--cases", folder], cwd=f"{ROOT}/crates/cryptyc",
+                             stdin=subprocess.DEVNULL, capture_output=True, text=True, errors="replace")
+    found = {}
+    for line in run.stderr.splitlines() + run.stdout.splitlines():
+        match = re.match(r"case=(\d+) run=ended status=(\d+) .*output=(\w+)", line)
+        if match:
+            found[int(match[1])] = (int(match[2]), match[3] == "expected")
+    if not found:
+        sys.stderr.write(run.stdout + run.stderr)
+    return [found.get(number, (None, False)) for number in range(len(cases))]
+
+
+def run_program(program, cases):
+    """The same by a program that is there."""
+    for case in cases:
+        run = subprocess.run([program, *case["words"]], input=input_of(case), capture_output=True)
+        yield run.returncode, run.stdout == case["output"].encode()
+
+
+def main():
+    words = argparse.ArgumentParser()
+    words.add_argument("--passed", type=int, default=0)
+    words.add_argument("--failed", type=int, default=0)
+    words.add_argument("--program")
+    words.add_argument("--cases", default="*.jsonl")
+    asked = words.parse_args()
+    cases = list(cases_of(asked.cases))
+    passed, failed = asked.passed, asked.failed
+    results = run_program(asked.program, cases) if asked.program else run_built(cases)
+    for case, (status, same) in zip(cases, results):
+        if same and status == case["status"]:
+            passed += 1
+        else:
+            failed += 1
+            print(f"case: {case['shows']}: status {status}, wanted {case['status']}; output {'as wanted' if same else 'differs'}")
+    print(f"{passed} passed, {failed} failed")
+    return 1 if failed or not cases else 0
+
+
+sys.exit(main())
