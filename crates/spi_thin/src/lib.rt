@@ -1,0 +1,15 @@
+//! Thin files: the small first language.
+#![tactic(auto)]
+
+mod fault;
+mod messages;
+mod processes;
+mod scope;
+mod tokens;
+mod tree;
+
+pub use fault::ThinFault;
+use std::alloc::AllocError;
+
+/// Memory ran out.
+pub type NoMemory = AllocError;
