@@ -4,7 +4,7 @@ use Rattle.spi_lex.specs.declared.token.Kind.{Kind}
 use Rattle.spi_thin.specs.Scope.{Names}
 use Rattle.spi_thin.specs.Reading.{Sym, read, step}
 
-read_zero : (a : Sym) (xs : Names) (ks : List Kind) → read zero a xs ks ≡ None
+pub read_zero : (a : Sym) (xs : Names) (ks : List Kind) → read zero a xs ks ≡ None
 unfolding read
 read_zero a xs ks = refl
 
