@@ -1,0 +1,22 @@
+//! The lines that the program writes.
+#![tactic(auto)]
+
+ghost use Rattle.std.specs.Prelude.{◌≡◌, codes};
+
+mod refusal;
+
+pub use refusal::{Refusal, refused};
+use std::alloc::AllocError;
+
+/// Memory ran out.
+pub type NoMemory = AllocError;
+
+/// The line of a yes.
+pub fn yes() -> &'static [u8]
+    ensures { result.now ≡ codes "yes\n" }
+{
+    b"yes\n"
+}
+
+#[cfg(test)]
+mod tests;
