@@ -117,9 +117,9 @@ each_sound (b ∷ gs) es fs a i h =
     let r = and_true _ _ h in
     ⊎_elim (λ e. subst (λ c. count c es ≤ count c fs) (sym e) (leb-true _ _ r.0)) (λ j. each_sound gs es fs a j r.1) (in_cases i)
 
-each_complete : (gs es fs : Effect) → ((a : Atom) → count a es ≤ count a fs) → each_within gs es fs ≡ true
-each_complete [] es fs w = refl
-each_complete (a ∷ gs) es fs w = both_true (le-leb _ _ (w a)) (each_complete gs es fs w)
+pub each_complete_in : (gs es fs : Effect) → ((a : Atom) → In a gs → count a es ≤ count a fs) → each_within gs es fs ≡ true
+each_complete_in [] es fs w = refl
+each_complete_in (a ∷ gs) es fs w = both_true (le-leb _ _ (w a in_first)) (each_complete_in gs es fs (λ b i. w b (in_later i)))
 
 -- the test of counts decides whether one effect is within another
 pub is_within_sound : (es fs : Effect) → is_within es fs ≡ true → (a : Atom) → count a es ≤ count a fs
@@ -130,7 +130,7 @@ is_within_sound es fs h a =
     (cases_lt (tally a es) 1)
 
 pub is_within_complete : (es fs : Effect) → ((a : Atom) → count a es ≤ count a fs) → is_within es fs ≡ true
-is_within_complete es fs w = each_complete es es fs w
+is_within_complete es fs w = each_complete_in es es fs (λ a i. w a)
 
 -- the test of types decides sameness
 pub same_sound : (t u : Ty) → same_ty t u ≡ true → SameTy t u
