@@ -82,3 +82,6 @@ Avoids x (hash a) = Avoids x a
 
 abbrev pub EffectAvoids : ℕ → Effect → Type 0
 EffectAvoids x es = OfEffect (Avoids x) es
+
+abbrev pub TyAvoids : ℕ → Ty → Type 0
+TyAvoids x t = OfTy (λ d. Avoids x) 0 t

@@ -1,5 +1,5 @@
 -- Messages in place of names: one traversal for each sort, and what it puts where.
-use Rattle.std.specs.Prelude.{ℕ, suc, ◌+◌, map, if◌then◌else◌, ◌==◌}
+use Rattle.std.specs.Prelude.{ℕ, suc, ◌+◌, ◌-◌, map, if◌then◌else◌, ◌==◌, nat_lt, List, Option, Some, None, slice_get}
 use Rattle.spi_term.specs.Term.{Message, bound, name, unit, pair, in_left, in_right, enc, hash, Atom, ends, checks, many, Effect, Ty, un, unit_ty, pair_ty, sum_ty, key, nonce, Leaf, Sends, Stops, Prefix, Recvs, Serves, Splits, Selects, Decrypts, Checks, Begins, Ends, EndManys, Casts, Makes, Fork, Cases, Pars, Process, leaf, prefix, fork, binds, fork_binds}
 
 -- f on the message of an atom, and of each atom
@@ -88,3 +88,11 @@ ty_replace s t = ty_map (λ d. replace s) 0 t
 
 abbrev pub process_replace : (ℕ → Message) → Process → Process
 process_replace s p = process_map (λ d. replace s) 0 p
+
+-- the value number i for the name from + i, and every other name for itself
+abbrev pub or_name : ℕ → Option Message → Message
+or_name x None = name x
+or_name x (Some m) = m
+
+abbrev pub value_for : ℕ → List Message → ℕ → Message
+value_for from values x = if nat_lt x from then name x else or_name x (slice_get values (x - from))
