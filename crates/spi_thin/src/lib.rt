@@ -17,3 +17,6 @@ use std::alloc::AllocError;
 
 /// Memory ran out.
 pub type NoMemory = AllocError;
+
+#[cfg(test)]
+mod tests;
