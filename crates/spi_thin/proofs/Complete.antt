@@ -1,8 +1,8 @@
 -- What is spelled is read.
-use Rattle.std.proofs.Common.{◌≡◌, ℕ, zero, suc, ◌+◌, ◌<◌, ◌≤◌, List, [], ◌∷◌, length, refl, sym, ap, subst, ◌∙◌, arith}
+use Rattle.std.proofs.Common.{◌≡◌, ℕ, zero, suc, ◌<◌, ◌≤◌, List, [], ◌∷◌, length, refl, ◌∙◌, arith}
 use Rattle.std.specs.Prelude.{Option, Some, None, IsSome}
 use Rattle.spi_lex.specs.declared.token.Kind.{Kind}
-use Rattle.spi_lex.specs.declared.token.Kind.TheVariants.{Word, Reserved, Mark}
+use Rattle.spi_lex.specs.declared.token.Kind.TheVariants.{Word, Mark}
 use Rattle.spi_lex.specs.declared.token.Mark.TheVariants.{ParenOpen, ParenClose, Comma, Semicolon, Bar}
 use Rattle.spi_term.specs.Term as Term
 use Rattle.spi_term.specs.Term.{Message, send}
@@ -12,7 +12,7 @@ use Rattle.spi_thin.specs.Meaning as m
 use Rattle.spi_thin.specs.Meaning.{as_number, name_as}
 use Rattle.spi_thin.specs.Reading as r
 use Rattle.spi_thin.specs.Reading.{◌>>=◌, Reader, whole, parts, seq, proc, known, in_parens, parts_end, out_end, proc_end, read}
-use Rattle.spi_thin.proofs.Readers.{read_zero, read_suc}
+use Rattle.spi_thin.proofs.Readers.{read_suc}
 use Rattle.spi_thin.proofs.Counts.{message_count, parts_count, seq_count, process_count}
 
 -- what may follow a process with its bars, and one before a bar

@@ -1,9 +1,8 @@
 -- How many tokens a tree has, and that what it stands for is no larger.
-use Rattle.std.proofs.Common.{◌≡◌, ℕ, suc, ◌+◌, ◌*◌, ◌≤◌, List, [], ◌∷◌, length, refl, sym, ap, ◌∙◌, arith}
+use Rattle.std.proofs.Common.{◌≡◌, ℕ, ◌+◌, ◌*◌, ◌≤◌, List, [], ◌∷◌, length, refl, arith}
 use Rattle.std.specs.Prelude.{Option, Some, None}
 use Rattle.spi_lex.specs.declared.token.Kind.{Kind}
-use Rattle.spi_lex.specs.declared.token.Kind.TheVariants.{Reserved, Mark}
-use Rattle.spi_lex.specs.declared.token.Reserved.TheVariants.{Process}
+use Rattle.spi_lex.specs.declared.token.Kind.TheVariants.{Mark}
 use Rattle.spi_lex.specs.declared.token.Mark.TheVariants.{ParenClose, Semicolon, Bar}
 use Rattle.spi_term.specs.Term.{message_size, process_size}
 use Rattle.spi_thin.specs.Tree.{Msg, name, unit, tuple, Parts, last, more, Seq, out, out_then, inp, begin, end, new, stop, group, Proc, one, par, Decl, message_tokens, parts_tokens, binder_tokens, seq_tokens, process_tokens, words_tokens, decls_tokens}

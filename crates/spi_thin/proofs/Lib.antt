@@ -3,6 +3,7 @@ pub mod Readers
 pub mod Counts
 pub mod Sound
 pub mod Complete
-pub mod Declarations
+pub mod Declaring
 pub mod Numbering
+pub mod Closing
 pub mod Files

@@ -1,6 +1,6 @@
 -- A bound name as the index of its binder, and as the number that opens it.
-use Rattle.std.proofs.Common.{◌≡◌, ℕ, zero, suc, ◌+◌, ◌-◌, ◌<◌, ◌≤◌, Bool, true, false, cond, List, [], ◌∷◌, ◌++◌, length, refl, sym, ap, ◌∙◌, subst, arith, ⊎_elim, zero-add, add-zero}
-use Rattle.std.specs.Prelude.{Option, Some, None, IfSome, nat_lt, ⊤}
+use Rattle.std.proofs.Common.{◌≡◌, ℕ, suc, ◌+◌, ◌-◌, ◌<◌, ◌≤◌, Bool, true, false, cond, List, [], ◌∷◌, ◌++◌, length, refl, sym, ap, ◌∙◌, subst, arith, zero-add}
+use Rattle.std.specs.Prelude.{Option, Some, None, IfSome, nat_lt}
 use Rattle.std.specs.Str.{bytes_eq}
 use Rattle.spi_term.specs.Term as Term
 use Rattle.spi_term.specs.Term.{Message, pair, un, send, recv, fresh, Process, process_size}
@@ -12,7 +12,7 @@ use Rattle.spi_term.proofs.Numbers.{number_index, over_indexed}
 use Rattle.spi_thin.specs.Tree.{Msg, name, unit, tuple, Parts, last, more, Seq, out, out_then, inp, begin, end, new, stop, group, Proc, one, par}
 use Rattle.spi_thin.specs.Scope.{Names, number_of}
 use Rattle.spi_thin.specs.Meaning.{as_index, as_number, name_as, message, parts, seq, process}
-use Rattle.spi_thin.proofs.Counts.{message_count, parts_count, seq_count, process_count, message_fits, seq_fits}
+use Rattle.spi_thin.proofs.Counts.{message_count, seq_count, process_count, message_fits}
 
 number_below : (xs : Names) (w : List ℕ) → IfSome (number_of xs w) (λ n. n < length xs)
 number_below [] w = tt
@@ -104,9 +104,10 @@ numbers_spell t xs =
     let p : Process = process as_number xs t in
     let z : k ≡ k + 0 = omega arith in
     let e : indexed k k p ≡ process (as_index k) xs t = process_index k t xs k refl in
-    let scoped : InScope k p = process_over t xs k refl in
-    (subst (ProcessOver k) e (over_indexed k 0 k z p scoped),
-     ap (λ (q : Process). flat 0 k (numbered [] k q)) (sym e) ∙ ap (flat 0 k) (number_index k 0 k z p scoped))
+    let scoped : InScope k p = process_over t xs k refl in (
+      subst (ProcessOver k) e (over_indexed k 0 k z p scoped),
+      ap (λ (q : Process). flat 0 k (numbered [] k q)) (sym e) ∙ ap (flat 0 k) (number_index k 0 k z p scoped),
+    )
 
 -- its messages are small
 both_small : (a b : List Shape) → HaveSmallParts a → HaveSmallParts b → HaveSmallParts (a ++ b)

@@ -1,5 +1,5 @@
 -- Reading a level deeper.
-use Rattle.std.proofs.Common.{◌≡◌, ℕ, zero, suc, List, Option, None, refl, ap, ◌∙◌}
+use Rattle.std.proofs.Common.{◌≡◌, ℕ, zero, suc, List, None, refl, ap, ◌∙◌}
 use Rattle.spi_lex.specs.declared.token.Kind.{Kind}
 use Rattle.spi_thin.specs.Scope.{Names}
 use Rattle.spi_thin.specs.Reading.{Sym, read, step}

@@ -5,9 +5,9 @@ use Rattle.std.specs.Str.{bytes_eq}
 use Rattle.std.proofs.lemmas.Slice.Eq.{bytes_eq-Decides}
 use Rattle.spi_lex.specs.declared.token.Kind.{Kind}
 use Rattle.spi_lex.specs.declared.token.Kind.TheVariants.{Word, Reserved, Number, Mark}
-use Rattle.spi_lex.specs.declared.token.Reserved.TheVariants.{Free, Process, Out, Inp, Begin, End, New, Stop, Un}
+use Rattle.spi_lex.specs.declared.token.Reserved.TheVariants.{Out, Inp, Begin, End, New, Stop, Un}
 use Rattle.spi_lex.specs.declared.token.Mark.{Mark as TheMark}
-use Rattle.spi_lex.specs.declared.token.Mark.TheVariants.{ParenOpen, ParenClose, BracketOpen, BracketClose, BraceOpen, BraceClose, Comma, Semicolon, Colon, Equals, Bar, Plus, NumberSign}
+use Rattle.spi_lex.specs.declared.token.Mark.TheVariants.{ParenOpen, ParenClose, Comma, Semicolon, Colon, Bar}
 use Rattle.spi_lex.specs.declared.scan.Class.TheVariants as classes
 use Rattle.spi_lex.specs.Words.{mark_byte}
 use Rattle.spi_lex.specs.Front.{class_of}
@@ -19,7 +19,7 @@ use Rattle.spi_thin.specs.Tree.{message_tokens, parts_tokens, binder_tokens, seq
 use Rattle.spi_thin.specs.Scope.{Names, number_of, MessageInScope, PartsInScope, SeqInScope, ProcessInScope}
 use Rattle.spi_thin.specs.Meaning as m
 use Rattle.spi_thin.specs.Meaning.{as_number, name_as}
-use Rattle.spi_thin.specs.Reading.{Read, ◌>>=◌, Sym, whole, parts, seq, proc, Value, Reader, is_mark, after_mark, after_un, after_word, binder, known, tuple, in_parens, message_step, parts_end, parts_step, out_end, out_form, inp_form, begin_form, end_form, new_form, group_form, seq_step, proc_end, proc_step, step, read}
+use Rattle.spi_thin.specs.Reading.{◌>>=◌, Sym, whole, parts, seq, proc, Value, Reader, after_mark, after_un, after_word, binder, known, tuple, in_parens, message_step, parts_end, parts_step, out_end, out_form, inp_form, begin_form, end_form, new_form, group_form, seq_step, proc_end, proc_step, step, read}
 use Rattle.spi_thin.proofs.Readers.{read_zero, read_suc}
 
 pub some_is : {A : Type 0} {x y : A} → Some x ≡ Some y → x ≡ y
@@ -68,13 +68,13 @@ binder_sound ks r h =
     bind_some P (after_un b) _ hb (λ c ec hc.
     bind_some P (after_mark ParenClose c) _ hc (λ d ed hd.
     bind_some P (after_mark Semicolon d) _ hd (λ e ee he.
-        ap (λ (y : List ℕ × List Kind). binder_tokens y.0 y.1) (sym (some_is he))
-        ∙ ap (λ (l : List Kind). Mark ParenOpen ∷ Word x.0 ∷ Mark Colon ∷ Reserved Un ∷ Mark ParenClose ∷ l) (mark_sound Semicolon d e ee)
-        ∙ ap (λ (l : List Kind). Mark ParenOpen ∷ Word x.0 ∷ Mark Colon ∷ Reserved Un ∷ l) (mark_sound ParenClose c d ed)
-        ∙ ap (λ (l : List Kind). Mark ParenOpen ∷ Word x.0 ∷ Mark Colon ∷ l) (un_sound b c ec)
-        ∙ ap (λ (l : List Kind). Mark ParenOpen ∷ Word x.0 ∷ l) (mark_sound Colon x.1 b eb)
-        ∙ ap (λ (l : List Kind). Mark ParenOpen ∷ l) (word_sound a x ex)
-        ∙ mark_sound ParenOpen ks a ea))))))
+    ap (λ (y : List ℕ × List Kind). binder_tokens y.0 y.1) (sym (some_is he))
+    ∙ ap (λ (l : List Kind). Mark ParenOpen ∷ Word x.0 ∷ Mark Colon ∷ Reserved Un ∷ Mark ParenClose ∷ l) (mark_sound Semicolon d e ee)
+    ∙ ap (λ (l : List Kind). Mark ParenOpen ∷ Word x.0 ∷ Mark Colon ∷ Reserved Un ∷ l) (mark_sound ParenClose c d ed)
+    ∙ ap (λ (l : List Kind). Mark ParenOpen ∷ Word x.0 ∷ Mark Colon ∷ l) (un_sound b c ec)
+    ∙ ap (λ (l : List Kind). Mark ParenOpen ∷ Word x.0 ∷ l) (mark_sound Colon x.1 b eb)
+    ∙ ap (λ (l : List Kind). Mark ParenOpen ∷ l) (word_sound a x ex)
+    ∙ mark_sound ParenOpen ks a ea))))))
 
 -- the tokens begin with those of a tree, which leave these and stand for this value
 abbrev pub Begins : (a : Sym) → Names → List Kind → Value a × List Kind → Type 0
@@ -98,10 +98,10 @@ module _ (rd : Reader) (sound : IsSound rd) where
       let P : Type 0 = Begins whole xs (Mark ParenOpen ∷ ks) r in
       bind_some P (rd whole xs ks) _ h (λ a ea ha.
       bind_some P (rd parts xs a.1) _ ha (λ b eb hb.
-          let u = sound whole xs ks a ea in
-          let v = sound parts xs a.1 b eb in
-          subst (Begins whole xs (Mark ParenOpen ∷ ks)) (some_is hb)
-          (t.tuple u.0 v.0, ap (λ (l : List Kind). Mark ParenOpen ∷ l) (ap (message_tokens u.0) v.1 ∙ u.1), (u.2, v.2), ap (λ (x : Message). pair x (m.parts as_number xs v.0)) u.3 ∙ ap (pair a.0) v.3)))
+      let u = sound whole xs ks a ea in
+      let v = sound parts xs a.1 b eb in
+      subst (Begins whole xs (Mark ParenOpen ∷ ks)) (some_is hb)
+      (t.tuple u.0 v.0, ap (λ (l : List Kind). Mark ParenOpen ∷ l) (ap (message_tokens u.0) v.1 ∙ u.1), (u.2, v.2), ap (λ (x : Message). pair x (m.parts as_number xs v.0)) u.3 ∙ ap (pair a.0) v.3)))
 
   parens_sound : (xs : Names) (ks : List Kind) (r : Message × List Kind) → in_parens rd xs ks ≡ Some r → Begins whole xs (Mark ParenOpen ∷ ks) r
   parens_sound xs [] r h = cc
@@ -121,39 +121,45 @@ module _ (rd : Reader) (sound : IsSound rd) where
       subst (Begins parts xs (Mark Comma ∷ ks)) (some_is h) (t.last u, ap (λ (l : List Kind). Mark Comma ∷ l) tokens, s, v)
   parts_end_sound xs a u ks e s v left is r h =
       bind_some (Begins parts xs (Mark Comma ∷ ks) r) (rd parts xs left) _ h (λ b eb hb.
-          let w = sound parts xs left b eb in
-          subst (Begins parts xs (Mark Comma ∷ ks)) (some_is hb)
-          (t.more u w.0, ap (λ (l : List Kind). Mark Comma ∷ l) (ap (message_tokens u) (w.1 ∙ is) ∙ e), (s, w.2), ap (λ (x : Message). pair x (m.parts as_number xs w.0)) v ∙ ap (pair a.0) w.3))
+      let w = sound parts xs left b eb in
+      subst (Begins parts xs (Mark Comma ∷ ks)) (some_is hb)
+      (t.more u w.0, ap (λ (l : List Kind). Mark Comma ∷ l) (ap (message_tokens u) (w.1 ∙ is) ∙ e), (s, w.2), ap (λ (x : Message). pair x (m.parts as_number xs w.0)) v ∙ ap (pair a.0) w.3))
 
   parts_sound : (xs : Names) (ks : List Kind) (r : Message × List Kind) → parts_step rd xs ks ≡ Some r → Begins parts xs ks r
   parts_sound xs (Mark Comma ∷ ks) r h =
       bind_some (Begins parts xs (Mark Comma ∷ ks) r) (rd whole xs ks) _ h (λ a ea ha.
-          let u = sound whole xs ks a ea in
-          parts_end_sound xs a u.0 ks u.1 u.2 u.3 a.1 refl r ha)
+      let u = sound whole xs ks a ea in
+      parts_end_sound xs a u.0 ks u.1 u.2 u.3 a.1 refl r ha)
   parts_sound xs _ r h = cc
 
   out_end_sound : (xs : Names) (ks : List Kind) (a b : Message × List Kind) → Begins whole xs ks a → Begins whole xs a.1 b
       → (left : List Kind) → left ≡ b.1 → (r : Term.Process × List Kind) → out_end rd xs a.0 b.0 left ≡ Some r → Begins seq xs (Reserved Out ∷ ks) r
   out_end_sound xs ks a b u v (Mark Semicolon ∷ left) is r h =
       bind_some (Begins seq xs (Reserved Out ∷ ks) r) (rd seq xs left) _ h (λ c ec hc.
-          let w = sound seq xs left c ec in
-          let tail : message_tokens v.0 (Mark Semicolon ∷ seq_tokens w.0 c.1) ≡ a.1 = ap (λ (l : List Kind). message_tokens v.0 (Mark Semicolon ∷ l)) w.1 ∙ ap (message_tokens v.0) is ∙ v.1 in
-          subst (Begins seq xs (Reserved Out ∷ ks)) (some_is hc)
-          (t.out_then u.0 v.0 w.0, ap (λ (l : List Kind). Reserved Out ∷ l) (ap (message_tokens u.0) tail ∙ u.1), (u.2, v.2, w.2),
-              ap (λ (x : Message). Term.par (send x (m.message as_number xs v.0)) (m.seq as_number xs w.0)) u.3
-              ∙ ap (λ (x : Message). Term.par (send a.0 x) (m.seq as_number xs w.0)) v.3 ∙ ap (Term.par (send a.0 b.0)) w.3))
+      let w = sound seq xs left c ec in
+      let tail : message_tokens v.0 (Mark Semicolon ∷ seq_tokens w.0 c.1) ≡ a.1 = ap (λ (l : List Kind). message_tokens v.0 (Mark Semicolon ∷ l)) w.1 ∙ ap (message_tokens v.0) is ∙ v.1 in
+      subst (Begins seq xs (Reserved Out ∷ ks)) (some_is hc) (
+        t.out_then u.0 v.0 w.0,
+        ap (λ (l : List Kind). Reserved Out ∷ l) (ap (message_tokens u.0) tail ∙ u.1),
+        (u.2, v.2, w.2),
+        ap (λ (x : Message). Term.par (send x (m.message as_number xs v.0)) (m.seq as_number xs w.0)) u.3
+            ∙ ap (λ (x : Message). Term.par (send a.0 x) (m.seq as_number xs w.0)) v.3 ∙ ap (Term.par (send a.0 b.0)) w.3,
+      ))
   out_end_sound xs ks a b u v left is r h =
       let P : Term.Process × List Kind → Type 0 = Begins seq xs (Reserved Out ∷ ks) in
-      subst P (some_is h)
-      (t.out u.0 v.0, ap (λ (l : List Kind). Reserved Out ∷ message_tokens u.0 (message_tokens v.0 l)) is ∙ ap (λ (l : List Kind). Reserved Out ∷ l) (ap (message_tokens u.0) v.1 ∙ u.1), (u.2, v.2),
-          ap (λ (x : Message). send x (m.message as_number xs v.0)) u.3 ∙ ap (send a.0) v.3)
+      subst P (some_is h) (
+        t.out u.0 v.0,
+        ap (λ (l : List Kind). Reserved Out ∷ message_tokens u.0 (message_tokens v.0 l)) is ∙ ap (λ (l : List Kind). Reserved Out ∷ l) (ap (message_tokens u.0) v.1 ∙ u.1),
+        (u.2, v.2),
+        ap (λ (x : Message). send x (m.message as_number xs v.0)) u.3 ∙ ap (send a.0) v.3,
+      )
 
   out_sound : (xs : Names) (ks : List Kind) (r : Term.Process × List Kind) → out_form rd xs ks ≡ Some r → Begins seq xs (Reserved Out ∷ ks) r
   out_sound xs ks r h =
       let P : Type 0 = Begins seq xs (Reserved Out ∷ ks) r in
       bind_some P (rd whole xs ks) _ h (λ a ea ha.
       bind_some P (rd whole xs a.1) _ ha (λ b eb hb.
-          out_end_sound xs ks a b (sound whole xs ks a ea) (sound whole xs a.1 b eb) b.1 refl r hb))
+      out_end_sound xs ks a b (sound whole xs ks a ea) (sound whole xs a.1 b eb) b.1 refl r hb))
 
   inp_sound : (xs : Names) (ks : List Kind) (r : Term.Process × List Kind) → inp_form rd xs ks ≡ Some r → Begins seq xs (Reserved Inp ∷ ks) r
   inp_sound xs ks r h =
@@ -161,11 +167,14 @@ module _ (rd : Reader) (sound : IsSound rd) where
       bind_some P (rd whole xs ks) _ h (λ a ea ha.
       bind_some P (binder a.1) _ ha (λ x ex hx.
       bind_some P (rd seq (x.0 ∷ xs) x.1) _ hx (λ b eb hb.
-          let u = sound whole xs ks a ea in
-          let v = sound seq (x.0 ∷ xs) x.1 b eb in
-          subst (Begins seq xs (Reserved Inp ∷ ks)) (some_is hb)
-          (t.inp u.0 x.0 v.0, ap (λ (l : List Kind). Reserved Inp ∷ l) (ap (λ (l : List Kind). message_tokens u.0 (binder_tokens x.0 l)) v.1 ∙ ap (message_tokens u.0) (binder_sound a.1 x ex) ∙ u.1), (u.2, v.2),
-              ap (λ (y : Message). recv y un (m.seq as_number (x.0 ∷ xs) v.0)) u.3 ∙ ap (recv a.0 un) v.3))))
+      let u = sound whole xs ks a ea in
+      let v = sound seq (x.0 ∷ xs) x.1 b eb in
+      subst (Begins seq xs (Reserved Inp ∷ ks)) (some_is hb) (
+        t.inp u.0 x.0 v.0,
+        ap (λ (l : List Kind). Reserved Inp ∷ l) (ap (λ (l : List Kind). message_tokens u.0 (binder_tokens x.0 l)) v.1 ∙ ap (message_tokens u.0) (binder_sound a.1 x ex) ∙ u.1),
+        (u.2, v.2),
+        ap (λ (y : Message). recv y un (m.seq as_number (x.0 ∷ xs) v.0)) u.3 ∙ ap (recv a.0 un) v.3,
+      ))))
 
   begin_sound : (xs : Names) (ks : List Kind) (r : Term.Process × List Kind) → begin_form rd xs ks ≡ Some r → Begins seq xs (Reserved Begin ∷ ks) r
   begin_sound xs ks r h =
@@ -173,11 +182,14 @@ module _ (rd : Reader) (sound : IsSound rd) where
       bind_some P (rd whole xs ks) _ h (λ a ea ha.
       bind_some P (after_mark Semicolon a.1) _ ha (λ x ex hx.
       bind_some P (rd seq xs x) _ hx (λ b eb hb.
-          let u = sound whole xs ks a ea in
-          let v = sound seq xs x b eb in
-          subst (Begins seq xs (Reserved Begin ∷ ks)) (some_is hb)
-          (t.begin u.0 v.0, ap (λ (l : List Kind). Reserved Begin ∷ l) (ap (λ (l : List Kind). message_tokens u.0 (Mark Semicolon ∷ l)) v.1 ∙ ap (message_tokens u.0) (mark_sound Semicolon a.1 x ex) ∙ u.1), (u.2, v.2),
-              ap (λ (y : Message). Term.begin y (m.seq as_number xs v.0)) u.3 ∙ ap (Term.begin a.0) v.3))))
+      let u = sound whole xs ks a ea in
+      let v = sound seq xs x b eb in
+      subst (Begins seq xs (Reserved Begin ∷ ks)) (some_is hb) (
+        t.begin u.0 v.0,
+        ap (λ (l : List Kind). Reserved Begin ∷ l) (ap (λ (l : List Kind). message_tokens u.0 (Mark Semicolon ∷ l)) v.1 ∙ ap (message_tokens u.0) (mark_sound Semicolon a.1 x ex) ∙ u.1),
+        (u.2, v.2),
+        ap (λ (y : Message). Term.begin y (m.seq as_number xs v.0)) u.3 ∙ ap (Term.begin a.0) v.3,
+      ))))
 
   end_sound : (xs : Names) (ks : List Kind) (r : Term.Process × List Kind) → end_form rd xs ks ≡ Some r → Begins seq xs (Reserved End ∷ ks) r
   end_sound xs ks r h =
@@ -185,20 +197,23 @@ module _ (rd : Reader) (sound : IsSound rd) where
       bind_some P (rd whole xs ks) _ h (λ a ea ha.
       bind_some P (after_mark Semicolon a.1) _ ha (λ x ex hx.
       bind_some P (rd seq xs x) _ hx (λ b eb hb.
-          let u = sound whole xs ks a ea in
-          let v = sound seq xs x b eb in
-          subst (Begins seq xs (Reserved End ∷ ks)) (some_is hb)
-          (t.end u.0 v.0, ap (λ (l : List Kind). Reserved End ∷ l) (ap (λ (l : List Kind). message_tokens u.0 (Mark Semicolon ∷ l)) v.1 ∙ ap (message_tokens u.0) (mark_sound Semicolon a.1 x ex) ∙ u.1), (u.2, v.2),
-              ap (λ (y : Message). Term.end y (m.seq as_number xs v.0)) u.3 ∙ ap (Term.end a.0) v.3))))
+      let u = sound whole xs ks a ea in
+      let v = sound seq xs x b eb in
+      subst (Begins seq xs (Reserved End ∷ ks)) (some_is hb) (
+        t.end u.0 v.0,
+        ap (λ (l : List Kind). Reserved End ∷ l) (ap (λ (l : List Kind). message_tokens u.0 (Mark Semicolon ∷ l)) v.1 ∙ ap (message_tokens u.0) (mark_sound Semicolon a.1 x ex) ∙ u.1),
+        (u.2, v.2),
+        ap (λ (y : Message). Term.end y (m.seq as_number xs v.0)) u.3 ∙ ap (Term.end a.0) v.3,
+      ))))
 
   new_sound : (xs : Names) (ks : List Kind) (r : Term.Process × List Kind) → new_form rd xs ks ≡ Some r → Begins seq xs (Reserved New ∷ ks) r
   new_sound xs ks r h =
       let P : Type 0 = Begins seq xs (Reserved New ∷ ks) r in
       bind_some P (binder ks) _ h (λ x ex hx.
       bind_some P (rd seq (x.0 ∷ xs) x.1) _ hx (λ b eb hb.
-          let v = sound seq (x.0 ∷ xs) x.1 b eb in
-          subst (Begins seq xs (Reserved New ∷ ks)) (some_is hb)
-          (t.new x.0 v.0, ap (λ (l : List Kind). Reserved New ∷ l) (ap (binder_tokens x.0) v.1 ∙ binder_sound ks x ex), v.2, ap (fresh un) v.3)))
+      let v = sound seq (x.0 ∷ xs) x.1 b eb in
+      subst (Begins seq xs (Reserved New ∷ ks)) (some_is hb)
+      (t.new x.0 v.0, ap (λ (l : List Kind). Reserved New ∷ l) (ap (binder_tokens x.0) v.1 ∙ binder_sound ks x ex), v.2, ap (fresh un) v.3)))
 
   group_sound : (xs : Names) (ks : List Kind) (r : Term.Process × List Kind) → group_form rd xs ks ≡ Some r → Begins seq xs (Mark ParenOpen ∷ ks) r
   group_sound xs ks r h =
@@ -207,12 +222,15 @@ module _ (rd : Reader) (sound : IsSound rd) where
       bind_some P (after_mark Bar a.1) _ ha (λ x ex hx.
       bind_some P (rd proc xs x) _ hx (λ b eb hb.
       bind_some P (after_mark ParenClose b.1) _ hb (λ y ey hy.
-          let u = sound seq xs ks a ea in
-          let v = sound proc xs x b eb in
-          let tail : process_tokens v.0 (Mark ParenClose ∷ y) ≡ x = ap (process_tokens v.0) (mark_sound ParenClose b.1 y ey) ∙ v.1 in
-          subst (Begins seq xs (Mark ParenOpen ∷ ks)) (some_is hy)
-          (t.group u.0 v.0, ap (λ (l : List Kind). Mark ParenOpen ∷ l) (ap (λ (l : List Kind). seq_tokens u.0 (Mark Bar ∷ l)) tail ∙ ap (seq_tokens u.0) (mark_sound Bar a.1 x ex) ∙ u.1), (u.2, v.2),
-              ap (λ (p : Term.Process). Term.par p (m.process as_number xs v.0)) u.3 ∙ ap (Term.par a.0) v.3)))))
+      let u = sound seq xs ks a ea in
+      let v = sound proc xs x b eb in
+      let tail : process_tokens v.0 (Mark ParenClose ∷ y) ≡ x = ap (process_tokens v.0) (mark_sound ParenClose b.1 y ey) ∙ v.1 in
+      subst (Begins seq xs (Mark ParenOpen ∷ ks)) (some_is hy) (
+        t.group u.0 v.0,
+        ap (λ (l : List Kind). Mark ParenOpen ∷ l) (ap (λ (l : List Kind). seq_tokens u.0 (Mark Bar ∷ l)) tail ∙ ap (seq_tokens u.0) (mark_sound Bar a.1 x ex) ∙ u.1),
+        (u.2, v.2),
+        ap (λ (p : Term.Process). Term.par p (m.process as_number xs v.0)) u.3 ∙ ap (Term.par a.0) v.3,
+      )))))
 
   seq_sound : (xs : Names) (ks : List Kind) (r : Term.Process × List Kind) → seq_step rd xs ks ≡ Some r → Begins seq xs ks r
   seq_sound xs (Reserved Out ∷ ks) r h = out_sound xs ks r h
@@ -228,10 +246,13 @@ module _ (rd : Reader) (sound : IsSound rd) where
       → (left : List Kind) → left ≡ a.1 → (r : Term.Process × List Kind) → proc_end rd xs a.0 left ≡ Some r → Begins proc xs ks r
   proc_end_sound xs ks a u (Mark Bar ∷ left) is r h =
       bind_some (Begins proc xs ks r) (rd proc xs left) _ h (λ b eb hb.
-          let v = sound proc xs left b eb in
-          subst (Begins proc xs ks) (some_is hb)
-          (t.par u.0 v.0, ap (λ (l : List Kind). seq_tokens u.0 (Mark Bar ∷ l)) v.1 ∙ ap (seq_tokens u.0) is ∙ u.1, (u.2, v.2),
-              ap (λ (p : Term.Process). Term.par p (m.process as_number xs v.0)) u.3 ∙ ap (Term.par a.0) v.3))
+      let v = sound proc xs left b eb in
+      subst (Begins proc xs ks) (some_is hb) (
+        t.par u.0 v.0,
+        ap (λ (l : List Kind). seq_tokens u.0 (Mark Bar ∷ l)) v.1 ∙ ap (seq_tokens u.0) is ∙ u.1,
+        (u.2, v.2),
+        ap (λ (p : Term.Process). Term.par p (m.process as_number xs v.0)) u.3 ∙ ap (Term.par a.0) v.3,
+      ))
   proc_end_sound xs ks a u left is r h =
       let P : Term.Process × List Kind → Type 0 = Begins proc xs ks in
       subst P (some_is h) (t.one u.0, ap (seq_tokens u.0) is ∙ u.1, u.2, u.3)

@@ -4,3 +4,4 @@ pub mod Meaning
 pub mod Thin
 pub mod Reading
 pub mod View
+pub mod Layout

@@ -1,5 +1,5 @@
 -- What messages and processes of a tree stand for, where each name is in scope.
-use Rattle.std.specs.Prelude.{ℕ, suc, ◌-◌, nat_lt, List, ◌∷◌, length, Option, Some, None, if◌then◌else◌}
+use Rattle.std.specs.Prelude.{ℕ, suc, ◌-◌, nat_lt, ◌∷◌, length, Option, Some, None, if◌then◌else◌}
 use Rattle.spi_term.specs.Term as Term
 use Rattle.spi_term.specs.Term.{Message, pair, un, Process, send, recv, fresh}
 use Rattle.spi_thin.specs.Tree.{Msg, name, unit, tuple, Parts, last, more, Seq, out, out_then, inp, begin, end, new, stop, group, Proc, one, par}

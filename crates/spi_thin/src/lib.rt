@@ -1,17 +1,22 @@
 //! Thin files: the small first language.
 #![tactic(auto)]
 
+mod declarations;
 mod fault;
+mod file;
+mod layout;
 mod messages;
 mod processes;
 mod scope;
 mod tokens;
-mod thin;
 mod tree;
 
 pub use fault::ThinFault;
-pub use thin::one_file;
+pub use file::{ThinFile, one_file, thin};
 use std::alloc::AllocError;
 
 /// Memory ran out.
 pub type NoMemory = AllocError;
+
+#[cfg(test)]
+mod tests;

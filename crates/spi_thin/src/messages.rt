@@ -21,7 +21,12 @@ fn make_pair(alloc: Global, first: Msg, second: Msg) -> Result<Msg, NoMemory>
 
 /// The message at the front of the tokens, and the tokens behind it. It goes at most `depth` levels deep.
 #[cycle(messages)]
-pub fn read_message<'t>(alloc: Global, scope: &Scope, at: &'t [Token], depth: u32) -> Result<(Msg, &'t [Token]), ThinFault>
+pub fn read_message<'t>(
+    alloc: Global,
+    scope: &Scope,
+    at: &'t [Token],
+    depth: u32,
+) -> Result<(Msg, &'t [Token]), ThinFault>
     ensures { Gives (λ x. (message x.0, kinds_of x.1.now)) result (read depth whole scope.now (kinds_of at.now)) }
 {
     if depth == 0 {
@@ -31,7 +36,12 @@ pub fn read_message<'t>(alloc: Global, scope: &Scope, at: &'t [Token], depth: u3
 }
 
 #[cycle(messages)]
-fn read_message_step<'t>(alloc: Global, scope: &Scope, at: &'t [Token], depth: u32) -> Result<(Msg, &'t [Token]), ThinFault>
+fn read_message_step<'t>(
+    alloc: Global,
+    scope: &Scope,
+    at: &'t [Token],
+    depth: u32,
+) -> Result<(Msg, &'t [Token]), ThinFault>
     ensures { Gives (λ x. (message x.0, kinds_of x.1.now)) result (message_step (read depth) scope.now (kinds_of at.now)) }
 {
     let [first, rest @ ..] = at else {
@@ -49,7 +59,12 @@ fn read_message_step<'t>(alloc: Global, scope: &Scope, at: &'t [Token], depth: u
 
 /// What stands behind a parenthesis.
 #[cycle(messages)]
-fn read_in_parens<'t>(alloc: Global, scope: &Scope, at: &'t [Token], depth: u32) -> Result<(Msg, &'t [Token]), ThinFault>
+fn read_in_parens<'t>(
+    alloc: Global,
+    scope: &Scope,
+    at: &'t [Token],
+    depth: u32,
+) -> Result<(Msg, &'t [Token]), ThinFault>
     ensures { Gives (λ x. (message x.0, kinds_of x.1.now)) result (in_parens (read depth) scope.now (kinds_of at.now)) }
 {
     let [first, rest @ ..] = at else {
@@ -63,7 +78,12 @@ fn read_in_parens<'t>(alloc: Global, scope: &Scope, at: &'t [Token], depth: u32)
 
 /// The parts of a tuple.
 #[cycle(messages)]
-fn read_tuple<'t>(alloc: Global, scope: &Scope, at: &'t [Token], depth: u32) -> Result<(Msg, &'t [Token]), ThinFault>
+fn read_tuple<'t>(
+    alloc: Global,
+    scope: &Scope,
+    at: &'t [Token],
+    depth: u32,
+) -> Result<(Msg, &'t [Token]), ThinFault>
     ensures { Gives (λ x. (message x.0, kinds_of x.1.now)) result (tuple (read depth) scope.now (kinds_of at.now)) }
 {
     let (first, at) = read_message(alloc, scope, at, depth)?;
@@ -73,7 +93,12 @@ fn read_tuple<'t>(alloc: Global, scope: &Scope, at: &'t [Token], depth: u32) -> 
 
 /// The parts of a tuple behind the first, nested to the right.
 #[cycle(messages)]
-fn read_parts<'t>(alloc: Global, scope: &Scope, at: &'t [Token], depth: u32) -> Result<(Msg, &'t [Token]), ThinFault>
+fn read_parts<'t>(
+    alloc: Global,
+    scope: &Scope,
+    at: &'t [Token],
+    depth: u32,
+) -> Result<(Msg, &'t [Token]), ThinFault>
     ensures { Gives (λ x. (message x.0, kinds_of x.1.now)) result (read depth parts scope.now (kinds_of at.now)) }
 {
     if depth == 0 {
@@ -83,7 +108,12 @@ fn read_parts<'t>(alloc: Global, scope: &Scope, at: &'t [Token], depth: u32) -> 
 }
 
 #[cycle(messages)]
-fn read_parts_step<'t>(alloc: Global, scope: &Scope, at: &'t [Token], depth: u32) -> Result<(Msg, &'t [Token]), ThinFault>
+fn read_parts_step<'t>(
+    alloc: Global,
+    scope: &Scope,
+    at: &'t [Token],
+    depth: u32,
+) -> Result<(Msg, &'t [Token]), ThinFault>
     ensures { Gives (λ x. (message x.0, kinds_of x.1.now)) result (parts_step (read depth) scope.now (kinds_of at.now)) }
 {
     let [first, rest @ ..] = at else {
@@ -100,7 +130,13 @@ fn read_parts_step<'t>(alloc: Global, scope: &Scope, at: &'t [Token], depth: u32
 
 /// What stands behind a part.
 #[cycle(messages)]
-fn read_parts_end<'t>(alloc: Global, scope: &Scope, part: Msg, at: &'t [Token], depth: u32) -> Result<(Msg, &'t [Token]), ThinFault>
+fn read_parts_end<'t>(
+    alloc: Global,
+    scope: &Scope,
+    part: Msg,
+    at: &'t [Token],
+    depth: u32,
+) -> Result<(Msg, &'t [Token]), ThinFault>
     ensures { Gives (λ x. (message x.0, kinds_of x.1.now)) result (parts_end (read depth) scope.now (message part) (kinds_of at.now)) }
 {
     let [first, rest @ ..] = at else {

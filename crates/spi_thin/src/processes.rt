@@ -28,7 +28,12 @@ fn make_par(alloc: Global, first: Tree, rest: Tree) -> Result<Tree, NoMemory>
 
 /// The process at the front of the tokens, up to the next bar, and the tokens behind it. It goes at most `depth` levels deep.
 #[cycle(processes)]
-fn read_seq<'t>(alloc: Global, scope: &mut Scope, at: &'t [Token], depth: u32) -> Result<(Tree, &'t [Token]), ThinFault>
+fn read_seq<'t>(
+    alloc: Global,
+    scope: &mut Scope,
+    at: &'t [Token],
+    depth: u32,
+) -> Result<(Tree, &'t [Token]), ThinFault>
     ensures gives { Gives (λ x. (tree_of x.0, kinds_of x.1.now)) result (read depth seq scope.old (kinds_of at.now)) }
     ensures scope { OnOk result (scope.new ≡ scope.old) }
 {
@@ -39,7 +44,12 @@ fn read_seq<'t>(alloc: Global, scope: &mut Scope, at: &'t [Token], depth: u32) -
 }
 
 #[cycle(processes)]
-fn read_seq_step<'t>(alloc: Global, scope: &mut Scope, at: &'t [Token], depth: u32) -> Result<(Tree, &'t [Token]), ThinFault>
+fn read_seq_step<'t>(
+    alloc: Global,
+    scope: &mut Scope,
+    at: &'t [Token],
+    depth: u32,
+) -> Result<(Tree, &'t [Token]), ThinFault>
     ensures gives { Gives (λ x. (tree_of x.0, kinds_of x.1.now)) result (seq_step (read depth) scope.old (kinds_of at.now)) }
     ensures scope { OnOk result (scope.new ≡ scope.old) }
 {
@@ -60,7 +70,12 @@ fn read_seq_step<'t>(alloc: Global, scope: &mut Scope, at: &'t [Token], depth: u
 
 /// What stands behind `out`.
 #[cycle(processes)]
-fn read_out<'t>(alloc: Global, scope: &mut Scope, at: &'t [Token], depth: u32) -> Result<(Tree, &'t [Token]), ThinFault>
+fn read_out<'t>(
+    alloc: Global,
+    scope: &mut Scope,
+    at: &'t [Token],
+    depth: u32,
+) -> Result<(Tree, &'t [Token]), ThinFault>
     ensures gives { Gives (λ x. (tree_of x.0, kinds_of x.1.now)) result (out_form (read depth) scope.old (kinds_of at.now)) }
     ensures scope { OnOk result (scope.new ≡ scope.old) }
 {
@@ -71,7 +86,14 @@ fn read_out<'t>(alloc: Global, scope: &mut Scope, at: &'t [Token], depth: u32) -
 
 /// What stands behind `out M N`.
 #[cycle(processes)]
-fn read_out_end<'t>(alloc: Global, scope: &mut Scope, channel: Msg, datum: Msg, at: &'t [Token], depth: u32) -> Result<(Tree, &'t [Token]), ThinFault>
+fn read_out_end<'t>(
+    alloc: Global,
+    scope: &mut Scope,
+    channel: Msg,
+    datum: Msg,
+    at: &'t [Token],
+    depth: u32,
+) -> Result<(Tree, &'t [Token]), ThinFault>
     ensures gives { Gives (λ x. (tree_of x.0, kinds_of x.1.now)) result (out_end (read depth) scope.old (message channel) (message datum) (kinds_of at.now)) }
     ensures scope { OnOk result (scope.new ≡ scope.old) }
 {
@@ -89,7 +111,12 @@ fn read_out_end<'t>(alloc: Global, scope: &mut Scope, channel: Msg, datum: Msg, 
 
 /// What stands behind `inp`.
 #[cycle(processes)]
-fn read_inp<'t>(alloc: Global, scope: &mut Scope, at: &'t [Token], depth: u32) -> Result<(Tree, &'t [Token]), ThinFault>
+fn read_inp<'t>(
+    alloc: Global,
+    scope: &mut Scope,
+    at: &'t [Token],
+    depth: u32,
+) -> Result<(Tree, &'t [Token]), ThinFault>
     ensures gives { Gives (λ x. (tree_of x.0, kinds_of x.1.now)) result (inp_form (read depth) scope.old (kinds_of at.now)) }
     ensures scope { OnOk result (scope.new ≡ scope.old) }
 {
@@ -102,7 +129,12 @@ fn read_inp<'t>(alloc: Global, scope: &mut Scope, at: &'t [Token], depth: u32) -
 
 /// What stands behind `begin`.
 #[cycle(processes)]
-fn read_begin<'t>(alloc: Global, scope: &mut Scope, at: &'t [Token], depth: u32) -> Result<(Tree, &'t [Token]), ThinFault>
+fn read_begin<'t>(
+    alloc: Global,
+    scope: &mut Scope,
+    at: &'t [Token],
+    depth: u32,
+) -> Result<(Tree, &'t [Token]), ThinFault>
     ensures gives { Gives (λ x. (tree_of x.0, kinds_of x.1.now)) result (begin_form (read depth) scope.old (kinds_of at.now)) }
     ensures scope { OnOk result (scope.new ≡ scope.old) }
 {
@@ -115,7 +147,12 @@ fn read_begin<'t>(alloc: Global, scope: &mut Scope, at: &'t [Token], depth: u32)
 
 /// What stands behind `end`.
 #[cycle(processes)]
-fn read_end<'t>(alloc: Global, scope: &mut Scope, at: &'t [Token], depth: u32) -> Result<(Tree, &'t [Token]), ThinFault>
+fn read_end<'t>(
+    alloc: Global,
+    scope: &mut Scope,
+    at: &'t [Token],
+    depth: u32,
+) -> Result<(Tree, &'t [Token]), ThinFault>
     ensures gives { Gives (λ x. (tree_of x.0, kinds_of x.1.now)) result (end_form (read depth) scope.old (kinds_of at.now)) }
     ensures scope { OnOk result (scope.new ≡ scope.old) }
 {
@@ -128,7 +165,12 @@ fn read_end<'t>(alloc: Global, scope: &mut Scope, at: &'t [Token], depth: u32) -
 
 /// What stands behind `new`.
 #[cycle(processes)]
-fn read_new<'t>(alloc: Global, scope: &mut Scope, at: &'t [Token], depth: u32) -> Result<(Tree, &'t [Token]), ThinFault>
+fn read_new<'t>(
+    alloc: Global,
+    scope: &mut Scope,
+    at: &'t [Token],
+    depth: u32,
+) -> Result<(Tree, &'t [Token]), ThinFault>
     ensures gives { Gives (λ x. (tree_of x.0, kinds_of x.1.now)) result (new_form (read depth) scope.old (kinds_of at.now)) }
     ensures scope { OnOk result (scope.new ≡ scope.old) }
 {
@@ -140,7 +182,13 @@ fn read_new<'t>(alloc: Global, scope: &mut Scope, at: &'t [Token], depth: u32) -
 
 /// The process in which the name is bound.
 #[cycle(processes)]
-fn read_body<'t>(alloc: Global, scope: &mut Scope, name: &Text, at: &'t [Token], depth: u32) -> Result<(Tree, &'t [Token]), ThinFault>
+fn read_body<'t>(
+    alloc: Global,
+    scope: &mut Scope,
+    name: &Text,
+    at: &'t [Token],
+    depth: u32,
+) -> Result<(Tree, &'t [Token]), ThinFault>
     ensures gives { Gives (λ x. (tree_of x.0, kinds_of x.1.now)) result (read depth seq (name.now ∷ scope.old) (kinds_of at.now)) }
     ensures scope { OnOk result (scope.new ≡ scope.old) }
 {
@@ -152,7 +200,12 @@ fn read_body<'t>(alloc: Global, scope: &mut Scope, name: &Text, at: &'t [Token],
 
 /// What stands behind the parenthesis of a group.
 #[cycle(processes)]
-fn read_group<'t>(alloc: Global, scope: &mut Scope, at: &'t [Token], depth: u32) -> Result<(Tree, &'t [Token]), ThinFault>
+fn read_group<'t>(
+    alloc: Global,
+    scope: &mut Scope,
+    at: &'t [Token],
+    depth: u32,
+) -> Result<(Tree, &'t [Token]), ThinFault>
     ensures gives { Gives (λ x. (tree_of x.0, kinds_of x.1.now)) result (group_form (read depth) scope.old (kinds_of at.now)) }
     ensures scope { OnOk result (scope.new ≡ scope.old) }
 {
@@ -165,7 +218,12 @@ fn read_group<'t>(alloc: Global, scope: &mut Scope, at: &'t [Token], depth: u32)
 
 /// The process at the front of the tokens, with its bars, and the tokens behind it. It goes at most `depth` levels deep.
 #[cycle(processes)]
-pub fn read_process<'t>(alloc: Global, scope: &mut Scope, at: &'t [Token], depth: u32) -> Result<(Tree, &'t [Token]), ThinFault>
+pub fn read_process<'t>(
+    alloc: Global,
+    scope: &mut Scope,
+    at: &'t [Token],
+    depth: u32,
+) -> Result<(Tree, &'t [Token]), ThinFault>
     ensures gives { Gives (λ x. (tree_of x.0, kinds_of x.1.now)) result (read depth proc scope.old (kinds_of at.now)) }
     ensures scope { OnOk result (scope.new ≡ scope.old) }
 {
@@ -176,7 +234,12 @@ pub fn read_process<'t>(alloc: Global, scope: &mut Scope, at: &'t [Token], depth
 }
 
 #[cycle(processes)]
-fn read_process_step<'t>(alloc: Global, scope: &mut Scope, at: &'t [Token], depth: u32) -> Result<(Tree, &'t [Token]), ThinFault>
+fn read_process_step<'t>(
+    alloc: Global,
+    scope: &mut Scope,
+    at: &'t [Token],
+    depth: u32,
+) -> Result<(Tree, &'t [Token]), ThinFault>
     ensures gives { Gives (λ x. (tree_of x.0, kinds_of x.1.now)) result (proc_step (read depth) scope.old (kinds_of at.now)) }
     ensures scope { OnOk result (scope.new ≡ scope.old) }
 {
@@ -186,7 +249,13 @@ fn read_process_step<'t>(alloc: Global, scope: &mut Scope, at: &'t [Token], dept
 
 /// What stands behind the first process.
 #[cycle(processes)]
-fn read_process_end<'t>(alloc: Global, scope: &mut Scope, first: Tree, at: &'t [Token], depth: u32) -> Result<(Tree, &'t [Token]), ThinFault>
+fn read_process_end<'t>(
+    alloc: Global,
+    scope: &mut Scope,
+    first: Tree,
+    at: &'t [Token],
+    depth: u32,
+) -> Result<(Tree, &'t [Token]), ThinFault>
     ensures gives { Gives (λ x. (tree_of x.0, kinds_of x.1.now)) result (proc_end (read depth) scope.old (tree_of first) (kinds_of at.now)) }
     ensures scope { OnOk result (scope.new ≡ scope.old) }
 {

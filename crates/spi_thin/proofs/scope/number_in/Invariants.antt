@@ -5,7 +5,7 @@ use Rattle.spi_thin.proofs.scope.number_in.Given as goal
 abbrev pub invariant-loop-last : goal.invariant-loop-last
 invariant-loop-last l = record {
   within : length l.rest ≤ length l.names;
-  same : number_of (reverse l.rest) l.word ≡ number_of (reverse l.names) l.word
+  same : number_of (reverse l.rest) l.word ≡ number_of (reverse l.names) l.word;
 }
 
 abbrev pub decreases-loop-last : goal.decreases-loop-last

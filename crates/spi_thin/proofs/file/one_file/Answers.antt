@@ -1,5 +1,5 @@
 use Rattle.spi_thin.proofs.Files as files
-use Rattle.spi_thin.proofs.thin.one_file.Goals as goal
+use Rattle.spi_thin.proofs.file.one_file.Goals as goal
 
 pub returns : goal.returns
 returns c = files.one_file

@@ -1,0 +1,11 @@
+use Rattle.cryptyc.proofs.Ending.{headline, many_to_one}
+use Rattle.cryptyc.proofs.run.run.Goals as goal
+
+pub returns-clause-headline : goal.returns-clause-headline
+returns-clause-headline g c =
+    let e = c.run_for.ensures in
+    headline c.one_answer.ensures.one c.one_file.ensures c.derivable_is_safe.ensures _ _ _ _ _ _ _ _ _ _ _ e.read_fault e.write_fault e.answer
+
+pub returns-clause-many_to_one : goal.returns-clause-many_to_one
+returns-clause-many_to_one g c =
+    many_to_one c.one_file.ensures c.derivable_is_many_safe.ensures _ _ _ _ _ _ _ c.run_for.ensures.answer

@@ -1,0 +1,6 @@
+pub mod Code
+pub mod Way
+pub mod Asked
+pub mod Spelled
+pub mod Answer
+pub mod Run

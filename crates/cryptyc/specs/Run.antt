@@ -1,0 +1,54 @@
+-- How a call of `run` ends.
+use Rattle.std.specs.Prelude.{◌≡◌, ◌↔◌, ◌⊎◌, ℕ, List, [], codes, Some, None, ⊤}
+use Rattle.std.specs.declared.option.Option.{Option}
+use Rattle.std.specs.Io.KnownBytes.{Appends, Keeps}
+use Rattle.spi_io.specs.Causes.{PutsPrefix}
+use Rattle.cryptyc.specs.declared.asked.Command.{Command}
+use Rattle.cryptyc.specs.declared.asked.Command.TheVariants.{Check}
+use Rattle.cryptyc.specs.declared.status.Status.{Status}
+use Rattle.cryptyc.specs.declared.status.Status.TheVariants.{Yes, No, Refused, ReadFault, WriteFault, NoMemory, Usage}
+use Rattle.cryptyc.specs.Way.{Seen}
+use Rattle.cryptyc.specs.Spelled.{SpellsDerivable, SpellsUnderivable, SpellsNone, IsSafe}
+use Rattle.cryptyc.specs.Answer.{ChecksTo}
+
+-- What is to be answered to a command, or to no command: the bytes are the file, and the players are as
+-- they are seen before the call and after it.
+abbrev pub Wants : Option Command → List ℕ → List Seen → List Seen → Status → List ℕ → Type 0
+Wants None bytes before after status output = (status ≡ Usage) × (output ≡ codes "usage: check\n")
+Wants (Some Check) bytes before after status output = ChecksTo bytes status output
+
+-- the status comes with a whole output
+abbrev pub IsAnswered : Status → Type 0
+IsAnswered Yes = ⊤
+IsAnswered No = ⊤
+IsAnswered Refused = ⊤
+IsAnswered ReadFault = ⊥
+IsAnswered WriteFault = ⊥
+IsAnswered NoMemory = ⊥
+IsAnswered Usage = ⊤
+
+-- A call of which this is wanted ends with the status. What its sink holds, where it tells that, goes from
+-- old to new: the wanted output is appended, or with WriteFault a prefix of it, or with ReadFault and NoMemory nothing.
+abbrev pub Ends : (Status → List ℕ → Type 0) → Option (List ℕ) → Option (List ℕ) → Status → Type 0
+Ends wants old new Yes = (output : List ℕ) × wants Yes output × Appends old new output
+Ends wants old new No = (output : List ℕ) × wants No output × Appends old new output
+Ends wants old new Refused = (output : List ℕ) × wants Refused output × Appends old new output
+Ends wants old new ReadFault = Keeps old new
+Ends wants old new WriteFault = (status : Status) × (output : List ℕ) × wants status output × PutsPrefix old new output
+Ends wants old new NoMemory = Keeps old new
+Ends wants old new Usage = (output : List ℕ) × wants Usage output × Appends old new output
+
+-- what is wanted is done, or memory ran out
+abbrev pub Completes : (Status → List ℕ → Type 0) → Option (List ℕ) → Option (List ℕ) → Status → Type 0
+Completes wants old new status = (status ≡ NoMemory) ⊎ ((output : List ℕ) × wants status output × Appends old new output)
+
+-- `check` answers yes exactly where the file spells a process with a typing derivation of empty effect, no
+-- exactly where it spells one without, and refused exactly where it spells none; the text of that answer is
+-- what is appended; and after a yes, beside every opponent, along every run of every length, each end event
+-- has an earlier begin event of its own with the same label.
+pub record IsExact (bytes : List ℕ) (old new : Option (List ℕ)) (status : Status) : Type 0 where
+  pub yes : (status ≡ Yes) ↔ SpellsDerivable bytes
+  pub no : (status ≡ No) ↔ SpellsUnderivable bytes
+  pub refused : (status ≡ Refused) ↔ SpellsNone bytes
+  pub written : (output : List ℕ) × ChecksTo bytes status output × Appends old new output
+  pub safe : status ≡ Yes → IsSafe bytes

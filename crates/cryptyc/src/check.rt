@@ -1,0 +1,138 @@
+// The command `check`.
+ghost use Rattle.std.specs.Prelude.{◌≡◌, ◌≢◌, ◌+◌, ◌↔◌, ◌⊎◌, ℕ, ◌<◌, ◌≤◌, List, [], length, IfOk, IfSome, OnErr, IsErrOf, IsTrue, Ok, Err};
+ghost use Rattle.spi_io.specs.Causes.{Rose, TakesUpTo};
+ghost use Rattle.spi_lex.specs.Lexing.{Lexes};
+ghost use Rattle.spi_rules.specs.Environment.{untrusted};
+ghost use Rattle.spi_rules.specs.Derivations.{Derivable};
+ghost use Rattle.cryptyc.specs.Spelled.{limit};
+ghost use Rattle.cryptyc.specs.Answer.{Refuses, ChecksTo};
+ghost use Rattle.cryptyc.specs.Run.{IsAnswered};
+
+use crate::answer::{Answer, Stop, made, refusal};
+use crate::status::Status;
+use spi_infer::{Inferred, infer};
+use spi_io::{Source, Taken, take_all};
+use spi_lex::{LexFault, Token, lex};
+use spi_report::{Refusal, yes};
+use spi_term::Process;
+use spi_thin::{ThinFault, thin};
+use std::alloc::{AllocError, Global};
+
+/// How many bytes a file may have.
+const LIMIT: usize = 1024;
+
+/// What `check` answers on the bytes that are left.
+pub fn check<S: Source>(alloc: Global, source: &mut S) -> Result<Answer, Stop>
+    ensures answer { IfOk result (λ answer. IfSome (S.left source.old) (λ bytes. ChecksTo bytes answer.status answer.output.items)) }
+    ensures answered { IfOk result (λ answer. IsAnswered answer.status × (answer.status ≢ Status.Usage)) }
+    ensures read_fault { IsErrOf result Stop.ReadFault → Rose (S.faults source.old) (S.faults source.new) }
+    ensures failed_reads { ¬ IsErrOf result Stop.ReadFault → S.failed_reads source.new ≡ S.failed_reads source.old }
+    ensures taken { TakesUpTo (S.left source.old) (S.left source.new) (limit + 1) }
+    ensures reads { S.reads source.new ≤ S.reads source.old + limit + 2 }
+{
+    match take_all(alloc, source, LIMIT) {
+        Ok(bytes) => checked(alloc, &bytes),
+        Err(Taken::TooLong) => too_long(alloc),
+        Err(Taken::ReadFault) => Err(Stop::ReadFault),
+        Err(Taken::NoMemory) => Err(Stop::NoMemory),
+    }
+}
+
+/// The refusal of a file with more bytes than that.
+fn too_long(alloc: Global) -> Result<Answer, Stop>
+    ensures ok { IfOk result (λ answer. (bytes : List ℕ) → limit < length bytes → ChecksTo bytes answer.status answer.output.items) }
+    ensures answered { IfOk result (λ answer. answer.status ≡ Status.Refused) }
+    ensures err { OnErr result (result ≡ Err Stop.NoMemory) }
+{
+    let count = LIMIT + 1;
+    let shown = format!(in alloc; "{count}")?.into_bytes();
+    let r = Refusal {
+        number: 2,
+        offset: None,
+        shown,
+    };
+    refusal(alloc, b"", &r)
+}
+
+/// What `check` answers on a file of these bytes.
+fn checked(alloc: Global, bytes: &[u8]) -> Result<Answer, Stop>
+    requires { length bytes.now ≤ 1024 }
+    ensures ok { IfOk result (λ answer. ChecksTo bytes.now answer.status answer.output.items) }
+    ensures answered { IfOk result (λ answer. IsAnswered answer.status × (answer.status ≢ Status.Usage)) }
+    ensures err { OnErr result (result ≡ Err Stop.NoMemory) }
+{
+    match lex(alloc, bytes) {
+        Ok(tokens) => judged(alloc, bytes, &tokens),
+        Err(fault) => unlexed(alloc, bytes, fault),
+    }
+}
+
+/// The refusal of a lexical fault.
+fn unlexed(alloc: Global, bytes: &[u8], fault: LexFault) -> Result<Answer, Stop>
+    requires within { length bytes.now ≤ 1024 }
+    requires fault { (fault ≡ LexFault.NoMemory) ⊎ Lexes bytes.now (Err fault) }
+    ensures ok { IfOk result (λ answer. ChecksTo bytes.now answer.status answer.output.items) }
+    ensures answered { IfOk result (λ answer. answer.status ≡ Status.Refused) }
+    ensures err { OnErr result (result ≡ Err Stop.NoMemory) }
+{
+    match fault {
+        LexFault::NotUtf8 { at } => unspelled(alloc, bytes, 10, Some(at)),
+        LexFault::BadChar { at } => unspelled(alloc, bytes, 11, Some(at)),
+        LexFault::BadNumber { at } => unspelled(alloc, bytes, 12, Some(at)),
+        LexFault::NameTooLong { at } => unspelled(alloc, bytes, 13, Some(at)),
+        LexFault::NoMemory => Err(Stop::NoMemory),
+    }
+}
+
+/// The refusal of bytes that spell no file, which shows nothing.
+fn unspelled(
+    alloc: Global,
+    bytes: &[u8],
+    number: u32,
+    offset: Option<u32>,
+) -> Result<Answer, Stop>
+    requires within { length bytes.now ≤ 1024 }
+    requires cause { Refuses bytes.now number offset [] }
+    ensures ok { IfOk result (λ answer. ChecksTo bytes.now answer.status answer.output.items) }
+    ensures answered { IfOk result (λ answer. answer.status ≡ Status.Refused) }
+    ensures err { OnErr result (result ≡ Err Stop.NoMemory) }
+{
+    let r = Refusal {
+        number,
+        offset,
+        shown: Vec::new(alloc),
+    };
+    refusal(alloc, bytes, &r)
+}
+
+/// What `check` answers on a file with these tokens.
+fn judged(alloc: Global, bytes: &[u8], tokens: &[Token]) -> Result<Answer, Stop>
+    requires within { length bytes.now ≤ 1024 }
+    requires few { length tokens.now ≤ 1024 }
+    requires lexed { Lexes bytes.now (Ok tokens.now) }
+    ensures ok { IfOk result (λ answer. ChecksTo bytes.now answer.status answer.output.items) }
+    ensures answered { IfOk result (λ answer. IsAnswered answer.status × (answer.status ≢ Status.Usage)) }
+    ensures err { OnErr result (result ≡ Err Stop.NoMemory) }
+{
+    match thin(alloc, tokens) {
+        Ok(file) => {
+            if is_derivable(alloc, &file.process)? {
+                made(alloc, Status::Yes, yes())
+            } else {
+                made(alloc, Status::No, b"no\n")
+            }
+        }
+        Err(ThinFault::NotThin) => unspelled(alloc, bytes, 99, None),
+        Err(ThinFault::NoMemory) => Err(Stop::NoMemory),
+    }
+}
+
+/// Whether a process is derivable with the empty effect, where its free names are untrusted.
+fn is_derivable(alloc: Global, process: &Process) -> Result<bool, AllocError>
+    ensures { IfOk result (λ b. IsTrue b ↔ Derivable (untrusted process.now.names) process.now.process []) }
+{
+    match infer(alloc, process)? {
+        Inferred::Least(effect) => Ok(effect.atoms.is_empty()),
+        Inferred::Blocked(_) => Ok(false),
+    }
+}

@@ -1,0 +1,52 @@
+//! Checks a file that is read from standard input, and writes the answer to standard output.
+#![tactic(auto)]
+
+mod answer;
+mod asked;
+mod check;
+mod player;
+mod run;
+mod status;
+
+pub use player::{Menu, Pick, Player};
+pub use run::{one_file, run};
+use spi_io::{StdSink, StdSource};
+pub use status::Status;
+use std::alloc::AllocError;
+use std::process::ExitCode;
+use std::rt::Env;
+use std::{env, io};
+
+/// Memory ran out.
+pub type NoMemory = AllocError;
+
+/// The words of the command line without the program's name. Where one isn't UTF-8 there are none.
+fn words(rt: &(impl Env + AllocGlobal)) -> Result<Vec<String>, NoMemory> {
+    let mut words = Vec::new(rt.alloc());
+    match env::args(rt) {
+        Ok(args) => {
+            for word in args.skip(1) {
+                words.push(word)?;
+            }
+        }
+        Err(e) if e.kind() == io::ErrorKind::OutOfMemory => return Err(AllocError),
+        Err(_) => {}
+    }
+    Ok(words)
+}
+
+/// Runs over standard input and output, and ends with the code of the status.
+fn main(rt: HostRuntime) -> ExitCode {
+    let Ok(words) = words(&rt) else {
+        return ExitCode::from(Status::NoMemory.code());
+    };
+    let mut players: Vec<Box<dyn Player>> = Vec::new(rt.alloc());
+    let status = run(
+        rt.alloc(),
+        &words,
+        &mut StdSource::new(&rt),
+        &mut StdSink::new(&rt),
+        &mut players,
+    );
+    ExitCode::from(status.code())
+}

@@ -1,0 +1,136 @@
+// The top call: from words and bytes to a status and what is written.
+ghost use Rattle.std.specs.Prelude.{◌≡◌, ◌≢◌, ◌+◌, ◌≤◌, ◌↔◌, ◌⊎◌, ℕ, List, [], map, string_bytes, IfOk, IfSome, OnErr, IsErrOf, Err, None, Some, vec_len};
+ghost use Rattle.spi_io.specs.Causes.{Rose, TakesUpTo};
+ghost use Rattle.spi_term.specs.Term.{Process};
+ghost use Rattle.cryptyc.specs.Way.{seen_of};
+ghost use Rattle.cryptyc.specs.Asked.{asked};
+ghost use Rattle.cryptyc.specs.Spelled.{limit, SpellsFile, IsManySafe};
+ghost use Rattle.cryptyc.specs.Run.{Wants, IsAnswered, Ends, Completes, IsExact};
+
+use crate::answer::{Answer, Stop, made};
+use crate::asked::{Command, asked_of};
+use crate::check::check;
+use crate::player::Player;
+use crate::status::Status;
+use spi_io::{Put, Sink, Source, put_all};
+use spi_lex::one_answer;
+use spi_sound::{derivable_is_many_safe, derivable_is_safe};
+use std::alloc::Global;
+
+/// Does what the words ask for: reads a file from the source, writes the answer to the sink, and says how
+/// it ended. The whole output is made first and written last. Only a play asks the players.
+pub fn run<S: Source, K: Sink>(
+    alloc: Global,
+    words: &[String],
+    source: &mut S,
+    sink: &mut K,
+    players: &mut Vec<Box<dyn Player>>,
+) -> Status
+    // The headline, where the source tells its bytes, no count of faults rises and memory doesn't run out.
+    ensures headline { asked (map string_bytes words.now) (vec_len players.old) ≡ Some Command.Check → IfSome (S.left source.old) (λ bytes.
+        ¬ Rose (S.faults source.old) (S.faults source.new) → ¬ Rose (K.faults sink.old) (K.faults sink.new) → result ≢ Status.NoMemory
+        → IsExact bytes (K.holds sink.old) (K.holds sink.new) result) }
+
+    // And after a yes each endmany event has an earlier begin event.
+    ensures many_to_one { asked (map string_bytes words.now) (vec_len players.old) ≡ Some Command.Check → IfSome (S.left source.old) (λ bytes.
+        result ≡ Status.Yes → IsManySafe bytes) }
+
+    // Where the source tells its bytes, the status is the one that these words and bytes ask for, and its output is appended.
+    ensures answer { IfSome (S.left source.old) (λ bytes. Ends (Wants (asked (map string_bytes words.now) (vec_len players.old)) bytes (seen_of (λ b. times b) (λ b. way b) players.old.items) (seen_of (λ b. times b) (λ b. way b) players.new.items)) (K.holds sink.old) (K.holds sink.new) result) }
+    ensures complete { IfSome (S.left source.old) (λ bytes. ¬ Rose (S.faults source.old) (S.faults source.new) → ¬ Rose (K.faults sink.old) (K.faults sink.new)
+        → Completes (Wants (asked (map string_bytes words.now) (vec_len players.old)) bytes (seen_of (λ b. times b) (λ b. way b) players.old.items) (seen_of (λ b. times b) (λ b. way b) players.new.items)) (K.holds sink.old) (K.holds sink.new) result) }
+
+    // Whatever the source tells: the words alone decide on the usage line, and with it nothing is read.
+    ensures usage { result ≡ Status.Usage → (asked (map string_bytes words.now) (vec_len players.old) ≡ None) }
+    ensures no_usage { (asked (map string_bytes words.now) (vec_len players.old) ≡ None) → (result ≡ Status.Usage) ⊎ (result ≡ Status.WriteFault) ⊎ (result ≡ Status.NoMemory) }
+    ensures usage_line { (asked (map string_bytes words.now) (vec_len players.old) ≡ None) → Ends (Wants None [] [] []) (K.holds sink.old) (K.holds sink.new) result }
+    ensures unread { (asked (map string_bytes words.now) (vec_len players.old) ≡ None) → source.new ≡ source.old }
+
+    // A fault has its cause, and with a fault of reading or of memory nothing is written.
+    ensures read_fault { result ≡ Status.ReadFault → Rose (S.faults source.old) (S.faults source.new) }
+    ensures failed_reads { result ≢ Status.ReadFault → S.failed_reads source.new ≡ S.failed_reads source.old }
+    ensures write_fault { result ≡ Status.WriteFault → Rose (K.faults sink.old) (K.faults sink.new) }
+    ensures unwritten { (result ≡ Status.ReadFault) ⊎ (result ≡ Status.NoMemory) → sink.new ≡ sink.old }
+
+    // What is read is at the front of what was left, and is gone.
+    ensures taken { TakesUpTo (S.left source.old) (S.left source.new) (limit + 1) }
+    ensures reads { S.reads source.new ≤ S.reads source.old + limit + 2 }
+
+    // The players are as they were.
+    ensures players { players.new ≡ players.old }
+{
+    one_answer();
+    one_file();
+    derivable_is_safe();
+    derivable_is_many_safe();
+    run_for(alloc, words, source, sink, players)
+}
+
+/// Bytes spell one file at most.
+pub fn one_file()
+    ensures { (bytes : List ℕ) (j k : ℕ) (p q : Process) → SpellsFile bytes j p → SpellsFile bytes k q → (j ≡ k) × (p ≡ q) }
+{
+    one_answer();
+    spi_thin::one_file();
+}
+
+/// Does what the words ask for.
+fn run_for<S: Source, K: Sink>(
+    alloc: Global,
+    words: &[String],
+    source: &mut S,
+    sink: &mut K,
+    players: &mut Vec<Box<dyn Player>>,
+) -> Status
+    ensures answer { IfSome (S.left source.old) (λ bytes. Ends (Wants (asked (map string_bytes words.now) (vec_len players.old)) bytes (seen_of (λ b. times b) (λ b. way b) players.old.items) (seen_of (λ b. times b) (λ b. way b) players.new.items)) (K.holds sink.old) (K.holds sink.new) result) }
+
+    ensures usage { result ≡ Status.Usage → (asked (map string_bytes words.now) (vec_len players.old) ≡ None) }
+    ensures no_usage { (asked (map string_bytes words.now) (vec_len players.old) ≡ None) → (result ≡ Status.Usage) ⊎ (result ≡ Status.WriteFault) ⊎ (result ≡ Status.NoMemory) }
+    ensures usage_line { (asked (map string_bytes words.now) (vec_len players.old) ≡ None) → Ends (Wants None [] [] []) (K.holds sink.old) (K.holds sink.new) result }
+    ensures unread { (asked (map string_bytes words.now) (vec_len players.old) ≡ None) → source.new ≡ source.old }
+
+    ensures read_fault { result ≡ Status.ReadFault → Rose (S.faults source.old) (S.faults source.new) }
+    ensures failed_reads { result ≢ Status.ReadFault → S.failed_reads source.new ≡ S.failed_reads source.old }
+    ensures write_fault { result ≡ Status.WriteFault → Rose (K.faults sink.old) (K.faults sink.new) }
+    ensures unwritten { (result ≡ Status.ReadFault) ⊎ (result ≡ Status.NoMemory) → sink.new ≡ sink.old }
+    ensures taken { TakesUpTo (S.left source.old) (S.left source.new) (limit + 1) }
+    ensures reads { S.reads source.new ≤ S.reads source.old + limit + 2 }
+    ensures players { players.new ≡ players.old }
+{
+    match answer_to(alloc, asked_of(words, players.len()), source, players) {
+        Ok(answer) => match put_all(sink, &answer.output) {
+            Ok(()) => answer.status,
+            Err(Put::WriteFault) => Status::WriteFault,
+        },
+        Err(Stop::ReadFault) => Status::ReadFault,
+        Err(Stop::NoMemory) => Status::NoMemory,
+    }
+}
+
+/// What the command asks for, and what is to be written.
+fn answer_to<S: Source>(
+    alloc: Global,
+    command: Option<Command>,
+    source: &mut S,
+    players: &mut Vec<Box<dyn Player>>,
+) -> Result<Answer, Stop>
+    ensures answer { IfOk result (λ answer. IfSome (S.left source.old) (λ bytes. Wants command bytes
+        (seen_of (λ b. times b) (λ b. way b) players.old.items) (seen_of (λ b. times b) (λ b. way b) players.new.items)
+        answer.status answer.output.items)) }
+    ensures answered { IfOk result (λ answer. IsAnswered answer.status) }
+    ensures usage { IfOk result (λ answer. (answer.status ≡ Status.Usage) ↔ (command ≡ None)) }
+    ensures usage_line { command ≡ None → IfOk result (λ answer. Wants None [] [] [] answer.status answer.output.items) }
+    ensures unread { command ≡ None → source.new ≡ source.old }
+    ensures memory { command ≡ None → OnErr result (result ≡ Err Stop.NoMemory) }
+    ensures read_fault { IsErrOf result Stop.ReadFault → Rose (S.faults source.old) (S.faults source.new) }
+    ensures failed_reads { ¬ IsErrOf result Stop.ReadFault → S.failed_reads source.new ≡ S.failed_reads source.old }
+    ensures taken { TakesUpTo (S.left source.old) (S.left source.new) (limit + 1) }
+    ensures reads { S.reads source.new ≤ S.reads source.old + limit + 2 }
+    ensures players { players.new ≡ players.old }
+{
+    let _ = players;
+    match command {
+        Some(Command::Check) => check(alloc, source),
+        None => made(alloc, Status::Usage, b"usage: check\n"),
+    }
+}
