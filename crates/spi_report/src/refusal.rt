@@ -9,7 +9,7 @@ use std::alloc::Global;
 /// A refusal: why a file, a play or a listing isn't answered.
 #[derive(Debug, Drop)]
 pub struct Refusal {
-    /// The number, which stands for the cause.
+    /// The number of the cause, by which it has its name.
     pub number: u32,
     /// Where in the file it stands, for a cause that has a place.
     pub offset: Option<u32>,
@@ -102,7 +102,9 @@ fn put_shown(out: &mut Vec<u8>, shown: &[u8]) -> Result<(), NoMemory>
     out.extend_from_slice(shown)
 }
 
-/// The line of a refusal: `refused: N Name`, then ` at L:C` where it has a place, then `: ` and what is shown, if anything, and a LF.
+/// The line of a refusal: `refused: N Name`, then ` at L:C` where it has a place, then `: ` and what
+/// is shown, if anything, and a LF. The conditions are that the number is one that has a name, and
+/// that the offset is at most the length of the file.
 pub fn refused(alloc: Global, lines: &Lines<'_>, r: &Refusal) -> Result<Vec<u8>, NoMemory>
     requires named { IsSome (name_of r.now.number) }
     requires within { IfSome r.now.offset (λ offset. offset ≤ length lines.now) }

@@ -1,4 +1,4 @@
--- What is asked of a process with numbers that is laid out as nodes.
+-- What is asked of a process with numbers that is laid out as nodes. No public clause rests on it.
 use Rattle.std.specs.Prelude.{ℕ, ◌≤◌}
 use Rattle.spi_term.specs.Term.{Process, process_size}
 use Rattle.spi_term.specs.Spelling.{Spells, flat, HaveSmallParts}

@@ -1,4 +1,4 @@
--- Reading tokens from left to right, with the names in scope. Bound names are written as numbers.
+-- Reading tokens from left to right, with the names in scope, and bound names written as numbers: what the parser's own functions promise each other. No public clause rests on it.
 use Rattle.std.specs.Prelude.{◌≡◌, ℕ, zero, suc, List, [], ◌∷◌, length, Bool, false, if◌then◌else◌, Option, Some, None, Result, Ok, Err}
 use Rattle.spi_lex.specs.declared.token.Kind.{Kind}
 use Rattle.spi_lex.specs.declared.token.Kind.TheVariants.{Word, Reserved, Mark}

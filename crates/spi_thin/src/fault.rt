@@ -6,7 +6,7 @@ use std::alloc::{AllocError, AllocFailed};
 /// Why tokens give no thin file.
 #[derive(Debug, Drop)]
 pub enum ThinFault {
-    /// They spell none.
+    /// They spell no thin file.
     NotThin,
     /// Memory ran out.
     NoMemory,

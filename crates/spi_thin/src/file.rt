@@ -20,10 +20,12 @@ use std::alloc::Global;
 /// How many levels deep a thin file is read. No file of 1,024 tokens goes deeper.
 const DEPTH: u32 = 1025;
 
-/// A thin file: how many free names it declares, and its process.
+/// A thin file.
 #[derive(Drop)]
 pub struct ThinFile {
+    /// How many free names it declares. They are numbered from 0 in their order.
     pub names: u32,
+    /// The process over these names.
     pub process: Process,
 }
 
@@ -42,7 +44,9 @@ fn read(alloc: Global, tokens: &[Token]) -> Result<(u32, Tree), ThinFault>
     }
 }
 
-/// The thin file that the tokens spell. `NotThin` comes exactly where they spell none.
+/// The thin file that at most 1,024 tokens spell: declarations of free names and one process, where
+/// each name is in scope and no free name is declared twice. `NotThin` comes exactly where they spell
+/// none.
 pub fn thin(alloc: Global, tokens: &[Token]) -> Result<ThinFile, ThinFault>
     requires { length tokens.now ≤ 1024 }
     ensures spelled { IfOk result (λ file. Spells (kinds_of tokens.now) file.names file.process.process) }

@@ -1,4 +1,5 @@
-//! Thin files: the small first language.
+//! Thin files: free names and one process, with tuples for messages, `Un` for types, and outputs,
+//! inputs, begins, ends, new names and compositions for processes.
 #![tactic(auto)]
 
 mod declarations;
