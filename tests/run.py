@@ -2,8 +2,8 @@
 """Runs the program on the cases of tests/cases/*.jsonl, and compares what it writes and its status.
 
 A case is a JSON object on a line: `shows` (what it shows), `words` (the command line), its standard input as `input`
-(text), `input_base64`, or `input_parts` (pairs of a text and how often it stands), `output` (what is written) and
-`status`. The program is built once, without proofs, by `rt try`; `--program FILE` runs a program that is there.
+(text), `input_file` (a file of the repository), `input_base64`, or `input_parts` (pairs of a text and how often it
+stands), `output` (what is written) and `status`. The program is built once, without proofs, by `rt try`; `--program FILE` runs a program that is there.
 --passed and --failed are counts to add. The last line is 'N passed, M failed'."""
 
 import argparse
@@ -31,6 +31,9 @@ def input_of(case):
         return base64.b64decode(case["input_base64"])
     if "input_parts" in case:
         return b"".join(part.encode() * times for part, times in case["input_parts"])
+    if "input_file" in case:
+        with open(f"{ROOT}/{case['input_file']}", "rb") as file:
+            return file.read()
     return case.get("input", "").encode()
 
 
