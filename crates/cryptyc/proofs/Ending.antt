@@ -112,4 +112,3 @@ pub many_to_one : OneFile → Safe RobustlySafeMany → (command : Option Comman
 many_to_one one safe command None before after old new status ends is = tt
 many_to_one one safe command (Some bytes) before after old new status ends is = λ e.
     holds_after RobustlySafeMany one safe bytes (yes_is command bytes before after old new (rw e at ends) is)
-

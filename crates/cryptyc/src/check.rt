@@ -85,12 +85,7 @@ fn unlexed(alloc: Global, bytes: &[u8], fault: LexFault) -> Result<Answer, Stop>
 }
 
 /// The refusal of bytes that spell no file, which shows nothing.
-fn unspelled(
-    alloc: Global,
-    bytes: &[u8],
-    number: u32,
-    offset: Option<u32>,
-) -> Result<Answer, Stop>
+fn unspelled(alloc: Global, bytes: &[u8], number: u32, offset: Option<u32>) -> Result<Answer, Stop>
     requires within { length bytes.now ≤ 1024 }
     requires cause { Refuses bytes.now number offset [] }
     ensures ok { IfOk result (λ answer. ChecksTo bytes.now answer.status answer.output.items) }
