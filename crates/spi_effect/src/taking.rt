@@ -6,7 +6,8 @@ ghost use Rattle.spi_effect.specs.Made.{is_many, are_many, first_out, every_out,
 
 use spi_term::{Atom, is_same_atom};
 
-fn is_many_atom(a: &Atom) -> bool
+/// Whether an atom is a `many`.
+pub fn is_many_atom(a: &Atom) -> bool
     ensures { result ≡ is_many (atom a.now) }
 {
     match a {

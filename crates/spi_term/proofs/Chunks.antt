@@ -28,7 +28,7 @@ place_next a b es i d p = (p.0, before)
 place_first : (a b : Atom) (es : Effect) → same_atom a b ≡ true → IsPlace a (b ∷ es) (Some zero)
 place_first a b es d = (ap Some (sym (same_atom_true a b d)), λ k h. absurd (omega arith))
 
-place_exists : (a : Atom) (es : Effect) → In a es → (i : ℕ) × IsPlace a es (Some i)
+pub place_exists : (a : Atom) (es : Effect) → In a es → (i : ℕ) × IsPlace a es (Some i)
 place_exists a [] i = elim i [ ]
 place_exists a (b ∷ es) i = ⊎_elim
     (λ (d : same_atom a b ≡ true). (zero, place_first a b es d))
@@ -47,7 +47,7 @@ tally_sum : (a : Atom) (es : Effect) → tally a es ≡ sum_by (λ b. if same_at
 tally_sum a [] = refl
 tally_sum a (b ∷ es) = ap (λ n. (if same_atom a b then 1 else 0) + n) (tally_sum a es) ∙ sym (sum_by-cons (λ c. if same_atom a c then 1 else 0) b es)
 
-in_permutation : (a : Atom) (es fs : Effect) → IsPermutation es fs → In a es → In a fs
+pub in_permutation : (a : Atom) (es fs : Effect) → IsPermutation es fs → In a es → In a fs
 in_permutation a es fs p i =
     tally_in a fs (subst (λ n. 1 ≤ n) (tally_sum a es ∙ sym (sum_by-IsPermutation (λ b. if same_atom a b then 1 else 0) es fs p) ∙ sym (tally_sum a fs)) (in_tally i))
 

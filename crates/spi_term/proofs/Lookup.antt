@@ -132,10 +132,10 @@ place_unique a es i j p q =
 tally_push : (a y : Term.Atom) (fs : Effect) → tally a (fs ++ y ∷ []) ≡ tally a fs + (if same_atom a y then 1 else 0)
 tally_push a y fs = tally_append a fs (y ∷ []) ∙ ap (λ n. tally a fs + n) (add-zero (if same_atom a y then 1 else 0))
 
-tally_push_other : (a y : Term.Atom) (fs : Effect) → a ≢ y → tally a (fs ++ y ∷ []) ≡ tally a fs
+pub tally_push_other : (a y : Term.Atom) (fs : Effect) → a ≢ y → tally a (fs ++ y ∷ []) ≡ tally a fs
 tally_push_other a y fs d = tally_push a y fs ∙ rw (same_other a y d) (omega arith)
 
-tally_push_same : (a y : Term.Atom) (fs : Effect) → a ≡ y → tally a (fs ++ y ∷ []) ≡ suc (tally a fs)
+pub tally_push_same : (a y : Term.Atom) (fs : Effect) → a ≡ y → tally a (fs ++ y ∷ []) ≡ suc (tally a fs)
 tally_push_same a y fs e = tally_push a y fs ∙ rw (subst (λ z. same_atom a z ≡ true) e (same_atom_refl a)) (omega arith)
 
 pub one_element : {a b : Term.Atom} → Some a ≡ Some b → a ≡ b

@@ -1,4 +1,4 @@
--- Tests of counts, of types and of free names, which compute. No public clause needs them: proofs join each test to what it decides.
+-- Tests of counts, of types and of free names, which compute. Proofs join each to the relation that it decides.
 use Rattle.std.specs.Prelude.{ℕ, Bool, true, false, ◌&&◌, ◌||◌, eqb, leb, [], ◌∷◌}
 use Rattle.spi_term.specs.Term.{Message, bound, name, unit, pair, in_left, in_right, enc, hash, Atom, ends, checks, many, Effect, Ty, un, unit_ty, pair_ty, sum_ty, key, nonce}
 use Rattle.spi_term.specs.Counts.{count}

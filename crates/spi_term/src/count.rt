@@ -36,7 +36,7 @@ fn cut_at(a: &Atom, n: usize) -> usize
     match a {
         Atom::End(_) => n,
         Atom::Check(_) => n,
-        Atom::Many(_) => { if n < 1 { n } else { 1 } }
+        Atom::Many(_) => n.min(1),
     }
 }
 

@@ -45,7 +45,7 @@ pub fn is_same_atom(a: &Atom, b: &Atom) -> bool
     are_equal(a, b)
 }
 
-/// `same_type` by the test of types, for functions that compute by it.
+/// Whether two types are the same, as `same_type`, by the test that proofs compute with.
 pub fn is_same_type(t: &Ty, u: &Ty) -> bool
     ensures { result ≡ same_ty (ty t.now) (ty u.now) }
 {
