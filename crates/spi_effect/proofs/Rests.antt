@@ -1,11 +1,10 @@
 -- Laws of what is still to be left out, and of the difference so far.
-use Rattle.std.proofs.Common.{◌≡◌, refl, sym, ◌∙◌, ap, subst, ℕ, zero, suc, ◌+◌, ◌-◌, ◌<◌, ◌≤◌, Bool, true, false, true≢false, nat_lt, List, [], ◌∷◌, ◌++◌, Some, None, Option, length, map, get_or, set, if◌then◌else◌, ◌⊎◌, inl, inr, ⊎_elim, arith, ◌≢◌}
+use Rattle.std.proofs.Common.{◌≡◌, refl, sym, ◌∙◌, ap, subst, ℕ, suc, ◌-◌, ◌<◌, ◌≤◌, Bool, true, false, nat_lt, List, [], ◌∷◌, ◌++◌, Some, None, Option, length, map, ◌⊎◌, inl, inr, ⊎_elim, arith, ◌≢◌}
 use Rattle.std.proofs.lemmas.Bool.{cases_eq, cases_lt, ltb-true, ltb-false}
 use Rattle.std.proofs.lemmas.List.{get_or-set_same, get_or-set_other}
 use Rattle.std.proofs.lemmas.Option.{slice_get_within}
 use Rattle.std.specs.Prelude.{slice_get, slice_index}
 use Rattle.std.specs.List.Sorted.{IsPermutation}
-use Rattle.spi_term.specs.Lists.{In}
 use Rattle.spi_term.specs.Term.{Atom, ends, checks, many, atom_discrete, Effect}
 use Rattle.spi_term.specs.Counts.{tally, cut, count}
 use Rattle.spi_term.specs.Looking.{IsPlace, IsTally}

@@ -1,9 +1,9 @@
 -- Laws of counts, and what the tests of counts and of types decide.
-use Rattle.std.proofs.Common.{◌≡◌, refl, sym, ◌∙◌, ap, subst, ℕ, suc, ◌+◌, ◌≤◌, ◌↔◌, IsTrue, min, Bool, true, false, ◌&&◌, [], ◌∷◌, ◌++◌, if◌then◌else◌, ◌≢◌, ◌⊎◌, inl, inr, ⊎_elim, arith, le_of_eq, le-leb, leb-true}
+use Rattle.std.proofs.Common.{◌≡◌, refl, sym, ◌∙◌, ap, subst, ℕ, ◌+◌, ◌≤◌, ◌↔◌, IsTrue, min, Bool, true, false, ◌&&◌, [], ◌∷◌, ◌++◌, if◌then◌else◌, ◌≢◌, ◌⊎◌, inl, inr, ⊎_elim, arith, le_of_eq, le-leb, leb-true}
 use Rattle.std.proofs.lemmas.Bool.{cases_lt, false≢true}
 use Rattle.spi_term.proofs.Lists.{in_cases}
 use Rattle.spi_term.specs.Lists.{In, in_first, in_later}
-use Rattle.spi_term.specs.Term.{Message, Atom, ends, checks, many, atom_discrete, same_atom, Effect, Ty, un, unit_ty, pair_ty, sum_ty, key, nonce}
+use Rattle.spi_term.specs.Term.{Atom, ends, checks, many, atom_discrete, same_atom, Effect, Ty, un, unit_ty, pair_ty, sum_ty, key, nonce}
 use Rattle.spi_term.specs.Counts.{tally, cut, count, SameEffect}
 use Rattle.spi_term.specs.SameTy.{SameTy, same_un, same_unit, same_pair, same_sum, same_key, same_nonce}
 use Rattle.spi_term.specs.Tests.{each_within, is_within, same_ty}

@@ -1,7 +1,7 @@
 -- Sorted atoms: what a sort leaves, what a binary search finds, and counts at places.
 use Rattle.std.proofs.Common.{◌≡◌, refl, sym, ◌∙◌, ap, subst, ℕ, zero, suc, ◌+◌, ◌<◌, ◌≤◌, Bool, true, false, true≢false, List, [], ◌∷◌, ◌++◌, Some, None, Option, length, map, take, get_or, set, if◌then◌else◌, ◌⊎◌, inl, inr, ⊎_elim, arith, Bor, ◌≢◌, add-zero, add-one}
 use Rattle.std.specs.Prelude.{slice_get, slice_index}
-use Rattle.std.specs.Cmp.{IsTotalOrder, IsStrictWeakOrder}
+use Rattle.std.specs.Cmp.{IsStrictWeakOrder}
 use Rattle.std.specs.Fn.{Called, ComparesAs, ComputesKey}
 use Rattle.std.specs.List.Sorted.{IsSortedBy, IsPartitionedBy, IsPartitionPoint}
 use Rattle.std.specs.Ordering.{is_lt, ordering_reverse}
@@ -12,7 +12,7 @@ use Rattle.std.proofs.lemmas.Bool.{cases_eq}
 use Rattle.std.proofs.lemmas.List.{get_or-set_same, get_or-set_other}
 use Rattle.std.proofs.lemmas.Fn.{always_returns_same}
 use Rattle.std.proofs.lemmas.List.Sorted.{ranks_by, sorted_far, IsPartitionPoint-from_clause}
-use Rattle.std.proofs.lemmas.Option.{slice_get_within, get_or_from_slice_get, slice_get-get_or}
+use Rattle.std.proofs.lemmas.Option.{slice_get_within, get_or_from_slice_get}
 use Rattle.spi_term.specs.Term.{same_atom, Effect}
 use Rattle.spi_term.specs.Term as Term
 use Rattle.spi_term.specs.Counts.{tally}
@@ -20,7 +20,7 @@ use Rattle.spi_term.specs.Order.{atom_cmp}
 use Rattle.spi_term.specs.Looking.{IsInOrder, IsCut, IsPlace, IsTally, raised, IsRaised}
 use Rattle.spi_term.specs.View.{atom, pointed}
 use Rattle.spi_term.specs.declared.term.Atom.{Atom}
-use Rattle.spi_term.proofs.Counting.{same_atom_refl, same_atom_true, same_other, tally_append}
+use Rattle.spi_term.proofs.Counting.{same_atom_refl, same_other, tally_append}
 use Rattle.spi_term.proofs.Ranks.{atom_total, atom_tied, atom_ties}
 
 abbrev pub seen : Bor Atom → Term.Atom

@@ -1,5 +1,4 @@
 -- Equal counts, and sameness of types, are equivalences.
-use Rattle.spi_term.specs.Term.{Effect, Ty}
 use Rattle.spi_term.specs.Counts.{SameEffect}
 use Rattle.spi_term.specs.SameTy.{SameTy}
 

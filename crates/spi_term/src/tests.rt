@@ -155,3 +155,38 @@ fn nodes_spell_a_process_of_any_nesting(rt: HostRuntime) -> Result<(), Fail> {
     }
     Ok(())
 }
+
+// A message under so many hashes, and a type under so many keys.
+fn hashed(alloc: Global, depth: u32) -> Result<Msg, NoMemory> {
+    let mut m = Msg::Name(0);
+    for _ in 0..depth {
+        m = Msg::Hash(Box::new(alloc, m)?);
+    }
+    Ok(m)
+}
+
+fn keyed(alloc: Global, depth: u32, inner: Ty) -> Result<Ty, NoMemory> {
+    let mut t = inner;
+    for _ in 0..depth {
+        t = Ty::Key(Box::new(alloc, t)?);
+    }
+    Ok(t)
+}
+
+#[test]
+fn deep_terms_fit_the_stack(rt: HostRuntime) -> Result<(), Fail> {
+    let alloc = rt.alloc();
+    let m = hashed(alloc, 1000)?;
+    assert!(rt; same_message(&m, &m.copy(alloc)?));
+    assert_eq!(rt; nodes(&m), 1001);
+    assert!(rt; same_message(&put_in(alloc, &m, 0, &[Msg::Name(0)])?, &m));
+    let t = keyed(
+        alloc,
+        1000,
+        nonce(alloc, [Atom::End(m), Atom::End(hashed(alloc, 999)?)])?,
+    )?;
+    assert!(rt; same_type(&t, &t.copy(alloc)?));
+    assert_eq!(rt; type_nodes(&opened(alloc, &t, &Msg::Unit)?), 3004);
+    assert!(rt; !free_in_type(1, &t));
+    Ok(())
+}

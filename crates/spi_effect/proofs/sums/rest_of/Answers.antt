@@ -1,10 +1,9 @@
-use Rattle.std.proofs.Common.{◌≡◌, ◌++◌, ◌∷◌, [], nat_lt, true, false, length, ◌+◌, map, take, sym, subst, ap, ◌∙◌, arith}
+use Rattle.std.proofs.Common.{◌≡◌, ◌++◌, ◌∷◌, [], length, ◌+◌, map, take, sym, subst, ap, ◌∙◌, arith}
 use Rattle.std.proofs.lemmas.List.{length-map}
-use Rattle.spi_term.specs.Counts.{tally}
 use Rattle.spi_term.specs.View.{atom, pointed}
 use Rattle.spi_term.proofs.Lookup.{map_take_more}
 use Rattle.spi_effect.specs.Effect.{IsDifference}
-use Rattle.spi_effect.specs.Rest.{IsOwed, owed}
+use Rattle.spi_effect.specs.Rest.{IsOwed}
 use Rattle.spi_effect.proofs.Rests.{owed_more, met_answer, difference_kept, difference_out, map_pushed}
 use Rattle.spi_effect.proofs.sums.rest_of.Goals as goal
 use Rattle.spi_effect.proofs.sums.rest_of.Goals.{then-not-is_left_out+in_ok-copy+in_ok-push, else-not-is_left_out}

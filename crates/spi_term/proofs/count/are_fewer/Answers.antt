@@ -1,5 +1,4 @@
-use Rattle.std.proofs.Common.{◌≡◌, arith}
-use Rattle.spi_term.specs.View.{pointed}
+use Rattle.std.proofs.Common.{arith}
 use Rattle.spi_term.proofs.Lookup.{pointed_at}
 use Rattle.spi_term.proofs.Chunks.{fewer_more}
 use Rattle.spi_term.proofs.count.are_fewer.Goals as goal

@@ -1,4 +1,4 @@
-use Rattle.std.proofs.Common.{◌↔◌, map}
+use Rattle.std.proofs.Common.{map}
 use Rattle.spi_term.specs.View.{atom, pointed}
 use Rattle.spi_term.proofs.Chunks.{sorted_told}
 use Rattle.spi_term.proofs.count.are_sorted_within.Goals as goal

@@ -1,4 +1,4 @@
-use Rattle.std.proofs.Common.{◌≡◌, length, map, take, sym, subst, arith}
+use Rattle.std.proofs.Common.{map, take, sym, subst, arith}
 use Rattle.std.proofs.lemmas.List.{length-map}
 use Rattle.spi_term.specs.View.{atom, pointed}
 use Rattle.spi_term.specs.Looking.{IsTally}
