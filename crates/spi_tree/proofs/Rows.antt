@@ -1,0 +1,89 @@
+-- A list inside a tree is seen as its list.
+use Rattle.std.proofs.Common.{◌≡◌, ◌++◌, List, [], ◌∷◌, map, refl, sym, ap, ◌∙◌, append_assoc}
+use Rattle.std.specs.Global.{Vec, Box}
+use Rattle.spi_text.specs.declared.lines.Span.{Span}
+use Rattle.spi_lex.specs.declared.token.Kind.{Kind}
+use Rattle.spi_lex.specs.declared.token.Mark.TheVariants as mark
+use Rattle.spi_tree.specs.declared.tree.SWord.{SWord}
+use Rattle.spi_tree.specs.declared.tree.SMsg.{SMsg, Row_of-SMsg, end_of-SMsg, more_of-SMsg, items-the_row-SMsg, items_hidden-the_row-SMsg-0}
+use Rattle.spi_tree.specs.declared.tree.SMsg.TheVariants as smsg
+use Rattle.spi_tree.specs.declared.tree.SAtom.{SAtom}
+use Rattle.spi_tree.specs.declared.tree.STy.{STy, Row_of-SField, end_of-SField, more_of-SField, items-the_row-SField, items_hidden-the_row-SField-0}
+use Rattle.spi_tree.specs.declared.tree.STy.TheVariants as sty
+use Rattle.spi_tree.specs.declared.tree.SField.{SField}
+use Rattle.spi_tree.specs.declared.tree.Last.{Last}
+use Rattle.spi_tree.specs.declared.tree.SDeriv.{SDeriv, SDeriv', out-SDeriv, Row_of-SDeriv, end_of-SDeriv, more_of-SDeriv, items-the_row-SDeriv, items_shown-the_row-SDeriv-0, items_hidden-the_row-SDeriv-0}
+use Rattle.spi_tree.specs.Trees as t
+use Rattle.spi_tree.specs.Views.{msg_of, msgs_of_row, atom_of, ty_of, fields_of_row, last_of, field_of, effect_of, deriv_of, derivs_of_row}
+use Rattle.spi_tree.specs.Listed.{joined, mark_list, msg_list, msgs_list, more_list, field_list, fields_list, deriv_list, derivs_list, word_list, ty_list, last_list, tuple_list, tuple_ty_list, written_list}
+
+row_of_msgs : (n : _) (row : Row_of-SMsg n) → t.msgs_of_list (map msg_of (items-the_row-SMsg n row)) ≡ msgs_of_row row
+row_of_msgs n end_of-SMsg = refl
+row_of_msgs n (more_of-SMsg m rest) = ap (t.more_msgs (msg_of m)) (row_of_msgs _ rest)
+
+pub tuple_is : (a b : Box SMsg) (v : Vec SMsg) (s : Span) → msg_of (smsg.Tuple a b v s) ≡ t.tuple s (msg_of a.value) (msg_of b.value) (t.msgs_of_list (map msg_of v.items))
+tuple_is a b v s = ap (t.tuple s (msg_of a.value) (msg_of b.value)) (sym (row_of_msgs _ (Rattle.spi_tree.specs.declared.tree.SMsg.TheBlock.hidden-the_row-SMsg-0 v)) ∙ ap (λ l. t.msgs_of_list (map msg_of l)) (items_hidden-the_row-SMsg-0 v))
+
+row_of_fields : (n : _) (row : Row_of-SField n) → t.fields_of_list (map field_of (items-the_row-SField n row)) ≡ fields_of_row row
+row_of_fields n end_of-SField = refl
+row_of_fields n (more_of-SField w a rest) = ap (t.more_fields w (ty_of a)) (row_of_fields _ rest)
+
+pub tuple_ty_is : (w : SWord) (a : Box STy) (v : Vec SField) (b : Box Last) (s : Span) → ty_of (sty.Tuple w a v b s) ≡ t.tuple_ty s w (ty_of a.value) (t.fields_of_list (map field_of v.items)) (last_of b.value)
+tuple_ty_is w a v b s = ap (λ fs. t.tuple_ty s w (ty_of a.value) fs (last_of b.value)) (sym (row_of_fields _ (Rattle.spi_tree.specs.declared.tree.Last.TheBlock.hidden-the_row-SField-0 v)) ∙ ap (λ l. t.fields_of_list (map field_of l)) (items_hidden-the_row-SField-0 v))
+
+row_of_derivs : (n : _) (row : Row_of-SDeriv n) → t.derivs_of_list (map deriv_of (items-the_row-SDeriv n row)) ≡ derivs_of_row row
+row_of_derivs n end_of-SDeriv = refl
+row_of_derivs n (more_of-SDeriv d rest) = ap (t.more_derivs (deriv_of d)) (row_of_derivs _ rest)
+
+pub deriv_row_is : (v : Vec SDeriv) → derivs_of_row (Rattle.spi_tree.specs.declared.tree.SDeriv.TheBlock.hidden-the_row-SDeriv-0 v) ≡ t.derivs_of_list (map deriv_of v.items)
+deriv_row_is v = sym (row_of_derivs _ (Rattle.spi_tree.specs.declared.tree.SDeriv.TheBlock.hidden-the_row-SDeriv-0 v)) ∙ ap (λ l. t.derivs_of_list (map deriv_of l)) (items_hidden-the_row-SDeriv-0 v)
+
+-- the lists of what a list holds
+pub joined_msgs : (xs : List t.Msg) → msgs_list (t.msgs_of_list xs) ≡ joined more_list xs
+joined_msgs [] = refl
+joined_msgs (x ∷ xs) = ap (λ l. more_list x ++ l) (joined_msgs xs)
+
+pub joined_fields : (xs : List t.Field) → fields_list (t.fields_of_list xs) ≡ joined Rattle.spi_tree.specs.Listed.field_list xs
+joined_fields [] = refl
+joined_fields (x ∷ xs) = ap (λ l. field_list x ++ l) (joined_fields xs)
+
+pub joined_derivs : (xs : List t.Deriv) → derivs_list (t.derivs_of_list xs) ≡ joined deriv_list xs
+joined_derivs [] = refl
+joined_derivs (x ∷ xs) = ap (λ l. deriv_list x ++ l) (joined_derivs xs)
+
+pub tuple_listed : (a b : Box SMsg) (v : Vec SMsg) (s : Span) → msg_list (msg_of (smsg.Tuple a b v s)) ≡ tuple_list (msg_of a.value) (msg_of b.value) (map msg_of v.items)
+tuple_listed a b v s = ap msg_list (tuple_is a b v s) ∙ ap (λ l. mark_list mark.ParenOpen ++ msg_list (msg_of a.value) ++ mark_list mark.Comma ++ msg_list (msg_of b.value) ++ l ++ mark_list mark.ParenClose) (joined_msgs (map msg_of v.items))
+
+pub tuple_ty_listed : (w : SWord) (a : Box STy) (v : Vec SField) (b : Box Last) (s : Span) → ty_list (ty_of (sty.Tuple w a v b s)) ≡ tuple_ty_list w (ty_of a.value) (map field_of v.items) (last_of b.value)
+tuple_ty_listed w a v b s = ap ty_list (tuple_ty_is w a v b s) ∙ ap (λ l. mark_list mark.ParenOpen ++ word_list w ++ mark_list mark.Colon ++ ty_list (ty_of a.value) ++ mark_list mark.Comma ++ l ++ last_list (last_of b.value) ++ mark_list mark.ParenClose) (joined_fields (map field_of v.items))
+
+pub deriv_listed : (d : SDeriv) → deriv_list (deriv_of d) ≡ word_list (out-SDeriv d).rule ++ written_list (effect_of (out-SDeriv d).effect) ++ joined deriv_list (map deriv_of (out-SDeriv d).premises.items)
+unfolding out-SDeriv denote.Hole.Carrier.out
+deriv_listed (SDeriv' w es shape row s) = ap (λ l. word_list w ++ written_list (effect_of es) ++ l) (sym (ap derivs_list (row_of_derivs _ row)) ∙ joined_derivs (map deriv_of (items-the_row-SDeriv _ row)) ∙ ap (λ l. joined deriv_list (map deriv_of l)) (sym (items_shown-the_row-SDeriv-0 shape row)))
+
+-- what was put, one list behind another
+chain6 : (o0 o1 o2 o3 o4 o5 o6 a b c d e f : List Kind) → o1 ≡ o0 ++ a → o2 ≡ o1 ++ b → o3 ≡ o2 ++ c → o4 ≡ o3 ++ d → o5 ≡ o4 ++ e → o6 ≡ o5 ++ f → o6 ≡ o0 ++ (a ++ b ++ c ++ d ++ e ++ f)
+chain6 o0 o1 o2 o3 o4 o5 o6 a b c d e f h1 h2 h3 h4 h5 h6 = rw (h6, h5, h4, h3, h2, h1) (simp append_assoc refl)
+
+chain8 : (o0 o1 o2 o3 o4 o5 o6 o7 o8 a b c d e f g h : List Kind) → o1 ≡ o0 ++ a → o2 ≡ o1 ++ b → o3 ≡ o2 ++ c → o4 ≡ o3 ++ d → o5 ≡ o4 ++ e → o6 ≡ o5 ++ f → o7 ≡ o6 ++ g → o8 ≡ o7 ++ h → o8 ≡ o0 ++ (a ++ b ++ c ++ d ++ e ++ f ++ g ++ h)
+chain8 o0 o1 o2 o3 o4 o5 o6 o7 o8 a b c d e f g h h1 h2 h3 h4 h5 h6 h7 h8 = rw (h8, h7, h6, h5, h4, h3, h2, h1) (simp append_assoc refl)
+
+pub put_tuple : (m : SMsg) (a b : Box SMsg) (v : Vec SMsg) (s : Span) (a' b' : SMsg) (vs : List SMsg) (o0 o1 o2 o3 o4 o5 o6 : List Kind) → m ≡ smsg.Tuple a b v s
+    → a' ≡ a.value → b' ≡ b.value → vs ≡ v.items
+    → o1 ≡ o0 ++ mark_list mark.ParenOpen → o2 ≡ o1 ++ msg_list (msg_of a') → o3 ≡ o2 ++ mark_list mark.Comma → o4 ≡ o3 ++ msg_list (msg_of b')
+    → o5 ≡ o4 ++ joined more_list (map msg_of vs) → o6 ≡ o5 ++ mark_list mark.ParenClose → o6 ≡ o0 ++ msg_list (msg_of m)
+put_tuple m a b v s a' b' vs o0 o1 o2 o3 o4 o5 o6 is ea eb ev h1 h2 h3 h4 h5 h6 =
+    chain6 o0 o1 o2 o3 o4 o5 o6 (mark_list mark.ParenOpen) (msg_list (msg_of a.value)) (mark_list mark.Comma) (msg_list (msg_of b.value)) (joined more_list (map msg_of v.items)) (mark_list mark.ParenClose) h1 (rw ea at h2) h3 (rw eb at h4) (rw ev at h5) h6
+    ∙ ap (λ l. o0 ++ l) (sym (ap (λ x. msg_list (msg_of x)) is ∙ tuple_listed a b v s))
+
+pub put_tuple_ty : (m : STy) (w : SWord) (a : Box STy) (v : Vec SField) (b : Box Last) (s : Span) (a' : STy) (vs : List SField) (b' : Last) (o0 o1 o2 o3 o4 o5 o6 o7 o8 : List Kind) → m ≡ sty.Tuple w a v b s
+    → a' ≡ a.value → vs ≡ v.items → b' ≡ b.value
+    → o1 ≡ o0 ++ mark_list mark.ParenOpen → o2 ≡ o1 ++ word_list w → o3 ≡ o2 ++ mark_list mark.Colon → o4 ≡ o3 ++ ty_list (ty_of a') → o5 ≡ o4 ++ mark_list mark.Comma
+    → o6 ≡ o5 ++ joined field_list (map field_of vs) → o7 ≡ o6 ++ last_list (last_of b') → o8 ≡ o7 ++ mark_list mark.ParenClose → o8 ≡ o0 ++ ty_list (ty_of m)
+put_tuple_ty m w a v b s a' vs b' o0 o1 o2 o3 o4 o5 o6 o7 o8 is ea ev eb h1 h2 h3 h4 h5 h6 h7 h8 =
+    chain8 o0 o1 o2 o3 o4 o5 o6 o7 o8 (mark_list mark.ParenOpen) (word_list w) (mark_list mark.Colon) (ty_list (ty_of a.value)) (mark_list mark.Comma) (joined field_list (map field_of v.items)) (last_list (last_of b.value)) (mark_list mark.ParenClose) h1 h2 h3 (rw ea at h4) h5 (rw ev at h6) (rw eb at h7) h8
+    ∙ ap (λ l. o0 ++ l) (sym (ap (λ x. ty_list (ty_of x)) is ∙ tuple_ty_listed w a v b s))
+
+pub put_derivation : (d : SDeriv) (ds : List SDeriv) (o0 o1 o2 o3 : List Kind) → ds ≡ (out-SDeriv d).premises.items → o1 ≡ o0 ++ word_list (out-SDeriv d).rule → o2 ≡ o1 ++ written_list (effect_of (out-SDeriv d).effect)
+    → o3 ≡ o2 ++ joined deriv_list (map deriv_of ds) → o3 ≡ o0 ++ deriv_list (deriv_of d)
+put_derivation d ds o0 o1 o2 o3 e h1 h2 h3 = rw (deriv_listed d, ← e, h3, h2, h1) (simp append_assoc refl)

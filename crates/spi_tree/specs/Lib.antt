@@ -1,0 +1,5 @@
+pub mod Trees
+pub mod Views
+pub mod Pieces
+pub mod Formed
+pub mod Listed

@@ -1,0 +1,125 @@
+-- What a declared tree is as a tree without places in memory.
+use Rattle.std.specs.Prelude.{List, [], ◌∷◌, map, Option, Some, None}
+use Rattle.std.specs.Global.{Vec}
+use Rattle.spi_tree.specs.declared.tree.SWord.{SWord}
+use Rattle.spi_tree.specs.declared.tree.SMsg.{SMsg, Row_of-SMsg, end_of-SMsg, more_of-SMsg}
+use Rattle.spi_tree.specs.declared.tree.SMsg.TheVariants as smsg
+use Rattle.spi_tree.specs.declared.tree.SAtom.{SAtom}
+use Rattle.spi_tree.specs.declared.tree.SAtom.TheVariants as satom
+use Rattle.spi_tree.specs.declared.tree.STy.{STy, Row_of-SField, end_of-SField, more_of-SField}
+use Rattle.spi_tree.specs.declared.tree.STy.TheVariants as sty
+use Rattle.spi_tree.specs.declared.tree.SField.{SField}
+use Rattle.spi_tree.specs.declared.tree.Last.{Last}
+use Rattle.spi_tree.specs.declared.tree.Last.TheVariants as slast
+use Rattle.spi_tree.specs.declared.tree.SProc.{SProc}
+use Rattle.spi_tree.specs.declared.tree.SProc.TheVariants as sproc
+use Rattle.spi_tree.specs.declared.tree.Decl.{Decl}
+use Rattle.spi_tree.specs.declared.tree.Decl.TheVariants as sdecl
+use Rattle.spi_tree.specs.declared.tree.SStep.{SStep}
+use Rattle.spi_tree.specs.declared.tree.SStep.TheVariants as sstep
+use Rattle.spi_tree.specs.declared.tree.SDeriv.{SDeriv, SDeriv', Row_of-SDeriv, end_of-SDeriv, more_of-SDeriv}
+use Rattle.spi_tree.specs.declared.tree.Tree.{Tree}
+use Rattle.spi_tree.specs.Trees as t
+
+abbrev mutual
+  pub msg_of : SMsg → t.Msg
+  msg_of (smsg.Name w s) = t.name s w
+  msg_of (smsg.Unit s) = t.unit s
+  msg_of (smsg.Tuple' p a q b shape more s) = t.tuple s (msg_of a) (msg_of b) (msgs_of_row more)
+  msg_of (smsg.Inl' p a s) = t.inl s (msg_of a)
+  msg_of (smsg.Inr' p a s) = t.inr s (msg_of a)
+  msg_of (smsg.Enc' p a q b s) = t.enc s (msg_of a) (msg_of b)
+  msg_of (smsg.Hash' p a s) = t.hash s (msg_of a)
+  msg_of (smsg.Num n s) = t.num s n
+
+  pub msgs_of_row : {n : _} → Row_of-SMsg n → t.Msgs
+  msgs_of_row end_of-SMsg = t.no_msgs
+  msgs_of_row (more_of-SMsg m rest) = t.more_msgs (msg_of m) (msgs_of_row rest)
+
+abbrev pub atom_of : SAtom → t.Atom
+atom_of (satom.End m s) = t.ends s (msg_of m)
+atom_of (satom.Check m s) = t.checks s (msg_of m)
+atom_of (satom.Many m s) = t.many s (msg_of m)
+
+abbrev mutual
+  pub ty_of : STy → t.Ty
+  ty_of (sty.Un s) = t.un s
+  ty_of (sty.Unit s) = t.unit_ty s
+  ty_of (sty.Tuple' w p a shape more q last s) = t.tuple_ty s w (ty_of a) (fields_of_row more) (last_of last)
+  ty_of (sty.Sum' p a q b s) = t.sum s (ty_of a) (ty_of b)
+  ty_of (sty.Key' p a s) = t.key s (ty_of a)
+  ty_of (sty.Nonce es s) = t.nonce s (map atom_of es.items)
+  ty_of (sty.Abbr w s) = t.abbr s w
+
+  pub fields_of_row : {n : _} → Row_of-SField n → t.Fields
+  fields_of_row end_of-SField = t.no_fields
+  fields_of_row (more_of-SField w a rest) = t.more_fields w (ty_of a) (fields_of_row rest)
+
+  pub last_of : Last → t.Last
+  last_of (slast.Bare a) = t.bare (ty_of a)
+  last_of (slast.Named w a) = t.named w (ty_of a)
+
+abbrev pub field_of : SField → t.Field
+field_of f = record { name = f.name; ty = ty_of f.ty }
+
+abbrev pub proc_of : SProc → t.Proc
+proc_of (sproc.Par' p a q b s) = t.par s (proc_of a) (proc_of b)
+proc_of (sproc.Out m n s) = t.out s (msg_of m) (msg_of n)
+proc_of (sproc.OutThen' m n p a s) = t.out_then s (msg_of m) (msg_of n) (proc_of a)
+proc_of (sproc.Inp' m x a p b s) = t.inp s (msg_of m) x (ty_of a) (proc_of b)
+proc_of (sproc.Repeat' m x a p b s) = t.repeat s (msg_of m) x (ty_of a) (proc_of b)
+proc_of (sproc.Split' m x a y b p q s) = t.split s (msg_of m) x (ty_of a) y (ty_of b) (proc_of q)
+proc_of (sproc.Match' m x a n y b p q s) = t.match s (msg_of m) x (ty_of a) (msg_of n) y (ty_of b) (proc_of q)
+proc_of (sproc.Case' m x a p b y c q d s) = t.case s (msg_of m) x (ty_of a) (proc_of b) y (ty_of c) (proc_of d)
+proc_of (sproc.Decrypt' m x a n p b s) = t.decrypt s (msg_of m) x (ty_of a) (msg_of n) (proc_of b)
+proc_of (sproc.Check' m n p a s) = t.check s (msg_of m) (msg_of n) (proc_of a)
+proc_of (sproc.Begin' m p a s) = t.begin s (msg_of m) (proc_of a)
+proc_of (sproc.End' m p a s) = t.end s (msg_of m) (proc_of a)
+proc_of (sproc.EndMany' m p a s) = t.end_many s (msg_of m) (proc_of a)
+proc_of (sproc.Cast' m x a p b s) = t.cast s (msg_of m) x (ty_of a) (proc_of b)
+proc_of (sproc.New' x a p b s) = t.new s x (ty_of a) (proc_of b)
+proc_of (sproc.Stop s) = t.stop s
+proc_of (sproc.Group' p a q b s) = t.group s (proc_of a) (proc_of b)
+
+abbrev pub decl_of : Decl → t.Declared
+decl_of (sdecl.Free w ws s) = t.free s w ws.items
+decl_of (sdecl.Abbr w a s) = t.abbreviated s w (ty_of a)
+
+abbrev pub step_of : SStep → t.Step
+step_of (sstep.Act i s) = t.act s i
+step_of (sstep.Talk i j s) = t.talk s i j
+
+abbrev pub effect_of : Option (Vec SAtom) → Option (List t.Atom)
+effect_of None = None
+effect_of (Some es) = Some (map atom_of es.items)
+
+abbrev mutual
+  pub deriv_of : SDeriv → t.Deriv
+  deriv_of (SDeriv' w es shape ds s) = t.rule s w (effect_of es) (derivs_of_row ds)
+
+  pub derivs_of_row : {n : _} → Row_of-SDeriv n → t.Derivs
+  derivs_of_row end_of-SDeriv = t.no_derivs
+  derivs_of_row (more_of-SDeriv d rest) = t.more_derivs (deriv_of d) (derivs_of_row rest)
+
+abbrev pub opponent_of : Option SProc → Option t.Proc
+opponent_of None = None
+opponent_of (Some p) = Some (proc_of p)
+
+abbrev pub schedule_of : Option (Vec SStep) → Option (List t.Step)
+schedule_of None = None
+schedule_of (Some steps) = Some (map step_of steps.items)
+
+abbrev pub derivation_of : Option SDeriv → Option t.Deriv
+derivation_of None = None
+derivation_of (Some d) = Some (deriv_of d)
+
+abbrev pub file_of : Tree → t.File
+file_of f = record {
+  span = f.span;
+  version = f.version;
+  decls = map decl_of f.decls.items;
+  process = proc_of f.process;
+  opponent = opponent_of f.opponent;
+  schedule = schedule_of f.schedule;
+  derivation = derivation_of f.derivation;
+}

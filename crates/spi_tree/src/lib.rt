@@ -1,0 +1,15 @@
+//! The trees that files are written as, and the tokens that spell them.
+#![tactic(auto)]
+
+mod list;
+mod listed_processes;
+mod listed_types;
+mod tokens;
+mod tree;
+
+use std::alloc::AllocError;
+pub use tokens::tokens_of;
+pub use tree::{Decl, Last, SAtom, SDeriv, SField, SMsg, SProc, SStep, STy, SWord, Tree};
+
+/// Memory ran out.
+pub type NoMemory = AllocError;

@@ -1,0 +1,43 @@
+//! Tokens put behind others.
+
+ghost use Rattle.std.specs.Prelude.{◌≡◌, ◌++◌, OnOk};
+ghost use Rattle.spi_tree.specs.Listed.{mark_list, reserved_list, number_list, word_list, literal_list};
+
+use crate::{NoMemory, SWord};
+use spi_lex::{Kind, Mark, Reserved};
+use spi_text::Text;
+use std::alloc::Global;
+
+pub fn put_mark(out: &mut Vec<Kind>, mark: Mark) -> Result<(), NoMemory>
+    ensures { OnOk result (out.new.items ≡ out.old.items ++ mark_list mark) }
+{
+    out.push(Kind::Mark(mark))?;
+    Ok(())
+}
+
+pub fn put_reserved(out: &mut Vec<Kind>, word: Reserved) -> Result<(), NoMemory>
+    ensures { OnOk result (out.new.items ≡ out.old.items ++ reserved_list word) }
+{
+    out.push(Kind::Reserved(word))?;
+    Ok(())
+}
+
+pub fn put_number(out: &mut Vec<Kind>, number: u32) -> Result<(), NoMemory>
+    ensures { OnOk result (out.new.items ≡ out.old.items ++ number_list number) }
+{
+    out.push(Kind::Number(number))?;
+    Ok(())
+}
+
+pub fn put_literal(alloc: Global, out: &mut Vec<Kind>, literal: &str) -> Result<(), NoMemory>
+    ensures { OnOk result (out.new.items ≡ out.old.items ++ literal_list literal.now) }
+{
+    out.push(Kind::Word(Text::of(alloc, literal)?))?;
+    Ok(())
+}
+
+pub fn put_word(alloc: Global, out: &mut Vec<Kind>, word: &SWord) -> Result<(), NoMemory>
+    ensures { OnOk result (out.new.items ≡ out.old.items ++ word_list word.now) }
+{
+    put_literal(alloc, out, word.word.as_str())
+}

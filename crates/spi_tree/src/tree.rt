@@ -1,0 +1,306 @@
+use spi_text::{Span, Text};
+
+/// An identifier, and where it stands.
+#[derive(Debug, Drop)]
+pub struct SWord {
+    pub word: Text,
+    pub span: Span,
+}
+
+/// A message. `Num` stands for a name in the effects of a derivation, by the name's number.
+#[derive(Drop)]
+pub enum SMsg {
+    /// `x`
+    Name {
+        name: SWord,
+        span: Span,
+    },
+    /// `()`
+    Unit {
+        span: Span,
+    },
+    /// `(M, N, ..)`, of two messages or more
+    Tuple {
+        first: Box<SMsg>,
+        second: Box<SMsg>,
+        more: Vec<SMsg>,
+        span: Span,
+    },
+    /// `inl M`
+    Inl {
+        part: Box<SMsg>,
+        span: Span,
+    },
+    /// `inr M`
+    Inr {
+        part: Box<SMsg>,
+        span: Span,
+    },
+    /// `{M}N`
+    Enc {
+        body: Box<SMsg>,
+        key: Box<SMsg>,
+        span: Span,
+    },
+    /// `hash(M)`, in version 2
+    Hash {
+        part: Box<SMsg>,
+        span: Span,
+    },
+    /// `#n`
+    Num {
+        number: u32,
+        span: Span,
+    },
+}
+
+/// A type.
+#[cycle(types)]
+#[derive(Drop)]
+pub enum STy {
+    /// `Un`
+    Un {
+        span: Span,
+    },
+    /// `()`
+    Unit {
+        span: Span,
+    },
+    /// `(x: T, y: U, .., V)`, of two types or more
+    Tuple {
+        name: SWord,
+        first: Box<STy>,
+        more: Vec<SField>,
+        last: Box<Last>,
+        span: Span,
+    },
+    /// `(T + U)`
+    Sum {
+        left: Box<STy>,
+        right: Box<STy>,
+        span: Span,
+    },
+    /// `Key(T)`
+    Key {
+        part: Box<STy>,
+        span: Span,
+    },
+    /// `Nonce [a, b, ..]`
+    Nonce {
+        effect: Vec<SAtom>,
+        span: Span,
+    },
+    /// the name of a declared type
+    Abbr {
+        name: SWord,
+        span: Span,
+    },
+}
+
+/// A part of a tuple type between the first and the last: `x: T`.
+#[cycle(types)]
+#[derive(Drop)]
+pub struct SField {
+    pub name: SWord,
+    pub ty: STy,
+}
+
+/// The last part of a tuple type.
+#[cycle(types)]
+#[derive(Drop)]
+pub enum Last {
+    /// `T`
+    Bare(STy),
+    /// `x: T`, which binds nothing
+    Named(SWord, STy),
+}
+
+/// An atom of an effect.
+#[derive(Drop)]
+pub enum SAtom {
+    /// `end M`
+    End { label: SMsg, span: Span },
+    /// `check M`
+    Check { nonce: SMsg, span: Span },
+    /// `many M`, in version 2
+    Many { label: SMsg, span: Span },
+}
+
+/// A process.
+#[derive(Drop)]
+pub enum SProc {
+    /// `P | Q`
+    Par {
+        first: Box<SProc>,
+        rest: Box<SProc>,
+        span: Span,
+    },
+    /// `out M N`
+    Out {
+        channel: SMsg,
+        datum: SMsg,
+        span: Span,
+    },
+    /// `out M N; P`
+    OutThen {
+        channel: SMsg,
+        datum: SMsg,
+        then: Box<SProc>,
+        span: Span,
+    },
+    /// `inp M (x: T); P`
+    Inp {
+        channel: SMsg,
+        name: SWord,
+        ty: STy,
+        then: Box<SProc>,
+        span: Span,
+    },
+    /// `repeat inp M (x: T); P`
+    Repeat {
+        channel: SMsg,
+        name: SWord,
+        ty: STy,
+        then: Box<SProc>,
+        span: Span,
+    },
+    /// `split M is (x: T, y: U); P`
+    Split {
+        whole: SMsg,
+        left: SWord,
+        left_ty: STy,
+        right: SWord,
+        right_ty: STy,
+        then: Box<SProc>,
+        span: Span,
+    },
+    /// `match M is (x: T = N, y: U); P`
+    Match {
+        whole: SMsg,
+        left: SWord,
+        left_ty: STy,
+        equal: SMsg,
+        right: SWord,
+        right_ty: STy,
+        then: Box<SProc>,
+        span: Span,
+    },
+    /// `case M is inl (x: T); P is inr (y: U); Q`
+    Case {
+        whole: SMsg,
+        left: SWord,
+        left_ty: STy,
+        on_left: Box<SProc>,
+        right: SWord,
+        right_ty: STy,
+        on_right: Box<SProc>,
+        span: Span,
+    },
+    /// `decrypt M is {x: T}N; P`
+    Decrypt {
+        whole: SMsg,
+        name: SWord,
+        ty: STy,
+        key: SMsg,
+        then: Box<SProc>,
+        span: Span,
+    },
+    /// `check M is N; P`
+    Check {
+        whole: SMsg,
+        nonce: SMsg,
+        then: Box<SProc>,
+        span: Span,
+    },
+    /// `begin L; P`
+    Begin {
+        label: SMsg,
+        then: Box<SProc>,
+        span: Span,
+    },
+    /// `end L; P`
+    End {
+        label: SMsg,
+        then: Box<SProc>,
+        span: Span,
+    },
+    /// `endmany L; P`, in version 2
+    EndMany {
+        label: SMsg,
+        then: Box<SProc>,
+        span: Span,
+    },
+    /// `cast M is (x: T); P`
+    Cast {
+        whole: SMsg,
+        name: SWord,
+        ty: STy,
+        then: Box<SProc>,
+        span: Span,
+    },
+    /// `new (x: T); P`
+    New {
+        name: SWord,
+        ty: STy,
+        then: Box<SProc>,
+        span: Span,
+    },
+    /// `stop`
+    Stop {
+        span: Span,
+    },
+    /// `(P | Q)`
+    Group {
+        first: Box<SProc>,
+        rest: Box<SProc>,
+        span: Span,
+    },
+}
+
+/// A declaration.
+#[derive(Drop)]
+pub enum Decl {
+    /// `free a, b, ..;`, of one name or more
+    Free {
+        first: SWord,
+        more: Vec<SWord>,
+        span: Span,
+    },
+    /// `type A = T;`
+    Abbr {
+        name: SWord,
+        ty: STy,
+        span: Span,
+    },
+}
+
+/// A step of a schedule, by the places of the processes that take it.
+#[derive(Drop)]
+pub enum SStep {
+    /// `act i;`
+    Act { place: u32, span: Span },
+    /// `talk i j;`
+    Talk { from: u32, to: u32, span: Span },
+}
+
+/// A use of a rule, with the effect that `ProcSub` writes, and the uses that prove its premises.
+#[derive(Drop)]
+pub struct SDeriv {
+    pub rule: SWord,
+    pub effect: Option<Vec<SAtom>>,
+    pub premises: Vec<SDeriv>,
+    pub span: Span,
+}
+
+/// A file.
+#[derive(Drop)]
+pub struct Tree {
+    /// 1, or 2 where the file begins with `version 2;`
+    pub version: u32,
+    pub decls: Vec<Decl>,
+    pub process: SProc,
+    pub opponent: Option<SProc>,
+    pub schedule: Option<Vec<SStep>>,
+    pub derivation: Option<SDeriv>,
+    pub span: Span,
+}
