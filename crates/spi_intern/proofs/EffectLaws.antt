@@ -3,12 +3,12 @@ use Rattle.std.proofs.Common.{◌≡◌, Bool, true, List, [], ◌∷◌, refl, 
 use lib.Pointwise.{pointwise}
 use Rattle.std.proofs.lemmas.Bool.{eqb-true, eq-eqb}
 use Rattle.spi_intern.specs.Table.{IsTable, tells_none}
-use Rattle.spi_intern.specs.Listed.{same_id_atom, same_atoms, AtomVec, SaysList, said_list}
-use Rattle.spi_intern.specs.declared.message.MsgId.{MsgId}
-use Rattle.spi_intern.specs.declared.effects.AtomId.{AtomId}
-use Rattle.spi_intern.specs.declared.effects.AtomId.TheVariants.{End, Check, Many}
-use Rattle.spi_intern.specs.contracts.effects.AtomIdPartialEq.TheImpl.{eq-value}
-use Rattle.spi_intern.proofs.Equal.{both, both_are}
+use Rattle.spi_intern.specs.Atoms.{same_id_atom, same_atoms, AtomVec, SaysList, said_list}
+use Rattle.spi_intern.specs.declared.messages.MsgId.{MsgId}
+use Rattle.spi_intern.specs.declared.atoms.AtomId.{AtomId}
+use Rattle.spi_intern.specs.declared.atoms.AtomId.TheVariants.{End, Check, Many}
+use Rattle.spi_intern.specs.contracts.atoms.AtomIdPartialEq.TheImpl.{eq-value}
+use Rattle.spi_intern.proofs.MessageLaws.{both, both_are}
 use Rattle.spi_intern.proofs.Tables.{Laws}
 
 abbrev pub atom_eq : AtomId → AtomId → Bool

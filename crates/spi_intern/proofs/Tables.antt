@@ -1,10 +1,10 @@
 -- A new node says a value that is new, and a node that is there says one that is there.
-use Rattle.std.proofs.Common.{◌≡◌, ℕ, zero, suc, Bool, true, false, List, [], ◌∷◌, ◌++◌, Some, slice_get, length, if◌then◌else◌, refl, sym, ap, subst, ◌∙◌, true≢false, ⊎_elim}
+use Rattle.std.proofs.Common.{◌≡◌, ℕ, zero, suc, Bool, true, false, List, [], ◌∷◌, ◌++◌, Option, Some, None, slice_get, length, if◌then◌else◌, refl, sym, ap, subst, ◌∙◌, true≢false, ⊎_elim}
 use Rattle.std.specs.List.{list_any}
 use Rattle.std.proofs.lemmas.List.Sums.{fold-append}
 use Rattle.indexmap.specs.IndexSet.{insert_key}
 use Rattle.spi_intern.specs.Table.{KeepsAll, AllDiffer, TellsAll, tells_none, tells_next, with_value, next_told, told, IsTable}
-use Rattle.spi_intern.proofs.Interning.{some_one, get_append, any_at, any_from, truths, get_push}
+use Rattle.spi_intern.proofs.Lists.{some_one, get_append, any_at, any_from, truths, get_push}
 
 pub keeps_same : {M : Type 0} {ms ns : List M} → ms ≡ ns → KeepsAll ms ns
 keeps_same e = record { at = λ i m at. ap (λ xs. slice_get xs i) (sym e) ∙ at }
@@ -131,3 +131,21 @@ module _ {P M : Type 0} (Says : List M → P → M → Type 0) (said : List M �
       let w = tells_at (put_table ps qs ms p h).tells i q at in
       let s : Says (told said qs) q (said ms p) = laws.respects _ p q _ e (laws.kept _ _ _ _ (put_keeps ps qs ms p h) h.says) in
       w.1 ∙ ap Some (sym (laws.says_said _ _ _ w.2) ∙ laws.says_said _ _ _ s)
+
+  -- the node at the place of a value says it
+  pub says_there : (ps : List P) (ms : List M) → told said ps ≡ ms → IsTable Says ps (told said ps) → (i : ℕ) (o : Option P) (n : M) → o ≡ slice_get ps i → slice_get ms i ≡ Some n → (p : P) × (o ≡ Some p) × Says ms p n
+  says_there ps ms v h i o n e at =
+      let w = tells_back h.tells i n (ap (λ xs. slice_get xs i) v ∙ at) in
+      (w.0, e ∙ w.1, subst (λ xs. Says xs w.0 n) v w.2)
+
+  pub says_some : (ps : List P) (ms : List M) → told said ps ≡ ms → IsTable Says ps (told said ps) → (i : ℕ) (q : P) (n : M) → Some q ≡ slice_get ps i → slice_get ms i ≡ Some n → Says ms q n
+  says_some ps ms v h i q n e at =
+      let w = says_there ps ms v h i (Some q) n e at in
+      let f : w.0 ≡ q = some_one (sym w.1) in
+      subst (λ p. Says ms p n) f w.2
+
+  pub says_none : (ps : List P) (ms : List M) → told said ps ≡ ms → IsTable Says ps (told said ps) → (i : ℕ) (n : M) → None ≡ slice_get ps i → slice_get ms i ≡ Some n → ⊥
+  says_none ps ms v h i n e at =
+      let w = says_there ps ms v h i None n e at in
+      let f : None ≡ Some w.0 = w.1 in
+      cc

@@ -9,7 +9,7 @@ use Rattle.spi_intern.specs.declared.types.TyNode.{TyNode}
 use Rattle.spi_intern.specs.declared.types.TyNode.TheVariants.{Un, Unit as NoParts, Pair, Sum, Key, Nonce}
 use Rattle.spi_intern.specs.contracts.types.TyIdPartialEq.TheImpl.{eq-value as eq_of_ids}
 use Rattle.spi_intern.specs.contracts.types.TyNodePartialEq.TheImpl.{eq-value as eq_of_nodes}
-use Rattle.spi_intern.proofs.Equal.{both, both_are}
+use Rattle.spi_intern.proofs.MessageLaws.{both, both_are}
 use Rattle.spi_intern.proofs.Tables.{Laws}
 
 abbrev pub ty_id_eq : TyId → TyId → Bool

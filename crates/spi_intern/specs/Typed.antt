@@ -1,8 +1,7 @@
 -- What the nodes of types say.
 use Rattle.std.specs.Prelude.{◌≡◌, ℕ, List, Option, Some, None, slice_get}
-use Rattle.spi_intern.specs.Table.{with_value}
 use Rattle.spi_intern.specs.Kinds as Kinds
-use Rattle.spi_intern.specs.Kinds.{Kind, un, pair, sum, key, nonce, same_kind}
+use Rattle.spi_intern.specs.Kinds.{Kind, un, pair, sum, key, nonce}
 use Rattle.spi_intern.specs.declared.types.TyId.{TyId}
 use Rattle.spi_intern.specs.declared.types.TyNode.{TyNode}
 use Rattle.spi_intern.specs.declared.types.TyNode.TheVariants.{Un, Unit as NoParts, Pair, Sum, Key, Nonce}
@@ -29,12 +28,3 @@ said_kind ts (Pair a b) = pair (kind_at ts a) (kind_at ts b)
 said_kind ts (Sum a b) = sum (kind_at ts a) (kind_at ts b)
 said_kind ts (Key a) = key (kind_at ts a)
 said_kind ts (Nonce e) = nonce e
-
--- the types with t and its parts, each where it is new after its own parts
-abbrev pub interned_kind : List Kind → Kind → List Kind
-interned_kind ts un = with_value same_kind ts un
-interned_kind ts Kinds.unit = with_value same_kind ts Kinds.unit
-interned_kind ts (pair t u) = with_value same_kind (interned_kind (interned_kind ts t) u) (pair t u)
-interned_kind ts (sum t u) = with_value same_kind (interned_kind (interned_kind ts t) u) (sum t u)
-interned_kind ts (key t) = with_value same_kind (interned_kind ts t) (key t)
-interned_kind ts (nonce e) = with_value same_kind ts (nonce e)
