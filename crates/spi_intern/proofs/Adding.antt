@@ -1,0 +1,208 @@
+-- What is new after one call, and after another.
+use Rattle.std.proofs.Common.{◌≡◌, ℕ, ◌<◌, Bool, true, false, if◌then◌else◌, List, [], ◌∷◌, ◌++◌, Some, slice_get, length, refl, sym, ap, subst, ◌∙◌, ◌⊎◌, inl, inr, ⊎_elim, Result, Ok, Err, OnOk}
+use Rattle.spi_intern.specs.Messages.{interned}
+use Rattle.std.specs.List.{list_any}
+use Rattle.spi_term.specs.Term.{Message, Atom, Effect, Ty, un, unit_ty, pair_ty, sum_ty, key, nonce}
+use Rattle.spi_intern.specs.Table.{KeepsAll, with_value}
+use Rattle.spi_intern.specs.Kinds.{Kind, same_kind}
+use Rattle.spi_intern.specs.Typed.{SaysKind, says_un, says_unit, says_pair, says_sum, says_key, says_nonce, said_kind}
+use Rattle.spi_intern.specs.Atoms.{IdsMean}
+use Rattle.spi_intern.specs.declared.types.TyId.{TyId}
+use Rattle.spi_intern.specs.declared.types.TyNode.{TyNode}
+use Rattle.spi_intern.specs.declared.types.TyNode.TheVariants.{Un, Unit as NoParts, Pair, Sum, Key, Nonce}
+use Rattle.spi_intern.specs.declared.atoms.AtomId.{AtomId}
+use Rattle.spi_intern.specs.declared.store.Store.{Store}
+use Rattle.spi_intern.specs.Meaning.{KindMeans, means_un, means_unit, means_pair, means_sum, means_key, means_nonce, Means, Keeps}
+use Rattle.spi_intern.specs.Parts.{PartOf, message_of, InEffect, in_first, in_later, InTy, in_pair_first, in_pair_second, in_sum_left, in_sum_right, in_key, in_nonce, TyPartOf, whole_ty, of_pair_first, of_pair_second, of_sum_left, of_sum_right, of_payload}
+use Rattle.spi_intern.specs.Growing.{Has, HasTy, AddsMessages, AddsTypes, Adds, a_message, a_type}
+use Rattle.spi_intern.proofs.Lists.{below_get, get_below, get_push}
+use Rattle.spi_intern.proofs.Grown.{has_kept, interned_adds}
+use Rattle.spi_intern.proofs.Meanings.{means_keeps, kind_keeps}
+use Rattle.spi_intern.proofs.TyLaws.{says_said}
+
+pub adds_none : {ms ns : List Message} → ns ≡ ms → AddsMessages ms ns (λ x. ⊥)
+adds_none e = record { all = λ x h. absurd h; only = λ x h. inl (subst (λ zs. Has zs x) e h) }
+
+pub adds_more : {ks bs cs : List Message} {M N : Message → Type 0} → AddsMessages ks bs M → KeepsAll bs cs → AddsMessages bs cs N → AddsMessages ks cs (λ x. M x ⊎ N x)
+adds_more f k g = record {
+  all = λ x h. ⊎_elim (λ m. has_kept k (f.all x m)) (λ n. g.all x n) h;
+  only = λ x h. ⊎_elim (λ b. ⊎_elim inl (λ m. inr (inl m)) (f.only x b)) (λ n. inr (inr n)) (g.only x h)
+}
+
+pub adds_as : {ks bs : List Message} {M N : Message → Type 0} → ((x : Message) → M x → N x) → ((x : Message) → N x → M x) → AddsMessages ks bs M → AddsMessages ks bs N
+adds_as p q f = record { all = λ x n. f.all x (q x n); only = λ x h. ⊎_elim inl (λ m. inr (p x m)) (f.only x h) }
+
+has_ty_kept : {s r : Store} {u : Ty} → Keeps s r → HasTy s u → HasTy r u
+has_ty_kept k h = record { place = h.place; means = means_keeps k h.means }
+
+types_none : {s r : Store} → r.types ≡ s.types → AddsTypes s r (λ u. ⊥)
+types_none e = record { all = λ u h. absurd h; only = λ i h. inl (subst (λ zs. i < length zs) e h) }
+
+types_more : {s q r : Store} {T U : Ty → Type 0} → AddsTypes s q T → Keeps q r → AddsTypes q r U → AddsTypes s r (λ u. T u ⊎ U u)
+types_more f k g = record {
+  all = λ u h. ⊎_elim (λ t. has_ty_kept k (f.all u t)) (λ w. g.all u w) h;
+  only = λ i h. ⊎_elim (λ b. ⊎_elim inl (λ w. inr (w.0, inl w.1, means_keeps k w.2)) (f.only i b)) (λ w. inr (w.0, inr w.1, w.2)) (g.only i h)
+}
+
+types_as : {s r : Store} {T U : Ty → Type 0} → ((u : Ty) → T u → U u) → ((u : Ty) → U u → T u) → AddsTypes s r T → AddsTypes s r U
+types_as p q f = record { all = λ u n. f.all u (q u n); only = λ i h. ⊎_elim inl (λ w. inr (w.0, p w.0 w.1, w.2)) (f.only i h) }
+
+-- one type is put
+pub types_put : {s r : Store} (i : ℕ) {k : Kind} {t : Ty} → r.types ≡ with_value same_kind s.types k → slice_get r.types i ≡ Some k → KindMeans r.messages r.effects k t → AddsTypes s r (λ u. u ≡ t)
+types_put {s} {r} i {k} {t} e at m = record { all = all; only = only }
+  where
+    mean : (j : ℕ) → slice_get r.types j ≡ Some k → Means r j t
+    mean j f = record { kind = k; at = f; means = m }
+    all : (u : Ty) → u ≡ t → HasTy r u
+    all u f = record { place = i; means = subst (Means r i) (sym f) (mean i at) }
+    by : (b : Bool) (j : ℕ) (x : Kind) → slice_get (if b then s.types else s.types ++ k ∷ []) j ≡ Some x → (j < length s.types) ⊎ (x ≡ k)
+    by true j x f = inl (get_below s.types j x f)
+    by false j x f = ⊎_elim (λ g. inl (get_below s.types j x g)) (λ g. inr g.1) (get_push s.types k j x f)
+    only : (j : ℕ) → j < length r.types → (j < length s.types) ⊎ ((u : Ty) × (u ≡ t) × Means r j u)
+    only j h =
+        let w = below_get r.types j h in
+        ⊎_elim inl (λ f. inr (t, refl, mean j (w.1 ∙ ap Some f))) (by (list_any (same_kind k) s.types) j w.0 (ap (λ zs. slice_get zs j) (sym e) ∙ w.1))
+
+-- a type whose outermost constructor is put
+put_adds : {s r : Store} (i : ℕ) {n : TyNode} {k : Kind} {t : Ty} → Keeps s r → SaysKind s.types n k → KindMeans s.messages s.effects k t → slice_get r.types i ≡ Some (said_kind s.types n) → r.types ≡ with_value same_kind s.types (said_kind s.types n) → AddsTypes s r (λ u. u ≡ t)
+put_adds {s} {r} i {n} {k} {t} l says m at e =
+    let w : said_kind s.types n ≡ k = says_said s.types n k says in
+    types_put i (e ∙ ap (with_value same_kind s.types) w) (at ∙ ap Some w) (kind_keeps l.messages l.effects m)
+
+pub put_un : {s r : Store} (i : ℕ) → Keeps s r → slice_get r.types i ≡ Some (said_kind s.types Un) → r.types ≡ with_value same_kind s.types (said_kind s.types Un) → AddsTypes s r (λ u. u ≡ un)
+put_un i l at e = put_adds i l says_un means_un at e
+
+pub put_unit : {s r : Store} (i : ℕ) → Keeps s r → slice_get r.types i ≡ Some (said_kind s.types NoParts) → r.types ≡ with_value same_kind s.types (said_kind s.types NoParts) → AddsTypes s r (λ u. u ≡ unit_ty)
+put_unit i l at e = put_adds i l says_unit means_unit at e
+
+pub put_pair : {s r : Store} (i : ℕ) {a b : TyId} {t u : Ty} → Keeps s r → Means s a.place t → Means s b.place u → slice_get r.types i ≡ Some (said_kind s.types (Pair a b)) → r.types ≡ with_value same_kind s.types (said_kind s.types (Pair a b)) → AddsTypes s r (λ v. v ≡ pair_ty t u)
+put_pair i l h g at e = put_adds i l (says_pair h.at g.at) (means_pair h.means g.means) at e
+
+pub put_sum : {s r : Store} (i : ℕ) {a b : TyId} {t u : Ty} → Keeps s r → Means s a.place t → Means s b.place u → slice_get r.types i ≡ Some (said_kind s.types (Sum a b)) → r.types ≡ with_value same_kind s.types (said_kind s.types (Sum a b)) → AddsTypes s r (λ v. v ≡ sum_ty t u)
+put_sum i l h g at e = put_adds i l (says_sum h.at g.at) (means_sum h.means g.means) at e
+
+pub put_key : {s r : Store} (i : ℕ) {a : TyId} {t : Ty} → Keeps s r → Means s a.place t → slice_get r.types i ≡ Some (said_kind s.types (Key a)) → r.types ≡ with_value same_kind s.types (said_kind s.types (Key a)) → AddsTypes s r (λ v. v ≡ key t)
+put_key i l h at e = put_adds i l (says_key h.at) (means_key h.means) at e
+
+pub put_nonce : {s r : Store} (i : ℕ) {x : ℕ} {ids : List AtomId} {es : Effect} → Keeps s r → slice_get s.effects x ≡ Some ids → IdsMean s.messages ids es → slice_get r.types i ≡ Some (said_kind s.types (Nonce x)) → r.types ≡ with_value same_kind s.types (said_kind s.types (Nonce x)) → AddsTypes s r (λ v. v ≡ nonce es)
+put_nonce i l h g at e = put_adds i l says_nonce (means_nonce h g) at e
+
+-- a message is interned
+pub message_adds : {A E : Type 0} (s r : Store) (m : Message) → r.types ≡ s.types → (o : Result A E) → OnOk o (r.messages ≡ interned s.messages m) → OnOk o (Adds s r (a_message m))
+message_adds s r m e (Ok x) h = record { messages = interned_adds s.messages r.messages m h; types = types_none e }
+message_adds s r m e (Err x) h = tt
+
+-- each constructor of a type
+pub adds_un : {s r : Store} → r.messages ≡ s.messages → AddsTypes s r (λ u. u ≡ un) → Adds s r (a_type un)
+adds_un {s} {r} e h = record { messages = adds_as (λ x p. absurd p) none (adds_none e); types = types_as (λ u f. subst (λ v. TyPartOf v un) (sym f) whole_ty) part h }
+  where
+    none : (x : Message) → InTy x un → ⊥
+    none x h = elim h [ ]
+    part : (u : Ty) → TyPartOf u un → u ≡ un
+    part u whole_ty = refl
+
+pub adds_unit : {s r : Store} → r.messages ≡ s.messages → AddsTypes s r (λ u. u ≡ unit_ty) → Adds s r (a_type unit_ty)
+adds_unit {s} {r} e h = record { messages = adds_as (λ x p. absurd p) none (adds_none e); types = types_as (λ u f. subst (λ v. TyPartOf v unit_ty) (sym f) whole_ty) part h }
+  where
+    none : (x : Message) → InTy x unit_ty → ⊥
+    none x h = elim h [ ]
+    part : (u : Ty) → TyPartOf u unit_ty → u ≡ unit_ty
+    part u whole_ty = refl
+
+-- the messages stay where a type is put on top
+rest_of : {ks bs cs : List Message} {M : Message → Type 0} → AddsMessages ks bs M → cs ≡ bs → AddsMessages ks cs M
+rest_of {ks} {M = M} f e = subst (λ zs. AddsMessages ks zs M) (sym e) f
+
+pub adds_pair : {s p q r : Store} {t u : Ty} → Adds s p (a_type t) → Keeps p q → Adds p q (a_type u) → Keeps q r → r.messages ≡ q.messages → AddsTypes q r (λ v. v ≡ pair_ty t u) → Adds s r (a_type (pair_ty t u))
+adds_pair {t = t} {u = u} f k g l e h = record {
+  messages = rest_of (adds_as to from (adds_more f.messages k.messages g.messages)) e;
+  types = types_as up down (types_more (types_more f.types k g.types) l h)
+}
+  where
+    to : (x : Message) → InTy x t ⊎ InTy x u → InTy x (pair_ty t u)
+    to x (inl a) = in_pair_first a
+    to x (inr b) = in_pair_second b
+    from : (x : Message) → InTy x (pair_ty t u) → InTy x t ⊎ InTy x u
+    from x (in_pair_first a) = inl a
+    from x (in_pair_second b) = inr b
+    up : (v : Ty) → (TyPartOf v t ⊎ TyPartOf v u) ⊎ (v ≡ pair_ty t u) → TyPartOf v (pair_ty t u)
+    up v (inl (inl a)) = of_pair_first a
+    up v (inl (inr b)) = of_pair_second b
+    up v (inr w) = subst (λ z. TyPartOf z (pair_ty t u)) (sym w) whole_ty
+    down : (v : Ty) → TyPartOf v (pair_ty t u) → (TyPartOf v t ⊎ TyPartOf v u) ⊎ (v ≡ pair_ty t u)
+    down v whole_ty = inr refl
+    down v (of_pair_first a) = inl (inl a)
+    down v (of_pair_second b) = inl (inr b)
+
+pub adds_sum : {s p q r : Store} {t u : Ty} → Adds s p (a_type t) → Keeps p q → Adds p q (a_type u) → Keeps q r → r.messages ≡ q.messages → AddsTypes q r (λ v. v ≡ sum_ty t u) → Adds s r (a_type (sum_ty t u))
+adds_sum {t = t} {u = u} f k g l e h = record {
+  messages = rest_of (adds_as to from (adds_more f.messages k.messages g.messages)) e;
+  types = types_as up down (types_more (types_more f.types k g.types) l h)
+}
+  where
+    to : (x : Message) → InTy x t ⊎ InTy x u → InTy x (sum_ty t u)
+    to x (inl a) = in_sum_left a
+    to x (inr b) = in_sum_right b
+    from : (x : Message) → InTy x (sum_ty t u) → InTy x t ⊎ InTy x u
+    from x (in_sum_left a) = inl a
+    from x (in_sum_right b) = inr b
+    up : (v : Ty) → (TyPartOf v t ⊎ TyPartOf v u) ⊎ (v ≡ sum_ty t u) → TyPartOf v (sum_ty t u)
+    up v (inl (inl a)) = of_sum_left a
+    up v (inl (inr b)) = of_sum_right b
+    up v (inr w) = subst (λ z. TyPartOf z (sum_ty t u)) (sym w) whole_ty
+    down : (v : Ty) → TyPartOf v (sum_ty t u) → (TyPartOf v t ⊎ TyPartOf v u) ⊎ (v ≡ sum_ty t u)
+    down v whole_ty = inr refl
+    down v (of_sum_left a) = inl (inl a)
+    down v (of_sum_right b) = inl (inr b)
+
+pub adds_key : {s q r : Store} {t : Ty} → Adds s q (a_type t) → Keeps q r → r.messages ≡ q.messages → AddsTypes q r (λ v. v ≡ key t) → Adds s r (a_type (key t))
+adds_key {t = t} f l e h = record {
+  messages = rest_of (adds_as (λ x a. in_key a) from f.messages) e;
+  types = types_as up down (types_more f.types l h)
+}
+  where
+    from : (x : Message) → InTy x (key t) → InTy x t
+    from x (in_key a) = a
+    up : (v : Ty) → TyPartOf v t ⊎ (v ≡ key t) → TyPartOf v (key t)
+    up v (inl a) = of_payload a
+    up v (inr w) = subst (λ z. TyPartOf z (key t)) (sym w) whole_ty
+    down : (v : Ty) → TyPartOf v (key t) → TyPartOf v t ⊎ (v ≡ key t)
+    down v whole_ty = inr refl
+    down v (of_payload a) = inl a
+
+pub adds_nonce : {s q r : Store} {es : Effect} → AddsMessages s.messages q.messages (λ x. InEffect x es) → q.types ≡ s.types → Keeps q r → r.messages ≡ q.messages → AddsTypes q r (λ v. v ≡ nonce es) → Adds s r (a_type (nonce es))
+adds_nonce {es = es} f w l e h = record {
+  messages = rest_of (adds_as (λ x a. in_nonce a) from f) e;
+  types = types_as up down (types_more (types_none w) l h)
+}
+  where
+    from : (x : Message) → InTy x (nonce es) → InEffect x es
+    from x (in_nonce a) = a
+    up : (v : Ty) → ⊥ ⊎ (v ≡ nonce es) → TyPartOf v (nonce es)
+    up v (inl a) = absurd a
+    up v (inr z) = subst (λ y. TyPartOf y (nonce es)) (sym z) whole_ty
+    down : (v : Ty) → TyPartOf v (nonce es) → ⊥ ⊎ (v ≡ nonce es)
+    down v whole_ty = inr refl
+
+-- one more atom
+in_push : (x : Message) (es : Effect) (a : Atom) → InEffect x es ⊎ PartOf x (message_of a) → InEffect x (es ++ a ∷ [])
+in_push x [] a (inl h) = elim h [ ]
+in_push x [] a (inr p) = in_first p
+in_push x (e ∷ es) a (inl (in_first p)) = in_first p
+in_push x (e ∷ es) a (inl (in_later h)) = in_later (in_push x es a (inl h))
+in_push x (e ∷ es) a (inr p) = in_later (in_push x es a (inr p))
+
+in_pushed : (x : Message) (es : Effect) (a : Atom) → InEffect x (es ++ a ∷ []) → InEffect x es ⊎ PartOf x (message_of a)
+in_pushed x [] a (in_first p) = inr p
+in_pushed x [] a (in_later h) = elim h [ ]
+in_pushed x (e ∷ es) a (in_first p) = inl (in_first p)
+in_pushed x (e ∷ es) a (in_later h) = ⊎_elim (λ g. inl (in_later g)) inr (in_pushed x es a h)
+
+pub adds_atom : {ks bs cs : List Message} (es : Effect) (a : Atom) → AddsMessages ks bs (λ x. InEffect x es) → KeepsAll bs cs → AddsMessages bs cs (λ x. PartOf x (message_of a)) → AddsMessages ks cs (λ x. InEffect x (es ++ a ∷ []))
+adds_atom es a f k g = adds_as (λ x h. in_push x es a h) (λ x h. in_pushed x es a h) (adds_more f k g)
+
+pub adds_no_atom : {ms ns : List Message} → ns ≡ ms → AddsMessages ms ns (λ x. InEffect x [])
+adds_no_atom e = adds_as (λ x p. absurd p) none (adds_none e)
+  where
+    none : (x : Message) → InEffect x [] → ⊥
+    none x h = elim h [ ]

@@ -1,0 +1,136 @@
+// Messages with numbers.
+
+ghost use Rattle.std.specs.Prelude.{◌≡◌, List, [], Some, IfOk, OnOk, ◌<◌, ◌^◌, OnErr, slice_get, length};
+ghost use Rattle.spi_term.specs.Term.{Message};
+ghost use Rattle.spi_term.specs.View.{message};
+ghost use Rattle.spi_intern.specs.Table.{KeepsAll, AllDiffer};
+ghost use Rattle.spi_intern.specs.Messages.{added, interned, Says, said};
+
+use crate::NoMemory;
+use indexmap::IndexSet;
+use spi_term::Msg;
+use std::alloc::Global;
+use std::marker::Model;
+
+/// The number of a message of a store.
+#[derive(Clone, Copy, Debug, PartialEq, Eq, PartialOrd, Ord, Hash)]
+pub struct MsgId {
+    place: usize,
+}
+
+/// The outermost constructor of a message, with the numbers of its parts.
+#[derive(Clone, Copy, Debug, PartialEq, Eq, Hash)]
+pub enum MsgPart {
+    Bound(u32),
+    Name(u32),
+    Unit,
+    Pair(MsgId, MsgId),
+    Inl(MsgId),
+    Inr(MsgId),
+    Enc(MsgId, MsgId),
+    Hash(MsgId),
+}
+
+/// Messages, each with its number. Contracts see them as a list, in the order of the numbers.
+#[derive(Drop)]
+pub struct Messages {
+    parts: IndexSet<MsgPart>,
+}
+
+impl Model for Messages {
+    ghost use Rattle.std.specs.Prelude.{List};
+    ghost use Rattle.spi_term.specs.Term.{Message};
+
+    ghost use Rattle.std.specs.Coded.{coded_list};
+    ghost use Rattle.spi_term.specs.Codes.{coded_message};
+
+    ghost Value = { List Message };
+
+    ghost coded = { coded_list coded_message };
+
+    ghost use Rattle.spi_intern.specs.InsideMessages.{messages_in, IsInterned};
+
+    ghost view = { messages_in };
+
+    ghost invariant = { IsInterned };
+}
+
+impl Messages {
+    /// No messages.
+    pub fn new(alloc: Global) -> Messages
+        ensures { result ≡ [] }
+    {
+        Messages {
+            parts: IndexSet::new(alloc),
+        }
+    }
+
+    // The number of a message of which this is the outermost constructor.
+    fn put(&mut self, part: MsgPart) -> Result<MsgId, NoMemory>
+        requires { Says self.old part (said self.old part) }
+        ensures grows { OnOk result (self.new ≡ added self.old (said self.old part)) }
+        ensures same { OnErr result (self.new ≡ self.old) }
+        ensures at { IfOk result (λ id. slice_get self.new id.place ≡ Some (said self.old part)) }
+        ensures kept { KeepsAll self.old self.new }
+        ensures distinct { AllDiffer self.new }
+    {
+        let (place, _) = self.parts.insert_full(part)?;
+        Ok(MsgId { place })
+    }
+
+    /// The number of a message. Its parts get numbers first.
+    pub fn intern(&mut self, m: &Msg) -> Result<MsgId, NoMemory>
+        ensures grows { OnOk result (self.new ≡ interned self.old (message m.now)) }
+        ensures at { IfOk result (λ id. slice_get self.new id.place ≡ Some (message m.now)) }
+        ensures kept { KeepsAll self.old self.new }
+        ensures distinct { AllDiffer self.new }
+    {
+        match m {
+            Msg::Bound(i) => self.put(MsgPart::Bound(*i)),
+            Msg::Name(x) => self.put(MsgPart::Name(*x)),
+            Msg::Unit => self.put(MsgPart::Unit),
+            Msg::Pair(a, b) => {
+                let first = self.intern(a)?;
+                let second = self.intern(b)?;
+                self.put(MsgPart::Pair(first, second))
+            }
+            Msg::Inl(a) => {
+                let part = self.intern(a)?;
+                self.put(MsgPart::Inl(part))
+            }
+            Msg::Inr(a) => {
+                let part = self.intern(a)?;
+                self.put(MsgPart::Inr(part))
+            }
+            Msg::Enc(a, b) => {
+                let body = self.intern(a)?;
+                let key = self.intern(b)?;
+                self.put(MsgPart::Enc(body, key))
+            }
+            Msg::Hash(a) => {
+                let part = self.intern(a)?;
+                self.put(MsgPart::Hash(part))
+            }
+        }
+    }
+
+    /// How many messages have numbers. No message has two.
+    pub fn count(&self) -> usize
+        ensures count { result ≡ length self.now }
+        ensures small { result < 2 ^ 63 }
+        ensures distinct { AllDiffer self.now }
+    {
+        self.parts.len()
+    }
+
+    /// The outermost constructor of the message with a number of this table.
+    pub fn part(&self, m: MsgId) -> MsgPart
+        requires { m.place < length self.now }
+        ensures { (n : Message) → slice_get self.now m.place ≡ Some n → Says self.now result n }
+    {
+        match self.parts.get_index(m.place) {
+            Some(part) => *part,
+            None => MsgPart::Unit,
+        }
+    }
+}

@@ -1,0 +1,181 @@
+// Messages and types with numbers.
+
+ghost use Rattle.std.specs.Prelude.{◌≡◌, ◌↔◌, ◌+◌, ◌<◌, ℕ, List, [], Some, IfOk, OnOk, OnErr, slice_get, length};
+ghost use Rattle.spi_term.specs.Term as Term;
+ghost use Rattle.spi_term.specs.SameTy.{SameTy};
+ghost use Rattle.spi_term.specs.View.{message, effect, ty};
+ghost use Rattle.spi_intern.specs.declared.atoms.AtomId.{AtomId};
+ghost use Rattle.spi_intern.specs.Messages.{Says};
+ghost use Rattle.spi_intern.specs.Atoms.{IdsMean};
+ghost use Rattle.spi_intern.specs.Typed.{SaysKind, said_kind};
+ghost use Rattle.spi_intern.specs.Kinds.{same_kind};
+ghost use Rattle.spi_intern.specs.Table.{with_value};
+ghost use Rattle.spi_intern.specs.Meaning.{Means, Keeps, NoneTwice};
+ghost use Rattle.spi_intern.specs.Parts.{InEffect};
+ghost use Rattle.spi_intern.specs.Growing.{AddsMessages, Adds, a_message, a_type};
+ghost use Rattle.spi_intern.specs.Lent.{SaysTy};
+
+use crate::NoMemory;
+use crate::atoms::{AtomId, atom_ids, canonical};
+use crate::effects::Effects;
+use crate::messages::{Messages, MsgId, MsgPart};
+use crate::types::{TyId, TyNode, Types};
+use spi_term::{Effect, Msg, Ty};
+use std::alloc::Global;
+
+/// Messages and types, each with its number: equal messages have equal numbers, and so have types that are equal
+/// up to equal counts of atoms within each Nonce. Whatever a call answers, each number means what it meant.
+#[derive(Drop)]
+pub struct Store {
+    messages: Messages,
+    effects: Effects,
+    types: Types,
+}
+
+/// The outermost constructor of a type, with the numbers of its parts.
+#[derive(Clone, Copy, Debug)]
+pub enum TyPart<'s> {
+    Un,
+    Unit,
+    Pair(TyId, TyId),
+    Sum(TyId, TyId),
+    Key(TyId),
+    Nonce(&'s [AtomId]),
+}
+
+impl Store {
+    /// No terms.
+    pub fn new(alloc: Global) -> Store
+        ensures messages { result.messages ≡ [] }
+        ensures types { result.types ≡ [] }
+    {
+        Store {
+            messages: Messages::new(alloc),
+            effects: Effects::new(alloc),
+            types: Types::new(alloc),
+        }
+    }
+
+    /// The number of a message: that of an equal one, and no number of another one. It and its parts have numbers
+    /// afterwards, and nothing else is new. `NoMemory`: some of its parts may have numbers.
+    pub fn message(&mut self, m: &Msg) -> Result<MsgId, NoMemory>
+        ensures at { IfOk result (λ id. slice_get self.new.messages id.place ≡ Some (message m.now)) }
+        ensures equal { IfOk result (λ id. (j : ℕ) (n : Term.Message) → slice_get self.new.messages j ≡ Some n → (id.place ≡ j) ↔ (message m.now ≡ n)) }
+        ensures adds { OnOk result (Adds self.old self.new (a_message (message m.now))) }
+        ensures kept { Keeps self.old self.new }
+    {
+        self.messages.intern(m)
+    }
+
+    /// The number of a type: that of one that is the same, and no number of another one. It, its parts and the
+    /// messages in it have numbers afterwards, and nothing else is new. `NoMemory`: some of them may have numbers.
+    pub fn ty(&mut self, alloc: Global, t: &Ty) -> Result<TyId, NoMemory>
+        ensures at { IfOk result (λ id. Means self.new id.place (ty t.now)) }
+        ensures equal { IfOk result (λ id. (j : ℕ) (u : Term.Ty) → Means self.new j u → (id.place ≡ j) ↔ SameTy (ty t.now) u) }
+        ensures adds { OnOk result (Adds self.old self.new (a_type (ty t.now))) }
+        ensures kept { Keeps self.old self.new }
+    {
+        let id = self.intern(alloc, t)?;
+        let _ = self.distinct();
+        Ok(id)
+    }
+
+    /// How many different messages and different types have numbers.
+    pub fn distinct(&self) -> u64
+        ensures count { result ≡ length self.now.messages + length self.now.types }
+        ensures differ { NoneTwice self.now }
+    {
+        let _ = self.effects.count();
+        self.messages.count() as u64 + self.types.count() as u64
+    }
+
+    /// The outermost constructor of the message with a number of this store, with the numbers of its parts.
+    pub fn part(&self, m: MsgId) -> MsgPart
+        requires { m.place < length self.now.messages }
+        ensures { (n : Term.Message) → slice_get self.now.messages m.place ≡ Some n → Says self.now.messages result n }
+    {
+        self.messages.part(m)
+    }
+
+    /// The outermost constructor of the type with a number of this store, with the numbers of its parts. A Nonce
+    /// has each `many` atom once and every other atom as often as it stands in the type, in an order of the
+    /// store's own.
+    pub fn ty_part(&self, t: TyId) -> TyPart<'_>
+        requires { t.place < length self.now.types }
+        ensures { (u : Term.Ty) → Means self.now t.place u → SaysTy self.now result u }
+    {
+        match self.types.node(t) {
+            TyNode::Un => TyPart::Un,
+            TyNode::Unit => TyPart::Unit,
+            TyNode::Pair(first, second) => TyPart::Pair(first, second),
+            TyNode::Sum(left, right) => TyPart::Sum(left, right),
+            TyNode::Key(payload) => TyPart::Key(payload),
+            TyNode::Nonce(place) => TyPart::Nonce(self.effects.atoms(place)),
+        }
+    }
+
+    // The number of a type of which this is the outermost constructor.
+    fn put(&mut self, node: TyNode) -> Result<TyId, NoMemory>
+        requires { SaysKind self.old.types node (said_kind self.old.types node) }
+        ensures at { IfOk result (λ id. slice_get self.new.types id.place ≡ Some (said_kind self.old.types node)) }
+        ensures grows { OnOk result (self.new.types ≡ with_value same_kind self.old.types (said_kind self.old.types node)) }
+        ensures kept { Keeps self.old self.new }
+        ensures messages { self.new.messages ≡ self.old.messages }
+        ensures effects { self.new.effects ≡ self.old.effects }
+    {
+        self.types.put(node)
+    }
+
+    // The number of an effect.
+    fn effect(&mut self, alloc: Global, e: &Effect) -> Result<usize, NoMemory>
+        ensures at { IfOk result (λ place. (ids : List AtomId) × (slice_get self.new.effects place ≡ Some ids) × IdsMean self.new.messages ids (effect e.now)) }
+        ensures adds { OnOk result (AddsMessages self.old.messages self.new.messages (λ x. InEffect x (effect e.now))) }
+        ensures types { self.new.types ≡ self.old.types }
+        ensures kept { Keeps self.old self.new }
+    {
+        let written = atom_ids(alloc, &mut self.messages, e)?;
+        let _ = self.messages.count();
+        let ids = canonical(alloc, written)?;
+        self.effects.put(ids)
+    }
+
+    // The number of a type, with its parts.
+    fn intern(&mut self, alloc: Global, t: &Ty) -> Result<TyId, NoMemory>
+        ensures at { IfOk result (λ id. Means self.new id.place (ty t.now)) }
+        ensures adds { IfOk result (λ id. Adds self.old self.new (a_type (ty t.now))) }
+        ensures kept { Keeps self.old self.new }
+    {
+        match t {
+            Ty::Un => {
+                let id = self.put(TyNode::Un)?;
+                Ok(id)
+            }
+            Ty::Unit => {
+                let id = self.put(TyNode::Unit)?;
+                Ok(id)
+            }
+            Ty::Pair(a, b) => {
+                let first = self.intern(alloc, a)?;
+                let second = self.intern(alloc, b)?;
+                let id = self.put(TyNode::Pair(first, second))?;
+                Ok(id)
+            }
+            Ty::Sum(a, b) => {
+                let first = self.intern(alloc, a)?;
+                let second = self.intern(alloc, b)?;
+                let id = self.put(TyNode::Sum(first, second))?;
+                Ok(id)
+            }
+            Ty::Key(a) => {
+                let part = self.intern(alloc, a)?;
+                let id = self.put(TyNode::Key(part))?;
+                Ok(id)
+            }
+            Ty::Nonce(e) => {
+                let place = self.effect(alloc, e)?;
+                let id = self.put(TyNode::Nonce(place))?;
+                Ok(id)
+            }
+        }
+    }
+}
