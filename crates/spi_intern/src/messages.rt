@@ -42,7 +42,7 @@ impl Model for Messages {
     ghost use Rattle.spi_term.specs.Term.{Message};
 
     ghost use Rattle.std.specs.Coded.{coded_list};
-    ghost use Rattle.spi_term.specs.Codes.{coded_message};
+    ghost use Rattle.spi_intern.specs.Codes.{coded_message};
 
     ghost Value = { List Message };
 

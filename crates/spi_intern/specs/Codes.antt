@@ -1,0 +1,15 @@
+-- A code of messages, by which a proof tells them apart: that of a type which holds the message.
+use Rattle.std.specs.Prelude.{List, [], ◌∷◌, refl}
+use Rattle.std.specs.Coded.{Coded, code_by}
+use Rattle.spi_term.specs.Term.{Message, unit, ends, checks, many, Ty, un, unit_ty, pair_ty, sum_ty, key, nonce}
+use Rattle.spi_term.specs.Codes.{coded_types}
+
+abbrev pub held : Message → List Ty
+held m = nonce (ends m ∷ []) ∷ []
+
+abbrev pub message_in : List Ty → Message
+message_in (nonce (ends m ∷ es) ∷ ts) = m
+message_in _ = unit
+
+abbrev pub coded_message : Coded Message
+coded_message = code_by (List Ty) coded_types held message_in (λ m. refl)
