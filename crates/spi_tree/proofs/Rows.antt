@@ -7,14 +7,13 @@ use Rattle.spi_lex.specs.declared.token.Mark.TheVariants as mark
 use Rattle.spi_tree.specs.declared.tree.SWord.{SWord}
 use Rattle.spi_tree.specs.declared.tree.SMsg.{SMsg, Row_of-SMsg, end_of-SMsg, more_of-SMsg, items-the_row-SMsg, items_hidden-the_row-SMsg-0}
 use Rattle.spi_tree.specs.declared.tree.SMsg.TheVariants as smsg
-use Rattle.spi_tree.specs.declared.tree.SAtom.{SAtom}
 use Rattle.spi_tree.specs.declared.tree.STy.{STy, Row_of-SField, end_of-SField, more_of-SField, items-the_row-SField, items_hidden-the_row-SField-0}
 use Rattle.spi_tree.specs.declared.tree.STy.TheVariants as sty
 use Rattle.spi_tree.specs.declared.tree.SField.{SField}
 use Rattle.spi_tree.specs.declared.tree.Last.{Last}
 use Rattle.spi_tree.specs.declared.tree.SDeriv.{SDeriv, SDeriv', out-SDeriv, Row_of-SDeriv, end_of-SDeriv, more_of-SDeriv, items-the_row-SDeriv, items_shown-the_row-SDeriv-0, items_hidden-the_row-SDeriv-0}
 use Rattle.spi_tree.specs.Trees as t
-use Rattle.spi_tree.specs.Views.{msg_of, msgs_of_row, atom_of, ty_of, fields_of_row, last_of, field_of, effect_of, deriv_of, derivs_of_row}
+use Rattle.spi_tree.specs.Views.{msg_of, msgs_of_row, ty_of, fields_of_row, last_of, field_of, effect_of, deriv_of, derivs_of_row}
 use Rattle.spi_tree.specs.Listed.{joined, mark_list, msg_list, msgs_list, more_list, field_list, fields_list, deriv_list, derivs_list, word_list, ty_list, last_list, tuple_list, tuple_ty_list, written_list}
 
 row_of_msgs : (n : _) (row : Row_of-SMsg n) → t.msgs_of_list (map msg_of (items-the_row-SMsg n row)) ≡ msgs_of_row row

@@ -1,13 +1,13 @@
 -- Which trees are formed. What a tree may hold depends on the version, and in the effects of a derivation messages have
 -- numbers in the place of names.
-use Rattle.std.specs.Prelude.{◌≡◌, ℕ, ◌+◌, ◌==◌, Bool, true, false, List, [], ◌∷◌, Option, Some, None, ◌⊎◌}
+use Rattle.std.specs.Prelude.{◌≡◌, ◌+◌, ◌==◌, Bool, true, false, List, [], ◌∷◌, Option, Some, None, ◌⊎◌}
 use Rattle.std.specs.List.{AllByRecursion}
 use Rattle.spi_lex.specs.declared.token.Kind.{Kind}
 use Rattle.spi_lex.specs.declared.token.Kind.TheVariants as kinds
 use Rattle.spi_lex.specs.Words.{words_of}
 use Rattle.spi_lex.specs.Writing.{IsKind}
 use Rattle.spi_tree.specs.Trees as t
-use Rattle.spi_tree.specs.Pieces.{Place, in_seq, at_level, level_of, below, beside, tokens_of}
+use Rattle.spi_tree.specs.Pieces.{Place, in_seq, at_level, below, beside, tokens_of}
 
 -- a token that is a Word has a spelling of at most 255 bytes that isn't reserved in the version
 abbrev pub IsWordFit : Bool → Kind → Type 0

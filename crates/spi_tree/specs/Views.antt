@@ -1,7 +1,6 @@
 -- What a declared tree is as a tree without places in memory.
-use Rattle.std.specs.Prelude.{List, [], ◌∷◌, map, Option, Some, None}
+use Rattle.std.specs.Prelude.{List, map, Option, Some, None}
 use Rattle.std.specs.Global.{Vec}
-use Rattle.spi_tree.specs.declared.tree.SWord.{SWord}
 use Rattle.spi_tree.specs.declared.tree.SMsg.{SMsg, Row_of-SMsg, end_of-SMsg, more_of-SMsg}
 use Rattle.spi_tree.specs.declared.tree.SMsg.TheVariants as smsg
 use Rattle.spi_tree.specs.declared.tree.SAtom.{SAtom}
