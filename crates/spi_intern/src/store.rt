@@ -60,6 +60,7 @@ impl Store {
     /// afterwards, and nothing else is new. `NoMemory`: some of its parts may have numbers.
     pub fn message(&mut self, m: &Msg) -> Result<MsgId, NoMemory>
         ensures at { IfOk result (λ id. slice_get self.new.messages id.place ≡ Some (message m.now)) }
+        ensures within { IfOk result (λ id. id.place < length self.new.messages) }
         ensures equal { IfOk result (λ id. (j : ℕ) (n : Term.Message) → slice_get self.new.messages j ≡ Some n → (id.place ≡ j) ↔ (message m.now ≡ n)) }
         ensures adds { OnOk result (Adds self.old self.new (a_message (message m.now))) }
         ensures kept { Keeps self.old self.new }
@@ -71,6 +72,7 @@ impl Store {
     /// messages in it have numbers afterwards, and nothing else is new. `NoMemory`: some of them may have numbers.
     pub fn ty(&mut self, alloc: Global, t: &Ty) -> Result<TyId, NoMemory>
         ensures at { IfOk result (λ id. Means self.new id.place (ty t.now)) }
+        ensures within { IfOk result (λ id. id.place < length self.new.types) }
         ensures equal { IfOk result (λ id. (j : ℕ) (u : Term.Ty) → Means self.new j u → (id.place ≡ j) ↔ SameTy (ty t.now) u) }
         ensures adds { OnOk result (Adds self.old self.new (a_type (ty t.now))) }
         ensures kept { Keeps self.old self.new }
