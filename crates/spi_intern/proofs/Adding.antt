@@ -26,7 +26,7 @@ adds_none e = record { all = λ x h. absurd h; only = λ x h. inl (subst (λ zs.
 pub adds_more : {ks bs cs : List Message} {M N : Message → Type 0} → AddsMessages ks bs M → KeepsAll bs cs → AddsMessages bs cs N → AddsMessages ks cs (λ x. M x ⊎ N x)
 adds_more f k g = record {
   all = λ x h. ⊎_elim (λ m. has_kept k (f.all x m)) (λ n. g.all x n) h;
-  only = λ x h. ⊎_elim (λ b. ⊎_elim inl (λ m. inr (inl m)) (f.only x b)) (λ n. inr (inr n)) (g.only x h)
+  only = λ x h. ⊎_elim (λ b. ⊎_elim inl (λ m. inr (inl m)) (f.only x b)) (λ n. inr (inr n)) (g.only x h);
 }
 
 pub adds_as : {ks bs : List Message} {M N : Message → Type 0} → ((x : Message) → M x → N x) → ((x : Message) → N x → M x) → AddsMessages ks bs M → AddsMessages ks bs N
@@ -41,7 +41,7 @@ types_none e = record { all = λ u h. absurd h; only = λ i h. inl (subst (λ zs
 types_more : {s q r : Store} {T U : Ty → Type 0} → AddsTypes s q T → Keeps q r → AddsTypes q r U → AddsTypes s r (λ u. T u ⊎ U u)
 types_more f k g = record {
   all = λ u h. ⊎_elim (λ t. has_ty_kept k (f.all u t)) (λ w. g.all u w) h;
-  only = λ i h. ⊎_elim (λ b. ⊎_elim inl (λ w. inr (w.0, inl w.1, means_keeps k w.2)) (f.only i b)) (λ w. inr (w.0, inr w.1, w.2)) (g.only i h)
+  only = λ i h. ⊎_elim (λ b. ⊎_elim inl (λ w. inr (w.0, inl w.1, means_keeps k w.2)) (f.only i b)) (λ w. inr (w.0, inr w.1, w.2)) (g.only i h);
 }
 
 types_as : {s r : Store} {T U : Ty → Type 0} → ((u : Ty) → T u → U u) → ((u : Ty) → U u → T u) → AddsTypes s r T → AddsTypes s r U
@@ -53,11 +53,14 @@ types_put {s} {r} i {k} {t} e at m = record { all = all; only = only }
   where
     mean : (j : ℕ) → slice_get r.types j ≡ Some k → Means r j t
     mean j f = record { kind = k; at = f; means = m }
+
     all : (u : Ty) → u ≡ t → HasTy r u
     all u f = record { place = i; means = subst (Means r i) (sym f) (mean i at) }
+
     by : (b : Bool) (j : ℕ) (x : Kind) → slice_get (if b then s.types else s.types ++ k ∷ []) j ≡ Some x → (j < length s.types) ⊎ (x ≡ k)
     by true j x f = inl (get_below s.types j x f)
     by false j x f = ⊎_elim (λ g. inl (get_below s.types j x g)) (λ g. inr g.1) (get_push s.types k j x f)
+
     only : (j : ℕ) → j < length r.types → (j < length s.types) ⊎ ((u : Ty) × (u ≡ t) × Means r j u)
     only j h =
         let w = below_get r.types j h in
@@ -98,6 +101,7 @@ adds_un {s} {r} e h = record { messages = adds_as (λ x p. absurd p) none (adds_
   where
     none : (x : Message) → InTy x un → ⊥
     none x h = elim h [ ]
+
     part : (u : Ty) → TyPartOf u un → u ≡ un
     part u whole_ty = refl
 
@@ -106,6 +110,7 @@ adds_unit {s} {r} e h = record { messages = adds_as (λ x p. absurd p) none (add
   where
     none : (x : Message) → InTy x unit_ty → ⊥
     none x h = elim h [ ]
+
     part : (u : Ty) → TyPartOf u unit_ty → u ≡ unit_ty
     part u whole_ty = refl
 
@@ -116,19 +121,22 @@ rest_of {ks} {M = M} f e = subst (λ zs. AddsMessages ks zs M) (sym e) f
 pub adds_pair : {s p q r : Store} {t u : Ty} → Adds s p (a_type t) → Keeps p q → Adds p q (a_type u) → Keeps q r → r.messages ≡ q.messages → AddsTypes q r (λ v. v ≡ pair_ty t u) → Adds s r (a_type (pair_ty t u))
 adds_pair {t = t} {u = u} f k g l e h = record {
   messages = rest_of (adds_as to from (adds_more f.messages k.messages g.messages)) e;
-  types = types_as up down (types_more (types_more f.types k g.types) l h)
+  types = types_as up down (types_more (types_more f.types k g.types) l h);
 }
   where
     to : (x : Message) → InTy x t ⊎ InTy x u → InTy x (pair_ty t u)
     to x (inl a) = in_pair_first a
     to x (inr b) = in_pair_second b
+
     from : (x : Message) → InTy x (pair_ty t u) → InTy x t ⊎ InTy x u
     from x (in_pair_first a) = inl a
     from x (in_pair_second b) = inr b
+
     up : (v : Ty) → (TyPartOf v t ⊎ TyPartOf v u) ⊎ (v ≡ pair_ty t u) → TyPartOf v (pair_ty t u)
     up v (inl (inl a)) = of_pair_first a
     up v (inl (inr b)) = of_pair_second b
     up v (inr w) = subst (λ z. TyPartOf z (pair_ty t u)) (sym w) whole_ty
+
     down : (v : Ty) → TyPartOf v (pair_ty t u) → (TyPartOf v t ⊎ TyPartOf v u) ⊎ (v ≡ pair_ty t u)
     down v whole_ty = inr refl
     down v (of_pair_first a) = inl (inl a)
@@ -137,19 +145,22 @@ adds_pair {t = t} {u = u} f k g l e h = record {
 pub adds_sum : {s p q r : Store} {t u : Ty} → Adds s p (a_type t) → Keeps p q → Adds p q (a_type u) → Keeps q r → r.messages ≡ q.messages → AddsTypes q r (λ v. v ≡ sum_ty t u) → Adds s r (a_type (sum_ty t u))
 adds_sum {t = t} {u = u} f k g l e h = record {
   messages = rest_of (adds_as to from (adds_more f.messages k.messages g.messages)) e;
-  types = types_as up down (types_more (types_more f.types k g.types) l h)
+  types = types_as up down (types_more (types_more f.types k g.types) l h);
 }
   where
     to : (x : Message) → InTy x t ⊎ InTy x u → InTy x (sum_ty t u)
     to x (inl a) = in_sum_left a
     to x (inr b) = in_sum_right b
+
     from : (x : Message) → InTy x (sum_ty t u) → InTy x t ⊎ InTy x u
     from x (in_sum_left a) = inl a
     from x (in_sum_right b) = inr b
+
     up : (v : Ty) → (TyPartOf v t ⊎ TyPartOf v u) ⊎ (v ≡ sum_ty t u) → TyPartOf v (sum_ty t u)
     up v (inl (inl a)) = of_sum_left a
     up v (inl (inr b)) = of_sum_right b
     up v (inr w) = subst (λ z. TyPartOf z (sum_ty t u)) (sym w) whole_ty
+
     down : (v : Ty) → TyPartOf v (sum_ty t u) → (TyPartOf v t ⊎ TyPartOf v u) ⊎ (v ≡ sum_ty t u)
     down v whole_ty = inr refl
     down v (of_sum_left a) = inl (inl a)
@@ -158,14 +169,16 @@ adds_sum {t = t} {u = u} f k g l e h = record {
 pub adds_key : {s q r : Store} {t : Ty} → Adds s q (a_type t) → Keeps q r → r.messages ≡ q.messages → AddsTypes q r (λ v. v ≡ key t) → Adds s r (a_type (key t))
 adds_key {t = t} f l e h = record {
   messages = rest_of (adds_as (λ x a. in_key a) from f.messages) e;
-  types = types_as up down (types_more f.types l h)
+  types = types_as up down (types_more f.types l h);
 }
   where
     from : (x : Message) → InTy x (key t) → InTy x t
     from x (in_key a) = a
+
     up : (v : Ty) → TyPartOf v t ⊎ (v ≡ key t) → TyPartOf v (key t)
     up v (inl a) = of_payload a
     up v (inr w) = subst (λ z. TyPartOf z (key t)) (sym w) whole_ty
+
     down : (v : Ty) → TyPartOf v (key t) → TyPartOf v t ⊎ (v ≡ key t)
     down v whole_ty = inr refl
     down v (of_payload a) = inl a
@@ -173,14 +186,16 @@ adds_key {t = t} f l e h = record {
 pub adds_nonce : {s q r : Store} {es : Effect} → AddsMessages s.messages q.messages (λ x. InEffect x es) → q.types ≡ s.types → Keeps q r → r.messages ≡ q.messages → AddsTypes q r (λ v. v ≡ nonce es) → Adds s r (a_type (nonce es))
 adds_nonce {es = es} f w l e h = record {
   messages = rest_of (adds_as (λ x a. in_nonce a) from f) e;
-  types = types_as up down (types_more (types_none w) l h)
+  types = types_as up down (types_more (types_none w) l h);
 }
   where
     from : (x : Message) → InTy x (nonce es) → InEffect x es
     from x (in_nonce a) = a
+
     up : (v : Ty) → ⊥ ⊎ (v ≡ nonce es) → TyPartOf v (nonce es)
     up v (inl a) = absurd a
     up v (inr z) = subst (λ y. TyPartOf y (nonce es)) (sym z) whole_ty
+
     down : (v : Ty) → TyPartOf v (nonce es) → ⊥ ⊎ (v ≡ nonce es)
     down v whole_ty = inr refl
 

@@ -40,11 +40,11 @@ counted gs s w d = record {
   messages = record {
     each = λ i h. let r = below_get s.messages i h in (r.0, has_only w r.0 record { place = i; at = r.1 }, r.1);
     all = λ x m. let h = has_all w x m.given m.stands m.part in (h.place, get_below s.messages h.place x h.at, h.at);
-    apart = λ i j x y a b. messages_tell d.messages i j x y a b
+    apart = λ i j x y a b. messages_tell d.messages i j x y a b;
   };
   types = record {
     each = ty_only w;
     all = λ u m. let h = ty_all w u m.given m.stands m.part in (h.place, get_below s.types h.place h.means.kind h.means.at, h.means);
-    apart = types_tell s d
-  }
+    apart = types_tell s d;
+  };
 }

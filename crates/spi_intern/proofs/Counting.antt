@@ -42,6 +42,7 @@ tests_agree {ms} d i j a b s t = truths (same_id_atom i j) (same_atom a b) there
   where
     there : same_id_atom i j ≡ true → same_atom a b ≡ true
     there h = let e : a ≡ b = atom_like (subst (λ k. SaysAtom ms k a) (atom_same i j h) s) t in ap (same_atom a) (sym e) ∙ atom_self a
+
     back : same_atom a b ≡ true → same_id_atom i j ≡ true
     back h = let e : i ≡ j = atom_one d s (subst (SaysAtom ms j) (sym (atom_true a b h)) t) in ap (same_id_atom i) (sym e) ∙ same_of i
 
@@ -72,8 +73,8 @@ some_or_none (suc n) = inl (omega arith)
 counts_agree : {ms : List Message} {ids js : List AtomId} {es fs : List Atom} → AllDiffer ms → TellsAll (SaysAtom ms) ids es → TellsAll (SaysAtom ms) js fs → ((a : Atom) → tally a es ≡ tally a fs) → (i : AtomId) → times i ids ≡ times i js
 counts_agree {ms} {ids} {js} {es} {fs} d t u h i =
     ⊎_elim (λ w. by (told_in t i w))
-      (λ e. ⊎_elim (λ w. by (told_in u i w)) (λ f. e ∙ sym f) (some_or_none (times i js)))
-      (some_or_none (times i ids))
+    (λ e. ⊎_elim (λ w. by (told_in u i w)) (λ f. e ∙ sym f) (some_or_none (times i js)))
+    (some_or_none (times i ids))
   where
     by : (a : Atom) × SaysAtom ms i a → times i ids ≡ times i js
     by w = tally_told d t i w.0 w.1 ∙ h w.0 ∙ sym (tally_told d u i w.0 w.1)
@@ -93,7 +94,7 @@ means_like ids es fs c d =
 pub means_one : {ms : List Message} → AllDiffer ms → (ids js : List AtomId) (es fs : Effect) → IdsMean ms ids es → IdsMean ms js fs → SameEffect es fs → ids ≡ js
 means_one k ids js es fs c d s =
     order_one ids js c.order d.order
-      (counts_agree k c.each d.each (λ a. uncut c.told d.told c.once d.once a (c.same.at a ∙ s.at a ∙ sym (d.same.at a))))
+    (counts_agree k c.each d.each (λ a. uncut c.told d.told c.once d.once a (c.same.at a ∙ s.at a ∙ sym (d.same.at a))))
 
 says_cut : {ms : List Message} {i : AtomId} {a : Atom} (n : ℕ) → SaysAtom ms i a → cut_times i n ≡ cut a n
 says_cut n (says_end e) = refl
@@ -117,6 +118,7 @@ told_all (j ∷ js) f =
   where
     first : (n : ℕ) → 1 ≤ 1 + n
     first n = omega arith
+
     more : (m n : ℕ) → 1 ≤ n → 1 ≤ m + n
     more m n h = omega arith
 
@@ -131,13 +133,16 @@ cut_means {ms} {ids} {js} {es} d t k o = record { told = all.0; each = all.1; sa
   where
     all : (fs : Effect) × TellsAll (SaysAtom ms) js fs
     all = told_all js (λ i n. told_in t i (cut_some i (times i ids) (subst (λ m. 1 ≤ m) (k.at i) n)))
+
     counted : (a : Atom) → (i : AtomId) × SaysAtom ms i a → tally a all.0 ≡ cut a (tally a es)
     counted a w = sym (tally_told d all.1 w.0 a w.1) ∙ k.at w.0 ∙ says_cut (times w.0 ids) w.1 ∙ ap (cut a) (tally_told d t w.0 a w.1)
+
     same : (a : Atom) → cut a (tally a all.0) ≡ cut a (tally a es)
     same a =
         ⊎_elim (λ n. ap (cut a) (counted a (told_of all.1 a n)) ∙ cut_twice a (tally a es))
-          (λ e. ⊎_elim (λ n. ap (cut a) (counted a (told_of t a n)) ∙ cut_twice a (tally a es)) (λ f. ap (cut a) (e ∙ sym f)) (some_or_none (tally a es)))
-          (some_or_none (tally a all.0))
+        (λ e. ⊎_elim (λ n. ap (cut a) (counted a (told_of t a n)) ∙ cut_twice a (tally a es)) (λ f. ap (cut a) (e ∙ sym f)) (some_or_none (tally a es)))
+        (some_or_none (tally a all.0))
+
     once : (m : Message) → tally (many m) all.0 ≤ 1
     once m = ⊎_elim (λ n. subst (λ j. j ≤ 1) (sym (counted (many m) (told_of all.1 (many m) n))) (cut_small m (tally (many m) es))) (λ e. subst (λ j. j ≤ 1) (sym e) (omega arith)) (some_or_none (tally (many m) all.0))
 

@@ -69,7 +69,7 @@ list_laws = record {
   kept = λ ms ns p m k s. s;
   says_said = λ ms p m s. s;
   respects = λ ms p q m e s. sym (items_true p.items q.items e) ∙ s;
-  alike = λ ms p q m d s t. ap (pointwise atom_eq p.items) (t ∙ sym s) ∙ items_self p.items
+  alike = λ ms p q m d s t. ap (pointwise atom_eq p.items) (t ∙ sym s) ∙ items_self p.items;
 }
 
 pub no_lists : IsTable SaysList [] []

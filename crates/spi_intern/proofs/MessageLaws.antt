@@ -103,7 +103,7 @@ part_laws = record {
   kept = λ ms ns p m k s. says_keeps k s;
   says_said = λ ms p m s. says_said s;
   respects = λ ms p q m e s. subst (λ r. Says ms r m) (part_true p q e) s;
-  alike = λ ms p q m d s t. ap (part_eq p) (sym (says_apart d s t)) ∙ part_self p
+  alike = λ ms p q m d s t. ap (part_eq p) (sym (says_apart d s t)) ∙ part_self p;
 }
 
 pub no_messages : IsTable Says [] []

@@ -71,8 +71,8 @@ first_of : (x : AtomId) (xs : List AtomId) → IsSorted cmp-value.it (x ∷ xs) 
 first_of x [] h z n = ⊎_elim (λ e. subst (IsNotAfter x) (sym (atom_same z x e)) (itself x)) (λ m. absurd (omega arith)) (two_ways (same_id_atom z x) 0 n)
 first_of x (y ∷ xs) h z n =
     ⊎_elim (λ e. subst (IsNotAfter x) (sym (atom_same z x e)) (itself x))
-      (λ m. further x y z (not_less x y (h 0 x (omega arith) (omega arith))) (first_of y xs (rest_sorted x (y ∷ xs) h) z m))
-      (two_ways (same_id_atom z x) (times z (y ∷ xs)) n)
+    (λ m. further x y z (not_less x y (h 0 x (omega arith) (omega arith))) (first_of y xs (rest_sorted x (y ∷ xs) h) z m))
+    (two_ways (same_id_atom z x) (times z (y ∷ xs)) n)
 
 pub sorted_order : (xs : List AtomId) → IsSorted cmp-value.it xs → InOrder xs
 sorted_order [] h = order_none
@@ -160,6 +160,7 @@ once_here x (y ∷ xs) (order_next f (order_next g o)) h = ⊎_elim inl (λ d. i
     none_or_some : (n : ℕ) → (n ≡ 0) ⊎ (1 ≤ n)
     none_or_some zero = inl refl
     none_or_some (suc n) = inr (omega arith)
+
     none : same_id_atom x y ≡ false → times x (y ∷ xs) ≡ 0
     none d = ⊎_elim (λ e. e) (λ s.
         let p : IsNotAfter x y = f y (later y (here y xs)) in
@@ -186,22 +187,26 @@ counts_on a x xs o rest = by (repeats (x ∷ xs)) refl
   where
     other : same_id_atom a x ≡ false → cut_times a (times a xs) ≡ cut_times a (times a (x ∷ xs))
     other d = ap (cut_times a) (zero_on (times a xs)) ∙ ap (λ b. cut_times a (bit b + times a xs)) (sym d)
+
     mine : a ≡ x → cut_times a (1 + times a xs) ≡ cut_times a (times a (x ∷ xs))
     mine e = ap (λ b. cut_times a (bit b + times a xs)) (sym (ap (same_id_atom a) (sym e) ∙ same_of a))
+
     dropped : repeats (x ∷ xs) ≡ true → cut_times a (times a xs) ≡ cut_times a (times a (x ∷ xs))
     dropped h =
         ⊎_elim (λ e.
-          let w = next_again x xs h in
-          sym (cut_again a (times a xs) (ap is_many e ∙ w.0) (subst (λ z. 1 ≤ times z xs) (sym e) w.1)) ∙ mine e) other (same_or a x)
+        let w = next_again x xs h in
+        sym (cut_again a (times a xs) (ap is_many e ∙ w.0) (subst (λ z. 1 ≤ times z xs) (sym e) w.1)) ∙ mine e) other (same_or a x)
+
     kept : repeats (x ∷ xs) ≡ false → bit (same_id_atom a x) + cut_times a (times a xs) ≡ cut_times a (times a (x ∷ xs))
     kept h =
         ⊎_elim (λ e.
-          ap (λ b. bit b + cut_times a (times a xs)) (ap (same_id_atom a) (sym e) ∙ same_of a)
-          ∙ ⊎_elim (λ n. sym (cut_more a (times a xs) (ap is_many e ∙ n))) (λ n.
-              let m : times a xs ≡ 0 = ap (λ z. times z xs) e ∙ n in
-              ap (λ k. 1 + cut_times a k) m ∙ ap (λ k. 1 + k) (cut_none a) ∙ sym (cut_one a) ∙ ap (λ k. cut_times a (1 + k)) (sym m)) (once_here x xs o h)
-          ∙ mine e)
+        ap (λ b. bit b + cut_times a (times a xs)) (ap (same_id_atom a) (sym e) ∙ same_of a)
+        ∙ ⊎_elim (λ n. sym (cut_more a (times a xs) (ap is_many e ∙ n))) (λ n.
+        let m : times a xs ≡ 0 = ap (λ z. times z xs) e ∙ n in
+        ap (λ k. 1 + cut_times a k) m ∙ ap (λ k. 1 + k) (cut_none a) ∙ sym (cut_one a) ∙ ap (λ k. cut_times a (1 + k)) (sym m)) (once_here x xs o h)
+        ∙ mine e)
         (λ d. ap (λ b. bit b + cut_times a (times a xs)) d ∙ sym (zero_on (cut_times a (times a xs))) ∙ other d) (same_or a x)
+
     by : (b : Bool) → repeats (x ∷ xs) ≡ b → times a (if repeats (x ∷ xs) then without_repeats xs else x ∷ without_repeats xs) ≡ cut_times a (times a (x ∷ xs))
     by true h = ap (λ b. times a (if b then without_repeats xs else x ∷ without_repeats xs)) h ∙ rest ∙ dropped h
     by false h = ap (λ b. times a (if b then without_repeats xs else x ∷ without_repeats xs)) h ∙ ap (λ n. bit (same_id_atom a x) + n) rest ∙ kept h
@@ -216,6 +221,7 @@ order_on x xs (order_next f g) o rest = by (repeats (x ∷ xs))
   where
     was : (z : AtomId) → 1 ≤ times z (x ∷ without_repeats xs) → 1 ≤ times z (x ∷ xs)
     was z n = ⊎_elim (λ e. subst (λ b. 1 ≤ bit b + times z xs) (sym e) (omega arith)) (λ m. let k : 1 ≤ times z xs = cut_some z (times z xs) (subst (λ j. 1 ≤ j) (times_cut z xs o) m) in omega arith) (two_ways (same_id_atom z x) (times z (without_repeats xs)) n)
+
     by : (b : Bool) → InOrder (if b then without_repeats xs else x ∷ without_repeats xs)
     by true = rest
     by false = order_next (λ z n. f z (was z n)) rest

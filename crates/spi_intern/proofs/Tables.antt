@@ -80,6 +80,7 @@ module _ {P M : Type 0} (Says : List M → P → M → Type 0) (said : List M �
           let w = tells_at t r.0 r.1 r.2 in
           let e : w.0 ≡ m = sym (laws.says_said _ _ _ w.2) ∙ laws.says_said _ _ _ (laws.respects _ _ _ _ r.3 s) in
           any_from (same m) ms r.0 w.0 w.1 (ap (same m) e ∙ laws.same_self m)
+
       back : list_any (same m) ms ≡ true → list_any (eq p) ps ≡ true
       back h =
           let r = any_at (same m) ms h in

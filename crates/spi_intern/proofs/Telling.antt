@@ -32,9 +32,10 @@ kind_one m d (same_nonce w) (means_nonce {e = x} {ids = ids} {es = es} e h) (mea
     ap nonce (d.one x y ids e (f ∙ ap Some (sym (means_one m ids js es fs h g w))))
 
 pub types_tell : (s : Store) → NoneTwice s → (i j : ℕ) (t u : Ty) → Means s i t → Means s j u → (i ≡ j) ↔ SameTy t u
-types_tell s d i j t u a b =
-    (λ e. let q : b.kind ≡ a.kind = some_one (sym b.at ∙ ap (slice_get s.types) (sym e) ∙ a.at) in kind_same a.means (subst (λ k. KindMeans s.messages s.effects k u) q b.means),
-     λ w. let q : a.kind ≡ b.kind = kind_one d.messages d.effects w a.means b.means in d.types.one i j a.kind a.at (b.at ∙ ap Some (sym q)))
+types_tell s d i j t u a b = (
+  λ e. let q : b.kind ≡ a.kind = some_one (sym b.at ∙ ap (slice_get s.types) (sym e) ∙ a.at) in kind_same a.means (subst (λ k. KindMeans s.messages s.effects k u) q b.means),
+  λ w. let q : a.kind ≡ b.kind = kind_one d.messages d.effects w a.means b.means in d.types.one i j a.kind a.at (b.at ∙ ap Some (sym q)),
+)
 
 -- and numbers of messages, just where these are equal
 pub messages_tell : {ms : List Message} → AllDiffer ms → (i j : ℕ) (m n : Message) → slice_get ms i ≡ Some m → slice_get ms j ≡ Some n → (i ≡ j) ↔ (m ≡ n)

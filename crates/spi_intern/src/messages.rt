@@ -40,7 +40,6 @@ pub struct Messages {
 impl Model for Messages {
     ghost use Rattle.std.specs.Prelude.{List};
     ghost use Rattle.spi_term.specs.Term.{Message};
-
     ghost use Rattle.std.specs.Coded.{coded_list};
     ghost use Rattle.spi_intern.specs.Codes.{coded_message};
 

@@ -18,5 +18,5 @@ loop-a-preserved c =
     record {
       ids = subst (TellsAll (SaysAtom c.atom_id.new.messages) _) more (ids_next c.in_ok-id.ensures.kept c.loop-a.invariant.ids c.in_ok-id.ensures.at c.in_ok-push.ensures.items);
       adds = subst (λ es. AddsMessages c.args.messages.now c.atom_id.new.messages (λ x. InEffect x es)) more (adds_atom _ _ c.loop-a.invariant.adds c.in_ok-id.ensures.kept c.in_ok-id.ensures.grows);
-      kept = keeps_more c.loop-a.invariant.kept c.in_ok-id.ensures.kept
+      kept = keeps_more c.loop-a.invariant.kept c.in_ok-id.ensures.kept;
     }

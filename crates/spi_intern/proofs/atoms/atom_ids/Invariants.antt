@@ -10,5 +10,5 @@ abbrev pub invariant-loop-a : goal.invariant-loop-a
 invariant-loop-a l = record {
   ids : TellsAll (SaysAtom l.messages) l.ids.items (map atom (take l.a-index l.e.atoms.items));
   adds : AddsMessages l.initial.messages l.messages (λ x. InEffect x (map atom (take l.a-index l.e.atoms.items)));
-  kept : KeepsAll l.initial.messages l.messages
+  kept : KeepsAll l.initial.messages l.messages;
 }

@@ -43,4 +43,3 @@ put-requires-in-Inr t c = says_it (says_right c.in_ok-part-in-Inr.ensures.at)
 
 pub put-requires-in-Hash : goal.put-requires-in-Hash
 put-requires-in-Hash t c = says_it (says_hash c.in_ok-part-in-Hash.ensures.at)
-
