@@ -9,7 +9,7 @@ ghost use Rattle.spi_infer.specs.Inferring.{effect_in, note_in, notes_in};
 
 use crate::premises::is_form_ok;
 use crate::scopes::{enter, free_names, put_off, settle};
-use spi_message::nonce_type;
+use spi_message::slices::nonce_type;
 use spi_term::{Effect, Form, Msg, Node, Process, Ty};
 use std::alloc::{AllocError, Global};
 

@@ -7,7 +7,7 @@ ghost use Rattle.spi_message.specs.Tests.{env_of, is_un, typed, good, nonce_of};
 ghost use Rattle.spi_infer.specs.Forms.{prefix_ok, fork_ok, cast_ok, is_nonce};
 ghost use Rattle.spi_infer.specs.Passes.{note_of};
 
-use spi_message::{
+use spi_message::slices::{
     has_type, is_fresh_type, is_good_effect, is_good_type, is_label, is_un_type, nonce_type,
 };
 use spi_term::{Form, Msg, Node, Ty};

@@ -80,6 +80,13 @@ impl Env {
         self.types.get(name as usize)
     }
 
+    /// The types of all names, in order.
+    pub fn types(&self) -> &[Ty]
+        ensures { map ty result.now ≡ self.now }
+    {
+        &self.types
+    }
+
     /// How many names there are.
     pub fn len(&self) -> u32
         ensures { result ≡ length self.now }

@@ -1,0 +1,245 @@
+// The tests that decide the judgements, over an environment in two lists: the names of a caller, and after them
+// those that a type's own binders bind.
+
+ghost use Rattle.std.specs.Prelude.{◌≡◌, ◌+◌, ◌^◌, ◌<◌, ltb, IfOk, OnOk, IfSome, IfNone, length, Some, None, slice_get};
+ghost use Rattle.spi_term.specs.Term.{name};
+ghost use Rattle.spi_term.specs.Spelling.{ty_nodes};
+ghost use Rattle.spi_term.specs.View.{message, atom, effect, ty};
+ghost use Rattle.spi_message.specs.Tests.{scope_of, is_unit, key_in, key_of, typed, labelled, good_atom, good_effect, good};
+
+use crate::NoMemory;
+use crate::slices::is_un_type;
+use spi_effect::is_same_type;
+use spi_term::{Atom, Effect, Msg, Ty, opened};
+use std::alloc::Global;
+
+fn is_unit_type(t: &Ty) -> bool
+    ensures { result ≡ is_unit (ty t.now) }
+{
+    match t {
+        Ty::Un => true,
+        Ty::Unit => true,
+        _ => false,
+    }
+}
+
+// The type of a name.
+fn type_of<'a>(x: u32, env: &'a [Ty], inner: &'a [Ty]) -> Option<&'a Ty>
+    ensures some { IfSome result (λ t. slice_get (scope_of env.now inner.now) x ≡ Some (ty t.now)) }
+    ensures none { IfNone result (slice_get (scope_of env.now inner.now) x ≡ None) }
+{
+    let place = x as usize;
+    if place < env.len() {
+        return Some(&env[place]);
+    }
+    let rest = place - env.len();
+    if rest < inner.len() {
+        return Some(&inner[rest]);
+    }
+    None
+}
+
+// The T of a type Key(T).
+fn payload_of(t: &Ty) -> Option<&Ty>
+    ensures some { IfSome result (λ u. key_in (Some (ty t.now)) ≡ Some (ty u.now)) }
+    ensures none { IfNone result (key_in (Some (ty t.now)) ≡ None) }
+{
+    match t {
+        Ty::Un => None,
+        Ty::Unit => None,
+        Ty::Pair(_, _) => None,
+        Ty::Sum(_, _) => None,
+        Ty::Key(u) => Some(u),
+        Ty::Nonce(_) => None,
+    }
+}
+
+// The T of a name of type Key(T).
+fn key_type<'a>(m: &Msg, env: &'a [Ty], inner: &'a [Ty]) -> Option<&'a Ty>
+    ensures some { IfSome result (λ t. key_of (scope_of env.now inner.now) (message m.now) ≡ Some (ty t.now)) }
+    ensures none { IfNone result (key_of (scope_of env.now inner.now) (message m.now) ≡ None) }
+{
+    match m {
+        Msg::Name(x) => match type_of(*x, env, inner) {
+            Some(t) => payload_of(t),
+            None => None,
+        },
+        _ => None,
+    }
+}
+
+fn has_name_type(x: u32, env: &[Ty], inner: &[Ty], t: &Ty) -> bool
+    ensures { result ≡ typed (name x) (scope_of env.now inner.now) (ty t.now) }
+{
+    match type_of(x, env, inner) {
+        Some(s) => is_same_type(s, t),
+        None => false,
+    }
+}
+
+fn is_below(x: u32, env: &[Ty], inner: &[Ty]) -> bool
+    ensures { result ≡ ltb x (length (scope_of env.now inner.now)) }
+{
+    match type_of(x, env, inner) {
+        Some(_) => true,
+        None => false,
+    }
+}
+
+/// The message has the type.
+#[cycle(typing)]
+pub fn has_type(alloc: Global, m: &Msg, env: &[Ty], inner: &[Ty], t: &Ty) -> Result<bool, NoMemory>
+    ensures { IfOk result (λ b. b ≡ typed (message m.now) (scope_of env.now inner.now) (ty t.now)) }
+{
+    match m {
+        Msg::Bound(_) => Ok(false),
+        Msg::Name(x) => Ok(has_name_type(*x, env, inner, t)),
+        Msg::Unit => Ok(is_unit_type(t)),
+        Msg::Pair(a, b) => match t {
+            Ty::Un => {
+                if has_type(alloc, a, env, inner, t)? {
+                    has_type(alloc, b, env, inner, t)
+                } else {
+                    Ok(false)
+                }
+            }
+            Ty::Pair(first, second) => {
+                if has_type(alloc, a, env, inner, first)? {
+                    let rest = opened(alloc, second, a)?;
+                    has_type(alloc, b, env, inner, &rest)
+                } else {
+                    Ok(false)
+                }
+            }
+            _ => Ok(false),
+        },
+        Msg::Inl(a) => match t {
+            Ty::Un => has_type(alloc, a, env, inner, t),
+            Ty::Sum(left, _) => has_type(alloc, a, env, inner, left),
+            _ => Ok(false),
+        },
+        Msg::Inr(a) => match t {
+            Ty::Un => has_type(alloc, a, env, inner, t),
+            Ty::Sum(_, right) => has_type(alloc, a, env, inner, right),
+            _ => Ok(false),
+        },
+        Msg::Enc(a, b) => {
+            if !is_un_type(t) {
+                return Ok(false);
+            }
+            if let Some(key) = key_type(b, env, inner) {
+                if has_type(alloc, a, env, inner, key)? {
+                    return Ok(true);
+                }
+            }
+            if has_type(alloc, a, env, inner, t)? {
+                has_type(alloc, b, env, inner, t)
+            } else {
+                Ok(false)
+            }
+        }
+        Msg::Hash(a) => {
+            if is_un_type(t) {
+                is_label(alloc, a, env, inner)
+            } else {
+                Ok(false)
+            }
+        }
+    }
+}
+
+/// The message is a label.
+#[cycle(typing)]
+pub fn is_label(alloc: Global, m: &Msg, env: &[Ty], inner: &[Ty]) -> Result<bool, NoMemory>
+    ensures { IfOk result (λ b. b ≡ labelled (message m.now) (scope_of env.now inner.now)) }
+{
+    match m {
+        Msg::Bound(_) => Ok(false),
+        Msg::Name(x) => Ok(is_below(*x, env, inner)),
+        Msg::Unit => Ok(true),
+        Msg::Pair(a, b) => {
+            if is_label(alloc, a, env, inner)? {
+                is_label(alloc, b, env, inner)
+            } else {
+                Ok(false)
+            }
+        }
+        Msg::Inl(a) => is_label(alloc, a, env, inner),
+        Msg::Inr(a) => is_label(alloc, a, env, inner),
+        Msg::Enc(a, b) => {
+            if let Some(key) = key_type(b, env, inner) {
+                if has_type(alloc, a, env, inner, key)? {
+                    return Ok(true);
+                }
+            }
+            if has_type(alloc, a, env, inner, &Ty::Un)? {
+                has_type(alloc, b, env, inner, &Ty::Un)
+            } else {
+                Ok(false)
+            }
+        }
+        Msg::Hash(a) => is_label(alloc, a, env, inner),
+    }
+}
+
+fn is_good_atom(alloc: Global, a: &Atom, env: &[Ty], inner: &[Ty]) -> Result<bool, NoMemory>
+    ensures { IfOk result (λ b. b ≡ good_atom (atom a.now) (scope_of env.now inner.now)) }
+{
+    match a {
+        Atom::End(m) => is_label(alloc, m, env, inner),
+        Atom::Check(m) => has_type(alloc, m, env, inner, &Ty::Un),
+        Atom::Many(m) => is_label(alloc, m, env, inner),
+    }
+}
+
+/// The effect is good.
+pub fn is_good_effect(alloc: Global, e: &Effect, env: &[Ty], inner: &[Ty]) -> Result<bool, NoMemory>
+    ensures { IfOk result (λ b. b ≡ good_effect (effect e.now) (scope_of env.now inner.now)) }
+{
+    for a in &e.atoms {
+        if !is_good_atom(alloc, a, env, inner)? {
+            return Ok(false);
+        }
+    }
+    Ok(true)
+}
+
+/// The type is good. The inner names are used as a stack, and stand as before.
+#[tactic(auto, using(crate::proofs::Deciding::good_of_sum))]
+pub fn is_good_type(
+    alloc: Global,
+    t: &Ty,
+    env: &[Ty],
+    inner: &mut Vec<Ty>,
+) -> Result<bool, NoMemory>
+    requires { length env.now + length inner.old.items + ty_nodes (ty t.now) < 2 ^ 32 }
+    ensures answer { IfOk result (λ b. b ≡ good (scope_of env.now inner.old.items) (ty t.now)) }
+    ensures inner { OnOk result (inner.new.items ≡ inner.old.items) }
+{
+    match t {
+        Ty::Un => Ok(true),
+        Ty::Pair(first, second) => {
+            if !is_good_type(alloc, first, env, inner)? {
+                return Ok(false);
+            }
+            let count = inner.len();
+            let name = Msg::Name((env.len() + count) as u32);
+            let under = opened(alloc, second, &name)?;
+            let outer = first.copy(alloc)?;
+            inner.push(outer)?;
+            let answer = is_good_type(alloc, &under, env, inner)?;
+            inner.truncate(count);
+            Ok(answer)
+        }
+        Ty::Unit => Ok(true),
+        Ty::Sum(left, right) => {
+            if is_good_type(alloc, left, env, inner)? {
+                is_good_type(alloc, right, env, inner)
+            } else {
+                Ok(false)
+            }
+        }
+        Ty::Key(payload) => is_good_type(alloc, payload, env, inner),
+        Ty::Nonce(e) => is_good_effect(alloc, e, env, inner),
+    }
+}
