@@ -1,5 +1,8 @@
 // Judgements by example.
 
+ghost use Rattle.std.specs.Prelude.{◌≡◌, ◌∷◌, [], IfOk, length};
+ghost use Rattle.spi_term.specs.View.{atom, effect};
+
 use super::*;
 use spi_rules::Env;
 use spi_term::{Atom, Effect, Msg, Ty};
@@ -7,13 +10,17 @@ use std::alloc::Global;
 use std::test::Fail;
 
 // An untrusted name, and after it one of type Key(Un).
-fn with_key(alloc: Global) -> Result<Env, NoMemory> {
+fn with_key(alloc: Global) -> Result<Env, NoMemory>
+    ensures { IfOk result (λ env. length env ≡ 2) }
+{
     let mut env = Env::of_free(alloc, 1)?;
     env.push(Ty::Key(Box::new(alloc, Ty::Un)?))?;
     Ok(env)
 }
 
-fn one_atom(alloc: Global, a: Atom) -> Result<Effect, NoMemory> {
+fn one_atom(alloc: Global, a: Atom) -> Result<Effect, NoMemory>
+    ensures { IfOk result (λ e. effect e ≡ atom a ∷ []) }
+{
     Ok(Effect {
         atoms: Vec::from_array(alloc, [a])?,
     })
