@@ -1,4 +1,4 @@
--- Sorted lists of atoms, the places of atoms in them, and counts that stand at these places. No public clause names them.
+-- Sorted lists of atoms, the places of atoms in them, and counts that stand at these places: the terms of the calls on sorted effects.
 use Rattle.std.specs.Prelude.{◌≡◌, ℕ, suc, ◌<◌, ◌≤◌, true, false, List, Option, Some, None, slice_get, slice_index, slice_set}
 use Rattle.std.specs.Ordering.{is_lt}
 use Rattle.spi_term.specs.Term.{Atom, Effect}

@@ -1,4 +1,4 @@
--- A total order of messages and of atoms, by which code sorts and looks up. Which order it is doesn't matter, and no public clause names it.
+-- A total order of messages and of atoms, by which code sorts and looks up. Which order it is doesn't matter to any rule of the calculus.
 use Rattle.std.specs.Prelude.{ℕ}
 use Rattle.std.specs.declared.cmp.Ordering.{Ordering}
 use Rattle.std.specs.declared.cmp.Ordering.TheVariants.{Equal}
