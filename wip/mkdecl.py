@@ -1,0 +1,3 @@
+s=open('/tmp/gen_files.py').read()
+i=s.index("# ---------- schedules.rt"); j=s.index("# ---------- derivations.rt")
+exec(s[:j])
