@@ -9,6 +9,7 @@ pub mod TableLaws
 pub mod LiveLaws
 pub mod FlagLaws
 pub mod RuleLaws
+pub mod ShapeLaws
 pub mod Complete
 pub mod ExactLaws
 pub mod Words
@@ -16,3 +17,4 @@ pub mod Wholes
 pub mod Lists
 pub mod Unique
 pub mod FormLaws
+pub mod Lexed

@@ -8,3 +8,5 @@ pub mod Exact
 pub mod Faults
 pub mod Places
 pub mod FormMoves
+pub mod Shapes
+pub mod Wholes

@@ -2,13 +2,17 @@
 #![tactic(auto)]
 
 mod cursor;
+mod declarations;
+mod derivations;
 mod effects;
 mod fault;
+mod files;
 mod forms;
 mod heads;
 mod messages;
 mod processes;
 mod reading;
+mod schedules;
 mod types;
 
 pub use fault::ParseFault;
