@@ -10,6 +10,7 @@ pub mod LiveLaws
 pub mod FlagLaws
 pub mod RuleLaws
 pub mod ShapeLaws
+pub mod DerivLaws
 pub mod Complete
 pub mod ExactLaws
 pub mod Words
