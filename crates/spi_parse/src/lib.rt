@@ -14,8 +14,10 @@ mod processes;
 mod reading;
 mod schedules;
 mod types;
+mod whole;
 
 pub use fault::ParseFault;
+pub use whole::{decl_at, parse};
 use std::alloc::AllocError;
 
 /// Memory ran out.
