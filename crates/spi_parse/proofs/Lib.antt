@@ -19,3 +19,4 @@ pub mod Lists
 pub mod Unique
 pub mod FormLaws
 pub mod Lexed
+pub mod Counted

@@ -79,3 +79,6 @@ pub fn decl_at(
         Err(stop) => Err(fault_of(tokens.len(), stop)),
     }
 }
+
+#[cfg(test)]
+mod tests;
