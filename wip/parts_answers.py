@@ -1,5 +1,5 @@
 import os
-PR='/work/parse/crates/spi_parse/proofs/'
+PR='/work/parse1/crates/spi_parse/proofs/'
 def w(p,t):
     os.makedirs(os.path.dirname(p),exist_ok=True); open(p,'w').write(t)
 for fn,lem,view in [("type_at","type","ty_of"),("message_at","message","msg_of"),("process_at","process","proc_of")]:

@@ -16,3 +16,4 @@ pub mod Wholes
 pub mod Lists
 pub mod Unique
 pub mod FormLaws
+pub mod Lexed

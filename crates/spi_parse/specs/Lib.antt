@@ -8,3 +8,4 @@ pub mod Exact
 pub mod Faults
 pub mod Places
 pub mod FormMoves
+pub mod Ends
