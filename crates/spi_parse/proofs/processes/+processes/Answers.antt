@@ -1,9 +1,11 @@
-use Rattle.std.proofs.Common.{rules, arith, ◌+◌, subst}
+use Rattle.std.proofs.Common.{rules, arith, ◌+◌, subst, ap, ◌∙◌}
 use Rattle.std.specs.Global.{Box}
 use Rattle.spi_tree.specs.Trees as trees
 use Rattle.spi_tree.specs.Views.{proc_of}
 use Rattle.spi_tree.specs.declared.tree.SProc.{SProc}
 use Rattle.spi_parse.specs.declared.cursor.Cursor.{Cursor}
+use Rattle.spi_parse.specs.declared.forms.Form.{Form}
+use Rattle.spi_parse.specs.FormMoves.{by_form}
 use Rattle.spi_parse.specs.Tokens.{State}
 use Rattle.spi_parse.specs.Reading.{Out, Gives}
 use Rattle.spi_parse.proofs.FormLaws.{form_is_first}
@@ -35,4 +37,7 @@ read_group-parallel-requires t c =
     (omega arith, omega arith)
 
 pub sequence_step-returns : goal.sequence_step-returns
-sequence_step-returns t c = subst (λ (o : Out trees.Proc). Gives {X = Box SProc × Cursor} {Y = trees.Proc × State} (λ x. (proc_of x.0.value, state_of x.1)) c.read_form.result o) (form_is_first c.args.later c.args.nesting c.args.at.end c.args.at.rest.now c.first-item.result c.in-len1-up.len_at_least c.first-item.is) (rw c.form_of-form.ensures at c.read_form.ensures)
+sequence_step-returns t c =
+    let first = form_is_first c.args.later c.args.nesting c.args.at.end c.args.at.rest.now c.first-item.result c.in-len1-up.len_at_least c.first-item.is in
+    subst (λ (o : Out trees.Proc). Gives {X = Box SProc × Cursor} {Y = trees.Proc × State} (λ x. (proc_of x.0.value, state_of x.1)) c.read_form.result o)
+    (ap (λ (f : Form). by_form c.args.later c.args.nesting f (state_of c.args.at)) c.form_of-form.ensures ∙ first) c.read_form.ensures
