@@ -1,5 +1,5 @@
 -- What stands between the table and the code where a form ends.
-use Rattle.std.specs.Prelude.{Bool, ℕ, ◌+◌, List, [], ◌∷◌, Option, Some, None, Ok}
+use Rattle.std.specs.Prelude.{Bool, ℕ, List, [], ◌∷◌, Option, Some, None, Ok}
 use Rattle.std.specs.Global.{Box}
 use Rattle.spi_text.specs.declared.lines.Span.{Span}
 use Rattle.spi_lex.specs.declared.token.Mark.TheVariants as mark

@@ -1,4 +1,4 @@
-use Rattle.std.proofs.Common.{ℕ, ◌+◌, ◌-◌, ◌*◌}
+use Rattle.std.proofs.Common.{◌+◌, ◌-◌, ◌*◌}
 use Rattle.spi_parse.proofs.processes.+processes.Given as goal
 
 abbrev pub decreases-parallel : goal.decreases-parallel
