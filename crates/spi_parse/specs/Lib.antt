@@ -10,3 +10,4 @@ pub mod Places
 pub mod FormMoves
 pub mod Shapes
 pub mod Wholes
+pub mod Ends

@@ -17,7 +17,7 @@ pub struct Cursor<'t> {
     pub end: u32,
 }
 
-const MESSAGE_LIMIT: u32 = 1000;
+pub const MESSAGE_LIMIT: u32 = 1000;
 const PROCESS_LIMIT: u32 = 500;
 const DERIVATION_LIMIT: u32 = 1000;
 
@@ -26,6 +26,13 @@ pub fn syntax(left: usize) -> Stop
     ensures { result ≡ stops.Fault (Syntax left) }
 {
     Stop::Fault(Fault::Syntax(left))
+}
+
+/// A node above its nesting limit starts where so many tokens are left.
+pub fn too_deep(left: usize) -> Stop
+    ensures { result ≡ stops.Fault (TooDeep left) }
+{
+    Stop::Fault(Fault::TooDeep(left))
 }
 
 /// Stops above the nesting limit of messages and types.

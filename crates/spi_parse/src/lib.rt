@@ -10,6 +10,7 @@ mod files;
 mod forms;
 mod heads;
 mod messages;
+mod parts;
 mod processes;
 mod reading;
 mod schedules;
@@ -17,8 +18,12 @@ mod types;
 mod whole;
 
 pub use fault::ParseFault;
+pub use parts::{message_at, one_tree, process_at, type_at};
 pub use whole::{decl_at, parse};
 use std::alloc::AllocError;
 
 /// Memory ran out.
 pub type NoMemory = AllocError;
+
+#[cfg(test)]
+mod tests;

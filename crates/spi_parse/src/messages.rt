@@ -1,18 +1,19 @@
 //! Messages.
 
 ghost use Rattle.std.specs.Prelude.{◌≡◌, ◌+◌, ◌≤◌, [], ◌∷◌, map, IfOk};
-ghost use Rattle.spi_tree.specs.Trees.{tuple, msgs_of_list};
+ghost use Rattle.spi_tree.specs.Trees.{name, tuple, msgs_of_list};
 ghost use Rattle.spi_tree.specs.Views.{msg_of};
 ghost use Rattle.spi_parse.specs.Places.{state_of, tuple_form, enc_form, inl_form, inr_form, hash_form};
-ghost use Rattle.spi_parse.specs.Table.{msg, msgs, msgs_item, delta_paren};
+ghost use Rattle.spi_parse.specs.Ends.{done, numeral_form};
+ghost use Rattle.spi_parse.specs.Table.{msg, msgs, msgs_item, delta_paren, word_at, over};
 ghost use Rattle.spi_parse.specs.Reading.{Gives, read, step, limited, behind, item_of};
 
 use crate::NoMemory;
-use crate::cursor::{Cursor, copy_word, message_fits, syntax};
+use crate::cursor::{Cursor, MESSAGE_LIMIT, copy_word, syntax, too_deep};
 use crate::fault::Stop;
 use crate::reading::{take_mark, take_number};
 use spi_lex::{Kind, Mark, Reserved};
-use spi_text::Span;
+use spi_text::{Span, Text};
 use spi_tree::{SMsg, SWord};
 use std::alloc::Global;
 
@@ -59,56 +60,76 @@ fn message_step<'t>(alloc: Global, at: Cursor<'t>, later: bool, numbered: bool, 
             if numbered {
                 return Err(syntax(at.rest.len()));
             }
-            message_fits(nesting, at.rest.len())?;
-            let name = SWord {
-                word: copy_word(alloc, word)?,
-                span: first.span,
-            };
-            Ok((
-                SMsg::Name {
-                    name,
-                    span: first.span,
-                },
-                next,
-            ))
+            if nesting > MESSAGE_LIMIT {
+                return Err(too_deep(at.rest.len()));
+            }
+            read_name(alloc, word, first.span, next)
         }
         Kind::Mark(Mark::ParenOpen) => {
-            message_fits(nesting, at.rest.len())?;
+            if nesting > MESSAGE_LIMIT {
+                return Err(too_deep(at.rest.len()));
+            }
             message_in_parens(alloc, first.span, next, later, numbered, nesting)
         }
         Kind::Mark(Mark::BraceOpen) => {
-            message_fits(nesting, at.rest.len())?;
+            if nesting > MESSAGE_LIMIT {
+                return Err(too_deep(at.rest.len()));
+            }
             read_enc(alloc, first.span, next, later, numbered, nesting)
         }
         Kind::Mark(Mark::NumberSign) => {
             if !numbered {
                 return Err(syntax(at.rest.len()));
             }
-            message_fits(nesting, at.rest.len())?;
-            let (number, at) = take_number(next)?;
-            let span = Span {
-                from: first.span.from,
-                to: at.end,
-            };
-            Ok((SMsg::Num { number, span }, at))
+            if nesting > MESSAGE_LIMIT {
+                return Err(too_deep(at.rest.len()));
+            }
+            read_numeral(first.span, next, later, numbered, nesting)
         }
         Kind::Reserved(Reserved::Inl) => {
-            message_fits(nesting, at.rest.len())?;
+            if nesting > MESSAGE_LIMIT {
+                return Err(too_deep(at.rest.len()));
+            }
             read_inl(alloc, first.span, next, later, numbered, nesting)
         }
         Kind::Reserved(Reserved::Inr) => {
-            message_fits(nesting, at.rest.len())?;
+            if nesting > MESSAGE_LIMIT {
+                return Err(too_deep(at.rest.len()));
+            }
             read_inr(alloc, first.span, next, later, numbered, nesting)
         }
         Kind::Reserved(Reserved::Hash) => {
             if !later {
                 return Err(syntax(at.rest.len()));
             }
-            message_fits(nesting, at.rest.len())?;
+            if nesting > MESSAGE_LIMIT {
+                return Err(too_deep(at.rest.len()));
+            }
             read_hash(alloc, first.span, next, later, numbered, nesting)
         }
         _ => Err(syntax(at.rest.len())),
     }
+}
+
+fn read_name<'t>(alloc: Global, word: &Text, span: Span, at: Cursor<'t>) -> Result<(SMsg, Cursor<'t>), Stop>
+    ensures { Gives (λ x. (msg_of x.0, state_of x.1)) result (done (name span (word_at word.now span)) (state_of at.entry)) }
+{
+    let name = SWord {
+        word: copy_word(alloc, word)?,
+        span,
+    };
+    Ok((SMsg::Name { name, span }, at))
+}
+
+fn read_numeral<'t>(first: Span, at: Cursor<'t>, later: bool, numbered: bool, nesting: u32) -> Result<(SMsg, Cursor<'t>), Stop>
+    ensures { Gives (λ x. (msg_of x.0, state_of x.1)) result (numeral_form later numbered nesting (first ∷ []) (state_of at.entry)) }
+{
+    let (number, at) = take_number(at)?;
+    let span = Span {
+        from: first.from,
+        to: at.end,
+    };
+    Ok((SMsg::Num { number, span }, at))
 }
 
 #[cycle(messages)]
@@ -207,6 +228,13 @@ fn read_tuple<'t>(alloc: Global, opening: Span, at: Cursor<'t>, later: bool, num
     let at = take_mark(at, Mark::Comma)?;
     let (second, at) = message(alloc, at, later, numbered, nesting + 1)?;
     let (more, at) = more_messages(alloc, at, later, numbered, nesting + 1)?;
+    end_tuple(alloc, opening, first, second, more, at)
+}
+
+/// The tuple of these parts, which ends before this place.
+fn end_tuple<'t>(alloc: Global, opening: Span, first: SMsg, second: SMsg, more: Vec<SMsg>, at: Cursor<'t>) -> Result<(SMsg, Cursor<'t>), Stop>
+    ensures { Gives (λ x. (msg_of x.0, state_of x.1)) result (done (tuple (over (opening ∷ []) at.entry.end) (msg_of first) (msg_of second) (msgs_of_list (map msg_of more.items))) (state_of at.entry)) }
+{
     let span = Span {
         from: opening.from,
         to: at.end,

@@ -1,13 +1,16 @@
 //! Processes.
 
-ghost use Rattle.std.specs.Prelude.{◌≡◌, ◌+◌, ◌≤◌, [], ◌∷◌};
-ghost use Rattle.spi_tree.specs.Views.{proc_of};
-ghost use Rattle.spi_parse.specs.Places.{state_of, proc_option, out_form, inp_form, repeat_form, split_form, match_form, case_form, decrypt_form, check_form, begin_form, end_form, end_many_form, cast_form, new_form, group_form};
+ghost use Rattle.std.specs.Prelude.{◌≡◌, ◌+◌, ◌≤◌, [], ◌∷◌, IfOk};
+ghost use Rattle.spi_tree.specs.Trees.{stop};
+ghost use Rattle.spi_tree.specs.Views.{msg_of, proc_of};
+ghost use Rattle.spi_parse.specs.Places.{state_of, out_form, inp_form, repeat_form, split_form, match_form, case_form, decrypt_form, check_form, begin_form, end_form, end_many_form, cast_form, new_form, group_form};
+ghost use Rattle.spi_parse.specs.Ends.{done, boxed_option};
 ghost use Rattle.spi_parse.specs.FormMoves.{by_form};
 ghost use Rattle.spi_parse.specs.declared.forms.Form.TheVariants as forms;
-ghost use Rattle.spi_parse.specs.Table.{sproc, seq, out_tail, par_tail};
+ghost use Rattle.spi_parse.specs.Table.{sproc, seq, out_tail, par_tail, out_of};
 ghost use Rattle.spi_parse.specs.Reading.{Gives, read, step, limited};
 
+use crate::NoMemory;
 use crate::cursor::{Cursor, process_fits, syntax};
 use crate::fault::Stop;
 use crate::forms::{Event, Form, Open, Plain, Talk, form_of};
@@ -16,22 +19,36 @@ use crate::messages::message;
 use crate::reading::{take_mark, take_reserved};
 use spi_lex::{Kind, Mark, Reserved};
 use spi_text::Span;
-use spi_tree::SProc;
+use spi_tree::{SMsg, SProc};
 use std::alloc::Global;
 
 /// A process of a level.
-#[cycle(processes)]
 pub fn process<'t>(alloc: Global, at: Cursor<'t>, later: bool, level: u32) -> Result<(SProc, Cursor<'t>), Stop>
     requires { level ≤ 500 }
     ensures { Gives (λ x. (proc_of x.0, state_of x.1)) result (read limited (sproc later level) (state_of at.entry)) }
 {
-    process_step(alloc, at, later, level)
+    let (tree, at) = parallel(alloc, at, later, level)?;
+    Ok((Box::into_inner(tree), at))
+}
+
+fn boxed(alloc: Global, tree: SProc) -> Result<Box<SProc>, NoMemory>
+    ensures { IfOk result (λ b. b.value ≡ tree) }
+{
+    Ok(Box::new(alloc, tree)?)
 }
 
 #[cycle(processes)]
-fn process_step<'t>(alloc: Global, at: Cursor<'t>, later: bool, level: u32) -> Result<(SProc, Cursor<'t>), Stop>
+fn parallel<'t>(alloc: Global, at: Cursor<'t>, later: bool, level: u32) -> Result<(Box<SProc>, Cursor<'t>), Stop>
     requires { level ≤ 500 }
-    ensures { Gives (λ x. (proc_of x.0, state_of x.1)) result (step limited (read limited) (sproc later level) (state_of at.entry)) }
+    ensures { Gives (λ x. (proc_of x.0.value, state_of x.1)) result (read limited (sproc later level) (state_of at.entry)) }
+{
+    parallel_step(alloc, at, later, level)
+}
+
+#[cycle(processes)]
+fn parallel_step<'t>(alloc: Global, at: Cursor<'t>, later: bool, level: u32) -> Result<(Box<SProc>, Cursor<'t>), Stop>
+    requires { level ≤ 500 }
+    ensures { Gives (λ x. (proc_of x.0.value, state_of x.1)) result (step limited (read limited) (sproc later level) (state_of at.entry)) }
 {
     let [token, ..] = at.rest else {
         return Err(syntax(0));
@@ -43,25 +60,24 @@ fn process_step<'t>(alloc: Global, at: Cursor<'t>, later: bool, level: u32) -> R
         None => Ok((first, at)),
         Some(rest) => {
             let span = Span { from, to: at.end };
-            let first = Box::new(alloc, first)?;
-            let rest = Box::new(alloc, rest)?;
-            Ok((SProc::Par { first, rest, span }, at))
+            let tree = boxed(alloc, SProc::Par { first, rest, span })?;
+            Ok((tree, at))
         }
     }
 }
 
 #[cycle(processes)]
-fn sequence<'t>(alloc: Global, at: Cursor<'t>, later: bool, nesting: u32) -> Result<(SProc, Cursor<'t>), Stop>
+fn sequence<'t>(alloc: Global, at: Cursor<'t>, later: bool, nesting: u32) -> Result<(Box<SProc>, Cursor<'t>), Stop>
     requires { nesting ≤ 501 }
-    ensures { Gives (λ x. (proc_of x.0, state_of x.1)) result (read limited (seq later nesting) (state_of at.entry)) }
+    ensures { Gives (λ x. (proc_of x.0.value, state_of x.1)) result (read limited (seq later nesting) (state_of at.entry)) }
 {
     sequence_step(alloc, at, later, nesting)
 }
 
 #[cycle(processes)]
-fn sequence_step<'t>(alloc: Global, at: Cursor<'t>, later: bool, nesting: u32) -> Result<(SProc, Cursor<'t>), Stop>
+fn sequence_step<'t>(alloc: Global, at: Cursor<'t>, later: bool, nesting: u32) -> Result<(Box<SProc>, Cursor<'t>), Stop>
     requires { nesting ≤ 501 }
-    ensures { Gives (λ x. (proc_of x.0, state_of x.1)) result (step limited (read limited) (seq later nesting) (state_of at.entry)) }
+    ensures { Gives (λ x. (proc_of x.0.value, state_of x.1)) result (step limited (read limited) (seq later nesting) (state_of at.entry)) }
 {
     let [first, ..] = at.rest else {
         return Err(syntax(0));
@@ -71,9 +87,9 @@ fn sequence_step<'t>(alloc: Global, at: Cursor<'t>, later: bool, nesting: u32) -
 }
 
 #[cycle(processes)]
-fn read_form<'t>(alloc: Global, form: Form, at: Cursor<'t>, later: bool, nesting: u32) -> Result<(SProc, Cursor<'t>), Stop>
+fn read_form<'t>(alloc: Global, form: Form, at: Cursor<'t>, later: bool, nesting: u32) -> Result<(Box<SProc>, Cursor<'t>), Stop>
     requires { nesting ≤ 501 }
-    ensures { Gives (λ x. (proc_of x.0, state_of x.1)) result (by_form later nesting form (state_of at.entry)) }
+    ensures { Gives (λ x. (proc_of x.0.value, state_of x.1)) result (by_form later nesting form (state_of at.entry)) }
 {
     match form {
         Form::Talk(form) => read_talk(alloc, form, at, later, nesting),
@@ -90,9 +106,9 @@ fn read_form<'t>(alloc: Global, form: Form, at: Cursor<'t>, later: bool, nesting
 }
 
 #[cycle(processes)]
-fn read_talk<'t>(alloc: Global, form: Talk, at: Cursor<'t>, later: bool, nesting: u32) -> Result<(SProc, Cursor<'t>), Stop>
+fn read_talk<'t>(alloc: Global, form: Talk, at: Cursor<'t>, later: bool, nesting: u32) -> Result<(Box<SProc>, Cursor<'t>), Stop>
     requires { nesting ≤ 501 }
-    ensures { Gives (λ x. (proc_of x.0, state_of x.1)) result (by_form later nesting (forms.Talk form) (state_of at.entry)) }
+    ensures { Gives (λ x. (proc_of x.0.value, state_of x.1)) result (by_form later nesting (forms.Talk form) (state_of at.entry)) }
 {
     let [first, rest @ ..] = at.rest else {
         return Err(syntax(0));
@@ -110,9 +126,9 @@ fn read_talk<'t>(alloc: Global, form: Talk, at: Cursor<'t>, later: bool, nesting
 }
 
 #[cycle(processes)]
-fn read_open<'t>(alloc: Global, form: Open, at: Cursor<'t>, later: bool, nesting: u32) -> Result<(SProc, Cursor<'t>), Stop>
+fn read_open<'t>(alloc: Global, form: Open, at: Cursor<'t>, later: bool, nesting: u32) -> Result<(Box<SProc>, Cursor<'t>), Stop>
     requires { nesting ≤ 501 }
-    ensures { Gives (λ x. (proc_of x.0, state_of x.1)) result (by_form later nesting (forms.Open form) (state_of at.entry)) }
+    ensures { Gives (λ x. (proc_of x.0.value, state_of x.1)) result (by_form later nesting (forms.Open form) (state_of at.entry)) }
 {
     let [first, rest @ ..] = at.rest else {
         return Err(syntax(0));
@@ -131,9 +147,9 @@ fn read_open<'t>(alloc: Global, form: Open, at: Cursor<'t>, later: bool, nesting
 }
 
 #[cycle(processes)]
-fn read_event<'t>(alloc: Global, form: Event, at: Cursor<'t>, later: bool, nesting: u32) -> Result<(SProc, Cursor<'t>), Stop>
+fn read_event<'t>(alloc: Global, form: Event, at: Cursor<'t>, later: bool, nesting: u32) -> Result<(Box<SProc>, Cursor<'t>), Stop>
     requires { nesting ≤ 501 }
-    ensures { Gives (λ x. (proc_of x.0, state_of x.1)) result (by_form later nesting (forms.Event form) (state_of at.entry)) }
+    ensures { Gives (λ x. (proc_of x.0.value, state_of x.1)) result (by_form later nesting (forms.Event form) (state_of at.entry)) }
 {
     let [first, rest @ ..] = at.rest else {
         return Err(syntax(0));
@@ -152,9 +168,9 @@ fn read_event<'t>(alloc: Global, form: Event, at: Cursor<'t>, later: bool, nesti
 }
 
 #[cycle(processes)]
-fn read_plain<'t>(alloc: Global, form: Plain, at: Cursor<'t>, later: bool, nesting: u32) -> Result<(SProc, Cursor<'t>), Stop>
+fn read_plain<'t>(alloc: Global, form: Plain, at: Cursor<'t>, later: bool, nesting: u32) -> Result<(Box<SProc>, Cursor<'t>), Stop>
     requires { nesting ≤ 501 }
-    ensures { Gives (λ x. (proc_of x.0, state_of x.1)) result (by_form later nesting (forms.Plain form) (state_of at.entry)) }
+    ensures { Gives (λ x. (proc_of x.0.value, state_of x.1)) result (by_form later nesting (forms.Plain form) (state_of at.entry)) }
 {
     let [first, rest @ ..] = at.rest else {
         return Err(syntax(0));
@@ -167,15 +183,15 @@ fn read_plain<'t>(alloc: Global, form: Plain, at: Cursor<'t>, later: bool, nesti
     match form {
         Plain::Cast => read_cast(alloc, first.span, next, later, nesting),
         Plain::New => read_new(alloc, first.span, next, later, nesting),
-        Plain::Stop => Ok((SProc::Stop { span: first.span }, next)),
+        Plain::Stop => read_stop(alloc, first.span, next),
         Plain::Group => read_group(alloc, first.span, next, later, nesting),
     }
 }
 
 #[cycle(processes)]
-fn read_out<'t>(alloc: Global, first: Span, at: Cursor<'t>, later: bool, nesting: u32) -> Result<(SProc, Cursor<'t>), Stop>
+fn read_out<'t>(alloc: Global, first: Span, at: Cursor<'t>, later: bool, nesting: u32) -> Result<(Box<SProc>, Cursor<'t>), Stop>
     requires { nesting ≤ 500 }
-    ensures { Gives (λ x. (proc_of x.0, state_of x.1)) result (out_form later nesting (first ∷ []) (state_of at.entry)) }
+    ensures { Gives (λ x. (proc_of x.0.value, state_of x.1)) result (out_form later nesting (first ∷ []) (state_of at.entry)) }
 {
     let (channel, at) = message(alloc, at, later, false, 1)?;
     let (datum, at) = message(alloc, at, later, false, 1)?;
@@ -184,34 +200,32 @@ fn read_out<'t>(alloc: Global, first: Span, at: Cursor<'t>, later: bool, nesting
         from: first.from,
         to: at.end,
     };
+    let tree = boxed(alloc, make_out(channel, datum, then, span))?;
+    Ok((tree, at))
+}
+
+fn make_out(channel: SMsg, datum: SMsg, then: Option<Box<SProc>>, span: Span) -> SProc
+    ensures { proc_of result ≡ out_of span (msg_of channel) (msg_of datum) (boxed_option then) }
+{
     match then {
-        None => Ok((
-            SProc::Out {
-                channel,
-                datum,
-                span,
-            },
-            at,
-        )),
-        Some(then) => {
-            let then = Box::new(alloc, then)?;
-            Ok((
-                SProc::OutThen {
-                    channel,
-                    datum,
-                    then,
-                    span,
-                },
-                at,
-            ))
-        }
+        None => SProc::Out {
+            channel,
+            datum,
+            span,
+        },
+        Some(then) => SProc::OutThen {
+            channel,
+            datum,
+            then,
+            span,
+        },
     }
 }
 
 #[cycle(processes)]
-fn read_inp<'t>(alloc: Global, first: Span, at: Cursor<'t>, later: bool, nesting: u32) -> Result<(SProc, Cursor<'t>), Stop>
+fn read_inp<'t>(alloc: Global, first: Span, at: Cursor<'t>, later: bool, nesting: u32) -> Result<(Box<SProc>, Cursor<'t>), Stop>
     requires { nesting ≤ 500 }
-    ensures { Gives (λ x. (proc_of x.0, state_of x.1)) result (inp_form later nesting (first ∷ []) (state_of at.entry)) }
+    ensures { Gives (λ x. (proc_of x.0.value, state_of x.1)) result (inp_form later nesting (first ∷ []) (state_of at.entry)) }
 {
     let (channel, at) = message(alloc, at, later, false, 1)?;
     let (name, ty, at) = binder(alloc, at, later)?;
@@ -220,23 +234,20 @@ fn read_inp<'t>(alloc: Global, first: Span, at: Cursor<'t>, later: bool, nesting
         from: first.from,
         to: at.end,
     };
-    let then = Box::new(alloc, then)?;
-    Ok((
-        SProc::Inp {
-            channel,
-            name,
-            ty,
-            then,
-            span,
-        },
-        at,
-    ))
+    let tree = boxed(alloc, SProc::Inp {
+        channel,
+        name,
+        ty,
+        then,
+        span,
+    })?;
+    Ok((tree, at))
 }
 
 #[cycle(processes)]
-fn read_repeat<'t>(alloc: Global, first: Span, at: Cursor<'t>, later: bool, nesting: u32) -> Result<(SProc, Cursor<'t>), Stop>
+fn read_repeat<'t>(alloc: Global, first: Span, at: Cursor<'t>, later: bool, nesting: u32) -> Result<(Box<SProc>, Cursor<'t>), Stop>
     requires { nesting ≤ 500 }
-    ensures { Gives (λ x. (proc_of x.0, state_of x.1)) result (repeat_form later nesting (first ∷ []) (state_of at.entry)) }
+    ensures { Gives (λ x. (proc_of x.0.value, state_of x.1)) result (repeat_form later nesting (first ∷ []) (state_of at.entry)) }
 {
     let at = take_reserved(at, Reserved::Inp)?;
     let (channel, at) = message(alloc, at, later, false, 1)?;
@@ -246,23 +257,20 @@ fn read_repeat<'t>(alloc: Global, first: Span, at: Cursor<'t>, later: bool, nest
         from: first.from,
         to: at.end,
     };
-    let then = Box::new(alloc, then)?;
-    Ok((
-        SProc::Repeat {
-            channel,
-            name,
-            ty,
-            then,
-            span,
-        },
-        at,
-    ))
+    let tree = boxed(alloc, SProc::Repeat {
+        channel,
+        name,
+        ty,
+        then,
+        span,
+    })?;
+    Ok((tree, at))
 }
 
 #[cycle(processes)]
-fn read_split<'t>(alloc: Global, first: Span, at: Cursor<'t>, later: bool, nesting: u32) -> Result<(SProc, Cursor<'t>), Stop>
+fn read_split<'t>(alloc: Global, first: Span, at: Cursor<'t>, later: bool, nesting: u32) -> Result<(Box<SProc>, Cursor<'t>), Stop>
     requires { nesting ≤ 500 }
-    ensures { Gives (λ x. (proc_of x.0, state_of x.1)) result (split_form later nesting (first ∷ []) (state_of at.entry)) }
+    ensures { Gives (λ x. (proc_of x.0.value, state_of x.1)) result (split_form later nesting (first ∷ []) (state_of at.entry)) }
 {
     let (whole, at) = message(alloc, at, later, false, 1)?;
     let (left, left_ty, right, right_ty, at) = split_head(alloc, at, later)?;
@@ -271,25 +279,22 @@ fn read_split<'t>(alloc: Global, first: Span, at: Cursor<'t>, later: bool, nesti
         from: first.from,
         to: at.end,
     };
-    let then = Box::new(alloc, then)?;
-    Ok((
-        SProc::Split {
-            whole,
-            left,
-            left_ty,
-            right,
-            right_ty,
-            then,
-            span,
-        },
-        at,
-    ))
+    let tree = boxed(alloc, SProc::Split {
+        whole,
+        left,
+        left_ty,
+        right,
+        right_ty,
+        then,
+        span,
+    })?;
+    Ok((tree, at))
 }
 
 #[cycle(processes)]
-fn read_match<'t>(alloc: Global, first: Span, at: Cursor<'t>, later: bool, nesting: u32) -> Result<(SProc, Cursor<'t>), Stop>
+fn read_match<'t>(alloc: Global, first: Span, at: Cursor<'t>, later: bool, nesting: u32) -> Result<(Box<SProc>, Cursor<'t>), Stop>
     requires { nesting ≤ 500 }
-    ensures { Gives (λ x. (proc_of x.0, state_of x.1)) result (match_form later nesting (first ∷ []) (state_of at.entry)) }
+    ensures { Gives (λ x. (proc_of x.0.value, state_of x.1)) result (match_form later nesting (first ∷ []) (state_of at.entry)) }
 {
     let (whole, at) = message(alloc, at, later, false, 1)?;
     let (left, left_ty, equal, right, right_ty, at) = match_head(alloc, at, later)?;
@@ -298,26 +303,23 @@ fn read_match<'t>(alloc: Global, first: Span, at: Cursor<'t>, later: bool, nesti
         from: first.from,
         to: at.end,
     };
-    let then = Box::new(alloc, then)?;
-    Ok((
-        SProc::Match {
-            whole,
-            left,
-            left_ty,
-            equal,
-            right,
-            right_ty,
-            then,
-            span,
-        },
-        at,
-    ))
+    let tree = boxed(alloc, SProc::Match {
+        whole,
+        left,
+        left_ty,
+        equal,
+        right,
+        right_ty,
+        then,
+        span,
+    })?;
+    Ok((tree, at))
 }
 
 #[cycle(processes)]
-fn read_case<'t>(alloc: Global, first: Span, at: Cursor<'t>, later: bool, nesting: u32) -> Result<(SProc, Cursor<'t>), Stop>
+fn read_case<'t>(alloc: Global, first: Span, at: Cursor<'t>, later: bool, nesting: u32) -> Result<(Box<SProc>, Cursor<'t>), Stop>
     requires { nesting ≤ 500 }
-    ensures { Gives (λ x. (proc_of x.0, state_of x.1)) result (case_form later nesting (first ∷ []) (state_of at.entry)) }
+    ensures { Gives (λ x. (proc_of x.0.value, state_of x.1)) result (case_form later nesting (first ∷ []) (state_of at.entry)) }
 {
     let (whole, at) = message(alloc, at, later, false, 1)?;
     let (left, left_ty, at) = case_head(alloc, at, later, Reserved::Inl)?;
@@ -328,27 +330,23 @@ fn read_case<'t>(alloc: Global, first: Span, at: Cursor<'t>, later: bool, nestin
         from: first.from,
         to: at.end,
     };
-    let on_left = Box::new(alloc, on_left)?;
-    let on_right = Box::new(alloc, on_right)?;
-    Ok((
-        SProc::Case {
-            whole,
-            left,
-            left_ty,
-            on_left,
-            right,
-            right_ty,
-            on_right,
-            span,
-        },
-        at,
-    ))
+    let tree = boxed(alloc, SProc::Case {
+        whole,
+        left,
+        left_ty,
+        on_left,
+        right,
+        right_ty,
+        on_right,
+        span,
+    })?;
+    Ok((tree, at))
 }
 
 #[cycle(processes)]
-fn read_decrypt<'t>(alloc: Global, first: Span, at: Cursor<'t>, later: bool, nesting: u32) -> Result<(SProc, Cursor<'t>), Stop>
+fn read_decrypt<'t>(alloc: Global, first: Span, at: Cursor<'t>, later: bool, nesting: u32) -> Result<(Box<SProc>, Cursor<'t>), Stop>
     requires { nesting ≤ 500 }
-    ensures { Gives (λ x. (proc_of x.0, state_of x.1)) result (decrypt_form later nesting (first ∷ []) (state_of at.entry)) }
+    ensures { Gives (λ x. (proc_of x.0.value, state_of x.1)) result (decrypt_form later nesting (first ∷ []) (state_of at.entry)) }
 {
     let (whole, at) = message(alloc, at, later, false, 1)?;
     let (name, ty, key, at) = decrypt_head(alloc, at, later)?;
@@ -357,24 +355,21 @@ fn read_decrypt<'t>(alloc: Global, first: Span, at: Cursor<'t>, later: bool, nes
         from: first.from,
         to: at.end,
     };
-    let then = Box::new(alloc, then)?;
-    Ok((
-        SProc::Decrypt {
-            whole,
-            name,
-            ty,
-            key,
-            then,
-            span,
-        },
-        at,
-    ))
+    let tree = boxed(alloc, SProc::Decrypt {
+        whole,
+        name,
+        ty,
+        key,
+        then,
+        span,
+    })?;
+    Ok((tree, at))
 }
 
 #[cycle(processes)]
-fn read_check<'t>(alloc: Global, first: Span, at: Cursor<'t>, later: bool, nesting: u32) -> Result<(SProc, Cursor<'t>), Stop>
+fn read_check<'t>(alloc: Global, first: Span, at: Cursor<'t>, later: bool, nesting: u32) -> Result<(Box<SProc>, Cursor<'t>), Stop>
     requires { nesting ≤ 500 }
-    ensures { Gives (λ x. (proc_of x.0, state_of x.1)) result (check_form later nesting (first ∷ []) (state_of at.entry)) }
+    ensures { Gives (λ x. (proc_of x.0.value, state_of x.1)) result (check_form later nesting (first ∷ []) (state_of at.entry)) }
 {
     let (whole, at) = message(alloc, at, later, false, 1)?;
     let (nonce, at) = check_head(alloc, at, later)?;
@@ -383,22 +378,19 @@ fn read_check<'t>(alloc: Global, first: Span, at: Cursor<'t>, later: bool, nesti
         from: first.from,
         to: at.end,
     };
-    let then = Box::new(alloc, then)?;
-    Ok((
-        SProc::Check {
-            whole,
-            nonce,
-            then,
-            span,
-        },
-        at,
-    ))
+    let tree = boxed(alloc, SProc::Check {
+        whole,
+        nonce,
+        then,
+        span,
+    })?;
+    Ok((tree, at))
 }
 
 #[cycle(processes)]
-fn read_begin<'t>(alloc: Global, first: Span, at: Cursor<'t>, later: bool, nesting: u32) -> Result<(SProc, Cursor<'t>), Stop>
+fn read_begin<'t>(alloc: Global, first: Span, at: Cursor<'t>, later: bool, nesting: u32) -> Result<(Box<SProc>, Cursor<'t>), Stop>
     requires { nesting ≤ 500 }
-    ensures { Gives (λ x. (proc_of x.0, state_of x.1)) result (begin_form later nesting (first ∷ []) (state_of at.entry)) }
+    ensures { Gives (λ x. (proc_of x.0.value, state_of x.1)) result (begin_form later nesting (first ∷ []) (state_of at.entry)) }
 {
     let (label, at) = message(alloc, at, later, false, 1)?;
     let at = take_mark(at, Mark::Semicolon)?;
@@ -407,21 +399,18 @@ fn read_begin<'t>(alloc: Global, first: Span, at: Cursor<'t>, later: bool, nesti
         from: first.from,
         to: at.end,
     };
-    let then = Box::new(alloc, then)?;
-    Ok((
-        SProc::Begin {
-            label,
-            then,
-            span,
-        },
-        at,
-    ))
+    let tree = boxed(alloc, SProc::Begin {
+        label,
+        then,
+        span,
+    })?;
+    Ok((tree, at))
 }
 
 #[cycle(processes)]
-fn read_end<'t>(alloc: Global, first: Span, at: Cursor<'t>, later: bool, nesting: u32) -> Result<(SProc, Cursor<'t>), Stop>
+fn read_end<'t>(alloc: Global, first: Span, at: Cursor<'t>, later: bool, nesting: u32) -> Result<(Box<SProc>, Cursor<'t>), Stop>
     requires { nesting ≤ 500 }
-    ensures { Gives (λ x. (proc_of x.0, state_of x.1)) result (end_form later nesting (first ∷ []) (state_of at.entry)) }
+    ensures { Gives (λ x. (proc_of x.0.value, state_of x.1)) result (end_form later nesting (first ∷ []) (state_of at.entry)) }
 {
     let (label, at) = message(alloc, at, later, false, 1)?;
     let at = take_mark(at, Mark::Semicolon)?;
@@ -430,21 +419,18 @@ fn read_end<'t>(alloc: Global, first: Span, at: Cursor<'t>, later: bool, nesting
         from: first.from,
         to: at.end,
     };
-    let then = Box::new(alloc, then)?;
-    Ok((
-        SProc::End {
-            label,
-            then,
-            span,
-        },
-        at,
-    ))
+    let tree = boxed(alloc, SProc::End {
+        label,
+        then,
+        span,
+    })?;
+    Ok((tree, at))
 }
 
 #[cycle(processes)]
-fn read_end_many<'t>(alloc: Global, first: Span, at: Cursor<'t>, later: bool, nesting: u32) -> Result<(SProc, Cursor<'t>), Stop>
+fn read_end_many<'t>(alloc: Global, first: Span, at: Cursor<'t>, later: bool, nesting: u32) -> Result<(Box<SProc>, Cursor<'t>), Stop>
     requires { nesting ≤ 500 }
-    ensures { Gives (λ x. (proc_of x.0, state_of x.1)) result (end_many_form later nesting (first ∷ []) (state_of at.entry)) }
+    ensures { Gives (λ x. (proc_of x.0.value, state_of x.1)) result (end_many_form later nesting (first ∷ []) (state_of at.entry)) }
 {
     let (label, at) = message(alloc, at, later, false, 1)?;
     let at = take_mark(at, Mark::Semicolon)?;
@@ -453,21 +439,18 @@ fn read_end_many<'t>(alloc: Global, first: Span, at: Cursor<'t>, later: bool, ne
         from: first.from,
         to: at.end,
     };
-    let then = Box::new(alloc, then)?;
-    Ok((
-        SProc::EndMany {
-            label,
-            then,
-            span,
-        },
-        at,
-    ))
+    let tree = boxed(alloc, SProc::EndMany {
+        label,
+        then,
+        span,
+    })?;
+    Ok((tree, at))
 }
 
 #[cycle(processes)]
-fn read_cast<'t>(alloc: Global, first: Span, at: Cursor<'t>, later: bool, nesting: u32) -> Result<(SProc, Cursor<'t>), Stop>
+fn read_cast<'t>(alloc: Global, first: Span, at: Cursor<'t>, later: bool, nesting: u32) -> Result<(Box<SProc>, Cursor<'t>), Stop>
     requires { nesting ≤ 500 }
-    ensures { Gives (λ x. (proc_of x.0, state_of x.1)) result (cast_form later nesting (first ∷ []) (state_of at.entry)) }
+    ensures { Gives (λ x. (proc_of x.0.value, state_of x.1)) result (cast_form later nesting (first ∷ []) (state_of at.entry)) }
 {
     let (whole, at) = message(alloc, at, later, false, 1)?;
     let (name, ty, at) = cast_head(alloc, at, later)?;
@@ -476,23 +459,20 @@ fn read_cast<'t>(alloc: Global, first: Span, at: Cursor<'t>, later: bool, nestin
         from: first.from,
         to: at.end,
     };
-    let then = Box::new(alloc, then)?;
-    Ok((
-        SProc::Cast {
-            whole,
-            name,
-            ty,
-            then,
-            span,
-        },
-        at,
-    ))
+    let tree = boxed(alloc, SProc::Cast {
+        whole,
+        name,
+        ty,
+        then,
+        span,
+    })?;
+    Ok((tree, at))
 }
 
 #[cycle(processes)]
-fn read_new<'t>(alloc: Global, first: Span, at: Cursor<'t>, later: bool, nesting: u32) -> Result<(SProc, Cursor<'t>), Stop>
+fn read_new<'t>(alloc: Global, first: Span, at: Cursor<'t>, later: bool, nesting: u32) -> Result<(Box<SProc>, Cursor<'t>), Stop>
     requires { nesting ≤ 500 }
-    ensures { Gives (λ x. (proc_of x.0, state_of x.1)) result (new_form later nesting (first ∷ []) (state_of at.entry)) }
+    ensures { Gives (λ x. (proc_of x.0.value, state_of x.1)) result (new_form later nesting (first ∷ []) (state_of at.entry)) }
 {
     let (name, ty, at) = binder(alloc, at, later)?;
     let (then, at) = sequence(alloc, at, later, nesting + 1)?;
@@ -500,48 +480,51 @@ fn read_new<'t>(alloc: Global, first: Span, at: Cursor<'t>, later: bool, nesting
         from: first.from,
         to: at.end,
     };
-    let then = Box::new(alloc, then)?;
-    Ok((
-        SProc::New {
-            name,
-            ty,
-            then,
-            span,
-        },
-        at,
-    ))
+    let tree = boxed(alloc, SProc::New {
+        name,
+        ty,
+        then,
+        span,
+    })?;
+    Ok((tree, at))
+}
+
+fn read_stop<'t>(alloc: Global, span: Span, at: Cursor<'t>) -> Result<(Box<SProc>, Cursor<'t>), Stop>
+    ensures { Gives (λ x. (proc_of x.0.value, state_of x.1)) result (done (stop span) (state_of at.entry)) }
+{
+    let tree = boxed(alloc, SProc::Stop { span })?;
+    Ok((tree, at))
 }
 
 #[cycle(processes)]
-fn read_group<'t>(alloc: Global, start: Span, at: Cursor<'t>, later: bool, nesting: u32) -> Result<(SProc, Cursor<'t>), Stop>
+fn read_group<'t>(alloc: Global, start: Span, at: Cursor<'t>, later: bool, nesting: u32) -> Result<(Box<SProc>, Cursor<'t>), Stop>
     requires { nesting ≤ 500 }
-    ensures { Gives (λ x. (proc_of x.0, state_of x.1)) result (group_form later nesting (start ∷ []) (state_of at.entry)) }
+    ensures { Gives (λ x. (proc_of x.0.value, state_of x.1)) result (group_form later nesting (start ∷ []) (state_of at.entry)) }
 {
     let (first, at) = sequence(alloc, at, later, nesting + 1)?;
     let at = take_mark(at, Mark::Bar)?;
-    let (rest, at) = process(alloc, at, later, nesting + 1)?;
+    let (rest, at) = parallel(alloc, at, later, nesting + 1)?;
     let at = take_mark(at, Mark::ParenClose)?;
     let span = Span {
         from: start.from,
         to: at.end,
     };
-    let first = Box::new(alloc, first)?;
-    let rest = Box::new(alloc, rest)?;
-    Ok((SProc::Group { first, rest, span }, at))
+    let tree = boxed(alloc, SProc::Group { first, rest, span })?;
+    Ok((tree, at))
 }
 
 #[cycle(processes)]
-fn out_rest<'t>(alloc: Global, at: Cursor<'t>, later: bool, nesting: u32) -> Result<(Option<SProc>, Cursor<'t>), Stop>
+fn out_rest<'t>(alloc: Global, at: Cursor<'t>, later: bool, nesting: u32) -> Result<(Option<Box<SProc>>, Cursor<'t>), Stop>
     requires { nesting ≤ 500 }
-    ensures { Gives (λ x. (proc_option x.0, state_of x.1)) result (read limited (out_tail later nesting) (state_of at.entry)) }
+    ensures { Gives (λ x. (boxed_option x.0, state_of x.1)) result (read limited (out_tail later nesting) (state_of at.entry)) }
 {
     out_rest_step(alloc, at, later, nesting)
 }
 
 #[cycle(processes)]
-fn out_rest_step<'t>(alloc: Global, at: Cursor<'t>, later: bool, nesting: u32) -> Result<(Option<SProc>, Cursor<'t>), Stop>
+fn out_rest_step<'t>(alloc: Global, at: Cursor<'t>, later: bool, nesting: u32) -> Result<(Option<Box<SProc>>, Cursor<'t>), Stop>
     requires { nesting ≤ 500 }
-    ensures { Gives (λ x. (proc_option x.0, state_of x.1)) result (step limited (read limited) (out_tail later nesting) (state_of at.entry)) }
+    ensures { Gives (λ x. (boxed_option x.0, state_of x.1)) result (step limited (read limited) (out_tail later nesting) (state_of at.entry)) }
 {
     let [first, rest @ ..] = at.rest else {
         return Ok((None, at));
@@ -560,17 +543,17 @@ fn out_rest_step<'t>(alloc: Global, at: Cursor<'t>, later: bool, nesting: u32) -
 }
 
 #[cycle(processes)]
-fn par_rest<'t>(alloc: Global, at: Cursor<'t>, later: bool, level: u32) -> Result<(Option<SProc>, Cursor<'t>), Stop>
+fn par_rest<'t>(alloc: Global, at: Cursor<'t>, later: bool, level: u32) -> Result<(Option<Box<SProc>>, Cursor<'t>), Stop>
     requires { level ≤ 499 }
-    ensures { Gives (λ x. (proc_option x.0, state_of x.1)) result (read limited (par_tail later level) (state_of at.entry)) }
+    ensures { Gives (λ x. (boxed_option x.0, state_of x.1)) result (read limited (par_tail later level) (state_of at.entry)) }
 {
     par_rest_step(alloc, at, later, level)
 }
 
 #[cycle(processes)]
-fn par_rest_step<'t>(alloc: Global, at: Cursor<'t>, later: bool, level: u32) -> Result<(Option<SProc>, Cursor<'t>), Stop>
+fn par_rest_step<'t>(alloc: Global, at: Cursor<'t>, later: bool, level: u32) -> Result<(Option<Box<SProc>>, Cursor<'t>), Stop>
     requires { level ≤ 499 }
-    ensures { Gives (λ x. (proc_option x.0, state_of x.1)) result (step limited (read limited) (par_tail later level) (state_of at.entry)) }
+    ensures { Gives (λ x. (boxed_option x.0, state_of x.1)) result (step limited (read limited) (par_tail later level) (state_of at.entry)) }
 {
     let [first, rest @ ..] = at.rest else {
         return Ok((None, at));
@@ -581,7 +564,7 @@ fn par_rest_step<'t>(alloc: Global, at: Cursor<'t>, later: bool, level: u32) -> 
     };
     match first.kind {
         Kind::Mark(Mark::Bar) => {
-            let (then, at) = process(alloc, next, later, level + 1)?;
+            let (then, at) = parallel(alloc, next, later, level + 1)?;
             Ok((Some(then), at))
         }
         _ => Ok((None, at)),

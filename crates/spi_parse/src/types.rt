@@ -1,19 +1,20 @@
 //! Types.
 
 ghost use Rattle.std.specs.Prelude.{◌≡◌, ◌+◌, ◌≤◌, [], ◌∷◌, map, IfOk};
-ghost use Rattle.spi_tree.specs.Trees.{tuple_ty, fields_of_list};
+ghost use Rattle.spi_tree.specs.Trees.{tuple_ty, fields_of_list, abbr};
 ghost use Rattle.spi_tree.specs.Views.{ty_of, field_of, last_of};
 ghost use Rattle.spi_parse.specs.Places.{state_of, field_item, sum_form, key_form, nonce_form, tuple_ty_form, sum_word_form};
-ghost use Rattle.spi_parse.specs.Table.{ty, fields, fields_item, fields_rest, delta_ty_paren, delta_ty_word, delta_item_word};
+ghost use Rattle.spi_parse.specs.Ends.{done, sum_end};
+ghost use Rattle.spi_parse.specs.Table.{ty, fields, fields_item, fields_rest, delta_ty_paren, delta_ty_word, delta_item_word, word_at, over};
 ghost use Rattle.spi_parse.specs.Reading.{Gives, read, step, limited, behind};
 
 use crate::NoMemory;
-use crate::cursor::{Cursor, copy_word, message_fits, syntax};
+use crate::cursor::{Cursor, MESSAGE_LIMIT, copy_word, message_fits, syntax, too_deep};
 use crate::effects::effect;
 use crate::fault::Stop;
 use crate::reading::take_mark;
 use spi_lex::{Kind, Mark, Reserved};
-use spi_text::Span;
+use spi_text::{Span, Text};
 use spi_tree::{Last, SField, STy, SWord};
 use std::alloc::Global;
 
@@ -66,37 +67,47 @@ fn type_step<'t>(alloc: Global, at: Cursor<'t>, later: bool, nesting: u32) -> Re
     };
     match &first.kind {
         Kind::Word(word) => {
-            message_fits(nesting, at.rest.len())?;
-            let name = SWord {
-                word: copy_word(alloc, word)?,
-                span: first.span,
-            };
-            Ok((
-                STy::Abbr {
-                    name,
-                    span: first.span,
-                },
-                next,
-            ))
+            if nesting > MESSAGE_LIMIT {
+                return Err(too_deep(at.rest.len()));
+            }
+            read_abbreviation(alloc, word, first.span, next)
         }
         Kind::Reserved(Reserved::Un) => {
-            message_fits(nesting, at.rest.len())?;
+            if nesting > MESSAGE_LIMIT {
+                return Err(too_deep(at.rest.len()));
+            }
             Ok((STy::Un { span: first.span }, next))
         }
         Kind::Reserved(Reserved::Key) => {
-            message_fits(nesting, at.rest.len())?;
+            if nesting > MESSAGE_LIMIT {
+                return Err(too_deep(at.rest.len()));
+            }
             read_key(alloc, first.span, next, later, nesting)
         }
         Kind::Reserved(Reserved::Nonce) => {
-            message_fits(nesting, at.rest.len())?;
+            if nesting > MESSAGE_LIMIT {
+                return Err(too_deep(at.rest.len()));
+            }
             read_nonce(alloc, first.span, next, later, nesting)
         }
         Kind::Mark(Mark::ParenOpen) => {
-            message_fits(nesting, at.rest.len())?;
+            if nesting > MESSAGE_LIMIT {
+                return Err(too_deep(at.rest.len()));
+            }
             type_in_parens(alloc, first.span, next, later, nesting)
         }
         _ => Err(syntax(at.rest.len())),
     }
+}
+
+fn read_abbreviation<'t>(alloc: Global, word: &Text, span: Span, at: Cursor<'t>) -> Result<(STy, Cursor<'t>), Stop>
+    ensures { Gives (λ x. (ty_of x.0, state_of x.1)) result (done (abbr span (word_at word.now span)) (state_of at.entry)) }
+{
+    let name = SWord {
+        word: copy_word(alloc, word)?,
+        span,
+    };
+    Ok((STy::Abbr { name, span }, at))
 }
 
 fn read_nonce<'t>(alloc: Global, first: Span, at: Cursor<'t>, later: bool, nesting: u32) -> Result<(STy, Cursor<'t>), Stop>
@@ -148,12 +159,10 @@ fn type_in_parens<'t>(alloc: Global, first: Span, at: Cursor<'t>, later: bool, n
             Ok((STy::Unit { span }, next))
         }
         Kind::Word(word) => {
-            message_fits(nesting + 1, at.rest.len())?;
-            let name = SWord {
-                word: copy_word(alloc, word)?,
-                span: second.span,
-            };
-            type_behind_word(alloc, first, name, next, later, nesting)
+            if nesting + 1 > MESSAGE_LIMIT {
+                return Err(too_deep(at.rest.len()));
+            }
+            type_behind_word(alloc, first, word, second.span, next, later, nesting)
         }
         _ => read_sum(alloc, first, at, later, nesting),
     }
@@ -167,6 +176,13 @@ fn read_sum<'t>(alloc: Global, first: Span, at: Cursor<'t>, later: bool, nesting
     let (left, at) = read_type(alloc, at, later, nesting + 1)?;
     let at = take_mark(at, Mark::Plus)?;
     let (right, at) = read_type(alloc, at, later, nesting + 1)?;
+    end_sum(alloc, first, left, right, at)
+}
+
+/// The sum of two types, where its parenthesis closes.
+fn end_sum<'t>(alloc: Global, first: Span, left: STy, right: STy, at: Cursor<'t>) -> Result<(STy, Cursor<'t>), Stop>
+    ensures { Gives (λ x. (ty_of x.0, state_of x.1)) result (sum_end (first ∷ []) (ty_of left) (ty_of right) (state_of at.entry)) }
+{
     let at = take_mark(at, Mark::ParenClose)?;
     let span = Span {
         from: first.from,
@@ -178,9 +194,9 @@ fn read_sum<'t>(alloc: Global, first: Span, at: Cursor<'t>, later: bool, nesting
 }
 
 #[cycle(types)]
-fn type_behind_word<'t>(alloc: Global, first: Span, name: SWord, at: Cursor<'t>, later: bool, nesting: u32) -> Result<(STy, Cursor<'t>), Stop>
+fn type_behind_word<'t>(alloc: Global, first: Span, word: &Text, place: Span, at: Cursor<'t>, later: bool, nesting: u32) -> Result<(STy, Cursor<'t>), Stop>
     requires { nesting ≤ 999 }
-    ensures { Gives (λ x. (ty_of x.0, state_of x.1)) result (behind limited (read limited) (delta_ty_word later nesting name.word) (first ∷ name.span ∷ []) (state_of at.entry)) }
+    ensures { Gives (λ x. (ty_of x.0, state_of x.1)) result (behind limited (read limited) (delta_ty_word later nesting word.now) (first ∷ place ∷ []) (state_of at.entry)) }
 {
     let [second, rest @ ..] = at.rest else {
         return Err(syntax(0));
@@ -190,20 +206,31 @@ fn type_behind_word<'t>(alloc: Global, first: Span, name: SWord, at: Cursor<'t>,
         end: second.span.to,
     };
     match second.kind {
-        Kind::Mark(Mark::Colon) => read_tuple_type(alloc, first, name, next, later, nesting),
-        Kind::Mark(Mark::Plus) => read_sum_of_word(alloc, first, name, next, later, nesting),
+        Kind::Mark(Mark::Colon) => read_tuple_type(alloc, first, word, place, next, later, nesting),
+        Kind::Mark(Mark::Plus) => read_sum_of_word(alloc, first, word, place, next, later, nesting),
         _ => Err(syntax(at.rest.len())),
     }
 }
 
 #[cycle(types)]
-fn read_tuple_type<'t>(alloc: Global, first: Span, name: SWord, at: Cursor<'t>, later: bool, nesting: u32) -> Result<(STy, Cursor<'t>), Stop>
+fn read_tuple_type<'t>(alloc: Global, first: Span, word: &Text, place: Span, at: Cursor<'t>, later: bool, nesting: u32) -> Result<(STy, Cursor<'t>), Stop>
     requires { nesting ≤ 999 }
-    ensures { Gives (λ x. (ty_of x.0, state_of x.1)) result (tuple_ty_form later nesting name.word (first ∷ name.span ∷ []) (state_of at.entry)) }
+    ensures { Gives (λ x. (ty_of x.0, state_of x.1)) result (tuple_ty_form later nesting word.now (first ∷ place ∷ []) (state_of at.entry)) }
 {
     let (part, at) = read_type(alloc, at, later, nesting + 1)?;
     let at = take_mark(at, Mark::Comma)?;
     let (more, last, at) = read_fields(alloc, at, later, nesting + 1)?;
+    end_tuple_type(alloc, first, word, place, part, more, last, at)
+}
+
+/// The tuple type of these parts, which ends before this place.
+fn end_tuple_type<'t>(alloc: Global, first: Span, word: &Text, place: Span, part: STy, more: Vec<SField>, last: Last, at: Cursor<'t>) -> Result<(STy, Cursor<'t>), Stop>
+    ensures { Gives (λ x. (ty_of x.0, state_of x.1)) result (done (tuple_ty (over (first ∷ []) at.entry.end) (word_at word.now place) (ty_of part) (fields_of_list (map field_of more.items)) (last_of last)) (state_of at.entry)) }
+{
+    let name = SWord {
+        word: copy_word(alloc, word)?,
+        span: place,
+    };
     let span = Span {
         from: first.from,
         to: at.end,
@@ -213,14 +240,24 @@ fn read_tuple_type<'t>(alloc: Global, first: Span, name: SWord, at: Cursor<'t>, 
 }
 
 #[cycle(types)]
-fn read_sum_of_word<'t>(alloc: Global, first: Span, name: SWord, at: Cursor<'t>, later: bool, nesting: u32) -> Result<(STy, Cursor<'t>), Stop>
+fn read_sum_of_word<'t>(alloc: Global, first: Span, word: &Text, place: Span, at: Cursor<'t>, later: bool, nesting: u32) -> Result<(STy, Cursor<'t>), Stop>
     requires { nesting ≤ 999 }
-    ensures { Gives (λ x. (ty_of x.0, state_of x.1)) result (sum_word_form later nesting name.word (first ∷ name.span ∷ []) (state_of at.entry)) }
+    ensures { Gives (λ x. (ty_of x.0, state_of x.1)) result (sum_word_form later nesting word.now (first ∷ place ∷ []) (state_of at.entry)) }
 {
     let (right, at) = read_type(alloc, at, later, nesting + 1)?;
+    end_sum_of_word(alloc, first, word, place, right, at)
+}
+
+/// The sum of a word and a type, where its parenthesis closes.
+fn end_sum_of_word<'t>(alloc: Global, first: Span, word: &Text, place: Span, right: STy, at: Cursor<'t>) -> Result<(STy, Cursor<'t>), Stop>
+    ensures { Gives (λ x. (ty_of x.0, state_of x.1)) result (sum_end (first ∷ []) (abbr place (word_at word.now place)) (ty_of right) (state_of at.entry)) }
+{
     let at = take_mark(at, Mark::ParenClose)?;
-    let word = name.span;
-    let left = Box::new(alloc, STy::Abbr { name, span: word })?;
+    let name = SWord {
+        word: copy_word(alloc, word)?,
+        span: place,
+    };
+    let left = Box::new(alloc, STy::Abbr { name, span: place })?;
     let right = Box::new(alloc, right)?;
     let span = Span {
         from: first.from,
@@ -268,7 +305,9 @@ fn next_field_step<'t>(alloc: Global, at: Cursor<'t>, later: bool, nesting: u32)
     };
     match &first.kind {
         Kind::Word(word) => {
-            message_fits(nesting, at.rest.len())?;
+            if nesting > MESSAGE_LIMIT {
+                return Err(too_deep(at.rest.len()));
+            }
             let name = SWord {
                 word: copy_word(alloc, word)?,
                 span: first.span,

@@ -5,33 +5,16 @@ ghost use Rattle.spi_lex.specs.Lexing.{kinds_of, is_version_2};
 ghost use Rattle.spi_tree.specs.Formed.{AreWordsFit};
 ghost use Rattle.spi_tree.specs.Views.{decl_of, file_of};
 ghost use Rattle.spi_parse.specs.Exact.{Reads, Parses};
-ghost use Rattle.spi_parse.specs.Faults.{fault_at};
 ghost use Rattle.spi_parse.specs.Formed.{whole_decl, IsWholeDecl};
 
 use crate::ParseFault;
 use crate::cursor::{Cursor, syntax};
 use crate::declarations::declaration;
-use crate::fault::{Fault, Stop};
 use crate::files::read_file;
+use crate::parts::fault_of;
 use spi_lex::Token;
 use spi_tree::{Decl, Tree};
 use std::alloc::Global;
-
-/// The fault by the number of its token, among so many.
-fn fault_of(count: usize, stop: Stop) -> ParseFault
-    requires { count ≤ 16_777_216 }
-    ensures { result ≡ fault_at count stop }
-{
-    match stop {
-        Stop::NoMemory => ParseFault::NoMemory,
-        Stop::Fault(Fault::Syntax(left)) => ParseFault::Syntax {
-            token: count.saturating_sub(left) as u32,
-        },
-        Stop::Fault(Fault::TooDeep(left)) => ParseFault::TooDeep {
-            token: count.saturating_sub(left) as u32,
-        },
-    }
-}
 
 /// The tree whose tokens these are, with the spans of its nodes and words, or the first fault.
 ///

@@ -1,11 +1,11 @@
-use Rattle.std.proofs.Common.{ℕ, ◌+◌, ◌-◌, ◌*◌}
+use Rattle.std.proofs.Common.{◌+◌, ◌-◌, ◌*◌}
 use Rattle.spi_parse.proofs.processes.+processes.Given as goal
 
-abbrev pub decreases-process : goal.decreases-process
-decreases-process l = 20 * (501 - l.level) + 5
+abbrev pub decreases-parallel : goal.decreases-parallel
+decreases-parallel l = 20 * (501 - l.level) + 5
 
-abbrev pub decreases-process_step : goal.decreases-process_step
-decreases-process_step l = 20 * (501 - l.level) + 4
+abbrev pub decreases-parallel_step : goal.decreases-parallel_step
+decreases-parallel_step l = 20 * (501 - l.level) + 4
 
 abbrev pub decreases-par_rest : goal.decreases-par_rest
 decreases-par_rest l = 20 * (501 - l.level) + 3

@@ -22,7 +22,7 @@ use spi_tree::{SMsg, SProc, STy};
 use std::alloc::Global;
 
 /// The fault by the number of its token, among so many.
-fn fault_of(count: usize, stop: Stop) -> ParseFault
+pub fn fault_of(count: usize, stop: Stop) -> ParseFault
     requires { count ≤ 16_777_216 }
     ensures { result ≡ fault_at count stop }
 {
