@@ -19,8 +19,8 @@ mod whole;
 
 pub use fault::ParseFault;
 pub use parts::{message_at, one_tree, process_at, type_at};
-pub use whole::{decl_at, parse};
 use std::alloc::AllocError;
+pub use whole::{decl_at, parse};
 
 /// Memory ran out.
 pub type NoMemory = AllocError;
