@@ -9,6 +9,7 @@ mod fault;
 mod files;
 mod forms;
 mod heads;
+mod laws;
 mod messages;
 mod processes;
 mod reading;
@@ -17,6 +18,7 @@ mod types;
 mod whole;
 
 pub use fault::ParseFault;
+pub use laws::one_placed_tree;
 pub use whole::{decl_at, parse};
 use std::alloc::AllocError;
 
