@@ -9,6 +9,7 @@ mod fault;
 mod files;
 mod forms;
 mod heads;
+mod laws;
 mod messages;
 mod parts;
 mod processes;
@@ -18,6 +19,7 @@ mod types;
 mod whole;
 
 pub use fault::ParseFault;
+pub use laws::one_placed_tree;
 pub use parts::{message_at, one_tree, process_at, type_at};
 use std::alloc::AllocError;
 pub use whole::{decl_at, parse};
