@@ -1,4 +1,4 @@
--- An environment whose types are numbers of a store, and the environment that it stands for.
+-- An environment whose types are numbers of a store, and the environments that it stands for.
 use Rattle.std.specs.Prelude.{◌≡◌, ℕ, ◌+◌, ◌<◌, ◌≤◌, ◌^◌, List, [], ◌∷◌, length}
 use Rattle.spi_term.specs.Term.{Ty}
 use Rattle.spi_term.specs.Spelling.{ty_nodes}
@@ -18,22 +18,18 @@ pub data StandFor (s : Store) : List TyId → Env → Type 0 where
   stand_none : StandFor s [] []
   stand_next : {i : TyId} {t : Ty} {ids : List TyId} {env : Env} → Means s i.place t → StandFor s ids env → StandFor s (i ∷ ids) (t ∷ env)
 
--- the judge's environment is env, up to equal counts of atoms within each Nonce
+-- The judge's environment is env. A number means its type up to equal counts of atoms within each Nonce, so a judge
+-- stands for several environments, and what it answers is so in each of them.
 abbrev pub Stands : Numbered → Env → Type 0
 Stands j env = StandFor j.store j.types env
 
--- a number that the store gave for a type
-pub record IsGiven (s : Store) (i : ℕ) : Type 0 where
-  pub type : Ty
-  pub means : Means s i type
-
--- and with few enough nodes to be judged where so many names are in scope
+-- a number that the store gave for a type with few enough nodes to be judged where so many names are in scope
 pub record IsGivenSmall (s : Store) (i names : ℕ) : Type 0 where
   pub type : Ty
   pub means : Means s i type
   pub few : names + ty_nodes type < 2 ^ 32
 
--- the environment is as before and each number means what it meant
+-- the environment is as before, and each number means what it meant
 pub record IsKept (old new : Numbered) : Type 0 where
   pub store : Keeps old.store new.store
   pub free : new.free ≡ old.free
