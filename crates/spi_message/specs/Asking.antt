@@ -1,6 +1,6 @@
 -- Questions over shared terms: what is asked for, and what is answered of each environment that the numbers stand for.
 use Rattle.std.specs.Prelude.{◌≡◌, ℕ, ◌+◌, ◌<◌, ◌^◌, Bool, List, map, length, Some, None}
-use Rattle.spi_term.specs.Term.{Message, Ty}
+use Rattle.spi_term.specs.Term.{Message, Ty, key}
 use Rattle.spi_term.specs.Substitution.{effect_map}
 use Rattle.spi_rules.specs.Environment.{Env}
 use Rattle.spi_intern.specs.declared.messages.MsgId.{MsgId}
@@ -12,7 +12,7 @@ use Rattle.spi_intern.specs.Messages.{message_at}
 use Rattle.spi_intern.specs.Meaning.{Means}
 use Rattle.spi_message.specs.Judging.{StandFor}
 use Rattle.spi_message.specs.Filling.{AllStay, AreBelow, AtomsAreBelow, values_of, atom_at, fill, filled, ty_size}
-use Rattle.spi_message.specs.Tests.{typed, labelled, good_effect, good, key_of}
+use Rattle.spi_message.specs.Tests.{typed, labelled, good_effect, good, key_in, key_of}
 
 -- the numbers stand for some environment
 pub record IsEnvironment (s : Store) (ids : List TyId) : Type 0 where
@@ -20,18 +20,25 @@ pub record IsEnvironment (s : Store) (ids : List TyId) : Type 0 where
   pub stands : StandFor s ids env
 
 -- a type, in an environment, with values for the binders that it stands under
-pub record IsAsked (s : Store) (env : List TyId) (t : TyId) (values : List MsgId) : Type 0 where
+pub record IsAsked (s : Store) (env : List TyId) (t : TyId) (vs : List MsgId) : Type 0 where
   pub names : IsEnvironment s env
   pub given : IsGiven s t.place
-  pub values : AreBelow values (length s.messages)
+  pub values : AreBelow vs (length s.messages)
 
 -- the message has the type
-pub record IsTyped (s : Store) (env : List TyId) (n : Message) (t : TyId) (values : List MsgId) (b : Bool) : Type 0 where
-  pub at : (e : Env) (u : Ty) → StandFor s env e → Means s t.place u → AllStay (values_of s.messages values) → b ≡ typed n e (filled (values_of s.messages values) u)
+pub record IsTyped (s : Store) (env : List TyId) (n : Message) (t : TyId) (vs : List MsgId) (b : Bool) : Type 0 where
+  pub at : (e : Env) (u : Ty) → StandFor s env e → Means s t.place u → AllStay (values_of s.messages vs) → b ≡ typed n e (filled (values_of s.messages vs) u)
 
 -- the message is a label
 pub record IsLabelled (s : Store) (env : List TyId) (n : Message) (b : Bool) : Type 0 where
   pub at : (e : Env) → StandFor s env e → b ≡ labelled n e
+
+-- the number of T, where the type is Key(T)
+pub record IsKeyFor (s : Store) (t p : TyId) : Type 0 where
+  pub at : (u : Ty) → Means s t.place u → (v : Ty) × (u ≡ key v) × Means s p.place v
+
+pub record IsNoKey (s : Store) (t : TyId) : Type 0 where
+  pub at : (u : Ty) → Means s t.place u → key_in (Some u) ≡ None
 
 -- the number of T, where the message is a name of type Key(T)
 pub record IsPayload (s : Store) (env : List TyId) (n : Message) (p : TyId) : Type 0 where
@@ -41,20 +48,20 @@ pub record IsNoPayload (s : Store) (env : List TyId) (n : Message) : Type 0 wher
   pub at : (e : Env) → StandFor s env e → key_of e n ≡ None
 
 -- atoms of a Nonce type
-pub record IsAskedAtoms (s : Store) (env : List TyId) (atoms : List AtomId) (values : List MsgId) : Type 0 where
+pub record IsAskedAtoms (s : Store) (env : List TyId) (ids : List AtomId) (vs : List MsgId) : Type 0 where
   pub names : IsEnvironment s env
-  pub atoms : AtomsAreBelow atoms (length s.messages)
-  pub values : AreBelow values (length s.messages)
+  pub atoms : AtomsAreBelow ids (length s.messages)
+  pub values : AreBelow vs (length s.messages)
 
-pub record AreGood (s : Store) (env : List TyId) (atoms : List AtomId) (values : List MsgId) (b : Bool) : Type 0 where
-  pub at : (e : Env) → StandFor s env e → b ≡ good_effect (effect_map (fill (values_of s.messages values) 0) (map (atom_at s.messages) atoms)) e
+pub record AreGood (s : Store) (env : List TyId) (ids : List AtomId) (vs : List MsgId) (b : Bool) : Type 0 where
+  pub at : (e : Env) → StandFor s env e → b ≡ good_effect (effect_map (fill (values_of s.messages vs) 0) (map (atom_at s.messages) ids)) e
 
 -- a type of which each binder takes one more name
-pub record IsAskedGood (s : Store) (env : List TyId) (t : TyId) (values : List MsgId) : Type 0 where
+pub record IsAskedGood (s : Store) (env : List TyId) (t : TyId) (vs : List MsgId) : Type 0 where
   pub names : IsEnvironment s env
   pub given : IsGiven s t.place
-  pub values : AreBelow values (length s.messages)
+  pub values : AreBelow vs (length s.messages)
   pub few : length env + ty_size given.type < 2 ^ 32
 
-pub record IsGood (s : Store) (env : List TyId) (t : TyId) (values : List MsgId) (b : Bool) : Type 0 where
-  pub at : (e : Env) (u : Ty) → StandFor s env e → Means s t.place u → AllStay (values_of s.messages values) → b ≡ good e (filled (values_of s.messages values) u)
+pub record IsGood (s : Store) (env : List TyId) (t : TyId) (vs : List MsgId) (b : Bool) : Type 0 where
+  pub at : (e : Env) (u : Ty) → StandFor s env e → Means s t.place u → AllStay (values_of s.messages vs) → b ≡ good e (filled (values_of s.messages vs) u)

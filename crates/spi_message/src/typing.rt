@@ -7,7 +7,7 @@ ghost use Rattle.spi_intern.specs.Given.{IsGiven};
 ghost use Rattle.spi_intern.specs.Messages.{message_at};
 ghost use Rattle.spi_intern.specs.Meaning.{Means, Keeps};
 ghost use Rattle.spi_message.specs.Filling.{AreBelow};
-ghost use Rattle.spi_message.specs.Asking.{IsEnvironment, IsAsked, IsTyped, IsLabelled, IsPayload, IsNoPayload};
+ghost use Rattle.spi_message.specs.Asking.{IsEnvironment, IsAsked, IsTyped, IsLabelled, IsKeyFor, IsNoKey, IsPayload, IsNoPayload};
 ghost use Rattle.spi_message.specs.Tests.{is_un, is_unit};
 
 use crate::NoMemory;
@@ -45,7 +45,11 @@ fn is_unit_type(store: &Store, t: TyId) -> bool
 }
 
 // The T of a type Key(T).
-fn payload_of(store: &Store, t: TyId) -> Option<TyId> {
+fn payload_of(store: &Store, t: TyId) -> Option<TyId>
+    requires { IsGiven store.now t.place }
+    ensures some { IfSome result (IsKeyFor store.now t) }
+    ensures none { IfNone result (IsNoKey store.now t) }
+{
     match store.ty_part(t) {
         TyPart::Un => None,
         TyPart::Unit => None,
