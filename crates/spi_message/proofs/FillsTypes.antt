@@ -51,7 +51,7 @@ effect_push : (f : Message → Message) (g : AtomId → Atom) (xs : List AtomId)
 effect_push f g [] x = refl
 effect_push f g (y ∷ xs) x = ap (λ zs. atom_map f (g y) ∷ zs) (effect_push f g xs x)
 
-atom_at_keeps : {ms ns : List Message} (a : AtomId) → KeepsAll ms ns → (message_in a).place < length ms → atom_at ns a ≡ atom_at ms a
+pub atom_at_keeps : {ms ns : List Message} (a : AtomId) → KeepsAll ms ns → (message_in a).place < length ms → atom_at ns a ≡ atom_at ms a
 atom_at_keeps (End m) k h = ap ends (message_keeps m k h)
 atom_at_keeps (Check m) k h = ap checks (message_keeps m k h)
 atom_at_keeps (Many m) k h = ap many (message_keeps m k h)

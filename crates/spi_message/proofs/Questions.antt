@@ -328,7 +328,7 @@ pair_not {s} {a = a} {d = d} {vs = vs} t h q = record {
       ap (λ b. b && typed d e (ty_put a (ty_map (fill us) 1 z.1))) (sym f) ∙ ap (λ v. typed (pair a d) e (filled us v)) (sym z.2);
 }
 
-values_push : (ms : List Message) (vs : List MsgId) (x : MsgId) → values_of ms (vs ++ x ∷ []) ≡ values_of ms vs ++ message_at ms x ∷ []
+pub values_push : (ms : List Message) (vs : List MsgId) (x : MsgId) → values_of ms (vs ++ x ∷ []) ≡ values_of ms vs ++ message_at ms x ∷ []
 values_push ms [] x = refl
 values_push ms (v ∷ vs) x = ap (λ l. message_at ms v ∷ l) (values_push ms vs x)
 

@@ -1,15 +1,15 @@
 // Good types over shared terms.
 
-ghost use Rattle.std.specs.Prelude.{◌≡◌, ◌∷◌, [], map, length, IfOk, OnOk};
+ghost use Rattle.std.specs.Prelude.{◌≡◌, ◌<◌, length, IfOk, OnOk};
 ghost use Rattle.spi_intern.specs.Meaning.{Keeps};
-ghost use Rattle.spi_message.specs.Filling.{AtomsAreBelow};
-ghost use Rattle.spi_message.specs.Asking.{IsAskedAtoms, AreGood, IsAskedGood, IsGood};
+ghost use Rattle.spi_message.specs.Filling.{message_in, AreBelow};
+ghost use Rattle.spi_message.specs.Asking.{IsEnvironment, IsGoodAtom, IsAskedAtoms, AreGood, IsAskedGood, IsGood};
 
 use crate::NoMemory;
 use crate::filling::{filled_message, filled_type};
 use crate::typing::{has_type, is_label};
-use spi_intern::{AtomId, MsgId, Store, TyId, TyPart};
-use spi_term::{Msg, Ty};
+use spi_intern::{AtomId, MsgId, MsgPart, Store, TyId, TyPart};
+use spi_term::Ty;
 use std::alloc::Global;
 
 fn is_good_atom(
@@ -19,8 +19,10 @@ fn is_good_atom(
     a: AtomId,
     values: &[MsgId],
 ) -> Result<bool, NoMemory>
-    requires { IsAskedAtoms store.old env.now (a ∷ []) values.now }
-    ensures answer { IfOk result (AreGood store.old env.now (a ∷ []) values.now) }
+    requires atom { (message_in a).place < length store.old.messages }
+    requires names { IsEnvironment store.old env.now }
+    requires values { AreBelow values.now (length store.old.messages) }
+    ensures answer { IfOk result (IsGoodAtom store.old env.now a values.now) }
     ensures kept { Keeps store.old store.new }
 {
     match a {
@@ -83,7 +85,7 @@ pub fn is_good_type(
             }
             let count = env.len();
             let passed = values.len();
-            let name = store.message(&Msg::Name(count as u32))?;
+            let name = store.message_over(MsgPart::Name(count as u32))?;
             let outer = filled_type(alloc, store, values, 0, first)?;
             values.push(name)?;
             env.push(outer)?;
