@@ -12,6 +12,7 @@ use Rattle.spi_rules.specs.Good.{GoodTy}
 use Rattle.spi_intern.specs.Given.{IsGiven}
 use Rattle.spi_intern.specs.Messages.{message_at}
 use Rattle.spi_intern.specs.Meaning.{Means, Keeps}
+use Rattle.spi_intern.proofs.Meanings.{means_keeps}
 use Rattle.spi_intern.specs.declared.messages.MsgId.{MsgId}
 use Rattle.spi_intern.specs.declared.types.TyId.{TyId}
 use Rattle.spi_intern.specs.declared.store.Store.{Store}
@@ -71,6 +72,9 @@ free_next {s} {ids} {js} {t} n h m p =
 
 pub free_all : {s : Store} {ids : List TyId} (n f : ℕ) → StandFor s ids (untrusted n) → n ≡ f → StandFor s ids (untrusted f)
 free_all {s} {ids} n f h e = subst (λ k. StandFor s ids (untrusted k)) e h
+
+pub free_length : {s : Store} {ids : List TyId} (f : ℕ) → StandFor s ids (untrusted f) → length ids ≡ f
+free_length f h = stand_length h ∙ replicate_length f un
 
 pub free_judge : {s : Store} {ids : List TyId} (f : ℕ) → f ≤ 100000 → StandFor s ids (untrusted f) → IsJudge s f ids
 free_judge f l h =
@@ -132,3 +136,7 @@ small_asked {s} {t = t} h g q = record {
   values = subst (λ us. AreBelow us (length s.messages)) (sym q) (none_below (length s.messages));
   few = let e = means_size s t g.means in let w = size_within g.type in let l = g.few in omega arith;
 }
+
+-- a number that was given stays one, also for a judge
+pub given_in : {j l : Numbered} (i : ℕ) (t : Ty) → IsKept j l → Means j.store i t → IsGiven l.store i
+given_in i t k m = record { type = t; means = means_keeps k.store m }

@@ -1,7 +1,7 @@
 -- Answers to questions over shared terms, form by form.
 use Rattle.std.proofs.Common.{◌≡◌, ℕ, zero, suc, ◌+◌, ◌<◌, Bool, true, false, ◌&&◌, ◌||◌, List, [], ◌∷◌, ◌++◌, Option, Some, None, length, refl, sym, ap, subst, ◌∙◌, arith, Result, Ok, Err, IfOk}
 use Rattle.std.specs.Prelude.{slice_get, nat_lt, ltb, IfSome, IfNone, nat_eq, ◌↔◌}
-use Rattle.std.proofs.lemmas.Bool.{false≢true, eqb-true, eq-eqb, ne_eqb}
+use Rattle.std.proofs.lemmas.Bool.{false≢true, eqb-true, eq-eqb}
 use Rattle.spi_term.specs.Term.{Message, bound, name, unit, pair, in_left, in_right, enc, hash, Ty, un, unit_ty, pair_ty, sum_ty, key, nonce}
 use Rattle.spi_term.specs.SameTy.{SameTy}
 use Rattle.spi_term.specs.Substitution.{put, ty_map, ty_put}
@@ -26,6 +26,7 @@ use Rattle.spi_message.specs.Judging.{StandFor}
 use Rattle.spi_message.specs.Filling.{fill, filled, AllStay, values_of, AreBelow, IsDepth, FillsTy}
 use Rattle.spi_message.specs.Asking.{IsEnvironment, IsAsked, IsTyped, IsLabelled, IsKeyFor, IsNoKey, IsPayload, IsNoPayload}
 use Rattle.spi_message.specs.Tests.{is_un, is_unit, as_name, key_in, key_of, by_key, typed, labelled}
+use Rattle.spi_message.proofs.Deciding.{and_false, key_alone}
 use Rattle.spi_message.proofs.Fills.{message_keeps, below_keeps, values_keep, all_below_keeps, message_there, none_below, Tells}
 use Rattle.spi_message.proofs.FillsTypes.{TwoTys, OneTy, given_keeps}
 use Rattle.spi_message.proofs.Standing.{stand_keeps, stand_at, stand_none_at, environment_keeps, stand_length}
@@ -387,37 +388,9 @@ hash_labelled s env w (Ok b) h = record { at = λ e st. h.at e st ∙ sym (ap (�
 hash_labelled s env w (Err e) h = tt
 
 -- ciphertexts
-key_in_some : (o : Option Ty) (t : Ty) → key_in o ≡ Some t → as_name o un ≡ false
-key_in_some None t h = refl
-key_in_some (Some un) t h = absurd cc
-key_in_some (Some unit_ty) t h = absurd cc
-key_in_some (Some (pair_ty a b)) t h = absurd cc
-key_in_some (Some (sum_ty a b)) t h = absurd cc
-key_in_some (Some (key s)) t h = refl
-key_in_some (Some (nonce es)) t h = absurd cc
-
--- a name of a Key type isn't of type Un
-key_is_not_un : (e : Env) (n : Message) (t : Ty) → key_of e n ≡ Some t → typed n e un ≡ false
-key_is_not_un e (bound i) t h = refl
-key_is_not_un e (name x) t h = key_in_some (slice_get e x) t h
-key_is_not_un e unit t h = absurd cc
-key_is_not_un e (pair a b) t h = absurd cc
-key_is_not_un e (in_left a) t h = absurd cc
-key_is_not_un e (in_right a) t h = absurd cc
-key_is_not_un e (enc a b) t h = absurd cc
-key_is_not_un e (hash a) t h = absurd cc
-
-and_false : (b : Bool) → (b && false) ≡ false
-and_false true = refl
-and_false false = refl
-
 and_true : (b : Bool) → (b && true) ≡ b
 and_true true = refl
 and_true false = refl
-
-or_false : (b : Bool) → (b || false) ≡ b
-or_false true = refl
-or_false false = refl
 
 pub by_payload : {E : Type 0} {s : Store} {env : List TyId} (a : Message) {k : Message} {p : TyId} {vs : List MsgId} → IsPayload s env k p → vs ≡ [] → (o : Result Bool E) → IfOk o (IsTyped s env a p vs) → IfOk o (IsLabelled s env (enc a k))
 by_payload {s = s} {env = env} a {k = k} {p = p} w q (Ok b) h = record {
@@ -426,9 +399,7 @@ by_payload {s = s} {env = env} a {k = k} {p = p} w q (Ok b) h = record {
       let g = subst (λ us. IsTyped s env a p us b) q h in
       g.at e z.0 st z.2 none_stay
       ∙ ap (typed a e) (filled_none z.0)
-      ∙ sym (or_false (typed a e z.0))
-      ∙ ap (λ c. typed a e z.0 || c) (sym (and_false (typed a e un)) ∙ ap (λ c. typed a e un && c) (sym (key_is_not_un e k z.0 z.1)))
-      ∙ ap (λ o. by_key (typed a e) o || (typed a e un && typed k e un)) (sym z.1);
+      ∙ key_alone e a k z.0 z.1;
 }
 by_payload a w q (Err e) h = tt
 

@@ -51,6 +51,7 @@ impl Judge {
     pub fn new(alloc: Global, free: u32) -> Result<Judge, NoMemory>
         requires { free ≤ 100_000 }
         ensures free { IfOk result (λ j. j.free ≡ free) }
+        ensures length { IfOk result (λ j. length j.types ≡ free) }
         ensures names { IfOk result (λ j. Stands j (untrusted free)) }
     {
         let mut store = Store::new(alloc);
@@ -66,6 +67,7 @@ impl Judge {
     /// The number of a message, as `Store::message` of the judge's store gives it.
     pub fn message(&mut self, m: &Msg) -> Result<MsgId, NoMemory>
         ensures at { IfOk result (λ id. slice_get self.new.store.messages id.place ≡ Some (message m.now)) }
+        ensures within { IfOk result (λ id. id.place < length self.new.store.messages) }
         ensures equal { IfOk result (λ id. (j : ℕ) (n : Term.Message) → slice_get self.new.store.messages j ≡ Some n → (id.place ≡ j) ↔ (message m.now ≡ n)) }
         ensures adds { OnOk result (Adds self.old.store self.new.store (a_message (message m.now))) }
         ensures kept { IsKept self.old self.new }
