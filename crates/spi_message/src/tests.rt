@@ -170,21 +170,21 @@ fn opened(alloc: Global, judge: &mut Judge, t: &Ty, m: &Msg) -> Result<TyId, NoM
     judge.opened(alloc, t, m)
 }
 
-// Whether the type with the first name for its binder has the number of the type that ends this message.
-fn is_opened_to(alloc: Global, m: Msg) -> Result<bool, NoMemory> {
+// Whether the first type has, with the first name for its binder, the number of the second.
+fn is_opened_to(alloc: Global, under: &Ty, other: &Ty) -> Result<bool, NoMemory> {
     let mut judge = Judge::new(alloc, 1)?;
-    let under = ended(alloc, Msg::Bound(0))?;
-    let first = opened(alloc, &mut judge, &under, &Msg::Name(0))?;
-    let other = ended(alloc, m)?;
-    let second = judge.ty(alloc, &other)?;
+    let first = opened(alloc, &mut judge, under, &Msg::Name(0))?;
+    let second = judge.ty(alloc, other)?;
     Ok(first == second)
 }
 
 #[test]
 fn an_opened_type_has_its_number(rt: HostRuntime) -> Result<(), Fail> {
     let alloc = rt.alloc();
-    assert!(rt; is_opened_to(alloc, Msg::Name(0))?);
-    assert!(rt; !is_opened_to(alloc, Msg::Unit)?);
+    let under = ended(alloc, Msg::Bound(0))?;
+    let named = ended(alloc, Msg::Name(0))?;
+    assert!(rt; is_opened_to(alloc, &under, &named)?);
+    assert!(rt; !is_opened_to(alloc, &named, &under)?);
     Ok(())
 }
 
@@ -196,13 +196,23 @@ fn judge_with_nonce(alloc: Global) -> Result<Judge, NoMemory> {
     Ok(judge)
 }
 
-// Whether the pair of a name with the third has the type of pairs of which the second part ends the first.
+// Pairs of which the second part ends the first.
+fn ended_pairs(alloc: Global) -> Result<Ty, NoMemory> {
+    let first = Box::new(alloc, Ty::Un)?;
+    let second = ended(alloc, Msg::Bound(0))?;
+    Ok(Ty::Pair(first, Box::new(alloc, second)?))
+}
+
+// The pair of a name with the third.
+fn with_third(alloc: Global, x: u32) -> Result<Msg, NoMemory> {
+    let first = Box::new(alloc, Msg::Name(x))?;
+    Ok(Msg::Pair(first, Box::new(alloc, Msg::Name(2))?))
+}
+
 fn is_pair_typed(alloc: Global, x: u32) -> Result<bool, NoMemory> {
     let mut judge = judge_with_nonce(alloc)?;
-    let first = Box::new(alloc, Ty::Un)?;
-    let pairs = Ty::Pair(first, Box::new(alloc, ended(alloc, Msg::Bound(0))?)?);
-    let first = Box::new(alloc, Msg::Name(x))?;
-    let pair = Msg::Pair(first, Box::new(alloc, Msg::Name(2))?);
+    let pairs = ended_pairs(alloc)?;
+    let pair = with_third(alloc, x)?;
     is_typed(alloc, &mut judge, &pair, &pairs)
 }
 
