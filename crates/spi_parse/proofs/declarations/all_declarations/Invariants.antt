@@ -1,0 +1,12 @@
+use Rattle.std.proofs.Common.{◌≡◌, ℕ, ◌+◌, ◌-◌, ◌*◌, map, length}
+use Rattle.spi_parse.specs.Places.{state_of}
+use Rattle.spi_parse.specs.Reading.{read, limited, front}
+use Rattle.spi_tree.specs.Views.{decl_of}
+use Rattle.spi_parse.specs.Table.{decls}
+use Rattle.spi_parse.proofs.declarations.all_declarations.Given as goal
+
+abbrev pub invariant-items : goal.invariant-items
+invariant-items l = front (map decl_of l.more.items) (read limited (decls l.later) (state_of l.at)) ≡ read limited (decls l.later) (state_of l.fn.start)
+
+abbrev pub decreases-items : goal.decreases-items
+decreases-items l = length l.at.rest.now

@@ -1,0 +1,11 @@
+use Rattle.std.proofs.Common.{◌≡◌, ℕ, ◌+◌, ◌-◌, ◌*◌, map, length}
+use Rattle.spi_parse.specs.Places.{state_of}
+use Rattle.spi_parse.specs.Reading.{read, limited, front}
+use Rattle.spi_parse.specs.Table.{words}
+use Rattle.spi_parse.proofs.declarations.more_words.Given as goal
+
+abbrev pub invariant-items : goal.invariant-items
+invariant-items l = front l.more.items (read limited words (state_of l.at)) ≡ read limited words (state_of l.fn.start)
+
+abbrev pub decreases-items : goal.decreases-items
+decreases-items l = length l.at.rest.now

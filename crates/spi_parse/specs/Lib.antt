@@ -1,0 +1,13 @@
+pub mod Rules
+pub mod Formed
+pub mod Bare
+pub mod Table
+pub mod Tokens
+pub mod Reading
+pub mod Exact
+pub mod Faults
+pub mod Places
+pub mod FormMoves
+pub mod Shapes
+pub mod Wholes
+pub mod Ends

@@ -1,0 +1,198 @@
+//! Whole files.
+
+ghost use Rattle.std.specs.Prelude.{◌≡◌, [], ◌∷◌};
+ghost use Rattle.spi_tree.specs.Views.{opponent_of, schedule_of, derivation_of, file_of};
+ghost use Rattle.spi_parse.specs.Places.{state_of};
+ghost use Rattle.spi_parse.specs.Wholes.{body_of, first_form, later_form};
+ghost use Rattle.spi_parse.specs.Table.{opponent_tail, schedule_tail, derivation_tail, body, file, file_from};
+ghost use Rattle.spi_parse.specs.Reading.{Gives, read, step, limited};
+
+use crate::cursor::{Cursor, syntax};
+use crate::declarations::all_declarations;
+use crate::derivations::derivation;
+use crate::fault::Stop;
+use crate::processes::process;
+use crate::reading::{take_mark, take_two};
+use crate::schedules::all_steps;
+use spi_lex::{Kind, Mark, Reserved};
+use spi_text::Span;
+use spi_tree::{Decl, SDeriv, SProc, SStep, Tree};
+use std::alloc::Global;
+
+/// The parts of a file behind its version.
+#[derive(Drop)]
+pub struct FileParts {
+    pub decls: Vec<Decl>,
+    pub process: SProc,
+    pub opponent: Option<SProc>,
+    pub schedule: Option<Vec<SStep>>,
+    pub derivation: Option<SDeriv>,
+}
+
+fn opponent<'t>(alloc: Global, at: Cursor<'t>, later: bool) -> Result<(Option<SProc>, Cursor<'t>), Stop>
+    ensures { Gives (λ x. (opponent_of x.0, state_of x.1)) result (read limited (opponent_tail later) (state_of at.entry)) }
+{
+    opponent_step(alloc, at, later)
+}
+
+fn opponent_step<'t>(alloc: Global, at: Cursor<'t>, later: bool) -> Result<(Option<SProc>, Cursor<'t>), Stop>
+    ensures { Gives (λ x. (opponent_of x.0, state_of x.1)) result (step limited (read limited) (opponent_tail later) (state_of at.entry)) }
+{
+    let [first, rest @ ..] = at.rest else {
+        return Ok((None, at));
+    };
+    let next = Cursor {
+        rest,
+        end: first.span.to,
+    };
+    match first.kind {
+        Kind::Reserved(Reserved::Opponent) => {
+            let (part, at) = process(alloc, next, later, 0)?;
+            Ok((Some(part), at))
+        }
+        _ => Ok((None, at)),
+    }
+}
+
+fn schedule<'t>(alloc: Global, at: Cursor<'t>) -> Result<(Option<Vec<SStep>>, Cursor<'t>), Stop>
+    ensures { Gives (λ x. (schedule_of x.0, state_of x.1)) result (read limited schedule_tail (state_of at.entry)) }
+{
+    schedule_step(alloc, at)
+}
+
+fn schedule_step<'t>(alloc: Global, at: Cursor<'t>) -> Result<(Option<Vec<SStep>>, Cursor<'t>), Stop>
+    ensures { Gives (λ x. (schedule_of x.0, state_of x.1)) result (step limited (read limited) schedule_tail (state_of at.entry)) }
+{
+    let [first, rest @ ..] = at.rest else {
+        return Ok((None, at));
+    };
+    let next = Cursor {
+        rest,
+        end: first.span.to,
+    };
+    match first.kind {
+        Kind::Reserved(Reserved::Schedule) => {
+            let (part, at) = all_steps(alloc, next)?;
+            Ok((Some(part), at))
+        }
+        _ => Ok((None, at)),
+    }
+}
+
+fn derivation_part<'t>(alloc: Global, at: Cursor<'t>, later: bool) -> Result<(Option<SDeriv>, Cursor<'t>), Stop>
+    ensures { Gives (λ x. (derivation_of x.0, state_of x.1)) result (read limited (derivation_tail later) (state_of at.entry)) }
+{
+    derivation_part_step(alloc, at, later)
+}
+
+fn derivation_part_step<'t>(alloc: Global, at: Cursor<'t>, later: bool) -> Result<(Option<SDeriv>, Cursor<'t>), Stop>
+    ensures { Gives (λ x. (derivation_of x.0, state_of x.1)) result (step limited (read limited) (derivation_tail later) (state_of at.entry)) }
+{
+    let [first, rest @ ..] = at.rest else {
+        return Ok((None, at));
+    };
+    let next = Cursor {
+        rest,
+        end: first.span.to,
+    };
+    match first.kind {
+        Kind::Reserved(Reserved::Derivation) => {
+            let (part, at) = derivation(alloc, next, later, 1)?;
+            Ok((Some(part), at))
+        }
+        _ => Ok((None, at)),
+    }
+}
+
+fn file_parts<'t>(alloc: Global, at: Cursor<'t>, later: bool) -> Result<(FileParts, Cursor<'t>), Stop>
+    ensures { Gives (λ x. (body_of x.0, state_of x.1)) result (read limited (body later) (state_of at.entry)) }
+{
+    file_parts_step(alloc, at, later)
+}
+
+fn file_parts_step<'t>(alloc: Global, at: Cursor<'t>, later: bool) -> Result<(FileParts, Cursor<'t>), Stop>
+    ensures { Gives (λ x. (body_of x.0, state_of x.1)) result (step limited (read limited) (body later) (state_of at.entry)) }
+{
+    let [_, ..] = at.rest else {
+        return Err(syntax(0));
+    };
+    let (decls, at) = all_declarations(alloc, at, later)?;
+    let (process, at) = process(alloc, at, later, 0)?;
+    let (opponent, at) = opponent(alloc, at, later)?;
+    let (schedule, at) = schedule(alloc, at)?;
+    let (derivation, at) = derivation_part(alloc, at, later)?;
+    let parts = FileParts {
+        decls,
+        process,
+        opponent,
+        schedule,
+        derivation,
+    };
+    Ok((parts, at))
+}
+
+fn make_tree(version: u32, parts: FileParts, span: Span) -> Tree
+    ensures { file_of result ≡ file_from version span (body_of parts) }
+{
+    Tree {
+        version,
+        decls: parts.decls,
+        process: parts.process,
+        opponent: parts.opponent,
+        schedule: parts.schedule,
+        derivation: parts.derivation,
+        span,
+    }
+}
+
+/// A file.
+pub fn read_file<'t>(alloc: Global, at: Cursor<'t>) -> Result<(Tree, Cursor<'t>), Stop>
+    ensures { Gives (λ x. (file_of x.0, state_of x.1)) result (read limited file (state_of at.entry)) }
+{
+    file_step(alloc, at)
+}
+
+fn file_step<'t>(alloc: Global, at: Cursor<'t>) -> Result<(Tree, Cursor<'t>), Stop>
+    ensures { Gives (λ x. (file_of x.0, state_of x.1)) result (step limited (read limited) file (state_of at.entry)) }
+{
+    let [first, rest @ ..] = at.rest else {
+        return Err(syntax(0));
+    };
+    let next = Cursor {
+        rest,
+        end: first.span.to,
+    };
+    match &first.kind {
+        Kind::Word(word) => {
+            if word.as_str() == "version" {
+                return later_file(alloc, first.span, next);
+            }
+            Err(syntax(at.rest.len()))
+        }
+        _ => first_file(alloc, first.span, at),
+    }
+}
+
+fn later_file<'t>(alloc: Global, first: Span, at: Cursor<'t>) -> Result<(Tree, Cursor<'t>), Stop>
+    ensures { Gives (λ x. (file_of x.0, state_of x.1)) result (later_form (first ∷ []) (state_of at.entry)) }
+{
+    let at = take_two(at)?;
+    let at = take_mark(at, Mark::Semicolon)?;
+    let (parts, at) = file_parts(alloc, at, true)?;
+    let span = Span {
+        from: first.from,
+        to: at.end,
+    };
+    Ok((make_tree(2, parts, span), at))
+}
+
+fn first_file<'t>(alloc: Global, first: Span, at: Cursor<'t>) -> Result<(Tree, Cursor<'t>), Stop>
+    ensures { Gives (λ x. (file_of x.0, state_of x.1)) result (first_form (first ∷ []) (state_of at.entry)) }
+{
+    let (parts, at) = file_parts(alloc, at, false)?;
+    let span = Span {
+        from: first.from,
+        to: at.end,
+    };
+    Ok((make_tree(1, parts, span), at))
+}

@@ -1,0 +1,29 @@
+//! The tree of a file's tokens, or the exact fault.
+#![tactic(auto)]
+
+mod cursor;
+mod declarations;
+mod derivations;
+mod effects;
+mod fault;
+mod files;
+mod forms;
+mod heads;
+mod messages;
+mod parts;
+mod processes;
+mod reading;
+mod schedules;
+mod types;
+mod whole;
+
+pub use fault::ParseFault;
+pub use parts::{message_at, one_tree, process_at, type_at};
+pub use whole::{decl_at, parse};
+use std::alloc::AllocError;
+
+/// Memory ran out.
+pub type NoMemory = AllocError;
+
+#[cfg(test)]
+mod tests;

@@ -1,0 +1,116 @@
+//! The parts of files, read by themselves.
+
+ghost use Rattle.std.specs.Prelude.{◌≡◌, ◌≤◌, ◌⊎◌, ◌==◌, length};
+ghost use Rattle.spi_lex.specs.Lexing.{kinds_of};
+ghost use Rattle.spi_tree.specs.Trees.{File};
+ghost use Rattle.spi_tree.specs.Pieces.{tokens_of};
+ghost use Rattle.spi_tree.specs.Formed.{AreWordsFit};
+ghost use Rattle.spi_tree.specs.Views.{ty_of, msg_of, proc_of};
+ghost use Rattle.spi_parse.specs.Bare.{bare_file};
+ghost use Rattle.spi_parse.specs.Exact.{Reads};
+ghost use Rattle.spi_parse.specs.Faults.{fault_at};
+ghost use Rattle.spi_parse.specs.Formed.{IsFile, whole_type, whole_message, whole_process, IsWholeType, IsWholeMessage, IsWholeProcess};
+
+use crate::ParseFault;
+use crate::cursor::Cursor;
+use crate::fault::{Fault, Stop};
+use crate::messages::message;
+use crate::processes::process;
+use crate::types::read_type;
+use spi_lex::Token;
+use spi_tree::{SMsg, SProc, STy};
+use std::alloc::Global;
+
+/// The fault by the number of its token, among so many.
+pub fn fault_of(count: usize, stop: Stop) -> ParseFault
+    requires { count ≤ 16_777_216 }
+    ensures { result ≡ fault_at count stop }
+{
+    match stop {
+        Stop::NoMemory => ParseFault::NoMemory,
+        Stop::Fault(Fault::Syntax(left)) => ParseFault::Syntax {
+            token: count.saturating_sub(left) as u32,
+        },
+        Stop::Fault(Fault::TooDeep(left)) => ParseFault::TooDeep {
+            token: count.saturating_sub(left) as u32,
+        },
+    }
+}
+
+/// The type that the tokens from number `from` on begin with, in a text of the version, and the number of the token behind
+/// it. A fault is that of `parse`, with such parts in the place of trees, and counts its token in the whole list.
+pub fn type_at(
+    alloc: Global,
+    tokens: &[Token],
+    from: u32,
+    version: u32,
+) -> Result<(STy, u32), ParseFault>
+    requires size { length tokens.now ≤ 16_777_216 }
+    requires start { from ≤ length tokens.now }
+    requires known { (version ≡ 1) ⊎ (version ≡ 2) }
+    requires words { AreWordsFit (version == 2) (kinds_of tokens.now) }
+    ensures { Reads ty_of whole_type (IsWholeType (version == 2)) result tokens.now from }
+{
+    let start = Cursor {
+        rest: &tokens[from as usize..],
+        end: 0,
+    };
+    match read_type(alloc, start, version == 2, 1) {
+        Ok((part, at)) => Ok((part, tokens.len().saturating_sub(at.rest.len()) as u32)),
+        Err(stop) => Err(fault_of(tokens.len(), stop)),
+    }
+}
+
+/// The message that the tokens from number `from` on begin with, in a text of the version, and the number of the token behind
+/// it. A fault is that of `parse`, with such parts in the place of trees, and counts its token in the whole list.
+pub fn message_at(
+    alloc: Global,
+    tokens: &[Token],
+    from: u32,
+    version: u32,
+) -> Result<(SMsg, u32), ParseFault>
+    requires size { length tokens.now ≤ 16_777_216 }
+    requires start { from ≤ length tokens.now }
+    requires known { (version ≡ 1) ⊎ (version ≡ 2) }
+    requires words { AreWordsFit (version == 2) (kinds_of tokens.now) }
+    ensures { Reads msg_of whole_message (IsWholeMessage (version == 2)) result tokens.now from }
+{
+    let start = Cursor {
+        rest: &tokens[from as usize..],
+        end: 0,
+    };
+    match message(alloc, start, version == 2, false, 1) {
+        Ok((part, at)) => Ok((part, tokens.len().saturating_sub(at.rest.len()) as u32)),
+        Err(stop) => Err(fault_of(tokens.len(), stop)),
+    }
+}
+
+/// The process that the tokens from number `from` on begin with, in a text of the version, and the number of the token behind
+/// it. A fault is that of `parse`, with such parts in the place of trees, and counts its token in the whole list.
+pub fn process_at(
+    alloc: Global,
+    tokens: &[Token],
+    from: u32,
+    version: u32,
+) -> Result<(SProc, u32), ParseFault>
+    requires size { length tokens.now ≤ 16_777_216 }
+    requires start { from ≤ length tokens.now }
+    requires known { (version ≡ 1) ⊎ (version ≡ 2) }
+    requires words { AreWordsFit (version == 2) (kinds_of tokens.now) }
+    ensures { Reads proc_of whole_process (IsWholeProcess (version == 2)) result tokens.now from }
+{
+    let start = Cursor {
+        rest: &tokens[from as usize..],
+        end: 0,
+    };
+    match process(alloc, start, version == 2, 0) {
+        Ok((part, at)) => Ok((part, tokens.len().saturating_sub(at.rest.len()) as u32)),
+        Err(stop) => Err(fault_of(tokens.len(), stop)),
+    }
+}
+
+/// Two formed trees with the same tokens are equal up to spans.
+pub fn one_tree()
+    ensures { (f g : File) → IsFile f → IsFile g → tokens_of f ≡ tokens_of g → bare_file f ≡ bare_file g }
+{
+}

@@ -1,0 +1,572 @@
+//! Processes.
+
+ghost use Rattle.std.specs.Prelude.{◌≡◌, ◌+◌, ◌≤◌, [], ◌∷◌, IfOk};
+ghost use Rattle.spi_tree.specs.Trees.{stop};
+ghost use Rattle.spi_tree.specs.Views.{msg_of, proc_of};
+ghost use Rattle.spi_parse.specs.Places.{state_of, out_form, inp_form, repeat_form, split_form, match_form, case_form, decrypt_form, check_form, begin_form, end_form, end_many_form, cast_form, new_form, group_form};
+ghost use Rattle.spi_parse.specs.Ends.{done, boxed_option};
+ghost use Rattle.spi_parse.specs.FormMoves.{by_form};
+ghost use Rattle.spi_parse.specs.declared.forms.Form.TheVariants as forms;
+ghost use Rattle.spi_parse.specs.Table.{sproc, seq, out_tail, par_tail, out_of};
+ghost use Rattle.spi_parse.specs.Reading.{Gives, read, step, limited};
+
+use crate::NoMemory;
+use crate::cursor::{Cursor, process_fits, syntax};
+use crate::fault::Stop;
+use crate::forms::{Event, Form, Open, Plain, Talk, form_of};
+use crate::heads::{binder, case_head, cast_head, check_head, decrypt_head, match_head, split_head};
+use crate::messages::message;
+use crate::reading::{take_mark, take_reserved};
+use spi_lex::{Kind, Mark, Reserved};
+use spi_text::Span;
+use spi_tree::{SMsg, SProc};
+use std::alloc::Global;
+
+/// A process of a level.
+pub fn process<'t>(alloc: Global, at: Cursor<'t>, later: bool, level: u32) -> Result<(SProc, Cursor<'t>), Stop>
+    requires { level ≤ 500 }
+    ensures { Gives (λ x. (proc_of x.0, state_of x.1)) result (read limited (sproc later level) (state_of at.entry)) }
+{
+    let (tree, at) = parallel(alloc, at, later, level)?;
+    Ok((Box::into_inner(tree), at))
+}
+
+fn boxed(alloc: Global, tree: SProc) -> Result<Box<SProc>, NoMemory>
+    ensures { IfOk result (λ b. b.value ≡ tree) }
+{
+    Ok(Box::new(alloc, tree)?)
+}
+
+#[cycle(processes)]
+fn parallel<'t>(alloc: Global, at: Cursor<'t>, later: bool, level: u32) -> Result<(Box<SProc>, Cursor<'t>), Stop>
+    requires { level ≤ 500 }
+    ensures { Gives (λ x. (proc_of x.0.value, state_of x.1)) result (read limited (sproc later level) (state_of at.entry)) }
+{
+    parallel_step(alloc, at, later, level)
+}
+
+#[cycle(processes)]
+fn parallel_step<'t>(alloc: Global, at: Cursor<'t>, later: bool, level: u32) -> Result<(Box<SProc>, Cursor<'t>), Stop>
+    requires { level ≤ 500 }
+    ensures { Gives (λ x. (proc_of x.0.value, state_of x.1)) result (step limited (read limited) (sproc later level) (state_of at.entry)) }
+{
+    let [token, ..] = at.rest else {
+        return Err(syntax(0));
+    };
+    let from = token.span.from;
+    let (first, at) = sequence(alloc, at, later, level + 1)?;
+    let (rest, at) = par_rest(alloc, at, later, level)?;
+    match rest {
+        None => Ok((first, at)),
+        Some(rest) => {
+            let span = Span { from, to: at.end };
+            let tree = boxed(alloc, SProc::Par { first, rest, span })?;
+            Ok((tree, at))
+        }
+    }
+}
+
+#[cycle(processes)]
+fn sequence<'t>(alloc: Global, at: Cursor<'t>, later: bool, nesting: u32) -> Result<(Box<SProc>, Cursor<'t>), Stop>
+    requires { nesting ≤ 501 }
+    ensures { Gives (λ x. (proc_of x.0.value, state_of x.1)) result (read limited (seq later nesting) (state_of at.entry)) }
+{
+    sequence_step(alloc, at, later, nesting)
+}
+
+#[cycle(processes)]
+fn sequence_step<'t>(alloc: Global, at: Cursor<'t>, later: bool, nesting: u32) -> Result<(Box<SProc>, Cursor<'t>), Stop>
+    requires { nesting ≤ 501 }
+    ensures { Gives (λ x. (proc_of x.0.value, state_of x.1)) result (step limited (read limited) (seq later nesting) (state_of at.entry)) }
+{
+    let [first, ..] = at.rest else {
+        return Err(syntax(0));
+    };
+    let form = form_of(later, &first.kind);
+    read_form(alloc, form, at, later, nesting)
+}
+
+#[cycle(processes)]
+fn read_form<'t>(alloc: Global, form: Form, at: Cursor<'t>, later: bool, nesting: u32) -> Result<(Box<SProc>, Cursor<'t>), Stop>
+    requires { nesting ≤ 501 }
+    ensures { Gives (λ x. (proc_of x.0.value, state_of x.1)) result (by_form later nesting form (state_of at.entry)) }
+{
+    match form {
+        Form::Talk(form) => read_talk(alloc, form, at, later, nesting),
+        Form::Open(form) => read_open(alloc, form, at, later, nesting),
+        Form::Event(form) => read_event(alloc, form, at, later, nesting),
+        Form::Plain(form) => read_plain(alloc, form, at, later, nesting),
+        Form::NoForm => {
+            let [_, ..] = at.rest else {
+                return Err(syntax(0));
+            };
+            Err(syntax(at.rest.len()))
+        }
+    }
+}
+
+#[cycle(processes)]
+fn read_talk<'t>(alloc: Global, form: Talk, at: Cursor<'t>, later: bool, nesting: u32) -> Result<(Box<SProc>, Cursor<'t>), Stop>
+    requires { nesting ≤ 501 }
+    ensures { Gives (λ x. (proc_of x.0.value, state_of x.1)) result (by_form later nesting (forms.Talk form) (state_of at.entry)) }
+{
+    let [first, rest @ ..] = at.rest else {
+        return Err(syntax(0));
+    };
+    let next = Cursor {
+        rest,
+        end: first.span.to,
+    };
+    process_fits(nesting, at.rest.len())?;
+    match form {
+        Talk::Out => read_out(alloc, first.span, next, later, nesting),
+        Talk::Inp => read_inp(alloc, first.span, next, later, nesting),
+        Talk::Repeat => read_repeat(alloc, first.span, next, later, nesting),
+    }
+}
+
+#[cycle(processes)]
+fn read_open<'t>(alloc: Global, form: Open, at: Cursor<'t>, later: bool, nesting: u32) -> Result<(Box<SProc>, Cursor<'t>), Stop>
+    requires { nesting ≤ 501 }
+    ensures { Gives (λ x. (proc_of x.0.value, state_of x.1)) result (by_form later nesting (forms.Open form) (state_of at.entry)) }
+{
+    let [first, rest @ ..] = at.rest else {
+        return Err(syntax(0));
+    };
+    let next = Cursor {
+        rest,
+        end: first.span.to,
+    };
+    process_fits(nesting, at.rest.len())?;
+    match form {
+        Open::Split => read_split(alloc, first.span, next, later, nesting),
+        Open::Match => read_match(alloc, first.span, next, later, nesting),
+        Open::Case => read_case(alloc, first.span, next, later, nesting),
+        Open::Decrypt => read_decrypt(alloc, first.span, next, later, nesting),
+    }
+}
+
+#[cycle(processes)]
+fn read_event<'t>(alloc: Global, form: Event, at: Cursor<'t>, later: bool, nesting: u32) -> Result<(Box<SProc>, Cursor<'t>), Stop>
+    requires { nesting ≤ 501 }
+    ensures { Gives (λ x. (proc_of x.0.value, state_of x.1)) result (by_form later nesting (forms.Event form) (state_of at.entry)) }
+{
+    let [first, rest @ ..] = at.rest else {
+        return Err(syntax(0));
+    };
+    let next = Cursor {
+        rest,
+        end: first.span.to,
+    };
+    process_fits(nesting, at.rest.len())?;
+    match form {
+        Event::Check => read_check(alloc, first.span, next, later, nesting),
+        Event::Begin => read_begin(alloc, first.span, next, later, nesting),
+        Event::End => read_end(alloc, first.span, next, later, nesting),
+        Event::EndMany => read_end_many(alloc, first.span, next, later, nesting),
+    }
+}
+
+#[cycle(processes)]
+fn read_plain<'t>(alloc: Global, form: Plain, at: Cursor<'t>, later: bool, nesting: u32) -> Result<(Box<SProc>, Cursor<'t>), Stop>
+    requires { nesting ≤ 501 }
+    ensures { Gives (λ x. (proc_of x.0.value, state_of x.1)) result (by_form later nesting (forms.Plain form) (state_of at.entry)) }
+{
+    let [first, rest @ ..] = at.rest else {
+        return Err(syntax(0));
+    };
+    let next = Cursor {
+        rest,
+        end: first.span.to,
+    };
+    process_fits(nesting, at.rest.len())?;
+    match form {
+        Plain::Cast => read_cast(alloc, first.span, next, later, nesting),
+        Plain::New => read_new(alloc, first.span, next, later, nesting),
+        Plain::Stop => read_stop(alloc, first.span, next),
+        Plain::Group => read_group(alloc, first.span, next, later, nesting),
+    }
+}
+
+#[cycle(processes)]
+fn read_out<'t>(alloc: Global, first: Span, at: Cursor<'t>, later: bool, nesting: u32) -> Result<(Box<SProc>, Cursor<'t>), Stop>
+    requires { nesting ≤ 500 }
+    ensures { Gives (λ x. (proc_of x.0.value, state_of x.1)) result (out_form later nesting (first ∷ []) (state_of at.entry)) }
+{
+    let (channel, at) = message(alloc, at, later, false, 1)?;
+    let (datum, at) = message(alloc, at, later, false, 1)?;
+    let (then, at) = out_rest(alloc, at, later, nesting)?;
+    let span = Span {
+        from: first.from,
+        to: at.end,
+    };
+    let tree = boxed(alloc, make_out(channel, datum, then, span))?;
+    Ok((tree, at))
+}
+
+fn make_out(channel: SMsg, datum: SMsg, then: Option<Box<SProc>>, span: Span) -> SProc
+    ensures { proc_of result ≡ out_of span (msg_of channel) (msg_of datum) (boxed_option then) }
+{
+    match then {
+        None => SProc::Out {
+            channel,
+            datum,
+            span,
+        },
+        Some(then) => SProc::OutThen {
+            channel,
+            datum,
+            then,
+            span,
+        },
+    }
+}
+
+#[cycle(processes)]
+fn read_inp<'t>(alloc: Global, first: Span, at: Cursor<'t>, later: bool, nesting: u32) -> Result<(Box<SProc>, Cursor<'t>), Stop>
+    requires { nesting ≤ 500 }
+    ensures { Gives (λ x. (proc_of x.0.value, state_of x.1)) result (inp_form later nesting (first ∷ []) (state_of at.entry)) }
+{
+    let (channel, at) = message(alloc, at, later, false, 1)?;
+    let (name, ty, at) = binder(alloc, at, later)?;
+    let (then, at) = sequence(alloc, at, later, nesting + 1)?;
+    let span = Span {
+        from: first.from,
+        to: at.end,
+    };
+    let tree = boxed(alloc, SProc::Inp {
+        channel,
+        name,
+        ty,
+        then,
+        span,
+    })?;
+    Ok((tree, at))
+}
+
+#[cycle(processes)]
+fn read_repeat<'t>(alloc: Global, first: Span, at: Cursor<'t>, later: bool, nesting: u32) -> Result<(Box<SProc>, Cursor<'t>), Stop>
+    requires { nesting ≤ 500 }
+    ensures { Gives (λ x. (proc_of x.0.value, state_of x.1)) result (repeat_form later nesting (first ∷ []) (state_of at.entry)) }
+{
+    let at = take_reserved(at, Reserved::Inp)?;
+    let (channel, at) = message(alloc, at, later, false, 1)?;
+    let (name, ty, at) = binder(alloc, at, later)?;
+    let (then, at) = sequence(alloc, at, later, nesting + 1)?;
+    let span = Span {
+        from: first.from,
+        to: at.end,
+    };
+    let tree = boxed(alloc, SProc::Repeat {
+        channel,
+        name,
+        ty,
+        then,
+        span,
+    })?;
+    Ok((tree, at))
+}
+
+#[cycle(processes)]
+fn read_split<'t>(alloc: Global, first: Span, at: Cursor<'t>, later: bool, nesting: u32) -> Result<(Box<SProc>, Cursor<'t>), Stop>
+    requires { nesting ≤ 500 }
+    ensures { Gives (λ x. (proc_of x.0.value, state_of x.1)) result (split_form later nesting (first ∷ []) (state_of at.entry)) }
+{
+    let (whole, at) = message(alloc, at, later, false, 1)?;
+    let (left, left_ty, right, right_ty, at) = split_head(alloc, at, later)?;
+    let (then, at) = sequence(alloc, at, later, nesting + 1)?;
+    let span = Span {
+        from: first.from,
+        to: at.end,
+    };
+    let tree = boxed(alloc, SProc::Split {
+        whole,
+        left,
+        left_ty,
+        right,
+        right_ty,
+        then,
+        span,
+    })?;
+    Ok((tree, at))
+}
+
+#[cycle(processes)]
+fn read_match<'t>(alloc: Global, first: Span, at: Cursor<'t>, later: bool, nesting: u32) -> Result<(Box<SProc>, Cursor<'t>), Stop>
+    requires { nesting ≤ 500 }
+    ensures { Gives (λ x. (proc_of x.0.value, state_of x.1)) result (match_form later nesting (first ∷ []) (state_of at.entry)) }
+{
+    let (whole, at) = message(alloc, at, later, false, 1)?;
+    let (left, left_ty, equal, right, right_ty, at) = match_head(alloc, at, later)?;
+    let (then, at) = sequence(alloc, at, later, nesting + 1)?;
+    let span = Span {
+        from: first.from,
+        to: at.end,
+    };
+    let tree = boxed(alloc, SProc::Match {
+        whole,
+        left,
+        left_ty,
+        equal,
+        right,
+        right_ty,
+        then,
+        span,
+    })?;
+    Ok((tree, at))
+}
+
+#[cycle(processes)]
+fn read_case<'t>(alloc: Global, first: Span, at: Cursor<'t>, later: bool, nesting: u32) -> Result<(Box<SProc>, Cursor<'t>), Stop>
+    requires { nesting ≤ 500 }
+    ensures { Gives (λ x. (proc_of x.0.value, state_of x.1)) result (case_form later nesting (first ∷ []) (state_of at.entry)) }
+{
+    let (whole, at) = message(alloc, at, later, false, 1)?;
+    let (left, left_ty, at) = case_head(alloc, at, later, Reserved::Inl)?;
+    let (on_left, at) = sequence(alloc, at, later, nesting + 1)?;
+    let (right, right_ty, at) = case_head(alloc, at, later, Reserved::Inr)?;
+    let (on_right, at) = sequence(alloc, at, later, nesting + 1)?;
+    let span = Span {
+        from: first.from,
+        to: at.end,
+    };
+    let tree = boxed(alloc, SProc::Case {
+        whole,
+        left,
+        left_ty,
+        on_left,
+        right,
+        right_ty,
+        on_right,
+        span,
+    })?;
+    Ok((tree, at))
+}
+
+#[cycle(processes)]
+fn read_decrypt<'t>(alloc: Global, first: Span, at: Cursor<'t>, later: bool, nesting: u32) -> Result<(Box<SProc>, Cursor<'t>), Stop>
+    requires { nesting ≤ 500 }
+    ensures { Gives (λ x. (proc_of x.0.value, state_of x.1)) result (decrypt_form later nesting (first ∷ []) (state_of at.entry)) }
+{
+    let (whole, at) = message(alloc, at, later, false, 1)?;
+    let (name, ty, key, at) = decrypt_head(alloc, at, later)?;
+    let (then, at) = sequence(alloc, at, later, nesting + 1)?;
+    let span = Span {
+        from: first.from,
+        to: at.end,
+    };
+    let tree = boxed(alloc, SProc::Decrypt {
+        whole,
+        name,
+        ty,
+        key,
+        then,
+        span,
+    })?;
+    Ok((tree, at))
+}
+
+#[cycle(processes)]
+fn read_check<'t>(alloc: Global, first: Span, at: Cursor<'t>, later: bool, nesting: u32) -> Result<(Box<SProc>, Cursor<'t>), Stop>
+    requires { nesting ≤ 500 }
+    ensures { Gives (λ x. (proc_of x.0.value, state_of x.1)) result (check_form later nesting (first ∷ []) (state_of at.entry)) }
+{
+    let (whole, at) = message(alloc, at, later, false, 1)?;
+    let (nonce, at) = check_head(alloc, at, later)?;
+    let (then, at) = sequence(alloc, at, later, nesting + 1)?;
+    let span = Span {
+        from: first.from,
+        to: at.end,
+    };
+    let tree = boxed(alloc, SProc::Check {
+        whole,
+        nonce,
+        then,
+        span,
+    })?;
+    Ok((tree, at))
+}
+
+#[cycle(processes)]
+fn read_begin<'t>(alloc: Global, first: Span, at: Cursor<'t>, later: bool, nesting: u32) -> Result<(Box<SProc>, Cursor<'t>), Stop>
+    requires { nesting ≤ 500 }
+    ensures { Gives (λ x. (proc_of x.0.value, state_of x.1)) result (begin_form later nesting (first ∷ []) (state_of at.entry)) }
+{
+    let (label, at) = message(alloc, at, later, false, 1)?;
+    let at = take_mark(at, Mark::Semicolon)?;
+    let (then, at) = sequence(alloc, at, later, nesting + 1)?;
+    let span = Span {
+        from: first.from,
+        to: at.end,
+    };
+    let tree = boxed(alloc, SProc::Begin {
+        label,
+        then,
+        span,
+    })?;
+    Ok((tree, at))
+}
+
+#[cycle(processes)]
+fn read_end<'t>(alloc: Global, first: Span, at: Cursor<'t>, later: bool, nesting: u32) -> Result<(Box<SProc>, Cursor<'t>), Stop>
+    requires { nesting ≤ 500 }
+    ensures { Gives (λ x. (proc_of x.0.value, state_of x.1)) result (end_form later nesting (first ∷ []) (state_of at.entry)) }
+{
+    let (label, at) = message(alloc, at, later, false, 1)?;
+    let at = take_mark(at, Mark::Semicolon)?;
+    let (then, at) = sequence(alloc, at, later, nesting + 1)?;
+    let span = Span {
+        from: first.from,
+        to: at.end,
+    };
+    let tree = boxed(alloc, SProc::End {
+        label,
+        then,
+        span,
+    })?;
+    Ok((tree, at))
+}
+
+#[cycle(processes)]
+fn read_end_many<'t>(alloc: Global, first: Span, at: Cursor<'t>, later: bool, nesting: u32) -> Result<(Box<SProc>, Cursor<'t>), Stop>
+    requires { nesting ≤ 500 }
+    ensures { Gives (λ x. (proc_of x.0.value, state_of x.1)) result (end_many_form later nesting (first ∷ []) (state_of at.entry)) }
+{
+    let (label, at) = message(alloc, at, later, false, 1)?;
+    let at = take_mark(at, Mark::Semicolon)?;
+    let (then, at) = sequence(alloc, at, later, nesting + 1)?;
+    let span = Span {
+        from: first.from,
+        to: at.end,
+    };
+    let tree = boxed(alloc, SProc::EndMany {
+        label,
+        then,
+        span,
+    })?;
+    Ok((tree, at))
+}
+
+#[cycle(processes)]
+fn read_cast<'t>(alloc: Global, first: Span, at: Cursor<'t>, later: bool, nesting: u32) -> Result<(Box<SProc>, Cursor<'t>), Stop>
+    requires { nesting ≤ 500 }
+    ensures { Gives (λ x. (proc_of x.0.value, state_of x.1)) result (cast_form later nesting (first ∷ []) (state_of at.entry)) }
+{
+    let (whole, at) = message(alloc, at, later, false, 1)?;
+    let (name, ty, at) = cast_head(alloc, at, later)?;
+    let (then, at) = sequence(alloc, at, later, nesting + 1)?;
+    let span = Span {
+        from: first.from,
+        to: at.end,
+    };
+    let tree = boxed(alloc, SProc::Cast {
+        whole,
+        name,
+        ty,
+        then,
+        span,
+    })?;
+    Ok((tree, at))
+}
+
+#[cycle(processes)]
+fn read_new<'t>(alloc: Global, first: Span, at: Cursor<'t>, later: bool, nesting: u32) -> Result<(Box<SProc>, Cursor<'t>), Stop>
+    requires { nesting ≤ 500 }
+    ensures { Gives (λ x. (proc_of x.0.value, state_of x.1)) result (new_form later nesting (first ∷ []) (state_of at.entry)) }
+{
+    let (name, ty, at) = binder(alloc, at, later)?;
+    let (then, at) = sequence(alloc, at, later, nesting + 1)?;
+    let span = Span {
+        from: first.from,
+        to: at.end,
+    };
+    let tree = boxed(alloc, SProc::New {
+        name,
+        ty,
+        then,
+        span,
+    })?;
+    Ok((tree, at))
+}
+
+fn read_stop<'t>(alloc: Global, span: Span, at: Cursor<'t>) -> Result<(Box<SProc>, Cursor<'t>), Stop>
+    ensures { Gives (λ x. (proc_of x.0.value, state_of x.1)) result (done (stop span) (state_of at.entry)) }
+{
+    let tree = boxed(alloc, SProc::Stop { span })?;
+    Ok((tree, at))
+}
+
+#[cycle(processes)]
+fn read_group<'t>(alloc: Global, start: Span, at: Cursor<'t>, later: bool, nesting: u32) -> Result<(Box<SProc>, Cursor<'t>), Stop>
+    requires { nesting ≤ 500 }
+    ensures { Gives (λ x. (proc_of x.0.value, state_of x.1)) result (group_form later nesting (start ∷ []) (state_of at.entry)) }
+{
+    let (first, at) = sequence(alloc, at, later, nesting + 1)?;
+    let at = take_mark(at, Mark::Bar)?;
+    let (rest, at) = parallel(alloc, at, later, nesting + 1)?;
+    let at = take_mark(at, Mark::ParenClose)?;
+    let span = Span {
+        from: start.from,
+        to: at.end,
+    };
+    let tree = boxed(alloc, SProc::Group { first, rest, span })?;
+    Ok((tree, at))
+}
+
+#[cycle(processes)]
+fn out_rest<'t>(alloc: Global, at: Cursor<'t>, later: bool, nesting: u32) -> Result<(Option<Box<SProc>>, Cursor<'t>), Stop>
+    requires { nesting ≤ 500 }
+    ensures { Gives (λ x. (boxed_option x.0, state_of x.1)) result (read limited (out_tail later nesting) (state_of at.entry)) }
+{
+    out_rest_step(alloc, at, later, nesting)
+}
+
+#[cycle(processes)]
+fn out_rest_step<'t>(alloc: Global, at: Cursor<'t>, later: bool, nesting: u32) -> Result<(Option<Box<SProc>>, Cursor<'t>), Stop>
+    requires { nesting ≤ 500 }
+    ensures { Gives (λ x. (boxed_option x.0, state_of x.1)) result (step limited (read limited) (out_tail later nesting) (state_of at.entry)) }
+{
+    let [first, rest @ ..] = at.rest else {
+        return Ok((None, at));
+    };
+    let next = Cursor {
+        rest,
+        end: first.span.to,
+    };
+    match first.kind {
+        Kind::Mark(Mark::Semicolon) => {
+            let (then, at) = sequence(alloc, next, later, nesting + 1)?;
+            Ok((Some(then), at))
+        }
+        _ => Ok((None, at)),
+    }
+}
+
+#[cycle(processes)]
+fn par_rest<'t>(alloc: Global, at: Cursor<'t>, later: bool, level: u32) -> Result<(Option<Box<SProc>>, Cursor<'t>), Stop>
+    requires { level ≤ 499 }
+    ensures { Gives (λ x. (boxed_option x.0, state_of x.1)) result (read limited (par_tail later level) (state_of at.entry)) }
+{
+    par_rest_step(alloc, at, later, level)
+}
+
+#[cycle(processes)]
+fn par_rest_step<'t>(alloc: Global, at: Cursor<'t>, later: bool, level: u32) -> Result<(Option<Box<SProc>>, Cursor<'t>), Stop>
+    requires { level ≤ 499 }
+    ensures { Gives (λ x. (boxed_option x.0, state_of x.1)) result (step limited (read limited) (par_tail later level) (state_of at.entry)) }
+{
+    let [first, rest @ ..] = at.rest else {
+        return Ok((None, at));
+    };
+    let next = Cursor {
+        rest,
+        end: first.span.to,
+    };
+    match first.kind {
+        Kind::Mark(Mark::Bar) => {
+            let (then, at) = parallel(alloc, next, later, level + 1)?;
+            Ok((Some(then), at))
+        }
+        _ => Ok((None, at)),
+    }
+}
