@@ -15,6 +15,8 @@ pub mod Complete
 pub mod ExactLaws
 pub mod Words
 pub mod Wholes
+pub mod Filled
+pub mod OneTree
 pub mod Lists
 pub mod Unique
 pub mod FormLaws

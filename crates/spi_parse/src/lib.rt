@@ -9,6 +9,7 @@ mod fault;
 mod files;
 mod forms;
 mod heads;
+mod laws;
 mod messages;
 mod parts;
 mod processes;
@@ -18,9 +19,10 @@ mod types;
 mod whole;
 
 pub use fault::ParseFault;
+pub use laws::one_placed_tree;
 pub use parts::{message_at, one_tree, process_at, type_at};
-pub use whole::{decl_at, parse};
 use std::alloc::AllocError;
+pub use whole::{decl_at, parse};
 
 /// Memory ran out.
 pub type NoMemory = AllocError;
