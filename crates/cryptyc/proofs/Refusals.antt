@@ -21,6 +21,8 @@ use Rattle.spi_scope.specs.declared.fault.ScopeFault.{ScopeFault}
 use Rattle.spi_scope.specs.declared.fault.ScopeFault.TheVariants as scope
 use Rattle.spi_scope.specs.StandsFor.{Meant, StandsFor}
 use Rattle.spi_scope.specs.First.{HasFirst}
+use Rattle.spi_scope.specs.FaultPlaces.{span_from, StartsAt}
+use Rattle.spi_term.specs.Lists.{In, in_first, in_later}
 use Rattle.spi_report.specs.declared.refusal.Refusal.{Refusal}
 use Rattle.spi_report.specs.Names.{name_of}
 use Rattle.spi_report.specs.Refused.{refused_text}
@@ -29,7 +31,7 @@ use Rattle.cryptyc.specs.declared.answer.Stop.{Stop}
 use Rattle.cryptyc.specs.declared.status.Status.{Status}
 use Rattle.cryptyc.specs.declared.status.Status.TheVariants.{Refused}
 use Rattle.cryptyc.specs.Spelled.{limit, IsTreeOf, SpellsFile, SpellsNone}
-use Rattle.cryptyc.specs.Answer.{start_of, scope_number, scope_offset, scope_shown, Refuses, too_long, not_utf8, bad_char, bad_number, name_too_long, syntax, too_deep, out_of_scope, IsRefusal, ChecksTo}
+use Rattle.cryptyc.specs.Answer.{start_of, scope_number, scope_shown, Refuses, too_long, not_utf8, bad_char, bad_number, name_too_long, syntax, too_deep, out_of_scope, IsRefusal, ChecksTo}
 
 -- the way of lexemes goes through the bytes
 leads_within : {at to : ℕ} {text rest : List ℕ} {pieces : List Piece} → Leads at text pieces to rest → to + length rest ≡ at + length text
@@ -57,21 +59,32 @@ stands_within (L.bad_char u h none) = omega (arith, leads_within h)
 stands_within (L.bad_number n value u h l s most) = omega (arith, leads_within h)
 stands_within (L.name_too_long n name u h l s long) = omega (arith, leads_within h)
 
+-- a list of spans ends where it ends or before
+spans_end : (at end : ℕ) (spans : List Span) → AreSpans at spans end → at ≤ end
+spans_end at end [] h = h
+spans_end at end (span ∷ spans) h = let m = spans_end span.to end spans h.2 in omega (arith, h.0, h.1, m)
+
 -- a token stands in the bytes
 starts_within : (at end : ℕ) (bytes : List ℕ) (tokens : List Token) → AreSpans at (spans_of tokens) end → end ≤ length bytes → (i : ℕ) → start_of bytes (drop i tokens) ≤ length bytes
 starts_within at end bytes [] h l zero = omega arith
 starts_within at end bytes [] h l (suc i) = omega arith
 starts_within at end bytes (token ∷ tokens) h l zero = let m = spans_end token.span.to end (spans_of tokens) h.2 in omega (arith, h.1, l, m)
-  where
-    spans_end : (at end : ℕ) (spans : List Span) → AreSpans at spans end → at ≤ end
-    spans_end at end [] h = h
-    spans_end at end (span ∷ spans) h = let m = spans_end span.to end spans h.2 in omega (arith, h.0, h.1, m)
 starts_within at end bytes (token ∷ tokens) h l (suc i) = starts_within token.span.to end bytes tokens h.2 l i
 
 token_within : (bytes : List ℕ) (tokens : List Token) (i : ℕ) → Lexes bytes (Ok tokens) → start_of bytes (drop i tokens) ≤ length bytes
 token_within bytes tokens i h = starts_within 0 (length bytes) bytes tokens (lexed bytes tokens h).1 (let z : length bytes ≤ length bytes = omega arith in z) i
 
-pub refused_within : {bytes : List ℕ} {number : ℕ} {offset : Option ℕ} {shown : List ℕ} → ((tree : t.File) (fault : ScopeFault) → IsTreeOf bytes tree → HasFirst tree fault → scope_offset fault ≤ length bytes) → Refuses bytes number offset shown → IfSome offset (λ at. at ≤ length bytes)
+-- a node or a word of a tree that is spelled starts in the bytes
+opens_within : (end at e from : ℕ) (ps : List Part) (ts : List Token) → Spells [] e ps ts → AreSpans at (spans_of ts) end → In (opens from) ps → from ≤ end
+opens_within end at e from [] ts h spans i = elim i [ ]
+opens_within end at e from (opens other ∷ ps) [] h spans i = absurd h
+opens_within end at e from (opens other ∷ ps) (tok ∷ ts) h spans in_first = let m = spans_end tok.span.to end (spans_of ts) spans.2 in let f = h.0 in omega (arith, f, m, spans.1)
+opens_within end at e from (opens other ∷ ps) (tok ∷ ts) h spans (in_later i) = opens_within end at e from ps (tok ∷ ts) h.1 spans i
+opens_within end at e from (cell k deep ∷ ps) [] h spans i = absurd h
+opens_within end at e from (cell k deep ∷ ps) (tok ∷ ts) h spans (in_later i) = opens_within end tok.span.to tok.span.to from ps ts h.2 spans.2 i
+opens_within end at e from (closes to ∷ ps) ts h spans (in_later i) = opens_within end at e from ps ts h.1 spans i
+
+pub refused_within : {bytes : List ℕ} {number : ℕ} {offset : Option ℕ} {shown : List ℕ} → ((tree : t.File) (fault : ScopeFault) → HasFirst tree fault → StartsAt tree (span_from fault)) → Refuses bytes number offset shown → IfSome offset (λ at. at ≤ length bytes)
 refused_within at (too_long l) = tt
 refused_within at (not_utf8 l h) = stands_within h
 refused_within at (bad_char l h) = stands_within h
@@ -79,7 +92,8 @@ refused_within at (bad_number l h) = stands_within h
 refused_within at (name_too_long l h) = stands_within h
 refused_within {bytes} at (syntax {tokens = tokens} {i = i} l h f) = token_within bytes tokens i h
 refused_within {bytes} at (too_deep {tokens = tokens} {i = i} l h f) = token_within bytes tokens i h
-refused_within at (out_of_scope {tree = tree} {fault = fault} is f) = at tree fault is f
+refused_within {bytes} at (out_of_scope {tree = tree} {fault = fault} is f) =
+    opens_within (length bytes) 0 0 (span_from fault) (whole_file tree) is.tokens is.spelled (lexed bytes is.tokens is.lexed).1 (at tree fault f)
 
 scope_named : (fault : ScopeFault) → ¬ (fault ≡ scope.NoMemory) → IsSome (name_of (scope_number fault))
 scope_named (scope.UnknownName s w) n = refl

@@ -2,7 +2,6 @@
 use Rattle.std.specs.Prelude.{◌≡◌, ℕ, ◌+◌, ◌<◌, ◌≤◌, List, [], ◌∷◌, length, drop, codes, Ok, Err, Some, None}
 use Rattle.std.specs.Fmt.{decimal}
 use Rattle.std.specs.declared.option.Option.{Option}
-use Rattle.spi_text.specs.declared.lines.Span.{Span}
 use Rattle.spi_lex.specs.declared.token.Token.{Token}
 use Rattle.spi_lex.specs.declared.fault.LexFault.TheVariants.{NotUtf8, BadChar, BadNumber, NameTooLong}
 use Rattle.spi_lex.specs.Lexing.{Lexes, kinds_of}
@@ -12,6 +11,7 @@ use Rattle.spi_parse.specs.Exact.{IsSyntaxAt, IsDeepAt}
 use Rattle.spi_scope.specs.declared.fault.ScopeFault.{ScopeFault}
 use Rattle.spi_scope.specs.declared.fault.ScopeFault.TheVariants.{UnknownName, UnknownType, NameTwice, TypeTwice, MessageTooLarge, TypeTooLarge, FileTooLarge, ScheduleTooLong, NoMemory as OutOfMemory}
 use Rattle.spi_scope.specs.First.{HasFirst}
+use Rattle.spi_scope.specs.FaultPlaces.{span_from}
 use Rattle.spi_report.specs.declared.refusal.Refusal.{Refusal}
 use Rattle.spi_report.specs.Refused.{refused_text}
 use Rattle.cryptyc.specs.declared.status.Status.{Status}
@@ -23,7 +23,7 @@ abbrev pub start_of : List ℕ → List Token → ℕ
 start_of bytes [] = length bytes
 start_of bytes (token ∷ rest) = token.span.from
 
--- the number of a fault of scopes, where it stands, and what it shows
+-- the number of a fault of scopes, and what it shows
 abbrev pub scope_number : ScopeFault → ℕ
 scope_number (UnknownName s w) = 30
 scope_number (UnknownType s w) = 31
@@ -34,17 +34,6 @@ scope_number (TypeTooLarge s n) = 35
 scope_number (FileTooLarge s n) = 36
 scope_number (ScheduleTooLong s n) = 37
 scope_number OutOfMemory = 0
-
-abbrev pub scope_offset : ScopeFault → ℕ
-scope_offset (UnknownName s w) = s.from
-scope_offset (UnknownType s w) = s.from
-scope_offset (NameTwice s w) = s.from
-scope_offset (TypeTwice s w) = s.from
-scope_offset (MessageTooLarge s n) = s.from
-scope_offset (TypeTooLarge s n) = s.from
-scope_offset (FileTooLarge s n) = s.from
-scope_offset (ScheduleTooLong s n) = s.from
-scope_offset OutOfMemory = 0
 
 abbrev pub scope_shown : ScopeFault → List ℕ
 scope_shown (UnknownName s w) = w
@@ -69,7 +58,7 @@ pub data Refuses (bytes : List ℕ) : ℕ → Option ℕ → List ℕ → Type 0
   too_deep : {tokens : List Token} {i : ℕ} → length bytes ≤ limit → Lexes bytes (Ok tokens)
       → IsDeepAt whole_file IsFile (kinds_of tokens) i → Refuses bytes 21 (Some (start_of bytes (drop i tokens))) []
   out_of_scope : {tree : File} {fault : ScopeFault} → IsTreeOf bytes tree → HasFirst tree fault
-      → Refuses bytes (scope_number fault) (Some (scope_offset fault)) (scope_shown fault)
+      → Refuses bytes (scope_number fault) (Some (span_from fault)) (scope_shown fault)
 
 -- the text is the line of that refusal
 abbrev pub IsRefusal : List ℕ → List ℕ → Type 0

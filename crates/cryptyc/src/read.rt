@@ -6,9 +6,9 @@ ghost use Rattle.spi_lex.specs.Writing.{AreKinds, AreSpans, spans_of};
 ghost use Rattle.spi_lex.specs.Lexing.{kinds_of};
 ghost use Rattle.spi_tree.specs.Views.{file_of};
 ghost use Rattle.spi_scope.specs.Files.{meant};
-ghost use Rattle.spi_scope.specs.First.{HasFirst};
+ghost use Rattle.spi_scope.specs.FaultPlaces.{span_from};
 ghost use Rattle.cryptyc.specs.Spelled.{IsTreeOf, SpellsFile};
-ghost use Rattle.cryptyc.specs.Answer.{Refuses, start_of, scope_number, scope_offset, scope_shown};
+ghost use Rattle.cryptyc.specs.Answer.{Refuses, start_of, scope_number, scope_shown};
 ghost use Rattle.cryptyc.specs.Reading.{IsUnread, Tells};
 
 use spi_lex::{LexFault, Token, lex};
@@ -117,7 +117,7 @@ fn read_tree(alloc: Global, bytes: &[u8], tree: &Tree) -> Result<File, Unread>
 
 /// The refusal of a fault of scopes.
 fn out_of_scope(alloc: Global, fault: ScopeFault) -> Unread
-    ensures { Tells (scope_number fault) (scope_offset fault) (scope_shown fault) result }
+    ensures { Tells (scope_number fault) (span_from fault) (scope_shown fault) result }
 {
     match fault {
         ScopeFault::UnknownName { span, word } => shown_word(alloc, 30, span, &word),
