@@ -18,7 +18,9 @@ pub struct Cursor<'t> {
 }
 
 pub const MESSAGE_LIMIT: u32 = 1000;
+
 const PROCESS_LIMIT: u32 = 500;
+
 const DERIVATION_LIMIT: u32 = 1000;
 
 /// No tree goes on where so many tokens are left.

@@ -15,14 +15,26 @@ use spi_text::Span;
 use spi_tree::SAtom;
 use std::alloc::Global;
 
-fn atom<'t>(alloc: Global, at: Cursor<'t>, later: bool, numbered: bool, nesting: u32) -> Result<(SAtom, Cursor<'t>), Stop>
+fn atom<'t>(
+    alloc: Global,
+    at: Cursor<'t>,
+    later: bool,
+    numbered: bool,
+    nesting: u32,
+) -> Result<(SAtom, Cursor<'t>), Stop>
     requires { nesting ≤ 1001 }
     ensures { Gives (λ x. (atom_of x.0, state_of x.1)) result (read limited (atom later numbered nesting) (state_of at.entry)) }
 {
     atom_step(alloc, at, later, numbered, nesting)
 }
 
-fn atom_step<'t>(alloc: Global, at: Cursor<'t>, later: bool, numbered: bool, nesting: u32) -> Result<(SAtom, Cursor<'t>), Stop>
+fn atom_step<'t>(
+    alloc: Global,
+    at: Cursor<'t>,
+    later: bool,
+    numbered: bool,
+    nesting: u32,
+) -> Result<(SAtom, Cursor<'t>), Stop>
     requires { nesting ≤ 1001 }
     ensures { Gives (λ x. (atom_of x.0, state_of x.1)) result (step limited (read limited) (atom later numbered nesting) (state_of at.entry)) }
 {
@@ -68,14 +80,26 @@ fn atom_step<'t>(alloc: Global, at: Cursor<'t>, later: bool, numbered: bool, nes
     }
 }
 
-fn next_atom<'t>(alloc: Global, at: Cursor<'t>, later: bool, numbered: bool, nesting: u32) -> Result<(Option<SAtom>, Cursor<'t>), Stop>
+fn next_atom<'t>(
+    alloc: Global,
+    at: Cursor<'t>,
+    later: bool,
+    numbered: bool,
+    nesting: u32,
+) -> Result<(Option<SAtom>, Cursor<'t>), Stop>
     requires { nesting ≤ 1001 }
     ensures { Gives (λ x. (item_of atom_of tt x.0, state_of x.1)) result (read limited (atoms_item later numbered nesting) (state_of at.entry)) }
 {
     next_atom_step(alloc, at, later, numbered, nesting)
 }
 
-fn next_atom_step<'t>(alloc: Global, at: Cursor<'t>, later: bool, numbered: bool, nesting: u32) -> Result<(Option<SAtom>, Cursor<'t>), Stop>
+fn next_atom_step<'t>(
+    alloc: Global,
+    at: Cursor<'t>,
+    later: bool,
+    numbered: bool,
+    nesting: u32,
+) -> Result<(Option<SAtom>, Cursor<'t>), Stop>
     requires { nesting ≤ 1001 }
     ensures { Gives (λ x. (item_of atom_of tt x.0, state_of x.1)) result (step limited (read limited) (atoms_item later numbered nesting) (state_of at.entry)) }
 {
@@ -96,7 +120,13 @@ fn next_atom_step<'t>(alloc: Global, at: Cursor<'t>, later: bool, numbered: bool
     }
 }
 
-fn more_atoms<'t>(alloc: Global, start: Cursor<'t>, later: bool, numbered: bool, nesting: u32) -> Result<(Vec<SAtom>, Cursor<'t>), Stop>
+fn more_atoms<'t>(
+    alloc: Global,
+    start: Cursor<'t>,
+    later: bool,
+    numbered: bool,
+    nesting: u32,
+) -> Result<(Vec<SAtom>, Cursor<'t>), Stop>
     requires { nesting ≤ 1001 }
     ensures { Gives (λ x. ((map atom_of x.0.items, tt), state_of x.1)) result (read limited (atoms later numbered nesting) (state_of start.entry)) }
 {
@@ -113,14 +143,26 @@ fn more_atoms<'t>(alloc: Global, start: Cursor<'t>, later: bool, numbered: bool,
 }
 
 /// An effect whose atoms have this nesting, or 0 where they have none.
-pub fn effect<'t>(alloc: Global, at: Cursor<'t>, later: bool, numbered: bool, nesting: u32) -> Result<(Vec<SAtom>, Cursor<'t>), Stop>
+pub fn effect<'t>(
+    alloc: Global,
+    at: Cursor<'t>,
+    later: bool,
+    numbered: bool,
+    nesting: u32,
+) -> Result<(Vec<SAtom>, Cursor<'t>), Stop>
     requires { nesting ≤ 1001 }
     ensures { Gives (λ x. (map atom_of x.0.items, state_of x.1)) result (read limited (effect later numbered nesting) (state_of at.entry)) }
 {
     effect_step(alloc, at, later, numbered, nesting)
 }
 
-fn effect_step<'t>(alloc: Global, at: Cursor<'t>, later: bool, numbered: bool, nesting: u32) -> Result<(Vec<SAtom>, Cursor<'t>), Stop>
+fn effect_step<'t>(
+    alloc: Global,
+    at: Cursor<'t>,
+    later: bool,
+    numbered: bool,
+    nesting: u32,
+) -> Result<(Vec<SAtom>, Cursor<'t>), Stop>
     requires { nesting ≤ 1001 }
     ensures { Gives (λ x. (map atom_of x.0.items, state_of x.1)) result (step limited (read limited) (effect later numbered nesting) (state_of at.entry)) }
 {
@@ -139,7 +181,14 @@ fn effect_step<'t>(alloc: Global, at: Cursor<'t>, later: bool, numbered: bool, n
     }
 }
 
-fn effect_in_brackets<'t>(alloc: Global, _first: Span, at: Cursor<'t>, later: bool, numbered: bool, nesting: u32) -> Result<(Vec<SAtom>, Cursor<'t>), Stop>
+fn effect_in_brackets<'t>(
+    alloc: Global,
+    _first: Span,
+    at: Cursor<'t>,
+    later: bool,
+    numbered: bool,
+    nesting: u32,
+) -> Result<(Vec<SAtom>, Cursor<'t>), Stop>
     requires { nesting ≤ 1001 }
     ensures { Gives (λ x. (map atom_of x.0.items, state_of x.1)) result (behind limited (read limited) (delta_bracket later numbered nesting) (_first ∷ []) (state_of at.entry)) }
 {
@@ -158,7 +207,13 @@ fn effect_in_brackets<'t>(alloc: Global, _first: Span, at: Cursor<'t>, later: bo
     }
 }
 
-fn some_atoms<'t>(alloc: Global, at: Cursor<'t>, later: bool, numbered: bool, nesting: u32) -> Result<(Vec<SAtom>, Cursor<'t>), Stop>
+fn some_atoms<'t>(
+    alloc: Global,
+    at: Cursor<'t>,
+    later: bool,
+    numbered: bool,
+    nesting: u32,
+) -> Result<(Vec<SAtom>, Cursor<'t>), Stop>
     requires { nesting ≤ 1001 }
     ensures { Gives (λ x. (map atom_of x.0.items, state_of x.1)) result (effect_form later numbered nesting [] (state_of at.entry)) }
 {

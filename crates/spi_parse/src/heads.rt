@@ -22,7 +22,11 @@ fn named<'t>(alloc: Global, at: Cursor<'t>, later: bool) -> Result<(SWord, STy, 
     named_step(alloc, at, later)
 }
 
-fn named_step<'t>(alloc: Global, at: Cursor<'t>, later: bool) -> Result<(SWord, STy, Cursor<'t>), Stop>
+fn named_step<'t>(
+    alloc: Global,
+    at: Cursor<'t>,
+    later: bool,
+) -> Result<(SWord, STy, Cursor<'t>), Stop>
     ensures { Gives (λ x. ((x.0, ty_of x.1), state_of x.2)) result (step limited (read limited) (named later) (state_of at.entry)) }
 {
     let [_, ..] = at.rest else {
@@ -35,13 +39,21 @@ fn named_step<'t>(alloc: Global, at: Cursor<'t>, later: bool) -> Result<(SWord, 
 }
 
 /// A name with its type in parentheses, and the semicolon.
-pub fn binder<'t>(alloc: Global, at: Cursor<'t>, later: bool) -> Result<(SWord, STy, Cursor<'t>), Stop>
+pub fn binder<'t>(
+    alloc: Global,
+    at: Cursor<'t>,
+    later: bool,
+) -> Result<(SWord, STy, Cursor<'t>), Stop>
     ensures { Gives (λ x. ((x.0, ty_of x.1), state_of x.2)) result (read limited (binder later) (state_of at.entry)) }
 {
     binder_step(alloc, at, later)
 }
 
-fn binder_step<'t>(alloc: Global, at: Cursor<'t>, later: bool) -> Result<(SWord, STy, Cursor<'t>), Stop>
+fn binder_step<'t>(
+    alloc: Global,
+    at: Cursor<'t>,
+    later: bool,
+) -> Result<(SWord, STy, Cursor<'t>), Stop>
     ensures { Gives (λ x. ((x.0, ty_of x.1), state_of x.2)) result (step limited (read limited) (binder later) (state_of at.entry)) }
 {
     let [first, rest @ ..] = at.rest else {
@@ -63,13 +75,21 @@ fn binder_step<'t>(alloc: Global, at: Cursor<'t>, later: bool) -> Result<(SWord,
 }
 
 /// The names of a split, from `is` on.
-pub fn split_head<'t>(alloc: Global, at: Cursor<'t>, later: bool) -> Result<(SWord, STy, SWord, STy, Cursor<'t>), Stop>
+pub fn split_head<'t>(
+    alloc: Global,
+    at: Cursor<'t>,
+    later: bool,
+) -> Result<(SWord, STy, SWord, STy, Cursor<'t>), Stop>
     ensures { Gives (λ x. ((x.0, ty_of x.1, x.2, ty_of x.3), state_of x.4)) result (read limited (split_head later) (state_of at.entry)) }
 {
     split_head_step(alloc, at, later)
 }
 
-fn split_head_step<'t>(alloc: Global, at: Cursor<'t>, later: bool) -> Result<(SWord, STy, SWord, STy, Cursor<'t>), Stop>
+fn split_head_step<'t>(
+    alloc: Global,
+    at: Cursor<'t>,
+    later: bool,
+) -> Result<(SWord, STy, SWord, STy, Cursor<'t>), Stop>
     ensures { Gives (λ x. ((x.0, ty_of x.1, x.2, ty_of x.3), state_of x.4)) result (step limited (read limited) (split_head later) (state_of at.entry)) }
 {
     let [first, rest @ ..] = at.rest else {
@@ -94,13 +114,21 @@ fn split_head_step<'t>(alloc: Global, at: Cursor<'t>, later: bool) -> Result<(SW
 }
 
 /// The names of a match, from `is` on.
-pub fn match_head<'t>(alloc: Global, at: Cursor<'t>, later: bool) -> Result<(SWord, STy, SMsg, SWord, STy, Cursor<'t>), Stop>
+pub fn match_head<'t>(
+    alloc: Global,
+    at: Cursor<'t>,
+    later: bool,
+) -> Result<(SWord, STy, SMsg, SWord, STy, Cursor<'t>), Stop>
     ensures { Gives (λ x. ((x.0, ty_of x.1, msg_of x.2, x.3, ty_of x.4), state_of x.5)) result (read limited (match_head later) (state_of at.entry)) }
 {
     match_head_step(alloc, at, later)
 }
 
-fn match_head_step<'t>(alloc: Global, at: Cursor<'t>, later: bool) -> Result<(SWord, STy, SMsg, SWord, STy, Cursor<'t>), Stop>
+fn match_head_step<'t>(
+    alloc: Global,
+    at: Cursor<'t>,
+    later: bool,
+) -> Result<(SWord, STy, SMsg, SWord, STy, Cursor<'t>), Stop>
     ensures { Gives (λ x. ((x.0, ty_of x.1, msg_of x.2, x.3, ty_of x.4), state_of x.5)) result (step limited (read limited) (match_head later) (state_of at.entry)) }
 {
     let [first, rest @ ..] = at.rest else {
@@ -127,13 +155,23 @@ fn match_head_step<'t>(alloc: Global, at: Cursor<'t>, later: bool) -> Result<(SW
 }
 
 /// The name of a side of a case, from `is` on.
-pub fn case_head<'t>(alloc: Global, at: Cursor<'t>, later: bool, side: Reserved) -> Result<(SWord, STy, Cursor<'t>), Stop>
+pub fn case_head<'t>(
+    alloc: Global,
+    at: Cursor<'t>,
+    later: bool,
+    side: Reserved,
+) -> Result<(SWord, STy, Cursor<'t>), Stop>
     ensures { Gives (λ x. ((x.0, ty_of x.1), state_of x.2)) result (read limited (case_head later side) (state_of at.entry)) }
 {
     case_head_step(alloc, at, later, side)
 }
 
-fn case_head_step<'t>(alloc: Global, at: Cursor<'t>, later: bool, side: Reserved) -> Result<(SWord, STy, Cursor<'t>), Stop>
+fn case_head_step<'t>(
+    alloc: Global,
+    at: Cursor<'t>,
+    later: bool,
+    side: Reserved,
+) -> Result<(SWord, STy, Cursor<'t>), Stop>
     ensures { Gives (λ x. ((x.0, ty_of x.1), state_of x.2)) result (step limited (read limited) (case_head later side) (state_of at.entry)) }
 {
     let [first, rest @ ..] = at.rest else {
@@ -153,13 +191,21 @@ fn case_head_step<'t>(alloc: Global, at: Cursor<'t>, later: bool, side: Reserved
 }
 
 /// The name and the key of a decryption, from `is` on.
-pub fn decrypt_head<'t>(alloc: Global, at: Cursor<'t>, later: bool) -> Result<(SWord, STy, SMsg, Cursor<'t>), Stop>
+pub fn decrypt_head<'t>(
+    alloc: Global,
+    at: Cursor<'t>,
+    later: bool,
+) -> Result<(SWord, STy, SMsg, Cursor<'t>), Stop>
     ensures { Gives (λ x. ((x.0, ty_of x.1, msg_of x.2), state_of x.3)) result (read limited (decrypt_head later) (state_of at.entry)) }
 {
     decrypt_head_step(alloc, at, later)
 }
 
-fn decrypt_head_step<'t>(alloc: Global, at: Cursor<'t>, later: bool) -> Result<(SWord, STy, SMsg, Cursor<'t>), Stop>
+fn decrypt_head_step<'t>(
+    alloc: Global,
+    at: Cursor<'t>,
+    later: bool,
+) -> Result<(SWord, STy, SMsg, Cursor<'t>), Stop>
     ensures { Gives (λ x. ((x.0, ty_of x.1, msg_of x.2), state_of x.3)) result (step limited (read limited) (decrypt_head later) (state_of at.entry)) }
 {
     let [first, rest @ ..] = at.rest else {
@@ -183,13 +229,21 @@ fn decrypt_head_step<'t>(alloc: Global, at: Cursor<'t>, later: bool) -> Result<(
 }
 
 /// The nonce of a check, from `is` on.
-pub fn check_head<'t>(alloc: Global, at: Cursor<'t>, later: bool) -> Result<(SMsg, Cursor<'t>), Stop>
+pub fn check_head<'t>(
+    alloc: Global,
+    at: Cursor<'t>,
+    later: bool,
+) -> Result<(SMsg, Cursor<'t>), Stop>
     ensures { Gives (λ x. (msg_of x.0, state_of x.1)) result (read limited (check_head later) (state_of at.entry)) }
 {
     check_head_step(alloc, at, later)
 }
 
-fn check_head_step<'t>(alloc: Global, at: Cursor<'t>, later: bool) -> Result<(SMsg, Cursor<'t>), Stop>
+fn check_head_step<'t>(
+    alloc: Global,
+    at: Cursor<'t>,
+    later: bool,
+) -> Result<(SMsg, Cursor<'t>), Stop>
     ensures { Gives (λ x. (msg_of x.0, state_of x.1)) result (step limited (read limited) (check_head later) (state_of at.entry)) }
 {
     let [first, rest @ ..] = at.rest else {
@@ -210,13 +264,21 @@ fn check_head_step<'t>(alloc: Global, at: Cursor<'t>, later: bool) -> Result<(SM
 }
 
 /// The name of a cast, from `is` on.
-pub fn cast_head<'t>(alloc: Global, at: Cursor<'t>, later: bool) -> Result<(SWord, STy, Cursor<'t>), Stop>
+pub fn cast_head<'t>(
+    alloc: Global,
+    at: Cursor<'t>,
+    later: bool,
+) -> Result<(SWord, STy, Cursor<'t>), Stop>
     ensures { Gives (λ x. ((x.0, ty_of x.1), state_of x.2)) result (read limited (cast_head later) (state_of at.entry)) }
 {
     cast_head_step(alloc, at, later)
 }
 
-fn cast_head_step<'t>(alloc: Global, at: Cursor<'t>, later: bool) -> Result<(SWord, STy, Cursor<'t>), Stop>
+fn cast_head_step<'t>(
+    alloc: Global,
+    at: Cursor<'t>,
+    later: bool,
+) -> Result<(SWord, STy, Cursor<'t>), Stop>
     ensures { Gives (λ x. ((x.0, ty_of x.1), state_of x.2)) result (step limited (read limited) (cast_head later) (state_of at.entry)) }
 {
     let [first, rest @ ..] = at.rest else {
@@ -227,10 +289,7 @@ fn cast_head_step<'t>(alloc: Global, at: Cursor<'t>, later: bool) -> Result<(SWo
         end: first.span.to,
     };
     match first.kind {
-        Kind::Reserved(Reserved::Is) => {
-            binder(alloc, next, later)
-        }
+        Kind::Reserved(Reserved::Is) => { binder(alloc, next, later) }
         _ => Err(syntax(at.rest.len())),
     }
 }
-

@@ -36,7 +36,13 @@ fn make_tuple(
 
 /// A message of a nesting. In version 2 it may have hashes, and numbers may stand in the place of names.
 #[cycle(messages)]
-pub fn message<'t>(alloc: Global, at: Cursor<'t>, later: bool, numbered: bool, nesting: u32) -> Result<(SMsg, Cursor<'t>), Stop>
+pub fn message<'t>(
+    alloc: Global,
+    at: Cursor<'t>,
+    later: bool,
+    numbered: bool,
+    nesting: u32,
+) -> Result<(SMsg, Cursor<'t>), Stop>
     requires { nesting ≤ 1001 }
     ensures { Gives (λ x. (msg_of x.0, state_of x.1)) result (read limited (msg later numbered nesting) (state_of at.entry)) }
 {
@@ -44,7 +50,13 @@ pub fn message<'t>(alloc: Global, at: Cursor<'t>, later: bool, numbered: bool, n
 }
 
 #[cycle(messages)]
-fn message_step<'t>(alloc: Global, at: Cursor<'t>, later: bool, numbered: bool, nesting: u32) -> Result<(SMsg, Cursor<'t>), Stop>
+fn message_step<'t>(
+    alloc: Global,
+    at: Cursor<'t>,
+    later: bool,
+    numbered: bool,
+    nesting: u32,
+) -> Result<(SMsg, Cursor<'t>), Stop>
     requires { nesting ≤ 1001 }
     ensures { Gives (λ x. (msg_of x.0, state_of x.1)) result (step limited (read limited) (msg later numbered nesting) (state_of at.entry)) }
 {
@@ -111,7 +123,12 @@ fn message_step<'t>(alloc: Global, at: Cursor<'t>, later: bool, numbered: bool, 
     }
 }
 
-fn read_name<'t>(alloc: Global, word: &Text, span: Span, at: Cursor<'t>) -> Result<(SMsg, Cursor<'t>), Stop>
+fn read_name<'t>(
+    alloc: Global,
+    word: &Text,
+    span: Span,
+    at: Cursor<'t>,
+) -> Result<(SMsg, Cursor<'t>), Stop>
     ensures { Gives (λ x. (msg_of x.0, state_of x.1)) result (done (name span (word_at word.now span)) (state_of at.entry)) }
 {
     let name = SWord {
@@ -121,7 +138,13 @@ fn read_name<'t>(alloc: Global, word: &Text, span: Span, at: Cursor<'t>) -> Resu
     Ok((SMsg::Name { name, span }, at))
 }
 
-fn read_numeral<'t>(first: Span, at: Cursor<'t>, later: bool, numbered: bool, nesting: u32) -> Result<(SMsg, Cursor<'t>), Stop>
+fn read_numeral<'t>(
+    first: Span,
+    at: Cursor<'t>,
+    later: bool,
+    numbered: bool,
+    nesting: u32,
+) -> Result<(SMsg, Cursor<'t>), Stop>
     ensures { Gives (λ x. (msg_of x.0, state_of x.1)) result (numeral_form later numbered nesting (first ∷ []) (state_of at.entry)) }
 {
     let (number, at) = take_number(at)?;
@@ -133,7 +156,14 @@ fn read_numeral<'t>(first: Span, at: Cursor<'t>, later: bool, numbered: bool, ne
 }
 
 #[cycle(messages)]
-fn read_enc<'t>(alloc: Global, first: Span, at: Cursor<'t>, later: bool, numbered: bool, nesting: u32) -> Result<(SMsg, Cursor<'t>), Stop>
+fn read_enc<'t>(
+    alloc: Global,
+    first: Span,
+    at: Cursor<'t>,
+    later: bool,
+    numbered: bool,
+    nesting: u32,
+) -> Result<(SMsg, Cursor<'t>), Stop>
     requires { nesting ≤ 1000 }
     ensures { Gives (λ x. (msg_of x.0, state_of x.1)) result (enc_form later numbered nesting (first ∷ []) (state_of at.entry)) }
 {
@@ -155,7 +185,14 @@ fn read_enc<'t>(alloc: Global, first: Span, at: Cursor<'t>, later: bool, numbere
 }
 
 #[cycle(messages)]
-fn read_inl<'t>(alloc: Global, first: Span, at: Cursor<'t>, later: bool, numbered: bool, nesting: u32) -> Result<(SMsg, Cursor<'t>), Stop>
+fn read_inl<'t>(
+    alloc: Global,
+    first: Span,
+    at: Cursor<'t>,
+    later: bool,
+    numbered: bool,
+    nesting: u32,
+) -> Result<(SMsg, Cursor<'t>), Stop>
     requires { nesting ≤ 1000 }
     ensures { Gives (λ x. (msg_of x.0, state_of x.1)) result (inl_form later numbered nesting (first ∷ []) (state_of at.entry)) }
 {
@@ -169,7 +206,14 @@ fn read_inl<'t>(alloc: Global, first: Span, at: Cursor<'t>, later: bool, numbere
 }
 
 #[cycle(messages)]
-fn read_inr<'t>(alloc: Global, first: Span, at: Cursor<'t>, later: bool, numbered: bool, nesting: u32) -> Result<(SMsg, Cursor<'t>), Stop>
+fn read_inr<'t>(
+    alloc: Global,
+    first: Span,
+    at: Cursor<'t>,
+    later: bool,
+    numbered: bool,
+    nesting: u32,
+) -> Result<(SMsg, Cursor<'t>), Stop>
     requires { nesting ≤ 1000 }
     ensures { Gives (λ x. (msg_of x.0, state_of x.1)) result (inr_form later numbered nesting (first ∷ []) (state_of at.entry)) }
 {
@@ -183,7 +227,14 @@ fn read_inr<'t>(alloc: Global, first: Span, at: Cursor<'t>, later: bool, numbere
 }
 
 #[cycle(messages)]
-fn read_hash<'t>(alloc: Global, first: Span, at: Cursor<'t>, later: bool, numbered: bool, nesting: u32) -> Result<(SMsg, Cursor<'t>), Stop>
+fn read_hash<'t>(
+    alloc: Global,
+    first: Span,
+    at: Cursor<'t>,
+    later: bool,
+    numbered: bool,
+    nesting: u32,
+) -> Result<(SMsg, Cursor<'t>), Stop>
     requires { nesting ≤ 1000 }
     ensures { Gives (λ x. (msg_of x.0, state_of x.1)) result (hash_form later numbered nesting (first ∷ []) (state_of at.entry)) }
 {
@@ -199,7 +250,14 @@ fn read_hash<'t>(alloc: Global, first: Span, at: Cursor<'t>, later: bool, number
 }
 
 #[cycle(messages)]
-fn message_in_parens<'t>(alloc: Global, first: Span, at: Cursor<'t>, later: bool, numbered: bool, nesting: u32) -> Result<(SMsg, Cursor<'t>), Stop>
+fn message_in_parens<'t>(
+    alloc: Global,
+    first: Span,
+    at: Cursor<'t>,
+    later: bool,
+    numbered: bool,
+    nesting: u32,
+) -> Result<(SMsg, Cursor<'t>), Stop>
     requires { nesting ≤ 1000 }
     ensures { Gives (λ x. (msg_of x.0, state_of x.1)) result (behind limited (read limited) (delta_paren later numbered nesting) (first ∷ []) (state_of at.entry)) }
 {
@@ -220,7 +278,14 @@ fn message_in_parens<'t>(alloc: Global, first: Span, at: Cursor<'t>, later: bool
 }
 
 #[cycle(messages)]
-fn read_tuple<'t>(alloc: Global, opening: Span, at: Cursor<'t>, later: bool, numbered: bool, nesting: u32) -> Result<(SMsg, Cursor<'t>), Stop>
+fn read_tuple<'t>(
+    alloc: Global,
+    opening: Span,
+    at: Cursor<'t>,
+    later: bool,
+    numbered: bool,
+    nesting: u32,
+) -> Result<(SMsg, Cursor<'t>), Stop>
     requires { nesting ≤ 1000 }
     ensures { Gives (λ x. (msg_of x.0, state_of x.1)) result (tuple_form later numbered nesting (opening ∷ []) (state_of at.entry)) }
 {
@@ -232,7 +297,14 @@ fn read_tuple<'t>(alloc: Global, opening: Span, at: Cursor<'t>, later: bool, num
 }
 
 /// The tuple of these parts, which ends before this place.
-fn end_tuple<'t>(alloc: Global, opening: Span, first: SMsg, second: SMsg, more: Vec<SMsg>, at: Cursor<'t>) -> Result<(SMsg, Cursor<'t>), Stop>
+fn end_tuple<'t>(
+    alloc: Global,
+    opening: Span,
+    first: SMsg,
+    second: SMsg,
+    more: Vec<SMsg>,
+    at: Cursor<'t>,
+) -> Result<(SMsg, Cursor<'t>), Stop>
     ensures { Gives (λ x. (msg_of x.0, state_of x.1)) result (done (tuple (over (opening ∷ []) at.entry.end) (msg_of first) (msg_of second) (msgs_of_list (map msg_of more.items))) (state_of at.entry)) }
 {
     let span = Span {
@@ -244,7 +316,13 @@ fn end_tuple<'t>(alloc: Global, opening: Span, first: SMsg, second: SMsg, more: 
 }
 
 #[cycle(messages)]
-fn more_messages<'t>(alloc: Global, start: Cursor<'t>, later: bool, numbered: bool, nesting: u32) -> Result<(Vec<SMsg>, Cursor<'t>), Stop>
+fn more_messages<'t>(
+    alloc: Global,
+    start: Cursor<'t>,
+    later: bool,
+    numbered: bool,
+    nesting: u32,
+) -> Result<(Vec<SMsg>, Cursor<'t>), Stop>
     requires { nesting ≤ 1001 }
     ensures { Gives (λ x. ((map msg_of x.0.items, tt), state_of x.1)) result (read limited (msgs later numbered nesting) (state_of start.entry)) }
 {
@@ -261,7 +339,13 @@ fn more_messages<'t>(alloc: Global, start: Cursor<'t>, later: bool, numbered: bo
 }
 
 #[cycle(messages)]
-fn next_message<'t>(alloc: Global, at: Cursor<'t>, later: bool, numbered: bool, nesting: u32) -> Result<(Option<SMsg>, Cursor<'t>), Stop>
+fn next_message<'t>(
+    alloc: Global,
+    at: Cursor<'t>,
+    later: bool,
+    numbered: bool,
+    nesting: u32,
+) -> Result<(Option<SMsg>, Cursor<'t>), Stop>
     requires { nesting ≤ 1001 }
     ensures { Gives (λ x. (item_of msg_of tt x.0, state_of x.1)) result (read limited (msgs_item later numbered nesting) (state_of at.entry)) }
 {
@@ -269,7 +353,13 @@ fn next_message<'t>(alloc: Global, at: Cursor<'t>, later: bool, numbered: bool, 
 }
 
 #[cycle(messages)]
-fn next_message_step<'t>(alloc: Global, at: Cursor<'t>, later: bool, numbered: bool, nesting: u32) -> Result<(Option<SMsg>, Cursor<'t>), Stop>
+fn next_message_step<'t>(
+    alloc: Global,
+    at: Cursor<'t>,
+    later: bool,
+    numbered: bool,
+    nesting: u32,
+) -> Result<(Option<SMsg>, Cursor<'t>), Stop>
     requires { nesting ≤ 1001 }
     ensures { Gives (λ x. (item_of msg_of tt x.0, state_of x.1)) result (step limited (read limited) (msgs_item later numbered nesting) (state_of at.entry)) }
 {

@@ -112,5 +112,4 @@ pub fn process_at(
 /// Two formed trees with the same tokens are equal up to spans.
 pub fn one_tree()
     ensures { (f g : File) → IsFile f → IsFile g → tokens_of f ≡ tokens_of g → bare_file f ≡ bare_file g }
-{
-}
+{}

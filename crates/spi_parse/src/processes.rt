@@ -14,7 +14,9 @@ use crate::NoMemory;
 use crate::cursor::{Cursor, process_fits, syntax};
 use crate::fault::Stop;
 use crate::forms::{Event, Form, Open, Plain, Talk, form_of};
-use crate::heads::{binder, case_head, cast_head, check_head, decrypt_head, match_head, split_head};
+use crate::heads::{
+    binder, case_head, cast_head, check_head, decrypt_head, match_head, split_head,
+};
 use crate::messages::message;
 use crate::reading::{take_mark, take_reserved};
 use spi_lex::{Kind, Mark, Reserved};
@@ -23,7 +25,12 @@ use spi_tree::{SMsg, SProc};
 use std::alloc::Global;
 
 /// A process of a level.
-pub fn process<'t>(alloc: Global, at: Cursor<'t>, later: bool, level: u32) -> Result<(SProc, Cursor<'t>), Stop>
+pub fn process<'t>(
+    alloc: Global,
+    at: Cursor<'t>,
+    later: bool,
+    level: u32,
+) -> Result<(SProc, Cursor<'t>), Stop>
     requires { level ≤ 500 }
     ensures { Gives (λ x. (proc_of x.0, state_of x.1)) result (read limited (sproc later level) (state_of at.entry)) }
 {
@@ -38,7 +45,12 @@ fn boxed(alloc: Global, tree: SProc) -> Result<Box<SProc>, NoMemory>
 }
 
 #[cycle(processes)]
-fn parallel<'t>(alloc: Global, at: Cursor<'t>, later: bool, level: u32) -> Result<(Box<SProc>, Cursor<'t>), Stop>
+fn parallel<'t>(
+    alloc: Global,
+    at: Cursor<'t>,
+    later: bool,
+    level: u32,
+) -> Result<(Box<SProc>, Cursor<'t>), Stop>
     requires { level ≤ 500 }
     ensures { Gives (λ x. (proc_of x.0.value, state_of x.1)) result (read limited (sproc later level) (state_of at.entry)) }
 {
@@ -46,7 +58,12 @@ fn parallel<'t>(alloc: Global, at: Cursor<'t>, later: bool, level: u32) -> Resul
 }
 
 #[cycle(processes)]
-fn parallel_step<'t>(alloc: Global, at: Cursor<'t>, later: bool, level: u32) -> Result<(Box<SProc>, Cursor<'t>), Stop>
+fn parallel_step<'t>(
+    alloc: Global,
+    at: Cursor<'t>,
+    later: bool,
+    level: u32,
+) -> Result<(Box<SProc>, Cursor<'t>), Stop>
     requires { level ≤ 500 }
     ensures { Gives (λ x. (proc_of x.0.value, state_of x.1)) result (step limited (read limited) (sproc later level) (state_of at.entry)) }
 {
@@ -67,7 +84,12 @@ fn parallel_step<'t>(alloc: Global, at: Cursor<'t>, later: bool, level: u32) -> 
 }
 
 #[cycle(processes)]
-fn sequence<'t>(alloc: Global, at: Cursor<'t>, later: bool, nesting: u32) -> Result<(Box<SProc>, Cursor<'t>), Stop>
+fn sequence<'t>(
+    alloc: Global,
+    at: Cursor<'t>,
+    later: bool,
+    nesting: u32,
+) -> Result<(Box<SProc>, Cursor<'t>), Stop>
     requires { nesting ≤ 501 }
     ensures { Gives (λ x. (proc_of x.0.value, state_of x.1)) result (read limited (seq later nesting) (state_of at.entry)) }
 {
@@ -75,7 +97,12 @@ fn sequence<'t>(alloc: Global, at: Cursor<'t>, later: bool, nesting: u32) -> Res
 }
 
 #[cycle(processes)]
-fn sequence_step<'t>(alloc: Global, at: Cursor<'t>, later: bool, nesting: u32) -> Result<(Box<SProc>, Cursor<'t>), Stop>
+fn sequence_step<'t>(
+    alloc: Global,
+    at: Cursor<'t>,
+    later: bool,
+    nesting: u32,
+) -> Result<(Box<SProc>, Cursor<'t>), Stop>
     requires { nesting ≤ 501 }
     ensures { Gives (λ x. (proc_of x.0.value, state_of x.1)) result (step limited (read limited) (seq later nesting) (state_of at.entry)) }
 {
@@ -87,7 +114,13 @@ fn sequence_step<'t>(alloc: Global, at: Cursor<'t>, later: bool, nesting: u32) -
 }
 
 #[cycle(processes)]
-fn read_form<'t>(alloc: Global, form: Form, at: Cursor<'t>, later: bool, nesting: u32) -> Result<(Box<SProc>, Cursor<'t>), Stop>
+fn read_form<'t>(
+    alloc: Global,
+    form: Form,
+    at: Cursor<'t>,
+    later: bool,
+    nesting: u32,
+) -> Result<(Box<SProc>, Cursor<'t>), Stop>
     requires { nesting ≤ 501 }
     ensures { Gives (λ x. (proc_of x.0.value, state_of x.1)) result (by_form later nesting form (state_of at.entry)) }
 {
@@ -106,7 +139,13 @@ fn read_form<'t>(alloc: Global, form: Form, at: Cursor<'t>, later: bool, nesting
 }
 
 #[cycle(processes)]
-fn read_talk<'t>(alloc: Global, form: Talk, at: Cursor<'t>, later: bool, nesting: u32) -> Result<(Box<SProc>, Cursor<'t>), Stop>
+fn read_talk<'t>(
+    alloc: Global,
+    form: Talk,
+    at: Cursor<'t>,
+    later: bool,
+    nesting: u32,
+) -> Result<(Box<SProc>, Cursor<'t>), Stop>
     requires { nesting ≤ 501 }
     ensures { Gives (λ x. (proc_of x.0.value, state_of x.1)) result (by_form later nesting (forms.Talk form) (state_of at.entry)) }
 {
@@ -126,7 +165,13 @@ fn read_talk<'t>(alloc: Global, form: Talk, at: Cursor<'t>, later: bool, nesting
 }
 
 #[cycle(processes)]
-fn read_open<'t>(alloc: Global, form: Open, at: Cursor<'t>, later: bool, nesting: u32) -> Result<(Box<SProc>, Cursor<'t>), Stop>
+fn read_open<'t>(
+    alloc: Global,
+    form: Open,
+    at: Cursor<'t>,
+    later: bool,
+    nesting: u32,
+) -> Result<(Box<SProc>, Cursor<'t>), Stop>
     requires { nesting ≤ 501 }
     ensures { Gives (λ x. (proc_of x.0.value, state_of x.1)) result (by_form later nesting (forms.Open form) (state_of at.entry)) }
 {
@@ -147,7 +192,13 @@ fn read_open<'t>(alloc: Global, form: Open, at: Cursor<'t>, later: bool, nesting
 }
 
 #[cycle(processes)]
-fn read_event<'t>(alloc: Global, form: Event, at: Cursor<'t>, later: bool, nesting: u32) -> Result<(Box<SProc>, Cursor<'t>), Stop>
+fn read_event<'t>(
+    alloc: Global,
+    form: Event,
+    at: Cursor<'t>,
+    later: bool,
+    nesting: u32,
+) -> Result<(Box<SProc>, Cursor<'t>), Stop>
     requires { nesting ≤ 501 }
     ensures { Gives (λ x. (proc_of x.0.value, state_of x.1)) result (by_form later nesting (forms.Event form) (state_of at.entry)) }
 {
@@ -168,7 +219,13 @@ fn read_event<'t>(alloc: Global, form: Event, at: Cursor<'t>, later: bool, nesti
 }
 
 #[cycle(processes)]
-fn read_plain<'t>(alloc: Global, form: Plain, at: Cursor<'t>, later: bool, nesting: u32) -> Result<(Box<SProc>, Cursor<'t>), Stop>
+fn read_plain<'t>(
+    alloc: Global,
+    form: Plain,
+    at: Cursor<'t>,
+    later: bool,
+    nesting: u32,
+) -> Result<(Box<SProc>, Cursor<'t>), Stop>
     requires { nesting ≤ 501 }
     ensures { Gives (λ x. (proc_of x.0.value, state_of x.1)) result (by_form later nesting (forms.Plain form) (state_of at.entry)) }
 {
@@ -189,7 +246,13 @@ fn read_plain<'t>(alloc: Global, form: Plain, at: Cursor<'t>, later: bool, nesti
 }
 
 #[cycle(processes)]
-fn read_out<'t>(alloc: Global, first: Span, at: Cursor<'t>, later: bool, nesting: u32) -> Result<(Box<SProc>, Cursor<'t>), Stop>
+fn read_out<'t>(
+    alloc: Global,
+    first: Span,
+    at: Cursor<'t>,
+    later: bool,
+    nesting: u32,
+) -> Result<(Box<SProc>, Cursor<'t>), Stop>
     requires { nesting ≤ 500 }
     ensures { Gives (λ x. (proc_of x.0.value, state_of x.1)) result (out_form later nesting (first ∷ []) (state_of at.entry)) }
 {
@@ -223,7 +286,13 @@ fn make_out(channel: SMsg, datum: SMsg, then: Option<Box<SProc>>, span: Span) ->
 }
 
 #[cycle(processes)]
-fn read_inp<'t>(alloc: Global, first: Span, at: Cursor<'t>, later: bool, nesting: u32) -> Result<(Box<SProc>, Cursor<'t>), Stop>
+fn read_inp<'t>(
+    alloc: Global,
+    first: Span,
+    at: Cursor<'t>,
+    later: bool,
+    nesting: u32,
+) -> Result<(Box<SProc>, Cursor<'t>), Stop>
     requires { nesting ≤ 500 }
     ensures { Gives (λ x. (proc_of x.0.value, state_of x.1)) result (inp_form later nesting (first ∷ []) (state_of at.entry)) }
 {
@@ -234,18 +303,27 @@ fn read_inp<'t>(alloc: Global, first: Span, at: Cursor<'t>, later: bool, nesting
         from: first.from,
         to: at.end,
     };
-    let tree = boxed(alloc, SProc::Inp {
-        channel,
-        name,
-        ty,
-        then,
-        span,
-    })?;
+    let tree = boxed(
+        alloc,
+        SProc::Inp {
+            channel,
+            name,
+            ty,
+            then,
+            span,
+        },
+    )?;
     Ok((tree, at))
 }
 
 #[cycle(processes)]
-fn read_repeat<'t>(alloc: Global, first: Span, at: Cursor<'t>, later: bool, nesting: u32) -> Result<(Box<SProc>, Cursor<'t>), Stop>
+fn read_repeat<'t>(
+    alloc: Global,
+    first: Span,
+    at: Cursor<'t>,
+    later: bool,
+    nesting: u32,
+) -> Result<(Box<SProc>, Cursor<'t>), Stop>
     requires { nesting ≤ 500 }
     ensures { Gives (λ x. (proc_of x.0.value, state_of x.1)) result (repeat_form later nesting (first ∷ []) (state_of at.entry)) }
 {
@@ -257,18 +335,27 @@ fn read_repeat<'t>(alloc: Global, first: Span, at: Cursor<'t>, later: bool, nest
         from: first.from,
         to: at.end,
     };
-    let tree = boxed(alloc, SProc::Repeat {
-        channel,
-        name,
-        ty,
-        then,
-        span,
-    })?;
+    let tree = boxed(
+        alloc,
+        SProc::Repeat {
+            channel,
+            name,
+            ty,
+            then,
+            span,
+        },
+    )?;
     Ok((tree, at))
 }
 
 #[cycle(processes)]
-fn read_split<'t>(alloc: Global, first: Span, at: Cursor<'t>, later: bool, nesting: u32) -> Result<(Box<SProc>, Cursor<'t>), Stop>
+fn read_split<'t>(
+    alloc: Global,
+    first: Span,
+    at: Cursor<'t>,
+    later: bool,
+    nesting: u32,
+) -> Result<(Box<SProc>, Cursor<'t>), Stop>
     requires { nesting ≤ 500 }
     ensures { Gives (λ x. (proc_of x.0.value, state_of x.1)) result (split_form later nesting (first ∷ []) (state_of at.entry)) }
 {
@@ -279,20 +366,29 @@ fn read_split<'t>(alloc: Global, first: Span, at: Cursor<'t>, later: bool, nesti
         from: first.from,
         to: at.end,
     };
-    let tree = boxed(alloc, SProc::Split {
-        whole,
-        left,
-        left_ty,
-        right,
-        right_ty,
-        then,
-        span,
-    })?;
+    let tree = boxed(
+        alloc,
+        SProc::Split {
+            whole,
+            left,
+            left_ty,
+            right,
+            right_ty,
+            then,
+            span,
+        },
+    )?;
     Ok((tree, at))
 }
 
 #[cycle(processes)]
-fn read_match<'t>(alloc: Global, first: Span, at: Cursor<'t>, later: bool, nesting: u32) -> Result<(Box<SProc>, Cursor<'t>), Stop>
+fn read_match<'t>(
+    alloc: Global,
+    first: Span,
+    at: Cursor<'t>,
+    later: bool,
+    nesting: u32,
+) -> Result<(Box<SProc>, Cursor<'t>), Stop>
     requires { nesting ≤ 500 }
     ensures { Gives (λ x. (proc_of x.0.value, state_of x.1)) result (match_form later nesting (first ∷ []) (state_of at.entry)) }
 {
@@ -303,21 +399,30 @@ fn read_match<'t>(alloc: Global, first: Span, at: Cursor<'t>, later: bool, nesti
         from: first.from,
         to: at.end,
     };
-    let tree = boxed(alloc, SProc::Match {
-        whole,
-        left,
-        left_ty,
-        equal,
-        right,
-        right_ty,
-        then,
-        span,
-    })?;
+    let tree = boxed(
+        alloc,
+        SProc::Match {
+            whole,
+            left,
+            left_ty,
+            equal,
+            right,
+            right_ty,
+            then,
+            span,
+        },
+    )?;
     Ok((tree, at))
 }
 
 #[cycle(processes)]
-fn read_case<'t>(alloc: Global, first: Span, at: Cursor<'t>, later: bool, nesting: u32) -> Result<(Box<SProc>, Cursor<'t>), Stop>
+fn read_case<'t>(
+    alloc: Global,
+    first: Span,
+    at: Cursor<'t>,
+    later: bool,
+    nesting: u32,
+) -> Result<(Box<SProc>, Cursor<'t>), Stop>
     requires { nesting ≤ 500 }
     ensures { Gives (λ x. (proc_of x.0.value, state_of x.1)) result (case_form later nesting (first ∷ []) (state_of at.entry)) }
 {
@@ -330,21 +435,30 @@ fn read_case<'t>(alloc: Global, first: Span, at: Cursor<'t>, later: bool, nestin
         from: first.from,
         to: at.end,
     };
-    let tree = boxed(alloc, SProc::Case {
-        whole,
-        left,
-        left_ty,
-        on_left,
-        right,
-        right_ty,
-        on_right,
-        span,
-    })?;
+    let tree = boxed(
+        alloc,
+        SProc::Case {
+            whole,
+            left,
+            left_ty,
+            on_left,
+            right,
+            right_ty,
+            on_right,
+            span,
+        },
+    )?;
     Ok((tree, at))
 }
 
 #[cycle(processes)]
-fn read_decrypt<'t>(alloc: Global, first: Span, at: Cursor<'t>, later: bool, nesting: u32) -> Result<(Box<SProc>, Cursor<'t>), Stop>
+fn read_decrypt<'t>(
+    alloc: Global,
+    first: Span,
+    at: Cursor<'t>,
+    later: bool,
+    nesting: u32,
+) -> Result<(Box<SProc>, Cursor<'t>), Stop>
     requires { nesting ≤ 500 }
     ensures { Gives (λ x. (proc_of x.0.value, state_of x.1)) result (decrypt_form later nesting (first ∷ []) (state_of at.entry)) }
 {
@@ -355,19 +469,28 @@ fn read_decrypt<'t>(alloc: Global, first: Span, at: Cursor<'t>, later: bool, nes
         from: first.from,
         to: at.end,
     };
-    let tree = boxed(alloc, SProc::Decrypt {
-        whole,
-        name,
-        ty,
-        key,
-        then,
-        span,
-    })?;
+    let tree = boxed(
+        alloc,
+        SProc::Decrypt {
+            whole,
+            name,
+            ty,
+            key,
+            then,
+            span,
+        },
+    )?;
     Ok((tree, at))
 }
 
 #[cycle(processes)]
-fn read_check<'t>(alloc: Global, first: Span, at: Cursor<'t>, later: bool, nesting: u32) -> Result<(Box<SProc>, Cursor<'t>), Stop>
+fn read_check<'t>(
+    alloc: Global,
+    first: Span,
+    at: Cursor<'t>,
+    later: bool,
+    nesting: u32,
+) -> Result<(Box<SProc>, Cursor<'t>), Stop>
     requires { nesting ≤ 500 }
     ensures { Gives (λ x. (proc_of x.0.value, state_of x.1)) result (check_form later nesting (first ∷ []) (state_of at.entry)) }
 {
@@ -378,17 +501,26 @@ fn read_check<'t>(alloc: Global, first: Span, at: Cursor<'t>, later: bool, nesti
         from: first.from,
         to: at.end,
     };
-    let tree = boxed(alloc, SProc::Check {
-        whole,
-        nonce,
-        then,
-        span,
-    })?;
+    let tree = boxed(
+        alloc,
+        SProc::Check {
+            whole,
+            nonce,
+            then,
+            span,
+        },
+    )?;
     Ok((tree, at))
 }
 
 #[cycle(processes)]
-fn read_begin<'t>(alloc: Global, first: Span, at: Cursor<'t>, later: bool, nesting: u32) -> Result<(Box<SProc>, Cursor<'t>), Stop>
+fn read_begin<'t>(
+    alloc: Global,
+    first: Span,
+    at: Cursor<'t>,
+    later: bool,
+    nesting: u32,
+) -> Result<(Box<SProc>, Cursor<'t>), Stop>
     requires { nesting ≤ 500 }
     ensures { Gives (λ x. (proc_of x.0.value, state_of x.1)) result (begin_form later nesting (first ∷ []) (state_of at.entry)) }
 {
@@ -399,16 +531,18 @@ fn read_begin<'t>(alloc: Global, first: Span, at: Cursor<'t>, later: bool, nesti
         from: first.from,
         to: at.end,
     };
-    let tree = boxed(alloc, SProc::Begin {
-        label,
-        then,
-        span,
-    })?;
+    let tree = boxed(alloc, SProc::Begin { label, then, span })?;
     Ok((tree, at))
 }
 
 #[cycle(processes)]
-fn read_end<'t>(alloc: Global, first: Span, at: Cursor<'t>, later: bool, nesting: u32) -> Result<(Box<SProc>, Cursor<'t>), Stop>
+fn read_end<'t>(
+    alloc: Global,
+    first: Span,
+    at: Cursor<'t>,
+    later: bool,
+    nesting: u32,
+) -> Result<(Box<SProc>, Cursor<'t>), Stop>
     requires { nesting ≤ 500 }
     ensures { Gives (λ x. (proc_of x.0.value, state_of x.1)) result (end_form later nesting (first ∷ []) (state_of at.entry)) }
 {
@@ -419,16 +553,18 @@ fn read_end<'t>(alloc: Global, first: Span, at: Cursor<'t>, later: bool, nesting
         from: first.from,
         to: at.end,
     };
-    let tree = boxed(alloc, SProc::End {
-        label,
-        then,
-        span,
-    })?;
+    let tree = boxed(alloc, SProc::End { label, then, span })?;
     Ok((tree, at))
 }
 
 #[cycle(processes)]
-fn read_end_many<'t>(alloc: Global, first: Span, at: Cursor<'t>, later: bool, nesting: u32) -> Result<(Box<SProc>, Cursor<'t>), Stop>
+fn read_end_many<'t>(
+    alloc: Global,
+    first: Span,
+    at: Cursor<'t>,
+    later: bool,
+    nesting: u32,
+) -> Result<(Box<SProc>, Cursor<'t>), Stop>
     requires { nesting ≤ 500 }
     ensures { Gives (λ x. (proc_of x.0.value, state_of x.1)) result (end_many_form later nesting (first ∷ []) (state_of at.entry)) }
 {
@@ -439,16 +575,18 @@ fn read_end_many<'t>(alloc: Global, first: Span, at: Cursor<'t>, later: bool, ne
         from: first.from,
         to: at.end,
     };
-    let tree = boxed(alloc, SProc::EndMany {
-        label,
-        then,
-        span,
-    })?;
+    let tree = boxed(alloc, SProc::EndMany { label, then, span })?;
     Ok((tree, at))
 }
 
 #[cycle(processes)]
-fn read_cast<'t>(alloc: Global, first: Span, at: Cursor<'t>, later: bool, nesting: u32) -> Result<(Box<SProc>, Cursor<'t>), Stop>
+fn read_cast<'t>(
+    alloc: Global,
+    first: Span,
+    at: Cursor<'t>,
+    later: bool,
+    nesting: u32,
+) -> Result<(Box<SProc>, Cursor<'t>), Stop>
     requires { nesting ≤ 500 }
     ensures { Gives (λ x. (proc_of x.0.value, state_of x.1)) result (cast_form later nesting (first ∷ []) (state_of at.entry)) }
 {
@@ -459,18 +597,27 @@ fn read_cast<'t>(alloc: Global, first: Span, at: Cursor<'t>, later: bool, nestin
         from: first.from,
         to: at.end,
     };
-    let tree = boxed(alloc, SProc::Cast {
-        whole,
-        name,
-        ty,
-        then,
-        span,
-    })?;
+    let tree = boxed(
+        alloc,
+        SProc::Cast {
+            whole,
+            name,
+            ty,
+            then,
+            span,
+        },
+    )?;
     Ok((tree, at))
 }
 
 #[cycle(processes)]
-fn read_new<'t>(alloc: Global, first: Span, at: Cursor<'t>, later: bool, nesting: u32) -> Result<(Box<SProc>, Cursor<'t>), Stop>
+fn read_new<'t>(
+    alloc: Global,
+    first: Span,
+    at: Cursor<'t>,
+    later: bool,
+    nesting: u32,
+) -> Result<(Box<SProc>, Cursor<'t>), Stop>
     requires { nesting ≤ 500 }
     ensures { Gives (λ x. (proc_of x.0.value, state_of x.1)) result (new_form later nesting (first ∷ []) (state_of at.entry)) }
 {
@@ -480,16 +627,23 @@ fn read_new<'t>(alloc: Global, first: Span, at: Cursor<'t>, later: bool, nesting
         from: first.from,
         to: at.end,
     };
-    let tree = boxed(alloc, SProc::New {
-        name,
-        ty,
-        then,
-        span,
-    })?;
+    let tree = boxed(
+        alloc,
+        SProc::New {
+            name,
+            ty,
+            then,
+            span,
+        },
+    )?;
     Ok((tree, at))
 }
 
-fn read_stop<'t>(alloc: Global, span: Span, at: Cursor<'t>) -> Result<(Box<SProc>, Cursor<'t>), Stop>
+fn read_stop<'t>(
+    alloc: Global,
+    span: Span,
+    at: Cursor<'t>,
+) -> Result<(Box<SProc>, Cursor<'t>), Stop>
     ensures { Gives (λ x. (proc_of x.0.value, state_of x.1)) result (done (stop span) (state_of at.entry)) }
 {
     let tree = boxed(alloc, SProc::Stop { span })?;
@@ -497,7 +651,13 @@ fn read_stop<'t>(alloc: Global, span: Span, at: Cursor<'t>) -> Result<(Box<SProc
 }
 
 #[cycle(processes)]
-fn read_group<'t>(alloc: Global, start: Span, at: Cursor<'t>, later: bool, nesting: u32) -> Result<(Box<SProc>, Cursor<'t>), Stop>
+fn read_group<'t>(
+    alloc: Global,
+    start: Span,
+    at: Cursor<'t>,
+    later: bool,
+    nesting: u32,
+) -> Result<(Box<SProc>, Cursor<'t>), Stop>
     requires { nesting ≤ 500 }
     ensures { Gives (λ x. (proc_of x.0.value, state_of x.1)) result (group_form later nesting (start ∷ []) (state_of at.entry)) }
 {
@@ -514,7 +674,12 @@ fn read_group<'t>(alloc: Global, start: Span, at: Cursor<'t>, later: bool, nesti
 }
 
 #[cycle(processes)]
-fn out_rest<'t>(alloc: Global, at: Cursor<'t>, later: bool, nesting: u32) -> Result<(Option<Box<SProc>>, Cursor<'t>), Stop>
+fn out_rest<'t>(
+    alloc: Global,
+    at: Cursor<'t>,
+    later: bool,
+    nesting: u32,
+) -> Result<(Option<Box<SProc>>, Cursor<'t>), Stop>
     requires { nesting ≤ 500 }
     ensures { Gives (λ x. (boxed_option x.0, state_of x.1)) result (read limited (out_tail later nesting) (state_of at.entry)) }
 {
@@ -522,7 +687,12 @@ fn out_rest<'t>(alloc: Global, at: Cursor<'t>, later: bool, nesting: u32) -> Res
 }
 
 #[cycle(processes)]
-fn out_rest_step<'t>(alloc: Global, at: Cursor<'t>, later: bool, nesting: u32) -> Result<(Option<Box<SProc>>, Cursor<'t>), Stop>
+fn out_rest_step<'t>(
+    alloc: Global,
+    at: Cursor<'t>,
+    later: bool,
+    nesting: u32,
+) -> Result<(Option<Box<SProc>>, Cursor<'t>), Stop>
     requires { nesting ≤ 500 }
     ensures { Gives (λ x. (boxed_option x.0, state_of x.1)) result (step limited (read limited) (out_tail later nesting) (state_of at.entry)) }
 {
@@ -543,7 +713,12 @@ fn out_rest_step<'t>(alloc: Global, at: Cursor<'t>, later: bool, nesting: u32) -
 }
 
 #[cycle(processes)]
-fn par_rest<'t>(alloc: Global, at: Cursor<'t>, later: bool, level: u32) -> Result<(Option<Box<SProc>>, Cursor<'t>), Stop>
+fn par_rest<'t>(
+    alloc: Global,
+    at: Cursor<'t>,
+    later: bool,
+    level: u32,
+) -> Result<(Option<Box<SProc>>, Cursor<'t>), Stop>
     requires { level ≤ 499 }
     ensures { Gives (λ x. (boxed_option x.0, state_of x.1)) result (read limited (par_tail later level) (state_of at.entry)) }
 {
@@ -551,7 +726,12 @@ fn par_rest<'t>(alloc: Global, at: Cursor<'t>, later: bool, level: u32) -> Resul
 }
 
 #[cycle(processes)]
-fn par_rest_step<'t>(alloc: Global, at: Cursor<'t>, later: bool, level: u32) -> Result<(Option<Box<SProc>>, Cursor<'t>), Stop>
+fn par_rest_step<'t>(
+    alloc: Global,
+    at: Cursor<'t>,
+    later: bool,
+    level: u32,
+) -> Result<(Option<Box<SProc>>, Cursor<'t>), Stop>
     requires { level ≤ 499 }
     ensures { Gives (λ x. (boxed_option x.0, state_of x.1)) result (step limited (read limited) (par_tail later level) (state_of at.entry)) }
 {

@@ -87,7 +87,10 @@ fn types(rt: HostRuntime) -> Result<(), Fail> {
     for (text, expected) in [
         ("Un )", Answer::To(1)),
         ("() x", Answer::To(2)),
-        ("(a: Un, b: Key(T), Nonce [end a, check (a, b)])", Answer::To(25)),
+        (
+            "(a: Un, b: Key(T), Nonce [end a, check (a, b)])",
+            Answer::To(25),
+        ),
         ("(a: (b + Un), b: Nonce []) Un", Answer::To(15)),
         ("((a + Un) + ())", Answer::To(10)),
         ("version 2; Nonce [many a]", Answer::To(8)),
@@ -133,9 +136,18 @@ fn processes(rt: HostRuntime) -> Result<(), Fail> {
         ("out a b; stop | out a b | stop;", Answer::To(11)),
         ("inp a (x: Un); repeat inp a (y: Un); stop", Answer::To(18)),
         ("(out a b | stop | stop)", Answer::To(9)),
-        ("split a is (x: Un, y: Un); match a is (x: Un = b, y: Un); stop", Answer::To(29)),
-        ("case a is inl (x: Un); stop is inr (y: Un); stop", Answer::To(20)),
-        ("decrypt a is {x: Un}b; check a is b; begin a; end a; stop", Answer::To(22)),
+        (
+            "split a is (x: Un, y: Un); match a is (x: Un = b, y: Un); stop",
+            Answer::To(29),
+        ),
+        (
+            "case a is inl (x: Un); stop is inr (y: Un); stop",
+            Answer::To(20),
+        ),
+        (
+            "decrypt a is {x: Un}b; check a is b; begin a; end a; stop",
+            Answer::To(22),
+        ),
         ("cast a is (x: Un); new (x: Un); stop", Answer::To(17)),
         ("version 2; endmany a; stop", Answer::To(7)),
         ("endmany a; stop", Answer::Syntax(0)),

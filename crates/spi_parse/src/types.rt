@@ -46,7 +46,12 @@ fn make_tuple_type(
 
 /// A type of a nesting.
 #[cycle(types)]
-pub fn read_type<'t>(alloc: Global, at: Cursor<'t>, later: bool, nesting: u32) -> Result<(STy, Cursor<'t>), Stop>
+pub fn read_type<'t>(
+    alloc: Global,
+    at: Cursor<'t>,
+    later: bool,
+    nesting: u32,
+) -> Result<(STy, Cursor<'t>), Stop>
     requires { nesting ≤ 1001 }
     ensures { Gives (λ x. (ty_of x.0, state_of x.1)) result (read limited (ty later nesting) (state_of at.entry)) }
 {
@@ -54,7 +59,12 @@ pub fn read_type<'t>(alloc: Global, at: Cursor<'t>, later: bool, nesting: u32) -
 }
 
 #[cycle(types)]
-fn type_step<'t>(alloc: Global, at: Cursor<'t>, later: bool, nesting: u32) -> Result<(STy, Cursor<'t>), Stop>
+fn type_step<'t>(
+    alloc: Global,
+    at: Cursor<'t>,
+    later: bool,
+    nesting: u32,
+) -> Result<(STy, Cursor<'t>), Stop>
     requires { nesting ≤ 1001 }
     ensures { Gives (λ x. (ty_of x.0, state_of x.1)) result (step limited (read limited) (ty later nesting) (state_of at.entry)) }
 {
@@ -100,7 +110,12 @@ fn type_step<'t>(alloc: Global, at: Cursor<'t>, later: bool, nesting: u32) -> Re
     }
 }
 
-fn read_abbreviation<'t>(alloc: Global, word: &Text, span: Span, at: Cursor<'t>) -> Result<(STy, Cursor<'t>), Stop>
+fn read_abbreviation<'t>(
+    alloc: Global,
+    word: &Text,
+    span: Span,
+    at: Cursor<'t>,
+) -> Result<(STy, Cursor<'t>), Stop>
     ensures { Gives (λ x. (ty_of x.0, state_of x.1)) result (done (abbr span (word_at word.now span)) (state_of at.entry)) }
 {
     let name = SWord {
@@ -110,7 +125,13 @@ fn read_abbreviation<'t>(alloc: Global, word: &Text, span: Span, at: Cursor<'t>)
     Ok((STy::Abbr { name, span }, at))
 }
 
-fn read_nonce<'t>(alloc: Global, first: Span, at: Cursor<'t>, later: bool, nesting: u32) -> Result<(STy, Cursor<'t>), Stop>
+fn read_nonce<'t>(
+    alloc: Global,
+    first: Span,
+    at: Cursor<'t>,
+    later: bool,
+    nesting: u32,
+) -> Result<(STy, Cursor<'t>), Stop>
     requires { nesting ≤ 1000 }
     ensures { Gives (λ x. (ty_of x.0, state_of x.1)) result (nonce_form later nesting (first ∷ []) (state_of at.entry)) }
 {
@@ -123,7 +144,13 @@ fn read_nonce<'t>(alloc: Global, first: Span, at: Cursor<'t>, later: bool, nesti
 }
 
 #[cycle(types)]
-fn read_key<'t>(alloc: Global, first: Span, at: Cursor<'t>, later: bool, nesting: u32) -> Result<(STy, Cursor<'t>), Stop>
+fn read_key<'t>(
+    alloc: Global,
+    first: Span,
+    at: Cursor<'t>,
+    later: bool,
+    nesting: u32,
+) -> Result<(STy, Cursor<'t>), Stop>
     requires { nesting ≤ 1000 }
     ensures { Gives (λ x. (ty_of x.0, state_of x.1)) result (key_form later nesting (first ∷ []) (state_of at.entry)) }
 {
@@ -139,7 +166,13 @@ fn read_key<'t>(alloc: Global, first: Span, at: Cursor<'t>, later: bool, nesting
 }
 
 #[cycle(types)]
-fn type_in_parens<'t>(alloc: Global, first: Span, at: Cursor<'t>, later: bool, nesting: u32) -> Result<(STy, Cursor<'t>), Stop>
+fn type_in_parens<'t>(
+    alloc: Global,
+    first: Span,
+    at: Cursor<'t>,
+    later: bool,
+    nesting: u32,
+) -> Result<(STy, Cursor<'t>), Stop>
     requires { nesting ≤ 1000 }
     ensures { Gives (λ x. (ty_of x.0, state_of x.1)) result (behind limited (read limited) (delta_ty_paren later nesting) (first ∷ []) (state_of at.entry)) }
 {
@@ -169,7 +202,13 @@ fn type_in_parens<'t>(alloc: Global, first: Span, at: Cursor<'t>, later: bool, n
 }
 
 #[cycle(types)]
-fn read_sum<'t>(alloc: Global, first: Span, at: Cursor<'t>, later: bool, nesting: u32) -> Result<(STy, Cursor<'t>), Stop>
+fn read_sum<'t>(
+    alloc: Global,
+    first: Span,
+    at: Cursor<'t>,
+    later: bool,
+    nesting: u32,
+) -> Result<(STy, Cursor<'t>), Stop>
     requires { nesting ≤ 1000 }
     ensures { Gives (λ x. (ty_of x.0, state_of x.1)) result (sum_form later nesting (first ∷ []) (state_of at.entry)) }
 {
@@ -180,7 +219,13 @@ fn read_sum<'t>(alloc: Global, first: Span, at: Cursor<'t>, later: bool, nesting
 }
 
 /// The sum of two types, where its parenthesis closes.
-fn end_sum<'t>(alloc: Global, first: Span, left: STy, right: STy, at: Cursor<'t>) -> Result<(STy, Cursor<'t>), Stop>
+fn end_sum<'t>(
+    alloc: Global,
+    first: Span,
+    left: STy,
+    right: STy,
+    at: Cursor<'t>,
+) -> Result<(STy, Cursor<'t>), Stop>
     ensures { Gives (λ x. (ty_of x.0, state_of x.1)) result (sum_end (first ∷ []) (ty_of left) (ty_of right) (state_of at.entry)) }
 {
     let at = take_mark(at, Mark::ParenClose)?;
@@ -194,7 +239,15 @@ fn end_sum<'t>(alloc: Global, first: Span, left: STy, right: STy, at: Cursor<'t>
 }
 
 #[cycle(types)]
-fn type_behind_word<'t>(alloc: Global, first: Span, word: &Text, place: Span, at: Cursor<'t>, later: bool, nesting: u32) -> Result<(STy, Cursor<'t>), Stop>
+fn type_behind_word<'t>(
+    alloc: Global,
+    first: Span,
+    word: &Text,
+    place: Span,
+    at: Cursor<'t>,
+    later: bool,
+    nesting: u32,
+) -> Result<(STy, Cursor<'t>), Stop>
     requires { nesting ≤ 999 }
     ensures { Gives (λ x. (ty_of x.0, state_of x.1)) result (behind limited (read limited) (delta_ty_word later nesting word.now) (first ∷ place ∷ []) (state_of at.entry)) }
 {
@@ -213,7 +266,15 @@ fn type_behind_word<'t>(alloc: Global, first: Span, word: &Text, place: Span, at
 }
 
 #[cycle(types)]
-fn read_tuple_type<'t>(alloc: Global, first: Span, word: &Text, place: Span, at: Cursor<'t>, later: bool, nesting: u32) -> Result<(STy, Cursor<'t>), Stop>
+fn read_tuple_type<'t>(
+    alloc: Global,
+    first: Span,
+    word: &Text,
+    place: Span,
+    at: Cursor<'t>,
+    later: bool,
+    nesting: u32,
+) -> Result<(STy, Cursor<'t>), Stop>
     requires { nesting ≤ 999 }
     ensures { Gives (λ x. (ty_of x.0, state_of x.1)) result (tuple_ty_form later nesting word.now (first ∷ place ∷ []) (state_of at.entry)) }
 {
@@ -224,7 +285,16 @@ fn read_tuple_type<'t>(alloc: Global, first: Span, word: &Text, place: Span, at:
 }
 
 /// The tuple type of these parts, which ends before this place.
-fn end_tuple_type<'t>(alloc: Global, first: Span, word: &Text, place: Span, part: STy, more: Vec<SField>, last: Last, at: Cursor<'t>) -> Result<(STy, Cursor<'t>), Stop>
+fn end_tuple_type<'t>(
+    alloc: Global,
+    first: Span,
+    word: &Text,
+    place: Span,
+    part: STy,
+    more: Vec<SField>,
+    last: Last,
+    at: Cursor<'t>,
+) -> Result<(STy, Cursor<'t>), Stop>
     ensures { Gives (λ x. (ty_of x.0, state_of x.1)) result (done (tuple_ty (over (first ∷ []) at.entry.end) (word_at word.now place) (ty_of part) (fields_of_list (map field_of more.items)) (last_of last)) (state_of at.entry)) }
 {
     let name = SWord {
@@ -240,7 +310,15 @@ fn end_tuple_type<'t>(alloc: Global, first: Span, word: &Text, place: Span, part
 }
 
 #[cycle(types)]
-fn read_sum_of_word<'t>(alloc: Global, first: Span, word: &Text, place: Span, at: Cursor<'t>, later: bool, nesting: u32) -> Result<(STy, Cursor<'t>), Stop>
+fn read_sum_of_word<'t>(
+    alloc: Global,
+    first: Span,
+    word: &Text,
+    place: Span,
+    at: Cursor<'t>,
+    later: bool,
+    nesting: u32,
+) -> Result<(STy, Cursor<'t>), Stop>
     requires { nesting ≤ 999 }
     ensures { Gives (λ x. (ty_of x.0, state_of x.1)) result (sum_word_form later nesting word.now (first ∷ place ∷ []) (state_of at.entry)) }
 {
@@ -249,7 +327,14 @@ fn read_sum_of_word<'t>(alloc: Global, first: Span, word: &Text, place: Span, at
 }
 
 /// The sum of a word and a type, where its parenthesis closes.
-fn end_sum_of_word<'t>(alloc: Global, first: Span, word: &Text, place: Span, right: STy, at: Cursor<'t>) -> Result<(STy, Cursor<'t>), Stop>
+fn end_sum_of_word<'t>(
+    alloc: Global,
+    first: Span,
+    word: &Text,
+    place: Span,
+    right: STy,
+    at: Cursor<'t>,
+) -> Result<(STy, Cursor<'t>), Stop>
     ensures { Gives (λ x. (ty_of x.0, state_of x.1)) result (sum_end (first ∷ []) (abbr place (word_at word.now place)) (ty_of right) (state_of at.entry)) }
 {
     let at = take_mark(at, Mark::ParenClose)?;
@@ -267,7 +352,12 @@ fn end_sum_of_word<'t>(alloc: Global, first: Span, word: &Text, place: Span, rig
 }
 
 #[cycle(types)]
-fn read_fields<'t>(alloc: Global, start: Cursor<'t>, later: bool, nesting: u32) -> Result<(Vec<SField>, Last, Cursor<'t>), Stop>
+fn read_fields<'t>(
+    alloc: Global,
+    start: Cursor<'t>,
+    later: bool,
+    nesting: u32,
+) -> Result<(Vec<SField>, Last, Cursor<'t>), Stop>
     requires { nesting ≤ 1001 }
     ensures { Gives (λ x. ((map field_of x.0.items, last_of x.1), state_of x.2)) result (read limited (fields later nesting) (state_of start.entry)) }
 {
@@ -284,7 +374,12 @@ fn read_fields<'t>(alloc: Global, start: Cursor<'t>, later: bool, nesting: u32) 
 }
 
 #[cycle(types)]
-fn next_field<'t>(alloc: Global, at: Cursor<'t>, later: bool, nesting: u32) -> Result<(FieldOrLast, Cursor<'t>), Stop>
+fn next_field<'t>(
+    alloc: Global,
+    at: Cursor<'t>,
+    later: bool,
+    nesting: u32,
+) -> Result<(FieldOrLast, Cursor<'t>), Stop>
     requires { nesting ≤ 1001 }
     ensures { Gives (λ x. (field_item x.0, state_of x.1)) result (read limited (fields_item later nesting) (state_of at.entry)) }
 {
@@ -292,7 +387,12 @@ fn next_field<'t>(alloc: Global, at: Cursor<'t>, later: bool, nesting: u32) -> R
 }
 
 #[cycle(types)]
-fn next_field_step<'t>(alloc: Global, at: Cursor<'t>, later: bool, nesting: u32) -> Result<(FieldOrLast, Cursor<'t>), Stop>
+fn next_field_step<'t>(
+    alloc: Global,
+    at: Cursor<'t>,
+    later: bool,
+    nesting: u32,
+) -> Result<(FieldOrLast, Cursor<'t>), Stop>
     requires { nesting ≤ 1001 }
     ensures { Gives (λ x. (field_item x.0, state_of x.1)) result (step limited (read limited) (fields_item later nesting) (state_of at.entry)) }
 {
@@ -323,7 +423,13 @@ fn next_field_step<'t>(alloc: Global, at: Cursor<'t>, later: bool, nesting: u32)
 }
 
 #[cycle(types)]
-fn field_behind_word<'t>(alloc: Global, name: SWord, at: Cursor<'t>, later: bool, nesting: u32) -> Result<(FieldOrLast, Cursor<'t>), Stop>
+fn field_behind_word<'t>(
+    alloc: Global,
+    name: SWord,
+    at: Cursor<'t>,
+    later: bool,
+    nesting: u32,
+) -> Result<(FieldOrLast, Cursor<'t>), Stop>
     requires { nesting ≤ 1000 }
     ensures { Gives (λ x. (field_item x.0, state_of x.1)) result (behind limited (read limited) (delta_item_word later nesting name.word) (name.span ∷ []) (state_of at.entry)) }
 {
@@ -346,7 +452,10 @@ fn field_behind_word<'t>(alloc: Global, name: SWord, at: Cursor<'t>, later: bool
         }
         Kind::Mark(Mark::ParenClose) => {
             let span = name.span;
-            Ok((FieldOrLast::Last(Last::Bare(STy::Abbr { name, span })), next))
+            Ok((
+                FieldOrLast::Last(Last::Bare(STy::Abbr { name, span })),
+                next,
+            ))
         }
         _ => Err(syntax(at.rest.len())),
     }
