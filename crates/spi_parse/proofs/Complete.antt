@@ -430,93 +430,94 @@ module _ (m : Mode) (φ : Bool → Bool) (fits : Fits m φ) where
       rw (read_is_step, pass_same (nat_lt process_limit n), msg_c a true false 1 (a_mark mark.Semicolon q9) h.1, mark_c mark.Semicolon q9, ih (ends s r) h.2 oe) refl
 
   pub proc_c : (p : t.Proc) → SeqRead p × LevelRead p
-  proc_c (t.par s p p') =
-      (λ v n r h oe. absurd h,
-      λ v l r h oe pe.
+  proc_c (t.par s p p') = (
+    λ v n r h oe. absurd h,
+    λ v l r h oe pe.
         let q2 = proc_pieces (at_level (l + 1)) p' (ends s r) in
         let q1 = a_mark mark.Bar q2 in
-        rw (read_is_step, level_first p v l (l + 1) q1 h.0, (proc_c p).0 v (l + 1) q1 h.0 (out_ends_bar q2), bar_c v l q2 _ ((proc_c p').1 v (l + 1) (ends s r) h.1 oe pe)) refl)
+        rw (read_is_step, level_first p v l (l + 1) q1 h.0, (proc_c p).0 v (l + 1) q1 h.0 (out_ends_bar q2), bar_c v l q2 _ ((proc_c p').1 v (l + 1) (ends s r) h.1 oe pe)) refl,
+  )
   proc_c (t.out s a b) =
       let f : SeqRead (t.out s a b) = λ v n r h oe.
-        rw (read_is_step, pass_same (nat_lt process_limit n), msg_c a v false 1 (msg_pieces 1 b (ends s r)) h.0, msg_c b v false 1 (ends s r) h.1, oe.by v n) refl in
+      rw (read_is_step, pass_same (nat_lt process_limit n), msg_c a v false 1 (msg_pieces 1 b (ends s r)) h.0, msg_c b v false 1 (ends s r) h.1, oe.by v n) refl in
       (f, λ v l r h oe pe. lift (t.out s a b) v l r h f oe pe)
   proc_c (t.out_then s a b p) =
       let f : SeqRead (t.out_then s a b p) = λ v n r h oe.
-        let q9 = proc_pieces (in_seq (n + 1)) p (ends s r) in
-        let q2 = a_mark mark.Semicolon q9 in
-        rw (read_is_step, pass_same (nat_lt process_limit n), msg_c a v false 1 (msg_pieces 1 b q2) h.0, msg_c b v false 1 q2 h.1, semi_c v n q9 _ ((proc_c p).0 v (n + 1) (ends s r) h.2 oe)) refl in
+      let q9 = proc_pieces (in_seq (n + 1)) p (ends s r) in
+      let q2 = a_mark mark.Semicolon q9 in
+      rw (read_is_step, pass_same (nat_lt process_limit n), msg_c a v false 1 (msg_pieces 1 b q2) h.0, msg_c b v false 1 q2 h.1, semi_c v n q9 _ ((proc_c p).0 v (n + 1) (ends s r) h.2 oe)) refl in
       (f, λ v l r h oe pe. lift (t.out_then s a b p) v l r h f oe pe)
   proc_c (t.inp s a w b p) =
       let f : SeqRead (t.inp s a w b p) = λ v n r h oe.
-        let q9 = proc_pieces (in_seq (n + 1)) p (ends s r) in
-        rw (read_is_step, pass_same (nat_lt process_limit n), msg_c a v false 1 (binder_pieces w b q9) h.0, binder_c w b v q9 h.1, (proc_c p).0 v (n + 1) (ends s r) h.2 oe) refl in
+      let q9 = proc_pieces (in_seq (n + 1)) p (ends s r) in
+      rw (read_is_step, pass_same (nat_lt process_limit n), msg_c a v false 1 (binder_pieces w b q9) h.0, binder_c w b v q9 h.1, (proc_c p).0 v (n + 1) (ends s r) h.2 oe) refl in
       (f, λ v l r h oe pe. lift (t.inp s a w b p) v l r h f oe pe)
   proc_c (t.repeat s a w b p) =
       let f : SeqRead (t.repeat s a w b p) = λ v n r h oe.
-        let q9 = proc_pieces (in_seq (n + 1)) p (ends s r) in
-        let q2 = binder_pieces w b q9 in
-        let q1 = msg_pieces 1 a q2 in
-        rw (read_is_step, pass_same (nat_lt process_limit n), reserved_c word.Inp q1, msg_c a v false 1 q2 h.0, binder_c w b v q9 h.1, (proc_c p).0 v (n + 1) (ends s r) h.2 oe) refl in
+      let q9 = proc_pieces (in_seq (n + 1)) p (ends s r) in
+      let q2 = binder_pieces w b q9 in
+      let q1 = msg_pieces 1 a q2 in
+      rw (read_is_step, pass_same (nat_lt process_limit n), reserved_c word.Inp q1, msg_c a v false 1 q2 h.0, binder_c w b v q9 h.1, (proc_c p).0 v (n + 1) (ends s r) h.2 oe) refl in
       (f, λ v l r h oe pe. lift (t.repeat s a w b p) v l r h f oe pe)
   proc_c (t.split s a w b x c p) =
       let f : SeqRead (t.split s a w b x c p) = λ v n r h oe.
-        let q9 = proc_pieces (in_seq (n + 1)) p (ends s r) in
-        rw (read_is_step, pass_same (nat_lt process_limit n), msg_c a v false 1 (a_reserved word.Is (a_mark mark.ParenOpen (named_pieces w b (a_mark mark.Comma (named_pieces x c (a_mark mark.ParenClose (a_mark mark.Semicolon q9))))))) h.0, split_head_c w b x c v q9 h.1 h.2, (proc_c p).0 v (n + 1) (ends s r) h.3 oe) refl in
+      let q9 = proc_pieces (in_seq (n + 1)) p (ends s r) in
+      rw (read_is_step, pass_same (nat_lt process_limit n), msg_c a v false 1 (a_reserved word.Is (a_mark mark.ParenOpen (named_pieces w b (a_mark mark.Comma (named_pieces x c (a_mark mark.ParenClose (a_mark mark.Semicolon q9))))))) h.0, split_head_c w b x c v q9 h.1 h.2, (proc_c p).0 v (n + 1) (ends s r) h.3 oe) refl in
       (f, λ v l r h oe pe. lift (t.split s a w b x c p) v l r h f oe pe)
   proc_c (t.match s a w b e x c p) =
       let f : SeqRead (t.match s a w b e x c p) = λ v n r h oe.
-        let q9 = proc_pieces (in_seq (n + 1)) p (ends s r) in
-        rw (read_is_step, pass_same (nat_lt process_limit n), msg_c a v false 1 (a_reserved word.Is (a_mark mark.ParenOpen (named_pieces w b (a_mark mark.Equals (msg_pieces 1 e (a_mark mark.Comma (named_pieces x c (a_mark mark.ParenClose (a_mark mark.Semicolon q9))))))))) h.0, match_head_c w b e x c v q9 h.1 h.2 h.3, (proc_c p).0 v (n + 1) (ends s r) h.4 oe) refl in
+      let q9 = proc_pieces (in_seq (n + 1)) p (ends s r) in
+      rw (read_is_step, pass_same (nat_lt process_limit n), msg_c a v false 1 (a_reserved word.Is (a_mark mark.ParenOpen (named_pieces w b (a_mark mark.Equals (msg_pieces 1 e (a_mark mark.Comma (named_pieces x c (a_mark mark.ParenClose (a_mark mark.Semicolon q9))))))))) h.0, match_head_c w b e x c v q9 h.1 h.2 h.3, (proc_c p).0 v (n + 1) (ends s r) h.4 oe) refl in
       (f, λ v l r h oe pe. lift (t.match s a w b e x c p) v l r h f oe pe)
   proc_c (t.case s a w b p x c p') =
       let f : SeqRead (t.case s a w b p x c p') = λ v n r h oe.
-        let q9 = proc_pieces (in_seq (n + 1)) p' (ends s r) in
-        let q3 = a_reserved word.Is (a_reserved word.Inr (binder_pieces x c q9)) in
-        let q2 = proc_pieces (in_seq (n + 1)) p q3 in
-        rw (read_is_step, pass_same (nat_lt process_limit n), msg_c a v false 1 (a_reserved word.Is (a_reserved word.Inl (binder_pieces w b q2))) h.0, case_head_c word.Inl w b v q2 h.1, (proc_c p).0 v (n + 1) q3 h.2 (out_ends_word word.Is (a_reserved word.Inr (binder_pieces x c q9))), case_head_c word.Inr x c v q9 h.3, (proc_c p').0 v (n + 1) (ends s r) h.4 oe) refl in
+      let q9 = proc_pieces (in_seq (n + 1)) p' (ends s r) in
+      let q3 = a_reserved word.Is (a_reserved word.Inr (binder_pieces x c q9)) in
+      let q2 = proc_pieces (in_seq (n + 1)) p q3 in
+      rw (read_is_step, pass_same (nat_lt process_limit n), msg_c a v false 1 (a_reserved word.Is (a_reserved word.Inl (binder_pieces w b q2))) h.0, case_head_c word.Inl w b v q2 h.1, (proc_c p).0 v (n + 1) q3 h.2 (out_ends_word word.Is (a_reserved word.Inr (binder_pieces x c q9))), case_head_c word.Inr x c v q9 h.3, (proc_c p').0 v (n + 1) (ends s r) h.4 oe) refl in
       (f, λ v l r h oe pe. lift (t.case s a w b p x c p') v l r h f oe pe)
   proc_c (t.decrypt s a w b e p) =
       let f : SeqRead (t.decrypt s a w b e p) = λ v n r h oe.
-        let q9 = proc_pieces (in_seq (n + 1)) p (ends s r) in
-        rw (read_is_step, pass_same (nat_lt process_limit n), msg_c a v false 1 (a_reserved word.Is (a_mark mark.BraceOpen (named_pieces w b (a_mark mark.BraceClose (msg_pieces 1 e (a_mark mark.Semicolon q9)))))) h.0, decrypt_head_c w b e v q9 h.1 h.2, (proc_c p).0 v (n + 1) (ends s r) h.3 oe) refl in
+      let q9 = proc_pieces (in_seq (n + 1)) p (ends s r) in
+      rw (read_is_step, pass_same (nat_lt process_limit n), msg_c a v false 1 (a_reserved word.Is (a_mark mark.BraceOpen (named_pieces w b (a_mark mark.BraceClose (msg_pieces 1 e (a_mark mark.Semicolon q9)))))) h.0, decrypt_head_c w b e v q9 h.1 h.2, (proc_c p).0 v (n + 1) (ends s r) h.3 oe) refl in
       (f, λ v l r h oe pe. lift (t.decrypt s a w b e p) v l r h f oe pe)
   proc_c (t.check s a e p) =
       let f : SeqRead (t.check s a e p) = λ v n r h oe.
-        let q9 = proc_pieces (in_seq (n + 1)) p (ends s r) in
-        rw (read_is_step, pass_same (nat_lt process_limit n), msg_c a v false 1 (a_reserved word.Is (msg_pieces 1 e (a_mark mark.Semicolon q9))) h.0, check_head_c e v q9 h.1, (proc_c p).0 v (n + 1) (ends s r) h.2 oe) refl in
+      let q9 = proc_pieces (in_seq (n + 1)) p (ends s r) in
+      rw (read_is_step, pass_same (nat_lt process_limit n), msg_c a v false 1 (a_reserved word.Is (msg_pieces 1 e (a_mark mark.Semicolon q9))) h.0, check_head_c e v q9 h.1, (proc_c p).0 v (n + 1) (ends s r) h.2 oe) refl in
       (f, λ v l r h oe pe. lift (t.check s a e p) v l r h f oe pe)
   proc_c (t.begin s a p) =
       let f : SeqRead (t.begin s a p) = λ v n r h oe.
-        let q9 = proc_pieces (in_seq (n + 1)) p (ends s r) in
-        rw (read_is_step, pass_same (nat_lt process_limit n), msg_c a v false 1 (a_mark mark.Semicolon q9) h.0, mark_c mark.Semicolon q9, (proc_c p).0 v (n + 1) (ends s r) h.1 oe) refl in
+      let q9 = proc_pieces (in_seq (n + 1)) p (ends s r) in
+      rw (read_is_step, pass_same (nat_lt process_limit n), msg_c a v false 1 (a_mark mark.Semicolon q9) h.0, mark_c mark.Semicolon q9, (proc_c p).0 v (n + 1) (ends s r) h.1 oe) refl in
       (f, λ v l r h oe pe. lift (t.begin s a p) v l r h f oe pe)
   proc_c (t.end s a p) =
       let f : SeqRead (t.end s a p) = λ v n r h oe.
-        let q9 = proc_pieces (in_seq (n + 1)) p (ends s r) in
-        rw (read_is_step, pass_same (nat_lt process_limit n), msg_c a v false 1 (a_mark mark.Semicolon q9) h.0, mark_c mark.Semicolon q9, (proc_c p).0 v (n + 1) (ends s r) h.1 oe) refl in
+      let q9 = proc_pieces (in_seq (n + 1)) p (ends s r) in
+      rw (read_is_step, pass_same (nat_lt process_limit n), msg_c a v false 1 (a_mark mark.Semicolon q9) h.0, mark_c mark.Semicolon q9, (proc_c p).0 v (n + 1) (ends s r) h.1 oe) refl in
       (f, λ v l r h oe pe. lift (t.end s a p) v l r h f oe pe)
   proc_c (t.end_many s a p) =
       let f : SeqRead (t.end_many s a p) = λ v n r h oe. many_c s a p v n r h (λ r' h'. (proc_c p).0 v (n + 1) r' h') oe in
       (f, λ v l r h oe pe. lift (t.end_many s a p) v l r h f oe pe)
   proc_c (t.cast s a w b p) =
       let f : SeqRead (t.cast s a w b p) = λ v n r h oe.
-        let q9 = proc_pieces (in_seq (n + 1)) p (ends s r) in
-        rw (read_is_step, pass_same (nat_lt process_limit n), msg_c a v false 1 (a_reserved word.Is (binder_pieces w b q9)) h.0, cast_head_c w b v q9 h.1, (proc_c p).0 v (n + 1) (ends s r) h.2 oe) refl in
+      let q9 = proc_pieces (in_seq (n + 1)) p (ends s r) in
+      rw (read_is_step, pass_same (nat_lt process_limit n), msg_c a v false 1 (a_reserved word.Is (binder_pieces w b q9)) h.0, cast_head_c w b v q9 h.1, (proc_c p).0 v (n + 1) (ends s r) h.2 oe) refl in
       (f, λ v l r h oe pe. lift (t.cast s a w b p) v l r h f oe pe)
   proc_c (t.new s w b p) =
       let f : SeqRead (t.new s w b p) = λ v n r h oe.
-        let q9 = proc_pieces (in_seq (n + 1)) p (ends s r) in
-        rw (read_is_step, pass_same (nat_lt process_limit n), binder_c w b v q9 h.0, (proc_c p).0 v (n + 1) (ends s r) h.1 oe) refl in
+      let q9 = proc_pieces (in_seq (n + 1)) p (ends s r) in
+      rw (read_is_step, pass_same (nat_lt process_limit n), binder_c w b v q9 h.0, (proc_c p).0 v (n + 1) (ends s r) h.1 oe) refl in
       (f, λ v l r h oe pe. lift (t.new s w b p) v l r h f oe pe)
   proc_c (t.stop s) =
       let f : SeqRead (t.stop s) = λ v n r h oe. rw (read_is_step, pass_same (nat_lt process_limit n)) refl in
       (f, λ v l r h oe pe. lift (t.stop s) v l r h f oe pe)
   proc_c (t.group s p p') =
       let f : SeqRead (t.group s p p') = λ v n r h oe.
-        let q3 = a_mark mark.ParenClose (ends s r) in
-        let q2 = proc_pieces (at_level (n + 1)) p' q3 in
-        let q1 = a_mark mark.Bar q2 in
-        rw (read_is_step, pass_same (nat_lt process_limit n), (proc_c p).0 v (n + 1) q1 h.0 (out_ends_bar q2), mark_c mark.Bar q2, (proc_c p').1 v (n + 1) q3 h.1 (out_ends_paren (ends s r)) (par_ends_paren (ends s r)), mark_c mark.ParenClose (ends s r)) refl in
+      let q3 = a_mark mark.ParenClose (ends s r) in
+      let q2 = proc_pieces (at_level (n + 1)) p' q3 in
+      let q1 = a_mark mark.Bar q2 in
+      rw (read_is_step, pass_same (nat_lt process_limit n), (proc_c p).0 v (n + 1) q1 h.0 (out_ends_bar q2), mark_c mark.Bar q2, (proc_c p').1 v (n + 1) q3 h.1 (out_ends_paren (ends s r)) (par_ends_paren (ends s r)), mark_c mark.ParenClose (ends s r)) refl in
       (f, λ v l r h oe pe. lift (t.group s p p') v l r h f oe pe)
 
   -- ---- declarations
@@ -656,8 +657,15 @@ module _ (m : Mode) (φ : Bool → Bool) (fits : Fits m φ) where
   body_c b v to h =
       let q2 = opponent_pieces b.opponent (behind_opponent b.schedule b.derivation to) in
       let q1 = proc_pieces (at_level 0) b.process q2 in
-      rw (read_is_step, body_first b.decls v q1, decls_c b.decls v q1 h.0, (proc_c b.process).1 v 0 q2 h.1 (out_ends_opponent b.opponent b.schedule b.derivation to) (par_ends_opponent b.opponent b.schedule b.derivation to),
-        opponent_c b.opponent b.schedule b.derivation v to h.2, schedule_c b.schedule b.derivation to, derivation_c b.derivation v to h.3) refl
+      rw (
+        read_is_step,
+        body_first b.decls v q1,
+        decls_c b.decls v q1 h.0,
+        (proc_c b.process).1 v 0 q2 h.1 (out_ends_opponent b.opponent b.schedule b.derivation to) (par_ends_opponent b.opponent b.schedule b.derivation to),
+        opponent_c b.opponent b.schedule b.derivation v to h.2,
+        schedule_c b.schedule b.derivation to,
+        derivation_c b.derivation v to h.3,
+      ) refl
 
   abbrev file_rest : List Piece → Out t.File
   file_rest q = ◌>>=◌ {A = Trees (body false ∷ []) × State} {B = t.File × State} (read_all (read m) (body false ∷ []) (flat_at q)) (λ xs. Ok (file_from 1 (over (nowhere ∷ []) xs.1.end) xs.0.0, xs.1))
@@ -699,17 +707,21 @@ told_fits = record {
     passes : {X : Type 0} (d : Bool) (n : ℕ) (go : Out X) → pass told d d n go ≡ go
     passes true n go = refl
     passes false n go = refl
+
     mays : {X : Type 0} (d : Bool) (n : ℕ) (go : Out X) → may_pass told d d n go ≡ go
     mays true n go = refl
     mays false n go = refl
+
     may_nots : {X : Type 0} (d : Bool) (n : ℕ) (go : Out X) → may_pass told d false n go ≡ go
     may_nots true n go = refl
     may_nots false n go = refl
+
     leads : {X : Type 0} (d l : Bool) (n : ℕ) (go : Out X) → may_lead told d d l n go ≡ go
     leads true true n go = refl
     leads true false n go = refl
     leads false true n go = refl
     leads false false n go = refl
+
     leads_on : {X : Type 0} (d : Bool) (n : ℕ) (go : Out X) → may_lead told d false d n go ≡ go
     leads_on true n go = refl
     leads_on false n go = refl

@@ -19,7 +19,7 @@ at_word v n w e u us o b kind arity writes fits =
     let move : delta_deriv v n u.kind ≡ rule_move v n w o b = ap (delta_deriv v n) kind ∙ ap (λ (x : Option ℕ). rule_move v n w x (writes_effect w)) arity ∙ ap (λ (x : Bool). rule_move v n w o x) writes in
     let low : nat_lt derivation_limit n ≡ false = le-ltb derivation_limit n fits in
     sym (ap (λ (mv : Move (deriv v n) false). go_on limited (read limited) mv (nat_lt derivation_limit n) [] (at e (u ∷ us))) move
-        ∙ ap (λ (d : Bool). go_on limited (read limited) (rule_move v n w o b) d [] (at e (u ∷ us))) low)
+    ∙ ap (λ (d : Bool). go_on limited (read limited) (rule_move v n w o b) d [] (at e (u ∷ us))) low)
 
 rest_is : (x : Token) (l : List Token) → take (length (x ∷ l) - 1) (drop 1 (x ∷ l)) ≡ l
 rest_is x l = take_all (length (x ∷ l) - 1) l (omega arith)
@@ -30,5 +30,5 @@ rule_is_first v n e [] d w o b h k kind arity writes fits = absurd (omega arith)
 rule_is_first v n e (x ∷ l) d w o b h k kind arity writes fits =
     let same : d ≡ x = k in
     subst (λ (y : Token). go_on limited (read limited) (rule_move v n w o b) false [] (at e (tok d ∷ map tok (take (length (x ∷ l) - 1) (drop 1 (x ∷ l))))) ≡ step limited (read limited) (deriv v n) (at e (tok y ∷ map tok l))) same
-      (subst (λ (r : List Token). go_on limited (read limited) (rule_move v n w o b) false [] (at e (tok d ∷ map tok r)) ≡ step limited (read limited) (deriv v n) (at e (tok d ∷ map tok l))) (sym (rest_is x l))
-        (at_word v n w e (tok d) (map tok l) o b kind arity writes fits))
+    (subst (λ (r : List Token). go_on limited (read limited) (rule_move v n w o b) false [] (at e (tok d ∷ map tok r)) ≡ step limited (read limited) (deriv v n) (at e (tok d ∷ map tok l))) (sym (rest_is x l))
+    (at_word v n w e (tok d) (map tok l) o b kind arity writes fits))

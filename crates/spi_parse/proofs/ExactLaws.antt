@@ -278,12 +278,14 @@ module _ (a : Sym) (bare : Tree a → Tree a) (P : Tree a → Type 0) (formed : 
       clash k r is more longer y p c b =
           let on : NoneGoesOn whole P pre k = subst (λ (l : List Kind). IsEnd whole P pre l) is ends in
           on y p (more ++ c) (b ∙ ap (λ (l : List Kind). l ++ c) longer ∙ append_assoc pre (k ∷ more) c)
+
       begun : (ps : List Piece) (later : List Kind) (k : Kind) → StartsDeep ps later k → (c : List Kind) × (kinds_in ps ≡ later ++ c)
       begun ps later k d = (k ∷ firsts d.after, kinds_in_cells ps ∙ ap firsts d.parts ∙ firsts_on d.before ((k, true) ∷ d.after) ∙ ap (λ (l : List Kind). l ++ k ∷ firsts d.after) d.begins)
         where
           firsts_on : (b c : List (Kind × Bool)) → firsts (b ++ c) ≡ firsts b ++ firsts c
           firsts_on [] c = refl
           firsts_on (y ∷ b) c = ap (λ (l : List Kind). y.0 ∷ l) (firsts_on b c)
+
       go : Follows {X = Tree a} 1 (length rest) ts (told_by (whole x)) (Err (TooDeep n)) [] → ⊥
       go (inl f) =
           let s = exact_deep n e in

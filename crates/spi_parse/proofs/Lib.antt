@@ -22,3 +22,4 @@ pub mod Unique
 pub mod FormLaws
 pub mod Lexed
 pub mod Counted
+pub mod Spelled

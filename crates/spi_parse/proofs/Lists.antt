@@ -20,11 +20,9 @@ use Rattle.spi_parse.proofs.Readers.{at, read_is_step, Base, Takes, Eats, TakesS
 abbrev tok_at : Kind → Span → Bool → Tok
 tok_at k sp d = record { kind = k; span = sp; deep = d }
 
-
 -- both sides of a token that a list begins with: only the mode of the code is wanted
 abbrev m : Mode
 m = limited
-
 
 -- an item of one part
 module _ {X Y E : Type 0} (g : Y → X) (go : State → Out (List X × E)) where
@@ -41,7 +39,6 @@ module _ {X Y E : Type 0} (g : Y → X) (go : State → Out (List X × E)) where
       inner : (o : Out (List X × E)) → ◌>>=◌ {A = (Y × ((List X × E) × Unit {0})) × State} {B = (List X × E) × State} (◌>>=◌ {B = (Y × ((List X × E) × Unit {0})) × State} (◌>>=◌ {B = ((List X × E) × Unit {0}) × State} o (λ y. Ok ((y.0, tt), y.1))) (λ ys. Ok ((x.0, ys.0), ys.1))) (λ xs. Ok ((g xs.0.0 ∷ xs.0.1.0.0, xs.0.1.0.1), xs.1)) ≡ (o >>= λ z. Ok ((g x.0 ∷ z.0.0, z.0.1), z.1))
       inner (Err f) = refl
       inner (Ok z) = refl
-
 
 msgs_at : (v : Bool) (d' : Bool) (n : ℕ) (e : ℕ) (k : Kind) (sp : Span) (d : Bool) (ts : List Tok) → step m (read m) (msgs v d' n) (at e (tok_at k sp d ∷ ts)) ≡ next_list (step m (read m) (msgs_item v d' n) (at e (tok_at k sp d ∷ ts))) (read m (msgs v d' n))
 msgs_at v d' n e (K.Mark mark.Comma) sp d ts = one_part (λ x. x) (read m (msgs v d' n)) (read m (Sym.msg v d' n) (at sp.to ts))
@@ -150,9 +147,11 @@ module _ (v : Bool) (n : ℕ) (w : SWord) where
       deepest : (s : State) (o : Out (List t.Field × t.Last)) → ◌>>=◌ {A = (t.Ty × (Option (List t.Field × t.Last) × Unit {0})) × State} {B = (List t.Field × t.Last) × State} (◌>>=◌ {B = (t.Ty × (Option (List t.Field × t.Last) × Unit {0})) × State} (◌>>=◌ {B = (Option (List t.Field × t.Last) × Unit {0}) × State} (◌>>=◌ {B = Option (List t.Field × t.Last) × State} o (λ z. Ok (Some z.0, z.1))) (λ y. Ok ((y.0, tt), y.1))) (λ ys. Ok ((x.0, ys.0), ys.1))) (λ xs. Ok (with_field w xs.0.0 xs.0.1.0, xs.1)) ≡ (o >>= λ z. Ok ((record { name = w; ty = x.0 } ∷ z.0.0, z.0.1), z.1))
       deepest s (Err f) = refl
       deepest s (Ok z) = refl
+
       split : (b : Bool) (s : State) → ◌>>=◌ {A = (t.Ty × (Option (List t.Field × t.Last) × Unit {0})) × State} {B = (List t.Field × t.Last) × State} (◌>>=◌ {B = (t.Ty × (Option (List t.Field × t.Last) × Unit {0})) × State} (◌>>=◌ {B = (Option (List t.Field × t.Last) × Unit {0}) × State} (after_rest v n (Ok (b, s))) (λ y. Ok ((y.0, tt), y.1))) (λ ys. Ok ((x.0, ys.0), ys.1))) (λ xs. Ok (with_field w xs.0.0 xs.0.1.0, xs.1)) ≡ next_list (Ok (cond b (last (t.named w x.0)) (one (record { name = w; ty = x.0 })), s)) (read m (fields v n))
       split true s = refl
       split false s = deepest s (read m (fields v n) s)
+
       inner : (o : Out Bool) → ◌>>=◌ {A = (t.Ty × (Option (List t.Field × t.Last) × Unit {0})) × State} {B = (List t.Field × t.Last) × State} (◌>>=◌ {B = (t.Ty × (Option (List t.Field × t.Last) × Unit {0})) × State} (◌>>=◌ {B = (Option (List t.Field × t.Last) × Unit {0}) × State} (after_rest v n o) (λ y. Ok ((y.0, tt), y.1))) (λ ys. Ok ((x.0, ys.0), ys.1))) (λ xs. Ok (with_field w xs.0.0 xs.0.1.0, xs.1)) ≡ next_list (◌>>=◌ {A = (t.Ty × (Bool × Unit {0})) × State} {B = Item t.Field t.Last × State} (◌>>=◌ {B = (t.Ty × (Bool × Unit {0})) × State} (◌>>=◌ {B = (Bool × Unit {0}) × State} o (λ y. Ok ((y.0, tt), y.1))) (λ ys. Ok ((x.0, ys.0), ys.1))) (λ xs. Ok (cond xs.0.1.0 (last (t.named w xs.0.0)) (one (record { name = w; ty = xs.0.0 })), xs.1))) (read m (fields v n))
       inner (Err f) = refl
       inner (Ok y) = split y.0 y.1
@@ -183,7 +182,6 @@ fields_state v n e (t ∷ ts) = fields_at v n e t.kind t.span t.deep ts
 
 pub fields_law : (v : Bool) (n : ℕ) (s : State) → read m (fields v n) s ≡ next_list (read m (fields_item v n) s) (read m (fields v n))
 fields_law v n s = read_is_step m (fields v n) s ∙ fields_state v n s.end s.rest ∙ ap (λ (r : Out (Item t.Field t.Last)). next_list r (read m (fields v n))) (sym (read_is_step m (fields_item v n) s))
-
 
 -- ---- each item takes a token
 

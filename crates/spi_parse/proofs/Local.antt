@@ -250,16 +250,17 @@ module _ (table : TableFlags) (x : ℕ) (most : x ≤ 1) (n : ℕ) (rd rt : Read
       let q = bind_ok (read_all rt l p.0.1) (λ ys. Ok ((p.0.0, ys.0), ys.1)) y p.2 in
       let same : q.0.1.rest ≡ y.1.rest = ap (λ (z : Trees (a ∷ l) × State). z.1.rest) (ok_is ((p.0.0, q.0.0), q.0.1) y q.2) in
       subst (λ (us' : List Tok). Follows x n s.rest u.rest (read_all rd (a ∷ l) s) us') same (go p.0.1.rest q.0.1.rest (λ s' k. all_follows l s' p.0.1 q.0 k q.1) (rd a s) (follow.by a s u p.0 sh p.1))
-      where
-        joined : (z : Tree a × State) (us us' : List Tok) (o : Out (Trees l)) → (Clean n z.1.rest us → Clean n s.rest u.rest) → (NoFlag u.rest → NoFlag us) → Follows x n z.1.rest us o us' → Follows x n s.rest u.rest (◌>>=◌ {B = Trees (a ∷ l) × State} o (λ ys. Ok ((z.0, ys.0), ys.1))) us'
-        joined z us us' (Ok ys) c k f = (f.0, λ i. c (f.1 i), λ i. f.2 (k i))
-        joined z us us' (Err (Syntax n')) c k f = (f.0, c f.1)
-        joined z us us' (Err (TooDeep n')) c k (inl f) = inl (f.0, c f.1)
-        joined z us us' (Err (TooDeep n')) c k (inr f) = inr (f.0, λ i. f.1 (k i))
-        go : (us us' : List Tok) → ((s' : State) → Shared x n s'.rest us → Follows x n s'.rest us (read_all rd l s') us') → (o : Out (Tree a)) → Follows x n s.rest u.rest o us → Follows x n s.rest u.rest (◌>>=◌ {B = Trees (a ∷ l) × State} o (λ z. read_all rd l z.1 >>= λ ys. Ok ((z.0, ys.0), ys.1))) us'
-        go us us' ih (Ok z) f = joined z us us' (read_all rd l z.1) f.1 f.2 (ih z.1 f.0)
-        go us us' ih (Err (Syntax n')) f = f
-        go us us' ih (Err (TooDeep n')) f = f
+    where
+      joined : (z : Tree a × State) (us us' : List Tok) (o : Out (Trees l)) → (Clean n z.1.rest us → Clean n s.rest u.rest) → (NoFlag u.rest → NoFlag us) → Follows x n z.1.rest us o us' → Follows x n s.rest u.rest (◌>>=◌ {B = Trees (a ∷ l) × State} o (λ ys. Ok ((z.0, ys.0), ys.1))) us'
+      joined z us us' (Ok ys) c k f = (f.0, λ i. c (f.1 i), λ i. f.2 (k i))
+      joined z us us' (Err (Syntax n')) c k f = (f.0, c f.1)
+      joined z us us' (Err (TooDeep n')) c k (inl f) = inl (f.0, c f.1)
+      joined z us us' (Err (TooDeep n')) c k (inr f) = inr (f.0, λ i. f.1 (k i))
+
+      go : (us us' : List Tok) → ((s' : State) → Shared x n s'.rest us → Follows x n s'.rest us (read_all rd l s') us') → (o : Out (Tree a)) → Follows x n s.rest u.rest o us → Follows x n s.rest u.rest (◌>>=◌ {B = Trees (a ∷ l) × State} o (λ z. read_all rd l z.1 >>= λ ys. Ok ((z.0, ys.0), ys.1))) us'
+      go us us' ih (Ok z) f = joined z us us' (read_all rd l z.1) f.1 f.2 (ih z.1 f.0)
+      go us us' ih (Err (Syntax n')) f = f
+      go us us' ih (Err (TooDeep n')) f = f
 
   -- a token that is not too deep, or a fault
   passes : {X : Type 0} (deep : Bool) (t u : Tok) (ts us us' : List Tok) (o : Out X) → deep ≡ u.deep → n ≤ suc (length ts) → Follows x n ts us o us' → Follows x n (t ∷ ts) (u ∷ us) (pass limited deep t.deep (suc (length ts)) o) us'
@@ -312,9 +313,9 @@ module _ (table : TableFlags) (x : ℕ) (most : x ≤ 1) (n : ℕ) (rd rt : Read
       let g = pass_told deep u.deep _ _ y h in
       passes deep t u ts (u' ∷ us) y.1.rest (next_move f (ss ++ t.span ∷ []) t.span.to ts) g.0 k
       (next_follows f (ss ++ t.span ∷ []) t.span.to ts u' us y.1.rest (sh k).1 (λ c. moves_keep NoFlag no_flag_tail rt keep told (f u'.kind) false (ss' ++ u.span ∷ []) u.span.to (u' ∷ us) y g.1 c)
-        (λ t' ts' same le kinds. subst (λ (l : List Tok). Follows {X = Tree a} x n l (u' ∷ us) (go_on limited rd (f t'.kind) false (ss ++ t.span ∷ []) (at t.span.to l)) y.1.rest) (sym same)
-          (moves_follow (f t'.kind) false (ss ++ t.span ∷ []) (ss' ++ u.span ∷ []) t.span.to u.span.to t' ts' u' us y le (subst (λ (l : List Tok). Shared x n l (u' ∷ us)) same (sh k).1)
-            (subst (λ (i : Kind). go_on told rt (f i) false (ss' ++ u.span ∷ []) (at u.span.to (u' ∷ us)) ≡ Ok y) (sym kinds) g.1))))
+      (λ t' ts' same le kinds. subst (λ (l : List Tok). Follows {X = Tree a} x n l (u' ∷ us) (go_on limited rd (f t'.kind) false (ss ++ t.span ∷ []) (at t.span.to l)) y.1.rest) (sym same)
+      (moves_follow (f t'.kind) false (ss ++ t.span ∷ []) (ss' ++ u.span ∷ []) t.span.to u.span.to t' ts' u' us y le (subst (λ (l : List Tok). Shared x n l (u' ∷ us)) same (sh k).1)
+      (subst (λ (i : Kind). go_on told rt (f i) false (ss' ++ u.span ∷ []) (at u.span.to (u' ∷ us)) ≡ Ok y) (sym kinds) g.1))))
   moves_follow {a = a} (may_look d f) deep ss ss' e e' t ts u [] y k sh h =
       let none : Out (Tree a) = Err (Syntax 0) in
       let g : none ≡ Ok y = (may_pass_told d u.deep _ _ y h).1 in absurd cc
@@ -323,26 +324,27 @@ module _ (table : TableFlags) (x : ℕ) (most : x ≤ 1) (n : ℕ) (rd rt : Read
       let on = may_lead_ok told d u.deep (leads_deep (f u'.kind)) _ _ y g.1 in
       may_passes d t u ts (u' ∷ us) y.1.rest (next_move f (ss ++ t.span ∷ []) t.span.to ts) g.0 (λ z c. led d u.deep (leads_deep (f u'.kind)) _ _ y g.1 z c.0 (λ v. leads_flag rt flagged (f u'.kind) (ss' ++ u.span ∷ []) u.span.to u' us y v on c.1)) k
       (next_follows f (ss ++ t.span ∷ []) t.span.to ts u' us y.1.rest (sh k).1 (λ c. moves_keep NoFlag no_flag_tail rt keep told (f u'.kind) false (ss' ++ u.span ∷ []) u.span.to (u' ∷ us) y on c)
-        (λ t' ts' same le kinds. subst (λ (l : List Tok). Follows {X = Tree a} x n l (u' ∷ us) (go_on limited rd (f t'.kind) false (ss ++ t.span ∷ []) (at t.span.to l)) y.1.rest) (sym same)
-          (moves_follow (f t'.kind) false (ss ++ t.span ∷ []) (ss' ++ u.span ∷ []) t.span.to u.span.to t' ts' u' us y le (subst (λ (l : List Tok). Shared x n l (u' ∷ us)) same (sh k).1)
-            (subst (λ (i : Kind). go_on told rt (f i) false (ss' ++ u.span ∷ []) (at u.span.to (u' ∷ us)) ≡ Ok y) (sym kinds) on))))
+      (λ t' ts' same le kinds. subst (λ (l : List Tok). Follows {X = Tree a} x n l (u' ∷ us) (go_on limited rd (f t'.kind) false (ss ++ t.span ∷ []) (at t.span.to l)) y.1.rest) (sym same)
+      (moves_follow (f t'.kind) false (ss ++ t.span ∷ []) (ss' ++ u.span ∷ []) t.span.to u.span.to t' ts' u' us y le (subst (λ (l : List Tok). Shared x n l (u' ∷ us)) same (sh k).1)
+      (subst (λ (i : Kind). go_on told rt (f i) false (ss' ++ u.span ∷ []) (at u.span.to (u' ∷ us)) ≡ Ok y) (sym kinds) on))))
 
   -- where the second list has ended, the first goes on with nothing, or with a token that it eats
   tail_follows : {a : Sym} (mv : Move a false) (e : ℕ) (t : Tok) (ts : List Tok) → Opens mv → n ≡ suc (length ts) → suc (length ts) < n + x → Follows {X = Tree a} x n (t ∷ ts) [] (go_on limited rd mv false [] (at e (t ∷ ts))) []
   tail_follows {a} (skip z) e t ts op is sh = (sh, λ c. c, λ c. c)
   tail_follows {a} (eat l b) e t ts op is sh = made (◌>>=◌ {B = Tree a × State} (read_all rd l (at t.span.to ts)) (λ xs. Ok (b (t.span ∷ []) xs.1.end xs.0, xs.1)))
-        (λ z h. let p = bind_ok (read_all rd l (at t.span.to ts)) (λ xs. Ok (b (t.span ∷ []) xs.1.end xs.0, xs.1)) z h in
-          let k = ap (λ (w : Tree a × State). length w.1.rest) (ok_is {X = Tree a × State} (b (t.span ∷ []) p.0.1.end p.0.0, p.0.1) z p.2) in
-          let j = all_no_longer rd short l (at t.span.to ts) p.0 p.1 in omega arith)
-        (λ d h. all_within rd short within l (at t.span.to ts) d (only_err (read_all rd l (at t.span.to ts)) (λ (xs : Trees l × State). (b (t.span ∷ []) xs.1.end xs.0, xs.1)) d h))
-      where
-        rest_shared : (rs : List Tok) → length rs ≤ length ts → Shared x n rs []
-        rest_shared [] h = tt
-        rest_shared (r ∷ rs) h = omega arith
-        made : (o : Out (Tree a)) → ((z : Tree a × State) → o ≡ Ok z → length z.1.rest ≤ length ts) → ((d : Fault) → o ≡ Err d → left_of d ≤ length ts) → Follows {X = Tree a} x n (t ∷ ts) [] o []
-        made (Ok z) ok err = (rest_shared z.1.rest (ok z refl), λ c. tt, λ c. c)
-        made (Err (Syntax n')) ok err = let k = err (Syntax n') refl in (omega arith, tt)
-        made (Err (TooDeep n')) ok err = let k = err (TooDeep n') refl in inl (omega arith, tt)
+      (λ z h. let p = bind_ok (read_all rd l (at t.span.to ts)) (λ xs. Ok (b (t.span ∷ []) xs.1.end xs.0, xs.1)) z h in
+      let k = ap (λ (w : Tree a × State). length w.1.rest) (ok_is {X = Tree a × State} (b (t.span ∷ []) p.0.1.end p.0.0, p.0.1) z p.2) in
+      let j = all_no_longer rd short l (at t.span.to ts) p.0 p.1 in omega arith)
+      (λ d h. all_within rd short within l (at t.span.to ts) d (only_err (read_all rd l (at t.span.to ts)) (λ (xs : Trees l × State). (b (t.span ∷ []) xs.1.end xs.0, xs.1)) d h))
+    where
+      rest_shared : (rs : List Tok) → length rs ≤ length ts → Shared x n rs []
+      rest_shared [] h = tt
+      rest_shared (r ∷ rs) h = omega arith
+
+      made : (o : Out (Tree a)) → ((z : Tree a × State) → o ≡ Ok z → length z.1.rest ≤ length ts) → ((d : Fault) → o ≡ Err d → left_of d ≤ length ts) → Follows {X = Tree a} x n (t ∷ ts) [] o []
+      made (Ok z) ok err = (rest_shared z.1.rest (ok z refl), λ c. tt, λ c. c)
+      made (Err (Syntax n')) ok err = let k = err (Syntax n') refl in (omega arith, tt)
+      made (Err (TooDeep n')) ok err = let k = err (TooDeep n') refl in inl (omega arith, tt)
   tail_follows (look f) e t ts op is sh = absurd op
   tail_follows fail e t ts op is sh = absurd op
   tail_follows (stay l low b) e t ts op is sh = absurd op
@@ -359,6 +361,7 @@ module _ (table : TableFlags) (x : ℕ) (most : x ≤ 1) (n : ℕ) (rd rt : Read
       at_ends (Some z) k =
           let q : [] ≡ y.1.rest = ap (λ (w : Tree a × State). w.1.rest) (ok_is (z, at e' []) y k) in
           subst (λ (us' : List Tok). Follows {X = Tree a} x n [] [] (Ok (z, at e [])) us') q (tt, λ c. c, λ c. c)
+
       goes_on : (t : Tok) (ts : List Tok) (o : Option (Tree a)) → at_end a ≡ o → or_end o (at e' []) ≡ Ok y → n ≡ suc (length ts) → suc (length ts) < n + x → Follows x n (t ∷ ts) [] (step limited rd a (at e (t ∷ ts))) y.1.rest
       goes_on t ts None is k eq sh = absurd cc
       goes_on t ts (Some z) is k eq sh =
@@ -366,6 +369,7 @@ module _ (table : TableFlags) (x : ℕ) (most : x ≤ 1) (n : ℕ) (rd rt : Read
           let tab = table.tails a t.kind z is in
           subst (λ (us' : List Tok). Follows {X = Tree a} x n (t ∷ ts) [] (step limited rd a (at e (t ∷ ts))) us') q
           (subst (λ (b : Bool). Follows {X = Tree a} x n (t ∷ ts) [] (go_on limited rd (delta a t.kind) b [] (at e (t ∷ ts))) []) (sym tab.1) (tail_follows (delta a t.kind) e t ts tab.0 eq sh))
+
       go : (ts us : List Tok) → Shared x n ts us → n ≤ length ts → step told rt a (at e' us) ≡ Ok y → Follows x n ts us (step limited rd a (at e ts)) y.1.rest
       go [] [] sh le k = at_ends (at_end a) k
       go [] (u ∷ us) sh le k = let z : n ≡ 0 = omega arith in absurd (sh z)

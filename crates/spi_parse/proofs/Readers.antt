@@ -94,7 +94,6 @@ module _ (rd : Reader) (short : NoLonger rd) where
       let g = pass_ok m deep t.deep _ _ x h in
       let one = moves_no_longer m (f t'.kind) false (ss ++ t.span ∷ []) t.span.to (t' ∷ ts) x g in
       omega arith
-
   moves_no_longer m (may_look d f) deep ss e [] x h = absurd cc
   moves_no_longer {a = a} m (may_look d f) deep ss e (t ∷ []) x h =
       let none : Out (Tree a) = Err (Fault.Syntax 0) in
@@ -248,6 +247,7 @@ module _ (rd rd' : Reader) (short : NoLonger rd) (most : ℕ) (same : Agree rd r
           none [] k = refl
           none (c ∷ l) k = absurd (below_none c l k)
       split (suc hi) k j = all_agree hi l (at e (t ∷ ts)) (below_at_most hi l k) (omega arith)
+
       go : (ate : Bool) → T (may_stay ate a l) → wanted ate a (suc (length ts)) ≤ most → read_all rd l (at e (t ∷ ts)) ≡ read_all rd' l (at e (t ∷ ts))
       go true k j = all_agree 3 l (at e (t ∷ ts)) (all_at_most l) j
       go false k j = split (high a) k j

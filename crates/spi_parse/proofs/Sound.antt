@@ -195,8 +195,8 @@ module _ (rd : Reader) (sound : IsSound rd) where
   moves_sound {a = a} (may_look d f) deep ss from fr e0 ts0 e t (t' ∷ ts) x ok eaten h =
       let g = may_pass_limited d t.deep _ _ x h in
       let go : (node b : Bool) → b ≡ false → MoveOk (f t'.kind) false (ss ++ t.span ∷ []) from (λ q. fr (word_front node t.kind t.span b q)) t'.kind t'.span → Formed a x.0 × ((r : List Piece) → Lays e0 (spell a x.0 r) ts0 x.1.end r x.1.rest)
-          = λ node b z k. moves_sound (f t'.kind) false (ss ++ t.span ∷ []) from (λ q. fr (word_front node t.kind t.span b q)) e0 ts0 t.span.to t' ts x k
-              (eaten_more e0 ts0 from fr (word_front node t.kind t.span b) e t.span.to (t ∷ t' ∷ ts) (t' ∷ ts) eaten (λ q. lays_word node e b q t (t' ∷ ts) z)) g.1 in
+      = λ node b z k. moves_sound (f t'.kind) false (ss ++ t.span ∷ []) from (λ q. fr (word_front node t.kind t.span b q)) e0 ts0 t.span.to t' ts x k
+      (eaten_more e0 ts0 from fr (word_front node t.kind t.span b) e t.span.to (t ∷ t' ∷ ts) (t' ∷ ts) eaten (λ q. lays_word node e b q t (t' ∷ ts) z)) g.1 in
       elim (ok t'.kind t'.span) [ inl k ↦ go false false refl k | inr k ↦ go true d g.0 k ]
 
   ends_sound : (a : Sym) (o : Option (Tree a)) (e : ℕ) (x : Tree a × State) → ((y : Tree a) → o ≡ Some y → Formed a y × ((r : List Piece) → spell a y r ≡ r)) → or_end o (at e []) ≡ Ok x → Formed a x.0 × ((r : List Piece) → Lays e (spell a x.0 r) [] x.1.end r x.1.rest)

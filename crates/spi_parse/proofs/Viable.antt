@@ -91,9 +91,15 @@ module _ (live : TableLive) where
 
   built_by : (a : Sym) (l : List Sym) (from : ℕ) (fr : Front) (b : ℕ → Trees l → Tree a) → Builds a l from fr b → Extends a fr
   built_by a l from fr b ok =
-      let how = ok 0 (somes l) (somes_formed l) in
-      (b 0 (somes l), how.0, λ q. (spell_all l (somes l) (closed how.1.1 0 q), ap cells (how.1.2 q) ∙ cells_opened how.1.0 from _,
-        λ h. somes_spare l (closed how.1.1 0 q) (spare_as (cells q) (cells (closed how.1.1 0 q)) (sym (cells_closed how.1.1 0 q)) h)))
+      let how = ok 0 (somes l) (somes_formed l) in (
+        b 0 (somes l),
+        how.0,
+        λ q. (
+          spell_all l (somes l) (closed how.1.1 0 q),
+          ap cells (how.1.2 q) ∙ cells_opened how.1.0 from _,
+          λ h. somes_spare l (closed how.1.1 0 q) (spare_as (cells q) (cells (closed how.1.1 0 q)) (sym (cells_closed how.1.1 0 q)) h),
+        ),
+      )
 
   -- what was eaten and a token more
   longer : (a : Sym) (fr : Front) (more : Front) → ((q : List Piece) → AreSpare (cells q) → AreSpare (cells (more q))) → Extends a (λ q. fr (more q)) → Extends a fr
@@ -119,7 +125,7 @@ module _ (live : TableLive) where
   grows {a = a} (stay l low b) deep ss from fr k s fit g ok = built_by a l from fr (b (ss ++ s ∷ [])) ok
   grows {a = a} (may_look d f) deep ss from fr k s fit g ok =
       let go : (node e : Bool) → MoveOk (f g.0) false (ss ++ s ∷ []) from (λ q. fr (word_front node k s e q)) g.0 s → Extends a fr
-          = λ node e m. longer a fr (word_front node k s e) (λ q h. spare_word node k s e q fit h) (grows (f g.0) false (ss ++ s ∷ []) from (λ q. fr (word_front node k s e q)) g.0 s g.1 g.2 m) in
+      = λ node e m. longer a fr (word_front node k s e) (λ q h. spare_word node k s e q fit h) (grows (f g.0) false (ss ++ s ∷ []) from (λ q. fr (word_front node k s e q)) g.0 s g.1 g.2 m) in
       elim (ok g.0 s) [ inl m ↦ go false false m | inr m ↦ go true d m ]
   grows {a = a} (skip y) deep ss from fr k s fit g ok = (y, ok.0, λ q. (q, ap cells (ok.1 q), λ h. h))
 
@@ -149,9 +155,11 @@ module _ (live : TableLive) where
         rest x e r =
             let one = sound.by a s x e in
             ((x.0, r.0), (one.0, r.1), λ q. let lay = one.1 (spell_all l r.0 q) in later lay.pre s.rest x.1.rest d (cells (spell a x.0 (spell_all l r.0 q))) (cells (spell_all l r.0 q)) (AreSpare (cells q)) (AreSpare (cells q)) lay.split lay.cells_are (λ h. h) (r.2 q))
+
         second : (o : Out (Trees l)) (x : Tree a × State) → ◌>>=◌ {B = Trees (a ∷ l) × State} o (λ ys. Ok ((x.0, ys.0), ys.1)) ≡ Err d → o ≡ Err d
         second (Ok y) x k = absurd cc
         second (Err d') x k = cc
+
         first : ((s' : State) → read_all rd l s' ≡ Err d → (xs : Trees l) × FormedAll l xs × ((q : List Piece) → Reaches s'.rest d (cells (spell_all l xs q)) (AreSpare (cells q)))) → (o : Out (Tree a)) → rd a s ≡ o → ◌>>=◌ {B = Trees (a ∷ l) × State} o (λ x. read_all rd l x.1 >>= λ ys. Ok ((x.0, ys.0), ys.1)) ≡ Err d
             → (xs : Trees (a ∷ l)) × FormedAll (a ∷ l) xs × ((q : List Piece) → Reaches s.rest d (cells (spell_all (a ∷ l) xs q)) (AreSpare (cells q)))
         first ih (Err d') e k =
@@ -164,11 +172,14 @@ module _ (live : TableLive) where
         → ◌>>=◌ {B = Tree a × State} (read_all rd l (at e ts)) (λ xs. Ok (b xs.1.end xs.0, xs.1)) ≡ Err d → (x : Tree a) × Formed a x × ((q : List Piece) → Reaches ts0 d (cells (spell a x q)) (AreSpare (cells q)))
     parts_viable a l from fr b e0 ts0 e ts d ok eaten h =
         let v = all_viable l (at e ts) d (only (read_all rd l (at e ts)) h) in
-        let how = ok 0 v.0 v.1 in
-        (b 0 v.0, how.0, λ q.
-          let ps = spell_all l v.0 (closed how.1.1 0 q) in
-          let lay = eaten.lays ps in
-          later lay.pre ts0 ts d (cells (spell a (b 0 v.0) q)) (cells ps) (AreSpare (cells q)) (AreSpare (cells (closed how.1.1 0 q))) lay.split (ap cells (how.1.2 q) ∙ cells_opened how.1.0 from (fr ps) ∙ lay.cells_are) (spare_closed how.1.1 0 q) (v.2 (closed how.1.1 0 q)))
+        let how = ok 0 v.0 v.1 in (
+          b 0 v.0,
+          how.0,
+          λ q.
+              let ps = spell_all l v.0 (closed how.1.1 0 q) in
+              let lay = eaten.lays ps in
+              later lay.pre ts0 ts d (cells (spell a (b 0 v.0) q)) (cells ps) (AreSpare (cells q)) (AreSpare (cells (closed how.1.1 0 q))) lay.split (ap cells (how.1.2 q) ∙ cells_opened how.1.0 from (fr ps) ∙ lay.cells_are) (spare_closed how.1.1 0 q) (v.2 (closed how.1.1 0 q)),
+        )
       where
         only : (o : Out (Trees l)) → ◌>>=◌ {B = Tree a × State} o (λ xs. Ok (b xs.1.end xs.0, xs.1)) ≡ Err d → o ≡ Err d
         only (Ok y) k = absurd cc

@@ -86,13 +86,20 @@ module _ (a : Sym) (bare : Tree a → Tree a) (P : Tree a → Type 0) (formed : 
     part_ok x e rest is =
         let r = exact_ok a bare P formed complete (map tok ts) making x (at e (map tok rest)) is in
         let f = front_of ts r.pre rest r.split in
-        let pre_kinds : kinds r.pre ≡ kinds_of f.0 = ap kinds (sym f.2) ∙ kinds_tok f.0 in
-        (length f.0, ap length f.1 ∙ length-append f.0 rest, record {
-          pre = f.0; rest = rest; split = f.1; place = refl; part = r.part;
-          tokens = r.tokens ∙ pre_kinds;
-          spells = spells_of rest 0 (shown x) ts r.lies;
-          ends = subst (λ (l : List Kind). IsEnd shown P (kinds_of f.0) l) (kinds_tok rest) (subst (λ (l : List Kind). IsEnd shown P l (kinds (map tok rest))) pre_kinds r.ends);
-        })
+        let pre_kinds : kinds r.pre ≡ kinds_of f.0 = ap kinds (sym f.2) ∙ kinds_tok f.0 in (
+          length f.0,
+          ap length f.1 ∙ length-append f.0 rest,
+          record {
+            pre = f.0;
+            rest = rest;
+            split = f.1;
+            place = refl;
+            part = r.part;
+            tokens = r.tokens ∙ pre_kinds;
+            spells = spells_of rest 0 (shown x) ts r.lies;
+            ends = subst (λ (l : List Kind). IsEnd shown P (kinds_of f.0) l) (kinds_tok rest) (subst (λ (l : List Kind). IsEnd shown P l (kinds (map tok rest))) pre_kinds r.ends);
+          },
+        )
 
     part_spells : (x : Tree a) (e : ℕ) (rest : List Token) → read limited a (at 0 (map tok ts)) ≡ Ok (x, at e (map tok rest)) → P x × Spells rest 0 (shown x) ts
     part_spells x e rest is =
@@ -122,7 +129,10 @@ module _ (a : Sym) (bare : Tree a → Tree a) (P : Tree a → Type 0) (formed : 
         let place = q.place in
         let total = p.1 in
         record {
-          pre = kinds_of q.pre; rest = t.kind ∷ kinds_of rest; split = kinds_split; place = omega arith;
+          pre = kinds_of q.pre;
+          rest = t.kind ∷ kinds_of rest;
+          split = kinds_split;
+          place = omega arith;
           begins = (x, q.part, [], q.tokens ∙ sym (append-nil (kinds_of q.pre)));
           stops = q.ends;
           first = subst (λ (l : List Kind). Rattle.spi_parse.specs.Exact.NoDeepBefore shown P l (length ts - suc (length rest))) (kinds_tok ts) (first_ok a bare P formed complete (map tok ts) making x (at e (map tok (t ∷ rest))) (length ts - suc (length rest)) is);

@@ -139,7 +139,11 @@ file_made ks fit f h pre rest c split is spare =
     let d = derived (is_later f) f.derivation h.derivation in
     record {
       formed = record {
-        version = h.version; decls = h.decls; process = h.process; opponent = h.opponent; derivation = d.0;
+        version = h.version;
+        decls = h.decls;
+        process = h.process;
+        opponent = h.opponent;
+        derivation = d.0;
         words = subst (AreWordsFit (is_later f)) (sym is) (fits_append (is_later f) pre (firsts c) (front_fits f f.version h.version ks pre rest (firsts c) is split fit) (spare_fits (is_later f) c spare));
       };
       rules = d.1;

@@ -64,7 +64,10 @@ fn free_words<'t>(alloc: Global, at: Cursor<'t>) -> Result<(SWord, Vec<SWord>, C
     free_words_step(alloc, at)
 }
 
-fn free_words_step<'t>(alloc: Global, at: Cursor<'t>) -> Result<(SWord, Vec<SWord>, Cursor<'t>), Stop>
+fn free_words_step<'t>(
+    alloc: Global,
+    at: Cursor<'t>,
+) -> Result<(SWord, Vec<SWord>, Cursor<'t>), Stop>
     ensures { Gives (λ x. ((x.0, x.1.items, x.2.end), state_of x.2)) result (step limited (read limited) free_rest (state_of at.entry)) }
 {
     let [_, ..] = at.rest else {
@@ -76,13 +79,21 @@ fn free_words_step<'t>(alloc: Global, at: Cursor<'t>) -> Result<(SWord, Vec<SWor
 }
 
 /// The name and the type of an abbreviation.
-fn abbreviation<'t>(alloc: Global, at: Cursor<'t>, later: bool) -> Result<(SWord, STy, Cursor<'t>), Stop>
+fn abbreviation<'t>(
+    alloc: Global,
+    at: Cursor<'t>,
+    later: bool,
+) -> Result<(SWord, STy, Cursor<'t>), Stop>
     ensures { Gives (λ x. ((x.0, ty_of x.1, x.2.end), state_of x.2)) result (read limited (abbr_rest later) (state_of at.entry)) }
 {
     abbreviation_step(alloc, at, later)
 }
 
-fn abbreviation_step<'t>(alloc: Global, at: Cursor<'t>, later: bool) -> Result<(SWord, STy, Cursor<'t>), Stop>
+fn abbreviation_step<'t>(
+    alloc: Global,
+    at: Cursor<'t>,
+    later: bool,
+) -> Result<(SWord, STy, Cursor<'t>), Stop>
     ensures { Gives (λ x. ((x.0, ty_of x.1, x.2.end), state_of x.2)) result (step limited (read limited) (abbr_rest later) (state_of at.entry)) }
 {
     let [_, ..] = at.rest else {
@@ -104,13 +115,21 @@ fn abbreviated<'t>(alloc: Global, at: Cursor<'t>, later: bool) -> Result<(STy, C
 }
 
 /// A declaration.
-pub fn declaration<'t>(alloc: Global, at: Cursor<'t>, later: bool) -> Result<(Decl, Cursor<'t>), Stop>
+pub fn declaration<'t>(
+    alloc: Global,
+    at: Cursor<'t>,
+    later: bool,
+) -> Result<(Decl, Cursor<'t>), Stop>
     ensures { Gives (λ x. (decl_of x.0, state_of x.1)) result (read limited (decl later) (state_of at.entry)) }
 {
     declaration_step(alloc, at, later)
 }
 
-fn declaration_step<'t>(alloc: Global, at: Cursor<'t>, later: bool) -> Result<(Decl, Cursor<'t>), Stop>
+fn declaration_step<'t>(
+    alloc: Global,
+    at: Cursor<'t>,
+    later: bool,
+) -> Result<(Decl, Cursor<'t>), Stop>
     ensures { Gives (λ x. (decl_of x.0, state_of x.1)) result (step limited (read limited) (decl later) (state_of at.entry)) }
 {
     let [first, rest @ ..] = at.rest else {
@@ -146,13 +165,21 @@ fn declaration_step<'t>(alloc: Global, at: Cursor<'t>, later: bool) -> Result<(D
     }
 }
 
-fn next_declaration<'t>(alloc: Global, at: Cursor<'t>, later: bool) -> Result<(Option<Decl>, Cursor<'t>), Stop>
+fn next_declaration<'t>(
+    alloc: Global,
+    at: Cursor<'t>,
+    later: bool,
+) -> Result<(Option<Decl>, Cursor<'t>), Stop>
     ensures { Gives (λ x. (item_of decl_of tt x.0, state_of x.1)) result (read limited (decls_item later) (state_of at.entry)) }
 {
     next_declaration_step(alloc, at, later)
 }
 
-fn next_declaration_step<'t>(alloc: Global, at: Cursor<'t>, later: bool) -> Result<(Option<Decl>, Cursor<'t>), Stop>
+fn next_declaration_step<'t>(
+    alloc: Global,
+    at: Cursor<'t>,
+    later: bool,
+) -> Result<(Option<Decl>, Cursor<'t>), Stop>
     ensures { Gives (λ x. (item_of decl_of tt x.0, state_of x.1)) result (step limited (read limited) (decls_item later) (state_of at.entry)) }
 {
     let [first, rest @ ..] = at.rest else {
@@ -190,7 +217,11 @@ fn next_declaration_step<'t>(alloc: Global, at: Cursor<'t>, later: bool) -> Resu
 }
 
 /// The declarations, with the word `process`.
-pub fn all_declarations<'t>(alloc: Global, start: Cursor<'t>, later: bool) -> Result<(Vec<Decl>, Cursor<'t>), Stop>
+pub fn all_declarations<'t>(
+    alloc: Global,
+    start: Cursor<'t>,
+    later: bool,
+) -> Result<(Vec<Decl>, Cursor<'t>), Stop>
     ensures { Gives (λ x. ((map decl_of x.0.items, tt), state_of x.1)) result (read limited (decls later) (state_of start.entry)) }
 {
     let mut more = Vec::new(alloc);

@@ -100,7 +100,12 @@ fn make_use(rule: SWord, effect: Option<Vec<SAtom>>, premises: Vec<SDeriv>, span
 
 /// A use of a rule, of a nesting.
 #[cycle(derivations)]
-pub fn derivation<'t>(alloc: Global, at: Cursor<'t>, later: bool, nesting: u32) -> Result<(SDeriv, Cursor<'t>), Stop>
+pub fn derivation<'t>(
+    alloc: Global,
+    at: Cursor<'t>,
+    later: bool,
+    nesting: u32,
+) -> Result<(SDeriv, Cursor<'t>), Stop>
     requires { nesting ≤ 1001 }
     ensures { Gives (λ x. (deriv_of x.0, state_of x.1)) result (read limited (deriv later nesting) (state_of at.entry)) }
 {
@@ -108,7 +113,12 @@ pub fn derivation<'t>(alloc: Global, at: Cursor<'t>, later: bool, nesting: u32) 
 }
 
 #[cycle(derivations)]
-fn derivation_step<'t>(alloc: Global, at: Cursor<'t>, later: bool, nesting: u32) -> Result<(SDeriv, Cursor<'t>), Stop>
+fn derivation_step<'t>(
+    alloc: Global,
+    at: Cursor<'t>,
+    later: bool,
+    nesting: u32,
+) -> Result<(SDeriv, Cursor<'t>), Stop>
     requires { nesting ≤ 1001 }
     ensures { Gives (λ x. (deriv_of x.0, state_of x.1)) result (step limited (read limited) (deriv later nesting) (state_of at.entry)) }
 {
@@ -155,7 +165,13 @@ fn derivation_step<'t>(alloc: Global, at: Cursor<'t>, later: bool, nesting: u32)
 }
 
 #[cycle(derivations)]
-fn read_one<'t>(alloc: Global, name: SWord, at: Cursor<'t>, later: bool, nesting: u32) -> Result<(SDeriv, Cursor<'t>), Stop>
+fn read_one<'t>(
+    alloc: Global,
+    name: SWord,
+    at: Cursor<'t>,
+    later: bool,
+    nesting: u32,
+) -> Result<(SDeriv, Cursor<'t>), Stop>
     requires { nesting ≤ 1000 }
     ensures { Gives (λ x. (deriv_of x.0, state_of x.1)) result (one_form later nesting name.word (name.span ∷ []) (state_of at.entry)) }
 {
@@ -170,7 +186,13 @@ fn read_one<'t>(alloc: Global, name: SWord, at: Cursor<'t>, later: bool, nesting
 }
 
 #[cycle(derivations)]
-fn read_two<'t>(alloc: Global, name: SWord, at: Cursor<'t>, later: bool, nesting: u32) -> Result<(SDeriv, Cursor<'t>), Stop>
+fn read_two<'t>(
+    alloc: Global,
+    name: SWord,
+    at: Cursor<'t>,
+    later: bool,
+    nesting: u32,
+) -> Result<(SDeriv, Cursor<'t>), Stop>
     requires { nesting ≤ 1000 }
     ensures { Gives (λ x. (deriv_of x.0, state_of x.1)) result (two_form later nesting name.word (name.span ∷ []) (state_of at.entry)) }
 {
@@ -187,7 +209,13 @@ fn read_two<'t>(alloc: Global, name: SWord, at: Cursor<'t>, later: bool, nesting
 }
 
 #[cycle(derivations)]
-fn read_three<'t>(alloc: Global, name: SWord, at: Cursor<'t>, later: bool, nesting: u32) -> Result<(SDeriv, Cursor<'t>), Stop>
+fn read_three<'t>(
+    alloc: Global,
+    name: SWord,
+    at: Cursor<'t>,
+    later: bool,
+    nesting: u32,
+) -> Result<(SDeriv, Cursor<'t>), Stop>
     requires { nesting ≤ 1000 }
     ensures { Gives (λ x. (deriv_of x.0, state_of x.1)) result (three_form later nesting name.word (name.span ∷ []) (state_of at.entry)) }
 {
@@ -206,7 +234,13 @@ fn read_three<'t>(alloc: Global, name: SWord, at: Cursor<'t>, later: bool, nesti
 }
 
 #[cycle(derivations)]
-fn read_sub<'t>(alloc: Global, name: SWord, at: Cursor<'t>, later: bool, nesting: u32) -> Result<(SDeriv, Cursor<'t>), Stop>
+fn read_sub<'t>(
+    alloc: Global,
+    name: SWord,
+    at: Cursor<'t>,
+    later: bool,
+    nesting: u32,
+) -> Result<(SDeriv, Cursor<'t>), Stop>
     requires { nesting ≤ 1000 }
     ensures { Gives (λ x. (deriv_of x.0, state_of x.1)) result (sub_form later nesting name.word (name.span ∷ []) (state_of at.entry)) }
 {
@@ -220,4 +254,3 @@ fn read_sub<'t>(alloc: Global, name: SWord, at: Cursor<'t>, later: bool, nesting
     premises.push(first)?;
     Ok((make_use(name, Some(effect), premises, span), at))
 }
-

@@ -29,13 +29,21 @@ pub struct FileParts {
     pub derivation: Option<SDeriv>,
 }
 
-fn opponent<'t>(alloc: Global, at: Cursor<'t>, later: bool) -> Result<(Option<SProc>, Cursor<'t>), Stop>
+fn opponent<'t>(
+    alloc: Global,
+    at: Cursor<'t>,
+    later: bool,
+) -> Result<(Option<SProc>, Cursor<'t>), Stop>
     ensures { Gives (λ x. (opponent_of x.0, state_of x.1)) result (read limited (opponent_tail later) (state_of at.entry)) }
 {
     opponent_step(alloc, at, later)
 }
 
-fn opponent_step<'t>(alloc: Global, at: Cursor<'t>, later: bool) -> Result<(Option<SProc>, Cursor<'t>), Stop>
+fn opponent_step<'t>(
+    alloc: Global,
+    at: Cursor<'t>,
+    later: bool,
+) -> Result<(Option<SProc>, Cursor<'t>), Stop>
     ensures { Gives (λ x. (opponent_of x.0, state_of x.1)) result (step limited (read limited) (opponent_tail later) (state_of at.entry)) }
 {
     let [first, rest @ ..] = at.rest else {
@@ -60,7 +68,10 @@ fn schedule<'t>(alloc: Global, at: Cursor<'t>) -> Result<(Option<Vec<SStep>>, Cu
     schedule_step(alloc, at)
 }
 
-fn schedule_step<'t>(alloc: Global, at: Cursor<'t>) -> Result<(Option<Vec<SStep>>, Cursor<'t>), Stop>
+fn schedule_step<'t>(
+    alloc: Global,
+    at: Cursor<'t>,
+) -> Result<(Option<Vec<SStep>>, Cursor<'t>), Stop>
     ensures { Gives (λ x. (schedule_of x.0, state_of x.1)) result (step limited (read limited) schedule_tail (state_of at.entry)) }
 {
     let [first, rest @ ..] = at.rest else {
@@ -79,13 +90,21 @@ fn schedule_step<'t>(alloc: Global, at: Cursor<'t>) -> Result<(Option<Vec<SStep>
     }
 }
 
-fn derivation_part<'t>(alloc: Global, at: Cursor<'t>, later: bool) -> Result<(Option<SDeriv>, Cursor<'t>), Stop>
+fn derivation_part<'t>(
+    alloc: Global,
+    at: Cursor<'t>,
+    later: bool,
+) -> Result<(Option<SDeriv>, Cursor<'t>), Stop>
     ensures { Gives (λ x. (derivation_of x.0, state_of x.1)) result (read limited (derivation_tail later) (state_of at.entry)) }
 {
     derivation_part_step(alloc, at, later)
 }
 
-fn derivation_part_step<'t>(alloc: Global, at: Cursor<'t>, later: bool) -> Result<(Option<SDeriv>, Cursor<'t>), Stop>
+fn derivation_part_step<'t>(
+    alloc: Global,
+    at: Cursor<'t>,
+    later: bool,
+) -> Result<(Option<SDeriv>, Cursor<'t>), Stop>
     ensures { Gives (λ x. (derivation_of x.0, state_of x.1)) result (step limited (read limited) (derivation_tail later) (state_of at.entry)) }
 {
     let [first, rest @ ..] = at.rest else {
@@ -104,13 +123,21 @@ fn derivation_part_step<'t>(alloc: Global, at: Cursor<'t>, later: bool) -> Resul
     }
 }
 
-fn file_parts<'t>(alloc: Global, at: Cursor<'t>, later: bool) -> Result<(FileParts, Cursor<'t>), Stop>
+fn file_parts<'t>(
+    alloc: Global,
+    at: Cursor<'t>,
+    later: bool,
+) -> Result<(FileParts, Cursor<'t>), Stop>
     ensures { Gives (λ x. (body_of x.0, state_of x.1)) result (read limited (body later) (state_of at.entry)) }
 {
     file_parts_step(alloc, at, later)
 }
 
-fn file_parts_step<'t>(alloc: Global, at: Cursor<'t>, later: bool) -> Result<(FileParts, Cursor<'t>), Stop>
+fn file_parts_step<'t>(
+    alloc: Global,
+    at: Cursor<'t>,
+    later: bool,
+) -> Result<(FileParts, Cursor<'t>), Stop>
     ensures { Gives (λ x. (body_of x.0, state_of x.1)) result (step limited (read limited) (body later) (state_of at.entry)) }
 {
     let [_, ..] = at.rest else {

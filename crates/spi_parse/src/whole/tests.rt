@@ -86,21 +86,42 @@ fn files_and_their_faults(rt: HostRuntime) -> Result<(), Fail> {
     for (text, expected) in [
         ("process stop", "2 tokens"),
         (H, "164 tokens"),
-        ("process out a a opponent stop schedule act 0; talk 1 2; derivation ProcOut MsgName MsgName", "18 tokens"),
-        ("process stop opponent out a a | stop schedule derivation ProcSub [check #1] ProcStop", "17 tokens"),
-        ("version 2; free a; process new (k: Key(Un)); out a hash(k)", "23 tokens"),
-        ("version 2; process begin a; endmany a; stop derivation MsgHash", "13 tokens"),
+        (
+            "process out a a opponent stop schedule act 0; talk 1 2; derivation ProcOut MsgName MsgName",
+            "18 tokens",
+        ),
+        (
+            "process stop opponent out a a | stop schedule derivation ProcSub [check #1] ProcStop",
+            "17 tokens",
+        ),
+        (
+            "version 2; free a; process new (k: Key(Un)); out a hash(k)",
+            "23 tokens",
+        ),
+        (
+            "version 2; process begin a; endmany a; stop derivation MsgHash",
+            "13 tokens",
+        ),
         ("free hash; process out hash hash", "7 tokens"),
         ("", "Syntax at 1:1"),
         ("process begin (), stop", "Syntax at 1:17"),
         ("process stop stop", "Syntax at 1:14"),
         ("process stop derivation", "Syntax at 1:24"),
-        ("process stop derivation ProcStop ProcStop", "Syntax at 1:34"),
+        (
+            "process stop derivation ProcStop ProcStop",
+            "Syntax at 1:34",
+        ),
         ("process stop derivation ProcSub ProcStop", "Syntax at 1:33"),
         ("process stop derivation MsgHash", "Syntax at 1:25"),
-        ("process stop derivation ProcSub [end a] ProcStop", "Syntax at 1:38"),
+        (
+            "process stop derivation ProcSub [end a] ProcStop",
+            "Syntax at 1:38",
+        ),
         ("process stop schedule opponent stop", "Syntax at 1:23"),
-        ("free a; process new (k: Key(Un)); out a hash(k)", "Syntax at 1:45"),
+        (
+            "free a; process new (k: Key(Un)); out a hash(k)",
+            "Syntax at 1:45",
+        ),
         ("version 3; process stop", "Syntax at 1:9"),
         ("free a process stop", "Syntax at 1:8"),
     ] {
@@ -134,13 +155,41 @@ fn files_up_to_the_limits(rt: HostRuntime) -> Result<(), Fail> {
         ("process ", "begin (); ", 499, "stop | stop", "2000 tokens"),
         ("process begin ", "(", 2000, "", "TooDeep at 1:1015"),
         ("process ", "(", 600, "", "TooDeep at 1:509"),
-        ("process stop derivation ", "ProcEnd ", 999, "ProcStop", "1003 tokens"),
-        ("process stop derivation ", "ProcEnd ", 1000, "ProcStop", "TooDeep at 1:8025"),
-        ("process stop derivation ", "ProcSub [] ", 999, "ProcStop", "3001 tokens"),
-        ("process stop derivation ", "ProcSub [end inl #0] ", 1001, "", "TooDeep at 1:21025"),
+        (
+            "process stop derivation ",
+            "ProcEnd ",
+            999,
+            "ProcStop",
+            "1003 tokens",
+        ),
+        (
+            "process stop derivation ",
+            "ProcEnd ",
+            1000,
+            "ProcStop",
+            "TooDeep at 1:8025",
+        ),
+        (
+            "process stop derivation ",
+            "ProcSub [] ",
+            999,
+            "ProcStop",
+            "3001 tokens",
+        ),
+        (
+            "process stop derivation ",
+            "ProcSub [end inl #0] ",
+            1001,
+            "",
+            "TooDeep at 1:21025",
+        ),
     ] {
         let text = repeated(a, head, part, times, tail)?;
-        assert_eq!(rt; parsed(a, &text)?.as_str(), expected, "{times} times {part}");
+        assert_eq!(rt;
+            parsed(a, &text)?.as_str(),
+            expected,
+            "{times} times {part}"
+        );
     }
     Ok(())
 }

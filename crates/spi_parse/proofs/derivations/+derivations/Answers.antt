@@ -22,8 +22,8 @@ derivation_step-returns-in_ok-derivation_fits-in-One t c =
     let arity : arity_of c.args.later c.in_ok-copy_word-in-Word.field-0 ≡ Some 1 = ap (arity_of c.args.later) copied ∙ c.in-One.ensures.0 in
     let writes : writes_effect c.in_ok-copy_word-in-Word.field-0 ≡ false = ap writes_effect copied ∙ c.in-One.ensures.1 in
     subst (λ (o : Out trees.Deriv). Gives {X = SDeriv × Cursor} {Y = trees.Deriv × State} (λ x. (deriv_of x.0, state_of x.1)) c.read_one.result o)
-      (rule_is_first c.args.later c.args.nesting c.args.at.end c.args.at.rest.now c.first-item.result c.in_ok-copy_word-in-Word.field-0 (Some 1) false c.in-len1-up.len_at_least c.first-item.is kind arity writes c.in_ok-derivation_fits-in-One.ensures)
-      c.read_one.ensures
+    (rule_is_first c.args.later c.args.nesting c.args.at.end c.args.at.rest.now c.first-item.result c.in_ok-copy_word-in-Word.field-0 (Some 1) false c.in-len1-up.len_at_least c.first-item.is kind arity writes c.in_ok-derivation_fits-in-One.ensures)
+    c.read_one.ensures
 
 pub derivation_step-returns-in_ok-derivation_fits-in-Two : goal.derivation_step-returns-in_ok-derivation_fits-in-Two
 derivation_step-returns-in_ok-derivation_fits-in-Two t c =
@@ -32,8 +32,8 @@ derivation_step-returns-in_ok-derivation_fits-in-Two t c =
     let arity : arity_of c.args.later c.in_ok-copy_word-in-Word.field-0 ≡ Some 2 = ap (arity_of c.args.later) copied ∙ c.in-Two.ensures.0 in
     let writes : writes_effect c.in_ok-copy_word-in-Word.field-0 ≡ false = ap writes_effect copied ∙ c.in-Two.ensures.1 in
     subst (λ (o : Out trees.Deriv). Gives {X = SDeriv × Cursor} {Y = trees.Deriv × State} (λ x. (deriv_of x.0, state_of x.1)) c.read_two.result o)
-      (rule_is_first c.args.later c.args.nesting c.args.at.end c.args.at.rest.now c.first-item.result c.in_ok-copy_word-in-Word.field-0 (Some 2) false c.in-len1-up.len_at_least c.first-item.is kind arity writes c.in_ok-derivation_fits-in-Two.ensures)
-      c.read_two.ensures
+    (rule_is_first c.args.later c.args.nesting c.args.at.end c.args.at.rest.now c.first-item.result c.in_ok-copy_word-in-Word.field-0 (Some 2) false c.in-len1-up.len_at_least c.first-item.is kind arity writes c.in_ok-derivation_fits-in-Two.ensures)
+    c.read_two.ensures
 
 pub derivation_step-returns-in_ok-derivation_fits-in-Three : goal.derivation_step-returns-in_ok-derivation_fits-in-Three
 derivation_step-returns-in_ok-derivation_fits-in-Three t c =
@@ -42,8 +42,8 @@ derivation_step-returns-in_ok-derivation_fits-in-Three t c =
     let arity : arity_of c.args.later c.in_ok-copy_word-in-Word.field-0 ≡ Some 3 = ap (arity_of c.args.later) copied ∙ c.in-Three.ensures.0 in
     let writes : writes_effect c.in_ok-copy_word-in-Word.field-0 ≡ false = ap writes_effect copied ∙ c.in-Three.ensures.1 in
     subst (λ (o : Out trees.Deriv). Gives {X = SDeriv × Cursor} {Y = trees.Deriv × State} (λ x. (deriv_of x.0, state_of x.1)) c.read_three.result o)
-      (rule_is_first c.args.later c.args.nesting c.args.at.end c.args.at.rest.now c.first-item.result c.in_ok-copy_word-in-Word.field-0 (Some 3) false c.in-len1-up.len_at_least c.first-item.is kind arity writes c.in_ok-derivation_fits-in-Three.ensures)
-      c.read_three.ensures
+    (rule_is_first c.args.later c.args.nesting c.args.at.end c.args.at.rest.now c.first-item.result c.in_ok-copy_word-in-Word.field-0 (Some 3) false c.in-len1-up.len_at_least c.first-item.is kind arity writes c.in_ok-derivation_fits-in-Three.ensures)
+    c.read_three.ensures
 
 pub derivation_step-returns-in_ok-derivation_fits-in-Sub : goal.derivation_step-returns-in_ok-derivation_fits-in-Sub
 derivation_step-returns-in_ok-derivation_fits-in-Sub t c =
@@ -52,5 +52,5 @@ derivation_step-returns-in_ok-derivation_fits-in-Sub t c =
     let arity : arity_of c.args.later c.in_ok-copy_word-in-Word.field-0 ≡ Some 1 = ap (arity_of c.args.later) copied ∙ c.in-Sub.ensures.0 in
     let writes : writes_effect c.in_ok-copy_word-in-Word.field-0 ≡ true = ap writes_effect copied ∙ c.in-Sub.ensures.1 in
     subst (λ (o : Out trees.Deriv). Gives {X = SDeriv × Cursor} {Y = trees.Deriv × State} (λ x. (deriv_of x.0, state_of x.1)) c.read_sub.result o)
-      (rule_is_first c.args.later c.args.nesting c.args.at.end c.args.at.rest.now c.first-item.result c.in_ok-copy_word-in-Word.field-0 (Some 1) true c.in-len1-up.len_at_least c.first-item.is kind arity writes c.in_ok-derivation_fits-in-Sub.ensures)
-      c.read_sub.ensures
+    (rule_is_first c.args.later c.args.nesting c.args.at.end c.args.at.rest.now c.first-item.result c.in_ok-copy_word-in-Word.field-0 (Some 1) true c.in-len1-up.len_at_least c.first-item.is kind arity writes c.in_ok-derivation_fits-in-Sub.ensures)
+    c.read_sub.ensures
