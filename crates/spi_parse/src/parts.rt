@@ -37,8 +37,12 @@ pub fn fault_of(count: usize, stop: Stop) -> ParseFault
     }
 }
 
-/// The type that the tokens from number `from` on begin with, in a text of the version, and the number of the token behind
-/// it. A fault is that of `parse`, with such parts in the place of trees, and counts its token in the whole list.
+/// The type that the tokens from number `from` on begin with, in a text of the version, and the number of the token
+/// behind it.
+///
+/// Where they begin with none that is within the nesting limits, the fault counts its token in the whole list. `Syntax` is at
+/// the token with which no type goes on, and at the end it is the number of tokens. `TooDeep` is at the first token at
+/// which a node of some type starts that is above its nesting limit. `NoMemory` comes where memory runs out.
 pub fn type_at(
     alloc: Global,
     tokens: &[Token],
@@ -61,8 +65,12 @@ pub fn type_at(
     }
 }
 
-/// The message that the tokens from number `from` on begin with, in a text of the version, and the number of the token behind
-/// it. A fault is that of `parse`, with such parts in the place of trees, and counts its token in the whole list.
+/// The message that the tokens from number `from` on begin with, in a text of the version, and the number of the
+/// token behind it.
+///
+/// Where they begin with none that is within the nesting limits, the fault counts its token in the whole list. `Syntax` is at
+/// the token with which no message goes on, and at the end it is the number of tokens. `TooDeep` is at the first token at
+/// which a node of some message starts that is above its nesting limit. `NoMemory` comes where memory runs out.
 pub fn message_at(
     alloc: Global,
     tokens: &[Token],
@@ -85,8 +93,12 @@ pub fn message_at(
     }
 }
 
-/// The process that the tokens from number `from` on begin with, in a text of the version, and the number of the token behind
-/// it. A fault is that of `parse`, with such parts in the place of trees, and counts its token in the whole list.
+/// The process that the tokens from number `from` on begin with, in a text of the version, and the number of the
+/// token behind it. It goes on as far as a process can: no process's tokens begin with its own and the token behind it.
+///
+/// Where they begin with none that is within the nesting limits, the fault counts its token in the whole list. `Syntax` is at
+/// the token with which no process goes on, and at the end it is the number of tokens. `TooDeep` is at the first token at
+/// which a node of some process starts that is above its nesting limit. `NoMemory` comes where memory runs out.
 pub fn process_at(
     alloc: Global,
     tokens: &[Token],
