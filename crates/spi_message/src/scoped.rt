@@ -127,10 +127,9 @@ pub fn has_type(alloc: Global, m: &Msg, env: &[Ty], inner: &[Ty], t: &Ty) -> Res
             if !is_un_type(t) {
                 return Ok(false);
             }
+            // A name of a Key type isn't of type Un itself, so that the body is asked for once.
             if let Some(key) = key_type(b, env, inner) {
-                if has_type(alloc, a, env, inner, key)? {
-                    return Ok(true);
-                }
+                return has_type(alloc, a, env, inner, key);
             }
             if has_type(alloc, a, env, inner, t)? {
                 has_type(alloc, b, env, inner, t)
@@ -167,10 +166,9 @@ pub fn is_label(alloc: Global, m: &Msg, env: &[Ty], inner: &[Ty]) -> Result<bool
         Msg::Inl(a) => is_label(alloc, a, env, inner),
         Msg::Inr(a) => is_label(alloc, a, env, inner),
         Msg::Enc(a, b) => {
+            // A name of a Key type isn't of type Un itself, so that the body is asked for once.
             if let Some(key) = key_type(b, env, inner) {
-                if has_type(alloc, a, env, inner, key)? {
-                    return Ok(true);
-                }
+                return has_type(alloc, a, env, inner, key);
             }
             if has_type(alloc, a, env, inner, &Ty::Un)? {
                 has_type(alloc, b, env, inner, &Ty::Un)

@@ -1,9 +1,11 @@
 // Judgements by example.
 
-ghost use Rattle.std.specs.Prelude.{◌≡◌, ◌∷◌, [], IfOk, length};
-ghost use Rattle.spi_term.specs.View.{atom, effect};
+ghost use Rattle.std.specs.Prelude.{◌≡◌, ◌∷◌, [], ◌+◌, ◌<◌, ◌^◌, IfOk, OnOk, length};
+ghost use Rattle.spi_term.specs.Spelling.{ty_nodes};
+ghost use Rattle.spi_term.specs.View.{atom, effect, ty};
 
 use super::*;
+use spi_intern::TyId;
 use spi_rules::Env;
 use spi_term::{Atom, Effect, Msg, Ty};
 use std::alloc::Global;
@@ -47,5 +49,132 @@ fn checks_want_untrusted_names_and_ends_labels(rt: HostRuntime) -> Result<(), Fa
     assert!(rt; !good_type(alloc, &env, &check)?);
     let end = one_atom(alloc, Atom::End(Msg::Name(1)))?;
     assert!(rt; good_effect(alloc, &env, &end)?);
+    Ok(())
+}
+
+// A message under so many keys #1.
+fn sealed(alloc: Global, inside: Msg, times: u32) -> Result<Msg, NoMemory> {
+    let mut m = inside;
+    for _ in 0..times {
+        let key = Box::new(alloc, Msg::Name(1))?;
+        m = Msg::Enc(Box::new(alloc, m)?, key);
+    }
+    Ok(m)
+}
+
+#[test]
+fn each_layer_of_a_ciphertext_is_asked_for_once(rt: HostRuntime) -> Result<(), Fail> {
+    let alloc = rt.alloc();
+    let env = with_key(alloc)?;
+    let deep = sealed(alloc, Msg::Name(1), 200)?;
+    assert!(rt; !has_type(alloc, &env, &deep, &Ty::Un)?);
+    let mut judge = judge_with_key(alloc)?;
+    assert!(rt; !is_typed(alloc, &mut judge, &deep, &Ty::Un)?);
+    Ok(())
+}
+
+// A judge with an untrusted name, and after it one of type Key(Un).
+fn judge_with_key(alloc: Global) -> Result<Judge, NoMemory>
+    ensures free { IfOk result (λ j. j.free ≡ 1) }
+    ensures length { IfOk result (λ j. length j.types ≡ 2) }
+{
+    let mut judge = Judge::new(alloc, 1)?;
+    let key = Ty::Key(Box::new(alloc, Ty::Un)?);
+    let id = judge.ty(alloc, &key)?;
+    judge.bind(id)?;
+    Ok(judge)
+}
+
+fn is_typed(alloc: Global, judge: &mut Judge, m: &Msg, t: &Ty) -> Result<bool, NoMemory>
+    ensures free { judge.new.free ≡ judge.old.free }
+    ensures types { judge.new.types ≡ judge.old.types }
+{
+    let t = judge.ty(alloc, t)?;
+    let m = judge.message(m)?;
+    judge.has_type(alloc, m, t)
+}
+
+fn is_labelled(alloc: Global, judge: &mut Judge, m: &Msg) -> Result<bool, NoMemory>
+    ensures free { judge.new.free ≡ judge.old.free }
+    ensures types { judge.new.types ≡ judge.old.types }
+{
+    let m = judge.message(m)?;
+    judge.is_label(alloc, m)
+}
+
+fn is_good(alloc: Global, judge: &mut Judge, t: &Ty) -> Result<bool, NoMemory>
+    requires { length judge.old.types + ty_nodes (ty t.now) < 2 ^ 32 }
+    ensures free { judge.new.free ≡ judge.old.free }
+    ensures types { judge.new.types ≡ judge.old.types }
+{
+    let t = judge.ty(alloc, t)?;
+    judge.good_type(alloc, t)
+}
+
+#[test]
+fn a_judge_answers_as_its_environment_does(rt: HostRuntime) -> Result<(), Fail> {
+    let alloc = rt.alloc();
+    let mut judge = judge_with_key(alloc)?;
+    let sealed = sealed(alloc, Msg::Name(0), 1)?;
+    assert!(rt; is_typed(alloc, &mut judge, &sealed, &Ty::Un)?);
+    assert!(rt; !is_typed(alloc, &mut judge, &Msg::Name(1), &Ty::Un)?);
+    assert!(rt; is_labelled(alloc, &mut judge, &Msg::Name(1))?);
+    let check = Ty::Nonce(one_atom(alloc, Atom::Check(Msg::Name(1)))?);
+    assert!(rt; !is_good(alloc, &mut judge, &check)?);
+    Ok(())
+}
+
+#[test]
+fn a_name_that_was_taken_away_is_no_label(rt: HostRuntime) -> Result<(), Fail> {
+    let alloc = rt.alloc();
+    let mut judge = judge_with_key(alloc)?;
+    assert_eq!(rt; judge.len(), 2);
+    judge.unbind();
+    assert_eq!(rt; judge.len(), 1);
+    assert!(rt; !is_labelled(alloc, &mut judge, &Msg::Name(1))?);
+    Ok(())
+}
+
+// A Nonce type with the end of this message.
+fn ended(alloc: Global, m: Msg) -> Result<Ty, NoMemory> {
+    Ok(Ty::Nonce(one_atom(alloc, Atom::End(m))?))
+}
+
+// The number of the type with the message for its binder.
+fn opened(alloc: Global, judge: &mut Judge, t: &Ty, m: &Msg) -> Result<TyId, NoMemory> {
+    let t = judge.ty(alloc, t)?;
+    let m = judge.message(m)?;
+    judge.opened(alloc, t, m)
+}
+
+#[test]
+fn an_opened_type_has_its_number(rt: HostRuntime) -> Result<(), Fail> {
+    let alloc = rt.alloc();
+    let mut judge = Judge::new(alloc, 1)?;
+    let under = opened(alloc, &mut judge, &ended(alloc, Msg::Bound(0))?, &Msg::Name(0))?;
+    assert!(rt; under == judge.ty(alloc, &ended(alloc, Msg::Name(0))?)?);
+    assert!(rt; under != judge.ty(alloc, &ended(alloc, Msg::Unit)?)?);
+    Ok(())
+}
+
+// A judge with two untrusted names, and after them one that ends the first.
+fn judge_with_nonce(alloc: Global) -> Result<Judge, NoMemory> {
+    let mut judge = Judge::new(alloc, 2)?;
+    let id = judge.ty(alloc, &ended(alloc, Msg::Name(0))?)?;
+    judge.bind(id)?;
+    Ok(judge)
+}
+
+#[test]
+fn the_second_part_of_a_pair_is_typed_by_the_first(rt: HostRuntime) -> Result<(), Fail> {
+    let alloc = rt.alloc();
+    let mut judge = judge_with_nonce(alloc)?;
+    let first = Box::new(alloc, Ty::Un)?;
+    let pairs = Ty::Pair(first, Box::new(alloc, ended(alloc, Msg::Bound(0))?)?);
+    for x in 0..2 {
+        let first = Box::new(alloc, Msg::Name(x))?;
+        let pair = Msg::Pair(first, Box::new(alloc, Msg::Name(2))?);
+        assert_eq!(rt; is_typed(alloc, &mut judge, &pair, &pairs)?, x == 0);
+    }
     Ok(())
 }
