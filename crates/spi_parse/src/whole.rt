@@ -20,7 +20,8 @@ use std::alloc::Global;
 ///
 /// A fault names its token by its number from 0. `Syntax` is at the token with which no tree goes on, and at the end it is
 /// the number of tokens. `TooDeep` is at the first token at which a node of some tree starts that is above its nesting
-/// limit. `_end` is the length of the file in bytes, where a fault at the end is placed.
+/// limit. `NoMemory` comes where memory runs out. `_end` is the length of the file in bytes, where a fault at the end is
+/// placed. What `lex` gives of a file meets both conditions (proofs/Lexed and proofs/Counted).
 pub fn parse(alloc: Global, tokens: &[Token], _end: u32) -> Result<Tree, ParseFault>
     requires size { length tokens.now ≤ 16_777_216 }
     requires words { AreWordsFit (is_version_2 (kinds_of tokens.now)) (kinds_of tokens.now) }
@@ -39,8 +40,12 @@ pub fn parse(alloc: Global, tokens: &[Token], _end: u32) -> Result<Tree, ParseFa
     }
 }
 
-/// The declaration that the tokens from number `from` on begin with, in a text of the version, and the number of the token behind
-/// it. A fault is that of `parse`, with such parts in the place of trees, and counts its token in the whole list.
+/// The declaration that the tokens from number `from` on begin with, in a text of the version, and the number of the
+/// token behind it.
+///
+/// Where they begin with none that is within the nesting limits, the fault counts its token in the whole list. `Syntax` is at
+/// the token with which no declaration goes on, and at the end it is the number of tokens. `TooDeep` is at the first token at
+/// which a node of some declaration starts that is above its nesting limit. `NoMemory` comes where memory runs out.
 pub fn decl_at(
     alloc: Global,
     tokens: &[Token],
