@@ -1,0 +1,11 @@
+pub mod Scope
+pub mod Meaning
+pub mod Marks
+pub mod Parts
+pub mod Points
+pub mod First
+pub mod StandsFor
+pub mod Gives
+pub mod State
+pub mod Table
+pub mod Chains
