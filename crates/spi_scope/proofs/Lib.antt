@@ -4,3 +4,6 @@ pub mod Nesting
 pub mod Tuples
 pub mod Sizes
 pub mod Firsts
+pub mod Counting
+pub mod Closing
+pub mod Indexing

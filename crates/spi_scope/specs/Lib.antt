@@ -6,6 +6,10 @@ pub mod Points
 pub mod First
 pub mod StandsFor
 pub mod Gives
+pub mod Leads
 pub mod State
+pub mod Over
 pub mod Table
 pub mod Chains
+pub mod Files
+pub mod Places

@@ -145,27 +145,48 @@ whole_type ts xs a = bounded_type ts xs a ⨾ one (adds (type_nodes ts xs a) (ty
 unfoldable pub part : Names → t.Msg → Points
 part xs m = whole_message xs m ⨾ one (adds (msg_nodes xs m) (msg_span m))
 
--- A form adds 1 at its first token, and a composition at its `|`, or at the `;` of `out M N; P`.
+-- What stands before the processes of a form, of which the form's own addition is at its first token: a message, two, a
+-- message and an annotation, and so on.
+unfoldable pub message_head : Names → Span → t.Msg → Points
+message_head xs s m = one (adds 1 s) ⨾ part xs m
+
+unfoldable pub messages_head : Names → Span → t.Msg → t.Msg → Points
+messages_head xs s m n = one (adds 1 s) ⨾ part xs m ⨾ part xs n
+
+unfoldable pub typed_head : Abbreviations → Names → Span → t.Msg → t.Ty → Points
+typed_head ts xs s m a = one (adds 1 s) ⨾ part xs m ⨾ whole_type ts xs a
+
+unfoldable pub new_head : Abbreviations → Names → Span → t.Ty → Points
+new_head ts xs s a = one (adds 1 s) ⨾ whole_type ts xs a
+
+unfoldable pub tested_head : Abbreviations → Names → Span → t.Msg → t.Ty → t.Msg → Points
+tested_head ts xs s m a n = one (adds 1 s) ⨾ part xs m ⨾ whole_type ts xs a ⨾ part xs n
+
+-- the first name is in scope in the second annotation
+unfoldable pub split_head : Abbreviations → Names → Span → t.Msg → SWord → t.Ty → t.Ty → Points
+split_head ts xs s m x a c = one (adds 1 s) ⨾ part xs m ⨾ whole_type ts xs a ⨾ whole_type ts (x.word ∷ xs) c
+
+unfoldable pub match_head : Abbreviations → Names → Span → t.Msg → SWord → t.Ty → t.Msg → t.Ty → Points
+match_head ts xs s m x a n c = tested_head ts xs s m a n ⨾ whole_type ts (x.word ∷ xs) c
+
+-- A composition adds 1 at its `|`, or at the `;` of `out M N; P`, and every other form at its first token.
 abbrev pub process_points : Abbreviations → Names → t.Proc → Points
 process_points ts xs (t.par s p q) = process_points ts xs p ⨾ one (adds 1 s) ⨾ process_points ts xs q
-process_points ts xs (t.out s m n) = one (adds 1 s) ⨾ part xs m ⨾ part xs n
-process_points ts xs (t.out_then s m n p) = one (adds 1 s) ⨾ part xs m ⨾ part xs n ⨾ one (adds 1 s) ⨾ process_points ts xs p
-process_points ts xs (t.inp s m x a p) = one (adds 1 s) ⨾ part xs m ⨾ whole_type ts xs a ⨾ process_points ts (x.word ∷ xs) p
-process_points ts xs (t.repeat s m x a p) = one (adds 1 s) ⨾ part xs m ⨾ whole_type ts xs a ⨾ process_points ts (x.word ∷ xs) p
-process_points ts xs (t.split s m x a y c p) =
-    one (adds 1 s) ⨾ part xs m ⨾ whole_type ts xs a ⨾ whole_type ts (x.word ∷ xs) c ⨾ process_points ts (y.word ∷ x.word ∷ xs) p
-process_points ts xs (t.match s m x a n y c p) =
-    one (adds 1 s) ⨾ part xs m ⨾ whole_type ts xs a ⨾ part xs n ⨾ whole_type ts (x.word ∷ xs) c ⨾ process_points ts (y.word ∷ xs) p
+process_points ts xs (t.out s m n) = messages_head xs s m n
+process_points ts xs (t.out_then s m n p) = messages_head xs s m n ⨾ one (adds 1 s) ⨾ process_points ts xs p
+process_points ts xs (t.inp s m x a p) = typed_head ts xs s m a ⨾ process_points ts (x.word ∷ xs) p
+process_points ts xs (t.repeat s m x a p) = typed_head ts xs s m a ⨾ process_points ts (x.word ∷ xs) p
+process_points ts xs (t.split s m x a y c p) = split_head ts xs s m x a c ⨾ process_points ts (y.word ∷ x.word ∷ xs) p
+process_points ts xs (t.match s m x a n y c p) = match_head ts xs s m x a n c ⨾ process_points ts (y.word ∷ xs) p
 process_points ts xs (t.case s m x a p y c q) =
-    one (adds 1 s) ⨾ part xs m ⨾ whole_type ts xs a ⨾ process_points ts (x.word ∷ xs) p ⨾ whole_type ts xs c ⨾ process_points ts (y.word ∷ xs) q
-process_points ts xs (t.decrypt s m x a n p) =
-    one (adds 1 s) ⨾ part xs m ⨾ whole_type ts xs a ⨾ part xs n ⨾ process_points ts (x.word ∷ xs) p
-process_points ts xs (t.check s m n p) = one (adds 1 s) ⨾ part xs m ⨾ part xs n ⨾ process_points ts xs p
-process_points ts xs (t.begin s m p) = one (adds 1 s) ⨾ part xs m ⨾ process_points ts xs p
-process_points ts xs (t.end s m p) = one (adds 1 s) ⨾ part xs m ⨾ process_points ts xs p
-process_points ts xs (t.end_many s m p) = one (adds 1 s) ⨾ part xs m ⨾ process_points ts xs p
-process_points ts xs (t.cast s m x a p) = one (adds 1 s) ⨾ part xs m ⨾ whole_type ts xs a ⨾ process_points ts (x.word ∷ xs) p
-process_points ts xs (t.new s x a p) = one (adds 1 s) ⨾ whole_type ts xs a ⨾ process_points ts (x.word ∷ xs) p
+    typed_head ts xs s m a ⨾ process_points ts (x.word ∷ xs) p ⨾ whole_type ts xs c ⨾ process_points ts (y.word ∷ xs) q
+process_points ts xs (t.decrypt s m x a n p) = tested_head ts xs s m a n ⨾ process_points ts (x.word ∷ xs) p
+process_points ts xs (t.check s m n p) = messages_head xs s m n ⨾ process_points ts xs p
+process_points ts xs (t.begin s m p) = message_head xs s m ⨾ process_points ts xs p
+process_points ts xs (t.end s m p) = message_head xs s m ⨾ process_points ts xs p
+process_points ts xs (t.end_many s m p) = message_head xs s m ⨾ process_points ts xs p
+process_points ts xs (t.cast s m x a p) = typed_head ts xs s m a ⨾ process_points ts (x.word ∷ xs) p
+process_points ts xs (t.new s x a p) = new_head ts xs s a ⨾ process_points ts (x.word ∷ xs) p
 process_points ts xs (t.stop s) = one (adds 1 s)
 process_points ts xs (t.group s p q) = process_points ts xs p ⨾ one (adds 1 s) ⨾ process_points ts xs q
 

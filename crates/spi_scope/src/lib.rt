@@ -1,14 +1,25 @@
 //! The file that a tree stands for: names and abbreviations resolved, types expanded, nodes counted.
 #![tactic(auto)]
 
+mod arena;
+mod declarations;
+mod derivations;
 mod fault;
+mod file;
+mod heads;
+mod marks;
 mod messages;
 mod names;
+mod processes;
+mod resolve;
+mod schedules;
 mod scope;
 mod trail;
 mod types;
 
 pub use fault::ScopeFault;
+pub use file::File;
+pub use resolve::{one_or_other, resolve};
 use std::alloc::AllocError;
 
 /// Memory ran out.

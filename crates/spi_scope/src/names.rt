@@ -1,11 +1,12 @@
 //! The names in scope, with a table of the innermost name of each spelling.
 
-ghost use Rattle.std.specs.Prelude.{◌≡◌, ◌+◌, ◌-◌, ◌^◌, ◌<◌, drop, [], ◌∷◌, reverse, length, OnOk, OnErr, IfSome};
+ghost use Rattle.std.specs.Prelude.{◌≡◌, ◌+◌, ◌-◌, ◌^◌, ◌<◌, drop, [], ◌∷◌, reverse, length, IfOk, OnOk, OnErr, IfSome};
 ghost use Rattle.spi_scope.specs.Scope.{number_of, outer};
 ghost use Rattle.spi_scope.specs.Table.{Keeps, IsPushed, IsPopped, top, with_names, noting};
 
 use crate::NoMemory;
-use crate::trail::Trail;
+use crate::trail::{Scopes, Trail};
+use spi_text::Text;
 use indexmap::IndexMap;
 use std::alloc::{AllocError, Global};
 use std::marker::Model;
@@ -162,5 +163,23 @@ impl<'t> Names<'t> {
     {
         let chain = top_chain(&self.hidden);
         self.trail.note(chain)
+    }
+
+    /// The spellings of the names in scope, the outermost first.
+    pub fn texts(&self, alloc: Global) -> Result<Vec<Text>, NoMemory>
+        ensures { IfOk result (λ v. v.items ≡ reverse self.now.names) }
+    {
+        let mut texts = Vec::new(alloc);
+        for held in &self.hidden {
+            texts.push(Text::of(alloc, held.word)?)?;
+        }
+        Ok(texts)
+    }
+
+    /// The names that were in scope at each node.
+    pub fn scopes(&self, alloc: Global) -> Result<Scopes, NoMemory>
+        ensures { IfOk result (λ scopes. scopes ≡ self.now.noted) }
+    {
+        self.trail.scopes(alloc)
     }
 }

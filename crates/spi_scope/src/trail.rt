@@ -1,7 +1,7 @@
 //! Chains of spellings that share what they have in common.
 
-ghost use Rattle.std.specs.Prelude.{◌≡◌, ◌<◌, [], ◌∷◌, ◌++◌, map, length, reverse, OnOk, OnErr, IfOk};
-ghost use Rattle.spi_scope.specs.Chains.{chain_at};
+ghost use Rattle.std.specs.Prelude.{◌≡◌, ◌<◌, ◌≤◌, [], ◌∷◌, ◌++◌, map, length, reverse, OnOk, OnErr, IfOk};
+ghost use Rattle.spi_scope.specs.Chains.{chain_at, spelled, chains, LeadBack};
 
 use crate::NoMemory;
 use spi_text::Text;
@@ -79,4 +79,73 @@ impl<'t> Trail<'t> {
         self.noted.push(chain)?;
         Ok(())
     }
+
+    /// The chains that were noted, with spellings of their own.
+    pub fn scopes(&self, alloc: Global) -> Result<Scopes, NoMemory>
+        ensures { IfOk result (λ scopes. scopes ≡ self.now.noted) }
+    {
+        let mut links = Vec::new(alloc);
+        for link in &self.links {
+            let word = Text::of(alloc, link.word)?;
+            let outer = link.outer;
+            links.push(Spelled { word, outer })?;
+        }
+        let mut noted = Vec::new(alloc);
+        for chain in &self.noted {
+            noted.push(*chain)?;
+        }
+        Ok(Scopes { links, noted })
+    }
+}
+
+/// The names in scope at each node. A contract sees their spellings, the innermost first.
+#[derive(Drop)]
+pub struct Scopes {
+    links: Vec<Spelled>,
+    noted: Vec<u32>,
+}
+
+impl Model for Scopes {
+    ghost use Rattle.std.specs.Prelude.{List, ◌+◌, [], ◌∷◌, map, length};
+    ghost use Rattle.std.specs.Coded.{coded_list};
+    ghost use Rattle.spi_scope.specs.Scope.{Names};
+    ghost use Rattle.spi_scope.specs.Table.{coded_names};
+    ghost use Rattle.spi_scope.specs.Chains.{spelled, chains, all_at, AreBelow, LeadBack};
+
+    ghost Value = { List Names };
+
+    ghost coded = { coded_list coded_names };
+
+    ghost view = { λ s. all_at (chains (map spelled s.links.items)) s.noted.items };
+
+    ghost invariant = { λ s. LeadBack 1 (map spelled s.links.items) × AreBelow (length s.links.items + 1) s.noted.items };
+}
+
+impl Scopes {
+    /// The names in scope at a node, the outermost first, and none where the node wasn't noted.
+    pub fn names_at(&self, alloc: Global, node: u32) -> Result<Vec<Text>, NoMemory>
+        ensures { IfOk result (λ v. v.items ≡ reverse (chain_at self.now node)) }
+    {
+        match self.noted.get(node as usize) {
+            None => Ok(Vec::new(alloc)),
+            Some(chain) => spellings(alloc, &self.links, *chain),
+        }
+    }
+}
+
+/// The spellings of a chain, the outermost first.
+fn spellings(alloc: Global, links: &[Spelled], chain: u32) -> Result<Vec<Text>, NoMemory>
+    requires lead_back { LeadBack 1 (map spelled links.now) }
+    requires within { chain ≤ length links.now }
+    ensures { IfOk result (λ v. v.items ≡ reverse (chain_at (chains (map spelled links.now)) chain)) }
+{
+    let mut found = Vec::new(alloc);
+    let mut at = chain;
+    while at > 0 {
+        let link = &links[at as usize - 1];
+        found.push(Text::of(alloc, link.word.as_str())?)?;
+        at = link.outer;
+    }
+    found.reverse();
+    Ok(found)
 }
