@@ -7,3 +7,9 @@ pub mod Firsts
 pub mod Counting
 pub mod Closing
 pub mod Indexing
+pub mod Files
+pub mod Rules
+pub mod Made
+pub mod Numbered
+pub mod Resolved
+pub mod Scans

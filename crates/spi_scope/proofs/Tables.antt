@@ -4,7 +4,7 @@ use Rattle.std.specs.Prelude.{Option, Some, None, if◌then◌else◌, slice_get
 use Rattle.std.specs.declared.alloc.AllocError.{AllocError}
 use Rattle.spi_scope.specs.Chains.{chain_at, found}
 use Rattle.std.specs.Str.{bytes_eq}
-use Rattle.std.proofs.lemmas.List.{reverse-append, length-reverse, length-map, length-append}
+use Rattle.std.proofs.lemmas.List.{reverse-append, reverse-reverse, length-reverse, length-map, length-append}
 use Rattle.std.proofs.lemmas.Slice.Eq.{bytes_eq-Decides}
 use Rattle.std.proofs.lemmas.Map.Text.{hash_map_updates_str}
 use Rattle.indexmap.specs.IndexMap.{IndexMap, get_by, UpdatesBy}
@@ -129,3 +129,16 @@ begin_bound cs ds old new w chain outer r b eo ed ec ok err =
 
 pub top_within : (cs : List Names) (es : List Held) → Begin cs es → top es < length cs
 top_within cs es b = get_within cs (top es) (spellings es) (top_is cs es b)
+
+spellings_push : (es : List Held) (e : Held) → spellings (es ++ e ∷ []) ≡ spellings es ++ e.word.now ∷ []
+spellings_push [] e = refl
+spellings_push (d ∷ es) e = ap (λ l. d.word.now ∷ l) (spellings_push es e)
+
+reverse_spellings : (es : List Held) → reverse (spellings es) ≡ spellings (reverse es)
+reverse_spellings [] = refl
+reverse_spellings (e ∷ es) =
+    reverse-append (e.word.now ∷ []) (spellings es) ∙ ap (λ l. l ++ e.word.now ∷ []) (reverse_spellings es) ∙ sym (spellings_push (reverse es) e)
+    ∙ ap spellings (sym (reverse-append (e ∷ []) es))
+
+pub reverse_twice : (es : List Held) → reverse (spellings (reverse es)) ≡ spellings es
+reverse_twice es = reverse_spellings (reverse es) ∙ ap spellings (reverse-reverse es)

@@ -1,10 +1,11 @@
 -- Chains of spellings as links are put behind others.
-use Rattle.std.proofs.Common.{◌≡◌, ℕ, zero, suc, ◌+◌, ◌<◌, ◌≤◌, List, [], ◌∷◌, ◌++◌, length, map, refl, sym, ap, ◌∙◌, subst, arith, append_assoc}
+use Rattle.std.proofs.Common.{◌≡◌, ℕ, zero, suc, ◌+◌, ◌<◌, ◌≤◌, List, [], ◌∷◌, ◌++◌, length, map, get_or, refl, sym, ap, ◌∙◌, subst, arith, append_assoc}
 use Rattle.std.specs.Prelude.{Some, None, slice_get}
+use Rattle.spi_scope.specs.declared.trail.Spelled.{Spelled}
 use Rattle.std.proofs.lemmas.List.{length-append, length-map, map_push}
 use Rattle.spi_scope.specs.Scope.{Names}
 use Rattle.spi_scope.specs.declared.trail.Link.{Link}
-use Rattle.spi_scope.specs.Chains.{Pair, link, chain_at, longer, chains, LeadBack, all_at, AreBelow, found}
+use Rattle.spi_scope.specs.Chains.{Pair, link, spelled, chain_at, longer, chains, LeadBack, all_at, AreBelow, found}
 
 longer_push : (cs : List Names) (ls : List Pair) (l : Pair) → longer cs (ls ++ l ∷ []) ≡ longer cs ls ++ (l.word ∷ chain_at (longer cs ls) l.outer) ∷ []
 longer_push cs [] l = refl
@@ -47,3 +48,65 @@ get_before (c ∷ cs) ds (suc i) h = get_before cs ds i (omega arith)
 pub all_before : (cs ds : List Names) (is : List ℕ) → AreBelow (length cs) is → all_at (cs ++ ds) is ≡ all_at cs is
 all_before cs ds [] b = refl
 all_before cs ds (i ∷ is) b = ap (λ x. found x ∷ all_at (cs ++ ds) is) (get_before cs ds i b.0) ∙ ap (λ l. chain_at cs i ∷ l) (all_before cs ds is b.1)
+
+longer_keeps : (cs : List Names) (ls : List Pair) (i : ℕ) → i < length cs → slice_get (longer cs ls) i ≡ slice_get cs i
+longer_keeps cs [] i h = refl
+longer_keeps cs (l ∷ ls) i h =
+    let x = (l.word ∷ chain_at cs l.outer) ∷ [] in
+    longer_keeps (cs ++ x) ls i (omega (arith, h, length-append cs x)) ∙ get_before cs x i h
+
+get_end : (cs : List Names) (c : Names) → slice_get (cs ++ c ∷ []) (length cs) ≡ Some c
+get_end [] c = refl
+get_end (x ∷ cs) c = get_end cs c
+
+-- link i begins the chain behind those that were there and the links before it
+longer_at : (cs : List Names) (ls : List Pair) (i j : ℕ) (l : Pair) → j ≡ length cs + i → slice_get ls i ≡ Some l → LeadBack (length cs) ls → slice_get (longer cs ls) j ≡ Some (l.word ∷ chain_at (longer cs ls) l.outer)
+longer_at cs [] i j l e g h = absurd (cc)
+longer_at cs (k ∷ ls) zero j l e g h =
+    let x = k.word ∷ chain_at cs k.outer in
+    let same : k ≡ l = cc in
+    let n : j ≡ length cs = omega arith in
+    let within : length cs < length (cs ++ x ∷ []) = omega (arith, length-append cs (x ∷ [])) in
+    let earlier : k.outer < length (cs ++ x ∷ []) = omega (arith, h.0, length-append cs (x ∷ [])) in
+    ap (slice_get (longer (cs ++ x ∷ []) ls)) n ∙ longer_keeps (cs ++ x ∷ []) ls (length cs) within ∙ get_end cs x
+    ∙ ap (λ o. Some (k.word ∷ found o)) (sym (longer_keeps (cs ++ x ∷ []) ls k.outer earlier ∙ get_before cs (x ∷ []) k.outer h.0))
+    ∙ ap (λ (m : Pair). Some (m.word ∷ chain_at (longer (cs ++ x ∷ []) ls) m.outer)) same
+longer_at cs (k ∷ ls) (suc i) j l e g h =
+    let x = k.word ∷ chain_at cs k.outer in
+    let n : length cs + 1 ≡ length (cs ++ x ∷ []) = omega (arith, length-append cs (x ∷ [])) in
+    longer_at (cs ++ x ∷ []) ls i j l (omega (arith, e, n)) g (subst (λ (m : ℕ). LeadBack m ls) n h.1)
+
+lead_at : (n : ℕ) (ls : List Pair) (i : ℕ) (l : Pair) → slice_get ls i ≡ Some l → LeadBack n ls → l.outer < n + i
+lead_at n [] i l g h = absurd (cc)
+lead_at n (k ∷ ls) zero l g h = let same : k ≡ l = cc in let e = ap (λ (m : Pair). m.outer) same in omega (arith, h.0, e)
+lead_at n (k ∷ ls) (suc i) l g h = omega (arith, lead_at (n + 1) ls i l g h.1)
+
+get_map : (xs : List Spelled) (i : ℕ) (x : Spelled) → i < length xs → x ≡ get_or xs i x → slice_get (map spelled xs) i ≡ Some (spelled x)
+get_map [] i x h e = absurd (omega arith)
+get_map (y ∷ xs) zero x h e = ap (λ z. Some (spelled z)) (sym e)
+get_map (y ∷ xs) (suc i) x h e = get_map xs i x (omega arith) e
+
+-- a chain by its first link
+pub chain_step : (xs : List Spelled) (at i : ℕ) (x : Spelled) → at ≡ i + 1 → i < length xs → x ≡ get_or xs i x → LeadBack 1 (map spelled xs)
+    → (chain_at (chains (map spelled xs)) at ≡ x.word ∷ chain_at (chains (map spelled xs)) x.outer) × (x.outer < at)
+chain_step xs at i x e h q b =
+    let g = get_map xs i x h q in
+    (ap found (longer_at ([] ∷ []) (map spelled xs) i at (spelled x) (omega (arith, e)) g b), omega (arith, lead_at 1 (map spelled xs) i (spelled x) g b, e))
+
+pub chain_none : (xs : List Spelled) → chain_at (chains (map spelled xs)) 0 ≡ []
+chain_none xs = ap found (longer_keeps ([] ∷ []) (map spelled xs) 0 (omega arith))
+
+pub all_get : (cs : List Names) (is : List ℕ) (j i : ℕ) → slice_get is j ≡ Some i → chain_at (all_at cs is) j ≡ chain_at cs i
+all_get cs [] j i e = absurd (cc)
+all_get cs (k ∷ is) zero i e = let same : k ≡ i = cc in ap (chain_at cs) same
+all_get cs (k ∷ is) (suc j) i e = all_get cs is j i e
+
+pub all_none : (cs : List Names) (is : List ℕ) (j : ℕ) → slice_get is j ≡ None → chain_at (all_at cs is) j ≡ []
+all_none cs [] j e = refl
+all_none cs (k ∷ is) zero e = absurd (cc)
+all_none cs (k ∷ is) (suc j) e = all_none cs is j e
+
+pub below_at : (n : ℕ) (is : List ℕ) (j i : ℕ) → AreBelow n is → slice_get is j ≡ Some i → i < n
+below_at n [] j i b e = absurd (cc)
+below_at n (k ∷ is) zero i b e = let same : k ≡ i = cc in omega (arith, b.0, same)
+below_at n (k ∷ is) (suc j) i b e = below_at n is j i b.1 e

@@ -13,3 +13,4 @@ pub mod Table
 pub mod Chains
 pub mod Files
 pub mod Places
+pub mod Scan

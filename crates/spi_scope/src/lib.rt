@@ -7,11 +7,12 @@ mod derivations;
 mod fault;
 mod file;
 mod heads;
+mod laws;
 mod marks;
 mod messages;
 mod names;
 mod processes;
-mod resolve;
+mod resolution;
 mod schedules;
 mod scope;
 mod trail;
@@ -19,8 +20,12 @@ mod types;
 
 pub use fault::ScopeFault;
 pub use file::File;
-pub use resolve::{one_or_other, resolve};
+pub use laws::points_stand_at_tokens;
+pub use resolution::{one_or_other, resolve};
 use std::alloc::AllocError;
 
 /// Memory ran out.
 pub type NoMemory = AllocError;
+
+#[cfg(test)]
+mod tests;

@@ -201,7 +201,8 @@ pub fn resolve(alloc: Global, tree: &Tree) -> Result<File, ScopeFault>
         count: 0,
     };
     declare_all(alloc, &mut scope, &tree.decls)?;
-    read_body(alloc, &mut scope, tree)
+    let file = read_body(alloc, &mut scope, tree)?;
+    Ok(file)
 }
 
 /// Each tree stands for one file or has one first fault, and never both.
