@@ -1,5 +1,5 @@
 -- A form with two processes is written after its first process.
-use Rattle.std.proofs.Common.{◌≡◌, ℕ, suc, ◌+◌, List, [], ◌∷◌, ◌++◌, length, map, refl, sym, ap, ◌∙◌, subst, append_assoc}
+use Rattle.std.proofs.Common.{◌≡◌, ℕ, suc, ◌+◌, List, [], ◌∷◌, ◌++◌, length, map, refl, sym, ap, ◌∙◌, subst, arith, append_assoc}
 use Rattle.std.specs.Prelude.{slice_set}
 use Rattle.std.specs.List.{All, AllByRecursion}
 use Rattle.std.proofs.lemmas.List.Elements.{All-from_recursion}
@@ -47,3 +47,16 @@ each_small (n ∷ ns) h = (h.0, each_small ns h.1)
 
 pub small_nodes : (ns : List Node) (ss : List Shape) → map shape_of ns ≡ ss → HaveSmallParts ss → All (λ n. HasSmallParts (shape_of n)) ns
 small_nodes ns ss e h = All-from_recursion (λ n. HasSmallParts (shape_of n)) ns (each_small ns (subst HaveSmallParts (sym e) h))
+
+-- places, one after another
+pub one_more : (n i : ℕ) → n ≡ i → n + 1 ≡ suc i
+one_more n i e = omega (arith, e)
+
+pub next_one : (n i : ℕ) → n ≡ i + 1 → n ≡ suc i
+next_one n i e = omega (arith, e)
+
+pub next_rest : (r n m i s : ℕ) → r ≡ n → n ≡ m + s → m ≡ i + 1 → r ≡ suc i + s
+next_rest r n m i s e f g = omega (arith, e, f, g)
+
+pub none_in : (k : ℕ) → k ≡ k + 0
+none_in k = omega arith

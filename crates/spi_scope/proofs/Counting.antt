@@ -29,11 +29,11 @@ run_weight (one p) c d e = by (fault_at c p) e
     by : (o : Option ScopeFault) → unless o (c + added p) ≡ Ok d → d ≡ c + added p
     by None h = cc
     by (Some f) h = absurd (cc)
-run_weight (ps ⨾ qs) c d e = by (run ps c) (λ m. run_weight ps c m) e
+run_weight (ps ⨾ qs) c d e = by (run ps c) (λ m. run_weight ps c m) (λ m. run_weight qs m d) e
   where
-    by : (r : Ran) → ((m : ℕ) → r ≡ Ok m → m ≡ c + weight ps) → after r (run qs) ≡ Ok d → d ≡ c + (weight ps + weight qs)
-    by (Ok m) f h = omega (arith, f m refl, run_weight qs m d h)
-    by (Err f) g h = absurd (cc)
+    by : (r : Ran) → ((m : ℕ) → r ≡ Ok m → m ≡ c + weight ps) → ((m : ℕ) → run qs m ≡ Ok d → d ≡ m + weight qs) → after r (run qs) ≡ Ok d → d ≡ c + (weight ps + weight qs)
+    by (Ok m) f g h = omega (arith, f m refl, g m h)
+    by (Err x) f g h = absurd (cc)
 
 message_head_weighs : (xs : Names) (s : Span) (m : t.Msg) → 1 ≤ weight (message_head xs s m)
 unfolding message_head
@@ -132,11 +132,11 @@ passed (one (ends_message n s)) c d e = passed_message c d n s e
 passed (one (ends_type n s)) c d e = passed_type c d n s e
 passed (one (adds n s)) c d e = tt
 passed (one (starts_step i n s)) c d e = tt
-passed (ps ⨾ qs) c d e = by (run ps c) (λ m. passed ps c m) e
+passed (ps ⨾ qs) c d e = by (run ps c) (λ m. passed ps c m) (λ m. passed qs m d) e
   where
-    by : (r : Ran) → ((m : ℕ) → r ≡ Ok m → Passes ps) → after r (run qs) ≡ Ok d → Passes ps × Passes qs
-    by (Ok m) f h = (f m refl, passed qs m d h)
-    by (Err f) g h = absurd (cc)
+    by : (r : Ran) → ((m : ℕ) → r ≡ Ok m → Passes ps) → ((m : ℕ) → run qs m ≡ Ok d → Passes qs) → after r (run qs) ≡ Ok d → Passes ps × Passes qs
+    by (Ok m) f g h = (f m refl, g m h)
+    by (Err x) f g h = absurd (cc)
 
 few_message : (k : ℕ) (xs : Names) (m : t.Msg) → Passes (part xs m) → HasFewMessage (message_in k xs m)
 unfolding part

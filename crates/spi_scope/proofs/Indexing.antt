@@ -59,7 +59,8 @@ mutual
       subst (λ (n : ℕ). MessageOver s d (named s n (number_of xs w.word))) (sym e)
       (over_named s d (number_of xs w.word) (subst (λ (n : ℕ). IfSome (number_of xs w.word) (λ x. x < n)) e (number_below xs w.word)))
   over_message s d xs e (t.unit p) = tt
-  over_message s d xs e (t.tuple p a b ms) = over_nested s d _ _ (over_message s d xs e a) (over_message s d xs e b, over_messages s d xs e ms)
+  over_message s d xs e (t.tuple p a b ms) =
+      over_nested s d (message_in s xs a) (message_in s xs b ∷ messages_in s xs ms) (over_message s d xs e a) (over_message s d xs e b, over_messages s d xs e ms)
   over_message s d xs e (t.inl p a) = over_message s d xs e a
   over_message s d xs e (t.inr p a) = over_message s d xs e a
   over_message s d xs e (t.enc p a b) = (over_message s d xs e a, over_message s d xs e b)
@@ -81,7 +82,7 @@ over_effect s d xs e (a ∷ es) = (over_atom s d xs e a, over_effect s d xs e es
 
 module _ (n : ℕ) (ts : Abbreviations) (over : AreOver n ts) (s : ℕ) (few : n ≤ s) where
   over_known : (d : ℕ) (w : Word) → OfTy (MessageOver s) d (known (type_of ts w))
-  over_known d w = loose_ty s 0 d (omega arith) _ (over_more_ty n s few 0 _ (known_over n ts over w))
+  over_known d w = let a = known (type_of ts w) in loose_ty s 0 d (omega arith) a (over_more_ty n s few 0 a (known_over n ts over w))
 
   mutual
     over_type : (d : ℕ) (xs : Names) → length xs ≡ s + d → (a : t.Ty) → OfTy (MessageOver s) d (type_in s ts xs a)
@@ -156,7 +157,7 @@ all_over ts xs (t.free _ w ws ∷ ds) o =
 all_over ts xs (t.abbreviated _ w a ∷ ds) o =
     let z : length xs ≡ length xs + 0 = omega arith in
     let l : length xs ≤ length xs = omega arith in
-    all_over (ts ++ record { word = w.word; stands_for = type_in (length xs) ts xs a } ∷ []) xs ds (over_push (length xs) ts _ o (over_type (length xs) ts o (length xs) l 0 xs z a))
+    all_over (ts ++ record { word = w.word; stands_for = type_in (length xs) ts xs a } ∷ []) xs ds (over_push (length xs) ts (record { word = w.word; stands_for = type_in (length xs) ts xs a }) o (over_type (length xs) ts o (length xs) l 0 xs z a))
 
 -- names below k as they are, and the others by the index of their binder
 index_low : (k s d x : ℕ) → x < k → index_message k s d (name x) ≡ name x
@@ -255,7 +256,7 @@ module _ (k s : ℕ) (few : k ≤ s) where
       index_type d xs e (t.sum _ a b) = ap (λ r. sum_ty r (ty_map (index_message k s) d (type_in s ts xs b))) (index_type d xs e a) ∙ ap (sum_ty (type_in k ts xs a)) (index_type d xs e b)
       index_type d xs e (t.key _ a) = ap key (index_type d xs e a)
       index_type d xs e (t.nonce _ es) = ap nonce (index_effect d xs e es)
-      index_type d xs e (t.abbr _ w) = still_ty d 0 _ (known_over k ts over w.word)
+      index_type d xs e (t.abbr _ w) = still_ty d 0 (known (type_of ts w.word)) (known_over k ts over w.word)
 
       index_fields : (d : ℕ) (xs : Names) → length xs ≡ s + d → (fs : t.Fields) (l : t.Last) → ((d' : ℕ) (ys : Names) → length ys ≡ s + d' → ty_map (index_message k s) d' (last_in s ts ys l) ≡ last_in k ts ys l) → ty_map (index_message k s) d (nested_types (fields_in s ts xs fs) (last_in s ts (behind xs fs) l)) ≡ nested_types (fields_in k ts xs fs) (last_in k ts (behind xs fs) l)
       index_fields d xs e t.no_fields l h = h d xs e

@@ -13,3 +13,4 @@ pub mod Made
 pub mod Numbered
 pub mod Resolved
 pub mod Scans
+pub mod Premises

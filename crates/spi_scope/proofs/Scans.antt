@@ -182,31 +182,31 @@ file_tokens f =
       (opponent_tokens ts xs f.opponent _ _ (schedule_tokens f.schedule _ _ (derivation_tokens f.derivation [] (ends f.span []) refl))))))
 
 -- points
-then : (A B : Points) {x y z : List Point} → x ≡ in_order A ++ y → y ≡ in_order B ++ z → x ≡ in_order (A ⨾ B) ++ z
-then A B {z = z} e f = e ∙ ap (λ l. in_order A ++ l) f ∙ sym (append_assoc (in_order A) (in_order B) z)
+next : (z : List Point) (A B : Points) {x y : List Point} → x ≡ in_order A ++ y → y ≡ in_order B ++ z → x ≡ in_order (A ⨾ B) ++ z
+next z A B e f = e ∙ ap (λ l. in_order A ++ l) f ∙ sym (append_assoc (in_order A) (in_order B) z)
 
 mutual
   msg_seen : (xs : Names) (m : t.Msg) (r : List Seen) → points_in (msg_scan xs m r) ≡ in_order (message_points xs m) ++ points_in r
   msg_seen xs (t.name s w) r = refl
   msg_seen xs (t.unit s) r = refl
   msg_seen xs (t.tuple s a b ms) r =
-      then (message_points xs a) (message_points xs b ⨾ messages_points xs ms) (msg_seen xs a _) (then (message_points xs b) (messages_points xs ms) (msg_seen xs b _) (msgs_seen xs ms _))
+      next _ (message_points xs a) (message_points xs b ⨾ messages_points xs ms) (msg_seen xs a _) (next _ (message_points xs b) (messages_points xs ms) (msg_seen xs b _) (msgs_seen xs ms _))
   msg_seen xs (t.inl s a) r = msg_seen xs a r
   msg_seen xs (t.inr s a) r = msg_seen xs a r
-  msg_seen xs (t.enc s a b) r = then (message_points xs a) (message_points xs b) (msg_seen xs a _) (msg_seen xs b r)
+  msg_seen xs (t.enc s a b) r = next _ (message_points xs a) (message_points xs b) (msg_seen xs a _) (msg_seen xs b r)
   msg_seen xs (t.hash s a) r = msg_seen xs a _
   msg_seen xs (t.num s i) r = refl
 
   msgs_seen : (xs : Names) (ms : t.Msgs) (r : List Seen) → points_in (msgs_scan xs ms r) ≡ in_order (messages_points xs ms) ++ points_in r
   msgs_seen xs t.no_msgs r = refl
-  msgs_seen xs (t.more_msgs m ms) r = then (message_points xs m) (messages_points xs ms) (msg_seen xs m _) (msgs_seen xs ms r)
+  msgs_seen xs (t.more_msgs m ms) r = next _ (message_points xs m) (messages_points xs ms) (msg_seen xs m _) (msgs_seen xs ms r)
 
 whole_seen : (xs : Names) (m : t.Msg) (r : List Seen) → points_in (whole_scan xs m r) ≡ in_order (whole_message xs m) ++ points_in r
-whole_seen xs m r = then (message_points xs m) (one _) (msg_seen xs m _) refl
+whole_seen xs m r = next _ (message_points xs m) (one _) (msg_seen xs m _) refl
 
 part_seen : (xs : Names) (m : t.Msg) (r : List Seen) → points_in (part_scan xs m r) ≡ in_order (part xs m) ++ points_in r
 unfolding part
-part_seen xs m r = then (whole_message xs m) (one _) (whole_seen xs m _) refl
+part_seen xs m r = next _ (whole_message xs m) (one _) (whole_seen xs m _) refl
 
 atom_seen : (xs : Names) (a : t.Atom) (r : List Seen) → points_in (atom_scan xs a r) ≡ in_order (atom_points xs a) ++ points_in r
 atom_seen xs (t.ends s m) r = whole_seen xs m r
@@ -215,27 +215,27 @@ atom_seen xs (t.many s m) r = whole_seen xs m r
 
 atoms_seen : (xs : Names) (es : List t.Atom) (r : List Seen) → points_in (atoms_scan xs es r) ≡ in_order (atoms_points xs es) ++ points_in r
 atoms_seen xs [] r = refl
-atoms_seen xs (a ∷ es) r = then (atom_points xs a) (atoms_points xs es) (atom_seen xs a _) (atoms_seen xs es r)
+atoms_seen xs (a ∷ es) r = next _ (atom_points xs a) (atoms_points xs es) (atom_seen xs a _) (atoms_seen xs es r)
 
 effect_seen : (xs : Names) (es : List t.Atom) (r : List Seen) → points_in (effect_scan xs es r) ≡ in_order (atoms_points xs es) ++ points_in r
 effect_seen xs [] r = refl
-effect_seen xs (a ∷ es) r = then (atom_points xs a) (atoms_points xs es) (atom_seen xs a _) (atoms_seen xs es _)
+effect_seen xs (a ∷ es) r = next _ (atom_points xs a) (atoms_points xs es) (atom_seen xs a _) (atoms_seen xs es _)
 
 mutual
   ty_seen : (ts : Abbreviations) (xs : Names) (a : t.Ty) (r : List Seen) → points_in (ty_scan ts xs a r) ≡ in_order (type_points ts xs a) ++ points_in r
   ty_seen ts xs (t.un s) r = refl
   ty_seen ts xs (t.unit_ty s) r = refl
   ty_seen ts xs (t.tuple_ty s w a fs l) r =
-      then (type_points ts xs a) (fields_points ts (w.word ∷ xs) fs ⨾ last_points ts (behind (w.word ∷ xs) fs) l) (ty_seen ts xs a _)
-      (then (fields_points ts (w.word ∷ xs) fs) (last_points ts (behind (w.word ∷ xs) fs) l) (fields_seen ts (w.word ∷ xs) fs _) (last_seen ts (behind (w.word ∷ xs) fs) l _))
-  ty_seen ts xs (t.sum s a b) r = then (type_points ts xs a) (type_points ts xs b) (ty_seen ts xs a _) (ty_seen ts xs b _)
+      next _ (type_points ts xs a) (fields_points ts (w.word ∷ xs) fs ⨾ last_points ts (behind (w.word ∷ xs) fs) l) (ty_seen ts xs a _)
+      (next _ (fields_points ts (w.word ∷ xs) fs) (last_points ts (behind (w.word ∷ xs) fs) l) (fields_seen ts (w.word ∷ xs) fs _) (last_seen ts (behind (w.word ∷ xs) fs) l _))
+  ty_seen ts xs (t.sum s a b) r = next _ (type_points ts xs a) (type_points ts xs b) (ty_seen ts xs a _) (ty_seen ts xs b _)
   ty_seen ts xs (t.key s a) r = ty_seen ts xs a _
   ty_seen ts xs (t.nonce s es) r = effect_seen xs es r
   ty_seen ts xs (t.abbr s w) r = refl
 
   fields_seen : (ts : Abbreviations) (xs : Names) (fs : t.Fields) (r : List Seen) → points_in (fields_scan ts xs fs r) ≡ in_order (fields_points ts xs fs) ++ points_in r
   fields_seen ts xs t.no_fields r = refl
-  fields_seen ts xs (t.more_fields w a fs) r = then (type_points ts xs a) (fields_points ts (w.word ∷ xs) fs) (ty_seen ts xs a _) (fields_seen ts (w.word ∷ xs) fs r)
+  fields_seen ts xs (t.more_fields w a fs) r = next _ (type_points ts xs a) (fields_points ts (w.word ∷ xs) fs) (ty_seen ts xs a _) (fields_seen ts (w.word ∷ xs) fs r)
 
   last_seen : (ts : Abbreviations) (xs : Names) (l : t.Last) (r : List Seen) → points_in (last_scan ts xs l r) ≡ in_order (last_points ts xs l) ++ points_in r
   last_seen ts xs (t.bare a) r = ty_seen ts xs a r
@@ -243,7 +243,7 @@ mutual
 
 whole_ty_seen : (ts : Abbreviations) (xs : Names) (a : t.Ty) (r : List Seen) → points_in (whole_ty_scan ts xs a r) ≡ in_order (whole_type ts xs a) ++ points_in r
 unfolding whole_type
-whole_ty_seen ts xs a r = then (type_points ts xs a ⨾ one _) (one _) (then (type_points ts xs a) (one _) (ty_seen ts xs a _) refl) refl
+whole_ty_seen ts xs a r = next _ (type_points ts xs a ⨾ one _) (one _) (next _ (type_points ts xs a) (one _) (ty_seen ts xs a _) refl) refl
 
 message_head_seen : (xs : Names) (s : Span) (m : t.Msg) (r : List Seen) → adds 1 s ∷ points_in (part_scan xs m r) ≡ in_order (message_head xs s m) ++ points_in r
 unfolding message_head
@@ -251,11 +251,11 @@ message_head_seen xs s m r = ap (λ l. adds 1 s ∷ l) (part_seen xs m r)
 
 messages_head_seen : (xs : Names) (s : Span) (m n : t.Msg) (r q : List Seen) → points_in q ≡ points_in (part_scan xs n r) → adds 1 s ∷ points_in (part_scan xs m q) ≡ in_order (messages_head xs s m n) ++ points_in r
 unfolding messages_head
-messages_head_seen xs s m n r q e = ap (λ l. adds 1 s ∷ l) (then (part xs m) (part xs n) (part_seen xs m q) (e ∙ part_seen xs n r))
+messages_head_seen xs s m n r q e = ap (λ l. adds 1 s ∷ l) (next _ (part xs m) (part xs n) (part_seen xs m q) (e ∙ part_seen xs n r))
 
 typed_head_seen : (ts : Abbreviations) (xs : Names) (s : Span) (m : t.Msg) (a : t.Ty) (r q : List Seen) → points_in q ≡ points_in (whole_ty_scan ts xs a r) → adds 1 s ∷ points_in (part_scan xs m q) ≡ in_order (typed_head ts xs s m a) ++ points_in r
 unfolding typed_head
-typed_head_seen ts xs s m a r q e = ap (λ l. adds 1 s ∷ l) (then (part xs m) (whole_type ts xs a) (part_seen xs m q) (e ∙ whole_ty_seen ts xs a r))
+typed_head_seen ts xs s m a r q e = ap (λ l. adds 1 s ∷ l) (next _ (part xs m) (whole_type ts xs a) (part_seen xs m q) (e ∙ whole_ty_seen ts xs a r))
 
 new_head_seen : (ts : Abbreviations) (xs : Names) (s : Span) (a : t.Ty) (r : List Seen) → adds 1 s ∷ points_in (whole_ty_scan ts xs a r) ≡ in_order (new_head ts xs s a) ++ points_in r
 unfolding new_head
@@ -264,16 +264,16 @@ new_head_seen ts xs s a r = ap (λ l. adds 1 s ∷ l) (whole_ty_seen ts xs a r)
 tested_head_seen : (ts : Abbreviations) (xs : Names) (s : Span) (m : t.Msg) (a : t.Ty) (n : t.Msg) (r q u : List Seen) → points_in q ≡ points_in (whole_ty_scan ts xs a u) → points_in u ≡ points_in (part_scan xs n r) → adds 1 s ∷ points_in (part_scan xs m q) ≡ in_order (tested_head ts xs s m a n) ++ points_in r
 unfolding tested_head
 tested_head_seen ts xs s m a n r q u e f =
-    ap (λ l. adds 1 s ∷ l) (then (part xs m) (whole_type ts xs a ⨾ part xs n) (part_seen xs m q) (then (whole_type ts xs a) (part xs n) (e ∙ whole_ty_seen ts xs a u) (f ∙ part_seen xs n r)))
+    ap (λ l. adds 1 s ∷ l) (next _ (part xs m) (whole_type ts xs a ⨾ part xs n) (part_seen xs m q) (next _ (whole_type ts xs a) (part xs n) (e ∙ whole_ty_seen ts xs a u) (f ∙ part_seen xs n r)))
 
 split_head_seen : (ts : Abbreviations) (xs : Names) (s : Span) (m : t.Msg) (x : SWord) (a c : t.Ty) (r q u : List Seen) → points_in q ≡ points_in (whole_ty_scan ts xs a u) → points_in u ≡ points_in (whole_ty_scan ts (x.word ∷ xs) c r) → adds 1 s ∷ points_in (part_scan xs m q) ≡ in_order (split_head ts xs s m x a c) ++ points_in r
 unfolding split_head
 split_head_seen ts xs s m x a c r q u e f =
-    ap (λ l. adds 1 s ∷ l) (then (part xs m) (whole_type ts xs a ⨾ whole_type ts (x.word ∷ xs) c) (part_seen xs m q) (then (whole_type ts xs a) (whole_type ts (x.word ∷ xs) c) (e ∙ whole_ty_seen ts xs a u) (f ∙ whole_ty_seen ts (x.word ∷ xs) c r)))
+    ap (λ l. adds 1 s ∷ l) (next _ (part xs m) (whole_type ts xs a ⨾ whole_type ts (x.word ∷ xs) c) (part_seen xs m q) (next _ (whole_type ts xs a) (whole_type ts (x.word ∷ xs) c) (e ∙ whole_ty_seen ts xs a u) (f ∙ whole_ty_seen ts (x.word ∷ xs) c r)))
 
 match_head_seen : (ts : Abbreviations) (xs : Names) (s : Span) (m : t.Msg) (x : SWord) (a : t.Ty) (n : t.Msg) (c : t.Ty) (r q u v : List Seen) → points_in q ≡ points_in (whole_ty_scan ts xs a u) → points_in u ≡ points_in (part_scan xs n v) → points_in v ≡ points_in (whole_ty_scan ts (x.word ∷ xs) c r) → adds 1 s ∷ points_in (part_scan xs m q) ≡ in_order (match_head ts xs s m x a n c) ++ points_in r
 unfolding match_head
-match_head_seen ts xs s m x a n c r q u v e f g = then (tested_head ts xs s m a n) (whole_type ts (x.word ∷ xs) c) (tested_head_seen ts xs s m a n v q u e f) (g ∙ whole_ty_seen ts (x.word ∷ xs) c r)
+match_head_seen ts xs s m x a n c r q u v e f g = next _ (tested_head ts xs s m a n) (whole_type ts (x.word ∷ xs) c) (tested_head_seen ts xs s m a n v q u e f) (g ∙ whole_ty_seen ts (x.word ∷ xs) c r)
 
 abbrev semicolon : List Seen → List Seen
 semicolon r = token (kinds.Mark mark.Semicolon) ∷ r
@@ -283,74 +283,74 @@ shut r = token (kinds.Mark mark.ParenClose) ∷ (token (kinds.Mark mark.Semicolo
 
 proc_seen : (ts : Abbreviations) (xs : Names) (p : t.Proc) (r : List Seen) → points_in (proc_scan ts xs p r) ≡ in_order (process_points ts xs p) ++ points_in r
 proc_seen ts xs (t.par s p q) r =
-    then (process_points ts xs p) (one (adds 1 s) ⨾ process_points ts xs q) (proc_seen ts xs p _) (then (one (adds 1 s)) (process_points ts xs q) refl (proc_seen ts xs q r))
+    next _ (process_points ts xs p) (one (adds 1 s) ⨾ process_points ts xs q) (proc_seen ts xs p _) (next _ (one (adds 1 s)) (process_points ts xs q) refl (proc_seen ts xs q r))
 proc_seen ts xs (t.out s m n) r = messages_head_seen xs s m n r (part_scan xs n r) refl
 proc_seen ts xs (t.out_then s m n p) r =
     let b = semicolon (point (adds 1 s) ∷ proc_scan ts xs p r) in
-    then (messages_head xs s m n) (one (adds 1 s) ⨾ process_points ts xs p) (messages_head_seen xs s m n b (part_scan xs n b) refl) (then (one (adds 1 s)) (process_points ts xs p) refl (proc_seen ts xs p r))
+    next _ (messages_head xs s m n) (one (adds 1 s) ⨾ process_points ts xs p) (messages_head_seen xs s m n b (part_scan xs n b) refl) (next _ (one (adds 1 s)) (process_points ts xs p) refl (proc_seen ts xs p r))
 proc_seen ts xs (t.inp s m w a p) r =
     let b = shut (proc_scan ts (w.word ∷ xs) p r) in
-    then (typed_head ts xs s m a) (process_points ts (w.word ∷ xs) p) (typed_head_seen ts xs s m a b (binder_scan ts xs w a (proc_scan ts (w.word ∷ xs) p r)) refl) (proc_seen ts (w.word ∷ xs) p r)
+    next _ (typed_head ts xs s m a) (process_points ts (w.word ∷ xs) p) (typed_head_seen ts xs s m a b (binder_scan ts xs w a (proc_scan ts (w.word ∷ xs) p r)) refl) (proc_seen ts (w.word ∷ xs) p r)
 proc_seen ts xs (t.repeat s m w a p) r =
     let b = shut (proc_scan ts (w.word ∷ xs) p r) in
-    then (typed_head ts xs s m a) (process_points ts (w.word ∷ xs) p) (typed_head_seen ts xs s m a b (binder_scan ts xs w a (proc_scan ts (w.word ∷ xs) p r)) refl) (proc_seen ts (w.word ∷ xs) p r)
+    next _ (typed_head ts xs s m a) (process_points ts (w.word ∷ xs) p) (typed_head_seen ts xs s m a b (binder_scan ts xs w a (proc_scan ts (w.word ∷ xs) p r)) refl) (proc_seen ts (w.word ∷ xs) p r)
 proc_seen ts xs (t.split s m w a x c p) r =
     let b = shut (proc_scan ts (x.word ∷ w.word ∷ xs) p r) in
     let u = token (kinds.Mark mark.Comma) ∷ named_scan ts (w.word ∷ xs) x c b in
     let q = token (kinds.Reserved word.Is) ∷ (token (kinds.Mark mark.ParenOpen) ∷ named_scan ts xs w a u) in
-    then (split_head ts xs s m w a c) (process_points ts (x.word ∷ w.word ∷ xs) p) (split_head_seen ts xs s m w a c b q u refl refl) (proc_seen ts (x.word ∷ w.word ∷ xs) p r)
+    next _ (split_head ts xs s m w a c) (process_points ts (x.word ∷ w.word ∷ xs) p) (split_head_seen ts xs s m w a c b q u refl refl) (proc_seen ts (x.word ∷ w.word ∷ xs) p r)
 proc_seen ts xs (t.match s m w a n x c p) r =
     let b = shut (proc_scan ts (x.word ∷ xs) p r) in
     let v = token (kinds.Mark mark.Comma) ∷ named_scan ts (w.word ∷ xs) x c b in
     let u = token (kinds.Mark mark.Equals) ∷ part_scan xs n v in
     let q = token (kinds.Reserved word.Is) ∷ (token (kinds.Mark mark.ParenOpen) ∷ named_scan ts xs w a u) in
-    then (match_head ts xs s m w a n c) (process_points ts (x.word ∷ xs) p) (match_head_seen ts xs s m w a n c b q u v refl refl refl) (proc_seen ts (x.word ∷ xs) p r)
+    next _ (match_head ts xs s m w a n c) (process_points ts (x.word ∷ xs) p) (match_head_seen ts xs s m w a n c b q u v refl refl refl) (proc_seen ts (x.word ∷ xs) p r)
 proc_seen ts xs (t.case s m w a p x c q) r =
     let d = shut (proc_scan ts (x.word ∷ xs) q r) in
     let second = token (kinds.Reserved word.Is) ∷ (token (kinds.Reserved word.Inr) ∷ binder_scan ts xs x c (proc_scan ts (x.word ∷ xs) q r)) in
     let b = shut (proc_scan ts (w.word ∷ xs) p second) in
     let first = token (kinds.Reserved word.Is) ∷ (token (kinds.Reserved word.Inl) ∷ binder_scan ts xs w a (proc_scan ts (w.word ∷ xs) p second)) in
-    then (typed_head ts xs s m a) (process_points ts (w.word ∷ xs) p ⨾ whole_type ts xs c ⨾ process_points ts (x.word ∷ xs) q) (typed_head_seen ts xs s m a b first refl)
-    (then (process_points ts (w.word ∷ xs) p) (whole_type ts xs c ⨾ process_points ts (x.word ∷ xs) q) (proc_seen ts (w.word ∷ xs) p second)
-     (then (whole_type ts xs c) (process_points ts (x.word ∷ xs) q) (whole_ty_seen ts xs c d) (proc_seen ts (x.word ∷ xs) q r)))
+    next _ (typed_head ts xs s m a) (process_points ts (w.word ∷ xs) p ⨾ whole_type ts xs c ⨾ process_points ts (x.word ∷ xs) q) (typed_head_seen ts xs s m a b first refl)
+    (next _ (process_points ts (w.word ∷ xs) p) (whole_type ts xs c ⨾ process_points ts (x.word ∷ xs) q) (proc_seen ts (w.word ∷ xs) p second)
+     (next _ (whole_type ts xs c) (process_points ts (x.word ∷ xs) q) (whole_ty_seen ts xs c d) (proc_seen ts (x.word ∷ xs) q r)))
 proc_seen ts xs (t.decrypt s m w a n p) r =
     let b = semicolon (proc_scan ts (w.word ∷ xs) p r) in
     let u = token (kinds.Mark mark.BraceClose) ∷ part_scan xs n b in
     let q = token (kinds.Reserved word.Is) ∷ (token (kinds.Mark mark.BraceOpen) ∷ named_scan ts xs w a u) in
-    then (tested_head ts xs s m a n) (process_points ts (w.word ∷ xs) p) (tested_head_seen ts xs s m a n b q u refl refl) (proc_seen ts (w.word ∷ xs) p r)
+    next _ (tested_head ts xs s m a n) (process_points ts (w.word ∷ xs) p) (tested_head_seen ts xs s m a n b q u refl refl) (proc_seen ts (w.word ∷ xs) p r)
 proc_seen ts xs (t.check s m n p) r =
     let b = semicolon (proc_scan ts xs p r) in
-    then (messages_head xs s m n) (process_points ts xs p) (messages_head_seen xs s m n b (token (kinds.Reserved word.Is) ∷ part_scan xs n b) refl) (proc_seen ts xs p r)
-proc_seen ts xs (t.begin s m p) r = then (message_head xs s m) (process_points ts xs p) (message_head_seen xs s m (semicolon (proc_scan ts xs p r))) (proc_seen ts xs p r)
-proc_seen ts xs (t.end s m p) r = then (message_head xs s m) (process_points ts xs p) (message_head_seen xs s m (semicolon (proc_scan ts xs p r))) (proc_seen ts xs p r)
-proc_seen ts xs (t.end_many s m p) r = then (message_head xs s m) (process_points ts xs p) (message_head_seen xs s m (semicolon (proc_scan ts xs p r))) (proc_seen ts xs p r)
+    next _ (messages_head xs s m n) (process_points ts xs p) (messages_head_seen xs s m n b (token (kinds.Reserved word.Is) ∷ part_scan xs n b) refl) (proc_seen ts xs p r)
+proc_seen ts xs (t.begin s m p) r = next _ (message_head xs s m) (process_points ts xs p) (message_head_seen xs s m (semicolon (proc_scan ts xs p r))) (proc_seen ts xs p r)
+proc_seen ts xs (t.end s m p) r = next _ (message_head xs s m) (process_points ts xs p) (message_head_seen xs s m (semicolon (proc_scan ts xs p r))) (proc_seen ts xs p r)
+proc_seen ts xs (t.end_many s m p) r = next _ (message_head xs s m) (process_points ts xs p) (message_head_seen xs s m (semicolon (proc_scan ts xs p r))) (proc_seen ts xs p r)
 proc_seen ts xs (t.cast s m w a p) r =
     let b = shut (proc_scan ts (w.word ∷ xs) p r) in
-    then (typed_head ts xs s m a) (process_points ts (w.word ∷ xs) p)
+    next _ (typed_head ts xs s m a) (process_points ts (w.word ∷ xs) p)
     (typed_head_seen ts xs s m a b (token (kinds.Reserved word.Is) ∷ binder_scan ts xs w a (proc_scan ts (w.word ∷ xs) p r)) refl) (proc_seen ts (w.word ∷ xs) p r)
 proc_seen ts xs (t.new s w a p) r =
-    then (new_head ts xs s a) (process_points ts (w.word ∷ xs) p) (new_head_seen ts xs s a (shut (proc_scan ts (w.word ∷ xs) p r))) (proc_seen ts (w.word ∷ xs) p r)
+    next _ (new_head ts xs s a) (process_points ts (w.word ∷ xs) p) (new_head_seen ts xs s a (shut (proc_scan ts (w.word ∷ xs) p r))) (proc_seen ts (w.word ∷ xs) p r)
 proc_seen ts xs (t.stop s) r = refl
 proc_seen ts xs (t.group s p q) r =
-    then (process_points ts xs p) (one (adds 1 s) ⨾ process_points ts xs q) (proc_seen ts xs p _) (then (one (adds 1 s)) (process_points ts xs q) refl (proc_seen ts xs q _))
+    next _ (process_points ts xs p) (one (adds 1 s) ⨾ process_points ts xs q) (proc_seen ts xs p _) (next _ (one (adds 1 s)) (process_points ts xs q) refl (proc_seen ts xs q _))
 
 more_free_seen : (xs : Names) (ws : List SWord) (r : List Seen) → points_in (more_free_scan xs ws r) ≡ in_order (free_points xs ws) ++ points_in r
 more_free_seen xs [] r = refl
-more_free_seen xs (w ∷ ws) r = then (free_point xs w) (free_points (w.word ∷ xs) ws) refl (more_free_seen (w.word ∷ xs) ws r)
+more_free_seen xs (w ∷ ws) r = next _ (free_point xs w) (free_points (w.word ∷ xs) ws) refl (more_free_seen (w.word ∷ xs) ws r)
 
 decl_seen : (ts : Abbreviations) (xs : Names) (d : t.Declared) (r : List Seen) → points_in (decl_scan ts xs d r) ≡ in_order (decl_points ts xs d) ++ points_in r
-decl_seen ts xs (t.free s w ws) r = then (free_point xs w) (free_points (w.word ∷ xs) ws) refl (more_free_seen (w.word ∷ xs) ws _)
-decl_seen ts xs (t.abbreviated s w a) r = then (one _) (whole_type ts xs a) refl (whole_ty_seen ts xs a _)
+decl_seen ts xs (t.free s w ws) r = next _ (free_point xs w) (free_points (w.word ∷ xs) ws) refl (more_free_seen (w.word ∷ xs) ws _)
+decl_seen ts xs (t.abbreviated s w a) r = next _ (one _) (whole_type ts xs a) refl (whole_ty_seen ts xs a _)
 
 decls_seen : (ts : Abbreviations) (xs : Names) (ds : List t.Declared) (r : List Seen) → points_in (decls_scan ts xs ds r) ≡ in_order (decls_points ts xs ds) ++ points_in r
 decls_seen ts xs [] r = refl
 decls_seen ts xs (d ∷ ds) r =
-    then (decl_points ts xs d) (decls_points (types_behind ts xs d) (names_behind xs d) ds) (decl_seen ts xs d _) (decls_seen (types_behind ts xs d) (names_behind xs d) ds r)
+    next _ (decl_points ts xs d) (decls_points (types_behind ts xs d) (names_behind xs d) ds) (decl_seen ts xs d _) (decls_seen (types_behind ts xs d) (names_behind xs d) ds r)
 
 steps_seen : (i n : ℕ) (xs : List t.Step) (r : List Seen) → points_in (steps_scan i n xs r) ≡ in_order (steps_points i n xs) ++ points_in r
 steps_seen i n [] r = refl
-steps_seen i n (t.act s a ∷ xs) r = then (one _) (steps_points (i + 1) n xs) refl (steps_seen (i + 1) n xs r)
-steps_seen i n (t.talk s a b ∷ xs) r = then (one _) (steps_points (i + 1) n xs) refl (steps_seen (i + 1) n xs r)
+steps_seen i n (t.act s a ∷ xs) r = next _ (one _) (steps_points (i + 1) n xs) refl (steps_seen (i + 1) n xs r)
+steps_seen i n (t.talk s a b ∷ xs) r = next _ (one _) (steps_points (i + 1) n xs) refl (steps_seen (i + 1) n xs r)
 
 mutual
   numbered_seen : (m : t.Msg) (r : List Seen) → points_in (numbered_scan m r) ≡ points_in r
@@ -374,20 +374,20 @@ numbered_atom_seen (t.many s m) r = numbered_seen m _
 
 more_numbered_seen : (es : List t.Atom) (r : List Seen) → points_in (more_numbered_scan es r) ≡ in_order (numbered_atoms_points es) ++ points_in r
 more_numbered_seen [] r = refl
-more_numbered_seen (a ∷ es) r = then (numbered_atom_points a) (numbered_atoms_points es) (numbered_atom_seen a _) (more_numbered_seen es r)
+more_numbered_seen (a ∷ es) r = next _ (numbered_atom_points a) (numbered_atoms_points es) (numbered_atom_seen a _) (more_numbered_seen es r)
 
 written_seen : (es : Option (List t.Atom)) (r : List Seen) → points_in (written_scan es r) ≡ in_order (written_points es) ++ points_in r
 written_seen None r = refl
 written_seen (Some []) r = refl
-written_seen (Some (a ∷ es)) r = then (numbered_atom_points a) (numbered_atoms_points es) (numbered_atom_seen a _) (more_numbered_seen es _)
+written_seen (Some (a ∷ es)) r = next _ (numbered_atom_points a) (numbered_atoms_points es) (numbered_atom_seen a _) (more_numbered_seen es _)
 
 mutual
   deriv_seen : (d : t.Deriv) (r : List Seen) → points_in (deriv_scan d r) ≡ in_order (deriv_points d) ++ points_in r
-  deriv_seen (t.rule s w es ds) r = then (written_points es) (derivs_points ds) (written_seen es _) (derivs_seen ds r)
+  deriv_seen (t.rule s w es ds) r = next _ (written_points es) (derivs_points ds) (written_seen es _) (derivs_seen ds r)
 
   derivs_seen : (ds : t.Derivs) (r : List Seen) → points_in (derivs_scan ds r) ≡ in_order (derivs_points ds) ++ points_in r
   derivs_seen t.no_derivs r = refl
-  derivs_seen (t.more_derivs d ds) r = then (deriv_points d) (derivs_points ds) (deriv_seen d _) (derivs_seen ds r)
+  derivs_seen (t.more_derivs d ds) r = next _ (deriv_points d) (derivs_points ds) (deriv_seen d _) (derivs_seen ds r)
 
 opponent_seen : (ts : Abbreviations) (xs : Names) (o : Option t.Proc) (r : List Seen) → points_in (opponent_scan ts xs o r) ≡ in_order (opponent_points ts xs o) ++ points_in r
 opponent_seen ts xs None r = refl
@@ -403,9 +403,9 @@ derivation_seen (Some d) r = deriv_seen d r
 
 body_seen : (ts : Abbreviations) (xs : Names) (f : t.File) → points_in (body_scan ts xs f) ≡ in_order (body_points ts xs f) ++ []
 body_seen ts xs f =
-    then (process_points ts xs f.process) (opponent_points ts xs f.opponent ⨾ schedule_points f.schedule ⨾ derivation_points f.derivation) (proc_seen ts xs f.process _)
-    (then (opponent_points ts xs f.opponent) (schedule_points f.schedule ⨾ derivation_points f.derivation) (opponent_seen ts xs f.opponent _)
-     (then (schedule_points f.schedule) (derivation_points f.derivation) (schedule_seen f.schedule _) (derivation_seen f.derivation [])))
+    next _ (process_points ts xs f.process) (opponent_points ts xs f.opponent ⨾ schedule_points f.schedule ⨾ derivation_points f.derivation) (proc_seen ts xs f.process _)
+    (next _ (opponent_points ts xs f.opponent) (schedule_points f.schedule ⨾ derivation_points f.derivation) (opponent_seen ts xs f.opponent _)
+     (next _ (schedule_points f.schedule) (derivation_points f.derivation) (schedule_seen f.schedule _) (derivation_seen f.derivation [])))
 
 version_seen : (v : ℕ) (r : List Seen) → points_in (version_scan v r) ≡ points_in r
 version_seen v r = by (v == 2)
@@ -419,5 +419,5 @@ file_seen f =
     let ts = all_types [] [] f.decls in
     let xs = all_names [] f.decls in
     version_seen f.version _
-    ∙ then (decls_points [] [] f.decls) (body_points ts xs f) (decls_seen [] [] f.decls _) (body_seen ts xs f)
+    ∙ next _ (decls_points [] [] f.decls) (body_points ts xs f) (decls_seen [] [] f.decls _) (body_seen ts xs f)
     ∙ append-nil (in_order (file_points f))

@@ -1,8 +1,8 @@
 -- Chains of spellings as links are put behind others.
-use Rattle.std.proofs.Common.{◌≡◌, ℕ, zero, suc, ◌+◌, ◌<◌, ◌≤◌, List, [], ◌∷◌, ◌++◌, length, map, get_or, refl, sym, ap, ◌∙◌, subst, arith, append_assoc}
-use Rattle.std.specs.Prelude.{Some, None, slice_get}
+use Rattle.std.proofs.Common.{◌≡◌, ℕ, zero, suc, ◌+◌, ◌<◌, ◌≤◌, List, [], ◌∷◌, ◌++◌, length, map, drop, get_or, refl, sym, ap, ◌∙◌, subst, arith, append_assoc}
+use Rattle.std.specs.Prelude.{Some, slice_get}
 use Rattle.spi_scope.specs.declared.trail.Spelled.{Spelled}
-use Rattle.std.proofs.lemmas.List.{length-append, length-map, map_push}
+use Rattle.std.proofs.lemmas.List.{length-append, length-map, map_push, drop_more}
 use Rattle.spi_scope.specs.Scope.{Names}
 use Rattle.spi_scope.specs.declared.trail.Link.{Link}
 use Rattle.spi_scope.specs.Chains.{Pair, link, spelled, chain_at, longer, chains, LeadBack, all_at, AreBelow, found}
@@ -96,17 +96,24 @@ chain_step xs at i x e h q b =
 pub chain_none : (xs : List Spelled) → chain_at (chains (map spelled xs)) 0 ≡ []
 chain_none xs = ap found (longer_keeps ([] ∷ []) (map spelled xs) 0 (omega arith))
 
-pub all_get : (cs : List Names) (is : List ℕ) (j i : ℕ) → slice_get is j ≡ Some i → chain_at (all_at cs is) j ≡ chain_at cs i
-all_get cs [] j i e = absurd (cc)
-all_get cs (k ∷ is) zero i e = let same : k ≡ i = cc in ap (chain_at cs) same
-all_get cs (k ∷ is) (suc j) i e = all_get cs is j i e
+pub below_or : (n : ℕ) (is : List ℕ) (j d : ℕ) → AreBelow n is → j < length is → get_or is j d < n
+below_or n [] j d b h = absurd (omega arith)
+below_or n (k ∷ is) zero d b h = b.0
+below_or n (k ∷ is) (suc j) d b h = below_or n is j d b.1 (omega arith)
 
-pub all_none : (cs : List Names) (is : List ℕ) (j : ℕ) → slice_get is j ≡ None → chain_at (all_at cs is) j ≡ []
-all_none cs [] j e = refl
-all_none cs (k ∷ is) zero e = absurd (cc)
-all_none cs (k ∷ is) (suc j) e = all_none cs is j e
+pub all_or : (cs : List Names) (is : List ℕ) (j d : ℕ) → j < length is → chain_at (all_at cs is) j ≡ chain_at cs (get_or is j d)
+all_or cs [] j d h = absurd (omega arith)
+all_or cs (k ∷ is) zero d h = refl
+all_or cs (k ∷ is) (suc j) d h = all_or cs is j d (omega arith)
 
-pub below_at : (n : ℕ) (is : List ℕ) (j i : ℕ) → AreBelow n is → slice_get is j ≡ Some i → i < n
-below_at n [] j i b e = absurd (cc)
-below_at n (k ∷ is) zero i b e = let same : k ≡ i = cc in omega (arith, b.0, same)
-below_at n (k ∷ is) (suc j) i b e = below_at n is j i b.1 e
+abbrev pub pair_of : List ℕ → ℕ → Pair
+pair_of w n = record { word = w; outer = n }
+
+pub copied_more : (new copied : List Spelled) (items : List Link) (i : ℕ) (x : Spelled) (d : Link) → new ≡ copied ++ x ∷ [] → i < length items → spelled x ≡ link (get_or items i d) → map spelled copied ++ map link (drop i items) ≡ map link items → map spelled new ++ map link (drop (i + 1) items) ≡ map link items
+copied_more new copied items i x d n h e inv =
+    ap (λ l. map spelled l ++ map link (drop (i + 1) items)) n
+    ∙ ap (λ l. l ++ map link (drop (i + 1) items)) (map_push spelled copied x)
+    ∙ append_assoc (map spelled copied) (spelled x ∷ []) (map link (drop (i + 1) items))
+    ∙ ap (λ y. map spelled copied ++ y ∷ map link (drop (i + 1) items)) e
+    ∙ ap (λ l. map spelled copied ++ map link l) (sym (drop_more items i d h))
+    ∙ inv

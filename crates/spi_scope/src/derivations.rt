@@ -172,7 +172,8 @@ pub fn read_derivation(
     let taken = read_written(alloc, count, &d.effect)?;
     uses.uses.push(RuleUse { rule, taken })?;
     uses.places.push(d.span)?;
-    read_premises(alloc, count, uses, &d.premises)
+    read_premises(alloc, count, uses, &d.premises)?;
+    Ok(())
 }
 
 #[cycle(uses)]

@@ -126,10 +126,11 @@ impl Scopes {
     pub fn names_at(&self, alloc: Global, node: u32) -> Result<Vec<Text>, NoMemory>
         ensures { IfOk result (λ v. v.items ≡ reverse (chain_at self.now node)) }
     {
-        match self.noted.get(node as usize) {
-            None => Ok(Vec::new(alloc)),
-            Some(chain) => spellings(alloc, &self.links, *chain),
+        if node as usize >= self.noted.len() {
+            return Ok(Vec::new(alloc));
         }
+        let chain = self.noted[node as usize];
+        spellings(alloc, &self.links, chain)
     }
 }
 

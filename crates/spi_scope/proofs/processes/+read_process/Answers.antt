@@ -12,7 +12,7 @@ use Rattle.spi_scope.specs.Scope.{Names, outer}
 use Rattle.spi_scope.specs.Meaning.{message_in, type_in, process_in}
 use Rattle.spi_scope.specs.State.{abbreviations}
 use Rattle.spi_scope.specs.Table.{Naming}
-use Rattle.spi_scope.proofs.Closing.{fork_nodes}
+use Rattle.spi_scope.proofs.Closing.{fork_nodes, one_more, next_one, next_rest, none_in}
 use Rattle.spi_scope.proofs.processes.+read_process.Goals as goal
 
 pub returns-in_ok-next-in-Par-clause-nodes : goal.returns-in_ok-next-in-Par-clause-nodes
@@ -42,7 +42,10 @@ returns-in_ok-next-in-Par-clause-nodes t c =
       (fork_nodes Pars (map shape_of c.args.arena.now.nodes.items) (map shape_of c.push-in-Par.new.arena.nodes.items) (map shape_of c.read_process-in-Par.new.arena.nodes.items) (map shape_of c.close-in-Par.new.arena.nodes.items) (map shape_of c.read_process-in-Par-2.new.arena.nodes.items)
        p q k k k _ _ _ (length c.push-in-Par.new.arena.nodes.items) (length c.close-in-Par.new.arena.nodes.items) _
        g.nodes f (rw c.len-base.ensures at d.nodes) (rw (n, y, c.deref-in-Par-2.ensures) at h) i
-       (omega (arith, a)) (sym (length-map c.args.arena.now.nodes.items shape_of)) (omega (arith, g.len)) (omega (arith, a)) (omega (arith, b, l, g.len)) (omega (arith, d.len, l, g.len)) (omega arith) (omega arith)))
+       a.0 (sym (length-map c.args.arena.now.nodes.items shape_of)) (next_one (length c.push-in-Par.new.arena.nodes.items) i g.len) (one_more c.in_ok-at.at i a.0)
+       (next_rest c.in_ok-next-in-Par.next (length c.read_process-in-Par.new.arena.nodes.items) (length c.push-in-Par.new.arena.nodes.items) i (process_size p) b.0 l g.len)
+       (next_rest (length c.close-in-Par.new.arena.nodes.items) (length c.read_process-in-Par.new.arena.nodes.items) (length c.push-in-Par.new.arena.nodes.items) i (process_size p) d.len l g.len)
+       (none_in k) (none_in k)))
     c.read_process-in-Par-2.ensures.nodes
 
 pub returns-in_ok-next-in-Group-clause-nodes : goal.returns-in_ok-next-in-Group-clause-nodes
@@ -72,7 +75,10 @@ returns-in_ok-next-in-Group-clause-nodes t c =
       (fork_nodes Pars (map shape_of c.args.arena.now.nodes.items) (map shape_of c.push-in-Group.new.arena.nodes.items) (map shape_of c.read_process-in-Group.new.arena.nodes.items) (map shape_of c.close-in-Group.new.arena.nodes.items) (map shape_of c.read_process-in-Group-2.new.arena.nodes.items)
        p q k k k _ _ _ (length c.push-in-Group.new.arena.nodes.items) (length c.close-in-Group.new.arena.nodes.items) _
        g.nodes f (rw c.len-base.ensures at d.nodes) (rw (n, y, c.deref-in-Group-2.ensures) at h) i
-       (omega (arith, a)) (sym (length-map c.args.arena.now.nodes.items shape_of)) (omega (arith, g.len)) (omega (arith, a)) (omega (arith, b, l, g.len)) (omega (arith, d.len, l, g.len)) (omega arith) (omega arith)))
+       a.0 (sym (length-map c.args.arena.now.nodes.items shape_of)) (next_one (length c.push-in-Group.new.arena.nodes.items) i g.len) (one_more c.in_ok-at.at i a.0)
+       (next_rest c.in_ok-next-in-Group.next (length c.read_process-in-Group.new.arena.nodes.items) (length c.push-in-Group.new.arena.nodes.items) i (process_size p) b.0 l g.len)
+       (next_rest (length c.close-in-Group.new.arena.nodes.items) (length c.read_process-in-Group.new.arena.nodes.items) (length c.push-in-Group.new.arena.nodes.items) i (process_size p) d.len l g.len)
+       (none_in k) (none_in k)))
     c.read_process-in-Group-2.ensures.nodes
 
 pub returns-in_ok-read_process-in-Case-2-clause-nodes : goal.returns-in_ok-read_process-in-Case-2-clause-nodes

@@ -23,6 +23,6 @@ pub unreachable-requires : goal.unreachable-requires
 unreachable-requires c =
     c.in-None.ensures.none refl _ (spells (abbreviations c.args.scope.now.types) c.args.scope.now.held.names (proc_of c.args.p.now) c.args.nodes.items c.requires.nodes c.requires.over _ c.len.ensures)
 
-pub returns-in-Some : goal.returns-in-Some
-returns-in-Some c =
+pub returns : goal.returns
+returns c =
     is_over_free (abbreviations c.args.scope.now.types) c.args.scope.now.held.names (proc_of c.args.p.now) c.args.nodes.items c.requires.nodes c.requires.over _ c.len.ensures _ c.in-Some.ensures.some
