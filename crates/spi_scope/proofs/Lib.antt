@@ -1,0 +1,16 @@
+pub mod Tables
+pub mod Trails
+pub mod Nesting
+pub mod Tuples
+pub mod Sizes
+pub mod Firsts
+pub mod Counting
+pub mod Closing
+pub mod Indexing
+pub mod Files
+pub mod Rules
+pub mod Made
+pub mod Numbered
+pub mod Resolved
+pub mod Scans
+pub mod Premises

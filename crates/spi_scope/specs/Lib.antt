@@ -1,0 +1,16 @@
+pub mod Scope
+pub mod Meaning
+pub mod Marks
+pub mod Parts
+pub mod Points
+pub mod First
+pub mod StandsFor
+pub mod Gives
+pub mod Leads
+pub mod State
+pub mod Over
+pub mod Table
+pub mod Chains
+pub mod Files
+pub mod Places
+pub mod Scan
