@@ -12,5 +12,8 @@ pub mod Rules
 pub mod Made
 pub mod Numbered
 pub mod Resolved
-pub mod Scans
+pub mod Openings
+pub mod Scanned
+pub mod Ordered
+pub mod Growing
 pub mod Premises

@@ -4,6 +4,7 @@ pub mod Marks
 pub mod Parts
 pub mod Points
 pub mod First
+pub mod FaultPlaces
 pub mod StandsFor
 pub mod Gives
 pub mod Leads
@@ -14,3 +15,4 @@ pub mod Chains
 pub mod Files
 pub mod Places
 pub mod Scan
+pub mod Standing

@@ -20,7 +20,7 @@ mod types;
 
 pub use fault::ScopeFault;
 pub use file::File;
-pub use laws::points_stand_at_tokens;
+pub use laws::{faults_stand_at_nodes, points_stand_at_tokens};
 pub use resolution::{one_or_other, resolve};
 use std::alloc::AllocError;
 
