@@ -103,9 +103,9 @@ last_beyond k xs h = ap (λ b. if b then slice_get xs (length xs - suc k) else N
 last_more : {A : Type 0} (j : ℕ) (xs : List A) (x : A) → last_but (suc j) (xs ++ x ∷ []) ≡ last_but j xs
 last_more j xs x =
     ⊎_elim
-      (λ h. last_within (suc j) (xs ++ x ∷ []) (omega (arith, length_push xs x)) ∙ (let e : length (xs ++ x ∷ []) - suc (suc j) ≡ length xs - suc j = omega (arith, length_push xs x) in ap (slice_get (xs ++ x ∷ [])) e) ∙ get_front xs x (length xs - suc j) (omega arith) ∙ sym (last_within j xs h))
-      (λ h. last_beyond (suc j) (xs ++ x ∷ []) (omega (arith, length_push xs x)) ∙ sym (last_beyond j xs h))
-      (by_two j (length xs))
+    (λ h. last_within (suc j) (xs ++ x ∷ []) (omega (arith, length_push xs x)) ∙ (let e : length (xs ++ x ∷ []) - suc (suc j) ≡ length xs - suc j = omega (arith, length_push xs x) in ap (slice_get (xs ++ x ∷ [])) e) ∙ get_front xs x (length xs - suc j) (omega arith) ∙ sym (last_within j xs h))
+    (λ h. last_beyond (suc j) (xs ++ x ∷ []) (omega (arith, length_push xs x)) ∙ sym (last_beyond j xs h))
+    (by_two j (length xs))
 
 last_in : {A : Type 0} (k : ℕ) (xs : List A) (x : A) → last_but k xs ≡ Some x → (i : ℕ) × (slice_get xs i ≡ Some x)
 last_in k xs x = by (nat_lt k (length xs))
@@ -140,12 +140,12 @@ three_ways i k = ⊎_elim inl (λ h. inr (⊎_elim (λ g. inr g) (λ g. inl (ome
 fill_index : (vs : List Message) → AllStay vs → (a : Message) (k i : ℕ) → put a k (or_bound i (value_of vs (suc k) i)) ≡ or_bound i (value_of (vs ++ a ∷ []) k i)
 fill_index vs s a k i =
     ⊎_elim
-      (λ h. ap (λ o. put a k (or_bound i o)) (value_inside vs (suc k) i (omega arith)) ∙ put_bound a k i (λ e. omega arith) ∙ ap (or_bound i) (sym (value_inside (vs ++ a ∷ []) k i h)))
-      (λ g. ⊎_elim
-        (λ e. ap (λ o. put a k (or_bound i o)) (value_inside vs (suc k) i (omega arith)) ∙ ap (λ j. put a k (bound j)) e ∙ put_here a k ∙ ap (or_bound i) (sym (value_outside (vs ++ a ∷ []) k i (omega arith) ∙ (let z : i - k ≡ 0 = omega arith in ap (λ j. last_but j (vs ++ a ∷ [])) z) ∙ last_first vs a)))
-        (λ h. ap (λ o. put a k (or_bound i o)) (value_outside vs (suc k) i (omega arith)) ∙ put_value vs s a k i (i - suc k) (λ e. omega arith) ∙ ap (or_bound i) (sym (value_outside (vs ++ a ∷ []) k i (omega arith) ∙ (let z : i - k ≡ suc (i - suc k) = omega arith in ap (λ j. last_but j (vs ++ a ∷ [])) z) ∙ last_more (i - suc k) vs a)))
-        g)
-      (three_ways i k)
+    (λ h. ap (λ o. put a k (or_bound i o)) (value_inside vs (suc k) i (omega arith)) ∙ put_bound a k i (λ e. omega arith) ∙ ap (or_bound i) (sym (value_inside (vs ++ a ∷ []) k i h)))
+    (λ g. ⊎_elim
+    (λ e. ap (λ o. put a k (or_bound i o)) (value_inside vs (suc k) i (omega arith)) ∙ ap (λ j. put a k (bound j)) e ∙ put_here a k ∙ ap (or_bound i) (sym (value_outside (vs ++ a ∷ []) k i (omega arith) ∙ (let z : i - k ≡ 0 = omega arith in ap (λ j. last_but j (vs ++ a ∷ [])) z) ∙ last_first vs a)))
+    (λ h. ap (λ o. put a k (or_bound i o)) (value_outside vs (suc k) i (omega arith)) ∙ put_value vs s a k i (i - suc k) (λ e. omega arith) ∙ ap (or_bound i) (sym (value_outside (vs ++ a ∷ []) k i (omega arith) ∙ (let z : i - k ≡ suc (i - suc k) = omega arith in ap (λ j. last_but j (vs ++ a ∷ [])) z) ∙ last_more (i - suc k) vs a)))
+    g)
+    (three_ways i k)
 
 pub put_fill : (vs : List Message) → AllStay vs → (a : Message) (k : ℕ) (m : Message) → put a k (fill vs (suc k) m) ≡ fill (vs ++ a ∷ []) k m
 put_fill vs s a k (bound i) = fill_index vs s a k i

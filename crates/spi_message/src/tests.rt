@@ -1,6 +1,6 @@
 // Judgements by example.
 
-ghost use Rattle.std.specs.Prelude.{◌≡◌, ◌∷◌, [], ◌+◌, ◌<◌, ◌^◌, IfOk, OnOk, length};
+ghost use Rattle.std.specs.Prelude.{◌≡◌, ◌∷◌, [], ◌+◌, ◌<◌, ◌^◌, IfOk, length};
 ghost use Rattle.spi_term.specs.Spelling.{ty_nodes};
 ghost use Rattle.spi_term.specs.View.{atom, effect, ty};
 
@@ -62,14 +62,25 @@ fn sealed(alloc: Global, inside: Msg, times: u32) -> Result<Msg, NoMemory> {
     Ok(m)
 }
 
+// Whether the key, under itself so many times, has type Un in an environment.
+fn is_deep_key_untrusted(alloc: Global, times: u32) -> Result<bool, NoMemory> {
+    let env = with_key(alloc)?;
+    let deep = sealed(alloc, Msg::Name(1), times)?;
+    has_type(alloc, &env, &deep, &Ty::Un)
+}
+
+// The same for a judge.
+fn is_deep_key_judged_untrusted(alloc: Global, times: u32) -> Result<bool, NoMemory> {
+    let mut judge = judge_with_key(alloc)?;
+    let deep = sealed(alloc, Msg::Name(1), times)?;
+    is_typed(alloc, &mut judge, &deep, &Ty::Un)
+}
+
 #[test]
 fn each_layer_of_a_ciphertext_is_asked_for_once(rt: HostRuntime) -> Result<(), Fail> {
     let alloc = rt.alloc();
-    let env = with_key(alloc)?;
-    let deep = sealed(alloc, Msg::Name(1), 200)?;
-    assert!(rt; !has_type(alloc, &env, &deep, &Ty::Un)?);
-    let mut judge = judge_with_key(alloc)?;
-    assert!(rt; !is_typed(alloc, &mut judge, &deep, &Ty::Un)?);
+    assert!(rt; !is_deep_key_untrusted(alloc, 200)?);
+    assert!(rt; !is_deep_key_judged_untrusted(alloc, 200)?);
     Ok(())
 }
 
@@ -85,41 +96,53 @@ fn judge_with_key(alloc: Global) -> Result<Judge, NoMemory>
     Ok(judge)
 }
 
-fn is_typed(alloc: Global, judge: &mut Judge, m: &Msg, t: &Ty) -> Result<bool, NoMemory>
-    ensures free { judge.new.free ≡ judge.old.free }
-    ensures types { judge.new.types ≡ judge.old.types }
-{
+fn is_typed(alloc: Global, judge: &mut Judge, m: &Msg, t: &Ty) -> Result<bool, NoMemory> {
     let t = judge.ty(alloc, t)?;
     let m = judge.message(m)?;
     judge.has_type(alloc, m, t)
 }
 
-fn is_labelled(alloc: Global, judge: &mut Judge, m: &Msg) -> Result<bool, NoMemory>
-    ensures free { judge.new.free ≡ judge.old.free }
-    ensures types { judge.new.types ≡ judge.old.types }
-{
+fn is_labelled(alloc: Global, judge: &mut Judge, m: &Msg) -> Result<bool, NoMemory> {
     let m = judge.message(m)?;
     judge.is_label(alloc, m)
 }
 
 fn is_good(alloc: Global, judge: &mut Judge, t: &Ty) -> Result<bool, NoMemory>
     requires { length judge.old.types + ty_nodes (ty t.now) < 2 ^ 32 }
-    ensures free { judge.new.free ≡ judge.old.free }
-    ensures types { judge.new.types ≡ judge.old.types }
 {
     let t = judge.ty(alloc, t)?;
     judge.good_type(alloc, t)
+}
+
+// Whether the first name under the key has type Un.
+fn is_sealed_name_untrusted(alloc: Global, judge: &mut Judge) -> Result<bool, NoMemory> {
+    let m = sealed(alloc, Msg::Name(0), 1)?;
+    is_typed(alloc, judge, &m, &Ty::Un)
+}
+
+fn is_name_untrusted(alloc: Global, judge: &mut Judge, x: u32) -> Result<bool, NoMemory> {
+    is_typed(alloc, judge, &Msg::Name(x), &Ty::Un)
+}
+
+fn is_name_labelled(alloc: Global, judge: &mut Judge, x: u32) -> Result<bool, NoMemory> {
+    is_labelled(alloc, judge, &Msg::Name(x))
 }
 
 #[test]
 fn a_judge_answers_as_its_environment_does(rt: HostRuntime) -> Result<(), Fail> {
     let alloc = rt.alloc();
     let mut judge = judge_with_key(alloc)?;
-    let sealed = sealed(alloc, Msg::Name(0), 1)?;
-    assert!(rt; is_typed(alloc, &mut judge, &sealed, &Ty::Un)?);
-    assert!(rt; !is_typed(alloc, &mut judge, &Msg::Name(1), &Ty::Un)?);
-    assert!(rt; is_labelled(alloc, &mut judge, &Msg::Name(1))?);
+    assert!(rt; is_sealed_name_untrusted(alloc, &mut judge)?);
+    assert!(rt; !is_name_untrusted(alloc, &mut judge, 1)?);
+    assert!(rt; is_name_labelled(alloc, &mut judge, 1)?);
+    Ok(())
+}
+
+#[test]
+fn a_judge_wants_checked_names_untrusted(rt: HostRuntime) -> Result<(), Fail> {
+    let alloc = rt.alloc();
     let check = Ty::Nonce(one_atom(alloc, Atom::Check(Msg::Name(1)))?);
+    let mut judge = judge_with_key(alloc)?;
     assert!(rt; !is_good(alloc, &mut judge, &check)?);
     Ok(())
 }
@@ -131,7 +154,7 @@ fn a_name_that_was_taken_away_is_no_label(rt: HostRuntime) -> Result<(), Fail> {
     assert_eq!(rt; judge.len(), 2);
     judge.unbind();
     assert_eq!(rt; judge.len(), 1);
-    assert!(rt; !is_labelled(alloc, &mut judge, &Msg::Name(1))?);
+    assert!(rt; !is_name_labelled(alloc, &mut judge, 1)?);
     Ok(())
 }
 
@@ -147,13 +170,21 @@ fn opened(alloc: Global, judge: &mut Judge, t: &Ty, m: &Msg) -> Result<TyId, NoM
     judge.opened(alloc, t, m)
 }
 
+// Whether the first type has, with the first name for its binder, the number of the second.
+fn is_opened_to(alloc: Global, under: &Ty, other: &Ty) -> Result<bool, NoMemory> {
+    let mut judge = Judge::new(alloc, 1)?;
+    let first = opened(alloc, &mut judge, under, &Msg::Name(0))?;
+    let second = judge.ty(alloc, other)?;
+    Ok(first == second)
+}
+
 #[test]
 fn an_opened_type_has_its_number(rt: HostRuntime) -> Result<(), Fail> {
     let alloc = rt.alloc();
-    let mut judge = Judge::new(alloc, 1)?;
-    let under = opened(alloc, &mut judge, &ended(alloc, Msg::Bound(0))?, &Msg::Name(0))?;
-    assert!(rt; under == judge.ty(alloc, &ended(alloc, Msg::Name(0))?)?);
-    assert!(rt; under != judge.ty(alloc, &ended(alloc, Msg::Unit)?)?);
+    let under = ended(alloc, Msg::Bound(0))?;
+    let named = ended(alloc, Msg::Name(0))?;
+    assert!(rt; is_opened_to(alloc, &under, &named)?);
+    assert!(rt; !is_opened_to(alloc, &named, &under)?);
     Ok(())
 }
 
@@ -165,16 +196,30 @@ fn judge_with_nonce(alloc: Global) -> Result<Judge, NoMemory> {
     Ok(judge)
 }
 
+// Pairs of which the second part ends the first.
+fn ended_pairs(alloc: Global) -> Result<Ty, NoMemory> {
+    let first = Box::new(alloc, Ty::Un)?;
+    let second = ended(alloc, Msg::Bound(0))?;
+    Ok(Ty::Pair(first, Box::new(alloc, second)?))
+}
+
+// The pair of a name with the third.
+fn with_third(alloc: Global, x: u32) -> Result<Msg, NoMemory> {
+    let first = Box::new(alloc, Msg::Name(x))?;
+    Ok(Msg::Pair(first, Box::new(alloc, Msg::Name(2))?))
+}
+
+fn is_pair_typed(alloc: Global, x: u32) -> Result<bool, NoMemory> {
+    let mut judge = judge_with_nonce(alloc)?;
+    let pairs = ended_pairs(alloc)?;
+    let pair = with_third(alloc, x)?;
+    is_typed(alloc, &mut judge, &pair, &pairs)
+}
+
 #[test]
 fn the_second_part_of_a_pair_is_typed_by_the_first(rt: HostRuntime) -> Result<(), Fail> {
     let alloc = rt.alloc();
-    let mut judge = judge_with_nonce(alloc)?;
-    let first = Box::new(alloc, Ty::Un)?;
-    let pairs = Ty::Pair(first, Box::new(alloc, ended(alloc, Msg::Bound(0))?)?);
-    for x in 0..2 {
-        let first = Box::new(alloc, Msg::Name(x))?;
-        let pair = Msg::Pair(first, Box::new(alloc, Msg::Name(2))?);
-        assert_eq!(rt; is_typed(alloc, &mut judge, &pair, &pairs)?, x == 0);
-    }
+    assert!(rt; is_pair_typed(alloc, 0)?);
+    assert!(rt; !is_pair_typed(alloc, 1)?);
     Ok(())
 }

@@ -263,12 +263,7 @@ fn is_sealed(
 
 /// The message is a label.
 #[cycle(typing)]
-pub fn is_label(
-    alloc: Global,
-    store: &mut Store,
-    env: &[TyId],
-    m: MsgId,
-) -> Result<bool, NoMemory>
+pub fn is_label(alloc: Global, store: &mut Store, env: &[TyId], m: MsgId) -> Result<bool, NoMemory>
     requires message { m.place < length store.old.messages }
     requires names { IsEnvironment store.old env.now }
     ensures answer { IfOk result (IsLabelled store.old env.now (message_at store.old.messages m)) }

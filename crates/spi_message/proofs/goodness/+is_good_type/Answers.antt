@@ -33,9 +33,10 @@ is_good_type-answer-requires t c =
     let n = c.in_ok-name-in-Pair.ensures in
     let o = c.in_ok-outer-in-Pair.ensures in
     let k = terms_more a.kept n.kept in
-    let first = given_keeps k w.first in
-    (omega (arith, w.size, size_of_kept c.in-Pair.second k w.second, size_of_kept c.in-Pair.second o.kept (given_keeps k w.second), c.decreases),
-     asked_good_under c.in_ok-name-in-Pair.name k c.requires w.second (omega (arith, w.size)) (n.at _ says_name) o.kept (fills_given (depth_stands (omega arith)) o.at first) (c.in_ok-push-in-Pair-2.ensures.items ∙ ap (λ is. is ++ c.in_ok-outer-in-Pair.outer ∷ []) a.names) (c.in_ok-push-in-Pair.ensures.items ∙ ap (λ us. us ++ c.in_ok-name-in-Pair.name ∷ []) a.values))
+    let first = given_keeps k w.first in (
+      omega (arith, w.size, size_of_kept c.in-Pair.second k w.second, size_of_kept c.in-Pair.second o.kept (given_keeps k w.second), c.decreases),
+      asked_good_under c.in_ok-name-in-Pair.name k c.requires w.second (omega (arith, w.size)) (n.at _ says_name) o.kept (fills_given (depth_stands (omega arith)) o.at first) (c.in_ok-push-in-Pair-2.ensures.items ∙ ap (λ is. is ++ c.in_ok-outer-in-Pair.outer ∷ []) a.names) (c.in_ok-push-in-Pair.ensures.items ∙ ap (λ us. us ++ c.in_ok-name-in-Pair.name ∷ []) a.values),
+    )
 
 pub returns-in_ok-push-in-Pair-2-clause-answer : goal.returns-in_ok-push-in-Pair-2-clause-answer
 returns-in_ok-push-in-Pair-2-clause-answer t c =

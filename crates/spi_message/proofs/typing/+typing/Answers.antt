@@ -56,7 +56,7 @@ pub is_label-is_label-requires : goal.is_label-is_label-requires
 is_label-is_label-requires t c = let w = pair_of c.in-Pair.ensures c.requires.message in (omega (arith, w.size, c.decreases), (w.first, c.requires.names))
 
 pub is_label-is_label-requires-then-branch : goal.is_label-is_label-requires-then-branch
-is_label-is_label-requires-then-branch t c = 
+is_label-is_label-requires-then-branch t c =
     let w = pair_of c.in-Pair.ensures c.requires.message in
     let k = c.in_ok-is_label-in-Pair.ensures.kept in
     (omega (arith, w.size, size_keeps c.in-Pair.b k.messages w.second, c.decreases), (below_keeps c.in-Pair.b k.messages w.second, environment_keeps k c.requires.names))
@@ -92,7 +92,7 @@ pub is_label-returns-in-Unit-clause-answer : goal.is_label-returns-in-Unit-claus
 is_label-returns-in-Unit-clause-answer t c = unit_labelled (unit_of c.in-Unit.ensures c.requires.message)
 
 pub is_label-returns-then-branch-clause-answer : goal.is_label-returns-then-branch-clause-answer
-is_label-returns-then-branch-clause-answer t c = 
+is_label-returns-then-branch-clause-answer t c =
     let w = pair_of c.in-Pair.ensures c.requires.message in
     let a = c.in_ok-is_label-in-Pair.ensures in
     pair_labelled c.in-Pair.a c.in-Pair.b w.is a.answer c.if-branch.true a.kept w.second c.is_label-then-branch.result c.is_label-then-branch.ensures.answer
@@ -110,12 +110,12 @@ pub is_sealed-returns-in-Some-clause-answer : goal.is_sealed-returns-in-Some-cla
 is_sealed-returns-in-Some-clause-answer t c = by_payload _ c.in-Some.ensures.some c.new-values.ensures.items c.has_type.result c.has_type.ensures.answer
 
 pub is_sealed-has_type-requires-in-None : goal.is_sealed-has_type-requires-in-None
-is_sealed-has_type-requires-in-None t c = 
+is_sealed-has_type-requires-in-None t c =
     let k = c.in_ok-un-in-None.ensures.kept in
     (omega (arith, size_keeps c.args.key k.messages c.requires.key, c.decreases), (below_keeps c.args.key k.messages c.requires.key, asked_alone (environment_keeps k c.requires.names) record { type = _; means = c.in_ok-un-in-None.ensures.at } c.new-values.ensures.items))
 
 pub is_sealed-has_type-requires-then-branch : goal.is_sealed-has_type-requires-then-branch
-is_sealed-has_type-requires-then-branch t c = 
+is_sealed-has_type-requires-then-branch t c =
     let k = c.in_ok-un-in-None.ensures.kept in
     let l = c.in_ok-has_type-in-None.ensures.kept in
     let b = below_keeps c.args.body k.messages c.requires.body in
@@ -179,7 +179,7 @@ pub pair_has_type-has_type-requires : goal.pair_has_type-has_type-requires
 pair_has_type-has_type-requires t c = (omega (arith, c.decreases), (c.requires.first, c.requires.asked))
 
 pub pair_has_type-has_type-requires-then-branch : goal.pair_has_type-has_type-requires-then-branch
-pair_has_type-has_type-requires-then-branch t c = 
+pair_has_type-has_type-requires-then-branch t c =
     let k = c.in_ok-has_type-in-Un.ensures.kept in
     (omega (arith, size_keeps c.args.b k.messages c.requires.second, c.decreases), (below_keeps c.args.b k.messages c.requires.second, asked_later k c.requires.asked c.in_ok-has_type-in-Un.ensures.values))
 
@@ -190,7 +190,7 @@ pub pair_has_type-returns-then-not-branch-clause-answer : goal.pair_has_type-ret
 pair_has_type-returns-then-not-branch-clause-answer t c = pair_not (pair_ty_of c.in-Pair.ensures c.requires.asked.given) c.in_ok-has_type-in-Pair.ensures.answer c.if-not-branch.true
 
 pub pair_has_type-has_type-requires-in-Pair-2 : goal.pair_has_type-has_type-requires-in-Pair-2
-pair_has_type-has_type-requires-in-Pair-2 t c = 
+pair_has_type-has_type-requires-in-Pair-2 t c =
     let k = c.in_ok-has_type-in-Pair.ensures.kept in
     (omega (arith, size_keeps c.args.b k.messages c.requires.second, c.decreases), (below_keeps c.args.b k.messages c.requires.second, asked_under k c.requires.asked ((pair_ty_of c.in-Pair.ensures c.requires.asked.given).second) c.requires.first c.in_ok-has_type-in-Pair.ensures.values c.in_ok-push-in-Pair.ensures.items))
 
@@ -201,7 +201,7 @@ pub pair_has_type-returns-else-branch-clause-answer : goal.pair_has_type-returns
 pair_has_type-returns-else-branch-clause-answer t c = pair_un_not (un_of c.in-Un.ensures) c.in_ok-has_type-in-Un.ensures.answer c.if-branch.false
 
 pub pair_has_type-returns-in_ok-answer-in-Pair-clause-answer : goal.pair_has_type-returns-in_ok-answer-in-Pair-clause-answer
-pair_has_type-returns-in_ok-answer-in-Pair-clause-answer t c = 
+pair_has_type-returns-in_ok-answer-in-Pair-clause-answer t c =
     let a = c.in_ok-has_type-in-Pair.ensures in
     pair_pair (pair_ty_of c.in-Pair.ensures c.requires.asked.given) a.answer c.if-not-branch.false a.kept c.requires.first c.requires.second c.requires.asked.values (c.in_ok-push-in-Pair.ensures.items ∙ ap (λ us. us ++ c.args.a ∷ []) a.values) c.in_ok-answer-in-Pair.ensures.answer
 
