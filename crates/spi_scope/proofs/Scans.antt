@@ -12,8 +12,8 @@ use Rattle.spi_tree.specs.Pieces as pieces
 use Rattle.spi_tree.specs.Pieces.{Piece, Place, in_seq, at_level, level_of, below, beside, kinds_in, msg_pieces, msgs_pieces, atom_pieces, atoms_pieces, effect_pieces, ty_pieces, fields_pieces, last_pieces, named_pieces, binder_pieces, proc_pieces, words_pieces, decl_pieces, decls_pieces, step_pieces, steps_pieces, written_pieces, deriv_pieces, derivs_pieces, version_pieces, opponent_pieces, schedule_pieces, derivation_pieces, file_pieces, tokens_of, ends}
 use Rattle.spi_scope.specs.Scope.{Names, Abbreviations}
 use Rattle.spi_scope.specs.Meaning.{behind}
-use Rattle.spi_scope.specs.Points.{Point, Points, none, one, ◌⨾◌, in_order, adds, names_behind, types_behind, all_names, all_types, message_points, messages_points, whole_message, atom_points, atoms_points, type_points, fields_points, last_points, whole_type, part, message_head, messages_head, typed_head, new_head, tested_head, split_head, match_head, process_points, free_point, free_points, decl_points, decls_points, opponent_points, steps_points, schedule_points, numbered_points, numbered_atom_points, numbered_atoms_points, written_points, deriv_points, derivs_points, derivation_points, body_points, file_points}
-use Rattle.spi_scope.specs.Scan.{Seen, token, point, tokens_in, points_in, msg_scan, msgs_scan, whole_scan, atom_scan, atoms_scan, effect_scan, ty_scan, fields_scan, last_scan, whole_ty_scan, part_scan, named_scan, binder_scan, proc_scan, free_scan, more_free_scan, decl_scan, decls_scan, step_scan, steps_scan, numbered_scan, all_numbered_scan, whole_numbered_scan, numbered_atom_scan, more_numbered_scan, written_scan, deriv_scan, derivs_scan, version_scan, opponent_scan, schedule_scan, derivation_scan, body_scan, file_scan}
+use Rattle.spi_scope.specs.Points.{Point, Points, one, ◌⨾◌, in_order, adds, names_behind, types_behind, all_names, all_types, message_points, messages_points, whole_message, atom_points, atoms_points, type_points, fields_points, last_points, whole_type, part, message_head, messages_head, typed_head, new_head, tested_head, split_head, match_head, process_points, free_point, free_points, decl_points, decls_points, opponent_points, steps_points, schedule_points, numbered_atom_points, numbered_atoms_points, written_points, deriv_points, derivs_points, derivation_points, body_points, file_points}
+use Rattle.spi_scope.specs.Scan.{Seen, token, point, tokens_in, points_in, msg_scan, msgs_scan, whole_scan, atom_scan, atoms_scan, effect_scan, ty_scan, fields_scan, last_scan, whole_ty_scan, part_scan, named_scan, binder_scan, proc_scan, more_free_scan, decl_scan, decls_scan, step_scan, steps_scan, numbered_scan, all_numbered_scan, numbered_atom_scan, more_numbered_scan, written_scan, deriv_scan, derivs_scan, version_scan, opponent_scan, schedule_scan, derivation_scan, body_scan, file_scan}
 
 tok : (k : Kind) {x y : List Kind} → x ≡ y → k ∷ x ≡ k ∷ y
 tok k e = ap (λ l. k ∷ l) e
@@ -179,7 +179,7 @@ file_tokens f =
     let ts = all_types [] [] f.decls in
     let xs = all_names [] f.decls in
     version_tokens f.version _ _ (decls_tokens [] [] f.decls _ _ (tok _ (proc_tokens (at_level 0) ts xs f.process _ _
-      (opponent_tokens ts xs f.opponent _ _ (schedule_tokens f.schedule _ _ (derivation_tokens f.derivation [] (ends f.span []) refl))))))
+    (opponent_tokens ts xs f.opponent _ _ (schedule_tokens f.schedule _ _ (derivation_tokens f.derivation [] (ends f.span []) refl))))))
 
 -- points
 next : (z : List Point) (A B : Points) {x y : List Point} → x ≡ in_order A ++ y → y ≡ in_order B ++ z → x ≡ in_order (A ⨾ B) ++ z
@@ -312,7 +312,7 @@ proc_seen ts xs (t.case s m w a p x c q) r =
     let first = token (kinds.Reserved word.Is) ∷ (token (kinds.Reserved word.Inl) ∷ binder_scan ts xs w a (proc_scan ts (w.word ∷ xs) p second)) in
     next _ (typed_head ts xs s m a) (process_points ts (w.word ∷ xs) p ⨾ whole_type ts xs c ⨾ process_points ts (x.word ∷ xs) q) (typed_head_seen ts xs s m a b first refl)
     (next _ (process_points ts (w.word ∷ xs) p) (whole_type ts xs c ⨾ process_points ts (x.word ∷ xs) q) (proc_seen ts (w.word ∷ xs) p second)
-     (next _ (whole_type ts xs c) (process_points ts (x.word ∷ xs) q) (whole_ty_seen ts xs c d) (proc_seen ts (x.word ∷ xs) q r)))
+    (next _ (whole_type ts xs c) (process_points ts (x.word ∷ xs) q) (whole_ty_seen ts xs c d) (proc_seen ts (x.word ∷ xs) q r)))
 proc_seen ts xs (t.decrypt s m w a n p) r =
     let b = semicolon (proc_scan ts (w.word ∷ xs) p r) in
     let u = token (kinds.Mark mark.BraceClose) ∷ part_scan xs n b in
@@ -405,7 +405,7 @@ body_seen : (ts : Abbreviations) (xs : Names) (f : t.File) → points_in (body_s
 body_seen ts xs f =
     next _ (process_points ts xs f.process) (opponent_points ts xs f.opponent ⨾ schedule_points f.schedule ⨾ derivation_points f.derivation) (proc_seen ts xs f.process _)
     (next _ (opponent_points ts xs f.opponent) (schedule_points f.schedule ⨾ derivation_points f.derivation) (opponent_seen ts xs f.opponent _)
-     (next _ (schedule_points f.schedule) (derivation_points f.derivation) (schedule_seen f.schedule _) (derivation_seen f.derivation [])))
+    (next _ (schedule_points f.schedule) (derivation_points f.derivation) (schedule_seen f.schedule _) (derivation_seen f.derivation [])))
 
 version_seen : (v : ℕ) (r : List Seen) → points_in (version_scan v r) ≡ points_in r
 version_seen v r = by (v == 2)

@@ -12,7 +12,7 @@ use Rattle.spi_tree.specs.Trees as t
 use Rattle.spi_term.specs.Term.{message_size}
 use Rattle.spi_scope.specs.Scope.{Names, Abbreviations}
 use Rattle.spi_scope.specs.Meaning.{behind}
-use Rattle.spi_scope.specs.Parts.{numbered_message, step_span}
+use Rattle.spi_scope.specs.Parts.{numbered_message}
 use Rattle.spi_scope.specs.Points.{Point, uses_name, uses_type, declares_name, declares_type, ends_message, ends_type, adds, starts_step, msg_span, ty_span, msg_nodes, type_nodes, names_behind, types_behind, all_names, all_types}
 
 pub data Seen : Type 0 where
