@@ -1,18 +1,18 @@
 -- What the points add, and what they rule out: the process has at most as many nodes as were counted, and its messages
 -- and types are small.
-use Rattle.std.proofs.Common.{◌≡◌, ℕ, zero, suc, ◌+◌, ◌<◌, ◌≤◌, List, [], ◌∷◌, ◌++◌, length, refl, sym, ap, ◌∙◌, subst, arith, ⊎_elim, cond, Bool, true, false}
-use Rattle.std.specs.Prelude.{Option, Some, None, Result, Ok, Err, nat_lt, if◌then◌else◌}
-use Rattle.std.proofs.lemmas.Bool.{cases_lt, lt-ltb, le-ltb}
+use Rattle.std.proofs.Common.{◌≡◌, ℕ, ◌+◌, ◌<◌, ◌≤◌, List, [], ◌∷◌, ◌++◌, length, refl, sym, ap, ◌∙◌, arith, ⊎_elim}
+use Rattle.std.specs.Prelude.{Option, Some, None, Ok, Err, if◌then◌else◌}
+use Rattle.std.proofs.lemmas.Bool.{cases_lt, lt-ltb}
 use Rattle.spi_text.specs.declared.lines.Span.{Span}
 use Rattle.spi_tree.specs.declared.tree.SWord.{SWord}
 use Rattle.spi_tree.specs.Trees as t
-use Rattle.spi_term.specs.Term.{Process, process_size}
+use Rattle.spi_term.specs.Term.{process_size}
 use Rattle.spi_term.specs.Spelling.{Shape, flat, stopped, HasFewMessage, HasFewTy, HaveSmallParts}
 use Rattle.spi_scope.specs.declared.fault.ScopeFault.{ScopeFault}
 use Rattle.spi_scope.specs.declared.fault.ScopeFault.TheVariants.{MessageTooLarge, TypeTooLarge}
-use Rattle.spi_scope.specs.Scope.{Word, Names, Abbreviations}
+use Rattle.spi_scope.specs.Scope.{Names, Abbreviations}
 use Rattle.spi_scope.specs.Meaning.{message_in, type_in, process_in}
-use Rattle.spi_scope.specs.Points.{Point, uses_name, uses_type, declares_name, declares_type, ends_message, ends_type, adds, starts_step, Points, none, one, ◌⨾◌, fault_at, added, msg_nodes, type_nodes, msg_span, ty_span, whole_type, part, message_head, messages_head, typed_head, new_head, tested_head, split_head, match_head, process_points, free_points, with_free, decls_points, names_behind, types_behind, all_names}
+use Rattle.spi_scope.specs.Points.{uses_name, uses_type, declares_name, declares_type, ends_message, ends_type, adds, starts_step, Points, none, one, ◌⨾◌, fault_at, added, whole_type, part, message_head, messages_head, typed_head, new_head, tested_head, split_head, match_head, process_points, free_points, with_free, decls_points, types_behind, all_names}
 use Rattle.spi_scope.specs.Gives.{Ran, after, unless, run}
 use Rattle.spi_scope.proofs.Sizes.{message_sized, type_sized}
 

@@ -1,12 +1,11 @@
 -- Each tree stands for one file or has one first fault.
-use Rattle.std.proofs.Common.{◌≡◌, ℕ, List, [], length, reverse, refl, sym, ap, ◌∙◌, inl, inr, ⊎_elim}
+use Rattle.std.proofs.Common.{◌≡◌, ℕ, List, [], reverse, refl, sym, ap, ◌∙◌, inl, inr, ⊎_elim}
 use Rattle.std.specs.Prelude.{◌⊎◌, Option}
 use Rattle.spi_tree.specs.Trees as t
 use Rattle.spi_term.specs.Spelling.{Spelling}
 use Rattle.spi_run.specs.Reduction.{Step}
 use Rattle.spi_rules.specs.Derivations.{RuleUse}
 use Rattle.spi_scope.specs.declared.fault.ScopeFault.{ScopeFault}
-use Rattle.spi_scope.specs.Scope.{Names}
 use Rattle.spi_scope.specs.Points.{in_order, file_points, all_names, all_types}
 use Rattle.spi_scope.specs.First.{HasFirst}
 use Rattle.spi_scope.specs.StandsFor.{Meant, StandsFor, over_free, opponent_over, schedule_in, derivation_in}

@@ -1,6 +1,6 @@
 -- The points of a tree taken in order: nothing is wrong, or there is one first fault.
-use Rattle.std.proofs.Common.{◌≡◌, ℕ, zero, suc, ◌+◌, ◌≤◌, List, [], ◌∷◌, ◌++◌, length, refl, sym, ap, ◌∙◌, subst, arith, add-zero, inl, inr, ⊎_elim, append_assoc}
-use Rattle.std.specs.Prelude.{◌⊎◌, Option, Some, None, Result, Ok, Err}
+use Rattle.std.proofs.Common.{◌≡◌, ℕ, ◌+◌, List, [], ◌∷◌, ◌++◌, refl, sym, ap, ◌∙◌, arith, add-zero, inl, inr, ⊎_elim}
+use Rattle.std.specs.Prelude.{◌⊎◌, Option, Some, None, Ok, Err}
 use Rattle.spi_scope.specs.declared.fault.ScopeFault.{ScopeFault}
 use Rattle.spi_scope.specs.Points.{Point, Points, none, one, ◌⨾◌, in_order, fault_at, added}
 use Rattle.spi_scope.specs.First.{count, Clean, IsFirst}
@@ -79,7 +79,7 @@ first_from (p ∷ ps) c f e = by (fault_at c p) refl (λ k. first_from ps (c + a
           after = r.after;
           cut = ap (λ l. p ∷ l) r.cut;
           clean = (h, r.clean);
-          wrong = ap (λ d. fault_at d r.at) n ∙ r.wrong
+          wrong = ap (λ d. fault_at d r.at) n ∙ r.wrong;
         }
     by (Some g) h k =
         let z : Err g ≡ Err f = sym (ap (λ o. after (unless o (c + added p)) (run_list ps)) h) ∙ e in
@@ -90,7 +90,7 @@ first_from (p ∷ ps) c f e = by (fault_at c p) refl (λ k. first_from ps (c + a
           after = ps;
           cut = refl;
           clean = tt;
-          wrong = ap (λ d. fault_at d p) (add-zero c) ∙ h ∙ ap (λ x. Some x) q
+          wrong = ap (λ d. fault_at d p) (add-zero c) ∙ h ∙ ap (λ x. Some x) q;
         }
 
 pub is_first : (ps : Points) (f : ScopeFault) → run ps 0 ≡ Err f → IsFirst (in_order ps) f

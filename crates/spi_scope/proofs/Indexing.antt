@@ -1,12 +1,12 @@
 -- A bound name as the number of its binder, and as an index: the process over k names that the nodes of a tree spell.
-use Rattle.std.proofs.Common.{◌≡◌, ℕ, zero, suc, ◌+◌, ◌-◌, ◌<◌, ◌≤◌, Bool, true, false, cond, List, [], ◌∷◌, ◌++◌, length, map, refl, sym, ap, ◌∙◌, subst, arith, ⊎_elim}
-use Rattle.std.specs.Prelude.{Option, Some, None, IfSome, nat_lt, if◌then◌else◌}
+use Rattle.std.proofs.Common.{◌≡◌, ℕ, suc, ◌+◌, ◌-◌, ◌<◌, ◌≤◌, Bool, true, false, cond, List, [], ◌∷◌, ◌++◌, length, map, refl, sym, ap, ◌∙◌, subst, arith, ⊎_elim}
+use Rattle.std.specs.Prelude.{Option, Some, None, IfSome, if◌then◌else◌}
 use Rattle.std.specs.Str.{bytes_eq}
 use Rattle.std.proofs.lemmas.Bool.{cases_lt, lt-ltb, le-ltb}
 use Rattle.spi_tree.specs.Trees as t
-use Rattle.spi_term.specs.Term.{Message, bound, name, unit, pair, in_left, in_right, enc, hash, Atom, ends, checks, many, Effect, Ty, un, unit_ty, pair_ty, sum_ty, key, nonce, Leaf, Sends, Stops, Prefix, Recvs, Serves, Splits, Selects, Decrypts, Checks, Begins, Ends, EndManys, Casts, Makes, Fork, Cases, Pars, Process, leaf, prefix, fork, binds, fork_binds}
-use Rattle.spi_term.specs.Substitution.{effect_map, ty_map, leaf_map, prefix_map, fork_map}
-use Rattle.spi_term.specs.Names.{MessageOver, OfAtom, OfEffect, OfTy, TyOver, ProcessOver, OfLeaf, OfPrefix, OfFork}
+use Rattle.spi_term.specs.Term.{Message, bound, name, unit, pair, in_left, in_right, enc, hash, ends, checks, many, Effect, Ty, un, unit_ty, pair_ty, sum_ty, key, nonce, Sends, Prefix, Recvs, Serves, Splits, Selects, Decrypts, Checks, Begins, Ends, EndManys, Casts, Makes, Fork, Cases, Pars, Process, leaf, prefix, fork}
+use Rattle.spi_term.specs.Substitution.{effect_map, ty_map, leaf_map}
+use Rattle.spi_term.specs.Names.{MessageOver, OfAtom, OfEffect, OfTy, TyOver, ProcessOver}
 use Rattle.spi_term.specs.Spelling.{index_message, indexed, flat, numbered, Spells}
 use Rattle.spi_term.specs.Arena.{InScope}
 use Rattle.spi_term.proofs.Numbers.{number_index, over_indexed}
@@ -337,6 +337,7 @@ nodes_spell ts xs o p =
     let z : k ≡ k + 0 = omega arith in
     let l : k ≤ k = omega arith in
     let e : indexed k k q ≡ process_over k ts xs p = index_process k k l ts o xs refl p in
-    let scoped : InScope k q = in_scope k ts o k l xs refl p in
-    (subst (ProcessOver k) e (over_indexed k 0 k z q scoped),
-     ap (λ (r : Process). flat 0 k (numbered [] k r)) (sym e) ∙ ap (flat 0 k) (number_index k 0 k z q scoped))
+    let scoped : InScope k q = in_scope k ts o k l xs refl p in (
+      subst (ProcessOver k) e (over_indexed k 0 k z q scoped),
+      ap (λ (r : Process). flat 0 k (numbered [] k r)) (sym e) ∙ ap (flat 0 k) (number_index k 0 k z q scoped),
+    )

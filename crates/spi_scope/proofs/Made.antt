@@ -1,10 +1,10 @@
 -- The process that the nodes of a tree make.
-use Rattle.std.proofs.Common.{◌≡◌, ℕ, ◌+◌, ◌≤◌, List, [], length, map, refl, sym, ap, ◌∙◌, subst, arith}
+use Rattle.std.proofs.Common.{◌≡◌, ℕ, ◌≤◌, List, [], length, map, sym, ap, ◌∙◌, subst, arith}
 use Rattle.std.specs.Prelude.{Ok}
 use Rattle.std.proofs.lemmas.List.{length-map}
 use Rattle.spi_tree.specs.Trees as t
 use Rattle.spi_term.specs.Term.{Process, process_size}
-use Rattle.spi_term.specs.Spelling.{Shape, Spelling, Spells, flat, spelled}
+use Rattle.spi_term.specs.Spelling.{Spelling, Spells, flat}
 use Rattle.spi_term.specs.View.{shape_of, shapes_of}
 use Rattle.spi_term.specs.declared.term.Node.{Node}
 use Rattle.spi_term.proofs.Rows.{length_flat}
@@ -16,7 +16,7 @@ use Rattle.spi_scope.specs.Gives.{run}
 use Rattle.spi_scope.specs.Over.{AreOver}
 use Rattle.spi_scope.specs.StandsFor.{over_free}
 use Rattle.spi_scope.proofs.Closing.{shapes_are}
-use Rattle.spi_scope.proofs.Counting.{weight, run_weight, process_weighs, names_weigh}
+use Rattle.spi_scope.proofs.Counting.{run_weight, process_weighs, names_weigh}
 use Rattle.spi_scope.proofs.Indexing.{nodes_spell, all_over}
 
 module _ (ts : Abbreviations) (xs : Names) (p : t.Proc) (ns : List Node) (nodes : map shape_of ns ≡ flat 0 (length xs) (process_in (λ i. i) ts xs p)) where

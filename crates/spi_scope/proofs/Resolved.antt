@@ -1,5 +1,5 @@
 -- What the declarations and what comes behind them say together.
-use Rattle.std.proofs.Common.{◌≡◌, ℕ, [], sym, ap, ◌∙◌, subst, inl, inr, ⊎_elim}
+use Rattle.std.proofs.Common.{◌≡◌, ℕ, [], sym, ap, ◌∙◌, inl, inr, ⊎_elim}
 use Rattle.std.specs.Prelude.{◌⊎◌, Ok, Err}
 use Rattle.spi_tree.specs.Trees as t
 use Rattle.spi_scope.specs.declared.fault.ScopeFault.{ScopeFault}

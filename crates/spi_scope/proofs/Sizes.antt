@@ -1,15 +1,14 @@
 -- Counts of nodes, and what is wrong where they are tested.
-use Rattle.std.proofs.Common.{◌≡◌, ℕ, suc, ◌+◌, ◌-◌, ◌<◌, ◌≤◌, List, [], ◌∷◌, ◌++◌, length, map, drop, Bool, true, false, refl, sym, ap, ◌∙◌, arith, add-zero}
-use Rattle.std.specs.Prelude.{Option, Some, None, Result, Ok, Err, nat_lt, if◌then◌else◌}
+use Rattle.std.proofs.Common.{◌≡◌, ℕ, suc, ◌+◌, ◌-◌, ◌<◌, ◌≤◌, List, [], ◌∷◌, length, Bool, true, false, refl, sym, ap, ◌∙◌, arith, add-zero}
+use Rattle.std.specs.Prelude.{Option, Some, None, Ok, Err, nat_lt, if◌then◌else◌}
 use Rattle.std.proofs.lemmas.Bool.{lt-ltb, le-ltb}
-use Rattle.std.proofs.lemmas.List.{length-append, append_assoc}
 use Rattle.spi_text.specs.declared.lines.Span.{Span}
 use Rattle.spi_tree.specs.Trees as t
-use Rattle.spi_term.specs.Term.{Message, name, bound, message_size, Ty}
+use Rattle.spi_term.specs.Term.{name, bound, message_size}
 use Rattle.spi_term.specs.Spelling.{atom_nodes, effect_nodes, ty_nodes, stopped}
 use Rattle.spi_scope.specs.declared.fault.ScopeFault.TheVariants.{MessageTooLarge, TypeTooLarge, FileTooLarge, ScheduleTooLong}
-use Rattle.spi_scope.specs.Scope.{Names, number_of, Abbreviations, type_of, outer}
-use Rattle.spi_scope.specs.Meaning.{named, nested, message_in, messages_in, atom_in, effect_in, nested_types, type_in, fields_in, last_in, behind}
+use Rattle.spi_scope.specs.Scope.{Names, number_of, Abbreviations}
+use Rattle.spi_scope.specs.Meaning.{named, message_in, messages_in, atom_in, effect_in, type_in, fields_in, last_in, behind}
 use Rattle.spi_scope.specs.Points.{msg_nodes, type_nodes, fault_at, ends_message, ends_type, adds, starts_step}
 use Rattle.spi_scope.specs.Gives.{unless}
 use Rattle.spi_scope.specs.State.{row_nodes, type_row_nodes}

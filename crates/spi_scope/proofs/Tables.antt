@@ -1,6 +1,6 @@
 -- The table of names after a name comes into scope or goes out of it.
-use Rattle.std.proofs.Common.{◌≡◌, ℕ, zero, suc, drop, ◌-◌, ◌+◌, ◌^◌, ◌<◌, List, [], ◌∷◌, ◌++◌, length, reverse, map, Bool, true, false, cond, refl, sym, ap, ◌∙◌, subst, arith}
-use Rattle.std.specs.Prelude.{Option, Some, None, if◌then◌else◌, slice_get, IfSome, Result, Ok, Err, OnOk, OnErr}
+use Rattle.std.proofs.Common.{◌≡◌, ℕ, zero, suc, drop, ◌-◌, ◌+◌, ◌^◌, ◌<◌, List, [], ◌∷◌, ◌++◌, length, reverse, Bool, true, false, cond, refl, sym, ap, ◌∙◌, subst, arith}
+use Rattle.std.specs.Prelude.{Option, Some, None, slice_get, IfSome, Result, Ok, Err, OnOk, OnErr}
 use Rattle.std.specs.declared.alloc.AllocError.{AllocError}
 use Rattle.spi_scope.specs.Chains.{chain_at, found}
 use Rattle.std.specs.Str.{bytes_eq}
@@ -30,7 +30,7 @@ entered m n es e number k u h p few = record {
       ∙ ap (λ a. cond (bytes_eq e.word.now w) (Some a) (number_of (spellings (reverse es)) w)) (p ∙ sym (many_names es))
       ∙ ap (λ r. number_of (spellings r) w) (sym (reverse_push es e));
   hide = subst Hide (sym (reverse_push es e)) (h, k.hide);
-  few = omega (arith, length-append es (e ∷ []))
+  few = omega (arith, length-append es (e ∷ []));
 }
 
 pub hidden_is : {S : Type 0} (m : IndexMap (Bor (List ℕ)) ℕ S) (es : List Held) (e : Held) → Keeps m (es ++ e ∷ []) → e.before ≡ number_of (spellings (reverse es)) e.word.now
@@ -40,7 +40,7 @@ pub left : {S : Type 0} (m n : IndexMap (Bor (List ℕ)) ℕ S) (es : List Held)
 left m n es e k u = record {
   finds = λ w. hash_map_updates_str e.word.now m n e.before u w ∙ ap (λ a. cond (bytes_eq e.word.now w) e.before a) (before w) ∙ shown w (bytes_eq e.word.now w) refl;
   hide = (subst Hide (reverse_push es e) k.hide).1;
-  few = omega (arith, k.few, length-append es (e ∷ []))
+  few = omega (arith, k.few, length-append es (e ∷ []));
 }
   where
     before : (w : Word) → get_by (λ k. bytes_eq w k.now) m ≡ cond (bytes_eq e.word.now w) (Some (length (spellings (reverse es)))) (number_of (spellings (reverse es)) w)
@@ -56,8 +56,8 @@ pub present : {S : Type 0} (m : IndexMap (Bor (List ℕ)) ℕ S) (es : List Held
 present m es e k q =
     let same : bytes_eq e.word.now e.word.now ≡ true = (bytes_eq-Decides e.word.now e.word.now).1 refl in
     let f : Some (length (spellings (reverse es))) ≡ None =
-        ap (λ b. cond b (Some (length (spellings (reverse es)))) (number_of (spellings (reverse es)) e.word.now)) (sym same)
-        ∙ ap (λ r. number_of (spellings r) e.word.now) (sym (reverse_push es e)) ∙ sym (k.finds e.word.now) ∙ q in
+    ap (λ b. cond b (Some (length (spellings (reverse es)))) (number_of (spellings (reverse es)) e.word.now)) (sym same)
+    ∙ ap (λ r. number_of (spellings r) e.word.now) (sym (reverse_push es e)) ∙ sym (k.finds e.word.now) ∙ q in
     cc
 
 pub number_below : (xs : Names) (w : Word) → IfSome (number_of xs w) (λ n. n < length xs)
@@ -104,7 +104,7 @@ pub begin_pushed : (cs : List Names) (old new : List Held) (w : Word) (chain : �
 begin_pushed cs old new w chain b p e =
     let xs = spellings (reverse old) in
     let g : slice_get (cs ++ (w ∷ xs) ∷ []) p.held.chain ≡ Some (p.held.word.now ∷ xs) =
-        get_last cs (w ∷ xs) p.held.chain (p.its_chain ∙ e) ∙ ap (λ x. Some (x ∷ xs)) (sym p.word) in
+    get_last cs (w ∷ xs) p.held.chain (p.its_chain ∙ e) ∙ ap (λ x. Some (x ∷ xs)) (sym p.word) in
     subst (Begin (cs ++ (w ∷ xs) ∷ [])) (sym (ap reverse p.is ∙ reverse_push old p.held)) (g, begin_more cs ((w ∷ xs) ∷ []) (reverse old) b)
 
 pub begin_popped : (cs : List Names) (old new : List Held) → Begin cs (reverse old) → IsPopped old new → Begin cs (reverse new)

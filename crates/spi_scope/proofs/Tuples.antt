@@ -1,13 +1,13 @@
 -- A tuple is read by its components.
-use Rattle.std.proofs.Common.{◌≡◌, ℕ, suc, ◌+◌, ◌-◌, ◌≤◌, List, [], ◌∷◌, ◌++◌, length, map, drop, refl, sym, ap, ◌∙◌, subst, arith}
-use Rattle.std.specs.Prelude.{Result, Ok}
+use Rattle.std.proofs.Common.{◌≡◌, ℕ, suc, ◌+◌, ◌-◌, ◌≤◌, List, [], ◌∷◌, ◌++◌, length, drop, refl, sym, ap, ◌∙◌, subst, arith}
+use Rattle.std.specs.Prelude.{Ok}
 use Rattle.spi_text.specs.declared.lines.Span.{Span}
 use Rattle.spi_tree.specs.Trees as t
 use Rattle.spi_term.specs.Term.{Message, message_size, Ty}
 use Rattle.spi_term.specs.Spelling.{ty_nodes, stopped}
-use Rattle.spi_scope.specs.Scope.{Names, Abbreviations}
+use Rattle.spi_scope.specs.Scope.{Names}
 use Rattle.spi_scope.specs.Meaning.{nested, nested_types, message_in, messages_in, type_in, fields_in, last_in, behind}
-use Rattle.spi_scope.specs.Points.{Points, message_points, messages_points, type_points, fields_points, last_points, ◌⨾◌}
+use Rattle.spi_scope.specs.Points.{message_points, messages_points, type_points, fields_points, last_points, ◌⨾◌}
 use Rattle.spi_scope.specs.Gives.{Ran, after, run}
 use Rattle.spi_scope.specs.State.{abbreviations, row_nodes, type_row_nodes}
 use Rattle.spi_scope.specs.Table.{Naming, with_names}
@@ -30,13 +30,14 @@ pub message_tuple : (base spent c : ℕ) (xs : Names) (s : Span) (a b : t.Msg) (
     → Counted row_nodes zs n3 (run (messages_points xs ms) c) c n2 (messages_in base xs ms)
     → (n3 ≤ 1000 → whole ≡ nested x (y ∷ zs))
     → Counted message_size whole n3 (run (message_points xs (t.tuple s a b ms)) c) c spent (message_in base xs (t.tuple s a b ms))
-message_tuple base spent c xs s a b ms n0 n1 n2 n3 x y zs whole h1 e h2 h3 w =
-    (ap (λ r. after r (run (message_points xs b ⨾ messages_points xs ms))) h1.0 ∙ ap (λ r. after r (run (messages_points xs ms))) h2.0 ∙ h3.0,
-     omega (arith, h1.1, e, h2.1, h3.1, nested_nodes (message_in base xs a) (message_in base xs b ∷ messages_in base xs ms)),
-     λ few.
-       let l2 : n2 ≤ 1000 = omega (arith, few, h3.1) in
-       let l1 : n1 ≤ 1000 = omega (arith, l2, h2.1, e) in
-       w few ∙ ap (λ r. nested r (y ∷ zs)) (h1.2 l1) ∙ ap (λ r. nested (message_in base xs a) (r ∷ zs)) (h2.2 l2) ∙ ap (λ r. nested (message_in base xs a) (message_in base xs b ∷ r)) (h3.2 few))
+message_tuple base spent c xs s a b ms n0 n1 n2 n3 x y zs whole h1 e h2 h3 w = (
+  ap (λ r. after r (run (message_points xs b ⨾ messages_points xs ms))) h1.0 ∙ ap (λ r. after r (run (messages_points xs ms))) h2.0 ∙ h3.0,
+  omega (arith, h1.1, e, h2.1, h3.1, nested_nodes (message_in base xs a) (message_in base xs b ∷ messages_in base xs ms)),
+  λ few.
+      let l2 : n2 ≤ 1000 = omega (arith, few, h3.1) in
+      let l1 : n1 ≤ 1000 = omega (arith, l2, h2.1, e) in
+      w few ∙ ap (λ r. nested r (y ∷ zs)) (h1.2 l1) ∙ ap (λ r. nested (message_in base xs a) (r ∷ zs)) (h2.2 l2) ∙ ap (λ r. nested (message_in base xs a) (message_in base xs b ∷ r)) (h3.2 few),
+)
 
 pub nested_types_nodes : (bs : List Ty) (z : Ty) → ty_nodes (nested_types bs z) ≡ type_row_nodes bs + ty_nodes z
 nested_types_nodes [] z = omega arith
@@ -90,10 +91,11 @@ module _ (base spent : ℕ) (p : Span) (w : SWord) (a : t.Ty) (fs : t.Fields) (l
       let e3 : s2 ≡ in_names s (behind (w.word ∷ s.held.names) fs) = e2 ∙ ap (λ (r : Scope). in_names r (behind r.held.names fs)) e1 in
       let g3 : CountedLast base n2 n3 k3 l (in_names s (behind (w.word ∷ s.held.names) fs)) = subst (CountedLast base n2 n3 k3 l) e3 h3 in
       let ts = abbreviations s.types in
-      let c1 = h1.1 in let c2 = g2.1 in let c3 = g3.1 in
-      (rw (h1.0, g2.0) g3.0,
-       tuple_counts spent n1 n2 n3 (type_in base ts s.held.names a) (fields_in base ts (w.word ∷ s.held.names) fs) (last_in base ts (behind (w.word ∷ s.held.names) fs) l) c1 c2 c3,
-       λ q. f q ∙ rw (h1.2 (omega arith), g2.2 (omega arith), g3.2 q) refl)
+      let c1 = h1.1 in let c2 = g2.1 in let c3 = g3.1 in (
+        rw (h1.0, g2.0) g3.0,
+        tuple_counts spent n1 n2 n3 (type_in base ts s.held.names a) (fields_in base ts (w.word ∷ s.held.names) fs) (last_in base ts (behind (w.word ∷ s.held.names) fs) l) c1 c2 c3,
+        λ q. f q ∙ rw (h1.2 (omega arith), g2.2 (omega arith), g3.2 q) refl,
+      )
 
   -- and behind it the names are as before
   pub tuple_left : t1 ≡ in_names s (w.word ∷ s.held.names) → s2 ≡ in_names t1 (behind t1.held.names fs) → (s3 : Scope) → s3 ≡ s2 → in_names s3 (drop (length s3.held.names - length s.held.names) s3.held.names) ≡ s

@@ -1,5 +1,5 @@
 -- Chains of spellings that share what they have in common: a link is a spelling and the number of an earlier chain.
-use Rattle.std.specs.Prelude.{◌≡◌, ℕ, ◌+◌, ◌<◌, List, [], ◌∷◌, ◌++◌, length, map, Option, Some, None, ⊤, slice_get, refl}
+use Rattle.std.specs.Prelude.{ℕ, ◌+◌, ◌<◌, List, [], ◌∷◌, ◌++◌, map, Option, Some, None, ⊤, slice_get, refl}
 use Rattle.std.specs.Coded.{Coded, coded_list, coded×, code_by}
 use Rattle.spi_scope.specs.Scope.{Word, Names}
 use Rattle.spi_scope.specs.Table.{coded_names}

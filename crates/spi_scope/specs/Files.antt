@@ -1,8 +1,7 @@
 -- What a file of the program means, and what it tells of its tree.
-use Rattle.std.specs.Prelude.{ℕ, List, [], map, Option, Some, None, slice_get}
+use Rattle.std.specs.Prelude.{List, [], map, Option, Some, None}
 use Rattle.spi_text.specs.declared.lines.Span.{Span}
 use Rattle.spi_tree.specs.Trees as t
-use Rattle.spi_term.specs.Spelling.{Spelling}
 use Rattle.std.specs.Global.{Vec}
 use Rattle.spi_run.specs.Reduction as Reduction
 use Rattle.spi_run.specs.View.{step}

@@ -3,7 +3,7 @@ use Rattle.std.specs.Prelude.{◌≡◌, ◌⊎◌, ℕ, ◌+◌, ◌≤◌, Opt
 use Rattle.spi_term.specs.Spelling.{stopped}
 use Rattle.spi_scope.specs.declared.fault.ScopeFault.{ScopeFault}
 use Rattle.spi_scope.specs.declared.fault.ScopeFault.TheVariants as faults
-use Rattle.spi_scope.specs.Points.{Point, fault_at, added, Points, none, one, ◌⨾◌}
+use Rattle.spi_scope.specs.Points.{fault_at, added, Points, none, one, ◌⨾◌}
 
 abbrev pub Ran : Type 0
 Ran = Result ℕ ScopeFault

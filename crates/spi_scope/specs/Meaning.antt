@@ -1,7 +1,6 @@
 -- What the messages, types and processes of a tree stand for. Where a name or an abbreviation is unknown they stand for
 -- something as well, so that these are functions: a file is only what stands for a tree that has no fault.
-use Rattle.std.specs.Prelude.{ℕ, suc, ◌-◌, nat_lt, List, [], ◌∷◌, ◌++◌, length, map, Option, Some, None, if◌then◌else◌}
-use Rattle.spi_text.specs.declared.lines.Span.{Span}
+use Rattle.std.specs.Prelude.{ℕ, suc, ◌-◌, nat_lt, List, [], ◌∷◌, length, map, Option, Some, None, if◌then◌else◌}
 use Rattle.spi_tree.specs.Trees as t
 use Rattle.spi_term.specs.Term.{Message, bound, name, unit, pair, in_left, in_right, enc, hash, Atom, ends, checks, many, Effect, Ty, un, unit_ty, pair_ty, sum_ty, key, nonce, Process, send, stop, recv, serve, split, select, decrypt, check, begin, end, end_many, cast, fresh, branch, par}
 use Rattle.spi_scope.specs.Scope.{Names, number_of, Abbreviations, type_of}

@@ -1,5 +1,5 @@
 -- The types that abbreviations stand for are over so many names, and have no loose index.
-use Rattle.std.specs.Prelude.{ℕ, List, [], ◌∷◌, ⊤}
+use Rattle.std.specs.Prelude.{ℕ, [], ◌∷◌, ⊤}
 use Rattle.spi_term.specs.Names.{TyOver}
 use Rattle.spi_scope.specs.Scope.{Abbreviations}
 

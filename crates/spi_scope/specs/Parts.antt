@@ -1,5 +1,5 @@
 -- What the schedule and the derivation of a tree stand for.
-use Rattle.std.specs.Prelude.{ℕ, List, [], ◌∷◌, ◌++◌, map, Option, Some, None}
+use Rattle.std.specs.Prelude.{List, [], ◌∷◌, ◌++◌, map, Option, Some, None}
 use Rattle.spi_text.specs.declared.lines.Span.{Span}
 use Rattle.spi_tree.specs.Trees as t
 use Rattle.spi_term.specs.Term.{Message, name, unit, in_left, in_right, enc, hash, Atom, ends, checks, many, Effect}

@@ -1,5 +1,5 @@
 -- What the program's own values say of the scope, of rows of terms, and of a file.
-use Rattle.std.specs.Prelude.{◌≡◌, ℕ, suc, ◌+◌, ◌≤◌, List, [], ◌∷◌, map, Option, Some, None, Result, Ok, Err}
+use Rattle.std.specs.Prelude.{ℕ, suc, ◌+◌, List, [], ◌∷◌, map}
 use Rattle.indexmap.specs.IndexMap.{IndexMap}
 use denote.Ref.{Bor}
 use Rattle.spi_term.specs.Term.{Message, message_size, Ty}

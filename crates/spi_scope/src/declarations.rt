@@ -15,11 +15,7 @@ use spi_tree::{Decl, STy, SWord};
 use std::alloc::Global;
 
 /// One more free name.
-fn declare_name<'t>(
-    alloc: Global,
-    scope: &mut Scope<'t>,
-    word: &'t SWord,
-) -> Result<(), ScopeFault>
+fn declare_name<'t>(alloc: Global, scope: &mut Scope<'t>, word: &'t SWord) -> Result<(), ScopeFault>
     requires few { scope.old.count ≤ 100000 }
     ensures gives { Goes result (run (free_point scope.old.held.names word.entry.now) scope.old.count) scope.new.count }
     ensures names { OnOk result (scope.new.held.names ≡ word.entry.now.word ∷ scope.old.held.names) }
@@ -87,11 +83,7 @@ fn declare_type<'t>(
 }
 
 /// One more declaration.
-fn declare<'t>(
-    alloc: Global,
-    scope: &mut Scope<'t>,
-    decl: &'t Decl,
-) -> Result<(), ScopeFault>
+fn declare<'t>(alloc: Global, scope: &mut Scope<'t>, decl: &'t Decl) -> Result<(), ScopeFault>
     requires few { scope.old.count ≤ 100000 }
     ensures gives { Goes result (run (decl_points (abbreviations scope.old.types) scope.old.held.names (decl_of decl.entry.now)) scope.old.count) scope.new.count }
     ensures names { OnOk result (scope.new.held.names ≡ names_behind scope.old.held.names (decl_of decl.entry.now)) }

@@ -71,11 +71,7 @@ fn read_numbered(alloc: Global, spent: u64, m: &SMsg) -> Result<(Msg, u64), NoMe
 
 /// The components of a tuple but the first two, with their nodes and those of the pairs counted on.
 #[cycle(numbered)]
-fn read_all_numbered(
-    alloc: Global,
-    spent: u64,
-    ms: &[SMsg],
-) -> Result<(Vec<Msg>, u64), NoMemory>
+fn read_all_numbered(alloc: Global, spent: u64, ms: &[SMsg]) -> Result<(Vec<Msg>, u64), NoMemory>
     ensures counted { IfOk result (λ x. x.1 ≡ stopped (spent + row_nodes (numbered_messages (msgs_of_list (map msg_of ms.now))))) }
     ensures read { IfOk result (λ x. x.1 ≤ 1000 → map message x.0.items ≡ numbered_messages (msgs_of_list (map msg_of ms.now))) }
 {

@@ -37,12 +37,7 @@ pub fn add(scope: &mut Scope, nodes: u64, span: Span) -> Result<(), ScopeFault>
 
 /// An outermost message.
 #[tactic(auto, unfolding(crate::specs::Points::part))]
-fn read_part(
-    alloc: Global,
-    scope: &mut Scope,
-    base: u32,
-    m: &SMsg,
-) -> Result<Msg, ScopeFault>
+fn read_part(alloc: Global, scope: &mut Scope, base: u32, m: &SMsg) -> Result<Msg, ScopeFault>
     requires few { scope.old.count ≤ 100000 }
     ensures gives { Gives message result (run (part scope.old.held.names (msg_of m.now)) scope.old.count) scope.new.count (message_in base scope.old.held.names (msg_of m.now)) }
     ensures held { OnOk result (scope.new.held ≡ scope.old.held) }

@@ -54,7 +54,13 @@ fn read_name(
 }
 
 /// The components of a tuple, nested to the right where there are few enough nodes.
-pub fn nest(alloc: Global, total: u64, first: Msg, second: Msg, more: Vec<Msg>) -> Result<Msg, AllocError>
+pub fn nest(
+    alloc: Global,
+    total: u64,
+    first: Msg,
+    second: Msg,
+    more: Vec<Msg>,
+) -> Result<Msg, AllocError>
     ensures { IfOk result (λ m. total ≤ 1000 → message m ≡ nested (message first) (message second ∷ map message more.items)) }
 {
     if total > 1000 {
@@ -98,7 +104,13 @@ pub fn read_message(
             ..
         } => {
             let (first, total) = read_message(alloc, scope, base, spent, first)?;
-            let (second, total) = read_message(alloc, scope, base, total.saturating_add(1), second)?;
+            let (second, total) = read_message(
+                alloc,
+                scope,
+                base,
+                total.saturating_add(1),
+                second,
+            )?;
             let (more, total) = read_messages(alloc, scope, base, total, more)?;
             let whole = nest(alloc, total, first, second, more)?;
             Ok((whole, total))

@@ -6,8 +6,8 @@ ghost use Rattle.spi_scope.specs.Table.{Keeps, IsPushed, IsPopped, top, with_nam
 
 use crate::NoMemory;
 use crate::trail::{Scopes, Trail};
-use spi_text::Text;
 use indexmap::IndexMap;
+use spi_text::Text;
 use std::alloc::{AllocError, Global};
 use std::marker::Model;
 

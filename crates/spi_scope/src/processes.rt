@@ -13,7 +13,10 @@ ghost use Rattle.spi_scope.specs.State.{abbreviations};
 
 use crate::arena::{Arena, close, here, push};
 use crate::fault::ScopeFault;
-use crate::heads::{add, read_annotation, read_match_head, read_message_head, read_messages_head, read_new_head, read_split_head, read_tested_head, read_typed_head};
+use crate::heads::{
+    add, read_annotation, read_match_head, read_message_head, read_messages_head, read_new_head,
+    read_split_head, read_tested_head, read_typed_head,
+};
 use crate::scope::Scope;
 use spi_term::Form;
 use spi_tree::SProc;
@@ -105,9 +108,22 @@ pub fn read_process<'t>(
             then,
             span,
         } => {
-            let (whole, first, second) = read_split_head(alloc, scope, base, *span, whole, left, left_ty, right_ty)?;
+            let (whole, first, second) = read_split_head(
+                alloc, scope, base, *span, whole, left, left_ty, right_ty,
+            )?;
             let body = at + 1;
-            push(scope, arena, base, Form::Split { whole, first, second, body }, *span)?;
+            push(
+                scope,
+                arena,
+                base,
+                Form::Split {
+                    whole,
+                    first,
+                    second,
+                    body,
+                },
+                *span,
+            )?;
             scope.held.bind(left.word.as_str())?;
             scope.held.bind(right.word.as_str())?;
             read_process(alloc, scope, arena, then)?;
@@ -125,9 +141,23 @@ pub fn read_process<'t>(
             then,
             span,
         } => {
-            let (whole, first, equal, second) = read_match_head(alloc, scope, base, *span, whole, left, left_ty, equal, right_ty)?;
+            let (whole, first, equal, second) = read_match_head(
+                alloc, scope, base, *span, whole, left, left_ty, equal, right_ty,
+            )?;
             let body = at + 1;
-            push(scope, arena, base, Form::Select { whole, first, equal, second, body }, *span)?;
+            push(
+                scope,
+                arena,
+                base,
+                Form::Select {
+                    whole,
+                    first,
+                    equal,
+                    second,
+                    body,
+                },
+                *span,
+            )?;
             scope.held.bind(right.word.as_str())?;
             read_process(alloc, scope, arena, then)?;
             scope.held.unbind();
@@ -151,7 +181,18 @@ pub fn read_process<'t>(
             let (right, _) = read_annotation(alloc, scope, base, right_ty)?;
             let on_right = here(arena)?;
             let on_left = at + 1;
-            close(arena, at as usize, base, Form::Branch { whole, left: left_ty, on_left, right, on_right });
+            close(
+                arena,
+                at as usize,
+                base,
+                Form::Branch {
+                    whole,
+                    left: left_ty,
+                    on_left,
+                    right,
+                    on_right,
+                },
+            );
             scope.held.bind(other.word.as_str())?;
             read_process(alloc, scope, arena, second)?;
             scope.held.unbind();
@@ -167,7 +208,18 @@ pub fn read_process<'t>(
         } => {
             let (whole, ty, key) = read_tested_head(alloc, scope, base, *span, whole, ty, key)?;
             let body = at + 1;
-            push(scope, arena, base, Form::Decrypt { whole, ty, key, body }, *span)?;
+            push(
+                scope,
+                arena,
+                base,
+                Form::Decrypt {
+                    whole,
+                    ty,
+                    key,
+                    body,
+                },
+                *span,
+            )?;
             scope.held.bind(name.word.as_str())?;
             read_process(alloc, scope, arena, then)?;
             scope.held.unbind();
@@ -181,7 +233,13 @@ pub fn read_process<'t>(
         } => {
             let (whole, nonce) = read_messages_head(alloc, scope, base, *span, whole, nonce)?;
             let body = at + 1;
-            push(scope, arena, base, Form::Check { whole, nonce, body }, *span)?;
+            push(
+                scope,
+                arena,
+                base,
+                Form::Check { whole, nonce, body },
+                *span,
+            )?;
             read_process(alloc, scope, arena, then)
         }
         SProc::Begin { label, then, span } => {
@@ -237,7 +295,15 @@ pub fn read_process<'t>(
             add(scope, 1, *span)?;
             let next = here(arena)?;
             let body = at + 1;
-            close(arena, at as usize, base, Form::Par { first: body, rest: next });
+            close(
+                arena,
+                at as usize,
+                base,
+                Form::Par {
+                    first: body,
+                    rest: next,
+                },
+            );
             read_process(alloc, scope, arena, rest)
         }
         SProc::Group { first, rest, span } => {
@@ -246,7 +312,15 @@ pub fn read_process<'t>(
             add(scope, 1, *span)?;
             let next = here(arena)?;
             let body = at + 1;
-            close(arena, at as usize, base, Form::Par { first: body, rest: next });
+            close(
+                arena,
+                at as usize,
+                base,
+                Form::Par {
+                    first: body,
+                    rest: next,
+                },
+            );
             read_process(alloc, scope, arena, rest)
         }
     }

@@ -57,12 +57,7 @@ pub fn read_whole(
 }
 
 /// An atom, with the nodes of its message.
-fn read_atom(
-    alloc: Global,
-    scope: &Scope,
-    base: u32,
-    a: &SAtom,
-) -> Result<(Atom, u64), ScopeFault>
+fn read_atom(alloc: Global, scope: &Scope, base: u32, a: &SAtom) -> Result<(Atom, u64), ScopeFault>
     ensures gives { Gives (λ x. atom x.0) result (run (atom_points scope.now.held.names (atom_of a.now)) scope.now.count) scope.now.count (atom_in base scope.now.held.names (atom_of a.now)) }
     ensures nodes { IfOk result (λ x. (x.1 + 1 ≡ atom_nodes (atom_in base scope.now.held.names (atom_of a.now))) × (x.1 ≤ 200)) }
 {

@@ -14,5 +14,5 @@ invariant-loop-decl l =
       names : all_names l.scope.held.names rest ≡ all_names l.fn.scope.held.names all;
       noted : l.scope.held.noted ≡ l.fn.scope.held.noted;
       types : all_types (abbreviations l.scope.types) l.scope.held.names rest ≡ all_types (abbreviations l.fn.scope.types) l.fn.scope.held.names all;
-      few : l.scope.count ≤ 100000
+      few : l.scope.count ≤ 100000;
     }

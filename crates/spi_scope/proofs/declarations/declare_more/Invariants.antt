@@ -9,5 +9,5 @@ invariant-loop-word l = record {
   names : with_free l.scope.held.names (drop l.word-index l.more) ≡ with_free l.fn.scope.held.names l.more;
   noted : l.scope.held.noted ≡ l.fn.scope.held.noted;
   types : l.scope.types ≡ l.fn.scope.types;
-  few : l.scope.count ≤ 100000
+  few : l.scope.count ≤ 100000;
 }

@@ -1,5 +1,5 @@
 use Rattle.std.proofs.Common.{◌≡◌, ◌∷◌, ◌++◌, [], List, map, ℕ, length, sym, ap, ◌∙◌, inr}
-use Rattle.std.specs.Prelude.{Some, None, Ok, Err}
+use Rattle.std.specs.Prelude.{Some, None, Err}
 use Rattle.std.specs.Option.{option_map}
 use Rattle.std.specs.Str.{bytes_eq}
 use Rattle.std.proofs.lemmas.List.{map_push}
@@ -11,7 +11,7 @@ use Rattle.spi_term.specs.Term as Term
 use Rattle.spi_term.specs.View.{ty}
 use Rattle.spi_scope.specs.declared.scope.Abbr.{Abbr}
 use Rattle.spi_scope.specs.declared.fault.ScopeFault.TheVariants.{TypeTwice}
-use Rattle.spi_scope.specs.Scope.{Abbreviation, type_of}
+use Rattle.spi_scope.specs.Scope.{type_of}
 use Rattle.spi_scope.specs.Meaning.{type_in}
 use Rattle.spi_scope.specs.Points.{one, declares_type, whole_type}
 use Rattle.spi_scope.specs.Gives.{Ran, after, run}
@@ -25,7 +25,7 @@ returns-in_err-ty-in-None-clause-gives c =
     let ts = abbreviations s.types in
     let w = c.args.word.now in
     let f : type_of ts w.word ≡ None =
-        ap (type_of ts) (sym c.as_str-text.ensures) ∙ type_is_found s.types.entries c.as_str-text.result.now ∙ ap (option_map (λ (a : Abbr). ty a.ty)) (sym c.in-None.ensures.value) in
+    ap (type_of ts) (sym c.as_str-text.ensures) ∙ type_is_found s.types.entries c.as_str-text.result.now ∙ ap (option_map (λ (a : Abbr). ty a.ty)) (sym c.in-None.ensures.value) in
     let p = err_from_is_err_and c.from_residual-in_err-ty-in-None.result c.from_residual-in_err-ty-in-None.ensures.1 in
     rw (p.1, p.2) (fails_behind _ (run (one (declares_type ts w)) s.count) s.count (run (whole_type ts s.held.names (ty_of c.args.ty.now))) (new_type ts w s.count f) c.in_err-ty-in-None.ensures.gives)
 
@@ -35,7 +35,7 @@ returns-in_ok-of-in-Some-clause-gives c =
     let ts = abbreviations s.types in
     let w = c.args.word.now in
     let f : type_of ts w.word ≡ Some (ty c.in-Some.field-0.now.ty) =
-        ap (type_of ts) (sym c.as_str-text.ensures) ∙ type_is_found s.types.entries c.as_str-text.result.now ∙ ap (option_map (λ (a : Abbr). ty a.ty)) (sym c.in-Some.ensures.value) in
+    ap (type_of ts) (sym c.as_str-text.ensures) ∙ type_is_found s.types.entries c.as_str-text.result.now ∙ ap (option_map (λ (a : Abbr). ty a.ty)) (sym c.in-Some.ensures.value) in
     inr (ap (λ (r : Ran). after r (run (whole_type ts s.held.names (ty_of c.args.ty.now)))) (type_again ts w s.count _ f) ∙ ap (λ x. Err (TypeTwice w.span x)) (sym c.as_str-text.ensures ∙ sym c.in_ok-of-in-Some.ensures))
 
 pub returns-in_ok-insert-in-None-clause-gives : goal.returns-in_ok-insert-in-None-clause-gives
@@ -44,7 +44,7 @@ returns-in_ok-insert-in-None-clause-gives c =
     let ts = abbreviations s.types in
     let w = c.args.word.now in
     let f : type_of ts w.word ≡ None =
-        ap (type_of ts) (sym c.as_str-text.ensures) ∙ type_is_found s.types.entries c.as_str-text.result.now ∙ ap (option_map (λ (a : Abbr). ty a.ty)) (sym c.in-None.ensures.value) in
+    ap (type_of ts) (sym c.as_str-text.ensures) ∙ type_is_found s.types.entries c.as_str-text.result.now ∙ ap (option_map (λ (a : Abbr). ty a.ty)) (sym c.in-None.ensures.value) in
     ap (λ (r : Ran). after r (run (whole_type ts s.held.names (ty_of c.args.ty.now)))) (new_type ts w s.count f) ∙ c.in_ok-ty-in-None.ensures.gives.0
 
 pub returns-in_ok-insert-in-None-clause-types : goal.returns-in_ok-insert-in-None-clause-types
@@ -55,7 +55,7 @@ returns-in_ok-insert-in-None-clause-types c =
     let m = c.read_annotation.new.scope.types in
     let same : m ≡ s.types = c.in_ok-ty-in-None.ensures.types in
     let absent : get_by (λ k. bytes_eq c.as_str-text.result.now k.now) m ≡ None =
-        ap (get_by (λ k. bytes_eq c.as_str-text.result.now k.now)) same ∙ sym c.in-None.ensures.value in
+    ap (get_by (λ k. bytes_eq c.as_str-text.result.now k.now)) same ∙ sym c.in-None.ensures.value in
     let k : ty c.in_ok-ty-in-None.ty ≡ type_in (length s.held.names) ts s.held.names a = c.in_ok-ty-in-None.ensures.gives.1 ∙ ap (λ b. type_in b ts s.held.names a) c.len-base.ensures in
     ap (map abbreviation) (c.in_ok-insert-in-None.ensures.entries ∙ insert_entry-new _ m c.as_str-text.result _ absent)
     ∙ map_push abbreviation m.entries _

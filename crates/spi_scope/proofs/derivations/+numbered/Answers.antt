@@ -1,4 +1,4 @@
-use Rattle.std.proofs.Common.{rules, ◌≡◌, ◌+◌, ◌≤◌, List, map, sym, ap, ◌∙◌, subst}
+use Rattle.std.proofs.Common.{◌≡◌, ◌+◌, ◌≤◌, List, map, ap, ◌∙◌, subst}
 use Rattle.spi_tree.specs.Trees.{msgs_of_list}
 use Rattle.spi_tree.specs.Views.{msg_of}
 use Rattle.spi_tree.specs.declared.tree.SMsg.{SMsg}
@@ -40,4 +40,4 @@ read_numbered-returns-in_ok-whole-in-Tuple-clause-read t c =
     let r3 = subst (λ (x : List SMsg). h.total ≤ 1000 → map message h.more.items ≡ numbered_messages (msgs_of_list (map msg_of x))) c.deref-in-Tuple-2.ensures.value h.ensures.read in
     rw (ap msg_of e ∙ tuple_is w.first w.second w.more w.span)
     (tuple_read c.args.spent c.saturating_add-in-Tuple.result f.total g.total h.total w.span (msg_of w.first.value) (msg_of w.second.value) (msgs_of_list (map msg_of w.more.items)) e1 c.saturating_add-in-Tuple.ensures e2 e3
-      (message f.first) (message g.second) (map message h.more.items) (message c.in_ok-whole-in-Tuple.whole) r1 r2 r3 c.in_ok-whole-in-Tuple.ensures)
+    (message f.first) (message g.second) (map message h.more.items) (message c.in_ok-whole-in-Tuple.whole) r1 r2 r3 c.in_ok-whole-in-Tuple.ensures)

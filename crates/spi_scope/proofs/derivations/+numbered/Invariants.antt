@@ -14,5 +14,5 @@ invariant-read_all_numbered-loop-m l =
     record {
       counted : stopped (l.total + row_nodes (numbered_messages rest)) ≡ stopped (l.spent + row_nodes (numbered_messages all));
       read : l.total ≤ 1000 → map message l.read.items ++ numbered_messages rest ≡ numbered_messages all;
-      small : stopped l.total ≡ l.total
+      small : stopped l.total ≡ l.total;
     }

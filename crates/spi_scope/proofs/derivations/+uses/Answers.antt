@@ -24,10 +24,10 @@ read_derivation-returns-clause-uses t c =
     let us : List SDeriv → List RuleUse = λ l. all_uses_in (derivs_of_list (map deriv_of l)) in
     rw (deriv_is d)
     (used c.args.uses.now.uses.items c.push.new.self.items c.read_premises.new.uses.uses.items (record { rule = c.rule_of-rule.result; taken = c.in_ok-taken.taken })
-      (rule_named (out-SDeriv d).rule.word) (numbered_effect (effect_of (out-SDeriv d).effect)) (us (out-SDeriv d).premises.items)
-      c.in_ok-push.ensures.items
-      (c.in_ok-read_premises.ensures.uses ∙ ap (λ l. map rule_use c.push.new.self.items ++ us l) c.deref.ensures.value)
-      (c.rule_of-rule.ensures ∙ ap rule_named c.as_str.ensures) c.in_ok-taken.ensures.1)
+    (rule_named (out-SDeriv d).rule.word) (numbered_effect (effect_of (out-SDeriv d).effect)) (us (out-SDeriv d).premises.items)
+    c.in_ok-push.ensures.items
+    (c.in_ok-read_premises.ensures.uses ∙ ap (λ l. map rule_use c.push.new.self.items ++ us l) c.deref.ensures.value)
+    (c.rule_of-rule.ensures ∙ ap rule_named c.as_str.ensures) c.in_ok-taken.ensures.1)
 
 pub read_derivation-returns-clause-places : goal.read_derivation-returns-clause-places
 read_derivation-returns-clause-places t c = rw (deriv_is c.args.d.now) (grind (arith, common_steps))

@@ -14,5 +14,5 @@ invariant-read_premises-loop-d l =
     record {
       ran : run (derivs_points rest) l.count ≡ run (derivs_points all) l.count;
       uses : map rule_use l.uses.uses.items ++ all_uses_in rest ≡ map rule_use l.fn.uses.uses.items ++ all_uses_in all;
-      placed : l.uses.places.items ++ all_use_places rest ≡ l.fn.uses.places.items ++ all_use_places all
+      placed : l.uses.places.items ++ all_use_places rest ≡ l.fn.uses.places.items ++ all_use_places all;
     }

@@ -12,5 +12,5 @@ invariant-loop-a l =
     let all = map atom_of l.es in
     record {
       ran : run (numbered_atoms_points rest) l.count ≡ run (numbered_atoms_points all) l.count;
-      read : map atom l.read.items ++ map numbered_atom rest ≡ map numbered_atom all
+      read : map atom l.read.items ++ map numbered_atom rest ≡ map numbered_atom all;
     }

@@ -1,4 +1,4 @@
-use Rattle.std.proofs.Common.{◌≡◌, ◌≤◌, ◌<◌, ◌+◌, sym, ap, ◌∙◌, arith, inr}
+use Rattle.std.proofs.Common.{◌≡◌, sym, ap, ◌∙◌, arith, inr}
 use Rattle.std.specs.Prelude.{Err}
 use Rattle.spi_tree.specs.Views.{ty_of}
 use Rattle.spi_term.specs.Spelling.{ty_nodes, stopped}

@@ -1,4 +1,4 @@
-use Rattle.std.proofs.Common.{rules, ◌≡◌, List, map, arith, sym, ap, ◌∙◌, subst}
+use Rattle.std.proofs.Common.{rules, ◌≡◌, List, map, ap, ◌∙◌, subst}
 use Rattle.spi_tree.specs.Trees.{msgs_of_list}
 use Rattle.spi_tree.specs.Views.{msg_of}
 use Rattle.spi_tree.specs.declared.tree.SMsg.{SMsg}
@@ -33,5 +33,5 @@ read_message-returns-in_ok-whole-in-Tuple t c =
     let h3 = subst (λ (x : List SMsg). Counted row_nodes (map message h.more.items) h.total (run (messages_points xs (msgs_of_list (map msg_of x))) k) k g.total (messages_in c.args.base xs (msgs_of_list (map msg_of x)))) c.deref-in-Tuple-2.ensures.value h.ensures in
     rw (ap msg_of e ∙ tuple_is w.first w.second w.more w.span)
     (message_tuple c.args.base c.args.spent k xs w.span (msg_of w.first.value) (msg_of w.second.value) (msgs_of_list (map msg_of w.more.items)) c.saturating_add-in-Tuple.result f.total g.total h.total
-      (message f.first) (message g.second) (map message h.more.items) (message c.in_ok-whole-in-Tuple.whole)
-      h1 c.saturating_add-in-Tuple.ensures h2 h3 c.in_ok-whole-in-Tuple.ensures)
+    (message f.first) (message g.second) (map message h.more.items) (message c.in_ok-whole-in-Tuple.whole)
+    h1 c.saturating_add-in-Tuple.ensures h2 h3 c.in_ok-whole-in-Tuple.ensures)

@@ -18,5 +18,5 @@ invariant-read_messages-loop-m l =
       ran : run (messages_points xs rest) l.scope.count ≡ run (messages_points xs all) l.scope.count;
       counted : stopped (l.total + row_nodes (messages_in l.base xs rest)) ≡ stopped (l.spent + row_nodes (messages_in l.base xs all));
       read : l.total ≤ 1000 → map message l.read.items ++ messages_in l.base xs rest ≡ messages_in l.base xs all;
-      small : stopped l.total ≡ l.total
+      small : stopped l.total ≡ l.total;
     }

@@ -1,6 +1,5 @@
-use Rattle.std.proofs.Common.{◌≡◌, ◌++◌, [], ◌∷◌, map, sym, ap, ◌∙◌}
+use Rattle.std.proofs.Common.{sym, ◌∙◌}
 use Rattle.spi_term.specs.View.{message}
-use Rattle.spi_scope.specs.Meaning.{nested}
 use Rattle.spi_scope.proofs.Nesting.{popped}
 use Rattle.spi_scope.proofs.messages.nest_rest.Goals as goal
 

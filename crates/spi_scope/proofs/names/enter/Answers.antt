@@ -1,4 +1,4 @@
-use Rattle.std.proofs.Common.{◌≡◌, sym, ◌∙◌, arith, refl}
+use Rattle.std.proofs.Common.{◌∙◌, arith, refl}
 use Rattle.spi_scope.proofs.Tables.{entered}
 use Rattle.spi_scope.proofs.names.enter.Goals as goal
 
@@ -12,5 +12,5 @@ returns-in-Ok-clause-ok c = record {
   held = record { word = c.args.word; before = c.copied-before.result; chain = c.args.chain };
   word = refl;
   its_chain = refl;
-  is = c.in_ok-push.ensures.items
+  is = c.in_ok-push.ensures.items;
 }

@@ -1,4 +1,4 @@
-use Rattle.std.proofs.Common.{◌≡◌, ℕ, List, [], ◌∷◌, ◌++◌, sym, ◌∙◌, subst, arith}
+use Rattle.std.proofs.Common.{ℕ, List, sym, subst}
 use Rattle.std.specs.Prelude.{Option}
 use Rattle.spi_scope.specs.declared.names.Held.{Held}
 use Rattle.spi_scope.specs.Table.{Keeps}

@@ -1,4 +1,4 @@
-use Rattle.std.proofs.Common.{◌≡◌, ◌≤◌, refl, arith}
+use Rattle.std.proofs.Common.{refl, arith}
 use Rattle.spi_tree.specs.Views.{proc_of}
 use Rattle.spi_scope.specs.Points.{process_points}
 use Rattle.spi_scope.specs.State.{abbreviations}

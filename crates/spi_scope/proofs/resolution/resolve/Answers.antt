@@ -1,11 +1,9 @@
-use Rattle.std.proofs.Common.{◌≡◌, [], List, map, length, reverse, refl, sym, ap, ◌∙◌, subst}
+use Rattle.std.proofs.Common.{◌≡◌, [], map, reverse, ap, ◌∙◌}
 use Rattle.std.proofs.lemmas.Result.{err_from_is_err_and}
-use Rattle.spi_tree.specs.Views.{decl_of, proc_of, opponent_of, file_of}
+use Rattle.spi_tree.specs.Views.{file_of}
 use Rattle.spi_scope.specs.Scope.{Names, Abbreviations}
-use Rattle.spi_scope.specs.Marks.{scopes}
-use Rattle.spi_scope.specs.Points.{decls_points, body_points, all_names, all_types}
+use Rattle.spi_scope.specs.Points.{all_names, all_types}
 use Rattle.spi_scope.specs.StandsFor.{over_free, opponent_over}
-use Rattle.spi_scope.specs.Gives.{run}
 use Rattle.spi_scope.specs.State.{abbreviation, abbreviations}
 use Rattle.spi_scope.proofs.Made.{few_names, types_over}
 use Rattle.spi_scope.proofs.Resolved.{declared_fails, resolved_clean, resolved_fails}
@@ -43,7 +41,7 @@ returns-in_err-file-clause-fault c =
     let p = err_from_is_err_and c.from_residual-in_err-file.result c.from_residual-in_err-file.ensures.1 in
     rw (p.1, p.2)
     (resolved_fails (file_of c.args.tree.now) s.count (abbreviations s.types) s.held.names
-     (rw (n, y, c.deref.ensures.value) at d.gives) (rw (n, y, c.deref.ensures.value) at d.types) (rw (n, c.deref.ensures.value) at d.names) _ c.in_err-file.ensures.gives)
+    (rw (n, y, c.deref.ensures.value) at d.gives) (rw (n, y, c.deref.ensures.value) at d.types) (rw (n, c.deref.ensures.value) at d.names) _ c.in_err-file.ensures.gives)
 
 pub returns-clause-stands : goal.returns-clause-stands
 returns-clause-stands c =
@@ -62,5 +60,5 @@ returns-clause-stands c =
       process = r.process ∙ ap (λ (us : Abbreviations). over_free us s.held.names tree.process) e ∙ ap (λ (ys : Names). over_free (all_types [] [] tree.decls) ys tree.process) f;
       opponent = r.opponent ∙ ap (λ (us : Abbreviations). opponent_over us s.held.names tree.opponent) e ∙ ap (λ (ys : Names). opponent_over (all_types [] [] tree.decls) ys tree.opponent) f;
       schedule = r.schedule;
-      derivation = r.derivation
+      derivation = r.derivation;
     }

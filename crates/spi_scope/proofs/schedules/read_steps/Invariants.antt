@@ -13,5 +13,5 @@ invariant-loop-s l =
     record {
       ran : run (steps_points (length l.places.items + 1) (length l.steps) rest) l.count ≡ run (steps_points 1 (length l.steps) all) l.count;
       read : map step l.read.items ++ map step_in rest ≡ map step_in all;
-      placed : l.places.items ++ map step_span rest ≡ map step_span all
+      placed : l.places.items ++ map step_span rest ≡ map step_span all;
     }

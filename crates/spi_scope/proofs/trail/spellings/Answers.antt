@@ -1,4 +1,4 @@
-use Rattle.std.proofs.Common.{◌≡◌, ◌≤◌, ◌++◌, ◌∷◌, [], ◌-◌, map, reverse, sym, ap, ◌∙◌, arith, append_assoc, append-nil}
+use Rattle.std.proofs.Common.{◌≡◌, ◌++◌, ◌∷◌, [], ◌-◌, map, reverse, sym, ap, ◌∙◌, arith, append_assoc, append-nil}
 use Rattle.spi_scope.specs.Chains.{spelled, chains, chain_at}
 use Rattle.spi_scope.proofs.Trails.{chain_step, chain_none}
 use Rattle.spi_scope.proofs.trail.spellings.Goals as goal
@@ -14,11 +14,11 @@ loop-at-preserved c =
     let found = c.loop-at.found.items in
     record {
       read =
-        rw c.in_ok-push.ensures.items
-        (append_assoc found (c.in_ok-of.field-0 ∷ []) (chain_at cs c.index-links-at.result.outer)
-         ∙ ap (λ y. found ++ y ∷ chain_at cs c.index-links-at.result.outer) (c.in_ok-of.ensures ∙ c.as_str.ensures)
-         ∙ ap (λ l. found ++ l) (sym st.0) ∙ c.loop-at.invariant.read);
-      within = omega (arith, st.1, c.loop-at.invariant.within)
+          rw c.in_ok-push.ensures.items
+          (append_assoc found (c.in_ok-of.field-0 ∷ []) (chain_at cs c.index-links-at.result.outer)
+          ∙ ap (λ y. found ++ y ∷ chain_at cs c.index-links-at.result.outer) (c.in_ok-of.ensures ∙ c.as_str.ensures)
+          ∙ ap (λ l. found ++ l) (sym st.0) ∙ c.loop-at.invariant.read);
+      within = omega (arith, st.1, c.loop-at.invariant.within);
     }
 
 pub returns : goal.returns

@@ -5,7 +5,7 @@ use Rattle.spi_scope.proofs.trail.spellings.Given as goal
 abbrev pub invariant-loop-at : goal.invariant-loop-at
 invariant-loop-at l = record {
   read : l.found.items ++ chain_at (chains (map spelled l.links)) l.at ≡ chain_at (chains (map spelled l.links)) l.chain;
-  within : l.at ≤ length l.links
+  within : l.at ≤ length l.links;
 }
 
 abbrev pub decreases-loop-at : goal.decreases-loop-at

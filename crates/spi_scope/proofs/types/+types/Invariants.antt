@@ -22,5 +22,5 @@ invariant-read_fields-loop-f l =
       noted : l.scope.held.noted ≡ l.fn.scope.held.noted;
       types : l.scope.types ≡ l.fn.scope.types;
       same_count : l.scope.count ≡ l.fn.scope.count;
-      small : stopped l.total ≡ l.total
+      small : stopped l.total ≡ l.total;
     }

@@ -1,6 +1,5 @@
-use Rattle.std.proofs.Common.{◌≡◌, ◌++◌, [], ◌∷◌, map, List, sym, ap, ◌∙◌, arith}
+use Rattle.std.proofs.Common.{map, List, sym, ap, ◌∙◌, arith}
 use Rattle.spi_term.specs.View.{ty}
-use Rattle.spi_term.specs.Term.{pair_ty}
 use Rattle.spi_term.specs.declared.term.Ty.{Ty}
 use Rattle.spi_scope.specs.Meaning.{nested_types}
 use Rattle.spi_scope.proofs.Nesting.{popped_type, none_left}

@@ -16,5 +16,5 @@ invariant-loop-a l =
       ran : run (atoms_points xs rest) l.scope.count ≡ run (atoms_points xs all) l.scope.count;
       read : map atom l.read.items ++ effect_in l.base xs rest ≡ effect_in l.base xs all;
       counted : stopped (l.total + effect_nodes (effect_in l.base xs rest)) ≡ stopped (l.spent + effect_nodes (effect_in l.base xs all));
-      small : stopped l.total ≡ l.total
+      small : stopped l.total ≡ l.total;
     }

@@ -1,5 +1,5 @@
-use Rattle.std.proofs.Common.{◌≡◌, ℕ, ◌+◌, ◌≤◌, ◌<◌, sym, ap, ◌∙◌, arith, inr}
-use Rattle.std.specs.Prelude.{Result, Ok, Err}
+use Rattle.std.proofs.Common.{◌≡◌, sym, ap, ◌∙◌, arith, inr}
+use Rattle.std.specs.Prelude.{Err}
 use Rattle.spi_tree.specs.Views.{msg_of}
 use Rattle.spi_term.specs.Spelling.{stopped}
 use Rattle.spi_scope.specs.declared.fault.ScopeFault.TheVariants.{MessageTooLarge}
@@ -20,9 +20,10 @@ pub returns-clause-gives : goal.returns-clause-gives
 returns-clause-gives c =
     let xs = c.args.scope.now.held.names in
     let m = msg_of c.args.m.now in
-    let r = message_sized c.args.base xs m in
-    (rw c.in_ok-read.ensures.0 (small_message c.args.scope.now.count (msg_nodes xs m) (msg_span m) (omega (arith, c.in_ok-read.ensures.1, r, c.if-count-gt200.false))),
-     c.in_ok-read.ensures.2 (omega (arith, c.if-count-gt200.false)))
+    let r = message_sized c.args.base xs m in (
+      rw c.in_ok-read.ensures.0 (small_message c.args.scope.now.count (msg_nodes xs m) (msg_span m) (omega (arith, c.in_ok-read.ensures.1, r, c.if-count-gt200.false))),
+      c.in_ok-read.ensures.2 (omega (arith, c.if-count-gt200.false)),
+    )
 
 pub returns-clause-nodes : goal.returns-clause-nodes
 returns-clause-nodes c =

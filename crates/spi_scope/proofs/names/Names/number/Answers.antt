@@ -1,5 +1,4 @@
-use Rattle.std.proofs.Common.{◌≡◌, sym, ap, ◌∙◌, length}
-use Rattle.spi_scope.specs.Table.{Naming}
+use Rattle.std.proofs.Common.{◌∙◌}
 use Rattle.spi_scope.proofs.Tables.{number_below}
 use Rattle.spi_scope.proofs.names.Names.number.Goals as goal
 

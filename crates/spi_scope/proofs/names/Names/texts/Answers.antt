@@ -1,4 +1,4 @@
-use Rattle.std.proofs.Common.{◌≡◌, ◌++◌, reverse, sym, ap, ◌∙◌, append-nil}
+use Rattle.std.proofs.Common.{◌++◌, reverse, sym, ap, ◌∙◌, append-nil}
 use Rattle.spi_scope.specs.Table.{Naming, spellings}
 use Rattle.spi_scope.proofs.Nesting.{drop_past}
 use Rattle.spi_scope.proofs.Tables.{reverse_twice}

@@ -1,4 +1,4 @@
-use Rattle.std.proofs.Common.{◌≡◌, ◌+◌, ◌<◌, ◌≤◌, List, ℕ, length, map, reverse, sym, ap, ◌∙◌, subst, arith}
+use Rattle.std.proofs.Common.{◌≡◌, ◌+◌, ◌<◌, List, length, map, reverse, sym, ap, ◌∙◌, subst, arith}
 use Rattle.std.specs.Prelude.{IfOk}
 use Rattle.spi_scope.specs.Scope.{Names}
 use Rattle.spi_scope.specs.Chains.{spelled, chains, chain_at}
@@ -18,6 +18,6 @@ returns c =
     let cs = chains (map spelled c.self.inside.links.items) in
     let lt : c.args.node < length noted = omega (arith, c.if-node-len.false, c.len.ensures, c.self.inside.noted.ok) in
     let e : chain_at (chains (map spelled c.deref.result.now)) c.index-chain.result.now ≡ chain_at c.args.self.now c.args.node =
-        ap (λ l. chain_at (chains (map spelled l)) c.index-chain.result.now) c.deref.ensures.value ∙ ap (chain_at cs) c.index-chain.ensures
-        ∙ sym (all_or cs noted c.args.node c.index-chain.result.now lt) ∙ ap (λ (l : List Names). chain_at l c.args.node) c.self.view_is in
+    ap (λ l. chain_at (chains (map spelled l)) c.index-chain.result.now) c.deref.ensures.value ∙ ap (chain_at cs) c.index-chain.ensures
+    ∙ sym (all_or cs noted c.args.node c.index-chain.result.now lt) ∙ ap (λ (l : List Names). chain_at l c.args.node) c.self.view_is in
     subst (λ (ys : Names). IfOk c.spellings.result (λ v. v.items ≡ reverse ys)) e c.spellings.ensures

@@ -1,4 +1,4 @@
-use Rattle.std.proofs.Common.{◌≡◌, ℕ, ◌+◌, ◌∷◌, ◌++◌, [], ◌<◌, length, map, sym, ap, ◌∙◌, subst, arith, refl, add-one}
+use Rattle.std.proofs.Common.{ℕ, ◌+◌, ◌∷◌, ◌++◌, [], ◌<◌, length, map, sym, ap, ◌∙◌, subst, arith}
 use Rattle.std.proofs.lemmas.List.{length-append}
 use Rattle.spi_scope.specs.Chains.{link, chains, chain_at, all_at, AreBelow, Chained}
 use Rattle.spi_scope.proofs.Trails.{length_chains, chains_push, lead_push, below_more, all_before}
@@ -11,10 +11,11 @@ invariant_of-self-2 c =
     let v = ap (λ (s : Chained). length s.chains) c.self.view_is in
     let n = c.in_ok-push.ensures.items in
     let m = ap length n in
-    let k = length-append old (record { word = c.args.word; outer = c.args.outer } ∷ []) in
-    (lead_push old _ (record { word = c.args.word; outer = c.args.outer }) n i.0 (subst (λ (x : ℕ). c.args.outer < x) (sym v) c.requires),
-     below_more (length old + 1) _ _ (omega (arith, m, k)) i.1,
-     omega (arith, m, k, c.if-len-ge4294967294.false))
+    let k = length-append old (record { word = c.args.word; outer = c.args.outer } ∷ []) in (
+      lead_push old _ (record { word = c.args.word; outer = c.args.outer }) n i.0 (subst (λ (x : ℕ). c.args.outer < x) (sym v) c.requires),
+      below_more (length old + 1) _ _ (omega (arith, m, k)) i.1,
+      omega (arith, m, k, c.if-len-ge4294967294.false),
+    )
 
 pub returns-clause-number : goal.returns-clause-number
 returns-clause-number c =

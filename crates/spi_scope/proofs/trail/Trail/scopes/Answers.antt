@@ -1,4 +1,4 @@
-use Rattle.std.proofs.Common.{◌≡◌, ℕ, ◌+◌, ◌++◌, List, [], map, length, get_or, sym, ap, ◌∙◌, subst, append-nil, arith}
+use Rattle.std.proofs.Common.{◌≡◌, ℕ, ◌+◌, ◌++◌, List, [], map, length, get_or, sym, ap, ◌∙◌, subst, append-nil}
 use Rattle.std.proofs.lemmas.List.{length-map}
 use Rattle.spi_scope.specs.Chains.{Pair, link, spelled, AreBelow, LeadBack}
 use Rattle.spi_scope.specs.declared.trail.Link.{Link}
@@ -12,13 +12,14 @@ invariant_of-result c =
     let old = c.self.inside.links.items in
     let e = drop_past c.deref-link-items.result.now c.loop-link.link-index c.loop-link-test.false in
     let same : map spelled links ≡ map link old =
-        sym (append-nil (map spelled links)) ∙ ap (λ l. map spelled links ++ map link l) (sym e) ∙ c.loop-link.invariant ∙ ap (map link) c.deref-link-items.ensures.value in
+    sym (append-nil (map spelled links)) ∙ ap (λ l. map spelled links ++ map link l) (sym e) ∙ c.loop-link.invariant ∙ ap (map link) c.deref-link-items.ensures.value in
     let n : length links ≡ length old = sym (length-map links spelled) ∙ ap length same ∙ length-map old link in
     let f = drop_past c.deref-chain-items.result.now c.loop-chain.chain-index c.loop-chain-test.false in
     let noted : c.loop-chain.noted.items ≡ c.self.inside.noted.items =
-        sym (append-nil c.loop-chain.noted.items) ∙ ap (λ l. c.loop-chain.noted.items ++ l) (sym f) ∙ c.loop-chain.invariant ∙ c.deref-chain-items.ensures.value in
-    (subst (λ (l : List Pair). LeadBack 1 l) (sym same) c.self.invariant.0,
-     subst (λ (m : ℕ). AreBelow (m + 1) c.loop-chain.noted.items) (sym n) (subst (λ (l : List ℕ). AreBelow (length old + 1) l) (sym noted) c.self.invariant.1))
+    sym (append-nil c.loop-chain.noted.items) ∙ ap (λ l. c.loop-chain.noted.items ++ l) (sym f) ∙ c.loop-chain.invariant ∙ c.deref-chain-items.ensures.value in (
+      subst (λ (l : List Pair). LeadBack 1 l) (sym same) c.self.invariant.0,
+      subst (λ (m : ℕ). AreBelow (m + 1) c.loop-chain.noted.items) (sym n) (subst (λ (l : List ℕ). AreBelow (length old + 1) l) (sym noted) c.self.invariant.1),
+    )
 
 pub loop-link-preserved : goal.loop-link-preserved
 loop-link-preserved c =
