@@ -1,6 +1,6 @@
--- What counts by key say of an effect. A message has a number, which is its place in a list that holds no message twice.
--- Its key orders messages by their greatest names, so that the last key tells whether a name occurs.
-use Rattle.std.specs.Prelude.{◌≡◌, ◌≢◌, ℕ, suc, ◌+◌, ◌*◌, ◌^◌, ◌<◌, ◌≤◌, max, min, Bool, List, Some, slice_get}
+-- What counts by key say of an effect. A message has a number, and its key orders messages by their greatest names, so
+-- that the last key tells whether a name occurs.
+use Rattle.std.specs.Prelude.{◌≡◌, ◌≢◌, ℕ, suc, ◌+◌, ◌*◌, ◌<◌, max}
 use Rattle.std.specs.BTreeMap.{BTreeMap}
 use Rattle.spi_term.specs.Term.{Message, bound, name, unit, pair, in_left, in_right, enc, hash, Atom, ends, checks, many, Effect}
 use Rattle.spi_term.specs.Lists.{In}
@@ -57,10 +57,14 @@ pub record Puts (kind : AtomKind) (old new : Sum) (key n : ℕ) : Type 0 where
   pub here : Sets (part kind old) (part kind new) key n
   pub others : (k : AtomKind) → k ≢ kind → part k new ≡ part k old
 
--- the counts are those of an effect, where the messages have their numbers
-pub record Stands (ms : List Message) (s : Sum) (es : Effect) : Type 0 where
-  pub counted : (a : Atom) (i : ℕ) → slice_get ms i ≡ Some (message_of a) → i < 4294967296
-      → count_of (part (kind_of a) s) (key_of (name_bound (message_of a)) i) ≡ count a es
-  pub known : (a : Atom) → In a es → (i : ℕ) × (slice_get ms i ≡ Some (message_of a)) × (i < 4294967296)
-  pub kept : (kind : AtomKind) (k : ℕ) → 0 < count_of (part kind s) k
-      → (i : ℕ) × (m : Message) × (slice_get ms i ≡ Some m) × (i < 4294967296) × (k ≡ key_of (name_bound m) i)
+-- The counts are those of an effect, where At i m says that the message m has the number i.
+pub record Stands (At : ℕ → Message → Type 0) (s : Sum) (es : Effect) : Type 0 where
+  pub counted : (a : Atom) (i : ℕ) → At i (message_of a) → count_of (part (kind_of a) s) (key_of (name_bound (message_of a)) i) ≡ count a es
+  pub known : (a : Atom) → In a es → (i : ℕ) × At i (message_of a)
+  pub kept : (kind : AtomKind) (k : ℕ) → 0 < count_of (part kind s) k → (i : ℕ) × (m : Message) × At i m × (k ≡ key_of (name_bound m) i)
+
+-- numbers below 2 ^ 32, of which no two are of one message and none is of two
+pub record AreNumbers (At : ℕ → Message → Type 0) : Type 0 where
+  pub small : {i : ℕ} {m : Message} → At i m → i < 4294967296
+  pub differ : {i j : ℕ} {m : Message} → At i m → At j m → i ≡ j
+  pub one : {i : ℕ} {m n : Message} → At i m → At i n → m ≡ n

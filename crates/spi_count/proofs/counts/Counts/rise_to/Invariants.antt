@@ -1,4 +1,4 @@
-use Rattle.std.proofs.Common.{◌≡◌, ◌+◌, ℕ, max}
+use Rattle.std.proofs.Common.{◌≡◌, ℕ, max}
 use Rattle.std.specs.BTreeMap.{btree_map_len}
 use Rattle.spi_count.specs.Counts.{count_of}
 use Rattle.spi_count.proofs.counts.Counts.rise_to.Given as goal
