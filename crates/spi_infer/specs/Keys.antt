@@ -1,0 +1,15 @@
+-- The keys of the messages that stand in effects.
+use Rattle.std.specs.Prelude.{◌≡◌, ℕ, ◌<◌, List, Option, Some, slice_get, nat_eq}
+use Rattle.std.specs.HashMap.{HashMap}
+use Rattle.spi_term.specs.Term.{Message}
+use Rattle.spi_count.specs.Sums.{name_bound, key_of}
+
+-- the message number i of a store is m, and has its key
+pub record Keyed (ms : List Message) (key : ℕ → Option ℕ) (i : ℕ) (m : Message) : Type 0 where
+  pub at : slice_get ms i ≡ Some m
+  pub key : key i ≡ Some (key_of (name_bound m) i)
+  pub small : i < 4294967296
+
+-- each key that is kept is that of the message with the number
+pub record AreKeys (ms : List Message) (key : ℕ → Option ℕ) : Type 0 where
+  pub keyed : (i k : ℕ) → key i ≡ Some k → (m : Message) × Keyed ms key i m

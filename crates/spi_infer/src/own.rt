@@ -1,0 +1,18 @@
+// What the passes keep of a node by numbers.
+
+use spi_intern::{MsgId, TyId};
+
+/// What a form adds to the effect of its process or takes off, by the numbers of a store.
+#[derive(Clone, Copy, Debug)]
+pub enum Own {
+    /// Nothing.
+    Nothing,
+    /// The label of a `begin`, an `end` or an `endmany`.
+    Label(MsgId),
+    /// The message that is checked, and the type of the nonce where that is a Nonce type.
+    Checked(MsgId, Option<TyId>),
+    /// The type that a message is cast to.
+    Cast(TyId),
+    /// The name that is made.
+    Made(MsgId),
+}
