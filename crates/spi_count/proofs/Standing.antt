@@ -1,5 +1,5 @@
 -- What changes of counts do to the effect that they stand for.
-use Rattle.std.proofs.Common.{◌≡◌, ◌≢◌, refl, sym, ap, ◌∙◌, subst, ℕ, zero, suc, ◌+◌, ◌-◌, ◌<◌, ◌≤◌, max, Bool, true, false, ◌||◌, [], ◌∷◌, ◌++◌, ⊎_elim, ◌⊎◌, inl, inr, arith, true≢false, eq-eqb}
+use Rattle.std.proofs.Common.{◌≡◌, ◌≢◌, refl, sym, ap, ◌∙◌, subst, ℕ, zero, suc, ◌+◌, ◌-◌, ◌*◌, ◌<◌, ◌≤◌, max, Bool, true, false, ◌||◌, [], ◌∷◌, ◌++◌, ⊎_elim, ◌⊎◌, inl, inr, arith, true≢false, eq-eqb}
 use Rattle.std.specs.Prelude.{if◌then◌else◌}
 use Rattle.std.proofs.lemmas.Bool.{ne_eqb, cases_eq}
 use Rattle.spi_term.specs.Term.{Message, bound, name, unit, pair, in_left, in_right, enc, hash, Atom, ends, checks, many, same_atom, Effect}
@@ -379,3 +379,20 @@ pub in_mentions : (x : ℕ) (a : Atom) (es : Effect) → In a es → name_bound 
 in_mentions x a [] n e = elim n [ ]
 in_mentions x a (b ∷ es) in_first e = or_left (is_free_at x a) (mentions x es) (free_at x a ∙ bound_is_free x (message_of a) e)
 in_mentions x a (b ∷ es) (in_later n) e = or_right (is_free_at x b) (mentions x es) (in_mentions x a es n e)
+
+module _ (At : ℕ → Message → Type 0) (numbers : AreNumbers At) {s : Sum} {es : Effect} (h : Stands At s es) (n : ℕ) where
+  -- no key from that of n + 1 on is counted: each name is below n
+  pub unreached_below : ((kind : AtomKind) (k : ℕ) → 0 < count_of (part kind s) k → k < (n + 1) * 4294967296) → Below n es
+  unreached_below f a i =
+      let (j, g) = h.known a i in
+      let c = h.counted a j g in
+      let p = (count_tally a (tally a es)).1 (in_tally i) in
+      let l = f (kind_of a) (key_of (name_bound (message_of a)) j) (omega (arith, c, p)) in
+      omega (arith, l)
+
+  -- such a key is counted: an atom has a name from n on
+  pub reached_in : (kind : AtomKind) (k : ℕ) → 0 < count_of (part kind s) k → (n + 1) * 4294967296 ≤ k → (a : Atom) × In a es × (n + 1 ≤ name_bound (message_of a))
+  reached_in kind k p l =
+      let (a, i, (j, g, e)) = kept_in At numbers h kind k p in
+      let m = numbers.small g in
+      (a, i, omega (arith, e, l, m))
