@@ -73,8 +73,8 @@ impl Messages {
         }
     }
 
-    // The number of a message of which this is the outermost constructor.
-    fn put(&mut self, part: MsgPart) -> Result<MsgId, NoMemory>
+    /// The number of a message of which this is the outermost constructor.
+    pub fn put(&mut self, part: MsgPart) -> Result<MsgId, NoMemory>
         requires { Says self.old part (said self.old part) }
         ensures grows { OnOk result (self.new ≡ added self.old (said self.old part)) }
         ensures same { OnErr result (self.new ≡ self.old) }

@@ -1,19 +1,20 @@
 // Messages and types with numbers.
 
-ghost use Rattle.std.specs.Prelude.{◌≡◌, ◌↔◌, ◌+◌, ◌<◌, ℕ, List, [], Some, IfOk, OnOk, OnErr, slice_get, length};
+ghost use Rattle.std.specs.Prelude.{◌≡◌, ◌↔◌, ◌+◌, ◌<◌, ℕ, List, [], Some, IfOk, OnOk, slice_get, length};
 ghost use Rattle.spi_term.specs.Term as Term;
 ghost use Rattle.spi_term.specs.SameTy.{SameTy};
 ghost use Rattle.spi_term.specs.View.{message, effect, ty};
 ghost use Rattle.spi_intern.specs.declared.atoms.AtomId.{AtomId};
 ghost use Rattle.spi_intern.specs.Messages.{Says};
-ghost use Rattle.spi_intern.specs.Atoms.{IdsMean};
+ghost use Rattle.spi_intern.specs.Atoms.{SaysAtom, IdsMean};
 ghost use Rattle.spi_intern.specs.Typed.{SaysKind, said_kind};
 ghost use Rattle.spi_intern.specs.Kinds.{same_kind};
-ghost use Rattle.spi_intern.specs.Table.{with_value};
+ghost use Rattle.spi_intern.specs.Table.{TellsAll, with_value};
 ghost use Rattle.spi_intern.specs.Meaning.{Means, Keeps, NoneTwice};
 ghost use Rattle.spi_intern.specs.Parts.{InEffect};
 ghost use Rattle.spi_intern.specs.Growing.{AddsMessages, Adds, a_message, a_type};
 ghost use Rattle.spi_intern.specs.Lent.{SaysTy};
+ghost use Rattle.spi_intern.specs.Given.{IsGiven, IsOverGiven, AreGiven};
 
 use crate::NoMemory;
 use crate::atoms::{AtomId, atom_ids, canonical};
@@ -78,6 +79,7 @@ impl Store {
         ensures kept { Keeps self.old self.new }
     {
         let id = self.intern(alloc, t)?;
+        // The count is asked for what its answer says: nothing has two numbers.
         let _ = self.distinct();
         Ok(id)
     }
@@ -87,6 +89,7 @@ impl Store {
         ensures count { result ≡ length self.now.messages + length self.now.types }
         ensures differ { NoneTwice self.now }
     {
+        // The count is asked for what its answer says: no effect has two numbers.
         let _ = self.effects.count();
         self.messages.count() as u64 + self.types.count() as u64
     }
@@ -116,6 +119,57 @@ impl Store {
         }
     }
 
+    /// The number of the message with this outermost constructor, whose parts are numbers of this store.
+    pub fn message_over(&mut self, part: MsgPart) -> Result<MsgId, NoMemory>
+        requires { IsOverGiven self.old.messages part }
+        ensures at { IfOk result (λ id. (n : Term.Message) → Says self.old.messages part n → slice_get self.new.messages id.place ≡ Some n) }
+        ensures kept { Keeps self.old self.new }
+    {
+        self.messages.put(part)
+    }
+
+    /// The number of the type of pairs of these types, which are numbers of this store.
+    pub fn pair_over(&mut self, first: TyId, second: TyId) -> Result<TyId, NoMemory>
+        requires first { IsGiven self.old first.place }
+        requires second { IsGiven self.old second.place }
+        ensures at { IfOk result (λ id. (t u : Term.Ty) → Means self.old first.place t → Means self.old second.place u → Means self.new id.place (Term.pair_ty t u)) }
+        ensures kept { Keeps self.old self.new }
+    {
+        self.put(TyNode::Pair(first, second))
+    }
+
+    /// The number of the sum of these types, which are numbers of this store.
+    pub fn sum_over(&mut self, left: TyId, right: TyId) -> Result<TyId, NoMemory>
+        requires left { IsGiven self.old left.place }
+        requires right { IsGiven self.old right.place }
+        ensures at { IfOk result (λ id. (t u : Term.Ty) → Means self.old left.place t → Means self.old right.place u → Means self.new id.place (Term.sum_ty t u)) }
+        ensures kept { Keeps self.old self.new }
+    {
+        self.put(TyNode::Sum(left, right))
+    }
+
+    /// The number of the type of keys for this payload, which is a number of this store.
+    pub fn key_over(&mut self, payload: TyId) -> Result<TyId, NoMemory>
+        requires { IsGiven self.old payload.place }
+        ensures at { IfOk result (λ id. (t : Term.Ty) → Means self.old payload.place t → Means self.new id.place (Term.key t)) }
+        ensures kept { Keeps self.old self.new }
+    {
+        self.put(TyNode::Key(payload))
+    }
+
+    /// The number of the Nonce type with these atoms, over numbers of this store.
+    pub fn nonce_over(&mut self, alloc: Global, atoms: Vec<AtomId>) -> Result<TyId, NoMemory>
+        requires { AreGiven self.old.messages atoms.items }
+        ensures at { IfOk result (λ id. (es : Term.Effect) → TellsAll (SaysAtom self.old.messages) atoms.items es → Means self.new id.place (Term.nonce es)) }
+        ensures kept { Keeps self.old self.new }
+    {
+        // The count is asked for what its answer says: no message has two numbers.
+        let _ = self.messages.count();
+        let ids = canonical(alloc, atoms)?;
+        let place = self.effects.put(ids)?;
+        self.put(TyNode::Nonce(place))
+    }
+
     // The number of a type of which this is the outermost constructor.
     fn put(&mut self, node: TyNode) -> Result<TyId, NoMemory>
         requires { SaysKind self.old.types node (said_kind self.old.types node) }
@@ -136,6 +190,7 @@ impl Store {
         ensures kept { Keeps self.old self.new }
     {
         let written = atom_ids(alloc, &mut self.messages, e)?;
+        // The count is asked for what its answer says: no message has two numbers.
         let _ = self.messages.count();
         let ids = canonical(alloc, written)?;
         self.effects.put(ids)

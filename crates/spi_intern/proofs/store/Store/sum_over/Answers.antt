@@ -1,0 +1,9 @@
+use Rattle.spi_intern.proofs.Meanings.{sum_says}
+use Rattle.spi_intern.proofs.Putting.{put_sum_ty}
+use Rattle.spi_intern.proofs.store.Store.sum_over.Goals as goal
+
+pub put-requires : goal.put-requires
+put-requires c = sum_says c.requires.left.means c.requires.right.means
+
+pub returns-clause-at : goal.returns-clause-at
+returns-clause-at c = put_sum_ty _ _ _ _ c.put.ensures.kept c.put.result c.put.ensures.at

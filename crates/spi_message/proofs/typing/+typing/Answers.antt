@@ -1,0 +1,218 @@
+use Rattle.std.proofs.Common.{arith, refl, sym, ap, subst, IfOk, ◌∙◌, ◌++◌, ◌∷◌, []}
+use Rattle.spi_term.specs.Term.{name}
+use Rattle.spi_message.specs.Asking.{IsTyped}
+use Rattle.spi_message.proofs.Fills.{below_keeps, size_keeps, pair_of, enc_of, left_of, right_of, hash_of, bound_of, name_of, unit_of}
+use Rattle.spi_message.proofs.FillsTypes.{given_keeps, pair_ty_of, sum_ty_of, un_of}
+use Rattle.spi_message.proofs.Standing.{environment_keeps}
+use Rattle.spi_message.proofs.Questions.{typed_as, labelled_as, bound_untyped, bound_unlabelled, unit_labelled, name_labelled, unit_typed, sealed_typed, sealed_untyped, hash_typed, hash_untyped, pair_untyped, left_untyped, right_untyped, left_un, right_un, left_sum, right_sum, pair_un, pair_un_not, pair_not, pair_pair, pair_labelled, pair_unlabelled, left_labelled, right_labelled, hash_labelled, by_payload, by_un, not_by_un, asked_part, asked_later, asked_under, asked_alone, payload_is_given}
+use Rattle.spi_message.proofs.typing.+typing.Goals as goal
+
+pub has_type-pair_has_type-requires : goal.has_type-pair_has_type-requires
+has_type-pair_has_type-requires t c = let w = pair_of c.in-Pair.ensures c.requires.message in (omega (arith, w.size, c.decreases), (w.first, (w.second, c.requires.asked)))
+
+pub has_type-left_has_type-requires : goal.has_type-left_has_type-requires
+has_type-left_has_type-requires t c = let w = left_of c.in-Inl.ensures c.requires.message in (omega (arith, w.size, c.decreases), (w.part, c.requires.asked))
+
+pub has_type-right_has_type-requires : goal.has_type-right_has_type-requires
+has_type-right_has_type-requires t c = let w = right_of c.in-Inr.ensures c.requires.message in (omega (arith, w.size, c.decreases), (w.part, c.requires.asked))
+
+pub has_type-is_sealed-requires : goal.has_type-is_sealed-requires
+has_type-is_sealed-requires t c = let w = enc_of c.in-Enc.ensures c.requires.message in (omega (arith, w.size, c.decreases), (w.first, (w.second, c.requires.asked.names)))
+
+pub has_type-is_label-requires : goal.has_type-is_label-requires
+has_type-is_label-requires t c = let w = hash_of c.in-Hash.ensures c.requires.message in (omega (arith, w.size, c.decreases), (w.part, c.requires.asked.names))
+
+pub has_type-returns-in-Bound-clause-answer : goal.has_type-returns-in-Bound-clause-answer
+has_type-returns-in-Bound-clause-answer t c = bound_untyped (bound_of c.in-Bound.ensures c.requires.message)
+
+pub has_type-returns-in-Name-clause-answer : goal.has_type-returns-in-Name-clause-answer
+has_type-returns-in-Name-clause-answer t c = typed_as _ _ _ _ (sym (name_of c.in-Name.ensures c.requires.message)) c.name_has_type.result (subst (λ us. IfOk c.name_has_type.result (IsTyped c.args.store.now c.args.env.now (name c.in-Name.x) c.args.t us)) c.deref.ensures.value c.name_has_type.ensures.answer)
+
+pub has_type-returns-in-Unit-clause-answer : goal.has_type-returns-in-Unit-clause-answer
+has_type-returns-in-Unit-clause-answer t c = unit_typed (unit_of c.in-Unit.ensures c.requires.message) c.is_unit_type.result c.is_unit_type.ensures
+
+pub has_type-returns-in-Pair-clause-answer : goal.has_type-returns-in-Pair-clause-answer
+has_type-returns-in-Pair-clause-answer t c = typed_as _ _ _ _ (sym ((pair_of c.in-Pair.ensures c.requires.message).is)) c.pair_has_type.result c.pair_has_type.ensures.answer
+
+pub has_type-returns-in-Inl-clause-answer : goal.has_type-returns-in-Inl-clause-answer
+has_type-returns-in-Inl-clause-answer t c = typed_as _ _ _ _ (sym ((left_of c.in-Inl.ensures c.requires.message).is)) c.left_has_type.result c.left_has_type.ensures.answer
+
+pub has_type-returns-in-Inr-clause-answer : goal.has_type-returns-in-Inr-clause-answer
+has_type-returns-in-Inr-clause-answer t c = typed_as _ _ _ _ (sym ((right_of c.in-Inr.ensures c.requires.message).is)) c.right_has_type.result c.right_has_type.ensures.answer
+
+pub has_type-returns-then-is_un_type-clause-answer : goal.has_type-returns-then-is_un_type-clause-answer
+has_type-returns-then-is_un_type-clause-answer t c = sealed_typed _ _ ((enc_of c.in-Enc.ensures c.requires.message).is) c.is_un_type.ensures c.if-is_un_type.true c.is_sealed.result c.is_sealed.ensures.answer
+
+pub has_type-returns-else-is_un_type-clause-answer : goal.has_type-returns-else-is_un_type-clause-answer
+has_type-returns-else-is_un_type-clause-answer t c = sealed_untyped ((enc_of c.in-Enc.ensures c.requires.message).is) c.is_un_type.ensures c.if-is_un_type.false
+
+pub has_type-returns-then-is_un_type-2-clause-answer : goal.has_type-returns-then-is_un_type-2-clause-answer
+has_type-returns-then-is_un_type-2-clause-answer t c = hash_typed _ _ ((hash_of c.in-Hash.ensures c.requires.message).is) c.is_un_type-in-Hash.ensures c.if-is_un_type-2.true c.is_label.result c.is_label.ensures.answer
+
+pub has_type-returns-else-is_un_type-2-clause-answer : goal.has_type-returns-else-is_un_type-2-clause-answer
+has_type-returns-else-is_un_type-2-clause-answer t c = hash_untyped ((hash_of c.in-Hash.ensures c.requires.message).is) c.is_un_type-in-Hash.ensures c.if-is_un_type-2.false
+
+pub is_label-is_label-requires : goal.is_label-is_label-requires
+is_label-is_label-requires t c = let w = pair_of c.in-Pair.ensures c.requires.message in (omega (arith, w.size, c.decreases), (w.first, c.requires.names))
+
+pub is_label-is_label-requires-then-branch : goal.is_label-is_label-requires-then-branch
+is_label-is_label-requires-then-branch t c = 
+    let w = pair_of c.in-Pair.ensures c.requires.message in
+    let k = c.in_ok-is_label-in-Pair.ensures.kept in
+    (omega (arith, w.size, size_keeps c.in-Pair.b k.messages w.second, c.decreases), (below_keeps c.in-Pair.b k.messages w.second, environment_keeps k c.requires.names))
+
+pub is_label-is_label-requires-in-Inl : goal.is_label-is_label-requires-in-Inl
+is_label-is_label-requires-in-Inl t c = let w = left_of c.in-Inl.ensures c.requires.message in (omega (arith, w.size, c.decreases), (w.part, c.requires.names))
+
+pub is_label-returns-in-Inl-clause-answer : goal.is_label-returns-in-Inl-clause-answer
+is_label-returns-in-Inl-clause-answer t c = left_labelled _ _ ((left_of c.in-Inl.ensures c.requires.message).is) c.is_label-in-Inl.result c.is_label-in-Inl.ensures.answer
+
+pub is_label-is_label-requires-in-Inr : goal.is_label-is_label-requires-in-Inr
+is_label-is_label-requires-in-Inr t c = let w = right_of c.in-Inr.ensures c.requires.message in (omega (arith, w.size, c.decreases), (w.part, c.requires.names))
+
+pub is_label-returns-in-Inr-clause-answer : goal.is_label-returns-in-Inr-clause-answer
+is_label-returns-in-Inr-clause-answer t c = right_labelled _ _ ((right_of c.in-Inr.ensures c.requires.message).is) c.is_label-in-Inr.result c.is_label-in-Inr.ensures.answer
+
+pub is_label-is_label-requires-in-Hash : goal.is_label-is_label-requires-in-Hash
+is_label-is_label-requires-in-Hash t c = let w = hash_of c.in-Hash.ensures c.requires.message in (omega (arith, w.size, c.decreases), (w.part, c.requires.names))
+
+pub is_label-returns-in-Hash-clause-answer : goal.is_label-returns-in-Hash-clause-answer
+is_label-returns-in-Hash-clause-answer t c = hash_labelled _ _ ((hash_of c.in-Hash.ensures c.requires.message).is) c.is_label-in-Hash.result c.is_label-in-Hash.ensures.answer
+
+pub is_label-is_sealed-requires : goal.is_label-is_sealed-requires
+is_label-is_sealed-requires t c = let w = enc_of c.in-Enc.ensures c.requires.message in (omega (arith, w.size, c.decreases), (w.first, (w.second, c.requires.names)))
+
+pub is_label-returns-in-Bound-clause-answer : goal.is_label-returns-in-Bound-clause-answer
+is_label-returns-in-Bound-clause-answer t c = bound_unlabelled (bound_of c.in-Bound.ensures c.requires.message)
+
+pub is_label-returns-in-Name-clause-answer : goal.is_label-returns-in-Name-clause-answer
+is_label-returns-in-Name-clause-answer t c = name_labelled (name_of c.in-Name.ensures c.requires.message)
+
+pub is_label-returns-in-Unit-clause-answer : goal.is_label-returns-in-Unit-clause-answer
+is_label-returns-in-Unit-clause-answer t c = unit_labelled (unit_of c.in-Unit.ensures c.requires.message)
+
+pub is_label-returns-then-branch-clause-answer : goal.is_label-returns-then-branch-clause-answer
+is_label-returns-then-branch-clause-answer t c = 
+    let w = pair_of c.in-Pair.ensures c.requires.message in
+    let a = c.in_ok-is_label-in-Pair.ensures in
+    pair_labelled c.in-Pair.a c.in-Pair.b w.is a.answer c.if-branch.true a.kept w.second c.is_label-then-branch.result c.is_label-then-branch.ensures.answer
+
+pub is_label-returns-else-branch-clause-answer : goal.is_label-returns-else-branch-clause-answer
+is_label-returns-else-branch-clause-answer t c = pair_unlabelled ((pair_of c.in-Pair.ensures c.requires.message).is) c.in_ok-is_label-in-Pair.ensures.answer c.if-branch.false
+
+pub is_label-returns-in-Enc-clause-answer : goal.is_label-returns-in-Enc-clause-answer
+is_label-returns-in-Enc-clause-answer t c = labelled_as _ _ (sym ((enc_of c.in-Enc.ensures c.requires.message).is)) c.is_sealed.result c.is_sealed.ensures.answer
+
+pub is_sealed-has_type-requires : goal.is_sealed-has_type-requires
+is_sealed-has_type-requires t c = (omega (arith, c.decreases), (c.requires.body, asked_alone c.requires.names (payload_is_given c.requires.names c.in-Some.ensures.some) c.new-values.ensures.items))
+
+pub is_sealed-returns-in-Some-clause-answer : goal.is_sealed-returns-in-Some-clause-answer
+is_sealed-returns-in-Some-clause-answer t c = by_payload _ c.in-Some.ensures.some c.new-values.ensures.items c.has_type.result c.has_type.ensures.answer
+
+pub is_sealed-has_type-requires-in-None : goal.is_sealed-has_type-requires-in-None
+is_sealed-has_type-requires-in-None t c = 
+    let k = c.in_ok-un-in-None.ensures.kept in
+    (omega (arith, size_keeps c.args.key k.messages c.requires.key, c.decreases), (below_keeps c.args.key k.messages c.requires.key, asked_alone (environment_keeps k c.requires.names) record { type = _; means = c.in_ok-un-in-None.ensures.at } c.new-values.ensures.items))
+
+pub is_sealed-has_type-requires-then-branch : goal.is_sealed-has_type-requires-then-branch
+is_sealed-has_type-requires-then-branch t c = 
+    let k = c.in_ok-un-in-None.ensures.kept in
+    let l = c.in_ok-has_type-in-None.ensures.kept in
+    let b = below_keeps c.args.body k.messages c.requires.body in
+    (omega (arith, size_keeps c.args.body k.messages c.requires.body, size_keeps c.args.body l.messages b, c.decreases), (below_keeps c.args.body l.messages b, asked_alone (environment_keeps l (environment_keeps k c.requires.names)) (given_keeps l record { type = _; means = c.in_ok-un-in-None.ensures.at }) (c.in_ok-has_type-in-None.ensures.values ∙ c.new-values.ensures.items)))
+
+pub is_sealed-returns-then-branch-clause-answer : goal.is_sealed-returns-then-branch-clause-answer
+is_sealed-returns-then-branch-clause-answer t c = by_un c.in-None.ensures.none c.in_ok-un-in-None.ensures.kept c.in_ok-un-in-None.ensures.at c.new-values.ensures.items c.requires.key c.in_ok-has_type-in-None.ensures.answer c.if-branch.true c.in_ok-has_type-in-None.ensures.kept c.in_ok-has_type-in-None.ensures.values c.requires.body c.has_type-then-branch.result c.has_type-then-branch.ensures.answer
+
+pub is_sealed-returns-clause-answer : goal.is_sealed-returns-clause-answer
+is_sealed-returns-clause-answer t c = not_by_un c.in-None.ensures.none c.in_ok-un-in-None.ensures.kept c.in_ok-un-in-None.ensures.at c.new-values.ensures.items c.requires.key c.in_ok-has_type-in-None.ensures.answer c.if-branch.false
+
+pub left_has_type-has_type-requires : goal.left_has_type-has_type-requires
+left_has_type-has_type-requires t c = (omega (arith, c.decreases), (c.requires.part, c.requires.asked))
+
+pub left_has_type-has_type-requires-in-Sum : goal.left_has_type-has_type-requires-in-Sum
+left_has_type-has_type-requires-in-Sum t c = (omega (arith, c.decreases), (c.requires.part, asked_part c.requires.asked ((sum_ty_of c.in-Sum.ensures c.requires.asked.given).first)))
+
+pub left_has_type-returns-in-Un-clause-answer : goal.left_has_type-returns-in-Un-clause-answer
+left_has_type-returns-in-Un-clause-answer t c = left_un _ _ _ (un_of c.in-Un.ensures) c.has_type.result c.has_type.ensures.answer
+
+pub left_has_type-returns-in-Sum-clause-answer : goal.left_has_type-returns-in-Sum-clause-answer
+left_has_type-returns-in-Sum-clause-answer t c = left_sum _ _ _ (sum_ty_of c.in-Sum.ensures c.requires.asked.given) c.has_type-in-Sum.result c.has_type-in-Sum.ensures.answer
+
+pub left_has_type-returns-in-Unit-clause-answer : goal.left_has_type-returns-in-Unit-clause-answer
+left_has_type-returns-in-Unit-clause-answer t c = left_untyped c.in-Unit.ensures refl
+
+pub left_has_type-returns-in-Pair-clause-answer : goal.left_has_type-returns-in-Pair-clause-answer
+left_has_type-returns-in-Pair-clause-answer t c = left_untyped c.in-Pair.ensures refl
+
+pub left_has_type-returns-in-Key-clause-answer : goal.left_has_type-returns-in-Key-clause-answer
+left_has_type-returns-in-Key-clause-answer t c = left_untyped c.in-Key.ensures refl
+
+pub left_has_type-returns-in-Nonce-clause-answer : goal.left_has_type-returns-in-Nonce-clause-answer
+left_has_type-returns-in-Nonce-clause-answer t c = left_untyped c.in-Nonce.ensures refl
+
+pub right_has_type-has_type-requires : goal.right_has_type-has_type-requires
+right_has_type-has_type-requires t c = (omega (arith, c.decreases), (c.requires.part, c.requires.asked))
+
+pub right_has_type-has_type-requires-in-Sum : goal.right_has_type-has_type-requires-in-Sum
+right_has_type-has_type-requires-in-Sum t c = (omega (arith, c.decreases), (c.requires.part, asked_part c.requires.asked ((sum_ty_of c.in-Sum.ensures c.requires.asked.given).second)))
+
+pub right_has_type-returns-in-Un-clause-answer : goal.right_has_type-returns-in-Un-clause-answer
+right_has_type-returns-in-Un-clause-answer t c = right_un _ _ _ (un_of c.in-Un.ensures) c.has_type.result c.has_type.ensures.answer
+
+pub right_has_type-returns-in-Sum-clause-answer : goal.right_has_type-returns-in-Sum-clause-answer
+right_has_type-returns-in-Sum-clause-answer t c = right_sum _ _ _ (sum_ty_of c.in-Sum.ensures c.requires.asked.given) c.has_type-in-Sum.result c.has_type-in-Sum.ensures.answer
+
+pub right_has_type-returns-in-Unit-clause-answer : goal.right_has_type-returns-in-Unit-clause-answer
+right_has_type-returns-in-Unit-clause-answer t c = right_untyped c.in-Unit.ensures refl
+
+pub right_has_type-returns-in-Pair-clause-answer : goal.right_has_type-returns-in-Pair-clause-answer
+right_has_type-returns-in-Pair-clause-answer t c = right_untyped c.in-Pair.ensures refl
+
+pub right_has_type-returns-in-Key-clause-answer : goal.right_has_type-returns-in-Key-clause-answer
+right_has_type-returns-in-Key-clause-answer t c = right_untyped c.in-Key.ensures refl
+
+pub right_has_type-returns-in-Nonce-clause-answer : goal.right_has_type-returns-in-Nonce-clause-answer
+right_has_type-returns-in-Nonce-clause-answer t c = right_untyped c.in-Nonce.ensures refl
+
+pub pair_has_type-has_type-requires : goal.pair_has_type-has_type-requires
+pair_has_type-has_type-requires t c = (omega (arith, c.decreases), (c.requires.first, c.requires.asked))
+
+pub pair_has_type-has_type-requires-then-branch : goal.pair_has_type-has_type-requires-then-branch
+pair_has_type-has_type-requires-then-branch t c = 
+    let k = c.in_ok-has_type-in-Un.ensures.kept in
+    (omega (arith, size_keeps c.args.b k.messages c.requires.second, c.decreases), (below_keeps c.args.b k.messages c.requires.second, asked_later k c.requires.asked c.in_ok-has_type-in-Un.ensures.values))
+
+pub pair_has_type-has_type-requires-in-Pair : goal.pair_has_type-has_type-requires-in-Pair
+pair_has_type-has_type-requires-in-Pair t c = (omega (arith, c.decreases), (c.requires.first, asked_part c.requires.asked ((pair_ty_of c.in-Pair.ensures c.requires.asked.given).first)))
+
+pub pair_has_type-returns-then-not-branch-clause-answer : goal.pair_has_type-returns-then-not-branch-clause-answer
+pair_has_type-returns-then-not-branch-clause-answer t c = pair_not (pair_ty_of c.in-Pair.ensures c.requires.asked.given) c.in_ok-has_type-in-Pair.ensures.answer c.if-not-branch.true
+
+pub pair_has_type-has_type-requires-in-Pair-2 : goal.pair_has_type-has_type-requires-in-Pair-2
+pair_has_type-has_type-requires-in-Pair-2 t c = 
+    let k = c.in_ok-has_type-in-Pair.ensures.kept in
+    (omega (arith, size_keeps c.args.b k.messages c.requires.second, c.decreases), (below_keeps c.args.b k.messages c.requires.second, asked_under k c.requires.asked ((pair_ty_of c.in-Pair.ensures c.requires.asked.given).second) c.requires.first c.in_ok-has_type-in-Pair.ensures.values c.in_ok-push-in-Pair.ensures.items))
+
+pub pair_has_type-returns-then-branch-clause-answer : goal.pair_has_type-returns-then-branch-clause-answer
+pair_has_type-returns-then-branch-clause-answer t c = pair_un c.args.a c.args.b (un_of c.in-Un.ensures) c.in_ok-has_type-in-Un.ensures.answer c.if-branch.true c.in_ok-has_type-in-Un.ensures.kept c.requires.second c.requires.asked.values c.in_ok-has_type-in-Un.ensures.values c.has_type-then-branch.result c.has_type-then-branch.ensures.answer
+
+pub pair_has_type-returns-else-branch-clause-answer : goal.pair_has_type-returns-else-branch-clause-answer
+pair_has_type-returns-else-branch-clause-answer t c = pair_un_not (un_of c.in-Un.ensures) c.in_ok-has_type-in-Un.ensures.answer c.if-branch.false
+
+pub pair_has_type-returns-in_ok-answer-in-Pair-clause-answer : goal.pair_has_type-returns-in_ok-answer-in-Pair-clause-answer
+pair_has_type-returns-in_ok-answer-in-Pair-clause-answer t c = 
+    let a = c.in_ok-has_type-in-Pair.ensures in
+    pair_pair (pair_ty_of c.in-Pair.ensures c.requires.asked.given) a.answer c.if-not-branch.false a.kept c.requires.first c.requires.second c.requires.asked.values (c.in_ok-push-in-Pair.ensures.items ∙ ap (λ us. us ++ c.args.a ∷ []) a.values) c.in_ok-answer-in-Pair.ensures.answer
+
+pub pair_has_type-returns-in-Unit-clause-answer : goal.pair_has_type-returns-in-Unit-clause-answer
+pair_has_type-returns-in-Unit-clause-answer t c = pair_untyped c.in-Unit.ensures refl
+
+pub pair_has_type-returns-in-Sum-clause-answer : goal.pair_has_type-returns-in-Sum-clause-answer
+pair_has_type-returns-in-Sum-clause-answer t c = pair_untyped c.in-Sum.ensures refl
+
+pub pair_has_type-returns-in-Key-clause-answer : goal.pair_has_type-returns-in-Key-clause-answer
+pair_has_type-returns-in-Key-clause-answer t c = pair_untyped c.in-Key.ensures refl
+
+pub pair_has_type-returns-in-Nonce-clause-answer : goal.pair_has_type-returns-in-Nonce-clause-answer
+pair_has_type-returns-in-Nonce-clause-answer t c = pair_untyped c.in-Nonce.ensures refl

@@ -1,0 +1,171 @@
+// Judgements in an environment over shared terms.
+
+ghost use Rattle.std.specs.Prelude.{◌≡◌, ◌↔◌, ◌+◌, ◌-◌, ◌<◌, ◌≤◌, ◌^◌, ◌++◌, ◌∷◌, ℕ, [], length, true, Some, IfOk, OnOk, OnErr, slice_get};
+ghost use Rattle.spi_term.specs.Term as Term;
+ghost use Rattle.spi_term.specs.SameTy.{SameTy};
+ghost use Rattle.spi_term.specs.Substitution.{ty_put};
+ghost use Rattle.spi_term.specs.View.{message, ty};
+ghost use Rattle.spi_rules.specs.Environment.{Env, untrusted};
+ghost use Rattle.spi_rules.specs.Messages.{HasType, IsLabel};
+ghost use Rattle.spi_rules.specs.Good.{GoodTy};
+ghost use Rattle.spi_intern.specs.Given.{IsGiven};
+ghost use Rattle.spi_intern.specs.Meaning.{Means, Keeps};
+ghost use Rattle.spi_intern.specs.Growing.{Adds, a_message, a_type};
+
+use crate::filling::filled_type;
+use crate::goodness::is_good_type;
+use crate::{NoMemory, typing};
+use spi_intern::{MsgId, Store, TyId};
+use spi_term::{Msg, Ty};
+use std::alloc::Global;
+use std::marker::Model;
+
+/// An environment over a store of its own: the type of each name is a number of that store. The first names, given
+/// at the start, are of type `Un` and stay.
+#[derive(Drop)]
+pub struct Judge {
+    store: Store,
+    types: Vec<TyId>,
+    free: u32,
+}
+
+impl Model for Judge {
+    ghost use Rattle.spi_intern.specs.Codes.{coded_message};
+    ghost use Rattle.spi_intern.specs.Kinds.{coded_kind};
+    ghost use Rattle.std.specs.Coded.{codes};
+    ghost use Rattle.spi_message.specs.Judging.{Numbered, IsJudge};
+
+    ghost Value = { Numbered };
+
+    ghost coded = { Prim.hlevel (codes, coded_message, coded_kind) };
+
+    ghost view = { λ j. record { store = j.store; free = j.free; types = j.types.items } };
+
+    ghost invariant = { λ j. IsJudge j.store j.free j.types.items };
+}
+
+impl Judge {
+    ghost use Rattle.spi_message.specs.Judging.{Stands, IsGivenSmall, IsKept};
+
+    /// `free` names of type `Un`, at most 100,000.
+    pub fn new(alloc: Global, free: u32) -> Result<Judge, NoMemory>
+        requires { free ≤ 100_000 }
+        ensures free { IfOk result (λ j. j.free ≡ free) }
+        ensures names { IfOk result (λ j. Stands j (untrusted free)) }
+    {
+        let mut store = Store::new(alloc);
+        let un = store.ty(alloc, &Ty::Un)?;
+        let mut types = Vec::new(alloc);
+        for name in 0..free {
+            let _ = name;
+            types.push(un)?;
+        }
+        Ok(Judge { store, types, free })
+    }
+
+    /// The number of a message, as `Store::message` of the judge's store gives it.
+    pub fn message(&mut self, m: &Msg) -> Result<MsgId, NoMemory>
+        ensures at { IfOk result (λ id. slice_get self.new.store.messages id.place ≡ Some (message m.now)) }
+        ensures equal { IfOk result (λ id. (j : ℕ) (n : Term.Message) → slice_get self.new.store.messages j ≡ Some n → (id.place ≡ j) ↔ (message m.now ≡ n)) }
+        ensures adds { OnOk result (Adds self.old.store self.new.store (a_message (message m.now))) }
+        ensures kept { IsKept self.old self.new }
+    {
+        self.store.message(m)
+    }
+
+    /// The number of a type, as `Store::ty` of the judge's store gives it.
+    pub fn ty(&mut self, alloc: Global, t: &Ty) -> Result<TyId, NoMemory>
+        ensures at { IfOk result (λ id. Means self.new.store id.place (ty t.now)) }
+        ensures equal { IfOk result (λ id. (j : ℕ) (u : Term.Ty) → Means self.new.store j u → (id.place ≡ j) ↔ SameTy (ty t.now) u) }
+        ensures adds { OnOk result (Adds self.old.store self.new.store (a_type (ty t.now))) }
+        ensures kept { IsKept self.old self.new }
+    {
+        self.store.ty(alloc, t)
+    }
+
+    /// Adds a name of this type at the end. On `NoMemory` the environment is as before.
+    pub fn bind(&mut self, t: TyId) -> Result<(), NoMemory>
+        requires room { length self.old.types < 2 ^ 32 - 1 }
+        requires ty { IsGiven self.old.store t.place }
+        ensures ok { OnOk result (self.new.types ≡ self.old.types ++ t ∷ []) }
+        ensures err { OnErr result (self.new.types ≡ self.old.types) }
+        ensures store { self.new.store ≡ self.old.store }
+        ensures free { self.new.free ≡ self.old.free }
+    {
+        self.types.push(t)?;
+        Ok(())
+    }
+
+    /// Takes the last name away. The names that were there at the start stay, so the length is above their number.
+    pub fn unbind(&mut self)
+        requires { self.old.free < length self.old.types }
+        ensures types { (t : TyId) × (self.old.types ≡ self.new.types ++ t ∷ []) }
+        ensures store { self.new.store ≡ self.old.store }
+        ensures free { self.new.free ≡ self.old.free }
+    {
+        let _ = self.types.pop();
+    }
+
+    /// The number of `t{x := m}`, where `t` stands under one binder x.
+    pub fn opened(&mut self, alloc: Global, t: TyId, m: MsgId) -> Result<TyId, NoMemory>
+        requires ty { IsGiven self.old.store t.place }
+        requires message { m.place < length self.old.store.messages }
+        ensures at { IfOk result (λ id. (u : Term.Ty) (n : Term.Message) → Means self.old.store t.place u → slice_get self.old.store.messages m.place ≡ Some n → Means self.new.store id.place (ty_put n u)) }
+        ensures kept { IsKept self.old self.new }
+    {
+        filled_type(alloc, &mut self.store, &[m], 0, t)
+    }
+
+    /// Whether the message has the type.
+    pub fn has_type(&mut self, alloc: Global, m: MsgId, t: TyId) -> Result<bool, NoMemory>
+        requires message { m.place < length self.old.store.messages }
+        requires ty { IsGiven self.old.store t.place }
+        ensures answer { IfOk result (λ b. (env : Env) (n : Term.Message) (u : Term.Ty) → Stands self.old env → slice_get self.old.store.messages m.place ≡ Some n → Means self.old.store t.place u → (b ≡ true) ↔ HasType [] env n u) }
+        ensures kept { IsKept self.old self.new }
+    {
+        let mut values = Vec::new(alloc);
+        typing::has_type(alloc, &mut self.store, &self.types, m, t, &mut values)
+    }
+
+    /// Whether the message is a label.
+    pub fn is_label(&mut self, alloc: Global, m: MsgId) -> Result<bool, NoMemory>
+        requires { m.place < length self.old.store.messages }
+        ensures answer { IfOk result (λ b. (env : Env) (n : Term.Message) → Stands self.old env → slice_get self.old.store.messages m.place ≡ Some n → (b ≡ true) ↔ IsLabel [] env n) }
+        ensures kept { IsKept self.old self.new }
+    {
+        typing::is_label(alloc, &mut self.store, &self.types, m)
+    }
+
+    /// Whether the type is good. The length of the environment and the nodes of the type are at most 4,294,967,295
+    /// together.
+    pub fn good_type(&mut self, alloc: Global, t: TyId) -> Result<bool, NoMemory>
+        requires { IsGivenSmall self.old.store t.place (length self.old.types) }
+        ensures answer { IfOk result (λ b. (env : Env) (u : Term.Ty) → Stands self.old env → Means self.old.store t.place u → (b ≡ true) ↔ GoodTy [] env u) }
+        ensures kept { IsKept self.old self.new }
+    {
+        let mut values = Vec::new(alloc);
+        is_good_type(alloc, &mut self.store, &mut self.types, t, &mut values)
+    }
+
+    /// How many names there are.
+    pub fn len(&self) -> u32
+        ensures { result ≡ length self.now.types }
+    {
+        self.types.len() as u32
+    }
+
+    /// The number of a name's type, for a name below the length.
+    pub fn at(&self, name: u32) -> TyId
+        requires { name < length self.now.types }
+        ensures { slice_get self.now.types name ≡ Some result }
+    {
+        self.types[name as usize]
+    }
+
+    /// The store whose numbers the judge gives and takes.
+    pub fn store(&self) -> &Store
+        ensures { result.now ≡ self.now.store }
+    {
+        &self.store
+    }
+}
