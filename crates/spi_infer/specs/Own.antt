@@ -1,5 +1,5 @@
 -- What the passes keep of a node by numbers, and what that stands for.
-use Rattle.std.specs.Prelude.{◌≡◌, ℕ, ◌<◌, List, [], Option, Some, None, slice_get, ⊤}
+use Rattle.std.specs.Prelude.{◌≡◌, ℕ, List, [], ◌∷◌, Option, Some, None, true, slice_get, nat_eq, ⊤}
 use Rattle.indexmap.specs.IndexMap.{get}
 use Rattle.spi_term.specs.Term.{Message, name, Atom, Effect, Ty, nonce, Prefix, Recvs, Serves, Splits, Selects, Decrypts, Checks, Begins, Ends, EndManys, Casts, Makes}
 use Rattle.spi_term.specs.Lists.{In}
@@ -12,7 +12,10 @@ use Rattle.spi_count.specs.Sums.{name_bound, message_of, key_of, Stands}
 use Rattle.spi_count.specs.declared.sum.Sum.{Sum}
 use Rattle.spi_infer.specs.declared.own.Own.{Own}
 use Rattle.spi_infer.specs.declared.own.Own.TheVariants.{Nothing, Label, Checked, Cast, Made}
+use Rattle.spi_infer.specs.declared.own.OwnNote.{OwnNote}
+use Rattle.spi_infer.specs.declared.keys.Keys.{Keys}
 use Rattle.spi_infer.specs.Keys.{Keyed}
+use Rattle.spi_infer.specs.Passes.{Note}
 use Rattle.spi_infer.specs.Forms.{cast_effect_of}
 
 -- the type of a nonce, where a check takes its effect off
@@ -47,3 +50,22 @@ StandsFor At None None = ⊤
 StandsFor At None (Some es) = ⊥
 StandsFor At (Some s) None = ⊥
 StandsFor At (Some s) (Some es) = Stands At s es
+
+-- the messages of a store that have their key among these
+abbrev pub with_keys : Store → Keys → ℕ → Message → Type 0
+with_keys s keys i m = Keyed s.messages (λ i. get nat_eq keys.keys i) i m
+
+-- What is kept of a node: whether the form's own premises hold, and where they do what it adds and takes off.
+abbrev pub NotedAs : Store → (ℕ → Message → Type 0) → Shape → Note → OwnNote → Type 0
+NotedAs s At x n o = (o.fine ≡ n.fine) × (n.fine ≡ true → Fits s At x n.paid o.own)
+
+pub data AreNoted (s : Store) (At : ℕ → Message → Type 0) : List Shape → List Note → List OwnNote → Type 0 where
+  noted_none : AreNoted s At [] [] []
+  noted_next : {x : Shape} {n : Note} {o : OwnNote} {ss : List Shape} {ns : List Note} {os : List OwnNote}
+      → NotedAs s At x n o → AreNoted s At ss ns os → AreNoted s At (x ∷ ss) (n ∷ ns) (o ∷ os)
+
+-- a stack that grows at its end, read from its top
+abbrev pub TopsStand : (ℕ → Message → Type 0) → List (Option Sum) → List (Option Effect) → Type 0
+TopsStand At [] st = st ≡ []
+TopsStand At (o ∷ os) [] = ⊥
+TopsStand At (o ∷ os) (e ∷ st) = StandsFor At o e × TopsStand At os st

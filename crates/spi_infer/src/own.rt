@@ -16,3 +16,11 @@ pub enum Own {
     /// The name that is made.
     Made(MsgId),
 }
+
+/// What the forward pass keeps of a node: whether what the form asks for itself holds, and where it does what it adds to
+/// an effect or takes off.
+#[derive(Clone, Copy, Debug)]
+pub struct OwnNote {
+    pub fine: bool,
+    pub own: Own,
+}
