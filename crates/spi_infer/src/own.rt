@@ -1,5 +1,6 @@
 // What the passes keep of a node by numbers.
 
+use crate::keys::Keys;
 use spi_intern::{MsgId, TyId};
 
 /// What a form adds to the effect of its process or takes off, by the numbers of a store.
@@ -23,4 +24,11 @@ pub enum Own {
 pub struct OwnNote {
     pub fine: bool,
     pub own: Own,
+}
+
+/// What the forward pass keeps of a process: of each node, and the keys of the messages in them.
+#[derive(Drop)]
+pub struct Noted {
+    pub notes: Vec<OwnNote>,
+    pub keys: Keys,
 }
