@@ -1,0 +1,11 @@
+use Rattle.std.proofs.Common.{refl, subst}
+use Rattle.spi_message.proofs.Judges.{judge_keeps, OpenedIn, opened_in}
+use Rattle.spi_message.proofs.judge.Judge.opened.Goals as goal
+
+pub invariant_of-self : goal.invariant_of-self
+invariant_of-self c = judge_keeps c.filled_type.ensures.kept refl c.self.invariant
+
+pub returns-clause-at : goal.returns-clause-at
+returns-clause-at c =
+    let s = c.self.inside in
+    subst (OpenedIn c.filled_type.result c.filled_type.new.store c.args.t c.args.m) c.self.view_is (opened_in s.store c.filled_type.new.store s.free s.types.items c.args.t c.args.m c.filled_type.result c.filled_type.ensures.at)
