@@ -40,17 +40,14 @@ env_kept {j} {k} h s = record { env = s.env; stands = stands_kept {j = j} {k = k
 pub test_kept : {j k : Numbered} {f : Env → Bool} {b : Bool} → IsKept j k → IsTest k f b → IsTest j f b
 test_kept {j} {k} h t = record { at = λ e s. t.at e (stands_kept {j = j} {k = k} h s) }
 
-pub message_kept : {j k : Numbered} {i : ℕ} {m : Message} → IsKept j k → slice_get j.store.messages i ≡ Some m → slice_get k.store.messages i ≡ Some m
-message_kept {i = i} {m = m} h e = h.store.messages.at i m e
-
-pub message_within : {j : Numbered} (i : ℕ) (m : Message) → slice_get j.store.messages i ≡ Some m → i < length j.store.messages
-message_within {j} i m e = get_below j.store.messages i m e
+pub message_kept : {j k : Numbered} (i : ℕ) (m : Message) → IsKept j k → slice_get j.store.messages i ≡ Some m → slice_get k.store.messages i ≡ Some m
+message_kept i m h e = h.store.messages.at i m e
 
 -- questions
 pub typed_test : {E : Type 0} (j k l : Numbered) (i : MsgId) (t : TyId) (m : Message) (u : Ty) → IsKept j k → IsKept k l → slice_get k.store.messages i.place ≡ Some m → Means l.store t.place u → (r : Result Bool E) → IfOk r (λ b. (e : Env) (n : Message) (v : Ty) → Stands l e → slice_get l.store.messages i.place ≡ Some n → Means l.store t.place v → (b ≡ true) ↔ HasType [] e n v) → IfOk r (IsTest j (λ e. typed m e u))
 typed_test j k l i t m u h g a w (Ok b) f = record {
   at = λ e s.
-      let q = f e m u (stands_kept {j = j} {k = l} (kept_more h g) s) (message_kept {j = k} {k = l} g a) w in
+      let q = f e m u (stands_kept {j = j} {k = l} (kept_more h g) s) (message_kept {j = k} {k = l} i.place m g a) w in
       truths b (typed m e u) (λ y. typed_from (q.0 y)) (λ y. q.1 (typed_true m e u y));
 }
 typed_test j k l i t m u h g a w (Err x) f = tt
@@ -96,12 +93,12 @@ or_then f g t h c (Err x) u = tt
 pub test_as : {j : Numbered} (F : Ty → Env → Bool) {t u : Ty} {b : Bool} → t ≡ u → IsTest j (F t) b → IsTest j (F u) b
 test_as {j} F {b = b} q t = subst (λ t. IsTest j (F t) b) q t
 
-pub fresh_then : {E : Type 0} {j : Numbered} (g : Env → Bool) {a c : Bool} → a ≡ c → a ≡ true → (r : Result Bool E) → IfOk r (IsTest j g) → IfOk r (IsTest j (λ e. c && g e))
-fresh_then g q h (Ok b) u = record { at = λ e s. u.at e s ∙ ap (λ a. a && g e) (sym h ∙ q) }
-fresh_then g q h (Err x) u = tt
+pub fresh_then : {E : Type 0} (j : Numbered) (g : Env → Bool) {a c : Bool} → a ≡ c → a ≡ true → (r : Result Bool E) → IfOk r (IsTest j g) → IfOk r (IsTest j (λ e. c && g e))
+fresh_then j g q h (Ok b) u = record { at = λ e s. u.at e s ∙ ap (λ a. a && g e) (sym h ∙ q) }
+fresh_then j g q h (Err x) u = tt
 
-pub fresh_not : {j : Numbered} (g : Env → Bool) {a c : Bool} → a ≡ c → a ≡ false → IsTest j (λ e. c && g e) false
-fresh_not g q h = record { at = λ e s. ap (λ a. a && g e) (sym h ∙ q) }
+pub fresh_not : (j : Numbered) (g : Env → Bool) {a c : Bool} → a ≡ c → a ≡ false → IsTest j (λ e. c && g e) false
+fresh_not j g q h = record { at = λ e s. ap (λ a. a && g e) (sym h ∙ q) }
 
 -- names of Nonce types
 abbrev part_is_nonce : TyPart → Bool
@@ -129,31 +126,31 @@ nonce_absent : (u : Ty) → is_nonce (nonce_in (Some u)) ≡ false → nonce_in 
 nonce_absent (nonce es) h = absurd (cc)
 nonce_absent _ h = refl
 
-pub nonce_found : {j : Numbered} (x : ℕ) {t : TyId} {b : Bool} → slice_get j.types x ≡ Some t → ((u : Ty) → Means j.store t.place u → b ≡ is_nonce (nonce_in (Some u))) → b ≡ true → IsNonceAt j (name x) t
-nonce_found {j} x {t = t} g f h = record {
+pub nonce_found : (j : Numbered) (x : ℕ) {t : TyId} {b : Bool} → slice_get j.types x ≡ Some t → ((u : Ty) → Means j.store t.place u → b ≡ is_nonce (nonce_in (Some u))) → b ≡ true → IsNonceAt j (name x) t
+nonce_found j x {t = t} g f h = record {
   at = λ e s.
       let w = stand_at s x t g in
       let n = nonce_there w.0 (sym (f w.0 w.2) ∙ h) in
       (n.0, ap nonce_in (w.1 ∙ ap Some n.1), subst (Means j.store t.place) n.1 w.2);
 }
 
-pub nonce_missed : {j : Numbered} (x : ℕ) {t : TyId} {b : Bool} → slice_get j.types x ≡ Some t → ((u : Ty) → Means j.store t.place u → b ≡ is_nonce (nonce_in (Some u))) → b ≡ false → IsNoNonce j (name x)
-nonce_missed {j} x {t = t} g f h = record {
+pub nonce_missed : (j : Numbered) (x : ℕ) {t : TyId} {b : Bool} → slice_get j.types x ≡ Some t → ((u : Ty) → Means j.store t.place u → b ≡ is_nonce (nonce_in (Some u))) → b ≡ false → IsNoNonce j (name x)
+nonce_missed j x {t = t} g f h = record {
   at = λ e s.
       let w = stand_at s x t g in
       ap nonce_in w.1 ∙ nonce_absent w.0 (sym (f w.0 w.2) ∙ h);
 }
 
-pub nonce_given : {j : Numbered} (x : ℕ) {t : TyId} → IsEnvironment j.store j.types → slice_get j.types x ≡ Some t → IsGiven j.store t.place
-nonce_given x {t = t} h g = let w = stand_at h.stands x t g in record { type = w.0; means = w.2 }
+pub nonce_given : (j : Numbered) (x : ℕ) {t : TyId} → IsEnvironment j.store j.types → slice_get j.types x ≡ Some t → IsGiven j.store t.place
+nonce_given j x {t = t} h g = let w = stand_at h.stands x t g in record { type = w.0; means = w.2 }
 
 past_get : {A : Type 0} (xs : List A) (i : ℕ) → (i < length xs → ⊥) → slice_get xs i ≡ None
 past_get [] i h = refl
 past_get (x ∷ xs) zero h = absurd (h (omega arith))
 past_get (x ∷ xs) (suc i) h = past_get xs i (λ l. h (omega arith))
 
-pub nonce_past : {j : Numbered} (x : ℕ) → (x < length j.types → ⊥) → IsNoNonce j (name x)
-nonce_past {j} x h = record { at = λ e s. ap nonce_in (stand_none_at s x (past_get j.types x h)) }
+pub nonce_past : (j : Numbered) (x : ℕ) → (x < length j.types → ⊥) → IsNoNonce j (name x)
+nonce_past j x h = record { at = λ e s. ap nonce_in (stand_none_at s x (past_get j.types x h)) }
 
 pub nonce_test : {j : Numbered} {m : Message} {t : TyId} (g : Env → Bool) → IsNonceAt j m t → IsTest j (λ e. is_nonce (nonce_of e m) || g e) true
 nonce_test {m = m} g n = record { at = λ e s. let w = n.at e s in sym (ap (λ o. is_nonce o || g e) w.1) }
