@@ -14,6 +14,7 @@ use spi_term::{Form, Msg, Node, Ty};
 use std::alloc::Global;
 
 // One more name of this type.
+#[tactic(auto, using(crate::proofs::Bound::above_kept))]
 fn bind_type(alloc: Global, judge: &mut Judge, t: &Ty) -> Result<(), NoMemory>
     requires { length judge.old.types ≤ 400000 }
     ensures bound { OnOk result (Turns judge.old judge.new (λ e. e ++ type_of t.now ∷ [])) }
@@ -25,6 +26,7 @@ fn bind_type(alloc: Global, judge: &mut Judge, t: &Ty) -> Result<(), NoMemory>
 }
 
 // One more name, of a type that stands under a binder, for which this message stands.
+#[tactic(auto, using(crate::proofs::Bound::above_kept, crate::proofs::Bound::above_more))]
 fn bind_opened(alloc: Global, judge: &mut Judge, t: &Ty, value: &Msg) -> Result<(), NoMemory>
     requires { length judge.old.types ≤ 400000 }
     ensures bound { OnOk result (Turns judge.old judge.new (λ e. e ++ ty_put (message value.now) (type_of t.now) ∷ [])) }
@@ -36,6 +38,7 @@ fn bind_opened(alloc: Global, judge: &mut Judge, t: &Ty, value: &Msg) -> Result<
     judge.bind(filled)
 }
 
+#[tactic(auto, using(crate::proofs::Bound::above_more))]
 fn enter_split(
     alloc: Global,
     judge: &mut Judge,
@@ -52,6 +55,7 @@ fn enter_split(
 }
 
 /// The names that a form binds in its first process are bound.
+#[tactic(auto, using(crate::proofs::Bound::turns_same, crate::proofs::Bound::turns_nil, crate::proofs::Bound::above_same))]
 pub fn enter(alloc: Global, judge: &mut Judge, node: &Node) -> Result<(), NoMemory>
     requires { length judge.old.types ≤ 300001 }
     ensures bound { OnOk result (Turns judge.old judge.new (λ e. entered e (shape_of node.now))) }
