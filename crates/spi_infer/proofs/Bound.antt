@@ -32,7 +32,7 @@ above_more {a} g h = record {
 pub above_same : (a : Numbered) → IsAbove a a
 above_same a = record { store = terms_same a.store; free = refl; more = []; types = sym (append-nil a.types) }
 
-same_store : {s r : Store} → r ≡ s → Keeps s r
+pub same_store : {s r : Store} → r ≡ s → Keeps s r
 same_store {s} e = subst (λ r. Keeps s r) (sym e) (terms_same s)
 
 pub above_bind : {A E : Type 0} (a b : Numbered) (t : TyId) → b.store ≡ a.store → b.free ≡ a.free → (r : Result A E) → OnOk r (b.types ≡ a.types ++ t ∷ []) → OnErr r (b.types ≡ a.types) → IsAbove a b
@@ -146,3 +146,13 @@ turns_due j k l i n m u ws vs q v h (Err x) g = tt
 
 pub length_cut : (ids js : List TyId) (n : ℕ) → js ≡ take n ids → length js ≤ n
 length_cut ids js n e = omega (arith, ap length e, length-take n ids)
+
+pub reaches_less : (a b i k : ℕ) (ws : List Wait) → b ≤ a → Reaches a i k ws → Reaches b i k ws
+reaches_less a b i k [] l h = omega arith
+reaches_less a b i k (wait r u ∷ ws) l h = go (if eqb r i then k - 1 else k) h
+  where
+    go : (n : ℕ) → a ≤ n → b ≤ n
+    go n h = omega arith
+
+pub kept_itself : (s : Store) → Keeps s s
+kept_itself s = terms_same s

@@ -1,6 +1,6 @@
 -- What is kept of the nodes stays as the store and the keys grow.
 use Rattle.std.proofs.Common.{◌≡◌, ℕ, zero, suc, ◌+◌, ◌*◌, ◌<◌, ◌⊎◌, inl, inr, ⊎_elim, Bool, true, false, eqb, List, [], ◌∷◌, ◌++◌, Option, Some, None, length, refl, sym, ap, subst, ◌∙◌, arith, eq-eqb, Result, Ok, Err, IfOk}
-use Rattle.std.specs.Prelude.{slice_get, nat_eq, if◌then◌else◌, IfSome, IfNone, OnOk}
+use Rattle.std.specs.Prelude.{slice_get, nat_eq, if◌then◌else◌, IfSome, IfNone, OnOk, ⊤}
 use Rattle.std.proofs.lemmas.Bool.{eqb-true}
 use Rattle.indexmap.specs.IndexMap.{get}
 use Rattle.spi_term.specs.Term.{Message, name, Atom, Effect, Ty, nonce, Prefix, Recvs, Serves, Splits, Selects, Decrypts, Checks, Begins, Ends, EndManys, Casts, Makes}
@@ -146,3 +146,51 @@ have_more {s} {ks} (c ∷ es) a h k b (in_later w) = have_more {s = s} {ks = ks}
 pub paid_fits : {s : Store} (o : Option TyId) (e : Env) (n : Message) (P : TyId → Type 0) (Q : Type 0) → IfSome o P → IfNone o Q → ((t : TyId) → P t → (es : Effect) × (nonce_of e n ≡ Some es) × Means s t.place (nonce es)) → (Q → nonce_of e n ≡ None) → PaidFits s o (nonce_of e n)
 paid_fits {s} (Some t) e n P Q h g f z = let w = f t h in subst (PaidFits s (Some t)) (sym w.1) w.2
 paid_fits {s} None e n P Q h g f z = subst (PaidFits s None) (sym (z g)) tt
+
+pub none_as : (s : Store) (ks : Keys) (es : Effect) → es ≡ [] → HaveKeys s ks es
+none_as s ks es e = subst (λ es. HaveKeys s ks es) (sym e) (have_none s ks)
+
+-- forms of which nothing is kept
+abbrev pub IsQuietForm : Prefix → Type 0
+IsQuietForm (Recvs m t) = ⊤
+IsQuietForm (Serves m t) = ⊤
+IsQuietForm (Splits m t u) = ⊤
+IsQuietForm (Selects m t n u) = ⊤
+IsQuietForm (Decrypts m t n) = ⊤
+IsQuietForm (Checks m n) = ⊥
+IsQuietForm (Begins m) = ⊥
+IsQuietForm (Ends m) = ⊥
+IsQuietForm (EndManys m) = ⊥
+IsQuietForm (Casts m t) = ⊥
+IsQuietForm (Makes t) = ⊥
+
+abbrev pub IsQuiet : Shape → Type 0
+IsQuiet (leaf_at k l) = ⊤
+IsQuiet (prefix_at k p b) = IsQuietForm p
+IsQuiet (fork_at k f a r) = ⊤
+
+quiet_form : (s : Store) (At : ℕ → Message → Type 0) (k : ℕ) (p : Prefix) (paid : Option Effect) (own : Own) → IsQuietForm p → FormFits s At k p paid own
+quiet_form s At k (Recvs m t) paid own h = tt
+quiet_form s At k (Serves m t) paid own h = tt
+quiet_form s At k (Splits m t u) paid own h = tt
+quiet_form s At k (Selects m t n u) paid own h = tt
+quiet_form s At k (Decrypts m t n) paid own h = tt
+quiet_form s At k (Checks m n) paid own h = absurd h
+quiet_form s At k (Begins m) paid own h = absurd h
+quiet_form s At k (Ends m) paid own h = absurd h
+quiet_form s At k (EndManys m) paid own h = absurd h
+quiet_form s At k (Casts m t) paid own h = absurd h
+quiet_form s At k (Makes t) paid own h = absurd h
+
+quiet_shape : (s : Store) (At : ℕ → Message → Type 0) (x : Shape) (paid : Option Effect) (own : Own) → IsQuiet x → Fits s At x paid own
+quiet_shape s At (leaf_at k l) paid own h = tt
+quiet_shape s At (prefix_at k p b) paid own h = quiet_form s At k p paid own h
+quiet_shape s At (fork_at k f a r) paid own h = tt
+
+pub quiet_fits : (j k : Numbered) (ks : Keys) (x : Shape) (own : Own) → IsQuiet x → FitsIn j k ks x own
+quiet_fits j k ks x own h = record { at = λ e s. quiet_shape k.store (with_keys k.store ks) x (note_of e x).paid own h }
+
+-- the others
+pub fits_at : {E : Type 0} (j k : Numbered) (ks : Keys) (x : Shape) {y : Shape} → x ≡ y → (r : Result Own E) {P : Own → Type 0} → IfOk r P → ((own : Own) → P own → (e : Env) → Stands j e → Fits k.store (with_keys k.store ks) y (note_of e y).paid own) → IfOk r (FitsIn j k ks x)
+fits_at j k ks x {y = y} q (Ok own) h f = subst (λ x. FitsIn j k ks x own) (sym q) (record { at = f own h })
+fits_at j k ks x q (Err e) h f = tt

@@ -3,6 +3,7 @@ ghost use Rattle.std.specs.Prelude.{◌≡◌, ◌+◌, ◌-◌, ◌^◌, ◌<�
 ghost use Rattle.spi_term.specs.Term.{name};
 ghost use Rattle.spi_term.specs.Substitution.{ty_put};
 ghost use Rattle.spi_term.specs.View.{message, ty as type_of, shape_of};
+ghost use Rattle.spi_intern.specs.Meaning.{Keeps};
 ghost use Rattle.spi_message.specs.Judging.{Numbered, Stands};
 ghost use Rattle.spi_infer.specs.Passes.{entered, settled, left_waiting};
 ghost use Rattle.spi_infer.specs.Inferring.{waits};
@@ -134,6 +135,7 @@ pub fn cut_to(judge: &mut Judge, count: u32)
 }
 
 /// The environment is cut back to a node's scope, and the type that waits for the node is bound.
+#[tactic(auto, using(crate::proofs::Bound::kept_itself))]
 pub fn settle(
     alloc: Global,
     judge: &mut Judge,
@@ -146,6 +148,7 @@ pub fn settle(
     ensures bound { OnOk result (Turns judge.old judge.new (λ e. settled id scope e (waits pending.old.items))) }
     ensures rest { OnOk result (waits pending.new.items ≡ left_waiting id (waits pending.old.items)) }
     ensures few { OnOk result (length judge.new.types ≤ 300001) }
+    ensures store { Keeps judge.old.store judge.new.store }
     ensures above { (first : Numbered) → IsAbove first judge.old → Reaches (length first.types) id scope (waits pending.old.items) → IsAbove first judge.new }
 {
     match due(id, pending)? {
