@@ -34,15 +34,15 @@ pub grows_more : {s r q : Store} {ks ls ms : Keys} → GrowsTo s ks r ls → Gro
 grows_more g h = record { store = terms_more g.store h.store; keys = λ i k e. h.keys i k (g.keys i k e); are = h.are }
 
 -- the keys of a store are keys in one that has more
-pub kept_as : {s r : Store} {ks : Keys} → Keeps s r → AreKept s ks → AreKept r ks
-kept_as {s} {r} {ks} g h = record {
+pub kept_as : {s r : Store} (ks : Keys) → Keeps s r → AreKept s ks → AreKept r ks
+kept_as {s} {r} ks g h = record {
   keyed = λ i k e.
       let w = h.keyed i k e in
       (w.0, record { at = g.messages.at i w.0 w.1.at; key = w.1.key; small = w.1.small });
 }
 
 pub grows_store : {s r : Store} {ks : Keys} → Keeps s r → AreKept s ks → GrowsTo s ks r ks
-grows_store g h = record { store = g; keys = λ i k e. e; are = kept_as g h }
+grows_store {ks = ks} g h = record { store = g; keys = λ i k e. e; are = kept_as ks g h }
 
 -- one more key
 module _ (s : Store) (ks ls : Keys) (id : ℕ) (m : Message) (at : slice_get s.messages id ≡ Some m) (small : id < 4294967296) (new : (i : ℕ) → get nat_eq ls.keys i ≡ (if eqb id i then Some (key_of (name_bound m) id) else get nat_eq ks.keys i)) where
@@ -119,9 +119,9 @@ module _ {s r : Store} {ks ls : Keys} (g : GrowsTo s ks r ls) where
   are_noted_keep noted_none = noted_none
   are_noted_keep (noted_next {x = x} {n = n} {o = o} h t) = noted_next (noted_keeps x n o h) (are_noted_keep t)
 
-pub noted_push : {s : Store} {At : ℕ → Message → Type 0} {x : Shape} {n : Note} {o : OwnNote} {ss : List Shape} {ns : List Note} {os : List OwnNote} → AreNoted s At ss ns os → NotedAs s At x n o → AreNoted s At (ss ++ x ∷ []) (ns ++ n ∷ []) (os ++ o ∷ [])
-noted_push noted_none h = noted_next h noted_none
-noted_push (noted_next g t) h = noted_next g (noted_push t h)
+pub noted_push : {s : Store} {At : ℕ → Message → Type 0} (x : Shape) (n : Note) (o : OwnNote) {ss : List Shape} {ns : List Note} {os : List OwnNote} → AreNoted s At ss ns os → NotedAs s At x n o → AreNoted s At (ss ++ x ∷ []) (ns ++ n ∷ []) (os ++ o ∷ [])
+noted_push x n o noted_none h = noted_next h noted_none
+noted_push x n o (noted_next g t) h = noted_next g (noted_push x n o t h)
 
 -- answers of calls
 pub if_ok : {A E : Type 0} {P Q : A → Type 0} (r : Result A E) → ((a : A) → P a → Q a) → IfOk r P → IfOk r Q
@@ -136,11 +136,11 @@ on_ok (Err e) f h = tt
 pub have_none : (s : Store) (ks : Keys) → HaveKeys s ks []
 have_none s ks a w = elim w [ ]
 
-pub have_more : {s : Store} {ks : Keys} (es : Effect) (a : Atom) {i : ℕ} → HaveKeys s ks es → with_keys s ks i (message_of a) → HaveKeys s ks (es ++ a ∷ [])
-have_more [] a {i = i} h k b in_first = (i, k)
-have_more [] a h k b (in_later w) = elim w [ ]
-have_more (c ∷ es) a h k b in_first = h b in_first
-have_more {s} {ks} (c ∷ es) a h k b (in_later w) = have_more {s = s} {ks = ks} es a (λ d v. h d (in_later v)) k b w
+pub have_more : (s : Store) (ks : Keys) (es : Effect) (a : Atom) {i : ℕ} → HaveKeys s ks es → with_keys s ks i (message_of a) → HaveKeys s ks (es ++ a ∷ [])
+have_more s ks [] a {i = i} h k b in_first = (i, k)
+have_more s ks [] a h k b (in_later w) = elim w [ ]
+have_more s ks (c ∷ es) a h k b in_first = h b in_first
+have_more s ks (c ∷ es) a h k b (in_later w) = have_more s ks es a (λ d v. h d (in_later v)) k b w
 
 -- what a check pays for
 pub paid_fits : {s : Store} (o : Option TyId) (e : Env) (n : Message) (P : TyId → Type 0) (Q : Type 0) → IfSome o P → IfNone o Q → ((t : TyId) → P t → (es : Effect) × (nonce_of e n ≡ Some es) × Means s t.place (nonce es)) → (Q → nonce_of e n ≡ None) → PaidFits s o (nonce_of e n)

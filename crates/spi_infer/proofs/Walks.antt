@@ -118,7 +118,7 @@ take_at_get (y ∷ ss) (suc i) x e =
 pub walked_next : {ss : List Shape} {start : Env} {i : ℕ} {j k : Numbered} {ks ls : Keys} {ws : List Wait} {os : List OwnNote} (n : ℕ) (x : Shape) (vs : List Wait) (o : OwnNote) (ps : List OwnNote) → Walked ss start i j ks ws os → slice_get ss i ≡ Some x → scope_of x ≡ n → IsPassed j k ls i n x ws o → GrowsTo j.store ks k.store ls → vs ≡ waiting (left_waiting i ws) x → ps ≡ os ++ o ∷ [] → Walked ss start (i + 1) k ls vs ps
 walked_next {ss} {start} {i} {j} {k} {ks} {ls} {ws} {os} n x vs o ps w e q p g v r =
     let cut = settled i n w.env ws in
-    let more = noted_push (are_noted_keep {s = j.store} {r = k.store} {ks = ks} {ls = ls} g w.noted) (p.noted w.env w.stands) in
+    let more = noted_push x (note_of cut x) o (are_noted_keep {s = j.store} {r = k.store} {ks = ks} {ls = ls} g w.noted) (p.noted w.env w.stands) in
     record {
       env = entered cut x;
       stands = p.enters w.env w.stands;

@@ -46,6 +46,7 @@ fn keep_atom(judge: &mut Judge, keys: &mut Keys, a: &Atom) -> Result<MsgId, NoMe
 }
 
 // The keys of an effect's messages are kept.
+#[tactic(auto, using(crate::proofs::Asked::kept_more, crate::proofs::Asked::kept_same))]
 fn keep_atoms(judge: &mut Judge, keys: &mut Keys, e: &Effect) -> Result<(), NoMemory>
     requires { AreKept judge.old.store keys.old }
     ensures at { OnOk result (HaveKeys judge.new.store keys.new (effect e.now)) }
@@ -59,6 +60,7 @@ fn keep_atoms(judge: &mut Judge, keys: &mut Keys, e: &Effect) -> Result<(), NoMe
 }
 
 // The keys of the messages in the effect of a cast are kept.
+#[tactic(auto, using(crate::proofs::Asked::kept_same, crate::proofs::Kept::grows_same))]
 fn keep_cast(judge: &mut Judge, keys: &mut Keys, t: &Ty) -> Result<(), NoMemory>
     requires { AreKept judge.old.store keys.old }
     ensures at { OnOk result (HaveKeys judge.new.store keys.new (cast_effect_of (type_of t.now))) }
@@ -75,6 +77,7 @@ fn keep_cast(judge: &mut Judge, keys: &mut Keys, t: &Ty) -> Result<(), NoMemory>
     }
 }
 
+#[tactic(auto, using(crate::proofs::Asked::kept_more))]
 fn cast_own(alloc: Global, judge: &mut Judge, keys: &mut Keys, t: &Ty) -> Result<Own, NoMemory>
     requires { AreKept judge.old.store keys.old }
     ensures fits { IfOk result (FormFits judge.new.store (with_keys judge.new.store keys.new) 0 (Term.Casts Term.unit (type_of t.now)) None) }
@@ -134,6 +137,7 @@ fn check_own(judge: &mut Judge, keys: &mut Keys, m: &Msg, nonce: &Msg) -> Result
 }
 
 // What is kept of a form.
+#[tactic(auto, using(crate::proofs::Asked::kept_same, crate::proofs::Kept::grows_same))]
 fn own_of(
     alloc: Global,
     judge: &mut Judge,
@@ -207,6 +211,7 @@ fn own_of(
 }
 
 /// What is kept of a node.
+#[tactic(auto, using(crate::proofs::Asked::kept_more))]
 pub fn own_note(
     alloc: Global,
     judge: &mut Judge,
