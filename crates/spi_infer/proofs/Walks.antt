@@ -99,14 +99,17 @@ later_reaches ss base i k x (wait r u ∷ ws) h e q l = go (eqb r i) refl
     go false f = subst (λ b. base ≤ (if b then k - 1 else k)) (sym f) l
 
 -- the walk
-pub walked_start : (ss : List Shape) (e : Env) (j : Numbered) (ks : Keys) (os : List OwnNote) → Stands j e → os ≡ [] → Walked ss e 0 j ks [] os
-walked_start ss e j ks os s q = record {
+pub walked_start : (ss : List Shape) (e : Env) (j : Numbered) (ks : Keys) (ws : List Wait) (os : List OwnNote) → Stands j e → ws ≡ [] → os ≡ [] → Walked ss e 0 j ks ws os
+walked_start ss e j ks ws os s p q = record {
   env = e;
   stands = s;
   notes = [];
   noted = subst (λ os. AreNoted j.store (with_keys j.store ks) [] [] os) (sym q) noted_none;
-  rest = refl;
+  rest = ap (λ ws. scan 0 e ws ss) p;
 }
+
+pub later_none : (ss : List Shape) (base : ℕ) (ws : List Wait) → ws ≡ [] → AreLater ss base ws
+later_none ss base ws p = subst (AreLater ss base) (sym p) tt
 
 take_at_get : (ss : List Shape) (i : ℕ) (x : Shape) → slice_get ss i ≡ Some x → take i ss ++ x ∷ [] ≡ take (i + 1) ss
 take_at_get [] i x e = absurd (cc)

@@ -159,11 +159,7 @@ fn is_untrusted_over(alloc: Global, judge: &mut Judge, m: &Msg, t: &Ty) -> Resul
     ensures kept { IsKept judge.old judge.new }
 {
     let first = is_untrusted(alloc, judge, m)?;
-    if first {
-        Ok(is_un_type(t))
-    } else {
-        Ok(false)
-    }
+    if first { Ok(is_un_type(t)) } else { Ok(false) }
 }
 
 // The message has type Un, and both names that are bound too.
@@ -179,11 +175,7 @@ fn is_untrusted_over_two(
     ensures kept { IsKept judge.old judge.new }
 {
     let first = is_untrusted(alloc, judge, m)?;
-    if first {
-        Ok(are_un(t, u))
-    } else {
-        Ok(false)
-    }
+    if first { Ok(are_un(t, u)) } else { Ok(false) }
 }
 
 // The message has a type, and the other type is good.

@@ -40,12 +40,7 @@ fn bind_opened(alloc: Global, judge: &mut Judge, t: &Ty, value: &Msg) -> Result<
 }
 
 #[tactic(auto, using(crate::proofs::Bound::above_more))]
-fn enter_split(
-    alloc: Global,
-    judge: &mut Judge,
-    first: &Ty,
-    second: &Ty,
-) -> Result<(), NoMemory>
+fn enter_split(alloc: Global, judge: &mut Judge, first: &Ty, second: &Ty) -> Result<(), NoMemory>
     requires { length judge.old.types ≤ 300001 }
     ensures bound { OnOk result (Turns judge.old judge.new (λ e. e ++ type_of first.now ∷ (ty_put (name (length e)) (type_of second.now) ∷ []))) }
     ensures above { IsAbove judge.old judge.new }

@@ -138,12 +138,7 @@ fn check_own(judge: &mut Judge, keys: &mut Keys, m: &Msg, nonce: &Msg) -> Result
 
 // What is kept of a form.
 #[tactic(auto, using(crate::proofs::Asked::kept_same, crate::proofs::Kept::grows_same))]
-fn own_of(
-    alloc: Global,
-    judge: &mut Judge,
-    keys: &mut Keys,
-    node: &Node,
-) -> Result<Own, NoMemory>
+fn own_of(alloc: Global, judge: &mut Judge, keys: &mut Keys, node: &Node) -> Result<Own, NoMemory>
     requires keys { AreKept judge.old.store keys.old }
     requires names { IsEnvironment judge.old.store judge.old.types }
     ensures fits { IfOk result (FitsIn judge.old judge.new keys.new (shape_of node.now)) }

@@ -58,7 +58,8 @@ impl Keys {
         if place >= 4_294_967_296 || above >= 4_294_967_296 {
             return Err(AllocError);
         }
-        self.keys.insert(place, above * 4_294_967_296 + place as u64)?;
+        self.keys
+            .insert(place, above * 4_294_967_296 + place as u64)?;
         Ok(())
     }
 }

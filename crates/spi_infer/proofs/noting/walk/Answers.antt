@@ -7,7 +7,7 @@ use Rattle.spi_term.proofs.Places.{scope_of_shape}
 use Rattle.spi_infer.specs.Inferring.{waits}
 use Rattle.spi_infer.specs.Walking.{AreLater, Reaches, Walked}
 use Rattle.spi_infer.proofs.Bound.{above_same, above_more, reaches_less}
-use Rattle.spi_infer.proofs.Walks.{names_low, parts_at, later_next, later_reaches, walked_start, walked_next, walked_end}
+use Rattle.spi_infer.proofs.Walks.{names_low, parts_at, later_none, later_next, later_reaches, walked_start, walked_next, walked_end}
 use Rattle.spi_infer.proofs.noting.walk.Goals.{After-node-node}
 use Rattle.spi_infer.proofs.noting.walk.Goals as goal
 
@@ -47,10 +47,10 @@ visit-requires-clause-names c =
 
 pub loop-id-init : goal.loop-id-init
 loop-id-init c = record {
-  walked = λ e s. walked_start (spelled c.args.process.now.names c.args.process.now.process) e c.args.judge.now c.new-keys.result c.new-notes.result.items s c.new-notes.ensures.items;
+  walked = λ e s. walked_start (spelled c.args.process.now.names c.args.process.now.process) e c.args.judge.now c.new-keys.result (waits c.new-pending.result.items) c.new-notes.result.items s (ap waits c.new-pending.ensures.items) c.new-notes.ensures.items;
   keys = record { keyed = λ i k e. absurd (no_key (c.new-keys.ensures i) e) };
   above = above_same c.args.judge.now;
-  later = tt;
+  later = later_none (spelled c.args.process.now.names c.args.process.now.process) (length c.args.judge.now.types) (waits c.new-pending.result.items) (ap waits c.new-pending.ensures.items);
 }
 
 pub loop-id-preserved : goal.loop-id-preserved
