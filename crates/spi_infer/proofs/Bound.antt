@@ -1,5 +1,5 @@
 -- Names that are bound in a judge and taken away.
-use Rattle.std.proofs.Common.{◌≡◌, ℕ, zero, suc, ◌+◌, ◌-◌, ◌<◌, ◌≤◌, Bool, true, false, eqb, List, [], ◌∷◌, ◌++◌, Option, Some, None, length, take, drop, refl, sym, ap, subst, ◌∙◌, arith, append_assoc, append-nil, length-take, eq-eqb, Result, Ok, Err, IfOk}
+use Rattle.std.proofs.Common.{◌≡◌, ℕ, zero, suc, ◌+◌, ◌-◌, ◌<◌, ◌≤◌, Bool, true, false, eqb, List, [], ◌∷◌, ◌++◌, Option, Some, None, length, take, drop, refl, sym, ap, subst, ◌∙◌, arith, append_assoc, append-nil, length-take, length-append, eq-eqb, Result, Ok, Err, IfOk}
 use Rattle.std.specs.Prelude.{slice_get, if◌then◌else◌, OnOk, OnErr}
 use Rattle.std.proofs.lemmas.List.{take-append-le, take_all}
 use Rattle.std.proofs.Math.Seq.{take-append-add}
@@ -13,7 +13,8 @@ use Rattle.spi_intern.proofs.Meanings.{terms_same, terms_more}
 use Rattle.spi_message.specs.Judging.{Numbered, Stands, StandFor, stand_none, stand_next, IsKept}
 use Rattle.spi_message.proofs.Standing.{stand_push, stand_length}
 use Rattle.spi_infer.specs.Passes.{Wait, wait, settled, IsCalm}
-use Rattle.spi_infer.specs.Walking.{Turns, IsAbove, Reaches}
+use Rattle.spi_infer.specs.Walking.{Turns, IsAbove}
+use Rattle.spi_infer.specs.Waiting.{Reaches}
 use Rattle.spi_infer.proofs.Asked.{stands_kept}
 use Rattle.spi_infer.proofs.Stacks.{calm_settled, due_settled}
 
@@ -46,12 +47,15 @@ turns_same j = record { at = λ e s. s }
 pub turns_nil : (j : Numbered) → Turns j j (λ e. e ++ [])
 turns_nil j = record { at = λ e s. subst (λ e. StandFor j.store j.types e) (sym (append-nil e)) s }
 
-pub turns_bind : {A E : Type 0} (j k l : Numbered) (i : TyId) (t : Ty) → IsKept j k → Means k.store i.place t → l.store ≡ k.store → (r : Result A E) → OnOk r (l.types ≡ k.types ++ i ∷ []) → OnOk r (Turns j l (λ e. e ++ t ∷ []))
-turns_bind j k l i t h m q (Ok x) g = record {
+pub turns_bound : (j k l : Numbered) (i : TyId) (t : Ty) → IsKept j k → Means k.store i.place t → l.store ≡ k.store → l.types ≡ k.types ++ i ∷ [] → Turns j l (λ e. e ++ t ∷ [])
+turns_bound j k l i t h m q g = record {
   at = λ e s.
       let w = stand_push (stands_kept {j = j} {k = k} h s) m in
       subst (λ ids. StandFor l.store ids (e ++ t ∷ [])) (sym g) (subst (λ r. StandFor r (k.types ++ i ∷ []) (e ++ t ∷ [])) (sym q) w);
 }
+
+pub turns_bind : {A E : Type 0} (j k l : Numbered) (i : TyId) (t : Ty) → IsKept j k → Means k.store i.place t → l.store ≡ k.store → (r : Result A E) → OnOk r (l.types ≡ k.types ++ i ∷ []) → OnOk r (Turns j l (λ e. e ++ t ∷ []))
+turns_bind j k l i t h m q (Ok x) g = turns_bound j k l i t h m q g
 turns_bind j k l i t h m q (Err x) g = tt
 
 pub more_bind : {A E : Type 0} (j k l : Numbered) (i : TyId) → IsKept j k → (r : Result A E) → OnOk r (l.types ≡ k.types ++ i ∷ []) → OnOk r (length l.types ≡ length j.types + 1)
@@ -134,15 +138,18 @@ reaches_due base i k u ws h = subst (λ b. base ≤ (if b then k - 1 else k)) (e
 pub turns_calm : (j k : Numbered) (i n : ℕ) (ws : List Wait) → IsCalm i ws → Turns j k (λ e. take n e) → Turns j k (λ e. settled i n e ws)
 turns_calm j k i n ws c h = record { at = λ e s. subst (λ e. StandFor k.store k.types e) (sym (calm_settled i n e ws c)) (h.at e s) }
 
-pub turns_due : {A E : Type 0} (j k l : Numbered) (i n m : ℕ) (u : Ty) (ws vs : List Wait) → m ≡ n - 1 → vs ≡ wait i u ∷ ws → Turns j k (λ e. take m e) → (r : Result A E) → OnOk r (Turns k l (λ e. e ++ u ∷ [])) → OnOk r (Turns j l (λ e. settled i n e vs))
-turns_due j k l i n m u ws vs q v h (Ok x) g = record {
+pub turns_due : (j k l : Numbered) (i n m : ℕ) (u : Ty) (ws vs : List Wait) → m ≡ n - 1 → vs ≡ wait i u ∷ ws → Turns j k (λ e. take m e) → Turns k l (λ e. e ++ u ∷ []) → Turns j l (λ e. settled i n e vs)
+turns_due j k l i n m u ws vs q v h g = record {
   at = λ e s.
       let w = g.at (take m e) (h.at e s) in
       let p : take m e ++ u ∷ [] ≡ settled i n e vs
       = ap (λ m. take m e ++ u ∷ []) q ∙ sym (due_settled i n e u ws) ∙ ap (settled i n e) (sym v) in
       subst (λ e. StandFor l.store l.types e) p w;
 }
-turns_due j k l i n m u ws vs q v h (Err x) g = tt
+
+pub few_bind : {A E : Type 0} (k l : Numbered) (i : TyId) (r : Result A E) → OnOk r (l.types ≡ k.types ++ i ∷ []) → length k.types ≤ 300000 → OnOk r (length l.types ≤ 300001)
+few_bind k l i (Ok x) g h = omega (arith, ap length g, length-append k.types (i ∷ []))
+few_bind k l i (Err x) g h = tt
 
 pub length_cut : (ids js : List TyId) (n : ℕ) → js ≡ take n ids → length js ≤ n
 length_cut ids js n e = omega (arith, ap length e, length-take n ids)

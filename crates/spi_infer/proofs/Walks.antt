@@ -16,7 +16,9 @@ use Rattle.spi_infer.specs.declared.keys.Keys.{Keys}
 use Rattle.spi_infer.specs.declared.own.OwnNote.{OwnNote}
 use Rattle.spi_infer.specs.Own.{AreNoted, noted_none, with_keys}
 use Rattle.spi_infer.specs.Passes.{Note, note_of, Wait, wait, settled, entered, waiting, left_waiting, scan}
-use Rattle.spi_infer.specs.Walking.{GrowsTo, Reaches, AreLater, Walked, IsPassed}
+use Rattle.spi_infer.specs.declared.waiting.Pending.{Pending}
+use Rattle.spi_infer.specs.Waiting.{Queued, AreWaiting, waiting_none, Reaches, AreLater}
+use Rattle.spi_infer.specs.Walking.{GrowsTo, Walked, IsPassed}
 use Rattle.spi_infer.proofs.Kept.{are_noted_keep, noted_push}
 use Rattle.spi_infer.proofs.Stacks.{drop_at_get, scan_more}
 
@@ -99,17 +101,17 @@ later_reaches ss base i k x (wait r u ∷ ws) h e q l = go (eqb r i) refl
     go false f = subst (λ b. base ≤ (if b then k - 1 else k)) (sym f) l
 
 -- the walk
-pub walked_start : (ss : List Shape) (e : Env) (j : Numbered) (ks : Keys) (ws : List Wait) (os : List OwnNote) → Stands j e → ws ≡ [] → os ≡ [] → Walked ss e 0 j ks ws os
-walked_start ss e j ks ws os s p q = record {
+pub walked_start : (ss : List Shape) (e : Env) (j : Numbered) (ks : Keys) (ps : List Pending) (os : List OwnNote) → Stands j e → ps ≡ [] → os ≡ [] → Walked ss e 0 j ks ps os
+walked_start ss e j ks ps os s p q = record {
   env = e;
   stands = s;
+  waits = [];
+  queued = subst (λ ps. Queued j.store ps []) (sym p) waiting_none;
+  later = tt;
   notes = [];
   noted = subst (λ os. AreNoted j.store (with_keys j.store ks) [] [] os) (sym q) noted_none;
-  rest = ap (λ ws. scan 0 e ws ss) p;
+  rest = refl;
 }
-
-pub later_none : (ss : List Shape) (base : ℕ) (ws : List Wait) → ws ≡ [] → AreLater ss base ws
-later_none ss base ws p = subst (AreLater ss base) (sym p) tt
 
 take_at_get : (ss : List Shape) (i : ℕ) (x : Shape) → slice_get ss i ≡ Some x → take i ss ++ x ∷ [] ≡ take (i + 1) ss
 take_at_get [] i x e = absurd (cc)
@@ -118,20 +120,24 @@ take_at_get (y ∷ ss) (suc i) x e =
     let n : suc (i + 1) ≡ suc i + 1 = omega arith in
     ap (λ l. y ∷ l) (take_at_get ss i x e) ∙ ap (λ n. take n (y ∷ ss)) n
 
-pub walked_next : {ss : List Shape} {start : Env} {i : ℕ} {j k : Numbered} {ks ls : Keys} {ws : List Wait} {os : List OwnNote} (n : ℕ) (x : Shape) (vs : List Wait) (o : OwnNote) (ps : List OwnNote) → Walked ss start i j ks ws os → slice_get ss i ≡ Some x → scope_of x ≡ n → IsPassed j k ls i n x ws o → GrowsTo j.store ks k.store ls → vs ≡ waiting (left_waiting i ws) x → ps ≡ os ++ o ∷ [] → Walked ss start (i + 1) k ls vs ps
-walked_next {ss} {start} {i} {j} {k} {ks} {ls} {ws} {os} n x vs o ps w e q p g v r =
-    let cut = settled i n w.env ws in
+pub walked_next : {ss : List Shape} {start : Env} {i : ℕ} {j k : Numbered} {ks ls : Keys} {ps : List Pending} {os : List OwnNote} (n : ℕ) (x : Shape) (qs : List Pending) (o : OwnNote) (rs : List OwnNote) → Walked ss start i j ks ps os → slice_get ss i ≡ Some x → scope_of x ≡ n → length start ≤ scope_of x → HasParts ss i (scope_of x) (parts_of x) → ((ws : List Wait) → Queued j.store ps ws → IsPassed j k ls i n x ws o) → GrowsTo j.store ks k.store ls → ((ws : List Wait) → Queued j.store ps ws → Queued k.store qs (waiting (left_waiting i ws) x)) → rs ≡ os ++ o ∷ [] → Walked ss start (i + 1) k ls qs rs
+walked_next {ss} {start} {i} {j} {k} {ks} {ls} {ps} {os} n x qs o rs w e q b f pass g v r =
+    let cut = settled i n w.env w.waits in
+    let p = pass w.waits w.queued in
     let more = noted_push x (note_of cut x) o (are_noted_keep {s = j.store} {r = k.store} {ks = ks} {ls = ls} g w.noted) (p.noted w.env w.stands) in
     record {
       env = entered cut x;
       stands = p.enters w.env w.stands;
+      waits = waiting (left_waiting i w.waits) x;
+      queued = v w.waits w.queued;
+      later = later_next ss (length start) i x w.waits w.later b f;
       notes = w.notes ++ note_of cut x ∷ [];
-      noted = subst (λ ps. AreNoted k.store (with_keys k.store ls) (take (i + 1) ss) (w.notes ++ note_of cut x ∷ []) ps) (sym r) (subst (λ l. AreNoted k.store (with_keys k.store ls) l (w.notes ++ note_of cut x ∷ []) (os ++ o ∷ [])) (take_at_get ss i x e) more);
-      rest = scan_more w.notes w.env cut (entered cut x) ws vs ss i x (note_of cut x) e (ap (λ n. settled i n w.env ws) (sym q)) refl refl v ∙ w.rest;
+      noted = subst (λ rs. AreNoted k.store (with_keys k.store ls) (take (i + 1) ss) (w.notes ++ note_of cut x ∷ []) rs) (sym r) (subst (λ l. AreNoted k.store (with_keys k.store ls) l (w.notes ++ note_of cut x ∷ []) (os ++ o ∷ [])) (take_at_get ss i x e) more);
+      rest = scan_more w.notes w.env cut (entered cut x) w.waits (waiting (left_waiting i w.waits) x) ss i x (note_of cut x) e (ap (λ n. settled i n w.env w.waits) (sym q)) refl refl refl ∙ w.rest;
     }
 
-pub walked_end : {ss : List Shape} {start : Env} {i : ℕ} {j : Numbered} {ks : Keys} {ws : List Wait} {os : List OwnNote} → Walked ss start i j ks ws os → length ss ≤ i → AreNoted j.store (with_keys j.store ks) ss (scan 0 start [] ss) os
-walked_end {ss} {start} {i} {j} {ks} {ws} {os} w h =
+pub walked_end : {ss : List Shape} {start : Env} {i : ℕ} {j : Numbered} {ks : Keys} {ps : List Pending} {os : List OwnNote} → Walked ss start i j ks ps os → length ss ≤ i → AreNoted j.store (with_keys j.store ks) ss (scan 0 start [] ss) os
+walked_end {ss} {start} {i} {j} {ks} {ps} {os} w h =
     let At = with_keys j.store ks in
-    let n : w.notes ≡ scan 0 start [] ss = sym (append-nil w.notes) ∙ ap (λ l. w.notes ++ scan i w.env ws l) (sym (drop_all i ss h)) ∙ w.rest in
+    let n : w.notes ≡ scan 0 start [] ss = sym (append-nil w.notes) ∙ ap (λ l. w.notes ++ scan i w.env w.waits l) (sym (drop_all i ss h)) ∙ w.rest in
     subst (λ ns. AreNoted j.store At ss ns os) n (subst (λ l. AreNoted j.store At l w.notes os) (take_all i ss h) w.noted)

@@ -5,7 +5,6 @@ use Rattle.indexmap.specs.IndexMap.{get}
 use Rattle.spi_term.specs.Term.{Message, Atom, Effect, Ty, nonce}
 use Rattle.spi_term.specs.Lists.{In}
 use Rattle.spi_term.specs.Spelling.{Shape}
-use Rattle.spi_term.specs.Arena.{scope_at}
 use Rattle.spi_rules.specs.Environment.{Env}
 use Rattle.spi_intern.specs.Meaning.{Means, Keeps}
 use Rattle.spi_intern.specs.declared.store.Store.{Store}
@@ -17,7 +16,9 @@ use Rattle.spi_infer.specs.declared.own.Own.{Own}
 use Rattle.spi_infer.specs.declared.own.OwnNote.{OwnNote}
 use Rattle.spi_infer.specs.Keys.{AreKeys}
 use Rattle.spi_count.specs.Sums.{message_of}
+use Rattle.spi_infer.specs.declared.waiting.Pending.{Pending}
 use Rattle.spi_infer.specs.Own.{AreNoted, Fits, NotedAs, with_keys}
+use Rattle.spi_infer.specs.Waiting.{Queued, AreLater}
 use Rattle.spi_infer.specs.Passes.{Note, note_of, Wait, wait, settled, entered, scan}
 
 -- the answer is that of the test in each environment that the judge stands for
@@ -63,23 +64,16 @@ pub record FitsIn (old new : Numbered) (ks : Keys) (x : Shape) (own : Own) : Typ
 pub record NotesIn (old new : Numbered) (ks : Keys) (x : Shape) (o : OwnNote) : Type 0 where
   pub at : (e : Env) → Stands old e → NotedAs new.store (with_keys new.store ks) x (note_of e x) o
 
--- the names in scope at place i, of which there are k, begin with those up to base
-abbrev pub Reaches : ℕ → ℕ → ℕ → List Wait → Type 0
-Reaches base i k [] = base ≤ k
-Reaches base i k (wait r u ∷ ws) = base ≤ (if eqb r i then k - 1 else k)
-
--- each type that waits is for a place with one more name than base at least
-abbrev pub AreLater : List Shape → ℕ → List Wait → Type 0
-AreLater ss base [] = ⊤
-AreLater ss base (wait r u ∷ ws) = ((k : ℕ) × (scope_at ss r ≡ Some k) × (base < k)) × AreLater ss base ws
-
 -- the nodes before place i are noted, and the rest is to be noted in an environment that the judge stands for
-pub record Walked (ss : List Shape) (start : Env) (i : ℕ) (j : Numbered) (ks : Keys) (ws : List Wait) (os : List OwnNote) : Type 0 where
+pub record Walked (ss : List Shape) (start : Env) (i : ℕ) (j : Numbered) (ks : Keys) (ps : List Pending) (os : List OwnNote) : Type 0 where
   pub env : Env
   pub stands : Stands j env
+  pub waits : List Wait
+  pub queued : Queued j.store ps waits
+  pub later : AreLater ss (length start) waits
   pub notes : List Note
   pub noted : AreNoted j.store (with_keys j.store ks) (take i ss) notes os
-  pub rest : notes ++ scan i env ws (drop i ss) ≡ scan 0 start [] ss
+  pub rest : notes ++ scan i env waits (drop i ss) ≡ scan 0 start [] ss
 
 -- What happens at a node in place i with k names in scope: it is noted in the environment that is settled there, and the
 -- judge stands for the one that is entered.

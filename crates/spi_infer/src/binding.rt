@@ -1,15 +1,15 @@
 // The environment of the forward pass: a judge's names grow at binders, and are cut back to each node's scope.
-ghost use Rattle.std.specs.Prelude.{◌≡◌, ◌+◌, ◌-◌, ◌^◌, ◌<◌, ◌≤◌, [], ◌∷◌, ◌++◌, take, IfOk, OnOk, length};
+ghost use Rattle.std.specs.Prelude.{◌≡◌, ◌+◌, ◌-◌, ◌^◌, ◌<◌, ◌≤◌, List, [], ◌∷◌, ◌++◌, take, IfOk, OnOk, length};
 ghost use Rattle.spi_term.specs.Term.{name};
 ghost use Rattle.spi_term.specs.Substitution.{ty_put};
 ghost use Rattle.spi_term.specs.View.{message, ty as type_of, shape_of};
 ghost use Rattle.spi_intern.specs.Meaning.{Keeps};
 ghost use Rattle.spi_message.specs.Judging.{Numbered, Stands};
-ghost use Rattle.spi_infer.specs.Passes.{entered, settled, left_waiting};
-ghost use Rattle.spi_infer.specs.Inferring.{waits};
-ghost use Rattle.spi_infer.specs.Walking.{Turns, IsAbove, Reaches};
+ghost use Rattle.spi_infer.specs.Passes.{Wait, entered, settled, left_waiting};
+ghost use Rattle.spi_infer.specs.Waiting.{Queued, CanReach};
+ghost use Rattle.spi_infer.specs.Walking.{Turns, IsAbove};
 
-use crate::scopes::{Pending, due};
+use crate::waiting::{Pending, due};
 use spi_message::{Judge, NoMemory};
 use spi_term::{Form, Msg, Node, Ty};
 use std::alloc::Global;
@@ -132,19 +132,18 @@ pub fn cut_to(judge: &mut Judge, count: u32)
 /// The environment is cut back to a node's scope, and the type that waits for the node is bound.
 #[tactic(auto, using(crate::proofs::Bound::kept_itself))]
 pub fn settle(
-    alloc: Global,
     judge: &mut Judge,
     id: u32,
     scope: u32,
     pending: &mut Vec<Pending>,
 ) -> Result<(), NoMemory>
-    requires low { Reaches judge.old.free id scope (waits pending.old.items) }
+    requires low { CanReach judge.old.free id scope judge.old.store pending.old.items }
     requires few { scope ≤ 300000 }
-    ensures bound { OnOk result (Turns judge.old judge.new (λ e. settled id scope e (waits pending.old.items))) }
-    ensures rest { OnOk result (waits pending.new.items ≡ left_waiting id (waits pending.old.items)) }
+    ensures bound { OnOk result ((ws : List Wait) → Queued judge.old.store pending.old.items ws → Turns judge.old judge.new (λ e. settled id scope e ws)) }
+    ensures rest { OnOk result ((ws : List Wait) → Queued judge.old.store pending.old.items ws → Queued judge.new.store pending.new.items (left_waiting id ws)) }
     ensures few { OnOk result (length judge.new.types ≤ 300001) }
     ensures store { Keeps judge.old.store judge.new.store }
-    ensures above { (first : Numbered) → IsAbove first judge.old → Reaches (length first.types) id scope (waits pending.old.items) → IsAbove first judge.new }
+    ensures above { (first : Numbered) → IsAbove first judge.old → CanReach (length first.types) id scope judge.old.store pending.old.items → IsAbove first judge.new }
 {
     match due(id, pending)? {
         None => {
@@ -154,7 +153,7 @@ pub fn settle(
         Some(ty) => {
             let outer = scope.saturating_sub(1);
             cut_to(judge, outer);
-            bind_type(alloc, judge, &ty)
+            judge.bind(ty)
         }
     }
 }

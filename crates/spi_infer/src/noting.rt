@@ -1,20 +1,20 @@
 // The forward pass: what is kept of each node in its reached environment, over a judge.
-ghost use Rattle.std.specs.Prelude.{◌≡◌, ◌≤◌, [], IfOk, OnOk, length};
+ghost use Rattle.std.specs.Prelude.{◌≡◌, ◌≤◌, List, [], IfOk, OnOk, length};
 ghost use Rattle.spi_term.specs.Spelling.{HasSmallParts, spelled};
 ghost use Rattle.spi_term.specs.View.{shape_of};
 ghost use Rattle.spi_rules.specs.Environment.{Env};
 ghost use Rattle.spi_message.specs.Asking.{IsEnvironment};
 ghost use Rattle.spi_message.specs.Judging.{Numbered, IsJudge, IsKept, Stands};
-ghost use Rattle.spi_infer.specs.Inferring.{waits};
 ghost use Rattle.spi_infer.specs.Own.{AreNoted, with_keys};
-ghost use Rattle.spi_infer.specs.Passes.{left_waiting, waiting, scan};
-ghost use Rattle.spi_infer.specs.Walking.{AreKept, GrowsTo, IsAbove, Reaches, IsPassed};
+ghost use Rattle.spi_infer.specs.Passes.{Wait, left_waiting, waiting, scan};
+ghost use Rattle.spi_infer.specs.Waiting.{Queued, CanReach};
+ghost use Rattle.spi_infer.specs.Walking.{AreKept, GrowsTo, IsAbove, IsPassed};
 
 use crate::binding::{cut_to, enter, settle};
 use crate::keeping::own_note;
 use crate::keys::Keys;
 use crate::own::{Noted, OwnNote};
-use crate::scopes::{Pending, put_off};
+use crate::waiting::{Pending, put_off};
 use spi_message::{Judge, NoMemory};
 use spi_term::{Node, Process};
 use std::alloc::Global;
@@ -31,18 +31,18 @@ fn visit(
 ) -> Result<OwnNote, NoMemory>
     requires small { HasSmallParts (shape_of node.now) }
     requires few { node.now.scope ≤ 300000 }
-    requires low { Reaches judge.old.free id node.now.scope (waits pending.old.items) }
+    requires low { CanReach judge.old.free id node.now.scope judge.old.store pending.old.items }
     requires keys { AreKept judge.old.store keys.old }
     requires names { IsEnvironment judge.old.store judge.old.types }
-    ensures note { IfOk result (IsPassed judge.old judge.new keys.new id node.now.scope (shape_of node.now) (waits pending.old.items)) }
-    ensures rest { OnOk result (waits pending.new.items ≡ waiting (left_waiting id (waits pending.old.items)) (shape_of node.now)) }
+    ensures note { IfOk result (λ o. (ws : List Wait) → Queued judge.old.store pending.old.items ws → IsPassed judge.old judge.new keys.new id node.now.scope (shape_of node.now) ws o) }
+    ensures rest { OnOk result ((ws : List Wait) → Queued judge.old.store pending.old.items ws → Queued judge.new.store pending.new.items (waiting (left_waiting id ws) (shape_of node.now))) }
     ensures grows { OnOk result (GrowsTo judge.old.store keys.old judge.new.store keys.new) }
-    ensures above { (first : Numbered) → IsAbove first judge.old → Reaches (length first.types) id node.now.scope (waits pending.old.items) → IsAbove first judge.new }
+    ensures above { (first : Numbered) → IsAbove first judge.old → CanReach (length first.types) id node.now.scope judge.old.store pending.old.items → IsAbove first judge.new }
 {
-    settle(alloc, judge, id, node.scope, pending)?;
+    settle(judge, id, node.scope, pending)?;
     let note = own_note(alloc, judge, keys, node)?;
     enter(alloc, judge, node)?;
-    put_off(alloc, node, pending)?;
+    put_off(alloc, judge, node, pending)?;
     Ok(note)
 }
 
