@@ -1,26 +1,26 @@
 -- Answers of a judge, joined.
-use Rattle.std.proofs.Common.{◌≡◌, ◌↔◌, ℕ, zero, suc, ◌+◌, ◌<◌, ◌^◌, Bool, true, false, ◌&&◌, ◌||◌, List, [], ◌∷◌, ◌++◌, Option, Some, None, length, refl, sym, ap, subst, ◌∙◌, arith, Result, Ok, Err, IfOk}
-use Rattle.std.specs.Prelude.{slice_get, IfSome, IfNone, nat_lt}
-use Rattle.spi_term.specs.Term.{Message, bound, name, unit, pair, in_left, in_right, enc, hash, Ty, un, nonce}
+use Rattle.std.proofs.Common.{◌≡◌, ◌↔◌, ℕ, zero, suc, ◌+◌, ◌<◌, ◌^◌, Bool, true, false, ◌&&◌, ◌||◌, List, [], ◌∷◌, Some, None, length, refl, sym, ap, subst, ◌∙◌, arith, Result, Ok, Err, IfOk}
+use Rattle.std.specs.Prelude.{slice_get}
+use Rattle.spi_term.specs.Term.{Message, name, Ty, un, nonce}
 use Rattle.spi_term.specs.Spelling.{ty_nodes}
 use Rattle.spi_rules.specs.Environment.{Env}
 use Rattle.spi_rules.specs.Messages.{HasType, IsLabel}
 use Rattle.spi_rules.specs.Good.{GoodTy}
 use Rattle.spi_intern.specs.Given.{IsGiven}
-use Rattle.spi_intern.specs.Meaning.{Means, Keeps}
+use Rattle.spi_intern.specs.Meaning.{Means}
 use Rattle.spi_intern.specs.Lent.{SaysTy, says_un, says_unit, says_pair, says_sum, says_key, says_nonce}
 use Rattle.spi_intern.specs.declared.messages.MsgId.{MsgId}
 use Rattle.spi_intern.specs.declared.types.TyId.{TyId}
 use Rattle.spi_intern.specs.declared.store.Store.{Store}
 use Rattle.spi_intern.specs.declared.store.TyPart.{TyPart}
 use Rattle.spi_intern.specs.declared.store.TyPart.TheVariants.{Un, Unit as NoParts, Pair, Sum, Key, Nonce}
-use Rattle.spi_intern.proofs.Lists.{truths, get_below}
-use Rattle.spi_intern.proofs.Meanings.{means_keeps, terms_same, terms_more}
+use Rattle.spi_intern.proofs.Lists.{truths}
+use Rattle.spi_intern.proofs.Meanings.{terms_same, terms_more}
 use Rattle.spi_message.specs.Judging.{Numbered, Stands, StandFor, IsKept, IsGivenSmall}
 use Rattle.spi_message.specs.Asking.{IsEnvironment}
 use Rattle.spi_message.specs.Tests.{typed, labelled, good, nonce_in, nonce_of}
 use Rattle.spi_message.proofs.Deciding.{typed_true, typed_from, labelled_true, labelled_from, good_true, good_from}
-use Rattle.spi_message.proofs.Standing.{stand_keeps, stand_at, stand_none_at, environment_keeps}
+use Rattle.spi_message.proofs.Standing.{stand_keeps, stand_at, stand_none_at}
 use Rattle.spi_infer.specs.Forms.{is_nonce}
 use Rattle.spi_infer.specs.Walking.{IsTest, IsNonceAt, IsNoNonce}
 

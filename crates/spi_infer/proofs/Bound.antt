@@ -1,6 +1,6 @@
 -- Names that are bound in a judge and taken away.
-use Rattle.std.proofs.Common.{◌≡◌, ℕ, zero, suc, ◌+◌, ◌-◌, ◌<◌, ◌≤◌, Bool, true, false, eqb, List, [], ◌∷◌, ◌++◌, Option, Some, None, length, take, drop, refl, sym, ap, subst, ◌∙◌, arith, append_assoc, append-nil, length-take, length-append, eq-eqb, Result, Ok, Err, IfOk}
-use Rattle.std.specs.Prelude.{slice_get, if◌then◌else◌, OnOk, OnErr}
+use Rattle.std.proofs.Common.{◌≡◌, ℕ, zero, suc, ◌+◌, ◌-◌, ◌<◌, ◌≤◌, eqb, List, [], ◌∷◌, ◌++◌, length, take, refl, sym, ap, subst, ◌∙◌, arith, append_assoc, append-nil, length-take, length-append, eq-eqb, Result, Ok, Err}
+use Rattle.std.specs.Prelude.{if◌then◌else◌, OnOk, OnErr}
 use Rattle.std.proofs.lemmas.List.{take-append-le, take_all}
 use Rattle.std.proofs.Math.Seq.{take-append-add}
 use Rattle.spi_term.specs.Term.{name, Ty}
@@ -10,7 +10,7 @@ use Rattle.spi_intern.specs.Meaning.{Means, Keeps}
 use Rattle.spi_intern.specs.declared.types.TyId.{TyId}
 use Rattle.spi_intern.specs.declared.store.Store.{Store}
 use Rattle.spi_intern.proofs.Meanings.{terms_same, terms_more}
-use Rattle.spi_message.specs.Judging.{Numbered, Stands, StandFor, stand_none, stand_next, IsKept}
+use Rattle.spi_message.specs.Judging.{Numbered, StandFor, stand_none, stand_next, IsKept}
 use Rattle.spi_message.proofs.Standing.{stand_push, stand_length}
 use Rattle.spi_infer.specs.Passes.{Wait, wait, settled, IsCalm}
 use Rattle.spi_infer.specs.Walking.{Turns, IsAbove}

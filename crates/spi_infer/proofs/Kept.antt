@@ -1,31 +1,28 @@
 -- What is kept of the nodes stays as the store and the keys grow.
-use Rattle.std.proofs.Common.{◌≡◌, ℕ, zero, suc, ◌+◌, ◌*◌, ◌<◌, ◌⊎◌, inl, inr, ⊎_elim, Bool, true, false, eqb, List, [], ◌∷◌, ◌++◌, Option, Some, None, length, refl, sym, ap, subst, ◌∙◌, arith, eq-eqb, Result, Ok, Err, IfOk}
+use Rattle.std.proofs.Common.{◌≡◌, ℕ, ◌<◌, ◌⊎◌, inl, inr, ⊎_elim, Bool, true, false, eqb, List, [], ◌∷◌, ◌++◌, Option, Some, None, refl, sym, ap, subst, ◌∙◌, eq-eqb, Result, Ok, Err, IfOk}
 use Rattle.std.specs.Prelude.{slice_get, nat_eq, if◌then◌else◌, IfSome, IfNone, OnOk, ⊤}
 use Rattle.std.proofs.lemmas.Bool.{eqb-true}
 use Rattle.indexmap.specs.IndexMap.{get}
-use Rattle.spi_term.specs.Term.{Message, name, Atom, Effect, Ty, nonce, Prefix, Recvs, Serves, Splits, Selects, Decrypts, Checks, Begins, Ends, EndManys, Casts, Makes}
-use Rattle.spi_term.specs.Lists.{In, in_first, in_later}
+use Rattle.spi_term.specs.Term.{Message, name, Atom, Effect, nonce, Prefix, Recvs, Serves, Splits, Selects, Decrypts, Checks, Begins, Ends, EndManys, Casts, Makes}
+use Rattle.spi_term.specs.Lists.{in_first, in_later}
 use Rattle.spi_term.specs.Spelling.{Shape, leaf_at, prefix_at, fork_at}
 use Rattle.spi_rules.specs.Environment.{Env}
 use Rattle.spi_intern.specs.Meaning.{Means, Keeps}
 use Rattle.spi_intern.specs.declared.store.Store.{Store}
-use Rattle.spi_intern.specs.declared.messages.MsgId.{MsgId}
 use Rattle.spi_intern.specs.declared.types.TyId.{TyId}
 use Rattle.spi_intern.proofs.Lists.{some_one}
 use Rattle.spi_intern.proofs.Meanings.{means_keeps, terms_same, terms_more}
-use Rattle.spi_message.specs.Judging.{Numbered, Stands, IsKept}
+use Rattle.spi_message.specs.Judging.{Numbered, Stands}
 use Rattle.spi_message.specs.Tests.{nonce_of}
 use Rattle.spi_count.specs.Sums.{name_bound, key_of, message_of}
 use Rattle.spi_infer.specs.declared.keys.Keys.{Keys}
 use Rattle.spi_infer.specs.declared.own.Own.{Own}
-use Rattle.spi_infer.specs.declared.own.Own.TheVariants.{Nothing, Label, Checked, Cast, Made}
 use Rattle.spi_infer.specs.declared.own.OwnNote.{OwnNote}
 use Rattle.spi_infer.specs.Forms.{cast_effect_of}
-use Rattle.spi_infer.specs.Keys.{Keyed, AreKeys}
+use Rattle.spi_infer.specs.Keys.{Keyed}
 use Rattle.spi_infer.specs.Own.{PaidFits, FormFits, Fits, NotedAs, AreNoted, noted_none, noted_next, with_keys}
 use Rattle.spi_infer.specs.Passes.{Note, note_of}
-use Rattle.spi_infer.specs.Walking.{AreKept, GrowsTo, HaveKeys, FitsIn, NotesIn}
-use Rattle.spi_infer.proofs.Asked.{stands_kept}
+use Rattle.spi_infer.specs.Walking.{AreKept, GrowsTo, HaveKeys, FitsIn}
 
 pub grows_same : (s : Store) (ks : Keys) → AreKept s ks → GrowsTo s ks s ks
 grows_same s ks h = record { store = terms_same s; keys = λ i k e. e; are = h }

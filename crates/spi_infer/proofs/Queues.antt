@@ -1,16 +1,15 @@
 -- Types that wait, as they are pushed and taken.
-use Rattle.std.proofs.Common.{◌≡◌, ℕ, ◌≤◌, ◌-◌, Bool, true, false, eqb, List, [], ◌∷◌, ◌++◌, Option, Some, None, reverse, length, refl, sym, ap, subst, ◌∙◌, arith, eq-eqb, Result, Ok, Err, IfOk}
-use Rattle.std.specs.Prelude.{OnOk, IfSome, IfNone, if◌then◌else◌}
+use Rattle.std.proofs.Common.{◌≡◌, ℕ, false, eqb, List, [], ◌∷◌, ◌++◌, Option, Some, None, reverse, refl, sym, ap, subst, ◌∙◌}
+use Rattle.std.specs.Prelude.{IfSome, IfNone}
 use Rattle.std.proofs.lemmas.List.{reverse-append}
 use Rattle.spi_term.specs.Term.{Ty}
-use Rattle.spi_intern.specs.Given.{IsGiven}
 use Rattle.spi_intern.specs.Meaning.{Means, Keeps}
 use Rattle.spi_intern.specs.declared.store.Store.{Store}
 use Rattle.spi_intern.specs.declared.types.TyId.{TyId}
 use Rattle.spi_intern.proofs.Meanings.{means_keeps}
 use Rattle.spi_infer.specs.declared.waiting.Pending.{Pending}
 use Rattle.spi_infer.specs.Passes.{Wait, wait, IsCalm, left_waiting}
-use Rattle.spi_infer.specs.Waiting.{AreWaiting, waiting_none, waiting_next, Queued, IsDue, IsNotDue, Reaches, CanReach}
+use Rattle.spi_infer.specs.Waiting.{AreWaiting, waiting_none, waiting_next, Queued, IsDue, IsNotDue}
 use Rattle.spi_infer.proofs.Stacks.{calm_left, due_left}
 
 pub waiting_keeps : {s r : Store} {ps : List Pending} {ws : List Wait} → Keeps s r → AreWaiting s ps ws → AreWaiting r ps ws

@@ -1,12 +1,12 @@
 -- One node after another, forward.
-use Rattle.std.proofs.Common.{◌≡◌, ℕ, zero, suc, ◌+◌, ◌-◌, ◌<◌, ◌≤◌, ◌⊎◌, inl, inr, ⊎_elim, Bool, true, false, eqb, List, [], ◌∷◌, ◌++◌, Option, Some, None, length, take, drop, refl, sym, ap, subst, ◌∙◌, arith, append-nil}
-use Rattle.std.specs.Prelude.{slice_get, if◌then◌else◌, ⊤}
+use Rattle.std.proofs.Common.{◌≡◌, ℕ, zero, suc, ◌+◌, ◌-◌, ◌≤◌, ◌⊎◌, inl, inr, ⊎_elim, Bool, true, false, eqb, List, [], ◌∷◌, ◌++◌, Some, length, take, drop, refl, sym, ap, subst, ◌∙◌, arith, append-nil}
+use Rattle.std.specs.Prelude.{slice_get, if◌then◌else◌}
 use Rattle.std.proofs.lemmas.Bool.{eqb-true}
 use Rattle.std.proofs.lemmas.List.{take_all, drop_all}
-use Rattle.spi_term.specs.Term.{Ty, Pars, Cases, Process, leaf, prefix, fork, binds, fork_binds, process_size}
+use Rattle.spi_term.specs.Term.{Pars, Cases, Process, leaf, prefix, fork, binds, fork_binds, process_size}
 use Rattle.spi_term.specs.Names.{ProcessOver}
 use Rattle.spi_term.specs.Spelling.{Shape, leaf_at, prefix_at, fork_at, flat, numbered, spelled}
-use Rattle.spi_term.specs.Arena.{Item, Reads, no_node, leaf_on, prefix_on, fork_on, Readable, scope_of, scope_at, parts_of, HasParts}
+use Rattle.spi_term.specs.Arena.{Item, Reads, no_node, leaf_on, prefix_on, fork_on, scope_of, scope_at, parts_of, HasParts}
 use Rattle.spi_term.proofs.Rows.{arena_reads}
 use Rattle.spi_term.proofs.Numbers.{spelled_arena}
 use Rattle.spi_term.proofs.Places.{of_order}
@@ -15,9 +15,9 @@ use Rattle.spi_message.specs.Judging.{Numbered, Stands}
 use Rattle.spi_infer.specs.declared.keys.Keys.{Keys}
 use Rattle.spi_infer.specs.declared.own.OwnNote.{OwnNote}
 use Rattle.spi_infer.specs.Own.{AreNoted, noted_none, with_keys}
-use Rattle.spi_infer.specs.Passes.{Note, note_of, Wait, wait, settled, entered, waiting, left_waiting, scan}
+use Rattle.spi_infer.specs.Passes.{note_of, Wait, wait, settled, entered, waiting, left_waiting, scan}
 use Rattle.spi_infer.specs.declared.waiting.Pending.{Pending}
-use Rattle.spi_infer.specs.Waiting.{Queued, AreWaiting, waiting_none, Reaches, AreLater}
+use Rattle.spi_infer.specs.Waiting.{Queued, waiting_none, Reaches, AreLater}
 use Rattle.spi_infer.specs.Walking.{GrowsTo, Walked, IsPassed}
 use Rattle.spi_infer.proofs.Kept.{are_noted_keep, noted_push}
 use Rattle.spi_infer.proofs.Stacks.{drop_at_get, scan_more}

@@ -1,5 +1,5 @@
 -- Types that wait for the second processes of cases, by their numbers. The stack grows at its end.
-use Rattle.std.specs.Prelude.{◌≡◌, ℕ, ◌-◌, ◌<◌, ◌≤◌, Bool, false, eqb, if◌then◌else◌, List, [], ◌∷◌, reverse, Some, ⊤}
+use Rattle.std.specs.Prelude.{◌≡◌, ℕ, ◌-◌, ◌<◌, ◌≤◌, false, eqb, if◌then◌else◌, List, [], ◌∷◌, reverse, Some, ⊤}
 use Rattle.spi_term.specs.Term.{Ty}
 use Rattle.spi_term.specs.Spelling.{Shape}
 use Rattle.spi_term.specs.Arena.{scope_at}

@@ -1,8 +1,8 @@
 -- What the forward pass does with a judge: answers in each environment that the judge stands for, names bound on top of
 -- those that were there, and keys kept of more and more messages.
-use Rattle.std.specs.Prelude.{◌≡◌, ℕ, suc, ◌-◌, ◌<◌, ◌≤◌, Bool, eqb, if◌then◌else◌, List, [], ◌∷◌, ◌++◌, take, drop, length, Option, Some, None, nat_eq, slice_get, ⊤}
+use Rattle.std.specs.Prelude.{◌≡◌, ℕ, Bool, List, [], ◌++◌, take, drop, length, Some, None, nat_eq}
 use Rattle.indexmap.specs.IndexMap.{get}
-use Rattle.spi_term.specs.Term.{Message, Atom, Effect, Ty, nonce}
+use Rattle.spi_term.specs.Term.{Message, Atom, Effect, nonce}
 use Rattle.spi_term.specs.Lists.{In}
 use Rattle.spi_term.specs.Spelling.{Shape}
 use Rattle.spi_rules.specs.Environment.{Env}
@@ -19,7 +19,7 @@ use Rattle.spi_count.specs.Sums.{message_of}
 use Rattle.spi_infer.specs.declared.waiting.Pending.{Pending}
 use Rattle.spi_infer.specs.Own.{AreNoted, Fits, NotedAs, with_keys}
 use Rattle.spi_infer.specs.Waiting.{Queued, AreLater}
-use Rattle.spi_infer.specs.Passes.{Note, note_of, Wait, wait, settled, entered, scan}
+use Rattle.spi_infer.specs.Passes.{Note, note_of, Wait, settled, entered, scan}
 
 -- the answer is that of the test in each environment that the judge stands for
 pub record IsTest (j : Numbered) (test : Env → Bool) (b : Bool) : Type 0 where

@@ -1,5 +1,5 @@
 use Rattle.std.proofs.Common.{◌&&◌}
-use Rattle.spi_term.specs.Term.{Ty, un, sum_ty}
+use Rattle.spi_term.specs.Term.{Ty, sum_ty}
 use Rattle.spi_term.specs.View.{message, ty}
 use Rattle.spi_rules.specs.Environment.{Env}
 use Rattle.spi_message.specs.Tests.{typed, good}

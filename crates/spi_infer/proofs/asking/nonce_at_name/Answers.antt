@@ -1,4 +1,4 @@
-use Rattle.std.proofs.Common.{◌≡◌, ◌≤◌, Some, subst, sym, arith}
+use Rattle.std.proofs.Common.{◌≡◌, Some, subst, sym, arith}
 use Rattle.spi_term.specs.Term.{Ty}
 use Rattle.spi_intern.specs.Given.{IsGiven}
 use Rattle.spi_intern.specs.Meaning.{Means}

@@ -1,4 +1,4 @@
-use Rattle.std.proofs.Common.{◌<◌, ap, length, arith}
+use Rattle.std.proofs.Common.{ap, length, arith}
 use Rattle.spi_term.specs.Substitution.{ty_put}
 use Rattle.spi_term.specs.View.{message, ty}
 use Rattle.spi_intern.proofs.Lists.{get_below}

@@ -1,4 +1,4 @@
-use Rattle.std.proofs.Common.{◌<◌, ap, length, arith}
+use Rattle.std.proofs.Common.{ap, length, arith}
 use Rattle.spi_term.specs.View.{ty}
 use Rattle.spi_infer.proofs.Bound.{turns_bind, more_bind, above_kept, above_more, above_bind}
 use Rattle.spi_infer.proofs.binding.bind_type.Goals as goal

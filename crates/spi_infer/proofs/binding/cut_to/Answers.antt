@@ -1,4 +1,4 @@
-use Rattle.std.proofs.Common.{◌<◌, length, arith, ◌∙◌}
+use Rattle.std.proofs.Common.{arith, ◌∙◌}
 use Rattle.spi_infer.proofs.Bound.{cut_more, length_less, cut_done}
 use Rattle.spi_infer.proofs.binding.cut_to.Goals as goal
 

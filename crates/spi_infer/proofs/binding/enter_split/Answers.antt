@@ -1,6 +1,6 @@
-use Rattle.std.proofs.Common.{◌≤◌, length, arith}
+use Rattle.std.proofs.Common.{arith}
 use Rattle.spi_term.specs.View.{ty}
-use Rattle.spi_infer.proofs.Bound.{turns_split, above_more}
+use Rattle.spi_infer.proofs.Bound.{turns_split}
 use Rattle.spi_infer.proofs.binding.enter_split.Goals as goal
 
 pub bind_opened-requires : goal.bind_opened-requires

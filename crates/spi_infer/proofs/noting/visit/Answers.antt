@@ -1,4 +1,4 @@
-use Rattle.std.proofs.Common.{◌≤◌, length, ap, arith}
+use Rattle.std.proofs.Common.{length, ap, arith}
 use Rattle.spi_term.specs.View.{shape_of}
 use Rattle.spi_intern.proofs.Meanings.{terms_more}
 use Rattle.spi_infer.specs.Passes.{settled, left_waiting, note_of}

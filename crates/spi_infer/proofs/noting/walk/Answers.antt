@@ -1,4 +1,4 @@
-use Rattle.std.proofs.Common.{◌≡◌, ◌≤◌, ◌+◌, ℕ, Option, Some, None, length, sym, ap, ◌∙◌, arith}
+use Rattle.std.proofs.Common.{◌≡◌, ◌≤◌, ℕ, Option, Some, None, length, arith}
 use Rattle.spi_term.specs.Spelling.{spelled, HasSmallParts}
 use Rattle.spi_term.specs.Arena.{scope_of}
 use Rattle.spi_term.specs.View.{shape_of}
