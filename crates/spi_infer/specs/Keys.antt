@@ -5,11 +5,11 @@ use Rattle.spi_term.specs.Term.{Message}
 use Rattle.spi_count.specs.Sums.{name_bound, key_of}
 
 -- the message number i of a store is m, and has its key
-pub record Keyed (ms : List Message) (key : ℕ → Option ℕ) (i : ℕ) (m : Message) : Type 0 where
+pub record Keyed (ms : List Message) (kept : ℕ → Option ℕ) (i : ℕ) (m : Message) : Type 0 where
   pub at : slice_get ms i ≡ Some m
-  pub key : key i ≡ Some (key_of (name_bound m) i)
+  pub key : kept i ≡ Some (key_of (name_bound m) i)
   pub small : i < 4294967296
 
 -- each key that is kept is that of the message with the number
-pub record AreKeys (ms : List Message) (key : ℕ → Option ℕ) : Type 0 where
-  pub keyed : (i k : ℕ) → key i ≡ Some k → (m : Message) × Keyed ms key i m
+pub record AreKeys (ms : List Message) (kept : ℕ → Option ℕ) : Type 0 where
+  pub keyed : (i k : ℕ) → kept i ≡ Some k → (m : Message) × Keyed ms kept i m

@@ -1,0 +1,89 @@
+-- What forms do to effects by counts, and the effects that stand behind a node.
+use Rattle.std.specs.Prelude.{◌≡◌, ℕ, ◌+◌, ◌≤◌, List, [], ◌∷◌, ◌++◌, Option, Some, None, true, nat_eq, ⊤}
+use Rattle.indexmap.specs.IndexMap.{get}
+use Rattle.spi_term.specs.Term.{Message, Atom, Effect, Ty, nonce, binds, fork_binds}
+use Rattle.spi_term.specs.Lists.{In}
+use Rattle.spi_term.specs.Spelling.{Shape, leaf_at, prefix_at, fork_at}
+use Rattle.spi_intern.specs.declared.store.Store.{Store}
+use Rattle.spi_intern.specs.declared.atoms.AtomId.{AtomId}
+use Rattle.spi_intern.specs.Table.{TellsAll}
+use Rattle.spi_intern.specs.Atoms.{SaysAtom}
+use Rattle.spi_intern.specs.Meaning.{Means, NoneTwice}
+use Rattle.spi_effect.specs.Made.{minus}
+use Rattle.spi_count.specs.Sums.{name_bound, message_of, Stands}
+use Rattle.spi_count.specs.declared.sum.Sum.{Sum}
+use Rattle.spi_infer.specs.declared.keys.Keys.{Keys}
+use Rattle.spi_infer.specs.declared.own.OwnNote.{OwnNote}
+use Rattle.spi_infer.specs.Keys.{AreKeys}
+use Rattle.spi_infer.specs.Own.{with_keys, Fits, StandsFor, NotedAs}
+use Rattle.spi_infer.specs.Forms.{cast_effect_of, unless, keep}
+use Rattle.spi_infer.specs.Passes.{Note, run, after_shape, both_shape}
+
+-- the keys are those of messages of the store, in which nothing has two numbers
+pub record IsKeyed (s : Store) (keys : Keys) : Type 0 where
+  pub once : NoneTwice s
+  pub keyed : AreKeys s.messages (λ i. get nat_eq keys.keys i)
+
+-- the message has a number and a key
+abbrev pub HasKey : Store → Keys → Message → Type 0
+HasKey s keys m = (i : ℕ) × with_keys s keys i m
+
+-- counts for an effect, by the numbers and keys
+abbrev pub SumOf : Store → Keys → Sum → Effect → Type 0
+SumOf s keys sum es = Stands (with_keys s keys) sum es
+
+-- each name of the effect is below n
+abbrev pub Below : ℕ → Effect → Type 0
+Below n es = (a : Atom) → In a es → name_bound (message_of a) ≤ n
+
+-- an atom whose message has a key goes in
+abbrev pub AddsAtom : Keys → AtomId → Sum → Sum → Type 0
+AddsAtom keys a old new =
+    (s : Store) (b : Atom) (es : Effect) → IsKeyed s keys → SaysAtom s.messages a b → HasKey s keys (message_of b) → SumOf s keys old es → SumOf s keys new (es ++ b ∷ [])
+
+-- an atom goes out, where it stands there
+abbrev pub TakesAtom : Keys → AtomId → Sum → Sum → Type 0
+TakesAtom keys a old new =
+    (s : Store) (b : Atom) (es : Effect) → IsKeyed s keys → SaysAtom s.messages a b → SumOf s keys old es → SumOf s keys new (minus es (b ∷ []))
+
+-- the same for the atoms of an effect
+abbrev pub HaveKeys : Store → Keys → Effect → Type 0
+HaveKeys s keys fs = (a : Atom) → In a fs → HasKey s keys (message_of a)
+
+abbrev pub AddsAll : Keys → List AtomId → Sum → Sum → Type 0
+AddsAll keys ids old new =
+    (s : Store) (fs es : Effect) → IsKeyed s keys → TellsAll (SaysAtom s.messages) ids fs → HaveKeys s keys fs → SumOf s keys old es → SumOf s keys new (es ++ fs)
+
+abbrev pub TakesAll : Keys → List AtomId → Sum → Sum → Type 0
+TakesAll keys ids old new =
+    (s : Store) (fs es : Effect) → IsKeyed s keys → TellsAll (SaysAtom s.messages) ids fs → SumOf s keys old es → SumOf s keys new (minus es fs)
+
+-- the form's own numbers are of the store
+abbrev pub HasOwn : Store → Keys → Shape → OwnNote → Type 0
+HasOwn s keys x o = (n : Note) × NotedAs s (with_keys s keys) x n o
+
+-- the names of an effect, where there is one, are below n
+abbrev pub MayBelow : ℕ → Option Effect → Type 0
+MayBelow n None = ⊤
+MayBelow n (Some es) = Below n es
+
+abbrev pub TopBelow : ℕ → List (Option Effect) → Type 0
+TopBelow n [] = ⊤
+TopBelow n (o ∷ st) = MayBelow n o
+
+abbrev pub BothBelow : ℕ → List (Option Effect) → Type 0
+BothBelow n [] = ⊤
+BothBelow n (o ∷ []) = ⊤
+BothBelow n (o ∷ (o' ∷ st)) = MayBelow n o × MayBelow n o'
+
+-- the effects behind a node have the names in scope there alone
+abbrev pub Behind : Shape → List (Option Effect) → Type 0
+Behind (leaf_at k l) st = ⊤
+Behind (prefix_at k s b) st = TopBelow (k + binds s) st
+Behind (fork_at k f a r) st = BothBelow (k + fork_binds f) st
+
+-- and so at each node
+abbrev pub AllBehind : List Shape → List Note → Type 0
+AllBehind [] ns = ⊤
+AllBehind (x ∷ ss) [] = ⊤
+AllBehind (x ∷ ss) (n ∷ ns) = Behind x (run ss ns) × AllBehind ss ns
