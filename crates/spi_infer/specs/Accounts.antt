@@ -1,22 +1,25 @@
 -- What forms do to effects by counts, and the effects that stand behind a node.
-use Rattle.std.specs.Prelude.{◌≡◌, ℕ, ◌+◌, ◌≤◌, List, [], ◌∷◌, ◌++◌, Option, Some, None, true, nat_eq, ⊤}
+use Rattle.std.specs.Prelude.{◌≡◌, ℕ, suc, ◌+◌, ◌≤◌, ◌<◌, ◌||◌, length, List, [], ◌∷◌, ◌++◌, Option, Some, None, true, nat_eq, ⊤}
 use Rattle.indexmap.specs.IndexMap.{get}
-use Rattle.spi_term.specs.Term.{Message, Atom, Effect, Ty, nonce, binds, fork_binds}
+use Rattle.spi_term.specs.Term.{Message, name, Atom, checks, Effect, Ty, binds, fork_binds}
 use Rattle.spi_term.specs.Lists.{In}
 use Rattle.spi_term.specs.Spelling.{Shape, leaf_at, prefix_at, fork_at}
 use Rattle.spi_intern.specs.declared.store.Store.{Store}
 use Rattle.spi_intern.specs.declared.atoms.AtomId.{AtomId}
+use Rattle.spi_intern.specs.declared.messages.MsgId.{MsgId}
+use Rattle.spi_intern.specs.declared.types.TyId.{TyId}
 use Rattle.spi_intern.specs.Table.{TellsAll}
 use Rattle.spi_intern.specs.Atoms.{SaysAtom}
 use Rattle.spi_intern.specs.Meaning.{Means, NoneTwice}
-use Rattle.spi_effect.specs.Made.{minus}
+use Rattle.spi_effect.specs.Made.{are_many, mentions, minus, greater}
 use Rattle.spi_count.specs.Sums.{name_bound, message_of, Stands}
 use Rattle.spi_count.specs.declared.sum.Sum.{Sum}
 use Rattle.spi_infer.specs.declared.keys.Keys.{Keys}
+use Rattle.spi_infer.specs.declared.own.Own.{Own}
 use Rattle.spi_infer.specs.declared.own.OwnNote.{OwnNote}
 use Rattle.spi_infer.specs.Keys.{AreKeys}
-use Rattle.spi_infer.specs.Own.{with_keys, Fits, StandsFor, NotedAs}
-use Rattle.spi_infer.specs.Forms.{cast_effect_of, unless, keep}
+use Rattle.spi_infer.specs.Own.{with_keys, PaidFits, Fits, StandsFor, NotedAs}
+use Rattle.spi_infer.specs.Forms.{cast_effect_of, unless, keep, checked}
 use Rattle.spi_infer.specs.Passes.{Note, run, after_shape, both_shape}
 
 -- the keys are those of messages of the store, in which nothing has two numbers
@@ -58,7 +61,59 @@ abbrev pub TakesAll : Keys → List AtomId → Sum → Sum → Type 0
 TakesAll keys ids old new =
     (s : Store) (fs es : Effect) → IsKeyed s keys → TellsAll (SaysAtom s.messages) ids fs → SumOf s keys old es → SumOf s keys new (minus es fs)
 
+-- what a form that binds the name k, or two names from k on, does to an effect
+abbrev pub AfterOne : ℕ → Sum → Option Sum → Type 0
+AfterOne k sum r =
+    (s : Store) (keys : Keys) (es : Effect) → IsKeyed s keys → SumOf s keys sum es → Below (k + 1) es → StandsFor (with_keys s keys) r (unless (mentions k es) es)
+
+abbrev pub AfterTwo : ℕ → Sum → Option Sum → Type 0
+AfterTwo k sum r =
+    (s : Store) (keys : Keys) (es : Effect) → IsKeyed s keys → SumOf s keys sum es → Below (k + 2) es → StandsFor (with_keys s keys) r (unless (mentions k es || mentions (suc k) es) es)
+
+abbrev pub AfterServe : ℕ → Sum → Option Sum → Type 0
+AfterServe k sum r =
+    (s : Store) (keys : Keys) (es : Effect) → IsKeyed s keys → SumOf s keys sum es → Below (k + 1) es → StandsFor (with_keys s keys) r (keep (are_many es) (unless (mentions k es) es))
+
+abbrev pub AfterMake : ℕ → Store → Keys → Sum → Option Sum → Type 0
+AfterMake k s keys sum r =
+    (es : Effect) → IsKeyed s keys → SumOf s keys sum es → Below (k + 1) es → StandsFor (with_keys s keys) r (unless (mentions k (minus es (checks (name k) ∷ []))) (minus es (checks (name k) ∷ [])))
+
+abbrev pub AfterCast : ℕ → Store → Keys → TyId → Sum → Option Sum → Type 0
+AfterCast k s keys t sum r =
+    (u : Ty) (es : Effect) → IsKeyed s keys → Means s t.place u → HaveKeys s keys (cast_effect_of u) → SumOf s keys sum es → Below (k + 1) es → StandsFor (with_keys s keys) r (unless (mentions k es) (es ++ cast_effect_of u))
+
+abbrev pub AfterCheck : Store → Keys → MsgId → Option TyId → Sum → Option Sum → Type 0
+AfterCheck s keys id t sum r =
+    (m : Message) (paid : Option Effect) (es : Effect) → IsKeyed s keys → with_keys s keys id.place m → PaidFits s t paid → SumOf s keys sum es → StandsFor (with_keys s keys) r (checked paid m es)
+
+-- the type of a nonce is one of the store
+abbrev pub MayBeType : Store → Option TyId → Type 0
+MayBeType s None = ⊤
+MayBeType s (Some t) = t.place < length s.types
+
+-- what a form with one process does to its effect
+abbrev pub BelowIn : Shape → Effect → Type 0
+BelowIn (leaf_at k l) es = ⊤
+BelowIn (prefix_at k s b) es = Below (k + binds s) es
+BelowIn (fork_at k f a r) es = Below (k + fork_binds f) es
+
+abbrev pub AfterForm : Store → Keys → Shape → Own → Sum → Option Sum → Type 0
+AfterForm s keys x own sum r =
+    (paid : Option Effect) (es : Effect) → IsKeyed s keys → Fits s (with_keys s keys) x paid own → SumOf s keys sum es → BelowIn x es → StandsFor (with_keys s keys) r (after_shape x paid es)
+
+-- what a form with two processes does to theirs
+abbrev pub BothForm : Shape → Sum → Sum → Option Sum → Type 0
+BothForm x a b r =
+    (s : Store) (keys : Keys) (es fs : Effect) → IsKeyed s keys → SumOf s keys a es → SumOf s keys b fs → BelowIn x es → BelowIn x fs → StandsFor (with_keys s keys) r (both_shape x es fs)
+
+abbrev pub BothCase : ℕ → Sum → Sum → Option Sum → Type 0
+BothCase k a b r =
+    (s : Store) (keys : Keys) (es fs : Effect) → IsKeyed s keys → SumOf s keys a es → SumOf s keys b fs → Below (k + 1) es → Below (k + 1) fs → StandsFor (with_keys s keys) r (unless (mentions k es || mentions k fs) (greater es fs))
+
 -- the form's own numbers are of the store
+abbrev pub FitsSome : Store → Keys → Shape → Own → Type 0
+FitsSome s keys x own = (paid : Option Effect) × Fits s (with_keys s keys) x paid own
+
 abbrev pub HasOwn : Store → Keys → Shape → OwnNote → Type 0
 HasOwn s keys x o = (n : Note) × NotedAs s (with_keys s keys) x n o
 

@@ -1,17 +1,19 @@
 // What forms do to effects by counts.
-ghost use Rattle.std.specs.Prelude.{◌≡◌, suc, ◌+◌, ◌-◌, ◌≤◌, ◌<◌, ◌||◌, ℕ, [], ◌∷◌, ◌++◌, length, Some, None, IfOk, OnOk, nat_eq};
+ghost use Rattle.std.specs.Prelude.{◌≡◌, suc, ◌+◌, ◌-◌, ◌≤◌, ◌<◌, ◌||◌, ℕ, [], ◌∷◌, ◌++◌, length, slice_get, Some, None, IfOk, OnOk, nat_eq};
 ghost use Rattle.indexmap.specs.IndexMap.{get};
+ghost use Rattle.spi_term.specs.Term as Term;
 ghost use Rattle.spi_term.specs.Term.{Effect, Ty};
 ghost use Rattle.spi_term.specs.View.{shape_of};
 ghost use Rattle.spi_term.specs.Arena.{scope_of};
 ghost use Rattle.spi_effect.specs.Made.{are_many, mentions, minus, greater};
+ghost use Rattle.spi_intern.specs.declared.store.Store.{Store};
 ghost use Rattle.spi_intern.specs.Meaning.{Means};
 ghost use Rattle.spi_count.specs.Counts.{count_of};
 ghost use Rattle.spi_count.specs.Sums.{part, one_more, Puts};
 ghost use Rattle.spi_infer.specs.Own.{Fits, StandsFor, with_keys};
 ghost use Rattle.spi_infer.specs.Forms.{unless, keep, cast_effect_of};
 ghost use Rattle.spi_infer.specs.Passes.{after_shape, both_shape};
-ghost use Rattle.spi_infer.specs.Accounts.{IsKeyed, HaveKeys, SumOf, Below, AddsAtom, TakesAtom, AddsAll, TakesAll};
+ghost use Rattle.spi_infer.specs.Accounts.{IsKeyed, HaveKeys, SumOf, AddsAtom, TakesAtom, AddsAll, TakesAll, AfterOne, AfterTwo, AfterServe, AfterMake, AfterCast, AfterCheck, AfterForm, BothForm, BothCase, MayBeType, FitsSome};
 
 use crate::keys::Keys;
 use crate::own::Own;
@@ -106,5 +108,93 @@ pub fn take_type(store: &Store, keys: &Keys, t: TyId, sum: &mut Sum)
         TyPart::Pair(_, _) => {}
         TyPart::Sum(_, _) => {}
         TyPart::Key(_) => {}
+    }
+}
+
+// The effect under a form that binds the name `scope`, or that and the next one.
+pub fn after_binder(scope: u32, sum: Sum) -> Option<Sum>
+    requires { scope ≤ 300000 }
+    ensures one { AfterOne scope sum result }
+    ensures two { AfterTwo scope sum result }
+{
+    if sum.reaches((scope as u64 + 1) * 4_294_967_296) {
+        None
+    } else {
+        Some(sum)
+    }
+}
+
+pub fn after_serve(scope: u32, sum: Sum) -> Option<Sum>
+    requires { scope ≤ 300000 }
+    ensures { AfterServe scope sum result }
+{
+    if sum.is_all_many() {
+        after_binder(scope, sum)
+    } else {
+        None
+    }
+}
+
+pub fn after_new(scope: u32, keys: &Keys, name: MsgId, sum: Sum) -> Option<Sum>
+    requires { scope ≤ 300000 }
+    ensures { (s : Store) → slice_get s.messages name.place ≡ Some (Term.name scope) → AfterMake scope s keys.now sum result }
+{
+    let mut rest = sum;
+    take_atom(keys, AtomId::Check(name), &mut rest);
+    after_binder(scope, rest)
+}
+
+pub fn after_cast(
+    scope: u32,
+    store: &Store,
+    keys: &Keys,
+    t: TyId,
+    sum: Sum,
+) -> Result<Option<Sum>, NoMemory>
+    requires scope { scope ≤ 300000 }
+    requires ty { t.place < length store.now.types }
+    ensures { IfOk result (AfterCast scope store.now keys.now t sum) }
+{
+    match after_binder(scope, sum) {
+        None => Ok(None),
+        Some(rest) => {
+            let mut more = rest;
+            add_type(store, keys, t, &mut more)?;
+            Ok(Some(more))
+        }
+    }
+}
+
+pub fn after_check(
+    store: &Store,
+    keys: &Keys,
+    m: MsgId,
+    paid: Option<TyId>,
+    sum: Sum,
+) -> Result<Option<Sum>, NoMemory>
+    requires { MayBeType store.now paid }
+    ensures { IfOk result (AfterCheck store.now keys.now m paid sum) }
+{
+    match paid {
+        None => Ok(Some(sum)),
+        Some(t) => {
+            let mut rest = sum;
+            take_type(store, keys, t, &mut rest);
+            add_atom(keys, AtomId::Check(m), &mut rest)?;
+            Ok(Some(rest))
+        }
+    }
+}
+
+pub fn after_case(scope: u32, a: Sum, b: Sum) -> Result<Option<Sum>, NoMemory>
+    requires { scope ≤ 300000 }
+    ensures { IfOk result (BothCase scope a b) }
+{
+    match after_binder(scope, a) {
+        None => Ok(None),
+        Some(a) => match after_binder(scope, b) {
+            None => Ok(None),
+            Some(b) => Ok(Some(Sum::greatest(a, b)?)),
+        },
     }
 }
