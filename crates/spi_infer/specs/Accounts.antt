@@ -1,7 +1,7 @@
 -- What forms do to effects by counts, and the effects that stand behind a node.
-use Rattle.std.specs.Prelude.{◌≡◌, ℕ, suc, ◌+◌, ◌≤◌, ◌<◌, ◌||◌, length, List, [], ◌∷◌, ◌++◌, Option, Some, None, true, nat_eq, ⊤}
+use Rattle.std.specs.Prelude.{◌≡◌, ℕ, suc, ◌+◌, ◌≤◌, ◌<◌, ◌||◌, length, slice_get, List, [], ◌∷◌, ◌++◌, Option, Some, None, true, nat_eq, ⊤}
 use Rattle.indexmap.specs.IndexMap.{get}
-use Rattle.spi_term.specs.Term.{Message, name, Atom, checks, Effect, Ty, binds, fork_binds}
+use Rattle.spi_term.specs.Term.{Message, name, Atom, ends, checks, many, Effect, Ty, Prefix, Recvs, Serves, Splits, Selects, Decrypts, Checks, Begins, Ends, EndManys, Casts, Makes, binds, fork_binds}
 use Rattle.spi_term.specs.Lists.{In}
 use Rattle.spi_term.specs.Spelling.{Shape, leaf_at, prefix_at, fork_at}
 use Rattle.spi_intern.specs.declared.store.Store.{Store}
@@ -16,6 +16,7 @@ use Rattle.spi_count.specs.Sums.{name_bound, message_of, Stands}
 use Rattle.spi_count.specs.declared.sum.Sum.{Sum}
 use Rattle.spi_infer.specs.declared.keys.Keys.{Keys}
 use Rattle.spi_infer.specs.declared.own.Own.{Own}
+use Rattle.spi_infer.specs.declared.own.Own.TheVariants.{Label, Checked, Cast, Made}
 use Rattle.spi_infer.specs.declared.own.OwnNote.{OwnNote}
 use Rattle.spi_infer.specs.Keys.{AreKeys}
 use Rattle.spi_infer.specs.Own.{with_keys, PaidFits, Fits, StandsFor, NotedAs}
@@ -110,10 +111,54 @@ abbrev pub BothCase : ℕ → Sum → Sum → Option Sum → Type 0
 BothCase k a b r =
     (s : Store) (keys : Keys) (es fs : Effect) → IsKeyed s keys → SumOf s keys a es → SumOf s keys b fs → Below (k + 1) es → Below (k + 1) fs → StandsFor (with_keys s keys) r (unless (mentions k es || mentions k fs) (greater es fs))
 
--- the form's own numbers are of the store
-abbrev pub FitsSome : Store → Keys → Shape → Own → Type 0
-FitsSome s keys x own = (paid : Option Effect) × Fits s (with_keys s keys) x paid own
+-- by what is kept of the form
+abbrev pub OwnCheck : Store → Keys → Own → Sum → Option Sum → Type 0
+OwnCheck s keys own sum r = (id : MsgId) (t : Option TyId) → own ≡ Checked id t → AfterCheck s keys id t sum r
 
+abbrev pub OwnCast : ℕ → Store → Keys → Own → Sum → Option Sum → Type 0
+OwnCast k s keys own sum r = (t : TyId) → own ≡ Cast t → AfterCast k s keys t sum r
+
+abbrev pub OwnMake : ℕ → Keys → Own → Sum → Option Sum → Type 0
+OwnMake k keys own sum r = (s : Store) (id : MsgId) → own ≡ Made id → slice_get s.messages id.place ≡ Some (name k) → AfterMake k s keys sum r
+
+abbrev pub OwnBegin : Keys → Own → Sum → Option Sum → Type 0
+OwnBegin keys own sum r =
+    (s : Store) (id : MsgId) (m : Message) (es : Effect) → own ≡ Label id → IsKeyed s keys → slice_get s.messages id.place ≡ Some m → SumOf s keys sum es → StandsFor (with_keys s keys) r (Some (minus es (ends m ∷ (many m ∷ []))))
+
+abbrev pub OwnEnd : Keys → Own → Sum → Option Sum → Type 0
+OwnEnd keys own sum r =
+    (s : Store) (id : MsgId) (m : Message) (es : Effect) → own ≡ Label id → IsKeyed s keys → with_keys s keys id.place m → SumOf s keys sum es → StandsFor (with_keys s keys) r (Some (es ++ ends m ∷ []))
+
+abbrev pub OwnMany : Keys → Own → Sum → Option Sum → Type 0
+OwnMany keys own sum r =
+    (s : Store) (id : MsgId) (m : Message) (es : Effect) → own ≡ Label id → IsKeyed s keys → with_keys s keys id.place m → SumOf s keys sum es → StandsFor (with_keys s keys) r (Some (es ++ many m ∷ []))
+
+-- the types that are kept are of the store
+abbrev pub CheckGiven : Store → Own → Type 0
+CheckGiven s own = (id : MsgId) (t : TyId) → own ≡ Checked id (Some t) → t.place < length s.types
+
+abbrev pub CastGiven : Store → Own → Type 0
+CastGiven s own = (t : TyId) → own ≡ Cast t → t.place < length s.types
+
+abbrev pub FormGiven : Store → Prefix → Own → Type 0
+FormGiven s (Recvs m t) own = ⊤
+FormGiven s (Serves m t) own = ⊤
+FormGiven s (Splits m t u) own = ⊤
+FormGiven s (Selects m t n u) own = ⊤
+FormGiven s (Decrypts m t n) own = ⊤
+FormGiven s (Checks m n) own = CheckGiven s own
+FormGiven s (Begins m) own = ⊤
+FormGiven s (Ends m) own = ⊤
+FormGiven s (EndManys m) own = ⊤
+FormGiven s (Casts m t) own = CastGiven s own
+FormGiven s (Makes t) own = ⊤
+
+abbrev pub OwnGiven : Store → Shape → Own → Type 0
+OwnGiven s (leaf_at k l) own = ⊤
+OwnGiven s (prefix_at k p b) own = FormGiven s p own
+OwnGiven s (fork_at k f a r) own = ⊤
+
+-- the form's own numbers are of the store
 abbrev pub HasOwn : Store → Keys → Shape → OwnNote → Type 0
 HasOwn s keys x o = (n : Note) × NotedAs s (with_keys s keys) x n o
 

@@ -13,7 +13,7 @@ ghost use Rattle.spi_count.specs.Sums.{part, one_more, Puts};
 ghost use Rattle.spi_infer.specs.Own.{Fits, StandsFor, with_keys};
 ghost use Rattle.spi_infer.specs.Forms.{unless, keep, cast_effect_of};
 ghost use Rattle.spi_infer.specs.Passes.{after_shape, both_shape};
-ghost use Rattle.spi_infer.specs.Accounts.{IsKeyed, HaveKeys, SumOf, AddsAtom, TakesAtom, AddsAll, TakesAll, AfterOne, AfterTwo, AfterServe, AfterMake, AfterCast, AfterCheck, AfterForm, BothForm, BothCase, MayBeType, FitsSome};
+ghost use Rattle.spi_infer.specs.Accounts.{IsKeyed, HaveKeys, SumOf, AddsAtom, TakesAtom, AddsAll, TakesAll, AfterOne, AfterTwo, AfterServe, AfterMake, AfterCast, AfterCheck, AfterForm, BothForm, BothCase, MayBeType, OwnCheck, OwnCast, OwnMake, OwnBegin, OwnEnd, OwnMany, CheckGiven, CastGiven, OwnGiven};
 
 use crate::keys::Keys;
 use crate::own::Own;
@@ -196,5 +196,148 @@ pub fn after_case(scope: u32, a: Sum, b: Sum) -> Result<Option<Sum>, NoMemory>
             None => Ok(None),
             Some(b) => Ok(Some(Sum::greatest(a, b)?)),
         },
+    }
+}
+
+// What is checked, and what the check pays for.
+pub fn checked(
+    store: &Store,
+    keys: &Keys,
+    own: Own,
+    sum: Sum,
+) -> Result<Option<Sum>, NoMemory>
+    requires { CheckGiven store.now own }
+    ensures { IfOk result (OwnCheck store.now keys.now own sum) }
+{
+    match own {
+        Own::Checked(m, paid) => after_check(store, keys, m, paid, sum),
+        Own::Nothing => Ok(None),
+        Own::Label(_) => Ok(None),
+        Own::Cast(_) => Ok(None),
+        Own::Made(_) => Ok(None),
+    }
+}
+
+pub fn cast(
+    scope: u32,
+    store: &Store,
+    keys: &Keys,
+    own: Own,
+    sum: Sum,
+) -> Result<Option<Sum>, NoMemory>
+    requires scope { scope ≤ 300000 }
+    requires own { CastGiven store.now own }
+    ensures { IfOk result (OwnCast scope store.now keys.now own sum) }
+{
+    match own.cast() {
+        None => Ok(None),
+        Some(t) => after_cast(scope, store, keys, t, sum),
+    }
+}
+
+pub fn made(scope: u32, keys: &Keys, own: Own, sum: Sum) -> Option<Sum>
+    requires { scope ≤ 300000 }
+    ensures { OwnMake scope keys.now own sum result }
+{
+    match own.made() {
+        None => None,
+        Some(name) => after_new(scope, keys, name, sum),
+    }
+}
+
+// A `begin` pays for the ends of its label.
+pub fn begun(keys: &Keys, own: Own, sum: Sum) -> Option<Sum>
+    ensures { OwnBegin keys.now own sum result }
+{
+    match own.label() {
+        None => None,
+        Some(label) => {
+            let mut rest = sum;
+            take_atom(keys, AtomId::End(label), &mut rest);
+            take_atom(keys, AtomId::Many(label), &mut rest);
+            Some(rest)
+        }
+    }
+}
+
+pub fn ended(keys: &Keys, own: Own, sum: Sum) -> Result<Option<Sum>, NoMemory>
+    ensures { IfOk result (OwnEnd keys.now own sum) }
+{
+    match own.label() {
+        None => Ok(None),
+        Some(label) => {
+            let mut more = sum;
+            add_atom(keys, AtomId::End(label), &mut more)?;
+            Ok(Some(more))
+        }
+    }
+}
+
+pub fn ended_many(keys: &Keys, own: Own, sum: Sum) -> Result<Option<Sum>, NoMemory>
+    ensures { IfOk result (OwnMany keys.now own sum) }
+{
+    match own.label() {
+        None => Ok(None),
+        Some(label) => {
+            let mut more = sum;
+            add_atom(keys, AtomId::Many(label), &mut more)?;
+            Ok(Some(more))
+        }
+    }
+}
+
+// The effect of a form from that of its process.
+pub fn after_form(
+    store: &Store,
+    keys: &Keys,
+    node: &Node,
+    own: Own,
+    sum: Sum,
+) -> Result<Option<Sum>, NoMemory>
+    requires scope { scope_of (shape_of node.now) ≤ 300000 }
+    requires own { OwnGiven store.now (shape_of node.now) own }
+    ensures { IfOk result (AfterForm store.now keys.now (shape_of node.now) own sum) }
+{
+    let scope = node.scope;
+    match &node.form {
+        Form::Recv { .. } => Ok(after_binder(scope, sum)),
+        Form::Serve { .. } => Ok(after_serve(scope, sum)),
+        Form::Split { .. } => Ok(after_binder(scope, sum)),
+        Form::Select { .. } => Ok(after_binder(scope, sum)),
+        Form::Decrypt { .. } => Ok(after_binder(scope, sum)),
+        Form::Check { .. } => checked(store, keys, own, sum),
+        Form::Begin { .. } => Ok(begun(keys, own, sum)),
+        Form::End { .. } => ended(keys, own, sum),
+        Form::EndMany { .. } => ended_many(keys, own, sum),
+        Form::Cast { .. } => cast(scope, store, keys, own, sum),
+        Form::Fresh { .. } => Ok(made(scope, keys, own, sum)),
+        Form::Branch { .. } => Ok(None),
+        Form::Send { .. } => Ok(None),
+        Form::Par { .. } => Ok(None),
+        Form::Stop => Ok(None),
+    }
+}
+
+// The effect of a form from those of its two processes.
+pub fn both_form(node: &Node, a: Sum, b: Sum) -> Result<Option<Sum>, NoMemory>
+    requires { scope_of (shape_of node.now) ≤ 300000 }
+    ensures { IfOk result (BothForm (shape_of node.now) a b) }
+{
+    match &node.form {
+        Form::Par { .. } => Ok(Some(Sum::joined(a, b)?)),
+        Form::Branch { .. } => after_case(node.scope, a, b),
+        Form::Recv { .. } => Ok(None),
+        Form::Serve { .. } => Ok(None),
+        Form::Split { .. } => Ok(None),
+        Form::Select { .. } => Ok(None),
+        Form::Decrypt { .. } => Ok(None),
+        Form::Check { .. } => Ok(None),
+        Form::Begin { .. } => Ok(None),
+        Form::End { .. } => Ok(None),
+        Form::EndMany { .. } => Ok(None),
+        Form::Cast { .. } => Ok(None),
+        Form::Fresh { .. } => Ok(None),
+        Form::Send { .. } => Ok(None),
+        Form::Stop => Ok(None),
     }
 }
