@@ -1,7 +1,8 @@
 -- What forms do to counts against what they do to effects.
 use Rattle.std.proofs.Common.{◌≡◌, refl, sym, ap, ◌∙◌, subst, ℕ, zero, suc, ◌+◌, ◌-◌, ◌*◌, ◌<◌, ◌≤◌, Bool, true, false, ◌||◌, [], ◌∷◌, ◌++◌, Option, Some, None, ◌⊎◌, inl, inr, ⊎_elim, arith, true≢false}
 use Rattle.std.specs.Prelude.{slice_get, max}
-use Rattle.spi_term.specs.Term.{Message, name, Atom, checks, Effect, Ty, nonce}
+use Rattle.spi_term.specs.Term.{Message, name, Atom, ends, checks, many, Effect, Ty, nonce, Casts, Pars}
+use Rattle.spi_term.specs.Spelling.{prefix_at, fork_at}
 use Rattle.spi_term.specs.Counts.{tally, count}
 use Rattle.spi_term.specs.Lists.{In}
 use Rattle.spi_term.proofs.Counting.{in_tally, tally_in, count_tally}
@@ -11,19 +12,21 @@ use Rattle.spi_intern.specs.declared.store.Store.{Store}
 use Rattle.spi_intern.specs.declared.messages.MsgId.{MsgId}
 use Rattle.spi_intern.specs.declared.types.TyId.{TyId}
 use Rattle.spi_intern.specs.declared.atoms.AtomId.TheVariants as A
-use Rattle.spi_intern.specs.Atoms.{says_check}
+use Rattle.spi_intern.specs.Atoms.{says_end, says_check, says_many}
 use Rattle.spi_intern.specs.Meaning.{Means}
 use Rattle.spi_count.specs.Counts.{count_of, IsNothing}
-use Rattle.spi_count.specs.Sums.{name_bound, message_of, part, Stands}
+use Rattle.spi_count.specs.Sums.{name_bound, message_of, part, both_counts, Stands}
 use Rattle.spi_count.specs.declared.sum.AtomKind.{AtomKind}
 use Rattle.spi_count.specs.declared.sum.AtomKind.TheVariants as K
 use Rattle.spi_count.specs.declared.sum.Sum.{Sum}
 use Rattle.spi_count.proofs.Standing.{unreached_below, reached_in, below_mentions, in_mentions, stands_many, many_stands, stands_greatest, stands_joined}
 use Rattle.spi_infer.specs.declared.keys.Keys.{Keys}
+use Rattle.spi_infer.specs.declared.own.Own.{Own}
+use Rattle.spi_infer.specs.declared.own.Own.TheVariants.{Label}
 use Rattle.spi_infer.specs.Own.{with_keys, StandsFor, PaidFits}
 use Rattle.spi_infer.specs.Forms.{unless, keep, cast_effect_of, checked}
-use Rattle.spi_infer.specs.Accounts.{IsKeyed, SumOf, Below, HaveKeys, TakesAtom, AddsAtom, AfterOne, AfterTwo, AfterServe, AfterMake, AfterCast, AfterCheck, BothCase}
-use Rattle.spi_infer.proofs.Summed.{numbers}
+use Rattle.spi_infer.specs.Accounts.{IsKeyed, SumOf, Below, HaveKeys, TakesAtom, AddsAtom, AfterOne, AfterTwo, AfterServe, AfterMake, AfterCast, AfterCheck, AfterForm, OwnCast, OwnBegin, OwnEnd, OwnMany, BothCase, BothForm}
+use Rattle.spi_infer.proofs.Summed.{numbers, some_is}
 
 -- counts for an effect that stands where a test says so
 pub kept_unless : (At : ℕ → Message → Type 0) (sum : Sum) (b : Bool) (es : Effect) → b ≡ false → Stands At sum es → StandsFor At (Some sum) (unless b es)
@@ -152,3 +155,30 @@ case_both k a b a' b' c h j g s keys es fs kd t u x y =
     let (e, v) = unless_some (with_keys s keys) a' (mentions k es) es (h s keys es kd t x) in
     let (f, w) = unless_some (with_keys s keys) b' (mentions k fs) fs (j s keys fs kd u y) in
     kept_unless (with_keys s keys) c (mentions k es || mentions k fs) (greater es fs) (both_false e f) (stands_greatest (with_keys s keys) (numbers kd) v w g)
+
+pub begin_is : (keys : Keys) (own : Own) (label : MsgId) (old mid new : Sum) → ((id : MsgId) → own ≡ Label id → Some label ≡ Some id)
+    → TakesAtom keys (A.End label) old mid → TakesAtom keys (A.Many label) mid new → OwnBegin keys own old (Some new)
+begin_is keys own label old mid new f p q s id m es e kd g t =
+    let i : label ≡ id = some_is (f id e) in
+    let h = subst (λ (i : MsgId). slice_get s.messages i.place ≡ Some m) (sym i) g in
+    q s (many m) (minus es (ends m ∷ [])) kd (says_many h) (p s (ends m) es kd (says_end h) t)
+
+pub end_is : (keys : Keys) (own : Own) (label : MsgId) (old new : Sum) → ((id : MsgId) → own ≡ Label id → Some label ≡ Some id)
+    → AddsAtom keys (A.End label) old new → OwnEnd keys own old (Some new)
+end_is keys own label old new f p s id m es e kd g t =
+    let i : label ≡ id = some_is (f id e) in
+    let h = subst (λ (i : MsgId). with_keys s keys i.place m) (sym i) g in
+    p s (ends m) es kd (says_end h.at) (label.place, h) t
+
+pub many_is : (keys : Keys) (own : Own) (label : MsgId) (old new : Sum) → ((id : MsgId) → own ≡ Label id → Some label ≡ Some id)
+    → AddsAtom keys (A.Many label) old new → OwnMany keys own old (Some new)
+many_is keys own label old new f p s id m es e kd g t =
+    let i : label ≡ id = some_is (f id e) in
+    let h = subst (λ (i : MsgId). with_keys s keys i.place m) (sym i) g in
+    p s (many m) es kd (says_many h.at) (label.place, h) t
+
+pub cast_form : (s : Store) (keys : Keys) (k b : ℕ) (m : Message) (u : Ty) (own : Own) (sum : Sum) (r : Option Sum) → OwnCast k s keys own sum r → AfterForm s keys (prefix_at k (Casts m u) b) own sum r
+cast_form s keys k b m u own sum r h paid es kd f t l = h f.0 f.1 u es kd f.2 f.3 t l
+
+pub par_form : (k a r : ℕ) (x y z : Sum) → ((kind : AtomKind) (q : ℕ) → count_of (part kind z) q ≡ both_counts kind (count_of (part kind x) q) (count_of (part kind y) q)) → BothForm (fork_at k Pars a r) x y (Some z)
+par_form k a r x y z g s keys es fs kd t u b c = stands_joined (with_keys s keys) (numbers kd) t u g

@@ -1,9 +1,10 @@
 -- What forms do to effects by counts, and the effects that stand behind a node.
-use Rattle.std.specs.Prelude.{◌≡◌, ℕ, suc, ◌+◌, ◌≤◌, ◌<◌, ◌||◌, length, slice_get, List, [], ◌∷◌, ◌++◌, Option, Some, None, true, nat_eq, ⊤}
+use Rattle.std.specs.Prelude.{◌≡◌, ℕ, suc, ◌+◌, ◌≤◌, ◌<◌, ◌||◌, length, slice_get, reverse, List, [], ◌∷◌, ◌++◌, Option, Some, None, true, nat_eq, ⊤}
 use Rattle.indexmap.specs.IndexMap.{get}
-use Rattle.spi_term.specs.Term.{Message, name, Atom, ends, checks, many, Effect, Ty, Prefix, Recvs, Serves, Splits, Selects, Decrypts, Checks, Begins, Ends, EndManys, Casts, Makes, binds, fork_binds}
+use Rattle.spi_term.specs.Term.{Message, name, Atom, ends, checks, many, Effect, Ty, Prefix, Recvs, Serves, Splits, Selects, Decrypts, Checks, Begins, Ends, EndManys, Casts, Makes, Process, binds, fork_binds}
 use Rattle.spi_term.specs.Lists.{In}
-use Rattle.spi_term.specs.Spelling.{Shape, leaf_at, prefix_at, fork_at}
+use Rattle.spi_term.specs.Spelling.{Shape, leaf_at, prefix_at, fork_at, spelled}
+use Rattle.spi_rules.specs.Environment.{Env}
 use Rattle.spi_intern.specs.declared.store.Store.{Store}
 use Rattle.spi_intern.specs.declared.atoms.AtomId.{AtomId}
 use Rattle.spi_intern.specs.declared.messages.MsgId.{MsgId}
@@ -18,10 +19,11 @@ use Rattle.spi_infer.specs.declared.keys.Keys.{Keys}
 use Rattle.spi_infer.specs.declared.own.Own.{Own}
 use Rattle.spi_infer.specs.declared.own.Own.TheVariants.{Label, Checked, Cast, Made}
 use Rattle.spi_infer.specs.declared.own.OwnNote.{OwnNote}
+use Rattle.spi_infer.specs.declared.own.Noted.{Noted}
 use Rattle.spi_infer.specs.Keys.{AreKeys}
-use Rattle.spi_infer.specs.Own.{with_keys, PaidFits, Fits, StandsFor, NotedAs}
+use Rattle.spi_infer.specs.Own.{with_keys, PaidFits, Fits, StandsFor, NotedAs, AreNoted, TopsStand}
 use Rattle.spi_infer.specs.Forms.{cast_effect_of, unless, keep, checked}
-use Rattle.spi_infer.specs.Passes.{Note, run, after_shape, both_shape}
+use Rattle.spi_infer.specs.Passes.{Note, run, scan, after_shape, both_shape}
 
 -- the keys are those of messages of the store, in which nothing has two numbers
 pub record IsKeyed (s : Store) (keys : Keys) : Type 0 where
@@ -158,32 +160,48 @@ OwnGiven s (leaf_at k l) own = ⊤
 OwnGiven s (prefix_at k p b) own = FormGiven s p own
 OwnGiven s (fork_at k f a r) own = ⊤
 
--- the form's own numbers are of the store
-abbrev pub HasOwn : Store → Keys → Shape → OwnNote → Type 0
-HasOwn s keys x o = (n : Note) × NotedAs s (with_keys s keys) x n o
+-- the effects behind a form, where there are some, have the names in scope there alone
+abbrev pub MayBelowIn : Shape → Option Effect → Type 0
+MayBelowIn x None = ⊤
+MayBelowIn x (Some es) = BelowIn x es
 
--- the names of an effect, where there is one, are below n
-abbrev pub MayBelow : ℕ → Option Effect → Type 0
-MayBelow n None = ⊤
-MayBelow n (Some es) = Below n es
+abbrev pub TopBelowIn : Shape → List (Option Effect) → Type 0
+TopBelowIn x [] = ⊤
+TopBelowIn x (o ∷ st) = MayBelowIn x o
 
-abbrev pub TopBelow : ℕ → List (Option Effect) → Type 0
-TopBelow n [] = ⊤
-TopBelow n (o ∷ st) = MayBelow n o
+abbrev pub BothBelowIn : Shape → List (Option Effect) → Type 0
+BothBelowIn x [] = ⊤
+BothBelowIn x (o ∷ []) = ⊤
+BothBelowIn x (o ∷ (o' ∷ st)) = MayBelowIn x o × MayBelowIn x o'
 
-abbrev pub BothBelow : ℕ → List (Option Effect) → Type 0
-BothBelow n [] = ⊤
-BothBelow n (o ∷ []) = ⊤
-BothBelow n (o ∷ (o' ∷ st)) = MayBelow n o × MayBelow n o'
-
--- the effects behind a node have the names in scope there alone
 abbrev pub Behind : Shape → List (Option Effect) → Type 0
 Behind (leaf_at k l) st = ⊤
-Behind (prefix_at k s b) st = TopBelow (k + binds s) st
-Behind (fork_at k f a r) st = BothBelow (k + fork_binds f) st
+Behind (prefix_at k s b) st = TopBelowIn (prefix_at k s b) st
+Behind (fork_at k f a r) st = BothBelowIn (fork_at k f a r) st
 
 -- and so at each node
 abbrev pub AllBehind : List Shape → List Note → Type 0
 AllBehind [] ns = ⊤
 AllBehind (x ∷ ss) [] = ⊤
 AllBehind (x ∷ ss) (n ∷ ns) = Behind x (run ss ns) × AllBehind ss ns
+
+-- a stack that grows at its end
+abbrev pub Tops : Store → Keys → List (Option Sum) → List (Option Effect) → Type 0
+Tops s keys os st = TopsStand (with_keys s keys) (reverse os) st
+
+-- before a node is acted on
+pub record IsBefore (s : Store) (keys : Keys) (x : Shape) (o : OwnNote) (os : List (Option Sum)) (n : Note) (st : List (Option Effect)) : Type 0 where
+  pub keyed : IsKeyed s keys
+  pub noted : NotedAs s (with_keys s keys) x n o
+  pub behind : Behind x st
+  pub tops : Tops s keys os st
+
+-- where the form's own premises hold, the types that are kept are of the store
+abbrev pub NoteGiven : Store → Shape → OwnNote → Type 0
+NoteGiven s x o = o.fine ≡ true → OwnGiven s x o.own
+
+-- what is kept of the nodes of a process stands for what is noted of them where its free names have these types
+pub record IsNoted (s : Store) (noted : Noted) (k : ℕ) (p : Process) (env : Env) : Type 0 where
+  pub names : k ≡ length env
+  pub keyed : AreKeys s.messages (λ i. get nat_eq noted.keys.keys i)
+  pub each : AreNoted s (with_keys s noted.keys) (spelled k p) (scan 0 env [] (spelled k p)) noted.notes.items
