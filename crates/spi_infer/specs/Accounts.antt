@@ -171,7 +171,7 @@ TopBelowIn x (o ∷ st) = MayBelowIn x o
 
 abbrev pub BothBelowIn : Shape → List (Option Effect) → Type 0
 BothBelowIn x [] = ⊤
-BothBelowIn x (o ∷ []) = ⊤
+BothBelowIn x (o ∷ []) = MayBelowIn x o
 BothBelowIn x (o ∷ (o' ∷ st)) = MayBelowIn x o × MayBelowIn x o'
 
 abbrev pub Behind : Shape → List (Option Effect) → Type 0

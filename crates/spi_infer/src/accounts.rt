@@ -115,3 +115,36 @@ pub fn act_on_two(
         },
     }
 }
+
+// One node of the backward pass. Whether it has no effect where each process in it has one.
+pub fn act_on(
+    alloc: Global,
+    store: &Store,
+    keys: &Keys,
+    node: &Node,
+    note: &OwnNote,
+    stack: &mut Vec<Option<Sum>>,
+) -> Result<bool, NoMemory>
+    requires scope { scope_of (shape_of node.now) ≤ 300000 }
+    requires own { NoteGiven store.now (shape_of node.now) note.now }
+    ensures stack { OnOk result ((n : Note) (st : List (Option Effect)) → IsBefore store.now keys.now (shape_of node.now) note.now stack.old.items n st → Tops store.now keys.now stack.new.items (act (shape_of node.now) n st)) }
+    ensures stuck { IfOk result (λ b. (n : Note) (st : List (Option Effect)) → IsBefore store.now keys.now (shape_of node.now) note.now stack.old.items n st → b ≡ is_stuck (shape_of node.now) n st) }
+{
+    match &node.form {
+        Form::Send { .. } => act_on_none(alloc, note.fine, stack),
+        Form::Stop => act_on_none(alloc, note.fine, stack),
+        Form::Branch { .. } => act_on_two(node, note.fine, stack),
+        Form::Par { .. } => act_on_two(node, note.fine, stack),
+        Form::Recv { .. } => act_on_one(store, keys, node, note, stack),
+        Form::Serve { .. } => act_on_one(store, keys, node, note, stack),
+        Form::Split { .. } => act_on_one(store, keys, node, note, stack),
+        Form::Select { .. } => act_on_one(store, keys, node, note, stack),
+        Form::Decrypt { .. } => act_on_one(store, keys, node, note, stack),
+        Form::Check { .. } => act_on_one(store, keys, node, note, stack),
+        Form::Begin { .. } => act_on_one(store, keys, node, note, stack),
+        Form::End { .. } => act_on_one(store, keys, node, note, stack),
+        Form::EndMany { .. } => act_on_one(store, keys, node, note, stack),
+        Form::Cast { .. } => act_on_one(store, keys, node, note, stack),
+        Form::Fresh { .. } => act_on_one(store, keys, node, note, stack),
+    }
+}
