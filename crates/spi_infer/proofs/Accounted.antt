@@ -1,6 +1,6 @@
 -- The stack of counts against the stack of effects.
 use Rattle.std.proofs.Common.{◌≡◌, refl, sym, ap, ◌∙◌, subst, ℕ, Bool, true, false, List, [], ◌∷◌, ◌++◌, reverse, Option, Some, None}
-use Rattle.std.specs.Prelude.{is_none, nat_eq}
+use Rattle.std.specs.Prelude.{is_some, is_none, not}
 use Rattle.std.proofs.lemmas.List.{reverse-append}
 use Rattle.spi_term.specs.Term.{Message, Effect}
 use Rattle.spi_term.specs.Spelling.{Shape, leaf_at, prefix_at, fork_at}
@@ -33,6 +33,12 @@ none_is_none At None None t = refl
 none_is_none At None (Some es) t = absurd t
 none_is_none At (Some s) None t = absurd t
 none_is_none At (Some s) (Some es) t = refl
+
+pub none_told : (o : Option Sum) (r : Bool) → is_some o ≡ not r → r ≡ is_none o
+none_told None true e = refl
+none_told None false e = absurd (cc)
+none_told (Some s) true e = absurd (cc)
+none_told (Some s) false e = refl
 
 pub two_stuck : (s : Store) (keys : Keys) (x : Shape) (fine : Bool) (a b : Sum) (next : Option Sum) (e f : Option Effect) → fine ≡ true → IsKeyed s keys → BothForm x a b next
     → StandsFor (with_keys s keys) (Some a) e → StandsFor (with_keys s keys) (Some b) f → MayBelowIn x e → MayBelowIn x f → is_none next ≡ stuck_two_by (both_shape x) fine e f
