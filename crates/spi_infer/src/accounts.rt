@@ -6,6 +6,7 @@ ghost use Rattle.spi_term.specs.Arena.{scope_of};
 ghost use Rattle.spi_term.specs.Spelling.{spelled, numbered};
 ghost use Rattle.spi_rules.specs.Environment.{Env};
 ghost use Rattle.spi_intern.specs.declared.store.Store.{Store};
+ghost use Rattle.spi_intern.specs.Meaning.{NoneTwice};
 ghost use Rattle.spi_infer.specs.declared.keys.Keys.{Keys};
 ghost use Rattle.spi_infer.specs.Own.{with_keys, StandsFor};
 ghost use Rattle.spi_infer.specs.Forms.{by_effects, keep, effect_of};
@@ -146,5 +147,35 @@ pub fn act_on(
         Form::EndMany { .. } => act_on_one(store, keys, node, note, stack),
         Form::Cast { .. } => act_on_one(store, keys, node, note, stack),
         Form::Fresh { .. } => act_on_one(store, keys, node, note, stack),
+    }
+}
+
+/// The least effect of a process by counts, where it has one, and its first node in preorder that has none though each
+/// process in it has one. `noted` is what is kept of its nodes, by the numbers of the store.
+pub fn account(
+    alloc: Global,
+    process: &Process,
+    noted: &Noted,
+    store: &Store,
+) -> Result<(Option<Sum>, Option<u32>), NoMemory>
+    requires { (env : Env) × IsNoted store.now noted.now process.now.names process.now.process env }
+    ensures effect { IfOk result (λ r. (env : Env) → IsNoted store.now noted.now process.now.names process.now.process env → StandsFor (with_keys store.now noted.now.keys) r.0 (effect_of (numbered [] process.now.names process.now.process) env)) }
+    ensures stuck { IfOk result (λ r. (env : Env) → IsNoted store.now noted.now process.now.names process.now.process env → r.1 ≡ first_stuck 0 (spelled process.now.names process.now.process) (scan 0 env [] (spelled process.now.names process.now.process))) }
+    ensures once { NoneTwice store.now }
+{
+    // The count is asked for what its answer says: nothing has two numbers.
+    let _ = store.distinct();
+    let mut stack = Vec::new(alloc);
+    let mut stuck = None;
+    for id in (0..process.len()).rev() {
+        let node = process.node(id);
+        let note = &noted.notes[id as usize];
+        if act_on(alloc, store, &noted.keys, node, note, &mut stack)? {
+            stuck = Some(id);
+        }
+    }
+    match stack.pop() {
+        Some(effect) => Ok((effect, stuck)),
+        None => Ok((None, stuck)),
     }
 }
