@@ -14,6 +14,8 @@ use Rattle.spi_intern.specs.Atoms.{SaysAtom}
 use Rattle.spi_intern.specs.Meaning.{Means, NoneTwice}
 use Rattle.spi_effect.specs.Made.{are_many, mentions, minus, greater}
 use Rattle.spi_count.specs.Sums.{name_bound, message_of, Stands}
+use Rattle.spi_count.specs.declared.sum.AtomKind.{AtomKind}
+use Rattle.spi_count.specs.declared.sum.AtomKind.TheVariants.{End, Check, Many}
 use Rattle.spi_count.specs.declared.sum.Sum.{Sum}
 use Rattle.spi_infer.specs.declared.keys.Keys.{Keys}
 use Rattle.spi_infer.specs.declared.own.Own.{Own}
@@ -205,3 +207,9 @@ pub record IsNoted (s : Store) (noted : Noted) (k : ℕ) (p : Process) (env : En
   pub names : k ≡ length env
   pub keyed : AreKeys s.messages (λ i. get nat_eq noted.keys.keys i)
   pub each : AreNoted s (with_keys s noted.keys) (spelled k p) (scan 0 env [] (spelled k p)) noted.notes.items
+
+-- an atom by its kind and its message
+abbrev pub atom_of : AtomKind → Message → Atom
+atom_of End m = ends m
+atom_of Check m = checks m
+atom_of Many m = many m
