@@ -13,7 +13,7 @@ use Rattle.spi_intern.specs.Table.{TellsAll}
 use Rattle.spi_intern.specs.Atoms.{SaysAtom}
 use Rattle.spi_intern.specs.Meaning.{Means, NoneTwice}
 use Rattle.spi_effect.specs.Made.{are_many, mentions, minus, greater}
-use Rattle.spi_count.specs.Sums.{name_bound, message_of, Stands}
+use Rattle.spi_count.specs.Sums.{name_bound, key_of, message_of, Stands}
 use Rattle.spi_count.specs.declared.sum.AtomKind.{AtomKind}
 use Rattle.spi_count.specs.declared.sum.AtomKind.TheVariants.{End, Check, Many}
 use Rattle.spi_count.specs.declared.sum.Sum.{Sum}
@@ -213,3 +213,7 @@ abbrev pub atom_of : AtomKind → Message → Atom
 atom_of End m = ends m
 atom_of Check m = checks m
 atom_of Many m = many m
+
+-- the key of a message of the store
+abbrev pub IsKey : Store → Keys → ℕ → Type 0
+IsKey s keys q = (i : ℕ) × (m : Message) × with_keys s keys i m × (q ≡ key_of (name_bound m) i)

@@ -1,9 +1,11 @@
 // Effects read back from counts.
-ghost use Rattle.std.specs.Prelude.{◌≡◌, ◌<◌, ◌++◌, length, map, replicate, slice_get, Some, IfOk, OnOk};
+ghost use Rattle.std.specs.Prelude.{◌≡◌, ℕ, ◌<◌, ◌++◌, length, map, replicate, slice_get, Some, IfOk, OnOk};
 ghost use Rattle.spi_term.specs.Term as Term;
 ghost use Rattle.spi_term.specs.Counts.{SameEffect};
 ghost use Rattle.spi_term.specs.View.{message, atom, effect};
-ghost use Rattle.spi_infer.specs.Accounts.{IsKeyed, SumOf, atom_of};
+ghost use Rattle.spi_count.specs.Sums.{name_bound, key_of};
+ghost use Rattle.spi_infer.specs.Own.{with_keys};
+ghost use Rattle.spi_infer.specs.Accounts.{IsKeyed, IsKey, SumOf, atom_of};
 
 use crate::keys::Keys;
 use spi_count::{AtomKind, NoMemory, Sum};
@@ -71,6 +73,28 @@ fn push_atoms(
     Ok(())
 }
 
+// All atoms of one kind over the message with a key.
+fn read_atoms(
+    alloc: Global,
+    store: &Store,
+    keys: &Keys,
+    kind: AtomKind,
+    key: u64,
+    count: u64,
+    atoms: &mut Vec<Atom>,
+) -> Result<(), NoMemory>
+    requires { IsKey store.now keys.now key }
+    ensures { OnOk result ((i : ℕ) (m : Term.Message) → with_keys store.now keys.now i m → key ≡ key_of (name_bound m) i → map atom atoms.new.items ≡ map atom atoms.old.items ++ replicate count (atom_of kind m)) }
+{
+    match keys.id((key % 4_294_967_296) as usize) {
+        Some(id) => {
+            let m = read_message(alloc, store, id)?;
+            push_atoms(alloc, kind, &m, count, atoms)
+        }
+        None => unreachable!(),
+    }
+}
+
 /// The effect with these counts, by the numbers and keys that they stand for.
 pub fn effect_of_sum(
     alloc: Global,
@@ -84,13 +108,7 @@ pub fn effect_of_sum(
     let mut rest = sum;
     let mut atoms = Vec::new(alloc);
     while let Some((kind, key, count)) = rest.pop() {
-        match keys.id((key % 4_294_967_296) as usize) {
-            Some(id) => {
-                let m = read_message(alloc, store, id)?;
-                push_atoms(alloc, kind, &m, count, &mut atoms)?;
-            }
-            None => unreachable!(),
-        }
+        read_atoms(alloc, store, keys, kind, key, count, &mut atoms)?;
     }
     Ok(Effect { atoms })
 }
