@@ -6,7 +6,7 @@ use Rattle.spi_term.specs.Term.{Message, Effect}
 use Rattle.spi_term.specs.Spelling.{Shape, leaf_at, prefix_at, fork_at}
 use Rattle.spi_intern.specs.declared.store.Store.{Store}
 use Rattle.spi_count.specs.Counts.{IsNothing}
-use Rattle.spi_count.specs.Sums.{part, Stands}
+use Rattle.spi_count.specs.Sums.{part}
 use Rattle.spi_count.specs.declared.sum.AtomKind.{AtomKind}
 use Rattle.spi_count.specs.declared.sum.Sum.{Sum}
 use Rattle.spi_count.proofs.Standing.{stands_none}
@@ -15,7 +15,7 @@ use Rattle.spi_infer.specs.declared.own.OwnNote.{OwnNote}
 use Rattle.spi_infer.specs.Own.{with_keys, StandsFor, TopsStand}
 use Rattle.spi_infer.specs.Forms.{keep}
 use Rattle.spi_infer.specs.Passes.{Note, act_by, stuck_top_by, stuck_two_by, after_shape, both_shape}
-use Rattle.spi_infer.specs.Accounts.{IsKeyed, BelowIn, MayBelowIn, TopBelowIn, BothBelowIn, Behind, AfterForm, BothForm, Tops, IsBefore}
+use Rattle.spi_infer.specs.Accounts.{IsKeyed, BelowIn, MayBelowIn, Behind, AfterForm, BothForm, Tops, IsBefore}
 use Rattle.spi_infer.proofs.Summed.{numbers}
 
 pub tops_push : (At : ℕ → Message → Type 0) (os ns : List (Option Sum)) (o : Option Sum) (e : Option Effect) (st : List (Option Effect)) → ns ≡ os ++ o ∷ [] → StandsFor At o e → TopsStand At (reverse os) st → TopsStand At (reverse ns) (e ∷ st)
@@ -73,7 +73,7 @@ module _ (s : Store) (keys : Keys) (x : Shape) (o : OwnNote) (os rest : List (Op
       go (None ∷ st) l t = absurd t.0
       go (Some es ∷ st) l t =
           tops_push (with_keys s keys) rest new next (keep n.fine (after_shape x n.paid es)) st e
-            (keep_stands (with_keys s keys) next n.fine (after_shape x n.paid es) n_fine (h n.paid es b.keyed (b.noted.1 n_fine) t.0 (behind_top x es st l))) t.1
+          (keep_stands (with_keys s keys) next n.fine (after_shape x n.paid es) n_fine (h n.paid es b.keyed (b.noted.1 n_fine) t.0 (behind_top x es st l))) t.1
 
   pub one_stuck : is_none next ≡ stuck_top_by (after_shape x n.paid) n.fine st
   one_stuck = go st b.behind (tops_top (with_keys s keys) os rest (Some sum) st pop b.tops)

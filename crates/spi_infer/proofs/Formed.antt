@@ -1,13 +1,13 @@
 -- What forms do to counts against what they do to effects.
-use Rattle.std.proofs.Common.{◌≡◌, refl, sym, ap, ◌∙◌, subst, ℕ, zero, suc, ◌+◌, ◌-◌, ◌*◌, ◌<◌, ◌≤◌, Bool, true, false, ◌||◌, [], ◌∷◌, ◌++◌, Option, Some, None, ◌⊎◌, inl, inr, ⊎_elim, arith, true≢false}
+use Rattle.std.proofs.Common.{◌≡◌, refl, sym, ap, subst, ℕ, zero, suc, ◌+◌, ◌-◌, ◌*◌, ◌<◌, ◌≤◌, Bool, true, false, ◌||◌, [], ◌∷◌, ◌++◌, Option, Some, None, ◌⊎◌, inl, inr, ⊎_elim, arith}
 use Rattle.std.specs.Prelude.{slice_get, max}
 use Rattle.spi_term.specs.Term.{Message, name, Atom, ends, checks, many, Effect, Ty, nonce, Casts, Pars}
 use Rattle.spi_term.specs.Spelling.{prefix_at, fork_at}
-use Rattle.spi_term.specs.Counts.{tally, count}
+use Rattle.spi_term.specs.Counts.{tally}
 use Rattle.spi_term.specs.Lists.{In}
 use Rattle.spi_term.proofs.Counting.{in_tally, tally_in, count_tally}
 use Rattle.spi_effect.specs.Made.{are_many, mentions, minus, greater}
-use Rattle.spi_effect.proofs.Made.{minus_difference, both_false, or_false}
+use Rattle.spi_effect.proofs.Made.{minus_difference, both_false}
 use Rattle.spi_intern.specs.declared.store.Store.{Store}
 use Rattle.spi_intern.specs.declared.messages.MsgId.{MsgId}
 use Rattle.spi_intern.specs.declared.types.TyId.{TyId}
@@ -23,8 +23,8 @@ use Rattle.spi_count.proofs.Standing.{unreached_below, reached_in, below_mention
 use Rattle.spi_infer.specs.declared.keys.Keys.{Keys}
 use Rattle.spi_infer.specs.declared.own.Own.{Own}
 use Rattle.spi_infer.specs.declared.own.Own.TheVariants.{Label}
-use Rattle.spi_infer.specs.Own.{with_keys, StandsFor, PaidFits}
-use Rattle.spi_infer.specs.Forms.{unless, keep, cast_effect_of, checked}
+use Rattle.spi_infer.specs.Own.{with_keys, StandsFor}
+use Rattle.spi_infer.specs.Forms.{unless, keep, cast_effect_of}
 use Rattle.spi_infer.specs.Accounts.{IsKeyed, SumOf, Below, HaveKeys, TakesAtom, AddsAtom, AfterOne, AfterTwo, AfterServe, AfterMake, AfterCast, AfterCheck, AfterForm, OwnCast, OwnBegin, OwnEnd, OwnMany, BothCase, BothForm}
 use Rattle.spi_infer.proofs.Summed.{numbers, some_is}
 
@@ -99,7 +99,7 @@ two_go k sum r s keys es kd t b =
     let (kind, q, p, l) = r in
     let (a, i, o) = reached_in (with_keys s keys) (numbers kd) t k kind q p l in
     gone_unless (with_keys s keys) (mentions k es || mentions (suc k) es) es
-      (⊎_elim (λ e. or_one (mentions k es) (mentions (suc k) es) (in_mentions k a es i e)) (λ e. or_two (mentions k es) (mentions (suc k) es) (in_mentions (suc k) a es i e)) (one_or_next (name_bound (message_of a)) k o (b a i)))
+    (⊎_elim (λ e. or_one (mentions k es) (mentions (suc k) es) (in_mentions k a es i e)) (λ e. or_two (mentions k es) (mentions (suc k) es) (in_mentions (suc k) a es i e)) (one_or_next (name_bound (message_of a)) k o (b a i)))
 
 pub serve_stays : (k : ℕ) (sum : Sum) (r : Option Sum) → IsNothing (part K.End sum) × IsNothing (part K.Check sum) → AfterOne k sum r → AfterServe k sum r
 serve_stays k sum r n h s keys es kd t b =

@@ -1,9 +1,8 @@
 -- Effects read back from counts.
-use Rattle.std.proofs.Common.{◌≡◌, ◌≢◌, refl, sym, ap, ◌∙◌, subst, ℕ, zero, suc, ◌+◌, ◌-◌, ◌*◌, ◌<◌, ◌≤◌, min, Bool, true, false, [], ◌∷◌, ◌++◌, List, length, map, replicate, Option, Some, None, ◌⊎◌, inl, inr, ⊎_elim, arith, append_assoc}
+use Rattle.std.proofs.Common.{◌≡◌, refl, sym, ap, ◌∙◌, subst, ℕ, zero, suc, ◌+◌, ◌<◌, ◌≤◌, Bool, true, false, [], ◌∷◌, ◌++◌, List, length, replicate, Option, Some, None, ⊎_elim, arith}
 use Rattle.std.specs.Prelude.{slice_get, nat_eq, IfNone, ◌%◌, if◌then◌else◌}
 use Rattle.spi_term.specs.Term.{Message, bound, name, unit, pair, in_left, in_right, enc, hash, message_size, Atom, ends, checks, many, same_atom, Effect}
 use Rattle.spi_term.specs.Counts.{tally, cut, count, SameEffect}
-use Rattle.spi_term.specs.Lists.{In}
 use Rattle.spi_term.proofs.Counting.{tally_append, same_atom_true, in_tally, tally_in, count_tally}
 use Rattle.spi_intern.specs.declared.store.Store.{Store}
 use Rattle.spi_intern.specs.declared.messages.MsgId.{MsgId}
@@ -17,7 +16,6 @@ use Rattle.spi_count.specs.declared.sum.Sum.{Sum}
 use Rattle.spi_count.proofs.Standing.{put_at, same_kind}
 use Rattle.spi_infer.specs.declared.keys.Keys.{Keys}
 use Rattle.spi_infer.specs.Own.{with_keys}
-use Rattle.spi_infer.specs.Keys.{place_in}
 use Rattle.spi_infer.specs.Accounts.{IsKeyed, HasKey, HaveKeys, SumOf, IsKey, atom_of}
 use Rattle.indexmap.specs.IndexMap.{get}
 use Rattle.spi_infer.proofs.Summed.{numbers, place_is, some_is}

@@ -4,7 +4,7 @@ use Rattle.std.specs.Prelude.{slice_get, nat_eq, ⊤}
 use denote.Ref.{Bor}
 use Rattle.indexmap.specs.IndexMap.{get}
 use Rattle.spi_term.specs.Term.{Message, Atom, ends, checks, many, Effect, Ty}
-use Rattle.spi_term.specs.Counts.{count, cut, SameEffect}
+use Rattle.spi_term.specs.Counts.{count, cut}
 use Rattle.spi_term.specs.Lists.{In, in_first, in_later}
 use Rattle.spi_effect.specs.Made.{less_one, minus}
 use Rattle.spi_effect.proofs.Made.{minus_difference}
@@ -17,15 +17,14 @@ use Rattle.spi_intern.specs.declared.store.TyPart.{TyPart}
 use Rattle.spi_intern.specs.declared.store.TyPart.TheVariants as P
 use Rattle.spi_intern.specs.Lent.{SaysTy, says_un, says_unit, says_pair, says_sum, says_key, says_nonce}
 use Rattle.spi_intern.specs.Table.{TellsAll, tells_none, tells_next}
-use Rattle.spi_intern.specs.Atoms.{SaysAtom, says_end, says_check, says_many}
+use Rattle.spi_intern.specs.Atoms.{says_end, says_check, says_many}
 use Rattle.spi_count.specs.Counts.{count_of}
-use Rattle.spi_count.specs.Sums.{name_bound, key_of, kind_of, message_of, part, one_more, Puts, Stands, AreNumbers}
+use Rattle.spi_count.specs.Sums.{name_bound, key_of, kind_of, message_of, part, one_more, Puts, AreNumbers}
 use Rattle.spi_count.specs.declared.sum.AtomKind.{AtomKind}
 use Rattle.spi_count.specs.declared.sum.AtomKind.TheVariants as K
 use Rattle.spi_count.specs.declared.sum.Sum.{Sum}
 use Rattle.spi_count.proofs.Standing.{stands_more, stands_less, stands_absent, stands_same}
 use Rattle.spi_infer.specs.declared.keys.Keys.{Keys}
-use Rattle.spi_infer.specs.Keys.{Keyed}
 use Rattle.spi_infer.specs.Own.{with_keys}
 use Rattle.spi_infer.specs.Forms.{cast_effect_of}
 use Rattle.spi_infer.specs.Accounts.{IsKeyed, HasKey, HaveKeys, SumOf, AddsAtom, TakesAtom, AddsAll, TakesAll}

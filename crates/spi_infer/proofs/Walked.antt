@@ -1,27 +1,27 @@
 -- The backward pass by counts from the last node to the first.
-use Rattle.std.proofs.Common.{◌≡◌, refl, sym, ap, ◌∙◌, subst, ℕ, zero, suc, ◌+◌, ◌-◌, ◌<◌, ◌≤◌, Bool, true, false, List, [], ◌∷◌, ◌++◌, length, reverse, take, drop, get_or, Option, Some, None, arith, append-nil, append_assoc, length-append}
-use Rattle.std.specs.Prelude.{slice_get, nat_eq, if◌then◌else◌}
+use Rattle.std.proofs.Common.{◌≡◌, refl, sym, ap, ◌∙◌, subst, ℕ, zero, suc, ◌+◌, ◌<◌, ◌≤◌, Bool, true, false, List, [], ◌∷◌, ◌++◌, length, take, drop, get_or, Option, Some, None, arith, append-nil, append_assoc, length-append}
+use Rattle.std.specs.Prelude.{slice_get, if◌then◌else◌}
 use Rattle.std.proofs.lemmas.List.{drop_all}
-use Rattle.spi_term.specs.Term.{Message, Effect, Prefix, Recvs, Serves, Splits, Selects, Decrypts, Checks, Begins, Ends, EndManys, Casts, Makes, Fork, Process, leaf, prefix, fork, binds, fork_binds, process_size}
-use Rattle.spi_term.specs.Names.{MessageOver, OfProcess, ProcessOver}
+use Rattle.spi_term.specs.Term.{Message, Effect, Prefix, Recvs, Serves, Splits, Selects, Decrypts, Checks, Begins, Ends, EndManys, Casts, Makes, Process, leaf, prefix, fork, binds, fork_binds, process_size}
+use Rattle.spi_term.specs.Names.{ProcessOver}
 use Rattle.spi_term.specs.Spelling.{Shape, leaf_at, prefix_at, fork_at, flat, numbered, spelled}
 use Rattle.spi_term.specs.Arena.{InScope}
-use Rattle.spi_term.proofs.Numbers.{numbered_in_scope, length_spelled}
+use Rattle.spi_term.proofs.Numbers.{numbered_in_scope}
 use Rattle.spi_rules.specs.Environment.{Env}
 use Rattle.spi_intern.specs.declared.store.Store.{Store}
 use Rattle.spi_intern.specs.declared.messages.MsgId.{MsgId}
 use Rattle.spi_intern.specs.declared.types.TyId.{TyId}
-use Rattle.spi_intern.specs.Meaning.{Means, NoneTwice}
+use Rattle.spi_intern.specs.Meaning.{NoneTwice}
 use Rattle.spi_count.specs.declared.sum.Sum.{Sum}
 use Rattle.spi_infer.specs.declared.keys.Keys.{Keys}
 use Rattle.spi_infer.specs.declared.own.Own.{Own}
 use Rattle.spi_infer.specs.declared.own.Own.TheVariants.{Checked, Cast}
 use Rattle.spi_infer.specs.declared.own.OwnNote.{OwnNote}
 use Rattle.spi_infer.specs.declared.own.Noted.{Noted}
-use Rattle.spi_infer.specs.Own.{with_keys, PaidFits, Fits, FormFits, StandsFor, TopsStand, NotedAs, AreNoted, noted_none, noted_next}
+use Rattle.spi_infer.specs.Own.{with_keys, PaidFits, Fits, FormFits, StandsFor, NotedAs, AreNoted, noted_none, noted_next}
 use Rattle.spi_infer.specs.Forms.{more, on_first, on_rest, effect_of}
 use Rattle.spi_infer.specs.Passes.{Note, scan, run, act, is_stuck, first_stuck}
-use Rattle.spi_infer.specs.Accounts.{IsKeyed, BelowIn, MayBelowIn, TopBelowIn, BothBelowIn, Behind, AllBehind, CheckGiven, CastGiven, OwnGiven, NoteGiven, Tops, IsBefore, IsNoted}
+use Rattle.spi_infer.specs.Accounts.{BelowIn, MayBelowIn, TopBelowIn, BothBelowIn, Behind, AllBehind, CheckGiven, CastGiven, OwnGiven, NoteGiven, Tops, IsBefore, IsNoted}
 use Rattle.spi_infer.proofs.Opened.{length_more, length_first, length_rest}
 use Rattle.spi_infer.proofs.Passes.{notes, scan_flat, run_flat}
 use Rattle.spi_infer.proofs.Below.{below_effect}
@@ -57,9 +57,10 @@ behind_flat (fork f p q) e i k ss bs n o h =
     ∙ ap (λ l. run (fp ++ (fq ++ ss)) l) (append_assoc (notes p e1) (notes q e2) bs)
     ∙ run_flat p e1 (suc i) m (fq ++ ss) (notes q e2 ++ bs) n1
     ∙ ap (λ l. effect_of p e1 ∷ l) (run_flat q e2 r m ss bs n2) in
-    let rest = behind_flat p e1 (suc i) m (fq ++ ss) (notes q e2 ++ bs) n1 o.1.0 (behind_flat q e2 r m ss bs n2 o.1.1 h) in
-    (subst (BothBelowIn x) (sym is) (first, second),
-      subst (λ l. AllBehind l ((notes p e1 ++ notes q e2) ++ bs)) (sym (append_assoc fp fq ss)) (subst (AllBehind (fp ++ (fq ++ ss))) (sym (append_assoc (notes p e1) (notes q e2) bs)) rest))
+    let rest = behind_flat p e1 (suc i) m (fq ++ ss) (notes q e2 ++ bs) n1 o.1.0 (behind_flat q e2 r m ss bs n2 o.1.1 h) in (
+      subst (BothBelowIn x) (sym is) (first, second),
+      subst (λ l. AllBehind l ((notes p e1 ++ notes q e2) ++ bs)) (sym (append_assoc fp fq ss)) (subst (AllBehind (fp ++ (fq ++ ss))) (sym (append_assoc (notes p e1) (notes q e2) bs)) rest),
+    )
 
 none_behind : (ss : List Shape) → AllBehind ss []
 none_behind [] = tt

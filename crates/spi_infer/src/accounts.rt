@@ -95,11 +95,7 @@ pub fn both_of(
     }
 }
 
-pub fn act_on_two(
-    node: &Node,
-    fine: bool,
-    stack: &mut Vec<Option<Sum>>,
-) -> Result<bool, NoMemory>
+pub fn act_on_two(node: &Node, fine: bool, stack: &mut Vec<Option<Sum>>) -> Result<bool, NoMemory>
     requires { scope_of (shape_of node.now) ≤ 300000 }
     ensures stack { OnOk result ((s : Store) (keys : Keys) (st : List (Option Effect)) → IsKeyed s keys → BothBelowIn (shape_of node.now) st → Tops s keys stack.old.items st → Tops s keys stack.new.items (act_both (both_shape (shape_of node.now)) fine st)) }
     ensures stuck { IfOk result (λ b. (s : Store) (keys : Keys) (st : List (Option Effect)) → IsKeyed s keys → BothBelowIn (shape_of node.now) st → Tops s keys stack.old.items st → b ≡ stuck_both (both_shape (shape_of node.now)) fine st) }

@@ -70,7 +70,8 @@ impl Keys {
             return Err(AllocError);
         }
         self.ids.insert(place, id)?;
-        self.keys.insert(place, above * 4_294_967_296 + place as u64)?;
+        self.keys
+            .insert(place, above * 4_294_967_296 + place as u64)?;
         Ok(())
     }
 }

@@ -200,12 +200,7 @@ pub fn after_case(scope: u32, a: Sum, b: Sum) -> Result<Option<Sum>, NoMemory>
 }
 
 // What is checked, and what the check pays for.
-pub fn checked(
-    store: &Store,
-    keys: &Keys,
-    own: Own,
-    sum: Sum,
-) -> Result<Option<Sum>, NoMemory>
+pub fn checked(store: &Store, keys: &Keys, own: Own, sum: Sum) -> Result<Option<Sum>, NoMemory>
     requires { CheckGiven store.now own }
     ensures { IfOk result (OwnCheck store.now keys.now own sum) }
 {

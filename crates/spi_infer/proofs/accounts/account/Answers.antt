@@ -1,4 +1,4 @@
-use Rattle.std.proofs.Common.{◌≡◌, ◌+◌, ◌-◌, ◌<◌, ◌≤◌, [], length, sym, ◌∙◌, subst, arith}
+use Rattle.std.proofs.Common.{◌≡◌, ◌+◌, ◌-◌, ◌≤◌, length, sym, ◌∙◌, subst, arith}
 use Rattle.spi_term.specs.Spelling.{spelled}
 use Rattle.spi_term.specs.View.{shape_of}
 use Rattle.spi_term.proofs.Numbers.{small_node, length_spelled}

@@ -1,4 +1,4 @@
-use Rattle.std.proofs.Common.{◌≡◌, ◌∙◌, ap, ◌∷◌, ◌++◌, []}
+use Rattle.std.proofs.Common.{◌∙◌, ap, ◌∷◌, ◌++◌, []}
 use Rattle.spi_term.specs.View.{shape_of}
 use Rattle.spi_infer.proofs.Accounted.{none_told, one_acts, one_stuck}
 use Rattle.spi_infer.proofs.accounts.act_on_one.Goals as goal

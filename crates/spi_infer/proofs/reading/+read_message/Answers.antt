@@ -1,4 +1,4 @@
-use Rattle.std.proofs.Common.{◌≡◌, ◌∙◌, ap, Some, arith}
+use Rattle.std.proofs.Common.{◌∙◌, ap, Some, arith}
 use Rattle.spi_term.specs.View.{message}
 use Rattle.spi_intern.specs.Messages.{message_at}
 use Rattle.spi_infer.proofs.Read.{there, pair_first, pair_second, enc_first, enc_second, left_part, right_part, hash_part, bound_read, name_read, unit_read, pair_read, enc_read, left_read, right_read, hash_read}

@@ -1,4 +1,4 @@
-use Rattle.std.proofs.Common.{refl, map, ap, ◌∙◌}
+use Rattle.std.proofs.Common.{map, ap}
 use Rattle.spi_term.specs.View.{atom}
 use Rattle.spi_infer.proofs.Read.{read_none, read_next, read_all, key_at, at_none}
 use Rattle.spi_infer.proofs.reading.effect_of_sum.Goals as goal

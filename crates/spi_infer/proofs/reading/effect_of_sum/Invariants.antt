@@ -1,4 +1,4 @@
-use Rattle.std.proofs.Common.{ℕ, map}
+use Rattle.std.proofs.Common.{map}
 use Rattle.spi_term.specs.View.{atom}
 use Rattle.spi_count.specs.Sums.{keys_in}
 use Rattle.spi_infer.proofs.Read.{IsRead}

@@ -1,4 +1,4 @@
-use Rattle.std.proofs.Common.{◌≡◌, ◌∙◌, ap, sym, subst, length, ◌<◌}
+use Rattle.std.proofs.Common.{sym, subst, length, ◌<◌}
 use Rattle.spi_infer.proofs.Walked.{within}
 use Rattle.spi_infer.proofs.Read.{id_place, id_none}
 use Rattle.spi_infer.proofs.reading.read_atoms.Goals as goal
