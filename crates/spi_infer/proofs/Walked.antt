@@ -1,6 +1,6 @@
 -- The backward pass by counts from the last node to the first.
 use Rattle.std.proofs.Common.{◌≡◌, refl, sym, ap, ◌∙◌, subst, ℕ, zero, suc, ◌+◌, ◌<◌, ◌≤◌, Bool, true, false, List, [], ◌∷◌, ◌++◌, length, take, drop, get_or, Option, Some, None, arith, append-nil, append_assoc, length-append}
-use Rattle.std.specs.Prelude.{slice_get, if◌then◌else◌}
+use Rattle.std.specs.Prelude.{⊤, slice_get, if◌then◌else◌}
 use Rattle.std.proofs.lemmas.List.{drop_all}
 use Rattle.spi_term.specs.Term.{Message, Effect, Prefix, Recvs, Serves, Splits, Selects, Decrypts, Checks, Begins, Ends, EndManys, Casts, Makes, Process, leaf, prefix, fork, binds, fork_binds, process_size}
 use Rattle.spi_term.specs.Names.{ProcessOver}
@@ -21,13 +21,18 @@ use Rattle.spi_infer.specs.declared.own.Noted.{Noted}
 use Rattle.spi_infer.specs.Own.{with_keys, PaidFits, Fits, FormFits, StandsFor, NotedAs, AreNoted, noted_none, noted_next}
 use Rattle.spi_infer.specs.Forms.{more, on_first, on_rest, effect_of}
 use Rattle.spi_infer.specs.Passes.{Note, scan, run, act, is_stuck, first_stuck}
-use Rattle.spi_infer.specs.Accounts.{BelowIn, MayBelowIn, TopBelowIn, BothBelowIn, Behind, AllBehind, CheckGiven, CastGiven, OwnGiven, NoteGiven, Tops, IsBefore, IsNoted}
+use Rattle.spi_infer.specs.Accounts.{BelowIn, MayBelowIn, TopBelowIn, BothBelowIn, Behind, CheckGiven, CastGiven, OwnGiven, NoteGiven, Tops, IsBefore, IsNoted}
 use Rattle.spi_infer.proofs.Opened.{length_more, length_first, length_rest}
 use Rattle.spi_infer.proofs.Passes.{notes, scan_flat, run_flat}
 use Rattle.spi_infer.proofs.Below.{below_effect}
 use Rattle.spi_infer.proofs.Accounted.{tops_top}
 
 -- the effects behind each node
+abbrev pub AllBehind : List Shape → List Note → Type 0
+AllBehind [] ns = ⊤
+AllBehind (x ∷ ss) [] = ⊤
+AllBehind (x ∷ ss) (n ∷ ns) = Behind x (run ss ns) × AllBehind ss ns
+
 may_below : (x : Shape) (o : Option Effect) → ((es : Effect) → o ≡ Some es → BelowIn x es) → MayBelowIn x o
 may_below x None h = tt
 may_below x (Some es) h = h es refl

@@ -25,7 +25,7 @@ use Rattle.spi_infer.specs.declared.own.Noted.{Noted}
 use Rattle.spi_infer.specs.Keys.{AreKeys}
 use Rattle.spi_infer.specs.Own.{with_keys, PaidFits, Fits, StandsFor, NotedAs, AreNoted, TopsStand}
 use Rattle.spi_infer.specs.Forms.{cast_effect_of, unless, keep, checked}
-use Rattle.spi_infer.specs.Passes.{Note, run, scan, after_shape, both_shape}
+use Rattle.spi_infer.specs.Passes.{Note, scan, after_shape, both_shape}
 
 -- the keys are those of messages of the store, in which nothing has two numbers
 pub record IsKeyed (s : Store) (keys : Keys) : Type 0 where
@@ -180,12 +180,6 @@ abbrev pub Behind : Shape → List (Option Effect) → Type 0
 Behind (leaf_at k l) st = ⊤
 Behind (prefix_at k s b) st = TopBelowIn (prefix_at k s b) st
 Behind (fork_at k f a r) st = BothBelowIn (fork_at k f a r) st
-
--- and so at each node
-abbrev pub AllBehind : List Shape → List Note → Type 0
-AllBehind [] ns = ⊤
-AllBehind (x ∷ ss) [] = ⊤
-AllBehind (x ∷ ss) (n ∷ ns) = Behind x (run ss ns) × AllBehind ss ns
 
 -- a stack that grows at its end
 abbrev pub Tops : Store → Keys → List (Option Sum) → List (Option Effect) → Type 0
