@@ -1,7 +1,7 @@
 -- What counts by key say of an effect. A message has a number, and its key orders messages by their greatest names, so
 -- that the last key tells whether a name occurs.
 use Rattle.std.specs.Prelude.{◌≡◌, ◌≢◌, ℕ, suc, ◌+◌, ◌*◌, ◌<◌, max}
-use Rattle.std.specs.BTreeMap.{BTreeMap}
+use Rattle.std.specs.BTreeMap.{BTreeMap, btree_map_len}
 use Rattle.spi_term.specs.Term.{Message, bound, name, unit, pair, in_left, in_right, enc, hash, Atom, ends, checks, many, Effect}
 use Rattle.spi_term.specs.Lists.{In}
 use Rattle.spi_term.specs.Counts.{count}
@@ -51,6 +51,10 @@ abbrev pub both_counts : AtomKind → ℕ → ℕ → ℕ
 both_counts End m n = m + n
 both_counts Check m n = m + n
 both_counts Many m n = max m n
+
+-- how many keys are kept
+abbrev pub keys_in : Sum → ℕ
+keys_in s = btree_map_len s.ends.counts + btree_map_len s.checks.counts + btree_map_len s.lasting.counts
 
 -- the atoms of that kind are counted so high at a key, and all else is as before
 pub record Puts (kind : AtomKind) (old new : Sum) (key n : ℕ) : Type 0 where

@@ -100,8 +100,8 @@ impl Counts {
         }
     }
 
-    /// Takes the least key out.
-    fn take(&mut self) -> Option<(u64, u64)>
+    /// Takes the least key out, with its count.
+    pub fn take(&mut self) -> Option<(u64, u64)>
         ensures some { IfSome result (λ p. (0 < p.1) × (count_of self.old.counts p.0 ≡ p.1) × Sets self.old.counts self.new.counts p.0 0) }
         ensures none { IfNone result (IsNothing self.old.counts × IsNothing self.new.counts) }
         ensures less { IfSome result (λ p. btree_map_len self.new.counts < btree_map_len self.old.counts) }

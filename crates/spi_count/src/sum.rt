@@ -1,7 +1,7 @@
 // The counts of the atoms of an effect, by the keys of their messages.
 ghost use Rattle.std.specs.Prelude.{false, ◌≡◌, ◌≢◌, ◌↔◌, ◌+◌, ◌-◌, ◌*◌, ◌<◌, ◌≤◌, ◌⊎◌, ℕ, max, IfSome, IfNone, IfOk, OnOk, IsTrue};
 ghost use Rattle.spi_count.specs.Counts.{count_of, IsNothing};
-ghost use Rattle.spi_count.specs.Sums.{part, one_more, both_counts, Puts};
+ghost use Rattle.spi_count.specs.Sums.{part, one_more, both_counts, keys_in, Puts};
 ghost use Rattle.spi_count.specs.declared.sum.AtomKind.{AtomKind};
 ghost use Rattle.spi_count.specs.declared.sum.AtomKind.TheVariants as kinds;
 
@@ -58,6 +58,31 @@ impl Sum {
             AtomKind::End => self.ends.lower(key, 1),
             AtomKind::Check => self.checks.lower(key, 1),
             AtomKind::Many => self.lasting.lower(key, 1),
+        }
+    }
+
+    /// Takes all atoms of one kind over one message out, where there are some: the kind, the key of the message and how
+    /// often the atom stood there.
+    pub fn pop(&mut self) -> Option<(AtomKind, u64, u64)>
+        ensures some { IfSome result (λ p. (0 < p.2) × (count_of (part p.0 self.old) p.1 ≡ p.2) × Puts p.0 self.old self.new p.1 0) }
+        ensures none { IfNone result ((kind : AtomKind) → IsNothing (part kind self.old)) }
+        ensures less { IfSome result (λ p. keys_in self.new < keys_in self.old) }
+    {
+        if !self.ends.is_empty() {
+            return match self.ends.take() {
+                Some((key, count)) => Some((AtomKind::End, key, count)),
+                None => None,
+            };
+        }
+        if !self.checks.is_empty() {
+            return match self.checks.take() {
+                Some((key, count)) => Some((AtomKind::Check, key, count)),
+                None => None,
+            };
+        }
+        match self.lasting.take() {
+            Some((key, count)) => Some((AtomKind::Many, key, count)),
+            None => None,
         }
     }
 

@@ -3,6 +3,7 @@ ghost use Rattle.std.specs.Prelude.{◌≡◌, ◌+◌, ◌≤◌, ◌<◌, ℕ,
 ghost use Rattle.spi_term.specs.View.{message};
 ghost use Rattle.indexmap.specs.IndexMap.{get};
 ghost use Rattle.spi_count.specs.Sums.{name_bound, key_of};
+ghost use Rattle.spi_infer.specs.Keys.{place_in};
 
 use indexmap::IndexMap;
 use spi_intern::MsgId;
@@ -13,6 +14,8 @@ use std::alloc::{AllocError, Global};
 #[derive(Drop)]
 pub struct Keys {
     keys: IndexMap<usize, u64>,
+    ids: IndexMap<usize, MsgId>,
+    ghost held: { (i k : ℕ) → get nat_eq keys i ≡ Some k → place_in (get nat_eq ids i) ≡ Some i },
 }
 
 /// The least number above the names of a message.
@@ -38,6 +41,7 @@ impl Keys {
     {
         Keys {
             keys: IndexMap::new(alloc),
+            ids: IndexMap::new(alloc),
         }
     }
 
@@ -46,6 +50,13 @@ impl Keys {
         ensures { result ≡ get nat_eq self.now.keys id.place }
     {
         self.keys.get(&id.place()).copied()
+    }
+
+    /// The number in this place, where its message has a key.
+    pub fn id(&self, place: usize) -> Option<MsgId>
+        ensures { (k : ℕ) → get nat_eq self.now.keys place ≡ Some k → place_in result ≡ Some place }
+    {
+        self.ids.get(&place).copied()
     }
 
     /// Keeps the key of a message.
@@ -58,6 +69,7 @@ impl Keys {
         if place >= 4_294_967_296 || above >= 4_294_967_296 {
             return Err(AllocError);
         }
+        self.ids.insert(place, id)?;
         self.keys
             .insert(place, above * 4_294_967_296 + place as u64)?;
         Ok(())
