@@ -59,7 +59,7 @@ holds_after P one safe bytes (g, spells, d) f other =
 
 -- bytes that are refused spell no file
 abbrev pub RefusedNone : Type 0
-RefusedNone = (bytes : List ℕ) {number : ℕ} {offset : Option ℕ} {shown : List ℕ} → Refuses bytes number offset shown → SpellsNone bytes
+RefusedNone = (bytes : List ℕ) (number : ℕ) (offset : Option ℕ) (shown : List ℕ) → Refuses bytes number offset shown → SpellsNone bytes
 
 exactly : RefusedNone → OneFile → Safe RobustlySafe → (bytes : List ℕ) (old new : Option (List ℕ)) (output : List ℕ) (status : Status) → ChecksTo bytes status output → Appends old new output → IsExact bytes old new status
 exactly none_of one safe bytes old new output Yes is put = record {
@@ -77,7 +77,7 @@ exactly none_of one safe bytes old new output No is put = record {
   safe = λ e. absurd (cc);
 }
 exactly none_of one safe bytes old new output Refused is put =
-    let none : SpellsNone bytes = none_of bytes is.1 in record {
+    let none : SpellsNone bytes = none_of bytes is.0.number is.0.offset is.0.shown.items is.1 in record {
       yes = (λ e. absurd (cc), λ a. absurd (none a.0 a.1));
       no = (λ e. absurd (cc), λ r. absurd (none r.0 r.1));
       refused = (λ e. none, λ n. refl);

@@ -30,6 +30,9 @@ use Rattle.cryptyc.specs.declared.answer.Answer.{Answer}
 use Rattle.cryptyc.specs.declared.answer.Stop.{Stop}
 use Rattle.cryptyc.specs.declared.status.Status.{Status}
 use Rattle.cryptyc.specs.declared.status.Status.TheVariants.{Refused}
+use Rattle.cryptyc.specs.declared.read.Unread.{Unread}
+use Rattle.cryptyc.specs.declared.read.Unread.TheVariants as unread
+use Rattle.cryptyc.specs.Reading.{IsUnread, Tells}
 use Rattle.cryptyc.specs.Spelled.{limit, IsTreeOf, SpellsFile, SpellsNone}
 use Rattle.cryptyc.specs.Answer.{start_of, scope_number, scope_shown, Refuses, too_long, not_utf8, bad_char, bad_number, name_too_long, syntax, too_deep, out_of_scope, IsRefusal, ChecksTo}
 
@@ -197,6 +200,11 @@ pub taken_long : (old new : Option (List ℕ)) → TakesCount old new (limit + 1
 taken_long None new t = tt
 taken_long (Some bytes) None t = absurd t.2
 taken_long (Some bytes) (Some rest) t = grind (arith, common_steps)
+
+-- what a call tells of a refusal is one of the bytes
+pub unread_as : (bytes : List ℕ) (number offset : ℕ) (shown : List ℕ) (u : Unread) → Refuses bytes number (Some offset) shown → Tells number offset shown u → IsUnread bytes u
+unread_as bytes number offset shown (unread.Refused r) h t = rw (t.0, t.1, t.2) h
+unread_as bytes number offset shown unread.NoMemory h t = tt
 
 -- the fault is this one, since memory didn't run out
 pub lexed_fault : (bytes : List ℕ) (fault wanted : LexFault) → fault ≡ wanted → ¬ (wanted ≡ faults.NoMemory) → (fault ≡ faults.NoMemory) ⊎ Lexes bytes (Err fault) → Lexes bytes (Err wanted)

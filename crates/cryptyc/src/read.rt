@@ -10,6 +10,7 @@ ghost use Rattle.spi_scope.specs.FaultPlaces.{span_from};
 ghost use Rattle.cryptyc.specs.Spelled.{IsTreeOf, SpellsFile};
 ghost use Rattle.cryptyc.specs.Answer.{Refuses, start_of, scope_number, scope_shown};
 ghost use Rattle.cryptyc.specs.Reading.{IsUnread, Tells};
+ghost use Rattle.cryptyc.specs.declared.read.Unread.TheVariants.{NoMemory};
 
 use spi_lex::{LexFault, Token, lex};
 use spi_parse::{ParseFault, parse};

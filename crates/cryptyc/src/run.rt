@@ -80,7 +80,7 @@ pub fn one_file()
 
 /// Bytes that are refused spell no file.
 pub fn refused_is_none()
-    ensures { (bytes : List ℕ) {number : ℕ} {offset : Option ℕ} {shown : List ℕ} → Refuses bytes number offset shown → SpellsNone bytes }
+    ensures { (bytes : List ℕ) (number : ℕ) (offset : Option ℕ) (shown : List ℕ) → Refuses bytes number offset shown → SpellsNone bytes }
 {
     one_answer();
     one_placed_tree();
