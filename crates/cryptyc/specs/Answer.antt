@@ -1,17 +1,50 @@
 -- What `check` answers: the status and the output.
-use Rattle.std.specs.Prelude.{◌≡◌, ℕ, ◌+◌, ◌<◌, ◌≤◌, List, [], length, codes, Ok, Err, Some, None}
+use Rattle.std.specs.Prelude.{◌≡◌, ℕ, ◌+◌, ◌<◌, ◌≤◌, List, [], ◌∷◌, length, drop, codes, Ok, Err, Some, None}
 use Rattle.std.specs.Fmt.{decimal}
 use Rattle.std.specs.declared.option.Option.{Option}
 use Rattle.spi_lex.specs.declared.token.Token.{Token}
 use Rattle.spi_lex.specs.declared.fault.LexFault.TheVariants.{NotUtf8, BadChar, BadNumber, NameTooLong}
 use Rattle.spi_lex.specs.Lexing.{Lexes, kinds_of}
-use Rattle.spi_term.specs.Term.{Process}
-use Rattle.spi_thin.specs.Thin.{Spells}
+use Rattle.spi_tree.specs.Trees.{File}
+use Rattle.spi_parse.specs.Formed.{IsFile, whole_file}
+use Rattle.spi_parse.specs.Exact.{IsSyntaxAt, IsDeepAt}
+use Rattle.spi_scope.specs.declared.fault.ScopeFault.{ScopeFault}
+use Rattle.spi_scope.specs.declared.fault.ScopeFault.TheVariants.{UnknownName, UnknownType, NameTwice, TypeTwice, MessageTooLarge, TypeTooLarge, FileTooLarge, ScheduleTooLong, NoMemory as OutOfMemory}
+use Rattle.spi_scope.specs.First.{HasFirst}
+use Rattle.spi_scope.specs.FaultPlaces.{span_from}
 use Rattle.spi_report.specs.declared.refusal.Refusal.{Refusal}
 use Rattle.spi_report.specs.Refused.{refused_text}
 use Rattle.cryptyc.specs.declared.status.Status.{Status}
 use Rattle.cryptyc.specs.declared.status.Status.TheVariants.{Yes, No, Refused, ReadFault, WriteFault, NoMemory, Usage}
-use Rattle.cryptyc.specs.Spelled.{limit, SpellsDerivable, SpellsUnderivable}
+use Rattle.cryptyc.specs.Spelled.{limit, IsTreeOf, SpellsDerivable, SpellsUnderivable}
+
+-- where a token begins, and at the end of the tokens the end of the file
+abbrev pub start_of : List ℕ → List Token → ℕ
+start_of bytes [] = length bytes
+start_of bytes (token ∷ rest) = token.span.from
+
+-- the number of a fault of scopes, and what it shows
+abbrev pub scope_number : ScopeFault → ℕ
+scope_number (UnknownName s w) = 30
+scope_number (UnknownType s w) = 31
+scope_number (NameTwice s w) = 32
+scope_number (TypeTwice s w) = 33
+scope_number (MessageTooLarge s n) = 34
+scope_number (TypeTooLarge s n) = 35
+scope_number (FileTooLarge s n) = 36
+scope_number (ScheduleTooLong s n) = 37
+scope_number OutOfMemory = 0
+
+abbrev pub scope_shown : ScopeFault → List ℕ
+scope_shown (UnknownName s w) = w
+scope_shown (UnknownType s w) = w
+scope_shown (NameTwice s w) = w
+scope_shown (TypeTwice s w) = w
+scope_shown (MessageTooLarge s n) = decimal n
+scope_shown (TypeTooLarge s n) = decimal n
+scope_shown (FileTooLarge s n) = decimal n
+scope_shown (ScheduleTooLong s n) = decimal n
+scope_shown OutOfMemory = []
 
 -- The bytes spell no file. The cause has this number, stands at this offset, and shows this.
 pub data Refuses (bytes : List ℕ) : ℕ → Option ℕ → List ℕ → Type 0 where
@@ -20,8 +53,12 @@ pub data Refuses (bytes : List ℕ) : ℕ → Option ℕ → List ℕ → Type 0
   bad_char : {at : ℕ} → length bytes ≤ limit → Lexes bytes (Err (BadChar at)) → Refuses bytes 11 (Some at) []
   bad_number : {at : ℕ} → length bytes ≤ limit → Lexes bytes (Err (BadNumber at)) → Refuses bytes 12 (Some at) []
   name_too_long : {at : ℕ} → length bytes ≤ limit → Lexes bytes (Err (NameTooLong at)) → Refuses bytes 13 (Some at) []
-  not_thin : {tokens : List Token} → length bytes ≤ limit → Lexes bytes (Ok tokens)
-      → ((k : ℕ) (p : Process) → ¬ Spells (kinds_of tokens) k p) → Refuses bytes 99 None []
+  syntax : {tokens : List Token} {i : ℕ} → length bytes ≤ limit → Lexes bytes (Ok tokens)
+      → IsSyntaxAt whole_file IsFile (kinds_of tokens) i → Refuses bytes 20 (Some (start_of bytes (drop i tokens))) []
+  too_deep : {tokens : List Token} {i : ℕ} → length bytes ≤ limit → Lexes bytes (Ok tokens)
+      → IsDeepAt whole_file IsFile (kinds_of tokens) i → Refuses bytes 21 (Some (start_of bytes (drop i tokens))) []
+  out_of_scope : {tree : File} {fault : ScopeFault} → IsTreeOf bytes tree → HasFirst tree fault
+      → Refuses bytes (scope_number fault) (Some (span_from fault)) (scope_shown fault)
 
 -- the text is the line of that refusal
 abbrev pub IsRefusal : List ℕ → List ℕ → Type 0

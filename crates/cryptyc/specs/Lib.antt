@@ -3,4 +3,5 @@ pub mod Way
 pub mod Asked
 pub mod Spelled
 pub mod Answer
+pub mod Reading
 pub mod Run

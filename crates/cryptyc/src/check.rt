@@ -1,25 +1,25 @@
 // The command `check`.
-ghost use Rattle.std.specs.Prelude.{◌≡◌, ◌≢◌, ◌+◌, ◌↔◌, ◌⊎◌, ℕ, ◌<◌, ◌≤◌, List, [], length, IfOk, IfSome, OnErr, IsErrOf, IsTrue, Ok, Err};
+ghost use Rattle.std.specs.Prelude.{◌≡◌, ◌≢◌, ◌+◌, ◌↔◌, ℕ, ◌<◌, ◌≤◌, List, [], length, IfOk, IfSome, OnErr, IsErrOf, IsTrue, Err};
 ghost use Rattle.spi_io.specs.Causes.{Rose, TakesUpTo};
-ghost use Rattle.spi_lex.specs.Lexing.{Lexes};
 ghost use Rattle.spi_rules.specs.Environment.{untrusted};
 ghost use Rattle.spi_rules.specs.Derivations.{Derivable};
-ghost use Rattle.cryptyc.specs.Spelled.{limit};
-ghost use Rattle.cryptyc.specs.Answer.{Refuses, ChecksTo};
+ghost use Rattle.spi_scope.specs.Files.{meant};
+ghost use Rattle.cryptyc.specs.Spelled.{limit, SpellsFile};
+ghost use Rattle.cryptyc.specs.Answer.{ChecksTo};
 ghost use Rattle.cryptyc.specs.Run.{IsAnswered};
 
 use crate::answer::{Answer, Stop, made, refusal};
+use crate::read::{Unread, read};
 use crate::status::Status;
 use spi_infer::{Inferred, infer};
 use spi_io::{Source, Taken, take_all};
-use spi_lex::{LexFault, Token, lex};
 use spi_report::{Refusal, yes};
+use spi_scope::File;
 use spi_term::Process;
-use spi_thin::{ThinFault, thin};
 use std::alloc::{AllocError, Global};
 
 /// How many bytes a file may have.
-const LIMIT: usize = 1024;
+const LIMIT: usize = 16_777_216;
 
 /// What `check` answers on the bytes that are left.
 pub fn check<S: Source>(alloc: Global, source: &mut S) -> Result<Answer, Stop>
@@ -56,69 +56,28 @@ fn too_long(alloc: Global) -> Result<Answer, Stop>
 
 /// What `check` answers on a file of these bytes.
 fn checked(alloc: Global, bytes: &[u8]) -> Result<Answer, Stop>
-    requires { length bytes.now ≤ 1024 }
+    requires { length bytes.now ≤ 16_777_216 }
     ensures ok { IfOk result (λ answer. ChecksTo bytes.now answer.status answer.output.items) }
     ensures answered { IfOk result (λ answer. IsAnswered answer.status × (answer.status ≢ Status.Usage)) }
     ensures err { OnErr result (result ≡ Err Stop.NoMemory) }
 {
-    match lex(alloc, bytes) {
-        Ok(tokens) => judged(alloc, bytes, &tokens),
-        Err(fault) => unlexed(alloc, bytes, fault),
+    match read(alloc, bytes) {
+        Ok(file) => judged(alloc, &file),
+        Err(Unread::Refused(r)) => refusal(alloc, bytes, &r),
+        Err(Unread::NoMemory) => Err(Stop::NoMemory),
     }
 }
 
-/// The refusal of a lexical fault.
-fn unlexed(alloc: Global, bytes: &[u8], fault: LexFault) -> Result<Answer, Stop>
-    requires within { length bytes.now ≤ 1024 }
-    requires fault { (fault ≡ LexFault.NoMemory) ⊎ Lexes bytes.now (Err fault) }
-    ensures ok { IfOk result (λ answer. ChecksTo bytes.now answer.status answer.output.items) }
-    ensures answered { IfOk result (λ answer. answer.status ≡ Status.Refused) }
-    ensures err { OnErr result (result ≡ Err Stop.NoMemory) }
-{
-    match fault {
-        LexFault::NotUtf8 { at } => unspelled(alloc, bytes, 10, Some(at)),
-        LexFault::BadChar { at } => unspelled(alloc, bytes, 11, Some(at)),
-        LexFault::BadNumber { at } => unspelled(alloc, bytes, 12, Some(at)),
-        LexFault::NameTooLong { at } => unspelled(alloc, bytes, 13, Some(at)),
-        LexFault::NoMemory => Err(Stop::NoMemory),
-    }
-}
-
-/// The refusal of bytes that spell no file, which shows nothing.
-fn unspelled(alloc: Global, bytes: &[u8], number: u32, offset: Option<u32>) -> Result<Answer, Stop>
-    requires within { length bytes.now ≤ 1024 }
-    requires cause { Refuses bytes.now number offset [] }
-    ensures ok { IfOk result (λ answer. ChecksTo bytes.now answer.status answer.output.items) }
-    ensures answered { IfOk result (λ answer. answer.status ≡ Status.Refused) }
-    ensures err { OnErr result (result ≡ Err Stop.NoMemory) }
-{
-    let r = Refusal {
-        number,
-        offset,
-        shown: Vec::new(alloc),
-    };
-    refusal(alloc, bytes, &r)
-}
-
-/// What `check` answers on a file with these tokens.
-fn judged(alloc: Global, bytes: &[u8], tokens: &[Token]) -> Result<Answer, Stop>
-    requires within { length bytes.now ≤ 1024 }
-    requires few { length tokens.now ≤ 1024 }
-    requires lexed { Lexes bytes.now (Ok tokens.now) }
-    ensures ok { IfOk result (λ answer. ChecksTo bytes.now answer.status answer.output.items) }
+/// What `check` answers on a file.
+fn judged(alloc: Global, file: &File) -> Result<Answer, Stop>
+    ensures ok { IfOk result (λ answer. (bytes : List ℕ) → SpellsFile bytes (meant file.now) → ChecksTo bytes answer.status answer.output.items) }
     ensures answered { IfOk result (λ answer. IsAnswered answer.status × (answer.status ≢ Status.Usage)) }
     ensures err { OnErr result (result ≡ Err Stop.NoMemory) }
 {
-    match thin(alloc, tokens) {
-        Ok(file) => {
-            if is_derivable(alloc, &file.process)? {
-                made(alloc, Status::Yes, yes())
-            } else {
-                made(alloc, Status::No, b"no\n")
-            }
-        }
-        Err(ThinFault::NotThin) => unspelled(alloc, bytes, 99, None),
-        Err(ThinFault::NoMemory) => Err(Stop::NoMemory),
+    if is_derivable(alloc, &file.process)? {
+        made(alloc, Status::Yes, yes())
+    } else {
+        made(alloc, Status::No, b"no\n")
     }
 }
 

@@ -5,11 +5,13 @@ mod answer;
 mod asked;
 mod check;
 mod player;
+mod read;
 mod run;
 mod status;
 
 pub use player::{Menu, Pick, Player};
-pub use run::{one_file, run};
+pub use read::{Unread, read};
+pub use run::{one_file, refused_is_none, run};
 use spi_io::{StdSink, StdSource};
 pub use status::Status;
 use std::alloc::AllocError;

@@ -1,10 +1,11 @@
 // The top call: from words and bytes to a status and what is written.
-ghost use Rattle.std.specs.Prelude.{◌≡◌, ◌≢◌, ◌+◌, ◌≤◌, ◌↔◌, ◌⊎◌, ℕ, List, [], map, string_bytes, IfOk, IfSome, OnErr, IsErrOf, Err, None, Some, vec_len};
+ghost use Rattle.std.specs.Prelude.{Option, ◌≡◌, ◌≢◌, ◌+◌, ◌≤◌, ◌↔◌, ◌⊎◌, ℕ, List, [], map, string_bytes, IfOk, IfSome, OnErr, IsErrOf, Err, None, Some, vec_len};
 ghost use Rattle.spi_io.specs.Causes.{Rose, TakesUpTo};
-ghost use Rattle.spi_term.specs.Term.{Process};
+ghost use Rattle.spi_scope.specs.StandsFor.{Meant};
 ghost use Rattle.cryptyc.specs.Way.{seen_of};
 ghost use Rattle.cryptyc.specs.Asked.{asked};
-ghost use Rattle.cryptyc.specs.Spelled.{limit, SpellsFile, IsManySafe};
+ghost use Rattle.cryptyc.specs.Spelled.{limit, SpellsFile, SpellsNone, IsManySafe};
+ghost use Rattle.cryptyc.specs.Answer.{Refuses};
 ghost use Rattle.cryptyc.specs.Run.{Wants, IsAnswered, Ends, Completes, IsExact};
 
 use crate::answer::{Answer, Stop, made};
@@ -14,6 +15,8 @@ use crate::player::Player;
 use crate::status::Status;
 use spi_io::{Put, Sink, Source, put_all};
 use spi_lex::one_answer;
+use spi_parse::one_placed_tree;
+use spi_scope::one_or_other;
 use spi_sound::{derivable_is_many_safe, derivable_is_safe};
 use std::alloc::Global;
 
@@ -59,8 +62,8 @@ pub fn run<S: Source, K: Sink>(
     // The players are as they were.
     ensures players { players.new ≡ players.old }
 {
-    one_answer();
     one_file();
+    refused_is_none();
     derivable_is_safe();
     derivable_is_many_safe();
     run_for(alloc, words, source, sink, players)
@@ -68,10 +71,20 @@ pub fn run<S: Source, K: Sink>(
 
 /// Bytes spell one file at most.
 pub fn one_file()
-    ensures { (bytes : List ℕ) (j k : ℕ) (p q : Process) → SpellsFile bytes j p → SpellsFile bytes k q → (j ≡ k) × (p ≡ q) }
+    ensures { (bytes : List ℕ) (file other : Meant) → SpellsFile bytes file → SpellsFile bytes other → file ≡ other }
 {
     one_answer();
-    spi_thin::one_file();
+    one_placed_tree();
+    one_or_other();
+}
+
+/// Bytes that are refused spell no file.
+pub fn refused_is_none()
+    ensures { (bytes : List ℕ) (number : ℕ) (offset : Option ℕ) (shown : List ℕ) → Refuses bytes number offset shown → SpellsNone bytes }
+{
+    one_answer();
+    one_placed_tree();
+    one_or_other();
 }
 
 /// Does what the words ask for.

@@ -13,15 +13,23 @@ const CHECKED: [(&[u8], &[u8], u8); 15] = [
     (b"free a; process begin a; stop | end a; stop", b"no\n", 1),
     (b"process new (x: Un); begin x; end x; stop", b"yes\n", 0),
     (b"process new (x: Un); end x; stop", b"no\n", 1),
+    (b"free a; process cast a is (x: Un); stop", b"yes\n", 0),
     (
-        b"free a; process cast a is (x: Un); stop",
-        b"refused: 99 NotThin\n",
+        b"process stop stop",
+        b"refused: 20 Syntax at 1:14\n",
         2,
     ),
-    (b"process stop stop", b"refused: 99 NotThin\n", 2),
-    (b"process out a a", b"refused: 99 NotThin\n", 2),
-    (b"free a, a; process stop", b"refused: 99 NotThin\n", 2),
-    (b"", b"refused: 99 NotThin\n", 2),
+    (
+        b"process out a a",
+        b"refused: 30 UnknownName at 1:13: a\n",
+        2,
+    ),
+    (
+        b"free a, a; process stop",
+        b"refused: 32 NameTwice at 1:9: a\n",
+        2,
+    ),
+    (b"", b"refused: 20 Syntax at 1:1\n", 2),
     (b"process \n\xff", b"refused: 10 NotUtf8 at 2:1\n", 2),
     (b"process stop $", b"refused: 11 BadChar at 1:14\n", 2),
     (
@@ -55,16 +63,8 @@ fn files_are_checked(rt: HostRuntime) -> Result<(), Fail> {
 }
 
 /// What stands before and after letters or spaces, so many of them, and what `check` answers.
-const LONG: [(&[u8], u8, usize, &[u8], &[u8], u8); 4] = [
-    (b"process stop", b' ', 1012, b"", b"yes\n", 0),
-    (
-        b"process stop",
-        b' ',
-        1013,
-        b"",
-        b"refused: 2 TooLong: 1025\n",
-        2,
-    ),
+const LONG: [(&[u8], u8, usize, &[u8], &[u8], u8); 3] = [
+    (b"process stop", b' ', 100_000, b"", b"yes\n", 0),
     (b"free ", b'a', 255, b"; process stop", b"yes\n", 0),
     (
         b"free ",
@@ -77,7 +77,7 @@ const LONG: [(&[u8], u8, usize, &[u8], &[u8], u8); 4] = [
 ];
 
 #[test]
-fn long_files_and_names_are_refused(rt: HostRuntime) -> Result<(), Fail> {
+fn blanks_are_read_over_and_long_names_are_refused(rt: HostRuntime) -> Result<(), Fail> {
     let alloc = rt.alloc();
     for (before, byte, count, after, output, code) in LONG {
         let mut file = before.to_vec(alloc)?;

@@ -29,7 +29,6 @@ name_of number =
     (if number == 71 then Some (codes "RunMessageTooLarge") else
     (if number == 72 then Some (codes "TooManyPlaces") else
     (if number == 80 then Some (codes "ListingTooLong") else
-    (if number == 99 then Some (codes "NotThin") else
     (if number == 100 then Some (codes "UnknownRole") else
     (if number == 101 then Some (codes "RoleTwice") else
     (if number == 102 then Some (codes "LineNotReady") else
@@ -41,4 +40,4 @@ name_of number =
     (if number == 121 then Some (codes "TooManyEdits") else
     (if number == 122 then Some (codes "TooManyShared") else
     (if number == 123 then Some (codes "BenchTooLarge") else
-    None)))))))))))))))))))))))))))))))))))))
+    None))))))))))))))))))))))))))))))))))))

@@ -47,7 +47,6 @@ fn name_of(number: u32) -> &'static str
         71 => "RunMessageTooLarge",
         72 => "TooManyPlaces",
         80 => "ListingTooLong",
-        99 => "NotThin",
         100 => "UnknownRole",
         101 => "RoleTwice",
         102 => "LineNotReady",

@@ -67,7 +67,7 @@ fn refusals(rt: HostRuntime) -> Result<(), Fail> {
         "0 7 3",
         "refused: 70 BadPick: 0 7 3\n",
     )?;
-    is_refused(&rt, alloc, "a\nb", 99, None, "", "refused: 99 NotThin\n")?;
+    is_refused(&rt, alloc, "a\nb", 111, None, "", "refused: 111 NoName\n")?;
     is_refused(
         &rt,
         alloc,

@@ -2,4 +2,4 @@ use Rattle.cryptyc.proofs.Ending.{one_spelled}
 use Rattle.cryptyc.proofs.run.one_file.Goals as goal
 
 pub returns : goal.returns
-returns c = one_spelled c.one_answer.ensures.one c.one_file.ensures
+returns c = one_spelled c.one_answer.ensures.one c.one_placed_tree.ensures c.one_or_other.ensures.one_file

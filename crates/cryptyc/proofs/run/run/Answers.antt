@@ -4,7 +4,7 @@ use Rattle.cryptyc.proofs.run.run.Goals as goal
 pub returns-clause-headline : goal.returns-clause-headline
 returns-clause-headline g c =
     let e = c.run_for.ensures in
-    headline c.one_answer.ensures.one c.one_file.ensures c.derivable_is_safe.ensures _ _ _ _ _ _ _ _ _ _ _ e.read_fault e.write_fault e.answer
+    headline c.refused_is_none.ensures c.one_file.ensures c.derivable_is_safe.ensures _ _ _ _ _ _ _ _ _ _ _ e.read_fault e.write_fault e.answer
 
 pub returns-clause-many_to_one : goal.returns-clause-many_to_one
 returns-clause-many_to_one g c =

@@ -1,0 +1,144 @@
+-- The table of names after a name comes into scope or goes out of it.
+use Rattle.std.proofs.Common.{◌≡◌, ℕ, zero, suc, drop, ◌-◌, ◌+◌, ◌^◌, ◌<◌, List, [], ◌∷◌, ◌++◌, length, reverse, Bool, true, false, cond, refl, sym, ap, ◌∙◌, subst, arith}
+use Rattle.std.specs.Prelude.{Option, Some, None, slice_get, IfSome, Result, Ok, Err, OnOk, OnErr}
+use Rattle.std.specs.declared.alloc.AllocError.{AllocError}
+use Rattle.spi_scope.specs.Chains.{chain_at, found}
+use Rattle.std.specs.Str.{bytes_eq}
+use Rattle.std.proofs.lemmas.List.{reverse-append, reverse-reverse, length-reverse, length-map, length-append}
+use Rattle.std.proofs.lemmas.Slice.Eq.{bytes_eq-Decides}
+use Rattle.std.proofs.lemmas.Map.Text.{hash_map_updates_str}
+use Rattle.indexmap.specs.IndexMap.{IndexMap, get_by, UpdatesBy}
+use denote.Ref.{Bor}
+use Rattle.spi_scope.specs.Scope.{Word, Names, number_of, outer}
+use Rattle.spi_scope.specs.declared.names.Held.{Held}
+use Rattle.spi_scope.specs.Table.{spellings, Hide, Keeps, Begin, top, IsPushed, IsPopped}
+
+pub reverse_push : (es : List Held) (e : Held) → reverse (es ++ e ∷ []) ≡ e ∷ reverse es
+reverse_push es e = reverse-append es (e ∷ [])
+
+pub many_names : (es : List Held) → length (spellings (reverse es)) ≡ length es
+many_names es = length-map (reverse es) (λ e. e.word.now) ∙ length-reverse es
+
+abbrev pub Changes : {S : Type 0} → IndexMap (Bor (List ℕ)) ℕ S → IndexMap (Bor (List ℕ)) ℕ S → Word → Option ℕ → Type 0
+Changes m n x v = UpdatesBy (λ x y. bytes_eq x.now y.now) (λ k. bytes_eq x k.now) m n v
+
+pub entered : {S : Type 0} (m n : IndexMap (Bor (List ℕ)) ℕ S) (es : List Held) (e : Held) (number : ℕ) → Keeps m es → Changes m n e.word.now (Some number) → e.before ≡ number_of (spellings (reverse es)) e.word.now → number ≡ length es → length es + 1 < 2 ^ 32 → Keeps n (es ++ e ∷ [])
+entered m n es e number k u h p few = record {
+  finds = λ w.
+      hash_map_updates_str e.word.now m n (Some number) u w
+      ∙ ap (λ a. cond (bytes_eq e.word.now w) (Some number) a) (k.finds w)
+      ∙ ap (λ a. cond (bytes_eq e.word.now w) (Some a) (number_of (spellings (reverse es)) w)) (p ∙ sym (many_names es))
+      ∙ ap (λ r. number_of (spellings r) w) (sym (reverse_push es e));
+  hide = subst Hide (sym (reverse_push es e)) (h, k.hide);
+  few = omega (arith, length-append es (e ∷ []));
+}
+
+pub hidden_is : {S : Type 0} (m : IndexMap (Bor (List ℕ)) ℕ S) (es : List Held) (e : Held) → Keeps m (es ++ e ∷ []) → e.before ≡ number_of (spellings (reverse es)) e.word.now
+hidden_is m es e k = (subst Hide (reverse_push es e) k.hide).0
+
+pub left : {S : Type 0} (m n : IndexMap (Bor (List ℕ)) ℕ S) (es : List Held) (e : Held) → Keeps m (es ++ e ∷ []) → Changes m n e.word.now e.before → Keeps n es
+left m n es e k u = record {
+  finds = λ w. hash_map_updates_str e.word.now m n e.before u w ∙ ap (λ a. cond (bytes_eq e.word.now w) e.before a) (before w) ∙ shown w (bytes_eq e.word.now w) refl;
+  hide = (subst Hide (reverse_push es e) k.hide).1;
+  few = omega (arith, k.few, length-append es (e ∷ []));
+}
+  where
+    before : (w : Word) → get_by (λ k. bytes_eq w k.now) m ≡ cond (bytes_eq e.word.now w) (Some (length (spellings (reverse es)))) (number_of (spellings (reverse es)) w)
+    before w = k.finds w ∙ ap (λ r. number_of (spellings r) w) (reverse_push es e)
+
+    shown : (w : Word) (b : Bool) → bytes_eq e.word.now w ≡ b → cond (bytes_eq e.word.now w) e.before (cond (bytes_eq e.word.now w) (Some (length (spellings (reverse es)))) (number_of (spellings (reverse es)) w)) ≡ number_of (spellings (reverse es)) w
+    shown w true q =
+        let same : e.word.now ≡ w = (bytes_eq-Decides e.word.now w).0 q in
+        rw q (hidden_is m es e k ∙ ap (number_of (spellings (reverse es))) same)
+    shown w false q = rw q refl
+
+pub present : {S : Type 0} (m : IndexMap (Bor (List ℕ)) ℕ S) (es : List Held) (e : Held) → Keeps m (es ++ e ∷ []) → get_by (λ k. bytes_eq e.word.now k.now) m ≡ None → ⊥
+present m es e k q =
+    let same : bytes_eq e.word.now e.word.now ≡ true = (bytes_eq-Decides e.word.now e.word.now).1 refl in
+    let f : Some (length (spellings (reverse es))) ≡ None =
+    ap (λ b. cond b (Some (length (spellings (reverse es)))) (number_of (spellings (reverse es)) e.word.now)) (sym same)
+    ∙ ap (λ r. number_of (spellings r) e.word.now) (sym (reverse_push es e)) ∙ sym (k.finds e.word.now) ∙ q in
+    cc
+
+pub number_below : (xs : Names) (w : Word) → IfSome (number_of xs w) (λ n. n < length xs)
+number_below [] w = tt
+number_below (x ∷ xs) w = by (bytes_eq x w) (number_of xs w) (number_below xs w)
+  where
+    by : (b : Bool) (o : Option ℕ) → IfSome o (λ n. n < length xs) → IfSome (cond b (Some (length xs)) o) (λ n. n < length (x ∷ xs))
+    by true o h = omega arith
+    by false None h = tt
+    by false (Some n) h = omega arith
+
+-- what was put at the end, and what was taken away
+pub pushed_names : (old new : List Held) (w : Word) (chain : ℕ) → IsPushed old new w chain → spellings (reverse new) ≡ w ∷ spellings (reverse old)
+pushed_names old new w chain p =
+    ap (λ l. spellings (reverse l)) p.is ∙ ap spellings (reverse_push old p.held) ∙ ap (λ x. x ∷ spellings (reverse old)) p.word
+
+pub popped_names : (old new : List Held) → IsPopped old new → spellings (reverse new) ≡ outer (spellings (reverse old))
+popped_names old new p = sym (ap (λ l. outer (spellings (reverse l))) p.is ∙ ap (λ l. outer (spellings l)) (reverse_push new p.held))
+
+get_front : {A : Type 0} (xs ys : List A) (i : ℕ) (x : A) → slice_get xs i ≡ Some x → slice_get (xs ++ ys) i ≡ Some x
+get_front [] ys i x e = absurd (cc)
+get_front (y ∷ xs) ys zero x e = e
+get_front (y ∷ xs) ys (suc i) x e = get_front xs ys i x e
+
+pub get_last : {A : Type 0} (xs : List A) (x : A) (i : ℕ) → i ≡ length xs → slice_get (xs ++ x ∷ []) i ≡ Some x
+get_last [] x i e = ap (slice_get (x ∷ [])) e
+get_last (y ∷ xs) x i e = ap (slice_get ((y ∷ xs) ++ x ∷ [])) e ∙ get_last xs x (length xs) refl
+
+pub begin_more : (cs ds : List Names) (es : List Held) → Begin cs es → Begin (cs ++ ds) es
+begin_more cs ds [] h = get_front cs ds 0 [] h
+begin_more cs ds (e ∷ es) h = (get_front cs ds e.chain (spellings (e ∷ es)) h.0, begin_more cs ds es h.1)
+
+-- the chain of all names
+pub top_is : (cs : List Names) (es : List Held) → Begin cs es → slice_get cs (top es) ≡ Some (spellings es)
+top_is cs [] h = h
+top_is cs (e ∷ es) h = h.0
+
+pub get_within : {A : Type 0} (xs : List A) (i : ℕ) (x : A) → slice_get xs i ≡ Some x → i < length xs
+get_within [] i x e = absurd (cc)
+get_within (y ∷ xs) zero x e = omega arith
+get_within (y ∷ xs) (suc i) x e = let h = get_within xs i x e in omega arith
+
+pub begin_pushed : (cs : List Names) (old new : List Held) (w : Word) (chain : ℕ) → Begin cs (reverse old) → IsPushed old new w chain → chain ≡ length cs → Begin (cs ++ (w ∷ spellings (reverse old)) ∷ []) (reverse new)
+begin_pushed cs old new w chain b p e =
+    let xs = spellings (reverse old) in
+    let g : slice_get (cs ++ (w ∷ xs) ∷ []) p.held.chain ≡ Some (p.held.word.now ∷ xs) =
+    get_last cs (w ∷ xs) p.held.chain (p.its_chain ∙ e) ∙ ap (λ x. Some (x ∷ xs)) (sym p.word) in
+    subst (Begin (cs ++ (w ∷ xs) ∷ [])) (sym (ap reverse p.is ∙ reverse_push old p.held)) (g, begin_more cs ((w ∷ xs) ∷ []) (reverse old) b)
+
+pub begin_popped : (cs : List Names) (old new : List Held) → Begin cs (reverse old) → IsPopped old new → Begin cs (reverse new)
+begin_popped cs old new b p = (subst (Begin cs) (ap reverse p.is ∙ reverse_push new p.held) b).1
+
+pub cut_more : (xs : Names) (n : ℕ) → n < length xs → drop (length (outer xs) - n) (outer xs) ≡ drop (length xs - n) xs
+cut_more [] n h = absurd (omega arith)
+cut_more (x ∷ xs) n h =
+    let e : suc (length xs - n) ≡ length (x ∷ xs) - n = omega arith in
+    ap (λ m. drop m (x ∷ xs)) e
+
+pub begin_bound : (cs ds : List Names) (old new : List Held) (w : Word) (chain outer : ℕ) (r : Result (Unit {0}) AllocError) → Begin cs (reverse old) → outer ≡ top (reverse old) → ds ≡ cs ++ (w ∷ chain_at cs outer) ∷ [] → chain ≡ length cs → OnOk r (IsPushed old new w chain) → OnErr r (new ≡ old) → Begin ds (reverse new)
+begin_bound cs ds old new w chain outer r b eo ed ec ok err =
+    let xs = spellings (reverse old) in
+    let x : chain_at cs outer ≡ xs = ap (chain_at cs) eo ∙ ap found (top_is cs (reverse old) b) in
+    let d : ds ≡ cs ++ (w ∷ xs) ∷ [] = ed ∙ ap (λ l. cs ++ (w ∷ l) ∷ []) x in
+    subst (λ l. Begin l (reverse new)) (sym d) (by r ok err)
+  where
+    by : (r : Result (Unit {0}) AllocError) → OnOk r (IsPushed old new w chain) → OnErr r (new ≡ old) → Begin (cs ++ (w ∷ spellings (reverse old)) ∷ []) (reverse new)
+    by (Ok u) ok err = begin_pushed cs old new w chain b ok ec
+    by (Err e) ok err = subst (λ l. Begin (cs ++ (w ∷ spellings (reverse old)) ∷ []) (reverse l)) (sym err) (begin_more cs ((w ∷ spellings (reverse old)) ∷ []) (reverse old) b)
+
+pub top_within : (cs : List Names) (es : List Held) → Begin cs es → top es < length cs
+top_within cs es b = get_within cs (top es) (spellings es) (top_is cs es b)
+
+spellings_push : (es : List Held) (e : Held) → spellings (es ++ e ∷ []) ≡ spellings es ++ e.word.now ∷ []
+spellings_push [] e = refl
+spellings_push (d ∷ es) e = ap (λ l. d.word.now ∷ l) (spellings_push es e)
+
+reverse_spellings : (es : List Held) → reverse (spellings es) ≡ spellings (reverse es)
+reverse_spellings [] = refl
+reverse_spellings (e ∷ es) =
+    reverse-append (e.word.now ∷ []) (spellings es) ∙ ap (λ l. l ++ e.word.now ∷ []) (reverse_spellings es) ∙ sym (spellings_push (reverse es) e)
+    ∙ ap spellings (sym (reverse-append (e ∷ []) es))
+
+pub reverse_twice : (es : List Held) → reverse (spellings (reverse es)) ≡ spellings es
+reverse_twice es = reverse_spellings (reverse es) ∙ ap spellings (reverse-reverse es)

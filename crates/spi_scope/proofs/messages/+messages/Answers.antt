@@ -1,0 +1,37 @@
+use Rattle.std.proofs.Common.{rules, ◌≡◌, List, map, ap, ◌∙◌, subst}
+use Rattle.spi_tree.specs.Trees.{msgs_of_list}
+use Rattle.spi_tree.specs.Views.{msg_of}
+use Rattle.spi_tree.specs.declared.tree.SMsg.{SMsg}
+use Rattle.spi_tree.specs.declared.tree.SMsg.TheVariants.{Tuple}
+use Rattle.spi_tree.proofs.Rows.{tuple_is}
+use Rattle.spi_term.specs.Term.{message_size}
+use Rattle.spi_term.specs.View.{message}
+use Rattle.spi_scope.specs.Meaning.{message_in, messages_in}
+use Rattle.spi_scope.specs.Points.{message_points, messages_points}
+use Rattle.spi_scope.specs.Gives.{run}
+use Rattle.spi_scope.specs.State.{row_nodes}
+use Rattle.spi_scope.proofs.Tuples.{Counted, message_tuple}
+use Rattle.spi_scope.proofs.messages.+messages.Goals as goal
+
+pub read_message-returns-in_err-more-in-Tuple : goal.read_message-returns-in_err-more-in-Tuple
+read_message-returns-in_err-more-in-Tuple t c =
+    let w = c.in-Tuple in
+    let e : c.args.m.now ≡ Tuple w.first w.second w.more w.span = w.is in
+    rw (ap msg_of e ∙ tuple_is w.first w.second w.more w.span) (search rules)
+
+pub read_message-returns-in_ok-whole-in-Tuple : goal.read_message-returns-in_ok-whole-in-Tuple
+read_message-returns-in_ok-whole-in-Tuple t c =
+    let w = c.in-Tuple in
+    let e : c.args.m.now ≡ Tuple w.first w.second w.more w.span = w.is in
+    let xs = c.args.scope.now.held.names in
+    let k = c.args.scope.now.count in
+    let f = c.in_ok-first-in-Tuple in
+    let g = c.in_ok-second-in-Tuple in
+    let h = c.in_ok-more-in-Tuple in
+    let h1 = subst (λ (x : SMsg). Counted message_size (message f.first) f.total (run (message_points xs (msg_of x)) k) k c.args.spent (message_in c.args.base xs (msg_of x))) c.deref.ensures f.ensures in
+    let h2 = subst (λ (x : SMsg). Counted message_size (message g.second) g.total (run (message_points xs (msg_of x)) k) k c.saturating_add-in-Tuple.result (message_in c.args.base xs (msg_of x))) c.deref-in-Tuple.ensures g.ensures in
+    let h3 = subst (λ (x : List SMsg). Counted row_nodes (map message h.more.items) h.total (run (messages_points xs (msgs_of_list (map msg_of x))) k) k g.total (messages_in c.args.base xs (msgs_of_list (map msg_of x)))) c.deref-in-Tuple-2.ensures.value h.ensures in
+    rw (ap msg_of e ∙ tuple_is w.first w.second w.more w.span)
+    (message_tuple c.args.base c.args.spent k xs w.span (msg_of w.first.value) (msg_of w.second.value) (msgs_of_list (map msg_of w.more.items)) c.saturating_add-in-Tuple.result f.total g.total h.total
+    (message f.first) (message g.second) (map message h.more.items) (message c.in_ok-whole-in-Tuple.whole)
+    h1 c.saturating_add-in-Tuple.ensures h2 h3 c.in_ok-whole-in-Tuple.ensures)

@@ -1,0 +1,58 @@
+//! The nodes of a process in preorder.
+
+ghost use Rattle.std.specs.Prelude.{◌≡◌, ◌+◌, ◌<◌, [], ◌∷◌, ◌++◌, map, length, IfOk, OnOk, slice_set};
+ghost use Rattle.spi_term.specs.View.{form_of, shape_of};
+
+use crate::NoMemory;
+use crate::scope::Scope;
+use spi_term::{Form, Node};
+use spi_text::Span;
+use std::alloc::AllocError;
+
+/// Nodes in preorder, and where they stand.
+#[derive(Drop)]
+pub struct Arena {
+    pub nodes: Vec<Node>,
+    pub places: Vec<Span>,
+}
+
+/// The place of the next node. There is no room for 2 ^ 32 nodes.
+pub fn here(arena: &Arena) -> Result<u32, NoMemory>
+    ensures { IfOk result (λ n. (n ≡ length arena.now.nodes.items) × (n < 4294967290)) }
+{
+    if arena.nodes.len() >= 4_294_967_290 {
+        return Err(AllocError);
+    }
+    Ok(arena.nodes.len() as u32)
+}
+
+/// One more node, with the names in scope there.
+pub fn push(
+    scope: &mut Scope,
+    arena: &mut Arena,
+    base: u32,
+    form: Form,
+    place: Span,
+) -> Result<(), NoMemory>
+    ensures nodes { OnOk result (map shape_of arena.new.nodes.items ≡ map shape_of arena.old.nodes.items ++ form_of base form ∷ []) }
+    ensures len { OnOk result (length arena.new.nodes.items ≡ length arena.old.nodes.items + 1) }
+    ensures places { OnOk result (arena.new.places.items ≡ arena.old.places.items ++ place ∷ []) }
+    ensures names { OnOk result (scope.new.held.names ≡ scope.old.held.names) }
+    ensures noted { OnOk result (scope.new.held.noted ≡ scope.old.held.noted ++ scope.old.held.names ∷ []) }
+    ensures types { OnOk result (scope.new.types ≡ scope.old.types) }
+    ensures count { OnOk result (scope.new.count ≡ scope.old.count) }
+{
+    arena.nodes.push(Node { scope: base, form })?;
+    arena.places.push(place)?;
+    scope.held.note()
+}
+
+/// The node of a composition is written when the place of its second process is known.
+pub fn close(arena: &mut Arena, at: usize, base: u32, form: Form)
+    requires { at < length arena.old.nodes.items }
+    ensures nodes { map shape_of arena.new.nodes.items ≡ slice_set (map shape_of arena.old.nodes.items) at (form_of base form) }
+    ensures places { arena.new.places ≡ arena.old.places }
+    ensures len { length arena.new.nodes.items ≡ length arena.old.nodes.items }
+{
+    arena.nodes[at] = Node { scope: base, form };
+}

@@ -1,0 +1,288 @@
+//! What stands before the processes of a form: messages and annotations, tested and counted.
+
+ghost use Rattle.std.specs.Prelude.{◌≡◌, ◌≤◌, ◌∷◌, IfOk, OnOk};
+ghost use Rattle.spi_tree.specs.Views.{msg_of, ty_of};
+ghost use Rattle.spi_term.specs.Spelling.{ty_nodes};
+ghost use Rattle.spi_term.specs.View.{message, ty};
+ghost use Rattle.spi_scope.specs.Meaning.{message_in, type_in};
+ghost use Rattle.spi_scope.specs.Points.{one, adds, part, ty_span, type_nodes, bounded_type, whole_type, message_head, messages_head, typed_head, new_head, tested_head, split_head, match_head};
+ghost use Rattle.spi_scope.specs.Gives.{Gives, Goes, run};
+ghost use Rattle.spi_scope.specs.Leads.{Leads};
+ghost use Rattle.spi_scope.specs.State.{abbreviations};
+
+use crate::fault::ScopeFault;
+use crate::scope::Scope;
+use crate::types::{message_place, read_type, read_whole};
+use spi_term::{Msg, Ty};
+use spi_text::Span;
+use spi_tree::{SMsg, STy, SWord};
+use std::alloc::Global;
+
+/// So many nodes come to the count.
+pub fn add(scope: &mut Scope, nodes: u64, span: Span) -> Result<(), ScopeFault>
+    requires few { scope.old.count ≤ 100000 }
+    requires some { nodes ≤ 1000 }
+    ensures gives { Goes result (run (one (adds nodes span)) scope.old.count) scope.new.count }
+    ensures held { OnOk result (scope.new.held ≡ scope.old.held) }
+    ensures types { OnOk result (scope.new.types ≡ scope.old.types) }
+    ensures few { OnOk result (scope.new.count ≤ 100000) }
+{
+    let count = scope.count + nodes;
+    if count > 100_000 {
+        return Err(ScopeFault::FileTooLarge { span, count });
+    }
+    scope.count = count;
+    Ok(())
+}
+
+/// An outermost message.
+#[tactic(auto, unfolding(crate::specs::Points::part))]
+fn read_part(alloc: Global, scope: &mut Scope, base: u32, m: &SMsg) -> Result<Msg, ScopeFault>
+    requires few { scope.old.count ≤ 100000 }
+    ensures gives { Gives message result (run (part scope.old.held.names (msg_of m.now)) scope.old.count) scope.new.count (message_in base scope.old.held.names (msg_of m.now)) }
+    ensures held { OnOk result (scope.new.held ≡ scope.old.held) }
+    ensures types { OnOk result (scope.new.types ≡ scope.old.types) }
+    ensures few { OnOk result (scope.new.count ≤ 100000) }
+{
+    let span = message_place(m);
+    let (read, count) = read_whole(alloc, scope, base, m, span)?;
+    add(scope, count, span)?;
+    Ok(read)
+}
+
+/// Where a type stands.
+fn type_place(t: &STy) -> Span
+    ensures { result ≡ ty_span (ty_of t.now) }
+{
+    match t {
+        STy::Un { span } => *span,
+        STy::Unit { span } => *span,
+        STy::Tuple { span, .. } => *span,
+        STy::Sum { span, .. } => *span,
+        STy::Key { span, .. } => *span,
+        STy::Nonce { span, .. } => *span,
+        STy::Abbr { span, .. } => *span,
+    }
+}
+
+/// An annotation, or the type of an abbreviation, with its nodes: 1,000 at most.
+fn read_bounded<'t>(
+    alloc: Global,
+    scope: &mut Scope<'t>,
+    base: u32,
+    t: &'t STy,
+    span: Span,
+) -> Result<(Ty, u64), ScopeFault>
+    requires { span ≡ ty_span (ty_of t.now) }
+    ensures gives { Gives (λ x. ty x.0) result (run (bounded_type (abbreviations scope.old.types) scope.old.held.names (ty_of t.entry.now)) scope.old.count) scope.old.count (type_in base (abbreviations scope.old.types) scope.old.held.names (ty_of t.entry.now)) }
+    ensures nodes { IfOk result (λ x. (x.1 ≡ type_nodes (abbreviations scope.old.types) scope.old.held.names (ty_of t.entry.now)) × (x.1 ≡ ty_nodes (ty x.0)) × (x.1 ≤ 1000)) }
+    ensures scope { OnOk result (scope.new ≡ scope.old) }
+{
+    let (read, count) = read_type(alloc, scope, base, 0, t)?;
+    if count > 1000 {
+        return Err(ScopeFault::TypeTooLarge { span, count });
+    }
+    Ok((read, count))
+}
+
+/// An annotation, or the type of an abbreviation, with its nodes.
+#[tactic(auto, unfolding(crate::specs::Points::whole_type))]
+pub fn read_annotation<'t>(
+    alloc: Global,
+    scope: &mut Scope<'t>,
+    base: u32,
+    t: &'t STy,
+) -> Result<(Ty, u64), ScopeFault>
+    requires few { scope.old.count ≤ 100000 }
+    ensures gives { Gives (λ x. ty x.0) result (run (whole_type (abbreviations scope.old.types) scope.old.held.names (ty_of t.entry.now)) scope.old.count) scope.new.count (type_in base (abbreviations scope.old.types) scope.old.held.names (ty_of t.entry.now)) }
+    ensures nodes { IfOk result (λ x. x.1 ≡ ty_nodes (ty x.0)) }
+    ensures held { OnOk result (scope.new.held ≡ scope.old.held) }
+    ensures types { OnOk result (scope.new.types ≡ scope.old.types) }
+    ensures few { OnOk result (scope.new.count ≤ 100000) }
+{
+    let span = type_place(t);
+    let (read, count) = read_bounded(alloc, scope, base, t, span)?;
+    add(scope, count, span)?;
+    Ok((read, count))
+}
+
+/// A form with one message.
+#[tactic(auto, unfolding(crate::specs::Points::message_head))]
+pub fn read_message_head(
+    alloc: Global,
+    scope: &mut Scope,
+    base: u32,
+    span: Span,
+    m: &SMsg,
+) -> Result<Msg, ScopeFault>
+    requires few { scope.old.count ≤ 100000 }
+    ensures gives { Gives message result (run (message_head scope.old.held.names span (msg_of m.now)) scope.old.count) scope.new.count (message_in base scope.old.held.names (msg_of m.now)) }
+    ensures held { OnOk result (scope.new.held ≡ scope.old.held) }
+    ensures types { OnOk result (scope.new.types ≡ scope.old.types) }
+    ensures few { OnOk result (scope.new.count ≤ 100000) }
+{
+    add(scope, 1, span)?;
+    read_part(alloc, scope, base, m)
+}
+
+/// A form with two messages.
+#[tactic(auto, unfolding(crate::specs::Points::messages_head))]
+pub fn read_messages_head(
+    alloc: Global,
+    scope: &mut Scope,
+    base: u32,
+    span: Span,
+    m: &SMsg,
+    n: &SMsg,
+) -> Result<(Msg, Msg), ScopeFault>
+    requires few { scope.old.count ≤ 100000 }
+    ensures gives { Leads result (run (messages_head scope.old.held.names span (msg_of m.now) (msg_of n.now)) scope.old.count) scope.new.count }
+    ensures read { IfOk result (λ x. (message x.0 ≡ message_in base scope.old.held.names (msg_of m.now)) × (message x.1 ≡ message_in base scope.old.held.names (msg_of n.now))) }
+    ensures held { OnOk result (scope.new.held ≡ scope.old.held) }
+    ensures types { OnOk result (scope.new.types ≡ scope.old.types) }
+    ensures few { OnOk result (scope.new.count ≤ 100000) }
+{
+    add(scope, 1, span)?;
+    let first = read_part(alloc, scope, base, m)?;
+    let second = read_part(alloc, scope, base, n)?;
+    Ok((first, second))
+}
+
+/// A form with a message and an annotation.
+#[tactic(auto, unfolding(crate::specs::Points::typed_head))]
+pub fn read_typed_head<'t>(
+    alloc: Global,
+    scope: &mut Scope<'t>,
+    base: u32,
+    span: Span,
+    m: &SMsg,
+    a: &'t STy,
+) -> Result<(Msg, Ty), ScopeFault>
+    requires few { scope.old.count ≤ 100000 }
+    ensures gives { Leads result (run (typed_head (abbreviations scope.old.types) scope.old.held.names span (msg_of m.now) (ty_of a.entry.now)) scope.old.count) scope.new.count }
+    ensures read { IfOk result (λ x. (message x.0 ≡ message_in base scope.old.held.names (msg_of m.now)) × (ty x.1 ≡ type_in base (abbreviations scope.old.types) scope.old.held.names (ty_of a.entry.now))) }
+    ensures held { OnOk result (scope.new.held ≡ scope.old.held) }
+    ensures types { OnOk result (scope.new.types ≡ scope.old.types) }
+    ensures few { OnOk result (scope.new.count ≤ 100000) }
+{
+    add(scope, 1, span)?;
+    let first = read_part(alloc, scope, base, m)?;
+    let (ty, _) = read_annotation(alloc, scope, base, a)?;
+    Ok((first, ty))
+}
+
+/// A new name with its annotation.
+#[tactic(auto, unfolding(crate::specs::Points::new_head))]
+pub fn read_new_head<'t>(
+    alloc: Global,
+    scope: &mut Scope<'t>,
+    base: u32,
+    span: Span,
+    a: &'t STy,
+) -> Result<Ty, ScopeFault>
+    requires few { scope.old.count ≤ 100000 }
+    ensures gives { Gives ty result (run (new_head (abbreviations scope.old.types) scope.old.held.names span (ty_of a.entry.now)) scope.old.count) scope.new.count (type_in base (abbreviations scope.old.types) scope.old.held.names (ty_of a.entry.now)) }
+    ensures held { OnOk result (scope.new.held ≡ scope.old.held) }
+    ensures types { OnOk result (scope.new.types ≡ scope.old.types) }
+    ensures few { OnOk result (scope.new.count ≤ 100000) }
+{
+    add(scope, 1, span)?;
+    let (ty, _) = read_annotation(alloc, scope, base, a)?;
+    Ok(ty)
+}
+
+/// A message, an annotation, and a second message.
+#[tactic(auto, unfolding(crate::specs::Points::tested_head))]
+pub fn read_tested_head<'t>(
+    alloc: Global,
+    scope: &mut Scope<'t>,
+    base: u32,
+    span: Span,
+    m: &SMsg,
+    a: &'t STy,
+    n: &SMsg,
+) -> Result<(Msg, Ty, Msg), ScopeFault>
+    requires few { scope.old.count ≤ 100000 }
+    ensures gives { Leads result (run (tested_head (abbreviations scope.old.types) scope.old.held.names span (msg_of m.now) (ty_of a.entry.now) (msg_of n.now)) scope.old.count) scope.new.count }
+    ensures read { IfOk result (λ x. (message x.0 ≡ message_in base scope.old.held.names (msg_of m.now)) × (ty x.1 ≡ type_in base (abbreviations scope.old.types) scope.old.held.names (ty_of a.entry.now)) × (message x.2 ≡ message_in base scope.old.held.names (msg_of n.now))) }
+    ensures held { OnOk result (scope.new.held ≡ scope.old.held) }
+    ensures types { OnOk result (scope.new.types ≡ scope.old.types) }
+    ensures few { OnOk result (scope.new.count ≤ 100000) }
+{
+    add(scope, 1, span)?;
+    let whole = read_part(alloc, scope, base, m)?;
+    let (ty, _) = read_annotation(alloc, scope, base, a)?;
+    let second = read_part(alloc, scope, base, n)?;
+    Ok((whole, ty, second))
+}
+
+/// An annotation that sees one more name.
+fn read_under<'t>(
+    alloc: Global,
+    scope: &mut Scope<'t>,
+    base: u32,
+    name: &'t SWord,
+    a: &'t STy,
+) -> Result<Ty, ScopeFault>
+    requires few { scope.old.count ≤ 100000 }
+    ensures gives { Gives ty result (run (whole_type (abbreviations scope.old.types) (name.entry.now.word ∷ scope.old.held.names) (ty_of a.entry.now)) scope.old.count) scope.new.count (type_in base (abbreviations scope.old.types) (name.entry.now.word ∷ scope.old.held.names) (ty_of a.entry.now)) }
+    ensures held { OnOk result (scope.new.held ≡ scope.old.held) }
+    ensures types { OnOk result (scope.new.types ≡ scope.old.types) }
+    ensures few { OnOk result (scope.new.count ≤ 100000) }
+{
+    scope.held.bind(name.word.as_str())?;
+    let (ty, _) = read_annotation(alloc, scope, base, a)?;
+    scope.held.unbind();
+    Ok(ty)
+}
+
+/// A message and the annotations of its two parts.
+#[tactic(auto, unfolding(crate::specs::Points::split_head))]
+pub fn read_split_head<'t>(
+    alloc: Global,
+    scope: &mut Scope<'t>,
+    base: u32,
+    span: Span,
+    m: &SMsg,
+    name: &'t SWord,
+    a: &'t STy,
+    c: &'t STy,
+) -> Result<(Msg, Ty, Ty), ScopeFault>
+    requires few { scope.old.count ≤ 100000 }
+    ensures gives { Leads result (run (split_head (abbreviations scope.old.types) scope.old.held.names span (msg_of m.now) name.entry.now (ty_of a.entry.now) (ty_of c.entry.now)) scope.old.count) scope.new.count }
+    ensures read { IfOk result (λ x. (message x.0 ≡ message_in base scope.old.held.names (msg_of m.now)) × (ty x.1 ≡ type_in base (abbreviations scope.old.types) scope.old.held.names (ty_of a.entry.now)) × (ty x.2 ≡ type_in base (abbreviations scope.old.types) (name.entry.now.word ∷ scope.old.held.names) (ty_of c.entry.now))) }
+    ensures held { OnOk result (scope.new.held ≡ scope.old.held) }
+    ensures types { OnOk result (scope.new.types ≡ scope.old.types) }
+    ensures few { OnOk result (scope.new.count ≤ 100000) }
+{
+    add(scope, 1, span)?;
+    let whole = read_part(alloc, scope, base, m)?;
+    let (first, _) = read_annotation(alloc, scope, base, a)?;
+    let second = read_under(alloc, scope, base, name, c)?;
+    Ok((whole, first, second))
+}
+
+/// A message, the annotations of its two parts, and what the first part has to equal.
+#[tactic(auto, unfolding(crate::specs::Points::match_head))]
+pub fn read_match_head<'t>(
+    alloc: Global,
+    scope: &mut Scope<'t>,
+    base: u32,
+    span: Span,
+    m: &SMsg,
+    name: &'t SWord,
+    a: &'t STy,
+    equal: &SMsg,
+    c: &'t STy,
+) -> Result<(Msg, Ty, Msg, Ty), ScopeFault>
+    requires few { scope.old.count ≤ 100000 }
+    ensures gives { Leads result (run (match_head (abbreviations scope.old.types) scope.old.held.names span (msg_of m.now) name.entry.now (ty_of a.entry.now) (msg_of equal.now) (ty_of c.entry.now)) scope.old.count) scope.new.count }
+    ensures read { IfOk result (λ x. (message x.0 ≡ message_in base scope.old.held.names (msg_of m.now)) × (ty x.1 ≡ type_in base (abbreviations scope.old.types) scope.old.held.names (ty_of a.entry.now)) × (message x.2 ≡ message_in base scope.old.held.names (msg_of equal.now)) × (ty x.3 ≡ type_in base (abbreviations scope.old.types) (name.entry.now.word ∷ scope.old.held.names) (ty_of c.entry.now))) }
+    ensures held { OnOk result (scope.new.held ≡ scope.old.held) }
+    ensures types { OnOk result (scope.new.types ≡ scope.old.types) }
+    ensures few { OnOk result (scope.new.count ≤ 100000) }
+{
+    let (whole, first, equal) = read_tested_head(alloc, scope, base, span, m, a, equal)?;
+    let second = read_under(alloc, scope, base, name, c)?;
+    Ok((whole, first, equal, second))
+}

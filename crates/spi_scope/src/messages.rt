@@ -1,0 +1,161 @@
+//! Messages.
+
+ghost use Rattle.std.specs.Prelude.{◌≡◌, ◌+◌, ◌<◌, ◌≤◌, ◌∷◌, map, length, IfOk, Some};
+ghost use Rattle.spi_tree.specs.Views.{msg_of};
+ghost use Rattle.spi_tree.specs.Trees.{msgs_of_list};
+ghost use Rattle.spi_term.specs.Term.{message_size, unit};
+ghost use Rattle.spi_term.specs.View.{message};
+ghost use Rattle.spi_scope.specs.Scope.{number_of};
+ghost use Rattle.spi_scope.specs.Meaning.{named, nested, message_in, messages_in};
+ghost use Rattle.spi_scope.specs.Points.{one, uses_name, message_points, messages_points};
+ghost use Rattle.spi_scope.specs.Gives.{Counts, run};
+ghost use Rattle.spi_scope.specs.State.{row_nodes};
+
+use crate::fault::ScopeFault;
+use crate::scope::Scope;
+use spi_term::Msg;
+use spi_text::Text;
+use spi_tree::{SMsg, SWord};
+use std::alloc::{AllocError, Global};
+
+/// The name with this number, of so many in scope.
+fn name_at(base: u32, scope: u32, number: u32) -> Msg
+    requires { number < scope }
+    ensures { message result ≡ named base scope (Some number) }
+{
+    if number < base {
+        Msg::Name(number)
+    } else {
+        Msg::Bound(scope - 1 - number)
+    }
+}
+
+/// The name with this spelling. It is one node.
+fn read_name(
+    alloc: Global,
+    scope: &Scope,
+    base: u32,
+    spent: u64,
+    word: &SWord,
+) -> Result<(Msg, u64), ScopeFault>
+    ensures { Counts message message_size result (run (one (uses_name scope.now.held.names word.now)) scope.now.count) scope.now.count spent (named base (length scope.now.held.names) (number_of scope.now.held.names word.now.word)) }
+{
+    let text = word.word.as_str();
+    match scope.held.number(text) {
+        Some(number) => Ok((
+            name_at(base, scope.held.len(), number),
+            spent.saturating_add(1),
+        )),
+        None => Err(ScopeFault::UnknownName {
+            span: word.span,
+            word: Text::of(alloc, text)?,
+        }),
+    }
+}
+
+/// The components of a tuple, nested to the right where there are few enough nodes.
+pub fn nest(
+    alloc: Global,
+    total: u64,
+    first: Msg,
+    second: Msg,
+    more: Vec<Msg>,
+) -> Result<Msg, AllocError>
+    ensures { IfOk result (λ m. total ≤ 1000 → message m ≡ nested (message first) (message second ∷ map message more.items)) }
+{
+    if total > 1000 {
+        return Ok(Msg::Unit);
+    }
+    let rest = nest_rest(alloc, second, more)?;
+    Ok(Msg::Pair(Box::new(alloc, first)?, Box::new(alloc, rest)?))
+}
+
+fn nest_rest(alloc: Global, first: Msg, mut more: Vec<Msg>) -> Result<Msg, AllocError>
+    ensures { IfOk result (λ m. message m ≡ nested (message first) (map message more.items)) }
+{
+    let Some(mut last) = more.pop() else {
+        return Ok(first);
+    };
+    while let Some(part) = more.pop() {
+        last = Msg::Pair(Box::new(alloc, part)?, Box::new(alloc, last)?);
+    }
+    Ok(Msg::Pair(Box::new(alloc, first)?, Box::new(alloc, last)?))
+}
+
+/// The message that this one stands for, with its nodes counted on. Names below `base` are written by their numbers.
+/// Where there are more than 1,000 nodes the message means nothing.
+#[cycle(messages)]
+pub fn read_message(
+    alloc: Global,
+    scope: &Scope,
+    base: u32,
+    spent: u64,
+    m: &SMsg,
+) -> Result<(Msg, u64), ScopeFault>
+    ensures { Counts message message_size result (run (message_points scope.now.held.names (msg_of m.now)) scope.now.count) scope.now.count spent (message_in base scope.now.held.names (msg_of m.now)) }
+{
+    match m {
+        SMsg::Name { name, .. } => read_name(alloc, scope, base, spent, name),
+        SMsg::Unit { .. } => Ok((Msg::Unit, spent.saturating_add(1))),
+        SMsg::Tuple {
+            first,
+            second,
+            more,
+            ..
+        } => {
+            let (first, total) = read_message(alloc, scope, base, spent, first)?;
+            let (second, total) = read_message(
+                alloc,
+                scope,
+                base,
+                total.saturating_add(1),
+                second,
+            )?;
+            let (more, total) = read_messages(alloc, scope, base, total, more)?;
+            let whole = nest(alloc, total, first, second, more)?;
+            Ok((whole, total))
+        }
+        SMsg::Inl { part, .. } => {
+            let (part, total) = read_message(alloc, scope, base, spent.saturating_add(1), part)?;
+            Ok((Msg::Inl(Box::new(alloc, part)?), total))
+        }
+        SMsg::Inr { part, .. } => {
+            let (part, total) = read_message(alloc, scope, base, spent.saturating_add(1), part)?;
+            Ok((Msg::Inr(Box::new(alloc, part)?), total))
+        }
+        SMsg::Enc { body, key, .. } => {
+            let (body, total) = read_message(alloc, scope, base, spent.saturating_add(1), body)?;
+            let (key, total) = read_message(alloc, scope, base, total, key)?;
+            Ok((
+                Msg::Enc(Box::new(alloc, body)?, Box::new(alloc, key)?),
+                total,
+            ))
+        }
+        SMsg::Hash { part, .. } => {
+            let (part, total) = read_message(alloc, scope, base, spent.saturating_add(1), part)?;
+            Ok((Msg::Hash(Box::new(alloc, part)?), total))
+        }
+        SMsg::Num { .. } => Ok((Msg::Unit, spent.saturating_add(1))),
+    }
+}
+
+/// The components of a tuple but the first two, with their nodes and those of the pairs counted on.
+#[cycle(messages)]
+fn read_messages(
+    alloc: Global,
+    scope: &Scope,
+    base: u32,
+    spent: u64,
+    ms: &[SMsg],
+) -> Result<(Vec<Msg>, u64), ScopeFault>
+    ensures { Counts (λ v. map message v.items) row_nodes result (run (messages_points scope.now.held.names (msgs_of_list (map msg_of ms.now))) scope.now.count) scope.now.count spent (messages_in base scope.now.held.names (msgs_of_list (map msg_of ms.now))) }
+{
+    let mut read = Vec::new(alloc);
+    let mut total = spent;
+    for m in ms {
+        let (part, so_far) = read_message(alloc, scope, base, total.saturating_add(1), m)?;
+        total = so_far;
+        read.push(part)?;
+    }
+    Ok((read, total))
+}

@@ -1,0 +1,185 @@
+//! The names in scope, with a table of the innermost name of each spelling.
+
+ghost use Rattle.std.specs.Prelude.{◌≡◌, ◌+◌, ◌-◌, ◌^◌, ◌<◌, drop, [], ◌∷◌, reverse, length, IfOk, OnOk, OnErr, IfSome};
+ghost use Rattle.spi_scope.specs.Scope.{number_of, outer};
+ghost use Rattle.spi_scope.specs.Table.{Keeps, IsPushed, IsPopped, top, with_names, noting};
+
+use crate::NoMemory;
+use crate::trail::{Scopes, Trail};
+use indexmap::IndexMap;
+use spi_text::Text;
+use std::alloc::{AllocError, Global};
+use std::marker::Model;
+
+/// A name in scope: its spelling, the number that it hides, and the number of the chain that it begins.
+#[derive(Drop)]
+pub struct Held<'t> {
+    pub word: &'t str,
+    pub before: Option<u32>,
+    pub chain: u32,
+}
+
+/// The chain of all names in scope.
+fn top_chain(hidden: &[Held]) -> u32
+    ensures { result ≡ top (reverse hidden.now) }
+{
+    match hidden {
+        [] => 0,
+        [.., last] => last.chain,
+    }
+}
+
+/// One more name in scope.
+fn enter<'t>(
+    innermost: &mut IndexMap<&'t str, u32>,
+    hidden: &mut Vec<Held<'t>>,
+    word: &'t str,
+    chain: u32,
+) -> Result<(), NoMemory>
+    requires keeps { Keeps innermost.old hidden.old.items }
+    requires room { length hidden.old.items + 1 < 2 ^ 32 }
+    ensures keeps { Keeps innermost.new hidden.new.items }
+    ensures ok { OnOk result (IsPushed hidden.old.items hidden.new.items word.now chain) }
+    ensures err { OnErr result (hidden.new.items ≡ hidden.old.items) }
+{
+    let number = hidden.len() as u32;
+    let before = innermost.get(&word).copied();
+    hidden.push(Held {
+        word,
+        before,
+        chain,
+    })?;
+    match innermost.insert(word, number) {
+        Ok(_) => Ok(()),
+        Err(failed) => {
+            hidden.pop();
+            Err(AllocError::from(failed))
+        }
+    }
+}
+
+/// The innermost name goes out of scope.
+fn leave<'t>(innermost: &mut IndexMap<&'t str, u32>, hidden: &mut Vec<Held<'t>>)
+    requires keeps { Keeps innermost.old hidden.old.items }
+    requires some { 0 < length hidden.old.items }
+    ensures keeps { Keeps innermost.new hidden.new.items }
+    ensures out { IsPopped hidden.old.items hidden.new.items }
+{
+    if let Some(Held { word, before, .. }) = hidden.pop() {
+        match before {
+            Some(number) => match innermost.insert(word, number) {
+                Ok(_) => {}
+                Err(_) => unreachable!(),
+            },
+            None => {
+                innermost.swap_remove(&word);
+            }
+        }
+    }
+}
+
+/// The names in scope. A contract sees their spellings, the innermost first, and those that were in scope at each
+/// node that was noted.
+#[derive(Drop)]
+pub struct Names<'t> {
+    innermost: IndexMap<&'t str, u32>,
+    hidden: Vec<Held<'t>>,
+    trail: Trail<'t>,
+}
+
+impl<'t> Model for Names<'t> {
+    ghost use Rattle.std.specs.Prelude.{reverse};
+    ghost use Rattle.spi_scope.specs.Table.{Naming, coded_naming, Keeps, Begin, spellings};
+
+    ghost Value = { Naming };
+
+    ghost coded = { coded_naming };
+
+    ghost view = { λ s. record { names = spellings (reverse s.hidden.items); noted = s.trail.noted } };
+
+    ghost invariant = { λ s. Keeps s.innermost s.hidden.items × Begin s.trail.chains (reverse s.hidden.items) };
+}
+
+impl<'t> Names<'t> {
+    /// No names.
+    pub fn new(alloc: Global) -> Self
+        ensures names { result.names ≡ [] }
+        ensures noted { result.noted ≡ [] }
+    {
+        Names {
+            innermost: IndexMap::new(alloc),
+            hidden: Vec::new(alloc),
+            trail: Trail::new(alloc),
+        }
+    }
+
+    /// How many names are in scope.
+    pub fn len(&self) -> u32
+        ensures { result ≡ length self.now.names }
+    {
+        self.hidden.len() as u32
+    }
+
+    /// The number of the innermost name that is spelled so.
+    pub fn number(&self, word: &str) -> Option<u32>
+        ensures number { result ≡ number_of self.now.names word.now }
+        ensures below { IfSome result (λ n. n < length self.now.names) }
+    {
+        self.innermost.get(&word).copied()
+    }
+
+    /// One more name in scope. There is no room for 2 ^ 32 names.
+    pub fn bind(&mut self, word: &'t str) -> Result<(), NoMemory>
+        ensures { OnOk result (self.new ≡ with_names self.old (word.now ∷ self.old.names)) }
+    {
+        if self.hidden.len() >= 4_294_967_295 {
+            return Err(AllocError);
+        }
+        let outer = top_chain(&self.hidden);
+        let chain = self.trail.extend(word, outer)?;
+        enter(&mut self.innermost, &mut self.hidden, word, chain)
+    }
+
+    /// The innermost name goes out of scope.
+    pub fn unbind(&mut self)
+        requires { 0 < length self.old.names }
+        ensures { self.new ≡ with_names self.old (outer self.old.names) }
+    {
+        leave(&mut self.innermost, &mut self.hidden)
+    }
+
+    /// The innermost names go out of scope, up to so many.
+    pub fn cut(&mut self, len: u32)
+        ensures { self.new ≡ with_names self.old (drop (length self.old.names - len) self.old.names) }
+    {
+        while self.len() > len {
+            self.unbind();
+        }
+    }
+
+    /// The names in scope are those at one more node.
+    pub fn note(&mut self) -> Result<(), NoMemory>
+        ensures { OnOk result (self.new ≡ noting self.old) }
+    {
+        let chain = top_chain(&self.hidden);
+        self.trail.note(chain)
+    }
+
+    /// The spellings of the names in scope, the outermost first.
+    pub fn texts(&self, alloc: Global) -> Result<Vec<Text>, NoMemory>
+        ensures { IfOk result (λ v. v.items ≡ reverse self.now.names) }
+    {
+        let mut texts = Vec::new(alloc);
+        for held in &self.hidden {
+            texts.push(Text::of(alloc, held.word)?)?;
+        }
+        Ok(texts)
+    }
+
+    /// The names that were in scope at each node.
+    pub fn scopes(&self, alloc: Global) -> Result<Scopes, NoMemory>
+        ensures { IfOk result (λ scopes. scopes ≡ self.now.noted) }
+    {
+        self.trail.scopes(alloc)
+    }
+}

@@ -1,0 +1,214 @@
+//! The file that a tree stands for.
+
+ghost use Rattle.std.specs.Prelude.{◌≡◌, ◌⊎◌, ◌≤◌, [], ◌++◌, map, length, reverse, IfOk, IfErr, OnOk};
+ghost use Rattle.spi_tree.specs.Trees as t;
+ghost use Rattle.spi_tree.specs.Views.{proc_of, decl_of, opponent_of, schedule_of, derivation_of, file_of};
+ghost use Rattle.spi_term.specs.View.{shape_of};
+ghost use Rattle.spi_term.specs.Spelling.{flat};
+ghost use Rattle.spi_scope.specs.declared.fault.ScopeFault.{ScopeFault};
+ghost use Rattle.spi_scope.specs.declared.fault.ScopeFault.TheVariants.{NoMemory as OutOfMemory};
+ghost use Rattle.spi_scope.specs.Meaning.{process_in};
+ghost use Rattle.spi_scope.specs.Marks.{places, scopes};
+ghost use Rattle.spi_scope.specs.Parts.{step_in};
+ghost use Rattle.spi_scope.specs.Points.{process_points, opponent_points, schedule_points, derivation_points, body_points, all_names, all_types};
+ghost use Rattle.spi_scope.specs.First.{HasFirst};
+ghost use Rattle.spi_scope.specs.StandsFor.{Meant, StandsFor, over_free, opponent_over, schedule_in, derivation_in};
+ghost use Rattle.spi_scope.specs.Files.{meant, steps_in, uses_of, marked, marks_of, opponent_places, step_places, rule_places};
+ghost use Rattle.spi_scope.specs.Gives.{run};
+ghost use Rattle.spi_scope.specs.Leads.{Leads};
+ghost use Rattle.spi_scope.specs.State.{abbreviations};
+ghost use Rattle.spi_scope.specs.Over.{AreOver};
+
+use crate::arena::Arena;
+use crate::declarations::declare_all;
+use crate::derivations::{Uses, read_derivation};
+use crate::fault::ScopeFault;
+use crate::file::File;
+use crate::marks::Marks;
+use crate::names::Names;
+use crate::processes::read_process;
+use crate::schedules::read_steps;
+use crate::scope::Scope;
+use indexmap::IndexMap;
+use spi_rules::Deriv;
+use spi_run::Step;
+use spi_term::{Node, Process};
+use spi_text::Span;
+use spi_tree::{SDeriv, SProc, SStep, Tree};
+use std::alloc::Global;
+
+/// The process that the nodes spell.
+fn laid_out(scope: &Scope, count: u64, nodes: Vec<Node>, p: &SProc) -> Process
+    requires ran { run (process_points (abbreviations scope.now.types) scope.now.held.names (proc_of p.now)) count ≡ Ok scope.now.count }
+    requires few { scope.now.count ≤ 100000 }
+    requires names { length scope.now.held.names ≤ 100000 }
+    requires over { AreOver (length scope.now.held.names) (abbreviations scope.now.types) }
+    requires nodes { map shape_of nodes.items ≡ flat 0 (length scope.now.held.names) (process_in (λ s. s) (abbreviations scope.now.types) scope.now.held.names (proc_of p.now)) }
+    ensures { result ≡ over_free (abbreviations scope.now.types) scope.now.held.names (proc_of p.now) }
+{
+    match Process::from_nodes(scope.held.len(), nodes) {
+        Some(process) => process,
+        None => unreachable!(),
+    }
+}
+
+/// A process over the names in scope, and where its nodes stand.
+fn read_part<'t>(
+    alloc: Global,
+    scope: &mut Scope<'t>,
+    p: &'t SProc,
+) -> Result<(Process, Vec<Span>), ScopeFault>
+    requires few { scope.old.count ≤ 100000 }
+    requires names { length scope.old.held.names ≤ 100000 }
+    requires over { AreOver (length scope.old.held.names) (abbreviations scope.old.types) }
+    ensures gives { Leads result (run (process_points (abbreviations scope.old.types) scope.old.held.names (proc_of p.entry.now)) scope.old.count) scope.new.count }
+    ensures process { IfOk result (λ x. x.0 ≡ over_free (abbreviations scope.old.types) scope.old.held.names (proc_of p.entry.now)) }
+    ensures places { IfOk result (λ x. x.1.items ≡ places (proc_of p.entry.now)) }
+    ensures noted { OnOk result (scope.new.held.noted ≡ scope.old.held.noted ++ scopes scope.old.held.names (proc_of p.entry.now)) }
+    ensures names { OnOk result (scope.new.held.names ≡ scope.old.held.names) }
+    ensures types { OnOk result (scope.new.types ≡ scope.old.types) }
+    ensures few { OnOk result (scope.new.count ≤ 100000) }
+{
+    let count = scope.count;
+    let mut arena = Arena {
+        nodes: Vec::new(alloc),
+        places: Vec::new(alloc),
+    };
+    read_process(alloc, scope, &mut arena, p)?;
+    let Arena { nodes, places } = arena;
+    let process = laid_out(scope, count, nodes, p);
+    Ok((process, places))
+}
+
+/// The opponent, and where its nodes stand.
+fn read_opponent<'t>(
+    alloc: Global,
+    scope: &mut Scope<'t>,
+    opponent: &'t Option<SProc>,
+) -> Result<(Option<Process>, Vec<Span>), ScopeFault>
+    requires few { scope.old.count ≤ 100000 }
+    requires names { length scope.old.held.names ≤ 100000 }
+    requires over { AreOver (length scope.old.held.names) (abbreviations scope.old.types) }
+    ensures gives { Leads result (run (opponent_points (abbreviations scope.old.types) scope.old.held.names (opponent_of opponent.entry.now)) scope.old.count) scope.new.count }
+    ensures process { IfOk result (λ x. x.0 ≡ opponent_over (abbreviations scope.old.types) scope.old.held.names (opponent_of opponent.entry.now)) }
+    ensures places { IfOk result (λ x. x.1.items ≡ opponent_places (opponent_of opponent.entry.now)) }
+    ensures few { OnOk result (scope.new.count ≤ 100000) }
+{
+    match opponent {
+        None => Ok((None, Vec::new(alloc))),
+        Some(p) => {
+            let (process, places) = read_part(alloc, scope, p)?;
+            Ok((Some(process), places))
+        }
+    }
+}
+
+/// The schedule, and where its steps stand.
+fn read_schedule(
+    alloc: Global,
+    count: u64,
+    schedule: &Option<Vec<SStep>>,
+) -> Result<(Option<Vec<Step>>, Vec<Span>), ScopeFault>
+    ensures gives { Leads result (run (schedule_points (schedule_of schedule.now)) count) count }
+    ensures steps { IfOk result (λ x. steps_in x.0 ≡ schedule_in (schedule_of schedule.now)) }
+    ensures places { IfOk result (λ x. x.1.items ≡ step_places (schedule_of schedule.now)) }
+{
+    match schedule {
+        None => Ok((None, Vec::new(alloc))),
+        Some(steps) => {
+            let (steps, places) = read_steps(alloc, count, steps)?;
+            Ok((Some(steps), places))
+        }
+    }
+}
+
+/// The derivation, and where its rule uses stand.
+fn read_proof(
+    alloc: Global,
+    count: u64,
+    derivation: &Option<SDeriv>,
+) -> Result<(Option<Deriv>, Vec<Span>), ScopeFault>
+    ensures gives { Leads result (run (derivation_points (derivation_of derivation.now)) count) count }
+    ensures uses { IfOk result (λ x. uses_of x.0 ≡ derivation_in (derivation_of derivation.now)) }
+    ensures places { IfOk result (λ x. x.1.items ≡ rule_places (derivation_of derivation.now)) }
+{
+    match derivation {
+        None => Ok((None, Vec::new(alloc))),
+        Some(d) => {
+            let mut read = Uses {
+                uses: Vec::new(alloc),
+                places: Vec::new(alloc),
+            };
+            read_derivation(alloc, count, &mut read, d)?;
+            let Uses { uses, places } = read;
+            Ok((Some(Deriv { uses }), places))
+        }
+    }
+}
+
+/// What comes after the declarations.
+fn read_body<'t>(alloc: Global, scope: &mut Scope<'t>, tree: &'t Tree) -> Result<File, ScopeFault>
+    requires few { scope.old.count ≤ 100000 }
+    requires names { length scope.old.held.names ≤ 100000 }
+    requires over { AreOver (length scope.old.held.names) (abbreviations scope.old.types) }
+    requires noted { scope.old.held.noted ≡ [] }
+    ensures gives { Leads result (run (body_points (abbreviations scope.old.types) scope.old.held.names (file_of tree.entry.now)) scope.old.count) scope.new.count }
+    ensures version { IfOk result (λ f. f.version ≡ tree.entry.now.version) }
+    ensures names { IfOk result (λ f. f.names.items ≡ reverse scope.old.held.names) }
+    ensures process { IfOk result (λ f. f.process ≡ over_free (abbreviations scope.old.types) scope.old.held.names (proc_of tree.entry.now.process)) }
+    ensures opponent { IfOk result (λ f. f.opponent ≡ opponent_over (abbreviations scope.old.types) scope.old.held.names (opponent_of tree.entry.now.opponent)) }
+    ensures schedule { IfOk result (λ f. steps_in f.schedule ≡ schedule_in (schedule_of tree.entry.now.schedule)) }
+    ensures derivation { IfOk result (λ f. uses_of f.derivation ≡ derivation_in (derivation_of tree.entry.now.derivation)) }
+    ensures process_places { IfOk result (λ f. f.marks.process.items ≡ places (proc_of tree.entry.now.process)) }
+    ensures opponent_places { IfOk result (λ f. f.marks.opponent.items ≡ opponent_places (opponent_of tree.entry.now.opponent)) }
+    ensures step_places { IfOk result (λ f. f.marks.steps.items ≡ step_places (schedule_of tree.entry.now.schedule)) }
+    ensures rule_places { IfOk result (λ f. f.marks.rules.items ≡ rule_places (derivation_of tree.entry.now.derivation)) }
+    ensures scopes { IfOk result (λ f. f.marks.scopes ≡ scopes scope.old.held.names (proc_of tree.entry.now.process)) }
+{
+    let names = scope.held.texts(alloc)?;
+    let (process, process_places) = read_part(alloc, scope, &tree.process)?;
+    let scopes = scope.held.scopes(alloc)?;
+    let (opponent, opponent_places) = read_opponent(alloc, scope, &tree.opponent)?;
+    let (schedule, step_places) = read_schedule(alloc, scope.count, &tree.schedule)?;
+    let (derivation, rule_places) = read_proof(alloc, scope.count, &tree.derivation)?;
+    Ok(File {
+        version: tree.version,
+        names,
+        process,
+        opponent,
+        schedule,
+        derivation,
+        marks: Marks {
+            process: process_places,
+            opponent: opponent_places,
+            steps: step_places,
+            rules: rule_places,
+            scopes,
+        },
+    })
+}
+
+/// The file that the tree stands for, or the tree's first fault. It goes through the tree once, and expands an
+/// abbreviation only where the type stays within 1,000 nodes.
+pub fn resolve(alloc: Global, tree: &Tree) -> Result<File, ScopeFault>
+    ensures stands { IfOk result (λ f. StandsFor (file_of tree.now) (meant f)) }
+    ensures marks { IfOk result (λ f. marked f ≡ marks_of (file_of tree.now)) }
+    ensures fault { IfErr result (λ e. (e ≡ OutOfMemory) ⊎ HasFirst (file_of tree.now) e) }
+{
+    let mut scope = Scope {
+        held: Names::new(alloc),
+        types: IndexMap::new(alloc),
+        count: 0,
+    };
+    declare_all(alloc, &mut scope, &tree.decls)?;
+    let file = read_body(alloc, &mut scope, tree)?;
+    Ok(file)
+}
+
+/// Each tree stands for one file or has one first fault, and never both.
+pub fn one_or_other()
+    ensures some { (tree : t.File) → ((file : Meant) × StandsFor tree file) ⊎ ((fault : ScopeFault) × HasFirst tree fault) }
+    ensures never_both { (tree : t.File) (file : Meant) (fault : ScopeFault) → StandsFor tree file → HasFirst tree fault → ⊥ }
+    ensures one_file { (tree : t.File) (file other : Meant) → StandsFor tree file → StandsFor tree other → file ≡ other }
+    ensures one_fault { (tree : t.File) (fault other : ScopeFault) → HasFirst tree fault → HasFirst tree other → fault ≡ other }
+{}
