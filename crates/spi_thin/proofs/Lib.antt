@@ -1,9 +1,0 @@
-pub mod Names
-pub mod Readers
-pub mod Counts
-pub mod Sound
-pub mod Complete
-pub mod Declaring
-pub mod Numbering
-pub mod Closing
-pub mod Files

@@ -1,7 +1,0 @@
-pub mod Tree
-pub mod Scope
-pub mod Meaning
-pub mod Thin
-pub mod Reading
-pub mod View
-pub mod Layout
