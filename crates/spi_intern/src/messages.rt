@@ -18,6 +18,15 @@ pub struct MsgId {
     place: usize,
 }
 
+impl MsgId {
+    /// The number itself: how many messages have lower ones in the store that gave it.
+    pub fn place(self) -> usize
+        ensures { result ≡ self.place }
+    {
+        self.place
+    }
+}
+
 /// The outermost constructor of a message, with the numbers of its parts.
 #[derive(Clone, Copy, Debug, PartialEq, Eq, Hash)]
 pub enum MsgPart {

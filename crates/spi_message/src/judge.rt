@@ -45,7 +45,7 @@ impl Model for Judge {
 }
 
 impl Judge {
-    ghost use Rattle.spi_message.specs.Judging.{Stands, IsGivenSmall, IsKept};
+    ghost use Rattle.spi_message.specs.Judging.{Stands, IsGivenSmall, IsKept, IsJudge};
 
     /// `free` names of type `Un`, at most 100,000.
     pub fn new(alloc: Global, free: u32) -> Result<Judge, NoMemory>
@@ -147,6 +147,13 @@ impl Judge {
     {
         let mut values = Vec::new(alloc);
         is_good_type(alloc, &mut self.store, &mut self.types, t, &mut values)
+    }
+
+    /// What holds of every judge: it stands for an environment, in which the names from the start are the first.
+    pub fn stands_for_one(&self)
+        ensures { IsJudge self.now.store self.now.free self.now.types }
+    {
+        let _ = &self.types;
     }
 
     /// How many names there are.

@@ -6,6 +6,7 @@ mod declarations;
 mod derivations;
 mod fault;
 mod file;
+mod forms;
 mod heads;
 mod laws;
 mod marks;

@@ -1,7 +1,8 @@
 //! Processes.
 
 ghost use Rattle.std.specs.Prelude.{◌≡◌, ◌+◌, ◌≤◌, ◌++◌, map, length, OnOk};
-ghost use Rattle.spi_tree.specs.Views.{proc_of};
+ghost use Rattle.spi_tree.specs.Trees.{par, out_then, case};
+ghost use Rattle.spi_tree.specs.Views.{msg_of, ty_of, proc_of};
 ghost use Rattle.spi_term.specs.Term.{process_size};
 ghost use Rattle.spi_term.specs.Spelling.{flat};
 ghost use Rattle.spi_term.specs.View.{shape_of};
@@ -13,16 +14,18 @@ ghost use Rattle.spi_scope.specs.State.{abbreviations};
 
 use crate::arena::{Arena, close, here, push};
 use crate::fault::ScopeFault;
-use crate::heads::{
-    add, read_annotation, read_match_head, read_message_head, read_messages_head, read_new_head,
-    read_split_head, read_tested_head, read_typed_head,
+use crate::forms::{
+    begin, cast, check, decrypt, end, end_many, fresh, receive, select, serve, split,
 };
+use crate::heads::{add, read_annotation, read_messages_head, read_typed_head};
 use crate::scope::Scope;
 use spi_term::Form;
-use spi_tree::SProc;
+use spi_text::Span;
+use spi_tree::{SMsg, SProc, STy, SWord};
 use std::alloc::Global;
 
 /// The nodes of a process, behind those that are there.
+#[cycle(processes)]
 pub fn read_process<'t>(
     alloc: Global,
     scope: &mut Scope<'t>,
@@ -40,7 +43,6 @@ pub fn read_process<'t>(
     ensures few { OnOk result (scope.new.count ≤ 100000) }
 {
     let base = scope.held.len();
-    let at = here(arena)?;
     match p {
         SProc::Stop { span } => {
             add(scope, 1, *span)?;
@@ -61,14 +63,7 @@ pub fn read_process<'t>(
             datum,
             then,
             span,
-        } => {
-            let (channel, datum) = read_messages_head(alloc, scope, base, *span, channel, datum)?;
-            add(scope, 1, *span)?;
-            let (first, rest) = (at + 1, at + 2);
-            push(scope, arena, base, Form::Par { first, rest }, *span)?;
-            push(scope, arena, base, Form::Send { channel, datum }, *span)?;
-            read_process(alloc, scope, arena, then)
-        }
+        } => send_then(alloc, scope, arena, channel, datum, then, *span),
         SProc::Inp {
             channel,
             name,
@@ -76,9 +71,7 @@ pub fn read_process<'t>(
             then,
             span,
         } => {
-            let (channel, ty) = read_typed_head(alloc, scope, base, *span, channel, ty)?;
-            let body = at + 1;
-            push(scope, arena, base, Form::Recv { channel, ty, body }, *span)?;
+            receive(alloc, scope, arena, *span, channel, ty)?;
             scope.held.bind(name.word.as_str())?;
             read_process(alloc, scope, arena, then)?;
             scope.held.unbind();
@@ -91,9 +84,7 @@ pub fn read_process<'t>(
             then,
             span,
         } => {
-            let (channel, ty) = read_typed_head(alloc, scope, base, *span, channel, ty)?;
-            let body = at + 1;
-            push(scope, arena, base, Form::Serve { channel, ty, body }, *span)?;
+            serve(alloc, scope, arena, *span, channel, ty)?;
             scope.held.bind(name.word.as_str())?;
             read_process(alloc, scope, arena, then)?;
             scope.held.unbind();
@@ -108,22 +99,7 @@ pub fn read_process<'t>(
             then,
             span,
         } => {
-            let (whole, first, second) = read_split_head(
-                alloc, scope, base, *span, whole, left, left_ty, right_ty,
-            )?;
-            let body = at + 1;
-            push(
-                scope,
-                arena,
-                base,
-                Form::Split {
-                    whole,
-                    first,
-                    second,
-                    body,
-                },
-                *span,
-            )?;
+            split(alloc, scope, arena, *span, whole, left, left_ty, right_ty)?;
             scope.held.bind(left.word.as_str())?;
             scope.held.bind(right.word.as_str())?;
             read_process(alloc, scope, arena, then)?;
@@ -141,22 +117,8 @@ pub fn read_process<'t>(
             then,
             span,
         } => {
-            let (whole, first, equal, second) = read_match_head(
-                alloc, scope, base, *span, whole, left, left_ty, equal, right_ty,
-            )?;
-            let body = at + 1;
-            push(
-                scope,
-                arena,
-                base,
-                Form::Select {
-                    whole,
-                    first,
-                    equal,
-                    second,
-                    body,
-                },
-                *span,
+            select(
+                alloc, scope, arena, *span, whole, left, left_ty, equal, right_ty,
             )?;
             scope.held.bind(right.word.as_str())?;
             read_process(alloc, scope, arena, then)?;
@@ -172,32 +134,9 @@ pub fn read_process<'t>(
             right_ty,
             on_right: second,
             span,
-        } => {
-            let (whole, left_ty) = read_typed_head(alloc, scope, base, *span, whole, left_ty)?;
-            push(scope, arena, base, Form::Stop, *span)?;
-            scope.held.bind(left.word.as_str())?;
-            read_process(alloc, scope, arena, first)?;
-            scope.held.unbind();
-            let (right, _) = read_annotation(alloc, scope, base, right_ty)?;
-            let on_right = here(arena)?;
-            let on_left = at + 1;
-            close(
-                arena,
-                at as usize,
-                base,
-                Form::Branch {
-                    whole,
-                    left: left_ty,
-                    on_left,
-                    right,
-                    on_right,
-                },
-            );
-            scope.held.bind(other.word.as_str())?;
-            read_process(alloc, scope, arena, second)?;
-            scope.held.unbind();
-            Ok(())
-        }
+        } => branch(
+            alloc, scope, arena, whole, left, left_ty, first, other, right_ty, second, *span,
+        ),
         SProc::Decrypt {
             whole,
             name,
@@ -206,20 +145,7 @@ pub fn read_process<'t>(
             then,
             span,
         } => {
-            let (whole, ty, key) = read_tested_head(alloc, scope, base, *span, whole, ty, key)?;
-            let body = at + 1;
-            push(
-                scope,
-                arena,
-                base,
-                Form::Decrypt {
-                    whole,
-                    ty,
-                    key,
-                    body,
-                },
-                *span,
-            )?;
+            decrypt(alloc, scope, arena, *span, whole, ty, key)?;
             scope.held.bind(name.word.as_str())?;
             read_process(alloc, scope, arena, then)?;
             scope.held.unbind();
@@ -231,33 +157,19 @@ pub fn read_process<'t>(
             then,
             span,
         } => {
-            let (whole, nonce) = read_messages_head(alloc, scope, base, *span, whole, nonce)?;
-            let body = at + 1;
-            push(
-                scope,
-                arena,
-                base,
-                Form::Check { whole, nonce, body },
-                *span,
-            )?;
+            check(alloc, scope, arena, *span, whole, nonce)?;
             read_process(alloc, scope, arena, then)
         }
         SProc::Begin { label, then, span } => {
-            let label = read_message_head(alloc, scope, base, *span, label)?;
-            let body = at + 1;
-            push(scope, arena, base, Form::Begin { label, body }, *span)?;
+            begin(alloc, scope, arena, *span, label)?;
             read_process(alloc, scope, arena, then)
         }
         SProc::End { label, then, span } => {
-            let label = read_message_head(alloc, scope, base, *span, label)?;
-            let body = at + 1;
-            push(scope, arena, base, Form::End { label, body }, *span)?;
+            end(alloc, scope, arena, *span, label)?;
             read_process(alloc, scope, arena, then)
         }
         SProc::EndMany { label, then, span } => {
-            let label = read_message_head(alloc, scope, base, *span, label)?;
-            let body = at + 1;
-            push(scope, arena, base, Form::EndMany { label, body }, *span)?;
+            end_many(alloc, scope, arena, *span, label)?;
             read_process(alloc, scope, arena, then)
         }
         SProc::Cast {
@@ -267,9 +179,7 @@ pub fn read_process<'t>(
             then,
             span,
         } => {
-            let (whole, ty) = read_typed_head(alloc, scope, base, *span, whole, ty)?;
-            let body = at + 1;
-            push(scope, arena, base, Form::Cast { whole, ty, body }, *span)?;
+            cast(alloc, scope, arena, *span, whole, ty)?;
             scope.held.bind(name.word.as_str())?;
             read_process(alloc, scope, arena, then)?;
             scope.held.unbind();
@@ -281,47 +191,136 @@ pub fn read_process<'t>(
             then,
             span,
         } => {
-            let ty = read_new_head(alloc, scope, base, *span, ty)?;
-            let body = at + 1;
-            push(scope, arena, base, Form::Fresh { ty, body }, *span)?;
+            fresh(alloc, scope, arena, *span, ty)?;
             scope.held.bind(name.word.as_str())?;
             read_process(alloc, scope, arena, then)?;
             scope.held.unbind();
             Ok(())
         }
-        SProc::Par { first, rest, span } => {
-            push(scope, arena, base, Form::Stop, *span)?;
-            read_process(alloc, scope, arena, first)?;
-            add(scope, 1, *span)?;
-            let next = here(arena)?;
-            let body = at + 1;
-            close(
-                arena,
-                at as usize,
-                base,
-                Form::Par {
-                    first: body,
-                    rest: next,
-                },
-            );
-            read_process(alloc, scope, arena, rest)
-        }
-        SProc::Group { first, rest, span } => {
-            push(scope, arena, base, Form::Stop, *span)?;
-            read_process(alloc, scope, arena, first)?;
-            add(scope, 1, *span)?;
-            let next = here(arena)?;
-            let body = at + 1;
-            close(
-                arena,
-                at as usize,
-                base,
-                Form::Par {
-                    first: body,
-                    rest: next,
-                },
-            );
-            read_process(alloc, scope, arena, rest)
-        }
+        SProc::Par { first, rest, span } => compose(alloc, scope, arena, first, rest, *span),
+        SProc::Group { first, rest, span } => compose(alloc, scope, arena, first, rest, *span),
     }
+}
+
+/// The nodes of an output and of the process beside it.
+#[cycle(processes)]
+fn send_then<'t>(
+    alloc: Global,
+    scope: &mut Scope<'t>,
+    arena: &mut Arena,
+    channel: &'t SMsg,
+    datum: &'t SMsg,
+    then: &'t SProc,
+    span: Span,
+) -> Result<(), ScopeFault>
+    requires few { scope.old.count ≤ 100000 }
+    ensures gives { Goes result (run (process_points (abbreviations scope.old.types) scope.old.held.names (out_then span (msg_of channel.entry.now) (msg_of datum.entry.now) (proc_of then.entry.now))) scope.old.count) scope.new.count }
+    ensures nodes { OnOk result (map shape_of arena.new.nodes.items ≡ map shape_of arena.old.nodes.items ++ flat (length arena.old.nodes.items) (length scope.old.held.names) (process_in (λ s. s) (abbreviations scope.old.types) scope.old.held.names (out_then span (msg_of channel.entry.now) (msg_of datum.entry.now) (proc_of then.entry.now)))) }
+    ensures len { OnOk result (length arena.new.nodes.items ≡ length arena.old.nodes.items + process_size (process_in (λ s. s) (abbreviations scope.old.types) scope.old.held.names (out_then span (msg_of channel.entry.now) (msg_of datum.entry.now) (proc_of then.entry.now)))) }
+    ensures places { OnOk result (arena.new.places.items ≡ arena.old.places.items ++ places (out_then span (msg_of channel.entry.now) (msg_of datum.entry.now) (proc_of then.entry.now))) }
+    ensures noted { OnOk result (scope.new.held.noted ≡ scope.old.held.noted ++ scopes scope.old.held.names (out_then span (msg_of channel.entry.now) (msg_of datum.entry.now) (proc_of then.entry.now))) }
+    ensures names { OnOk result (scope.new.held.names ≡ scope.old.held.names) }
+    ensures types { OnOk result (scope.new.types ≡ scope.old.types) }
+    ensures few { OnOk result (scope.new.count ≤ 100000) }
+{
+    let base = scope.held.len();
+    let at = here(arena)?;
+    let (channel, datum) = read_messages_head(alloc, scope, base, span, channel, datum)?;
+    add(scope, 1, span)?;
+    let (first, rest) = (at + 1, at + 2);
+    push(scope, arena, base, Form::Par { first, rest }, span)?;
+    push(scope, arena, base, Form::Send { channel, datum }, span)?;
+    read_process(alloc, scope, arena, then)
+}
+
+/// The nodes of a case.
+#[cycle(processes)]
+fn branch<'t>(
+    alloc: Global,
+    scope: &mut Scope<'t>,
+    arena: &mut Arena,
+    whole: &'t SMsg,
+    left: &'t SWord,
+    left_ty: &'t STy,
+    first: &'t SProc,
+    other: &'t SWord,
+    right_ty: &'t STy,
+    second: &'t SProc,
+    span: Span,
+) -> Result<(), ScopeFault>
+    requires few { scope.old.count ≤ 100000 }
+    ensures gives { Goes result (run (process_points (abbreviations scope.old.types) scope.old.held.names (case span (msg_of whole.entry.now) left.entry.now (ty_of left_ty.entry.now) (proc_of first.entry.now) other.entry.now (ty_of right_ty.entry.now) (proc_of second.entry.now))) scope.old.count) scope.new.count }
+    ensures nodes { OnOk result (map shape_of arena.new.nodes.items ≡ map shape_of arena.old.nodes.items ++ flat (length arena.old.nodes.items) (length scope.old.held.names) (process_in (λ s. s) (abbreviations scope.old.types) scope.old.held.names (case span (msg_of whole.entry.now) left.entry.now (ty_of left_ty.entry.now) (proc_of first.entry.now) other.entry.now (ty_of right_ty.entry.now) (proc_of second.entry.now)))) }
+    ensures len { OnOk result (length arena.new.nodes.items ≡ length arena.old.nodes.items + process_size (process_in (λ s. s) (abbreviations scope.old.types) scope.old.held.names (case span (msg_of whole.entry.now) left.entry.now (ty_of left_ty.entry.now) (proc_of first.entry.now) other.entry.now (ty_of right_ty.entry.now) (proc_of second.entry.now)))) }
+    ensures places { OnOk result (arena.new.places.items ≡ arena.old.places.items ++ places (case span (msg_of whole.entry.now) left.entry.now (ty_of left_ty.entry.now) (proc_of first.entry.now) other.entry.now (ty_of right_ty.entry.now) (proc_of second.entry.now))) }
+    ensures noted { OnOk result (scope.new.held.noted ≡ scope.old.held.noted ++ scopes scope.old.held.names (case span (msg_of whole.entry.now) left.entry.now (ty_of left_ty.entry.now) (proc_of first.entry.now) other.entry.now (ty_of right_ty.entry.now) (proc_of second.entry.now))) }
+    ensures names { OnOk result (scope.new.held.names ≡ scope.old.held.names) }
+    ensures types { OnOk result (scope.new.types ≡ scope.old.types) }
+    ensures few { OnOk result (scope.new.count ≤ 100000) }
+{
+    let base = scope.held.len();
+    let at = here(arena)?;
+    let (whole, left_ty) = read_typed_head(alloc, scope, base, span, whole, left_ty)?;
+    push(scope, arena, base, Form::Stop, span)?;
+    scope.held.bind(left.word.as_str())?;
+    read_process(alloc, scope, arena, first)?;
+    scope.held.unbind();
+    let (right, _) = read_annotation(alloc, scope, base, right_ty)?;
+    let on_right = here(arena)?;
+    let on_left = at + 1;
+    close(
+        arena,
+        at as usize,
+        base,
+        Form::Branch {
+            whole,
+            left: left_ty,
+            on_left,
+            right,
+            on_right,
+        },
+    );
+    scope.held.bind(other.word.as_str())?;
+    read_process(alloc, scope, arena, second)?;
+    scope.held.unbind();
+    Ok(())
+}
+
+/// The nodes of a composition.
+#[cycle(processes)]
+fn compose<'t>(
+    alloc: Global,
+    scope: &mut Scope<'t>,
+    arena: &mut Arena,
+    first: &'t SProc,
+    rest: &'t SProc,
+    span: Span,
+) -> Result<(), ScopeFault>
+    requires few { scope.old.count ≤ 100000 }
+    ensures gives { Goes result (run (process_points (abbreviations scope.old.types) scope.old.held.names (par span (proc_of first.entry.now) (proc_of rest.entry.now))) scope.old.count) scope.new.count }
+    ensures nodes { OnOk result (map shape_of arena.new.nodes.items ≡ map shape_of arena.old.nodes.items ++ flat (length arena.old.nodes.items) (length scope.old.held.names) (process_in (λ s. s) (abbreviations scope.old.types) scope.old.held.names (par span (proc_of first.entry.now) (proc_of rest.entry.now)))) }
+    ensures len { OnOk result (length arena.new.nodes.items ≡ length arena.old.nodes.items + process_size (process_in (λ s. s) (abbreviations scope.old.types) scope.old.held.names (par span (proc_of first.entry.now) (proc_of rest.entry.now)))) }
+    ensures places { OnOk result (arena.new.places.items ≡ arena.old.places.items ++ places (par span (proc_of first.entry.now) (proc_of rest.entry.now))) }
+    ensures noted { OnOk result (scope.new.held.noted ≡ scope.old.held.noted ++ scopes scope.old.held.names (par span (proc_of first.entry.now) (proc_of rest.entry.now))) }
+    ensures names { OnOk result (scope.new.held.names ≡ scope.old.held.names) }
+    ensures types { OnOk result (scope.new.types ≡ scope.old.types) }
+    ensures few { OnOk result (scope.new.count ≤ 100000) }
+{
+    let base = scope.held.len();
+    let at = here(arena)?;
+    push(scope, arena, base, Form::Stop, span)?;
+    read_process(alloc, scope, arena, first)?;
+    add(scope, 1, span)?;
+    let next = here(arena)?;
+    let body = at + 1;
+    close(
+        arena,
+        at as usize,
+        base,
+        Form::Par {
+            first: body,
+            rest: next,
+        },
+    );
+    read_process(alloc, scope, arena, rest)
 }

@@ -1,0 +1,350 @@
+//! Forms with one process behind them: what stands before it, and their node.
+
+ghost use Rattle.std.specs.Prelude.{◌≡◌, suc, ◌+◌, ◌≤◌, [], ◌∷◌, ◌++◌, map, length, OnOk};
+ghost use Rattle.spi_tree.specs.Views.{msg_of, ty_of};
+ghost use Rattle.spi_term.specs.Term.{Recvs, Serves, Splits, Selects, Decrypts, Checks, Begins, Ends, EndManys, Casts, Makes};
+ghost use Rattle.spi_term.specs.Spelling.{prefix_at};
+ghost use Rattle.spi_term.specs.View.{shape_of};
+ghost use Rattle.spi_scope.specs.Meaning.{message_in, type_in};
+ghost use Rattle.spi_scope.specs.Points.{message_head, messages_head, typed_head, new_head, tested_head, split_head, match_head};
+ghost use Rattle.spi_scope.specs.Gives.{run};
+ghost use Rattle.spi_scope.specs.Leads.{Leads};
+ghost use Rattle.spi_scope.specs.State.{abbreviations};
+
+use crate::arena::{Arena, here, push};
+use crate::fault::ScopeFault;
+use crate::heads::{
+    read_match_head, read_message_head, read_messages_head, read_new_head, read_split_head,
+    read_tested_head, read_typed_head,
+};
+use crate::scope::Scope;
+use spi_term::Form;
+use spi_text::Span;
+use spi_tree::{SMsg, STy, SWord};
+use std::alloc::Global;
+
+/// An input.
+pub fn receive<'t>(
+    alloc: Global,
+    scope: &mut Scope<'t>,
+    arena: &mut Arena,
+    span: Span,
+    channel: &SMsg,
+    ty: &'t STy,
+) -> Result<(), ScopeFault>
+    requires few { scope.old.count ≤ 100000 }
+    ensures gives { Leads result (run (typed_head (abbreviations scope.old.types) scope.old.held.names span (msg_of channel.now) (ty_of ty.entry.now)) scope.old.count) scope.new.count }
+    ensures nodes { OnOk result (map shape_of arena.new.nodes.items ≡ map shape_of arena.old.nodes.items ++ prefix_at (length scope.old.held.names) (Recvs (message_in (length scope.old.held.names) scope.old.held.names (msg_of channel.now)) (type_in (length scope.old.held.names) (abbreviations scope.old.types) scope.old.held.names (ty_of ty.entry.now))) (suc (length arena.old.nodes.items)) ∷ []) }
+    ensures len { OnOk result (length arena.new.nodes.items ≡ length arena.old.nodes.items + 1) }
+    ensures places { OnOk result (arena.new.places.items ≡ arena.old.places.items ++ span ∷ []) }
+    ensures names { OnOk result (scope.new.held.names ≡ scope.old.held.names) }
+    ensures noted { OnOk result (scope.new.held.noted ≡ scope.old.held.noted ++ scope.old.held.names ∷ []) }
+    ensures types { OnOk result (scope.new.types ≡ scope.old.types) }
+    ensures few { OnOk result (scope.new.count ≤ 100000) }
+{
+    let base = scope.held.len();
+    let body = here(arena)? + 1;
+    let (channel, ty) = read_typed_head(alloc, scope, base, span, channel, ty)?;
+    push(scope, arena, base, Form::Recv { channel, ty, body }, span)?;
+    Ok(())
+}
+
+/// A repeated input.
+pub fn serve<'t>(
+    alloc: Global,
+    scope: &mut Scope<'t>,
+    arena: &mut Arena,
+    span: Span,
+    channel: &SMsg,
+    ty: &'t STy,
+) -> Result<(), ScopeFault>
+    requires few { scope.old.count ≤ 100000 }
+    ensures gives { Leads result (run (typed_head (abbreviations scope.old.types) scope.old.held.names span (msg_of channel.now) (ty_of ty.entry.now)) scope.old.count) scope.new.count }
+    ensures nodes { OnOk result (map shape_of arena.new.nodes.items ≡ map shape_of arena.old.nodes.items ++ prefix_at (length scope.old.held.names) (Serves (message_in (length scope.old.held.names) scope.old.held.names (msg_of channel.now)) (type_in (length scope.old.held.names) (abbreviations scope.old.types) scope.old.held.names (ty_of ty.entry.now))) (suc (length arena.old.nodes.items)) ∷ []) }
+    ensures len { OnOk result (length arena.new.nodes.items ≡ length arena.old.nodes.items + 1) }
+    ensures places { OnOk result (arena.new.places.items ≡ arena.old.places.items ++ span ∷ []) }
+    ensures names { OnOk result (scope.new.held.names ≡ scope.old.held.names) }
+    ensures noted { OnOk result (scope.new.held.noted ≡ scope.old.held.noted ++ scope.old.held.names ∷ []) }
+    ensures types { OnOk result (scope.new.types ≡ scope.old.types) }
+    ensures few { OnOk result (scope.new.count ≤ 100000) }
+{
+    let base = scope.held.len();
+    let body = here(arena)? + 1;
+    let (channel, ty) = read_typed_head(alloc, scope, base, span, channel, ty)?;
+    push(scope, arena, base, Form::Serve { channel, ty, body }, span)?;
+    Ok(())
+}
+
+/// A split.
+pub fn split<'t>(
+    alloc: Global,
+    scope: &mut Scope<'t>,
+    arena: &mut Arena,
+    span: Span,
+    whole: &SMsg,
+    name: &'t SWord,
+    left: &'t STy,
+    right: &'t STy,
+) -> Result<(), ScopeFault>
+    requires few { scope.old.count ≤ 100000 }
+    ensures gives { Leads result (run (split_head (abbreviations scope.old.types) scope.old.held.names span (msg_of whole.now) name.entry.now (ty_of left.entry.now) (ty_of right.entry.now)) scope.old.count) scope.new.count }
+    ensures nodes { OnOk result (map shape_of arena.new.nodes.items ≡ map shape_of arena.old.nodes.items ++ prefix_at (length scope.old.held.names) (Splits (message_in (length scope.old.held.names) scope.old.held.names (msg_of whole.now)) (type_in (length scope.old.held.names) (abbreviations scope.old.types) scope.old.held.names (ty_of left.entry.now)) (type_in (length scope.old.held.names) (abbreviations scope.old.types) (name.entry.now.word ∷ scope.old.held.names) (ty_of right.entry.now))) (suc (length arena.old.nodes.items)) ∷ []) }
+    ensures len { OnOk result (length arena.new.nodes.items ≡ length arena.old.nodes.items + 1) }
+    ensures places { OnOk result (arena.new.places.items ≡ arena.old.places.items ++ span ∷ []) }
+    ensures names { OnOk result (scope.new.held.names ≡ scope.old.held.names) }
+    ensures noted { OnOk result (scope.new.held.noted ≡ scope.old.held.noted ++ scope.old.held.names ∷ []) }
+    ensures types { OnOk result (scope.new.types ≡ scope.old.types) }
+    ensures few { OnOk result (scope.new.count ≤ 100000) }
+{
+    let base = scope.held.len();
+    let body = here(arena)? + 1;
+    let (whole, first, second) = read_split_head(
+        alloc, scope, base, span, whole, name, left, right,
+    )?;
+    push(
+        scope,
+        arena,
+        base,
+        Form::Split {
+            whole,
+            first,
+            second,
+            body,
+        },
+        span,
+    )?;
+    Ok(())
+}
+
+/// A match.
+pub fn select<'t>(
+    alloc: Global,
+    scope: &mut Scope<'t>,
+    arena: &mut Arena,
+    span: Span,
+    whole: &SMsg,
+    name: &'t SWord,
+    left: &'t STy,
+    equal: &SMsg,
+    right: &'t STy,
+) -> Result<(), ScopeFault>
+    requires few { scope.old.count ≤ 100000 }
+    ensures gives { Leads result (run (match_head (abbreviations scope.old.types) scope.old.held.names span (msg_of whole.now) name.entry.now (ty_of left.entry.now) (msg_of equal.now) (ty_of right.entry.now)) scope.old.count) scope.new.count }
+    ensures nodes { OnOk result (map shape_of arena.new.nodes.items ≡ map shape_of arena.old.nodes.items ++ prefix_at (length scope.old.held.names) (Selects (message_in (length scope.old.held.names) scope.old.held.names (msg_of whole.now)) (type_in (length scope.old.held.names) (abbreviations scope.old.types) scope.old.held.names (ty_of left.entry.now)) (message_in (length scope.old.held.names) scope.old.held.names (msg_of equal.now)) (type_in (length scope.old.held.names) (abbreviations scope.old.types) (name.entry.now.word ∷ scope.old.held.names) (ty_of right.entry.now))) (suc (length arena.old.nodes.items)) ∷ []) }
+    ensures len { OnOk result (length arena.new.nodes.items ≡ length arena.old.nodes.items + 1) }
+    ensures places { OnOk result (arena.new.places.items ≡ arena.old.places.items ++ span ∷ []) }
+    ensures names { OnOk result (scope.new.held.names ≡ scope.old.held.names) }
+    ensures noted { OnOk result (scope.new.held.noted ≡ scope.old.held.noted ++ scope.old.held.names ∷ []) }
+    ensures types { OnOk result (scope.new.types ≡ scope.old.types) }
+    ensures few { OnOk result (scope.new.count ≤ 100000) }
+{
+    let base = scope.held.len();
+    let body = here(arena)? + 1;
+    let (whole, first, equal, second) = read_match_head(
+        alloc, scope, base, span, whole, name, left, equal, right,
+    )?;
+    push(
+        scope,
+        arena,
+        base,
+        Form::Select {
+            whole,
+            first,
+            equal,
+            second,
+            body,
+        },
+        span,
+    )?;
+    Ok(())
+}
+
+/// A decryption.
+pub fn decrypt<'t>(
+    alloc: Global,
+    scope: &mut Scope<'t>,
+    arena: &mut Arena,
+    span: Span,
+    whole: &SMsg,
+    ty: &'t STy,
+    key: &SMsg,
+) -> Result<(), ScopeFault>
+    requires few { scope.old.count ≤ 100000 }
+    ensures gives { Leads result (run (tested_head (abbreviations scope.old.types) scope.old.held.names span (msg_of whole.now) (ty_of ty.entry.now) (msg_of key.now)) scope.old.count) scope.new.count }
+    ensures nodes { OnOk result (map shape_of arena.new.nodes.items ≡ map shape_of arena.old.nodes.items ++ prefix_at (length scope.old.held.names) (Decrypts (message_in (length scope.old.held.names) scope.old.held.names (msg_of whole.now)) (type_in (length scope.old.held.names) (abbreviations scope.old.types) scope.old.held.names (ty_of ty.entry.now)) (message_in (length scope.old.held.names) scope.old.held.names (msg_of key.now))) (suc (length arena.old.nodes.items)) ∷ []) }
+    ensures len { OnOk result (length arena.new.nodes.items ≡ length arena.old.nodes.items + 1) }
+    ensures places { OnOk result (arena.new.places.items ≡ arena.old.places.items ++ span ∷ []) }
+    ensures names { OnOk result (scope.new.held.names ≡ scope.old.held.names) }
+    ensures noted { OnOk result (scope.new.held.noted ≡ scope.old.held.noted ++ scope.old.held.names ∷ []) }
+    ensures types { OnOk result (scope.new.types ≡ scope.old.types) }
+    ensures few { OnOk result (scope.new.count ≤ 100000) }
+{
+    let base = scope.held.len();
+    let body = here(arena)? + 1;
+    let (whole, ty, key) = read_tested_head(alloc, scope, base, span, whole, ty, key)?;
+    push(
+        scope,
+        arena,
+        base,
+        Form::Decrypt {
+            whole,
+            ty,
+            key,
+            body,
+        },
+        span,
+    )?;
+    Ok(())
+}
+
+/// A check.
+pub fn check(
+    alloc: Global,
+    scope: &mut Scope,
+    arena: &mut Arena,
+    span: Span,
+    whole: &SMsg,
+    nonce: &SMsg,
+) -> Result<(), ScopeFault>
+    requires few { scope.old.count ≤ 100000 }
+    ensures gives { Leads result (run (messages_head scope.old.held.names span (msg_of whole.now) (msg_of nonce.now)) scope.old.count) scope.new.count }
+    ensures nodes { OnOk result (map shape_of arena.new.nodes.items ≡ map shape_of arena.old.nodes.items ++ prefix_at (length scope.old.held.names) (Checks (message_in (length scope.old.held.names) scope.old.held.names (msg_of whole.now)) (message_in (length scope.old.held.names) scope.old.held.names (msg_of nonce.now))) (suc (length arena.old.nodes.items)) ∷ []) }
+    ensures len { OnOk result (length arena.new.nodes.items ≡ length arena.old.nodes.items + 1) }
+    ensures places { OnOk result (arena.new.places.items ≡ arena.old.places.items ++ span ∷ []) }
+    ensures names { OnOk result (scope.new.held.names ≡ scope.old.held.names) }
+    ensures noted { OnOk result (scope.new.held.noted ≡ scope.old.held.noted ++ scope.old.held.names ∷ []) }
+    ensures types { OnOk result (scope.new.types ≡ scope.old.types) }
+    ensures few { OnOk result (scope.new.count ≤ 100000) }
+{
+    let base = scope.held.len();
+    let body = here(arena)? + 1;
+    let (whole, nonce) = read_messages_head(alloc, scope, base, span, whole, nonce)?;
+    push(scope, arena, base, Form::Check { whole, nonce, body }, span)?;
+    Ok(())
+}
+
+/// A begin.
+pub fn begin(
+    alloc: Global,
+    scope: &mut Scope,
+    arena: &mut Arena,
+    span: Span,
+    label: &SMsg,
+) -> Result<(), ScopeFault>
+    requires few { scope.old.count ≤ 100000 }
+    ensures gives { Leads result (run (message_head scope.old.held.names span (msg_of label.now)) scope.old.count) scope.new.count }
+    ensures nodes { OnOk result (map shape_of arena.new.nodes.items ≡ map shape_of arena.old.nodes.items ++ prefix_at (length scope.old.held.names) (Begins (message_in (length scope.old.held.names) scope.old.held.names (msg_of label.now))) (suc (length arena.old.nodes.items)) ∷ []) }
+    ensures len { OnOk result (length arena.new.nodes.items ≡ length arena.old.nodes.items + 1) }
+    ensures places { OnOk result (arena.new.places.items ≡ arena.old.places.items ++ span ∷ []) }
+    ensures names { OnOk result (scope.new.held.names ≡ scope.old.held.names) }
+    ensures noted { OnOk result (scope.new.held.noted ≡ scope.old.held.noted ++ scope.old.held.names ∷ []) }
+    ensures types { OnOk result (scope.new.types ≡ scope.old.types) }
+    ensures few { OnOk result (scope.new.count ≤ 100000) }
+{
+    let base = scope.held.len();
+    let body = here(arena)? + 1;
+    let label = read_message_head(alloc, scope, base, span, label)?;
+    push(scope, arena, base, Form::Begin { label, body }, span)?;
+    Ok(())
+}
+
+/// An end.
+pub fn end(
+    alloc: Global,
+    scope: &mut Scope,
+    arena: &mut Arena,
+    span: Span,
+    label: &SMsg,
+) -> Result<(), ScopeFault>
+    requires few { scope.old.count ≤ 100000 }
+    ensures gives { Leads result (run (message_head scope.old.held.names span (msg_of label.now)) scope.old.count) scope.new.count }
+    ensures nodes { OnOk result (map shape_of arena.new.nodes.items ≡ map shape_of arena.old.nodes.items ++ prefix_at (length scope.old.held.names) (Ends (message_in (length scope.old.held.names) scope.old.held.names (msg_of label.now))) (suc (length arena.old.nodes.items)) ∷ []) }
+    ensures len { OnOk result (length arena.new.nodes.items ≡ length arena.old.nodes.items + 1) }
+    ensures places { OnOk result (arena.new.places.items ≡ arena.old.places.items ++ span ∷ []) }
+    ensures names { OnOk result (scope.new.held.names ≡ scope.old.held.names) }
+    ensures noted { OnOk result (scope.new.held.noted ≡ scope.old.held.noted ++ scope.old.held.names ∷ []) }
+    ensures types { OnOk result (scope.new.types ≡ scope.old.types) }
+    ensures few { OnOk result (scope.new.count ≤ 100000) }
+{
+    let base = scope.held.len();
+    let body = here(arena)? + 1;
+    let label = read_message_head(alloc, scope, base, span, label)?;
+    push(scope, arena, base, Form::End { label, body }, span)?;
+    Ok(())
+}
+
+/// An end many.
+pub fn end_many(
+    alloc: Global,
+    scope: &mut Scope,
+    arena: &mut Arena,
+    span: Span,
+    label: &SMsg,
+) -> Result<(), ScopeFault>
+    requires few { scope.old.count ≤ 100000 }
+    ensures gives { Leads result (run (message_head scope.old.held.names span (msg_of label.now)) scope.old.count) scope.new.count }
+    ensures nodes { OnOk result (map shape_of arena.new.nodes.items ≡ map shape_of arena.old.nodes.items ++ prefix_at (length scope.old.held.names) (EndManys (message_in (length scope.old.held.names) scope.old.held.names (msg_of label.now))) (suc (length arena.old.nodes.items)) ∷ []) }
+    ensures len { OnOk result (length arena.new.nodes.items ≡ length arena.old.nodes.items + 1) }
+    ensures places { OnOk result (arena.new.places.items ≡ arena.old.places.items ++ span ∷ []) }
+    ensures names { OnOk result (scope.new.held.names ≡ scope.old.held.names) }
+    ensures noted { OnOk result (scope.new.held.noted ≡ scope.old.held.noted ++ scope.old.held.names ∷ []) }
+    ensures types { OnOk result (scope.new.types ≡ scope.old.types) }
+    ensures few { OnOk result (scope.new.count ≤ 100000) }
+{
+    let base = scope.held.len();
+    let body = here(arena)? + 1;
+    let label = read_message_head(alloc, scope, base, span, label)?;
+    push(scope, arena, base, Form::EndMany { label, body }, span)?;
+    Ok(())
+}
+
+/// A cast.
+pub fn cast<'t>(
+    alloc: Global,
+    scope: &mut Scope<'t>,
+    arena: &mut Arena,
+    span: Span,
+    whole: &SMsg,
+    ty: &'t STy,
+) -> Result<(), ScopeFault>
+    requires few { scope.old.count ≤ 100000 }
+    ensures gives { Leads result (run (typed_head (abbreviations scope.old.types) scope.old.held.names span (msg_of whole.now) (ty_of ty.entry.now)) scope.old.count) scope.new.count }
+    ensures nodes { OnOk result (map shape_of arena.new.nodes.items ≡ map shape_of arena.old.nodes.items ++ prefix_at (length scope.old.held.names) (Casts (message_in (length scope.old.held.names) scope.old.held.names (msg_of whole.now)) (type_in (length scope.old.held.names) (abbreviations scope.old.types) scope.old.held.names (ty_of ty.entry.now))) (suc (length arena.old.nodes.items)) ∷ []) }
+    ensures len { OnOk result (length arena.new.nodes.items ≡ length arena.old.nodes.items + 1) }
+    ensures places { OnOk result (arena.new.places.items ≡ arena.old.places.items ++ span ∷ []) }
+    ensures names { OnOk result (scope.new.held.names ≡ scope.old.held.names) }
+    ensures noted { OnOk result (scope.new.held.noted ≡ scope.old.held.noted ++ scope.old.held.names ∷ []) }
+    ensures types { OnOk result (scope.new.types ≡ scope.old.types) }
+    ensures few { OnOk result (scope.new.count ≤ 100000) }
+{
+    let base = scope.held.len();
+    let body = here(arena)? + 1;
+    let (whole, ty) = read_typed_head(alloc, scope, base, span, whole, ty)?;
+    push(scope, arena, base, Form::Cast { whole, ty, body }, span)?;
+    Ok(())
+}
+
+/// A new name.
+pub fn fresh<'t>(
+    alloc: Global,
+    scope: &mut Scope<'t>,
+    arena: &mut Arena,
+    span: Span,
+    ty: &'t STy,
+) -> Result<(), ScopeFault>
+    requires few { scope.old.count ≤ 100000 }
+    ensures gives { Leads result (run (new_head (abbreviations scope.old.types) scope.old.held.names span (ty_of ty.entry.now)) scope.old.count) scope.new.count }
+    ensures nodes { OnOk result (map shape_of arena.new.nodes.items ≡ map shape_of arena.old.nodes.items ++ prefix_at (length scope.old.held.names) (Makes (type_in (length scope.old.held.names) (abbreviations scope.old.types) scope.old.held.names (ty_of ty.entry.now))) (suc (length arena.old.nodes.items)) ∷ []) }
+    ensures len { OnOk result (length arena.new.nodes.items ≡ length arena.old.nodes.items + 1) }
+    ensures places { OnOk result (arena.new.places.items ≡ arena.old.places.items ++ span ∷ []) }
+    ensures names { OnOk result (scope.new.held.names ≡ scope.old.held.names) }
+    ensures noted { OnOk result (scope.new.held.noted ≡ scope.old.held.noted ++ scope.old.held.names ∷ []) }
+    ensures types { OnOk result (scope.new.types ≡ scope.old.types) }
+    ensures few { OnOk result (scope.new.count ≤ 100000) }
+{
+    let base = scope.held.len();
+    let body = here(arena)? + 1;
+    let ty = read_new_head(alloc, scope, base, span, ty)?;
+    push(scope, arena, base, Form::Fresh { ty, body }, span)?;
+    Ok(())
+}
