@@ -1,3 +1,4 @@
 pub mod Refusals
+pub mod Reading
 pub mod Judging
 pub mod Ending

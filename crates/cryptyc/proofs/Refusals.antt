@@ -215,6 +215,10 @@ pub refused_long : (others : List ℕ) (r : Refusal) (result : Result Answer Sto
 refused_long others r (Ok a) n o s is = λ bytes l. checks_to bytes a.output.items a.status is.0 (line_of bytes a.output.items r 2 None (decimal (limit + 1)) (too_long l) n o s (is.1 ∙ no_place bytes others r o))
 refused_long others r (Err e) n o s is = tt
 
+pub refused_as : (bytes : List ℕ) (r : Refusal) (result : Result Answer Stop) → Refuses bytes r.number r.offset r.shown.items → IfOk result (λ a. (a.status ≡ Refused) × (a.output.items ≡ refused_text bytes r)) → IfOk result (λ a. ChecksTo bytes a.status a.output.items)
+refused_as bytes r (Ok a) h is = checks_to bytes a.output.items a.status is.0 (r, h, is.1)
+refused_as bytes r (Err e) h is = tt
+
 pub answers_long : (left : Option (List ℕ)) (result : Result Answer Stop) → IfSome left (λ bytes. limit < length bytes) → IfOk result (λ a. (bytes : List ℕ) → limit < length bytes → ChecksTo bytes a.status a.output.items) → IfOk result (λ a. IfSome left (λ bytes. ChecksTo bytes a.status a.output.items))
 answers_long None (Ok a) long is = tt
 answers_long (Some bytes) (Ok a) long is = is bytes long

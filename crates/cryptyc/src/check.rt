@@ -14,7 +14,7 @@ use crate::status::Status;
 use spi_infer::{Inferred, infer};
 use spi_io::{Source, Taken, take_all};
 use spi_report::{Refusal, yes};
-use spi_scope::File;
+use spi_scope::{File, faults_stand_at_nodes};
 use spi_term::Process;
 use std::alloc::{AllocError, Global};
 
@@ -61,6 +61,7 @@ fn checked(alloc: Global, bytes: &[u8]) -> Result<Answer, Stop>
     ensures answered { IfOk result (λ answer. IsAnswered answer.status × (answer.status ≢ Status.Usage)) }
     ensures err { OnErr result (result ≡ Err Stop.NoMemory) }
 {
+    faults_stand_at_nodes();
     match read(alloc, bytes) {
         Ok(file) => judged(alloc, &file),
         Err(Unread::Refused(r)) => refusal(alloc, bytes, &r),

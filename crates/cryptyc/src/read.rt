@@ -87,7 +87,11 @@ fn read_tokens(alloc: Global, bytes: &[u8], tokens: &[Token]) -> Result<File, Un
     match parse(alloc, tokens, bytes.len() as u32) {
         Ok(tree) => read_tree(alloc, bytes, &tree),
         Err(ParseFault::Syntax { token }) => Err(unspelled(alloc, 20, start(bytes, tokens, token))),
-        Err(ParseFault::TooDeep { token }) => Err(unspelled(alloc, 21, start(bytes, tokens, token))),
+        Err(ParseFault::TooDeep { token }) => Err(unspelled(
+            alloc,
+            21,
+            start(bytes, tokens, token),
+        )),
         Err(ParseFault::NoMemory) => Err(Unread::NoMemory),
     }
 }
@@ -118,7 +122,8 @@ fn read_tree(alloc: Global, bytes: &[u8], tree: &Tree) -> Result<File, Unread>
 
 /// The refusal of a fault of scopes.
 fn out_of_scope(alloc: Global, fault: ScopeFault) -> Unread
-    ensures { Tells (scope_number fault) (span_from fault) (scope_shown fault) result }
+    ensures tells { Tells (scope_number fault) (span_from fault) (scope_shown fault) result }
+    ensures memory { fault ≡ ScopeFault.NoMemory → result ≡ Unread.NoMemory }
 {
     match fault {
         ScopeFault::UnknownName { span, word } => shown_word(alloc, 30, span, &word),

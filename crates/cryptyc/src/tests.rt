@@ -14,11 +14,7 @@ const CHECKED: [(&[u8], &[u8], u8); 15] = [
     (b"process new (x: Un); begin x; end x; stop", b"yes\n", 0),
     (b"process new (x: Un); end x; stop", b"no\n", 1),
     (b"free a; process cast a is (x: Un); stop", b"yes\n", 0),
-    (
-        b"process stop stop",
-        b"refused: 20 Syntax at 1:14\n",
-        2,
-    ),
+    (b"process stop stop", b"refused: 20 Syntax at 1:14\n", 2),
     (
         b"process out a a",
         b"refused: 30 UnknownName at 1:13: a\n",

@@ -1,0 +1,64 @@
+-- What reading bytes answers on the tokens and on the tree.
+use Rattle.std.proofs.Common.{◌≡◌, ◌⊎◌, inl, inr, ℕ, ◌+◌, ◌≤◌, Bool, true, false, List, ◌++◌, ◌∷◌, length, map, Option, Some, None, if◌then◌else◌, sym, ap, ◌∙◌, arith, length-append}
+use Rattle.std.specs.Prelude.{nat_lt, is_some}
+use Rattle.std.proofs.lemmas.List.{length-map}
+use Rattle.spi_lex.specs.declared.token.Kind.{Kind}
+use Rattle.spi_lex.specs.declared.token.Token.{Token}
+use Rattle.spi_lex.specs.Lexing.{kinds_of}
+use Rattle.spi_tree.specs.Trees as t
+use Rattle.spi_parse.specs.Formed.{IsFile, whole_file}
+use Rattle.spi_parse.specs.Exact.{IsSyntaxAt, IsDeepAt}
+use Rattle.spi_scope.specs.declared.fault.ScopeFault.{ScopeFault}
+use Rattle.spi_scope.specs.declared.fault.ScopeFault.TheVariants as scope
+use Rattle.spi_scope.specs.Scope.{number_of, type_of}
+use Rattle.spi_scope.specs.Points.{Point, uses_name, uses_type, declares_name, declares_type, ends_message, ends_type, adds, starts_step, fault_at}
+use Rattle.spi_scope.specs.First.{HasFirst}
+use Rattle.spi_scope.specs.FaultPlaces.{span_from}
+use Rattle.cryptyc.specs.declared.read.Unread.{Unread}
+use Rattle.cryptyc.specs.declared.read.Unread.TheVariants as unread
+use Rattle.cryptyc.specs.Reading.{IsUnread, Tells}
+use Rattle.cryptyc.specs.Spelled.{IsTreeOf}
+use Rattle.cryptyc.specs.Answer.{scope_number, scope_shown, out_of_scope}
+use Rattle.cryptyc.proofs.Refusals.{unread_as}
+
+-- a front of the tokens is no longer than they are
+front : (tokens : List Token) (pre rest : List Kind) (i : ℕ) → kinds_of tokens ≡ pre ++ rest → length pre ≡ i → i ≤ length tokens
+front tokens pre rest i e p =
+    let same = length-map tokens (λ (token : Token). token.kind) in
+    let both = length-append pre rest in
+    let cut = ap length e in
+    omega (arith, same, both, cut, p)
+
+pub syntax_within : (tokens : List Token) (i : ℕ) → IsSyntaxAt whole_file IsFile (kinds_of tokens) i → i ≤ length tokens
+syntax_within tokens i at = front tokens at.pre at.rest i at.split at.place
+
+pub deep_within : (tokens : List Token) (i : ℕ) → IsDeepAt whole_file IsFile (kinds_of tokens) i → i ≤ length tokens
+deep_within tokens i at = front tokens at.pre (at.token ∷ at.rest) i at.split at.place
+
+-- what is wrong at a point is never a want of memory
+chosen : (b : Bool) (fault : ScopeFault) → ¬ (fault ≡ scope.NoMemory) → ¬ ((if b then None else Some fault) ≡ Some scope.NoMemory)
+chosen true fault other e = absurd (cc)
+chosen false fault other e = other (cc)
+
+taken : (b : Bool) (fault : ScopeFault) → ¬ (fault ≡ scope.NoMemory) → ¬ ((if b then Some fault else None) ≡ Some scope.NoMemory)
+taken true fault other e = other (cc)
+taken false fault other e = absurd (cc)
+
+never_wanting : (c : ℕ) (p : Point) → ¬ (fault_at c p ≡ Some scope.NoMemory)
+never_wanting c (uses_name xs w) = chosen (is_some (number_of xs w.word)) _ (λ e. cc)
+never_wanting c (uses_type ts w) = chosen (is_some (type_of ts w.word)) _ (λ e. cc)
+never_wanting c (declares_name xs w) = taken (is_some (number_of xs w.word)) _ (λ e. cc)
+never_wanting c (declares_type ts w) = taken (is_some (type_of ts w.word)) _ (λ e. cc)
+never_wanting c (ends_message n s) = taken (nat_lt 200 n) _ (λ e. cc)
+never_wanting c (ends_type n s) = taken (nat_lt 1000 n) _ (λ e. cc)
+never_wanting c (adds n s) = taken (nat_lt 100000 (c + n)) _ (λ e. cc)
+never_wanting c (starts_step i n s) = taken (nat_lt 10000 i) _ (λ e. cc)
+
+pub first_is_fault : (tree : t.File) (fault : ScopeFault) → HasFirst tree fault → ¬ (fault ≡ scope.NoMemory)
+first_is_fault tree fault first e = never_wanting _ first.at (first.wrong ∙ ap Some e)
+
+-- the refusal of a fault of scopes is one of the bytes
+pub unscoped : (bytes : List ℕ) (tree : t.File) (fault : ScopeFault) (u : Unread) → IsTreeOf bytes tree → (fault ≡ scope.NoMemory) ⊎ HasFirst tree fault
+    → (fault ≡ scope.NoMemory → u ≡ unread.NoMemory) → Tells (scope_number fault) (span_from fault) (scope_shown fault) u → IsUnread bytes u
+unscoped bytes tree fault u is (inl wanting) memory tells = rw (memory wanting) tt
+unscoped bytes tree fault u is (inr first) memory tells = unread_as bytes (scope_number fault) (span_from fault) (scope_shown fault) u (out_of_scope is first) tells
