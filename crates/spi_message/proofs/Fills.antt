@@ -1,5 +1,5 @@
 -- Messages by their numbers, and messages with values for their indices.
-use Rattle.std.proofs.Common.{◌≡◌, ℕ, zero, suc, ◌+◌, ◌<◌, ◌≤◌, ◌^◌, min, List, [], ◌∷◌, map, Option, Some, None, slice_get, length, refl, sym, ap, subst, ◌∙◌, arith, Result, Ok, Err, IfOk}
+use Rattle.std.proofs.Common.{◌≡◌, ℕ, zero, suc, ◌+◌, ◌<◌, ◌≤◌, ◌^◌, List, [], ◌∷◌, Some, None, slice_get, length, refl, sym, ap, ◌∙◌, arith, Result, Ok, Err, IfOk}
 use Rattle.std.specs.Prelude.{Bool, true, false, ◌-◌, nat_lt, if◌then◌else◌, option_map}
 use Rattle.spi_term.specs.Term.{Message, bound, name, unit, pair, in_left, in_right, enc, hash, message_size}
 use Rattle.spi_intern.specs.Table.{KeepsAll}
@@ -8,8 +8,7 @@ use Rattle.spi_intern.specs.Given.{IsOverGiven}
 use Rattle.spi_intern.specs.declared.messages.MsgId.{MsgId}
 use Rattle.spi_intern.specs.declared.messages.MsgPart.{MsgPart}
 use Rattle.spi_intern.specs.declared.messages.MsgPart.TheVariants.{Bound, Name, Unit as NoParts, Pair, Inl, Inr, Enc, Hash}
-use Rattle.spi_intern.proofs.Lists.{some_one, below_get, get_below}
-use Rattle.spi_intern.proofs.Tables.{keeps_more}
+use Rattle.spi_intern.proofs.Lists.{below_get, get_below}
 use Rattle.spi_message.specs.Filling.{last_but, value_of, or_bound, fill, values_of, AreBelow, IsDepth, FillsMessage}
 
 pub at_message : (ms : List Message) (id : MsgId) {m : Message} → slice_get ms id.place ≡ Some m → message_at ms id ≡ m

@@ -11,7 +11,6 @@ use Rattle.spi_intern.specs.Table.{KeepsAll, TellsAll, tells_none, tells_next}
 use Rattle.spi_intern.specs.Kinds.{Kind}
 use Rattle.spi_intern.specs.Typed.{or_un, kind_at}
 use Rattle.spi_intern.specs.Atoms.{SaysAtom, says_end, says_check, says_many, IdsMean}
-use Rattle.spi_intern.specs.Messages.{message_at, or_unit}
 use Rattle.spi_intern.specs.Meaning.{KindMeans, means_un, means_unit, means_pair, means_sum, means_key, means_nonce, Means, Keeps}
 use Rattle.spi_intern.specs.Given.{IsGiven, AreGiven}
 use Rattle.spi_intern.specs.Lent.{SaysTy, says_un, says_unit, says_pair, says_sum, says_key, says_nonce}
@@ -22,7 +21,7 @@ use Rattle.spi_intern.specs.declared.atoms.AtomId.TheVariants.{End, Check, Many}
 use Rattle.spi_intern.specs.declared.store.Store.{Store}
 use Rattle.spi_intern.specs.declared.store.TyPart.TheVariants as Part
 use Rattle.spi_intern.proofs.Lists.{get_below}
-use Rattle.spi_intern.proofs.Tables.{tells_map, tells_push, keeps_more}
+use Rattle.spi_intern.proofs.Tables.{tells_map, tells_push}
 use Rattle.spi_intern.proofs.Meanings.{means_keeps}
 use Rattle.spi_message.specs.Filling.{fill, values_of, atom_at, message_in, AreBelow, AtomsAreBelow, IsDepth, FillsMessage, FillsAtom, FillsAtoms, FillsTy, kind_size, ty_size}
 use Rattle.spi_message.proofs.Fills.{at_message, message_keeps, below_keeps, values_keep}

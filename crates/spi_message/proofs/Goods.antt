@@ -1,8 +1,7 @@
 -- Good types over shared terms.
-use Rattle.std.proofs.Common.{◌≡◌, ℕ, zero, suc, ◌+◌, ◌<◌, ◌≤◌, ◌^◌, Bool, true, false, ◌&&◌, List, [], ◌∷◌, ◌++◌, map, drop, get_or, Some, length, length-append, refl, sym, ap, subst, ◌∙◌, arith, Result, Ok, Err, IfOk}
+use Rattle.std.proofs.Common.{◌≡◌, ℕ, zero, suc, ◌+◌, ◌<◌, ◌≤◌, Bool, true, false, ◌&&◌, List, [], ◌∷◌, ◌++◌, map, drop, get_or, Some, length, length-append, refl, sym, ap, subst, ◌∙◌, arith, Result, Ok, Err, IfOk}
 use Rattle.std.specs.Prelude.{slice_get}
-use Rattle.std.proofs.lemmas.Bool.{false≢true}
-use Rattle.spi_term.specs.Term.{Message, name, Atom, ends, checks, many, Effect, Ty, un, unit_ty, pair_ty, sum_ty, key, nonce}
+use Rattle.spi_term.specs.Term.{Message, name, Effect, Ty, un, unit_ty, pair_ty, sum_ty, key}
 use Rattle.spi_term.specs.Counts.{SameEffect}
 use Rattle.spi_term.specs.Substitution.{put, atom_map, effect_map, ty_map, ty_put}
 use Rattle.spi_term.proofs.Counting.{same_sym}
@@ -10,7 +9,7 @@ use Rattle.spi_effect.proofs.Laws.{same_map, same_within}
 use Rattle.spi_rules.specs.Environment.{Env}
 use Rattle.spi_rules.proofs.Good.{good_within}
 use Rattle.spi_intern.specs.Meaning.{Means, Keeps}
-use Rattle.spi_intern.specs.Messages.{Says, says_name, message_at}
+use Rattle.spi_intern.specs.Messages.{says_name, message_at}
 use Rattle.spi_intern.specs.Given.{IsGiven, IsOverGiven}
 use Rattle.spi_intern.specs.Typed.{kind_at}
 use Rattle.spi_intern.specs.declared.messages.MsgId.{MsgId}
@@ -26,10 +25,10 @@ use Rattle.spi_message.specs.Filling.{fill, filled, AllStay, values_of, atom_at,
 use Rattle.spi_message.specs.Asking.{IsEnvironment, IsTyped, IsLabelled, IsGoodAtom, IsAskedAtoms, AreGood, IsAskedGood, IsGood}
 use Rattle.spi_message.specs.Tests.{typed, labelled, good_atom, good_effect, good}
 use Rattle.spi_message.proofs.Deciding.{good_effect_true, good_effect_from, good-pair, good_of_sum}
-use Rattle.spi_message.proofs.Fills.{at_message, message_keeps, below_keeps, values_keep, all_below_keeps, own_depth}
-use Rattle.spi_message.proofs.FillsTypes.{TwoTys, OneTy, NonceTy, given_keeps, size_of_kept, atom_at_keeps, atoms_below_keep, get_there}
+use Rattle.spi_message.proofs.Fills.{at_message, message_keeps, below_keeps, values_keep, all_below_keeps}
+use Rattle.spi_message.proofs.FillsTypes.{TwoTys, OneTy, NonceTy, given_keeps, size_of_kept, atom_at_keeps}
 use Rattle.spi_message.proofs.Standing.{stand_keeps, stand_push, environment_keeps, stand_length}
-use Rattle.spi_message.proofs.Typings.{put_filled, filled_none, none_stay, stay_push}
+use Rattle.spi_message.proofs.Typings.{put_filled, none_stay, stay_push}
 use Rattle.spi_message.proofs.Questions.{below_more, values_push}
 
 -- a message that was filled

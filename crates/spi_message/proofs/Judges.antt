@@ -4,7 +4,7 @@ use Rattle.std.specs.Prelude.{slice_get, replicate}
 use Rattle.std.specs.Option.{option_to_list}
 use Rattle.spi_term.specs.Term.{Message, Ty, un}
 use Rattle.spi_term.specs.Substitution.{ty_put}
-use Rattle.spi_term.specs.Spelling.{ty_nodes, effect_nodes}
+use Rattle.spi_term.specs.Spelling.{ty_nodes}
 use Rattle.spi_term.specs.Term as Term
 use Rattle.spi_rules.specs.Environment.{Env, untrusted}
 use Rattle.spi_rules.specs.Messages.{HasType, IsLabel}

@@ -1,10 +1,10 @@
 -- Answers to questions over shared terms, form by form.
-use Rattle.std.proofs.Common.{◌≡◌, ℕ, zero, suc, ◌+◌, ◌<◌, Bool, true, false, ◌&&◌, ◌||◌, List, [], ◌∷◌, ◌++◌, Option, Some, None, length, refl, sym, ap, subst, ◌∙◌, arith, Result, Ok, Err, IfOk}
-use Rattle.std.specs.Prelude.{slice_get, nat_lt, ltb, IfSome, IfNone, nat_eq, ◌↔◌}
+use Rattle.std.proofs.Common.{◌≡◌, ℕ, zero, suc, ◌<◌, Bool, true, false, ◌&&◌, ◌||◌, List, [], ◌∷◌, ◌++◌, Option, Some, None, length, refl, sym, ap, subst, ◌∙◌, arith, Result, Ok, Err, IfOk}
+use Rattle.std.specs.Prelude.{slice_get, nat_lt, IfSome, IfNone, nat_eq}
 use Rattle.std.proofs.lemmas.Bool.{false≢true, eqb-true, eq-eqb}
 use Rattle.spi_term.specs.Term.{Message, bound, name, unit, pair, in_left, in_right, enc, hash, Ty, un, unit_ty, pair_ty, sum_ty, key, nonce}
 use Rattle.spi_term.specs.SameTy.{SameTy}
-use Rattle.spi_term.specs.Substitution.{put, ty_map, ty_put}
+use Rattle.spi_term.specs.Substitution.{ty_map, ty_put}
 use Rattle.spi_effect.specs.Made.{same_ty}
 use Rattle.spi_effect.proofs.Made.{same_sound, same_complete}
 use Rattle.spi_rules.specs.Environment.{Env}
@@ -22,8 +22,7 @@ use Rattle.spi_intern.specs.declared.store.TyPart.TheVariants.{Un, Unit as NoPar
 use Rattle.spi_intern.proofs.Lists.{truths}
 use Rattle.spi_intern.proofs.Meanings.{means_keeps}
 use Rattle.spi_intern.proofs.Telling.{types_tell}
-use Rattle.spi_message.specs.Judging.{StandFor}
-use Rattle.spi_message.specs.Filling.{fill, filled, AllStay, values_of, AreBelow, IsDepth, FillsTy}
+use Rattle.spi_message.specs.Filling.{fill, filled, AllStay, values_of, AreBelow, FillsTy}
 use Rattle.spi_message.specs.Asking.{IsEnvironment, IsAsked, IsTyped, IsLabelled, IsKeyFor, IsNoKey, IsPayload, IsNoPayload}
 use Rattle.spi_message.specs.Tests.{is_un, is_unit, as_name, key_in, key_of, by_key, typed, labelled}
 use Rattle.spi_message.proofs.Deciding.{and_false, key_alone}

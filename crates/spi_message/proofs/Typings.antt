@@ -1,41 +1,18 @@
 -- Typing over shared terms is typing in each environment that the numbers stand for.
-use Rattle.std.proofs.Common.{◌≡◌, ℕ, zero, suc, ◌+◌, ◌-◌, ◌<◌, ◌≤◌, Bool, true, false, ◌&&◌, ◌||◌, List, [], ◌∷◌, ◌++◌, map, Option, Some, None, length, refl, sym, ap, subst, ◌∙◌, arith, ⊎_elim, ◌⊎◌, inl, inr, Result, Ok, Err, IfOk}
-use Rattle.std.specs.Prelude.{slice_get, nat_lt, ltb, if◌then◌else◌, IfSome, IfNone, ⊤, ◌==◌, ◌↔◌, nat_eq}
-use Rattle.std.proofs.lemmas.Bool.{lt-ltb, le-ltb, eq-eqb, ne_eqb, ltb-true, ltb-false, eqb-true, false≢true}
-use Rattle.spi_term.specs.Term.{Message, bound, name, unit, pair, in_left, in_right, enc, hash, Atom, ends, checks, many, Effect, Ty, un, unit_ty, pair_ty, sum_ty, key, nonce}
-use Rattle.spi_term.specs.SameTy.{SameTy}
-use Rattle.spi_term.specs.Substitution.{put, effect_map, ty_map, ty_put}
+use Rattle.std.proofs.Common.{◌≡◌, ℕ, zero, suc, ◌-◌, ◌<◌, ◌≤◌, Bool, true, false, List, [], ◌∷◌, ◌++◌, Option, Some, None, length, refl, sym, ap, subst, ◌∙◌, arith, ⊎_elim, ◌⊎◌, inl, inr}
+use Rattle.std.specs.Prelude.{slice_get, nat_lt, if◌then◌else◌, ⊤}
+use Rattle.std.proofs.lemmas.Bool.{lt-ltb, le-ltb, eq-eqb, ne_eqb, ltb-true, ltb-false}
+use Rattle.spi_term.specs.Term.{Message, bound, name, unit, pair, in_left, in_right, enc, hash, Ty}
+use Rattle.spi_term.specs.Substitution.{put, ty_map, ty_put}
 use Rattle.spi_term.specs.Names.{MessageOver}
 use Rattle.spi_term.proofs.Terms.{put_closed}
 use Rattle.spi_term.proofs.Maps.{fixed_ty, joined_ty, each_ty}
-use Rattle.spi_effect.specs.Made.{same_ty}
-use Rattle.spi_effect.proofs.Made.{same_sound, same_complete}
 use Rattle.spi_rules.specs.Environment.{Env}
 use Rattle.spi_rules.specs.Messages.{HasType, msg_name, msg_unit, msg_unit_un, msg_pair, msg_pair_un, msg_inl, msg_inl_un, msg_inr, msg_inr_un, msg_enc, msg_enc_un, msg_hash, msg_cast, IsLabel, label_name, label_unit, label_pair, label_inl, label_inr, label_enc, label_hash}
 use Rattle.spi_rules.proofs.Typing.{at_below}
-use Rattle.spi_intern.specs.Messages.{Says, says_bound, says_name, says_unit, says_pair, says_left, says_right, says_enc, says_hash, message_at}
-use Rattle.spi_intern.specs.Meaning.{Means, Keeps, NoneTwice}
-use Rattle.spi_intern.specs.Given.{IsGiven}
-use Rattle.spi_intern.specs.Lent.{SaysTy, says_un, says_unit, says_pair as says_pair_ty, says_sum, says_key, says_nonce}
-use Rattle.spi_intern.specs.declared.messages.MsgId.{MsgId}
-use Rattle.spi_intern.specs.declared.messages.MsgPart.{MsgPart}
-use Rattle.spi_intern.specs.declared.messages.MsgPart.TheVariants.{Name}
-use Rattle.spi_intern.specs.declared.types.TyId.{TyId}
-use Rattle.spi_intern.specs.declared.atoms.AtomId.{AtomId}
-use Rattle.spi_intern.specs.declared.store.Store.{Store}
-use Rattle.spi_intern.specs.declared.store.TyPart.{TyPart}
-use Rattle.spi_intern.specs.declared.store.TyPart.TheVariants as Part
-use Rattle.spi_intern.proofs.Meanings.{means_keeps}
-use Rattle.spi_intern.proofs.Telling.{types_tell}
-use Rattle.spi_message.specs.Judging.{StandFor}
-use Rattle.spi_message.specs.Filling.{last_but, value_of, or_bound, fill, filled, AllStay, values_of, AreBelow, IsDepth, FillsTy}
-use Rattle.spi_message.specs.Asking.{IsEnvironment, IsAsked, IsTyped, IsLabelled, IsKeyFor, IsNoKey, IsPayload, IsNoPayload}
-use Rattle.spi_message.specs.Tests.{is_un, is_unit, as_name, as_pair, as_left, as_right, key_in, key_of, by_key, typed, labelled}
+use Rattle.spi_message.specs.Filling.{last_but, value_of, or_bound, fill, filled, AllStay}
+use Rattle.spi_message.specs.Tests.{typed}
 use Rattle.spi_message.proofs.Deciding.{typed_true}
-use Rattle.spi_message.proofs.Fills.{message_keeps, below_keeps, values_keep, all_below_keeps, message_there, Tells}
-use Rattle.spi_message.proofs.FillsTypes.{TwoTys, OneTy, given_keeps}
-use Rattle.spi_message.proofs.Standing.{stand_keeps, stand_at, stand_none_at, environment_keeps, stand_length}
-use denote.Ref.{Bor}
 
 -- a message that has a type, or is a label, has no loose index
 mutual

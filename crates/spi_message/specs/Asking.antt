@@ -1,5 +1,5 @@
 -- Questions over shared terms: what is asked for, and what is answered of each environment that the numbers stand for.
-use Rattle.std.specs.Prelude.{◌≡◌, ℕ, ◌+◌, ◌<◌, ◌^◌, Bool, List, map, length, Some, None}
+use Rattle.std.specs.Prelude.{◌≡◌, ◌+◌, ◌<◌, ◌^◌, Bool, List, map, length, Some, None}
 use Rattle.spi_term.specs.Term.{Message, Ty, key}
 use Rattle.spi_term.specs.Substitution.{atom_map, effect_map}
 use Rattle.spi_rules.specs.Environment.{Env}
@@ -8,7 +8,6 @@ use Rattle.spi_intern.specs.declared.types.TyId.{TyId}
 use Rattle.spi_intern.specs.declared.atoms.AtomId.{AtomId}
 use Rattle.spi_intern.specs.declared.store.Store.{Store}
 use Rattle.spi_intern.specs.Given.{IsGiven}
-use Rattle.spi_intern.specs.Messages.{message_at}
 use Rattle.spi_intern.specs.Typed.{kind_at}
 use Rattle.spi_intern.specs.Meaning.{Means}
 use Rattle.spi_message.specs.Judging.{StandFor}

@@ -1,5 +1,5 @@
 -- Messages for several binders at once: the machine by which a type under binders is read without being opened.
-use Rattle.std.specs.Prelude.{◌≡◌, ℕ, suc, ◌+◌, ◌-◌, ◌<◌, ◌^◌, min, nat_lt, if◌then◌else◌, List, [], ◌∷◌, map, length, Option, Some, None, slice_get}
+use Rattle.std.specs.Prelude.{◌≡◌, ℕ, suc, ◌+◌, ◌-◌, ◌<◌, ◌^◌, min, nat_lt, if◌then◌else◌, List, map, length, Option, Some, None, slice_get}
 use Rattle.spi_term.specs.Term.{Message, bound, name, unit, pair, in_left, in_right, enc, hash, Atom, ends, checks, many, Ty, un, unit_ty, pair_ty, sum_ty, key, nonce}
 use Rattle.spi_term.specs.Substitution.{put, atom_map, effect_map, ty_map}
 use Rattle.spi_intern.specs.declared.messages.MsgId.{MsgId}

@@ -1,5 +1,5 @@
 -- What an intruder learns from a run.
-use Rattle.std.specs.Prelude.{zero, slice_get, ℕ, suc, ◌+◌, ◌≤◌, List, [], ◌∷◌, ◌++◌, Option, Some}
+use Rattle.std.specs.Prelude.{zero, slice_get, ℕ, suc, ◌≤◌, List, [], ◌∷◌, ◌++◌, Option, Some}
 use Rattle.spi_run.specs.Opponent.{IsOpponent}
 use Rattle.spi_run.specs.Reduction.{Configuration, Step, act, talk, Event, Runs, runs_none, runs_silent, runs_event}
 use Rattle.spi_run.specs.Safety.{beside}

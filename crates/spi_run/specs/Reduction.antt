@@ -1,5 +1,5 @@
 -- Configurations, steps and runs.
-use Rattle.std.specs.Prelude.{◌≡◌, ℕ, suc, ◌+◌, List, [], ◌∷◌, ◌++◌, Option, Some, None, slice_set}
+use Rattle.std.specs.Prelude.{◌≡◌, ℕ, suc, List, [], ◌∷◌, ◌++◌, Option, Some, None, slice_set}
 use Rattle.spi_term.specs.Lists.{At}
 use Rattle.spi_term.specs.Substitution.{process_put, process_put_two}
 use Rattle.spi_term.specs.Term.{Message, name, pair, in_left, in_right, enc, Ty, Process, send, recv, serve, split, select, branch, decrypt, check, begin, end, end_many, cast, fresh, par, stop}

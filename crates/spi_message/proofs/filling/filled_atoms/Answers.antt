@@ -1,7 +1,6 @@
-use Rattle.std.proofs.Common.{refl}
 use Rattle.std.proofs.lemmas.List.{take_more}
 use Rattle.spi_intern.proofs.Meanings.{terms_same, terms_more}
-use Rattle.spi_message.proofs.Fills.{all_below_keeps, below_keeps}
+use Rattle.spi_message.proofs.Fills.{all_below_keeps}
 use Rattle.spi_message.proofs.FillsTypes.{atoms_none, atoms_next, atoms_below_keep, get_there}
 use Rattle.spi_message.proofs.filling.filled_atoms.Goals as goal
 

@@ -1,4 +1,3 @@
-use Rattle.spi_intern.proofs.Meanings.{means_keeps}
 use Rattle.spi_message.proofs.Fills.{below_keeps}
 use Rattle.spi_message.proofs.Standing.{environment_keeps}
 use Rattle.spi_message.proofs.Questions.{asked_alone}
