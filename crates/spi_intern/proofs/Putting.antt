@@ -13,7 +13,7 @@ use Rattle.spi_intern.specs.declared.types.TyNode.TheVariants.{Pair, Sum, Key, N
 use Rattle.spi_intern.specs.declared.atoms.AtomId.{AtomId}
 use Rattle.spi_intern.specs.declared.store.Store.{Store}
 use Rattle.spi_intern.proofs.MessageLaws.{says_said}
-use Rattle.spi_intern.proofs.Meanings.{made_pair, made_sum, made_key, made_nonce, means_keeps, ids_keep}
+use Rattle.spi_intern.proofs.Meanings.{made_pair, made_sum, made_key, made_nonce, ids_keep}
 use Rattle.spi_intern.proofs.Counting.{cut_means}
 
 pub put_message : {E : Type 0} (ms ns : List Message) (p : MsgPart) (r : Result MsgId E) → IfOk r (λ id. slice_get ns id.place ≡ Some (said ms p)) → IfOk r (λ id. (n : Message) → Says ms p n → slice_get ns id.place ≡ Some n)

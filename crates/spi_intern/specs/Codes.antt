@@ -1,7 +1,7 @@
 -- A code of messages, by which a proof tells them apart: that of a type which holds the message.
 use Rattle.std.specs.Prelude.{List, [], ◌∷◌, refl}
 use Rattle.std.specs.Coded.{Coded, code_by}
-use Rattle.spi_term.specs.Term.{Message, unit, ends, checks, many, Ty, un, unit_ty, pair_ty, sum_ty, key, nonce}
+use Rattle.spi_term.specs.Term.{Message, unit, ends, Ty, nonce}
 use Rattle.spi_term.specs.Codes.{coded_types}
 
 abbrev pub held : Message → List Ty
