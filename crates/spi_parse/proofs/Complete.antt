@@ -1,8 +1,7 @@
 -- What is spelled is read: by the flags of its tokens, or without limits.
-use Rattle.std.proofs.Common.{◌≡◌, ℕ, zero, suc, ◌+◌, ◌==◌, ◌≤◌, Bool, true, false, cond, List, [], ◌∷◌, ◌++◌, map, Option, Some, None, Result, Ok, Err, codes, refl, sym, ap, subst, ◌∙◌, ◌⊎◌, inl, inr, arith}
+use Rattle.std.proofs.Common.{◌≡◌, ℕ, zero, suc, ◌+◌, ◌==◌, Bool, true, false, List, [], ◌∷◌, map, Option, Some, None, Ok, refl, sym, ap, subst, ◌∙◌, ◌⊎◌, inl, inr, arith}
 use Rattle.std.specs.Prelude.{nat_lt}
 use Rattle.spi_text.specs.declared.lines.Span.{Span}
-use Rattle.spi_lex.specs.declared.token.Kind.{Kind}
 use Rattle.spi_lex.specs.declared.token.Kind.TheVariants as K
 use Rattle.spi_lex.specs.declared.token.Reserved.{Reserved}
 use Rattle.spi_lex.specs.declared.token.Reserved.TheVariants as word
@@ -10,13 +9,13 @@ use Rattle.spi_lex.specs.declared.token.Mark.{Mark}
 use Rattle.spi_lex.specs.declared.token.Mark.TheVariants as mark
 use Rattle.spi_tree.specs.declared.tree.SWord.{SWord}
 use Rattle.spi_tree.specs.Trees as t
-use Rattle.spi_tree.specs.Pieces.{Piece, opens, cell, closes, a_mark, a_reserved, a_number, a_word, begins, ends, message_limit, process_limit, derivation_limit, msg_pieces, msgs_pieces, atom_pieces, atoms_pieces, effect_pieces, ty_pieces, fields_pieces, last_pieces, named_pieces, binder_pieces, Place, in_seq, at_level, nesting_of, level_of, below, beside, proc_pieces, words_pieces, decl_pieces, decls_pieces, step_pieces, steps_pieces, deriv_pieces, derivs_pieces, opponent_pieces, schedule_pieces, derivation_pieces, file_pieces}
+use Rattle.spi_tree.specs.Pieces.{Piece, opens, cell, closes, a_mark, a_reserved, a_number, a_word, ends, message_limit, process_limit, derivation_limit, msg_pieces, msgs_pieces, atom_pieces, atoms_pieces, effect_pieces, ty_pieces, fields_pieces, last_pieces, named_pieces, binder_pieces, in_seq, at_level, proc_pieces, words_pieces, decl_pieces, decls_pieces, steps_pieces, deriv_pieces, opponent_pieces, schedule_pieces, derivation_pieces, file_pieces}
 use Rattle.spi_tree.specs.Formed.{IsMsg, AreMsgs, IsAtom, AreAtoms, IsTy, AreFields, IsLast, IsProc, IsDeclared, AreDeclared, IsOpponent}
 use Rattle.spi_parse.specs.Rules.{arity_of, writes_effect}
-use Rattle.spi_parse.specs.Bare.{nowhere, bare_word, bare_msg, bare_msgs, bare_atom, bare_ty, bare_fields, bare_last, bare_proc, bare_decl, bare_step, bare_written, bare_deriv, bare_derivs, bare_opponent, bare_schedule, bare_derivation, bare_file}
+use Rattle.spi_parse.specs.Bare.{nowhere, bare_word, bare_msg, bare_msgs, bare_atom, bare_ty, bare_fields, bare_last, bare_proc, bare_decl, bare_step, bare_deriv, bare_opponent, bare_schedule, bare_derivation, bare_file}
 use Rattle.spi_parse.specs.Tokens.{Tok, State}
-use Rattle.spi_parse.specs.Table.{Item, one, last, Body, Sym, the_mark, the_reserved, the_word, the_number, the_two, msg, msgs_item, msgs, atom, atoms_item, atoms, effect, ty, fields_item, fields_rest, fields, fields_more, named, binder, split_head, match_head, case_head, decrypt_head, check_head, cast_head, sproc, seq, out_tail, par_tail, words_item, words, free_rest, abbr_rest, decl, decls_item, decls, act_rest, talk_rest, steps_item, steps, deriv, opponent_tail, schedule_tail, derivation_tail, body, file, Tree, Trees, over, par_of, file_from, rule_move, delta_paren, delta_bracket, delta_ty_paren}
-use Rattle.spi_parse.specs.Reading.{◌>>=◌, Out, Mode, told, any, pass, may_pass, may_lead, read_all, with_next, go_on, behind, step, read}
+use Rattle.spi_parse.specs.Table.{Body, Sym, the_mark, the_reserved, the_word, the_number, the_two, msg, msgs, atom, atoms, effect, ty, fields, fields_more, named, binder, split_head, match_head, case_head, decrypt_head, check_head, cast_head, sproc, seq, out_tail, par_tail, words, free_rest, abbr_rest, decl, decls, act_rest, talk_rest, steps, deriv, opponent_tail, schedule_tail, derivation_tail, body, file, Trees, over, par_of, file_from, rule_move, delta_paren, delta_bracket, delta_ty_paren}
+use Rattle.spi_parse.specs.Reading.{◌>>=◌, Out, Mode, told, any, pass, may_pass, may_lead, read_all, go_on, behind, step, read}
 use Rattle.spi_parse.proofs.Readers.{at, read_is_step}
 use Rattle.spi_parse.proofs.Spell.{IsBody, body_pieces, IsRuled, IsRuledFile, IsDerivation}
 use Rattle.spi_parse.proofs.RuleLaws.{arity_most, sub_arity}

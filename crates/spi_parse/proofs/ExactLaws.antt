@@ -1,7 +1,6 @@
 -- Reading by the table is exact, for every symbol whose trees are read as they are spelled.
-use Rattle.std.proofs.Common.{◌≡◌, ℕ, zero, suc, ◌+◌, ◌-◌, ◌<◌, ◌≤◌, Bool, true, false, List, [], ◌∷◌, ◌++◌, length, map, Option, Some, None, Result, Ok, Err, refl, sym, ap, subst, ◌∙◌, ◌⊎◌, inl, inr, arith, append_assoc, append-nil}
+use Rattle.std.proofs.Common.{◌≡◌, ℕ, suc, ◌-◌, ◌<◌, ◌≤◌, Bool, true, List, [], ◌∷◌, ◌++◌, length, map, Ok, Err, refl, sym, ap, subst, ◌∙◌, ◌⊎◌, inl, inr, arith, append_assoc, append-nil}
 use Rattle.std.proofs.lemmas.List.{length-append}
-use Rattle.std.proofs.lemmas.Bool.{cases_lt}
 use Rattle.spi_lex.specs.declared.token.Kind.{Kind}
 use Rattle.spi_tree.specs.Pieces.{Piece, opens, cell, closes, cells, kinds_in}
 use Rattle.spi_parse.specs.declared.fault.Fault.{Fault}
@@ -17,7 +16,7 @@ use Rattle.spi_parse.proofs.Sound.{plain, Lies, is_sound}
 use Rattle.spi_parse.proofs.TableLaws.{table_ok}
 use Rattle.spi_parse.proofs.LiveLaws.{table_live}
 use Rattle.spi_parse.proofs.FlagLaws.{table_flags}
-use Rattle.spi_parse.proofs.Viable.{AreSpare, Reaches, is_viable}
+use Rattle.spi_parse.proofs.Viable.{AreSpare, is_viable}
 use Rattle.spi_parse.proofs.Complete.{flat}
 use Rattle.spi_parse.proofs.Local.{NoFlag, Shared, Clean, Follows, follows, beyond_shared, left_of, read_within_left}
 

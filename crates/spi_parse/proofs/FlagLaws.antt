@@ -1,13 +1,11 @@
 -- A node above its limit is seen at its first token, and what may be absent begins with a token that it eats.
 use Rattle.std.proofs.Common.{◌≡◌, ℕ, zero, suc, Bool, true, false, cond, List, [], ◌∷◌, Option, Some, None, refl}
-use Rattle.spi_text.specs.declared.lines.Span.{Span}
 use Rattle.spi_lex.specs.declared.token.Kind.{Kind}
 use Rattle.spi_lex.specs.declared.token.Kind.TheVariants as K
 use Rattle.spi_lex.specs.declared.token.Reserved.TheVariants as word
 use Rattle.spi_lex.specs.declared.token.Mark.TheVariants as mark
-use Rattle.spi_tree.specs.Trees as t
 use Rattle.spi_parse.specs.Rules.{arity_of, writes_effect}
-use Rattle.spi_parse.specs.Table.{Item, one, last, Sym, the_mark, the_reserved, the_word, the_number, the_two, msg, msgs_item, msgs, atom, atoms_item, atoms, effect, ty, fields_item, fields_rest, fields, fields_more, named, binder, split_head, match_head, case_head, decrypt_head, check_head, cast_head, sproc, seq, out_tail, par_tail, words_item, words, free_rest, abbr_rest, decl, decls_item, decls, act_rest, talk_rest, steps_item, steps, deriv, opponent_tail, schedule_tail, derivation_tail, body, file, Tree, Move, eat, skip, fail, deep_here, delta, at_end, is_act, is_talk, act_from, talk_from, rule_move}
+use Rattle.spi_parse.specs.Table.{one, last, Sym, msg, atom, ty, seq, out_tail, par_tail, act_rest, talk_rest, steps_item, steps, deriv, opponent_tail, schedule_tail, derivation_tail, Tree, eat, skip, deep_here, delta, at_end, is_act, is_talk, act_from, talk_from, rule_move}
 use Rattle.spi_parse.proofs.Local.{Flags, Opens, TableFlags}
 
 msg_flags : (v : Bool) (d : Bool) (n : ℕ) (k : Kind) → Flags (delta (msg v d n) k)

@@ -8,11 +8,10 @@ use Rattle.spi_lex.specs.declared.token.Reserved.TheVariants as word
 use Rattle.spi_lex.specs.declared.token.Mark.{Mark}
 use Rattle.spi_lex.specs.declared.token.Mark.TheVariants as mark
 use Rattle.spi_lex.specs.declared.token.Token.{Token}
-use Rattle.spi_tree.specs.Trees as t
 use Rattle.spi_tree.specs.Pieces.{process_limit}
-use Rattle.spi_parse.specs.Tokens.{Tok, State, tok}
+use Rattle.spi_parse.specs.Tokens.{Tok, tok}
 use Rattle.spi_parse.specs.Table.{seq, delta, Move}
-use Rattle.spi_parse.specs.Reading.{Out, limited, read, step, go_on}
+use Rattle.spi_parse.specs.Reading.{limited, read, step, go_on}
 use Rattle.spi_parse.specs.FormMoves.{form_of, form_of_word, form_of_mark, form_move, by_form}
 use Rattle.spi_parse.proofs.Readers.{at}
 

@@ -1,6 +1,5 @@
 -- A loop over the items of a list.
-use Rattle.std.proofs.Common.{◌≡◌, ℕ, List, [], ◌∷◌, ◌++◌, Result, Ok, Err, refl, sym, ap, ◌∙◌, append_assoc, append-nil}
-use Rattle.spi_parse.specs.declared.fault.Fault.{Fault}
+use Rattle.std.proofs.Common.{◌≡◌, List, [], ◌∷◌, ◌++◌, Ok, Err, refl, sym, ap, ◌∙◌, append_assoc, append-nil}
 use Rattle.spi_parse.specs.declared.fault.Stop.{Stop}
 use Rattle.spi_parse.specs.declared.fault.Stop.TheVariants as stops
 use Rattle.spi_parse.specs.Tokens.{State}

@@ -1,5 +1,5 @@
 -- The lists of the grammar are read item by item.
-use Rattle.std.proofs.Common.{◌≡◌, ℕ, zero, suc, ◌+◌, ◌<◌, ◌≤◌, Bool, true, false, cond, List, [], ◌∷◌, ◌++◌, length, Option, Some, None, Result, Ok, Err, refl, sym, ap, ◌∙◌, arith}
+use Rattle.std.proofs.Common.{◌≡◌, ℕ, suc, ◌<◌, ◌≤◌, Bool, true, false, cond, List, [], ◌∷◌, length, Option, Some, None, Ok, Err, refl, sym, ap, ◌∙◌, arith}
 use Rattle.std.specs.Prelude.{nat_lt}
 use Rattle.std.proofs.lemmas.Bool.{ltb-false}
 use Rattle.spi_text.specs.declared.lines.Span.{Span}
@@ -10,12 +10,11 @@ use Rattle.spi_lex.specs.declared.token.Mark.TheVariants as mark
 use Rattle.spi_tree.specs.declared.tree.SWord.{SWord}
 use Rattle.spi_tree.specs.Trees as t
 use Rattle.spi_tree.specs.Pieces.{message_limit}
-use Rattle.spi_parse.specs.declared.fault.Fault.{Fault}
-use Rattle.spi_parse.specs.declared.fault.Fault.TheVariants.{Syntax, TooDeep}
+use Rattle.spi_parse.specs.declared.fault.Fault.TheVariants.{Syntax}
 use Rattle.spi_parse.specs.Tokens.{Tok, State}
-use Rattle.spi_parse.specs.Table.{Item, one, last, Sym, the_mark, the_reserved, the_word, the_number, the_two, msg, msgs_item, msgs, atom, atoms_item, atoms, effect, ty, fields_item, fields_rest, fields, fields_more, named, binder, split_head, match_head, case_head, decrypt_head, check_head, cast_head, sproc, seq, out_tail, par_tail, words_item, words, free_rest, abbr_rest, decl, decls_item, decls, act_rest, talk_rest, steps_item, steps, deriv, opponent_tail, schedule_tail, derivation_tail, body, file, Tree, Trees, Move, eat, skip, over, with_field, free_from, abbr_from, act_from, talk_from, is_act, is_talk, word_at, delta, delta_fields_word, delta_item_word}
-use Rattle.spi_parse.specs.Reading.{◌>>=◌, Out, Reader, Mode, limited, pass, may_pass, with_next, go_on, read_all, step, read, next_list}
-use Rattle.spi_parse.proofs.Readers.{at, read_is_step, Base, Takes, Eats, TakesSome, no_longer, takes_some, pass_ok, bind_ok, ok_is, all_no_longer}
+use Rattle.spi_parse.specs.Table.{Item, one, last, Sym, the_word, msgs_item, msgs, atoms_item, atoms, fields_item, fields_rest, fields, fields_more, words_item, words, free_rest, abbr_rest, decls_item, decls, act_rest, talk_rest, steps_item, steps, Tree, eat, skip, with_field, free_from, abbr_from, act_from, talk_from, is_act, is_talk, word_at, delta, delta_fields_word, delta_item_word}
+use Rattle.spi_parse.specs.Reading.{◌>>=◌, Out, Mode, limited, pass, may_pass, with_next, go_on, read_all, step, read, next_list}
+use Rattle.spi_parse.proofs.Readers.{at, read_is_step, Base, Takes, Eats, TakesSome, no_longer, bind_ok, ok_is, all_no_longer}
 
 abbrev tok_at : Kind → Span → Bool → Tok
 tok_at k sp d = record { kind = k; span = sp; deep = d }

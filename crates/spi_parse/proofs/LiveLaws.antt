@@ -1,6 +1,5 @@
 -- Each look of the table leads somewhere, and each symbol has a tree.
-use Rattle.std.proofs.Common.{◌≡◌, ℕ, zero, suc, ◌+◌, ◌<◌, ◌≤◌, Bool, true, false, cond, eqb, ◌==◌, List, [], ◌∷◌, Option, Some, None, codes, length, refl, ◌⊎◌, inl, inr, arith, lit≤}
-use Rattle.std.specs.Prelude.{nat_lt}
+use Rattle.std.proofs.Common.{ℕ, zero, suc, Bool, true, false, cond, eqb, ◌==◌, List, [], ◌∷◌, Option, Some, None, codes, refl, inl, lit≤}
 use Rattle.spi_text.specs.declared.lines.Span.{Span}
 use Rattle.spi_lex.specs.declared.token.Kind.{Kind}
 use Rattle.spi_lex.specs.declared.token.Kind.TheVariants as K
@@ -13,11 +12,11 @@ use Rattle.spi_tree.specs.Trees as t
 use Rattle.spi_tree.specs.Pieces.{Piece, cell, cells}
 use Rattle.spi_tree.specs.Formed.{IsWordFit}
 use Rattle.spi_parse.specs.Rules.{arity_of, writes_effect}
-use Rattle.spi_parse.specs.Table.{Item, one, last, Sym, the_mark, the_reserved, the_word, the_number, the_two, msg, msgs_item, msgs, atom, atoms_item, atoms, effect, ty, fields_item, fields_rest, fields, fields_more, named, binder, split_head, match_head, case_head, decrypt_head, check_head, cast_head, sproc, seq, out_tail, par_tail, words_item, words, free_rest, abbr_rest, decl, decls_item, decls, act_rest, talk_rest, steps_item, steps, deriv, opponent_tail, schedule_tail, derivation_tail, body, file, Tree, Move, eat, skip, fail, deep_here, delta, mark_number, reserved_number, act_from, talk_from, file_from, over, is_act, is_talk, is_version_word, rule_move, delta_paren, delta_bracket, delta_ty_paren, delta_ty_word, delta_item_word, delta_fields_word}
+use Rattle.spi_parse.specs.Table.{one, last, Sym, the_mark, the_reserved, the_word, the_number, the_two, msg, msgs_item, msgs, atom, atoms_item, atoms, effect, ty, fields_item, fields_rest, fields, fields_more, named, binder, split_head, match_head, case_head, decrypt_head, check_head, cast_head, sproc, seq, out_tail, par_tail, words_item, words, free_rest, abbr_rest, decl, decls_item, decls, act_rest, talk_rest, steps_item, steps, deriv, opponent_tail, schedule_tail, derivation_tail, body, file, Tree, eat, skip, fail, deep_here, delta, mark_number, reserved_number, act_from, talk_from, file_from, over, is_act, is_talk, is_version_word, rule_move, delta_paren, delta_bracket, delta_ty_paren, delta_ty_word, delta_item_word, delta_fields_word}
 use Rattle.spi_parse.specs.Bare.{nowhere}
 use Rattle.spi_parse.proofs.Spell.{spell, Formed}
 use Rattle.spi_parse.proofs.Sound.{Front}
-use Rattle.spi_parse.proofs.Viable.{Live, Grows, AreSpare, TableLive}
+use Rattle.spi_parse.proofs.Viable.{Live, AreSpare, TableLive}
 use Rattle.spi_lex.proofs.Writing.{letters_identifier}
 
 mark_live : (m found : Mark) (s : Span) (b : Bool) → Live {a = the_mark m} {ate = false} (cond b (eat [] (λ ss to xs. tt)) fail) false [] s.from (λ q. q) (K.Mark found) s

@@ -7,7 +7,7 @@ use Rattle.spi_parse.specs.declared.fault.Fault.TheVariants.{Syntax, TooDeep}
 use Rattle.spi_lex.specs.declared.token.Kind.{Kind}
 use Rattle.spi_parse.specs.Tokens.{Tok, State}
 use Rattle.spi_parse.specs.Table.{Sym, Tree, Trees, Move, eat, look, may_look, fail, stay, skip, deep_here, delta, at_end}
-use Rattle.spi_parse.specs.Reading.{◌>>=◌, Out, Reader, Mode, limited, told, pass, may_pass, may_lead, leads_deep, read_all, with_next, go_on, or_end, step, read_within, read}
+use Rattle.spi_parse.specs.Reading.{◌>>=◌, Out, Reader, limited, told, pass, may_pass, may_lead, leads_deep, read_all, with_next, go_on, or_end, step, read_within, read}
 use Rattle.spi_parse.proofs.Readers.{at, bind_ok, ok_is, pass_ok, NoLonger, within_no_longer, all_no_longer, moves_no_longer, step_no_longer, read_enough, may_lead_ok, Keeps, moves_keep, step_keeps, within_keeps}
 
 abbrev pub left_of : Fault → ℕ

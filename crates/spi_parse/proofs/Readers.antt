@@ -1,5 +1,5 @@
 -- Reading by the table needs no count of turns.
-use Rattle.std.proofs.Common.{◌≡◌, ℕ, zero, suc, ◌+◌, ◌-◌, ◌*◌, T, not, ◌&&◌, ◌<◌, ◌≤◌, Bool, true, false, List, [], ◌∷◌, ◌++◌, length, Option, Some, None, Result, Ok, Err, refl, sym, ap, subst, ◌∙◌, arith, cond}
+use Rattle.std.proofs.Common.{◌≡◌, ℕ, zero, suc, ◌+◌, ◌-◌, ◌*◌, T, ◌&&◌, ◌<◌, ◌≤◌, Bool, true, false, List, [], ◌∷◌, ◌++◌, length, Option, Some, None, Result, Ok, Err, refl, sym, ap, subst, ◌∙◌, arith}
 use Rattle.std.specs.Prelude.{nat_lt}
 use Rattle.std.proofs.lemmas.Bool.{ltb-true}
 use Rattle.spi_text.specs.declared.lines.Span.{Span}
@@ -7,7 +7,7 @@ use Rattle.spi_parse.specs.declared.fault.Fault.{Fault}
 use Rattle.spi_lex.specs.declared.token.Kind.{Kind}
 use Rattle.spi_parse.specs.Tokens.{Tok, State}
 use Rattle.spi_parse.specs.Table.{Sym, Tree, Trees, Move, eat, look, may_look, fail, stay, skip, deep_here, delta, at_end, high, all_below, may_stay}
-use Rattle.spi_parse.specs.Reading.{◌>>=◌, Out, Reader, Mode, limited, told, any, pass, may_pass, may_lead, leads_deep, read_all, with_next, go_on, or_end, step, read_within, read}
+use Rattle.spi_parse.specs.Reading.{◌>>=◌, Out, Reader, Mode, limited, told, any, pass, may_pass, may_lead, leads_deep, read_all, go_on, or_end, step, read_within, read}
 
 -- the value of a step that did not fail
 pub bind_ok : {A B : Type 0} (r : Result A Fault) (f : A → Result B Fault) (y : B) → (r >>= f) ≡ Ok y → (x : A) × (r ≡ Ok x) × (f x ≡ Ok y)

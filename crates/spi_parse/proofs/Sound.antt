@@ -1,11 +1,11 @@
 -- What is read is spelled so.
-use Rattle.std.proofs.Common.{◌≡◌, ℕ, zero, suc, ◌+◌, Bool, true, false, List, [], ◌∷◌, ◌++◌, length, Option, Some, None, Result, Ok, Err, refl, sym, ap, subst, ◌∙◌, append_assoc, ◌⊎◌, inl, inr}
+use Rattle.std.proofs.Common.{◌≡◌, ℕ, zero, suc, Bool, true, false, List, [], ◌∷◌, ◌++◌, Option, Some, None, Ok, Err, refl, sym, ap, subst, ◌∙◌, append_assoc, ◌⊎◌, inl, inr}
 use Rattle.spi_text.specs.declared.lines.Span.{Span}
 use Rattle.spi_parse.specs.declared.fault.Fault.{Fault}
 use Rattle.spi_lex.specs.declared.token.Kind.{Kind}
 use Rattle.spi_parse.specs.Tokens.{Tok, State}
 use Rattle.spi_parse.specs.Table.{Sym, Tree, Trees, Move, eat, look, may_look, fail, stay, skip, deep_here, delta, at_end}
-use Rattle.spi_parse.specs.Reading.{◌>>=◌, Out, Reader, Mode, limited, pass, may_pass, read_all, with_next, go_on, or_end, step, read_within, read}
+use Rattle.spi_parse.specs.Reading.{◌>>=◌, Out, Reader, limited, pass, may_pass, read_all, go_on, or_end, step, read_within, read}
 use Rattle.spi_tree.specs.Pieces.{Piece, opens, cell, closes, cells}
 use Rattle.spi_parse.proofs.Readers.{at, bind_ok, ok_is}
 use Rattle.spi_parse.proofs.Spell.{spell, spell_all, Formed, FormedAll}

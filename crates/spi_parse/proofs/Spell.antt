@@ -1,12 +1,10 @@
 -- The pieces of each symbol's trees, and which of those trees are formed.
 use Rattle.std.proofs.Common.{◌≡◌, ◌⊎◌, ℕ, ◌+◌, Bool, true, false, List, [], ◌∷◌, Option, Some, None}
-use Rattle.spi_lex.specs.declared.token.Kind.TheVariants as kinds
-use Rattle.spi_lex.specs.declared.token.Reserved.{Reserved}
 use Rattle.spi_lex.specs.declared.token.Reserved.TheVariants as word
 use Rattle.spi_lex.specs.declared.token.Mark.TheVariants as mark
 use Rattle.spi_tree.specs.declared.tree.SWord.{SWord}
 use Rattle.spi_tree.specs.Trees as t
-use Rattle.spi_tree.specs.Pieces.{Piece, opens, cell, closes, a_mark, a_reserved, a_number, a_word, msg_pieces, msgs_pieces, atom_pieces, atoms_pieces, effect_pieces, ty_pieces, fields_pieces, last_pieces, named_pieces, binder_pieces, Place, in_seq, at_level, proc_pieces, words_pieces, decl_pieces, decls_pieces, step_pieces, steps_pieces, deriv_pieces, opponent_pieces, schedule_pieces, derivation_pieces, file_pieces}
+use Rattle.spi_tree.specs.Pieces.{Piece, closes, a_mark, a_reserved, a_number, a_word, msg_pieces, msgs_pieces, atom_pieces, atoms_pieces, effect_pieces, ty_pieces, fields_pieces, last_pieces, named_pieces, binder_pieces, Place, in_seq, at_level, proc_pieces, words_pieces, decl_pieces, decls_pieces, step_pieces, steps_pieces, deriv_pieces, opponent_pieces, schedule_pieces, derivation_pieces, file_pieces}
 use Rattle.spi_tree.specs.Formed.{IsMsg, AreMsgs, IsAtom, AreAtoms, IsTy, AreFields, IsLast, IsProc, IsDeclared, AreDeclared, IsWritten, IsOpponent, is_later}
 use Rattle.spi_parse.specs.Table.{Item, one, last, Body, Sym, the_mark, the_reserved, the_word, the_number, the_two, msg, msgs_item, msgs, atom, atoms_item, atoms, effect, ty, fields_item, fields_rest, fields, fields_more, named, binder, split_head, match_head, case_head, decrypt_head, check_head, cast_head, sproc, seq, out_tail, par_tail, words_item, words, free_rest, abbr_rest, decl, decls_item, decls, act_rest, talk_rest, steps_item, steps, deriv, opponent_tail, schedule_tail, derivation_tail, body, file, Tree, Trees}
 use Rattle.spi_parse.specs.Rules.{arity_of, writes_effect}

@@ -1,6 +1,6 @@
 -- Each move of the table builds what it eats.
-use Rattle.std.proofs.Common.{◌≡◌, ℕ, zero, suc, ◌+◌, Bool, true, false, cond, eqb, ◌==◌, List, [], ◌∷◌, ◌++◌, Option, Some, None, codes, refl, sym, ap, subst, ◌∙◌, ◌⊎◌, inl, inr}
-use Rattle.std.specs.Prelude.{nat_lt, if◌then◌else◌}
+use Rattle.std.proofs.Common.{◌≡◌, ℕ, zero, suc, ◌+◌, Bool, true, false, cond, eqb, ◌==◌, List, [], ◌∷◌, Option, Some, None, codes, refl, sym, ap, ◌⊎◌, inl, inr}
+use Rattle.std.specs.Prelude.{nat_lt}
 use Rattle.std.proofs.lemmas.Bool.{eqb-true}
 use Rattle.std.proofs.lemmas.Slice.Eq.{bytes_eq-Decides}
 use Rattle.std.specs.Str.{bytes_eq}
@@ -13,12 +13,12 @@ use Rattle.spi_lex.specs.declared.token.Mark.{Mark}
 use Rattle.spi_lex.specs.declared.token.Mark.TheVariants as mark
 use Rattle.spi_tree.specs.declared.tree.SWord.{SWord}
 use Rattle.spi_tree.specs.Trees as t
-use Rattle.spi_tree.specs.Pieces.{Piece, opens, cell, closes, message_limit, process_limit, derivation_limit, Place, in_seq, at_level, proc_pieces, steps_pieces}
+use Rattle.spi_tree.specs.Pieces.{Piece, opens, cell, closes, message_limit, process_limit, derivation_limit, in_seq, at_level, proc_pieces, steps_pieces}
 use Rattle.spi_tree.specs.Formed.{IsMsg, IsTy, IsProc}
 use Rattle.spi_parse.specs.Rules.{arity_of, writes_effect}
-use Rattle.spi_parse.specs.Table.{Item, one, last, Sym, the_mark, the_reserved, the_word, the_number, the_two, msg, msgs_item, msgs, atom, atoms_item, atoms, effect, ty, fields_item, fields_rest, fields, fields_more, named, binder, split_head, match_head, case_head, decrypt_head, check_head, cast_head, sproc, seq, out_tail, par_tail, words_item, words, free_rest, abbr_rest, decl, decls_item, decls, act_rest, talk_rest, steps_item, steps, deriv, opponent_tail, schedule_tail, derivation_tail, body, file, Tree, Trees, Move, eat, skip, fail, deep_here, delta, at_end, mark_number, reserved_number, is_mark, is_reserved, over, word_at, with_field, par_of, out_of, act_from, talk_from, file_from, is_act, is_talk, is_version_word, rule_move, delta_paren, delta_bracket, delta_ty_paren, delta_ty_word, delta_item_word, delta_fields_word}
-use Rattle.spi_parse.proofs.Spell.{spell, spell_all, IsFieldItem, AreParts, AreMoreParts, Formed, FormedAll}
-use Rattle.spi_parse.proofs.Sound.{Front, Builds, IsSpelled, word_front, MoveOk, TableOk}
+use Rattle.spi_parse.specs.Table.{one, last, Sym, the_mark, the_reserved, the_word, the_number, the_two, msg, msgs_item, msgs, atom, atoms_item, atoms, effect, ty, fields_item, fields_rest, fields, fields_more, named, binder, split_head, match_head, case_head, decrypt_head, check_head, cast_head, sproc, seq, out_tail, par_tail, words_item, words, free_rest, abbr_rest, decl, decls_item, decls, act_rest, talk_rest, steps_item, steps, deriv, opponent_tail, schedule_tail, derivation_tail, body, file, Tree, eat, skip, fail, deep_here, delta, at_end, mark_number, reserved_number, over, word_at, with_field, par_of, out_of, act_from, talk_from, file_from, is_act, is_talk, is_version_word, rule_move, delta_paren, delta_bracket, delta_ty_paren, delta_ty_word, delta_item_word, delta_fields_word}
+use Rattle.spi_parse.proofs.Spell.{spell, IsFieldItem, AreParts, AreMoreParts, Formed}
+use Rattle.spi_parse.proofs.Sound.{IsSpelled, word_front, MoveOk, TableOk}
 use Rattle.spi_parse.proofs.Numbers.{same_mark, same_reserved}
 
 bytes_eq-true : (xs ys : List ℕ) → bytes_eq xs ys ≡ true → xs ≡ ys

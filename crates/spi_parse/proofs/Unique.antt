@@ -1,11 +1,11 @@
 -- A tree is the only one with its tokens, up to spans.
-use Rattle.std.proofs.Common.{◌≡◌, ℕ, Bool, true, false, List, [], ◌∷◌, Result, Ok, Err, refl, sym, ap, ◌∙◌}
+use Rattle.std.proofs.Common.{◌≡◌, false, List, [], ◌∷◌, refl, sym, ap, ◌∙◌}
 use Rattle.spi_lex.specs.declared.token.Kind.{Kind}
 use Rattle.spi_tree.specs.Trees as t
 use Rattle.spi_tree.specs.Pieces.{Piece, opens, cell, closes, kinds_in, tokens_of}
 use Rattle.spi_parse.specs.Tokens.{Tok, State}
 use Rattle.spi_parse.specs.Table.{file}
-use Rattle.spi_parse.specs.Reading.{Out, any, read}
+use Rattle.spi_parse.specs.Reading.{any, read}
 use Rattle.spi_parse.specs.Formed.{IsFile, whole_file}
 use Rattle.spi_parse.specs.Bare.{nowhere, bare_file}
 use Rattle.spi_parse.proofs.Readers.{at, ok_is}

@@ -1,5 +1,5 @@
 -- Up to a fault the tokens begin some tree.
-use Rattle.std.proofs.Common.{◌≡◌, ℕ, zero, suc, ◌+◌, Bool, true, false, List, [], ◌∷◌, ◌++◌, length, Option, Some, None, Result, Ok, Err, refl, sym, ap, subst, ◌∙◌, append_assoc, ◌⊎◌, inl, inr}
+use Rattle.std.proofs.Common.{◌≡◌, ℕ, zero, suc, Bool, true, false, List, [], ◌∷◌, ◌++◌, length, Option, Some, None, Ok, Err, refl, sym, ap, subst, ◌∙◌, append_assoc, ◌⊎◌, inl, inr}
 use Rattle.std.proofs.lemmas.List.{append_cancel_right}
 use Rattle.spi_text.specs.declared.lines.Span.{Span}
 use Rattle.spi_parse.specs.declared.fault.Fault.{Fault}
@@ -7,13 +7,12 @@ use Rattle.spi_parse.specs.declared.fault.Fault.TheVariants.{Syntax, TooDeep}
 use Rattle.spi_lex.specs.declared.token.Kind.{Kind}
 use Rattle.spi_parse.specs.Tokens.{Tok, State}
 use Rattle.spi_parse.specs.Table.{Sym, Tree, Trees, Move, eat, look, may_look, fail, stay, skip, deep_here, delta, at_end}
-use Rattle.spi_parse.specs.Reading.{◌>>=◌, Out, Reader, Mode, limited, pass, may_pass, read_all, with_next, go_on, or_end, step, read_within, read}
-use Rattle.spi_tree.specs.Pieces.{Piece, opens, cell, closes, cells}
-use Rattle.spi_parse.proofs.Readers.{at, bind_ok}
+use Rattle.spi_parse.specs.Reading.{◌>>=◌, Out, Reader, limited, pass, may_pass, read_all, go_on, or_end, step, read_within, read}
+use Rattle.spi_tree.specs.Pieces.{Piece, cell, cells}
+use Rattle.spi_parse.proofs.Readers.{at}
 use Rattle.spi_parse.proofs.Spell.{spell, spell_all, Formed, FormedAll}
-use Rattle.spi_parse.proofs.Sound.{plain, Lays, Front, opened, closed, word_front, IsSpelled, Builds, MoveOk, TableOk, IsSound, Eaten, lays_here, lays_on, lays_cell, lays_token, lays_word, cells_opened, cells_closed, eaten_more, within_sound}
+use Rattle.spi_parse.proofs.Sound.{plain, Front, closed, word_front, Builds, MoveOk, TableOk, IsSound, Eaten, lays_here, lays_cell, lays_token, lays_word, cells_opened, cells_closed, eaten_more, within_sound}
 use Rattle.spi_tree.specs.Formed.{IsWordFit}
-use Rattle.spi_parse.specs.Reading.{may_lead, leads_deep}
 
 -- the words among tokens that aren't given are Words in both versions
 abbrev pub AreSpare : List (Kind × Bool) → Type 0

@@ -1,5 +1,5 @@
 -- The answers of the calls, from what is read.
-use Rattle.std.proofs.Common.{◌≡◌, ℕ, zero, suc, ◌+◌, ◌-◌, ◌<◌, ◌≤◌, ◌==◌, Bool, true, false, List, [], ◌∷◌, ◌++◌, length, map, drop, Option, Some, None, Result, Ok, Err, refl, sym, ap, subst, ◌∙◌, ◌⊎◌, inl, inr, arith, append_assoc, append-nil, length-append, length-drop}
+use Rattle.std.proofs.Common.{◌≡◌, ℕ, zero, suc, ◌+◌, ◌-◌, ◌≤◌, Bool, false, List, [], ◌∷◌, ◌++◌, length, map, drop, Ok, Err, refl, sym, ap, subst, ◌∙◌, arith, append-nil, length-append, length-drop}
 use Rattle.std.proofs.lemmas.List.{length-map}
 use Rattle.spi_lex.specs.declared.token.Kind.{Kind}
 use Rattle.spi_lex.specs.declared.token.Token.{Token}
@@ -13,7 +13,7 @@ use Rattle.spi_parse.specs.declared.fault.Stop.{Stop}
 use Rattle.spi_parse.specs.declared.fault.Stop.TheVariants as stops
 use Rattle.spi_parse.specs.Tokens.{Tok, State, tok}
 use Rattle.spi_parse.specs.Table.{Sym, Tree, msg, ty, decl, sproc, file}
-use Rattle.spi_parse.specs.Reading.{Out, Fails, limited, told, read}
+use Rattle.spi_parse.specs.Reading.{Fails, limited, told, read}
 use Rattle.spi_parse.specs.Formed.{IsFile, whole_file, whole_decl, whole_type, whole_message, whole_process, IsWholeDecl, IsWholeType, IsWholeMessage, IsWholeProcess}
 use Rattle.spi_parse.specs.Bare.{bare_msg, bare_ty, bare_decl, bare_proc, bare_file}
 use Rattle.spi_parse.specs.Exact.{Spells, IsEnd, NoneGoesOn, IsSyntaxAt, IsDeepAt, IsPartAt, IsNoPart, Reads, Parses}
@@ -23,9 +23,9 @@ use Rattle.spi_parse.proofs.Spell.{spell, Formed}
 use Rattle.spi_parse.proofs.Sound.{Lies}
 use Rattle.spi_parse.proofs.Viable.{AreSpare}
 use Rattle.spi_parse.proofs.Local.{left_of}
-use Rattle.spi_parse.proofs.Complete.{flat, told_fits, out_ends_nil, par_ends_nil, msg_c, ty_c, decl_c, proc_c, file_c}
+use Rattle.spi_parse.proofs.Complete.{told_fits, out_ends_nil, par_ends_nil, msg_c, ty_c, decl_c, proc_c, file_c}
 use Rattle.spi_parse.proofs.ExactLaws.{kinds, firsts, told_by, exact_ok, exact_syntax, exact_deep, no_part, first_ok, fault_within}
-use Rattle.spi_parse.proofs.Words.{made_fit, fits_drop, file_ruled, file_made}
+use Rattle.spi_parse.proofs.Words.{made_fit, file_ruled, file_made}
 
 -- ---- tokens with flags and without
 

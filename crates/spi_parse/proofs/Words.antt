@@ -1,17 +1,16 @@
 -- Words that fit.
-use Rattle.std.proofs.Common.{◌≡◌, ℕ, ◌==◌, Bool, true, false, cond, List, [], ◌∷◌, ◌++◌, map, codes, Option, Some, None, refl, sym, ap, subst, ◌∙◌, ◌⊎◌, inl, inr}
-use Rattle.std.specs.List.{AllByRecursion}
+use Rattle.std.proofs.Common.{◌≡◌, ℕ, ◌==◌, Bool, true, false, cond, List, [], ◌∷◌, ◌++◌, codes, Option, Some, None, refl, sym, ap, subst, ◌∙◌, ◌⊎◌, inl, inr}
 use Rattle.std.specs.Str.{bytes_eq}
 use Rattle.spi_lex.specs.declared.token.Kind.{Kind}
 use Rattle.spi_lex.specs.declared.token.Kind.TheVariants as K
 use Rattle.spi_lex.specs.declared.token.Reserved.{Reserved}
 use Rattle.spi_lex.specs.declared.token.Reserved.TheVariants as word
 use Rattle.spi_lex.specs.declared.token.Mark.TheVariants as mark
-use Rattle.spi_lex.specs.Words.{version_1, version_2, words_of, word_bytes, word_of}
+use Rattle.spi_lex.specs.Words.{version_1, word_bytes, word_of}
 use Rattle.spi_lex.specs.Lexing.{is_version_2}
 use Rattle.spi_tree.specs.Trees as t
 use Rattle.spi_tree.specs.Pieces.{Piece, kinds_in, decls_pieces, a_reserved, file_pieces, proc_pieces, at_level, version_pieces, opponent_pieces, schedule_pieces, derivation_pieces, ends}
-use Rattle.spi_tree.specs.Formed.{IsWordFit, AreWordsFit, IsFormed, is_later, IsDeriv, AreDerivs, IsDerivation}
+use Rattle.spi_tree.specs.Formed.{IsWordFit, AreWordsFit, is_later, IsDeriv, AreDerivs, IsDerivation}
 use Rattle.spi_parse.specs.Formed.{HasRules, HaveRules, IsDerived, IsFile}
 use Rattle.spi_parse.proofs.Spell as s
 use Rattle.spi_parse.proofs.Viable.{AreSpare}

@@ -1,5 +1,5 @@
 -- Which form of a process a token begins.
-use Rattle.std.specs.Prelude.{ℕ, ◌+◌, Bool, true, false, nat_lt, List, [], ◌∷◌, Err, if◌then◌else◌}
+use Rattle.std.specs.Prelude.{ℕ, ◌+◌, Bool, false, nat_lt, [], ◌∷◌, Err, if◌then◌else◌}
 use Rattle.spi_lex.specs.declared.token.Kind.{Kind}
 use Rattle.spi_lex.specs.declared.token.Kind.TheVariants as K
 use Rattle.spi_lex.specs.declared.token.Reserved.{Reserved}
@@ -16,7 +16,7 @@ use Rattle.spi_parse.specs.declared.forms.Event.TheVariants as events
 use Rattle.spi_parse.specs.declared.forms.Plain.TheVariants as plains
 use Rattle.spi_parse.specs.declared.fault.Fault.TheVariants.{Syntax}
 use Rattle.spi_parse.specs.Tokens.{State}
-use Rattle.spi_parse.specs.Table.{Sym, the_mark, the_reserved, msg, binder, split_head, match_head, case_head, decrypt_head, check_head, cast_head, sproc, seq, out_tail, Tree, Move, eat, fail, over, out_of}
+use Rattle.spi_parse.specs.Table.{the_mark, the_reserved, msg, binder, split_head, match_head, case_head, decrypt_head, check_head, cast_head, sproc, seq, out_tail, Move, eat, fail, over, out_of}
 use Rattle.spi_parse.specs.Reading.{Out, limited, read, with_next, go_on}
 
 abbrev pub form_of_word : Bool → Reserved → Form

@@ -10,7 +10,7 @@ use Rattle.spi_parse.specs.declared.cursor.Cursor.{Cursor}
 use Rattle.spi_parse.specs.declared.types.FieldOrLast.{FieldOrLast}
 use Rattle.spi_parse.specs.declared.types.FieldOrLast.TheVariants as items
 use Rattle.spi_parse.specs.Tokens.{State, tok}
-use Rattle.spi_parse.specs.Table.{Item, one, last, Sym, the_mark, the_reserved, msg, msgs, atom, atoms, effect, ty, fields, binder, split_head, match_head, case_head, decrypt_head, check_head, cast_head, sproc, seq, out_tail, Tree, Trees, Build, over, second, word_at, out_of}
+use Rattle.spi_parse.specs.Table.{Item, one, last, Sym, the_mark, the_reserved, msg, msgs, atom, atoms, effect, ty, fields, binder, split_head, match_head, case_head, decrypt_head, check_head, cast_head, sproc, seq, out_tail, Tree, Build, over, second, word_at, out_of}
 use Rattle.spi_parse.specs.Reading.{◌>>=◌, Out, read, limited, read_all}
 
 abbrev pub state_of : Cursor → State

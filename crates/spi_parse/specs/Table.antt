@@ -1,5 +1,5 @@
 -- Which alternative a token begins.
-use Rattle.std.specs.Prelude.{ℕ, zero, suc, ◌+◌, Bool, true, false, nat_lt, not, ◌&&◌, ◌||◌, T, ◌==◌, if◌then◌else◌, List, [], ◌∷◌, Option, Some, None, codes}
+use Rattle.std.specs.Prelude.{ℕ, zero, suc, ◌+◌, Bool, true, false, nat_lt, ◌&&◌, T, ◌==◌, if◌then◌else◌, List, [], ◌∷◌, Option, Some, None, codes}
 use Rattle.std.specs.Str.{bytes_eq}
 use Rattle.spi_text.specs.declared.lines.Span.{Span}
 use Rattle.spi_lex.specs.declared.token.Kind.{Kind}
@@ -8,7 +8,6 @@ use Rattle.spi_lex.specs.declared.token.Reserved.{Reserved}
 use Rattle.spi_lex.specs.declared.token.Reserved.TheVariants as word
 use Rattle.spi_lex.specs.declared.token.Mark.{Mark}
 use Rattle.spi_lex.specs.declared.token.Mark.TheVariants as mark
-use Rattle.spi_lex.specs.Words.{mark_byte}
 use Rattle.spi_tree.specs.declared.tree.SWord.{SWord}
 use Rattle.spi_tree.specs.Trees as t
 use Rattle.spi_tree.specs.Pieces.{message_limit, process_limit, derivation_limit}

@@ -1,12 +1,12 @@
 -- What stands between the table and the code that reads derivations and files.
-use Rattle.std.specs.Prelude.{Bool, true, false, ℕ, ◌+◌, List, [], ◌∷◌, map, Option, Some, None}
+use Rattle.std.specs.Prelude.{Bool, true, false, ℕ, ◌+◌, List, [], ◌∷◌, map, Some, None}
 use Rattle.spi_text.specs.declared.lines.Span.{Span}
 use Rattle.spi_lex.specs.declared.token.Mark.TheVariants as mark
 use Rattle.spi_tree.specs.Trees as t
 use Rattle.spi_tree.specs.Views.{decl_of, proc_of, opponent_of, schedule_of, derivation_of}
 use Rattle.spi_parse.specs.declared.files.FileParts.{FileParts}
 use Rattle.spi_parse.specs.Tokens.{State}
-use Rattle.spi_parse.specs.Table.{Body, Sym, the_two, the_mark, effect, deriv, body, file, over, first, word_at, file_from}
+use Rattle.spi_parse.specs.Table.{Body, the_two, the_mark, effect, deriv, body, file, over, first, word_at, file_from}
 use Rattle.spi_parse.specs.Reading.{Out}
 use Rattle.spi_parse.specs.Places.{parts}
 

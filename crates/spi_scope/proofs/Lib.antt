@@ -17,3 +17,4 @@ pub mod Scanned
 pub mod Ordered
 pub mod Growing
 pub mod Premises
+mod Weights

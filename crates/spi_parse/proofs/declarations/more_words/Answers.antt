@@ -1,5 +1,5 @@
-use Rattle.std.proofs.Common.{rules, arith, length, map}
-use Rattle.std.proofs.lemmas.List.{length-map, map_push}
+use Rattle.std.proofs.Common.{arith}
+use Rattle.std.proofs.lemmas.List.{length-map}
 use Rattle.std.proofs.lemmas.Result.{err_from_is_err_and}
 use Rattle.spi_parse.specs.Tokens.{tok}
 use Rattle.spi_parse.specs.Places.{state_of}

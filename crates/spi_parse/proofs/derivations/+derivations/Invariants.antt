@@ -1,4 +1,4 @@
-use Rattle.std.proofs.Common.{ℕ, ◌+◌, ◌-◌, ◌*◌}
+use Rattle.std.proofs.Common.{◌+◌, ◌-◌, ◌*◌}
 use Rattle.spi_parse.proofs.derivations.+derivations.Given as goal
 
 abbrev pub decreases-derivation : goal.decreases-derivation

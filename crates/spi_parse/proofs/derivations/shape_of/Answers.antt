@@ -1,6 +1,5 @@
 use Rattle.std.proofs.Common.{refl}
 use Rattle.spi_parse.proofs.RuleLaws.{arity_none}
-use Rattle.spi_parse.proofs.ShapeLaws.{shape_found, shape_late}
 use Rattle.spi_parse.proofs.derivations.shape_of.Goals as goal
 
 pub returns-in-None : goal.returns-in-None

@@ -1,4 +1,4 @@
-use Rattle.std.proofs.Common.{◌≡◌, ℕ, ◌+◌, ◌-◌, ◌*◌, map, length}
+use Rattle.std.proofs.Common.{◌≡◌, map, length}
 use Rattle.spi_parse.specs.Places.{state_of}
 use Rattle.spi_parse.specs.Reading.{read, limited, front}
 use Rattle.spi_tree.specs.Views.{atom_of}

@@ -12,8 +12,8 @@ use Rattle.spi_scope.specs.Table.{Naming}
 use Rattle.spi_scope.proofs.Closing.{fork_nodes, one_more, next_one, next_rest, none_in}
 use Rattle.spi_scope.proofs.processes.+processes.Goals as goal
 
-pub compose-returns-in_ok-next-clause-nodes : goal.compose-returns-in_ok-next-clause-nodes
-compose-returns-in_ok-next-clause-nodes t c =
+pub compose-returns-clause-nodes : goal.compose-returns-clause-nodes
+compose-returns-clause-nodes t c =
     let s = c.args.scope.now in
     let r = c.in_ok-read_process.ensures in
     let g = c.in_ok-push.ensures in
@@ -43,8 +43,8 @@ compose-returns-in_ok-next-clause-nodes t c =
     (none_in k) (none_in k)))
     c.read_process-2.ensures.nodes
 
-pub branch-returns-in_ok-read_process-2-clause-nodes : goal.branch-returns-in_ok-read_process-2-clause-nodes
-branch-returns-in_ok-read_process-2-clause-nodes t c =
+pub branch-returns-clause-nodes : goal.branch-returns-clause-nodes
+branch-returns-clause-nodes t c =
     let s = c.args.scope.now in
     let xs = s.held.names in
     let ts = abbreviations s.types in
