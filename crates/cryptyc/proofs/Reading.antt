@@ -1,4 +1,4 @@
--- What reading bytes answers on the tokens and on the tree.
+-- What reading bytes answers on a tree with a fault.
 use Rattle.std.proofs.Common.{◌≡◌, ◌⊎◌, inl, inr, ℕ, ◌+◌, ◌≤◌, Bool, true, false, List, ◌++◌, ◌∷◌, length, map, Option, Some, None, if◌then◌else◌, sym, ap, ◌∙◌, arith, length-append}
 use Rattle.std.specs.Prelude.{nat_lt, is_some}
 use Rattle.std.proofs.lemmas.List.{length-map}
@@ -20,20 +20,6 @@ use Rattle.cryptyc.specs.Reading.{IsUnread, Tells}
 use Rattle.cryptyc.specs.Spelled.{IsTreeOf}
 use Rattle.cryptyc.specs.Answer.{scope_number, scope_shown, out_of_scope}
 use Rattle.cryptyc.proofs.Refusals.{unread_as}
-
--- a front of the tokens is no longer than they are
-front : (tokens : List Token) (pre rest : List Kind) (i : ℕ) → kinds_of tokens ≡ pre ++ rest → length pre ≡ i → i ≤ length tokens
-front tokens pre rest i e p =
-    let same = length-map tokens (λ (token : Token). token.kind) in
-    let both = length-append pre rest in
-    let cut = ap length e in
-    omega (arith, same, both, cut, p)
-
-pub syntax_within : (tokens : List Token) (i : ℕ) → IsSyntaxAt whole_file IsFile (kinds_of tokens) i → i ≤ length tokens
-syntax_within tokens i at = front tokens at.pre at.rest i at.split at.place
-
-pub deep_within : (tokens : List Token) (i : ℕ) → IsDeepAt whole_file IsFile (kinds_of tokens) i → i ≤ length tokens
-deep_within tokens i at = front tokens at.pre (at.token ∷ at.rest) i at.split at.place
 
 -- what is wrong at a point is never a want of memory
 chosen : (b : Bool) (fault : ScopeFault) → ¬ (fault ≡ scope.NoMemory) → ¬ ((if b then None else Some fault) ≡ Some scope.NoMemory)

@@ -2,20 +2,13 @@ use Rattle.std.proofs.Common.{[]}
 use Rattle.spi_parse.proofs.Lexed.{kinds_fit}
 use Rattle.cryptyc.specs.Answer.{syntax, too_deep}
 use Rattle.cryptyc.proofs.Refusals.{unread_as}
-use Rattle.cryptyc.proofs.Reading.{syntax_within, deep_within}
 use Rattle.cryptyc.proofs.read.read_tokens.Goals as goal
 
 pub parse-requires-clause-words : goal.parse-requires-clause-words
 parse-requires-clause-words c = kinds_fit _ c.requires.kinds
 
-pub start-in-Err-Syntax-requires-clause-token : goal.start-in-Err-Syntax-requires-clause-token
-start-in-Err-Syntax-requires-clause-token c = syntax_within _ _ c.in-Err-Syntax.ensures
-
-pub start-in-Err-TooDeep-requires-clause-token : goal.start-in-Err-TooDeep-requires-clause-token
-start-in-Err-TooDeep-requires-clause-token c = deep_within _ _ c.in-Err-TooDeep.ensures
-
 pub returns-in-Err-Syntax-clause-unread : goal.returns-in-Err-Syntax-clause-unread
-returns-in-Err-Syntax-clause-unread c = unread_as _ 20 _ [] c.unspelled.result (syntax c.requires.within c.requires.lexed c.in-Err-Syntax.ensures) (rw c.start.ensures at c.unspelled.ensures)
+returns-in-Err-Syntax-clause-unread c = unread_as _ 20 _ [] c.unspelled.result (syntax c.requires.within c.requires.lexed (rw c.in-Err-Syntax.field-0-is at c.in-Err-Syntax.ensures)) (rw c.start.ensures at c.unspelled.ensures)
 
 pub returns-in-Err-TooDeep-clause-unread : goal.returns-in-Err-TooDeep-clause-unread
-returns-in-Err-TooDeep-clause-unread c = unread_as _ 21 _ [] c.unspelled-in-Err-TooDeep.result (too_deep c.requires.within c.requires.lexed c.in-Err-TooDeep.ensures) (rw c.start-in-Err-TooDeep.ensures at c.unspelled-in-Err-TooDeep.ensures)
+returns-in-Err-TooDeep-clause-unread c = unread_as _ 21 _ [] c.unspelled-in-Err-TooDeep.result (too_deep c.requires.within c.requires.lexed (rw c.in-Err-TooDeep.field-0-is at c.in-Err-TooDeep.ensures)) (rw c.start-in-Err-TooDeep.ensures at c.unspelled-in-Err-TooDeep.ensures)
