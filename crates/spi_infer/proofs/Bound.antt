@@ -16,7 +16,7 @@ use Rattle.spi_infer.specs.Passes.{Wait, wait, settled, IsCalm}
 use Rattle.spi_infer.specs.Walking.{Turns, IsAbove}
 use Rattle.spi_infer.specs.Waiting.{Reaches}
 use Rattle.spi_infer.proofs.Asked.{stands_kept}
-use Rattle.spi_infer.proofs.Stacks.{calm_settled, due_settled}
+use Rattle.spi_infer.proofs.Scanning.{calm_settled, due_settled}
 
 -- what stays
 pub above_kept : {a b : Numbered} → IsKept a b → IsAbove a b

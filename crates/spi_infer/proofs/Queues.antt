@@ -10,7 +10,7 @@ use Rattle.spi_intern.proofs.Meanings.{means_keeps}
 use Rattle.spi_infer.specs.declared.waiting.Pending.{Pending}
 use Rattle.spi_infer.specs.Passes.{Wait, wait, IsCalm, left_waiting}
 use Rattle.spi_infer.specs.Waiting.{AreWaiting, waiting_none, waiting_next, Queued, IsDue, IsNotDue}
-use Rattle.spi_infer.proofs.Stacks.{calm_left, due_left}
+use Rattle.spi_infer.proofs.Scanning.{calm_left, due_left}
 
 pub waiting_keeps : {s r : Store} {ps : List Pending} {ws : List Wait} → Keeps s r → AreWaiting s ps ws → AreWaiting r ps ws
 waiting_keeps k waiting_none = waiting_none

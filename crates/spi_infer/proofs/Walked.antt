@@ -161,7 +161,7 @@ module _ (k : ℕ) (p : Process) (env : Env) (names : k ≡ length env) where
   abbrev pub seen : List Note
   seen = scan 0 env [] nodes
 
-  scan_is : seen ≡ notes tree env
+  pub scan_is : seen ≡ notes tree env
   scan_is =
       let s = scan_flat tree env env [] [] 0 k [] names (ap (λ n. take n env) names ∙ take_whole_of env) refl tt in
       ap (scan 0 env []) (sym (append-nil nodes)) ∙ s.is ∙ append-nil (notes tree env)
@@ -236,22 +236,3 @@ starts s keys ss bs n os l e =
 
 pub starts_stuck : (ss : List Shape) (bs : List Note) (n : ℕ) → length ss ≤ n → None ≡ first_stuck n (drop n ss) bs
 starts_stuck ss bs n l = sym (ap (λ l. first_stuck n l bs) (drop_all n ss l))
-
-module _ (s : Store) (noted : Noted) (k : ℕ) (p : Process) (env : Env) (h : IsNoted s noted k p env) (id : ℕ) (z : id ≤ 0) (items : List (Option Sum)) (t : Tops s noted.keys items (run (drop id (spelled k p)) (drop id (scan 0 env [] (spelled k p))))) where
-  stack_is : Tops s noted.keys items (effect_of (numbered [] k p) env ∷ [])
-  stack_is =
-      let e : id ≡ 0 = omega arith in
-      subst (Tops s noted.keys items) (ap (λ i. run (drop i (spelled k p)) (drop i (scan 0 env [] (spelled k p)))) e ∙ run_is k p env h.names) t
-
-  pub ends_with : (rest : List (Option Sum)) (o : Option Sum) → items ≡ rest ++ o ∷ [] → StandsFor (with_keys s noted.keys) o (effect_of (numbered [] k p) env)
-  ends_with rest o e = (tops_top (with_keys s noted.keys) items rest o (effect_of (numbered [] k p) env ∷ []) e stack_is).0
-
-  pub ends_not_empty : length items ≡ 0 → ⊥
-  ends_not_empty e = go items e stack_is
-    where
-      go : (items : List (Option Sum)) → length items ≡ 0 → Tops s noted.keys items (effect_of (numbered [] k p) env ∷ []) → ⊥
-      go [] e t = cc
-      go (o ∷ items) e t = omega arith
-
-  pub ends_stuck : (r : Option ℕ) → r ≡ first_stuck id (drop id (spelled k p)) (drop id (scan 0 env [] (spelled k p))) → r ≡ first_stuck 0 (spelled k p) (scan 0 env [] (spelled k p))
-  ends_stuck r w = let e : id ≡ 0 = omega arith in w ∙ ap (λ i. first_stuck i (drop i (spelled k p)) (drop i (scan 0 env [] (spelled k p)))) e

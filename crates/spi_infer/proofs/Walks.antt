@@ -20,7 +20,7 @@ use Rattle.spi_infer.specs.declared.waiting.Pending.{Pending}
 use Rattle.spi_infer.specs.Waiting.{Queued, waiting_none, Reaches, AreLater}
 use Rattle.spi_infer.specs.Walking.{GrowsTo, Walked, IsPassed}
 use Rattle.spi_infer.proofs.Kept.{are_noted_keep, noted_push}
-use Rattle.spi_infer.proofs.Stacks.{drop_at_get, scan_more}
+use Rattle.spi_infer.proofs.Scanning.{drop_at_get, scan_more}
 
 -- scopes
 get_append : (a b : List Shape) (i : ℕ) (x : Shape) → slice_get (a ++ b) i ≡ Some x → (slice_get a i ≡ Some x) ⊎ ((j : ℕ) × (slice_get b j ≡ Some x))

@@ -1,10 +1,11 @@
 // The backward pass by counts: a stack of the effects of processes, where a process has one.
-ghost use Rattle.std.specs.Prelude.{◌≡◌, ◌≤◌, ℕ, not, true, length, List, Option, Some, [], ◌∷◌, IfOk, OnOk};
-ghost use Rattle.spi_term.specs.Term.{Effect};
+ghost use Rattle.std.specs.Prelude.{◌≡◌, ◌≤◌, ◌<◌, ℕ, not, true, length, drop, List, Option, Some, [], ◌∷◌, IfOk, OnOk};
+ghost use Rattle.spi_term.specs.Term.{Effect, Process as ProcessTerm, process_size};
 ghost use Rattle.spi_term.specs.View.{shape_of};
 ghost use Rattle.spi_term.specs.Arena.{scope_of};
 ghost use Rattle.spi_term.specs.Spelling.{spelled, numbered};
 ghost use Rattle.spi_rules.specs.Environment.{Env};
+ghost use Rattle.spi_rules.specs.Blocking.{NodeOf};
 ghost use Rattle.spi_intern.specs.declared.store.Store.{Store};
 ghost use Rattle.spi_intern.specs.Meaning.{NoneTwice};
 ghost use Rattle.spi_infer.specs.declared.keys.Keys.{Keys};
@@ -146,24 +147,26 @@ pub fn act_on(
     }
 }
 
-/// The least effect of a process by counts, where it has one, and its first node in preorder that has none though each
-/// process in it has one. `noted` is what is kept of its nodes, by the numbers of the store.
+/// The least effect of a node's process by counts, where it has one, and the first node from there on in preorder that has
+/// none though each process in it has one. `noted` is what is kept of the nodes, by the numbers of the store.
 pub fn account(
     alloc: Global,
     process: &Process,
     noted: &Noted,
     store: &Store,
+    from: u32,
 ) -> Result<(Option<Sum>, Option<u32>), NoMemory>
-    requires { (env : Env) × IsNoted store.now noted.now process.now.names process.now.process env }
-    ensures effect { IfOk result (λ r. (env : Env) → IsNoted store.now noted.now process.now.names process.now.process env → StandsFor (with_keys store.now noted.now.keys) r.0 (effect_of (numbered [] process.now.names process.now.process) env)) }
-    ensures stuck { IfOk result (λ r. (env : Env) → IsNoted store.now noted.now process.now.names process.now.process env → r.1 ≡ first_stuck 0 (spelled process.now.names process.now.process) (scan 0 env [] (spelled process.now.names process.now.process))) }
+    requires noted { (env : Env) × IsNoted store.now noted.now process.now.names process.now.process env }
+    requires from { from < process_size process.now.process }
+    ensures effect { IfOk result (λ r. (env e : Env) (q : ProcessTerm) → IsNoted store.now noted.now process.now.names process.now.process env → NodeOf env process.now.process from e q → StandsFor (with_keys store.now noted.now.keys) r.0 (effect_of (numbered [] (length e) q) e)) }
+    ensures stuck { IfOk result (λ r. (env : Env) → IsNoted store.now noted.now process.now.names process.now.process env → r.1 ≡ first_stuck from (drop from (spelled process.now.names process.now.process)) (drop from (scan 0 env [] (spelled process.now.names process.now.process)))) }
     ensures once { NoneTwice store.now }
 {
     // The count is asked for what its answer says: nothing has two numbers.
     let _ = store.distinct();
     let mut stack = Vec::new(alloc);
     let mut stuck = None;
-    for id in (0..process.len()).rev() {
+    for id in (from..process.len()).rev() {
         let node = process.node(id);
         let note = &noted.notes[id as usize];
         if act_on(alloc, store, &noted.keys, node, note, &mut stack)? {
