@@ -13,7 +13,7 @@ use Rattle.spi_infer.proofs.Opened.{numbered_leaf, numbered_prefix, numbered_for
 use Rattle.spi_infer.proofs.Reach.{Reaches, reach_root, reach_prefix, reach_first, reach_rest}
 use Rattle.spi_infer.proofs.Blocked.{reach_within}
 use Rattle.spi_infer.proofs.Nodes.{node_of}
-use Rattle.spi_infer.proofs.Walked.{drop_at}
+use Rattle.spi_infer.proofs.Scanning.{drop_at_get}
 use Rattle.spi_infer.proofs.Located.{located}
 
 -- node i is on the way to `node`
@@ -48,7 +48,7 @@ module _ (k : ℕ) (p : Process) (env : Env) (names : k ≡ length env) (node i 
   first_is : {q : Process} → Reaches env p i e q → (rest : List Shape) × (x ∷ drop (i + 1) (spelled k p) ≡ flat (0 + i) (length e) (numbered [] (length e) q) ++ rest)
   first_is {q} r =
       let w = located 0 r in
-      (w.rest, sym (drop_at (spelled k p) i x at) ∙ ap (λ k. drop i (spelled k p)) names ∙ w.shapes)
+      (w.rest, sym (drop_at_get (spelled k p) i x at) ∙ ap (λ k. drop i (spelled k p)) names ∙ w.shapes)
 
   scope_at : (q : Process) → Reaches env p i e q → scope_of x ≡ length e
   scope_at (leaf l) r =
@@ -136,6 +136,10 @@ module _ (k : ℕ) (p : Process) (env : Env) (names : k ≡ length env) (node i 
     pub nearer : Toward env p node i e → Descends x node e j e' → Next
     nearer t d = nearer_by t.process t.reached t.before d
 
+pub length_untrusted : (k : ℕ) → length (untrusted k) ≡ k
+length_untrusted zero = refl
+length_untrusted (suc k) = ap suc (length_untrusted k)
+
 -- the node itself
 pub toward_end : (k : ℕ) (p : Process) (node i : ℕ) (e : Env) → Toward (untrusted k) p node i e → node ≤ i → IsReached k p node e
 toward_end k p node i e t l =
@@ -143,36 +147,33 @@ toward_end k p node i e t l =
     (t.process, node_of (at_place z t.reached))
 
 -- each node is reached
-reached_by : (n : ℕ) (p : Process) (e : Env) (i : ℕ) → process_size p ≤ n → i < process_size p → (e' : Env) × (q : Process) × Reaches e p i e' q
-reached_by zero (leaf l) e i h l' = absurd (omega arith)
-reached_by zero (prefix s p) e i h l = absurd (omega arith)
-reached_by zero (fork f p q) e i h l = absurd (omega arith)
+abbrev pub IsNode : Env → Process → ℕ → Type 0
+IsNode e p i = (e' : Env) × (q : Process) × Reaches e p i e' q
+
+reached_fork : (e : Env) (f : Fork) (p q : Process) (i : ℕ) → i < process_size p + process_size q → ((j : ℕ) → j < process_size p → IsNode (e ++ on_first f) (enter (fork_binds f) (length e) p) j)
+    → ((j : ℕ) → j < process_size q → IsNode (e ++ on_rest f) (enter (fork_binds f) (length e) q) j) → IsNode e (fork f p q) (suc i)
+reached_fork e f p q i l first rest = ⊎_elim here there (cases_lt i (process_size p))
+  where
+    here : i < process_size p → IsNode e (fork f p q) (suc i)
+    here g = let w = first i g in (w.0, w.1, reach_first {f = f} {q = q} w.2)
+
+    there : process_size p ≤ i → IsNode e (fork f p q) (suc i)
+    there g =
+        let w = rest (i - process_size p) (omega arith) in
+        (w.0, w.1, reach_rest {f = f} {p = p} w.2 (omega arith))
+
+reached_by : (n : ℕ) (p : Process) (e : Env) (i : ℕ) → process_size p ≤ n → i < process_size p → IsNode e p i
+reached_by zero p e i h l = absurd (omega (arith, h, l))
 reached_by (suc n) p e zero h l = (e, p, reach_root)
 reached_by (suc n) (leaf b) e (suc i) h l = absurd (omega (arith, l))
 reached_by (suc n) (prefix s p) e (suc i) h l =
     let m = size_enter (binds s) (length e) p in
     let w = reached_by n (enter (binds s) (length e) p) (e ++ more e s) i (omega (arith, m, h)) (omega (arith, m, l)) in
     (w.0, w.1, reach_prefix {s = s} w.2)
-reached_by (suc n) (fork f p q) e (suc i) h l = ⊎_elim here there (cases_lt i (process_size p))
-  where
-    abbrev a : Process
-    a = enter (fork_binds f) (length e) p
+reached_by (suc n) (fork f p q) e (suc i) h l =
+    let m = size_enter (fork_binds f) (length e) p in
+    let m' = size_enter (fork_binds f) (length e) q in
+    reached_fork e f p q i (omega (arith, l)) (λ j g. reached_by n (enter (fork_binds f) (length e) p) (e ++ on_first f) j (omega (arith, m, h)) (omega (arith, m, g))) (λ j g. reached_by n (enter (fork_binds f) (length e) q) (e ++ on_rest f) j (omega (arith, m', h)) (omega (arith, m', g)))
 
-    abbrev b : Process
-    b = enter (fork_binds f) (length e) q
-
-    here : i < process_size p → (e' : Env) × (r : Process) × Reaches e (fork f p q) (suc i) e' r
-    here g =
-        let m = size_enter (fork_binds f) (length e) p in
-        let w = reached_by n a (e ++ on_first f) i (omega (arith, m, h)) (omega (arith, m, g)) in
-        (w.0, w.1, reach_first {f = f} {q = q} w.2)
-
-    there : process_size p ≤ i → (e' : Env) × (r : Process) × Reaches e (fork f p q) (suc i) e' r
-    there g =
-        let m = size_enter (fork_binds f) (length e) q in
-        let j = i - process_size p in
-        let w = reached_by n b (e ++ on_rest f) j (omega (arith, m, h)) (omega (arith, m, l)) in
-        (w.0, w.1, reach_rest {f = f} {p = p} w.2 (omega arith))
-
-pub each_reached : (p : Process) (e : Env) (i : ℕ) → i < process_size p → (e' : Env) × (q : Process) × Reaches e p i e' q
+pub each_reached : (p : Process) (e : Env) (i : ℕ) → i < process_size p → IsNode e p i
 each_reached p e i l = reached_by (process_size p) p e i (omega arith) l

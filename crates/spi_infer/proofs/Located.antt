@@ -1,5 +1,5 @@
 -- Where the nodes of a node's process stand, and what the passes see of them.
-use Rattle.std.proofs.Common.{◌≡◌, ℕ, zero, suc, ◌+◌, ◌<◌, ◌≤◌, List, [], ◌∷◌, ◌++◌, length, drop, refl, sym, ap, ◌∙◌, subst, arith, Option, append-nil, append_assoc, length-append}
+use Rattle.std.proofs.Common.{◌≡◌, ℕ, zero, suc, ◌+◌, ◌<◌, ◌≤◌, List, [], ◌∷◌, ◌++◌, length, take, drop, refl, sym, ap, ◌∙◌, subst, arith, Option, append-nil, append_assoc, length-append}
 use Rattle.spi_term.specs.Term.{Effect, Process, leaf, prefix, fork, binds, fork_binds, process_size}
 use Rattle.spi_term.specs.Names.{MessageOver, OfProcess, ProcessOver}
 use Rattle.spi_term.specs.Spelling.{Shape, flat, numbered, spelled}
@@ -11,10 +11,9 @@ use Rattle.spi_rules.specs.Environment.{Env}
 use Rattle.spi_infer.specs.Forms.{enter, more, on_first, on_rest, effect_of}
 use Rattle.spi_infer.specs.Passes.{Note, scan, run}
 use Rattle.spi_infer.proofs.Opened.{length_more, length_first, length_rest, numbered_prefix, numbered_fork, size_enter}
-use Rattle.spi_infer.proofs.Passes.{notes, run_flat}
+use Rattle.spi_infer.proofs.Passes.{notes, scan_flat, run_flat}
 use Rattle.spi_infer.proofs.Reach.{Reaches, reach_root, reach_prefix, reach_first, reach_rest}
 use Rattle.spi_infer.proofs.Blocked.{reach_within}
-use Rattle.spi_infer.proofs.Walked.{scan_is}
 
 -- lists
 length_flat : (q : Process) (i k : ℕ) → length (flat i k q) ≡ process_size q
@@ -135,6 +134,18 @@ located {e = e} {e' = e'} {q = p'} at (reach_rest {f = f} {p = p} {q = q} {i = i
           ∙ drop_right (notes a e1) (notes b e2) i j l'
           ∙ w.seen;
     }
+
+take_whole : (e : Env) → take (length e) e ≡ e
+take_whole [] = refl
+take_whole (t ∷ e) = ap (λ l. t ∷ l) (take_whole e)
+
+-- what the forward pass notes
+pub scan_is : (k : ℕ) (p : Process) (env : Env) → k ≡ length env → scan 0 env [] (spelled k p) ≡ notes (numbered [] k p) env
+scan_is k p env names =
+    let nodes = spelled k p in
+    let tree = numbered [] k p in
+    let s = scan_flat tree env env [] [] 0 k [] names (ap (λ n. take n env) names ∙ take_whole env) refl tt in
+    ap (scan 0 env []) (sym (append-nil nodes)) ∙ s.is ∙ append-nil (notes tree env)
 
 -- the backward pass has come to the effect of node i's process there
 pub record RunsTo (k : ℕ) (p : Process) (env : Env) (i : ℕ) (e : Env) (q : Process) : Type 0 where

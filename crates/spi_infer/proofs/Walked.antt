@@ -23,9 +23,9 @@ use Rattle.spi_infer.specs.Forms.{more, on_first, on_rest, effect_of}
 use Rattle.spi_infer.specs.Passes.{Note, scan, run, act, is_stuck, first_stuck}
 use Rattle.spi_infer.specs.Accounts.{BelowIn, MayBelowIn, TopBelowIn, BothBelowIn, Behind, CheckGiven, CastGiven, OwnGiven, NoteGiven, Tops, IsBefore, IsNoted}
 use Rattle.spi_infer.proofs.Opened.{length_more, length_first, length_rest}
-use Rattle.spi_infer.proofs.Passes.{notes, scan_flat, run_flat}
+use Rattle.spi_infer.proofs.Passes.{notes, run_flat}
 use Rattle.spi_infer.proofs.Below.{below_effect}
-use Rattle.spi_infer.proofs.Accounted.{tops_top}
+use Rattle.spi_infer.proofs.Located.{scan_is}
 
 -- the effects behind each node
 abbrev pub AllBehind : List Shape → List Note → Type 0
@@ -147,38 +147,14 @@ fits_given s keys (leaf_at k l) paid own f = tt
 fits_given s keys (prefix_at k p b) paid own f = form_given s keys k p paid own f b
 fits_given s keys (fork_at k g a r) paid own f = tt
 
-take_whole_of : (e : Env) → take (length e) e ≡ e
-take_whole_of [] = refl
-take_whole_of (t ∷ e) = ap (λ l. t ∷ l) (take_whole_of e)
-
-module _ (k : ℕ) (p : Process) (env : Env) (names : k ≡ length env) where
-  abbrev pub nodes : List Shape
-  nodes = spelled k p
-
-  abbrev pub tree : Process
-  tree = numbered [] k p
-
-  abbrev pub seen : List Note
-  seen = scan 0 env [] nodes
-
-  pub scan_is : seen ≡ notes tree env
-  scan_is =
-      let s = scan_flat tree env env [] [] 0 k [] names (ap (λ n. take n env) names ∙ take_whole_of env) refl tt in
-      ap (scan 0 env []) (sym (append-nil nodes)) ∙ s.is ∙ append-nil (notes tree env)
-
-  pub run_is : run nodes seen ≡ effect_of tree env ∷ []
-  run_is =
-      ap (run nodes) scan_is
-      ∙ ap (λ l. run l (notes tree env)) (sym (append-nil nodes))
-      ∙ ap (run (nodes ++ [])) (sym (append-nil (notes tree env)))
-      ∙ run_flat tree env 0 k [] [] names
-
-  all_behind : ProcessOver k p → AllBehind nodes seen
-  all_behind over =
-      let z : k ≡ k + 0 = omega arith in
-      let o = subst (λ n. InScope n tree) refl (numbered_in_scope k 0 k z p over) in
-      let b = behind_flat tree env 0 k [] [] names o tt in
-      subst (AllBehind nodes) (sym scan_is) (subst (AllBehind nodes) (append-nil (notes tree env)) (subst (λ l. AllBehind l (notes tree env ++ [])) (append-nil nodes) b))
+all_behind : (k : ℕ) (p : Process) (env : Env) → k ≡ length env → ProcessOver k p → AllBehind (spelled k p) (scan 0 env [] (spelled k p))
+all_behind k p env names over =
+    let nodes = spelled k p in
+    let tree = numbered [] k p in
+    let z : k ≡ k + 0 = omega arith in
+    let o = subst (λ n. InScope n tree) refl (numbered_in_scope k 0 k z p over) in
+    let b = behind_flat tree env 0 k [] [] names o tt in
+    subst (AllBehind nodes) (sym (scan_is k p env names)) (subst (AllBehind nodes) (append-nil (notes tree env)) (subst (λ l. AllBehind l (notes tree env ++ [])) (append-nil nodes) b))
 
 -- one node
 module _ (s : Store) (noted : Noted) (k : ℕ) (p : Process) (env : Env) (h : IsNoted s noted k p env) (i : ℕ) (x : Shape) (g : slice_get (spelled k p) i ≡ Some x) (o : OwnNote) (ix : o ≡ get_or noted.notes.items i o) where
