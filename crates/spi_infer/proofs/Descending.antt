@@ -7,12 +7,13 @@ use Rattle.spi_term.specs.Spelling.{Shape, leaf_at, prefix_at, fork_at, flat, nu
 use Rattle.spi_term.specs.Arena.{scope_of}
 use Rattle.spi_term.proofs.Numbers.{size_numbered, small_node}
 use Rattle.spi_rules.specs.Environment.{Env, untrusted}
+use Rattle.spi_rules.specs.Blocking.{NodeOf}
 use Rattle.spi_infer.specs.Forms.{enter, more, on_first, on_rest}
 use Rattle.spi_infer.specs.Inferring.{IsReached, Descends}
 use Rattle.spi_infer.proofs.Opened.{numbered_leaf, numbered_prefix, numbered_fork, size_enter}
 use Rattle.spi_infer.proofs.Reach.{Reaches, reach_root, reach_prefix, reach_first, reach_rest}
 use Rattle.spi_infer.proofs.Blocked.{reach_within}
-use Rattle.spi_infer.proofs.Nodes.{node_of}
+use Rattle.spi_infer.proofs.Nodes.{node_of, reached_of}
 use Rattle.spi_infer.proofs.Scanning.{drop_at_get}
 use Rattle.spi_infer.proofs.Located.{located}
 
@@ -175,5 +176,32 @@ reached_by (suc n) (fork f p q) e (suc i) h l =
     let m' = size_enter (fork_binds f) (length e) q in
     reached_fork e f p q i (omega (arith, l)) (λ j g. reached_by n (enter (fork_binds f) (length e) p) (e ++ on_first f) j (omega (arith, m, h)) (omega (arith, m, g))) (λ j g. reached_by n (enter (fork_binds f) (length e) q) (e ++ on_rest f) j (omega (arith, m', h)) (omega (arith, m', g)))
 
-pub each_reached : (p : Process) (e : Env) (i : ℕ) → i < process_size p → IsNode e p i
+each_reached : (p : Process) (e : Env) (i : ℕ) → i < process_size p → IsNode e p i
 each_reached p e i l = reached_by (process_size p) p e i (omega arith) l
+
+-- and at one environment and process only
+reached_one : {e e1 e2 : Env} {p q1 q2 : Process} {i j : ℕ} → Reaches e p i e1 q1 → Reaches e p j e2 q2 → i ≡ j → (e1 ≡ e2) × (q1 ≡ q2)
+reached_one reach_root reach_root h = (refl, refl)
+reached_one reach_root (reach_prefix s) h = absurd (omega (arith, h))
+reached_one reach_root (reach_first s) h = absurd (omega (arith, h))
+reached_one reach_root (reach_rest s g) h = absurd (omega (arith, h))
+reached_one (reach_prefix r) reach_root h = absurd (omega (arith, h))
+reached_one (reach_prefix r) (reach_prefix s) h = reached_one r s (omega (arith, h))
+reached_one (reach_first r) reach_root h = absurd (omega (arith, h))
+reached_one (reach_first r) (reach_first s) h = reached_one r s (omega (arith, h))
+reached_one (reach_first {e = e} {f = f} {p = p} r) (reach_rest s g) h =
+    let l = reach_within r in
+    let m = size_enter (fork_binds f) (length e) p in
+    absurd (omega (arith, h, g, l, m))
+reached_one (reach_rest r g) reach_root h = absurd (omega (arith, h))
+reached_one (reach_rest {e = e} {f = f} {p = p} r g) (reach_first s) h =
+    let l = reach_within s in
+    let m = size_enter (fork_binds f) (length e) p in
+    absurd (omega (arith, h, g, l, m))
+reached_one (reach_rest r g) (reach_rest s g') h = reached_one r s (omega (arith, h, g, g'))
+
+pub one_node : {env e1 e2 : Env} {p q1 q2 : Process} {i : ℕ} → NodeOf env p i e1 q1 → NodeOf env p i e2 q2 → (e1 ≡ e2) × (q1 ≡ q2)
+one_node m n = reached_one (reached_of m) (reached_of n) refl
+
+pub some_node : (p : Process) (env : Env) (i : ℕ) → i < process_size p → (e : Env) × (q : Process) × NodeOf env p i e q
+some_node p env i l = let w = each_reached p env i l in (w.0, w.1, node_of w.2)

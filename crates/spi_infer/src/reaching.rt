@@ -1,8 +1,11 @@
 // The reached environment of a node.
-ghost use Rattle.std.specs.Prelude.{◌≡◌, ◌+◌, ◌≤◌, ◌<◌, [], ◌∷◌, ◌++◌, IfOk, OnOk, length};
+ghost use Rattle.std.specs.Prelude.{◌≡◌, ℕ, ◌+◌, ◌≤◌, ◌<◌, [], ◌∷◌, ◌++◌, IfOk, OnOk, length};
+ghost use Rattle.spi_term.specs.Term as Term;
 ghost use Rattle.spi_term.specs.Term.{name, process_size};
 ghost use Rattle.spi_term.specs.Substitution.{ty_put};
 ghost use Rattle.spi_term.specs.View.{message, ty as type_of, shape_of};
+ghost use Rattle.spi_rules.specs.Environment as Rules;
+ghost use Rattle.spi_rules.specs.Blocking.{NodeOf};
 ghost use Rattle.spi_infer.specs.Inferring.{Descends, IsReached};
 
 use crate::NoMemory;
@@ -107,3 +110,9 @@ pub fn reached(alloc: Global, process: &Process, node: u32) -> Result<Env, NoMem
     }
     Ok(env)
 }
+
+/// A process has a node for each number below that of its nodes, with one reached environment and one process there.
+pub fn nodes_are_reached()
+    ensures some { (env : Rules.Env) (p : Term.Process) (i : ℕ) → i < process_size p → (e : Rules.Env) × (q : Term.Process) × NodeOf env p i e q }
+    ensures one { (env e f : Rules.Env) (p q r : Term.Process) (i : ℕ) → NodeOf env p i e q → NodeOf env p i f r → (e ≡ f) × (q ≡ r) }
+{}
