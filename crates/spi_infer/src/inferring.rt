@@ -52,6 +52,7 @@ fn least_from(
     ensures kept { IsKept judge.old judge.new }
 {
     judge.stands_for_one();
+    let _ = process.len();
     let noted = own_notes(alloc, judge, process)?;
     let store = judge.store();
     let (sum, stuck) = account(alloc, process, &noted, store, node)?;
