@@ -70,10 +70,13 @@ pub fn infer_in(alloc: Global, judge: &mut Judge, process: &Process) -> Result<I
 {
     judge.stands_for_one();
     let _ = process.len();
-    match least_from(alloc, judge, process, 0)? {
-        (Some(effect), _) => Ok(Inferred::Least(effect)),
-        (None, Some(id)) => Ok(Inferred::Blocked(id)),
-        (None, None) => unreachable!(),
+    let (effect, stuck) = least_from(alloc, judge, process, 0)?;
+    match effect {
+        Some(effect) => Ok(Inferred::Least(effect)),
+        None => match stuck {
+            Some(id) => Ok(Inferred::Blocked(id)),
+            None => unreachable!(),
+        },
     }
 }
 
