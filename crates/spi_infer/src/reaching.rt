@@ -79,10 +79,17 @@ fn descend(alloc: Global, node: &Node, target: u32, env: &mut Env) -> Result<u32
             body,
             ..
         } => enter_opened(alloc, second, equal, *body, env),
-        Form::Branch { left, on_left, on_right, .. } if target < *on_right => {
-            enter(alloc, left, *on_left, env)
-        }
-        Form::Branch { right, on_right, .. } => enter(alloc, right, *on_right, env),
+        Form::Branch {
+            left,
+            on_left,
+            on_right,
+            ..
+        } if target < *on_right => { enter(alloc, left, *on_left, env) }
+        Form::Branch {
+            right,
+            on_right,
+            ..
+        } => enter(alloc, right, *on_right, env),
         Form::Decrypt { ty, body, .. } => enter(alloc, ty, *body, env),
         Form::Check { body, .. } => Ok(*body),
         Form::Begin { body, .. } => Ok(*body),
