@@ -1,5 +1,6 @@
 // The forward pass: what is kept of each node in its reached environment, over a judge.
-ghost use Rattle.std.specs.Prelude.{◌≡◌, ◌≤◌, List, [], IfOk, OnOk, length};
+ghost use Rattle.std.specs.Prelude.{◌≡◌, ◌+◌, ◌≤◌, List, [], IfOk, OnOk, OnErr, length};
+ghost use Rattle.spi_term.specs.Term.{process_size};
 ghost use Rattle.spi_term.specs.Spelling.{HasSmallParts, spelled};
 ghost use Rattle.spi_term.specs.View.{shape_of};
 ghost use Rattle.spi_rules.specs.Environment.{Env};
@@ -14,10 +15,12 @@ use crate::binding::{cut_to, enter, settle};
 use crate::keeping::own_note;
 use crate::keys::Keys;
 use crate::own::{Noted, OwnNote};
+use crate::steps::Steps;
 use crate::waiting::{Pending, put_off};
 use spi_message::{Judge, NoMemory};
 use spi_term::{Node, Process};
 use std::alloc::Global;
+use std::sync::ledger::Ledger;
 
 // What is kept of the node with this number. The environment is cut back to its scope first, and what the node binds in its
 // first process is bound at last.
@@ -46,18 +49,26 @@ fn visit(
     Ok(note)
 }
 
-// Forward over the nodes.
-fn walk(alloc: Global, judge: &mut Judge, process: &Process) -> Result<Noted, NoMemory>
+// Forward over the nodes. Each is a step.
+fn walk<L: Ledger>(
+    alloc: Global,
+    judge: &mut Judge,
+    process: &Process,
+    steps: &mut Steps<L>,
+) -> Result<Noted, NoMemory>
     requires judge { IsJudge judge.old.store judge.old.free judge.old.types }
     requires names { length judge.old.types ≡ process.now.names }
     ensures notes { IfOk result (λ n. (e : Env) → Stands judge.old e → AreNoted judge.new.store (with_keys judge.new.store n.keys) (spelled process.now.names process.now.process) (scan 0 e [] (spelled process.now.names process.now.process)) n.notes.items) }
     ensures keys { IfOk result (λ n. AreKept judge.new.store n.keys) }
     ensures above { IsAbove judge.old judge.new }
+    ensures counted { OnOk result (steps.new ≡ steps.old + process_size process.now.process) }
+    ensures fewer { OnErr result ((steps.old ≤ steps.new) × (steps.new ≤ steps.old + process_size process.now.process)) }
 {
     let mut keys = Keys::new(alloc);
     let mut pending = Vec::new(alloc);
     let mut notes = Vec::new(alloc);
     for id in 0..process.len() {
+        steps.tick();
         let node = process.node(id);
         let note = visit(alloc, judge, &mut keys, node, id, &mut pending)?;
         notes.push(note)?;
@@ -65,16 +76,24 @@ fn walk(alloc: Global, judge: &mut Judge, process: &Process) -> Result<Noted, No
     Ok(Noted { notes, keys })
 }
 
-/// What is kept of each node, in the judge's environment. Afterwards the judge stands for what it stood for.
-pub fn own_notes(alloc: Global, judge: &mut Judge, process: &Process) -> Result<Noted, NoMemory>
+/// What is kept of each node, in the judge's environment. Afterwards the judge stands for what it stood for. Each node is
+/// a step; where memory runs out, so many nodes were visited.
+pub fn own_notes<L: Ledger>(
+    alloc: Global,
+    judge: &mut Judge,
+    process: &Process,
+    steps: &mut Steps<L>,
+) -> Result<Noted, NoMemory>
     requires judge { IsJudge judge.old.store judge.old.free judge.old.types }
     requires names { length judge.old.types ≡ process.now.names }
     ensures notes { IfOk result (λ n. (e : Env) → Stands judge.old e → AreNoted judge.new.store (with_keys judge.new.store n.keys) (spelled process.now.names process.now.process) (scan 0 e [] (spelled process.now.names process.now.process)) n.notes.items) }
     ensures keys { IfOk result (λ n. AreKept judge.new.store n.keys) }
     ensures kept { IsKept judge.old judge.new }
+    ensures counted { OnOk result (steps.new ≡ steps.old + process_size process.now.process) }
+    ensures fewer { OnErr result ((steps.old ≤ steps.new) × (steps.new ≤ steps.old + process_size process.now.process)) }
 {
     let count = judge.len();
-    let noted = walk(alloc, judge, process);
+    let noted = walk(alloc, judge, process, steps);
     cut_to(judge, count);
     noted
 }

@@ -1,9 +1,13 @@
 // Inference by example.
 
-ghost use Rattle.std.specs.Prelude.{◌≡◌, IfOk, IfSome};
+ghost use Rattle.std.specs.Prelude.{◌≡◌, ◌<◌, IfOk, IfSome, length};
 
 use super::*;
-use spi_term::{Form, Msg, Node, Ty};
+use spi_message::Judge;
+use spi_term::{Form, Msg, Node, Process, Ty};
+use std::alloc::Global;
+use std::marker::Brand;
+use std::sync::ledger::{Blank, Ledger};
 use std::test::Fail;
 
 // new (x: Un); end n; stop, over the free name 0. The name x has the number 1.
@@ -29,6 +33,22 @@ fn ends(alloc: Global, n: u32) -> Result<Option<Process>, NoMemory>
     Ok(Process::from_nodes(1, Vec::from_array(alloc, nodes)?))
 }
 
+fn infer_counted<L: Ledger>(
+    alloc: Global,
+    judge: &mut Judge,
+    process: &Process,
+    blank: Blank,
+) -> Result<Inferred, NoMemory>
+    requires names { length judge.old.types ≡ process.now.names }
+    requires name { blank.name ≡ L.name }
+    requires parts { blank.parts ≡ L.parts }
+    requires some { 0 < blank.parts }
+    ensures { judge.new.types ≡ judge.old.types }
+{
+    let mut steps = Steps::<L>::new(blank);
+    infer_in(alloc, judge, process, &mut steps)
+}
+
 #[test]
 fn the_end_of_a_free_name_is_the_least_effect(rt: HostRuntime) -> Result<(), Fail> {
     let alloc = rt.alloc();
@@ -38,7 +58,7 @@ fn the_end_of_a_free_name_is_the_least_effect(rt: HostRuntime) -> Result<(), Fai
         Inferred::Blocked(_) => assert!(rt; false),
     }
     let mut judge = Judge::new(alloc, 1)?;
-    match infer_in(alloc, &mut judge, &process)? {
+    match infer_counted::<Brand>(alloc, &mut judge, &process, Blank::new(1))? {
         Inferred::Least(effect) => assert_eq!(rt; effect.atoms.len(), 1),
         Inferred::Blocked(_) => assert!(rt; false),
     }
