@@ -1,8 +1,7 @@
 -- Answers of a judge, joined.
-use Rattle.std.proofs.Common.{◌≡◌, ◌↔◌, ℕ, zero, suc, ◌+◌, ◌<◌, ◌^◌, Bool, true, false, ◌&&◌, ◌||◌, List, [], ◌∷◌, Some, None, length, refl, sym, ap, subst, ◌∙◌, arith, Result, Ok, Err, IfOk}
+use Rattle.std.proofs.Common.{◌≡◌, ◌↔◌, ℕ, zero, suc, ◌<◌, Bool, true, false, ◌&&◌, ◌||◌, List, [], ◌∷◌, Some, None, length, refl, sym, ap, subst, ◌∙◌, arith, Result, Ok, Err, IfOk}
 use Rattle.std.specs.Prelude.{slice_get}
 use Rattle.spi_term.specs.Term.{Message, name, Ty, un, nonce}
-use Rattle.spi_term.specs.Spelling.{ty_nodes}
 use Rattle.spi_rules.specs.Environment.{Env}
 use Rattle.spi_rules.specs.Messages.{HasType, IsLabel}
 use Rattle.spi_rules.specs.Good.{GoodTy}
@@ -16,9 +15,9 @@ use Rattle.spi_intern.specs.declared.store.TyPart.{TyPart}
 use Rattle.spi_intern.specs.declared.store.TyPart.TheVariants.{Un, Unit as NoParts, Pair, Sum, Key, Nonce}
 use Rattle.spi_intern.proofs.Lists.{truths}
 use Rattle.spi_intern.proofs.Meanings.{terms_same, terms_more}
-use Rattle.spi_message.specs.Judging.{Numbered, Stands, StandFor, IsKept, IsGivenSmall}
+use Rattle.spi_message.specs.Judging.{Numbered, Stands, StandFor, IsKept}
 use Rattle.spi_message.specs.Asking.{IsEnvironment}
-use Rattle.spi_message.specs.Tests.{typed, labelled, good, nonce_in, nonce_of}
+use Rattle.spi_message.specs.Tests.{typed, labelled, good, nonce_in}
 use Rattle.spi_message.proofs.Deciding.{typed_true, typed_from, labelled_true, labelled_from, good_true, good_from}
 use Rattle.spi_message.proofs.Standing.{stand_keeps, stand_at, stand_none_at}
 use Rattle.spi_infer.specs.Forms.{is_nonce}
@@ -36,9 +35,6 @@ stands_kept {j} {k} {e} h s = subst (λ ids. StandFor k.store ids e) (sym h.type
 
 pub env_kept : {j k : Numbered} → IsKept j k → IsEnvironment j.store j.types → IsEnvironment k.store k.types
 env_kept {j} {k} h s = record { env = s.env; stands = stands_kept {j = j} {k = k} h s.stands }
-
-pub test_kept : {j k : Numbered} {f : Env → Bool} {b : Bool} → IsKept j k → IsTest k f b → IsTest j f b
-test_kept {j} {k} h t = record { at = λ e s. t.at e (stands_kept {j = j} {k = k} h s) }
 
 pub message_kept : {j k : Numbered} (i : ℕ) (m : Message) → IsKept j k → slice_get j.store.messages i ≡ Some m → slice_get k.store.messages i ≡ Some m
 message_kept i m h e = h.store.messages.at i m e
@@ -68,22 +64,10 @@ good_test j k t u h w (Ok b) f = record {
 }
 good_test j k t u h w (Err x) f = tt
 
-pub given_small : (j k : Numbered) (t : TyId) (u : Ty) → IsKept j k → Means k.store t.place u → length j.types + ty_nodes u < 2 ^ 32 → IsGivenSmall k.store t.place (length k.types)
-given_small j k t u h w f = record { type = u; means = w; few = subst (λ ids. length ids + ty_nodes u < 2 ^ 32) (sym h.types) f }
-
 -- answers joined
 pub and_then : {E : Type 0} {j k : Numbered} (f g : Env → Bool) {a : Bool} → IsTest j f a → a ≡ true → IsKept j k → (r : Result Bool E) → IfOk r (IsTest k g) → IfOk r (IsTest j (λ e. f e && g e))
 and_then {j = j} {k = k} f g t h c (Ok b) u = record { at = λ e s. u.at e (stands_kept {j = j} {k = k} c s) ∙ ap (λ a. a && g e) (sym h ∙ t.at e s) }
 and_then f g t h c (Err x) u = tt
-
-pub and_here : {j : Numbered} (f : Env → Bool) {a b c : Bool} → IsTest j f a → a ≡ true → b ≡ c → IsTest j (λ e. f e && c) b
-and_here f {c = c} t h q = record { at = λ e s. q ∙ ap (λ a. a && c) (sym h ∙ t.at e s) }
-
-pub and_not : {j : Numbered} (f g : Env → Bool) {a : Bool} → IsTest j f a → a ≡ false → IsTest j (λ e. f e && g e) false
-and_not f g t h = record { at = λ e s. ap (λ a. a && g e) (sym h ∙ t.at e s) }
-
-pub or_first : {j : Numbered} (f g : Env → Bool) {a : Bool} → IsTest j f a → a ≡ true → IsTest j (λ e. f e || g e) true
-or_first f g t h = record { at = λ e s. ap (λ a. a || g e) (sym h ∙ t.at e s) }
 
 pub or_then : {E : Type 0} {j k : Numbered} (f g : Env → Bool) {a : Bool} → IsTest j f a → a ≡ false → IsKept j k → (r : Result Bool E) → IfOk r (IsTest k g) → IfOk r (IsTest j (λ e. f e || g e))
 or_then {j = j} {k = k} f g t h c (Ok b) u = record { at = λ e s. u.at e (stands_kept {j = j} {k = k} c s) ∙ ap (λ a. a || g e) (sym h ∙ t.at e s) }
@@ -92,13 +76,6 @@ or_then f g t h c (Err x) u = tt
 -- an answer about a type that is the same
 pub test_as : {j : Numbered} (F : Ty → Env → Bool) {t u : Ty} {b : Bool} → t ≡ u → IsTest j (F t) b → IsTest j (F u) b
 test_as {j} F {b = b} q t = subst (λ t. IsTest j (F t) b) q t
-
-pub fresh_then : {E : Type 0} (j : Numbered) (g : Env → Bool) {a c : Bool} → a ≡ c → a ≡ true → (r : Result Bool E) → IfOk r (IsTest j g) → IfOk r (IsTest j (λ e. c && g e))
-fresh_then j g q h (Ok b) u = record { at = λ e s. u.at e s ∙ ap (λ a. a && g e) (sym h ∙ q) }
-fresh_then j g q h (Err x) u = tt
-
-pub fresh_not : (j : Numbered) (g : Env → Bool) {a c : Bool} → a ≡ c → a ≡ false → IsTest j (λ e. c && g e) false
-fresh_not j g q h = record { at = λ e s. ap (λ a. a && g e) (sym h ∙ q) }
 
 -- names of Nonce types
 abbrev part_is_nonce : TyPart → Bool
@@ -151,10 +128,3 @@ past_get (x ∷ xs) (suc i) h = past_get xs i (λ l. h (omega arith))
 
 pub nonce_past : (j : Numbered) (x : ℕ) → (x < length j.types → ⊥) → IsNoNonce j (name x)
 nonce_past j x h = record { at = λ e s. ap nonce_in (stand_none_at s x (past_get j.types x h)) }
-
-pub nonce_test : {j : Numbered} {m : Message} {t : TyId} (g : Env → Bool) → IsNonceAt j m t → IsTest j (λ e. is_nonce (nonce_of e m) || g e) true
-nonce_test {m = m} g n = record { at = λ e s. let w = n.at e s in sym (ap (λ o. is_nonce o || g e) w.1) }
-
-pub no_nonce_test : {E : Type 0} {j : Numbered} {m : Message} (g : Env → Bool) → IsNoNonce j m → (r : Result Bool E) → IfOk r (IsTest j g) → IfOk r (IsTest j (λ e. is_nonce (nonce_of e m) || g e))
-no_nonce_test g n (Ok b) u = record { at = λ e s. u.at e s ∙ sym (ap (λ o. is_nonce o || g e) (n.at e s)) }
-no_nonce_test g n (Err x) u = tt

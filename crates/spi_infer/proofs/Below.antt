@@ -1,11 +1,11 @@
 -- The names of an effect are those in scope.
-use Rattle.std.proofs.Common.{◌≡◌, refl, sym, ap, ◌∙◌, subst, ℕ, zero, suc, ◌+◌, ◌-◌, ◌<◌, ◌≤◌, Bool, true, false, ◌||◌, ◌&&◌, [], ◌∷◌, ◌++◌, length, Option, Some, None, ◌⊎◌, inl, inr, ⊎_elim, arith, true≢false, length-append}
-use Rattle.spi_term.specs.Term.{Message, bound, name, unit, pair, in_left, in_right, enc, hash, Atom, ends, checks, many, Effect, Ty, un, unit_ty, pair_ty, sum_ty, key, nonce, Leaf, Prefix, Recvs, Serves, Splits, Selects, Decrypts, Checks, Begins, Ends, EndManys, Casts, Makes, Fork, Cases, Pars, Process, leaf, prefix, fork, binds, fork_binds}
+use Rattle.std.proofs.Common.{◌≡◌, refl, sym, ap, ◌∙◌, subst, ℕ, zero, suc, ◌+◌, ◌≤◌, Bool, true, false, ◌||◌, [], ◌∷◌, ◌++◌, length, Option, Some, None, ◌⊎◌, inl, inr, ⊎_elim, arith, true≢false, length-append}
+use Rattle.spi_term.specs.Term.{Message, bound, name, unit, pair, in_left, in_right, enc, hash, Atom, ends, checks, many, Effect, Ty, un, unit_ty, pair_ty, sum_ty, key, nonce, Prefix, Recvs, Serves, Splits, Selects, Decrypts, Checks, Begins, Ends, EndManys, Casts, Makes, Fork, Cases, Pars, Process, leaf, prefix, fork, binds, fork_binds}
 use Rattle.spi_term.specs.Lists.{In, in_first, in_later}
-use Rattle.spi_term.specs.Counts.{tally, count}
-use Rattle.spi_term.specs.Names.{MessageOver, OfAtom, OfEffect, OfTy, OfPrefix, OfFork}
+use Rattle.spi_term.specs.Counts.{tally}
+use Rattle.spi_term.specs.Names.{MessageOver, OfAtom, OfEffect, OfTy, OfPrefix}
 use Rattle.spi_term.specs.Arena.{InScope}
-use Rattle.spi_term.proofs.Counting.{tally_append, in_tally, tally_in, count_tally}
+use Rattle.spi_term.proofs.Counting.{in_tally, tally_in, count_tally}
 use Rattle.spi_effect.specs.Made.{are_many, minus, greater, mentions}
 use Rattle.spi_effect.proofs.Made.{minus_difference, or_false}
 use Rattle.spi_rules.specs.Environment.{Env}

@@ -3,7 +3,7 @@ use Rattle.std.proofs.Common.{◌≡◌, refl, sym, ap, ◌∙◌, subst, ℕ, z
 use Rattle.std.specs.Prelude.{slice_get}
 use Rattle.std.proofs.lemmas.Bool.{cases_lt}
 use Rattle.spi_term.specs.Term.{Prefix, Fork, Leaf, Process, leaf, prefix, fork, binds, fork_binds, process_size}
-use Rattle.spi_term.specs.Spelling.{Shape, leaf_at, prefix_at, fork_at, flat, numbered, spelled, IsSmall}
+use Rattle.spi_term.specs.Spelling.{Shape, prefix_at, fork_at, flat, numbered, spelled, IsSmall}
 use Rattle.spi_term.specs.Arena.{scope_of}
 use Rattle.spi_term.proofs.Numbers.{size_numbered, small_node}
 use Rattle.spi_rules.specs.Environment.{Env, untrusted}

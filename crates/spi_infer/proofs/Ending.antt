@@ -1,5 +1,5 @@
 -- Where the backward pass ends.
-use Rattle.std.proofs.Common.{◌≡◌, sym, ap, ◌∙◌, subst, ℕ, List, [], ◌∷◌, ◌++◌, length, drop, Option, arith}
+use Rattle.std.proofs.Common.{◌≡◌, ap, ◌∙◌, subst, ℕ, List, [], ◌∷◌, ◌++◌, length, drop, Option, arith}
 use Rattle.spi_term.specs.Term.{Effect, Process}
 use Rattle.spi_term.specs.Spelling.{numbered, spelled}
 use Rattle.spi_rules.specs.Environment.{Env}

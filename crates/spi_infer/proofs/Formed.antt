@@ -1,5 +1,5 @@
 -- What forms do to counts against what they do to effects.
-use Rattle.std.proofs.Common.{◌≡◌, refl, sym, ap, subst, ℕ, zero, suc, ◌+◌, ◌-◌, ◌*◌, ◌<◌, ◌≤◌, Bool, true, false, ◌||◌, [], ◌∷◌, ◌++◌, Option, Some, None, ◌⊎◌, inl, inr, ⊎_elim, arith}
+use Rattle.std.proofs.Common.{◌≡◌, refl, sym, ap, subst, ℕ, zero, suc, ◌+◌, ◌-◌, ◌*◌, ◌<◌, ◌≤◌, Bool, true, false, ◌||◌, [], ◌∷◌, Option, Some, None, ◌⊎◌, inl, inr, ⊎_elim, arith}
 use Rattle.std.specs.Prelude.{slice_get, max}
 use Rattle.spi_term.specs.Term.{Message, name, Atom, ends, checks, many, Effect, Ty, nonce, Casts, Pars}
 use Rattle.spi_term.specs.Spelling.{prefix_at, fork_at}
@@ -25,7 +25,7 @@ use Rattle.spi_infer.specs.declared.own.Own.{Own}
 use Rattle.spi_infer.specs.declared.own.Own.TheVariants.{Label}
 use Rattle.spi_infer.specs.Own.{with_keys, StandsFor}
 use Rattle.spi_infer.specs.Forms.{unless, keep, cast_effect_of}
-use Rattle.spi_infer.specs.Accounts.{IsKeyed, SumOf, Below, HaveKeys, TakesAtom, AddsAtom, AfterOne, AfterTwo, AfterServe, AfterMake, AfterCast, AfterCheck, AfterForm, OwnCast, OwnBegin, OwnEnd, OwnMany, BothCase, BothForm}
+use Rattle.spi_infer.specs.Accounts.{IsKeyed, SumOf, Below, TakesAtom, AddsAtom, AfterOne, AfterTwo, AfterServe, AfterMake, AfterCheck, AfterForm, OwnCast, OwnBegin, OwnEnd, OwnMany, BothCase, BothForm}
 use Rattle.spi_infer.proofs.Summed.{numbers, some_is}
 
 -- counts for an effect that stands where a test says so
@@ -40,10 +40,6 @@ gone_unless At false es e = absurd (cc)
 pub unless_some : (At : ℕ → Message → Type 0) (sum : Sum) (b : Bool) (es : Effect) → StandsFor At (Some sum) (unless b es) → (b ≡ false) × Stands At sum es
 unless_some At sum true es t = absurd t
 unless_some At sum false es t = (refl, t)
-
-pub unless_none : (At : ℕ → Message → Type 0) (b : Bool) (es : Effect) → StandsFor At None (unless b es) → b ≡ true
-unless_none At true es t = refl
-unless_none At false es t = absurd t
 
 kept_keep : (At : ℕ → Message → Type 0) (r : Option Sum) (b : Bool) (o : Option Effect) → b ≡ true → StandsFor At r o → StandsFor At r (keep b o)
 kept_keep At r true o e t = t
@@ -119,17 +115,6 @@ pub make_is : (k : ℕ) (s : Store) (keys : Keys) (id : MsgId) (sum mid : Sum) (
 make_is k s keys id sum mid r e p h es kd t b =
     h s keys (minus es (checks (name k) ∷ [])) kd (p s (checks (name k)) es kd (says_check e) t) (λ a n. b a (in_minus a es (checks (name k) ∷ []) n))
 
-pub cast_goes : (k : ℕ) (s : Store) (keys : Keys) (t : TyId) (sum : Sum) → AfterOne k sum None → AfterCast k s keys t sum None
-cast_goes k s keys t sum h u es kd m f st b =
-    gone_unless (with_keys s keys) (mentions k es) (es ++ cast_effect_of u) (unless_none (with_keys s keys) (mentions k es) es (h s keys es kd st b))
-
-pub cast_stays : (k : ℕ) (s : Store) (keys : Keys) (t : TyId) (sum mid new : Sum) → AfterOne k sum (Some mid)
-    → ((u : Ty) (es : Effect) → IsKeyed s keys → Means s t.place u → HaveKeys s keys (cast_effect_of u) → SumOf s keys mid es → SumOf s keys new (es ++ cast_effect_of u))
-    → AfterCast k s keys t sum (Some new)
-cast_stays k s keys t sum mid new h p u es kd m f st b =
-    let (e, x) = unless_some (with_keys s keys) mid (mentions k es) es (h s keys es kd st b) in
-    kept_unless (with_keys s keys) new (mentions k es) (es ++ cast_effect_of u) e (p u es kd m f x)
-
 pub check_none : (s : Store) (keys : Keys) (id : MsgId) (sum : Sum) → AfterCheck s keys id None sum (Some sum)
 check_none s keys id sum m None es kd w f t = t
 check_none s keys id sum m (Some fs) es kd w f t = absurd f
@@ -140,14 +125,6 @@ pub check_some : (s : Store) (keys : Keys) (id : MsgId) (t : TyId) (sum mid new 
 check_some s keys id t sum mid new p q m None es kd w f st = absurd f
 check_some s keys id t sum mid new p q m (Some fs) es kd w f st =
     q s (checks m) (minus es fs) kd (says_check w.at) (id.place, w) (p (nonce fs) es kd f st)
-
-pub case_first : (k : ℕ) (a b : Sum) → AfterOne k a None → BothCase k a b None
-case_first k a b h s keys es fs kd t u x y =
-    gone_unless (with_keys s keys) (mentions k es || mentions k fs) (greater es fs) (or_one (mentions k es) (mentions k fs) (unless_none (with_keys s keys) (mentions k es) es (h s keys es kd t x)))
-
-pub case_second : (k : ℕ) (a b : Sum) → AfterOne k b None → BothCase k a b None
-case_second k a b h s keys es fs kd t u x y =
-    gone_unless (with_keys s keys) (mentions k es || mentions k fs) (greater es fs) (or_two (mentions k es) (mentions k fs) (unless_none (with_keys s keys) (mentions k fs) fs (h s keys fs kd u y)))
 
 pub case_both : (k : ℕ) (a b a' b' c : Sum) → AfterOne k a (Some a') → AfterOne k b (Some b')
     → ((kind : AtomKind) (q : ℕ) → count_of (part kind c) q ≡ max (count_of (part kind a') q) (count_of (part kind b') q)) → BothCase k a b (Some c)

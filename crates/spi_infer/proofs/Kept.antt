@@ -120,11 +120,6 @@ pub noted_push : {s : Store} {At : ℕ → Message → Type 0} (x : Shape) (n : 
 noted_push x n o noted_none h = noted_next h noted_none
 noted_push x n o (noted_next g t) h = noted_next g (noted_push x n o t h)
 
--- answers of calls
-pub if_ok : {A E : Type 0} {P Q : A → Type 0} (r : Result A E) → ((a : A) → P a → Q a) → IfOk r P → IfOk r Q
-if_ok (Ok a) f h = f a h
-if_ok (Err e) f h = tt
-
 pub on_ok : {A E : Type 0} {P Q : Type 0} (r : Result A E) → (P → Q) → OnOk r P → OnOk r Q
 on_ok (Ok a) f h = f h
 on_ok (Err e) f h = tt

@@ -1,5 +1,5 @@
 -- Types that wait, as they are pushed and taken.
-use Rattle.std.proofs.Common.{◌≡◌, ℕ, false, eqb, List, [], ◌∷◌, ◌++◌, Option, Some, None, reverse, refl, sym, ap, subst, ◌∙◌}
+use Rattle.std.proofs.Common.{◌≡◌, ℕ, List, [], ◌∷◌, ◌++◌, Option, Some, None, reverse, sym, ap, subst, ◌∙◌}
 use Rattle.std.specs.Prelude.{IfSome, IfNone}
 use Rattle.std.proofs.lemmas.List.{reverse-append}
 use Rattle.spi_term.specs.Term.{Ty}
@@ -22,15 +22,6 @@ turned ps p = reverse-append ps (p ∷ [])
 pub queued_push : {s r : Store} (ps qs : List Pending) (p : Pending) (u : Ty) (ws : List Wait) → Keeps s r → Means r p.ty.place u → qs ≡ ps ++ p ∷ [] → Queued s ps ws → Queued r qs (wait p.at u ∷ ws)
 queued_push {s} {r} ps qs p u ws k m e h =
     subst (λ l. AreWaiting r l (wait p.at u ∷ ws)) (sym (ap reverse e ∙ turned ps p)) (waiting_next m (waiting_keeps k h))
-
-pub no_due : (i : ℕ) (ps : List Pending) → ps ≡ [] → IsNotDue i (reverse ps)
-no_due i ps e = subst (λ l. IsNotDue i (reverse l)) (sym e) tt
-
-pub not_due : (i : ℕ) (ps qs : List Pending) (p : Pending) → ps ≡ qs ++ p ∷ [] → eqb p.at i ≡ false → IsNotDue i (reverse ps)
-not_due i ps qs p e h = subst (λ l. IsNotDue i l) (sym (ap reverse e ∙ turned qs p)) h
-
-pub due_now : (i : ℕ) (ps qs : List Pending) (p : Pending) → ps ≡ qs ++ p ∷ [] → p.at ≡ i → IsDue i ps qs p.ty
-due_now i ps qs p e h = record { last = p; at = h; ty = refl; items = ap reverse e ∙ turned qs p }
 
 -- what is told of the list
 pub calm : {s : Store} (i : ℕ) {ps : List Pending} {ws : List Wait} → IsNotDue i ps → AreWaiting s ps ws → IsCalm i ws

@@ -30,16 +30,6 @@ pub record IsRead (s : Store) (keys : Keys) (sum rest : Sum) (es : Effect) : Typ
   pub known : HaveKeys s keys es
   pub inside : (kind : AtomKind) (q : ℕ) → 0 < count_of (part kind rest) q → 0 < count_of (part kind sum) q
 
-kind_back : (kind : AtomKind) (m : Message) → kind_of (atom_of kind m) ≡ kind
-kind_back End m = refl
-kind_back Check m = refl
-kind_back Many m = refl
-
-message_back : (kind : AtomKind) (m : Message) → message_of (atom_of kind m) ≡ m
-message_back End m = refl
-message_back Check m = refl
-message_back Many m = refl
-
 zero_count : (a : Atom) → count a [] ≡ 0
 zero_count (ends m) = refl
 zero_count (checks m) = refl

@@ -1,5 +1,5 @@
 -- One node of the forward pass.
-use Rattle.std.proofs.Common.{◌≡◌, ℕ, zero, suc, ◌+◌, ◌-◌, Bool, eqb, List, [], ◌∷◌, ◌++◌, take, drop, Some, sym, ap, ◌∙◌, refl, arith, append_assoc, eq-eqb}
+use Rattle.std.proofs.Common.{◌≡◌, ℕ, zero, suc, ◌+◌, ◌-◌, List, [], ◌∷◌, ◌++◌, take, drop, Some, sym, ap, ◌∙◌, refl, arith, append_assoc, eq-eqb}
 use Rattle.std.specs.Prelude.{slice_get, if◌then◌else◌}
 use Rattle.spi_term.specs.Term.{Ty}
 use Rattle.spi_term.specs.Spelling.{Shape}

@@ -128,10 +128,6 @@ take_whole [] (suc n) h = refl
 take_whole (x ∷ xs) zero h = absurd (omega arith)
 take_whole (x ∷ xs) (suc n) h = ap (λ l. x ∷ l) (take_whole xs n (omega arith))
 
-pub take_none : {A : Type 0} (xs : List A) → take 0 xs ≡ []
-take_none [] = refl
-take_none (x ∷ xs) = refl
-
 pub in_front : {A : Type 0} {a : A} (xs ys : List A) → In a xs → In a (xs ++ ys)
 in_front [] ys n = elim n [ ]
 in_front (x ∷ xs) ys in_first = in_first
@@ -157,18 +153,6 @@ tells_end (q ∷ ps) p _ (tells_next {m = m} {ms = ms} h t) =
 pub minus_append : (es fs gs : Effect) → minus es (fs ++ gs) ≡ minus (minus es fs) gs
 minus_append es [] gs = refl
 minus_append es (f ∷ fs) gs = minus_append (less_one f es) fs gs
-
-pub adds_none : (keys : Keys) (ids : List AtomId) (sum : Sum) → ids ≡ [] → AddsAll keys ids sum sum
-adds_none keys ids sum e = subst (λ ids. AddsAll keys ids sum sum) (sym e) go
-  where
-    go : AddsAll keys [] sum sum
-    go s _ es k tells_none h t = subst (SumOf s keys sum) (sym (append-nil es)) t
-
-pub takes_none : (keys : Keys) (ids : List AtomId) (sum : Sum) → ids ≡ [] → TakesAll keys ids sum sum
-takes_none keys ids sum e = subst (λ ids. TakesAll keys ids sum sum) (sym e) go
-  where
-    go : TakesAll keys [] sum sum
-    go s _ es k tells_none t = t
 
 pub adds_more : (keys : Keys) (ids js : List AtomId) (a : AtomId) (old mid new : Sum) → js ≡ ids ++ a ∷ [] → AddsAll keys ids old mid → AddsAtom keys a mid new → AddsAll keys js old new
 adds_more keys ids js a old mid new e p q = subst (λ js. AddsAll keys js old new) (sym e) go

@@ -1,5 +1,5 @@
 -- The backward pass by counts from the last node to the first.
-use Rattle.std.proofs.Common.{◌≡◌, refl, sym, ap, ◌∙◌, subst, ℕ, zero, suc, ◌+◌, ◌<◌, ◌≤◌, Bool, true, false, List, [], ◌∷◌, ◌++◌, length, take, drop, get_or, Option, Some, None, arith, append-nil, append_assoc, length-append}
+use Rattle.std.proofs.Common.{◌≡◌, refl, sym, ap, ◌∙◌, subst, ℕ, zero, suc, ◌+◌, ◌<◌, ◌≤◌, Bool, true, false, List, [], ◌∷◌, ◌++◌, length, drop, get_or, Option, Some, None, arith, append-nil, append_assoc, length-append}
 use Rattle.std.specs.Prelude.{⊤, slice_get, if◌then◌else◌}
 use Rattle.std.proofs.lemmas.List.{drop_all}
 use Rattle.spi_term.specs.Term.{Message, Effect, Prefix, Recvs, Serves, Splits, Selects, Decrypts, Checks, Begins, Ends, EndManys, Casts, Makes, Process, leaf, prefix, fork, binds, fork_binds, process_size}
@@ -18,7 +18,7 @@ use Rattle.spi_infer.specs.declared.own.Own.{Own}
 use Rattle.spi_infer.specs.declared.own.Own.TheVariants.{Checked, Cast}
 use Rattle.spi_infer.specs.declared.own.OwnNote.{OwnNote}
 use Rattle.spi_infer.specs.declared.own.Noted.{Noted}
-use Rattle.spi_infer.specs.Own.{with_keys, PaidFits, Fits, FormFits, StandsFor, NotedAs, AreNoted, noted_none, noted_next}
+use Rattle.spi_infer.specs.Own.{with_keys, PaidFits, Fits, FormFits, NotedAs, AreNoted, noted_none, noted_next}
 use Rattle.spi_infer.specs.Forms.{more, on_first, on_rest, effect_of}
 use Rattle.spi_infer.specs.Passes.{Note, scan, run, act, is_stuck, first_stuck}
 use Rattle.spi_infer.specs.Accounts.{BelowIn, MayBelowIn, TopBelowIn, BothBelowIn, Behind, CheckGiven, CastGiven, OwnGiven, NoteGiven, Tops, IsBefore, IsNoted}

@@ -1,7 +1,7 @@
 use Rattle.std.proofs.Common.{subst}
 use Rattle.spi_rules.specs.Environment.{untrusted}
 use Rattle.spi_message.specs.Judging.{Stands}
-use Rattle.spi_infer.proofs.Descending.{length_untrusted, some_node}
+use Rattle.spi_infer.proofs.Descending.{some_node}
 use Rattle.spi_infer.proofs.inferring.effect_over.Goals as goal
 
 pub returns : goal.returns
