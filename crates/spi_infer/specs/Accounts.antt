@@ -1,6 +1,9 @@
 -- What forms do to effects by counts, and the effects that stand behind a node.
 use Rattle.std.specs.Prelude.{◌≡◌, ℕ, suc, ◌+◌, ◌≤◌, ◌<◌, ◌||◌, length, slice_get, reverse, List, [], ◌∷◌, ◌++◌, Option, Some, None, true, nat_eq, ⊤}
 use Rattle.indexmap.specs.IndexMap.{get}
+use Rattle.spi_term.specs.declared.term.Effect as Declared
+use Rattle.spi_term.specs.View as View
+use Rattle.spi_term.specs.Counts.{SameEffect}
 use Rattle.spi_term.specs.Term.{Message, name, Atom, ends, checks, many, Effect, Ty, Prefix, Recvs, Serves, Splits, Selects, Decrypts, Checks, Begins, Ends, EndManys, Casts, Makes, Process, binds, fork_binds}
 use Rattle.spi_term.specs.Lists.{In}
 use Rattle.spi_term.specs.Spelling.{Shape, leaf_at, prefix_at, fork_at, spelled}
@@ -211,3 +214,10 @@ atom_of Many m = many m
 -- the key of a message of the store
 abbrev pub IsKey : Store → Keys → ℕ → Type 0
 IsKey s keys q = (i : ℕ) × (m : Message) × with_keys s keys i m × (q ≡ key_of (name_bound m) i)
+
+-- an effect with these counts, where there is one
+abbrev pub IsReadAs : Option Declared.Effect → Option Effect → Type 0
+IsReadAs None None = ⊤
+IsReadAs None (Some es) = ⊥
+IsReadAs (Some f) None = ⊥
+IsReadAs (Some f) (Some es) = SameEffect (View.effect f) es

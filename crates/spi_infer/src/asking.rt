@@ -455,53 +455,35 @@ pub fn is_form_ok(alloc: Global, judge: &mut Judge, node: &Node) -> Result<bool,
 {
     match &node.form {
         Form::Send { channel, datum } => are_untrusted(alloc, judge, channel, datum),
-        Form::Recv {
-            channel,
-            ty,
-            body: _,
-        } => is_untrusted_over(alloc, judge, channel, ty),
-        Form::Serve {
-            channel,
-            ty,
-            body: _,
-        } => is_untrusted_over(alloc, judge, channel, ty),
+        Form::Recv { channel, ty, .. } => is_untrusted_over(alloc, judge, channel, ty),
+        Form::Serve { channel, ty, .. } => is_untrusted_over(alloc, judge, channel, ty),
         Form::Split {
             whole,
             first,
             second,
-            body: _,
+            ..
         } => is_split_ok(alloc, judge, whole, first, second),
         Form::Select {
             whole,
             first,
             equal,
             second,
-            body: _,
+            ..
         } => is_select_ok(alloc, judge, whole, first, equal, second),
         Form::Branch {
             whole,
             left,
-            on_left: _,
             right,
-            on_right: _,
+            ..
         } => is_case_ok(alloc, judge, whole, left, right),
-        Form::Decrypt {
-            whole,
-            ty,
-            key,
-            body: _,
-        } => is_decrypt_ok(alloc, judge, whole, ty, key),
-        Form::Check {
-            whole,
-            nonce,
-            body: _,
-        } => is_check_ok(alloc, judge, whole, nonce),
-        Form::Begin { label, body: _ } => is_labelled(alloc, judge, label),
-        Form::End { label, body: _ } => is_labelled(alloc, judge, label),
-        Form::EndMany { label, body: _ } => is_labelled(alloc, judge, label),
-        Form::Cast { whole, ty, body: _ } => is_cast_ok(alloc, judge, whole, ty),
-        Form::Fresh { ty, body: _ } => is_new_ok(alloc, judge, ty),
-        Form::Par { first: _, rest: _ } => Ok(true),
+        Form::Decrypt { whole, ty, key, .. } => is_decrypt_ok(alloc, judge, whole, ty, key),
+        Form::Check { whole, nonce, .. } => is_check_ok(alloc, judge, whole, nonce),
+        Form::Begin { label, .. } => is_labelled(alloc, judge, label),
+        Form::End { label, .. } => is_labelled(alloc, judge, label),
+        Form::EndMany { label, .. } => is_labelled(alloc, judge, label),
+        Form::Cast { whole, ty, .. } => is_cast_ok(alloc, judge, whole, ty),
+        Form::Fresh { ty, .. } => is_new_ok(alloc, judge, ty),
+        Form::Par { .. } => Ok(true),
         Form::Stop => Ok(true),
     }
 }

@@ -58,61 +58,20 @@ pub fn enter(alloc: Global, judge: &mut Judge, node: &Node) -> Result<(), NoMemo
     ensures above { IsAbove judge.old judge.new }
 {
     match &node.form {
-        Form::Recv {
-            channel: _,
-            ty,
-            body: _,
-        } => bind_type(alloc, judge, ty),
-        Form::Serve {
-            channel: _,
-            ty,
-            body: _,
-        } => bind_type(alloc, judge, ty),
-        Form::Split {
-            whole: _,
-            first,
-            second,
-            body: _,
-        } => enter_split(alloc, judge, first, second),
-        Form::Select {
-            whole: _,
-            first: _,
-            equal,
-            second,
-            body: _,
-        } => bind_opened(alloc, judge, second, equal),
-        Form::Branch {
-            whole: _,
-            left,
-            on_left: _,
-            right: _,
-            on_right: _,
-        } => bind_type(alloc, judge, left),
-        Form::Decrypt {
-            whole: _,
-            ty,
-            key: _,
-            body: _,
-        } => bind_type(alloc, judge, ty),
-        Form::Cast {
-            whole: _,
-            ty,
-            body: _,
-        } => bind_type(alloc, judge, ty),
-        Form::Fresh { ty, body: _ } => bind_type(alloc, judge, ty),
-        Form::Send {
-            channel: _,
-            datum: _,
-        } => Ok(()),
-        Form::Check {
-            whole: _,
-            nonce: _,
-            body: _,
-        } => Ok(()),
-        Form::Begin { label: _, body: _ } => Ok(()),
-        Form::End { label: _, body: _ } => Ok(()),
-        Form::EndMany { label: _, body: _ } => Ok(()),
-        Form::Par { first: _, rest: _ } => Ok(()),
+        Form::Recv { ty, .. } => bind_type(alloc, judge, ty),
+        Form::Serve { ty, .. } => bind_type(alloc, judge, ty),
+        Form::Split { first, second, .. } => enter_split(alloc, judge, first, second),
+        Form::Select { equal, second, .. } => bind_opened(alloc, judge, second, equal),
+        Form::Branch { left, .. } => bind_type(alloc, judge, left),
+        Form::Decrypt { ty, .. } => bind_type(alloc, judge, ty),
+        Form::Cast { ty, .. } => bind_type(alloc, judge, ty),
+        Form::Fresh { ty, .. } => bind_type(alloc, judge, ty),
+        Form::Send { .. } => Ok(()),
+        Form::Check { .. } => Ok(()),
+        Form::Begin { .. } => Ok(()),
+        Form::End { .. } => Ok(()),
+        Form::EndMany { .. } => Ok(()),
+        Form::Par { .. } => Ok(()),
         Form::Stop => Ok(()),
     }
 }

@@ -8,7 +8,8 @@ ghost use Rattle.spi_message.specs.Judging.{IsKept, Stands};
 ghost use Rattle.spi_infer.specs.Own.{with_keys, StandsFor};
 ghost use Rattle.spi_infer.specs.Passes.{scan, first_stuck};
 ghost use Rattle.spi_infer.specs.Accounts.{IsKeyed};
-ghost use Rattle.spi_infer.specs.Inferring.{IsLeast, IsReadAs, AnswersIn, Answers, IsLeastAt};
+ghost use Rattle.spi_infer.specs.Inferring.{IsLeast, AnswersIn, Answers, IsLeastAt};
+ghost use Rattle.spi_infer.specs.Accounts.{IsReadAs};
 
 use crate::accounts::account;
 use crate::keys::Keys;

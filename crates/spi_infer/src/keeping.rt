@@ -146,61 +146,20 @@ fn own_of(alloc: Global, judge: &mut Judge, keys: &mut Keys, node: &Node) -> Res
     ensures kept { IsKept judge.old judge.new }
 {
     match &node.form {
-        Form::Check {
-            whole,
-            nonce,
-            body: _,
-        } => check_own(judge, keys, whole, nonce),
-        Form::Begin { label, body: _ } => begin_own(judge, keys, label),
-        Form::End { label, body: _ } => end_own(judge, keys, label),
-        Form::EndMany { label, body: _ } => end_own(judge, keys, label),
-        Form::Cast {
-            whole: _,
-            ty,
-            body: _,
-        } => cast_own(alloc, judge, keys, ty),
-        Form::Fresh { ty: _, body: _ } => new_own(judge, keys, node.scope),
-        Form::Send {
-            channel: _,
-            datum: _,
-        } => Ok(Own::Nothing),
-        Form::Recv {
-            channel: _,
-            ty: _,
-            body: _,
-        } => Ok(Own::Nothing),
-        Form::Serve {
-            channel: _,
-            ty: _,
-            body: _,
-        } => Ok(Own::Nothing),
-        Form::Split {
-            whole: _,
-            first: _,
-            second: _,
-            body: _,
-        } => Ok(Own::Nothing),
-        Form::Select {
-            whole: _,
-            first: _,
-            equal: _,
-            second: _,
-            body: _,
-        } => Ok(Own::Nothing),
-        Form::Branch {
-            whole: _,
-            left: _,
-            on_left: _,
-            right: _,
-            on_right: _,
-        } => Ok(Own::Nothing),
-        Form::Decrypt {
-            whole: _,
-            ty: _,
-            key: _,
-            body: _,
-        } => Ok(Own::Nothing),
-        Form::Par { first: _, rest: _ } => Ok(Own::Nothing),
+        Form::Check { whole, nonce, .. } => check_own(judge, keys, whole, nonce),
+        Form::Begin { label, .. } => begin_own(judge, keys, label),
+        Form::End { label, .. } => end_own(judge, keys, label),
+        Form::EndMany { label, .. } => end_own(judge, keys, label),
+        Form::Cast { ty, .. } => cast_own(alloc, judge, keys, ty),
+        Form::Fresh { .. } => new_own(judge, keys, node.scope),
+        Form::Send { .. } => Ok(Own::Nothing),
+        Form::Recv { .. } => Ok(Own::Nothing),
+        Form::Serve { .. } => Ok(Own::Nothing),
+        Form::Split { .. } => Ok(Own::Nothing),
+        Form::Select { .. } => Ok(Own::Nothing),
+        Form::Branch { .. } => Ok(Own::Nothing),
+        Form::Decrypt { .. } => Ok(Own::Nothing),
+        Form::Par { .. } => Ok(Own::Nothing),
         Form::Stop => Ok(Own::Nothing),
     }
 }

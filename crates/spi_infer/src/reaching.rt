@@ -6,7 +6,8 @@ ghost use Rattle.spi_term.specs.Substitution.{ty_put};
 ghost use Rattle.spi_term.specs.View.{message, ty as type_of, shape_of};
 ghost use Rattle.spi_rules.specs.Environment as Rules;
 ghost use Rattle.spi_rules.specs.Blocking.{NodeOf};
-ghost use Rattle.spi_infer.specs.Inferring.{Descends, IsReached};
+ghost use Rattle.spi_infer.specs.Inferring.{IsReached};
+ghost use Rattle.spi_infer.specs.Reaching.{Descends};
 
 use crate::NoMemory;
 use spi_rules::Env;
@@ -58,6 +59,27 @@ fn enter_split(
     enter_opened(alloc, second, &name, body, env)
 }
 
+// The side of a case that has the node `target`.
+fn enter_side(
+    alloc: Global,
+    left: &Ty,
+    on_left: u32,
+    right: &Ty,
+    on_right: u32,
+    target: u32,
+    env: &mut Env,
+) -> Result<u32, NoMemory>
+    requires { length env.old ≤ 300000 }
+    ensures first { IfOk result (λ next. target < on_right → (next ≡ on_left) × (env.new ≡ env.old ++ type_of left.now ∷ [])) }
+    ensures rest { IfOk result (λ next. on_right ≤ target → (next ≡ on_right) × (env.new ≡ env.old ++ type_of right.now ∷ [])) }
+{
+    if target < on_right {
+        enter(alloc, left, on_left, env)
+    } else {
+        enter(alloc, right, on_right, env)
+    }
+}
+
 // The process in a form that has the node `target`, by its number. The names that are bound there come into the
 // environment.
 fn descend(alloc: Global, node: &Node, target: u32, env: &mut Env) -> Result<u32, NoMemory>
@@ -82,14 +104,10 @@ fn descend(alloc: Global, node: &Node, target: u32, env: &mut Env) -> Result<u32
         Form::Branch {
             left,
             on_left,
-            on_right,
-            ..
-        } if target < *on_right => { enter(alloc, left, *on_left, env) }
-        Form::Branch {
             right,
             on_right,
             ..
-        } => enter(alloc, right, *on_right, env),
+        } => enter_side(alloc, left, *on_left, right, *on_right, target, env),
         Form::Decrypt { ty, body, .. } => enter(alloc, ty, *body, env),
         Form::Check { body, .. } => Ok(*body),
         Form::Begin { body, .. } => Ok(*body),

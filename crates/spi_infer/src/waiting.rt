@@ -47,60 +47,23 @@ pub fn put_off(
 {
     match &node.form {
         Form::Branch {
-            whole: _,
-            left: _,
-            on_left: _,
             right,
             on_right,
+            ..
         } => push_pending(alloc, judge, *on_right, right, pending),
-        Form::Recv {
-            channel: _,
-            ty: _,
-            body: _,
-        } => Ok(()),
-        Form::Serve {
-            channel: _,
-            ty: _,
-            body: _,
-        } => Ok(()),
-        Form::Split {
-            whole: _,
-            first: _,
-            second: _,
-            body: _,
-        } => Ok(()),
-        Form::Select {
-            whole: _,
-            first: _,
-            equal: _,
-            second: _,
-            body: _,
-        } => Ok(()),
-        Form::Decrypt {
-            whole: _,
-            ty: _,
-            key: _,
-            body: _,
-        } => Ok(()),
-        Form::Cast {
-            whole: _,
-            ty: _,
-            body: _,
-        } => Ok(()),
-        Form::Fresh { ty: _, body: _ } => Ok(()),
-        Form::Send {
-            channel: _,
-            datum: _,
-        } => Ok(()),
-        Form::Check {
-            whole: _,
-            nonce: _,
-            body: _,
-        } => Ok(()),
-        Form::Begin { label: _, body: _ } => Ok(()),
-        Form::End { label: _, body: _ } => Ok(()),
-        Form::EndMany { label: _, body: _ } => Ok(()),
-        Form::Par { first: _, rest: _ } => Ok(()),
+        Form::Recv { .. } => Ok(()),
+        Form::Serve { .. } => Ok(()),
+        Form::Split { .. } => Ok(()),
+        Form::Select { .. } => Ok(()),
+        Form::Decrypt { .. } => Ok(()),
+        Form::Cast { .. } => Ok(()),
+        Form::Fresh { .. } => Ok(()),
+        Form::Send { .. } => Ok(()),
+        Form::Check { .. } => Ok(()),
+        Form::Begin { .. } => Ok(()),
+        Form::End { .. } => Ok(()),
+        Form::EndMany { .. } => Ok(()),
+        Form::Par { .. } => Ok(()),
         Form::Stop => Ok(()),
     }
 }
