@@ -194,7 +194,10 @@ pub fn after_case(scope: u32, a: Sum, b: Sum) -> Result<Option<Sum>, NoMemory>
         None => Ok(None),
         Some(a) => match after_binder(scope, b) {
             None => Ok(None),
-            Some(b) => Ok(Some(Sum::greatest(a, b)?)),
+            Some(b) => {
+                let both = Sum::greatest(a, b)?;
+                Ok(Some(both))
+            }
         },
     }
 }

@@ -71,7 +71,7 @@ loop-id-preserved g c =
       walked = λ e s. walked_next c.node-node.result.now.scope (shape_of c.node-node.result.now) c.visit.new.pending.items c.in_ok-note.note c.push.new.self.items (c.loop-id.invariant.walked e s) c.node-node.ensures (scope_of_shape c.node-node.result.now) (omega (arith, node_low g a, stand_length s)) f c.in_ok-note.ensures.note grows c.in_ok-note.ensures.rest c.in_ok-push.ensures.items;
       keys = grows.are;
       above = c.in_ok-note.ensures.above c.args.judge.now c.loop-id.invariant.above (can_reach g a (length c.args.judge.now.types) (omega arith));
-      counted = omega (arith, c.loop-id.invariant.counted, c.tick.ensures);
+      counted = omega arith;
     }
 
 pub returns-clause-notes : goal.returns-clause-notes
