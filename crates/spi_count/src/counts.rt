@@ -1,0 +1,133 @@
+// Counts by key, in the order of the keys.
+ghost use Rattle.std.specs.Prelude.{false, ◌≡◌, ◌↔◌, ◌+◌, ◌-◌, ◌<◌, ◌≤◌, ℕ, max, IfSome, IfNone, OnOk, IsTrue};
+ghost use Rattle.std.specs.BTreeMap.{btree_map_len};
+ghost use Rattle.spi_count.specs.Counts.{ArePositive, count_of, Sets, IsNothing};
+
+use std::alloc::{AllocError, Global};
+use std::collections::BTreeMap;
+
+/// How high each key is counted. A key that isn't kept is counted 0.
+#[derive(Drop)]
+pub struct Counts {
+    counts: BTreeMap<u64, u64>,
+    ghost positive: { ArePositive counts },
+}
+
+impl Counts {
+    /// Nothing is counted.
+    pub fn new(alloc: Global) -> Counts
+        ensures { IsNothing result.counts }
+    {
+        Counts {
+            counts: BTreeMap::new(alloc),
+        }
+    }
+
+    /// How many keys are counted.
+    pub fn len(&self) -> usize {
+        self.counts.len()
+    }
+
+    /// Whether nothing is counted.
+    pub fn is_empty(&self) -> bool
+        ensures { IsTrue result ↔ IsNothing self.now.counts }
+    {
+        self.last().is_none()
+    }
+
+    /// How high a key is counted.
+    pub fn count(&self, key: u64) -> u64
+        ensures { result ≡ count_of self.now.counts key }
+    {
+        self.counts.get(&key).copied().unwrap_or(0)
+    }
+
+    /// The greatest key that is counted.
+    pub fn last(&self) -> Option<u64>
+        ensures some { IfSome result (λ k. (0 < count_of self.now.counts k) × ((q : ℕ) → 0 < count_of self.now.counts q → q ≤ k)) }
+        ensures none { IfNone result (IsNothing self.now.counts) }
+    {
+        match self.counts.last_key_value() {
+            Some((key, _)) => Some(*key),
+            None => None,
+        }
+    }
+
+    /// Whether a key from this one on is counted.
+    pub fn reaches(&self, least: u64) -> bool
+        ensures reached { IsTrue result → (k : ℕ) × (0 < count_of self.now.counts k) × (least ≤ k) }
+        ensures unreached { result ≡ false → (q : ℕ) → 0 < count_of self.now.counts q → q < least }
+    {
+        match self.last() {
+            Some(key) => least <= key,
+            None => false,
+        }
+    }
+
+    /// Counts a key higher.
+    pub fn raise(&mut self, key: u64, by: u64) -> Result<(), AllocError>
+        requires { 0 < by }
+        ensures { OnOk result (Sets self.old.counts self.new.counts key (count_of self.old.counts key + by)) }
+    {
+        match self.count(key).checked_add(by) {
+            Some(count) => {
+                self.counts.insert(key, count)?;
+                Ok(())
+            }
+            None => Err(AllocError),
+        }
+    }
+
+    /// Counts a key so high at least.
+    pub fn raise_to(&mut self, key: u64, least: u64) -> Result<(), AllocError>
+        requires { 0 < least }
+        ensures { OnOk result (Sets self.old.counts self.new.counts key (max (count_of self.old.counts key) least)) }
+    {
+        let count = self.count(key).max(least);
+        self.counts.insert(key, count)?;
+        Ok(())
+    }
+
+    /// Counts a key lower.
+    pub fn lower(&mut self, key: u64, by: u64)
+        ensures { Sets self.old.counts self.new.counts key (count_of self.old.counts key - by) }
+    {
+        let left = self.count(key).saturating_sub(by);
+        if left == 0 {
+            self.counts.remove(&key);
+        } else if let Some(count) = self.counts.get_mut(&key) {
+            *count = left;
+        }
+    }
+
+    /// Takes the least key out, with its count.
+    pub fn take(&mut self) -> Option<(u64, u64)>
+        ensures some { IfSome result (λ p. (0 < p.1) × (count_of self.old.counts p.0 ≡ p.1) × Sets self.old.counts self.new.counts p.0 0) }
+        ensures none { IfNone result (IsNothing self.old.counts × IsNothing self.new.counts) }
+        ensures less { IfSome result (λ p. btree_map_len self.new.counts < btree_map_len self.old.counts) }
+    {
+        self.counts.pop_first()
+    }
+
+    /// Adds the counts of another.
+    pub fn absorb(&mut self, other: Counts) -> Result<(), AllocError>
+        ensures { OnOk result ((q : ℕ) → count_of self.new.counts q ≡ count_of self.old.counts q + count_of other.counts q) }
+    {
+        let mut rest = other;
+        while let Some((key, by)) = rest.take() {
+            self.raise(key, by)?;
+        }
+        Ok(())
+    }
+
+    /// Takes the greater count of each key.
+    pub fn rise_to(&mut self, other: Counts) -> Result<(), AllocError>
+        ensures { OnOk result ((q : ℕ) → count_of self.new.counts q ≡ max (count_of self.old.counts q) (count_of other.counts q)) }
+    {
+        let mut rest = other;
+        while let Some((key, least)) = rest.take() {
+            self.raise_to(key, least)?;
+        }
+        Ok(())
+    }
+}

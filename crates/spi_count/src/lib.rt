@@ -1,0 +1,12 @@
+//! Effects by counts: the form of an effect in which one is merged into another in the time of the smaller.
+#![tactic(auto)]
+
+mod counts;
+mod sum;
+
+pub use counts::Counts;
+pub use sum::{AtomKind, Sum};
+use std::alloc::AllocError;
+
+/// Memory ran out.
+pub type NoMemory = AllocError;

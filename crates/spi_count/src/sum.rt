@@ -1,0 +1,143 @@
+// The counts of the atoms of an effect, by the keys of their messages.
+ghost use Rattle.std.specs.Prelude.{false, ◌≡◌, ◌≢◌, ◌↔◌, ◌+◌, ◌-◌, ◌*◌, ◌<◌, ◌≤◌, ◌⊎◌, ℕ, max, IfSome, IfNone, IfOk, OnOk, IsTrue};
+ghost use Rattle.spi_count.specs.Counts.{count_of, IsNothing};
+ghost use Rattle.spi_count.specs.Sums.{part, one_more, both_counts, keys_in, Puts};
+ghost use Rattle.spi_count.specs.declared.sum.AtomKind.{AtomKind};
+ghost use Rattle.spi_count.specs.declared.sum.AtomKind.TheVariants as kinds;
+
+use crate::NoMemory;
+use crate::counts::Counts;
+use std::alloc::Global;
+
+/// What an atom says of its message.
+#[derive(Clone, Copy, Debug, PartialEq, Eq)]
+pub enum AtomKind {
+    End,
+    Check,
+    Many,
+}
+
+/// An effect by its counts: how often each message stands in its `end` and `check` atoms, and which messages
+/// stand in its `many` atoms. A message is given by a key, which is 2 ^ 32 times the least number above its names, and a
+/// number of its own below 2 ^ 32.
+#[derive(Drop)]
+pub struct Sum {
+    ends: Counts,
+    checks: Counts,
+    lasting: Counts,
+}
+
+impl Sum {
+    /// The effect without atoms.
+    pub fn new(alloc: Global) -> Sum
+        ensures { (kind : AtomKind) → IsNothing (part kind result) }
+    {
+        Sum {
+            ends: Counts::new(alloc),
+            checks: Counts::new(alloc),
+            lasting: Counts::new(alloc),
+        }
+    }
+
+    /// Adds an atom.
+    pub fn add(&mut self, kind: AtomKind, key: u64) -> Result<(), NoMemory>
+        ensures { OnOk result (Puts kind self.old self.new key (one_more kind (count_of (part kind self.old) key))) }
+    {
+        match kind {
+            AtomKind::End => self.ends.raise(key, 1),
+            AtomKind::Check => self.checks.raise(key, 1),
+            AtomKind::Many => self.lasting.raise_to(key, 1),
+        }
+    }
+
+    /// Takes an atom out, where it stands there.
+    pub fn take(&mut self, kind: AtomKind, key: u64)
+        ensures { Puts kind self.old self.new key (count_of (part kind self.old) key - 1) }
+    {
+        match kind {
+            AtomKind::End => self.ends.lower(key, 1),
+            AtomKind::Check => self.checks.lower(key, 1),
+            AtomKind::Many => self.lasting.lower(key, 1),
+        }
+    }
+
+    /// Takes all atoms of one kind over one message out, where there are some: the kind, the key of the message and how
+    /// often the atom stood there.
+    pub fn pop(&mut self) -> Option<(AtomKind, u64, u64)>
+        ensures some { IfSome result (λ p. (0 < p.2) × (count_of (part p.0 self.old) p.1 ≡ p.2) × Puts p.0 self.old self.new p.1 0) }
+        ensures none { IfNone result ((kind : AtomKind) → IsNothing (part kind self.old)) }
+        ensures less { IfSome result (λ p. keys_in self.new < keys_in self.old) }
+    {
+        if !self.ends.is_empty() {
+            return match self.ends.take() {
+                Some((key, count)) => Some((AtomKind::End, key, count)),
+                None => None,
+            };
+        }
+        if !self.checks.is_empty() {
+            return match self.checks.take() {
+                Some((key, count)) => Some((AtomKind::Check, key, count)),
+                None => None,
+            };
+        }
+        match self.lasting.take() {
+            Some((key, count)) => Some((AtomKind::Many, key, count)),
+            None => None,
+        }
+    }
+
+    /// The sum of two effects.
+    pub fn joined(a: Sum, b: Sum) -> Result<Sum, NoMemory>
+        ensures { IfOk result (λ s. (kind : AtomKind) (k : ℕ) → count_of (part kind s) k ≡ both_counts kind (count_of (part kind a) k) (count_of (part kind b) k)) }
+    {
+        Ok(Sum {
+            ends: merged(a.ends, b.ends)?,
+            checks: merged(a.checks, b.checks)?,
+            lasting: greater(a.lasting, b.lasting)?,
+        })
+    }
+
+    /// The greater count of each atom.
+    pub fn greatest(a: Sum, b: Sum) -> Result<Sum, NoMemory>
+        ensures { IfOk result (λ s. (kind : AtomKind) (k : ℕ) → count_of (part kind s) k ≡ max (count_of (part kind a) k) (count_of (part kind b) k)) }
+    {
+        Ok(Sum {
+            ends: greater(a.ends, b.ends)?,
+            checks: greater(a.checks, b.checks)?,
+            lasting: greater(a.lasting, b.lasting)?,
+        })
+    }
+
+    /// Whether each atom is a `many`.
+    pub fn is_all_many(&self) -> bool
+        ensures { IsTrue result ↔ (IsNothing (part kinds.End self.now) × IsNothing (part kinds.Check self.now)) }
+    {
+        self.ends.is_empty() && self.checks.is_empty()
+    }
+
+    /// Whether an atom has a key from this one on.
+    pub fn reaches(&self, least: u64) -> bool
+        ensures reached { IsTrue result → (kind : AtomKind) × (k : ℕ) × (0 < count_of (part kind self.now) k) × (least ≤ k) }
+        ensures unreached { result ≡ false → (kind : AtomKind) (k : ℕ) → 0 < count_of (part kind self.now) k → k < least }
+    {
+        self.ends.reaches(least) || self.checks.reaches(least) || self.lasting.reaches(least)
+    }
+}
+
+/// The sums of the counts of each key.
+fn merged(a: Counts, b: Counts) -> Result<Counts, NoMemory>
+    ensures { IfOk result (λ c. (k : ℕ) → count_of c.counts k ≡ count_of a.counts k + count_of b.counts k) }
+{
+    let (mut most, less) = if a.len() < b.len() { (b, a) } else { (a, b) };
+    most.absorb(less)?;
+    Ok(most)
+}
+
+/// The greater count of each key.
+fn greater(a: Counts, b: Counts) -> Result<Counts, NoMemory>
+    ensures { IfOk result (λ c. (k : ℕ) → count_of c.counts k ≡ max (count_of a.counts k) (count_of b.counts k)) }
+{
+    let (mut most, less) = if a.len() < b.len() { (b, a) } else { (a, b) };
+    most.rise_to(less)?;
+    Ok(most)
+}

@@ -1,0 +1,152 @@
+-- The names of an effect are those in scope.
+use Rattle.std.proofs.Common.{◌≡◌, refl, sym, ap, ◌∙◌, subst, ℕ, zero, suc, ◌+◌, ◌≤◌, Bool, true, false, ◌||◌, [], ◌∷◌, ◌++◌, length, Option, Some, None, ◌⊎◌, inl, inr, ⊎_elim, arith, true≢false, length-append}
+use Rattle.spi_term.specs.Term.{Message, bound, name, unit, pair, in_left, in_right, enc, hash, Atom, ends, checks, many, Effect, Ty, un, unit_ty, pair_ty, sum_ty, key, nonce, Prefix, Recvs, Serves, Splits, Selects, Decrypts, Checks, Begins, Ends, EndManys, Casts, Makes, Fork, Cases, Pars, Process, leaf, prefix, fork, binds, fork_binds}
+use Rattle.spi_term.specs.Lists.{In, in_first, in_later}
+use Rattle.spi_term.specs.Counts.{tally}
+use Rattle.spi_term.specs.Names.{MessageOver, OfAtom, OfEffect, OfTy, OfPrefix}
+use Rattle.spi_term.specs.Arena.{InScope}
+use Rattle.spi_term.proofs.Counting.{in_tally, tally_in, count_tally}
+use Rattle.spi_effect.specs.Made.{are_many, minus, greater, mentions}
+use Rattle.spi_effect.proofs.Made.{minus_difference, or_false}
+use Rattle.spi_rules.specs.Environment.{Env}
+use Rattle.spi_count.specs.Sums.{name_bound, message_of}
+use Rattle.spi_count.proofs.Standing.{Below, in_mentions}
+use Rattle.spi_infer.specs.Forms.{more, on_first, on_rest, unless, keep, checked, cast_effect_of, after, both, by_effect, by_effects, effect_of, prefix_ok, fork_ok, leaf_ok, paid_by}
+use Rattle.spi_infer.proofs.Opened.{length_more, length_first, length_rest}
+
+pub bound_over : (n k : ℕ) (m : Message) → MessageOver n k m → name_bound m ≤ n
+bound_over n k (bound i) h = omega arith
+bound_over n k (name x) h = omega (arith, h)
+bound_over n k unit h = omega arith
+bound_over n k (pair a b) h = let p = bound_over n k a h.0 in let q = bound_over n k b h.1 in omega (arith, p, q)
+bound_over n k (in_left a) h = bound_over n k a h
+bound_over n k (in_right a) h = bound_over n k a h
+bound_over n k (enc a b) h = let p = bound_over n k a h.0 in let q = bound_over n k b h.1 in omega (arith, p, q)
+bound_over n k (hash a) h = bound_over n k a h
+
+in_either : (a : Atom) (es fs : Effect) → In a (es ++ fs) → In a es ⊎ In a fs
+in_either a [] fs n = inr n
+in_either a (b ∷ es) fs in_first = inl in_first
+in_either a (b ∷ es) fs (in_later n) = ⊎_elim (λ m. inl (in_later m)) (λ m. inr m) (in_either a es fs n)
+
+below_joined : {n : ℕ} (es fs : Effect) → Below n es → Below n fs → Below n (es ++ fs)
+below_joined es fs h k a n = ⊎_elim (λ m. h a m) (λ m. k a m) (in_either a es fs n)
+
+below_one : {n : ℕ} (b : Atom) → name_bound (message_of b) ≤ n → Below n (b ∷ [])
+below_one b h a in_first = h
+below_one b h a (in_later n) = elim n [ ]
+
+in_minus : (a : Atom) (es fs : Effect) → In a (minus es fs) → In a es
+in_minus a es fs n =
+    let p = (count_tally a (tally a (minus es fs))).1 (in_tally n) in
+    let d = (minus_difference es fs).at a in
+    tally_in a es ((count_tally a (tally a es)).0 (omega (arith, p, d)))
+
+below_minus : {n : ℕ} (es fs : Effect) → Below n es → Below n (minus es fs)
+below_minus es fs h a n = h a (in_minus a es fs n)
+
+over_at : {n : ℕ} (k : ℕ) (b : Atom) → OfAtom (MessageOver n k) b → name_bound (message_of b) ≤ n
+over_at {n} k (ends m) h = bound_over n k m h
+over_at {n} k (checks m) h = bound_over n k m h
+over_at {n} k (many m) h = bound_over n k m h
+
+below_over : {n : ℕ} (k : ℕ) (es : Effect) → OfEffect (MessageOver n k) es → Below n es
+below_over k [] h a n = elim n [ ]
+below_over k (b ∷ es) h a in_first = over_at k b h.0
+below_over k (b ∷ es) h a (in_later n) = below_over k es h.1 a n
+
+next_or_less : (b k : ℕ) → suc b ≤ k + 1 → (b ≡ k) ⊎ (suc b ≤ k)
+next_or_less zero zero l = inl refl
+next_or_less zero (suc k) l = inr (omega arith)
+next_or_less (suc b) zero l = absurd (omega (arith, l))
+next_or_less (suc b) (suc k) l = ⊎_elim (λ h. inl (ap suc h)) (λ h. inr (omega (arith, h))) (next_or_less b k (omega (arith, l)))
+
+-- the name that a form binds isn't mentioned
+below_bound : (k : ℕ) (es : Effect) → Below (k + 1) es → mentions k es ≡ false → Below k es
+below_bound k es h e a n = go (name_bound (message_of a)) refl (h a n)
+  where
+    go : (b : ℕ) → name_bound (message_of a) ≡ b → b ≤ k + 1 → b ≤ k
+    go zero f l = omega arith
+    go (suc b) f l = ⊎_elim (λ g. absurd (true≢false (sym (in_mentions k a es n (f ∙ ap suc g)) ∙ e))) (λ g. g) (next_or_less b k l)
+
+unless_no : (b : Bool) (es fs : Effect) → unless b es ≡ Some fs → (b ≡ false) × (es ≡ fs)
+unless_no true es fs h = cc
+unless_no false es fs h = (refl, let e : es ≡ fs = cc in e)
+
+keep_yes : (b : Bool) (o : Option Effect) (fs : Effect) → keep b o ≡ Some fs → o ≡ Some fs
+keep_yes true o fs h = h
+keep_yes false o fs h = cc
+
+below_unless : (k : ℕ) (es fs gs : Effect) → Below (k + 1) es → (Below k es → Below k fs) → unless (mentions k es) fs ≡ Some gs → Below k gs
+below_unless k es fs gs h f e =
+    let u = unless_no (mentions k es) fs gs e in
+    subst (Below k) u.1 (f (below_bound k es h u.0))
+
+below_cast : (k : ℕ) (t : Ty) → OfTy (MessageOver k) 0 t → Below k (cast_effect_of t)
+below_cast k un h = λ a n. elim n [ ]
+below_cast k unit_ty h = λ a n. elim n [ ]
+below_cast k (pair_ty t u) h = λ a n. elim n [ ]
+below_cast k (sum_ty t u) h = λ a n. elim n [ ]
+below_cast k (key t) h = λ a n. elim n [ ]
+below_cast k (nonce es) h = below_over 0 es h
+
+below_same : {n : ℕ} {es fs : Effect} → Some es ≡ Some fs → Below n es → Below n fs
+below_same {n} {es} {fs} e h = subst (Below n) (let f : es ≡ fs = cc in f) h
+
+below_zero : {k : ℕ} (es : Effect) → Below (k + 0) es → Below k es
+below_zero {k} es h a n = let l = h a n in omega (arith, l)
+
+below_checked : (k : ℕ) (paid : Option Effect) (m n : Message) (es fs : Effect) → name_bound m ≤ k → Below k es → checked paid m es ≡ Some fs → Below k fs
+below_checked k None m n es fs o h e = below_same e h
+below_checked k (Some gs) m n es fs o h e = below_same e (below_joined (minus es gs) (checks m ∷ []) (below_minus es gs h) (below_one (checks m) o))
+
+pub below_after : (k : ℕ) (paid : Option Effect) (s : Prefix) (es fs : Effect) → OfPrefix (MessageOver k) 0 s → Below (k + binds s) es → after k paid s es ≡ Some fs → Below k fs
+below_after k paid (Recvs m t) es fs o h e = below_unless k es es fs h (λ x. x) e
+below_after k paid (Serves m t) es fs o h e = below_unless k es es fs h (λ x. x) (keep_yes (are_many es) (unless (mentions k es) es) fs e)
+below_after k paid (Splits m t u) es fs o h e =
+    let x = unless_no (mentions k es || mentions (suc k) es) es fs e in
+    let y = or_false (mentions k es) (mentions (suc k) es) x.0 in
+    let h' : Below (suc k + 1) es = λ a n. let l = h a n in omega (arith, l) in
+    let g : Below (k + 1) es = λ a n. let l = below_bound (suc k) es h' y.1 a n in omega (arith, l) in
+    subst (Below k) x.1 (below_bound k es g y.0)
+below_after k paid (Selects m t n u) es fs o h e = below_unless k es es fs h (λ x. x) e
+below_after k paid (Decrypts m t n) es fs o h e = below_unless k es es fs h (λ x. x) e
+below_after k paid (Checks m n) es fs o h e = below_checked k paid m n es fs (bound_over k 0 m o.0) (below_zero es h) e
+below_after k paid (Begins m) es fs o h e = below_same e (below_minus es (ends m ∷ (many m ∷ [])) (below_zero es h))
+below_after k paid (Ends m) es fs o h e = below_same e (below_joined es (ends m ∷ []) (below_zero es h) (below_one (ends m) (bound_over k 0 m o)))
+below_after k paid (EndManys m) es fs o h e = below_same e (below_joined es (many m ∷ []) (below_zero es h) (below_one (many m) (bound_over k 0 m o)))
+below_after k paid (Casts m t) es fs o h e = below_unless k es (es ++ cast_effect_of t) fs h (λ x. below_joined es (cast_effect_of t) x (below_cast k t o.1)) e
+below_after k paid (Makes t) es fs o h e =
+    let ds = minus es (checks (name k) ∷ []) in
+    below_unless k ds ds fs (below_minus es (checks (name k) ∷ []) h) (λ x. x) e
+
+pub below_both : (k : ℕ) (f : Fork) (es fs gs : Effect) → Below (k + fork_binds f) es → Below (k + fork_binds f) fs → both k f es fs ≡ Some gs → Below k gs
+below_both k Pars es fs gs h j e = below_same e (below_joined es fs (below_zero es h) (below_zero fs j))
+below_both k (Cases m t u) es fs gs h j e =
+    let x = unless_no (mentions k es || mentions k fs) (greater es fs) gs e in
+    let y = or_false (mentions k es) (mentions k fs) x.0 in
+    subst (Below k) x.1 (below_joined es (minus fs es) (below_bound k es h y.0) (below_minus fs es (below_bound k fs j y.1)))
+
+by_some : (f : Effect → Option Effect) (o : Option Effect) (fs : Effect) → by_effect f o ≡ Some fs → (es : Effect) × (o ≡ Some es) × (f es ≡ Some fs)
+by_some f None fs e = cc
+by_some f (Some es) fs e = (es, refl, e)
+
+by_both : (f : Effect → Effect → Option Effect) (o p : Option Effect) (gs : Effect) → by_effects f o p ≡ Some gs → (es fs : Effect) × (o ≡ Some es) × (p ≡ Some fs) × (f es fs ≡ Some gs)
+by_both f None p gs e = cc
+by_both f (Some es) None gs e = cc
+by_both f (Some es) (Some fs) gs e = (es, fs, refl, refl, e)
+
+-- the effect of a process has names in scope alone
+pub below_effect : (q : Process) (e : Env) (n : ℕ) (es : Effect) → n ≡ length e → InScope n q → effect_of q e ≡ Some es → Below n es
+below_effect (leaf l) e n es h o f = below_same (keep_yes (leaf_ok e l) (Some []) es f) (λ a n. elim n [ ])
+below_effect (prefix s p) e n es h o f =
+    let g = keep_yes (prefix_ok e s) (by_effect (after (length e) (paid_by e s) s) (effect_of p (e ++ more e s))) es f in
+    let (fs, is, then) = by_some (after (length e) (paid_by e s) s) (effect_of p (e ++ more e s)) es g in
+    let l : n + binds s ≡ length (e ++ more e s) = omega (arith, h, length-append e (more e s), length_more e s) in
+    below_after n (paid_by e s) s fs es o.0 (below_effect p (e ++ more e s) (n + binds s) fs l o.1 is) (ap (λ n. after n (paid_by e s) s fs) h ∙ then)
+below_effect (fork s p q) e n es h o f =
+    let g = keep_yes (fork_ok e s) (by_effects (both (length e) s) (effect_of p (e ++ on_first s)) (effect_of q (e ++ on_rest s))) es f in
+    let (fs, gs, is, are, then) = by_both (both (length e) s) (effect_of p (e ++ on_first s)) (effect_of q (e ++ on_rest s)) es g in
+    let l : n + fork_binds s ≡ length (e ++ on_first s) = omega (arith, h, length-append e (on_first s), length_first s) in
+    let m : n + fork_binds s ≡ length (e ++ on_rest s) = omega (arith, h, length-append e (on_rest s), length_rest s) in
+    below_both n s fs gs es (below_effect p (e ++ on_first s) (n + fork_binds s) fs l o.1.0 is) (below_effect q (e ++ on_rest s) (n + fork_binds s) gs m o.1.1 are) (ap (λ n. both n s fs gs) h ∙ then)

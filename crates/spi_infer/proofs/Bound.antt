@@ -1,0 +1,165 @@
+-- Names that are bound in a judge and taken away.
+use Rattle.std.proofs.Common.{◌≡◌, ℕ, zero, suc, ◌+◌, ◌-◌, ◌<◌, ◌≤◌, eqb, List, [], ◌∷◌, ◌++◌, length, take, refl, sym, ap, subst, ◌∙◌, arith, append_assoc, append-nil, length-take, length-append, eq-eqb, Result, Ok, Err}
+use Rattle.std.specs.Prelude.{if◌then◌else◌, OnOk, OnErr}
+use Rattle.std.proofs.lemmas.List.{take-append-le, take_all}
+use Rattle.std.proofs.Math.Seq.{take-append-add}
+use Rattle.spi_term.specs.Term.{name, Ty}
+use Rattle.spi_term.specs.Substitution.{ty_put}
+use Rattle.spi_rules.specs.Environment.{Env}
+use Rattle.spi_intern.specs.Meaning.{Means, Keeps}
+use Rattle.spi_intern.specs.declared.types.TyId.{TyId}
+use Rattle.spi_intern.specs.declared.store.Store.{Store}
+use Rattle.spi_intern.proofs.Meanings.{terms_same, terms_more}
+use Rattle.spi_message.specs.Judging.{Numbered, StandFor, stand_none, stand_next, IsKept}
+use Rattle.spi_message.proofs.Standing.{stand_push, stand_length}
+use Rattle.spi_infer.specs.Passes.{Wait, wait, settled, IsCalm}
+use Rattle.spi_infer.specs.Walking.{Turns, IsAbove}
+use Rattle.spi_infer.specs.Waiting.{Reaches}
+use Rattle.spi_infer.proofs.Asked.{stands_kept}
+use Rattle.spi_infer.proofs.Scanning.{calm_settled, due_settled}
+
+-- what stays
+pub above_kept : {a b : Numbered} → IsKept a b → IsAbove a b
+above_kept {a} h = record { store = h.store; free = h.free; more = []; types = h.types ∙ sym (append-nil a.types) }
+
+pub above_more : {a b c : Numbered} → IsAbove a b → IsAbove b c → IsAbove a c
+above_more {a} g h = record {
+  store = terms_more g.store h.store;
+  free = h.free ∙ g.free;
+  more = g.more ++ h.more;
+  types = h.types ∙ ap (λ l. l ++ h.more) g.types ∙ append_assoc a.types g.more h.more;
+}
+
+pub above_same : (a : Numbered) → IsAbove a a
+above_same a = record { store = terms_same a.store; free = refl; more = []; types = sym (append-nil a.types) }
+
+pub same_store : {s r : Store} → r ≡ s → Keeps s r
+same_store {s} e = subst (λ r. Keeps s r) (sym e) (terms_same s)
+
+pub above_bind : {A E : Type 0} (a b : Numbered) (t : TyId) → b.store ≡ a.store → b.free ≡ a.free → (r : Result A E) → OnOk r (b.types ≡ a.types ++ t ∷ []) → OnErr r (b.types ≡ a.types) → IsAbove a b
+above_bind a b t s f (Ok x) g h = record { store = same_store s; free = f; more = t ∷ []; types = g }
+above_bind a b t s f (Err x) g h = record { store = same_store s; free = f; more = []; types = h ∙ sym (append-nil a.types) }
+
+-- environments
+pub turns_same : (j : Numbered) → Turns j j (λ e. e)
+turns_same j = record { at = λ e s. s }
+
+pub turns_nil : (j : Numbered) → Turns j j (λ e. e ++ [])
+turns_nil j = record { at = λ e s. subst (λ e. StandFor j.store j.types e) (sym (append-nil e)) s }
+
+pub turns_bound : (j k l : Numbered) (i : TyId) (t : Ty) → IsKept j k → Means k.store i.place t → l.store ≡ k.store → l.types ≡ k.types ++ i ∷ [] → Turns j l (λ e. e ++ t ∷ [])
+turns_bound j k l i t h m q g = record {
+  at = λ e s.
+      let w = stand_push (stands_kept {j = j} {k = k} h s) m in
+      subst (λ ids. StandFor l.store ids (e ++ t ∷ [])) (sym g) (subst (λ r. StandFor r (k.types ++ i ∷ []) (e ++ t ∷ [])) (sym q) w);
+}
+
+pub turns_bind : {A E : Type 0} (j k l : Numbered) (i : TyId) (t : Ty) → IsKept j k → Means k.store i.place t → l.store ≡ k.store → (r : Result A E) → OnOk r (l.types ≡ k.types ++ i ∷ []) → OnOk r (Turns j l (λ e. e ++ t ∷ []))
+turns_bind j k l i t h m q (Ok x) g = turns_bound j k l i t h m q g
+turns_bind j k l i t h m q (Err x) g = tt
+
+pub more_bind : {A E : Type 0} (j k l : Numbered) (i : TyId) → IsKept j k → (r : Result A E) → OnOk r (l.types ≡ k.types ++ i ∷ []) → OnOk r (length l.types ≡ length j.types + 1)
+more_bind j k l i h (Ok x) g =
+    ap length g ∙ length_push k.types ∙ ap (λ ids. length ids + 1) h.types
+  where
+    length_push : (ids : List TyId) → length (ids ++ i ∷ []) ≡ length ids + 1
+    length_push [] = refl
+    length_push (x ∷ ids) = let e : suc (length ids + 1) ≡ suc (length ids) + 1 = omega arith in ap suc (length_push ids) ∙ e
+more_bind j k l i h (Err x) g = tt
+
+pub turns_split : {A E : Type 0} (j k l : Numbered) (t u : Ty) (n : ℕ) → n ≡ length j.types → Turns j k (λ e. e ++ t ∷ []) → (r : Result A E) → OnOk r (Turns k l (λ e. e ++ ty_put (name n) u ∷ [])) → OnOk r (Turns j l (λ e. e ++ t ∷ (ty_put (name (length e)) u ∷ [])))
+turns_split j k l t u n q f (Ok x) g = record {
+  at = λ e s.
+      let w = g.at (e ++ t ∷ []) (f.at e s) in
+      let p : (e ++ t ∷ []) ++ ty_put (name n) u ∷ [] ≡ e ++ t ∷ (ty_put (name (length e)) u ∷ [])
+      = append_assoc e (t ∷ []) (ty_put (name n) u ∷ []) ∙ ap (λ m. e ++ t ∷ (ty_put (name m) u ∷ [])) (q ∙ stand_length s) in
+      subst (λ e. StandFor l.store l.types e) p w;
+}
+turns_split j k l t u n q f (Err x) g = tt
+
+-- fewer names
+stand_take : {s : Store} {ids : List TyId} {e : Env} (n : ℕ) → StandFor s ids e → StandFor s (take n ids) (take n e)
+stand_take zero h = stand_none
+stand_take (suc n) stand_none = stand_none
+stand_take (suc n) (stand_next m h) = stand_next m (stand_take n h)
+
+pub turns_cut : (j k : Numbered) (n : ℕ) → k.types ≡ take n j.types → k.store ≡ j.store → Turns j k (λ e. take n e)
+turns_cut j k n t q = record {
+  at = λ e s. subst (λ ids. StandFor k.store ids (take n e)) (sym t) (subst (λ r. StandFor r (take n j.types) (take n e)) (sym q) (stand_take n s));
+}
+
+take_over : {A : Type 0} (n : ℕ) (xs ys : List A) → length xs ≤ n → take n (xs ++ ys) ≡ xs ++ take (n - length xs) ys
+take_over n xs ys h =
+    let e : n ≡ length xs + (n - length xs) = omega arith in
+    ap (λ n. take n (xs ++ ys)) e ∙ take-append-add xs ys (n - length xs)
+
+pub above_cut : (a j k : Numbered) (n : ℕ) → IsAbove a j → length a.types ≤ n → k.types ≡ take n j.types → k.store ≡ j.store → k.free ≡ j.free → IsAbove a k
+above_cut a j k n h l t q f = record {
+  store = subst (λ r. Keeps a.store r) (sym q) h.store;
+  free = f ∙ h.free;
+  more = take (n - length a.types) h.more;
+  types = t ∙ ap (take n) h.types ∙ take_over n a.types h.more l;
+}
+
+pub kept_cut : (a j k : Numbered) → IsAbove a j → k.types ≡ take (length a.types) j.types → k.store ≡ j.store → k.free ≡ j.free → IsKept a k
+kept_cut a j k h t q f = record {
+  store = subst (λ r. Keeps a.store r) (sym q) h.store;
+  free = f ∙ h.free;
+  types = t ∙ ap (take (length a.types)) h.types ∙ take-append-le (length a.types) a.types h.more (omega arith) ∙ take_all (length a.types) a.types (omega arith);
+}
+
+-- one name fewer, where there are more than are wanted
+pub cut_more : (ids js : List TyId) (t : TyId) (n : ℕ) → ids ≡ js ++ t ∷ [] → n < length ids → take n js ≡ take n ids
+cut_more ids js t n e h =
+    sym (ap (take n) e ∙ take-append-le n js (t ∷ []) (omega (arith, ap length e, length_push js)))
+  where
+    length_push : (ids : List TyId) → length (ids ++ t ∷ []) ≡ length ids + 1
+    length_push [] = refl
+    length_push (x ∷ ids) = let e : suc (length ids + 1) ≡ suc (length ids) + 1 = omega arith in ap suc (length_push ids) ∙ e
+
+pub length_less : (ids js : List TyId) (t : TyId) → ids ≡ js ++ t ∷ [] → length js < length ids
+length_less ids js t e = omega (arith, ap length e, length_push js)
+  where
+    length_push : (ids : List TyId) → length (ids ++ t ∷ []) ≡ length ids + 1
+    length_push [] = refl
+    length_push (x ∷ ids) = let e : suc (length ids + 1) ≡ suc (length ids) + 1 = omega arith in ap suc (length_push ids) ∙ e
+
+pub cut_done : (ids : List TyId) (n : ℕ) → length ids ≤ n → ids ≡ take n ids
+cut_done ids n h = sym (take_all n ids h)
+
+-- back to a node's scope
+pub reaches_calm : (base i k : ℕ) (ws : List Wait) → IsCalm i ws → Reaches base i k ws → base ≤ k
+reaches_calm base i k [] c h = h
+reaches_calm base i k (wait r u ∷ ws) c h = subst (λ b. base ≤ (if b then k - 1 else k)) c h
+
+pub reaches_due : (base i k : ℕ) (u : Ty) (ws : List Wait) → Reaches base i k (wait i u ∷ ws) → base ≤ k - 1
+reaches_due base i k u ws h = subst (λ b. base ≤ (if b then k - 1 else k)) (eq-eqb i i refl) h
+
+pub turns_calm : (j k : Numbered) (i n : ℕ) (ws : List Wait) → IsCalm i ws → Turns j k (λ e. take n e) → Turns j k (λ e. settled i n e ws)
+turns_calm j k i n ws c h = record { at = λ e s. subst (λ e. StandFor k.store k.types e) (sym (calm_settled i n e ws c)) (h.at e s) }
+
+pub turns_due : (j k l : Numbered) (i n m : ℕ) (u : Ty) (ws vs : List Wait) → m ≡ n - 1 → vs ≡ wait i u ∷ ws → Turns j k (λ e. take m e) → Turns k l (λ e. e ++ u ∷ []) → Turns j l (λ e. settled i n e vs)
+turns_due j k l i n m u ws vs q v h g = record {
+  at = λ e s.
+      let w = g.at (take m e) (h.at e s) in
+      let p : take m e ++ u ∷ [] ≡ settled i n e vs
+      = ap (λ m. take m e ++ u ∷ []) q ∙ sym (due_settled i n e u ws) ∙ ap (settled i n e) (sym v) in
+      subst (λ e. StandFor l.store l.types e) p w;
+}
+
+pub few_bind : {A E : Type 0} (k l : Numbered) (i : TyId) (r : Result A E) → OnOk r (l.types ≡ k.types ++ i ∷ []) → length k.types ≤ 300000 → OnOk r (length l.types ≤ 300001)
+few_bind k l i (Ok x) g h = omega (arith, ap length g, length-append k.types (i ∷ []))
+few_bind k l i (Err x) g h = tt
+
+pub length_cut : (ids js : List TyId) (n : ℕ) → js ≡ take n ids → length js ≤ n
+length_cut ids js n e = omega (arith, ap length e, length-take n ids)
+
+pub reaches_less : (a b i k : ℕ) (ws : List Wait) → b ≤ a → Reaches a i k ws → Reaches b i k ws
+reaches_less a b i k [] l h = omega arith
+reaches_less a b i k (wait r u ∷ ws) l h = go (if eqb r i then k - 1 else k) h
+  where
+    go : (n : ℕ) → a ≤ n → b ≤ n
+    go n h = omega arith
+
+pub kept_itself : (s : Store) → Keeps s s
+kept_itself s = terms_same s

@@ -1,0 +1,4 @@
+use Rattle.spi_infer.proofs.inferring.infer.Given as goal
+
+abbrev pub ghosts-infer_over : goal.ghosts-infer_over
+ghosts-infer_over a = record { name = a.blank.name; parts = a.blank.parts }

@@ -1,0 +1,223 @@
+-- What forms do to effects by counts, and the effects that stand behind a node.
+use Rattle.std.specs.Prelude.{◌≡◌, ℕ, suc, ◌+◌, ◌≤◌, ◌<◌, ◌||◌, length, slice_get, reverse, List, [], ◌∷◌, ◌++◌, Option, Some, None, true, nat_eq, ⊤}
+use Rattle.indexmap.specs.IndexMap.{get}
+use Rattle.spi_term.specs.declared.term.Effect as Declared
+use Rattle.spi_term.specs.View as View
+use Rattle.spi_term.specs.Counts.{SameEffect}
+use Rattle.spi_term.specs.Term.{Message, name, Atom, ends, checks, many, Effect, Ty, Prefix, Recvs, Serves, Splits, Selects, Decrypts, Checks, Begins, Ends, EndManys, Casts, Makes, Process, binds, fork_binds}
+use Rattle.spi_term.specs.Lists.{In}
+use Rattle.spi_term.specs.Spelling.{Shape, leaf_at, prefix_at, fork_at, spelled}
+use Rattle.spi_rules.specs.Environment.{Env}
+use Rattle.spi_intern.specs.declared.store.Store.{Store}
+use Rattle.spi_intern.specs.declared.atoms.AtomId.{AtomId}
+use Rattle.spi_intern.specs.declared.messages.MsgId.{MsgId}
+use Rattle.spi_intern.specs.declared.types.TyId.{TyId}
+use Rattle.spi_intern.specs.Table.{TellsAll}
+use Rattle.spi_intern.specs.Atoms.{SaysAtom}
+use Rattle.spi_intern.specs.Meaning.{Means, NoneTwice}
+use Rattle.spi_effect.specs.Made.{are_many, mentions, minus, greater}
+use Rattle.spi_count.specs.Sums.{name_bound, key_of, message_of, Stands}
+use Rattle.spi_count.specs.declared.sum.AtomKind.{AtomKind}
+use Rattle.spi_count.specs.declared.sum.AtomKind.TheVariants.{End, Check, Many}
+use Rattle.spi_count.specs.declared.sum.Sum.{Sum}
+use Rattle.spi_infer.specs.declared.keys.Keys.{Keys}
+use Rattle.spi_infer.specs.declared.own.Own.{Own}
+use Rattle.spi_infer.specs.declared.own.Own.TheVariants.{Label, Checked, Cast, Made}
+use Rattle.spi_infer.specs.declared.own.OwnNote.{OwnNote}
+use Rattle.spi_infer.specs.declared.own.Noted.{Noted}
+use Rattle.spi_infer.specs.Keys.{AreKeys}
+use Rattle.spi_infer.specs.Own.{with_keys, PaidFits, Fits, StandsFor, NotedAs, AreNoted, TopsStand}
+use Rattle.spi_infer.specs.Forms.{cast_effect_of, unless, keep, checked}
+use Rattle.spi_infer.specs.Passes.{Note, scan, after_shape, both_shape}
+
+-- the keys are those of messages of the store, in which nothing has two numbers
+pub record IsKeyed (s : Store) (keys : Keys) : Type 0 where
+  pub once : NoneTwice s
+  pub keyed : AreKeys s.messages (λ i. get nat_eq keys.keys i)
+
+-- the message has a number and a key
+abbrev pub HasKey : Store → Keys → Message → Type 0
+HasKey s keys m = (i : ℕ) × with_keys s keys i m
+
+-- counts for an effect, by the numbers and keys
+abbrev pub SumOf : Store → Keys → Sum → Effect → Type 0
+SumOf s keys sum es = Stands (with_keys s keys) sum es
+
+-- each name of the effect is below n
+abbrev pub Below : ℕ → Effect → Type 0
+Below n es = (a : Atom) → In a es → name_bound (message_of a) ≤ n
+
+-- an atom whose message has a key goes in
+abbrev pub AddsAtom : Keys → AtomId → Sum → Sum → Type 0
+AddsAtom keys a old new =
+    (s : Store) (b : Atom) (es : Effect) → IsKeyed s keys → SaysAtom s.messages a b → HasKey s keys (message_of b) → SumOf s keys old es → SumOf s keys new (es ++ b ∷ [])
+
+-- an atom goes out, where it stands there
+abbrev pub TakesAtom : Keys → AtomId → Sum → Sum → Type 0
+TakesAtom keys a old new =
+    (s : Store) (b : Atom) (es : Effect) → IsKeyed s keys → SaysAtom s.messages a b → SumOf s keys old es → SumOf s keys new (minus es (b ∷ []))
+
+-- the same for the atoms of an effect
+abbrev pub HaveKeys : Store → Keys → Effect → Type 0
+HaveKeys s keys fs = (a : Atom) → In a fs → HasKey s keys (message_of a)
+
+abbrev pub AddsAll : Keys → List AtomId → Sum → Sum → Type 0
+AddsAll keys ids old new =
+    (s : Store) (fs es : Effect) → IsKeyed s keys → TellsAll (SaysAtom s.messages) ids fs → HaveKeys s keys fs → SumOf s keys old es → SumOf s keys new (es ++ fs)
+
+abbrev pub TakesAll : Keys → List AtomId → Sum → Sum → Type 0
+TakesAll keys ids old new =
+    (s : Store) (fs es : Effect) → IsKeyed s keys → TellsAll (SaysAtom s.messages) ids fs → SumOf s keys old es → SumOf s keys new (minus es fs)
+
+-- what a form that binds the name k, or two names from k on, does to an effect
+abbrev pub AfterOne : ℕ → Sum → Option Sum → Type 0
+AfterOne k sum r =
+    (s : Store) (keys : Keys) (es : Effect) → IsKeyed s keys → SumOf s keys sum es → Below (k + 1) es → StandsFor (with_keys s keys) r (unless (mentions k es) es)
+
+abbrev pub AfterTwo : ℕ → Sum → Option Sum → Type 0
+AfterTwo k sum r =
+    (s : Store) (keys : Keys) (es : Effect) → IsKeyed s keys → SumOf s keys sum es → Below (k + 2) es → StandsFor (with_keys s keys) r (unless (mentions k es || mentions (suc k) es) es)
+
+abbrev pub AfterServe : ℕ → Sum → Option Sum → Type 0
+AfterServe k sum r =
+    (s : Store) (keys : Keys) (es : Effect) → IsKeyed s keys → SumOf s keys sum es → Below (k + 1) es → StandsFor (with_keys s keys) r (keep (are_many es) (unless (mentions k es) es))
+
+abbrev pub AfterMake : ℕ → Store → Keys → Sum → Option Sum → Type 0
+AfterMake k s keys sum r =
+    (es : Effect) → IsKeyed s keys → SumOf s keys sum es → Below (k + 1) es → StandsFor (with_keys s keys) r (unless (mentions k (minus es (checks (name k) ∷ []))) (minus es (checks (name k) ∷ [])))
+
+abbrev pub AfterCast : ℕ → Store → Keys → TyId → Sum → Option Sum → Type 0
+AfterCast k s keys t sum r =
+    (u : Ty) (es : Effect) → IsKeyed s keys → Means s t.place u → HaveKeys s keys (cast_effect_of u) → SumOf s keys sum es → Below (k + 1) es → StandsFor (with_keys s keys) r (unless (mentions k es) (es ++ cast_effect_of u))
+
+abbrev pub AfterCheck : Store → Keys → MsgId → Option TyId → Sum → Option Sum → Type 0
+AfterCheck s keys id t sum r =
+    (m : Message) (paid : Option Effect) (es : Effect) → IsKeyed s keys → with_keys s keys id.place m → PaidFits s t paid → SumOf s keys sum es → StandsFor (with_keys s keys) r (checked paid m es)
+
+-- the type of a nonce is one of the store
+abbrev pub MayBeType : Store → Option TyId → Type 0
+MayBeType s None = ⊤
+MayBeType s (Some t) = t.place < length s.types
+
+-- what a form with one process does to its effect
+abbrev pub BelowIn : Shape → Effect → Type 0
+BelowIn (leaf_at k l) es = ⊤
+BelowIn (prefix_at k s b) es = Below (k + binds s) es
+BelowIn (fork_at k f a r) es = Below (k + fork_binds f) es
+
+abbrev pub AfterForm : Store → Keys → Shape → Own → Sum → Option Sum → Type 0
+AfterForm s keys x own sum r =
+    (paid : Option Effect) (es : Effect) → IsKeyed s keys → Fits s (with_keys s keys) x paid own → SumOf s keys sum es → BelowIn x es → StandsFor (with_keys s keys) r (after_shape x paid es)
+
+-- what a form with two processes does to theirs
+abbrev pub BothForm : Shape → Sum → Sum → Option Sum → Type 0
+BothForm x a b r =
+    (s : Store) (keys : Keys) (es fs : Effect) → IsKeyed s keys → SumOf s keys a es → SumOf s keys b fs → BelowIn x es → BelowIn x fs → StandsFor (with_keys s keys) r (both_shape x es fs)
+
+abbrev pub BothCase : ℕ → Sum → Sum → Option Sum → Type 0
+BothCase k a b r =
+    (s : Store) (keys : Keys) (es fs : Effect) → IsKeyed s keys → SumOf s keys a es → SumOf s keys b fs → Below (k + 1) es → Below (k + 1) fs → StandsFor (with_keys s keys) r (unless (mentions k es || mentions k fs) (greater es fs))
+
+-- by what is kept of the form
+abbrev pub OwnCheck : Store → Keys → Own → Sum → Option Sum → Type 0
+OwnCheck s keys own sum r = (id : MsgId) (t : Option TyId) → own ≡ Checked id t → AfterCheck s keys id t sum r
+
+abbrev pub OwnCast : ℕ → Store → Keys → Own → Sum → Option Sum → Type 0
+OwnCast k s keys own sum r = (t : TyId) → own ≡ Cast t → AfterCast k s keys t sum r
+
+abbrev pub OwnMake : ℕ → Keys → Own → Sum → Option Sum → Type 0
+OwnMake k keys own sum r = (s : Store) (id : MsgId) → own ≡ Made id → slice_get s.messages id.place ≡ Some (name k) → AfterMake k s keys sum r
+
+abbrev pub OwnBegin : Keys → Own → Sum → Option Sum → Type 0
+OwnBegin keys own sum r =
+    (s : Store) (id : MsgId) (m : Message) (es : Effect) → own ≡ Label id → IsKeyed s keys → slice_get s.messages id.place ≡ Some m → SumOf s keys sum es → StandsFor (with_keys s keys) r (Some (minus es (ends m ∷ (many m ∷ []))))
+
+abbrev pub OwnEnd : Keys → Own → Sum → Option Sum → Type 0
+OwnEnd keys own sum r =
+    (s : Store) (id : MsgId) (m : Message) (es : Effect) → own ≡ Label id → IsKeyed s keys → with_keys s keys id.place m → SumOf s keys sum es → StandsFor (with_keys s keys) r (Some (es ++ ends m ∷ []))
+
+abbrev pub OwnMany : Keys → Own → Sum → Option Sum → Type 0
+OwnMany keys own sum r =
+    (s : Store) (id : MsgId) (m : Message) (es : Effect) → own ≡ Label id → IsKeyed s keys → with_keys s keys id.place m → SumOf s keys sum es → StandsFor (with_keys s keys) r (Some (es ++ many m ∷ []))
+
+-- the types that are kept are of the store
+abbrev pub CheckGiven : Store → Own → Type 0
+CheckGiven s own = (id : MsgId) (t : TyId) → own ≡ Checked id (Some t) → t.place < length s.types
+
+abbrev pub CastGiven : Store → Own → Type 0
+CastGiven s own = (t : TyId) → own ≡ Cast t → t.place < length s.types
+
+abbrev pub FormGiven : Store → Prefix → Own → Type 0
+FormGiven s (Recvs m t) own = ⊤
+FormGiven s (Serves m t) own = ⊤
+FormGiven s (Splits m t u) own = ⊤
+FormGiven s (Selects m t n u) own = ⊤
+FormGiven s (Decrypts m t n) own = ⊤
+FormGiven s (Checks m n) own = CheckGiven s own
+FormGiven s (Begins m) own = ⊤
+FormGiven s (Ends m) own = ⊤
+FormGiven s (EndManys m) own = ⊤
+FormGiven s (Casts m t) own = CastGiven s own
+FormGiven s (Makes t) own = ⊤
+
+abbrev pub OwnGiven : Store → Shape → Own → Type 0
+OwnGiven s (leaf_at k l) own = ⊤
+OwnGiven s (prefix_at k p b) own = FormGiven s p own
+OwnGiven s (fork_at k f a r) own = ⊤
+
+-- the effects behind a form, where there are some, have the names in scope there alone
+abbrev pub MayBelowIn : Shape → Option Effect → Type 0
+MayBelowIn x None = ⊤
+MayBelowIn x (Some es) = BelowIn x es
+
+abbrev pub TopBelowIn : Shape → List (Option Effect) → Type 0
+TopBelowIn x [] = ⊤
+TopBelowIn x (o ∷ st) = MayBelowIn x o
+
+abbrev pub BothBelowIn : Shape → List (Option Effect) → Type 0
+BothBelowIn x [] = ⊤
+BothBelowIn x (o ∷ []) = MayBelowIn x o
+BothBelowIn x (o ∷ (o' ∷ st)) = MayBelowIn x o × MayBelowIn x o'
+
+abbrev pub Behind : Shape → List (Option Effect) → Type 0
+Behind (leaf_at k l) st = ⊤
+Behind (prefix_at k s b) st = TopBelowIn (prefix_at k s b) st
+Behind (fork_at k f a r) st = BothBelowIn (fork_at k f a r) st
+
+-- a stack that grows at its end
+abbrev pub Tops : Store → Keys → List (Option Sum) → List (Option Effect) → Type 0
+Tops s keys os st = TopsStand (with_keys s keys) (reverse os) st
+
+-- before a node is acted on
+pub record IsBefore (s : Store) (keys : Keys) (x : Shape) (o : OwnNote) (os : List (Option Sum)) (n : Note) (st : List (Option Effect)) : Type 0 where
+  pub keyed : IsKeyed s keys
+  pub noted : NotedAs s (with_keys s keys) x n o
+  pub behind : Behind x st
+  pub tops : Tops s keys os st
+
+-- where the form's own premises hold, the types that are kept are of the store
+abbrev pub NoteGiven : Store → Shape → OwnNote → Type 0
+NoteGiven s x o = o.fine ≡ true → OwnGiven s x o.own
+
+-- what is kept of the nodes of a process stands for what is noted of them where its free names have these types
+pub record IsNoted (s : Store) (noted : Noted) (k : ℕ) (p : Process) (env : Env) : Type 0 where
+  pub names : k ≡ length env
+  pub keyed : AreKeys s.messages (λ i. get nat_eq noted.keys.keys i)
+  pub each : AreNoted s (with_keys s noted.keys) (spelled k p) (scan 0 env [] (spelled k p)) noted.notes.items
+
+-- an atom by its kind and its message
+abbrev pub atom_of : AtomKind → Message → Atom
+atom_of End m = ends m
+atom_of Check m = checks m
+atom_of Many m = many m
+
+-- the key of a message of the store
+abbrev pub IsKey : Store → Keys → ℕ → Type 0
+IsKey s keys q = (i : ℕ) × (m : Message) × with_keys s keys i m × (q ≡ key_of (name_bound m) i)
+
+-- an effect with these counts, where there is one
+abbrev pub IsReadAs : Option Declared.Effect → Option Effect → Type 0
+IsReadAs None None = ⊤
+IsReadAs None (Some es) = ⊥
+IsReadAs (Some f) None = ⊥
+IsReadAs (Some f) (Some es) = SameEffect (View.effect f) es

@@ -1,0 +1,341 @@
+// What forms do to effects by counts.
+ghost use Rattle.std.specs.Prelude.{◌≡◌, suc, ◌+◌, ◌-◌, ◌≤◌, ◌<◌, ◌||◌, ℕ, [], ◌∷◌, ◌++◌, length, slice_get, Some, None, IfOk, OnOk, nat_eq};
+ghost use Rattle.indexmap.specs.IndexMap.{get};
+ghost use Rattle.spi_term.specs.Term as Term;
+ghost use Rattle.spi_term.specs.Term.{Effect, Ty};
+ghost use Rattle.spi_term.specs.View.{shape_of};
+ghost use Rattle.spi_term.specs.Arena.{scope_of};
+ghost use Rattle.spi_effect.specs.Made.{are_many, mentions, minus, greater};
+ghost use Rattle.spi_intern.specs.declared.store.Store.{Store};
+ghost use Rattle.spi_intern.specs.Meaning.{Means};
+ghost use Rattle.spi_count.specs.Counts.{count_of};
+ghost use Rattle.spi_count.specs.Sums.{part, one_more, Puts};
+ghost use Rattle.spi_infer.specs.Own.{Fits, StandsFor, with_keys};
+ghost use Rattle.spi_infer.specs.Forms.{unless, keep, cast_effect_of};
+ghost use Rattle.spi_infer.specs.Passes.{after_shape, both_shape};
+ghost use Rattle.spi_infer.specs.Accounts.{IsKeyed, HaveKeys, SumOf, AddsAtom, TakesAtom, AddsAll, TakesAll, AfterOne, AfterTwo, AfterServe, AfterMake, AfterCast, AfterCheck, AfterForm, BothForm, BothCase, MayBeType, OwnCheck, OwnCast, OwnMake, OwnBegin, OwnEnd, OwnMany, CheckGiven, CastGiven, OwnGiven};
+
+use crate::keys::Keys;
+use crate::own::Own;
+use spi_count::{AtomKind, NoMemory, Sum};
+use spi_intern::{AtomId, MsgId, Store, TyId, TyPart};
+use spi_term::{Form, Node};
+use std::alloc::Global;
+
+fn add_keyed(keys: &Keys, kind: AtomKind, id: MsgId, sum: &mut Sum) -> Result<(), NoMemory>
+    ensures { OnOk result ((k : ℕ) → get nat_eq keys.now.keys id.place ≡ Some k → Puts kind sum.old sum.new k (one_more kind (count_of (part kind sum.old) k))) }
+{
+    match keys.key(id) {
+        Some(key) => sum.add(kind, key),
+        None => Ok(()),
+    }
+}
+
+fn take_keyed(keys: &Keys, kind: AtomKind, id: MsgId, sum: &mut Sum)
+    ensures taken { (k : ℕ) → get nat_eq keys.now.keys id.place ≡ Some k → Puts kind sum.old sum.new k (count_of (part kind sum.old) k - 1) }
+    ensures absent { get nat_eq keys.now.keys id.place ≡ None → sum.new ≡ sum.old }
+{
+    if let Some(key) = keys.key(id) {
+        sum.take(kind, key);
+    }
+}
+
+// An atom whose message has a key goes in.
+pub fn add_atom(keys: &Keys, a: AtomId, sum: &mut Sum) -> Result<(), NoMemory>
+    ensures { OnOk result (AddsAtom keys.now a sum.old sum.new) }
+{
+    match a {
+        AtomId::End(id) => add_keyed(keys, AtomKind::End, id, sum),
+        AtomId::Check(id) => add_keyed(keys, AtomKind::Check, id, sum),
+        AtomId::Many(id) => add_keyed(keys, AtomKind::Many, id, sum),
+    }
+}
+
+// An atom goes out, where it stands there.
+pub fn take_atom(keys: &Keys, a: AtomId, sum: &mut Sum)
+    ensures { TakesAtom keys.now a sum.old sum.new }
+{
+    match a {
+        AtomId::End(id) => take_keyed(keys, AtomKind::End, id, sum),
+        AtomId::Check(id) => take_keyed(keys, AtomKind::Check, id, sum),
+        AtomId::Many(id) => take_keyed(keys, AtomKind::Many, id, sum),
+    }
+}
+
+// Atoms whose messages have keys go in.
+pub fn add_atoms(keys: &Keys, ids: &[AtomId], sum: &mut Sum) -> Result<(), NoMemory>
+    ensures { OnOk result (AddsAll keys.now ids.now sum.old sum.new) }
+{
+    for a in ids {
+        add_atom(keys, *a, sum)?;
+    }
+    Ok(())
+}
+
+// Atoms go out, each where it stands there.
+pub fn take_atoms(keys: &Keys, ids: &[AtomId], sum: &mut Sum)
+    ensures { TakesAll keys.now ids.now sum.old sum.new }
+{
+    for a in ids {
+        take_atom(keys, *a, sum);
+    }
+}
+
+// The effect of a type that is cast to goes in.
+pub fn add_type(store: &Store, keys: &Keys, t: TyId, sum: &mut Sum) -> Result<(), NoMemory>
+    requires { t.place < length store.now.types }
+    ensures { OnOk result ((u : Ty) (es : Effect) → IsKeyed store.now keys.now → Means store.now t.place u → HaveKeys store.now keys.now (cast_effect_of u) → SumOf store.now keys.now sum.old es → SumOf store.now keys.now sum.new (es ++ cast_effect_of u)) }
+{
+    match store.ty_part(t) {
+        TyPart::Nonce(ids) => add_atoms(keys, ids, sum),
+        TyPart::Un => Ok(()),
+        TyPart::Unit => Ok(()),
+        TyPart::Pair(_, _) => Ok(()),
+        TyPart::Sum(_, _) => Ok(()),
+        TyPart::Key(_) => Ok(()),
+    }
+}
+
+// The effect of the type of a nonce goes out.
+pub fn take_type(store: &Store, keys: &Keys, t: TyId, sum: &mut Sum)
+    requires { t.place < length store.now.types }
+    ensures { (u : Ty) (es : Effect) → IsKeyed store.now keys.now → Means store.now t.place u → SumOf store.now keys.now sum.old es → SumOf store.now keys.now sum.new (minus es (cast_effect_of u)) }
+{
+    match store.ty_part(t) {
+        TyPart::Nonce(ids) => take_atoms(keys, ids, sum),
+        TyPart::Un => {}
+        TyPart::Unit => {}
+        TyPart::Pair(_, _) => {}
+        TyPart::Sum(_, _) => {}
+        TyPart::Key(_) => {}
+    }
+}
+
+// The effect under a form that binds the name `scope`, or that and the next one.
+pub fn after_binder(scope: u32, sum: Sum) -> Option<Sum>
+    requires { scope ≤ 300000 }
+    ensures one { AfterOne scope sum result }
+    ensures two { AfterTwo scope sum result }
+{
+    if sum.reaches((scope as u64 + 1) * 4_294_967_296) {
+        None
+    } else {
+        Some(sum)
+    }
+}
+
+pub fn after_serve(scope: u32, sum: Sum) -> Option<Sum>
+    requires { scope ≤ 300000 }
+    ensures { AfterServe scope sum result }
+{
+    if sum.is_all_many() {
+        after_binder(scope, sum)
+    } else {
+        None
+    }
+}
+
+pub fn after_new(scope: u32, keys: &Keys, name: MsgId, sum: Sum) -> Option<Sum>
+    requires { scope ≤ 300000 }
+    ensures { (s : Store) → slice_get s.messages name.place ≡ Some (Term.name scope) → AfterMake scope s keys.now sum result }
+{
+    let mut rest = sum;
+    take_atom(keys, AtomId::Check(name), &mut rest);
+    after_binder(scope, rest)
+}
+
+pub fn after_cast(
+    scope: u32,
+    store: &Store,
+    keys: &Keys,
+    t: TyId,
+    sum: Sum,
+) -> Result<Option<Sum>, NoMemory>
+    requires scope { scope ≤ 300000 }
+    requires ty { t.place < length store.now.types }
+    ensures { IfOk result (AfterCast scope store.now keys.now t sum) }
+{
+    match after_binder(scope, sum) {
+        None => Ok(None),
+        Some(rest) => {
+            let mut more = rest;
+            add_type(store, keys, t, &mut more)?;
+            Ok(Some(more))
+        }
+    }
+}
+
+pub fn after_check(
+    store: &Store,
+    keys: &Keys,
+    m: MsgId,
+    paid: Option<TyId>,
+    sum: Sum,
+) -> Result<Option<Sum>, NoMemory>
+    requires { MayBeType store.now paid }
+    ensures { IfOk result (AfterCheck store.now keys.now m paid sum) }
+{
+    match paid {
+        None => Ok(Some(sum)),
+        Some(t) => {
+            let mut rest = sum;
+            take_type(store, keys, t, &mut rest);
+            add_atom(keys, AtomId::Check(m), &mut rest)?;
+            Ok(Some(rest))
+        }
+    }
+}
+
+pub fn after_case(scope: u32, a: Sum, b: Sum) -> Result<Option<Sum>, NoMemory>
+    requires { scope ≤ 300000 }
+    ensures { IfOk result (BothCase scope a b) }
+{
+    match after_binder(scope, a) {
+        None => Ok(None),
+        Some(a) => match after_binder(scope, b) {
+            None => Ok(None),
+            Some(b) => {
+                let both = Sum::greatest(a, b)?;
+                Ok(Some(both))
+            }
+        },
+    }
+}
+
+// What is checked, and what the check pays for.
+pub fn checked(store: &Store, keys: &Keys, own: Own, sum: Sum) -> Result<Option<Sum>, NoMemory>
+    requires { CheckGiven store.now own }
+    ensures { IfOk result (OwnCheck store.now keys.now own sum) }
+{
+    match own {
+        Own::Checked(m, paid) => after_check(store, keys, m, paid, sum),
+        Own::Nothing => Ok(None),
+        Own::Label(_) => Ok(None),
+        Own::Cast(_) => Ok(None),
+        Own::Made(_) => Ok(None),
+    }
+}
+
+pub fn cast(
+    scope: u32,
+    store: &Store,
+    keys: &Keys,
+    own: Own,
+    sum: Sum,
+) -> Result<Option<Sum>, NoMemory>
+    requires scope { scope ≤ 300000 }
+    requires own { CastGiven store.now own }
+    ensures { IfOk result (OwnCast scope store.now keys.now own sum) }
+{
+    match own.cast() {
+        None => Ok(None),
+        Some(t) => after_cast(scope, store, keys, t, sum),
+    }
+}
+
+pub fn made(scope: u32, keys: &Keys, own: Own, sum: Sum) -> Option<Sum>
+    requires { scope ≤ 300000 }
+    ensures { OwnMake scope keys.now own sum result }
+{
+    match own.made() {
+        None => None,
+        Some(name) => after_new(scope, keys, name, sum),
+    }
+}
+
+// A `begin` pays for the ends of its label.
+pub fn begun(keys: &Keys, own: Own, sum: Sum) -> Option<Sum>
+    ensures { OwnBegin keys.now own sum result }
+{
+    match own.label() {
+        None => None,
+        Some(label) => {
+            let mut rest = sum;
+            take_atom(keys, AtomId::End(label), &mut rest);
+            take_atom(keys, AtomId::Many(label), &mut rest);
+            Some(rest)
+        }
+    }
+}
+
+pub fn ended(keys: &Keys, own: Own, sum: Sum) -> Result<Option<Sum>, NoMemory>
+    ensures { IfOk result (OwnEnd keys.now own sum) }
+{
+    match own.label() {
+        None => Ok(None),
+        Some(label) => {
+            let mut more = sum;
+            add_atom(keys, AtomId::End(label), &mut more)?;
+            Ok(Some(more))
+        }
+    }
+}
+
+pub fn ended_many(keys: &Keys, own: Own, sum: Sum) -> Result<Option<Sum>, NoMemory>
+    ensures { IfOk result (OwnMany keys.now own sum) }
+{
+    match own.label() {
+        None => Ok(None),
+        Some(label) => {
+            let mut more = sum;
+            add_atom(keys, AtomId::Many(label), &mut more)?;
+            Ok(Some(more))
+        }
+    }
+}
+
+// The effect of a form from that of its process.
+pub fn after_form(
+    store: &Store,
+    keys: &Keys,
+    node: &Node,
+    own: Own,
+    sum: Sum,
+) -> Result<Option<Sum>, NoMemory>
+    requires scope { scope_of (shape_of node.now) ≤ 300000 }
+    requires own { OwnGiven store.now (shape_of node.now) own }
+    ensures { IfOk result (AfterForm store.now keys.now (shape_of node.now) own sum) }
+{
+    let scope = node.scope;
+    match &node.form {
+        Form::Recv { .. } => Ok(after_binder(scope, sum)),
+        Form::Serve { .. } => Ok(after_serve(scope, sum)),
+        Form::Split { .. } => Ok(after_binder(scope, sum)),
+        Form::Select { .. } => Ok(after_binder(scope, sum)),
+        Form::Decrypt { .. } => Ok(after_binder(scope, sum)),
+        Form::Check { .. } => checked(store, keys, own, sum),
+        Form::Begin { .. } => Ok(begun(keys, own, sum)),
+        Form::End { .. } => ended(keys, own, sum),
+        Form::EndMany { .. } => ended_many(keys, own, sum),
+        Form::Cast { .. } => cast(scope, store, keys, own, sum),
+        Form::Fresh { .. } => Ok(made(scope, keys, own, sum)),
+        Form::Branch { .. } => Ok(None),
+        Form::Send { .. } => Ok(None),
+        Form::Par { .. } => Ok(None),
+        Form::Stop => Ok(None),
+    }
+}
+
+// The effect of a form from those of its two processes.
+pub fn both_form(node: &Node, a: Sum, b: Sum) -> Result<Option<Sum>, NoMemory>
+    requires { scope_of (shape_of node.now) ≤ 300000 }
+    ensures { IfOk result (BothForm (shape_of node.now) a b) }
+{
+    match &node.form {
+        Form::Par { .. } => Ok(Some(Sum::joined(a, b)?)),
+        Form::Branch { .. } => after_case(node.scope, a, b),
+        Form::Recv { .. } => Ok(None),
+        Form::Serve { .. } => Ok(None),
+        Form::Split { .. } => Ok(None),
+        Form::Select { .. } => Ok(None),
+        Form::Decrypt { .. } => Ok(None),
+        Form::Check { .. } => Ok(None),
+        Form::Begin { .. } => Ok(None),
+        Form::End { .. } => Ok(None),
+        Form::EndMany { .. } => Ok(None),
+        Form::Cast { .. } => Ok(None),
+        Form::Fresh { .. } => Ok(None),
+        Form::Send { .. } => Ok(None),
+        Form::Stop => Ok(None),
+    }
+}
