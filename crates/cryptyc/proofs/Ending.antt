@@ -1,6 +1,6 @@
 -- How a call ends.
 use Rattle.std.proofs.Common.{◌≡◌, ℕ, List, [], Option, None, Some, IfSome, refl, subst, inl, inr}
-use Rattle.std.specs.Io.KnownBytes.{Appends, Keeps}
+use Rattle.std.specs.Io.KnownBytes.{Appends}
 use Rattle.spi_io.specs.Causes.{Rose, PutsPrefix}
 use Rattle.spi_scope.specs.StandsFor.{Meant, StandsFor}
 use Rattle.spi_term.specs.Term.{Process}
@@ -12,10 +12,10 @@ use Rattle.cryptyc.specs.declared.asked.Command.TheVariants.{Check}
 use Rattle.cryptyc.specs.declared.status.Status.{Status}
 use Rattle.cryptyc.specs.declared.status.Status.TheVariants.{Yes, No, Refused, ReadFault, WriteFault, NoMemory, Usage}
 use Rattle.cryptyc.specs.Way.{Seen}
-use Rattle.cryptyc.specs.Spelled.{SpellsFile, IsDerivable, SpellsDerivable, SpellsUnderivable, SpellsNone, IsSafe, IsManySafe}
-use Rattle.cryptyc.specs.Answer.{Refuses, IsRefusal, ChecksTo}
+use Rattle.cryptyc.specs.Spelled.{SpellsFile, IsDerivable, SpellsDerivable, SpellsUnderivable, SpellsNone, IsManySafe}
+use Rattle.cryptyc.specs.Answer.{Refuses, ChecksTo}
 use Rattle.cryptyc.specs.Run.{Ends, Wants, Completes, IsExact}
-use Rattle.cryptyc.proofs.Refusals.{OneLexing, OnePlaced, OneMeant, NeverBoth, one_tree, refused_none}
+use Rattle.cryptyc.proofs.Refusals.{OneLexing, OnePlaced, OneMeant, one_tree}
 
 -- a prefix of the wanted output was put
 pub cut_short : (left : Option (List ℕ)) (wants : List ℕ → Status → List ℕ → Type 0) (old new : Option (List ℕ)) (status : Status) (output : List ℕ) → IfSome left (λ bytes. wants bytes status output) → PutsPrefix old new output → IfSome left (λ bytes. Ends (wants bytes) old new WriteFault)

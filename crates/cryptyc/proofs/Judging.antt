@@ -1,5 +1,5 @@
 -- What the least effect tells.
-use Rattle.std.proofs.Common.{◌≡◌, ◌↔◌, ℕ, zero, suc, ◌==◌, List, [], ◌∷◌, length, map, IsTrue, arith, refl}
+use Rattle.std.proofs.Common.{◌≡◌, ◌↔◌, ℕ, ◌==◌, List, [], ◌∷◌, length, map, IsTrue, arith, refl}
 use Rattle.std.proofs.lemmas.Grind.{common_steps}
 use Rattle.spi_term.specs.declared.term.Atom.{Atom}
 use Rattle.spi_term.specs.Term.{Process, Effect}

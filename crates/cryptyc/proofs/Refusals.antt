@@ -16,7 +16,7 @@ use Rattle.spi_text.specs.declared.lines.Span.{Span}
 use Rattle.spi_tree.specs.Trees as t
 use Rattle.spi_tree.specs.Pieces.{Piece as Part, opens, cell, closes, kinds_in}
 use Rattle.spi_parse.specs.Formed.{IsFile, whole_file}
-use Rattle.spi_parse.specs.Exact.{Spells, IsWithin, Stops, IsSyntaxAt, IsDeepAt}
+use Rattle.spi_parse.specs.Exact.{Spells, IsWithin, Stops, IsSyntaxAt}
 use Rattle.spi_scope.specs.declared.fault.ScopeFault.{ScopeFault}
 use Rattle.spi_scope.specs.declared.fault.ScopeFault.TheVariants as scope
 use Rattle.spi_scope.specs.StandsFor.{Meant, StandsFor}
@@ -33,8 +33,8 @@ use Rattle.cryptyc.specs.declared.status.Status.TheVariants.{Refused}
 use Rattle.cryptyc.specs.declared.read.Unread.{Unread}
 use Rattle.cryptyc.specs.declared.read.Unread.TheVariants as unread
 use Rattle.cryptyc.specs.Reading.{IsUnread, Tells}
-use Rattle.cryptyc.specs.Spelled.{limit, IsTreeOf, SpellsFile, SpellsNone}
-use Rattle.cryptyc.specs.Answer.{start_of, scope_number, scope_shown, Refuses, too_long, not_utf8, bad_char, bad_number, name_too_long, syntax, too_deep, out_of_scope, IsRefusal, ChecksTo}
+use Rattle.cryptyc.specs.Spelled.{limit, IsTreeOf, SpellsNone}
+use Rattle.cryptyc.specs.Answer.{start_of, scope_number, Refuses, too_long, not_utf8, bad_char, bad_number, name_too_long, syntax, too_deep, out_of_scope, IsRefusal, ChecksTo}
 
 -- the way of lexemes goes through the bytes
 leads_within : {at to : ℕ} {text rest : List ℕ} {pieces : List Piece} → Leads at text pieces to rest → to + length rest ≡ at + length text

@@ -1,4 +1,4 @@
-use Rattle.std.proofs.Common.{◌≤◌, length, arith}
+use Rattle.std.proofs.Common.{length, arith}
 use Rattle.spi_parse.proofs.Counted.{few_tokens}
 use Rattle.cryptyc.proofs.read.read.Goals as goal
 
