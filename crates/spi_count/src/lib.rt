@@ -5,8 +5,11 @@ mod counts;
 mod sum;
 
 pub use counts::Counts;
-pub use sum::{AtomKind, Sum};
 use std::alloc::AllocError;
+pub use sum::{AtomKind, Sum};
 
 /// Memory ran out.
 pub type NoMemory = AllocError;
+
+#[cfg(test)]
+mod tests;
