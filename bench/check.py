@@ -40,15 +40,6 @@ def names(count):
     return ", ".join(f"n{i}" for i in range(count))
 
 
-def label(number, among):
-    """One of many labels over few names."""
-    parts = []
-    for _ in range(3):
-        parts.append(f"n{number % among}")
-        number //= among
-    return f"({', '.join(parts)})"
-
-
 def balanced(parts):
     if len(parts) == 1:
         return parts[0]
@@ -67,45 +58,46 @@ def comb(parts, depth):
 
 
 def ends(count):
-    return [f"end {label(i, 30)}; stop" for i in range(count)]
+    return [f"end n{i}; stop" for i in range(count)]
 
 
 def ends_balanced(count):
-    return f"free {names(30)};\nprocess new (x: Un); {balanced(ends(count))}\n"
+    """Ends with different labels, under a binder."""
+    return f"free {names(count)};\nprocess new (x: Un); {balanced(ends(count))}\n"
 
 
 def ends_comb(count):
-    return f"free {names(30)};\nprocess new (x: Un); {comb(ends(count), 470)}\n"
+    return f"free {names(count)};\nprocess new (x: Un); {comb(ends(count), 240)}\n"
 
 
 def spine(count):
     """460 binders over many ends."""
-    binders = "".join(f"inp n{i % 30} (x{i}: Un); " for i in range(460))
-    return f"free {names(30)};\nprocess {binders}{balanced(ends(count))}\n"
+    binders = "".join(f"inp n{i} (x{i}: Un); " for i in range(460))
+    return f"free {names(count)};\nprocess {binders}{balanced(ends(count))}\n"
 
 
 def chains(count):
-    """Begins, and their ends."""
-    chain = [f"begin {label(i, 30)}; " for i in range(240)] + [f"end {label(i, 30)}; " for i in range(240)]
-    return f"free {names(30)};\nprocess {balanced(['(' + ''.join(chain) + 'stop | stop)'] * count)}\n"
+    """Chains of 480 forms, begins and their ends."""
+    chain = [f"begin n{i}; " for i in range(240)] + [f"end n{i}; " for i in range(240)]
+    return f"free {names(240)};\nprocess {balanced([''.join(chain) + 'stop'] * count)}\n"
 
 
 def checks(count):
     """A nonce type of 250 atoms, checked many times."""
-    atoms = ", ".join(f"end {label(i, 30)}" for i in range(120))
-    part = "check m is p; stop"
-    return (f"free {names(30)};\ntype T = Nonce [{atoms}];\nprocess inp n0 (q: Un); new (m: Un); "
-            f"cast q is (p: T); {balanced([part] * count)}\n")
+    atoms = ", ".join(f"end n{i}" for i in range(250))
+    return (f"free {names(250)};\ntype T = Nonce [{atoms}];\nprocess inp n0 (q: Un); new (m: Un); "
+            f"cast q is (p: T); {balanced(['check m is p; stop'] * count)}\n")
 
 
 def matches(count):
-    """A large message put into a large type, many times."""
+    """A message of 199 nodes put into a type of 975, many times."""
     message = "n0"
     for i in range(99):
         message = f"(n{i % 30}, {message})"
-    atoms = ", ".join(f"end (x, n{i % 30})" for i in range(240))
-    part = f"match q is (x: Un = {message}, y: Nonce [{atoms}]); stop"
-    return f"free {names(30)};\nprocess inp n0 (q: (x: Un, Nonce [{atoms}])); {balanced([part] * count)}\n"
+    atoms = ", ".join(f"end (x, n{i})" for i in range(240))
+    parts = [f"match q is (x: Un = {message}, y: Nonce [{atoms}]); stop"] * count
+    return (f"free {names(240)};\ntype T = (x: Un, Nonce [{atoms}]);\n"
+            f"process new (k: Key(T)); inp n0 (c: Un); decrypt c is {{q: T}}k; {balanced(parts)}\n")
 
 
 WORKLOADS = [
@@ -113,9 +105,9 @@ WORKLOADS = [
     ("ends in balanced groups", ends_balanced, 9500),
     ("ends in a comb of groups", ends_comb, 9500),
     ("a spine over ends", spine, 5500),
-    ("chains of begins and ends", chains, 20),
+    ("chains of begins and ends", chains, 40),
     ("a nonce type checked", checks, 8500),
-    ("matches with large terms", matches, 20),
+    ("matches with large terms", matches, 40),
 ]
 
 
