@@ -73,8 +73,8 @@ module _ (At : ℕ → Message → Type 0) (numbers : AreNumbers At) where
           let here = key_of (name_bound (message_of a)) i in
           let far : key ≢ here
           = λ f.
-              let ij : i ≡ j = sym (same_place (name_bound (message_of b)) (name_bound (message_of a)) j i (numbers.small gb) (numbers.small g) f) in
-              ne (same_parts a b e (numbers.one (subst (λ i. At i (message_of a)) ij g) gb)) in
+          let ij : i ≡ j = sym (same_place (name_bound (message_of b)) (name_bound (message_of a)) j i (numbers.small gb) (numbers.small g) f) in
+          ne (same_parts a b e (numbers.one (subst (λ i. At i (message_of a)) ij g) gb)) in
           ap (λ k. count_of (part k new) here) e
           ∙ p.here here
           ∙ ap (λ t. if t then n else count_of (part (kind_of b) old) here) (ne_eqb key here far)
@@ -246,7 +246,7 @@ module _ (At : ℕ → Message → Type 0) (numbers : AreNumbers At) where
     known = known_one {s = s} {t = t} {es = es} {fs = fs} {gs = es ++ fs} h k (λ a p. cut_positive a es fs p);
     kept = λ kind j p.
         ⊎_elim (λ q. h.kept kind j q) (λ q. k.kept kind j q)
-          (both_positive kind (count_of (part kind s) j) (count_of (part kind t) j) (subst (λ n. 0 < n) (e kind j) p));
+        (both_positive kind (count_of (part kind s) j) (count_of (part kind t) j) (subst (λ n. 0 < n) (e kind j) p));
   }
 
   -- the greater counts
@@ -262,7 +262,7 @@ module _ (At : ℕ → Message → Type 0) (numbers : AreNumbers At) where
     known = known_one {s = s} {t = t} {es = es} {fs = fs} {gs = greater es fs} h k (λ a p. positive_max (count a es) (count a fs) (subst (λ n. 0 < n) ((greater_is es fs).at a) p));
     kept = λ kind j p.
         ⊎_elim (λ q. h.kept kind j q) (λ q. k.kept kind j q)
-          (positive_max (count_of (part kind s) j) (count_of (part kind t) j) (subst (λ n. 0 < n) (e kind j) p));
+        (positive_max (count_of (part kind s) j) (count_of (part kind t) j) (subst (λ n. 0 < n) (e kind j) p));
   }
 
   -- each atom is a `many`

@@ -5,8 +5,8 @@ mod counts;
 mod sum;
 
 pub use counts::Counts;
-pub use sum::{AtomKind, Sum};
 use std::alloc::AllocError;
+pub use sum::{AtomKind, Sum};
 
 /// Memory ran out.
 pub type NoMemory = AllocError;
