@@ -7,9 +7,8 @@ ghost use Rattle.spi_rules.specs.Blocking.{NodeOf};
 ghost use Rattle.spi_message.specs.Judging.{IsKept, Stands};
 ghost use Rattle.spi_infer.specs.Own.{with_keys, StandsFor};
 ghost use Rattle.spi_infer.specs.Passes.{scan, first_stuck};
-ghost use Rattle.spi_infer.specs.Accounts.{IsKeyed};
+ghost use Rattle.spi_infer.specs.Accounts.{IsKeyed, IsReadAs};
 ghost use Rattle.spi_infer.specs.Inferring.{IsLeast, AnswersIn, Answers, IsLeastAt};
-ghost use Rattle.spi_infer.specs.Accounts.{IsReadAs};
 
 use crate::accounts::account;
 use crate::keys::Keys;
@@ -95,7 +94,7 @@ pub fn infer_in<L: Ledger>(
     }
 }
 
-// The same over the untrusted names, with a counter of its own.
+// The same where the free names are untrusted, with a counter of its own.
 fn infer_over<L: Ledger>(
     alloc: Global,
     process: &Process,
@@ -112,6 +111,7 @@ fn infer_over<L: Ledger>(
     infer_in(alloc, &mut judge, process, &mut steps)
 }
 
+// The least effect at a node where the free names are untrusted, with a counter of its own.
 fn effect_over<L: Ledger>(
     alloc: Global,
     process: &Process,
