@@ -68,8 +68,8 @@ fn least_from<L: Ledger>(
 
 /// The least effect of the process in the judge's environment, or its first node in preorder that blocks there, where no
 /// effect is derivable. The process is over as many names as the judge has. Afterwards the judge's environment is as
-/// before, and each number means what it meant. Each node of the process is a step; where memory runs out, there were at
-/// most so many.
+/// before, and each number means what it meant. A step is a visit of a node, and each node is visited once; where memory
+/// runs out, there were at most so many.
 pub fn infer_in<L: Ledger>(
     alloc: Global,
     judge: &mut Judge,

@@ -49,7 +49,7 @@ fn visit(
     Ok(note)
 }
 
-// Forward over the nodes. Each is a step.
+// Forward over the nodes. A visit of a node is a step.
 fn walk<L: Ledger>(
     alloc: Global,
     judge: &mut Judge,
@@ -76,8 +76,8 @@ fn walk<L: Ledger>(
     Ok(Noted { notes, keys })
 }
 
-/// What is kept of each node, in the judge's environment. Afterwards the judge stands for what it stood for. Each node is
-/// a step; where memory runs out, so many nodes were visited.
+/// What is kept of each node, in the judge's environment. Afterwards the judge stands for what it stood for. A visit of a
+/// node is a step; where memory runs out, there were at most so many.
 pub fn own_notes<L: Ledger>(
     alloc: Global,
     judge: &mut Judge,
