@@ -24,7 +24,9 @@ impl Counts {
     }
 
     /// How many keys are counted.
-    pub fn len(&self) -> usize {
+    pub fn len(&self) -> usize
+        ensures { result ≡ btree_map_len self.now.counts }
+    {
         self.counts.len()
     }
 

@@ -10,6 +10,3 @@ pub use sum::{AtomKind, Sum};
 
 /// Memory ran out.
 pub type NoMemory = AllocError;
-
-#[cfg(test)]
-mod tests;

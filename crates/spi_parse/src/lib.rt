@@ -26,6 +26,3 @@ pub use whole::{decl_at, parse};
 
 /// Memory ran out.
 pub type NoMemory = AllocError;
-
-#[cfg(test)]
-mod tests;

@@ -67,6 +67,3 @@ pub fn decl_at(
         Err(stop) => Err(fault_of(tokens.len(), stop)),
     }
 }
-
-#[cfg(test)]
-mod tests;

@@ -13,6 +13,3 @@ pub use tree::{Decl, Last, SAtom, SDeriv, SField, SMsg, SProc, SStep, STy, SWord
 
 /// Memory ran out.
 pub type NoMemory = AllocError;
-
-#[cfg(test)]
-mod tests;

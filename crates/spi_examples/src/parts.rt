@@ -2,8 +2,8 @@ ghost use Rattle.std.specs.Prelude.{◌≡◌, ◌≤◌, ◌⊎◌, ◌==◌, l
 ghost use Rattle.spi_lex.specs.Lexing.{kinds_of};
 ghost use Rattle.spi_tree.specs.Formed.{AreWordsFit};
 
-use super::*;
 use spi_lex::{LexFault, Token, is_version_2, lex};
+use spi_parse::{NoMemory, ParseFault, message_at, process_at, type_at};
 use std::alloc::Global;
 use std::process::Abort;
 use std::test::Fail;

@@ -1,6 +1,6 @@
 // Sums by example.
 
-use super::*;
+use spi_count::{AtomKind, Sum};
 use std::test::Fail;
 
 #[test]

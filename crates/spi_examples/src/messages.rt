@@ -4,8 +4,8 @@ ghost use Rattle.std.specs.Prelude.{◌≡◌, ◌∷◌, [], ◌+◌, ◌<◌, 
 ghost use Rattle.spi_term.specs.Spelling.{ty_nodes};
 ghost use Rattle.spi_term.specs.View.{atom, effect, ty};
 
-use super::*;
 use spi_intern::TyId;
+use spi_message::{Judge, NoMemory, good_effect, good_type, has_type, is_label};
 use spi_rules::Env;
 use spi_term::{Atom, Effect, Msg, Ty};
 use std::alloc::Global;

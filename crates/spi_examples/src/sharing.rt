@@ -1,6 +1,6 @@
 // Shared terms by example.
 
-use super::*;
+use spi_intern::{MsgPart, NoMemory, Store, TyPart};
 use spi_term::{Atom, Effect, Msg, Ty};
 use std::alloc::Global;
 use std::test::Fail;

@@ -1,7 +1,7 @@
 // Files and declarations by example.
 
-use super::*;
 use spi_lex::{is_version_2, lex};
+use spi_parse::{ParseFault, decl_at, parse};
 use spi_text::Lines;
 use spi_tree::tokens_of;
 use std::alloc::AllocError;

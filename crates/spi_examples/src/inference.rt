@@ -2,7 +2,7 @@
 
 ghost use Rattle.std.specs.Prelude.{◌≡◌, ◌<◌, IfOk, IfSome, length};
 
-use super::*;
+use spi_infer::{Inferred, NoMemory, Steps, effect_at, infer, infer_in, reached};
 use spi_message::Judge;
 use spi_term::{Form, Msg, Node, Process, Ty};
 use std::alloc::Global;

@@ -1,6 +1,8 @@
-use super::*;
 use spi_lex::Kind;
 use spi_text::{Span, Text};
+use spi_tree::{
+    Decl, Last, NoMemory, SAtom, SDeriv, SField, SMsg, SProc, SStep, STy, SWord, Tree, tokens_of,
+};
 use std::alloc::Global;
 use std::test::Fail;
 

@@ -4,7 +4,10 @@ ghost use Rattle.std.specs.Prelude.{◌≡◌, ◌+◌, ◌*◌, ◌≤◌, All,
 ghost use Rattle.spi_term.specs.Spelling.{HasSmallParts};
 ghost use Rattle.spi_term.specs.View.{shape_of};
 
-use super::*;
+use spi_term::{
+    Atom, Effect, Form, Msg, NoMemory, Node, Process, Ty, free_in, free_in_type, is_effect_within,
+    nodes, opened, put_in, same_message, same_type, type_nodes,
+};
 use std::alloc::Global;
 use std::process::Abort;
 use std::test::Fail;

@@ -1,4 +1,4 @@
-use super::*;
+use spi_scope::{NoMemory, ScopeFault, resolve};
 use spi_text::{Span, Text};
 use spi_tree::{Decl, SMsg, SProc, STy, SWord, Tree};
 use std::alloc::Global;
