@@ -4,7 +4,7 @@ use spi_lex::{is_version_2, lex};
 use spi_parse::{ParseFault, decl_at, parse};
 use spi_text::Lines;
 use spi_tree::tokens_of;
-use std::alloc::AllocError;
+use std::alloc::{AllocError, Global};
 use std::test::Fail;
 
 const H: &str = "free a, b, net;
