@@ -1,7 +1,7 @@
 use Rattle.std.proofs.Common.{◌≤◌, length, ap, arith}
 use Rattle.spi_parse.proofs.Lexed.{kinds_fit}
 use Rattle.spi_parse.proofs.Counted.{few_tokens}
-use Rattle.spi_parse.proofs.whole.tests.parsed.Goals as goal
+use Rattle.spi_examples.proofs.files.parsed.Goals as goal
 
 pub parse-requires-clause-size : goal.parse-requires-clause-size
 parse-requires-clause-size c =

@@ -4,7 +4,7 @@ use Rattle.spi_lex.specs.Lexing.{kinds_of, is_version_2}
 use Rattle.spi_tree.specs.Formed.{AreWordsFit}
 use Rattle.spi_parse.proofs.Lexed.{kinds_fit}
 use Rattle.spi_parse.proofs.Counted.{few_tokens}
-use Rattle.spi_parse.proofs.whole.tests.declared.Goals as goal
+use Rattle.spi_examples.proofs.files.declared.Goals as goal
 
 pub decl_at-answer-requires-clause-size : goal.decl_at-answer-requires-clause-size
 decl_at-answer-requires-clause-size c =

@@ -3,7 +3,7 @@ use Rattle.spi_lex.specs.declared.token.Token.{Token}
 use Rattle.spi_lex.specs.Lexing.{kinds_of, is_version_2}
 use Rattle.spi_tree.specs.Formed.{AreWordsFit}
 use Rattle.spi_parse.proofs.Lexed.{kinds_fit}
-use Rattle.spi_parse.proofs.tests.lexed.Goals as goal
+use Rattle.spi_examples.proofs.parts.lexed.Goals as goal
 
 pub returns-then-is_version_2-clause-words : goal.returns-then-is_version_2-clause-words
 returns-then-is_version_2-clause-words c =
