@@ -11,12 +11,13 @@ ghost use Rattle.cryptyc.specs.Run.{IsAnswered};
 use crate::answer::{Answer, Stop, made, refusal};
 use crate::read::{Unread, read};
 use crate::status::Status;
-use spi_infer::{Inferred, infer};
+use spi_fault::explain;
+use spi_infer::infer;
 use spi_io::{Source, Taken, take_all};
-use spi_report::{Refusal, yes};
+use spi_report::{Refusal, no_fault, yes};
 use spi_scope::{File, faults_stand_at_nodes};
-use spi_term::Process;
-use std::alloc::{AllocError, Global};
+use spi_text::Lines;
+use std::alloc::Global;
 
 /// How many bytes a file may have.
 const LIMIT: usize = 16_777_216;
@@ -63,31 +64,29 @@ fn checked(alloc: Global, bytes: &[u8]) -> Result<Answer, Stop>
 {
     faults_stand_at_nodes();
     match read(alloc, bytes) {
-        Ok(file) => judged(alloc, &file),
+        Ok(file) => judged(alloc, bytes, &file),
         Err(Unread::Refused(r)) => refusal(alloc, bytes, &r),
         Err(Unread::NoMemory) => Err(Stop::NoMemory),
     }
 }
 
 /// What `check` answers on a file.
-fn judged(alloc: Global, file: &File) -> Result<Answer, Stop>
-    ensures ok { IfOk result (λ answer. (bytes : List ℕ) → SpellsFile bytes (meant file.now) → ChecksTo bytes answer.status answer.output.items) }
+fn judged(alloc: Global, bytes: &[u8], file: &File) -> Result<Answer, Stop>
+    requires { length bytes.now ≤ 16_777_216 }
+    ensures ok { IfOk result (λ answer. SpellsFile bytes.now (meant file.now) → ChecksTo bytes.now answer.status answer.output.items) }
     ensures answered { IfOk result (λ answer. IsAnswered answer.status × (answer.status ≢ Status.Usage)) }
     ensures err { OnErr result (result ≡ Err Stop.NoMemory) }
 {
-    if is_derivable(alloc, &file.process)? {
-        made(alloc, Status::Yes, yes())
-    } else {
-        made(alloc, Status::No, b"no\n")
-    }
-}
-
-/// Whether a process is derivable with the empty effect, where its free names are untrusted.
-fn is_derivable(alloc: Global, process: &Process) -> Result<bool, AllocError>
-    ensures { IfOk result (λ b. IsTrue b ↔ Derivable (untrusted process.now.names) process.now.process []) }
-{
-    match infer(alloc, process)? {
-        Inferred::Least(effect) => Ok(effect.atoms.is_empty()),
-        Inferred::Blocked(_) => Ok(false),
+    let inferred = infer(alloc, &file.process)?;
+    match explain(alloc, file, &inferred)? {
+        None => made(alloc, Status::Yes, yes()),
+        Some(fault) => {
+            let lines = Lines::of(alloc, bytes)?;
+            let output = no_fault(alloc, file, &lines, &fault)?;
+            Ok(Answer {
+                status: Status::No,
+                output,
+            })
+        }
     }
 }

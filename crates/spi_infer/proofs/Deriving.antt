@@ -1,19 +1,18 @@
 -- What is derivable at all, and where a node blocks.
-use Rattle.std.proofs.Common.{◌≡◌, ◌⊎◌, ◌↔◌, inl, inr, refl, sym, ap, ◌∙◌, ℕ, suc, ◌+◌, [], ◌++◌, length, Option, Some, None}
+use Rattle.std.proofs.Common.{◌≡◌, ◌⊎◌, ◌↔◌, inl, inr, refl, sym, ap, ◌∙◌, ℕ, [], ◌++◌, length, Option, Some, None}
 use Rattle.spi_term.specs.Term.{Effect, Prefix, Fork, Process, prefix, fork, binds, fork_binds}
 use Rattle.spi_term.specs.Names.{ProcessOver}
 use Rattle.spi_term.specs.Spelling.{numbered}
 use Rattle.spi_rules.specs.Environment.{Env}
 use Rattle.spi_rules.specs.Derivations.{Derivable}
 use Rattle.spi_rules.specs.Least.{Least}
-use Rattle.spi_rules.specs.Blocking.{BlocksAt, Blocks}
+use Rattle.spi_rules.specs.Blocking.{Blocks}
 use Rattle.spi_rules.proofs.Paying.{has_pays}
 use Rattle.spi_rules.proofs.Least.{least_of}
 use Rattle.spi_infer.specs.Forms.{enter, more, on_first, on_rest, prefix_ok, fork_ok, paid_by, by_effect, by_effects, after, both, effect_of}
 use Rattle.spi_infer.proofs.Opened.{numbered_prefix, numbered_fork}
 use Rattle.spi_infer.proofs.Least.{sound, keep_some, after_some, both_some}
 use Rattle.spi_infer.proofs.Reach.{Reaches, reach_root, reach_prefix, reach_first, reach_rest}
-use Rattle.spi_infer.proofs.Passes.{first_block}
 use Rattle.spi_infer.proofs.Blocked.{Found, none_blocks, one_blocks, found, has_none}
 use Rattle.spi_infer.proofs.Nodes.{first_blocks, reached_of}
 
