@@ -1,17 +1,17 @@
 // The command `check`.
-ghost use Rattle.std.specs.Prelude.{◌≡◌, ◌≢◌, ◌+◌, ◌↔◌, ℕ, ◌<◌, ◌≤◌, List, [], length, IfOk, IfSome, OnErr, IsErrOf, IsTrue, Err};
+ghost use Rattle.std.specs.Prelude.{◌≡◌, ◌≢◌, ◌+◌, ℕ, ◌<◌, ◌≤◌, List, length, reverse, IfOk, IfSome, OnErr, IsErrOf, Err};
 ghost use Rattle.spi_io.specs.Causes.{Rose, TakesUpTo};
-ghost use Rattle.spi_rules.specs.Environment.{untrusted};
-ghost use Rattle.spi_rules.specs.Derivations.{Derivable};
-ghost use Rattle.spi_scope.specs.Files.{meant};
-ghost use Rattle.cryptyc.specs.Spelled.{limit, SpellsFile};
-ghost use Rattle.cryptyc.specs.Answer.{ChecksTo};
+ghost use Rattle.spi_scope.specs.Chains.{chain_at};
+ghost use Rattle.spi_fault.specs.Faults.{IsFault, told};
+ghost use Rattle.cryptyc.specs.Spelled.{limit};
+ghost use Rattle.cryptyc.specs.Answer.{ChecksTo, IsNo};
+ghost use Rattle.cryptyc.specs.Reading.{IsRead};
 ghost use Rattle.cryptyc.specs.Run.{IsAnswered};
 
 use crate::answer::{Answer, Stop, made, refusal};
 use crate::read::{Unread, read};
 use crate::status::Status;
-use spi_fault::explain;
+use spi_fault::{Fault, explain};
 use spi_infer::infer;
 use spi_io::{Source, Taken, take_all};
 use spi_report::{Refusal, no_fault, yes};
@@ -70,23 +70,33 @@ fn checked(alloc: Global, bytes: &[u8]) -> Result<Answer, Stop>
     }
 }
 
-/// What `check` answers on a file.
+/// What `check` answers on the file of these bytes.
 fn judged(alloc: Global, bytes: &[u8], file: &File) -> Result<Answer, Stop>
-    requires { length bytes.now ≤ 16_777_216 }
-    ensures ok { IfOk result (λ answer. SpellsFile bytes.now (meant file.now) → ChecksTo bytes.now answer.status answer.output.items) }
+    requires sized { length bytes.now ≤ 16_777_216 }
+    requires read { IsRead bytes.now file.now }
+    ensures ok { IfOk result (λ answer. ChecksTo bytes.now answer.status answer.output.items) }
     ensures answered { IfOk result (λ answer. IsAnswered answer.status × (answer.status ≢ Status.Usage)) }
     ensures err { OnErr result (result ≡ Err Stop.NoMemory) }
 {
     let inferred = infer(alloc, &file.process)?;
     match explain(alloc, file, &inferred)? {
         None => made(alloc, Status::Yes, yes()),
-        Some(fault) => {
-            let lines = Lines::of(alloc, bytes)?;
-            let output = no_fault(alloc, file, &lines, &fault)?;
-            Ok(Answer {
-                status: Status::No,
-                output,
-            })
-        }
+        Some(fault) => rejected(alloc, bytes, file, &fault),
     }
+}
+
+/// The line of the fault of a file's process.
+fn rejected(alloc: Global, bytes: &[u8], file: &File, fault: &Fault) -> Result<Answer, Stop>
+    requires sized { length bytes.now ≤ 16_777_216 }
+    requires read { IsRead bytes.now file.now }
+    requires fault { IsFault (λ i. reverse (chain_at file.now.marks.scopes i)) file.now.process.names file.now.process.process (told fault.now) }
+    ensures ok { IfOk result (λ answer. (answer.status ≡ Status.No) × IsNo bytes.now answer.output.items) }
+    ensures err { OnErr result (result ≡ Err Stop.NoMemory) }
+{
+    let lines = Lines::of(alloc, bytes)?;
+    let output = no_fault(alloc, file, &lines, fault)?;
+    Ok(Answer {
+        status: Status::No,
+        output,
+    })
 }

@@ -1,18 +1,18 @@
 -- The first check that fails is found by trying them one after another.
-use Rattle.std.proofs.Common.{◌≡◌, ◌⊎◌, inl, inr, ⊎_elim, refl, sym, ap, ◌∙◌, subst, subst₂, ℕ, zero, suc, ◌+◌, ◌<◌, ◌≤◌, List, [], ◌∷◌, ◌++◌, length, take, drop, map, get_or, Option, Some, None, arith}
+use Rattle.std.proofs.Common.{◌≡◌, ◌↔◌, ⊎_elim, refl, sym, ap, ◌∙◌, subst, subst₂, ℕ, zero, suc, ◌+◌, ◌<◌, ◌≤◌, List, [], ◌∷◌, ◌++◌, length, take, drop, map, get_or, Option, Some, None, Result, Ok, Err, IfOk, IsNone, arith}
 use Rattle.std.specs.Prelude.{slice_get, ⊤}
-use Rattle.spi_term.specs.declared.term.Atom.{Atom}
 use Rattle.spi_term.specs.Lists.{In, in_first, in_later}
 use Rattle.spi_term.proofs.Lists.{in_append}
 use Rattle.spi_term.specs.Names.{ProcessOver}
 use Rattle.spi_term.specs.Term as Term
 use Rattle.spi_term.specs.Term.{Effect, Process, process_size}
-use Rattle.spi_term.specs.View.{atom}
+use Rattle.spi_effect.proofs.Laws.{within_in}
 use Rattle.spi_rules.specs.Environment.{Env, untrusted}
 use Rattle.spi_rules.specs.Derivations.{Derivable}
 use Rattle.spi_rules.specs.Least.{Least}
-use Rattle.spi_rules.specs.Blocking.{NodeOf, BlocksAt, Blocks}
+use Rattle.spi_rules.specs.Blocking.{NodeOf, BlocksAt}
 use Rattle.spi_infer.specs.Inferring.{IsReached}
+use Rattle.spi_infer.proofs.Deriving.{blocked}
 use Rattle.spi_infer.proofs.Descending.{one_node}
 use Rattle.spi_term.specs.Spelling.{Shape, spelled}
 use Rattle.spi_fault.specs.Checks.{Check, checks, reason_of, shape_checks}
@@ -23,7 +23,7 @@ use Rattle.spi_fault.specs.declared.fault.Fault.{Fault}
 use Rattle.spi_fault.specs.declared.fault.Reason.{Reason}
 use Rattle.spi_fault.specs.declared.fault.Reason.TheVariants.{Unpaid}
 use Rattle.spi_fault.specs.declared.least.Kind.TheVariants as K
-use Rattle.spi_fault.specs.Faults.{the_atom, thing, FirstBlocks, FailsFirst, IsLeastText, IsFault, unpaid, fails as fails_at, told}
+use Rattle.spi_fault.specs.Faults.{thing, FirstBlocks, FailsFirst, IsLeastText, IsFault, unpaid, fails as fails_at, Told, told, Explains}
 use Rattle.spi_fault.specs.Trying.{check, IsOf, Asked, Tells, TellsAtom, IsBlamed}
 use Rattle.spi_fault.proofs.Passed.{all_pass}
 use Rattle.spi_fault.proofs.Heads.{asked, checks_at}
@@ -169,3 +169,13 @@ blames s k id p e f first at h =
 
 pub given_here : (k id : ℕ) (p : Process) (e : Env) (x : Shape) (cs : List Declared.Check) → FirstBlocks (untrusted k) p id → IsReached k p id e → slice_get (spelled k p) id ≡ Some x → map check cs ≡ shape_checks id x → Given k p id e cs
 given_here k id p e x cs first at there is = (at.0, at.1, blocks_here k first at.1, is ∙ checks_at k p id e at.0 x at.1 there)
+
+-- a process with a fault is not derivable with the empty effect
+no_fault : (s : ℕ → List (List ℕ)) (k : ℕ) (p : Process) (t : Told) → IsFault s k p t → Derivable (untrusted k) p [] → ⊥
+no_fault s k p _ (unpaid l least) d = in_none (within_in (l.least [] d) least.is)
+no_fault s k p _ (fails_at first at c shows) d = (blocked (untrusted k) p d.over).1 (_, first.blocks) [] d
+
+pub exactly : {E : Type 0} (s : ℕ → List (List ℕ)) (k : ℕ) (p : Process) (result : Result (Option Fault) E) → IfOk result (Explains s k p) → IfOk result (λ r. IsNone r ↔ Derivable (untrusted k) p [])
+exactly s k p (Ok None) h = (λ e. h, λ d. refl)
+exactly s k p (Ok (Some f)) h = (λ e. absurd (cc e), λ d. absurd (no_fault s k p (told f) h d))
+exactly s k p (Err e) h = tt

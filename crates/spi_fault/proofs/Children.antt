@@ -1,5 +1,5 @@
 -- The least effect of a process that stands in a node.
-use Rattle.std.proofs.Common.{◌≡◌, ◌⊎◌, inl, inr, ⊎_elim, refl, sym, subst, ℕ, ◌+◌, length, arith}
+use Rattle.std.proofs.Common.{◌≡◌, ⊎_elim, subst, ℕ, length}
 use Rattle.spi_term.specs.Lists.{In}
 use Rattle.spi_term.specs.Names.{ProcessOver}
 use Rattle.spi_term.specs.Term.{Atom, Effect, Process}
@@ -8,7 +8,7 @@ use Rattle.spi_effect.proofs.Laws.{within_trans, within_in, within_difference, d
 use Rattle.spi_rules.specs.Environment.{Env}
 use Rattle.spi_rules.specs.Derivations.{Derivable}
 use Rattle.spi_rules.specs.Least.{Least}
-use Rattle.spi_rules.specs.Blocking.{Child, NodeOf, node_root, node_below, HasSome}
+use Rattle.spi_rules.specs.Blocking.{Child, node_root, node_below, HasSome}
 use Rattle.spi_infer.proofs.Nodes.{reached_of}
 use Rattle.spi_infer.proofs.Located.{over_reached}
 use Rattle.spi_infer.proofs.Descending.{one_node}

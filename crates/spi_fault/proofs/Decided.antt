@@ -3,7 +3,7 @@ use Rattle.std.proofs.Common.{◌≡◌, ◌⊎◌, ◌↔◌, inl, inr, ⊎_eli
 use Rattle.std.specs.Prelude.{slice_get}
 use Rattle.std.proofs.lemmas.Bool.{cases_Bool, cases_lt, false≢true}
 use Rattle.spi_term.specs.Lists.{In}
-use Rattle.spi_term.specs.Names.{OfAtom, Avoids, EffectAvoids, ProcessOver}
+use Rattle.spi_term.specs.Names.{Avoids, EffectAvoids, ProcessOver}
 use Rattle.spi_term.specs.Term.{Message, bound, name, unit, pair, in_left, in_right, enc, hash, Atom, checks, Effect, Ty, un, unit_ty, pair_ty, sum_ty, key, nonce, Process}
 use Rattle.spi_term.proofs.Lists.{get_at, at_get}
 use Rattle.spi_effect.specs.Effect.{IsMany, IsDifference}
@@ -21,7 +21,7 @@ use Rattle.spi_fault.specs.Checks as C
 use Rattle.spi_fault.specs.Passing.{IsCastable, Follows, HasBound, Passes, Spoils, not_many, escapes, unchecked}
 use Rattle.spi_fault.specs.Trying.{Asked}
 use Rattle.spi_fault.proofs.Children.{has_least, follows_in, follows_within, less_in}
-use Rattle.spi_fault.proofs.Passed.{avoids_when, many_when, stays_out, made_out}
+use Rattle.spi_fault.proofs.Passed.{many_when, stays_out, made_out}
 
 abbrev pub Decided : Type 0 → Type 0
 Decided P = P ⊎ (P → ⊥)

@@ -8,7 +8,7 @@ use Rattle.spi_rules.specs.Blocking.{BlocksAt}
 use Rattle.spi_fault.specs.Checks.{Check, checks}
 use Rattle.spi_fault.specs.Passing.{Passes}
 use Rattle.spi_fault.specs.Faults.{FailsFirst}
-use Rattle.spi_fault.proofs.Passed.{AllPass, all_pass}
+use Rattle.spi_fault.proofs.Passed.{all_pass}
 use Rattle.spi_fault.proofs.Decided.{Decided, decided}
 use Rattle.spi_fault.proofs.Heads.{asked}
 

@@ -1,21 +1,20 @@
 -- The checks of a node's process are those of its shape, and can be asked.
-use Rattle.std.proofs.Common.{◌≡◌, refl, sym, ap, ◌∙◌, subst, ℕ, zero, suc, ◌+◌, ◌-◌, ◌<◌, ◌≤◌, ◌^◌, List, [], ◌∷◌, ◌++◌, drop, length, Some, arith}
+use Rattle.std.proofs.Common.{◌≡◌, sym, ap, ◌∙◌, ℕ, suc, ◌+◌, ◌-◌, ◌<◌, ◌≤◌, ◌^◌, List, [], ◌∷◌, ◌++◌, drop, length, Some, arith}
 use Rattle.std.specs.Prelude.{slice_get, ⊤}
 use Rattle.spi_term.specs.Lists.{In, in_first, in_later}
-use Rattle.spi_term.specs.Term.{Message, Ty, pair_ty, sum_ty, Leaf, Sends, Stops, Prefix, Recvs, Serves, Splits, Selects, Decrypts, Checks, Begins, Ends, EndManys, Casts, Makes, Fork, Cases, Pars, Process, leaf, prefix, fork, binds, fork_binds, process_size}
+use Rattle.spi_term.specs.Term.{Ty, pair_ty, Sends, Stops, Prefix, Recvs, Serves, Splits, Selects, Decrypts, Checks, Begins, Ends, EndManys, Casts, Makes, Cases, Pars, Process, leaf, prefix, fork, fork_binds, process_size}
 use Rattle.spi_term.specs.Spelling.{Shape, leaf_at, prefix_at, fork_at, flat, numbered, spelled, IsSmall, HasSmallParts, ty_nodes}
 use Rattle.spi_term.specs.Arena.{scope_of}
 use Rattle.spi_term.proofs.Numbers.{size_numbered, small_node}
 use Rattle.spi_rules.specs.Environment.{Env, untrusted}
-use Rattle.spi_rules.specs.Blocking.{Child, child_recv, child_serve, child_split, child_select, child_left, child_right, child_decrypt, child_cast, child_fresh, NodeOf}
-use Rattle.spi_infer.specs.Forms.{enter, more, on_first, on_rest}
+use Rattle.spi_rules.specs.Blocking.{child_recv, child_serve, child_split, child_select, child_left, child_right, child_decrypt, child_cast, child_fresh, NodeOf}
+use Rattle.spi_infer.specs.Forms.{enter, on_first}
 use Rattle.spi_infer.proofs.Opened.{numbered_leaf, numbered_prefix, numbered_fork, size_enter}
 use Rattle.spi_infer.proofs.Nodes.{reached_of}
 use Rattle.spi_infer.proofs.Scanning.{drop_at_get}
 use Rattle.spi_infer.proofs.Located.{located}
 use Rattle.spi_infer.proofs.Descending.{length_untrusted}
-use Rattle.spi_fault.specs.Checks as C
-use Rattle.spi_fault.specs.Checks.{Check, leaf_checks, prefix_checks, fork_checks, checks, shape_checks}
+use Rattle.spi_fault.specs.Checks.{Check, prefix_checks, fork_checks, checks, shape_checks}
 use Rattle.spi_fault.specs.Trying.{Asked, Fits}
 
 -- the shape of a node with n names in scope

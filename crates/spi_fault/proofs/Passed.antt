@@ -1,5 +1,5 @@
 -- Where each check of a form passes, and each process in it has an effect, it has an effect.
-use Rattle.std.proofs.Common.{◌≡◌, ◌⊎◌, inl, inr, ⊎_elim, refl, sym, ◌∙◌, subst, ℕ, suc, ◌+◌, ◌<◌, ◌≤◌, true, false, [], ◌∷◌, ◌++◌, length, arith}
+use Rattle.std.proofs.Common.{◌≡◌, ⊎_elim, sym, ◌∙◌, subst, ℕ, suc, ◌+◌, ◌<◌, ◌≤◌, true, false, [], ◌∷◌, ◌++◌, length, arith}
 use Rattle.std.proofs.lemmas.Bool.{cases_Bool, false≢true}
 use Rattle.spi_term.specs.Lists.{In, in_first, in_later}
 use Rattle.spi_term.specs.Names.{OfAtom, Avoids, EffectAvoids, ProcessOver}
@@ -13,11 +13,10 @@ use Rattle.spi_effect.proofs.Laws.{OfEffect_of, AllMany_of, sum_append}
 use Rattle.spi_effect.proofs.Made.{minus_difference, greater_is}
 use Rattle.spi_rules.specs.Environment.{Env, extended}
 use Rattle.spi_rules.specs.Messages.{HasType}
-use Rattle.spi_rules.specs.Good.{GoodTy}
 use Rattle.spi_rules.specs.Processes.{HasEffect, IsNonce, proc_stop, proc_out, proc_in, proc_repeat, proc_split, proc_split_un, proc_match, proc_match_un, proc_case, proc_case_un, proc_decrypt, proc_decrypt_un, proc_check, proc_check_un, proc_begin, proc_end, proc_end_many, proc_cast, proc_cast_un, proc_new, proc_par}
 use Rattle.spi_rules.specs.Blocking.{Child, child_recv, child_serve, child_split, child_select, child_left, child_right, child_decrypt, child_check, child_begin, child_end, child_end_many, child_cast, child_fresh, child_first, child_rest, HasSome}
 use Rattle.spi_fault.specs.Checks as C
-use Rattle.spi_fault.specs.Passing.{Follows, HasBound, Passes, Spoils, not_many, escapes, unchecked}
+use Rattle.spi_fault.specs.Passing.{Follows, HasBound, Passes, not_many, escapes, unchecked}
 use Rattle.spi_fault.proofs.Children.{has_least}
 
 -- what no atom is kept from

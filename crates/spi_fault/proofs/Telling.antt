@@ -1,12 +1,12 @@
 -- What is told of a node: where its processes stand, what their least effects are, and which atom is shown.
-use Rattle.std.proofs.Common.{◌≡◌, Bool, false, refl, sym, ap, ◌∙◌, subst, subst₂, ℕ, ◌+◌, ◌^◌, ◌<◌, ◌≤◌, List, [], ◌∷◌, length, Option, Some, None, Result, Ok, Err, IfOk, arith}
+use Rattle.std.proofs.Common.{◌≡◌, refl, sym, subst, subst₂, ℕ, ◌+◌, ◌^◌, ◌<◌, List, [], ◌∷◌, length, Option, Some, None, Result, Ok, Err, IfOk, arith}
 use Rattle.spi_term.specs.declared.term.Effect as Declared
 use Rattle.spi_term.specs.Lists.{In}
 use Rattle.spi_term.specs.Names.{ProcessOver}
 use Rattle.spi_term.specs.Spelling.{IsSmall}
 use Rattle.spi_term.specs.Term.{name, Atom, checks, Effect, Process, process_size}
 use Rattle.spi_term.specs.View as View
-use Rattle.spi_effect.specs.Effect.{IsMany, IsDifference}
+use Rattle.spi_effect.specs.Effect.{IsDifference}
 use Rattle.spi_rules.specs.Environment.{Env, untrusted}
 use Rattle.spi_rules.specs.Least.{Least}
 use Rattle.spi_rules.specs.Blocking.{Child, NodeOf, node_root, node_below, HasSome, BlocksAt}
@@ -19,8 +19,8 @@ use Rattle.spi_fault.specs.declared.deciding.Found.{Found}
 use Rattle.spi_fault.specs.declared.least.Kind.TheVariants as K
 use Rattle.spi_fault.specs.Checks as C
 use Rattle.spi_fault.specs.Checks.{Check, process_of}
-use Rattle.spi_fault.specs.Passing.{Follows, HasBound, Passes, Spoils, not_many, escapes, unchecked}
-use Rattle.spi_fault.specs.Faults.{Thing, the_atom, thing, IsLeastText, Shows, shows_subject, shows_atom, subject}
+use Rattle.spi_fault.specs.Passing.{Follows, Passes, Spoils, not_many, escapes, unchecked}
+use Rattle.spi_fault.specs.Faults.{Thing, IsLeastText, Shows, shows_subject, shows_atom, subject}
 use Rattle.spi_fault.specs.Trying.{IsOf, Asked, Tells, TellsAtom}
 use Rattle.spi_fault.proofs.Decided.{spoils_served, spoils_stays, spoils_made}
 

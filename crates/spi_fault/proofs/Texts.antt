@@ -13,7 +13,6 @@ use Rattle.spi_term.specs.declared.term.Atom as Declared
 use Rattle.spi_term.specs.Term.{Atom, Effect}
 use Rattle.spi_term.specs.View.{atom}
 use Rattle.spi_show.specs.Report.{atom_text}
-use Rattle.spi_fault.specs.Faults.{IsLeastText}
 use Rattle.spi_fault.specs.Trying.{IsBest, IsBetter, IsPlaceOfLeast, place_in}
 
 in_none : {A : Type 0} {x : A} → In x [] → ⊥

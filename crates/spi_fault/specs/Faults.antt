@@ -6,7 +6,7 @@ use Rattle.std.specs.declared.cmp.Ordering.TheVariants.{Greater}
 use Rattle.spi_rules.specs.Environment.{Env, untrusted}
 use Rattle.spi_rules.specs.Derivations.{Derivable}
 use Rattle.spi_rules.specs.Least.{Least}
-use Rattle.spi_rules.specs.Blocking.{NodeOf, BlocksAt, Blocks}
+use Rattle.spi_rules.specs.Blocking.{NodeOf, Blocks}
 use Rattle.spi_term.specs.Lists.{In}
 use Rattle.spi_term.specs.Term.{Message, Atom, Effect, Process}
 use Rattle.spi_term.specs.View as View

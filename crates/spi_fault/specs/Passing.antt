@@ -9,7 +9,7 @@ use Rattle.spi_rules.specs.Least.{Least}
 use Rattle.spi_rules.specs.Blocking.{Child}
 use Rattle.spi_term.specs.Lists.{In}
 use Rattle.spi_term.specs.Names.{OfAtom, Avoids}
-use Rattle.spi_term.specs.Term.{Message, name, Atom, checks, Effect, Ty, un, unit_ty, pair_ty, sum_ty, key, nonce, Process}
+use Rattle.spi_term.specs.Term.{name, Atom, checks, Effect, Ty, un, unit_ty, pair_ty, sum_ty, key, nonce, Process}
 use Rattle.spi_fault.specs.Checks.{Check, channel, datum, untrusted, good, scrutinee, sealed, first, key_of, nonce_of, label, generative, castable, served, stays, made}
 
 -- what `cast` may cast to

@@ -1,16 +1,15 @@
 -- How the checks of a node are tried: what the inner functions say. No public clause names it.
-use Rattle.std.specs.Prelude.{◌≡◌, ◌≢◌, ◌⊎◌, ℕ, ◌+◌, ◌<◌, ◌≤◌, ◌^◌, List, [], ◌∷◌, length, Option, Some, None, slice_get, ⊤}
+use Rattle.std.specs.Prelude.{◌≡◌, ◌≢◌, ◌⊎◌, ℕ, ◌+◌, ◌<◌, ◌≤◌, ◌^◌, List, Option, Some, None, slice_get, ⊤}
 use Rattle.std.specs.Cmp.Lexicographic.{slice_cmp}
 use Rattle.std.specs.Ordering.{nat_cmp}
 use Rattle.std.specs.declared.cmp.Ordering.TheVariants.{Greater}
 use Rattle.std.specs.Global.{Vec}
 use Rattle.spi_term.specs.Lists.{In}
 use Rattle.spi_term.specs.Spelling.{ty_nodes}
-use Rattle.spi_term.specs.Term.{name, Atom, checks, Effect, Process}
+use Rattle.spi_term.specs.Term.{Atom, Effect, Process}
 use Rattle.spi_term.specs.View.{message, ty}
-use Rattle.spi_effect.specs.Effect.{IsMany, IsDifference}
+use Rattle.spi_effect.specs.Effect.{IsMany}
 use Rattle.spi_rules.specs.Environment.{Env}
-use Rattle.spi_rules.specs.Least.{Least}
 use Rattle.spi_rules.specs.Blocking.{Child}
 use Rattle.spi_show.specs.Report.{atom_text}
 use Rattle.spi_fault.specs.declared.check.Check as Declared

@@ -1,9 +1,10 @@
 // The fault of a file's process.
-ghost use Rattle.std.specs.Prelude.{◌≡◌, ◌≤◌, ℕ, map, length, reverse, IfOk};
+ghost use Rattle.std.specs.Prelude.{◌≡◌, ◌≤◌, ◌↔◌, ℕ, [], map, length, reverse, IfOk, IsNone};
 ghost use Rattle.spi_term.specs.Lists.{In};
 ghost use Rattle.spi_term.specs.Term as Term;
 ghost use Rattle.spi_term.specs.View.{effect as effect_of};
 ghost use Rattle.spi_rules.specs.Environment.{untrusted};
+ghost use Rattle.spi_rules.specs.Derivations.{Derivable};
 ghost use Rattle.spi_rules.specs.Least.{Least};
 ghost use Rattle.spi_rules.specs.Blocking.{NodeOf, BlocksAt};
 ghost use Rattle.spi_scope.specs.Chains.{chain_at};
@@ -89,7 +90,8 @@ fn blocked(alloc: Global, file: &File, node: u32) -> Result<Fault, NoMemory>
 /// one is shown whose report form is least by its bytes, with names as the file spells them.
 pub fn explain(alloc: Global, file: &File, inferred: &Inferred) -> Result<Option<Fault>, NoMemory>
     requires { Answers file.now.process.names file.now.process.process inferred.now }
-    ensures { IfOk result (Explains (λ i. reverse (chain_at file.now.marks.scopes i)) file.now.process.names file.now.process.process) }
+    ensures explained { IfOk result (Explains (λ i. reverse (chain_at file.now.marks.scopes i)) file.now.process.names file.now.process.process) }
+    ensures exact { IfOk result (λ r. IsNone r ↔ Derivable (untrusted file.now.process.names) file.now.process.process []) }
 {
     match inferred {
         Inferred::Least(effect) => unpaid(alloc, file, effect),

@@ -1,6 +1,6 @@
 use Rattle.std.proofs.Common.{Some, sym, ap, ◌∙◌, arith}
 use Rattle.spi_fault.specs.Trying.{IsOf}
-use Rattle.spi_fault.proofs.Texts.{get_within, best_next, best_end, best_none}
+use Rattle.spi_fault.proofs.Texts.{get_within, best_next, best_end}
 use Rattle.spi_fault.proofs.least.least_text.Goals as goal
 
 pub loop-i-preserved : goal.loop-i-preserved
