@@ -3,7 +3,8 @@
 
 A case is a JSON object on a line: `shows` (what it shows), `words` (the command line), its standard input as `input`
 (text), `input_file` (a file of the repository), `input_base64`, or `input_parts` (pairs of a text and how often it
-stands), `output` (what is written) and `status`. The program is built once, without proofs, by `rt try`; `--program FILE` runs a program that is there.
+stands), `output` (what is written) and `status`. Each file of examples/reasons is a case too: its first line is a comment
+with the line that `check` writes. The program is built once, without proofs, by `rt try`; `--program FILE` runs a program that is there.
 --passed and --failed are counts to add. The last line is 'N passed, M failed'."""
 
 import argparse
@@ -24,6 +25,11 @@ def cases_of(pattern):
         with open(path, encoding="utf-8") as lines:
             for line in lines:
                 yield json.loads(line)
+    for path in sorted(glob.glob(f"{ROOT}/examples/reasons/*.spi")) if pattern == "*.jsonl" else []:
+        with open(path, encoding="utf-8") as file:
+            wanted = file.readline().removeprefix("// ")
+        yield {"shows": f"the example {os.path.basename(path)}", "words": ["check"], "input_file": os.path.relpath(path, ROOT),
+               "output": wanted, "status": 1}
 
 
 def input_of(case):

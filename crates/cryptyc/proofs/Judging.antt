@@ -1,21 +1,48 @@
--- What the least effect tells.
-use Rattle.std.proofs.Common.{◌≡◌, ◌↔◌, ℕ, ◌==◌, List, [], ◌∷◌, length, map, IsTrue, arith, refl}
-use Rattle.std.proofs.lemmas.Grind.{common_steps}
-use Rattle.spi_term.specs.declared.term.Atom.{Atom}
-use Rattle.spi_term.specs.Term.{Process, Effect}
-use Rattle.spi_term.specs.Term as Term
-use Rattle.spi_term.specs.Lists.{In, in_first}
-use Rattle.spi_term.specs.View.{atom}
-use Rattle.spi_rules.specs.Environment.{Env}
+-- What is answered on a file.
+use Rattle.std.proofs.Common.{◌≡◌, ◌↔◌, ℕ, List, [], sym, subst, length, reverse, Option, Some, Result, Ok, Err, IfOk, IsNone, ◌≤◌}
+use Rattle.spi_text.specs.declared.lines.Span.{Span}
+use Rattle.spi_scope.specs.declared.file.File.{File}
+use Rattle.spi_scope.specs.Files.{meant, Marked, marked}
+use Rattle.spi_scope.specs.Places.{place_in}
+use Rattle.spi_scope.specs.Chains.{chain_at}
+use Rattle.spi_rules.specs.Environment.{untrusted}
 use Rattle.spi_rules.specs.Derivations.{Derivable}
-use Rattle.spi_rules.specs.Least.{Least}
-use Rattle.spi_effect.proofs.Laws.{within_in, in_tally}
+use Rattle.spi_fault.specs.Faults.{Told, IsFault}
+use Rattle.spi_report.specs.Fault.{fault_text}
+use Rattle.cryptyc.specs.declared.answer.Answer.{Answer}
+use Rattle.cryptyc.specs.declared.answer.Stop.{Stop}
+use Rattle.cryptyc.specs.declared.status.Status.TheVariants.{No}
+use Rattle.cryptyc.specs.Answer.{IsNo, ChecksTo}
+use Rattle.cryptyc.specs.Reading.{IsRead}
+use Rattle.cryptyc.proofs.Places.{place_within}
 
-nothing_in : {a : Term.Atom} → In a [] → ⊥
-nothing_in i = let h = in_tally i in omega arith
+-- what the file tells of places and names is what its tree has
+abbrev pub place_of : Marked → ℕ → Span
+place_of m i = place_in m.process i
 
--- the empty effect is derivable exactly where the least effect has no atom
-pub least_empty : (env : Env) (p : Process) (atoms : List Atom) (n : ℕ) → length atoms ≡ n → Least env p (map atom atoms) → IsTrue (n == 0) ↔ Derivable env p []
-least_empty env p [] n e least = (λ empty. least.derivable, λ d. rw (← e) refl)
-least_empty env p (a ∷ atoms) n e least =
-    (λ empty. grind (arith, common_steps), λ d. absurd (nothing_in (within_in (least.least [] d) in_first)))
+abbrev pub names_of : Marked → ℕ → List (List ℕ)
+names_of m i = reverse (chain_at m.scopes i)
+
+pub stands_within : (bytes : List ℕ) (f : File) (i : ℕ) → IsRead bytes f → (place_of (marked f) i).from ≤ length bytes
+stands_within bytes f i (tree, is, stands, marks) = subst (λ m. (place_of m i).from ≤ length bytes) (sym marks) (place_within bytes tree is i)
+
+pub no_line : (bytes output : List ℕ) (f : File) (fault : Told) → IsRead bytes f → IsFault (names_of (marked f)) f.process.names f.process.process fault → output ≡ fault_text bytes (place_of (marked f)) (names_of (marked f)) fault → IsNo bytes output
+no_line bytes output f fault (tree, is, stands, marks) h e = (
+  tree,
+  meant f,
+  fault,
+  is,
+  stands,
+  subst (λ m. IsFault (names_of m) f.process.names f.process.process fault) marks h,
+  subst (λ m. output ≡ fault_text bytes (place_of m) (names_of m) fault) marks e,
+)
+
+-- a no
+pub refused : (bytes : List ℕ) (f : File) (result : Result Answer Stop) → IsRead bytes f → (Derivable (untrusted f.process.names) f.process.process [] → ⊥) → IfOk result (λ a. (a.status ≡ No) × IsNo bytes a.output.items) → IfOk result (λ a. ChecksTo bytes a.status a.output.items)
+refused bytes f (Ok a) (tree, is, stands, marks) none h =
+    let wanted : ChecksTo bytes No a.output.items = ((meant f, (tree, is, stands), none), h.1) in
+    subst (λ s. ChecksTo bytes s a.output.items) (sym h.0) wanted
+refused bytes f (Err e) r none h = tt
+
+pub none_derivable : {A : Type 0} (o : Option A) (x : A) (D : Type 0) → o ≡ Some x → IsNone o ↔ D → D → ⊥
+none_derivable o x D e h d = absurd (let n : IsNone (Some x) = subst IsNone e (h.1 d) in cc n)

@@ -1,4 +1,5 @@
 pub mod Refusals
 pub mod Reading
+pub mod Places
 pub mod Judging
 pub mod Ending

@@ -78,7 +78,7 @@ token_within : (bytes : List ℕ) (tokens : List Token) (i : ℕ) → Lexes byte
 token_within bytes tokens i h = starts_within 0 (length bytes) bytes tokens (lexed bytes tokens h).1 (let z : length bytes ≤ length bytes = omega arith in z) i
 
 -- a node or a word of a tree that is spelled starts in the bytes
-opens_within : (end at e from : ℕ) (ps : List Part) (ts : List Token) → Spells [] e ps ts → AreSpans at (spans_of ts) end → In (opens from) ps → from ≤ end
+pub opens_within : (end at e from : ℕ) (ps : List Part) (ts : List Token) → Spells [] e ps ts → AreSpans at (spans_of ts) end → In (opens from) ps → from ≤ end
 opens_within end at e from [] ts h spans i = elim i [ ]
 opens_within end at e from (opens other ∷ ps) [] h spans i = absurd h
 opens_within end at e from (opens other ∷ ps) (tok ∷ ts) h spans in_first = let m = spans_end tok.span.to end (spans_of ts) spans.2 in let f = h.0 in omega (arith, f, m, spans.1)

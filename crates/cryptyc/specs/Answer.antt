@@ -1,5 +1,5 @@
 -- What `check` answers: the status and the output.
-use Rattle.std.specs.Prelude.{◌≡◌, ℕ, ◌+◌, ◌<◌, ◌≤◌, List, [], ◌∷◌, length, drop, codes, Ok, Err, Some, None}
+use Rattle.std.specs.Prelude.{◌≡◌, ℕ, ◌+◌, ◌<◌, ◌≤◌, List, [], ◌∷◌, length, drop, reverse, codes, Ok, Err, Some, None}
 use Rattle.std.specs.Fmt.{decimal}
 use Rattle.std.specs.declared.option.Option.{Option}
 use Rattle.spi_lex.specs.declared.token.Token.{Token}
@@ -12,6 +12,14 @@ use Rattle.spi_scope.specs.declared.fault.ScopeFault.{ScopeFault}
 use Rattle.spi_scope.specs.declared.fault.ScopeFault.TheVariants.{UnknownName, UnknownType, NameTwice, TypeTwice, MessageTooLarge, TypeTooLarge, FileTooLarge, ScheduleTooLong, NoMemory as OutOfMemory}
 use Rattle.spi_scope.specs.First.{HasFirst}
 use Rattle.spi_scope.specs.FaultPlaces.{span_from}
+use Rattle.spi_scope.specs.StandsFor.{Meant, StandsFor}
+use Rattle.spi_scope.specs.Points.{all_names}
+use Rattle.spi_scope.specs.Marks.{places, scopes}
+use Rattle.spi_scope.specs.Places.{place_in}
+use Rattle.spi_scope.specs.Chains.{chain_at}
+use Rattle.spi_text.specs.declared.lines.Span.{Span}
+use Rattle.spi_fault.specs.Faults.{Told, IsFault}
+use Rattle.spi_report.specs.Fault.{fault_text}
 use Rattle.spi_report.specs.declared.refusal.Refusal.{Refusal}
 use Rattle.spi_report.specs.Refused.{refused_text}
 use Rattle.cryptyc.specs.declared.status.Status.{Status}
@@ -64,10 +72,24 @@ pub data Refuses (bytes : List ℕ) : ℕ → Option ℕ → List ℕ → Type 0
 abbrev pub IsRefusal : List ℕ → List ℕ → Type 0
 IsRefusal bytes output = (r : Refusal) × Refuses bytes r.number r.offset r.shown.items × (output ≡ refused_text bytes r)
 
+-- where the nodes of a tree's process stand, and how the names in scope there are spelled
+abbrev pub place_at : File → ℕ → Span
+place_at tree i = place_in (places tree.process) i
+
+abbrev pub spelled_at : File → ℕ → List (List ℕ)
+spelled_at tree i = reverse (chain_at (scopes (all_names [] tree.decls) tree.process) i)
+
+-- the text is the line of the fault of the process that the bytes spell
+abbrev pub IsNo : List ℕ → List ℕ → Type 0
+IsNo bytes output =
+    (tree : File) × (file : Meant) × (fault : Told) × IsTreeOf bytes tree × StandsFor tree file
+    × IsFault (spelled_at tree) file.process.names file.process.process fault
+    × (output ≡ fault_text bytes (place_at tree) (spelled_at tree) fault)
+
 -- yes, no, or a refusal
 abbrev pub ChecksTo : List ℕ → Status → List ℕ → Type 0
 ChecksTo bytes Yes output = SpellsDerivable bytes × (output ≡ codes "yes\n")
-ChecksTo bytes No output = SpellsUnderivable bytes × (output ≡ codes "no\n")
+ChecksTo bytes No output = SpellsUnderivable bytes × IsNo bytes output
 ChecksTo bytes Refused output = IsRefusal bytes output
 ChecksTo bytes ReadFault output = ⊥
 ChecksTo bytes WriteFault output = ⊥

@@ -1,8 +1,17 @@
 -- What reading bytes answers.
 use Rattle.std.specs.Prelude.{◌≡◌, ℕ, List, Some, ⊤}
+use Rattle.spi_tree.specs.Trees as t
+use Rattle.spi_scope.specs.declared.file.File.{File}
+use Rattle.spi_scope.specs.Files.{meant, marked, marks_of}
+use Rattle.spi_scope.specs.StandsFor.{StandsFor}
 use Rattle.cryptyc.specs.declared.read.Unread.{Unread}
 use Rattle.cryptyc.specs.declared.read.Unread.TheVariants.{Refused, NoMemory}
+use Rattle.cryptyc.specs.Spelled.{IsTreeOf}
 use Rattle.cryptyc.specs.Answer.{Refuses}
+
+-- the bytes spell the file, and it tells where the nodes of its tree stand and which names are in scope there
+abbrev pub IsRead : List ℕ → File → Type 0
+IsRead bytes f = (tree : t.File) × IsTreeOf bytes tree × StandsFor tree (meant f) × (marked f ≡ marks_of tree)
 
 -- the refusal is one of these bytes
 abbrev pub IsUnread : List ℕ → Unread → Type 0

@@ -1,22 +1,23 @@
 // The command `check`.
-ghost use Rattle.std.specs.Prelude.{◌≡◌, ◌≢◌, ◌+◌, ◌↔◌, ℕ, ◌<◌, ◌≤◌, List, [], length, IfOk, IfSome, OnErr, IsErrOf, IsTrue, Err};
+ghost use Rattle.std.specs.Prelude.{◌≡◌, ◌≢◌, ◌+◌, ℕ, ◌<◌, ◌≤◌, List, length, reverse, IfOk, IfSome, OnErr, IsErrOf, Err};
 ghost use Rattle.spi_io.specs.Causes.{Rose, TakesUpTo};
-ghost use Rattle.spi_rules.specs.Environment.{untrusted};
-ghost use Rattle.spi_rules.specs.Derivations.{Derivable};
-ghost use Rattle.spi_scope.specs.Files.{meant};
-ghost use Rattle.cryptyc.specs.Spelled.{limit, SpellsFile};
-ghost use Rattle.cryptyc.specs.Answer.{ChecksTo};
+ghost use Rattle.spi_scope.specs.Chains.{chain_at};
+ghost use Rattle.spi_fault.specs.Faults.{IsFault, told};
+ghost use Rattle.cryptyc.specs.Spelled.{limit};
+ghost use Rattle.cryptyc.specs.Answer.{ChecksTo, IsNo};
+ghost use Rattle.cryptyc.specs.Reading.{IsRead};
 ghost use Rattle.cryptyc.specs.Run.{IsAnswered};
 
 use crate::answer::{Answer, Stop, made, refusal};
 use crate::read::{Unread, read};
 use crate::status::Status;
-use spi_infer::{Inferred, infer};
+use spi_fault::{Fault, explain};
+use spi_infer::infer;
 use spi_io::{Source, Taken, take_all};
-use spi_report::{Refusal, yes};
+use spi_report::{Refusal, no_fault, yes};
 use spi_scope::{File, faults_stand_at_nodes};
-use spi_term::Process;
-use std::alloc::{AllocError, Global};
+use spi_text::Lines;
+use std::alloc::Global;
 
 /// How many bytes a file may have.
 const LIMIT: usize = 16_777_216;
@@ -63,31 +64,39 @@ fn checked(alloc: Global, bytes: &[u8]) -> Result<Answer, Stop>
 {
     faults_stand_at_nodes();
     match read(alloc, bytes) {
-        Ok(file) => judged(alloc, &file),
+        Ok(file) => judged(alloc, bytes, &file),
         Err(Unread::Refused(r)) => refusal(alloc, bytes, &r),
         Err(Unread::NoMemory) => Err(Stop::NoMemory),
     }
 }
 
-/// What `check` answers on a file.
-fn judged(alloc: Global, file: &File) -> Result<Answer, Stop>
-    ensures ok { IfOk result (λ answer. (bytes : List ℕ) → SpellsFile bytes (meant file.now) → ChecksTo bytes answer.status answer.output.items) }
+/// What `check` answers on the file of these bytes.
+fn judged(alloc: Global, bytes: &[u8], file: &File) -> Result<Answer, Stop>
+    requires sized { length bytes.now ≤ 16_777_216 }
+    requires read { IsRead bytes.now file.now }
+    ensures ok { IfOk result (λ answer. ChecksTo bytes.now answer.status answer.output.items) }
     ensures answered { IfOk result (λ answer. IsAnswered answer.status × (answer.status ≢ Status.Usage)) }
     ensures err { OnErr result (result ≡ Err Stop.NoMemory) }
 {
-    if is_derivable(alloc, &file.process)? {
-        made(alloc, Status::Yes, yes())
-    } else {
-        made(alloc, Status::No, b"no\n")
+    let inferred = infer(alloc, &file.process)?;
+    match explain(alloc, file, &inferred)? {
+        None => made(alloc, Status::Yes, yes()),
+        Some(fault) => rejected(alloc, bytes, file, &fault),
     }
 }
 
-/// Whether a process is derivable with the empty effect, where its free names are untrusted.
-fn is_derivable(alloc: Global, process: &Process) -> Result<bool, AllocError>
-    ensures { IfOk result (λ b. IsTrue b ↔ Derivable (untrusted process.now.names) process.now.process []) }
+/// The line of the fault of a file's process.
+fn rejected(alloc: Global, bytes: &[u8], file: &File, fault: &Fault) -> Result<Answer, Stop>
+    requires sized { length bytes.now ≤ 16_777_216 }
+    requires read { IsRead bytes.now file.now }
+    requires fault { IsFault (λ i. reverse (chain_at file.now.marks.scopes i)) file.now.process.names file.now.process.process (told fault.now) }
+    ensures ok { IfOk result (λ answer. (answer.status ≡ Status.No) × IsNo bytes.now answer.output.items) }
+    ensures err { OnErr result (result ≡ Err Stop.NoMemory) }
 {
-    match infer(alloc, process)? {
-        Inferred::Least(effect) => Ok(effect.atoms.is_empty()),
-        Inferred::Blocked(_) => Ok(false),
-    }
+    let lines = Lines::of(alloc, bytes)?;
+    let output = no_fault(alloc, file, &lines, fault)?;
+    Ok(Answer {
+        status: Status::No,
+        output,
+    })
 }

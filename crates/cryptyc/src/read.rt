@@ -9,7 +9,7 @@ ghost use Rattle.spi_scope.specs.Files.{meant};
 ghost use Rattle.spi_scope.specs.FaultPlaces.{span_from};
 ghost use Rattle.cryptyc.specs.Spelled.{IsTreeOf, SpellsFile};
 ghost use Rattle.cryptyc.specs.Answer.{Refuses, start_of, scope_number, scope_shown};
-ghost use Rattle.cryptyc.specs.Reading.{IsUnread, Tells};
+ghost use Rattle.cryptyc.specs.Reading.{IsRead, IsUnread, Tells};
 ghost use Rattle.cryptyc.specs.declared.read.Unread.TheVariants.{NoMemory};
 
 use spi_lex::{LexFault, Token, lex};
@@ -41,6 +41,7 @@ impl From<AllocError> for Unread {
 pub fn read(alloc: Global, bytes: &[u8]) -> Result<File, Unread>
     requires { length bytes.now ≤ 16_777_216 }
     ensures file { IfOk result (λ f. SpellsFile bytes.now (meant f)) }
+    ensures placed { IfOk result (λ f. IsRead bytes.now f) }
     ensures unread { IfErr result (λ u. IsUnread bytes.now u) }
 {
     match lex(alloc, bytes) {
@@ -82,6 +83,7 @@ fn read_tokens(alloc: Global, bytes: &[u8], tokens: &[Token]) -> Result<File, Un
     requires lexed { Lexes bytes.now (Ok tokens.now) }
     requires kinds { AreKinds (kinds_of tokens.now) }
     ensures file { IfOk result (λ f. SpellsFile bytes.now (meant f)) }
+    ensures placed { IfOk result (λ f. IsRead bytes.now f) }
     ensures unread { IfErr result (λ u. IsUnread bytes.now u) }
 {
     match parse(alloc, tokens, bytes.len() as u32) {
@@ -112,6 +114,7 @@ fn start(bytes: &[u8], tokens: &[Token], token: u32) -> u32
 fn read_tree(alloc: Global, bytes: &[u8], tree: &Tree) -> Result<File, Unread>
     requires { IsTreeOf bytes.now (file_of tree.now) }
     ensures file { IfOk result (λ f. SpellsFile bytes.now (meant f)) }
+    ensures placed { IfOk result (λ f. IsRead bytes.now f) }
     ensures unread { IfErr result (λ u. IsUnread bytes.now u) }
 {
     match resolve(alloc, tree) {

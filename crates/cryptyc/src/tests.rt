@@ -9,10 +9,22 @@ use std::test::Fail;
 const CHECKED: [(&[u8], &[u8], u8); 15] = [
     (b"process stop", b"yes\n", 0),
     (b"free a; process begin a; end a; stop", b"yes\n", 0),
-    (b"free a; process begin a; end a; end a; stop", b"no\n", 1),
-    (b"free a; process begin a; stop | end a; stop", b"no\n", 1),
+    (
+        b"free a; process begin a; end a; end a; stop",
+        b"no: 50 Unpaid at 1:17: end a\n",
+        1,
+    ),
+    (
+        b"free a; process begin a; stop | end a; stop",
+        b"no: 50 Unpaid at 1:17: end a\n",
+        1,
+    ),
     (b"process new (x: Un); begin x; end x; stop", b"yes\n", 0),
-    (b"process new (x: Un); end x; stop", b"no\n", 1),
+    (
+        b"process new (x: Un); end x; stop",
+        b"no: 49 EffectEscapes at 1:9: end x\n",
+        1,
+    ),
     (b"free a; process cast a is (x: Un); stop", b"yes\n", 0),
     (b"process stop stop", b"refused: 20 Syntax at 1:14\n", 2),
     (

@@ -3,8 +3,10 @@
 
 ghost use Rattle.std.specs.Prelude.{◌≡◌, codes};
 
+mod fault;
 mod refusal;
 
+pub use fault::no_fault;
 pub use refusal::{Refusal, refused};
 use std::alloc::AllocError;
 

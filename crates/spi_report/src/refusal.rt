@@ -71,7 +71,7 @@ fn head(alloc: Global, number: u32, name: &str) -> Result<String, NoMemory>
 }
 
 /// Appends the place of an offset, as ` at L:C`, or nothing where there is no offset.
-fn put_place(
+pub(crate) fn put_place(
     alloc: Global,
     out: &mut Vec<u8>,
     lines: &Lines<'_>,

@@ -1,0 +1,181 @@
+-- The first check that fails is found by trying them one after another.
+use Rattle.std.proofs.Common.{◌≡◌, ◌↔◌, ⊎_elim, refl, sym, ap, ◌∙◌, subst, subst₂, ℕ, zero, suc, ◌+◌, ◌<◌, ◌≤◌, List, [], ◌∷◌, ◌++◌, length, take, drop, map, get_or, Option, Some, None, Result, Ok, Err, IfOk, IsNone, arith}
+use Rattle.std.specs.Prelude.{slice_get, ⊤}
+use Rattle.spi_term.specs.Lists.{In, in_first, in_later}
+use Rattle.spi_term.proofs.Lists.{in_append}
+use Rattle.spi_term.specs.Names.{ProcessOver}
+use Rattle.spi_term.specs.Term as Term
+use Rattle.spi_term.specs.Term.{Effect, Process, process_size}
+use Rattle.spi_effect.proofs.Laws.{within_in}
+use Rattle.spi_rules.specs.Environment.{Env, untrusted}
+use Rattle.spi_rules.specs.Derivations.{Derivable}
+use Rattle.spi_rules.specs.Least.{Least}
+use Rattle.spi_rules.specs.Blocking.{NodeOf, BlocksAt}
+use Rattle.spi_infer.specs.Inferring.{IsReached}
+use Rattle.spi_infer.proofs.Deriving.{blocked}
+use Rattle.spi_infer.proofs.Descending.{one_node}
+use Rattle.spi_term.specs.Spelling.{Shape, spelled}
+use Rattle.spi_fault.specs.Checks.{Check, checks, reason_of, shape_checks}
+use Rattle.spi_fault.specs.Passing.{Passes}
+use Rattle.spi_fault.specs.declared.deciding.Found.{Found}
+use Rattle.spi_fault.specs.declared.check.Check as Declared
+use Rattle.spi_fault.specs.declared.fault.Fault.{Fault}
+use Rattle.spi_fault.specs.declared.fault.Reason.{Reason}
+use Rattle.spi_fault.specs.declared.fault.Reason.TheVariants.{Unpaid}
+use Rattle.spi_fault.specs.declared.least.Kind.TheVariants as K
+use Rattle.spi_fault.specs.Faults.{thing, FirstBlocks, FailsFirst, IsLeastText, IsFault, unpaid, fails as fails_at, Told, told, Explains}
+use Rattle.spi_fault.specs.Trying.{check, IsOf, Asked, Tells, TellsAtom, IsBlamed}
+use Rattle.spi_fault.proofs.Passed.{all_pass}
+use Rattle.spi_fault.proofs.Heads.{asked, checks_at}
+use Rattle.spi_fault.proofs.Texts.{get_within}
+use Rattle.spi_fault.proofs.Telling.{node_within, over_node}
+
+pub blocks_within : (k : ℕ) {n : ℕ} {p : Process} → FirstBlocks (untrusted k) p n → n < process_size p
+blocks_within k f = node_within f.blocks.1.1.0
+
+pub blocks_here : (k : ℕ) {n : ℕ} {p q : Process} {e : Env} → FirstBlocks (untrusted k) p n → NodeOf (untrusted k) p n e q → BlocksAt e q
+blocks_here k {q = q} {e = e} f n =
+    let same = one_node f.blocks.1.1.0 n in
+    subst (λ q. BlocksAt e q) same.1 (subst (λ e. BlocksAt e f.blocks.1.0) same.0 f.blocks.1.1.1)
+
+-- lists
+length_map : {A B : Type 0} (f : A → B) (xs : List A) → length (map f xs) ≡ length xs
+length_map f [] = refl
+length_map f (x ∷ xs) = ap suc (length_map f xs)
+
+in_none : {A : Type 0} {x : A} → In x [] → ⊥
+in_none i = elim i [ ]
+
+in_one : {A : Type 0} {x y : A} → In x (y ∷ []) → x ≡ y
+in_one in_first = refl
+in_one (in_later i) = absurd (in_none i)
+
+pub get_in : {A : Type 0} (xs : List A) (i : ℕ) (x : A) → slice_get xs i ≡ Some x → In x xs
+get_in [] i x h = absurd (cc)
+get_in (y ∷ xs) zero x h = let e : y ≡ x = cc in subst (λ z. In z (y ∷ xs)) e in_first
+get_in (y ∷ xs) (suc i) x h = in_later (get_in xs i x h)
+
+pub get_map : {A B : Type 0} (f : A → B) (xs : List A) (i : ℕ) (x : A) → slice_get xs i ≡ Some x → slice_get (map f xs) i ≡ Some (f x)
+get_map f [] i x h = absurd (cc)
+get_map f (y ∷ xs) zero x h = let e : y ≡ x = cc in ap (λ z. Some (f z)) e
+get_map f (y ∷ xs) (suc i) x h = get_map f xs i x h
+
+split_at : {A : Type 0} (xs : List A) (i : ℕ) (x : A) → slice_get xs i ≡ Some x → xs ≡ take i xs ++ x ∷ drop (suc i) xs
+split_at [] i x h = absurd (cc)
+split_at (y ∷ xs) zero x h = let e : y ≡ x = cc in ap (λ z. z ∷ xs) e
+split_at (y ∷ xs) (suc i) x h = ap (λ l. y ∷ l) (split_at xs i x h)
+
+take_one : {A : Type 0} (xs : List A) (i : ℕ) (x : A) → slice_get xs i ≡ Some x → take (i + 1) xs ≡ take i xs ++ x ∷ []
+take_one [] i x h = absurd (cc)
+take_one (y ∷ xs) zero x h = let e : y ≡ x = cc in ap (λ y. y ∷ []) e
+take_one (y ∷ xs) (suc i) x h =
+    let z : suc i + 1 ≡ suc (i + 1) = omega arith in
+    ap (λ n. take n (y ∷ xs)) z ∙ ap (λ l. y ∷ l) (take_one xs i x h)
+
+take_all : {A : Type 0} (xs : List A) (i : ℕ) → length xs ≤ i → take i xs ≡ xs
+take_all [] zero l = refl
+take_all [] (suc i) l = refl
+take_all (x ∷ xs) zero l = absurd (omega (arith, l))
+take_all (x ∷ xs) (suc i) l = ap (λ l. x ∷ l) (take_all xs i (omega (arith, l)))
+
+-- the checks so far pass
+abbrev pub PassTo : Env → Process → List Check → ℕ → Type 0
+PassTo env q cs i = (d : Check) → In d (take i cs) → Passes env q d
+
+pub pass_none : (env : Env) (q : Process) (cs : List Check) → PassTo env q cs 0
+pass_none env q cs = λ d i. absurd (in_none i)
+
+pub pass_more : (env : Env) (q : Process) (cs : List Check) (i : ℕ) (c : Check) → slice_get cs i ≡ Some c → PassTo env q cs i → Passes env q c → PassTo env q cs (i + 1)
+pass_more env q cs i c at before now d z =
+    ⊎_elim (λ (w : In d (take i cs)). before d w) (λ (w : In d (c ∷ [])). subst (λ d. Passes env q d) (sym (in_one w)) now) (in_append (take i cs) (subst (λ l. In d l) (take_one cs i c at) z))
+
+-- this one is the first that fails
+pub fails_here : (env : Env) (q : Process) (cs : List Check) (i : ℕ) (c : Check) → cs ≡ checks q → slice_get cs i ≡ Some c → PassTo env q cs i → (Passes env q c → ⊥) → FailsFirst env q c
+fails_here env q cs i c is at before fails = record {
+  before = take i cs;
+  after = drop (suc i) cs;
+  all = sym is ∙ split_at cs i c at;
+  pass = before;
+  fails = fails;
+}
+
+-- an effect without an atom
+none_left : (es : Effect) → ((a : Term.Atom) → In a es → ⊥) → es ≡ []
+none_left [] h = refl
+none_left (a ∷ es) h = absurd (h a in_first)
+
+pub least_none : (env : Env) (p : Process) (es : Effect) → Least env p es → ((a : Term.Atom) → In a es → ⊤ → ⊥) → Derivable env p []
+least_none env p es l h = subst (λ es. Derivable env p es) (none_left es (λ a i. h a i tt)) l.derivable
+
+pub unpaid_fault : (s : ℕ → List (List ℕ)) (k : ℕ) (p : Process) (es : Effect) (f : Found) → Least (untrusted k) p es → TellsAtom s 0 (IsOf K.Any) es (Some f) → IsFault s k p (record { reason = Unpaid; node = 0; scope_of = 0; shown = thing f.shown })
+unpaid_fault s k p es f l (place, (a, shown, least)) =
+    let all : IsLeastText (s 0) (λ b. In b es) a = record { is = least.is.0; least = λ b i. least.least b (i, tt) } in
+    subst (λ t. IsFault s k p (record { reason = Unpaid; node = 0; scope_of = 0; shown = t })) (sym shown) (unpaid l all)
+
+-- the checks are gone through one by one
+module _ (k : ℕ) (p : Process) (id : ℕ) (env : Env) (checks' : List Declared.Check) where
+  abbrev pub Node : Process → Type 0
+  Node q = NodeOf (untrusted k) p id env q
+
+  abbrev pub PassedTo : ℕ → Type 0
+  PassedTo i = (q : Process) → Node q → PassTo env q (map check checks') i
+
+  pub passed_none : PassedTo 0
+  passed_none = λ q n d i. absurd (in_none i)
+
+  at_check : (i : ℕ) (c : Declared.Check) → i < length checks' → c ≡ get_or checks' i c → slice_get (map check checks') i ≡ Some (check c)
+  at_check i c l at = get_map check checks' i c (get_within checks' i c l ∙ ap Some (sym at))
+
+  pub passed_more : (i : ℕ) (c : Declared.Check) → i < length checks' → c ≡ get_or checks' i c → PassedTo i → ((q : Process) → Node q → Passes env q (check c)) → PassedTo (i + 1)
+  passed_more i c l at before now = λ q n. pass_more env q (map check checks') i (check c) (at_check i c l at) (before q n) (now q n)
+
+  pub in_checks : (i : ℕ) (c : Declared.Check) → i < length checks' → c ≡ get_or checks' i c → In (check c) (map check checks')
+  in_checks i c l at = get_in (map check checks') i (check c) (at_check i c l at)
+
+  -- one of all processes at the node has these checks, so each has
+  abbrev pub Given : Type 0
+  Given = (q : Process) × Node q × BlocksAt env q × (map check checks' ≡ checks q)
+
+  given_at : Given → (q : Process) → Node q → map check checks' ≡ checks q
+  given_at (q', m, b, is) q n = subst (λ q. map check checks' ≡ checks q) (one_node m n).1 is
+
+  pub can_ask : (i : ℕ) (c : Declared.Check) → i < length checks' → c ≡ get_or checks' i c → Given → (q : Process) × Node q × BlocksAt env q × Asked env q (check c)
+  can_ask i c l at (q, n, b, is) = (q, n, b, asked env q (check c) (subst (λ cs. In (check c) cs) is (in_checks i c l at)))
+
+  pub blamed : (s : ℕ → List (List ℕ)) (i : ℕ) (c : Declared.Check) (f : Found) (r : Reason) → i < length checks' → c ≡ get_or checks' i c → Given → PassedTo i → ((q : Process) → Node q → Tells s id env q (check c) (Some f)) → r ≡ reason_of (check c)
+      → (q : Process) → Node q → IsBlamed s id env q (Some (record { reason = r; node = id; scope_of = f.scope_of; shown = f.shown }))
+  blamed s i c f r l at given before tells reason q n =
+      let t = tells q n in (
+        check c,
+        fails_here env q (map check checks') i (check c) (given_at given q n) (at_check i c l at) (before q n) t.0,
+        t.1,
+        refl,
+        reason,
+      )
+
+  pub all_passed : (i : ℕ) → length checks' ≤ i → Given → PassedTo i → (q : Process) → Node q → (d : Check) → In d (checks q) → Passes env q d
+  all_passed i l given before q n d z =
+      before q n d (subst (λ cs. In d cs) (sym (take_all (map check checks') i (omega (arith, l, length_map check checks')))) (subst (λ cs. In d cs) (sym (given_at given q n)) z))
+
+-- the node that blocks first
+pub never_none : (k : ℕ) {n : ℕ} {p q : Process} {e : Env} → ProcessOver k p → FirstBlocks (untrusted k) p n → NodeOf (untrusted k) p n e q → ((d : Check) → In d (checks q) → Passes e q d) → ⊥
+never_none k {q = q} {e = e} over f n pass = let b = blocks_here k f n in b.none (all_pass e q (over_node k over n) b.children pass)
+
+pub blames : (s : ℕ → List (List ℕ)) (k id : ℕ) (p : Process) (e : Env) (f : Fault) → FirstBlocks (untrusted k) p id → IsReached k p id e → ((q : Process) → NodeOf (untrusted k) p id e q → IsBlamed s id e q (Some f)) → IsFault s k p (told f)
+blames s k id p e f first at h =
+    let (c, fails, shows, node, reason) = h at.0 at.1 in
+    let is : IsFault s k p (record { reason = reason_of c; node = id; scope_of = f.scope_of; shown = thing f.shown }) = fails_at first at.1 fails shows in
+    subst₂ (λ n r. IsFault s k p (record { reason = r; node = n; scope_of = f.scope_of; shown = thing f.shown })) (sym node) (sym reason) is
+
+pub given_here : (k id : ℕ) (p : Process) (e : Env) (x : Shape) (cs : List Declared.Check) → FirstBlocks (untrusted k) p id → IsReached k p id e → slice_get (spelled k p) id ≡ Some x → map check cs ≡ shape_checks id x → Given k p id e cs
+given_here k id p e x cs first at there is = (at.0, at.1, blocks_here k first at.1, is ∙ checks_at k p id e at.0 x at.1 there)
+
+-- a process with a fault is not derivable with the empty effect
+no_fault : (s : ℕ → List (List ℕ)) (k : ℕ) (p : Process) (t : Told) → IsFault s k p t → Derivable (untrusted k) p [] → ⊥
+no_fault s k p _ (unpaid l least) d = in_none (within_in (l.least [] d) least.is)
+no_fault s k p _ (fails_at first at c shows) d = (blocked (untrusted k) p d.over).1 (_, first.blocks) [] d
+
+pub exactly : {E : Type 0} (s : ℕ → List (List ℕ)) (k : ℕ) (p : Process) (result : Result (Option Fault) E) → IfOk result (Explains s k p) → IfOk result (λ r. IsNone r ↔ Derivable (untrusted k) p [])
+exactly s k p (Ok None) h = (λ e. h, λ d. refl)
+exactly s k p (Ok (Some f)) h = (λ e. absurd (cc e), λ d. absurd (no_fault s k p (told f) h d))
+exactly s k p (Err e) h = tt

@@ -1,0 +1,134 @@
+-- The atom whose report form is least, as the atoms are gone through.
+use Rattle.std.proofs.Common.{◌≡◌, ◌≢◌, ◌⊎◌, inl, inr, ⊎_elim, refl, sym, ap, ap₂, ◌∙◌, subst, ℕ, zero, suc, ◌+◌, ◌<◌, ◌≤◌, List, [], ◌∷◌, ◌++◌, length, take, map, get_or, Option, Some, None, arith}
+use Rattle.std.specs.Prelude.{slice_get}
+use Rattle.std.specs.Global.{Vec}
+use Rattle.std.specs.Cmp.Lexicographic.{slice_cmp}
+use Rattle.std.specs.Ordering.{nat_cmp, ordering_reverse}
+use Rattle.std.specs.declared.cmp.Ordering.{Ordering}
+use Rattle.std.specs.declared.cmp.Ordering.TheVariants.{Less, Equal, Greater}
+use Rattle.std.proofs.lemmas.Cmp.{nat_list_cmp_total}
+use Rattle.spi_term.specs.Lists.{In, in_first, in_later}
+use Rattle.spi_term.proofs.Lists.{in_append}
+use Rattle.spi_term.specs.declared.term.Atom as Declared
+use Rattle.spi_term.specs.Term.{Atom, Effect}
+use Rattle.spi_term.specs.View.{atom}
+use Rattle.spi_show.specs.Report.{atom_text}
+use Rattle.spi_fault.specs.Trying.{IsBest, IsBetter, IsPlaceOfLeast, place_in}
+
+in_none : {A : Type 0} {x : A} → In x [] → ⊥
+in_none i = elim i [ ]
+
+in_one : {A : Type 0} {x y : A} → In x (y ∷ []) → x ≡ y
+in_one in_first = refl
+in_one (in_later i) = absurd (in_none i)
+
+get_more : {A : Type 0} (xs ys : List A) (i : ℕ) (x : A) → slice_get xs i ≡ Some x → slice_get (xs ++ ys) i ≡ Some x
+get_more [] ys i x h = absurd (cc)
+get_more (y ∷ xs) ys zero x h = h
+get_more (y ∷ xs) ys (suc i) x h = get_more xs ys i x h
+
+get_last : {A : Type 0} (xs : List A) (x : A) → slice_get (xs ++ x ∷ []) (length xs) ≡ Some x
+get_last [] x = refl
+get_last (y ∷ xs) x = get_last xs x
+
+get_in : {A : Type 0} (xs : List A) (i : ℕ) (x : A) → slice_get xs i ≡ Some x → In x xs
+get_in [] i x h = absurd (cc)
+get_in (y ∷ xs) zero x h = let e : y ≡ x = cc in subst (λ z. In z (y ∷ xs)) e in_first
+get_in (y ∷ xs) (suc i) x h = in_later (get_in xs i x h)
+
+pub get_within : {A : Type 0} (xs : List A) (i : ℕ) (d : A) → i < length xs → slice_get xs i ≡ Some (get_or xs i d)
+get_within [] i d l = absurd (omega (arith, l))
+get_within (x ∷ xs) zero d l = refl
+get_within (x ∷ xs) (suc i) d l = get_within xs i d (omega (arith, l))
+
+-- the order of texts
+abbrev text_cmp : List ℕ → List ℕ → Ordering
+text_cmp xs ys = slice_cmp nat_cmp xs ys
+
+greater_less : (xs ys : List ℕ) → text_cmp xs ys ≡ Greater → text_cmp ys xs ≡ Less
+greater_less xs ys h = nat_list_cmp_total.antisymm ys xs ∙ ap ordering_reverse h
+
+less_not : (xs ys : List ℕ) → text_cmp xs ys ≡ Less → text_cmp xs ys ≢ Greater
+less_not xs ys h g = let e : Less ≡ Greater = sym h ∙ g in cc
+
+self_not : (xs : List ℕ) → text_cmp xs xs ≢ Greater
+self_not xs g = let e : Greater ≡ Less = sym g ∙ greater_less xs xs g in cc
+
+-- below what is not above the third is not above the third
+below : (xs ys zs : List ℕ) → text_cmp ys xs ≡ Greater → text_cmp ys zs ≢ Greater → text_cmp xs zs ≢ Greater
+below xs ys zs h g = by (text_cmp ys zs) refl
+  where
+    first : text_cmp xs ys ≡ Less
+    first = greater_less ys xs h
+
+    by : (r : Ordering) → text_cmp ys zs ≡ r → text_cmp xs zs ≢ Greater
+    by Less e = less_not xs zs (nat_list_cmp_total.trans xs ys zs first e)
+    by Greater e = absurd (g e)
+    by Equal e = λ k.
+        let a : text_cmp zs xs ≡ Less = greater_less xs zs k in
+        let b : text_cmp ys xs ≡ text_cmp zs xs = nat_list_cmp_total.congr ys zs xs e in
+        let c : Greater ≡ Less = sym h ∙ b ∙ a in
+        cc
+
+module _ (names : List (List ℕ)) (P : Atom → Type 0) (es : List Atom) (a : Atom) where
+  more : {b : Atom} → In b (es ++ a ∷ []) → In b es ⊎ (b ≡ a)
+  more i = ⊎_elim (λ (i : In _ es). inl i) (λ (i : In _ (a ∷ [])). inr (in_one i)) (in_append es i)
+
+  -- an atom that is not of the kind changes nothing
+  pub best_skip : (o : Option (ℕ × Vec ℕ)) → (P a → ⊥) → IsBest names P es o → IsBest names P (es ++ a ∷ []) o
+  best_skip None n h = λ b i p. ⊎_elim (λ (i : In b es). h b i p) (λ (e : b ≡ a). n (subst P e p)) (more i)
+  best_skip (Some (j, text)) n (x, at, is, t, least) =
+      (x, get_more es (a ∷ []) j x at, is, t, λ b i p. ⊎_elim (λ (i : In b es). least b i p) (λ (e : b ≡ a). absurd (n (subst P e p))) (more i))
+
+  abbrev Above : Atom → Type 0
+  Above x = (b : Atom) → In b (es ++ a ∷ []) → P b → slice_cmp nat_cmp (atom_text names x) (atom_text names b) ≢ Greater
+
+  above_itself : ((b : Atom) → In b es → P b → slice_cmp nat_cmp (atom_text names a) (atom_text names b) ≢ Greater) → Above a
+  above_itself h b i p =
+      ⊎_elim (λ (i : In b es). h b i p) (λ (e : b ≡ a). subst (λ b. slice_cmp nat_cmp (atom_text names a) (atom_text names b) ≢ Greater) (sym e) (self_not (atom_text names a))) (more i)
+
+  -- one of the kind takes the place of a greater one
+  pub best_more : (i : ℕ) (text : Vec ℕ) (o r : Option (ℕ × Vec ℕ)) → P a → i ≡ length es → text.items ≡ atom_text names a → IsBetter o i text r → IsBest names P es o → IsBest names P (es ++ a ∷ []) r
+  best_more i text None r is at t better h =
+      subst (IsBest names P (es ++ a ∷ [])) (sym better) (a, ap (slice_get (es ++ a ∷ [])) at ∙ get_last es a, is, t, above_itself (λ b i p. absurd (h b i p)))
+  best_more i text (Some (j, old)) r is at t (inl (g, e)) (x, place, was, u, least) =
+      subst (IsBest names P (es ++ a ∷ [])) (sym e) (a, ap (slice_get (es ++ a ∷ [])) at ∙ get_last es a, is, t, above_itself (λ b i p. below (atom_text names a) (atom_text names x) (atom_text names b) (ap₂ text_cmp (sym u) (sym t) ∙ g) (least b i p)))
+  best_more i text (Some (j, old)) r is at t (inr (g, e)) (x, place, was, u, least) =
+      subst (IsBest names P (es ++ a ∷ [])) (sym e) (x, get_more es (a ∷ []) j x place, was, u, λ b i p. ⊎_elim (λ (i : In b es). least b i p) (λ (e : b ≡ a). subst (λ b. text_cmp (atom_text names x) (atom_text names b) ≢ Greater) (sym e) (λ k. g (ap₂ text_cmp u t ∙ k))) (more i))
+
+pub best_place : (names : List (List ℕ)) (P : Atom → Type 0) (es : List Atom) (o : Option (ℕ × Vec ℕ)) → IsBest names P es o → IsPlaceOfLeast names P es (place_in o)
+best_place names P es None h = h
+best_place names P es (Some (j, text)) (x, at, is, t, least) = (x, at, record { is = (get_in es j x at, is); least = λ b z. least b z.0 z.1 })
+
+-- one more atom is gone through
+pub best_none : (names : List (List ℕ)) (P : Atom → Type 0) → IsBest names P [] None
+best_none names P = λ b i p. in_none i
+
+take_more : {A B : Type 0} (f : A → B) (xs : List A) (i : ℕ) (x : A) → slice_get xs i ≡ Some x → take (i + 1) (map f xs) ≡ take i (map f xs) ++ f x ∷ []
+take_more f [] i x h = absurd (cc)
+take_more f (y ∷ xs) zero x h = let e : y ≡ x = cc in ap (λ y. f y ∷ []) e
+take_more f (y ∷ xs) (suc i) x h =
+    let z : suc i + 1 ≡ suc (i + 1) = omega arith in
+    ap (λ n. take n (map f (y ∷ xs))) z ∙ ap (λ l. f y ∷ l) (take_more f xs i x h)
+
+length_taken : {A B : Type 0} (f : A → B) (xs : List A) (i : ℕ) → i ≤ length xs → i ≡ length (take i (map f xs))
+length_taken f xs zero l = refl
+length_taken f [] (suc i) l = absurd (omega (arith, l))
+length_taken f (x ∷ xs) (suc i) l = ap suc (length_taken f xs i (omega (arith, l)))
+
+take_whole : {A B : Type 0} (f : A → B) (xs : List A) (i : ℕ) → length xs ≤ i → take i (map f xs) ≡ map f xs
+take_whole f [] zero l = refl
+take_whole f [] (suc i) l = refl
+take_whole f (x ∷ xs) zero l = absurd (omega (arith, l))
+take_whole f (x ∷ xs) (suc i) l = ap (λ l. f x ∷ l) (take_whole f xs i (omega (arith, l)))
+
+module _ (names : List (List ℕ)) (P : Atom → Type 0) (atoms : List Declared.Atom) (i : ℕ) where
+  abbrev pub BestTo : ℕ → Option (ℕ × Vec ℕ) → Type 0
+  BestTo n o = IsBest names P (take n (map atom atoms)) o
+
+  pub best_next : (a : Declared.Atom) (o r : Option (ℕ × Vec ℕ)) → i ≤ length atoms → slice_get atoms i ≡ Some a → BestTo i o → ((es : Effect) → i ≡ length es → IsBest names P es o → IsBest names P (es ++ atom a ∷ []) r) → BestTo (i + 1) r
+  best_next a o r l at so next =
+      subst (λ es. IsBest names P es r) (sym (take_more atom atoms i a at)) (next (take i (map atom atoms)) (length_taken atom atoms i l) so)
+
+  pub best_end : (o : Option (ℕ × Vec ℕ)) → length atoms ≤ i → BestTo i o → IsPlaceOfLeast names P (map atom atoms) (place_in o)
+  best_end o l so = best_place names P (map atom atoms) o (subst (λ es. IsBest names P es o) (take_whole atom atoms i l) so)

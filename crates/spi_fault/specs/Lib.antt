@@ -1,0 +1,4 @@
+pub mod Checks
+pub mod Passing
+pub mod Faults
+pub mod Trying

@@ -1,0 +1,51 @@
+-- The text of a no.
+use Rattle.std.specs.Prelude.{ℕ, List, [], ◌++◌, Some, codes}
+use Rattle.std.specs.Fmt.{decimal}
+use Rattle.spi_text.specs.declared.lines.Span.{Span}
+use Rattle.spi_fault.specs.declared.fault.Reason.{Reason}
+use Rattle.spi_fault.specs.declared.fault.Reason.TheVariants.{ChannelNotUn, DatumNotUn, BadType, WrongScrutinee, WrongKey, NotANonce, NotALabel, NotGenerative, BodyHasEffect, EffectEscapes, Unpaid, WrongFirst, BadCast}
+use Rattle.spi_fault.specs.Faults.{Thing, nothing, the_message, the_atom, Told}
+use Rattle.spi_show.specs.Report.{message_text, atom_text}
+use Rattle.spi_report.specs.Refused.{place_text}
+
+abbrev pub number_of : Reason → ℕ
+number_of ChannelNotUn = 40
+number_of DatumNotUn = 41
+number_of BadType = 42
+number_of WrongScrutinee = 43
+number_of WrongKey = 44
+number_of NotANonce = 45
+number_of NotALabel = 46
+number_of NotGenerative = 47
+number_of BodyHasEffect = 48
+number_of EffectEscapes = 49
+number_of Unpaid = 50
+number_of WrongFirst = 51
+number_of BadCast = 52
+
+abbrev pub reason_text : Reason → List ℕ
+reason_text ChannelNotUn = codes "ChannelNotUn"
+reason_text DatumNotUn = codes "DatumNotUn"
+reason_text BadType = codes "BadType"
+reason_text WrongScrutinee = codes "WrongScrutinee"
+reason_text WrongKey = codes "WrongKey"
+reason_text NotANonce = codes "NotANonce"
+reason_text NotALabel = codes "NotALabel"
+reason_text NotGenerative = codes "NotGenerative"
+reason_text BodyHasEffect = codes "BodyHasEffect"
+reason_text EffectEscapes = codes "EffectEscapes"
+reason_text Unpaid = codes "Unpaid"
+reason_text WrongFirst = codes "WrongFirst"
+reason_text BadCast = codes "BadCast"
+
+-- what it shows, if anything
+abbrev pub thing_text : List (List ℕ) → Thing → List ℕ
+thing_text names nothing = []
+thing_text names (the_message m) = codes ": " ++ message_text names m
+thing_text names (the_atom a) = codes ": " ++ atom_text names a
+
+-- `no: N Name at L:C: shown` and a LF, where the nodes stand at these places and have these names in scope
+abbrev pub fault_text : List ℕ → (ℕ → Span) → (ℕ → List (List ℕ)) → Told → List ℕ
+fault_text bytes place spelled f =
+    codes "no: " ++ decimal (number_of f.reason) ++ codes " " ++ reason_text f.reason
+    ++ place_text bytes (Some (place f.node).from) ++ thing_text (spelled f.scope_of) f.shown ++ codes "\n"

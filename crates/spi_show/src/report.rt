@@ -1,0 +1,89 @@
+// The report form of messages and atoms.
+ghost use Rattle.std.specs.Prelude.{◌≡◌, ◌++◌, IfOk, OnOk, slice_get};
+ghost use Rattle.spi_term.specs.View.{message, atom};
+ghost use Rattle.spi_show.specs.Report.{name_text, message_text, atom_text};
+
+use crate::NoMemory;
+use spi_term::{Atom, Msg};
+use spi_text::Text;
+use std::alloc::Global;
+
+// Appends a name.
+fn put_name(alloc: Global, out: &mut Vec<u8>, names: &[Text], x: u32) -> Result<(), NoMemory>
+    ensures { OnOk result (out.new.items ≡ out.old.items ++ name_text (slice_get names.now x) x) }
+{
+    match names.get(x as usize) {
+        Some(spelling) => out.extend_from_slice(spelling.as_str().as_bytes()),
+        None => out.extend_from_slice(format!(in alloc; "#{x}")?.as_bytes()),
+    }
+}
+
+// Appends a message.
+fn put_message(alloc: Global, out: &mut Vec<u8>, names: &[Text], m: &Msg) -> Result<(), NoMemory>
+    ensures { OnOk result (out.new.items ≡ out.old.items ++ message_text names.now (message m.now)) }
+{
+    match m {
+        Msg::Bound(_) => Ok(()),
+        Msg::Name(x) => put_name(alloc, out, names, *x),
+        Msg::Unit => out.extend_from_slice(b"()"),
+        Msg::Pair(first, second) => {
+            out.extend_from_slice(b"(")?;
+            put_message(alloc, out, names, first)?;
+            out.extend_from_slice(b", ")?;
+            put_message(alloc, out, names, second)?;
+            out.extend_from_slice(b")")
+        }
+        Msg::Inl(part) => {
+            out.extend_from_slice(b"inl ")?;
+            put_message(alloc, out, names, part)
+        }
+        Msg::Inr(part) => {
+            out.extend_from_slice(b"inr ")?;
+            put_message(alloc, out, names, part)
+        }
+        Msg::Enc(body, key) => {
+            out.extend_from_slice(b"{")?;
+            put_message(alloc, out, names, body)?;
+            out.extend_from_slice(b"}")?;
+            put_message(alloc, out, names, key)
+        }
+        Msg::Hash(part) => {
+            out.extend_from_slice(b"hash(")?;
+            put_message(alloc, out, names, part)?;
+            out.extend_from_slice(b")")
+        }
+    }
+}
+
+/// The report form of a message: a name below the number of given names by its spelling, every other by `#` and its
+/// number; `()`, `(M, N)`, `inl M`, `inr M`, `{M}N` and `hash(M)`. A pair in a pair keeps its own parentheses. The message
+/// of a process has no place of a binder; in a type's such a place has no text.
+pub fn show_message(alloc: Global, names: &[Text], m: &Msg) -> Result<Vec<u8>, NoMemory>
+    ensures { IfOk result (λ v. v.items ≡ message_text names.now (message m.now)) }
+{
+    let mut out = Vec::new(alloc);
+    put_message(alloc, &mut out, names, m)?;
+    Ok(out)
+}
+
+/// The report form of an atom: `end M`, `check M` or `many M`, with the report form of its message.
+pub fn show_atom(alloc: Global, names: &[Text], a: &Atom) -> Result<Vec<u8>, NoMemory>
+    ensures { IfOk result (λ v. v.items ≡ atom_text names.now (atom a.now)) }
+{
+    let mut out = Vec::new(alloc);
+    match a {
+        Atom::End(m) => {
+            out.extend_from_slice(b"end ")?;
+            put_message(alloc, &mut out, names, m)?;
+        }
+        Atom::Check(m) => {
+            out.extend_from_slice(b"check ")?;
+            put_message(alloc, &mut out, names, m)?;
+        }
+        Atom::Many(m) => {
+            out.extend_from_slice(b"many ")?;
+            put_message(alloc, &mut out, names, m)?;
+        }
+    }
+    Ok(out)
+}
