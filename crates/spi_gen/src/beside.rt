@@ -1,0 +1,66 @@
+// So many sessions beside one another.
+ghost use Rattle.std.specs.Prelude.{◌≤◌, IfOk};
+ghost use Rattle.spi_tree.specs.Views.{proc_of, file_of};
+ghost use Rattle.spi_gen.specs.Sessions.{AreBeside, AreGrouped, IsSessions};
+
+use crate::NoMemory;
+use crate::parts::{declarations, handshake};
+use spi_text::Span;
+use spi_tree::{SProc, Tree};
+use std::alloc::Global;
+
+// So many sessions in the place of a part.
+fn grouped(alloc: Global, n: u32) -> Result<SProc, NoMemory>
+    requires some { 1 ≤ n }
+    requires few { n ≤ 500 }
+    ensures { IfOk result (λ p. AreGrouped n (proc_of p)) }
+{
+    if n == 1 {
+        return handshake(alloc);
+    }
+    let half = (n + 1) / 2;
+    let first = Box::new(alloc, grouped(alloc, half)?)?;
+    let rest = Box::new(alloc, grouped(alloc, n - half)?)?;
+    Ok(SProc::Group {
+        first,
+        rest,
+        span: Span { from: 0, to: 0 },
+    })
+}
+
+// So many sessions in the place of a process.
+fn beside(alloc: Global, n: u32) -> Result<SProc, NoMemory>
+    requires some { 1 ≤ n }
+    requires few { n ≤ 500 }
+    ensures { IfOk result (λ p. AreBeside n (proc_of p)) }
+{
+    if n == 1 {
+        return handshake(alloc);
+    }
+    let half = (n + 1) / 2;
+    let first = Box::new(alloc, grouped(alloc, half)?)?;
+    let rest = Box::new(alloc, grouped(alloc, n - half)?)?;
+    Ok(SProc::Par {
+        first,
+        rest,
+        span: Span { from: 0, to: 0 },
+    })
+}
+
+/// The file of so many sessions of the nonce handshake beside one another, from 1 to 500: of two halves the first is rounded
+/// up, and several sessions in one part stand in parentheses. Its nodes and words have the empty span at 0.
+pub fn sessions(alloc: Global, k: u32) -> Result<Tree, NoMemory>
+    requires some { 1 ≤ k }
+    requires few { k ≤ 500 }
+    ensures { IfOk result (λ tree. IsSessions k (file_of tree)) }
+{
+    Ok(Tree {
+        version: 1,
+        decls: declarations(alloc)?,
+        process: beside(alloc, k)?,
+        opponent: None,
+        schedule: None,
+        derivation: None,
+        span: Span { from: 0, to: 0 },
+    })
+}

@@ -1,0 +1,254 @@
+// The parts of the nonce handshake as trees.
+ghost use Rattle.std.specs.Prelude.{◌≡◌, [], ◌∷◌, map, codes, IfOk};
+ghost use Rattle.spi_tree.specs.Trees as t;
+ghost use Rattle.spi_tree.specs.Views.{msg_of, ty_of, last_of, proc_of, decl_of};
+ghost use Rattle.spi_gen.specs.Handshake as H;
+
+use crate::NoMemory;
+use spi_text::{Span, Text};
+use spi_tree::{Decl, Last, SAtom, SMsg, SProc, STy, SWord};
+use std::alloc::Global;
+
+fn word(alloc: Global, spelling: &str) -> Result<SWord, NoMemory>
+    ensures { IfOk result (λ w. w ≡ H.word spelling.now) }
+{
+    Ok(SWord {
+        word: Text::of(alloc, spelling)?,
+        span: Span { from: 0, to: 0 },
+    })
+}
+
+fn name(alloc: Global, spelling: &str) -> Result<SMsg, NoMemory>
+    ensures { IfOk result (λ m. msg_of m ≡ H.name spelling.now) }
+{
+    Ok(SMsg::Name {
+        name: word(alloc, spelling)?,
+        span: Span { from: 0, to: 0 },
+    })
+}
+
+fn tuple(alloc: Global, first: SMsg, second: SMsg, more: Vec<SMsg>) -> Result<SMsg, NoMemory>
+    ensures { IfOk result (λ m. msg_of m ≡ t.tuple H.nowhere (msg_of first) (msg_of second) (t.msgs_of_list (map msg_of more.items))) }
+{
+    Ok(SMsg::Tuple {
+        first: Box::new(alloc, first)?,
+        second: Box::new(alloc, second)?,
+        more,
+        span: Span { from: 0, to: 0 },
+    })
+}
+
+fn pair(alloc: Global, first: &str, second: &str) -> Result<SMsg, NoMemory>
+    ensures { IfOk result (λ m. msg_of m ≡ H.pair (H.name first.now) (H.name second.now)) }
+{
+    let first = name(alloc, first)?;
+    tuple(alloc, first, name(alloc, second)?, Vec::new(alloc))
+}
+
+fn label(alloc: Global) -> Result<SMsg, NoMemory>
+    ensures { IfOk result (λ m. msg_of m ≡ H.label) }
+{
+    let mut more = Vec::new(alloc);
+    more.push(name(alloc, "m")?)?;
+    let first = name(alloc, "a")?;
+    tuple(alloc, first, name(alloc, "b")?, more)
+}
+
+fn untrusted() -> STy
+    ensures { ty_of result ≡ H.untrusted }
+{
+    STy::Un {
+        span: Span { from: 0, to: 0 },
+    }
+}
+
+fn proof(alloc: Global) -> Result<STy, NoMemory>
+    ensures { IfOk result (λ a. ty_of a ≡ H.proof) }
+{
+    let mut effect = Vec::new(alloc);
+    effect.push(SAtom::End {
+        label: label(alloc)?,
+        span: Span { from: 0, to: 0 },
+    })?;
+    Ok(STy::Nonce {
+        effect,
+        span: Span { from: 0, to: 0 },
+    })
+}
+
+fn pair_type(alloc: Global, name: SWord, first: STy, last: Last) -> Result<STy, NoMemory>
+    ensures { IfOk result (λ a. ty_of a ≡ t.tuple_ty H.nowhere name (ty_of first) t.no_fields (last_of last)) }
+{
+    Ok(STy::Tuple {
+        name,
+        first: Box::new(alloc, first)?,
+        more: Vec::new(alloc),
+        last: Box::new(alloc, last)?,
+        span: Span { from: 0, to: 0 },
+    })
+}
+
+fn answer(alloc: Global) -> Result<STy, NoMemory>
+    ensures { IfOk result (λ a. ty_of a ≡ H.answer) }
+{
+    let last = Last::Named(word(alloc, "n")?, proof(alloc)?);
+    pair_type(alloc, word(alloc, "m")?, untrusted(), last)
+}
+
+fn answer_name(alloc: Global) -> Result<STy, NoMemory>
+    ensures { IfOk result (λ a. ty_of a ≡ H.answer_name) }
+{
+    Ok(STy::Abbr {
+        name: word(alloc, "Msg")?,
+        span: Span { from: 0, to: 0 },
+    })
+}
+
+// out net {(m, p)}k
+fn reply(alloc: Global) -> Result<SProc, NoMemory>
+    ensures { IfOk result (λ p. proc_of p ≡ t.out H.nowhere H.net (t.enc H.nowhere (H.pair (H.name (codes "m")) (H.name (codes "p"))) (H.name (codes "k")))) }
+{
+    let body = Box::new(alloc, pair(alloc, "m", "p")?)?;
+    let key = Box::new(alloc, name(alloc, "k")?)?;
+    Ok(SProc::Out {
+        channel: name(alloc, "net")?,
+        datum: SMsg::Enc {
+            body,
+            key,
+            span: Span { from: 0, to: 0 },
+        },
+        span: Span { from: 0, to: 0 },
+    })
+}
+
+fn answering(alloc: Global) -> Result<SProc, NoMemory>
+    ensures { IfOk result (λ p. proc_of p ≡ H.answering) }
+{
+    let cast = SProc::Cast {
+        whole: name(alloc, "q")?,
+        name: word(alloc, "p")?,
+        ty: proof(alloc)?,
+        then: Box::new(alloc, reply(alloc)?)?,
+        span: Span { from: 0, to: 0 },
+    };
+    let begin = SProc::Begin {
+        label: label(alloc)?,
+        then: Box::new(alloc, cast)?,
+        span: Span { from: 0, to: 0 },
+    };
+    let new = SProc::New {
+        name: word(alloc, "m")?,
+        ty: untrusted(),
+        then: Box::new(alloc, begin)?,
+        span: Span { from: 0, to: 0 },
+    };
+    Ok(SProc::Inp {
+        channel: name(alloc, "net")?,
+        name: word(alloc, "q")?,
+        ty: untrusted(),
+        then: Box::new(alloc, new)?,
+        span: Span { from: 0, to: 0 },
+    })
+}
+
+fn checking(alloc: Global) -> Result<SProc, NoMemory>
+    ensures { IfOk result (λ p. proc_of p ≡ H.checking) }
+{
+    let stop = SProc::Stop {
+        span: Span { from: 0, to: 0 },
+    };
+    let end = SProc::End {
+        label: label(alloc)?,
+        then: Box::new(alloc, stop)?,
+        span: Span { from: 0, to: 0 },
+    };
+    let check = SProc::Check {
+        whole: name(alloc, "n")?,
+        nonce: name(alloc, "p")?,
+        then: Box::new(alloc, end)?,
+        span: Span { from: 0, to: 0 },
+    };
+    Ok(SProc::Split {
+        whole: name(alloc, "x")?,
+        left: word(alloc, "m")?,
+        left_ty: untrusted(),
+        right: word(alloc, "p")?,
+        right_ty: proof(alloc)?,
+        then: Box::new(alloc, check)?,
+        span: Span { from: 0, to: 0 },
+    })
+}
+
+fn asking(alloc: Global) -> Result<SProc, NoMemory>
+    ensures { IfOk result (λ p. proc_of p ≡ H.asking) }
+{
+    let decrypt = SProc::Decrypt {
+        whole: name(alloc, "c")?,
+        name: word(alloc, "x")?,
+        ty: answer_name(alloc)?,
+        key: name(alloc, "k")?,
+        then: Box::new(alloc, checking(alloc)?)?,
+        span: Span { from: 0, to: 0 },
+    };
+    let inp = SProc::Inp {
+        channel: name(alloc, "net")?,
+        name: word(alloc, "c")?,
+        ty: untrusted(),
+        then: Box::new(alloc, decrypt)?,
+        span: Span { from: 0, to: 0 },
+    };
+    let out = SProc::OutThen {
+        channel: name(alloc, "net")?,
+        datum: name(alloc, "n")?,
+        then: Box::new(alloc, inp)?,
+        span: Span { from: 0, to: 0 },
+    };
+    Ok(SProc::New {
+        name: word(alloc, "n")?,
+        ty: untrusted(),
+        then: Box::new(alloc, out)?,
+        span: Span { from: 0, to: 0 },
+    })
+}
+
+/// One session of the handshake.
+pub fn handshake(alloc: Global) -> Result<SProc, NoMemory>
+    ensures { IfOk result (λ p. proc_of p ≡ H.handshake) }
+{
+    let group = SProc::Group {
+        first: Box::new(alloc, answering(alloc)?)?,
+        rest: Box::new(alloc, asking(alloc)?)?,
+        span: Span { from: 0, to: 0 },
+    };
+    let key = STy::Key {
+        part: Box::new(alloc, answer_name(alloc)?)?,
+        span: Span { from: 0, to: 0 },
+    };
+    Ok(SProc::New {
+        name: word(alloc, "k")?,
+        ty: key,
+        then: Box::new(alloc, group)?,
+        span: Span { from: 0, to: 0 },
+    })
+}
+
+/// The declarations of the handshake.
+pub fn declarations(alloc: Global) -> Result<Vec<Decl>, NoMemory>
+    ensures { IfOk result (λ v. map decl_of v.items ≡ H.declarations) }
+{
+    let mut more = Vec::new(alloc);
+    more.push(word(alloc, "b")?)?;
+    more.push(word(alloc, "net")?)?;
+    let mut decls = Vec::new(alloc);
+    decls.push(Decl::Free {
+        first: word(alloc, "a")?,
+        more,
+        span: Span { from: 0, to: 0 },
+    })?;
+    decls.push(Decl::Abbr {
+        name: word(alloc, "Msg")?,
+        ty: answer(alloc)?,
+        span: Span { from: 0, to: 0 },
+    })?;
+    Ok(decls)
+}
