@@ -10,10 +10,10 @@ use spi_tree::{Decl, SMsg, SProc, SWord, Tree};
 use std::alloc::Global;
 use std::test::Fail;
 
-fn word(alloc: Global, spelling: &str, from: u32) -> Result<SWord, NoMemory> {
+fn word(alloc: Global, spelling: &str, span: Span) -> Result<SWord, NoMemory> {
     Ok(SWord {
         word: Text::of(alloc, spelling)?,
-        span: Span { from, to: from + 1 },
+        span,
     })
 }
 
@@ -21,12 +21,12 @@ fn word(alloc: Global, spelling: &str, from: u32) -> Result<SWord, NoMemory> {
 fn unpaid(alloc: Global) -> Result<Tree, NoMemory> {
     let mut decls = Vec::new(alloc);
     decls.push(Decl::Free {
-        first: word(alloc, "a", 5)?,
+        first: word(alloc, "a", Span { from: 5, to: 6 })?,
         more: Vec::new(alloc),
         span: Span { from: 0, to: 7 },
     })?;
     let label = SMsg::Name {
-        name: word(alloc, "a", 20)?,
+        name: word(alloc, "a", Span { from: 20, to: 21 })?,
         span: Span { from: 20, to: 21 },
     };
     let stop = SProc::Stop {
