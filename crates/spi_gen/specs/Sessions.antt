@@ -16,6 +16,7 @@ mutual
 
 -- the file of n sessions
 pub record IsSessions (n : ℕ) (file : t.File) : Type 0 where
+  pub span : file.span ≡ nowhere
   pub version : file.version ≡ 1
   pub decls : file.decls ≡ declarations
   pub process : AreBeside n file.process
