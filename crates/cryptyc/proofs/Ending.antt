@@ -8,7 +8,7 @@ use Rattle.spi_rules.specs.Environment.{untrusted}
 use Rattle.spi_rules.specs.Derivations.{Derivable}
 use Rattle.spi_run.specs.Safety.{RobustlySafe, RobustlySafeMany}
 use Rattle.cryptyc.specs.declared.asked.Command.{Command}
-use Rattle.cryptyc.specs.declared.asked.Command.TheVariants.{Check}
+use Rattle.cryptyc.specs.declared.asked.Command.TheVariants.{Check, Derive, Verify}
 use Rattle.cryptyc.specs.declared.status.Status.{Status}
 use Rattle.cryptyc.specs.declared.status.Status.TheVariants.{Yes, No, Refused, ReadFault, WriteFault, NoMemory, Usage}
 use Rattle.cryptyc.specs.Way.{Seen}
@@ -23,7 +23,7 @@ cut_short None wants old new status output wanted prefix = tt
 cut_short (Some bytes) wants old new status output wanted prefix = (status, output, wanted, prefix)
 
 -- a call in which nothing failed does what is wanted
-completes : (wants : Status → List ℕ → Type 0) (old new : Option (List ℕ)) (status : Status) → ¬ (status ≡ ReadFault) → ¬ (status ≡ WriteFault) → Ends wants old new status → Completes wants old new status
+pub completes : (wants : Status → List ℕ → Type 0) (old new : Option (List ℕ)) (status : Status) → ¬ (status ≡ ReadFault) → ¬ (status ≡ WriteFault) → Ends wants old new status → Completes wants old new status
 completes wants old new Yes read write ends = inr ends
 completes wants old new No read write ends = inr ends
 completes wants old new Refused read write ends = inr ends
@@ -99,6 +99,8 @@ headline none_of one safe command (Some bytes) before after old new status r s t
 yes_is : (command : Option Command) (bytes : List ℕ) (before after : List Seen) (old new : Option (List ℕ)) → Ends (Wants command bytes before after) old new Yes → command ≡ Some Check → SpellsDerivable bytes
 yes_is None bytes before after old new ends is = absurd (cc)
 yes_is (Some Check) bytes before after old new ends is = ends.1.0
+yes_is (Some Derive) bytes before after old new ends is = absurd (cc)
+yes_is (Some Verify) bytes before after old new ends is = absurd (cc)
 
 pub many_to_one : OneFile → Safe RobustlySafeMany → (command : Option Command) (left : Option (List ℕ)) (before after : List Seen) (old new : Option (List ℕ)) (status : Status) → IfSome left (λ bytes. Ends (Wants command bytes before after) old new status) → command ≡ Some Check → IfSome left (λ bytes. status ≡ Yes → IsManySafe bytes)
 many_to_one one safe command None before after old new status ends is = tt

@@ -1,5 +1,5 @@
 -- What is answered on a file.
-use Rattle.std.proofs.Common.{◌≡◌, ◌↔◌, ℕ, List, [], sym, subst, length, reverse, Option, Some, Result, Ok, Err, IfOk, IsNone, ◌≤◌}
+use Rattle.std.proofs.Common.{◌≡◌, ◌↔◌, ℕ, List, [], sym, subst, length, reverse, Option, Some, None, refl, Result, Ok, Err, IfOk, IsNone, ◌≤◌}
 use Rattle.spi_text.specs.declared.lines.Span.{Span}
 use Rattle.spi_scope.specs.declared.file.File.{File}
 use Rattle.spi_scope.specs.Files.{meant, Marked, marked}
@@ -37,6 +37,11 @@ no_line bytes output f fault (tree, is, stands, marks) h e = (
   subst (λ m. output ≡ fault_text bytes (place_of m) (names_of m) fault) marks e,
 )
 
+pub rejects : (bytes : List ℕ) (f : File) (fault : Told) (result : Result Answer Stop) → IsRead bytes f → IsFault (names_of (marked f)) f.process.names f.process.process fault
+    → IfOk result (λ a. (a.status ≡ No) × (a.output.items ≡ fault_text bytes (place_of (marked f)) (names_of (marked f)) fault)) → IfOk result (λ a. (a.status ≡ No) × IsNo bytes a.output.items)
+rejects bytes f fault (Ok a) r is h = (h.0, no_line bytes a.output.items f fault r is h.1)
+rejects bytes f fault (Err e) r is h = tt
+
 -- a no
 pub refused : (bytes : List ℕ) (f : File) (result : Result Answer Stop) → IsRead bytes f → (Derivable (untrusted f.process.names) f.process.process [] → ⊥) → IfOk result (λ a. (a.status ≡ No) × IsNo bytes a.output.items) → IfOk result (λ a. ChecksTo bytes a.status a.output.items)
 refused bytes f (Ok a) (tree, is, stands, marks) none h =
@@ -46,3 +51,6 @@ refused bytes f (Err e) r none h = tt
 
 pub none_derivable : {A : Type 0} (o : Option A) (x : A) (D : Type 0) → o ≡ Some x → IsNone o ↔ D → D → ⊥
 none_derivable o x D e h d = absurd (let n : IsNone (Some x) = subst IsNone e (h.1 d) in cc n)
+
+pub some_derivable : {A : Type 0} (o : Option A) (D : Type 0) → IsNone o ↔ D → (D → ⊥) → o ≡ None → ⊥
+some_derivable o D h none e = none (h.0 (rw e refl))

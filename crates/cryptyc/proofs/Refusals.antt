@@ -34,7 +34,10 @@ use Rattle.cryptyc.specs.declared.read.Unread.{Unread}
 use Rattle.cryptyc.specs.declared.read.Unread.TheVariants as unread
 use Rattle.cryptyc.specs.Reading.{IsUnread, Tells}
 use Rattle.cryptyc.specs.Spelled.{limit, IsTreeOf, SpellsNone}
-use Rattle.cryptyc.specs.Answer.{start_of, scope_number, Refuses, too_long, not_utf8, bad_char, bad_number, name_too_long, syntax, too_deep, out_of_scope, IsRefusal, ChecksTo}
+use Rattle.cryptyc.specs.Answer.{start_of, scope_number, Refuses, too_long, not_utf8, bad_char, bad_number, name_too_long, syntax, too_deep, out_of_scope, IsRefusal, IsPlaceless}
+use Rattle.cryptyc.specs.declared.asked.Command.{Command}
+use Rattle.cryptyc.specs.declared.asked.Command.TheVariants.{Check, Derive, Verify}
+use Rattle.cryptyc.specs.Commands.{AnswersTo}
 
 -- the way of lexemes goes through the bytes
 leads_within : {at to : ℕ} {text rest : List ℕ} {pieces : List Piece} → Leads at text pieces to rest → to + length rest ≡ at + length text
@@ -121,7 +124,7 @@ refused_named never (too_deep l h f) = refl
 refused_named never (out_of_scope {tree = tree} {fault = fault} is f) = scope_named fault (never tree fault f)
 
 -- what spelled pieces tell
-spells_kinds : (e : ℕ) (ps : List Part) (ts : List Token) → Spells [] e ps ts → kinds_in ps ≡ kinds_of ts
+pub spells_kinds : (e : ℕ) (ps : List Part) (ts : List Token) → Spells [] e ps ts → kinds_in ps ≡ kinds_of ts
 spells_kinds e [] ts h = ap kinds_of (sym h)
 spells_kinds e (opens from ∷ ps) [] h = absurd h
 spells_kinds e (opens from ∷ ps) (tok ∷ ts) h = spells_kinds e ps (tok ∷ ts) h.1
@@ -192,8 +195,18 @@ line_of bytes output r number offset shown h n o s e = (r, rw (n, o, s) h, e)
 pub no_place : (bytes others : List ℕ) (r : Refusal) → r.offset ≡ None → refused_text others r ≡ refused_text bytes r
 no_place bytes others r e = rw e refl
 
-pub checks_to : (bytes output : List ℕ) (status : Status) → status ≡ Refused → IsRefusal bytes output → ChecksTo bytes status output
-checks_to bytes output status e h = rw e h
+-- a refusal of the bytes is the answer of each command
+refused_by : (command : Command) (bytes output : List ℕ) → IsRefusal bytes output → AnswersTo command bytes Refused output
+refused_by Check bytes output h = h
+refused_by Derive bytes output h = inl h
+refused_by Verify bytes output h = inl h
+
+pub answers_to : (command : Command) (bytes output : List ℕ) (status : Status) → status ≡ Refused → IsRefusal bytes output → AnswersTo command bytes status output
+answers_to command bytes output status e h = rw e (refused_by command bytes output h)
+
+pub placeless : (bytes shown : List ℕ) (number : ℕ) (r : Refusal) (result : Result Answer Stop) → r.number ≡ number → r.offset ≡ None → r.shown.items ≡ shown → IfOk result (λ a. (a.status ≡ Refused) × (a.output.items ≡ refused_text bytes r)) → IfOk result (λ a. (a.status ≡ Refused) × IsPlaceless bytes number shown a.output.items)
+placeless bytes shown number r (Ok a) n o s is = (is.0, (r, n, o, s, is.1))
+placeless bytes shown number r (Err e) n o s is = tt
 
 -- more bytes than the limit were taken
 pub taken_long : (old new : Option (List ℕ)) → TakesCount old new (limit + 1) → IfSome old (λ bytes. limit < length bytes)
@@ -211,18 +224,18 @@ pub lexed_fault : (bytes : List ℕ) (fault wanted : LexFault) → fault ≡ wan
 lexed_fault bytes fault wanted e other (inl none) = absurd (other (sym e ∙ none))
 lexed_fault bytes fault wanted e other (inr h) = rw (← e) h
 
-pub refused_long : (others : List ℕ) (r : Refusal) (result : Result Answer Stop) → r.number ≡ 2 → r.offset ≡ None → r.shown.items ≡ decimal (limit + 1) → IfOk result (λ a. (a.status ≡ Refused) × (a.output.items ≡ refused_text others r)) → IfOk result (λ a. (bytes : List ℕ) → limit < length bytes → ChecksTo bytes a.status a.output.items)
-refused_long others r (Ok a) n o s is = λ bytes l. checks_to bytes a.output.items a.status is.0 (line_of bytes a.output.items r 2 None (decimal (limit + 1)) (too_long l) n o s (is.1 ∙ no_place bytes others r o))
+pub refused_long : (others : List ℕ) (r : Refusal) (result : Result Answer Stop) → r.number ≡ 2 → r.offset ≡ None → r.shown.items ≡ decimal (limit + 1) → IfOk result (λ a. (a.status ≡ Refused) × (a.output.items ≡ refused_text others r)) → IfOk result (λ a. (command : Command) (bytes : List ℕ) → limit < length bytes → AnswersTo command bytes a.status a.output.items)
+refused_long others r (Ok a) n o s is = λ command bytes l. answers_to command bytes a.output.items a.status is.0 (line_of bytes a.output.items r 2 None (decimal (limit + 1)) (too_long l) n o s (is.1 ∙ no_place bytes others r o))
 refused_long others r (Err e) n o s is = tt
 
-pub refused_as : (bytes : List ℕ) (r : Refusal) (result : Result Answer Stop) → Refuses bytes r.number r.offset r.shown.items → IfOk result (λ a. (a.status ≡ Refused) × (a.output.items ≡ refused_text bytes r)) → IfOk result (λ a. ChecksTo bytes a.status a.output.items)
-refused_as bytes r (Ok a) h is = checks_to bytes a.output.items a.status is.0 (r, h, is.1)
-refused_as bytes r (Err e) h is = tt
+pub refused_as : (command : Command) (bytes : List ℕ) (r : Refusal) (result : Result Answer Stop) → Refuses bytes r.number r.offset r.shown.items → IfOk result (λ a. (a.status ≡ Refused) × (a.output.items ≡ refused_text bytes r)) → IfOk result (λ a. AnswersTo command bytes a.status a.output.items)
+refused_as command bytes r (Ok a) h is = answers_to command bytes a.output.items a.status is.0 (r, h, is.1)
+refused_as command bytes r (Err e) h is = tt
 
-pub answers_long : (left : Option (List ℕ)) (result : Result Answer Stop) → IfSome left (λ bytes. limit < length bytes) → IfOk result (λ a. (bytes : List ℕ) → limit < length bytes → ChecksTo bytes a.status a.output.items) → IfOk result (λ a. IfSome left (λ bytes. ChecksTo bytes a.status a.output.items))
-answers_long None (Ok a) long is = tt
-answers_long (Some bytes) (Ok a) long is = is bytes long
-answers_long left (Err e) long is = tt
+pub answers_long : (command : Command) (left : Option (List ℕ)) (result : Result Answer Stop) → IfSome left (λ bytes. limit < length bytes) → IfOk result (λ a. (command : Command) (bytes : List ℕ) → limit < length bytes → AnswersTo command bytes a.status a.output.items) → IfOk result (λ a. IfSome left (λ bytes. AnswersTo command bytes a.status a.output.items))
+answers_long command None (Ok a) long is = tt
+answers_long command (Some bytes) (Ok a) long is = is command bytes long
+answers_long command left (Err e) long is = tt
 
 -- each token has a byte of its own
 pub tokens_within : (start end : ℕ) (tokens : List Token) → AreSpans start (spans_of tokens) end → length tokens + start ≤ end

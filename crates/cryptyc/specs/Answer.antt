@@ -72,6 +72,11 @@ pub data Refuses (bytes : List ℕ) : ℕ → Option ℕ → List ℕ → Type 0
 abbrev pub IsRefusal : List ℕ → List ℕ → Type 0
 IsRefusal bytes output = (r : Refusal) × Refuses bytes r.number r.offset r.shown.items × (output ≡ refused_text bytes r)
 
+-- the text is the line of a refusal with this number and without a place, which shows this
+abbrev pub IsPlaceless : List ℕ → ℕ → List ℕ → List ℕ → Type 0
+IsPlaceless bytes number shown output =
+    (r : Refusal) × (r.number ≡ number) × (r.offset ≡ None) × (r.shown.items ≡ shown) × (output ≡ refused_text bytes r)
+
 -- where the nodes of a tree's process stand, and how the names in scope there are spelled
 abbrev pub place_at : File → ℕ → Span
 place_at tree i = place_in (places tree.process) i

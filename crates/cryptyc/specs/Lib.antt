@@ -3,5 +3,8 @@ pub mod Way
 pub mod Asked
 pub mod Spelled
 pub mod Answer
+pub mod Deriving
+pub mod Verifying
+pub mod Commands
 pub mod Reading
 pub mod Run

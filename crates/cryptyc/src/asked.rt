@@ -1,5 +1,5 @@
 // What the words of the command line ask for.
-ghost use Rattle.std.specs.Prelude.{◌≡◌, map, string_bytes};
+ghost use Rattle.std.specs.Prelude.{◌≡◌, ℕ, [], ◌∷◌, map, string_bytes};
 ghost use Rattle.cryptyc.specs.Asked.{asked};
 
 /// A command.
@@ -7,6 +7,22 @@ ghost use Rattle.cryptyc.specs.Asked.{asked};
 pub enum Command {
     /// Whether the process of a file is derivable with the empty effect.
     Check,
+    /// The derivation of that, as a listing.
+    Derive,
+    /// Whether the derivation of a file proves that.
+    Verify,
+}
+
+/// The command that is spelled by one word alone.
+fn command_of(word: &str) -> Option<Command>
+    ensures { (players : ℕ) → result ≡ asked (word.now ∷ []) players }
+{
+    match word {
+        "check" => Some(Command::Check),
+        "derive" => Some(Command::Derive),
+        "verify" => Some(Command::Verify),
+        _ => None,
+    }
 }
 
 /// The command that the words spell, where there are so many players, or nothing where they spell none.
@@ -15,7 +31,7 @@ pub fn asked_of(words: &[String], players: usize) -> Option<Command>
 {
     let _ = players;
     match words {
-        [word] if word.as_str() == "check" => Some(Command::Check),
+        [word] => command_of(word.as_str()),
         _ => None,
     }
 }

@@ -1,13 +1,17 @@
-//! Checks a file that is read from standard input, and writes the answer to standard output.
+//! Checks a file that is read from standard input, derives its typing or verifies the derivation that it has, and writes the
+//! answer to standard output.
 #![tactic(auto)]
 
 mod answer;
 mod asked;
 mod check;
+mod derive;
+mod file;
 mod player;
 mod read;
 mod run;
 mod status;
+mod verify;
 
 pub use player::{Menu, Pick, Player};
 pub use read::{Unread, read};

@@ -6,18 +6,20 @@ ghost use Rattle.cryptyc.specs.Way.{seen_of};
 ghost use Rattle.cryptyc.specs.Asked.{asked};
 ghost use Rattle.cryptyc.specs.Spelled.{limit, SpellsFile, SpellsNone, IsManySafe};
 ghost use Rattle.cryptyc.specs.Answer.{Refuses};
-ghost use Rattle.cryptyc.specs.Run.{Wants, IsAnswered, Ends, Completes, IsExact};
+ghost use Rattle.cryptyc.specs.Run.{Wants, IsAnswered, Ends, Completes, IsExact, IsDerived, IsVerified};
 
 use crate::answer::{Answer, Stop, made};
 use crate::asked::{Command, asked_of};
-use crate::check::check;
+use crate::file::on_file;
 use crate::player::Player;
 use crate::status::Status;
+use spi_deriv::one_canonical;
 use spi_io::{Put, Sink, Source, put_all};
 use spi_lex::one_answer;
 use spi_parse::one_placed_tree;
 use spi_scope::one_or_other;
 use spi_sound::{derivable_is_many_safe, derivable_is_safe};
+use spi_spell::derivation_joins;
 use std::alloc::Global;
 
 /// Does what the words ask for: reads a file from the source, writes the answer to the sink, and says how
@@ -37,6 +39,14 @@ pub fn run<S: Source, K: Sink>(
     // And after a yes each endmany event has an earlier begin event.
     ensures many_to_one { asked (map string_bytes words.now) (vec_len players.old) ≡ Some Command.Check → IfSome (S.left source.old) (λ bytes.
         result ≡ Status.Yes → IsManySafe bytes) }
+
+    // What `derive` and `verify` answer, under the same conditions.
+    ensures derive { asked (map string_bytes words.now) (vec_len players.old) ≡ Some Command.Derive → IfSome (S.left source.old) (λ bytes.
+        ¬ Rose (S.faults source.old) (S.faults source.new) → ¬ Rose (K.faults sink.old) (K.faults sink.new) → result ≢ Status.NoMemory
+        → IsDerived bytes (K.holds sink.old) (K.holds sink.new) result) }
+    ensures verify { asked (map string_bytes words.now) (vec_len players.old) ≡ Some Command.Verify → IfSome (S.left source.old) (λ bytes.
+        ¬ Rose (S.faults source.old) (S.faults source.new) → ¬ Rose (K.faults sink.old) (K.faults sink.new) → result ≢ Status.NoMemory
+        → IsVerified bytes result) }
 
     // Where the source tells its bytes, the status is the one that these words and bytes ask for, and its output is appended.
     ensures answer { IfSome (S.left source.old) (λ bytes. Ends (Wants (asked (map string_bytes words.now) (vec_len players.old)) bytes (seen_of (λ b. times b) (λ b. way b) players.old.items) (seen_of (λ b. times b) (λ b. way b) players.new.items)) (K.holds sink.old) (K.holds sink.new) result) }
@@ -66,6 +76,8 @@ pub fn run<S: Source, K: Sink>(
     refused_is_none();
     derivable_is_safe();
     derivable_is_many_safe();
+    one_canonical();
+    derivation_joins();
     run_for(alloc, words, source, sink, players)
 }
 
@@ -143,7 +155,7 @@ fn answer_to<S: Source>(
 {
     let _ = players;
     match command {
-        Some(Command::Check) => check(alloc, source),
-        None => made(alloc, Status::Usage, b"usage: check\n"),
+        Some(command) => on_file(alloc, command, source),
+        None => made(alloc, Status::Usage, b"usage: check | derive | verify\n"),
     }
 }

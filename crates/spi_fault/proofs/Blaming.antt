@@ -23,7 +23,7 @@ use Rattle.spi_fault.specs.declared.fault.Fault.{Fault}
 use Rattle.spi_fault.specs.declared.fault.Reason.{Reason}
 use Rattle.spi_fault.specs.declared.fault.Reason.TheVariants.{Unpaid}
 use Rattle.spi_fault.specs.declared.least.Kind.TheVariants as K
-use Rattle.spi_fault.specs.Faults.{thing, FirstBlocks, FailsFirst, IsLeastText, IsFault, unpaid, fails as fails_at, Told, told, Explains}
+use Rattle.spi_fault.specs.Faults.{thing, FirstBlocks, FailsFirst, IsLeastText, IsFault, unpaid, fails as fails_at, IsUnpaid, unpaid_at_root, TellsUnpaid, Told, told, Explains}
 use Rattle.spi_fault.specs.Trying.{check, IsOf, Asked, Tells, TellsAtom, IsBlamed}
 use Rattle.spi_fault.proofs.Passed.{all_pass}
 use Rattle.spi_fault.proofs.Heads.{asked, checks_at}
@@ -104,13 +104,22 @@ none_left : (es : Effect) → ((a : Term.Atom) → In a es → ⊥) → es ≡ [
 none_left [] h = refl
 none_left (a ∷ es) h = absurd (h a in_first)
 
-pub least_none : (env : Env) (p : Process) (es : Effect) → Least env p es → ((a : Term.Atom) → In a es → ⊤ → ⊥) → Derivable env p []
-least_none env p es l h = subst (λ es. Derivable env p es) (none_left es (λ a i. h a i tt)) l.derivable
+pub nothing_unpaid : (s : ℕ → List (List ℕ)) (es : Effect) → TellsAtom s 0 (IsOf K.Any) es None → es ≡ []
+nothing_unpaid s es h = none_left es (λ a i. h a i tt)
 
-pub unpaid_fault : (s : ℕ → List (List ℕ)) (k : ℕ) (p : Process) (es : Effect) (f : Found) → Least (untrusted k) p es → TellsAtom s 0 (IsOf K.Any) es (Some f) → IsFault s k p (record { reason = Unpaid; node = 0; scope_of = 0; shown = thing f.shown })
-unpaid_fault s k p es f l (place, (a, shown, least)) =
+pub atom_unpaid : (s : ℕ → List (List ℕ)) (es : Effect) (f : Found) → TellsAtom s 0 (IsOf K.Any) es (Some f) → IsUnpaid s es (record { reason = Unpaid; node = 0; scope_of = 0; shown = thing f.shown })
+atom_unpaid s es f (place, (a, shown, least)) =
     let all : IsLeastText (s 0) (λ b. In b es) a = record { is = least.is.0; least = λ b i. least.least b (i, tt) } in
-    subst (λ t. IsFault s k p (record { reason = Unpaid; node = 0; scope_of = 0; shown = t })) (sym shown) (unpaid l all)
+    subst (λ t. IsUnpaid s es (record { reason = Unpaid; node = 0; scope_of = 0; shown = t })) (sym shown) (unpaid_at_root all)
+
+-- the fault of the least effect is that of the process
+least_fault : (s : ℕ → List (List ℕ)) (k : ℕ) (p : Process) (es : Effect) (t : Told) → Least (untrusted k) p es → IsUnpaid s es t → IsFault s k p t
+least_fault s k p es t l (unpaid_at_root least) = unpaid l least
+
+pub left_over : {E : Type 0} (s : ℕ → List (List ℕ)) (k : ℕ) (p : Process) (es : Effect) (result : Result (Option Fault) E) → Least (untrusted k) p es → IfOk result (TellsUnpaid s es) → IfOk result (Explains s k p)
+left_over s k p es (Ok None) l h = subst (λ es. Derivable (untrusted k) p es) h l.derivable
+left_over s k p es (Ok (Some f)) l h = least_fault s k p es (told f) l h
+left_over s k p es (Err e) l h = tt
 
 -- the checks are gone through one by one
 module _ (k : ℕ) (p : Process) (id : ℕ) (env : Env) (checks' : List Declared.Check) where

@@ -95,6 +95,17 @@ pub data IsFault (spelled : ℕ → List (List ℕ)) (k : ℕ) (p : Process) : T
       → FirstBlocks (untrusted k) p n → NodeOf (untrusted k) p n env q → FailsFirst env q c → Shows spelled n env q c s shown
       → IsFault spelled k p (record { reason = reason_of c; node = n; scope_of = s; shown = shown })
 
+-- the fault of an effect of the whole process that isn't empty: an atom of it is shown at the root
+pub data IsUnpaid (spelled : ℕ → List (List ℕ)) (es : Effect) : Told → Type 0 where
+  unpaid_at_root : {a : Atom}
+      → IsLeastText (spelled 0) (λ b. In b es) a
+      → IsUnpaid spelled es (record { reason = Unpaid; node = 0; scope_of = 0; shown = the_atom a })
+
+-- no fault for the empty effect, and else the fault of the effect
+abbrev pub TellsUnpaid : (ℕ → List (List ℕ)) → Effect → Option Fault → Type 0
+TellsUnpaid spelled es None = es ≡ []
+TellsUnpaid spelled es (Some f) = IsUnpaid spelled es (told f)
+
 -- no fault exactly for a process that is derivable with the empty effect, and else its fault
 abbrev pub Explains : (ℕ → List (List ℕ)) → ℕ → Process → Option Fault → Type 0
 Explains spelled k p None = Derivable (untrusted k) p []

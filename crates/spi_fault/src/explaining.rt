@@ -11,7 +11,7 @@ ghost use Rattle.spi_scope.specs.Chains.{chain_at};
 ghost use Rattle.spi_infer.specs.Inferring.{Answers};
 ghost use Rattle.spi_fault.specs.Checks as Checks;
 ghost use Rattle.spi_fault.specs.Checks.{checks as checks_in};
-ghost use Rattle.spi_fault.specs.Faults.{FirstBlocks, IsFault, Explains, told};
+ghost use Rattle.spi_fault.specs.Faults.{FirstBlocks, IsFault, TellsUnpaid, Explains, told};
 ghost use Rattle.spi_fault.specs.Trying.{check as check_of, Fits, IsBlamed};
 
 use crate::check::{Check, checks_of};
@@ -24,10 +24,10 @@ use spi_scope::File;
 use spi_term::Effect;
 use std::alloc::Global;
 
-// The fault of a process with this least effect, where the effect isn't empty.
-fn unpaid(alloc: Global, file: &File, effect: &Effect) -> Result<Option<Fault>, NoMemory>
-    requires { Least (untrusted file.now.process.names) file.now.process.process (effect_of effect.now) }
-    ensures { IfOk result (Explains (λ i. reverse (chain_at file.now.marks.scopes i)) file.now.process.names file.now.process.process) }
+/// The fault of an effect that the file's process has and that nothing pays for: `Unpaid` at the root, with the atom whose
+/// report form is least by its bytes. `None` exactly where the effect has no atom.
+pub fn unpaid(alloc: Global, file: &File, effect: &Effect) -> Result<Option<Fault>, NoMemory>
+    ensures { IfOk result (TellsUnpaid (λ i. reverse (chain_at file.now.marks.scopes i)) (effect_of effect.now)) }
 {
     match shown_atom(alloc, file, 0, Kind::Any, effect)? {
         Some(found) => Ok(Some(Fault {
@@ -38,6 +38,14 @@ fn unpaid(alloc: Global, file: &File, effect: &Effect) -> Result<Option<Fault>, 
         })),
         None => Ok(None),
     }
+}
+
+// The fault of a process with this least effect, where the effect isn't empty.
+fn left_over(alloc: Global, file: &File, effect: &Effect) -> Result<Option<Fault>, NoMemory>
+    requires { Least (untrusted file.now.process.names) file.now.process.process (effect_of effect.now) }
+    ensures { IfOk result (Explains (λ i. reverse (chain_at file.now.marks.scopes i)) file.now.process.names file.now.process.process) }
+{
+    unpaid(alloc, file, effect)
 }
 
 // The first of a node's checks that fails.
@@ -94,7 +102,7 @@ pub fn explain(alloc: Global, file: &File, inferred: &Inferred) -> Result<Option
     ensures exact { IfOk result (λ r. IsNone r ↔ Derivable (untrusted file.now.process.names) file.now.process.process []) }
 {
     match inferred {
-        Inferred::Least(effect) => unpaid(alloc, file, effect),
+        Inferred::Least(effect) => left_over(alloc, file, effect),
         Inferred::Blocked(node) => Ok(Some(blocked(alloc, file, *node)?)),
     }
 }

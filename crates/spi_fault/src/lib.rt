@@ -8,7 +8,7 @@ mod fault;
 mod laws;
 mod least;
 
-pub use explaining::explain;
+pub use explaining::{explain, unpaid};
 pub use fault::{Fault, Reason, Shown};
 pub use laws::blocking_fails_a_check;
 use std::alloc::AllocError;

@@ -1,3 +1,4 @@
 pub mod Names
 pub mod Refused
 pub mod Fault
+pub mod Wrong

@@ -5,10 +5,12 @@ ghost use Rattle.std.specs.Prelude.{◌≡◌, codes};
 
 mod fault;
 mod refusal;
+mod wrong;
 
 pub use fault::no_fault;
 pub use refusal::{Refusal, refused};
 use std::alloc::AllocError;
+pub use wrong::wrong_step;
 
 /// Memory ran out.
 pub type NoMemory = AllocError;

@@ -1,12 +1,5 @@
-use Rattle.cryptyc.proofs.Refusals.{refused_named, refused_within, refused_as}
-use Rattle.cryptyc.proofs.Reading.{first_is_fault}
+use Rattle.cryptyc.proofs.Judging.{refused, none_derivable}
 use Rattle.cryptyc.proofs.check.checked.Goals as goal
 
-pub refusal-requires-clause-named : goal.refusal-requires-clause-named
-refusal-requires-clause-named c = refused_named first_is_fault (rw c.in-Err-Refused.field-0-is at c.in-Err-Refused.ensures.unread)
-
-pub refusal-requires-clause-within : goal.refusal-requires-clause-within
-refusal-requires-clause-within c = refused_within c.faults_stand_at_nodes.ensures (rw c.in-Err-Refused.field-0-is at c.in-Err-Refused.ensures.unread)
-
-pub returns-in-Err-Refused-clause-ok : goal.returns-in-Err-Refused-clause-ok
-returns-in-Err-Refused-clause-ok c = refused_as _ c.in-Err-Refused.r c.refusal.result (rw c.in-Err-Refused.field-0-is at c.in-Err-Refused.ensures.unread) c.refusal.ensures.ok
+pub returns-clause-ok : goal.returns-clause-ok
+returns-clause-ok c = refused c.args.bytes.now c.args.file.now c.rejected.result c.requires.read (none_derivable _ c.in-Some.fault _ c.in-Some.is c.in_ok-explain.ensures.exact) c.rejected.ensures.ok

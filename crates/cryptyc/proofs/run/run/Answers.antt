@@ -1,4 +1,5 @@
 use Rattle.cryptyc.proofs.Ending.{headline, many_to_one}
+use Rattle.cryptyc.proofs.Exact.{derive_ends, verify_ends}
 use Rattle.cryptyc.proofs.run.run.Goals as goal
 
 pub returns-clause-headline : goal.returns-clause-headline
@@ -9,3 +10,13 @@ returns-clause-headline g c =
 pub returns-clause-many_to_one : goal.returns-clause-many_to_one
 returns-clause-many_to_one g c =
     many_to_one c.one_file.ensures c.derivable_is_many_safe.ensures _ _ _ _ _ _ _ c.run_for.ensures.answer
+
+pub returns-clause-derive : goal.returns-clause-derive
+returns-clause-derive g c =
+    let e = c.run_for.ensures in
+    derive_ends c.refused_is_none.ensures c.one_file.ensures c.one_canonical.ensures c.derivation_joins.ensures _ _ _ _ _ _ _ _ _ _ _ e.read_fault e.write_fault e.answer
+
+pub returns-clause-verify : goal.returns-clause-verify
+returns-clause-verify g c =
+    let e = c.run_for.ensures in
+    verify_ends c.refused_is_none.ensures c.one_file.ensures c.derivable_is_safe.ensures c.derivable_is_many_safe.ensures _ _ _ _ _ _ _ _ _ _ _ e.read_fault e.write_fault e.answer
