@@ -86,4 +86,4 @@ new_absent es q n = by (lookup (question_eq q) es) refl
   where
     by : (o : Option Bool) → lookup (question_eq q) es ≡ o → lookup (question_eq q) es ≡ None
     by None h = h
-    by (Some b) h = absurd (n.none b (let g = got_some es q (Some b) (sym h) in g))
+    by (Some b) h = absurd (n.none b (got_some es q (Some b) (sym h)))

@@ -56,7 +56,7 @@ pub record IsNew (es : Entries) (q : Question) : Type 0 where
 pub record EndsWithin (es : Entries) (names : ℕ) : Type 0 where
   pub last : (i : ℕ) (q : Question) (b : Bool) → slice_get es i ≡ Some (q, b) → i + 1 ≡ length es → q.names ≤ names
 
--- what holds of the fields of every judge
+-- what holds of the fields of every judge, with the answers that it keeps
 pub record IsInside (s : Store) (free : ℕ) (ids : List TyId) (es : Entries) : Type 0 where
   pub judge : IsJudge s free ids
   pub answers : AreAnswers s ids es
