@@ -1,0 +1,4 @@
+pub mod Existing
+pub mod Heads
+pub mod Spelled
+pub mod Written
