@@ -10,7 +10,7 @@ use Rattle.spi_rules.specs.Processes.{HasEffect, proc_stop, proc_out, proc_in, p
 use Rattle.spi_rules.specs.Derivations.{RuleUse, uses, type_uses, effect_uses}
 use Rattle.spi_rules.specs.declared.rule.Rule.{Rule}
 use Rattle.spi_rules.specs.declared.rule.Rule.TheVariants.{MsgName, ProcOut, ProcIn, ProcRepeat, ProcSplit, ProcSplitUn, ProcMatch, ProcMatchUn, ProcCase, ProcCaseUn, ProcDecrypt, ProcDecryptUn, ProcCheck, ProcCheckUn, ProcCast, ProcCastUn}
-use Rattle.spi_infer.specs.Forms.{enter, more, on_first, on_rest}
+use Rattle.spi_infer.specs.Forms.{is_nonce, enter, more, on_first, on_rest}
 use Rattle.spi_infer.proofs.Opened.{numbered_prefix, numbered_fork, numbered_leaf}
 use Rattle.spi_deriv.specs.Canonical.{Canonical, IsCanonical}
 use Rattle.spi_deriv.specs.Uses.{message_uses, two_uses, split_uses, select_uses, decrypt_uses, check_uses, case_uses, leaf_uses, prefix_uses, fork_uses, binding, process_uses}
@@ -89,9 +89,9 @@ spelled_are {e} f a (proc_decrypt_un {m = m} {n = n} {p = p} h k d x) c =
     at_two e (Decrypts m un n) p f (type_uses h) (message_uses m f un) (type_uses k) (message_uses n f un) ProcDecryptUn (effect_uses d) (ap (λ o. decrypt_uses o f m n) (sym (un_no_key f a k))) (uses_are f a h) (uses_are f a k) (spelled_are (f ++ un ∷ []) (alike_more f e (un ∷ []) (un ∷ []) a refl) d c.3)
 spelled_are {e} f a (proc_check {m = m} {n = n} {p = p} h d o s r) c =
     let w = nonce_is_nonce f a o in
-    at_prefix e (Checks m n) p f (uses ProcCheck (type_uses h)) (effect_uses d) (ap (uses ProcCheck) (uses_are f a h) ∙ ap (λ o. check_uses o f m n) (sym w.1)) (no_more e p f (effect_uses d) (spelled_are f a d c.1))
+    at_prefix e (Checks m n) p f (uses ProcCheck (type_uses h)) (effect_uses d) (ap (uses ProcCheck) (uses_are f a h) ∙ ap (λ o. check_uses (is_nonce o) f m n) (sym w.1)) (no_more e p f (effect_uses d) (spelled_are f a d c.1))
 spelled_are {e} f a (proc_check_un {m = m} {n = n} {p = p} h k d) c =
-    at_two e (Checks m n) p f (type_uses h) (message_uses m f un) (type_uses k) (message_uses n f un) ProcCheckUn (effect_uses d) (ap (λ o. check_uses o f m n) (sym (un_no_nonce f a k))) (uses_are f a h) (uses_are f a k) (no_more e p f (effect_uses d) (spelled_are f a d c.3))
+    at_two e (Checks m n) p f (type_uses h) (message_uses m f un) (type_uses k) (message_uses n f un) ProcCheckUn (effect_uses d) (ap (λ o. check_uses (is_nonce o) f m n) (sym (un_no_nonce f a k))) (uses_are f a h) (uses_are f a k) (no_more e p f (effect_uses d) (spelled_are f a d c.3))
 spelled_are {e} f a (proc_begin {m = m} {p = p} d l r) c = at_prefix e (Begins m) p f _ (effect_uses d) refl (no_more e p f (effect_uses d) (spelled_are f a d c))
 spelled_are {e} f a (proc_end {m = m} {p = p} d l r) c = at_prefix e (Ends m) p f _ (effect_uses d) refl (no_more e p f (effect_uses d) (spelled_are f a d c))
 spelled_are {e} f a (proc_end_many {m = m} {p = p} d l r) c = at_prefix e (EndManys m) p f _ (effect_uses d) refl (no_more e p f (effect_uses d) (spelled_are f a d c))

@@ -1,12 +1,12 @@
 -- The rule uses of a canonical derivation, computed form by form. Of a type the head alone matters, so the types of the
 -- names in scope stand here as they are written, and what is opened in them doesn't matter.
 use Rattle.std.specs.Prelude.{ℕ, Bool, true, false, List, [], ◌∷◌, ◌++◌, Option, Some, None, slice_get}
-use Rattle.spi_term.specs.Term.{Message, bound, name, unit, pair, in_left, in_right, enc, hash, Effect, Ty, un, unit_ty, pair_ty, sum_ty, key, nonce, Leaf, Sends, Stops, Prefix, Recvs, Serves, Splits, Selects, Decrypts, Checks, Begins, Ends, EndManys, Casts, Makes, Fork, Cases, Pars, Process, leaf, prefix, fork}
+use Rattle.spi_term.specs.Term.{Message, bound, name, unit, pair, in_left, in_right, enc, hash, Ty, un, unit_ty, pair_ty, sum_ty, key, nonce, Leaf, Sends, Stops, Prefix, Recvs, Serves, Splits, Selects, Decrypts, Checks, Begins, Ends, EndManys, Casts, Makes, Fork, Cases, Pars, Process, leaf, prefix, fork}
 use Rattle.spi_rules.specs.Derivations.{RuleUse, uses}
 use Rattle.spi_rules.specs.declared.rule.Rule.{Rule}
 use Rattle.spi_rules.specs.declared.rule.Rule.TheVariants.{MsgName, MsgUnit, MsgUnitUn, MsgPair, MsgPairUn, MsgInl, MsgInlUn, MsgInr, MsgInrUn, MsgEnc, MsgEncUn, MsgHash, ProcStop, ProcOut, ProcIn, ProcRepeat, ProcSplit, ProcSplitUn, ProcMatch, ProcMatchUn, ProcCase, ProcCaseUn, ProcDecrypt, ProcDecryptUn, ProcCheck, ProcCheckUn, ProcBegin, ProcEnd, ProcEndMany, ProcCast, ProcCastUn, ProcNew, ProcPar}
 use Rattle.spi_message.specs.Tests.{key_of, nonce_of}
-use Rattle.spi_infer.specs.Forms.{on_first, on_rest}
+use Rattle.spi_infer.specs.Forms.{is_nonce, on_first, on_rest}
 
 -- the uses of a message's typing, by the type that is wanted
 abbrev pub unit_uses : Ty → List RuleUse
@@ -112,9 +112,9 @@ abbrev pub decrypt_uses : Option Ty → List Ty → Message → Message → List
 decrypt_uses (Some t) e m n = uses ProcDecrypt (message_uses m e un ++ uses MsgName [])
 decrypt_uses None e m n = uses ProcDecryptUn (two_uses e m un n un)
 
-abbrev pub check_uses : Option Effect → List Ty → Message → Message → List RuleUse
-check_uses (Some es) e m n = uses ProcCheck (message_uses m e un)
-check_uses None e m n = uses ProcCheckUn (two_uses e m un n un)
+abbrev pub check_uses : Bool → List Ty → Message → Message → List RuleUse
+check_uses true e m n = uses ProcCheck (message_uses m e un)
+check_uses false e m n = uses ProcCheckUn (two_uses e m un n un)
 
 abbrev pub cast_rule : Ty → Rule
 cast_rule un = ProcCastUn
@@ -138,7 +138,7 @@ prefix_uses e (Serves m t) = uses ProcRepeat (message_uses m e un)
 prefix_uses e (Splits m t u) = split_uses (is_pair e m) e m t u
 prefix_uses e (Selects m t n u) = select_uses (is_pair e m) e m t n u
 prefix_uses e (Decrypts m t n) = decrypt_uses (key_of e n) e m n
-prefix_uses e (Checks m n) = check_uses (nonce_of e n) e m n
+prefix_uses e (Checks m n) = check_uses (is_nonce (nonce_of e n)) e m n
 prefix_uses e (Begins m) = uses ProcBegin []
 prefix_uses e (Ends m) = uses ProcEnd []
 prefix_uses e (EndManys m) = uses ProcEndMany []

@@ -1,12 +1,18 @@
 //! Typing derivations of accepted processes, and their text.
 #![tactic(auto)]
 
-ghost use Rattle.std.specs.Prelude.{◌≡◌, ℕ, List};
-ghost use Rattle.spi_term.specs.Term.{Process as ProcessTerm};
-ghost use Rattle.spi_rules.specs.Derivations.{RuleUse as RuleUseTerm};
-ghost use Rattle.spi_deriv.specs.Canonical.{Canonical};
+mod agenda;
+mod choosing;
+mod derivation;
+mod laws;
+mod messages;
+mod seeing;
+mod writing;
 
-/// A process has one canonical derivation at most.
-pub fn one_canonical()
-    ensures { (k : ℕ) (p : ProcessTerm) (d e : List RuleUseTerm) → Canonical d k p → Canonical e k p → d ≡ e }
-{}
+pub use derivation::derive;
+pub use laws::one_canonical;
+use std::alloc::AllocError;
+pub use writing::write;
+
+/// Memory ran out.
+pub type NoMemory = AllocError;
