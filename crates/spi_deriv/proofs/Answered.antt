@@ -1,6 +1,6 @@
 -- From the least effect to the answer.
-use Rattle.std.proofs.Common.{◌≡◌, ℕ, ◌<◌, ◌≤◌, List, [], ◌∷◌, length, map, refl, sym, ap, ◌∙◌, subst, arith}
-use Rattle.spi_term.specs.Term.{Atom, Effect, Process}
+use Rattle.std.proofs.Common.{◌≡◌, ℕ, List, [], ◌∷◌, refl, sym, ap, ◌∙◌, subst}
+use Rattle.spi_term.specs.Term.{Effect, Process}
 use Rattle.spi_term.specs.Lists.{in_first}
 use Rattle.spi_term.specs.Spelling.{numbered}
 use Rattle.spi_effect.specs.Effect.{Within}
@@ -13,7 +13,7 @@ use Rattle.spi_rules.proofs.Paying.{has_pays}
 use Rattle.spi_infer.proofs.Descending.{length_untrusted}
 use Rattle.spi_deriv.specs.Canonical.{Canonical, IsCanonical}
 use Rattle.spi_deriv.specs.Uses.{process_uses}
-use Rattle.spi_deriv.proofs.Existing.{Chosen, chosen}
+use Rattle.spi_deriv.proofs.Existing.{chosen}
 use Rattle.spi_deriv.proofs.Spelled.{spelled_are}
 
 -- what is within nothing is nothing

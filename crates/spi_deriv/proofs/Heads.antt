@@ -1,13 +1,12 @@
 -- Types without the effects in them, and what is seen of types that are the same so.
-use Rattle.std.proofs.Common.{◌≡◌, ℕ, zero, suc, true, false, List, [], ◌∷◌, ◌++◌, Option, Some, None, map, refl, sym, ap, ◌∙◌}
+use Rattle.std.proofs.Common.{◌≡◌, ℕ, zero, suc, List, [], ◌∷◌, ◌++◌, Some, map, refl, sym, ap, ◌∙◌}
 use Rattle.std.specs.Prelude.{slice_get}
 use Rattle.std.proofs.lemmas.List.{map-append}
 use Rattle.spi_term.specs.Term.{Message, bound, name, unit, pair, in_left, in_right, enc, hash, Effect, Ty, un, unit_ty, pair_ty, sum_ty, key, nonce}
 use Rattle.spi_term.specs.Substitution.{ty_map}
 use Rattle.spi_rules.specs.Derivations.{RuleUse, uses}
-use Rattle.spi_rules.specs.declared.rule.Rule.TheVariants.{MsgPair, MsgPairUn, MsgInl, MsgInlUn, MsgInr, MsgInrUn, MsgEnc, MsgEncUn}
-use Rattle.spi_message.specs.Tests.{key_in, key_of}
-use Rattle.spi_deriv.specs.Uses.{unit_uses, pair_uses, left_uses, right_uses, enc_uses, message_uses}
+use Rattle.spi_rules.specs.declared.rule.Rule.TheVariants.{MsgPair, MsgInl, MsgInr}
+use Rattle.spi_deriv.specs.Uses.{unit_uses, pair_uses, left_uses, right_uses, message_uses}
 
 -- a type without its effects
 abbrev pub bare : Ty → Ty

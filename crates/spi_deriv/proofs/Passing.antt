@@ -1,9 +1,9 @@
 -- The way through the nodes of a process, against the process.
-use Rattle.std.proofs.Common.{◌≡◌, ℕ, zero, suc, ◌+◌, ◌-◌, ◌<◌, ◌≤◌, List, [], ◌∷◌, ◌++◌, Some, replicate, length, take, drop, refl, sym, ap, ◌∙◌, subst, arith, append-nil, append_assoc, length-append}
+use Rattle.std.proofs.Common.{◌≡◌, ℕ, suc, ◌+◌, ◌-◌, ◌≤◌, List, [], ◌∷◌, ◌++◌, Some, replicate, length, take, drop, refl, sym, ap, ◌∙◌, subst, arith, append-nil, append_assoc, length-append}
 use Rattle.std.specs.Prelude.{slice_get}
 use Rattle.std.proofs.Math.Seq.{take-length}
 use Rattle.std.proofs.lemmas.List.{take-take, take-append-le, length-take-le, drop_all}
-use Rattle.spi_term.specs.Term.{Ty, un, Leaf, Prefix, Fork, Cases, Pars, Process, leaf, prefix, fork, binds, fork_binds, process_size, Recvs, Serves, Splits, Selects, Decrypts, Checks, Begins, Ends, EndManys, Casts, Makes}
+use Rattle.spi_term.specs.Term.{Ty, un, Leaf, Prefix, Fork, Process, leaf, prefix, fork, binds, fork_binds, process_size, Recvs, Serves, Splits, Selects, Decrypts, Checks, Begins, Ends, EndManys, Casts, Makes}
 use Rattle.spi_term.specs.Spelling.{Shape, leaf_at, prefix_at, fork_at, flat, numbered, spelled}
 use Rattle.spi_term.specs.Arena.{scope_of}
 use Rattle.spi_rules.specs.Environment.{untrusted}
@@ -90,29 +90,33 @@ module _ (ss : List Shape) (all : List RuleUse) (i : ℕ) (e : List Ty) (bs : Li
   Next x = (scope_of x ≡ length e) × Passes ss all (i + 1) e (next x ++ bs) (us ++ node_uses e x)
 
   next_leaf : (l : Leaf) → drop (i + 1) ss ≡ nodes_of (i + 1) ts → us ++ (leaf_uses e l ++ uses_of ts) ≡ all → Next (leaf_at (length e) l)
-  next_leaf l h u =
-      (refl, record {
-        tasks = ts;
-        are = more;
-        nodes = h;
-        uses = append_assoc us (leaf_uses e l) (uses_of ts) ∙ u;
-      })
+  next_leaf l h u = (
+    refl,
+    record {
+      tasks = ts;
+      are = more;
+      nodes = h;
+      uses = append_assoc us (leaf_uses e l) (uses_of ts) ∙ u;
+    },
+  )
 
   next_prefix : (s : Prefix) (p : Process) → drop (i + 1) ss ≡ flat (suc i) (length e + binds s) p ++ nodes_of (i + suc (process_size p)) ts → us ++ ((prefix_uses e s ++ process_uses p (e ++ binding s)) ++ uses_of ts) ≡ all → Next (prefix_at (length e) s (suc i))
   next_prefix s p h u =
       let f = e ++ binding s in
       let a : suc i ≡ i + 1 = omega arith in
       let n : length e + binds s ≡ length f = omega (arith, length-append e (binding s), length_binding s) in
-      let z : i + suc (process_size p) ≡ i + 1 + process_size p = omega arith in
-      (refl, record {
-        tasks = task p f ∷ ts;
-        are = tasks_next {k = length e} (omega arith) (whole e (binding s)) more;
-        nodes = h ∙ ap (λ l. l ++ nodes_of (i + suc (process_size p)) ts) (flat_at p a n) ∙ ap (λ l. flat (i + 1) (length f) p ++ l) (nodes_at ts z);
-        uses =
-            append_assoc us (prefix_uses e s) (process_uses p f ++ uses_of ts)
-            ∙ ap (λ l. us ++ l) (sym (append_assoc (prefix_uses e s) (process_uses p f) (uses_of ts)))
-            ∙ u;
-      })
+      let z : i + suc (process_size p) ≡ i + 1 + process_size p = omega arith in (
+        refl,
+        record {
+          tasks = task p f ∷ ts;
+          are = tasks_next {k = length e} (omega arith) (whole e (binding s)) more;
+          nodes = h ∙ ap (λ l. l ++ nodes_of (i + suc (process_size p)) ts) (flat_at p a n) ∙ ap (λ l. flat (i + 1) (length f) p ++ l) (nodes_at ts z);
+          uses =
+              append_assoc us (prefix_uses e s) (process_uses p f ++ uses_of ts)
+              ∙ ap (λ l. us ++ l) (sym (append_assoc (prefix_uses e s) (process_uses p f) (uses_of ts)))
+              ∙ u;
+        },
+      )
 
   next_fork : (f : Fork) (p q : Process) → drop (i + 1) ss ≡ (flat (suc i) (length e + fork_binds f) p ++ flat (suc i + process_size p) (length e + fork_binds f) q) ++ nodes_of (i + suc (process_size p + process_size q)) ts → us ++ ((fork_uses e f ++ (process_uses p (e ++ on_first f) ++ process_uses q (e ++ on_rest f))) ++ uses_of ts) ≡ all → Next (fork_at (length e) f (suc i) (suc i + process_size p))
   next_fork f p q h u =
@@ -126,22 +130,24 @@ module _ (ss : List Shape) (all : List RuleUse) (i : ℕ) (e : List Ty) (bs : Li
       let fp = flat (suc i) (length e + fork_binds f) p in
       let fq = flat (suc i + process_size p) (length e + fork_binds f) q in
       let up = process_uses p g in
-      let uq = process_uses q k in
-      (refl, record {
-        tasks = task p g ∷ (task q k ∷ ts);
-        are = tasks_next {k = length e} (omega arith) (whole e (on_first f)) (tasks_next {k = length e} (omega arith) (whole e (on_rest f)) more);
-        nodes =
-            h
-            ∙ append_assoc fp fq (nodes_of (i + suc (process_size p + process_size q)) ts)
-            ∙ ap (λ l. l ++ (fq ++ nodes_of (i + suc (process_size p + process_size q)) ts)) (flat_at p a n)
-            ∙ ap (λ l. flat (i + 1) (length g) p ++ (l ++ nodes_of (i + suc (process_size p + process_size q)) ts)) (flat_at q c m)
-            ∙ ap (λ l. flat (i + 1) (length g) p ++ (flat (i + 1 + process_size p) (length k) q ++ l)) (nodes_at ts z);
-        uses =
-            append_assoc us (fork_uses e f) (up ++ (uq ++ uses_of ts))
-            ∙ ap (λ l. us ++ (fork_uses e f ++ l)) (sym (append_assoc up uq (uses_of ts)))
-            ∙ ap (λ l. us ++ l) (sym (append_assoc (fork_uses e f) (up ++ uq) (uses_of ts)))
-            ∙ u;
-      })
+      let uq = process_uses q k in (
+        refl,
+        record {
+          tasks = task p g ∷ (task q k ∷ ts);
+          are = tasks_next {k = length e} (omega arith) (whole e (on_first f)) (tasks_next {k = length e} (omega arith) (whole e (on_rest f)) more);
+          nodes =
+              h
+              ∙ append_assoc fp fq (nodes_of (i + suc (process_size p + process_size q)) ts)
+              ∙ ap (λ l. l ++ (fq ++ nodes_of (i + suc (process_size p + process_size q)) ts)) (flat_at p a n)
+              ∙ ap (λ l. flat (i + 1) (length g) p ++ (l ++ nodes_of (i + suc (process_size p + process_size q)) ts)) (flat_at q c m)
+              ∙ ap (λ l. flat (i + 1) (length g) p ++ (flat (i + 1 + process_size p) (length k) q ++ l)) (nodes_at ts z);
+          uses =
+              append_assoc us (fork_uses e f) (up ++ (uq ++ uses_of ts))
+              ∙ ap (λ l. us ++ (fork_uses e f ++ l)) (sym (append_assoc up uq (uses_of ts)))
+              ∙ ap (λ l. us ++ l) (sym (append_assoc (fork_uses e f) (up ++ uq) (uses_of ts)))
+              ∙ u;
+        },
+      )
 
   next_by : (q : Process) (x : Shape) → x ∷ drop (i + 1) ss ≡ nodes_of i (task q e ∷ ts) → us ++ (process_uses q e ++ uses_of ts) ≡ all → Next x
   next_by (leaf l) x h u =

@@ -1,10 +1,9 @@
 -- The rule uses of each canonical typing of a process are those that its nodes give.
-use Rattle.std.proofs.Common.{◌≡◌, ℕ, suc, Bool, true, false, List, [], ◌∷◌, ◌++◌, Option, Some, None, length, map, refl, sym, ap, ◌∙◌, subst, append-nil, append_assoc}
-use Rattle.spi_term.specs.Term.{Message, name, Effect, Ty, un, unit_ty, pair_ty, sum_ty, key, nonce, Leaf, Sends, Stops, Prefix, Recvs, Serves, Splits, Selects, Decrypts, Checks, Begins, Ends, EndManys, Casts, Makes, Fork, Cases, Pars, Process, leaf, prefix, fork, binds, fork_binds}
+use Rattle.std.proofs.Common.{◌≡◌, ℕ, List, [], ◌∷◌, ◌++◌, length, map, refl, sym, ap, ◌∙◌, subst, append-nil, append_assoc}
+use Rattle.spi_term.specs.Term.{Message, name, Effect, Ty, un, pair_ty, nonce, Leaf, Sends, Stops, Prefix, Recvs, Serves, Splits, Selects, Decrypts, Checks, Begins, Ends, EndManys, Casts, Makes, Fork, Cases, Pars, Process, leaf, prefix, fork, binds, fork_binds}
 use Rattle.spi_term.specs.Substitution.{put, ty_put}
 use Rattle.spi_term.specs.Spelling.{numbered}
 use Rattle.spi_rules.specs.Environment.{Env, untrusted}
-use Rattle.spi_rules.specs.Messages.{HasType}
 use Rattle.spi_rules.specs.Good.{good_un, good_pair}
 use Rattle.spi_rules.specs.Processes.{HasEffect, proc_stop, proc_out, proc_in, proc_repeat, proc_split, proc_split_un, proc_match, proc_match_un, proc_case, proc_case_un, proc_decrypt, proc_decrypt_un, proc_check, proc_check_un, proc_begin, proc_end, proc_end_many, proc_cast, proc_cast_un, proc_new, proc_par, proc_sub}
 use Rattle.spi_rules.specs.Derivations.{RuleUse, uses, type_uses, effect_uses}
@@ -13,7 +12,7 @@ use Rattle.spi_rules.specs.declared.rule.Rule.TheVariants.{MsgName, ProcOut, Pro
 use Rattle.spi_infer.specs.Forms.{is_nonce, enter, more, on_first, on_rest}
 use Rattle.spi_infer.proofs.Opened.{numbered_prefix, numbered_fork, numbered_leaf}
 use Rattle.spi_deriv.specs.Canonical.{Canonical, IsCanonical}
-use Rattle.spi_deriv.specs.Uses.{message_uses, two_uses, split_uses, select_uses, decrypt_uses, check_uses, case_uses, leaf_uses, prefix_uses, fork_uses, binding, process_uses}
+use Rattle.spi_deriv.specs.Uses.{message_uses, split_uses, select_uses, decrypt_uses, check_uses, case_uses, leaf_uses, prefix_uses, fork_uses, binding, process_uses}
 use Rattle.spi_deriv.proofs.Heads.{bare, bare_map, Alike, alike_more}
 use Rattle.spi_deriv.proofs.Written.{un_no_key, un_no_nonce, un_no_pair, un_no_sum, pair_is_pair, sum_is_sum, key_is_key, nonce_is_nonce, uses_are}
 

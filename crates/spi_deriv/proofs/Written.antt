@@ -1,18 +1,18 @@
 -- The rule uses of each typing of a message, and what the head of a type tells of a message that has it.
-use Rattle.std.proofs.Common.{◌≡◌, ℕ, true, false, List, [], ◌∷◌, ◌++◌, Option, Some, None, map, refl, sym, ap, ◌∙◌, subst}
-use Rattle.std.specs.Prelude.{slice_get, ⊤}
-use Rattle.spi_term.specs.Lists.{At, In}
+use Rattle.std.proofs.Common.{◌≡◌, ℕ, true, false, List, [], ◌++◌, Some, None, refl, sym, ap, ◌∙◌}
+use Rattle.std.specs.Prelude.{slice_get}
+use Rattle.spi_term.specs.Lists.{At}
 use Rattle.spi_term.proofs.Lists.{at_get, at_unique}
-use Rattle.spi_term.specs.SameTy.{SameTy, same_un, same_unit, same_pair, same_sum, same_key, same_nonce}
-use Rattle.spi_term.specs.Term.{Message, bound, name, unit, pair, in_left, in_right, enc, hash, Effect, Ty, un, unit_ty, pair_ty, sum_ty, key, nonce}
+use Rattle.spi_term.specs.SameTy.{same_un, same_pair, same_sum, same_key}
+use Rattle.spi_term.specs.Term.{Message, name, enc, Effect, Ty, un, pair_ty, sum_ty, key, nonce}
 use Rattle.spi_term.specs.Substitution.{put, ty_put}
 use Rattle.spi_rules.specs.Environment.{Env}
 use Rattle.spi_rules.specs.Messages.{HasType, msg_name, msg_unit, msg_unit_un, msg_pair, msg_pair_un, msg_inl, msg_inl_un, msg_inr, msg_inr_un, msg_enc, msg_enc_un, msg_hash, msg_cast}
 use Rattle.spi_rules.specs.Processes.{IsNonce, nonce_name, nonce_cast}
-use Rattle.spi_rules.specs.Derivations.{RuleUse, uses, type_uses}
+use Rattle.spi_rules.specs.Derivations.{uses, type_uses}
 use Rattle.spi_rules.specs.declared.rule.Rule.TheVariants.{MsgName, MsgPair, MsgPairUn, MsgInl, MsgInlUn, MsgInr, MsgInrUn, MsgEnc, MsgEncUn}
 use Rattle.spi_message.specs.Tests.{key_in, key_of, nonce_in, nonce_of}
-use Rattle.spi_deriv.specs.Canonical.{IsTypedMessage, HasNoTypedMessage, IsCanonicalMessage}
+use Rattle.spi_deriv.specs.Canonical.{IsTypedMessage, IsCanonicalMessage}
 use Rattle.spi_deriv.specs.Uses.{enc_uses, message_uses, is_pair_ty, is_pair, is_sum_ty, is_sum}
 use Rattle.spi_deriv.proofs.Heads.{bare, bare_map, bare_un, bare_pair, bare_sum, bare_key, bare_nonce, Alike, seen, same_uses}
 

@@ -1,6 +1,6 @@
 -- What is to be done on the way through the nodes: for each process that is left, the types of the names that its form
 -- binds there.
-use Rattle.std.specs.Prelude.{◌≡◌, ℕ, suc, ◌-◌, List, [], ◌∷◌, ◌++◌, length, map, reverse, take}
+use Rattle.std.specs.Prelude.{◌≡◌, ℕ, ◌-◌, List, [], ◌∷◌, ◌++◌, length, map, reverse, take}
 use denote.Ref.{Bor}
 use Rattle.spi_term.specs.Term as Term
 use Rattle.spi_term.specs.declared.term.Ty.{Ty}

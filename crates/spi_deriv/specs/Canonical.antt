@@ -2,7 +2,7 @@
 -- derivations.
 use Rattle.std.specs.Prelude.{◌≡◌, ℕ, List, [], length, ⊤}
 use Rattle.spi_term.specs.Names.{ProcessOver}
-use Rattle.spi_term.specs.Term.{Message, enc, Effect, Ty, un, Process, split, select, branch, decrypt, check}
+use Rattle.spi_term.specs.Term.{Message, enc, Effect, Ty, un, Process}
 use Rattle.spi_rules.specs.Environment.{Env, untrusted}
 use Rattle.spi_rules.specs.Messages.{HasType, msg_name, msg_unit, msg_unit_un, msg_pair, msg_pair_un, msg_inl, msg_inl_un, msg_inr, msg_inr_un, msg_enc, msg_enc_un, msg_hash, msg_cast}
 use Rattle.spi_rules.specs.Processes.{HasEffect, proc_stop, proc_out, proc_in, proc_repeat, proc_split, proc_split_un, proc_match, proc_match_un, proc_case, proc_case_un, proc_decrypt, proc_decrypt_un, proc_check, proc_check_un, proc_begin, proc_end, proc_end_many, proc_cast, proc_cast_un, proc_new, proc_par, proc_sub}

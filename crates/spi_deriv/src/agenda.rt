@@ -63,10 +63,7 @@ pub fn settle<'a>(
     }
 }
 
-fn push_binding<'a>(
-    binding: Binding<'a>,
-    pending: &mut Vec<Binding<'a>>,
-) -> Result<(), NoMemory>
+fn push_binding<'a>(binding: Binding<'a>, pending: &mut Vec<Binding<'a>>) -> Result<(), NoMemory>
     ensures { OnOk result (tops pending.new.items ≡ bound_types binding.entry ∷ tops pending.old.items) }
 {
     pending.push(binding)?;

@@ -10,8 +10,8 @@ ghost use Rattle.spi_deriv.specs.Agenda.{types_of, node_uses};
 ghost use Rattle.spi_deriv.specs.Uses.{is_pair, is_sum, split_uses, select_uses, decrypt_uses, check_uses, cast_rule, case_uses};
 
 use crate::NoMemory;
-use crate::messages::{push_both, push_message, push_one, push_paired, push_rule, push_sided};
-use crate::seeing::{is_nonce_name, is_paired, is_sided, payload};
+use crate::messages::{push_at_pair, push_at_sum, push_both, push_message, push_one, push_rule};
+use crate::seeing::{is_nonce_name, is_pair, is_sum, payload};
 use spi_rules::{Rule, RuleUse};
 use spi_term::{Form, Msg, Node, Ty};
 
@@ -24,9 +24,9 @@ fn push_split(
 ) -> Result<(), NoMemory>
     ensures { OnOk result (map rule_use out.new.items ≡ map rule_use out.old.items ++ split_uses (is_pair (types_of types.now) (message whole.now)) (types_of types.now) (message whole.now) (type_of first.now) (type_of second.now)) }
 {
-    if is_paired(types, whole) {
+    if is_pair(types, whole) {
         push_rule(Rule::ProcSplit, out)?;
-        push_paired(whole, first, second, types, out)
+        push_at_pair(whole, first, second, types, out)
     } else {
         push_one(Rule::ProcSplitUn, whole, &Ty::Un, types, out)
     }
@@ -42,12 +42,20 @@ fn push_select(
 ) -> Result<(), NoMemory>
     ensures { OnOk result (map rule_use out.new.items ≡ map rule_use out.old.items ++ select_uses (is_pair (types_of types.now) (message whole.now)) (types_of types.now) (message whole.now) (type_of first.now) (message equal.now) (type_of second.now)) }
 {
-    if is_paired(types, whole) {
+    if is_pair(types, whole) {
         push_rule(Rule::ProcMatch, out)?;
-        push_paired(whole, first, second, types, out)?;
+        push_at_pair(whole, first, second, types, out)?;
         push_message(equal, first, types, out)
     } else {
-        push_both(Rule::ProcMatchUn, whole, &Ty::Un, equal, &Ty::Un, types, out)
+        push_both(
+            Rule::ProcMatchUn,
+            whole,
+            &Ty::Un,
+            equal,
+            &Ty::Un,
+            types,
+            out,
+        )
     }
 }
 
@@ -60,9 +68,9 @@ fn push_case(
 ) -> Result<(), NoMemory>
     ensures { OnOk result (map rule_use out.new.items ≡ map rule_use out.old.items ++ case_uses (is_sum (types_of types.now) (message whole.now)) (types_of types.now) (message whole.now) (type_of left.now) (type_of right.now)) }
 {
-    if is_sided(types, whole) {
+    if is_sum(types, whole) {
         push_rule(Rule::ProcCase, out)?;
-        push_sided(whole, left, right, types, out)
+        push_at_sum(whole, left, right, types, out)
     } else {
         push_one(Rule::ProcCaseUn, whole, &Ty::Un, types, out)
     }
@@ -81,7 +89,15 @@ fn push_decrypt(
             push_one(Rule::ProcDecrypt, whole, &Ty::Un, types, out)?;
             push_rule(Rule::MsgName, out)
         }
-        None => push_both(Rule::ProcDecryptUn, whole, &Ty::Un, key, &Ty::Un, types, out),
+        None => push_both(
+            Rule::ProcDecryptUn,
+            whole,
+            &Ty::Un,
+            key,
+            &Ty::Un,
+            types,
+            out,
+        ),
     }
 }
 
@@ -96,7 +112,15 @@ fn push_check(
     if is_nonce_name(types, nonce) {
         push_one(Rule::ProcCheck, whole, &Ty::Un, types, out)
     } else {
-        push_both(Rule::ProcCheckUn, whole, &Ty::Un, nonce, &Ty::Un, types, out)
+        push_both(
+            Rule::ProcCheckUn,
+            whole,
+            &Ty::Un,
+            nonce,
+            &Ty::Un,
+            types,
+            out,
+        )
     }
 }
 

@@ -94,7 +94,8 @@ fn derive_by(alloc: Global, process: &Process, least: &Effect) -> Result<Option<
 }
 
 /// The canonical derivation that the process, whose free names are untrusted, has the empty effect, and none exactly
-/// where there is no derivation of that.
+/// where there is no derivation of that. It has no use of `ProcSub`. Inference comes first, and then one visit of each
+/// node. Its only error is NoMemory.
 pub fn derive(alloc: Global, process: &Process) -> Result<Option<Deriv>, NoMemory>
     ensures some { IfOk result (λ d. IsSome d ↔ Derivable (untrusted process.now.names) process.now.process []) }
     ensures canonical { IfOk result (λ d. IfSome d (λ d. Canonical (rule_uses d) process.now.names process.now.process)) }

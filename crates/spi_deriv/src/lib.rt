@@ -16,3 +16,6 @@ pub use writing::write;
 
 /// Memory ran out.
 pub type NoMemory = AllocError;
+
+#[cfg(test)]
+mod tests;

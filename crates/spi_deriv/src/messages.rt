@@ -88,12 +88,7 @@ pub fn push_one(
 }
 
 #[cycle(message)]
-fn push_left(
-    a: &Msg,
-    wanted: &Ty,
-    types: &[&Ty],
-    out: &mut Vec<RuleUse>,
-) -> Result<(), NoMemory>
+fn push_left(a: &Msg, wanted: &Ty, types: &[&Ty], out: &mut Vec<RuleUse>) -> Result<(), NoMemory>
     ensures { OnOk result (map rule_use out.new.items ≡ map rule_use out.old.items ++ left_uses (message_uses (message a.now) (types_of types.now)) (type_of wanted.now)) }
 {
     match wanted {
@@ -107,12 +102,7 @@ fn push_left(
 }
 
 #[cycle(message)]
-fn push_right(
-    a: &Msg,
-    wanted: &Ty,
-    types: &[&Ty],
-    out: &mut Vec<RuleUse>,
-) -> Result<(), NoMemory>
+fn push_right(a: &Msg, wanted: &Ty, types: &[&Ty], out: &mut Vec<RuleUse>) -> Result<(), NoMemory>
     ensures { OnOk result (map rule_use out.new.items ≡ map rule_use out.old.items ++ right_uses (message_uses (message a.now) (types_of types.now)) (type_of wanted.now)) }
 {
     match wanted {
@@ -158,7 +148,7 @@ pub fn push_message(
 }
 
 /// The uses of the message's typing at a pair type with these parts.
-pub fn push_paired(
+pub fn push_at_pair(
     m: &Msg,
     first: &Ty,
     second: &Ty,
@@ -180,7 +170,7 @@ pub fn push_paired(
 }
 
 /// The uses of the message's typing at a sum type with these sides.
-pub fn push_sided(
+pub fn push_at_sum(
     m: &Msg,
     left: &Ty,
     right: &Ty,

@@ -103,7 +103,7 @@ fn is_pair_type(t: &Ty) -> bool
 }
 
 /// Whether the message is a pair, or a name of a pair type.
-pub fn is_paired(types: &[&Ty], m: &Msg) -> bool
+pub fn is_pair(types: &[&Ty], m: &Msg) -> bool
     ensures { result ≡ is_pair (types_of types.now) (message m.now) }
 {
     match m {
@@ -135,7 +135,7 @@ fn is_sum_type(t: &Ty) -> bool
 }
 
 /// Whether the message is a side of a sum, or a name of a sum type.
-pub fn is_sided(types: &[&Ty], m: &Msg) -> bool
+pub fn is_sum(types: &[&Ty], m: &Msg) -> bool
     ensures { result ≡ is_sum (types_of types.now) (message m.now) }
 {
     match m {

@@ -172,7 +172,9 @@ fn put_uses(alloc: Global, uses: &[RuleUse], out: &mut Vec<u8>) -> Result<(), No
     Ok(())
 }
 
-/// The text of a derivation: a line for each rule use, in preorder.
+/// The text of a derivation: the line `derivation`, and a line for each rule use, in preorder. A use of `ProcSub` has its
+/// effect behind a space, as `ProcSub [end #0, check (#1, #2)]`, with `#` and its number for each name. The place of a
+/// binder has no text. Its only error is NoMemory.
 pub fn write(alloc: Global, d: &Deriv) -> Result<Vec<u8>, NoMemory>
     ensures { IfOk result (λ text. text.items ≡ derivation_text (rule_uses d.now)) }
 {

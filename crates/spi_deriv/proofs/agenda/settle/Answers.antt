@@ -1,6 +1,4 @@
 use Rattle.std.proofs.lemmas.Result.{on_ok_weaker}
-use Rattle.spi_deriv.proofs.Passing.{passes_next}
-use Rattle.spi_deriv.proofs.Answered.{derived}
 use Rattle.spi_deriv.proofs.Stacked.{settled}
 use Rattle.spi_deriv.proofs.agenda.settle.Goals as goal
 
