@@ -1,0 +1,8 @@
+pub mod Answered
+pub mod Existing
+pub mod Heads
+pub mod Passing
+pub mod Spelled
+pub mod Stacked
+pub mod Texts
+pub mod Written

@@ -1,0 +1,4 @@
+pub mod Agenda
+pub mod Canonical
+pub mod Text
+pub mod Uses

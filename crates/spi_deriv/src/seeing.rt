@@ -1,0 +1,154 @@
+// What is seen of a message, by its form and the type of a name.
+
+ghost use Rattle.std.specs.Prelude.{◌≡◌, Some, None, slice_get, IfSome, IfNone};
+ghost use Rattle.spi_term.specs.View.{message, ty as type_of};
+ghost use Rattle.spi_message.specs.Tests.{key_in, key_of, nonce_in, nonce_of};
+ghost use Rattle.spi_infer.specs.Forms.{is_nonce};
+ghost use Rattle.spi_deriv.specs.Agenda.{types_of};
+ghost use Rattle.spi_deriv.specs.Uses.{is_pair_ty, is_pair, is_sum_ty, is_sum};
+
+use spi_term::{Msg, Ty};
+
+// The type of a name, where the name is in scope.
+fn type_at<'a>(types: &[&'a Ty], x: u32) -> Option<&'a Ty>
+    ensures some { IfSome result (λ t. slice_get (types_of types.now) x ≡ Some (type_of t.now)) }
+    ensures none { IfNone result (slice_get (types_of types.now) x ≡ None) }
+{
+    let place = x as usize;
+    if place < types.len() {
+        Some(types[place])
+    } else {
+        None
+    }
+}
+
+// The T of a type Key(T).
+fn payload_of(t: &Ty) -> Option<&Ty>
+    ensures some { IfSome result (λ u. key_in (Some (type_of t.now)) ≡ Some (type_of u.now)) }
+    ensures none { IfNone result (key_in (Some (type_of t.now)) ≡ None) }
+{
+    match t {
+        Ty::Un => None,
+        Ty::Unit => None,
+        Ty::Pair(_, _) => None,
+        Ty::Sum(_, _) => None,
+        Ty::Key(u) => Some(u),
+        Ty::Nonce(_) => None,
+    }
+}
+
+/// The T of a name of type Key(T).
+pub fn payload<'a>(types: &[&'a Ty], key: &Msg) -> Option<&'a Ty>
+    ensures some { IfSome result (λ t. key_of (types_of types.now) (message key.now) ≡ Some (type_of t.now)) }
+    ensures none { IfNone result (key_of (types_of types.now) (message key.now) ≡ None) }
+{
+    match key {
+        Msg::Name(x) => match type_at(types, *x) {
+            Some(t) => payload_of(t),
+            None => None,
+        },
+        Msg::Bound(_) => None,
+        Msg::Unit => None,
+        Msg::Pair(_, _) => None,
+        Msg::Inl(_) => None,
+        Msg::Inr(_) => None,
+        Msg::Enc(_, _) => None,
+        Msg::Hash(_) => None,
+    }
+}
+
+fn is_nonce_type(t: &Ty) -> bool
+    ensures { result ≡ is_nonce (nonce_in (Some (type_of t.now))) }
+{
+    match t {
+        Ty::Un => false,
+        Ty::Unit => false,
+        Ty::Pair(_, _) => false,
+        Ty::Sum(_, _) => false,
+        Ty::Key(_) => false,
+        Ty::Nonce(_) => true,
+    }
+}
+
+/// Whether the message is a name of a Nonce type.
+pub fn is_nonce_name(types: &[&Ty], m: &Msg) -> bool
+    ensures { result ≡ is_nonce (nonce_of (types_of types.now) (message m.now)) }
+{
+    match m {
+        Msg::Name(x) => match type_at(types, *x) {
+            Some(t) => is_nonce_type(t),
+            None => false,
+        },
+        Msg::Bound(_) => false,
+        Msg::Unit => false,
+        Msg::Pair(_, _) => false,
+        Msg::Inl(_) => false,
+        Msg::Inr(_) => false,
+        Msg::Enc(_, _) => false,
+        Msg::Hash(_) => false,
+    }
+}
+
+fn is_pair_type(t: &Ty) -> bool
+    ensures { result ≡ is_pair_ty (Some (type_of t.now)) }
+{
+    match t {
+        Ty::Un => false,
+        Ty::Unit => false,
+        Ty::Pair(_, _) => true,
+        Ty::Sum(_, _) => false,
+        Ty::Key(_) => false,
+        Ty::Nonce(_) => false,
+    }
+}
+
+/// Whether the message is a pair, or a name of a pair type.
+pub fn is_pair(types: &[&Ty], m: &Msg) -> bool
+    ensures { result ≡ is_pair (types_of types.now) (message m.now) }
+{
+    match m {
+        Msg::Name(x) => match type_at(types, *x) {
+            Some(t) => is_pair_type(t),
+            None => false,
+        },
+        Msg::Bound(_) => false,
+        Msg::Unit => false,
+        Msg::Pair(_, _) => true,
+        Msg::Inl(_) => false,
+        Msg::Inr(_) => false,
+        Msg::Enc(_, _) => false,
+        Msg::Hash(_) => false,
+    }
+}
+
+fn is_sum_type(t: &Ty) -> bool
+    ensures { result ≡ is_sum_ty (Some (type_of t.now)) }
+{
+    match t {
+        Ty::Un => false,
+        Ty::Unit => false,
+        Ty::Pair(_, _) => false,
+        Ty::Sum(_, _) => true,
+        Ty::Key(_) => false,
+        Ty::Nonce(_) => false,
+    }
+}
+
+/// Whether the message is a side of a sum, or a name of a sum type.
+pub fn is_sum(types: &[&Ty], m: &Msg) -> bool
+    ensures { result ≡ is_sum (types_of types.now) (message m.now) }
+{
+    match m {
+        Msg::Name(x) => match type_at(types, *x) {
+            Some(t) => is_sum_type(t),
+            None => false,
+        },
+        Msg::Bound(_) => false,
+        Msg::Unit => false,
+        Msg::Pair(_, _) => false,
+        Msg::Inl(_) => true,
+        Msg::Inr(_) => true,
+        Msg::Enc(_, _) => false,
+        Msg::Hash(_) => false,
+    }
+}
