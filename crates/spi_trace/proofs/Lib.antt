@@ -2,3 +2,4 @@ pub mod Seen
 pub mod Kept
 pub mod Pairs
 pub mod Payments
+pub mod Prefixes

@@ -1,2 +1,3 @@
 pub mod Pairing
 pub mod Laws
+pub mod Next

@@ -2,5 +2,11 @@
 #![tactic(auto)]
 
 mod laws;
+mod paid;
 
 pub use laws::{each_begin_once, one_pairing, paired_is_paid};
+pub use paid::{always_paid, always_paid_many};
+use std::alloc::AllocError;
+
+/// Memory ran out.
+pub type NoMemory = AllocError;
