@@ -1,12 +1,12 @@
 -- The begins of one label among the events seen, in order, of which the first have been taken.
-use Rattle.std.proofs.Common.{◌≡◌, refl, sym, subst, ℕ, zero, suc, ◌+◌, ◌<◌, ◌≤◌, ◌≢◌, ◌⊎◌, inl, inr, ⊎_elim, Bool, true, false, if◌then◌else◌, List, [], ◌∷◌, ◌++◌, length, arith}
+use Rattle.std.proofs.Common.{◌≡◌, sym, subst, ℕ, suc, ◌<◌, ◌≤◌, ◌≢◌, ⊎_elim, List, [], ◌∷◌, ◌++◌, length, arith}
 use Rattle.std.proofs.lemmas.Bool.{cases_lt}
-use Rattle.spi_term.specs.Lists.{At, at_first, at_later, In, in_first, in_later}
-use Rattle.spi_term.specs.Term.{Message, message_discrete, same_message}
+use Rattle.spi_term.specs.Lists.{At, In, in_first, in_later}
+use Rattle.spi_term.specs.Term.{Message}
 use Rattle.spi_term.proofs.Lists.{at_unique, in_cases}
-use Rattle.spi_run.specs.Reduction.{Event, begun, ended, ended_many}
+use Rattle.spi_run.specs.Reduction.{Event, begun}
 use Rattle.spi_trace.specs.Pairing.{IsFree, IsEarliest}
-use Rattle.spi_trace.proofs.Seen.{at_append, at_end, at_snoc, at_within, within_at, at_in, in_at, in_before, in_end, length_more}
+use Rattle.spi_trace.proofs.Seen.{at_append, at_end, at_snoc, at_within, within_at, in_at, in_before, in_end, length_more}
 use Rattle.spi_trace.proofs.Pairs.{earliest_one}
 
 -- the begins of m stand at these places, and of them the first `used` are taken
@@ -42,8 +42,8 @@ module _ {seen : List Event} {taken : List ℕ} {m : Message} {places : List ℕ
         let (s, b) = in_at (k.all j f.0) in
         ⊎_elim (λ g. f.1 (k.gone s j b g))
         (λ g. ⊎_elim (λ h. let o : i < j = k.order used s i j h a b in omega arith)
-            (λ h. let e : i ≡ j = same_place (let p : used ≡ s = omega arith in p) a b in omega arith)
-            (cases_lt used s))
+        (λ h. let e : i ≡ j = same_place (let p : used ≡ s = omega arith in p) a b in omega arith)
+        (cases_lt used s))
         (cases_lt s used);
   }
 

@@ -1,10 +1,10 @@
 -- A pairing is the only one, no begin of it is taken twice, and each begin comes before its end.
-use Rattle.std.proofs.Common.{◌≡◌, refl, sym, ap, subst, ℕ, zero, suc, ◌+◌, ◌<◌, ◌≤◌, ◌⊎◌, inl, inr, ⊎_elim, List, [], ◌∷◌, ◌++◌, length, Option, Some, None, arith}
+use Rattle.std.proofs.Common.{◌≡◌, refl, sym, ap, subst, ℕ, suc, ◌+◌, ◌<◌, ⊎_elim, List, [], ◌∷◌, ◌++◌, length, Option, Some, None, arith}
 use Rattle.std.proofs.lemmas.Bool.{cases_lt}
 use Rattle.spi_term.specs.Lists.{At, at_first, at_later, In, in_first, in_later}
 use Rattle.spi_term.specs.Term.{Message}
 use Rattle.spi_run.specs.Reduction.{Event, begun, ended, ended_many}
-use Rattle.spi_trace.specs.Pairing.{IsFree, IsEarliest, Pairs, pairs_none, pairs_begin, pairs_end, pairs_unpaid, pairs_end_many, pairs_unpaid_many}
+use Rattle.spi_trace.specs.Pairing.{IsEarliest, Pairs, pairs_none, pairs_begin, pairs_end, pairs_unpaid, pairs_end_many, pairs_unpaid_many}
 use Rattle.spi_trace.specs.Laws.{BeginsPayOnce, BeginsComeBefore}
 use Rattle.spi_trace.proofs.Seen.{at_append, at_within, and_then, length_more}
 

@@ -1,16 +1,15 @@
 -- What the functions on labels and begins keep.
-use Rattle.std.proofs.Common.{◌≡◌, refl, sym, ◌∙◌, ap, subst, ℕ, zero, suc, ◌+◌, ◌<◌, ◌≤◌, List, [], ◌∷◌, ◌++◌, length, map, take, get_or, replicate, Option, Some, None, slice_get, slice_set, arith}
-use Rattle.std.proofs.lemmas.List.{append-nil, replicate-append-replicate}
-use Rattle.spi_term.specs.Lists.{At, at_first, at_later}
+use Rattle.std.proofs.Common.{◌≡◌, refl, sym, ◌∙◌, ap, subst, ℕ, zero, suc, ◌+◌, ◌<◌, List, [], ◌∷◌, ◌++◌, length, map, take, get_or, replicate, Option, Some, None, slice_get, slice_set, arith}
+use Rattle.std.proofs.lemmas.List.{replicate-append-replicate}
 use Rattle.spi_term.specs.Term.{Message}
 use Rattle.spi_term.proofs.Lookup.{map_take_more}
-use Rattle.spi_intern.specs.Table.{KeepsAll, AllDiffer, TellsAll, tells_none}
+use Rattle.spi_intern.specs.Table.{KeepsAll, TellsAll, tells_none}
 use Rattle.spi_intern.proofs.Lists.{some_one}
 use Rattle.spi_intern.proofs.Tables.{tells_push, tells_map}
 use Rattle.spi_run.specs.Reduction.{Event, begun, ended, ended_many}
 use Rattle.spi_run.specs.View.{event}
 use Rattle.spi_run.specs.declared.step.Event as Declared
-use Rattle.spi_trace.specs.Labels.{label_of, Numbers, AreNumbered}
+use Rattle.spi_trace.specs.Labels.{label_of, Numbers}
 use Rattle.spi_trace.specs.Queue.{Queue, queue, no_begins, with_begin, next, one_taken, pays, after, IsPaidFrom}
 use Rattle.spi_trace.specs.declared.queue.Begins.{Begins}
 

@@ -1,8 +1,7 @@
 -- Each end has a begin just where the events are paid, and so for endmany.
-use Rattle.std.proofs.Common.{◌≡◌, refl, sym, ap, subst, ℕ, zero, suc, ◌+◌, ◌<◌, ◌≤◌, ◌≢◌, ◌⊎◌, ⊎_elim, Bool, true, false, if◌then◌else◌, List, [], ◌∷◌, ◌++◌, length, Option, Some, None, arith}
-use Rattle.std.proofs.lemmas.Bool.{cases_lt}
+use Rattle.std.proofs.Common.{◌≡◌, refl, sym, ap, subst, ℕ, suc, ◌+◌, ◌≤◌, ◌≢◌, Bool, true, false, if◌then◌else◌, List, [], ◌∷◌, ◌++◌, length, Option, arith}
 use Rattle.std.proofs.lemmas.List.{append-nil}
-use Rattle.spi_term.specs.Lists.{At, at_first, at_later, In, in_first, in_later}
+use Rattle.spi_term.specs.Lists.{at_first, at_later, In}
 use Rattle.spi_term.specs.Term.{Message, message_discrete, same_message}
 use Rattle.spi_intern.proofs.MessageLaws.{same_self}
 use Rattle.spi_run.specs.Reduction.{Event, begun, ended, ended_many}
@@ -134,9 +133,10 @@ none_have : AllHave [] [] (λ m. 0) (λ m. 0)
 none_have m = record { places = []; kept = kept_none m; count = refl }
 
 pub paired_paid : PairedIsPaid
-paired_paid events is p =
-    ((λ q early late m f. let h = pairs_paid p (λ x. 0) (λ x. 0) none_have q early late m f in omega arith),
-    (λ q. paid_pairs p (λ x. 0) (λ x. 0) none_have (λ early late m f. let h = q early late m f in omega arith)))
+paired_paid events is p = (
+  (λ q early late m f. let h = pairs_paid p (λ x. 0) (λ x. 0) none_have q early late m f in omega arith),
+  (λ q. paid_pairs p (λ x. 0) (λ x. 0) none_have (λ early late m f. let h = q early late m f in omega arith)),
+)
 
 -- the further endmany events have begins
 abbrev ManyAfter : List Event → List Event → Type 0

@@ -1,7 +1,7 @@
 -- Events are paid exactly where each of them is, by those before it.
-use Rattle.std.proofs.Common.{◌≡◌, ◌↔◌, IsTrue, nat_lt, refl, sym, ◌∙◌, ap, subst, subst₂, ℕ, zero, suc, ◌+◌, ◌<◌, ◌≤◌, ◌⊎◌, ⊎_elim, Bool, true, false, if◌then◌else◌, List, [], ◌∷◌, ◌++◌, length, map, take, drop, get_or, add-one, arith}
+use Rattle.std.proofs.Common.{◌≡◌, ◌↔◌, IsTrue, nat_lt, refl, sym, ◌∙◌, ap, subst, subst₂, ℕ, zero, suc, ◌+◌, ◌<◌, ◌≤◌, ⊎_elim, Bool, true, false, if◌then◌else◌, List, [], ◌∷◌, ◌++◌, length, map, take, drop, get_or, arith}
 use Rattle.std.proofs.lemmas.Bool.{cases_lt, ltb-true, lt-ltb}
-use Rattle.spi_term.specs.Lists.{At, at_first, at_later, In, in_first, in_later}
+use Rattle.spi_term.specs.Lists.{In, in_first, in_later}
 use Rattle.spi_term.specs.Term.{Message, same_message}
 use Rattle.spi_term.proofs.Lists.{in_cases}
 use Rattle.spi_term.proofs.Lookup.{map_take_more}
@@ -11,7 +11,7 @@ use Rattle.spi_run.specs.Safety.{begins_of, ends_of, Paid, PaidMany}
 use Rattle.spi_run.specs.View.{event}
 use Rattle.spi_run.specs.declared.step.Event as Declared
 use Rattle.spi_trace.specs.Next.{EndIsPaid, ManyIsPaid}
-use Rattle.spi_trace.proofs.Seen.{and_then, length_more}
+use Rattle.spi_trace.proofs.Seen.{and_then}
 
 abbrev one_if : Bool → ℕ
 one_if b = if b then 1 else 0
@@ -107,8 +107,8 @@ pub next_below : (P : List Event → Event → Type 0) (es : List Declared.Event
 next_below P es n x l e h p pre y post f k =
     ⊎_elim (λ lt. h pre y post f lt)
     (λ ge.
-        let r = one_split pre y post (map event (take n es)) (event x) (map event (drop (suc n) es)) (sym f ∙ split_map es n x l e) (let d = length_front es n l in omega arith) in
-        subst₂ P (sym r.0) (sym r.1) p)
+    let r = one_split pre y post (map event (take n es)) (event x) (map event (drop (suc n) es)) (sym f ∙ split_map es n x l e) (let d = length_front es n l in omega arith) in
+    subst₂ P (sym r.0) (sym r.1) p)
     (cases_lt (length pre) n)
 
 -- the element at a place is one of them

@@ -1,23 +1,22 @@
 -- The begins of each label as the events go by.
-use Rattle.std.proofs.Common.{◌≡◌, ◌≢◌, refl, sym, ◌∙◌, ap, subst, subst₂, ℕ, zero, suc, ◌+◌, ◌<◌, ◌≤◌, ◌⊎◌, inl, inr, ⊎_elim, List, [], ◌∷◌, ◌++◌, length, map, get_or, take, drop, replicate, Option, Some, None, slice_get, slice_set, add-one, arith}
+use Rattle.std.proofs.Common.{◌≡◌, ◌≢◌, refl, sym, ◌∙◌, ap, subst, subst₂, ℕ, zero, suc, ◌+◌, ◌<◌, ◌≤◌, ⊎_elim, List, [], ◌∷◌, ◌++◌, length, map, get_or, take, drop, replicate, Option, Some, None, slice_get, slice_set, add-one, arith}
 use Rattle.std.proofs.lemmas.Bool.{cases_eq}
 use Rattle.std.proofs.lemmas.List.{append-nil}
-use Rattle.spi_term.specs.Lists.{At, at_first, at_later, In, in_first, in_later}
-use Rattle.spi_term.specs.Term.{Message, message_discrete}
+use Rattle.spi_term.specs.Lists.{At, at_first, at_later}
+use Rattle.spi_term.specs.Term.{Message}
 use Rattle.spi_term.proofs.Lists.{at_get, get_at, at_unique}
-use Rattle.spi_intern.specs.Table.{TellsAll, AllDiffer}
 use Rattle.spi_intern.proofs.Tables.{tells_at, tells_length}
 use Rattle.spi_intern.proofs.Lists.{some_one, get_below, below_get}
 use Rattle.spi_run.specs.Reduction.{Event, begun, ended, ended_many}
-use Rattle.spi_trace.specs.Labels.{label_of, Numbers, AreNumbered}
-use Rattle.spi_trace.specs.Pairing.{IsEarliest, IsFree, Pairs, pairs_none, pairs_begin, pairs_end, pairs_unpaid, pairs_end_many, pairs_unpaid_many, IsPairing}
+use Rattle.spi_trace.specs.Labels.{label_of, AreNumbered}
+use Rattle.spi_trace.specs.Pairing.{Pairs, pairs_none, pairs_begin, pairs_end, pairs_unpaid, pairs_end_many, pairs_unpaid_many, IsPairing}
 use Rattle.std.proofs.Math.Seq.{take-append_seam}
 use Rattle.spi_run.specs.View.{event}
 use Rattle.spi_run.specs.declared.step.Event as Declared
 use Rattle.spi_trace.specs.declared.queue.Begins.{Begins}
 use Rattle.spi_trace.specs.Queue.{Queue, no_begins, with_begin, next, one_taken, pays, after, IsPaidFrom}
 use Rattle.spi_trace.proofs.Prefixes.{length_events}
-use Rattle.spi_trace.proofs.Seen.{and_then, length_more}
+use Rattle.spi_trace.proofs.Seen.{and_then}
 use Rattle.spi_trace.proofs.Kept.{Kept, kept_none, kept_earliest, kept_spent, kept_begin, kept_other, kept_take, kept_take_other}
 
 -- the queue has the begins of the label
@@ -117,9 +116,10 @@ same_label es ns bound r i j n k d e a b c f =
     let u : d' ≡ d = at_unique (get_at es i g) a in
     let v : e' ≡ e = at_unique (get_at es j h) b in
     let p : slice_get r.messages n ≡ Some (label_of d) = subst (λ z. slice_get r.messages n ≡ Some (label_of z)) u x in
-    let q : slice_get r.messages k ≡ Some (label_of e) = subst (λ z. slice_get r.messages k ≡ Some (label_of z)) v y in
-    ((λ s. some_one (sym p ∙ subst (λ z. slice_get r.messages z ≡ Some (label_of e)) (sym s) q)),
-    (λ s. r.differ.one n k (label_of d) p (subst (λ m. slice_get r.messages k ≡ Some m) (sym s) q)))
+    let q : slice_get r.messages k ≡ Some (label_of e) = subst (λ z. slice_get r.messages k ≡ Some (label_of z)) v y in (
+      (λ s. some_one (sym p ∙ subst (λ z. slice_get r.messages z ≡ Some (label_of e)) (sym s) q)),
+      (λ s. r.differ.one n k (label_of d) p (subst (λ m. slice_get r.messages k ≡ Some m) (sym s) q)),
+    )
 
 pub number_within : (es : List Event) (ns : List ℕ) (bound : ℕ) → AreNumbered es ns bound → (i n : ℕ) → At ns i n → n < bound
 number_within es ns bound r i n a =
@@ -164,11 +164,11 @@ run_suc es ns bound i n e q qs from r a b g h =
       holds = λ j k d x c f y.
           let z = same_label es ns bound r j i k n d e c a f b in
           let w : Holds (take i es ++ e ∷ []) p.taken_then (label_of d) x = ⊎_elim
-              (λ t.
-                  let u = set_there qs n (after e i q) x (subst (λ l. slice_get (slice_set qs n (after e i q)) l ≡ Some x) t y) in
-                  subst₂ (λ m v. Holds (take i es ++ e ∷ []) p.taken_then m v) (sym (z.0 t)) (sym u) p.own)
-              (λ t. p.other (label_of d) x (λ v. t (z.1 v)) (h.holds j k d x c f (sym (set_elsewhere qs n k (after e i q) t) ∙ y)))
-              (cases_eq k n) in
+          (λ t.
+          let u = set_there qs n (after e i q) x (subst (λ l. slice_get (slice_set qs n (after e i q)) l ≡ Some x) t y) in
+          subst₂ (λ m v. Holds (take i es ++ e ∷ []) p.taken_then m v) (sym (z.0 t)) (sym u) p.own)
+          (λ t. p.other (label_of d) x (λ v. t (z.1 v)) (h.holds j k d x c f (sym (set_elsewhere qs n k (after e i q) t) ∙ y)))
+          (cases_eq k n) in
           subst (λ xs. Holds xs p.taken_then (label_of d) x) s w;
       joined = λ is t.
           let u : Pairs (take i es ++ e ∷ []) p.taken_then (drop (suc i) es) is = subst (λ xs. Pairs xs p.taken_then (drop (suc i) es) is) (take_at es i e a) t in

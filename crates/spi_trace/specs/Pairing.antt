@@ -1,5 +1,5 @@
 -- Which begin pays for which end.
-use Rattle.std.specs.Prelude.{◌≡◌, ℕ, ◌<◌, List, [], ◌∷◌, ◌++◌, Option, Some, None}
+use Rattle.std.specs.Prelude.{ℕ, ◌<◌, List, [], ◌∷◌, ◌++◌, Option, Some, None}
 use Rattle.spi_term.specs.Lists.{At, In}
 use Rattle.spi_term.specs.Term.{Message}
 use Rattle.spi_run.specs.Reduction.{Event, begun, ended, ended_many}

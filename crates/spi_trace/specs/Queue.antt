@@ -1,5 +1,5 @@
 -- The begins of one label, in order, of which ends have taken the first ones.
-use Rattle.std.specs.Prelude.{◌≡◌, ℕ, ◌+◌, List, [], ◌∷◌, ◌++◌, Option, Some, None, slice_get, slice_set, map}
+use Rattle.std.specs.Prelude.{◌≡◌, ℕ, ◌+◌, List, [], ◌∷◌, ◌++◌, Option, Some, None, slice_get, slice_set}
 use Rattle.spi_run.specs.Reduction.{Event, begun, ended, ended_many}
 use Rattle.spi_trace.specs.declared.queue.Begins.{Begins}
 

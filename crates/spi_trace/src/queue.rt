@@ -68,7 +68,12 @@ pub fn empty(alloc: Global, bound: usize) -> Result<Vec<Begins>, NoMemory>
 
 /// The begin that pays for an event, which has this place, out of those of its label, which has this number. A begin
 /// is kept.
-pub fn pay(queues: &mut [Begins], number: usize, e: &Event, place: u32) -> Result<Option<u32>, NoMemory>
+pub fn pay(
+    queues: &mut [Begins],
+    number: usize,
+    e: &Event,
+    place: u32,
+) -> Result<Option<u32>, NoMemory>
     requires { number < length queues.old }
     ensures { IfOk result (λ begin. IsPaidFrom (event e.now) place number (map queue queues.old) (map queue queues.new) begin) }
 {

@@ -1,5 +1,3 @@
-use Rattle.spi_term.specs.View.{message}
-use Rattle.spi_run.specs.View.{event}
 use Rattle.spi_trace.proofs.Prefixes.{many_counted}
 use Rattle.spi_trace.proofs.paid.is_many_paid.Goals as goal
 

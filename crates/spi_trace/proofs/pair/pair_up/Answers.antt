@@ -1,7 +1,7 @@
-use Rattle.std.proofs.Common.{◌≡◌, ◌+◌, ◌<◌, ◌++◌, ◌∷◌, [], ◌∙◌, sym, ap, subst, length, map, take, drop, arith}
+use Rattle.std.proofs.Common.{◌≡◌, ◌+◌, ◌++◌, ◌∙◌, sym, ap, subst, length, map, take, drop, arith}
 use Rattle.std.proofs.lemmas.List.{length-map}
 use Rattle.spi_run.specs.View.{event}
-use Rattle.spi_trace.specs.Queue.{queue, IsPaidFrom}
+use Rattle.spi_trace.specs.Queue.{queue}
 use Rattle.spi_trace.proofs.Paying.{as_many}
 use Rattle.spi_trace.proofs.Running.{Running, run_none, run_more, run_all, as_many_numbers, number_below, whole_again}
 use Rattle.spi_trace.proofs.Prefixes.{length_events}
@@ -35,10 +35,10 @@ loop-place-preserved c =
       size = ap length e ∙ c.pay.auto.queues ∙ ap length v ∙ c.loop-place.invariant.size;
       running = subst (λ l. Running es ns (c.loop-place.place + 1) (map queue l) c.push.new.self.items) (sym e)
           (run_more c.args.events.now ns c.in_ok-labels.labels.bound c.loop-place.place c.index-number.result.now c.index-events-place.result (map queue c.deref_mut.result.now) (map queue c.pay.new.queues) c.in_ok-begin.begin c.loop-place.from.items c.push.new.self.items c.in_ok-labels.ensures c.loop-place-test.true c.index-events-place.is c.index-number.ensures
-              (length-map c.deref_mut.result.now queue ∙ ap length v ∙ c.loop-place.invariant.size)
-              c.in_ok-begin.ensures
-              c.in_ok-push.ensures.items
-              (subst (λ l. Running es ns c.loop-place.place (map queue l) c.loop-place.from.items) (sym v) c.loop-place.invariant.running));
+          (length-map c.deref_mut.result.now queue ∙ ap length v ∙ c.loop-place.invariant.size)
+          c.in_ok-begin.ensures
+          c.in_ok-push.ensures.items
+          (subst (λ l. Running es ns c.loop-place.place (map queue l) c.loop-place.from.items) (sym v) c.loop-place.invariant.running));
     }
 
 pub returns : goal.returns

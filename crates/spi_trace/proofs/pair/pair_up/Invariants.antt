@@ -1,6 +1,5 @@
 use Rattle.std.proofs.Common.{◌≡◌, length, map}
 use Rattle.spi_run.specs.View.{event}
-use Rattle.spi_trace.specs.Labels.{AreNumbered}
 use Rattle.spi_trace.specs.Queue.{queue}
 use Rattle.spi_trace.proofs.Running.{Running}
 use Rattle.spi_trace.proofs.pair.pair_up.Given as goal
