@@ -1,0 +1,166 @@
+-- The tree of a derivation without effects, read from the tokens of its rules.
+use Rattle.std.proofs.Common.{◌≡◌, ℕ, suc, ◌+◌, ◌≤◌, Bool, true, false, not, ◌&&◌, List, [], ◌∷◌, ◌++◌, map, Some, None, inl, inr, refl, sym, ◌∙◌, ap, append_assoc, append-nil}
+use Rattle.std.specs.Prelude.{nat_lt}
+use Rattle.std.proofs.lemmas.Bool.{cases_Bool, le-ltb, cond-false}
+use Rattle.std.proofs.lemmas.List.{map-append}
+use Rattle.std.proofs.lemmas.Slice.Eq.{bytes_eq-Decides}
+use Rattle.spi_lex.specs.declared.token.Token.{Token}
+use Rattle.spi_lex.specs.declared.token.Kind.{Kind}
+use Rattle.spi_lex.specs.declared.token.Kind.TheVariants as kinds
+use Rattle.spi_lex.specs.Lexing.{kinds_of}
+use Rattle.spi_tree.specs.declared.tree.SWord.{SWord}
+use Rattle.spi_tree.specs.Trees as t
+use Rattle.spi_tree.specs.Pieces.{Piece, closes, derivation_limit, deriv_pieces, derivs_pieces}
+use Rattle.spi_parse.specs.Exact.{Spells}
+use Rattle.spi_parse.specs.Formed.{number_of}
+use Rattle.spi_parse.specs.Rules.{arity_of, writes_effect, is_late}
+use Rattle.spi_parse.specs.Shapes.{is_sub}
+use Rattle.spi_parse.proofs.RuleLaws.{arity_found}
+use Rattle.spi_parse.proofs.Spell.{IsRuled, AreRuled}
+use Rattle.spi_rules.specs.declared.rule.Rule.{Rule}
+use Rattle.spi_rules.specs.declared.rule.Rule.TheVariants.{ProcSub}
+use Rattle.spi_rules.specs.Derivations.{RuleUse, uses}
+use Rattle.spi_rules.specs.Rule.{arity, spelled, named}
+use Rattle.spi_rules.proofs.Named.{rules, each_named}
+use Rattle.spi_scope.specs.Parts.{uses_in, all_uses_in}
+use Rattle.spi_scope.specs.Points.{Point, in_order, deriv_points, derivs_points}
+use Rattle.spi_scope.proofs.Rules.{rule_found}
+
+-- the tokens of rule uses that write no effect
+abbrev pub rule_words : List RuleUse → List Kind
+rule_words us = map (λ (u : RuleUse). kinds.Word (spelled u.rule)) us
+
+-- no use writes an effect
+abbrev pub ArePlain : List RuleUse → Type 0
+ArePlain [] = Unit {0}
+ArePlain (u ∷ us) = (u.taken ≡ None) × ArePlain us
+
+plain_join : (us vs : List RuleUse) → ArePlain us → ArePlain vs → ArePlain (us ++ vs)
+plain_join [] vs h k = k
+plain_join (u ∷ us) vs h k = (h.0, plain_join us vs h.1 k)
+
+-- the tree of these uses at a nesting, from the tokens on which those of the uses stand first, the token before which ends at e
+pub record Read (later : Bool) (n : ℕ) (us : List RuleUse) (e : ℕ) (ts : List Token) (ks : List Kind) : Type 0 where
+  pub deriv : t.Deriv
+  pub ruled : IsRuled later deriv
+  pub are : uses_in deriv ≡ us
+  pub no_points : in_order (deriv_points deriv) ≡ []
+  pub end : ℕ
+  pub rest : List Token
+  pub left : kinds_of rest ≡ ks
+  pub spells : (after : List Token) (r : List Piece) → Spells after end r rest → Spells after e (deriv_pieces n deriv r) ts
+
+-- k trees one behind another
+pub record ReadAll (later : Bool) (n k : ℕ) (us : List RuleUse) (e : ℕ) (ts : List Token) (ks : List Kind) : Type 0 where
+  pub derivs : t.Derivs
+  pub number : number_of derivs ≡ k
+  pub ruled : AreRuled later derivs
+  pub are : all_uses_in derivs ≡ us
+  pub no_points : in_order (derivs_points derivs) ≡ []
+  pub end : ℕ
+  pub rest : List Token
+  pub left : kinds_of rest ≡ ks
+  pub spells : (after : List Token) (r : List Piece) → Spells after end r rest → Spells after e (derivs_pieces n derivs r) ts
+
+-- the uses are one tree, and k trees, wherever their tokens stand
+pub record Derives (later : Bool) (n : ℕ) (us : List RuleUse) : Type 0 where
+  pub plain : ArePlain us
+  pub read : (e : ℕ) (ts : List Token) (ks : List Kind) → kinds_of ts ≡ rule_words us ++ ks → Read later n us e ts ks
+
+pub record DeriveAll (later : Bool) (n k : ℕ) (us : List RuleUse) : Type 0 where
+  pub plain : ArePlain us
+  pub read : (e : ℕ) (ts : List Token) (ks : List Kind) → kinds_of ts ≡ rule_words us ++ ks → ReadAll later n k us e ts ks
+
+pub no_premise : (later : Bool) (n : ℕ) → DeriveAll later n 0 []
+no_premise later n = record {
+  plain = tt;
+  read = λ e ts ks is. record {
+    derivs = t.no_derivs;
+    number = refl;
+    ruled = tt;
+    are = refl;
+    no_points = refl;
+    end = e;
+    rest = ts;
+    left = is;
+    spells = λ after r h. h;
+  };
+}
+
+pub last_premise : {later : Bool} {n : ℕ} {us : List RuleUse} → Derives later n us → DeriveAll later n 1 us
+last_premise {us = us} d = record {
+  plain = d.plain;
+  read = λ e ts ks is.
+      let x = d.read e ts ks is in
+      record {
+        derivs = t.more_derivs x.deriv t.no_derivs;
+        number = refl;
+        ruled = (x.ruled, tt);
+        are = append-nil (uses_in x.deriv) ∙ x.are;
+        no_points = append-nil (in_order (deriv_points x.deriv)) ∙ x.no_points;
+        end = x.end;
+        rest = x.rest;
+        left = x.left;
+        spells = x.spells;
+      };
+}
+
+pub premise : {later : Bool} {n k : ℕ} {us vs : List RuleUse} → Derives later n us → DeriveAll later n k vs → DeriveAll later n (suc k) (us ++ vs)
+premise {n = n} {us = us} {vs = vs} d ds = record {
+  plain = plain_join us vs d.plain ds.plain;
+  read = λ e ts ks is.
+      let split : rule_words (us ++ vs) ++ ks ≡ rule_words us ++ (rule_words vs ++ ks) = ap (λ (l : List Kind). l ++ ks) (map-append (λ (u : RuleUse). kinds.Word (spelled u.rule)) us vs) ∙ append_assoc (rule_words us) (rule_words vs) ks in
+      let x = d.read e ts (rule_words vs ++ ks) (is ∙ split) in
+      let y = ds.read x.end x.rest ks x.left in
+      record {
+        derivs = t.more_derivs x.deriv y.derivs;
+        number = ap suc y.number;
+        ruled = (x.ruled, y.ruled);
+        are = ap (λ (l : List RuleUse). l ++ all_uses_in y.derivs) x.are ∙ ap (λ (l : List RuleUse). us ++ l) y.are;
+        no_points = ap (λ (l : List Point). l ++ in_order (derivs_points y.derivs)) x.no_points ∙ y.no_points;
+        end = y.end;
+        rest = y.rest;
+        left = y.left;
+        spells = λ after r h. x.spells after (derivs_pieces n y.derivs r) (y.spells after r h);
+      };
+}
+
+-- a rule with its premises
+writes_none : (r : Rule) → is_sub r ≡ false → writes_effect (spelled r) ≡ false
+writes_none r plain = elim (cases_Bool (writes_effect (spelled r))) [
+  | inl writes ↦ (
+      let same : spelled ProcSub ≡ spelled r = (bytes_eq-Decides (spelled ProcSub) (spelled r)).0 writes in
+      let both : Some ProcSub ≡ Some r = sym (each_named ProcSub) ∙ (ap (λ (w : List ℕ). named rules w) same ∙ each_named r) in
+      let one : ProcSub ≡ r = cc in
+      let sub : true ≡ false = ap is_sub one ∙ plain in
+      absurd cc)
+  | inr none ↦ none
+]
+
+has_arity : (later : Bool) (r : Rule) → (is_late r && not later) ≡ false → arity_of later (spelled r) ≡ Some (arity r)
+has_arity later r h = arity_found later r (spelled r) refl ∙ cond-false (is_late r && not later) None (Some (arity r)) h
+
+pub rule : {later : Bool} {n : ℕ} {us : List RuleUse} (r : Rule) → is_sub r ≡ false → (is_late r && not later) ≡ false → n ≤ 1000 → DeriveAll later (n + 1) (arity r) us → Derives later n (uses r us)
+rule {later = later} {n = n} {us = us} r plain early low ds = record {
+  plain = (refl, ds.plain);
+  read = go;
+}
+  where
+    go : (e : ℕ) (ts : List Token) (ks : List Kind) → kinds_of ts ≡ rule_words (uses r us) ++ ks → Read later n (uses r us) e ts ks
+    go e [] ks is = absurd cc
+    go e (token ∷ ts) ks is =
+        let kind : token.kind ≡ kinds.Word (spelled r) = cc in
+        let behind : kinds_of ts ≡ rule_words us ++ ks = cc in
+        let y = ds.read token.span.to ts ks behind in
+        let not_deep : nat_lt derivation_limit n ≡ false = le-ltb derivation_limit n low in
+        let w : SWord = record { word = spelled r; span = token.span } in
+        record {
+          deriv = t.rule (record { from = token.span.from; to = y.end }) w None y.derivs;
+          ruled = (has_arity later r early ∙ ap Some (sym y.number), writes_none r plain, tt, y.ruled);
+          are = ap (λ (x : Rule). record { rule = x; taken = None } ∷ all_uses_in y.derivs) (sym (rule_found r (spelled r) refl)) ∙ ap (λ (l : List RuleUse). record { rule = r; taken = None } ∷ l) y.are;
+          no_points = y.no_points;
+          end = y.end;
+          rest = y.rest;
+          left = y.left;
+          spells = λ after p h. (refl, (refl, (kind, not_deep, (refl, y.spells after (closes y.end ∷ p) (refl, h)))));
+        }

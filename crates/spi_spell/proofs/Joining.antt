@@ -1,0 +1,225 @@
+-- A file with a derivation or a schedule more.
+use Rattle.std.proofs.Common.{◌≡◌, ℕ, ◌+◌, ◌≤◌, Bool, true, false, List, [], ◌∷◌, ◌++◌, length, map, Option, Some, None, Ok, refl, sym, ◌∙◌, ap, subst, arith, append-nil}
+use Rattle.std.specs.List.{AllByRecursion}
+use Rattle.spi_lex.specs.declared.token.Token.{Token}
+use Rattle.spi_lex.specs.declared.token.Kind.TheVariants as kinds
+use Rattle.spi_lex.specs.declared.token.Reserved.TheVariants as word
+use Rattle.spi_lex.specs.Lexing.{kinds_of, Lexes}
+use Rattle.spi_lex.proofs.Lexed.{lexed}
+use Rattle.spi_tree.specs.Trees as t
+use Rattle.spi_tree.specs.Pieces.{Piece, opens, cell, closes, a_reserved, at_level, proc_pieces, decls_pieces, version_pieces, opponent_pieces, schedule_pieces, derivation_pieces, deriv_pieces, steps_pieces, ends}
+use Rattle.spi_tree.specs.Formed.{is_later}
+use Rattle.spi_parse.specs.Exact.{Spells}
+use Rattle.spi_parse.specs.Formed.{IsFile, whole_file}
+use Rattle.spi_parse.proofs.Lexed.{kinds_fit}
+use Rattle.spi_parse.proofs.Spell.{IsRuledFile, IsRuled}
+use Rattle.spi_parse.proofs.Spelled.{tokens_spelled, spelled_within}
+use Rattle.spi_parse.proofs.Words.{file_ruled, file_made}
+use Rattle.spi_term.specs.Spelling.{Spelling}
+use Rattle.spi_run.specs.Reduction.{Step}
+use Rattle.spi_rules.specs.Derivations.{RuleUse}
+use Rattle.spi_scope.specs.Points.{Point, added, in_order, all_names, all_types, file_points, decls_points, process_points, opponent_points, schedule_points, steps_points, derivation_points, deriv_points}
+use Rattle.spi_scope.specs.First.{Clean, IsClean}
+use Rattle.spi_scope.specs.Parts.{uses_in, step_in}
+use Rattle.spi_scope.specs.StandsFor.{Meant, StandsFor, derivation_in, schedule_in}
+use Rattle.spi_deriv.specs.Canonical.{Canonical}
+use Rattle.spi_deriv.specs.Text.{derivation_text}
+use Rattle.spi_spell.specs.Spelled.{limit, IsTreeOf, SpellsFile}
+use Rattle.spi_spell.specs.Joined.{with_derivation, with_schedule, joined, schedule_text, HasLowPlaces}
+use Rattle.spi_spell.proofs.Together.{text_behind}
+use Rattle.spi_spell.proofs.Same.{same_version, same_decls, same_proc, same_opponent, same_schedule}
+use Rattle.spi_spell.proofs.Derived.{Derives, rule_words}
+use Rattle.spi_spell.proofs.Fitting.{Fits, effect_derives}
+use Rattle.spi_spell.proofs.Shallow.{proc_fits, small, past_version, past_decls}
+use Rattle.spi_spell.proofs.Texts.{derivation_kinds, derivation_writes, steps_kinds, schedule_kinds, schedule_writes}
+use Rattle.spi_spell.proofs.Scheduled.{read_steps, steps_clean}
+
+-- ---- the pieces of a file up to its schedule and up to its derivation
+
+abbrev to_schedule : t.File → List Piece → List Piece
+to_schedule f r = version_pieces f.version (decls_pieces f.decls (a_reserved word.Process (proc_pieces (at_level 0) f.process (opponent_pieces f.opponent r))))
+
+-- with more tokens behind, the tokens spell these pieces in place of those
+record GoesOn (more : List Token) (x y : List Piece) : Type 0 where
+  pub on : (e : ℕ) (ts : List Token) → Spells [] e x ts → Spells [] e y (ts ++ more)
+
+piece_on : (more : List Token) (p : Piece) (x y : List Piece) → GoesOn more x y → (e : ℕ) (ts : List Token) → Spells [] e (p ∷ x) ts → Spells [] e (p ∷ y) (ts ++ more)
+piece_on more (opens from) x y f e [] h = absurd h
+piece_on more (opens from) x y f e (t ∷ ts) h = (h.0, f.on e (t ∷ ts) h.1)
+piece_on more (cell kind deep) x y f e [] h = absurd h
+piece_on more (cell kind deep) x y f e (t ∷ ts) h = (h.0, h.1, f.on t.span.to ts h.2)
+piece_on more (closes to) x y f e ts h = (h.0, f.on e ts h.1)
+
+one_on : (more : List Token) (p : Piece) (x y : List Piece) → GoesOn more x y → GoesOn more (p ∷ x) (p ∷ y)
+one_on more p x y f = record { on = piece_on more p x y f }
+
+schedule_on : (more : List Token) (f : t.File) (x y : List Piece) → GoesOn more x y → GoesOn more (opens f.span.from ∷ to_schedule f x) (opens f.span.from ∷ to_schedule f y)
+schedule_on more f x y h =
+    let behind = same_opponent (GoesOn more) (one_on more) f.opponent h in
+    let process = same_proc (GoesOn more) (one_on more) (at_level 0) f.process behind in
+    let word_process = one_on more (cell (kinds.Reserved word.Process) false) _ _ process in
+    let decls = same_decls (GoesOn more) (one_on more) f.decls word_process in
+    one_on more (opens f.span.from) _ _ (same_version (GoesOn more) (one_on more) f.version decls)
+
+derivation_on : (more : List Token) (f : t.File) (x y : List Piece) → GoesOn more x y
+    → GoesOn more (opens f.span.from ∷ to_schedule f (schedule_pieces f.schedule x)) (opens f.span.from ∷ to_schedule f (schedule_pieces f.schedule y))
+derivation_on more f x y h = schedule_on more f _ _ (same_schedule (GoesOn more) (one_on more) f.schedule h)
+
+-- the end of a file
+closed_on : (more : List Token) (to : ℕ) (y : List Piece) → ((e : ℕ) → Spells [] e y more) → GoesOn more (closes to ∷ []) y
+closed_on more to y f = record { on = λ e ts h. subst (λ (us : List Token). Spells [] e y (us ++ more)) (sym h.1) (f e) }
+
+none_left : (ts : List Token) → kinds_of ts ≡ [] → ts ≡ []
+none_left [] h = refl
+none_left (t ∷ ts) h = absurd cc
+
+-- ---- formed files
+
+made : (f : t.File) (bytes : List ℕ) (ts : List Token) → Lexes bytes (Ok ts) → IsRuledFile f → Spells [] 0 (whole_file f) ts → IsFile f
+made f bytes ts l h spelled =
+    let ks = kinds_of ts in
+    let tokens = tokens_spelled f ts spelled in
+    file_made ks (kinds_fit ks (lexed bytes ts l).0) f h ks [] [] (sym (append-nil ks)) (tokens ∙ sym (append-nil ks)) tt
+
+-- ---- derivations
+
+no_derivation : (o : Option t.Deriv) → derivation_in o ≡ None → o ≡ None
+no_derivation None h = refl
+no_derivation (Some d) h = absurd cc
+
+no_schedule : (o : Option (List t.Step)) → schedule_in o ≡ None → o ≡ None
+no_schedule None h = refl
+no_schedule (Some ss) h = absurd cc
+
+-- a derivation of the file's process fits
+derived : (bytes : List ℕ) (tree : t.File) (file : Meant) (d : List RuleUse) → IsTreeOf bytes tree → StandsFor tree file → Canonical d file.process.names file.process.process → Derives (is_later tree) 1 d
+derived bytes tree file d is stands canonical =
+    let later = is_later tree in
+    let ts = all_types [] [] tree.decls in
+    let xs = all_names [] tree.decls in
+    let within = past_decls tree.decls _ (past_version tree.version _ (spelled_within [] 0 (whole_file tree) is.tokens is.spelled)) in
+    let few = small (file_points tree) 0 stands.clean in
+    let fits = proc_fits later (λ (s : ℕ). length xs) ts xs tree.process (at_level 0) _ 1 is.formed.formed.process within.1 few.1.0 (omega arith) in
+    let of_file : Fits later 1 file.process.process = subst (λ (s : Spelling). Fits later 1 s.process) (sym stands.process) fits in
+    subst (Derives later 1) canonical.are (effect_derives later 1 canonical.has canonical.canonical of_file)
+
+abbrev tree_with_derivation : t.File → t.Deriv → ℕ → t.File
+tree_with_derivation f d end = record { span = record { from = f.span.from; to = end }; version = f.version; decls = f.decls; process = f.process; opponent = f.opponent; schedule = f.schedule; derivation = Some d }
+
+-- the tree of a derivation's tokens, with their first
+record HasDerivation (later : Bool) (d : List RuleUse) (more : List Token) : Type 0 where
+  pub deriv : t.Deriv
+  pub ruled : IsRuled later deriv
+  pub are : uses_in deriv ≡ d
+  pub no_points : in_order (deriv_points deriv) ≡ []
+  pub end : ℕ
+  pub spells : (e : ℕ) → Spells [] e (a_reserved word.Derivation (deriv_pieces 1 deriv (closes end ∷ []))) more
+
+has_derivation : (later : Bool) (d : List RuleUse) (more : List Token) → Derives later 1 d → kinds_of more ≡ kinds.Reserved word.Derivation ∷ rule_words d → HasDerivation later d more
+has_derivation later d [] derives is = absurd cc
+has_derivation later d (t ∷ ts) derives is =
+    let first : t.kind ≡ kinds.Reserved word.Derivation = cc in
+    let rest : kinds_of ts ≡ rule_words d = cc in
+    let x = derives.read t.span.to ts [] (rest ∙ sym (append-nil (rule_words d))) in
+    record {
+      deriv = x.deriv;
+      ruled = x.ruled;
+      are = x.are;
+      no_points = x.no_points;
+      end = x.end;
+      spells = λ e. (first, refl, x.spells [] (closes x.end ∷ []) (refl, none_left x.rest x.left));
+    }
+
+abbrev points_with : t.File → List Point → List Point
+points_with f l =
+    let ts = all_types [] [] f.decls in
+    let xs = all_names [] f.decls in
+    in_order (decls_points [] [] f.decls) ++ (in_order (process_points ts xs f.process) ++ (in_order (opponent_points ts xs f.opponent) ++ l))
+
+module _ (bytes : List ℕ) (file : Meant) (tree : t.File) (is : IsTreeOf bytes tree) (stands : StandsFor tree file) (none : file.derivation ≡ None) where
+  tree_none : tree.derivation ≡ None
+  tree_none = no_derivation tree.derivation (sym stands.derivation ∙ none)
+
+  pub with_a_derivation : (d : List RuleUse) → Canonical d file.process.names file.process.process → length (joined bytes (derivation_text d)) ≤ limit → SpellsFile (joined bytes (derivation_text d)) (with_derivation file d)
+  with_a_derivation d canonical short =
+      let derives = derived bytes tree file d is stands canonical in
+      let b = text_behind bytes (derivation_text d) is.tokens word.Derivation (rule_words d) is.lexed (derivation_writes d derives.plain) (derivation_kinds false d) (derivation_kinds true d) in
+      let x = has_derivation (is_later tree) d b.more derives b.kinds_are in
+      let f : t.File = tree_with_derivation tree x.deriv x.end in
+      let old : Spells [] 0 (opens tree.span.from ∷ to_schedule tree (schedule_pieces tree.schedule (closes tree.span.to ∷ []))) is.tokens =
+      subst (λ (o : Option t.Deriv). Spells [] 0 (opens tree.span.from ∷ to_schedule tree (schedule_pieces tree.schedule (derivation_pieces o (ends tree.span [])))) is.tokens) tree_none is.spelled in
+      let spelled : Spells [] 0 (whole_file f) (is.tokens ++ b.more) = (derivation_on b.more tree _ _ (closed_on b.more tree.span.to (a_reserved word.Derivation (deriv_pieces 1 x.deriv (closes x.end ∷ []))) x.spells)).on 0 is.tokens old in
+      let before = file_ruled tree is.formed in
+      let ruled : IsRuledFile f = record { version = before.version; decls = before.decls; process = before.process; opponent = before.opponent; derivation = x.ruled } in
+      let last : in_order (derivation_points tree.derivation) ≡ in_order (deriv_points x.deriv) = ap (λ (o : Option t.Deriv). in_order (derivation_points o)) tree_none ∙ sym x.no_points in
+      let clean : IsClean f = subst (λ (l : List Point). Clean 0 (points_with tree (in_order (schedule_points tree.schedule) ++ l))) last stands.clean in (
+        f,
+        record { within = short; tokens = is.tokens ++ b.more; lexed = b.lexed; formed = made f (joined bytes (derivation_text d)) (is.tokens ++ b.more) b.lexed ruled spelled; spelled = spelled },
+        record { clean = clean; version = stands.version; names = stands.names; process = stands.process; opponent = stands.opponent; schedule = stands.schedule; derivation = ap Some (sym x.are) },
+      )
+
+-- ---- schedules
+
+abbrev tree_with_schedule : t.File → List t.Step → ℕ → t.File
+tree_with_schedule f xs end = record { span = record { from = f.span.from; to = end }; version = f.version; decls = f.decls; process = f.process; opponent = f.opponent; schedule = Some xs; derivation = None }
+
+-- the steps of a schedule's tokens, with their first
+record HasSchedule (ss : List Step) (more : List Token) : Type 0 where
+  pub steps : List t.Step
+  pub are : map step_in steps ≡ ss
+  pub number : length steps ≡ length ss
+  pub end : ℕ
+  pub spells : (e : ℕ) → Spells [] e (a_reserved word.Schedule (steps_pieces steps (closes end ∷ []))) more
+
+has_schedule : (ss : List Step) (more : List Token) → kinds_of more ≡ kinds.Reserved word.Schedule ∷ steps_kinds ss → HasSchedule ss more
+has_schedule ss [] is = absurd cc
+has_schedule ss (t ∷ ts) is =
+    let first : t.kind ≡ kinds.Reserved word.Schedule = cc in
+    let rest : kinds_of ts ≡ steps_kinds ss = cc in
+    let x = read_steps ss t.span.to ts [] (rest ∙ sym (append-nil (steps_kinds ss))) in
+    record {
+      steps = x.steps;
+      are = x.are;
+      number = x.number;
+      end = x.end;
+      spells = λ e. (first, refl, x.spells [] (closes x.end ∷ []) (refl, none_left x.rest x.left));
+    }
+
+-- other points at the end
+clean_more : (ps qs rs : List Point) (c : ℕ) → ((d : ℕ) → Clean d qs → Clean d rs) → Clean c (ps ++ qs) → Clean c (ps ++ rs)
+clean_more [] qs rs c f h = f c h
+clean_more (p ∷ ps) qs rs c f h = (h.0, clean_more ps qs rs (c + added p) f h.1)
+
+clean_with : (f : t.File) (qs rs : List Point) → ((d : ℕ) → Clean d qs → Clean d rs) → Clean 0 (points_with f qs) → Clean 0 (points_with f rs)
+clean_with f qs rs h clean =
+    let ts = all_types [] [] f.decls in
+    let xs = all_names [] f.decls in
+    let before = in_order (decls_points [] [] f.decls) in
+    let process = in_order (process_points ts xs f.process) in
+    let opponent = in_order (opponent_points ts xs f.opponent) in
+    clean_more before (process ++ (opponent ++ qs)) (process ++ (opponent ++ rs)) 0
+    (λ c. clean_more process (opponent ++ qs) (opponent ++ rs) c (λ d. clean_more opponent qs rs d h)) clean
+
+module _ (bytes : List ℕ) (file : Meant) (tree : t.File) (is : IsTreeOf bytes tree) (stands : StandsFor tree file) (no_steps : file.schedule ≡ None) (none : file.derivation ≡ None) where
+  pub with_a_schedule : (steps : List Step) → length steps ≤ 10000 → AllByRecursion HasLowPlaces steps → length (joined bytes (schedule_text steps)) ≤ limit → SpellsFile (joined bytes (schedule_text steps)) (with_schedule file steps)
+  with_a_schedule steps few places short =
+      let bare = no_schedule tree.schedule (sym stands.schedule ∙ no_steps) in
+      let plain = no_derivation tree.derivation (sym stands.derivation ∙ none) in
+      let b = text_behind bytes (schedule_text steps) is.tokens word.Schedule (steps_kinds steps) is.lexed (schedule_writes steps) (schedule_kinds false steps places) (schedule_kinds true steps places) in
+      let x = has_schedule steps b.more b.kinds_are in
+      let f : t.File = tree_with_schedule tree x.steps x.end in
+      let no_end : Spells [] 0 (opens tree.span.from ∷ to_schedule tree (schedule_pieces tree.schedule (closes tree.span.to ∷ []))) is.tokens =
+      subst (λ (o : Option t.Deriv). Spells [] 0 (opens tree.span.from ∷ to_schedule tree (schedule_pieces tree.schedule (derivation_pieces o (ends tree.span [])))) is.tokens) plain is.spelled in
+      let old : Spells [] 0 (opens tree.span.from ∷ to_schedule tree (closes tree.span.to ∷ [])) is.tokens =
+      subst (λ (o : Option (List t.Step)). Spells [] 0 (opens tree.span.from ∷ to_schedule tree (schedule_pieces o (closes tree.span.to ∷ []))) is.tokens) bare no_end in
+      let spelled : Spells [] 0 (whole_file f) (is.tokens ++ b.more) = (schedule_on b.more tree _ _ (closed_on b.more tree.span.to (a_reserved word.Schedule (steps_pieces x.steps (closes x.end ∷ []))) x.spells)).on 0 is.tokens old in
+      let before = file_ruled tree is.formed in
+      let ruled : IsRuledFile f = record { version = before.version; decls = before.decls; process = before.process; opponent = before.opponent; derivation = tt } in
+      let number = x.number in
+      let new : (d : ℕ) → Clean d (in_order (schedule_points tree.schedule) ++ in_order (derivation_points tree.derivation)) → Clean d (in_order (steps_points 1 (length x.steps) x.steps) ++ []) =
+      λ d h. subst (Clean d) (sym (append-nil (in_order (steps_points 1 (length x.steps) x.steps)))) (steps_clean 1 (length x.steps) d x.steps (omega arith)) in
+      let clean : IsClean f = clean_with tree _ _ new stands.clean in (
+        f,
+        record { within = short; tokens = is.tokens ++ b.more; lexed = b.lexed; formed = made f (joined bytes (schedule_text steps)) (is.tokens ++ b.more) b.lexed ruled spelled; spelled = spelled },
+        record { clean = clean; version = stands.version; names = stands.names; process = stands.process; opponent = stands.opponent; schedule = ap Some (sym x.are); derivation = none },
+      )

@@ -1,0 +1,9 @@
+pub mod Feeds
+pub mod Together
+pub mod Same
+pub mod Derived
+pub mod Fitting
+pub mod Shallow
+pub mod Texts
+pub mod Scheduled
+pub mod Joining
