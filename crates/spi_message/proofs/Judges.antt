@@ -18,7 +18,7 @@ use Rattle.spi_intern.specs.declared.types.TyId.{TyId}
 use Rattle.spi_intern.specs.declared.store.Store.{Store}
 use Rattle.spi_message.specs.Judging.{Numbered, StandFor, stand_none, Stands, IsGivenSmall, IsKept, IsJudge}
 use Rattle.spi_message.specs.Filling.{FillsTy, AreBelow, ty_size}
-use Rattle.spi_message.specs.Asking.{IsTyped, IsLabelled, IsGood, IsAskedGood}
+use Rattle.spi_message.specs.Asking.{IsEnvironment, IsTyped, IsLabelled, IsGood, IsAskedGood}
 use Rattle.spi_message.specs.Tests.{typed, labelled, good}
 use Rattle.spi_message.proofs.Deciding.{typed_true, typed_from, labelled_true, labelled_from, good_true, good_from}
 use Rattle.spi_message.proofs.Fills.{at_message, none_below}
@@ -129,9 +129,9 @@ size_within (Term.sum_ty t u) = let a = size_within t in let b = size_within u i
 size_within (Term.key t) = let a = size_within t in omega arith
 size_within (Term.nonce es) = omega arith
 
-pub small_asked : {s : Store} {f : ℕ} {ids : List TyId} {t : TyId} {vs : List MsgId} → IsJudge s f ids → IsGivenSmall s t.place (length ids) → vs ≡ [] → IsAskedGood s ids t vs
+pub small_asked : {s : Store} {ids : List TyId} {t : TyId} {vs : List MsgId} → IsEnvironment s ids → IsGivenSmall s t.place (length ids) → vs ≡ [] → IsAskedGood s ids t vs
 small_asked {s} {t = t} h g q = record {
-  names = record { env = h.env; stands = h.stands };
+  names = h;
   given = record { type = g.type; means = g.means };
   values = subst (λ us. AreBelow us (length s.messages)) (sym q) (none_below (length s.messages));
   few = let e = means_size s t g.means in let w = size_within g.type in let l = g.few in omega arith;

@@ -12,28 +12,32 @@ ghost use Rattle.spi_intern.specs.Given.{IsGiven};
 ghost use Rattle.spi_intern.specs.Meaning.{Means, Keeps};
 ghost use Rattle.spi_intern.specs.Growing.{Adds, a_message, a_type};
 
+use crate::NoMemory;
+use crate::answering::answered;
+use crate::answers::{Answers, Asked};
 use crate::filling::filled_type;
-use crate::goodness::is_good_type;
-use crate::{NoMemory, typing};
 use spi_intern::{MsgId, Store, TyId};
 use spi_term::{Msg, Ty};
 use std::alloc::Global;
 use std::marker::Model;
 
 /// An environment over a store of its own: the type of each name is a number of that store. The first names, given
-/// at the start, are of type `Un` and stay.
+/// at the start, are of type `Un` and stay. What was answered in an environment is kept for as long as its names are
+/// in scope.
 #[derive(Drop)]
 pub struct Judge {
     store: Store,
     types: Vec<TyId>,
     free: u32,
+    answers: Answers,
 }
 
 impl Model for Judge {
     ghost use Rattle.spi_intern.specs.Codes.{coded_message};
     ghost use Rattle.spi_intern.specs.Kinds.{coded_kind};
     ghost use Rattle.std.specs.Coded.{codes};
-    ghost use Rattle.spi_message.specs.Judging.{Numbered, IsJudge};
+    ghost use Rattle.spi_message.specs.Judging.{Numbered};
+    ghost use Rattle.spi_message.specs.Answered.{IsInside};
 
     ghost Value = { Numbered };
 
@@ -41,7 +45,7 @@ impl Model for Judge {
 
     ghost view = { λ j. record { store = j.store; free = j.free; types = j.types.items } };
 
-    ghost invariant = { λ j. IsJudge j.store j.free j.types.items };
+    ghost invariant = { λ j. IsInside j.store j.free j.types.items j.answers.given.entries };
 }
 
 impl Judge {
@@ -61,7 +65,12 @@ impl Judge {
             let _ = name;
             types.push(un)?;
         }
-        Ok(Judge { store, types, free })
+        Ok(Judge {
+            store,
+            types,
+            free,
+            answers: Answers::new(alloc),
+        })
     }
 
     /// The number of a message, as `Store::message` of the judge's store gives it.
@@ -106,6 +115,7 @@ impl Judge {
         ensures free { self.new.free ≡ self.old.free }
     {
         let _ = self.types.pop();
+        self.answers.forget_above(self.types.len());
     }
 
     /// The number of `t{x := m}`, where `t` stands under one binder x.
@@ -125,8 +135,13 @@ impl Judge {
         ensures answer { IfOk result (λ b. (env : Env) (n : Term.Message) (u : Term.Ty) → Stands self.old env → slice_get self.old.store.messages m.place ≡ Some n → Means self.old.store t.place u → (b ≡ true) ↔ HasType [] env n u) }
         ensures kept { IsKept self.old self.new }
     {
-        let mut values = Vec::new(alloc);
-        typing::has_type(alloc, &mut self.store, &self.types, m, t, &mut values)
+        answered(
+            alloc,
+            &mut self.store,
+            &mut self.types,
+            &mut self.answers,
+            Asked::Typed(m, t),
+        )
     }
 
     /// Whether the message is a label.
@@ -135,7 +150,13 @@ impl Judge {
         ensures answer { IfOk result (λ b. (env : Env) (n : Term.Message) → Stands self.old env → slice_get self.old.store.messages m.place ≡ Some n → (b ≡ true) ↔ IsLabel [] env n) }
         ensures kept { IsKept self.old self.new }
     {
-        typing::is_label(alloc, &mut self.store, &self.types, m)
+        answered(
+            alloc,
+            &mut self.store,
+            &mut self.types,
+            &mut self.answers,
+            Asked::Labelled(m),
+        )
     }
 
     /// Whether the type is good. The length of the environment and the nodes of the type are at most 4,294,967,295
@@ -145,8 +166,13 @@ impl Judge {
         ensures answer { IfOk result (λ b. (env : Env) (u : Term.Ty) → Stands self.old env → Means self.old.store t.place u → (b ≡ true) ↔ GoodTy [] env u) }
         ensures kept { IsKept self.old self.new }
     {
-        let mut values = Vec::new(alloc);
-        is_good_type(alloc, &mut self.store, &mut self.types, t, &mut values)
+        answered(
+            alloc,
+            &mut self.store,
+            &mut self.types,
+            &mut self.answers,
+            Asked::Good(t),
+        )
     }
 
     /// What holds of every judge: it stands for an environment, in which the names from the start are the first.

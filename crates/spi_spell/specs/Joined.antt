@@ -1,9 +1,9 @@
 -- A file with a part more.
-use Rattle.std.specs.Prelude.{ℕ, ◌<◌, ◌^◌, List, [], ◌∷◌, ◌++◌, codes, Some}
-use Rattle.std.specs.Fmt.{decimal}
+use Rattle.std.specs.Prelude.{ℕ, ◌<◌, ◌^◌, List, ◌++◌, codes, Some}
 use Rattle.spi_rules.specs.Derivations.{RuleUse}
 use Rattle.spi_run.specs.Reduction.{Step, act, talk}
 use Rattle.spi_scope.specs.StandsFor.{Meant}
+pub use Rattle.spi_show.specs.Steps.{step_text, steps_text, schedule_text}
 
 abbrev pub with_derivation : Meant → List RuleUse → Meant
 with_derivation f d = record {
@@ -28,18 +28,6 @@ with_schedule f steps = record {
 -- bytes, and behind one line feed a text
 abbrev pub joined : List ℕ → List ℕ → List ℕ
 joined bytes text = bytes ++ (codes "\n" ++ text)
-
--- the text of a schedule: a line for each step
-abbrev pub step_text : Step → List ℕ
-step_text (act i) = codes "act " ++ (decimal i ++ codes ";\n")
-step_text (talk i j) = codes "talk " ++ (decimal i ++ (codes " " ++ (decimal j ++ codes ";\n")))
-
-abbrev pub steps_text : List Step → List ℕ
-steps_text [] = []
-steps_text (s ∷ ss) = step_text s ++ steps_text ss
-
-abbrev pub schedule_text : List Step → List ℕ
-schedule_text ss = codes "schedule\n" ++ steps_text ss
 
 -- the places of a step are below 2 ^ 32, as those of every step that is read are
 abbrev pub HasLowPlaces : Step → Type 0

@@ -1,5 +1,6 @@
 use Rattle.std.proofs.Common.{arith}
 use Rattle.spi_message.proofs.Judges.{free_none, free_next, free_all, free_judge, free_length}
+use Rattle.spi_message.proofs.Kept.{answers_none}
 use Rattle.spi_message.proofs.judge.Judge.new.Goals as goal
 
 pub loop-name-init : goal.loop-name-init
@@ -9,7 +10,10 @@ pub loop-name-preserved : goal.loop-name-preserved
 loop-name-preserved c = free_next c.loop-name.name c.loop-name.invariant c.in_ok-un.ensures.at c.in_ok-push.ensures.items
 
 pub invariant_of-result : goal.invariant_of-result
-invariant_of-result c = free_judge c.args.free c.requires (free_all c.loop-name.name c.args.free c.loop-name.invariant (omega (arith, c.loop-name-test.false, c.loop-name.auto.name-end)))
+invariant_of-result c = record {
+  judge = free_judge c.args.free c.requires (free_all c.loop-name.name c.args.free c.loop-name.invariant (omega (arith, c.loop-name-test.false, c.loop-name.auto.name-end)));
+  answers = answers_none c.new.ensures;
+}
 
 pub returns-clause-names : goal.returns-clause-names
 returns-clause-names c = free_all c.loop-name.name c.args.free c.loop-name.invariant (omega (arith, c.loop-name-test.false, c.loop-name.auto.name-end))

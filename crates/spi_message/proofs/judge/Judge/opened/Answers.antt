@@ -1,9 +1,10 @@
 use Rattle.std.proofs.Common.{refl, subst}
-use Rattle.spi_message.proofs.Judges.{judge_keeps, OpenedIn, opened_in}
+use Rattle.spi_message.proofs.Judges.{OpenedIn, opened_in}
+use Rattle.spi_message.proofs.Kept.{inside_keeps}
 use Rattle.spi_message.proofs.judge.Judge.opened.Goals as goal
 
 pub invariant_of-self : goal.invariant_of-self
-invariant_of-self c = judge_keeps c.filled_type.ensures.kept refl c.self.invariant
+invariant_of-self c = inside_keeps c.filled_type.ensures.kept refl c.self.invariant
 
 pub returns-clause-at : goal.returns-clause-at
 returns-clause-at c =

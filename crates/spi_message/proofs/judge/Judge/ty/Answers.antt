@@ -1,6 +1,6 @@
 use Rattle.std.proofs.Common.{refl}
-use Rattle.spi_message.proofs.Judges.{judge_keeps}
+use Rattle.spi_message.proofs.Kept.{inside_keeps}
 use Rattle.spi_message.proofs.judge.Judge.ty.Goals as goal
 
 pub invariant_of-self : goal.invariant_of-self
-invariant_of-self c = judge_keeps c.ty.ensures.kept refl c.self.invariant
+invariant_of-self c = inside_keeps c.ty.ensures.kept refl c.self.invariant
