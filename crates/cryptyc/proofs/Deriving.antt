@@ -1,5 +1,5 @@
 -- What `derive` answers on a file.
-use Rattle.std.proofs.Common.{◌≡◌, ◌↔◌, ℕ, ◌+◌, ◌<◌, ◌≤◌, List, [], ◌++◌, sym, subst, ap, ◌∙◌, length, length-append, Option, Some, None, Result, Ok, Err, IfOk, IsSome, arith, inl, inr}
+use Rattle.std.proofs.Common.{◌≡◌, ◌↔◌, ℕ, ◌+◌, ◌<◌, ◌≤◌, List, [], ◌++◌, sym, subst, ap, ◌∙◌, length, length-append, Option, None, Result, Ok, Err, IfOk, IsSome, arith, inr}
 use Rattle.std.specs.Prelude.{codes}
 use Rattle.std.specs.Fmt.{decimal}
 use Rattle.spi_scope.specs.declared.file.File.{File}

@@ -3,9 +3,7 @@ pub mod OneWord
 pub mod Refusals
 pub mod Reading
 pub mod Places
-pub mod Rules
 pub mod Judging
 pub mod Deriving
-pub mod Verifying
 pub mod Ending
 pub mod Exact

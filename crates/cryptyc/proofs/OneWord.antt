@@ -1,5 +1,5 @@
 -- What one word alone asks for.
-use Rattle.std.proofs.Common.{◌≡◌, ℕ, suc, ◌<◌, ◌≤◌, List, [], ◌∷◌, map, length, get_or, ap, ◌∙◌, subst, Option, arith}
+use Rattle.std.proofs.Common.{◌≡◌, ℕ, ◌<◌, ◌≤◌, List, [], ◌∷◌, map, length, get_or, ap, ◌∙◌, subst, Option, arith}
 use Rattle.cryptyc.specs.declared.asked.Command.{Command}
 use Rattle.cryptyc.specs.Asked.{asked}
 

@@ -1,11 +1,11 @@
 -- The nodes of a tree's process stand in the bytes that spell the tree.
-use Rattle.std.proofs.Common.{◌≡◌, ⊎_elim, sym, subst, ℕ, zero, suc, ◌+◌, ◌≤◌, Bool, true, false, List, [], ◌∷◌, ◌++◌, length, Option, Some, None, refl, arith, if◌then◌else◌}
+use Rattle.std.proofs.Common.{◌≡◌, ⊎_elim, sym, subst, ℕ, zero, suc, ◌+◌, ◌≤◌, Bool, List, [], ◌∷◌, ◌++◌, length, Option, Some, None, refl, arith, if◌then◌else◌}
 use Rattle.std.specs.Prelude.{slice_get}
 use Rattle.spi_text.specs.declared.lines.Span.{Span}
 use Rattle.spi_lex.proofs.Lexed.{lexed}
 use Rattle.spi_tree.specs.declared.tree.SWord.{SWord}
 use Rattle.spi_tree.specs.Trees as t
-use Rattle.spi_tree.specs.Pieces.{Piece, opens, msg_pieces, msgs_pieces, atom_pieces, atoms_pieces, effect_pieces, ty_pieces, fields_pieces, last_pieces, Place, in_seq, at_level, below, beside, level_of, binder_pieces, proc_pieces, words_pieces, decl_pieces, decls_pieces, file_pieces}
+use Rattle.spi_tree.specs.Pieces.{Piece, opens, msg_pieces, ty_pieces, Place, in_seq, at_level, below, beside, level_of, binder_pieces, proc_pieces, decls_pieces, file_pieces}
 use Rattle.spi_parse.specs.Formed.{whole_file}
 use Rattle.spi_term.specs.Lists.{In, in_first, in_later}
 use Rattle.spi_term.proofs.Lists.{in_cases, in_append}

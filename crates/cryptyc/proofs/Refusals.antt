@@ -36,7 +36,7 @@ use Rattle.cryptyc.specs.Reading.{IsUnread, Tells}
 use Rattle.cryptyc.specs.Spelled.{limit, IsTreeOf, SpellsNone}
 use Rattle.cryptyc.specs.Answer.{start_of, scope_number, Refuses, too_long, not_utf8, bad_char, bad_number, name_too_long, syntax, too_deep, out_of_scope, IsRefusal, IsPlaceless}
 use Rattle.cryptyc.specs.declared.asked.Command.{Command}
-use Rattle.cryptyc.specs.declared.asked.Command.TheVariants.{Check, Derive, Verify}
+use Rattle.cryptyc.specs.declared.asked.Command.TheVariants.{Check, Derive}
 use Rattle.cryptyc.specs.Commands.{AnswersTo}
 
 -- the way of lexemes goes through the bytes
@@ -199,7 +199,6 @@ no_place bytes others r e = rw e refl
 refused_by : (command : Command) (bytes output : List ℕ) → IsRefusal bytes output → AnswersTo command bytes Refused output
 refused_by Check bytes output h = h
 refused_by Derive bytes output h = inl h
-refused_by Verify bytes output h = inl h
 
 pub answers_to : (command : Command) (bytes output : List ℕ) (status : Status) → status ≡ Refused → IsRefusal bytes output → AnswersTo command bytes status output
 answers_to command bytes output status e h = rw e (refused_by command bytes output h)

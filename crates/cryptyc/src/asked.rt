@@ -9,8 +9,6 @@ pub enum Command {
     Check,
     /// The derivation of that, as a listing.
     Derive,
-    /// Whether the derivation of a file proves that.
-    Verify,
 }
 
 /// The command that is spelled by one word alone.
@@ -20,7 +18,6 @@ fn command_of(word: &str) -> Option<Command>
     match word {
         "check" => Some(Command::Check),
         "derive" => Some(Command::Derive),
-        "verify" => Some(Command::Verify),
         _ => None,
     }
 }

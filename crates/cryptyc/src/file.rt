@@ -13,7 +13,6 @@ use crate::check::checked;
 use crate::derive::derived;
 use crate::read::{Unread, read};
 use crate::status::Status;
-use crate::verify::verified;
 use spi_io::{Source, Taken, take_all};
 use spi_report::Refusal;
 use spi_scope::{File, faults_stand_at_nodes};
@@ -111,6 +110,5 @@ fn of_file(alloc: Global, command: Command, bytes: &[u8], file: &File) -> Result
     match command {
         Command::Check => checked(alloc, bytes, file),
         Command::Derive => derived(alloc, bytes, file),
-        Command::Verify => verified(alloc, bytes, file),
     }
 }

@@ -1,5 +1,4 @@
-//! Checks a file that is read from standard input, derives its typing or verifies the derivation that it has, and writes the
-//! answer to standard output.
+//! Checks a file that is read from standard input, or derives its typing, and writes the answer to standard output.
 #![tactic(auto)]
 
 mod answer;
@@ -11,7 +10,6 @@ mod player;
 mod read;
 mod run;
 mod status;
-mod verify;
 
 pub use player::{Menu, Pick, Player};
 pub use read::{Unread, read};

@@ -6,7 +6,7 @@ ghost use Rattle.cryptyc.specs.Way.{seen_of};
 ghost use Rattle.cryptyc.specs.Asked.{asked};
 ghost use Rattle.cryptyc.specs.Spelled.{limit, SpellsFile, SpellsNone, IsManySafe};
 ghost use Rattle.cryptyc.specs.Answer.{Refuses};
-ghost use Rattle.cryptyc.specs.Run.{Wants, IsAnswered, Ends, Completes, IsExact, IsDerived, IsVerified};
+ghost use Rattle.cryptyc.specs.Run.{Wants, IsAnswered, Ends, Completes, IsExact, IsDerived};
 
 use crate::answer::{Answer, Stop, made};
 use crate::asked::{Command, asked_of};
@@ -40,13 +40,10 @@ pub fn run<S: Source, K: Sink>(
     ensures many_to_one { asked (map string_bytes words.now) (vec_len players.old) ≡ Some Command.Check → IfSome (S.left source.old) (λ bytes.
         result ≡ Status.Yes → IsManySafe bytes) }
 
-    // What `derive` and `verify` answer, under the same conditions.
+    // What `derive` answers, under the same conditions.
     ensures derive { asked (map string_bytes words.now) (vec_len players.old) ≡ Some Command.Derive → IfSome (S.left source.old) (λ bytes.
         ¬ Rose (S.faults source.old) (S.faults source.new) → ¬ Rose (K.faults sink.old) (K.faults sink.new) → result ≢ Status.NoMemory
         → IsDerived bytes (K.holds sink.old) (K.holds sink.new) result) }
-    ensures verify { asked (map string_bytes words.now) (vec_len players.old) ≡ Some Command.Verify → IfSome (S.left source.old) (λ bytes.
-        ¬ Rose (S.faults source.old) (S.faults source.new) → ¬ Rose (K.faults sink.old) (K.faults sink.new) → result ≢ Status.NoMemory
-        → IsVerified bytes result) }
 
     // Where the source tells its bytes, the status is the one that these words and bytes ask for, and its output is appended.
     ensures answer { IfSome (S.left source.old) (λ bytes. Ends (Wants (asked (map string_bytes words.now) (vec_len players.old)) bytes (seen_of (λ b. times b) (λ b. way b) players.old.items) (seen_of (λ b. times b) (λ b. way b) players.new.items)) (K.holds sink.old) (K.holds sink.new) result) }
@@ -156,6 +153,6 @@ fn answer_to<S: Source>(
     let _ = players;
     match command {
         Some(command) => on_file(alloc, command, source),
-        None => made(alloc, Status::Usage, b"usage: check | derive | verify\n"),
+        None => made(alloc, Status::Usage, b"usage: check | derive\n"),
     }
 }

@@ -1,9 +1,0 @@
-use Rattle.std.proofs.Common.{refl, rules, None}
-use Rattle.cryptyc.proofs.Refusals.{placeless}
-use Rattle.cryptyc.proofs.Verifying.{lacks}
-use Rattle.cryptyc.proofs.verify.missing.Goals as goal
-
-pub returns-clause-ok : goal.returns-clause-ok
-returns-clause-ok c =
-    let line = placeless c.args.bytes.now _ 38 (record { number = 38; offset = None; shown = c.in_ok-shown.shown }) c.refusal.result refl refl (search rules) c.refusal.ensures.ok in
-    lacks c.args.bytes.now c.args.file.now c.refusal.result c.requires.read c.requires.none line
