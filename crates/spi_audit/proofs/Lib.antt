@@ -1,0 +1,5 @@
+pub mod Fitted
+pub mod Agreeing
+pub mod Sound
+pub mod Complete
+pub mod OneAnswer

@@ -1,0 +1,11 @@
+pub mod Opening
+pub mod Subtrees
+pub mod Forms
+pub mod Chains
+pub mod Waited
+pub mod Sized
+pub mod Bindings
+pub mod Does
+pub mod Stepped
+pub mod Takings
+pub mod Listed

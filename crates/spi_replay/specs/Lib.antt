@@ -1,0 +1,9 @@
+pub mod Ready
+pub mod Stepping
+pub mod Holding
+pub mod Moves
+pub mod Standing
+pub mod Waiting
+pub mod Pools
+pub mod Codes
+pub mod Listing

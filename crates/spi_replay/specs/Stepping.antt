@@ -1,0 +1,83 @@
+-- What a step of a pool is refused for.
+use Rattle.std.specs.Prelude.{◌≡◌, ℕ, ◌<◌, ◌≤◌, max, List, [], ◌∷◌, length, Option, Some, None, slice_get}
+use Rattle.spi_term.specs.Term.{Message, name, pair, in_left, in_right, enc, Process, send, split, select, branch, decrypt, begin, end, end_many, cast, fresh, message_size}
+use Rattle.spi_term.specs.Spelling.{stopped}
+use Rattle.spi_run.specs.Reduction.{Configuration, Step, act, talk, Event, Takes}
+use Rattle.spi_run.specs.View.{event}
+use Rattle.spi_run.specs.declared.step.Event as declared
+use Rattle.spi_replay.specs.declared.fault.StepFault.{StepFault}
+use Rattle.spi_replay.specs.declared.fault.StepFault.TheVariants.{NoPlace, NotReady, RunMessageTooLarge, TooManyPlaces}
+use Rattle.spi_replay.specs.Ready.{IsReady, first_place}
+
+-- a pool: a configuration, and how many places it may have
+pub record Pooled : Type 0 where
+  pub configuration : Configuration
+  pub most : ℕ
+
+-- the places that a step names
+abbrev pub places_named : Step → List ℕ
+places_named (act i) = i ∷ []
+places_named (talk i j) = i ∷ j ∷ []
+
+-- the first of these that is outside
+pub data FirstOutside (n : ℕ) : List ℕ → ℕ → Type 0 where
+  outside_here : {i : ℕ} {is : List ℕ} → n ≤ i → FirstOutside n (i ∷ is) i
+  outside_later : {i k : ℕ} {is : List ℕ} → i < n → FirstOutside n is k → FirstOutside n (i ∷ is) k
+
+-- The messages that a ready step binds to a name or puts in its event, where n names are used. Of a `match` that is the
+-- second part alone: the first is bound to no name of the process.
+abbrev pub bound_here : ℕ → Process → List Message
+bound_here n (split (pair a b) t u p) = a ∷ b ∷ []
+bound_here n (select (pair a b) t c u p) = b ∷ []
+bound_here n (branch (in_left a) t p u q) = a ∷ []
+bound_here n (branch (in_right a) t p u q) = a ∷ []
+bound_here n (decrypt (enc a k) t j p) = a ∷ []
+bound_here n (begin a p) = a ∷ []
+bound_here n (end a p) = a ∷ []
+bound_here n (end_many a p) = a ∷ []
+bound_here n (cast a t p) = a ∷ []
+bound_here n (fresh t p) = name n ∷ []
+bound_here n p = []
+
+abbrev pub handed_over : Process → List Message
+handed_over (send a b) = b ∷ []
+handed_over p = []
+
+abbrev pub by_place : (Process → List Message) → Option Process → List Message
+by_place f None = []
+by_place f (Some p) = f p
+
+abbrev pub bound_by : Configuration → Step → List Message
+bound_by c (act i) = by_place (bound_here c.names) (slice_get c.places i)
+bound_by c (talk i j) = by_place handed_over (slice_get c.places i)
+
+-- the nodes of the largest of them
+abbrev pub largest : List Message → ℕ
+largest [] = 0
+largest (m ∷ ms) = max (message_size m) (largest ms)
+
+-- the greatest number of nodes of such a message
+abbrev pub message_most : ℕ
+message_most = 1000
+
+-- why a step is refused, in this order
+pub data Refuses (c : Configuration) (most : ℕ) (s : Step) : StepFault → Type 0 where
+  no_place : {i : ℕ} → FirstOutside (length c.places) (places_named s) i → Refuses c most s (NoPlace i)
+  not_ready : ((i : ℕ) → FirstOutside (length c.places) (places_named s) i → ⊥) → (IsReady c s → ⊥)
+      → Refuses c most s (NotReady (first_place s))
+  too_large : IsReady c s → message_most < largest (bound_by c s)
+      → Refuses c most s (RunMessageTooLarge (stopped (largest (bound_by c s))))
+  too_many : {e : Option Event} {d : Configuration} → Takes c s e d → largest (bound_by c s) ≤ message_most → most < length d.places
+      → Refuses c most s (TooManyPlaces (length d.places))
+
+-- the event of a step, where it has one
+abbrev pub event_in : Option declared.Event → Option Event
+event_in None = None
+event_in (Some e) = Some (event e)
+
+-- the step is taken: it is one of the configuration, and neither limit is passed
+pub record IsTaken (old : Pooled) (s : Step) (e : Option Event) (new : Pooled) : Type 0 where
+  pub takes : Takes old.configuration s e new.configuration
+  pub small : largest (bound_by old.configuration s) ≤ message_most
+  pub few : length new.configuration.places ≤ old.most
+  pub most : new.most ≡ old.most

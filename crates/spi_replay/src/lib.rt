@@ -1,0 +1,20 @@
+//! Pools: configurations that are run step by step.
+#![tactic(auto)]
+
+mod acting;
+mod fault;
+mod laws;
+mod names;
+mod places;
+mod pool;
+mod reading;
+mod running;
+mod waits;
+
+pub use fault::StepFault;
+pub use laws::one_order;
+pub use pool::Pool;
+use std::alloc::AllocError;
+
+/// Memory ran out.
+pub type NoMemory = AllocError;

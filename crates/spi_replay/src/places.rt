@@ -1,0 +1,267 @@
+// Places.
+
+ghost use Rattle.std.specs.Prelude.{◌≡◌, ◌+◌, IfOk};
+ghost use Rattle.spi_term.specs.Names.{MessageOver};
+ghost use Rattle.spi_term.specs.Substitution.{replace};
+ghost use Rattle.spi_term.specs.View.{message, shape_of};
+ghost use Rattle.spi_intern.specs.Meaning.{Keeps};
+ghost use Rattle.spi_replay.specs.Moves.{puts, split_move, select_move, decrypt_move, case_move, check_move, move_of};
+ghost use Rattle.spi_intern.specs.Table.{KeepsAll};
+ghost use Rattle.spi_replay.specs.Standing.{HasNames, WaitsFor, AreBelow, CanEnter, HasEntered, CanBind, HasBound, CanBindTwo, HasBoundTwo};
+
+use crate::NoMemory;
+use crate::names::{Link, Scope, bind, instance};
+use crate::waits::{Kind, Wait, case_wait, check_wait, decrypt_wait, select_wait, split_wait};
+use spi_intern::{MsgId, Store};
+use spi_term::{Form, Msg, Node, Process};
+
+/// A place: a node of a process, the link of the name bound last above it, and what it waits for. A place that is done
+/// holds `stop`.
+#[derive(Clone, Copy)]
+pub struct Place<'p> {
+    pub source: &'p Process,
+    pub node: u32,
+    pub bound: u32,
+    pub last: usize,
+    pub done: bool,
+    pub wait: Wait,
+}
+
+fn wait_to_put(
+    store: &mut Store,
+    links: &[Link],
+    scope: Scope,
+    channel: &Msg,
+    datum: &Msg,
+) -> Result<Wait, NoMemory>
+    requires over { MessageOver (scope.free + scope.bound) 0 (message channel.now) }
+    requires datum { MessageOver (scope.free + scope.bound) 0 (message datum.now) }
+    requires names { HasNames store.old.messages links.now scope }
+    ensures at { IfOk result (λ w. WaitsFor store.old.messages store.new.messages links.now scope (λ f. puts (replace f (message channel.now)) (replace f (message datum.now))) w) }
+    ensures kept { Keeps store.old store.new }
+{
+    let on = instance(store, links, scope, channel)?;
+    let what = instance(store, links, scope, datum)?;
+    Ok(Wait::Puts(on, what))
+}
+
+fn wait_to_split(
+    store: &mut Store,
+    links: &[Link],
+    scope: Scope,
+    whole: &Msg,
+    body: u32,
+) -> Result<Wait, NoMemory>
+    requires over { MessageOver (scope.free + scope.bound) 0 (message whole.now) }
+    requires names { HasNames store.old.messages links.now scope }
+    ensures at { IfOk result (λ w. WaitsFor store.old.messages store.new.messages links.now scope (λ f. split_move (replace f (message whole.now)) body) w) }
+    ensures kept { Keeps store.old store.new }
+{
+    let id = instance(store, links, scope, whole)?;
+    Ok(split_wait(store.part(id), body))
+}
+
+fn wait_to_select(
+    store: &mut Store,
+    links: &[Link],
+    scope: Scope,
+    whole: &Msg,
+    equal: &Msg,
+    body: u32,
+) -> Result<Wait, NoMemory>
+    requires over { MessageOver (scope.free + scope.bound) 0 (message whole.now) }
+    requires equal { MessageOver (scope.free + scope.bound) 0 (message equal.now) }
+    requires names { HasNames store.old.messages links.now scope }
+    ensures at { IfOk result (λ w. WaitsFor store.old.messages store.new.messages links.now scope (λ f. select_move (replace f (message whole.now)) (replace f (message equal.now)) body) w) }
+    ensures kept { Keeps store.old store.new }
+{
+    let id = instance(store, links, scope, whole)?;
+    let other = instance(store, links, scope, equal)?;
+    // The count is asked for what its answer says: no message has two numbers.
+    let _ = store.distinct();
+    Ok(select_wait(store.part(id), other, body))
+}
+
+fn wait_to_decrypt(
+    store: &mut Store,
+    links: &[Link],
+    scope: Scope,
+    whole: &Msg,
+    key: &Msg,
+    body: u32,
+) -> Result<Wait, NoMemory>
+    requires over { MessageOver (scope.free + scope.bound) 0 (message whole.now) }
+    requires key { MessageOver (scope.free + scope.bound) 0 (message key.now) }
+    requires names { HasNames store.old.messages links.now scope }
+    ensures at { IfOk result (λ w. WaitsFor store.old.messages store.new.messages links.now scope (λ f. decrypt_move (replace f (message whole.now)) (replace f (message key.now)) body) w) }
+    ensures kept { Keeps store.old store.new }
+{
+    let id = instance(store, links, scope, whole)?;
+    let other = instance(store, links, scope, key)?;
+    // The count is asked for what its answer says: no message has two numbers.
+    let _ = store.distinct();
+    Ok(decrypt_wait(store.part(id), other, body))
+}
+
+fn wait_to_branch(
+    store: &mut Store,
+    links: &[Link],
+    scope: Scope,
+    whole: &Msg,
+    on_left: u32,
+    on_right: u32,
+) -> Result<Wait, NoMemory>
+    requires over { MessageOver (scope.free + scope.bound) 0 (message whole.now) }
+    requires names { HasNames store.old.messages links.now scope }
+    ensures at { IfOk result (λ w. WaitsFor store.old.messages store.new.messages links.now scope (λ f. case_move (replace f (message whole.now)) on_left on_right) w) }
+    ensures kept { Keeps store.old store.new }
+{
+    let id = instance(store, links, scope, whole)?;
+    Ok(case_wait(store.part(id), on_left, on_right))
+}
+
+fn wait_to_check(
+    store: &mut Store,
+    links: &[Link],
+    scope: Scope,
+    whole: &Msg,
+    nonce: &Msg,
+    body: u32,
+) -> Result<Wait, NoMemory>
+    requires over { MessageOver (scope.free + scope.bound) 0 (message whole.now) }
+    requires nonce { MessageOver (scope.free + scope.bound) 0 (message nonce.now) }
+    requires names { HasNames store.old.messages links.now scope }
+    ensures at { IfOk result (λ w. WaitsFor store.old.messages store.new.messages links.now scope (λ f. check_move (replace f (message whole.now)) (replace f (message nonce.now)) body) w) }
+    ensures kept { Keeps store.old store.new }
+{
+    let id = instance(store, links, scope, whole)?;
+    let other = instance(store, links, scope, nonce)?;
+    // The count is asked for what its answer says: no message has two numbers.
+    let _ = store.distinct();
+    Ok(check_wait(id, other, body))
+}
+
+// What a node waits for, with messages for the names in scope.
+fn wait_at(store: &mut Store, links: &[Link], scope: Scope, node: &Node) -> Result<Wait, NoMemory>
+    requires below { AreBelow (scope.free + scope.bound) (shape_of node.now) }
+    requires names { HasNames store.old.messages links.now scope }
+    ensures at { IfOk result (λ w. WaitsFor store.old.messages store.new.messages links.now scope (λ f. move_of f (shape_of node.now)) w) }
+    ensures kept { Keeps store.old store.new }
+{
+    match &node.form {
+        Form::Send { channel, datum } => wait_to_put(store, links, scope, channel, datum),
+        Form::Recv { channel, body, .. } => {
+            let id = instance(store, links, scope, channel)?;
+            Ok(Wait::Takes(id, *body))
+        }
+        Form::Serve { channel, body, .. } => {
+            let id = instance(store, links, scope, channel)?;
+            Ok(Wait::TakesAgain(id, *body))
+        }
+        Form::Split { whole, body, .. } => wait_to_split(store, links, scope, whole, *body),
+        Form::Select {
+            whole,
+            equal,
+            body,
+            ..
+        } => wait_to_select(store, links, scope, whole, equal, *body),
+        Form::Branch {
+            whole,
+            on_left,
+            on_right,
+            ..
+        } => wait_to_branch(store, links, scope, whole, *on_left, *on_right),
+        Form::Decrypt {
+            whole,
+            key,
+            body,
+            ..
+        } => wait_to_decrypt(store, links, scope, whole, key, *body),
+        Form::Check { whole, nonce, body } => wait_to_check(
+            store, links, scope, whole, nonce, *body,
+        ),
+        Form::Begin { label, body } => {
+            let id = instance(store, links, scope, label)?;
+            Ok(Wait::Shows(Kind::Begin, id, *body))
+        }
+        Form::End { label, body } => {
+            let id = instance(store, links, scope, label)?;
+            Ok(Wait::Shows(Kind::End, id, *body))
+        }
+        Form::EndMany { label, body } => {
+            let id = instance(store, links, scope, label)?;
+            Ok(Wait::Shows(Kind::EndMany, id, *body))
+        }
+        Form::Cast { whole, body, .. } => {
+            let id = instance(store, links, scope, whole)?;
+            Ok(Wait::BindsOne(id, *body))
+        }
+        Form::Fresh { body, .. } => Ok(Wait::Makes(*body)),
+        Form::Par { first, rest } => Ok(Wait::Forks(*first, *rest)),
+        Form::Stop => Ok(Wait::Stays),
+    }
+}
+
+/// The place at a node of a process, with messages for the names bound above it.
+pub fn entered<'p>(
+    store: &mut Store,
+    links: &[Link],
+    source: &'p Process,
+    node: u32,
+    last: usize,
+) -> Result<Place<'p>, NoMemory>
+    requires { CanEnter store.old.messages links.now source.now node last }
+    ensures at { IfOk result (λ p. HasEntered store.old.messages store.new.messages links.now source.now node last p) }
+    ensures kept { Keeps store.old store.new }
+{
+    let at = source.node(node);
+    let free = source.names();
+    let bound = at.scope - free;
+    let scope = Scope { free, bound, last };
+    let wait = wait_at(store, links, scope, at)?;
+    Ok(Place {
+        source,
+        node,
+        bound,
+        last,
+        done: false,
+        wait,
+    })
+}
+
+/// The place at a node below a name that is bound to a message.
+pub fn entered_with<'p>(
+    store: &mut Store,
+    links: &mut Vec<Link>,
+    source: &'p Process,
+    node: u32,
+    last: usize,
+    value: MsgId,
+) -> Result<Place<'p>, NoMemory>
+    requires { CanBind store.old.messages links.old.items source.now node last value }
+    ensures at { IfOk result (λ p. HasBound store.old.messages store.new.messages links.old.items links.new.items source.now node last value p) }
+    ensures kept { Keeps store.old store.new }
+    ensures links { KeepsAll links.old.items links.new.items }
+{
+    let before = bind(links, value, last)?;
+    entered(store, links, source, node, before)
+}
+
+/// The place at a node below two names that are bound to messages.
+pub fn entered_with_two<'p>(
+    store: &mut Store,
+    links: &mut Vec<Link>,
+    source: &'p Process,
+    node: u32,
+    last: usize,
+    first: MsgId,
+    second: MsgId,
+) -> Result<Place<'p>, NoMemory>
+    requires { CanBindTwo store.old.messages links.old.items source.now node last first second }
+    ensures at { IfOk result (λ p. HasBoundTwo store.old.messages store.new.messages links.old.items links.new.items source.now node last first second p) }
+    ensures kept { Keeps store.old store.new }
+    ensures links { KeepsAll links.old.items links.new.items }
+{
+    let before = bind(links, first, last)?;
+    entered_with(store, links, source, node, before, second)
+}

@@ -1,0 +1,91 @@
+// Messages of a store by their numbers: how many nodes they have, and the messages themselves.
+
+ghost use Rattle.std.specs.Prelude.{◌≡◌, ◌+◌, ◌<◌, IfOk, length};
+ghost use Rattle.spi_term.specs.Term.{message_size};
+ghost use Rattle.spi_term.specs.Spelling.{stopped};
+ghost use Rattle.spi_term.specs.View.{message};
+ghost use Rattle.spi_intern.specs.Messages.{message_at};
+ghost use Rattle.spi_replay.specs.Waiting.{wait_within, wait_largest};
+
+use crate::NoMemory;
+use crate::waits::Wait;
+use spi_intern::{MsgId, MsgPart, Store};
+use spi_term::Msg;
+use std::alloc::Global;
+
+// A node over what has so many.
+fn one_more(below: u64) -> u64
+    ensures { result ≡ stopped (1 + below) }
+{
+    below.saturating_add(1)
+}
+
+/// How many nodes the message with a number has. The count stops at u64's greatest value.
+pub fn nodes_of(store: &Store, id: MsgId) -> u64
+    requires { id.place < length store.now.messages }
+    ensures { result ≡ stopped (message_size (message_at store.now.messages id)) }
+{
+    match store.part(id) {
+        MsgPart::Bound(_) => 1,
+        MsgPart::Name(_) => 1,
+        MsgPart::Unit => 1,
+        MsgPart::Pair(a, b) => one_more(nodes_of(store, a).saturating_add(nodes_of(store, b))),
+        MsgPart::Inl(a) => one_more(nodes_of(store, a)),
+        MsgPart::Inr(a) => one_more(nodes_of(store, a)),
+        MsgPart::Enc(a, b) => one_more(nodes_of(store, a).saturating_add(nodes_of(store, b))),
+        MsgPart::Hash(a) => one_more(nodes_of(store, a)),
+    }
+}
+
+/// The message with a number.
+pub fn message_of(alloc: Global, store: &Store, id: MsgId) -> Result<Msg, NoMemory>
+    requires { id.place < length store.now.messages }
+    ensures { IfOk result (λ m. message m ≡ message_at store.now.messages id) }
+{
+    match store.part(id) {
+        MsgPart::Bound(i) => Ok(Msg::Bound(i)),
+        MsgPart::Name(x) => Ok(Msg::Name(x)),
+        MsgPart::Unit => Ok(Msg::Unit),
+        MsgPart::Pair(a, b) => {
+            let first = message_of(alloc, store, a)?;
+            let second = message_of(alloc, store, b)?;
+            Ok(Msg::Pair(Box::new(alloc, first)?, Box::new(alloc, second)?))
+        }
+        MsgPart::Inl(a) => {
+            let part = message_of(alloc, store, a)?;
+            Ok(Msg::Inl(Box::new(alloc, part)?))
+        }
+        MsgPart::Inr(a) => {
+            let part = message_of(alloc, store, a)?;
+            Ok(Msg::Inr(Box::new(alloc, part)?))
+        }
+        MsgPart::Enc(a, b) => {
+            let body = message_of(alloc, store, a)?;
+            let key = message_of(alloc, store, b)?;
+            Ok(Msg::Enc(Box::new(alloc, body)?, Box::new(alloc, key)?))
+        }
+        MsgPart::Hash(a) => {
+            let part = message_of(alloc, store, a)?;
+            Ok(Msg::Hash(Box::new(alloc, part)?))
+        }
+    }
+}
+
+/// The nodes of the largest message that an act binds to a name or shows.
+pub fn largest_of(store: &Store, wait: Wait) -> u64
+    requires { wait_within (length store.now.messages) wait }
+    ensures { result ≡ wait_largest store.now.messages wait }
+{
+    match wait {
+        Wait::Stays => 0,
+        Wait::Puts(_, _) => 0,
+        Wait::Takes(_, _) => 0,
+        Wait::TakesAgain(_, _) => 0,
+        Wait::BindsOne(value, _) => nodes_of(store, value),
+        Wait::BindsTwo(first, second, _) => nodes_of(store, first).max(nodes_of(store, second)),
+        Wait::GoesOn(_) => 0,
+        Wait::Shows(_, label, _) => nodes_of(store, label),
+        Wait::Makes(_) => 1,
+        Wait::Forks(_, _) => 0,
+    }
+}

@@ -1,0 +1,276 @@
+// Steps of a pool's state.
+
+ghost use Rattle.std.specs.Prelude.{◌≡◌, ◌+◌, ◌-◌, ◌^◌, ◌<◌, ◌≤◌, ◌⊎◌, None, IfOk, IfErr, OnOk, OnErr, Some, length, slice_get};
+ghost use Rattle.spi_run.specs.Reduction.{act, talk};
+ghost use Rattle.spi_run.specs.Safety.{beside};
+ghost use Rattle.spi_replay.specs.Stepping.{Refuses, IsTaken, event_in};
+ghost use Rattle.spi_replay.specs.Pools.{pooled, IsState, MayAct, MayTalk, done as done_of, moved, settled, again_appends};
+
+use crate::NoMemory;
+use crate::acting::{Taken, take};
+use crate::fault::StepFault;
+use crate::names::Link;
+use crate::places::{Place, entered, entered_with};
+use crate::reading::{largest_of, nodes_of};
+use crate::waits::{Meeting, Wait, appended_by, is_act, meeting_of};
+use spi_intern::Store;
+use spi_run::Event;
+use spi_term::Process;
+use std::alloc::Global;
+
+/// The most nodes of a message that is bound to a name or shown.
+const MESSAGE_MOST: u64 = 1_000;
+
+/// A pool's places, how many names are used, and the messages and links that its places share.
+#[derive(Drop)]
+pub struct State<'p> {
+    pub alloc: Global,
+    pub names: u32,
+    pub most: u32,
+    pub store: Store,
+    pub links: Vec<Link>,
+    pub places: Vec<Place<'p>>,
+}
+
+/// The process at place 0 and the opponent at place 1.
+pub fn start<'p>(
+    alloc: Global,
+    process: &'p Process,
+    opponent: &'p Process,
+    most: u32,
+) -> Result<State<'p>, NoMemory>
+    requires names { process.now.names ≡ opponent.now.names }
+    requires places { 2 ≤ most }
+    requires most { most < 2 ^ 32 - 1 }
+    ensures beside { IfOk result (λ s. pooled s ≡ record { configuration = beside process.now.names process.now.process opponent.now.process; most = most }) }
+    ensures is { IfOk result IsState }
+{
+    // The nodes are asked for what their answer says: each name is one of those in scope.
+    let _ = process.len();
+    let _ = opponent.len();
+    let mut store = Store::new(alloc);
+    let links = Vec::new(alloc);
+    let first = entered(&mut store, &links, process, 0, 0)?;
+    let second = entered(&mut store, &links, opponent, 0, 0)?;
+    let mut places = Vec::new(alloc);
+    places.push(first)?;
+    places.push(second)?;
+    let names = process.names();
+    Ok(State {
+        alloc,
+        names,
+        most,
+        store,
+        links,
+        places,
+    })
+}
+
+// Whether the place acts alone, within the limits.
+fn may_act(state: &State<'_>, place: u32) -> Result<(), StepFault>
+    requires { IsState state.now }
+    ensures may { OnOk result (MayAct state.now place) }
+    ensures refused { IfErr result (Refuses (pooled state.now).configuration state.now.most (act place)) }
+{
+    if place as usize >= state.places.len() {
+        return Err(StepFault::NoPlace { place });
+    }
+    let wait = state.places[place as usize].wait;
+    if !is_act(wait) {
+        return Err(StepFault::NotReady { place });
+    }
+    let nodes = largest_of(&state.store, wait);
+    if nodes > MESSAGE_MOST {
+        return Err(StepFault::RunMessageTooLarge { nodes });
+    }
+    let places = state.places.len() as u32 + appended_by(wait);
+    if places > state.most {
+        return Err(StepFault::TooManyPlaces { places });
+    }
+    Ok(())
+}
+
+// The place as it is after an act, with the one that is appended.
+fn put_moved<'p>(
+    places: &mut Vec<Place<'p>>,
+    at: u32,
+    now: Place<'p>,
+    more: Option<Place<'p>>,
+) -> Result<(), NoMemory>
+    requires { at < length places.old.items }
+    ensures moved { OnOk result (places.new.items ≡ moved places.old.items at now.entry more.entry) }
+    ensures same { OnErr result (places.new.items ≡ places.old.items) }
+{
+    match more {
+        None => {
+            places[at as usize] = now;
+            Ok(())
+        }
+        Some(next) => {
+            places.push(next)?;
+            places[at as usize] = now;
+            Ok(())
+        }
+    }
+}
+
+fn act_now(state: &mut State<'_>, place: u32) -> Result<Option<Event>, NoMemory>
+    requires is { IsState state.old }
+    requires may { MayAct state.old place }
+    requires names { state.old.names < 2 ^ 32 - 1 }
+    ensures taken { IfOk result (λ e. IsTaken (pooled state.old) (act place) (event_in e) (pooled state.new)) }
+    ensures unchanged { OnErr result (pooled state.new ≡ pooled state.old) }
+    ensures is { IsState state.new }
+{
+    let here = state.places[place as usize];
+    let Taken {
+        now,
+        more,
+        event,
+        names,
+    } = take(
+        state.alloc,
+        &mut state.store,
+        &mut state.links,
+        &here,
+        state.names,
+    )?;
+    put_moved(&mut state.places, place, now, more)?;
+    state.names = names;
+    Ok(event)
+}
+
+/// The act of a place.
+pub fn step_act(state: &mut State<'_>, place: u32) -> Result<Option<Event>, StepFault>
+    requires is { IsState state.old }
+    requires names { state.old.names < 2 ^ 32 - 1 }
+    ensures taken { IfOk result (λ e. IsTaken (pooled state.old) (act place) (event_in e) (pooled state.new)) }
+    ensures refused { IfErr result (λ f. (f ≡ StepFault.NoMemory) ⊎ Refuses (pooled state.old).configuration state.old.most (act place) f) }
+    ensures unchanged { OnErr result (pooled state.new ≡ pooled state.old) }
+    ensures is { IsState state.new }
+{
+    match may_act(state, place) {
+        Err(fault) => Err(fault),
+        Ok(()) => match act_now(state, place) {
+            Ok(event) => Ok(event),
+            Err(_) => Err(StepFault::NoMemory),
+        },
+    }
+}
+
+// What the two places hand over, within the limits.
+fn may_talk(state: &State<'_>, out: u32, inp: u32) -> Result<Meeting, StepFault>
+    requires { IsState state.now }
+    ensures may { IfOk result (MayTalk state.now out inp) }
+    ensures refused { IfErr result (Refuses (pooled state.now).configuration state.now.most (talk out inp)) }
+{
+    if out as usize >= state.places.len() {
+        return Err(StepFault::NoPlace { place: out });
+    }
+    if inp as usize >= state.places.len() {
+        return Err(StepFault::NoPlace { place: inp });
+    }
+    // The count is asked for what its answer says: no message has two numbers.
+    let _ = state.store.distinct();
+    match meeting_of(
+        state.places[out as usize].wait,
+        state.places[inp as usize].wait,
+    ) {
+        None => Err(StepFault::NotReady { place: out }),
+        Some(meeting) => {
+            let nodes = nodes_of(&state.store, meeting.datum);
+            if nodes > MESSAGE_MOST {
+                return Err(StepFault::RunMessageTooLarge { nodes });
+            }
+            let places = state.places.len() as u32 + appended_if(meeting.again);
+            if places > state.most {
+                return Err(StepFault::TooManyPlaces { places });
+            }
+            Ok(meeting)
+        }
+    }
+}
+
+fn appended_if(again: bool) -> u32
+    ensures { result ≡ again_appends again }
+{
+    if again { 1 } else { 0 }
+}
+
+// A place that is done.
+fn done<'p>(place: &Place<'p>) -> Place<'p>
+    ensures { result ≡ done_of place.now }
+{
+    Place {
+        source: place.source,
+        node: place.node,
+        bound: place.bound,
+        last: place.last,
+        done: true,
+        wait: Wait::Stays,
+    }
+}
+
+// The two places as they are after they met.
+fn put_settled<'p>(
+    places: &mut Vec<Place<'p>>,
+    out: u32,
+    sender: &Place<'p>,
+    inp: u32,
+    now: Place<'p>,
+    again: bool,
+) -> Result<(), NoMemory>
+    requires out { out < length places.old.items }
+    requires inp { inp < length places.old.items }
+    ensures settled { OnOk result (places.new.items ≡ settled places.old.items out sender.now inp now.entry again) }
+    ensures same { OnErr result (places.new.items ≡ places.old.items) }
+{
+    let gone = done(sender);
+    if again {
+        places.push(now)?;
+        places[out as usize] = gone;
+        Ok(())
+    } else {
+        places[out as usize] = gone;
+        places[inp as usize] = now;
+        Ok(())
+    }
+}
+
+fn talk_now(state: &mut State<'_>, out: u32, inp: u32, meeting: Meeting) -> Result<(), NoMemory>
+    requires is { IsState state.old }
+    requires may { MayTalk state.old out inp meeting }
+    ensures taken { OnOk result (IsTaken (pooled state.old) (talk out inp) None (pooled state.new)) }
+    ensures unchanged { OnErr result (pooled state.new ≡ pooled state.old) }
+    ensures is { IsState state.new }
+{
+    let sender = state.places[out as usize];
+    let receiver = state.places[inp as usize];
+    let now = entered_with(
+        &mut state.store,
+        &mut state.links,
+        receiver.source,
+        meeting.body,
+        receiver.last,
+        meeting.datum,
+    )?;
+    put_settled(&mut state.places, out, &sender, inp, now, meeting.again)?;
+    Ok(())
+}
+
+/// The meeting of an output and an input.
+pub fn step_talk(state: &mut State<'_>, out: u32, inp: u32) -> Result<Option<Event>, StepFault>
+    requires is { IsState state.old }
+    ensures taken { IfOk result (λ e. IsTaken (pooled state.old) (talk out inp) (event_in e) (pooled state.new)) }
+    ensures refused { IfErr result (λ f. (f ≡ StepFault.NoMemory) ⊎ Refuses (pooled state.old).configuration state.old.most (talk out inp) f) }
+    ensures unchanged { OnErr result (pooled state.new ≡ pooled state.old) }
+    ensures is { IsState state.new }
+{
+    match may_talk(state, out, inp) {
+        Err(fault) => Err(fault),
+        Ok(meeting) => match talk_now(state, out, inp, meeting) {
+            Ok(()) => Ok(None),
+            Err(_) => Err(StepFault::NoMemory),
+        },
+    }
+}
