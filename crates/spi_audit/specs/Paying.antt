@@ -47,8 +47,8 @@ pub data Gives : RuleUse → Subject → List Effect → Effect → Type 0 where
       → IsSum rs es fs → Gives (plain ProcPar) (of_process env p) (es ∷ fs ∷ []) rs
   gives_sub : {env : Env} {p : Process} {es fs : Effect} → Gives (subsumed fs) (of_process env p) (es ∷ []) fs
 
--- A use of a rule pays where its premises have these effects. The rules that aren't here of processes ask nothing of
--- effects: they stand in the last rows.
+-- A use of a rule pays where its premises have these effects. The rules of messages and those in the last rows ask nothing
+-- of effects.
 pub data Pays : RuleUse → Subject → List Effect → Type 0 where
   pays_in : {env : Env} {p : Process} {a es : Effect}
       → EffectAvoids (length env) es → Pays (plain ProcIn) (of_process env p) (a ∷ es ∷ [])
