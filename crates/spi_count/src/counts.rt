@@ -111,6 +111,25 @@ impl Counts {
         self.counts.pop_first()
     }
 
+    /// Takes the greatest key out, with its count, where it is at least this one.
+    pub fn take_from(&mut self, least: u64) -> Option<(u64, u64)>
+        ensures some { IfSome result (λ p. (least ≤ p.0) × (0 < p.1) × (count_of self.old.counts p.0 ≡ p.1) × Sets self.old.counts self.new.counts p.0 0) }
+        ensures none { IfNone result ((q : ℕ) → 0 < count_of self.old.counts q → q < least) }
+        ensures same { IfNone result (self.new.counts ≡ self.old.counts) }
+        ensures less { IfSome result (λ p. btree_map_len self.new.counts < btree_map_len self.old.counts) }
+    {
+        match self.last() {
+            Some(key) => {
+                if least <= key {
+                    self.counts.pop_last()
+                } else {
+                    None
+                }
+            }
+            None => None,
+        }
+    }
+
     /// Adds the counts of another.
     pub fn absorb(&mut self, other: Counts) -> Result<(), AllocError>
         ensures { OnOk result ((q : ℕ) → count_of self.new.counts q ≡ count_of self.old.counts q + count_of other.counts q) }

@@ -86,6 +86,37 @@ impl Sum {
         }
     }
 
+    /// Takes all atoms of one kind over one message with a key from this one on out, where there are some: the kind, the
+    /// key of the message and how often the atom stood there.
+    pub fn take_from(&mut self, least: u64) -> Option<(AtomKind, u64, u64)>
+        ensures some { IfSome result (λ p. (least ≤ p.1) × (0 < p.2) × (count_of (part p.0 self.old) p.1 ≡ p.2) × Puts p.0 self.old self.new p.1 0) }
+        ensures none { IfNone result ((kind : AtomKind) (q : ℕ) → 0 < count_of (part kind self.old) q → q < least) }
+        ensures same { IfNone result ((kind : AtomKind) → part kind self.new ≡ part kind self.old) }
+        ensures less { IfSome result (λ p. keys_in self.new < keys_in self.old) }
+    {
+        match self.ends.take_from(least) {
+            Some((key, count)) => Some((AtomKind::End, key, count)),
+            None => match self.checks.take_from(least) {
+                Some((key, count)) => Some((AtomKind::Check, key, count)),
+                None => match self.lasting.take_from(least) {
+                    Some((key, count)) => Some((AtomKind::Many, key, count)),
+                    None => None,
+                },
+            },
+        }
+    }
+
+    /// How often an atom stands there.
+    pub fn count(&self, kind: AtomKind, key: u64) -> u64
+        ensures { result ≡ count_of (part kind self.now) key }
+    {
+        match kind {
+            AtomKind::End => self.ends.count(key),
+            AtomKind::Check => self.checks.count(key),
+            AtomKind::Many => self.lasting.count(key),
+        }
+    }
+
     /// The sum of two effects.
     pub fn joined(a: Sum, b: Sum) -> Result<Sum, NoMemory>
         ensures { IfOk result (λ s. (kind : AtomKind) (k : ℕ) → count_of (part kind s) k ≡ both_counts kind (count_of (part kind a) k) (count_of (part kind b) k)) }
