@@ -21,3 +21,4 @@ pub mod Settling
 pub mod Leading
 pub mod Parts
 pub mod Replies
+pub mod MessageKeys
