@@ -22,3 +22,4 @@ pub mod Leading
 pub mod Parts
 pub mod Replies
 pub mod MessageKeys
+pub mod MessageParts
