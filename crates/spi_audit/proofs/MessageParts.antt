@@ -123,11 +123,11 @@ module _ {r s : Store} (e : r ≡ s) (i : ℕ) (below : i < length s.messages) w
       go (says_hash {m = m} g) = get_below s.messages a.place m g
 
 -- no rule types an index
+no_index : {rule : Rule} {env : Env} {i : ℕ} {u : Ty} {ps : List Subject} → Fits (plain rule) (of_message env (bound i) u) ps → ⊥
+no_index f = elim f [ ]
+
 pub bound_not : {r : Store} (j : Numbered) (rule : Rule) (t : TyId) (id : MsgId) (i : ℕ) → r ≡ j.store → ((n : Message) → slice_get r.messages id.place ≡ Some n → Says r.messages (P.Bound i) n) → AnswersMessage j j rule id t None
 bound_not j rule t id i e h = record { at = λ env m u s g n. go (let P = λ (s : Store). (n : Message) → slice_get s.messages id.place ≡ Some n → Says s.messages (P.Bound i) n in subst P e h m g) }
   where
-    none : {env : Env} {u : Ty} {ps : List Subject} → Fits (plain rule) (of_message env (bound i) u) ps → ⊥
-    none f = elim f [ ]
-
     go : {env : Env} {m : Message} {u : Ty} → Says j.store.messages (P.Bound i) m → (ps : List Subject) → Fits (plain rule) (of_message env m u) ps → ⊥
-    go says_bound ps f = none f
+    go says_bound ps f = no_index f
