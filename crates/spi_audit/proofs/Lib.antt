@@ -23,3 +23,4 @@ pub mod Parts
 pub mod Replies
 pub mod MessageKeys
 pub mod MessageParts
+pub mod MessageTaken
