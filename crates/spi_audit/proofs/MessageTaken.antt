@@ -5,14 +5,17 @@ use Rattle.indexmap.specs.IndexMap.{get}
 use Rattle.spi_term.specs.Term.{Message, Atom, ends, checks, many, Effect, Ty, un}
 use Rattle.spi_rules.specs.Environment.{Env}
 use Rattle.spi_rules.specs.Messages.{HasType, IsLabel}
-use Rattle.spi_intern.specs.declared.store.Store.{Store}
+use Rattle.spi_rules.specs.Good.{good_none, good_ends, good_checks, good_many}
+use Rattle.spi_intern.specs.declared.messages.MsgId.{MsgId}
+use Rattle.spi_intern.specs.declared.atoms.AtomId.TheVariants.{End, Check, Many}
+use Rattle.spi_intern.specs.Atoms.{says_end, says_check, says_many}
 use Rattle.spi_intern.specs.Meaning.{Means}
 use Rattle.spi_intern.proofs.Meanings.{terms_more}
 use Rattle.spi_message.specs.Judging.{Numbered, Stands, IsKept}
 use Rattle.spi_count.specs.Sums.{name_bound, key_of}
 use Rattle.spi_audit.specs.declared.keys.Keys.{Keys}
 use Rattle.spi_audit.specs.Accounts.{with_keys}
-use Rattle.spi_audit.specs.Notes.{AreKept, GrowsTo}
+use Rattle.spi_audit.specs.Notes.{AreKept, GrowsTo, TakesLabelled, TakesUn, TakesAtomic}
 use Rattle.spi_audit.proofs.Standing.{stands_kept}
 use Rattle.spi_audit.proofs.Kept.{keyed_here, grows_key, grows_store, grows_more, kept_as}
 
@@ -48,3 +51,22 @@ module _ (j k l : Numbered) (h : IsKept j k) (g : IsKept k l) (ks ls : Keys) (m 
 -- the store alone has grown
 pub store_grows : (j k l : Numbered) (ks : Keys) → IsKept j k → IsKept k l → AreKept j.store ks → GrowsTo j.store ks l.store ks
 store_grows j k l ks h g a = grows_store (terms_more h.store g.store) a
+
+-- an atom by the kind of its number
+pub ends_taken : (j k : Numbered) (ks : Keys) (o : Option MsgId) (id : MsgId) (m : Message) (a : Atom) → o ≡ Some id → a ≡ ends m → TakesLabelled j k ks m o → TakesAtomic j k ks a (Some (End id))
+ends_taken j k ks o id m a e q h = subst (λ a. TakesAtomic j k ks a (Some (End id))) (sym q) (go (subst (λ o. TakesLabelled j k ks m o) e h))
+  where
+    go : TakesLabelled j k ks m (Some id) → TakesAtomic j k ks (ends m) (Some (End id))
+    go (w, f) = (says_end w.at, (id.place, w), λ env s. good_ends (f env s) good_none)
+
+pub many_taken : (j k : Numbered) (ks : Keys) (o : Option MsgId) (id : MsgId) (m : Message) (a : Atom) → o ≡ Some id → a ≡ many m → TakesLabelled j k ks m o → TakesAtomic j k ks a (Some (Many id))
+many_taken j k ks o id m a e q h = subst (λ a. TakesAtomic j k ks a (Some (Many id))) (sym q) (go (subst (λ o. TakesLabelled j k ks m o) e h))
+  where
+    go : TakesLabelled j k ks m (Some id) → TakesAtomic j k ks (many m) (Some (Many id))
+    go (w, f) = (says_many w.at, (id.place, w), λ env s. good_many (f env s) good_none)
+
+pub checks_taken : (j k : Numbered) (ks : Keys) (o : Option MsgId) (id : MsgId) (m : Message) (a : Atom) → o ≡ Some id → a ≡ checks m → TakesUn j k ks m o → TakesAtomic j k ks a (Some (Check id))
+checks_taken j k ks o id m a e q h = subst (λ a. TakesAtomic j k ks a (Some (Check id))) (sym q) (go (subst (λ o. TakesUn j k ks m o) e h))
+  where
+    go : TakesUn j k ks m (Some id) → TakesAtomic j k ks (checks m) (Some (Check id))
+    go (w, f) = (says_check w.at, (id.place, w), λ env s. good_checks (f env s) good_none)
