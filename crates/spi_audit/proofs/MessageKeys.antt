@@ -17,6 +17,7 @@ use Rattle.spi_intern.proofs.Lists.{some_one, get_below}
 use Rattle.spi_message.specs.Judging.{Numbered, Stands}
 use Rattle.spi_message.specs.Tests.{is_un}
 use Rattle.spi_message.proofs.Standing.{stand_at, stand_length}
+use Rattle.spi_message.proofs.Deciding.{is_un_true}
 use Rattle.spi_audit.specs.declared.asked.Asked.TheVariants as A
 use Rattle.spi_audit.specs.declared.asked.Premises.TheVariants.{OnePremise}
 use Rattle.spi_audit.specs.Fits.{Subject, of_message, plain, Fits, fits_enc}
@@ -98,15 +99,7 @@ module _ {r : Store} (j : Numbered) (e : r ≡ j.store) (i : ℕ) where
 -- a ciphertext under a name of a Key type
 module _ (j : Numbered) (t : TyId) (b : Bool) (told : (u : Ty) → Means j.store t.place u → b ≡ is_un u) (x y : MsgId) where
   is_there : b ≡ true → (u : Ty) → Means j.store t.place u → u ≡ un
-  is_there e u m = un_of u (sym (told u m) ∙ e)
-    where
-      un_of : (u : Ty) → is_un u ≡ true → u ≡ un
-      un_of un e = refl
-      un_of unit_ty e = absurd (cc)
-      un_of (pair_ty t u) e = absurd (cc)
-      un_of (sum_ty t u) e = absurd (cc)
-      un_of (key t) e = absurd (cc)
-      un_of (nonce es) e = absurd (cc)
+  is_there e u m = is_un_true u (sym (told u m) ∙ e)
 
   pub enc_not_un : b ≡ false → AnswersPart j j MsgEnc (P.Enc x y) t None
   enc_not_un e = record { at = λ env m u s w n ps f. true≢false (sym (sym e ∙ (told u n ∙ ap is_un (go f)))) }

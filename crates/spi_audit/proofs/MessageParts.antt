@@ -1,5 +1,5 @@
 -- Pairs and hashes, and the parts of a message by their numbers.
-use Rattle.std.proofs.Common.{◌≡◌, refl, sym, ap, ◌∙◌, subst, ℕ, ◌<◌, length, ◌↔◌, Bool, true, false, true≢false, List, [], ◌∷◌, Option, Some, None, ◌⊎◌, inl, inr, ⊎_elim}
+use Rattle.std.proofs.Common.{◌≡◌, refl, sym, ap, ◌∙◌, subst, ℕ, ◌<◌, length, ◌↔◌, Bool, true, false, true≢false, List, [], ◌∷◌, Some, None, ◌⊎◌, inl, inr, ⊎_elim}
 use Rattle.std.specs.Prelude.{slice_get}
 use Rattle.spi_term.specs.Substitution.{ty_put}
 use Rattle.spi_term.specs.Term.{Message, bound, pair, hash, Ty, un, unit_ty, pair_ty, sum_ty, key, nonce}
@@ -15,12 +15,12 @@ use Rattle.spi_intern.specs.declared.types.TyId.{TyId}
 use Rattle.spi_intern.specs.Given.{IsGiven}
 use Rattle.spi_intern.specs.Meaning.{Means}
 use Rattle.spi_intern.specs.Messages.{Says, says_bound, says_pair, says_enc, says_hash}
-use Rattle.spi_intern.proofs.Lists.{some_one, get_below, below_get}
+use Rattle.spi_intern.proofs.Lists.{get_below, below_get}
 use Rattle.spi_intern.proofs.Meanings.{means_keeps}
 use Rattle.spi_message.specs.Judging.{Numbered, Stands, IsKept}
 use Rattle.spi_message.specs.Tests.{is_un}
+use Rattle.spi_message.proofs.Deciding.{is_un_true}
 use Rattle.spi_audit.specs.declared.asked.Asked.TheVariants as A
-use Rattle.spi_audit.specs.declared.asked.Premises.{Premises}
 use Rattle.spi_audit.specs.declared.asked.Premises.TheVariants.{NoPremise, TwoPremises}
 use Rattle.spi_audit.specs.Fits.{Subject, of_message, plain, Fits, fits_pair, fits_pair_un, fits_hash}
 use Rattle.spi_audit.specs.Asked.{asked_none, asked_next, AnsweredMessage, AnswersPart, AnswersMessage, IsPairOf, IsNoPair}
@@ -57,15 +57,7 @@ pair_other j rule t x y d h = record { at = λ env m u s w n. go w }
 -- a hash of a label
 module _ (j : Numbered) (t : TyId) (b : Bool) (told : (u : Ty) → Means j.store t.place u → b ≡ is_un u) (x : MsgId) where
   is_there : b ≡ true → (u : Ty) → Means j.store t.place u → u ≡ un
-  is_there e u m = un_of u (sym (told u m) ∙ e)
-    where
-      un_of : (u : Ty) → is_un u ≡ true → u ≡ un
-      un_of un e = refl
-      un_of unit_ty e = absurd (cc)
-      un_of (pair_ty t u) e = absurd (cc)
-      un_of (sum_ty t u) e = absurd (cc)
-      un_of (key t) e = absurd (cc)
-      un_of (nonce es) e = absurd (cc)
+  is_there e u m = is_un_true u (sym (told u m) ∙ e)
 
   pub hash_not_un : b ≡ false → AnswersPart j j MsgHash (P.Hash x) t None
   hash_not_un e = record { at = λ env m u s w n ps f. true≢false (sym (sym e ∙ (told u n ∙ ap is_un (go f)))) }

@@ -1,5 +1,4 @@
-use Rattle.std.proofs.Common.{◌≤◌, map, take, length, ap, subst, arith}
-use Rattle.std.proofs.lemmas.List.{take_all}
+use Rattle.std.proofs.Common.{map, take, subst}
 use Rattle.spi_term.specs.Term.{Effect}
 use Rattle.spi_term.specs.View.{atom}
 use Rattle.spi_intern.proofs.Meanings.{map_more}

@@ -10,10 +10,9 @@ has_type-requires-clause-ty c = record { type = un; means = means_keeps c.in_ok-
 
 pub returns-in_ok-keep-clause-taken : goal.returns-in_ok-keep-clause-taken
 returns-in_ok-keep-clause-taken c =
-    let kept = kept_more c.in_ok-un.ensures.kept c.in_ok-id.ensures.kept in
-    (
+    let kept = kept_more c.in_ok-un.ensures.kept c.in_ok-id.ensures.kept in (
       key_taken c.args.judge.now c.message.new.self c.has_type.new.self kept c.in_ok-has_type.ensures.kept c.args.keys.now c.keep.new.self (message c.args.m.now) c.in_ok-id.id.place c.in_ok-id.ensures.at c.in_ok-keep.ensures.small c.in_ok-keep.ensures.kept,
-      is_untrusted c.args.judge.now c.message.new.self kept (message c.args.m.now) c.in_ok-id.id.place c.in_ok-id.ensures.at c.in_ok-has_type.field-0 c.in_ok-un.un.place (means_keeps c.in_ok-id.ensures.kept.store c.in_ok-un.ensures.at) c.in_ok-has_type.ensures.answer c.if-branch.true
+      is_untrusted c.args.judge.now c.message.new.self kept (message c.args.m.now) c.in_ok-id.id.place c.in_ok-id.ensures.at c.in_ok-has_type.field-0 c.in_ok-un.un.place (means_keeps c.in_ok-id.ensures.kept.store c.in_ok-un.ensures.at) c.in_ok-has_type.ensures.answer c.if-branch.true,
     )
 
 pub returns-else-branch-clause-taken : goal.returns-else-branch-clause-taken
