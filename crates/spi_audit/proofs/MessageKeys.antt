@@ -2,7 +2,7 @@
 use Rattle.std.proofs.Common.{◌≡◌, refl, sym, ap, ◌∙◌, subst, ℕ, ◌<◌, length, arith, Bool, true, false, true≢false, List, [], ◌∷◌, Option, Some, None, IfSome, IfNone}
 use Rattle.std.specs.Prelude.{slice_get}
 use Rattle.spi_term.specs.Lists.{At}
-use Rattle.spi_term.specs.Term.{Message, name, enc, Ty, un, unit_ty, pair_ty, sum_ty, key, nonce}
+use Rattle.spi_term.specs.Term.{Message, name, enc, Ty, un, key}
 use Rattle.spi_term.proofs.Lists.{at_get, get_at}
 use Rattle.spi_rules.specs.Environment.{Env}
 use Rattle.spi_rules.specs.declared.rule.Rule.TheVariants.{MsgEnc}
