@@ -1,0 +1,77 @@
+use Rattle.spi_audit.proofs.Marking.{marks_bound, marks_unit, marks_name, marks_pair, marks_enc, marks_left, marks_right, marks_hash}
+use Rattle.spi_audit.proofs.Kept.{on_ok}
+use Rattle.std.proofs.Common.{arith, ◌≡◌, Some, max}
+use Rattle.std.specs.Prelude.{slice_get}
+use Rattle.spi_term.specs.Term.{Message}
+use Rattle.spi_count.specs.Counts.{count_of, Sets}
+use Rattle.spi_audit.specs.Accounts.{Marks}
+use Rattle.spi_intern.specs.Messages.{message_at}
+use Rattle.spi_audit.proofs.Read.{there, pair_first, pair_second, enc_first, enc_second, left_part, right_part, hash_part}
+use Rattle.spi_audit.proofs.accounts.+mark_names.Goals as goal
+
+pub mark_names-requires : goal.mark_names-requires
+mark_names-requires t c =
+    let p = pair_first c.args.store.now.messages c.in-Pair.a c.in-Pair.b (message_at c.args.store.now.messages c.args.id) (c.in-Pair.ensures (message_at c.args.store.now.messages c.args.id) (there c.args.store.now.messages c.args.id.place c.requires)) in
+    (omega (arith, p.0, c.decreases), p.1)
+
+pub mark_names-requires-in-Pair : goal.mark_names-requires-in-Pair
+mark_names-requires-in-Pair t c =
+    let p = pair_second c.args.store.now.messages c.in-Pair.a c.in-Pair.b (message_at c.args.store.now.messages c.args.id) (c.in-Pair.ensures (message_at c.args.store.now.messages c.args.id) (there c.args.store.now.messages c.args.id.place c.requires)) in
+    (omega (arith, p.0, c.decreases), p.1)
+
+pub mark_names-requires-in-Inl : goal.mark_names-requires-in-Inl
+mark_names-requires-in-Inl t c =
+    let p = left_part c.args.store.now.messages c.in-Inl.a (message_at c.args.store.now.messages c.args.id) (c.in-Inl.ensures (message_at c.args.store.now.messages c.args.id) (there c.args.store.now.messages c.args.id.place c.requires)) in
+    (omega (arith, p.0, c.decreases), p.1)
+
+pub mark_names-requires-in-Inr : goal.mark_names-requires-in-Inr
+mark_names-requires-in-Inr t c =
+    let p = right_part c.args.store.now.messages c.in-Inr.a (message_at c.args.store.now.messages c.args.id) (c.in-Inr.ensures (message_at c.args.store.now.messages c.args.id) (there c.args.store.now.messages c.args.id.place c.requires)) in
+    (omega (arith, p.0, c.decreases), p.1)
+
+pub mark_names-requires-in-Enc : goal.mark_names-requires-in-Enc
+mark_names-requires-in-Enc t c =
+    let p = enc_first c.args.store.now.messages c.in-Enc.a c.in-Enc.b (message_at c.args.store.now.messages c.args.id) (c.in-Enc.ensures (message_at c.args.store.now.messages c.args.id) (there c.args.store.now.messages c.args.id.place c.requires)) in
+    (omega (arith, p.0, c.decreases), p.1)
+
+pub mark_names-requires-in-Enc-2 : goal.mark_names-requires-in-Enc-2
+mark_names-requires-in-Enc-2 t c =
+    let p = enc_second c.args.store.now.messages c.in-Enc.a c.in-Enc.b (message_at c.args.store.now.messages c.args.id) (c.in-Enc.ensures (message_at c.args.store.now.messages c.args.id) (there c.args.store.now.messages c.args.id.place c.requires)) in
+    (omega (arith, p.0, c.decreases), p.1)
+
+pub mark_names-requires-in-Hash : goal.mark_names-requires-in-Hash
+mark_names-requires-in-Hash t c =
+    let p = hash_part c.args.store.now.messages c.in-Hash.a (message_at c.args.store.now.messages c.args.id) (c.in-Hash.ensures (message_at c.args.store.now.messages c.args.id) (there c.args.store.now.messages c.args.id.place c.requires)) in
+    (omega (arith, p.0, c.decreases), p.1)
+
+pub returns-in-Bound : goal.returns-in-Bound
+returns-in-Bound t c m e = marks_bound c.args.loose.now.counts (c.in-Bound.ensures m e)
+
+pub returns-in-Unit : goal.returns-in-Unit
+returns-in-Unit t c m e = marks_unit c.args.loose.now.counts (c.in-Unit.ensures m e)
+
+pub returns-in-Name : goal.returns-in-Name
+returns-in-Name t c =
+    on_ok {P = Sets c.args.loose.now.counts c.raise_to.new.self.counts c.in-Name.x (max (count_of c.args.loose.now.counts c.in-Name.x) 1)} {Q = (m : Message) → slice_get c.args.store.now.messages c.args.id.place ≡ Some m → Marks c.args.loose.now.counts c.raise_to.new.self.counts m} c.raise_to.result (λ s m e. marks_name c.args.loose.now.counts c.raise_to.new.self.counts s (c.in-Name.ensures m e)) c.raise_to.ensures
+
+pub returns-in_ok-mark_names-in-Pair : goal.returns-in_ok-mark_names-in-Pair
+returns-in_ok-mark_names-in-Pair t c =
+    on_ok {P = (m : Message) → slice_get c.args.store.now.messages c.in-Pair.b.place ≡ Some m → Marks c.mark_names.new.loose.counts c.mark_names-in-Pair.new.loose.counts m} {Q = (m : Message) → slice_get c.args.store.now.messages c.args.id.place ≡ Some m → Marks c.args.loose.now.counts c.mark_names-in-Pair.new.loose.counts m} c.mark_names-in-Pair.result
+    (λ h m e. marks_pair c.args.loose.now.counts c.mark_names.new.loose.counts c.mark_names-in-Pair.new.loose.counts (c.in-Pair.ensures m e) c.in_ok-mark_names-in-Pair.ensures h) c.mark_names-in-Pair.ensures
+
+pub returns-in_ok-mark_names-in-Enc : goal.returns-in_ok-mark_names-in-Enc
+returns-in_ok-mark_names-in-Enc t c =
+    on_ok {P = (m : Message) → slice_get c.args.store.now.messages c.in-Enc.b.place ≡ Some m → Marks c.mark_names-in-Enc.new.loose.counts c.mark_names-in-Enc-2.new.loose.counts m} {Q = (m : Message) → slice_get c.args.store.now.messages c.args.id.place ≡ Some m → Marks c.args.loose.now.counts c.mark_names-in-Enc-2.new.loose.counts m} c.mark_names-in-Enc-2.result
+    (λ h m e. marks_enc c.args.loose.now.counts c.mark_names-in-Enc.new.loose.counts c.mark_names-in-Enc-2.new.loose.counts (c.in-Enc.ensures m e) c.in_ok-mark_names-in-Enc.ensures h) c.mark_names-in-Enc-2.ensures
+
+pub returns-in-Inl : goal.returns-in-Inl
+returns-in-Inl t c =
+    on_ok {P = (m : Message) → slice_get c.args.store.now.messages c.in-Inl.a.place ≡ Some m → Marks c.args.loose.now.counts c.mark_names-in-Inl.new.loose.counts m} {Q = (m : Message) → slice_get c.args.store.now.messages c.args.id.place ≡ Some m → Marks c.args.loose.now.counts c.mark_names-in-Inl.new.loose.counts m} c.mark_names-in-Inl.result (λ h m e. marks_left c.args.loose.now.counts c.mark_names-in-Inl.new.loose.counts (c.in-Inl.ensures m e) h) c.mark_names-in-Inl.ensures
+
+pub returns-in-Inr : goal.returns-in-Inr
+returns-in-Inr t c =
+    on_ok {P = (m : Message) → slice_get c.args.store.now.messages c.in-Inr.a.place ≡ Some m → Marks c.args.loose.now.counts c.mark_names-in-Inr.new.loose.counts m} {Q = (m : Message) → slice_get c.args.store.now.messages c.args.id.place ≡ Some m → Marks c.args.loose.now.counts c.mark_names-in-Inr.new.loose.counts m} c.mark_names-in-Inr.result (λ h m e. marks_right c.args.loose.now.counts c.mark_names-in-Inr.new.loose.counts (c.in-Inr.ensures m e) h) c.mark_names-in-Inr.ensures
+
+pub returns-in-Hash : goal.returns-in-Hash
+returns-in-Hash t c =
+    on_ok {P = (m : Message) → slice_get c.args.store.now.messages c.in-Hash.a.place ≡ Some m → Marks c.args.loose.now.counts c.mark_names-in-Hash.new.loose.counts m} {Q = (m : Message) → slice_get c.args.store.now.messages c.args.id.place ≡ Some m → Marks c.args.loose.now.counts c.mark_names-in-Hash.new.loose.counts m} c.mark_names-in-Hash.result (λ h m e. marks_hash c.args.loose.now.counts c.mark_names-in-Hash.new.loose.counts (c.in-Hash.ensures m e) h) c.mark_names-in-Hash.ensures

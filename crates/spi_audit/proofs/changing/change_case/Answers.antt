@@ -1,0 +1,15 @@
+use Rattle.spi_audit.proofs.Turning.{no_items, two_first, case_two, case_changes, case_held}
+use Rattle.spi_audit.proofs.changing.change_case.Goals as goal
+
+pub both_sides-requires-clause-first : goal.both_sides-requires-clause-first
+both_sides-requires-clause-first c = (case_held c.args.store.now c.args.keys.now c.args.scope c.args.stack.now.items c.pop.new.self.items c.pop-in-Some.new.self.items c.in-Some.a c.in-Some-pop.b c.in-Some.ensures.items c.in-Some-pop.ensures.items c.requires.before).0
+
+pub both_sides-requires-clause-second : goal.both_sides-requires-clause-second
+both_sides-requires-clause-second c = (case_held c.args.store.now c.args.keys.now c.args.scope c.args.stack.now.items c.pop.new.self.items c.pop-in-Some.new.self.items c.in-Some.a c.in-Some-pop.b c.in-Some.ensures.items c.in-Some-pop.ensures.items c.requires.before).1
+
+pub returns-in-None-pop : goal.returns-in-None-pop
+returns-in-None-pop c = two_first (case_two c.args.scope) c.args.stack.now.items c.pop.new.self.items c.pop-in-Some.new.self.items c.in-Some.a _ c.in-Some.ensures.items (no_items c.pop.new.self c.in-None-pop.ensures.cases.0)
+
+pub returns-in_ok-push-in-Some-pop : goal.returns-in_ok-push-in-Some-pop
+returns-in_ok-push-in-Some-pop c =
+    case_changes c.args.store.now c.args.keys.now c.args.scope c.args.stack.now.items c.pop.new.self.items c.pop-in-Some.new.self.items c.push.new.self.items c.in-Some.a c.in-Some-pop.b c.in_ok-pays-in-Some-pop.most c.in_ok-pays-in-Some-pop.pays c.in-Some.ensures.items c.in-Some-pop.ensures.items c.in_ok-push-in-Some-pop.ensures.items c.in_ok-pays-in-Some-pop.ensures

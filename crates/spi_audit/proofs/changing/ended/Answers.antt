@@ -1,0 +1,5 @@
+use Rattle.spi_audit.proofs.Turning.{end_changes}
+use Rattle.spi_audit.proofs.changing.ended.Goals as goal
+
+pub returns : goal.returns
+returns c s kd = end_changes s c.args.keys.now c.args.id c.args.account c.in_ok-more.more kd c.in_ok-more.ensures

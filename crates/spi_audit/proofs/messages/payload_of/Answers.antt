@@ -1,0 +1,25 @@
+use Rattle.std.proofs.Common.{refl}
+use Rattle.spi_intern.specs.declared.store.TyPart.TheVariants.{Un, Unit as NoParts, Pair, Sum, Key, Nonce}
+use Rattle.spi_audit.proofs.Parts.{given_place, key_told, no_key_told}
+use Rattle.spi_audit.proofs.messages.payload_of.Goals as goal
+
+pub ty_part-requires : goal.ty_part-requires
+ty_part-requires c = given_place c.store.ensures c.requires
+
+pub returns-in-Un-clause-none : goal.returns-in-Un-clause-none
+returns-in-Un-clause-none c = no_key_told c.store.ensures c.args.t Un refl c.in-Un.ensures
+
+pub returns-in-Unit-clause-none : goal.returns-in-Unit-clause-none
+returns-in-Unit-clause-none c = no_key_told c.store.ensures c.args.t NoParts refl c.in-Unit.ensures
+
+pub returns-in-Pair-clause-none : goal.returns-in-Pair-clause-none
+returns-in-Pair-clause-none c = no_key_told c.store.ensures c.args.t (Pair _ _) refl c.in-Pair.ensures
+
+pub returns-in-Sum-clause-none : goal.returns-in-Sum-clause-none
+returns-in-Sum-clause-none c = no_key_told c.store.ensures c.args.t (Sum _ _) refl c.in-Sum.ensures
+
+pub returns-in-Key-clause-some : goal.returns-in-Key-clause-some
+returns-in-Key-clause-some c = key_told c.store.ensures c.args.t c.in-Key.payload c.in-Key.ensures
+
+pub returns-in-Nonce-clause-none : goal.returns-in-Nonce-clause-none
+returns-in-Nonce-clause-none c = no_key_told c.store.ensures c.args.t (Nonce _) refl c.in-Nonce.ensures

@@ -1,0 +1,23 @@
+use Rattle.std.proofs.Common.{ap, ◌∙◌, subst, sym, length}
+use Rattle.spi_term.specs.Term.{name}
+use Rattle.spi_term.specs.Substitution.{ty_put}
+use Rattle.spi_term.specs.View.{ty}
+use Rattle.spi_intern.specs.Meaning.{Means}
+use Rattle.spi_intern.proofs.Meanings.{means_keeps}
+use Rattle.spi_audit.specs.declared.asked.Asked.TheVariants as A
+use Rattle.spi_audit.specs.declared.asked.Binding.TheVariants.{Nothing, OneName, TwoNames}
+use Rattle.spi_audit.specs.Asked.{bound_two}
+use Rattle.spi_message.proofs.Standing.{stand_length}
+use Rattle.spi_audit.proofs.opening.begun_two.Goals as goal
+
+pub opened-requires-clause-ty : goal.opened-requires-clause-ty
+opened-requires-clause-ty c = record { type = ty c.args.second.now; means = means_keeps c.in_ok-m.ensures.kept.store c.in_ok-b.ensures.at }
+
+pub returns-clause-begins : goal.returns-clause-begins
+returns-clause-begins c = record {
+  names = TwoNames c.in_ok-a.a c.in_ok-filled.filled;
+  is = ap (λ n. A.Process c.args.body n (TwoNames c.in_ok-a.a c.in_ok-filled.filled)) c.len-scope.ensures;
+  bound = λ e s. bound_two (means_keeps c.in_ok-filled.ensures.kept.store (means_keeps c.in_ok-m.ensures.kept.store (means_keeps c.in_ok-b.ensures.kept.store c.in_ok-a.ensures.at)))
+      (subst (λ k. Means c.opened.new.self.store c.in_ok-filled.filled.place (ty_put (name k) (ty c.args.second.now))) (c.len-scope.ensures ∙ stand_length s)
+      (c.in_ok-filled.ensures.at (ty c.args.second.now) (name c.len-scope.result) (means_keeps c.in_ok-m.ensures.kept.store c.in_ok-b.ensures.at) c.in_ok-m.ensures.at));
+}

@@ -1,0 +1,134 @@
+-- Effects by counts, and what changes do to them. The atoms that have a name out of scope are held by their names alone.
+use Rattle.std.specs.Prelude.{◌≡◌, ℕ, suc, ◌<◌, ◌≤◌, Bool, true, false, not, ◌||◌, nat_lt, length, slice_get, List, [], ◌∷◌, ◌++◌, reverse, Some, nat_eq}
+use Rattle.std.specs.BTreeMap.{BTreeMap}
+use Rattle.indexmap.specs.IndexMap.{get}
+use Rattle.spi_term.specs.Counts.{count}
+use Rattle.spi_term.specs.Term.{Message, Atom, ends, checks, many, Effect, nonce}
+use Rattle.spi_term.specs.Lists.{In}
+use Rattle.spi_intern.specs.declared.store.Store.{Store}
+use Rattle.spi_intern.specs.declared.atoms.AtomId.{AtomId}
+use Rattle.spi_intern.specs.Table.{TellsAll}
+use Rattle.spi_intern.specs.Atoms.{SaysAtom}
+use Rattle.spi_intern.specs.Meaning.{Means, NoneTwice}
+use Rattle.spi_effect.specs.Effect.{IsMany}
+use Rattle.spi_effect.specs.Made.{is_free, is_free_at, mentions, minus}
+use Rattle.spi_count.specs.Counts.{count_of}
+use Rattle.spi_count.specs.Sums.{name_bound, key_of, message_of, Stands}
+use Rattle.spi_count.specs.declared.sum.AtomKind.{AtomKind}
+use Rattle.spi_count.specs.declared.sum.AtomKind.TheVariants.{End, Check, Many}
+use Rattle.spi_count.specs.declared.sum.Sum.{Sum}
+use Rattle.spi_audit.specs.declared.keys.Keys.{Keys}
+use Rattle.spi_audit.specs.declared.accounts.Account.{Account}
+use Rattle.spi_audit.specs.Keys.{Keyed, AreKeys}
+
+-- the messages of a store that have their key among these
+abbrev pub with_keys : Store → Keys → ℕ → Message → Type 0
+with_keys s keys i m = Keyed s.messages (λ i. get nat_eq keys.keys i) i m
+
+-- the keys are those of messages of the store, in which nothing has two numbers
+pub record IsKeyed (s : Store) (keys : Keys) : Type 0 where
+  pub once : NoneTwice s
+  pub keyed : AreKeys s.messages (λ i. get nat_eq keys.keys i)
+
+-- the message has a number and a key
+abbrev pub HasKey : Store → Keys → Message → Type 0
+HasKey s keys m = (i : ℕ) × with_keys s keys i m
+
+-- counts for an effect, by the numbers and keys
+abbrev pub SumOf : Store → Keys → Sum → Effect → Type 0
+SumOf s keys sum es = Stands (with_keys s keys) sum es
+
+-- an atom whose message has a key goes in
+abbrev pub AddsAtom : Keys → AtomId → Sum → Sum → Type 0
+AddsAtom keys a old new =
+    (s : Store) (b : Atom) (es : Effect) → IsKeyed s keys → SaysAtom s.messages a b → HasKey s keys (message_of b) → SumOf s keys old es → SumOf s keys new (es ++ b ∷ [])
+
+-- an atom goes out, where it stands there
+abbrev pub TakesAtom : Keys → AtomId → Sum → Sum → Type 0
+TakesAtom keys a old new =
+    (s : Store) (b : Atom) (es : Effect) → IsKeyed s keys → SaysAtom s.messages a b → SumOf s keys old es → SumOf s keys new (minus es (b ∷ []))
+
+-- the same for the atoms of an effect
+abbrev pub HaveKeys : Store → Keys → Effect → Type 0
+HaveKeys s keys fs = (a : Atom) → In a fs → HasKey s keys (message_of a)
+
+abbrev pub AddsAll : Keys → List AtomId → Sum → Sum → Type 0
+AddsAll keys ids old new =
+    (s : Store) (fs es : Effect) → IsKeyed s keys → TellsAll (SaysAtom s.messages) ids fs → HaveKeys s keys fs → SumOf s keys old es → SumOf s keys new (es ++ fs)
+
+abbrev pub TakesAll : Keys → List AtomId → Sum → Sum → Type 0
+TakesAll keys ids old new =
+    (s : Store) (fs es : Effect) → IsKeyed s keys → TellsAll (SaysAtom s.messages) ids fs → SumOf s keys old es → SumOf s keys new (minus es fs)
+
+-- an atom by its kind and its message
+abbrev pub atom_of : AtomKind → Message → Atom
+atom_of End m = ends m
+atom_of Check m = checks m
+atom_of Many m = many m
+
+-- the key of a message of the store
+abbrev pub IsKey : Store → Keys → ℕ → Type 0
+IsKey s keys q = (i : ℕ) × (m : Message) × with_keys s keys i m × (q ≡ key_of (name_bound m) i)
+
+-- An effect is held: the atoms that aren't loose by counts, the loose ones by the names that they have and by whether each
+-- is a `many`.
+pub record HeldBy (s : Store) (keys : Keys) (loose : Atom → Bool) (sum : Sum) (names : BTreeMap ℕ ℕ) (lasting : Bool) (es : Effect) : Type 0 where
+  pub inner : Effect
+  pub stands : SumOf s keys sum inner
+  pub inside : (a : Atom) → loose a ≡ false → count a inner ≡ count a es
+  pub outside : (a : Atom) → loose a ≡ true → count a inner ≡ 0
+  pub named : (a : Atom) (y : ℕ) → loose a ≡ true → 0 < count a es → is_free_at y a ≡ true → 0 < count_of names y
+  pub names_of : (y : ℕ) → 0 < count_of names y → (a : Atom) × (loose a ≡ true) × (0 < count a es) × (is_free_at y a ≡ true)
+  pub lasts : lasting ≡ true → (a : Atom) → loose a ≡ true → 0 < count a es → IsMany a
+  pub once : lasting ≡ false → (a : Atom) × (loose a ≡ true) × (0 < count a es) × (IsMany a → ⊥)
+
+-- an atom has a name from n on
+abbrev pub outer : ℕ → Atom → Bool
+outer n a = nat_lt n (name_bound (message_of a))
+
+abbrev pub Held : Store → Keys → ℕ → Account → Effect → Type 0
+Held s keys n acc es = HeldBy s keys (outer n) acc.sum acc.loose.counts acc.lasting es
+
+-- effects where n names are in scope, one by one
+pub data Holds (s : Store) (keys : Keys) : List ℕ → List Account → List Effect → Type 0 where
+  holds_none : Holds s keys [] [] []
+  holds_next : {n : ℕ} {acc : Account} {es : Effect} {ns : List ℕ} {accs : List Account} {st : List Effect} → Held s keys n acc es → Holds s keys ns accs st → Holds s keys (n ∷ ns) (acc ∷ accs) (es ∷ st)
+
+-- whether each is a `many`, with one more of this kind
+abbrev pub lasting_with : Bool → AtomKind → Bool
+lasting_with b End = false
+lasting_with b Check = false
+lasting_with b Many = b
+
+-- some effect is held
+abbrev pub IsHeld : Store → Keys → Account → Type 0
+IsHeld s keys acc = IsKeyed s keys × (n : ℕ) × (es : Effect) × Held s keys n acc es
+
+-- the names of a message are marked too
+abbrev pub Marks : BTreeMap ℕ ℕ → BTreeMap ℕ ℕ → Message → Type 0
+Marks old new m =
+    ((y : ℕ) → 0 < count_of old y → 0 < count_of new y)
+    × ((y : ℕ) → is_free y m ≡ true → 0 < count_of new y)
+    × ((y : ℕ) → count_of old y ≡ 0 → is_free y m ≡ false → count_of new y ≡ 0)
+
+-- names from k on have left, and whether none did
+abbrev pub IsCut : Store → Keys → ℕ → Account → Bool → Account → Type 0
+IsCut s keys k old b new =
+    (n : ℕ) (es : Effect) → k ≤ n → Held s keys n old es
+    → Held s keys k new es
+    × (b ≡ true → (a : Atom) → 0 < count a es → name_bound (message_of a) ≤ n → name_bound (message_of a) ≤ k)
+    × (b ≡ false → (a : Atom) × (0 < count a es) × (k < name_bound (message_of a)) × (name_bound (message_of a) ≤ n))
+
+-- the name k has left, or two names from k on, and whether none of them did
+abbrev pub LeavesOne : Store → Keys → ℕ → Account → Bool → Account → Type 0
+LeavesOne s keys k old b new = (es : Effect) → Held s keys (suc k) old es → Held s keys k new es × (b ≡ not (mentions k es))
+
+abbrev pub LeavesTwo : Store → Keys → ℕ → Account → Bool → Account → Type 0
+LeavesTwo s keys k old b new = (es : Effect) → Held s keys (suc (suc k)) old es → Held s keys k new es × (b ≡ not (mentions k es || mentions (suc k) es))
+
+-- atoms with names in scope go in, or out
+abbrev pub HoldsMore : Store → Keys → ℕ → Effect → Account → Account → Type 0
+HoldsMore s keys k fs old new = (es : Effect) → Held s keys k old es → Held s keys k new (es ++ fs)
+
+abbrev pub HoldsLess : Store → Keys → ℕ → Effect → Account → Account → Type 0
+HoldsLess s keys k fs old new = (es : Effect) → Held s keys k old es → Held s keys k new (minus es fs)

@@ -1,0 +1,288 @@
+// Effects by counts and what uses do to them. Atoms with a name that has left its scope are held by their names alone: such
+// an atom can't be taken out any more, and only its names still count.
+ghost use Rattle.std.specs.Prelude.{◌≡◌, ℕ, suc, max, ◌≤◌, ◌<◌, ◌&&◌, not, true, false, nat_eq, [], ◌∷◌, ◌++◌, length, slice_get, Some, IfOk, OnOk};
+ghost use Rattle.spi_term.specs.Term as Term;
+ghost use Rattle.spi_term.specs.Term.{Message, Atom, Effect, name, checks, ends, many, nonce};
+ghost use Rattle.spi_effect.specs.Effect.{Within};
+ghost use Rattle.spi_effect.specs.Made.{are_many, minus, greater, mentions, is_within};
+ghost use Rattle.spi_intern.specs.declared.store.Store.{Store};
+ghost use Rattle.spi_intern.specs.Table.{TellsAll};
+ghost use Rattle.spi_intern.specs.Atoms.{SaysAtom};
+ghost use Rattle.spi_intern.specs.Meaning.{Means};
+ghost use Rattle.spi_count.specs.Counts.{count_of};
+ghost use Rattle.spi_count.specs.Sums.{name_bound, message_of};
+ghost use Rattle.spi_audit.specs.declared.keys.Keys.{Keys};
+ghost use Rattle.spi_audit.specs.Accounts.{with_keys, IsKeyed, IsKey, HasKey, HaveKeys, SumOf, Held, IsHeld, Marks, IsCut, lasting_with, LeavesOne, LeavesTwo, HoldsMore, HoldsLess};
+ghost use Rattle.spi_audit.specs.Changes.{Below};
+
+use crate::NoMemory;
+use crate::keys::Keys;
+use crate::sums::{add_atom, add_atoms, add_type, take_atom, take_type};
+use spi_count::{AtomKind, Counts, Sum};
+use spi_intern::{AtomId, MsgId, MsgPart, Store, TyId};
+use std::alloc::Global;
+
+/// An effect: the atoms with names in scope by counts, and of the others which names they have, and whether each of them
+/// is a `many`.
+#[derive(Drop)]
+pub struct Account {
+    pub sum: Sum,
+    pub loose: Counts,
+    pub lasting: bool,
+}
+
+/// The effect without atoms.
+pub fn empty_account(alloc: Global) -> Account
+    ensures { (s : Store) (keys : Keys) (n : ℕ) → IsKeyed s keys → Held s keys n result [] }
+{
+    Account {
+        sum: Sum::new(alloc),
+        loose: Counts::new(alloc),
+        lasting: true,
+    }
+}
+
+// The names of a message are marked.
+fn mark_names(store: &Store, id: MsgId, loose: &mut Counts) -> Result<(), NoMemory>
+    requires { id.place < length store.now.messages }
+    ensures { OnOk result ((m : Message) → slice_get store.now.messages id.place ≡ Some m → Marks loose.old.counts loose.new.counts m) }
+{
+    match store.part(id) {
+        MsgPart::Bound(_) => Ok(()),
+        MsgPart::Name(x) => loose.raise_to(x as u64, 1),
+        MsgPart::Unit => Ok(()),
+        MsgPart::Pair(a, b) => {
+            mark_names(store, a, loose)?;
+            mark_names(store, b, loose)
+        }
+        MsgPart::Inl(a) => mark_names(store, a, loose),
+        MsgPart::Inr(a) => mark_names(store, a, loose),
+        MsgPart::Enc(a, b) => {
+            mark_names(store, a, loose)?;
+            mark_names(store, b, loose)
+        }
+        MsgPart::Hash(a) => mark_names(store, a, loose),
+    }
+}
+
+// The names of the message with a key are marked.
+fn mark_key(store: &Store, keys: &Keys, key: u64, loose: &mut Counts) -> Result<(), NoMemory>
+    requires { IsKey store.now keys.now key }
+    ensures { OnOk result ((r : IsKey store.now keys.now key) → Marks loose.old.counts loose.new.counts r.1) }
+{
+    match keys.id((key % 4_294_967_296) as usize) {
+        Some(id) => mark_names(store, id, loose),
+        None => unreachable!(),
+    }
+}
+
+// Whether each loose atom is a `many`, with one more of this kind.
+fn is_lasting(lasting: bool, kind: AtomKind) -> bool
+    ensures { result ≡ lasting_with lasting kind }
+{
+    match kind {
+        AtomKind::End => false,
+        AtomKind::Check => false,
+        AtomKind::Many => lasting,
+    }
+}
+
+// The atoms with a name from `scope` on become loose.
+fn loosened(store: &Store, keys: &Keys, scope: u32, account: Account) -> Result<Account, NoMemory>
+    requires scope { scope ≤ 300000 }
+    requires held { IsHeld store.now keys.now account }
+    ensures { IfOk result (λ r. (n : ℕ) (es : Effect) → scope ≤ n → Held store.now keys.now n account es → Held store.now keys.now scope r es) }
+{
+    let least = (scope as u64 + 1) * 4_294_967_296;
+    let mut sum = account.sum;
+    let mut loose = account.loose;
+    let mut lasting = account.lasting;
+    while let Some((kind, key, _)) = sum.take_from(least) {
+        mark_key(store, keys, key, &mut loose)?;
+        lasting = is_lasting(lasting, kind);
+    }
+    Ok(Account {
+        sum,
+        loose,
+        lasting,
+    })
+}
+
+// Names from `scope` on leave: whether no atom within has one, and the effect in that scope.
+fn cut(
+    store: &Store,
+    keys: &Keys,
+    scope: u32,
+    account: Account,
+) -> Result<(bool, Account), NoMemory>
+    requires scope { scope ≤ 300000 }
+    requires held { IsHeld store.now keys.now account }
+    ensures { IfOk result (λ r. IsCut store.now keys.now scope account r.0 r.1) }
+{
+    if account.sum.reaches((scope as u64 + 1) * 4_294_967_296) {
+        let rest = loosened(store, keys, scope, account)?;
+        Ok((false, rest))
+    } else {
+        Ok((true, account))
+    }
+}
+
+// No atom within has a name, and no loose one.
+fn is_free_of(inside: bool, loose: u64) -> bool
+    ensures { result ≡ (inside && nat_eq loose 0) }
+{
+    inside && loose == 0
+}
+
+pub fn both(a: bool, b: bool) -> bool
+    ensures { result ≡ (a && b) }
+{
+    a && b
+}
+
+/// The name `scope` leaves: whether the effect doesn't have it.
+pub fn leave_one(
+    store: &Store,
+    keys: &Keys,
+    scope: u32,
+    account: Account,
+) -> Result<(bool, Account), NoMemory>
+    requires scope { scope ≤ 300000 }
+    requires held { IsHeld store.now keys.now account }
+    ensures { IfOk result (λ r. LeavesOne store.now keys.now scope account r.0 r.1) }
+{
+    let loose = account.loose.count(scope as u64);
+    let (inside, rest) = cut(store, keys, scope, account)?;
+    Ok((is_free_of(inside, loose), rest))
+}
+
+/// The name `scope` and the next one leave: whether the effect has neither.
+pub fn leave_two(
+    store: &Store,
+    keys: &Keys,
+    scope: u32,
+    account: Account,
+) -> Result<(bool, Account), NoMemory>
+    requires scope { scope ≤ 300000 }
+    requires held { IsHeld store.now keys.now account }
+    ensures { IfOk result (λ r. LeavesTwo store.now keys.now scope account r.0 r.1) }
+{
+    let first = account.loose.count(scope as u64);
+    let second = account.loose.count(scope as u64 + 1);
+    let (inside, rest) = cut(store, keys, scope, account)?;
+    Ok((is_free_of(is_free_of(inside, first), second), rest))
+}
+
+/// The same where each atom must be a `many` too.
+pub fn serve(
+    store: &Store,
+    keys: &Keys,
+    scope: u32,
+    account: Account,
+) -> Result<(bool, Account), NoMemory>
+    requires scope { scope ≤ 300000 }
+    requires held { IsHeld store.now keys.now account }
+    ensures { IfOk result (λ r. (es : Effect) → Held store.now keys.now (suc scope) account es → Held store.now keys.now scope r.1 es × (r.0 ≡ are_many es && not (mentions scope es))) }
+{
+    let lasting = both(account.lasting, account.sum.is_all_many());
+    let (free, rest) = leave_one(store, keys, scope, account)?;
+    Ok((both(lasting, free), rest))
+}
+
+/// One more atom, whose message has a key.
+pub fn with_atom(keys: &Keys, a: AtomId, account: Account) -> Result<Account, NoMemory>
+    ensures { IfOk result (λ r. (s : Store) (b : Atom) (k : ℕ) → IsKeyed s keys.now → SaysAtom s.messages a b → HasKey s keys.now (message_of b) → name_bound (message_of b) ≤ k → HoldsMore s keys.now k (b ∷ []) account r) }
+{
+    let mut more = account;
+    add_atom(keys, a, &mut more.sum)?;
+    Ok(more)
+}
+
+/// An atom less, where it stands there.
+pub fn without_atom(keys: &Keys, a: AtomId, account: Account) -> Account
+    ensures { (s : Store) (b : Atom) (k : ℕ) → IsKeyed s keys.now → SaysAtom s.messages a b → name_bound (message_of b) ≤ k → HoldsLess s keys.now k (b ∷ []) account result }
+{
+    let mut rest = account;
+    take_atom(keys, a, &mut rest.sum);
+    rest
+}
+
+/// The effect of a Nonce type goes in.
+pub fn with_type(store: &Store, keys: &Keys, t: TyId, account: Account) -> Result<Account, NoMemory>
+    requires { t.place < length store.now.types }
+    ensures { IfOk result (λ r. (fs : Effect) (k : ℕ) → IsKeyed store.now keys.now → Means store.now t.place (nonce fs) → HaveKeys store.now keys.now fs → Below k fs → HoldsMore store.now keys.now k fs account r) }
+{
+    let mut more = account;
+    add_type(store, keys, t, &mut more.sum)?;
+    Ok(more)
+}
+
+/// The effect of a Nonce type goes out.
+pub fn without_type(store: &Store, keys: &Keys, t: TyId, account: Account) -> Account
+    requires { t.place < length store.now.types }
+    ensures { (fs : Effect) (k : ℕ) → IsKeyed store.now keys.now → Means store.now t.place (nonce fs) → Below k fs → HoldsLess store.now keys.now k fs account result }
+{
+    let mut rest = account;
+    take_type(store, keys, t, &mut rest.sum);
+    rest
+}
+
+// The names of both.
+fn merged(a: Counts, b: Counts) -> Result<Counts, NoMemory>
+    ensures { IfOk result (λ c. (k : ℕ) → count_of c.counts k ≡ max (count_of a.counts k) (count_of b.counts k)) }
+{
+    let (mut most, less) = if a.len() < b.len() { (b, a) } else { (a, b) };
+    most.rise_to(less)?;
+    Ok(most)
+}
+
+/// The sum of two effects.
+pub fn summed(a: Account, b: Account) -> Result<Account, NoMemory>
+    ensures { IfOk result (λ r. (s : Store) (keys : Keys) (n : ℕ) (es fs : Effect) → IsKeyed s keys → Held s keys n a es → Held s keys n b fs → Held s keys n r (es ++ fs)) }
+{
+    Ok(Account {
+        sum: Sum::joined(a.sum, b.sum)?,
+        loose: merged(a.loose, b.loose)?,
+        lasting: both(a.lasting, b.lasting),
+    })
+}
+
+/// The greater count of each atom of two effects.
+pub fn greatest(a: Account, b: Account) -> Result<Account, NoMemory>
+    ensures { IfOk result (λ r. (s : Store) (keys : Keys) (n : ℕ) (es fs : Effect) → IsKeyed s keys → Held s keys n a es → Held s keys n b fs → Held s keys n r (greater es fs)) }
+{
+    Ok(Account {
+        sum: Sum::greatest(a.sum, b.sum)?,
+        loose: merged(a.loose, b.loose)?,
+        lasting: both(a.lasting, b.lasting),
+    })
+}
+
+// No count of the first is above that of the second.
+fn is_sum_within(a: Sum, b: &Sum) -> bool
+    ensures { (s : Store) (keys : Keys) (es fs : Effect) → IsKeyed s keys → SumOf s keys a es → SumOf s keys b.now fs → result ≡ is_within es fs }
+{
+    let mut rest = a;
+    while let Some((kind, key, count)) = rest.pop() {
+        if b.count(kind, key) < count {
+            return false;
+        }
+    }
+    true
+}
+
+/// An effect that is written takes the place of another: whether that is within it.
+pub fn taken(
+    alloc: Global,
+    keys: &Keys,
+    ids: &[AtomId],
+    account: Account,
+) -> Result<(bool, Account), NoMemory>
+    ensures { IfOk result (λ r. (s : Store) (fs es : Effect) (k : ℕ) → IsKeyed s keys.now → TellsAll (SaysAtom s.messages) ids.now fs → HaveKeys s keys.now fs → Below k fs → Held s keys.now k account es → Held s keys.now k r.1 fs × (r.0 ≡ is_within es fs)) }
+{
+    let mut written = empty_account(alloc);
+    add_atoms(keys, ids, &mut written.sum)?;
+    let none = account.loose.is_empty();
+    let within = is_sum_within(account.sum, &written.sum);
+    Ok((both(none, within), written))
+}
