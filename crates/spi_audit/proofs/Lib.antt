@@ -21,3 +21,7 @@ pub mod Settling
 pub mod Leading
 pub mod Parts
 pub mod Replies
+pub mod FormPremises
+pub mod FormRules
+pub mod FormUses
+pub mod FormTyped
