@@ -25,3 +25,4 @@ pub mod FormPremises
 pub mod FormRules
 pub mod FormUses
 pub mod FormTyped
+pub mod FormChildren
