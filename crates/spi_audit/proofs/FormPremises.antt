@@ -1,5 +1,5 @@
 -- Premises of a process's use, as the judge goes on.
-use Rattle.std.proofs.Common.{◌≡◌, refl, sym, ap, ◌∙◌, subst, ℕ, List, [], ◌∷◌, ◌++◌, length, append-nil}
+use Rattle.std.proofs.Common.{◌≡◌, sym, ap, ◌∙◌, subst, ℕ, List, [], ◌∷◌, ◌++◌, length}
 use Rattle.spi_term.specs.Term.{Message, Ty, Process}
 use Rattle.spi_term.specs.Spelling.{Shape}
 use Rattle.spi_rules.specs.Environment.{Env}
@@ -11,8 +11,8 @@ use Rattle.spi_message.specs.Judging.{Numbered, Stands, IsKept}
 use Rattle.spi_audit.specs.declared.asked.Asked.{Asked}
 use Rattle.spi_audit.specs.declared.asked.Asked.TheVariants as A
 use Rattle.spi_audit.specs.declared.asked.Binding.{Binding}
-use Rattle.spi_audit.specs.Fits.{Subject, of_message, of_process}
-use Rattle.spi_audit.specs.Asked.{Bound, bound_none, bound_one, bound_two, Located, IsAsked, IsBegun, Begins, AreBegun, begun_none, begun_next, AreOpen, open_message, open_processes}
+use Rattle.spi_audit.specs.Fits.{of_process}
+use Rattle.spi_audit.specs.Asked.{Bound, bound_none, bound_one, bound_two, Located, IsAsked, IsBegun, Begins, begun_none, begun_next, AreOpen, open_processes}
 use Rattle.spi_audit.proofs.Standing.{stands_kept}
 
 -- what is asked stays as the store grows

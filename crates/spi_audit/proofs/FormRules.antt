@@ -8,6 +8,7 @@ use Rattle.spi_message.specs.Judging.{Numbered}
 use Rattle.spi_audit.specs.Fits.{Subject, of_process, plain, Fits, fits_stop, fits_out, fits_in, fits_repeat, fits_split, fits_split_un, fits_match, fits_match_un, fits_case, fits_case_un, fits_decrypt, fits_decrypt_un, fits_check, fits_check_un, fits_begin, fits_end, fits_end_many, fits_cast, fits_cast_un, fits_new, fits_par}
 use Rattle.spi_audit.specs.Asked.{AnswersLeaf, AnswersPrefix, AnswersFork}
 
+-- forms without a process
 send_rules : {rule : Rule} {env : Env} {m n : Message} {ps : List Subject} → Fits (plain rule) (of_process env (leaf (Sends m n))) ps → rule ≡ ProcOut
 send_rules fits_out = refl
 
@@ -20,6 +21,7 @@ stop_rules fits_stop = refl
 pub stop_other : (j : Numbered) (rule : Rule) → (rule ≡ ProcStop → ⊥) → AnswersLeaf j j rule Stops None
 stop_other j rule d = record { at = λ ss e s ps f. d (stop_rules f) }
 
+-- forms with one
 recv_rules : {rule : Rule} {env : Env} {m : Message} {t : Ty} {p : Process} {ps : List Subject} → Fits (plain rule) (of_process env (prefix (Recvs m t) p)) ps → rule ≡ ProcIn
 recv_rules fits_in = refl
 
@@ -91,6 +93,7 @@ fresh_rules (fits_new g h) = refl
 pub fresh_other : (j : Numbered) (rule : Rule) (t : Ty) (body : ℕ) → (rule ≡ ProcNew → ⊥) → AnswersPrefix j j rule (Makes t) body None
 fresh_other j rule t body d = record { at = λ ss e p s l ps f. d (fresh_rules f) }
 
+-- forms with two
 branch_rules : {rule : Rule} {env : Env} {m : Message} {t u : Ty} {p q : Process} {ps : List Subject} → Fits (plain rule) (of_process env (fork (Cases m t u) p q)) ps → (rule ≡ ProcCase) ⊎ (rule ≡ ProcCaseUn)
 branch_rules (fits_case g h) = inl refl
 branch_rules fits_case_un = inr refl

@@ -1,7 +1,6 @@
 -- Uses of the rules of processes that take a message apart, and of those that check and that make one.
-use Rattle.std.proofs.Common.{◌≡◌, refl, sym, ap, ◌∙◌, subst, ℕ, suc, Bool, true, false, List, [], ◌∷◌, ◌++◌, length, Option, Some, None}
-use Rattle.spi_term.specs.Term.{Message, name, Effect, Ty, un, pair_ty, sum_ty, key, Splits, Selects, Decrypts, Checks, Makes, Cases, Pars, Process, split, select, branch, decrypt, check, fresh, par}
-use Rattle.spi_term.specs.Spelling.{Shape}
+use Rattle.std.proofs.Common.{◌≡◌, refl, sym, subst, ℕ, suc, true, false, List, [], ◌∷◌, length, Some, None}
+use Rattle.spi_term.specs.Term.{Message, name, Effect, Ty, un, pair_ty, sum_ty, key, Splits, Selects, Decrypts, Checks, Makes, Cases, Pars, Process, split, select, branch, decrypt, check, fresh}
 use Rattle.spi_term.specs.Substitution.{ty_put, process_put, process_put_two}
 use Rattle.spi_rules.specs.Environment.{Env, extended}
 use Rattle.spi_rules.specs.Good.{GoodTy}
@@ -10,9 +9,8 @@ use Rattle.spi_rules.specs.declared.rule.Rule.{Rule}
 use Rattle.spi_rules.specs.declared.rule.Rule.TheVariants.{ProcSplit, ProcSplitUn, ProcMatch, ProcMatchUn, ProcCase, ProcCaseUn, ProcDecrypt, ProcDecryptUn, ProcCheck, ProcCheckUn, ProcNew, ProcPar}
 use Rattle.spi_intern.specs.declared.types.TyId.{TyId}
 use Rattle.spi_message.specs.Judging.{Numbered, Stands, IsKept}
-use Rattle.spi_message.specs.Tests.{is_un, is_fresh, nonce_of}
+use Rattle.spi_message.specs.Tests.{is_un, is_fresh}
 use Rattle.spi_audit.specs.declared.asked.Asked.{Asked}
-use Rattle.spi_audit.specs.declared.asked.Premises.{Premises}
 use Rattle.spi_audit.specs.declared.asked.Premises.TheVariants.{OnePremise, TwoPremises, ThreePremises}
 use Rattle.spi_audit.specs.Fits.{Subject, of_message, of_process, plain, Fits, fits_split, fits_split_un, fits_match, fits_match_un, fits_case, fits_case_un, fits_decrypt, fits_decrypt_un, fits_check, fits_check_un, fits_new, fits_par}
 use Rattle.spi_audit.specs.Asked.{IsAsked, Begins, open_message, AnswersPrefix, AnswersFork}

@@ -1,8 +1,8 @@
 -- Uses of the rules of processes, held against the forms that they are asked of.
-use Rattle.std.proofs.Common.{◌≡◌, refl, sym, ap, ◌∙◌, subst, ℕ, suc, Bool, true, false, true≢false, List, [], ◌∷◌, ◌++◌, length, Option, Some, None, Result, Ok, Err, IfOk, append_assoc, append-nil}
-use Rattle.std.specs.Prelude.{slice_get, ⊤}
+use Rattle.std.proofs.Common.{◌≡◌, refl, sym, ap, ◌∙◌, subst, ℕ, suc, Bool, true, false, true≢false, List, [], ◌∷◌, ◌++◌, length, Option, Some, None, Result, IfOk, append_assoc, append-nil}
+use Rattle.std.specs.Prelude.{slice_get}
 use Rattle.std.proofs.lemmas.Result.{IfOk-weaker}
-use Rattle.spi_term.specs.Term.{Message, bound, name, unit, pair, in_left, in_right, enc, hash, Effect, Ty, un, unit_ty, pair_ty, sum_ty, key, nonce, Leaf, Sends, Stops, Prefix, Recvs, Serves, Splits, Selects, Decrypts, Checks, Begins as BeginsAt, Ends, EndManys, Casts, Makes, Fork, Cases, Pars, Process, leaf, prefix, fork, recv, serve, split, select, branch, decrypt, check, begin, end, end_many, cast, fresh}
+use Rattle.spi_term.specs.Term.{Message, name, Effect, Ty, un, unit_ty, pair_ty, sum_ty, key, nonce, Sends, Stops, Prefix, Recvs, Serves, Begins as BeginsAt, Ends, EndManys, Casts, Fork, Process, recv, serve, begin, end, end_many, cast}
 use Rattle.spi_term.specs.Spelling.{Shape}
 use Rattle.spi_term.specs.Substitution.{ty_put, process_put, process_put_two}
 use Rattle.spi_term.proofs.Lists.{get_at}
@@ -11,19 +11,17 @@ use Rattle.spi_rules.specs.Messages.{IsLabel}
 use Rattle.spi_rules.specs.Good.{GoodTy}
 use Rattle.spi_rules.specs.Processes.{IsNonce, nonce_name, IsGenerative}
 use Rattle.spi_rules.specs.declared.rule.Rule.{Rule}
-use Rattle.spi_rules.specs.declared.rule.Rule.TheVariants.{ProcStop, ProcOut, ProcIn, ProcRepeat, ProcSplit, ProcSplitUn, ProcMatch, ProcMatchUn, ProcCase, ProcCaseUn, ProcDecrypt, ProcDecryptUn, ProcCheck, ProcCheckUn, ProcBegin, ProcEnd, ProcEndMany, ProcCast, ProcCastUn, ProcNew, ProcPar}
+use Rattle.spi_rules.specs.declared.rule.Rule.TheVariants.{ProcStop, ProcOut, ProcIn, ProcRepeat, ProcBegin, ProcEnd, ProcEndMany, ProcCast, ProcCastUn}
 use Rattle.spi_message.specs.Judging.{Numbered, Stands}
 use Rattle.spi_message.specs.Tests.{is_un, is_fresh, nonce_in, nonce_of, labelled, good}
 use Rattle.spi_message.proofs.Deciding.{is_un_true, good_true, good_from, labelled_true, labelled_from}
-use Rattle.spi_intern.specs.declared.types.TyId.{TyId}
 use Rattle.spi_audit.specs.declared.asked.Asked.{Asked}
 use Rattle.spi_audit.specs.declared.asked.Premises.{Premises}
-use Rattle.spi_audit.specs.declared.asked.Premises.TheVariants.{NoPremise, OnePremise, TwoPremises, ThreePremises}
-use Rattle.spi_audit.specs.Fits.{Subject, of_message, of_process, plain, Fits, fits_stop, fits_out, fits_in, fits_repeat, fits_split, fits_split_un, fits_match, fits_match_un, fits_case, fits_case_un, fits_decrypt, fits_decrypt_un, fits_check, fits_check_un, fits_begin, fits_end, fits_end_many, fits_cast, fits_cast_un, fits_new, fits_par}
-use Rattle.spi_audit.specs.Asked.{Located, IsAsked, IsBegun, Begins, AreOpen, open_message, open_processes, begun_none, Answered, AnswersLeaf, AnswersPrefix, AnswersFork, TakesUntrusted, TakesLabel, TakesGood}
-use Rattle.spi_audit.specs.Notes.{IsTest, IsNonceAt, IsNoNonce}
-use Rattle.spi_audit.proofs.Computed.{nonce_is}
-use Rattle.spi_audit.proofs.FormPremises.{is_begun, process_open, two_open}
+use Rattle.spi_audit.specs.declared.asked.Premises.TheVariants.{NoPremise, TwoPremises}
+use Rattle.spi_audit.specs.Fits.{Subject, of_message, of_process, plain, Fits, fits_stop, fits_out, fits_in, fits_repeat, fits_begin, fits_end, fits_end_many, fits_cast, fits_cast_un}
+use Rattle.spi_audit.specs.Asked.{Located, IsAsked, IsBegun, Begins, AreOpen, open_message, open_processes, begun_none, AnswersLeaf, AnswersPrefix, AnswersFork, TakesUntrusted, TakesLabel, TakesGood}
+use Rattle.spi_audit.specs.Notes.{IsTest}
+use Rattle.spi_audit.proofs.FormPremises.{is_begun, process_open}
 
 -- a test that said yes, and one that said no
 pub as_un : (P : Ty → Type 0) (t : Ty) → is_un t ≡ true → P un → P t
@@ -44,6 +42,7 @@ is_label m h q e s = labelled_true m e (sym (h.at e s) ∙ q)
 pub is_no_label : {j : Numbered} (m : Message) {b : Bool} → IsTest j (labelled m) b → b ≡ false → (e : Env) → Stands j e → IsLabel [] e m → ⊥
 is_no_label m h q e s g = true≢false (sym (sym q ∙ (h.at e s ∙ labelled_from g)))
 
+-- what new may make, and nonces
 pub generative : (t : Ty) → is_fresh t ≡ true → IsGenerative t
 generative un h = tt
 generative unit_ty h = true≢false (sym h)

@@ -13,7 +13,7 @@ pub returns-then-not-branch-2-clause-answer : goal.returns-then-not-branch-2-cla
 returns-then-not-branch-2-clause-answer c = branch_right_bad c.args.judge.now c.is_good-2.new.judge (message c.args.whole.now) (ty c.args.left.now) (ty c.args.right.now) c.args.on_left c.args.on_right (bad_later c.args.judge.now c.is_good.new.judge (ty c.args.right.now) c.in_ok-is_good.ensures.kept (is_not_good (ty c.args.right.now) c.in_ok-is_good-2.ensures.answer c.if-not-branch-2.true))
 
 pub returns-clause-answer : goal.returns-clause-answer
-returns-clause-answer c = 
+returns-clause-answer c =
     let k = kept_more c.in_ok-is_good.ensures.kept c.in_ok-is_good-2.ensures.kept in
     let l = kept_more k c.in_ok-sum.ensures.kept in
     branch_fits c.args.judge.now c.begun_one-2.new.judge (message c.args.whole.now) (ty c.args.left.now) (ty c.args.right.now) c.args.on_left c.args.on_right (ty c.in_ok-both.both) c.in_ok-both.ensures (is_good (ty c.args.left.now) c.in_ok-is_good.ensures.answer c.if-not-branch.false)

@@ -1,5 +1,5 @@
 use Rattle.std.proofs.Common.{refl}
-use Rattle.spi_term.specs.View.{message, ty}
+use Rattle.spi_term.specs.View.{ty}
 use Rattle.spi_intern.proofs.Meanings.{terms_same}
 use Rattle.spi_audit.proofs.Standing.{kept_more}
 use Rattle.spi_audit.proofs.FormPremises.{asked_later, begins_later}

@@ -10,7 +10,7 @@ pub returns-then-not-branch-clause-answer : goal.returns-then-not-branch-clause-
 returns-then-not-branch-clause-answer c = decrypt_bad c.args.judge.now c.is_good.new.judge (message c.args.whole.now) (ty c.args.ty.now) (message c.args.key.now) c.args.body (is_not_good (ty c.args.ty.now) c.in_ok-is_good.ensures.answer c.if-not-branch.true)
 
 pub returns-clause-answer : goal.returns-clause-answer
-returns-clause-answer c = 
+returns-clause-answer c =
     decrypt_fits c.args.judge.now c.begun_one.new.judge (message c.args.whole.now) (ty c.args.ty.now) (message c.args.key.now) c.args.body (ty c.in_ok-wanted.wanted) c.in_ok-wanted.ensures (is_good (ty c.args.ty.now) c.in_ok-is_good.ensures.answer c.if-not-branch.false)
     (asked_later (kept_more c.in_ok-by.ensures.kept c.in_ok-next.ensures.kept).store c.in_ok-sealed.ensures.at)
     (asked_later c.in_ok-next.ensures.kept.store c.in_ok-by.ensures.at)

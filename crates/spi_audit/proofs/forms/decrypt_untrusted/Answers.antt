@@ -10,7 +10,7 @@ pub returns-then-not-is_un_type-clause-answer : goal.returns-then-not-is_un_type
 returns-then-not-is_un_type-clause-answer c = decrypt_typed c.args.judge.now c.args.judge.now (message c.args.whole.now) (ty c.args.ty.now) (message c.args.key.now) c.args.body (sym c.is_un_type.ensures ∙ c.if-not-is_un_type.true)
 
 pub returns-clause-answer : goal.returns-clause-answer
-returns-clause-answer c = 
+returns-clause-answer c =
     decrypt_un_fits c.args.judge.now c.begun_one.new.judge (message c.args.whole.now) (ty c.args.ty.now) (message c.args.key.now) c.args.body (sym c.is_un_type.ensures ∙ c.if-not-is_un_type.false)
     (asked_later (kept_more c.in_ok-by.ensures.kept c.in_ok-next.ensures.kept).store c.in_ok-sealed.ensures.at)
     (asked_later c.in_ok-next.ensures.kept.store c.in_ok-by.ensures.at)

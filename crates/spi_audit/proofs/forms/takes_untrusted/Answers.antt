@@ -1,5 +1,4 @@
 use Rattle.std.proofs.Common.{refl, sym, ◌∙◌}
-use Rattle.spi_term.specs.View.{message, ty}
 use Rattle.spi_intern.proofs.Meanings.{terms_same}
 use Rattle.spi_audit.proofs.FormPremises.{asked_later, begins_later}
 use Rattle.spi_audit.proofs.forms.takes_untrusted.Goals as goal
