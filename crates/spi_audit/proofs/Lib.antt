@@ -24,3 +24,8 @@ pub mod Replies
 pub mod MessageKeys
 pub mod MessageParts
 pub mod MessageTaken
+pub mod FormPremises
+pub mod FormRules
+pub mod FormUses
+pub mod FormTyped
+pub mod FormChildren

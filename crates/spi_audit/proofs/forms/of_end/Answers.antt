@@ -1,0 +1,10 @@
+use Rattle.spi_term.specs.View.{message}
+use Rattle.spi_audit.proofs.FormRules.{end_other}
+use Rattle.spi_audit.proofs.FormUses.{end_answers}
+use Rattle.spi_audit.proofs.forms.of_end.Goals as goal
+
+pub returns-in-ProcEnd-clause-answer : goal.returns-in-ProcEnd-clause-answer
+returns-in-ProcEnd-clause-answer c = end_answers c.args.judge.now c.takes_label.new.judge c.args.rule (message c.args.label.now) c.args.body c.takes_label.result c.in-ProcEnd.is c.takes_label.ensures.answer
+
+pub returns-in_default-clause-answer : goal.returns-in_default-clause-answer
+returns-in_default-clause-answer c = end_other c.args.judge.now c.args.rule (message c.args.label.now) c.args.body c.in_default.not-ProcEnd
