@@ -2,6 +2,8 @@
 #![tactic(auto)]
 
 #[cfg(test)]
+mod audits;
+#[cfg(test)]
 mod faults;
 #[cfg(test)]
 mod files;
@@ -11,6 +13,8 @@ mod inference;
 mod messages;
 #[cfg(test)]
 mod parts;
+#[cfg(test)]
+mod pools;
 #[cfg(test)]
 mod scopes;
 #[cfg(test)]
