@@ -9,3 +9,5 @@ pub mod Does
 pub mod Stepped
 pub mod Takings
 pub mod Listed
+pub mod Told
+pub mod Begun
