@@ -11,3 +11,4 @@ pub mod Takings
 pub mod Listed
 pub mod Told
 pub mod Begun
+pub mod Same
