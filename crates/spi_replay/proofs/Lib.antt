@@ -12,3 +12,4 @@ pub mod Listed
 pub mod Told
 pub mod Begun
 pub mod Same
+pub mod Channels

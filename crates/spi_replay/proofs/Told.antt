@@ -123,7 +123,7 @@ pub takes_told : {ms : List Message} {ls : List Link} (p : Place) → IsPlace ms
 takes_told {ms} p h = let a = acting p h in subst (Channel ms (in_channel p.wait)) (takes_move a.moves) (takes_wait a.waits)
 
 -- where no message has two numbers, the numbers are equal where the channels are
-same_channel : {ms : List Message} {o : Option ℕ} {x : Option Message} (c : ℕ) (m : Message) → AllDiffer ms → slice_get ms c ≡ Some m → Channel ms o x → is_channel m x ≡ is_on c o
+pub same_channel : {ms : List Message} {o : Option ℕ} {x : Option Message} (c : ℕ) (m : Message) → AllDiffer ms → slice_get ms c ≡ Some m → Channel ms o x → is_channel m x ≡ is_on c o
 same_channel c m d e no_channel = refl
 same_channel {ms} c m d e (a_channel {c = k} {m = n} f) =
     truths (same_message m n) (c == k) (λ g. eq-eqb c k (d.one c k m e (f ∙ ap Some (sym (same_true m n g))))) (λ g. let h : m ≡ n = some_one (sym e ∙ ap (slice_get ms) (eqb-true c k g) ∙ f) in ap (same_message m) (sym h) ∙ same_self m)
@@ -165,7 +165,7 @@ acts_at {ms} {ls} i ps p h e =
     by _ _ e (a_channel f) = absurd cc
 
 -- the same at a state
-get_map : {A B : Type 0} (f : A → B) (xs : List A) (i : ℕ) {x : A} → slice_get xs i ≡ Some x → slice_get (map f xs) i ≡ Some (f x)
+pub get_map : {A B : Type 0} (f : A → B) (xs : List A) (i : ℕ) {x : A} → slice_get xs i ≡ Some x → slice_get (map f xs) i ≡ Some (f x)
 get_map f [] i e = absurd cc
 get_map f (x ∷ xs) zero e = ap (λ y. Some (f y)) (some_one e)
 get_map f (x ∷ xs) (suc i) e = get_map f xs i e
