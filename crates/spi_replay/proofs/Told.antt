@@ -15,7 +15,7 @@ use Rattle.spi_replay.specs.declared.waits.Wait.{Wait}
 use Rattle.spi_replay.specs.declared.waits.Wait.TheVariants as W
 use Rattle.spi_replay.specs.Holding.{place_process}
 use Rattle.spi_replay.specs.Waiting.{wait_acts}
-use Rattle.spi_replay.specs.Moves.{Move, stays, puts, takes, takes_again, acts_alone, Waits, w_stays, w_puts, w_takes, w_takes_again, w_binds_one, w_binds_two, w_goes_on, w_shows, w_makes, w_forks}
+use Rattle.spi_replay.specs.Moves.{Move, puts, takes, takes_again, acts_alone, Waits, w_stays, w_puts, w_takes, w_takes_again, w_binds_one, w_binds_two, w_goes_on, w_shows, w_makes, w_forks}
 use Rattle.spi_replay.specs.Standing.{IsPlace, ArePlaces, processes}
 use Rattle.spi_replay.specs.declared.running.State.{State}
 use Rattle.spi_replay.specs.Pools.{pooled, IsState}

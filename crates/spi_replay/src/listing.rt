@@ -130,7 +130,8 @@ fn is_message(store: &Store, id: MsgId, m: &Msg) -> bool
         Msg::Name(x) => store.part(id) == MsgPart::Name(*x),
         Msg::Unit => store.part(id) == MsgPart::Unit,
         Msg::Pair(a, b) => match store.part(id) {
-            MsgPart::Pair(first, second) => is_message(store, first, a) && is_message(store, second, b),
+            MsgPart::Pair(first, second) => is_message(store, first, a)
+                && is_message(store, second, b),
             _ => false,
         },
         Msg::Inl(a) => match store.part(id) {

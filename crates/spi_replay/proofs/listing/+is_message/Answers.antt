@@ -1,4 +1,4 @@
-use Rattle.std.proofs.Common.{◌≡◌, ◌∙◌, ◌&&◌, Bool, true, false, sym, ap, refl, arith}
+use Rattle.std.proofs.Common.{◌≡◌, ◌∙◌, ◌&&◌, true, false, sym, ap, arith}
 use Rattle.spi_term.specs.Term.{pair, in_left, in_right, enc, hash, same_message}
 use Rattle.spi_term.specs.View.{message}
 use Rattle.spi_intern.specs.Messages.{message_at}

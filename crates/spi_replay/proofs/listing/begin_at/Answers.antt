@@ -1,5 +1,4 @@
-use Rattle.std.proofs.Common.{◌∙◌, ◌<◌, ap, length, sym, arith}
-use Rattle.spi_replay.proofs.Stepped.{got}
+use Rattle.std.proofs.Common.{◌∙◌, ap, length, sym}
 use Rattle.spi_replay.proofs.Told.{count_talks, count_acts}
 use Rattle.spi_replay.proofs.listing.begin_at.Goals as goal
 

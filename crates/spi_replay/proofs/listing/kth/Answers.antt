@@ -1,4 +1,4 @@
-use Rattle.std.proofs.Common.{◌∙◌, ◌<◌, ap, length, sym, arith}
+use Rattle.std.proofs.Common.{ap, length, arith}
 use Rattle.spi_run.specs.View.{step}
 use Rattle.spi_replay.specs.Listing.{ready_steps}
 use Rattle.spi_replay.specs.Pools.{pooled}

@@ -1,5 +1,4 @@
-use Rattle.std.proofs.Common.{◌∙◌, ◌<◌, ap, length, sym, arith}
-use Rattle.spi_replay.proofs.Stepped.{got}
+use Rattle.std.proofs.Common.{ap, length, arith}
 use Rattle.spi_replay.proofs.Told.{count_talks, few_steps, the_talk, the_act}
 use Rattle.spi_replay.proofs.listing.step_at.Goals as goal
 
