@@ -36,7 +36,7 @@ fn out_of(wait: Wait) -> Option<MsgId>
 }
 
 // How many ready steps begin at a place.
-fn begin_at(state: &State<'_>, place: u32) -> u64
+fn begun_at(state: &State<'_>, place: u32) -> u64
     requires is { IsState state.now }
     requires there { place < length state.now.index.places.items }
     ensures { result ≡ length (steps_begun (pooled state.now).configuration place) }
@@ -71,7 +71,7 @@ pub fn ready_at(state: &State<'_>, place: u32) -> u64
     requires there { place < length state.now.index.places.items }
     ensures { (ss : List StepTerm) × AreReady (pooled state.now).configuration ss × (result ≡ count_at place ss) }
 {
-    begin_at(state, place)
+    begun_at(state, place)
 }
 
 /// How many steps are ready.
@@ -81,7 +81,7 @@ pub fn ready(state: &State<'_>) -> u64
 {
     let mut count = 0;
     for place in 0..state.index.len() as u32 {
-        count += begin_at(state, place);
+        count += begun_at(state, place);
     }
     count
 }
@@ -93,7 +93,7 @@ pub fn kth(state: &State<'_>, k: u64) -> Option<Step>
 {
     let mut left = k;
     for place in 0..state.index.len() as u32 {
-        let here = begin_at(state, place);
+        let here = begun_at(state, place);
         if left < here {
             return Some(step_at(state, place, left));
         }

@@ -9,4 +9,4 @@ use Rattle.spi_replay.proofs.listing.ready_at.Goals as goal
 pub returns : goal.returns
 returns c =
     let b : c.args.place < length (pooled c.args.state.now).configuration.places = omega (arith, many_places c.args.state.now) in
-    (ready_steps (pooled c.args.state.now).configuration, some_order (pooled c.args.state.now).configuration, c.begin_at.ensures ∙ count_begun (pooled c.args.state.now).configuration c.args.place b)
+    (ready_steps (pooled c.args.state.now).configuration, some_order (pooled c.args.state.now).configuration, c.begun_at.ensures ∙ count_begun (pooled c.args.state.now).configuration c.args.place b)

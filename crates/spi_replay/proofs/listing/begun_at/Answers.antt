@@ -1,6 +1,6 @@
 use Rattle.std.proofs.Common.{◌∙◌, ap, length, sym}
 use Rattle.spi_replay.proofs.Told.{count_talks, count_acts}
-use Rattle.spi_replay.proofs.listing.begin_at.Goals as goal
+use Rattle.spi_replay.proofs.listing.begun_at.Goals as goal
 
 pub returns-in-Some : goal.returns-in-Some
 returns-in-Some c = ap length c.ins.ensures ∙ count_talks c.args.state.now c.args.place c.at-wait.result c.in-Some.channel.place c.requires.is c.distinct.ensures.differ.messages c.at-wait.ensures c.in-Some.ensures
