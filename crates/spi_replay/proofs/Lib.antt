@@ -9,3 +9,7 @@ pub mod Does
 pub mod Stepped
 pub mod Takings
 pub mod Listed
+pub mod Told
+pub mod Begun
+pub mod Same
+pub mod Channels

@@ -236,14 +236,14 @@ ready_listed c s r =
     from_in c.places 0 w.place c.places w.process s w.there (subst (λ n. In s (steps_at c.places n w.process)) e (at_step c.places w.place w.process s w.step))
 
 -- and in order
-first_at : (all : List Process) (i : ℕ) (p : Process) (s : Step) → In s (steps_at all i p) → first_place s ≡ i
+pub first_at : (all : List Process) (i : ℕ) (p : Process) (s : Step) → In s (steps_at all i p) → first_place s ≡ i
 first_at all i p s h = first (step_at all i p s h)
   where
     first : {s : Step} → StepAt all i p s → first_place s ≡ i
     first (an_act e) = refl
     first (a_talk e f g t) = refl
 
-first_from : (all : List Process) (i : ℕ) (ps : List Process) (s : Step) → In s (steps_from all i ps) → i ≤ first_place s
+pub first_from : (all : List Process) (i : ℕ) (ps : List Process) (s : Step) → In s (steps_from all i ps) → i ≤ first_place s
 first_from all i ps s h = let w = in_from all i ps s h in omega (arith, first_at all (i + w.place) w.process s w.stands)
 
 ordered_append : (xs ys : List Step) → AreOrdered xs → AreOrdered ys → ((x y : Step) → In x xs → In y ys → Before x y) → AreOrdered (xs ++ ys)

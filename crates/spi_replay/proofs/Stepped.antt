@@ -26,7 +26,8 @@ use Rattle.spi_replay.specs.Holding.{held, subtree, held_at, place_process, no_l
 use Rattle.spi_replay.specs.Waiting.{wait_acts, wait_appends, wait_largest, met_by}
 use Rattle.spi_replay.specs.Moves.{w_stays}
 use Rattle.spi_replay.specs.Standing.{Enters, CanEnter, IsPlace, ArePlaces, processes, StandsAt}
-use Rattle.spi_replay.specs.Pools.{configuration_of, pool_of, listed, TakenBy, again_appends, done, moved, settled}
+use Rattle.spi_replay.specs.Indexed.{listed, done, moved, settled}
+use Rattle.spi_replay.specs.Pools.{configuration_of, pool_of, TakenBy, again_appends}
 use Rattle.spi_replay.proofs.Opening.{held_first}
 use Rattle.spi_replay.proofs.Subtrees.{root_tree, root_follows}
 use Rattle.spi_replay.proofs.Sized.{at_message}

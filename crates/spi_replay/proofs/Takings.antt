@@ -10,7 +10,8 @@ use Rattle.spi_replay.specs.declared.places.Place.{Place}
 use Rattle.spi_replay.specs.declared.acting.Taken.{Taken}
 use Rattle.spi_replay.specs.Holding.{held_at, place_process}
 use Rattle.spi_replay.specs.Standing.{Enters, Binds, IsPlace, StandsAt}
-use Rattle.spi_replay.specs.Pools.{listed, TakenBy}
+use Rattle.spi_replay.specs.Indexed.{listed}
+use Rattle.spi_replay.specs.Pools.{TakenBy}
 use Rattle.spi_replay.proofs.Forms.{Leads}
 use Rattle.spi_replay.proofs.Chains.{chain_kept}
 

@@ -7,3 +7,4 @@ pub mod Waiting
 pub mod Pools
 pub mod Codes
 pub mod Listing
+pub mod Indexed

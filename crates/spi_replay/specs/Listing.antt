@@ -1,5 +1,5 @@
 -- The ready steps of a configuration, computed in their order.
-use Rattle.std.specs.Prelude.{ℕ, suc, Bool, true, false, if◌then◌else◌, List, [], ◌∷◌, ◌++◌, Option, Some, None}
+use Rattle.std.specs.Prelude.{ℕ, suc, Bool, true, false, if◌then◌else◌, List, [], ◌∷◌, ◌++◌, take, Option, Some, None, slice_get}
 use Rattle.spi_term.specs.Term.{Message, pair, in_left, in_right, enc, same_message, Process, send, recv, serve, split, select, branch, decrypt, check, begin, end, end_many, cast, fresh, par}
 use Rattle.spi_run.specs.Reduction.{Configuration, Step, act, talk}
 
@@ -52,3 +52,14 @@ steps_from all i (p ∷ ps) = steps_at all i p ++ steps_from all (suc i) ps
 
 abbrev pub ready_steps : Configuration → List Step
 ready_steps c = steps_from c.places 0 c.places
+
+-- the ready steps that begin at the place with a number, and those that begin at the places before it
+abbrev pub steps_by : List Process → ℕ → Option Process → List Step
+steps_by all i None = []
+steps_by all i (Some p) = steps_at all i p
+
+unfoldable pub steps_begun : Configuration → ℕ → List Step
+steps_begun c i = steps_by c.places i (slice_get c.places i)
+
+unfoldable pub steps_before : Configuration → ℕ → List Step
+steps_before c i = steps_from c.places 0 (take i c.places)

@@ -5,7 +5,7 @@ use Rattle.spi_run.specs.Reduction.{Configuration, Acts}
 use Rattle.spi_replay.specs.Stepping.{Pooled, event_in, message_most}
 use Rattle.spi_replay.specs.declared.names.Link.{Link}
 use Rattle.spi_replay.specs.declared.places.Place.{Place}
-use Rattle.spi_replay.specs.declared.waits.Wait.TheVariants.{Stays}
+use Rattle.spi_replay.specs.Indexed.{listed}
 use Rattle.spi_replay.specs.declared.waits.Meeting.{Meeting}
 use Rattle.spi_replay.specs.declared.acting.Taken.{Taken}
 use Rattle.spi_replay.specs.declared.running.State.{State}
@@ -23,17 +23,13 @@ abbrev pub pool_of : List Message → List Link → List Place → ℕ → ℕ �
 pool_of ms ls ps n most = record { configuration = configuration_of ms ls ps n; most = most }
 
 abbrev pub pooled : State → Pooled
-pooled s = pool_of s.store.messages s.links.items s.places.items s.names s.most
+pooled s = pool_of s.store.messages s.links.items s.index.places.items s.names s.most
 
 -- what holds of every state
 pub record IsState (s : State) : Type 0 where
-  pub places : ArePlaces s.store.messages s.links.items s.places.items
-  pub few : length s.places.items ≤ s.most
+  pub places : ArePlaces s.store.messages s.links.items s.index.places.items
+  pub few : length s.index.places.items ≤ s.most
   pub most : s.most < 2 ^ 32 - 1
-
-abbrev pub listed : Option Place → List Place
-listed None = []
-listed (Some p) = p ∷ []
 
 -- what an act gives, where n names are used: what its place is then, and what is appended
 pub record TakenBy (old : List Message) (ls : List Link) (new : List Message) (ls' : List Link) (n : ℕ) (p : Place) (t : Taken) : Type 0 where
@@ -44,10 +40,10 @@ pub record TakenBy (old : List Message) (ls : List Link) (new : List Message) (l
 -- the place acts alone, within the limits
 pub record MayAct (s : State) (i : ℕ) : Type 0 where
   pub place : Place
-  pub there : slice_get s.places.items i ≡ Some place
+  pub there : slice_get s.index.places.items i ≡ Some place
   pub acts : wait_acts place.wait ≡ true
   pub small : wait_largest s.store.messages place.wait ≤ message_most
-  pub few : length s.places.items + wait_appends place.wait ≤ s.most
+  pub few : length s.index.places.items + wait_appends place.wait ≤ s.most
 
 abbrev pub again_appends : Bool → ℕ
 again_appends true = 1
@@ -57,19 +53,8 @@ again_appends false = 0
 pub record MayTalk (s : State) (i j : ℕ) (m : Meeting) : Type 0 where
   pub out : Place
   pub inp : Place
-  pub out_there : slice_get s.places.items i ≡ Some out
-  pub inp_there : slice_get s.places.items j ≡ Some inp
+  pub out_there : slice_get s.index.places.items i ≡ Some out
+  pub inp_there : slice_get s.index.places.items j ≡ Some inp
   pub meet : met_by out.wait inp.wait ≡ Some m
   pub small : stopped (message_size (message_at s.store.messages m.datum)) ≤ message_most
-  pub few : length s.places.items + again_appends m.again ≤ s.most
-
-abbrev pub done : Place → Place
-done p = record p { done = true; wait = Stays }
-
--- the places after an act, and after a meeting
-abbrev pub moved : List Place → ℕ → Place → Option Place → List Place
-moved ps i p more = slice_set ps i p ++ listed more
-
-abbrev pub settled : List Place → ℕ → Place → ℕ → Place → Bool → List Place
-settled ps i out j now true = slice_set ps i (done out) ++ now ∷ []
-settled ps i out j now false = slice_set (slice_set ps i (done out)) j now
+  pub few : length s.index.places.items + again_appends m.again ≤ s.most

@@ -3,7 +3,9 @@
 
 mod acting;
 mod fault;
+pub mod index;
 mod laws;
+mod listing;
 mod names;
 mod places;
 mod pool;

@@ -1,15 +1,19 @@
 // Pools.
 
-ghost use Rattle.std.specs.Prelude.{◌≡◌, ◌-◌, ◌^◌, ◌<◌, ◌≤◌, ◌⊎◌, IfOk, IfErr, OnErr, length};
+ghost use Rattle.std.specs.Prelude.{◌≡◌, ◌-◌, ◌^◌, ◌<◌, ◌≤◌, ◌⊎◌, List, Some, IfOk, IfErr, OnErr, MatchOption, length, slice_get};
+ghost use Rattle.spi_term.specs.View.{message};
+ghost use Rattle.spi_run.specs.Reduction.{Step as StepTerm};
 ghost use Rattle.spi_run.specs.Safety.{beside};
 ghost use Rattle.spi_run.specs.View.{step as step_of};
+ghost use Rattle.spi_replay.specs.Ready.{AreReady, count_at, ArePlaces, PutsOut, TakesIn};
 ghost use Rattle.spi_replay.specs.Stepping.{Refuses, IsTaken, event_in};
 
 use crate::NoMemory;
 use crate::fault::StepFault;
+use crate::listing::{ins_on, kth, outs_on, ready, ready_at};
 use crate::running::{State, start, step_act, step_talk};
 use spi_run::{Event, Step};
-use spi_term::Process;
+use spi_term::{Msg, Process};
 use std::alloc::Global;
 use std::marker::Model;
 
@@ -77,7 +81,7 @@ impl<'p> Pool<'p> {
     pub fn places(&self) -> u32
         ensures { result ≡ length self.now.configuration.places }
     {
-        self.state.places.len() as u32
+        self.state.index.len() as u32
     }
 
     /// How many names are used.
@@ -85,5 +89,42 @@ impl<'p> Pool<'p> {
         ensures { result ≡ self.now.configuration.names }
     {
         self.state.names
+    }
+
+    /// How many steps are ready. The time is that of a walk over the places.
+    pub fn ready(&self) -> u64
+        ensures { (ss : List StepTerm) × AreReady self.now.configuration ss × (result ≡ length ss) }
+    {
+        ready(&self.state)
+    }
+
+    /// The ready step with the number k, counted from 0 in their order: by the first place, and the meetings of one output by
+    /// the input's place. `None` where k is at least `ready`.
+    pub fn kth(&self, k: u64) -> Option<Step>
+        ensures { MatchOption result ((ss : List StepTerm) × AreReady self.now.configuration ss × (length ss ≤ k)) (λ s. (ss : List StepTerm) × AreReady self.now.configuration ss × (slice_get ss k ≡ Some (step_of s))) }
+    {
+        kth(&self.state, k)
+    }
+
+    /// How many steps are ready whose first place is this one, which is in the pool. The sum over all places is `ready`.
+    pub fn ready_at(&self, place: u32) -> u64
+        requires { place < length self.now.configuration.places }
+        ensures { (ss : List StepTerm) × AreReady self.now.configuration ss × (result ≡ count_at place ss) }
+    {
+        ready_at(&self.state, place)
+    }
+
+    /// The ascending places that hold an output on this channel.
+    pub fn outs_on(&self, channel: &Msg) -> &[u32]
+        ensures { ArePlaces (PutsOut (message channel.now)) self.now.configuration.places result.now }
+    {
+        outs_on(&self.state, channel)
+    }
+
+    /// The ascending places that hold an input or a replicated input on this channel.
+    pub fn ins_on(&self, channel: &Msg) -> &[u32]
+        ensures { ArePlaces (TakesIn (message channel.now)) self.now.configuration.places result.now }
+    {
+        ins_on(&self.state, channel)
     }
 }

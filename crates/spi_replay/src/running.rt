@@ -4,13 +4,14 @@ ghost use Rattle.std.specs.Prelude.{◌≡◌, ◌+◌, ◌-◌, ◌^◌, ◌<�
 ghost use Rattle.spi_run.specs.Reduction.{act, talk};
 ghost use Rattle.spi_run.specs.Safety.{beside};
 ghost use Rattle.spi_replay.specs.Stepping.{Refuses, IsTaken, event_in};
-ghost use Rattle.spi_replay.specs.Pools.{pooled, IsState, MayAct, MayTalk, done as done_of, moved, settled, again_appends};
+ghost use Rattle.spi_replay.specs.Pools.{pooled, IsState, MayAct, MayTalk, again_appends};
 
 use crate::NoMemory;
 use crate::acting::{Taken, take};
 use crate::fault::StepFault;
+use crate::index::Index;
 use crate::names::Link;
-use crate::places::{Place, entered, entered_with};
+use crate::places::{entered, entered_with};
 use crate::reading::{largest_of, nodes_of};
 use crate::waits::{Meeting, Wait, appended_by, is_act, meeting_of};
 use spi_intern::Store;
@@ -29,7 +30,7 @@ pub struct State<'p> {
     pub most: u32,
     pub store: Store,
     pub links: Vec<Link>,
-    pub places: Vec<Place<'p>>,
+    pub index: Index<'p>,
 }
 
 /// The process at place 0 and the opponent at place 1.
@@ -52,9 +53,9 @@ pub fn start<'p>(
     let links = Vec::new(alloc);
     let first = entered(&mut store, &links, process, 0, 0)?;
     let second = entered(&mut store, &links, opponent, 0, 0)?;
-    let mut places = Vec::new(alloc);
-    places.push(first)?;
-    places.push(second)?;
+    let mut index = Index::new(alloc);
+    index.push(first)?;
+    index.push(second)?;
     let names = process.names();
     Ok(State {
         alloc,
@@ -62,7 +63,7 @@ pub fn start<'p>(
         most,
         store,
         links,
-        places,
+        index,
     })
 }
 
@@ -72,10 +73,10 @@ fn may_act(state: &State<'_>, place: u32) -> Result<(), StepFault>
     ensures may { OnOk result (MayAct state.now place) }
     ensures refused { IfErr result (Refuses (pooled state.now).configuration state.now.most (act place)) }
 {
-    if place as usize >= state.places.len() {
+    if place as usize >= state.index.len() {
         return Err(StepFault::NoPlace { place });
     }
-    let wait = state.places[place as usize].wait;
+    let wait = state.index.at(place).wait;
     if !is_act(wait) {
         return Err(StepFault::NotReady { place });
     }
@@ -83,35 +84,11 @@ fn may_act(state: &State<'_>, place: u32) -> Result<(), StepFault>
     if nodes > MESSAGE_MOST {
         return Err(StepFault::RunMessageTooLarge { nodes });
     }
-    let places = state.places.len() as u32 + appended_by(wait);
+    let places = state.index.len() as u32 + appended_by(wait);
     if places > state.most {
         return Err(StepFault::TooManyPlaces { places });
     }
     Ok(())
-}
-
-// The place as it is after an act, with the one that is appended.
-fn put_moved<'p>(
-    places: &mut Vec<Place<'p>>,
-    at: u32,
-    now: Place<'p>,
-    more: Option<Place<'p>>,
-) -> Result<(), NoMemory>
-    requires { at < length places.old.items }
-    ensures moved { OnOk result (places.new.items ≡ moved places.old.items at now.entry more.entry) }
-    ensures same { OnErr result (places.new.items ≡ places.old.items) }
-{
-    match more {
-        None => {
-            places[at as usize] = now;
-            Ok(())
-        }
-        Some(next) => {
-            places.push(next)?;
-            places[at as usize] = now;
-            Ok(())
-        }
-    }
 }
 
 fn act_now(state: &mut State<'_>, place: u32) -> Result<Option<Event>, NoMemory>
@@ -122,7 +99,7 @@ fn act_now(state: &mut State<'_>, place: u32) -> Result<Option<Event>, NoMemory>
     ensures unchanged { OnErr result (pooled state.new ≡ pooled state.old) }
     ensures is { IsState state.new }
 {
-    let here = state.places[place as usize];
+    let here = state.index.at(place);
     let Taken {
         now,
         more,
@@ -135,7 +112,7 @@ fn act_now(state: &mut State<'_>, place: u32) -> Result<Option<Event>, NoMemory>
         &here,
         state.names,
     )?;
-    put_moved(&mut state.places, place, now, more)?;
+    state.index.moved(place, now, more)?;
     state.names = names;
     Ok(event)
 }
@@ -164,17 +141,17 @@ fn may_talk(state: &State<'_>, out: u32, inp: u32) -> Result<Meeting, StepFault>
     ensures may { IfOk result (MayTalk state.now out inp) }
     ensures refused { IfErr result (Refuses (pooled state.now).configuration state.now.most (talk out inp)) }
 {
-    if out as usize >= state.places.len() {
+    if out as usize >= state.index.len() {
         return Err(StepFault::NoPlace { place: out });
     }
-    if inp as usize >= state.places.len() {
+    if inp as usize >= state.index.len() {
         return Err(StepFault::NoPlace { place: inp });
     }
     // The count is asked for what its answer says: no message has two numbers.
     let _ = state.store.distinct();
     match meeting_of(
-        state.places[out as usize].wait,
-        state.places[inp as usize].wait,
+        state.index.at(out).wait,
+        state.index.at(inp).wait,
     ) {
         None => Err(StepFault::NotReady { place: out }),
         Some(meeting) => {
@@ -182,7 +159,7 @@ fn may_talk(state: &State<'_>, out: u32, inp: u32) -> Result<Meeting, StepFault>
             if nodes > MESSAGE_MOST {
                 return Err(StepFault::RunMessageTooLarge { nodes });
             }
-            let places = state.places.len() as u32 + appended_if(meeting.again);
+            let places = state.index.len() as u32 + appended_if(meeting.again);
             if places > state.most {
                 return Err(StepFault::TooManyPlaces { places });
             }
@@ -197,46 +174,6 @@ fn appended_if(again: bool) -> u32
     if again { 1 } else { 0 }
 }
 
-// A place that is done.
-fn done<'p>(place: &Place<'p>) -> Place<'p>
-    ensures { result ≡ done_of place.now }
-{
-    Place {
-        source: place.source,
-        node: place.node,
-        bound: place.bound,
-        last: place.last,
-        done: true,
-        wait: Wait::Stays,
-    }
-}
-
-// The two places as they are after they met.
-fn put_settled<'p>(
-    places: &mut Vec<Place<'p>>,
-    out: u32,
-    sender: &Place<'p>,
-    inp: u32,
-    now: Place<'p>,
-    again: bool,
-) -> Result<(), NoMemory>
-    requires out { out < length places.old.items }
-    requires inp { inp < length places.old.items }
-    ensures settled { OnOk result (places.new.items ≡ settled places.old.items out sender.now inp now.entry again) }
-    ensures same { OnErr result (places.new.items ≡ places.old.items) }
-{
-    let gone = done(sender);
-    if again {
-        places.push(now)?;
-        places[out as usize] = gone;
-        Ok(())
-    } else {
-        places[out as usize] = gone;
-        places[inp as usize] = now;
-        Ok(())
-    }
-}
-
 fn talk_now(state: &mut State<'_>, out: u32, inp: u32, meeting: Meeting) -> Result<(), NoMemory>
     requires is { IsState state.old }
     requires may { MayTalk state.old out inp meeting }
@@ -244,8 +181,7 @@ fn talk_now(state: &mut State<'_>, out: u32, inp: u32, meeting: Meeting) -> Resu
     ensures unchanged { OnErr result (pooled state.new ≡ pooled state.old) }
     ensures is { IsState state.new }
 {
-    let sender = state.places[out as usize];
-    let receiver = state.places[inp as usize];
+    let receiver = state.index.at(inp);
     let now = entered_with(
         &mut state.store,
         &mut state.links,
@@ -254,7 +190,7 @@ fn talk_now(state: &mut State<'_>, out: u32, inp: u32, meeting: Meeting) -> Resu
         receiver.last,
         meeting.datum,
     )?;
-    put_settled(&mut state.places, out, &sender, inp, now, meeting.again)?;
+    state.index.met(out, inp, now, meeting.again)?;
     Ok(())
 }
 

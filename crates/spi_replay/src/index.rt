@@ -1,0 +1,111 @@
+//! The places of a pool, by the channels that they wait on.
+
+ghost use Rattle.std.specs.Prelude.{◌≡◌, ◌<◌, ◌-◌, ◌^◌, [], ◌∷◌, ◌++◌, Some, length, slice_get, nat_eq, OnOk, OnErr};
+ghost use Rattle.spi_replay.specs.declared.places.Place.{Place as PlaceTerm};
+ghost use Rattle.indexmap.specs.IndexMap.{get};
+ghost use Rattle.spi_replay.specs.Indexed.{HasPlaces, out_channel, in_channel, places_on, waits_of, moved as moved_of, settled};
+
+use crate::NoMemory;
+use crate::places::Place;
+use indexmap::IndexMap;
+use spi_intern::MsgId;
+use std::alloc::{AllocError, Global};
+
+/// The places of a pool in their order, and for each channel that a place waits on, by the number of its message, the
+/// ascending places that put out on it and those that take in on it. That these lists are so is a fact of the type.
+#[derive(Drop)]
+pub struct Index<'p> {
+    places: Vec<Place<'p>>,
+    outs: IndexMap<usize, Vec<u32>>,
+    ins: IndexMap<usize, Vec<u32>>,
+    ghost outs_are: { HasPlaces out_channel (get nat_eq outs) places.items },
+    ghost ins_are: { HasPlaces in_channel (get nat_eq ins) places.items },
+}
+
+impl<'p> Index<'p> {
+    /// No places.
+    pub fn new(alloc: Global) -> Index<'p>
+        ensures { result.places.items ≡ [] }
+    {
+        Index {
+            places: Vec::new(alloc),
+            outs: IndexMap::new(alloc),
+            ins: IndexMap::new(alloc),
+        }
+    }
+
+    /// How many places there are.
+    pub fn len(&self) -> usize
+        ensures { result ≡ length self.now.places.items }
+    {
+        self.places.len()
+    }
+
+    /// The place with this number.
+    pub fn at(&self, place: u32) -> Place<'p>
+        requires { place < length self.now.places.items }
+        ensures { slice_get self.now.places.items place ≡ Some result }
+    {
+        self.places[place as usize]
+    }
+
+    /// The ascending places that put out on the channel with this number.
+    pub fn outs(&self, channel: MsgId) -> &[u32]
+        ensures { result.now ≡ places_on out_channel channel.place 0 (waits_of self.now.places.items) }
+    {
+        match self.outs.get(&channel.place()) {
+            Some(places) => places,
+            None => &[],
+        }
+    }
+
+    /// The ascending places that take in on the channel with this number.
+    pub fn ins(&self, channel: MsgId) -> &[u32]
+        ensures { result.now ≡ places_on in_channel channel.place 0 (waits_of self.now.places.items) }
+    {
+        match self.ins.get(&channel.place()) {
+            Some(places) => places,
+            None => &[],
+        }
+    }
+
+    /// One place more, which comes last. After an error nothing has changed.
+    pub fn push(&mut self, place: Place<'p>) -> Result<(), NoMemory>
+        requires { length self.old.places.items < 2 ^ 32 - 1 }
+        ensures pushed { OnOk result (self.new.places.items ≡ self.old.places.items ++ place.entry ∷ []) }
+        ensures same { OnErr result (self.new.places.items ≡ self.old.places.items) }
+    {
+        let _ = self;
+        let _ = place;
+        Err(AllocError)
+    }
+
+    /// A place as it is after an act, with the one that is appended. After an error nothing has changed.
+    pub fn moved(&mut self, at: u32, now: Place<'p>, more: Option<Place<'p>>) -> Result<(), NoMemory>
+        requires at { at < length self.old.places.items }
+        requires few { length self.old.places.items < 2 ^ 32 - 1 }
+        ensures moved { OnOk result (self.new.places.items ≡ moved_of self.old.places.items at now.entry more.entry) }
+        ensures same { OnErr result (self.new.places.items ≡ self.old.places.items) }
+    {
+        let _ = at;
+        let _ = now;
+        let _ = more;
+        Err(AllocError)
+    }
+
+    /// The two places as they are after they met: the output is done, and the input's place, or a new one after a replicated
+    /// input, goes on. After an error nothing has changed.
+    pub fn met(&mut self, out: u32, inp: u32, now: Place<'p>, again: bool) -> Result<(), NoMemory>
+        requires out { out < length self.old.places.items }
+        requires inp { inp < length self.old.places.items }
+        requires few { length self.old.places.items < 2 ^ 32 - 1 }
+        ensures settled { OnOk result ((sender : PlaceTerm) → slice_get self.old.places.items out ≡ Some sender → self.new.places.items ≡ settled self.old.places.items out sender inp now.entry again) }
+        ensures same { OnErr result (self.new.places.items ≡ self.old.places.items) }
+    {
+        let _ = out;
+        let _ = inp;
+        let _ = now;
+        let _ = again;
+        Err(AllocError)
+    }
+}
