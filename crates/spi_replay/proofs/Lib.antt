@@ -9,3 +9,4 @@ pub mod Does
 pub mod Stepped
 pub mod Takings
 pub mod Listed
+pub mod Indexing

@@ -16,8 +16,8 @@ with_place k on is = filter (λ i. nat_lt i k) is ++ ((if on then k ∷ [] else 
 abbrev pub change_of : (Wait → Option ℕ) → Turn → Change
 change_of f t = record { place = t.place; from = f t.from; to = f t.to }
 
-abbrev pub is_touched : Change → ℕ → Bool
-is_touched h c = is_on c h.from || is_on c h.to
+abbrev pub is_touched : Change → Change → ℕ → Bool
+is_touched a b c = ((is_on c a.from || is_on c a.to) || is_on c b.from) || is_on c b.to
 
 -- the list of a channel after two changes
 abbrev pub relisted : Change → Change → ℕ → List ℕ → List ℕ
@@ -34,4 +34,4 @@ pub record IsRelisted (t : ℕ → Option (Vec ℕ)) (a b : Change) (r : Reliste
 
 -- the table u has each list of t after two changes
 abbrev pub HasChanged : Change → Change → (ℕ → Option (Vec ℕ)) → (ℕ → Option (Vec ℕ)) → Type 0
-HasChanged a b t u = (c : ℕ) → or_none (u c) ≡ (if is_touched a c || is_touched b c then relisted a b c (or_none (t c)) else or_none (t c))
+HasChanged a b t u = (c : ℕ) → or_none (u c) ≡ (if is_touched a b c then relisted a b c (or_none (t c)) else or_none (t c))

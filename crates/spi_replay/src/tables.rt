@@ -1,6 +1,6 @@
 // The places that wait on each channel, as places change.
 
-ghost use Rattle.std.specs.Prelude.{◌≡◌, ◌≤◌, ◌<◌, ◌+◌, ◌++◌, ℕ, List, filter, nat_lt, nat_eq, if◌then◌else◌, IfOk, OnOk};
+ghost use Rattle.std.specs.Prelude.{◌≡◌, ◌≤◌, ◌<◌, ◌+◌, ◌++◌, ℕ, true, filter, nat_lt, nat_eq, if◌then◌else◌, IfOk, OnOk, OnErr};
 ghost use Rattle.indexmap.specs.IndexMap.{get, spare, IsUnchanged};
 ghost use Rattle.spi_replay.specs.Indexed.{out_channel as out_channel_of, in_channel as in_channel_of, is_on as is_on_of, or_none};
 ghost use Rattle.spi_replay.specs.Tables.{with_place as with_place_of, change_of, relisted as relisted_of, AreLists, IsRelisted, HasChanged};
@@ -206,4 +206,28 @@ pub fn put_all(
     put(table, first.to, lists.first.to);
     put(table, second.from, lists.second.from);
     put(table, second.to, lists.second.to);
+}
+
+/// Both tables after the turns of two places. After an error nothing has changed.
+pub fn turn_both(
+    alloc: Global,
+    outs: &mut IndexMap<usize, Vec<u32>>,
+    ins: &mut IndexMap<usize, Vec<u32>>,
+    first: Turn,
+    second: Turn,
+) -> Result<(), NoMemory>
+    ensures outs { OnOk result (HasChanged (change_of out_channel_of first) (change_of out_channel_of second) (get nat_eq outs.old) (get nat_eq outs.new)) }
+    ensures ins { OnOk result (HasChanged (change_of in_channel_of first) (change_of in_channel_of second) (get nat_eq ins.old) (get nat_eq ins.new)) }
+    ensures same_outs { OnErr result (IsUnchanged outs.old outs.new) }
+    ensures same_ins { OnErr result (IsUnchanged ins.old ins.new) }
+{
+    let first_out = out_change(first);
+    let second_out = out_change(second);
+    let first_in = in_change(first);
+    let second_in = in_change(second);
+    let new_outs = prepared(alloc, outs, first_out, second_out)?;
+    let new_ins = prepared(alloc, ins, first_in, second_in)?;
+    put_all(outs, first_out, second_out, new_outs);
+    put_all(ins, first_in, second_in, new_ins);
+    Ok(())
 }

@@ -1,0 +1,131 @@
+-- The places of a channel, as places change.
+use Rattle.std.proofs.Common.{◌≡◌, ℕ, zero, suc, ◌+◌, ◌<◌, ◌≤◌, Bool, true, false, cond, List, [], ◌∷◌, ◌++◌, length, map, Option, Some, None, slice_get, slice_set, refl, sym, ap, ◌∙◌, subst, arith, ◌||◌, append-nil, length-append}
+use Rattle.std.specs.Prelude.{if◌then◌else◌, filter, nat_lt}
+use Rattle.std.specs.Global.{Vec}
+use Rattle.std.proofs.lemmas.Bool.Decides.{nat_tests}
+use Rattle.std.proofs.lemmas.List.{map-append, map-set, length-map, length-set}
+use Rattle.spi_intern.proofs.Lists.{some_one, get_below}
+use Rattle.spi_replay.specs.declared.places.Place.{Place}
+use Rattle.spi_replay.specs.declared.waits.Wait.{Wait}
+use Rattle.spi_replay.specs.declared.waits.Wait.TheVariants.{Stays}
+use Rattle.spi_replay.specs.declared.tables.Turn.{Turn}
+use Rattle.spi_replay.specs.declared.tables.Change.{Change}
+use Rattle.spi_replay.specs.Indexed.{is_on, places_on, waits_of, or_none, HasPlaces, listed}
+use Rattle.spi_replay.specs.Tables.{with_place, change_of, is_touched, relisted, HasChanged}
+
+
+lt_yes : (i n : ℕ) → i < n → nat_lt i n ≡ true
+lt_yes i n h = grind (arith, nat_tests)
+
+lt_no : (i n : ℕ) → n ≤ i → nat_lt i n ≡ false
+lt_no i n h = grind (arith, nat_tests)
+
+filter_yes : (p : ℕ → Bool) (x : ℕ) (xs : List ℕ) → p x ≡ true → filter p (x ∷ xs) ≡ x ∷ filter p xs
+filter_yes p x xs e = ap (λ b. cond b (x ∷ filter p xs) (filter p xs)) e
+
+filter_no : (p : ℕ → Bool) (x : ℕ) (xs : List ℕ) → p x ≡ false → filter p (x ∷ xs) ≡ filter p xs
+filter_no p x xs e = ap (λ b. cond b (x ∷ filter p xs) (filter p xs)) e
+
+-- a place of a list that begins with i is i at least
+none_below : (f : Wait → Option ℕ) (c i n : ℕ) (ws : List Wait) → n ≤ i → filter (λ j. nat_lt j n) (places_on f c i ws) ≡ []
+none_below f c i n [] h = refl
+none_below f c i n (w ∷ ws) h = by (is_on c (f w)) (none_below f c (suc i) n ws (omega arith))
+  where
+    by : (b : Bool) → filter (λ j. nat_lt j n) (places_on f c (suc i) ws) ≡ [] → filter (λ j. nat_lt j n) (if b then i ∷ places_on f c (suc i) ws else places_on f c (suc i) ws) ≡ []
+    by true rest = filter_no (λ j. nat_lt j n) i (places_on f c (suc i) ws) (lt_no i n h) ∙ rest
+    by false rest = rest
+
+all_above : (f : Wait → Option ℕ) (c i n : ℕ) (ws : List Wait) → n < i → filter (λ j. nat_lt n j) (places_on f c i ws) ≡ places_on f c i ws
+all_above f c i n [] h = refl
+all_above f c i n (w ∷ ws) h = by (is_on c (f w)) (all_above f c (suc i) n ws (omega arith))
+  where
+    by : (b : Bool) → filter (λ j. nat_lt n j) (places_on f c (suc i) ws) ≡ places_on f c (suc i) ws → filter (λ j. nat_lt n j) (if b then i ∷ places_on f c (suc i) ws else places_on f c (suc i) ws) ≡ (if b then i ∷ places_on f c (suc i) ws else places_on f c (suc i) ws)
+    by true rest = filter_yes (λ j. nat_lt n j) i (places_on f c (suc i) ws) (lt_yes n i h) ∙ ap (λ (is : List ℕ). i ∷ is) rest
+    by false rest = rest
+
+-- the first place of a list enters or leaves
+first_set : (n i : ℕ) (b d : Bool) (is : List ℕ) → n ≡ i → filter (λ j. nat_lt j n) is ≡ [] → filter (λ j. nat_lt n j) is ≡ is → (if b then i ∷ is else is) ≡ with_place n b (if d then i ∷ is else is)
+first_set n i b d is e l g = by b d
+  where
+    low : filter (λ j. nat_lt j n) (i ∷ is) ≡ []
+    low = filter_no (λ j. nat_lt j n) i is (lt_no i n (omega arith)) ∙ l
+    high : filter (λ j. nat_lt n j) (i ∷ is) ≡ is
+    high = filter_no (λ j. nat_lt n j) i is (lt_no n i (omega arith)) ∙ g
+    join : (x y : List ℕ) (h : Bool) → x ≡ [] → y ≡ is → x ++ ((if h then n ∷ [] else []) ++ y) ≡ (if h then i ∷ is else is)
+    join x y true p q = ap (λ (z : List ℕ). z ++ (n ∷ y)) p ∙ ap (λ (z : List ℕ). n ∷ z) q ∙ ap (λ m. m ∷ is) e
+    join x y false p q = ap (λ (z : List ℕ). z ++ y) p ∙ q
+    by : (b d : Bool) → (if b then i ∷ is else is) ≡ with_place n b (if d then i ∷ is else is)
+    by b true = sym (join (filter (λ j. nat_lt j n) (i ∷ is)) (filter (λ j. nat_lt n j) (i ∷ is)) b low high)
+    by b false = sym (join (filter (λ j. nat_lt j n) is) (filter (λ j. nat_lt n j) is) b l g)
+
+-- a place after the first enters or leaves
+later_set : (n i : ℕ) (b d : Bool) (is js : List ℕ) → i < n → js ≡ with_place n b is → (if d then i ∷ js else js) ≡ with_place n b (if d then i ∷ is else is)
+later_set n i b true is js h e =
+    let low : filter (λ j. nat_lt j n) (i ∷ is) ≡ i ∷ filter (λ j. nat_lt j n) is = filter_yes (λ j. nat_lt j n) i is (lt_yes i n h) in
+    let high : filter (λ j. nat_lt n j) (i ∷ is) ≡ filter (λ j. nat_lt n j) is = filter_no (λ j. nat_lt n j) i is (lt_no n i (omega arith)) in
+    ap (λ (z : List ℕ). i ∷ z) e ∙ sym (ap (λ (z : List ℕ). z ++ ((if b then n ∷ [] else []) ++ filter (λ j. nat_lt n j) (i ∷ is))) low ∙ ap (λ (z : List ℕ). (i ∷ filter (λ j. nat_lt j n) is) ++ ((if b then n ∷ [] else []) ++ z)) high)
+later_set n i b false is js h e = e
+
+-- one place changes
+pub set_on : (f : Wait → Option ℕ) (c n i k : ℕ) (ws : List Wait) (w : Wait) → n ≡ i + k → k < length ws → places_on f c i (slice_set ws k w) ≡ with_place n (is_on c (f w)) (places_on f c i ws)
+set_on f c n i k [] w e h = absurd (omega arith)
+set_on f c n i zero (v ∷ ws) w e h = first_set n i (is_on c (f w)) (is_on c (f v)) (places_on f c (suc i) ws) (omega arith) (none_below f c (suc i) n ws (omega arith)) (all_above f c (suc i) n ws (omega arith))
+set_on f c n i (suc k) (v ∷ ws) w e h = later_set n i (is_on c (f w)) (is_on c (f v)) (places_on f c (suc i) ws) (places_on f c (suc i) (slice_set ws k w)) (omega arith) (set_on f c n (suc i) k ws w (omega arith) (omega arith))
+
+pub set_off : (f : Wait → Option ℕ) (c i k : ℕ) (ws : List Wait) (w : Wait) → ((v : Wait) → slice_get ws k ≡ Some v → is_on c (f v) ≡ false) → is_on c (f w) ≡ false → places_on f c i (slice_set ws k w) ≡ places_on f c i ws
+set_off f c i k [] w o e = refl
+set_off f c i zero (v ∷ ws) w o e = ap (λ b. if b then i ∷ places_on f c (suc i) ws else places_on f c (suc i) ws) (e ∙ sym (o v refl))
+set_off f c i (suc k) (v ∷ ws) w o e = ap (λ (is : List ℕ). if is_on c (f v) then i ∷ is else is) (set_off f c (suc i) k ws w o e)
+
+-- a place comes last
+alone : (n i : ℕ) (b : Bool) → n ≡ i → (if b then i ∷ [] else []) ≡ with_place n b []
+alone n i true e = ap (λ m. m ∷ []) (sym e)
+alone n i false e = refl
+
+pub push_on : (f : Wait → Option ℕ) (c n i : ℕ) (ws : List Wait) (w : Wait) → n ≡ i + length ws → places_on f c i (ws ++ w ∷ []) ≡ with_place n (is_on c (f w)) (places_on f c i ws)
+push_on f c n i [] w e = alone n i (is_on c (f w)) (omega arith)
+push_on f c n i (v ∷ ws) w e = later_set n i (is_on c (f w)) (is_on c (f v)) (places_on f c (suc i) ws) (places_on f c (suc i) (ws ++ w ∷ [])) (omega arith) (push_on f c n (suc i) ws w (omega arith))
+
+pub push_off : (f : Wait → Option ℕ) (c i : ℕ) (ws : List Wait) (w : Wait) → is_on c (f w) ≡ false → places_on f c i (ws ++ w ∷ []) ≡ places_on f c i ws
+push_off f c i [] w e = ap (λ b. if b then i ∷ [] else []) e
+push_off f c i (v ∷ ws) w e = ap (λ (is : List ℕ). if is_on c (f v) then i ∷ is else is) (push_off f c (suc i) ws w e)
+
+-- no place comes
+pub none_on : (f : Wait → Option ℕ) (c n i : ℕ) (ws : List Wait) → n ≡ i + length ws → places_on f c i ws ≡ with_place n false (places_on f c i ws)
+none_on f c n i [] e = refl
+none_on f c n i (v ∷ ws) e = later_set n i false (is_on c (f v)) (places_on f c (suc i) ws) (places_on f c (suc i) ws) (omega arith) (none_on f c n (suc i) ws (omega arith))
+
+-- what a change does to what each place waits for
+pub record HasTurned (f : Wait → Option ℕ) (vs ws : List Wait) (h : Change) : Type 0 where
+  pub on : (c : ℕ) → places_on f c 0 ws ≡ with_place h.place (is_on c h.to) (places_on f c 0 vs)
+  pub off : (c : ℕ) → is_on c h.from ≡ false → is_on c h.to ≡ false → places_on f c 0 ws ≡ places_on f c 0 vs
+
+both_changed : (x y z w : Bool) (r : List ℕ → List ℕ) (t u p m q : List ℕ) → t ≡ p → u ≡ (if ((x || y) || z) || w then r t else t) → q ≡ r p → (x ≡ false → y ≡ false → m ≡ p) → (z ≡ false → w ≡ false → q ≡ m) → u ≡ q
+both_changed true y z w r t u p m q a e k g h = e ∙ ap r a ∙ sym k
+both_changed false true z w r t u p m q a e k g h = e ∙ ap r a ∙ sym k
+both_changed false false true w r t u p m q a e k g h = e ∙ ap r a ∙ sym k
+both_changed false false false true r t u p m q a e k g h = e ∙ ap r a ∙ sym k
+both_changed false false false false r t u p m q a e k g h = e ∙ a ∙ sym (h refl refl ∙ g refl refl)
+
+-- a table after two changes has the places that there are then
+pub has_changed : (f : Wait → Option ℕ) (t u : ℕ → Option (Vec ℕ)) (ps qs : List Place) (ws : List Wait) (a b : Change) → HasPlaces f t ps → HasTurned f (waits_of ps) ws a → HasTurned f ws (waits_of qs) b → HasChanged a b t u → HasPlaces f u qs
+has_changed f t u ps qs ws a b p g h e = λ c. both_changed (is_on c a.from) (is_on c a.to) (is_on c b.from) (is_on c b.to) (relisted a b c) (or_none (t c)) (or_none (u c)) (places_on f c 0 (waits_of ps)) (places_on f c 0 ws) (places_on f c 0 (waits_of qs)) (p c) (e c) (h.on c ∙ ap (with_place b.place (is_on c b.to)) (g.on c)) (g.off c) (h.off c)
+
+-- one list after another is put in its place
+pub put_one : (b d : Bool) (l r t u v : List ℕ) → v ≡ (if b then l else u) → (b ≡ true → l ≡ r) → u ≡ (if d then r else t) → v ≡ (if d || b then r else t)
+put_one true true l r t u v e h k = e ∙ h refl
+put_one true false l r t u v e h k = e ∙ h refl
+put_one false true l r t u v e h k = e ∙ k
+put_one false false l r t u v e h k = e ∙ k
+
+-- a place changes
+pub turned_set : (f : Wait → Option ℕ) (ps : List Place) (k : ℕ) (p q : Place) → slice_get ps k ≡ Some q → HasTurned f (waits_of ps) (waits_of (slice_set ps k p)) (change_of f (record { place = k; from = q.wait; to = p.wait }))
+turned_set f ps k p q e = record {
+  on = λ c. ap (places_on f c 0) (map-set (λ (x : Place). x.wait) ps k p) ∙ set_on f c k 0 k (waits_of ps) p.wait (omega arith) (omega (arith, get_below ps k q e, length-map ps (λ (x : Place). x.wait)));
+  off = λ c g h. ap (places_on f c 0) (map-set (λ (x : Place). x.wait) ps k p) ∙ set_off f c 0 k (waits_of ps) p.wait (λ v at. subst (λ (w : Wait). is_on c (f w) ≡ false) (some_one (sym (get_wait ps k q e) ∙ at)) g) h;
+}
+  where
+    get_wait : (xs : List Place) (i : ℕ) (x : Place) → slice_get xs i ≡ Some x → slice_get (waits_of xs) i ≡ Some x.wait
+    get_wait [] i x e = absurd cc
+    get_wait (y ∷ xs) zero x e = ap (λ (z : Place). Some z.wait) (some_one e)
+    get_wait (y ∷ xs) (suc i) x e = get_wait xs i x e
