@@ -1,7 +1,9 @@
 -- Tables of the places that wait on each channel, as places change.
-use Rattle.std.specs.Prelude.{◌≡◌, ℕ, ◌||◌, Bool, true, List, [], ◌∷◌, ◌++◌, filter, if◌then◌else◌, nat_lt, Option, slice_set}
+use Rattle.std.specs.Prelude.{◌≡◌, ℕ, ◌||◌, Bool, true, List, [], ◌∷◌, ◌++◌, filter, if◌then◌else◌, nat_lt, Option, Some, None}
 use Rattle.std.specs.Global.{Vec}
+use Rattle.spi_replay.specs.declared.places.Place.{Place}
 use Rattle.spi_replay.specs.declared.waits.Wait.{Wait}
+use Rattle.spi_replay.specs.declared.waits.Wait.TheVariants.{Stays}
 use Rattle.spi_replay.specs.declared.tables.Turn.{Turn}
 use Rattle.spi_replay.specs.declared.tables.Change.{Change}
 use Rattle.spi_replay.specs.declared.tables.Lists.{Lists}
@@ -11,6 +13,11 @@ use Rattle.spi_replay.specs.Indexed.{is_on, or_none, places_on}
 -- an ascending list, with place k or without it
 abbrev pub with_place : ℕ → Bool → List ℕ → List ℕ
 with_place k on is = filter (λ i. nat_lt i k) is ++ ((if on then k ∷ [] else []) ++ filter (λ i. nat_lt k i) is)
+
+-- what a place that may come waits for
+abbrev pub next_wait : Option Place → Wait
+next_wait None = Stays
+next_wait (Some p) = p.wait
 
 -- the channels that a place leaves and enters
 abbrev pub change_of : (Wait → Option ℕ) → Turn → Change
