@@ -169,8 +169,10 @@ turned_more f ps n (Some p) s e = turned_push f ps n p e
 pub pushed_has : (f : Wait → Option ℕ) (t u : ℕ → Option (Vec ℕ)) (ps qs : List Place) (n : ℕ) (p : Place) → f Stays ≡ None → n ≡ length ps → HasPlaces f t ps → HasChanged (change_of f (record { place = n; from = Stays; to = Stays })) (change_of f (record { place = n; from = Stays; to = p.wait })) t u → qs ≡ ps ++ p ∷ [] → HasPlaces f u qs
 pushed_has f t u ps qs n p s e h g k = subst (HasPlaces f u) (sym k) (has_changed f t u ps (ps ++ p ∷ []) (waits_of ps) (change_of f (record { place = n; from = Stays; to = Stays })) (change_of f (record { place = n; from = Stays; to = p.wait })) h (turned_none f ps n s e) (turned_push f ps n p e) g)
 
-pub moved_has : (f : Wait → Option ℕ) (t u : ℕ → Option (Vec ℕ)) (ps qs : List Place) (i n : ℕ) (p q : Place) (more : Option Place) → f Stays ≡ None → slice_get ps i ≡ Some q → n ≡ length ps → HasPlaces f t ps → HasChanged (change_of f (record { place = i; from = q.wait; to = p.wait })) (change_of f (record { place = n; from = Stays; to = next_wait more })) t u → qs ≡ moved ps i p more → HasPlaces f u qs
-moved_has f t u ps qs i n p q more s at e h g k = subst (HasPlaces f u) (sym k) (has_changed f t u ps (moved ps i p more) (waits_of (slice_set ps i p)) (change_of f (record { place = i; from = q.wait; to = p.wait })) (change_of f (record { place = n; from = Stays; to = next_wait more })) h (turned_set f ps i p q at) (turned_more f (slice_set ps i p) n more s (e ∙ sym (length-set ps i p))) g)
+pub moved_has : (f : Wait → Option ℕ) (t u : ℕ → Option (Vec ℕ)) (ps qs : List Place) (i n : ℕ) (p q : Place) (more : Option Place) (v : Wait) → f Stays ≡ None → slice_get ps i ≡ Some q → n ≡ length ps → v ≡ next_wait more → HasPlaces f t ps → HasChanged (change_of f (record { place = i; from = q.wait; to = p.wait })) (change_of f (record { place = n; from = Stays; to = v })) t u → qs ≡ moved ps i p more → HasPlaces f u qs
+moved_has f t u ps qs i n p q more v s at e w h g k =
+    let g' : HasChanged (change_of f (record { place = i; from = q.wait; to = p.wait })) (change_of f (record { place = n; from = Stays; to = next_wait more })) t u = subst (λ (x : Wait). HasChanged (change_of f (record { place = i; from = q.wait; to = p.wait })) (change_of f (record { place = n; from = Stays; to = x })) t u) w g in
+    subst (HasPlaces f u) (sym k) (has_changed f t u ps (moved ps i p more) (waits_of (slice_set ps i p)) (change_of f (record { place = i; from = q.wait; to = p.wait })) (change_of f (record { place = n; from = Stays; to = next_wait more })) h (turned_set f ps i p q at) (turned_more f (slice_set ps i p) n more s (e ∙ sym (length-set ps i p))) g')
 
 pub met_has : (f : Wait → Option ℕ) (t u : ℕ → Option (Vec ℕ)) (ps qs : List Place) (i j : ℕ) (d p out inp : Place) → f d.wait ≡ None → slice_get ps i ≡ Some out → slice_get ps j ≡ Some inp → HasPlaces f t ps → HasChanged (change_of f (record { place = i; from = out.wait; to = d.wait })) (change_of f (record { place = j; from = inp.wait; to = p.wait })) t u → qs ≡ slice_set (slice_set ps i d) j p → HasPlaces f u qs
 met_has f t u ps qs i j d p out inp s at at' h g k = subst (HasPlaces f u) (sym k) (has_changed f t u ps (slice_set (slice_set ps i d) j p) (waits_of (slice_set ps i d)) (change_of f (record { place = i; from = out.wait; to = d.wait })) (change_of f (record { place = j; from = inp.wait; to = p.wait })) h (turned_set f ps i d out at) (turned_next f ps i j d p inp s at') g)

@@ -137,7 +137,7 @@ impl<'p> Index<'p> {
     fn met_once(&mut self, out: u32, done: Place<'p>, inp: u32, now: Place<'p>) -> Result<(), NoMemory>
         requires out { out < length self.old.places.items }
         requires inp { inp < length self.old.places.items }
-        requires stays { done.entry.wait ≡ Wait.Stays }
+        requires stays { done.wait ≡ Wait.Stays }
         ensures settled { OnOk result (self.new.places.items ≡ slice_set (slice_set self.old.places.items out done.entry) inp now.entry) }
         ensures same { OnErr result (self.new.places.items ≡ self.old.places.items) }
     {
