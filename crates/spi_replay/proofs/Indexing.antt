@@ -1,7 +1,11 @@
 -- The places of a channel, as places change.
-use Rattle.std.proofs.Common.{◌≡◌, ℕ, zero, suc, ◌+◌, ◌<◌, ◌≤◌, Bool, true, false, cond, List, [], ◌∷◌, ◌++◌, length, map, Option, Some, None, slice_get, slice_set, refl, sym, ap, ◌∙◌, subst, arith, ◌||◌, ◌⊎◌, inl, inr, append-nil, length-append}
-use Rattle.std.specs.Prelude.{if◌then◌else◌, filter, nat_lt}
+use Rattle.std.proofs.Common.{◌≡◌, ℕ, zero, suc, ◌+◌, ◌<◌, ◌≤◌, Bool, true, false, cond, List, [], ◌∷◌, ◌++◌, length, map, take, drop, get_or, Option, Some, None, slice_get, slice_set, refl, sym, ap, ◌∙◌, subst, arith, ◌||◌, ◌⊎◌, inl, inr, append-nil, length-append}
+use Rattle.std.specs.Prelude.{if◌then◌else◌, filter, nat_lt, Result, Ok, Err}
 use Rattle.std.specs.Global.{Vec}
+use Rattle.std.specs.Ordering.{nat_cmp}
+use Rattle.std.specs.List.Sorted.{IsBinarySearchResult}
+use Rattle.std.proofs.lemmas.List.Sorted.{searched}
+use Rattle.std.proofs.lemmas.Bool.{cases_order}
 use Rattle.std.proofs.lemmas.Bool.Decides.{nat_tests}
 use Rattle.std.proofs.lemmas.List.{map-append, map-set, length-map, length-set}
 use Rattle.spi_intern.proofs.Lists.{some_one, get_below}
@@ -11,7 +15,7 @@ use Rattle.spi_replay.specs.declared.waits.Wait.TheVariants.{Stays}
 use Rattle.spi_replay.specs.declared.tables.Turn.{Turn}
 use Rattle.spi_replay.specs.declared.tables.Change.{Change}
 use Rattle.spi_replay.specs.Indexed.{is_on, places_on, waits_of, or_none, HasPlaces, listed, moved}
-use Rattle.spi_replay.specs.Tables.{with_place, next_wait, change_of, is_touched, relisted, HasChanged}
+use Rattle.spi_replay.specs.Tables.{Rises, AllRise, with_place, next_wait, change_of, is_touched, relisted, HasChanged}
 
 
 lt_yes : (i n : ℕ) → i < n → nat_lt i n ≡ true
@@ -26,22 +30,48 @@ filter_yes p x xs e = ap (λ b. cond b (x ∷ filter p xs) (filter p xs)) e
 filter_no : (p : ℕ → Bool) (x : ℕ) (xs : List ℕ) → p x ≡ false → filter p (x ∷ xs) ≡ filter p xs
 filter_no p x xs e = ap (λ b. cond b (x ∷ filter p xs) (filter p xs)) e
 
--- a place of a list that begins with i is i at least
-none_below : (f : Wait → Option ℕ) (c i n : ℕ) (ws : List Wait) → n ≤ i → filter (λ j. nat_lt j n) (places_on f c i ws) ≡ []
-none_below f c i n [] h = refl
-none_below f c i n (w ∷ ws) h = by (is_on c (f w)) (none_below f c (suc i) n ws (omega arith))
-  where
-    by : (b : Bool) → filter (λ j. nat_lt j n) (places_on f c (suc i) ws) ≡ [] → filter (λ j. nat_lt j n) (if b then i ∷ places_on f c (suc i) ws else places_on f c (suc i) ws) ≡ []
-    by true rest = filter_no (λ j. nat_lt j n) i (places_on f c (suc i) ws) (lt_no i n h) ∙ rest
-    by false rest = rest
+-- ascending lists
+rises_from : (i j : ℕ) (is : List ℕ) → j ≤ i → Rises i is → Rises j is
+rises_from i j [] h r = r
+rises_from i j (x ∷ xs) h r = let k : i ≤ x = r.0 in (omega arith, r.1)
 
-all_above : (f : Wait → Option ℕ) (c i n : ℕ) (ws : List Wait) → n < i → filter (λ j. nat_lt n j) (places_on f c i ws) ≡ places_on f c i ws
-all_above f c i n [] h = refl
-all_above f c i n (w ∷ ws) h = by (is_on c (f w)) (all_above f c (suc i) n ws (omega arith))
+pub rises_get : (i j : ℕ) (is : List ℕ) → Rises i is → j < length is → i ≤ get_or is j 0
+rises_get i j [] r h = absurd (omega arith)
+rises_get i zero (x ∷ xs) r h = r.0
+rises_get i (suc j) (x ∷ xs) r h =
+    let k : i ≤ x = r.0 in
+    let l = rises_get (suc x) j xs r.1 (omega arith) in
+    omega arith
+
+pub rises_less : (i j k : ℕ) (is : List ℕ) → Rises i is → j < k → k < length is → get_or is j 0 < get_or is k 0
+rises_less i j k [] r h l = absurd (omega arith)
+rises_less i j zero (x ∷ xs) r h l = absurd (omega arith)
+rises_less i zero (suc k) (x ∷ xs) r h l =
+    let m = rises_get (suc x) k xs r.1 (omega arith) in
+    omega arith
+rises_less i (suc j) (suc k) (x ∷ xs) r h l = rises_less (suc x) j k xs r.1 (omega arith) (omega arith)
+
+-- none of an ascending list is below its first number, and all are above what is less
+none_below : (i n : ℕ) (is : List ℕ) → Rises i is → n ≤ i → filter (λ j. nat_lt j n) is ≡ []
+none_below i n [] r h = refl
+none_below i n (x ∷ xs) r h =
+    let k : i ≤ x = r.0 in
+    filter_no (λ j. nat_lt j n) x xs (lt_no x n (omega arith)) ∙ none_below (suc x) n xs r.1 (omega arith)
+
+all_above : (i n : ℕ) (is : List ℕ) → Rises i is → n < i → filter (λ j. nat_lt n j) is ≡ is
+all_above i n [] r h = refl
+all_above i n (x ∷ xs) r h =
+    let k : i ≤ x = r.0 in
+    filter_yes (λ j. nat_lt n j) x xs (lt_yes n x (omega arith)) ∙ ap (λ (ys : List ℕ). x ∷ ys) (all_above (suc x) n xs r.1 (omega arith))
+
+-- the places of a channel ascend
+pub places_rise : (f : Wait → Option ℕ) (c i : ℕ) (ws : List Wait) → Rises i (places_on f c i ws)
+places_rise f c i [] = tt
+places_rise f c i (w ∷ ws) = by (is_on c (f w)) (places_rise f c (suc i) ws)
   where
-    by : (b : Bool) → filter (λ j. nat_lt n j) (places_on f c (suc i) ws) ≡ places_on f c (suc i) ws → filter (λ j. nat_lt n j) (if b then i ∷ places_on f c (suc i) ws else places_on f c (suc i) ws) ≡ (if b then i ∷ places_on f c (suc i) ws else places_on f c (suc i) ws)
-    by true rest = filter_yes (λ j. nat_lt n j) i (places_on f c (suc i) ws) (lt_yes n i h) ∙ ap (λ (is : List ℕ). i ∷ is) rest
-    by false rest = rest
+    by : (b : Bool) → Rises (suc i) (places_on f c (suc i) ws) → Rises i (if b then i ∷ places_on f c (suc i) ws else places_on f c (suc i) ws)
+    by true r = (omega arith, r)
+    by false r = rises_from (suc i) i (places_on f c (suc i) ws) (omega arith) r
 
 -- the first place of a list enters or leaves
 first_set : (n i : ℕ) (b d : Bool) (is : List ℕ) → n ≡ i → filter (λ j. nat_lt j n) is ≡ [] → filter (λ j. nat_lt n j) is ≡ is → (if b then i ∷ is else is) ≡ with_place n b (if d then i ∷ is else is)
@@ -66,10 +96,99 @@ later_set n i b true is js h e =
     ap (λ (z : List ℕ). i ∷ z) e ∙ sym (ap (λ (z : List ℕ). z ++ ((if b then n ∷ [] else []) ++ filter (λ j. nat_lt n j) (i ∷ is))) low ∙ ap (λ (z : List ℕ). (i ∷ filter (λ j. nat_lt j n) is) ++ ((if b then n ∷ [] else []) ++ z)) high)
 later_set n i b false is js h e = e
 
+-- an ascending list still ascends with a place or without it
+pub rises_with : (i n : ℕ) (b : Bool) (is : List ℕ) → i ≤ n → Rises i is → Rises i (with_place n b is)
+rises_with i n true [] h r = (h, tt)
+rises_with i n false [] h r = tt
+rises_with i n b (x ∷ xs) h r = by (cases_order x n) (λ l. rises_with (suc x) n b xs l r.1)
+  where
+    from_here : (b : Bool) → x ≡ n → Rises i (if b then x ∷ xs else xs)
+    from_here true e = r
+    from_here false e = let k : i ≤ x = r.0 in rises_from (suc x) i xs (omega arith) r.1
+    from_before : (b : Bool) → n < x → Rises i (if b then n ∷ (x ∷ xs) else x ∷ xs)
+    from_before true l = (h, (omega arith, r.1))
+    from_before false l = r
+    by : (x ≡ n) ⊎ ((x < n) ⊎ (n < x)) → (suc x ≤ n → Rises (suc x) (with_place n b xs)) → Rises i (with_place n b (x ∷ xs))
+    by (inl e) go = subst (Rises i) (first_set n x b true xs (sym e) (none_below (suc x) n xs r.1 (omega arith)) (all_above (suc x) n xs r.1 (omega arith))) (from_here b e)
+    by (inr (inl l)) go = subst (Rises i) (later_set n x b true xs (with_place n b xs) l refl) (r.0, go (omega arith))
+    by (inr (inr l)) go = let s : Rises x (x ∷ xs) = (omega arith, r.1) in subst (Rises i) (first_set n n b false (x ∷ xs) refl (none_below x n (x ∷ xs) s (omega arith)) (all_above x n (x ∷ xs) s l)) (from_before b l)
+
+-- where an ascending list is cut
+pub filter_take : (n i : ℕ) (is : List ℕ) → ((j : ℕ) → j < i → j < length is → get_or is j 0 < n) → ((j : ℕ) → i ≤ j → j < length is → n ≤ get_or is j 0) → take i is ≡ filter (λ j. nat_lt j n) is
+filter_take n zero [] g h = refl
+filter_take n (suc i) [] g h = refl
+filter_take n zero (x ∷ xs) g h =
+    let k : n ≤ x = h 0 (omega arith) (omega arith) in
+    filter_take n zero xs (λ j l m. absurd (omega arith)) (λ j l m. h (suc j) (omega arith) (omega arith)) ∙ sym (filter_no (λ j. nat_lt j n) x xs (lt_no x n k))
+filter_take n (suc i) (x ∷ xs) g h =
+    let k : x < n = g 0 (omega arith) (omega arith) in
+    ap (λ (ys : List ℕ). x ∷ ys) (filter_take n i xs (λ j l m. g (suc j) (omega arith) (omega arith)) (λ j l m. h (suc j) (omega arith) (omega arith))) ∙ sym (filter_yes (λ j. nat_lt j n) x xs (lt_yes x n k))
+
+pub filter_drop : (n i : ℕ) (is : List ℕ) → ((j : ℕ) → j < i → j < length is → get_or is j 0 ≤ n) → ((j : ℕ) → i ≤ j → j < length is → n < get_or is j 0) → drop i is ≡ filter (λ j. nat_lt n j) is
+filter_drop n zero [] g h = refl
+filter_drop n (suc i) [] g h = refl
+filter_drop n zero (x ∷ xs) g h =
+    let k : n < x = h 0 (omega arith) (omega arith) in
+    ap (λ (ys : List ℕ). x ∷ ys) (filter_drop n zero xs (λ j l m. absurd (omega arith)) (λ j l m. h (suc j) (omega arith) (omega arith))) ∙ sym (filter_yes (λ j. nat_lt n j) x xs (lt_yes n x k))
+filter_drop n (suc i) (x ∷ xs) g h =
+    let k : x ≤ n = g 0 (omega arith) (omega arith) in
+    filter_drop n i xs (λ j l m. g (suc j) (omega arith) (omega arith)) (λ j l m. h (suc j) (omega arith) (omega arith)) ∙ sym (filter_no (λ j. nat_lt n j) x xs (lt_no n x k))
+
+-- the numbers of an ascending list do not fall
+pub rises_along : (is : List ℕ) → Rises 0 is → (i j : ℕ) → i ≤ j → j < length is → get_or is i 0 ≤ get_or is j 0
+rises_along is r i j h l = by (cases_order i j)
+  where
+    by : (i ≡ j) ⊎ ((i < j) ⊎ (j < i)) → get_or is i 0 ≤ get_or is j 0
+    by (inl e) = let t : get_or is i 0 ≡ get_or is j 0 = ap (λ x. get_or is x 0) e in omega arith
+    by (inr (inl s)) = let t = rises_less 0 i j is r s l in omega arith
+    by (inr (inr s)) = absurd (omega arith)
+
+-- what a search finds, and what it says where it finds nothing
+pub record IsCut (n a b : ℕ) (is : List ℕ) : Type 0 where
+  pub before : a ≤ length is
+  pub after : b ≤ length is
+  pub below : take a is ≡ filter (λ j. nat_lt j n) is
+  pub above : drop b is ≡ filter (λ j. nat_lt n j) is
+
+pub cut_found : (n i : ℕ) (is : List ℕ) → Rises 0 is → i < length is → get_or is i 0 ≡ n → IsCut n i (i + 1) is
+cut_found n i is r l e = record {
+  before = omega arith;
+  after = omega arith;
+  below = filter_take n i is (λ j k m. let s = rises_less 0 j i is r k l in omega arith) (λ j k m. not_less j k m (cases_order i j));
+  above = filter_drop n (i + 1) is (λ j k m. not_more j m k (cases_order i j)) (λ j k m. let s = rises_less 0 i j is r (omega arith) m in omega arith);
+}
+  where
+    not_less : (j : ℕ) → i ≤ j → j < length is → (i ≡ j) ⊎ ((i < j) ⊎ (j < i)) → n ≤ get_or is j 0
+    not_less j k m (inl s) = let t : get_or is i 0 ≡ get_or is j 0 = ap (λ x. get_or is x 0) s in omega arith
+    not_less j k m (inr (inl s)) = let t = rises_less 0 i j is r s m in omega arith
+    not_less j k m (inr (inr s)) = absurd (omega arith)
+    not_more : (j : ℕ) → j < length is → j < i + 1 → (i ≡ j) ⊎ ((i < j) ⊎ (j < i)) → get_or is j 0 ≤ n
+    not_more j m k (inl s) = let t : get_or is i 0 ≡ get_or is j 0 = ap (λ x. get_or is x 0) s in omega arith
+    not_more j m k (inr (inl s)) = absurd (omega arith)
+    not_more j m k (inr (inr s)) = let t = rises_less 0 j i is r s l in omega arith
+
+pub cut_missing : (n i : ℕ) (is : List ℕ) → i ≤ length is → ((j : ℕ) → j < i → get_or is j 0 < n) → ((j : ℕ) → i ≤ j → j < length is → n < get_or is j 0) → IsCut n i i is
+cut_missing n i is l g h = record {
+  before = l;
+  after = l;
+  below = filter_take n i is (λ j k m. g j k) (λ j k m. let s = h j k m in omega arith);
+  above = filter_drop n i is (λ j k m. let s = g j k in omega arith) h;
+}
+
+pub cut_ok : (n i : ℕ) (is : List ℕ) (r : Result ℕ ℕ) → r ≡ Ok i → Rises 0 is → IsBinarySearchResult (λ y. nat_cmp y n) is r → IsCut n i (i + 1) is
+cut_ok n i is r e h p =
+    let m = searched is n (Ok i) (subst (λ (x : Result ℕ ℕ). IsBinarySearchResult (λ y. nat_cmp y n) is x) e p) (rises_along is h) in
+    cut_found n i is h m.0 m.1
+
+pub cut_err : (n i : ℕ) (is : List ℕ) (r : Result ℕ ℕ) → r ≡ Err i → Rises 0 is → IsBinarySearchResult (λ y. nat_cmp y n) is r → IsCut n i i is
+cut_err n i is r e h p =
+    let m = searched is n (Err i) (subst (λ (x : Result ℕ ℕ). IsBinarySearchResult (λ y. nat_cmp y n) is x) e p) (rises_along is h) in
+    cut_missing n i is m.0 m.1 m.2
+
 -- one place changes
 pub set_on : (f : Wait → Option ℕ) (c n i k : ℕ) (ws : List Wait) (w : Wait) → n ≡ i + k → k < length ws → places_on f c i (slice_set ws k w) ≡ with_place n (is_on c (f w)) (places_on f c i ws)
 set_on f c n i k [] w e h = absurd (omega arith)
-set_on f c n i zero (v ∷ ws) w e h = first_set n i (is_on c (f w)) (is_on c (f v)) (places_on f c (suc i) ws) (omega arith) (none_below f c (suc i) n ws (omega arith)) (all_above f c (suc i) n ws (omega arith))
+set_on f c n i zero (v ∷ ws) w e h = first_set n i (is_on c (f w)) (is_on c (f v)) (places_on f c (suc i) ws) (omega arith) (none_below (suc i) n (places_on f c (suc i) ws) (places_rise f c (suc i) ws) (omega arith)) (all_above (suc i) n (places_on f c (suc i) ws) (places_rise f c (suc i) ws) (omega arith))
 set_on f c n i (suc k) (v ∷ ws) w e h = later_set n i (is_on c (f w)) (is_on c (f v)) (places_on f c (suc i) ws) (places_on f c (suc i) (slice_set ws k w)) (omega arith) (set_on f c n (suc i) k ws w (omega arith) (omega arith))
 
 pub set_off : (f : Wait → Option ℕ) (c i k : ℕ) (ws : List Wait) (w : Wait) → ((v : Wait) → slice_get ws k ≡ Some v → is_on c (f v) ≡ false) → is_on c (f w) ≡ false → places_on f c i (slice_set ws k w) ≡ places_on f c i ws
@@ -180,3 +299,7 @@ met_has f t u ps qs i j d p out inp s at at' h g k = subst (HasPlaces f u) (sym 
 -- a table is as it was
 pub same_has : (f : Wait → Option ℕ) (t u : ℕ → Option (Vec ℕ)) (ps qs : List Place) → ((c : ℕ) → u c ≡ t c) → HasPlaces f t ps → qs ≡ ps → HasPlaces f u qs
 same_has f t u ps qs e h k = λ c. ap or_none (e c) ∙ h c ∙ sym (ap (λ (xs : List Place). places_on f c 0 (waits_of xs)) k)
+
+-- each list of such a table ascends
+pub has_rise : (f : Wait → Option ℕ) (t : ℕ → Option (Vec ℕ)) (ps : List Place) → HasPlaces f t ps → AllRise t
+has_rise f t ps h = λ c. subst (Rises 0) (sym (h c)) (places_rise f c 0 (waits_of ps))

@@ -1,5 +1,5 @@
 -- Tables of the places that wait on each channel, as places change.
-use Rattle.std.specs.Prelude.{◌≡◌, ℕ, ◌||◌, Bool, true, List, [], ◌∷◌, ◌++◌, filter, if◌then◌else◌, nat_lt, Option, Some, None}
+use Rattle.std.specs.Prelude.{◌≡◌, ◌≤◌, ⊤, ℕ, suc, ◌||◌, Bool, true, List, [], ◌∷◌, ◌++◌, filter, if◌then◌else◌, nat_lt, Option, Some, None}
 use Rattle.std.specs.Global.{Vec}
 use Rattle.spi_replay.specs.declared.places.Place.{Place}
 use Rattle.spi_replay.specs.declared.waits.Wait.{Wait}
@@ -9,6 +9,15 @@ use Rattle.spi_replay.specs.declared.tables.Change.{Change}
 use Rattle.spi_replay.specs.declared.tables.Lists.{Lists}
 use Rattle.spi_replay.specs.declared.tables.Relisted.{Relisted}
 use Rattle.spi_replay.specs.Indexed.{is_on, or_none, places_on}
+
+-- an ascending list whose first number is i at least
+abbrev pub Rises : ℕ → List ℕ → Type 0
+Rises i [] = ⊤
+Rises i (x ∷ xs) = (i ≤ x) × Rises (suc x) xs
+
+-- each list of a table ascends
+abbrev pub AllRise : (ℕ → Option (Vec ℕ)) → Type 0
+AllRise t = (c : ℕ) → Rises 0 (or_none (t c))
 
 -- an ascending list, with place k or without it
 abbrev pub with_place : ℕ → Bool → List ℕ → List ℕ

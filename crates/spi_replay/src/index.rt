@@ -9,7 +9,7 @@ ghost use Rattle.spi_replay.specs.Tables.{next_wait as next_wait_of};
 
 use crate::NoMemory;
 use crate::places::Place;
-use crate::tables::{Turn, turn_both};
+use crate::tables::{Turn, list_of, turn_both};
 use crate::waits::Wait;
 use indexmap::IndexMap;
 use spi_intern::MsgId;
@@ -59,20 +59,14 @@ impl<'p> Index<'p> {
     pub fn outs(&self, channel: MsgId) -> &[u32]
         ensures { result.now ≡ places_on out_channel channel.place 0 (waits_of self.now.places.items) }
     {
-        match self.outs.get(&channel.place()) {
-            Some(places) => places,
-            None => &[],
-        }
+        list_of(&self.outs, channel.place())
     }
 
     /// The ascending places that take in on the channel with this number.
     pub fn ins(&self, channel: MsgId) -> &[u32]
         ensures { result.now ≡ places_on in_channel channel.place 0 (waits_of self.now.places.items) }
     {
-        match self.ins.get(&channel.place()) {
-            Some(places) => places,
-            None => &[],
-        }
+        list_of(&self.ins, channel.place())
     }
 
     /// One place more, which comes last. After an error nothing has changed.

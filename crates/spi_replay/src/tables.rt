@@ -1,9 +1,9 @@
 // The places that wait on each channel, as places change.
 
-ghost use Rattle.std.specs.Prelude.{◌≡◌, ◌≤◌, ◌<◌, ◌+◌, ◌++◌, ℕ, true, filter, nat_lt, nat_eq, if◌then◌else◌, IfOk, OnOk, OnErr};
+ghost use Rattle.std.specs.Prelude.{◌≡◌, ◌≤◌, ◌<◌, ◌+◌, ℕ, true, length, take, drop, filter, nat_lt, nat_eq, if◌then◌else◌, IfOk, OnOk, OnErr};
 ghost use Rattle.indexmap.specs.IndexMap.{get, spare, IsUnchanged};
 ghost use Rattle.spi_replay.specs.Indexed.{out_channel as out_channel_of, in_channel as in_channel_of, is_on as is_on_of, or_none};
-ghost use Rattle.spi_replay.specs.Tables.{with_place as with_place_of, change_of, relisted as relisted_of, AreLists, IsRelisted, HasChanged};
+ghost use Rattle.spi_replay.specs.Tables.{Rises, AllRise, with_place as with_place_of, change_of, relisted as relisted_of, AreLists, IsRelisted, HasChanged};
 
 use crate::NoMemory;
 use crate::waits::Wait;
@@ -90,39 +90,43 @@ fn is_on(channel: usize, on: Option<usize>) -> bool
     }
 }
 
-fn push_below(places: &mut Vec<u32>, list: &[u32], place: u32) -> Result<(), NoMemory>
-    ensures { OnOk result (places.new.items ≡ places.old.items ++ filter (λ i. nat_lt i place) list.now) }
+// The numbers before this index are below the place, and those from the second index on are above it.
+fn cut(list: &[u32], place: u32) -> (usize, usize)
+    requires { Rises 0 list.now }
+    ensures before { result.0 ≤ length list.now }
+    ensures after { result.1 ≤ length list.now }
+    ensures below { take result.0 list.now ≡ filter (λ i. nat_lt i place) list.now }
+    ensures above { drop result.1 list.now ≡ filter (λ i. nat_lt place i) list.now }
 {
-    for other in list {
-        if *other < place {
-            places.push(*other)?;
-        }
+    match list.binary_search(&place) {
+        Ok(at) => (at, at + 1),
+        Err(at) => (at, at),
     }
-    Ok(())
-}
-
-fn push_above(places: &mut Vec<u32>, list: &[u32], place: u32) -> Result<(), NoMemory>
-    ensures { OnOk result (places.new.items ≡ places.old.items ++ filter (λ i. nat_lt place i) list.now) }
-{
-    for other in list {
-        if place < *other {
-            places.push(*other)?;
-        }
-    }
-    Ok(())
 }
 
 // The list with the place or without it.
 fn with_place(alloc: Global, list: &[u32], place: u32, on: bool) -> Result<Vec<u32>, NoMemory>
+    requires { Rises 0 list.now }
     ensures { IfOk result (λ v. v.items ≡ with_place_of place on list.now) }
 {
-    let mut places = Vec::with_capacity(alloc, list.len())?;
-    push_below(&mut places, list, place)?;
+    let (before, after) = cut(list, place);
+    let mut places = Vec::with_capacity(alloc, list.len().saturating_add(1))?;
+    places.extend_from_slice(&list[..before])?;
     if on {
         places.push(place)?;
     }
-    push_above(&mut places, list, place)?;
+    places.extend_from_slice(&list[after..])?;
     Ok(places)
+}
+
+/// The list of a channel.
+pub fn list_of(table: &IndexMap<usize, Vec<u32>>, channel: usize) -> &[u32]
+    ensures { result.now ≡ or_none (get nat_eq table.now channel) }
+{
+    match table.get(&channel) {
+        Some(places) => places,
+        None => &[],
+    }
 }
 
 // The list of a channel after two changes.
@@ -133,15 +137,13 @@ fn list_after(
     first: Change,
     second: Change,
 ) -> Result<Vec<u32>, NoMemory>
+    requires { AllRise (get nat_eq table.now) }
     ensures { IfOk result (λ v. (c : ℕ) → is_on_of c channel ≡ true → v.items ≡ relisted_of first second c (or_none (get nat_eq table.now c))) }
 {
     let Some(channel) = channel else {
         return Ok(Vec::new(alloc));
     };
-    let list: &[u32] = match table.get(&channel) {
-        Some(places) => places,
-        None => &[],
-    };
+    let list = list_of(table, channel);
     let once = with_place(alloc, list, first.place, is_on(channel, first.to))?;
     with_place(alloc, &once, second.place, is_on(channel, second.to))
 }
@@ -153,6 +155,7 @@ fn lists_after(
     first: Change,
     second: Change,
 ) -> Result<Lists, NoMemory>
+    requires { AllRise (get nat_eq table.now) }
     ensures { IfOk result (AreLists (get nat_eq table.now) first second change) }
 {
     let from = list_after(alloc, table, change.from, first, second)?;
@@ -167,6 +170,7 @@ pub fn prepared(
     first: Change,
     second: Change,
 ) -> Result<Relisted, NoMemory>
+    requires { AllRise (get nat_eq table.old) }
     ensures is { IfOk result (IsRelisted (get nat_eq table.new) first second) }
     ensures room { OnOk result (4 ≤ spare table.new) }
     ensures same { IsUnchanged table.old table.new }
@@ -216,6 +220,8 @@ pub fn turn_both(
     first: Turn,
     second: Turn,
 ) -> Result<(), NoMemory>
+    requires outs { AllRise (get nat_eq outs.old) }
+    requires ins { AllRise (get nat_eq ins.old) }
     ensures outs { OnOk result (HasChanged (change_of out_channel_of first) (change_of out_channel_of second) (get nat_eq outs.old) (get nat_eq outs.new)) }
     ensures ins { OnOk result (HasChanged (change_of in_channel_of first) (change_of in_channel_of second) (get nat_eq ins.old) (get nat_eq ins.new)) }
     ensures same_outs { OnErr result (IsUnchanged outs.old outs.new) }
