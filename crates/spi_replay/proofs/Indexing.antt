@@ -17,7 +17,6 @@ use Rattle.spi_replay.specs.declared.tables.Change.{Change}
 use Rattle.spi_replay.specs.Indexed.{is_on, places_on, waits_of, or_none, HasPlaces, listed, moved}
 use Rattle.spi_replay.specs.Tables.{Rises, AllRise, with_place, next_wait, change_of, is_touched, relisted, HasChanged}
 
-
 lt_yes : (i n : ℕ) → i < n → nat_lt i n ≡ true
 lt_yes i n h = grind (arith, nat_tests)
 
@@ -79,11 +78,14 @@ first_set n i b d is e l g = by b d
   where
     low : filter (λ j. nat_lt j n) (i ∷ is) ≡ []
     low = filter_no (λ j. nat_lt j n) i is (lt_no i n (omega arith)) ∙ l
+
     high : filter (λ j. nat_lt n j) (i ∷ is) ≡ is
     high = filter_no (λ j. nat_lt n j) i is (lt_no n i (omega arith)) ∙ g
+
     join : (x y : List ℕ) (h : Bool) → x ≡ [] → y ≡ is → x ++ ((if h then n ∷ [] else []) ++ y) ≡ (if h then i ∷ is else is)
     join x y true p q = ap (λ (z : List ℕ). z ++ (n ∷ y)) p ∙ ap (λ (z : List ℕ). n ∷ z) q ∙ ap (λ m. m ∷ is) e
     join x y false p q = ap (λ (z : List ℕ). z ++ y) p ∙ q
+
     by : (b d : Bool) → (if b then i ∷ is else is) ≡ with_place n b (if d then i ∷ is else is)
     by b true = sym (join (filter (λ j. nat_lt j n) (i ∷ is)) (filter (λ j. nat_lt n j) (i ∷ is)) b low high)
     by b false = sym (join (filter (λ j. nat_lt j n) is) (filter (λ j. nat_lt n j) is) b l g)
@@ -105,9 +107,11 @@ rises_with i n b (x ∷ xs) h r = by (cases_order x n) (λ l. rises_with (suc x)
     from_here : (b : Bool) → x ≡ n → Rises i (if b then x ∷ xs else xs)
     from_here true e = r
     from_here false e = let k : i ≤ x = r.0 in rises_from (suc x) i xs (omega arith) r.1
+
     from_before : (b : Bool) → n < x → Rises i (if b then n ∷ (x ∷ xs) else x ∷ xs)
     from_before true l = (h, (omega arith, r.1))
     from_before false l = r
+
     by : (x ≡ n) ⊎ ((x < n) ⊎ (n < x)) → (suc x ≤ n → Rises (suc x) (with_place n b xs)) → Rises i (with_place n b (x ∷ xs))
     by (inl e) go = subst (Rises i) (first_set n x b true xs (sym e) (none_below (suc x) n xs r.1 (omega arith)) (all_above (suc x) n xs r.1 (omega arith))) (from_here b e)
     by (inr (inl l)) go = subst (Rises i) (later_set n x b true xs (with_place n b xs) l refl) (r.0, go (omega arith))
@@ -162,6 +166,7 @@ cut_found n i is r l e = record {
     not_less j k m (inl s) = let t : get_or is i 0 ≡ get_or is j 0 = ap (λ x. get_or is x 0) s in omega arith
     not_less j k m (inr (inl s)) = let t = rises_less 0 i j is r s m in omega arith
     not_less j k m (inr (inr s)) = absurd (omega arith)
+
     not_more : (j : ℕ) → j < length is → j < i + 1 → (i ≡ j) ⊎ ((i < j) ⊎ (j < i)) → get_or is j 0 ≤ n
     not_more j m k (inl s) = let t : get_or is i 0 ≡ get_or is j 0 = ap (λ x. get_or is x 0) s in omega arith
     not_more j m k (inr (inl s)) = absurd (omega arith)

@@ -87,19 +87,18 @@ impl<'p> Index<'p> {
             from: Wait::Stays,
             to: place.wait,
         };
-        turn_both(
-            self.alloc,
-            &mut self.outs,
-            &mut self.ins,
-            first,
-            second,
-        )?;
+        turn_both(self.alloc, &mut self.outs, &mut self.ins, first, second)?;
         append(&mut self.places, place);
         Ok(())
     }
 
     /// A place as it is after an act, with the one that is appended. After an error nothing has changed.
-    pub fn moved(&mut self, at: u32, now: Place<'p>, more: Option<Place<'p>>) -> Result<(), NoMemory>
+    pub fn moved(
+        &mut self,
+        at: u32,
+        now: Place<'p>,
+        more: Option<Place<'p>>,
+    ) -> Result<(), NoMemory>
         requires at { at < length self.old.places.items }
         requires few { length self.old.places.items < 2 ^ 32 - 1 }
         ensures moved { OnOk result (self.new.places.items ≡ moved_of self.old.places.items at now.entry more.entry) }
@@ -116,19 +115,19 @@ impl<'p> Index<'p> {
             from: Wait::Stays,
             to: next_wait(more),
         };
-        turn_both(
-            self.alloc,
-            &mut self.outs,
-            &mut self.ins,
-            first,
-            second,
-        )?;
+        turn_both(self.alloc, &mut self.outs, &mut self.ins, first, second)?;
         put_moved(&mut self.places, at, now, more);
         Ok(())
     }
 
     // The output's place is done, and the input's place goes on. After an error nothing has changed.
-    fn met_once(&mut self, out: u32, done: Place<'p>, inp: u32, now: Place<'p>) -> Result<(), NoMemory>
+    fn met_once(
+        &mut self,
+        out: u32,
+        done: Place<'p>,
+        inp: u32,
+        now: Place<'p>,
+    ) -> Result<(), NoMemory>
         requires out { out < length self.old.places.items }
         requires inp { inp < length self.old.places.items }
         requires stays { done.wait ≡ Wait.Stays }
@@ -145,13 +144,7 @@ impl<'p> Index<'p> {
             from: self.places[inp as usize].wait,
             to: now.wait,
         };
-        turn_both(
-            self.alloc,
-            &mut self.outs,
-            &mut self.ins,
-            first,
-            second,
-        )?;
+        turn_both(self.alloc, &mut self.outs, &mut self.ins, first, second)?;
         self.places[out as usize] = done;
         self.places[inp as usize] = now;
         Ok(())
