@@ -13,3 +13,4 @@ pub mod Told
 pub mod Begun
 pub mod Same
 pub mod Channels
+pub mod Indexing

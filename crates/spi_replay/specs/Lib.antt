@@ -8,3 +8,4 @@ pub mod Pools
 pub mod Codes
 pub mod Listing
 pub mod Indexed
+pub mod Tables

@@ -11,6 +11,7 @@ mod places;
 mod pool;
 mod reading;
 mod running;
+mod tables;
 mod waits;
 
 pub use fault::StepFault;

@@ -149,10 +149,7 @@ fn may_talk(state: &State<'_>, out: u32, inp: u32) -> Result<Meeting, StepFault>
     }
     // The count is asked for what its answer says: no message has two numbers.
     let _ = state.store.distinct();
-    match meeting_of(
-        state.index.at(out).wait,
-        state.index.at(inp).wait,
-    ) {
+    match meeting_of(state.index.at(out).wait, state.index.at(inp).wait) {
         None => Err(StepFault::NotReady { place: out }),
         Some(meeting) => {
             let nodes = nodes_of(&state.store, meeting.datum);

@@ -1,42 +1,37 @@
-use Rattle.std.proofs.Common.{◌<◌, length, arith, sym, ◌∙◌}
+use Rattle.std.proofs.Common.{arith, sym, ◌∙◌}
 use Rattle.spi_replay.proofs.Does.{waits_within}
-use Rattle.spi_replay.proofs.Stepped.{refuse_place, refuse_still, refuse_large_by, refuse_many_by, got}
+use Rattle.spi_replay.proofs.Stepped.{refuse_place, refuse_still, refuse_large_by, refuse_many_by}
 use Rattle.spi_replay.proofs.running.may_act.Goals as goal
 
 pub returns-then-place-len-clause-refused : goal.returns-then-place-len-clause-refused
-returns-then-place-len-clause-refused c = refuse_place c.args.state.now.store.messages c.args.state.now.links.items c.args.state.now.places.items c.args.state.now.names c.args.state.now.most c.args.place (omega arith)
+returns-then-place-len-clause-refused c = refuse_place c.args.state.now.store.messages c.args.state.now.links.items c.args.state.now.index.places.items c.args.state.now.names c.args.state.now.most c.args.place (omega arith)
 
 pub returns-then-not-is_act-clause-refused : goal.returns-then-not-is_act-clause-refused
 returns-then-not-is_act-clause-refused c =
-    let b : c.args.place < length c.args.state.now.places.items = omega arith in
-    let at = got c.args.state.now.places.items c.args.place c.index.result.now b c.index.ensures in
-    let w = c.requires.places.each c.args.place c.index.result.now at in
-    refuse_still c.args.state.now.store.messages c.args.state.now.links.items c.args.state.now.places.items c.args.state.now.names c.args.state.now.most c.args.place at w (sym c.is_act.ensures ∙ c.if-not-is_act.true)
+    let at = c.at-wait.ensures in
+    let w = c.requires.places.each c.args.place c.at-wait.result at in
+    refuse_still c.args.state.now.store.messages c.args.state.now.links.items c.args.state.now.index.places.items c.args.state.now.names c.args.state.now.most c.args.place at w (sym c.is_act.ensures ∙ c.if-not-is_act.true)
 
 pub largest_of-nodes-requires : goal.largest_of-nodes-requires
 largest_of-nodes-requires c =
-    let b : c.args.place < length c.args.state.now.places.items = omega arith in
-    let at = got c.args.state.now.places.items c.args.place c.index.result.now b c.index.ensures in
-    let w = c.requires.places.each c.args.place c.index.result.now at in
+    let at = c.at-wait.ensures in
+    let w = c.requires.places.each c.args.place c.at-wait.result at in
     waits_within w.waits
 
 pub returns-then-nodes-gt-MESSAGE_MOST-clause-refused : goal.returns-then-nodes-gt-MESSAGE_MOST-clause-refused
 returns-then-nodes-gt-MESSAGE_MOST-clause-refused c =
-    let b : c.args.place < length c.args.state.now.places.items = omega arith in
-    let at = got c.args.state.now.places.items c.args.place c.index.result.now b c.index.ensures in
-    let w = c.requires.places.each c.args.place c.index.result.now at in
-    refuse_large_by c.args.state.now.store.messages c.args.state.now.links.items c.args.state.now.places.items c.args.state.now.names c.args.state.now.most c.args.place _ at w (sym c.is_act.ensures ∙ c.if-not-is_act.false) c.largest_of-nodes.ensures (omega arith)
+    let at = c.at-wait.ensures in
+    let w = c.requires.places.each c.args.place c.at-wait.result at in
+    refuse_large_by c.args.state.now.store.messages c.args.state.now.links.items c.args.state.now.index.places.items c.args.state.now.names c.args.state.now.most c.args.place _ at w (sym c.is_act.ensures ∙ c.if-not-is_act.false) c.largest_of-nodes.ensures (omega arith)
 
 pub returns-then-places-state-clause-refused : goal.returns-then-places-state-clause-refused
 returns-then-places-state-clause-refused c =
-    let b : c.args.place < length c.args.state.now.places.items = omega arith in
-    let at = got c.args.state.now.places.items c.args.place c.index.result.now b c.index.ensures in
-    let w = c.requires.places.each c.args.place c.index.result.now at in
-    refuse_many_by c.args.state.now.store.messages c.args.state.now.links.items c.args.state.now.places.items c.args.state.now.names c.args.state.now.most c.args.place _ at w (sym c.is_act.ensures ∙ c.if-not-is_act.false) (omega (arith, c.largest_of-nodes.ensures)) (omega arith) (omega arith)
+    let at = c.at-wait.ensures in
+    let w = c.requires.places.each c.args.place c.at-wait.result at in
+    refuse_many_by c.args.state.now.store.messages c.args.state.now.links.items c.args.state.now.index.places.items c.args.state.now.names c.args.state.now.most c.args.place _ at w (sym c.is_act.ensures ∙ c.if-not-is_act.false) (omega (arith, c.largest_of-nodes.ensures)) (omega arith) (omega arith)
 
 pub returns-clause-may : goal.returns-clause-may
 returns-clause-may c =
-    let b : c.args.place < length c.args.state.now.places.items = omega arith in
-    let at = got c.args.state.now.places.items c.args.place c.index.result.now b c.index.ensures in
-    let w = c.requires.places.each c.args.place c.index.result.now at in
-    record { place = c.index.result.now; there = at; acts = sym c.is_act.ensures ∙ c.if-not-is_act.false; small = omega (arith, c.largest_of-nodes.ensures); few = omega arith }
+    let at = c.at-wait.ensures in
+    let w = c.requires.places.each c.args.place c.at-wait.result at in
+    record { place = c.at-wait.result; there = at; acts = sym c.is_act.ensures ∙ c.if-not-is_act.false; small = omega (arith, c.largest_of-nodes.ensures); few = omega arith }
