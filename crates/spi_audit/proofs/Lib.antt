@@ -24,3 +24,4 @@ pub mod Replies
 pub mod MessageKeys
 pub mod MessageParts
 pub mod MessageTaken
+pub mod NoteChanges
