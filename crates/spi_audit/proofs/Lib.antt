@@ -25,3 +25,4 @@ pub mod MessageKeys
 pub mod MessageParts
 pub mod MessageTaken
 pub mod NoteChanges
+pub mod NoteShapes

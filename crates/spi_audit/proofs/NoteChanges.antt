@@ -1,5 +1,5 @@
 -- What is kept of casts and of checks.
-use Rattle.std.proofs.Common.{◌≡◌, ℕ, List, Option, refl, sym, ap, subst}
+use Rattle.std.proofs.Common.{◌≡◌, ℕ, Option, refl, sym, ap, subst}
 use Rattle.spi_term.specs.Term.{Message, Effect, Ty, nonce}
 use Rattle.spi_rules.specs.Environment.{Env}
 use Rattle.spi_rules.specs.declared.rule.Rule.{Rule}
@@ -9,8 +9,7 @@ use Rattle.spi_intern.specs.declared.store.Store.{Store}
 use Rattle.spi_intern.specs.declared.messages.MsgId.{MsgId}
 use Rattle.spi_intern.specs.declared.types.TyId.{TyId}
 use Rattle.spi_intern.proofs.Meanings.{means_keeps}
-use Rattle.spi_message.specs.Judging.{Numbered, Stands, IsJudge}
-use Rattle.spi_message.specs.Asking.{IsEnvironment}
+use Rattle.spi_message.specs.Judging.{Numbered, Stands}
 use Rattle.spi_message.specs.Tests.{nonce_of}
 use Rattle.spi_audit.specs.declared.keys.Keys.{Keys}
 use Rattle.spi_audit.specs.declared.notes.Note.{Note}
@@ -45,7 +44,3 @@ check_noted j s keys m n id t g a h e k w =
 pub other_check : (r : Rule) (k : ℕ) (m : Message) (o : Option Effect) → (r ≡ ProcCheck → ⊥) → check_change r k m o ≡ same_effect k
 other_check ProcCheck k m o h = absurd (h refl)
 other_check _ k m o h = refl
-
--- the environment of a judge
-pub is_environment : {s : Store} {free : ℕ} {ids : List TyId} → IsJudge s free ids → IsEnvironment s ids
-is_environment h = record { env = h.env; stands = h.stands }
