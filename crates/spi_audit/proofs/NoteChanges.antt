@@ -41,6 +41,9 @@ check_noted j s keys m n id t g a h e k w =
     let (fs, q, v) = h.at e w in
     noted_as s keys (N.Check id t) (ap (check_change ProcCheck k m) q) (noted_check a (means_keeps g v))
 
-pub other_check : (r : Rule) (k : ℕ) (m : Message) (o : Option Effect) → (r ≡ ProcCheck → ⊥) → check_change r k m o ≡ same_effect k
+other_check : (r : Rule) (k : ℕ) (m : Message) (o : Option Effect) → (r ≡ ProcCheck → ⊥) → check_change r k m o ≡ same_effect k
 other_check ProcCheck k m o h = absurd (h refl)
 other_check _ k m o h = refl
+
+pub same_noted : (j : Numbered) (s : Store) (keys : Keys) (r : Rule) (m n : Message) → (r ≡ ProcCheck → ⊥) → (e : Env) (k : ℕ) → Stands j e → NotedAs s keys (check_change r k m (nonce_of e n)) N.Same
+same_noted j s keys r m n h e k w = noted_as s keys N.Same (other_check r k m (nonce_of e n) h) noted_same
