@@ -1,17 +1,16 @@
 -- What is kept of the use that is asked of a process at a node.
-use Rattle.std.proofs.Common.{◌≡◌, ℕ, List, length, Result, Ok, Err, IfOk, refl, sym, ap, subst, ◌∙◌}
-use Rattle.spi_term.specs.Term.{Message, Ty, Leaf, Prefix, Recvs, Serves, Splits, Selects, Decrypts, Checks, Begins, Ends, EndManys, Casts, Makes, Cases, Pars}
+use Rattle.std.proofs.Common.{◌≡◌, ℕ, length, Result, Ok, Err, IfOk, refl, sym, ap, ◌∙◌}
+use Rattle.spi_term.specs.Term.{Message, Ty, Leaf, Prefix, Serves, Splits, Casts, Makes, Cases, Pars}
 use Rattle.spi_term.specs.Spelling.{Shape, leaf_at, prefix_at, fork_at}
 use Rattle.spi_rules.specs.Environment.{Env}
 use Rattle.spi_rules.specs.declared.rule.Rule.{Rule}
 use Rattle.spi_intern.specs.declared.store.Store.{Store}
 use Rattle.spi_message.specs.Judging.{Numbered, Stands}
-use Rattle.spi_message.specs.Tests.{nonce_of}
 use Rattle.spi_message.proofs.Standing.{stand_length}
 use Rattle.spi_audit.specs.declared.keys.Keys.{Keys}
 use Rattle.spi_audit.specs.declared.notes.Note.{Note}
 use Rattle.spi_audit.specs.declared.notes.Note.TheVariants as N
-use Rattle.spi_audit.specs.Changes.{Change, one_left, two_left, served, chosen, begun, ended, ended_many, made, check_change, cast_change, shape_change}
+use Rattle.spi_audit.specs.Changes.{Change, one_left, two_left, served, chosen, made, cast_change, shape_change}
 use Rattle.spi_audit.specs.Notes.{NotedAs, NotesNode, noted_empty, noted_one, noted_two, noted_serve, noted_case, noted_both}
 use Rattle.spi_audit.proofs.NoteChanges.{noted_as}
 
@@ -52,19 +51,3 @@ module _ (old new : Numbered) (ks : Keys) (rule : Rule) (x : Shape) where
     pub casts_noted : {E : Type 0} (r : Result Note E) (n b : ℕ) (m : Message) (t : Ty) → x ≡ prefix_at n (Casts m t) b → IfOk r (NotedAs new.store ks (cast_change rule k t)) → IfOk r (NotesNode old new ks rule x)
     casts_noted (Ok o) n b m t q h = node_as o (prefix_at n (Casts m t) b) q (λ e s. noted_as new.store ks o (ap (λ k. cast_change rule k t) (as_long e s)) h)
     casts_noted (Err z) n b m t q h = tt
-
-  pub checks_noted : {E : Type 0} (r : Result Note E) (n b : ℕ) (m c : Message) → x ≡ prefix_at n (Checks m c) b → IfOk r (λ o. (e : Env) (k : ℕ) → Stands old e → NotedAs new.store ks (check_change rule k m (nonce_of e c)) o) → IfOk r (NotesNode old new ks rule x)
-  checks_noted (Ok o) n b m c q h = node_as o (prefix_at n (Checks m c) b) q (λ e s. h e (length e) s)
-  checks_noted (Err z) n b m c q h = tt
-
-  pub begins_noted : {E : Type 0} (r : Result Note E) (n b : ℕ) (m : Message) → x ≡ prefix_at n (Begins m) b → IfOk r (λ o. (keys : Keys) (k : ℕ) → NotedAs new.store keys (begun k m) o) → IfOk r (NotesNode old new ks rule x)
-  begins_noted (Ok o) n b m q h = node_as o (prefix_at n (Begins m) b) q (λ e s. h ks (length e))
-  begins_noted (Err z) n b m q h = tt
-
-  pub ends_noted : {E : Type 0} (r : Result Note E) (n b : ℕ) (m : Message) → x ≡ prefix_at n (Ends m) b → IfOk r (λ o. (k : ℕ) → NotedAs new.store ks (ended k m) o) → IfOk r (NotesNode old new ks rule x)
-  ends_noted (Ok o) n b m q h = node_as o (prefix_at n (Ends m) b) q (λ e s. h (length e))
-  ends_noted (Err z) n b m q h = tt
-
-  pub many_noted : {E : Type 0} (r : Result Note E) (n b : ℕ) (m : Message) → x ≡ prefix_at n (EndManys m) b → IfOk r (λ o. (k : ℕ) → NotedAs new.store ks (ended_many k m) o) → IfOk r (NotesNode old new ks rule x)
-  many_noted (Ok o) n b m q h = node_as o (prefix_at n (EndManys m) b) q (λ e s. h (length e))
-  many_noted (Err z) n b m q h = tt
