@@ -1,16 +1,15 @@
 -- What is kept of the use that is asked of a process at a node.
-use Rattle.std.proofs.Common.{◌≡◌, ℕ, length, Result, Ok, Err, IfOk, refl, sym, ap, ◌∙◌}
-use Rattle.spi_term.specs.Term.{Message, Ty, Leaf, Prefix, Serves, Splits, Casts, Makes, Cases, Pars}
+use Rattle.std.proofs.Common.{◌≡◌, ℕ, length, Result, Ok, Err, IfOk, sym, ap, ◌∙◌}
+use Rattle.spi_term.specs.Term.{Message, Ty, Leaf, Serves, Splits, Casts, Makes, Cases, Pars}
 use Rattle.spi_term.specs.Spelling.{Shape, leaf_at, prefix_at, fork_at}
 use Rattle.spi_rules.specs.Environment.{Env}
 use Rattle.spi_rules.specs.declared.rule.Rule.{Rule}
-use Rattle.spi_intern.specs.declared.store.Store.{Store}
 use Rattle.spi_message.specs.Judging.{Numbered, Stands}
 use Rattle.spi_message.proofs.Standing.{stand_length}
 use Rattle.spi_audit.specs.declared.keys.Keys.{Keys}
 use Rattle.spi_audit.specs.declared.notes.Note.{Note}
 use Rattle.spi_audit.specs.declared.notes.Note.TheVariants as N
-use Rattle.spi_audit.specs.Changes.{Change, one_left, two_left, served, chosen, made, cast_change, shape_change}
+use Rattle.spi_audit.specs.Changes.{one_left, two_left, served, chosen, made, cast_change, shape_change}
 use Rattle.spi_audit.specs.Notes.{NotedAs, NotesNode, noted_empty, noted_one, noted_two, noted_serve, noted_case, noted_both}
 use Rattle.spi_audit.proofs.NoteChanges.{noted_as}
 

@@ -1,5 +1,5 @@
 use Rattle.std.proofs.Common.{ap, refl}
-use Rattle.spi_term.specs.View.{message, ty, shape_of, form_of}
+use Rattle.spi_term.specs.View.{shape_of, form_of}
 use Rattle.spi_audit.proofs.NoteShapes.{leaf_noted, pars_noted, one_named, two_named, serves_noted, cases_noted, makes_noted, casts_noted}
 use Rattle.spi_audit.proofs.noting.note_node.Goals as goal
 
