@@ -29,3 +29,5 @@ pub mod FormRules
 pub mod FormUses
 pub mod FormTyped
 pub mod FormChildren
+pub mod NoteChanges
+pub mod NoteShapes
