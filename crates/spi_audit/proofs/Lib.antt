@@ -21,3 +21,7 @@ pub mod Settling
 pub mod Leading
 pub mod Parts
 pub mod Replies
+pub mod WalkUses
+pub mod WalkNext
+pub mod WalkSteps
+pub mod NoteUses
