@@ -1,8 +1,8 @@
 -- The forward pass, use by use.
-use Rattle.std.proofs.Common.{◌≡◌, refl, sym, ap, ◌∙◌, subst, ℕ, zero, suc, ◌+◌, ◌<◌, ◌≤◌, List, [], ◌∷◌, ◌++◌, length, take, drop, map, get_or, arith, append_assoc, length-append}
+use Rattle.std.proofs.Common.{◌≡◌, refl, sym, ap, ◌∙◌, subst, ℕ, zero, suc, ◌+◌, ◌<◌, ◌≤◌, List, [], ◌∷◌, ◌++◌, length, take, drop, reverse, map, get_or, arith, length-append}
 use Rattle.std.specs.Prelude.{slice_get, replicate, ⊤}
-use Rattle.std.proofs.lemmas.List.{append-nil, take_all, length-replicate, reverse-append, take_more, take-append-drop}
-use Rattle.std.proofs.Math.Seq.{drop-cons}
+use Rattle.std.proofs.lemmas.List.{append-nil, take_all, length-replicate, reverse-append, take-append-drop, length-take}
+use Rattle.std.proofs.Math.ListN.{drop_of_length-le}
 use Rattle.spi_term.specs.Term.{Message, name, Effect, un, nonce, Process}
 use Rattle.spi_term.specs.Spelling.{Shape, flat, numbered, spelled}
 use Rattle.spi_rules.specs.Environment.{Env, untrusted}
@@ -140,10 +140,46 @@ module _ (old : Numbered) (ls : Keys) (ss : List Shape) (root : Subject) (us : L
           trees = subst (λ n. AreTrees n vs) (ap (λ n. n + length ts) (sym (fits_arity h.1)) ∙ sym (length-append h.0 ts)) (tree_rest (length ts) w);
         }
 
--- no use is left
-pub led_done : (j : Numbered) (ks : Keys) (ss : List Shape) (root : Subject) (us : List RuleUse) (qs : List Asked) (os : List Note) (l : IsLed j ks ss root us [] qs os) → Trace (root ∷ []) us l.changes
-led_done j ks ss root us qs os l = go l.subjects l.led l.trees
+-- the uses from one on, and those up to it
+pub drop_at : {A B : Type 0} (f : A → B) (xs : List A) (i : ℕ) (x : A) → x ≡ get_or xs i x → i < length xs → drop i (map f xs) ≡ f x ∷ drop (i + 1) (map f xs)
+drop_at f [] i x e h = absurd (omega arith)
+drop_at f (y ∷ xs) zero x e h = ap (λ y. f y ∷ map f xs) (sym e)
+drop_at f (y ∷ xs) (suc i) x e h = let n : suc (i + 1) ≡ suc i + 1 = omega arith in drop_at f xs i x e (omega arith) ∙ ap (λ n. f x ∷ drop n (f y ∷ map f xs)) n
+
+pub take_at : {A B : Type 0} (f : A → B) (xs : List A) (i : ℕ) (x : A) → x ≡ get_or xs i x → i < length xs → take i (map f xs) ++ f x ∷ [] ≡ take (i + 1) (map f xs)
+take_at f [] i x e h = absurd (omega arith)
+take_at f (y ∷ xs) zero x e h = ap (λ y. f y ∷ []) e
+take_at f (y ∷ xs) (suc i) x e h = let n : suc (i + 1) ≡ suc i + 1 = omega arith in ap (λ l. f y ∷ l) (take_at f xs i x e (omega arith)) ∙ ap (λ n. take n (f y ∷ map f xs)) n
+
+-- use number i of them all
+module _ (j : Numbered) (ks : Keys) (ss : List Shape) (root : Subject) (rs : List RuleUse) (i : ℕ) (qs : List Asked) (os : List Note) (l : IsLed j ks ss root (take i rs) (drop i rs) qs os) (u : RuleUse) (at : drop i rs ≡ u ∷ drop (i + 1) rs) where
+  led_at : IsLed j ks ss root (take i rs) (u ∷ drop (i + 1) rs) qs os
+  led_at = subst (λ vs. IsLed j ks ss root (take i rs) vs qs os) at l
+
+  pub at_use : IsUse u
+  at_use = led_is_use j ks ss root (take i rs) u (drop (i + 1) rs) qs os led_at
+
+  pub at_state : (ts : List Subject) × IsState j ss qs ts × (0 < length ts)
+  at_state = (led_at.subjects, led_at.state, led_some j ks ss root (take i rs) u (drop (i + 1) rs) qs os led_at)
+
+  pub at_misfit : i ≤ length rs → ((ts : List Subject) → IsState j ss qs ts → Misfits u ts) → MisfitAt (root ∷ []) rs i
+  at_misfit h m =
+      let w = led_stuck j ks ss root (take i rs) u (drop (i + 1) rs) qs os led_at (m led_at.subjects led_at.state) in
+      let n : length (take i rs) ≡ i = omega (arith, length-take i rs, h) in
+      subst (λ n. MisfitAt (root ∷ []) rs n) n (subst (λ us. MisfitAt (root ∷ []) us (length (take i rs))) (ap (λ vs. take i rs ++ vs) (sym at) ∙ take-append-drop i rs) w)
+
+  pub at_fit : (new : Numbered) (ls : Keys) (more : List Asked) (o : Note) (ps : List Note) → GrowsTo j.store ks new.store ls → ((ts : List Subject) → IsState j ss qs ts → Steps new ls ss u more ts o) → take i rs ++ u ∷ [] ≡ take (i + 1) rs → ps ≡ os ++ o ∷ [] → IsLed new ls ss root (take (i + 1) rs) (drop (i + 1) rs) more ps
+  at_fit new ls more o ps g f e q =
+      subst (λ ps. IsLed new ls ss root (take (i + 1) rs) (drop (i + 1) rs) more ps) (sym q)
+      (subst (λ us. IsLed new ls ss root us (drop (i + 1) rs) more (os ++ o ∷ [])) e (led_more j ks ss root (take i rs) u (drop (i + 1) rs) qs os led_at new ls more o g (f led_at.subjects led_at.state)))
+
+-- all uses are held
+pub led_all : (j : Numbered) (ks : Keys) (ss : List Shape) (root : Subject) (rs : List RuleUse) (i : ℕ) (qs : List Asked) (os : List Note) (l : IsLed j ks ss root (take i rs) (drop i rs) qs os) → length rs ≤ i → Trace (root ∷ []) rs l.changes × AreNoted j.store ks l.changes os
+led_all j ks ss root rs i qs os l h = go (take i rs) (drop i rs) l.subjects (take_all i rs h) (drop_of_length-le rs h) l.led l.trees
   where
-    go : (ts : List Subject) → Led (root ∷ []) us l.changes ts → AreTrees (length ts) [] → Trace (root ∷ []) us l.changes
-    go [] d t = led_trace d
-    go (t ∷ ts) d w = elim w [ ]
+    go : (us vs : List RuleUse) (ts : List Subject) → us ≡ rs → vs ≡ [] → Led (root ∷ []) us l.changes ts → AreTrees (length ts) vs → Trace (root ∷ []) rs l.changes × AreNoted j.store ks l.changes os
+    go us vs ts e q d t = (subst (λ us. Trace (root ∷ []) us l.changes) e (none us ts d (subst (λ vs. AreTrees (length ts) vs) q t)), l.noted)
+      where
+        none : (us : List RuleUse) (ts : List Subject) → Led (root ∷ []) us l.changes ts → AreTrees (length ts) [] → Trace (root ∷ []) us l.changes
+        none us [] d t = led_trace d
+        none us (t ∷ ts) d w = elim w [ ]

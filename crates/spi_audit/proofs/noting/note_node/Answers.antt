@@ -1,0 +1,42 @@
+use Rattle.std.proofs.Common.{ap}
+use Rattle.spi_term.specs.Term.{Sends, Stops}
+use Rattle.spi_term.specs.View.{message, ty, form_of}
+use Rattle.spi_rules.specs.declared.rule.Rule.{Rule}
+use Rattle.spi_audit.proofs.WalkUses.{on_each}
+use Rattle.spi_audit.specs.Notes.{NotedAs, NotesNode}
+use Rattle.spi_audit.specs.Changes.{cast_change, made}
+use Rattle.spi_audit.proofs.NoteUses.{node_as, leaf_noted, par_noted, recv_noted, select_noted, decrypt_noted, serve_noted, split_noted, case_noted, casts_noted, makes_noted}
+use Rattle.spi_audit.proofs.noting.note_node.Goals as goal
+
+pub returns-in-Send-clause-note : goal.returns-in-Send-clause-note
+returns-in-Send-clause-note c = node_as c.args.judge.now c.args.judge.now c.args.keys.now c.args.rule (ap (form_of c.args.node.now.scope) c.in-Send.is) (leaf_noted c.args.judge.now c.args.keys.now c.args.rule c.args.node.now.scope _)
+
+pub returns-in-Stop-clause-note : goal.returns-in-Stop-clause-note
+returns-in-Stop-clause-note c = node_as c.args.judge.now c.args.judge.now c.args.keys.now c.args.rule (ap (form_of c.args.node.now.scope) c.in-Stop.is) (leaf_noted c.args.judge.now c.args.keys.now c.args.rule c.args.node.now.scope _)
+
+pub returns-in-Recv-clause-note : goal.returns-in-Recv-clause-note
+returns-in-Recv-clause-note c = node_as c.args.judge.now c.args.judge.now c.args.keys.now c.args.rule (ap (form_of c.args.node.now.scope) c.in-Recv.is) (recv_noted c.args.judge.now c.args.keys.now c.args.rule c.args.node.now.scope c.requires.scope _ _ _)
+
+pub returns-in-Serve-clause-note : goal.returns-in-Serve-clause-note
+returns-in-Serve-clause-note c = node_as c.args.judge.now c.args.judge.now c.args.keys.now c.args.rule (ap (form_of c.args.node.now.scope) c.in-Serve.is) (serve_noted c.args.judge.now c.args.keys.now c.args.rule c.args.node.now.scope c.requires.scope _ _ _)
+
+pub returns-in-Split-clause-note : goal.returns-in-Split-clause-note
+returns-in-Split-clause-note c = node_as c.args.judge.now c.args.judge.now c.args.keys.now c.args.rule (ap (form_of c.args.node.now.scope) c.in-Split.is) (split_noted c.args.judge.now c.args.keys.now c.args.rule c.args.node.now.scope c.requires.scope _ _ _ _)
+
+pub returns-in-Select-clause-note : goal.returns-in-Select-clause-note
+returns-in-Select-clause-note c = node_as c.args.judge.now c.args.judge.now c.args.keys.now c.args.rule (ap (form_of c.args.node.now.scope) c.in-Select.is) (select_noted c.args.judge.now c.args.keys.now c.args.rule c.args.node.now.scope c.requires.scope _ _ _ _ _)
+
+pub returns-in-Decrypt-clause-note : goal.returns-in-Decrypt-clause-note
+returns-in-Decrypt-clause-note c = node_as c.args.judge.now c.args.judge.now c.args.keys.now c.args.rule (ap (form_of c.args.node.now.scope) c.in-Decrypt.is) (decrypt_noted c.args.judge.now c.args.keys.now c.args.rule c.args.node.now.scope c.requires.scope _ _ _ _)
+
+pub returns-in-Branch-clause-note : goal.returns-in-Branch-clause-note
+returns-in-Branch-clause-note c = node_as c.args.judge.now c.args.judge.now c.args.keys.now c.args.rule (ap (form_of c.args.node.now.scope) c.in-Branch.is) (case_noted c.args.judge.now c.args.keys.now c.args.rule c.args.node.now.scope c.requires.scope _ _ _ _ _)
+
+pub returns-in-Par-clause-note : goal.returns-in-Par-clause-note
+returns-in-Par-clause-note c = node_as c.args.judge.now c.args.judge.now c.args.keys.now c.args.rule (ap (form_of c.args.node.now.scope) c.in-Par.is) (par_noted c.args.judge.now c.args.keys.now c.args.rule c.args.node.now.scope _ _)
+
+pub returns-in-Cast-clause-note : goal.returns-in-Cast-clause-note
+returns-in-Cast-clause-note c = ?
+
+pub returns-in-Fresh-clause-note : goal.returns-in-Fresh-clause-note
+returns-in-Fresh-clause-note c = ?
