@@ -7,6 +7,6 @@ use Rattle.spi_audit.proofs.noting.note_checks.Goals as goal
 pub returns-in_default : goal.returns-in_default
 returns-in_default c = record {
   note = λ e k s. check_other c.args.judge.now.store c.args.keys.now c.args.rule (message c.args.m.now) (message c.args.nonce.now) c.in_default.not-ProcCheck e k;
-  grows = grows_same c.args.judge.now.store c.args.keys.now c.requires;
+  grows = grows_same c.args.judge.now.store c.args.keys.now c.requires.keys;
   kept = kept_same c.args.judge.now;
 }
