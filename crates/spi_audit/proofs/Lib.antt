@@ -25,3 +25,4 @@ pub mod WalkUses
 pub mod WalkNext
 pub mod WalkSteps
 pub mod NoteUses
+pub mod WalkAnswers
