@@ -1,7 +1,7 @@
 -- A use that is held against what is asked next, and what is open behind it.
 use Rattle.std.proofs.Common.{◌≡◌, refl, sym, ap, ◌∙◌, subst, ℕ, suc, ◌+◌, ◌<◌, ◌≤◌, List, [], ◌∷◌, ◌++◌, length, take, reverse, Option, Some, None, arith, length-append, length-take}
 use Rattle.std.specs.Prelude.{slice_get, ⊤}
-use Rattle.std.proofs.lemmas.List.{reverse-append, take-append-le, take_all, append-nil}
+use Rattle.std.proofs.lemmas.List.{take-append-le, take_all}
 use Rattle.spi_term.specs.Term.{Message, Effect, Ty, un, nonce, Prefix, Recvs, Serves, Splits, Selects, Decrypts, Checks, Begins, Ends, EndManys, Casts, Makes, Cases, Pars, Process, leaf, prefix, fork}
 use Rattle.spi_term.specs.Spelling.{Shape}
 use Rattle.spi_term.specs.Arena.{scope_of}
@@ -220,45 +220,6 @@ next_process old mid new ks ss u node scope names small turned same free kept r 
       h.3,
       small_note new.store ks u e p f.note few h.3,
     )
-
--- one use more, where the next is the last of what is asked
-last_first : (rest : List Asked) (next : Asked) {asked : List Asked} → asked ≡ rest ++ next ∷ [] → reverse asked ≡ next ∷ reverse rest
-last_first rest next e = ap reverse e ∙ reverse-append rest (next ∷ [])
-
-module _ (old : Numbered) (ss : List Shape) (asked rest : List Asked) (next : Asked) (e : asked ≡ rest ++ next ∷ []) where
-  opens_last : (ts : List Subject) (w : IsState old ss asked ts) → Opens old.store ss old.free w.env (next ∷ reverse rest) ts
-  opens_last ts w = subst (λ qs. Opens old.store ss old.free w.env qs ts) (last_first rest next e) w.opens
-
-  pub state_open : (ts : List Subject) → IsState old ss asked ts → IsOpen old ss next
-  state_open ts w = record { env = w.env; others = reverse rest; subjects = ts; stands = w.stands; opens = opens_last ts w }
-
-  module _ (new : Numbered) (ks : Keys) (u : RuleUse) where
-    pub steps_misfit : FitsNext old new ks ss u next None → (ts : List Subject) → IsState old ss asked ts → Misfits u ts
-    steps_misfit f ts w = go ts (f.at w.env (reverse rest) ts w.stands w.enough (opens_last ts w))
-      where
-        go : (ts : List Subject) → StepsTo new ks ss u (reverse rest) ts None → Misfits u ts
-        go [] h = h
-        go (t ∷ ts) h = h
-
-    module _ (f : Fit) (h : FitsNext old new ks ss u next (Some f)) where
-      pub steps_fit : (more : List Asked) → reverse more ≡ listed f.premises ++ reverse rest → (ts : List Subject) → IsState old ss asked ts → Steps new ks ss u more ts f.note
-      steps_fit more q ts w = go ts (h.at w.env (reverse rest) ts w.stands w.enough (opens_last ts w))
-        where
-          go : (ts : List Subject) → StepsTo new ks ss u (reverse rest) ts (Some f) → Steps new ks ss u more ts f.note
-          go [] h = h
-          go (t ∷ ts) h = (
-            h.1,
-            h.2,
-            record { env = h.0; stands = h.3; enough = h.4; opens = subst (λ qs. Opens new.store ss new.free h.0 qs (h.1 ++ ts)) (sym q) h.5 },
-            h.6,
-          )
-
-      pub steps_small : (ts : List Subject) → IsState old ss asked ts → IsSmallNote f.note
-      steps_small ts w = go ts (h.at w.env (reverse rest) ts w.stands w.enough (opens_last ts w))
-        where
-          go : (ts : List Subject) → StepsTo new ks ss u (reverse rest) ts (Some f) → IsSmallNote f.note
-          go [] h = absurd h
-          go (t ∷ ts) h = h.7
 
 -- something is asked while something is open
 pub state_some : (j : Numbered) (ss : List Shape) (asked : List Asked) (ts : List Subject) → asked ≡ [] → IsState j ss asked ts → 0 < length ts → ⊥

@@ -1,5 +1,5 @@
 -- A use that fits: its premises, and what is kept of it.
-use Rattle.std.proofs.Common.{◌≡◌, refl, sym, ap, ◌∙◌, subst, ℕ, zero, suc, ◌+◌, ◌<◌, ◌≤◌, List, [], ◌∷◌, ◌++◌, length, drop, Option, Some, None, Result, Ok, Err, IfOk, arith}
+use Rattle.std.proofs.Common.{◌≡◌, refl, sym, ap, ◌∙◌, subst, ℕ, zero, suc, ◌+◌, ◌<◌, ◌≤◌, List, [], ◌∷◌, ◌++◌, length, drop, Option, Some, None}
 use Rattle.std.specs.Prelude.{slice_get}
 use Rattle.std.proofs.lemmas.List.{append-nil}
 use Rattle.spi_term.specs.Term.{Message, Effect, Ty, Leaf, Prefix, Fork, Cases, Pars, Process, leaf, prefix, fork, binds, fork_binds, process_size}
@@ -38,11 +38,6 @@ use Rattle.spi_audit.specs.Walking.{FitsIn, FitsMessage, FitsNode}
 use Rattle.spi_audit.proofs.Opened.{name_none_prefix}
 use Rattle.spi_audit.proofs.Standing.{stands_kept}
 use Rattle.spi_audit.proofs.Leading.{asked_keeps, bound_keeps}
-
--- what holds of the value in an Ok
-pub on_each : {A E : Type 0} {P Q : A → Type 0} → ((a : A) → P a → Q a) → (r : Result A E) → IfOk r P → IfOk r Q
-on_each f (Ok a) h = f a h
-on_each f (Err e) h = tt
 
 -- a use that writes no effect, and one that writes one
 pub is_plain : (u : RuleUse) → u.taken ≡ None → plain u.rule ≡ u

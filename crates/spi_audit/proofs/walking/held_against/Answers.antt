@@ -3,7 +3,7 @@ use Rattle.spi_term.specs.Spelling.{spelled}
 use Rattle.spi_term.proofs.Numbers.{small_node, length_spelled}
 use Rattle.spi_rules.specs.Deriv.{rule_use}
 use Rattle.spi_audit.specs.Walking.{FitsMessage, FitsNode, FitsNext}
-use Rattle.spi_audit.proofs.WalkUses.{on_each}
+use Rattle.spi_audit.proofs.Turning.{if_ok}
 use Rattle.spi_audit.proofs.WalkNext.{next_is, fits_next_is, message_within, message_given, next_message, process_low, process_few, process_bound, process_below, process_placed, next_process}
 use Rattle.spi_audit.proofs.walking.held_against.Goals as goal
 
@@ -47,13 +47,13 @@ pub returns-in-Message-clause-answer : goal.returns-in-Message-clause-answer
 returns-in-Message-clause-answer c =
     let ss = spelled c.args.process.now.names c.args.process.now.process in
     let u = rule_use c.args.u.now in
-    on_each {P = FitsMessage c.args.judge.now c.message_use.new.judge u c.in-Message.m c.in-Message.t} {Q = FitsNext c.args.judge.now c.message_use.new.judge c.args.keys.now ss u c.args.next}
-    (λ r h. fits_next_is c.args.judge.now c.message_use.new.judge c.args.keys.now ss u r c.in-Message.is (next_message c.args.judge.now c.message_use.new.judge c.args.keys.now ss u c.in-Message.m c.in-Message.t c.message_use.ensures.kept r h)) c.message_use.result c.message_use.ensures.answer
+    if_ok {P = FitsMessage c.args.judge.now c.message_use.new.judge u c.in-Message.m c.in-Message.t} {Q = FitsNext c.args.judge.now c.message_use.new.judge c.args.keys.now ss u c.args.next} c.message_use.result
+    (λ r h. fits_next_is c.args.judge.now c.message_use.new.judge c.args.keys.now ss u r c.in-Message.is (next_message c.args.judge.now c.message_use.new.judge c.args.keys.now ss u c.in-Message.m c.in-Message.t c.message_use.ensures.kept r h)) c.message_use.ensures.answer
 
 pub returns-in_ok-settle-in-Process-clause-answer : goal.returns-in_ok-settle-in-Process-clause-answer
 returns-in_ok-settle-in-Process-clause-answer c =
     let ss = spelled c.args.process.now.names c.args.process.now.process in
     let u = rule_use c.args.u.now in
     let ks = c.process_use.new.keys in
-    on_each {P = FitsNode c.settle.new.judge c.process_use.new.judge ks ss u c.in-Process.id} {Q = FitsNext c.args.judge.now c.process_use.new.judge ks ss u c.args.next}
-    (λ r h. fits_next_is c.args.judge.now c.process_use.new.judge ks ss u r c.in-Process.is (next_process c.args.judge.now c.settle.new.judge c.process_use.new.judge ks ss u c.in-Process.id c.in-Process.scope c.in-Process.names (λ i x g. (small_node c.args.process.now.names c.args.process.now.process i x c.len.ensures.small g).1) c.in_ok-settle-in-Process.ensures.turned c.settle.ensures.store c.settle.ensures.free c.process_use.ensures.kept r h)) c.process_use.result c.process_use.ensures.answer
+    if_ok {P = FitsNode c.settle.new.judge c.process_use.new.judge ks ss u c.in-Process.id} {Q = FitsNext c.args.judge.now c.process_use.new.judge ks ss u c.args.next} c.process_use.result
+    (λ r h. fits_next_is c.args.judge.now c.process_use.new.judge ks ss u r c.in-Process.is (next_process c.args.judge.now c.settle.new.judge c.process_use.new.judge ks ss u c.in-Process.id c.in-Process.scope c.in-Process.names (λ i x g. (small_node c.args.process.now.names c.args.process.now.process i x c.len.ensures.small g).1) c.in_ok-settle-in-Process.ensures.turned c.settle.ensures.store c.settle.ensures.free c.process_use.ensures.kept r h)) c.process_use.ensures.answer
