@@ -1,6 +1,5 @@
 -- What is kept of a use stands for what it does.
-use Rattle.std.proofs.Common.{◌≡◌, refl, sym, ap, ◌∙◌, subst, ℕ, suc, Option, Some, None, length}
-use Rattle.std.specs.Prelude.{slice_get}
+use Rattle.std.proofs.Common.{◌≡◌, refl, sym, ◌∙◌, subst, ℕ, Option, length}
 use Rattle.spi_term.specs.Term.{Message, Effect, Ty, nonce, Leaf, Recvs, Serves, Splits, Selects, Decrypts, Casts, Makes, Cases, Pars}
 use Rattle.spi_term.specs.Spelling.{Shape, leaf_at, prefix_at, fork_at}
 use Rattle.spi_rules.specs.Environment.{Env}
@@ -18,7 +17,7 @@ use Rattle.spi_audit.specs.declared.keys.Keys.{Keys}
 use Rattle.spi_audit.specs.declared.notes.Note.{Note}
 use Rattle.spi_audit.specs.declared.notes.Note.TheVariants as N
 use Rattle.spi_audit.specs.Accounts.{with_keys, HaveKeys}
-use Rattle.spi_audit.specs.Changes.{Change, one_left, two_left, served, chosen, same_effect, made, check_change, cast_change}
+use Rattle.spi_audit.specs.Changes.{one_left, two_left, served, chosen, same_effect, made, check_change, cast_change}
 use Rattle.spi_audit.specs.Notes.{NotedAs, noted_empty, noted_same, noted_one, noted_two, noted_serve, noted_case, noted_check, noted_cast, noted_both, IsNonceAt, IsNoNonce, NotesNode}
 
 -- a cast, by its type

@@ -10,7 +10,6 @@ use Rattle.spi_intern.specs.declared.store.Store.{Store}
 use Rattle.spi_audit.specs.declared.Audited.{Audited}
 use Rattle.spi_audit.specs.declared.keys.Keys.{Keys}
 use Rattle.spi_audit.specs.declared.notes.Note.{Note}
-use Rattle.spi_audit.specs.declared.walking.Walk.{Walk}
 use Rattle.spi_audit.specs.declared.walking.Walk.TheVariants as W
 use Rattle.spi_audit.specs.Fits.{of_process}
 use Rattle.spi_audit.specs.Audit.{IsAudited}

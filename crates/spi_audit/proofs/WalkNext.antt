@@ -1,8 +1,8 @@
 -- A use that is held against what is asked next, and what is open behind it.
-use Rattle.std.proofs.Common.{◌≡◌, refl, sym, ap, ◌∙◌, subst, ℕ, suc, ◌+◌, ◌<◌, ◌≤◌, List, [], ◌∷◌, ◌++◌, length, take, reverse, Option, Some, None, arith, length-append, length-take}
-use Rattle.std.specs.Prelude.{slice_get, ⊤}
+use Rattle.std.proofs.Common.{◌≡◌, refl, sym, ap, ◌∙◌, subst, ℕ, ◌<◌, ◌≤◌, List, [], ◌∷◌, ◌++◌, length, take, reverse, Option, Some, None, arith, length-append, length-take}
+use Rattle.std.specs.Prelude.{slice_get}
 use Rattle.std.proofs.lemmas.List.{take-append-le, take_all}
-use Rattle.spi_term.specs.Term.{Message, Effect, Ty, un, nonce, Prefix, Recvs, Serves, Splits, Selects, Decrypts, Checks, Begins, Ends, EndManys, Casts, Makes, Cases, Pars, Process, leaf, prefix, fork}
+use Rattle.spi_term.specs.Term.{Message, Effect, Ty, nonce, Prefix, Recvs, Serves, Splits, Selects, Decrypts, Checks, Begins, Ends, EndManys, Casts, Makes, Cases, Pars, Process, leaf, prefix, fork}
 use Rattle.spi_term.specs.Spelling.{Shape}
 use Rattle.spi_term.specs.Arena.{scope_of}
 use Rattle.spi_rules.specs.Environment.{Env}
@@ -19,16 +19,15 @@ use Rattle.spi_message.specs.Judging.{Numbered, Stands, IsKept}
 use Rattle.spi_message.specs.Tests.{nonce_of}
 use Rattle.spi_audit.specs.declared.keys.Keys.{Keys}
 use Rattle.spi_audit.specs.declared.notes.Note.{Note}
-use Rattle.spi_audit.specs.declared.notes.Note.TheVariants as N
 use Rattle.spi_audit.specs.declared.asked.Binding.{Binding}
 use Rattle.spi_audit.specs.declared.asked.Asked.{Asked}
 use Rattle.spi_audit.specs.declared.asked.Asked.TheVariants as A
 use Rattle.spi_audit.specs.declared.walking.Fit.{Fit}
-use Rattle.spi_audit.specs.Fits.{Subject, of_message, of_process, Fits}
-use Rattle.spi_audit.specs.Asked.{listed, Bound, Located, IsAsked}
+use Rattle.spi_audit.specs.Fits.{Subject, of_message, of_process}
+use Rattle.spi_audit.specs.Asked.{listed, Bound, Located}
 use Rattle.spi_audit.specs.Changes.{Change, change_of, prefix_change, form_change, use_change, scope_in, check_change, cast_change}
-use Rattle.spi_audit.specs.Notes.{NotedAs, noted_nothing, noted_empty, noted_same, noted_one, noted_two, noted_serve, noted_case, noted_check, noted_begin, noted_end, noted_many, noted_cast, noted_make, noted_both, noted_taken, GrowsTo, IsSmallNote}
-use Rattle.spi_audit.specs.Walking.{Later, later_none, later_next, Opens, opens_message, opens_later, IsState, IsOpen, Settles, IsPlaced, FitsMessage, FitsMessageIn, FitsNode, FitsIn, StepsTo, FitsNext, Misfits, Steps}
+use Rattle.spi_audit.specs.Notes.{NotedAs, noted_nothing, noted_empty, noted_same, noted_one, noted_two, noted_serve, noted_case, noted_check, noted_begin, noted_end, noted_many, noted_cast, noted_make, noted_both, noted_taken, IsSmallNote}
+use Rattle.spi_audit.specs.Walking.{Later, later_none, later_next, Opens, opens_message, opens_later, IsState, IsOpen, Settles, IsPlaced, FitsMessage, FitsMessageIn, FitsNode, FitsIn, StepsTo, FitsNext}
 use Rattle.spi_audit.proofs.Standing.{stands_kept}
 use Rattle.spi_audit.proofs.Leading.{later_moved, opens_keeps, opens_asked, opens_open}
 use Rattle.spi_audit.proofs.WalkUses.{few_names, located_below}

@@ -1,37 +1,33 @@
 -- The forward pass, use by use.
 use Rattle.std.proofs.Common.{◌≡◌, refl, sym, ap, ◌∙◌, subst, ℕ, zero, suc, ◌+◌, ◌<◌, ◌≤◌, List, [], ◌∷◌, ◌++◌, length, take, drop, reverse, map, get_or, arith, length-append}
-use Rattle.std.specs.Prelude.{slice_get, replicate, ⊤}
-use Rattle.std.proofs.lemmas.List.{append-nil, take_all, length-replicate, reverse-append, take-append-drop, length-take}
+use Rattle.std.proofs.lemmas.List.{append-nil, take_all, length-replicate, take-append-drop, length-take}
 use Rattle.std.proofs.Math.ListN.{drop_of_length-le}
-use Rattle.spi_term.specs.Term.{Message, name, Effect, un, nonce, Process}
+use Rattle.spi_term.specs.Term.{Message, un, Process}
 use Rattle.spi_term.specs.Spelling.{Shape, flat, numbered, spelled}
-use Rattle.spi_rules.specs.Environment.{Env, untrusted}
+use Rattle.spi_rules.specs.Environment.{untrusted}
 use Rattle.spi_rules.specs.Derivations.{RuleUse}
-use Rattle.spi_rules.specs.Deriv.{AreTrees, no_tree, tree, IsTree, IsUse}
+use Rattle.spi_rules.specs.Deriv.{AreTrees, tree, IsTree, IsUse}
 use Rattle.spi_rules.specs.Rule.{arity}
 use Rattle.spi_intern.specs.declared.store.Store.{Store}
 use Rattle.spi_intern.specs.declared.atoms.AtomId.{AtomId}
-use Rattle.spi_intern.specs.Table.{TellsAll}
 use Rattle.spi_intern.specs.Atoms.{SaysAtom, says_end, says_check, says_many}
-use Rattle.spi_intern.specs.Meaning.{Means, Keeps}
+use Rattle.spi_intern.specs.Meaning.{Keeps}
 use Rattle.spi_intern.proofs.Meanings.{means_keeps}
 use Rattle.spi_intern.proofs.Tables.{tells_map}
 use Rattle.spi_message.specs.Judging.{Numbered, Stands}
 use Rattle.spi_message.proofs.Standing.{stand_length}
 use Rattle.spi_audit.specs.declared.keys.Keys.{Keys}
 use Rattle.spi_audit.specs.declared.notes.Note.{Note}
-use Rattle.spi_audit.specs.declared.notes.Note.TheVariants as N
-use Rattle.spi_audit.specs.declared.asked.Binding.{Binding}
 use Rattle.spi_audit.specs.declared.asked.Binding.TheVariants.{Nothing}
 use Rattle.spi_audit.specs.declared.asked.Asked.{Asked}
 use Rattle.spi_audit.specs.declared.asked.Asked.TheVariants as A
-use Rattle.spi_audit.specs.Fits.{Subject, of_process, Fits}
+use Rattle.spi_audit.specs.Fits.{Subject, of_process}
 use Rattle.spi_audit.specs.Audit.{MisfitAt}
-use Rattle.spi_audit.specs.Asked.{Bound, bound_none, Located}
-use Rattle.spi_audit.specs.Accounts.{with_keys, HaveKeys}
+use Rattle.spi_audit.specs.Asked.{bound_none, Located}
+use Rattle.spi_audit.specs.Accounts.{with_keys}
 use Rattle.spi_audit.specs.Changes.{Change, change_of}
 use Rattle.spi_audit.specs.Notes.{NotedAs, noted_nothing, noted_empty, noted_same, noted_one, noted_two, noted_serve, noted_case, noted_check, noted_begin, noted_end, noted_many, noted_cast, noted_make, noted_both, noted_taken, AreNoted, are_noted_none, are_noted_next, GrowsTo, IsSmallNote, AreSmallNotes}
-use Rattle.spi_audit.specs.Walking.{Trace, Led, led_none, Later, later_none, later_next, Opens, opens_later, IsState, IsLed, Misfits, Steps}
+use Rattle.spi_audit.specs.Walking.{Trace, Led, led_none, later_none, later_next, Opens, opens_later, IsState, IsLed, Misfits, Steps}
 use Rattle.spi_audit.proofs.Kept.{key_keeps, have_keys_keep}
 use Rattle.spi_audit.proofs.Leading.{led_next, led_misfit, led_trace}
 use Rattle.spi_audit.proofs.Fitted.{fits_arity}
@@ -88,7 +84,7 @@ module _ (j : Numbered) (ks : Keys) (k : ℕ) (p : Process) (few : k ≤ 100000)
   root_opens n e =
       let l : n ≡ length (untrusted k) = e ∙ stand_length stands in
       opens_later (later_next (omega (arith, l, names, free)) (omega (arith, l)) (omega (arith, l, names, few)) bound_none
-          (sym (ap (λ e. e ++ []) (take_all n (untrusted k) (omega (arith, l))) ∙ append-nil (untrusted k))) (root_located k k p refl) later_none)
+      (sym (ap (λ e. e ++ []) (take_all n (untrusted k) (omega (arith, l))) ∙ append-nil (untrusted k))) (root_located k k p refl) later_none)
 
   pub led_start : (n : ℕ) (us : List RuleUse) (asked : List Asked) (os : List Note) → n ≡ length j.types → asked ≡ A.Process 0 n Nothing ∷ [] → os ≡ [] → IsTree us → IsLed j ks (spelled k p) (of_process (untrusted k) p) [] us asked os
   led_start n us asked os e q r t = record {

@@ -2,7 +2,7 @@
 use Rattle.std.proofs.Common.{◌≡◌, refl, sym, ap, ◌∙◌, subst, ℕ, zero, suc, ◌+◌, ◌<◌, ◌≤◌, List, [], ◌∷◌, ◌++◌, length, drop, Option, Some, None}
 use Rattle.std.specs.Prelude.{slice_get}
 use Rattle.std.proofs.lemmas.List.{append-nil}
-use Rattle.spi_term.specs.Term.{Message, Effect, Ty, Leaf, Prefix, Fork, Cases, Pars, Process, leaf, prefix, fork, binds, fork_binds, process_size}
+use Rattle.spi_term.specs.Term.{Message, Effect, Ty, Fork, Cases, Pars, Process, leaf, prefix, fork, binds, fork_binds, process_size}
 use Rattle.spi_term.specs.Spelling.{Shape, leaf_at, prefix_at, fork_at, flat, numbered, name_message, under}
 use Rattle.spi_term.specs.Substitution.{leaf_map, prefix_map, fork_map}
 use Rattle.spi_term.specs.Arena.{scope_of}
@@ -16,9 +16,8 @@ use Rattle.spi_intern.specs.declared.messages.MsgId.{MsgId}
 use Rattle.spi_intern.specs.declared.types.TyId.{TyId}
 use Rattle.spi_intern.specs.Table.{TellsAll}
 use Rattle.spi_intern.specs.Atoms.{SaysAtom}
-use Rattle.spi_intern.specs.Meaning.{Means, Keeps}
+use Rattle.spi_intern.specs.Meaning.{Keeps}
 use Rattle.spi_intern.proofs.Lists.{some_one, get_below}
-use Rattle.spi_intern.proofs.Meanings.{means_keeps}
 use Rattle.spi_message.specs.Judging.{Numbered, Stands, IsKept}
 use Rattle.spi_message.proofs.Standing.{stand_length}
 use Rattle.spi_audit.specs.declared.keys.Keys.{Keys}
@@ -30,11 +29,11 @@ use Rattle.spi_audit.specs.declared.asked.Premises.{Premises}
 use Rattle.spi_audit.specs.declared.asked.Premises.TheVariants.{OnePremise}
 use Rattle.spi_audit.specs.declared.walking.Fit.{Fit}
 use Rattle.spi_audit.specs.Fits.{Subject, of_message, of_process, plain, subsumed, Fits, fits_name, fits_unit, fits_unit_un, fits_pair, fits_pair_un, fits_inl, fits_inl_un, fits_inr, fits_inr_un, fits_enc, fits_enc_un, fits_hash, fits_sub}
-use Rattle.spi_audit.specs.Asked.{listed, Located, IsAsked, IsBegun, Begins, AreBegun, begun_none, begun_next, AreOpen, open_message, open_processes, AnswersMessage, AnswersNode}
+use Rattle.spi_audit.specs.Asked.{Located, IsBegun, Begins, AreBegun, begun_none, begun_next, AreOpen, open_message, open_processes, AnswersMessage, AnswersNode}
 use Rattle.spi_audit.specs.Accounts.{HaveKeys}
-use Rattle.spi_audit.specs.Changes.{Change, shape_change, form_change, prefix_change, change_of}
+use Rattle.spi_audit.specs.Changes.{shape_change, form_change, prefix_change}
 use Rattle.spi_audit.specs.Notes.{NotedAs, noted_taken, NotesNode, AtomVec}
-use Rattle.spi_audit.specs.Walking.{FitsIn, FitsMessage, FitsNode}
+use Rattle.spi_audit.specs.Walking.{FitsMessage, FitsNode}
 use Rattle.spi_audit.proofs.Opened.{name_none_prefix}
 use Rattle.spi_audit.proofs.Standing.{stands_kept}
 use Rattle.spi_audit.proofs.Leading.{asked_keeps, bound_keeps}
