@@ -40,12 +40,12 @@ led_trace led_none = trace_none
 led_trace (led_use g l) = trace_use g (led_trace l)
 
 -- numbers mean what they meant
-bound_keeps : {s r : Store} {names : Binding} {types : Env} → Keeps s r → Bound s names types → Bound r names types
+pub bound_keeps : {s r : Store} {names : Binding} {types : Env} → Keeps s r → Bound s names types → Bound r names types
 bound_keeps k bound_none = bound_none
 bound_keeps k (bound_one m) = bound_one (means_keeps k m)
 bound_keeps k (bound_two m n) = bound_two (means_keeps k m) (means_keeps k n)
 
-asked_keeps : {s r : Store} {a : Asked} {m : Message} {t : Ty} → Keeps s r → IsAsked s a m t → IsAsked r a m t
+pub asked_keeps : {s r : Store} {a : Asked} {m : Message} {t : Ty} → Keeps s r → IsAsked s a m t → IsAsked r a m t
 asked_keeps {m = m} k w = record { id = w.id; ty = w.ty; is = w.is; at = k.messages.at w.id.place m w.at; means = means_keeps k w.means }
 
 take_less : {A : Type 0} (xs ys : List A) (n k : ℕ) → k ≤ n → take n xs ≡ take n ys → take k xs ≡ take k ys

@@ -31,3 +31,8 @@ pub mod FormTyped
 pub mod FormChildren
 pub mod NoteChanges
 pub mod NoteShapes
+pub mod WalkUses
+pub mod WalkNext
+pub mod WalkSteps
+pub mod NoteUses
+pub mod WalkAnswers

@@ -201,6 +201,7 @@ fn held_against(
     ensures grows { OnOk result (GrowsTo judge.old.store keys.old judge.new.store keys.new) }
     ensures free { judge.new.free ≡ judge.old.free }
 {
+    let _ = process.len();
     match next {
         Asked::Message(m, t) => message_use(alloc, judge, u, m, t),
         Asked::Process(id, scope, names) => {
