@@ -34,5 +34,4 @@ pub mod NoteShapes
 pub mod WalkUses
 pub mod WalkNext
 pub mod WalkSteps
-pub mod NoteUses
 pub mod WalkAnswers

@@ -7,8 +7,8 @@ use Rattle.spi_rules.specs.Environment.{Env, untrusted}
 use Rattle.spi_rules.specs.Derivations.{RuleUse, Proves}
 use Rattle.spi_audit.specs.Fits.{of_process}
 use Rattle.spi_audit.specs.Audit.{MisfitAt, Judged, AllPay, FirstUnpaid, IsWrongAt, LeavesUnpaid, IsAudited, AreOneAnswer}
-use Rattle.spi_audit.specs.declared.Audited.{Audited}
-use Rattle.spi_audit.specs.declared.Audited.TheVariants.{Proved, WrongStep, Unpaid}
+use Rattle.spi_audit.specs.declared.audited.Audited.{Audited}
+use Rattle.spi_audit.specs.declared.audited.Audited.TheVariants.{Proved, WrongStep, Unpaid}
 use Rattle.spi_audit.proofs.Agreeing.{AllSame, same_next, same_none, judged_same, none_unpaid, unpaid_one, misfit_judged, misfit_one}
 use Rattle.spi_audit.proofs.Complete.{Clear, proves_clear}
 

@@ -14,8 +14,8 @@ use Rattle.spi_term.specs.View as View
 use Rattle.spi_rules.specs.Environment.{Env, untrusted}
 use Rattle.spi_rules.specs.Derivations.{RuleUse, Proves, effect_uses}
 use Rattle.spi_rules.specs.Processes.{HasEffect}
-use Rattle.spi_audit.specs.declared.Audited.{Audited}
-use Rattle.spi_audit.specs.declared.Audited.TheVariants.{Proved, WrongStep, Unpaid}
+use Rattle.spi_audit.specs.declared.audited.Audited.{Audited}
+use Rattle.spi_audit.specs.declared.audited.Audited.TheVariants.{Proved, WrongStep, Unpaid}
 use Rattle.spi_audit.specs.Fits.{of_process}
 use Rattle.spi_audit.specs.Audit.{Judged, AllPay, FirstUnpaid, IsAudited}
 use Rattle.spi_audit.specs.Changes.{Change, run, top, first_unpaid, AreScoped}

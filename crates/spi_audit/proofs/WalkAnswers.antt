@@ -7,7 +7,7 @@ use Rattle.spi_term.specs.Names.{ProcessOver}
 use Rattle.spi_rules.specs.Environment.{untrusted}
 use Rattle.spi_rules.specs.Derivations.{RuleUse}
 use Rattle.spi_intern.specs.declared.store.Store.{Store}
-use Rattle.spi_audit.specs.declared.Audited.{Audited}
+use Rattle.spi_audit.specs.declared.audited.Audited.{Audited}
 use Rattle.spi_audit.specs.declared.keys.Keys.{Keys}
 use Rattle.spi_audit.specs.declared.notes.Note.{Note}
 use Rattle.spi_audit.specs.declared.walking.Walk.TheVariants as W

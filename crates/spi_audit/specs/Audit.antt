@@ -7,8 +7,8 @@ use Rattle.spi_rules.specs.Environment.{Env, untrusted}
 use Rattle.spi_rules.specs.Derivations.{RuleUse, Proves}
 use Rattle.spi_audit.specs.Fits.{Subject, of_process, Fits}
 use Rattle.spi_audit.specs.Paying.{Gives, Pays}
-use Rattle.spi_audit.specs.declared.Audited.{Audited}
-use Rattle.spi_audit.specs.declared.Audited.TheVariants.{Proved, WrongStep, Unpaid}
+use Rattle.spi_audit.specs.declared.audited.Audited.{Audited}
+use Rattle.spi_audit.specs.declared.audited.Audited.TheVariants.{Proved, WrongStep, Unpaid}
 
 -- Of the uses, asked of the subjects one after another, number i is the first in preorder that doesn't fit. A use
 -- that doesn't fit asks nothing of its premises.

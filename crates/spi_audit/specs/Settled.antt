@@ -3,8 +3,8 @@ use Rattle.std.specs.Prelude.{◌≡◌, List, [], Some, None}
 use Rattle.spi_term.specs.Term.{Effect}
 use Rattle.spi_term.specs.Counts.{SameEffect}
 use Rattle.spi_term.specs.View as View
-use Rattle.spi_audit.specs.declared.Audited.{Audited}
-use Rattle.spi_audit.specs.declared.Audited.TheVariants.{Proved, WrongStep, Unpaid}
+use Rattle.spi_audit.specs.declared.audited.Audited.{Audited}
+use Rattle.spi_audit.specs.declared.audited.Audited.TheVariants.{Proved, WrongStep, Unpaid}
 use Rattle.spi_audit.specs.Changes.{Change, run, top, first_unpaid}
 
 -- an effect that is left

@@ -14,9 +14,11 @@ ghost use Rattle.spi_audit.specs.Settled.{IsLeft, IsSettled};
 
 mod accounts;
 mod asked;
+mod audited;
 mod changing;
 mod forms;
 mod keys;
+mod laws;
 mod messages;
 mod nonces;
 mod notes;
@@ -32,6 +34,8 @@ use crate::keys::Keys;
 use crate::notes::Note;
 use crate::reading::effect_of_sum;
 use crate::walking::{Walk, walk_uses};
+pub use audited::Audited;
+pub use laws::{judged_is_proved, one_audit};
 use spi_intern::Store;
 use spi_message::Judge;
 use spi_rules::Deriv;
@@ -40,18 +44,6 @@ use std::alloc::{AllocError, Global};
 
 /// Memory ran out.
 pub type NoMemory = AllocError;
-
-/// What an audit finds.
-#[derive(Debug, Drop)]
-pub enum Audited {
-    /// The derivation proves that the process has the empty effect.
-    Proved,
-    /// The use with this index, counted from 0 in preorder, is the first that doesn't fit, or, where all fit, the
-    /// first that doesn't pay.
-    WrongStep { index: u32 },
-    /// Each use fits and pays, and the derivation's effect isn't empty.
-    Unpaid { effect: Effect },
-}
 
 // What is left unpaid where each use pays.
 fn left(alloc: Global, store: &Store, keys: &Keys, root: Account) -> Result<Audited, NoMemory>
@@ -97,11 +89,3 @@ pub fn audit(alloc: Global, process: &Process, d: &Deriv) -> Result<Audited, NoM
         Walk::Fitting(notes) => settled(alloc, judge.store(), &keys, notes),
     }
 }
-
-/// There is one answer for each process and derivation, up to the order of an effect's atoms.
-pub fn one_audit()
-    ensures { (k : ℕ) (p : ProcessTerm) (us : List RuleUseTerm) (a b : Audited) → IsAudited k p us a → IsAudited k p us b → AreOneAnswer a b }
-{}
-
-#[cfg(test)]
-mod tests;
