@@ -8,7 +8,7 @@ use Rattle.spi_replay.specs.declared.tables.Turn.{Turn}
 use Rattle.spi_replay.specs.declared.tables.Change.{Change}
 use Rattle.spi_replay.specs.declared.tables.Lists.{Lists}
 use Rattle.spi_replay.specs.declared.tables.Relisted.{Relisted}
-use Rattle.spi_replay.specs.Indexed.{is_on, or_none, places_on}
+use Rattle.spi_replay.specs.Indexed.{is_on, or_none}
 
 -- an ascending list whose first number is i at least
 abbrev pub Rises : ℕ → List ℕ → Type 0

@@ -1,4 +1,4 @@
-use Rattle.std.proofs.Common.{◌≡◌, ◌+◌, ◌<◌, ◌≤◌, length, List, ap, arith, subst, sym, ◌∙◌, true}
+use Rattle.std.proofs.Common.{◌≡◌, ◌+◌, ◌≤◌, length, List, ap, arith, subst, sym, ◌∙◌, true}
 use Rattle.spi_replay.specs.declared.places.Place.{Place}
 use Rattle.std.proofs.lemmas.List.{length-map}
 use Rattle.spi_intern.proofs.Lists.{get_below, some_one}

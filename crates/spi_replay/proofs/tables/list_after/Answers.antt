@@ -1,7 +1,4 @@
-use Rattle.std.proofs.Common.{ℕ, ◌∙◌, List, arith, subst, sym}
-use Rattle.std.specs.Prelude.{nat_eq}
-use Rattle.indexmap.specs.IndexMap.{get}
-use Rattle.spi_replay.specs.Indexed.{or_none}
+use Rattle.std.proofs.Common.{◌∙◌, arith, subst, sym}
 use Rattle.spi_replay.specs.Tables.{Rises}
 use Rattle.spi_replay.proofs.Indexing.{rises_with}
 use Rattle.spi_replay.proofs.tables.list_after.Goals as goal

@@ -1,7 +1,6 @@
-use Rattle.std.proofs.Common.{◌≡◌, ◌<◌, length, refl, sym, ap, ◌∙◌, arith, List, Some, slice_get, subst}
+use Rattle.std.proofs.Common.{◌≡◌, refl, ap, Some, slice_get}
 use Rattle.std.specs.Prelude.{nat_eq, slice_set}
 use Rattle.indexmap.specs.IndexMap.{get}
-use Rattle.spi_replay.specs.declared.places.Place.{Place}
 use Rattle.spi_replay.specs.Indexed.{out_channel, in_channel}
 use Rattle.spi_replay.proofs.Stepped.{got}
 use Rattle.spi_replay.proofs.Indexing.{has_rise, met_has}
