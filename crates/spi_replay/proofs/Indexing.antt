@@ -1,5 +1,5 @@
 -- The places of a channel, as places change.
-use Rattle.std.proofs.Common.{◌≡◌, ℕ, zero, suc, ◌+◌, ◌<◌, ◌≤◌, Bool, true, false, cond, List, [], ◌∷◌, ◌++◌, length, map, take, drop, get_or, Option, Some, None, slice_get, slice_set, refl, sym, ap, ◌∙◌, subst, arith, ◌||◌, ◌⊎◌, inl, inr, append-nil}
+use Rattle.std.proofs.Common.{◌≡◌, ℕ, zero, suc, ◌+◌, ◌<◌, ◌≤◌, Bool, true, false, cond, List, [], ◌∷◌, ◌++◌, length, take, drop, get_or, Option, Some, None, slice_get, slice_set, refl, sym, ap, ◌∙◌, subst, arith, ◌||◌, ◌⊎◌, inl, inr, append-nil}
 use Rattle.std.specs.Prelude.{if◌then◌else◌, filter, nat_lt, Result, Ok, Err}
 use Rattle.std.specs.Global.{Vec}
 use Rattle.std.specs.Ordering.{nat_cmp}
@@ -12,7 +12,6 @@ use Rattle.spi_intern.proofs.Lists.{some_one, get_below}
 use Rattle.spi_replay.specs.declared.places.Place.{Place}
 use Rattle.spi_replay.specs.declared.waits.Wait.{Wait}
 use Rattle.spi_replay.specs.declared.waits.Wait.TheVariants.{Stays}
-use Rattle.spi_replay.specs.declared.tables.Turn.{Turn}
 use Rattle.spi_replay.specs.declared.tables.Change.{Change}
 use Rattle.spi_replay.specs.Indexed.{is_on, places_on, waits_of, or_none, HasPlaces, listed, moved}
 use Rattle.spi_replay.specs.Tables.{Rises, AllRise, with_place, next_wait, change_of, relisted, HasChanged}

@@ -3,7 +3,7 @@ use Rattle.std.specs.Prelude.{◌≡◌, ℕ, suc, Bool, true, false, ◌==◌, 
 use Rattle.std.specs.Global.{Vec}
 use Rattle.spi_replay.specs.declared.places.Place.{Place}
 use Rattle.spi_replay.specs.declared.waits.Wait.{Wait}
-use Rattle.spi_replay.specs.declared.waits.Wait.TheVariants.{Stays, Puts, Takes, TakesAgain, BindsOne, BindsTwo, GoesOn, Shows, Makes, Forks}
+use Rattle.spi_replay.specs.declared.waits.Wait.TheVariants.{Stays, Puts, Takes, TakesAgain}
 
 -- the number of the channel that is put out on, and of the one that is taken in on
 abbrev pub out_channel : Wait → Option ℕ

@@ -1,5 +1,5 @@
 -- What a pool's state stands for.
-use Rattle.std.specs.Prelude.{◌≡◌, ℕ, ◌+◌, ◌-◌, ◌^◌, ◌<◌, ◌≤◌, Bool, true, false, List, [], ◌∷◌, ◌++◌, map, length, Option, Some, None, slice_get, slice_set}
+use Rattle.std.specs.Prelude.{◌≡◌, ℕ, ◌+◌, ◌-◌, ◌^◌, ◌<◌, ◌≤◌, Bool, true, false, List, map, length, Some, slice_get}
 use Rattle.spi_term.specs.Term.{Message}
 use Rattle.spi_run.specs.Reduction.{Configuration, Acts}
 use Rattle.spi_replay.specs.Stepping.{Pooled, event_in, message_most}
