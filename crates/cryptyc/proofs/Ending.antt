@@ -8,10 +8,10 @@ use Rattle.spi_rules.specs.Environment.{untrusted}
 use Rattle.spi_rules.specs.Derivations.{Derivable}
 use Rattle.spi_run.specs.Safety.{RobustlySafe, RobustlySafeMany}
 use Rattle.cryptyc.specs.declared.asked.Command.{Command}
-use Rattle.cryptyc.specs.declared.asked.Command.TheVariants.{Check, Derive}
+use Rattle.cryptyc.specs.declared.asked.Command.TheVariants.{Check, Derive, Verify, Replay, Play}
 use Rattle.cryptyc.specs.declared.status.Status.{Status}
 use Rattle.cryptyc.specs.declared.status.Status.TheVariants.{Yes, No, Refused, ReadFault, WriteFault, NoMemory, Usage}
-use Rattle.cryptyc.specs.Way.{Seen}
+use Rattle.spi_play.specs.Way.{Seen}
 use Rattle.cryptyc.specs.Spelled.{SpellsFile, IsDerivable, SpellsDerivable, SpellsUnderivable, SpellsNone, IsManySafe}
 use Rattle.cryptyc.specs.Answer.{Refuses, ChecksTo}
 use Rattle.cryptyc.specs.Run.{Ends, Wants, Completes, IsExact}
@@ -100,6 +100,9 @@ yes_is : (command : Option Command) (bytes : List ℕ) (before after : List Seen
 yes_is None bytes before after old new ends is = absurd (cc)
 yes_is (Some Check) bytes before after old new ends is = ends.1.0
 yes_is (Some Derive) bytes before after old new ends is = absurd (cc)
+yes_is (Some Verify) bytes before after old new ends is = absurd (cc)
+yes_is (Some Replay) bytes before after old new ends is = absurd (cc)
+yes_is (Some (Play most only)) bytes before after old new ends is = absurd (cc)
 
 pub many_to_one : OneFile → Safe RobustlySafeMany → (command : Option Command) (left : Option (List ℕ)) (before after : List Seen) (old new : Option (List ℕ)) (status : Status) → IfSome left (λ bytes. Ends (Wants command bytes before after) old new status) → command ≡ Some Check → IfSome left (λ bytes. status ≡ Yes → IsManySafe bytes)
 many_to_one one safe command None before after old new status ends is = tt

@@ -130,6 +130,10 @@ module _ {P : List Piece → Type 0} (on : (a : Piece) (r : List Piece) → P r 
     past_derivs n t.no_derivs r h = h
     past_derivs n (t.more_derivs d ds) r h = past_deriv n d _ (past_derivs n ds r h)
 
+  -- what holds of a file's schedule and what is behind it holds of the file
+  pub past_body : (f : t.File) → P (schedule_pieces f.schedule (derivation_pieces f.derivation (ends f.span []))) → P (file_pieces f [])
+  past_body f h = one (past_version _ _ _ _ _ (past_decls f.decls _ (one (past_proc (at_level 0) f.process _ (past_opponent f.opponent _ h)))))
+
   -- what holds of a file's derivation holds of the file
   pub past_parts : (f : t.File) → P (derivation_pieces f.derivation (ends f.span [])) → P (file_pieces f [])
   past_parts f h = one (past_version _ _ _ _ _ (past_decls f.decls _ (one (past_proc (at_level 0) f.process _ (past_opponent f.opponent _ (past_schedule f.schedule _ h))))))

@@ -1,18 +1,22 @@
--- The nodes of a tree's process stand in the bytes that spell the tree.
-use Rattle.std.proofs.Common.{◌≡◌, ⊎_elim, sym, subst, ℕ, zero, suc, ◌+◌, ◌≤◌, Bool, List, [], ◌∷◌, ◌++◌, length, Option, Some, None, refl, arith, if◌then◌else◌}
+-- The nodes of a tree's process and of its opponent, and its steps, stand in the bytes that spell the tree.
+use Rattle.std.proofs.Common.{◌≡◌, ⊎_elim, sym, subst, ℕ, zero, suc, ◌+◌, ◌≤◌, Bool, List, [], ◌∷◌, ◌++◌, length, map, Option, Some, None, refl, arith, if◌then◌else◌}
 use Rattle.std.specs.Prelude.{slice_get}
 use Rattle.spi_text.specs.declared.lines.Span.{Span}
 use Rattle.spi_lex.proofs.Lexed.{lexed}
 use Rattle.spi_tree.specs.declared.tree.SWord.{SWord}
 use Rattle.spi_tree.specs.Trees as t
-use Rattle.spi_tree.specs.Pieces.{Piece, opens, msg_pieces, ty_pieces, Place, in_seq, at_level, below, beside, level_of, binder_pieces, proc_pieces, decls_pieces, file_pieces}
+use Rattle.spi_tree.specs.Pieces.{Piece, opens, msg_pieces, ty_pieces, Place, in_seq, at_level, below, beside, level_of, binder_pieces, proc_pieces, decls_pieces, steps_pieces, opponent_pieces, schedule_pieces, file_pieces}
 use Rattle.spi_parse.specs.Formed.{whole_file}
 use Rattle.spi_term.specs.Lists.{In, in_first, in_later}
 use Rattle.spi_term.proofs.Lists.{in_cases, in_append}
 use Rattle.spi_scope.specs.Marks.{places}
+use Rattle.spi_scope.specs.Parts.{step_span}
+use Rattle.spi_scope.specs.Files.{opponent_places, step_places}
 use Rattle.spi_scope.specs.Places.{placed}
 use Rattle.cryptyc.specs.Spelled.{IsTreeOf}
 use Rattle.cryptyc.specs.Answer.{place_at}
+use Rattle.cryptyc.specs.Beside.{opponent_at}
+use Rattle.cryptyc.specs.Replaying.{step_at}
 use Rattle.cryptyc.proofs.Past as Past
 use Rattle.cryptyc.proofs.Refusals.{opens_within}
 
@@ -97,3 +101,40 @@ place_within bytes tree is i = by (slice_get (places tree.process) i) refl
     by : (o : Option Span) → slice_get (places tree.process) i ≡ o → (placed o).from ≤ length bytes
     by None h = omega arith
     by (Some s) h = opens_within (length bytes) 0 0 s.from (whole_file tree) is.tokens is.spelled (lexed bytes is.tokens is.lexed).1 (node_opens tree s (get_in (places tree.process) i s h))
+
+-- each node of the opponent that is asked for
+opponent_in : (o : Option t.Proc) (s : Span) (r : List Piece) → In s (opponent_places o) → In (opens s.from) (opponent_pieces o r)
+opponent_in None s r i = elim i [ ]
+opponent_in (Some p) s r i = in_later (node_in (at_level 0) p s r i)
+
+opponent_opens : (tree : t.File) (s : Span) → In s (opponent_places tree.opponent) → In (opens s.from) (file_pieces tree [])
+opponent_opens tree s i =
+    in_later (past_version _ _ _ _ _ (past_decls tree.decls _ (in_later (past_proc (at_level 0) tree.process _ (opponent_in tree.opponent s _ i)))))
+
+pub opponent_within : (bytes : List ℕ) (tree : t.File) → IsTreeOf bytes tree → (i : ℕ) → (opponent_at tree i).from ≤ length bytes
+opponent_within bytes tree is i = by (slice_get (opponent_places tree.opponent) i) refl
+  where
+    by : (o : Option Span) → slice_get (opponent_places tree.opponent) i ≡ o → (placed o).from ≤ length bytes
+    by None h = omega arith
+    by (Some s) h = opens_within (length bytes) 0 0 s.from (whole_file tree) is.tokens is.spelled (lexed bytes is.tokens is.lexed).1 (opponent_opens tree s (get_in (opponent_places tree.opponent) i s h))
+
+-- each step that is asked for
+steps_in : (xs : List t.Step) (s : Span) (r : List Piece) → In s (map step_span xs) → In (opens s.from) (steps_pieces xs r)
+steps_in [] s r i = elim i [ ]
+steps_in (t.act u k ∷ xs) s r i = at_first i (λ j. in_later (three (steps_in xs s r j)))
+steps_in (t.talk u k l ∷ xs) s r i = at_first i (λ j. two (three (steps_in xs s r j)))
+
+schedule_in : (o : Option (List t.Step)) (s : Span) (r : List Piece) → In s (step_places o) → In (opens s.from) (schedule_pieces o r)
+schedule_in None s r i = elim i [ ]
+schedule_in (Some xs) s r i = in_later (steps_in xs s r i)
+
+step_opens : (tree : t.File) (s : Span) → In s (step_places tree.schedule) → In (opens s.from) (file_pieces tree [])
+step_opens tree s i =
+    in_later (past_version _ _ _ _ _ (past_decls tree.decls _ (in_later (past_proc (at_level 0) tree.process _ (Past.past_opponent {P = λ r. In (opens s.from) r} (λ a r i. in_later i) tree.opponent _ (schedule_in tree.schedule s _ i))))))
+
+pub step_within : (bytes : List ℕ) (tree : t.File) → IsTreeOf bytes tree → (i : ℕ) → (step_at tree i).from ≤ length bytes
+step_within bytes tree is i = by (slice_get (step_places tree.schedule) i) refl
+  where
+    by : (o : Option Span) → slice_get (step_places tree.schedule) i ≡ o → (placed o).from ≤ length bytes
+    by None h = omega arith
+    by (Some s) h = opens_within (length bytes) 0 0 s.from (whole_file tree) is.tokens is.spelled (lexed bytes is.tokens is.lexed).1 (step_opens tree s (get_in (step_places tree.schedule) i s h))

@@ -1,10 +1,13 @@
 pub mod Code
-pub mod Way
 pub mod Asked
 pub mod Spelled
 pub mod Answer
 pub mod Deriving
 pub mod Verifying
+pub mod Beside
+pub mod Replaying
+pub mod Playing
+pub mod Number
 pub mod Commands
 pub mod Reading
 pub mod Run

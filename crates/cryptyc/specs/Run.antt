@@ -6,19 +6,20 @@ use Rattle.spi_io.specs.Causes.{PutsPrefix}
 use Rattle.cryptyc.specs.declared.asked.Command.{Command}
 use Rattle.cryptyc.specs.declared.status.Status.{Status}
 use Rattle.cryptyc.specs.declared.status.Status.TheVariants.{Yes, No, Refused, ReadFault, WriteFault, NoMemory, Usage}
-use Rattle.cryptyc.specs.Way.{Seen}
-use Rattle.cryptyc.specs.Spelled.{SpellsDerivable, SpellsUnderivable, SpellsNone, IsSafe}
+use Rattle.spi_play.specs.Way.{Seen}
+use Rattle.cryptyc.specs.Spelled.{SpellsDerivable, SpellsUnderivable, SpellsNone, IsSafe, IsManySafe}
 use Rattle.cryptyc.specs.Answer.{ChecksTo}
 use Rattle.cryptyc.specs.Deriving.{IsListing, IsLongListing}
-use Rattle.cryptyc.specs.Verifying.{SpellsProved, SpellsUnderived}
+use Rattle.cryptyc.specs.Verifying.{SpellsProved, SpellsUnproved, SpellsUnderived, VerifiesTo}
+use Rattle.cryptyc.specs.Replaying.{SpellsPaid, SpellsUnpaid, SpellsUnplayed}
 use Rattle.cryptyc.specs.Commands.{AnswersTo}
 use Rattle.spi_spell.specs.Joined.{joined}
 
 -- What is to be answered to a command, or to no command: the bytes are the file, and the players are as
 -- they are seen before the call and after it.
 abbrev pub Wants : Option Command → List ℕ → List Seen → List Seen → Status → List ℕ → Type 0
-Wants None bytes before after status output = (status ≡ Usage) × (output ≡ codes "usage: check | derive\n")
-Wants (Some command) bytes before after status output = AnswersTo command bytes status output
+Wants None bytes before after status output = (status ≡ Usage) × (output ≡ codes "usage: check | derive | verify | replay | play --steps N [--player I]\n")
+Wants (Some command) bytes before after status output = AnswersTo command bytes before after status output
 
 -- the status comes with a whole output
 abbrev pub IsAnswered : Status → Type 0
@@ -58,9 +59,27 @@ pub record IsExact (bytes : List ℕ) (old new : Option (List ℕ)) (status : St
 
 -- `derive` answers yes exactly where the file's process has a derivation that can stand behind the file, no exactly where it
 -- has none, and refused where the file is none or the derivation is too long; and where the file has no derivation yet,
--- the file, one line feed and what is written are a file whose derivation proves that its process has the empty effect.
+-- the file, one line feed and what is written are a file of which `verify` answers yes.
 pub record IsDerived (bytes : List ℕ) (old new : Option (List ℕ)) (status : Status) : Type 0 where
   pub yes : (status ≡ Yes) ↔ ((output : List ℕ) × IsListing bytes output)
   pub no : (status ≡ No) ↔ SpellsUnderivable bytes
   pub refused : (status ≡ Refused) ↔ (SpellsNone bytes ⊎ ((output : List ℕ) × IsLongListing bytes output))
-  pub joins : status ≡ Yes → SpellsUnderived bytes → (output : List ℕ) × Appends old new output × SpellsProved (joined bytes output)
+  pub joins : status ≡ Yes → SpellsUnderived bytes → (output : List ℕ) × Appends old new output × VerifiesTo (joined bytes output) Yes (codes "yes\n")
+
+-- `verify` answers yes exactly where the file's derivation proves that its process has the empty effect, no exactly where it
+-- doesn't, and refused where the file is none or has no derivation; and after a yes the process is robustly safe.
+pub record IsVerified (bytes : List ℕ) (status : Status) : Type 0 where
+  pub yes : (status ≡ Yes) ↔ SpellsProved bytes
+  pub no : (status ≡ No) ↔ SpellsUnproved bytes
+  pub refused : (status ≡ Refused) ↔ (SpellsNone bytes ⊎ SpellsUnderived bytes)
+  pub safe : status ≡ Yes → IsSafe bytes
+  pub many_to_one : status ≡ Yes → IsManySafe bytes
+
+-- `replay` answers yes exactly where the file's schedule runs through beside its opponent with events that are all paid, no
+-- exactly where it runs through with others, and refused where the file is none, lacks a part, has no opponent in its
+-- opponent part, or has a step that is refused; and after a no the file's process has no derivation of empty effect.
+pub record IsReplayed (bytes : List ℕ) (status : Status) : Type 0 where
+  pub yes : (status ≡ Yes) ↔ SpellsPaid bytes
+  pub no : (status ≡ No) ↔ SpellsUnpaid bytes
+  pub refused : (status ≡ Refused) ↔ (SpellsNone bytes ⊎ SpellsUnplayed bytes)
+  pub refutes : status ≡ No → ¬ SpellsDerivable bytes

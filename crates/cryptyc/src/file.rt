@@ -1,6 +1,8 @@
 // The commands that read a file.
-ghost use Rattle.std.specs.Prelude.{◌≡◌, ◌≢◌, ◌+◌, ℕ, ◌<◌, ◌≤◌, List, length, IfOk, IfSome, OnErr, IsErrOf, Err};
+ghost use Rattle.std.specs.Prelude.{◌≡◌, ◌≢◌, ◌+◌, ℕ, ◌<◌, ◌≤◌, List, length, vec_len, false, IfOk, IfSome, OnErr, IsErrOf, Err, Some};
 ghost use Rattle.spi_io.specs.Causes.{Rose, TakesUpTo};
+ghost use Rattle.spi_play.specs.Way.{Seen, seen_of};
+ghost use Rattle.cryptyc.specs.Asked.{is_play, IsWithin};
 ghost use Rattle.cryptyc.specs.Spelled.{limit};
 ghost use Rattle.cryptyc.specs.Answer.{Refuses};
 ghost use Rattle.cryptyc.specs.Commands.{AnswersTo};
@@ -11,9 +13,13 @@ use crate::answer::{Answer, Stop, refusal};
 use crate::asked::Command;
 use crate::check::checked;
 use crate::derive::derived;
+use crate::play::played;
 use crate::read::{Unread, read};
+use crate::replay::replayed;
 use crate::status::Status;
+use crate::verify::verified;
 use spi_io::{Source, Taken, take_all};
+use spi_play::Player;
 use spi_report::Refusal;
 use spi_scope::{File, faults_stand_at_nodes};
 use std::alloc::Global;
@@ -22,16 +28,25 @@ use std::alloc::Global;
 pub const LIMIT: usize = 16_777_216;
 
 /// What the command answers on the bytes that are left.
-pub fn on_file<S: Source>(alloc: Global, command: Command, source: &mut S) -> Result<Answer, Stop>
-    ensures answer { IfOk result (λ answer. IfSome (S.left source.old) (λ bytes. AnswersTo command bytes answer.status answer.output.items)) }
+pub fn on_file<S: Source>(
+    alloc: Global,
+    command: Command,
+    source: &mut S,
+    players: &mut Vec<Box<dyn Player>>,
+) -> Result<Answer, Stop>
+    requires { IsWithin (vec_len players.old) command }
+    ensures answer { IfOk result (λ answer. IfSome (S.left source.old) (λ bytes. AnswersTo command bytes
+        (seen_of (λ b. times b) (λ b. way b) players.old.items) (seen_of (λ b. times b) (λ b. way b) players.new.items)
+        answer.status answer.output.items)) }
     ensures answered { IfOk result (λ answer. IsAnswered answer.status × (answer.status ≢ Status.Usage)) }
     ensures read_fault { IsErrOf result Stop.ReadFault → Rose (S.faults source.old) (S.faults source.new) }
     ensures failed_reads { ¬ IsErrOf result Stop.ReadFault → S.failed_reads source.new ≡ S.failed_reads source.old }
     ensures taken { TakesUpTo (S.left source.old) (S.left source.new) (limit + 1) }
     ensures reads { S.reads source.new ≤ S.reads source.old + limit + 2 }
+    ensures players { is_play (Some command) ≡ false → players.new ≡ players.old }
 {
     match take_all(alloc, source, LIMIT) {
-        Ok(bytes) => answered(alloc, command, &bytes),
+        Ok(bytes) => answered(alloc, command, &bytes, players),
         Err(Taken::TooLong) => too_long(alloc),
         Err(Taken::ReadFault) => Err(Stop::ReadFault),
         Err(Taken::NoMemory) => Err(Stop::NoMemory),
@@ -40,7 +55,7 @@ pub fn on_file<S: Source>(alloc: Global, command: Command, source: &mut S) -> Re
 
 /// The refusal of a file with more bytes than that.
 fn too_long(alloc: Global) -> Result<Answer, Stop>
-    ensures ok { IfOk result (λ answer. (command : Command) (bytes : List ℕ) → limit < length bytes → AnswersTo command bytes answer.status answer.output.items) }
+    ensures ok { IfOk result (λ answer. (command : Command) (bytes : List ℕ) (players : List Seen) → limit < length bytes → AnswersTo command bytes players players answer.status answer.output.items) }
     ensures answered { IfOk result (λ answer. answer.status ≡ Status.Refused) }
     ensures err { OnErr result (result ≡ Err Stop.NoMemory) }
 {
@@ -55,14 +70,23 @@ fn too_long(alloc: Global) -> Result<Answer, Stop>
 }
 
 /// What the command answers on these bytes.
-fn answered(alloc: Global, command: Command, bytes: &[u8]) -> Result<Answer, Stop>
-    requires { length bytes.now ≤ 16_777_216 }
-    ensures ok { IfOk result (λ answer. AnswersTo command bytes.now answer.status answer.output.items) }
+fn answered(
+    alloc: Global,
+    command: Command,
+    bytes: &[u8],
+    players: &mut Vec<Box<dyn Player>>,
+) -> Result<Answer, Stop>
+    requires sized { length bytes.now ≤ 16_777_216 }
+    requires within { IsWithin (vec_len players.old) command }
+    ensures ok { IfOk result (λ answer. AnswersTo command bytes.now
+        (seen_of (λ b. times b) (λ b. way b) players.old.items) (seen_of (λ b. times b) (λ b. way b) players.new.items)
+        answer.status answer.output.items) }
     ensures answered { IfOk result (λ answer. IsAnswered answer.status × (answer.status ≢ Status.Usage)) }
     ensures err { OnErr result (result ≡ Err Stop.NoMemory) }
+    ensures players { is_play (Some command) ≡ false → players.new ≡ players.old }
 {
     match read(alloc, bytes) {
-        Ok(file) => of_file(alloc, command, bytes, &file),
+        Ok(file) => of_file(alloc, command, bytes, &file, players),
         Err(unread) => unanswered(alloc, command, bytes, &unread),
     }
 }
@@ -76,7 +100,7 @@ fn unanswered(
 ) -> Result<Answer, Stop>
     requires sized { length bytes.now ≤ 16_777_216 }
     requires unread { IsUnread bytes.now unread.now }
-    ensures ok { IfOk result (λ answer. AnswersTo command bytes.now answer.status answer.output.items) }
+    ensures ok { (players : List Seen) → IfOk result (λ answer. AnswersTo command bytes.now players players answer.status answer.output.items) }
     ensures answered { IfOk result (λ answer. answer.status ≡ Status.Refused) }
     ensures err { OnErr result (result ≡ Err Stop.NoMemory) }
 {
@@ -90,7 +114,7 @@ fn unanswered(
 fn refused(alloc: Global, command: Command, bytes: &[u8], r: &Refusal) -> Result<Answer, Stop>
     requires sized { length bytes.now ≤ 16_777_216 }
     requires refuses { Refuses bytes.now r.now.number r.now.offset r.now.shown.items }
-    ensures ok { IfOk result (λ answer. AnswersTo command bytes.now answer.status answer.output.items) }
+    ensures ok { (players : List Seen) → IfOk result (λ answer. AnswersTo command bytes.now players players answer.status answer.output.items) }
     ensures answered { IfOk result (λ answer. answer.status ≡ Status.Refused) }
     ensures err { OnErr result (result ≡ Err Stop.NoMemory) }
 {
@@ -100,15 +124,28 @@ fn refused(alloc: Global, command: Command, bytes: &[u8], r: &Refusal) -> Result
 }
 
 /// What the command answers on the file of these bytes.
-fn of_file(alloc: Global, command: Command, bytes: &[u8], file: &File) -> Result<Answer, Stop>
+fn of_file(
+    alloc: Global,
+    command: Command,
+    bytes: &[u8],
+    file: &File,
+    players: &mut Vec<Box<dyn Player>>,
+) -> Result<Answer, Stop>
     requires sized { length bytes.now ≤ 16_777_216 }
     requires read { IsRead bytes.now file.now }
-    ensures ok { IfOk result (λ answer. AnswersTo command bytes.now answer.status answer.output.items) }
+    requires within { IsWithin (vec_len players.old) command }
+    ensures ok { IfOk result (λ answer. AnswersTo command bytes.now
+        (seen_of (λ b. times b) (λ b. way b) players.old.items) (seen_of (λ b. times b) (λ b. way b) players.new.items)
+        answer.status answer.output.items) }
     ensures answered { IfOk result (λ answer. IsAnswered answer.status × (answer.status ≢ Status.Usage)) }
     ensures err { OnErr result (result ≡ Err Stop.NoMemory) }
+    ensures players { is_play (Some command) ≡ false → players.new ≡ players.old }
 {
     match command {
         Command::Check => checked(alloc, bytes, file),
         Command::Derive => derived(alloc, bytes, file),
+        Command::Verify => verified(alloc, bytes, file),
+        Command::Replay => replayed(alloc, bytes, file),
+        Command::Play { most, only } => played(alloc, bytes, file, players, most, only),
     }
 }

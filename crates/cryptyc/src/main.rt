@@ -1,4 +1,5 @@
-//! Checks a file that is read from standard input, or derives its typing, and writes the answer to standard output.
+//! Checks a file that is read from standard input, derives its typing or verifies the derivation that it has, and writes the
+//! answer to standard output.
 #![tactic(auto)]
 
 mod answer;
@@ -6,15 +7,20 @@ mod asked;
 mod check;
 mod derive;
 mod file;
-mod player;
+mod opponent;
+mod play;
+mod players;
 mod read;
+mod replay;
 mod run;
 mod status;
+mod verify;
 
-pub use player::{Menu, Pick, Player};
+pub use players::{FirstReady, InTurn, Seeded};
 pub use read::{Unread, read};
 pub use run::{one_file, refused_is_none, run};
 use spi_io::{StdSink, StdSource};
+pub use spi_play::{Menu, Pick, Player};
 pub use status::Status;
 use std::alloc::AllocError;
 use std::process::ExitCode;
@@ -41,12 +47,26 @@ fn words(rt: &(impl Env + AllocGlobal)) -> Result<Vec<String>, NoMemory> {
 
 /// Runs over standard input and output, and ends with the code of the status.
 fn main(rt: HostRuntime) -> ExitCode {
+    let alloc = rt.alloc();
     let Ok(words) = words(&rt) else {
         return ExitCode::from(Status::NoMemory.code());
     };
-    let mut players: Vec<Box<dyn Player>> = Vec::new(rt.alloc());
+    let mut players: Vec<Box<dyn Player>> = Vec::new(alloc);
+    let (Ok(first), Ok(turn), Ok(seeded)) = (
+        Box::new(alloc, FirstReady::new()),
+        Box::new(alloc, InTurn::new()),
+        Box::new(alloc, Seeded::new(1)),
+    ) else {
+        return ExitCode::from(Status::NoMemory.code());
+    };
+    if players.push(first).is_err()
+        || players.push(turn).is_err()
+        || players.push(seeded).is_err()
+    {
+        return ExitCode::from(Status::NoMemory.code());
+    }
     let status = run(
-        rt.alloc(),
+        alloc,
         &words,
         &mut StdSource::new(&rt),
         &mut StdSink::new(&rt),

@@ -1,17 +1,17 @@
 // The top call: from words and bytes to a status and what is written.
-ghost use Rattle.std.specs.Prelude.{Option, ◌≡◌, ◌≢◌, ◌+◌, ◌≤◌, ◌↔◌, ◌⊎◌, ℕ, List, [], map, string_bytes, IfOk, IfSome, OnErr, IsErrOf, Err, None, Some, vec_len};
+ghost use Rattle.std.specs.Prelude.{Option, ◌≡◌, ◌≢◌, ◌+◌, ◌≤◌, ◌↔◌, ◌⊎◌, ℕ, List, [], map, string_bytes, IfOk, IfSome, OnErr, IsErrOf, Err, None, Some, false, vec_len};
 ghost use Rattle.spi_io.specs.Causes.{Rose, TakesUpTo};
 ghost use Rattle.spi_scope.specs.StandsFor.{Meant};
-ghost use Rattle.cryptyc.specs.Way.{seen_of};
-ghost use Rattle.cryptyc.specs.Asked.{asked};
+ghost use Rattle.spi_play.specs.Way.{seen_of};
+ghost use Rattle.cryptyc.specs.Asked.{asked, is_play, IsWithin};
 ghost use Rattle.cryptyc.specs.Spelled.{limit, SpellsFile, SpellsNone, IsManySafe};
 ghost use Rattle.cryptyc.specs.Answer.{Refuses};
-ghost use Rattle.cryptyc.specs.Run.{Wants, IsAnswered, Ends, Completes, IsExact, IsDerived};
+ghost use Rattle.cryptyc.specs.Run.{Wants, IsAnswered, Ends, Completes, IsExact, IsDerived, IsVerified, IsReplayed};
 
 use crate::answer::{Answer, Stop, made};
 use crate::asked::{Command, asked_of};
 use crate::file::on_file;
-use crate::player::Player;
+use spi_play::Player;
 use crate::status::Status;
 use spi_deriv::one_canonical;
 use spi_io::{Put, Sink, Source, put_all};
@@ -40,10 +40,16 @@ pub fn run<S: Source, K: Sink>(
     ensures many_to_one { asked (map string_bytes words.now) (vec_len players.old) ≡ Some Command.Check → IfSome (S.left source.old) (λ bytes.
         result ≡ Status.Yes → IsManySafe bytes) }
 
-    // What `derive` answers, under the same conditions.
+    // What `derive`, `verify` and `replay` answer, under the same conditions.
     ensures derive { asked (map string_bytes words.now) (vec_len players.old) ≡ Some Command.Derive → IfSome (S.left source.old) (λ bytes.
         ¬ Rose (S.faults source.old) (S.faults source.new) → ¬ Rose (K.faults sink.old) (K.faults sink.new) → result ≢ Status.NoMemory
         → IsDerived bytes (K.holds sink.old) (K.holds sink.new) result) }
+    ensures verify { asked (map string_bytes words.now) (vec_len players.old) ≡ Some Command.Verify → IfSome (S.left source.old) (λ bytes.
+        ¬ Rose (S.faults source.old) (S.faults source.new) → ¬ Rose (K.faults sink.old) (K.faults sink.new) → result ≢ Status.NoMemory
+        → IsVerified bytes result) }
+    ensures replay { asked (map string_bytes words.now) (vec_len players.old) ≡ Some Command.Replay → IfSome (S.left source.old) (λ bytes.
+        ¬ Rose (S.faults source.old) (S.faults source.new) → ¬ Rose (K.faults sink.old) (K.faults sink.new) → result ≢ Status.NoMemory
+        → IsReplayed bytes result) }
 
     // Where the source tells its bytes, the status is the one that these words and bytes ask for, and its output is appended.
     ensures answer { IfSome (S.left source.old) (λ bytes. Ends (Wants (asked (map string_bytes words.now) (vec_len players.old)) bytes (seen_of (λ b. times b) (λ b. way b) players.old.items) (seen_of (λ b. times b) (λ b. way b) players.new.items)) (K.holds sink.old) (K.holds sink.new) result) }
@@ -66,8 +72,8 @@ pub fn run<S: Source, K: Sink>(
     ensures taken { TakesUpTo (S.left source.old) (S.left source.new) (limit + 1) }
     ensures reads { S.reads source.new ≤ S.reads source.old + limit + 2 }
 
-    // The players are as they were.
-    ensures players { players.new ≡ players.old }
+    // Only a play asks the players, else they are as they were.
+    ensures players { is_play (asked (map string_bytes words.now) (vec_len players.old)) ≡ false → players.new ≡ players.old }
 {
     one_file();
     refused_is_none();
@@ -117,7 +123,7 @@ fn run_for<S: Source, K: Sink>(
     ensures unwritten { (result ≡ Status.ReadFault) ⊎ (result ≡ Status.NoMemory) → sink.new ≡ sink.old }
     ensures taken { TakesUpTo (S.left source.old) (S.left source.new) (limit + 1) }
     ensures reads { S.reads source.new ≤ S.reads source.old + limit + 2 }
-    ensures players { players.new ≡ players.old }
+    ensures players { is_play (asked (map string_bytes words.now) (vec_len players.old)) ≡ false → players.new ≡ players.old }
 {
     match answer_to(alloc, asked_of(words, players.len()), source, players) {
         Ok(answer) => match put_all(sink, &answer.output) {
@@ -136,6 +142,7 @@ fn answer_to<S: Source>(
     source: &mut S,
     players: &mut Vec<Box<dyn Player>>,
 ) -> Result<Answer, Stop>
+    requires { IfSome command (λ command. IsWithin (vec_len players.old) command) }
     ensures answer { IfOk result (λ answer. IfSome (S.left source.old) (λ bytes. Wants command bytes
         (seen_of (λ b. times b) (λ b. way b) players.old.items) (seen_of (λ b. times b) (λ b. way b) players.new.items)
         answer.status answer.output.items)) }
@@ -148,11 +155,10 @@ fn answer_to<S: Source>(
     ensures failed_reads { ¬ IsErrOf result Stop.ReadFault → S.failed_reads source.new ≡ S.failed_reads source.old }
     ensures taken { TakesUpTo (S.left source.old) (S.left source.new) (limit + 1) }
     ensures reads { S.reads source.new ≤ S.reads source.old + limit + 2 }
-    ensures players { players.new ≡ players.old }
+    ensures players { is_play command ≡ false → players.new ≡ players.old }
 {
-    let _ = players;
     match command {
-        Some(command) => on_file(alloc, command, source),
-        None => made(alloc, Status::Usage, b"usage: check | derive\n"),
+        Some(command) => on_file(alloc, command, source, players),
+        None => made(alloc, Status::Usage, b"usage: check | derive | verify | replay | play --steps N [--player I]\n"),
     }
 }

@@ -78,6 +78,18 @@ fn an_accepted_file_is_derived(rt: HostRuntime) -> Result<(), Fail> {
     Ok(())
 }
 
+#[test]
+fn a_derivation_is_verified(rt: HostRuntime) -> Result<(), Fail> {
+    let (sink, ended) = answer(
+        rt.alloc(),
+        &["verify"],
+        b"process stop derivation ProcStop",
+    )?;
+    assert_eq!(rt; sink.bytes(), b"yes\n".as_slice());
+    assert_eq!(rt; ended, 0);
+    Ok(())
+}
+
 /// What stands before and after letters or spaces, so many of them, and what `check` answers.
 const LONG: [(&[u8], u8, usize, &[u8], &[u8], u8); 3] = [
     (b"process stop", b' ', 100_000, b"", b"yes\n", 0),
@@ -113,7 +125,7 @@ fn other_words_get_the_usage_line(rt: HostRuntime) -> Result<(), Fail> {
     let no_commands: [&[&str]; 5] = [&[], &["check", "now"], &["Check"], &["check "], &["play"]];
     for words in no_commands {
         let (sink, ended) = answer(rt.alloc(), words, b"process stop")?;
-        assert_eq!(rt; sink.bytes(), b"usage: check | derive\n".as_slice());
+        assert_eq!(rt; sink.bytes(), b"usage: check | derive | verify | replay\n".as_slice());
         assert_eq!(rt; ended, 6);
     }
     Ok(())

@@ -2,3 +2,4 @@ pub mod Names
 pub mod Refused
 pub mod Fault
 pub mod Wrong
+pub mod Events

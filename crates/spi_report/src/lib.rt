@@ -5,10 +5,12 @@ ghost use Rattle.std.specs.Prelude.{◌≡◌, codes};
 
 mod fault;
 mod refusal;
+mod replay;
 mod wrong;
 
 pub use fault::no_fault;
 pub use refusal::{Refusal, refused};
+pub use replay::events;
 use std::alloc::AllocError;
 pub use wrong::wrong_step;
 

@@ -1,5 +1,6 @@
 use Rattle.cryptyc.proofs.Ending.{headline, many_to_one}
-use Rattle.cryptyc.proofs.Exact.{derive_ends}
+use Rattle.cryptyc.proofs.Exact.{derive_ends, verify_ends}
+use Rattle.cryptyc.proofs.Played.{replay_ends}
 use Rattle.cryptyc.proofs.run.run.Goals as goal
 
 pub returns-clause-headline : goal.returns-clause-headline
@@ -15,3 +16,13 @@ pub returns-clause-derive : goal.returns-clause-derive
 returns-clause-derive g c =
     let e = c.run_for.ensures in
     derive_ends c.refused_is_none.ensures c.one_file.ensures c.one_canonical.ensures c.derivation_joins.ensures _ _ _ _ _ _ _ _ _ _ _ e.read_fault e.write_fault e.answer
+
+pub returns-clause-verify : goal.returns-clause-verify
+returns-clause-verify g c =
+    let e = c.run_for.ensures in
+    verify_ends c.refused_is_none.ensures c.one_file.ensures c.derivable_is_safe.ensures c.derivable_is_many_safe.ensures _ _ _ _ _ _ _ _ _ _ _ e.read_fault e.write_fault e.answer
+
+pub returns-clause-replay : goal.returns-clause-replay
+returns-clause-replay g c =
+    let e = c.run_for.ensures in
+    replay_ends c.refused_is_none.ensures c.one_file.ensures c.derivable_is_safe.ensures c.derivable_is_many_safe.ensures _ _ _ _ _ _ _ _ _ _ _ e.read_fault e.write_fault e.answer

@@ -1,0 +1,143 @@
+// The lines of a replay.
+ghost use Rattle.std.specs.Prelude.{◌≡◌, ◌+◌, ◌^◌, ◌<◌, ◌++◌, length, map, IfOk, IfSome, OnOk};
+ghost use Rattle.spi_term.specs.View.{message};
+ghost use Rattle.spi_run.specs.View.{event};
+ghost use Rattle.spi_show.specs.Report.{message_text};
+ghost use Rattle.spi_report.specs.Events.{from_text, event_text, line_text, is_unpaid as is_unpaid_by, first_unpaid as first_unpaid_of, last_text, events_text};
+
+use crate::NoMemory;
+use spi_run::Event;
+use spi_show::show_message;
+use spi_term::Msg;
+use spi_text::Text;
+use spi_trace::Pairing;
+use std::alloc::Global;
+
+// Appends the begin that pays for an end.
+fn put_from(alloc: Global, out: &mut Vec<u8>, begin: Option<u32>) -> Result<(), NoMemory>
+    ensures { OnOk result (out.new.items ≡ out.old.items ++ from_text begin) }
+{
+    match begin {
+        None => out.extend_from_slice(b" unpaid"),
+        Some(i) => {
+            let number = i as u64 + 1;
+            out.extend_from_slice(format!(in alloc; " from {number}")?.as_bytes())
+        }
+    }
+}
+
+// Appends a word and a label.
+fn put_label(
+    alloc: Global,
+    out: &mut Vec<u8>,
+    word: &[u8],
+    names: &[Text],
+    label: &Msg,
+) -> Result<(), NoMemory>
+    ensures { OnOk result (out.new.items ≡ out.old.items ++ (word.now ++ message_text names.now (message label.now))) }
+{
+    out.extend_from_slice(word)?;
+    out.extend_from_slice(&show_message(alloc, names, label)?)
+}
+
+// Appends an event.
+fn put_event(
+    alloc: Global,
+    out: &mut Vec<u8>,
+    names: &[Text],
+    e: &Event,
+    begin: Option<u32>,
+) -> Result<(), NoMemory>
+    ensures { OnOk result (out.new.items ≡ out.old.items ++ event_text names.now (event e.now) begin) }
+{
+    match e {
+        Event::Begin(label) => put_label(alloc, out, b" begin ", names, label),
+        Event::End(label) => {
+            put_label(alloc, out, b" end ", names, label)?;
+            put_from(alloc, out, begin)
+        }
+        Event::EndMany(label) => {
+            put_label(alloc, out, b" endmany ", names, label)?;
+            put_from(alloc, out, begin)
+        }
+    }
+}
+
+// Appends the line of an event, by its number from 0 on.
+fn put_line(
+    alloc: Global,
+    out: &mut Vec<u8>,
+    names: &[Text],
+    k: usize,
+    e: &Event,
+    begin: Option<u32>,
+) -> Result<(), NoMemory>
+    requires { k + 1 < 2 ^ 64 }
+    ensures { OnOk result (out.new.items ≡ out.old.items ++ line_text names.now k (event e.now) begin) }
+{
+    let number = k as u64 + 1;
+    out.extend_from_slice(format!(in alloc; "{number}")?.as_bytes())?;
+    put_event(alloc, out, names, e, begin)?;
+    out.push(b'\n')?;
+    Ok(())
+}
+
+// Whether it is an end or endmany without a begin.
+fn is_unpaid(e: &Event, begin: Option<u32>) -> bool
+    ensures { result ≡ is_unpaid_by (event e.now) begin }
+{
+    match e {
+        Event::Begin(_) => false,
+        Event::End(_) => begin.is_none(),
+        Event::EndMany(_) => begin.is_none(),
+    }
+}
+
+// The first of them.
+fn first_unpaid(events: &[Event], from: &[Option<u32>]) -> Option<usize>
+    requires { length from.now ≡ length events.now }
+    ensures first { result ≡ first_unpaid_of 0 (map event events.now) from.now }
+    ensures within { IfSome result (λ k. k < length events.now) }
+{
+    for k in 0..events.len() {
+        if is_unpaid(&events[k], from[k]) {
+            return Some(k);
+        }
+    }
+    None
+}
+
+// Appends the last line.
+fn put_last(alloc: Global, out: &mut Vec<u8>, unpaid: Option<usize>) -> Result<(), NoMemory>
+    requires { IfSome unpaid (λ k. k + 1 < 2 ^ 64) }
+    ensures { OnOk result (out.new.items ≡ out.old.items ++ last_text unpaid) }
+{
+    match unpaid {
+        None => out.extend_from_slice(b"paid\n"),
+        Some(k) => {
+            let number = k as u64 + 1;
+            out.extend_from_slice(format!(in alloc; "unpaid at {number}\n")?.as_bytes())
+        }
+    }
+}
+
+/// The lines of a replay: for each event, numbered from 1, `K begin L`, `K end L from B` or `K endmany L from B`,
+/// where B is the number of the begin that the pairing gives it, or `unpaid` in place of `from B`; and then `paid`, or
+/// `unpaid at K` with the first end or endmany without a begin. A name below the number of given names is shown by its
+/// spelling, and every other by `#` and its number. The condition is that the pairing has an entry for each event.
+pub fn events(
+    alloc: Global,
+    names: &[Text],
+    events: &[Event],
+    pairing: &Pairing,
+) -> Result<Vec<u8>, NoMemory>
+    requires { length pairing.now.from.items ≡ length events.now }
+    ensures { IfOk result (λ text. text.items ≡ events_text names.now (map event events.now) pairing.now.from.items) }
+{
+    let mut out = Vec::new(alloc);
+    for k in 0..events.len() {
+        put_line(alloc, &mut out, names, k, &events[k], pairing.from[k])?;
+    }
+    put_last(alloc, &mut out, first_unpaid(events, &pairing.from))?;
+    Ok(out)
+}
