@@ -1,5 +1,5 @@
 -- Judgements of the same uses agree: on the effects up to equal counts, on where a use doesn't fit, and on which doesn't pay.
-use Rattle.std.proofs.Common.{◌≡◌, refl, sym, ap, ◌∙◌, subst, ℕ, zero, suc, ◌+◌, ◌-◌, List, [], ◌∷◌, ◌++◌, length, arith}
+use Rattle.std.proofs.Common.{◌≡◌, refl, sym, ap, ◌∙◌, subst, ℕ, zero, suc, ◌+◌, List, [], ◌∷◌, ◌++◌, length, arith}
 use Rattle.spi_term.specs.Term.{Message, Effect, nonce}
 use Rattle.spi_term.specs.Counts.{count, cut, SameEffect}
 use Rattle.spi_term.specs.Names.{Avoids, EffectAvoids}

@@ -1,12 +1,10 @@
 -- What uses do to effects, computed, is what the rows of the table say.
-use Rattle.std.proofs.Common.{◌≡◌, refl, sym, ap, ◌∙◌, subst, ℕ, zero, suc, ◌+◌, Bool, true, false, not, ◌&&◌, ◌||◌, true≢false, List, [], ◌∷◌, ◌++◌, length, Option, Some, None, arith}
+use Rattle.std.proofs.Common.{◌≡◌, refl, sym, ap, ◌∙◌, subst, ℕ, suc, ◌+◌, Bool, true, false, not, ◌&&◌, ◌||◌, true≢false, List, [], ◌∷◌, ◌++◌, length, Option, Some, None, arith}
 use Rattle.std.specs.Prelude.{if◌then◌else◌}
 use Rattle.spi_term.specs.Term.{Message, name, ends, checks, many, Effect, Process, check}
 use Rattle.spi_term.specs.Names.{EffectAvoids}
 use Rattle.spi_term.proofs.Lists.{at_get}
-use Rattle.spi_term.specs.Counts.{SameEffect}
-use Rattle.spi_term.specs.Lists.{At}
-use Rattle.spi_effect.specs.Effect.{IsDifference, AllMany, Within}
+use Rattle.spi_effect.specs.Effect.{AllMany, Within}
 use Rattle.spi_effect.specs.Made.{are_many, minus, greater, mentions, is_within}
 use Rattle.spi_effect.proofs.Made.{minus_difference, greater_is, mentions_sound, mentions_complete, or_false, both_false, and_true, both_true, are_many_sound, are_many_complete, is_within_sound, is_within_complete}
 use Rattle.spi_effect.proofs.Laws.{sum_append}

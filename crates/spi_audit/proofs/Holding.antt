@@ -1,25 +1,23 @@
 -- Effects that are held by counts and by loose names: what operations on the counts do to them.
-use Rattle.std.proofs.Common.{◌≡◌, ◌≢◌, refl, sym, ap, ◌∙◌, subst, ℕ, zero, suc, ◌+◌, ◌-◌, ◌*◌, ◌<◌, ◌≤◌, max, Bool, true, false, not, ◌&&◌, ◌||◌, true≢false, List, [], ◌∷◌, ◌++◌, ◌⊎◌, inl, inr, ⊎_elim, arith}
-use Rattle.std.specs.Prelude.{if◌then◌else◌, nat_lt, nat_eq}
+use Rattle.std.proofs.Common.{◌≡◌, refl, sym, ap, ◌∙◌, subst, ℕ, zero, suc, ◌+◌, ◌*◌, ◌<◌, ◌≤◌, max, Bool, true, false, ◌&&◌, ◌||◌, true≢false, [], ◌∷◌, ◌++◌, ◌⊎◌, inl, inr, ⊎_elim, arith}
 use Rattle.std.specs.BTreeMap.{BTreeMap}
-use Rattle.std.proofs.lemmas.Bool.{lt-ltb, le-ltb, ltb-true, ltb-false, eqb-true, eqb-false}
-use Rattle.spi_term.specs.Term.{Message, bound, name, unit, pair, in_left, in_right, enc, hash, Atom, ends, checks, many, same_atom, Effect}
+use Rattle.std.proofs.lemmas.Bool.{lt-ltb, le-ltb, ltb-true, ltb-false, eqb-true}
+use Rattle.spi_term.specs.Term.{Message, bound, name, unit, pair, in_left, in_right, enc, hash, Atom, ends, checks, many, Effect}
 use Rattle.spi_term.specs.Lists.{In, in_first, in_later}
 use Rattle.spi_term.specs.Counts.{tally, cut, count, SameEffect}
-use Rattle.spi_term.proofs.Counting.{cut_cases, tally_append, same_atom_refl, same_atom_true, same_other, in_tally, tally_in, count_tally}
-use Rattle.spi_effect.specs.Effect.{IsMany, AllMany}
-use Rattle.spi_effect.specs.Made.{are_many, every_out, minus, greater, is_free, is_free_at, mentions, is_within}
-use Rattle.spi_effect.proofs.Made.{minus_difference, greater_is, are_many_sound, are_many_complete, is_within_sound, is_within_complete, and_true, both_true}
-use Rattle.spi_effect.proofs.Laws.{sum_append, AllMany_in, AllMany_of}
+use Rattle.spi_term.proofs.Counting.{in_tally, tally_in, count_tally}
+use Rattle.spi_effect.specs.Effect.{IsMany}
+use Rattle.spi_effect.specs.Made.{minus, greater, is_free, is_free_at, mentions}
+use Rattle.spi_effect.proofs.Made.{minus_difference, greater_is, and_true}
+use Rattle.spi_effect.proofs.Laws.{sum_append}
 use Rattle.spi_intern.specs.declared.store.Store.{Store}
 use Rattle.spi_count.specs.Counts.{count_of, IsNothing}
-use Rattle.spi_count.specs.Sums.{name_bound, key_of, kind_of, message_of, part, both_counts, Puts, Stands}
+use Rattle.spi_count.specs.Sums.{name_bound, message_of, part, both_counts}
 use Rattle.spi_count.specs.declared.sum.AtomKind.{AtomKind}
-use Rattle.spi_count.specs.declared.sum.AtomKind.TheVariants.{End, Check, Many}
 use Rattle.spi_count.specs.declared.sum.Sum.{Sum}
-use Rattle.spi_count.proofs.Standing.{same_kind, put_at, stands_none, stands_same, stands_many, many_stands, stands_joined, stands_greatest, in_mentions, unreached_below, reached_in}
+use Rattle.spi_count.proofs.Standing.{stands_none, stands_same, stands_joined, stands_greatest, in_mentions, unreached_below, reached_in}
 use Rattle.spi_audit.specs.declared.keys.Keys.{Keys}
-use Rattle.spi_audit.specs.Accounts.{with_keys, IsKeyed, IsKey, SumOf, atom_of, HeldBy, outer, Marks, lasting_with}
+use Rattle.spi_audit.specs.Accounts.{with_keys, IsKeyed, SumOf, HeldBy, outer}
 use Rattle.spi_audit.specs.Changes.{Below}
 use Rattle.spi_audit.proofs.Summed.{numbers}
 

@@ -1,19 +1,14 @@
 -- What has a key keeps it as the store and the keys grow.
-use Rattle.std.proofs.Common.{◌≡◌, ℕ, ◌<◌, ◌⊎◌, inl, inr, ⊎_elim, Bool, true, false, eqb, List, [], ◌∷◌, ◌++◌, Option, Some, None, refl, sym, ap, subst, ◌∙◌, eq-eqb, Result, Ok, Err, IfOk}
-use Rattle.std.specs.Prelude.{slice_get, nat_eq, if◌then◌else◌, IfSome, IfNone, OnOk, ⊤}
+use Rattle.std.proofs.Common.{◌≡◌, ℕ, ◌<◌, ◌⊎◌, inl, inr, ⊎_elim, Bool, true, false, eqb, [], ◌∷◌, ◌++◌, Some, refl, sym, ap, subst, ◌∙◌, eq-eqb, Result, Ok, Err}
+use Rattle.std.specs.Prelude.{slice_get, nat_eq, if◌then◌else◌, OnOk}
 use Rattle.std.proofs.lemmas.Bool.{eqb-true}
 use Rattle.indexmap.specs.IndexMap.{get}
-use Rattle.spi_term.specs.Term.{Message, name, Atom, Effect, nonce, Prefix, Recvs, Serves, Splits, Selects, Decrypts, Checks, Begins, Ends, EndManys, Casts, Makes}
+use Rattle.spi_term.specs.Term.{Message, Atom, Effect}
 use Rattle.spi_term.specs.Lists.{in_first, in_later}
-use Rattle.spi_term.specs.Spelling.{Shape, leaf_at, prefix_at, fork_at}
-use Rattle.spi_rules.specs.Environment.{Env}
-use Rattle.spi_intern.specs.Meaning.{Means, Keeps}
+use Rattle.spi_intern.specs.Meaning.{Keeps}
 use Rattle.spi_intern.specs.declared.store.Store.{Store}
-use Rattle.spi_intern.specs.declared.types.TyId.{TyId}
 use Rattle.spi_intern.proofs.Lists.{some_one}
-use Rattle.spi_intern.proofs.Meanings.{means_keeps, terms_same, terms_more}
-use Rattle.spi_message.specs.Judging.{Numbered, Stands}
-use Rattle.spi_message.specs.Tests.{nonce_of}
+use Rattle.spi_intern.proofs.Meanings.{terms_same, terms_more}
 use Rattle.spi_count.specs.Sums.{name_bound, key_of, message_of}
 use Rattle.spi_audit.specs.declared.keys.Keys.{Keys}
 use Rattle.spi_audit.specs.Keys.{Keyed}

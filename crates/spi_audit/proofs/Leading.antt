@@ -1,12 +1,10 @@
 -- The forward pass: where uses lead to, and what is open behind a use that fits.
-use Rattle.std.proofs.Common.{◌≡◌, refl, sym, ap, ◌∙◌, subst, ℕ, zero, suc, ◌+◌, ◌-◌, ◌<◌, ◌≤◌, List, [], ◌∷◌, ◌++◌, length, take, min, Some, arith, length-append}
-use Rattle.std.specs.Prelude.{slice_get}
+use Rattle.std.proofs.Common.{◌≡◌, refl, sym, ap, ◌∙◌, subst, ℕ, zero, suc, ◌≤◌, List, [], ◌∷◌, ◌++◌, length, take, arith}
 use Rattle.std.proofs.lemmas.List.{append_assoc, append-nil, take_all}
-use Rattle.spi_term.specs.Term.{Message, Ty, Process}
+use Rattle.spi_term.specs.Term.{Message, Ty}
 use Rattle.spi_term.specs.Spelling.{Shape}
 use Rattle.spi_rules.specs.Environment.{Env}
 use Rattle.spi_rules.specs.Derivations.{RuleUse}
-use Rattle.spi_rules.specs.Deriv.{AreTrees, tree, IsUse}
 use Rattle.spi_intern.specs.declared.store.Store.{Store}
 use Rattle.spi_intern.specs.Meaning.{Keeps}
 use Rattle.spi_intern.proofs.Meanings.{means_keeps}
@@ -16,10 +14,9 @@ use Rattle.spi_message.proofs.Standing.{stand_push}
 use Rattle.spi_audit.specs.declared.asked.Binding.{Binding}
 use Rattle.spi_audit.specs.declared.asked.Binding.TheVariants.{Nothing, OneName, TwoNames}
 use Rattle.spi_audit.specs.declared.asked.Asked.{Asked}
-use Rattle.spi_audit.specs.declared.asked.Asked.TheVariants as A
-use Rattle.spi_audit.specs.Fits.{Subject, of_message, of_process, Fits}
+use Rattle.spi_audit.specs.Fits.{Subject, of_process, Fits}
 use Rattle.spi_audit.specs.Audit.{MisfitAt, misfit_here, misfit_later}
-use Rattle.spi_audit.specs.Asked.{Bound, bound_none, bound_one, bound_two, Located, IsAsked, IsBegun, AreAsked, asked_none, asked_next, AreBegun, begun_none, begun_next, AreOpen, open_message, open_processes}
+use Rattle.spi_audit.specs.Asked.{Bound, bound_none, bound_one, bound_two, IsAsked, AreAsked, asked_none, asked_next, AreBegun, begun_none, begun_next, AreOpen, open_message, open_processes}
 use Rattle.spi_audit.specs.Changes.{Change, change_of}
 use Rattle.spi_audit.specs.Walking.{Trace, trace_none, trace_use, Led, led_none, led_use, Later, later_none, later_next, Opens, opens_message, opens_later, Misfits, Settles, Turns}
 

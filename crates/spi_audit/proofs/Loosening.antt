@@ -1,27 +1,26 @@
 -- Atoms that become loose, and names that leave.
-use Rattle.std.proofs.Common.{◌≡◌, ◌≢◌, refl, sym, ap, ◌∙◌, subst, ℕ, zero, suc, ◌+◌, ◌-◌, ◌*◌, ◌<◌, ◌≤◌, Bool, true, false, not, ◌&&◌, ◌||◌, true≢false, List, [], ◌∷◌, ◌⊎◌, inl, inr, ⊎_elim, arith, ◌↔◌, IsTrue}
+use Rattle.std.proofs.Common.{◌≡◌, ◌≢◌, refl, sym, ap, ◌∙◌, subst, ℕ, zero, suc, ◌+◌, ◌-◌, ◌*◌, ◌<◌, ◌≤◌, Bool, true, false, not, ◌&&◌, ◌||◌, true≢false, [], ◌∷◌, ◌⊎◌, inl, inr, ⊎_elim, arith, ◌↔◌, IsTrue}
 use Rattle.std.specs.Prelude.{if◌then◌else◌, nat_eq}
 use Rattle.std.specs.BTreeMap.{BTreeMap}
-use Rattle.std.proofs.lemmas.Bool.{eqb-true, eqb-false}
+use Rattle.std.proofs.lemmas.Bool.{eqb-true}
 use Rattle.spi_term.specs.Term.{Message, Atom, ends, checks, many, same_atom, Effect}
-use Rattle.spi_term.specs.Lists.{In}
 use Rattle.spi_term.specs.Counts.{tally, cut, count}
 use Rattle.spi_term.proofs.Counting.{same_atom_refl, same_atom_true, same_other}
-use Rattle.spi_effect.specs.Effect.{IsMany, AllMany}
+use Rattle.spi_effect.specs.Effect.{IsMany}
 use Rattle.spi_effect.specs.Made.{are_many, every_out, is_free, is_free_at, mentions}
 use Rattle.spi_effect.proofs.Made.{are_many_sound, are_many_complete, or_false, both_false, and_true, both_true}
 use Rattle.spi_effect.proofs.Laws.{AllMany_in, AllMany_of}
 use Rattle.spi_intern.specs.declared.store.Store.{Store}
 use Rattle.spi_intern.proofs.Lists.{truths}
 use Rattle.spi_count.specs.Counts.{count_of, IsNothing}
-use Rattle.spi_count.specs.Sums.{name_bound, key_of, kind_of, message_of, part, Puts, Stands}
+use Rattle.spi_count.specs.Sums.{name_bound, key_of, kind_of, message_of, part, Puts}
 use Rattle.spi_count.specs.declared.sum.AtomKind.{AtomKind}
 use Rattle.spi_count.specs.declared.sum.AtomKind.TheVariants.{End, Check, Many}
 use Rattle.spi_count.specs.declared.sum.Sum.{Sum}
 use Rattle.spi_count.proofs.Standing.{same_kind, put_at, stands_many, many_stands, in_mentions, unreached_below}
 use Rattle.spi_audit.specs.declared.keys.Keys.{Keys}
 use Rattle.spi_audit.specs.declared.accounts.Account.{Account}
-use Rattle.spi_audit.specs.Accounts.{with_keys, IsKeyed, IsKey, SumOf, HeldBy, Held, outer, Marks, lasting_with, IsCut, LeavesOne, LeavesTwo}
+use Rattle.spi_audit.specs.Accounts.{with_keys, IsKeyed, IsKey, SumOf, HeldBy, outer, Marks, lasting_with, IsCut, LeavesOne, LeavesTwo}
 use Rattle.spi_audit.proofs.Summed.{numbers}
 use Rattle.spi_audit.proofs.Holding.{zero_or, in_count, count_in, inner_in, held_other, outer_true, outer_false, outer_from, outer_not, mentions_in, in_mentioned, free_at, free_at_below}
 

@@ -1,10 +1,10 @@
 -- Names of messages that are marked.
-use Rattle.std.proofs.Common.{◌≡◌, refl, sym, ap, ◌∙◌, subst, ℕ, ◌<◌, Bool, true, false, ◌||◌, true≢false, List, Some, ◌⊎◌, inl, inr, ⊎_elim, arith, max}
+use Rattle.std.proofs.Common.{◌≡◌, refl, sym, ap, ◌∙◌, ℕ, ◌<◌, Bool, true, false, ◌||◌, true≢false, List, Some, ◌⊎◌, inl, inr, ⊎_elim, arith, max}
 use Rattle.std.specs.Prelude.{if◌then◌else◌, slice_get, eqb}
 use Rattle.std.specs.BTreeMap.{BTreeMap}
 use Rattle.std.proofs.lemmas.Bool.{eqb-true, eqb-false}
 use Rattle.std.proofs.Common.{eq-eqb}
-use Rattle.spi_term.specs.Term.{Message, bound, name, unit, pair, in_left, in_right, enc, hash}
+use Rattle.spi_term.specs.Term.{Message, bound, name, unit, pair}
 use Rattle.spi_effect.specs.Made.{is_free}
 use Rattle.spi_effect.proofs.Made.{or_false}
 use Rattle.spi_intern.specs.declared.messages.MsgId.{MsgId}

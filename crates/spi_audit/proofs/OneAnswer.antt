@@ -1,12 +1,12 @@
 -- There is one answer.
-use Rattle.std.proofs.Common.{◌≡◌, refl, sym, subst, ℕ, List, [], ◌∷◌, ⊎_elim}
+use Rattle.std.proofs.Common.{◌≡◌, refl, ℕ, List, [], ◌∷◌, ⊎_elim}
 use Rattle.spi_term.specs.Term.{Effect, Process}
 use Rattle.spi_term.specs.Counts.{SameEffect}
 use Rattle.spi_effect.proofs.Laws.{same_sym, same_trans}
-use Rattle.spi_rules.specs.Environment.{Env, untrusted}
+use Rattle.spi_rules.specs.Environment.{Env}
 use Rattle.spi_rules.specs.Derivations.{RuleUse, Proves}
 use Rattle.spi_audit.specs.Fits.{of_process}
-use Rattle.spi_audit.specs.Audit.{MisfitAt, Judged, AllPay, FirstUnpaid, IsWrongAt, LeavesUnpaid, IsAudited, AreOneAnswer}
+use Rattle.spi_audit.specs.Audit.{MisfitAt, Judged, FirstUnpaid, IsWrongAt, LeavesUnpaid, IsAudited, AreOneAnswer}
 use Rattle.spi_audit.specs.declared.audited.Audited.{Audited}
 use Rattle.spi_audit.specs.declared.audited.Audited.TheVariants.{Proved, WrongStep, Unpaid}
 use Rattle.spi_audit.proofs.Agreeing.{AllSame, same_next, same_none, judged_same, none_unpaid, unpaid_one, misfit_judged, misfit_one}

@@ -1,8 +1,7 @@
 -- The parts of types by their numbers.
 use Rattle.std.proofs.Common.{◌≡◌, refl, sym, subst, ℕ, ◌<◌, Bool, true, false, length}
 use Rattle.spi_intern.proofs.Lists.{get_below}
-use Rattle.spi_term.specs.Term as Term
-use Rattle.spi_term.specs.Term.{Ty, un, unit_ty, pair_ty, sum_ty, key, nonce}
+use Rattle.spi_term.specs.Term.{Ty, pair_ty, sum_ty, key}
 use Rattle.spi_intern.specs.Given.{IsGiven}
 use Rattle.spi_intern.specs.Meaning.{Means}
 use Rattle.spi_intern.specs.Lent.{SaysTy, says_un, says_unit, says_pair, says_sum, says_key, says_nonce}

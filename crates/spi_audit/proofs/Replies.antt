@@ -1,5 +1,5 @@
 -- Uses of the rules of messages, held against what they are asked of.
-use Rattle.std.proofs.Common.{◌≡◌, refl, sym, ap, ◌∙◌, subst, ℕ, ◌≤◌, length, arith, Bool, true, false, true≢false, List, [], ◌∷◌, Option, Some, None, ◌⊎◌, inl, inr, ⊎_elim}
+use Rattle.std.proofs.Common.{◌≡◌, refl, sym, ap, ◌∙◌, subst, ℕ, ◌≤◌, length, arith, Bool, true, false, true≢false, List, [], ◌∷◌, Some, None, ◌⊎◌, inl, inr, ⊎_elim}
 use Rattle.std.specs.Prelude.{slice_get}
 use Rattle.spi_term.specs.Term.{Message, name, unit, pair, in_left, in_right, enc, Ty, un, unit_ty, pair_ty, sum_ty, key, nonce}
 use Rattle.spi_rules.specs.Environment.{Env}
@@ -7,7 +7,6 @@ use Rattle.spi_rules.specs.declared.rule.Rule.{Rule}
 use Rattle.spi_rules.specs.declared.rule.Rule.TheVariants.{MsgUnit, MsgUnitUn, MsgPairUn, MsgInl, MsgInlUn, MsgInr, MsgInrUn, MsgEncUn, MsgName, MsgEnc}
 use Rattle.spi_intern.specs.declared.store.Store.{Store}
 use Rattle.spi_intern.specs.declared.messages.MsgId.{MsgId}
-use Rattle.spi_intern.specs.declared.messages.MsgPart.{MsgPart}
 use Rattle.spi_intern.specs.declared.messages.MsgPart.TheVariants as P
 use Rattle.spi_intern.specs.declared.types.TyId.{TyId}
 use Rattle.spi_intern.specs.Meaning.{Means}
@@ -20,10 +19,9 @@ use Rattle.spi_message.proofs.Standing.{stand_at, stand_length}
 use Rattle.spi_message.specs.Judging.{Numbered, Stands}
 use Rattle.spi_message.specs.Tests.{is_un, is_unit}
 use Rattle.spi_audit.specs.declared.asked.Asked.TheVariants as A
-use Rattle.spi_audit.specs.declared.asked.Premises.{Premises}
-use Rattle.spi_audit.specs.declared.asked.Premises.TheVariants.{NoPremise, OnePremise, TwoPremises, ThreePremises}
+use Rattle.spi_audit.specs.declared.asked.Premises.TheVariants.{NoPremise, OnePremise, TwoPremises}
 use Rattle.spi_audit.specs.Fits.{Subject, of_message, plain, Fits, fits_unit, fits_unit_un, fits_pair_un, fits_inl, fits_inl_un, fits_inr, fits_inr_un, fits_enc_un, fits_name, fits_enc}
-use Rattle.spi_audit.specs.Asked.{IsAsked, AreAsked, asked_none, asked_next, AnsweredMessage, AnswersPart, IsSumOf, IsNoSum}
+use Rattle.spi_audit.specs.Asked.{IsAsked, asked_none, asked_next, AnsweredMessage, AnswersPart, IsSumOf, IsNoSum}
 
 un_of : (u : Ty) → is_un u ≡ true → u ≡ un
 un_of un e = refl

@@ -1,14 +1,14 @@
 -- The changes of uses that fit are in scope, and where all pay no effect has a name out of scope.
-use Rattle.std.proofs.Common.{◌≡◌, refl, sym, ap, ◌∙◌, subst, ℕ, zero, suc, ◌+◌, ◌<◌, ◌≤◌, Bool, true, false, not, ◌&&◌, ◌||◌, true≢false, List, [], ◌∷◌, ◌++◌, length, Option, Some, None, ◌⊎◌, inl, inr, ⊎_elim, arith, append_assoc, length-append}
+use Rattle.std.proofs.Common.{◌≡◌, refl, sym, ap, ◌∙◌, subst, ℕ, zero, suc, ◌+◌, ◌<◌, ◌≤◌, Bool, true, false, not, ◌||◌, true≢false, List, [], ◌∷◌, ◌++◌, length, Option, Some, None, ◌⊎◌, inl, inr, ⊎_elim, arith}
 use Rattle.std.specs.Prelude.{if◌then◌else◌, ⊤}
-use Rattle.spi_term.specs.Term.{Message, bound, name, unit, pair, in_left, in_right, enc, hash, Atom, ends, checks, many, Effect, Ty, un, pair_ty, nonce, Process, check}
+use Rattle.spi_term.specs.Term.{Message, bound, name, unit, pair, in_left, in_right, enc, hash, Atom, ends, checks, many, Effect, Ty, un, nonce, Process, check}
 use Rattle.spi_term.specs.Lists.{At, In, in_first, in_later}
 use Rattle.spi_term.specs.Counts.{tally}
-use Rattle.spi_term.specs.Names.{MessageOver, OfAtom, OfEffect, OfTy, OfProcess, TyOver, EffectOver, ProcessOver}
+use Rattle.spi_term.specs.Names.{MessageOver, OfAtom, OfEffect, OfTy, OfProcess, TyOver, ProcessOver}
 use Rattle.spi_term.specs.Substitution.{process_map, put, ty_put, process_put, process_put_two}
-use Rattle.spi_term.proofs.Terms.{over_put_process, over_more_process, over_put_ty, over_more_ty, over_more_message, over_put_message}
+use Rattle.spi_term.proofs.Terms.{over_put_process, over_more_process, over_put_ty, over_more_ty}
 use Rattle.spi_term.proofs.Counting.{in_tally, tally_in, count_tally}
-use Rattle.spi_effect.specs.Made.{mentions, minus, greater}
+use Rattle.spi_effect.specs.Made.{mentions, minus}
 use Rattle.spi_effect.proofs.Made.{minus_difference, or_false, and_true}
 use Rattle.spi_count.specs.Sums.{name_bound, message_of}
 use Rattle.spi_count.proofs.Standing.{in_mentions}
@@ -17,7 +17,7 @@ use Rattle.spi_rules.specs.Good.{GoodEffect}
 use Rattle.spi_rules.specs.Processes.{IsNonce, nonce_name, nonce_cast}
 use Rattle.spi_rules.specs.Derivations.{RuleUse}
 use Rattle.spi_rules.specs.declared.rule.Rule.TheVariants.{ProcCheck}
-use Rattle.spi_rules.proofs.Typing.{length_extended, at_cases, at_below}
+use Rattle.spi_rules.proofs.Typing.{length_extended, at_cases}
 use Rattle.spi_rules.proofs.Good.{good_over}
 use Rattle.spi_audit.specs.Fits.{Subject, of_message, of_process, Fits, fits_name, fits_unit, fits_unit_un, fits_pair, fits_pair_un, fits_inl, fits_inl_un, fits_inr, fits_inr_un, fits_enc, fits_enc_un, fits_hash, fits_stop, fits_out, fits_in, fits_repeat, fits_split, fits_split_un, fits_match, fits_match_un, fits_case, fits_case_un, fits_decrypt, fits_decrypt_un, fits_check, fits_check_un, fits_begin, fits_end, fits_end_many, fits_cast, fits_cast_un, fits_new, fits_par, fits_sub}
 use Rattle.spi_audit.specs.Forms.{enter}

@@ -1,17 +1,17 @@
 -- What the answer says, where each use fits.
-use Rattle.std.proofs.Common.{◌≡◌, refl, sym, ap, ◌∙◌, subst, ℕ, zero, suc, ◌+◌, ◌<◌, List, [], ◌∷◌, length, Option, Some, None, inr, arith, map, true, false}
+use Rattle.std.proofs.Common.{◌≡◌, refl, sym, ap, subst, ℕ, zero, suc, ◌+◌, ◌<◌, List, [], ◌∷◌, length, Option, None, inr, arith, map, true, false}
 use Rattle.std.specs.Prelude.{Vec, vec_len, ◌==◌}
 use Rattle.std.specs.declared.alloc.Global.{Global}
 use Rattle.std.proofs.lemmas.Bool.{eqb-true, eqb-false}
 use Rattle.spi_term.specs.declared.term.Atom as Code
 use Rattle.spi_audit.proofs.Turning.{no_items}
 use Rattle.std.proofs.lemmas.List.{length-replicate}
-use Rattle.spi_term.specs.Term.{Effect, Atom, Ty, un, Process}
+use Rattle.spi_term.specs.Term.{Effect, Ty, un, Process}
 use Rattle.spi_term.specs.Names.{ProcessOver, TyOver}
 use Rattle.spi_term.specs.Lists.{At, at_first, at_later, in_first}
 use Rattle.spi_term.specs.Counts.{count, SameEffect}
 use Rattle.spi_term.specs.View as View
-use Rattle.spi_rules.specs.Environment.{Env, untrusted}
+use Rattle.spi_rules.specs.Environment.{untrusted}
 use Rattle.spi_rules.specs.Derivations.{RuleUse, Proves, effect_uses}
 use Rattle.spi_rules.specs.Processes.{HasEffect}
 use Rattle.spi_audit.specs.declared.audited.Audited.{Audited}
@@ -22,7 +22,7 @@ use Rattle.spi_audit.specs.Changes.{Change, run, top, first_unpaid, AreScoped}
 use Rattle.spi_audit.specs.Walking.{Trace}
 use Rattle.spi_audit.specs.Settled.{IsLeft, IsSettled}
 use Rattle.spi_audit.proofs.Holding.{in_count, count_none}
-use Rattle.spi_audit.proofs.Sound.{Typed, sound_one}
+use Rattle.spi_audit.proofs.Sound.{sound_one}
 use Rattle.spi_audit.proofs.Computed.{Verdict, trace_judged}
 use Rattle.spi_audit.proofs.Scoping.{EnvOver, trace_scoped}
 

@@ -1,9 +1,9 @@
 -- What one use does to the accounts of the open processes.
-use Rattle.std.proofs.Common.{◌≡◌, refl, sym, ap, ◌∙◌, subst, ℕ, zero, suc, ◌≤◌, Bool, true, not, ◌&&◌, List, [], ◌∷◌, ◌++◌, reverse, length, ◌<◌, Some, Result, Ok, Err, IfOk, arith}
-use Rattle.std.specs.Prelude.{slice_get, Vec, vec_len}
+use Rattle.std.proofs.Common.{◌≡◌, refl, sym, ap, ◌∙◌, subst, ℕ, suc, ◌≤◌, Bool, true, not, ◌&&◌, List, [], ◌∷◌, ◌++◌, reverse, length, ◌<◌, Result, Ok, Err, IfOk, arith}
+use Rattle.std.specs.Prelude.{Vec, vec_len}
 use Rattle.std.specs.declared.alloc.Global.{Global}
 use Rattle.std.proofs.lemmas.List.{reverse-append}
-use Rattle.spi_term.specs.Term.{Message, name, Atom, ends, checks, many, Effect, nonce}
+use Rattle.spi_term.specs.Term.{name, Atom, ends, checks, many, Effect, nonce}
 use Rattle.spi_effect.specs.Made.{minus, greater, mentions, is_within}
 use Rattle.spi_intern.specs.declared.store.Store.{Store}
 use Rattle.spi_intern.specs.declared.messages.MsgId.{MsgId}
@@ -19,8 +19,8 @@ use Rattle.spi_audit.specs.declared.keys.Keys.{Keys}
 use Rattle.spi_audit.specs.declared.accounts.Account.{Account}
 use Rattle.spi_audit.specs.declared.notes.Note.{Note}
 use Rattle.spi_audit.specs.declared.notes.Note.TheVariants as N
-use Rattle.spi_audit.specs.Accounts.{IsKeyed, HasKey, HaveKeys, Held, IsHeld, Holds, holds_none, holds_next, LeavesOne, LeavesTwo, HoldsMore, HoldsLess}
-use Rattle.spi_audit.specs.Changes.{Change, nothing_done, no_effect, same_effect, one_left, two_left, served, chosen, checked, begun, ended, ended_many, casted, made, summed, subsumed_to, Below, IsScoped, before, own, scope_in, after, pays, top}
+use Rattle.spi_audit.specs.Accounts.{IsKeyed, HasKey, HaveKeys, Held, IsHeld, Holds, holds_next, LeavesOne, LeavesTwo, HoldsMore, HoldsLess}
+use Rattle.spi_audit.specs.Changes.{Change, served, chosen, summed, Below, IsScoped, before, own, scope_in, after, pays, top}
 use Rattle.spi_audit.specs.Notes.{NotedAs, noted_nothing, noted_empty, noted_same, noted_one, noted_two, noted_serve, noted_case, noted_check, noted_begin, noted_end, noted_many, noted_cast, noted_make, noted_both, noted_taken, ChangesOne, ChangesAll, IsBefore, IsBeforeOne, IsUnaryNote, AtomVec}
 
 abbrev first_of : List ℕ → ℕ

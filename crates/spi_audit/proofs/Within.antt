@@ -1,15 +1,15 @@
 -- Whether one effect is within another, by their counts.
-use Rattle.std.proofs.Common.{◌≡◌, refl, sym, ap, ◌∙◌, subst, ℕ, zero, suc, ◌<◌, ◌≤◌, Bool, true, false, ◌&&◌, true≢false, eqb, List, [], ◌∷◌, ◌⊎◌, inl, inr, ⊎_elim, arith, ◌↔◌, IsTrue}
+use Rattle.std.proofs.Common.{◌≡◌, refl, sym, ap, ◌∙◌, subst, ℕ, ◌<◌, ◌≤◌, Bool, true, false, ◌&&◌, eqb, ◌⊎◌, inl, inr, ⊎_elim, arith, ◌↔◌, IsTrue}
 use Rattle.std.specs.Prelude.{if◌then◌else◌}
 use Rattle.std.specs.BTreeMap.{BTreeMap}
 use Rattle.spi_term.specs.Term.{Message, Atom, ends, checks, many, Effect}
-use Rattle.spi_term.specs.Counts.{count, SameEffect}
-use Rattle.spi_effect.specs.Made.{is_within, is_free_at, mentions}
+use Rattle.spi_term.specs.Counts.{count}
+use Rattle.spi_effect.specs.Made.{is_within}
 use Rattle.spi_effect.proofs.Made.{is_within_sound, is_within_complete, and_true, both_true}
 use Rattle.spi_intern.specs.declared.store.Store.{Store}
 use Rattle.spi_intern.proofs.Lists.{truths}
 use Rattle.spi_count.specs.Counts.{count_of, IsNothing}
-use Rattle.spi_count.specs.Sums.{name_bound, key_of, kind_of, message_of, part, Puts, Stands}
+use Rattle.spi_count.specs.Sums.{name_bound, key_of, kind_of, message_of, part, Puts}
 use Rattle.spi_count.specs.declared.sum.AtomKind.{AtomKind}
 use Rattle.spi_count.specs.declared.sum.AtomKind.TheVariants.{End, Check, Many}
 use Rattle.spi_count.specs.declared.sum.Sum.{Sum}
@@ -18,8 +18,7 @@ use Rattle.std.proofs.lemmas.Bool.{eqb-true}
 use Rattle.spi_audit.specs.declared.keys.Keys.{Keys}
 use Rattle.spi_audit.specs.Accounts.{with_keys, IsKeyed, SumOf, HeldBy, outer}
 use Rattle.spi_audit.specs.Changes.{Below}
-use Rattle.spi_audit.proofs.Summed.{numbers}
-use Rattle.spi_audit.proofs.Holding.{zero_or, in_count, count_in, below_none, last_free, bound_of, outer_true}
+use Rattle.spi_audit.proofs.Holding.{zero_or, count_in, below_none, last_free, bound_of, outer_true}
 
 cases_of : (b : Bool) → (b ≡ true) ⊎ (b ≡ false)
 cases_of true = inl refl

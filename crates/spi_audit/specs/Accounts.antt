@@ -1,15 +1,15 @@
 -- Effects by counts, and what changes do to them. The atoms that have a name out of scope are held by their names alone.
-use Rattle.std.specs.Prelude.{◌≡◌, ℕ, suc, ◌<◌, ◌≤◌, Bool, true, false, not, ◌||◌, nat_lt, length, slice_get, List, [], ◌∷◌, ◌++◌, reverse, Some, nat_eq}
+use Rattle.std.specs.Prelude.{◌≡◌, ℕ, suc, ◌<◌, ◌≤◌, Bool, true, false, not, ◌||◌, nat_lt, List, [], ◌∷◌, ◌++◌, nat_eq}
 use Rattle.std.specs.BTreeMap.{BTreeMap}
 use Rattle.indexmap.specs.IndexMap.{get}
 use Rattle.spi_term.specs.Counts.{count}
-use Rattle.spi_term.specs.Term.{Message, Atom, ends, checks, many, Effect, nonce}
+use Rattle.spi_term.specs.Term.{Message, Atom, ends, checks, many, Effect}
 use Rattle.spi_term.specs.Lists.{In}
 use Rattle.spi_intern.specs.declared.store.Store.{Store}
 use Rattle.spi_intern.specs.declared.atoms.AtomId.{AtomId}
 use Rattle.spi_intern.specs.Table.{TellsAll}
 use Rattle.spi_intern.specs.Atoms.{SaysAtom}
-use Rattle.spi_intern.specs.Meaning.{Means, NoneTwice}
+use Rattle.spi_intern.specs.Meaning.{NoneTwice}
 use Rattle.spi_effect.specs.Effect.{IsMany}
 use Rattle.spi_effect.specs.Made.{is_free, is_free_at, mentions, minus}
 use Rattle.spi_count.specs.Counts.{count_of}

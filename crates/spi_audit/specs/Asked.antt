@@ -1,5 +1,5 @@
 -- What uses are asked of, by the numbers of a judge's store, and the premises of a use that fits.
-use Rattle.std.specs.Prelude.{◌≡◌, ℕ, ◌≤◌, List, [], ◌∷◌, ◌++◌, drop, take, length, slice_get, Option, Some, None, true, false}
+use Rattle.std.specs.Prelude.{◌≡◌, ℕ, List, [], ◌∷◌, ◌++◌, drop, length, slice_get, Option, Some, None, true, false}
 use Rattle.spi_term.specs.Lists.{At}
 use Rattle.spi_term.specs.Term.{Message, name, Ty, un, pair_ty, sum_ty, key, Leaf, Prefix, Fork, Process, leaf, prefix, fork, binds, fork_binds}
 use Rattle.spi_term.specs.Spelling.{Shape, flat, numbered}

@@ -1,6 +1,6 @@
 -- Forms as they are entered: the types that a form binds, and its processes with their binders opened.
 use Rattle.std.specs.Prelude.{ℕ, zero, suc, [], ◌∷◌, length}
-use Rattle.spi_term.specs.Term.{Message, name, Effect, Ty, un, unit_ty, pair_ty, sum_ty, key, nonce, Prefix, Recvs, Serves, Splits, Selects, Decrypts, Checks, Begins, Ends, EndManys, Casts, Makes, Fork, Cases, Pars, Process}
+use Rattle.spi_term.specs.Term.{name, Effect, Ty, un, unit_ty, pair_ty, sum_ty, key, nonce, Prefix, Recvs, Serves, Splits, Selects, Decrypts, Checks, Begins, Ends, EndManys, Casts, Makes, Fork, Cases, Pars, Process}
 use Rattle.spi_term.specs.Substitution.{process_map, put, ty_put}
 use Rattle.spi_rules.specs.Environment.{Env}
 

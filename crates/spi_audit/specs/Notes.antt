@@ -1,5 +1,5 @@
 -- What the forward pass keeps of uses by numbers, and what that stands for.
-use Rattle.std.specs.Prelude.{◌≡◌, ℕ, ◌≤◌, ⊤, Bool, true, false, length, slice_get, List, [], ◌∷◌, ◌++◌, reverse, Option, Some, None, IfSome, nat_eq, Vec}
+use Rattle.std.specs.Prelude.{◌≡◌, ℕ, ◌≤◌, ⊤, Bool, true, false, slice_get, List, [], ◌∷◌, ◌++◌, reverse, Option, Some, None, nat_eq, Vec}
 use Rattle.std.specs.declared.alloc.Global.{Global}
 use Rattle.indexmap.specs.IndexMap.{get}
 use Rattle.spi_term.specs.Term.{Message, name, Atom, Effect, un, nonce}

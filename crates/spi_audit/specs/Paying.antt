@@ -1,13 +1,12 @@
 -- The effect of a use of a rule from those of its premises, and where the use pays: where its side conditions on those
 -- effects hold.
-use Rattle.std.specs.Prelude.{ℕ, suc, List, [], ◌∷◌, length}
+use Rattle.std.specs.Prelude.{suc, List, [], ◌∷◌, length}
 use Rattle.spi_term.specs.Names.{EffectAvoids}
 use Rattle.spi_term.specs.Term.{Message, name, ends, checks, many, Effect, Ty, nonce, Process, check, begin, end, end_many, cast}
 use Rattle.spi_effect.specs.Effect.{Within, IsSum, IsDifference, IsGreater, AllMany}
 use Rattle.spi_rules.specs.Environment.{Env}
 use Rattle.spi_rules.specs.Processes.{IsNonce}
 use Rattle.spi_rules.specs.Derivations.{RuleUse}
-use Rattle.spi_rules.specs.declared.rule.Rule.{Rule}
 use Rattle.spi_rules.specs.declared.rule.Rule.TheVariants.{ProcStop, ProcOut, ProcIn, ProcRepeat, ProcSplit, ProcSplitUn, ProcMatch, ProcMatchUn, ProcCase, ProcCaseUn, ProcDecrypt, ProcDecryptUn, ProcCheck, ProcCheckUn, ProcBegin, ProcEnd, ProcEndMany, ProcCast, ProcCastUn, ProcNew, ProcPar}
 use Rattle.spi_audit.specs.Fits.{Subject, of_message, of_process, plain, subsumed}
 

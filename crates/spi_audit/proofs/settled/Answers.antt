@@ -1,6 +1,5 @@
 use Rattle.std.proofs.Common.{◌∙◌, sym, ℕ, List, [], ◌∷◌}
 use Rattle.spi_term.specs.Term as Term
-use Rattle.spi_audit.specs.declared.audited.Audited.{Audited}
 use Rattle.spi_audit.specs.Accounts.{Held}
 use Rattle.spi_audit.specs.Changes.{Change, AreScoped, Below, run, top}
 use Rattle.spi_audit.specs.Notes.{AreNoted}

@@ -1,4 +1,4 @@
-use Rattle.std.proofs.Common.{true, false, true≢false, sym, refl}
+use Rattle.std.proofs.Common.{true≢false, sym, refl}
 use Rattle.spi_audit.proofs.Holding.{cut_clean, cut_found}
 use Rattle.spi_audit.proofs.accounts.cut.Goals as goal
 

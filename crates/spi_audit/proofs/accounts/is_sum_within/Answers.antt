@@ -1,5 +1,4 @@
 use Rattle.std.proofs.Common.{subst, ◌<◌}
-use Rattle.spi_count.specs.Counts.{IsNothing}
 use Rattle.spi_audit.proofs.Within.{taken_all, taken_more}
 use Rattle.spi_audit.proofs.accounts.is_sum_within.Goals as goal
 

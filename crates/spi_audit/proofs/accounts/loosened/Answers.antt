@@ -1,5 +1,4 @@
-use Rattle.std.proofs.Common.{subst, sym}
-use Rattle.spi_audit.proofs.Loosening.{loosened_start, loosened_next, loosened_key, loosened_end}
+use Rattle.spi_audit.proofs.Loosening.{loosened_next, loosened_key, loosened_end}
 use Rattle.spi_audit.specs.Accounts.{outer}
 use Rattle.spi_audit.proofs.accounts.loosened.Goals as goal
 

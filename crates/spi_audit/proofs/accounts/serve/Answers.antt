@@ -1,4 +1,4 @@
-use Rattle.std.proofs.Common.{sym, ap, ◌∙◌, ◌&&◌, suc}
+use Rattle.std.proofs.Common.{ap, ◌∙◌, ◌&&◌, suc}
 use Rattle.spi_effect.specs.Made.{are_many}
 use Rattle.spi_audit.proofs.Loosening.{many_is}
 use Rattle.spi_audit.proofs.accounts.serve.Goals as goal

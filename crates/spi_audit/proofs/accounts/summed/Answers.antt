@@ -1,5 +1,4 @@
 use Rattle.std.proofs.Common.{subst, sym, ◌++◌}
-use Rattle.spi_effect.specs.Made.{greater}
 use Rattle.spi_audit.specs.Accounts.{HeldBy, outer}
 use Rattle.spi_audit.proofs.Holding.{held_joined}
 use Rattle.spi_audit.proofs.accounts.summed.Goals as goal

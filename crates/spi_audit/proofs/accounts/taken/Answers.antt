@@ -1,4 +1,4 @@
-use Rattle.std.proofs.Common.{[], ◌∙◌}
+use Rattle.std.proofs.Common.{◌∙◌}
 use Rattle.spi_audit.proofs.Holding.{held_more, held_below, below_none}
 use Rattle.spi_audit.proofs.Within.{within_is}
 use Rattle.spi_audit.proofs.accounts.taken.Goals as goal

@@ -1,4 +1,4 @@
-use Rattle.std.proofs.Common.{◌≡◌, ℕ, Bool, true, false, Option, Some, [], ◌∷◌, ◌∙◌, refl, sym, ap, subst, length, arith}
+use Rattle.std.proofs.Common.{◌≡◌, ℕ, Bool, true, false, Option, Some, ◌∙◌, sym, ap, length, arith}
 use Rattle.std.specs.Prelude.{if◌then◌else◌}
 use Rattle.spi_audit.proofs.Turning.{no_items}
 use Rattle.spi_audit.proofs.Passing.{passed_start, passed_next, passed_before, passed_root, passed_first, passed_some, small_last, shorter}

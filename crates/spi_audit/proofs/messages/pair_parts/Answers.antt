@@ -1,5 +1,5 @@
 use Rattle.std.proofs.Common.{refl}
-use Rattle.spi_intern.specs.declared.store.TyPart.TheVariants.{Un, Unit as NoParts, Pair, Sum, Key, Nonce}
+use Rattle.spi_intern.specs.declared.store.TyPart.TheVariants.{Un, Unit as NoParts, Sum, Key, Nonce}
 use Rattle.spi_audit.proofs.Parts.{given_place, pair_told, no_pair_told}
 use Rattle.spi_audit.proofs.messages.pair_parts.Goals as goal
 

@@ -1,5 +1,5 @@
 use Rattle.std.proofs.Common.{refl}
-use Rattle.spi_intern.specs.declared.store.TyPart.TheVariants.{Un, Unit as NoParts, Pair, Sum, Key, Nonce}
+use Rattle.spi_intern.specs.declared.store.TyPart.TheVariants.{Un, Unit as NoParts, Pair, Sum, Nonce}
 use Rattle.spi_audit.proofs.Parts.{given_place, key_told, no_key_told}
 use Rattle.spi_audit.proofs.messages.payload_of.Goals as goal
 

@@ -1,6 +1,6 @@
 use Rattle.std.proofs.Common.{ap}
 use Rattle.spi_audit.specs.declared.asked.Asked.TheVariants as A
-use Rattle.spi_audit.specs.declared.asked.Binding.TheVariants.{Nothing, OneName, TwoNames}
+use Rattle.spi_audit.specs.declared.asked.Binding.TheVariants.{Nothing}
 use Rattle.spi_audit.specs.Asked.{bound_none}
 use Rattle.spi_audit.proofs.opening.begun.Goals as goal
 

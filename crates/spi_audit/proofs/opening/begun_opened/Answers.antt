@@ -2,7 +2,7 @@ use Rattle.std.proofs.Common.{ap}
 use Rattle.spi_term.specs.View.{message, ty}
 use Rattle.spi_intern.proofs.Meanings.{means_keeps}
 use Rattle.spi_audit.specs.declared.asked.Asked.TheVariants as A
-use Rattle.spi_audit.specs.declared.asked.Binding.TheVariants.{Nothing, OneName, TwoNames}
+use Rattle.spi_audit.specs.declared.asked.Binding.TheVariants.{OneName}
 use Rattle.spi_audit.specs.Asked.{bound_one}
 use Rattle.spi_audit.proofs.opening.begun_opened.Goals as goal
 

@@ -1,11 +1,11 @@
-use Rattle.std.proofs.Common.{ap, ◌∙◌, subst, sym, length}
+use Rattle.std.proofs.Common.{ap, ◌∙◌, subst}
 use Rattle.spi_term.specs.Term.{name}
 use Rattle.spi_term.specs.Substitution.{ty_put}
 use Rattle.spi_term.specs.View.{ty}
 use Rattle.spi_intern.specs.Meaning.{Means}
 use Rattle.spi_intern.proofs.Meanings.{means_keeps}
 use Rattle.spi_audit.specs.declared.asked.Asked.TheVariants as A
-use Rattle.spi_audit.specs.declared.asked.Binding.TheVariants.{Nothing, OneName, TwoNames}
+use Rattle.spi_audit.specs.declared.asked.Binding.TheVariants.{TwoNames}
 use Rattle.spi_audit.specs.Asked.{bound_two}
 use Rattle.spi_message.proofs.Standing.{stand_length}
 use Rattle.spi_audit.proofs.opening.begun_two.Goals as goal
