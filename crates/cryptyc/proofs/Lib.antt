@@ -15,3 +15,4 @@ pub mod Playing
 pub mod Ending
 pub mod Exact
 pub mod Played
+pub mod Picked

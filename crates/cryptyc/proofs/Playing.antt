@@ -50,6 +50,13 @@ lists_long bytes text ss count (Ok a) e c l h =
     subst (λ s. ListsTo bytes ss s a.output.items) (sym h.0) (long_line bytes a.output.items text ss count e c l h.1)
 lists_long bytes text ss count (Err s) e c l h = tt
 
+-- the line of a refused play
+pub refused_line : (bytes shown : List ℕ) (number : ℕ) (fault other : PlayFault) (result : Result Answer Stop) → fault ≡ other → other ≢ OutOfMemory → number ≡ play_number other → shown ≡ play_shown other → IfOk result (λ a. (a.status ≡ Refused) × IsPlaceless bytes number shown a.output.items) → IfOk result (λ a. (a.status ≡ Refused) × (fault ≢ OutOfMemory) × IsPlaceless bytes (play_number fault) (play_shown fault) a.output.items)
+refused_line bytes shown number fault other (Ok a) e some n s (status, (r, number_is, offset, shown_is, line)) =
+    let P : PlayFault → Type 0 = λ f. (a.status ≡ Refused) × (f ≢ OutOfMemory) × IsPlaceless bytes (play_number f) (play_shown f) a.output.items in
+    subst P (sym e) (status, some, (r, number_is ∙ n, offset, shown_is ∙ s, line))
+refused_line bytes shown number fault other (Err x) e some n s h = tt
+
 -- the pool of a file's play
 pooled : (pool : Pooled) (f : File) (o : Spelling) → pool.configuration ≡ beside f.process.names f.process.process o.process → pool.most ≡ 1000 → pool ≡ pool_of play_places (meant f) o
 pooled pool f o e m =

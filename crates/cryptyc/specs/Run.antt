@@ -6,12 +6,17 @@ use Rattle.spi_io.specs.Causes.{PutsPrefix}
 use Rattle.cryptyc.specs.declared.asked.Command.{Command}
 use Rattle.cryptyc.specs.declared.status.Status.{Status}
 use Rattle.cryptyc.specs.declared.status.Status.TheVariants.{Yes, No, Refused, ReadFault, WriteFault, NoMemory, Usage}
+use Rattle.spi_run.specs.Reduction.{Step, Event}
+use Rattle.spi_scope.specs.StandsFor.{Meant}
+use Rattle.spi_show.specs.Steps.{schedule_text}
 use Rattle.spi_play.specs.Way.{Seen}
-use Rattle.cryptyc.specs.Spelled.{SpellsDerivable, SpellsUnderivable, SpellsNone, IsSafe, IsManySafe}
+use Rattle.spi_play.specs.Outcome.{AskedTell}
+use Rattle.cryptyc.specs.Spelled.{SpellsFile, SpellsDerivable, SpellsUnderivable, SpellsNone, IsSafe, IsManySafe}
 use Rattle.cryptyc.specs.Answer.{ChecksTo}
 use Rattle.cryptyc.specs.Deriving.{IsListing, IsLongListing}
 use Rattle.cryptyc.specs.Verifying.{SpellsProved, SpellsUnproved, SpellsUnderived, VerifiesTo}
 use Rattle.cryptyc.specs.Replaying.{SpellsPaid, SpellsUnpaid, SpellsUnplayed}
+use Rattle.cryptyc.specs.Playing.{IsPlayed}
 use Rattle.cryptyc.specs.Commands.{AnswersTo}
 use Rattle.spi_spell.specs.Joined.{joined}
 
@@ -83,3 +88,9 @@ pub record IsReplayed (bytes : List ℕ) (status : Status) : Type 0 where
   pub no : (status ≡ No) ↔ SpellsUnpaid bytes
   pub refused : (status ≡ Refused) ↔ (SpellsNone bytes ⊎ SpellsUnplayed bytes)
   pub refutes : status ≡ No → ¬ SpellsDerivable bytes
+
+-- After a yes of `play`, where those that may be asked told their ways before, the text that was appended is the one of the
+-- steps of any such play of the file's process that has ended: there is one.
+pub record IsPlayedOn (most : ℕ) (only : Option ℕ) (bytes : List ℕ) (before after : List Seen) (old new : Option (List ℕ)) (status : Status) : Type 0 where
+  pub alone : status ≡ Yes → AskedTell only before → (file : Meant) (others : List Seen) (steps : List Step) (events : List Event)
+      → SpellsFile bytes file → IsPlayed file most only before others steps events → Appends old new (schedule_text steps)

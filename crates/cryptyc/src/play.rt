@@ -1,9 +1,10 @@
 // The command `play`.
-ghost use Rattle.std.specs.Prelude.{◌≡◌, ◌≢◌, ◌<◌, ◌≤◌, length, map, vec_len, IfOk, OnErr, Err, Some};
+ghost use Rattle.std.specs.Prelude.{◌≡◌, ◌≢◌, ◌<◌, ◌≤◌, length, map, string_bytes, vec_len, IfOk, IsSome, OnErr, Err, Some};
 ghost use Rattle.std.specs.Option.{ForSome};
 ghost use Rattle.spi_run.specs.Opponent.{IsOpponent};
 ghost use Rattle.spi_run.specs.View.{step as step_of};
 ghost use Rattle.spi_play.specs.Way.{seen_of};
+ghost use Rattle.spi_report.specs.Names.{name_of};
 ghost use Rattle.spi_scope.specs.Files.{meant};
 ghost use Rattle.cryptyc.specs.Answer.{IsPlaceless};
 ghost use Rattle.cryptyc.specs.Playing.{ListsTo, PlaysTo, play_number, play_shown};
@@ -105,16 +106,34 @@ fn refused(alloc: Global, bytes: &[u8], fault: &PlayFault) -> Result<Answer, Sto
     ensures ok { IfOk result (λ answer. (answer.status ≡ Status.Refused) × (fault.now ≢ PlayFault.NoMemory) × IsPlaceless bytes.now (play_number fault.now) (play_shown fault.now) answer.output.items) }
     ensures err { OnErr result (result ≡ Err Stop.NoMemory) }
 {
-    let (number, shown) = match fault {
+    match fault {
         PlayFault::BadPick {
             player,
             picked,
             ready,
-        } => (70, format!(in alloc; "{player} {picked} {ready}")?),
-        PlayFault::RunMessageTooLarge { nodes } => (71, format!(in alloc; "{nodes}")?),
-        PlayFault::TooManyPlaces { places } => (72, format!(in alloc; "{places}")?),
-        PlayFault::NoMemory => return Err(Stop::NoMemory),
-    };
+        } => {
+            let shown = format!(in alloc; "{player} {picked} {ready}")?;
+            placeless(alloc, bytes, 70, shown)
+        }
+        PlayFault::RunMessageTooLarge { nodes } => {
+            let shown = format!(in alloc; "{nodes}")?;
+            placeless(alloc, bytes, 71, shown)
+        }
+        PlayFault::TooManyPlaces { places } => {
+            let shown = format!(in alloc; "{places}")?;
+            placeless(alloc, bytes, 72, shown)
+        }
+        PlayFault::NoMemory => Err(Stop::NoMemory),
+    }
+}
+
+/// The line of a refusal without a place.
+fn placeless(alloc: Global, bytes: &[u8], number: u32, shown: String) -> Result<Answer, Stop>
+    requires sized { length bytes.now ≤ 16_777_216 }
+    requires named { IsSome (name_of number) }
+    ensures ok { IfOk result (λ answer. (answer.status ≡ Status.Refused) × IsPlaceless bytes.now number (string_bytes shown) answer.output.items) }
+    ensures err { OnErr result (result ≡ Err Stop.NoMemory) }
+{
     let r = Refusal {
         number,
         offset: None,

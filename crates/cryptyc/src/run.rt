@@ -6,7 +6,7 @@ ghost use Rattle.spi_play.specs.Way.{seen_of};
 ghost use Rattle.cryptyc.specs.Asked.{asked, is_play, IsWithin};
 ghost use Rattle.cryptyc.specs.Spelled.{limit, SpellsFile, SpellsNone, IsManySafe};
 ghost use Rattle.cryptyc.specs.Answer.{Refuses};
-ghost use Rattle.cryptyc.specs.Run.{Wants, IsAnswered, Ends, Completes, IsExact, IsDerived, IsVerified, IsReplayed};
+ghost use Rattle.cryptyc.specs.Run.{Wants, IsAnswered, Ends, Completes, IsExact, IsDerived, IsVerified, IsReplayed, IsPlayedOn};
 
 use crate::answer::{Answer, Stop, made};
 use crate::asked::{Command, asked_of};
@@ -40,7 +40,7 @@ pub fn run<S: Source, K: Sink>(
     ensures many_to_one { asked (map string_bytes words.now) (vec_len players.old) ≡ Some Command.Check → IfSome (S.left source.old) (λ bytes.
         result ≡ Status.Yes → IsManySafe bytes) }
 
-    // What `derive`, `verify` and `replay` answer, under the same conditions.
+    // What `derive`, `verify`, `replay` and `play` answer, under the same conditions.
     ensures derive { asked (map string_bytes words.now) (vec_len players.old) ≡ Some Command.Derive → IfSome (S.left source.old) (λ bytes.
         ¬ Rose (S.faults source.old) (S.faults source.new) → ¬ Rose (K.faults sink.old) (K.faults sink.new) → result ≢ Status.NoMemory
         → IsDerived bytes (K.holds sink.old) (K.holds sink.new) result) }
@@ -50,6 +50,9 @@ pub fn run<S: Source, K: Sink>(
     ensures replay { asked (map string_bytes words.now) (vec_len players.old) ≡ Some Command.Replay → IfSome (S.left source.old) (λ bytes.
         ¬ Rose (S.faults source.old) (S.faults source.new) → ¬ Rose (K.faults sink.old) (K.faults sink.new) → result ≢ Status.NoMemory
         → IsReplayed bytes result) }
+    ensures play { (most : ℕ) (only : Option ℕ) → asked (map string_bytes words.now) (vec_len players.old) ≡ Some (Command.Play most only) → IfSome (S.left source.old) (λ bytes.
+        ¬ Rose (S.faults source.old) (S.faults source.new) → ¬ Rose (K.faults sink.old) (K.faults sink.new) → result ≢ Status.NoMemory
+        → IsPlayedOn most only bytes (seen_of (λ b. times b) (λ b. way b) players.old.items) (seen_of (λ b. times b) (λ b. way b) players.new.items) (K.holds sink.old) (K.holds sink.new) result) }
 
     // Where the source tells its bytes, the status is the one that these words and bytes ask for, and its output is appended.
     ensures answer { IfSome (S.left source.old) (λ bytes. Ends (Wants (asked (map string_bytes words.now) (vec_len players.old)) bytes (seen_of (λ b. times b) (λ b. way b) players.old.items) (seen_of (λ b. times b) (λ b. way b) players.new.items)) (K.holds sink.old) (K.holds sink.new) result) }

@@ -1,6 +1,7 @@
 ghost use Rattle.std.specs.Prelude.{◌≤◌};
 
 use super::*;
+use crate::asked::{Command, asked_of};
 use spi_io::{MemorySink, MemorySource, PlainSink, PlainSource};
 use std::alloc::Global;
 use std::test::Fail;
@@ -125,8 +126,44 @@ fn other_words_get_the_usage_line(rt: HostRuntime) -> Result<(), Fail> {
     let no_commands: [&[&str]; 5] = [&[], &["check", "now"], &["Check"], &["check "], &["play"]];
     for words in no_commands {
         let (sink, ended) = answer(rt.alloc(), words, b"process stop")?;
-        assert_eq!(rt; sink.bytes(), b"usage: check | derive | verify | replay\n".as_slice());
+        assert_eq!(rt; sink.bytes(), b"usage: check | derive | verify | replay | play --steps N [--player I]\n".as_slice());
         assert_eq!(rt; ended, 6);
+    }
+    Ok(())
+}
+
+/// Words, and what they ask for where there are three players.
+const ASKED: [(&[&str], Option<Command>); 13] = [
+    (&["play", "--steps", "0"], Some(Command::Play { most: 0, only: None })),
+    (&["play", "--steps=1000"], Some(Command::Play { most: 1_000, only: None })),
+    (
+        &["play", "--player", "1", "--steps", "5"],
+        Some(Command::Play { most: 5, only: Some(1) }),
+    ),
+    (
+        &["play", "--steps=5", "--player=2"],
+        Some(Command::Play { most: 5, only: Some(2) }),
+    ),
+    (&["play", "--steps", "007"], Some(Command::Play { most: 7, only: None })),
+    (&["play", "--steps"], None),
+    (&["play", "--steps="], None),
+    (&["play", "--steps", "1001"], None),
+    (&["play", "--steps", "1", "--steps", "2"], None),
+    (&["play", "--player", "3", "--steps", "1"], None),
+    (&["play", "--steps", "-1"], None),
+    (&["play", "--steps", "0000000001"], None),
+    (&["check", "--steps", "1"], None),
+];
+
+#[test]
+fn words_ask_for_plays(rt: HostRuntime) -> Result<(), Fail> {
+    let alloc = rt.alloc();
+    for (words, command) in ASKED {
+        let mut asked = Vec::new(alloc);
+        for word in words {
+            asked.push(String::from_str(alloc, word)?)?;
+        }
+        assert_eq!(rt; asked_of(&asked, 3), command);
     }
     Ok(())
 }

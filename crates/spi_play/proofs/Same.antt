@@ -213,6 +213,11 @@ only_play only most pool players last done ended tell ends turns state other pla
     let here : State = record { course = done; seats = stands.seats; next = ends.next } in
     ap (λ (s : State). s.course.steps) (plays_same only most (start pool players only) turns stands.turns state here other ended (asked_tell only pool players tell) plays end stands.plays ends.end)
 
+-- and so two of them have the same steps
+pub one_end : (only : Option ℕ) (most : ℕ) (pool : Pooled) (players last others : List Seen) (done other : Course) (ended ending : Ended) → AskedTell only players → EndsAt only most (start pool players only) done last ended → EndsAt only most (start pool players only) other others ending → other.steps ≡ done.steps
+one_end only most pool players last others done other ended ending tell first second =
+    only_play only most pool players last done ended tell first second.stands.turns (record { course = other; seats = second.stands.seats; next = second.next }) ending second.stands.plays second.end
+
 pub only_played : (result : Result Played PlayFault) (only : Option ℕ) (most : ℕ) (pool new : Pooled) (players last : List Seen) → IfOk result (λ played. EndsAt only most (start pool players only) (course new played.steps.items played.events.items) last played.ended) → IfOk result (λ played. AskedTell only players → OnlyPlay only most (start pool players only) (course new played.steps.items played.events.items).steps)
 only_played (Ok played) only most pool new players last ends = λ tell. only_play only most pool players last (course new played.steps.items played.events.items) played.ended tell ends
 only_played (Err fault) only most pool new players last ends = tt

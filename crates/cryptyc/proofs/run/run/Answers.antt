@@ -1,6 +1,7 @@
 use Rattle.cryptyc.proofs.Ending.{headline, many_to_one}
 use Rattle.cryptyc.proofs.Exact.{derive_ends, verify_ends}
 use Rattle.cryptyc.proofs.Played.{replay_ends}
+use Rattle.cryptyc.proofs.Picked.{play_ends}
 use Rattle.cryptyc.proofs.run.run.Goals as goal
 
 pub returns-clause-headline : goal.returns-clause-headline
@@ -26,3 +27,8 @@ pub returns-clause-replay : goal.returns-clause-replay
 returns-clause-replay g c =
     let e = c.run_for.ensures in
     replay_ends c.refused_is_none.ensures c.one_file.ensures c.derivable_is_safe.ensures c.derivable_is_many_safe.ensures _ _ _ _ _ _ _ _ _ _ _ e.read_fault e.write_fault e.answer
+
+pub returns-clause-play : goal.returns-clause-play
+returns-clause-play g c =
+    let e = c.run_for.ensures in
+    play_ends c.one_file.ensures _ _ _ _ _ _ _ _ _ _ _ e.read_fault e.write_fault e.answer
