@@ -2,7 +2,6 @@
 use Rattle.std.proofs.Common.{◌≡◌, ⊎_elim, refl, sym, ap, ◌∙◌, subst, ℕ, suc, ◌+◌, ◌<◌, ◌≤◌, List, [], ◌∷◌, ◌++◌, length, map, Option, Some, None, arith, if◌then◌else◌}
 use Rattle.std.proofs.lemmas.Bool.{cases_lt, lt-ltb}
 use Rattle.std.proofs.lemmas.List.{length-map}
-use Rattle.spi_text.specs.declared.lines.Span.{Span}
 use Rattle.spi_lex.specs.declared.token.Token.{Token}
 use Rattle.spi_lex.specs.Lexing.{kinds_of}
 use Rattle.spi_lex.proofs.Lexed.{lexed}
@@ -11,13 +10,14 @@ use Rattle.spi_tree.specs.Pieces.{Piece, opens, cell, closes, kinds_in, ends, st
 use Rattle.spi_parse.specs.Formed.{whole_file}
 use Rattle.spi_term.specs.Spelling.{Spelling}
 use Rattle.spi_term.specs.Names.{ProcessOver}
-use Rattle.spi_run.specs.Reduction.{Step}
+use Rattle.spi_term.specs.Term.{Process}
+use Rattle.spi_run.specs.Safety.{beside}
+use Rattle.spi_run.specs.Reduction.{Configuration, Step}
 use Rattle.spi_run.specs.declared.step.Step as program
 use Rattle.spi_run.specs.View.{step as step_of}
 use Rattle.spi_scope.specs.declared.fault.ScopeFault.{ScopeFault}
 use Rattle.spi_scope.specs.declared.fault.ScopeFault.TheVariants.{FileTooLarge}
 use Rattle.spi_scope.specs.declared.file.File.{File}
-use Rattle.spi_scope.specs.Scope.{Names, Abbreviations}
 use Rattle.spi_scope.specs.Parts.{step_in}
 use Rattle.spi_scope.specs.Points.{Point, uses_name, uses_type, declares_name, declares_type, ends_message, ends_type, adds, starts_step, Points, none, one, ◌⨾◌, in_order, fault_at, added, decls_points, body_points, all_names, all_types}
 use Rattle.spi_scope.specs.First.{count, Clean, IsClean}
@@ -51,7 +51,7 @@ joins tree file o stands e = by tree.opponent (sym stands.opponent ∙ e)
     by : (p : Option t.Proc) → opponent_over (all_types [] [] tree.decls) (all_names [] tree.decls) p ≡ Some o → Joins file o
     by None h = absurd (cc)
     by (Some p) h =
-        let same : over_free (all_types [] [] tree.decls) (all_names [] tree.decls) p ≡ o = cc in
+        let same : over_free (all_types [] [] tree.decls) (all_names [] tree.decls) p ≡ o = (let g : Some (over_free (all_types [] [] tree.decls) (all_names [] tree.decls) p) ≡ Some o = h in cc) in
         record {
           names = ap (λ (s : Spelling). s.names) (sym same) ∙ ap (λ (s : Spelling). s.names) (sym stands.process);
           over = subst IsOver same (is_over tree p);
@@ -127,7 +127,7 @@ schedule_long (Some xs) r = let more = steps_long xs r in omega (arith, more)
 same_length : (o : Option (List t.Step)) (steps : List Step) → schedule_in o ≡ Some steps → length steps ≡ length (steps_of_tree o)
 same_length None steps h = absurd (cc)
 same_length (Some xs) steps h =
-    let same : map step_in xs ≡ steps = cc in
+    let same : map step_in xs ≡ steps = (let g : Some (map step_in xs) ≡ Some steps = h in cc) in
     ap (λ (l : List Step). length l) (sym same) ∙ length-map xs step_in
 
 few_steps : (bytes : List ℕ) (tree : t.File) (steps : List Step) → IsTreeOf bytes tree → schedule_in tree.schedule ≡ Some steps → length steps ≤ limit
@@ -159,6 +159,12 @@ few_names bytes f (tree, is, stands, marks) =
     let free = few_free tree stands.clean in
     let names : f.process.names ≡ length (all_names [] tree.decls) = ap (λ (s : Spelling). s.names) stands.process in
     omega (arith, free, names)
+
+pub few_from : (bytes : List ℕ) (f : File) (o : Process) (steps : List program.Step) (c : Configuration) → IsRead bytes f → (meant f).schedule ≡ Some (map step_of steps) → c ≡ beside f.process.names f.process.process o → c.names + length steps < 4294967295
+few_from bytes f o steps c r e start =
+    let few = few_used bytes f steps r e in
+    let names : c.names ≡ f.process.names = ap (λ (c : Configuration). c.names) start in
+    omega (arith, few, names)
 
 pub same_names : (bytes : List ℕ) (f : File) (o : Spelling) → IsRead bytes f → (meant f).opponent ≡ Some o → f.process.names ≡ o.names
 same_names bytes f o (tree, is, stands, marks) e = opponent_names tree (meant f) o stands e

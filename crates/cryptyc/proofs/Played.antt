@@ -16,7 +16,7 @@ use Rattle.cryptyc.specs.declared.status.Status.TheVariants.{Yes, No, Refused, R
 use Rattle.spi_play.specs.Way.{Seen}
 use Rattle.cryptyc.specs.Spelled.{SpellsFile, SpellsDerivable, SpellsNone}
 use Rattle.cryptyc.specs.Beside.{pool_of}
-use Rattle.cryptyc.specs.Replaying.{places_most, Replays, IsRefusedAt, RunsThrough, ArePaid, SpellsPaid, SpellsUnpaid, IsUnplayed, no_opponent_part, no_schedule, no_opponent, no_step, SpellsUnplayed, ReplaysTo}
+use Rattle.cryptyc.specs.Replaying.{places_most, Replays, RunsThrough, ArePaid, SpellsPaid, SpellsUnpaid, IsUnplayed, no_opponent_part, no_schedule, no_opponent, no_step, SpellsUnplayed, ReplaysTo}
 use Rattle.cryptyc.specs.Run.{Ends, Wants, Completes, IsReplayed}
 use Rattle.cryptyc.proofs.Ending.{OneFile, Safe, RefusedNone, completes, holds_after}
 use Rattle.cryptyc.proofs.Parties.{process_over_names, opponent_over_names}

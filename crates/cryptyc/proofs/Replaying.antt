@@ -1,5 +1,5 @@
 -- What `replay` answers on a file.
-use Rattle.std.proofs.Common.{◌≡◌, ◌≢◌, ◌⊎◌, inl, inr, ℕ, ◌+◌, ◌<◌, ◌≤◌, List, [], map, length, sym, subst, ap, ◌∙◌, refl, Option, Some, None, Result, Ok, Err, IfOk, arith}
+use Rattle.std.proofs.Common.{◌≡◌, ◌≢◌, ◌⊎◌, inl, inr, ℕ, ◌+◌, ◌<◌, ◌≤◌, List, [], map, length, sym, subst, ap, ◌∙◌, refl, Some, None, Result, Ok, Err, IfOk, IsSome, arith}
 use Rattle.std.proofs.lemmas.List.{length-map}
 use Rattle.std.specs.Prelude.{codes}
 use Rattle.spi_text.specs.declared.lines.Span.{Span}
@@ -12,7 +12,10 @@ use Rattle.spi_run.specs.declared.step.Event as declared
 use Rattle.spi_run.specs.View.{step as step_of, event as event_of}
 use Rattle.spi_opponent.specs.Allowed.{IsFirstOffence}
 use Rattle.spi_replay.specs.declared.fault.StepFault.{StepFault}
-use Rattle.spi_replay.specs.declared.fault.StepFault.TheVariants.{NoMemory as OutOfMemory}
+use Rattle.spi_replay.specs.declared.fault.StepFault.TheVariants.{NoPlace, NotReady, RunMessageTooLarge, TooManyPlaces, NoMemory as OutOfMemory}
+use Rattle.spi_report.specs.declared.refusal.Refusal.{Refusal}
+use Rattle.spi_report.specs.Names.{name_of}
+use Rattle.spi_report.specs.Refused.{refused_text}
 use Rattle.spi_replay.specs.Stepping.{Pooled}
 use Rattle.spi_scope.specs.declared.file.File.{File}
 use Rattle.spi_scope.specs.Files.{meant, Marked, marked}
@@ -22,7 +25,7 @@ use Rattle.cryptyc.specs.declared.answer.Stop.{Stop}
 use Rattle.cryptyc.specs.declared.status.Status.{Status}
 use Rattle.cryptyc.specs.declared.status.Status.TheVariants.{Yes, No, Refused, Usage}
 use Rattle.cryptyc.specs.Answer.{IsPlaceless}
-use Rattle.cryptyc.specs.Beside.{pool_of, HasOpponent, IsPlaced}
+use Rattle.cryptyc.specs.Beside.{pool_of, IsPlaced}
 use Rattle.cryptyc.specs.Reading.{IsRead}
 use Rattle.cryptyc.specs.Replaying.{ReplaysTo, Replays, IsRefusedAt, IsJudged, IsReplayText, RunsThrough, places_most, step_number, step_shown}
 use Rattle.cryptyc.specs.Run.{IsAnswered}
@@ -79,6 +82,19 @@ stopped_at bytes f o steps p i fault (Ok a) (tree, is, stands, marks) e g oppone
     answered bytes a Refused h.1 (inr (inr (inr (inr (tree, meant f, o, steps, i, fault, is, stands, (e, opponent), g, at, line)))))
 stopped_at bytes f o steps p i fault (Err s) r e g opponent start refused h = tt
 
+-- a step's refusal, whose number has a name
+pub step_named : (fault : StepFault) (number : ℕ) → fault ≢ OutOfMemory → number ≡ step_number fault → IsSome (name_of number)
+step_named (NoPlace place) number some e = subst (λ n. IsSome (name_of n)) (sym e) refl
+step_named (NotReady place) number some e = subst (λ n. IsSome (name_of n)) (sym e) refl
+step_named (RunMessageTooLarge nodes) number some e = subst (λ n. IsSome (name_of n)) (sym e) refl
+step_named (TooManyPlaces places) number some e = subst (λ n. IsSome (name_of n)) (sym e) refl
+step_named OutOfMemory number some e = absurd (some refl)
+
+pub stop_line : (bytes : List ℕ) (fault : StepFault) (offset : ℕ) (r : Refusal) (result : Result Answer Stop) → fault ≢ OutOfMemory → r.number ≡ step_number fault → r.offset ≡ Some offset → r.shown.items ≡ step_shown fault → IfOk result (λ a. (a.status ≡ Refused) × (a.output.items ≡ refused_text bytes r))
+    → IfOk result (λ a. (fault ≢ OutOfMemory) × (a.status ≡ Refused) × IsPlaced bytes (step_number fault) offset (step_shown fault) a.output.items)
+stop_line bytes fault offset r (Ok a) some n o s is = (some, is.0, (r, n, o, s, is.1))
+stop_line bytes fault offset r (Err e) some n o s is = tt
+
 -- a schedule that runs through
 pub ran : (bytes : List ℕ) (f : File) (o : Spelling) (steps : List Step) (events : List Event) (p q : Pooled) (result : Result Answer Stop) → IsRead bytes f → (meant f).opponent ≡ Some o → (meant f).schedule ≡ Some steps → IsOpponent o.process
     → p ≡ pool_of places_most (meant f) o → Replays p steps events q → IfOk result (λ a. IsJudged events a.status × IsReplayText (meant f) events a.output.items) → IfOk result (λ a. ReplaysTo bytes a.status a.output.items)
@@ -86,6 +102,7 @@ ran bytes f o steps events p q (Ok a) (tree, is, stands, marks) e g opponent sta
   where
     through : RunsThrough (meant f) events
     through = record { opponent = o; steps = steps; last = q; beside = (e, opponent); schedule = g; replays = subst (λ first. Replays first steps events q) start replays }
+
     by : IsJudged events a.status → ReplaysTo bytes a.status a.output.items
     by (inl (s, paid)) = answered bytes a Yes s (meant f, events, (tree, is, stands), through, paid, h.1)
     by (inr (s, unpaid)) = answered bytes a No s (meant f, events, (tree, is, stands), through, unpaid, h.1)

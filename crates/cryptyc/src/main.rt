@@ -1,5 +1,5 @@
-//! Checks a file that is read from standard input, derives its typing or verifies the derivation that it has, and writes the
-//! answer to standard output.
+//! Checks a file that is read from standard input, derives its typing, verifies the derivation that it has or replays its
+//! schedule, and writes the answer to standard output.
 #![tactic(auto)]
 
 mod answer;

@@ -1,5 +1,6 @@
 // The command `replay`.
-ghost use Rattle.std.specs.Prelude.{◌≡◌, ◌≢◌, ◌⊎◌, ◌+◌, ◌-◌, ◌<◌, ◌^◌, ◌≤◌, ◌++◌, length, map, option_to_list, Option, IfOk, IfErr, OnOk, OnErr, Err, Some};
+ghost use Rattle.std.specs.Prelude.{◌≡◌, ◌≢◌, ◌⊎◌, ◌+◌, ◌-◌, ◌<◌, ◌^◌, ◌≤◌, ◌++◌, length, map, option_to_list, Option, IfOk, IfErr, IfSome, OnOk, OnErr, Err, Some};
+ghost use Rattle.std.specs.Fmt.{decimal};
 ghost use Rattle.spi_run.specs.Opponent.{IsOpponent};
 ghost use Rattle.spi_run.specs.Reduction.{Event as Shown};
 ghost use Rattle.spi_run.specs.View.{step as step_of, event as event_of};
@@ -97,11 +98,7 @@ fn beside(
 }
 
 /// Takes the steps one by one.
-fn take_steps(
-    alloc: Global,
-    pool: &mut Pool<'_>,
-    steps: &[Step],
-) -> Result<Vec<Event>, RefusedStep>
+fn take_steps(alloc: Global, pool: &mut Pool<'_>, steps: &[Step]) -> Result<Vec<Event>, RefusedStep>
     requires { pool.old.configuration.names + length steps.now < 2 ^ 32 - 1 }
     ensures ok { IfOk result (λ events. Replays pool.old (map step_of steps.now) (map event_of events.items) pool.new) }
     ensures err { IfErr result (λ refused. (refused.fault ≡ StepFault.NoMemory) ⊎ IsRefusedAt pool.old (map step_of steps.now) refused.index refused.fault) }
@@ -173,6 +170,38 @@ fn judgement(happened: &[Event]) -> Status
     }
 }
 
+/// The number of a step's refusal, and the count that it shows.
+#[derive(Clone, Copy)]
+struct Told {
+    number: u32,
+    count: u64,
+}
+
+/// What is told of a step that is refused, and nothing where memory ran out.
+fn told_of(fault: &StepFault) -> Option<Told>
+    ensures { IfSome result (λ told. (fault.now ≢ StepFault.NoMemory) × (told.number ≡ step_number fault.now) × (decimal told.count ≡ step_shown fault.now)) }
+{
+    match fault {
+        StepFault::NoPlace { place } => Some(Told {
+            number: 60,
+            count: *place as u64,
+        }),
+        StepFault::NotReady { place } => Some(Told {
+            number: 61,
+            count: *place as u64,
+        }),
+        StepFault::RunMessageTooLarge { nodes } => Some(Told {
+            number: 62,
+            count: *nodes,
+        }),
+        StepFault::TooManyPlaces { places } => Some(Told {
+            number: 63,
+            count: *places as u64,
+        }),
+        StepFault::NoMemory => None,
+    }
+}
+
 /// The refusal of a step.
 fn stopped(alloc: Global, bytes: &[u8], file: &File, refused: &RefusedStep) -> Result<Answer, Stop>
     requires sized { length bytes.now ≤ 16_777_216 }
@@ -180,17 +209,33 @@ fn stopped(alloc: Global, bytes: &[u8], file: &File, refused: &RefusedStep) -> R
     ensures ok { IfOk result (λ answer. (refused.now.fault ≢ StepFault.NoMemory) × (answer.status ≡ Status.Refused) × IsPlaced bytes.now (step_number refused.now.fault) (place_in file.now.marks.steps.items refused.now.index).from (step_shown refused.now.fault) answer.output.items) }
     ensures err { OnErr result (result ≡ Err Stop.NoMemory) }
 {
+    match told_of(&refused.fault) {
+        None => Err(Stop::NoMemory),
+        Some(told) => step_refusal(alloc, bytes, file, refused, &told),
+    }
+}
+
+/// The line of that refusal.
+fn step_refusal(
+    alloc: Global,
+    bytes: &[u8],
+    file: &File,
+    refused: &RefusedStep,
+    told: &Told,
+) -> Result<Answer, Stop>
+    requires sized { length bytes.now ≤ 16_777_216 }
+    requires read { IsRead bytes.now file.now }
+    requires some { refused.now.fault ≢ StepFault.NoMemory }
+    requires number { told.now.number ≡ step_number refused.now.fault }
+    requires count { decimal told.now.count ≡ step_shown refused.now.fault }
+    ensures ok { IfOk result (λ answer. (refused.now.fault ≢ StepFault.NoMemory) × (answer.status ≡ Status.Refused) × IsPlaced bytes.now (step_number refused.now.fault) (place_in file.now.marks.steps.items refused.now.index).from (step_shown refused.now.fault) answer.output.items) }
+    ensures err { OnErr result (result ≡ Err Stop.NoMemory) }
+{
     let offset = file.step_place(refused.index).from;
-    let (number, count) = match &refused.fault {
-        StepFault::NoPlace { place } => (60, *place as u64),
-        StepFault::NotReady { place } => (61, *place as u64),
-        StepFault::RunMessageTooLarge { nodes } => (62, *nodes),
-        StepFault::TooManyPlaces { places } => (63, *places as u64),
-        StepFault::NoMemory => return Err(Stop::NoMemory),
-    };
+    let count = told.count;
     let shown = format!(in alloc; "{count}")?.into_bytes();
     let r = Refusal {
-        number,
+        number: told.number,
         offset: Some(offset),
         shown,
     };

@@ -81,11 +81,7 @@ fn an_accepted_file_is_derived(rt: HostRuntime) -> Result<(), Fail> {
 
 #[test]
 fn a_derivation_is_verified(rt: HostRuntime) -> Result<(), Fail> {
-    let (sink, ended) = answer(
-        rt.alloc(),
-        &["verify"],
-        b"process stop derivation ProcStop",
-    )?;
+    let (sink, ended) = answer(rt.alloc(), &["verify"], b"process stop derivation ProcStop")?;
     assert_eq!(rt; sink.bytes(), b"yes\n".as_slice());
     assert_eq!(rt; ended, 0);
     Ok(())
