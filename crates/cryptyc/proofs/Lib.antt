@@ -1,6 +1,6 @@
 pub mod Past
 pub mod Digits
-pub mod Words
+pub mod Options
 pub mod Refusals
 pub mod Reading
 pub mod Places

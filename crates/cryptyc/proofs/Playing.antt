@@ -31,6 +31,7 @@ use Rattle.cryptyc.specs.Answer.{IsPlaceless}
 use Rattle.cryptyc.specs.Beside.{pool_of, IsPlaced}
 use Rattle.cryptyc.specs.Playing.{play_number, play_shown, play_places, ListsTo, IsUnplayable, PlaysTo}
 use Rattle.cryptyc.specs.Reading.{IsRead}
+use Rattle.cryptyc.proofs.Parties.{few_names}
 
 -- the text of steps
 joined_long : (bytes text : List ℕ) → length (joined bytes text) ≡ length bytes + 1 + length text
@@ -63,6 +64,12 @@ pooled pool f o e m =
     let one : Configuration → Pooled = λ c. record { configuration = c; most = pool.most } in
     let other : ℕ → Pooled = λ n. record { configuration = beside f.process.names f.process.process o.process; most = n } in
     ap one e ∙ ap other m
+
+pub few_at_start : (bytes : List ℕ) (f : File) (o : Spelling) (pool : Pooled) (most : ℕ) → IsRead bytes f → most ≤ 1000 → pool.configuration ≡ beside f.process.names f.process.process o.process → pool.configuration.names ≤ 4294967295 - most
+few_at_start bytes f o pool most r small e =
+    let few = few_names bytes f r in
+    let same : pool.configuration.names ≡ f.process.names = ap (λ (c : Configuration). c.names) e in
+    omega (arith, few, same, small)
 
 -- a play that has ended
 module _ (bytes : List ℕ) (f : File) (o : Spelling) (most : ℕ) (only : Option ℕ) (before after : List Seen) (pool last : Pooled) (r : IsRead bytes f) (own : (meant f).opponent ≡ Some o) (is : IsOpponent o.process) (e : pool.configuration ≡ beside f.process.names f.process.process o.process) (m : pool.most ≡ 1000) where

@@ -86,6 +86,7 @@ fn beside(
 fn listed(alloc: Global, bytes: &[u8], steps: &[Step]) -> Result<Answer, Stop>
     requires { length bytes.now ≤ 16_777_216 }
     ensures ok { IfOk result (λ answer. ListsTo bytes.now (map step_of steps.now) answer.status answer.output.items) }
+    ensures answered { IfOk result (λ answer. IsAnswered answer.status × (answer.status ≢ Status.Usage)) }
     ensures err { OnErr result (result ≡ Err Stop.NoMemory) }
 {
     let output = show_steps(alloc, steps)?;
@@ -104,6 +105,7 @@ fn listed(alloc: Global, bytes: &[u8], steps: &[Step]) -> Result<Answer, Stop>
 fn refused(alloc: Global, bytes: &[u8], fault: &PlayFault) -> Result<Answer, Stop>
     requires { length bytes.now ≤ 16_777_216 }
     ensures ok { IfOk result (λ answer. (answer.status ≡ Status.Refused) × (fault.now ≢ PlayFault.NoMemory) × IsPlaceless bytes.now (play_number fault.now) (play_shown fault.now) answer.output.items) }
+    ensures answered { IfOk result (λ answer. IsAnswered answer.status × (answer.status ≢ Status.Usage)) }
     ensures err { OnErr result (result ≡ Err Stop.NoMemory) }
 {
     match fault {

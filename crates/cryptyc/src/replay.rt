@@ -151,7 +151,7 @@ fn judged(alloc: Global, file: &File, happened: &[Event]) -> Result<Answer, Stop
     ensures err { OnErr result (result ≡ Err Stop.NoMemory) }
 {
     let pairing = pair_up(alloc, happened)?;
-    let output = events(alloc, &file.names, happened, &pairing)?;
+    let output = events(alloc, file, happened, &pairing)?;
     Ok(Answer {
         status: judgement(happened),
         output,

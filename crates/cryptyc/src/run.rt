@@ -11,12 +11,12 @@ ghost use Rattle.cryptyc.specs.Run.{Wants, IsAnswered, Ends, Completes, IsExact,
 use crate::answer::{Answer, Stop, made};
 use crate::asked::{Command, asked_of};
 use crate::file::on_file;
-use spi_play::Player;
 use crate::status::Status;
 use spi_deriv::one_canonical;
 use spi_io::{Put, Sink, Source, put_all};
 use spi_lex::one_answer;
 use spi_parse::one_placed_tree;
+use spi_play::Player;
 use spi_scope::one_or_other;
 use spi_sound::{derivable_is_many_safe, derivable_is_safe};
 use spi_spell::derivation_joins;
@@ -162,6 +162,10 @@ fn answer_to<S: Source>(
 {
     match command {
         Some(command) => on_file(alloc, command, source, players),
-        None => made(alloc, Status::Usage, b"usage: check | derive | verify | replay | play --steps N [--player I]\n"),
+        None => made(
+            alloc,
+            Status::Usage,
+            b"usage: check | derive | verify | replay | play --steps N [--player I]\n",
+        ),
     }
 }

@@ -122,7 +122,10 @@ fn other_words_get_the_usage_line(rt: HostRuntime) -> Result<(), Fail> {
     let no_commands: [&[&str]; 5] = [&[], &["check", "now"], &["Check"], &["check "], &["play"]];
     for words in no_commands {
         let (sink, ended) = answer(rt.alloc(), words, b"process stop")?;
-        assert_eq!(rt; sink.bytes(), b"usage: check | derive | verify | replay | play --steps N [--player I]\n".as_slice());
+        assert_eq!(rt;
+            sink.bytes(),
+            b"usage: check | derive | verify | replay | play --steps N [--player I]\n".as_slice()
+        );
         assert_eq!(rt; ended, 6);
     }
     Ok(())
@@ -130,17 +133,41 @@ fn other_words_get_the_usage_line(rt: HostRuntime) -> Result<(), Fail> {
 
 /// Words, and what they ask for where there are three players.
 const ASKED: [(&[&str], Option<Command>); 13] = [
-    (&["play", "--steps", "0"], Some(Command::Play { most: 0, only: None })),
-    (&["play", "--steps=1000"], Some(Command::Play { most: 1_000, only: None })),
+    (
+        &["play", "--steps", "0"],
+        Some(Command::Play {
+            most: 0,
+            only: None,
+        }),
+    ),
+    (
+        &["play", "--steps=1000"],
+        Some(Command::Play {
+            most: 1_000,
+            only: None,
+        }),
+    ),
     (
         &["play", "--player", "1", "--steps", "5"],
-        Some(Command::Play { most: 5, only: Some(1) }),
+        Some(Command::Play {
+            most: 5,
+            only: Some(1),
+        }),
     ),
     (
         &["play", "--steps=5", "--player=2"],
-        Some(Command::Play { most: 5, only: Some(2) }),
+        Some(Command::Play {
+            most: 5,
+            only: Some(2),
+        }),
     ),
-    (&["play", "--steps", "007"], Some(Command::Play { most: 7, only: None })),
+    (
+        &["play", "--steps", "007"],
+        Some(Command::Play {
+            most: 7,
+            only: None,
+        }),
+    ),
     (&["play", "--steps"], None),
     (&["play", "--steps="], None),
     (&["play", "--steps", "1001"], None),

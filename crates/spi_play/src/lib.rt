@@ -12,3 +12,6 @@ pub use laws::{play_runs, turns_fit};
 pub use player::{Menu, Pick, Player};
 pub use plays::{Ended, PlayFault, Played, play};
 pub use scripted::Scripted;
+
+#[cfg(test)]
+mod tests;

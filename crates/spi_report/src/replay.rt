@@ -7,6 +7,7 @@ ghost use Rattle.spi_report.specs.Events.{from_text, event_text, line_text, is_u
 
 use crate::NoMemory;
 use spi_run::Event;
+use spi_scope::File;
 use spi_show::show_message;
 use spi_term::Msg;
 use spi_text::Text;
@@ -121,11 +122,8 @@ fn put_last(alloc: Global, out: &mut Vec<u8>, unpaid: Option<usize>) -> Result<(
     }
 }
 
-/// The lines of a replay: for each event, numbered from 1, `K begin L`, `K end L from B` or `K endmany L from B`,
-/// where B is the number of the begin that the pairing gives it, or `unpaid` in place of `from B`; and then `paid`, or
-/// `unpaid at K` with the first end or endmany without a begin. A name below the number of given names is shown by its
-/// spelling, and every other by `#` and its number. The condition is that the pairing has an entry for each event.
-pub fn events(
+// The lines of events, where these names are spelled so.
+pub(crate) fn lines_of(
     alloc: Global,
     names: &[Text],
     events: &[Event],
@@ -140,4 +138,20 @@ pub fn events(
     }
     put_last(alloc, &mut out, first_unpaid(events, &pairing.from))?;
     Ok(out)
+}
+
+/// The lines of a replay of the file: for each event, numbered from 1, `K begin L`, `K end L from B` or `K endmany L from
+/// B`, where B is the number of the begin that the pairing gives it, or `unpaid` in place of `from B`; and then `paid`, or
+/// `unpaid at K` with the first end or endmany without a begin. A free name is shown as the file spells it, and every other
+/// by `#` and its number. The condition is that the pairing has an entry for each event.
+pub fn events(
+    alloc: Global,
+    file: &File,
+    events: &[Event],
+    pairing: &Pairing,
+) -> Result<Vec<u8>, NoMemory>
+    requires { length pairing.now.from.items ≡ length events.now }
+    ensures { IfOk result (λ text. text.items ≡ events_text file.now.names.items (map event events.now) pairing.now.from.items) }
+{
+    lines_of(alloc, &file.names, events, pairing)
 }

@@ -3,6 +3,7 @@ ghost use Rattle.spi_text.specs.Place.{IsSized};
 ghost use Rattle.spi_report.specs.Names.{name_of};
 
 use super::*;
+use crate::replay::lines_of;
 use spi_run::Event;
 use spi_term::Msg;
 use spi_text::{Lines, Text};
@@ -95,7 +96,7 @@ fn are_written(
 {
     let names = Vec::from_array(alloc, [Text::of(alloc, "a")?, Text::of(alloc, "b")?])?;
     let pairing = pair_up(alloc, happened)?;
-    let text = events(alloc, &names, happened, &pairing)?;
+    let text = lines_of(alloc, &names, happened, &pairing)?;
     assert_eq!(rt; text.as_slice(), expected.as_bytes());
     Ok(())
 }

@@ -1,5 +1,5 @@
 use Rattle.std.specs.Prelude.{string_bytes}
-use Rattle.cryptyc.proofs.Words.{one_word}
+use Rattle.cryptyc.proofs.Options.{one_word}
 use Rattle.cryptyc.proofs.asked.asked_of.Goals as goal
 
 pub returns-in-len1-clause-value : goal.returns-in-len1-clause-value

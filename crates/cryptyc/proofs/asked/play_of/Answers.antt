@@ -1,6 +1,6 @@
 use Rattle.std.proofs.Common.{arith}
 use Rattle.std.specs.Prelude.{string_bytes}
-use Rattle.cryptyc.proofs.Words.{too_many_words}
+use Rattle.cryptyc.proofs.Options.{too_many_words}
 use Rattle.cryptyc.proofs.asked.play_of.Goals as goal
 
 pub returns-in_default-clause-value : goal.returns-in_default-clause-value
