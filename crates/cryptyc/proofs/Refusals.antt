@@ -3,7 +3,7 @@ use Rattle.std.proofs.Common.{◌≡◌, ◌⊎◌, inl, inr, ℕ, zero, suc, �
 use Rattle.std.specs.Prelude.{⊤}
 use Rattle.std.specs.Fmt.{decimal}
 use Rattle.std.proofs.lemmas.Grind.{common_steps}
-use Rattle.spi_io.specs.Causes.{TakesCount}
+use Rattle.spi_io.specs.Causes.{TakesCount, TakesAll}
 use Rattle.spi_lex.specs.declared.token.Token.{Token}
 use Rattle.spi_lex.specs.declared.fault.LexFault.{LexFault}
 use Rattle.spi_lex.specs.declared.fault.LexFault.TheVariants as faults
@@ -245,6 +245,17 @@ pub answers_long : (command : Command) (players : List Seen) (left : Option (Lis
 answers_long command players None (Ok a) long is = tt
 answers_long command players (Some bytes) (Ok a) long is = is command bytes players long
 answers_long command players left (Err e) long is = tt
+
+-- the bytes that were left are those that were taken
+all_taken : (bytes : List ℕ) (new : Option (List ℕ)) (taken : List ℕ) → TakesAll (Some bytes) new taken → bytes ≡ taken
+all_taken bytes None taken all = absurd all.taken
+all_taken bytes (Some rest) taken all = all.taken ∙ ap (λ (r : List ℕ). taken ++ r) all.ended ∙ append-nil taken
+
+-- what is answered on the bytes that were taken
+pub answers_taken : (command : Command) (before after : List Seen) (old new : Option (List ℕ)) (taken : List ℕ) (result : Result Answer Stop) → TakesAll old new taken → IfOk result (λ a. AnswersTo command taken before after a.status a.output.items) → IfOk result (λ a. IfSome old (λ bytes. AnswersTo command bytes before after a.status a.output.items))
+answers_taken command before after None new taken (Ok a) all is = tt
+answers_taken command before after (Some bytes) new taken (Ok a) all is = subst (λ (bs : List ℕ). AnswersTo command bs before after a.status a.output.items) (sym (all_taken bytes new taken all)) is
+answers_taken command before after old new taken (Err e) all is = tt
 
 -- each token has a byte of its own
 pub tokens_within : (start end : ℕ) (tokens : List Token) → AreSpans start (spans_of tokens) end → length tokens + start ≤ end

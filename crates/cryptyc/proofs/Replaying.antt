@@ -120,3 +120,8 @@ told events f (Ok a) h = by h.0
     by (inl (s, paid)) = subst (λ (s : Status). IsAnswered s × (s ≢ Usage)) (sym s) (tt, λ e. absurd (cc))
     by (inr (s, unpaid)) = subst (λ (s : Status). IsAnswered s × (s ≢ Usage)) (sym s) (tt, λ e. absurd (cc))
 told events f (Err s) h = tt
+
+-- a refusal is an answer
+pub stopped_answers : (fault : StepFault) (bytes shown : List ℕ) (number offset : ℕ) (result : Result Answer Stop) → IfOk result (λ a. (fault ≢ OutOfMemory) × (a.status ≡ Refused) × IsPlaced bytes number offset shown a.output.items) → IfOk result (λ a. IsAnswered a.status × (a.status ≢ Usage))
+stopped_answers fault bytes shown number offset (Ok a) h = subst (λ (s : Status). IsAnswered s × (s ≢ Usage)) (sym h.1) (tt, λ e. absurd (cc))
+stopped_answers fault bytes shown number offset (Err s) h = tt

@@ -1,7 +1,7 @@
 use Rattle.std.proofs.Common.{map}
 use Rattle.spi_run.specs.View.{step, event}
 use Rattle.cryptyc.proofs.Parties.{same_names, few_from}
-use Rattle.cryptyc.proofs.Replaying.{starts, stopped_at, ran, few_happened, told}
+use Rattle.cryptyc.proofs.Replaying.{starts, stopped_at, ran, few_happened, told, stopped_answers}
 use Rattle.cryptyc.proofs.replay.beside.Goals as goal
 
 pub start-requires-clause-names : goal.start-requires-clause-names
@@ -25,3 +25,6 @@ pub returns-clause-ok : goal.returns-clause-ok
 returns-clause-ok c =
     let start = starts c.args.file.now c.args.opponent.now c.in_ok-pool.pool c.in_ok-pool.ensures.configuration c.in_ok-pool.ensures.most in
     stopped_at c.args.bytes.now c.args.file.now c.args.opponent.now (map step c.args.steps.now) c.in_ok-pool.pool c.in-Err.refused.index c.in-Err.refused.fault c.stopped.result c.requires.read c.requires.opponent c.requires.schedule c.requires.is start c.in-Err.ensures.err c.stopped.ensures.ok
+
+pub returns-clause-answered : goal.returns-clause-answered
+returns-clause-answered c = stopped_answers c.in-Err.refused.fault c.args.bytes.now _ _ _ c.stopped.result c.stopped.ensures.ok
