@@ -2,8 +2,6 @@
 #![tactic(auto)]
 
 #[cfg(test)]
-mod audits;
-#[cfg(test)]
 mod faults;
 #[cfg(test)]
 mod files;
@@ -13,8 +11,6 @@ mod inference;
 mod messages;
 #[cfg(test)]
 mod parts;
-#[cfg(test)]
-mod pools;
 #[cfg(test)]
 mod scopes;
 #[cfg(test)]
