@@ -13,5 +13,3 @@ pub use player::{Menu, Pick, Player};
 pub use plays::{Ended, PlayFault, Played, play};
 pub use scripted::Scripted;
 
-#[cfg(test)]
-mod tests;
