@@ -12,4 +12,3 @@ pub use laws::{play_runs, turns_fit};
 pub use player::{Menu, Pick, Player};
 pub use plays::{Ended, PlayFault, Played, play};
 pub use scripted::Scripted;
-
