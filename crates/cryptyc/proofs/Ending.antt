@@ -8,12 +8,13 @@ use Rattle.spi_rules.specs.Environment.{untrusted}
 use Rattle.spi_rules.specs.Derivations.{Derivable}
 use Rattle.spi_run.specs.Safety.{RobustlySafe, RobustlySafeMany}
 use Rattle.cryptyc.specs.declared.asked.Command.{Command}
-use Rattle.cryptyc.specs.declared.asked.Command.TheVariants.{Check, Derive, Verify, Replay, Play}
+use Rattle.cryptyc.specs.declared.asked.Command.TheVariants.{Check, Derive, Verify, Replay, Play, Print, Load, Upgrade}
 use Rattle.cryptyc.specs.declared.status.Status.{Status}
 use Rattle.cryptyc.specs.declared.status.Status.TheVariants.{Yes, No, Refused, ReadFault, WriteFault, NoMemory, Usage}
 use Rattle.spi_play.specs.Way.{Seen}
 use Rattle.cryptyc.specs.Spelled.{SpellsFile, IsDerivable, SpellsDerivable, SpellsUnderivable, SpellsNone, IsManySafe}
 use Rattle.cryptyc.specs.Answer.{Refuses, ChecksTo}
+use Rattle.cryptyc.specs.Loading.{LoadsTo}
 use Rattle.cryptyc.specs.Run.{Ends, Wants, Completes, IsExact}
 use Rattle.cryptyc.proofs.Refusals.{OneLexing, OnePlaced, OneMeant, one_tree}
 
@@ -21,6 +22,19 @@ use Rattle.cryptyc.proofs.Refusals.{OneLexing, OnePlaced, OneMeant, one_tree}
 pub cut_short : (left : Option (List ℕ)) (wants : List ℕ → Status → List ℕ → Type 0) (old new : Option (List ℕ)) (status : Status) (output : List ℕ) → IfSome left (λ bytes. wants bytes status output) → PutsPrefix old new output → IfSome left (λ bytes. Ends (wants bytes) old new WriteFault)
 cut_short None wants old new status output wanted prefix = tt
 cut_short (Some bytes) wants old new status output wanted prefix = (status, output, wanted, prefix)
+
+-- the same of `load`, which reads nothing, and of one whose output was put
+pub load_cut_short : (sessions : ℕ) (old new : Option (List ℕ)) (status : Status) (output : List ℕ) → LoadsTo sessions status output → PutsPrefix old new output → Ends (LoadsTo sessions) old new WriteFault
+load_cut_short sessions old new status output loads prefix = (status, output, loads, prefix)
+
+pub load_ends : (sessions : ℕ) (old new : Option (List ℕ)) (status : Status) (output : List ℕ) → LoadsTo sessions status output → Appends old new output → Ends (LoadsTo sessions) old new status
+load_ends sessions old new Yes output loads put = (output, loads, put)
+load_ends sessions old new No output loads put = absurd loads
+load_ends sessions old new Refused output loads put = absurd loads
+load_ends sessions old new ReadFault output loads put = absurd loads
+load_ends sessions old new WriteFault output loads put = absurd loads
+load_ends sessions old new NoMemory output loads put = absurd loads
+load_ends sessions old new Usage output loads put = absurd loads
 
 -- a call in which nothing failed does what is wanted
 pub completes : (wants : Status → List ℕ → Type 0) (old new : Option (List ℕ)) (status : Status) → ¬ (status ≡ ReadFault) → ¬ (status ≡ WriteFault) → Ends wants old new status → Completes wants old new status
@@ -103,6 +117,9 @@ yes_is (Some Derive) bytes before after old new ends is = absurd (cc)
 yes_is (Some Verify) bytes before after old new ends is = absurd (cc)
 yes_is (Some Replay) bytes before after old new ends is = absurd (cc)
 yes_is (Some (Play most only)) bytes before after old new ends is = absurd (cc)
+yes_is (Some Print) bytes before after old new ends is = absurd (cc)
+yes_is (Some (Load sessions)) bytes before after old new ends is = absurd (cc)
+yes_is (Some Upgrade) bytes before after old new ends is = absurd (cc)
 
 pub many_to_one : OneFile → Safe RobustlySafeMany → (command : Option Command) (left : Option (List ℕ)) (before after : List Seen) (old new : Option (List ℕ)) (status : Status) → IfSome left (λ bytes. Ends (Wants command bytes before after) old new status) → command ≡ Some Check → IfSome left (λ bytes. status ≡ Yes → IsManySafe bytes)
 many_to_one one safe command None before after old new status ends is = tt

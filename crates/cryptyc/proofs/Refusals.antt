@@ -1,5 +1,5 @@
 -- What bytes are refused for, and where.
-use Rattle.std.proofs.Common.{◌≡◌, ◌⊎◌, inl, inr, ℕ, zero, suc, ◌+◌, ◌-◌, ◌<◌, ◌≤◌, List, [], ◌∷◌, ◌++◌, Option, Some, None, Result, Ok, Err, IfOk, IfSome, IsSome, length, ◌∙◌, drop, refl, sym, ap, subst, arith, length-drop, append-nil}
+use Rattle.std.proofs.Common.{◌≡◌, ◌⊎◌, inl, inr, ℕ, zero, suc, ◌+◌, ◌-◌, ◌<◌, ◌≤◌, List, [], ◌∷◌, ◌++◌, Option, Some, None, Result, Ok, Err, IfOk, IfSome, IsSome, length, ◌∙◌, drop, refl, sym, ap, subst, arith, length-drop, append-nil, true}
 use Rattle.std.specs.Prelude.{⊤}
 use Rattle.std.specs.Fmt.{decimal}
 use Rattle.std.proofs.lemmas.Grind.{common_steps}
@@ -37,8 +37,9 @@ use Rattle.cryptyc.specs.Spelled.{limit, IsTreeOf, SpellsNone}
 use Rattle.cryptyc.specs.Answer.{start_of, scope_number, Refuses, too_long, not_utf8, bad_char, bad_number, name_too_long, syntax, too_deep, out_of_scope, IsRefusal, IsPlaceless}
 use Rattle.cryptyc.specs.Beside.{IsPlaced}
 use Rattle.cryptyc.specs.declared.asked.Command.{Command}
-use Rattle.cryptyc.specs.declared.asked.Command.TheVariants.{Check, Derive, Verify, Replay, Play}
+use Rattle.cryptyc.specs.declared.asked.Command.TheVariants.{Check, Derive, Verify, Replay, Play, Print, Load, Upgrade}
 use Rattle.spi_play.specs.Way.{Seen}
+use Rattle.cryptyc.specs.Asked.{reads_file}
 use Rattle.cryptyc.specs.Commands.{AnswersTo}
 
 -- the way of lexemes goes through the bytes
@@ -197,16 +198,19 @@ line_of bytes output r number offset shown h n o s e = (r, rw (n, o, s) h, e)
 pub no_place : (bytes others : List ℕ) (r : Refusal) → r.offset ≡ None → refused_text others r ≡ refused_text bytes r
 no_place bytes others r e = rw e refl
 
--- a refusal of the bytes is the answer of each command
-refused_by : (command : Command) (bytes : List ℕ) (players : List Seen) (output : List ℕ) → IsRefusal bytes output → AnswersTo command bytes players players Refused output
-refused_by Check bytes players output h = h
-refused_by Derive bytes players output h = inl h
-refused_by Verify bytes players output h = inl h
-refused_by Replay bytes players output h = inl h
-refused_by (Play most only) bytes players output h = inl (inl h, refl)
+-- a refusal of the bytes is the answer of each command that reads a file
+refused_by : (command : Command) (bytes : List ℕ) (players : List Seen) (output : List ℕ) → reads_file (Some command) ≡ true → IsRefusal bytes output → AnswersTo command bytes players players Refused output
+refused_by Check bytes players output e h = h
+refused_by Derive bytes players output e h = inl h
+refused_by Verify bytes players output e h = inl h
+refused_by Replay bytes players output e h = inl h
+refused_by (Play most only) bytes players output e h = inl (inl h, refl)
+refused_by Print bytes players output e h = inl h
+refused_by (Load sessions) bytes players output e h = absurd (cc)
+refused_by Upgrade bytes players output e h = inl h
 
-pub answers_to : (command : Command) (bytes : List ℕ) (players : List Seen) (output : List ℕ) (status : Status) → status ≡ Refused → IsRefusal bytes output → AnswersTo command bytes players players status output
-answers_to command bytes players output status e h = rw e (refused_by command bytes players output h)
+pub answers_to : (command : Command) (bytes : List ℕ) (players : List Seen) (output : List ℕ) (status : Status) → reads_file (Some command) ≡ true → status ≡ Refused → IsRefusal bytes output → AnswersTo command bytes players players status output
+answers_to command bytes players output status reads e h = rw e (refused_by command bytes players output reads h)
 
 pub placeless : (bytes shown : List ℕ) (number : ℕ) (r : Refusal) (result : Result Answer Stop) → r.number ≡ number → r.offset ≡ None → r.shown.items ≡ shown → IfOk result (λ a. (a.status ≡ Refused) × (a.output.items ≡ refused_text bytes r)) → IfOk result (λ a. (a.status ≡ Refused) × IsPlaceless bytes number shown a.output.items)
 placeless bytes shown number r (Ok a) n o s is = (is.0, (r, n, o, s, is.1))
@@ -233,18 +237,18 @@ pub lexed_fault : (bytes : List ℕ) (fault wanted : LexFault) → fault ≡ wan
 lexed_fault bytes fault wanted e other (inl none) = absurd (other (sym e ∙ none))
 lexed_fault bytes fault wanted e other (inr h) = rw (← e) h
 
-pub refused_long : (others : List ℕ) (r : Refusal) (result : Result Answer Stop) → r.number ≡ 2 → r.offset ≡ None → r.shown.items ≡ decimal (limit + 1) → IfOk result (λ a. (a.status ≡ Refused) × (a.output.items ≡ refused_text others r)) → IfOk result (λ a. (command : Command) (bytes : List ℕ) (players : List Seen) → limit < length bytes → AnswersTo command bytes players players a.status a.output.items)
-refused_long others r (Ok a) n o s is = λ command bytes players l. answers_to command bytes players a.output.items a.status is.0 (line_of bytes a.output.items r 2 None (decimal (limit + 1)) (too_long l) n o s (is.1 ∙ no_place bytes others r o))
+pub refused_long : (others : List ℕ) (r : Refusal) (result : Result Answer Stop) → r.number ≡ 2 → r.offset ≡ None → r.shown.items ≡ decimal (limit + 1) → IfOk result (λ a. (a.status ≡ Refused) × (a.output.items ≡ refused_text others r)) → IfOk result (λ a. (command : Command) (bytes : List ℕ) (players : List Seen) → reads_file (Some command) ≡ true → limit < length bytes → AnswersTo command bytes players players a.status a.output.items)
+refused_long others r (Ok a) n o s is = λ command bytes players reads l. answers_to command bytes players a.output.items a.status reads is.0 (line_of bytes a.output.items r 2 None (decimal (limit + 1)) (too_long l) n o s (is.1 ∙ no_place bytes others r o))
 refused_long others r (Err e) n o s is = tt
 
-pub refused_as : (command : Command) (bytes : List ℕ) (r : Refusal) (result : Result Answer Stop) → Refuses bytes r.number r.offset r.shown.items → IfOk result (λ a. (a.status ≡ Refused) × (a.output.items ≡ refused_text bytes r)) → (players : List Seen) → IfOk result (λ a. AnswersTo command bytes players players a.status a.output.items)
-refused_as command bytes r (Ok a) h is = λ players. answers_to command bytes players a.output.items a.status is.0 (r, h, is.1)
-refused_as command bytes r (Err e) h is = λ players. tt
+pub refused_as : (command : Command) (bytes : List ℕ) (r : Refusal) (result : Result Answer Stop) → reads_file (Some command) ≡ true → Refuses bytes r.number r.offset r.shown.items → IfOk result (λ a. (a.status ≡ Refused) × (a.output.items ≡ refused_text bytes r)) → (players : List Seen) → IfOk result (λ a. AnswersTo command bytes players players a.status a.output.items)
+refused_as command bytes r (Ok a) reads h is = λ players. answers_to command bytes players a.output.items a.status reads is.0 (r, h, is.1)
+refused_as command bytes r (Err e) reads h is = λ players. tt
 
-pub answers_long : (command : Command) (players : List Seen) (left : Option (List ℕ)) (result : Result Answer Stop) → IfSome left (λ bytes. limit < length bytes) → IfOk result (λ a. (command : Command) (bytes : List ℕ) (players : List Seen) → limit < length bytes → AnswersTo command bytes players players a.status a.output.items) → IfOk result (λ a. IfSome left (λ bytes. AnswersTo command bytes players players a.status a.output.items))
-answers_long command players None (Ok a) long is = tt
-answers_long command players (Some bytes) (Ok a) long is = is command bytes players long
-answers_long command players left (Err e) long is = tt
+pub answers_long : (command : Command) (players : List Seen) (left : Option (List ℕ)) (result : Result Answer Stop) → reads_file (Some command) ≡ true → IfSome left (λ bytes. limit < length bytes) → IfOk result (λ a. (command : Command) (bytes : List ℕ) (players : List Seen) → reads_file (Some command) ≡ true → limit < length bytes → AnswersTo command bytes players players a.status a.output.items) → IfOk result (λ a. IfSome left (λ bytes. AnswersTo command bytes players players a.status a.output.items))
+answers_long command players None (Ok a) reads long is = tt
+answers_long command players (Some bytes) (Ok a) reads long is = is command bytes players reads long
+answers_long command players left (Err e) reads long is = tt
 
 -- the bytes that were left are those that were taken
 all_taken : (bytes : List ℕ) (new : Option (List ℕ)) (taken : List ℕ) → TakesAll (Some bytes) new taken → bytes ≡ taken

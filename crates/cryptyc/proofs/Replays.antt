@@ -108,7 +108,7 @@ takes_names (takes_act a x) = acts_names x
 takes_names (takes_talk a b x) = omega arith
 
 -- a step more
-append_step : {p q r : Pooled} {ss : List Step} {es : List Event} {s : Step} {e : Option Event} → Replays p ss es q → IsTaken q s e r → Replays p (ss ++ s ∷ []) (es ++ option_to_list e) r
+pub append_step : {p q r : Pooled} {ss : List Step} {es : List Event} {s : Step} {e : Option Event} → Replays p ss es q → IsTaken q s e r → Replays p (ss ++ s ∷ []) (es ++ option_to_list e) r
 append_step {p} {r = r} {s = s} {e = e} replays_none t = subst (λ (l : List Event). Replays p (s ∷ []) l r) (append-nil (option_to_list e)) (replays_step t replays_none)
 append_step {p} {r = r} {s = s} {e = e} (replays_step {s = first} {e = shown} {ss = ss} {es = es} u h) t =
     subst (λ (l : List Event). Replays p (first ∷ (ss ++ s ∷ [])) l r) (sym (append_assoc (option_to_list shown) es (option_to_list e))) (replays_step u (append_step h t))

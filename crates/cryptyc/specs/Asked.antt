@@ -1,10 +1,10 @@
 -- The command that words ask for.
-use Rattle.std.specs.Prelude.{ℕ, ◌<◌, ◌≤◌, List, [], ◌∷◌, ◌++◌, codes, Bool, true, false, if◌then◌else◌, ◌&&◌, Some, None, take, drop, ⊤}
+use Rattle.std.specs.Prelude.{ℕ, ◌<◌, ◌≤◌, ◌==◌, List, [], ◌∷◌, ◌++◌, codes, Bool, true, false, if◌then◌else◌, ◌&&◌, Some, None, take, drop, ⊤}
 use Rattle.std.specs.Option.{ForSome}
 use Rattle.std.specs.Str.{bytes_eq}
 use Rattle.std.specs.declared.option.Option.{Option}
 use Rattle.cryptyc.specs.declared.asked.Command.{Command}
-use Rattle.cryptyc.specs.declared.asked.Command.TheVariants.{Check, Derive, Verify, Replay, Play}
+use Rattle.cryptyc.specs.declared.asked.Command.TheVariants.{Check, Derive, Verify, Replay, Play, Print, Load, Upgrade}
 use Rattle.cryptyc.specs.Number.{number_below}
 
 -- an option with its value in one word is taken apart at its `=`
@@ -44,13 +44,27 @@ alone word =
     (if bytes_eq word (codes "derive") then Some Derive else
     (if bytes_eq word (codes "verify") then Some Verify else
     (if bytes_eq word (codes "replay") then Some Replay else
-    None))))
+    (if bytes_eq word (codes "print") then Some Print else
+    (if bytes_eq word (codes "upgrade") then Some Upgrade else
+    None))))))
+
+-- the one word behind `load`: a number from 1 to 500
+abbrev pub load_of : Option ℕ → Option Command
+load_of None = None
+load_of (Some n) = if n == 0 then None else Some (Load n)
+
+abbrev pub with_number : List (List ℕ) → Option Command
+with_number (n ∷ []) = load_of (number_below 501 n)
+with_number words = None
 
 -- the command that the words spell, where there are so many players
 abbrev pub asked : List (List ℕ) → ℕ → Option Command
 asked [] players = None
 asked (word ∷ []) players = alone word
-asked (word ∷ other ∷ more) players = if bytes_eq word (codes "play") then with_options (pieces (other ∷ more)) players else None
+asked (word ∷ other ∷ more) players =
+    (if bytes_eq word (codes "play") then with_options (pieces (other ∷ more)) players else
+    (if bytes_eq word (codes "load") then with_number (other ∷ more) else
+    None))
 
 -- it asks the players
 abbrev pub is_play : Option Command → Bool
@@ -60,6 +74,21 @@ is_play (Some Derive) = false
 is_play (Some Verify) = false
 is_play (Some Replay) = false
 is_play (Some (Play most only)) = true
+is_play (Some Print) = false
+is_play (Some (Load sessions)) = false
+is_play (Some Upgrade) = false
+
+-- it reads a file
+abbrev pub reads_file : Option Command → Bool
+reads_file None = false
+reads_file (Some Check) = true
+reads_file (Some Derive) = true
+reads_file (Some Verify) = true
+reads_file (Some Replay) = true
+reads_file (Some (Play most only)) = true
+reads_file (Some Print) = true
+reads_file (Some (Load sessions)) = false
+reads_file (Some Upgrade) = true
 
 -- what is known of a command's numbers, where there are so many players
 abbrev pub IsWithin : ℕ → Command → Type 0
@@ -68,3 +97,6 @@ IsWithin players Derive = ⊤
 IsWithin players Verify = ⊤
 IsWithin players Replay = ⊤
 IsWithin players (Play most only) = (most ≤ 1000) × ForSome only (λ place. place < players)
+IsWithin players Print = ⊤
+IsWithin players (Load sessions) = (1 ≤ sessions) × (sessions ≤ 500)
+IsWithin players Upgrade = ⊤

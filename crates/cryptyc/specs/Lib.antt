@@ -3,11 +3,15 @@ pub mod Asked
 pub mod Spelled
 pub mod Answer
 pub mod Deriving
+pub mod Loading
 pub mod Verifying
 pub mod Beside
 pub mod Replaying
 pub mod Playing
+pub mod Upgrading
+pub mod Printing
 pub mod Number
+pub mod Options
 pub mod Commands
 pub mod Reading
 pub mod Run

@@ -15,15 +15,17 @@ use Rattle.cryptyc.specs.Spelled.{SpellsFile, SpellsDerivable, SpellsUnderivable
 use Rattle.cryptyc.specs.Answer.{ChecksTo}
 use Rattle.cryptyc.specs.Deriving.{IsListing, IsLongListing}
 use Rattle.cryptyc.specs.Verifying.{SpellsProved, SpellsUnproved, SpellsUnderived, VerifiesTo}
-use Rattle.cryptyc.specs.Replaying.{SpellsPaid, SpellsUnpaid, SpellsUnplayed}
+use Rattle.cryptyc.specs.Replaying.{SpellsPaid, SpellsUnpaid, SpellsUnplayed, RunsThrough}
 use Rattle.cryptyc.specs.Playing.{IsPlayed}
+use Rattle.cryptyc.specs.Upgrading.{IsUpgrade}
+use Rattle.cryptyc.specs.Printing.{IsPrint, SpellsPrint, SpellsLongPrint, SpellsUpgrade, SpellsLongUpgrade}
 use Rattle.cryptyc.specs.Commands.{AnswersTo}
-use Rattle.spi_spell.specs.Joined.{joined}
+use Rattle.spi_spell.specs.Joined.{joined, with_schedule}
 
 -- What is to be answered to a command, or to no command: the bytes are the file, and the players are as
 -- they are seen before the call and after it.
 abbrev pub Wants : Option Command → List ℕ → List Seen → List Seen → Status → List ℕ → Type 0
-Wants None bytes before after status output = (status ≡ Usage) × (output ≡ codes "usage: check | derive | verify | replay | play --steps N [--player I]\n")
+Wants None bytes before after status output = (status ≡ Usage) × (output ≡ codes "usage: check | derive | verify | replay | play --steps N [--player I] | print | load K | upgrade\n")
 Wants (Some command) bytes before after status output = AnswersTo command bytes before after status output
 
 -- the status comes with a whole output
@@ -90,7 +92,38 @@ pub record IsReplayed (bytes : List ℕ) (status : Status) : Type 0 where
   pub refutes : status ≡ No → ¬ SpellsDerivable bytes
 
 -- After a yes of `play`, where those that may be asked told their ways before, the text that was appended is the one of the
--- steps of any such play of the file's process that has ended: there is one.
+-- steps of any such play of the file's process that has ended: there is one. And after a yes, where the file has neither
+-- schedule nor derivation, the file, one line feed and the text that was appended are a file whose schedule runs through with
+-- the events of the play.
 pub record IsPlayedOn (most : ℕ) (only : Option ℕ) (bytes : List ℕ) (before after : List Seen) (old new : Option (List ℕ)) (status : Status) : Type 0 where
   pub alone : status ≡ Yes → AskedTell only before → (file : Meant) (others : List Seen) (steps : List Step) (events : List Event)
       → SpellsFile bytes file → IsPlayed file most only before others steps events → Appends old new (schedule_text steps)
+  pub joins : status ≡ Yes → (file : Meant) → SpellsFile bytes file → file.schedule ≡ None → file.derivation ≡ None
+      → (steps : List Step) × (events : List Event) × Appends old new (schedule_text steps) × IsPlayed file most only before after steps events
+      × SpellsFile (joined bytes (schedule_text steps)) (with_schedule file steps) × RunsThrough (with_schedule file steps) events
+
+-- `print` answers yes exactly where the file's canonical text is no longer than a file may be, and refused where it is
+-- longer or the file is none; and after a yes what was appended is that text, and it spells the same file.
+pub record IsPrinted (bytes : List ℕ) (old new : Option (List ℕ)) (status : Status) : Type 0 where
+  pub yes : (status ≡ Yes) ↔ ((output : List ℕ) × SpellsPrint bytes output)
+  pub refused : (status ≡ Refused) ↔ (SpellsNone bytes ⊎ ((output : List ℕ) × SpellsLongPrint bytes output))
+  pub reads_back : status ≡ Yes → (file : Meant) → SpellsFile bytes file
+      → (output : List ℕ) × Appends old new output × IsPrint file output × SpellsFile output file
+
+-- `check` and `verify` give the same status on both
+pub record HaveSameAnswers (bytes output : List ℕ) : Type 0 where
+  pub derivable : SpellsDerivable bytes ↔ SpellsDerivable output
+  pub underivable : SpellsUnderivable bytes ↔ SpellsUnderivable output
+  pub proved : SpellsProved bytes ↔ SpellsProved output
+  pub unproved : SpellsUnproved bytes ↔ SpellsUnproved output
+  pub underived : SpellsUnderived bytes ↔ SpellsUnderived output
+
+-- `upgrade` answers yes exactly where the canonical text of the file in version 2 is no longer than a file may be, and
+-- refused where it is longer or the file is none; and after a yes what was appended is that text, and it spells that file,
+-- whose process, opponent, schedule and derivation are those of the first.
+pub record IsUpgraded (bytes : List ℕ) (old new : Option (List ℕ)) (status : Status) : Type 0 where
+  pub yes : (status ≡ Yes) ↔ ((output : List ℕ) × SpellsUpgrade bytes output)
+  pub refused : (status ≡ Refused) ↔ (SpellsNone bytes ⊎ ((output : List ℕ) × SpellsLongUpgrade bytes output))
+  pub reads_back : status ≡ Yes → (file : Meant) → SpellsFile bytes file
+      → (output : List ℕ) × (upgraded : Meant) × Appends old new output × IsUpgrade file upgraded × IsPrint upgraded output
+      × SpellsFile output upgraded × HaveSameAnswers bytes output

@@ -1,8 +1,8 @@
 // The commands that read a file.
-ghost use Rattle.std.specs.Prelude.{◌≡◌, ◌≢◌, ◌+◌, ℕ, ◌<◌, ◌≤◌, List, length, vec_len, false, IfOk, IfSome, OnErr, IsErrOf, Err, Some};
+ghost use Rattle.std.specs.Prelude.{◌≡◌, ◌≢◌, ◌+◌, ℕ, ◌<◌, ◌≤◌, List, length, vec_len, true, false, IfOk, IfSome, OnErr, IsErrOf, Err, Some};
 ghost use Rattle.spi_io.specs.Causes.{Rose, TakesUpTo};
 ghost use Rattle.spi_play.specs.Way.{Seen, seen_of};
-ghost use Rattle.cryptyc.specs.Asked.{is_play, IsWithin};
+ghost use Rattle.cryptyc.specs.Asked.{is_play, reads_file, IsWithin};
 ghost use Rattle.cryptyc.specs.Spelled.{limit};
 ghost use Rattle.cryptyc.specs.Answer.{Refuses};
 ghost use Rattle.cryptyc.specs.Commands.{AnswersTo};
@@ -14,9 +14,11 @@ use crate::asked::Command;
 use crate::check::checked;
 use crate::derive::derived;
 use crate::play::played;
+use crate::print::printed;
 use crate::read::{Unread, read};
 use crate::replay::replayed;
 use crate::status::Status;
+use crate::upgrade::upgraded;
 use crate::verify::verified;
 use spi_io::{Source, Taken, take_all};
 use spi_play::Player;
@@ -27,14 +29,15 @@ use std::alloc::Global;
 /// How many bytes a file may have.
 pub const LIMIT: usize = 16_777_216;
 
-/// What the command answers on the bytes that are left.
+/// What a command that reads a file answers on the bytes that are left.
 pub fn on_file<S: Source>(
     alloc: Global,
     command: Command,
     source: &mut S,
     players: &mut Vec<Box<dyn Player>>,
 ) -> Result<Answer, Stop>
-    requires { IsWithin (vec_len players.old) command }
+    requires reads { reads_file (Some command) ≡ true }
+    requires within { IsWithin (vec_len players.old) command }
     ensures answer { IfOk result (λ answer. IfSome (S.left source.old) (λ bytes. AnswersTo command bytes
         (seen_of (λ b. times b) (λ b. way b) players.old.items) (seen_of (λ b. times b) (λ b. way b) players.new.items)
         answer.status answer.output.items)) }
@@ -55,7 +58,7 @@ pub fn on_file<S: Source>(
 
 /// The refusal of a file with more bytes than that.
 fn too_long(alloc: Global) -> Result<Answer, Stop>
-    ensures ok { IfOk result (λ answer. (command : Command) (bytes : List ℕ) (players : List Seen) → limit < length bytes → AnswersTo command bytes players players answer.status answer.output.items) }
+    ensures ok { IfOk result (λ answer. (command : Command) (bytes : List ℕ) (players : List Seen) → reads_file (Some command) ≡ true → limit < length bytes → AnswersTo command bytes players players answer.status answer.output.items) }
     ensures answered { IfOk result (λ answer. answer.status ≡ Status.Refused) }
     ensures err { OnErr result (result ≡ Err Stop.NoMemory) }
 {
@@ -77,6 +80,7 @@ fn answered(
     players: &mut Vec<Box<dyn Player>>,
 ) -> Result<Answer, Stop>
     requires sized { length bytes.now ≤ 16_777_216 }
+    requires reads { reads_file (Some command) ≡ true }
     requires within { IsWithin (vec_len players.old) command }
     ensures ok { IfOk result (λ answer. AnswersTo command bytes.now
         (seen_of (λ b. times b) (λ b. way b) players.old.items) (seen_of (λ b. times b) (λ b. way b) players.new.items)
@@ -86,7 +90,7 @@ fn answered(
     ensures players { is_play (Some command) ≡ false → players.new ≡ players.old }
 {
     match read(alloc, bytes) {
-        Ok(file) => of_file(alloc, command, bytes, &file, players),
+        Ok(file) => of_file(alloc, command, bytes, file, players),
         Err(unread) => unanswered(alloc, command, bytes, &unread),
     }
 }
@@ -99,6 +103,7 @@ fn unanswered(
     unread: &Unread,
 ) -> Result<Answer, Stop>
     requires sized { length bytes.now ≤ 16_777_216 }
+    requires reads { reads_file (Some command) ≡ true }
     requires unread { IsUnread bytes.now unread.now }
     ensures ok { (players : List Seen) → IfOk result (λ answer. AnswersTo command bytes.now players players answer.status answer.output.items) }
     ensures answered { IfOk result (λ answer. answer.status ≡ Status.Refused) }
@@ -113,6 +118,7 @@ fn unanswered(
 /// The refusal of bytes that spell no file, for this first reason.
 fn refused(alloc: Global, command: Command, bytes: &[u8], r: &Refusal) -> Result<Answer, Stop>
     requires sized { length bytes.now ≤ 16_777_216 }
+    requires reads { reads_file (Some command) ≡ true }
     requires refuses { Refuses bytes.now r.now.number r.now.offset r.now.shown.items }
     ensures ok { (players : List Seen) → IfOk result (λ answer. AnswersTo command bytes.now players players answer.status answer.output.items) }
     ensures answered { IfOk result (λ answer. answer.status ≡ Status.Refused) }
@@ -128,11 +134,12 @@ fn of_file(
     alloc: Global,
     command: Command,
     bytes: &[u8],
-    file: &File,
+    file: File,
     players: &mut Vec<Box<dyn Player>>,
 ) -> Result<Answer, Stop>
     requires sized { length bytes.now ≤ 16_777_216 }
-    requires read { IsRead bytes.now file.now }
+    requires reads { reads_file (Some command) ≡ true }
+    requires read { IsRead bytes.now file }
     requires within { IsWithin (vec_len players.old) command }
     ensures ok { IfOk result (λ answer. AnswersTo command bytes.now
         (seen_of (λ b. times b) (λ b. way b) players.old.items) (seen_of (λ b. times b) (λ b. way b) players.new.items)
@@ -142,10 +149,13 @@ fn of_file(
     ensures players { is_play (Some command) ≡ false → players.new ≡ players.old }
 {
     match command {
-        Command::Check => checked(alloc, bytes, file),
-        Command::Derive => derived(alloc, bytes, file),
-        Command::Verify => verified(alloc, bytes, file),
-        Command::Replay => replayed(alloc, bytes, file),
-        Command::Play { most, only } => played(alloc, bytes, file, players, most, only),
+        Command::Check => checked(alloc, bytes, &file),
+        Command::Derive => derived(alloc, bytes, &file),
+        Command::Verify => verified(alloc, bytes, &file),
+        Command::Replay => replayed(alloc, bytes, &file),
+        Command::Play { most, only } => played(alloc, bytes, &file, players, most, only),
+        Command::Print => printed(alloc, bytes, &file),
+        Command::Upgrade => upgraded(alloc, bytes, file),
+        Command::Load { .. } => unreachable!(),
     }
 }

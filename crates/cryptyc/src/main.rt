@@ -1,5 +1,5 @@
-//! Checks a file that is read from standard input, derives its typing, verifies the derivation that it has or replays its
-//! schedule, and writes the answer to standard output.
+//! Checks a file that is read from standard input, derives its typing, verifies the derivation that it has, replays its
+//! schedule or plays one, and writes the answer to standard output.
 #![tactic(auto)]
 
 mod answer;
@@ -7,13 +7,17 @@ mod asked;
 mod check;
 mod derive;
 mod file;
+mod load;
 mod opponent;
+mod options;
 mod play;
 mod players;
+mod print;
 mod read;
 mod replay;
 mod run;
 mod status;
+mod upgrade;
 mod verify;
 
 pub use players::{FirstReady, InTurn, Seeded};

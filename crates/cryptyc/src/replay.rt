@@ -5,6 +5,7 @@ ghost use Rattle.spi_run.specs.Opponent.{IsOpponent};
 ghost use Rattle.spi_run.specs.Reduction.{Event as Shown};
 ghost use Rattle.spi_run.specs.View.{step as step_of, event as event_of};
 ghost use Rattle.spi_replay.specs.Stepping.{Refuses, IsTaken, event_in};
+ghost use Rattle.spi_trace.specs.Pairing.{IsPairing};
 ghost use Rattle.spi_scope.specs.Places.{place_in};
 ghost use Rattle.cryptyc.specs.Beside.{IsPlaced};
 ghost use Rattle.spi_scope.specs.Files.{meant};
@@ -17,11 +18,11 @@ use crate::opponent::{missing, not_opponent};
 use crate::status::Status;
 use spi_opponent::is_opponent;
 use spi_replay::{Pool, StepFault};
-use spi_report::{Refusal, events};
+use spi_report::{Refusal, events, first_unpaid};
 use spi_run::{Event, Step};
 use spi_scope::File;
 use spi_term::Process;
-use spi_trace::{always_paid, always_paid_many, pair_up};
+use spi_trace::{Pairing, pair_up, paired_is_paid};
 use std::alloc::Global;
 
 /// How many places a replay may have.
@@ -153,20 +154,20 @@ fn judged(alloc: Global, file: &File, happened: &[Event]) -> Result<Answer, Stop
     let pairing = pair_up(alloc, happened)?;
     let output = events(alloc, file, happened, &pairing)?;
     Ok(Answer {
-        status: judgement(happened),
+        status: judgement(happened, &pairing),
         output,
     })
 }
 
-/// Yes where each end and endmany is paid, and no elsewhere.
-fn judgement(happened: &[Event]) -> Status
-    requires { length happened.now < 2 ^ 32 }
+/// Yes where the pairing has a begin for each end and endmany, and no elsewhere.
+fn judgement(happened: &[Event], pairing: &Pairing) -> Status
+    requires { IsPairing (map event_of happened.now) pairing.now.from.items }
     ensures { IsJudged (map event_of happened.now) result }
 {
-    if always_paid(happened) && always_paid_many(happened) {
-        Status::Yes
-    } else {
-        Status::No
+    paired_is_paid();
+    match first_unpaid(happened, &pairing.from) {
+        None => Status::Yes,
+        Some(_) => Status::No,
     }
 }
 

@@ -3,14 +3,16 @@ ghost use Rattle.std.specs.Prelude.{Option, ◌≡◌, ◌≢◌, ◌+◌, ◌�
 ghost use Rattle.spi_io.specs.Causes.{Rose, TakesUpTo};
 ghost use Rattle.spi_scope.specs.StandsFor.{Meant};
 ghost use Rattle.spi_play.specs.Way.{seen_of};
-ghost use Rattle.cryptyc.specs.Asked.{asked, is_play, IsWithin};
+ghost use Rattle.cryptyc.specs.Asked.{asked, is_play, reads_file, IsWithin};
 ghost use Rattle.cryptyc.specs.Spelled.{limit, SpellsFile, SpellsNone, IsManySafe};
 ghost use Rattle.cryptyc.specs.Answer.{Refuses};
-ghost use Rattle.cryptyc.specs.Run.{Wants, IsAnswered, Ends, Completes, IsExact, IsDerived, IsVerified, IsReplayed, IsPlayedOn};
+ghost use Rattle.cryptyc.specs.Loading.{LoadsTo};
+ghost use Rattle.cryptyc.specs.Run.{Wants, IsAnswered, Ends, Completes, IsExact, IsDerived, IsVerified, IsReplayed, IsPlayedOn, IsPrinted, IsUpgraded};
 
 use crate::answer::{Answer, Stop, made};
 use crate::asked::{Command, asked_of};
 use crate::file::on_file;
+use crate::load::loads;
 use crate::status::Status;
 use spi_deriv::one_canonical;
 use spi_io::{Put, Sink, Source, put_all};
@@ -19,7 +21,7 @@ use spi_parse::one_placed_tree;
 use spi_play::Player;
 use spi_scope::one_or_other;
 use spi_sound::{derivable_is_many_safe, derivable_is_safe};
-use spi_spell::derivation_joins;
+use spi_spell::{canonical_reads_back, derivation_joins, schedule_joins};
 use std::alloc::Global;
 
 /// Does what the words ask for: reads a file from the source, writes the answer to the sink, and says how
@@ -40,7 +42,7 @@ pub fn run<S: Source, K: Sink>(
     ensures many_to_one { asked (map string_bytes words.now) (vec_len players.old) ≡ Some Command.Check → IfSome (S.left source.old) (λ bytes.
         result ≡ Status.Yes → IsManySafe bytes) }
 
-    // What `derive`, `verify`, `replay` and `play` answer, under the same conditions.
+    // What `derive`, `verify`, `replay`, `play`, `print` and `upgrade` answer, under the same conditions.
     ensures derive { asked (map string_bytes words.now) (vec_len players.old) ≡ Some Command.Derive → IfSome (S.left source.old) (λ bytes.
         ¬ Rose (S.faults source.old) (S.faults source.new) → ¬ Rose (K.faults sink.old) (K.faults sink.new) → result ≢ Status.NoMemory
         → IsDerived bytes (K.holds sink.old) (K.holds sink.new) result) }
@@ -53,17 +55,27 @@ pub fn run<S: Source, K: Sink>(
     ensures play { (most : ℕ) (only : Option ℕ) → asked (map string_bytes words.now) (vec_len players.old) ≡ Some (Command.Play most only) → IfSome (S.left source.old) (λ bytes.
         ¬ Rose (S.faults source.old) (S.faults source.new) → ¬ Rose (K.faults sink.old) (K.faults sink.new) → result ≢ Status.NoMemory
         → IsPlayedOn most only bytes (seen_of (λ b. times b) (λ b. way b) players.old.items) (seen_of (λ b. times b) (λ b. way b) players.new.items) (K.holds sink.old) (K.holds sink.new) result) }
+    ensures print { asked (map string_bytes words.now) (vec_len players.old) ≡ Some Command.Print → IfSome (S.left source.old) (λ bytes.
+        ¬ Rose (S.faults source.old) (S.faults source.new) → ¬ Rose (K.faults sink.old) (K.faults sink.new) → result ≢ Status.NoMemory
+        → IsPrinted bytes (K.holds sink.old) (K.holds sink.new) result) }
+    ensures upgrade { asked (map string_bytes words.now) (vec_len players.old) ≡ Some Command.Upgrade → IfSome (S.left source.old) (λ bytes.
+        ¬ Rose (S.faults source.old) (S.faults source.new) → ¬ Rose (K.faults sink.old) (K.faults sink.new) → result ≢ Status.NoMemory
+        → IsUpgraded bytes (K.holds sink.old) (K.holds sink.new) result) }
+
+    // Whatever the source tells, `load` answers yes.
+    ensures load { (sessions : ℕ) → asked (map string_bytes words.now) (vec_len players.old) ≡ Some (Command.Load sessions)
+        → Ends (LoadsTo sessions) (K.holds sink.old) (K.holds sink.new) result }
 
     // Where the source tells its bytes, the status is the one that these words and bytes ask for, and its output is appended.
     ensures answer { IfSome (S.left source.old) (λ bytes. Ends (Wants (asked (map string_bytes words.now) (vec_len players.old)) bytes (seen_of (λ b. times b) (λ b. way b) players.old.items) (seen_of (λ b. times b) (λ b. way b) players.new.items)) (K.holds sink.old) (K.holds sink.new) result) }
     ensures complete { IfSome (S.left source.old) (λ bytes. ¬ Rose (S.faults source.old) (S.faults source.new) → ¬ Rose (K.faults sink.old) (K.faults sink.new)
         → Completes (Wants (asked (map string_bytes words.now) (vec_len players.old)) bytes (seen_of (λ b. times b) (λ b. way b) players.old.items) (seen_of (λ b. times b) (λ b. way b) players.new.items)) (K.holds sink.old) (K.holds sink.new) result) }
 
-    // Whatever the source tells: the words alone decide on the usage line, and with it nothing is read.
+    // Whatever the source tells: the words alone decide on the usage line, and with it and with `load` nothing is read.
     ensures usage { result ≡ Status.Usage → (asked (map string_bytes words.now) (vec_len players.old) ≡ None) }
     ensures no_usage { (asked (map string_bytes words.now) (vec_len players.old) ≡ None) → (result ≡ Status.Usage) ⊎ (result ≡ Status.WriteFault) ⊎ (result ≡ Status.NoMemory) }
     ensures usage_line { (asked (map string_bytes words.now) (vec_len players.old) ≡ None) → Ends (Wants None [] [] []) (K.holds sink.old) (K.holds sink.new) result }
-    ensures unread { (asked (map string_bytes words.now) (vec_len players.old) ≡ None) → source.new ≡ source.old }
+    ensures unread { reads_file (asked (map string_bytes words.now) (vec_len players.old)) ≡ false → source.new ≡ source.old }
 
     // A fault has its cause, and with a fault of reading or of memory nothing is written.
     ensures read_fault { result ≡ Status.ReadFault → Rose (S.faults source.old) (S.faults source.new) }
@@ -84,6 +96,8 @@ pub fn run<S: Source, K: Sink>(
     derivable_is_many_safe();
     one_canonical();
     derivation_joins();
+    schedule_joins();
+    canonical_reads_back();
     run_for(alloc, words, source, sink, players)
 }
 
@@ -115,10 +129,12 @@ fn run_for<S: Source, K: Sink>(
 ) -> Status
     ensures answer { IfSome (S.left source.old) (λ bytes. Ends (Wants (asked (map string_bytes words.now) (vec_len players.old)) bytes (seen_of (λ b. times b) (λ b. way b) players.old.items) (seen_of (λ b. times b) (λ b. way b) players.new.items)) (K.holds sink.old) (K.holds sink.new) result) }
 
+    ensures load { (sessions : ℕ) → asked (map string_bytes words.now) (vec_len players.old) ≡ Some (Command.Load sessions)
+        → Ends (LoadsTo sessions) (K.holds sink.old) (K.holds sink.new) result }
     ensures usage { result ≡ Status.Usage → (asked (map string_bytes words.now) (vec_len players.old) ≡ None) }
     ensures no_usage { (asked (map string_bytes words.now) (vec_len players.old) ≡ None) → (result ≡ Status.Usage) ⊎ (result ≡ Status.WriteFault) ⊎ (result ≡ Status.NoMemory) }
     ensures usage_line { (asked (map string_bytes words.now) (vec_len players.old) ≡ None) → Ends (Wants None [] [] []) (K.holds sink.old) (K.holds sink.new) result }
-    ensures unread { (asked (map string_bytes words.now) (vec_len players.old) ≡ None) → source.new ≡ source.old }
+    ensures unread { reads_file (asked (map string_bytes words.now) (vec_len players.old)) ≡ false → source.new ≡ source.old }
 
     ensures read_fault { result ≡ Status.ReadFault → Rose (S.faults source.old) (S.faults source.new) }
     ensures failed_reads { result ≢ Status.ReadFault → S.failed_reads source.new ≡ S.failed_reads source.old }
@@ -128,7 +144,10 @@ fn run_for<S: Source, K: Sink>(
     ensures reads { S.reads source.new ≤ S.reads source.old + limit + 2 }
     ensures players { is_play (asked (map string_bytes words.now) (vec_len players.old)) ≡ false → players.new ≡ players.old }
 {
-    match answer_to(alloc, asked_of(words, players.len()), source, players) {
+    let Ok(command) = asked_of(alloc, words, players.len()) else {
+        return Status::NoMemory;
+    };
+    match answer_to(alloc, command, source, players) {
         Ok(answer) => match put_all(sink, &answer.output) {
             Ok(()) => answer.status,
             Err(Put::WriteFault) => Status::WriteFault,
@@ -152,8 +171,9 @@ fn answer_to<S: Source>(
     ensures answered { IfOk result (λ answer. IsAnswered answer.status) }
     ensures usage { IfOk result (λ answer. (answer.status ≡ Status.Usage) ↔ (command ≡ None)) }
     ensures usage_line { command ≡ None → IfOk result (λ answer. Wants None [] [] [] answer.status answer.output.items) }
-    ensures unread { command ≡ None → source.new ≡ source.old }
-    ensures memory { command ≡ None → OnErr result (result ≡ Err Stop.NoMemory) }
+    ensures unread { reads_file command ≡ false → source.new ≡ source.old }
+    ensures load { (sessions : ℕ) → command ≡ Some (Command.Load sessions) → IfOk result (λ answer. LoadsTo sessions answer.status answer.output.items) }
+    ensures memory { reads_file command ≡ false → OnErr result (result ≡ Err Stop.NoMemory) }
     ensures read_fault { IsErrOf result Stop.ReadFault → Rose (S.faults source.old) (S.faults source.new) }
     ensures failed_reads { ¬ IsErrOf result Stop.ReadFault → S.failed_reads source.new ≡ S.failed_reads source.old }
     ensures taken { TakesUpTo (S.left source.old) (S.left source.new) (limit + 1) }
@@ -161,11 +181,12 @@ fn answer_to<S: Source>(
     ensures players { is_play command ≡ false → players.new ≡ players.old }
 {
     match command {
+        Some(Command::Load { sessions }) => loads(alloc, sessions),
         Some(command) => on_file(alloc, command, source, players),
         None => made(
             alloc,
             Status::Usage,
-            b"usage: check | derive | verify | replay | play --steps N [--player I]\n",
+            b"usage: check | derive | verify | replay | play --steps N [--player I] | print | load K | upgrade\n",
         ),
     }
 }

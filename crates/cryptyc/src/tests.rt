@@ -124,7 +124,7 @@ fn other_words_get_the_usage_line(rt: HostRuntime) -> Result<(), Fail> {
         let (sink, ended) = answer(rt.alloc(), words, b"process stop")?;
         assert_eq!(rt;
             sink.bytes(),
-            b"usage: check | derive | verify | replay | play --steps N [--player I]\n".as_slice()
+            b"usage: check | derive | verify | replay | play --steps N [--player I] | print | load K | upgrade\n".as_slice()
         );
         assert_eq!(rt; ended, 6);
     }
@@ -186,7 +186,7 @@ fn words_ask_for_plays(rt: HostRuntime) -> Result<(), Fail> {
         for word in words {
             asked.push(String::from_str(alloc, word)?)?;
         }
-        assert_eq!(rt; asked_of(&asked, 3), command);
+        assert_eq!(rt; asked_of(alloc, &asked, 3)?, command);
     }
     Ok(())
 }

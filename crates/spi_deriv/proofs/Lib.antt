@@ -4,5 +4,4 @@ pub mod Heads
 pub mod Passing
 pub mod Spelled
 pub mod Stacked
-pub mod Texts
 pub mod Written

@@ -11,6 +11,7 @@ ghost use Rattle.spi_rules.specs.Deriv.{rule_use, rule_uses};
 ghost use Rattle.spi_rules.specs.Least.{Least};
 ghost use Rattle.spi_deriv.specs.Agenda.{types_of, tops, IsPassed};
 ghost use Rattle.spi_deriv.specs.Canonical.{Canonical};
+ghost use Rattle.spi_deriv.specs.Text.{derivation_text};
 ghost use Rattle.spi_deriv.specs.Uses.{process_uses};
 
 use crate::NoMemory;
@@ -18,6 +19,7 @@ use crate::agenda::{Binding, put_off, settle};
 use crate::choosing::push_uses;
 use spi_infer::{Inferred, infer};
 use spi_rules::{Deriv, RuleUse};
+use spi_show::show_derivation;
 use spi_term::{Effect, Node, Process, Ty};
 use std::alloc::Global;
 
@@ -104,4 +106,13 @@ pub fn derive(alloc: Global, process: &Process) -> Result<Option<Deriv>, NoMemor
         Inferred::Blocked(_) => Ok(None),
         Inferred::Least(least) => derive_by(alloc, process, &least),
     }
+}
+
+/// The text of a derivation: the line `derivation`, and a line for each rule use, in preorder. A use of `ProcSub` has its
+/// effect behind a space, as `ProcSub [end #0, check (#1, #2)]`, with `#` and its number for each name. Its only error is
+/// NoMemory.
+pub fn write(alloc: Global, d: &Deriv) -> Result<Vec<u8>, NoMemory>
+    ensures { IfOk result (λ text. text.items ≡ derivation_text (rule_uses d.now)) }
+{
+    show_derivation(alloc, d)
 }

@@ -7,12 +7,10 @@ mod derivation;
 mod laws;
 mod messages;
 mod seeing;
-mod writing;
 
-pub use derivation::derive;
+pub use derivation::{derive, write};
 pub use laws::one_canonical;
 use std::alloc::AllocError;
-pub use writing::write;
 
 /// Memory ran out.
 pub type NoMemory = AllocError;

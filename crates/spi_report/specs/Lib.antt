@@ -3,3 +3,4 @@ pub mod Refused
 pub mod Fault
 pub mod Wrong
 pub mod Events
+pub mod Loaded

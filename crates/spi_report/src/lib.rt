@@ -4,13 +4,15 @@
 ghost use Rattle.std.specs.Prelude.{◌≡◌, codes};
 
 mod fault;
+mod load;
 mod refusal;
 mod replay;
 mod wrong;
 
 pub use fault::no_fault;
+pub use load::loaded;
 pub use refusal::{Refusal, refused};
-pub use replay::events;
+pub use replay::{events, first_unpaid};
 use std::alloc::AllocError;
 pub use wrong::wrong_step;
 

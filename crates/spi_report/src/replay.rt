@@ -94,8 +94,9 @@ fn is_unpaid(e: &Event, begin: Option<u32>) -> bool
     }
 }
 
-// The first of them.
-fn first_unpaid(events: &[Event], from: &[Option<u32>]) -> Option<usize>
+/// The first end or endmany without a begin, by its index, where there is one. The condition is that there is an entry for
+/// each event.
+pub fn first_unpaid(events: &[Event], from: &[Option<u32>]) -> Option<usize>
     requires { length from.now ≡ length events.now }
     ensures first { result ≡ first_unpaid_of 0 (map event events.now) from.now }
     ensures within { IfSome result (λ k. k < length events.now) }

@@ -136,3 +136,14 @@ fn lines_of_events(rt: HostRuntime) -> Result<(), Fail> {
     are_written(&rt, alloc, &bound, "1 begin #7\n2 end #7 from 1\npaid\n")?;
     are_written(&rt, alloc, &[], "paid\n")
 }
+
+#[test]
+fn line_of_a_load(rt: HostRuntime) -> Result<(), Fail> {
+    let alloc = rt.alloc();
+    let line = loaded(alloc, 1, 92, 30)?;
+    assert_eq!(rt;
+        line.as_slice(),
+        b"load 1: 92 nodes, 30 rules, yes\n".as_slice()
+    );
+    Ok(())
+}

@@ -1,1 +1,5 @@
 pub mod Lines
+pub mod Texts
+pub mod Indexed
+pub mod Passing
+pub mod Shifts

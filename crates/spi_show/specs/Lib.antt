@@ -1,2 +1,10 @@
 pub mod Report
 pub mod Steps
+pub mod Spelled
+pub mod Terms
+pub mod Processes
+pub mod Derivations
+pub mod Spells
+pub mod Pieces
+pub mod Shifts
+pub mod Files

@@ -1,12 +1,23 @@
 //! Texts of the calculus.
 #![tactic(auto)]
 
+mod derivations;
+mod files;
+mod nodes;
+mod pieces;
+mod processes;
 mod report;
+mod shift;
+mod spell;
 mod steps;
+mod terms;
 #[cfg(test)]
 mod tests;
 
+pub use derivations::show_derivation;
+pub use files::show_file;
 pub use report::{show_atom, show_message};
+pub use shift::least_behind;
 use std::alloc::AllocError;
 pub use steps::show_steps;
 

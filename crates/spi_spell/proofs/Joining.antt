@@ -30,7 +30,8 @@ use Rattle.spi_spell.proofs.Together.{text_behind}
 use Rattle.spi_spell.proofs.Same.{same_version, same_decls, same_proc, same_opponent, same_schedule}
 use Rattle.spi_spell.proofs.Derived.{Derives, rule_words}
 use Rattle.spi_spell.proofs.Fitting.{Fits, effect_derives}
-use Rattle.spi_spell.proofs.Shallow.{proc_fits, small, past_version, past_decls}
+use Rattle.spi_spell.proofs.Past.{past_version, past_decls}
+use Rattle.spi_spell.proofs.Shallow.{proc_fits, small}
 use Rattle.spi_spell.proofs.Texts.{derivation_kinds, derivation_writes, steps_kinds, schedule_kinds, schedule_writes}
 use Rattle.spi_spell.proofs.Scheduled.{read_steps, steps_clean}
 

@@ -38,7 +38,7 @@ module _ (R : List Piece → List Piece → Type 0) (cons : (p : Piece) (x y : L
   same_atoms n [] h = h
   same_atoms n (e ∷ es) h = one (same_atom n e (same_atoms n es h))
 
-  same_effect : (n : ℕ) (es : List t.Atom) {x y : List Piece} → R x y → R (effect_pieces n es x) (effect_pieces n es y)
+  pub same_effect : (n : ℕ) (es : List t.Atom) {x y : List Piece} → R x y → R (effect_pieces n es x) (effect_pieces n es y)
   same_effect n [] h = two h
   same_effect n (e ∷ es) h = one (same_atom n e (same_atoms n es (one h)))
 

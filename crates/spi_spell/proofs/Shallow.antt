@@ -5,7 +5,7 @@ use Rattle.std.proofs.lemmas.Bool.{cases_Bool, cond-true, ltb-false}
 use Rattle.spi_text.specs.declared.lines.Span.{Span}
 use Rattle.spi_tree.specs.declared.tree.SWord.{SWord}
 use Rattle.spi_tree.specs.Trees as t
-use Rattle.spi_tree.specs.Pieces.{Piece, opens, cell, closes, Place, in_seq, at_level, nesting_of, level_of, below, beside, msg_pieces, named_pieces, binder_pieces, decls_pieces, version_pieces, proc_pieces}
+use Rattle.spi_tree.specs.Pieces.{Piece, Place, in_seq, at_level, nesting_of, level_of, below, beside, proc_pieces}
 use Rattle.spi_tree.specs.Formed.{IsMsg, AreMsgs, IsProc}
 use Rattle.spi_parse.specs.Exact.{IsWithin}
 use Rattle.spi_term.specs.Term.{Message, bound, name, unit, pair, in_left, in_right, enc, hash, Process, leaf, prefix, fork, message_size}
@@ -16,7 +16,7 @@ use Rattle.spi_scope.specs.Points.{Point, uses_name, uses_type, declares_name, d
 use Rattle.spi_scope.specs.First.{Clean}
 use Rattle.spi_scope.proofs.Sizes.{message_sized}
 use Rattle.spi_spell.proofs.Fitting.{FitsMessage, Fits, bound_put}
-use Rattle.spi_spell.proofs.Same.{same_msg, same_named, same_binder, same_proc, same_decls, same_version}
+use Rattle.spi_spell.proofs.Past.{past_msg, past_named, past_binder, past_proc}
 
 -- ---- no message is too large
 
@@ -130,31 +130,6 @@ module _ (later : Bool) (k : ℕ) (xs : Names) where
 
   whole_fits : (m : t.Msg) (n : ℕ) → IsMsg later false m → msg_nodes xs m ≤ 200 → n ≤ 700 → FitsMessage later n (message_in k xs m)
   whole_fits m n h few low = (let same = message_sized k xs m in msg_fits m n h (omega arith))
-
--- ---- past a part of a tree
-
-skip_one : (r : List Piece) (p : Piece) (x y : List Piece) → (IsWithin x → IsWithin r) → IsWithin (p ∷ x) → IsWithin r
-skip_one r (opens from) x y f h = f h
-skip_one r (cell kind deep) x y f h = f h.1
-skip_one r (closes to) x y f h = f h
-
-past_msg : (m : t.Msg) (r : List Piece) → IsWithin (msg_pieces 1 m r) → IsWithin r
-past_msg m r h = same_msg (λ x y. IsWithin x → IsWithin r) (skip_one r) 1 m {x = r} {y = r} (λ k. k) h
-
-past_named : (w : SWord) (a : t.Ty) (r : List Piece) → IsWithin (named_pieces w a r) → IsWithin r
-past_named w a r h = same_named (λ x y. IsWithin x → IsWithin r) (skip_one r) w a {x = r} {y = r} (λ k. k) h
-
-past_binder : (w : SWord) (a : t.Ty) (r : List Piece) → IsWithin (binder_pieces w a r) → IsWithin r
-past_binder w a r h = same_binder (λ x y. IsWithin x → IsWithin r) (skip_one r) w a {x = r} {y = r} (λ k. k) h
-
-past_proc : (at : Place) (p : t.Proc) (r : List Piece) → IsWithin (proc_pieces at p r) → IsWithin r
-past_proc at p r h = same_proc (λ x y. IsWithin x → IsWithin r) (skip_one r) at p {x = r} {y = r} (λ k. k) h
-
-pub past_decls : (ds : List t.Declared) (r : List Piece) → IsWithin (decls_pieces ds r) → IsWithin r
-past_decls ds r h = same_decls (λ x y. IsWithin x → IsWithin r) (skip_one r) ds {x = r} {y = r} (λ k. k) h
-
-pub past_version : (v : ℕ) (r : List Piece) → IsWithin (version_pieces v r) → IsWithin r
-past_version v r h = same_version (λ x y. IsWithin x → IsWithin r) (skip_one r) v {x = r} {y = r} (λ k. k) h
 
 -- ---- processes
 

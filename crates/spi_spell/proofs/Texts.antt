@@ -100,11 +100,11 @@ abbrev pub steps_kinds : List Step → List Kind
 steps_kinds [] = []
 steps_kinds (s ∷ ss) = step_kinds s ++ steps_kinds ss
 
-act_kind : (later : Bool) → IsKind (words_of later) (kinds.Word (codes "act"))
+pub act_kind : (later : Bool) → IsKind (words_of later) (kinds.Word (codes "act"))
 act_kind true = (letters_identifier (codes "act") refl (omega arith), omega arith, refl)
 act_kind false = (letters_identifier (codes "act") refl (omega arith), omega arith, refl)
 
-talk_kind : (later : Bool) → IsKind (words_of later) (kinds.Word (codes "talk"))
+pub talk_kind : (later : Bool) → IsKind (words_of later) (kinds.Word (codes "talk"))
 talk_kind true = (letters_identifier (codes "talk") refl (omega arith), omega arith, refl)
 talk_kind false = (letters_identifier (codes "talk") refl (omega arith), omega arith, refl)
 

@@ -78,7 +78,7 @@ tokens_joined (a ∷ b ∷ c ∷ ps) qs w ks e =
 
 -- ---- words that are no other in version 2
 
-found_on : (l more : List Reserved) (name : List ℕ) (w : Reserved) → word_of l name ≡ Some w → word_of (l ++ more) name ≡ Some w
+pub found_on : (l more : List Reserved) (name : List ℕ) (w : Reserved) → word_of l name ≡ Some w → word_of (l ++ more) name ≡ Some w
 found_on [] more name w e = absurd cc
 found_on (x ∷ l) more name w e = go (bytes_eq (word_bytes x) name) e (λ k. found_on l more name w k)
   where

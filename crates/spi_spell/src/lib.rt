@@ -1,11 +1,17 @@
-//! What is written behind a file is read with it.
+//! What is written behind a file is read with it, and the canonical text of a file is read as that file.
 #![tactic(auto)]
 
 ghost use Rattle.std.specs.Prelude.{◌≡◌, ◌≤◌, ℕ, List, length, None};
 ghost use Rattle.std.specs.List.{All};
 ghost use Rattle.spi_rules.specs.Derivations.{RuleUse};
 ghost use Rattle.spi_run.specs.Reduction.{Step};
-ghost use Rattle.spi_scope.specs.StandsFor.{Meant};
+ghost use Rattle.spi_lex.specs.Writing.{AreKinds};
+ghost use Rattle.spi_tree.specs.Trees.{File};
+ghost use Rattle.spi_tree.specs.Pieces.{tokens_of};
+ghost use Rattle.spi_parse.specs.Exact.{IsWithin};
+ghost use Rattle.spi_parse.specs.Formed.{IsFile, whole_file};
+ghost use Rattle.spi_scope.specs.StandsFor.{Meant, StandsFor};
+ghost use Rattle.spi_show.specs.Files.{IsCanonicalText};
 ghost use Rattle.spi_deriv.specs.Canonical.{Canonical};
 ghost use Rattle.spi_deriv.specs.Text.{derivation_text};
 ghost use Rattle.spi_spell.specs.Spelled.{limit, SpellsFile};
@@ -21,4 +27,15 @@ pub fn derivation_joins()
 /// places are below 2 ^ 32, are a file with that schedule.
 pub fn schedule_joins()
     ensures { (bytes : List ℕ) (file : Meant) (steps : List Step) → SpellsFile bytes file → file.schedule ≡ None → file.derivation ≡ None → length steps ≤ 10000 → All HasLowPlaces steps → length (joined bytes (schedule_text steps)) ≤ limit → SpellsFile (joined bytes (schedule_text steps)) (with_schedule file steps) }
+{}
+
+/// The canonical text of a file that bytes spell, where it isn't longer than a file may be, spells that file as well.
+pub fn canonical_reads_back()
+    ensures { (bytes text : List ℕ) (file : Meant) → SpellsFile bytes file → IsCanonicalText file text → length text ≤ limit → SpellsFile text file }
+{}
+
+/// The same of each file that a tree stands for: a formed tree within the nesting limits, whose words and numbers are
+/// those of tokens.
+pub fn printed_trees_read_back()
+    ensures { (tree : File) (file : Meant) (text : List ℕ) → IsFile tree → IsWithin (whole_file tree) → AreKinds (tokens_of tree) → StandsFor tree file → IsCanonicalText file text → length text ≤ limit → SpellsFile text file }
 {}

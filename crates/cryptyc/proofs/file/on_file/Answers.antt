@@ -4,7 +4,7 @@ use Rattle.cryptyc.proofs.file.on_file.Goals as goal
 
 pub returns-in-Err-TooLong-clause-answer : goal.returns-in-Err-TooLong-clause-answer
 returns-in-Err-TooLong-clause-answer g c =
-    answers_long _ _ _ c.too_long.result (taken_long _ _ (c.in-Err-TooLong.ensures.too_long (search rules))) c.too_long.ensures.ok
+    answers_long _ _ _ c.too_long.result c.requires.reads (taken_long _ _ (c.in-Err-TooLong.ensures.too_long (search rules))) c.too_long.ensures.ok
 
 pub returns-in-Ok-clause-answer : goal.returns-in-Ok-clause-answer
 returns-in-Ok-clause-answer g c =

@@ -9,4 +9,4 @@ pub refusal-requires-clause-within : goal.refusal-requires-clause-within
 refusal-requires-clause-within c = refused_within c.faults_stand_at_nodes.ensures c.requires.refuses
 
 pub returns-clause-ok : goal.returns-clause-ok
-returns-clause-ok c = refused_as c.args.command c.args.bytes.now c.args.r.now c.refusal.result c.requires.refuses c.refusal.ensures.ok
+returns-clause-ok c = refused_as c.args.command c.args.bytes.now c.args.r.now c.refusal.result c.requires.reads c.requires.refuses c.refusal.ensures.ok

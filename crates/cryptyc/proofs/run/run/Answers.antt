@@ -1,7 +1,11 @@
-use Rattle.cryptyc.proofs.Ending.{headline, many_to_one}
+use Rattle.std.specs.Prelude.{map, string_bytes, vec_len}
+use Rattle.cryptyc.proofs.Ending.{headline, many_to_one, complete}
 use Rattle.cryptyc.proofs.Exact.{derive_ends, verify_ends}
 use Rattle.cryptyc.proofs.Played.{replay_ends}
+use Rattle.cryptyc.proofs.Limits.{few_asked}
 use Rattle.cryptyc.proofs.Picked.{play_ends}
+use Rattle.cryptyc.proofs.Printing.{print_ends, upgrade_ends}
+use Rattle.cryptyc.proofs.Upgrades.{upgrade_reads_back}
 use Rattle.cryptyc.proofs.run.run.Goals as goal
 
 pub returns-clause-headline : goal.returns-clause-headline
@@ -31,4 +35,19 @@ returns-clause-replay g c =
 pub returns-clause-play : goal.returns-clause-play
 returns-clause-play g c =
     let e = c.run_for.ensures in
-    play_ends c.one_file.ensures _ _ _ _ _ _ _ _ _ _ _ e.read_fault e.write_fault e.answer
+    play_ends c.one_file.ensures c.schedule_joins.ensures _ (λ most only e. few_asked (map string_bytes c.args.words.now) (vec_len c.args.players.now) most only e) _ _ _ _ _ _ _ _ _ _ e.read_fault e.write_fault e.answer
+
+pub returns-clause-print : goal.returns-clause-print
+returns-clause-print g c =
+    let e = c.run_for.ensures in
+    print_ends c.refused_is_none.ensures c.one_file.ensures c.canonical_reads_back.ensures _ _ _ _ _ _ _ _ _ _ _ e.read_fault e.write_fault e.answer
+
+pub returns-clause-upgrade : goal.returns-clause-upgrade
+returns-clause-upgrade g c =
+    let e = c.run_for.ensures in
+    upgrade_ends c.refused_is_none.ensures c.one_file.ensures upgrade_reads_back _ _ _ _ _ _ _ _ _ _ _ e.read_fault e.write_fault e.answer
+
+pub returns-clause-complete : goal.returns-clause-complete
+returns-clause-complete g c =
+    let e = c.run_for.ensures in
+    complete _ _ _ _ _ _ _ _ _ _ _ e.read_fault e.write_fault e.answer

@@ -1,0 +1,166 @@
+// The canonical text of a process.
+
+ghost use Rattle.std.specs.Prelude.{◌≡◌, ◌≤◌, [], ◌++◌, slice_get, IfOk, OnOk};
+ghost use Rattle.spi_term.specs.Term.{process_size};
+ghost use Rattle.spi_term.specs.Spelling.{numbered, spelled, HasSmallParts, IsSmall};
+ghost use Rattle.spi_term.specs.View.{shape_of};
+ghost use Rattle.spi_show.specs.Spells.{spelling};
+ghost use Rattle.spi_show.specs.Processes.{alone, process_text};
+ghost use Rattle.spi_show.specs.Pieces.{standing, piece, tops, is_output_at, output_in, pieces_at, process as inner, IsPut};
+
+use crate::NoMemory;
+use crate::nodes::put_head;
+use crate::pieces::{Piece, Place, push_parts, push_sequel, push_sides};
+use crate::spell::Spell;
+use spi_term::{Form, Node, Process};
+use std::alloc::Global;
+
+fn is_output(node: &Node) -> bool
+    ensures { result ≡ is_output_at (shape_of node.now) }
+{
+    match &node.form {
+        Form::Send { .. } => true,
+        Form::Recv { .. } => false,
+        Form::Serve { .. } => false,
+        Form::Split { .. } => false,
+        Form::Select { .. } => false,
+        Form::Branch { .. } => false,
+        Form::Decrypt { .. } => false,
+        Form::Check { .. } => false,
+        Form::Begin { .. } => false,
+        Form::End { .. } => false,
+        Form::EndMany { .. } => false,
+        Form::Cast { .. } => false,
+        Form::Fresh { .. } => false,
+        Form::Par { .. } => false,
+        Form::Stop => false,
+    }
+}
+
+// There is a node with this number, and it is an output.
+fn output_at(process: &Process, nodes: u32, id: u32) -> bool
+    requires { nodes ≡ process_size process.now.process }
+    ensures { result ≡ output_in (slice_get (spelled process.now.names process.now.process) id) }
+{
+    if id < nodes {
+        is_output(process.node(id))
+    } else {
+        false
+    }
+}
+
+// The processes in a node are to be written.
+fn put_off(
+    alloc: Global,
+    spell: &Spell,
+    node: &Node,
+    at: Place,
+    output: bool,
+    pending: &mut Vec<Piece>,
+) -> Result<(), NoMemory>
+    requires small { HasSmallParts (shape_of node.now) }
+    requires few { node.now.scope ≤ 300000 }
+    ensures { OnOk result (tops pending.new.items ≡ pieces_at (spelling spell.now) (standing at) output (shape_of node.now) ++ tops pending.old.items) }
+{
+    match &node.form {
+        Form::Send { .. } => Ok(()),
+        Form::Recv { .. } => push_sequel(pending),
+        Form::Serve { .. } => push_sequel(pending),
+        Form::Split { .. } => push_sequel(pending),
+        Form::Select { .. } => push_sequel(pending),
+        Form::Branch { right, .. } => push_sides(alloc, spell, node.scope, right, pending),
+        Form::Decrypt { .. } => push_sequel(pending),
+        Form::Check { .. } => push_sequel(pending),
+        Form::Begin { .. } => push_sequel(pending),
+        Form::End { .. } => push_sequel(pending),
+        Form::EndMany { .. } => push_sequel(pending),
+        Form::Cast { .. } => push_sequel(pending),
+        Form::Fresh { .. } => push_sequel(pending),
+        Form::Par { .. } => push_parts(at, output, pending),
+        Form::Stop => Ok(()),
+    }
+}
+
+// The process at the next node is written up to the first process in it. It gives the node after that.
+fn put_node(
+    alloc: Global,
+    spell: &Spell,
+    process: &Process,
+    nodes: u32,
+    id: u32,
+    at: Place,
+    pending: &mut Vec<Piece>,
+    out: &mut Vec<u8>,
+) -> Result<u32, NoMemory>
+    requires nodes { nodes ≡ process_size process.now.process }
+    requires small { IsSmall process.now.names process.now.process }
+    ensures { IfOk result (λ next. IsPut (spelling spell.now) (spelled process.now.names process.now.process) id next (inner (standing at)) out.old.items out.new.items (tops pending.old.items) (tops pending.new.items)) }
+{
+    if id >= nodes {
+        return Ok(id);
+    }
+    let output = output_at(process, nodes, id + 1);
+    let node = process.node(id);
+    put_head(alloc, spell, node, at, output, out)?;
+    put_off(alloc, spell, node, at, output, pending)?;
+    Ok(id + 1)
+}
+
+// A piece is written. It gives the next node.
+fn put_piece(
+    alloc: Global,
+    spell: &Spell,
+    process: &Process,
+    nodes: u32,
+    id: u32,
+    x: Piece,
+    pending: &mut Vec<Piece>,
+    out: &mut Vec<u8>,
+) -> Result<u32, NoMemory>
+    requires nodes { nodes ≡ process_size process.now.process }
+    requires small { IsSmall process.now.names process.now.process }
+    ensures { IfOk result (λ next. IsPut (spelling spell.now) (spelled process.now.names process.now.process) id next (piece x) out.old.items out.new.items (tops pending.old.items) (tops pending.new.items)) }
+{
+    match x {
+        Piece::Bar => out.extend_from_slice(b" | ")?,
+        Piece::Semicolon => out.extend_from_slice(b"; ")?,
+        Piece::Close => out.extend_from_slice(b")")?,
+        Piece::Words(words) => out.extend_from_slice(words.as_slice())?,
+        Piece::Process(at) => return put_node(alloc, spell, process, nodes, id, at, pending, out),
+    }
+    Ok(id)
+}
+
+// The process in which bound names are numbers, as its nodes have them.
+fn put_nodes(
+    alloc: Global,
+    spell: &Spell,
+    process: &Process,
+    nodes: u32,
+    out: &mut Vec<u8>,
+) -> Result<(), NoMemory>
+    requires nodes { nodes ≡ process_size process.now.process }
+    requires small { IsSmall process.now.names process.now.process }
+    ensures { OnOk result (out.new.items ≡ out.old.items ++ process_text (spelling spell.now) alone process.now.names (numbered [] process.now.names process.now.process)) }
+{
+    let mut pending = Vec::new(alloc);
+    pending.push(Piece::Process(Place::Alone))?;
+    let mut id = 0;
+    while let Some(x) = pending.pop() {
+        id = put_piece(alloc, spell, process, nodes, id, x, &mut pending, out)?;
+    }
+    Ok(())
+}
+
+/// Appends the canonical text of a process. It goes over the nodes once.
+pub fn put_process(
+    alloc: Global,
+    spell: &Spell,
+    process: &Process,
+    out: &mut Vec<u8>,
+) -> Result<(), NoMemory>
+    ensures { OnOk result (out.new.items ≡ out.old.items ++ process_text (spelling spell.now) alone process.now.names process.now.process) }
+{
+    let nodes = process.len();
+    put_nodes(alloc, spell, process, nodes, out)
+}

@@ -1,0 +1,246 @@
+-- The tree of a canonical text is formed.
+use Rattle.std.proofs.Common.{◌≡◌, ℕ, suc, ◌+◌, ◌-◌, Bool, true, false, List, [], ◌∷◌, map, length, Option, Some, None, refl, sym, ap, ◌∙◌}
+use Rattle.std.specs.Prelude.{⊤}
+use Rattle.spi_tree.specs.Trees as t
+use Rattle.spi_tree.specs.Pieces.{Place, in_seq, at_level, tokens_of}
+use Rattle.spi_tree.specs.Formed.{AreWordsFit, IsMsg, AreMsgs, IsAtom, AreAtoms, IsTy, AreFields, IsLast, IsProc, AreDeclared, IsWritten, IsDeriv, AreDerivs, IsOpponent, IsDerivation}
+use Rattle.spi_parse.specs.Formed.{number_of, is_written, HasRules, HaveRules, IsDerived, IsFile}
+use Rattle.spi_term.specs.Term.{Message, bound, name, unit, pair, in_left, in_right, enc, hash, Atom, ends, checks, many, Effect, Ty, un, unit_ty, pair_ty, sum_ty, key, nonce, Leaf, Sends, Stops, Prefix, Recvs, Serves, Splits, Selects, Decrypts, Checks, Begins, Ends, EndManys, Casts, Makes, Cases, Pars, Process, leaf, prefix, fork, binds}
+use Rattle.spi_term.specs.Spelling.{Spelling}
+use Rattle.spi_scope.specs.Meaning.{nested}
+use Rattle.spi_scope.specs.Parts.{numbered_message, numbered_messages, numbered_atom, numbered_effect}
+use Rattle.spi_scope.specs.StandsFor.{Meant}
+use Rattle.spi_show.specs.Spelled.{name_text}
+use Rattle.spi_show.specs.Processes.{Standing, alone, sequel}
+use Rattle.spi_spell.proofs.Printed.{spelled_name, numbered_name, message_tree, second_tree, rest_trees, atom_tree, atom_trees, type_tree, field_trees, last_tree, leaf_tree, prefix_tree, process_tree, free_trees, part_tree, opponent_tree, written_tree, deriv_tree, deriv_trees, derivation_tree, file_tree}
+use Rattle.spi_spell.proofs.Printable.{HasVersion, MessageFits, AtomFits, EffectFits, PartsFit, TyFits, LeafFits, PrefixFits, ProcessFits, IsPart, IsOpponentPart, is_later, IsPrintable}
+
+-- ---- messages and types
+
+module _ (later numbered : Bool) (of : ℕ → t.Msg) (names : (i : ℕ) → IsMsg later numbered (of i)) where
+  mutual
+    pub message_formed : (n : ℕ) (m : Message) → HasVersion later m → IsMsg later numbered (message_tree of n m)
+    message_formed n (bound i) h = names (n - suc i)
+    message_formed n (name x) h = names x
+    message_formed n unit h = tt
+    message_formed n (pair a b) h = (message_formed n a h.0, second_formed n b h.1, rest_formed n b h.1)
+    message_formed n (in_left a) h = message_formed n a h
+    message_formed n (in_right a) h = message_formed n a h
+    message_formed n (enc a b) h = (message_formed n a h.0, message_formed n b h.1)
+    message_formed n (hash a) h = (h.0, message_formed n a h.1)
+
+    second_formed : (n : ℕ) (m : Message) → HasVersion later m → IsMsg later numbered (second_tree of n m)
+    second_formed n (bound i) h = names (n - suc i)
+    second_formed n (name x) h = names x
+    second_formed n unit h = tt
+    second_formed n (pair a b) h = message_formed n a h.0
+    second_formed n (in_left a) h = message_formed n a h
+    second_formed n (in_right a) h = message_formed n a h
+    second_formed n (enc a b) h = (message_formed n a h.0, message_formed n b h.1)
+    second_formed n (hash a) h = (h.0, message_formed n a h.1)
+
+    rest_formed : (n : ℕ) (m : Message) → HasVersion later m → AreMsgs later numbered (rest_trees of n m)
+    rest_formed n (bound i) h = tt
+    rest_formed n (name x) h = tt
+    rest_formed n unit h = tt
+    rest_formed n (pair a b) h = (second_formed n b h.1, rest_formed n b h.1)
+    rest_formed n (in_left a) h = tt
+    rest_formed n (in_right a) h = tt
+    rest_formed n (enc a b) h = tt
+    rest_formed n (hash a) h = tt
+
+  atom_formed : (n : ℕ) (a : Atom) → AtomFits later a → IsAtom later numbered (atom_tree of n a)
+  atom_formed n (ends m) h = message_formed n m h.1
+  atom_formed n (checks m) h = message_formed n m h.1
+  atom_formed n (many m) h = (h.0, message_formed n m h.1.1)
+
+  pub atoms_formed : (n : ℕ) (es : Effect) → EffectFits later es → AreAtoms later numbered (atom_trees of n es)
+  atoms_formed n [] h = tt
+  atoms_formed n (a ∷ es) h = (atom_formed n a h.0, atoms_formed n es h.1)
+
+module _ (later : Bool) (spell : ℕ → List ℕ) where
+  spelled_formed : (n : ℕ) (m : Message) → MessageFits later m → IsMsg later false (message_tree (spelled_name spell) n m)
+  spelled_formed n m h = message_formed later false (spelled_name spell) (λ i. refl) n m h.1
+
+  effect_formed : (n : ℕ) (es : Effect) → EffectFits later es → AreAtoms later false (atom_trees (spelled_name spell) n es)
+  effect_formed n es h = atoms_formed later false (spelled_name spell) (λ i. refl) n es h
+
+  mutual
+    type_formed : (n : ℕ) (a : Ty) → PartsFit later a → IsTy later (type_tree spell n a)
+    type_formed n un h = tt
+    type_formed n unit_ty h = tt
+    type_formed n (pair_ty a b) h = (type_formed n a h.0, fields_formed (suc n) b h.1, last_formed (suc n) b h.1)
+    type_formed n (sum_ty a b) h = (type_formed n a h.0, type_formed n b h.1)
+    type_formed n (key a) h = type_formed n a h
+    type_formed n (nonce es) h = effect_formed n es h
+
+    fields_formed : (n : ℕ) (a : Ty) → PartsFit later a → AreFields later (field_trees spell n a)
+    fields_formed n un h = tt
+    fields_formed n unit_ty h = tt
+    fields_formed n (pair_ty a b) h = (type_formed n a h.0, fields_formed (suc n) b h.1)
+    fields_formed n (sum_ty a b) h = tt
+    fields_formed n (key a) h = tt
+    fields_formed n (nonce es) h = tt
+
+    last_formed : (n : ℕ) (a : Ty) → PartsFit later a → IsLast later (last_tree spell n a)
+    last_formed n un h = tt
+    last_formed n unit_ty h = tt
+    last_formed n (pair_ty a b) h = last_formed (suc n) b h.1
+    last_formed n (sum_ty a b) h = (type_formed n a h.0, type_formed n b h.1)
+    last_formed n (key a) h = type_formed n a h
+    last_formed n (nonce es) h = effect_formed n es h
+
+  -- ---- processes
+
+  abbrev place_of : Standing → ℕ → Place
+  place_of alone k = at_level k
+  place_of sequel k = in_seq k
+
+  bounded_formed : (n : ℕ) (a : Ty) → TyFits later a → IsTy later (type_tree spell n a)
+  bounded_formed n a h = type_formed n a h.1
+
+  leaf_formed : (at : Standing) (k n : ℕ) (l : Leaf) → LeafFits later l → IsProc later (place_of at k) (leaf_tree spell n l)
+  leaf_formed alone k n (Sends a b) h = (spelled_formed n a h.0, spelled_formed n b h.1)
+  leaf_formed sequel k n (Sends a b) h = (spelled_formed n a h.0, spelled_formed n b h.1)
+  leaf_formed alone k n Stops h = tt
+  leaf_formed sequel k n Stops h = tt
+
+  -- each form, whatever its place
+  prefix_formed : (at : Standing) (k n : ℕ) (s : Prefix) (p : t.Proc) → PrefixFits later s → ((i : ℕ) → IsProc later (in_seq i) p) → IsProc later (place_of at k) (prefix_tree spell n s p)
+  prefix_formed alone k n (Recvs m a) p h go = (spelled_formed n m h.0, bounded_formed n a h.1, go _)
+  prefix_formed alone k n (Serves m a) p h go = (spelled_formed n m h.0, bounded_formed n a h.1, go _)
+  prefix_formed alone k n (Splits m a b) p h go = (spelled_formed n m h.0, bounded_formed n a h.1, bounded_formed (suc n) b h.2, go _)
+  prefix_formed alone k n (Selects m a j b) p h go = (spelled_formed n m h.0, bounded_formed n a h.1, spelled_formed n j h.2, bounded_formed (suc n) b h.3, go _)
+  prefix_formed alone k n (Decrypts m a j) p h go = (spelled_formed n m h.0, bounded_formed n a h.1, spelled_formed n j h.2, go _)
+  prefix_formed alone k n (Checks m j) p h go = (spelled_formed n m h.0, spelled_formed n j h.1, go _)
+  prefix_formed alone k n (Begins m) p h go = (spelled_formed n m h, go _)
+  prefix_formed alone k n (Ends m) p h go = (spelled_formed n m h, go _)
+  prefix_formed alone k n (EndManys m) p h go = (h.0, spelled_formed n m h.1, go _)
+  prefix_formed alone k n (Casts m a) p h go = (spelled_formed n m h.0, bounded_formed n a h.1, go _)
+  prefix_formed alone k n (Makes a) p h go = (bounded_formed n a h, go _)
+  prefix_formed sequel k n (Recvs m a) p h go = (spelled_formed n m h.0, bounded_formed n a h.1, go _)
+  prefix_formed sequel k n (Serves m a) p h go = (spelled_formed n m h.0, bounded_formed n a h.1, go _)
+  prefix_formed sequel k n (Splits m a b) p h go = (spelled_formed n m h.0, bounded_formed n a h.1, bounded_formed (suc n) b h.2, go _)
+  prefix_formed sequel k n (Selects m a j b) p h go = (spelled_formed n m h.0, bounded_formed n a h.1, spelled_formed n j h.2, bounded_formed (suc n) b h.3, go _)
+  prefix_formed sequel k n (Decrypts m a j) p h go = (spelled_formed n m h.0, bounded_formed n a h.1, spelled_formed n j h.2, go _)
+  prefix_formed sequel k n (Checks m j) p h go = (spelled_formed n m h.0, spelled_formed n j h.1, go _)
+  prefix_formed sequel k n (Begins m) p h go = (spelled_formed n m h, go _)
+  prefix_formed sequel k n (Ends m) p h go = (spelled_formed n m h, go _)
+  prefix_formed sequel k n (EndManys m) p h go = (h.0, spelled_formed n m h.1, go _)
+  prefix_formed sequel k n (Casts m a) p h go = (spelled_formed n m h.0, bounded_formed n a h.1, go _)
+  prefix_formed sequel k n (Makes a) p h go = (bounded_formed n a h, go _)
+
+  process_formed : (at : Standing) (k n : ℕ) (p : Process) → ProcessFits later p → IsProc later (place_of at k) (process_tree spell at n p)
+  process_formed at k n (leaf l) h = leaf_formed at k n l h
+  process_formed at k n (prefix s p) h = prefix_formed at k n s (process_tree spell sequel (n + binds s) p) h.0 (λ i. process_formed sequel i (n + binds s) p h.1)
+  process_formed alone k n (fork (Cases m a b) p q) h =
+      (spelled_formed n m h.0.0, bounded_formed n a h.0.1, process_formed sequel _ (n + 1) p h.1, bounded_formed n b h.0.2, process_formed sequel _ (n + 1) q h.2)
+  process_formed sequel k n (fork (Cases m a b) p q) h =
+      (spelled_formed n m h.0.0, bounded_formed n a h.0.1, process_formed sequel _ (n + 1) p h.1, bounded_formed n b h.0.2, process_formed sequel _ (n + 1) q h.2)
+  process_formed alone k n (fork Pars p q) h = (process_formed sequel (k + 1) n p h.1, process_formed alone (k + 1) n q h.2)
+  process_formed sequel k n (fork Pars (leaf (Sends a b)) q) h = (spelled_formed n a h.1.0, spelled_formed n b h.1.1, process_formed sequel (k + 1) n q h.2)
+  process_formed sequel k n (fork Pars (leaf Stops) q) h = (tt, process_formed alone (k + 1) n q h.2)
+  process_formed sequel k n (fork Pars (prefix s p) q) h = (process_formed sequel (k + 1) n (prefix s p) h.1, process_formed alone (k + 1) n q h.2)
+  process_formed sequel k n (fork Pars (fork f p r) q) h = (process_formed sequel (k + 1) n (fork f p r) h.1, process_formed alone (k + 1) n q h.2)
+
+  pub part_formed : (i : ℕ) (p : Spelling) → IsPart later i p → IsProc later (at_level 0) (part_tree spell p)
+  part_formed i p h = process_formed alone 0 p.names p.process h.fits
+
+  opponent_formed : (i : ℕ) (o : Option Spelling) → IsOpponentPart later i o → IsOpponent later (opponent_tree spell o)
+  opponent_formed i None h = tt
+  opponent_formed i (Some p) h = part_formed i p h
+
+-- ---- derivations
+
+abbrev HaveVersion : Bool → List Message → Type 0
+HaveVersion later [] = ⊤
+HaveVersion later (m ∷ ms) = HasVersion later m × HaveVersion later ms
+
+nested_version : (later : Bool) (m : Message) (ms : List Message) → HasVersion later m → HaveVersion later ms → HasVersion later (nested m ms)
+nested_version later m [] h g = h
+nested_version later m (k ∷ ms) h g = (h, nested_version later k ms g.0 g.1)
+
+module _ (later numbered : Bool) where
+  mutual
+    numbered_version : (m : t.Msg) → IsMsg later numbered m → HasVersion later (numbered_message m)
+    numbered_version (t.name s w) h = tt
+    numbered_version (t.unit s) h = tt
+    numbered_version (t.tuple s a b ms) h =
+        nested_version later (numbered_message a) (numbered_message b ∷ numbered_messages ms) (numbered_version a h.0) (numbered_version b h.1, all_numbered_version ms h.2)
+    numbered_version (t.inl s a) h = numbered_version a h
+    numbered_version (t.inr s a) h = numbered_version a h
+    numbered_version (t.enc s a b) h = (numbered_version a h.0, numbered_version b h.1)
+    numbered_version (t.hash s a) h = (h.0, numbered_version a h.1)
+    numbered_version (t.num s i) h = tt
+
+    all_numbered_version : (ms : t.Msgs) → AreMsgs later numbered ms → HaveVersion later (numbered_messages ms)
+    all_numbered_version t.no_msgs h = tt
+    all_numbered_version (t.more_msgs m ms) h = (numbered_version m h.0, all_numbered_version ms h.1)
+
+module _ (later : Bool) where
+  numbered_formed : (m : t.Msg) → IsMsg later true m → IsMsg later true (message_tree numbered_name 0 (numbered_message m))
+  numbered_formed m h = message_formed later true numbered_name (λ i. refl) 0 (numbered_message m) (numbered_version later true m h)
+
+  numbered_atom_formed : (e : t.Atom) → IsAtom later true e → IsAtom later true (atom_tree numbered_name 0 (numbered_atom e))
+  numbered_atom_formed (t.ends s m) h = numbered_formed m h
+  numbered_atom_formed (t.checks s m) h = numbered_formed m h
+  numbered_atom_formed (t.many s m) h = (h.0, numbered_formed m h.1)
+
+  numbered_atoms_formed : (es : List t.Atom) → AreAtoms later true es → AreAtoms later true (atom_trees numbered_name 0 (map numbered_atom es))
+  numbered_atoms_formed [] h = tt
+  numbered_atoms_formed (e ∷ es) h = (numbered_atom_formed e h.0, numbered_atoms_formed es h.1)
+
+  written_formed : (o : Option (List t.Atom)) → IsWritten later o → IsWritten later (written_tree (numbered_effect o))
+  written_formed None h = tt
+  written_formed (Some es) h = numbered_atoms_formed es h
+
+  mutual
+    deriv_formed : (d : t.Deriv) → IsDeriv later d → IsDeriv later (deriv_tree d)
+    deriv_formed (t.rule s w es ds) h = (written_formed es h.0, derivs_formed ds h.1)
+
+    derivs_formed : (ds : t.Derivs) → AreDerivs later ds → AreDerivs later (deriv_trees ds)
+    derivs_formed t.no_derivs h = tt
+    derivs_formed (t.more_derivs d ds) h = (deriv_formed d h.0, derivs_formed ds h.1)
+
+  derivation_formed : (d : Option t.Deriv) → IsDerivation later d → IsDerivation later (derivation_tree d)
+  derivation_formed None h = tt
+  derivation_formed (Some d) h = deriv_formed d h
+
+  same_number : (ds : t.Derivs) → number_of (deriv_trees ds) ≡ number_of ds
+  same_number t.no_derivs = refl
+  same_number (t.more_derivs d ds) = ap suc (same_number ds)
+
+  same_written : (o : Option (List t.Atom)) → is_written (written_tree (numbered_effect o)) ≡ is_written o
+  same_written None = refl
+  same_written (Some es) = refl
+
+  mutual
+    rules_kept : (d : t.Deriv) → HasRules later d → HasRules later (deriv_tree d)
+    rules_kept (t.rule s w es ds) h = (h.0 ∙ ap Some (sym (same_number ds)), h.1 ∙ sym (same_written es), all_rules_kept ds h.2)
+
+    all_rules_kept : (ds : t.Derivs) → HaveRules later ds → HaveRules later (deriv_trees ds)
+    all_rules_kept t.no_derivs h = tt
+    all_rules_kept (t.more_derivs d ds) h = (rules_kept d h.0, all_rules_kept ds h.1)
+
+  derived_kept : (d : Option t.Deriv) → IsDerived later d → IsDerived later (derivation_tree d)
+  derived_kept None h = tt
+  derived_kept (Some d) h = rules_kept d h
+
+-- ---- files
+
+free_formed : (later : Bool) (ws : List (List ℕ)) → AreDeclared later (free_trees ws)
+free_formed later [] = tt
+free_formed later (w ∷ ws) = (tt, tt)
+
+pub tree_formed : (s : ℕ) (f : Meant) (d : Option t.Deriv) → IsPrintable f d → AreWordsFit (is_later f) (tokens_of (file_tree s f d)) → IsFile (file_tree s f d)
+tree_formed s f d h words = record {
+  formed = record {
+    version = h.version;
+    decls = free_formed (is_later f) f.names;
+    process = part_formed (is_later f) (name_text s f.names) (length f.names) f.process h.process;
+    opponent = opponent_formed (is_later f) (name_text s f.names) (length f.names) f.opponent h.opponent;
+    derivation = derivation_formed (is_later f) d h.derivation.formed;
+    words = words;
+  };
+  rules = derived_kept (is_later f) d h.derivation.rules;
+}
