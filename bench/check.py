@@ -140,4 +140,5 @@ def main():
               f"{twice / once:.1f} times; {said}; {said_twice}", flush=True)
 
 
-main()
+if __name__ == "__main__":
+    main()

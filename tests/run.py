@@ -4,7 +4,8 @@
 A case is a JSON object on a line: `shows` (what it shows), `words` (the command line), its standard input as `input`
 (text), `input_file` (a file of the repository), `input_base64`, or `input_parts` (pairs of a text and how often it
 stands), `output` (what is written) and `status`. Each file of examples/reasons is a case too: its first line is a comment
-with the line that `check` writes. The program is built once, without proofs, by `rt try`; `--program FILE` runs a program that is there.
+with the line that `check` writes. The program is built without proofs by `rt try`, once for
+each processor; `--program FILE` runs a program that is there.
 --passed and --failed are counts to add. The last line is 'N passed, M failed'."""
 
 import argparse
@@ -13,9 +14,11 @@ import glob
 import json
 import os
 import re
+import shutil
 import subprocess
 import sys
 import tempfile
+from concurrent.futures import ThreadPoolExecutor
 
 ROOT = os.path.dirname(os.path.dirname(os.path.abspath(__file__)))
 
@@ -43,10 +46,10 @@ def input_of(case):
     return case.get("input", "").encode()
 
 
-def run_built(cases):
-    """The status and the output of each case, by one build of the sources."""
+def run_share(root, cases):
+    """The status of each numbered case and whether its output is as wanted, by one build of the sources in a folder."""
     with tempfile.TemporaryDirectory(prefix="cryptyc-cases-") as folder:
-        for number, case in enumerate(cases):
+        for number, case in cases:
             name = f"{folder}/{number:05}"
             with open(name, "wb") as file:
                 file.write(input_of(case))
@@ -54,7 +57,7 @@ def run_built(cases):
                 file.write("".join(word + "\n" for word in case["words"]))
             with open(f"{name}.stdout", "w", encoding="utf-8") as file:
                 file.write(case["output"])
-        run = subprocess.run(["rt", "try", "--cases", folder], cwd=f"{ROOT}/crates/cryptyc",
+        run = subprocess.run(["rt", "try", "--cases", folder], cwd=f"{root}/crates/cryptyc",
                              stdin=subprocess.DEVNULL, capture_output=True, text=True, errors="replace")
     found = {}
     for line in run.stderr.splitlines() + run.stdout.splitlines():
@@ -63,6 +66,20 @@ def run_built(cases):
             found[int(match[1])] = (int(match[2]), match[3] == "expected")
     if not found:
         sys.stderr.write(run.stdout + run.stderr)
+    return found
+
+
+def run_built(cases):
+    """The same of all cases, by as many builds beside each other as there are processors, each in a copy of the sources."""
+    shares = [list(enumerate(cases))[share::os.cpu_count()] for share in range(os.cpu_count())]
+    found = {}
+    with tempfile.TemporaryDirectory(prefix="cryptyc-copies-") as folder, ThreadPoolExecutor(len(shares)) as pool:
+        def run(number):
+            root = f"{folder}/{number}"
+            shutil.copytree(ROOT, root, ignore=shutil.ignore_patterns(".git", "out"))
+            return run_share(root, shares[number]) if shares[number] else {}
+        for part in pool.map(run, range(len(shares))):
+            found.update(part)
     return [found.get(number, (None, False)) for number in range(len(cases))]
 
 

@@ -1,0 +1,159 @@
+#!/usr/bin/env python3
+"""Times `cryptyc verify`, `replay` and `play` on files, and on the same files doubled.
+
+Usage: bench/runs.py [--program FILE] [--runs N] [--only WORD] [--part N]. Without --program it takes the proved build,
+crates/cryptyc/out/cryptyc. With --part it takes an Nth of each size, for a slower build. It prints a line for each workload: bytes of the doubled file, the least processor time of
+the smaller and of the doubled file, and how much longer the doubled one takes. The times hold reading, parsing and
+resolving too. The derivations of `verify` are those that `derive` prints, or repeat ProcSub.
+"""
+
+import argparse
+import os
+import shlex
+import subprocess
+import sys
+import tempfile
+
+from check import ROOT, balanced, chains, matches, names, sessions
+
+
+def derived(program, text):
+    """The file with its canonical derivation."""
+    run = subprocess.run([*program, "derive"], input=text.encode(), capture_output=True)
+    return text + "\n" + run.stdout.decode()
+
+
+def weakened(count):
+    """So many uses of ProcSub with an effect of 20 atoms, in groups of chains, above processes without effect."""
+    atoms = ", ".join(f"end #{i}" for i in range(20))
+    pays = "".join(f"begin n{i}; " for i in range(20))
+    parts = [f"{pays}stop"] * (count // 100)
+    uses = ["ProcBegin " * 20 + f"ProcSub [{atoms}] " * 100 + "ProcStop"] * (count // 100)
+
+    def tree(uses):
+        if len(uses) == 1:
+            return uses[0]
+        half = (len(uses) + 1) // 2
+        return f"ProcPar {tree(uses[:half])}\n{tree(uses[half:])}"
+
+    return f"free {names(20)};\nprocess {balanced(parts)}\nderivation {tree(uses)}\n"
+
+
+def spread(parts):
+    """The processes in rows of 400, whose rows are grouped, with the steps that put each at a place of its own, and the places."""
+    rows = [parts[i:i + 400] for i in range(0, len(parts), 400)]
+    text = " | ".join(f"({' | '.join(row)})" if len(row) > 1 else row[0] for row in rows)
+    steps, places, next_place, at = [], [], 2, 0
+    starts = []
+    for number in range(len(rows)):
+        starts.append(at)
+        if number + 1 < len(rows):
+            steps.append(at)
+            at, next_place = next_place, next_place + 1
+    for row, start in zip(rows, starts):
+        at = start
+        for number in range(len(row)):
+            places.append(at)
+            if number + 1 < len(row):
+                steps.append(at)
+                at, next_place = next_place, next_place + 1
+    return text, "".join(f"act {i};\n" for i in steps), places
+
+
+def acting(count):
+    """Steps of one place each: chains of 440 begins and ends."""
+    chain = "".join(f"begin n{i}; " for i in range(220)) + "".join(f"end n{i}; " for i in range(220)) + "stop"
+    text, steps, places = spread([chain] * (count // 440))
+    steps += "".join(f"act {place};\n" * 440 for place in places)
+    return f"free {names(220)};\nprocess {text}\nopponent stop\nschedule\n{steps}"
+
+
+def repeating(count):
+    """A repeated input that puts out again what it takes in: each step adds a place."""
+    steps = "act 0;\n" + "".join(f"talk {i + 2} 0;\n" for i in range(count))
+    return f"free a;\nprocess repeat inp a (x: Un); out a x | out a a\nopponent stop\nschedule\n{steps}"
+
+
+def talking(count, channels):
+    """So many outputs and inputs, in turn over the channels, that meet in pairs."""
+    parts = [f"out n{i % channels} n0" for i in range(count)]
+    parts += [f"inp n{i % channels} (x: Un); stop" for i in range(count)]
+    text, steps, places = spread(parts)
+    steps += "".join(f"talk {places[i]} {places[count + i]};\n" for i in range(count))
+    return f"free {names(channels)};\nprocess {text}\nopponent stop\nschedule\n{steps}"
+
+
+def played_chains():
+    chain = "".join(f"begin n{i}; " for i in range(240)) + "".join(f"end n{i}; " for i in range(240)) + "stop"
+    return f"free {names(240)};\nprocess {' | '.join([chain] * 8)}\nopponent stop\n"
+
+
+def played_copies():
+    """One copy is made in each turn, so the places grow with the steps."""
+    return "free a;\nprocess repeat inp a (x: Un); out a x | out a a\nopponent stop\n"
+
+
+def played_channels():
+    """Outputs and inputs on channels of their own."""
+    parts = "".join(f"| out n{i} n0 | inp n{i} (x: Un); stop " for i in range(230))
+    return f"free {names(230)};\nprocess stop {parts}\nopponent stop\n"
+
+
+def workloads(program):
+    yield "verify: handshakes", 250, lambda n: (["verify"], derived(program, sessions(n)))
+    yield "verify: chains of begins and ends", 40, lambda n: (["verify"], derived(program, chains(n)))
+    yield "verify: matches with large terms", 40, lambda n: (["verify"], derived(program, matches(n)))
+    yield "verify: effects that are written", 4000, lambda n: (["verify"], weakened(n))
+    yield "replay: steps of one place", 4840, lambda n: (["replay"], acting(n))
+    yield "replay: a repeated input", 2450, lambda n: (["replay"], repeating(n))
+    yield "replay: talks over 500 channels", 1200, lambda n: (["replay"], talking(n, 500))
+    yield "replay: talks over one channel", 1200, lambda n: (["replay"], talking(n, 1))
+    for player in range(3):
+        words = ["--player", str(player)]
+        yield f"play: chains, player {player}", 500, lambda n: (["play", "--steps", str(n), *words], played_chains())
+        yield f"play: copies, player {player}", 450, lambda n: (["play", "--steps", str(n), *words], played_copies())
+        yield f"play: channels, player {player}", 450, lambda n: (["play", "--steps", str(n), *words], played_channels())
+
+
+def timed(program, words, text, runs):
+    """The least processor time, and the end of the answer."""
+    best, said = None, None
+    with tempfile.TemporaryFile() as given, tempfile.TemporaryFile() as written:
+        given.write(text.encode())
+        for _ in range(runs):
+            given.seek(0)
+            written.seek(0)
+            written.truncate()
+            run = subprocess.Popen([*program, *words], stdin=given, stdout=written, stderr=subprocess.DEVNULL)
+            _, status, used = os.wait4(run.pid, 0)
+            spent = used.ru_utime + used.ru_stime
+            best = spent if best is None or spent < best else best
+            written.seek(0)
+            lines = written.read().decode(errors="replace").split("\n")
+            said = f"{len(lines) - 1} lines, {lines[-2] if len(lines) > 1 else os.waitstatus_to_exitcode(status)}"
+    return best, said
+
+
+def main():
+    words = argparse.ArgumentParser()
+    words.add_argument("--program", default=f"{ROOT}/crates/cryptyc/out/cryptyc")
+    words.add_argument("--runs", type=int, default=3)
+    words.add_argument("--only", default="")
+    words.add_argument("--part", type=int, default=1)
+    asked = words.parse_args()
+    program = shlex.split(asked.program)
+    if not os.path.exists(program[0]):
+        sys.exit(f"{program[0]} isn't there: 'cd crates/cryptyc && rt run' makes it")
+    for name, size, make in workloads(program):
+        if asked.only not in name:
+            continue
+        size //= asked.part
+        small, large = make(size), make(2 * size)
+        once, said = timed(program, *small, asked.runs)
+        twice, said_twice = timed(program, *large, asked.runs)
+        print(f"{name}: {size} and {2 * size}, {len(small[1])} and {len(large[1])} bytes: {once:.3f} s and {twice:.3f} s, "
+              f"{twice / once:.1f} times; {said}; {said_twice}", flush=True)
+
+
+if __name__ == "__main__":
+    main()
