@@ -1,6 +1,6 @@
 //! Derivations.
 
-ghost use Rattle.std.specs.Prelude.{◌≡◌, ◌+◌, ◌≤◌, [], ◌∷◌, map};
+ghost use Rattle.std.specs.Prelude.{◌≡◌, ◌+◌, ◌≤◌, [], ◌∷◌, map, IfOk};
 ghost use Rattle.spi_tree.specs.Trees.{derivs_of_list};
 ghost use Rattle.spi_tree.specs.Trees as trees;
 ghost use Rattle.spi_tree.specs.Views.{deriv_of, effect_of};
@@ -11,6 +11,7 @@ ghost use Rattle.spi_parse.specs.Shapes.{is_sub, by_arity, IsShape};
 ghost use Rattle.spi_parse.specs.Table.{deriv};
 ghost use Rattle.spi_parse.specs.Reading.{Gives, read, step, limited};
 
+use crate::NoMemory;
 use crate::cursor::{Cursor, copy_word, derivation_fits, syntax};
 use crate::effects::effect;
 use crate::fault::Stop;
@@ -99,7 +100,6 @@ fn make_use(rule: SWord, effect: Option<Vec<SAtom>>, premises: Vec<SDeriv>, span
 }
 
 /// A use of a rule, of a nesting.
-#[cycle(derivations)]
 pub fn derivation<'t>(
     alloc: Global,
     at: Cursor<'t>,
@@ -108,6 +108,27 @@ pub fn derivation<'t>(
 ) -> Result<(SDeriv, Cursor<'t>), Stop>
     requires { nesting ≤ 1001 }
     ensures { Gives (λ x. (deriv_of x.0, state_of x.1)) result (read limited (deriv later nesting) (state_of at.entry)) }
+{
+    let (tree, at) = boxed_derivation(alloc, at, later, nesting)?;
+    Ok((Box::into_inner(tree), at))
+}
+
+// What reads a premise holds it as a box while it reads the next, so that deep derivations fit the stack.
+fn boxed(alloc: Global, tree: SDeriv) -> Result<Box<SDeriv>, NoMemory>
+    ensures { IfOk result (λ b. b.value ≡ tree) }
+{
+    Ok(Box::new(alloc, tree)?)
+}
+
+#[cycle(derivations)]
+fn boxed_derivation<'t>(
+    alloc: Global,
+    at: Cursor<'t>,
+    later: bool,
+    nesting: u32,
+) -> Result<(Box<SDeriv>, Cursor<'t>), Stop>
+    requires { nesting ≤ 1001 }
+    ensures { Gives (λ x. (deriv_of x.0.value, state_of x.1)) result (read limited (deriv later nesting) (state_of at.entry)) }
 {
     derivation_step(alloc, at, later, nesting)
 }
@@ -118,9 +139,9 @@ fn derivation_step<'t>(
     at: Cursor<'t>,
     later: bool,
     nesting: u32,
-) -> Result<(SDeriv, Cursor<'t>), Stop>
+) -> Result<(Box<SDeriv>, Cursor<'t>), Stop>
     requires { nesting ≤ 1001 }
-    ensures { Gives (λ x. (deriv_of x.0, state_of x.1)) result (step limited (read limited) (deriv later nesting) (state_of at.entry)) }
+    ensures { Gives (λ x. (deriv_of x.0.value, state_of x.1)) result (step limited (read limited) (deriv later nesting) (state_of at.entry)) }
 {
     let [first, rest @ ..] = at.rest else {
         return Err(syntax(0));
@@ -140,7 +161,7 @@ fn derivation_step<'t>(
                 Shape::Leaf => {
                     derivation_fits(nesting, at.rest.len())?;
                     let leaf = make_use(name, None, Vec::new(alloc), first.span);
-                    Ok((leaf, next))
+                    Ok((boxed(alloc, leaf)?, next))
                 }
                 Shape::One => {
                     derivation_fits(nesting, at.rest.len())?;
@@ -171,18 +192,18 @@ fn read_one<'t>(
     at: Cursor<'t>,
     later: bool,
     nesting: u32,
-) -> Result<(SDeriv, Cursor<'t>), Stop>
+) -> Result<(Box<SDeriv>, Cursor<'t>), Stop>
     requires { nesting ≤ 1000 }
-    ensures { Gives (λ x. (deriv_of x.0, state_of x.1)) result (one_form later nesting name.word (name.span ∷ []) (state_of at.entry)) }
+    ensures { Gives (λ x. (deriv_of x.0.value, state_of x.1)) result (one_form later nesting name.word (name.span ∷ []) (state_of at.entry)) }
 {
-    let (first, at) = derivation(alloc, at, later, nesting + 1)?;
+    let (first, at) = boxed_derivation(alloc, at, later, nesting + 1)?;
     let span = Span {
         from: name.span.from,
         to: at.end,
     };
     let mut premises = Vec::new(alloc);
-    premises.push(first)?;
-    Ok((make_use(name, None, premises, span), at))
+    premises.push(Box::into_inner(first))?;
+    Ok((boxed(alloc, make_use(name, None, premises, span))?, at))
 }
 
 #[cycle(derivations)]
@@ -192,20 +213,20 @@ fn read_two<'t>(
     at: Cursor<'t>,
     later: bool,
     nesting: u32,
-) -> Result<(SDeriv, Cursor<'t>), Stop>
+) -> Result<(Box<SDeriv>, Cursor<'t>), Stop>
     requires { nesting ≤ 1000 }
-    ensures { Gives (λ x. (deriv_of x.0, state_of x.1)) result (two_form later nesting name.word (name.span ∷ []) (state_of at.entry)) }
+    ensures { Gives (λ x. (deriv_of x.0.value, state_of x.1)) result (two_form later nesting name.word (name.span ∷ []) (state_of at.entry)) }
 {
-    let (first, at) = derivation(alloc, at, later, nesting + 1)?;
-    let (second, at) = derivation(alloc, at, later, nesting + 1)?;
+    let (first, at) = boxed_derivation(alloc, at, later, nesting + 1)?;
+    let (second, at) = boxed_derivation(alloc, at, later, nesting + 1)?;
     let span = Span {
         from: name.span.from,
         to: at.end,
     };
     let mut premises = Vec::new(alloc);
-    premises.push(first)?;
-    premises.push(second)?;
-    Ok((make_use(name, None, premises, span), at))
+    premises.push(Box::into_inner(first))?;
+    premises.push(Box::into_inner(second))?;
+    Ok((boxed(alloc, make_use(name, None, premises, span))?, at))
 }
 
 #[cycle(derivations)]
@@ -215,22 +236,22 @@ fn read_three<'t>(
     at: Cursor<'t>,
     later: bool,
     nesting: u32,
-) -> Result<(SDeriv, Cursor<'t>), Stop>
+) -> Result<(Box<SDeriv>, Cursor<'t>), Stop>
     requires { nesting ≤ 1000 }
-    ensures { Gives (λ x. (deriv_of x.0, state_of x.1)) result (three_form later nesting name.word (name.span ∷ []) (state_of at.entry)) }
+    ensures { Gives (λ x. (deriv_of x.0.value, state_of x.1)) result (three_form later nesting name.word (name.span ∷ []) (state_of at.entry)) }
 {
-    let (first, at) = derivation(alloc, at, later, nesting + 1)?;
-    let (second, at) = derivation(alloc, at, later, nesting + 1)?;
-    let (third, at) = derivation(alloc, at, later, nesting + 1)?;
+    let (first, at) = boxed_derivation(alloc, at, later, nesting + 1)?;
+    let (second, at) = boxed_derivation(alloc, at, later, nesting + 1)?;
+    let (third, at) = boxed_derivation(alloc, at, later, nesting + 1)?;
     let span = Span {
         from: name.span.from,
         to: at.end,
     };
     let mut premises = Vec::new(alloc);
-    premises.push(first)?;
-    premises.push(second)?;
-    premises.push(third)?;
-    Ok((make_use(name, None, premises, span), at))
+    premises.push(Box::into_inner(first))?;
+    premises.push(Box::into_inner(second))?;
+    premises.push(Box::into_inner(third))?;
+    Ok((boxed(alloc, make_use(name, None, premises, span))?, at))
 }
 
 #[cycle(derivations)]
@@ -240,17 +261,20 @@ fn read_sub<'t>(
     at: Cursor<'t>,
     later: bool,
     nesting: u32,
-) -> Result<(SDeriv, Cursor<'t>), Stop>
+) -> Result<(Box<SDeriv>, Cursor<'t>), Stop>
     requires { nesting ≤ 1000 }
-    ensures { Gives (λ x. (deriv_of x.0, state_of x.1)) result (sub_form later nesting name.word (name.span ∷ []) (state_of at.entry)) }
+    ensures { Gives (λ x. (deriv_of x.0.value, state_of x.1)) result (sub_form later nesting name.word (name.span ∷ []) (state_of at.entry)) }
 {
     let (effect, at) = effect(alloc, at, later, true, 0)?;
-    let (first, at) = derivation(alloc, at, later, nesting + 1)?;
+    let (first, at) = boxed_derivation(alloc, at, later, nesting + 1)?;
     let span = Span {
         from: name.span.from,
         to: at.end,
     };
     let mut premises = Vec::new(alloc);
-    premises.push(first)?;
-    Ok((make_use(name, Some(effect), premises, span), at))
+    premises.push(Box::into_inner(first))?;
+    Ok((
+        boxed(alloc, make_use(name, Some(effect), premises, span))?,
+        at,
+    ))
 }

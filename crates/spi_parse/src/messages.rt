@@ -17,25 +17,18 @@ use spi_text::{Span, Text};
 use spi_tree::{SMsg, SWord};
 use std::alloc::Global;
 
-fn make_tuple(
-    alloc: Global,
-    first: SMsg,
-    second: SMsg,
-    more: Vec<SMsg>,
-    span: Span,
-) -> Result<SMsg, NoMemory>
-    ensures { IfOk result (λ m. msg_of m ≡ tuple span (msg_of first) (msg_of second) (msgs_of_list (map msg_of more.items))) }
+fn make_tuple(first: Box<SMsg>, second: Box<SMsg>, more: Vec<SMsg>, span: Span) -> SMsg
+    ensures { msg_of result ≡ tuple span (msg_of first.value) (msg_of second.value) (msgs_of_list (map msg_of more.items)) }
 {
-    Ok(SMsg::Tuple {
-        first: Box::new(alloc, first)?,
-        second: Box::new(alloc, second)?,
+    SMsg::Tuple {
+        first,
+        second,
         more,
         span,
-    })
+    }
 }
 
 /// A message of a nesting. In version 2 it may have hashes, and numbers may stand in the place of names.
-#[cycle(messages)]
 pub fn message<'t>(
     alloc: Global,
     at: Cursor<'t>,
@@ -45,6 +38,28 @@ pub fn message<'t>(
 ) -> Result<(SMsg, Cursor<'t>), Stop>
     requires { nesting ≤ 1001 }
     ensures { Gives (λ x. (msg_of x.0, state_of x.1)) result (read limited (msg later numbered nesting) (state_of at.entry)) }
+{
+    let (tree, at) = boxed_message(alloc, at, later, numbered, nesting)?;
+    Ok((Box::into_inner(tree), at))
+}
+
+// What reads a part of a message holds it as a box while it reads the next part, so that deep messages fit the stack.
+fn boxed(alloc: Global, tree: SMsg) -> Result<Box<SMsg>, NoMemory>
+    ensures { IfOk result (λ b. b.value ≡ tree) }
+{
+    Ok(Box::new(alloc, tree)?)
+}
+
+#[cycle(messages)]
+fn boxed_message<'t>(
+    alloc: Global,
+    at: Cursor<'t>,
+    later: bool,
+    numbered: bool,
+    nesting: u32,
+) -> Result<(Box<SMsg>, Cursor<'t>), Stop>
+    requires { nesting ≤ 1001 }
+    ensures { Gives (λ x. (msg_of x.0.value, state_of x.1)) result (read limited (msg later numbered nesting) (state_of at.entry)) }
 {
     message_step(alloc, at, later, numbered, nesting)
 }
@@ -56,9 +71,9 @@ fn message_step<'t>(
     later: bool,
     numbered: bool,
     nesting: u32,
-) -> Result<(SMsg, Cursor<'t>), Stop>
+) -> Result<(Box<SMsg>, Cursor<'t>), Stop>
     requires { nesting ≤ 1001 }
-    ensures { Gives (λ x. (msg_of x.0, state_of x.1)) result (step limited (read limited) (msg later numbered nesting) (state_of at.entry)) }
+    ensures { Gives (λ x. (msg_of x.0.value, state_of x.1)) result (step limited (read limited) (msg later numbered nesting) (state_of at.entry)) }
 {
     let [first, rest @ ..] = at.rest else {
         return Err(syntax(0));
@@ -96,7 +111,7 @@ fn message_step<'t>(
             if nesting > MESSAGE_LIMIT {
                 return Err(too_deep(at.rest.len()));
             }
-            read_numeral(first.span, next, later, numbered, nesting)
+            read_numeral(alloc, first.span, next, later, numbered, nesting)
         }
         Kind::Reserved(Reserved::Inl) => {
             if nesting > MESSAGE_LIMIT {
@@ -128,31 +143,32 @@ fn read_name<'t>(
     word: &Text,
     span: Span,
     at: Cursor<'t>,
-) -> Result<(SMsg, Cursor<'t>), Stop>
-    ensures { Gives (λ x. (msg_of x.0, state_of x.1)) result (done (name span (word_at word.now span)) (state_of at.entry)) }
+) -> Result<(Box<SMsg>, Cursor<'t>), Stop>
+    ensures { Gives (λ x. (msg_of x.0.value, state_of x.1)) result (done (name span (word_at word.now span)) (state_of at.entry)) }
 {
     let name = SWord {
         word: copy_word(alloc, word)?,
         span,
     };
-    Ok((SMsg::Name { name, span }, at))
+    Ok((boxed(alloc, SMsg::Name { name, span })?, at))
 }
 
 fn read_numeral<'t>(
+    alloc: Global,
     first: Span,
     at: Cursor<'t>,
     later: bool,
     numbered: bool,
     nesting: u32,
-) -> Result<(SMsg, Cursor<'t>), Stop>
-    ensures { Gives (λ x. (msg_of x.0, state_of x.1)) result (numeral_form later numbered nesting (first ∷ []) (state_of at.entry)) }
+) -> Result<(Box<SMsg>, Cursor<'t>), Stop>
+    ensures { Gives (λ x. (msg_of x.0.value, state_of x.1)) result (numeral_form later numbered nesting (first ∷ []) (state_of at.entry)) }
 {
     let (number, at) = take_number(at)?;
     let span = Span {
         from: first.from,
         to: at.end,
     };
-    Ok((SMsg::Num { number, span }, at))
+    Ok((boxed(alloc, SMsg::Num { number, span })?, at))
 }
 
 #[cycle(messages)]
@@ -163,25 +179,18 @@ fn read_enc<'t>(
     later: bool,
     numbered: bool,
     nesting: u32,
-) -> Result<(SMsg, Cursor<'t>), Stop>
+) -> Result<(Box<SMsg>, Cursor<'t>), Stop>
     requires { nesting ≤ 1000 }
-    ensures { Gives (λ x. (msg_of x.0, state_of x.1)) result (enc_form later numbered nesting (first ∷ []) (state_of at.entry)) }
+    ensures { Gives (λ x. (msg_of x.0.value, state_of x.1)) result (enc_form later numbered nesting (first ∷ []) (state_of at.entry)) }
 {
-    let (body, at) = message(alloc, at, later, numbered, nesting + 1)?;
+    let (body, at) = boxed_message(alloc, at, later, numbered, nesting + 1)?;
     let at = take_mark(at, Mark::BraceClose)?;
-    let (key, at) = message(alloc, at, later, numbered, nesting + 1)?;
+    let (key, at) = boxed_message(alloc, at, later, numbered, nesting + 1)?;
     let span = Span {
         from: first.from,
         to: at.end,
     };
-    Ok((
-        SMsg::Enc {
-            body: Box::new(alloc, body)?,
-            key: Box::new(alloc, key)?,
-            span,
-        },
-        at,
-    ))
+    Ok((boxed(alloc, SMsg::Enc { body, key, span })?, at))
 }
 
 #[cycle(messages)]
@@ -192,17 +201,16 @@ fn read_inl<'t>(
     later: bool,
     numbered: bool,
     nesting: u32,
-) -> Result<(SMsg, Cursor<'t>), Stop>
+) -> Result<(Box<SMsg>, Cursor<'t>), Stop>
     requires { nesting ≤ 1000 }
-    ensures { Gives (λ x. (msg_of x.0, state_of x.1)) result (inl_form later numbered nesting (first ∷ []) (state_of at.entry)) }
+    ensures { Gives (λ x. (msg_of x.0.value, state_of x.1)) result (inl_form later numbered nesting (first ∷ []) (state_of at.entry)) }
 {
-    let (part, at) = message(alloc, at, later, numbered, nesting + 1)?;
+    let (part, at) = boxed_message(alloc, at, later, numbered, nesting + 1)?;
     let span = Span {
         from: first.from,
         to: at.end,
     };
-    let part = Box::new(alloc, part)?;
-    Ok((SMsg::Inl { part, span }, at))
+    Ok((boxed(alloc, SMsg::Inl { part, span })?, at))
 }
 
 #[cycle(messages)]
@@ -213,17 +221,16 @@ fn read_inr<'t>(
     later: bool,
     numbered: bool,
     nesting: u32,
-) -> Result<(SMsg, Cursor<'t>), Stop>
+) -> Result<(Box<SMsg>, Cursor<'t>), Stop>
     requires { nesting ≤ 1000 }
-    ensures { Gives (λ x. (msg_of x.0, state_of x.1)) result (inr_form later numbered nesting (first ∷ []) (state_of at.entry)) }
+    ensures { Gives (λ x. (msg_of x.0.value, state_of x.1)) result (inr_form later numbered nesting (first ∷ []) (state_of at.entry)) }
 {
-    let (part, at) = message(alloc, at, later, numbered, nesting + 1)?;
+    let (part, at) = boxed_message(alloc, at, later, numbered, nesting + 1)?;
     let span = Span {
         from: first.from,
         to: at.end,
     };
-    let part = Box::new(alloc, part)?;
-    Ok((SMsg::Inr { part, span }, at))
+    Ok((boxed(alloc, SMsg::Inr { part, span })?, at))
 }
 
 #[cycle(messages)]
@@ -234,19 +241,18 @@ fn read_hash<'t>(
     later: bool,
     numbered: bool,
     nesting: u32,
-) -> Result<(SMsg, Cursor<'t>), Stop>
+) -> Result<(Box<SMsg>, Cursor<'t>), Stop>
     requires { nesting ≤ 1000 }
-    ensures { Gives (λ x. (msg_of x.0, state_of x.1)) result (hash_form later numbered nesting (first ∷ []) (state_of at.entry)) }
+    ensures { Gives (λ x. (msg_of x.0.value, state_of x.1)) result (hash_form later numbered nesting (first ∷ []) (state_of at.entry)) }
 {
     let at = take_mark(at, Mark::ParenOpen)?;
-    let (part, at) = message(alloc, at, later, numbered, nesting + 1)?;
+    let (part, at) = boxed_message(alloc, at, later, numbered, nesting + 1)?;
     let at = take_mark(at, Mark::ParenClose)?;
     let span = Span {
         from: first.from,
         to: at.end,
     };
-    let part = Box::new(alloc, part)?;
-    Ok((SMsg::Hash { part, span }, at))
+    Ok((boxed(alloc, SMsg::Hash { part, span })?, at))
 }
 
 #[cycle(messages)]
@@ -257,9 +263,9 @@ fn message_in_parens<'t>(
     later: bool,
     numbered: bool,
     nesting: u32,
-) -> Result<(SMsg, Cursor<'t>), Stop>
+) -> Result<(Box<SMsg>, Cursor<'t>), Stop>
     requires { nesting ≤ 1000 }
-    ensures { Gives (λ x. (msg_of x.0, state_of x.1)) result (behind limited (read limited) (delta_paren later numbered nesting) (first ∷ []) (state_of at.entry)) }
+    ensures { Gives (λ x. (msg_of x.0.value, state_of x.1)) result (behind limited (read limited) (delta_paren later numbered nesting) (first ∷ []) (state_of at.entry)) }
 {
     let [second, rest @ ..] = at.rest else {
         return Err(syntax(0));
@@ -271,7 +277,7 @@ fn message_in_parens<'t>(
                 from: first.from,
                 to: end,
             };
-            Ok((SMsg::Unit { span }, Cursor { rest, end }))
+            Ok((boxed(alloc, SMsg::Unit { span })?, Cursor { rest, end }))
         }
         _ => read_tuple(alloc, first, at, later, numbered, nesting),
     }
@@ -285,13 +291,13 @@ fn read_tuple<'t>(
     later: bool,
     numbered: bool,
     nesting: u32,
-) -> Result<(SMsg, Cursor<'t>), Stop>
+) -> Result<(Box<SMsg>, Cursor<'t>), Stop>
     requires { nesting ≤ 1000 }
-    ensures { Gives (λ x. (msg_of x.0, state_of x.1)) result (tuple_form later numbered nesting (opening ∷ []) (state_of at.entry)) }
+    ensures { Gives (λ x. (msg_of x.0.value, state_of x.1)) result (tuple_form later numbered nesting (opening ∷ []) (state_of at.entry)) }
 {
-    let (first, at) = message(alloc, at, later, numbered, nesting + 1)?;
+    let (first, at) = boxed_message(alloc, at, later, numbered, nesting + 1)?;
     let at = take_mark(at, Mark::Comma)?;
-    let (second, at) = message(alloc, at, later, numbered, nesting + 1)?;
+    let (second, at) = boxed_message(alloc, at, later, numbered, nesting + 1)?;
     let (more, at) = more_messages(alloc, at, later, numbered, nesting + 1)?;
     end_tuple(alloc, opening, first, second, more, at)
 }
@@ -300,19 +306,18 @@ fn read_tuple<'t>(
 fn end_tuple<'t>(
     alloc: Global,
     opening: Span,
-    first: SMsg,
-    second: SMsg,
+    first: Box<SMsg>,
+    second: Box<SMsg>,
     more: Vec<SMsg>,
     at: Cursor<'t>,
-) -> Result<(SMsg, Cursor<'t>), Stop>
-    ensures { Gives (λ x. (msg_of x.0, state_of x.1)) result (done (tuple (over (opening ∷ []) at.entry.end) (msg_of first) (msg_of second) (msgs_of_list (map msg_of more.items))) (state_of at.entry)) }
+) -> Result<(Box<SMsg>, Cursor<'t>), Stop>
+    ensures { Gives (λ x. (msg_of x.0.value, state_of x.1)) result (done (tuple (over (opening ∷ []) at.entry.end) (msg_of first.value) (msg_of second.value) (msgs_of_list (map msg_of more.items))) (state_of at.entry)) }
 {
     let span = Span {
         from: opening.from,
         to: at.end,
     };
-    let tuple = make_tuple(alloc, first, second, more, span)?;
-    Ok((tuple, at))
+    Ok((boxed(alloc, make_tuple(first, second, more, span))?, at))
 }
 
 #[cycle(messages)]
@@ -331,7 +336,7 @@ fn more_messages<'t>(
     'items: loop {
         let (item, after) = next_message(alloc, at, later, numbered, nesting)?;
         match item {
-            Some(part) => more.push(part)?,
+            Some(part) => more.push(Box::into_inner(part))?,
             None => return Ok((more, after)),
         }
         at = after;
@@ -345,9 +350,9 @@ fn next_message<'t>(
     later: bool,
     numbered: bool,
     nesting: u32,
-) -> Result<(Option<SMsg>, Cursor<'t>), Stop>
+) -> Result<(Option<Box<SMsg>>, Cursor<'t>), Stop>
     requires { nesting ≤ 1001 }
-    ensures { Gives (λ x. (item_of msg_of tt x.0, state_of x.1)) result (read limited (msgs_item later numbered nesting) (state_of at.entry)) }
+    ensures { Gives (λ x. (item_of (λ b. msg_of b.value) tt x.0, state_of x.1)) result (read limited (msgs_item later numbered nesting) (state_of at.entry)) }
 {
     next_message_step(alloc, at, later, numbered, nesting)
 }
@@ -359,9 +364,9 @@ fn next_message_step<'t>(
     later: bool,
     numbered: bool,
     nesting: u32,
-) -> Result<(Option<SMsg>, Cursor<'t>), Stop>
+) -> Result<(Option<Box<SMsg>>, Cursor<'t>), Stop>
     requires { nesting ≤ 1001 }
-    ensures { Gives (λ x. (item_of msg_of tt x.0, state_of x.1)) result (step limited (read limited) (msgs_item later numbered nesting) (state_of at.entry)) }
+    ensures { Gives (λ x. (item_of (λ b. msg_of b.value) tt x.0, state_of x.1)) result (step limited (read limited) (msgs_item later numbered nesting) (state_of at.entry)) }
 {
     let [first, rest @ ..] = at.rest else {
         return Err(syntax(0));
@@ -372,7 +377,7 @@ fn next_message_step<'t>(
     };
     match first.kind {
         Kind::Mark(Mark::Comma) => {
-            let (part, at) = message(alloc, next, later, numbered, nesting)?;
+            let (part, at) = boxed_message(alloc, next, later, numbered, nesting)?;
             Ok((Some(part), at))
         }
         Kind::Mark(Mark::ParenClose) => Ok((None, next)),

@@ -1,11 +1,11 @@
 //! Types.
 
-ghost use Rattle.std.specs.Prelude.{◌≡◌, ◌+◌, ◌≤◌, [], ◌∷◌, map, IfOk};
-ghost use Rattle.spi_tree.specs.Trees.{tuple_ty, fields_of_list, abbr};
+ghost use Rattle.std.specs.Prelude.{◌≡◌, ◌+◌, ◌≤◌, [], ◌∷◌, map, if◌then◌else◌, IfOk};
+ghost use Rattle.spi_tree.specs.Trees.{tuple_ty, fields_of_list, abbr, bare, named};
 ghost use Rattle.spi_tree.specs.Views.{ty_of, field_of, last_of};
 ghost use Rattle.spi_parse.specs.Places.{state_of, field_item, sum_form, key_form, nonce_form, tuple_ty_form, sum_word_form};
 ghost use Rattle.spi_parse.specs.Ends.{done, sum_end};
-ghost use Rattle.spi_parse.specs.Table.{ty, fields, fields_item, fields_rest, delta_ty_paren, delta_ty_word, delta_item_word, word_at, over};
+ghost use Rattle.spi_parse.specs.Table.{one, last, ty, fields, fields_item, fields_rest, delta_ty_paren, delta_ty_word, delta_item_word, word_at, over};
 ghost use Rattle.spi_parse.specs.Reading.{Gives, read, step, limited, behind};
 
 use crate::NoMemory;
@@ -26,26 +26,37 @@ pub enum FieldOrLast {
 }
 
 fn make_tuple_type(
-    alloc: Global,
     name: SWord,
-    first: STy,
+    first: Box<STy>,
     more: Vec<SField>,
-    last: Last,
+    last: Box<Last>,
     span: Span,
-) -> Result<STy, NoMemory>
-    ensures { IfOk result (λ t. ty_of t ≡ tuple_ty span name (ty_of first) (fields_of_list (map field_of more.items)) (last_of last)) }
+) -> STy
+    ensures { ty_of result ≡ tuple_ty span name (ty_of first.value) (fields_of_list (map field_of more.items)) (last_of last.value) }
 {
-    Ok(STy::Tuple {
+    STy::Tuple {
         name,
-        first: Box::new(alloc, first)?,
+        first,
         more,
-        last: Box::new(alloc, last)?,
+        last,
         span,
-    })
+    }
+}
+
+// What reads a part of a type holds it as a box while it reads the next part, so that deep types fit the stack.
+fn boxed(alloc: Global, tree: STy) -> Result<Box<STy>, NoMemory>
+    ensures { IfOk result (λ b. b.value ≡ tree) }
+{
+    Ok(Box::new(alloc, tree)?)
+}
+
+fn boxed_last(alloc: Global, last: Last) -> Result<Box<Last>, NoMemory>
+    ensures { IfOk result (λ b. b.value ≡ last) }
+{
+    Ok(Box::new(alloc, last)?)
 }
 
 /// A type of a nesting.
-#[cycle(types)]
 pub fn read_type<'t>(
     alloc: Global,
     at: Cursor<'t>,
@@ -54,6 +65,20 @@ pub fn read_type<'t>(
 ) -> Result<(STy, Cursor<'t>), Stop>
     requires { nesting ≤ 1001 }
     ensures { Gives (λ x. (ty_of x.0, state_of x.1)) result (read limited (ty later nesting) (state_of at.entry)) }
+{
+    let (tree, at) = boxed_type(alloc, at, later, nesting)?;
+    Ok((Box::into_inner(tree), at))
+}
+
+#[cycle(types)]
+fn boxed_type<'t>(
+    alloc: Global,
+    at: Cursor<'t>,
+    later: bool,
+    nesting: u32,
+) -> Result<(Box<STy>, Cursor<'t>), Stop>
+    requires { nesting ≤ 1001 }
+    ensures { Gives (λ x. (ty_of x.0.value, state_of x.1)) result (read limited (ty later nesting) (state_of at.entry)) }
 {
     type_step(alloc, at, later, nesting)
 }
@@ -64,9 +89,9 @@ fn type_step<'t>(
     at: Cursor<'t>,
     later: bool,
     nesting: u32,
-) -> Result<(STy, Cursor<'t>), Stop>
+) -> Result<(Box<STy>, Cursor<'t>), Stop>
     requires { nesting ≤ 1001 }
-    ensures { Gives (λ x. (ty_of x.0, state_of x.1)) result (step limited (read limited) (ty later nesting) (state_of at.entry)) }
+    ensures { Gives (λ x. (ty_of x.0.value, state_of x.1)) result (step limited (read limited) (ty later nesting) (state_of at.entry)) }
 {
     let [first, rest @ ..] = at.rest else {
         return Err(syntax(0));
@@ -86,7 +111,7 @@ fn type_step<'t>(
             if nesting > MESSAGE_LIMIT {
                 return Err(too_deep(at.rest.len()));
             }
-            Ok((STy::Un { span: first.span }, next))
+            Ok((boxed(alloc, STy::Un { span: first.span })?, next))
         }
         Kind::Reserved(Reserved::Key) => {
             if nesting > MESSAGE_LIMIT {
@@ -115,14 +140,14 @@ fn read_abbreviation<'t>(
     word: &Text,
     span: Span,
     at: Cursor<'t>,
-) -> Result<(STy, Cursor<'t>), Stop>
-    ensures { Gives (λ x. (ty_of x.0, state_of x.1)) result (done (abbr span (word_at word.now span)) (state_of at.entry)) }
+) -> Result<(Box<STy>, Cursor<'t>), Stop>
+    ensures { Gives (λ x. (ty_of x.0.value, state_of x.1)) result (done (abbr span (word_at word.now span)) (state_of at.entry)) }
 {
     let name = SWord {
         word: copy_word(alloc, word)?,
         span,
     };
-    Ok((STy::Abbr { name, span }, at))
+    Ok((boxed(alloc, STy::Abbr { name, span })?, at))
 }
 
 fn read_nonce<'t>(
@@ -131,16 +156,16 @@ fn read_nonce<'t>(
     at: Cursor<'t>,
     later: bool,
     nesting: u32,
-) -> Result<(STy, Cursor<'t>), Stop>
+) -> Result<(Box<STy>, Cursor<'t>), Stop>
     requires { nesting ≤ 1000 }
-    ensures { Gives (λ x. (ty_of x.0, state_of x.1)) result (nonce_form later nesting (first ∷ []) (state_of at.entry)) }
+    ensures { Gives (λ x. (ty_of x.0.value, state_of x.1)) result (nonce_form later nesting (first ∷ []) (state_of at.entry)) }
 {
     let (effect, at) = effect(alloc, at, later, false, nesting + 1)?;
     let span = Span {
         from: first.from,
         to: at.end,
     };
-    Ok((STy::Nonce { effect, span }, at))
+    Ok((boxed(alloc, STy::Nonce { effect, span })?, at))
 }
 
 #[cycle(types)]
@@ -150,19 +175,18 @@ fn read_key<'t>(
     at: Cursor<'t>,
     later: bool,
     nesting: u32,
-) -> Result<(STy, Cursor<'t>), Stop>
+) -> Result<(Box<STy>, Cursor<'t>), Stop>
     requires { nesting ≤ 1000 }
-    ensures { Gives (λ x. (ty_of x.0, state_of x.1)) result (key_form later nesting (first ∷ []) (state_of at.entry)) }
+    ensures { Gives (λ x. (ty_of x.0.value, state_of x.1)) result (key_form later nesting (first ∷ []) (state_of at.entry)) }
 {
     let at = take_mark(at, Mark::ParenOpen)?;
-    let (part, at) = read_type(alloc, at, later, nesting + 1)?;
+    let (part, at) = boxed_type(alloc, at, later, nesting + 1)?;
     let at = take_mark(at, Mark::ParenClose)?;
     let span = Span {
         from: first.from,
         to: at.end,
     };
-    let part = Box::new(alloc, part)?;
-    Ok((STy::Key { part, span }, at))
+    Ok((boxed(alloc, STy::Key { part, span })?, at))
 }
 
 #[cycle(types)]
@@ -172,9 +196,9 @@ fn type_in_parens<'t>(
     at: Cursor<'t>,
     later: bool,
     nesting: u32,
-) -> Result<(STy, Cursor<'t>), Stop>
+) -> Result<(Box<STy>, Cursor<'t>), Stop>
     requires { nesting ≤ 1000 }
-    ensures { Gives (λ x. (ty_of x.0, state_of x.1)) result (behind limited (read limited) (delta_ty_paren later nesting) (first ∷ []) (state_of at.entry)) }
+    ensures { Gives (λ x. (ty_of x.0.value, state_of x.1)) result (behind limited (read limited) (delta_ty_paren later nesting) (first ∷ []) (state_of at.entry)) }
 {
     let [second, rest @ ..] = at.rest else {
         return Err(syntax(0));
@@ -189,7 +213,7 @@ fn type_in_parens<'t>(
                 from: first.from,
                 to: next.end,
             };
-            Ok((STy::Unit { span }, next))
+            Ok((boxed(alloc, STy::Unit { span })?, next))
         }
         Kind::Word(word) => {
             if nesting + 1 > MESSAGE_LIMIT {
@@ -208,13 +232,13 @@ fn read_sum<'t>(
     at: Cursor<'t>,
     later: bool,
     nesting: u32,
-) -> Result<(STy, Cursor<'t>), Stop>
+) -> Result<(Box<STy>, Cursor<'t>), Stop>
     requires { nesting ≤ 1000 }
-    ensures { Gives (λ x. (ty_of x.0, state_of x.1)) result (sum_form later nesting (first ∷ []) (state_of at.entry)) }
+    ensures { Gives (λ x. (ty_of x.0.value, state_of x.1)) result (sum_form later nesting (first ∷ []) (state_of at.entry)) }
 {
-    let (left, at) = read_type(alloc, at, later, nesting + 1)?;
+    let (left, at) = boxed_type(alloc, at, later, nesting + 1)?;
     let at = take_mark(at, Mark::Plus)?;
-    let (right, at) = read_type(alloc, at, later, nesting + 1)?;
+    let (right, at) = boxed_type(alloc, at, later, nesting + 1)?;
     end_sum(alloc, first, left, right, at)
 }
 
@@ -222,20 +246,18 @@ fn read_sum<'t>(
 fn end_sum<'t>(
     alloc: Global,
     first: Span,
-    left: STy,
-    right: STy,
+    left: Box<STy>,
+    right: Box<STy>,
     at: Cursor<'t>,
-) -> Result<(STy, Cursor<'t>), Stop>
-    ensures { Gives (λ x. (ty_of x.0, state_of x.1)) result (sum_end (first ∷ []) (ty_of left) (ty_of right) (state_of at.entry)) }
+) -> Result<(Box<STy>, Cursor<'t>), Stop>
+    ensures { Gives (λ x. (ty_of x.0.value, state_of x.1)) result (sum_end (first ∷ []) (ty_of left.value) (ty_of right.value) (state_of at.entry)) }
 {
     let at = take_mark(at, Mark::ParenClose)?;
     let span = Span {
         from: first.from,
         to: at.end,
     };
-    let left = Box::new(alloc, left)?;
-    let right = Box::new(alloc, right)?;
-    Ok((STy::Sum { left, right, span }, at))
+    Ok((boxed(alloc, STy::Sum { left, right, span })?, at))
 }
 
 #[cycle(types)]
@@ -247,9 +269,9 @@ fn type_behind_word<'t>(
     at: Cursor<'t>,
     later: bool,
     nesting: u32,
-) -> Result<(STy, Cursor<'t>), Stop>
+) -> Result<(Box<STy>, Cursor<'t>), Stop>
     requires { nesting ≤ 999 }
-    ensures { Gives (λ x. (ty_of x.0, state_of x.1)) result (behind limited (read limited) (delta_ty_word later nesting word.now) (first ∷ place ∷ []) (state_of at.entry)) }
+    ensures { Gives (λ x. (ty_of x.0.value, state_of x.1)) result (behind limited (read limited) (delta_ty_word later nesting word.now) (first ∷ place ∷ []) (state_of at.entry)) }
 {
     let [second, rest @ ..] = at.rest else {
         return Err(syntax(0));
@@ -274,11 +296,11 @@ fn read_tuple_type<'t>(
     at: Cursor<'t>,
     later: bool,
     nesting: u32,
-) -> Result<(STy, Cursor<'t>), Stop>
+) -> Result<(Box<STy>, Cursor<'t>), Stop>
     requires { nesting ≤ 999 }
-    ensures { Gives (λ x. (ty_of x.0, state_of x.1)) result (tuple_ty_form later nesting word.now (first ∷ place ∷ []) (state_of at.entry)) }
+    ensures { Gives (λ x. (ty_of x.0.value, state_of x.1)) result (tuple_ty_form later nesting word.now (first ∷ place ∷ []) (state_of at.entry)) }
 {
-    let (part, at) = read_type(alloc, at, later, nesting + 1)?;
+    let (part, at) = boxed_type(alloc, at, later, nesting + 1)?;
     let at = take_mark(at, Mark::Comma)?;
     let (more, last, at) = read_fields(alloc, at, later, nesting + 1)?;
     end_tuple_type(alloc, first, word, place, part, more, last, at)
@@ -290,12 +312,12 @@ fn end_tuple_type<'t>(
     first: Span,
     word: &Text,
     place: Span,
-    part: STy,
+    part: Box<STy>,
     more: Vec<SField>,
-    last: Last,
+    last: Box<Last>,
     at: Cursor<'t>,
-) -> Result<(STy, Cursor<'t>), Stop>
-    ensures { Gives (λ x. (ty_of x.0, state_of x.1)) result (done (tuple_ty (over (first ∷ []) at.entry.end) (word_at word.now place) (ty_of part) (fields_of_list (map field_of more.items)) (last_of last)) (state_of at.entry)) }
+) -> Result<(Box<STy>, Cursor<'t>), Stop>
+    ensures { Gives (λ x. (ty_of x.0.value, state_of x.1)) result (done (tuple_ty (over (first ∷ []) at.entry.end) (word_at word.now place) (ty_of part.value) (fields_of_list (map field_of more.items)) (last_of last.value)) (state_of at.entry)) }
 {
     let name = SWord {
         word: copy_word(alloc, word)?,
@@ -305,8 +327,8 @@ fn end_tuple_type<'t>(
         from: first.from,
         to: at.end,
     };
-    let tuple = make_tuple_type(alloc, name, part, more, last, span)?;
-    Ok((tuple, at))
+    let tuple = make_tuple_type(name, part, more, last, span);
+    Ok((boxed(alloc, tuple)?, at))
 }
 
 #[cycle(types)]
@@ -318,11 +340,11 @@ fn read_sum_of_word<'t>(
     at: Cursor<'t>,
     later: bool,
     nesting: u32,
-) -> Result<(STy, Cursor<'t>), Stop>
+) -> Result<(Box<STy>, Cursor<'t>), Stop>
     requires { nesting ≤ 999 }
-    ensures { Gives (λ x. (ty_of x.0, state_of x.1)) result (sum_word_form later nesting word.now (first ∷ place ∷ []) (state_of at.entry)) }
+    ensures { Gives (λ x. (ty_of x.0.value, state_of x.1)) result (sum_word_form later nesting word.now (first ∷ place ∷ []) (state_of at.entry)) }
 {
-    let (right, at) = read_type(alloc, at, later, nesting + 1)?;
+    let (right, at) = boxed_type(alloc, at, later, nesting + 1)?;
     end_sum_of_word(alloc, first, word, place, right, at)
 }
 
@@ -332,23 +354,22 @@ fn end_sum_of_word<'t>(
     first: Span,
     word: &Text,
     place: Span,
-    right: STy,
+    right: Box<STy>,
     at: Cursor<'t>,
-) -> Result<(STy, Cursor<'t>), Stop>
-    ensures { Gives (λ x. (ty_of x.0, state_of x.1)) result (sum_end (first ∷ []) (abbr place (word_at word.now place)) (ty_of right) (state_of at.entry)) }
+) -> Result<(Box<STy>, Cursor<'t>), Stop>
+    ensures { Gives (λ x. (ty_of x.0.value, state_of x.1)) result (sum_end (first ∷ []) (abbr place (word_at word.now place)) (ty_of right.value) (state_of at.entry)) }
 {
     let at = take_mark(at, Mark::ParenClose)?;
     let name = SWord {
         word: copy_word(alloc, word)?,
         span: place,
     };
-    let left = Box::new(alloc, STy::Abbr { name, span: place })?;
-    let right = Box::new(alloc, right)?;
+    let left = boxed(alloc, STy::Abbr { name, span: place })?;
     let span = Span {
         from: first.from,
         to: at.end,
     };
-    Ok((STy::Sum { left, right, span }, at))
+    Ok((boxed(alloc, STy::Sum { left, right, span })?, at))
 }
 
 #[cycle(types)]
@@ -357,20 +378,46 @@ fn read_fields<'t>(
     start: Cursor<'t>,
     later: bool,
     nesting: u32,
-) -> Result<(Vec<SField>, Last, Cursor<'t>), Stop>
+) -> Result<(Vec<SField>, Box<Last>, Cursor<'t>), Stop>
     requires { nesting ≤ 1001 }
-    ensures { Gives (λ x. ((map field_of x.0.items, last_of x.1), state_of x.2)) result (read limited (fields later nesting) (state_of start.entry)) }
+    ensures { Gives (λ x. ((map field_of x.0.items, last_of x.1.value), state_of x.2)) result (read limited (fields later nesting) (state_of start.entry)) }
 {
     let mut more = Vec::new(alloc);
     let mut at = start;
     'items: loop {
         let (item, after) = next_field(alloc, at, later, nesting)?;
-        match item {
+        match Box::into_inner(item) {
             FieldOrLast::Field(part) => more.push(part)?,
-            FieldOrLast::Last(last) => return Ok((more, last, after)),
+            FieldOrLast::Last(last) => return Ok((more, boxed_last(alloc, last)?, after)),
         }
         at = after;
     }
+}
+
+/// A last part without a name.
+fn bare_last(alloc: Global, ty: Box<STy>) -> Result<Box<FieldOrLast>, NoMemory>
+    ensures { IfOk result (λ b. field_item b.value ≡ last (bare (ty_of ty.value))) }
+{
+    let last = Last::Bare(Box::into_inner(ty));
+    Ok(Box::new(alloc, FieldOrLast::Last(last))?)
+}
+
+/// A part with a name, the last one where the tuple ends behind it.
+fn named_part(
+    alloc: Global,
+    name: SWord,
+    ty: Box<STy>,
+    ends: bool,
+) -> Result<Box<FieldOrLast>, NoMemory>
+    ensures { IfOk result (λ b. field_item b.value ≡ (if ends then last (named name (ty_of ty.value)) else one (record { name = name; ty = ty_of ty.value }))) }
+{
+    let ty = Box::into_inner(ty);
+    let part = if ends {
+        FieldOrLast::Last(Last::Named(name, ty))
+    } else {
+        FieldOrLast::Field(SField { name, ty })
+    };
+    Ok(Box::new(alloc, part)?)
 }
 
 #[cycle(types)]
@@ -379,9 +426,9 @@ fn next_field<'t>(
     at: Cursor<'t>,
     later: bool,
     nesting: u32,
-) -> Result<(FieldOrLast, Cursor<'t>), Stop>
+) -> Result<(Box<FieldOrLast>, Cursor<'t>), Stop>
     requires { nesting ≤ 1001 }
-    ensures { Gives (λ x. (field_item x.0, state_of x.1)) result (read limited (fields_item later nesting) (state_of at.entry)) }
+    ensures { Gives (λ x. (field_item x.0.value, state_of x.1)) result (read limited (fields_item later nesting) (state_of at.entry)) }
 {
     next_field_step(alloc, at, later, nesting)
 }
@@ -392,9 +439,9 @@ fn next_field_step<'t>(
     at: Cursor<'t>,
     later: bool,
     nesting: u32,
-) -> Result<(FieldOrLast, Cursor<'t>), Stop>
+) -> Result<(Box<FieldOrLast>, Cursor<'t>), Stop>
     requires { nesting ≤ 1001 }
-    ensures { Gives (λ x. (field_item x.0, state_of x.1)) result (step limited (read limited) (fields_item later nesting) (state_of at.entry)) }
+    ensures { Gives (λ x. (field_item x.0.value, state_of x.1)) result (step limited (read limited) (fields_item later nesting) (state_of at.entry)) }
 {
     let [first, rest @ ..] = at.rest else {
         return Err(syntax(0));
@@ -415,9 +462,9 @@ fn next_field_step<'t>(
             field_behind_word(alloc, name, next, later, nesting)
         }
         _ => {
-            let (last, at) = read_type(alloc, at, later, nesting)?;
+            let (last, at) = boxed_type(alloc, at, later, nesting)?;
             let at = take_mark(at, Mark::ParenClose)?;
-            Ok((FieldOrLast::Last(Last::Bare(last)), at))
+            Ok((bare_last(alloc, last)?, at))
         }
     }
 }
@@ -429,9 +476,9 @@ fn field_behind_word<'t>(
     at: Cursor<'t>,
     later: bool,
     nesting: u32,
-) -> Result<(FieldOrLast, Cursor<'t>), Stop>
+) -> Result<(Box<FieldOrLast>, Cursor<'t>), Stop>
     requires { nesting ≤ 1000 }
-    ensures { Gives (λ x. (field_item x.0, state_of x.1)) result (behind limited (read limited) (delta_item_word later nesting name.word) (name.span ∷ []) (state_of at.entry)) }
+    ensures { Gives (λ x. (field_item x.0.value, state_of x.1)) result (behind limited (read limited) (delta_item_word later nesting name.word) (name.span ∷ []) (state_of at.entry)) }
 {
     let [first, rest @ ..] = at.rest else {
         return Err(syntax(0));
@@ -442,20 +489,14 @@ fn field_behind_word<'t>(
     };
     match first.kind {
         Kind::Mark(Mark::Colon) => {
-            let (ty, at) = read_type(alloc, next, later, nesting)?;
+            let (ty, at) = boxed_type(alloc, next, later, nesting)?;
             let (ends, at) = field_rest(at)?;
-            if ends {
-                Ok((FieldOrLast::Last(Last::Named(name, ty)), at))
-            } else {
-                Ok((FieldOrLast::Field(SField { name, ty }), at))
-            }
+            Ok((named_part(alloc, name, ty, ends)?, at))
         }
         Kind::Mark(Mark::ParenClose) => {
             let span = name.span;
-            Ok((
-                FieldOrLast::Last(Last::Bare(STy::Abbr { name, span })),
-                next,
-            ))
+            let last = boxed(alloc, STy::Abbr { name, span })?;
+            Ok((bare_last(alloc, last)?, next))
         }
         _ => Err(syntax(at.rest.len())),
     }

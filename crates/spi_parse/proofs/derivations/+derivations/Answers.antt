@@ -1,4 +1,5 @@
 use Rattle.std.proofs.Common.{rules, ◌≡◌, true, false, Some, ap, subst, ◌∙◌}
+use Rattle.std.specs.Global.{Box}
 use Rattle.spi_lex.specs.declared.token.Kind.TheVariants as K
 use Rattle.spi_tree.specs.declared.tree.SDeriv.{SDeriv}
 use Rattle.spi_tree.specs.Trees as trees
@@ -12,8 +13,8 @@ use Rattle.spi_parse.proofs.Readers.{read_is_step}
 use Rattle.spi_parse.proofs.DerivLaws.{rule_is_first}
 use Rattle.spi_parse.proofs.derivations.+derivations.Goals as goal
 
-pub derivation-returns : goal.derivation-returns
-derivation-returns t c = rw read_is_step (search rules)
+pub boxed_derivation-returns : goal.boxed_derivation-returns
+boxed_derivation-returns t c = rw read_is_step (search rules)
 
 pub derivation_step-returns-in_ok-derivation_fits-in-One : goal.derivation_step-returns-in_ok-derivation_fits-in-One
 derivation_step-returns-in_ok-derivation_fits-in-One t c =
@@ -21,7 +22,7 @@ derivation_step-returns-in_ok-derivation_fits-in-One t c =
     let kind : c.first-item.result.kind ≡ K.Word c.in_ok-copy_word-in-Word.field-0 = search rules in
     let arity : arity_of c.args.later c.in_ok-copy_word-in-Word.field-0 ≡ Some 1 = ap (arity_of c.args.later) copied ∙ c.in-One.ensures.0 in
     let writes : writes_effect c.in_ok-copy_word-in-Word.field-0 ≡ false = ap writes_effect copied ∙ c.in-One.ensures.1 in
-    subst (λ (o : Out trees.Deriv). Gives {X = SDeriv × Cursor} {Y = trees.Deriv × State} (λ x. (deriv_of x.0, state_of x.1)) c.read_one.result o)
+    subst (λ (o : Out trees.Deriv). Gives {X = Box SDeriv × Cursor} {Y = trees.Deriv × State} (λ x. (deriv_of x.0.value, state_of x.1)) c.read_one.result o)
     (rule_is_first c.args.later c.args.nesting c.args.at.end c.args.at.rest.now c.first-item.result c.in_ok-copy_word-in-Word.field-0 (Some 1) false c.in-len1-up.len_at_least c.first-item.is kind arity writes c.in_ok-derivation_fits-in-One.ensures)
     c.read_one.ensures
 
@@ -31,7 +32,7 @@ derivation_step-returns-in_ok-derivation_fits-in-Two t c =
     let kind : c.first-item.result.kind ≡ K.Word c.in_ok-copy_word-in-Word.field-0 = search rules in
     let arity : arity_of c.args.later c.in_ok-copy_word-in-Word.field-0 ≡ Some 2 = ap (arity_of c.args.later) copied ∙ c.in-Two.ensures.0 in
     let writes : writes_effect c.in_ok-copy_word-in-Word.field-0 ≡ false = ap writes_effect copied ∙ c.in-Two.ensures.1 in
-    subst (λ (o : Out trees.Deriv). Gives {X = SDeriv × Cursor} {Y = trees.Deriv × State} (λ x. (deriv_of x.0, state_of x.1)) c.read_two.result o)
+    subst (λ (o : Out trees.Deriv). Gives {X = Box SDeriv × Cursor} {Y = trees.Deriv × State} (λ x. (deriv_of x.0.value, state_of x.1)) c.read_two.result o)
     (rule_is_first c.args.later c.args.nesting c.args.at.end c.args.at.rest.now c.first-item.result c.in_ok-copy_word-in-Word.field-0 (Some 2) false c.in-len1-up.len_at_least c.first-item.is kind arity writes c.in_ok-derivation_fits-in-Two.ensures)
     c.read_two.ensures
 
@@ -41,7 +42,7 @@ derivation_step-returns-in_ok-derivation_fits-in-Three t c =
     let kind : c.first-item.result.kind ≡ K.Word c.in_ok-copy_word-in-Word.field-0 = search rules in
     let arity : arity_of c.args.later c.in_ok-copy_word-in-Word.field-0 ≡ Some 3 = ap (arity_of c.args.later) copied ∙ c.in-Three.ensures.0 in
     let writes : writes_effect c.in_ok-copy_word-in-Word.field-0 ≡ false = ap writes_effect copied ∙ c.in-Three.ensures.1 in
-    subst (λ (o : Out trees.Deriv). Gives {X = SDeriv × Cursor} {Y = trees.Deriv × State} (λ x. (deriv_of x.0, state_of x.1)) c.read_three.result o)
+    subst (λ (o : Out trees.Deriv). Gives {X = Box SDeriv × Cursor} {Y = trees.Deriv × State} (λ x. (deriv_of x.0.value, state_of x.1)) c.read_three.result o)
     (rule_is_first c.args.later c.args.nesting c.args.at.end c.args.at.rest.now c.first-item.result c.in_ok-copy_word-in-Word.field-0 (Some 3) false c.in-len1-up.len_at_least c.first-item.is kind arity writes c.in_ok-derivation_fits-in-Three.ensures)
     c.read_three.ensures
 
@@ -51,6 +52,6 @@ derivation_step-returns-in_ok-derivation_fits-in-Sub t c =
     let kind : c.first-item.result.kind ≡ K.Word c.in_ok-copy_word-in-Word.field-0 = search rules in
     let arity : arity_of c.args.later c.in_ok-copy_word-in-Word.field-0 ≡ Some 1 = ap (arity_of c.args.later) copied ∙ c.in-Sub.ensures.0 in
     let writes : writes_effect c.in_ok-copy_word-in-Word.field-0 ≡ true = ap writes_effect copied ∙ c.in-Sub.ensures.1 in
-    subst (λ (o : Out trees.Deriv). Gives {X = SDeriv × Cursor} {Y = trees.Deriv × State} (λ x. (deriv_of x.0, state_of x.1)) c.read_sub.result o)
+    subst (λ (o : Out trees.Deriv). Gives {X = Box SDeriv × Cursor} {Y = trees.Deriv × State} (λ x. (deriv_of x.0.value, state_of x.1)) c.read_sub.result o)
     (rule_is_first c.args.later c.args.nesting c.args.at.end c.args.at.rest.now c.first-item.result c.in_ok-copy_word-in-Word.field-0 (Some 1) true c.in-len1-up.len_at_least c.first-item.is kind arity writes c.in_ok-derivation_fits-in-Sub.ensures)
     c.read_sub.ensures

@@ -11,8 +11,8 @@ use Rattle.spi_parse.proofs.Readers.{read_is_step, takes_some}
 use Rattle.spi_parse.proofs.Lists.{msgs_law, msgs_take}
 use Rattle.spi_parse.proofs.messages.+messages.Goals as goal
 
-pub message-returns : goal.message-returns
-message-returns t c = rw read_is_step (search rules)
+pub boxed_message-returns : goal.boxed_message-returns
+boxed_message-returns t c = rw read_is_step (search rules)
 
 pub next_message-returns : goal.next_message-returns
 next_message-returns t c = rw read_is_step (search rules)
@@ -25,8 +25,8 @@ more_messages-items-smaller t c =
 pub more_messages-items-preserved : goal.more_messages-items-preserved
 more_messages-items-preserved t c =
     let e = rw c.in-Some.is at c.in_ok-item.ensures in
-    rw (c.in_ok-push-in-Some.ensures.items, map_push msg_of c.items.more.items c.in-Some.part)
-    (goes_on (read limited (msgs_item c.args.later c.args.numbered c.args.nesting)) (read limited (msgs c.args.later c.args.numbered c.args.nesting)) (msgs_law c.args.later c.args.numbered c.args.nesting) (map msg_of c.items.more.items) (msg_of c.in-Some.part) (state_of c.items.at) (state_of c.in_ok-item.after) _ e c.items.invariant)
+    rw (c.in_ok-push-in-Some.ensures.items, c.into_inner.ensures, map_push msg_of c.items.more.items c.in-Some.part.value)
+    (goes_on (read limited (msgs_item c.args.later c.args.numbered c.args.nesting)) (read limited (msgs c.args.later c.args.numbered c.args.nesting)) (msgs_law c.args.later c.args.numbered c.args.nesting) (map msg_of c.items.more.items) (msg_of c.in-Some.part.value) (state_of c.items.at) (state_of c.in_ok-item.after) _ e c.items.invariant)
 
 pub more_messages-returns-in_err-item : goal.more_messages-returns-in_err-item
 more_messages-returns-in_err-item t c =

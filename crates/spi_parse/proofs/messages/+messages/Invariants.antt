@@ -5,8 +5,8 @@ use Rattle.spi_tree.specs.Views.{msg_of}
 use Rattle.spi_parse.specs.Table.{msgs}
 use Rattle.spi_parse.proofs.messages.+messages.Given as goal
 
-abbrev pub decreases-message : goal.decreases-message
-decreases-message l = 8 * (1001 - l.nesting) + 3
+abbrev pub decreases-boxed_message : goal.decreases-boxed_message
+decreases-boxed_message l = 8 * (1001 - l.nesting) + 3
 
 abbrev pub decreases-message_step : goal.decreases-message_step
 decreases-message_step l = 8 * (1001 - l.nesting) + 2

@@ -11,8 +11,8 @@ use Rattle.spi_parse.proofs.Readers.{read_is_step, takes_some}
 use Rattle.spi_parse.proofs.Lists.{fields_law, fields_take}
 use Rattle.spi_parse.proofs.types.+types.Goals as goal
 
-pub read_type-returns : goal.read_type-returns
-read_type-returns t c = rw read_is_step (search rules)
+pub boxed_type-returns : goal.boxed_type-returns
+boxed_type-returns t c = rw read_is_step (search rules)
 
 pub next_field-returns : goal.next_field-returns
 next_field-returns t c = rw read_is_step (search rules)
@@ -24,7 +24,7 @@ read_fields-items-smaller t c =
 
 pub read_fields-items-preserved : goal.read_fields-items-preserved
 read_fields-items-preserved t c =
-    let e = rw c.in-Field.is at c.in_ok-item.ensures in
+    let e = rw (← c.into_inner.ensures, c.in-Field.is) at c.in_ok-item.ensures in
     rw (c.in_ok-push-in-Field.ensures.items, map_push field_of c.items.more.items c.in-Field.part)
     (goes_on (read limited (fields_item c.args.later c.args.nesting)) (read limited (fields c.args.later c.args.nesting)) (fields_law c.args.later c.args.nesting) (map field_of c.items.more.items) (field_of c.in-Field.part) (state_of c.items.at) (state_of c.in_ok-item.after) _ e c.items.invariant)
 
@@ -35,5 +35,5 @@ read_fields-returns-in_err-item t c =
 
 pub read_fields-returns-in-Last : goal.read_fields-returns-in-Last
 read_fields-returns-in-Last t c =
-    let e = rw c.in-Last.is at c.in_ok-item.ensures in
-    is_done (read limited (fields_item c.args.later c.args.nesting)) (read limited (fields c.args.later c.args.nesting)) (fields_law c.args.later c.args.nesting) (map field_of c.items.more.items) (last_of c.in-Last.last) (state_of c.items.at) (state_of c.in_ok-item.after) _ e c.items.invariant
+    let e = rw (← c.into_inner.ensures, c.in-Last.is) at c.in_ok-item.ensures in
+    rw c.in_ok-boxed_last-in-Last.ensures (is_done (read limited (fields_item c.args.later c.args.nesting)) (read limited (fields c.args.later c.args.nesting)) (fields_law c.args.later c.args.nesting) (map field_of c.items.more.items) (last_of c.in-Last.last) (state_of c.items.at) (state_of c.in_ok-item.after) _ e c.items.invariant)
