@@ -14,6 +14,7 @@ import glob
 import json
 import os
 import re
+import resource
 import shutil
 import subprocess
 import sys
@@ -46,6 +47,14 @@ def input_of(case):
     return case.get("input", "").encode()
 
 
+def raise_stack():
+    """Gives what is run from here 64 MB of stack, where the system allows that: the build of `rt try` has large frames."""
+    hard = resource.getrlimit(resource.RLIMIT_STACK)[1]
+    wanted = 64 << 20
+    if hard == resource.RLIM_INFINITY or hard >= wanted:
+        resource.setrlimit(resource.RLIMIT_STACK, (wanted, hard))
+
+
 def run_share(root, cases):
     """The status of each numbered case and whether its output is as wanted, by one build of the sources in a folder."""
     with tempfile.TemporaryDirectory(prefix="cryptyc-cases-") as folder:
@@ -71,6 +80,7 @@ def run_share(root, cases):
 
 def run_built(cases):
     """The same of all cases, by as many builds beside each other as there are processors, each in a copy of the sources."""
+    raise_stack()
     shares = [list(enumerate(cases))[share::os.cpu_count()] for share in range(os.cpu_count())]
     found = {}
     with tempfile.TemporaryDirectory(prefix="cryptyc-copies-") as folder, ThreadPoolExecutor(len(shares)) as pool:

@@ -1,6 +1,5 @@
 -- How a call of `derive` or `verify` ends.
-use Rattle.std.proofs.Common.{◌≡◌, ◌⊎◌, ℕ, ◌<◌, ◌≤◌, List, [], Option, None, Some, IfSome, refl, sym, ap, ◌∙◌, subst, inl, inr, length, arith}
-use Rattle.std.specs.Prelude.{codes}
+use Rattle.std.proofs.Common.{◌≡◌, ℕ, ◌≤◌, List, [], Option, None, Some, IfSome, refl, sym, ap, ◌∙◌, subst, inl, inr, length, arith}
 use Rattle.std.specs.Io.KnownBytes.{Appends}
 use Rattle.spi_io.specs.Causes.{Rose}
 use Rattle.spi_scope.specs.StandsFor.{Meant}

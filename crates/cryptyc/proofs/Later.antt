@@ -16,7 +16,7 @@ use Rattle.spi_tree.specs.Formed.{IsMsg, AreMsgs, IsAtom, AreAtoms, IsWritten, I
 use Rattle.spi_parse.specs.Formed.{HasRules, HaveRules, IsDerived}
 use Rattle.spi_parse.specs.Rules.{first_rules, later_rules, arity_by, arity_of}
 use Rattle.spi_rules.specs.declared.rule.Rule.{Rule}
-use Rattle.spi_rules.specs.Rule.{arity, spelled, named}
+use Rattle.spi_rules.specs.Rule.{spelled, named}
 use Rattle.spi_term.specs.Term.{Message, bound, name, unit, pair, in_left, in_right, enc, hash, Atom, ends, checks, many, Effect, Ty, un, unit_ty, pair_ty, sum_ty, key, nonce, Leaf, Sends, Stops, Prefix, Recvs, Serves, Splits, Selects, Decrypts, Checks, Begins, Ends, EndManys, Casts, Makes, Fork, Cases, Pars, Process, leaf, prefix, fork}
 use Rattle.spi_spell.proofs.Printable.{HasVersion, MessageFits, AtomFits, EffectFits, PartsFit, TyFits, LeafFits, PrefixFits, ForkFits, ProcessFits}
 use Rattle.cryptyc.specs.Upgrading.{IsNewWord}

@@ -15,7 +15,6 @@ use Rattle.spi_run.specs.Safety.{beside}
 use Rattle.spi_run.specs.Reduction.{Configuration, Step}
 use Rattle.spi_run.specs.declared.step.Step as program
 use Rattle.spi_run.specs.View.{step as step_of}
-use Rattle.spi_scope.specs.declared.fault.ScopeFault.{ScopeFault}
 use Rattle.spi_scope.specs.declared.fault.ScopeFault.TheVariants.{FileTooLarge}
 use Rattle.spi_scope.specs.declared.file.File.{File}
 use Rattle.spi_scope.specs.Parts.{step_in}

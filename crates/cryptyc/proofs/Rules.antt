@@ -1,16 +1,14 @@
 -- The rule uses of a tree's derivation: where they stand, how many they are, and that they are one tree.
-use Rattle.std.proofs.Common.{◌≡◌, ⊎_elim, sym, subst, ap, ◌∙◌, refl, ℕ, zero, suc, ◌+◌, ◌<◌, ◌≤◌, ◌≢◌, Bool, true, false, List, [], ◌∷◌, ◌++◌, length, length-append, append-nil, append_assoc, Option, Some, None, arith, map, inl, inr}
+use Rattle.std.proofs.Common.{◌≡◌, sym, subst, ap, ◌∙◌, refl, ℕ, suc, ◌+◌, ◌≤◌, ◌≢◌, Bool, true, false, List, [], ◌∷◌, ◌++◌, length, length-append, append-nil, append_assoc, Option, Some, None, arith}
 use Rattle.std.specs.Prelude.{slice_get}
-use Rattle.std.specs.Str.{bytes_eq}
 use Rattle.std.proofs.lemmas.Slice.Eq.{bytes_eq-Decides}
 use Rattle.spi_text.specs.declared.lines.Span.{Span}
 use Rattle.spi_lex.specs.declared.token.Token.{Token}
 use Rattle.spi_lex.specs.Lexing.{kinds_of}
 use Rattle.spi_lex.proofs.Lexed.{lexed}
-use Rattle.spi_tree.specs.declared.tree.SWord.{SWord}
 use Rattle.spi_tree.specs.Trees as t
 use Rattle.spi_tree.specs.Formed.{is_later}
-use Rattle.spi_tree.specs.Pieces.{Piece, opens, cell, closes, kinds_in, ends, deriv_pieces, derivs_pieces, derivation_pieces, written_pieces, file_pieces}
+use Rattle.spi_tree.specs.Pieces.{Piece, opens, cell, closes, kinds_in, ends, deriv_pieces, derivs_pieces, derivation_pieces, file_pieces}
 use Rattle.spi_parse.specs.Formed.{IsFile, IsDerived, HasRules, HaveRules, number_of, is_written, whole_file}
 use Rattle.spi_parse.specs.Rules.{rules_of, arity_by, arity_of, writes_effect}
 use Rattle.spi_rules.specs.declared.rule.Rule.{Rule}
@@ -24,8 +22,7 @@ use Rattle.spi_scope.specs.Parts.{rule_named, numbered_effect, uses_in, all_uses
 use Rattle.spi_scope.specs.Files.{rule_places}
 use Rattle.spi_scope.specs.Places.{placed}
 use Rattle.spi_scope.specs.StandsFor.{derivation_in}
-use Rattle.spi_term.specs.Lists.{In, in_first, in_later}
-use Rattle.spi_term.proofs.Lists.{in_cases, in_append}
+use Rattle.spi_term.specs.Lists.{In, in_later}
 use Rattle.cryptyc.specs.Spelled.{limit, IsTreeOf}
 use Rattle.cryptyc.specs.Verifying.{rule_at}
 use Rattle.cryptyc.proofs.Past as Past

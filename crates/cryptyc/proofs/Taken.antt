@@ -1,15 +1,14 @@
 -- The steps of a play are few, name low places, and are a replay.
-use Rattle.std.proofs.Common.{◌≡◌, ℕ, ◌+◌, ◌<◌, ◌≤◌, List, [], ◌∷◌, ◌++◌, length, length-append, Option, refl, sym, ap, ◌∙◌, subst, subst₂, arith}
+use Rattle.std.proofs.Common.{◌≡◌, ℕ, ◌+◌, ◌<◌, ◌≤◌, List, [], ◌∷◌, length, length-append, Option, refl, sym, ap, ◌∙◌, subst, subst₂, arith}
 use Rattle.std.proofs.lemmas.List.Elements.{All-nil, All-cons}
 use Rattle.std.specs.List.{All}
-use Rattle.std.specs.Prelude.{option_to_list}
 use Rattle.spi_term.specs.Lists.{At, at_first, at_later}
-use Rattle.spi_run.specs.Reduction.{Configuration, Step, act, talk, Event, Takes, takes_act, takes_talk}
+use Rattle.spi_run.specs.Reduction.{Configuration, Step, Event, Takes, takes_act, takes_talk}
 use Rattle.spi_replay.specs.Stepping.{Pooled, IsTaken}
 use Rattle.spi_play.specs.declared.player.Pick.{Pick}
 use Rattle.spi_play.specs.declared.player.Pick.TheVariants.{Take, Leave}
 use Rattle.spi_play.specs.Way.{Seen}
-use Rattle.spi_play.specs.Play.{Course, Seat, State, TurnOf, Goes, Does, Turns, Plays, start}
+use Rattle.spi_play.specs.Play.{Course, Seat, State, TurnOf, Goes, Does, Plays, start}
 use Rattle.spi_spell.specs.Joined.{HasLowPlaces}
 use Rattle.cryptyc.specs.Replaying.{Replays, replays_none, replays_step}
 use Rattle.cryptyc.proofs.Replays.{append_step}

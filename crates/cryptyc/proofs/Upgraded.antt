@@ -1,21 +1,14 @@
--- A file that can be printed can be printed when it is upgraded, and its text is read as the upgraded file.
-use Rattle.std.proofs.Common.{◌≡◌, ℕ, ◌≤◌, ◌==◌, Bool, true, false, List, [], length, inl, inr, sym, ap, ◌∙◌, subst, arith, Option, Some, None}
+-- A file that can be printed can be printed when it is upgraded.
+use Rattle.std.proofs.Common.{◌≡◌, ℕ, ◌==◌, Bool, true, false, length, inl, inr, sym, ap, ◌∙◌, subst, arith, Option, Some, None}
 use Rattle.std.specs.List.{AllByRecursion}
 use Rattle.spi_lex.specs.declared.token.Kind.TheVariants as kinds
 use Rattle.spi_lex.specs.Words.{words_of}
-use Rattle.spi_lex.specs.Writing.{IsKind, AreKinds}
-use Rattle.spi_lex.proofs.Lexed.{lexed}
+use Rattle.spi_lex.specs.Writing.{IsKind}
 use Rattle.spi_tree.specs.Trees as t
-use Rattle.spi_parse.specs.Formed.{whole_file}
-use Rattle.spi_parse.proofs.Spelled.{tokens_spelled, spelled_within}
 use Rattle.spi_term.specs.Spelling.{Spelling}
 use Rattle.spi_scope.specs.StandsFor.{Meant}
-use Rattle.spi_show.specs.Files.{IsCanonicalText}
-use Rattle.spi_spell.specs.Spelled.{limit, SpellsFile}
 use Rattle.spi_spell.proofs.Printable.{IsPart, IsOpponentPart, AreSteps, process_nodes, opponent_nodes, is_later, IsDerivationOf, IsPrintable}
-use Rattle.spi_spell.proofs.Standing.{part_of, opponent_of, printable}
-use Rattle.spi_spell.proofs.Versioned.{tree_fit}
-use Rattle.spi_spell.proofs.Canonical.{printed_reads_back}
+use Rattle.spi_spell.proofs.Standing.{part_of, opponent_of}
 use Rattle.cryptyc.specs.Upgrading.{IsVersion2, AreRespelled, IsUpgrade}
 use Rattle.cryptyc.proofs.Later.{process_later, derivation_later, rules_later, derivation_kinds_later}
 use Rattle.cryptyc.proofs.Respelled.{respelled_fit, as_many, respelled_distinct}
@@ -61,12 +54,3 @@ from_first f g d h one v r =
 pub upgraded_printable : (f : Meant) (d : Option t.Deriv) → IsPrintable f d → (g : Meant) → IsUpgrade f g → IsPrintable g d
 upgraded_printable f d h g (inl u) = from_first f g d h u.0 u.1 u.2
 upgraded_printable f d h g (inr u) = subst (λ (x : Meant). IsPrintable x d) (sym u.1) h
-
--- the canonical text of what a file is upgraded to
-pub upgraded_reads_back : (bytes text : List ℕ) (f g : Meant) → SpellsFile bytes f → IsUpgrade f g → IsCanonicalText g text → length text ≤ limit → SpellsFile text g
-upgraded_reads_back bytes text f g spells u canonical short =
-    let tree : t.File = spells.0 in
-    let is = spells.1 in
-    let are = subst AreKinds (sym (tokens_spelled tree is.tokens is.spelled)) (lexed bytes is.tokens is.lexed).0 in
-    let p = printable tree f is.formed (spelled_within [] 0 (whole_file tree) is.tokens is.spelled) (tree_fit tree are) spells.2 in
-    printed_reads_back g tree.derivation text (upgraded_printable f tree.derivation p g u) canonical short

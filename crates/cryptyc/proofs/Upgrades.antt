@@ -1,5 +1,5 @@
 -- The upgrade of a file: there is one, it keeps all parts, and its canonical text is read as it.
-use Rattle.std.proofs.Common.{◌≡◌, ℕ, ◌<◌, ◌≤◌, List, [], ◌∷◌, length, Option, refl, sym, ap, ◌∙◌, inl, inr, arith}
+use Rattle.std.proofs.Common.{◌≡◌, ℕ, ◌<◌, ◌≤◌, List, ◌∷◌, length, Option, refl, sym, ap, ◌∙◌, inl, inr, arith}
 use Rattle.spi_term.specs.Spelling.{Spelling}
 use Rattle.spi_run.specs.Reduction.{Step}
 use Rattle.spi_rules.specs.Derivations.{RuleUse}
@@ -7,7 +7,7 @@ use Rattle.spi_scope.specs.StandsFor.{Meant}
 use Rattle.spi_show.specs.Files.{IsCanonicalText}
 use Rattle.spi_spell.proofs.Canonical.{printed_reads_back, spelled_printable}
 use Rattle.cryptyc.specs.Spelled.{limit, SpellsFile}
-use Rattle.cryptyc.specs.Upgrading.{with_number, IsRenumbered, IsRespelled, AreRespelled, none_respelled, one_respelled, IsVersion2, IsUpgrade}
+use Rattle.cryptyc.specs.Upgrading.{with_number, IsRenumbered, IsRespelled, AreRespelled, none_respelled, one_respelled, IsUpgrade}
 use Rattle.cryptyc.proofs.Upgraded.{upgraded_printable}
 
 one_number : (names : List (List ℕ)) (old a b : List ℕ) → IsRenumbered names old a → IsRenumbered names old b → a ≡ b

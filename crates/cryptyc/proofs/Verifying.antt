@@ -1,5 +1,5 @@
 -- What `verify` answers on a file.
-use Rattle.std.proofs.Common.{◌≡◌, ◌≢◌, ℕ, ◌<◌, ◌≤◌, List, [], map, length, sym, subst, ap, ◌∙◌, refl, Option, Some, None, Result, Ok, Err, IfOk, arith, inl, inr}
+use Rattle.std.proofs.Common.{◌≡◌, ℕ, ◌<◌, ◌≤◌, List, [], length, sym, subst, ◌∙◌, refl, Option, Some, None, Result, Ok, Err, IfOk, arith, inl, inr}
 use Rattle.std.proofs.lemmas.List.{length-map}
 use Rattle.std.specs.Prelude.{codes, vec_len}
 use Rattle.spi_text.specs.declared.lines.Span.{Span}

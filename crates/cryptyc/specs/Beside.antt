@@ -1,5 +1,5 @@
 -- The file's process beside its opponent part.
-use Rattle.std.specs.Prelude.{◌≡◌, ℕ, List, [], ◌∷◌, Some, None, codes}
+use Rattle.std.specs.Prelude.{◌≡◌, ℕ, List, [], Some, None, codes}
 use Rattle.spi_text.specs.declared.lines.Span.{Span}
 use Rattle.spi_tree.specs.Trees.{File}
 use Rattle.spi_term.specs.Spelling.{Spelling, spelled}
@@ -11,8 +11,8 @@ use Rattle.spi_report.specs.declared.refusal.Refusal.{Refusal}
 use Rattle.spi_report.specs.Refused.{refused_text}
 use Rattle.spi_scope.specs.Files.{opponent_places}
 use Rattle.spi_scope.specs.Places.{place_in}
-use Rattle.spi_scope.specs.StandsFor.{Meant, StandsFor}
-use Rattle.cryptyc.specs.Spelled.{IsTreeOf, SpellsFile}
+use Rattle.spi_scope.specs.StandsFor.{Meant}
+use Rattle.cryptyc.specs.Spelled.{SpellsFile}
 use Rattle.cryptyc.specs.Answer.{IsPlaceless}
 
 -- the process at place 0 and the opponent at place 1, with at most so many places

@@ -1,4 +1,5 @@
--- The command line's forms, as clap reads them, and the command that is read from what clap found.
+-- The command line's forms, as clap reads them, and the command that is read from what clap found. No public clause
+-- names them.
 use Rattle.std.specs.Prelude.{ℕ, List, codes, Bool, true, false, if◌then◌else◌, Option, Some, None}
 use Rattle.std.specs.List.{list_any}
 use Rattle.std.specs.Str.{bytes_eq}

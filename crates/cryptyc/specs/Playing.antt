@@ -1,5 +1,5 @@
 -- What `play` answers: the status and the output.
-use Rattle.std.specs.Prelude.{◌≡◌, ◌≢◌, ◌⊎◌, ℕ, ◌+◌, ◌<◌, ◌≤◌, List, [], ◌∷◌, ◌++◌, length, Option, Some, None, codes}
+use Rattle.std.specs.Prelude.{◌≡◌, ◌≢◌, ◌⊎◌, ℕ, ◌+◌, ◌<◌, ◌≤◌, List, [], ◌++◌, length, Option, codes}
 use Rattle.std.specs.Fmt.{decimal}
 use Rattle.spi_tree.specs.Trees.{File}
 use Rattle.spi_term.specs.Spelling.{Spelling}
@@ -8,7 +8,7 @@ use Rattle.spi_show.specs.Steps.{schedule_text}
 use Rattle.spi_spell.specs.Joined.{joined}
 use Rattle.spi_replay.specs.Stepping.{Pooled}
 use Rattle.spi_play.specs.Way.{Seen}
-use Rattle.spi_play.specs.Play.{Course, start}
+use Rattle.spi_play.specs.Play.{start}
 use Rattle.spi_play.specs.Outcome.{EndsAt, RefusedAt}
 use Rattle.spi_play.specs.declared.plays.Ended.{Ended}
 use Rattle.spi_play.specs.declared.plays.PlayFault.{PlayFault}

@@ -1,5 +1,5 @@
 -- The file of version 2 that a file is upgraded to.
-use Rattle.std.specs.Prelude.{◌≡◌, ◌⊎◌, ℕ, ◌<◌, List, [], ◌∷◌, ◌++◌, length, codes, Some, slice_get}
+use Rattle.std.specs.Prelude.{◌≡◌, ◌⊎◌, ℕ, ◌<◌, List, [], ◌∷◌, ◌++◌, codes, Some, slice_get}
 use Rattle.std.specs.Fmt.{decimal}
 use Rattle.spi_scope.specs.StandsFor.{Meant}
 

@@ -1,5 +1,5 @@
 //! Checks a file that is read from standard input, derives its typing, verifies the derivation that it has, replays its
-//! schedule or plays one, and writes the answer to standard output.
+//! schedule or plays one, prints the file or upgrades it, and writes the answer to standard output. `load` reads no file.
 #![tactic(auto)]
 
 mod answer;

@@ -28,7 +28,7 @@ use Rattle.spi_spell.proofs.Printable.{HasVersion}
 use Rattle.spi_spell.proofs.Prints as prints
 use Rattle.spi_spell.proofs.Prints.{Prints}
 use Rattle.spi_spell.proofs.PrintsTerms as terms
-use Rattle.spi_spell.proofs.PrintsTerms.{InScope, IsAtomIn, IsEffectIn}
+use Rattle.spi_spell.proofs.PrintsTerms.{IsAtomIn, IsEffectIn}
 
 -- ---- the numbers of names in a derivation are small, as its tokens are those of the version
 

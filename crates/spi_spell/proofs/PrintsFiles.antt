@@ -28,7 +28,7 @@ use Rattle.spi_spell.specs.Joined.{HasLowPlaces}
 use Rattle.spi_spell.proofs.Together.{reserved_first}
 use Rattle.spi_spell.proofs.Texts.{act_kind, talk_kind}
 use Rattle.spi_spell.proofs.Printed as printed
-use Rattle.spi_spell.proofs.Printed.{free_trees, part_tree, opponent_tree, step_tree, schedule_tree, deriv_tree, derivation_tree, file_tree}
+use Rattle.spi_spell.proofs.Printed.{free_trees, part_tree, opponent_tree, step_tree, schedule_tree, derivation_tree, file_tree}
 use Rattle.spi_spell.proofs.Printable.{IsPart, IsOpponentPart, process_nodes, opponent_nodes, AreSteps, is_later, IsPrintable}
 use Rattle.spi_spell.proofs.Names.{name_fit}
 use Rattle.spi_spell.proofs.Prints as prints
