@@ -5,6 +5,7 @@ use Rattle.std.specs.Str.{bytes_eq}
 use Rattle.std.proofs.lemmas.Slice.Eq.{bytes_eq-Decides}
 use Rattle.clap.specs.Walk.{Text}
 use Rattle.cryptyc.specs.declared.asked.Command.{Command}
+use Rattle.cryptyc.specs.Number.{number_below}
 use Rattle.cryptyc.specs.Asked.{asked, apart, pieces, play_one, with_number, with_options}
 use Rattle.cryptyc.specs.Options.{has_dashes}
 

@@ -1,7 +1,7 @@
 -- A play is asked for with 1,000 steps at most.
 use Rattle.std.proofs.Common.{◌≡◌, refl, ℕ, ◌<◌, ◌≤◌, List, [], ◌∷◌, Bool, true, false, if◌then◌else◌, Option, Some, None, arith}
 use Rattle.std.proofs.lemmas.Bool.Decides.{nat_tests}
-use Rattle.std.specs.Prelude.{codes, ◌==◌, nat_lt}
+use Rattle.std.specs.Prelude.{codes, ◌&&◌, ◌==◌, nat_lt}
 use Rattle.std.specs.Str.{bytes_eq}
 use Rattle.cryptyc.specs.declared.asked.Command.TheVariants.{Check, Derive, Verify, Replay, Play, Print, Load, Upgrade}
 use Rattle.cryptyc.specs.Number.{below, number, number_below}

@@ -16,7 +16,7 @@ use Rattle.clap.specs.declared.error.kind.ErrorKind.TheVariants.{ArgumentConflic
 use Rattle.clap.specs.declared.parser.matches.ValueSource.TheVariants.{CommandLine}
 use Rattle.clap.proofs.OnLiterals.{clap_on_literals}
 use Rattle.cryptyc.specs.declared.asked.Command.{Command}
-use Rattle.cryptyc.specs.Asked.{pieces, with_options}
+use Rattle.cryptyc.specs.Asked.{apart, pieces, with_options}
 use Rattle.cryptyc.specs.Options.{has_dashes, with_values}
 use Rattle.cryptyc.proofs.WordKinds.{IsDashed, IsPlain, behind, dashed_or_plain, hold, long_word_is}
 use Rattle.cryptyc.proofs.Pieces.{Which, steps, player, Seen, none, one, two, id_of, bare_word, joined_word, other, pieces_of, more, wants, one_use, no_value, bad_value, name_no_number, no_option}
