@@ -4,8 +4,8 @@
 A case is a JSON object on a line: `shows` (what it shows), `words` (the command line), its standard input as `input`
 (text), `input_file` (a file of the repository), `input_base64`, or `input_parts` (pairs of a text and how often it
 stands), `output` (what is written) and `status`. Each file of examples/reasons is a case too: its first line is a comment
-with the line that `check` writes. The program is built without proofs by `rt try`, once for
-each processor; `--program FILE` runs a program that is there.
+with the line that `check` writes. The program is built without proofs by `rt try`, once for each processor;
+`--program FILE`, once or more often, runs each case on a program that is there.
 --passed and --failed are counts to add. The last line is 'N passed, M failed'."""
 
 import argparse
@@ -104,18 +104,19 @@ def main():
     words = argparse.ArgumentParser()
     words.add_argument("--passed", type=int, default=0)
     words.add_argument("--failed", type=int, default=0)
-    words.add_argument("--program")
+    words.add_argument("--program", action="append", default=[])
     words.add_argument("--cases", default="*.jsonl")
     asked = words.parse_args()
     cases = list(cases_of(asked.cases))
     passed, failed = asked.passed, asked.failed
-    results = run_program(asked.program, cases) if asked.program else run_built(cases)
-    for case, (status, same) in zip(cases, results):
-        if same and status == case["status"]:
-            passed += 1
-        else:
-            failed += 1
-            print(f"case: {case['shows']}: status {status}, wanted {case['status']}; output {'as wanted' if same else 'differs'}")
+    runs = [run_program(program, cases) for program in asked.program] or [run_built(cases)]
+    for results in runs:
+        for case, (status, same) in zip(cases, results):
+            if same and status == case["status"]:
+                passed += 1
+            else:
+                failed += 1
+                print(f"case: {case['shows']}: status {status}, wanted {case['status']}; output {'as wanted' if same else 'differs'}")
     print(f"{passed} passed, {failed} failed")
     return 1 if failed or not cases else 0
 
