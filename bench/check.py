@@ -122,14 +122,23 @@ def timed(program, text, runs):
     return best, said
 
 
-def main():
+def options():
+    """The options that each bench has."""
     words = argparse.ArgumentParser()
     words.add_argument("--program", default=f"{ROOT}/crates/cryptyc/out/cryptyc")
     words.add_argument("--runs", type=int, default=3)
     words.add_argument("--only", default="")
-    asked = words.parse_args()
-    if not os.path.exists(asked.program):
-        sys.exit(f"{asked.program} isn't there: 'cd crates/cryptyc && rt run' makes it")
+    return words
+
+
+def stop_without(program):
+    if not os.path.exists(program):
+        sys.exit(f"{program} isn't there: 'cd crates/cryptyc && rt run' makes it")
+
+
+def main():
+    asked = options().parse_args()
+    stop_without(asked.program)
     for name, make, size in WORKLOADS:
         if asked.only not in name:
             continue

@@ -1,20 +1,19 @@
 #!/usr/bin/env python3
-"""Times `cryptyc verify`, `replay` and `play` on files, and on the same files doubled.
+"""Times `cryptyc verify`, `replay`, `play`, `print`, `upgrade` and `load` on files, and on the same files doubled.
 
 Usage: bench/runs.py [--program FILE] [--runs N] [--only WORD] [--part N]. Without --program it takes the proved build,
-crates/cryptyc/out/cryptyc. With --part it takes an Nth of each size, for a slower build. It prints a line for each workload: bytes of the doubled file, the least processor time of
-the smaller and of the doubled file, and how much longer the doubled one takes. The times hold reading, parsing and
-resolving too. The derivations of `verify` are those that `derive` prints, or repeat ProcSub.
+crates/cryptyc/out/cryptyc. With --part it takes an Nth of each size, for a slower build. It prints a line for each
+workload: bytes of the doubled file, the least processor time of the smaller and of the doubled file, and how much longer
+the doubled one takes. The times hold reading, parsing and resolving too. The derivations of `verify` are those that
+`derive` prints, or repeat ProcSub.
 """
 
-import argparse
 import os
 import shlex
 import subprocess
-import sys
 import tempfile
 
-from check import ROOT, balanced, chains, matches, names, sessions
+from check import balanced, chains, matches, names, options, sessions, stop_without
 
 
 def derived(program, text):
@@ -113,6 +112,16 @@ def workloads(program):
         yield f"play: chains, player {player}", 500, lambda n: (["play", "--steps", str(n), *words], played_chains())
         yield f"play: copies, player {player}", 450, lambda n: (["play", "--steps", str(n), *words], played_copies())
         yield f"play: channels, player {player}", 450, lambda n: (["play", "--steps", str(n), *words], played_channels())
+    for word in ("print", "upgrade"):
+        yield f"{word}: handshakes", 245, lambda n: ([word], sessions(n))
+    yield "print: free names", 45000, lambda n: (["print"], named([f"v{i}" for i in range(n)]))
+    yield "upgrade: free names", 45000, lambda n: (["upgrade"], named(["hash", *(f"hash_{i}" for i in range(n - 1))]))
+    yield "load: sessions", 250, lambda n: (["load", str(n)], "")
+
+
+def named(names):
+    """A file with these free names, of which `print` and `upgrade` have to find the number or the spelling of a new one."""
+    return f"free {', '.join(names)}; process new (x: Un); out {names[0]} x"
 
 
 def timed(program, words, text, runs):
@@ -135,15 +144,11 @@ def timed(program, words, text, runs):
 
 
 def main():
-    words = argparse.ArgumentParser()
-    words.add_argument("--program", default=f"{ROOT}/crates/cryptyc/out/cryptyc")
-    words.add_argument("--runs", type=int, default=3)
-    words.add_argument("--only", default="")
+    words = options()
     words.add_argument("--part", type=int, default=1)
     asked = words.parse_args()
     program = shlex.split(asked.program)
-    if not os.path.exists(program[0]):
-        sys.exit(f"{program[0]} isn't there: 'cd crates/cryptyc && rt run' makes it")
+    stop_without(program[0])
     for name, size, make in workloads(program):
         if asked.only not in name:
             continue
