@@ -48,10 +48,11 @@ def input_of(case):
 
 
 def raise_stack():
-    """Gives what is run from here 64 MB of stack, where the system allows that: the build of `rt try` has large frames."""
-    hard = resource.getrlimit(resource.RLIMIT_STACK)[1]
+    """Gives what is run from here 64 MB of stack at least, where the system allows that: the build of `rt try` has large
+    frames."""
+    soft, hard = resource.getrlimit(resource.RLIMIT_STACK)
     wanted = 64 << 20
-    if hard == resource.RLIM_INFINITY or hard >= wanted:
+    if soft != resource.RLIM_INFINITY and soft < wanted and (hard == resource.RLIM_INFINITY or hard >= wanted):
         resource.setrlimit(resource.RLIMIT_STACK, (wanted, hard))
 
 
