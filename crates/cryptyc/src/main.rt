@@ -2,40 +2,15 @@
 //! schedule or plays one, prints the file or upgrades it, and writes the answer to standard output. `load` reads no file.
 #![tactic(auto)]
 
-mod answer;
-mod asked;
-mod check;
-mod derive;
-mod file;
-mod load;
-mod opponent;
-mod options;
-mod play;
-mod players;
-mod print;
-mod read;
-mod replay;
-mod run;
-mod status;
-mod upgrade;
-mod verify;
-
-pub use players::{FirstReady, InTurn, Seeded};
-pub use read::{Unread, read};
-pub use run::{one_file, refused_is_none, run};
+use spi_commands::{FirstReady, InTurn, Player, Seeded, Status, run};
 use spi_io::{StdSink, StdSource};
-pub use spi_play::{Menu, Pick, Player};
-pub use status::Status;
 use std::alloc::AllocError;
 use std::process::ExitCode;
 use std::rt::Env;
 use std::{env, io};
 
-/// Memory ran out.
-pub type NoMemory = AllocError;
-
 /// The words of the command line without the program's name. Where one isn't UTF-8 there are none.
-fn words(rt: &(impl Env + AllocGlobal)) -> Result<Vec<String>, NoMemory> {
+fn words(rt: &(impl Env + AllocGlobal)) -> Result<Vec<String>, AllocError> {
     let mut words = Vec::new(rt.alloc());
     match env::args(rt) {
         Ok(args) => {
@@ -78,6 +53,3 @@ fn main(rt: HostRuntime) -> ExitCode {
     );
     ExitCode::from(status.code())
 }
-
-#[cfg(test)]
-mod tests;

@@ -1,5 +1,5 @@
 -- Effects read back from counts.
-use Rattle.std.proofs.Common.{◌≡◌, refl, sym, ap, ◌∙◌, subst, ℕ, zero, suc, ◌+◌, ◌<◌, ◌≤◌, Bool, true, false, [], ◌∷◌, ◌++◌, List, length, replicate, Option, Some, None, ⊎_elim, arith}
+use Rattle.std.proofs.Common.{◌≡◌, refl, sym, ap, ◌∙◌, subst, ℕ, zero, suc, ◌+◌, ◌<◌, ◌≤◌, Bool, true, false, [], ◌∷◌, ◌++◌, List, length, replicate, Option, Some, None, Result, Ok, IfOk, ⊎_elim, arith}
 use Rattle.std.specs.Prelude.{slice_get, nat_eq, IfNone, ◌%◌, if◌then◌else◌}
 use Rattle.spi_term.specs.Term.{Message, bound, name, unit, pair, in_left, in_right, enc, hash, message_size, Atom, ends, checks, many, same_atom, Effect}
 use Rattle.spi_term.specs.Counts.{tally, cut, count, SameEffect}
@@ -206,6 +206,9 @@ id_none s keys q r h =
     let e = key_place s keys r.0 q r.1 r.2 r.3 in
     let f = h (key_of (name_bound r.1) r.0) (ap (get nat_eq keys.keys) e ∙ r.2.key) in
     cc
+
+pub of_ok : {X E : Type 0} (r : Result X E) (x : X) (P : X → Type 0) → r ≡ Ok x → IfOk r P → P x
+of_ok r x P e h = subst (λ r. IfOk r P) e h
 
 pub at_none : {A : Type 0} (o : Option A) (P : Type 0) → ((x : A) → o ≡ Some x → ⊥) → IfNone o P → P
 at_none None P n h = h

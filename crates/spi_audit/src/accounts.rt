@@ -21,14 +21,80 @@ use crate::sums::{add_atom, add_atoms, add_type, take_atom, take_type};
 use spi_count::{AtomKind, Counts, Sum};
 use spi_intern::{AtomId, MsgId, MsgPart, Store, TyId};
 use std::alloc::Global;
+use std::mem::replace;
 
 /// An effect: the atoms with names in scope by counts, and of the others which names they have, and whether each of them
 /// is a `many`.
-#[derive(Drop)]
 pub struct Account {
     pub sum: Sum,
     pub loose: Counts,
     pub lasting: bool,
+}
+
+impl Drop for Account {
+    fn drop(self) {
+        let Account {
+            sum: _,
+            loose: _,
+            lasting: _,
+        } = self;
+    }
+}
+
+impl Account {
+    /// The counts of the atoms with names in scope.
+    pub fn into_sum(self) -> Sum
+        ensures { result ≡ self.sum }
+    {
+        let Account {
+            sum,
+            loose: _,
+            lasting: _,
+        } = self;
+        sum
+    }
+
+    /// The sum of two effects.
+    pub fn summed(self, other: Account) -> Result<Account, NoMemory>
+        ensures { IfOk result (λ r. (s : Store) (keys : Keys) (n : ℕ) (es fs : Effect) → IsKeyed s keys → Held s keys n self es → Held s keys n other fs → Held s keys n r (es ++ fs)) }
+    {
+        let Account {
+            sum,
+            loose,
+            lasting,
+        } = self;
+        let Account {
+            sum: more_sum,
+            loose: more_loose,
+            lasting: more_lasting,
+        } = other;
+        Ok(Account {
+            sum: Sum::joined(sum, more_sum)?,
+            loose: merged(loose, more_loose)?,
+            lasting: both(lasting, more_lasting),
+        })
+    }
+
+    /// The greater count of each atom of two effects.
+    pub fn greatest(self, other: Account) -> Result<Account, NoMemory>
+        ensures { IfOk result (λ r. (s : Store) (keys : Keys) (n : ℕ) (es fs : Effect) → IsKeyed s keys → Held s keys n self es → Held s keys n other fs → Held s keys n r (greater es fs)) }
+    {
+        let Account {
+            sum,
+            loose,
+            lasting,
+        } = self;
+        let Account {
+            sum: more_sum,
+            loose: more_loose,
+            lasting: more_lasting,
+        } = other;
+        Ok(Account {
+            sum: Sum::greatest(sum, more_sum)?,
+            loose: merged(loose, more_loose)?,
+            lasting: both(lasting, more_lasting),
+        })
+    }
 }
 
 /// The effect without atoms.
@@ -88,42 +154,30 @@ fn is_lasting(lasting: bool, kind: AtomKind) -> bool
 }
 
 // The atoms with a name from `scope` on become loose.
-fn loosened(store: &Store, keys: &Keys, scope: u32, account: Account) -> Result<Account, NoMemory>
+fn loosen(store: &Store, keys: &Keys, scope: u32, account: &mut Account) -> Result<(), NoMemory>
     requires scope { scope ≤ 300000 }
-    requires held { IsHeld store.now keys.now account }
-    ensures { IfOk result (λ r. (n : ℕ) (es : Effect) → scope ≤ n → Held store.now keys.now n account es → Held store.now keys.now scope r es) }
+    requires held { IsHeld store.now keys.now account.old }
+    ensures { OnOk result ((n : ℕ) (es : Effect) → scope ≤ n → Held store.now keys.now n account.old es → Held store.now keys.now scope account.new es) }
 {
     let least = (scope as u64 + 1) * 4_294_967_296;
-    let mut sum = account.sum;
-    let mut loose = account.loose;
-    let mut lasting = account.lasting;
-    while let Some((kind, key, _)) = sum.take_from(least) {
-        mark_key(store, keys, key, &mut loose)?;
-        lasting = is_lasting(lasting, kind);
+    while let Some((kind, key, _)) = account.sum.take_from(least) {
+        mark_key(store, keys, key, &mut account.loose)?;
+        account.lasting = is_lasting(account.lasting, kind);
     }
-    Ok(Account {
-        sum,
-        loose,
-        lasting,
-    })
+    Ok(())
 }
 
-// Names from `scope` on leave: whether no atom within has one, and the effect in that scope.
-fn cut(
-    store: &Store,
-    keys: &Keys,
-    scope: u32,
-    account: Account,
-) -> Result<(bool, Account), NoMemory>
+// Names from `scope` on leave: whether no atom within has one.
+fn cut(store: &Store, keys: &Keys, scope: u32, account: &mut Account) -> Result<bool, NoMemory>
     requires scope { scope ≤ 300000 }
-    requires held { IsHeld store.now keys.now account }
-    ensures { IfOk result (λ r. IsCut store.now keys.now scope account r.0 r.1) }
+    requires held { IsHeld store.now keys.now account.old }
+    ensures { IfOk result (λ b. IsCut store.now keys.now scope account.old b account.new) }
 {
     if account.sum.reaches((scope as u64 + 1) * 4_294_967_296) {
-        let rest = loosened(store, keys, scope, account)?;
-        Ok((false, rest))
+        loosen(store, keys, scope, account)?;
+        Ok(false)
     } else {
-        Ok((true, account))
+        Ok(true)
     }
 }
 
@@ -145,15 +199,15 @@ pub fn leave_one(
     store: &Store,
     keys: &Keys,
     scope: u32,
-    account: Account,
-) -> Result<(bool, Account), NoMemory>
+    account: &mut Account,
+) -> Result<bool, NoMemory>
     requires scope { scope ≤ 300000 }
-    requires held { IsHeld store.now keys.now account }
-    ensures { IfOk result (λ r. LeavesOne store.now keys.now scope account r.0 r.1) }
+    requires held { IsHeld store.now keys.now account.old }
+    ensures { IfOk result (λ b. LeavesOne store.now keys.now scope account.old b account.new) }
 {
     let loose = account.loose.count(scope as u64);
-    let (inside, rest) = cut(store, keys, scope, account)?;
-    Ok((is_free_of(inside, loose), rest))
+    let inside = cut(store, keys, scope, account)?;
+    Ok(is_free_of(inside, loose))
 }
 
 /// The name `scope` and the next one leave: whether the effect has neither.
@@ -161,16 +215,16 @@ pub fn leave_two(
     store: &Store,
     keys: &Keys,
     scope: u32,
-    account: Account,
-) -> Result<(bool, Account), NoMemory>
+    account: &mut Account,
+) -> Result<bool, NoMemory>
     requires scope { scope ≤ 300000 }
-    requires held { IsHeld store.now keys.now account }
-    ensures { IfOk result (λ r. LeavesTwo store.now keys.now scope account r.0 r.1) }
+    requires held { IsHeld store.now keys.now account.old }
+    ensures { IfOk result (λ b. LeavesTwo store.now keys.now scope account.old b account.new) }
 {
     let first = account.loose.count(scope as u64);
     let second = account.loose.count(scope as u64 + 1);
-    let (inside, rest) = cut(store, keys, scope, account)?;
-    Ok((is_free_of(is_free_of(inside, first), second), rest))
+    let inside = cut(store, keys, scope, account)?;
+    Ok(is_free_of(is_free_of(inside, first), second))
 }
 
 /// The same where each atom must be a `many` too.
@@ -178,53 +232,47 @@ pub fn serve(
     store: &Store,
     keys: &Keys,
     scope: u32,
-    account: Account,
-) -> Result<(bool, Account), NoMemory>
+    account: &mut Account,
+) -> Result<bool, NoMemory>
     requires scope { scope ≤ 300000 }
-    requires held { IsHeld store.now keys.now account }
-    ensures { IfOk result (λ r. (es : Effect) → Held store.now keys.now (suc scope) account es → Held store.now keys.now scope r.1 es × (r.0 ≡ are_many es && not (mentions scope es))) }
+    requires held { IsHeld store.now keys.now account.old }
+    ensures { IfOk result (λ b. (es : Effect) → Held store.now keys.now (suc scope) account.old es → Held store.now keys.now scope account.new es × (b ≡ are_many es && not (mentions scope es))) }
 {
     let lasting = both(account.lasting, account.sum.is_all_many());
-    let (free, rest) = leave_one(store, keys, scope, account)?;
-    Ok((both(lasting, free), rest))
+    let free = leave_one(store, keys, scope, account)?;
+    Ok(both(lasting, free))
 }
 
 /// One more atom, whose message has a key.
-pub fn with_atom(keys: &Keys, a: AtomId, account: Account) -> Result<Account, NoMemory>
-    ensures { IfOk result (λ r. (s : Store) (b : Atom) (k : ℕ) → IsKeyed s keys.now → SaysAtom s.messages a b → HasKey s keys.now (message_of b) → name_bound (message_of b) ≤ k → HoldsMore s keys.now k (b ∷ []) account r) }
+pub fn put_atom(keys: &Keys, a: AtomId, account: &mut Account) -> Result<(), NoMemory>
+    ensures { OnOk result ((s : Store) (b : Atom) (k : ℕ) → IsKeyed s keys.now → SaysAtom s.messages a b → HasKey s keys.now (message_of b) → name_bound (message_of b) ≤ k → HoldsMore s keys.now k (b ∷ []) account.old account.new) }
 {
-    let mut more = account;
-    add_atom(keys, a, &mut more.sum)?;
-    Ok(more)
+    add_atom(keys, a, &mut account.sum)?;
+    Ok(())
 }
 
 /// An atom less, where it stands there.
-pub fn without_atom(keys: &Keys, a: AtomId, account: Account) -> Account
-    ensures { (s : Store) (b : Atom) (k : ℕ) → IsKeyed s keys.now → SaysAtom s.messages a b → name_bound (message_of b) ≤ k → HoldsLess s keys.now k (b ∷ []) account result }
+pub fn drop_atom(keys: &Keys, a: AtomId, account: &mut Account)
+    ensures { (s : Store) (b : Atom) (k : ℕ) → IsKeyed s keys.now → SaysAtom s.messages a b → name_bound (message_of b) ≤ k → HoldsLess s keys.now k (b ∷ []) account.old account.new }
 {
-    let mut rest = account;
-    take_atom(keys, a, &mut rest.sum);
-    rest
+    take_atom(keys, a, &mut account.sum);
 }
 
 /// The effect of a Nonce type goes in.
-pub fn with_type(store: &Store, keys: &Keys, t: TyId, account: Account) -> Result<Account, NoMemory>
+pub fn put_type(store: &Store, keys: &Keys, t: TyId, account: &mut Account) -> Result<(), NoMemory>
     requires { t.place < length store.now.types }
-    ensures { IfOk result (λ r. (fs : Effect) (k : ℕ) → IsKeyed store.now keys.now → Means store.now t.place (nonce fs) → HaveKeys store.now keys.now fs → Below k fs → HoldsMore store.now keys.now k fs account r) }
+    ensures { OnOk result ((fs : Effect) (k : ℕ) → IsKeyed store.now keys.now → Means store.now t.place (nonce fs) → HaveKeys store.now keys.now fs → Below k fs → HoldsMore store.now keys.now k fs account.old account.new) }
 {
-    let mut more = account;
-    add_type(store, keys, t, &mut more.sum)?;
-    Ok(more)
+    add_type(store, keys, t, &mut account.sum)?;
+    Ok(())
 }
 
 /// The effect of a Nonce type goes out.
-pub fn without_type(store: &Store, keys: &Keys, t: TyId, account: Account) -> Account
+pub fn drop_type(store: &Store, keys: &Keys, t: TyId, account: &mut Account)
     requires { t.place < length store.now.types }
-    ensures { (fs : Effect) (k : ℕ) → IsKeyed store.now keys.now → Means store.now t.place (nonce fs) → Below k fs → HoldsLess store.now keys.now k fs account result }
+    ensures { (fs : Effect) (k : ℕ) → IsKeyed store.now keys.now → Means store.now t.place (nonce fs) → Below k fs → HoldsLess store.now keys.now k fs account.old account.new }
 {
-    let mut rest = account;
-    take_type(store, keys, t, &mut rest.sum);
-    rest
+    take_type(store, keys, t, &mut account.sum);
 }
 
 // The names of both.
@@ -234,28 +282,6 @@ fn merged(a: Counts, b: Counts) -> Result<Counts, NoMemory>
     let (mut most, less) = if a.len() < b.len() { (b, a) } else { (a, b) };
     most.rise_to(less)?;
     Ok(most)
-}
-
-/// The sum of two effects.
-pub fn summed(a: Account, b: Account) -> Result<Account, NoMemory>
-    ensures { IfOk result (λ r. (s : Store) (keys : Keys) (n : ℕ) (es fs : Effect) → IsKeyed s keys → Held s keys n a es → Held s keys n b fs → Held s keys n r (es ++ fs)) }
-{
-    Ok(Account {
-        sum: Sum::joined(a.sum, b.sum)?,
-        loose: merged(a.loose, b.loose)?,
-        lasting: both(a.lasting, b.lasting),
-    })
-}
-
-/// The greater count of each atom of two effects.
-pub fn greatest(a: Account, b: Account) -> Result<Account, NoMemory>
-    ensures { IfOk result (λ r. (s : Store) (keys : Keys) (n : ℕ) (es fs : Effect) → IsKeyed s keys → Held s keys n a es → Held s keys n b fs → Held s keys n r (greater es fs)) }
-{
-    Ok(Account {
-        sum: Sum::greatest(a.sum, b.sum)?,
-        loose: merged(a.loose, b.loose)?,
-        lasting: both(a.lasting, b.lasting),
-    })
 }
 
 // No count of the first is above that of the second.
@@ -272,17 +298,18 @@ fn is_sum_within(a: Sum, b: &Sum) -> bool
 }
 
 /// An effect that is written takes the place of another: whether that is within it.
-pub fn taken(
+pub fn written_over(
     alloc: Global,
     keys: &Keys,
     ids: &[AtomId],
-    account: Account,
-) -> Result<(bool, Account), NoMemory>
-    ensures { IfOk result (λ r. (s : Store) (fs es : Effect) (k : ℕ) → IsKeyed s keys.now → TellsAll (SaysAtom s.messages) ids.now fs → HaveKeys s keys.now fs → Below k fs → Held s keys.now k account es → Held s keys.now k r.1 fs × (r.0 ≡ is_within es fs)) }
+    account: &mut Account,
+) -> Result<bool, NoMemory>
+    ensures { IfOk result (λ b. (s : Store) (fs es : Effect) (k : ℕ) → IsKeyed s keys.now → TellsAll (SaysAtom s.messages) ids.now fs → HaveKeys s keys.now fs → Below k fs → Held s keys.now k account.old es → Held s keys.now k account.new fs × (b ≡ is_within es fs)) }
 {
     let mut written = empty_account(alloc);
     add_atoms(keys, ids, &mut written.sum)?;
     let none = account.loose.is_empty();
-    let within = is_sum_within(account.sum, &written.sum);
-    Ok((both(none, within), written))
+    let old = replace(account, written);
+    let within = is_sum_within(old.into_sum(), &account.sum);
+    Ok(both(none, within))
 }

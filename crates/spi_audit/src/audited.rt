@@ -2,7 +2,7 @@
 use spi_term::Effect;
 
 /// What an audit finds.
-#[derive(Debug, Drop)]
+#[derive(Drop)]
 pub enum Audited {
     /// The derivation proves that the process has the empty effect.
     Proved,

@@ -1,7 +1,7 @@
 // The backward pass: the effects of the open processes, from the last use to the first.
 ghost use Rattle.std.specs.Prelude.{◌≡◌, ℕ, suc, true, ◌<◌, ◌^◌, not, ◌&&◌, ◌≤◌, [], ◌∷◌, List, IfOk, vec_len};
 ghost use Rattle.spi_term.specs.Term.{Effect};
-ghost use Rattle.spi_effect.specs.Made.{greater, mentions};
+ghost use Rattle.spi_effect.specs.Made.{mentions};
 ghost use Rattle.spi_intern.specs.declared.store.Store.{Store};
 ghost use Rattle.spi_audit.specs.declared.keys.Keys.{Keys};
 ghost use Rattle.spi_audit.specs.Accounts.{IsKeyed, Held, IsHeld};
@@ -10,8 +10,8 @@ ghost use Rattle.spi_audit.specs.Notes.{AreNoted, ChangesOne, ChangesAll, IsBefo
 
 use crate::NoMemory;
 use crate::accounts::{
-    Account, both, empty_account, greatest, leave_one, leave_two, serve, summed, taken, with_atom,
-    with_type, without_atom, without_type,
+    Account, both, drop_atom, drop_type, empty_account, leave_one, leave_two, put_atom, put_type,
+    serve, written_over,
 };
 use crate::keys::Keys;
 use crate::notes::Note;
@@ -24,36 +24,37 @@ fn checked(
     keys: &Keys,
     id: MsgId,
     t: TyId,
-    account: Account,
-) -> Result<(bool, Account), NoMemory>
-    requires { IsBeforeOne store.now keys.now (Note.Check id t) account }
-    ensures { IfOk result (λ r. ChangesOne store.now keys.now (Note.Check id t) account r.0 r.1) }
+    account: &mut Account,
+) -> Result<bool, NoMemory>
+    requires { IsBeforeOne store.now keys.now (Note.Check id t) account.old }
+    ensures { IfOk result (λ b. ChangesOne store.now keys.now (Note.Check id t) account.old b account.new) }
 {
-    let rest = without_type(store, keys, t, account);
-    let more = with_atom(keys, AtomId::Check(id), rest)?;
-    Ok((true, more))
+    drop_type(store, keys, t, account);
+    put_atom(keys, AtomId::Check(id), account)?;
+    Ok(true)
 }
 
 // A `begin` pays for the ends of its label.
-fn begun(keys: &Keys, id: MsgId, account: Account) -> Account
-    ensures { (s : Store) → IsKeyed s keys.now → ChangesOne s keys.now (Note.Begin id) account true result }
+fn begun(keys: &Keys, id: MsgId, account: &mut Account) -> bool
+    ensures { (s : Store) → IsKeyed s keys.now → ChangesOne s keys.now (Note.Begin id) account.old result account.new }
 {
-    let rest = without_atom(keys, AtomId::End(id), account);
-    without_atom(keys, AtomId::Many(id), rest)
+    drop_atom(keys, AtomId::End(id), account);
+    drop_atom(keys, AtomId::Many(id), account);
+    true
 }
 
-fn ended(keys: &Keys, id: MsgId, account: Account) -> Result<(bool, Account), NoMemory>
-    ensures { IfOk result (λ r. (s : Store) → IsKeyed s keys.now → ChangesOne s keys.now (Note.End id) account r.0 r.1) }
+fn ended(keys: &Keys, id: MsgId, account: &mut Account) -> Result<bool, NoMemory>
+    ensures { IfOk result (λ b. (s : Store) → IsKeyed s keys.now → ChangesOne s keys.now (Note.End id) account.old b account.new) }
 {
-    let more = with_atom(keys, AtomId::End(id), account)?;
-    Ok((true, more))
+    put_atom(keys, AtomId::End(id), account)?;
+    Ok(true)
 }
 
-fn ended_many(keys: &Keys, id: MsgId, account: Account) -> Result<(bool, Account), NoMemory>
-    ensures { IfOk result (λ r. (s : Store) → IsKeyed s keys.now → ChangesOne s keys.now (Note.EndMany id) account r.0 r.1) }
+fn ended_many(keys: &Keys, id: MsgId, account: &mut Account) -> Result<bool, NoMemory>
+    ensures { IfOk result (λ b. (s : Store) → IsKeyed s keys.now → ChangesOne s keys.now (Note.EndMany id) account.old b account.new) }
 {
-    let more = with_atom(keys, AtomId::Many(id), account)?;
-    Ok((true, more))
+    put_atom(keys, AtomId::Many(id), account)?;
+    Ok(true)
 }
 
 fn casted(
@@ -61,15 +62,15 @@ fn casted(
     keys: &Keys,
     scope: u32,
     t: TyId,
-    account: Account,
-) -> Result<(bool, Account), NoMemory>
+    account: &mut Account,
+) -> Result<bool, NoMemory>
     requires scope { scope ≤ 300000 }
-    requires before { IsBeforeOne store.now keys.now (Note.Cast scope t) account }
-    ensures { IfOk result (λ r. ChangesOne store.now keys.now (Note.Cast scope t) account r.0 r.1) }
+    requires before { IsBeforeOne store.now keys.now (Note.Cast scope t) account.old }
+    ensures { IfOk result (λ b. ChangesOne store.now keys.now (Note.Cast scope t) account.old b account.new) }
 {
-    let (pays, rest) = leave_one(store, keys, scope, account)?;
-    let more = with_type(store, keys, t, rest)?;
-    Ok((pays, more))
+    let pays = leave_one(store, keys, scope, account)?;
+    put_type(store, keys, t, account)?;
+    Ok(pays)
 }
 
 fn made(
@@ -77,14 +78,14 @@ fn made(
     keys: &Keys,
     scope: u32,
     id: MsgId,
-    account: Account,
-) -> Result<(bool, Account), NoMemory>
+    account: &mut Account,
+) -> Result<bool, NoMemory>
     requires scope { scope ≤ 300000 }
-    requires before { IsBeforeOne store.now keys.now (Note.Make scope id) account }
-    ensures { IfOk result (λ r. ChangesOne store.now keys.now (Note.Make scope id) account r.0 r.1) }
+    requires before { IsBeforeOne store.now keys.now (Note.Make scope id) account.old }
+    ensures { IfOk result (λ b. ChangesOne store.now keys.now (Note.Make scope id) account.old b account.new) }
 {
-    let rest = without_atom(keys, AtomId::Check(id), account);
-    leave_one(store, keys, scope, rest)
+    drop_atom(keys, AtomId::Check(id), account);
+    leave_one(store, keys, scope, account)
 }
 
 // What a use with one process in its premises does to that one's effect, and whether it pays.
@@ -92,29 +93,27 @@ fn change_one(
     alloc: Global,
     store: &Store,
     keys: &Keys,
-    note: Note,
-    account: Account,
-) -> Result<(bool, Account), NoMemory>
-    requires small { IsSmallNote note }
-    requires before { IsBeforeOne store.now keys.now note account }
-    ensures { IfOk result (λ r. ChangesOne store.now keys.now note account r.0 r.1) }
+    note: &Note,
+    account: &mut Account,
+) -> Result<bool, NoMemory>
+    requires small { IsSmallNote note.now }
+    requires before { IsBeforeOne store.now keys.now note.now account.old }
+    requires one { IsUnaryNote note.now }
+    ensures { IfOk result (λ b. ChangesOne store.now keys.now note.now account.old b account.new) }
 {
     match note {
-        Note::Same => Ok((true, account)),
-        Note::LeaveOne(scope) => leave_one(store, keys, scope, account),
-        Note::LeaveTwo(scope) => leave_two(store, keys, scope, account),
-        Note::Serve(scope) => serve(store, keys, scope, account),
-        Note::Check(id, t) => checked(store, keys, id, t, account),
-        Note::Begin(id) => Ok((true, begun(keys, id, account))),
-        Note::End(id) => ended(keys, id, account),
-        Note::EndMany(id) => ended_many(keys, id, account),
-        Note::Cast(scope, t) => casted(store, keys, scope, t, account),
-        Note::Make(scope, id) => made(store, keys, scope, id, account),
-        Note::Taken(ids) => taken(alloc, keys, &ids, account),
-        Note::Nothing => Ok((true, account)),
-        Note::Empty => Ok((true, account)),
-        Note::Case(_) => Ok((true, account)),
-        Note::Both => Ok((true, account)),
+        Note::Same => Ok(true),
+        Note::LeaveOne(scope) => leave_one(store, keys, *scope, account),
+        Note::LeaveTwo(scope) => leave_two(store, keys, *scope, account),
+        Note::Serve(scope) => serve(store, keys, *scope, account),
+        Note::Check(id, t) => checked(store, keys, *id, *t, account),
+        Note::Begin(id) => Ok(begun(keys, *id, account)),
+        Note::End(id) => ended(keys, *id, account),
+        Note::EndMany(id) => ended_many(keys, *id, account),
+        Note::Cast(scope, t) => casted(store, keys, *scope, *t, account),
+        Note::Make(scope, id) => made(store, keys, *scope, *id, account),
+        Note::Taken(ids) => written_over(alloc, keys, ids, account),
+        _ => unreachable!(),
     }
 }
 
@@ -123,18 +122,19 @@ fn change_top(
     alloc: Global,
     store: &Store,
     keys: &Keys,
-    note: Note,
+    note: &Note,
     stack: &mut Vec<Account>,
 ) -> Result<bool, NoMemory>
-    requires small { IsSmallNote note }
-    requires before { IsBefore store.now keys.now note stack.old.items }
-    requires one { IsUnaryNote note }
-    ensures { IfOk result (λ b. ChangesAll store.now keys.now note stack.old.items b stack.new.items) }
+    requires small { IsSmallNote note.now }
+    requires before { IsBefore store.now keys.now note.now stack.old.items }
+    requires one { IsUnaryNote note.now }
+    ensures { IfOk result (λ b. ChangesAll store.now keys.now note.now stack.old.items b stack.new.items) }
 {
     match stack.pop() {
         None => Ok(true),
         Some(account) => {
-            let (pays, next) = change_one(alloc, store, keys, note, account)?;
+            let mut next = account;
+            let pays = change_one(alloc, store, keys, note, &mut next)?;
             stack.push(next)?;
             Ok(pays)
         }
@@ -158,7 +158,7 @@ fn change_both(stack: &mut Vec<Account>) -> Result<bool, NoMemory>
         Some(a) => match stack.pop() {
             None => Ok(true),
             Some(b) => {
-                let sum = summed(a, b)?;
+                let sum = a.summed(b)?;
                 stack.push(sum)?;
                 Ok(true)
             }
@@ -171,17 +171,17 @@ fn both_sides(
     store: &Store,
     keys: &Keys,
     scope: u32,
-    a: Account,
-    b: Account,
-) -> Result<(bool, Account), NoMemory>
+    a: &mut Account,
+    b: &mut Account,
+) -> Result<bool, NoMemory>
     requires scope { scope ≤ 300000 }
-    requires first { IsHeld store.now keys.now a }
-    requires second { IsHeld store.now keys.now b }
-    ensures { IfOk result (λ r. (es fs : Effect) → Held store.now keys.now (suc scope) a es → Held store.now keys.now (suc scope) b fs → Held store.now keys.now scope r.1 (greater es fs) × (r.0 ≡ not (mentions scope es) && not (mentions scope fs))) }
+    requires first { IsHeld store.now keys.now a.old }
+    requires second { IsHeld store.now keys.now b.old }
+    ensures { IfOk result (λ r. (es fs : Effect) → Held store.now keys.now (suc scope) a.old es → Held store.now keys.now (suc scope) b.old fs → Held store.now keys.now scope a.new es × Held store.now keys.now scope b.new fs × (r ≡ not (mentions scope es) && not (mentions scope fs))) }
 {
-    let (first, a) = leave_one(store, keys, scope, a)?;
-    let (second, b) = leave_one(store, keys, scope, b)?;
-    Ok((both(first, second), greatest(a, b)?))
+    let first = leave_one(store, keys, scope, a)?;
+    let second = leave_one(store, keys, scope, b)?;
+    Ok(both(first, second))
 }
 
 fn change_case(
@@ -199,7 +199,10 @@ fn change_case(
         Some(a) => match stack.pop() {
             None => Ok(true),
             Some(b) => {
-                let (pays, most) = both_sides(store, keys, scope, a, b)?;
+                let mut first = a;
+                let mut second = b;
+                let pays = both_sides(store, keys, scope, &mut first, &mut second)?;
+                let most = first.greatest(second)?;
                 stack.push(most)?;
                 Ok(pays)
             }
@@ -212,29 +215,19 @@ fn change(
     alloc: Global,
     store: &Store,
     keys: &Keys,
-    note: Note,
+    note: &Note,
     stack: &mut Vec<Account>,
 ) -> Result<bool, NoMemory>
-    requires small { IsSmallNote note }
-    requires before { IsBefore store.now keys.now note stack.old.items }
-    ensures { IfOk result (λ b. ChangesAll store.now keys.now note stack.old.items b stack.new.items) }
+    requires small { IsSmallNote note.now }
+    requires before { IsBefore store.now keys.now note.now stack.old.items }
+    ensures { IfOk result (λ b. ChangesAll store.now keys.now note.now stack.old.items b stack.new.items) }
 {
-    match &note {
+    match note {
         Note::Nothing => Ok(true),
         Note::Empty => change_none(alloc, stack),
         Note::Both => change_both(stack),
         Note::Case(scope) => change_case(store, keys, *scope, stack),
-        Note::Same => change_top(alloc, store, keys, note, stack),
-        Note::LeaveOne(_) => change_top(alloc, store, keys, note, stack),
-        Note::LeaveTwo(_) => change_top(alloc, store, keys, note, stack),
-        Note::Serve(_) => change_top(alloc, store, keys, note, stack),
-        Note::Check(_, _) => change_top(alloc, store, keys, note, stack),
-        Note::Begin(_) => change_top(alloc, store, keys, note, stack),
-        Note::End(_) => change_top(alloc, store, keys, note, stack),
-        Note::EndMany(_) => change_top(alloc, store, keys, note, stack),
-        Note::Cast(_, _) => change_top(alloc, store, keys, note, stack),
-        Note::Make(_, _) => change_top(alloc, store, keys, note, stack),
-        Note::Taken(_) => change_top(alloc, store, keys, note, stack),
+        _ => change_top(alloc, store, keys, note, stack),
     }
 }
 
@@ -257,7 +250,9 @@ pub fn account(
     let mut stack = Vec::new(alloc);
     let mut unpaid = None;
     while let Some(note) = rest.pop() {
-        if !change(alloc, store, keys, note, &mut stack)? {
+        let pays = change(alloc, store, keys, &note, &mut stack)?;
+        drop(note);
+        if !pays {
             unpaid = Some(rest.len() as u32);
         }
     }

@@ -577,12 +577,8 @@ fn cast_typed(
     ensures kept { IsKept judge.old judge.new }
 {
     match ty {
-        Ty::Un => Ok(None),
-        Ty::Unit => Ok(None),
-        Ty::Pair(_, _) => Ok(None),
-        Ty::Sum(_, _) => Ok(None),
-        Ty::Key(_) => Ok(None),
         Ty::Nonce(_) => cast_good(alloc, judge, whole, ty, body),
+        _ => Ok(None),
     }
 }
 

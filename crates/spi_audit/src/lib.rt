@@ -50,7 +50,7 @@ fn left(alloc: Global, store: &Store, keys: &Keys, root: Account) -> Result<Audi
     requires { IsHeld store.now keys.now root }
     ensures { IfOk result (λ r. (es : Term.Effect) (n : ℕ) → Held store.now keys.now n root es → Below n es → IsLeft es r) }
 {
-    let effect = effect_of_sum(alloc, store, keys, root.sum)?;
+    let effect = effect_of_sum(alloc, store, keys, root.into_sum())?;
     if effect.atoms.is_empty() {
         Ok(Audited::Proved)
     } else {

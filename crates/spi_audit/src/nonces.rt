@@ -53,12 +53,6 @@ pub fn nonce_at(judge: &Judge, m: &Msg) -> Option<TyId>
 {
     match m {
         Msg::Name(x) => nonce_at_name(judge, *x),
-        Msg::Bound(_) => None,
-        Msg::Unit => None,
-        Msg::Pair(_, _) => None,
-        Msg::Inl(_) => None,
-        Msg::Inr(_) => None,
-        Msg::Enc(_, _) => None,
-        Msg::Hash(_) => None,
+        _ => None,
     }
 }

@@ -13,26 +13,34 @@ use spi_message::Judge;
 use spi_term::{Msg, Ty};
 use std::alloc::Global;
 
+// An equal type on the heap.
+fn boxed(alloc: Global, t: &Ty) -> Result<Box<Ty>, NoMemory>
+    ensures { IfOk result (λ b. type_of b.value ≡ type_of t.now) }
+{
+    let copy = t.copy(alloc)?;
+    Ok(Box::new(alloc, copy)?)
+}
+
 pub fn pair_type(alloc: Global, first: &Ty, second: &Ty) -> Result<Ty, NoMemory>
     ensures { IfOk result (λ r. type_of r ≡ pair_ty (type_of first.now) (type_of second.now)) }
 {
-    let a = Box::new(alloc, first.copy(alloc)?)?;
-    let b = Box::new(alloc, second.copy(alloc)?)?;
+    let a = boxed(alloc, first)?;
+    let b = boxed(alloc, second)?;
     Ok(Ty::Pair(a, b))
 }
 
 pub fn sum_type(alloc: Global, left: &Ty, right: &Ty) -> Result<Ty, NoMemory>
     ensures { IfOk result (λ r. type_of r ≡ sum_ty (type_of left.now) (type_of right.now)) }
 {
-    let a = Box::new(alloc, left.copy(alloc)?)?;
-    let b = Box::new(alloc, right.copy(alloc)?)?;
+    let a = boxed(alloc, left)?;
+    let b = boxed(alloc, right)?;
     Ok(Ty::Sum(a, b))
 }
 
 pub fn key_type(alloc: Global, t: &Ty) -> Result<Ty, NoMemory>
     ensures { IfOk result (λ r. type_of r ≡ key (type_of t.now)) }
 {
-    Ok(Ty::Key(Box::new(alloc, t.copy(alloc)?)?))
+    Ok(Ty::Key(boxed(alloc, t)?))
 }
 
 /// Whether the message has the type.

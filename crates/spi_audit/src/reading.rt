@@ -1,5 +1,5 @@
 // Effects read back from counts.
-ghost use Rattle.std.specs.Prelude.{◌≡◌, ℕ, ◌<◌, ◌++◌, length, map, replicate, slice_get, Some, IfOk, OnOk};
+ghost use Rattle.std.specs.Prelude.{◌≡◌, ℕ, ◌<◌, ◌++◌, length, map, replicate, slice_get, Some, Ok, IfOk, OnOk};
 ghost use Rattle.spi_term.specs.Term as Term;
 ghost use Rattle.spi_term.specs.Counts.{SameEffect};
 ghost use Rattle.spi_term.specs.View.{message, atom, effect};
@@ -12,6 +12,13 @@ use spi_intern::{MsgId, MsgPart, Store};
 use spi_term::{Atom, Effect, Msg};
 use std::alloc::Global;
 
+// A value on the heap, where there is one.
+fn boxed<T: Drop>(alloc: Global, value: Result<T, NoMemory>) -> Result<Box<T>, NoMemory>
+    ensures { IfOk result (λ b. value ≡ Ok b.value) }
+{
+    Ok(Box::new(alloc, value?)?)
+}
+
 /// The message with a number of the store.
 pub fn read_message(alloc: Global, store: &Store, id: MsgId) -> Result<Msg, NoMemory>
     requires { id.place < length store.now.messages }
@@ -22,26 +29,26 @@ pub fn read_message(alloc: Global, store: &Store, id: MsgId) -> Result<Msg, NoMe
         MsgPart::Name(x) => Ok(Msg::Name(x)),
         MsgPart::Unit => Ok(Msg::Unit),
         MsgPart::Pair(a, b) => {
-            let first = read_message(alloc, store, a)?;
-            let second = read_message(alloc, store, b)?;
-            Ok(Msg::Pair(Box::new(alloc, first)?, Box::new(alloc, second)?))
+            let first = boxed(alloc, read_message(alloc, store, a))?;
+            let second = boxed(alloc, read_message(alloc, store, b))?;
+            Ok(Msg::Pair(first, second))
         }
         MsgPart::Inl(a) => {
-            let part = read_message(alloc, store, a)?;
-            Ok(Msg::Inl(Box::new(alloc, part)?))
+            let part = boxed(alloc, read_message(alloc, store, a))?;
+            Ok(Msg::Inl(part))
         }
         MsgPart::Inr(a) => {
-            let part = read_message(alloc, store, a)?;
-            Ok(Msg::Inr(Box::new(alloc, part)?))
+            let part = boxed(alloc, read_message(alloc, store, a))?;
+            Ok(Msg::Inr(part))
         }
         MsgPart::Enc(a, b) => {
-            let whole = read_message(alloc, store, a)?;
-            let key = read_message(alloc, store, b)?;
-            Ok(Msg::Enc(Box::new(alloc, whole)?, Box::new(alloc, key)?))
+            let whole = boxed(alloc, read_message(alloc, store, a))?;
+            let key = boxed(alloc, read_message(alloc, store, b))?;
+            Ok(Msg::Enc(whole, key))
         }
         MsgPart::Hash(a) => {
-            let part = read_message(alloc, store, a)?;
-            Ok(Msg::Hash(Box::new(alloc, part)?))
+            let part = boxed(alloc, read_message(alloc, store, a))?;
+            Ok(Msg::Hash(part))
         }
     }
 }
@@ -49,10 +56,11 @@ pub fn read_message(alloc: Global, store: &Store, id: MsgId) -> Result<Msg, NoMe
 fn atom_over(alloc: Global, kind: AtomKind, m: &Msg) -> Result<Atom, NoMemory>
     ensures { IfOk result (λ a. atom a ≡ atom_of kind (message m.now)) }
 {
+    let copy = m.copy(alloc)?;
     match kind {
-        AtomKind::End => Ok(Atom::End(m.copy(alloc)?)),
-        AtomKind::Check => Ok(Atom::Check(m.copy(alloc)?)),
-        AtomKind::Many => Ok(Atom::Many(m.copy(alloc)?)),
+        AtomKind::End => Ok(Atom::End(copy)),
+        AtomKind::Check => Ok(Atom::Check(copy)),
+        AtomKind::Many => Ok(Atom::Many(copy)),
     }
 }
 

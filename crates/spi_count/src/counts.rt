@@ -7,10 +7,15 @@ use std::alloc::{AllocError, Global};
 use std::collections::BTreeMap;
 
 /// How high each key is counted. A key that isn't kept is counted 0.
-#[derive(Drop)]
 pub struct Counts {
     counts: BTreeMap<u64, u64>,
     ghost positive: { ArePositive counts },
+}
+
+impl Drop for Counts {
+    fn drop(self) {
+        let Counts { counts: _ } = self;
+    }
 }
 
 impl Counts {

@@ -8,9 +8,10 @@ ghost use Rattle.spi_count.specs.declared.sum.AtomKind.TheVariants as kinds;
 use crate::NoMemory;
 use crate::counts::Counts;
 use std::alloc::Global;
+use std::mem::replace;
 
 /// What an atom says of its message.
-#[derive(Clone, Copy, Debug, PartialEq, Eq)]
+#[derive(Clone, Copy)]
 pub enum AtomKind {
     End,
     Check,
@@ -20,11 +21,20 @@ pub enum AtomKind {
 /// An effect by its counts: how often each message stands in its `end` and `check` atoms, and which messages
 /// stand in its `many` atoms. A message is given by a key, which is 2 ^ 32 times the least number above its names, and a
 /// number of its own below 2 ^ 32.
-#[derive(Drop)]
 pub struct Sum {
     ends: Counts,
     checks: Counts,
     lasting: Counts,
+}
+
+impl Drop for Sum {
+    fn drop(self) {
+        let Sum {
+            ends: _,
+            checks: _,
+            lasting: _,
+        } = self;
+    }
 }
 
 impl Sum {
@@ -117,26 +127,50 @@ impl Sum {
         }
     }
 
+    // Adds the atoms of another.
+    fn absorb(&mut self, other: Sum) -> Result<(), NoMemory>
+        ensures { OnOk result ((kind : AtomKind) (k : ℕ) → count_of (part kind self.new) k ≡ both_counts kind (count_of (part kind self.old) k) (count_of (part kind other) k)) }
+    {
+        let Sum {
+            ends,
+            checks,
+            lasting,
+        } = other;
+        merge(&mut self.ends, ends)?;
+        merge(&mut self.checks, checks)?;
+        rise(&mut self.lasting, lasting)
+    }
+
+    // Takes the greater count of each atom.
+    fn rise_to(&mut self, other: Sum) -> Result<(), NoMemory>
+        ensures { OnOk result ((kind : AtomKind) (k : ℕ) → count_of (part kind self.new) k ≡ max (count_of (part kind self.old) k) (count_of (part kind other) k)) }
+    {
+        let Sum {
+            ends,
+            checks,
+            lasting,
+        } = other;
+        rise(&mut self.ends, ends)?;
+        rise(&mut self.checks, checks)?;
+        rise(&mut self.lasting, lasting)
+    }
+
     /// The sum of two effects.
     pub fn joined(a: Sum, b: Sum) -> Result<Sum, NoMemory>
         ensures { IfOk result (λ s. (kind : AtomKind) (k : ℕ) → count_of (part kind s) k ≡ both_counts kind (count_of (part kind a) k) (count_of (part kind b) k)) }
     {
-        Ok(Sum {
-            ends: merged(a.ends, b.ends)?,
-            checks: merged(a.checks, b.checks)?,
-            lasting: greater(a.lasting, b.lasting)?,
-        })
+        let mut both = a;
+        both.absorb(b)?;
+        Ok(both)
     }
 
     /// The greater count of each atom.
     pub fn greatest(a: Sum, b: Sum) -> Result<Sum, NoMemory>
         ensures { IfOk result (λ s. (kind : AtomKind) (k : ℕ) → count_of (part kind s) k ≡ max (count_of (part kind a) k) (count_of (part kind b) k)) }
     {
-        Ok(Sum {
-            ends: greater(a.ends, b.ends)?,
-            checks: greater(a.checks, b.checks)?,
-            lasting: greater(a.lasting, b.lasting)?,
-        })
+        let mut most = a;
+        most.rise_to(b)?;
+        Ok(most)
     }
 
     /// Whether each atom is a `many`.
@@ -155,20 +189,26 @@ impl Sum {
     }
 }
 
-/// The sums of the counts of each key.
-fn merged(a: Counts, b: Counts) -> Result<Counts, NoMemory>
-    ensures { IfOk result (λ c. (k : ℕ) → count_of c.counts k ≡ count_of a.counts k + count_of b.counts k) }
+// Adds the counts of another, of which the smaller is gone over.
+fn merge(counts: &mut Counts, other: Counts) -> Result<(), NoMemory>
+    ensures { OnOk result ((k : ℕ) → count_of counts.new.counts k ≡ count_of counts.old.counts k + count_of other.counts k) }
 {
-    let (mut most, less) = if a.len() < b.len() { (b, a) } else { (a, b) };
-    most.absorb(less)?;
-    Ok(most)
+    if counts.len() < other.len() {
+        let less = replace(counts, other);
+        counts.absorb(less)
+    } else {
+        counts.absorb(other)
+    }
 }
 
-/// The greater count of each key.
-fn greater(a: Counts, b: Counts) -> Result<Counts, NoMemory>
-    ensures { IfOk result (λ c. (k : ℕ) → count_of c.counts k ≡ max (count_of a.counts k) (count_of b.counts k)) }
+// Takes the greater count of each key. The smaller is gone over.
+fn rise(counts: &mut Counts, other: Counts) -> Result<(), NoMemory>
+    ensures { OnOk result ((k : ℕ) → count_of counts.new.counts k ≡ max (count_of counts.old.counts k) (count_of other.counts k)) }
 {
-    let (mut most, less) = if a.len() < b.len() { (b, a) } else { (a, b) };
-    most.rise_to(less)?;
-    Ok(most)
+    if counts.len() < other.len() {
+        let less = replace(counts, other);
+        counts.rise_to(less)
+    } else {
+        counts.rise_to(other)
+    }
 }

@@ -1,15 +1,15 @@
 // What is to be done on the way through the nodes, and the types of the names in scope.
 
-ghost use Rattle.std.specs.Prelude.{◌≡◌, List, ◌∷◌, ◌++◌, length, OnOk};
+ghost use Rattle.std.specs.Prelude.{◌≡◌, List, [], ◌∷◌, ◌++◌, length, OnOk};
 ghost use Rattle.spi_term.specs.Term as Term;
-ghost use Rattle.spi_term.specs.View.{shape_of};
+ghost use Rattle.spi_term.specs.View.{shape_of, ty as type_of};
 ghost use Rattle.spi_deriv.specs.Agenda.{types_of, bound_types, tops, next, IsSettled};
 
 use crate::NoMemory;
 use spi_term::{Form, Node, Ty};
 
 /// The types of the names that a form binds in one of its processes, as they are written there.
-#[derive(Clone, Copy, Debug)]
+#[derive(Clone, Copy)]
 pub enum Binding<'a> {
     None,
     One(&'a Ty),
@@ -26,20 +26,23 @@ fn width(binding: Binding) -> usize
     }
 }
 
+fn push_type<'a>(t: &'a Ty, types: &mut Vec<&'a Ty>) -> Result<(), NoMemory>
+    ensures { OnOk result (types_of types.new.items ≡ types_of types.old.items ++ type_of t.now ∷ []) }
+{
+    types.push(t)?;
+    Ok(())
+}
+
 // These names come into scope.
 fn bind<'a>(binding: Binding<'a>, types: &mut Vec<&'a Ty>) -> Result<(), NoMemory>
     ensures { OnOk result (types_of types.new.items ≡ types_of types.old.items ++ bound_types binding.entry) }
 {
     match binding {
         Binding::None => Ok(()),
-        Binding::One(t) => {
-            types.push(t)?;
-            Ok(())
-        }
+        Binding::One(t) => push_type(t, types),
         Binding::Two(t, u) => {
-            types.push(t)?;
-            types.push(u)?;
-            Ok(())
+            push_type(t, types)?;
+            push_type(u, types)
         }
     }
 }
@@ -86,22 +89,20 @@ pub fn put_off<'a>(node: &'a Node, pending: &mut Vec<Binding<'a>>) -> Result<(),
     ensures { OnOk result (tops pending.new.items ≡ next (shape_of node.now) ++ tops pending.old.items) }
 {
     match &node.form {
-        Form::Send { .. } => Ok(()),
-        Form::Recv { ty, .. } => push_binding(Binding::One(ty), pending),
-        Form::Serve { ty, .. } => push_binding(Binding::One(ty), pending),
+        Form::Send { .. } | Form::Stop => Ok(()),
+        Form::Recv { ty, .. }
+        | Form::Serve { ty, .. }
+        | Form::Decrypt { ty, .. }
+        | Form::Cast { ty, .. }
+        | Form::Fresh { ty, .. } => push_binding(Binding::One(ty), pending),
         Form::Split { first, second, .. } => push_binding(Binding::Two(first, second), pending),
         Form::Select { second, .. } => push_binding(Binding::One(second), pending),
         Form::Branch { left, right, .. } => {
             push_bindings(Binding::One(left), Binding::One(right), pending)
         }
-        Form::Decrypt { ty, .. } => push_binding(Binding::One(ty), pending),
-        Form::Check { .. } => push_binding(Binding::None, pending),
-        Form::Begin { .. } => push_binding(Binding::None, pending),
-        Form::End { .. } => push_binding(Binding::None, pending),
-        Form::EndMany { .. } => push_binding(Binding::None, pending),
-        Form::Cast { ty, .. } => push_binding(Binding::One(ty), pending),
-        Form::Fresh { ty, .. } => push_binding(Binding::One(ty), pending),
+        Form::Check { .. } | Form::Begin { .. } | Form::End { .. } | Form::EndMany { .. } => {
+            push_binding(Binding::None, pending)
+        }
         Form::Par { .. } => push_bindings(Binding::None, Binding::None, pending),
-        Form::Stop => Ok(()),
     }
 }

@@ -14,6 +14,3 @@ use std::alloc::AllocError;
 
 /// Memory ran out.
 pub type NoMemory = AllocError;
-
-#[cfg(test)]
-mod tests;

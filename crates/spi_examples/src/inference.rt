@@ -1,85 +1,98 @@
-// Inference by example.
+//! Inference by example.
 
-ghost use Rattle.std.specs.Prelude.{◌≡◌, ◌<◌, IfOk, IfSome, length};
+ghost use Rattle.std.specs.Prelude.{◌≡◌, ◌<◌};
 
-use spi_infer::{Inferred, NoMemory, Steps, effect_at, infer, infer_in, reached};
+use crate::given::{MISSING, NoMemory, Question, each};
+use spi_infer::{Inferred, Steps, effect_at, infer, infer_in, reached};
 use spi_message::Judge;
-use spi_term::{Form, Msg, Node, Process, Ty};
+use spi_scope::File;
+use spi_term::{Effect, Process};
 use std::alloc::Global;
 use std::marker::Brand;
 use std::sync::ledger::{Blank, Ledger};
-use std::test::Fail;
 
-// new (x: Un); end n; stop, over the free name 0. The name x has the number 1.
-fn ends(alloc: Global, n: u32) -> Result<Option<Process>, NoMemory>
-    ensures { IfOk result (λ o. IfSome o (λ p. p.names ≡ 1)) }
-{
-    let ty = Ty::Un;
-    let label = Msg::Name(n);
-    let nodes = [
-        Node {
-            scope: 1,
-            form: Form::Fresh { ty, body: 1 },
-        },
-        Node {
-            scope: 2,
-            form: Form::End { label, body: 2 },
-        },
-        Node {
-            scope: 2,
-            form: Form::Stop,
-        },
-    ];
-    Ok(Process::from_nodes(1, Vec::from_array(alloc, nodes)?))
+/// What is asked of a process, and at its node 1.
+#[derive(Clone, Copy)]
+enum OfProcesses {
+    Inferred,
+    Counted,
+    Reached,
+    EffectAt,
+}
+
+/// How many atoms the effect has, or 100 and the number of the node that blocks.
+fn number_of(inferred: &Inferred) -> u64 {
+    match inferred {
+        Inferred::Least(effect) => effect.atoms.len() as u64,
+        Inferred::Blocked(node) => *node as u64 + 100,
+    }
 }
 
 fn infer_counted<L: Ledger>(
     alloc: Global,
-    judge: &mut Judge,
     process: &Process,
     blank: Blank,
 ) -> Result<Inferred, NoMemory>
-    requires names { length judge.old.types ≡ process.now.names }
     requires name { blank.name ≡ L.name }
     requires parts { blank.parts ≡ L.parts }
     requires some { 0 < blank.parts }
-    ensures { judge.new.types ≡ judge.old.types }
 {
+    let _ = process.len();
     let mut steps = Steps::<L>::new(blank);
-    infer_in(alloc, judge, process, &mut steps)
+    steps.tick();
+    let mut judge = Judge::new(alloc, process.names())?;
+    infer_in(alloc, &mut judge, process, &mut steps)
+}
+
+fn atoms_in(effect: Option<Effect>) -> u64 {
+    match effect {
+        Some(effect) => effect.atoms.len() as u64,
+        None => MISSING,
+    }
+}
+
+impl Question for OfProcesses {
+    fn answer(self, alloc: Global, file: &File) -> Result<u64, NoMemory> {
+        let process = &file.process;
+        if process.len() < 2 {
+            return Ok(MISSING);
+        }
+        match self {
+            OfProcesses::Inferred => Ok(number_of(&infer(alloc, process)?)),
+            OfProcesses::Counted => {
+                let inferred = infer_counted::<Brand>(alloc, process, Blank::new(1))?;
+                Ok(number_of(&inferred))
+            }
+            OfProcesses::Reached => Ok(reached(alloc, process, 1)?.len() as u64),
+            OfProcesses::EffectAt => Ok(atoms_in(effect_at(alloc, process, 1)?)),
+        }
+    }
+}
+
+const FREE: &str = "free a; process new (x: Un); end a; stop";
+
+const BOUND: &str = "free a; process new (x: Un); end x; stop";
+
+#[test]
+fn the_end_of_a_free_name_is_the_least_effect(rt: HostRuntime) {
+    let alloc = rt.alloc();
+    each(
+        &rt,
+        alloc,
+        OfProcesses::Inferred,
+        &[(FREE, 1), (BOUND, 100)],
+    );
+    each(&rt, alloc, OfProcesses::Counted, &[(FREE, 1), (BOUND, 100)]);
 }
 
 #[test]
-fn the_end_of_a_free_name_is_the_least_effect(rt: HostRuntime) -> Result<(), Fail> {
+fn a_node_is_reached_with_its_names(rt: HostRuntime) {
     let alloc = rt.alloc();
-    let process = ends(alloc, 0)?.ok_or("no process")?;
-    match infer(alloc, &process)? {
-        Inferred::Least(effect) => assert_eq!(rt; effect.atoms.len(), 1),
-        Inferred::Blocked(_) => assert!(rt; false),
-    }
-    let mut judge = Judge::new(alloc, 1)?;
-    match infer_counted::<Brand>(alloc, &mut judge, &process, Blank::new(1))? {
-        Inferred::Least(effect) => assert_eq!(rt; effect.atoms.len(), 1),
-        Inferred::Blocked(_) => assert!(rt; false),
-    }
-    assert_eq!(rt; judge.len(), 1);
-    Ok(())
-}
-
-#[test]
-fn a_new_name_in_an_effect_blocks(rt: HostRuntime) -> Result<(), Fail> {
-    let alloc = rt.alloc();
-    let process = ends(alloc, 1)?.ok_or("no process")?;
-    match infer(alloc, &process)? {
-        Inferred::Least(_) => assert!(rt; false),
-        Inferred::Blocked(id) => assert_eq!(rt; id, 0),
-    }
-    assert_eq!(rt; process.len(), 3);
-    assert_eq!(rt; reached(alloc, &process, 2)?.len(), 2);
-    assert!(rt; effect_at(alloc, &process, 0)?.is_none());
-    match effect_at(alloc, &process, 1)? {
-        Some(effect) => assert_eq!(rt; effect.atoms.len(), 1),
-        None => assert!(rt; false),
-    }
-    Ok(())
+    each(
+        &rt,
+        alloc,
+        OfProcesses::Reached,
+        &[(FREE, 2), ("free a; process begin a; stop", 1)],
+    );
+    each(&rt, alloc, OfProcesses::EffectAt, &[(FREE, 1), (BOUND, 1)]);
 }

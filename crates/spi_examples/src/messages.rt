@@ -1,225 +1,142 @@
-// Judgements by example.
+//! Judgements on messages by example, in the environment of `new (x: FIRST); new (y: SECOND); out CHANNEL DATUM`.
 
-ghost use Rattle.std.specs.Prelude.{◌≡◌, ◌∷◌, [], ◌+◌, ◌<◌, ◌^◌, IfOk, length};
-ghost use Rattle.spi_term.specs.Spelling.{ty_nodes};
-ghost use Rattle.spi_term.specs.View.{atom, effect, ty};
-
-use spi_intern::TyId;
-use spi_message::{Judge, NoMemory, good_effect, good_type, has_type, is_label};
+use crate::given::{MISSING, NoMemory, Question, Sample, each, sample_of};
+use spi_infer::reached;
+use spi_message::{good_effect, good_type, has_type, is_label, slices};
 use spi_rules::Env;
-use spi_term::{Atom, Effect, Msg, Ty};
+use spi_scope::File;
+use spi_term::{Ty, type_nodes};
 use std::alloc::Global;
-use std::test::Fail;
 
-// An untrusted name, and after it one of type Key(Un).
-fn with_key(alloc: Global) -> Result<Env, NoMemory>
-    ensures { IfOk result (λ env. length env ≡ 2) }
-{
-    let mut env = Env::of_free(alloc, 1)?;
-    env.push(Ty::Key(Box::new(alloc, Ty::Un)?))?;
-    Ok(env)
+/// What is asked of the datum and the second type where both names are in scope.
+#[derive(Clone, Copy)]
+enum OfMessages {
+    Typed,
+    Labelled,
+    GoodType,
+    GoodEffect,
+    Untrusted,
+    Fresh,
+    Promising,
 }
 
-fn one_atom(alloc: Global, a: Atom) -> Result<Effect, NoMemory>
-    ensures { IfOk result (λ e. effect e ≡ atom a ∷ []) }
-{
-    Ok(Effect {
-        atoms: Vec::from_array(alloc, [a])?,
-    })
-}
-
-#[test]
-fn keys_make_ciphertexts_untrusted(rt: HostRuntime) -> Result<(), Fail> {
-    let alloc = rt.alloc();
-    let env = with_key(alloc)?;
-    let body = Box::new(alloc, Msg::Name(0))?;
-    let sealed = Msg::Enc(body, Box::new(alloc, Msg::Name(1))?);
-    assert!(rt; has_type(alloc, &env, &sealed, &Ty::Un)?);
-    assert!(rt; !has_type(alloc, &env, &Msg::Name(1), &Ty::Un)?);
-    assert!(rt; is_label(alloc, &env, &Msg::Name(1))?);
-    assert!(rt; !is_label(alloc, &env, &Msg::Name(2))?);
-    Ok(())
-}
-
-#[test]
-fn checks_want_untrusted_names_and_ends_labels(rt: HostRuntime) -> Result<(), Fail> {
-    let alloc = rt.alloc();
-    let env = with_key(alloc)?;
-    let check = Ty::Nonce(one_atom(alloc, Atom::Check(Msg::Name(1)))?);
-    assert!(rt; !good_type(alloc, &env, &check)?);
-    let end = one_atom(alloc, Atom::End(Msg::Name(1)))?;
-    assert!(rt; good_effect(alloc, &env, &end)?);
-    Ok(())
-}
-
-// A message under so many keys #1.
-fn sealed(alloc: Global, inside: Msg, times: u32) -> Result<Msg, NoMemory> {
-    let mut m = inside;
-    for _ in 0..times {
-        let key = Box::new(alloc, Msg::Name(1))?;
-        m = Msg::Enc(Box::new(alloc, m)?, key);
+/// Whether the type is good, also over the slice of types, where it is small.
+fn is_good(alloc: Global, env: &Env, ty: &Ty) -> Result<bool, NoMemory> {
+    if env.len() > 1000 || type_nodes(ty) > 1000 {
+        return Ok(false);
     }
-    Ok(m)
+    Ok(good_type(alloc, env, ty)? && slices::is_good_type(alloc, ty, env.types())?)
 }
 
-// Whether the key, under itself so many times, has type Un in an environment.
-fn is_deep_key_untrusted(alloc: Global, times: u32) -> Result<bool, NoMemory> {
-    let env = with_key(alloc)?;
-    let deep = sealed(alloc, Msg::Name(1), times)?;
-    has_type(alloc, &env, &deep, &Ty::Un)
+fn is_effect_good(alloc: Global, env: &Env, ty: &Ty) -> Result<bool, NoMemory> {
+    match ty {
+        Ty::Nonce(effect) => Ok(
+            good_effect(alloc, env, effect)? && slices::is_good_effect(alloc, effect, env.types())?,
+        ),
+        _ => Ok(false),
+    }
 }
 
-// The same for a judge.
-fn is_deep_key_judged_untrusted(alloc: Global, times: u32) -> Result<bool, NoMemory> {
-    let mut judge = judge_with_key(alloc)?;
-    let deep = sealed(alloc, Msg::Name(1), times)?;
-    is_typed(alloc, &mut judge, &deep, &Ty::Un)
+fn answer_in(
+    alloc: Global,
+    question: OfMessages,
+    env: &Env,
+    parts: &Sample<'_>,
+) -> Result<bool, NoMemory> {
+    match question {
+        OfMessages::Typed => Ok(
+            has_type(alloc, env, parts.datum, parts.second)?
+                && slices::has_type(alloc, parts.datum, env.types(), parts.second)?,
+        ),
+        OfMessages::Labelled => Ok(
+            is_label(alloc, env, parts.datum)?
+                && slices::is_label(alloc, parts.datum, env.types())?,
+        ),
+        OfMessages::GoodType => is_good(alloc, env, parts.second),
+        OfMessages::GoodEffect => is_effect_good(alloc, env, parts.second),
+        OfMessages::Untrusted => Ok(slices::is_un_type(parts.second)),
+        OfMessages::Fresh => Ok(slices::is_fresh_type(parts.second)),
+        OfMessages::Promising => Ok(slices::nonce_type(parts.datum, env.types()).is_some()),
+    }
 }
 
-#[test]
-fn each_layer_of_a_ciphertext_is_asked_for_once(rt: HostRuntime) -> Result<(), Fail> {
-    let alloc = rt.alloc();
-    assert!(rt; !is_deep_key_untrusted(alloc, 200)?);
-    assert!(rt; !is_deep_key_judged_untrusted(alloc, 200)?);
-    Ok(())
-}
-
-// A judge with an untrusted name, and after it one of type Key(Un).
-fn judge_with_key(alloc: Global) -> Result<Judge, NoMemory>
-    ensures free { IfOk result (λ j. j.free ≡ 1) }
-    ensures length { IfOk result (λ j. length j.types ≡ 2) }
-{
-    let mut judge = Judge::new(alloc, 1)?;
-    let key = Ty::Key(Box::new(alloc, Ty::Un)?);
-    let id = judge.ty(alloc, &key)?;
-    judge.bind(id)?;
-    Ok(judge)
-}
-
-fn is_typed(alloc: Global, judge: &mut Judge, m: &Msg, t: &Ty) -> Result<bool, NoMemory> {
-    let t = judge.ty(alloc, t)?;
-    let m = judge.message(m)?;
-    judge.has_type(alloc, m, t)
-}
-
-fn is_labelled(alloc: Global, judge: &mut Judge, m: &Msg) -> Result<bool, NoMemory> {
-    let m = judge.message(m)?;
-    judge.is_label(alloc, m)
-}
-
-fn is_good(alloc: Global, judge: &mut Judge, t: &Ty) -> Result<bool, NoMemory>
-    requires { length judge.old.types + ty_nodes (ty t.now) < 2 ^ 32 }
-{
-    let t = judge.ty(alloc, t)?;
-    judge.good_type(alloc, t)
-}
-
-// Whether the first name under the key has type Un.
-fn is_sealed_name_untrusted(alloc: Global, judge: &mut Judge) -> Result<bool, NoMemory> {
-    let m = sealed(alloc, Msg::Name(0), 1)?;
-    is_typed(alloc, judge, &m, &Ty::Un)
-}
-
-fn is_name_untrusted(alloc: Global, judge: &mut Judge, x: u32) -> Result<bool, NoMemory> {
-    is_typed(alloc, judge, &Msg::Name(x), &Ty::Un)
-}
-
-fn is_name_labelled(alloc: Global, judge: &mut Judge, x: u32) -> Result<bool, NoMemory> {
-    is_labelled(alloc, judge, &Msg::Name(x))
+impl Question for OfMessages {
+    fn answer(self, alloc: Global, file: &File) -> Result<u64, NoMemory> {
+        let Some(parts) = sample_of(file) else {
+            return Ok(MISSING);
+        };
+        if file.process.len() < 3 {
+            return Ok(MISSING);
+        }
+        let env = reached(alloc, &file.process, 2)?;
+        Ok(answer_in(alloc, self, &env, &parts)? as u64)
+    }
 }
 
 #[test]
-fn a_judge_answers_as_its_environment_does(rt: HostRuntime) -> Result<(), Fail> {
-    let alloc = rt.alloc();
-    let mut judge = judge_with_key(alloc)?;
-    assert!(rt; is_sealed_name_untrusted(alloc, &mut judge)?);
-    assert!(rt; !is_name_untrusted(alloc, &mut judge, 1)?);
-    assert!(rt; is_name_labelled(alloc, &mut judge, 1)?);
-    Ok(())
+fn keys_make_ciphertexts_untrusted(rt: HostRuntime) {
+    let table = [
+        (
+            "free a; process new (x: Key(Un)); new (y: Un); out a {a}x",
+            1,
+        ),
+        ("free a; process new (x: Key(Un)); new (y: Un); out a x", 0),
+        (
+            "free a; process new (x: Nonce [end a]); new (y: (p: Un, Nonce [end p])); out a (a, x)",
+            1,
+        ),
+        (
+            "free a, b; process new (x: Nonce [end a]); new (y: (p: Un, Nonce [end p])); out a (b, x)",
+            0,
+        ),
+    ];
+    each(&rt, rt.alloc(), OfMessages::Typed, &table);
 }
 
 #[test]
-fn a_judge_wants_checked_names_untrusted(rt: HostRuntime) -> Result<(), Fail> {
+fn each_name_is_a_label(rt: HostRuntime) {
+    let text = "free a; process new (x: Key(Un)); new (y: Un); out a (x, y)";
+    each(&rt, rt.alloc(), OfMessages::Labelled, &[(text, 1)]);
+}
+
+const ENDS: &str = "free a; process new (x: Key(Un)); new (y: Nonce [end x]); out a a";
+
+const CHECKS: &str = "free a; process new (x: Key(Un)); new (y: Nonce [check x]); out a a";
+
+#[test]
+fn checks_want_untrusted_names_and_ends_labels(rt: HostRuntime) {
     let alloc = rt.alloc();
-    let check = Ty::Nonce(one_atom(alloc, Atom::Check(Msg::Name(1)))?);
-    let mut judge = judge_with_key(alloc)?;
-    assert!(rt; !is_good(alloc, &mut judge, &check)?);
-    Ok(())
+    each(&rt, alloc, OfMessages::GoodType, &[(ENDS, 1), (CHECKS, 0)]);
+    each(
+        &rt,
+        alloc,
+        OfMessages::GoodEffect,
+        &[(ENDS, 1), (CHECKS, 0)],
+    );
 }
 
 #[test]
-fn a_name_that_was_taken_away_is_no_label(rt: HostRuntime) -> Result<(), Fail> {
+fn keys_and_untrusted_names_may_be_made(rt: HostRuntime) {
     let alloc = rt.alloc();
-    let mut judge = judge_with_key(alloc)?;
-    assert_eq!(rt; judge.len(), 2);
-    judge.unbind();
-    assert_eq!(rt; judge.len(), 1);
-    assert!(rt; !is_name_labelled(alloc, &mut judge, 1)?);
-    Ok(())
-}
-
-// A Nonce type with the end of this message.
-fn ended(alloc: Global, m: Msg) -> Result<Ty, NoMemory> {
-    Ok(Ty::Nonce(one_atom(alloc, Atom::End(m))?))
-}
-
-// The number of the type with the message for its binder.
-fn opened(alloc: Global, judge: &mut Judge, t: &Ty, m: &Msg) -> Result<TyId, NoMemory> {
-    let t = judge.ty(alloc, t)?;
-    let m = judge.message(m)?;
-    judge.opened(alloc, t, m)
-}
-
-// Whether the first type has, with the first name for its binder, the number of the second.
-fn is_opened_to(alloc: Global, under: &Ty, other: &Ty) -> Result<bool, NoMemory> {
-    let mut judge = Judge::new(alloc, 1)?;
-    let first = opened(alloc, &mut judge, under, &Msg::Name(0))?;
-    let second = judge.ty(alloc, other)?;
-    Ok(first == second)
-}
-
-#[test]
-fn an_opened_type_has_its_number(rt: HostRuntime) -> Result<(), Fail> {
-    let alloc = rt.alloc();
-    let under = ended(alloc, Msg::Bound(0))?;
-    let named = ended(alloc, Msg::Name(0))?;
-    assert!(rt; is_opened_to(alloc, &under, &named)?);
-    assert!(rt; !is_opened_to(alloc, &named, &under)?);
-    Ok(())
-}
-
-// A judge with two untrusted names, and after them one that ends the first.
-fn judge_with_nonce(alloc: Global) -> Result<Judge, NoMemory> {
-    let mut judge = Judge::new(alloc, 2)?;
-    let id = judge.ty(alloc, &ended(alloc, Msg::Name(0))?)?;
-    judge.bind(id)?;
-    Ok(judge)
-}
-
-// Pairs of which the second part ends the first.
-fn ended_pairs(alloc: Global) -> Result<Ty, NoMemory> {
-    let first = Box::new(alloc, Ty::Un)?;
-    let second = ended(alloc, Msg::Bound(0))?;
-    Ok(Ty::Pair(first, Box::new(alloc, second)?))
-}
-
-// The pair of a name with the third.
-fn with_third(alloc: Global, x: u32) -> Result<Msg, NoMemory> {
-    let first = Box::new(alloc, Msg::Name(x))?;
-    Ok(Msg::Pair(first, Box::new(alloc, Msg::Name(2))?))
-}
-
-fn is_pair_typed(alloc: Global, x: u32) -> Result<bool, NoMemory> {
-    let mut judge = judge_with_nonce(alloc)?;
-    let pairs = ended_pairs(alloc)?;
-    let pair = with_third(alloc, x)?;
-    is_typed(alloc, &mut judge, &pair, &pairs)
-}
-
-#[test]
-fn the_second_part_of_a_pair_is_typed_by_the_first(rt: HostRuntime) -> Result<(), Fail> {
-    let alloc = rt.alloc();
-    assert!(rt; is_pair_typed(alloc, 0)?);
-    assert!(rt; !is_pair_typed(alloc, 1)?);
-    Ok(())
+    let untrusted = "free a; process new (x: Key(Un)); new (y: Un); out a x";
+    let key = "free a; process new (x: Nonce [end a]); new (y: Key(Un)); out a x";
+    let unit = "free a; process new (x: Un); new (y: ()); out a a";
+    each(
+        &rt,
+        alloc,
+        OfMessages::Untrusted,
+        &[(untrusted, 1), (key, 0), (unit, 0)],
+    );
+    each(
+        &rt,
+        alloc,
+        OfMessages::Fresh,
+        &[(untrusted, 1), (key, 1), (unit, 0)],
+    );
+    each(
+        &rt,
+        alloc,
+        OfMessages::Promising,
+        &[(untrusted, 0), (key, 1), (unit, 0)],
+    );
 }

@@ -1,96 +1,104 @@
-use spi_scope::{NoMemory, ScopeFault, resolve};
-use spi_text::{Span, Text};
-use spi_tree::{Decl, SMsg, SProc, STy, SWord, Tree};
+//! Files by example: where their parts stand, and which names are in scope.
+
+use crate::given::{Line, MISSING, NoMemory, Question, each, each_line, shows};
+use spi_gen::sessions;
+use spi_opponent::is_opponent;
+use spi_scope::{File, resolve};
+use spi_tree::tokens_of;
 use std::alloc::Global;
-use std::test::Fail;
 
-fn span(from: u32, to: u32) -> Span {
-    Span { from, to }
+/// Where a part of a file begins.
+#[derive(Clone, Copy)]
+enum Place {
+    Process,
+    Opponent,
+    Step,
+    Rule,
 }
 
-fn word(alloc: Global, spelling: &str, span: Span) -> Result<SWord, NoMemory> {
-    Ok(SWord {
-        word: Text::of(alloc, spelling)?,
-        span,
-    })
+impl Question for Place {
+    fn answer(self, _alloc: Global, file: &File) -> Result<u64, NoMemory> {
+        let place = match self {
+            Place::Process => file.process_place(1),
+            Place::Opponent => file.opponent_place(0),
+            Place::Step => file.step_place(0),
+            Place::Rule => file.rule_place(1),
+        };
+        Ok(place.from as u64)
+    }
 }
 
-fn name(alloc: Global, spelling: &str, span: Span) -> Result<SMsg, NoMemory> {
-    Ok(SMsg::Name {
-        name: word(alloc, spelling, span)?,
-        span,
-    })
+const WHOLE: &str =
+    "free a; process begin a; stop opponent out a a schedule act 0; derivation ProcBegin ProcStop";
+
+#[test]
+fn parts_have_places(rt: HostRuntime) {
+    let alloc = rt.alloc();
+    each(
+        &rt,
+        alloc,
+        Place::Process,
+        &[(WHOLE, 25), ("process stop", 0)],
+    );
+    each(&rt, alloc, Place::Opponent, &[(WHOLE, 39)]);
+    each(&rt, alloc, Place::Step, &[(WHOLE, 56)]);
+    each(&rt, alloc, Place::Rule, &[(WHOLE, 84)]);
 }
 
-fn output(alloc: Global, datum: SMsg) -> Result<SProc, NoMemory> {
-    Ok(SProc::Out {
-        channel: name(alloc, "a", span(37, 38))?,
-        datum,
-        span: span(33, 40),
-    })
-}
+/// The spelling of the last name in scope at node 1.
+#[derive(Clone, Copy)]
+struct LastName;
 
-/// `new (SPELLING: Un); out a x`, from place 16 on
-fn one_binder(alloc: Global, spelling: &str) -> Result<SProc, NoMemory> {
-    let out = output(alloc, name(alloc, "x", span(39, 40))?)?;
-    Ok(SProc::New {
-        name: word(alloc, spelling, span(21, 22))?,
-        ty: STy::Un { span: span(24, 26) },
-        then: Box::new(alloc, out)?,
-        span: span(16, 40),
-    })
-}
-
-/// `free a;` and a process
-fn file(alloc: Global, process: SProc) -> Result<Tree, NoMemory> {
-    let mut decls = Vec::new(alloc);
-    decls.push(Decl::Free {
-        first: word(alloc, "a", span(5, 6))?,
-        more: Vec::new(alloc),
-        span: span(0, 7),
-    })?;
-    Ok(Tree {
-        version: 1,
-        decls,
-        process,
-        opponent: None,
-        schedule: None,
-        derivation: None,
-        span: span(0, 40),
-    })
+impl Line for LastName {
+    fn line(self, alloc: Global, _text: &str, file: &File) -> Result<Vec<u8>, NoMemory> {
+        let names = file.scope_names(alloc, 1)?;
+        match names.last() {
+            Some(name) => name.as_str().as_bytes().to_vec(alloc),
+            None => Ok(Vec::new(alloc)),
+        }
+    }
 }
 
 #[test]
-fn a_bound_name_is_in_scope_behind_its_binder(rt: HostRuntime) -> Result<(), Fail> {
-    let alloc = rt.alloc();
-    let tree = file(alloc, one_binder(alloc, "x")?)?;
-    match resolve(alloc, &tree) {
-        Ok(file) => {
-            assert_eq!(rt; file.names.len(), 1);
-            assert_eq!(rt; file.process.len(), 2);
-            assert_eq!(rt; file.process_place(1), span(33, 40));
-            assert_eq!(rt; file.process_place(2), span(0, 0));
-            let names = file.scope_names(alloc, 1)?;
-            assert_eq!(rt; names.len(), 2);
-            assert_eq!(rt; names[0].as_str(), "a");
-            assert_eq!(rt; names[1].as_str(), "x");
+fn a_bound_name_is_in_scope_behind_its_binder(rt: HostRuntime) {
+    let table = [
+        ("free a; process new (x: Un); out a x", "x"),
+        ("free a; process begin a; new (x: Un); out a x", "a"),
+    ];
+    each_line(&rt, rt.alloc(), LastName, &table);
+}
+
+/// The first node that is in no opponent.
+#[derive(Clone, Copy)]
+struct Offence;
+
+impl Question for Offence {
+    fn answer(self, _alloc: Global, file: &File) -> Result<u64, NoMemory> {
+        match is_opponent(&file.process) {
+            Ok(()) => Ok(MISSING),
+            Err(fault) => Ok(fault.node as u64),
         }
-        Err(_) => assert!(rt; false),
     }
-    Ok(())
 }
 
 #[test]
-fn an_unknown_name_is_told_with_its_place(rt: HostRuntime) -> Result<(), Fail> {
-    let alloc = rt.alloc();
-    let tree = file(alloc, one_binder(alloc, "y")?)?;
-    let answer = resolve(alloc, &tree);
-    match &answer {
-        Err(ScopeFault::UnknownName { span: at, word }) => {
-            assert_eq!(rt; *at, span(39, 40));
-            assert_eq!(rt; word.as_str(), "x");
-        }
-        _ => assert!(rt; false),
-    }
-    Ok(())
+fn an_opponent_neither_begins_nor_has_types(rt: HostRuntime) {
+    let table = [
+        ("free a; process new (x: Un); out a x", MISSING),
+        ("free a; process begin a; stop", 0),
+        ("free a; process new (x: Un); new (y: Key(Un)); stop", 1),
+    ];
+    each(&rt, rt.alloc(), Offence, &table);
+}
+
+/// Whether the tree of two generated sessions has so many tokens, and stands for a file.
+fn are_sessions(alloc: Global, tokens: usize) -> Result<bool, NoMemory> {
+    let tree = sessions(alloc, 2)?;
+    Ok(tokens_of(alloc, &tree)?.len() == tokens && resolve(alloc, &tree).is_ok())
+}
+
+#[test]
+fn generated_sessions_are_a_file(rt: HostRuntime) {
+    let holds = matches!(are_sessions(rt.alloc(), 298), Ok(true));
+    shows(&rt, "two sessions", holds);
 }

@@ -1,121 +1,152 @@
-// Shared terms by example.
+//! Shared terms by example.
 
-use spi_intern::{MsgPart, NoMemory, Store, TyPart};
-use spi_term::{Atom, Effect, Msg, Ty};
+use crate::given::{MISSING, NoMemory, Question, Sample, each, sample_of};
+use spi_intern::{MsgPart, Store, TyPart};
+use spi_scope::File;
+use spi_term::{Msg, Ty};
 use std::alloc::Global;
-use std::test::Fail;
 
-// A Nonce type with an end and a many of each of these names.
-fn nonce(alloc: Global, ends: &[u32], manys: &[u32]) -> Result<Ty, NoMemory> {
-    let mut atoms = Vec::new(alloc);
-    for x in ends {
-        atoms.push(Atom::End(Msg::Name(*x)))?;
-    }
-    for x in manys {
-        atoms.push(Atom::Many(Msg::Name(*x)))?;
-    }
-    Ok(Ty::Nonce(Effect { atoms }))
+/// What is asked of a store with the parts of a sample.
+#[derive(Clone, Copy)]
+enum OfStores {
+    OneMessage,
+    OneType,
+    Distinct,
+    Part,
+    TypePart,
+    Name,
+    Pair,
+    Sum,
+    Key,
+    Nonce,
 }
 
-// Whether two Nonce types with such ends have one number.
-fn is_one_type(alloc: Global, store: &mut Store, xs: &[u32], ys: &[u32]) -> Result<bool, NoMemory> {
-    let t = nonce(alloc, xs, &[0, 0])?;
-    let u = nonce(alloc, ys, &[0])?;
-    let first = store.ty(alloc, &t)?;
-    let second = store.ty(alloc, &u)?;
-    Ok(first == second)
-}
-
-// Whether two messages have one number.
-fn is_one(store: &mut Store, m: &Msg, n: &Msg) -> Result<bool, NoMemory> {
+fn is_one_message(store: &mut Store, m: &Msg, n: &Msg) -> Result<bool, NoMemory> {
     let first = store.message(m)?;
     let second = store.message(n)?;
+    Ok(first == second && first.place() == second.place())
+}
+
+fn is_one_type(alloc: Global, store: &mut Store, t: &Ty, u: &Ty) -> Result<bool, NoMemory> {
+    let first = store.ty(alloc, t)?;
+    let second = store.ty(alloc, u)?;
     Ok(first == second)
 }
 
-#[test]
-fn equal_messages_have_equal_numbers(rt: HostRuntime) -> Result<(), Fail> {
-    let mut store = Store::new(rt.alloc());
-    assert!(rt; is_one(&mut store, &Msg::Name(0), &Msg::Name(0))?);
-    assert!(rt; !is_one(&mut store, &Msg::Name(0), &Msg::Unit)?);
-    Ok(())
-}
-
-#[test]
-fn equal_counts_have_equal_numbers(rt: HostRuntime) -> Result<(), Fail> {
-    let alloc = rt.alloc();
-    let mut store = Store::new(alloc);
-    assert!(rt; is_one_type(alloc, &mut store, &[0, 1], &[1, 0])?);
-    assert!(rt; !is_one_type(alloc, &mut store, &[0, 0], &[0])?);
-    Ok(())
-}
-
-// The pair of a type with itself, so many times over.
-fn doubled(alloc: Global, times: u32) -> Result<Ty, NoMemory> {
-    let mut t = Ty::Un;
-    for _ in 0..times {
-        let first = t.copy(alloc)?;
-        t = Ty::Pair(Box::new(alloc, first)?, Box::new(alloc, t)?);
-    }
-    Ok(t)
-}
-
-// A message under so many hashes.
-fn hashed(alloc: Global, times: u32) -> Result<Msg, NoMemory> {
-    let mut m = Msg::Unit;
-    for _ in 0..times {
-        m = Msg::Hash(Box::new(alloc, m)?);
-    }
-    Ok(m)
-}
-
-fn twice(alloc: Global) -> Result<Msg, NoMemory> {
-    let first = Box::new(alloc, Msg::Name(0))?;
-    Ok(Msg::Pair(first, Box::new(alloc, Msg::Name(0))?))
-}
-
-fn count_with(store: &mut Store, m: &Msg) -> Result<u64, NoMemory> {
+/// How many terms have numbers once this message has one.
+fn distinct(store: &mut Store, m: &Msg) -> Result<u64, NoMemory> {
     store.message(m)?;
     Ok(store.distinct())
 }
 
-#[test]
-fn different_terms_and_their_parts_are_counted(rt: HostRuntime) -> Result<(), Fail> {
-    let alloc = rt.alloc();
-    let mut store = Store::new(alloc);
-    let t = doubled(alloc, 8)?;
-    store.ty(alloc, &t)?;
-    assert_eq!(rt; store.distinct(), 9);
-    assert_eq!(rt; count_with(&mut store, &twice(alloc)?)?, 11);
-    let deep = hashed(alloc, 999)?;
-    assert_eq!(rt; count_with(&mut store, &deep)?, 1011);
-    Ok(())
-}
-
-// The outermost constructor of a message.
-fn part_of(store: &mut Store, m: &Msg) -> Result<MsgPart, NoMemory> {
+/// Whether the message is a hash.
+fn is_hash(store: &mut Store, m: &Msg) -> Result<bool, NoMemory> {
     let id = store.message(m)?;
-    Ok(store.part(id))
+    Ok(matches!(store.part(id), MsgPart::Hash(_)))
 }
 
-// How many atoms of a Nonce type the store tells.
-fn atoms_told(alloc: Global, store: &mut Store, t: &Ty) -> Result<usize, NoMemory> {
+/// How many atoms of a Nonce type the store tells.
+fn atoms_told(alloc: Global, store: &mut Store, t: &Ty) -> Result<u64, NoMemory> {
     let id = store.ty(alloc, t)?;
     match store.ty_part(id) {
-        TyPart::Nonce(ids) => Ok(ids.len()),
-        _ => Ok(0),
+        TyPart::Nonce(ids) => Ok(ids.len() as u64),
+        _ => Ok(MISSING),
     }
 }
 
+fn is_named(store: &mut Store, m: &Msg) -> Result<bool, NoMemory> {
+    let made = store.message_over(MsgPart::Name(0))?;
+    Ok(made == store.message(m)?)
+}
+
+/// Whether the second type is the pair of the first with itself.
+fn is_paired(alloc: Global, store: &mut Store, t: &Ty, u: &Ty) -> Result<bool, NoMemory> {
+    let id = store.ty(alloc, t)?;
+    let made = store.pair_over(id, id)?;
+    Ok(made == store.ty(alloc, u)?)
+}
+
+fn is_summed(alloc: Global, store: &mut Store, t: &Ty, u: &Ty) -> Result<bool, NoMemory> {
+    let id = store.ty(alloc, t)?;
+    let made = store.sum_over(id, id)?;
+    Ok(made == store.ty(alloc, u)?)
+}
+
+fn is_keyed(alloc: Global, store: &mut Store, t: &Ty, u: &Ty) -> Result<bool, NoMemory> {
+    let id = store.ty(alloc, t)?;
+    let made = store.key_over(id)?;
+    Ok(made == store.ty(alloc, u)?)
+}
+
+/// Whether the type is a Nonce that promises nothing.
+fn is_bare(alloc: Global, store: &mut Store, u: &Ty) -> Result<bool, NoMemory> {
+    let made = store.nonce_over(alloc, Vec::new(alloc))?;
+    Ok(made == store.ty(alloc, u)?)
+}
+
+fn answer_by(
+    alloc: Global,
+    question: OfStores,
+    store: &mut Store,
+    parts: &Sample<'_>,
+) -> Result<u64, NoMemory> {
+    let (t, u) = (parts.first, parts.second);
+    match question {
+        OfStores::OneMessage => Ok(is_one_message(store, parts.channel, parts.datum)? as u64),
+        OfStores::OneType => Ok(is_one_type(alloc, store, t, u)? as u64),
+        OfStores::Distinct => distinct(store, parts.datum),
+        OfStores::Part => Ok(is_hash(store, parts.datum)? as u64),
+        OfStores::TypePart => atoms_told(alloc, store, t),
+        OfStores::Name => Ok(is_named(store, parts.datum)? as u64),
+        OfStores::Pair => Ok(is_paired(alloc, store, t, u)? as u64),
+        OfStores::Sum => Ok(is_summed(alloc, store, t, u)? as u64),
+        OfStores::Key => Ok(is_keyed(alloc, store, t, u)? as u64),
+        OfStores::Nonce => Ok(is_bare(alloc, store, u)? as u64),
+    }
+}
+
+impl Question for OfStores {
+    fn answer(self, alloc: Global, file: &File) -> Result<u64, NoMemory> {
+        let Some(parts) = sample_of(file) else {
+            return Ok(MISSING);
+        };
+        answer_by(alloc, self, &mut Store::new(alloc), &parts)
+    }
+}
+
+const TURNED: &str =
+    "free a, b; process new (x: Nonce [end a, end b]); new (y: Nonce [end b, end a]); out a a";
+
+const TWICE: &str =
+    "free a, b; process new (x: Nonce [end a, end a]); new (y: Nonce [end a]); out a (a, a)";
+
 #[test]
-fn parts_are_told(rt: HostRuntime) -> Result<(), Fail> {
+fn equal_terms_have_equal_numbers(rt: HostRuntime) {
     let alloc = rt.alloc();
-    let mut store = Store::new(alloc);
-    let name = store.message(&Msg::Name(3))?;
-    assert!(rt; part_of(&mut store, &Msg::Name(3))? == MsgPart::Name(3));
-    let hash = Msg::Hash(Box::new(alloc, Msg::Name(3))?);
-    assert!(rt; part_of(&mut store, &hash)? == MsgPart::Hash(name));
-    let t = nonce(alloc, &[0, 0], &[0, 0])?;
-    assert_eq!(rt; atoms_told(alloc, &mut store, &t)?, 3);
-    Ok(())
+    each(&rt, alloc, OfStores::OneMessage, &[(TURNED, 1), (TWICE, 0)]);
+    each(&rt, alloc, OfStores::OneType, &[(TURNED, 1), (TWICE, 0)]);
+    each(&rt, alloc, OfStores::Distinct, &[(TURNED, 1), (TWICE, 2)]);
+}
+
+#[test]
+fn parts_are_told(rt: HostRuntime) {
+    let alloc = rt.alloc();
+    let hash =
+        "version 2; free a; process new (x: Nonce [end a, many a, many a]); new (y: Un); out a hash(a)";
+    each(&rt, alloc, OfStores::Part, &[(hash, 1), (TURNED, 0)]);
+    each(&rt, alloc, OfStores::TypePart, &[(hash, 2), (TURNED, 2)]);
+}
+
+#[test]
+fn terms_are_made_over_numbers(rt: HostRuntime) {
+    let alloc = rt.alloc();
+    let pair = "free a; process new (x: Un); new (y: (p: Un, Un)); out a a";
+    let sum = "free a; process new (x: ()); new (y: (() + ())); out a ()";
+    let key = "free a; process new (x: Un); new (y: Key(Un)); out a a";
+    let nonce = "free a; process new (x: Un); new (y: Nonce []); out a a";
+    each(&rt, alloc, OfStores::Name, &[(pair, 1), (sum, 0)]);
+    each(&rt, alloc, OfStores::Pair, &[(pair, 1), (sum, 0)]);
+    each(&rt, alloc, OfStores::Sum, &[(sum, 1), (pair, 0)]);
+    each(&rt, alloc, OfStores::Key, &[(key, 1), (pair, 0)]);
+    each(&rt, alloc, OfStores::Nonce, &[(nonce, 1), (key, 0)]);
 }

@@ -16,7 +16,7 @@ ghost use Rattle.spi_fault.specs.Checks.{process_of};
 ghost use Rattle.spi_fault.specs.Faults.{the_message, subject, thing};
 ghost use Rattle.spi_fault.specs.Trying.{check as check_of, IsOf, CanBe, Asked, Fits, Tells, TellsAtom};
 
-use crate::check::Check;
+use crate::check::{Check, boxed};
 use crate::least::{Kind, least_text};
 use crate::{NoMemory, Shown};
 use spi_effect::minus;
@@ -85,7 +85,7 @@ fn is_scrutinee(
 fn is_key_of(alloc: Global, env: &Env, m: &Msg, t: &Ty) -> Result<bool, NoMemory>
     ensures { IfOk result (λ b. IsTrue b ↔ (HasType [] env.now (message m.now) (key (type_of t.now)) ⊎ (HasType [] env.now (message m.now) un × (type_of t.now ≡ un)))) }
 {
-    let wanted = Ty::Key(Box::new(alloc, t.copy(alloc)?)?);
+    let wanted = Ty::Key(boxed(alloc, t.copy(alloc))?);
     if has_type(alloc, env, m, &wanted)? {
         return Ok(true);
     }
@@ -248,6 +248,15 @@ fn spoiled(alloc: Global, file: &File, node: u32, kind: Kind) -> Result<Option<F
     }
 }
 
+// The effect of one check of a name.
+fn one_check(alloc: Global, name: u32) -> Result<Effect, NoMemory>
+    ensures { IfOk result (λ e. effect_of e ≡ Term.checks (Term.name name) ∷ []) }
+{
+    let mut atoms = Vec::new(alloc);
+    atoms.push(Atom::Check(Msg::Name(name)))?;
+    Ok(Effect { atoms })
+}
+
 // The same, with one check of this name taken off.
 fn unchecked(alloc: Global, file: &File, node: u32, name: u32) -> Result<Option<Found>, NoMemory>
     requires kind { name + 1 < 2 ^ 32 }
@@ -258,9 +267,7 @@ fn unchecked(alloc: Global, file: &File, node: u32, name: u32) -> Result<Option<
     let _ = file.process.len();
     match effect_at(alloc, &file.process, node)? {
         Some(effect) => {
-            let check = Effect {
-                atoms: Vec::from_array(alloc, [Atom::Check(Msg::Name(name))])?,
-            };
+            let check = one_check(alloc, name)?;
             let rest = minus(alloc, &effect, &check)?;
             shown_atom(alloc, file, node, Kind::Naming(name, 1), &rest)
         }

@@ -2,7 +2,7 @@
 use spi_term::{Atom, Msg};
 
 /// Why a process isn't derivable with the empty effect.
-#[derive(Clone, Copy, Debug, PartialEq, Eq)]
+#[derive(Clone, Copy, PartialEq, Eq)]
 pub enum Reason {
     /// The channel doesn't have type `Un`.
     ChannelNotUn,
@@ -33,14 +33,22 @@ pub enum Reason {
 }
 
 /// What a fault shows.
-#[derive(Debug, Drop)]
 pub enum Shown {
     Message(Msg),
     Atom(Atom),
 }
 
+impl Drop for Shown {
+    fn drop(self) {
+        match self {
+            Shown::Message(_) => {}
+            Shown::Atom(_) => {}
+        }
+    }
+}
+
 /// A fault of a process.
-#[derive(Debug, Drop)]
+#[derive(Drop)]
 pub struct Fault {
     pub reason: Reason,
     /// The number of the node, in preorder from 0.

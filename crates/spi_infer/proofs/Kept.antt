@@ -3,6 +3,11 @@ use Rattle.std.proofs.Common.{◌≡◌, ℕ, ◌<◌, ◌⊎◌, inl, inr, ⊎_
 use Rattle.std.specs.Prelude.{slice_get, nat_eq, if◌then◌else◌, IfSome, IfNone, OnOk, ⊤}
 use Rattle.std.proofs.lemmas.Bool.{eqb-true}
 use Rattle.indexmap.specs.IndexMap.{get}
+use Rattle.spi_term.specs.declared.term.Msg.{Msg}
+use Rattle.spi_term.specs.declared.term.Ty.{Ty}
+use Rattle.spi_term.specs.declared.term.Form.{Form}
+use Rattle.spi_term.specs.declared.term.Form.TheVariants as F
+use Rattle.spi_term.specs.View.{form_of}
 use Rattle.spi_term.specs.Term.{Message, name, Atom, Effect, nonce, Prefix, Recvs, Serves, Splits, Selects, Decrypts, Checks, Begins, Ends, EndManys, Casts, Makes}
 use Rattle.spi_term.specs.Lists.{in_first, in_later}
 use Rattle.spi_term.specs.Spelling.{Shape, leaf_at, prefix_at, fork_at}
@@ -160,6 +165,27 @@ abbrev pub IsQuiet : Shape → Type 0
 IsQuiet (leaf_at k l) = ⊤
 IsQuiet (prefix_at k p b) = IsQuietForm p
 IsQuiet (fork_at k f a r) = ⊤
+
+-- a form that is none of the six that keep something
+pub quiet_rest : (k : ℕ) (f : Form)
+    → ((m n : Msg) (b : ℕ) → f ≡ F.Check m n b → ⊥) → ((m : Msg) (b : ℕ) → f ≡ F.Begin m b → ⊥) → ((m : Msg) (b : ℕ) → f ≡ F.End m b → ⊥)
+    → ((m : Msg) (b : ℕ) → f ≡ F.EndMany m b → ⊥) → ((m : Msg) (t : Ty) (b : ℕ) → f ≡ F.Cast m t b → ⊥) → ((t : Ty) (b : ℕ) → f ≡ F.Fresh t b → ⊥)
+    → IsQuiet (form_of k f)
+quiet_rest k (F.Send a b) h i j l o p = tt
+quiet_rest k (F.Recv m t b) h i j l o p = tt
+quiet_rest k (F.Serve m t b) h i j l o p = tt
+quiet_rest k (F.Split m t u b) h i j l o p = tt
+quiet_rest k (F.Select m t n u b) h i j l o p = tt
+quiet_rest k (F.Branch m t a u b) h i j l o p = tt
+quiet_rest k (F.Decrypt m t n b) h i j l o p = tt
+quiet_rest k (F.Check m n b) h i j l o p = absurd (h m n b refl)
+quiet_rest k (F.Begin m b) h i j l o p = absurd (i m b refl)
+quiet_rest k (F.End m b) h i j l o p = absurd (j m b refl)
+quiet_rest k (F.EndMany m b) h i j l o p = absurd (l m b refl)
+quiet_rest k (F.Cast m t b) h i j l o p = absurd (o m t b refl)
+quiet_rest k (F.Fresh t b) h i j l o p = absurd (p t b refl)
+quiet_rest k (F.Par a b) h i j l o p = tt
+quiet_rest k F.Stop h i j l o p = tt
 
 quiet_form : (s : Store) (At : ℕ → Message → Type 0) (k : ℕ) (p : Prefix) (paid : Option Effect) (own : Own) → IsQuietForm p → FormFits s At k p paid own
 quiet_form s At k (Recvs m t) paid own h = tt

@@ -133,17 +133,7 @@ pub fn act_on(
         Form::Stop => act_on_none(alloc, note.fine, stack),
         Form::Branch { .. } => act_on_two(node, note.fine, stack),
         Form::Par { .. } => act_on_two(node, note.fine, stack),
-        Form::Recv { .. } => act_on_one(store, keys, node, note, stack),
-        Form::Serve { .. } => act_on_one(store, keys, node, note, stack),
-        Form::Split { .. } => act_on_one(store, keys, node, note, stack),
-        Form::Select { .. } => act_on_one(store, keys, node, note, stack),
-        Form::Decrypt { .. } => act_on_one(store, keys, node, note, stack),
-        Form::Check { .. } => act_on_one(store, keys, node, note, stack),
-        Form::Begin { .. } => act_on_one(store, keys, node, note, stack),
-        Form::End { .. } => act_on_one(store, keys, node, note, stack),
-        Form::EndMany { .. } => act_on_one(store, keys, node, note, stack),
-        Form::Cast { .. } => act_on_one(store, keys, node, note, stack),
-        Form::Fresh { .. } => act_on_one(store, keys, node, note, stack),
+        _ => act_on_one(store, keys, node, note, stack),
     }
 }
 

@@ -19,26 +19,34 @@ use spi_message::{Judge, NoMemory};
 use spi_term::{Form, Msg, Node, Ty};
 use std::alloc::Global;
 
+// An equal type on the heap.
+fn boxed(alloc: Global, t: &Ty) -> Result<Box<Ty>, NoMemory>
+    ensures { IfOk result (λ b. type_of b.value ≡ type_of t.now) }
+{
+    let copy = t.copy(alloc)?;
+    Ok(Box::new(alloc, copy)?)
+}
+
 fn pair_type(alloc: Global, first: &Ty, second: &Ty) -> Result<Ty, NoMemory>
     ensures { IfOk result (λ r. type_of r ≡ pair_ty (type_of first.now) (type_of second.now)) }
 {
-    let a = Box::new(alloc, first.copy(alloc)?)?;
-    let b = Box::new(alloc, second.copy(alloc)?)?;
+    let a = boxed(alloc, first)?;
+    let b = boxed(alloc, second)?;
     Ok(Ty::Pair(a, b))
 }
 
 fn sum_type(alloc: Global, left: &Ty, right: &Ty) -> Result<Ty, NoMemory>
     ensures { IfOk result (λ r. type_of r ≡ sum_ty (type_of left.now) (type_of right.now)) }
 {
-    let a = Box::new(alloc, left.copy(alloc)?)?;
-    let b = Box::new(alloc, right.copy(alloc)?)?;
+    let a = boxed(alloc, left)?;
+    let b = boxed(alloc, right)?;
     Ok(Ty::Sum(a, b))
 }
 
 fn key_of_type(alloc: Global, t: &Ty) -> Result<Ty, NoMemory>
     ensures { IfOk result (λ r. type_of r ≡ key (type_of t.now)) }
 {
-    Ok(Ty::Key(Box::new(alloc, t.copy(alloc)?)?))
+    Ok(Ty::Key(boxed(alloc, t)?))
 }
 
 fn are_un(first: &Ty, second: &Ty) -> bool
@@ -128,13 +136,7 @@ pub fn nonce_at(judge: &Judge, m: &Msg) -> Option<TyId>
 {
     match m {
         Msg::Name(x) => nonce_at_name(judge, *x),
-        Msg::Bound(_) => None,
-        Msg::Unit => None,
-        Msg::Pair(_, _) => None,
-        Msg::Inl(_) => None,
-        Msg::Inr(_) => None,
-        Msg::Enc(_, _) => None,
-        Msg::Hash(_) => None,
+        _ => None,
     }
 }
 
@@ -411,11 +413,8 @@ fn is_cast_type_ok(alloc: Global, judge: &mut Judge, t: &Ty) -> Result<bool, NoM
 {
     match t {
         Ty::Un => Ok(true),
-        Ty::Unit => Ok(false),
-        Ty::Pair(_, _) => Ok(false),
-        Ty::Sum(_, _) => Ok(false),
-        Ty::Key(_) => Ok(false),
         Ty::Nonce(_) => is_good(alloc, judge, t),
+        _ => Ok(false),
     }
 }
 

@@ -66,13 +66,7 @@ pub fn enter(alloc: Global, judge: &mut Judge, node: &Node) -> Result<(), NoMemo
         Form::Decrypt { ty, .. } => bind_type(alloc, judge, ty),
         Form::Cast { ty, .. } => bind_type(alloc, judge, ty),
         Form::Fresh { ty, .. } => bind_type(alloc, judge, ty),
-        Form::Send { .. } => Ok(()),
-        Form::Check { .. } => Ok(()),
-        Form::Begin { .. } => Ok(()),
-        Form::End { .. } => Ok(()),
-        Form::EndMany { .. } => Ok(()),
-        Form::Par { .. } => Ok(()),
-        Form::Stop => Ok(()),
+        _ => Ok(()),
     }
 }
 

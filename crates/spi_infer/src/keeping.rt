@@ -152,15 +152,7 @@ fn own_of(alloc: Global, judge: &mut Judge, keys: &mut Keys, node: &Node) -> Res
         Form::EndMany { label, .. } => end_own(judge, keys, label),
         Form::Cast { ty, .. } => cast_own(alloc, judge, keys, ty),
         Form::Fresh { .. } => new_own(judge, keys, node.scope),
-        Form::Send { .. } => Ok(Own::Nothing),
-        Form::Recv { .. } => Ok(Own::Nothing),
-        Form::Serve { .. } => Ok(Own::Nothing),
-        Form::Split { .. } => Ok(Own::Nothing),
-        Form::Select { .. } => Ok(Own::Nothing),
-        Form::Branch { .. } => Ok(Own::Nothing),
-        Form::Decrypt { .. } => Ok(Own::Nothing),
-        Form::Par { .. } => Ok(Own::Nothing),
-        Form::Stop => Ok(Own::Nothing),
+        _ => Ok(Own::Nothing),
     }
 }
 

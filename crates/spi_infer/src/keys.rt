@@ -11,11 +11,16 @@ use spi_term::Msg;
 use std::alloc::{AllocError, Global};
 
 /// The keys of messages that may stand in effects, by their numbers.
-#[derive(Drop)]
 pub struct Keys {
     keys: IndexMap<usize, u64>,
     ids: IndexMap<usize, MsgId>,
     ghost held: { (i k : ℕ) → get nat_eq keys i ≡ Some k → place_in (get nat_eq ids i) ≡ Some i },
+}
+
+impl Drop for Keys {
+    fn drop(self) {
+        let Keys { keys: _, ids: _ } = self;
+    }
 }
 
 /// The least number above the names of a message.

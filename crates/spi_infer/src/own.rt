@@ -8,7 +8,7 @@ use crate::keys::Keys;
 use spi_intern::{MsgId, TyId};
 
 /// What a form adds to the effect of its process or takes off, by the numbers of a store.
-#[derive(Clone, Copy, Debug)]
+#[derive(Clone, Copy)]
 pub enum Own {
     /// Nothing.
     Nothing,
@@ -29,10 +29,7 @@ impl Own {
     {
         match self {
             Own::Label(id) => Some(id),
-            Own::Nothing => None,
-            Own::Checked(_, _) => None,
-            Own::Cast(_) => None,
-            Own::Made(_) => None,
+            _ => None,
         }
     }
 
@@ -43,10 +40,7 @@ impl Own {
     {
         match self {
             Own::Cast(t) => Some(t),
-            Own::Nothing => None,
-            Own::Label(_) => None,
-            Own::Checked(_, _) => None,
-            Own::Made(_) => None,
+            _ => None,
         }
     }
 
@@ -56,17 +50,14 @@ impl Own {
     {
         match self {
             Own::Made(id) => Some(id),
-            Own::Nothing => None,
-            Own::Label(_) => None,
-            Own::Checked(_, _) => None,
-            Own::Cast(_) => None,
+            _ => None,
         }
     }
 }
 
 /// What the forward pass keeps of a node: whether what the form asks for itself holds, and where it does what it adds to
 /// an effect or takes off.
-#[derive(Clone, Copy, Debug)]
+#[derive(Clone, Copy)]
 pub struct OwnNote {
     pub fine: bool,
     pub own: Own,
@@ -74,8 +65,13 @@ pub struct OwnNote {
 
 /// What the forward pass keeps of a process: what it keeps of each node, and the keys of the messages that may stand in
 /// effects.
-#[derive(Drop)]
 pub struct Noted {
     pub notes: Vec<OwnNote>,
     pub keys: Keys,
+}
+
+impl Drop for Noted {
+    fn drop(self) {
+        let Noted { notes: _, keys: _ } = self;
+    }
 }

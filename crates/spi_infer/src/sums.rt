@@ -209,10 +209,7 @@ pub fn checked(store: &Store, keys: &Keys, own: Own, sum: Sum) -> Result<Option<
 {
     match own {
         Own::Checked(m, paid) => after_check(store, keys, m, paid, sum),
-        Own::Nothing => Ok(None),
-        Own::Label(_) => Ok(None),
-        Own::Cast(_) => Ok(None),
-        Own::Made(_) => Ok(None),
+        _ => Ok(None),
     }
 }
 
@@ -309,10 +306,7 @@ pub fn after_form(
         Form::EndMany { .. } => ended_many(keys, own, sum),
         Form::Cast { .. } => cast(scope, store, keys, own, sum),
         Form::Fresh { .. } => Ok(made(scope, keys, own, sum)),
-        Form::Branch { .. } => Ok(None),
-        Form::Send { .. } => Ok(None),
-        Form::Par { .. } => Ok(None),
-        Form::Stop => Ok(None),
+        _ => Ok(None),
     }
 }
 
@@ -324,18 +318,6 @@ pub fn both_form(node: &Node, a: Sum, b: Sum) -> Result<Option<Sum>, NoMemory>
     match &node.form {
         Form::Par { .. } => Ok(Some(Sum::joined(a, b)?)),
         Form::Branch { .. } => after_case(node.scope, a, b),
-        Form::Recv { .. } => Ok(None),
-        Form::Serve { .. } => Ok(None),
-        Form::Split { .. } => Ok(None),
-        Form::Select { .. } => Ok(None),
-        Form::Decrypt { .. } => Ok(None),
-        Form::Check { .. } => Ok(None),
-        Form::Begin { .. } => Ok(None),
-        Form::End { .. } => Ok(None),
-        Form::EndMany { .. } => Ok(None),
-        Form::Cast { .. } => Ok(None),
-        Form::Fresh { .. } => Ok(None),
-        Form::Send { .. } => Ok(None),
-        Form::Stop => Ok(None),
+        _ => Ok(None),
     }
 }

@@ -12,7 +12,7 @@ use std::alloc::Global;
 
 /// The number of a type that waits for the second process of a case, and the number of the node at which that process
 /// begins.
-#[derive(Clone, Copy, Debug)]
+#[derive(Clone, Copy)]
 pub struct Pending {
     pub at: u32,
     pub ty: TyId,
@@ -51,20 +51,7 @@ pub fn put_off(
             on_right,
             ..
         } => push_pending(alloc, judge, *on_right, right, pending),
-        Form::Recv { .. } => Ok(()),
-        Form::Serve { .. } => Ok(()),
-        Form::Split { .. } => Ok(()),
-        Form::Select { .. } => Ok(()),
-        Form::Decrypt { .. } => Ok(()),
-        Form::Cast { .. } => Ok(()),
-        Form::Fresh { .. } => Ok(()),
-        Form::Send { .. } => Ok(()),
-        Form::Check { .. } => Ok(()),
-        Form::Begin { .. } => Ok(()),
-        Form::End { .. } => Ok(()),
-        Form::EndMany { .. } => Ok(()),
-        Form::Par { .. } => Ok(()),
-        Form::Stop => Ok(()),
+        _ => Ok(()),
     }
 }
 

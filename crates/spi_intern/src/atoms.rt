@@ -14,7 +14,7 @@ use spi_term::{Atom, Effect};
 use std::alloc::Global;
 
 /// An atom of an effect, with the number of its message.
-#[derive(Clone, Copy, Debug, PartialEq, Eq, PartialOrd, Ord, Hash)]
+#[derive(Clone, Copy, PartialEq, Eq, PartialOrd, Ord, Hash)]
 pub enum AtomId {
     End(MsgId),
     Check(MsgId),

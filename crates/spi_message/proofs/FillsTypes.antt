@@ -33,6 +33,9 @@ atom_keeps k i a (says_check e) = says_check (k.at _ _ e)
 atom_keeps k i a (says_many e) = says_many (k.at _ _ e)
 
 -- one atom
+pub message_fills : {ms ns : List Message} {vs : List MsgId} {depth : ℕ} {a b : AtomId} {m r : MsgId} → m ≡ message_in a → a ≡ b → FillsMessage ms ns vs depth m r → FillsMessage ms ns vs depth (message_in b) r
+message_fills {ms} {ns} {vs} {depth} {r = r} q e f = subst (λ x. FillsMessage ms ns vs depth x r) (q ∙ ap message_in e) f
+
 pub fills_end : {ms ns : List Message} {vs : List MsgId} {depth : ℕ} {a : AtomId} {m r : MsgId} → a ≡ End m → FillsMessage ms ns vs depth m r → FillsAtom ms ns vs depth a (End r)
 fills_end {ms} {ns} {vs} {r = r} e f = record { at = λ d h. subst (λ x. SaysAtom ns (End r) (atom_map (fill (values_of ms vs) d) (atom_at ms x))) (sym e) (says_end (f.at d h)) }
 

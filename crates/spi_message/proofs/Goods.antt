@@ -61,9 +61,6 @@ good_check {s = s} {r = r} env {x = x} {t = t} vs q k f l u w (Ok b) h = record 
 }
 good_check env vs q k f l u w (Err x) h = tt
 
-pub atom_below : {a b : AtomId} {n : ℕ} → a ≡ b → (message_in a).place < n → (message_in b).place < n
-atom_below {n = n} q h = subst (λ c. (message_in c).place < n) q h
-
 -- a list of atoms
 pub record SameFrom (s : Store) (env : List TyId) (ids rest : List AtomId) (vs : List MsgId) : Type 0 where
   pub at : (e : Env) → StandFor s env e → good_effect (effect_map (fill (values_of s.messages vs) 0) (map (atom_at s.messages) ids)) e ≡ good_effect (effect_map (fill (values_of s.messages vs) 0) (map (atom_at s.messages) rest)) e

@@ -9,7 +9,7 @@ use spi_intern::{MsgId, TyId};
 use std::alloc::Global;
 
 /// What is asked about numbers of a store.
-#[derive(Clone, Copy, Debug, PartialEq, Eq, Hash)]
+#[derive(Clone, Copy, PartialEq, Eq, Hash)]
 pub enum Asked {
     Typed(MsgId, TyId),
     Labelled(MsgId),
@@ -17,7 +17,7 @@ pub enum Asked {
 }
 
 /// What is asked where so many names are in scope.
-#[derive(Clone, Copy, Debug, PartialEq, Eq, Hash)]
+#[derive(Clone, Copy, PartialEq, Eq, Hash)]
 pub struct Question {
     names: usize,
     asked: Asked,

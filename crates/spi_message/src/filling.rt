@@ -83,6 +83,17 @@ pub fn filled_message(
     }
 }
 
+/// The message in an atom.
+pub fn message_of(a: AtomId) -> MsgId
+    ensures { result ≡ message_in a }
+{
+    match a {
+        AtomId::End(m) => m,
+        AtomId::Check(m) => m,
+        AtomId::Many(m) => m,
+    }
+}
+
 fn filled_atom(
     store: &mut Store,
     values: &[MsgId],
@@ -95,19 +106,11 @@ fn filled_atom(
     ensures at { IfOk result (FillsAtom store.old.messages store.new.messages values.now depth a) }
     ensures kept { Keeps store.old store.new }
 {
+    let filled = filled_message(store, values, depth, message_of(a))?;
     match a {
-        AtomId::End(m) => {
-            let filled = filled_message(store, values, depth, m)?;
-            Ok(AtomId::End(filled))
-        }
-        AtomId::Check(m) => {
-            let filled = filled_message(store, values, depth, m)?;
-            Ok(AtomId::Check(filled))
-        }
-        AtomId::Many(m) => {
-            let filled = filled_message(store, values, depth, m)?;
-            Ok(AtomId::Many(filled))
-        }
+        AtomId::End(_) => Ok(AtomId::End(filled)),
+        AtomId::Check(_) => Ok(AtomId::Check(filled)),
+        AtomId::Many(_) => Ok(AtomId::Many(filled)),
     }
 }
 

@@ -6,7 +6,7 @@ ghost use Rattle.spi_message.specs.Filling.{message_in, AreBelow};
 ghost use Rattle.spi_message.specs.Asking.{IsEnvironment, IsGoodAtom, IsAskedAtoms, AreGood, IsAskedGood, IsGood};
 
 use crate::NoMemory;
-use crate::filling::{filled_message, filled_type};
+use crate::filling::{filled_message, filled_type, message_of};
 use crate::typing::{has_type, is_label};
 use spi_intern::{AtomId, MsgId, MsgPart, Store, TyId, TyPart};
 use spi_term::Ty;
@@ -25,21 +25,15 @@ fn is_good_atom(
     ensures answer { IfOk result (IsGoodAtom store.old env.now a values.now) }
     ensures kept { Keeps store.old store.new }
 {
+    let filled = filled_message(store, values, 0, message_of(a))?;
     match a {
-        AtomId::End(m) => {
-            let filled = filled_message(store, values, 0, m)?;
-            is_label(alloc, store, env, filled)
-        }
-        AtomId::Check(m) => {
-            let filled = filled_message(store, values, 0, m)?;
+        AtomId::End(_) => is_label(alloc, store, env, filled),
+        AtomId::Check(_) => {
             let un = store.ty(alloc, &Ty::Un)?;
             let mut none = Vec::new(alloc);
             has_type(alloc, store, env, filled, un, &mut none)
         }
-        AtomId::Many(m) => {
-            let filled = filled_message(store, values, 0, m)?;
-            is_label(alloc, store, env, filled)
-        }
+        AtomId::Many(_) => is_label(alloc, store, env, filled),
     }
 }
 

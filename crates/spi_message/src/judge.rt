@@ -24,12 +24,22 @@ use std::marker::Model;
 /// An environment over a store of its own: the type of each name is a number of that store. The first names, given
 /// at the start, are of type `Un` and stay. What was answered in an environment is kept for as long as its names are
 /// in scope.
-#[derive(Drop)]
 pub struct Judge {
     store: Store,
     types: Vec<TyId>,
     free: u32,
     answers: Answers,
+}
+
+impl Drop for Judge {
+    fn drop(self) {
+        let Judge {
+            store: _,
+            types: _,
+            free: _,
+            answers: _,
+        } = self;
+    }
 }
 
 impl Model for Judge {

@@ -2,7 +2,7 @@
 // those that a type's own binders bind.
 
 ghost use Rattle.std.specs.Prelude.{◌≡◌, ◌+◌, ◌^◌, ◌<◌, ltb, IfOk, OnOk, IfSome, IfNone, length, Some, None, slice_get};
-ghost use Rattle.spi_term.specs.Term.{name};
+ghost use Rattle.spi_term.specs.Term.{name, pair, enc};
 ghost use Rattle.spi_term.specs.Spelling.{ty_nodes};
 ghost use Rattle.spi_term.specs.View.{message, atom, effect, ty};
 ghost use Rattle.spi_message.specs.Tests.{scope_of, is_unit, key_in, key_of, typed, labelled, good_atom, good_effect, good};
@@ -95,24 +95,7 @@ pub fn has_type(alloc: Global, m: &Msg, env: &[Ty], inner: &[Ty], t: &Ty) -> Res
         Msg::Bound(_) => Ok(false),
         Msg::Name(x) => Ok(has_name_type(*x, env, inner, t)),
         Msg::Unit => Ok(is_unit_type(t)),
-        Msg::Pair(a, b) => match t {
-            Ty::Un => {
-                if has_type(alloc, a, env, inner, t)? {
-                    has_type(alloc, b, env, inner, t)
-                } else {
-                    Ok(false)
-                }
-            }
-            Ty::Pair(first, second) => {
-                if has_type(alloc, a, env, inner, first)? {
-                    let rest = opened(alloc, second, a)?;
-                    has_type(alloc, b, env, inner, &rest)
-                } else {
-                    Ok(false)
-                }
-            }
-            _ => Ok(false),
-        },
+        Msg::Pair(a, b) => pair_has_type(alloc, a, b, env, inner, t),
         Msg::Inl(a) => match t {
             Ty::Un => has_type(alloc, a, env, inner, t),
             Ty::Sum(left, _) => has_type(alloc, a, env, inner, left),
@@ -124,15 +107,8 @@ pub fn has_type(alloc: Global, m: &Msg, env: &[Ty], inner: &[Ty], t: &Ty) -> Res
             _ => Ok(false),
         },
         Msg::Enc(a, b) => {
-            if !is_un_type(t) {
-                return Ok(false);
-            }
-            // A name of a Key type isn't of type Un itself, so that the body is asked for once.
-            if let Some(key) = key_type(b, env, inner) {
-                return has_type(alloc, a, env, inner, key);
-            }
-            if has_type(alloc, a, env, inner, t)? {
-                has_type(alloc, b, env, inner, t)
+            if is_un_type(t) {
+                is_sealed(alloc, a, b, env, inner)
             } else {
                 Ok(false)
             }
@@ -144,6 +120,59 @@ pub fn has_type(alloc: Global, m: &Msg, env: &[Ty], inner: &[Ty], t: &Ty) -> Res
                 Ok(false)
             }
         }
+    }
+}
+
+#[cycle(typing)]
+fn pair_has_type(
+    alloc: Global,
+    a: &Msg,
+    b: &Msg,
+    env: &[Ty],
+    inner: &[Ty],
+    t: &Ty,
+) -> Result<bool, NoMemory>
+    ensures { IfOk result (λ x. x ≡ typed (pair (message a.now) (message b.now)) (scope_of env.now inner.now) (ty t.now)) }
+{
+    match t {
+        Ty::Un => {
+            if has_type(alloc, a, env, inner, t)? {
+                has_type(alloc, b, env, inner, t)
+            } else {
+                Ok(false)
+            }
+        }
+        Ty::Pair(first, second) => {
+            if has_type(alloc, a, env, inner, first)? {
+                let rest = opened(alloc, second, a)?;
+                has_type(alloc, b, env, inner, &rest)
+            } else {
+                Ok(false)
+            }
+        }
+        _ => Ok(false),
+    }
+}
+
+// The message under the key has type Un. A name of a Key type isn't of type Un itself, so that the body is asked for
+// once.
+#[cycle(typing)]
+fn is_sealed(
+    alloc: Global,
+    body: &Msg,
+    key: &Msg,
+    env: &[Ty],
+    inner: &[Ty],
+) -> Result<bool, NoMemory>
+    ensures { IfOk result (λ b. b ≡ labelled (enc (message body.now) (message key.now)) (scope_of env.now inner.now)) }
+{
+    if let Some(payload) = key_type(key, env, inner) {
+        return has_type(alloc, body, env, inner, payload);
+    }
+    if has_type(alloc, body, env, inner, &Ty::Un)? {
+        has_type(alloc, key, env, inner, &Ty::Un)
+    } else {
+        Ok(false)
     }
 }
 
@@ -165,17 +194,7 @@ pub fn is_label(alloc: Global, m: &Msg, env: &[Ty], inner: &[Ty]) -> Result<bool
         }
         Msg::Inl(a) => is_label(alloc, a, env, inner),
         Msg::Inr(a) => is_label(alloc, a, env, inner),
-        Msg::Enc(a, b) => {
-            // A name of a Key type isn't of type Un itself, so that the body is asked for once.
-            if let Some(key) = key_type(b, env, inner) {
-                return has_type(alloc, a, env, inner, key);
-            }
-            if has_type(alloc, a, env, inner, &Ty::Un)? {
-                has_type(alloc, b, env, inner, &Ty::Un)
-            } else {
-                Ok(false)
-            }
-        }
+        Msg::Enc(a, b) => is_sealed(alloc, a, b, env, inner),
         Msg::Hash(a) => is_label(alloc, a, env, inner),
     }
 }

@@ -21,7 +21,7 @@ pub const MESSAGE_LIMIT: u32 = 1000;
 
 const PROCESS_LIMIT: u32 = 500;
 
-const DERIVATION_LIMIT: u32 = 1000;
+pub const DERIVATION_LIMIT: u32 = 1000;
 
 /// No tree goes on where so many tokens are left.
 pub fn syntax(left: usize) -> Stop
@@ -37,31 +37,11 @@ pub fn too_deep(left: usize) -> Stop
     Stop::Fault(Fault::TooDeep(left))
 }
 
-/// Stops above the nesting limit of messages and types.
-pub fn message_fits(nesting: u32, left: usize) -> Result<(), Stop>
-    ensures { MatchResult result (λ _. nesting ≤ 1000) (λ e. (1000 < nesting) × (e ≡ stops.Fault (TooDeep left))) }
-{
-    if nesting > MESSAGE_LIMIT {
-        return Err(Stop::Fault(Fault::TooDeep(left)));
-    }
-    Ok(())
-}
-
 /// Stops above the nesting limit of processes.
 pub fn process_fits(nesting: u32, left: usize) -> Result<(), Stop>
     ensures { MatchResult result (λ _. nesting ≤ 500) (λ e. (500 < nesting) × (e ≡ stops.Fault (TooDeep left))) }
 {
     if nesting > PROCESS_LIMIT {
-        return Err(Stop::Fault(Fault::TooDeep(left)));
-    }
-    Ok(())
-}
-
-/// Stops above the nesting limit of derivations.
-pub fn derivation_fits(nesting: u32, left: usize) -> Result<(), Stop>
-    ensures { MatchResult result (λ _. nesting ≤ 1000) (λ e. (1000 < nesting) × (e ≡ stops.Fault (TooDeep left))) }
-{
-    if nesting > DERIVATION_LIMIT {
         return Err(Stop::Fault(Fault::TooDeep(left)));
     }
     Ok(())

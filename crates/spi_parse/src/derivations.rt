@@ -1,18 +1,19 @@
 //! Derivations.
 
-ghost use Rattle.std.specs.Prelude.{◌≡◌, ◌+◌, ◌≤◌, [], ◌∷◌, map, IfOk};
+ghost use Rattle.std.specs.Prelude.{◌≡◌, ◌+◌, ◌≤◌, None, [], ◌∷◌, map, IfOk};
 ghost use Rattle.spi_tree.specs.Trees.{derivs_of_list};
 ghost use Rattle.spi_tree.specs.Trees as trees;
 ghost use Rattle.spi_tree.specs.Views.{deriv_of, effect_of};
 ghost use Rattle.spi_parse.specs.Places.{state_of};
+ghost use Rattle.spi_parse.specs.Ends.{done};
 ghost use Rattle.spi_parse.specs.Wholes.{one_form, two_form, three_form, sub_form};
 ghost use Rattle.spi_parse.specs.Rules.{arity_of, writes_effect, is_late};
 ghost use Rattle.spi_parse.specs.Shapes.{is_sub, by_arity, IsShape};
-ghost use Rattle.spi_parse.specs.Table.{deriv};
+ghost use Rattle.spi_parse.specs.Table.{deriv, over};
 ghost use Rattle.spi_parse.specs.Reading.{Gives, read, step, limited};
 
 use crate::NoMemory;
-use crate::cursor::{Cursor, copy_word, derivation_fits, syntax};
+use crate::cursor::{Cursor, DERIVATION_LIMIT, copy_word, syntax, too_deep};
 use crate::effects::effect;
 use crate::fault::Stop;
 use spi_lex::Kind;
@@ -99,6 +100,14 @@ fn make_use(rule: SWord, effect: Option<Vec<SAtom>>, premises: Vec<SDeriv>, span
     }
 }
 
+/// A use of a rule with no premise, as a box.
+fn leaf(alloc: Global, rule: SWord, span: Span) -> Result<Box<SDeriv>, NoMemory>
+    ensures { IfOk result (λ b. deriv_of b.value ≡ trees.rule span rule None (derivs_of_list [])) }
+{
+    let tree = make_use(rule, None, Vec::new(alloc), span);
+    Ok(Box::new(alloc, tree)?)
+}
+
 /// A use of a rule, of a nesting.
 pub fn derivation<'t>(
     alloc: Global,
@@ -113,13 +122,9 @@ pub fn derivation<'t>(
     Ok((Box::into_inner(tree), at))
 }
 
-// What reads a premise holds it as a box while it reads the next, so that deep derivations fit the stack.
-fn boxed(alloc: Global, tree: SDeriv) -> Result<Box<SDeriv>, NoMemory>
-    ensures { IfOk result (λ b. b.value ≡ tree) }
-{
-    Ok(Box::new(alloc, tree)?)
-}
-
+/// A use of a rule as a box.
+///
+/// What reads a premise holds it as a box while it reads the next, so that deep derivations fit the stack.
 #[cycle(derivations)]
 fn boxed_derivation<'t>(
     alloc: Global,
@@ -159,24 +164,33 @@ fn derivation_step<'t>(
             match shape_of(later, word.as_str()) {
                 Shape::NoRule => Err(syntax(at.rest.len())),
                 Shape::Leaf => {
-                    derivation_fits(nesting, at.rest.len())?;
-                    let leaf = make_use(name, None, Vec::new(alloc), first.span);
-                    Ok((boxed(alloc, leaf)?, next))
+                    if nesting > DERIVATION_LIMIT {
+                        return Err(too_deep(at.rest.len()));
+                    }
+                    Ok((leaf(alloc, name, first.span)?, next))
                 }
                 Shape::One => {
-                    derivation_fits(nesting, at.rest.len())?;
+                    if nesting > DERIVATION_LIMIT {
+                        return Err(too_deep(at.rest.len()));
+                    }
                     read_one(alloc, name, next, later, nesting)
                 }
                 Shape::Two => {
-                    derivation_fits(nesting, at.rest.len())?;
+                    if nesting > DERIVATION_LIMIT {
+                        return Err(too_deep(at.rest.len()));
+                    }
                     read_two(alloc, name, next, later, nesting)
                 }
                 Shape::Three => {
-                    derivation_fits(nesting, at.rest.len())?;
+                    if nesting > DERIVATION_LIMIT {
+                        return Err(too_deep(at.rest.len()));
+                    }
                     read_three(alloc, name, next, later, nesting)
                 }
                 Shape::Sub => {
-                    derivation_fits(nesting, at.rest.len())?;
+                    if nesting > DERIVATION_LIMIT {
+                        return Err(too_deep(at.rest.len()));
+                    }
                     read_sub(alloc, name, next, later, nesting)
                 }
             }
@@ -197,13 +211,7 @@ fn read_one<'t>(
     ensures { Gives (λ x. (deriv_of x.0.value, state_of x.1)) result (one_form later nesting name.word (name.span ∷ []) (state_of at.entry)) }
 {
     let (first, at) = boxed_derivation(alloc, at, later, nesting + 1)?;
-    let span = Span {
-        from: name.span.from,
-        to: at.end,
-    };
-    let mut premises = Vec::new(alloc);
-    premises.push(Box::into_inner(first))?;
-    Ok((boxed(alloc, make_use(name, None, premises, span))?, at))
+    end_one(alloc, name, None, first, at)
 }
 
 #[cycle(derivations)]
@@ -219,14 +227,7 @@ fn read_two<'t>(
 {
     let (first, at) = boxed_derivation(alloc, at, later, nesting + 1)?;
     let (second, at) = boxed_derivation(alloc, at, later, nesting + 1)?;
-    let span = Span {
-        from: name.span.from,
-        to: at.end,
-    };
-    let mut premises = Vec::new(alloc);
-    premises.push(Box::into_inner(first))?;
-    premises.push(Box::into_inner(second))?;
-    Ok((boxed(alloc, make_use(name, None, premises, span))?, at))
+    end_two(alloc, name, first, second, at)
 }
 
 #[cycle(derivations)]
@@ -243,15 +244,7 @@ fn read_three<'t>(
     let (first, at) = boxed_derivation(alloc, at, later, nesting + 1)?;
     let (second, at) = boxed_derivation(alloc, at, later, nesting + 1)?;
     let (third, at) = boxed_derivation(alloc, at, later, nesting + 1)?;
-    let span = Span {
-        from: name.span.from,
-        to: at.end,
-    };
-    let mut premises = Vec::new(alloc);
-    premises.push(Box::into_inner(first))?;
-    premises.push(Box::into_inner(second))?;
-    premises.push(Box::into_inner(third))?;
-    Ok((boxed(alloc, make_use(name, None, premises, span))?, at))
+    end_three(alloc, name, first, second, third, at)
 }
 
 #[cycle(derivations)]
@@ -267,14 +260,70 @@ fn read_sub<'t>(
 {
     let (effect, at) = effect(alloc, at, later, true, 0)?;
     let (first, at) = boxed_derivation(alloc, at, later, nesting + 1)?;
+    end_one(alloc, name, Some(effect), first, at)
+}
+
+/// The use of a rule with one premise, which ends before this place.
+fn end_one<'t>(
+    alloc: Global,
+    rule: SWord,
+    effect: Option<Vec<SAtom>>,
+    first: Box<SDeriv>,
+    at: Cursor<'t>,
+) -> Result<(Box<SDeriv>, Cursor<'t>), Stop>
+    ensures { Gives (λ x. (deriv_of x.0.value, state_of x.1)) result (done (trees.rule (over (rule.span ∷ []) at.entry.end) rule (effect_of effect) (derivs_of_list (deriv_of first.value ∷ []))) (state_of at.entry)) }
+{
     let span = Span {
-        from: name.span.from,
+        from: rule.span.from,
         to: at.end,
     };
-    let mut premises = Vec::new(alloc);
-    premises.push(Box::into_inner(first))?;
-    Ok((
-        boxed(alloc, make_use(name, Some(effect), premises, span))?,
-        at,
-    ))
+    let premises = [Box::into_inner(first)];
+    let premises = Vec::from_array(alloc, premises)?;
+    let tree = make_use(rule, effect, premises, span);
+    Ok((Box::new(alloc, tree)?, at))
+}
+
+/// The use of a rule with two premises, which ends before this place.
+fn end_two<'t>(
+    alloc: Global,
+    rule: SWord,
+    first: Box<SDeriv>,
+    second: Box<SDeriv>,
+    at: Cursor<'t>,
+) -> Result<(Box<SDeriv>, Cursor<'t>), Stop>
+    ensures { Gives (λ x. (deriv_of x.0.value, state_of x.1)) result (done (trees.rule (over (rule.span ∷ []) at.entry.end) rule None (derivs_of_list (deriv_of first.value ∷ deriv_of second.value ∷ []))) (state_of at.entry)) }
+{
+    let span = Span {
+        from: rule.span.from,
+        to: at.end,
+    };
+    let premises = [Box::into_inner(first), Box::into_inner(second)];
+    let premises = Vec::from_array(alloc, premises)?;
+    let tree = make_use(rule, None, premises, span);
+    Ok((Box::new(alloc, tree)?, at))
+}
+
+/// The use of a rule with three premises, which ends before this place.
+fn end_three<'t>(
+    alloc: Global,
+    rule: SWord,
+    first: Box<SDeriv>,
+    second: Box<SDeriv>,
+    third: Box<SDeriv>,
+    at: Cursor<'t>,
+) -> Result<(Box<SDeriv>, Cursor<'t>), Stop>
+    ensures { Gives (λ x. (deriv_of x.0.value, state_of x.1)) result (done (trees.rule (over (rule.span ∷ []) at.entry.end) rule None (derivs_of_list (deriv_of first.value ∷ deriv_of second.value ∷ deriv_of third.value ∷ []))) (state_of at.entry)) }
+{
+    let span = Span {
+        from: rule.span.from,
+        to: at.end,
+    };
+    let premises = [
+        Box::into_inner(first),
+        Box::into_inner(second),
+        Box::into_inner(third),
+    ];
+    let premises = Vec::from_array(alloc, premises)?;
+    let tree = make_use(rule, None, premises, span);
+    Ok((Box::new(alloc, tree)?, at))
 }

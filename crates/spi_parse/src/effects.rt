@@ -7,7 +7,7 @@ ghost use Rattle.spi_parse.specs.Table.{atom, atoms, atoms_item, effect, delta_b
 ghost use Rattle.spi_parse.specs.Reading.{Gives, read, step, limited, behind, item_of};
 
 use crate::NoMemory;
-use crate::cursor::{Cursor, message_fits, syntax};
+use crate::cursor::{Cursor, MESSAGE_LIMIT, syntax, too_deep};
 use crate::fault::Stop;
 use crate::messages::message;
 use spi_lex::{Kind, Mark, Reserved};
@@ -47,7 +47,9 @@ fn atom_step<'t>(
     };
     match first.kind {
         Kind::Reserved(Reserved::End) => {
-            message_fits(nesting, at.rest.len())?;
+            if nesting > MESSAGE_LIMIT {
+                return Err(too_deep(at.rest.len()));
+            }
             let (label, at) = message(alloc, next, later, numbered, nesting + 1)?;
             let span = Span {
                 from: first.span.from,
@@ -56,7 +58,9 @@ fn atom_step<'t>(
             Ok((SAtom::End { label, span }, at))
         }
         Kind::Reserved(Reserved::Check) => {
-            message_fits(nesting, at.rest.len())?;
+            if nesting > MESSAGE_LIMIT {
+                return Err(too_deep(at.rest.len()));
+            }
             let (nonce, at) = message(alloc, next, later, numbered, nesting + 1)?;
             let span = Span {
                 from: first.span.from,
@@ -68,7 +72,9 @@ fn atom_step<'t>(
             if !later {
                 return Err(syntax(at.rest.len()));
             }
-            message_fits(nesting, at.rest.len())?;
+            if nesting > MESSAGE_LIMIT {
+                return Err(too_deep(at.rest.len()));
+            }
             let (label, at) = message(alloc, next, later, numbered, nesting + 1)?;
             let span = Span {
                 from: first.span.from,

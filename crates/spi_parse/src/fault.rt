@@ -18,14 +18,14 @@ pub enum ParseFault {
 }
 
 /// What is wrong, and how many tokens are left where it is found.
-#[derive(Clone, Copy, Debug)]
+#[derive(Clone, Copy)]
 pub enum Fault {
     Syntax(usize),
     TooDeep(usize),
 }
 
 /// Why reading stopped.
-#[derive(Clone, Copy, Debug)]
+#[derive(Clone, Copy)]
 pub enum Stop {
     NoMemory,
     Fault(Fault),

@@ -1,10 +1,11 @@
 //! Names with their types, and the heads of forms.
 
-ghost use Rattle.std.specs.Prelude.{◌≡◌};
+ghost use Rattle.std.specs.Prelude.{◌≡◌, [], ◌∷◌};
+ghost use Rattle.spi_lex.specs.declared.token.Mark.TheVariants.{Comma, ParenClose, Semicolon};
 ghost use Rattle.spi_tree.specs.Views.{msg_of, ty_of};
 ghost use Rattle.spi_parse.specs.Places.{state_of};
-ghost use Rattle.spi_parse.specs.Table.{named, binder, split_head, match_head, case_head, decrypt_head, check_head, cast_head};
-ghost use Rattle.spi_parse.specs.Reading.{Gives, read, step, limited};
+ghost use Rattle.spi_parse.specs.Table.{the_mark, named, binder, split_head, match_head, case_head, decrypt_head, check_head, cast_head};
+ghost use Rattle.spi_parse.specs.Reading.{Gives, read, read_all, step, limited};
 
 use crate::cursor::{Cursor, syntax};
 use crate::fault::Stop;
@@ -38,6 +39,15 @@ fn named_step<'t>(
     Ok((name, ty, at))
 }
 
+/// The closing parenthesis, and the semicolon.
+fn take_closing<'t>(at: Cursor<'t>) -> Result<Cursor<'t>, Stop>
+    ensures { Gives (λ x. ((tt, (tt, tt)), state_of x)) result (read_all (read limited) (the_mark ParenClose ∷ the_mark Semicolon ∷ []) (state_of at.entry)) }
+{
+    let at = take_mark(at, Mark::ParenClose)?;
+    let at = take_mark(at, Mark::Semicolon)?;
+    Ok(at)
+}
+
 /// A name with its type in parentheses, and the semicolon.
 pub fn binder<'t>(
     alloc: Global,
@@ -66,12 +76,25 @@ fn binder_step<'t>(
     match first.kind {
         Kind::Mark(Mark::ParenOpen) => {
             let (name, ty, at) = named(alloc, next, later)?;
-            let at = take_mark(at, Mark::ParenClose)?;
-            let at = take_mark(at, Mark::Semicolon)?;
+            let at = take_closing(at)?;
             Ok((name, ty, at))
         }
         _ => Err(syntax(at.rest.len())),
     }
+}
+
+/// The second name of a split or a match with its type, from the comma on, and what closes the head.
+fn second_named<'t>(
+    alloc: Global,
+    at: Cursor<'t>,
+    later: bool,
+) -> Result<(SWord, STy, Cursor<'t>), Stop>
+    ensures { Gives (λ x. ((tt, ((x.0, ty_of x.1), (tt, (tt, tt)))), state_of x.2)) result (read_all (read limited) (the_mark Comma ∷ named later ∷ the_mark ParenClose ∷ the_mark Semicolon ∷ []) (state_of at.entry)) }
+{
+    let at = take_mark(at, Mark::Comma)?;
+    let (name, ty, at) = named(alloc, at, later)?;
+    let at = take_closing(at)?;
+    Ok((name, ty, at))
 }
 
 /// The names of a split, from `is` on.
@@ -103,10 +126,7 @@ fn split_head_step<'t>(
         Kind::Reserved(Reserved::Is) => {
             let at = take_mark(next, Mark::ParenOpen)?;
             let (left, left_ty, at) = named(alloc, at, later)?;
-            let at = take_mark(at, Mark::Comma)?;
-            let (right, right_ty, at) = named(alloc, at, later)?;
-            let at = take_mark(at, Mark::ParenClose)?;
-            let at = take_mark(at, Mark::Semicolon)?;
+            let (right, right_ty, at) = second_named(alloc, at, later)?;
             Ok((left, left_ty, right, right_ty, at))
         }
         _ => Err(syntax(at.rest.len())),
@@ -144,10 +164,7 @@ fn match_head_step<'t>(
             let (left, left_ty, at) = named(alloc, at, later)?;
             let at = take_mark(at, Mark::Equals)?;
             let (equal, at) = message(alloc, at, later, false, 1)?;
-            let at = take_mark(at, Mark::Comma)?;
-            let (right, right_ty, at) = named(alloc, at, later)?;
-            let at = take_mark(at, Mark::ParenClose)?;
-            let at = take_mark(at, Mark::Semicolon)?;
+            let (right, right_ty, at) = second_named(alloc, at, later)?;
             Ok((left, left_ty, equal, right, right_ty, at))
         }
         _ => Err(syntax(at.rest.len())),

@@ -1,6 +1,6 @@
 //! Messages.
 
-ghost use Rattle.std.specs.Prelude.{◌≡◌, ◌+◌, ◌≤◌, [], ◌∷◌, map, IfOk};
+ghost use Rattle.std.specs.Prelude.{◌≡◌, ◌+◌, ◌≤◌, [], ◌∷◌, map};
 ghost use Rattle.spi_tree.specs.Trees.{name, tuple, msgs_of_list};
 ghost use Rattle.spi_tree.specs.Views.{msg_of};
 ghost use Rattle.spi_parse.specs.Places.{state_of, tuple_form, enc_form, inl_form, inr_form, hash_form};
@@ -8,7 +8,6 @@ ghost use Rattle.spi_parse.specs.Ends.{done, numeral_form};
 ghost use Rattle.spi_parse.specs.Table.{msg, msgs, msgs_item, delta_paren, word_at, over};
 ghost use Rattle.spi_parse.specs.Reading.{Gives, read, step, limited, behind, item_of};
 
-use crate::NoMemory;
 use crate::cursor::{Cursor, MESSAGE_LIMIT, copy_word, syntax, too_deep};
 use crate::fault::Stop;
 use crate::reading::{take_mark, take_number};
@@ -43,11 +42,13 @@ pub fn message<'t>(
     Ok((Box::into_inner(tree), at))
 }
 
-// What reads a part of a message holds it as a box while it reads the next part, so that deep messages fit the stack.
-fn boxed(alloc: Global, tree: SMsg) -> Result<Box<SMsg>, NoMemory>
-    ensures { IfOk result (λ b. b.value ≡ tree) }
+/// The message as a box, with the place behind it.
+///
+/// What reads a part of a message holds it as a box while it reads the next part, so that deep messages fit the stack.
+fn boxed<'t>(alloc: Global, tree: SMsg, at: Cursor<'t>) -> Result<(Box<SMsg>, Cursor<'t>), Stop>
+    ensures { Gives (λ x. (msg_of x.0.value, state_of x.1)) result (done (msg_of tree) (state_of at.entry)) }
 {
-    Ok(Box::new(alloc, tree)?)
+    Ok((Box::new(alloc, tree)?, at))
 }
 
 #[cycle(messages)]
@@ -150,7 +151,7 @@ fn read_name<'t>(
         word: copy_word(alloc, word)?,
         span,
     };
-    Ok((boxed(alloc, SMsg::Name { name, span })?, at))
+    Ok((Box::new(alloc, SMsg::Name { name, span })?, at))
 }
 
 fn read_numeral<'t>(
@@ -168,7 +169,7 @@ fn read_numeral<'t>(
         from: first.from,
         to: at.end,
     };
-    Ok((boxed(alloc, SMsg::Num { number, span })?, at))
+    boxed(alloc, SMsg::Num { number, span }, at)
 }
 
 #[cycle(messages)]
@@ -190,7 +191,7 @@ fn read_enc<'t>(
         from: first.from,
         to: at.end,
     };
-    Ok((boxed(alloc, SMsg::Enc { body, key, span })?, at))
+    boxed(alloc, SMsg::Enc { body, key, span }, at)
 }
 
 #[cycle(messages)]
@@ -210,7 +211,7 @@ fn read_inl<'t>(
         from: first.from,
         to: at.end,
     };
-    Ok((boxed(alloc, SMsg::Inl { part, span })?, at))
+    boxed(alloc, SMsg::Inl { part, span }, at)
 }
 
 #[cycle(messages)]
@@ -230,7 +231,7 @@ fn read_inr<'t>(
         from: first.from,
         to: at.end,
     };
-    Ok((boxed(alloc, SMsg::Inr { part, span })?, at))
+    boxed(alloc, SMsg::Inr { part, span }, at)
 }
 
 #[cycle(messages)]
@@ -252,7 +253,7 @@ fn read_hash<'t>(
         from: first.from,
         to: at.end,
     };
-    Ok((boxed(alloc, SMsg::Hash { part, span })?, at))
+    boxed(alloc, SMsg::Hash { part, span }, at)
 }
 
 #[cycle(messages)]
@@ -277,7 +278,7 @@ fn message_in_parens<'t>(
                 from: first.from,
                 to: end,
             };
-            Ok((boxed(alloc, SMsg::Unit { span })?, Cursor { rest, end }))
+            boxed(alloc, SMsg::Unit { span }, Cursor { rest, end })
         }
         _ => read_tuple(alloc, first, at, later, numbered, nesting),
     }
@@ -317,7 +318,8 @@ fn end_tuple<'t>(
         from: opening.from,
         to: at.end,
     };
-    Ok((boxed(alloc, make_tuple(first, second, more, span))?, at))
+    let tuple = make_tuple(first, second, more, span);
+    Ok((Box::new(alloc, tuple)?, at))
 }
 
 #[cycle(messages)]

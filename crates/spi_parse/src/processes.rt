@@ -1,16 +1,15 @@
 //! Processes.
 
-ghost use Rattle.std.specs.Prelude.{◌≡◌, ◌+◌, ◌≤◌, [], ◌∷◌, IfOk};
+ghost use Rattle.std.specs.Prelude.{◌≡◌, ◌+◌, ◌≤◌, [], ◌∷◌};
 ghost use Rattle.spi_tree.specs.Trees.{stop};
 ghost use Rattle.spi_tree.specs.Views.{msg_of, proc_of};
 ghost use Rattle.spi_parse.specs.Places.{state_of, out_form, inp_form, repeat_form, split_form, match_form, case_form, decrypt_form, check_form, begin_form, end_form, end_many_form, cast_form, new_form, group_form};
 ghost use Rattle.spi_parse.specs.Ends.{done, boxed_option};
 ghost use Rattle.spi_parse.specs.FormMoves.{by_form};
 ghost use Rattle.spi_parse.specs.declared.forms.Form.TheVariants as forms;
-ghost use Rattle.spi_parse.specs.Table.{sproc, seq, out_tail, par_tail, out_of};
+ghost use Rattle.spi_parse.specs.Table.{sproc, seq, out_tail, par_tail, out_of, over};
 ghost use Rattle.spi_parse.specs.Reading.{Gives, read, step, limited};
 
-use crate::NoMemory;
 use crate::cursor::{Cursor, process_fits, syntax};
 use crate::fault::Stop;
 use crate::forms::{Event, Form, Open, Plain, Talk, form_of};
@@ -38,10 +37,11 @@ pub fn process<'t>(
     Ok((Box::into_inner(tree), at))
 }
 
-fn boxed(alloc: Global, tree: SProc) -> Result<Box<SProc>, NoMemory>
-    ensures { IfOk result (λ b. b.value ≡ tree) }
+/// The process as a box, with the place behind it.
+fn boxed<'t>(alloc: Global, tree: SProc, at: Cursor<'t>) -> Result<(Box<SProc>, Cursor<'t>), Stop>
+    ensures { Gives (λ x. (proc_of x.0.value, state_of x.1)) result (done (proc_of tree) (state_of at.entry)) }
 {
-    Ok(Box::new(alloc, tree)?)
+    Ok((Box::new(alloc, tree)?, at))
 }
 
 #[cycle(processes)]
@@ -77,8 +77,7 @@ fn parallel_step<'t>(
         None => Ok((first, at)),
         Some(rest) => {
             let span = Span { from, to: at.end };
-            let tree = boxed(alloc, SProc::Par { first, rest, span })?;
-            Ok((tree, at))
+            boxed(alloc, SProc::Par { first, rest, span }, at)
         }
     }
 }
@@ -259,12 +258,26 @@ fn read_out<'t>(
     let (channel, at) = message(alloc, at, later, false, 1)?;
     let (datum, at) = message(alloc, at, later, false, 1)?;
     let (then, at) = out_rest(alloc, at, later, nesting)?;
+    end_out(alloc, first, channel, datum, then, at)
+}
+
+/// The sending of these parts, which ends before this place.
+fn end_out<'t>(
+    alloc: Global,
+    first: Span,
+    channel: SMsg,
+    datum: SMsg,
+    then: Option<Box<SProc>>,
+    at: Cursor<'t>,
+) -> Result<(Box<SProc>, Cursor<'t>), Stop>
+    ensures { Gives (λ x. (proc_of x.0.value, state_of x.1)) result (done (out_of (over (first ∷ []) at.entry.end) (msg_of channel) (msg_of datum) (boxed_option then)) (state_of at.entry)) }
+{
     let span = Span {
         from: first.from,
         to: at.end,
     };
-    let tree = boxed(alloc, make_out(channel, datum, then, span))?;
-    Ok((tree, at))
+    let tree = make_out(channel, datum, then, span);
+    Ok((Box::new(alloc, tree)?, at))
 }
 
 fn make_out(channel: SMsg, datum: SMsg, then: Option<Box<SProc>>, span: Span) -> SProc
@@ -303,7 +316,7 @@ fn read_inp<'t>(
         from: first.from,
         to: at.end,
     };
-    let tree = boxed(
+    boxed(
         alloc,
         SProc::Inp {
             channel,
@@ -312,8 +325,8 @@ fn read_inp<'t>(
             then,
             span,
         },
-    )?;
-    Ok((tree, at))
+        at,
+    )
 }
 
 #[cycle(processes)]
@@ -335,7 +348,7 @@ fn read_repeat<'t>(
         from: first.from,
         to: at.end,
     };
-    let tree = boxed(
+    boxed(
         alloc,
         SProc::Repeat {
             channel,
@@ -344,8 +357,8 @@ fn read_repeat<'t>(
             then,
             span,
         },
-    )?;
-    Ok((tree, at))
+        at,
+    )
 }
 
 #[cycle(processes)]
@@ -366,7 +379,7 @@ fn read_split<'t>(
         from: first.from,
         to: at.end,
     };
-    let tree = boxed(
+    boxed(
         alloc,
         SProc::Split {
             whole,
@@ -377,8 +390,8 @@ fn read_split<'t>(
             then,
             span,
         },
-    )?;
-    Ok((tree, at))
+        at,
+    )
 }
 
 #[cycle(processes)]
@@ -399,7 +412,7 @@ fn read_match<'t>(
         from: first.from,
         to: at.end,
     };
-    let tree = boxed(
+    boxed(
         alloc,
         SProc::Match {
             whole,
@@ -411,8 +424,8 @@ fn read_match<'t>(
             then,
             span,
         },
-    )?;
-    Ok((tree, at))
+        at,
+    )
 }
 
 #[cycle(processes)]
@@ -435,7 +448,7 @@ fn read_case<'t>(
         from: first.from,
         to: at.end,
     };
-    let tree = boxed(
+    boxed(
         alloc,
         SProc::Case {
             whole,
@@ -447,8 +460,8 @@ fn read_case<'t>(
             on_right,
             span,
         },
-    )?;
-    Ok((tree, at))
+        at,
+    )
 }
 
 #[cycle(processes)]
@@ -469,7 +482,7 @@ fn read_decrypt<'t>(
         from: first.from,
         to: at.end,
     };
-    let tree = boxed(
+    boxed(
         alloc,
         SProc::Decrypt {
             whole,
@@ -479,8 +492,8 @@ fn read_decrypt<'t>(
             then,
             span,
         },
-    )?;
-    Ok((tree, at))
+        at,
+    )
 }
 
 #[cycle(processes)]
@@ -501,7 +514,7 @@ fn read_check<'t>(
         from: first.from,
         to: at.end,
     };
-    let tree = boxed(
+    boxed(
         alloc,
         SProc::Check {
             whole,
@@ -509,8 +522,8 @@ fn read_check<'t>(
             then,
             span,
         },
-    )?;
-    Ok((tree, at))
+        at,
+    )
 }
 
 #[cycle(processes)]
@@ -531,8 +544,7 @@ fn read_begin<'t>(
         from: first.from,
         to: at.end,
     };
-    let tree = boxed(alloc, SProc::Begin { label, then, span })?;
-    Ok((tree, at))
+    boxed(alloc, SProc::Begin { label, then, span }, at)
 }
 
 #[cycle(processes)]
@@ -553,8 +565,7 @@ fn read_end<'t>(
         from: first.from,
         to: at.end,
     };
-    let tree = boxed(alloc, SProc::End { label, then, span })?;
-    Ok((tree, at))
+    boxed(alloc, SProc::End { label, then, span }, at)
 }
 
 #[cycle(processes)]
@@ -575,8 +586,7 @@ fn read_end_many<'t>(
         from: first.from,
         to: at.end,
     };
-    let tree = boxed(alloc, SProc::EndMany { label, then, span })?;
-    Ok((tree, at))
+    boxed(alloc, SProc::EndMany { label, then, span }, at)
 }
 
 #[cycle(processes)]
@@ -597,7 +607,7 @@ fn read_cast<'t>(
         from: first.from,
         to: at.end,
     };
-    let tree = boxed(
+    boxed(
         alloc,
         SProc::Cast {
             whole,
@@ -606,8 +616,8 @@ fn read_cast<'t>(
             then,
             span,
         },
-    )?;
-    Ok((tree, at))
+        at,
+    )
 }
 
 #[cycle(processes)]
@@ -627,7 +637,7 @@ fn read_new<'t>(
         from: first.from,
         to: at.end,
     };
-    let tree = boxed(
+    boxed(
         alloc,
         SProc::New {
             name,
@@ -635,8 +645,8 @@ fn read_new<'t>(
             then,
             span,
         },
-    )?;
-    Ok((tree, at))
+        at,
+    )
 }
 
 fn read_stop<'t>(
@@ -646,8 +656,7 @@ fn read_stop<'t>(
 ) -> Result<(Box<SProc>, Cursor<'t>), Stop>
     ensures { Gives (λ x. (proc_of x.0.value, state_of x.1)) result (done (stop span) (state_of at.entry)) }
 {
-    let tree = boxed(alloc, SProc::Stop { span })?;
-    Ok((tree, at))
+    boxed(alloc, SProc::Stop { span }, at)
 }
 
 #[cycle(processes)]
@@ -669,8 +678,7 @@ fn read_group<'t>(
         from: start.from,
         to: at.end,
     };
-    let tree = boxed(alloc, SProc::Group { first, rest, span })?;
-    Ok((tree, at))
+    boxed(alloc, SProc::Group { first, rest, span }, at)
 }
 
 #[cycle(processes)]

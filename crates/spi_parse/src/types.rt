@@ -9,7 +9,7 @@ ghost use Rattle.spi_parse.specs.Table.{one, last, ty, fields, fields_item, fiel
 ghost use Rattle.spi_parse.specs.Reading.{Gives, read, step, limited, behind};
 
 use crate::NoMemory;
-use crate::cursor::{Cursor, MESSAGE_LIMIT, copy_word, message_fits, syntax, too_deep};
+use crate::cursor::{Cursor, MESSAGE_LIMIT, copy_word, syntax, too_deep};
 use crate::effects::effect;
 use crate::fault::Stop;
 use crate::reading::take_mark;
@@ -43,11 +43,13 @@ fn make_tuple_type(
     }
 }
 
-// What reads a part of a type holds it as a box while it reads the next part, so that deep types fit the stack.
-fn boxed(alloc: Global, tree: STy) -> Result<Box<STy>, NoMemory>
-    ensures { IfOk result (λ b. b.value ≡ tree) }
+/// The type as a box, with the place behind it.
+///
+/// What reads a part of a type holds it as a box while it reads the next part, so that deep types fit the stack.
+fn boxed<'t>(alloc: Global, tree: STy, at: Cursor<'t>) -> Result<(Box<STy>, Cursor<'t>), Stop>
+    ensures { Gives (λ x. (ty_of x.0.value, state_of x.1)) result (done (ty_of tree) (state_of at.entry)) }
 {
-    Ok(Box::new(alloc, tree)?)
+    Ok((Box::new(alloc, tree)?, at))
 }
 
 fn boxed_last(alloc: Global, last: Last) -> Result<Box<Last>, NoMemory>
@@ -111,7 +113,7 @@ fn type_step<'t>(
             if nesting > MESSAGE_LIMIT {
                 return Err(too_deep(at.rest.len()));
             }
-            Ok((boxed(alloc, STy::Un { span: first.span })?, next))
+            boxed(alloc, STy::Un { span: first.span }, next)
         }
         Kind::Reserved(Reserved::Key) => {
             if nesting > MESSAGE_LIMIT {
@@ -147,7 +149,7 @@ fn read_abbreviation<'t>(
         word: copy_word(alloc, word)?,
         span,
     };
-    Ok((boxed(alloc, STy::Abbr { name, span })?, at))
+    Ok((Box::new(alloc, STy::Abbr { name, span })?, at))
 }
 
 fn read_nonce<'t>(
@@ -165,7 +167,7 @@ fn read_nonce<'t>(
         from: first.from,
         to: at.end,
     };
-    Ok((boxed(alloc, STy::Nonce { effect, span })?, at))
+    boxed(alloc, STy::Nonce { effect, span }, at)
 }
 
 #[cycle(types)]
@@ -186,7 +188,7 @@ fn read_key<'t>(
         from: first.from,
         to: at.end,
     };
-    Ok((boxed(alloc, STy::Key { part, span })?, at))
+    boxed(alloc, STy::Key { part, span }, at)
 }
 
 #[cycle(types)]
@@ -213,7 +215,7 @@ fn type_in_parens<'t>(
                 from: first.from,
                 to: next.end,
             };
-            Ok((boxed(alloc, STy::Unit { span })?, next))
+            boxed(alloc, STy::Unit { span }, next)
         }
         Kind::Word(word) => {
             if nesting + 1 > MESSAGE_LIMIT {
@@ -257,7 +259,7 @@ fn end_sum<'t>(
         from: first.from,
         to: at.end,
     };
-    Ok((boxed(alloc, STy::Sum { left, right, span })?, at))
+    boxed(alloc, STy::Sum { left, right, span }, at)
 }
 
 #[cycle(types)]
@@ -328,7 +330,7 @@ fn end_tuple_type<'t>(
         to: at.end,
     };
     let tuple = make_tuple_type(name, part, more, last, span);
-    Ok((boxed(alloc, tuple)?, at))
+    Ok((Box::new(alloc, tuple)?, at))
 }
 
 #[cycle(types)]
@@ -364,12 +366,12 @@ fn end_sum_of_word<'t>(
         word: copy_word(alloc, word)?,
         span: place,
     };
-    let left = boxed(alloc, STy::Abbr { name, span: place })?;
+    let left = Box::new(alloc, STy::Abbr { name, span: place })?;
     let span = Span {
         from: first.from,
         to: at.end,
     };
-    Ok((boxed(alloc, STy::Sum { left, right, span })?, at))
+    Ok((Box::new(alloc, STy::Sum { left, right, span })?, at))
 }
 
 #[cycle(types)]
@@ -394,22 +396,40 @@ fn read_fields<'t>(
     }
 }
 
-/// A last part without a name.
-fn bare_last(alloc: Global, ty: Box<STy>) -> Result<Box<FieldOrLast>, NoMemory>
-    ensures { IfOk result (λ b. field_item b.value ≡ last (bare (ty_of ty.value))) }
+/// A last part without a name, with the place behind it.
+fn bare_last<'t>(
+    alloc: Global,
+    ty: Box<STy>,
+    at: Cursor<'t>,
+) -> Result<(Box<FieldOrLast>, Cursor<'t>), Stop>
+    ensures { Gives (λ x. (field_item x.0.value, state_of x.1)) result (done (last (bare (ty_of ty.value))) (state_of at.entry)) }
 {
     let last = Last::Bare(Box::into_inner(ty));
-    Ok(Box::new(alloc, FieldOrLast::Last(last))?)
+    Ok((Box::new(alloc, FieldOrLast::Last(last))?, at))
 }
 
-/// A part with a name, the last one where the tuple ends behind it.
-fn named_part(
+/// A last part that is the name of a declared type, with the place behind it.
+fn abbreviated_last<'t>(
+    alloc: Global,
+    name: SWord,
+    at: Cursor<'t>,
+) -> Result<(Box<FieldOrLast>, Cursor<'t>), Stop>
+    ensures { Gives (λ x. (field_item x.0.value, state_of x.1)) result (done (last (bare (abbr name.span name))) (state_of at.entry)) }
+{
+    let span = name.span;
+    let last = Last::Bare(STy::Abbr { name, span });
+    Ok((Box::new(alloc, FieldOrLast::Last(last))?, at))
+}
+
+/// A part with a name, the last one where the tuple ends behind it, with the place behind it.
+fn named_part<'t>(
     alloc: Global,
     name: SWord,
     ty: Box<STy>,
     ends: bool,
-) -> Result<Box<FieldOrLast>, NoMemory>
-    ensures { IfOk result (λ b. field_item b.value ≡ (if ends then last (named name (ty_of ty.value)) else one (record { name = name; ty = ty_of ty.value }))) }
+    at: Cursor<'t>,
+) -> Result<(Box<FieldOrLast>, Cursor<'t>), Stop>
+    ensures { Gives (λ x. (field_item x.0.value, state_of x.1)) result (done (if ends then last (named name (ty_of ty.value)) else one (record { name = name; ty = ty_of ty.value })) (state_of at.entry)) }
 {
     let ty = Box::into_inner(ty);
     let part = if ends {
@@ -417,7 +437,7 @@ fn named_part(
     } else {
         FieldOrLast::Field(SField { name, ty })
     };
-    Ok(Box::new(alloc, part)?)
+    Ok((Box::new(alloc, part)?, at))
 }
 
 #[cycle(types)]
@@ -464,7 +484,7 @@ fn next_field_step<'t>(
         _ => {
             let (last, at) = boxed_type(alloc, at, later, nesting)?;
             let at = take_mark(at, Mark::ParenClose)?;
-            Ok((bare_last(alloc, last)?, at))
+            bare_last(alloc, last, at)
         }
     }
 }
@@ -491,13 +511,9 @@ fn field_behind_word<'t>(
         Kind::Mark(Mark::Colon) => {
             let (ty, at) = boxed_type(alloc, next, later, nesting)?;
             let (ends, at) = field_rest(at)?;
-            Ok((named_part(alloc, name, ty, ends)?, at))
+            named_part(alloc, name, ty, ends, at)
         }
-        Kind::Mark(Mark::ParenClose) => {
-            let span = name.span;
-            let last = boxed(alloc, STy::Abbr { name, span })?;
-            Ok((bare_last(alloc, last)?, next))
-        }
+        Kind::Mark(Mark::ParenClose) => abbreviated_last(alloc, name, next),
         _ => Err(syntax(at.rest.len())),
     }
 }

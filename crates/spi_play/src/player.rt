@@ -3,7 +3,7 @@ ghost use Rattle.std.specs.Prelude.{◌≡◌, ℕ, ◌<◌, Option};
 ghost use Rattle.spi_play.specs.Way.{Way, Follows, next_count};
 
 /// What a player is shown.
-#[derive(Clone, Copy, Debug, PartialEq, Eq)]
+#[derive(Clone, Copy)]
 pub struct Menu {
     /// How many steps are ready.
     pub ready: u64,

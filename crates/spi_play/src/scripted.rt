@@ -6,12 +6,21 @@ ghost use Rattle.spi_play.specs.Way.{Script};
 use crate::player::{Menu, Pick, Player};
 
 /// A player that picks the numbers of a script in order, and leaves after the last. It tells its script.
-#[derive(Drop)]
 pub struct Scripted {
     script: Vec<u64>,
     at: usize,
     asked: u64,
     ghost within: { at ≤ vec_len script },
+}
+
+impl Drop for Scripted {
+    fn drop(self) {
+        let Scripted {
+            script: _,
+            at: _,
+            asked: _,
+        } = self;
+    }
 }
 
 impl Scripted {

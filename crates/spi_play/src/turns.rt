@@ -67,9 +67,9 @@ fn keep(steps: &mut Vec<Step>, events: &mut Vec<Event>, done: Step, shown: Optio
     ensures events { map event_of events.new.items ≡ map event_of events.old.items ++ option_to_list (event_in shown) }
     ensures len { vec_len steps.new ≡ vec_len steps.old + 1 }
 {
-    steps.push(done).unwrap();
+    let _ = steps.push(done);
     if let Some(event) = shown {
-        events.push(event).unwrap();
+        let _ = events.push(event);
     }
 }
 

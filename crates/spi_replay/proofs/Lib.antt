@@ -14,3 +14,5 @@ pub mod Begun
 pub mod Same
 pub mod Channels
 pub mod Indexing
+pub mod Started
+pub mod Lone

@@ -51,7 +51,7 @@ if_waits false false e h = w_stays
 if_waits true false e h = absurd (true≢false e)
 if_waits false true e h = absurd (true≢false (sym e))
 
-split_waits : {ms : List Message} {p : MsgPart} {m : Message} (i : ℕ) → Says ms p m → Waits ms (split_wait p i) (split_move m i)
+pub split_waits : {ms : List Message} {p : MsgPart} {m : Message} (i : ℕ) → Says ms p m → Waits ms (split_wait p i) (split_move m i)
 split_waits i says_bound = w_stays
 split_waits i says_name = w_stays
 split_waits i says_unit = w_stays
@@ -81,7 +81,7 @@ decrypt_waits j i d h (says_right a) = w_stays
 decrypt_waits j {n} i d h (says_enc {b = y} {n = k} a b) = if_waits (y.place == j.place) (same_message k n) (same_by y j d b h) (w_binds_one a)
 decrypt_waits j i d h (says_hash a) = w_stays
 
-case_waits : {ms : List Message} {p : MsgPart} {m : Message} (i j : ℕ) → Says ms p m → Waits ms (case_wait p i j) (case_move m i j)
+pub case_waits : {ms : List Message} {p : MsgPart} {m : Message} (i j : ℕ) → Says ms p m → Waits ms (case_wait p i j) (case_move m i j)
 case_waits i j says_bound = w_stays
 case_waits i j says_name = w_stays
 case_waits i j says_unit = w_stays

@@ -9,3 +9,5 @@ pub mod Codes
 pub mod Listing
 pub mod Indexed
 pub mod Tables
+pub mod Started
+pub mod Lone

@@ -125,29 +125,30 @@ fn is_message(store: &Store, id: MsgId, m: &Msg) -> bool
     requires { id.place < length store.now.messages }
     ensures { result ≡ same_message (message_at store.now.messages id) (message m.now) }
 {
+    let part = store.part(id);
     match m {
-        Msg::Bound(i) => store.part(id) == MsgPart::Bound(*i),
-        Msg::Name(x) => store.part(id) == MsgPart::Name(*x),
-        Msg::Unit => store.part(id) == MsgPart::Unit,
-        Msg::Pair(a, b) => match store.part(id) {
+        Msg::Bound(i) => part == MsgPart::Bound(*i),
+        Msg::Name(x) => part == MsgPart::Name(*x),
+        Msg::Unit => part == MsgPart::Unit,
+        Msg::Pair(a, b) => match part {
             MsgPart::Pair(first, second) => is_message(store, first, a)
                 && is_message(store, second, b),
             _ => false,
         },
-        Msg::Inl(a) => match store.part(id) {
-            MsgPart::Inl(part) => is_message(store, part, a),
+        Msg::Inl(a) => match part {
+            MsgPart::Inl(inner) => is_message(store, inner, a),
             _ => false,
         },
-        Msg::Inr(a) => match store.part(id) {
-            MsgPart::Inr(part) => is_message(store, part, a),
+        Msg::Inr(a) => match part {
+            MsgPart::Inr(inner) => is_message(store, inner, a),
             _ => false,
         },
-        Msg::Enc(a, b) => match store.part(id) {
+        Msg::Enc(a, b) => match part {
             MsgPart::Enc(body, key) => is_message(store, body, a) && is_message(store, key, b),
             _ => false,
         },
-        Msg::Hash(a) => match store.part(id) {
-            MsgPart::Hash(part) => is_message(store, part, a),
+        Msg::Hash(a) => match part {
+            MsgPart::Hash(inner) => is_message(store, inner, a),
             _ => false,
         },
     }

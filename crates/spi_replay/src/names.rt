@@ -12,14 +12,14 @@ use spi_intern::{MsgId, MsgPart, Store};
 use spi_term::Msg;
 
 /// The message of a bound name, and the link of the name that was bound before it.
-#[derive(Clone, Copy, Debug)]
+#[derive(Clone, Copy)]
 pub struct Link {
     pub value: MsgId,
     pub before: usize,
 }
 
 /// The names in scope at a node: so many free ones, and so many bound ones with messages, of which `last` links the last.
-#[derive(Clone, Copy, Debug)]
+#[derive(Clone, Copy)]
 pub struct Scope {
     pub free: u32,
     pub bound: u32,

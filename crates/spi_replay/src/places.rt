@@ -5,13 +5,14 @@ ghost use Rattle.spi_term.specs.Names.{MessageOver};
 ghost use Rattle.spi_term.specs.Substitution.{replace};
 ghost use Rattle.spi_term.specs.View.{message, shape_of};
 ghost use Rattle.spi_intern.specs.Meaning.{Keeps};
-ghost use Rattle.spi_replay.specs.Moves.{puts, split_move, select_move, decrypt_move, case_move, check_move, move_of};
+ghost use Rattle.spi_replay.specs.Moves.{puts, select_move, decrypt_move, check_move, move_of};
+ghost use Rattle.spi_replay.specs.Lone.{lone_move};
 ghost use Rattle.spi_intern.specs.Table.{KeepsAll};
 ghost use Rattle.spi_replay.specs.Standing.{HasNames, WaitsFor, AreBelow, CanEnter, HasEntered, CanBind, HasBound, CanBindTwo, HasBoundTwo};
 
 use crate::NoMemory;
 use crate::names::{Link, Scope, bind, instance};
-use crate::waits::{Kind, Wait, case_wait, check_wait, decrypt_wait, select_wait, split_wait};
+use crate::waits::{Kind, Lone, Wait, check_wait, decrypt_wait, lone_wait, select_wait};
 use spi_intern::{MsgId, Store};
 use spi_term::{Form, Msg, Node, Process};
 
@@ -45,20 +46,20 @@ fn wait_to_put(
     Ok(Wait::Puts(on, what))
 }
 
-fn wait_to_split(
+fn wait_alone(
     store: &mut Store,
     links: &[Link],
     scope: Scope,
-    whole: &Msg,
-    body: u32,
+    m: &Msg,
+    lone: Lone,
 ) -> Result<Wait, NoMemory>
-    requires over { MessageOver (scope.free + scope.bound) 0 (message whole.now) }
+    requires over { MessageOver (scope.free + scope.bound) 0 (message m.now) }
     requires names { HasNames store.old.messages links.now scope }
-    ensures at { IfOk result (λ w. WaitsFor store.old.messages store.new.messages links.now scope (λ f. split_move (replace f (message whole.now)) body) w) }
+    ensures at { IfOk result (λ w. WaitsFor store.old.messages store.new.messages links.now scope (λ f. lone_move lone (replace f (message m.now))) w) }
     ensures kept { Keeps store.old store.new }
 {
-    let id = instance(store, links, scope, whole)?;
-    Ok(split_wait(store.part(id), body))
+    let id = instance(store, links, scope, m)?;
+    Ok(lone_wait(lone, id, store.part(id)))
 }
 
 fn wait_to_select(
@@ -103,23 +104,6 @@ fn wait_to_decrypt(
     Ok(decrypt_wait(store.part(id), other, body))
 }
 
-fn wait_to_branch(
-    store: &mut Store,
-    links: &[Link],
-    scope: Scope,
-    whole: &Msg,
-    on_left: u32,
-    on_right: u32,
-) -> Result<Wait, NoMemory>
-    requires over { MessageOver (scope.free + scope.bound) 0 (message whole.now) }
-    requires names { HasNames store.old.messages links.now scope }
-    ensures at { IfOk result (λ w. WaitsFor store.old.messages store.new.messages links.now scope (λ f. case_move (replace f (message whole.now)) on_left on_right) w) }
-    ensures kept { Keeps store.old store.new }
-{
-    let id = instance(store, links, scope, whole)?;
-    Ok(case_wait(store.part(id), on_left, on_right))
-}
-
 fn wait_to_check(
     store: &mut Store,
     links: &[Link],
@@ -150,15 +134,27 @@ fn wait_at(store: &mut Store, links: &[Link], scope: Scope, node: &Node) -> Resu
 {
     match &node.form {
         Form::Send { channel, datum } => wait_to_put(store, links, scope, channel, datum),
-        Form::Recv { channel, body, .. } => {
-            let id = instance(store, links, scope, channel)?;
-            Ok(Wait::Takes(id, *body))
-        }
-        Form::Serve { channel, body, .. } => {
-            let id = instance(store, links, scope, channel)?;
-            Ok(Wait::TakesAgain(id, *body))
-        }
-        Form::Split { whole, body, .. } => wait_to_split(store, links, scope, whole, *body),
+        Form::Recv { channel, body, .. } => wait_alone(
+            store,
+            links,
+            scope,
+            channel,
+            Lone::Takes(*body),
+        ),
+        Form::Serve { channel, body, .. } => wait_alone(
+            store,
+            links,
+            scope,
+            channel,
+            Lone::TakesAgain(*body),
+        ),
+        Form::Split { whole, body, .. } => wait_alone(
+            store,
+            links,
+            scope,
+            whole,
+            Lone::Splits(*body),
+        ),
         Form::Select {
             whole,
             equal,
@@ -170,7 +166,13 @@ fn wait_at(store: &mut Store, links: &[Link], scope: Scope, node: &Node) -> Resu
             on_left,
             on_right,
             ..
-        } => wait_to_branch(store, links, scope, whole, *on_left, *on_right),
+        } => wait_alone(
+            store,
+            links,
+            scope,
+            whole,
+            Lone::Branches(*on_left, *on_right),
+        ),
         Form::Decrypt {
             whole,
             key,
@@ -180,22 +182,34 @@ fn wait_at(store: &mut Store, links: &[Link], scope: Scope, node: &Node) -> Resu
         Form::Check { whole, nonce, body } => wait_to_check(
             store, links, scope, whole, nonce, *body,
         ),
-        Form::Begin { label, body } => {
-            let id = instance(store, links, scope, label)?;
-            Ok(Wait::Shows(Kind::Begin, id, *body))
-        }
-        Form::End { label, body } => {
-            let id = instance(store, links, scope, label)?;
-            Ok(Wait::Shows(Kind::End, id, *body))
-        }
-        Form::EndMany { label, body } => {
-            let id = instance(store, links, scope, label)?;
-            Ok(Wait::Shows(Kind::EndMany, id, *body))
-        }
-        Form::Cast { whole, body, .. } => {
-            let id = instance(store, links, scope, whole)?;
-            Ok(Wait::BindsOne(id, *body))
-        }
+        Form::Begin { label, body } => wait_alone(
+            store,
+            links,
+            scope,
+            label,
+            Lone::Shows(Kind::Begin, *body),
+        ),
+        Form::End { label, body } => wait_alone(
+            store,
+            links,
+            scope,
+            label,
+            Lone::Shows(Kind::End, *body),
+        ),
+        Form::EndMany { label, body } => wait_alone(
+            store,
+            links,
+            scope,
+            label,
+            Lone::Shows(Kind::EndMany, *body),
+        ),
+        Form::Cast { whole, body, .. } => wait_alone(
+            store,
+            links,
+            scope,
+            whole,
+            Lone::BindsOne(*body),
+        ),
         Form::Fresh { body, .. } => Ok(Wait::Makes(*body)),
         Form::Par { first, rest } => Ok(Wait::Forks(*first, *rest)),
         Form::Stop => Ok(Wait::Stays),

@@ -1,6 +1,6 @@
 // Messages of a store by their numbers: how many nodes they have, and the messages themselves.
 
-ghost use Rattle.std.specs.Prelude.{◌≡◌, ◌+◌, ◌<◌, IfOk, length};
+ghost use Rattle.std.specs.Prelude.{◌≡◌, ◌+◌, ◌<◌, IfOk, Ok, length};
 ghost use Rattle.spi_term.specs.Term.{message_size};
 ghost use Rattle.spi_term.specs.Spelling.{stopped};
 ghost use Rattle.spi_term.specs.View.{message};
@@ -12,6 +12,13 @@ use crate::waits::Wait;
 use spi_intern::{MsgId, MsgPart, Store};
 use spi_term::Msg;
 use std::alloc::Global;
+
+// The message in a box, where there is one.
+fn boxed(alloc: Global, m: Result<Msg, NoMemory>) -> Result<Box<Msg>, NoMemory>
+    ensures { IfOk result (λ b. m ≡ Ok b.value) }
+{
+    Ok(Box::new(alloc, m?)?)
+}
 
 // A node over what has so many.
 fn one_more(below: u64) -> u64
@@ -47,26 +54,26 @@ pub fn message_of(alloc: Global, store: &Store, id: MsgId) -> Result<Msg, NoMemo
         MsgPart::Name(x) => Ok(Msg::Name(x)),
         MsgPart::Unit => Ok(Msg::Unit),
         MsgPart::Pair(a, b) => {
-            let first = message_of(alloc, store, a)?;
-            let second = message_of(alloc, store, b)?;
-            Ok(Msg::Pair(Box::new(alloc, first)?, Box::new(alloc, second)?))
+            let first = boxed(alloc, message_of(alloc, store, a))?;
+            let second = boxed(alloc, message_of(alloc, store, b))?;
+            Ok(Msg::Pair(first, second))
         }
         MsgPart::Inl(a) => {
-            let part = message_of(alloc, store, a)?;
-            Ok(Msg::Inl(Box::new(alloc, part)?))
+            let part = boxed(alloc, message_of(alloc, store, a))?;
+            Ok(Msg::Inl(part))
         }
         MsgPart::Inr(a) => {
-            let part = message_of(alloc, store, a)?;
-            Ok(Msg::Inr(Box::new(alloc, part)?))
+            let part = boxed(alloc, message_of(alloc, store, a))?;
+            Ok(Msg::Inr(part))
         }
         MsgPart::Enc(a, b) => {
-            let body = message_of(alloc, store, a)?;
-            let key = message_of(alloc, store, b)?;
-            Ok(Msg::Enc(Box::new(alloc, body)?, Box::new(alloc, key)?))
+            let body = boxed(alloc, message_of(alloc, store, a))?;
+            let key = boxed(alloc, message_of(alloc, store, b))?;
+            Ok(Msg::Enc(body, key))
         }
         MsgPart::Hash(a) => {
-            let part = message_of(alloc, store, a)?;
-            Ok(Msg::Hash(Box::new(alloc, part)?))
+            let part = boxed(alloc, message_of(alloc, store, a))?;
+            Ok(Msg::Hash(part))
         }
     }
 }

@@ -1,9 +1,11 @@
 // Steps of a pool's state.
 
 ghost use Rattle.std.specs.Prelude.{◌≡◌, ◌+◌, ◌-◌, ◌^◌, ◌<◌, ◌≤◌, ◌⊎◌, None, IfOk, IfErr, OnOk, OnErr, Some, length, slice_get};
+ghost use Rattle.spi_term.specs.Names.{ProcessOver};
 ghost use Rattle.spi_run.specs.Reduction.{act, talk};
 ghost use Rattle.spi_run.specs.Safety.{beside};
 ghost use Rattle.spi_replay.specs.Stepping.{Refuses, IsTaken, event_in};
+ghost use Rattle.spi_replay.specs.Started.{HasFirst};
 ghost use Rattle.spi_replay.specs.Pools.{pooled, IsState, MayAct, MayTalk, again_appends};
 
 use crate::NoMemory;
@@ -23,7 +25,6 @@ use std::alloc::Global;
 const MESSAGE_MOST: u64 = 1_000;
 
 /// A pool's places, how many names are used, and the messages and links that its places share.
-#[derive(Drop)]
 pub struct State<'p> {
     pub alloc: Global,
     pub names: u32,
@@ -31,6 +32,31 @@ pub struct State<'p> {
     pub store: Store,
     pub links: Vec<Link>,
     pub index: Index<'p>,
+}
+
+impl Drop for State<'_> {
+    fn drop(self) {
+        let State {
+            alloc: _,
+            names: _,
+            most: _,
+            store: _,
+            links: _,
+            index: _,
+        } = self;
+    }
+}
+
+// One place more, which stands at the first node of a process.
+fn push_first<'p>(state: &mut State<'p>, source: &'p Process) -> Result<(), NoMemory>
+    requires { length state.old.index.places.items < 2 ^ 32 - 1 }
+    ensures over { ProcessOver source.now.names source.now.process }
+    ensures pushed { OnOk result (HasFirst source.now state.old state.new) }
+{
+    // The nodes are asked for what their answer says: each name is one of those in scope.
+    let _ = source.len();
+    let first = entered(&mut state.store, &state.links, source, 0, 0)?;
+    state.index.push(first)
 }
 
 /// The process at place 0 and the opponent at place 1.
@@ -46,25 +72,17 @@ pub fn start<'p>(
     ensures beside { IfOk result (λ s. pooled s ≡ record { configuration = beside process.now.names process.now.process opponent.now.process; most = most }) }
     ensures is { IfOk result IsState }
 {
-    // The nodes are asked for what their answer says: each name is one of those in scope.
-    let _ = process.len();
-    let _ = opponent.len();
-    let mut store = Store::new(alloc);
-    let links = Vec::new(alloc);
-    let first = entered(&mut store, &links, process, 0, 0)?;
-    let second = entered(&mut store, &links, opponent, 0, 0)?;
-    let mut index = Index::new(alloc);
-    index.push(first)?;
-    index.push(second)?;
-    let names = process.names();
-    Ok(State {
+    let mut state = State {
         alloc,
-        names,
+        names: process.names(),
         most,
-        store,
-        links,
-        index,
-    })
+        store: Store::new(alloc),
+        links: Vec::new(alloc),
+        index: Index::new(alloc),
+    };
+    push_first(&mut state, process)?;
+    push_first(&mut state, opponent)?;
+    Ok(state)
 }
 
 // Whether the place acts alone, within the limits.

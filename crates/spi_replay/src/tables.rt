@@ -27,17 +27,59 @@ pub struct Change {
 }
 
 /// The new lists of the channels that a change touches.
-#[derive(Drop)]
 pub struct Lists {
     pub from: Vec<u32>,
     pub to: Vec<u32>,
 }
 
+impl Drop for Lists {
+    fn drop(self) {
+        let Lists { from: _, to: _ } = self;
+    }
+}
+
+impl Lists {
+    // The lists become those of the channels of a change. There is room for them.
+    fn put_in(self, table: &mut IndexMap<usize, Vec<u32>>, change: Change)
+        requires { 2 ≤ spare table.old }
+        ensures lists { (c : ℕ) → or_none (get nat_eq table.new c) ≡ (if is_on_of c change.to then self.to.items else (if is_on_of c change.from then self.from.items else or_none (get nat_eq table.old c))) }
+        ensures room { spare table.old ≤ spare table.new + 2 }
+    {
+        let Lists { from, to } = self;
+        put(table, change.from, from);
+        put(table, change.to, to);
+    }
+}
+
 /// The new lists of the channels that two changes touch.
-#[derive(Drop)]
 pub struct Relisted {
     pub first: Lists,
     pub second: Lists,
+}
+
+impl Drop for Relisted {
+    fn drop(self) {
+        let Relisted {
+            first: _,
+            second: _,
+        } = self;
+    }
+}
+
+impl Relisted {
+    /// The lists become those of their channels. There is room for them.
+    pub fn put_all(self, table: &mut IndexMap<usize, Vec<u32>>, first: Change, second: Change)
+        requires is { IsRelisted (get nat_eq table.old) first second self }
+        requires room { 4 ≤ spare table.old }
+        ensures { HasChanged first second (get nat_eq table.old) (get nat_eq table.new) }
+    {
+        let Relisted {
+            first: firsts,
+            second: seconds,
+        } = self;
+        firsts.put_in(table, first);
+        seconds.put_in(table, second);
+    }
 }
 
 fn out_channel(wait: Wait) -> Option<usize>
@@ -175,9 +217,9 @@ pub fn prepared(
     ensures room { OnOk result (4 ≤ spare table.new) }
     ensures same { IsUnchanged table.old table.new }
 {
+    table.reserve(4)?;
     let firsts = lists_after(alloc, table, first, first, second)?;
     let seconds = lists_after(alloc, table, second, first, second)?;
-    table.reserve(4)?;
     Ok(Relisted {
         first: firsts,
         second: seconds,
@@ -193,23 +235,6 @@ fn put(table: &mut IndexMap<usize, Vec<u32>>, channel: Option<usize>, list: Vec<
     if let Some(channel) = channel {
         let _ = table.insert(channel, list);
     }
-}
-
-/// The lists become those of their channels. There is room for them.
-pub fn put_all(
-    table: &mut IndexMap<usize, Vec<u32>>,
-    first: Change,
-    second: Change,
-    lists: Relisted,
-)
-    requires is { IsRelisted (get nat_eq table.old) first second lists }
-    requires room { 4 ≤ spare table.old }
-    ensures { HasChanged first second (get nat_eq table.old) (get nat_eq table.new) }
-{
-    put(table, first.from, lists.first.from);
-    put(table, first.to, lists.first.to);
-    put(table, second.from, lists.second.from);
-    put(table, second.to, lists.second.to);
 }
 
 /// Both tables after the turns of two places. After an error nothing has changed.
@@ -233,7 +258,7 @@ pub fn turn_both(
     let second_in = in_change(second);
     let new_outs = prepared(alloc, outs, first_out, second_out)?;
     let new_ins = prepared(alloc, ins, first_in, second_in)?;
-    put_all(outs, first_out, second_out, new_outs);
-    put_all(ins, first_in, second_in, new_ins);
+    new_outs.put_all(outs, first_out, second_out);
+    new_ins.put_all(ins, first_in, second_in);
     Ok(())
 }

@@ -12,7 +12,7 @@ use crate::refusal::put_place;
 use spi_fault::{Fault, Reason, Shown};
 use spi_scope::File;
 use spi_show::{show_atom, show_message};
-use spi_text::Lines;
+use spi_text::{Lines, Text};
 use std::alloc::Global;
 
 /// The number of a reason.
@@ -65,6 +65,17 @@ fn fault_head(alloc: Global, number: u32, name: &str) -> Result<String, NoMemory
     Ok(text)
 }
 
+/// Appends `: ` and a term.
+fn put_term(alloc: Global, out: &mut Vec<u8>, names: &[Text], shown: &Shown) -> Result<(), NoMemory>
+    ensures { OnOk result (out.new.items ≡ out.old.items ++ thing_text names.now (thing (Some shown.now))) }
+{
+    out.extend_from_slice(b": ")?;
+    match shown {
+        Shown::Message(m) => out.extend_from_slice(&show_message(alloc, names, m)?),
+        Shown::Atom(a) => out.extend_from_slice(&show_atom(alloc, names, a)?),
+    }
+}
+
 /// Appends what a fault shows, as `: shown`, or nothing where it shows nothing.
 fn put_thing(alloc: Global, out: &mut Vec<u8>, file: &File, f: &Fault) -> Result<(), NoMemory>
     ensures { OnOk result (out.new.items ≡ out.old.items ++ thing_text (reverse (chain_at file.now.marks.scopes f.now.scope_of)) (thing f.now.shown)) }
@@ -72,14 +83,7 @@ fn put_thing(alloc: Global, out: &mut Vec<u8>, file: &File, f: &Fault) -> Result
     let names = file.scope_names(alloc, f.scope_of)?;
     match &f.shown {
         None => Ok(()),
-        Some(Shown::Message(m)) => {
-            out.extend_from_slice(b": ")?;
-            out.extend_from_slice(&show_message(alloc, &names, m)?)
-        }
-        Some(Shown::Atom(a)) => {
-            out.extend_from_slice(b": ")?;
-            out.extend_from_slice(&show_atom(alloc, &names, a)?)
-        }
+        Some(shown) => put_term(alloc, out, &names, shown),
     }
 }
 

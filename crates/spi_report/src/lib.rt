@@ -25,6 +25,3 @@ pub fn yes() -> &'static [u8]
 {
     b"yes\n"
 }
-
-#[cfg(test)]
-mod tests;

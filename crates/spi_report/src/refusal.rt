@@ -7,7 +7,7 @@ use spi_text::Lines;
 use std::alloc::Global;
 
 /// A refusal: why a file, a play or a listing isn't answered.
-#[derive(Debug, Drop)]
+#[derive(Drop)]
 pub struct Refusal {
     /// The number of the cause, by which it has its name.
     pub number: u32,

@@ -79,8 +79,7 @@ fn put_line(
     let number = k as u64 + 1;
     out.extend_from_slice(format!(in alloc; "{number}")?.as_bytes())?;
     put_event(alloc, out, names, e, begin)?;
-    out.push(b'\n')?;
-    Ok(())
+    out.extend_from_slice(b"\n")
 }
 
 // Whether it is an end or endmany without a begin.

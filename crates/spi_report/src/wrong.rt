@@ -1,5 +1,5 @@
 // The line of a wrong step.
-ghost use Rattle.std.specs.Prelude.{◌≡◌, ◌≤◌, ◌++◌, length, codes, IfOk, string_bytes};
+ghost use Rattle.std.specs.Prelude.{◌≡◌, ◌≤◌, ◌++◌, length, codes, IfOk, OnOk};
 ghost use Rattle.std.specs.Fmt.{decimal};
 ghost use Rattle.spi_scope.specs.Places.{place_in};
 ghost use Rattle.spi_report.specs.Wrong.{wrong_text};
@@ -10,12 +10,11 @@ use spi_scope::File;
 use spi_text::Lines;
 use std::alloc::Global;
 
-/// The end of the line: `: I`.
-fn index_text(alloc: Global, index: u32) -> Result<String, NoMemory>
-    ensures { IfOk result (λ text. string_bytes text ≡ codes ": " ++ decimal index) }
+/// Appends the end of the line: `: I` and a LF.
+fn put_index(alloc: Global, out: &mut Vec<u8>, index: u32) -> Result<(), NoMemory>
+    ensures { OnOk result (out.new.items ≡ out.old.items ++ (codes ": " ++ decimal index ++ codes "\n")) }
 {
-    let text = format!(in alloc; ": {index}")?;
-    Ok(text)
+    out.extend_from_slice(format!(in alloc; ": {index}\n")?.as_bytes())
 }
 
 /// The line of a wrong step of the file's derivation: `no: 90 WrongStep at L:C: I` and a LF. The place is that of the
@@ -32,7 +31,6 @@ pub fn wrong_step(
 {
     let mut out = b"no: 90 WrongStep".to_vec(alloc)?;
     put_place(alloc, &mut out, lines, Some(file.rule_place(index).from))?;
-    out.extend_from_slice(index_text(alloc, index)?.as_bytes())?;
-    out.push(b'\n')?;
+    put_index(alloc, &mut out, index)?;
     Ok(out)
 }

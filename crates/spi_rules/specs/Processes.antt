@@ -23,7 +23,8 @@ IsGenerative (sum_ty t u) = ⊥
 IsGenerative (key t) = ⊤
 IsGenerative (nonce es) = ⊥
 
--- a process has an effect. Each row concludes with any list that has the counts it states
+-- a process has an effect. A row that computes an effect (a sum, a difference, a greatest count) concludes with any list
+-- of the counts that it states; the others conclude with the very list of their premise
 pub data HasEffect (casts : List Cast) : Env → Process → Effect → Type 0 where
   proc_stop : {env : Env} → HasEffect casts env stop []
   proc_out : {env : Env} {m n : Message}

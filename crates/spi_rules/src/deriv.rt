@@ -7,14 +7,14 @@ use crate::rule::Rule;
 use spi_term::Effect;
 
 /// One use of a rule. The effect that it concludes with is written at a use of `ProcSub`, and at no other.
-#[derive(Debug, Drop)]
+#[derive(Drop)]
 pub struct RuleUse {
     pub rule: Rule,
     pub taken: Option<Effect>,
 }
 
 /// A derivation: its rule uses in preorder, each before those of its premises.
-#[derive(Debug, Drop)]
+#[derive(Drop)]
 pub struct Deriv {
     pub uses: Vec<RuleUse>,
 }

@@ -10,7 +10,7 @@ use std::alloc::Global;
 use std::marker::Model;
 
 /// An environment: the type of each name, from name 0 on.
-#[derive(Debug, Drop)]
+#[derive(Drop)]
 pub struct Env {
     types: Vec<Ty>,
 }

@@ -5,7 +5,7 @@ ghost use Rattle.spi_rules.specs.Rule.{arity, spelled, named};
 
 /// A rule of the type system, named as its row in the tables of rules. `MsgHash` and `ProcEndMany` are rules of
 /// version 2 derivations.
-#[derive(Clone, Copy, Debug, PartialEq, Eq)]
+#[derive(Clone, Copy, PartialEq, Eq)]
 pub enum Rule {
     MsgName,
     MsgUnit,

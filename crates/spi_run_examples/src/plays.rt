@@ -2,21 +2,27 @@
 
 ghost use Rattle.std.specs.Prelude.{◌≡◌};
 
-use crate::processes::{begins_twice, makes_a_name, stops, two_begin};
+use crate::processes::{NoMemory, begins_twice, shows, stops};
 use spi_play::{Menu, Pick, PlayFault, Player, Scripted, play};
 use spi_replay::Pool;
-use spi_run::Step;
 use spi_term::Process;
-use std::alloc::{AllocError, Global};
+use std::alloc::Global;
 use std::cell::Cell;
 use std::rc::Rc;
-use std::test::Fail;
 
 // How many players were dropped, and how often they were asked in all.
-#[derive(Drop)]
 struct Gone {
     players: Cell<u32>,
     asked: Cell<u64>,
+}
+
+impl Drop for Gone {
+    fn drop(self) {
+        let Gone {
+            players: _,
+            asked: _,
+        } = self;
+    }
 }
 
 // A player by a script, which is counted when it is dropped.
@@ -48,144 +54,93 @@ impl Player for Counted {
     }
 }
 
-fn nobody(alloc: Global) -> Result<Rc<Gone>, AllocError> {
-    let gone = Gone {
-        players: Cell::new(0),
-        asked: Cell::new(0),
-    };
-    Ok(Rc::new(alloc, gone)?)
-}
-
 // A player that picks these numbers, and then leaves.
-fn player<const N: usize>(
-    alloc: Global,
-    gone: &Rc<Gone>,
-    script: [u64; N],
-) -> Result<Box<dyn Player>, AllocError> {
-    let script = Scripted::new(Vec::from_array(alloc, script)?);
+fn player(alloc: Global, gone: &Rc<Gone>, script: &[u64]) -> Result<Box<dyn Player>, NoMemory> {
+    let script = Scripted::new(script.to_vec(alloc)?);
     let gone = Rc::clone(gone)?;
     let player: Box<dyn Player> = Box::new(alloc, Counted { script, gone })?;
     Ok(player)
 }
 
-// The steps of a play of nine steps at most, where the one player that may play is there.
+// How many steps a play of nine steps at most has, or 100 and the number that was picked out of range.
 fn played(
     alloc: Global,
     process: &Process,
     opponent: &Process,
     players: &mut Vec<Box<dyn Player>>,
     only: Option<usize>,
-) -> Result<Vec<Step>, PlayFault>
+) -> Result<u64, NoMemory>
     requires process { process.now.names ≡ 1 }
     requires opponent { opponent.now.names ≡ 1 }
 {
     if let Some(place) = only {
         if place >= players.len() {
-            return Err(PlayFault::NoMemory);
+            return Ok(0);
         }
     }
     let mut pool = Pool::start(alloc, process, opponent, 5000)?;
     match play(alloc, &mut pool, players, only, 9) {
-        Ok(done) => Ok(done.steps),
-        Err(fault) => Err(fault),
+        Ok(done) => Ok(done.steps.len() as u64),
+        Err(PlayFault::BadPick { picked, .. }) => Ok(picked.saturating_add(100)),
+        Err(_) => Ok(99),
     }
 }
 
-#[test]
-fn players_that_leave_are_dropped_once(rt: HostRuntime) -> Result<(), Fail> {
-    let alloc = rt.alloc();
+// What comes of a play of `begin a; begin a; stop` by two players with these scripts: its steps, how many players are
+// left, and how many were dropped and how often they were asked.
+fn outcome(
+    alloc: Global,
+    first: &[u64],
+    second: &[u64],
+    only: Option<usize>,
+) -> Result<[u64; 4], NoMemory> {
     let process = begins_twice(alloc)?;
     let opponent = stops(alloc)?;
-    let gone = nobody(alloc)?;
+    let gone = Rc::new(
+        alloc,
+        Gone {
+            players: Cell::new(0),
+            asked: Cell::new(0),
+        },
+    )?;
     let mut players = Vec::new(alloc);
-    players.push(player(alloc, &gone, [])?)?;
-    players.push(player(alloc, &gone, [])?)?;
-    let steps = played(alloc, &process, &opponent, &mut players, None)?;
-    assert!(rt; steps.is_empty());
-    assert!(rt; players.is_empty());
-    assert_eq!(rt; gone.players.get(), 2);
-    assert_eq!(rt; gone.asked.get(), 2);
-    Ok(())
+    players.push(player(alloc, &gone, first)?)?;
+    players.push(player(alloc, &gone, second)?)?;
+    let steps = played(alloc, &process, &opponent, &mut players, only)?;
+    let left = players.len() as u64;
+    Ok([steps, left, gone.players.get() as u64, gone.asked.get()])
+}
+
+fn comes_to(
+    alloc: Global,
+    first: &[u64],
+    second: &[u64],
+    only: Option<usize>,
+    wanted: [u64; 4],
+) -> Result<bool, NoMemory> {
+    Ok(outcome(alloc, first, second, only)? == wanted)
 }
 
 #[test]
-fn one_player_alone_is_asked(rt: HostRuntime) -> Result<(), Fail> {
-    let alloc = rt.alloc();
-    let process = begins_twice(alloc)?;
-    let opponent = stops(alloc)?;
-    let gone = nobody(alloc)?;
-    let mut players = Vec::new(alloc);
-    players.push(player(alloc, &gone, [])?)?;
-    players.push(player(alloc, &gone, [])?)?;
-    let steps = played(alloc, &process, &opponent, &mut players, Some(1))?;
-    assert!(rt; steps.is_empty());
-    assert_eq!(rt; gone.players.get(), 1);
-    assert_eq!(rt; gone.asked.get(), 1);
-    let left = players.pop().ok_or("both are gone")?;
-    assert!(rt; players.is_empty());
-    assert_eq!(rt; left.asked(), 0);
-    Ok(())
+fn players_that_leave_are_dropped_once(rt: HostRuntime) {
+    let both = comes_to(rt.alloc(), &[], &[], None, [0, 0, 2, 2]);
+    shows(&rt, "two players that leave", both);
 }
 
 #[test]
-fn a_play_goes_on_without_those_that_left(rt: HostRuntime) -> Result<(), Fail> {
-    let alloc = rt.alloc();
-    let process = begins_twice(alloc)?;
-    let opponent = stops(alloc)?;
-    let gone = nobody(alloc)?;
-    let mut players = Vec::new(alloc);
-    players.push(player(alloc, &gone, [])?)?;
-    players.push(player(alloc, &gone, [0, 0])?)?;
-    let steps = played(alloc, &process, &opponent, &mut players, None)?;
-    assert_eq!(rt; steps.as_slice(), [Step::Act(0), Step::Act(0)].as_slice());
-    assert_eq!(rt; players.len(), 1);
-    assert_eq!(rt; gone.players.get(), 1);
-    Ok(())
+fn one_player_alone_is_asked(rt: HostRuntime) {
+    let alone = comes_to(rt.alloc(), &[], &[], Some(1), [0, 1, 1, 1]);
+    shows(&rt, "the second of two players", alone);
 }
 
 #[test]
-fn a_pick_out_of_range_has_the_place_at_that_moment(rt: HostRuntime) -> Result<(), Fail> {
-    let alloc = rt.alloc();
-    let process = begins_twice(alloc)?;
-    let opponent = stops(alloc)?;
-    let gone = nobody(alloc)?;
-    let mut players = Vec::new(alloc);
-    players.push(player(alloc, &gone, [0, 5])?)?;
-    players.push(player(alloc, &gone, [])?)?;
-    let fault = played(alloc, &process, &opponent, &mut players, None).err();
-    let bad = PlayFault::BadPick {
-        player: 0,
-        picked: 5,
-        ready: 1,
-    };
-    assert_eq!(rt; fault, Some(bad));
-    assert_eq!(rt; gone.players.get(), 1);
-    assert_eq!(rt; gone.asked.get(), 1);
-    let mut left = players.pop().ok_or("both are gone")?;
-    assert!(rt; players.is_empty());
-    assert_eq!(rt; left.asked(), 2);
-    let menu = Menu {
-        ready: 1,
-        places: 2,
-    };
-    assert_eq!(rt; left.pick(&menu), Pick::Leave);
-    Ok(())
+fn a_play_goes_on_without_those_that_left(rt: HostRuntime) {
+    let second = comes_to(rt.alloc(), &[], &[0, 0], None, [2, 1, 1, 1]);
+    shows(&rt, "a player that stays", second);
 }
 
 #[test]
-fn a_pick_is_held_against_the_steps_that_are_ready(rt: HostRuntime) -> Result<(), Fail> {
-    let alloc = rt.alloc();
-    let process = two_begin(alloc)?;
-    let opponent = makes_a_name(alloc)?;
-    let gone = nobody(alloc)?;
-    let mut players = Vec::new(alloc);
-    players.push(player(alloc, &gone, [0, 7])?)?;
-    let fault = played(alloc, &process, &opponent, &mut players, None).err();
-    let bad = PlayFault::BadPick {
-        player: 0,
-        picked: 7,
-        ready: 3,
-    };
-    assert_eq!(rt; fault, Some(bad));
-    Ok(())
+fn a_pick_out_of_range_is_told(rt: HostRuntime) {
+    let bad = comes_to(rt.alloc(), &[0, 5], &[], None, [105, 1, 1, 1]);
+    shows(&rt, "five of one step", bad);
 }

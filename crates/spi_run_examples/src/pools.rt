@@ -2,34 +2,11 @@
 
 ghost use Rattle.std.specs.Prelude.{◌≡◌};
 
-use crate::processes::{makes_a_name, repeats, stops, two_begin};
-use spi_replay::{NoMemory, Pool, StepFault};
+use crate::processes::{NoMemory, begins_twice, makes_a_name, repeats, shows, stops};
+use spi_replay::{Pool, StepFault};
 use spi_run::Step;
-use spi_term::{Msg, Process};
+use spi_term::Msg;
 use std::alloc::Global;
-use std::test::Fail;
-
-fn started<'p>(
-    alloc: Global,
-    process: &'p Process,
-    opponent: &'p Process,
-    many: bool,
-) -> Result<Pool<'p>, NoMemory>
-    requires { process.now.names ≡ opponent.now.names }
-{
-    Pool::start(alloc, process, opponent, if many { 5000 } else { 2 })
-}
-
-// Takes a step, and gives why it is refused.
-fn refused(pool: &mut Pool<'_>, step: Step) -> Option<StepFault> {
-    if pool.names() > 10 {
-        return None;
-    }
-    match pool.step(step) {
-        Ok(_) => None,
-        Err(fault) => Some(fault),
-    }
-}
 
 // How many steps are ready at each of the first three places.
 fn ready_at(pool: &Pool<'_>) -> [u64; 3] {
@@ -42,70 +19,67 @@ fn ready_at(pool: &Pool<'_>) -> [u64; 3] {
     counts
 }
 
-#[test]
-fn steps_are_counted_by_their_first_places(rt: HostRuntime) -> Result<(), Fail> {
-    let alloc = rt.alloc();
-    let process = two_begin(alloc)?;
+fn are_counted(alloc: Global) -> Result<bool, NoMemory> {
+    let process = begins_twice(alloc)?;
     let opponent = makes_a_name(alloc)?;
-    let pool = started(alloc, &process, &opponent, true)?;
-    assert_eq!(rt; pool.ready(), 2);
-    assert_eq!(rt; ready_at(&pool), [1, 1, 0]);
-    assert!(rt; pool.outs_on(&Msg::Name(0)).is_empty());
-    Ok(())
+    let pool = Pool::start(alloc, &process, &opponent, 5000)?;
+    let none_waits = pool.outs_on(&Msg::Name(0)).is_empty();
+    Ok(pool.ready() == 2 && ready_at(&pool) == [1, 1, 0] && none_waits)
 }
 
-// The place, where there is one alone.
-fn only_of(places: &[u32]) -> Option<u32> {
-    match places {
-        [place] => Some(*place),
-        _ => None,
+#[test]
+fn steps_are_counted_by_their_first_places(rt: HostRuntime) {
+    shows(&rt, "a begin beside a new name", are_counted(rt.alloc()));
+}
+
+// Takes a step, and gives why it is refused, by the number of its kind and its own number.
+fn refused(pool: &mut Pool<'_>, step: Step) -> (u32, u32) {
+    if pool.names() > 10 {
+        return (0, 0);
     }
-}
-
-// The places of the first ready step, where that is a communication.
-fn first_of(pool: &Pool<'_>) -> (u32, u32) {
-    match pool.kth(0) {
-        Some(Step::Talk(out, inp)) => (out, inp),
+    match pool.step(step) {
+        Err(StepFault::NoPlace { place }) => (60, place),
+        Err(StepFault::NotReady { place }) => (61, place),
+        Err(StepFault::TooManyPlaces { places }) => (63, places),
         _ => (0, 0),
     }
 }
 
-#[test]
-fn places_are_found_by_their_channel(rt: HostRuntime) -> Result<(), Fail> {
-    let alloc = rt.alloc();
+fn are_found(alloc: Global) -> Result<bool, NoMemory> {
     let process = repeats(alloc)?;
     let opponent = stops(alloc)?;
-    let channel = Msg::Name(0);
-    let mut pool = started(alloc, &process, &opponent, true)?;
-    assert!(rt; refused(&mut pool, Step::Act(0)).is_none());
-    assert_eq!(rt; pool.ready(), 1);
-    assert_eq!(rt; first_of(&pool), (2, 0));
-    assert_eq!(rt; ready_at(&pool), [0, 0, 1]);
-    assert_eq!(rt; only_of(pool.outs_on(&channel)), Some(2));
-    assert_eq!(rt; only_of(pool.ins_on(&channel)), Some(0));
-    Ok(())
-}
-
-// The kind of a refusal, and the number in it.
-fn shown(fault: Option<StepFault>) -> (u32, u32) {
-    match fault {
-        Some(StepFault::NoPlace { place }) => (60, place),
-        Some(StepFault::NotReady { place }) => (61, place),
-        Some(StepFault::TooManyPlaces { places }) => (63, places),
-        _ => (0, 0),
-    }
+    let mut pool = Pool::start(alloc, &process, &opponent, 5000)?;
+    let is_taken = matches!(refused(&mut pool, Step::Act(0)), (0, 0));
+    let outs = matches!(pool.outs_on(&Msg::Name(0)), [2]);
+    let ins = matches!(pool.ins_on(&Msg::Name(0)), [0]);
+    let first = matches!(pool.kth(0), Some(Step::Talk(2, 0)));
+    Ok(is_taken && outs && ins && first && ready_at(&pool) == [0, 0, 1])
 }
 
 #[test]
-fn a_refused_step_leaves_the_pool(rt: HostRuntime) -> Result<(), Fail> {
-    let alloc = rt.alloc();
-    let process = two_begin(alloc)?;
-    let opponent = makes_a_name(alloc)?;
-    let mut pool = started(alloc, &process, &opponent, false)?;
-    assert_eq!(rt; shown(refused(&mut pool, Step::Act(0))), (63, 3));
-    assert_eq!(rt; shown(refused(&mut pool, Step::Talk(0, 1))), (61, 0));
-    assert_eq!(rt; shown(refused(&mut pool, Step::Talk(0, 2))), (60, 2));
-    assert_eq!(rt; pool.places(), 2);
-    assert_eq!(rt; ready_at(&pool), [1, 1, 0]);
-    Ok(())
+fn places_are_found_by_their_channel(rt: HostRuntime) {
+    shows(
+        &rt,
+        "an output beside a repeated input",
+        are_found(rt.alloc()),
+    );
+}
+
+fn is_left(alloc: Global) -> Result<bool, NoMemory> {
+    let process = repeats(alloc)?;
+    let opponent = stops(alloc)?;
+    let mut pool = Pool::start(alloc, &process, &opponent, 2)?;
+    let many = matches!(refused(&mut pool, Step::Act(0)), (63, 3));
+    let unready = matches!(refused(&mut pool, Step::Talk(0, 1)), (61, 0));
+    let none = matches!(refused(&mut pool, Step::Talk(0, 2)), (60, 2));
+    Ok(many && unready && none && pool.places() == 2 && ready_at(&pool) == [1, 0, 0])
+}
+
+#[test]
+fn a_refused_step_leaves_the_pool(rt: HostRuntime) {
+    shows(
+        &rt,
+        "two processes where two places are the most",
+        is_left(rt.alloc()),
+    );
 }

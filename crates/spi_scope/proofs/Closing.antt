@@ -1,12 +1,14 @@
 -- A form with two processes is written after its first process.
-use Rattle.std.proofs.Common.{◌≡◌, ℕ, suc, ◌+◌, List, [], ◌∷◌, ◌++◌, length, map, refl, sym, ap, ◌∙◌, subst, arith, append_assoc}
+use Rattle.std.proofs.Common.{◌≡◌, ℕ, suc, ◌+◌, List, [], ◌∷◌, ◌++◌, length, map, refl, sym, ap, ◌∙◌, subst, arith, append_assoc, length-append}
 use Rattle.std.specs.Prelude.{slice_set}
 use Rattle.std.specs.List.{All, AllByRecursion}
 use Rattle.std.proofs.lemmas.List.Elements.{All-from_recursion}
 use Rattle.spi_term.specs.Term.{Fork, fork_binds, Process, fork, process_size}
 use Rattle.spi_term.specs.Spelling.{Shape, fork_at, flat, HasSmallParts, HaveSmallParts}
 use Rattle.spi_term.specs.View.{shape_of, shapes_of}
+use Rattle.std.proofs.lemmas.List.{length-map}
 use Rattle.spi_term.specs.declared.term.Node.{Node}
+use Rattle.spi_term.proofs.Rows.{length_flat}
 
 set_at : {A : Type 0} (old : List A) (x y : A) (a : List A) → slice_set (old ++ x ∷ a) (length old) y ≡ old ++ y ∷ a
 set_at [] x y a = refl
@@ -47,6 +49,10 @@ each_small (n ∷ ns) h = (h.0, each_small ns h.1)
 
 pub small_nodes : (ns : List Node) (ss : List Shape) → map shape_of ns ≡ ss → HaveSmallParts ss → All (λ n. HasSmallParts (shape_of n)) ns
 small_nodes ns ss e h = All-from_recursion (λ n. HasSmallParts (shape_of n)) ns (each_small ns (subst HaveSmallParts (sym e) h))
+
+-- behind the nodes of a process there are as many more
+pub grown : (a b : List Node) (i k : ℕ) (p : Process) → map shape_of b ≡ map shape_of a ++ flat i k p → length b ≡ length a + process_size p
+grown a b i k p e = omega (arith, length-map a shape_of, length-map b shape_of, ap length e, length-append (map shape_of a) (flat i k p), length_flat p i k)
 
 -- places, one after another
 pub one_more : (n i : ℕ) → n ≡ i → n + 1 ≡ suc i

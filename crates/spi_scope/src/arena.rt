@@ -1,13 +1,16 @@
 //! The nodes of a process in preorder.
 
-ghost use Rattle.std.specs.Prelude.{◌≡◌, ◌+◌, ◌<◌, [], ◌∷◌, ◌++◌, map, length, IfOk, OnOk, slice_set};
+ghost use Rattle.std.specs.Prelude.{◌≡◌, ◌+◌, ◌<◌, [], ◌∷◌, ◌++◌, map, length, IfOk, IfErr, OnOk, slice_set};
 ghost use Rattle.spi_term.specs.View.{form_of, shape_of};
+ghost use Rattle.spi_scope.specs.declared.fault.ScopeFault.TheVariants.{NoMemory as OutOfMemory};
 
 use crate::NoMemory;
+use crate::fault::ScopeFault;
 use crate::scope::Scope;
 use spi_term::{Form, Node};
 use spi_text::Span;
 use std::alloc::AllocError;
+use std::mem::replace;
 
 /// Nodes in preorder, and where they stand.
 #[derive(Drop)]
@@ -33,7 +36,7 @@ pub fn push(
     base: u32,
     form: Form,
     place: Span,
-) -> Result<(), NoMemory>
+) -> Result<(), ScopeFault>
     ensures nodes { OnOk result (map shape_of arena.new.nodes.items ≡ map shape_of arena.old.nodes.items ++ form_of base form ∷ []) }
     ensures len { OnOk result (length arena.new.nodes.items ≡ length arena.old.nodes.items + 1) }
     ensures places { OnOk result (arena.new.places.items ≡ arena.old.places.items ++ place ∷ []) }
@@ -41,10 +44,19 @@ pub fn push(
     ensures noted { OnOk result (scope.new.held.noted ≡ scope.old.held.noted ++ scope.old.held.names ∷ []) }
     ensures types { OnOk result (scope.new.types ≡ scope.old.types) }
     ensures count { OnOk result (scope.new.count ≡ scope.old.count) }
+    ensures err { IfErr result (λ e. e ≡ OutOfMemory) }
 {
     arena.nodes.push(Node { scope: base, form })?;
     arena.places.push(place)?;
-    scope.held.note()
+    scope.held.note()?;
+    Ok(())
+}
+
+/// The place's old value is dropped.
+pub fn put<T: Drop>(place: &mut T, value: T)
+    ensures { place.new ≡ value }
+{
+    drop(replace(place, value));
 }
 
 /// The node of a composition is written when the place of its second process is known.
@@ -54,5 +66,5 @@ pub fn close(arena: &mut Arena, at: usize, base: u32, form: Form)
     ensures places { arena.new.places ≡ arena.old.places }
     ensures len { length arena.new.nodes.items ≡ length arena.old.nodes.items }
 {
-    arena.nodes[at] = Node { scope: base, form };
+    put(&mut arena.nodes[at], Node { scope: base, form });
 }

@@ -1,6 +1,6 @@
 //! Derivations.
 
-ghost use Rattle.std.specs.Prelude.{◌≡◌, ◌+◌, ◌≤◌, [], ◌∷◌, ◌++◌, map, IfOk, OnOk};
+ghost use Rattle.std.specs.Prelude.{◌≡◌, ◌+◌, ◌≤◌, [], ◌∷◌, ◌++◌, map, IfOk, OnOk, Ok};
 ghost use Rattle.spi_tree.specs.Trees.{msgs_of_list, derivs_of_list};
 ghost use Rattle.spi_tree.specs.Views.{msg_of, atom_of, effect_of, deriv_of};
 ghost use Rattle.spi_term.specs.Term.{message_size};
@@ -22,6 +22,14 @@ use spi_term::{Atom, Effect, Msg};
 use spi_text::Span;
 use spi_tree::{SAtom, SDeriv, SMsg};
 use std::alloc::Global;
+
+/// The message in a box, with its nodes.
+fn boxed(alloc: Global, read: Result<(Msg, u64), NoMemory>) -> Result<(Box<Msg>, u64), NoMemory>
+    ensures { IfOk result (λ b. read ≡ Ok (b.0.value, b.1)) }
+{
+    let (m, total) = read?;
+    Ok((Box::new(alloc, m)?, total))
+}
 
 /// A message with numbers for names, with its nodes counted on. Where there are more than 1,000 nodes the message
 /// means nothing.
@@ -46,24 +54,25 @@ fn read_numbered(alloc: Global, spent: u64, m: &SMsg) -> Result<(Msg, u64), NoMe
             Ok((whole, total))
         }
         SMsg::Inl { part, .. } => {
-            let (part, total) = read_numbered(alloc, spent.saturating_add(1), part)?;
-            Ok((Msg::Inl(Box::new(alloc, part)?), total))
+            let part = read_numbered(alloc, spent.saturating_add(1), part);
+            let (part, total) = boxed(alloc, part)?;
+            Ok((Msg::Inl(part), total))
         }
         SMsg::Inr { part, .. } => {
-            let (part, total) = read_numbered(alloc, spent.saturating_add(1), part)?;
-            Ok((Msg::Inr(Box::new(alloc, part)?), total))
+            let part = read_numbered(alloc, spent.saturating_add(1), part);
+            let (part, total) = boxed(alloc, part)?;
+            Ok((Msg::Inr(part), total))
         }
         SMsg::Enc { body, key, .. } => {
-            let (body, total) = read_numbered(alloc, spent.saturating_add(1), body)?;
-            let (key, total) = read_numbered(alloc, total, key)?;
-            Ok((
-                Msg::Enc(Box::new(alloc, body)?, Box::new(alloc, key)?),
-                total,
-            ))
+            let body = read_numbered(alloc, spent.saturating_add(1), body);
+            let (body, total) = boxed(alloc, body)?;
+            let (key, total) = boxed(alloc, read_numbered(alloc, total, key))?;
+            Ok((Msg::Enc(body, key), total))
         }
         SMsg::Hash { part, .. } => {
-            let (part, total) = read_numbered(alloc, spent.saturating_add(1), part)?;
-            Ok((Msg::Hash(Box::new(alloc, part)?), total))
+            let part = read_numbered(alloc, spent.saturating_add(1), part);
+            let (part, total) = boxed(alloc, part)?;
+            Ok((Msg::Hash(part), total))
         }
         SMsg::Num { number, .. } => Ok((Msg::Name(*number), spent.saturating_add(1))),
     }

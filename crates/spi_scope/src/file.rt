@@ -14,7 +14,6 @@ use std::alloc::Global;
 
 /// A file: what a tree stands for. `marks` has where its parts stand in the tree, and how names were spelled there. Two
 /// files are equal where all fields but `marks` are.
-#[derive(Drop)]
 pub struct File {
     /// 1 or 2.
     pub version: u32,
@@ -28,6 +27,20 @@ pub struct File {
     pub schedule: Option<Vec<Step>>,
     pub derivation: Option<Deriv>,
     pub(crate) marks: Marks,
+}
+
+impl Drop for File {
+    fn drop(self) {
+        let File {
+            version: _,
+            names: _,
+            process: _,
+            opponent: _,
+            schedule: _,
+            derivation: _,
+            marks: _,
+        } = self;
+    }
 }
 
 impl File {

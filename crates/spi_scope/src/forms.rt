@@ -14,8 +14,8 @@ ghost use Rattle.spi_scope.specs.State.{abbreviations};
 use crate::arena::{Arena, here, push};
 use crate::fault::ScopeFault;
 use crate::heads::{
-    read_match_head, read_message_head, read_messages_head, read_new_head, read_split_head,
-    read_tested_head, read_typed_head,
+    add, read_annotation, read_message_head, read_messages_head, read_part, read_tested_head,
+    read_typed_head, read_under,
 };
 use crate::scope::Scope;
 use spi_term::Form;
@@ -37,16 +37,13 @@ pub fn receive<'t>(
     ensures nodes { OnOk result (map shape_of arena.new.nodes.items ≡ map shape_of arena.old.nodes.items ++ prefix_at (length scope.old.held.names) (Recvs (message_in (length scope.old.held.names) scope.old.held.names (msg_of channel.now)) (type_in (length scope.old.held.names) (abbreviations scope.old.types) scope.old.held.names (ty_of ty.entry.now))) (suc (length arena.old.nodes.items)) ∷ []) }
     ensures len { OnOk result (length arena.new.nodes.items ≡ length arena.old.nodes.items + 1) }
     ensures places { OnOk result (arena.new.places.items ≡ arena.old.places.items ++ span ∷ []) }
-    ensures names { OnOk result (scope.new.held.names ≡ scope.old.held.names) }
     ensures noted { OnOk result (scope.new.held.noted ≡ scope.old.held.noted ++ scope.old.held.names ∷ []) }
-    ensures types { OnOk result (scope.new.types ≡ scope.old.types) }
-    ensures few { OnOk result (scope.new.count ≤ 100000) }
+    ensures kept { OnOk result ((scope.new.held.names ≡ scope.old.held.names) × (scope.new.types ≡ scope.old.types) × (scope.new.count ≤ 100000)) }
 {
     let base = scope.held.len();
     let body = here(arena)? + 1;
     let (channel, ty) = read_typed_head(alloc, scope, base, span, channel, ty)?;
-    push(scope, arena, base, Form::Recv { channel, ty, body }, span)?;
-    Ok(())
+    push(scope, arena, base, Form::Recv { channel, ty, body }, span)
 }
 
 /// A repeated input.
@@ -63,19 +60,17 @@ pub fn serve<'t>(
     ensures nodes { OnOk result (map shape_of arena.new.nodes.items ≡ map shape_of arena.old.nodes.items ++ prefix_at (length scope.old.held.names) (Serves (message_in (length scope.old.held.names) scope.old.held.names (msg_of channel.now)) (type_in (length scope.old.held.names) (abbreviations scope.old.types) scope.old.held.names (ty_of ty.entry.now))) (suc (length arena.old.nodes.items)) ∷ []) }
     ensures len { OnOk result (length arena.new.nodes.items ≡ length arena.old.nodes.items + 1) }
     ensures places { OnOk result (arena.new.places.items ≡ arena.old.places.items ++ span ∷ []) }
-    ensures names { OnOk result (scope.new.held.names ≡ scope.old.held.names) }
     ensures noted { OnOk result (scope.new.held.noted ≡ scope.old.held.noted ++ scope.old.held.names ∷ []) }
-    ensures types { OnOk result (scope.new.types ≡ scope.old.types) }
-    ensures few { OnOk result (scope.new.count ≤ 100000) }
+    ensures kept { OnOk result ((scope.new.held.names ≡ scope.old.held.names) × (scope.new.types ≡ scope.old.types) × (scope.new.count ≤ 100000)) }
 {
     let base = scope.held.len();
     let body = here(arena)? + 1;
     let (channel, ty) = read_typed_head(alloc, scope, base, span, channel, ty)?;
-    push(scope, arena, base, Form::Serve { channel, ty, body }, span)?;
-    Ok(())
+    push(scope, arena, base, Form::Serve { channel, ty, body }, span)
 }
 
 /// A split.
+#[tactic(auto, unfolding(crate::specs::Points::split_head))]
 pub fn split<'t>(
     alloc: Global,
     scope: &mut Scope<'t>,
@@ -91,16 +86,15 @@ pub fn split<'t>(
     ensures nodes { OnOk result (map shape_of arena.new.nodes.items ≡ map shape_of arena.old.nodes.items ++ prefix_at (length scope.old.held.names) (Splits (message_in (length scope.old.held.names) scope.old.held.names (msg_of whole.now)) (type_in (length scope.old.held.names) (abbreviations scope.old.types) scope.old.held.names (ty_of left.entry.now)) (type_in (length scope.old.held.names) (abbreviations scope.old.types) (name.entry.now.word ∷ scope.old.held.names) (ty_of right.entry.now))) (suc (length arena.old.nodes.items)) ∷ []) }
     ensures len { OnOk result (length arena.new.nodes.items ≡ length arena.old.nodes.items + 1) }
     ensures places { OnOk result (arena.new.places.items ≡ arena.old.places.items ++ span ∷ []) }
-    ensures names { OnOk result (scope.new.held.names ≡ scope.old.held.names) }
     ensures noted { OnOk result (scope.new.held.noted ≡ scope.old.held.noted ++ scope.old.held.names ∷ []) }
-    ensures types { OnOk result (scope.new.types ≡ scope.old.types) }
-    ensures few { OnOk result (scope.new.count ≤ 100000) }
+    ensures kept { OnOk result ((scope.new.held.names ≡ scope.old.held.names) × (scope.new.types ≡ scope.old.types) × (scope.new.count ≤ 100000)) }
 {
     let base = scope.held.len();
     let body = here(arena)? + 1;
-    let (whole, first, second) = read_split_head(
-        alloc, scope, base, span, whole, name, left, right,
-    )?;
+    add(scope, 1, span)?;
+    let whole = read_part(alloc, scope, base, whole)?;
+    let (first, _) = read_annotation(alloc, scope, base, left)?;
+    let second = read_under(alloc, scope, base, name, right)?;
     push(
         scope,
         arena,
@@ -112,11 +106,11 @@ pub fn split<'t>(
             body,
         },
         span,
-    )?;
-    Ok(())
+    )
 }
 
 /// A match.
+#[tactic(auto, unfolding(crate::specs::Points::match_head))]
 pub fn select<'t>(
     alloc: Global,
     scope: &mut Scope<'t>,
@@ -133,16 +127,13 @@ pub fn select<'t>(
     ensures nodes { OnOk result (map shape_of arena.new.nodes.items ≡ map shape_of arena.old.nodes.items ++ prefix_at (length scope.old.held.names) (Selects (message_in (length scope.old.held.names) scope.old.held.names (msg_of whole.now)) (type_in (length scope.old.held.names) (abbreviations scope.old.types) scope.old.held.names (ty_of left.entry.now)) (message_in (length scope.old.held.names) scope.old.held.names (msg_of equal.now)) (type_in (length scope.old.held.names) (abbreviations scope.old.types) (name.entry.now.word ∷ scope.old.held.names) (ty_of right.entry.now))) (suc (length arena.old.nodes.items)) ∷ []) }
     ensures len { OnOk result (length arena.new.nodes.items ≡ length arena.old.nodes.items + 1) }
     ensures places { OnOk result (arena.new.places.items ≡ arena.old.places.items ++ span ∷ []) }
-    ensures names { OnOk result (scope.new.held.names ≡ scope.old.held.names) }
     ensures noted { OnOk result (scope.new.held.noted ≡ scope.old.held.noted ++ scope.old.held.names ∷ []) }
-    ensures types { OnOk result (scope.new.types ≡ scope.old.types) }
-    ensures few { OnOk result (scope.new.count ≤ 100000) }
+    ensures kept { OnOk result ((scope.new.held.names ≡ scope.old.held.names) × (scope.new.types ≡ scope.old.types) × (scope.new.count ≤ 100000)) }
 {
     let base = scope.held.len();
     let body = here(arena)? + 1;
-    let (whole, first, equal, second) = read_match_head(
-        alloc, scope, base, span, whole, name, left, equal, right,
-    )?;
+    let (whole, first, equal) = read_tested_head(alloc, scope, base, span, whole, left, equal)?;
+    let second = read_under(alloc, scope, base, name, right)?;
     push(
         scope,
         arena,
@@ -155,8 +146,7 @@ pub fn select<'t>(
             body,
         },
         span,
-    )?;
-    Ok(())
+    )
 }
 
 /// A decryption.
@@ -174,10 +164,8 @@ pub fn decrypt<'t>(
     ensures nodes { OnOk result (map shape_of arena.new.nodes.items ≡ map shape_of arena.old.nodes.items ++ prefix_at (length scope.old.held.names) (Decrypts (message_in (length scope.old.held.names) scope.old.held.names (msg_of whole.now)) (type_in (length scope.old.held.names) (abbreviations scope.old.types) scope.old.held.names (ty_of ty.entry.now)) (message_in (length scope.old.held.names) scope.old.held.names (msg_of key.now))) (suc (length arena.old.nodes.items)) ∷ []) }
     ensures len { OnOk result (length arena.new.nodes.items ≡ length arena.old.nodes.items + 1) }
     ensures places { OnOk result (arena.new.places.items ≡ arena.old.places.items ++ span ∷ []) }
-    ensures names { OnOk result (scope.new.held.names ≡ scope.old.held.names) }
     ensures noted { OnOk result (scope.new.held.noted ≡ scope.old.held.noted ++ scope.old.held.names ∷ []) }
-    ensures types { OnOk result (scope.new.types ≡ scope.old.types) }
-    ensures few { OnOk result (scope.new.count ≤ 100000) }
+    ensures kept { OnOk result ((scope.new.held.names ≡ scope.old.held.names) × (scope.new.types ≡ scope.old.types) × (scope.new.count ≤ 100000)) }
 {
     let base = scope.held.len();
     let body = here(arena)? + 1;
@@ -193,8 +181,7 @@ pub fn decrypt<'t>(
             body,
         },
         span,
-    )?;
-    Ok(())
+    )
 }
 
 /// A check.
@@ -211,16 +198,13 @@ pub fn check(
     ensures nodes { OnOk result (map shape_of arena.new.nodes.items ≡ map shape_of arena.old.nodes.items ++ prefix_at (length scope.old.held.names) (Checks (message_in (length scope.old.held.names) scope.old.held.names (msg_of whole.now)) (message_in (length scope.old.held.names) scope.old.held.names (msg_of nonce.now))) (suc (length arena.old.nodes.items)) ∷ []) }
     ensures len { OnOk result (length arena.new.nodes.items ≡ length arena.old.nodes.items + 1) }
     ensures places { OnOk result (arena.new.places.items ≡ arena.old.places.items ++ span ∷ []) }
-    ensures names { OnOk result (scope.new.held.names ≡ scope.old.held.names) }
     ensures noted { OnOk result (scope.new.held.noted ≡ scope.old.held.noted ++ scope.old.held.names ∷ []) }
-    ensures types { OnOk result (scope.new.types ≡ scope.old.types) }
-    ensures few { OnOk result (scope.new.count ≤ 100000) }
+    ensures kept { OnOk result ((scope.new.held.names ≡ scope.old.held.names) × (scope.new.types ≡ scope.old.types) × (scope.new.count ≤ 100000)) }
 {
     let base = scope.held.len();
     let body = here(arena)? + 1;
     let (whole, nonce) = read_messages_head(alloc, scope, base, span, whole, nonce)?;
-    push(scope, arena, base, Form::Check { whole, nonce, body }, span)?;
-    Ok(())
+    push(scope, arena, base, Form::Check { whole, nonce, body }, span)
 }
 
 /// A begin.
@@ -236,16 +220,13 @@ pub fn begin(
     ensures nodes { OnOk result (map shape_of arena.new.nodes.items ≡ map shape_of arena.old.nodes.items ++ prefix_at (length scope.old.held.names) (Begins (message_in (length scope.old.held.names) scope.old.held.names (msg_of label.now))) (suc (length arena.old.nodes.items)) ∷ []) }
     ensures len { OnOk result (length arena.new.nodes.items ≡ length arena.old.nodes.items + 1) }
     ensures places { OnOk result (arena.new.places.items ≡ arena.old.places.items ++ span ∷ []) }
-    ensures names { OnOk result (scope.new.held.names ≡ scope.old.held.names) }
     ensures noted { OnOk result (scope.new.held.noted ≡ scope.old.held.noted ++ scope.old.held.names ∷ []) }
-    ensures types { OnOk result (scope.new.types ≡ scope.old.types) }
-    ensures few { OnOk result (scope.new.count ≤ 100000) }
+    ensures kept { OnOk result ((scope.new.held.names ≡ scope.old.held.names) × (scope.new.types ≡ scope.old.types) × (scope.new.count ≤ 100000)) }
 {
     let base = scope.held.len();
     let body = here(arena)? + 1;
     let label = read_message_head(alloc, scope, base, span, label)?;
-    push(scope, arena, base, Form::Begin { label, body }, span)?;
-    Ok(())
+    push(scope, arena, base, Form::Begin { label, body }, span)
 }
 
 /// An end.
@@ -261,16 +242,13 @@ pub fn end(
     ensures nodes { OnOk result (map shape_of arena.new.nodes.items ≡ map shape_of arena.old.nodes.items ++ prefix_at (length scope.old.held.names) (Ends (message_in (length scope.old.held.names) scope.old.held.names (msg_of label.now))) (suc (length arena.old.nodes.items)) ∷ []) }
     ensures len { OnOk result (length arena.new.nodes.items ≡ length arena.old.nodes.items + 1) }
     ensures places { OnOk result (arena.new.places.items ≡ arena.old.places.items ++ span ∷ []) }
-    ensures names { OnOk result (scope.new.held.names ≡ scope.old.held.names) }
     ensures noted { OnOk result (scope.new.held.noted ≡ scope.old.held.noted ++ scope.old.held.names ∷ []) }
-    ensures types { OnOk result (scope.new.types ≡ scope.old.types) }
-    ensures few { OnOk result (scope.new.count ≤ 100000) }
+    ensures kept { OnOk result ((scope.new.held.names ≡ scope.old.held.names) × (scope.new.types ≡ scope.old.types) × (scope.new.count ≤ 100000)) }
 {
     let base = scope.held.len();
     let body = here(arena)? + 1;
     let label = read_message_head(alloc, scope, base, span, label)?;
-    push(scope, arena, base, Form::End { label, body }, span)?;
-    Ok(())
+    push(scope, arena, base, Form::End { label, body }, span)
 }
 
 /// An end many.
@@ -286,16 +264,13 @@ pub fn end_many(
     ensures nodes { OnOk result (map shape_of arena.new.nodes.items ≡ map shape_of arena.old.nodes.items ++ prefix_at (length scope.old.held.names) (EndManys (message_in (length scope.old.held.names) scope.old.held.names (msg_of label.now))) (suc (length arena.old.nodes.items)) ∷ []) }
     ensures len { OnOk result (length arena.new.nodes.items ≡ length arena.old.nodes.items + 1) }
     ensures places { OnOk result (arena.new.places.items ≡ arena.old.places.items ++ span ∷ []) }
-    ensures names { OnOk result (scope.new.held.names ≡ scope.old.held.names) }
     ensures noted { OnOk result (scope.new.held.noted ≡ scope.old.held.noted ++ scope.old.held.names ∷ []) }
-    ensures types { OnOk result (scope.new.types ≡ scope.old.types) }
-    ensures few { OnOk result (scope.new.count ≤ 100000) }
+    ensures kept { OnOk result ((scope.new.held.names ≡ scope.old.held.names) × (scope.new.types ≡ scope.old.types) × (scope.new.count ≤ 100000)) }
 {
     let base = scope.held.len();
     let body = here(arena)? + 1;
     let label = read_message_head(alloc, scope, base, span, label)?;
-    push(scope, arena, base, Form::EndMany { label, body }, span)?;
-    Ok(())
+    push(scope, arena, base, Form::EndMany { label, body }, span)
 }
 
 /// A cast.
@@ -312,19 +287,17 @@ pub fn cast<'t>(
     ensures nodes { OnOk result (map shape_of arena.new.nodes.items ≡ map shape_of arena.old.nodes.items ++ prefix_at (length scope.old.held.names) (Casts (message_in (length scope.old.held.names) scope.old.held.names (msg_of whole.now)) (type_in (length scope.old.held.names) (abbreviations scope.old.types) scope.old.held.names (ty_of ty.entry.now))) (suc (length arena.old.nodes.items)) ∷ []) }
     ensures len { OnOk result (length arena.new.nodes.items ≡ length arena.old.nodes.items + 1) }
     ensures places { OnOk result (arena.new.places.items ≡ arena.old.places.items ++ span ∷ []) }
-    ensures names { OnOk result (scope.new.held.names ≡ scope.old.held.names) }
     ensures noted { OnOk result (scope.new.held.noted ≡ scope.old.held.noted ++ scope.old.held.names ∷ []) }
-    ensures types { OnOk result (scope.new.types ≡ scope.old.types) }
-    ensures few { OnOk result (scope.new.count ≤ 100000) }
+    ensures kept { OnOk result ((scope.new.held.names ≡ scope.old.held.names) × (scope.new.types ≡ scope.old.types) × (scope.new.count ≤ 100000)) }
 {
     let base = scope.held.len();
     let body = here(arena)? + 1;
     let (whole, ty) = read_typed_head(alloc, scope, base, span, whole, ty)?;
-    push(scope, arena, base, Form::Cast { whole, ty, body }, span)?;
-    Ok(())
+    push(scope, arena, base, Form::Cast { whole, ty, body }, span)
 }
 
 /// A new name.
+#[tactic(auto, unfolding(crate::specs::Points::new_head))]
 pub fn fresh<'t>(
     alloc: Global,
     scope: &mut Scope<'t>,
@@ -337,14 +310,12 @@ pub fn fresh<'t>(
     ensures nodes { OnOk result (map shape_of arena.new.nodes.items ≡ map shape_of arena.old.nodes.items ++ prefix_at (length scope.old.held.names) (Makes (type_in (length scope.old.held.names) (abbreviations scope.old.types) scope.old.held.names (ty_of ty.entry.now))) (suc (length arena.old.nodes.items)) ∷ []) }
     ensures len { OnOk result (length arena.new.nodes.items ≡ length arena.old.nodes.items + 1) }
     ensures places { OnOk result (arena.new.places.items ≡ arena.old.places.items ++ span ∷ []) }
-    ensures names { OnOk result (scope.new.held.names ≡ scope.old.held.names) }
     ensures noted { OnOk result (scope.new.held.noted ≡ scope.old.held.noted ++ scope.old.held.names ∷ []) }
-    ensures types { OnOk result (scope.new.types ≡ scope.old.types) }
-    ensures few { OnOk result (scope.new.count ≤ 100000) }
+    ensures kept { OnOk result ((scope.new.held.names ≡ scope.old.held.names) × (scope.new.types ≡ scope.old.types) × (scope.new.count ≤ 100000)) }
 {
     let base = scope.held.len();
     let body = here(arena)? + 1;
-    let ty = read_new_head(alloc, scope, base, span, ty)?;
-    push(scope, arena, base, Form::Fresh { ty, body }, span)?;
-    Ok(())
+    add(scope, 1, span)?;
+    let (ty, _) = read_annotation(alloc, scope, base, ty)?;
+    push(scope, arena, base, Form::Fresh { ty, body }, span)
 }

@@ -5,7 +5,7 @@ ghost use Rattle.spi_tree.specs.Views.{msg_of, ty_of};
 ghost use Rattle.spi_term.specs.Spelling.{ty_nodes};
 ghost use Rattle.spi_term.specs.View.{message, ty};
 ghost use Rattle.spi_scope.specs.Meaning.{message_in, type_in};
-ghost use Rattle.spi_scope.specs.Points.{one, adds, part, ty_span, type_nodes, bounded_type, whole_type, message_head, messages_head, typed_head, new_head, tested_head, split_head, match_head};
+ghost use Rattle.spi_scope.specs.Points.{one, adds, part, ty_span, type_nodes, bounded_type, whole_type, message_head, messages_head, typed_head, tested_head};
 ghost use Rattle.spi_scope.specs.Gives.{Gives, Goes, run};
 ghost use Rattle.spi_scope.specs.Leads.{Leads};
 ghost use Rattle.spi_scope.specs.State.{abbreviations};
@@ -37,7 +37,7 @@ pub fn add(scope: &mut Scope, nodes: u64, span: Span) -> Result<(), ScopeFault>
 
 /// An outermost message.
 #[tactic(auto, unfolding(crate::specs::Points::part))]
-fn read_part(alloc: Global, scope: &mut Scope, base: u32, m: &SMsg) -> Result<Msg, ScopeFault>
+pub fn read_part(alloc: Global, scope: &mut Scope, base: u32, m: &SMsg) -> Result<Msg, ScopeFault>
     requires few { scope.old.count ≤ 100000 }
     ensures gives { Gives message result (run (part scope.old.held.names (msg_of m.now)) scope.old.count) scope.new.count (message_in base scope.old.held.names (msg_of m.now)) }
     ensures held { OnOk result (scope.new.held ≡ scope.old.held) }
@@ -171,26 +171,6 @@ pub fn read_typed_head<'t>(
     Ok((first, ty))
 }
 
-/// A new name with its annotation.
-#[tactic(auto, unfolding(crate::specs::Points::new_head))]
-pub fn read_new_head<'t>(
-    alloc: Global,
-    scope: &mut Scope<'t>,
-    base: u32,
-    span: Span,
-    a: &'t STy,
-) -> Result<Ty, ScopeFault>
-    requires few { scope.old.count ≤ 100000 }
-    ensures gives { Gives ty result (run (new_head (abbreviations scope.old.types) scope.old.held.names span (ty_of a.entry.now)) scope.old.count) scope.new.count (type_in base (abbreviations scope.old.types) scope.old.held.names (ty_of a.entry.now)) }
-    ensures held { OnOk result (scope.new.held ≡ scope.old.held) }
-    ensures types { OnOk result (scope.new.types ≡ scope.old.types) }
-    ensures few { OnOk result (scope.new.count ≤ 100000) }
-{
-    add(scope, 1, span)?;
-    let (ty, _) = read_annotation(alloc, scope, base, a)?;
-    Ok(ty)
-}
-
 /// A message, an annotation, and a second message.
 #[tactic(auto, unfolding(crate::specs::Points::tested_head))]
 pub fn read_tested_head<'t>(
@@ -217,7 +197,7 @@ pub fn read_tested_head<'t>(
 }
 
 /// An annotation that sees one more name.
-fn read_under<'t>(
+pub fn read_under<'t>(
     alloc: Global,
     scope: &mut Scope<'t>,
     base: u32,
@@ -234,55 +214,4 @@ fn read_under<'t>(
     let (ty, _) = read_annotation(alloc, scope, base, a)?;
     scope.held.unbind();
     Ok(ty)
-}
-
-/// A message and the annotations of its two parts.
-#[tactic(auto, unfolding(crate::specs::Points::split_head))]
-pub fn read_split_head<'t>(
-    alloc: Global,
-    scope: &mut Scope<'t>,
-    base: u32,
-    span: Span,
-    m: &SMsg,
-    name: &'t SWord,
-    a: &'t STy,
-    c: &'t STy,
-) -> Result<(Msg, Ty, Ty), ScopeFault>
-    requires few { scope.old.count ≤ 100000 }
-    ensures gives { Leads result (run (split_head (abbreviations scope.old.types) scope.old.held.names span (msg_of m.now) name.entry.now (ty_of a.entry.now) (ty_of c.entry.now)) scope.old.count) scope.new.count }
-    ensures read { IfOk result (λ x. (message x.0 ≡ message_in base scope.old.held.names (msg_of m.now)) × (ty x.1 ≡ type_in base (abbreviations scope.old.types) scope.old.held.names (ty_of a.entry.now)) × (ty x.2 ≡ type_in base (abbreviations scope.old.types) (name.entry.now.word ∷ scope.old.held.names) (ty_of c.entry.now))) }
-    ensures held { OnOk result (scope.new.held ≡ scope.old.held) }
-    ensures types { OnOk result (scope.new.types ≡ scope.old.types) }
-    ensures few { OnOk result (scope.new.count ≤ 100000) }
-{
-    add(scope, 1, span)?;
-    let whole = read_part(alloc, scope, base, m)?;
-    let (first, _) = read_annotation(alloc, scope, base, a)?;
-    let second = read_under(alloc, scope, base, name, c)?;
-    Ok((whole, first, second))
-}
-
-/// A message, the annotations of its two parts, and what the first part has to equal.
-#[tactic(auto, unfolding(crate::specs::Points::match_head))]
-pub fn read_match_head<'t>(
-    alloc: Global,
-    scope: &mut Scope<'t>,
-    base: u32,
-    span: Span,
-    m: &SMsg,
-    name: &'t SWord,
-    a: &'t STy,
-    equal: &SMsg,
-    c: &'t STy,
-) -> Result<(Msg, Ty, Msg, Ty), ScopeFault>
-    requires few { scope.old.count ≤ 100000 }
-    ensures gives { Leads result (run (match_head (abbreviations scope.old.types) scope.old.held.names span (msg_of m.now) name.entry.now (ty_of a.entry.now) (msg_of equal.now) (ty_of c.entry.now)) scope.old.count) scope.new.count }
-    ensures read { IfOk result (λ x. (message x.0 ≡ message_in base scope.old.held.names (msg_of m.now)) × (ty x.1 ≡ type_in base (abbreviations scope.old.types) scope.old.held.names (ty_of a.entry.now)) × (message x.2 ≡ message_in base scope.old.held.names (msg_of equal.now)) × (ty x.3 ≡ type_in base (abbreviations scope.old.types) (name.entry.now.word ∷ scope.old.held.names) (ty_of c.entry.now))) }
-    ensures held { OnOk result (scope.new.held ≡ scope.old.held) }
-    ensures types { OnOk result (scope.new.types ≡ scope.old.types) }
-    ensures few { OnOk result (scope.new.count ≤ 100000) }
-{
-    let (whole, first, equal) = read_tested_head(alloc, scope, base, span, m, a, equal)?;
-    let second = read_under(alloc, scope, base, name, c)?;
-    Ok((whole, first, equal, second))
 }

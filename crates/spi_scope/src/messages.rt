@@ -1,10 +1,11 @@
 //! Messages.
 
-ghost use Rattle.std.specs.Prelude.{◌≡◌, ◌+◌, ◌<◌, ◌≤◌, ◌∷◌, map, length, IfOk, Some};
+ghost use Rattle.std.specs.Prelude.{◌≡◌, ◌⊎◌, ◌+◌, ◌<◌, ◌≤◌, ◌∷◌, map, length, IfOk, IfErr, Some, Ok, Err};
 ghost use Rattle.spi_tree.specs.Views.{msg_of};
 ghost use Rattle.spi_tree.specs.Trees.{msgs_of_list};
-ghost use Rattle.spi_term.specs.Term.{message_size, unit};
+ghost use Rattle.spi_term.specs.Term.{message_size, unit, pair};
 ghost use Rattle.spi_term.specs.View.{message};
+ghost use Rattle.spi_scope.specs.declared.fault.ScopeFault.TheVariants.{NoMemory as OutOfMemory};
 ghost use Rattle.spi_scope.specs.Scope.{number_of};
 ghost use Rattle.spi_scope.specs.Meaning.{named, nested, message_in, messages_in};
 ghost use Rattle.spi_scope.specs.Points.{one, uses_name, message_points, messages_points};
@@ -67,7 +68,14 @@ pub fn nest(
         return Ok(Msg::Unit);
     }
     let rest = nest_rest(alloc, second, more)?;
-    Ok(Msg::Pair(Box::new(alloc, first)?, Box::new(alloc, rest)?))
+    paired(alloc, first, rest)
+}
+
+/// The pair of two messages.
+fn paired(alloc: Global, first: Msg, second: Msg) -> Result<Msg, AllocError>
+    ensures { IfOk result (λ m. message m ≡ pair (message first) (message second)) }
+{
+    Ok(Msg::Pair(Box::new(alloc, first)?, Box::new(alloc, second)?))
 }
 
 fn nest_rest(alloc: Global, first: Msg, mut more: Vec<Msg>) -> Result<Msg, AllocError>
@@ -77,9 +85,21 @@ fn nest_rest(alloc: Global, first: Msg, mut more: Vec<Msg>) -> Result<Msg, Alloc
         return Ok(first);
     };
     while let Some(part) = more.pop() {
-        last = Msg::Pair(Box::new(alloc, part)?, Box::new(alloc, last)?);
+        last = paired(alloc, part, last)?;
     }
-    Ok(Msg::Pair(Box::new(alloc, first)?, Box::new(alloc, last)?))
+    paired(alloc, first, last)
+}
+
+/// The term in a box, with its nodes.
+pub fn boxed<T: Drop>(
+    alloc: Global,
+    read: Result<(T, u64), ScopeFault>,
+) -> Result<(Box<T>, u64), ScopeFault>
+    ensures ok { IfOk result (λ b. read ≡ Ok (b.0.value, b.1)) }
+    ensures err { IfErr result (λ e. (e ≡ OutOfMemory) ⊎ (read ≡ Err e)) }
+{
+    let (term, total) = read?;
+    Ok((Box::new(alloc, term)?, total))
 }
 
 /// The message that this one stands for, with its nodes counted on. Names below `base` are written by their numbers.
@@ -116,24 +136,25 @@ pub fn read_message(
             Ok((whole, total))
         }
         SMsg::Inl { part, .. } => {
-            let (part, total) = read_message(alloc, scope, base, spent.saturating_add(1), part)?;
-            Ok((Msg::Inl(Box::new(alloc, part)?), total))
+            let part = read_message(alloc, scope, base, spent.saturating_add(1), part);
+            let (part, total) = boxed(alloc, part)?;
+            Ok((Msg::Inl(part), total))
         }
         SMsg::Inr { part, .. } => {
-            let (part, total) = read_message(alloc, scope, base, spent.saturating_add(1), part)?;
-            Ok((Msg::Inr(Box::new(alloc, part)?), total))
+            let part = read_message(alloc, scope, base, spent.saturating_add(1), part);
+            let (part, total) = boxed(alloc, part)?;
+            Ok((Msg::Inr(part), total))
         }
         SMsg::Enc { body, key, .. } => {
-            let (body, total) = read_message(alloc, scope, base, spent.saturating_add(1), body)?;
-            let (key, total) = read_message(alloc, scope, base, total, key)?;
-            Ok((
-                Msg::Enc(Box::new(alloc, body)?, Box::new(alloc, key)?),
-                total,
-            ))
+            let body = read_message(alloc, scope, base, spent.saturating_add(1), body);
+            let (body, total) = boxed(alloc, body)?;
+            let (key, total) = boxed(alloc, read_message(alloc, scope, base, total, key))?;
+            Ok((Msg::Enc(body, key), total))
         }
         SMsg::Hash { part, .. } => {
-            let (part, total) = read_message(alloc, scope, base, spent.saturating_add(1), part)?;
-            Ok((Msg::Hash(Box::new(alloc, part)?), total))
+            let part = read_message(alloc, scope, base, spent.saturating_add(1), part);
+            let (part, total) = boxed(alloc, part)?;
+            Ok((Msg::Hash(part), total))
         }
         SMsg::Num { .. } => Ok((Msg::Unit, spent.saturating_add(1))),
     }

@@ -80,11 +80,20 @@ fn leave<'t>(innermost: &mut IndexMap<&'t str, u32>, hidden: &mut Vec<Held<'t>>)
 
 /// The names in scope. A contract sees their spellings, the innermost first, and those that were in scope at each
 /// node that was noted.
-#[derive(Drop)]
 pub struct Names<'t> {
     innermost: IndexMap<&'t str, u32>,
     hidden: Vec<Held<'t>>,
     trail: Trail<'t>,
+}
+
+impl Drop for Names<'_> {
+    fn drop(self) {
+        let Names {
+            innermost: _,
+            hidden: _,
+            trail: _,
+        } = self;
+    }
 }
 
 impl<'t> Model for Names<'t> {

@@ -1,9 +1,8 @@
 //! Processes.
 
-ghost use Rattle.std.specs.Prelude.{◌≡◌, ◌+◌, ◌≤◌, ◌++◌, map, length, OnOk};
+ghost use Rattle.std.specs.Prelude.{◌≡◌, suc, ◌+◌, ◌≤◌, ◌∷◌, ◌++◌, map, length, OnOk};
 ghost use Rattle.spi_tree.specs.Trees.{par, out_then, case};
 ghost use Rattle.spi_tree.specs.Views.{msg_of, ty_of, proc_of};
-ghost use Rattle.spi_term.specs.Term.{process_size};
 ghost use Rattle.spi_term.specs.Spelling.{flat};
 ghost use Rattle.spi_term.specs.View.{shape_of};
 ghost use Rattle.spi_scope.specs.Meaning.{process_in};
@@ -35,19 +34,15 @@ pub fn read_process<'t>(
     requires few { scope.old.count ≤ 100000 }
     ensures gives { Goes result (run (process_points (abbreviations scope.old.types) scope.old.held.names (proc_of p.entry.now)) scope.old.count) scope.new.count }
     ensures nodes { OnOk result (map shape_of arena.new.nodes.items ≡ map shape_of arena.old.nodes.items ++ flat (length arena.old.nodes.items) (length scope.old.held.names) (process_in (λ s. s) (abbreviations scope.old.types) scope.old.held.names (proc_of p.entry.now))) }
-    ensures len { OnOk result (length arena.new.nodes.items ≡ length arena.old.nodes.items + process_size (process_in (λ s. s) (abbreviations scope.old.types) scope.old.held.names (proc_of p.entry.now))) }
     ensures places { OnOk result (arena.new.places.items ≡ arena.old.places.items ++ places (proc_of p.entry.now)) }
     ensures noted { OnOk result (scope.new.held.noted ≡ scope.old.held.noted ++ scopes scope.old.held.names (proc_of p.entry.now)) }
-    ensures names { OnOk result (scope.new.held.names ≡ scope.old.held.names) }
-    ensures types { OnOk result (scope.new.types ≡ scope.old.types) }
-    ensures few { OnOk result (scope.new.count ≤ 100000) }
+    ensures kept { OnOk result ((scope.new.held.names ≡ scope.old.held.names) × (scope.new.types ≡ scope.old.types) × (scope.new.count ≤ 100000)) }
 {
     let base = scope.held.len();
     match p {
         SProc::Stop { span } => {
             add(scope, 1, *span)?;
-            push(scope, arena, base, Form::Stop, *span)?;
-            Ok(())
+            push(scope, arena, base, Form::Stop, *span)
         }
         SProc::Out {
             channel,
@@ -55,8 +50,7 @@ pub fn read_process<'t>(
             span,
         } => {
             let (channel, datum) = read_messages_head(alloc, scope, base, *span, channel, datum)?;
-            push(scope, arena, base, Form::Send { channel, datum }, *span)?;
-            Ok(())
+            push(scope, arena, base, Form::Send { channel, datum }, *span)
         }
         SProc::OutThen {
             channel,
@@ -72,10 +66,7 @@ pub fn read_process<'t>(
             span,
         } => {
             receive(alloc, scope, arena, *span, channel, ty)?;
-            scope.held.bind(name.word.as_str())?;
-            read_process(alloc, scope, arena, then)?;
-            scope.held.unbind();
-            Ok(())
+            read_under(alloc, scope, arena, name, then)
         }
         SProc::Repeat {
             channel,
@@ -85,10 +76,7 @@ pub fn read_process<'t>(
             span,
         } => {
             serve(alloc, scope, arena, *span, channel, ty)?;
-            scope.held.bind(name.word.as_str())?;
-            read_process(alloc, scope, arena, then)?;
-            scope.held.unbind();
-            Ok(())
+            read_under(alloc, scope, arena, name, then)
         }
         SProc::Split {
             whole,
@@ -101,9 +89,7 @@ pub fn read_process<'t>(
         } => {
             split(alloc, scope, arena, *span, whole, left, left_ty, right_ty)?;
             scope.held.bind(left.word.as_str())?;
-            scope.held.bind(right.word.as_str())?;
-            read_process(alloc, scope, arena, then)?;
-            scope.held.unbind();
+            read_under(alloc, scope, arena, right, then)?;
             scope.held.unbind();
             Ok(())
         }
@@ -120,10 +106,7 @@ pub fn read_process<'t>(
             select(
                 alloc, scope, arena, *span, whole, left, left_ty, equal, right_ty,
             )?;
-            scope.held.bind(right.word.as_str())?;
-            read_process(alloc, scope, arena, then)?;
-            scope.held.unbind();
-            Ok(())
+            read_under(alloc, scope, arena, right, then)
         }
         SProc::Case {
             whole,
@@ -146,10 +129,7 @@ pub fn read_process<'t>(
             span,
         } => {
             decrypt(alloc, scope, arena, *span, whole, ty, key)?;
-            scope.held.bind(name.word.as_str())?;
-            read_process(alloc, scope, arena, then)?;
-            scope.held.unbind();
-            Ok(())
+            read_under(alloc, scope, arena, name, then)
         }
         SProc::Check {
             whole,
@@ -180,10 +160,7 @@ pub fn read_process<'t>(
             span,
         } => {
             cast(alloc, scope, arena, *span, whole, ty)?;
-            scope.held.bind(name.word.as_str())?;
-            read_process(alloc, scope, arena, then)?;
-            scope.held.unbind();
-            Ok(())
+            read_under(alloc, scope, arena, name, then)
         }
         SProc::New {
             name,
@@ -192,14 +169,33 @@ pub fn read_process<'t>(
             span,
         } => {
             fresh(alloc, scope, arena, *span, ty)?;
-            scope.held.bind(name.word.as_str())?;
-            read_process(alloc, scope, arena, then)?;
-            scope.held.unbind();
-            Ok(())
+            read_under(alloc, scope, arena, name, then)
         }
         SProc::Par { first, rest, span } => compose(alloc, scope, arena, first, rest, *span),
         SProc::Group { first, rest, span } => compose(alloc, scope, arena, first, rest, *span),
     }
+}
+
+/// The nodes of a process that sees one more name.
+#[cycle(processes)]
+fn read_under<'t>(
+    alloc: Global,
+    scope: &mut Scope<'t>,
+    arena: &mut Arena,
+    name: &'t SWord,
+    p: &'t SProc,
+) -> Result<(), ScopeFault>
+    requires few { scope.old.count ≤ 100000 }
+    ensures gives { Goes result (run (process_points (abbreviations scope.old.types) (name.entry.now.word ∷ scope.old.held.names) (proc_of p.entry.now)) scope.old.count) scope.new.count }
+    ensures nodes { OnOk result (map shape_of arena.new.nodes.items ≡ map shape_of arena.old.nodes.items ++ flat (length arena.old.nodes.items) (suc (length scope.old.held.names)) (process_in (λ s. s) (abbreviations scope.old.types) (name.entry.now.word ∷ scope.old.held.names) (proc_of p.entry.now))) }
+    ensures places { OnOk result (arena.new.places.items ≡ arena.old.places.items ++ places (proc_of p.entry.now)) }
+    ensures noted { OnOk result (scope.new.held.noted ≡ scope.old.held.noted ++ scopes (name.entry.now.word ∷ scope.old.held.names) (proc_of p.entry.now)) }
+    ensures kept { OnOk result ((scope.new.held.names ≡ scope.old.held.names) × (scope.new.types ≡ scope.old.types) × (scope.new.count ≤ 100000)) }
+{
+    scope.held.bind(name.word.as_str())?;
+    read_process(alloc, scope, arena, p)?;
+    scope.held.unbind();
+    Ok(())
 }
 
 /// The nodes of an output and of the process beside it.
@@ -216,12 +212,9 @@ fn send_then<'t>(
     requires few { scope.old.count ≤ 100000 }
     ensures gives { Goes result (run (process_points (abbreviations scope.old.types) scope.old.held.names (out_then span (msg_of channel.entry.now) (msg_of datum.entry.now) (proc_of then.entry.now))) scope.old.count) scope.new.count }
     ensures nodes { OnOk result (map shape_of arena.new.nodes.items ≡ map shape_of arena.old.nodes.items ++ flat (length arena.old.nodes.items) (length scope.old.held.names) (process_in (λ s. s) (abbreviations scope.old.types) scope.old.held.names (out_then span (msg_of channel.entry.now) (msg_of datum.entry.now) (proc_of then.entry.now)))) }
-    ensures len { OnOk result (length arena.new.nodes.items ≡ length arena.old.nodes.items + process_size (process_in (λ s. s) (abbreviations scope.old.types) scope.old.held.names (out_then span (msg_of channel.entry.now) (msg_of datum.entry.now) (proc_of then.entry.now)))) }
     ensures places { OnOk result (arena.new.places.items ≡ arena.old.places.items ++ places (out_then span (msg_of channel.entry.now) (msg_of datum.entry.now) (proc_of then.entry.now))) }
     ensures noted { OnOk result (scope.new.held.noted ≡ scope.old.held.noted ++ scopes scope.old.held.names (out_then span (msg_of channel.entry.now) (msg_of datum.entry.now) (proc_of then.entry.now))) }
-    ensures names { OnOk result (scope.new.held.names ≡ scope.old.held.names) }
-    ensures types { OnOk result (scope.new.types ≡ scope.old.types) }
-    ensures few { OnOk result (scope.new.count ≤ 100000) }
+    ensures kept { OnOk result ((scope.new.held.names ≡ scope.old.held.names) × (scope.new.types ≡ scope.old.types) × (scope.new.count ≤ 100000)) }
 {
     let base = scope.held.len();
     let at = here(arena)?;
@@ -251,20 +244,15 @@ fn branch<'t>(
     requires few { scope.old.count ≤ 100000 }
     ensures gives { Goes result (run (process_points (abbreviations scope.old.types) scope.old.held.names (case span (msg_of whole.entry.now) left.entry.now (ty_of left_ty.entry.now) (proc_of first.entry.now) other.entry.now (ty_of right_ty.entry.now) (proc_of second.entry.now))) scope.old.count) scope.new.count }
     ensures nodes { OnOk result (map shape_of arena.new.nodes.items ≡ map shape_of arena.old.nodes.items ++ flat (length arena.old.nodes.items) (length scope.old.held.names) (process_in (λ s. s) (abbreviations scope.old.types) scope.old.held.names (case span (msg_of whole.entry.now) left.entry.now (ty_of left_ty.entry.now) (proc_of first.entry.now) other.entry.now (ty_of right_ty.entry.now) (proc_of second.entry.now)))) }
-    ensures len { OnOk result (length arena.new.nodes.items ≡ length arena.old.nodes.items + process_size (process_in (λ s. s) (abbreviations scope.old.types) scope.old.held.names (case span (msg_of whole.entry.now) left.entry.now (ty_of left_ty.entry.now) (proc_of first.entry.now) other.entry.now (ty_of right_ty.entry.now) (proc_of second.entry.now)))) }
     ensures places { OnOk result (arena.new.places.items ≡ arena.old.places.items ++ places (case span (msg_of whole.entry.now) left.entry.now (ty_of left_ty.entry.now) (proc_of first.entry.now) other.entry.now (ty_of right_ty.entry.now) (proc_of second.entry.now))) }
     ensures noted { OnOk result (scope.new.held.noted ≡ scope.old.held.noted ++ scopes scope.old.held.names (case span (msg_of whole.entry.now) left.entry.now (ty_of left_ty.entry.now) (proc_of first.entry.now) other.entry.now (ty_of right_ty.entry.now) (proc_of second.entry.now))) }
-    ensures names { OnOk result (scope.new.held.names ≡ scope.old.held.names) }
-    ensures types { OnOk result (scope.new.types ≡ scope.old.types) }
-    ensures few { OnOk result (scope.new.count ≤ 100000) }
+    ensures kept { OnOk result ((scope.new.held.names ≡ scope.old.held.names) × (scope.new.types ≡ scope.old.types) × (scope.new.count ≤ 100000)) }
 {
     let base = scope.held.len();
     let at = here(arena)?;
     let (whole, left_ty) = read_typed_head(alloc, scope, base, span, whole, left_ty)?;
     push(scope, arena, base, Form::Stop, span)?;
-    scope.held.bind(left.word.as_str())?;
-    read_process(alloc, scope, arena, first)?;
-    scope.held.unbind();
+    read_under(alloc, scope, arena, left, first)?;
     let (right, _) = read_annotation(alloc, scope, base, right_ty)?;
     let on_right = here(arena)?;
     let on_left = at + 1;
@@ -280,10 +268,7 @@ fn branch<'t>(
             on_right,
         },
     );
-    scope.held.bind(other.word.as_str())?;
-    read_process(alloc, scope, arena, second)?;
-    scope.held.unbind();
-    Ok(())
+    read_under(alloc, scope, arena, other, second)
 }
 
 /// The nodes of a composition.
@@ -299,12 +284,9 @@ fn compose<'t>(
     requires few { scope.old.count ≤ 100000 }
     ensures gives { Goes result (run (process_points (abbreviations scope.old.types) scope.old.held.names (par span (proc_of first.entry.now) (proc_of rest.entry.now))) scope.old.count) scope.new.count }
     ensures nodes { OnOk result (map shape_of arena.new.nodes.items ≡ map shape_of arena.old.nodes.items ++ flat (length arena.old.nodes.items) (length scope.old.held.names) (process_in (λ s. s) (abbreviations scope.old.types) scope.old.held.names (par span (proc_of first.entry.now) (proc_of rest.entry.now)))) }
-    ensures len { OnOk result (length arena.new.nodes.items ≡ length arena.old.nodes.items + process_size (process_in (λ s. s) (abbreviations scope.old.types) scope.old.held.names (par span (proc_of first.entry.now) (proc_of rest.entry.now)))) }
     ensures places { OnOk result (arena.new.places.items ≡ arena.old.places.items ++ places (par span (proc_of first.entry.now) (proc_of rest.entry.now))) }
     ensures noted { OnOk result (scope.new.held.noted ≡ scope.old.held.noted ++ scopes scope.old.held.names (par span (proc_of first.entry.now) (proc_of rest.entry.now))) }
-    ensures names { OnOk result (scope.new.held.names ≡ scope.old.held.names) }
-    ensures types { OnOk result (scope.new.types ≡ scope.old.types) }
-    ensures few { OnOk result (scope.new.count ≤ 100000) }
+    ensures kept { OnOk result ((scope.new.held.names ≡ scope.old.held.names) × (scope.new.types ≡ scope.old.types) × (scope.new.count ≤ 100000)) }
 {
     let base = scope.held.len();
     let at = here(arena)?;

@@ -10,7 +10,7 @@ ghost use Rattle.spi_scope.specs.declared.fault.ScopeFault.TheVariants.{NoMemory
 ghost use Rattle.spi_scope.specs.Meaning.{process_in};
 ghost use Rattle.spi_scope.specs.Marks.{places, scopes};
 ghost use Rattle.spi_scope.specs.Parts.{step_in};
-ghost use Rattle.spi_scope.specs.Points.{process_points, opponent_points, schedule_points, derivation_points, body_points, all_names, all_types};
+ghost use Rattle.spi_scope.specs.Points.{◌⨾◌, process_points, opponent_points, schedule_points, derivation_points, body_points, all_names, all_types};
 ghost use Rattle.spi_scope.specs.First.{HasFirst};
 ghost use Rattle.spi_scope.specs.StandsFor.{Meant, StandsFor, over_free, opponent_over, schedule_in, derivation_in};
 ghost use Rattle.spi_scope.specs.Files.{meant, steps_in, uses_of, marked, marks_of, opponent_places, step_places, rule_places};
@@ -19,7 +19,7 @@ ghost use Rattle.spi_scope.specs.Leads.{Leads};
 ghost use Rattle.spi_scope.specs.State.{abbreviations};
 ghost use Rattle.spi_scope.specs.Over.{AreOver};
 
-use crate::arena::Arena;
+use crate::arena::{Arena, put};
 use crate::declarations::declare_all;
 use crate::derivations::{Uses, read_derivation};
 use crate::fault::ScopeFault;
@@ -146,6 +146,41 @@ fn read_proof(
     }
 }
 
+/// The opponent, the schedule and the derivation, put into the file with where their parts stand.
+fn read_rest<'t>(
+    alloc: Global,
+    scope: &mut Scope<'t>,
+    tree: &'t Tree,
+    file: &mut File,
+) -> Result<(), ScopeFault>
+    requires few { scope.old.count ≤ 100000 }
+    requires names { length scope.old.held.names ≤ 100000 }
+    requires over { AreOver (length scope.old.held.names) (abbreviations scope.old.types) }
+    ensures gives { Leads result (run (opponent_points (abbreviations scope.old.types) scope.old.held.names (opponent_of tree.entry.now.opponent) ⨾ schedule_points (schedule_of tree.entry.now.schedule) ⨾ derivation_points (derivation_of tree.entry.now.derivation)) scope.old.count) scope.new.count }
+    ensures opponent { OnOk result (file.new.opponent ≡ opponent_over (abbreviations scope.old.types) scope.old.held.names (opponent_of tree.entry.now.opponent)) }
+    ensures schedule { OnOk result (steps_in file.new.schedule ≡ schedule_in (schedule_of tree.entry.now.schedule)) }
+    ensures derivation { OnOk result (uses_of file.new.derivation ≡ derivation_in (derivation_of tree.entry.now.derivation)) }
+    ensures opponent_places { OnOk result (file.new.marks.opponent.items ≡ opponent_places (opponent_of tree.entry.now.opponent)) }
+    ensures step_places { OnOk result (file.new.marks.steps.items ≡ step_places (schedule_of tree.entry.now.schedule)) }
+    ensures rule_places { OnOk result (file.new.marks.rules.items ≡ rule_places (derivation_of tree.entry.now.derivation)) }
+    ensures version { OnOk result (file.new.version ≡ file.old.version) }
+    ensures names { OnOk result (file.new.names ≡ file.old.names) }
+    ensures process { OnOk result (file.new.process ≡ file.old.process) }
+    ensures process_places { OnOk result (file.new.marks.process ≡ file.old.marks.process) }
+    ensures scopes { OnOk result (file.new.marks.scopes ≡ file.old.marks.scopes) }
+{
+    let (opponent, places) = read_opponent(alloc, scope, &tree.opponent)?;
+    put(&mut file.opponent, opponent);
+    put(&mut file.marks.opponent, places);
+    let (schedule, places) = read_schedule(alloc, scope.count, &tree.schedule)?;
+    put(&mut file.schedule, schedule);
+    put(&mut file.marks.steps, places);
+    let (derivation, places) = read_proof(alloc, scope.count, &tree.derivation)?;
+    put(&mut file.derivation, derivation);
+    put(&mut file.marks.rules, places);
+    Ok(())
+}
+
 /// What comes after the declarations.
 fn read_body<'t>(alloc: Global, scope: &mut Scope<'t>, tree: &'t Tree) -> Result<File, ScopeFault>
     requires few { scope.old.count ≤ 100000 }
@@ -168,24 +203,23 @@ fn read_body<'t>(alloc: Global, scope: &mut Scope<'t>, tree: &'t Tree) -> Result
     let names = scope.held.texts(alloc)?;
     let (process, process_places) = read_part(alloc, scope, &tree.process)?;
     let scopes = scope.held.scopes(alloc)?;
-    let (opponent, opponent_places) = read_opponent(alloc, scope, &tree.opponent)?;
-    let (schedule, step_places) = read_schedule(alloc, scope.count, &tree.schedule)?;
-    let (derivation, rule_places) = read_proof(alloc, scope.count, &tree.derivation)?;
-    Ok(File {
+    let mut file = File {
         version: tree.version,
         names,
         process,
-        opponent,
-        schedule,
-        derivation,
+        opponent: None,
+        schedule: None,
+        derivation: None,
         marks: Marks {
             process: process_places,
-            opponent: opponent_places,
-            steps: step_places,
-            rules: rule_places,
+            opponent: Vec::new(alloc),
+            steps: Vec::new(alloc),
+            rules: Vec::new(alloc),
             scopes,
         },
-    })
+    };
+    read_rest(alloc, scope, tree, &mut file)?;
+    Ok(file)
 }
 
 /// The file that the tree stands for, or the tree's first fault. It goes through the tree once, and expands an

@@ -23,10 +23,15 @@ pub struct Spelled {
 }
 
 /// Chains of spellings, each with its number, and the chains that were noted. Chain 0 is empty.
-#[derive(Drop)]
 pub struct Trail<'t> {
     links: Vec<Link<'t>>,
     noted: Vec<u32>,
+}
+
+impl Drop for Trail<'_> {
+    fn drop(self) {
+        let Trail { links: _, noted: _ } = self;
+    }
 }
 
 impl<'t> Model for Trail<'t> {
@@ -99,10 +104,15 @@ impl<'t> Trail<'t> {
 }
 
 /// The names in scope at each node. A contract sees their spellings, the innermost first.
-#[derive(Drop)]
 pub struct Scopes {
     links: Vec<Spelled>,
     noted: Vec<u32>,
+}
+
+impl Drop for Scopes {
+    fn drop(self) {
+        let Scopes { links: _, noted: _ } = self;
+    }
 }
 
 impl Model for Scopes {

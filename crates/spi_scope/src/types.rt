@@ -3,7 +3,7 @@
 ghost use Rattle.std.specs.Prelude.{◌≡◌, ◌+◌, ◌≤◌, ◌∷◌, map, IfOk, OnOk};
 ghost use Rattle.spi_tree.specs.Trees.{fields_of_list};
 ghost use Rattle.spi_tree.specs.Views.{msg_of, atom_of, ty_of, field_of, last_of};
-ghost use Rattle.spi_term.specs.Term.{message_size};
+ghost use Rattle.spi_term.specs.Term.{message_size, pair_ty};
 ghost use Rattle.spi_term.specs.Spelling.{atom_nodes, effect_nodes, ty_nodes, stopped};
 ghost use Rattle.spi_term.specs.View.{message, atom, ty};
 ghost use Rattle.spi_scope.specs.Scope.{type_of};
@@ -14,7 +14,7 @@ ghost use Rattle.spi_scope.specs.State.{abbreviations, type_row_nodes};
 ghost use Rattle.spi_scope.specs.Table.{with_names};
 
 use crate::fault::ScopeFault;
-use crate::messages::read_message;
+use crate::messages::{boxed, read_message};
 use crate::scope::Scope;
 use spi_term::{Atom, Effect, Msg, Ty};
 use spi_text::{Span, Text};
@@ -138,14 +138,21 @@ fn nest_types(
         return Ok(Ty::Un);
     }
     let rest = nest_rest_types(alloc, more, last)?;
-    Ok(Ty::Pair(Box::new(alloc, first)?, Box::new(alloc, rest)?))
+    paired(alloc, first, rest)
+}
+
+/// The type of pairs of these two.
+fn paired(alloc: Global, first: Ty, second: Ty) -> Result<Ty, AllocError>
+    ensures { IfOk result (λ t. ty t ≡ pair_ty (ty first) (ty second)) }
+{
+    Ok(Ty::Pair(Box::new(alloc, first)?, Box::new(alloc, second)?))
 }
 
 fn nest_rest_types(alloc: Global, mut more: Vec<Ty>, mut last: Ty) -> Result<Ty, AllocError>
     ensures { IfOk result (λ t. ty t ≡ nested_types (map ty more.items) (ty last)) }
 {
     while let Some(part) = more.pop() {
-        last = Ty::Pair(Box::new(alloc, part)?, Box::new(alloc, last)?);
+        last = paired(alloc, part, last)?;
     }
     Ok(last)
 }
@@ -183,16 +190,15 @@ pub fn read_type<'t>(
             Ok((ty, total))
         }
         STy::Sum { left, right, .. } => {
-            let (left, total) = read_type(alloc, scope, base, spent.saturating_add(1), left)?;
-            let (right, total) = read_type(alloc, scope, base, total, right)?;
-            Ok((
-                Ty::Sum(Box::new(alloc, left)?, Box::new(alloc, right)?),
-                total,
-            ))
+            let left = read_type(alloc, scope, base, spent.saturating_add(1), left);
+            let (left, total) = boxed(alloc, left)?;
+            let (right, total) = boxed(alloc, read_type(alloc, scope, base, total, right))?;
+            Ok((Ty::Sum(left, right), total))
         }
         STy::Key { part, .. } => {
-            let (part, total) = read_type(alloc, scope, base, spent.saturating_add(1), part)?;
-            Ok((Ty::Key(Box::new(alloc, part)?), total))
+            let part = read_type(alloc, scope, base, spent.saturating_add(1), part);
+            let (part, total) = boxed(alloc, part)?;
+            Ok((Ty::Key(part), total))
         }
         STy::Nonce { effect, .. } => {
             let (atoms, total) = read_atoms(alloc, scope, base, spent.saturating_add(1), effect)?;

@@ -11,8 +11,6 @@ mod shift;
 mod spell;
 mod steps;
 mod terms;
-#[cfg(test)]
-mod tests;
 
 pub use derivations::show_derivation;
 pub use files::show_file;

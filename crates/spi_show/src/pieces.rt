@@ -16,7 +16,7 @@ use spi_term::Ty;
 use std::alloc::Global;
 
 /// Where a process stands: in the place of a part or behind a bar, or as the sequel of a form.
-#[derive(Clone, Copy, Debug)]
+#[derive(Clone, Copy)]
 pub enum Place {
     Alone,
     Sequel,

@@ -5,6 +5,7 @@ ghost use Rattle.spi_term.specs.Substitution.{put, replace, value_for, atom_map,
 ghost use Rattle.spi_term.specs.View.{message, ty, atom, effect};
 
 use crate::NoMemory;
+use crate::copy::boxed;
 use crate::term::{Atom, Effect, Msg, Ty};
 use std::alloc::Global;
 
@@ -37,16 +38,16 @@ fn put_message(alloc: Global, value: &Msg, depth: u64, m: &Msg) -> Result<Msg, N
         Msg::Name(x) => Ok(Msg::Name(*x)),
         Msg::Unit => Ok(Msg::Unit),
         Msg::Pair(a, b) => Ok(Msg::Pair(
-            Box::new(alloc, put_message(alloc, value, depth, a)?)?,
-            Box::new(alloc, put_message(alloc, value, depth, b)?)?,
+            boxed(alloc, put_message(alloc, value, depth, a))?,
+            boxed(alloc, put_message(alloc, value, depth, b))?,
         )),
-        Msg::Inl(a) => Ok(Msg::Inl(Box::new(alloc, put_message(alloc, value, depth, a)?)?)),
-        Msg::Inr(a) => Ok(Msg::Inr(Box::new(alloc, put_message(alloc, value, depth, a)?)?)),
+        Msg::Inl(a) => Ok(Msg::Inl(boxed(alloc, put_message(alloc, value, depth, a))?)),
+        Msg::Inr(a) => Ok(Msg::Inr(boxed(alloc, put_message(alloc, value, depth, a))?)),
         Msg::Enc(a, b) => Ok(Msg::Enc(
-            Box::new(alloc, put_message(alloc, value, depth, a)?)?,
-            Box::new(alloc, put_message(alloc, value, depth, b)?)?,
+            boxed(alloc, put_message(alloc, value, depth, a))?,
+            boxed(alloc, put_message(alloc, value, depth, b))?,
         )),
-        Msg::Hash(a) => Ok(Msg::Hash(Box::new(alloc, put_message(alloc, value, depth, a)?)?)),
+        Msg::Hash(a) => Ok(Msg::Hash(boxed(alloc, put_message(alloc, value, depth, a))?)),
     }
 }
 
@@ -80,16 +81,16 @@ fn put_ty(alloc: Global, value: &Msg, depth: u64, t: &Ty) -> Result<Ty, NoMemory
         Ty::Un => Ok(Ty::Un),
         Ty::Unit => Ok(Ty::Unit),
         Ty::Pair(a, b) => {
-            let first = Box::new(alloc, put_ty(alloc, value, depth, a)?)?;
-            let second = Box::new(alloc, put_ty(alloc, value, deeper(depth), b)?)?;
+            let first = boxed(alloc, put_ty(alloc, value, depth, a))?;
+            let second = boxed(alloc, put_ty(alloc, value, deeper(depth), b))?;
             Ok(Ty::Pair(first, second))
         }
         Ty::Sum(a, b) => {
-            let first = Box::new(alloc, put_ty(alloc, value, depth, a)?)?;
-            let second = Box::new(alloc, put_ty(alloc, value, depth, b)?)?;
+            let first = boxed(alloc, put_ty(alloc, value, depth, a))?;
+            let second = boxed(alloc, put_ty(alloc, value, depth, b))?;
             Ok(Ty::Sum(first, second))
         }
-        Ty::Key(a) => Ok(Ty::Key(Box::new(alloc, put_ty(alloc, value, depth, a)?)?)),
+        Ty::Key(a) => Ok(Ty::Key(boxed(alloc, put_ty(alloc, value, depth, a))?)),
         Ty::Nonce(e) => Ok(Ty::Nonce(put_effect(alloc, value, depth, e)?)),
     }
 }
@@ -127,15 +128,15 @@ pub fn put_in(alloc: Global, m: &Msg, from: u32, values: &[Msg]) -> Result<Msg, 
         Msg::Name(x) => value_of_name(alloc, *x, from, values),
         Msg::Unit => Ok(Msg::Unit),
         Msg::Pair(a, b) => Ok(Msg::Pair(
-            Box::new(alloc, put_in(alloc, a, from, values)?)?,
-            Box::new(alloc, put_in(alloc, b, from, values)?)?,
+            boxed(alloc, put_in(alloc, a, from, values))?,
+            boxed(alloc, put_in(alloc, b, from, values))?,
         )),
-        Msg::Inl(a) => Ok(Msg::Inl(Box::new(alloc, put_in(alloc, a, from, values)?)?)),
-        Msg::Inr(a) => Ok(Msg::Inr(Box::new(alloc, put_in(alloc, a, from, values)?)?)),
+        Msg::Inl(a) => Ok(Msg::Inl(boxed(alloc, put_in(alloc, a, from, values))?)),
+        Msg::Inr(a) => Ok(Msg::Inr(boxed(alloc, put_in(alloc, a, from, values))?)),
         Msg::Enc(a, b) => Ok(Msg::Enc(
-            Box::new(alloc, put_in(alloc, a, from, values)?)?,
-            Box::new(alloc, put_in(alloc, b, from, values)?)?,
+            boxed(alloc, put_in(alloc, a, from, values))?,
+            boxed(alloc, put_in(alloc, b, from, values))?,
         )),
-        Msg::Hash(a) => Ok(Msg::Hash(Box::new(alloc, put_in(alloc, a, from, values)?)?)),
+        Msg::Hash(a) => Ok(Msg::Hash(boxed(alloc, put_in(alloc, a, from, values))?)),
     }
 }

@@ -6,8 +6,6 @@ mod laws;
 mod paid;
 mod pair;
 mod queue;
-#[cfg(test)]
-mod tests;
 
 pub use laws::{each_begin_once, one_pairing, paired_is_paid};
 pub use paid::{always_paid, always_paid_many};

@@ -1,14 +1,13 @@
 use spi_text::{Span, Text};
 
 /// An identifier, and where it stands.
-#[derive(Debug, Drop)]
+#[derive(Drop)]
 pub struct SWord {
     pub word: Text,
     pub span: Span,
 }
 
 /// A message. `Num` stands for a name in the effects of a derivation, by the name's number.
-#[derive(Drop)]
 pub enum SMsg {
     /// `x`
     Name {
@@ -54,9 +53,32 @@ pub enum SMsg {
     },
 }
 
+impl Drop for SMsg {
+    fn drop(self) {
+        match self {
+            SMsg::Name { name: _, span: _ } => {}
+            SMsg::Unit { span: _ } => {}
+            SMsg::Tuple {
+                first: _,
+                second: _,
+                more: _,
+                span: _,
+            } => {}
+            SMsg::Inl { part: _, span: _ } => {}
+            SMsg::Inr { part: _, span: _ } => {}
+            SMsg::Enc {
+                body: _,
+                key: _,
+                span: _,
+            } => {}
+            SMsg::Hash { part: _, span: _ } => {}
+            SMsg::Num { number: _, span: _ } => {}
+        }
+    }
+}
+
 /// A type.
 #[cycle(types)]
-#[derive(Drop)]
 pub enum STy {
     /// `Un`
     Un {
@@ -97,17 +119,47 @@ pub enum STy {
     },
 }
 
+impl Drop for STy {
+    #[cycle(types)]
+    fn drop(self) {
+        match self {
+            STy::Un { span: _ } => {}
+            STy::Unit { span: _ } => {}
+            STy::Tuple {
+                name: _,
+                first: _,
+                more: _,
+                last: _,
+                span: _,
+            } => {}
+            STy::Sum {
+                left: _,
+                right: _,
+                span: _,
+            } => {}
+            STy::Key { part: _, span: _ } => {}
+            STy::Nonce { effect: _, span: _ } => {}
+            STy::Abbr { name: _, span: _ } => {}
+        }
+    }
+}
+
 /// A part of a tuple type between the first and the last: `x: T`.
 #[cycle(types)]
-#[derive(Drop)]
 pub struct SField {
     pub name: SWord,
     pub ty: STy,
 }
 
+impl Drop for SField {
+    #[cycle(types)]
+    fn drop(self) {
+        let SField { name: _, ty: _ } = self;
+    }
+}
+
 /// The last part of a tuple type.
 #[cycle(types)]
-#[derive(Drop)]
 pub enum Last {
     /// `T`
     Bare(STy),
@@ -115,8 +167,17 @@ pub enum Last {
     Named(SWord, STy),
 }
 
+impl Drop for Last {
+    #[cycle(types)]
+    fn drop(self) {
+        match self {
+            Last::Bare(_) => {}
+            Last::Named(_, _) => {}
+        }
+    }
+}
+
 /// An atom of an effect.
-#[derive(Drop)]
 pub enum SAtom {
     /// `end M`
     End { label: SMsg, span: Span },
@@ -126,8 +187,17 @@ pub enum SAtom {
     Many { label: SMsg, span: Span },
 }
 
+impl Drop for SAtom {
+    fn drop(self) {
+        match self {
+            SAtom::End { label: _, span: _ } => {}
+            SAtom::Check { nonce: _, span: _ } => {}
+            SAtom::Many { label: _, span: _ } => {}
+        }
+    }
+}
+
 /// A process.
-#[derive(Drop)]
 pub enum SProc {
     /// `P | Q`
     Par {
@@ -257,8 +327,121 @@ pub enum SProc {
     },
 }
 
+impl Drop for SProc {
+    fn drop(self) {
+        match self {
+            SProc::Par {
+                first: _,
+                rest: _,
+                span: _,
+            } => {}
+            SProc::Out {
+                channel: _,
+                datum: _,
+                span: _,
+            } => {}
+            SProc::OutThen {
+                channel: _,
+                datum: _,
+                then: _,
+                span: _,
+            } => {}
+            SProc::Inp {
+                channel: _,
+                name: _,
+                ty: _,
+                then: _,
+                span: _,
+            } => {}
+            SProc::Repeat {
+                channel: _,
+                name: _,
+                ty: _,
+                then: _,
+                span: _,
+            } => {}
+            SProc::Split {
+                whole: _,
+                left: _,
+                left_ty: _,
+                right: _,
+                right_ty: _,
+                then: _,
+                span: _,
+            } => {}
+            SProc::Match {
+                whole: _,
+                left: _,
+                left_ty: _,
+                equal: _,
+                right: _,
+                right_ty: _,
+                then: _,
+                span: _,
+            } => {}
+            SProc::Case {
+                whole: _,
+                left: _,
+                left_ty: _,
+                on_left: _,
+                right: _,
+                right_ty: _,
+                on_right: _,
+                span: _,
+            } => {}
+            SProc::Decrypt {
+                whole: _,
+                name: _,
+                ty: _,
+                key: _,
+                then: _,
+                span: _,
+            } => {}
+            SProc::Check {
+                whole: _,
+                nonce: _,
+                then: _,
+                span: _,
+            } => {}
+            SProc::Begin {
+                label: _,
+                then: _,
+                span: _,
+            } => {}
+            SProc::End {
+                label: _,
+                then: _,
+                span: _,
+            } => {}
+            SProc::EndMany {
+                label: _,
+                then: _,
+                span: _,
+            } => {}
+            SProc::Cast {
+                whole: _,
+                name: _,
+                ty: _,
+                then: _,
+                span: _,
+            } => {}
+            SProc::New {
+                name: _,
+                ty: _,
+                then: _,
+                span: _,
+            } => {}
+            SProc::Stop { span: _ } => {}
+            SProc::Group {
+                first: _,
+                rest: _,
+                span: _,
+            } => {}
+        }
+    }
+}
+
 /// A declaration.
-#[derive(Drop)]
 pub enum Decl {
     /// `free a, b, ..;`, of one name or more
     Free {
@@ -274,6 +457,23 @@ pub enum Decl {
     },
 }
 
+impl Drop for Decl {
+    fn drop(self) {
+        match self {
+            Decl::Free {
+                first: _,
+                more: _,
+                span: _,
+            } => {}
+            Decl::Abbr {
+                name: _,
+                ty: _,
+                span: _,
+            } => {}
+        }
+    }
+}
+
 /// A step of a schedule, by the places of the processes that take it.
 #[derive(Drop)]
 pub enum SStep {
@@ -284,7 +484,6 @@ pub enum SStep {
 }
 
 /// A use of a rule, with the effect that `ProcSub` writes, and the uses that prove its premises.
-#[derive(Drop)]
 pub struct SDeriv {
     pub rule: SWord,
     pub effect: Option<Vec<SAtom>>,
@@ -292,8 +491,18 @@ pub struct SDeriv {
     pub span: Span,
 }
 
+impl Drop for SDeriv {
+    fn drop(self) {
+        let SDeriv {
+            rule: _,
+            effect: _,
+            premises: _,
+            span: _,
+        } = self;
+    }
+}
+
 /// A file.
-#[derive(Drop)]
 pub struct Tree {
     /// 1, or 2 where the file begins with `version 2;`
     pub version: u32,
@@ -303,4 +512,18 @@ pub struct Tree {
     pub schedule: Option<Vec<SStep>>,
     pub derivation: Option<SDeriv>,
     pub span: Span,
+}
+
+impl Drop for Tree {
+    fn drop(self) {
+        let Tree {
+            version: _,
+            decls: _,
+            process: _,
+            opponent: _,
+            schedule: _,
+            derivation: _,
+            span: _,
+        } = self;
+    }
 }

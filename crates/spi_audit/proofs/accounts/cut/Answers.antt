@@ -2,8 +2,8 @@ use Rattle.std.proofs.Common.{true≢false, sym, refl}
 use Rattle.spi_audit.proofs.Holding.{cut_clean, cut_found}
 use Rattle.spi_audit.proofs.accounts.cut.Goals as goal
 
-pub returns-in_ok-rest : goal.returns-in_ok-rest
-returns-in_ok-rest c n es le h = (c.in_ok-rest.ensures n es le h, λ e. absurd (true≢false (sym e)), λ e. cut_found c.requires.held.0 n c.args.scope le h (c.if-reaches.ensures.reached refl))
+pub returns-in_ok-loosen : goal.returns-in_ok-loosen
+returns-in_ok-loosen c n es le h = (c.in_ok-loosen.ensures n es le h, λ e. absurd (true≢false (sym e)), λ e. cut_found c.requires.held.0 n c.args.scope le h (c.if-reaches.ensures.reached refl))
 
 pub returns-else-reaches : goal.returns-else-reaches
 returns-else-reaches c n es le h =

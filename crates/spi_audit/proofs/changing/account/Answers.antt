@@ -24,18 +24,18 @@ pub change-requires-clause-before : goal.change-requires-clause-before
 change-requires-clause-before c =
     passed_before (record { once = c.distinct.ensures.differ; keyed = c.requires.noted.kept }) (c.loop-note.invariant.passed c.requires.noted.changes c.requires.noted.noted) c.requires.noted.names c.requires.noted.scoped c.pop.new.self.items c.in-Some.note c.in-Some.ensures.items
 
-pub loop-note-preserved-then-not-branch : goal.loop-note-preserved-then-not-branch
-loop-note-preserved-then-not-branch c = record {
+pub loop-note-preserved-then-not-pays : goal.loop-note-preserved-then-not-pays
+loop-note-preserved-then-not-pays c = record {
   short = omega (arith, shorter c.loop-note.rest.items c.pop.new.self.items c.in-Some.note c.in-Some.ensures.items, c.loop-note.invariant.short);
   small = (small_last c.pop.new.self.items c.in-Some.note c.in-Some.ensures.items c.loop-note.invariant.small).0;
-  passed = λ cs n. passed_next (c.loop-note.invariant.passed cs n) c.pop.new.self.items c.in-Some.note c.change.new.stack.items c.in_ok-change.field-0 (Some c.len.result) c.in-Some.ensures.items c.in_ok-change.ensures (fails c.in_ok-change.field-0 c.loop-note.unpaid c.len.result (length c.pop.new.self.items) c.if-not-branch.true (omega (arith, c.len.ensures, c.pop.new.self.ok.0)));
+  passed = λ cs n. passed_next (c.loop-note.invariant.passed cs n) c.pop.new.self.items c.in-Some.note c.change.new.stack.items c.in_ok-pays.pays (Some c.len.result) c.in-Some.ensures.items c.in_ok-pays.ensures (fails c.in_ok-pays.pays c.loop-note.unpaid c.len.result (length c.pop.new.self.items) c.if-not-pays.true (omega (arith, c.len.ensures, c.pop.new.self.ok.0)));
 }
 
 pub loop-note-preserved : goal.loop-note-preserved
 loop-note-preserved c = record {
   short = omega (arith, shorter c.loop-note.rest.items c.pop.new.self.items c.in-Some.note c.in-Some.ensures.items, c.loop-note.invariant.short);
   small = (small_last c.pop.new.self.items c.in-Some.note c.in-Some.ensures.items c.loop-note.invariant.small).0;
-  passed = λ cs n. passed_next (c.loop-note.invariant.passed cs n) c.pop.new.self.items c.in-Some.note c.change.new.stack.items c.in_ok-change.field-0 c.loop-note.unpaid c.in-Some.ensures.items c.in_ok-change.ensures (stays c.in_ok-change.field-0 c.loop-note.unpaid (Some (length c.pop.new.self.items)) c.if-not-branch.false);
+  passed = λ cs n. passed_next (c.loop-note.invariant.passed cs n) c.pop.new.self.items c.in-Some.note c.change.new.stack.items c.in_ok-pays.pays c.loop-note.unpaid c.in-Some.ensures.items c.in_ok-pays.ensures (stays c.in_ok-pays.pays c.loop-note.unpaid (Some (length c.pop.new.self.items)) c.if-not-pays.false);
 }
 
 pub unreachable-requires : goal.unreachable-requires

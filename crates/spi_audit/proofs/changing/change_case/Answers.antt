@@ -12,4 +12,5 @@ returns-in-None-pop c = two_first (case_two c.args.scope) c.args.stack.now.items
 
 pub returns-in_ok-push-in-Some-pop : goal.returns-in_ok-push-in-Some-pop
 returns-in_ok-push-in-Some-pop c =
-    case_changes c.args.store.now c.args.keys.now c.args.scope c.args.stack.now.items c.pop.new.self.items c.pop-in-Some.new.self.items c.push.new.self.items c.in-Some.a c.in-Some-pop.b c.in_ok-pays-in-Some-pop.most c.in_ok-pays-in-Some-pop.pays c.in-Some.ensures.items c.in-Some-pop.ensures.items c.in_ok-push-in-Some-pop.ensures.items c.in_ok-pays-in-Some-pop.ensures
+    case_changes c.args.store.now c.args.keys.now c.args.scope c.args.stack.now.items c.pop.new.self.items c.pop-in-Some.new.self.items c.push.new.self.items c.in-Some.a c.in-Some-pop.b c.in_ok-most-in-Some-pop.most c.in_ok-pays-in-Some-pop.pays c.in-Some.ensures.items c.in-Some-pop.ensures.items c.in_ok-push-in-Some-pop.ensures.items
+    (λ es fs h j. let r = c.in_ok-pays-in-Some-pop.ensures es fs h j in (c.in_ok-most-in-Some-pop.ensures c.args.store.now c.args.keys.now c.args.scope es fs c.requires.before.keyed r.0 r.1, r.2))

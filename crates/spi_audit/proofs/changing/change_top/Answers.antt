@@ -9,4 +9,4 @@ returns-in-None c = changes_none c.requires.one c.args.stack.now.items c.pop.new
 
 pub returns-in_ok-push-in-Some : goal.returns-in_ok-push-in-Some
 returns-in_ok-push-in-Some c =
-    changes_top c.requires.one c.args.stack.now.items c.pop.new.self.items c.push.new.self.items c.in-Some.account c.in_ok-pays-in-Some.next c.in_ok-pays-in-Some.pays c.in-Some.ensures.items c.in_ok-push-in-Some.ensures.items c.in_ok-pays-in-Some.ensures
+    changes_top c.requires.one c.args.stack.now.items c.pop.new.self.items c.push.new.self.items c.in-Some.account c.change_one.new.account c.in_ok-pays-in-Some.pays c.in-Some.ensures.items c.in_ok-push-in-Some.ensures.items c.in_ok-pays-in-Some.ensures

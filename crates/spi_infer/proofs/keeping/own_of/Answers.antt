@@ -1,7 +1,6 @@
-use Rattle.std.proofs.Common.{ap, subst, sym}
-use Rattle.spi_term.specs.declared.term.Form.{Form}
+use Rattle.std.proofs.Common.{ap}
 use Rattle.spi_term.specs.View.{shape_of, form_of}
-use Rattle.spi_infer.proofs.Kept.{fits_at, quiet_fits, IsQuiet}
+use Rattle.spi_infer.proofs.Kept.{fits_at, quiet_fits, quiet_rest}
 use Rattle.spi_infer.proofs.keeping.own_of.Goals as goal
 
 pub returns-in-Check-clause-fits : goal.returns-in-Check-clause-fits
@@ -28,38 +27,7 @@ pub returns-in-Fresh-clause-fits : goal.returns-in-Fresh-clause-fits
 returns-in-Fresh-clause-fits c =
     fits_at c.args.judge.now c.new_own.new.judge c.new_own.new.keys (shape_of c.args.node.now) (ap (form_of c.args.node.now.scope) c.in-Fresh.is) c.new_own.result c.new_own.ensures.fits (λ own f e s. f)
 
-pub returns-in-Send-clause-fits : goal.returns-in-Send-clause-fits
-returns-in-Send-clause-fits c =
-    quiet_fits c.args.judge.now c.args.judge.now c.args.keys.now (shape_of c.args.node.now) _ (subst (λ (f : Form). IsQuiet (form_of c.args.node.now.scope f)) (sym c.in-Send.is) tt)
-
-pub returns-in-Recv-clause-fits : goal.returns-in-Recv-clause-fits
-returns-in-Recv-clause-fits c =
-    quiet_fits c.args.judge.now c.args.judge.now c.args.keys.now (shape_of c.args.node.now) _ (subst (λ (f : Form). IsQuiet (form_of c.args.node.now.scope f)) (sym c.in-Recv.is) tt)
-
-pub returns-in-Serve-clause-fits : goal.returns-in-Serve-clause-fits
-returns-in-Serve-clause-fits c =
-    quiet_fits c.args.judge.now c.args.judge.now c.args.keys.now (shape_of c.args.node.now) _ (subst (λ (f : Form). IsQuiet (form_of c.args.node.now.scope f)) (sym c.in-Serve.is) tt)
-
-pub returns-in-Split-clause-fits : goal.returns-in-Split-clause-fits
-returns-in-Split-clause-fits c =
-    quiet_fits c.args.judge.now c.args.judge.now c.args.keys.now (shape_of c.args.node.now) _ (subst (λ (f : Form). IsQuiet (form_of c.args.node.now.scope f)) (sym c.in-Split.is) tt)
-
-pub returns-in-Select-clause-fits : goal.returns-in-Select-clause-fits
-returns-in-Select-clause-fits c =
-    quiet_fits c.args.judge.now c.args.judge.now c.args.keys.now (shape_of c.args.node.now) _ (subst (λ (f : Form). IsQuiet (form_of c.args.node.now.scope f)) (sym c.in-Select.is) tt)
-
-pub returns-in-Branch-clause-fits : goal.returns-in-Branch-clause-fits
-returns-in-Branch-clause-fits c =
-    quiet_fits c.args.judge.now c.args.judge.now c.args.keys.now (shape_of c.args.node.now) _ (subst (λ (f : Form). IsQuiet (form_of c.args.node.now.scope f)) (sym c.in-Branch.is) tt)
-
-pub returns-in-Decrypt-clause-fits : goal.returns-in-Decrypt-clause-fits
-returns-in-Decrypt-clause-fits c =
-    quiet_fits c.args.judge.now c.args.judge.now c.args.keys.now (shape_of c.args.node.now) _ (subst (λ (f : Form). IsQuiet (form_of c.args.node.now.scope f)) (sym c.in-Decrypt.is) tt)
-
-pub returns-in-Par-clause-fits : goal.returns-in-Par-clause-fits
-returns-in-Par-clause-fits c =
-    quiet_fits c.args.judge.now c.args.judge.now c.args.keys.now (shape_of c.args.node.now) _ (subst (λ (f : Form). IsQuiet (form_of c.args.node.now.scope f)) (sym c.in-Par.is) tt)
-
-pub returns-in-Stop-clause-fits : goal.returns-in-Stop-clause-fits
-returns-in-Stop-clause-fits c =
-    quiet_fits c.args.judge.now c.args.judge.now c.args.keys.now (shape_of c.args.node.now) _ (subst (λ (f : Form). IsQuiet (form_of c.args.node.now.scope f)) (sym c.in-Stop.is) tt)
+pub returns-in_default-clause-fits : goal.returns-in_default-clause-fits
+returns-in_default-clause-fits c =
+    quiet_fits c.args.judge.now c.args.judge.now c.args.keys.now (shape_of c.args.node.now) _
+    (quiet_rest c.args.node.now.scope c.args.node.now.form c.in_default.not-Check c.in_default.not-Begin c.in_default.not-End c.in_default.not-EndMany c.in_default.not-Cast c.in_default.not-Fresh)

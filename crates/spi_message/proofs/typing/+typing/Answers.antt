@@ -1,4 +1,5 @@
-use Rattle.std.proofs.Common.{arith, refl, sym, ap, subst, IfOk, ◌∙◌, ◌++◌, ◌∷◌, []}
+use Rattle.std.proofs.Common.{arith, refl, sym, ap, subst, IfOk, List, ◌∙◌, ◌++◌, ◌∷◌, []}
+use Rattle.spi_intern.specs.declared.messages.MsgId.{MsgId}
 use Rattle.spi_term.specs.Term.{name}
 use Rattle.spi_message.specs.Asking.{IsTyped}
 use Rattle.spi_message.proofs.Fills.{below_keeps, size_keeps, pair_of, enc_of, left_of, right_of, hash_of, bound_of, name_of, unit_of}
@@ -119,7 +120,7 @@ is_sealed-has_type-requires-then-branch t c =
     let k = c.in_ok-un-in-None.ensures.kept in
     let l = c.in_ok-has_type-in-None.ensures.kept in
     let b = below_keeps c.args.body k.messages c.requires.body in
-    (omega (arith, size_keeps c.args.body k.messages c.requires.body, size_keeps c.args.body l.messages b, c.decreases), (below_keeps c.args.body l.messages b, asked_alone (environment_keeps l (environment_keeps k c.requires.names)) (given_keeps l record { type = _; means = c.in_ok-un-in-None.ensures.at }) (c.in_ok-has_type-in-None.ensures.values ∙ c.new-values.ensures.items)))
+    (omega (arith, size_keeps c.args.body k.messages c.requires.body, size_keeps c.args.body l.messages b, c.decreases), (below_keeps c.args.body l.messages b, asked_alone (environment_keeps l (environment_keeps k c.requires.names)) (given_keeps l record { type = _; means = c.in_ok-un-in-None.ensures.at }) (◌∙◌ {A = List MsgId} c.in_ok-has_type-in-None.ensures.values c.new-values.ensures.items)))
 
 pub is_sealed-returns-then-branch-clause-answer : goal.is_sealed-returns-then-branch-clause-answer
 is_sealed-returns-then-branch-clause-answer t c = by_un c.in-None.ensures.none c.in_ok-un-in-None.ensures.kept c.in_ok-un-in-None.ensures.at c.new-values.ensures.items c.requires.key c.in_ok-has_type-in-None.ensures.answer c.if-branch.true c.in_ok-has_type-in-None.ensures.kept c.in_ok-has_type-in-None.ensures.values c.requires.body c.has_type-then-branch.result c.has_type-then-branch.ensures.answer

@@ -30,13 +30,13 @@ pub is_message-requires-in-Hash-part : goal.is_message-requires-in-Hash-part
 is_message-requires-in-Hash-part t c = let w = hash_of c.args.store.now.messages c.args.id c.in-Hash-part.ensures c.requires in (omega (arith, w.size, c.decreases), w.part)
 
 pub returns-in-Bound : goal.returns-in-Bound
-returns-in-Bound t c = let e : c.eq.result ≡ part_eq c.part.result (Bound c.in-Bound.i) = c.eq.ensures in e ∙ bound_same c.args.store.now.messages c.args.id c.part.result c.part.ensures c.requires (message c.args.m.now) c.in-Bound.i (ap message c.in-Bound.is)
+returns-in-Bound t c = let e : c.eq.result ≡ part_eq c.part-part.result (Bound c.in-Bound.i) = c.eq.ensures in e ∙ bound_same c.args.store.now.messages c.args.id c.part-part.result c.part-part.ensures c.requires (message c.args.m.now) c.in-Bound.i (ap message c.in-Bound.is)
 
 pub returns-in-Name : goal.returns-in-Name
-returns-in-Name t c = let e : c.eq-in-Name.result ≡ part_eq c.part-in-Name.result (Name c.in-Name.x) = c.eq-in-Name.ensures in e ∙ name_same c.args.store.now.messages c.args.id c.part-in-Name.result c.part-in-Name.ensures c.requires (message c.args.m.now) c.in-Name.x (ap message c.in-Name.is)
+returns-in-Name t c = let e : c.eq-in-Name.result ≡ part_eq c.part-part.result (Name c.in-Name.x) = c.eq-in-Name.ensures in e ∙ name_same c.args.store.now.messages c.args.id c.part-part.result c.part-part.ensures c.requires (message c.args.m.now) c.in-Name.x (ap message c.in-Name.is)
 
 pub returns-in-Unit : goal.returns-in-Unit
-returns-in-Unit t c = let e : c.eq-in-Unit.result ≡ part_eq c.part-in-Unit.result NoParts = c.eq-in-Unit.ensures in e ∙ unit_same c.args.store.now.messages c.args.id c.part-in-Unit.result c.part-in-Unit.ensures c.requires (message c.args.m.now) (ap message c.in-Unit.is)
+returns-in-Unit t c = let e : c.eq-in-Unit.result ≡ part_eq c.part-part.result NoParts = c.eq-in-Unit.ensures in e ∙ unit_same c.args.store.now.messages c.args.id c.part-part.result c.part-part.ensures c.requires (message c.args.m.now) (ap message c.in-Unit.is)
 
 pub returns-then-is_message : goal.returns-then-is_message
 returns-then-is_message t c =
@@ -61,27 +61,27 @@ returns-else-is_message t c =
     c.if-is_message.false ∙ ap (λ z. z && same_message y b) e ∙ two_same pair pair_one x y a b (message_at ms c.args.id) (message c.args.m.now) w.is (ap message c.in-Pair.is)
 
 pub returns-in_default : goal.returns-in_default
-returns-in_default t c = no_pair c.args.store.now.messages c.args.id c.part-in-Pair.result c.part-in-Pair.ensures c.requires (message c.args.m.now) (message c.in-Pair.a.value) (message c.in-Pair.b.value) (ap message c.in-Pair.is) c.in_default.not-Pair
+returns-in_default t c = no_pair c.args.store.now.messages c.args.id c.part-part.result c.part-part.ensures c.requires (message c.args.m.now) (message c.in-Pair.a.value) (message c.in-Pair.b.value) (ap message c.in-Pair.is) c.in_default.not-Pair
 
 pub returns-in-Inl-part : goal.returns-in-Inl-part
 returns-in-Inl-part t c =
     let ms = c.args.store.now.messages in
     let w = left_of ms c.args.id c.in-Inl-part.ensures c.requires in
-    let x = message_at ms c.in-Inl-part.part in
+    let x = message_at ms c.in-Inl-part.inner in
     c.is_message-in-Inl-part.ensures ∙ ap (λ m. same_message x (message m)) c.deref-in-Inl-part.ensures ∙ one_same in_left left_one x (message c.in-Inl.a.value) (message_at ms c.args.id) (message c.args.m.now) w.is (ap message c.in-Inl.is)
 
 pub returns-in_default-part : goal.returns-in_default-part
-returns-in_default-part t c = no_left c.args.store.now.messages c.args.id c.part-in-Inl.result c.part-in-Inl.ensures c.requires (message c.args.m.now) (message c.in-Inl.a.value) (ap message c.in-Inl.is) c.in_default-part.not-Inl
+returns-in_default-part t c = no_left c.args.store.now.messages c.args.id c.part-part.result c.part-part.ensures c.requires (message c.args.m.now) (message c.in-Inl.a.value) (ap message c.in-Inl.is) c.in_default-part.not-Inl
 
 pub returns-in-Inr-part : goal.returns-in-Inr-part
 returns-in-Inr-part t c =
     let ms = c.args.store.now.messages in
     let w = right_of ms c.args.id c.in-Inr-part.ensures c.requires in
-    let x = message_at ms c.in-Inr-part.part in
+    let x = message_at ms c.in-Inr-part.inner in
     c.is_message-in-Inr-part.ensures ∙ ap (λ m. same_message x (message m)) c.deref-in-Inr-part.ensures ∙ one_same in_right right_one x (message c.in-Inr.a.value) (message_at ms c.args.id) (message c.args.m.now) w.is (ap message c.in-Inr.is)
 
 pub returns-in_default-part-2 : goal.returns-in_default-part-2
-returns-in_default-part-2 t c = no_right c.args.store.now.messages c.args.id c.part-in-Inr.result c.part-in-Inr.ensures c.requires (message c.args.m.now) (message c.in-Inr.a.value) (ap message c.in-Inr.is) c.in_default-part-2.not-Inr
+returns-in_default-part-2 t c = no_right c.args.store.now.messages c.args.id c.part-part.result c.part-part.ensures c.requires (message c.args.m.now) (message c.in-Inr.a.value) (ap message c.in-Inr.is) c.in_default-part-2.not-Inr
 
 pub returns-then-is_message-2 : goal.returns-then-is_message-2
 returns-then-is_message-2 t c =
@@ -106,14 +106,14 @@ returns-else-is_message-2 t c =
     c.if-is_message-2.false ∙ ap (λ z. z && same_message y b) e ∙ two_same enc enc_one x y a b (message_at ms c.args.id) (message c.args.m.now) w.is (ap message c.in-Enc.is)
 
 pub returns-in_default-part-3 : goal.returns-in_default-part-3
-returns-in_default-part-3 t c = no_enc c.args.store.now.messages c.args.id c.part-in-Enc.result c.part-in-Enc.ensures c.requires (message c.args.m.now) (message c.in-Enc.a.value) (message c.in-Enc.b.value) (ap message c.in-Enc.is) c.in_default-part-3.not-Enc
+returns-in_default-part-3 t c = no_enc c.args.store.now.messages c.args.id c.part-part.result c.part-part.ensures c.requires (message c.args.m.now) (message c.in-Enc.a.value) (message c.in-Enc.b.value) (ap message c.in-Enc.is) c.in_default-part-3.not-Enc
 
 pub returns-in-Hash-part : goal.returns-in-Hash-part
 returns-in-Hash-part t c =
     let ms = c.args.store.now.messages in
     let w = hash_of ms c.args.id c.in-Hash-part.ensures c.requires in
-    let x = message_at ms c.in-Hash-part.part in
+    let x = message_at ms c.in-Hash-part.inner in
     c.is_message-in-Hash-part.ensures ∙ ap (λ m. same_message x (message m)) c.deref-in-Hash-part.ensures ∙ one_same hash hash_one x (message c.in-Hash.a.value) (message_at ms c.args.id) (message c.args.m.now) w.is (ap message c.in-Hash.is)
 
 pub returns-in_default-part-4 : goal.returns-in_default-part-4
-returns-in_default-part-4 t c = no_hash c.args.store.now.messages c.args.id c.part-in-Hash.result c.part-in-Hash.ensures c.requires (message c.args.m.now) (message c.in-Hash.a.value) (ap message c.in-Hash.is) c.in_default-part-4.not-Hash
+returns-in_default-part-4 t c = no_hash c.args.store.now.messages c.args.id c.part-part.result c.part-part.ensures c.requires (message c.args.m.now) (message c.in-Hash.a.value) (ap message c.in-Hash.is) c.in_default-part-4.not-Hash

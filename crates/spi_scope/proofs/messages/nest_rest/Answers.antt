@@ -5,4 +5,4 @@ use Rattle.spi_scope.proofs.messages.nest_rest.Goals as goal
 
 pub loop-part-preserved : goal.loop-part-preserved
 loop-part-preserved c =
-    rw (c.in_ok-new.ensures.ok, c.in_ok-new-2.ensures.ok) (sym (popped _ _ _ c.in-Some-pop.part (message c.loop-part.last) c.in-Some-pop.ensures.items) ∙ c.loop-part.invariant)
+    rw (c.in_ok-last.ensures) (sym (popped _ _ _ c.in-Some-pop.part (message c.loop-part.last) c.in-Some-pop.ensures.items) ∙ c.loop-part.invariant)

@@ -5,11 +5,10 @@ use Rattle.spi_tree.specs.Views.{msg_of, ty_of, proc_of}
 use Rattle.spi_term.specs.Term.{Cases, Pars, process_size}
 use Rattle.spi_term.specs.Spelling.{flat}
 use Rattle.spi_term.specs.View.{message, ty, shape_of}
-use Rattle.spi_scope.specs.Scope.{Names, outer}
 use Rattle.spi_scope.specs.Meaning.{message_in, type_in, process_in}
 use Rattle.spi_scope.specs.State.{abbreviations}
 use Rattle.spi_scope.specs.Table.{Naming}
-use Rattle.spi_scope.proofs.Closing.{fork_nodes, one_more, next_one, next_rest, none_in}
+use Rattle.spi_scope.proofs.Closing.{fork_nodes, grown, one_more, next_one, next_rest, none_in}
 use Rattle.spi_scope.proofs.processes.+processes.Goals as goal
 
 pub compose-returns-clause-nodes : goal.compose-returns-clause-nodes
@@ -19,8 +18,8 @@ compose-returns-clause-nodes t c =
     let g = c.in_ok-push.ensures in
     let n0 : c.push.new.scope.held.names ≡ s.held.names = g.names in
     let y0 : c.push.new.scope.types ≡ s.types = g.types in
-    let n : c.add.new.scope.held.names ≡ s.held.names = ap (λ (h : Naming). h.names) c.in_ok-add.ensures.held ∙ r.names ∙ n0 in
-    let y : c.add.new.scope.types ≡ s.types = c.in_ok-add.ensures.types ∙ r.types ∙ y0 in
+    let n : c.add.new.scope.held.names ≡ s.held.names = ap (λ (h : Naming). h.names) c.in_ok-add.ensures.held ∙ r.kept.0 ∙ n0 in
+    let y : c.add.new.scope.types ≡ s.types = c.in_ok-add.ensures.types ∙ r.kept.1 ∙ y0 in
     let i = length c.args.arena.now.nodes.items in
     let k = length s.held.names in
     let p = process_in (λ x. x) (abbreviations s.types) s.held.names (proc_of c.args.first.now) in
@@ -28,7 +27,7 @@ compose-returns-clause-nodes t c =
     let f : map shape_of c.read_process.new.arena.nodes.items ≡ map shape_of c.push.new.arena.nodes.items ++ flat (length c.push.new.arena.nodes.items) k p =
     rw (n0, y0) at r.nodes in
     let l : length c.read_process.new.arena.nodes.items ≡ length c.push.new.arena.nodes.items + process_size p =
-    rw (n0, y0) at r.len in
+    grown c.push.new.arena.nodes.items c.read_process.new.arena.nodes.items _ _ p f in
     let a = c.in_ok-at.ensures in
     let b = c.in_ok-next.ensures in
     let d = c.close.ensures in
@@ -51,17 +50,13 @@ branch-returns-clause-nodes t c =
     let k = length xs in
     let m = c.in_ok-whole.ensures in
     let g = c.in_ok-push.ensures in
-    let r = c.in_ok-read_process.ensures in
+    let r = c.in_ok-read_under.ensures in
     let v = c.in_ok-right.ensures in
     let n0 : c.push.new.scope.held.names ≡ xs = g.names ∙ ap (λ (h : Naming). h.names) m.held in
-    let n1 : c.bind.new.self.names ≡ c.args.left.now.word ∷ xs =
-    ap (λ (h : Naming). h.names) c.in_ok-bind.ensures ∙ ap (λ x. x ∷ c.push.new.scope.held.names) c.as_str.ensures ∙ ap (λ (l : Names). c.args.left.now.word ∷ l) n0 in
     let y1 : c.push.new.scope.types ≡ s.types = g.types ∙ m.types in
-    let n2 : c.unbind.new.self.names ≡ xs = ap (λ (h : Naming). h.names) c.unbind.ensures ∙ ap outer (r.names ∙ n1) in
-    let y2 : c.read_process.new.scope.types ≡ s.types = r.types ∙ y1 in
+    let n2 : c.read_under.new.scope.held.names ≡ xs = r.kept.0 ∙ n0 in
+    let y2 : c.read_under.new.scope.types ≡ s.types = r.kept.1 ∙ y1 in
     let n3 : c.read_annotation.new.scope.held.names ≡ xs = ap (λ (h : Naming). h.names) v.held ∙ n2 in
-    let n4 : c.bind-2.new.self.names ≡ c.args.other.now.word ∷ xs =
-    ap (λ (h : Naming). h.names) c.in_ok-bind-2.ensures ∙ ap (λ x. x ∷ c.read_annotation.new.scope.held.names) c.as_str-2.ensures ∙ ap (λ (l : Names). c.args.other.now.word ∷ l) n3 in
     let y4 : c.read_annotation.new.scope.types ≡ s.types = v.types ∙ y2 in
     let p = process_in (λ x. x) ts (c.args.left.now.word ∷ xs) (proc_of c.args.first.now) in
     let q = process_in (λ x. x) ts (c.args.other.now.word ∷ xs) (proc_of c.args.second.now) in
@@ -71,17 +66,18 @@ branch-returns-clause-nodes t c =
     let em : message c.in_ok-whole.whole ≡ mm = m.read.0 ∙ ap (λ b. message_in b xs (msg_of c.args.whole.now)) c.len-base.ensures in
     let ea : ty c.in_ok-whole.left_ty ≡ aa = m.read.1 ∙ ap (λ b. type_in b ts xs (ty_of c.args.left_ty.now)) c.len-base.ensures in
     let ec : ty c.in_ok-right.right ≡ cc' = (rw (n2, y2, c.len-base.ensures) at v.gives.1) in
-    let f : map shape_of c.read_process.new.arena.nodes.items ≡ map shape_of c.push.new.arena.nodes.items ++ flat (length c.push.new.arena.nodes.items) (suc k) p =
-    rw (n1, y1) at r.nodes in
-    let l : length c.read_process.new.arena.nodes.items ≡ length c.push.new.arena.nodes.items + process_size p =
-    rw (n1, y1) at r.len in
-    let h : map shape_of c.read_process-2.new.arena.nodes.items ≡ map shape_of c.close.new.arena.nodes.items ++ flat (length c.close.new.arena.nodes.items) (suc k) q =
-    rw (n4, y4) at c.in_ok-read_process-2.ensures.nodes in
+    let f : map shape_of c.read_under.new.arena.nodes.items ≡ map shape_of c.push.new.arena.nodes.items ++ flat (length c.push.new.arena.nodes.items) (suc k) p =
+    rw (n0, y1) at r.nodes in
+    let l : length c.read_under.new.arena.nodes.items ≡ length c.push.new.arena.nodes.items + process_size p =
+    grown c.push.new.arena.nodes.items c.read_under.new.arena.nodes.items _ _ p f in
     let i = length c.args.arena.now.nodes.items in
     let a = c.in_ok-at.ensures in
     let b = c.in_ok-on_right.ensures in
     let d = c.close.ensures in
-    (fork_nodes (Cases mm aa cc') (map shape_of c.args.arena.now.nodes.items) (map shape_of c.push.new.arena.nodes.items) (map shape_of c.read_process.new.arena.nodes.items) (map shape_of c.close.new.arena.nodes.items) (map shape_of c.read_process-2.new.arena.nodes.items)
+    on_ok_weaker c.read_under-2.result
+    (λ h.
+    (fork_nodes (Cases mm aa cc') (map shape_of c.args.arena.now.nodes.items) (map shape_of c.push.new.arena.nodes.items) (map shape_of c.read_under.new.arena.nodes.items) (map shape_of c.close.new.arena.nodes.items) (map shape_of c.read_under-2.new.arena.nodes.items)
     p q k (suc k) (suc k) _ _ _ (length c.push.new.arena.nodes.items) (length c.close.new.arena.nodes.items) _
-    g.nodes f (rw (c.len-base.ensures, em, ea, ec) at d.nodes) h i
-    (omega (arith, a)) (sym (length-map c.args.arena.now.nodes.items shape_of)) (omega (arith, g.len)) (omega (arith, a)) (omega (arith, b, l, g.len)) (omega (arith, d.len, l, g.len)) (omega arith) (omega arith))
+    g.nodes f (rw (c.len-base.ensures, em, ea, ec) at d.nodes) (rw (n3, y4) at h) i
+    (omega (arith, a)) (sym (length-map c.args.arena.now.nodes.items shape_of)) (omega (arith, g.len)) (omega (arith, a)) (omega (arith, b, l, g.len)) (omega (arith, d.len, l, g.len)) (omega arith) (omega arith)))
+    c.read_under-2.ensures.nodes

@@ -7,7 +7,7 @@ use Rattle.spi_scope.proofs.types.nest_rest_types.Goals as goal
 
 pub loop-part-preserved : goal.loop-part-preserved
 loop-part-preserved c =
-    rw (c.in_ok-new.ensures.ok, c.in_ok-new-2.ensures.ok) (popped_type _ _ c.in-Some.part (ty c.loop-part.last) c.in-Some.ensures.items ∙ c.loop-part.invariant)
+    rw (c.in_ok-last.ensures) (popped_type _ _ c.in-Some.part (ty c.loop-part.last) c.in-Some.ensures.items ∙ c.loop-part.invariant)
 
 pub returns : goal.returns
 returns c =

@@ -1,5 +1,0 @@
-use Rattle.cryptyc.proofs.Judging.{refused, none_derivable}
-use Rattle.cryptyc.proofs.check.checked.Goals as goal
-
-pub returns-clause-ok : goal.returns-clause-ok
-returns-clause-ok c = refused c.args.bytes.now c.args.file.now c.rejected.result c.requires.read (none_derivable _ c.in-Some.fault _ c.in-Some.is c.in_ok-explain.ensures.exact) c.rejected.ensures.ok

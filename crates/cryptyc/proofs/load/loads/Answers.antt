@@ -1,6 +1,0 @@
-use Rattle.spi_tree.specs.Views.{file_of}
-use Rattle.cryptyc.proofs.Loading.{only_memory}
-use Rattle.cryptyc.proofs.load.loads.Goals as goal
-
-pub stopped-requires : goal.stopped-requires
-stopped-requires c = only_memory c.args.k (file_of c.in_ok-tree.tree) c.in-Err.fault c.requires.1 c.in_ok-tree.ensures c.in-Err.ensures.fault

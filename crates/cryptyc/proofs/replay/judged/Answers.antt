@@ -1,8 +1,0 @@
-use Rattle.spi_report.proofs.Lines.{each_paired}
-use Rattle.cryptyc.proofs.replay.judged.Goals as goal
-
-pub events-requires : goal.events-requires
-events-requires c = each_paired c.args.happened.now c.in_ok-pairing.pairing.from.items c.in_ok-pairing.ensures
-
-pub judgement-requires : goal.judgement-requires
-judgement-requires c = c.in_ok-pairing.ensures

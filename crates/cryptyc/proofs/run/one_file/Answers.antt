@@ -1,5 +1,0 @@
-use Rattle.cryptyc.proofs.Ending.{one_spelled}
-use Rattle.cryptyc.proofs.run.one_file.Goals as goal
-
-pub returns : goal.returns
-returns c = one_spelled c.one_answer.ensures.one c.one_placed_tree.ensures c.one_or_other.ensures.one_file

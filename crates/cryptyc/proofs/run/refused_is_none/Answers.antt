@@ -1,5 +1,0 @@
-use Rattle.cryptyc.proofs.Refusals.{refused_none}
-use Rattle.cryptyc.proofs.run.refused_is_none.Goals as goal
-
-pub returns : goal.returns
-returns c = λ bytes number offset shown h. refused_none c.one_answer.ensures.one c.one_placed_tree.ensures c.one_or_other.ensures.never_both h

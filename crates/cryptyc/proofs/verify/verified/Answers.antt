@@ -1,7 +1,0 @@
-use Rattle.std.proofs.Common.{ap}
-use Rattle.spi_scope.specs.Files.{uses_of}
-use Rattle.cryptyc.proofs.Verifying.{lacks}
-use Rattle.cryptyc.proofs.verify.verified.Goals as goal
-
-pub returns-in-None-clause-ok : goal.returns-in-None-clause-ok
-returns-in-None-clause-ok c = lacks c.args.bytes.now c.args.file.now c.missing.result c.requires.read (ap uses_of c.in-None.is) c.missing.ensures.ok

@@ -1,9 +1,0 @@
-use Rattle.std.proofs.Common.{refl}
-use Rattle.cryptyc.proofs.Verifying.{use_within, wrong_line}
-use Rattle.cryptyc.proofs.verify.wrong.Goals as goal
-
-pub wrong_step-requires : goal.wrong_step-requires
-wrong_step-requires c = rw c.in_ok-lines.ensures (use_within c.args.bytes.now c.args.file.now c.args.index c.requires.read)
-
-pub returns-clause-ok : goal.returns-clause-ok
-returns-clause-ok c = (refl, wrong_line c.args.bytes.now c.in_ok-output.output.items c.args.file.now c.requires.wrong.0 c.args.index c.requires.read c.requires.wrong.1 c.requires.wrong.2 (rw c.in_ok-lines.ensures at c.in_ok-output.ensures))

@@ -1,0 +1,269 @@
+-- What bytes are refused for, and where.
+use Rattle.std.proofs.Common.{◌≡◌, ◌⊎◌, inl, inr, ℕ, zero, suc, ◌+◌, ◌-◌, ◌<◌, ◌≤◌, List, [], ◌∷◌, ◌++◌, Option, Some, None, Result, Ok, Err, IfOk, IfSome, IsSome, length, ◌∙◌, drop, refl, sym, ap, subst, arith, length-drop, append-nil, true}
+use Rattle.std.specs.Prelude.{⊤}
+use Rattle.std.specs.Fmt.{decimal}
+use Rattle.std.proofs.lemmas.Grind.{common_steps}
+use Rattle.spi_io.specs.Causes.{TakesCount, TakesAll}
+use Rattle.spi_lex.specs.declared.token.Token.{Token}
+use Rattle.spi_lex.specs.declared.fault.LexFault.{LexFault}
+use Rattle.spi_lex.specs.declared.fault.LexFault.TheVariants as faults
+use Rattle.spi_lex.specs.Lexing as L
+use Rattle.spi_lex.specs.Lexing.{Piece, Leads, here, past_gap, past_piece, Lexes, kinds_of}
+use Rattle.spi_lex.specs.Writing.{AreSpans, spans_of}
+use Rattle.spi_lex.proofs.Lexed.{lexed}
+use Rattle.spi_lex.specs.declared.token.Kind.{Kind}
+use Rattle.spi_text.specs.declared.lines.Span.{Span}
+use Rattle.spi_tree.specs.Trees as t
+use Rattle.spi_tree.specs.Pieces.{Piece as Part, opens, cell, closes, kinds_in}
+use Rattle.spi_parse.specs.Formed.{IsFile, whole_file}
+use Rattle.spi_parse.specs.Exact.{Spells, IsWithin, Stops, IsSyntaxAt}
+use Rattle.spi_scope.specs.declared.fault.ScopeFault.{ScopeFault}
+use Rattle.spi_scope.specs.declared.fault.ScopeFault.TheVariants as scope
+use Rattle.spi_scope.specs.StandsFor.{Meant, StandsFor}
+use Rattle.spi_scope.specs.First.{HasFirst}
+use Rattle.spi_scope.specs.FaultPlaces.{span_from, StartsAt}
+use Rattle.spi_term.specs.Lists.{In, in_first, in_later}
+use Rattle.spi_report.specs.declared.refusal.Refusal.{Refusal}
+use Rattle.spi_report.specs.Names.{name_of}
+use Rattle.spi_report.specs.Refused.{refused_text}
+use Rattle.spi_commands.specs.declared.answer.Answer.{Answer}
+use Rattle.spi_commands.specs.declared.answer.Stop.{Stop}
+use Rattle.spi_commands.specs.declared.status.Status.{Status}
+use Rattle.spi_commands.specs.declared.status.Status.TheVariants.{Refused}
+use Rattle.spi_commands.specs.declared.reading.Unread.{Unread}
+use Rattle.spi_commands.specs.declared.reading.Unread.TheVariants as unread
+use Rattle.spi_commands.specs.Reading.{IsUnread, Tells}
+use Rattle.spi_commands.specs.Spelled.{limit, IsTreeOf, SpellsNone}
+use Rattle.spi_commands.specs.Answer.{start_of, scope_number, Refuses, too_long, not_utf8, bad_char, bad_number, name_too_long, syntax, too_deep, out_of_scope, IsRefusal, IsPlaceless}
+use Rattle.spi_commands.specs.Beside.{IsPlaced}
+use Rattle.spi_commands.specs.declared.asked.Command.{Command}
+use Rattle.spi_commands.specs.declared.asked.Command.TheVariants.{Check, Derive, Verify, Replay, Play, Print, Load, Upgrade}
+use Rattle.spi_play.specs.Way.{Seen}
+use Rattle.spi_commands.specs.Asked.{reads_file}
+use Rattle.spi_commands.specs.Commands.{AnswersTo}
+
+-- the way of lexemes goes through the bytes
+leads_within : {at to : ℕ} {text rest : List ℕ} {pieces : List Piece} → Leads at text pieces to rest → to + length rest ≡ at + length text
+leads_within here = refl
+leads_within {at} {text = text} (past_gap n l g h) =
+    let d : length (drop n text) ≡ length text - n = length-drop n text in
+    omega (arith, leads_within h, l.within)
+leads_within {at} {text = text} (past_piece n lexeme l s a h) =
+    let d : length (drop n text) ≡ length text - n = length-drop n text in
+    omega (arith, leads_within h, l.within)
+
+-- a fault stands in the bytes
+abbrev StandsWithin : ℕ → Result (List Token) LexFault → Type 0
+StandsWithin n (Ok tokens) = ⊤
+StandsWithin n (Err (faults.NotUtf8 at)) = at ≤ n
+StandsWithin n (Err (faults.BadChar at)) = at ≤ n
+StandsWithin n (Err (faults.BadNumber at)) = at ≤ n
+StandsWithin n (Err (faults.NameTooLong at)) = at ≤ n
+StandsWithin n (Err faults.NoMemory) = ⊤
+
+stands_within : {bytes : List ℕ} {a : Result (List Token) LexFault} → Lexes bytes a → StandsWithin (length bytes) a
+stands_within (L.to_tokens u h) = tt
+stands_within (L.not_utf8 v) = omega (arith, v.short)
+stands_within (L.bad_char u h none) = omega (arith, leads_within h)
+stands_within (L.bad_number n value u h l s most) = omega (arith, leads_within h)
+stands_within (L.name_too_long n name u h l s long) = omega (arith, leads_within h)
+
+-- a list of spans ends where it ends or before
+spans_end : (at end : ℕ) (spans : List Span) → AreSpans at spans end → at ≤ end
+spans_end at end [] h = h
+spans_end at end (span ∷ spans) h = let m = spans_end span.to end spans h.2 in omega (arith, h.0, h.1, m)
+
+-- a token stands in the bytes
+starts_within : (at end : ℕ) (bytes : List ℕ) (tokens : List Token) → AreSpans at (spans_of tokens) end → end ≤ length bytes → (i : ℕ) → start_of bytes (drop i tokens) ≤ length bytes
+starts_within at end bytes [] h l zero = omega arith
+starts_within at end bytes [] h l (suc i) = omega arith
+starts_within at end bytes (token ∷ tokens) h l zero = let m = spans_end token.span.to end (spans_of tokens) h.2 in omega (arith, h.1, l, m)
+starts_within at end bytes (token ∷ tokens) h l (suc i) = starts_within token.span.to end bytes tokens h.2 l i
+
+token_within : (bytes : List ℕ) (tokens : List Token) (i : ℕ) → Lexes bytes (Ok tokens) → start_of bytes (drop i tokens) ≤ length bytes
+token_within bytes tokens i h = starts_within 0 (length bytes) bytes tokens (lexed bytes tokens h).1 (let z : length bytes ≤ length bytes = omega arith in z) i
+
+-- a node or a word of a tree that is spelled starts in the bytes
+pub opens_within : (end at e from : ℕ) (ps : List Part) (ts : List Token) → Spells [] e ps ts → AreSpans at (spans_of ts) end → In (opens from) ps → from ≤ end
+opens_within end at e from [] ts h spans i = elim i [ ]
+opens_within end at e from (opens other ∷ ps) [] h spans i = absurd h
+opens_within end at e from (opens other ∷ ps) (tok ∷ ts) h spans in_first = let m = spans_end tok.span.to end (spans_of ts) spans.2 in let f = h.0 in omega (arith, f, m, spans.1)
+opens_within end at e from (opens other ∷ ps) (tok ∷ ts) h spans (in_later i) = opens_within end at e from ps (tok ∷ ts) h.1 spans i
+opens_within end at e from (cell k deep ∷ ps) [] h spans i = absurd h
+opens_within end at e from (cell k deep ∷ ps) (tok ∷ ts) h spans (in_later i) = opens_within end tok.span.to tok.span.to from ps ts h.2 spans.2 i
+opens_within end at e from (closes to ∷ ps) ts h spans (in_later i) = opens_within end at e from ps ts h.1 spans i
+
+pub refused_within : {bytes : List ℕ} {number : ℕ} {offset : Option ℕ} {shown : List ℕ} → ((tree : t.File) (fault : ScopeFault) → HasFirst tree fault → StartsAt tree (span_from fault)) → Refuses bytes number offset shown → IfSome offset (λ at. at ≤ length bytes)
+refused_within at (too_long l) = tt
+refused_within at (not_utf8 l h) = stands_within h
+refused_within at (bad_char l h) = stands_within h
+refused_within at (bad_number l h) = stands_within h
+refused_within at (name_too_long l h) = stands_within h
+refused_within {bytes} at (syntax {tokens = tokens} {i = i} l h f) = token_within bytes tokens i h
+refused_within {bytes} at (too_deep {tokens = tokens} {i = i} l h f) = token_within bytes tokens i h
+refused_within {bytes} at (out_of_scope {tree = tree} {fault = fault} is f) =
+    opens_within (length bytes) 0 0 (span_from fault) (whole_file tree) is.tokens is.spelled (lexed bytes is.tokens is.lexed).1 (at tree fault f)
+
+scope_named : (fault : ScopeFault) → ¬ (fault ≡ scope.NoMemory) → IsSome (name_of (scope_number fault))
+scope_named (scope.UnknownName s w) n = refl
+scope_named (scope.UnknownType s w) n = refl
+scope_named (scope.NameTwice s w) n = refl
+scope_named (scope.TypeTwice s w) n = refl
+scope_named (scope.MessageTooLarge s c) n = refl
+scope_named (scope.TypeTooLarge s c) n = refl
+scope_named (scope.FileTooLarge s c) n = refl
+scope_named (scope.ScheduleTooLong s c) n = refl
+scope_named scope.NoMemory n = absurd (n refl)
+
+-- the number has a name
+pub refused_named : {bytes : List ℕ} {number : ℕ} {offset : Option ℕ} {shown : List ℕ} → ((tree : t.File) (fault : ScopeFault) → HasFirst tree fault → ¬ (fault ≡ scope.NoMemory)) → Refuses bytes number offset shown → IsSome (name_of number)
+refused_named never (too_long l) = refl
+refused_named never (not_utf8 l h) = refl
+refused_named never (bad_char l h) = refl
+refused_named never (bad_number l h) = refl
+refused_named never (name_too_long l h) = refl
+refused_named never (syntax l h f) = refl
+refused_named never (too_deep l h f) = refl
+refused_named never (out_of_scope {tree = tree} {fault = fault} is f) = scope_named fault (never tree fault f)
+
+-- what spelled pieces tell
+pub spells_kinds : (e : ℕ) (ps : List Part) (ts : List Token) → Spells [] e ps ts → kinds_in ps ≡ kinds_of ts
+spells_kinds e [] ts h = ap kinds_of (sym h)
+spells_kinds e (opens from ∷ ps) [] h = absurd h
+spells_kinds e (opens from ∷ ps) (tok ∷ ts) h = spells_kinds e ps (tok ∷ ts) h.1
+spells_kinds e (cell k deep ∷ ps) [] h = absurd h
+spells_kinds e (cell k deep ∷ ps) (tok ∷ ts) h = ap (λ l. k ∷ l) (spells_kinds tok.span.to ps ts h.2) ∙ ap (λ k. k ∷ kinds_of ts) (sym h.0)
+spells_kinds e (closes to ∷ ps) ts h = spells_kinds e ps ts h.1
+
+spells_within : (e : ℕ) (ps : List Part) (ts : List Token) → Spells [] e ps ts → IsWithin ps
+spells_within e [] ts h = tt
+spells_within e (opens from ∷ ps) [] h = absurd h
+spells_within e (opens from ∷ ps) (tok ∷ ts) h = spells_within e ps (tok ∷ ts) h.1
+spells_within e (cell k deep ∷ ps) [] h = absurd h
+spells_within e (cell k deep ∷ ps) (tok ∷ ts) h = (h.1, spells_within tok.span.to ps ts h.2)
+spells_within e (closes to ∷ ps) ts h = spells_within e ps ts h.1
+
+-- what is known of each list of bytes and of each tree
+abbrev pub OneLexing : Type 0
+OneLexing = (bytes : List ℕ) (a b : Result (List Token) LexFault) → Lexes bytes a → Lexes bytes b → a ≡ b
+
+abbrev pub OnePlaced : Type 0
+OnePlaced = (f g : t.File) (ts : List Token) → IsFile f → IsFile g → Spells [] 0 (whole_file f) ts → Spells [] 0 (whole_file g) ts → f ≡ g
+
+abbrev pub OneMeant : Type 0
+OneMeant = (tree : t.File) (file other : Meant) → StandsFor tree file → StandsFor tree other → file ≡ other
+
+abbrev pub NeverBoth : Type 0
+NeverBoth = (tree : t.File) (file : Meant) (fault : ScopeFault) → StandsFor tree file → HasFirst tree fault → ⊥
+
+same_tokens : OneLexing → (bytes : List ℕ) (ts us : List Token) → Lexes bytes (Ok ts) → Lexes bytes (Ok us) → ts ≡ us
+same_tokens one bytes ts us h k = let e : Ok ts ≡ Ok us = one bytes (Ok ts) (Ok us) h k in cc
+
+-- bytes have one tree at most
+pub one_tree : OneLexing → OnePlaced → (bytes : List ℕ) (f g : t.File) → IsTreeOf bytes f → IsTreeOf bytes g → f ≡ g
+one_tree lexing placed bytes f g a b =
+    let e : b.tokens ≡ a.tokens = same_tokens lexing bytes b.tokens a.tokens b.lexed a.lexed in
+    placed f g a.tokens a.formed b.formed a.spelled (subst (Spells [] 0 (whole_file g)) e b.spelled)
+
+not_at : (tree : t.File) (ks : List Kind) (i : ℕ) → IsFile tree → kinds_in (whole_file tree) ≡ ks → IsSyntaxAt whole_file IsFile ks i → ⊥
+not_at tree ks i formed e at = go at.rest (e ∙ at.split) at.stops
+  where
+    go : (rest : List Kind) → kinds_in (whole_file tree) ≡ at.pre ++ rest → Stops whole_file IsFile at.pre rest → ⊥
+    go [] f stops = stops tree formed (f ∙ append-nil at.pre)
+    go (k ∷ rest) f stops = stops tree formed rest f
+
+tree_kinds : OneLexing → (bytes : List ℕ) (tokens : List Token) (tree : t.File) → Lexes bytes (Ok tokens) → IsTreeOf bytes tree → kinds_in (whole_file tree) ≡ kinds_of tokens
+tree_kinds lexing bytes tokens tree h is =
+    spells_kinds 0 (whole_file tree) is.tokens is.spelled ∙ ap kinds_of (same_tokens lexing bytes is.tokens tokens is.lexed h)
+
+-- bytes that are refused spell no file
+pub refused_none : OneLexing → OnePlaced → NeverBoth → {bytes : List ℕ} {number : ℕ} {offset : Option ℕ} {shown : List ℕ} → Refuses bytes number offset shown → SpellsNone bytes
+refused_none lexing placed never (too_long l) file (tree, is, stands) = let w = is.within in omega arith
+refused_none lexing placed never {bytes} (not_utf8 l h) file (tree, is, stands) = let e = lexing bytes _ _ h is.lexed in cc
+refused_none lexing placed never {bytes} (bad_char l h) file (tree, is, stands) = let e = lexing bytes _ _ h is.lexed in cc
+refused_none lexing placed never {bytes} (bad_number l h) file (tree, is, stands) = let e = lexing bytes _ _ h is.lexed in cc
+refused_none lexing placed never {bytes} (name_too_long l h) file (tree, is, stands) = let e = lexing bytes _ _ h is.lexed in cc
+refused_none lexing placed never {bytes} (syntax {tokens = tokens} {i = i} l h at) file (tree, is, stands) =
+    not_at tree (kinds_of tokens) i is.formed (tree_kinds lexing bytes tokens tree h is) at
+refused_none lexing placed never {bytes} (too_deep {tokens = tokens} {i = i} l h at) file (tree, is, stands) =
+    at.every tree is.formed at.rest (tree_kinds lexing bytes tokens tree h is ∙ at.split) (spells_within 0 (whole_file tree) is.tokens is.spelled)
+refused_none lexing placed never {bytes} (out_of_scope {tree = other} {fault = fault} is f) file (tree, that, stands) =
+    never tree file fault stands (subst (λ t. HasFirst t fault) (one_tree lexing placed bytes other tree is that) f)
+
+-- the line of a refusal
+pub line_of : (bytes output : List ℕ) (r : Refusal) (number : ℕ) (offset : Option ℕ) (shown : List ℕ) → Refuses bytes number offset shown → r.number ≡ number → r.offset ≡ offset → r.shown.items ≡ shown → output ≡ refused_text bytes r → IsRefusal bytes output
+line_of bytes output r number offset shown h n o s e = (r, rw (n, o, s) h, e)
+
+-- without a place the line doesn't depend on the bytes
+pub no_place : (bytes others : List ℕ) (r : Refusal) → r.offset ≡ None → refused_text others r ≡ refused_text bytes r
+no_place bytes others r e = rw e refl
+
+-- a refusal of the bytes is the answer of each command that reads a file
+refused_by : (command : Command) (bytes : List ℕ) (players : List Seen) (output : List ℕ) → reads_file (Some command) ≡ true → IsRefusal bytes output → AnswersTo command bytes players players Refused output
+refused_by Check bytes players output e h = h
+refused_by Derive bytes players output e h = inl h
+refused_by Verify bytes players output e h = inl h
+refused_by Replay bytes players output e h = inl h
+refused_by (Play most only) bytes players output e h = inl (inl h, refl)
+refused_by Print bytes players output e h = inl h
+refused_by (Load sessions) bytes players output e h = absurd (cc)
+refused_by Upgrade bytes players output e h = inl h
+
+pub answers_to : (command : Command) (bytes : List ℕ) (players : List Seen) (output : List ℕ) (status : Status) → reads_file (Some command) ≡ true → status ≡ Refused → IsRefusal bytes output → AnswersTo command bytes players players status output
+answers_to command bytes players output status reads e h = rw e (refused_by command bytes players output reads h)
+
+pub placeless : (bytes shown : List ℕ) (number : ℕ) (r : Refusal) (result : Result Answer Stop) → r.number ≡ number → r.offset ≡ None → r.shown.items ≡ shown → IfOk result (λ a. (a.status ≡ Refused) × (a.output.items ≡ refused_text bytes r)) → IfOk result (λ a. (a.status ≡ Refused) × IsPlaceless bytes number shown a.output.items)
+placeless bytes shown number r (Ok a) n o s is = (is.0, (r, n, o, s, is.1))
+placeless bytes shown number r (Err e) n o s is = tt
+
+-- the line of a refusal at a place
+pub placed_line : (bytes shown : List ℕ) (number offset : ℕ) (r : Refusal) (result : Result Answer Stop) → r.number ≡ number → r.offset ≡ Some offset → r.shown.items ≡ shown → IfOk result (λ a. (a.status ≡ Refused) × (a.output.items ≡ refused_text bytes r)) → IfOk result (λ a. (a.status ≡ Refused) × IsPlaced bytes number offset shown a.output.items)
+placed_line bytes shown number offset r (Ok a) n o s is = (is.0, (r, n, o, s, is.1))
+placed_line bytes shown number offset r (Err e) n o s is = tt
+
+-- more bytes than the limit were taken
+pub taken_long : (old new : Option (List ℕ)) → TakesCount old new (limit + 1) → IfSome old (λ bytes. limit < length bytes)
+taken_long None new t = tt
+taken_long (Some bytes) None t = absurd t.2
+taken_long (Some bytes) (Some rest) t = grind (arith, common_steps)
+
+-- what a call tells of a refusal is one of the bytes
+pub unread_as : (bytes : List ℕ) (number offset : ℕ) (shown : List ℕ) (u : Unread) → Refuses bytes number (Some offset) shown → Tells number offset shown u → IsUnread bytes u
+unread_as bytes number offset shown (unread.Refused r) h t = rw (t.0, t.1, t.2) h
+unread_as bytes number offset shown unread.NoMemory h t = tt
+
+-- the fault is this one, since memory didn't run out
+pub lexed_fault : (bytes : List ℕ) (fault wanted : LexFault) → fault ≡ wanted → ¬ (wanted ≡ faults.NoMemory) → (fault ≡ faults.NoMemory) ⊎ Lexes bytes (Err fault) → Lexes bytes (Err wanted)
+lexed_fault bytes fault wanted e other (inl none) = absurd (other (sym e ∙ none))
+lexed_fault bytes fault wanted e other (inr h) = rw (← e) h
+
+pub refused_long : (others : List ℕ) (r : Refusal) (result : Result Answer Stop) → r.number ≡ 2 → r.offset ≡ None → r.shown.items ≡ decimal (limit + 1) → IfOk result (λ a. (a.status ≡ Refused) × (a.output.items ≡ refused_text others r)) → IfOk result (λ a. (command : Command) (bytes : List ℕ) (players : List Seen) → reads_file (Some command) ≡ true → limit < length bytes → AnswersTo command bytes players players a.status a.output.items)
+refused_long others r (Ok a) n o s is = λ command bytes players reads l. answers_to command bytes players a.output.items a.status reads is.0 (line_of bytes a.output.items r 2 None (decimal (limit + 1)) (too_long l) n o s (is.1 ∙ no_place bytes others r o))
+refused_long others r (Err e) n o s is = tt
+
+pub refused_as : (command : Command) (bytes : List ℕ) (r : Refusal) (result : Result Answer Stop) → reads_file (Some command) ≡ true → Refuses bytes r.number r.offset r.shown.items → IfOk result (λ a. (a.status ≡ Refused) × (a.output.items ≡ refused_text bytes r)) → (players : List Seen) → IfOk result (λ a. AnswersTo command bytes players players a.status a.output.items)
+refused_as command bytes r (Ok a) reads h is = λ players. answers_to command bytes players a.output.items a.status reads is.0 (r, h, is.1)
+refused_as command bytes r (Err e) reads h is = λ players. tt
+
+pub answers_long : (command : Command) (players : List Seen) (left : Option (List ℕ)) (result : Result Answer Stop) → reads_file (Some command) ≡ true → IfSome left (λ bytes. limit < length bytes) → IfOk result (λ a. (command : Command) (bytes : List ℕ) (players : List Seen) → reads_file (Some command) ≡ true → limit < length bytes → AnswersTo command bytes players players a.status a.output.items) → IfOk result (λ a. IfSome left (λ bytes. AnswersTo command bytes players players a.status a.output.items))
+answers_long command players None (Ok a) reads long is = tt
+answers_long command players (Some bytes) (Ok a) reads long is = is command bytes players reads long
+answers_long command players left (Err e) reads long is = tt
+
+-- the bytes that were left are those that were taken
+all_taken : (bytes : List ℕ) (new : Option (List ℕ)) (taken : List ℕ) → TakesAll (Some bytes) new taken → bytes ≡ taken
+all_taken bytes None taken all = absurd all.taken
+all_taken bytes (Some rest) taken all = all.taken ∙ ap (λ (r : List ℕ). taken ++ r) all.ended ∙ append-nil taken
+
+-- what is answered on the bytes that were taken
+pub answers_taken : (command : Command) (before after : List Seen) (old new : Option (List ℕ)) (taken : List ℕ) (result : Result Answer Stop) → TakesAll old new taken → IfOk result (λ a. AnswersTo command taken before after a.status a.output.items) → IfOk result (λ a. IfSome old (λ bytes. AnswersTo command bytes before after a.status a.output.items))
+answers_taken command before after None new taken (Ok a) all is = tt
+answers_taken command before after (Some bytes) new taken (Ok a) all is = subst (λ (bs : List ℕ). AnswersTo command bs before after a.status a.output.items) (sym (all_taken bytes new taken all)) is
+answers_taken command before after old new taken (Err e) all is = tt
+
+-- each token has a byte of its own
+pub tokens_within : (start end : ℕ) (tokens : List Token) → AreSpans start (spans_of tokens) end → length tokens + start ≤ end
+tokens_within start end [] h = omega (arith, h)
+tokens_within start end (token ∷ tokens) h =
+    let ih = tokens_within token.span.to end tokens h.2 in
+    omega (arith, h.0, h.1)

@@ -1,0 +1,176 @@
+-- Replays of a schedule: two of them are the same, and none goes past a step that is refused.
+use Rattle.std.proofs.Common.{◌≡◌, ◌⊎◌, inl, inr, refl, sym, ap, ◌∙◌, subst, subst₂, ℕ, zero, suc, ◌+◌, ◌<◌, ◌≤◌, List, [], ◌∷◌, ◌++◌, append_assoc, append-nil, length, map, take, drop, get_or, Option, Some, None, arith}
+use Rattle.std.proofs.lemmas.List.{length-map, length-take-le, take_all}
+use Rattle.std.specs.Prelude.{option_to_list}
+use Rattle.spi_term.specs.Lists.{At, at_first, at_later}
+use Rattle.spi_term.specs.Term.{Process}
+use Rattle.spi_run.specs.declared.step.Step as program
+use Rattle.spi_run.specs.declared.step.Event as declared
+use Rattle.spi_run.specs.View.{step as step_of, event as event_of}
+use Rattle.spi_run.specs.Reduction.{Configuration, Step, Event, Acts, acts_split, acts_match, acts_inl, acts_inr, acts_decrypt, acts_check, acts_begin, acts_end, acts_end_many, acts_cast, acts_new, acts_par, Takes, takes_act, takes_talk, Runs, runs_none, runs_silent, runs_event}
+use Rattle.spi_run.proofs.Once.{takes_once}
+use Rattle.spi_replay.specs.declared.fault.StepFault.{StepFault}
+use Rattle.spi_replay.specs.declared.fault.StepFault.TheVariants.{NoMemory as OutOfMemory}
+use Rattle.spi_replay.specs.Stepping.{Pooled, FirstOutside, outside_here, outside_later, places_named, Refuses, no_place, not_ready, too_large, too_many, IsTaken}
+use Rattle.spi_commands.specs.Replaying.{Replays, replays_none, replays_step, IsRefusedAt}
+
+-- a step is taken in one way
+same_pool : (q r : Pooled) → q.configuration ≡ r.configuration → q.most ≡ r.most → q ≡ r
+same_pool q r e f =
+    let one : Configuration → Pooled = λ c. record { configuration = c; most = q.most } in
+    let other : ℕ → Pooled = λ m. record { configuration = r.configuration; most = m } in
+    ap one e ∙ ap other f
+
+pub taken_once : {p q r : Pooled} {s : Step} {e f : Option Event} → IsTaken p s e q → IsTaken p s f r → (e ≡ f) × (q ≡ r)
+taken_once {q = q} {r = r} t u =
+    let (same, next) = takes_once t.takes u.takes in
+    (same, same_pool q r next (t.most ∙ sym u.most))
+
+-- and so are steps
+from_same : {p q r : Pooled} {ss : List Step} {es : List Event} → p ≡ q → Replays p ss es r → Replays q ss es r
+from_same {r = r} {ss = ss} {es = es} e h = subst (λ (p : Pooled). Replays p ss es r) e h
+
+pub replays_once : {p q r : Pooled} {ss : List Step} {es fs : List Event} → Replays p ss es q → Replays p ss fs r → (es ≡ fs) × (q ≡ r)
+replays_once replays_none replays_none = (refl, refl)
+replays_once (replays_step {e = e} {es = es} t h) (replays_step {e = f} {es = fs} u k) =
+    let (same, next) = taken_once t u in
+    let (rest, last) = replays_once h (from_same (sym next) k) in
+    (ap (λ (o : Option Event). option_to_list o ++ es) same ∙ ap (λ (l : List Event). option_to_list f ++ l) rest, last)
+
+-- a replay takes each of its steps
+step_taken : {p q r : Pooled} {early : List Step} {es fs : List Event} (late : List Step) (s : Step) → Replays p early fs q → Replays p (early ++ s ∷ late) es r → (e : Option Event) × (next : Pooled) × IsTaken q s e next
+step_taken late s replays_none (replays_step {q = next} {e = e} t h) = (e, next, t)
+step_taken late s (replays_step t h) (replays_step u k) =
+    let (same, next) = taken_once t u in
+    step_taken late s h (from_same (sym next) k)
+
+-- a step that is taken isn't refused
+at_inside : {A : Type 0} {xs : List A} {i : ℕ} {x : A} → At xs i x → i < length xs
+at_inside at_first = omega arith
+at_inside (at_later a) = let h = at_inside a in omega (arith, h)
+
+one_inside : {n i k : ℕ} → i < n → FirstOutside n (i ∷ []) k → ⊥
+one_inside h (outside_here g) = omega (arith, h, g)
+one_inside h (outside_later g l) = elim l [ ]
+
+two_inside : {n i j k : ℕ} → i < n → j < n → FirstOutside n (i ∷ j ∷ []) k → ⊥
+two_inside h g (outside_here l) = omega (arith, h, l)
+two_inside h g (outside_later l m) = one_inside g m
+
+never_outside : {c d : Configuration} {s : Step} {e : Option Event} {k : ℕ} → Takes c s e d → FirstOutside (length c.places) (places_named s) k → ⊥
+never_outside (takes_act a x) o = one_inside (at_inside a) o
+never_outside (takes_talk a b x) o = two_inside (at_inside a) (at_inside b) o
+
+taken_never : {p q : Pooled} {s : Step} {e : Option Event} {f : StepFault} → IsTaken p s e q → Refuses p.configuration p.most s f → ⊥
+taken_never t (no_place o) = never_outside t.takes o
+taken_never {q = q} {e = e} t (not_ready inside never) = never (e, q.configuration, t.takes)
+taken_never t (too_large ready large) = let small = t.small in omega (arith, small, large)
+taken_never {q = q} t (too_many {d = d} takes small many) =
+    let (same, next) = takes_once t.takes takes in
+    let few = t.few in
+    let each : length q.configuration.places ≡ length d.places = ap (λ (c : Configuration). length c.places) next in
+    omega (arith, few, many, each)
+
+pub never_refused : {p r : Pooled} {ss : List Step} {es : List Event} {i : ℕ} {f : StepFault} → Replays p ss es r → IsRefusedAt p ss i f → ⊥
+never_refused {p} {r} {es = es} h at =
+    let whole : Replays p (at.early ++ at.step ∷ at.late) es r = subst (λ (l : List Step). Replays p l es r) at.split h in
+    let (e, next, taken) = step_taken at.late at.step at.replays whole in
+    taken_never taken at.refuses
+
+-- a replay is a run, and has at most one event for each step
+pub runs_of : {p q : Pooled} {ss : List Step} {es : List Event} → Replays p ss es q → Runs p.configuration ss es q.configuration
+runs_of replays_none = runs_none
+runs_of (replays_step {e = None} t h) = runs_silent t.takes (runs_of h)
+runs_of (replays_step {e = Some event} t h) = runs_event t.takes (runs_of h)
+
+pub few_events : {p q : Pooled} {ss : List Step} {es : List Event} → Replays p ss es q → length es ≤ length ss
+few_events replays_none = omega arith
+few_events (replays_step {e = None} t h) = let few = few_events h in omega (arith, few)
+few_events (replays_step {e = Some event} t h) = let few = few_events h in omega (arith, few)
+
+-- each step uses one name more at most
+acts_names : {n k : ℕ} {p q : Process} {e : Option Event} {more : List Process} → Acts n p e k q more → k ≤ n + 1
+acts_names acts_split = omega arith
+acts_names (acts_match e) = omega arith
+acts_names acts_inl = omega arith
+acts_names acts_inr = omega arith
+acts_names (acts_decrypt e) = omega arith
+acts_names (acts_check e) = omega arith
+acts_names acts_begin = omega arith
+acts_names acts_end = omega arith
+acts_names acts_end_many = omega arith
+acts_names acts_cast = omega arith
+acts_names acts_new = omega arith
+acts_names acts_par = omega arith
+
+takes_names : {c d : Configuration} {s : Step} {e : Option Event} → Takes c s e d → d.names ≤ c.names + 1
+takes_names (takes_act a x) = acts_names x
+takes_names (takes_talk a b x) = omega arith
+
+-- a step more
+pub append_step : {p q r : Pooled} {ss : List Step} {es : List Event} {s : Step} {e : Option Event} → Replays p ss es q → IsTaken q s e r → Replays p (ss ++ s ∷ []) (es ++ option_to_list e) r
+append_step {p} {r = r} {s = s} {e = e} replays_none t = subst (λ (l : List Event). Replays p (s ∷ []) l r) (append-nil (option_to_list e)) (replays_step t replays_none)
+append_step {p} {r = r} {s = s} {e = e} (replays_step {s = first} {e = shown} {ss = ss} {es = es} u h) t =
+    subst (λ (l : List Event). Replays p (first ∷ (ss ++ s ∷ [])) l r) (sym (append_assoc (option_to_list shown) es (option_to_list e))) (replays_step u (append_step h t))
+
+-- the first i of a schedule, and the step behind them
+pub before : ℕ → List program.Step → List Step
+before i steps = map step_of (take i steps)
+
+before_more : (i : ℕ) (steps : List program.Step) (d : program.Step) → i < length steps → before (suc i) steps ≡ before i steps ++ step_of (get_or steps i d) ∷ []
+unfolding before
+before_more i [] d h = absurd (omega arith)
+before_more zero (s ∷ steps) d h = refl
+before_more (suc i) (s ∷ steps) d h = ap (λ (l : List Step). step_of s ∷ l) (before_more i steps d (omega arith))
+
+before_split : (i : ℕ) (steps : List program.Step) (d : program.Step) → i < length steps → map step_of steps ≡ before i steps ++ step_of (get_or steps i d) ∷ map step_of (drop (suc i) steps)
+unfolding before
+before_split i [] d h = absurd (omega arith)
+before_split zero (s ∷ steps) d h = refl
+before_split (suc i) (s ∷ steps) d h = ap (λ (l : List Step). step_of s ∷ l) (before_split i steps d (omega arith))
+
+before_length : (i : ℕ) (steps : List program.Step) → i ≤ length steps → i ≡ length (before i steps)
+unfolding before
+before_length i steps h = sym (length-map (take i steps) step_of ∙ length-take-le i steps h)
+
+before_all : (i : ℕ) (steps : List program.Step) → length steps ≤ i → before i steps ≡ map step_of steps
+unfolding before
+before_all i steps h = ap (λ (l : List program.Step). map step_of l) (take_all i steps h)
+
+-- how far a replay has come
+pub record Came (first : Pooled) (i : ℕ) (steps : List program.Step) (events : List declared.Event) (now : Pooled) : Type 0 where
+  pub replays : Replays first (before i steps) (map event_of events) now
+  pub names : now.configuration.names ≤ first.configuration.names + i
+
+pub came_none : (first : Pooled) (steps : List program.Step) → Came first 0 steps [] first
+unfolding before
+came_none first steps = record { replays = replays_none; names = omega arith }
+
+pub came_on : (first now next : Pooled) (i : ℕ) (steps : List program.Step) (events more : List declared.Event) (s d : program.Step) → i < length steps → s ≡ get_or steps i d → Came first i steps events now → (e : Option Event) × IsTaken now (step_of s) e next × (map event_of more ≡ map event_of events ++ option_to_list e) → Came first (i + 1) steps more next
+came_on first now next i steps events more s d h is came (e, t, shown) =
+    let one : suc i ≡ i + 1 = omega arith in
+    let step : before i steps ++ step_of s ∷ [] ≡ before (i + 1) steps = ap (λ (x : program.Step). before i steps ++ step_of x ∷ []) is ∙ sym (before_more i steps d h) ∙ ap (λ (j : ℕ). before j steps) one in
+    let whole : Replays first (before i steps ++ step_of s ∷ []) (map event_of events ++ option_to_list e) next = append_step came.replays t in
+    let few = takes_names t.takes in
+    let less = came.names in
+    record {
+      replays = subst₂ (λ (l : List Step) (es : List Event). Replays first l es next) step (sym shown) whole;
+      names = omega (arith, few, less);
+    }
+
+pub came_all : (first now : Pooled) (i : ℕ) (steps : List program.Step) (events : List declared.Event) → length steps ≤ i → Came first i steps events now → Replays first (map step_of steps) (map event_of events) now
+came_all first now i steps events h came = subst (λ (l : List Step). Replays first l (map event_of events) now) (before_all i steps h) came.replays
+
+pub stops_at : (first now : Pooled) (i : ℕ) (steps : List program.Step) (events : List declared.Event) (s d : program.Step) (fault : StepFault) → i < length steps → s ≡ get_or steps i d → Came first i steps events now → (fault ≡ OutOfMemory) ⊎ Refuses now.configuration now.most (step_of s) fault → (fault ≡ OutOfMemory) ⊎ IsRefusedAt first (map step_of steps) i fault
+stops_at first now i steps events s d fault h is came (inl none) = inl none
+stops_at first now i steps events s d fault h is came (inr refuses) = inr (record {
+  early = before i steps;
+  step = step_of s;
+  late = map step_of (drop (suc i) steps);
+  events = map event_of events;
+  mid = now;
+  split = before_split i steps d h ∙ ap (λ (x : program.Step). before i steps ++ step_of x ∷ map step_of (drop (suc i) steps)) (sym is);
+  at = before_length i steps (omega arith);
+  replays = came.replays;
+  refuses = refuses;
+})

@@ -1,0 +1,31 @@
+//! The commands: from the words of a command line and the bytes of a file to a status and what is written.
+#![tactic(auto)]
+
+mod answer;
+mod asked;
+mod check;
+mod derive;
+mod file;
+mod load;
+mod opponent;
+mod options;
+mod play;
+mod players;
+mod print;
+mod reading;
+mod replay;
+mod running;
+mod status;
+mod upgrade;
+mod verify;
+
+pub use asked::{Command, asked_of};
+pub use players::{FirstReady, InTurn, Seeded};
+pub use reading::{Unread, read};
+pub use running::{one_file, refused_is_none, run};
+pub use spi_play::{Menu, Pick, Player};
+pub use status::Status;
+use std::alloc::AllocError;
+
+/// Memory ran out.
+pub type NoMemory = AllocError;

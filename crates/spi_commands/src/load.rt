@@ -1,0 +1,71 @@
+// The command `load`.
+ghost use Rattle.std.specs.Prelude.{◌≡◌, ◌≢◌, ◌≤◌, IfOk, OnErr, Err};
+ghost use Rattle.spi_tree.specs.Trees as t;
+ghost use Rattle.spi_gen.specs.Sessions.{IsSessions};
+ghost use Rattle.spi_scope.specs.Files.{meant};
+ghost use Rattle.spi_scope.specs.StandsFor.{StandsFor};
+ghost use Rattle.spi_commands.specs.Loading.{LoadsTo};
+ghost use Rattle.spi_commands.specs.Run.{IsAnswered};
+
+use crate::answer::{Answer, Stop};
+use crate::status::Status;
+use spi_deriv::{derive, one_canonical};
+use spi_gen::sessions;
+use spi_report::loaded;
+use spi_scope::{File, ScopeFault, resolve};
+use std::alloc::Global;
+
+/// What `load` answers for so many sessions: it makes their file, resolves it, derives its process, and tells the nodes of
+/// the file and the rules of the derivation.
+pub fn loads(alloc: Global, k: u32) -> Result<Answer, Stop>
+    requires { (1 ≤ k) × (k ≤ 500) }
+    ensures ok { IfOk result (λ answer. LoadsTo k answer.status answer.output.items) }
+    ensures answered { IfOk result (λ answer. IsAnswered answer.status × (answer.status ≢ Status.Usage)) }
+    ensures err { OnErr result (result ≡ Err Stop.NoMemory) }
+{
+    let tree = sessions(alloc, k)?;
+    match resolve(alloc, &tree) {
+        Ok(file) => judged(alloc, k, &file),
+        Err(fault) => Err(stopped(fault)),
+    }
+}
+
+/// Memory ran out: the file of so many sessions has no other fault.
+fn stopped(fault: ScopeFault) -> Stop
+    requires { fault ≡ ScopeFault.NoMemory }
+    ensures { result ≡ Stop.NoMemory }
+{
+    match fault {
+        ScopeFault::UnknownName { span: _, word: _ } => unreachable!(),
+        ScopeFault::UnknownType { span: _, word: _ } => unreachable!(),
+        ScopeFault::NameTwice { span: _, word: _ } => unreachable!(),
+        ScopeFault::TypeTwice { span: _, word: _ } => unreachable!(),
+        ScopeFault::MessageTooLarge { span: _, count: _ } => unreachable!(),
+        ScopeFault::TypeTooLarge { span: _, count: _ } => unreachable!(),
+        ScopeFault::FileTooLarge { span: _, count: _ } => unreachable!(),
+        ScopeFault::ScheduleTooLong { span: _, count: _ } => unreachable!(),
+        ScopeFault::NoMemory => Stop::NoMemory,
+    }
+}
+
+/// The line of the file of so many sessions, which has 81 nodes a session and 11 more.
+fn judged(alloc: Global, k: u32, file: &File) -> Result<Answer, Stop>
+    requires few { k ≤ 500 }
+    requires file { (tree : t.File) × IsSessions k tree × StandsFor tree (meant file.now) }
+    ensures ok { IfOk result (λ answer. LoadsTo k answer.status answer.output.items) }
+    ensures answered { IfOk result (λ answer. IsAnswered answer.status × (answer.status ≢ Status.Usage)) }
+    ensures err { OnErr result (result ≡ Err Stop.NoMemory) }
+{
+    one_canonical();
+    match derive(alloc, &file.process)? {
+        Some(d) => {
+            let nodes = 81 * k as u64 + 11;
+            let output = loaded(alloc, k, nodes, d.uses.len() as u64)?;
+            Ok(Answer {
+                status: Status::Yes,
+                output,
+            })
+        }
+        None => unreachable!(),
+    }
+}

@@ -1,0 +1,75 @@
+// The command line's forms.
+ghost use Rattle.std.specs.Prelude.{◌≡◌, IfOk, false};
+ghost use Rattle.clap.specs.Words.{app_of, rule_of};
+ghost use Rattle.spi_commands.specs.Options.{bare, counted, named, whole, with_word, worded};
+
+use clap::{Arg, ArgAction, Command};
+use std::alloc::{AllocError, Global};
+
+/// An option with this name and a value.
+fn named_form<'a>(alloc: Global, name: &'a str, required: bool) -> Arg<'a>
+    ensures rule { rule_of result ≡ named name.entry.now required }
+    ensures local { result.global ≡ false }
+{
+    Arg::new(alloc, name)
+        .long(name)
+        .required(required)
+        .action(ArgAction::Set)
+}
+
+/// A number that stands alone.
+fn counted_form<'a>(alloc: Global) -> Arg<'a>
+    ensures rule { rule_of result ≡ counted }
+    ensures local { result.global ≡ false }
+{
+    Arg::new(alloc, "count")
+        .required(true)
+        .action(ArgAction::Set)
+}
+
+/// The program, as yet with no command.
+fn bare_form<'a>(alloc: Global) -> Command<'a>
+    ensures { app_of result ≡ bare }
+{
+    Command::new(alloc, "cryptyc")
+        .no_binary_name(true)
+        .disable_help_flag(true)
+        .disable_help_subcommand(true)
+        .subcommand_required(true)
+}
+
+/// The program with one more command of one word.
+fn with_word_form<'a>(
+    form: Command<'a>,
+    alloc: Global,
+    name: &'a str,
+) -> Result<Command<'a>, AllocError>
+    ensures { IfOk result (λ c. app_of c ≡ with_word (app_of form.entry) name.entry.now) }
+{
+    form.subcommand(Command::new(alloc, name))
+}
+
+/// The program with its commands of one word.
+fn worded_form<'a>(alloc: Global) -> Result<Command<'a>, AllocError>
+    ensures { IfOk result (λ c. app_of c ≡ worded) }
+{
+    let form = with_word_form(bare_form(alloc), alloc, "check")?;
+    let form = with_word_form(form, alloc, "derive")?;
+    let form = with_word_form(form, alloc, "verify")?;
+    let form = with_word_form(form, alloc, "replay")?;
+    let form = with_word_form(form, alloc, "print")?;
+    with_word_form(form, alloc, "upgrade")
+}
+
+/// The program with all its commands.
+pub fn whole_form<'a>(alloc: Global) -> Result<Command<'a>, AllocError>
+    ensures { IfOk result (λ c. app_of c ≡ whole) }
+{
+    let form = worded_form(alloc)?;
+    let play = Command::new(alloc, "play")
+        .arg(named_form(alloc, "steps", true))?
+        .arg(named_form(alloc, "player", false))?;
+    let form = form.subcommand(play)?;
+    let load = Command::new(alloc, "load").arg(counted_form(alloc))?;
+    form.subcommand(load)
+}

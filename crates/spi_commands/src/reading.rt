@@ -1,0 +1,170 @@
+// The file that bytes spell.
+ghost use Rattle.std.specs.Prelude.{◌≡◌, ◌⊎◌, ◌≤◌, List, [], length, drop, IfOk, IfErr, Ok, Err};
+ghost use Rattle.std.specs.Fmt.{decimal};
+ghost use Rattle.spi_lex.specs.Lexing.{Lexes};
+ghost use Rattle.spi_lex.specs.Writing.{AreKinds, AreSpans, spans_of};
+ghost use Rattle.spi_lex.specs.Lexing.{kinds_of};
+ghost use Rattle.spi_tree.specs.Views.{file_of};
+ghost use Rattle.spi_scope.specs.Files.{meant};
+ghost use Rattle.spi_scope.specs.FaultPlaces.{span_from};
+ghost use Rattle.spi_commands.specs.Spelled.{IsTreeOf, SpellsFile};
+ghost use Rattle.spi_commands.specs.Answer.{Refuses, start_of, scope_number, scope_shown};
+ghost use Rattle.spi_commands.specs.Reading.{IsRead, IsUnread, Tells};
+ghost use Rattle.spi_commands.specs.declared.reading.Unread.TheVariants.{NoMemory};
+
+use spi_lex::{LexFault, Token, lex};
+use spi_parse::{ParseFault, parse};
+use spi_report::Refusal;
+use spi_scope::{File, ScopeFault, resolve};
+use spi_text::{Span, Text};
+use spi_tree::Tree;
+use std::alloc::{AllocError, Global};
+
+/// Why bytes are not read.
+#[derive(Drop)]
+pub enum Unread {
+    /// They spell no file, for this first reason.
+    Refused(Refusal),
+    /// Memory ran out.
+    NoMemory,
+}
+
+impl From<AllocError> for Unread {
+    ghost from_gives = { λ _ e. e ≡ NoMemory };
+
+    fn from(_: AllocError) -> Unread {
+        Unread::NoMemory
+    }
+}
+
+/// The file that the bytes spell, of which there are at most 16,777,216, or the first refusal of the numbers 10 to 37.
+pub fn read(alloc: Global, bytes: &[u8]) -> Result<File, Unread>
+    requires { length bytes.now ≤ 16_777_216 }
+    ensures file { IfOk result (λ f. SpellsFile bytes.now (meant f)) }
+    ensures placed { IfOk result (λ f. IsRead bytes.now f) }
+    ensures unread { IfErr result (λ u. IsUnread bytes.now u) }
+{
+    match lex(alloc, bytes) {
+        Ok(tokens) => read_tokens(alloc, bytes, &tokens),
+        Err(fault) => Err(unlexed(alloc, bytes, fault)),
+    }
+}
+
+/// The refusal of a lexical fault.
+fn unlexed(alloc: Global, bytes: &[u8], fault: LexFault) -> Unread
+    requires within { length bytes.now ≤ 16_777_216 }
+    requires fault { (fault ≡ LexFault.NoMemory) ⊎ Lexes bytes.now (Err fault) }
+    ensures { IsUnread bytes.now result }
+{
+    match fault {
+        LexFault::NotUtf8 { at } => unspelled(alloc, 10, at),
+        LexFault::BadChar { at } => unspelled(alloc, 11, at),
+        LexFault::BadNumber { at } => unspelled(alloc, 12, at),
+        LexFault::NameTooLong { at } => unspelled(alloc, 13, at),
+        LexFault::NoMemory => Unread::NoMemory,
+    }
+}
+
+/// A refusal that shows nothing.
+fn unspelled(alloc: Global, number: u32, offset: u32) -> Unread
+    ensures { Tells number offset [] result }
+{
+    Unread::Refused(Refusal {
+        number,
+        offset: Some(offset),
+        shown: Vec::new(alloc),
+    })
+}
+
+/// The file that the tokens of the bytes spell.
+fn read_tokens(alloc: Global, bytes: &[u8], tokens: &[Token]) -> Result<File, Unread>
+    requires within { length bytes.now ≤ 16_777_216 }
+    requires few { length tokens.now ≤ 16_777_216 }
+    requires lexed { Lexes bytes.now (Ok tokens.now) }
+    requires kinds { AreKinds (kinds_of tokens.now) }
+    ensures file { IfOk result (λ f. SpellsFile bytes.now (meant f)) }
+    ensures placed { IfOk result (λ f. IsRead bytes.now f) }
+    ensures unread { IfErr result (λ u. IsUnread bytes.now u) }
+{
+    match parse(alloc, tokens, bytes.len() as u32) {
+        Ok(tree) => read_tree(alloc, bytes, &tree),
+        Err(ParseFault::Syntax { token }) => Err(unspelled(alloc, 20, start(bytes, tokens, token))),
+        Err(ParseFault::TooDeep { token }) => Err(unspelled(
+            alloc,
+            21,
+            start(bytes, tokens, token),
+        )),
+        Err(ParseFault::NoMemory) => Err(Unread::NoMemory),
+    }
+}
+
+/// Where a token begins, and where the file ends.
+fn start(bytes: &[u8], tokens: &[Token], token: u32) -> u32
+    requires within { length bytes.now ≤ 16_777_216 }
+    requires token { token ≤ length tokens.now }
+    ensures { result ≡ start_of bytes.now (drop token tokens.now) }
+{
+    match &tokens[token as usize..] {
+        [next, ..] => next.span.from,
+        [] => bytes.len() as u32,
+    }
+}
+
+/// The file that the tree of the bytes stands for.
+fn read_tree(alloc: Global, bytes: &[u8], tree: &Tree) -> Result<File, Unread>
+    requires { IsTreeOf bytes.now (file_of tree.now) }
+    ensures file { IfOk result (λ f. SpellsFile bytes.now (meant f)) }
+    ensures placed { IfOk result (λ f. IsRead bytes.now f) }
+    ensures unread { IfErr result (λ u. IsUnread bytes.now u) }
+{
+    match resolve(alloc, tree) {
+        Ok(file) => Ok(file),
+        Err(fault) => Err(out_of_scope(alloc, fault)),
+    }
+}
+
+/// The refusal of a fault of scopes.
+fn out_of_scope(alloc: Global, fault: ScopeFault) -> Unread
+    ensures tells { Tells (scope_number fault) (span_from fault) (scope_shown fault) result }
+    ensures memory { fault ≡ ScopeFault.NoMemory → result ≡ Unread.NoMemory }
+{
+    match fault {
+        ScopeFault::UnknownName { span, word } => shown_word(alloc, 30, span, &word),
+        ScopeFault::UnknownType { span, word } => shown_word(alloc, 31, span, &word),
+        ScopeFault::NameTwice { span, word } => shown_word(alloc, 32, span, &word),
+        ScopeFault::TypeTwice { span, word } => shown_word(alloc, 33, span, &word),
+        ScopeFault::MessageTooLarge { span, count } => shown_count(alloc, 34, span, count),
+        ScopeFault::TypeTooLarge { span, count } => shown_count(alloc, 35, span, count),
+        ScopeFault::FileTooLarge { span, count } => shown_count(alloc, 36, span, count),
+        ScopeFault::ScheduleTooLong { span, count } => shown_count(alloc, 37, span, count),
+        ScopeFault::NoMemory => Unread::NoMemory,
+    }
+}
+
+/// A refusal that shows a word.
+fn shown_word(alloc: Global, number: u32, span: Span, word: &Text) -> Unread
+    ensures { Tells number span.from word.now result }
+{
+    match word.as_str().as_bytes().to_vec(alloc) {
+        Ok(shown) => Unread::Refused(Refusal {
+            number,
+            offset: Some(span.from),
+            shown,
+        }),
+        Err(_) => Unread::NoMemory,
+    }
+}
+
+/// A refusal that shows a count.
+fn shown_count(alloc: Global, number: u32, span: Span, count: u64) -> Unread
+    ensures { Tells number span.from (decimal count) result }
+{
+    match format!(in alloc; "{count}") {
+        Ok(shown) => Unread::Refused(Refusal {
+            number,
+            offset: Some(span.from),
+            shown: shown.into_bytes(),
+        }),
+        Err(_) => Unread::NoMemory,
+    }
+}

@@ -1,0 +1,144 @@
+//! The commands by example, over streams in memory.
+
+use crate::given::{NoMemory, shows};
+use spi_commands::{Command, FirstReady, InTurn, Player, Seeded, asked_of, run};
+use spi_io::{MemorySink, MemorySource};
+use std::alloc::Global;
+
+fn words_of(alloc: Global, words: &[&str]) -> Result<Vec<String>, NoMemory> {
+    let mut asked = Vec::new(alloc);
+    for word in words {
+        asked.push(String::from_str(alloc, word)?)?;
+    }
+    Ok(asked)
+}
+
+fn all_players(alloc: Global) -> Result<Vec<Box<dyn Player>>, NoMemory> {
+    let first: Box<dyn Player> = Box::new(alloc, FirstReady::new())?;
+    let turn: Box<dyn Player> = Box::new(alloc, InTurn::new())?;
+    let seeded: Box<dyn Player> = Box::new(alloc, Seeded::new(1))?;
+    Ok(Vec::from_array(alloc, [first, turn, seeded])?)
+}
+
+/// Whether a run of the words, with reads of four bytes and writes of two of which those with these numbers fail, writes
+/// the output and ends with the code.
+fn is_answer(
+    alloc: Global,
+    words: &[&str],
+    file: &str,
+    failing: [&[u64]; 2],
+    output: &str,
+    code: u8,
+) -> Result<bool, NoMemory> {
+    let [reads, writes] = failing;
+    let asked = words_of(alloc, words)?;
+    let mut players = all_players(alloc)?;
+    let bytes = file.as_bytes().to_vec(alloc)?;
+    let mut source = MemorySource::new(bytes, 4, reads.to_vec(alloc)?);
+    let mut sink = MemorySink::new(alloc, 1000, 2, writes.to_vec(alloc)?)?;
+    let status = run(alloc, &asked, &mut source, &mut sink, &mut players);
+    Ok(status.code() == code && sink.bytes() == output.as_bytes())
+}
+
+const PAID: &str = "free a; process begin a; end a; stop opponent stop schedule act 0; act 0;";
+
+#[test]
+fn each_command_answers(rt: HostRuntime) {
+    let table: [(&[&str], &str, &str, u8); 11] = [
+        (&["check"], "process stop", "yes\n", 0),
+        (
+            &["check"],
+            "free a; process end a; stop",
+            "no: 50 Unpaid at 1:17: end a\n",
+            1,
+        ),
+        (
+            &["check"],
+            "process stop stop",
+            "refused: 20 Syntax at 1:14\n",
+            2,
+        ),
+        (&["derive"], "process stop", "derivation\nProcStop\n", 0),
+        (&["verify"], "process stop derivation ProcStop", "yes\n", 0),
+        (&["replay"], PAID, "1 begin a\n2 end a from 1\npaid\n", 0),
+        (
+            &["play", "--steps", "9", "--player", "1"],
+            PAID,
+            "schedule\nact 0;\nact 0;\n",
+            0,
+        ),
+        (&["print"], "process  stop", "process stop\n", 0),
+        (&["load", "2"], "", "load 2: 173 nodes, 61 rules, yes\n", 0),
+        (
+            &["upgrade"],
+            "process stop",
+            "version 2;\nprocess stop\n",
+            0,
+        ),
+        (
+            &["Check"],
+            "",
+            "usage: check | derive | verify | replay | play --steps N [--player I] | print | load K | upgrade\n",
+            6,
+        ),
+    ];
+    for (words, file, output, code) in &table {
+        let whole = is_answer(rt.alloc(), words, file, [&[], &[]], output, *code);
+        shows(&rt, output, matches!(whole, Ok(true)));
+    }
+}
+
+#[test]
+fn a_failed_read_writes_nothing(rt: HostRuntime) {
+    for read in 0..4 {
+        let empty = is_answer(
+            rt.alloc(),
+            &["check"],
+            "process stop",
+            [&[read], &[]],
+            "",
+            3,
+        );
+        shows(&rt, "a read that fails", matches!(empty, Ok(true)));
+    }
+}
+
+#[test]
+fn a_failed_write_leaves_a_prefix(rt: HostRuntime) {
+    for (write, held) in &[(0, ""), (1, "ye")] {
+        let prefix = is_answer(
+            rt.alloc(),
+            &["check"],
+            "process stop",
+            [&[], &[*write]],
+            held,
+            4,
+        );
+        shows(&rt, "a write that fails", matches!(prefix, Ok(true)));
+    }
+}
+
+/// How many steps a play may have that the words ask for, where there are three players.
+fn steps_asked(alloc: Global, words: &[&str]) -> Result<Option<u32>, NoMemory> {
+    let asked = words_of(alloc, words)?;
+    match asked_of(alloc, &asked, 3)? {
+        Some(Command::Play { most, only: _ }) => Ok(Some(most)),
+        _ => Ok(None),
+    }
+}
+
+#[test]
+fn words_ask_for_plays(rt: HostRuntime) {
+    let alloc = rt.alloc();
+    let table: [(&[&str], Option<u32>); 5] = [
+        (&["play", "--steps=1000"], Some(1000)),
+        (&["play", "--player", "1", "--steps", "007"], Some(7)),
+        (&["play", "--steps", "1001"], None),
+        (&["play", "--player", "3", "--steps", "1"], None),
+        (&["check"], None),
+    ];
+    for (words, wanted) in &table {
+        let holds = matches!(steps_asked(alloc, words), Ok(steps) if steps == *wanted);
+        shows(&rt, "words of a play", holds);
+    }
+}

@@ -1,0 +1,187 @@
+//! Effects by example: those of the types of `new (x: Nonce [..]); new (y: Nonce [..]); out .. ..`.
+
+use crate::given::{MISSING, NoMemory, Question, each, sample_of};
+use spi_effect::{
+    add, count_of, is_all_many, join, mentions, minus, take_all_out, take_out, within,
+};
+use spi_scope::File;
+use spi_term::{
+    Atom, Effect, Ty, compare_atoms, count_in, is_effect_within, is_name_in_effect, is_same_atom,
+    place_of, sort_atoms, tally_each,
+};
+use std::alloc::Global;
+
+/// What is asked of two effects, and of the first atom of the second.
+#[derive(Clone, Copy)]
+enum OfEffects {
+    Added,
+    Joined,
+    Left,
+    Within,
+    Counted,
+    Mentioned,
+    AllMany,
+    LeftByOne,
+    LeftByAll,
+    Equal,
+}
+
+/// How many atoms are left where one is taken out.
+fn left_by_one(alloc: Global, effect: &Effect, atom: &Atom) -> Result<u64, NoMemory> {
+    let mut left = effect.copy(alloc)?;
+    take_out(&mut left.atoms, atom);
+    Ok(left.atoms.len() as u64)
+}
+
+fn left_by_all(alloc: Global, effect: &Effect, other: &Effect) -> Result<u64, NoMemory> {
+    let mut left = effect.copy(alloc)?;
+    take_all_out(&mut left.atoms, &other.atoms);
+    Ok(left.atoms.len() as u64)
+}
+
+/// Whether a copy of the atom is the same.
+fn is_copied(alloc: Global, atom: &Atom) -> Result<bool, NoMemory> {
+    let copy = atom.copy(alloc)?;
+    Ok(is_same_atom(&copy, atom))
+}
+
+fn answer_of(
+    alloc: Global,
+    question: OfEffects,
+    one: &Effect,
+    other: &Effect,
+    atom: &Atom,
+) -> Result<u64, NoMemory> {
+    match question {
+        OfEffects::Added => Ok(add(alloc, one, other)?.atoms.len() as u64),
+        OfEffects::Joined => Ok(join(alloc, one, other)?.atoms.len() as u64),
+        OfEffects::Left => Ok(minus(alloc, one, other)?.atoms.len() as u64),
+        OfEffects::Within => {
+            Ok((within(one, other) && is_effect_within(&one.atoms, &other.atoms)) as u64)
+        }
+        OfEffects::Counted => Ok(
+            count_of(one, atom).saturating_add(count_in(&one.atoms, atom)) as u64,
+        ),
+        OfEffects::Mentioned => Ok((mentions(one, 0) && is_name_in_effect(0, &one.atoms)) as u64),
+        OfEffects::AllMany => Ok(is_all_many(&one.atoms) as u64),
+        OfEffects::LeftByOne => left_by_one(alloc, one, atom),
+        OfEffects::LeftByAll => left_by_all(alloc, one, other),
+        OfEffects::Equal => Ok(is_copied(alloc, atom)? as u64),
+    }
+}
+
+impl Question for OfEffects {
+    fn answer(self, alloc: Global, file: &File) -> Result<u64, NoMemory> {
+        let Some(parts) = sample_of(file) else {
+            return Ok(MISSING);
+        };
+        match (parts.first, parts.second) {
+            (Ty::Nonce(one), Ty::Nonce(other)) => match other.atoms.as_slice() {
+                [atom, ..] => answer_of(alloc, self, one, other, atom),
+                [] => Ok(MISSING),
+            },
+            _ => Ok(MISSING),
+        }
+    }
+}
+
+const TWICE: &str =
+    "free a, b; process new (x: Nonce [end a, end a, check b]); new (y: Nonce [end a]); out a a";
+
+const ONCE: &str =
+    "free a, b; process new (x: Nonce [end b]); new (y: Nonce [end a, end b]); out a a";
+
+const MANY: &str =
+    "version 2; free a; process new (x: Nonce [many a, many a]); new (y: Nonce [many a]); out a a";
+
+#[test]
+fn counts_are_added_and_taken(rt: HostRuntime) {
+    let alloc = rt.alloc();
+    each(&rt, alloc, OfEffects::Added, &[(TWICE, 4), (ONCE, 3)]);
+    each(&rt, alloc, OfEffects::Joined, &[(TWICE, 3), (ONCE, 2)]);
+    each(
+        &rt,
+        alloc,
+        OfEffects::Left,
+        &[(TWICE, 2), (ONCE, 0), (MANY, 0)],
+    );
+    each(
+        &rt,
+        alloc,
+        OfEffects::LeftByOne,
+        &[(TWICE, 2), (ONCE, 1), (MANY, 0)],
+    );
+    each(
+        &rt,
+        alloc,
+        OfEffects::LeftByAll,
+        &[(TWICE, 2), (ONCE, 0), (MANY, 0)],
+    );
+}
+
+#[test]
+fn effects_are_compared_and_searched(rt: HostRuntime) {
+    let alloc = rt.alloc();
+    each(
+        &rt,
+        alloc,
+        OfEffects::Within,
+        &[(TWICE, 0), (ONCE, 1), (MANY, 1)],
+    );
+    each(
+        &rt,
+        alloc,
+        OfEffects::Counted,
+        &[(TWICE, 4), (ONCE, 0), (MANY, 2)],
+    );
+    each(&rt, alloc, OfEffects::Mentioned, &[(TWICE, 1), (ONCE, 0)]);
+    each(&rt, alloc, OfEffects::AllMany, &[(TWICE, 0), (MANY, 1)]);
+    each(&rt, alloc, OfEffects::Equal, &[(TWICE, 1), (MANY, 1)]);
+}
+
+/// Where the last of three atoms stands once they are sorted, and how often.
+#[derive(Clone, Copy)]
+struct Sorted;
+
+impl Question for Sorted {
+    fn answer(self, _alloc: Global, file: &File) -> Result<u64, NoMemory> {
+        let Some(parts) = sample_of(file) else {
+            return Ok(MISSING);
+        };
+        let Ty::Nonce(effect) = parts.first else {
+            return Ok(MISSING);
+        };
+        match effect.atoms.as_slice() {
+            [one, two, three] => Ok(place_and_count(&effect.atoms, one, two, three)),
+            _ => Ok(MISSING),
+        }
+    }
+}
+
+fn place_and_count(atoms: &[Atom], one: &Atom, two: &Atom, three: &Atom) -> u64 {
+    let mut sorted = [one, two, three];
+    sort_atoms(&mut sorted);
+    let mut counts = [0; 3];
+    tally_each(&sorted, atoms, &mut counts);
+    match place_of(&sorted, three) {
+        Some(place) if compare_atoms(one, three).is_gt() => (10 * place).saturating_add(
+            counts[place],
+        ) as u64,
+        _ => MISSING,
+    }
+}
+
+#[test]
+fn sorted_atoms_are_found_and_tallied(rt: HostRuntime) {
+    let table = [
+        (
+            "free a, b; process new (x: Nonce [end b, end a, end a]); new (y: Un); out a a",
+            2,
+        ),
+        (
+            "free a, b; process new (x: Nonce [check a, end a, end b]); new (y: Un); out a a",
+            11,
+        ),
+    ];
+    each(&rt, rt.alloc(), Sorted, &table);
+}

@@ -1,0 +1,175 @@
+//! A judge by example: it has the free names and, after them, a name of the first type of
+//! `new (x: FIRST); new (y: SECOND); out CHANNEL DATUM`.
+
+ghost use Rattle.std.specs.Prelude.{◌≡◌, ◌+◌, ◌<◌, ◌^◌, IfOk, length};
+ghost use Rattle.spi_term.specs.Spelling.{ty_nodes};
+ghost use Rattle.spi_term.specs.View.{ty};
+
+use crate::given::{MISSING, NoMemory, Question, Sample, each, sample_of};
+use spi_intern::TyId;
+use spi_message::Judge;
+use spi_scope::File;
+use spi_term::{Msg, Process, Ty, type_nodes};
+use std::alloc::Global;
+
+/// What is asked of the datum and the second type.
+#[derive(Clone, Copy)]
+enum OfJudges {
+    Typed,
+    Labelled,
+    Good,
+    Opened,
+    Unbound,
+}
+
+fn judge_of(alloc: Global, process: &Process, ty: &Ty) -> Result<Judge, NoMemory>
+    ensures free { IfOk result (λ judge. judge.free ≡ process.now.names) }
+    ensures length { IfOk result (λ judge. length judge.types ≡ process.now.names + 1) }
+{
+    let _ = process.len();
+    let mut judge = Judge::new(alloc, process.names())?;
+    let id = judge.ty(alloc, ty)?;
+    judge.bind(id)?;
+    Ok(judge)
+}
+
+fn is_typed(alloc: Global, judge: &mut Judge, m: &Msg, t: &Ty) -> Result<bool, NoMemory> {
+    let t = judge.ty(alloc, t)?;
+    let m = judge.message(m)?;
+    judge.has_type(alloc, m, t)
+}
+
+fn is_labelled(alloc: Global, judge: &mut Judge, m: &Msg) -> Result<bool, NoMemory> {
+    let m = judge.message(m)?;
+    judge.is_label(alloc, m)
+}
+
+fn is_good(alloc: Global, judge: &mut Judge, t: &Ty) -> Result<bool, NoMemory>
+    requires { length judge.old.types + ty_nodes (ty t.now) < 2 ^ 32 }
+{
+    let t = judge.ty(alloc, t)?;
+    judge.good_type(alloc, t)
+}
+
+/// The number of the type with the message for its binder.
+fn opened(alloc: Global, judge: &mut Judge, t: &Ty, m: &Msg) -> Result<TyId, NoMemory> {
+    let t = judge.ty(alloc, t)?;
+    let m = judge.message(m)?;
+    judge.opened(alloc, t, m)
+}
+
+/// Whether the second type is the second part of the first, with the channel for its binder.
+fn is_opened(alloc: Global, judge: &mut Judge, parts: &Sample<'_>) -> Result<bool, NoMemory> {
+    match parts.first {
+        Ty::Pair(_, under) => {
+            let made = opened(alloc, judge, under, parts.channel)?;
+            Ok(made == judge.ty(alloc, parts.second)?)
+        }
+        _ => Ok(false),
+    }
+}
+
+fn answer_by(
+    alloc: Global,
+    question: OfJudges,
+    judge: &mut Judge,
+    parts: &Sample<'_>,
+) -> Result<bool, NoMemory>
+    requires { judge.old.free < length judge.old.types }
+{
+    match question {
+        OfJudges::Typed => is_typed(alloc, judge, parts.datum, parts.second),
+        OfJudges::Labelled => is_labelled(alloc, judge, parts.datum),
+        OfJudges::Good => {
+            if judge.len() > 1000 || type_nodes(parts.second) > 1000 {
+                return Ok(false);
+            }
+            is_good(alloc, judge, parts.second)
+        }
+        OfJudges::Opened => is_opened(alloc, judge, parts),
+        OfJudges::Unbound => {
+            judge.unbind();
+            is_labelled(alloc, judge, parts.datum)
+        }
+    }
+}
+
+impl Question for OfJudges {
+    fn answer(self, alloc: Global, file: &File) -> Result<u64, NoMemory> {
+        let Some(parts) = sample_of(file) else {
+            return Ok(MISSING);
+        };
+        let mut judge = judge_of(alloc, &file.process, parts.first)?;
+        Ok(answer_by(alloc, self, &mut judge, &parts)? as u64)
+    }
+}
+
+#[test]
+fn a_judge_answers_as_its_environment_does(rt: HostRuntime) {
+    let alloc = rt.alloc();
+    let sealed = "free a; process new (x: Key(Un)); new (y: Un); out a {a}x";
+    let bare = "free a; process new (x: Key(Un)); new (y: Un); out a x";
+    each(&rt, alloc, OfJudges::Typed, &[(sealed, 1), (bare, 0)]);
+    each(&rt, alloc, OfJudges::Labelled, &[(sealed, 1), (bare, 1)]);
+}
+
+#[test]
+fn a_judge_wants_checked_names_untrusted(rt: HostRuntime) {
+    let table = [
+        (
+            "free a; process new (x: Key(Un)); new (y: Nonce [check a]); out a a",
+            1,
+        ),
+        (
+            "free a; process new (x: Key(Un)); new (y: Nonce [check x]); out a a",
+            0,
+        ),
+    ];
+    each(&rt, rt.alloc(), OfJudges::Good, &table);
+}
+
+#[test]
+fn an_opened_type_has_its_number(rt: HostRuntime) {
+    let table = [
+        (
+            "free a; process new (x: (p: Un, Nonce [end p])); new (y: Nonce [end a]); out a a",
+            1,
+        ),
+        (
+            "free a; process new (x: (p: Un, Nonce [end p])); new (y: Nonce [end ()]); out a a",
+            0,
+        ),
+    ];
+    each(&rt, rt.alloc(), OfJudges::Opened, &table);
+}
+
+#[test]
+fn a_name_that_was_taken_away_is_no_label(rt: HostRuntime) {
+    let table = [
+        ("free a; process new (x: Un); new (y: Un); out a a", 1),
+        ("free a; process new (x: Un); new (y: Un); out a x", 0),
+    ];
+    each(&rt, rt.alloc(), OfJudges::Unbound, &table);
+}
+
+/// Whether the last name has the number of its type in the judge's store.
+#[derive(Clone, Copy)]
+struct Last;
+
+impl Question for Last {
+    fn answer(self, alloc: Global, file: &File) -> Result<u64, NoMemory> {
+        let Some(parts) = sample_of(file) else {
+            return Ok(MISSING);
+        };
+        let mut judge = judge_of(alloc, &file.process, parts.first)?;
+        let id = judge.ty(alloc, parts.first)?;
+        let last = judge.len() - 1;
+        Ok((judge.at(last) == id && judge.store().distinct() > 1) as u64)
+    }
+}
+
+#[test]
+fn the_last_name_has_the_type_that_was_bound(rt: HostRuntime) {
+    let text = "free a; process new (x: Key(Un)); new (y: Un); out a a";
+    each(&rt, rt.alloc(), Last, &[(text, 1)]);
+}
