@@ -1,0 +1,129 @@
+#!/usr/bin/env python3
+"""Runs what the documents show: the fenced blocks of README.md, docs/*.md and protocols/README.md.
+
+A block with the info string `spi NAME` is a file of that name. A block with the info string `console` has commands,
+each on a line that starts with '$ ', and behind each the lines that it writes, on standard output or standard error.
+All other blocks are left alone. The blocks of a document are run in their order in one temporary folder, which has
+copies of examples/ and protocols/ and where ./cryptyc is the program; `$ echo $?` shows the status of the command
+before it. Each command is a test, and so is that some command of the document names the file of each `spi` block.
+`--program FILE`, once or more often, gives the programs. A command may take ten seconds.
+The last line is 'N passed, M failed'."""
+
+import argparse
+import glob
+import os
+import shutil
+import signal
+import subprocess
+import sys
+import tempfile
+
+ROOT = os.path.dirname(os.path.dirname(os.path.abspath(__file__)))
+SECONDS = 10
+FENCE = "```"
+
+
+def documents():
+    paths = [f"{ROOT}/README.md", *sorted(glob.glob(f"{ROOT}/docs/*.md")), f"{ROOT}/protocols/README.md"]
+    return [path for path in paths if os.path.exists(path)]
+
+
+def blocks_of(path):
+    """The fenced blocks of a document: the words of the info string, the number of the first line, and the lines."""
+    words, first, lines = None, 0, []
+    with open(path, encoding="utf-8") as file:
+        for number, line in enumerate(file.read().split("\n"), 1):
+            if line.startswith(FENCE) and words is None:
+                words, first, lines = line.removeprefix(FENCE).split(), number + 1, []
+            elif line.startswith(FENCE):
+                yield words, first, lines
+                words = None
+            elif words is not None:
+                lines.append(line)
+    if words is not None:
+        yield ["unclosed"], first - 1, []
+
+
+def commands_of(first, lines):
+    """The commands of a console block, each with the number of its line and the text that it is to write."""
+    commands = []
+    for number, line in enumerate(lines, first):
+        if line.startswith("$ "):
+            commands.append((number, line.removeprefix("$ "), []))
+        elif commands:
+            commands[-1][2].append(line + "\n")
+    return [(number, command, "".join(wanted)) for number, command, wanted in commands]
+
+
+def run_command(folder, command, status):
+    """What a command writes and its status, after a command with the given status; or None where it takes too long."""
+    # in a session of its own, so that whatever the command has started ends with it
+    running = subprocess.Popen(["bash", "-c", f"(exit {status})\n{command}"], cwd=folder, stdin=subprocess.DEVNULL,
+                               stdout=subprocess.PIPE, stderr=subprocess.STDOUT, start_new_session=True)
+    try:
+        written, _ = running.communicate(timeout=SECONDS)
+    except subprocess.TimeoutExpired:
+        os.killpg(running.pid, signal.SIGKILL)
+        running.communicate()
+        return None
+    return written.decode(errors="replace"), running.returncode
+
+
+def prepare(folder, program):
+    """Puts the program and the files of the repository into the folder."""
+    with open(f"{folder}/cryptyc", "w", encoding="utf-8") as file:
+        file.write(f"#!/usr/bin/env bash\nexec '{os.path.abspath(program)}' \"$@\"\n")
+    os.chmod(f"{folder}/cryptyc", 0o755)
+    for name in ["examples", "protocols"]:
+        if os.path.isdir(f"{ROOT}/{name}"):
+            shutil.copytree(f"{ROOT}/{name}", f"{folder}/{name}")
+
+
+def results_of(path, program):
+    """For each test of a document None where it passes, and else the number of its line and what is wrong."""
+    named, commands = [], []
+    with tempfile.TemporaryDirectory(prefix="cryptyc-documents-") as folder:
+        prepare(folder, program)
+        status = 0
+        for words, first, lines in blocks_of(path):
+            if words == ["unclosed"]:
+                yield first, "the block isn't closed"
+            elif words[:1] == ["spi"] and len(words) == 2:
+                named.append((first, words[1]))
+                with open(f"{folder}/{words[1]}", "w", encoding="utf-8") as file:
+                    file.write("".join(line + "\n" for line in lines))
+            elif words == ["console"]:
+                if not lines[:1] or not lines[0].startswith("$ "):
+                    yield first, "the block doesn't start with a command"
+                for number, command, wanted in commands_of(first, lines):
+                    commands.append(command)
+                    found = run_command(folder, command, status)
+                    if found is None:
+                        status = 124
+                        yield number, f"'{command}' takes more than {SECONDS} seconds"
+                    else:
+                        written, status = found
+                        wrong = f"'{command}' writes {written!r}, wanted {wanted!r}"
+                        yield None if written == wanted else (number, wrong)
+    for first, name in named:
+        yield None if any(name in command for command in commands) else (first, f"no command names {name}")
+
+
+def main():
+    words = argparse.ArgumentParser()
+    words.add_argument("--program", action="append", required=True)
+    asked = words.parse_args()
+    passed, failed = 0, 0
+    for program in asked.program:
+        for path in documents():
+            for wrong in results_of(path, program):
+                if wrong is None:
+                    passed += 1
+                else:
+                    failed += 1
+                    print(f"{os.path.relpath(path, ROOT)}:{wrong[0]}: {wrong[1]}")
+    print(f"{passed} passed, {failed} failed")
+    return 1 if failed or not passed else 0
+
+
+sys.exit(main())
