@@ -63,7 +63,7 @@ complete (proc_par {es = es} {fs = fs} d e r) c = two _ _ _ (effect_uses d) (eff
 complete (proc_sub {es = es} d w g) c = clear_use (es ∷ []) (fits_sub g) (complete d c) refl gives_sub (pays_sub w)
 
 -- what a list of uses proves is judged so
-pub proves_clear : {us : List RuleUse} {env : Env} {p : Process} {es : Effect} → Proves us env p es → Clear (of_process env p ∷ []) us (es ∷ [])
-proves_clear {env = env} {p = p} {es = es} h =
+pub proves_clear : {us : List RuleUse} {env : Env} {p : Process} {es : Effect} → (h : Proves us env p es) → Clear (of_process env p ∷ []) us (h.effect ∷ [])
+proves_clear {env = env} {p = p} h =
     let c : Clear [] [] [] = (judged_none, tt) in
-    subst (λ us. Clear (of_process env p ∷ []) us (es ∷ [])) (append-nil (effect_uses h.has) ∙ h.are) (complete h.has c)
+    subst (λ us. Clear (of_process env p ∷ []) us (h.effect ∷ [])) (append-nil (effect_uses h.has) ∙ h.are) (complete h.has c)

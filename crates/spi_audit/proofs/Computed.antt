@@ -1,6 +1,7 @@
 -- What uses do to effects, computed, is what the rows of the table say.
 use Rattle.std.proofs.Common.{◌≡◌, refl, sym, ap, ◌∙◌, subst, ℕ, suc, ◌+◌, Bool, true, false, not, ◌&&◌, ◌||◌, true≢false, List, [], ◌∷◌, ◌++◌, length, Option, Some, None, arith}
 use Rattle.std.specs.Prelude.{if◌then◌else◌}
+use Rattle.std.proofs.lemmas.Bool.{not_from_false}
 use Rattle.spi_term.specs.Term.{Message, name, ends, checks, many, Effect, Process, check}
 use Rattle.spi_term.specs.Names.{EffectAvoids}
 use Rattle.spi_term.proofs.Lists.{at_get}
@@ -41,31 +42,27 @@ pub not_true : (b : Bool) → not b ≡ true → b ≡ false
 not_true true e = cc
 not_true false e = refl
 
-not_from : (b : Bool) → b ≡ false → not b ≡ true
-not_from true e = cc
-not_from false e = refl
-
 -- the name isn't in an effect
 avoided : (k : ℕ) (es : Effect) {P : Type 0} → (EffectAvoids k es → P) → (P → EffectAvoids k es) → Decides (not (mentions k es)) P
-avoided k es f g = decided (not (mentions k es)) (λ e. f (mentions_sound k es (not_true (mentions k es) e))) (λ h. not_from (mentions k es) (mentions_complete k es (g h)))
+avoided k es f g = decided (not (mentions k es)) (λ e. f (mentions_sound k es (not_true (mentions k es) e))) (λ h. not_from_false (mentions k es) (mentions_complete k es (g h)))
 
 two_avoided : (k l : ℕ) (es : Effect) {P : Type 0} → (EffectAvoids k es → EffectAvoids l es → P) → (P → EffectAvoids k es) → (P → EffectAvoids l es) → Decides (not (mentions k es || mentions l es)) P
 two_avoided k l es f g h =
     decided (not (mentions k es || mentions l es))
     (λ e. let r = or_false (mentions k es) (mentions l es) (not_true (mentions k es || mentions l es) e) in f (mentions_sound k es r.0) (mentions_sound l es r.1))
-    (λ p. not_from (mentions k es || mentions l es) (both_false (mentions_complete k es (g p)) (mentions_complete l es (h p))))
+    (λ p. not_from_false (mentions k es || mentions l es) (both_false (mentions_complete k es (g p)) (mentions_complete l es (h p))))
 
 both_avoided : (k : ℕ) (es fs : Effect) {P : Type 0} → (EffectAvoids k es → EffectAvoids k fs → P) → (P → EffectAvoids k es) → (P → EffectAvoids k fs) → Decides (not (mentions k es) && not (mentions k fs)) P
 both_avoided k es fs f g h =
     decided (not (mentions k es) && not (mentions k fs))
     (λ e. let r = and_true (not (mentions k es)) (not (mentions k fs)) e in f (mentions_sound k es (not_true (mentions k es) r.0)) (mentions_sound k fs (not_true (mentions k fs) r.1)))
-    (λ p. both_true (not_from (mentions k es) (mentions_complete k es (g p))) (not_from (mentions k fs) (mentions_complete k fs (h p))))
+    (λ p. both_true (not_from_false (mentions k es) (mentions_complete k es (g p))) (not_from_false (mentions k fs) (mentions_complete k fs (h p))))
 
 served_avoided : (k : ℕ) (es : Effect) {P : Type 0} → (AllMany es → EffectAvoids k es → P) → (P → AllMany es) → (P → EffectAvoids k es) → Decides (are_many es && not (mentions k es)) P
 served_avoided k es f g h =
     decided (are_many es && not (mentions k es))
     (λ e. let r = and_true (are_many es) (not (mentions k es)) e in f (are_many_sound es r.0) (mentions_sound k es (not_true (mentions k es) r.1)))
-    (λ p. both_true (are_many_complete es (g p)) (not_from (mentions k es) (mentions_complete k es (h p))))
+    (λ p. both_true (are_many_complete es (g p)) (not_from_false (mentions k es) (mentions_complete k es (h p))))
 
 in_paid : {env : Env} {p : Process} {a es : Effect} → Pays (plain ProcIn) (of_process env p) (a ∷ es ∷ []) → EffectAvoids (length env) es
 in_paid (pays_in x) = x

@@ -9,9 +9,9 @@ use Rattle.spi_rules.specs.declared.rule.Rule.{Rule}
 use Rattle.spi_message.specs.Judging.{Numbered}
 use Rattle.spi_audit.specs.declared.asked.Premises.{Premises}
 use Rattle.spi_audit.specs.Fits.{plain}
-use Rattle.spi_audit.specs.Forms.{enter, more, on_first, on_rest}
+use Rattle.spi_message.specs.Forms.{enter, more, on_first, on_rest}
 use Rattle.spi_audit.specs.Asked.{Located, Answered, AnswersLeaf, AnswersPrefix, AnswersFork, AnswersNode}
-use Rattle.spi_audit.proofs.Opened.{numbered_leaf, numbered_prefix, numbered_fork, length_more, length_first, length_rest}
+use Rattle.spi_message.proofs.Opened.{numbered_leaf, numbered_prefix, numbered_fork, length_more, length_first, length_rest}
 
 -- what stands from a place on
 drop_first : {A : Type 0} (xs : List A) (i : ℕ) (x y : A) (ys : List A) → drop i xs ≡ x ∷ ys → slice_get xs i ≡ Some y → x ≡ y

@@ -13,7 +13,7 @@ use Rattle.spi_audit.specs.declared.asked.Asked.TheVariants as A
 use Rattle.spi_audit.specs.declared.asked.Binding.{Binding}
 use Rattle.spi_audit.specs.Fits.{of_process}
 use Rattle.spi_audit.specs.Asked.{Bound, bound_none, bound_one, bound_two, Located, IsAsked, IsBegun, Begins, begun_none, begun_next, AreOpen, open_processes}
-use Rattle.spi_audit.proofs.Standing.{stands_kept}
+use Rattle.spi_message.proofs.Tested.{stands_kept}
 
 -- what is asked stays as the store grows
 pub asked_later : {s r : Store} {a : Asked} {m : Message} {t : Ty} → Keeps s r → IsAsked s a m t → IsAsked r a m t

@@ -14,9 +14,9 @@ use Rattle.spi_audit.specs.declared.asked.Asked.{Asked}
 use Rattle.spi_audit.specs.declared.asked.Premises.TheVariants.{OnePremise, TwoPremises, ThreePremises}
 use Rattle.spi_audit.specs.Fits.{Subject, of_message, of_process, plain, Fits, fits_split, fits_split_un, fits_match, fits_match_un, fits_case, fits_case_un, fits_decrypt, fits_decrypt_un, fits_check, fits_check_un, fits_new, fits_par}
 use Rattle.spi_audit.specs.Asked.{IsAsked, Begins, open_message, AnswersPrefix, AnswersFork}
-use Rattle.spi_audit.specs.Notes.{IsNonceAt, IsNoNonce}
+use Rattle.spi_message.specs.Tested.{IsNonceAt, IsNoNonce}
 use Rattle.spi_audit.proofs.Computed.{nonce_is}
-use Rattle.spi_audit.proofs.Standing.{stands_kept}
+use Rattle.spi_message.proofs.Tested.{stands_kept}
 use Rattle.spi_audit.proofs.FormPremises.{process_open, two_open}
 use Rattle.spi_audit.proofs.FormUses.{as_un, not_un, generative, generated, a_nonce, same, one, two}
 

@@ -20,7 +20,7 @@ use Rattle.spi_audit.specs.declared.asked.Premises.{Premises}
 use Rattle.spi_audit.specs.declared.asked.Premises.TheVariants.{NoPremise, TwoPremises}
 use Rattle.spi_audit.specs.Fits.{Subject, of_message, of_process, plain, Fits, fits_stop, fits_out, fits_in, fits_repeat, fits_begin, fits_end, fits_end_many, fits_cast, fits_cast_un}
 use Rattle.spi_audit.specs.Asked.{Located, IsAsked, IsBegun, Begins, AreOpen, open_message, open_processes, begun_none, AnswersLeaf, AnswersPrefix, AnswersFork, TakesUntrusted, TakesLabel, TakesGood}
-use Rattle.spi_audit.specs.Notes.{IsTest}
+use Rattle.spi_message.specs.Tested.{IsTest}
 use Rattle.spi_audit.proofs.FormPremises.{is_begun, process_open}
 
 -- a test that said yes, and one that said no

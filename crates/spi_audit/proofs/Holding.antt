@@ -1,7 +1,7 @@
 -- Effects that are held by counts and by loose names: what operations on the counts do to them.
 use Rattle.std.proofs.Common.{◌≡◌, refl, sym, ap, ◌∙◌, subst, ℕ, zero, suc, ◌+◌, ◌*◌, ◌<◌, ◌≤◌, max, Bool, true, false, ◌&&◌, ◌||◌, true≢false, [], ◌∷◌, ◌++◌, ◌⊎◌, inl, inr, ⊎_elim, arith}
 use Rattle.std.specs.BTreeMap.{BTreeMap}
-use Rattle.std.proofs.lemmas.Bool.{lt-ltb, le-ltb, ltb-true, ltb-false, eqb-true}
+use Rattle.std.proofs.lemmas.Bool.{lt-ltb, le-ltb, ltb-true, ltb-false, eqb-true, or_left, or_right, cases_Bool}
 use Rattle.spi_term.specs.Term.{Message, bound, name, unit, pair, in_left, in_right, enc, hash, Atom, ends, checks, many, Effect}
 use Rattle.spi_term.specs.Lists.{In, in_first, in_later}
 use Rattle.spi_term.specs.Counts.{tally, cut, count, SameEffect}
@@ -12,14 +12,15 @@ use Rattle.spi_effect.proofs.Made.{minus_difference, greater_is, and_true}
 use Rattle.spi_effect.proofs.Laws.{sum_append}
 use Rattle.spi_intern.specs.declared.store.Store.{Store}
 use Rattle.spi_count.specs.Counts.{count_of, IsNothing}
-use Rattle.spi_count.specs.Sums.{name_bound, message_of, part, both_counts}
+use Rattle.spi_count.specs.Sums.{name_bound, message_of, part, both_counts, Below}
 use Rattle.spi_count.specs.declared.sum.AtomKind.{AtomKind}
 use Rattle.spi_count.specs.declared.sum.Sum.{Sum}
-use Rattle.spi_count.proofs.Standing.{stands_none, stands_same, stands_joined, stands_greatest, in_mentions, unreached_below, reached_in}
-use Rattle.spi_audit.specs.declared.keys.Keys.{Keys}
-use Rattle.spi_audit.specs.Accounts.{with_keys, IsKeyed, SumOf, HeldBy, outer}
-use Rattle.spi_audit.specs.Changes.{Below}
-use Rattle.spi_audit.proofs.Summed.{numbers}
+use Rattle.spi_count.proofs.Standing.{stands_none, stands_same, stands_joined, stands_greatest, in_mentions, unreached_below, reached_in, free_at}
+use Rattle.spi_count.specs.declared.keys.Keys.{Keys}
+use Rattle.spi_count.specs.Keeping.{with_keys, IsKeyed}
+use Rattle.spi_count.specs.Adding.{SumOf}
+use Rattle.spi_audit.specs.Accounts.{HeldBy, outer}
+use Rattle.spi_count.proofs.Summed.{numbers}
 
 -- counts
 pub count_none : (a : Atom) → count a [] ≡ 0
@@ -27,7 +28,7 @@ count_none (ends m) = refl
 count_none (checks m) = refl
 count_none (many m) = omega arith
 
-cut_zero : (a : Atom) → cut a 0 ≡ 0
+pub cut_zero : (a : Atom) → cut a 0 ≡ 0
 cut_zero a = count_none a
 
 cut_twice : (a : Atom) (n : ℕ) → cut a (cut a n) ≡ cut a n
@@ -39,7 +40,7 @@ pub zero_or : (n : ℕ) → (n ≡ 0) ⊎ (0 < n)
 zero_or zero = inl refl
 zero_or (suc n) = inr (omega arith)
 
-positive : {m n : ℕ} → m ≡ n → 0 < m → 0 < n
+pub positive : {m n : ℕ} → m ≡ n → 0 < m → 0 < n
 positive e p = subst (λ n. 0 < n) e p
 
 pub in_count : {a : Atom} {es : Effect} → In a es → 0 < count a es
@@ -65,13 +66,6 @@ mentions_in y (a ∷ es) e = go (is_free_at y a) refl e (mentions_in y es)
     go : (b : Bool) → is_free_at y a ≡ b → (b || mentions y es) ≡ true → (mentions y es ≡ true → (c : Atom) × In c es × (is_free_at y c ≡ true)) → (c : Atom) × In c (a ∷ es) × (is_free_at y c ≡ true)
     go true f e ih = (a, in_first, f)
     go false f e ih = let (c, n, g) = ih e in (c, in_later n, g)
-
-or_left : (a b : Bool) → a ≡ true → (a || b) ≡ true
-or_left a b e = ap (λ a. a || b) e
-
-or_right : (a b : Bool) → b ≡ true → (a || b) ≡ true
-or_right true b e = refl
-or_right false b e = e
 
 pub in_mentioned : (y : ℕ) (a : Atom) (es : Effect) → In a es → is_free_at y a ≡ true → mentions y es ≡ true
 in_mentioned y a [] n f = elim n [ ]
@@ -108,11 +102,6 @@ free_below x (in_right a) e = free_below x a e
 free_below x (enc a b) e = free_two x a b e (free_below x a) (free_below x b)
 free_below x (hash a) e = free_below x a e
 
-pub free_at : (x : ℕ) (a : Atom) → is_free_at x a ≡ is_free x (message_of a)
-free_at x (ends m) = refl
-free_at x (checks m) = refl
-free_at x (many m) = refl
-
 pub free_at_below : (x : ℕ) (a : Atom) → is_free_at x a ≡ true → x < name_bound (message_of a)
 free_at_below x a e = free_below x (message_of a) (sym (free_at x a) ∙ e)
 
@@ -129,17 +118,9 @@ outer_from n a l = lt-ltb n (name_bound (message_of a)) l
 pub outer_not : (n : ℕ) (a : Atom) → name_bound (message_of a) ≤ n → outer n a ≡ false
 outer_not n a l = le-ltb n (name_bound (message_of a)) l
 
-cases_of : (b : Bool) → (b ≡ true) ⊎ (b ≡ false)
-cases_of true = inl refl
-cases_of false = inr refl
-
 -- an effect with names in scope alone
 pub below_none : (n : ℕ) (fs : Effect) → Below n fs → (a : Atom) → outer n a ≡ true → count a fs ≡ 0
 below_none n fs h a o = ⊎_elim (λ e. e) (λ p. absurd (let l = h a (count_in a fs p) in let k = outer_true n a o in omega (arith, l, k))) (zero_or (count a fs))
-
-pub one_below : (n : ℕ) (b : Atom) → name_bound (message_of b) ≤ n → Below n (b ∷ [])
-one_below n b l a in_first = l
-one_below n b l a (in_later i) = elim i [ ]
 
 module _ {s : Store} {keys : Keys} where
   -- nothing is held
@@ -200,7 +181,7 @@ module _ {s : Store} {keys : Keys} where
     named = λ a q l p r. ⊎_elim (λ p. let c = h.named a q l p r in let d = m q in omega (arith, c, d)) (λ p. let c = k.named a q l p r in let d = m q in omega (arith, c, d)) (e a p);
     names_of = λ q p. ⊎_elim (λ z. from_second q (let d = m q in omega (arith, d, z, p))) (λ c. from_first q c) (zero_or (count_of nx q));
     lasts = λ b a l p. let r = and_true bx by b in ⊎_elim (λ p. h.lasts r.0 a l p) (λ p. k.lasts r.1 a l p) (e a p);
-    once = λ b. not_both (cases_of bx) b;
+    once = λ b. not_both (cases_Bool bx) b;
   }
     where
       from_first : (q : ℕ) → 0 < count_of nx q → (a : Atom) × (L a ≡ true) × (0 < count a rs) × (is_free_at q a ≡ true)
@@ -240,8 +221,8 @@ module _ {s : Store} {keys : Keys} where
   held_other {L} {M} {es = es} h e = record {
     inner = h.inner;
     stands = h.stands;
-    inside = λ a m. ⊎_elim (λ z. none a z (cases_of (L a))) (λ p. h.inside a (e a p ∙ m)) (zero_or (count a es));
-    outside = λ a m. ⊎_elim (λ z. gone a z (cases_of (L a))) (λ p. h.outside a (e a p ∙ m)) (zero_or (count a es));
+    inside = λ a m. ⊎_elim (λ z. none a z (cases_Bool (L a))) (λ p. h.inside a (e a p ∙ m)) (zero_or (count a es));
+    outside = λ a m. ⊎_elim (λ z. gone a z (cases_Bool (L a))) (λ p. h.outside a (e a p ∙ m)) (zero_or (count a es));
     named = λ a y m p f. h.named a y (e a p ∙ m) p f;
     names_of = λ y p. let (a, l, q, f) = h.names_of y p in (a, sym (e a q) ∙ l, q, f);
     lasts = λ c a m p. h.lasts c a (e a p ∙ m) p;
@@ -259,11 +240,11 @@ module _ {s : Store} {keys : Keys} where
   -- an effect with names in scope alone is held by counts
   pub held_below : IsKeyed s keys → (n : ℕ) {sum : Sum} {names : BTreeMap ℕ ℕ} {b : Bool} {es : Effect} → HeldBy s keys (outer n) sum names b es → Below n es → SumOf s keys sum es
   held_below kd n {es = es} h l =
-      stands_same (with_keys s keys) (numbers kd) h.stands (λ a. ⊎_elim (λ o. h.outside a o ∙ sym (below_none n es l a o)) (λ o. h.inside a o) (cases_of (outer n a)))
+      stands_same (with_keys s keys) (numbers kd) h.stands (λ a. ⊎_elim (λ o. h.outside a o ∙ sym (below_none n es l a o)) (λ o. h.inside a o) (cases_Bool (outer n a)))
 
   -- what stands within isn't loose, and stands in the effect
   pub inner_in : {L : Atom → Bool} {sum : Sum} {names : BTreeMap ℕ ℕ} {b : Bool} {es : Effect} (h : HeldBy s keys L sum names b es) (a : Atom) → 0 < count a h.inner → (L a ≡ false) × (0 < count a es)
-  inner_in {L} h a p = ⊎_elim (λ l. absurd (let z = h.outside a l in omega (arith, z, p))) (λ l. (l, positive (h.inside a l) p)) (cases_of (L a))
+  inner_in {L} h a p = ⊎_elim (λ l. absurd (let z = h.outside a l in omega (arith, z, p))) (λ l. (l, positive (h.inside a l) p)) (cases_Bool (L a))
 
   -- names from k on, which are within by counts or not
   module _ (kd : IsKeyed s keys) (n k : ℕ) (le : k ≤ n) {sum : Sum} {names : BTreeMap ℕ ℕ} {b : Bool} {es : Effect} (h : HeldBy s keys (outer n) sum names b es) where
@@ -279,7 +260,7 @@ module _ {s : Store} {keys : Keys} where
         same a p = ⊎_elim
             (λ l. l ∙ sym (outer_from k a (let o = outer_true n a l in omega (arith, o, le))))
             (λ l. l ∙ sym (outer_not k a (stays u a p (outer_false n a l))))
-            (cases_of (outer n a))
+            (cases_Bool (outer n a))
 
     pub cut_found : (kind : AtomKind) × (q : ℕ) × (0 < count_of (part kind sum) q) × ((k + 1) * 4294967296 ≤ q) → (a : Atom) × (0 < count a es) × (k < name_bound (message_of a)) × (name_bound (message_of a) ≤ n)
     cut_found (kind, q, p, l) =

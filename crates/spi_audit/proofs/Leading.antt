@@ -18,7 +18,8 @@ use Rattle.spi_audit.specs.Fits.{Subject, of_process, Fits}
 use Rattle.spi_audit.specs.Audit.{MisfitAt, misfit_here, misfit_later}
 use Rattle.spi_audit.specs.Asked.{Bound, bound_none, bound_one, bound_two, IsAsked, AreAsked, asked_none, asked_next, AreBegun, begun_none, begun_next, AreOpen, open_message, open_processes}
 use Rattle.spi_audit.specs.Changes.{Change, change_of}
-use Rattle.spi_audit.specs.Walking.{Trace, trace_none, trace_use, Led, led_none, led_use, Later, later_none, later_next, Opens, opens_message, opens_later, Misfits, Settles, Turns}
+use Rattle.spi_audit.specs.Walking.{Trace, trace_none, trace_use, Led, led_none, led_use, Later, later_none, later_next, Opens, opens_message, opens_later, Misfits, Settles}
+use Rattle.spi_message.specs.Tested.{Turns}
 
 -- one use more
 pub led_next : {ss ts : List Subject} {us : List RuleUse} {cs : List Change} {t : Subject} {u : RuleUse} {ps : List Subject} → Led ss us cs (t ∷ ts) → Fits u t ps → Led ss (us ++ u ∷ []) (cs ++ change_of u t ∷ []) (ps ++ ts)

@@ -3,12 +3,6 @@ pub mod Agreeing
 pub mod Sound
 pub mod Complete
 pub mod OneAnswer
-pub mod Standing
-pub mod Kept
-pub mod Summed
-pub mod Read
-pub mod Opened
-pub mod Bound
 pub mod Computed
 pub mod Scoping
 pub mod Holding

@@ -2,7 +2,7 @@
 use Rattle.std.proofs.Common.{◌≡◌, ◌≢◌, refl, sym, ap, ◌∙◌, subst, ℕ, zero, suc, ◌+◌, ◌-◌, ◌*◌, ◌<◌, ◌≤◌, Bool, true, false, not, ◌&&◌, ◌||◌, true≢false, [], ◌∷◌, ◌⊎◌, inl, inr, ⊎_elim, arith, ◌↔◌, IsTrue}
 use Rattle.std.specs.Prelude.{if◌then◌else◌, nat_eq}
 use Rattle.std.specs.BTreeMap.{BTreeMap}
-use Rattle.std.proofs.lemmas.Bool.{eqb-true}
+use Rattle.std.proofs.lemmas.Bool.{eqb-true, or_left, or_right, cases_Bool, or_cases}
 use Rattle.spi_term.specs.Term.{Message, Atom, ends, checks, many, same_atom, Effect}
 use Rattle.spi_term.specs.Counts.{tally, cut, count}
 use Rattle.spi_term.proofs.Counting.{same_atom_refl, same_atom_true, same_other}
@@ -17,30 +17,14 @@ use Rattle.spi_count.specs.Sums.{name_bound, key_of, kind_of, message_of, part, 
 use Rattle.spi_count.specs.declared.sum.AtomKind.{AtomKind}
 use Rattle.spi_count.specs.declared.sum.AtomKind.TheVariants.{End, Check, Many}
 use Rattle.spi_count.specs.declared.sum.Sum.{Sum}
-use Rattle.spi_count.proofs.Standing.{same_kind, put_at, stands_many, many_stands, in_mentions, unreached_below}
-use Rattle.spi_audit.specs.declared.keys.Keys.{Keys}
+use Rattle.spi_count.proofs.Standing.{same_kind, put_at, stands_many, many_stands, in_mentions, unreached_below, free_at}
+use Rattle.spi_count.specs.declared.keys.Keys.{Keys}
 use Rattle.spi_audit.specs.declared.accounts.Account.{Account}
-use Rattle.spi_audit.specs.Accounts.{with_keys, IsKeyed, IsKey, SumOf, HeldBy, outer, Marks, lasting_with, IsCut, LeavesOne, LeavesTwo}
-use Rattle.spi_audit.proofs.Summed.{numbers}
-use Rattle.spi_audit.proofs.Holding.{zero_or, in_count, count_in, inner_in, held_other, outer_true, outer_false, outer_from, outer_not, mentions_in, in_mentioned, free_at, free_at_below}
-
-cases_of : (b : Bool) → (b ≡ true) ⊎ (b ≡ false)
-cases_of true = inl refl
-cases_of false = inr refl
-
-positive : {m n : ℕ} → m ≡ n → 0 < m → 0 < n
-positive e p = subst (λ n. 0 < n) e p
-
-or_left : (a b : Bool) → a ≡ true → (a || b) ≡ true
-or_left a b e = ap (λ a. a || b) e
-
-or_right : (a b : Bool) → b ≡ true → (a || b) ≡ true
-or_right true b e = refl
-or_right false b e = e
-
-or_cases : (a b : Bool) → (a || b) ≡ true → (a ≡ true) ⊎ (b ≡ true)
-or_cases true b e = inl refl
-or_cases false b e = inr e
+use Rattle.spi_count.specs.Keeping.{with_keys, IsKeyed}
+use Rattle.spi_count.specs.Adding.{IsKey, SumOf}
+use Rattle.spi_audit.specs.Accounts.{HeldBy, outer, Marks, lasting_with, IsCut, LeavesOne, LeavesTwo}
+use Rattle.spi_count.proofs.Summed.{numbers}
+use Rattle.spi_audit.proofs.Holding.{zero_or, in_count, count_in, inner_in, held_other, outer_true, outer_false, outer_from, outer_not, mentions_in, in_mentioned, free_at_below, cut_zero, positive}
 
 -- an effect with each of an atom out
 tally_every_other : (c a : Atom) (es : Effect) → c ≢ a → tally c (every_out a es) ≡ tally c es
@@ -58,11 +42,6 @@ tally_every_same a (b ∷ es) = go (same_atom a b) refl (tally_every_same a es)
     go : (t : Bool) → same_atom a b ≡ t → tally a (every_out a es) ≡ 0 → tally a (if t then every_out a es else (b ∷ every_out a es)) ≡ 0
     go true e ih = ih
     go false e ih = rw (e, ih)
-
-cut_zero : (a : Atom) → cut a 0 ≡ 0
-cut_zero (ends m) = refl
-cut_zero (checks m) = refl
-cut_zero (many m) = omega arith
 
 count_every : (c a : Atom) (es : Effect) → count c (every_out a es) ≡ (if same_atom c a then 0 else count c es)
 count_every c a es = go (same_atom c a) refl
@@ -148,7 +127,7 @@ module _ {s : Store} {keys : Keys} where
       inside = λ c e. let r = or_false (w.loose c) (same_atom c a) e in count_every c a w.held.inner ∙ (ap (λ t. if t then 0 else count c w.held.inner) r.1 ∙ w.held.inside c r.0);
       outside = λ c e. outside_of c (same_atom c a) refl e;
       named = λ c y e q f. ⊎_elim (λ l. mk.0 y (w.held.named c y l q f)) (λ l. mk.1 y (free_here c y (same_atom_true c a l) f)) (or_cases (w.loose c) (same_atom c a) e);
-      names_of = λ y q. names_at y q (cases_of (is_free y (message_of a)));
+      names_of = λ y q. names_at y q (cases_Bool (is_free y (message_of a)));
       lasts = λ e c l q. let r = many_so e in ⊎_elim (λ l. w.held.lasts r.0 c l q) (λ l. subst IsMany (sym (same_atom_true c a l)) r.1) (or_cases (w.loose c) (same_atom c a) l);
       once = λ e. ⊎_elim (λ f. let (c, l, q, n) = w.held.once f in (c, or_left (w.loose c) (same_atom c a) l, q, n)) (λ n. (a, or_right (w.loose a) (same_atom a a) (same_atom_refl a), here.1, n)) (not_so e);
     };
@@ -209,12 +188,12 @@ module _ {s : Store} {keys : Keys} where
       same a p = ⊎_elim
           (λ l. l ∙ sym (outer_from k a (⊎_elim (λ f. let o = outer_true n a f in let r : k < name_bound (message_of a) = omega (arith, o, le) in r) (λ o. o) (w.by a l))))
           (λ l. l ∙ sym (outer_not k a (unreached_below (with_keys s keys) (numbers kd) w.held.stands k u a (count_in a w.held.inner (positive (sym (w.held.inside a l)) p)))))
-          (cases_of (w.loose a))
+          (cases_Bool (w.loose a))
 
   -- which names an effect has
   module _ (k n : ℕ) {sum : Sum} {names : BTreeMap ℕ ℕ} {b : Bool} {es : Effect} (h : HeldBy s keys (outer n) sum names b es) where
     unmentioned : (y : ℕ) → k ≤ y → ((a : Atom) → 0 < count a es → name_bound (message_of a) ≤ n → name_bound (message_of a) ≤ k) → count_of names y ≡ 0 → mentions y es ≡ false
-    unmentioned y le st z = ⊎_elim (λ e. absurd (found e)) (λ e. e) (cases_of (mentions y es))
+    unmentioned y le st z = ⊎_elim (λ e. absurd (found e)) (λ e. e) (cases_Bool (mentions y es))
       where
         found : mentions y es ≡ true → ⊥
         found e =
@@ -222,7 +201,7 @@ module _ {s : Store} {keys : Keys} where
             ⊎_elim
             (λ l. let p = h.named a y l (in_count i) f in omega (arith, p, z))
             (λ l. let q = st a (in_count i) (outer_false n a l) in let r = free_at_below y a f in omega (arith, q, r, le))
-            (cases_of (outer n a))
+            (cases_Bool (outer n a))
 
     mentioned : (y : ℕ) → 0 < count_of names y → mentions y es ≡ true
     mentioned y p = let (a, l, q, f) = h.names_of y p in in_mentioned y a es (count_in a es q) f
@@ -267,12 +246,12 @@ module _ {s : Store} {keys : Keys} where
           let r = and_true b m e in
           let z = t.0 r.1 in
           let all = are_many_sound h.inner (stands_many (with_keys s keys) (numbers kd) h.stands z.0 z.1) in
-          are_many_complete es (AllMany_of es (λ a i. ⊎_elim (λ l. h.lasts r.0 a l (in_count i)) (λ l. AllMany_in (count_in a h.inner (positive (sym (h.inside a l)) (in_count i))) all) (cases_of (outer n a))))
+          are_many_complete es (AllMany_of es (λ a i. ⊎_elim (λ l. h.lasts r.0 a l (in_count i)) (λ l. AllMany_in (count_in a h.inner (positive (sym (h.inside a l)) (in_count i))) all) (cases_Bool (outer n a))))
 
       from : are_many es ≡ true → (b && m) ≡ true
       from e =
           let all = are_many_sound es e in
           let inner = are_many_complete h.inner (AllMany_of h.inner (λ a i. AllMany_in (count_in a es (inner_in h a (in_count i)).1) all)) in
           both_true
-          (⊎_elim (λ f. f) (λ f. absurd (let (a, l, p, no_many) = h.once f in no_many (AllMany_in (count_in a es p) all))) (cases_of b))
+          (⊎_elim (λ f. f) (λ f. absurd (let (a, l, p, no_many) = h.once f in no_many (AllMany_in (count_in a es p) all))) (cases_Bool b))
           (t.1 (many_stands (with_keys s keys) (numbers kd) h.stands inner))

@@ -1,8 +1,8 @@
 -- Names of messages that are marked.
-use Rattle.std.proofs.Common.{◌≡◌, refl, sym, ap, ◌∙◌, ℕ, ◌<◌, Bool, true, false, ◌||◌, true≢false, List, Some, ◌⊎◌, inl, inr, ⊎_elim, arith, max}
+use Rattle.std.proofs.Common.{◌≡◌, refl, sym, ap, ◌∙◌, ℕ, ◌<◌, Bool, true, false, true≢false, List, Some, ◌⊎◌, ⊎_elim, arith, max}
 use Rattle.std.specs.Prelude.{if◌then◌else◌, slice_get, eqb}
 use Rattle.std.specs.BTreeMap.{BTreeMap}
-use Rattle.std.proofs.lemmas.Bool.{eqb-true, eqb-false}
+use Rattle.std.proofs.lemmas.Bool.{eqb-true, eqb-false, or_cases}
 use Rattle.std.proofs.Common.{eq-eqb}
 use Rattle.spi_term.specs.Term.{Message, bound, name, unit, pair}
 use Rattle.spi_effect.specs.Made.{is_free}
@@ -12,10 +12,6 @@ use Rattle.spi_intern.specs.declared.messages.MsgPart.TheVariants as P
 use Rattle.spi_intern.specs.Messages.{Says, says_bound, says_name, says_unit, says_pair, says_left, says_right, says_enc, says_hash}
 use Rattle.spi_count.specs.Counts.{count_of, Sets}
 use Rattle.spi_audit.specs.Accounts.{Marks}
-
-or_cases : (a b : Bool) → (a || b) ≡ true → (a ≡ true) ⊎ (b ≡ true)
-or_cases true b e = inl refl
-or_cases false b e = inr e
 
 marks_none : (old : BTreeMap ℕ ℕ) (m : Message) → ((y : ℕ) → is_free y m ≡ false) → Marks old old m
 marks_none old m h = (λ y p. p, λ y f. absurd (true≢false (sym f ∙ h y)), λ y z f. z)

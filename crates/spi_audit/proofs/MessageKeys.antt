@@ -15,18 +15,19 @@ use Rattle.spi_intern.specs.Meaning.{Means}
 use Rattle.spi_intern.specs.Messages.{Says, says_bound, says_name, says_unit, says_pair, says_left, says_right, says_enc, says_hash}
 use Rattle.spi_intern.proofs.Lists.{some_one, get_below}
 use Rattle.spi_message.specs.Judging.{Numbered, Stands}
-use Rattle.spi_message.specs.Tests.{is_un}
+use Rattle.spi_message.specs.Asking.{IsKeyFor, IsNoKey}
+use Rattle.spi_message.specs.Tests.{is_un, key_in}
 use Rattle.spi_message.proofs.Standing.{stand_at, stand_length}
 use Rattle.spi_message.proofs.Deciding.{is_un_true}
 use Rattle.spi_audit.specs.declared.asked.Asked.TheVariants as A
 use Rattle.spi_audit.specs.declared.asked.Premises.TheVariants.{OnePremise}
 use Rattle.spi_audit.specs.Fits.{Subject, of_message, plain, Fits, fits_enc}
-use Rattle.spi_audit.specs.Asked.{asked_none, asked_next, AnsweredMessage, AnswersPart, IsKeyOf, IsNoKey, IsKeyAt, IsNoKeyAt}
+use Rattle.spi_audit.specs.Asked.{asked_none, asked_next, AnsweredMessage, AnswersPart, IsKeyAt, IsNoKeyAt}
 
 -- the payload of the type of a name
 module _ (j : Numbered) (x : ℕ) where
   module _ (i : TyId) (g : slice_get j.types x ≡ Some i) where
-    pub key_at : (r : Option TyId) → IfSome r (IsKeyOf j.store i) → IfSome r (IsKeyAt j (name x))
+    pub key_at : (r : Option TyId) → IfSome r (IsKeyFor j.store i) → IfSome r (IsKeyAt j (name x))
     key_at None h = tt
     key_at (Some t) h = record { at = at }
       where
@@ -45,7 +46,9 @@ module _ (j : Numbered) (x : ℕ) where
             let (u, f, m) = stand_at s x i g in
             let p : x ≡ y = cc in
             let b : slice_get e x ≡ Some (key v) = subst (λ z. slice_get e z ≡ Some (key v)) (sym p) (at_get a) in
-            h.at u v m (some_one (sym f ∙ b))
+            let k : u ≡ key v = some_one (sym f ∙ b) in
+            let n : Some v ≡ None = ap (λ (u : Ty). key_in (Some u)) (sym k) ∙ h.at u m in
+            absurd (cc n)
 
   pub no_key_past : (x < length j.types → ⊥) → IsNoKeyAt j (name x)
   no_key_past l = record { at = at }

@@ -16,11 +16,11 @@ use Rattle.spi_intern.specs.Meaning.{Means}
 use Rattle.spi_intern.proofs.Meanings.{ids_none, ids_next}
 use Rattle.spi_message.specs.Judging.{Numbered, Stands, IsKept}
 use Rattle.spi_count.specs.Sums.{name_bound, key_of}
-use Rattle.spi_audit.specs.declared.keys.Keys.{Keys}
-use Rattle.spi_audit.specs.Accounts.{with_keys, HaveKeys}
-use Rattle.spi_audit.specs.Notes.{GrowsTo, TakesLabelled, TakesUn, TakesAtomic}
-use Rattle.spi_audit.proofs.Standing.{stands_kept}
-use Rattle.spi_audit.proofs.Kept.{keyed_here, have_none, have_more, have_keys_keep}
+use Rattle.spi_count.specs.declared.keys.Keys.{Keys}
+use Rattle.spi_count.specs.Keeping.{with_keys, HaveKeys, GrowsTo}
+use Rattle.spi_audit.specs.Notes.{TakesLabelled, TakesUn, TakesAtomic}
+use Rattle.spi_message.proofs.Tested.{stands_kept}
+use Rattle.spi_count.proofs.Kept.{keyed_here, have_none, have_more, have_keys_keep}
 
 -- what is answered of a message's number
 module _ (j k : Numbered) (h : IsKept j k) (m : Message) (i : ℕ) (at : slice_get k.store.messages i ≡ Some m) (d : Bool) where

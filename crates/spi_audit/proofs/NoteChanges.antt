@@ -11,12 +11,13 @@ use Rattle.spi_intern.specs.declared.types.TyId.{TyId}
 use Rattle.spi_intern.proofs.Meanings.{means_keeps}
 use Rattle.spi_message.specs.Judging.{Numbered, Stands}
 use Rattle.spi_message.specs.Tests.{nonce_of}
-use Rattle.spi_audit.specs.declared.keys.Keys.{Keys}
+use Rattle.spi_count.specs.declared.keys.Keys.{Keys}
 use Rattle.spi_audit.specs.declared.notes.Note.{Note}
 use Rattle.spi_audit.specs.declared.notes.Note.TheVariants as N
-use Rattle.spi_audit.specs.Accounts.{with_keys, HaveKeys}
+use Rattle.spi_count.specs.Keeping.{with_keys, HaveKeys}
 use Rattle.spi_audit.specs.Changes.{Change, same_effect, one_left, check_change, cast_change}
-use Rattle.spi_audit.specs.Notes.{NotedAs, noted_one, noted_same, noted_cast, noted_check, IsNonceAt, IsNoNonce}
+use Rattle.spi_audit.specs.Notes.{NotedAs, noted_one, noted_same, noted_cast, noted_check}
+use Rattle.spi_message.specs.Tested.{IsNonceAt, IsNoNonce}
 
 pub noted_as : (s : Store) (keys : Keys) (o : Note) {c d : Change} → c ≡ d → NotedAs s keys d o → NotedAs s keys c o
 noted_as s keys o q h = subst (λ c. NotedAs s keys c o) (sym q) h

@@ -6,7 +6,7 @@ use Rattle.spi_rules.specs.Environment.{Env}
 use Rattle.spi_rules.specs.declared.rule.Rule.{Rule}
 use Rattle.spi_message.specs.Judging.{Numbered, Stands}
 use Rattle.spi_message.proofs.Standing.{stand_length}
-use Rattle.spi_audit.specs.declared.keys.Keys.{Keys}
+use Rattle.spi_count.specs.declared.keys.Keys.{Keys}
 use Rattle.spi_audit.specs.declared.notes.Note.{Note}
 use Rattle.spi_audit.specs.declared.notes.Note.TheVariants as N
 use Rattle.spi_audit.specs.Changes.{one_left, two_left, served, chosen, made, cast_change, shape_change}

@@ -37,7 +37,7 @@ module _ {env : Env} {p : Process} {us : List RuleUse} where
 
   proved_paid : {fs : Effect} → Proves us env p [] → LeavesUnpaid env p us fs → ⊥
   proved_paid h k =
-      let s = clear_one (proves_clear h) (k.1, k.2) in
+      let s = same_trans (same_sym h.same) (clear_one (proves_clear h) (k.1, k.2)) in
       k.4 (same_sym (same_trans s k.3))
 
   left_one : {es fs : Effect} → LeavesUnpaid env p us es → LeavesUnpaid env p us fs → SameEffect es fs

@@ -4,10 +4,11 @@ use Rattle.std.specs.Prelude.{if◌then◌else◌}
 use Rattle.std.proofs.lemmas.List.{append-nil, append_assoc}
 use Rattle.spi_term.specs.Term.{Effect}
 use Rattle.spi_intern.specs.declared.store.Store.{Store}
-use Rattle.spi_audit.specs.declared.keys.Keys.{Keys}
+use Rattle.spi_count.specs.declared.keys.Keys.{Keys}
 use Rattle.spi_audit.specs.declared.accounts.Account.{Account}
 use Rattle.spi_audit.specs.declared.notes.Note.{Note}
-use Rattle.spi_audit.specs.Accounts.{IsKeyed, Held, Holds, holds_none, holds_next}
+use Rattle.spi_count.specs.Keeping.{IsKeyed}
+use Rattle.spi_audit.specs.Accounts.{Held, Holds, holds_none, holds_next}
 use Rattle.spi_audit.specs.Changes.{Change, before, after, pays, top, run, first_unpaid, AreScoped, scoped_none, scoped_next}
 use Rattle.spi_audit.specs.Notes.{NotedAs, AreNoted, are_noted_none, are_noted_next, ChangesAll, IsBefore, IsSmallNote, AreSmallNotes}
 use Rattle.spi_audit.proofs.Turning.{holds_names, holds_top, holds_empty, some_held}

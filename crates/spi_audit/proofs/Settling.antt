@@ -14,6 +14,7 @@ use Rattle.spi_term.specs.View as View
 use Rattle.spi_rules.specs.Environment.{untrusted}
 use Rattle.spi_rules.specs.Derivations.{RuleUse, Proves, effect_uses}
 use Rattle.spi_rules.specs.Processes.{HasEffect}
+use Rattle.spi_effect.proofs.Laws.{same_refl}
 use Rattle.spi_audit.specs.declared.audited.Audited.{Audited}
 use Rattle.spi_audit.specs.declared.audited.Audited.TheVariants.{Proved, WrongStep, Unpaid}
 use Rattle.spi_audit.specs.Fits.{of_process}
@@ -71,7 +72,7 @@ settled_audited k p us cs Proved o t h = go (trace_judged t).0 (subst (λ (n : O
     go j a =
         let y = sound_one j a in
         let z : (h : HasEffect [] (untrusted k) p []) × (effect_uses h ≡ us) = subst (λ es. (h : HasEffect [] (untrusted k) p es) × (effect_uses h ≡ us)) h.1 y in
-        record { over = untrusted_over k p o; has = z.0; are = z.1 }
+        record { over = untrusted_over k p o; effect = []; same = same_refl []; has = z.0; are = z.1 }
 settled_audited k p us cs (WrongStep i) o t h = inr (top (run cs), (trace_judged t).0, first (subst (λ (n : Option ℕ). Verdict 0 n (trace_judged t).0) h ((trace_judged t).1 0)))
   where
     first : (d : ℕ) × (i ≡ 0 + d) × FirstUnpaid (trace_judged t).0 d → FirstUnpaid (trace_judged t).0 i

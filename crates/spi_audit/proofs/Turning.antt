@@ -2,7 +2,7 @@
 use Rattle.std.proofs.Common.{◌≡◌, refl, sym, ap, ◌∙◌, subst, ℕ, suc, ◌≤◌, Bool, true, not, ◌&&◌, List, [], ◌∷◌, ◌++◌, reverse, length, ◌<◌, Result, Ok, Err, IfOk, arith}
 use Rattle.std.specs.Prelude.{Vec, vec_len}
 use Rattle.std.specs.declared.alloc.Global.{Global}
-use Rattle.std.proofs.lemmas.List.{reverse-append}
+use Rattle.std.proofs.lemmas.List.{reverse-append, nil_from_length}
 use Rattle.spi_term.specs.Term.{name, Atom, ends, checks, many, Effect, nonce}
 use Rattle.spi_effect.specs.Made.{minus, greater, mentions, is_within}
 use Rattle.spi_intern.specs.declared.store.Store.{Store}
@@ -14,13 +14,14 @@ use Rattle.spi_intern.specs.Atoms.{SaysAtom, says_end, says_check, says_many}
 use Rattle.spi_intern.specs.Meaning.{Means}
 use Rattle.spi_intern.specs.Table.{TellsAll}
 use Rattle.spi_intern.proofs.Lists.{get_below}
-use Rattle.spi_count.specs.Sums.{name_bound, message_of}
-use Rattle.spi_audit.specs.declared.keys.Keys.{Keys}
+use Rattle.spi_count.specs.Sums.{name_bound, message_of, Below}
+use Rattle.spi_count.specs.declared.keys.Keys.{Keys}
 use Rattle.spi_audit.specs.declared.accounts.Account.{Account}
 use Rattle.spi_audit.specs.declared.notes.Note.{Note}
 use Rattle.spi_audit.specs.declared.notes.Note.TheVariants as N
-use Rattle.spi_audit.specs.Accounts.{IsKeyed, HasKey, HaveKeys, Held, IsHeld, Holds, holds_next, LeavesOne, LeavesTwo, HoldsMore, HoldsLess}
-use Rattle.spi_audit.specs.Changes.{Change, served, chosen, summed, Below, IsScoped, before, own, scope_in, after, pays, top}
+use Rattle.spi_count.specs.Keeping.{IsKeyed, HasKey, HaveKeys}
+use Rattle.spi_audit.specs.Accounts.{Held, IsHeld, Holds, holds_next, LeavesOne, LeavesTwo, HoldsMore, HoldsLess}
+use Rattle.spi_audit.specs.Changes.{Change, served, chosen, summed, IsScoped, before, own, scope_in, after, pays, top}
 use Rattle.spi_audit.specs.Notes.{NotedAs, noted_nothing, noted_empty, noted_same, noted_one, noted_two, noted_serve, noted_case, noted_check, noted_begin, noted_end, noted_many, noted_cast, noted_make, noted_both, noted_taken, ChangesOne, ChangesAll, IsBefore, IsBeforeOne, IsUnaryNote, AtomVec}
 
 abbrev first_of : List ℕ → ℕ
@@ -308,9 +309,5 @@ taken_changes s keys ids old new b kd f = record { at = at }
     at : (c : Change) (n : ℕ) (es : Effect) → NotedAs s keys c (N.Taken ids) → IsScoped c → before c ≡ n ∷ [] → Held s keys n old es → Held s keys (scope_in c) new (top (after c (es ∷ []))) × (b ≡ pays c (es ∷ []))
     at _ n es (noted_taken {k} {fs} t g) w e h = f fs es k t g w (named_held old k n e h)
 
-empty_is : {A : Type 0} (xs : List A) → length xs ≡ 0 → xs ≡ []
-empty_is [] e = refl
-empty_is (x ∷ xs) e = absurd (omega (arith, e))
-
 pub no_items : {A : Type 0} (v : Vec A Global) → vec_len v ≡ 0 → v.items ≡ []
-no_items v e = empty_is v.items (omega (arith, v.ok.0, e))
+no_items v e = nil_from_length v.items (omega (arith, v.ok.0, e))

@@ -8,13 +8,14 @@ use Rattle.spi_rules.specs.Environment.{untrusted}
 use Rattle.spi_rules.specs.Derivations.{RuleUse}
 use Rattle.spi_intern.specs.declared.store.Store.{Store}
 use Rattle.spi_audit.specs.declared.audited.Audited.{Audited}
-use Rattle.spi_audit.specs.declared.keys.Keys.{Keys}
+use Rattle.spi_count.specs.declared.keys.Keys.{Keys}
 use Rattle.spi_audit.specs.declared.notes.Note.{Note}
 use Rattle.spi_audit.specs.declared.walking.Walk.TheVariants as W
 use Rattle.spi_audit.specs.Fits.{of_process}
 use Rattle.spi_audit.specs.Audit.{IsAudited}
 use Rattle.spi_audit.specs.Changes.{Change, AreScoped}
-use Rattle.spi_audit.specs.Notes.{AreKept, AreNoted, IsRooted}
+use Rattle.spi_count.specs.Keeping.{AreKept}
+use Rattle.spi_audit.specs.Notes.{AreNoted, IsRooted}
 use Rattle.spi_audit.specs.Settled.{IsSettled}
 use Rattle.spi_audit.specs.Walking.{IsWalked}
 use Rattle.spi_audit.proofs.Settling.{root_scoped, settled_audited}

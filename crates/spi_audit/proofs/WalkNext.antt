@@ -17,7 +17,7 @@ use Rattle.spi_intern.specs.declared.types.TyId.{TyId}
 use Rattle.spi_intern.proofs.Lists.{get_below}
 use Rattle.spi_message.specs.Judging.{Numbered, Stands, IsKept}
 use Rattle.spi_message.specs.Tests.{nonce_of}
-use Rattle.spi_audit.specs.declared.keys.Keys.{Keys}
+use Rattle.spi_count.specs.declared.keys.Keys.{Keys}
 use Rattle.spi_audit.specs.declared.notes.Note.{Note}
 use Rattle.spi_audit.specs.declared.asked.Binding.{Binding}
 use Rattle.spi_audit.specs.declared.asked.Asked.{Asked}
@@ -28,7 +28,7 @@ use Rattle.spi_audit.specs.Asked.{listed, Bound, Located}
 use Rattle.spi_audit.specs.Changes.{Change, change_of, prefix_change, form_change, use_change, scope_in, check_change, cast_change}
 use Rattle.spi_audit.specs.Notes.{NotedAs, noted_nothing, noted_empty, noted_same, noted_one, noted_two, noted_serve, noted_case, noted_check, noted_begin, noted_end, noted_many, noted_cast, noted_make, noted_both, noted_taken, IsSmallNote}
 use Rattle.spi_audit.specs.Walking.{Later, later_none, later_next, Opens, opens_message, opens_later, IsState, IsOpen, Settles, IsPlaced, FitsMessage, FitsMessageIn, FitsNode, FitsIn, StepsTo, FitsNext}
-use Rattle.spi_audit.proofs.Standing.{stands_kept}
+use Rattle.spi_message.proofs.Tested.{stands_kept}
 use Rattle.spi_audit.proofs.Leading.{later_moved, opens_keeps, opens_asked, opens_open}
 use Rattle.spi_audit.proofs.WalkUses.{few_names, located_below}
 

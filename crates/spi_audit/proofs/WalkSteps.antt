@@ -16,7 +16,7 @@ use Rattle.spi_intern.proofs.Meanings.{means_keeps}
 use Rattle.spi_intern.proofs.Tables.{tells_map}
 use Rattle.spi_message.specs.Judging.{Numbered, Stands}
 use Rattle.spi_message.proofs.Standing.{stand_length}
-use Rattle.spi_audit.specs.declared.keys.Keys.{Keys}
+use Rattle.spi_count.specs.declared.keys.Keys.{Keys}
 use Rattle.spi_audit.specs.declared.notes.Note.{Note}
 use Rattle.spi_audit.specs.declared.asked.Binding.TheVariants.{Nothing}
 use Rattle.spi_audit.specs.declared.asked.Asked.{Asked}
@@ -24,11 +24,11 @@ use Rattle.spi_audit.specs.declared.asked.Asked.TheVariants as A
 use Rattle.spi_audit.specs.Fits.{Subject, of_process}
 use Rattle.spi_audit.specs.Audit.{MisfitAt}
 use Rattle.spi_audit.specs.Asked.{bound_none, Located}
-use Rattle.spi_audit.specs.Accounts.{with_keys}
+use Rattle.spi_count.specs.Keeping.{with_keys, GrowsTo}
 use Rattle.spi_audit.specs.Changes.{Change, change_of}
-use Rattle.spi_audit.specs.Notes.{NotedAs, noted_nothing, noted_empty, noted_same, noted_one, noted_two, noted_serve, noted_case, noted_check, noted_begin, noted_end, noted_many, noted_cast, noted_make, noted_both, noted_taken, AreNoted, are_noted_none, are_noted_next, GrowsTo, IsSmallNote, AreSmallNotes}
+use Rattle.spi_audit.specs.Notes.{NotedAs, noted_nothing, noted_empty, noted_same, noted_one, noted_two, noted_serve, noted_case, noted_check, noted_begin, noted_end, noted_many, noted_cast, noted_make, noted_both, noted_taken, AreNoted, are_noted_none, are_noted_next, IsSmallNote, AreSmallNotes}
 use Rattle.spi_audit.specs.Walking.{Trace, Led, led_none, later_none, later_next, Opens, opens_later, IsState, IsLed, Misfits, Steps}
-use Rattle.spi_audit.proofs.Kept.{key_keeps, have_keys_keep}
+use Rattle.spi_count.proofs.Kept.{key_keeps, have_keys_keep}
 use Rattle.spi_audit.proofs.Leading.{led_next, led_misfit, led_trace}
 use Rattle.spi_audit.proofs.Fitted.{fits_arity}
 

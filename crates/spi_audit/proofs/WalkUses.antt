@@ -20,7 +20,7 @@ use Rattle.spi_intern.specs.Meaning.{Keeps}
 use Rattle.spi_intern.proofs.Lists.{some_one, get_below}
 use Rattle.spi_message.specs.Judging.{Numbered, Stands, IsKept}
 use Rattle.spi_message.proofs.Standing.{stand_length}
-use Rattle.spi_audit.specs.declared.keys.Keys.{Keys}
+use Rattle.spi_count.specs.declared.keys.Keys.{Keys}
 use Rattle.spi_audit.specs.declared.notes.Note.{Note}
 use Rattle.spi_audit.specs.declared.notes.Note.TheVariants as N
 use Rattle.spi_audit.specs.declared.asked.Asked.{Asked}
@@ -30,12 +30,12 @@ use Rattle.spi_audit.specs.declared.asked.Premises.TheVariants.{OnePremise}
 use Rattle.spi_audit.specs.declared.walking.Fit.{Fit}
 use Rattle.spi_audit.specs.Fits.{Subject, of_message, of_process, plain, subsumed, Fits, fits_name, fits_unit, fits_unit_un, fits_pair, fits_pair_un, fits_inl, fits_inl_un, fits_inr, fits_inr_un, fits_enc, fits_enc_un, fits_hash, fits_sub}
 use Rattle.spi_audit.specs.Asked.{Located, IsBegun, Begins, AreBegun, begun_none, begun_next, AreOpen, open_message, open_processes, AnswersMessage, AnswersNode}
-use Rattle.spi_audit.specs.Accounts.{HaveKeys}
+use Rattle.spi_count.specs.Keeping.{HaveKeys}
 use Rattle.spi_audit.specs.Changes.{shape_change, form_change, prefix_change}
 use Rattle.spi_audit.specs.Notes.{NotedAs, noted_taken, NotesNode, AtomVec}
 use Rattle.spi_audit.specs.Walking.{FitsMessage, FitsNode}
-use Rattle.spi_audit.proofs.Opened.{name_none_prefix}
-use Rattle.spi_audit.proofs.Standing.{stands_kept}
+use Rattle.spi_message.proofs.Opened.{name_none_prefix}
+use Rattle.spi_message.proofs.Tested.{stands_kept}
 use Rattle.spi_audit.proofs.Leading.{asked_keeps, bound_keeps}
 
 -- a use that writes no effect, and one that writes one

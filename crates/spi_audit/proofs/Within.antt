@@ -9,20 +9,17 @@ use Rattle.spi_effect.proofs.Made.{is_within_sound, is_within_complete, and_true
 use Rattle.spi_intern.specs.declared.store.Store.{Store}
 use Rattle.spi_intern.proofs.Lists.{truths}
 use Rattle.spi_count.specs.Counts.{count_of, IsNothing}
-use Rattle.spi_count.specs.Sums.{name_bound, key_of, kind_of, message_of, part, Puts}
+use Rattle.spi_count.specs.Sums.{name_bound, key_of, kind_of, message_of, part, Puts, Below}
 use Rattle.spi_count.specs.declared.sum.AtomKind.{AtomKind}
 use Rattle.spi_count.specs.declared.sum.AtomKind.TheVariants.{End, Check, Many}
 use Rattle.spi_count.specs.declared.sum.Sum.{Sum}
 use Rattle.spi_count.proofs.Standing.{same_kind}
-use Rattle.std.proofs.lemmas.Bool.{eqb-true}
-use Rattle.spi_audit.specs.declared.keys.Keys.{Keys}
-use Rattle.spi_audit.specs.Accounts.{with_keys, IsKeyed, SumOf, HeldBy, outer}
-use Rattle.spi_audit.specs.Changes.{Below}
+use Rattle.std.proofs.lemmas.Bool.{eqb-true, cases_Bool}
+use Rattle.spi_count.specs.declared.keys.Keys.{Keys}
+use Rattle.spi_count.specs.Keeping.{with_keys, IsKeyed}
+use Rattle.spi_count.specs.Adding.{SumOf}
+use Rattle.spi_audit.specs.Accounts.{HeldBy, outer}
 use Rattle.spi_audit.proofs.Holding.{zero_or, count_in, below_none, last_free, bound_of, outer_true}
-
-cases_of : (b : Bool) → (b ≡ true) ⊎ (b ≡ false)
-cases_of true = inl refl
-cases_of false = inr refl
 
 -- what was taken out is counted in b no lower
 abbrev pub IsTaken : Sum → Sum → Sum → Type 0
@@ -57,7 +54,7 @@ module _ {s : Store} {keys : Keys} (kd : IsKeyed s keys) {a b : Sum} {es fs : Ef
           ⊎_elim (λ e. absurd (omega (arith, e, x, n, p))) (λ e. let l = e.1 in omega (arith, l, x, y)) (t (kind_of c) q)
 
   pub taken_more : (rest : Sum) (kind : AtomKind) (q n : ℕ) → IsTaken a b rest → 0 < n → count_of (part kind rest) q ≡ n → count_of (part kind b) q < n → false ≡ is_within es fs
-  taken_more rest kind q n t p e l = ⊎_elim (λ w. absurd (at kind (is_within_sound es fs w) t e l)) sym (cases_of (is_within es fs))
+  taken_more rest kind q n t p e l = ⊎_elim (λ w. absurd (at kind (is_within_sound es fs w) t e l)) sym (cases_Bool (is_within es fs))
     where
       one : (c : Atom) (i : ℕ) → with_keys s keys i (message_of c) → q ≡ key_of (name_bound (message_of c)) i → count c es ≤ count c fs → count_of (part (kind_of c) rest) q ≡ count_of (part (kind_of c) a) q → count_of (part (kind_of c) rest) q ≡ n → count_of (part (kind_of c) b) q < n → ⊥
       one c i g f w t e l =
@@ -84,7 +81,7 @@ pub within_is : {s : Store} {keys : Keys} → (k : ℕ) {sum : Sum} {names : BTr
 within_is k {sum} {names} {b} {es} fs h below none within t e = truths (none && within) (is_within es fs) to from
   where
     clean : none ≡ true → (a : Atom) → count a es ≡ count a h.inner
-    clean n a = ⊎_elim (λ l. ⊎_elim (λ z. z ∙ sym (h.outside a l)) (λ p. absurd (gone a l p)) (zero_or (count a es))) (λ l. sym (h.inside a l)) (cases_of (outer k a))
+    clean n a = ⊎_elim (λ l. ⊎_elim (λ z. z ∙ sym (h.outside a l)) (λ p. absurd (gone a l p)) (zero_or (count a es))) (λ l. sym (h.inside a l)) (cases_Bool (outer k a))
       where
         gone : (a : Atom) → outer k a ≡ true → 0 < count a es → ⊥
         gone a l p =

@@ -1,74 +1,20 @@
 -- Effects by counts, and what changes do to them. The atoms that have a name out of scope are held by their names alone.
-use Rattle.std.specs.Prelude.{◌≡◌, ℕ, suc, ◌<◌, ◌≤◌, Bool, true, false, not, ◌||◌, nat_lt, List, [], ◌∷◌, ◌++◌, nat_eq}
+use Rattle.std.specs.Prelude.{◌≡◌, ℕ, suc, ◌<◌, ◌≤◌, Bool, true, false, not, ◌||◌, nat_lt, List, [], ◌∷◌, ◌++◌}
 use Rattle.std.specs.BTreeMap.{BTreeMap}
-use Rattle.indexmap.specs.IndexMap.{get}
 use Rattle.spi_term.specs.Counts.{count}
-use Rattle.spi_term.specs.Term.{Message, Atom, ends, checks, many, Effect}
-use Rattle.spi_term.specs.Lists.{In}
+use Rattle.spi_term.specs.Term.{Message, Atom, Effect}
 use Rattle.spi_intern.specs.declared.store.Store.{Store}
-use Rattle.spi_intern.specs.declared.atoms.AtomId.{AtomId}
-use Rattle.spi_intern.specs.Table.{TellsAll}
-use Rattle.spi_intern.specs.Atoms.{SaysAtom}
-use Rattle.spi_intern.specs.Meaning.{NoneTwice}
 use Rattle.spi_effect.specs.Effect.{IsMany}
 use Rattle.spi_effect.specs.Made.{is_free, is_free_at, mentions, minus}
 use Rattle.spi_count.specs.Counts.{count_of}
-use Rattle.spi_count.specs.Sums.{name_bound, key_of, message_of, Stands}
+use Rattle.spi_count.specs.Sums.{name_bound, message_of}
 use Rattle.spi_count.specs.declared.sum.AtomKind.{AtomKind}
 use Rattle.spi_count.specs.declared.sum.AtomKind.TheVariants.{End, Check, Many}
 use Rattle.spi_count.specs.declared.sum.Sum.{Sum}
-use Rattle.spi_audit.specs.declared.keys.Keys.{Keys}
+use Rattle.spi_count.specs.declared.keys.Keys.{Keys}
 use Rattle.spi_audit.specs.declared.accounts.Account.{Account}
-use Rattle.spi_audit.specs.Keys.{Keyed, AreKeys}
-
--- the messages of a store that have their key among these
-abbrev pub with_keys : Store → Keys → ℕ → Message → Type 0
-with_keys s keys i m = Keyed s.messages (λ i. get nat_eq keys.keys i) i m
-
--- the keys are those of messages of the store, in which nothing has two numbers
-pub record IsKeyed (s : Store) (keys : Keys) : Type 0 where
-  pub once : NoneTwice s
-  pub keyed : AreKeys s.messages (λ i. get nat_eq keys.keys i)
-
--- the message has a number and a key
-abbrev pub HasKey : Store → Keys → Message → Type 0
-HasKey s keys m = (i : ℕ) × with_keys s keys i m
-
--- counts for an effect, by the numbers and keys
-abbrev pub SumOf : Store → Keys → Sum → Effect → Type 0
-SumOf s keys sum es = Stands (with_keys s keys) sum es
-
--- an atom whose message has a key goes in
-abbrev pub AddsAtom : Keys → AtomId → Sum → Sum → Type 0
-AddsAtom keys a old new =
-    (s : Store) (b : Atom) (es : Effect) → IsKeyed s keys → SaysAtom s.messages a b → HasKey s keys (message_of b) → SumOf s keys old es → SumOf s keys new (es ++ b ∷ [])
-
--- an atom goes out, where it stands there
-abbrev pub TakesAtom : Keys → AtomId → Sum → Sum → Type 0
-TakesAtom keys a old new =
-    (s : Store) (b : Atom) (es : Effect) → IsKeyed s keys → SaysAtom s.messages a b → SumOf s keys old es → SumOf s keys new (minus es (b ∷ []))
-
--- the same for the atoms of an effect
-abbrev pub HaveKeys : Store → Keys → Effect → Type 0
-HaveKeys s keys fs = (a : Atom) → In a fs → HasKey s keys (message_of a)
-
-abbrev pub AddsAll : Keys → List AtomId → Sum → Sum → Type 0
-AddsAll keys ids old new =
-    (s : Store) (fs es : Effect) → IsKeyed s keys → TellsAll (SaysAtom s.messages) ids fs → HaveKeys s keys fs → SumOf s keys old es → SumOf s keys new (es ++ fs)
-
-abbrev pub TakesAll : Keys → List AtomId → Sum → Sum → Type 0
-TakesAll keys ids old new =
-    (s : Store) (fs es : Effect) → IsKeyed s keys → TellsAll (SaysAtom s.messages) ids fs → SumOf s keys old es → SumOf s keys new (minus es fs)
-
--- an atom by its kind and its message
-abbrev pub atom_of : AtomKind → Message → Atom
-atom_of End m = ends m
-atom_of Check m = checks m
-atom_of Many m = many m
-
--- the key of a message of the store
-abbrev pub IsKey : Store → Keys → ℕ → Type 0
-IsKey s keys q = (i : ℕ) × (m : Message) × with_keys s keys i m × (q ≡ key_of (name_bound m) i)
+use Rattle.spi_count.specs.Keeping.{IsKeyed}
+use Rattle.spi_count.specs.Adding.{SumOf}
 
 -- An effect is held: the atoms that aren't loose by counts, the loose ones by the names that they have and by whether each
 -- is a `many`.

@@ -23,7 +23,7 @@ use Rattle.spi_audit.specs.declared.asked.Asked.TheVariants as A
 use Rattle.spi_audit.specs.declared.asked.Premises.{Premises}
 use Rattle.spi_audit.specs.declared.asked.Premises.TheVariants.{NoPremise, OnePremise, TwoPremises, ThreePremises}
 use Rattle.spi_audit.specs.Fits.{Subject, of_message, of_process, plain, Fits}
-use Rattle.spi_audit.specs.Forms.{enter, more, on_first, on_rest}
+use Rattle.spi_message.specs.Forms.{enter, more, on_first, on_rest}
 
 abbrev pub listed : Premises → List Asked
 listed NoPremise = []
@@ -128,17 +128,11 @@ pub record IsPairOf (s : Store) (t a b : TyId) : Type 0 where
 pub record IsSumOf (s : Store) (t a b : TyId) : Type 0 where
   pub at : (u : Ty) → Means s t.place u → (v w : Ty) × (u ≡ sum_ty v w) × Means s a.place v × Means s b.place w
 
-pub record IsKeyOf (s : Store) (t a : TyId) : Type 0 where
-  pub at : (u : Ty) → Means s t.place u → (v : Ty) × (u ≡ key v) × Means s a.place v
-
 pub record IsNoPair (s : Store) (t : TyId) : Type 0 where
   pub at : (u v w : Ty) → Means s t.place u → u ≡ pair_ty v w → ⊥
 
 pub record IsNoSum (s : Store) (t : TyId) : Type 0 where
   pub at : (u v w : Ty) → Means s t.place u → u ≡ sum_ty v w → ⊥
-
-pub record IsNoKey (s : Store) (t : TyId) : Type 0 where
-  pub at : (u v : Ty) → Means s t.place u → u ≡ key v → ⊥
 
 -- the T of a message that is a name of type Key(T)
 pub record IsKeyAt (j : Numbered) (m : Message) (t : TyId) : Type 0 where

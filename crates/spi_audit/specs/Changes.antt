@@ -1,11 +1,10 @@
 -- What uses do to the effects of processes: the effects that stand behind a use, of each process that is still open there,
 -- and where a use pays. Computed, for uses that fit.
 use Rattle.std.specs.Prelude.{◌≡◌, ℕ, suc, ◌≤◌, Bool, true, not, ◌&&◌, ◌||◌, List, [], ◌∷◌, ◌++◌, length, Option, Some, None, if◌then◌else◌, ⊤}
-use Rattle.spi_term.specs.Term.{Message, name, Atom, ends, checks, many, Effect, Ty, nonce, Prefix, Recvs, Serves, Splits, Selects, Decrypts, Checks, Begins, Ends, EndManys, Casts, Makes, Cases, Pars, Process, leaf, prefix, fork}
-use Rattle.spi_term.specs.Lists.{In}
+use Rattle.spi_term.specs.Term.{Message, name, ends, checks, many, Effect, Ty, nonce, Prefix, Recvs, Serves, Splits, Selects, Decrypts, Checks, Begins, Ends, EndManys, Casts, Makes, Cases, Pars, Process, leaf, prefix, fork}
 use Rattle.spi_term.specs.Spelling.{Shape, leaf_at, prefix_at, fork_at}
 use Rattle.spi_effect.specs.Made.{are_many, minus, greater, mentions, is_within}
-use Rattle.spi_count.specs.Sums.{name_bound, message_of}
+use Rattle.spi_count.specs.Sums.{name_bound, Below}
 use Rattle.spi_rules.specs.Environment.{Env}
 use Rattle.spi_rules.specs.Derivations.{RuleUse}
 use Rattle.spi_rules.specs.declared.rule.Rule.{Rule}
@@ -182,10 +181,6 @@ own (casted k fs) = k ∷ []
 own (made k) = k ∷ []
 own (summed k) = k ∷ []
 own (subsumed_to k fs) = k ∷ []
-
--- each name of the effect is below n
-abbrev pub Below : ℕ → Effect → Type 0
-Below n es = (a : Atom) → In a es → name_bound (message_of a) ≤ n
 
 -- what a change says is in its scope
 abbrev pub IsScoped : Change → Type 0

@@ -1,10 +1,8 @@
 pub mod Fits
 pub mod Paying
 pub mod Audit
-pub mod Forms
 pub mod Changes
 pub mod Asked
-pub mod Keys
 pub mod Accounts
 pub mod Notes
 pub mod Walking

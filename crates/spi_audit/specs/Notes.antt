@@ -1,7 +1,6 @@
 -- What the forward pass keeps of uses by numbers, and what that stands for.
-use Rattle.std.specs.Prelude.{◌≡◌, ℕ, ◌≤◌, ⊤, Bool, true, false, slice_get, List, [], ◌∷◌, ◌++◌, reverse, Option, Some, None, nat_eq, Vec}
+use Rattle.std.specs.Prelude.{◌≡◌, ℕ, ◌≤◌, ⊤, Bool, slice_get, List, [], ◌∷◌, ◌++◌, reverse, Option, Some, None, Vec}
 use Rattle.std.specs.declared.alloc.Global.{Global}
-use Rattle.indexmap.specs.IndexMap.{get}
 use Rattle.spi_term.specs.Term.{Message, name, Atom, Effect, un, nonce}
 use Rattle.spi_term.specs.Spelling.{Shape}
 use Rattle.spi_rules.specs.Environment.{Env}
@@ -15,15 +14,14 @@ use Rattle.spi_intern.specs.declared.types.TyId.{TyId}
 use Rattle.spi_intern.specs.declared.atoms.AtomId.{AtomId}
 use Rattle.spi_intern.specs.Table.{TellsAll}
 use Rattle.spi_intern.specs.Atoms.{SaysAtom}
-use Rattle.spi_intern.specs.Meaning.{Means, Keeps}
+use Rattle.spi_intern.specs.Meaning.{Means}
 use Rattle.spi_message.specs.Judging.{Numbered, Stands}
-use Rattle.spi_message.specs.Tests.{nonce_of}
-use Rattle.spi_audit.specs.declared.keys.Keys.{Keys}
+use Rattle.spi_count.specs.declared.keys.Keys.{Keys}
 use Rattle.spi_audit.specs.declared.accounts.Account.{Account}
 use Rattle.spi_audit.specs.declared.notes.Note.{Note}
 use Rattle.spi_audit.specs.declared.notes.Note.TheVariants as N
-use Rattle.spi_audit.specs.Keys.{AreKeys}
-use Rattle.spi_audit.specs.Accounts.{with_keys, HasKey, HaveKeys, IsKeyed, Held, Holds}
+use Rattle.spi_count.specs.Keeping.{with_keys, HasKey, HaveKeys, IsKeyed, AreKept}
+use Rattle.spi_audit.specs.Accounts.{Held, Holds}
 use Rattle.spi_audit.specs.Changes.{Change, nothing_done, no_effect, same_effect, one_left, two_left, served, chosen, checked, begun, ended, ended_many, casted, made, summed, subsumed_to, shape_change, top, after, pays, before, own, scope_in, IsScoped, AreScoped}
 
 abbrev pub AtomVec : Type 0
@@ -51,30 +49,9 @@ pub data AreNoted (s : Store) (keys : Keys) : List Change → List Note → Type
   are_noted_none : AreNoted s keys [] []
   are_noted_next : {c : Change} {o : Note} {cs : List Change} {os : List Note} → NotedAs s keys c o → AreNoted s keys cs os → AreNoted s keys (c ∷ cs) (o ∷ os)
 
--- each key is that of the message with its number
-abbrev pub AreKept : Store → Keys → Type 0
-AreKept s ks = AreKeys s.messages (λ i. get nat_eq ks.keys i)
-
--- what has a key keeps it
-pub record GrowsTo (s : Store) (ks : Keys) (r : Store) (ls : Keys) : Type 0 where
-  pub store : Keeps s r
-  pub keys : (i k : ℕ) → get nat_eq ks.keys i ≡ Some k → get nat_eq ls.keys i ≡ Some k
-  pub are : AreKept r ls
-
 -- what is kept of a node's use in each environment that the judge stood for
 pub record NotesNode (old new : Numbered) (ks : Keys) (rule : Rule) (x : Shape) (o : Note) : Type 0 where
   pub at : (e : Env) → Stands old e → NotedAs new.store ks (shape_change rule e x) o
-
--- the type of a nonce, by its number
-pub record IsNonceAt (j : Numbered) (m : Message) (t : TyId) : Type 0 where
-  pub at : (e : Env) → Stands j e → (es : Effect) × (nonce_of e m ≡ Some es) × Means j.store t.place (nonce es)
-
-pub record IsNoNonce (j : Numbered) (m : Message) : Type 0 where
-  pub at : (e : Env) → Stands j e → nonce_of e m ≡ None
-
--- the answer is that of the test in each environment that the judge stands for
-pub record IsTest (j : Numbered) (test : Env → Bool) (b : Bool) : Type 0 where
-  pub at : (e : Env) → Stands j e → b ≡ test e
 
 -- the atoms of a written effect by numbers, where it is good
 abbrev pub TakesEffect : Numbered → Numbered → Keys → Effect → Option AtomVec → Type 0
@@ -173,7 +150,3 @@ TakesUn old new ks m (Some id) = with_keys new.store ks id.place m × ((e : Env)
 abbrev pub TakesAtomic : Numbered → Numbered → Keys → Atom → Option AtomId → Type 0
 TakesAtomic old new ks a None = (e : Env) → Stands old e → GoodEffect [] e (a ∷ []) → ⊥
 TakesAtomic old new ks a (Some id) = SaysAtom new.store.messages id a × HasKey new.store ks (message_of a) × ((e : Env) → Stands old e → GoodEffect [] e (a ∷ []))
-
-abbrev pub is_nonce : Option Effect → Bool
-is_nonce None = false
-is_nonce (Some es) = true

@@ -13,7 +13,7 @@ use Rattle.spi_message.specs.Judging.{Numbered, Stands}
 use Rattle.spi_audit.specs.declared.asked.Binding.{Binding}
 use Rattle.spi_audit.specs.declared.asked.Asked.{Asked}
 use Rattle.spi_audit.specs.declared.asked.Asked.TheVariants as A
-use Rattle.spi_audit.specs.declared.keys.Keys.{Keys}
+use Rattle.spi_count.specs.declared.keys.Keys.{Keys}
 use Rattle.spi_audit.specs.declared.notes.Note.{Note}
 use Rattle.spi_audit.specs.Fits.{Subject, of_message, of_process, Fits}
 use Rattle.spi_audit.specs.declared.notes.Note.TheVariants as N
@@ -121,7 +121,3 @@ Steps j ks ss u asked (t ∷ ts) o = (ps : List Subject) × Fits u t ps × IsSta
 abbrev pub IsWalked : Store → Keys → Subject → List RuleUse → Walk → Type 0
 IsWalked s ks root us (W.Misfit i) = MisfitAt (root ∷ []) us i
 IsWalked s ks root us (W.Fitting notes) = (cs : List Change) × Trace (root ∷ []) us cs × AreNoted s ks cs notes.items × AreSmallNotes notes.items × (length notes.items ≡ length us)
-
--- each environment of the old judge has this one in the new judge
-pub record Turns (old new : Numbered) (f : Env → Env) : Type 0 where
-  pub at : (e : Env) → Stands old e → Stands new (f e)

@@ -2,23 +2,21 @@
 // an atom can't be taken out any more, and only its names still count.
 ghost use Rattle.std.specs.Prelude.{◌≡◌, ℕ, suc, max, ◌≤◌, ◌<◌, ◌&&◌, not, true, false, nat_eq, [], ◌∷◌, ◌++◌, length, slice_get, Some, IfOk, OnOk};
 ghost use Rattle.spi_term.specs.Term as Term;
-ghost use Rattle.spi_term.specs.Term.{Message, Atom, Effect, name, checks, ends, many, nonce};
-ghost use Rattle.spi_effect.specs.Effect.{Within};
-ghost use Rattle.spi_effect.specs.Made.{are_many, minus, greater, mentions, is_within};
+ghost use Rattle.spi_term.specs.Term.{Message, Atom, Effect, nonce};
+ghost use Rattle.spi_effect.specs.Made.{are_many, greater, mentions, is_within};
 ghost use Rattle.spi_intern.specs.declared.store.Store.{Store};
 ghost use Rattle.spi_intern.specs.Table.{TellsAll};
 ghost use Rattle.spi_intern.specs.Atoms.{SaysAtom};
 ghost use Rattle.spi_intern.specs.Meaning.{Means};
 ghost use Rattle.spi_count.specs.Counts.{count_of};
-ghost use Rattle.spi_count.specs.Sums.{name_bound, message_of};
-ghost use Rattle.spi_audit.specs.declared.keys.Keys.{Keys};
-ghost use Rattle.spi_audit.specs.Accounts.{with_keys, IsKeyed, IsKey, HasKey, HaveKeys, SumOf, Held, IsHeld, Marks, IsCut, lasting_with, LeavesOne, LeavesTwo, HoldsMore, HoldsLess};
-ghost use Rattle.spi_audit.specs.Changes.{Below};
+ghost use Rattle.spi_count.specs.Sums.{name_bound, message_of, Below};
+ghost use Rattle.spi_count.specs.declared.keys.Keys.{Keys};
+ghost use Rattle.spi_count.specs.Keeping.{IsKeyed, HasKey, HaveKeys};
+ghost use Rattle.spi_count.specs.Adding.{IsKey, SumOf};
+ghost use Rattle.spi_audit.specs.Accounts.{Held, IsHeld, Marks, IsCut, lasting_with, LeavesOne, LeavesTwo, HoldsMore, HoldsLess};
 
 use crate::NoMemory;
-use crate::keys::Keys;
-use crate::sums::{add_atom, add_atoms, add_type, take_atom, take_type};
-use spi_count::{AtomKind, Counts, Sum};
+use spi_count::{AtomKind, Counts, Keys, Sum, add_atom, add_atoms, add_type, take_atom, take_type};
 use spi_intern::{AtomId, MsgId, MsgPart, Store, TyId};
 use std::alloc::Global;
 use std::mem::replace;

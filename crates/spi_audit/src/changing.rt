@@ -3,8 +3,9 @@ ghost use Rattle.std.specs.Prelude.{◌≡◌, ℕ, suc, true, ◌<◌, ◌^◌,
 ghost use Rattle.spi_term.specs.Term.{Effect};
 ghost use Rattle.spi_effect.specs.Made.{mentions};
 ghost use Rattle.spi_intern.specs.declared.store.Store.{Store};
-ghost use Rattle.spi_audit.specs.declared.keys.Keys.{Keys};
-ghost use Rattle.spi_audit.specs.Accounts.{IsKeyed, Held, IsHeld};
+ghost use Rattle.spi_count.specs.declared.keys.Keys.{Keys};
+ghost use Rattle.spi_count.specs.Keeping.{IsKeyed};
+ghost use Rattle.spi_audit.specs.Accounts.{Held, IsHeld};
 ghost use Rattle.spi_audit.specs.Changes.{Change, run, first_unpaid, AreScoped, top};
 ghost use Rattle.spi_audit.specs.Notes.{AreNoted, ChangesOne, ChangesAll, IsBefore, IsBeforeOne, IsSmallNote, IsUnaryNote, AreSmallNotes, IsRooted};
 
@@ -13,8 +14,8 @@ use crate::accounts::{
     Account, both, drop_atom, drop_type, empty_account, leave_one, leave_two, put_atom, put_type,
     serve, written_over,
 };
-use crate::keys::Keys;
 use crate::notes::Note;
+use spi_count::Keys;
 use spi_intern::{AtomId, MsgId, Store, TyId};
 use std::alloc::Global;
 

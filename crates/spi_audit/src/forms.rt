@@ -1,50 +1,23 @@
 // Uses of the rules of processes, form by form.
-ghost use Rattle.std.specs.Prelude.{◌≡◌, ◌+◌, ◌^◌, ◌<◌, ◌≤◌, length, IfOk};
+ghost use Rattle.std.specs.Prelude.{◌+◌, ◌^◌, ◌<◌, ◌≤◌, length, IfOk};
 ghost use Rattle.spi_term.specs.Term as Term;
 ghost use Rattle.spi_term.specs.Spelling.{HasSmallParts, ty_nodes};
 ghost use Rattle.spi_term.specs.View.{message, ty as type_of, shape_of};
 ghost use Rattle.spi_message.specs.Judging.{IsKept};
-ghost use Rattle.spi_message.specs.Tests.{labelled, good};
 ghost use Rattle.spi_audit.specs.Fits.{plain};
 ghost use Rattle.spi_audit.specs.Asked.{AnswersLeaf, AnswersPrefix, AnswersFork, AnswersNode, TakesUntrusted, TakesGood, TakesLabel};
-ghost use Rattle.spi_audit.specs.Notes.{IsTest};
 
 use crate::NoMemory;
 use crate::asked::Premises;
-use crate::nonces::nonce_at;
-use crate::opening::{
-    asked, asked_untrusted, begun, begun_one, begun_opened, begun_two, key_type, pair_type,
-    sum_type,
-};
-use spi_message::Judge;
+use crate::opening::{asked, asked_untrusted, begun, begun_one, begun_opened, begun_two};
 use spi_message::slices::{is_fresh_type, is_un_type};
+use spi_message::{Judge, is_good, is_labelled, key_type, nonce_at, pair_type, sum_type};
 use spi_rules::Rule;
 use spi_term::{Form, Msg, Node, Ty};
 use std::alloc::Global;
 
-// Whether the type is good.
-#[tactic(auto, using(crate::proofs::Standing::kept_more))]
-fn is_good(alloc: Global, judge: &mut Judge, t: &Ty) -> Result<bool, NoMemory>
-    requires { length judge.old.types + ty_nodes (type_of t.now) < 2 ^ 32 }
-    ensures answer { IfOk result (IsTest judge.old (λ e. good e (type_of t.now))) }
-    ensures kept { IsKept judge.old judge.new }
-{
-    let id = judge.ty(alloc, t)?;
-    judge.good_type(alloc, id)
-}
-
-// Whether the message is a label.
-#[tactic(auto, using(crate::proofs::Standing::kept_more))]
-fn is_labelled(alloc: Global, judge: &mut Judge, m: &Msg) -> Result<bool, NoMemory>
-    ensures answer { IfOk result (IsTest judge.old (labelled (message m.now))) }
-    ensures kept { IsKept judge.old judge.new }
-{
-    let id = judge.message(m)?;
-    judge.is_label(alloc, id)
-}
-
 // A process under one untrusted name.
-#[tactic(auto, using(crate::proofs::Standing::kept_more, crate::proofs::Standing::kept_same))]
+#[tactic(auto, using(spi_message::proofs::Tested::kept_more, spi_message::proofs::Tested::kept_same))]
 fn takes_untrusted(
     alloc: Global,
     judge: &mut Judge,
@@ -65,7 +38,7 @@ fn takes_untrusted(
 }
 
 // A process behind a label.
-#[tactic(auto, using(crate::proofs::Standing::kept_more))]
+#[tactic(auto, using(spi_message::proofs::Tested::kept_more))]
 fn takes_label(
     alloc: Global,
     judge: &mut Judge,
@@ -83,7 +56,7 @@ fn takes_label(
     }
 }
 
-#[tactic(auto, using(crate::proofs::Standing::kept_more, crate::proofs::Standing::kept_same))]
+#[tactic(auto, using(spi_message::proofs::Tested::kept_more, spi_message::proofs::Tested::kept_same))]
 fn of_send(
     alloc: Global,
     judge: &mut Judge,
@@ -114,7 +87,7 @@ fn of_stop(judge: &Judge, rule: Rule) -> Option<Premises>
     }
 }
 
-#[tactic(auto, using(crate::proofs::Standing::kept_same))]
+#[tactic(auto, using(spi_message::proofs::Tested::kept_same))]
 fn of_recv(
     alloc: Global,
     judge: &mut Judge,
@@ -132,7 +105,7 @@ fn of_recv(
     }
 }
 
-#[tactic(auto, using(crate::proofs::Standing::kept_same))]
+#[tactic(auto, using(spi_message::proofs::Tested::kept_same))]
 fn of_serve(
     alloc: Global,
     judge: &mut Judge,
@@ -150,7 +123,7 @@ fn of_serve(
     }
 }
 
-#[tactic(auto, using(crate::proofs::Standing::kept_more, crate::proofs::Standing::kept_same))]
+#[tactic(auto, using(spi_message::proofs::Tested::kept_more, spi_message::proofs::Tested::kept_same))]
 fn split_typed(
     alloc: Global,
     judge: &mut Judge,
@@ -172,7 +145,7 @@ fn split_typed(
     Ok(Some(Premises::TwoPremises(pair, next)))
 }
 
-#[tactic(auto, using(crate::proofs::Standing::kept_more, crate::proofs::Standing::kept_same))]
+#[tactic(auto, using(spi_message::proofs::Tested::kept_more, spi_message::proofs::Tested::kept_same))]
 fn split_untrusted(
     alloc: Global,
     judge: &mut Judge,
@@ -195,7 +168,7 @@ fn split_untrusted(
     Ok(Some(Premises::TwoPremises(pair, next)))
 }
 
-#[tactic(auto, using(crate::proofs::Standing::kept_same))]
+#[tactic(auto, using(spi_message::proofs::Tested::kept_same))]
 fn of_split(
     alloc: Global,
     judge: &mut Judge,
@@ -216,7 +189,7 @@ fn of_split(
     }
 }
 
-#[tactic(auto, using(crate::proofs::Standing::kept_more, crate::proofs::Standing::kept_same))]
+#[tactic(auto, using(spi_message::proofs::Tested::kept_more, spi_message::proofs::Tested::kept_same))]
 fn select_typed(
     alloc: Global,
     judge: &mut Judge,
@@ -240,7 +213,7 @@ fn select_typed(
     Ok(Some(Premises::ThreePremises(pair, part, next)))
 }
 
-#[tactic(auto, using(crate::proofs::Standing::kept_more, crate::proofs::Standing::kept_same))]
+#[tactic(auto, using(spi_message::proofs::Tested::kept_more, spi_message::proofs::Tested::kept_same))]
 fn select_untrusted(
     alloc: Global,
     judge: &mut Judge,
@@ -265,7 +238,7 @@ fn select_untrusted(
     Ok(Some(Premises::ThreePremises(pair, part, next)))
 }
 
-#[tactic(auto, using(crate::proofs::Standing::kept_same))]
+#[tactic(auto, using(spi_message::proofs::Tested::kept_same))]
 fn of_select(
     alloc: Global,
     judge: &mut Judge,
@@ -287,7 +260,7 @@ fn of_select(
     }
 }
 
-#[tactic(auto, using(crate::proofs::Standing::kept_more, crate::proofs::Standing::kept_same))]
+#[tactic(auto, using(spi_message::proofs::Tested::kept_more, spi_message::proofs::Tested::kept_same))]
 fn branch_typed(
     alloc: Global,
     judge: &mut Judge,
@@ -314,7 +287,7 @@ fn branch_typed(
     Ok(Some(Premises::ThreePremises(sum, first, rest)))
 }
 
-#[tactic(auto, using(crate::proofs::Standing::kept_more, crate::proofs::Standing::kept_same))]
+#[tactic(auto, using(spi_message::proofs::Tested::kept_more, spi_message::proofs::Tested::kept_same))]
 fn branch_untrusted(
     alloc: Global,
     judge: &mut Judge,
@@ -339,7 +312,7 @@ fn branch_untrusted(
     Ok(Some(Premises::ThreePremises(sum, first, rest)))
 }
 
-#[tactic(auto, using(crate::proofs::Standing::kept_same))]
+#[tactic(auto, using(spi_message::proofs::Tested::kept_same))]
 fn of_branch(
     alloc: Global,
     judge: &mut Judge,
@@ -370,7 +343,7 @@ fn of_par(judge: &Judge, rule: Rule, first: u32, rest: u32) -> Option<Premises>
     }
 }
 
-#[tactic(auto, using(crate::proofs::Standing::kept_more, crate::proofs::Standing::kept_same))]
+#[tactic(auto, using(spi_message::proofs::Tested::kept_more, spi_message::proofs::Tested::kept_same))]
 fn decrypt_typed(
     alloc: Global,
     judge: &mut Judge,
@@ -393,7 +366,7 @@ fn decrypt_typed(
     Ok(Some(Premises::ThreePremises(sealed, by, next)))
 }
 
-#[tactic(auto, using(crate::proofs::Standing::kept_more, crate::proofs::Standing::kept_same))]
+#[tactic(auto, using(spi_message::proofs::Tested::kept_more, spi_message::proofs::Tested::kept_same))]
 fn decrypt_untrusted(
     alloc: Global,
     judge: &mut Judge,
@@ -414,7 +387,7 @@ fn decrypt_untrusted(
     Ok(Some(Premises::ThreePremises(sealed, by, next)))
 }
 
-#[tactic(auto, using(crate::proofs::Standing::kept_same))]
+#[tactic(auto, using(spi_message::proofs::Tested::kept_same))]
 fn of_decrypt(
     alloc: Global,
     judge: &mut Judge,
@@ -435,7 +408,7 @@ fn of_decrypt(
     }
 }
 
-#[tactic(auto, using(crate::proofs::Standing::kept_more, crate::proofs::Standing::kept_same))]
+#[tactic(auto, using(spi_message::proofs::Tested::kept_more, spi_message::proofs::Tested::kept_same))]
 fn check_typed(
     alloc: Global,
     judge: &mut Judge,
@@ -457,7 +430,7 @@ fn check_typed(
     }
 }
 
-#[tactic(auto, using(crate::proofs::Standing::kept_more))]
+#[tactic(auto, using(spi_message::proofs::Tested::kept_more))]
 fn check_untrusted(
     alloc: Global,
     judge: &mut Judge,
@@ -474,7 +447,7 @@ fn check_untrusted(
     Ok(Some(Premises::ThreePremises(first, part, next)))
 }
 
-#[tactic(auto, using(crate::proofs::Standing::kept_same))]
+#[tactic(auto, using(spi_message::proofs::Tested::kept_same))]
 fn of_check(
     alloc: Global,
     judge: &mut Judge,
@@ -493,7 +466,7 @@ fn of_check(
     }
 }
 
-#[tactic(auto, using(crate::proofs::Standing::kept_same))]
+#[tactic(auto, using(spi_message::proofs::Tested::kept_same))]
 fn of_begin(
     alloc: Global,
     judge: &mut Judge,
@@ -510,7 +483,7 @@ fn of_begin(
     }
 }
 
-#[tactic(auto, using(crate::proofs::Standing::kept_same))]
+#[tactic(auto, using(spi_message::proofs::Tested::kept_same))]
 fn of_end(
     alloc: Global,
     judge: &mut Judge,
@@ -527,7 +500,7 @@ fn of_end(
     }
 }
 
-#[tactic(auto, using(crate::proofs::Standing::kept_same))]
+#[tactic(auto, using(spi_message::proofs::Tested::kept_same))]
 fn of_end_many(
     alloc: Global,
     judge: &mut Judge,
@@ -544,7 +517,7 @@ fn of_end_many(
     }
 }
 
-#[tactic(auto, using(crate::proofs::Standing::kept_more, crate::proofs::Standing::kept_same))]
+#[tactic(auto, using(spi_message::proofs::Tested::kept_more, spi_message::proofs::Tested::kept_same))]
 fn cast_good(
     alloc: Global,
     judge: &mut Judge,
@@ -564,7 +537,7 @@ fn cast_good(
     Ok(Some(Premises::TwoPremises(first, next)))
 }
 
-#[tactic(auto, using(crate::proofs::Standing::kept_same))]
+#[tactic(auto, using(spi_message::proofs::Tested::kept_same))]
 fn cast_typed(
     alloc: Global,
     judge: &mut Judge,
@@ -582,7 +555,7 @@ fn cast_typed(
     }
 }
 
-#[tactic(auto, using(crate::proofs::Standing::kept_same))]
+#[tactic(auto, using(spi_message::proofs::Tested::kept_same))]
 fn of_cast(
     alloc: Global,
     judge: &mut Judge,
@@ -602,7 +575,7 @@ fn of_cast(
     }
 }
 
-#[tactic(auto, using(crate::proofs::Standing::kept_more, crate::proofs::Standing::kept_same))]
+#[tactic(auto, using(spi_message::proofs::Tested::kept_more, spi_message::proofs::Tested::kept_same))]
 fn new_good(
     alloc: Global,
     judge: &mut Judge,
@@ -623,7 +596,7 @@ fn new_good(
     Ok(Some(Premises::OnePremise(next)))
 }
 
-#[tactic(auto, using(crate::proofs::Standing::kept_same))]
+#[tactic(auto, using(spi_message::proofs::Tested::kept_same))]
 fn of_fresh(
     alloc: Global,
     judge: &mut Judge,
@@ -642,7 +615,7 @@ fn of_fresh(
 }
 
 /// The premises of a use that is asked of the process at a node, where it fits and isn't one of `ProcSub`.
-#[tactic(auto, using(crate::proofs::Standing::kept_same))]
+#[tactic(auto, using(spi_message::proofs::Tested::kept_same))]
 pub fn node_premises(
     alloc: Global,
     judge: &mut Judge,

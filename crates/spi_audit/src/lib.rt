@@ -3,12 +3,11 @@
 
 ghost use Rattle.std.specs.Prelude.{◌<◌, ◌^◌, ℕ, List, [], ◌∷◌, IfOk, vec_len};
 ghost use Rattle.spi_term.specs.Term as Term;
-ghost use Rattle.spi_term.specs.Term.{Process as ProcessTerm};
-ghost use Rattle.spi_rules.specs.Derivations.{RuleUse as RuleUseTerm};
 ghost use Rattle.spi_rules.specs.Deriv.{rule_uses, IsTree};
-ghost use Rattle.spi_audit.specs.Audit.{IsAudited, AreOneAnswer};
+ghost use Rattle.spi_audit.specs.Audit.{IsAudited};
 ghost use Rattle.spi_audit.specs.Accounts.{IsHeld, Held};
-ghost use Rattle.spi_audit.specs.Changes.{Change, AreScoped, Below};
+ghost use Rattle.spi_audit.specs.Changes.{Change, AreScoped};
+ghost use Rattle.spi_count.specs.Sums.{Below};
 ghost use Rattle.spi_audit.specs.Notes.{AreNoted, AreSmallNotes, IsRooted};
 ghost use Rattle.spi_audit.specs.Settled.{IsLeft, IsSettled};
 
@@ -17,25 +16,20 @@ mod asked;
 mod audited;
 mod changing;
 mod forms;
-mod keys;
 mod laws;
 mod messages;
-mod nonces;
 mod notes;
 mod noting;
 mod opening;
-mod reading;
-mod sums;
 mod walking;
 
 use crate::accounts::Account;
 use crate::changing::account;
-use crate::keys::Keys;
 use crate::notes::Note;
-use crate::reading::effect_of_sum;
 use crate::walking::{Walk, walk_uses};
 pub use audited::Audited;
 pub use laws::{judged_is_proved, one_audit};
+use spi_count::{Keys, effect_of_sum};
 use spi_intern::Store;
 use spi_message::Judge;
 use spi_rules::Deriv;

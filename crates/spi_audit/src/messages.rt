@@ -6,12 +6,13 @@ ghost use Rattle.spi_intern.specs.Given.{IsGiven};
 ghost use Rattle.spi_intern.specs.Meaning.{Means};
 ghost use Rattle.spi_message.specs.Judging.{IsKept};
 ghost use Rattle.spi_message.specs.Tests.{is_un, is_unit};
-ghost use Rattle.spi_audit.specs.Asked.{AnswersPart, AnswersMessage, IsPairOf, IsSumOf, IsKeyOf, IsNoPair, IsNoSum, IsNoKey, IsKeyAt, IsNoKeyAt};
+ghost use Rattle.spi_audit.specs.Asked.{AnswersPart, AnswersMessage, IsPairOf, IsSumOf, IsNoPair, IsNoSum, IsKeyAt, IsNoKeyAt};
 
 use crate::NoMemory;
 use crate::asked::{Asked, Premises};
 use spi_intern::{MsgId, MsgPart, TyId, TyPart};
 use spi_message::Judge;
+use spi_message::heads::{is_un_type, is_unit_type, payload_of};
 use spi_rules::Rule;
 use std::alloc::Global;
 
@@ -19,29 +20,15 @@ fn is_untrusted(judge: &Judge, t: TyId) -> bool
     requires { IsGiven judge.now.store t.place }
     ensures { (u : TypeTerm) → Means judge.now.store t.place u → result ≡ is_un u }
 {
-    match judge.store().ty_part(t) {
-        TyPart::Un => true,
-        TyPart::Unit => false,
-        TyPart::Pair(_, _) => false,
-        TyPart::Sum(_, _) => false,
-        TyPart::Key(_) => false,
-        TyPart::Nonce(_) => false,
-    }
+    is_un_type(judge.store(), t)
 }
 
 // Whether the type is `()`, or `Un`.
-fn is_unit_type(judge: &Judge, t: TyId) -> bool
+fn is_unit(judge: &Judge, t: TyId) -> bool
     requires { IsGiven judge.now.store t.place }
     ensures { (u : TypeTerm) → Means judge.now.store t.place u → result ≡ is_unit u }
 {
-    match judge.store().ty_part(t) {
-        TyPart::Un => true,
-        TyPart::Unit => true,
-        TyPart::Pair(_, _) => false,
-        TyPart::Sum(_, _) => false,
-        TyPart::Key(_) => false,
-        TyPart::Nonce(_) => false,
-    }
+    is_unit_type(judge.store(), t)
 }
 
 fn pair_parts(judge: &Judge, t: TyId) -> Option<(TyId, TyId)>
@@ -74,21 +61,6 @@ fn sum_parts(judge: &Judge, t: TyId) -> Option<(TyId, TyId)>
     }
 }
 
-fn payload_of(judge: &Judge, t: TyId) -> Option<TyId>
-    requires { IsGiven judge.now.store t.place }
-    ensures some { IfSome result (IsKeyOf judge.now.store t) }
-    ensures none { IfNone result (IsNoKey judge.now.store t) }
-{
-    match judge.store().ty_part(t) {
-        TyPart::Un => None,
-        TyPart::Unit => None,
-        TyPart::Pair(_, _) => None,
-        TyPart::Sum(_, _) => None,
-        TyPart::Key(payload) => Some(payload),
-        TyPart::Nonce(_) => None,
-    }
-}
-
 // The payload of the type of a name.
 fn payload_at(judge: &Judge, x: u32) -> Option<TyId>
     ensures some { IfSome result (IsKeyAt judge.now (name x)) }
@@ -96,7 +68,7 @@ fn payload_at(judge: &Judge, x: u32) -> Option<TyId>
 {
     judge.stands_for_one();
     if x < judge.len() {
-        payload_of(judge, judge.at(x))
+        payload_of(judge.store(), judge.at(x))
     } else {
         None
     }
@@ -144,7 +116,7 @@ fn unit_typed(judge: &Judge, t: TyId) -> Option<Premises>
     if is_untrusted(judge, t) {
         return None;
     }
-    if is_unit_type(judge, t) {
+    if is_unit(judge, t) {
         Some(Premises::NoPremise)
     } else {
         None
@@ -298,7 +270,7 @@ fn of_unit(judge: &Judge, rule: Rule, t: TyId) -> Option<Premises>
     }
 }
 
-#[tactic(auto, using(crate::proofs::Standing::kept_same))]
+#[tactic(auto, using(spi_message::proofs::Tested::kept_same))]
 fn of_pair(
     alloc: Global,
     judge: &mut Judge,
@@ -353,7 +325,7 @@ fn of_sealed(judge: &Judge, rule: Rule, a: MsgId, b: MsgId, t: TyId) -> Option<P
     }
 }
 
-#[tactic(auto, using(crate::proofs::Standing::kept_same))]
+#[tactic(auto, using(spi_message::proofs::Tested::kept_same))]
 fn of_hash(
     alloc: Global,
     judge: &mut Judge,
@@ -373,7 +345,7 @@ fn of_hash(
 }
 
 /// The premises of a use that is asked whether the message has the type, where it fits.
-#[tactic(auto, using(crate::proofs::Standing::kept_same))]
+#[tactic(auto, using(spi_message::proofs::Tested::kept_same))]
 pub fn message_premises(
     alloc: Global,
     judge: &mut Judge,

@@ -3,66 +3,24 @@ ghost use Rattle.std.specs.Prelude.{◌≡◌, ℕ, IfOk, OnOk, length};
 ghost use Rattle.spi_term.specs.Term as Term;
 ghost use Rattle.spi_term.specs.View.{message, atom, effect, ty as type_of, shape_of};
 ghost use Rattle.spi_rules.specs.Environment.{Env};
-ghost use Rattle.spi_message.specs.Asking.{IsEnvironment};
 ghost use Rattle.spi_message.specs.Judging.{IsKept, Stands};
 ghost use Rattle.spi_message.specs.Tests.{nonce_of};
-ghost use Rattle.spi_count.specs.Sums.{message_of};
-ghost use Rattle.spi_audit.specs.declared.keys.Keys.{Keys};
-ghost use Rattle.spi_audit.specs.Accounts.{with_keys, HaveKeys};
+ghost use Rattle.spi_count.specs.declared.keys.Keys.{Keys};
+ghost use Rattle.spi_count.specs.Keeping.{AreKept, GrowsTo};
 ghost use Rattle.spi_audit.specs.Changes.{check_change, cast_change, ended, ended_many, begun, made};
-ghost use Rattle.spi_audit.specs.Notes.{NotedAs, AreKept, GrowsTo, NotesNode, TakesEffect, TakesAtomic, TakesLabelled, TakesUn};
+ghost use Rattle.spi_audit.specs.Notes.{NotedAs, NotesNode, TakesEffect, TakesAtomic, TakesLabelled, TakesUn};
 
 use crate::NoMemory;
-use crate::keys::Keys;
-use crate::nonces::nonce_at;
 use crate::notes::Note;
+use spi_count::{Keys, keep_atoms, keep_message};
 use spi_intern::{AtomId, MsgId};
-use spi_message::Judge;
+use spi_message::{Judge, nonce_at};
 use spi_rules::Rule;
 use spi_term::{Atom, Effect, Form, Msg, Node, Ty};
 use std::alloc::Global;
 
-// The number of a message, whose key is kept.
-fn keep_message(judge: &mut Judge, keys: &mut Keys, m: &Msg) -> Result<MsgId, NoMemory>
-    requires { AreKept judge.old.store keys.old }
-    ensures at { IfOk result (λ id. with_keys judge.new.store keys.new id.place (message m.now)) }
-    ensures grows { OnOk result (GrowsTo judge.old.store keys.old judge.new.store keys.new) }
-    ensures kept { IsKept judge.old judge.new }
-{
-    let id = judge.message(m)?;
-    keys.keep(id, m)?;
-    Ok(id)
-}
-
-fn keep_atom(judge: &mut Judge, keys: &mut Keys, a: &Atom) -> Result<MsgId, NoMemory>
-    requires { AreKept judge.old.store keys.old }
-    ensures at { IfOk result (λ id. with_keys judge.new.store keys.new id.place (message_of (atom a.now))) }
-    ensures grows { OnOk result (GrowsTo judge.old.store keys.old judge.new.store keys.new) }
-    ensures kept { IsKept judge.old judge.new }
-{
-    match a {
-        Atom::End(m) => keep_message(judge, keys, m),
-        Atom::Check(m) => keep_message(judge, keys, m),
-        Atom::Many(m) => keep_message(judge, keys, m),
-    }
-}
-
-// The keys of an effect's messages are kept.
-#[tactic(auto, using(crate::proofs::Standing::kept_more, crate::proofs::Standing::kept_same))]
-fn keep_atoms(judge: &mut Judge, keys: &mut Keys, e: &Effect) -> Result<(), NoMemory>
-    requires { AreKept judge.old.store keys.old }
-    ensures at { OnOk result (HaveKeys judge.new.store keys.new (effect e.now)) }
-    ensures grows { OnOk result (GrowsTo judge.old.store keys.old judge.new.store keys.new) }
-    ensures kept { IsKept judge.old judge.new }
-{
-    for a in &e.atoms {
-        keep_atom(judge, keys, a)?;
-    }
-    Ok(())
-}
-
 // What a cast to a Nonce type adds.
-#[tactic(auto, using(crate::proofs::Standing::kept_more))]
+#[tactic(auto, using(spi_message::proofs::Tested::kept_more))]
 fn note_cast(
     alloc: Global,
     judge: &mut Judge,
@@ -82,7 +40,7 @@ fn note_cast(
     Ok(Note::Cast(scope, id))
 }
 
-#[tactic(auto, using(crate::proofs::Standing::kept_same, crate::proofs::Kept::grows_same))]
+#[tactic(auto, using(spi_message::proofs::Tested::kept_same, spi_count::proofs::Kept::grows_same))]
 fn note_cast_typed(
     alloc: Global,
     judge: &mut Judge,
@@ -105,7 +63,7 @@ fn note_cast_typed(
     }
 }
 
-#[tactic(auto, using(crate::proofs::Standing::kept_same, crate::proofs::Kept::grows_same))]
+#[tactic(auto, using(spi_message::proofs::Tested::kept_same, spi_count::proofs::Kept::grows_same))]
 fn note_casts(
     alloc: Global,
     judge: &mut Judge,
@@ -126,7 +84,7 @@ fn note_casts(
 }
 
 // What a check takes off and adds, where k names are in scope.
-#[tactic(auto, using(crate::proofs::Standing::kept_same, crate::proofs::Kept::grows_same))]
+#[tactic(auto, using(spi_message::proofs::Tested::kept_same, spi_count::proofs::Kept::grows_same))]
 fn note_check(judge: &mut Judge, keys: &mut Keys, m: &Msg, nonce: &Msg) -> Result<Note, NoMemory>
     requires keys { AreKept judge.old.store keys.old }
     ensures note { IfOk result (λ o. (e : Env) (k : ℕ) → Stands judge.old e → NotedAs judge.new.store keys.new (check_change Rule.ProcCheck k (message m.now) (nonce_of e (message nonce.now))) o) }
@@ -143,7 +101,7 @@ fn note_check(judge: &mut Judge, keys: &mut Keys, m: &Msg, nonce: &Msg) -> Resul
     }
 }
 
-#[tactic(auto, using(crate::proofs::Standing::kept_same, crate::proofs::Kept::grows_same))]
+#[tactic(auto, using(spi_message::proofs::Tested::kept_same, spi_count::proofs::Kept::grows_same))]
 fn note_checks(
     judge: &mut Judge,
     keys: &mut Keys,
@@ -202,7 +160,7 @@ fn note_make(judge: &mut Judge, scope: u32) -> Result<Note, NoMemory>
 }
 
 /// What is kept of a use that is asked of the process at a node, and isn't one of `ProcSub`.
-#[tactic(auto, using(crate::proofs::Standing::kept_same, crate::proofs::Kept::grows_same))]
+#[tactic(auto, using(spi_message::proofs::Tested::kept_same, spi_count::proofs::Kept::grows_same))]
 pub fn note_node(
     alloc: Global,
     judge: &mut Judge,
@@ -308,7 +266,7 @@ fn take_atom(
 }
 
 /// The atoms of an effect by numbers, where it is good.
-#[tactic(auto, using(crate::proofs::Standing::kept_more, crate::proofs::Standing::kept_same))]
+#[tactic(auto, using(spi_message::proofs::Tested::kept_more, spi_message::proofs::Tested::kept_same))]
 pub fn take_effect(
     alloc: Global,
     judge: &mut Judge,

@@ -1,6 +1,6 @@
 // What premises are asked of: a message's type, and a process with the names that a form binds.
-ghost use Rattle.std.specs.Prelude.{◌≡◌, [], ◌∷◌, length, IfOk};
-ghost use Rattle.spi_term.specs.Term.{name, pair_ty, sum_ty, key};
+ghost use Rattle.std.specs.Prelude.{[], ◌∷◌, length, IfOk};
+ghost use Rattle.spi_term.specs.Term.{name};
 ghost use Rattle.spi_term.specs.Term as Term;
 ghost use Rattle.spi_term.specs.Substitution.{ty_put};
 ghost use Rattle.spi_term.specs.View.{message, ty as type_of};
@@ -13,38 +13,8 @@ use spi_message::Judge;
 use spi_term::{Msg, Ty};
 use std::alloc::Global;
 
-// An equal type on the heap.
-fn boxed(alloc: Global, t: &Ty) -> Result<Box<Ty>, NoMemory>
-    ensures { IfOk result (λ b. type_of b.value ≡ type_of t.now) }
-{
-    let copy = t.copy(alloc)?;
-    Ok(Box::new(alloc, copy)?)
-}
-
-pub fn pair_type(alloc: Global, first: &Ty, second: &Ty) -> Result<Ty, NoMemory>
-    ensures { IfOk result (λ r. type_of r ≡ pair_ty (type_of first.now) (type_of second.now)) }
-{
-    let a = boxed(alloc, first)?;
-    let b = boxed(alloc, second)?;
-    Ok(Ty::Pair(a, b))
-}
-
-pub fn sum_type(alloc: Global, left: &Ty, right: &Ty) -> Result<Ty, NoMemory>
-    ensures { IfOk result (λ r. type_of r ≡ sum_ty (type_of left.now) (type_of right.now)) }
-{
-    let a = boxed(alloc, left)?;
-    let b = boxed(alloc, right)?;
-    Ok(Ty::Sum(a, b))
-}
-
-pub fn key_type(alloc: Global, t: &Ty) -> Result<Ty, NoMemory>
-    ensures { IfOk result (λ r. type_of r ≡ key (type_of t.now)) }
-{
-    Ok(Ty::Key(boxed(alloc, t)?))
-}
-
 /// Whether the message has the type.
-#[tactic(auto, using(crate::proofs::Standing::kept_more))]
+#[tactic(auto, using(spi_message::proofs::Tested::kept_more))]
 pub fn asked(alloc: Global, judge: &mut Judge, m: &Msg, t: &Ty) -> Result<Asked, NoMemory>
     ensures at { IfOk result (λ a. IsAsked judge.new.store a (message m.now) (type_of t.now)) }
     ensures kept { IsKept judge.old judge.new }
@@ -80,7 +50,7 @@ pub fn begun_one(alloc: Global, judge: &mut Judge, t: &Ty, body: u32) -> Result<
 }
 
 /// The process that begins at `body`, with one name more, of a type that stands under a binder for which this message stands.
-#[tactic(auto, using(crate::proofs::Standing::kept_more))]
+#[tactic(auto, using(spi_message::proofs::Tested::kept_more))]
 pub fn begun_opened(
     alloc: Global,
     judge: &mut Judge,
@@ -100,7 +70,7 @@ pub fn begun_opened(
 
 /// The process that begins at `body`, with two names more, of which the second one's type stands under a binder for the
 /// first.
-#[tactic(auto, using(crate::proofs::Standing::kept_more))]
+#[tactic(auto, using(spi_message::proofs::Tested::kept_more))]
 pub fn begun_two(
     alloc: Global,
     judge: &mut Judge,

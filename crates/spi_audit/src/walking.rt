@@ -1,28 +1,28 @@
 // The forward pass: each use is held against what it is asked of.
-ghost use Rattle.std.specs.Prelude.{◌≡◌, ℕ, ◌+◌, ◌<◌, ◌≤◌, ◌^◌, List, [], ◌∷◌, ◌++◌, take, length, IfOk, OnOk, IfSome, IfNone, vec_len};
+ghost use Rattle.std.specs.Prelude.{◌≡◌, ◌<◌, ◌≤◌, ◌^◌, List, [], take, length, IfOk, OnOk, IfSome, IfNone, vec_len};
 ghost use Rattle.spi_term.specs.Term.{process_size};
 ghost use Rattle.spi_term.specs.Spelling.{Shape, spelled};
 ghost use Rattle.spi_term.specs.View.{effect};
 ghost use Rattle.spi_rules.specs.Environment.{Env, untrusted};
 ghost use Rattle.spi_rules.specs.Deriv.{rule_use, rule_uses, IsUse, IsTree};
 ghost use Rattle.spi_intern.specs.Given.{IsGiven};
-ghost use Rattle.spi_intern.specs.Meaning.{Keeps};
 ghost use Rattle.spi_message.specs.Judging.{IsKept, Stands};
 ghost use Rattle.spi_audit.specs.Fits.{Subject, of_process, plain, subsumed};
 ghost use Rattle.spi_audit.specs.Asked.{Bound};
-ghost use Rattle.spi_audit.specs.Notes.{AreKept, GrowsTo, IsSmallNote};
+ghost use Rattle.spi_count.specs.Keeping.{AreKept, GrowsTo};
+ghost use Rattle.spi_audit.specs.Notes.{IsSmallNote};
 ghost use Rattle.spi_audit.specs.Walking.{Settles, IsPlaced, FitsMessage, FitsNode, FitsNext, IsState, IsOpen, Misfits, Steps, IsWalked};
 
 use crate::NoMemory;
 use crate::asked::{Asked, Binding, Premises, push_premises};
 use crate::forms::node_premises;
-use crate::keys::Keys;
 use crate::messages::message_premises;
 use crate::notes::Note;
 use crate::noting::{note_node, take_effect};
 use crate::opening::begun;
+use spi_count::Keys;
 use spi_intern::{MsgId, TyId};
-use spi_message::Judge;
+use spi_message::{Judge, cut_to};
 use spi_rules::{Deriv, Rule, RuleUse};
 use spi_term::{Effect, Process};
 use std::alloc::Global;
@@ -41,18 +41,6 @@ pub enum Walk {
     Fitting(Vec<Note>),
     /// The use with this index is the first that doesn't fit.
     Misfit(u32),
-}
-
-// The names from this number on are taken away.
-fn cut_to(judge: &mut Judge, count: u32)
-    requires { judge.old.free ≤ count }
-    ensures types { judge.new.types ≡ take count judge.old.types }
-    ensures store { judge.new.store ≡ judge.old.store }
-    ensures free { judge.new.free ≡ judge.old.free }
-{
-    while judge.len() > count {
-        judge.unbind();
-    }
 }
 
 fn bind_names(judge: &mut Judge, names: Binding) -> Result<(), NoMemory>

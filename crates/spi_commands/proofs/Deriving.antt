@@ -1,7 +1,6 @@
 -- What `derive` answers on a file.
-use Rattle.std.proofs.Common.{◌≡◌, ◌↔◌, ℕ, ◌+◌, ◌<◌, ◌≤◌, List, [], ◌++◌, sym, subst, ap, ◌∙◌, length, length-append, Option, None, Result, Ok, Err, IfOk, IsSome, arith, inr}
+use Rattle.std.proofs.Common.{◌≡◌, ◌↔◌, ℕ, ◌+◌, ◌≤◌, List, [], ◌++◌, sym, subst, ap, ◌∙◌, length, length-append, Option, None, Result, Ok, Err, IfOk, IsSome, arith, inr}
 use Rattle.std.specs.Prelude.{codes}
-use Rattle.std.specs.Fmt.{decimal}
 use Rattle.spi_scope.specs.declared.file.File.{File}
 use Rattle.spi_scope.specs.Files.{meant}
 use Rattle.spi_rules.specs.Environment.{untrusted}
@@ -13,9 +12,11 @@ use Rattle.spi_commands.specs.declared.answer.Answer.{Answer}
 use Rattle.spi_commands.specs.declared.answer.Stop.{Stop}
 use Rattle.spi_commands.specs.declared.status.Status.TheVariants.{Yes, No, Refused}
 use Rattle.spi_commands.specs.Spelled.{limit}
-use Rattle.spi_commands.specs.Answer.{IsNo, IsPlaceless}
-use Rattle.spi_commands.specs.Deriving.{SpellsCanonical, IsLongListing, DerivesTo}
+use Rattle.spi_commands.specs.Refusals.{layered, IsLineOf, Refuses, IsTooMuch}
+use Rattle.spi_commands.specs.NoLine.{IsNo}
+use Rattle.spi_commands.specs.Deriving.{SpellsCanonical, listing_length, HasLongListing, DerivesTo}
 use Rattle.spi_commands.specs.Reading.{IsRead}
+use Rattle.spi_commands.proofs.Lines.{refuses_by, much}
 
 spelled : (bytes : List ℕ) (f : File) (us : List RuleUse) → IsRead bytes f → Canonical us f.process.names f.process.process → SpellsCanonical bytes us
 spelled bytes f us (tree, is, stands, marks) c = (meant f, (tree, is, stands), c)
@@ -28,16 +29,11 @@ pub listing : (bytes output : List ℕ) (f : File) (us : List RuleUse) → IsRea
 listing bytes output f us r c e l = let long = joined_long bytes output in (us, spelled bytes f us r c, e, omega (arith, long, l))
 
 -- one that is too long
-long_line : (bytes output text : List ℕ) (us : List RuleUse) (count : ℕ) → text ≡ derivation_text us → count ≡ length bytes + 1 + length text → SpellsCanonical bytes us → limit < count → IsPlaceless bytes 80 (decimal count) output → IsLongListing bytes output
-long_line bytes output text us count e c s l (r, n, o, shown, line) =
-    let same : count ≡ length (joined bytes (derivation_text us)) = c ∙ sym (joined_long bytes text) ∙ ap (λ t. length (joined bytes t)) e in
-    (us, s, (let long = same in omega (arith, l, long)), (r, n, o, shown ∙ ap decimal same, line))
-
-pub long_listing : (bytes text : List ℕ) (f : File) (us : List RuleUse) (count : ℕ) (result : Result Answer Stop) → IsRead bytes f → Canonical us f.process.names f.process.process → text ≡ derivation_text us → count ≡ length bytes + 1 + length text → limit < count
-    → IfOk result (λ a. (a.status ≡ Refused) × IsPlaceless bytes 80 (decimal count) a.output.items) → IfOk result (λ a. DerivesTo bytes a.status a.output.items)
-long_listing bytes text f us count (Ok a) r c e n l h =
-    subst (λ s. DerivesTo bytes s a.output.items) (sym h.0) (let x : DerivesTo bytes Refused a.output.items = inr (long_line bytes a.output.items text us count e n (spelled bytes f us r c) l h.1) in x)
-long_listing bytes text f us count (Err s) r c e n l h = tt
+pub long_listing : (bytes text : List ℕ) (f : File) (us : List RuleUse) (count : ℕ) (result : Result Answer Stop) → IsRead bytes f → Canonical us f.process.names f.process.process → text ≡ derivation_text us → count ≡ length bytes + 1 + length text
+    → IfOk result (λ a. (a.status ≡ Refused) × IsLineOf bytes (IsTooMuch count) a.output.items) → IfOk result (λ a. DerivesTo bytes a.status a.output.items)
+long_listing bytes text f us count result r c e n h =
+    let same : count ≡ listing_length bytes us = n ∙ sym (joined_long bytes text) ∙ ap (λ t. length (joined bytes t)) e in
+    refuses_by bytes (IsTooMuch count) (layered (Refuses bytes) (HasLongListing bytes)) _ _ result (λ m o s x. inr (us, spelled bytes f us r c, much count (listing_length bytes us) m o s same x)) h
 
 -- a no
 pub refused : (bytes : List ℕ) (f : File) (result : Result Answer Stop) → IsRead bytes f → (Derivable (untrusted f.process.names) f.process.process [] → ⊥) → IfOk result (λ a. (a.status ≡ No) × IsNo bytes a.output.items) → IfOk result (λ a. DerivesTo bytes a.status a.output.items)

@@ -1,43 +1,42 @@
 -- How a call ends.
-use Rattle.std.proofs.Common.{◌≡◌, ℕ, List, [], Option, None, Some, IfSome, refl, subst, inl, inr}
+use Rattle.std.proofs.Common.{◌≡◌, ℕ, List, Option, None, Some, IfSome, Result, Ok, Err, IfOk, refl, sym, subst, inl, inr}
 use Rattle.std.specs.Io.KnownBytes.{Appends}
 use Rattle.spi_io.specs.Causes.{Rose, PutsPrefix}
-use Rattle.spi_scope.specs.StandsFor.{Meant, StandsFor}
-use Rattle.spi_term.specs.Term.{Process}
-use Rattle.spi_rules.specs.Environment.{untrusted}
-use Rattle.spi_rules.specs.Derivations.{Derivable}
-use Rattle.spi_run.specs.Safety.{RobustlySafe, RobustlySafeMany}
+use Rattle.spi_run.specs.Safety.{RobustlySafeMany}
+use Rattle.spi_commands.specs.declared.answer.Answer.{Answer}
 use Rattle.spi_commands.specs.declared.asked.Command.{Command}
-use Rattle.spi_commands.specs.declared.asked.Command.TheVariants.{Check, Derive, Verify, Replay, Play, Print, Load, Upgrade}
+use Rattle.spi_commands.specs.declared.asked.Command.TheVariants.{Check}
 use Rattle.spi_commands.specs.declared.status.Status.{Status}
 use Rattle.spi_commands.specs.declared.status.Status.TheVariants.{Yes, No, Refused, ReadFault, WriteFault, NoMemory, Usage}
+use Rattle.spi_commands.specs.declared.file.Given.{Given}
+use Rattle.spi_commands.specs.Reading.{Gives}
 use Rattle.spi_play.specs.Way.{Seen}
-use Rattle.spi_commands.specs.Spelled.{SpellsFile, IsDerivable, SpellsDerivable, SpellsUnderivable, SpellsNone, IsManySafe}
-use Rattle.spi_commands.specs.Answer.{Refuses, ChecksTo}
-use Rattle.spi_commands.specs.Loading.{LoadsTo}
-use Rattle.spi_commands.specs.Run.{Ends, Wants, Completes, IsExact}
-use Rattle.spi_commands.proofs.Refusals.{OneLexing, OnePlaced, OneMeant, one_tree}
+use Rattle.spi_commands.specs.Asked.{IsWithin}
+use Rattle.spi_commands.specs.Spelled.{IsManySafe}
+use Rattle.spi_commands.specs.Checking.{IsExact}
+use Rattle.spi_commands.specs.Commands.{AnswersTo, Promise}
+use Rattle.spi_commands.specs.Run.{Wants, Ends, Completes, IsUndisturbed, IsAnswered}
+use Rattle.spi_commands.proofs.Facts.{OneFile, Safe, Facts}
+use Rattle.spi_commands.proofs.Checked.{many_yes}
+use Rattle.spi_commands.proofs.Promises.{promised}
 
 -- a prefix of the wanted output was put
 pub cut_short : (left : Option (List ℕ)) (wants : List ℕ → Status → List ℕ → Type 0) (old new : Option (List ℕ)) (status : Status) (output : List ℕ) → IfSome left (λ bytes. wants bytes status output) → PutsPrefix old new output → IfSome left (λ bytes. Ends (wants bytes) old new WriteFault)
 cut_short None wants old new status output wanted prefix = tt
 cut_short (Some bytes) wants old new status output wanted prefix = (status, output, wanted, prefix)
 
--- the same of `load`, which reads nothing, and of one whose output was put
-pub load_cut_short : (sessions : ℕ) (old new : Option (List ℕ)) (status : Status) (output : List ℕ) → LoadsTo sessions status output → PutsPrefix old new output → Ends (LoadsTo sessions) old new WriteFault
-load_cut_short sessions old new status output loads prefix = (status, output, loads, prefix)
-
-pub load_ends : (sessions : ℕ) (old new : Option (List ℕ)) (status : Status) (output : List ℕ) → LoadsTo sessions status output → Appends old new output → Ends (LoadsTo sessions) old new status
-load_ends sessions old new Yes output loads put = (output, loads, put)
-load_ends sessions old new No output loads put = absurd loads
-load_ends sessions old new Refused output loads put = absurd loads
-load_ends sessions old new ReadFault output loads put = absurd loads
-load_ends sessions old new WriteFault output loads put = absurd loads
-load_ends sessions old new NoMemory output loads put = absurd loads
-load_ends sessions old new Usage output loads put = absurd loads
+-- and the whole of it was
+pub put_whole : (wants : Status → List ℕ → Type 0) (old new : Option (List ℕ)) (status : Status) (output : List ℕ) → IsAnswered status → wants status output → Appends old new output → Ends wants old new status
+put_whole wants old new Yes output some wanted put = (output, wanted, put)
+put_whole wants old new No output some wanted put = (output, wanted, put)
+put_whole wants old new Refused output some wanted put = (output, wanted, put)
+put_whole wants old new ReadFault output some wanted put = absurd some
+put_whole wants old new WriteFault output some wanted put = absurd some
+put_whole wants old new NoMemory output some wanted put = absurd some
+put_whole wants old new Usage output some wanted put = (output, wanted, put)
 
 -- a call in which nothing failed does what is wanted
-pub completes : (wants : Status → List ℕ → Type 0) (old new : Option (List ℕ)) (status : Status) → ¬ (status ≡ ReadFault) → ¬ (status ≡ WriteFault) → Ends wants old new status → Completes wants old new status
+completes : (wants : Status → List ℕ → Type 0) (old new : Option (List ℕ)) (status : Status) → ¬ (status ≡ ReadFault) → ¬ (status ≡ WriteFault) → Ends wants old new status → Completes wants old new status
 completes wants old new Yes read write ends = inr ends
 completes wants old new No read write ends = inr ends
 completes wants old new Refused read write ends = inr ends
@@ -46,82 +45,46 @@ completes wants old new WriteFault read write ends = absurd (write refl)
 completes wants old new NoMemory read write ends = inl refl
 completes wants old new Usage read write ends = inr ends
 
-pub complete : (command : Option Command) (left : Option (List ℕ)) (before after : List Seen) (old new : Option (List ℕ)) (status : Status) (r s t u : ℕ) → (status ≡ ReadFault → Rose r s) → (status ≡ WriteFault → Rose t u) → IfSome left (λ bytes. Ends (Wants command bytes before after) old new status) → IfSome left (λ bytes. ¬ Rose r s → ¬ Rose t u → Completes (Wants command bytes before after) old new status)
-complete command None before after old new status r s t u read write ends = tt
-complete command (Some bytes) before after old new status r s t u read write ends = λ no_read no_write. completes (Wants command bytes before after) old new status (λ e. no_read (read e)) (λ e. no_write (write e)) ends
+module _ (asks : Option Command) (left : Option (List ℕ)) (before after : List Seen) (old new : Option (List ℕ)) (status : Status) (r s t u : ℕ) (read : status ≡ ReadFault → Rose r s) (write : status ≡ WriteFault → Rose t u) where
+  pub complete : IfSome left (λ bytes. Ends (Wants asks bytes before after) old new status) → IfSome left (λ bytes. ¬ Rose r s → ¬ Rose t u → Completes (Wants asks bytes before after) old new status)
+  complete = by left
+    where
+      by : (left : Option (List ℕ)) → IfSome left (λ bytes. Ends (Wants asks bytes before after) old new status) → IfSome left (λ bytes. ¬ Rose r s → ¬ Rose t u → Completes (Wants asks bytes before after) old new status)
+      by None ends = tt
+      by (Some bytes) ends = λ no_read no_write. completes (Wants asks bytes before after) old new status (λ e. no_read (read e)) (λ e. no_write (write e)) ends
 
--- what is known of bytes and of processes
-abbrev pub OneFile : Type 0
-OneFile = (bytes : List ℕ) (f g : Meant) → SpellsFile bytes f → SpellsFile bytes g → f ≡ g
+  -- and keeps its promise
+  kept : Facts → (players : ℕ) → (¬ (status ≡ NoMemory) → IfSome asks (IsWithin players)) → (command : Command) → asks ≡ Some command → (bytes : List ℕ) → Ends (Wants asks bytes before after) old new status → IsUndisturbed r s t u status → Promise command bytes before after old new status
+  kept facts players within command is bytes ends (no_read, no_write, memory) =
+      let ends_so : Ends (Wants (Some command) bytes before after) old new status = subst (λ (o : Option Command). Ends (Wants o bytes before after) old new status) is ends in
+      let done : Completes (Wants (Some command) bytes before after) old new status = completes (Wants (Some command) bytes before after) old new status (λ e. no_read (read e)) (λ e. no_write (write e)) ends_so in
+      elim done [ inl none ↦ absurd (memory none) | inr some ↦ promised facts players command (subst (λ (o : Option Command). IfSome o (IsWithin players)) is (within memory)) bytes before after old new some.0 status some.1 some.2 ]
 
-abbrev pub Safe : (ℕ → Process → Type 0) → Type 0
-Safe P = (k : ℕ) (p : Process) → Derivable (untrusted k) p [] → P k p
+  pub promise : Facts → (players : ℕ) → (¬ (status ≡ NoMemory) → IfSome asks (IsWithin players)) → IfSome left (λ bytes. Ends (Wants asks bytes before after) old new status) → (command : Command) → asks ≡ Some command → IfSome left (λ bytes. IsUndisturbed r s t u status → Promise command bytes before after old new status)
+  promise facts players within ends command is = by left ends
+    where
+      by : (left : Option (List ℕ)) → IfSome left (λ bytes. Ends (Wants asks bytes before after) old new status) → IfSome left (λ bytes. IsUndisturbed r s t u status → Promise command bytes before after old new status)
+      by None ends = tt
+      by (Some bytes) ends = kept facts players within command is bytes ends
 
--- bytes spell one file at most, since they have one tree, and it stands for one file at most
-pub one_spelled : OneLexing → OnePlaced → OneMeant → OneFile
-one_spelled lexing placed meant bytes f g (tree, is, stands) (other, that, means) =
-    meant tree f g stands (subst (λ t. StandsFor t g) (one_tree lexing placed bytes other tree that is) means)
+  pub headline : Facts → (players : ℕ) → (¬ (status ≡ NoMemory) → IfSome asks (IsWithin players)) → IfSome left (λ bytes. Ends (Wants asks bytes before after) old new status) → asks ≡ Some Check → IfSome left (λ bytes. ¬ Rose r s → ¬ Rose t u → ¬ (status ≡ NoMemory) → IsExact bytes old new status)
+  headline facts players within ends is = by left ends
+    where
+      by : (left : Option (List ℕ)) → IfSome left (λ bytes. Ends (Wants asks bytes before after) old new status) → IfSome left (λ bytes. ¬ Rose r s → ¬ Rose t u → ¬ (status ≡ NoMemory) → IsExact bytes old new status)
+      by None ends = tt
+      by (Some bytes) ends = λ no_read no_write memory. (kept facts players within Check is bytes ends (no_read, no_write, memory)).0
 
--- no bytes are accepted and rejected
-one_verdict : OneFile → (bytes : List ℕ) → SpellsDerivable bytes → SpellsUnderivable bytes → ⊥
-one_verdict one bytes (f, spells, d) (g, other, none) = none (subst IsDerivable (one bytes f g spells other) d)
+-- a yes of `check`, whatever failed
+pub many_to_one : OneFile → Safe RobustlySafeMany → (asks : Option Command) (left : Option (List ℕ)) (before after : List Seen) (old new : Option (List ℕ)) (status : Status) → IfSome left (λ bytes. Ends (Wants asks bytes before after) old new status) → asks ≡ Some Check → IfSome left (λ bytes. status ≡ Yes → IsManySafe bytes)
+many_to_one one many asks None before after old new status ends is = tt
+many_to_one one many asks (Some bytes) before after old new status ends is = λ e.
+    let one_yes : Ends (Wants (Some Check) bytes before after) old new Yes = subst (λ (s : Status). Ends (Wants (Some Check) bytes before after) old new s) e (subst (λ (o : Option Command). Ends (Wants o bytes before after) old new status) is ends) in
+    many_yes one many bytes one_yes.0 Yes one_yes.1 refl
 
--- what holds of a derivable process holds of the file's
-pub holds_after : (P : ℕ → Process → Type 0) → OneFile → Safe P → (bytes : List ℕ) → SpellsDerivable bytes → (f : Meant) → SpellsFile bytes f → P f.process.names f.process.process
-holds_after P one safe bytes (g, spells, d) f other =
-    subst (λ (f : Meant). P f.process.names f.process.process) (one bytes g f spells other) (safe g.process.names g.process.process d)
-
--- bytes that are refused spell no file
-abbrev pub RefusedNone : Type 0
-RefusedNone = (bytes : List ℕ) (number : ℕ) (offset : Option ℕ) (shown : List ℕ) → Refuses bytes number offset shown → SpellsNone bytes
-
-exactly : RefusedNone → OneFile → Safe RobustlySafe → (bytes : List ℕ) (old new : Option (List ℕ)) (output : List ℕ) (status : Status) → ChecksTo bytes status output → Appends old new output → IsExact bytes old new status
-exactly none_of one safe bytes old new output Yes is put = record {
-  yes = (λ e. is.0, λ a. refl);
-  no = (λ e. absurd (cc), λ r. absurd (one_verdict one bytes is.0 r));
-  refused = (λ e. absurd (cc), λ none. absurd (none is.0.0 is.0.1));
-  written = (output, is, put);
-  safe = λ e. holds_after RobustlySafe one safe bytes is.0;
-}
-exactly none_of one safe bytes old new output No is put = record {
-  yes = (λ e. absurd (cc), λ a. absurd (one_verdict one bytes a is.0));
-  no = (λ e. is.0, λ r. refl);
-  refused = (λ e. absurd (cc), λ none. absurd (none is.0.0 is.0.1));
-  written = (output, is, put);
-  safe = λ e. absurd (cc);
-}
-exactly none_of one safe bytes old new output Refused is put =
-    let none : SpellsNone bytes = none_of bytes is.0.number is.0.offset is.0.shown.items is.1 in record {
-      yes = (λ e. absurd (cc), λ a. absurd (none a.0 a.1));
-      no = (λ e. absurd (cc), λ r. absurd (none r.0 r.1));
-      refused = (λ e. none, λ n. refl);
-      written = (output, is, put);
-      safe = λ e. absurd (cc);
-    }
-exactly none_of one safe bytes old new output ReadFault is put = absurd is
-exactly none_of one safe bytes old new output WriteFault is put = absurd is
-exactly none_of one safe bytes old new output NoMemory is put = absurd is
-exactly none_of one safe bytes old new output Usage is put = absurd is
-
-pub headline : RefusedNone → OneFile → Safe RobustlySafe → (command : Option Command) (left : Option (List ℕ)) (before after : List Seen) (old new : Option (List ℕ)) (status : Status) (r s t u : ℕ) → (status ≡ ReadFault → Rose r s) → (status ≡ WriteFault → Rose t u) → IfSome left (λ bytes. Ends (Wants command bytes before after) old new status) → command ≡ Some Check → IfSome left (λ bytes. ¬ Rose r s → ¬ Rose t u → ¬ (status ≡ NoMemory) → IsExact bytes old new status)
-headline none_of one safe command None before after old new status r s t u read write ends is = tt
-headline none_of one safe command (Some bytes) before after old new status r s t u read write ends is = λ no_read no_write memory.
-    let done : Completes (Wants (Some Check) bytes before after) old new status = completes (Wants (Some Check) bytes before after) old new status (λ e. no_read (read e)) (λ e. no_write (write e)) (rw is at ends) in
-    elim done [ inl none ↦ absurd (memory none) | inr some ↦ exactly none_of one safe bytes old new some.0 status some.1 some.2 ]
-
--- a yes is the yes of `check`
-yes_is : (command : Option Command) (bytes : List ℕ) (before after : List Seen) (old new : Option (List ℕ)) → Ends (Wants command bytes before after) old new Yes → command ≡ Some Check → SpellsDerivable bytes
-yes_is None bytes before after old new ends is = absurd (cc)
-yes_is (Some Check) bytes before after old new ends is = ends.1.0
-yes_is (Some Derive) bytes before after old new ends is = absurd (cc)
-yes_is (Some Verify) bytes before after old new ends is = absurd (cc)
-yes_is (Some Replay) bytes before after old new ends is = absurd (cc)
-yes_is (Some (Play most only)) bytes before after old new ends is = absurd (cc)
-yes_is (Some Print) bytes before after old new ends is = absurd (cc)
-yes_is (Some (Load sessions)) bytes before after old new ends is = absurd (cc)
-yes_is (Some Upgrade) bytes before after old new ends is = absurd (cc)
-
-pub many_to_one : OneFile → Safe RobustlySafeMany → (command : Option Command) (left : Option (List ℕ)) (before after : List Seen) (old new : Option (List ℕ)) (status : Status) → IfSome left (λ bytes. Ends (Wants command bytes before after) old new status) → command ≡ Some Check → IfSome left (λ bytes. status ≡ Yes → IsManySafe bytes)
-many_to_one one safe command None before after old new status ends is = tt
-many_to_one one safe command (Some bytes) before after old new status ends is = λ e.
-    holds_after RobustlySafeMany one safe bytes (yes_is command bytes before after old new (rw e at ends) is)
+-- what a command answers on what is given of the bytes that were left
+pub wants_given : {E : Type 0} (asks : Option Command) (own : Command) (before after : List Seen) (left : Option (List ℕ)) (given : Given) (result : Result Answer E) → asks ≡ Some own → IfSome left (λ bytes. Gives bytes given)
+    → IfOk result (λ a. (bytes : List ℕ) → Gives bytes given → AnswersTo own bytes before after a.status a.output.items) → IfOk result (λ a. IfSome left (λ bytes. Wants asks bytes before after a.status a.output.items))
+wants_given asks own before after None given (Ok a) is gives h = tt
+wants_given asks own before after (Some bytes) given (Ok a) is gives h =
+    subst (λ (o : Option Command). Wants o bytes before after a.status a.output.items) (sym is) (h bytes gives)
+wants_given asks own before after left given (Err e) is gives h = tt

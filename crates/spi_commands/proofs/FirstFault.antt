@@ -12,7 +12,7 @@ use Rattle.spi_commands.specs.declared.reading.Unread.{Unread}
 use Rattle.spi_commands.specs.declared.reading.Unread.TheVariants as unread
 use Rattle.spi_commands.specs.Reading.{IsUnread, Tells}
 use Rattle.spi_commands.specs.Spelled.{IsTreeOf}
-use Rattle.spi_commands.specs.Answer.{scope_number, scope_shown, out_of_scope}
+use Rattle.spi_commands.specs.Refusals.{Refuses, scope_number, scope_shown, out_of_scope}
 use Rattle.spi_commands.proofs.Refusals.{unread_as}
 
 -- what is wrong at a point is never a want of memory
@@ -41,4 +41,4 @@ first_is_fault tree fault first e = never_wanting _ first.at (first.wrong ∙ ap
 pub unscoped : (bytes : List ℕ) (tree : t.File) (fault : ScopeFault) (u : Unread) → IsTreeOf bytes tree → (fault ≡ scope.NoMemory) ⊎ HasFirst tree fault
     → (fault ≡ scope.NoMemory → u ≡ unread.NoMemory) → Tells (scope_number fault) (span_from fault) (scope_shown fault) u → IsUnread bytes u
 unscoped bytes tree fault u is (inl wanting) memory tells = rw (memory wanting) tt
-unscoped bytes tree fault u is (inr first) memory tells = unread_as bytes (scope_number fault) (span_from fault) (scope_shown fault) u (out_of_scope is first) tells
+unscoped bytes tree fault u is (inr first) memory tells = unread_as (Refuses bytes) (scope_number fault) (span_from fault) (scope_shown fault) u (inr (inr (tree, is, out_of_scope first))) tells

@@ -12,7 +12,8 @@ use Rattle.spi_report.specs.Fault.{fault_text}
 use Rattle.spi_commands.specs.declared.answer.Answer.{Answer}
 use Rattle.spi_commands.specs.declared.answer.Stop.{Stop}
 use Rattle.spi_commands.specs.declared.status.Status.TheVariants.{No}
-use Rattle.spi_commands.specs.Answer.{IsNo, ChecksTo}
+use Rattle.spi_commands.specs.NoLine.{IsNo}
+use Rattle.spi_commands.specs.Checking.{ChecksTo}
 use Rattle.spi_commands.specs.Reading.{IsRead}
 use Rattle.spi_commands.proofs.Places.{place_within}
 

@@ -14,9 +14,9 @@ use Rattle.spi_scope.specs.Parts.{step_span}
 use Rattle.spi_scope.specs.Files.{opponent_places, step_places}
 use Rattle.spi_scope.specs.Places.{placed}
 use Rattle.spi_commands.specs.Spelled.{IsTreeOf}
-use Rattle.spi_commands.specs.Answer.{place_at}
+use Rattle.spi_commands.specs.NoLine.{place_at}
 use Rattle.spi_commands.specs.Beside.{opponent_at}
-use Rattle.spi_commands.specs.Replaying.{step_at}
+use Rattle.spi_commands.specs.Replays.{step_at}
 use Rattle.spi_commands.proofs.Past as Past
 use Rattle.spi_commands.proofs.Refusals.{opens_within}
 

@@ -1,9 +1,6 @@
 -- What bytes are refused for, and where.
-use Rattle.std.proofs.Common.{◌≡◌, ◌⊎◌, inl, inr, ℕ, zero, suc, ◌+◌, ◌-◌, ◌<◌, ◌≤◌, List, [], ◌∷◌, ◌++◌, Option, Some, None, Result, Ok, Err, IfOk, IfSome, IsSome, length, ◌∙◌, drop, refl, sym, ap, subst, arith, length-drop, append-nil, true}
+use Rattle.std.proofs.Common.{◌≡◌, ◌⊎◌, inl, inr, ℕ, zero, suc, ◌+◌, ◌-◌, ◌≤◌, List, [], ◌∷◌, ◌++◌, Option, Some, Result, Ok, Err, IfSome, IsSome, length, ◌∙◌, drop, refl, sym, ap, subst, arith, length-drop, append-nil}
 use Rattle.std.specs.Prelude.{⊤}
-use Rattle.std.specs.Fmt.{decimal}
-use Rattle.std.proofs.lemmas.Grind.{common_steps}
-use Rattle.spi_io.specs.Causes.{TakesCount, TakesAll}
 use Rattle.spi_lex.specs.declared.token.Token.{Token}
 use Rattle.spi_lex.specs.declared.fault.LexFault.{LexFault}
 use Rattle.spi_lex.specs.declared.fault.LexFault.TheVariants as faults
@@ -23,24 +20,12 @@ use Rattle.spi_scope.specs.StandsFor.{Meant, StandsFor}
 use Rattle.spi_scope.specs.First.{HasFirst}
 use Rattle.spi_scope.specs.FaultPlaces.{span_from, StartsAt}
 use Rattle.spi_term.specs.Lists.{In, in_first, in_later}
-use Rattle.spi_report.specs.declared.refusal.Refusal.{Refusal}
 use Rattle.spi_report.specs.Names.{name_of}
-use Rattle.spi_report.specs.Refused.{refused_text}
-use Rattle.spi_commands.specs.declared.answer.Answer.{Answer}
-use Rattle.spi_commands.specs.declared.answer.Stop.{Stop}
-use Rattle.spi_commands.specs.declared.status.Status.{Status}
-use Rattle.spi_commands.specs.declared.status.Status.TheVariants.{Refused}
 use Rattle.spi_commands.specs.declared.reading.Unread.{Unread}
 use Rattle.spi_commands.specs.declared.reading.Unread.TheVariants as unread
-use Rattle.spi_commands.specs.Reading.{IsUnread, Tells}
-use Rattle.spi_commands.specs.Spelled.{limit, IsTreeOf, SpellsNone}
-use Rattle.spi_commands.specs.Answer.{start_of, scope_number, Refuses, too_long, not_utf8, bad_char, bad_number, name_too_long, syntax, too_deep, out_of_scope, IsRefusal, IsPlaceless}
-use Rattle.spi_commands.specs.Beside.{IsPlaced}
-use Rattle.spi_commands.specs.declared.asked.Command.{Command}
-use Rattle.spi_commands.specs.declared.asked.Command.TheVariants.{Check, Derive, Verify, Replay, Play, Print, Load, Upgrade}
-use Rattle.spi_play.specs.Way.{Seen}
-use Rattle.spi_commands.specs.Asked.{reads_file}
-use Rattle.spi_commands.specs.Commands.{AnswersTo}
+use Rattle.spi_commands.specs.Reading.{IsUnreadBy, Tells}
+use Rattle.spi_commands.specs.Spelled.{IsTreeOf, SpellsNone}
+use Rattle.spi_commands.specs.Refusals.{start_of, scope_number, IsUnlexed, IsUnparsed, IsUnscoped, Refuses, too_long, not_utf8, bad_char, bad_number, name_too_long, syntax, too_deep, out_of_scope}
 
 -- the way of lexemes goes through the bytes
 leads_within : {at to : ℕ} {text rest : List ℕ} {pieces : List Piece} → Leads at text pieces to rest → to + length rest ≡ at + length text
@@ -93,16 +78,26 @@ opens_within end at e from (cell k deep ∷ ps) [] h spans i = absurd h
 opens_within end at e from (cell k deep ∷ ps) (tok ∷ ts) h spans (in_later i) = opens_within end tok.span.to tok.span.to from ps ts h.2 spans.2 i
 opens_within end at e from (closes to ∷ ps) ts h spans (in_later i) = opens_within end at e from ps ts h.1 spans i
 
-pub refused_within : {bytes : List ℕ} {number : ℕ} {offset : Option ℕ} {shown : List ℕ} → ((tree : t.File) (fault : ScopeFault) → HasFirst tree fault → StartsAt tree (span_from fault)) → Refuses bytes number offset shown → IfSome offset (λ at. at ≤ length bytes)
-refused_within at (too_long l) = tt
-refused_within at (not_utf8 l h) = stands_within h
-refused_within at (bad_char l h) = stands_within h
-refused_within at (bad_number l h) = stands_within h
-refused_within at (name_too_long l h) = stands_within h
-refused_within {bytes} at (syntax {tokens = tokens} {i = i} l h f) = token_within bytes tokens i h
-refused_within {bytes} at (too_deep {tokens = tokens} {i = i} l h f) = token_within bytes tokens i h
-refused_within {bytes} at (out_of_scope {tree = tree} {fault = fault} is f) =
+-- what is refused stands in the bytes
+pub unlexed_within : {bytes : List ℕ} {number : ℕ} {offset : Option ℕ} {shown : List ℕ} → IsUnlexed bytes number offset shown → IfSome offset (λ at. at ≤ length bytes)
+unlexed_within (too_long l) = tt
+unlexed_within (not_utf8 l h) = stands_within h
+unlexed_within (bad_char l h) = stands_within h
+unlexed_within (bad_number l h) = stands_within h
+unlexed_within (name_too_long l h) = stands_within h
+
+pub unparsed_within : {X : Type 0} {pieces : X → List Part} {IsFormed : X → Type 0} {bytes : List ℕ} {number : ℕ} {offset : Option ℕ} {shown : List ℕ} → IsUnparsed pieces IsFormed bytes number offset shown → IfSome offset (λ at. at ≤ length bytes)
+unparsed_within {bytes = bytes} (syntax {tokens = tokens} {i = i} l h f) = token_within bytes tokens i h
+unparsed_within {bytes = bytes} (too_deep {tokens = tokens} {i = i} l h f) = token_within bytes tokens i h
+
+unscoped_within : {bytes : List ℕ} {tree : t.File} {number : ℕ} {offset : Option ℕ} {shown : List ℕ} → ((tree : t.File) (fault : ScopeFault) → HasFirst tree fault → StartsAt tree (span_from fault)) → IsTreeOf bytes tree → IsUnscoped tree number offset shown → IfSome offset (λ at. at ≤ length bytes)
+unscoped_within {bytes} {tree} at is (out_of_scope {fault = fault} f) =
     opens_within (length bytes) 0 0 (span_from fault) (whole_file tree) is.tokens is.spelled (lexed bytes is.tokens is.lexed).1 (at tree fault f)
+
+pub refused_within : {bytes : List ℕ} {number : ℕ} {offset : Option ℕ} {shown : List ℕ} → ((tree : t.File) (fault : ScopeFault) → HasFirst tree fault → StartsAt tree (span_from fault)) → Refuses bytes number offset shown → IfSome offset (λ at. at ≤ length bytes)
+refused_within at (inl h) = unlexed_within h
+refused_within at (inr (inl h)) = unparsed_within h
+refused_within at (inr (inr (tree, is, h))) = unscoped_within at is h
 
 scope_named : (fault : ScopeFault) → ¬ (fault ≡ scope.NoMemory) → IsSome (name_of (scope_number fault))
 scope_named (scope.UnknownName s w) n = refl
@@ -116,15 +111,24 @@ scope_named (scope.ScheduleTooLong s c) n = refl
 scope_named scope.NoMemory n = absurd (n refl)
 
 -- the number has a name
+pub unlexed_named : {bytes : List ℕ} {number : ℕ} {offset : Option ℕ} {shown : List ℕ} → IsUnlexed bytes number offset shown → IsSome (name_of number)
+unlexed_named (too_long l) = refl
+unlexed_named (not_utf8 l h) = refl
+unlexed_named (bad_char l h) = refl
+unlexed_named (bad_number l h) = refl
+unlexed_named (name_too_long l h) = refl
+
+pub unparsed_named : {X : Type 0} {pieces : X → List Part} {IsFormed : X → Type 0} {bytes : List ℕ} {number : ℕ} {offset : Option ℕ} {shown : List ℕ} → IsUnparsed pieces IsFormed bytes number offset shown → IsSome (name_of number)
+unparsed_named (syntax l h f) = refl
+unparsed_named (too_deep l h f) = refl
+
+unscoped_named : {tree : t.File} {number : ℕ} {offset : Option ℕ} {shown : List ℕ} → ((tree : t.File) (fault : ScopeFault) → HasFirst tree fault → ¬ (fault ≡ scope.NoMemory)) → IsUnscoped tree number offset shown → IsSome (name_of number)
+unscoped_named {tree} never (out_of_scope {fault = fault} f) = scope_named fault (never tree fault f)
+
 pub refused_named : {bytes : List ℕ} {number : ℕ} {offset : Option ℕ} {shown : List ℕ} → ((tree : t.File) (fault : ScopeFault) → HasFirst tree fault → ¬ (fault ≡ scope.NoMemory)) → Refuses bytes number offset shown → IsSome (name_of number)
-refused_named never (too_long l) = refl
-refused_named never (not_utf8 l h) = refl
-refused_named never (bad_char l h) = refl
-refused_named never (bad_number l h) = refl
-refused_named never (name_too_long l h) = refl
-refused_named never (syntax l h f) = refl
-refused_named never (too_deep l h f) = refl
-refused_named never (out_of_scope {tree = tree} {fault = fault} is f) = scope_named fault (never tree fault f)
+refused_named never (inl h) = unlexed_named h
+refused_named never (inr (inl h)) = unparsed_named h
+refused_named never (inr (inr (tree, is, h))) = unscoped_named never h
 
 -- what spelled pieces tell
 pub spells_kinds : (e : ℕ) (ps : List Part) (ts : List Token) → Spells [] e ps ts → kinds_in ps ≡ kinds_of ts
@@ -177,89 +181,37 @@ tree_kinds lexing bytes tokens tree h is =
     spells_kinds 0 (whole_file tree) is.tokens is.spelled ∙ ap kinds_of (same_tokens lexing bytes is.tokens tokens is.lexed h)
 
 -- bytes that are refused spell no file
-pub refused_none : OneLexing → OnePlaced → NeverBoth → {bytes : List ℕ} {number : ℕ} {offset : Option ℕ} {shown : List ℕ} → Refuses bytes number offset shown → SpellsNone bytes
-refused_none lexing placed never (too_long l) file (tree, is, stands) = let w = is.within in omega arith
-refused_none lexing placed never {bytes} (not_utf8 l h) file (tree, is, stands) = let e = lexing bytes _ _ h is.lexed in cc
-refused_none lexing placed never {bytes} (bad_char l h) file (tree, is, stands) = let e = lexing bytes _ _ h is.lexed in cc
-refused_none lexing placed never {bytes} (bad_number l h) file (tree, is, stands) = let e = lexing bytes _ _ h is.lexed in cc
-refused_none lexing placed never {bytes} (name_too_long l h) file (tree, is, stands) = let e = lexing bytes _ _ h is.lexed in cc
-refused_none lexing placed never {bytes} (syntax {tokens = tokens} {i = i} l h at) file (tree, is, stands) =
+unlexed_none : OneLexing → {bytes : List ℕ} {number : ℕ} {offset : Option ℕ} {shown : List ℕ} → IsUnlexed bytes number offset shown → SpellsNone bytes
+unlexed_none lexing (too_long l) file (tree, is, stands) = let w = is.within in omega arith
+unlexed_none lexing {bytes} (not_utf8 l h) file (tree, is, stands) = let e = lexing bytes _ _ h is.lexed in cc
+unlexed_none lexing {bytes} (bad_char l h) file (tree, is, stands) = let e = lexing bytes _ _ h is.lexed in cc
+unlexed_none lexing {bytes} (bad_number l h) file (tree, is, stands) = let e = lexing bytes _ _ h is.lexed in cc
+unlexed_none lexing {bytes} (name_too_long l h) file (tree, is, stands) = let e = lexing bytes _ _ h is.lexed in cc
+
+unparsed_none : OneLexing → {bytes : List ℕ} {number : ℕ} {offset : Option ℕ} {shown : List ℕ} → IsUnparsed whole_file IsFile bytes number offset shown → SpellsNone bytes
+unparsed_none lexing {bytes} (syntax {tokens = tokens} {i = i} l h at) file (tree, is, stands) =
     not_at tree (kinds_of tokens) i is.formed (tree_kinds lexing bytes tokens tree h is) at
-refused_none lexing placed never {bytes} (too_deep {tokens = tokens} {i = i} l h at) file (tree, is, stands) =
+unparsed_none lexing {bytes} (too_deep {tokens = tokens} {i = i} l h at) file (tree, is, stands) =
     at.every tree is.formed at.rest (tree_kinds lexing bytes tokens tree h is ∙ at.split) (spells_within 0 (whole_file tree) is.tokens is.spelled)
-refused_none lexing placed never {bytes} (out_of_scope {tree = other} {fault = fault} is f) file (tree, that, stands) =
+
+unscoped_none : OneLexing → OnePlaced → NeverBoth → {bytes : List ℕ} {other : t.File} {number : ℕ} {offset : Option ℕ} {shown : List ℕ} → IsTreeOf bytes other → IsUnscoped other number offset shown → SpellsNone bytes
+unscoped_none lexing placed never {bytes} {other} is (out_of_scope {fault = fault} f) file (tree, that, stands) =
     never tree file fault stands (subst (λ t. HasFirst t fault) (one_tree lexing placed bytes other tree is that) f)
 
--- the line of a refusal
-pub line_of : (bytes output : List ℕ) (r : Refusal) (number : ℕ) (offset : Option ℕ) (shown : List ℕ) → Refuses bytes number offset shown → r.number ≡ number → r.offset ≡ offset → r.shown.items ≡ shown → output ≡ refused_text bytes r → IsRefusal bytes output
-line_of bytes output r number offset shown h n o s e = (r, rw (n, o, s) h, e)
+pub refused_none : OneLexing → OnePlaced → NeverBoth → {bytes : List ℕ} {number : ℕ} {offset : Option ℕ} {shown : List ℕ} → Refuses bytes number offset shown → SpellsNone bytes
+refused_none lexing placed never (inl h) = unlexed_none lexing h
+refused_none lexing placed never (inr (inl h)) = unparsed_none lexing h
+refused_none lexing placed never (inr (inr (tree, is, h))) = unscoped_none lexing placed never is h
 
--- without a place the line doesn't depend on the bytes
-pub no_place : (bytes others : List ℕ) (r : Refusal) → r.offset ≡ None → refused_text others r ≡ refused_text bytes r
-no_place bytes others r e = rw e refl
-
--- a refusal of the bytes is the answer of each command that reads a file
-refused_by : (command : Command) (bytes : List ℕ) (players : List Seen) (output : List ℕ) → reads_file (Some command) ≡ true → IsRefusal bytes output → AnswersTo command bytes players players Refused output
-refused_by Check bytes players output e h = h
-refused_by Derive bytes players output e h = inl h
-refused_by Verify bytes players output e h = inl h
-refused_by Replay bytes players output e h = inl h
-refused_by (Play most only) bytes players output e h = inl (inl h, refl)
-refused_by Print bytes players output e h = inl h
-refused_by (Load sessions) bytes players output e h = absurd (cc)
-refused_by Upgrade bytes players output e h = inl h
-
-pub answers_to : (command : Command) (bytes : List ℕ) (players : List Seen) (output : List ℕ) (status : Status) → reads_file (Some command) ≡ true → status ≡ Refused → IsRefusal bytes output → AnswersTo command bytes players players status output
-answers_to command bytes players output status reads e h = rw e (refused_by command bytes players output reads h)
-
-pub placeless : (bytes shown : List ℕ) (number : ℕ) (r : Refusal) (result : Result Answer Stop) → r.number ≡ number → r.offset ≡ None → r.shown.items ≡ shown → IfOk result (λ a. (a.status ≡ Refused) × (a.output.items ≡ refused_text bytes r)) → IfOk result (λ a. (a.status ≡ Refused) × IsPlaceless bytes number shown a.output.items)
-placeless bytes shown number r (Ok a) n o s is = (is.0, (r, n, o, s, is.1))
-placeless bytes shown number r (Err e) n o s is = tt
-
--- the line of a refusal at a place
-pub placed_line : (bytes shown : List ℕ) (number offset : ℕ) (r : Refusal) (result : Result Answer Stop) → r.number ≡ number → r.offset ≡ Some offset → r.shown.items ≡ shown → IfOk result (λ a. (a.status ≡ Refused) × (a.output.items ≡ refused_text bytes r)) → IfOk result (λ a. (a.status ≡ Refused) × IsPlaced bytes number offset shown a.output.items)
-placed_line bytes shown number offset r (Ok a) n o s is = (is.0, (r, n, o, s, is.1))
-placed_line bytes shown number offset r (Err e) n o s is = tt
-
--- more bytes than the limit were taken
-pub taken_long : (old new : Option (List ℕ)) → TakesCount old new (limit + 1) → IfSome old (λ bytes. limit < length bytes)
-taken_long None new t = tt
-taken_long (Some bytes) None t = absurd t.2
-taken_long (Some bytes) (Some rest) t = grind (arith, common_steps)
-
--- what a call tells of a refusal is one of the bytes
-pub unread_as : (bytes : List ℕ) (number offset : ℕ) (shown : List ℕ) (u : Unread) → Refuses bytes number (Some offset) shown → Tells number offset shown u → IsUnread bytes u
-unread_as bytes number offset shown (unread.Refused r) h t = rw (t.0, t.1, t.2) h
-unread_as bytes number offset shown unread.NoMemory h t = tt
+-- what a call tells of a refusal is one of these causes
+pub unread_as : (causes : ℕ → Option ℕ → List ℕ → Type 0) (number offset : ℕ) (shown : List ℕ) (u : Unread) → causes number (Some offset) shown → Tells number offset shown u → IsUnreadBy causes u
+unread_as causes number offset shown (unread.Refused r) h t = rw (t.0, t.1, t.2) h
+unread_as causes number offset shown unread.NoMemory h t = tt
 
 -- the fault is this one, since memory didn't run out
 pub lexed_fault : (bytes : List ℕ) (fault wanted : LexFault) → fault ≡ wanted → ¬ (wanted ≡ faults.NoMemory) → (fault ≡ faults.NoMemory) ⊎ Lexes bytes (Err fault) → Lexes bytes (Err wanted)
 lexed_fault bytes fault wanted e other (inl none) = absurd (other (sym e ∙ none))
 lexed_fault bytes fault wanted e other (inr h) = rw (← e) h
-
-pub refused_long : (others : List ℕ) (r : Refusal) (result : Result Answer Stop) → r.number ≡ 2 → r.offset ≡ None → r.shown.items ≡ decimal (limit + 1) → IfOk result (λ a. (a.status ≡ Refused) × (a.output.items ≡ refused_text others r)) → IfOk result (λ a. (command : Command) (bytes : List ℕ) (players : List Seen) → reads_file (Some command) ≡ true → limit < length bytes → AnswersTo command bytes players players a.status a.output.items)
-refused_long others r (Ok a) n o s is = λ command bytes players reads l. answers_to command bytes players a.output.items a.status reads is.0 (line_of bytes a.output.items r 2 None (decimal (limit + 1)) (too_long l) n o s (is.1 ∙ no_place bytes others r o))
-refused_long others r (Err e) n o s is = tt
-
-pub refused_as : (command : Command) (bytes : List ℕ) (r : Refusal) (result : Result Answer Stop) → reads_file (Some command) ≡ true → Refuses bytes r.number r.offset r.shown.items → IfOk result (λ a. (a.status ≡ Refused) × (a.output.items ≡ refused_text bytes r)) → (players : List Seen) → IfOk result (λ a. AnswersTo command bytes players players a.status a.output.items)
-refused_as command bytes r (Ok a) reads h is = λ players. answers_to command bytes players a.output.items a.status reads is.0 (r, h, is.1)
-refused_as command bytes r (Err e) reads h is = λ players. tt
-
-pub answers_long : (command : Command) (players : List Seen) (left : Option (List ℕ)) (result : Result Answer Stop) → reads_file (Some command) ≡ true → IfSome left (λ bytes. limit < length bytes) → IfOk result (λ a. (command : Command) (bytes : List ℕ) (players : List Seen) → reads_file (Some command) ≡ true → limit < length bytes → AnswersTo command bytes players players a.status a.output.items) → IfOk result (λ a. IfSome left (λ bytes. AnswersTo command bytes players players a.status a.output.items))
-answers_long command players None (Ok a) reads long is = tt
-answers_long command players (Some bytes) (Ok a) reads long is = is command bytes players reads long
-answers_long command players left (Err e) reads long is = tt
-
--- the bytes that were left are those that were taken
-all_taken : (bytes : List ℕ) (new : Option (List ℕ)) (taken : List ℕ) → TakesAll (Some bytes) new taken → bytes ≡ taken
-all_taken bytes None taken all = absurd all.taken
-all_taken bytes (Some rest) taken all = all.taken ∙ ap (λ (r : List ℕ). taken ++ r) all.ended ∙ append-nil taken
-
--- what is answered on the bytes that were taken
-pub answers_taken : (command : Command) (before after : List Seen) (old new : Option (List ℕ)) (taken : List ℕ) (result : Result Answer Stop) → TakesAll old new taken → IfOk result (λ a. AnswersTo command taken before after a.status a.output.items) → IfOk result (λ a. IfSome old (λ bytes. AnswersTo command bytes before after a.status a.output.items))
-answers_taken command before after None new taken (Ok a) all is = tt
-answers_taken command before after (Some bytes) new taken (Ok a) all is = subst (λ (bs : List ℕ). AnswersTo command bs before after a.status a.output.items) (sym (all_taken bytes new taken all)) is
-answers_taken command before after old new taken (Err e) all is = tt
 
 -- each token has a byte of its own
 pub tokens_within : (start end : ℕ) (tokens : List Token) → AreSpans start (spans_of tokens) end → length tokens + start ≤ end

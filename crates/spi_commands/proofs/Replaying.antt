@@ -1,16 +1,15 @@
 -- What `replay` answers on a file.
-use Rattle.std.proofs.Common.{◌≡◌, ◌≢◌, ◌⊎◌, inl, inr, ℕ, ◌+◌, ◌<◌, ◌≤◌, List, [], map, length, sym, subst, ap, ◌∙◌, refl, Some, None, Result, Ok, Err, IfOk, IsSome, arith}
+use Rattle.std.proofs.Common.{◌≡◌, ◌≢◌, ◌⊎◌, inl, inr, ℕ, ◌+◌, ◌<◌, ◌≤◌, List, map, length, sym, subst, ap, ◌∙◌, refl, Some, None, Result, Ok, Err, IfOk, IsSome, arith}
 use Rattle.std.proofs.lemmas.List.{length-map}
 use Rattle.std.specs.Prelude.{codes}
 use Rattle.spi_text.specs.declared.lines.Span.{Span}
-use Rattle.spi_term.specs.Spelling.{Spelling, spelled}
+use Rattle.spi_term.specs.Spelling.{Spelling}
 use Rattle.spi_run.specs.Reduction.{Step, Event}
 use Rattle.spi_run.specs.Opponent.{IsOpponent}
 use Rattle.spi_run.specs.Safety.{beside}
 use Rattle.spi_run.specs.declared.step.Step as program
 use Rattle.spi_run.specs.declared.step.Event as declared
 use Rattle.spi_run.specs.View.{step as step_of, event as event_of}
-use Rattle.spi_opponent.specs.Allowed.{IsFirstOffence}
 use Rattle.spi_replay.specs.declared.fault.StepFault.{StepFault}
 use Rattle.spi_replay.specs.declared.fault.StepFault.TheVariants.{NoPlace, NotReady, RunMessageTooLarge, TooManyPlaces, NoMemory as OutOfMemory}
 use Rattle.spi_report.specs.declared.refusal.Refusal.{Refusal}
@@ -24,23 +23,19 @@ use Rattle.spi_commands.specs.declared.answer.Answer.{Answer}
 use Rattle.spi_commands.specs.declared.answer.Stop.{Stop}
 use Rattle.spi_commands.specs.declared.status.Status.{Status}
 use Rattle.spi_commands.specs.declared.status.Status.TheVariants.{Yes, No, Refused, Usage}
-use Rattle.spi_commands.specs.Answer.{IsPlaceless}
-use Rattle.spi_commands.specs.Beside.{pool_of, IsPlaced}
+use Rattle.spi_commands.specs.Refusals.{IsLineOf, IsCause, IsMissing}
+use Rattle.spi_commands.specs.Beside.{pool_of, HasOffence}
 use Rattle.spi_commands.specs.Reading.{IsRead}
-use Rattle.spi_commands.specs.Replaying.{ReplaysTo, Replays, IsRefusedAt, IsJudged, IsReplayText, RunsThrough, places_most, step_number, step_shown}
+use Rattle.spi_commands.specs.Replays.{Replays, IsRefusedAt, RunsThrough, step_refused, RefusesReplay, places_most, step_number, step_shown, step_at}
+use Rattle.spi_commands.specs.Replaying.{ReplaysTo, IsJudged, IsReplayText}
 use Rattle.spi_commands.specs.Run.{IsAnswered}
-use Rattle.spi_commands.proofs.Places.{opponent_within, step_within}
+use Rattle.spi_commands.proofs.Places.{step_within}
 use Rattle.spi_commands.proofs.Replays.{few_events}
+use Rattle.spi_commands.proofs.Lines.{refuses_by, one_line}
 
--- where the file tells that a node of the opponent and a step stand
-abbrev pub node_of : Marked → ℕ → Span
-node_of m i = place_in m.opponent i
-
+-- where the file tells that a step stands
 abbrev pub scheduled : Marked → ℕ → Span
 scheduled m i = place_in m.steps i
-
-pub node_within : (bytes : List ℕ) (f : File) (i : ℕ) → IsRead bytes f → (node_of (marked f) i).from ≤ length bytes
-node_within bytes f i (tree, is, stands, marks) = subst (λ m. (node_of m i).from ≤ length bytes) (sym marks) (opponent_within bytes tree is i)
 
 pub scheduled_within : (bytes : List ℕ) (f : File) (i : ℕ) → IsRead bytes f → (scheduled (marked f) i).from ≤ length bytes
 scheduled_within bytes f i (tree, is, stands, marks) = subst (λ m. (scheduled m i).from ≤ length bytes) (sym marks) (step_within bytes tree is i)
@@ -50,21 +45,19 @@ answered : (bytes : List ℕ) (a : Answer) (status : Status) → a.status ≡ st
 answered bytes a status e h = subst (λ s. ReplaysTo bytes s a.output.items) (sym e) h
 
 -- a missing part
-pub lacks_opponent : (bytes : List ℕ) (f : File) (result : Result Answer Stop) → IsRead bytes f → (meant f).opponent ≡ None → IfOk result (λ a. (a.status ≡ Refused) × IsPlaceless bytes 38 (codes "opponent") a.output.items) → IfOk result (λ a. ReplaysTo bytes a.status a.output.items)
-lacks_opponent bytes f (Ok a) (tree, is, stands, marks) e h = answered bytes a Refused h.0 (inr (inl (meant f, (tree, is, stands), e, h.1)))
-lacks_opponent bytes f (Err s) r e h = tt
+pub lacks_opponent : (bytes : List ℕ) (f : File) (result : Result Answer Stop) → IsRead bytes f → (meant f).opponent ≡ None → IfOk result (λ a. (a.status ≡ Refused) × IsLineOf bytes (IsMissing (codes "opponent")) a.output.items) → IfOk result (λ a. ReplaysTo bytes a.status a.output.items)
+lacks_opponent bytes f result (tree, is, stands, marks) e h =
+    refuses_by bytes (IsMissing (codes "opponent")) (RefusesReplay bytes) _ _ result (λ n o s m. inr (inl (meant f, (tree, is, stands), e, m))) h
 
-pub lacks_schedule : (bytes : List ℕ) (f : File) (o : Spelling) (result : Result Answer Stop) → IsRead bytes f → (meant f).opponent ≡ Some o → (meant f).schedule ≡ None → IfOk result (λ a. (a.status ≡ Refused) × IsPlaceless bytes 38 (codes "schedule") a.output.items) → IfOk result (λ a. ReplaysTo bytes a.status a.output.items)
-lacks_schedule bytes f o (Ok a) (tree, is, stands, marks) e g h = answered bytes a Refused h.0 (inr (inr (inl (meant f, o, (tree, is, stands), e, g, h.1))))
-lacks_schedule bytes f o (Err s) r e g h = tt
+pub lacks_schedule : (bytes : List ℕ) (f : File) (o : Spelling) (result : Result Answer Stop) → IsRead bytes f → (meant f).opponent ≡ Some o → (meant f).schedule ≡ None → IfOk result (λ a. (a.status ≡ Refused) × IsLineOf bytes (IsMissing (codes "schedule")) a.output.items) → IfOk result (λ a. ReplaysTo bytes a.status a.output.items)
+lacks_schedule bytes f o result (tree, is, stands, marks) e g h =
+    refuses_by bytes (IsMissing (codes "schedule")) (RefusesReplay bytes) _ _ result (λ n p s m. inr (inr (inl (meant f, o, (tree, is, stands), e, g, m)))) h
 
 -- no opponent
-pub offended : (bytes : List ℕ) (f : File) (o : Spelling) (steps : List Step) (node : ℕ) (result : Result Answer Stop) → IsRead bytes f → (meant f).opponent ≡ Some o → (meant f).schedule ≡ Some steps → IsFirstOffence (spelled o.names o.process) node
-    → IfOk result (λ a. (a.status ≡ Refused) × IsPlaced bytes 39 (node_of (marked f) node).from [] a.output.items) → IfOk result (λ a. ReplaysTo bytes a.status a.output.items)
-offended bytes f o steps node (Ok a) (tree, is, stands, marks) e g first h =
-    let line = subst (λ m. IsPlaced bytes 39 (node_of m node).from [] a.output.items) marks h.1 in
-    answered bytes a Refused h.0 (inr (inr (inr (inl (tree, meant f, steps, is, stands, g, (o, node, e, first, line))))))
-offended bytes f o steps node (Err s) r e g first h = tt
+pub offended : (bytes : List ℕ) (f : File) (steps : List Step) (result : Result Answer Stop) → IsRead bytes f → (meant f).schedule ≡ Some steps
+    → IfOk result (λ a. (a.status ≡ Refused) × IsLineOf bytes (HasOffence bytes) a.output.items) → IfOk result (λ a. ReplaysTo bytes a.status a.output.items)
+offended bytes f steps result (tree, is, stands, marks) g h =
+    refuses_by bytes (HasOffence bytes) (RefusesReplay bytes) _ _ result (λ n p s m. inr (inr (inr (inl (m, (meant f, steps, (tree, is, stands), g)))))) h
 
 -- the pool at the start
 pub starts : (f : File) (o : Spelling) (p : Pooled) → p.configuration ≡ beside f.process.names f.process.process o.process → p.most ≡ 5000 → p ≡ pool_of places_most (meant f) o
@@ -73,13 +66,19 @@ starts f o p e m =
     ap one m ∙ ap (λ c. record { configuration = c; most = places_most }) e
 
 -- a step that is refused
+step_line : (bytes output : List ℕ) (f : File) (o : Spelling) (steps : List Step) (i : ℕ) (fault : StepFault) → IsRead bytes f → (meant f).opponent ≡ Some o → (meant f).schedule ≡ Some steps → IsOpponent o.process
+    → IsRefusedAt (pool_of places_most (meant f) o) steps i fault → IsLineOf bytes (IsCause (step_number fault) (Some (scheduled (marked f) i).from) (step_shown fault)) output → IsLineOf bytes (RefusesReplay bytes) output
+step_line bytes output f o steps i fault (tree, is, stands, marks) e g opponent refused (r, (n, p, s), line) =
+    let there : r.offset ≡ Some (step_at tree i).from = p ∙ ap (λ m. Some (scheduled m i).from) marks in
+    one_line bytes (step_shown fault) output (step_number fault) (Some (step_at tree i).from) r (RefusesReplay bytes)
+    (inr (inr (inr (inr (tree, meant f, o, steps, is, stands, (e, opponent), g, step_refused refused))))) n there s line
+
 pub stopped_at : (bytes : List ℕ) (f : File) (o : Spelling) (steps : List Step) (p : Pooled) (i : ℕ) (fault : StepFault) (result : Result Answer Stop) → IsRead bytes f → (meant f).opponent ≡ Some o → (meant f).schedule ≡ Some steps → IsOpponent o.process
-    → p ≡ pool_of places_most (meant f) o → (fault ≡ OutOfMemory) ⊎ IsRefusedAt p steps i fault → IfOk result (λ a. (fault ≢ OutOfMemory) × (a.status ≡ Refused) × IsPlaced bytes (step_number fault) (scheduled (marked f) i).from (step_shown fault) a.output.items) → IfOk result (λ a. ReplaysTo bytes a.status a.output.items)
+    → p ≡ pool_of places_most (meant f) o → (fault ≡ OutOfMemory) ⊎ IsRefusedAt p steps i fault → IfOk result (λ a. (fault ≢ OutOfMemory) × (a.status ≡ Refused) × IsLineOf bytes (IsCause (step_number fault) (Some (scheduled (marked f) i).from) (step_shown fault)) a.output.items) → IfOk result (λ a. ReplaysTo bytes a.status a.output.items)
 stopped_at bytes f o steps p i fault (Ok a) r e g opponent start (inl none) h = absurd (h.0 none)
-stopped_at bytes f o steps p i fault (Ok a) (tree, is, stands, marks) e g opponent start (inr refused) h =
-    let line = subst (λ m. IsPlaced bytes (step_number fault) (scheduled m i).from (step_shown fault) a.output.items) marks h.2 in
-    let at = subst (λ q. IsRefusedAt q steps i fault) start refused in
-    answered bytes a Refused h.1 (inr (inr (inr (inr (tree, meant f, o, steps, i, fault, is, stands, (e, opponent), g, at, line)))))
+stopped_at bytes f o steps p i fault (Ok a) r e g opponent start (inr refused) h =
+    let at : IsRefusedAt (pool_of places_most (meant f) o) steps i fault = subst (λ q. IsRefusedAt q steps i fault) start refused in
+    answered bytes a Refused h.1 (step_line bytes a.output.items f o steps i fault r e g opponent at h.2)
 stopped_at bytes f o steps p i fault (Err s) r e g opponent start refused h = tt
 
 -- a step's refusal, whose number has a name
@@ -91,8 +90,8 @@ step_named (TooManyPlaces places) number some e = subst (λ n. IsSome (name_of n
 step_named OutOfMemory number some e = absurd (some refl)
 
 pub stop_line : (bytes : List ℕ) (fault : StepFault) (offset : ℕ) (r : Refusal) (result : Result Answer Stop) → fault ≢ OutOfMemory → r.number ≡ step_number fault → r.offset ≡ Some offset → r.shown.items ≡ step_shown fault → IfOk result (λ a. (a.status ≡ Refused) × (a.output.items ≡ refused_text bytes r))
-    → IfOk result (λ a. (fault ≢ OutOfMemory) × (a.status ≡ Refused) × IsPlaced bytes (step_number fault) offset (step_shown fault) a.output.items)
-stop_line bytes fault offset r (Ok a) some n o s is = (some, is.0, (r, n, o, s, is.1))
+    → IfOk result (λ a. (fault ≢ OutOfMemory) × (a.status ≡ Refused) × IsLineOf bytes (IsCause (step_number fault) (Some offset) (step_shown fault)) a.output.items)
+stop_line bytes fault offset r (Ok a) some n o s is = (some, is.0, (r, (n, o, s), is.1))
 stop_line bytes fault offset r (Err e) some n o s is = tt
 
 -- a schedule that runs through
@@ -122,6 +121,6 @@ told events f (Ok a) h = by h.0
 told events f (Err s) h = tt
 
 -- a refusal is an answer
-pub stopped_answers : (fault : StepFault) (bytes shown : List ℕ) (number offset : ℕ) (result : Result Answer Stop) → IfOk result (λ a. (fault ≢ OutOfMemory) × (a.status ≡ Refused) × IsPlaced bytes number offset shown a.output.items) → IfOk result (λ a. IsAnswered a.status × (a.status ≢ Usage))
-stopped_answers fault bytes shown number offset (Ok a) h = subst (λ (s : Status). IsAnswered s × (s ≢ Usage)) (sym h.1) (tt, λ e. absurd (cc))
-stopped_answers fault bytes shown number offset (Err s) h = tt
+pub stopped_answers : (fault : StepFault) (P : Answer → Type 0) (result : Result Answer Stop) → IfOk result (λ a. (fault ≢ OutOfMemory) × (a.status ≡ Refused) × P a) → IfOk result (λ a. IsAnswered a.status × (a.status ≢ Usage))
+stopped_answers fault P (Ok a) h = subst (λ (s : Status). IsAnswered s × (s ≢ Usage)) (sym h.1) (tt, λ e. absurd (cc))
+stopped_answers fault P (Err s) h = tt

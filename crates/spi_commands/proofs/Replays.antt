@@ -12,7 +12,7 @@ use Rattle.spi_run.proofs.Once.{takes_once}
 use Rattle.spi_replay.specs.declared.fault.StepFault.{StepFault}
 use Rattle.spi_replay.specs.declared.fault.StepFault.TheVariants.{NoMemory as OutOfMemory}
 use Rattle.spi_replay.specs.Stepping.{Pooled, FirstOutside, outside_here, outside_later, places_named, Refuses, no_place, not_ready, too_large, too_many, IsTaken}
-use Rattle.spi_commands.specs.Replaying.{Replays, replays_none, replays_step, IsRefusedAt}
+use Rattle.spi_commands.specs.Replays.{Replays, replays_none, replays_step, IsRefusedAt}
 
 -- a step is taken in one way
 same_pool : (q r : Pooled) → q.configuration ≡ r.configuration → q.most ≡ r.most → q ≡ r
@@ -61,7 +61,7 @@ never_outside : {c d : Configuration} {s : Step} {e : Option Event} {k : ℕ} �
 never_outside (takes_act a x) o = one_inside (at_inside a) o
 never_outside (takes_talk a b x) o = two_inside (at_inside a) (at_inside b) o
 
-taken_never : {p q : Pooled} {s : Step} {e : Option Event} {f : StepFault} → IsTaken p s e q → Refuses p.configuration p.most s f → ⊥
+pub taken_never : {p q : Pooled} {s : Step} {e : Option Event} {f : StepFault} → IsTaken p s e q → Refuses p.configuration p.most s f → ⊥
 taken_never t (no_place o) = never_outside t.takes o
 taken_never {q = q} {e = e} t (not_ready inside never) = never (e, q.configuration, t.takes)
 taken_never t (too_large ready large) = let small = t.small in omega (arith, small, large)

@@ -10,7 +10,7 @@ use Rattle.spi_play.specs.declared.player.Pick.TheVariants.{Take, Leave}
 use Rattle.spi_play.specs.Way.{Seen}
 use Rattle.spi_play.specs.Play.{Course, Seat, State, TurnOf, Goes, Does, Plays, start}
 use Rattle.spi_spell.specs.Joined.{HasLowPlaces}
-use Rattle.spi_commands.specs.Replaying.{Replays, replays_none, replays_step}
+use Rattle.spi_commands.specs.Replays.{Replays, replays_none, replays_step}
 use Rattle.spi_commands.proofs.Replays.{append_step}
 
 -- the same pool where it may have so many places

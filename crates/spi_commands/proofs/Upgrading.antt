@@ -1,5 +1,5 @@
 -- Upgraded files: the spellings of their names, one after another, and what is answered.
-use Rattle.std.proofs.Common.{◌≡◌, ◌≢◌, ℕ, ◌+◌, ◌<◌, List, [], ◌∷◌, ◌++◌, length, take, get_or, Result, Ok, Err, IfOk, sym, ap, ◌∙◌, subst, ◌⊎◌, inl, inr}
+use Rattle.std.proofs.Common.{◌≡◌, ℕ, ◌+◌, ◌<◌, List, [], ◌∷◌, ◌++◌, length, take, get_or, Result, Ok, Err, IfOk, sym, ap, ◌∙◌, subst, ◌⊎◌, inl, inr}
 use Rattle.std.specs.Prelude.{codes}
 use Rattle.std.specs.Fmt.{decimal}
 use Rattle.std.proofs.lemmas.List.{take_more, append_assoc}
@@ -8,12 +8,12 @@ use Rattle.spi_scope.specs.declared.file.File.{File}
 use Rattle.spi_scope.specs.Files.{meant}
 use Rattle.spi_scope.specs.StandsFor.{Meant}
 use Rattle.spi_commands.specs.declared.answer.Answer.{Answer}
-use Rattle.spi_commands.specs.declared.status.Status.TheVariants.{Yes, Refused, Usage}
 use Rattle.spi_commands.specs.Spelled.{SpellsFile}
 use Rattle.spi_commands.specs.Reading.{IsRead}
-use Rattle.spi_commands.specs.Run.{IsAnswered}
-use Rattle.spi_commands.specs.Upgrading.{IsNewWord, IsSpelled, with_number, IsRespelled, AreRespelled, none_respelled, one_respelled, IsUpgrade}
-use Rattle.spi_commands.specs.Printing.{IsPrint, IsLongPrint, UpgradesTo}
+use Rattle.spi_commands.specs.Refusals.{layered, Refuses}
+use Rattle.spi_commands.specs.Canonical.{ShowsTo}
+use Rattle.spi_commands.specs.Upgrading.{IsNewWord, IsSpelled, with_number, IsRespelled, AreRespelled, none_respelled, one_respelled, IsUpgrade, SpellsUpgrade, RefusesUpgrade, UpgradesTo}
+use Rattle.spi_commands.proofs.Shown.{shown_as}
 
 -- one name more
 respelled_more : (names olds news : List (List ℕ)) (old new : List ℕ) → AreRespelled names olds news → IsRespelled names old new → AreRespelled names (olds ++ old ∷ []) (news ++ new ∷ [])
@@ -54,12 +54,7 @@ pub read_version : (bytes : List ℕ) (file : File) → IsRead bytes file → (f
 read_version bytes file r = subst (λ v. (v ≡ 1) ⊎ (v ≡ 2)) (sym r.2.version) r.1.formed.formed.version
 
 -- its text, or the refusal
-pub upgrades : {E : Type 0} (bytes : List ℕ) (file upgraded : Meant) (r : Result Answer E) → SpellsFile bytes file → IsUpgrade file upgraded → IfOk r (λ answer. ((answer.status ≡ Yes) × IsPrint upgraded answer.output.items) ⊎ ((answer.status ≡ Refused) × IsLongPrint bytes upgraded answer.output.items)) → IfOk r (λ answer. UpgradesTo bytes answer.status answer.output.items)
-upgrades bytes file upgraded (Ok answer) s u (inl p) = subst (λ status. UpgradesTo bytes status answer.output.items) (sym p.0) (file, upgraded, s, u, p.1)
-upgrades bytes file upgraded (Ok answer) s u (inr p) = subst (λ status. UpgradesTo bytes status answer.output.items) (sym p.0) (inr (file, upgraded, s, u, p.1))
-upgrades bytes file upgraded (Err e) s u p = p
-
-pub upgrade_answered : {E : Type 0} (bytes : List ℕ) (upgraded : Meant) (r : Result Answer E) → IfOk r (λ answer. ((answer.status ≡ Yes) × IsPrint upgraded answer.output.items) ⊎ ((answer.status ≡ Refused) × IsLongPrint bytes upgraded answer.output.items)) → IfOk r (λ answer. IsAnswered answer.status × (answer.status ≢ Usage))
-upgrade_answered bytes upgraded (Ok answer) (inl p) = subst (λ status. IsAnswered status × (status ≢ Usage)) (sym p.0) (tt, λ e. absurd (cc e))
-upgrade_answered bytes upgraded (Ok answer) (inr p) = subst (λ status. IsAnswered status × (status ≢ Usage)) (sym p.0) (tt, λ e. absurd (cc e))
-upgrade_answered bytes upgraded (Err e) p = p
+pub upgrades : {E : Type 0} (bytes : List ℕ) (file upgraded : Meant) (result : Result Answer E) → SpellsFile bytes file → IsUpgrade file upgraded → IfOk result (λ a. ShowsTo bytes upgraded a.status a.output.items) → IfOk result (λ a. UpgradesTo bytes a.status a.output.items)
+upgrades bytes file upgraded result spells is h =
+    shown_as bytes upgraded (SpellsUpgrade bytes) (layered (Refuses bytes) (RefusesUpgrade bytes)) result
+    (λ output p. (file, upgraded, spells, is, p)) (λ n o s l. inr (file, upgraded, spells, is, l)) h

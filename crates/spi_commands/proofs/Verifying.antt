@@ -24,10 +24,11 @@ use Rattle.spi_commands.specs.declared.answer.Answer.{Answer}
 use Rattle.spi_commands.specs.declared.answer.Stop.{Stop}
 use Rattle.spi_commands.specs.declared.status.Status.{Status}
 use Rattle.spi_commands.specs.declared.status.Status.TheVariants.{Yes, No, Refused}
-use Rattle.spi_commands.specs.Answer.{IsPlaceless}
-use Rattle.spi_commands.specs.Verifying.{IsUnprovedLine, VerifiesTo}
+use Rattle.spi_commands.specs.Refusals.{layered, IsLineOf, Refuses, IsMissing}
+use Rattle.spi_commands.specs.Verifying.{IsUnprovedLine, LacksDerivation, VerifiesTo}
 use Rattle.spi_commands.specs.Reading.{IsRead}
 use Rattle.spi_commands.proofs.Judging.{place_of, names_of}
+use Rattle.spi_commands.proofs.Lines.{refuses_by}
 use Rattle.spi_commands.proofs.Rules.{rule_within, few_uses, one_derivation}
 
 -- where the file tells that a use stands
@@ -48,11 +49,9 @@ pub audits_tree : (bytes : List ℕ) (f : File) (d : Deriv) → IsRead bytes f �
 audits_tree bytes f d (tree, is, stands, marks) e = one_derivation tree (rule_uses d) is.formed (sym stands.derivation ∙ e)
 
 -- a missing derivation
-pub lacks : (bytes : List ℕ) (f : File) (result : Result Answer Stop) → IsRead bytes f → uses_of f.derivation ≡ None → IfOk result (λ a. (a.status ≡ Refused) × IsPlaceless bytes 38 (codes "derivation") a.output.items) → IfOk result (λ a. VerifiesTo bytes a.status a.output.items)
-lacks bytes f (Ok a) (tree, is, stands, marks) e h =
-    let wanted : VerifiesTo bytes Refused a.output.items = inr ((meant f, (tree, is, stands), e), h.1) in
-    subst (λ s. VerifiesTo bytes s a.output.items) (sym h.0) wanted
-lacks bytes f (Err s) r e h = tt
+pub lacks : (bytes : List ℕ) (f : File) (result : Result Answer Stop) → IsRead bytes f → uses_of f.derivation ≡ None → IfOk result (λ a. (a.status ≡ Refused) × IsLineOf bytes (IsMissing (codes "derivation")) a.output.items) → IfOk result (λ a. VerifiesTo bytes a.status a.output.items)
+lacks bytes f result (tree, is, stands, marks) e h =
+    refuses_by bytes (IsMissing (codes "derivation")) (layered (Refuses bytes) (LacksDerivation bytes)) _ _ result (λ n o s m. inr ((meant f, (tree, is, stands), e), m)) h
 
 -- a proof
 pub proved : (bytes output : List ℕ) (f : File) (us : List RuleUse) (status : Status) → IsRead bytes f → uses_of f.derivation ≡ Some us → Proves us (untrusted f.process.names) f.process.process [] → status ≡ Yes → output ≡ codes "yes\n" → VerifiesTo bytes status output

@@ -68,35 +68,17 @@ asked (word ∷ other ∷ more) players =
 
 -- it asks the players
 abbrev pub is_play : Option Command → Bool
-is_play None = false
-is_play (Some Check) = false
-is_play (Some Derive) = false
-is_play (Some Verify) = false
-is_play (Some Replay) = false
 is_play (Some (Play most only)) = true
-is_play (Some Print) = false
-is_play (Some (Load sessions)) = false
-is_play (Some Upgrade) = false
+is_play command = false
 
--- it reads a file
-abbrev pub reads_file : Option Command → Bool
-reads_file None = false
-reads_file (Some Check) = true
-reads_file (Some Derive) = true
-reads_file (Some Verify) = true
-reads_file (Some Replay) = true
-reads_file (Some (Play most only)) = true
-reads_file (Some Print) = true
-reads_file (Some (Load sessions)) = false
-reads_file (Some Upgrade) = true
+-- it has an input
+abbrev pub reads_input : Option Command → Bool
+reads_input None = false
+reads_input (Some (Load sessions)) = false
+reads_input command = true
 
 -- what is known of a command's numbers, where there are so many players
 abbrev pub IsWithin : ℕ → Command → Type 0
-IsWithin players Check = ⊤
-IsWithin players Derive = ⊤
-IsWithin players Verify = ⊤
-IsWithin players Replay = ⊤
 IsWithin players (Play most only) = (most ≤ 1000) × ForSome only (λ place. place < players)
-IsWithin players Print = ⊤
 IsWithin players (Load sessions) = (1 ≤ sessions) × (sessions ≤ 500)
-IsWithin players Upgrade = ⊤
+IsWithin players command = ⊤

@@ -1,5 +1,7 @@
--- What `load` answers: the status and the output.
+-- What `load` answers and promises.
 use Rattle.std.specs.Prelude.{◌≡◌, ℕ, ◌+◌, ◌-◌, ◌*◌, List, length}
+use Rattle.std.specs.declared.option.Option.{Option}
+use Rattle.std.specs.Io.KnownBytes.{Appends}
 use Rattle.spi_tree.specs.Trees.{File}
 use Rattle.spi_gen.specs.Sessions.{IsSessions}
 use Rattle.spi_rules.specs.Derivations.{RuleUse}
@@ -9,7 +11,8 @@ use Rattle.spi_scope.specs.StandsFor.{Meant, StandsFor}
 use Rattle.spi_deriv.specs.Canonical.{Canonical}
 use Rattle.spi_report.specs.Loaded.{loaded_text}
 use Rattle.spi_commands.specs.declared.status.Status.{Status}
-use Rattle.spi_commands.specs.declared.status.Status.TheVariants.{Yes, No, Refused, ReadFault, WriteFault, NoMemory, Usage}
+use Rattle.spi_commands.specs.declared.status.Status.TheVariants.{Yes}
+use Rattle.spi_commands.specs.Answers.{Answers, never}
 
 -- The text has the count of the file of so many sessions, and the number of rules of its process's canonical derivation.
 -- These are 81 nodes and 31 rules a session, and 11 nodes more and one rule less.
@@ -22,10 +25,9 @@ IsLoaded k output =
 
 -- always yes
 abbrev pub LoadsTo : ℕ → Status → List ℕ → Type 0
-LoadsTo k Yes output = IsLoaded k output
-LoadsTo k No output = ⊥
-LoadsTo k Refused output = ⊥
-LoadsTo k ReadFault output = ⊥
-LoadsTo k WriteFault output = ⊥
-LoadsTo k NoMemory output = ⊥
-LoadsTo k Usage output = ⊥
+LoadsTo k = Answers (IsLoaded k) never never
+
+-- `load` answers yes, and what is appended is that text.
+pub record IsLoadedOn (k : ℕ) (old new : Option (List ℕ)) (status : Status) : Type 0 where
+  pub yes : status ≡ Yes
+  pub written : (output : List ℕ) × IsLoaded k output × Appends old new output

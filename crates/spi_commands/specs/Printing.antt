@@ -1,52 +1,33 @@
--- What `print` and `upgrade` answer: the status and the output.
-use Rattle.std.specs.Prelude.{◌⊎◌, ℕ, ◌<◌, ◌≤◌, List, length}
-use Rattle.std.specs.Fmt.{decimal}
+-- What `print` answers and promises.
+use Rattle.std.specs.Prelude.{◌≡◌, ◌↔◌, ◌⊎◌, ℕ, List}
+use Rattle.std.specs.declared.option.Option.{Option}
+use Rattle.std.specs.Io.KnownBytes.{Appends}
 use Rattle.spi_scope.specs.StandsFor.{Meant}
-use Rattle.spi_show.specs.Files.{IsCanonicalText}
 use Rattle.spi_commands.specs.declared.status.Status.{Status}
-use Rattle.spi_commands.specs.declared.status.Status.TheVariants.{Yes, No, Refused, ReadFault, WriteFault, NoMemory, Usage}
-use Rattle.spi_commands.specs.Spelled.{limit, SpellsFile}
-use Rattle.spi_commands.specs.Answer.{IsRefusal, IsPlaceless}
-use Rattle.spi_commands.specs.Upgrading.{IsUpgrade}
+use Rattle.spi_commands.specs.declared.status.Status.TheVariants.{Yes, Refused}
+use Rattle.spi_commands.specs.Spelled.{SpellsFile, SpellsNone}
+use Rattle.spi_commands.specs.Answers.{Answers, never}
+use Rattle.spi_commands.specs.Refusals.{layered, IsLineOf, Refuses}
+use Rattle.spi_commands.specs.Canonical.{IsPrint, IsLong, HasLongPrint}
 
--- the text is the canonical one of the file, and is no longer than a file may be
-abbrev pub IsPrint : Meant → List ℕ → Type 0
-IsPrint file output = IsCanonicalText file output × (length output ≤ limit)
-
--- that text is too long, and the output is the line of that refusal
-abbrev pub IsLongPrint : List ℕ → Meant → List ℕ → Type 0
-IsLongPrint bytes file output =
-    (text : List ℕ) × IsCanonicalText file text × (limit < length text) × IsPlaceless bytes 80 (decimal (length text)) output
-
--- the same of the file that the bytes spell, and of the one that this file is upgraded to
+-- of the file that the bytes spell
 abbrev pub SpellsPrint : List ℕ → List ℕ → Type 0
 SpellsPrint bytes output = (file : Meant) × SpellsFile bytes file × IsPrint file output
 
-abbrev pub SpellsLongPrint : List ℕ → List ℕ → Type 0
-SpellsLongPrint bytes output = (file : Meant) × SpellsFile bytes file × IsLongPrint bytes file output
+abbrev pub SpellsLongPrint : List ℕ → Type 0
+SpellsLongPrint bytes = (file : Meant) × SpellsFile bytes file × IsLong file
 
-abbrev pub SpellsUpgrade : List ℕ → List ℕ → Type 0
-SpellsUpgrade bytes output = (file upgraded : Meant) × SpellsFile bytes file × IsUpgrade file upgraded × IsPrint upgraded output
-
-abbrev pub SpellsLongUpgrade : List ℕ → List ℕ → Type 0
-SpellsLongUpgrade bytes output = (file upgraded : Meant) × SpellsFile bytes file × IsUpgrade file upgraded × IsLongPrint bytes upgraded output
+abbrev pub RefusesPrint : List ℕ → ℕ → Option ℕ → List ℕ → Type 0
+RefusesPrint bytes number offset shown = (file : Meant) × SpellsFile bytes file × HasLongPrint file number offset shown
 
 -- the canonical text, or a refusal
 abbrev pub PrintsTo : List ℕ → Status → List ℕ → Type 0
-PrintsTo bytes Yes output = SpellsPrint bytes output
-PrintsTo bytes No output = ⊥
-PrintsTo bytes Refused output = IsRefusal bytes output ⊎ SpellsLongPrint bytes output
-PrintsTo bytes ReadFault output = ⊥
-PrintsTo bytes WriteFault output = ⊥
-PrintsTo bytes NoMemory output = ⊥
-PrintsTo bytes Usage output = ⊥
+PrintsTo bytes = Answers (SpellsPrint bytes) never (IsLineOf bytes (layered (Refuses bytes) (RefusesPrint bytes)))
 
--- the canonical text in version 2, or a refusal
-abbrev pub UpgradesTo : List ℕ → Status → List ℕ → Type 0
-UpgradesTo bytes Yes output = SpellsUpgrade bytes output
-UpgradesTo bytes No output = ⊥
-UpgradesTo bytes Refused output = IsRefusal bytes output ⊎ SpellsLongUpgrade bytes output
-UpgradesTo bytes ReadFault output = ⊥
-UpgradesTo bytes WriteFault output = ⊥
-UpgradesTo bytes NoMemory output = ⊥
-UpgradesTo bytes Usage output = ⊥
+-- `print` answers yes exactly where the file's canonical text is no longer than a file may be, and refused where it is
+-- longer or the file is none; and after a yes what was appended is that text, and it spells the same file.
+pub record IsPrinted (bytes : List ℕ) (old new : Option (List ℕ)) (status : Status) : Type 0 where
+  pub yes : (status ≡ Yes) ↔ ((output : List ℕ) × SpellsPrint bytes output)
+  pub refused : (status ≡ Refused) ↔ (SpellsNone bytes ⊎ SpellsLongPrint bytes)
+  pub reads_back : status ≡ Yes → (file : Meant) → SpellsFile bytes file
+      → (output : List ℕ) × Appends old new output × IsPrint file output × SpellsFile output file

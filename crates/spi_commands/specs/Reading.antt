@@ -1,24 +1,57 @@
--- What reading bytes answers.
-use Rattle.std.specs.Prelude.{◌≡◌, ℕ, List, Some, ⊤}
+-- What reading an input gives.
+use Rattle.std.specs.Prelude.{◌≡◌, ℕ, ◌≤◌, List, length, Ok, Some, ⊤}
+use Rattle.std.specs.declared.option.Option.{Option}
+use Rattle.spi_lex.specs.Lexing.{Lexes, kinds_of}
+use Rattle.spi_lex.specs.Writing.{AreKinds, AreSpans, spans_of}
 use Rattle.spi_tree.specs.Trees as t
 use Rattle.spi_scope.specs.declared.file.File.{File}
 use Rattle.spi_scope.specs.Files.{meant, marked, marks_of}
 use Rattle.spi_scope.specs.StandsFor.{StandsFor}
 use Rattle.spi_commands.specs.declared.reading.Unread.{Unread}
 use Rattle.spi_commands.specs.declared.reading.Unread.TheVariants.{Refused, NoMemory}
-use Rattle.spi_commands.specs.Spelled.{IsTreeOf}
-use Rattle.spi_commands.specs.Answer.{Refuses}
+use Rattle.spi_commands.specs.declared.text.Text.{Text}
+use Rattle.spi_commands.specs.declared.text.Text.TheVariants.{Lexed, Refused as RefusedText}
+use Rattle.spi_commands.specs.declared.file.Given.{Given}
+use Rattle.spi_commands.specs.declared.file.Given.TheVariants.{File as GivenFile, Refused as RefusedFile}
+use Rattle.spi_commands.specs.Spelled.{limit, IsTreeOf}
+use Rattle.spi_commands.specs.Refusals.{Refuses, IsUnlexed, IsLineOf, IsRefusal}
 
 -- the bytes spell the file, and it tells where the nodes of its tree stand and which names are in scope there
 abbrev pub IsRead : List ℕ → File → Type 0
 IsRead bytes f = (tree : t.File) × IsTreeOf bytes tree × StandsFor tree (meant f) × (marked f ≡ marks_of tree)
 
--- the refusal is one of these bytes
+-- the refusal has one of these causes
+abbrev pub IsUnreadBy : (ℕ → Option ℕ → List ℕ → Type 0) → Unread → Type 0
+IsUnreadBy causes (Refused r) = causes r.number r.offset r.shown.items
+IsUnreadBy causes NoMemory = ⊤
+
+-- it is one of these bytes
 abbrev pub IsUnread : List ℕ → Unread → Type 0
-IsUnread bytes (Refused r) = Refuses bytes r.number r.offset r.shown.items
-IsUnread bytes NoMemory = ⊤
+IsUnread bytes = IsUnreadBy (Refuses bytes)
 
 -- the refusal has this number, stands there, and shows this
 abbrev pub Tells : ℕ → ℕ → List ℕ → Unread → Type 0
 Tells number offset shown (Refused r) = (r.number ≡ number) × (r.offset ≡ Some offset) × (r.shown.items ≡ shown)
 Tells number offset shown NoMemory = ⊤
+
+-- the tokens are those of the bytes, and these are few
+abbrev pub IsText : Text → Type 0
+IsText (Lexed bytes tokens) =
+    (length bytes.items ≤ limit) × Lexes bytes.items (Ok tokens.items) × AreKinds (kinds_of tokens.items)
+    × AreSpans 0 (spans_of tokens.items) (length bytes.items)
+IsText (RefusedText line) = ⊤
+
+-- the text is the one of these bytes
+abbrev pub GivesText : List ℕ → Text → Type 0
+GivesText bytes (Lexed taken tokens) = bytes ≡ taken.items
+GivesText bytes (RefusedText line) = IsLineOf bytes (IsUnlexed bytes) line.items
+
+-- the file is the one of the bytes, and these are few
+abbrev pub IsGiven : Given → Type 0
+IsGiven (GivenFile bytes file) = (length bytes.items ≤ limit) × IsRead bytes.items file
+IsGiven (RefusedFile line) = ⊤
+
+-- what is given is what these bytes spell
+abbrev pub Gives : List ℕ → Given → Type 0
+Gives bytes (GivenFile taken file) = bytes ≡ taken.items
+Gives bytes (RefusedFile line) = IsRefusal bytes line.items

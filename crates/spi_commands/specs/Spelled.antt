@@ -1,8 +1,8 @@
--- The file that bytes spell, and whether its process is derivable.
-use Rattle.std.specs.Prelude.{ℕ, List, []}
+-- The file that bytes spell, and what holds of its process and of its derivation.
+use Rattle.std.specs.Prelude.{◌≡◌, ℕ, List, [], Some, None}
 use Rattle.spi_scope.specs.StandsFor.{Meant}
 use Rattle.spi_rules.specs.Environment.{untrusted}
-use Rattle.spi_rules.specs.Derivations.{Derivable}
+use Rattle.spi_rules.specs.Derivations.{RuleUse, Derivable, Proves}
 use Rattle.spi_run.specs.Safety.{RobustlySafe, RobustlySafeMany}
 pub use Rattle.spi_spell.specs.Spelled.{limit, IsTreeOf, SpellsFile}
 
@@ -21,6 +21,21 @@ SpellsUnderivable bytes = (file : Meant) × SpellsFile bytes file × (¬ IsDeriv
 -- the bytes spell no file
 abbrev pub SpellsNone : List ℕ → Type 0
 SpellsNone bytes = (file : Meant) → ¬ SpellsFile bytes file
+
+-- the derivation proves that the file's process has the empty effect, where its free names are untrusted
+abbrev pub IsProved : Meant → List RuleUse → Type 0
+IsProved file d = Proves d (untrusted file.process.names) file.process.process []
+
+-- the bytes spell a file whose derivation proves that, and one whose derivation doesn't
+abbrev pub SpellsProved : List ℕ → Type 0
+SpellsProved bytes = (file : Meant) × (d : List RuleUse) × SpellsFile bytes file × (file.derivation ≡ Some d) × IsProved file d
+
+abbrev pub SpellsUnproved : List ℕ → Type 0
+SpellsUnproved bytes = (file : Meant) × (d : List RuleUse) × SpellsFile bytes file × (file.derivation ≡ Some d) × (¬ IsProved file d)
+
+-- the bytes spell a file without a derivation
+abbrev pub SpellsUnderived : List ℕ → Type 0
+SpellsUnderived bytes = (file : Meant) × SpellsFile bytes file × (file.derivation ≡ None)
 
 -- The process of the file that the bytes spell is robustly safe: beside every opponent, along every run of
 -- every length, each end event has an earlier begin event of its own with the same label.

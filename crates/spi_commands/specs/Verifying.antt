@@ -1,10 +1,11 @@
--- What `verify` answers: the status and the output.
-use Rattle.std.specs.Prelude.{◌≡◌, ◌⊎◌, ℕ, List, [], codes, Some, None}
+-- What `verify` answers and promises.
+use Rattle.std.specs.Prelude.{◌≡◌, ◌↔◌, ◌⊎◌, ℕ, List, codes, Some}
+use Rattle.std.specs.declared.option.Option.{Option}
 use Rattle.spi_text.specs.declared.lines.Span.{Span}
 use Rattle.spi_tree.specs.Trees.{File}
 use Rattle.spi_term.specs.Term.{Effect}
 use Rattle.spi_rules.specs.Environment.{untrusted}
-use Rattle.spi_rules.specs.Derivations.{RuleUse, Proves}
+use Rattle.spi_rules.specs.Derivations.{RuleUse}
 use Rattle.spi_scope.specs.StandsFor.{Meant, StandsFor}
 use Rattle.spi_scope.specs.Files.{rule_places}
 use Rattle.spi_scope.specs.Places.{place_in}
@@ -13,24 +14,11 @@ use Rattle.spi_fault.specs.Faults.{Told, IsUnpaid}
 use Rattle.spi_report.specs.Fault.{fault_text}
 use Rattle.spi_report.specs.Wrong.{wrong_text}
 use Rattle.spi_commands.specs.declared.status.Status.{Status}
-use Rattle.spi_commands.specs.declared.status.Status.TheVariants.{Yes, No, Refused, ReadFault, WriteFault, NoMemory, Usage}
-use Rattle.spi_commands.specs.Spelled.{IsTreeOf, SpellsFile}
-use Rattle.spi_commands.specs.Answer.{IsRefusal, IsPlaceless, place_at, spelled_at}
-
--- the derivation proves that the file's process has the empty effect, where its free names are untrusted
-abbrev pub IsProved : Meant → List RuleUse → Type 0
-IsProved file d = Proves d (untrusted file.process.names) file.process.process []
-
--- the bytes spell a file whose derivation proves that, and one whose derivation doesn't
-abbrev pub SpellsProved : List ℕ → Type 0
-SpellsProved bytes = (file : Meant) × (d : List RuleUse) × SpellsFile bytes file × (file.derivation ≡ Some d) × IsProved file d
-
-abbrev pub SpellsUnproved : List ℕ → Type 0
-SpellsUnproved bytes = (file : Meant) × (d : List RuleUse) × SpellsFile bytes file × (file.derivation ≡ Some d) × (¬ IsProved file d)
-
--- the bytes spell a file without a derivation
-abbrev pub SpellsUnderived : List ℕ → Type 0
-SpellsUnderived bytes = (file : Meant) × SpellsFile bytes file × (file.derivation ≡ None)
+use Rattle.spi_commands.specs.declared.status.Status.TheVariants.{Yes, No, Refused}
+use Rattle.spi_commands.specs.Spelled.{IsTreeOf, SpellsNone, SpellsProved, SpellsUnproved, SpellsUnderived, IsSafe, IsManySafe}
+use Rattle.spi_commands.specs.Answers.{Answers}
+use Rattle.spi_commands.specs.Refusals.{layered, IsLineOf, Refuses, IsMissing}
+use Rattle.spi_commands.specs.NoLine.{place_at, spelled_at}
 
 -- where rule use number i of a tree's derivation stands
 abbrev pub rule_at : File → ℕ → Span
@@ -51,16 +39,21 @@ IsUnprovedLine bytes output =
     (tree : File) × (file : Meant) × (d : List RuleUse) × IsTreeOf bytes tree × StandsFor tree file × (file.derivation ≡ Some d)
     × (IsWrongLine bytes tree file d output ⊎ IsUnpaidLine bytes tree file d output)
 
--- a missing part, and the line of that refusal
-abbrev pub LacksDerivation : List ℕ → List ℕ → Type 0
-LacksDerivation bytes output = SpellsUnderived bytes × IsPlaceless bytes 38 (codes "derivation") output
+-- the file has no derivation
+abbrev pub LacksDerivation : List ℕ → ℕ → Option ℕ → List ℕ → Type 0
+LacksDerivation bytes number offset shown = SpellsUnderived bytes × IsMissing (codes "derivation") number offset shown
 
 -- yes, no, or a refusal
 abbrev pub VerifiesTo : List ℕ → Status → List ℕ → Type 0
-VerifiesTo bytes Yes output = SpellsProved bytes × (output ≡ codes "yes\n")
-VerifiesTo bytes No output = SpellsUnproved bytes × IsUnprovedLine bytes output
-VerifiesTo bytes Refused output = IsRefusal bytes output ⊎ LacksDerivation bytes output
-VerifiesTo bytes ReadFault output = ⊥
-VerifiesTo bytes WriteFault output = ⊥
-VerifiesTo bytes NoMemory output = ⊥
-VerifiesTo bytes Usage output = ⊥
+VerifiesTo bytes =
+    Answers (λ output. SpellsProved bytes × (output ≡ codes "yes\n")) (λ output. SpellsUnproved bytes × IsUnprovedLine bytes output)
+    (IsLineOf bytes (layered (Refuses bytes) (LacksDerivation bytes)))
+
+-- `verify` answers yes exactly where the file's derivation proves that its process has the empty effect, no exactly where it
+-- doesn't, and refused where the file is none or has no derivation; and after a yes the process is robustly safe.
+pub record IsVerified (bytes : List ℕ) (status : Status) : Type 0 where
+  pub yes : (status ≡ Yes) ↔ SpellsProved bytes
+  pub no : (status ≡ No) ↔ SpellsUnproved bytes
+  pub refused : (status ≡ Refused) ↔ (SpellsNone bytes ⊎ SpellsUnderived bytes)
+  pub safe : status ≡ Yes → IsSafe bytes
+  pub many_to_one : status ≡ Yes → IsManySafe bytes

@@ -1,8 +1,9 @@
 // Answers, and why there is none.
-ghost use Rattle.std.specs.Prelude.{◌≡◌, ◌≤◌, length, IfOk, OnErr, IfSome, IsSome, Err};
+ghost use Rattle.std.specs.Prelude.{◌≡◌, ◌<◌, ◌≤◌, length, IfOk, OnErr, IfSome, IsSome, Err};
 ghost use Rattle.spi_text.specs.Place.{IsSized};
 ghost use Rattle.spi_report.specs.Names.{name_of};
 ghost use Rattle.spi_report.specs.Refused.{refused_text};
+ghost use Rattle.spi_commands.specs.Refusals.{IsLineOf, IsMissing, IsTooMuch};
 ghost use Rattle.spi_commands.specs.declared.answer.Stop.TheVariants.{NoMemory};
 
 use crate::status::Status;
@@ -43,7 +44,18 @@ pub fn made(alloc: Global, status: Status, output: &[u8]) -> Result<Answer, Stop
     })
 }
 
-/// The line of a refusal.
+/// A refusal with this line.
+pub fn refused_with(line: Vec<u8>) -> Answer
+    ensures status { result.status ≡ Status.Refused }
+    ensures output { result.output.items ≡ line.items }
+{
+    Answer {
+        status: Status::Refused,
+        output: line,
+    }
+}
+
+/// The refusal with this cause.
 pub fn refusal(alloc: Global, bytes: &[u8], r: &Refusal) -> Result<Answer, Stop>
     requires sized { IsSized bytes.now }
     requires named { IsSome (name_of r.now.number) }
@@ -51,9 +63,51 @@ pub fn refusal(alloc: Global, bytes: &[u8], r: &Refusal) -> Result<Answer, Stop>
     ensures ok { IfOk result (λ answer. (answer.status ≡ Status.Refused) × (answer.output.items ≡ refused_text bytes.now r.now)) }
     ensures err { OnErr result (result ≡ Err Stop.NoMemory) }
 {
-    let lines = Lines::of(alloc, bytes)?;
+    let output = refusal_line(alloc, bytes, r)?;
     Ok(Answer {
         status: Status::Refused,
-        output: refused(alloc, &lines, r)?,
+        output,
     })
+}
+
+/// The line of that refusal.
+pub fn refusal_line(alloc: Global, bytes: &[u8], r: &Refusal) -> Result<Vec<u8>, AllocError>
+    requires sized { IsSized bytes.now }
+    requires named { IsSome (name_of r.now.number) }
+    requires within { IfSome r.now.offset (λ offset. offset ≤ length bytes.now) }
+    ensures { IfOk result (λ line. line.items ≡ refused_text bytes.now r.now) }
+{
+    let lines = Lines::of(alloc, bytes)?;
+    refused(alloc, &lines, r)
+}
+
+/// The refusal of a text that would have so many bytes, which are more than a file may have.
+pub fn too_much(alloc: Global, bytes: &[u8], count: u64) -> Result<Answer, Stop>
+    requires sized { length bytes.now ≤ 16_777_216 }
+    requires much { 16_777_216 < count }
+    ensures ok { IfOk result (λ answer. (answer.status ≡ Status.Refused) × IsLineOf bytes.now (IsTooMuch count) answer.output.items) }
+    ensures err { OnErr result (result ≡ Err Stop.NoMemory) }
+{
+    let shown = format!(in alloc; "{count}")?.into_bytes();
+    let r = Refusal {
+        number: 80,
+        offset: None,
+        shown,
+    };
+    refusal(alloc, bytes, &r)
+}
+
+/// The refusal of a file that lacks a part.
+pub fn missing(alloc: Global, bytes: &[u8], part: &[u8]) -> Result<Answer, Stop>
+    requires { length bytes.now ≤ 16_777_216 }
+    ensures ok { IfOk result (λ answer. (answer.status ≡ Status.Refused) × IsLineOf bytes.now (IsMissing part.now) answer.output.items) }
+    ensures err { OnErr result (result ≡ Err Stop.NoMemory) }
+{
+    let shown = part.to_vec(alloc)?;
+    let r = Refusal {
+        number: 38,
+        offset: None,
+        shown,
+    };
+    refusal(alloc, bytes, &r)
 }

@@ -1,24 +1,34 @@
 // The command `check`.
-ghost use Rattle.std.specs.Prelude.{◌≡◌, ◌≢◌, ◌≤◌, length, reverse, IfOk, OnErr, Err};
-ghost use Rattle.spi_scope.specs.Chains.{chain_at};
-ghost use Rattle.spi_scope.specs.Places.{place_in};
-ghost use Rattle.spi_fault.specs.Faults.{IsFault, told};
-ghost use Rattle.spi_report.specs.Fault.{fault_text};
-ghost use Rattle.spi_commands.specs.Answer.{ChecksTo, IsNo};
-ghost use Rattle.spi_commands.specs.Reading.{IsRead};
+ghost use Rattle.std.specs.Prelude.{◌≡◌, ◌≢◌, ◌≤◌, ℕ, List, length, IfOk, OnErr, Err};
+ghost use Rattle.spi_commands.specs.Checking.{ChecksTo};
+ghost use Rattle.spi_commands.specs.Reading.{IsRead, IsGiven, Gives};
 ghost use Rattle.spi_commands.specs.Run.{IsAnswered};
 
-use crate::answer::{Answer, Stop, made};
+use crate::answer::{Answer, Stop, made, refused_with};
+use crate::file::Given;
+use crate::rejection::rejected;
 use crate::status::Status;
-use spi_fault::{Fault, explain};
+use spi_fault::explain;
 use spi_infer::infer;
-use spi_report::{no_fault, yes};
+use spi_report::yes;
 use spi_scope::File;
-use spi_text::Lines;
 use std::alloc::Global;
 
+/// What `check` answers on what it is given.
+pub fn checks(alloc: Global, given: Given) -> Result<Answer, Stop>
+    requires { IsGiven given }
+    ensures ok { IfOk result (λ answer. (bytes : List ℕ) → Gives bytes given → ChecksTo bytes answer.status answer.output.items) }
+    ensures answered { IfOk result (λ answer. IsAnswered answer.status × (answer.status ≢ Status.Usage)) }
+    ensures err { OnErr result (result ≡ Err Stop.NoMemory) }
+{
+    match given {
+        Given::File { bytes, file } => checked(alloc, &bytes, &file),
+        Given::Refused(line) => Ok(refused_with(line)),
+    }
+}
+
 /// What `check` answers on the file of these bytes.
-pub fn checked(alloc: Global, bytes: &[u8], file: &File) -> Result<Answer, Stop>
+fn checked(alloc: Global, bytes: &[u8], file: &File) -> Result<Answer, Stop>
     requires sized { length bytes.now ≤ 16_777_216 }
     requires read { IsRead bytes.now file.now }
     ensures ok { IfOk result (λ answer. ChecksTo bytes.now answer.status answer.output.items) }
@@ -30,30 +40,4 @@ pub fn checked(alloc: Global, bytes: &[u8], file: &File) -> Result<Answer, Stop>
         None => made(alloc, Status::Yes, yes()),
         Some(fault) => rejected(alloc, bytes, file, &fault),
     }
-}
-
-/// The no of a file's process, which has this fault.
-pub fn rejected(alloc: Global, bytes: &[u8], file: &File, fault: &Fault) -> Result<Answer, Stop>
-    requires sized { length bytes.now ≤ 16_777_216 }
-    requires read { IsRead bytes.now file.now }
-    requires fault { IsFault (λ i. reverse (chain_at file.now.marks.scopes i)) file.now.process.names file.now.process.process (told fault.now) }
-    ensures ok { IfOk result (λ answer. (answer.status ≡ Status.No) × IsNo bytes.now answer.output.items) }
-    ensures err { OnErr result (result ≡ Err Stop.NoMemory) }
-{
-    fault_line(alloc, bytes, file, fault)
-}
-
-/// The line of a fault.
-pub fn fault_line(alloc: Global, bytes: &[u8], file: &File, fault: &Fault) -> Result<Answer, Stop>
-    requires sized { length bytes.now ≤ 16_777_216 }
-    requires read { IsRead bytes.now file.now }
-    ensures ok { IfOk result (λ answer. (answer.status ≡ Status.No) × (answer.output.items ≡ fault_text bytes.now (λ i. place_in file.now.marks.process.items i) (λ i. reverse (chain_at file.now.marks.scopes i)) (told fault.now))) }
-    ensures err { OnErr result (result ≡ Err Stop.NoMemory) }
-{
-    let lines = Lines::of(alloc, bytes)?;
-    let output = no_fault(alloc, file, &lines, fault)?;
-    Ok(Answer {
-        status: Status::No,
-        output,
-    })
 }

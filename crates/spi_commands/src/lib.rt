@@ -3,6 +3,7 @@
 
 mod answer;
 mod asked;
+mod canonical;
 mod check;
 mod derive;
 mod file;
@@ -13,9 +14,11 @@ mod play;
 mod players;
 mod print;
 mod reading;
+mod rejection;
 mod replay;
 mod running;
 mod status;
+mod text;
 mod upgrade;
 mod verify;
 

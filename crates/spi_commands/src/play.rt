@@ -1,21 +1,21 @@
 // The command `play`.
-ghost use Rattle.std.specs.Prelude.{◌≡◌, ◌≢◌, ◌<◌, ◌≤◌, length, map, string_bytes, vec_len, IfOk, IsSome, OnErr, Err, Some};
+ghost use Rattle.std.specs.Prelude.{◌≡◌, ◌≢◌, ◌<◌, ◌≤◌, ℕ, List, length, map, string_bytes, vec_len, IfOk, IsSome, OnErr, Err, None, Some};
 ghost use Rattle.std.specs.Option.{ForSome};
 ghost use Rattle.spi_run.specs.Opponent.{IsOpponent};
 ghost use Rattle.spi_run.specs.View.{step as step_of};
 ghost use Rattle.spi_play.specs.Way.{seen_of};
 ghost use Rattle.spi_report.specs.Names.{name_of};
 ghost use Rattle.spi_scope.specs.Files.{meant};
-ghost use Rattle.spi_commands.specs.Answer.{IsPlaceless};
-ghost use Rattle.spi_commands.specs.Playing.{ListsTo, PlaysTo, play_number, play_shown};
-ghost use Rattle.spi_commands.specs.Reading.{IsRead};
+ghost use Rattle.spi_commands.specs.Playing.{ListsTo, PlaysTo, LeavesPlayers, IsPlayFault};
+ghost use Rattle.spi_commands.specs.Reading.{IsRead, IsGiven, Gives};
+ghost use Rattle.spi_commands.specs.Refusals.{IsLineOf, IsCause};
 ghost use Rattle.spi_commands.specs.Run.{IsAnswered};
 
-use crate::answer::{Answer, Stop, refusal};
-use crate::derive::too_long;
-use crate::file::LIMIT;
-use crate::opponent::{missing, not_opponent};
+use crate::answer::{Answer, Stop, missing, refusal, refused_with, too_much};
+use crate::file::Given;
+use crate::opponent::not_opponent;
 use crate::status::Status;
+use crate::text::LIMIT;
 use spi_opponent::is_opponent;
 use spi_play::{PlayFault, Player, play};
 use spi_replay::Pool;
@@ -29,8 +29,33 @@ use std::alloc::Global;
 /// How many places a play may have.
 const PLACES: u32 = 1_000;
 
-/// What `play` answers on the file of these bytes, where so many steps are taken at most.
-pub fn played(
+/// What `play` answers on what it is given, where so many steps are taken at most. Where memory runs out the players are
+/// as they were, or as a play of the file left them.
+pub fn plays(
+    alloc: Global,
+    given: Given,
+    players: &mut Vec<Box<dyn Player>>,
+    most: u32,
+    only: Option<usize>,
+) -> Result<Answer, Stop>
+    requires given { IsGiven given }
+    requires few { most ≤ 1000 }
+    requires only { ForSome only (λ place. place < vec_len players.old) }
+    ensures ok { IfOk result (λ answer. (bytes : List ℕ) → Gives bytes given → PlaysTo most only bytes
+        (seen_of (λ b. times b) (λ b. way b) players.old.items) (seen_of (λ b. times b) (λ b. way b) players.new.items) answer.status answer.output.items) }
+    ensures answered { IfOk result (λ answer. IsAnswered answer.status × (answer.status ≢ Status.Usage)) }
+    ensures left { OnErr result ((bytes : List ℕ) → Gives bytes given → LeavesPlayers most only bytes
+        (seen_of (λ b. times b) (λ b. way b) players.old.items) (seen_of (λ b. times b) (λ b. way b) players.new.items)) }
+    ensures err { OnErr result (result ≡ Err Stop.NoMemory) }
+{
+    match given {
+        Given::File { bytes, file } => played(alloc, &bytes, &file, players, most, only),
+        Given::Refused(line) => Ok(refused_with(line)),
+    }
+}
+
+/// What `play` answers on the file of these bytes.
+fn played(
     alloc: Global,
     bytes: &[u8],
     file: &File,
@@ -42,8 +67,11 @@ pub fn played(
     requires read { IsRead bytes.now file.now }
     requires few { most ≤ 1000 }
     requires only { ForSome only (λ place. place < vec_len players.old) }
-    ensures ok { IfOk result (λ answer. PlaysTo most only bytes.now (seen_of (λ b. times b) (λ b. way b) players.old.items) (seen_of (λ b. times b) (λ b. way b) players.new.items) answer.status answer.output.items) }
+    ensures ok { IfOk result (λ answer. PlaysTo most only bytes.now
+        (seen_of (λ b. times b) (λ b. way b) players.old.items) (seen_of (λ b. times b) (λ b. way b) players.new.items) answer.status answer.output.items) }
     ensures answered { IfOk result (λ answer. IsAnswered answer.status × (answer.status ≢ Status.Usage)) }
+    ensures left { OnErr result (LeavesPlayers most only bytes.now
+        (seen_of (λ b. times b) (λ b. way b) players.old.items) (seen_of (λ b. times b) (λ b. way b) players.new.items)) }
     ensures err { OnErr result (result ≡ Err Stop.NoMemory) }
 {
     match &file.opponent {
@@ -71,8 +99,11 @@ fn beside(
     requires is { IsOpponent opponent.now.process }
     requires few { most ≤ 1000 }
     requires only { ForSome only (λ place. place < vec_len players.old) }
-    ensures ok { IfOk result (λ answer. PlaysTo most only bytes.now (seen_of (λ b. times b) (λ b. way b) players.old.items) (seen_of (λ b. times b) (λ b. way b) players.new.items) answer.status answer.output.items) }
+    ensures ok { IfOk result (λ answer. PlaysTo most only bytes.now
+        (seen_of (λ b. times b) (λ b. way b) players.old.items) (seen_of (λ b. times b) (λ b. way b) players.new.items) answer.status answer.output.items) }
     ensures answered { IfOk result (λ answer. IsAnswered answer.status × (answer.status ≢ Status.Usage)) }
+    ensures left { OnErr result (LeavesPlayers most only bytes.now
+        (seen_of (λ b. times b) (λ b. way b) players.old.items) (seen_of (λ b. times b) (λ b. way b) players.new.items)) }
     ensures err { OnErr result (result ≡ Err Stop.NoMemory) }
 {
     let mut pool = Pool::start(alloc, &file.process, opponent, PLACES)?;
@@ -97,14 +128,14 @@ fn listed(alloc: Global, bytes: &[u8], steps: &[Step]) -> Result<Answer, Stop>
             output,
         })
     } else {
-        too_long(alloc, bytes, count)
+        too_much(alloc, bytes, count)
     }
 }
 
 /// The refusal of a play.
 fn refused(alloc: Global, bytes: &[u8], fault: &PlayFault) -> Result<Answer, Stop>
     requires { length bytes.now ≤ 16_777_216 }
-    ensures ok { IfOk result (λ answer. (answer.status ≡ Status.Refused) × (fault.now ≢ PlayFault.NoMemory) × IsPlaceless bytes.now (play_number fault.now) (play_shown fault.now) answer.output.items) }
+    ensures ok { IfOk result (λ answer. (answer.status ≡ Status.Refused) × IsLineOf bytes.now (IsPlayFault fault.now) answer.output.items) }
     ensures answered { IfOk result (λ answer. IsAnswered answer.status × (answer.status ≢ Status.Usage)) }
     ensures err { OnErr result (result ≡ Err Stop.NoMemory) }
 {
@@ -133,7 +164,7 @@ fn refused(alloc: Global, bytes: &[u8], fault: &PlayFault) -> Result<Answer, Sto
 fn placeless(alloc: Global, bytes: &[u8], number: u32, shown: String) -> Result<Answer, Stop>
     requires sized { length bytes.now ≤ 16_777_216 }
     requires named { IsSome (name_of number) }
-    ensures ok { IfOk result (λ answer. (answer.status ≡ Status.Refused) × IsPlaceless bytes.now number (string_bytes shown) answer.output.items) }
+    ensures ok { IfOk result (λ answer. (answer.status ≡ Status.Refused) × IsLineOf bytes.now (IsCause number None (string_bytes shown)) answer.output.items) }
     ensures err { OnErr result (result ≡ Err Stop.NoMemory) }
 {
     let r = Refusal {

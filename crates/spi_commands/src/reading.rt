@@ -1,18 +1,19 @@
 // The file that bytes spell.
-ghost use Rattle.std.specs.Prelude.{◌≡◌, ◌⊎◌, ◌≤◌, List, [], length, drop, IfOk, IfErr, Ok, Err};
+ghost use Rattle.std.specs.Prelude.{◌≡◌, ◌≤◌, length, drop, IfOk, IfErr, Ok};
 ghost use Rattle.std.specs.Fmt.{decimal};
 ghost use Rattle.spi_lex.specs.Lexing.{Lexes};
-ghost use Rattle.spi_lex.specs.Writing.{AreKinds, AreSpans, spans_of};
 ghost use Rattle.spi_lex.specs.Lexing.{kinds_of};
+ghost use Rattle.spi_lex.specs.Writing.{AreKinds};
 ghost use Rattle.spi_tree.specs.Views.{file_of};
 ghost use Rattle.spi_scope.specs.Files.{meant};
 ghost use Rattle.spi_scope.specs.FaultPlaces.{span_from};
 ghost use Rattle.spi_commands.specs.Spelled.{IsTreeOf, SpellsFile};
-ghost use Rattle.spi_commands.specs.Answer.{Refuses, start_of, scope_number, scope_shown};
+ghost use Rattle.spi_commands.specs.Refusals.{start_of, scope_number, scope_shown};
 ghost use Rattle.spi_commands.specs.Reading.{IsRead, IsUnread, Tells};
 ghost use Rattle.spi_commands.specs.declared.reading.Unread.TheVariants.{NoMemory};
 
-use spi_lex::{LexFault, Token, lex};
+use crate::text::{unlexed, unspelled};
+use spi_lex::{Token, lex};
 use spi_parse::{ParseFault, parse};
 use spi_report::Refusal;
 use spi_scope::{File, ScopeFault, resolve};
@@ -50,34 +51,8 @@ pub fn read(alloc: Global, bytes: &[u8]) -> Result<File, Unread>
     }
 }
 
-/// The refusal of a lexical fault.
-fn unlexed(alloc: Global, bytes: &[u8], fault: LexFault) -> Unread
-    requires within { length bytes.now ≤ 16_777_216 }
-    requires fault { (fault ≡ LexFault.NoMemory) ⊎ Lexes bytes.now (Err fault) }
-    ensures { IsUnread bytes.now result }
-{
-    match fault {
-        LexFault::NotUtf8 { at } => unspelled(alloc, 10, at),
-        LexFault::BadChar { at } => unspelled(alloc, 11, at),
-        LexFault::BadNumber { at } => unspelled(alloc, 12, at),
-        LexFault::NameTooLong { at } => unspelled(alloc, 13, at),
-        LexFault::NoMemory => Unread::NoMemory,
-    }
-}
-
-/// A refusal that shows nothing.
-fn unspelled(alloc: Global, number: u32, offset: u32) -> Unread
-    ensures { Tells number offset [] result }
-{
-    Unread::Refused(Refusal {
-        number,
-        offset: Some(offset),
-        shown: Vec::new(alloc),
-    })
-}
-
 /// The file that the tokens of the bytes spell.
-fn read_tokens(alloc: Global, bytes: &[u8], tokens: &[Token]) -> Result<File, Unread>
+pub fn read_tokens(alloc: Global, bytes: &[u8], tokens: &[Token]) -> Result<File, Unread>
     requires within { length bytes.now ≤ 16_777_216 }
     requires few { length tokens.now ≤ 16_777_216 }
     requires lexed { Lexes bytes.now (Ok tokens.now) }

@@ -1,5 +1,5 @@
 // The command `replay`.
-ghost use Rattle.std.specs.Prelude.{◌≡◌, ◌≢◌, ◌⊎◌, ◌+◌, ◌-◌, ◌<◌, ◌^◌, ◌≤◌, ◌++◌, length, map, option_to_list, Option, IfOk, IfErr, IfSome, OnOk, OnErr, Err, Some};
+ghost use Rattle.std.specs.Prelude.{◌≡◌, ◌≢◌, ◌⊎◌, ◌+◌, ◌-◌, ◌<◌, ◌^◌, ◌≤◌, ◌++◌, ℕ, List, length, map, option_to_list, Option, IfOk, IfErr, IfSome, OnOk, OnErr, Err, Some};
 ghost use Rattle.std.specs.Fmt.{decimal};
 ghost use Rattle.spi_run.specs.Opponent.{IsOpponent};
 ghost use Rattle.spi_run.specs.Reduction.{Event as Shown};
@@ -7,14 +7,16 @@ ghost use Rattle.spi_run.specs.View.{step as step_of, event as event_of};
 ghost use Rattle.spi_replay.specs.Stepping.{Refuses, IsTaken, event_in};
 ghost use Rattle.spi_trace.specs.Pairing.{IsPairing};
 ghost use Rattle.spi_scope.specs.Places.{place_in};
-ghost use Rattle.spi_commands.specs.Beside.{IsPlaced};
 ghost use Rattle.spi_scope.specs.Files.{meant};
-ghost use Rattle.spi_commands.specs.Reading.{IsRead};
-ghost use Rattle.spi_commands.specs.Replaying.{ReplaysTo, Replays, IsRefusedAt, IsJudged, IsReplayText, step_number, step_shown};
+ghost use Rattle.spi_commands.specs.Reading.{IsRead, IsGiven, Gives};
+ghost use Rattle.spi_commands.specs.Refusals.{IsLineOf, IsCause};
+ghost use Rattle.spi_commands.specs.Replays.{Replays, IsRefusedAt, step_number, step_shown};
+ghost use Rattle.spi_commands.specs.Replaying.{ReplaysTo, IsJudged, IsReplayText};
 ghost use Rattle.spi_commands.specs.Run.{IsAnswered};
 
-use crate::answer::{Answer, Stop, refusal};
-use crate::opponent::{missing, not_opponent};
+use crate::answer::{Answer, Stop, missing, refusal, refused_with};
+use crate::file::Given;
+use crate::opponent::not_opponent;
 use crate::status::Status;
 use spi_opponent::is_opponent;
 use spi_replay::{Pool, StepFault};
@@ -35,8 +37,21 @@ struct RefusedStep {
     fault: StepFault,
 }
 
+/// What `replay` answers on what it is given.
+pub fn replays(alloc: Global, given: Given) -> Result<Answer, Stop>
+    requires { IsGiven given }
+    ensures ok { IfOk result (λ answer. (bytes : List ℕ) → Gives bytes given → ReplaysTo bytes answer.status answer.output.items) }
+    ensures answered { IfOk result (λ answer. IsAnswered answer.status × (answer.status ≢ Status.Usage)) }
+    ensures err { OnErr result (result ≡ Err Stop.NoMemory) }
+{
+    match given {
+        Given::File { bytes, file } => replayed(alloc, &bytes, &file),
+        Given::Refused(line) => Ok(refused_with(line)),
+    }
+}
+
 /// What `replay` answers on the file of these bytes.
-pub fn replayed(alloc: Global, bytes: &[u8], file: &File) -> Result<Answer, Stop>
+fn replayed(alloc: Global, bytes: &[u8], file: &File) -> Result<Answer, Stop>
     requires sized { length bytes.now ≤ 16_777_216 }
     requires read { IsRead bytes.now file.now }
     ensures ok { IfOk result (λ answer. ReplaysTo bytes.now answer.status answer.output.items) }
@@ -207,7 +222,7 @@ fn told_of(fault: &StepFault) -> Option<Told>
 fn stopped(alloc: Global, bytes: &[u8], file: &File, refused: &RefusedStep) -> Result<Answer, Stop>
     requires sized { length bytes.now ≤ 16_777_216 }
     requires read { IsRead bytes.now file.now }
-    ensures ok { IfOk result (λ answer. (refused.now.fault ≢ StepFault.NoMemory) × (answer.status ≡ Status.Refused) × IsPlaced bytes.now (step_number refused.now.fault) (place_in file.now.marks.steps.items refused.now.index).from (step_shown refused.now.fault) answer.output.items) }
+    ensures ok { IfOk result (λ answer. (refused.now.fault ≢ StepFault.NoMemory) × (answer.status ≡ Status.Refused) × IsLineOf bytes.now (IsCause (step_number refused.now.fault) (Some (place_in file.now.marks.steps.items refused.now.index).from) (step_shown refused.now.fault)) answer.output.items) }
     ensures err { OnErr result (result ≡ Err Stop.NoMemory) }
 {
     match told_of(&refused.fault) {
@@ -229,7 +244,7 @@ fn step_refusal(
     requires some { refused.now.fault ≢ StepFault.NoMemory }
     requires number { told.now.number ≡ step_number refused.now.fault }
     requires count { decimal told.now.count ≡ step_shown refused.now.fault }
-    ensures ok { IfOk result (λ answer. (refused.now.fault ≢ StepFault.NoMemory) × (answer.status ≡ Status.Refused) × IsPlaced bytes.now (step_number refused.now.fault) (place_in file.now.marks.steps.items refused.now.index).from (step_shown refused.now.fault) answer.output.items) }
+    ensures ok { IfOk result (λ answer. (refused.now.fault ≢ StepFault.NoMemory) × (answer.status ≡ Status.Refused) × IsLineOf bytes.now (IsCause (step_number refused.now.fault) (Some (place_in file.now.marks.steps.items refused.now.index).from) (step_shown refused.now.fault)) answer.output.items) }
     ensures err { OnErr result (result ≡ Err Stop.NoMemory) }
 {
     let offset = file.step_place(refused.index).from;

@@ -1,19 +1,29 @@
 // The top call: from words and bytes to a status and what is written.
-ghost use Rattle.std.specs.Prelude.{Option, ◌≡◌, ◌≢◌, ◌+◌, ◌≤◌, ◌↔◌, ◌⊎◌, ℕ, List, [], map, string_bytes, IfOk, IfSome, OnErr, IsErrOf, Err, None, Some, false, vec_len};
+ghost use Rattle.std.specs.Prelude.{Option, ◌≡◌, ◌≢◌, ◌+◌, ◌≤◌, ◌↔◌, ◌⊎◌, ℕ, List, [], map, string_bytes, IfOk, IfSome, OnOk, OnErr, IsErrOf, Err, None, Some, false, true, vec_len};
+ghost use Rattle.std.specs.Io.KnownBytes.{Appends};
 ghost use Rattle.spi_io.specs.Causes.{Rose, TakesUpTo};
 ghost use Rattle.spi_scope.specs.StandsFor.{Meant};
 ghost use Rattle.spi_play.specs.Way.{seen_of};
-ghost use Rattle.spi_commands.specs.Asked.{asked, is_play, reads_file, IsWithin};
+ghost use Rattle.spi_commands.specs.Asked.{asked, is_play, reads_input, IsWithin};
 ghost use Rattle.spi_commands.specs.Spelled.{limit, SpellsFile, SpellsNone, IsManySafe};
-ghost use Rattle.spi_commands.specs.Answer.{Refuses};
-ghost use Rattle.spi_commands.specs.Loading.{LoadsTo};
-ghost use Rattle.spi_commands.specs.Run.{Wants, IsAnswered, Ends, Completes, IsExact, IsDerived, IsVerified, IsReplayed, IsPlayedOn, IsPrinted, IsUpgraded};
+ghost use Rattle.spi_commands.specs.Refusals.{Refuses};
+ghost use Rattle.spi_commands.specs.Checking.{IsExact};
+ghost use Rattle.spi_commands.specs.Playing.{LeavesPlayers};
+ghost use Rattle.spi_commands.specs.Commands.{Promise};
+ghost use Rattle.spi_commands.specs.Run.{Wants, IsAnswered, Ends, Completes, IsUndisturbed, TakesInput};
 
 use crate::answer::{Answer, Stop, made};
 use crate::asked::{Command, asked_of};
-use crate::file::on_file;
+use crate::check::checks;
+use crate::derive::derives;
+use crate::file::take_file;
 use crate::load::loads;
+use crate::play::plays;
+use crate::print::prints;
+use crate::replay::replays;
 use crate::status::Status;
+use crate::upgrade::upgrades;
+use crate::verify::verifies;
 use spi_deriv::one_canonical;
 use spi_io::{Put, Sink, Source, put_all};
 use spi_lex::one_answer;
@@ -23,6 +33,10 @@ use spi_scope::one_or_other;
 use spi_sound::{derivable_is_many_safe, derivable_is_safe};
 use spi_spell::{canonical_reads_back, derivation_joins, schedule_joins};
 use std::alloc::Global;
+
+/// The line for words that are no command.
+const USAGE: &[u8] =
+    b"usage: check | derive | verify | replay | play --steps N [--player I] | print | load K | upgrade\n";
 
 /// Does what the words ask for: reads a file from the source, writes the answer to the sink, and says how
 /// it ended. The whole output is made first and written last. Only a play asks the players.
@@ -42,53 +56,47 @@ pub fn run<S: Source, K: Sink>(
     ensures many_to_one { asked (map string_bytes words.now) (vec_len players.old) ≡ Some Command.Check → IfSome (S.left source.old) (λ bytes.
         result ≡ Status.Yes → IsManySafe bytes) }
 
-    // What `derive`, `verify`, `replay`, `play`, `print` and `upgrade` answer, under the same conditions.
-    ensures derive { asked (map string_bytes words.now) (vec_len players.old) ≡ Some Command.Derive → IfSome (S.left source.old) (λ bytes.
-        ¬ Rose (S.faults source.old) (S.faults source.new) → ¬ Rose (K.faults sink.old) (K.faults sink.new) → result ≢ Status.NoMemory
-        → IsDerived bytes (K.holds sink.old) (K.holds sink.new) result) }
-    ensures verify { asked (map string_bytes words.now) (vec_len players.old) ≡ Some Command.Verify → IfSome (S.left source.old) (λ bytes.
-        ¬ Rose (S.faults source.old) (S.faults source.new) → ¬ Rose (K.faults sink.old) (K.faults sink.new) → result ≢ Status.NoMemory
-        → IsVerified bytes result) }
-    ensures replay { asked (map string_bytes words.now) (vec_len players.old) ≡ Some Command.Replay → IfSome (S.left source.old) (λ bytes.
-        ¬ Rose (S.faults source.old) (S.faults source.new) → ¬ Rose (K.faults sink.old) (K.faults sink.new) → result ≢ Status.NoMemory
-        → IsReplayed bytes result) }
-    ensures play { (most : ℕ) (only : Option ℕ) → asked (map string_bytes words.now) (vec_len players.old) ≡ Some (Command.Play most only) → IfSome (S.left source.old) (λ bytes.
-        ¬ Rose (S.faults source.old) (S.faults source.new) → ¬ Rose (K.faults sink.old) (K.faults sink.new) → result ≢ Status.NoMemory
-        → IsPlayedOn most only bytes (seen_of (λ b. times b) (λ b. way b) players.old.items) (seen_of (λ b. times b) (λ b. way b) players.new.items) (K.holds sink.old) (K.holds sink.new) result) }
-    ensures print { asked (map string_bytes words.now) (vec_len players.old) ≡ Some Command.Print → IfSome (S.left source.old) (λ bytes.
-        ¬ Rose (S.faults source.old) (S.faults source.new) → ¬ Rose (K.faults sink.old) (K.faults sink.new) → result ≢ Status.NoMemory
-        → IsPrinted bytes (K.holds sink.old) (K.holds sink.new) result) }
-    ensures upgrade { asked (map string_bytes words.now) (vec_len players.old) ≡ Some Command.Upgrade → IfSome (S.left source.old) (λ bytes.
-        ¬ Rose (S.faults source.old) (S.faults source.new) → ¬ Rose (K.faults sink.old) (K.faults sink.new) → result ≢ Status.NoMemory
-        → IsUpgraded bytes (K.holds sink.old) (K.holds sink.new) result) }
-
-    // Whatever the source tells, `load` answers yes.
-    ensures load { (sessions : ℕ) → asked (map string_bytes words.now) (vec_len players.old) ≡ Some (Command.Load sessions)
-        → Ends (LoadsTo sessions) (K.holds sink.old) (K.holds sink.new) result }
+    // What each command promises, under the same conditions.
+    ensures promise { (command : Command) → asked (map string_bytes words.now) (vec_len players.old) ≡ Some command → IfSome (S.left source.old) (λ bytes.
+        IsUndisturbed (S.faults source.old) (S.faults source.new) (K.faults sink.old) (K.faults sink.new) result
+        → Promise command bytes
+        (seen_of (λ b. times b) (λ b. way b) players.old.items) (seen_of (λ b. times b) (λ b. way b) players.new.items)
+        (K.holds sink.old) (K.holds sink.new) result) }
 
     // Where the source tells its bytes, the status is the one that these words and bytes ask for, and its output is appended.
-    ensures answer { IfSome (S.left source.old) (λ bytes. Ends (Wants (asked (map string_bytes words.now) (vec_len players.old)) bytes (seen_of (λ b. times b) (λ b. way b) players.old.items) (seen_of (λ b. times b) (λ b. way b) players.new.items)) (K.holds sink.old) (K.holds sink.new) result) }
+    ensures answer { IfSome (S.left source.old) (λ bytes. Ends (Wants (asked (map string_bytes words.now) (vec_len players.old)) bytes
+        (seen_of (λ b. times b) (λ b. way b) players.old.items) (seen_of (λ b. times b) (λ b. way b) players.new.items))
+        (K.holds sink.old) (K.holds sink.new) result) }
     ensures complete { IfSome (S.left source.old) (λ bytes. ¬ Rose (S.faults source.old) (S.faults source.new) → ¬ Rose (K.faults sink.old) (K.faults sink.new)
-        → Completes (Wants (asked (map string_bytes words.now) (vec_len players.old)) bytes (seen_of (λ b. times b) (λ b. way b) players.old.items) (seen_of (λ b. times b) (λ b. way b) players.new.items)) (K.holds sink.old) (K.holds sink.new) result) }
+        → Completes (Wants (asked (map string_bytes words.now) (vec_len players.old)) bytes
+        (seen_of (λ b. times b) (λ b. way b) players.old.items) (seen_of (λ b. times b) (λ b. way b) players.new.items))
+        (K.holds sink.old) (K.holds sink.new) result) }
 
-    // Whatever the source tells: the words alone decide on the usage line, and with it and with `load` nothing is read.
+    // Whatever the source tells: the words alone decide on the usage line, a command without input answers, and reads nothing.
     ensures usage { result ≡ Status.Usage → (asked (map string_bytes words.now) (vec_len players.old) ≡ None) }
     ensures no_usage { (asked (map string_bytes words.now) (vec_len players.old) ≡ None) → (result ≡ Status.Usage) ⊎ (result ≡ Status.WriteFault) ⊎ (result ≡ Status.NoMemory) }
-    ensures usage_line { (asked (map string_bytes words.now) (vec_len players.old) ≡ None) → Ends (Wants None [] [] []) (K.holds sink.old) (K.holds sink.new) result }
-    ensures unread { reads_file (asked (map string_bytes words.now) (vec_len players.old)) ≡ false → source.new ≡ source.old }
+    ensures inputless { reads_input (asked (map string_bytes words.now) (vec_len players.old)) ≡ false
+        → (source.new ≡ source.old) × Ends (Wants (asked (map string_bytes words.now) (vec_len players.old)) [] [] []) (K.holds sink.old) (K.holds sink.new) result }
 
-    // A fault has its cause, and with a fault of reading or of memory nothing is written.
+    // A fault has its cause, with a fault of reading or of memory nothing is written, and what was held stays in front.
     ensures read_fault { result ≡ Status.ReadFault → Rose (S.faults source.old) (S.faults source.new) }
     ensures failed_reads { result ≢ Status.ReadFault → S.failed_reads source.new ≡ S.failed_reads source.old }
     ensures write_fault { result ≡ Status.WriteFault → Rose (K.faults sink.old) (K.faults sink.new) }
     ensures unwritten { (result ≡ Status.ReadFault) ⊎ (result ≡ Status.NoMemory) → sink.new ≡ sink.old }
+    ensures in_front { (output : List ℕ) × Appends (K.holds sink.old) (K.holds sink.new) output }
 
-    // What is read is at the front of what was left, and is gone.
+    // What is read is at the front of what was left, and is gone: all of it, or one byte more than an input may have.
     ensures taken { TakesUpTo (S.left source.old) (S.left source.new) (limit + 1) }
+    ensures whole { reads_input (asked (map string_bytes words.now) (vec_len players.old)) ≡ true → result ≢ Status.ReadFault → result ≢ Status.NoMemory
+        → TakesInput (S.left source.old) (S.left source.new) }
     ensures reads { S.reads source.new ≤ S.reads source.old + limit + 2 }
 
-    // Only a play asks the players, else they are as they were.
-    ensures players { is_play (asked (map string_bytes words.now) (vec_len players.old)) ≡ false → players.new ≡ players.old }
+    // Only a play asks the players, else they are as they were, and where a read failed. Where a play's memory runs out they
+    // are as they were, or as it left them.
+    ensures players { (is_play (asked (map string_bytes words.now) (vec_len players.old)) ≡ false) ⊎ (result ≡ Status.ReadFault) → players.new ≡ players.old }
+    ensures left { (most : ℕ) (only : Option ℕ) → asked (map string_bytes words.now) (vec_len players.old) ≡ Some (Command.Play most only) → result ≡ Status.NoMemory
+        → IfSome (S.left source.old) (λ bytes. LeavesPlayers most only bytes
+        (seen_of (λ b. times b) (λ b. way b) players.old.items) (seen_of (λ b. times b) (λ b. way b) players.new.items)) }
 {
     one_file();
     refused_is_none();
@@ -127,22 +135,27 @@ fn run_for<S: Source, K: Sink>(
     sink: &mut K,
     players: &mut Vec<Box<dyn Player>>,
 ) -> Status
-    ensures answer { IfSome (S.left source.old) (λ bytes. Ends (Wants (asked (map string_bytes words.now) (vec_len players.old)) bytes (seen_of (λ b. times b) (λ b. way b) players.old.items) (seen_of (λ b. times b) (λ b. way b) players.new.items)) (K.holds sink.old) (K.holds sink.new) result) }
-
-    ensures load { (sessions : ℕ) → asked (map string_bytes words.now) (vec_len players.old) ≡ Some (Command.Load sessions)
-        → Ends (LoadsTo sessions) (K.holds sink.old) (K.holds sink.new) result }
+    ensures within { result ≢ Status.NoMemory → IfSome (asked (map string_bytes words.now) (vec_len players.old)) (λ command. IsWithin (vec_len players.old) command) }
+    ensures answer { IfSome (S.left source.old) (λ bytes. Ends (Wants (asked (map string_bytes words.now) (vec_len players.old)) bytes
+        (seen_of (λ b. times b) (λ b. way b) players.old.items) (seen_of (λ b. times b) (λ b. way b) players.new.items))
+        (K.holds sink.old) (K.holds sink.new) result) }
     ensures usage { result ≡ Status.Usage → (asked (map string_bytes words.now) (vec_len players.old) ≡ None) }
     ensures no_usage { (asked (map string_bytes words.now) (vec_len players.old) ≡ None) → (result ≡ Status.Usage) ⊎ (result ≡ Status.WriteFault) ⊎ (result ≡ Status.NoMemory) }
-    ensures usage_line { (asked (map string_bytes words.now) (vec_len players.old) ≡ None) → Ends (Wants None [] [] []) (K.holds sink.old) (K.holds sink.new) result }
-    ensures unread { reads_file (asked (map string_bytes words.now) (vec_len players.old)) ≡ false → source.new ≡ source.old }
-
+    ensures inputless { reads_input (asked (map string_bytes words.now) (vec_len players.old)) ≡ false
+        → (source.new ≡ source.old) × Ends (Wants (asked (map string_bytes words.now) (vec_len players.old)) [] [] []) (K.holds sink.old) (K.holds sink.new) result }
     ensures read_fault { result ≡ Status.ReadFault → Rose (S.faults source.old) (S.faults source.new) }
     ensures failed_reads { result ≢ Status.ReadFault → S.failed_reads source.new ≡ S.failed_reads source.old }
     ensures write_fault { result ≡ Status.WriteFault → Rose (K.faults sink.old) (K.faults sink.new) }
     ensures unwritten { (result ≡ Status.ReadFault) ⊎ (result ≡ Status.NoMemory) → sink.new ≡ sink.old }
+    ensures in_front { (output : List ℕ) × Appends (K.holds sink.old) (K.holds sink.new) output }
     ensures taken { TakesUpTo (S.left source.old) (S.left source.new) (limit + 1) }
+    ensures whole { reads_input (asked (map string_bytes words.now) (vec_len players.old)) ≡ true → result ≢ Status.ReadFault → result ≢ Status.NoMemory
+        → TakesInput (S.left source.old) (S.left source.new) }
     ensures reads { S.reads source.new ≤ S.reads source.old + limit + 2 }
-    ensures players { is_play (asked (map string_bytes words.now) (vec_len players.old)) ≡ false → players.new ≡ players.old }
+    ensures players { (is_play (asked (map string_bytes words.now) (vec_len players.old)) ≡ false) ⊎ (result ≡ Status.ReadFault) → players.new ≡ players.old }
+    ensures left { (most : ℕ) (only : Option ℕ) → asked (map string_bytes words.now) (vec_len players.old) ≡ Some (Command.Play most only) → result ≡ Status.NoMemory
+        → IfSome (S.left source.old) (λ bytes. LeavesPlayers most only bytes
+        (seen_of (λ b. times b) (λ b. way b) players.old.items) (seen_of (λ b. times b) (λ b. way b) players.new.items)) }
 {
     let Ok(command) = asked_of(alloc, words, players.len()) else {
         return Status::NoMemory;
@@ -170,23 +183,30 @@ fn answer_to<S: Source>(
         answer.status answer.output.items)) }
     ensures answered { IfOk result (λ answer. IsAnswered answer.status) }
     ensures usage { IfOk result (λ answer. (answer.status ≡ Status.Usage) ↔ (command ≡ None)) }
-    ensures usage_line { command ≡ None → IfOk result (λ answer. Wants None [] [] [] answer.status answer.output.items) }
-    ensures unread { reads_file command ≡ false → source.new ≡ source.old }
-    ensures load { (sessions : ℕ) → command ≡ Some (Command.Load sessions) → IfOk result (λ answer. LoadsTo sessions answer.status answer.output.items) }
-    ensures memory { reads_file command ≡ false → OnErr result (result ≡ Err Stop.NoMemory) }
+    ensures inputless { reads_input command ≡ false → IfOk result (λ answer. Wants command [] [] [] answer.status answer.output.items) }
+    ensures unread { reads_input command ≡ false → source.new ≡ source.old }
+    ensures memory { reads_input command ≡ false → OnErr result (result ≡ Err Stop.NoMemory) }
     ensures read_fault { IsErrOf result Stop.ReadFault → Rose (S.faults source.old) (S.faults source.new) }
     ensures failed_reads { ¬ IsErrOf result Stop.ReadFault → S.failed_reads source.new ≡ S.failed_reads source.old }
     ensures taken { TakesUpTo (S.left source.old) (S.left source.new) (limit + 1) }
+    ensures whole { reads_input command ≡ true → OnOk result (TakesInput (S.left source.old) (S.left source.new)) }
     ensures reads { S.reads source.new ≤ S.reads source.old + limit + 2 }
-    ensures players { is_play command ≡ false → players.new ≡ players.old }
+    ensures players { (is_play command ≡ false) ⊎ IsErrOf result Stop.ReadFault → players.new ≡ players.old }
+    ensures left { (most : ℕ) (only : Option ℕ) → command ≡ Some (Command.Play most only) → IsErrOf result Stop.NoMemory
+        → IfSome (S.left source.old) (λ bytes. LeavesPlayers most only bytes
+        (seen_of (λ b. times b) (λ b. way b) players.old.items) (seen_of (λ b. times b) (λ b. way b) players.new.items)) }
 {
     match command {
+        None => made(alloc, Status::Usage, USAGE),
+        Some(Command::Check) => checks(alloc, take_file(alloc, source)?),
+        Some(Command::Derive) => derives(alloc, take_file(alloc, source)?),
+        Some(Command::Verify) => verifies(alloc, take_file(alloc, source)?),
+        Some(Command::Replay) => replays(alloc, take_file(alloc, source)?),
+        Some(Command::Play { most, only }) => {
+            plays(alloc, take_file(alloc, source)?, players, most, only)
+        }
+        Some(Command::Print) => prints(alloc, take_file(alloc, source)?),
         Some(Command::Load { sessions }) => loads(alloc, sessions),
-        Some(command) => on_file(alloc, command, source, players),
-        None => made(
-            alloc,
-            Status::Usage,
-            b"usage: check | derive | verify | replay | play --steps N [--player I] | print | load K | upgrade\n",
-        ),
+        Some(Command::Upgrade) => upgrades(alloc, take_file(alloc, source)?),
     }
 }

@@ -1,22 +1,35 @@
 // The command `upgrade`.
-ghost use Rattle.std.specs.Prelude.{◌≡◌, ◌≢◌, ◌≤◌, ◌⊎◌, ◌++◌, length, codes, MatchOption, IfOk, OnErr, Err};
+ghost use Rattle.std.specs.Prelude.{◌≡◌, ◌≢◌, ◌≤◌, ◌⊎◌, ◌++◌, ℕ, List, length, codes, MatchOption, IfOk, OnErr, Err};
 ghost use Rattle.spi_scope.specs.Files.{meant};
-ghost use Rattle.spi_commands.specs.declared.status.Status.{Status};
-ghost use Rattle.spi_commands.specs.Printing.{UpgradesTo};
-ghost use Rattle.spi_commands.specs.Upgrading.{IsNewWord, IsRespelled, AreRespelled, IsUpgrade};
-ghost use Rattle.spi_commands.specs.Reading.{IsRead};
+ghost use Rattle.spi_commands.specs.Upgrading.{IsNewWord, IsRespelled, AreRespelled, IsUpgrade, UpgradesTo};
+ghost use Rattle.spi_commands.specs.Reading.{IsRead, IsGiven, Gives};
 ghost use Rattle.spi_commands.specs.Run.{IsAnswered};
 
 use crate::NoMemory;
-use crate::answer::{Answer, Stop};
-use crate::print::shown;
+use crate::answer::{Answer, Stop, refused_with};
+use crate::canonical::shown;
+use crate::file::Given;
+use crate::status::Status;
 use spi_scope::File;
 use spi_show::least_behind;
 use spi_text::Text;
 use std::alloc::Global;
 
+/// What `upgrade` answers on what it is given.
+pub fn upgrades(alloc: Global, given: Given) -> Result<Answer, Stop>
+    requires { IsGiven given }
+    ensures ok { IfOk result (λ answer. (bytes : List ℕ) → Gives bytes given → UpgradesTo bytes answer.status answer.output.items) }
+    ensures answered { IfOk result (λ answer. IsAnswered answer.status × (answer.status ≢ Status.Usage)) }
+    ensures err { OnErr result (result ≡ Err Stop.NoMemory) }
+{
+    match given {
+        Given::File { bytes, file } => upgraded(alloc, &bytes, file),
+        Given::Refused(line) => Ok(refused_with(line)),
+    }
+}
+
 /// What `upgrade` answers on the file of these bytes.
-pub fn upgraded(alloc: Global, bytes: &[u8], file: File) -> Result<Answer, Stop>
+fn upgraded(alloc: Global, bytes: &[u8], file: File) -> Result<Answer, Stop>
     requires sized { length bytes.now ≤ 16_777_216 }
     requires read { IsRead bytes.now file }
     ensures ok { IfOk result (λ answer. UpgradesTo bytes.now answer.status answer.output.items) }

@@ -1,1 +1,5 @@
 pub mod Standing
+pub mod Summed
+pub mod Read
+pub mod Kept
+pub mod Below

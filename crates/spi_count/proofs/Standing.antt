@@ -1,7 +1,7 @@
 -- What changes of counts do to the effect that they stand for.
-use Rattle.std.proofs.Common.{◌≡◌, ◌≢◌, refl, sym, ap, ◌∙◌, subst, ℕ, zero, suc, ◌+◌, ◌-◌, ◌*◌, ◌<◌, ◌≤◌, max, Bool, true, false, ◌||◌, [], ◌∷◌, ◌++◌, ⊎_elim, ◌⊎◌, inl, inr, arith, true≢false, eq-eqb}
+use Rattle.std.proofs.Common.{◌≡◌, ◌≢◌, refl, sym, ap, ◌∙◌, subst, ℕ, zero, suc, ◌+◌, ◌-◌, ◌*◌, ◌<◌, ◌≤◌, max, Bool, true, false, [], ◌∷◌, ◌++◌, ⊎_elim, ◌⊎◌, inl, inr, arith, true≢false, eq-eqb}
 use Rattle.std.specs.Prelude.{if◌then◌else◌}
-use Rattle.std.proofs.lemmas.Bool.{ne_eqb, cases_eq}
+use Rattle.std.proofs.lemmas.Bool.{ne_eqb, cases_eq, or_left, or_right}
 use Rattle.spi_term.specs.Term.{Message, bound, name, unit, pair, in_left, in_right, enc, hash, Atom, ends, checks, many, same_atom, Effect}
 use Rattle.spi_term.specs.Lists.{In, in_first, in_later}
 use Rattle.spi_term.specs.Counts.{tally, cut, count}
@@ -11,7 +11,7 @@ use Rattle.spi_effect.specs.Made.{are_many, minus, greater, is_free, is_free_at,
 use Rattle.spi_effect.proofs.Laws.{AllMany_in, AllMany_of}
 use Rattle.spi_effect.proofs.Made.{minus_difference, greater_is, are_many_sound, are_many_complete, both_false}
 use Rattle.spi_count.specs.Counts.{count_of, IsNothing}
-use Rattle.spi_count.specs.Sums.{name_bound, key_of, kind_of, message_of, part, one_more, both_counts, Puts, Stands, AreNumbers}
+use Rattle.spi_count.specs.Sums.{name_bound, key_of, kind_of, message_of, part, one_more, both_counts, Puts, Stands, AreNumbers, Below}
 use Rattle.spi_count.specs.declared.sum.AtomKind.{AtomKind}
 use Rattle.spi_count.specs.declared.sum.AtomKind.TheVariants.{End, Check, Many}
 use Rattle.spi_count.specs.declared.sum.Sum.{Sum}
@@ -336,13 +336,6 @@ bound_free x (in_right a) h = bound_free x a h
 bound_free x (enc a b) h = both_false (bound_free x a (omega (arith, h))) (bound_free x b (omega (arith, h)))
 bound_free x (hash a) h = bound_free x a h
 
-or_left : (a b : Bool) → a ≡ true → (a || b) ≡ true
-or_left a b e = ap (λ a. a || b) e
-
-or_right : (a b : Bool) → b ≡ true → (a || b) ≡ true
-or_right true b e = refl
-or_right false b e = e
-
 greater_one : (m n x : ℕ) → max m n ≡ suc x → (m ≡ suc x) ⊎ (n ≡ suc x)
 greater_one m n x e = go (m - n) refl
   where
@@ -362,11 +355,7 @@ bound_is_free x (enc a b) e =
     ⊎_elim (λ h. or_left (is_free x a) (is_free x b) (bound_is_free x a h)) (λ h. or_right (is_free x a) (is_free x b) (bound_is_free x b h)) (greater_one (name_bound a) (name_bound b) x e)
 bound_is_free x (hash a) e = bound_is_free x a e
 
--- no name of the effect is at n or beyond
-abbrev pub Below : ℕ → Effect → Type 0
-Below n es = (a : Atom) → In a es → name_bound (message_of a) ≤ n
-
-free_at : (x : ℕ) (a : Atom) → is_free_at x a ≡ is_free x (message_of a)
+pub free_at : (x : ℕ) (a : Atom) → is_free_at x a ≡ is_free x (message_of a)
 free_at x (ends m) = refl
 free_at x (checks m) = refl
 free_at x (many m) = refl

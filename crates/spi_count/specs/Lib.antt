@@ -1,2 +1,5 @@
 pub mod Counts
 pub mod Sums
+pub mod Keys
+pub mod Keeping
+pub mod Adding

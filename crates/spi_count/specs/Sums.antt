@@ -1,6 +1,6 @@
 -- What counts by key say of an effect. A message has a number, and its key orders messages by their greatest names, so
 -- that the last key tells whether a name occurs.
-use Rattle.std.specs.Prelude.{◌≡◌, ◌≢◌, ℕ, suc, ◌+◌, ◌*◌, ◌<◌, max}
+use Rattle.std.specs.Prelude.{◌≡◌, ◌≢◌, ℕ, suc, ◌+◌, ◌*◌, ◌<◌, ◌≤◌, max}
 use Rattle.std.specs.BTreeMap.{BTreeMap, btree_map_len}
 use Rattle.spi_term.specs.Term.{Message, bound, name, unit, pair, in_left, in_right, enc, hash, Atom, ends, checks, many, Effect}
 use Rattle.spi_term.specs.Lists.{In}
@@ -72,3 +72,7 @@ pub record AreNumbers (At : ℕ → Message → Type 0) : Type 0 where
   pub small : {i : ℕ} {m : Message} → At i m → i < 4294967296
   pub differ : {i j : ℕ} {m : Message} → At i m → At j m → i ≡ j
   pub one : {i : ℕ} {m n : Message} → At i m → At i n → m ≡ n
+
+-- each name of the effect is below n
+abbrev pub Below : ℕ → Effect → Type 0
+Below n es = (a : Atom) → In a es → name_bound (message_of a) ≤ n

@@ -71,7 +71,8 @@ impl Counts {
         }
     }
 
-    /// Counts a key higher.
+    /// Counts a key higher. A count of 2 ^ 64 doesn't come: it is of atoms that a process of at most 100,000 nodes adds, each
+    /// at most the 10,000 of a type.
     pub fn raise(&mut self, key: u64, by: u64) -> Result<(), AllocError>
         requires { 0 < by }
         ensures { OnOk result (Sets self.old.counts self.new.counts key (count_of self.old.counts key + by)) }

@@ -1,10 +1,19 @@
-//! Effects by counts: the form of an effect in which one is merged into another in the time of the smaller.
+//! Effects by counts: the form of an effect in which one is merged into another in the time of the smaller. The messages in
+//! one are those of a judge's store, each with a key.
 #![tactic(auto)]
 
+mod atoms;
 mod counts;
+mod keeping;
+mod keys;
+mod reading;
 mod sum;
 
+pub use atoms::{add_atom, add_atoms, add_type, take_atom, take_type};
 pub use counts::Counts;
+pub use keeping::{keep_atoms, keep_message};
+pub use keys::Keys;
+pub use reading::effect_of_sum;
 use std::alloc::AllocError;
 pub use sum::{AtomKind, Sum};
 

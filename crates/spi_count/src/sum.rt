@@ -1,5 +1,5 @@
 // The counts of the atoms of an effect, by the keys of their messages.
-ghost use Rattle.std.specs.Prelude.{false, ◌≡◌, ◌≢◌, ◌↔◌, ◌+◌, ◌-◌, ◌*◌, ◌<◌, ◌≤◌, ◌⊎◌, ℕ, max, IfSome, IfNone, IfOk, OnOk, IsTrue};
+ghost use Rattle.std.specs.Prelude.{false, ◌≡◌, ◌↔◌, ◌+◌, ◌-◌, ◌<◌, ◌≤◌, ℕ, max, IfSome, IfNone, IfOk, OnOk, IsTrue};
 ghost use Rattle.spi_count.specs.Counts.{count_of, IsNothing};
 ghost use Rattle.spi_count.specs.Sums.{part, one_more, both_counts, keys_in, Puts};
 ghost use Rattle.spi_count.specs.declared.sum.AtomKind.{AtomKind};

@@ -8,9 +8,9 @@ use Rattle.spi_term.specs.Spelling.{Shape, leaf_at, prefix_at, fork_at, flat, nu
 use Rattle.spi_term.specs.Arena.{scope_of}
 use Rattle.spi_rules.specs.Environment.{untrusted}
 use Rattle.spi_rules.specs.Derivations.{RuleUse}
-use Rattle.spi_infer.specs.Forms.{on_first, on_rest}
+use Rattle.spi_message.specs.Forms.{on_first, on_rest}
 use Rattle.spi_infer.proofs.Descending.{length_untrusted}
-use Rattle.spi_infer.proofs.Opened.{length_first, length_rest}
+use Rattle.spi_message.proofs.Opened.{length_first, length_rest}
 use Rattle.spi_infer.proofs.Scanning.{drop_at_get}
 use Rattle.spi_deriv.specs.Agenda.{next, node_uses, IsPassed}
 use Rattle.spi_deriv.specs.Uses.{leaf_uses, prefix_uses, fork_uses, binding, process_uses}

@@ -9,8 +9,8 @@ use Rattle.spi_rules.specs.Processes.{HasEffect, proc_stop, proc_out, proc_in, p
 use Rattle.spi_rules.specs.Derivations.{RuleUse, uses, type_uses, effect_uses}
 use Rattle.spi_rules.specs.declared.rule.Rule.{Rule}
 use Rattle.spi_rules.specs.declared.rule.Rule.TheVariants.{MsgName, ProcOut, ProcIn, ProcRepeat, ProcSplit, ProcSplitUn, ProcMatch, ProcMatchUn, ProcCase, ProcCaseUn, ProcDecrypt, ProcDecryptUn, ProcCheck, ProcCheckUn, ProcCast, ProcCastUn}
-use Rattle.spi_infer.specs.Forms.{is_nonce, enter, more, on_first, on_rest}
-use Rattle.spi_infer.proofs.Opened.{numbered_prefix, numbered_fork, numbered_leaf}
+use Rattle.spi_message.specs.Forms.{is_nonce, enter, more, on_first, on_rest}
+use Rattle.spi_message.proofs.Opened.{numbered_prefix, numbered_fork, numbered_leaf}
 use Rattle.spi_deriv.specs.Canonical.{Canonical, IsCanonical}
 use Rattle.spi_deriv.specs.Uses.{message_uses, split_uses, select_uses, decrypt_uses, check_uses, case_uses, leaf_uses, prefix_uses, fork_uses, binding, process_uses}
 use Rattle.spi_deriv.proofs.Heads.{bare, bare_map, Alike, alike_more}

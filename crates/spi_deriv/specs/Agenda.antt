@@ -7,7 +7,7 @@ use Rattle.spi_term.specs.declared.term.Ty.{Ty}
 use Rattle.spi_term.specs.View as View
 use Rattle.spi_term.specs.Spelling.{Shape, leaf_at, prefix_at, fork_at}
 use Rattle.spi_rules.specs.Derivations.{RuleUse}
-use Rattle.spi_infer.specs.Forms.{on_first, on_rest}
+use Rattle.spi_message.specs.Forms.{on_first, on_rest}
 use Rattle.spi_deriv.specs.declared.agenda.Binding.{Binding}
 use Rattle.spi_deriv.specs.declared.agenda.Binding.TheVariants as B
 use Rattle.spi_deriv.specs.Uses.{leaf_uses, prefix_uses, fork_uses, binding}

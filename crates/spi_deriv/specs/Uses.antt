@@ -6,7 +6,7 @@ use Rattle.spi_rules.specs.Derivations.{RuleUse, uses}
 use Rattle.spi_rules.specs.declared.rule.Rule.{Rule}
 use Rattle.spi_rules.specs.declared.rule.Rule.TheVariants.{MsgName, MsgUnit, MsgUnitUn, MsgPair, MsgPairUn, MsgInl, MsgInlUn, MsgInr, MsgInrUn, MsgEnc, MsgEncUn, MsgHash, ProcStop, ProcOut, ProcIn, ProcRepeat, ProcSplit, ProcSplitUn, ProcMatch, ProcMatchUn, ProcCase, ProcCaseUn, ProcDecrypt, ProcDecryptUn, ProcCheck, ProcCheckUn, ProcBegin, ProcEnd, ProcEndMany, ProcCast, ProcCastUn, ProcNew, ProcPar}
 use Rattle.spi_message.specs.Tests.{key_of, nonce_of}
-use Rattle.spi_infer.specs.Forms.{is_nonce, on_first, on_rest}
+use Rattle.spi_message.specs.Forms.{is_nonce, on_first, on_rest}
 
 -- the uses of a message's typing, by the type that is wanted
 abbrev pub unit_uses : Ty → List RuleUse

@@ -3,7 +3,7 @@
 
 ghost use Rattle.std.specs.Prelude.{◌≡◌, ◌++◌, map, OnOk};
 ghost use Rattle.spi_term.specs.View.{message, ty as type_of, shape_of};
-ghost use Rattle.spi_infer.specs.Forms.{is_nonce};
+ghost use Rattle.spi_message.specs.Forms.{is_nonce};
 ghost use Rattle.spi_message.specs.Tests.{key_of, nonce_of};
 ghost use Rattle.spi_rules.specs.Deriv.{rule_use};
 ghost use Rattle.spi_deriv.specs.Agenda.{types_of, node_uses};

@@ -2,11 +2,12 @@
 
 ghost use Rattle.std.specs.Prelude.{◌≡◌, Some, None, slice_get, IfSome, IfNone};
 ghost use Rattle.spi_term.specs.View.{message, ty as type_of};
-ghost use Rattle.spi_message.specs.Tests.{key_in, key_of, nonce_in, nonce_of};
-ghost use Rattle.spi_infer.specs.Forms.{is_nonce};
+ghost use Rattle.spi_message.specs.Tests.{key_of, nonce_of};
+ghost use Rattle.spi_message.specs.Forms.{is_nonce};
 ghost use Rattle.spi_deriv.specs.Agenda.{types_of};
 ghost use Rattle.spi_deriv.specs.Uses.{is_pair_ty, is_pair, is_sum_ty, is_sum};
 
+use spi_message::written::{is_nonce_type, payload_of};
 use spi_term::{Msg, Ty};
 
 // The type of a name, where the name is in scope.
@@ -19,21 +20,6 @@ fn type_at<'a>(types: &[&'a Ty], x: u32) -> Option<&'a Ty>
         Some(types[place])
     } else {
         None
-    }
-}
-
-// The T of a type Key(T).
-fn payload_of(t: &Ty) -> Option<&Ty>
-    ensures some { IfSome result (λ u. key_in (Some (type_of t.now)) ≡ Some (type_of u.now)) }
-    ensures none { IfNone result (key_in (Some (type_of t.now)) ≡ None) }
-{
-    match t {
-        Ty::Un => None,
-        Ty::Unit => None,
-        Ty::Pair(_, _) => None,
-        Ty::Sum(_, _) => None,
-        Ty::Key(u) => Some(u),
-        Ty::Nonce(_) => None,
     }
 }
 
@@ -54,19 +40,6 @@ pub fn payload<'a>(types: &[&'a Ty], key: &Msg) -> Option<&'a Ty>
         Msg::Inr(_) => None,
         Msg::Enc(_, _) => None,
         Msg::Hash(_) => None,
-    }
-}
-
-fn is_nonce_type(t: &Ty) -> bool
-    ensures { result ≡ is_nonce (nonce_in (Some (type_of t.now))) }
-{
-    match t {
-        Ty::Un => false,
-        Ty::Unit => false,
-        Ty::Pair(_, _) => false,
-        Ty::Sum(_, _) => false,
-        Ty::Key(_) => false,
-        Ty::Nonce(_) => true,
     }
 }
 

@@ -5,10 +5,10 @@ ghost use Rattle.std.specs.List.Sorted.{IsPermutation};
 ghost use Rattle.spi_term.specs.Looking.{IsInOrder};
 ghost use Rattle.spi_term.specs.View.{atom, effect, pointed};
 ghost use Rattle.spi_effect.specs.Effect.{IsSum, IsDifference, IsGreater};
+ghost use Rattle.spi_effect.specs.Made.{is_many};
 ghost use Rattle.spi_effect.specs.Rest.{IsMet};
 
 use crate::NoMemory;
-use crate::taking::is_many_atom;
 use spi_term::{Atom, Effect, place_of, sort_atoms, tally_each};
 use std::alloc::Global;
 
@@ -41,6 +41,17 @@ fn references(alloc: Global, atoms: &[Atom]) -> Result<Vec<&Atom>, NoMemory>
         all.push(a)?;
     }
     Ok(all)
+}
+
+// Whether an atom is a `many`.
+fn is_many_atom(a: &Atom) -> bool
+    ensures { result ≡ is_many (atom a.now) }
+{
+    match a {
+        Atom::End(_) => false,
+        Atom::Check(_) => false,
+        Atom::Many(_) => true,
+    }
 }
 
 // Whether one more of an atom is left out, by what is left at its place.

@@ -1,9 +1,7 @@
 //! Effects by example: those of the types of `new (x: Nonce [..]); new (y: Nonce [..]); out .. ..`.
 
 use crate::given::{MISSING, NoMemory, Question, each, sample_of};
-use spi_effect::{
-    add, count_of, is_all_many, join, mentions, minus, take_all_out, take_out, within,
-};
+use spi_effect::{add, count_of, join, mentions, minus, within};
 use spi_scope::File;
 use spi_term::{
     Atom, Effect, Ty, compare_atoms, count_in, is_effect_within, is_name_in_effect, is_same_atom,
@@ -20,23 +18,7 @@ enum OfEffects {
     Within,
     Counted,
     Mentioned,
-    AllMany,
-    LeftByOne,
-    LeftByAll,
     Equal,
-}
-
-/// How many atoms are left where one is taken out.
-fn left_by_one(alloc: Global, effect: &Effect, atom: &Atom) -> Result<u64, NoMemory> {
-    let mut left = effect.copy(alloc)?;
-    take_out(&mut left.atoms, atom);
-    Ok(left.atoms.len() as u64)
-}
-
-fn left_by_all(alloc: Global, effect: &Effect, other: &Effect) -> Result<u64, NoMemory> {
-    let mut left = effect.copy(alloc)?;
-    take_all_out(&mut left.atoms, &other.atoms);
-    Ok(left.atoms.len() as u64)
 }
 
 /// Whether a copy of the atom is the same.
@@ -63,9 +45,6 @@ fn answer_of(
             count_of(one, atom).saturating_add(count_in(&one.atoms, atom)) as u64,
         ),
         OfEffects::Mentioned => Ok((mentions(one, 0) && is_name_in_effect(0, &one.atoms)) as u64),
-        OfEffects::AllMany => Ok(is_all_many(&one.atoms) as u64),
-        OfEffects::LeftByOne => left_by_one(alloc, one, atom),
-        OfEffects::LeftByAll => left_by_all(alloc, one, other),
         OfEffects::Equal => Ok(is_copied(alloc, atom)? as u64),
     }
 }
@@ -105,18 +84,6 @@ fn counts_are_added_and_taken(rt: HostRuntime) {
         OfEffects::Left,
         &[(TWICE, 2), (ONCE, 0), (MANY, 0)],
     );
-    each(
-        &rt,
-        alloc,
-        OfEffects::LeftByOne,
-        &[(TWICE, 2), (ONCE, 1), (MANY, 0)],
-    );
-    each(
-        &rt,
-        alloc,
-        OfEffects::LeftByAll,
-        &[(TWICE, 2), (ONCE, 0), (MANY, 0)],
-    );
 }
 
 #[test]
@@ -135,7 +102,6 @@ fn effects_are_compared_and_searched(rt: HostRuntime) {
         &[(TWICE, 4), (ONCE, 0), (MANY, 2)],
     );
     each(&rt, alloc, OfEffects::Mentioned, &[(TWICE, 1), (ONCE, 0)]);
-    each(&rt, alloc, OfEffects::AllMany, &[(TWICE, 0), (MANY, 1)]);
     each(&rt, alloc, OfEffects::Equal, &[(TWICE, 1), (MANY, 1)]);
 }
 

@@ -17,22 +17,19 @@ enum OfMessages {
     GoodEffect,
     Untrusted,
     Fresh,
-    Promising,
 }
 
-/// Whether the type is good, also over the slice of types, where it is small.
+/// Whether the type is good, where it is small.
 fn is_good(alloc: Global, env: &Env, ty: &Ty) -> Result<bool, NoMemory> {
     if env.len() > 1000 || type_nodes(ty) > 1000 {
         return Ok(false);
     }
-    Ok(good_type(alloc, env, ty)? && slices::is_good_type(alloc, ty, env.types())?)
+    good_type(alloc, env, ty)
 }
 
 fn is_effect_good(alloc: Global, env: &Env, ty: &Ty) -> Result<bool, NoMemory> {
     match ty {
-        Ty::Nonce(effect) => Ok(
-            good_effect(alloc, env, effect)? && slices::is_good_effect(alloc, effect, env.types())?,
-        ),
+        Ty::Nonce(effect) => good_effect(alloc, env, effect),
         _ => Ok(false),
     }
 }
@@ -44,19 +41,12 @@ fn answer_in(
     parts: &Sample<'_>,
 ) -> Result<bool, NoMemory> {
     match question {
-        OfMessages::Typed => Ok(
-            has_type(alloc, env, parts.datum, parts.second)?
-                && slices::has_type(alloc, parts.datum, env.types(), parts.second)?,
-        ),
-        OfMessages::Labelled => Ok(
-            is_label(alloc, env, parts.datum)?
-                && slices::is_label(alloc, parts.datum, env.types())?,
-        ),
+        OfMessages::Typed => has_type(alloc, env, parts.datum, parts.second),
+        OfMessages::Labelled => is_label(alloc, env, parts.datum),
         OfMessages::GoodType => is_good(alloc, env, parts.second),
         OfMessages::GoodEffect => is_effect_good(alloc, env, parts.second),
         OfMessages::Untrusted => Ok(slices::is_un_type(parts.second)),
         OfMessages::Fresh => Ok(slices::is_fresh_type(parts.second)),
-        OfMessages::Promising => Ok(slices::nonce_type(parts.datum, env.types()).is_some()),
     }
 }
 
@@ -132,11 +122,5 @@ fn keys_and_untrusted_names_may_be_made(rt: HostRuntime) {
         alloc,
         OfMessages::Fresh,
         &[(untrusted, 1), (key, 1), (unit, 0)],
-    );
-    each(
-        &rt,
-        alloc,
-        OfMessages::Promising,
-        &[(untrusted, 0), (key, 1), (unit, 0)],
     );
 }

@@ -16,6 +16,8 @@ use Rattle.spi_rules.specs.Good.{GoodTy}
 use Rattle.spi_rules.specs.Processes.{IsGenerative, IsNonce, nonce_name, nonce_cast}
 use Rattle.spi_rules.specs.Blocking.{HasSome, Child}
 use Rattle.spi_message.specs.Tests.{is_un, nonce_in, typed, labelled, good, nonce_of}
+use Rattle.spi_message.specs.Forms.{is_nonce}
+use Rattle.spi_message.proofs.Tested.{nonce_there as nonce_type_of}
 use Rattle.spi_message.proofs.Deciding.{is_un_true, is_un_from, typed_true, typed_from, labelled_true, labelled_from, good_true, good_from}
 use Rattle.spi_fault.specs.Checks as C
 use Rattle.spi_fault.specs.Passing.{IsCastable, Follows, HasBound, Passes, Spoils, not_many, escapes, unchecked}
@@ -113,10 +115,10 @@ name_told : {e : Env} {x : ℕ} {fs : Effect} → IsNonce [] e (name x) fs → s
 name_told (nonce_name a) = at_get a
 name_told (nonce_cast i) = elim i [ ]
 
-pub nonce_there : (e : Env) (x : ℕ) (t : Ty) (b : Bool) → slice_get e x ≡ Some t → (b ≡ true) ↔ ((fs : Effect) × (t ≡ nonce fs)) → (b ≡ true) ↔ NonceName e (name x)
+pub nonce_there : (e : Env) (x : ℕ) (t : Ty) (b : Bool) → slice_get e x ≡ Some t → b ≡ is_nonce (nonce_in (Some t)) → (b ≡ true) ↔ NonceName e (name x)
 nonce_there e x t b at h = (
-  λ y. let z = h.0 y in (z.0, nonce_name (get_at e x (at ∙ ap Some z.1))),
-  λ z. h.1 (z.0, let f : Some t ≡ Some (nonce z.0) = sym at ∙ name_told z.1 in cc f),
+  λ y. let z = nonce_type_of t (sym h ∙ y) in (z.0, nonce_name (get_at e x (at ∙ ap Some z.1))),
+  λ z. h ∙ ap (λ o. is_nonce (nonce_in o)) (sym at ∙ name_told z.1),
 )
 
 pub none_past : (e : Env) (x : ℕ) → length e ≤ x → NonceName e (name x) → ⊥

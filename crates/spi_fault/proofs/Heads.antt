@@ -8,8 +8,8 @@ use Rattle.spi_term.specs.Arena.{scope_of}
 use Rattle.spi_term.proofs.Numbers.{size_numbered, small_node}
 use Rattle.spi_rules.specs.Environment.{Env, untrusted}
 use Rattle.spi_rules.specs.Blocking.{child_recv, child_serve, child_split, child_select, child_left, child_right, child_decrypt, child_cast, child_fresh, NodeOf}
-use Rattle.spi_infer.specs.Forms.{enter, on_first}
-use Rattle.spi_infer.proofs.Opened.{numbered_leaf, numbered_prefix, numbered_fork, size_enter}
+use Rattle.spi_message.specs.Forms.{enter, on_first}
+use Rattle.spi_message.proofs.Opened.{numbered_leaf, numbered_prefix, numbered_fork, size_enter}
 use Rattle.spi_infer.proofs.Nodes.{reached_of}
 use Rattle.spi_infer.proofs.Scanning.{drop_at_get}
 use Rattle.spi_infer.proofs.Located.{located}

@@ -1,7 +1,7 @@
 // What is asked of a node, form by form.
 ghost use Rattle.std.specs.Prelude.{◌≡◌, List, Ok, [], ◌∷◌, ◌++◌, IfOk};
 ghost use Rattle.spi_term.specs.Term as Term;
-ghost use Rattle.spi_term.specs.Term.{pair_ty, sum_ty, Splits, Selects, Decrypts, Casts, Cases};
+ghost use Rattle.spi_term.specs.Term.{Splits, Selects, Decrypts, Casts, Cases};
 ghost use Rattle.spi_term.specs.View.{message, ty as type_of, shape_of};
 ghost use Rattle.spi_fault.specs.Checks as Checks;
 ghost use Rattle.spi_fault.specs.Checks.{prefix_checks, fork_checks, shape_checks, reason_of};
@@ -9,6 +9,7 @@ ghost use Rattle.spi_fault.specs.Trying.{check as check_of};
 ghost use Rattle.spi_fault.specs.Giving.{Gives, GivesAll};
 
 use crate::{NoMemory, Reason};
+use spi_message::{pair_type, sum_type};
 use spi_term::{Form, Msg, Node, Ty};
 use std::alloc::Global;
 
@@ -73,27 +74,6 @@ impl Check {
             Check::Stays(_, _) | Check::Made(_) => Reason::EffectEscapes,
         }
     }
-}
-
-// The value in a box, where there is one.
-pub fn boxed<T: Drop>(alloc: Global, value: Result<T, NoMemory>) -> Result<Box<T>, NoMemory>
-    ensures { IfOk result (λ b. value ≡ Ok b.value) }
-{
-    Ok(Box::new(alloc, value?)?)
-}
-
-fn pair(alloc: Global, first: &Ty, second: &Ty) -> Result<Ty, NoMemory>
-    ensures { IfOk result (λ t. type_of t ≡ pair_ty (type_of first.now) (type_of second.now)) }
-{
-    let first = boxed(alloc, first.copy(alloc))?;
-    Ok(Ty::Pair(first, boxed(alloc, second.copy(alloc))?))
-}
-
-fn sum(alloc: Global, left: &Ty, right: &Ty) -> Result<Ty, NoMemory>
-    ensures { IfOk result (λ t. type_of t ≡ sum_ty (type_of left.now) (type_of right.now)) }
-{
-    let left = boxed(alloc, left.copy(alloc))?;
-    Ok(Ty::Sum(left, boxed(alloc, right.copy(alloc))?))
 }
 
 fn channel(alloc: Global, m: &Msg) -> Result<Check, NoMemory>
@@ -251,8 +231,8 @@ fn split_checks(alloc: Global, whole: &Msg, first: &Ty, second: &Ty) -> Result<V
     ensures { GivesAll result (prefix_checks (Splits (message whole.now) (type_of first.now)
         (type_of second.now))) }
 {
-    let good = good(pair(alloc, first, second));
-    let scrutinee = scrutinee(alloc, whole, pair(alloc, first, second), first, second);
+    let good = good(pair_type(alloc, first, second));
+    let scrutinee = scrutinee(alloc, whole, pair_type(alloc, first, second), first, second);
     three(alloc, good, scrutinee, Ok(Check::Stays(2, 1)))
 }
 
@@ -266,8 +246,8 @@ fn select_checks(
     ensures { GivesAll result (prefix_checks (Selects (message whole.now) (type_of first.now)
         (message equal.now) (type_of second.now))) }
 {
-    let good = good(pair(alloc, first, second));
-    let scrutinee = scrutinee(alloc, whole, pair(alloc, first, second), first, second);
+    let good = good(pair_type(alloc, first, second));
+    let scrutinee = scrutinee(alloc, whole, pair_type(alloc, first, second), first, second);
     let equal = first_of(alloc, equal, first);
     four(alloc, good, scrutinee, equal, Ok(Check::Stays(1, 1)))
 }
@@ -284,7 +264,7 @@ fn branch_checks(
 {
     let on_left = good(left.copy(alloc));
     let on_right = good(right.copy(alloc));
-    let scrutinee = scrutinee(alloc, whole, sum(alloc, left, right), left, right);
+    let scrutinee = scrutinee(alloc, whole, sum_type(alloc, left, right), left, right);
     let first = Ok(Check::Stays(1, 1));
     let second = Ok(Check::Stays(1, rest));
     five(alloc, on_left, on_right, scrutinee, first, second)

@@ -1,5 +1,5 @@
 // Whether a check passes.
-ghost use Rattle.std.specs.Prelude.{ℕ, List, None, ◌≡◌, ◌⊎◌, ◌+◌, ◌^◌, ◌<◌, ◌≤◌, ◌↔◌, [], ◌∷◌, map, length, reverse, Some, IfOk, IfSome, IfNone, IsTrue};
+ghost use Rattle.std.specs.Prelude.{ℕ, List, None, ◌≡◌, ◌⊎◌, ◌+◌, ◌^◌, ◌<◌, ◌≤◌, ◌↔◌, [], ◌∷◌, length, reverse, Some, IfOk, IsTrue};
 ghost use Rattle.spi_term.specs.Term as Term;
 ghost use Rattle.spi_term.specs.Term.{un, key, name};
 ghost use Rattle.spi_term.specs.View.{message, ty as type_of, effect as effect_of};
@@ -16,12 +16,13 @@ ghost use Rattle.spi_fault.specs.Checks.{process_of};
 ghost use Rattle.spi_fault.specs.Faults.{the_message, subject, thing};
 ghost use Rattle.spi_fault.specs.Trying.{check as check_of, IsOf, CanBe, Asked, Fits, Tells, TellsAtom};
 
-use crate::check::{Check, boxed};
+use crate::check::Check;
 use crate::least::{Kind, least_text};
 use crate::{NoMemory, Shown};
 use spi_effect::minus;
 use spi_infer::effect_at;
-use spi_message::{good_type, has_type, is_label};
+use spi_message::written::is_nonce_type;
+use spi_message::{good_type, has_type, is_label, key_type};
 use spi_rules::Env;
 use spi_scope::File;
 use spi_term::{Atom, Effect, Msg, Ty};
@@ -85,7 +86,7 @@ fn is_scrutinee(
 fn is_key_of(alloc: Global, env: &Env, m: &Msg, t: &Ty) -> Result<bool, NoMemory>
     ensures { IfOk result (λ b. IsTrue b ↔ (HasType [] env.now (message m.now) (key (type_of t.now)) ⊎ (HasType [] env.now (message m.now) un × (type_of t.now ≡ un)))) }
 {
-    let wanted = Ty::Key(boxed(alloc, t.copy(alloc))?);
+    let wanted = key_type(alloc, t)?;
     if has_type(alloc, env, m, &wanted)? {
         return Ok(true);
     }
@@ -93,19 +94,6 @@ fn is_key_of(alloc: Global, env: &Env, m: &Msg, t: &Ty) -> Result<bool, NoMemory
         return Ok(false);
     }
     has_type(alloc, env, m, &Ty::Un)
-}
-
-fn is_nonce_type(t: &Ty) -> bool
-    ensures { IsTrue result ↔ ((fs : Term.Effect) × (type_of t.now ≡ Term.nonce fs)) }
-{
-    match t {
-        Ty::Un => false,
-        Ty::Unit => false,
-        Ty::Pair(_, _) => false,
-        Ty::Sum(_, _) => false,
-        Ty::Key(_) => false,
-        Ty::Nonce(_) => true,
-    }
 }
 
 fn is_nonce_at(env: &Env, x: u32) -> bool

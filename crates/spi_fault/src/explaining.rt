@@ -1,5 +1,5 @@
 // The fault of a file's process.
-ghost use Rattle.std.specs.Prelude.{◌≡◌, ◌≤◌, ◌↔◌, ℕ, [], map, length, reverse, IfOk, IsNone};
+ghost use Rattle.std.specs.Prelude.{◌≡◌, ◌≤◌, ◌↔◌, [], map, length, reverse, IfOk, IsNone};
 ghost use Rattle.spi_term.specs.Lists.{In};
 ghost use Rattle.spi_term.specs.Term as Term;
 ghost use Rattle.spi_term.specs.View.{effect as effect_of};

@@ -10,13 +10,14 @@ use Rattle.spi_count.specs.Sums.{part}
 use Rattle.spi_count.specs.declared.sum.AtomKind.{AtomKind}
 use Rattle.spi_count.specs.declared.sum.Sum.{Sum}
 use Rattle.spi_count.proofs.Standing.{stands_none}
-use Rattle.spi_infer.specs.declared.keys.Keys.{Keys}
+use Rattle.spi_count.specs.declared.keys.Keys.{Keys}
 use Rattle.spi_infer.specs.declared.own.OwnNote.{OwnNote}
-use Rattle.spi_infer.specs.Own.{with_keys, StandsFor, TopsStand}
+use Rattle.spi_count.specs.Keeping.{with_keys, IsKeyed}
+use Rattle.spi_infer.specs.Own.{StandsFor, TopsStand}
 use Rattle.spi_infer.specs.Forms.{keep}
 use Rattle.spi_infer.specs.Passes.{Note, act_by, stuck_top_by, stuck_two_by, after_shape, both_shape}
-use Rattle.spi_infer.specs.Accounts.{IsKeyed, BelowIn, MayBelowIn, Behind, AfterForm, BothForm, Tops, IsBefore}
-use Rattle.spi_infer.proofs.Summed.{numbers}
+use Rattle.spi_infer.specs.Accounts.{BelowIn, MayBelowIn, Behind, AfterForm, BothForm, Tops, IsBefore}
+use Rattle.spi_count.proofs.Summed.{numbers}
 
 pub tops_push : (At : ℕ → Message → Type 0) (os ns : List (Option Sum)) (o : Option Sum) (e : Option Effect) (st : List (Option Effect)) → ns ≡ os ++ o ∷ [] → StandsFor At o e → TopsStand At (reverse os) st → TopsStand At (reverse ns) (e ∷ st)
 tops_push At os ns o e st n h t = subst (λ l. TopsStand At l (e ∷ st)) (sym (ap reverse n ∙ reverse-append os (o ∷ []))) (h, t)

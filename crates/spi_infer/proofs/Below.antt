@@ -1,73 +1,19 @@
 -- The names of an effect are those in scope.
-use Rattle.std.proofs.Common.{◌≡◌, refl, sym, ap, ◌∙◌, subst, ℕ, zero, suc, ◌+◌, ◌≤◌, Bool, true, false, ◌||◌, [], ◌∷◌, ◌++◌, length, Option, Some, None, ◌⊎◌, inl, inr, ⊎_elim, arith, true≢false, length-append}
-use Rattle.spi_term.specs.Term.{Message, bound, name, unit, pair, in_left, in_right, enc, hash, Atom, ends, checks, many, Effect, Ty, un, unit_ty, pair_ty, sum_ty, key, nonce, Prefix, Recvs, Serves, Splits, Selects, Decrypts, Checks, Begins, Ends, EndManys, Casts, Makes, Fork, Cases, Pars, Process, leaf, prefix, fork, binds, fork_binds}
-use Rattle.spi_term.specs.Lists.{In, in_first, in_later}
-use Rattle.spi_term.specs.Counts.{tally}
-use Rattle.spi_term.specs.Names.{MessageOver, OfAtom, OfEffect, OfTy, OfPrefix}
+use Rattle.std.proofs.Common.{◌≡◌, refl, ap, ◌∙◌, subst, ℕ, suc, ◌+◌, ◌≤◌, Bool, true, false, ◌||◌, [], ◌∷◌, ◌++◌, length, Option, Some, None, arith, length-append}
+use Rattle.spi_term.specs.Term.{Message, name, ends, checks, many, Effect, Ty, un, unit_ty, pair_ty, sum_ty, key, nonce, Prefix, Recvs, Serves, Splits, Selects, Decrypts, Checks, Begins, Ends, EndManys, Casts, Makes, Fork, Cases, Pars, Process, leaf, prefix, fork, binds, fork_binds}
+use Rattle.spi_term.specs.Names.{MessageOver, OfTy, OfPrefix}
 use Rattle.spi_term.specs.Arena.{InScope}
-use Rattle.spi_term.proofs.Counting.{in_tally, tally_in, count_tally}
 use Rattle.spi_effect.specs.Made.{are_many, minus, greater, mentions}
-use Rattle.spi_effect.proofs.Made.{minus_difference, or_false}
+use Rattle.spi_effect.proofs.Made.{or_false}
 use Rattle.spi_rules.specs.Environment.{Env}
-use Rattle.spi_count.specs.Sums.{name_bound, message_of}
-use Rattle.spi_count.proofs.Standing.{Below, in_mentions}
-use Rattle.spi_infer.specs.Forms.{more, on_first, on_rest, unless, keep, checked, cast_effect_of, after, both, by_effect, by_effects, effect_of, prefix_ok, fork_ok, leaf_ok, paid_by}
-use Rattle.spi_infer.proofs.Opened.{length_more, length_first, length_rest}
+use Rattle.spi_count.specs.Sums.{name_bound, Below}
+use Rattle.spi_message.specs.Forms.{more, on_first, on_rest, cast_effect_of}
+use Rattle.spi_infer.specs.Forms.{unless, keep, checked, after, both, by_effect, by_effects, effect_of, prefix_ok, fork_ok, leaf_ok, paid_by}
+use Rattle.spi_message.proofs.Opened.{length_more, length_first, length_rest}
+use Rattle.spi_count.proofs.Below.{bound_over, below_joined, below_one, below_minus, below_over, below_bound, below_more}
 
-pub bound_over : (n k : ℕ) (m : Message) → MessageOver n k m → name_bound m ≤ n
-bound_over n k (bound i) h = omega arith
-bound_over n k (name x) h = omega (arith, h)
-bound_over n k unit h = omega arith
-bound_over n k (pair a b) h = let p = bound_over n k a h.0 in let q = bound_over n k b h.1 in omega (arith, p, q)
-bound_over n k (in_left a) h = bound_over n k a h
-bound_over n k (in_right a) h = bound_over n k a h
-bound_over n k (enc a b) h = let p = bound_over n k a h.0 in let q = bound_over n k b h.1 in omega (arith, p, q)
-bound_over n k (hash a) h = bound_over n k a h
-
-in_either : (a : Atom) (es fs : Effect) → In a (es ++ fs) → In a es ⊎ In a fs
-in_either a [] fs n = inr n
-in_either a (b ∷ es) fs in_first = inl in_first
-in_either a (b ∷ es) fs (in_later n) = ⊎_elim (λ m. inl (in_later m)) (λ m. inr m) (in_either a es fs n)
-
-below_joined : {n : ℕ} (es fs : Effect) → Below n es → Below n fs → Below n (es ++ fs)
-below_joined es fs h k a n = ⊎_elim (λ m. h a m) (λ m. k a m) (in_either a es fs n)
-
-below_one : {n : ℕ} (b : Atom) → name_bound (message_of b) ≤ n → Below n (b ∷ [])
-below_one b h a in_first = h
-below_one b h a (in_later n) = elim n [ ]
-
-in_minus : (a : Atom) (es fs : Effect) → In a (minus es fs) → In a es
-in_minus a es fs n =
-    let p = (count_tally a (tally a (minus es fs))).1 (in_tally n) in
-    let d = (minus_difference es fs).at a in
-    tally_in a es ((count_tally a (tally a es)).0 (omega (arith, p, d)))
-
-below_minus : {n : ℕ} (es fs : Effect) → Below n es → Below n (minus es fs)
-below_minus es fs h a n = h a (in_minus a es fs n)
-
-over_at : {n : ℕ} (k : ℕ) (b : Atom) → OfAtom (MessageOver n k) b → name_bound (message_of b) ≤ n
-over_at {n} k (ends m) h = bound_over n k m h
-over_at {n} k (checks m) h = bound_over n k m h
-over_at {n} k (many m) h = bound_over n k m h
-
-below_over : {n : ℕ} (k : ℕ) (es : Effect) → OfEffect (MessageOver n k) es → Below n es
-below_over k [] h a n = elim n [ ]
-below_over k (b ∷ es) h a in_first = over_at k b h.0
-below_over k (b ∷ es) h a (in_later n) = below_over k es h.1 a n
-
-next_or_less : (b k : ℕ) → suc b ≤ k + 1 → (b ≡ k) ⊎ (suc b ≤ k)
-next_or_less zero zero l = inl refl
-next_or_less zero (suc k) l = inr (omega arith)
-next_or_less (suc b) zero l = absurd (omega (arith, l))
-next_or_less (suc b) (suc k) l = ⊎_elim (λ h. inl (ap suc h)) (λ h. inr (omega (arith, h))) (next_or_less b k (omega (arith, l)))
-
--- the name that a form binds isn't mentioned
-below_bound : (k : ℕ) (es : Effect) → Below (k + 1) es → mentions k es ≡ false → Below k es
-below_bound k es h e a n = go (name_bound (message_of a)) refl (h a n)
-  where
-    go : (b : ℕ) → name_bound (message_of a) ≡ b → b ≤ k + 1 → b ≤ k
-    go zero f l = omega arith
-    go (suc b) f l = ⊎_elim (λ g. absurd (true≢false (sym (in_mentions k a es n (f ∙ ap suc g)) ∙ e))) (λ g. g) (next_or_less b k l)
+next : (k : ℕ) (es : Effect) → Below (k + 1) es → Below (suc k) es
+next k es = below_more (k + 1) (suc k) es (omega arith)
 
 unless_no : (b : Bool) (es fs : Effect) → unless b es ≡ Some fs → (b ≡ false) × (es ≡ fs)
 unless_no true es fs h = cc
@@ -80,7 +26,7 @@ keep_yes false o fs h = cc
 below_unless : (k : ℕ) (es fs gs : Effect) → Below (k + 1) es → (Below k es → Below k fs) → unless (mentions k es) fs ≡ Some gs → Below k gs
 below_unless k es fs gs h f e =
     let u = unless_no (mentions k es) fs gs e in
-    subst (Below k) u.1 (f (below_bound k es h u.0))
+    subst (Below k) u.1 (f (below_bound k es (next k es h) u.0))
 
 below_cast : (k : ℕ) (t : Ty) → OfTy (MessageOver k) 0 t → Below k (cast_effect_of t)
 below_cast k un h = λ a n. elim n [ ]
@@ -106,8 +52,8 @@ below_after k paid (Serves m t) es fs o h e = below_unless k es es fs h (λ x. x
 below_after k paid (Splits m t u) es fs o h e =
     let x = unless_no (mentions k es || mentions (suc k) es) es fs e in
     let y = or_false (mentions k es) (mentions (suc k) es) x.0 in
-    let h' : Below (suc k + 1) es = λ a n. let l = h a n in omega (arith, l) in
-    let g : Below (k + 1) es = λ a n. let l = below_bound (suc k) es h' y.1 a n in omega (arith, l) in
+    let h' : Below (suc (suc k)) es = λ a n. let l = h a n in omega (arith, l) in
+    let g : Below (suc k) es = below_bound (suc k) es h' y.1 in
     subst (Below k) x.1 (below_bound k es g y.0)
 below_after k paid (Selects m t n u) es fs o h e = below_unless k es es fs h (λ x. x) e
 below_after k paid (Decrypts m t n) es fs o h e = below_unless k es es fs h (λ x. x) e
@@ -125,7 +71,7 @@ below_both k Pars es fs gs h j e = below_same e (below_joined es fs (below_zero 
 below_both k (Cases m t u) es fs gs h j e =
     let x = unless_no (mentions k es || mentions k fs) (greater es fs) gs e in
     let y = or_false (mentions k es) (mentions k fs) x.0 in
-    subst (Below k) x.1 (below_joined es (minus fs es) (below_bound k es h y.0) (below_minus fs es (below_bound k fs j y.1)))
+    subst (Below k) x.1 (below_joined es (minus fs es) (below_bound k es (next k es h) y.0) (below_minus fs es (below_bound k fs (next k fs j) y.1)))
 
 by_some : (f : Effect → Option Effect) (o : Option Effect) (fs : Effect) → by_effect f o ≡ Some fs → (es : Effect) × (o ≡ Some es) × (f es ≡ Some fs)
 by_some f None fs e = cc

@@ -1,22 +1,23 @@
 -- Names that are bound in a judge and taken away.
-use Rattle.std.proofs.Common.{◌≡◌, ℕ, zero, suc, ◌+◌, ◌-◌, ◌<◌, ◌≤◌, eqb, List, [], ◌∷◌, ◌++◌, length, take, refl, sym, ap, subst, ◌∙◌, arith, append_assoc, append-nil, length-take, length-append, eq-eqb, Result, Ok, Err}
+use Rattle.std.proofs.Common.{◌≡◌, ℕ, ◌+◌, ◌-◌, ◌≤◌, eqb, List, [], ◌∷◌, ◌++◌, length, take, refl, sym, ap, subst, ◌∙◌, arith, append_assoc, append-nil, length-append, eq-eqb, Result, Ok, Err}
 use Rattle.std.specs.Prelude.{if◌then◌else◌, OnOk, OnErr}
-use Rattle.std.proofs.lemmas.List.{take-append-le, take_all}
+use Rattle.std.proofs.lemmas.List.{take-append-le, take_all, length_push}
 use Rattle.std.proofs.Math.Seq.{take-append-add}
 use Rattle.spi_term.specs.Term.{name, Ty}
 use Rattle.spi_term.specs.Substitution.{ty_put}
-use Rattle.spi_rules.specs.Environment.{Env}
 use Rattle.spi_intern.specs.Meaning.{Means, Keeps}
 use Rattle.spi_intern.specs.declared.types.TyId.{TyId}
 use Rattle.spi_intern.specs.declared.store.Store.{Store}
 use Rattle.spi_intern.proofs.Meanings.{terms_same, terms_more}
-use Rattle.spi_message.specs.Judging.{Numbered, StandFor, stand_none, stand_next, IsKept}
+use Rattle.spi_message.specs.Judging.{Numbered, StandFor, IsKept}
 use Rattle.spi_message.proofs.Standing.{stand_push, stand_length}
 use Rattle.spi_infer.specs.Passes.{Wait, wait, settled, IsCalm}
-use Rattle.spi_infer.specs.Walking.{Turns, IsAbove}
+use Rattle.spi_message.specs.Tested.{Turns}
+use Rattle.spi_infer.specs.Walking.{IsAbove}
 use Rattle.spi_infer.specs.Waiting.{Reaches}
-use Rattle.spi_infer.proofs.Asked.{stands_kept}
+use Rattle.spi_message.proofs.Tested.{stands_kept}
 use Rattle.spi_infer.proofs.Scanning.{calm_settled, due_settled}
+use Rattle.spi_message.proofs.Cut.{same_store}
 
 -- what stays
 pub above_kept : {a b : Numbered} → IsKept a b → IsAbove a b
@@ -32,9 +33,6 @@ above_more {a} g h = record {
 
 pub above_same : (a : Numbered) → IsAbove a a
 above_same a = record { store = terms_same a.store; free = refl; more = []; types = sym (append-nil a.types) }
-
-pub same_store : {s r : Store} → r ≡ s → Keeps s r
-same_store {s} e = subst (λ r. Keeps s r) (sym e) (terms_same s)
 
 pub above_bind : {A E : Type 0} (a b : Numbered) (t : TyId) → b.store ≡ a.store → b.free ≡ a.free → (r : Result A E) → OnOk r (b.types ≡ a.types ++ t ∷ []) → OnErr r (b.types ≡ a.types) → IsAbove a b
 above_bind a b t s f (Ok x) g h = record { store = same_store s; free = f; more = t ∷ []; types = g }
@@ -60,11 +58,7 @@ turns_bind j k l i t h m q (Err x) g = tt
 
 pub more_bind : {A E : Type 0} (j k l : Numbered) (i : TyId) → IsKept j k → (r : Result A E) → OnOk r (l.types ≡ k.types ++ i ∷ []) → OnOk r (length l.types ≡ length j.types + 1)
 more_bind j k l i h (Ok x) g =
-    ap length g ∙ length_push k.types ∙ ap (λ ids. length ids + 1) h.types
-  where
-    length_push : (ids : List TyId) → length (ids ++ i ∷ []) ≡ length ids + 1
-    length_push [] = refl
-    length_push (x ∷ ids) = let e : suc (length ids + 1) ≡ suc (length ids) + 1 = omega arith in ap suc (length_push ids) ∙ e
+    ap length g ∙ length_push k.types i ∙ ap (λ ids. length ids + 1) h.types
 more_bind j k l i h (Err x) g = tt
 
 pub turns_split : {A E : Type 0} (j k l : Numbered) (t u : Ty) (n : ℕ) → n ≡ length j.types → Turns j k (λ e. e ++ t ∷ []) → (r : Result A E) → OnOk r (Turns k l (λ e. e ++ ty_put (name n) u ∷ [])) → OnOk r (Turns j l (λ e. e ++ t ∷ (ty_put (name (length e)) u ∷ [])))
@@ -78,16 +72,6 @@ turns_split j k l t u n q f (Ok x) g = record {
 turns_split j k l t u n q f (Err x) g = tt
 
 -- fewer names
-stand_take : {s : Store} {ids : List TyId} {e : Env} (n : ℕ) → StandFor s ids e → StandFor s (take n ids) (take n e)
-stand_take zero h = stand_none
-stand_take (suc n) stand_none = stand_none
-stand_take (suc n) (stand_next m h) = stand_next m (stand_take n h)
-
-pub turns_cut : (j k : Numbered) (n : ℕ) → k.types ≡ take n j.types → k.store ≡ j.store → Turns j k (λ e. take n e)
-turns_cut j k n t q = record {
-  at = λ e s. subst (λ ids. StandFor k.store ids (take n e)) (sym t) (subst (λ r. StandFor r (take n j.types) (take n e)) (sym q) (stand_take n s));
-}
-
 take_over : {A : Type 0} (n : ℕ) (xs ys : List A) → length xs ≤ n → take n (xs ++ ys) ≡ xs ++ take (n - length xs) ys
 take_over n xs ys h =
     let e : n ≡ length xs + (n - length xs) = omega arith in
@@ -107,25 +91,6 @@ kept_cut a j k h t q f = record {
   free = f ∙ h.free;
   types = t ∙ ap (take (length a.types)) h.types ∙ take-append-le (length a.types) a.types h.more (omega arith) ∙ take_all (length a.types) a.types (omega arith);
 }
-
--- one name fewer, where there are more than are wanted
-pub cut_more : (ids js : List TyId) (t : TyId) (n : ℕ) → ids ≡ js ++ t ∷ [] → n < length ids → take n js ≡ take n ids
-cut_more ids js t n e h =
-    sym (ap (take n) e ∙ take-append-le n js (t ∷ []) (omega (arith, ap length e, length_push js)))
-  where
-    length_push : (ids : List TyId) → length (ids ++ t ∷ []) ≡ length ids + 1
-    length_push [] = refl
-    length_push (x ∷ ids) = let e : suc (length ids + 1) ≡ suc (length ids) + 1 = omega arith in ap suc (length_push ids) ∙ e
-
-pub length_less : (ids js : List TyId) (t : TyId) → ids ≡ js ++ t ∷ [] → length js < length ids
-length_less ids js t e = omega (arith, ap length e, length_push js)
-  where
-    length_push : (ids : List TyId) → length (ids ++ t ∷ []) ≡ length ids + 1
-    length_push [] = refl
-    length_push (x ∷ ids) = let e : suc (length ids + 1) ≡ suc (length ids) + 1 = omega arith in ap suc (length_push ids) ∙ e
-
-pub cut_done : (ids : List TyId) (n : ℕ) → length ids ≤ n → ids ≡ take n ids
-cut_done ids n h = sym (take_all n ids h)
 
 -- back to a node's scope
 pub reaches_calm : (base i k : ℕ) (ws : List Wait) → IsCalm i ws → Reaches base i k ws → base ≤ k
@@ -150,9 +115,6 @@ turns_due j k l i n m u ws vs q v h g = record {
 pub few_bind : {A E : Type 0} (k l : Numbered) (i : TyId) (r : Result A E) → OnOk r (l.types ≡ k.types ++ i ∷ []) → length k.types ≤ 300000 → OnOk r (length l.types ≤ 300001)
 few_bind k l i (Ok x) g h = omega (arith, ap length g, length-append k.types (i ∷ []))
 few_bind k l i (Err x) g h = tt
-
-pub length_cut : (ids js : List TyId) (n : ℕ) → js ≡ take n ids → length js ≤ n
-length_cut ids js n e = omega (arith, ap length e, length-take n ids)
 
 pub reaches_less : (a b i k : ℕ) (ws : List Wait) → b ≤ a → Reaches a i k ws → Reaches b i k ws
 reaches_less a b i k [] l h = omega arith

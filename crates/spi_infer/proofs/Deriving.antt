@@ -9,8 +9,9 @@ use Rattle.spi_rules.specs.Least.{Least}
 use Rattle.spi_rules.specs.Blocking.{Blocks}
 use Rattle.spi_rules.proofs.Paying.{has_pays}
 use Rattle.spi_rules.proofs.Least.{least_of}
-use Rattle.spi_infer.specs.Forms.{enter, more, on_first, on_rest, prefix_ok, fork_ok, paid_by, by_effect, by_effects, after, both, effect_of}
-use Rattle.spi_infer.proofs.Opened.{numbered_prefix, numbered_fork}
+use Rattle.spi_message.specs.Forms.{enter, more, on_first, on_rest}
+use Rattle.spi_infer.specs.Forms.{prefix_ok, fork_ok, paid_by, by_effect, by_effects, after, both, effect_of}
+use Rattle.spi_message.proofs.Opened.{numbered_prefix, numbered_fork}
 use Rattle.spi_infer.proofs.Least.{sound, keep_some, after_some, both_some}
 use Rattle.spi_infer.proofs.Reach.{Reaches, reach_root, reach_prefix, reach_first, reach_rest}
 use Rattle.spi_infer.proofs.Blocked.{Found, none_blocks, one_blocks, found, has_none}

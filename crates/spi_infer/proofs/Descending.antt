@@ -8,10 +8,10 @@ use Rattle.spi_term.specs.Arena.{scope_of}
 use Rattle.spi_term.proofs.Numbers.{size_numbered, small_node}
 use Rattle.spi_rules.specs.Environment.{Env, untrusted}
 use Rattle.spi_rules.specs.Blocking.{NodeOf}
-use Rattle.spi_infer.specs.Forms.{enter, more, on_first, on_rest}
+use Rattle.spi_message.specs.Forms.{enter, more, on_first, on_rest}
 use Rattle.spi_infer.specs.Inferring.{IsReached}
 use Rattle.spi_infer.specs.Reaching.{Descends}
-use Rattle.spi_infer.proofs.Opened.{numbered_leaf, numbered_prefix, numbered_fork, size_enter}
+use Rattle.spi_message.proofs.Opened.{numbered_leaf, numbered_prefix, numbered_fork, size_enter}
 use Rattle.spi_infer.proofs.Reach.{Reaches, reach_root, reach_prefix, reach_first, reach_rest}
 use Rattle.spi_infer.proofs.Blocked.{reach_within}
 use Rattle.spi_infer.proofs.Nodes.{node_of, reached_of}

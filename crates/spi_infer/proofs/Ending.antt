@@ -7,7 +7,8 @@ use Rattle.spi_rules.specs.Blocking.{NodeOf}
 use Rattle.spi_intern.specs.declared.store.Store.{Store}
 use Rattle.spi_count.specs.declared.sum.Sum.{Sum}
 use Rattle.spi_infer.specs.declared.own.Noted.{Noted}
-use Rattle.spi_infer.specs.Own.{with_keys, StandsFor}
+use Rattle.spi_count.specs.Keeping.{with_keys}
+use Rattle.spi_infer.specs.Own.{StandsFor}
 use Rattle.spi_infer.specs.Forms.{effect_of}
 use Rattle.spi_infer.specs.Passes.{scan, run, first_stuck}
 use Rattle.spi_infer.specs.Accounts.{Tops, IsNoted}

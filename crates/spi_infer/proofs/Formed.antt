@@ -1,13 +1,12 @@
 -- What forms do to counts against what they do to effects.
-use Rattle.std.proofs.Common.{◌≡◌, refl, sym, ap, subst, ℕ, zero, suc, ◌+◌, ◌-◌, ◌*◌, ◌<◌, ◌≤◌, Bool, true, false, ◌||◌, [], ◌∷◌, Option, Some, None, ◌⊎◌, inl, inr, ⊎_elim, arith}
+use Rattle.std.proofs.Common.{◌≡◌, refl, sym, subst, ℕ, zero, suc, ◌+◌, ◌-◌, ◌*◌, ◌<◌, ◌≤◌, Bool, true, false, ◌||◌, [], ◌∷◌, Option, Some, None, ◌⊎◌, inl, inr, ⊎_elim, arith}
 use Rattle.std.specs.Prelude.{slice_get, max}
-use Rattle.spi_term.specs.Term.{Message, name, Atom, ends, checks, many, Effect, Ty, nonce, Casts, Pars}
+use Rattle.std.proofs.lemmas.Bool.{or_left, or_right}
+use Rattle.spi_intern.proofs.Lists.{some_one}
+use Rattle.spi_term.specs.Term.{Message, name, ends, checks, many, Effect, Ty, nonce, Casts, Pars}
 use Rattle.spi_term.specs.Spelling.{prefix_at, fork_at}
-use Rattle.spi_term.specs.Counts.{tally}
-use Rattle.spi_term.specs.Lists.{In}
-use Rattle.spi_term.proofs.Counting.{in_tally, tally_in, count_tally}
 use Rattle.spi_effect.specs.Made.{are_many, mentions, minus, greater}
-use Rattle.spi_effect.proofs.Made.{minus_difference, both_false}
+use Rattle.spi_effect.proofs.Made.{both_false}
 use Rattle.spi_intern.specs.declared.store.Store.{Store}
 use Rattle.spi_intern.specs.declared.messages.MsgId.{MsgId}
 use Rattle.spi_intern.specs.declared.types.TyId.{TyId}
@@ -20,13 +19,17 @@ use Rattle.spi_count.specs.declared.sum.AtomKind.{AtomKind}
 use Rattle.spi_count.specs.declared.sum.AtomKind.TheVariants as K
 use Rattle.spi_count.specs.declared.sum.Sum.{Sum}
 use Rattle.spi_count.proofs.Standing.{unreached_below, reached_in, below_mentions, in_mentions, stands_many, many_stands, stands_greatest, stands_joined}
-use Rattle.spi_infer.specs.declared.keys.Keys.{Keys}
+use Rattle.spi_count.specs.declared.keys.Keys.{Keys}
 use Rattle.spi_infer.specs.declared.own.Own.{Own}
 use Rattle.spi_infer.specs.declared.own.Own.TheVariants.{Label}
-use Rattle.spi_infer.specs.Own.{with_keys, StandsFor}
-use Rattle.spi_infer.specs.Forms.{unless, keep, cast_effect_of}
-use Rattle.spi_infer.specs.Accounts.{IsKeyed, SumOf, Below, TakesAtom, AddsAtom, AfterOne, AfterTwo, AfterServe, AfterMake, AfterCheck, AfterForm, OwnCast, OwnBegin, OwnEnd, OwnMany, BothCase, BothForm}
-use Rattle.spi_infer.proofs.Summed.{numbers, some_is}
+use Rattle.spi_count.specs.Keeping.{with_keys, IsKeyed}
+use Rattle.spi_infer.specs.Own.{StandsFor}
+use Rattle.spi_infer.specs.Forms.{unless, keep}
+use Rattle.spi_message.specs.Forms.{cast_effect_of}
+use Rattle.spi_count.specs.Adding.{SumOf, TakesAtom, AddsAtom}
+use Rattle.spi_infer.specs.Accounts.{AfterOne, AfterTwo, AfterServe, AfterMake, AfterCheck, AfterForm, OwnCast, OwnBegin, OwnEnd, OwnMany, BothCase, BothForm}
+use Rattle.spi_count.proofs.Summed.{numbers}
+use Rattle.spi_count.proofs.Below.{in_minus, below_more}
 
 -- counts for an effect that stands where a test says so
 pub kept_unless : (At : ℕ → Message → Type 0) (sum : Sum) (b : Bool) (es : Effect) → b ≡ false → Stands At sum es → StandsFor At (Some sum) (unless b es)
@@ -48,16 +51,6 @@ kept_keep At r false o e t = absurd (cc)
 gone_keep : (At : ℕ → Message → Type 0) (b : Bool) (o : Option Effect) → (b ≡ true → ⊥) → StandsFor At None (keep b o)
 gone_keep At true o e = absurd (e refl)
 gone_keep At false o e = tt
-
-or_one : (a b : Bool) → a ≡ true → (a || b) ≡ true
-or_one a b e = ap (λ a. a || b) e
-
-or_two : (a b : Bool) → b ≡ true → (a || b) ≡ true
-or_two true b e = refl
-or_two false b e = e
-
-below_more : (n m : ℕ) (es : Effect) → n ≤ m → Below n es → Below m es
-below_more n m es h b a i = let l = b a i in omega (arith, l, h)
 
 abbrev pub Unreached : ℕ → Sum → Type 0
 Unreached k sum = (kind : AtomKind) (q : ℕ) → 0 < count_of (part kind sum) q → q < (k + 1) * 4294967296
@@ -95,7 +88,7 @@ two_go k sum r s keys es kd t b =
     let (kind, q, p, l) = r in
     let (a, i, o) = reached_in (with_keys s keys) (numbers kd) t k kind q p l in
     gone_unless (with_keys s keys) (mentions k es || mentions (suc k) es) es
-    (⊎_elim (λ e. or_one (mentions k es) (mentions (suc k) es) (in_mentions k a es i e)) (λ e. or_two (mentions k es) (mentions (suc k) es) (in_mentions (suc k) a es i e)) (one_or_next (name_bound (message_of a)) k o (b a i)))
+    (⊎_elim (λ e. or_left (mentions k es) (mentions (suc k) es) (in_mentions k a es i e)) (λ e. or_right (mentions k es) (mentions (suc k) es) (in_mentions (suc k) a es i e)) (one_or_next (name_bound (message_of a)) k o (b a i)))
 
 pub serve_stays : (k : ℕ) (sum : Sum) (r : Option Sum) → IsNothing (part K.End sum) × IsNothing (part K.Check sum) → AfterOne k sum r → AfterServe k sum r
 serve_stays k sum r n h s keys es kd t b =
@@ -104,12 +97,6 @@ serve_stays k sum r n h s keys es kd t b =
 pub serve_goes : (k : ℕ) (sum : Sum) → (IsNothing (part K.End sum) × IsNothing (part K.Check sum) → ⊥) → AfterServe k sum None
 serve_goes k sum n s keys es kd t b =
     gone_keep (with_keys s keys) (are_many es) (unless (mentions k es) es) (λ e. n (many_stands (with_keys s keys) (numbers kd) t e))
-
-in_minus : (a : Atom) (es fs : Effect) → In a (minus es fs) → In a es
-in_minus a es fs n =
-    let p = (count_tally a (tally a (minus es fs))).1 (in_tally n) in
-    let d = (minus_difference es fs).at a in
-    tally_in a es ((count_tally a (tally a es)).0 (omega (arith, p, d)))
 
 pub make_is : (k : ℕ) (s : Store) (keys : Keys) (id : MsgId) (sum mid : Sum) (r : Option Sum) → slice_get s.messages id.place ≡ Some (name k) → TakesAtom keys (A.Check id) sum mid → AfterOne k mid r → AfterMake k s keys sum r
 make_is k s keys id sum mid r e p h es kd t b =
@@ -136,21 +123,21 @@ case_both k a b a' b' c h j g s keys es fs kd t u x y =
 pub begin_is : (keys : Keys) (own : Own) (label : MsgId) (old mid new : Sum) → ((id : MsgId) → own ≡ Label id → Some label ≡ Some id)
     → TakesAtom keys (A.End label) old mid → TakesAtom keys (A.Many label) mid new → OwnBegin keys own old (Some new)
 begin_is keys own label old mid new f p q s id m es e kd g t =
-    let i : label ≡ id = some_is (f id e) in
+    let i : label ≡ id = some_one (f id e) in
     let h = subst (λ (i : MsgId). slice_get s.messages i.place ≡ Some m) (sym i) g in
     q s (many m) (minus es (ends m ∷ [])) kd (says_many h) (p s (ends m) es kd (says_end h) t)
 
 pub end_is : (keys : Keys) (own : Own) (label : MsgId) (old new : Sum) → ((id : MsgId) → own ≡ Label id → Some label ≡ Some id)
     → AddsAtom keys (A.End label) old new → OwnEnd keys own old (Some new)
 end_is keys own label old new f p s id m es e kd g t =
-    let i : label ≡ id = some_is (f id e) in
+    let i : label ≡ id = some_one (f id e) in
     let h = subst (λ (i : MsgId). with_keys s keys i.place m) (sym i) g in
     p s (ends m) es kd (says_end h.at) (label.place, h) t
 
 pub many_is : (keys : Keys) (own : Own) (label : MsgId) (old new : Sum) → ((id : MsgId) → own ≡ Label id → Some label ≡ Some id)
     → AddsAtom keys (A.Many label) old new → OwnMany keys own old (Some new)
 many_is keys own label old new f p s id m es e kd g t =
-    let i : label ≡ id = some_is (f id e) in
+    let i : label ≡ id = some_one (f id e) in
     let h = subst (λ (i : MsgId). with_keys s keys i.place m) (sym i) g in
     p s (many m) es kd (says_many h.at) (label.place, h) t
 

@@ -9,10 +9,10 @@ use Rattle.spi_intern.specs.declared.store.Store.{Store}
 use Rattle.spi_message.specs.Judging.{Numbered, Stands}
 use Rattle.spi_message.proofs.Standing.{stand_length}
 use Rattle.spi_infer.specs.declared.own.Noted.{Noted}
-use Rattle.spi_infer.specs.Own.{with_keys, AreNoted}
+use Rattle.spi_count.specs.Keeping.{with_keys, AreKept}
+use Rattle.spi_infer.specs.Own.{AreNoted}
 use Rattle.spi_infer.specs.Passes.{scan}
 use Rattle.spi_infer.specs.Accounts.{IsNoted}
-use Rattle.spi_infer.specs.Walking.{AreKept}
 use Rattle.spi_infer.proofs.Nodes.{reached_of}
 use Rattle.spi_infer.proofs.Located.{over_reached}
 

@@ -1,16 +1,16 @@
 -- Where the nodes of a node's process stand, and what the passes see of them.
 use Rattle.std.proofs.Common.{◌≡◌, ℕ, zero, suc, ◌+◌, ◌<◌, ◌≤◌, List, [], ◌∷◌, ◌++◌, length, take, drop, refl, sym, ap, ◌∙◌, subst, arith, Option, append-nil, append_assoc, length-append}
-use Rattle.spi_term.specs.Term.{Effect, Process, leaf, prefix, fork, binds, fork_binds, process_size}
+use Rattle.spi_term.specs.Term.{Effect, Process, leaf, prefix, fork, binds, fork_binds, process_size, name}
 use Rattle.spi_term.specs.Names.{MessageOver, OfProcess, ProcessOver}
 use Rattle.spi_term.specs.Spelling.{Shape, flat, numbered, spelled}
 use Rattle.spi_term.proofs.Numbers.{size_numbered}
 use Rattle.spi_term.proofs.Terms.{over_put_process, over_more_process}
-use Rattle.spi_term.specs.Term.{name}
 use Rattle.spi_term.specs.Substitution.{process_map, put}
 use Rattle.spi_rules.specs.Environment.{Env}
-use Rattle.spi_infer.specs.Forms.{enter, more, on_first, on_rest, effect_of}
+use Rattle.spi_message.specs.Forms.{enter, more, on_first, on_rest}
+use Rattle.spi_infer.specs.Forms.{effect_of}
 use Rattle.spi_infer.specs.Passes.{Note, scan, run}
-use Rattle.spi_infer.proofs.Opened.{length_more, length_first, length_rest, numbered_prefix, numbered_fork, size_enter}
+use Rattle.spi_message.proofs.Opened.{length_more, length_first, length_rest, numbered_prefix, numbered_fork, size_enter}
 use Rattle.spi_infer.proofs.Passes.{notes, scan_flat, run_flat}
 use Rattle.spi_infer.proofs.Reach.{Reaches, reach_root, reach_prefix, reach_first, reach_rest}
 use Rattle.spi_infer.proofs.Blocked.{reach_within}

@@ -2,6 +2,7 @@
 use Rattle.std.proofs.Common.{◌≡◌, refl, sym, ap, ◌∙◌, subst, ℕ, zero, suc, ◌+◌, ◌<◌, ◌≤◌, Bool, true, false, List, [], ◌∷◌, ◌++◌, length, drop, get_or, Option, Some, None, arith, append-nil, append_assoc, length-append}
 use Rattle.std.specs.Prelude.{⊤, slice_get, if◌then◌else◌}
 use Rattle.std.proofs.lemmas.List.{drop_all}
+use Rattle.std.proofs.lemmas.Option.{slice_get_within}
 use Rattle.spi_term.specs.Term.{Message, Effect, Prefix, Recvs, Serves, Splits, Selects, Decrypts, Checks, Begins, Ends, EndManys, Casts, Makes, Process, leaf, prefix, fork, binds, fork_binds, process_size}
 use Rattle.spi_term.specs.Names.{ProcessOver}
 use Rattle.spi_term.specs.Spelling.{Shape, leaf_at, prefix_at, fork_at, flat, numbered, spelled}
@@ -13,16 +14,18 @@ use Rattle.spi_intern.specs.declared.messages.MsgId.{MsgId}
 use Rattle.spi_intern.specs.declared.types.TyId.{TyId}
 use Rattle.spi_intern.specs.Meaning.{NoneTwice}
 use Rattle.spi_count.specs.declared.sum.Sum.{Sum}
-use Rattle.spi_infer.specs.declared.keys.Keys.{Keys}
+use Rattle.spi_count.specs.declared.keys.Keys.{Keys}
 use Rattle.spi_infer.specs.declared.own.Own.{Own}
 use Rattle.spi_infer.specs.declared.own.Own.TheVariants.{Checked, Cast}
 use Rattle.spi_infer.specs.declared.own.OwnNote.{OwnNote}
 use Rattle.spi_infer.specs.declared.own.Noted.{Noted}
-use Rattle.spi_infer.specs.Own.{with_keys, PaidFits, Fits, FormFits, NotedAs, AreNoted, noted_none, noted_next}
-use Rattle.spi_infer.specs.Forms.{more, on_first, on_rest, effect_of}
+use Rattle.spi_count.specs.Keeping.{with_keys}
+use Rattle.spi_infer.specs.Own.{PaidFits, Fits, FormFits, NotedAs, AreNoted, noted_none, noted_next}
+use Rattle.spi_message.specs.Forms.{more, on_first, on_rest}
+use Rattle.spi_infer.specs.Forms.{effect_of}
 use Rattle.spi_infer.specs.Passes.{Note, scan, run, act, is_stuck, first_stuck}
 use Rattle.spi_infer.specs.Accounts.{BelowIn, MayBelowIn, TopBelowIn, BothBelowIn, Behind, CheckGiven, CastGiven, OwnGiven, NoteGiven, Tops, IsBefore, IsNoted}
-use Rattle.spi_infer.proofs.Opened.{length_more, length_first, length_rest}
+use Rattle.spi_message.proofs.Opened.{length_more, length_first, length_rest}
 use Rattle.spi_infer.proofs.Passes.{notes, run_flat}
 use Rattle.spi_infer.proofs.Below.{below_effect}
 use Rattle.spi_infer.proofs.Located.{scan_is}
@@ -88,11 +91,6 @@ drop_at (y ∷ xs) (suc i) x e =
     let n : suc (i + 1) ≡ suc i + 1 = omega arith in
     drop_at xs i x e ∙ ap (λ m. x ∷ drop m (y ∷ xs)) n
 
-pub within : {A : Type 0} (xs : List A) (i : ℕ) (x : A) → slice_get xs i ≡ Some x → i < length xs
-within [] i x e = absurd (cc)
-within (y ∷ xs) zero x e = omega arith
-within (y ∷ xs) (suc i) x e = let l = within xs i x e in omega (arith, l)
-
 record NoteAt (s : Store) (At : ℕ → Message → Type 0) (ns : List Note) (i : ℕ) (x : Shape) (o : OwnNote) : Type 0 where
   pub note : Note
   pub is : drop i ns ≡ note ∷ drop (i + 1) ns
@@ -124,7 +122,7 @@ check_given s own id t None e f id' t' g =
 check_given s own id t (Some es) e f id' t' g =
     let h : t ≡ Some t' = cc in
     let m = subst (λ t. PaidFits s t (Some es)) h f in
-    within s.types t'.place m.kind m.at
+    slice_get_within s.types t'.place m.kind m.at
 
 cast_given : (s : Store) (own : Own) (t : TyId) (i : ℕ) → own ≡ Cast t → t.place < length s.types → CastGiven s own
 cast_given s own t i e l t' g = let h : t ≡ t' = cc in subst (λ (t : TyId). t.place < length s.types) h l
@@ -139,7 +137,7 @@ form_given s keys k (Checks m n) paid own f b = check_given s own f.0 f.1 paid f
 form_given s keys k (Begins m) paid own f b = tt
 form_given s keys k (Ends m) paid own f b = tt
 form_given s keys k (EndManys m) paid own f b = tt
-form_given s keys k (Casts m t) paid own f b = cast_given s own f.0 0 f.1 (within s.types f.0.place f.2.kind f.2.at)
+form_given s keys k (Casts m t) paid own f b = cast_given s own f.0 0 f.1 (slice_get_within s.types f.0.place f.2.kind f.2.at)
 form_given s keys k (Makes t) paid own f b = tt
 
 fits_given : (s : Store) (keys : Keys) (x : Shape) (paid : Option Effect) (own : Own) → Fits s (with_keys s keys) x paid own → OwnGiven s x own

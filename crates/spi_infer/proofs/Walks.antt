@@ -12,13 +12,14 @@ use Rattle.spi_term.proofs.Numbers.{spelled_arena}
 use Rattle.spi_term.proofs.Places.{of_order}
 use Rattle.spi_rules.specs.Environment.{Env}
 use Rattle.spi_message.specs.Judging.{Numbered, Stands}
-use Rattle.spi_infer.specs.declared.keys.Keys.{Keys}
+use Rattle.spi_count.specs.declared.keys.Keys.{Keys}
 use Rattle.spi_infer.specs.declared.own.OwnNote.{OwnNote}
-use Rattle.spi_infer.specs.Own.{AreNoted, noted_none, with_keys}
+use Rattle.spi_infer.specs.Own.{AreNoted, noted_none}
+use Rattle.spi_count.specs.Keeping.{with_keys, GrowsTo}
 use Rattle.spi_infer.specs.Passes.{note_of, Wait, wait, settled, entered, waiting, left_waiting, scan}
 use Rattle.spi_infer.specs.declared.waiting.Pending.{Pending}
 use Rattle.spi_infer.specs.Waiting.{Queued, waiting_none, Reaches, AreLater}
-use Rattle.spi_infer.specs.Walking.{GrowsTo, Walked, IsPassed}
+use Rattle.spi_infer.specs.Walking.{Walked, IsPassed}
 use Rattle.spi_infer.proofs.Kept.{are_noted_keep, noted_push}
 use Rattle.spi_infer.proofs.Scanning.{drop_at_get, scan_more}
 

@@ -1,73 +1,29 @@
 -- What forms do to effects by counts, and the effects that stand behind a node.
-use Rattle.std.specs.Prelude.{◌≡◌, ℕ, suc, ◌+◌, ◌≤◌, ◌<◌, ◌||◌, length, slice_get, reverse, List, [], ◌∷◌, ◌++◌, Option, Some, None, true, nat_eq, ⊤}
-use Rattle.indexmap.specs.IndexMap.{get}
+use Rattle.std.specs.Prelude.{◌≡◌, ℕ, suc, ◌+◌, ◌<◌, ◌||◌, length, slice_get, reverse, List, [], ◌∷◌, ◌++◌, Option, Some, None, true, ⊤}
 use Rattle.spi_term.specs.declared.term.Effect as Declared
 use Rattle.spi_term.specs.View as View
 use Rattle.spi_term.specs.Counts.{SameEffect}
-use Rattle.spi_term.specs.Term.{Message, name, Atom, ends, checks, many, Effect, Ty, Prefix, Recvs, Serves, Splits, Selects, Decrypts, Checks, Begins, Ends, EndManys, Casts, Makes, Process, binds, fork_binds}
-use Rattle.spi_term.specs.Lists.{In}
+use Rattle.spi_term.specs.Term.{Message, name, ends, checks, many, Effect, Ty, Prefix, Recvs, Serves, Splits, Selects, Decrypts, Checks, Begins, Ends, EndManys, Casts, Makes, Process, binds, fork_binds}
 use Rattle.spi_term.specs.Spelling.{Shape, leaf_at, prefix_at, fork_at, spelled}
 use Rattle.spi_rules.specs.Environment.{Env}
 use Rattle.spi_intern.specs.declared.store.Store.{Store}
-use Rattle.spi_intern.specs.declared.atoms.AtomId.{AtomId}
 use Rattle.spi_intern.specs.declared.messages.MsgId.{MsgId}
 use Rattle.spi_intern.specs.declared.types.TyId.{TyId}
-use Rattle.spi_intern.specs.Table.{TellsAll}
-use Rattle.spi_intern.specs.Atoms.{SaysAtom}
-use Rattle.spi_intern.specs.Meaning.{Means, NoneTwice}
+use Rattle.spi_intern.specs.Meaning.{Means}
 use Rattle.spi_effect.specs.Made.{are_many, mentions, minus, greater}
-use Rattle.spi_count.specs.Sums.{name_bound, key_of, message_of, Stands}
-use Rattle.spi_count.specs.declared.sum.AtomKind.{AtomKind}
-use Rattle.spi_count.specs.declared.sum.AtomKind.TheVariants.{End, Check, Many}
+use Rattle.spi_count.specs.Sums.{Below}
 use Rattle.spi_count.specs.declared.sum.Sum.{Sum}
-use Rattle.spi_infer.specs.declared.keys.Keys.{Keys}
+use Rattle.spi_count.specs.declared.keys.Keys.{Keys}
 use Rattle.spi_infer.specs.declared.own.Own.{Own}
 use Rattle.spi_infer.specs.declared.own.Own.TheVariants.{Label, Checked, Cast, Made}
 use Rattle.spi_infer.specs.declared.own.OwnNote.{OwnNote}
 use Rattle.spi_infer.specs.declared.own.Noted.{Noted}
-use Rattle.spi_infer.specs.Keys.{AreKeys}
-use Rattle.spi_infer.specs.Own.{with_keys, PaidFits, Fits, StandsFor, NotedAs, AreNoted, TopsStand}
-use Rattle.spi_infer.specs.Forms.{cast_effect_of, unless, keep, checked}
+use Rattle.spi_count.specs.Keeping.{with_keys, IsKeyed, HaveKeys, AreKept}
+use Rattle.spi_infer.specs.Own.{PaidFits, Fits, StandsFor, NotedAs, AreNoted, TopsStand}
+use Rattle.spi_message.specs.Forms.{cast_effect_of}
+use Rattle.spi_infer.specs.Forms.{unless, keep, checked}
 use Rattle.spi_infer.specs.Passes.{Note, scan, after_shape, both_shape}
-
--- the keys are those of messages of the store, in which nothing has two numbers
-pub record IsKeyed (s : Store) (keys : Keys) : Type 0 where
-  pub once : NoneTwice s
-  pub keyed : AreKeys s.messages (λ i. get nat_eq keys.keys i)
-
--- the message has a number and a key
-abbrev pub HasKey : Store → Keys → Message → Type 0
-HasKey s keys m = (i : ℕ) × with_keys s keys i m
-
--- counts for an effect, by the numbers and keys
-abbrev pub SumOf : Store → Keys → Sum → Effect → Type 0
-SumOf s keys sum es = Stands (with_keys s keys) sum es
-
--- each name of the effect is below n
-abbrev pub Below : ℕ → Effect → Type 0
-Below n es = (a : Atom) → In a es → name_bound (message_of a) ≤ n
-
--- an atom whose message has a key goes in
-abbrev pub AddsAtom : Keys → AtomId → Sum → Sum → Type 0
-AddsAtom keys a old new =
-    (s : Store) (b : Atom) (es : Effect) → IsKeyed s keys → SaysAtom s.messages a b → HasKey s keys (message_of b) → SumOf s keys old es → SumOf s keys new (es ++ b ∷ [])
-
--- an atom goes out, where it stands there
-abbrev pub TakesAtom : Keys → AtomId → Sum → Sum → Type 0
-TakesAtom keys a old new =
-    (s : Store) (b : Atom) (es : Effect) → IsKeyed s keys → SaysAtom s.messages a b → SumOf s keys old es → SumOf s keys new (minus es (b ∷ []))
-
--- the same for the atoms of an effect
-abbrev pub HaveKeys : Store → Keys → Effect → Type 0
-HaveKeys s keys fs = (a : Atom) → In a fs → HasKey s keys (message_of a)
-
-abbrev pub AddsAll : Keys → List AtomId → Sum → Sum → Type 0
-AddsAll keys ids old new =
-    (s : Store) (fs es : Effect) → IsKeyed s keys → TellsAll (SaysAtom s.messages) ids fs → HaveKeys s keys fs → SumOf s keys old es → SumOf s keys new (es ++ fs)
-
-abbrev pub TakesAll : Keys → List AtomId → Sum → Sum → Type 0
-TakesAll keys ids old new =
-    (s : Store) (fs es : Effect) → IsKeyed s keys → TellsAll (SaysAtom s.messages) ids fs → SumOf s keys old es → SumOf s keys new (minus es fs)
+use Rattle.spi_count.specs.Adding.{SumOf}
 
 -- what a form that binds the name k, or two names from k on, does to an effect
 abbrev pub AfterOne : ℕ → Sum → Option Sum → Type 0
@@ -202,18 +158,8 @@ NoteGiven s x o = o.fine ≡ true → OwnGiven s x o.own
 -- what is kept of the nodes of a process stands for what is noted of them where its free names have these types
 pub record IsNoted (s : Store) (noted : Noted) (k : ℕ) (p : Process) (env : Env) : Type 0 where
   pub names : k ≡ length env
-  pub keyed : AreKeys s.messages (λ i. get nat_eq noted.keys.keys i)
+  pub keyed : AreKept s noted.keys
   pub each : AreNoted s (with_keys s noted.keys) (spelled k p) (scan 0 env [] (spelled k p)) noted.notes.items
-
--- an atom by its kind and its message
-abbrev pub atom_of : AtomKind → Message → Atom
-atom_of End m = ends m
-atom_of Check m = checks m
-atom_of Many m = many m
-
--- the key of a message of the store
-abbrev pub IsKey : Store → Keys → ℕ → Type 0
-IsKey s keys q = (i : ℕ) × (m : Message) × with_keys s keys i m × (q ≡ key_of (name_bound m) i)
 
 -- an effect with these counts, where there is one
 abbrev pub IsReadAs : Option Declared.Effect → Option Effect → Type 0

@@ -1,6 +1,5 @@
 -- What the passes keep of a node by numbers, and what that stands for.
-use Rattle.std.specs.Prelude.{◌≡◌, ℕ, List, [], ◌∷◌, Option, Some, None, true, slice_get, nat_eq, ⊤}
-use Rattle.indexmap.specs.IndexMap.{get}
+use Rattle.std.specs.Prelude.{◌≡◌, ℕ, List, [], ◌∷◌, Option, Some, None, true, slice_get, ⊤}
 use Rattle.spi_term.specs.Term.{Message, name, Atom, Effect, nonce, Prefix, Recvs, Serves, Splits, Selects, Decrypts, Checks, Begins, Ends, EndManys, Casts, Makes}
 use Rattle.spi_term.specs.Lists.{In}
 use Rattle.spi_term.specs.Spelling.{Shape, leaf_at, prefix_at, fork_at}
@@ -13,10 +12,8 @@ use Rattle.spi_count.specs.declared.sum.Sum.{Sum}
 use Rattle.spi_infer.specs.declared.own.Own.{Own}
 use Rattle.spi_infer.specs.declared.own.Own.TheVariants.{Label, Checked, Cast, Made}
 use Rattle.spi_infer.specs.declared.own.OwnNote.{OwnNote}
-use Rattle.spi_infer.specs.declared.keys.Keys.{Keys}
-use Rattle.spi_infer.specs.Keys.{Keyed}
 use Rattle.spi_infer.specs.Passes.{Note}
-use Rattle.spi_infer.specs.Forms.{cast_effect_of}
+use Rattle.spi_message.specs.Forms.{cast_effect_of}
 
 -- the type of a nonce, where a check takes its effect off
 abbrev pub PaidFits : Store → Option TyId → Option Effect → Type 0
@@ -50,10 +47,6 @@ StandsFor At None None = ⊤
 StandsFor At None (Some es) = ⊥
 StandsFor At (Some s) None = ⊥
 StandsFor At (Some s) (Some es) = Stands At s es
-
--- the messages of a store that have their key among these
-abbrev pub with_keys : Store → Keys → ℕ → Message → Type 0
-with_keys s keys i m = Keyed s.messages (λ i. get nat_eq keys.keys i) i m
 
 -- What is kept of a node: whether the form's own premises hold, and where they do what it adds and takes off.
 abbrev pub NotedAs : Store → (ℕ → Message → Type 0) → Shape → Note → OwnNote → Type 0

@@ -2,7 +2,7 @@
 use Rattle.std.specs.Prelude.{◌≡◌, ℕ, ◌<◌, ◌≤◌, ◌++◌, ⊤}
 use Rattle.spi_term.specs.Spelling.{Shape, leaf_at, prefix_at, fork_at}
 use Rattle.spi_rules.specs.Environment.{Env}
-use Rattle.spi_infer.specs.Forms.{more, on_first, on_rest}
+use Rattle.spi_message.specs.Forms.{more, on_first, on_rest}
 
 -- the process in a form that has the node `target` begins at place i, and the types in scope there are e'
 abbrev pub Descends : Shape → ℕ → Env → ℕ → Env → Type 0

@@ -1,5 +1,5 @@
 // The backward pass by counts: a stack of the effects of processes, where a process has one.
-ghost use Rattle.std.specs.Prelude.{◌≡◌, ◌≤◌, ◌<◌, ℕ, not, true, length, drop, List, Option, Some, [], ◌∷◌, IfOk, OnOk};
+ghost use Rattle.std.specs.Prelude.{◌≡◌, ◌≤◌, ◌<◌, not, true, length, drop, List, Option, Some, [], ◌∷◌, IfOk, OnOk};
 ghost use Rattle.spi_term.specs.Term.{Effect, Process as ProcessTerm, process_size};
 ghost use Rattle.spi_term.specs.View.{shape_of};
 ghost use Rattle.spi_term.specs.Arena.{scope_of};
@@ -8,16 +8,16 @@ ghost use Rattle.spi_rules.specs.Environment.{Env};
 ghost use Rattle.spi_rules.specs.Blocking.{NodeOf};
 ghost use Rattle.spi_intern.specs.declared.store.Store.{Store};
 ghost use Rattle.spi_intern.specs.Meaning.{NoneTwice};
-ghost use Rattle.spi_infer.specs.declared.keys.Keys.{Keys};
-ghost use Rattle.spi_infer.specs.Own.{with_keys, StandsFor};
+ghost use Rattle.spi_count.specs.declared.keys.Keys.{Keys};
+ghost use Rattle.spi_count.specs.Keeping.{with_keys, IsKeyed};
+ghost use Rattle.spi_infer.specs.Own.{StandsFor};
 ghost use Rattle.spi_infer.specs.Forms.{by_effects, keep, effect_of};
 ghost use Rattle.spi_infer.specs.Passes.{Note, scan, act, act_by, act_both, stuck_top_by, stuck_both, stuck_two_by, is_stuck, first_stuck, after_shape, both_shape};
-ghost use Rattle.spi_infer.specs.Accounts.{IsKeyed, Tops, BelowIn, MayBelowIn, BothBelowIn, IsBefore, NoteGiven, IsNoted};
+ghost use Rattle.spi_infer.specs.Accounts.{Tops, MayBelowIn, BothBelowIn, IsBefore, NoteGiven, IsNoted};
 
-use crate::keys::Keys;
 use crate::own::{Noted, OwnNote};
 use crate::sums::{after_form, both_form};
-use spi_count::{NoMemory, Sum};
+use spi_count::{Keys, NoMemory, Sum};
 use spi_intern::Store;
 use spi_term::{Form, Node, Process};
 use std::alloc::Global;

@@ -1,53 +1,24 @@
 // What each form asks for itself, asked of a judge.
-ghost use Rattle.std.specs.Prelude.{◌≡◌, ◌+◌, ◌^◌, ◌<◌, ◌≤◌, ◌&&◌, ◌||◌, IfOk, IfSome, IfNone, length};
+ghost use Rattle.std.specs.Prelude.{◌≡◌, ◌+◌, ◌^◌, ◌<◌, ◌≤◌, ◌&&◌, ◌||◌, IfOk, length};
 ghost use Rattle.spi_term.specs.Term as Term;
-ghost use Rattle.spi_term.specs.Term.{Cases, Splits, Selects, Decrypts, un, pair_ty, sum_ty, key};
+ghost use Rattle.spi_term.specs.Term.{Cases, Splits, Selects, Decrypts, un, key};
 ghost use Rattle.spi_term.specs.Spelling.{HasSmallParts, ty_nodes};
 ghost use Rattle.spi_term.specs.View.{message, ty as type_of, shape_of};
-ghost use Rattle.spi_intern.specs.Given.{IsGiven};
-ghost use Rattle.spi_intern.specs.Meaning.{Means};
 ghost use Rattle.spi_message.specs.Asking.{IsEnvironment};
 ghost use Rattle.spi_message.specs.Judging.{IsKept};
-ghost use Rattle.spi_message.specs.Tests.{is_un, is_fresh, nonce_in, nonce_of, typed, labelled, good};
-ghost use Rattle.spi_infer.specs.Forms.{prefix_ok, fork_ok, cast_ok, is_nonce};
+ghost use Rattle.spi_message.specs.Tests.{is_un, is_fresh, nonce_of, typed, good};
+ghost use Rattle.spi_infer.specs.Forms.{prefix_ok, fork_ok, cast_ok};
+ghost use Rattle.spi_message.specs.Forms.{is_nonce};
 ghost use Rattle.spi_infer.specs.Passes.{note_of};
-ghost use Rattle.spi_infer.specs.Walking.{IsTest, IsNonceAt, IsNoNonce};
+ghost use Rattle.spi_message.specs.Tested.{IsTest};
 
-use spi_intern::{Store, TyId, TyPart};
 use spi_message::slices::{is_fresh_type, is_un_type};
-use spi_message::{Judge, NoMemory};
+use spi_message::{
+    Judge, NoMemory, is_good, is_labelled, is_typed, is_untrusted, key_type, nonce_at, pair_type,
+    sum_type,
+};
 use spi_term::{Form, Msg, Node, Ty};
 use std::alloc::Global;
-
-// An equal type on the heap.
-fn boxed(alloc: Global, t: &Ty) -> Result<Box<Ty>, NoMemory>
-    ensures { IfOk result (λ b. type_of b.value ≡ type_of t.now) }
-{
-    let copy = t.copy(alloc)?;
-    Ok(Box::new(alloc, copy)?)
-}
-
-fn pair_type(alloc: Global, first: &Ty, second: &Ty) -> Result<Ty, NoMemory>
-    ensures { IfOk result (λ r. type_of r ≡ pair_ty (type_of first.now) (type_of second.now)) }
-{
-    let a = boxed(alloc, first)?;
-    let b = boxed(alloc, second)?;
-    Ok(Ty::Pair(a, b))
-}
-
-fn sum_type(alloc: Global, left: &Ty, right: &Ty) -> Result<Ty, NoMemory>
-    ensures { IfOk result (λ r. type_of r ≡ sum_ty (type_of left.now) (type_of right.now)) }
-{
-    let a = boxed(alloc, left)?;
-    let b = boxed(alloc, right)?;
-    Ok(Ty::Sum(a, b))
-}
-
-fn key_of_type(alloc: Global, t: &Ty) -> Result<Ty, NoMemory>
-    ensures { IfOk result (λ r. type_of r ≡ key (type_of t.now)) }
-{
-    Ok(Ty::Key(boxed(alloc, t)?))
-}
 
 fn are_un(first: &Ty, second: &Ty) -> bool
     ensures { result ≡ (is_un (type_of first.now) && is_un (type_of second.now)) }
@@ -55,93 +26,8 @@ fn are_un(first: &Ty, second: &Ty) -> bool
     is_un_type(first) && is_un_type(second)
 }
 
-/// Whether the message has the type.
-#[tactic(auto, using(crate::proofs::Asked::kept_more))]
-pub fn is_typed(alloc: Global, judge: &mut Judge, m: &Msg, t: &Ty) -> Result<bool, NoMemory>
-    ensures answer { IfOk result (IsTest judge.old (λ e. typed (message m.now) e (type_of t.now))) }
-    ensures kept { IsKept judge.old judge.new }
-{
-    let id = judge.message(m)?;
-    let wanted = judge.ty(alloc, t)?;
-    judge.has_type(alloc, id, wanted)
-}
-
-/// Whether the message has type `Un`.
-pub fn is_untrusted(alloc: Global, judge: &mut Judge, m: &Msg) -> Result<bool, NoMemory>
-    ensures answer { IfOk result (IsTest judge.old (λ e. typed (message m.now) e un)) }
-    ensures kept { IsKept judge.old judge.new }
-{
-    is_typed(alloc, judge, m, &Ty::Un)
-}
-
-/// Whether the message is a label.
-#[tactic(auto, using(crate::proofs::Asked::kept_more))]
-pub fn is_labelled(alloc: Global, judge: &mut Judge, m: &Msg) -> Result<bool, NoMemory>
-    ensures answer { IfOk result (IsTest judge.old (labelled (message m.now))) }
-    ensures kept { IsKept judge.old judge.new }
-{
-    let id = judge.message(m)?;
-    judge.is_label(alloc, id)
-}
-
-/// Whether the type is good.
-#[tactic(auto, using(crate::proofs::Asked::kept_more))]
-pub fn is_good(alloc: Global, judge: &mut Judge, t: &Ty) -> Result<bool, NoMemory>
-    requires { length judge.old.types + ty_nodes (type_of t.now) < 2 ^ 32 }
-    ensures answer { IfOk result (IsTest judge.old (λ e. good e (type_of t.now))) }
-    ensures kept { IsKept judge.old judge.new }
-{
-    let id = judge.ty(alloc, t)?;
-    judge.good_type(alloc, id)
-}
-
-// A type of the store is a Nonce type.
-fn is_nonce_type(store: &Store, t: TyId) -> bool
-    requires { IsGiven store.now t.place }
-    ensures { (u : Term.Ty) → Means store.now t.place u → result ≡ is_nonce (nonce_in (Some u)) }
-{
-    match store.ty_part(t) {
-        TyPart::Un => false,
-        TyPart::Unit => false,
-        TyPart::Pair(_, _) => false,
-        TyPart::Sum(_, _) => false,
-        TyPart::Key(_) => false,
-        TyPart::Nonce(_) => true,
-    }
-}
-
-// The type of this name, where it is a Nonce type.
-fn nonce_at_name(judge: &Judge, x: u32) -> Option<TyId>
-    requires { IsEnvironment judge.now.store judge.now.types }
-    ensures some { IfSome result (IsNonceAt judge.now (Term.name x)) }
-    ensures none { IfNone result (IsNoNonce judge.now (Term.name x)) }
-{
-    if x >= judge.len() {
-        return None;
-    }
-    let t = judge.at(x);
-    let store = judge.store();
-    if is_nonce_type(store, t) {
-        Some(t)
-    } else {
-        None
-    }
-}
-
-/// The type of the message, where it is a name of a Nonce type.
-pub fn nonce_at(judge: &Judge, m: &Msg) -> Option<TyId>
-    requires { IsEnvironment judge.now.store judge.now.types }
-    ensures some { IfSome result (IsNonceAt judge.now (message m.now)) }
-    ensures none { IfNone result (IsNoNonce judge.now (message m.now)) }
-{
-    match m {
-        Msg::Name(x) => nonce_at_name(judge, *x),
-        _ => None,
-    }
-}
-
 // Both have type Un.
-#[tactic(auto, using(crate::proofs::Asked::kept_more))]
+#[tactic(auto, using(spi_message::proofs::Tested::kept_more))]
 fn are_untrusted(alloc: Global, judge: &mut Judge, m: &Msg, n: &Msg) -> Result<bool, NoMemory>
     ensures answer { IfOk result (IsTest judge.old (λ e. typed (message m.now) e un && typed (message n.now) e un)) }
     ensures kept { IsKept judge.old judge.new }
@@ -155,7 +41,7 @@ fn are_untrusted(alloc: Global, judge: &mut Judge, m: &Msg, n: &Msg) -> Result<b
 }
 
 // The message has type Un, and the name that is bound too.
-#[tactic(auto, using(crate::proofs::Asked::kept_more))]
+#[tactic(auto, using(spi_message::proofs::Tested::kept_more))]
 fn is_untrusted_over(alloc: Global, judge: &mut Judge, m: &Msg, t: &Ty) -> Result<bool, NoMemory>
     ensures answer { IfOk result (IsTest judge.old (λ e. typed (message m.now) e un && is_un (type_of t.now))) }
     ensures kept { IsKept judge.old judge.new }
@@ -165,7 +51,7 @@ fn is_untrusted_over(alloc: Global, judge: &mut Judge, m: &Msg, t: &Ty) -> Resul
 }
 
 // The message has type Un, and both names that are bound too.
-#[tactic(auto, using(crate::proofs::Asked::kept_more))]
+#[tactic(auto, using(spi_message::proofs::Tested::kept_more))]
 fn is_untrusted_over_two(
     alloc: Global,
     judge: &mut Judge,
@@ -181,7 +67,7 @@ fn is_untrusted_over_two(
 }
 
 // The message has a type, and the other type is good.
-#[tactic(auto, using(crate::proofs::Asked::kept_more))]
+#[tactic(auto, using(spi_message::proofs::Tested::kept_more))]
 fn is_typed_over_good(
     alloc: Global,
     judge: &mut Judge,
@@ -202,7 +88,7 @@ fn is_typed_over_good(
 }
 
 // A split by the type of the pair.
-#[tactic(auto, using(crate::proofs::Asked::kept_more))]
+#[tactic(auto, using(spi_message::proofs::Tested::kept_more))]
 fn is_split_ok(
     alloc: Global,
     judge: &mut Judge,
@@ -224,7 +110,7 @@ fn is_split_ok(
 }
 
 // What a select asks where the pair has its type.
-#[tactic(auto, using(crate::proofs::Asked::kept_more))]
+#[tactic(auto, using(spi_message::proofs::Tested::kept_more))]
 fn is_select_typed(
     alloc: Global,
     judge: &mut Judge,
@@ -246,7 +132,7 @@ fn is_select_typed(
 }
 
 // What a select asks of untrusted messages.
-#[tactic(auto, using(crate::proofs::Asked::kept_more))]
+#[tactic(auto, using(spi_message::proofs::Tested::kept_more))]
 fn is_select_untrusted(
     alloc: Global,
     judge: &mut Judge,
@@ -266,7 +152,7 @@ fn is_select_untrusted(
     }
 }
 
-#[tactic(auto, using(crate::proofs::Asked::kept_more))]
+#[tactic(auto, using(spi_message::proofs::Tested::kept_more))]
 fn is_select_ok(
     alloc: Global,
     judge: &mut Judge,
@@ -289,13 +175,13 @@ fn is_select_ok(
 }
 
 // The key has its type, or it and the name that is bound have type Un.
-#[tactic(auto, using(crate::proofs::Asked::kept_more))]
+#[tactic(auto, using(spi_message::proofs::Tested::kept_more))]
 fn is_key_ok(alloc: Global, judge: &mut Judge, key: &Msg, t: &Ty) -> Result<bool, NoMemory>
     requires { length judge.old.types + ty_nodes (type_of t.now) < 2 ^ 32 }
     ensures answer { IfOk result (IsTest judge.old (λ e. (typed (message key.now) e (Term.key (type_of t.now)) && good e (type_of t.now)) || (typed (message key.now) e un && is_un (type_of t.now)))) }
     ensures kept { IsKept judge.old judge.new }
 {
-    let wanted = key_of_type(alloc, t)?;
+    let wanted = key_type(alloc, t)?;
     let typed = is_typed_over_good(alloc, judge, key, &wanted, t)?;
     if typed {
         Ok(true)
@@ -304,7 +190,7 @@ fn is_key_ok(alloc: Global, judge: &mut Judge, key: &Msg, t: &Ty) -> Result<bool
     }
 }
 
-#[tactic(auto, using(crate::proofs::Asked::kept_more))]
+#[tactic(auto, using(spi_message::proofs::Tested::kept_more))]
 fn is_decrypt_ok(
     alloc: Global,
     judge: &mut Judge,
@@ -324,7 +210,7 @@ fn is_decrypt_ok(
     }
 }
 
-#[tactic(auto, using(crate::proofs::Asked::kept_more))]
+#[tactic(auto, using(spi_message::proofs::Tested::kept_more))]
 fn are_good(alloc: Global, judge: &mut Judge, left: &Ty, right: &Ty) -> Result<bool, NoMemory>
     requires { length judge.old.types + (ty_nodes (type_of left.now) + ty_nodes (type_of right.now)) < 2 ^ 32 }
     ensures answer { IfOk result (IsTest judge.old (λ e. good e (type_of left.now) && good e (type_of right.now))) }
@@ -339,7 +225,7 @@ fn are_good(alloc: Global, judge: &mut Judge, left: &Ty, right: &Ty) -> Result<b
 }
 
 // What a case asks where the sum has its type.
-#[tactic(auto, using(crate::proofs::Asked::kept_more))]
+#[tactic(auto, using(spi_message::proofs::Tested::kept_more))]
 fn is_case_typed(
     alloc: Global,
     judge: &mut Judge,
@@ -360,7 +246,7 @@ fn is_case_typed(
     }
 }
 
-#[tactic(auto, using(crate::proofs::Asked::kept_more))]
+#[tactic(auto, using(spi_message::proofs::Tested::kept_more))]
 fn is_case_ok(
     alloc: Global,
     judge: &mut Judge,
@@ -392,7 +278,7 @@ fn is_nonce_or_untrusted(alloc: Global, judge: &mut Judge, m: &Msg) -> Result<bo
     }
 }
 
-#[tactic(auto, using(crate::proofs::Asked::kept_more))]
+#[tactic(auto, using(spi_message::proofs::Tested::kept_more))]
 fn is_check_ok(alloc: Global, judge: &mut Judge, m: &Msg, nonce: &Msg) -> Result<bool, NoMemory>
     requires { IsEnvironment judge.old.store judge.old.types }
     ensures answer { IfOk result (IsTest judge.old (λ e. typed (message m.now) e un && (is_nonce (nonce_of e (message nonce.now)) || typed (message nonce.now) e un))) }
@@ -418,7 +304,7 @@ fn is_cast_type_ok(alloc: Global, judge: &mut Judge, t: &Ty) -> Result<bool, NoM
     }
 }
 
-#[tactic(auto, using(crate::proofs::Asked::kept_more))]
+#[tactic(auto, using(spi_message::proofs::Tested::kept_more))]
 fn is_cast_ok(alloc: Global, judge: &mut Judge, m: &Msg, t: &Ty) -> Result<bool, NoMemory>
     requires { length judge.old.types + ty_nodes (type_of t.now) < 2 ^ 32 }
     ensures answer { IfOk result (IsTest judge.old (λ e. typed (message m.now) e un && cast_ok e (type_of t.now))) }

@@ -1,16 +1,17 @@
 // The environment of the forward pass: a judge's names grow at binders, and are cut back to each node's scope.
-ghost use Rattle.std.specs.Prelude.{◌≡◌, ◌+◌, ◌-◌, ◌^◌, ◌<◌, ◌≤◌, List, [], ◌∷◌, ◌++◌, take, IfOk, OnOk, length};
+ghost use Rattle.std.specs.Prelude.{◌≡◌, ◌+◌, ◌-◌, ◌<◌, ◌≤◌, List, [], ◌∷◌, ◌++◌, OnOk, length};
 ghost use Rattle.spi_term.specs.Term.{name};
 ghost use Rattle.spi_term.specs.Substitution.{ty_put};
 ghost use Rattle.spi_term.specs.View.{message, ty as type_of, shape_of};
 ghost use Rattle.spi_intern.specs.Meaning.{Keeps};
-ghost use Rattle.spi_message.specs.Judging.{Numbered, Stands};
+ghost use Rattle.spi_message.specs.Judging.{Numbered};
 ghost use Rattle.spi_infer.specs.Passes.{Wait, entered, settled, left_waiting};
 ghost use Rattle.spi_infer.specs.Waiting.{Queued, CanReach};
-ghost use Rattle.spi_infer.specs.Walking.{Turns, IsAbove};
+ghost use Rattle.spi_message.specs.Tested.{Turns};
+ghost use Rattle.spi_infer.specs.Walking.{IsAbove};
 
 use crate::waiting::{Pending, due};
-use spi_message::{Judge, NoMemory};
+use spi_message::{Judge, NoMemory, cut_to};
 use spi_term::{Form, Msg, Node, Ty};
 use std::alloc::Global;
 
@@ -67,18 +68,6 @@ pub fn enter(alloc: Global, judge: &mut Judge, node: &Node) -> Result<(), NoMemo
         Form::Cast { ty, .. } => bind_type(alloc, judge, ty),
         Form::Fresh { ty, .. } => bind_type(alloc, judge, ty),
         _ => Ok(()),
-    }
-}
-
-/// The names from this number on are taken away.
-pub fn cut_to(judge: &mut Judge, count: u32)
-    requires { judge.old.free ≤ count }
-    ensures types { judge.new.types ≡ take count judge.old.types }
-    ensures store { judge.new.store ≡ judge.old.store }
-    ensures free { judge.new.free ≡ judge.old.free }
-{
-    while judge.len() > count {
-        judge.unbind();
     }
 }
 

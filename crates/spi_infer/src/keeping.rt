@@ -1,66 +1,26 @@
 // What the forward pass keeps of a form: what it adds to an effect or takes off, with the keys of the messages in it.
-ghost use Rattle.std.specs.Prelude.{◌≡◌, ◌≤◌, IfOk, OnOk, None, length};
+ghost use Rattle.std.specs.Prelude.{◌≤◌, IfOk, OnOk, None, length};
 ghost use Rattle.spi_term.specs.Term as Term;
 ghost use Rattle.spi_term.specs.Spelling.{HasSmallParts};
-ghost use Rattle.spi_term.specs.View.{message, atom, effect, ty as type_of, shape_of};
+ghost use Rattle.spi_term.specs.View.{message, ty as type_of, shape_of};
 ghost use Rattle.spi_rules.specs.Environment.{Env};
 ghost use Rattle.spi_message.specs.Asking.{IsEnvironment};
 ghost use Rattle.spi_message.specs.Judging.{IsKept, Stands};
 ghost use Rattle.spi_message.specs.Tests.{nonce_of};
-ghost use Rattle.spi_count.specs.Sums.{message_of};
-ghost use Rattle.spi_infer.specs.Forms.{cast_effect_of};
-ghost use Rattle.spi_infer.specs.Own.{FormFits, with_keys};
-ghost use Rattle.spi_infer.specs.Walking.{AreKept, GrowsTo, HaveKeys, FitsIn, NotesIn};
+ghost use Rattle.spi_message.specs.Forms.{cast_effect_of};
+ghost use Rattle.spi_infer.specs.Own.{FormFits};
+ghost use Rattle.spi_count.specs.Keeping.{with_keys, AreKept, GrowsTo, HaveKeys};
+ghost use Rattle.spi_infer.specs.Walking.{FitsIn, NotesIn};
 
-use crate::asking::{is_form_ok, nonce_at};
-use crate::keys::Keys;
+use crate::asking::is_form_ok;
 use crate::own::{Own, OwnNote};
-use spi_intern::MsgId;
-use spi_message::{Judge, NoMemory};
-use spi_term::{Atom, Effect, Form, Msg, Node, Ty};
+use spi_count::{Keys, keep_atoms, keep_message};
+use spi_message::{Judge, NoMemory, nonce_at};
+use spi_term::{Form, Msg, Node, Ty};
 use std::alloc::Global;
 
-// The number of a message, whose key is kept.
-fn keep_message(judge: &mut Judge, keys: &mut Keys, m: &Msg) -> Result<MsgId, NoMemory>
-    requires { AreKept judge.old.store keys.old }
-    ensures at { IfOk result (λ id. with_keys judge.new.store keys.new id.place (message m.now)) }
-    ensures grows { OnOk result (GrowsTo judge.old.store keys.old judge.new.store keys.new) }
-    ensures kept { IsKept judge.old judge.new }
-{
-    let id = judge.message(m)?;
-    keys.keep(id, m)?;
-    Ok(id)
-}
-
-fn keep_atom(judge: &mut Judge, keys: &mut Keys, a: &Atom) -> Result<MsgId, NoMemory>
-    requires { AreKept judge.old.store keys.old }
-    ensures at { IfOk result (λ id. with_keys judge.new.store keys.new id.place (message_of (atom a.now))) }
-    ensures grows { OnOk result (GrowsTo judge.old.store keys.old judge.new.store keys.new) }
-    ensures kept { IsKept judge.old judge.new }
-{
-    match a {
-        Atom::End(m) => keep_message(judge, keys, m),
-        Atom::Check(m) => keep_message(judge, keys, m),
-        Atom::Many(m) => keep_message(judge, keys, m),
-    }
-}
-
-// The keys of an effect's messages are kept.
-#[tactic(auto, using(crate::proofs::Asked::kept_more, crate::proofs::Asked::kept_same))]
-fn keep_atoms(judge: &mut Judge, keys: &mut Keys, e: &Effect) -> Result<(), NoMemory>
-    requires { AreKept judge.old.store keys.old }
-    ensures at { OnOk result (HaveKeys judge.new.store keys.new (effect e.now)) }
-    ensures grows { OnOk result (GrowsTo judge.old.store keys.old judge.new.store keys.new) }
-    ensures kept { IsKept judge.old judge.new }
-{
-    for a in &e.atoms {
-        keep_atom(judge, keys, a)?;
-    }
-    Ok(())
-}
-
 // The keys of the messages in the effect of a cast are kept.
-#[tactic(auto, using(crate::proofs::Asked::kept_same, crate::proofs::Kept::grows_same))]
+#[tactic(auto, using(spi_message::proofs::Tested::kept_same, spi_count::proofs::Kept::grows_same))]
 fn keep_cast(judge: &mut Judge, keys: &mut Keys, t: &Ty) -> Result<(), NoMemory>
     requires { AreKept judge.old.store keys.old }
     ensures at { OnOk result (HaveKeys judge.new.store keys.new (cast_effect_of (type_of t.now))) }
@@ -77,7 +37,7 @@ fn keep_cast(judge: &mut Judge, keys: &mut Keys, t: &Ty) -> Result<(), NoMemory>
     }
 }
 
-#[tactic(auto, using(crate::proofs::Asked::kept_more))]
+#[tactic(auto, using(spi_message::proofs::Tested::kept_more))]
 fn cast_own(alloc: Global, judge: &mut Judge, keys: &mut Keys, t: &Ty) -> Result<Own, NoMemory>
     requires { AreKept judge.old.store keys.old }
     ensures fits { IfOk result (FormFits judge.new.store (with_keys judge.new.store keys.new) 0 (Term.Casts Term.unit (type_of t.now)) None) }
@@ -137,7 +97,7 @@ fn check_own(judge: &mut Judge, keys: &mut Keys, m: &Msg, nonce: &Msg) -> Result
 }
 
 // What is kept of a form.
-#[tactic(auto, using(crate::proofs::Asked::kept_same, crate::proofs::Kept::grows_same))]
+#[tactic(auto, using(spi_message::proofs::Tested::kept_same, spi_count::proofs::Kept::grows_same))]
 fn own_of(alloc: Global, judge: &mut Judge, keys: &mut Keys, node: &Node) -> Result<Own, NoMemory>
     requires keys { AreKept judge.old.store keys.old }
     requires names { IsEnvironment judge.old.store judge.old.types }
@@ -157,7 +117,7 @@ fn own_of(alloc: Global, judge: &mut Judge, keys: &mut Keys, node: &Node) -> Res
 }
 
 /// What is kept of a node.
-#[tactic(auto, using(crate::proofs::Asked::kept_more))]
+#[tactic(auto, using(spi_message::proofs::Tested::kept_more))]
 pub fn own_note(
     alloc: Global,
     judge: &mut Judge,

@@ -4,7 +4,7 @@ ghost use Rattle.std.specs.Prelude.{◌≡◌};
 ghost use Rattle.spi_intern.specs.declared.messages.MsgId as Ids;
 ghost use Rattle.spi_intern.specs.declared.types.TyId as Types;
 
-use crate::keys::Keys;
+use spi_count::Keys;
 use spi_intern::{MsgId, TyId};
 
 /// What a form adds to the effect of its process or takes off, by the numbers of a store.

@@ -35,7 +35,7 @@ fn push_pending(
 }
 
 /// The type of a case's second name waits for its process.
-#[tactic(auto, using(crate::proofs::Asked::kept_same))]
+#[tactic(auto, using(spi_message::proofs::Tested::kept_same))]
 pub fn put_off(
     alloc: Global,
     judge: &mut Judge,

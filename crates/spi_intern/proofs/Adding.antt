@@ -35,7 +35,7 @@ adds_as p q f = record { all = λ x n. f.all x (q x n); only = λ x h. ⊎_elim 
 has_ty_kept : {s r : Store} {u : Ty} → Keeps s r → HasTy s u → HasTy r u
 has_ty_kept k h = record { place = h.place; means = means_keeps k h.means }
 
-types_none : {s r : Store} → r.types ≡ s.types → AddsTypes s r (λ u. ⊥)
+pub types_none : {s r : Store} → r.types ≡ s.types → AddsTypes s r (λ u. ⊥)
 types_none e = record { all = λ u h. absurd h; only = λ i h. inl (subst (λ zs. i < length zs) e h) }
 
 types_more : {s q r : Store} {T U : Ty → Type 0} → AddsTypes s q T → Keeps q r → AddsTypes q r U → AddsTypes s r (λ u. T u ⊎ U u)

@@ -4,7 +4,7 @@ use Rattle.spi_term.specs.Term.{Message, Ty}
 use Rattle.spi_term.specs.Lists.{In, in_first, in_later}
 use Rattle.spi_intern.specs.declared.store.Store.{Store}
 use Rattle.spi_intern.specs.Meaning.{Means, NoneTwice}
-use Rattle.spi_intern.specs.Growing.{Has, HasTy, Given, MessageIn, TypeIn, Gave, gave_none, gave_next, MessageAmong, TypeAmong, CountsParts}
+use Rattle.spi_intern.specs.Growing.{Has, HasTy, Given, MessageIn, TypeIn, Gave, gave_none, gave_next, GaveAtLeast, gave_nothing, gave_also, gave_up, MessageAmong, TypeAmong, CountsParts, CountsPartsAtLeast}
 use Rattle.spi_intern.proofs.Lists.{below_get, get_below}
 use Rattle.spi_intern.proofs.Grown.{has_kept}
 use Rattle.spi_intern.proofs.Meanings.{means_keeps}
@@ -45,6 +45,32 @@ counted gs s w d = record {
   types = record {
     each = ty_only w;
     all = λ u m. let h = ty_all w u m.given m.stands m.part in (h.place, get_below s.types h.place h.means.kind h.means.at, h.means);
+    apart = types_tell s d;
+  };
+}
+
+-- ---- where calls answered NoMemory
+
+has_still : {gs : List Given} {s : Store} → GaveAtLeast gs s → (x : Message) (g : Given) → In g gs → MessageIn g x → Has s.messages x
+has_still gave_nothing x g i p = elim i [ ]
+has_still (gave_also w k a) x g in_first p = a.messages.all x p
+has_still (gave_also w k a) x g (in_later i) p = has_kept k.messages (has_still w x g i p)
+has_still (gave_up w k) x g i p = has_kept k.messages (has_still w x g i p)
+
+ty_still : {gs : List Given} {s : Store} → GaveAtLeast gs s → (u : Ty) (g : Given) → In g gs → TypeIn g u → HasTy s u
+ty_still gave_nothing u g i p = elim i [ ]
+ty_still (gave_also w k a) u g in_first p = a.types.all u p
+ty_still (gave_also w k a) u g (in_later i) p = let h = ty_still w u g i p in record { place = h.place; means = means_keeps k h.means }
+ty_still (gave_up w k) u g i p = let h = ty_still w u g i p in record { place = h.place; means = means_keeps k h.means }
+
+pub counted_at_least : (gs : List Given) (s : Store) → GaveAtLeast gs s → NoneTwice s → CountsPartsAtLeast gs s
+counted_at_least gs s w d = record {
+  messages = record {
+    all = λ x m. let h = has_still w x m.given m.stands m.part in (h.place, get_below s.messages h.place x h.at, h.at);
+    apart = λ i j x y a b. messages_tell d.messages i j x y a b;
+  };
+  types = record {
+    all = λ u m. let h = ty_still w u m.given m.stands m.part in (h.place, get_below s.types h.place h.means.kind h.means.at, h.means);
     apart = types_tell s d;
   };
 }

@@ -19,6 +19,13 @@ pub struct MsgId {
 }
 
 impl MsgId {
+    /// The number with this value.
+    pub fn at(place: usize) -> MsgId
+        ensures { result.place ≡ place }
+    {
+        MsgId { place }
+    }
+
     /// The number itself: how many messages have lower ones in the store that gave it.
     pub fn place(self) -> usize
         ensures { result ≡ self.place }

@@ -1,7 +1,8 @@
 // Messages and types with numbers.
 
-ghost use Rattle.std.specs.Prelude.{◌≡◌, ◌↔◌, ◌+◌, ◌<◌, ℕ, List, [], Some, IfOk, OnOk, slice_get, length};
+ghost use Rattle.std.specs.Prelude.{◌≡◌, ◌↔◌, ◌+◌, ◌<◌, ◌≤◌, ℕ, List, [], Some, IfOk, OnOk, slice_get, length};
 ghost use Rattle.spi_term.specs.Term as Term;
+ghost use Rattle.spi_term.specs.Term.{message_size};
 ghost use Rattle.spi_term.specs.SameTy.{SameTy};
 ghost use Rattle.spi_term.specs.View.{message, effect, ty};
 ghost use Rattle.spi_intern.specs.declared.atoms.AtomId.{AtomId};
@@ -9,10 +10,10 @@ ghost use Rattle.spi_intern.specs.Messages.{Says};
 ghost use Rattle.spi_intern.specs.Atoms.{SaysAtom, IdsMean};
 ghost use Rattle.spi_intern.specs.Typed.{SaysKind, said_kind};
 ghost use Rattle.spi_intern.specs.Kinds.{same_kind};
-ghost use Rattle.spi_intern.specs.Table.{TellsAll, with_value};
+ghost use Rattle.spi_intern.specs.Table.{AllDiffer, TellsAll, with_value};
 ghost use Rattle.spi_intern.specs.Meaning.{Means, Keeps, NoneTwice};
 ghost use Rattle.spi_intern.specs.Parts.{InEffect};
-ghost use Rattle.spi_intern.specs.Growing.{AddsMessages, Adds, a_message, a_type};
+ghost use Rattle.spi_intern.specs.Growing.{AddsMessages, Adds, a_message, a_type, over_messages, over_types};
 ghost use Rattle.spi_intern.specs.Lent.{SaysTy};
 ghost use Rattle.spi_intern.specs.Given.{IsGiven, IsOverGiven, AreGiven};
 
@@ -67,12 +68,13 @@ impl Store {
     }
 
     /// The number of a message: that of an equal one, and no number of another one. It and its parts have numbers
-    /// afterwards, and nothing else is new. `NoMemory`: some of its parts may have numbers.
+    /// afterwards, and nothing else is new: at most as many as it has nodes. `NoMemory`: some of its parts may have numbers.
     pub fn message(&mut self, m: &Msg) -> Result<MsgId, NoMemory>
         ensures at { IfOk result (λ id. slice_get self.new.messages id.place ≡ Some (message m.now)) }
         ensures within { IfOk result (λ id. id.place < length self.new.messages) }
         ensures equal { IfOk result (λ id. (j : ℕ) (n : Term.Message) → slice_get self.new.messages j ≡ Some n → (id.place ≡ j) ↔ (message m.now ≡ n)) }
         ensures adds { OnOk result (Adds self.old self.new (a_message (message m.now))) }
+        ensures few { OnOk result (length self.new.messages ≤ length self.old.messages + message_size (message m.now)) }
         ensures kept { Keeps self.old self.new }
     {
         self.messages.intern(m)
@@ -93,7 +95,9 @@ impl Store {
         Ok(id)
     }
 
-    /// How many different messages and different types have numbers.
+    /// How many different messages and different types have numbers. Where each call on the store answered `Ok`, that is how
+    /// many there are among the terms that it was given and their parts (`parts_are_counted`), and else at least so many
+    /// (`parts_are_counted_at_least`).
     pub fn distinct(&self) -> u64
         ensures count { result ≡ length self.now.messages + length self.now.types }
         ensures differ { NoneTwice self.now }
@@ -101,6 +105,14 @@ impl Store {
         // The count is asked for what its answer says: no effect has two numbers.
         let _ = self.effects.count();
         self.messages.count() as u64 + self.types.count() as u64
+    }
+
+    /// How many different messages have numbers.
+    pub fn message_count(&self) -> usize
+        ensures count { result ≡ length self.now.messages }
+        ensures differ { AllDiffer self.now.messages }
+    {
+        self.messages.count()
     }
 
     /// The outermost constructor of the message with a number of this store, with the numbers of its parts.
@@ -128,48 +140,53 @@ impl Store {
         }
     }
 
-    /// The number of the message with this outermost constructor, whose parts are numbers of this store.
+    /// The number of the message with this outermost constructor, whose parts are numbers of this store. Nothing else is new.
     pub fn message_over(&mut self, part: MsgPart) -> Result<MsgId, NoMemory>
         requires { IsOverGiven self.old.messages part }
         ensures at { IfOk result (λ id. (n : Term.Message) → Says self.old.messages part n → slice_get self.new.messages id.place ≡ Some n) }
+        ensures adds { OnOk result ((n : Term.Message) → Says self.old.messages part n → Adds self.old self.new (over_messages n)) }
         ensures kept { Keeps self.old self.new }
     {
         self.messages.put(part)
     }
 
-    /// The number of the type of pairs of these types, which are numbers of this store.
+    /// The number of the type of pairs of these types, which are numbers of this store. Nothing else is new.
     pub fn pair_over(&mut self, first: TyId, second: TyId) -> Result<TyId, NoMemory>
         requires first { IsGiven self.old first.place }
         requires second { IsGiven self.old second.place }
         ensures at { IfOk result (λ id. (t u : Term.Ty) → Means self.old first.place t → Means self.old second.place u → Means self.new id.place (Term.pair_ty t u)) }
+        ensures adds { OnOk result ((t u : Term.Ty) → Means self.old first.place t → Means self.old second.place u → Adds self.old self.new (over_types (Term.pair_ty t u))) }
         ensures kept { Keeps self.old self.new }
     {
         self.put(TyNode::Pair(first, second))
     }
 
-    /// The number of the sum of these types, which are numbers of this store.
+    /// The number of the sum of these types, which are numbers of this store. Nothing else is new.
     pub fn sum_over(&mut self, left: TyId, right: TyId) -> Result<TyId, NoMemory>
         requires left { IsGiven self.old left.place }
         requires right { IsGiven self.old right.place }
         ensures at { IfOk result (λ id. (t u : Term.Ty) → Means self.old left.place t → Means self.old right.place u → Means self.new id.place (Term.sum_ty t u)) }
+        ensures adds { OnOk result ((t u : Term.Ty) → Means self.old left.place t → Means self.old right.place u → Adds self.old self.new (over_types (Term.sum_ty t u))) }
         ensures kept { Keeps self.old self.new }
     {
         self.put(TyNode::Sum(left, right))
     }
 
-    /// The number of the type of keys for this payload, which is a number of this store.
+    /// The number of the type of keys for this payload, which is a number of this store. Nothing else is new.
     pub fn key_over(&mut self, payload: TyId) -> Result<TyId, NoMemory>
         requires { IsGiven self.old payload.place }
         ensures at { IfOk result (λ id. (t : Term.Ty) → Means self.old payload.place t → Means self.new id.place (Term.key t)) }
+        ensures adds { OnOk result ((t : Term.Ty) → Means self.old payload.place t → Adds self.old self.new (over_types (Term.key t))) }
         ensures kept { Keeps self.old self.new }
     {
         self.put(TyNode::Key(payload))
     }
 
-    /// The number of the Nonce type with these atoms, over numbers of this store.
+    /// The number of the Nonce type with these atoms, over numbers of this store. Nothing else is new.
     pub fn nonce_over(&mut self, alloc: Global, atoms: Vec<AtomId>) -> Result<TyId, NoMemory>
         requires { AreGiven self.old.messages atoms.items }
         ensures at { IfOk result (λ id. (es : Term.Effect) → TellsAll (SaysAtom self.old.messages) atoms.items es → Means self.new id.place (Term.nonce es)) }
+        ensures adds { OnOk result ((es : Term.Effect) → TellsAll (SaysAtom self.old.messages) atoms.items es → Adds self.old self.new (over_types (Term.nonce es))) }
         ensures kept { Keeps self.old self.new }
     {
         // The count is asked for what its answer says: no message has two numbers.

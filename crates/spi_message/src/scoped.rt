@@ -9,19 +9,10 @@ ghost use Rattle.spi_message.specs.Tests.{scope_of, is_unit, key_in, key_of, typ
 
 use crate::NoMemory;
 use crate::slices::is_un_type;
+use crate::written::{is_unit_type, payload_of};
 use spi_effect::is_same_type;
 use spi_term::{Atom, Effect, Msg, Ty, opened};
 use std::alloc::Global;
-
-fn is_unit_type(t: &Ty) -> bool
-    ensures { result ≡ is_unit (ty t.now) }
-{
-    match t {
-        Ty::Un => true,
-        Ty::Unit => true,
-        _ => false,
-    }
-}
 
 // The type of a name.
 fn type_of<'a>(x: u32, env: &'a [Ty], inner: &'a [Ty]) -> Option<&'a Ty>
@@ -37,21 +28,6 @@ fn type_of<'a>(x: u32, env: &'a [Ty], inner: &'a [Ty]) -> Option<&'a Ty>
         return Some(&inner[rest]);
     }
     None
-}
-
-// The T of a type Key(T).
-fn payload_of(t: &Ty) -> Option<&Ty>
-    ensures some { IfSome result (λ u. key_in (Some (ty t.now)) ≡ Some (ty u.now)) }
-    ensures none { IfNone result (key_in (Some (ty t.now)) ≡ None) }
-{
-    match t {
-        Ty::Un => None,
-        Ty::Unit => None,
-        Ty::Pair(_, _) => None,
-        Ty::Sum(_, _) => None,
-        Ty::Key(u) => Some(u),
-        Ty::Nonce(_) => None,
-    }
 }
 
 // The T of a name of type Key(T).

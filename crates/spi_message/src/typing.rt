@@ -2,63 +2,18 @@
 // them, so that no type is opened but where it is compared.
 
 ghost use Rattle.std.specs.Prelude.{◌≡◌, ◌<◌, IfOk, OnOk, IfSome, IfNone, length};
-ghost use Rattle.spi_term.specs.Term.{Ty as TypeTerm, name, pair, in_left, in_right, enc};
-ghost use Rattle.spi_intern.specs.Given.{IsGiven};
+ghost use Rattle.spi_term.specs.Term.{name, pair, in_left, in_right, enc};
 ghost use Rattle.spi_intern.specs.Messages.{message_at};
-ghost use Rattle.spi_intern.specs.Meaning.{Means, Keeps};
+ghost use Rattle.spi_intern.specs.Meaning.{Keeps};
 ghost use Rattle.spi_message.specs.Filling.{AreBelow};
-ghost use Rattle.spi_message.specs.Asking.{IsEnvironment, IsAsked, IsTyped, IsLabelled, IsKeyFor, IsNoKey, IsPayload, IsNoPayload};
-ghost use Rattle.spi_message.specs.Tests.{is_un, is_unit};
+ghost use Rattle.spi_message.specs.Asking.{IsEnvironment, IsAsked, IsTyped, IsLabelled, IsPayload, IsNoPayload};
 
 use crate::NoMemory;
 use crate::filling::filled_type;
+use crate::heads::{is_un_type, is_unit_type, payload_of};
 use spi_intern::{MsgId, MsgPart, Store, TyId, TyPart};
 use spi_term::Ty;
 use std::alloc::Global;
-
-fn is_un_type(store: &Store, t: TyId) -> bool
-    requires { IsGiven store.now t.place }
-    ensures { (u : TypeTerm) → Means store.now t.place u → result ≡ is_un u }
-{
-    match store.ty_part(t) {
-        TyPart::Un => true,
-        TyPart::Unit => false,
-        TyPart::Pair(_, _) => false,
-        TyPart::Sum(_, _) => false,
-        TyPart::Key(_) => false,
-        TyPart::Nonce(_) => false,
-    }
-}
-
-fn is_unit_type(store: &Store, t: TyId) -> bool
-    requires { IsGiven store.now t.place }
-    ensures { (u : TypeTerm) → Means store.now t.place u → result ≡ is_unit u }
-{
-    match store.ty_part(t) {
-        TyPart::Un => true,
-        TyPart::Unit => true,
-        TyPart::Pair(_, _) => false,
-        TyPart::Sum(_, _) => false,
-        TyPart::Key(_) => false,
-        TyPart::Nonce(_) => false,
-    }
-}
-
-// The T of a type Key(T).
-fn payload_of(store: &Store, t: TyId) -> Option<TyId>
-    requires { IsGiven store.now t.place }
-    ensures some { IfSome result (IsKeyFor store.now t) }
-    ensures none { IfNone result (IsNoKey store.now t) }
-{
-    match store.ty_part(t) {
-        TyPart::Un => None,
-        TyPart::Unit => None,
-        TyPart::Pair(_, _) => None,
-        TyPart::Sum(_, _) => None,
-        TyPart::Key(payload) => Some(payload),
-        TyPart::Nonce(_) => None,
-    }
-}
 
 // The T of a name of type Key(T).
 fn key_payload(store: &Store, env: &[TyId], m: MsgId) -> Option<TyId>

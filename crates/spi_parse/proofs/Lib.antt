@@ -23,3 +23,4 @@ pub mod FormLaws
 pub mod Lexed
 pub mod Counted
 pub mod Spelled
+pub mod Versions

@@ -292,7 +292,7 @@ module _ (left : List Token) where
       let z = closed h7.1 in
       rw (spans f.span o.0 z.0, h2.0, h4.0, h5.0, h6.0, h7.0) refl
 
-kinds_spelled : (e : ℕ) (ps : List Piece) (ts : List Token) → Spells [] e ps ts → kinds_in ps ≡ kinds_of ts
+pub kinds_spelled : (e : ℕ) (ps : List Piece) (ts : List Token) → Spells [] e ps ts → kinds_in ps ≡ kinds_of ts
 kinds_spelled e [] [] h = refl
 kinds_spelled e [] (t ∷ ts) h = sym (ap kinds_of h)
 kinds_spelled e (opens from ∷ ps) [] h = absurd h

@@ -24,7 +24,7 @@ use Rattle.spi_replay.specs.Standing.{Enters, IsPlace, Binds, StandsAt}
 use Rattle.spi_replay.proofs.Subtrees.{Follows, node_at}
 use Rattle.spi_replay.proofs.Forms.{IsQuiet, IsStill, Leads, Moves, moves_stays, moves_puts, moves_takes, moves_takes_again, moves_one, moves_two, moves_on, moves_shows, moves_makes, moves_forks, node_moves, done_moves}
 use Rattle.spi_replay.proofs.Chains.{chain_is, chain_kept}
-use Rattle.spi_replay.proofs.Sized.{at_message}
+use Rattle.spi_intern.proofs.Sized.{at_message}
 
 abbrev pub shapes_in : Place → List Shape
 shapes_in p = spelled p.source.now.names p.source.now.process

@@ -3,7 +3,6 @@ pub mod Subtrees
 pub mod Forms
 pub mod Chains
 pub mod Waited
-pub mod Sized
 pub mod Bindings
 pub mod Does
 pub mod Stepped
@@ -16,3 +15,4 @@ pub mod Channels
 pub mod Indexing
 pub mod Started
 pub mod Lone
+pub mod Handed

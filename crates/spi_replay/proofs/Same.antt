@@ -7,7 +7,7 @@ use Rattle.spi_intern.specs.declared.messages.MsgPart.{MsgPart}
 use Rattle.spi_intern.specs.declared.messages.MsgPart.TheVariants.{Bound, Name, Unit as NoParts, Pair, Inl, Inr, Enc, Hash}
 use Rattle.spi_intern.proofs.Lists.{truths}
 use Rattle.spi_intern.proofs.MessageLaws.{both, both_are, part_eq, part_true, part_self, same_true, same_self}
-use Rattle.spi_replay.proofs.Sized.{Tells, message_there, bound_of, name_of, unit_of}
+use Rattle.spi_intern.proofs.Sized.{Tells, message_there, bound_of, name_of, unit_of}
 
 same_of : {a b : Message} → a ≡ b → same_message a b ≡ true
 same_of {a} {b} e = ap (same_message a) (sym e) ∙ same_self a

@@ -30,7 +30,7 @@ use Rattle.spi_replay.specs.Indexed.{listed, done, moved, settled}
 use Rattle.spi_replay.specs.Pools.{configuration_of, pool_of, TakenBy, again_appends}
 use Rattle.spi_replay.proofs.Opening.{held_first}
 use Rattle.spi_replay.proofs.Subtrees.{root_tree, root_follows}
-use Rattle.spi_replay.proofs.Sized.{at_message}
+use Rattle.spi_intern.proofs.Sized.{at_message}
 use Rattle.spi_replay.proofs.Does.{acting, place_kept, process_kept, waits_act, waits_append, waits_largest, still_of, Outcome, outcome_of, Meets, meets_of, no_meeting}
 
 -- lists

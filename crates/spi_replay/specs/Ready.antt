@@ -8,6 +8,11 @@ use Rattle.spi_run.specs.Reduction.{Configuration, Step, act, talk, Event, Takes
 abbrev pub IsReady : Configuration → Step → Type 0
 IsReady c s = (e : Option Event) × (d : Configuration) × Takes c s e d
 
+-- the step is a talk, and ready
+abbrev pub IsReadyTalk : Configuration → Step → Type 0
+IsReadyTalk c (act i) = ⊥
+IsReadyTalk c (talk i j) = IsReady c (talk i j)
+
 -- the first place of a step
 abbrev pub first_place : Step → ℕ
 first_place (act i) = i

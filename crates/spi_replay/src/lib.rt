@@ -3,6 +3,7 @@
 
 mod acting;
 mod fault;
+mod handing;
 pub mod index;
 mod laws;
 mod listing;

@@ -1,15 +1,17 @@
 // Pools.
 
-ghost use Rattle.std.specs.Prelude.{◌≡◌, ◌-◌, ◌^◌, ◌<◌, ◌≤◌, ◌⊎◌, List, Some, IfOk, IfErr, OnErr, MatchOption, length, slice_get};
+ghost use Rattle.std.specs.Prelude.{◌≡◌, ◌-◌, ◌^◌, ◌<◌, ◌≤◌, ◌⊎◌, ◌∷◌, [], List, Some, IfOk, IfErr, OnErr, MatchOption, length, slice_get};
 ghost use Rattle.spi_term.specs.View.{message};
 ghost use Rattle.spi_run.specs.Reduction.{Step as StepTerm};
+ghost use Rattle.spi_run.specs.Knowledge.{shown};
 ghost use Rattle.spi_run.specs.Safety.{beside};
 ghost use Rattle.spi_run.specs.View.{step as step_of};
-ghost use Rattle.spi_replay.specs.Ready.{AreReady, count_at, ArePlaces, PutsOut, TakesIn};
+ghost use Rattle.spi_replay.specs.Ready.{AreReady, IsReadyTalk, count_at, ArePlaces, PutsOut, TakesIn};
 ghost use Rattle.spi_replay.specs.Stepping.{Refuses, IsTaken, event_in};
 
 use crate::NoMemory;
 use crate::fault::StepFault;
+use crate::handing::handed;
 use crate::listing::{ins_on, kth, outs_on, ready, ready_at};
 use crate::running::{State, start, step_act, step_talk};
 use spi_run::{Event, Step};
@@ -74,6 +76,17 @@ impl<'p> Pool<'p> {
         match step {
             Step::Act(place) => step_act(&mut self.state, place),
             Step::Talk(out, inp) => step_talk(&mut self.state, out, inp),
+        }
+    }
+
+    /// The closed message that a ready Talk hands over. `None` where the step isn't a ready Talk. The time is linear in
+    /// the message. Its only error is NoMemory.
+    pub fn datum(&self, step: Step) -> Result<Option<Msg>, NoMemory>
+        ensures { IfOk result (λ d. MatchOption d (IsReadyTalk self.now.configuration (step_of step) → ⊥) (λ m. IsReadyTalk self.now.configuration (step_of step) × (shown self.now.configuration (step_of step) ≡ message m ∷ []))) }
+    {
+        match step {
+            Step::Act(_) => Ok(None),
+            Step::Talk(out, inp) => handed(&self.state, out, inp),
         }
     }
 

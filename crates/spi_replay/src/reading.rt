@@ -1,24 +1,13 @@
-// Messages of a store by their numbers: how many nodes they have, and the messages themselves.
+// How many nodes messages of a store have.
 
-ghost use Rattle.std.specs.Prelude.{◌≡◌, ◌+◌, ◌<◌, IfOk, Ok, length};
+ghost use Rattle.std.specs.Prelude.{◌≡◌, ◌+◌, ◌<◌, length};
 ghost use Rattle.spi_term.specs.Term.{message_size};
 ghost use Rattle.spi_term.specs.Spelling.{stopped};
-ghost use Rattle.spi_term.specs.View.{message};
 ghost use Rattle.spi_intern.specs.Messages.{message_at};
 ghost use Rattle.spi_replay.specs.Waiting.{wait_within, wait_largest};
 
-use crate::NoMemory;
 use crate::waits::Wait;
 use spi_intern::{MsgId, MsgPart, Store};
-use spi_term::Msg;
-use std::alloc::Global;
-
-// The message in a box, where there is one.
-fn boxed(alloc: Global, m: Result<Msg, NoMemory>) -> Result<Box<Msg>, NoMemory>
-    ensures { IfOk result (λ b. m ≡ Ok b.value) }
-{
-    Ok(Box::new(alloc, m?)?)
-}
 
 // A node over what has so many.
 fn one_more(below: u64) -> u64
@@ -41,40 +30,6 @@ pub fn nodes_of(store: &Store, id: MsgId) -> u64
         MsgPart::Inr(a) => one_more(nodes_of(store, a)),
         MsgPart::Enc(a, b) => one_more(nodes_of(store, a).saturating_add(nodes_of(store, b))),
         MsgPart::Hash(a) => one_more(nodes_of(store, a)),
-    }
-}
-
-/// The message with a number.
-pub fn message_of(alloc: Global, store: &Store, id: MsgId) -> Result<Msg, NoMemory>
-    requires { id.place < length store.now.messages }
-    ensures { IfOk result (λ m. message m ≡ message_at store.now.messages id) }
-{
-    match store.part(id) {
-        MsgPart::Bound(i) => Ok(Msg::Bound(i)),
-        MsgPart::Name(x) => Ok(Msg::Name(x)),
-        MsgPart::Unit => Ok(Msg::Unit),
-        MsgPart::Pair(a, b) => {
-            let first = boxed(alloc, message_of(alloc, store, a))?;
-            let second = boxed(alloc, message_of(alloc, store, b))?;
-            Ok(Msg::Pair(first, second))
-        }
-        MsgPart::Inl(a) => {
-            let part = boxed(alloc, message_of(alloc, store, a))?;
-            Ok(Msg::Inl(part))
-        }
-        MsgPart::Inr(a) => {
-            let part = boxed(alloc, message_of(alloc, store, a))?;
-            Ok(Msg::Inr(part))
-        }
-        MsgPart::Enc(a, b) => {
-            let body = boxed(alloc, message_of(alloc, store, a))?;
-            let key = boxed(alloc, message_of(alloc, store, b))?;
-            Ok(Msg::Enc(body, key))
-        }
-        MsgPart::Hash(a) => {
-            let part = boxed(alloc, message_of(alloc, store, a))?;
-            Ok(Msg::Hash(part))
-        }
     }
 }
 

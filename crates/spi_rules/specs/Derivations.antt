@@ -5,6 +5,7 @@ use Rattle.spi_rules.specs.Messages.{HasType, msg_name, msg_unit, msg_unit_un, m
 use Rattle.spi_rules.specs.Processes.{HasEffect, proc_stop, proc_out, proc_in, proc_repeat, proc_split, proc_split_un, proc_match, proc_match_un, proc_case, proc_case_un, proc_decrypt, proc_decrypt_un, proc_check, proc_check_un, proc_begin, proc_end, proc_end_many, proc_cast, proc_cast_un, proc_new, proc_par, proc_sub}
 use Rattle.spi_rules.specs.declared.rule.Rule.{Rule}
 use Rattle.spi_rules.specs.declared.rule.Rule.TheVariants.{MsgName, MsgUnit, MsgUnitUn, MsgPair, MsgPairUn, MsgInl, MsgInlUn, MsgInr, MsgInrUn, MsgEnc, MsgEncUn, MsgHash, ProcStop, ProcOut, ProcIn, ProcRepeat, ProcSplit, ProcSplitUn, ProcMatch, ProcMatchUn, ProcCase, ProcCaseUn, ProcDecrypt, ProcDecryptUn, ProcCheck, ProcCheckUn, ProcBegin, ProcEnd, ProcEndMany, ProcCast, ProcCastUn, ProcNew, ProcPar, ProcSub}
+use Rattle.spi_term.specs.Counts.{SameEffect}
 use Rattle.spi_term.specs.Names.{ProcessOver}
 use Rattle.spi_term.specs.Term.{Message, Effect, Ty, Process}
 
@@ -62,8 +63,10 @@ effect_uses (proc_new d i g r a) = uses ProcNew (effect_uses d)
 effect_uses (proc_par d e r) = uses ProcPar (effect_uses d ++ effect_uses e)
 effect_uses (proc_sub {fs} d w g) = record { rule = ProcSub; taken = Some fs } ∷ effect_uses d
 
--- a list of rule uses proves that P has effect es in env
+-- a list of rule uses proves that P has effect es in env, up to equal counts
 pub record Proves (d : List RuleUse) (env : Env) (p : Process) (es : Effect) : Type 0 where
   pub over : ProcessOver (length env) p
-  pub has : HasEffect [] env p es
+  pub effect : Effect
+  pub same : SameEffect effect es
+  pub has : HasEffect [] env p effect
   pub are : effect_uses has ≡ d

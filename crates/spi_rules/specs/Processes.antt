@@ -24,7 +24,8 @@ IsGenerative (key t) = ⊤
 IsGenerative (nonce es) = ⊥
 
 -- a process has an effect. A row that computes an effect (a sum, a difference, a greatest count) concludes with any list
--- of the counts that it states; the others conclude with the very list of their premise
+-- of the counts that it states; the others conclude with the very list of their premise, with the empty one where no
+-- premise has an effect, and ProcSub with the list that it writes
 pub data HasEffect (casts : List Cast) : Env → Process → Effect → Type 0 where
   proc_stop : {env : Env} → HasEffect casts env stop []
   proc_out : {env : Env} {m n : Message}

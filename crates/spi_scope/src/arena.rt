@@ -19,7 +19,8 @@ pub struct Arena {
     pub places: Vec<Span>,
 }
 
-/// The place of the next node. There is no room for 2 ^ 32 nodes.
+/// The place of the next node. There is no room for 2 ^ 32 nodes, and so many don't come: each node begins with a token of its
+/// own, and a file has at most 16,777,216 bytes.
 pub fn here(arena: &Arena) -> Result<u32, NoMemory>
     ensures { IfOk result (λ n. (n ≡ length arena.now.nodes.items) × (n < 4294967290)) }
 {

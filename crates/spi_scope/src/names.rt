@@ -137,7 +137,8 @@ impl<'t> Names<'t> {
         self.innermost.get(&word).copied()
     }
 
-    /// One more name in scope. There is no room for 2 ^ 32 names.
+    /// One more name in scope. There is no room for 2 ^ 32 names, and so many don't come: each has a token of its own, and a
+    /// file has at most 16,777,216 bytes.
     pub fn bind(&mut self, word: &'t str) -> Result<(), NoMemory>
         ensures { OnOk result (self.new ≡ with_names self.old (word.now ∷ self.old.names)) }
     {

@@ -59,7 +59,8 @@ impl<'t> Trail<'t> {
         }
     }
 
-    /// One more chain: the spelling before an earlier chain. There is no room for 2 ^ 32 chains.
+    /// One more chain: the spelling before an earlier chain. There is no room for 2 ^ 32 chains, and so many don't come: each is
+    /// that of a binder, which has a token of its own.
     pub fn extend(&mut self, word: &'t str, outer: u32) -> Result<u32, NoMemory>
         requires { outer < length self.old.chains }
         ensures number { IfOk result (λ n. n ≡ length self.old.chains) }

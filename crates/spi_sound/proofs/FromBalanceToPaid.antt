@@ -17,7 +17,7 @@ use Rattle.spi_rules.proofs.Paying.{Pays, has_pays}
 use Rattle.spi_sound.proofs.Opponents.{all_un_untrusted, opponent_derivable, length_untrusted}
 use Rattle.spi_sound.proofs.Weakening.{pays_lifted}
 use Rattle.spi_sound.proofs.Places.{pay_none, pay_one}
-use Rattle.spi_sound.proofs.BalanceOfActs.{Books, books_of, scoped}
+use Rattle.spi_sound.proofs.BalanceOfActs.{Books, scoped}
 use Rattle.spi_sound.proofs.BalanceOfSteps.{Held, held_step}
 
 -- how often a label stands in a list
@@ -76,21 +76,21 @@ run_paid : {c d : Configuration} {ss : List Step} {es : List Event} {a : Account
 run_paid h f runs_none [] late m g = zero-le
 run_paid h f runs_none (x ∷ early) late m g = cc
 run_paid {es = es} {a = a} h f (runs_silent t r) early late m g =
-    let after = (held_step h f t).after in
-    subst (λ ms. ends_of m early ≤ begins_of m early + how_many m ms) (books_of after.changes).0 (run_paid after.held after.names r early late m g)
+    let after = held_step h f t in
+    subst (λ ms. ends_of m early ≤ begins_of m early + how_many m ms) after.books.0 (run_paid after.held after.names r early late m g)
 run_paid {a = a} h f (runs_event {e = e} t r) early late m g =
-    let after = (held_step h f t).after in
-    paid_event a after.account e (books_of after.changes) (run_paid after.held after.names r) early late m g
+    let after = held_step h f t in
+    paid_event a after.account e after.books (run_paid after.held after.names r) early late m g
 
 run_many : {c d : Configuration} {ss : List Step} {es : List Event} {a : Account} → Held c.places a → length a.types ≡ c.names → Runs c ss es d → ManyFrom a.ever es
 run_many h f runs_none [] late m g = cc
 run_many h f runs_none (x ∷ early) late m g = cc
 run_many {es = es} {a = a} h f (runs_silent t r) early late m g =
-    let after = (held_step h f t).after in
-    subst (λ ms. In (begun m) early ⊎ In m ms) (books_of after.changes).1 (run_many after.held after.names r early late m g)
+    let after = held_step h f t in
+    subst (λ ms. In (begun m) early ⊎ In m ms) after.books.1 (run_many after.held after.names r early late m g)
 run_many {a = a} h f (runs_event {e = e} t r) early late m g =
-    let after = (held_step h f t).after in
-    many_event a after.account e (books_of after.changes) (run_many after.held after.names r) early late m g
+    let after = held_step h f t in
+    many_event a after.account e after.books (run_many after.held after.names r) early late m g
 
 untrusted_un : (n : ℕ) {x : ℕ} {t : Ty} → At (untrusted n) x t → t ≡ un
 untrusted_un zero b = elim b [ ]

@@ -18,7 +18,7 @@ use Rattle.spi_scope.proofs.Counting.{Passes}
 use Rattle.spi_spell.specs.Joined.{HasLowPlaces}
 use Rattle.spi_spell.proofs.Printable.{AreSteps}
 use Rattle.spi_spell.proofs.Declared.{AreNew}
-use Rattle.spi_spell.proofs.Same.{same_effect}
+use Rattle.spi_tree.proofs.Same.{same_effect}
 
 -- ---- the schedule
 

@@ -18,7 +18,7 @@ use Rattle.spi_scope.specs.First.{Clean}
 use Rattle.spi_scope.specs.StandsFor.{Meant}
 use Rattle.spi_show.specs.Spelled.{name_text}
 use Rattle.spi_show.specs.Processes.{Standing, alone, sequel}
-use Rattle.spi_spell.proofs.Same.{same_effect}
+use Rattle.spi_tree.proofs.Same.{same_effect}
 use Rattle.spi_spell.proofs.Shallow.{AreSmall, small}
 use Rattle.spi_spell.proofs.Printed.{word, spelled_name, numbered_name, message_tree, second_tree, rest_trees, atom_tree, atom_trees, type_tree, field_trees, last_tree, leaf_tree, prefix_tree, process_tree, free_trees, part_tree, opponent_tree, step_tree, schedule_tree, written_tree, deriv_tree, deriv_trees, derivation_tree, file_tree}
 use Rattle.spi_spell.proofs.Printable.{MessageFits, TyFits, LeafFits, PrefixFits, ForkFits, ProcessFits, Nests, IsPart, IsOpponentPart, is_later, IsPrintable}

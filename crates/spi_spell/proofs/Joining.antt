@@ -27,7 +27,7 @@ use Rattle.spi_deriv.specs.Text.{derivation_text}
 use Rattle.spi_spell.specs.Spelled.{limit, IsTreeOf, SpellsFile}
 use Rattle.spi_spell.specs.Joined.{with_derivation, with_schedule, joined, schedule_text, HasLowPlaces}
 use Rattle.spi_spell.proofs.Together.{text_behind}
-use Rattle.spi_spell.proofs.Same.{same_version, same_decls, same_proc, same_opponent, same_schedule}
+use Rattle.spi_tree.proofs.Same.{same_version, same_decls, same_proc, same_opponent, same_schedule}
 use Rattle.spi_spell.proofs.Derived.{Derives, rule_words}
 use Rattle.spi_spell.proofs.Fitting.{Fits, effect_derives}
 use Rattle.spi_spell.proofs.Past.{past_version, past_decls}

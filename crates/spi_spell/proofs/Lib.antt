@@ -1,6 +1,5 @@
 pub mod Feeds
 pub mod Together
-pub mod Same
 pub mod Derived
 pub mod Fitting
 pub mod Past
@@ -36,3 +35,5 @@ pub mod Weighed
 pub mod Declared
 pub mod Behind
 pub mod Standing
+pub mod Scanned
+pub mod Sessions

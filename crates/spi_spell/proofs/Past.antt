@@ -6,7 +6,7 @@ use Rattle.spi_tree.specs.declared.tree.SWord.{SWord}
 use Rattle.spi_tree.specs.Trees as t
 use Rattle.spi_tree.specs.Pieces.{Piece, opens, cell, closes, Place, msg_pieces, named_pieces, binder_pieces, decl_pieces, decls_pieces, version_pieces, proc_pieces, opponent_pieces, schedule_pieces, kinds_in}
 use Rattle.spi_parse.specs.Exact.{IsWithin}
-use Rattle.spi_spell.proofs.Same.{same_msg, same_named, same_binder, same_proc, same_decls, same_version, same_opponent, same_schedule}
+use Rattle.spi_tree.proofs.Same.{same_msg, same_named, same_binder, same_proc, same_decls, same_version, same_opponent, same_schedule}
 
 skip_one : (r : List Piece) (p : Piece) (x y : List Piece) → (IsWithin x → IsWithin r) → IsWithin (p ∷ x) → IsWithin r
 skip_one r (opens from) x y f h = f h

@@ -2,8 +2,6 @@
 use Rattle.std.proofs.Common.{◌≡◌, ℕ, ◌==◌, Bool, false, List, [], ◌∷◌, ◌++◌, map, Ok, Err, refl, sym, ap, subst, ◌∙◌, ◌⊎◌, inl, inr, append-nil}
 use Rattle.spi_lex.specs.declared.token.Kind.{Kind}
 use Rattle.spi_lex.specs.declared.token.Kind.TheVariants as kinds
-use Rattle.spi_lex.specs.declared.token.Reserved.{Reserved}
-use Rattle.spi_lex.specs.declared.token.Reserved.TheVariants as word
 use Rattle.spi_lex.specs.declared.token.Token.{Token}
 use Rattle.spi_lex.specs.Lexing.{kinds_of, is_version_2}
 use Rattle.spi_tree.specs.Trees as t
@@ -24,37 +22,8 @@ use Rattle.spi_parse.proofs.Complete.{told_fits, file_c}
 use Rattle.spi_parse.proofs.ExactLaws as exact
 use Rattle.spi_parse.proofs.ExactLaws.{firsts, told_by, exact_ok}
 use Rattle.spi_parse.proofs.Words.{file_ruled, file_made}
+use Rattle.spi_parse.proofs.Versions.{tokens_fit}
 use Rattle.spi_parse.proofs.Wholes.{kinds_tok, parses_ok}
-
--- ---- the version, by the first tokens
-
-begins_reserved : (ds : List t.Declared) (q : List Piece) → (w : Reserved) × (l : List Kind) × (kinds_in (decls_pieces ds (a_reserved word.Process q)) ≡ kinds.Reserved w ∷ l)
-begins_reserved [] q = (word.Process, kinds_in q, refl)
-begins_reserved (t.free s w ws ∷ ds) q = (word.Free, _, refl)
-begins_reserved (t.abbreviated s w a ∷ ds) q = (word.TypeWord, _, refl)
-
-reserved_first : (w : Reserved) (l : List Kind) → is_version_2 (kinds.Reserved w ∷ l) ≡ false
-reserved_first w [] = refl
-reserved_first w (b ∷ []) = refl
-reserved_first w (b ∷ c ∷ l) = refl
-
-abbrev behind_decls : t.File → List Piece
-behind_decls f = proc_pieces (at_level 0) f.process (opponent_pieces f.opponent (schedule_pieces f.schedule (derivation_pieces f.derivation (ends f.span []))))
-
-abbrev tokens_by : t.File → ℕ → List Kind
-tokens_by f v = kinds_in (version_pieces v (decls_pieces f.decls (a_reserved word.Process (behind_decls f))))
-
-version_by : (f : t.File) (v : ℕ) → (v ≡ 1) ⊎ (v ≡ 2) → is_version_2 (tokens_by f v) ≡ (v == 2)
-version_by f v (inl e) =
-    let b = begins_reserved f.decls (behind_decls f) in
-    let one : is_version_2 (tokens_by f 1) ≡ false = ap is_version_2 b.2 ∙ reserved_first b.0 b.1 in
-    subst (λ (i : ℕ). is_version_2 (tokens_by f i) ≡ (i == 2)) (sym e) one
-version_by f v (inr e) = subst (λ (i : ℕ). is_version_2 (tokens_by f i) ≡ (i == 2)) (sym e) refl
-
-tokens_fit : (f : t.File) (ks : List Kind) → IsFile f → ks ≡ tokens_of f → AreWordsFit (is_version_2 ks) ks
-tokens_fit f ks h e =
-    let later : is_version_2 (tokens_of f) ≡ is_later f = version_by f f.version h.formed.version in
-    subst (λ (l : List Kind). AreWordsFit (is_version_2 l) l) (sym e) (subst (λ (v : Bool). AreWordsFit v (tokens_of f)) (sym later) h.formed.words)
 
 -- ---- what is read
 

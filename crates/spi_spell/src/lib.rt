@@ -1,13 +1,17 @@
 //! What is written behind a file is read with it, and the canonical text of a file is read as that file.
 #![tactic(auto)]
 
-ghost use Rattle.std.specs.Prelude.{◌≡◌, ◌≤◌, ℕ, List, length, None};
+ghost use Rattle.std.specs.Prelude.{◌≡◌, ◌≤◌, ℕ, List, length, None, Ok};
 ghost use Rattle.std.specs.List.{All};
 ghost use Rattle.spi_rules.specs.Derivations.{RuleUse};
 ghost use Rattle.spi_run.specs.Reduction.{Step};
+ghost use Rattle.spi_lex.specs.declared.token.Token.{Token};
+ghost use Rattle.spi_lex.specs.Lexing.{Lexes, kinds_of};
 ghost use Rattle.spi_lex.specs.Writing.{AreKinds};
 ghost use Rattle.spi_tree.specs.Trees.{File};
 ghost use Rattle.spi_tree.specs.Pieces.{tokens_of};
+ghost use Rattle.spi_tree.specs.Formed.{IsFormed};
+ghost use Rattle.spi_gen.specs.Sessions.{IsSessions};
 ghost use Rattle.spi_parse.specs.Exact.{IsWithin};
 ghost use Rattle.spi_parse.specs.Formed.{IsFile, whole_file};
 ghost use Rattle.spi_scope.specs.StandsFor.{Meant, StandsFor};
@@ -15,6 +19,7 @@ ghost use Rattle.spi_show.specs.Files.{IsCanonicalText};
 ghost use Rattle.spi_deriv.specs.Canonical.{Canonical};
 ghost use Rattle.spi_deriv.specs.Text.{derivation_text};
 ghost use Rattle.spi_spell.specs.Spelled.{limit, SpellsFile};
+ghost use Rattle.spi_spell.specs.Generated.{handshake_text};
 ghost use Rattle.spi_spell.specs.Joined.{joined, schedule_text, with_derivation, with_schedule, HasLowPlaces};
 
 /// A file without a derivation, one line feed and the text of the canonical derivation of its process are a file with
@@ -38,4 +43,14 @@ pub fn canonical_reads_back()
 /// those of tokens.
 pub fn printed_trees_read_back()
     ensures { (tree : File) (file : Meant) (text : List ℕ) → IsFile tree → IsWithin (whole_file tree) → AreKinds (tokens_of tree) → StandsFor tree file → IsCanonicalText file text → length text ≤ limit → SpellsFile text file }
+{}
+
+/// The file of so many generated sessions is formed, so it's one that can be written and read.
+pub fn sessions_are_formed()
+    ensures { (count : ℕ) (file : File) → IsSessions count file → IsFormed file }
+{}
+
+/// The tokens of one generated session are those of the handshake as it is written by hand.
+pub fn one_session_is_the_handshake()
+    ensures { (file : File) → IsSessions 1 file → (tokens : List Token) × Lexes handshake_text (Ok tokens) × (kinds_of tokens ≡ tokens_of file) }
 {}

@@ -1,5 +1,5 @@
 use Rattle.std.proofs.Common.{sym, subst}
-use Rattle.spi_audit.specs.Accounts.{SumOf}
+use Rattle.spi_count.specs.Adding.{SumOf}
 use Rattle.spi_audit.proofs.Holding.{held_below}
 use Rattle.spi_audit.proofs.Settling.{left_nothing, left_something}
 use Rattle.spi_audit.proofs.left.Goals as goal

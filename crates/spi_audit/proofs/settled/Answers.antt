@@ -1,7 +1,8 @@
 use Rattle.std.proofs.Common.{◌∙◌, sym, ℕ, List, [], ◌∷◌}
 use Rattle.spi_term.specs.Term as Term
 use Rattle.spi_audit.specs.Accounts.{Held}
-use Rattle.spi_audit.specs.Changes.{Change, AreScoped, Below, run, top}
+use Rattle.spi_audit.specs.Changes.{Change, AreScoped, run, top}
+use Rattle.spi_count.specs.Sums.{Below}
 use Rattle.spi_audit.specs.Notes.{AreNoted}
 use Rattle.spi_audit.specs.Settled.{IsLeft, IsSettled}
 use Rattle.spi_audit.proofs.Turning.{if_ok}

@@ -1,12 +1,12 @@
 use Rattle.spi_audit.proofs.Marking.{marks_bound, marks_unit, marks_name, marks_pair, marks_enc, marks_left, marks_right, marks_hash}
-use Rattle.spi_audit.proofs.Kept.{on_ok}
+use Rattle.spi_count.proofs.Kept.{on_ok}
 use Rattle.std.proofs.Common.{arith, ◌≡◌, Some, max}
 use Rattle.std.specs.Prelude.{slice_get}
 use Rattle.spi_term.specs.Term.{Message}
 use Rattle.spi_count.specs.Counts.{count_of, Sets}
 use Rattle.spi_audit.specs.Accounts.{Marks}
 use Rattle.spi_intern.specs.Messages.{message_at}
-use Rattle.spi_audit.proofs.Read.{there, pair_first, pair_second, enc_first, enc_second, left_part, right_part, hash_part}
+use Rattle.spi_count.proofs.Read.{there, pair_first, pair_second, enc_first, enc_second, left_part, right_part, hash_part}
 use Rattle.spi_audit.proofs.accounts.+mark_names.Goals as goal
 
 pub mark_names-requires : goal.mark_names-requires

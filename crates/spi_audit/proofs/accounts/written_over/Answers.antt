@@ -1,6 +1,7 @@
 use Rattle.std.proofs.Common.{◌∙◌, ap, sym, subst}
 use Rattle.spi_audit.specs.declared.accounts.Account.{Account}
-use Rattle.spi_audit.specs.Accounts.{SumOf, HeldBy, outer}
+use Rattle.spi_count.specs.Adding.{SumOf}
+use Rattle.spi_audit.specs.Accounts.{HeldBy, outer}
 use Rattle.spi_audit.proofs.Holding.{held_more, held_below, below_none}
 use Rattle.spi_audit.proofs.Within.{within_is}
 use Rattle.spi_audit.proofs.accounts.written_over.Goals as goal

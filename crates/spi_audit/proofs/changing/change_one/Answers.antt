@@ -6,8 +6,9 @@ use Rattle.spi_intern.specs.Table.{TellsAll}
 use Rattle.spi_intern.specs.Atoms.{SaysAtom}
 use Rattle.spi_audit.specs.declared.notes.Note.{Note}
 use Rattle.spi_audit.specs.declared.notes.Note.TheVariants as N
-use Rattle.spi_audit.specs.Accounts.{IsKeyed, HaveKeys, Held, LeavesOne, LeavesTwo}
-use Rattle.spi_audit.specs.Changes.{Below}
+use Rattle.spi_count.specs.Keeping.{IsKeyed, HaveKeys}
+use Rattle.spi_audit.specs.Accounts.{Held, LeavesOne, LeavesTwo}
+use Rattle.spi_count.specs.Sums.{Below}
 use Rattle.spi_audit.specs.Notes.{ChangesOne}
 use Rattle.spi_audit.proofs.Turning.{same_one, leave_one_changes, leave_two_changes, serve_changes, taken_changes, if_ok}
 use Rattle.spi_audit.proofs.changing.change_one.Goals as goal

@@ -1,7 +1,7 @@
 use Rattle.std.proofs.Common.{sym, ◌∙◌}
 use Rattle.spi_term.specs.View.{message, ty}
 use Rattle.spi_intern.proofs.Meanings.{terms_same}
-use Rattle.spi_audit.proofs.Standing.{kept_more}
+use Rattle.spi_message.proofs.Tested.{kept_more}
 use Rattle.spi_audit.proofs.FormPremises.{asked_later, begins_later}
 use Rattle.spi_audit.proofs.FormTyped.{branch_left, branch_right, branch_un_fits}
 use Rattle.spi_audit.proofs.forms.branch_untrusted.Goals as goal

@@ -1,7 +1,7 @@
 use Rattle.std.proofs.Common.{refl}
 use Rattle.spi_term.specs.View.{ty}
 use Rattle.spi_intern.proofs.Meanings.{terms_same}
-use Rattle.spi_audit.proofs.Standing.{kept_more}
+use Rattle.spi_message.proofs.Tested.{kept_more}
 use Rattle.spi_audit.proofs.FormPremises.{asked_later, begins_later}
 use Rattle.spi_audit.proofs.FormUses.{is_good, is_not_good}
 use Rattle.spi_audit.proofs.forms.cast_good.Goals as goal

@@ -1,6 +1,6 @@
 use Rattle.spi_term.specs.View.{message}
 use Rattle.spi_audit.proofs.FormPremises.{begins_later}
-use Rattle.spi_audit.proofs.Standing.{kept_same}
+use Rattle.spi_message.proofs.Tested.{kept_same}
 use Rattle.spi_audit.proofs.FormTyped.{check_no_nonce, check_fits}
 use Rattle.spi_audit.proofs.forms.check_typed.Goals as goal
 

@@ -1,6 +1,6 @@
 use Rattle.spi_term.specs.View.{message}
 use Rattle.spi_audit.proofs.FormPremises.{asked_later, begins_later}
-use Rattle.spi_audit.proofs.Standing.{kept_more, kept_same}
+use Rattle.spi_message.proofs.Tested.{kept_more, kept_same}
 use Rattle.spi_audit.proofs.FormTyped.{check_un_fits}
 use Rattle.spi_audit.proofs.forms.check_untrusted.Goals as goal
 

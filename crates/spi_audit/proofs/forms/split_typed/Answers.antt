@@ -1,6 +1,6 @@
 use Rattle.spi_term.specs.View.{message, ty}
 use Rattle.spi_intern.proofs.Meanings.{terms_same}
-use Rattle.spi_audit.proofs.Standing.{kept_more}
+use Rattle.spi_message.proofs.Tested.{kept_more}
 use Rattle.spi_audit.proofs.FormPremises.{asked_later, begins_later}
 use Rattle.spi_audit.proofs.FormUses.{is_good, is_not_good}
 use Rattle.spi_audit.proofs.FormTyped.{split_bad, split_fits}

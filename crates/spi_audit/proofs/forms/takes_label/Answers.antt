@@ -1,7 +1,7 @@
 use Rattle.std.proofs.Common.{refl}
 use Rattle.spi_term.specs.View.{message}
 use Rattle.spi_audit.proofs.FormPremises.{begins_later}
-use Rattle.spi_audit.proofs.Standing.{kept_same}
+use Rattle.spi_message.proofs.Tested.{kept_same}
 use Rattle.spi_audit.proofs.FormUses.{is_label, is_no_label}
 use Rattle.spi_audit.proofs.forms.takes_label.Goals as goal
 

@@ -1,24 +1,8 @@
-use Rattle.spi_intern.specs.declared.store.TyPart.TheVariants.{Un, Unit as NoParts, Pair, Sum, Key, Nonce}
-use Rattle.spi_audit.proofs.Parts.{given_place, un_told}
+use Rattle.spi_audit.proofs.Parts.{given_there, means_there}
 use Rattle.spi_audit.proofs.messages.is_untrusted.Goals as goal
 
-pub ty_part-requires : goal.ty_part-requires
-ty_part-requires c = given_place c.store.ensures c.requires
+pub is_un_type-requires : goal.is_un_type-requires
+is_un_type-requires c = given_there c.store.ensures c.requires
 
-pub returns-in-Un : goal.returns-in-Un
-returns-in-Un c = un_told c.store.ensures Un c.in-Un.ensures
-
-pub returns-in-Unit : goal.returns-in-Unit
-returns-in-Unit c = un_told c.store.ensures NoParts c.in-Unit.ensures
-
-pub returns-in-Pair : goal.returns-in-Pair
-returns-in-Pair c = un_told c.store.ensures (Pair _ _) c.in-Pair.ensures
-
-pub returns-in-Sum : goal.returns-in-Sum
-returns-in-Sum c = un_told c.store.ensures (Sum _ _) c.in-Sum.ensures
-
-pub returns-in-Key : goal.returns-in-Key
-returns-in-Key c = un_told c.store.ensures (Key _) c.in-Key.ensures
-
-pub returns-in-Nonce : goal.returns-in-Nonce
-returns-in-Nonce c = un_told c.store.ensures (Nonce _) c.in-Nonce.ensures
+pub returns : goal.returns
+returns c u m = c.is_un_type.ensures u (means_there c.store.ensures m)

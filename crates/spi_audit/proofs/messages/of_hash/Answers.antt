@@ -1,5 +1,5 @@
 use Rattle.spi_audit.proofs.MessageParts.{hash_other}
-use Rattle.spi_audit.proofs.Standing.{kept_same}
+use Rattle.spi_message.proofs.Tested.{kept_same}
 use Rattle.spi_audit.proofs.messages.of_hash.Goals as goal
 
 pub returns-in_default : goal.returns-in_default

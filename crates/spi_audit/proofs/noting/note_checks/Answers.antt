@@ -1,6 +1,6 @@
 use Rattle.spi_term.specs.View.{message}
-use Rattle.spi_audit.proofs.Standing.{kept_same}
-use Rattle.spi_audit.proofs.Kept.{grows_same}
+use Rattle.spi_message.proofs.Tested.{kept_same}
+use Rattle.spi_count.proofs.Kept.{grows_same}
 use Rattle.spi_audit.proofs.NoteChanges.{same_noted}
 use Rattle.spi_audit.proofs.noting.note_checks.Goals as goal
 

@@ -2,8 +2,8 @@ use Rattle.std.proofs.Common.{map, take, subst}
 use Rattle.spi_term.specs.Term.{Effect}
 use Rattle.spi_term.specs.View.{atom}
 use Rattle.spi_intern.proofs.Meanings.{map_more}
-use Rattle.spi_audit.proofs.Standing.{kept_same, kept_more}
-use Rattle.spi_audit.proofs.Kept.{grows_same, grows_more}
+use Rattle.spi_message.proofs.Tested.{kept_same, kept_more}
+use Rattle.spi_count.proofs.Kept.{grows_same, grows_more}
 use Rattle.spi_audit.proofs.MessageTaken.{AreTaken, none_taken, more_taken, not_taken}
 use Rattle.spi_audit.proofs.noting.take_effect.Goals as goal
 

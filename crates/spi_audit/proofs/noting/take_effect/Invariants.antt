@@ -1,7 +1,7 @@
 use Rattle.std.proofs.Common.{map, take}
 use Rattle.spi_term.specs.View.{atom}
 use Rattle.spi_message.specs.Judging.{IsKept}
-use Rattle.spi_audit.specs.Notes.{GrowsTo}
+use Rattle.spi_count.specs.Keeping.{GrowsTo}
 use Rattle.spi_audit.proofs.MessageTaken.{AreTaken}
 use Rattle.spi_audit.proofs.noting.take_effect.Given as goal
 

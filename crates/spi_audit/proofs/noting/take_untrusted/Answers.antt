@@ -1,7 +1,7 @@
 use Rattle.spi_term.specs.Term.{un}
 use Rattle.spi_term.specs.View.{message}
 use Rattle.spi_intern.proofs.Meanings.{means_keeps}
-use Rattle.spi_audit.proofs.Standing.{kept_more}
+use Rattle.spi_message.proofs.Tested.{kept_more}
 use Rattle.spi_audit.proofs.MessageTaken.{is_untrusted, is_not_untrusted, key_taken}
 use Rattle.spi_audit.proofs.noting.take_untrusted.Goals as goal
 

@@ -3,7 +3,8 @@ use Rattle.spi_term.specs.Spelling.{spelled}
 use Rattle.spi_rules.specs.Environment.{untrusted}
 use Rattle.spi_rules.specs.Deriv.{rule_uses}
 use Rattle.spi_audit.specs.Fits.{of_process}
-use Rattle.spi_audit.specs.Notes.{AreKept, AreSmallNotes}
+use Rattle.spi_count.specs.Keeping.{AreKept}
+use Rattle.spi_audit.specs.Notes.{AreSmallNotes}
 use Rattle.spi_audit.specs.Walking.{IsLed}
 use Rattle.spi_audit.proofs.walking.walk_uses.Given as goal
 

@@ -27,4 +27,4 @@ returns-clause-ok c =
     stopped_at c.args.bytes.now c.args.file.now c.args.opponent.now (map step c.args.steps.now) c.in_ok-pool.pool c.in-Err.refused.index c.in-Err.refused.fault c.stopped.result c.requires.read c.requires.opponent c.requires.schedule c.requires.is start c.in-Err.ensures.err c.stopped.ensures.ok
 
 pub returns-clause-answered : goal.returns-clause-answered
-returns-clause-answered c = stopped_answers c.in-Err.refused.fault c.args.bytes.now _ _ _ c.stopped.result c.stopped.ensures.ok
+returns-clause-answered c = stopped_answers c.in-Err.refused.fault _ c.stopped.result c.stopped.ensures.ok

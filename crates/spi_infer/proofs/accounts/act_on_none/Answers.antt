@@ -1,5 +1,5 @@
 use Rattle.std.proofs.Common.{Some, []}
-use Rattle.spi_infer.specs.Own.{with_keys}
+use Rattle.spi_count.specs.Keeping.{with_keys}
 use Rattle.spi_infer.specs.Forms.{keep}
 use Rattle.spi_infer.proofs.Accounted.{tops_push, nothing_stands}
 use Rattle.spi_infer.proofs.accounts.act_on_none.Goals as goal

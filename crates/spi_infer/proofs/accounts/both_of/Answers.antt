@@ -1,6 +1,7 @@
 use Rattle.std.proofs.Common.{◌∙◌, subst}
 use Rattle.spi_term.specs.View.{shape_of}
-use Rattle.spi_infer.specs.Own.{with_keys, StandsFor}
+use Rattle.spi_count.specs.Keeping.{with_keys}
+use Rattle.spi_infer.specs.Own.{StandsFor}
 use Rattle.spi_infer.proofs.Accounted.{none_told, two_stuck}
 use Rattle.spi_infer.proofs.accounts.both_of.Goals as goal
 

@@ -1,4 +1,5 @@
-use Rattle.spi_infer.proofs.Asked.{and_then, env_kept}
+use Rattle.spi_infer.proofs.Asked.{and_then}
+use Rattle.spi_message.proofs.Tested.{env_kept}
 use Rattle.spi_infer.proofs.asking.is_check_ok.Goals as goal
 
 pub is_nonce_or_untrusted-requires : goal.is_nonce_or_untrusted-requires

@@ -3,7 +3,7 @@ use Rattle.spi_term.specs.Substitution.{ty_put}
 use Rattle.spi_term.specs.View.{message, ty}
 use Rattle.spi_intern.proofs.Lists.{get_below}
 use Rattle.spi_intern.proofs.Meanings.{means_keeps}
-use Rattle.spi_infer.proofs.Asked.{kept_more}
+use Rattle.spi_message.proofs.Tested.{kept_more}
 use Rattle.spi_infer.proofs.Bound.{turns_bind, above_kept, above_more, above_bind}
 use Rattle.spi_infer.proofs.binding.bind_opened.Goals as goal
 

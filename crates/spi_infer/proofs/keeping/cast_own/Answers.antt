@@ -1,6 +1,6 @@
 use Rattle.std.proofs.Common.{refl}
 use Rattle.spi_intern.proofs.Meanings.{means_keeps}
-use Rattle.spi_infer.proofs.Kept.{kept_as, grows_store, grows_more}
+use Rattle.spi_count.proofs.Kept.{kept_as, grows_store, grows_more}
 use Rattle.spi_infer.proofs.keeping.cast_own.Goals as goal
 
 pub keep_cast-requires : goal.keep_cast-requires

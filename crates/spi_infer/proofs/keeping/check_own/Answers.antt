@@ -1,7 +1,7 @@
 use Rattle.std.proofs.Common.{refl}
 use Rattle.spi_term.specs.View.{message}
 use Rattle.spi_intern.proofs.Meanings.{means_keeps}
-use Rattle.spi_infer.specs.Walking.{IsNonceAt, IsNoNonce}
+use Rattle.spi_message.specs.Tested.{IsNonceAt, IsNoNonce}
 use Rattle.spi_infer.proofs.Kept.{paid_fits}
 use Rattle.spi_infer.proofs.keeping.check_own.Goals as goal
 

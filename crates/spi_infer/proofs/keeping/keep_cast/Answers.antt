@@ -1,6 +1,6 @@
 use Rattle.std.proofs.Common.{ap}
 use Rattle.spi_term.specs.View.{ty}
-use Rattle.spi_infer.specs.Forms.{cast_effect_of}
+use Rattle.spi_message.specs.Forms.{cast_effect_of}
 use Rattle.spi_infer.proofs.Kept.{none_as}
 use Rattle.spi_infer.proofs.keeping.keep_cast.Goals as goal
 

@@ -1,5 +1,5 @@
 use Rattle.std.proofs.Common.{refl}
-use Rattle.spi_infer.proofs.Kept.{grows_store}
+use Rattle.spi_count.proofs.Kept.{grows_store}
 use Rattle.spi_infer.proofs.keeping.new_own.Goals as goal
 
 pub returns-clause-fits : goal.returns-clause-fits

@@ -1,5 +1,5 @@
-use Rattle.spi_infer.proofs.Asked.{env_kept, stands_kept}
-use Rattle.spi_infer.proofs.Kept.{kept_as, grows_store, grows_more}
+use Rattle.spi_message.proofs.Tested.{env_kept, stands_kept}
+use Rattle.spi_count.proofs.Kept.{kept_as, grows_store, grows_more}
 use Rattle.spi_infer.proofs.keeping.own_note.Goals as goal
 
 pub own_of-requires-clause-keys : goal.own_of-requires-clause-keys

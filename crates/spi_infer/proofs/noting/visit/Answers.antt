@@ -2,10 +2,11 @@ use Rattle.std.proofs.Common.{length, ap, arith}
 use Rattle.spi_term.specs.View.{shape_of}
 use Rattle.spi_intern.proofs.Meanings.{terms_more}
 use Rattle.spi_infer.specs.Passes.{settled, left_waiting, note_of}
-use Rattle.spi_infer.proofs.Asked.{stands_kept}
+use Rattle.spi_message.proofs.Tested.{stands_kept}
 use Rattle.spi_infer.proofs.Queues.{waiting_keeps}
 use Rattle.spi_infer.proofs.Bound.{above_more, above_kept}
-use Rattle.spi_infer.proofs.Kept.{kept_as, grows_store, grows_more, noted_keeps}
+use Rattle.spi_count.proofs.Kept.{kept_as, grows_store, grows_more}
+use Rattle.spi_infer.proofs.Kept.{noted_keeps}
 use Rattle.spi_infer.proofs.noting.visit.Goals as goal
 
 pub own_note-requires-clause-keys : goal.own_note-requires-clause-keys

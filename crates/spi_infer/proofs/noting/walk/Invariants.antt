@@ -2,7 +2,8 @@ use Rattle.std.proofs.Common.{◌≡◌, ◌+◌}
 use Rattle.spi_term.specs.Spelling.{spelled}
 use Rattle.spi_rules.specs.Environment.{Env}
 use Rattle.spi_message.specs.Judging.{Stands}
-use Rattle.spi_infer.specs.Walking.{AreKept, IsAbove, Walked}
+use Rattle.spi_count.specs.Keeping.{AreKept}
+use Rattle.spi_infer.specs.Walking.{IsAbove, Walked}
 use Rattle.spi_infer.proofs.noting.walk.Given as goal
 
 abbrev pub invariant-loop-id : goal.invariant-loop-id

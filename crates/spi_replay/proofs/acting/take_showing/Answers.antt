@@ -3,7 +3,7 @@ use Rattle.spi_replay.proofs.acting.take_showing.Goals as goal
 use Rattle.spi_intern.proofs.Lists.{get_below}
 use Rattle.spi_replay.specs.Moves.{event_of}
 use Rattle.spi_replay.proofs.Does.{acts_showing}
-use Rattle.spi_replay.proofs.Sized.{at_message}
+use Rattle.spi_intern.proofs.Sized.{at_message}
 use Rattle.spi_replay.proofs.Takings.{taken_alone, leads_event}
 
 pub message_of-requires : goal.message_of-requires

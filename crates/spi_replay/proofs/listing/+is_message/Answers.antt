@@ -5,7 +5,7 @@ use Rattle.spi_intern.specs.Messages.{message_at}
 use Rattle.spi_intern.specs.declared.messages.MsgPart.TheVariants.{Bound, Name, Unit as NoParts}
 use Rattle.spi_intern.proofs.MessageLaws.{part_eq}
 use Rattle.spi_replay.proofs.Same.{two_same, one_same, pair_one, enc_one, left_one, right_one, hash_one, no_pair, no_enc, no_left, no_right, no_hash, bound_same, name_same, unit_same}
-use Rattle.spi_replay.proofs.Sized.{pair_of, enc_of, left_of, right_of, hash_of}
+use Rattle.spi_intern.proofs.Sized.{pair_of, enc_of, left_of, right_of, hash_of}
 use Rattle.spi_replay.proofs.listing.+is_message.Goals as goal
 
 pub is_message-requires : goal.is_message-requires

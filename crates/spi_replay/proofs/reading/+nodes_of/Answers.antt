@@ -1,7 +1,7 @@
 use Rattle.std.proofs.Common.{ap, arith}
 use Rattle.spi_term.specs.Term.{message_size}
 use Rattle.spi_term.specs.Spelling.{stopped}
-use Rattle.spi_replay.proofs.Sized.{pair_of, enc_of, left_of, right_of, hash_of, bound_of, name_of, unit_of}
+use Rattle.spi_intern.proofs.Sized.{pair_of, enc_of, left_of, right_of, hash_of, bound_of, name_of, unit_of}
 use Rattle.spi_replay.proofs.reading.+nodes_of.Goals as goal
 
 pub nodes_of-requires : goal.nodes_of-requires

@@ -1,0 +1,48 @@
+-- The lines of refusals, in a table of answers.
+use Rattle.std.proofs.Common.{◌≡◌, ℕ, ◌<◌, List, Option, Result, Ok, Err, IfOk, sym, subst, inl}
+use Rattle.spi_report.specs.declared.refusal.Refusal.{Refusal}
+use Rattle.spi_report.specs.Refused.{refused_text}
+use Rattle.spi_commands.specs.declared.answer.Answer.{Answer}
+use Rattle.spi_commands.specs.declared.status.Status.{Status}
+use Rattle.spi_commands.specs.declared.status.Status.TheVariants.{Refused}
+use Rattle.spi_commands.specs.Spelled.{limit}
+use Rattle.spi_commands.specs.Answers.{Answers}
+use Rattle.spi_commands.specs.Refusals.{layered, IsLineOf, IsCause, IsTooMuch, too_much, Refuses, IsRefusal}
+
+-- the causes of a line are these too
+pub line_map : (bytes output : List ℕ) (causes wanted : ℕ → Option ℕ → List ℕ → Type 0) → ((n : ℕ) (o : Option ℕ) (s : List ℕ) → causes n o s → wanted n o s) → IsLineOf bytes causes output → IsLineOf bytes wanted output
+line_map bytes output causes wanted f (r, h, e) = (r, f r.number r.offset r.shown.items h, e)
+
+-- the line of one cause
+pub one_line : (bytes shown output : List ℕ) (number : ℕ) (offset : Option ℕ) (r : Refusal) (causes : ℕ → Option ℕ → List ℕ → Type 0) → causes number offset shown → r.number ≡ number → r.offset ≡ offset → r.shown.items ≡ shown → output ≡ refused_text bytes r → IsLineOf bytes causes output
+one_line bytes shown output number offset r causes h n o s e = (r, rw (n, o, s) h, e)
+
+pub line_if : {E : Type 0} (bytes shown : List ℕ) (number : ℕ) (offset : Option ℕ) (r : Refusal) (causes : ℕ → Option ℕ → List ℕ → Type 0) (result : Result Answer E) → causes number offset shown → r.number ≡ number → r.offset ≡ offset → r.shown.items ≡ shown
+    → IfOk result (λ a. (a.status ≡ Refused) × (a.output.items ≡ refused_text bytes r)) → IfOk result (λ a. (a.status ≡ Refused) × IsLineOf bytes causes a.output.items)
+line_if bytes shown number offset r causes (Ok a) h n o s is = (is.0, one_line bytes shown a.output.items number offset r causes h n o s is.1)
+line_if bytes shown number offset r causes (Err e) h n o s is = tt
+
+-- the one cause is one of these
+pub cause_is : {E : Type 0} (bytes shown : List ℕ) (number : ℕ) (offset : Option ℕ) (causes : ℕ → Option ℕ → List ℕ → Type 0) (result : Result Answer E) → causes number offset shown
+    → IfOk result (λ a. (a.status ≡ Refused) × IsLineOf bytes (IsCause number offset shown) a.output.items) → IfOk result (λ a. (a.status ≡ Refused) × IsLineOf bytes causes a.output.items)
+cause_is bytes shown number offset causes (Ok a) h (e, (r, (n, o, s), line)) = (e, one_line bytes shown a.output.items number offset r causes h n o s line)
+cause_is bytes shown number offset causes (Err e) h is = tt
+
+-- a refusal is the answer of a table that has its causes
+pub refuses_by : {E : Type 0} (bytes : List ℕ) (causes wanted : ℕ → Option ℕ → List ℕ → Type 0) (accepted denied : List ℕ → Type 0) (result : Result Answer E) → ((n : ℕ) (o : Option ℕ) (s : List ℕ) → causes n o s → wanted n o s)
+    → IfOk result (λ a. (a.status ≡ Refused) × IsLineOf bytes causes a.output.items) → IfOk result (λ a. Answers accepted denied (IsLineOf bytes wanted) a.status a.output.items)
+refuses_by bytes causes wanted accepted denied (Ok a) f (e, line) =
+    subst (λ (s : Status). Answers accepted denied (IsLineOf bytes wanted) s a.output.items) (sym e) (line_map bytes a.output.items causes wanted f line)
+refuses_by bytes causes wanted accepted denied (Err e) f h = tt
+
+-- and so is one that comes before the others
+pub refused_first : (accepted denied : List ℕ → Type 0) (bytes output : List ℕ) (later : ℕ → Option ℕ → List ℕ → Type 0) (status : Status) → status ≡ Refused → IsRefusal bytes output → Answers accepted denied (IsLineOf bytes (layered (Refuses bytes) later)) status output
+refused_first accepted denied bytes output later status e (r, h, line) =
+    subst (λ (s : Status). Answers accepted denied (IsLineOf bytes (layered (Refuses bytes) later)) s output) (sym e) (r, inl h, line)
+
+-- a text that is too long, where its length is counted so
+pub much : (count most : ℕ) (number : ℕ) (offset : Option ℕ) (shown : List ℕ) → count ≡ most → IsTooMuch count number offset shown → IsTooMuch most number offset shown
+much count most number offset shown e h = subst (λ n. IsTooMuch n number offset shown) e h
+
+pub more_than : {count number : ℕ} {offset : Option ℕ} {shown : List ℕ} → IsTooMuch count number offset shown → limit < count
+more_than (too_much l) = l

@@ -1,9 +1,0 @@
-use Rattle.std.proofs.Common.{refl}
-use Rattle.spi_commands.proofs.Judging.{stands_within}
-use Rattle.spi_commands.proofs.check.fault_line.Goals as goal
-
-pub no_fault-requires : goal.no_fault-requires
-no_fault-requires c = rw c.in_ok-lines.ensures (stands_within c.args.bytes.now c.args.file.now c.args.fault.now.node c.requires.read)
-
-pub returns-clause-ok : goal.returns-clause-ok
-returns-clause-ok c = (refl, rw c.in_ok-lines.ensures at c.in_ok-output.ensures)

@@ -1,0 +1,109 @@
+-- What bytes are refused for, by layers. A layer says which causes it has: the number of each, the offset at which it
+-- stands, and what it shows. A cause of a layer presupposes that the layers before it have none.
+use Rattle.std.specs.Prelude.{◌≡◌, ◌⊎◌, ℕ, ◌+◌, ◌<◌, ◌≤◌, List, [], ◌∷◌, length, drop, Ok, Err, Some, None}
+use Rattle.std.specs.Fmt.{decimal}
+use Rattle.std.specs.declared.option.Option.{Option}
+use Rattle.spi_lex.specs.declared.token.Token.{Token}
+use Rattle.spi_lex.specs.declared.fault.LexFault.TheVariants.{NotUtf8, BadChar, BadNumber, NameTooLong}
+use Rattle.spi_lex.specs.Lexing.{Lexes, kinds_of}
+use Rattle.spi_tree.specs.Trees.{File}
+use Rattle.spi_tree.specs.Pieces.{Piece}
+use Rattle.spi_parse.specs.Formed.{IsFile, whole_file}
+use Rattle.spi_parse.specs.Exact.{IsSyntaxAt, IsDeepAt}
+use Rattle.spi_scope.specs.declared.fault.ScopeFault.{ScopeFault}
+use Rattle.spi_scope.specs.declared.fault.ScopeFault.TheVariants.{UnknownName, UnknownType, NameTwice, TypeTwice, MessageTooLarge, TypeTooLarge, FileTooLarge, ScheduleTooLong, NoMemory as OutOfMemory}
+use Rattle.spi_scope.specs.First.{HasFirst}
+use Rattle.spi_scope.specs.FaultPlaces.{span_from}
+use Rattle.spi_report.specs.declared.refusal.Refusal.{Refusal}
+use Rattle.spi_report.specs.Refused.{refused_text}
+use Rattle.spi_commands.specs.Spelled.{limit, IsTreeOf}
+
+-- the causes of a layer, and behind them those of further layers
+abbrev pub layered : (ℕ → Option ℕ → List ℕ → Type 0) → (ℕ → Option ℕ → List ℕ → Type 0) → ℕ → Option ℕ → List ℕ → Type 0
+layered first later number offset shown = first number offset shown ⊎ later number offset shown
+
+-- the text is the line of one of these causes
+abbrev pub IsLineOf : List ℕ → (ℕ → Option ℕ → List ℕ → Type 0) → List ℕ → Type 0
+IsLineOf bytes causes output = (r : Refusal) × causes r.number r.offset r.shown.items × (output ≡ refused_text bytes r)
+
+-- the one cause that has this number, stands there and shows this
+abbrev pub IsCause : ℕ → Option ℕ → List ℕ → ℕ → Option ℕ → List ℕ → Type 0
+IsCause number offset shown n o s = (n ≡ number) × (o ≡ offset) × (s ≡ shown)
+
+-- ---- text
+
+-- the bytes are too many, or have no tokens
+pub data IsUnlexed (bytes : List ℕ) : ℕ → Option ℕ → List ℕ → Type 0 where
+  too_long : limit < length bytes → IsUnlexed bytes 2 None (decimal (limit + 1))
+  not_utf8 : {at : ℕ} → length bytes ≤ limit → Lexes bytes (Err (NotUtf8 at)) → IsUnlexed bytes 10 (Some at) []
+  bad_char : {at : ℕ} → length bytes ≤ limit → Lexes bytes (Err (BadChar at)) → IsUnlexed bytes 11 (Some at) []
+  bad_number : {at : ℕ} → length bytes ≤ limit → Lexes bytes (Err (BadNumber at)) → IsUnlexed bytes 12 (Some at) []
+  name_too_long : {at : ℕ} → length bytes ≤ limit → Lexes bytes (Err (NameTooLong at)) → IsUnlexed bytes 13 (Some at) []
+
+-- ---- syntax
+
+-- where a token begins, and at the end of the tokens the end of the bytes
+abbrev pub start_of : List ℕ → List Token → ℕ
+start_of bytes [] = length bytes
+start_of bytes (token ∷ rest) = token.span.from
+
+-- the tokens are those of no formed text of this kind, whose texts have these pieces
+pub data IsUnparsed {X : Type 0} (pieces : X → List Piece) (IsFormed : X → Type 0) (bytes : List ℕ) : ℕ → Option ℕ → List ℕ → Type 0 where
+  syntax : {tokens : List Token} {i : ℕ} → length bytes ≤ limit → Lexes bytes (Ok tokens)
+      → IsSyntaxAt pieces IsFormed (kinds_of tokens) i → IsUnparsed pieces IsFormed bytes 20 (Some (start_of bytes (drop i tokens))) []
+  too_deep : {tokens : List Token} {i : ℕ} → length bytes ≤ limit → Lexes bytes (Ok tokens)
+      → IsDeepAt pieces IsFormed (kinds_of tokens) i → IsUnparsed pieces IsFormed bytes 21 (Some (start_of bytes (drop i tokens))) []
+
+-- ---- scopes
+
+-- the number of a fault of scopes, and what it shows
+abbrev pub scope_number : ScopeFault → ℕ
+scope_number (UnknownName s w) = 30
+scope_number (UnknownType s w) = 31
+scope_number (NameTwice s w) = 32
+scope_number (TypeTwice s w) = 33
+scope_number (MessageTooLarge s n) = 34
+scope_number (TypeTooLarge s n) = 35
+scope_number (FileTooLarge s n) = 36
+scope_number (ScheduleTooLong s n) = 37
+scope_number OutOfMemory = 0
+
+abbrev pub scope_shown : ScopeFault → List ℕ
+scope_shown (UnknownName s w) = w
+scope_shown (UnknownType s w) = w
+scope_shown (NameTwice s w) = w
+scope_shown (TypeTwice s w) = w
+scope_shown (MessageTooLarge s n) = decimal n
+scope_shown (TypeTooLarge s n) = decimal n
+scope_shown (FileTooLarge s n) = decimal n
+scope_shown (ScheduleTooLong s n) = decimal n
+scope_shown OutOfMemory = []
+
+-- the tree stands for no file
+pub data IsUnscoped (tree : File) : ℕ → Option ℕ → List ℕ → Type 0 where
+  out_of_scope : {fault : ScopeFault} → HasFirst tree fault
+      → IsUnscoped tree (scope_number fault) (Some (span_from fault)) (scope_shown fault)
+
+-- ---- files
+
+-- the tree that the bytes spell stands for none
+abbrev pub HasUnscoped : List ℕ → ℕ → Option ℕ → List ℕ → Type 0
+HasUnscoped bytes number offset shown = (tree : File) × IsTreeOf bytes tree × IsUnscoped tree number offset shown
+
+-- the bytes spell no file
+abbrev pub Refuses : List ℕ → ℕ → Option ℕ → List ℕ → Type 0
+Refuses bytes = layered (IsUnlexed bytes) (layered (IsUnparsed whole_file IsFile bytes) (HasUnscoped bytes))
+
+-- the text is the line of that
+abbrev pub IsRefusal : List ℕ → List ℕ → Type 0
+IsRefusal bytes = IsLineOf bytes (Refuses bytes)
+
+-- ---- parts, and texts that are made
+
+-- a file lacks this part
+pub data IsMissing (part : List ℕ) : ℕ → Option ℕ → List ℕ → Type 0 where
+  missing : IsMissing part 38 None part
+
+-- a text would have so many bytes, which are more than a file may have
+pub data IsTooMuch (count : ℕ) : ℕ → Option ℕ → List ℕ → Type 0 where
+  too_much : limit < count → IsTooMuch count 80 None (decimal count)

@@ -1,0 +1,42 @@
+// The no of a file's process.
+ghost use Rattle.std.specs.Prelude.{◌≡◌, ◌≤◌, length, reverse, IfOk, OnErr, Err};
+ghost use Rattle.spi_scope.specs.Chains.{chain_at};
+ghost use Rattle.spi_scope.specs.Places.{place_in};
+ghost use Rattle.spi_fault.specs.Faults.{IsFault, told};
+ghost use Rattle.spi_report.specs.Fault.{fault_text};
+ghost use Rattle.spi_commands.specs.NoLine.{IsNo};
+ghost use Rattle.spi_commands.specs.Reading.{IsRead};
+
+use crate::answer::{Answer, Stop};
+use crate::status::Status;
+use spi_fault::Fault;
+use spi_report::no_fault;
+use spi_scope::File;
+use spi_text::Lines;
+use std::alloc::Global;
+
+/// The no of a file's process, which has this fault.
+pub fn rejected(alloc: Global, bytes: &[u8], file: &File, fault: &Fault) -> Result<Answer, Stop>
+    requires sized { length bytes.now ≤ 16_777_216 }
+    requires read { IsRead bytes.now file.now }
+    requires fault { IsFault (λ i. reverse (chain_at file.now.marks.scopes i)) file.now.process.names file.now.process.process (told fault.now) }
+    ensures ok { IfOk result (λ answer. (answer.status ≡ Status.No) × IsNo bytes.now answer.output.items) }
+    ensures err { OnErr result (result ≡ Err Stop.NoMemory) }
+{
+    fault_line(alloc, bytes, file, fault)
+}
+
+/// The line of a fault.
+pub fn fault_line(alloc: Global, bytes: &[u8], file: &File, fault: &Fault) -> Result<Answer, Stop>
+    requires sized { length bytes.now ≤ 16_777_216 }
+    requires read { IsRead bytes.now file.now }
+    ensures ok { IfOk result (λ answer. (answer.status ≡ Status.No) × (answer.output.items ≡ fault_text bytes.now (λ i. place_in file.now.marks.process.items i) (λ i. reverse (chain_at file.now.marks.scopes i)) (told fault.now))) }
+    ensures err { OnErr result (result ≡ Err Stop.NoMemory) }
+{
+    let lines = Lines::of(alloc, bytes)?;
+    let output = no_fault(alloc, file, &lines, fault)?;
+    Ok(Answer {
+        status: Status::No,
+        output,
+    })
+}

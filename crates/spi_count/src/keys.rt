@@ -1,0 +1,83 @@
+// The keys of messages, by their numbers in a store.
+ghost use Rattle.std.specs.Prelude.{◌≡◌, ◌+◌, ◌<◌, ℕ, eqb, if◌then◌else◌, Some, None, OnOk, nat_eq};
+ghost use Rattle.spi_term.specs.View.{message};
+ghost use Rattle.indexmap.specs.IndexMap.{get};
+ghost use Rattle.spi_count.specs.Sums.{name_bound, key_of};
+ghost use Rattle.spi_count.specs.Keys.{place_in};
+
+use indexmap::IndexMap;
+use spi_intern::MsgId;
+use spi_term::Msg;
+use std::alloc::{AllocError, Global};
+
+/// The keys of messages that may stand in effects, by their numbers.
+pub struct Keys {
+    keys: IndexMap<usize, u64>,
+    ids: IndexMap<usize, MsgId>,
+    ghost held: { (i k : ℕ) → get nat_eq keys i ≡ Some k → place_in (get nat_eq ids i) ≡ Some i },
+}
+
+impl Drop for Keys {
+    fn drop(self) {
+        let Keys { keys: _, ids: _ } = self;
+    }
+}
+
+// The least number above the names of a message.
+fn bound_of(m: &Msg) -> u64
+    ensures { result ≡ name_bound (message m.now) }
+{
+    match m {
+        Msg::Bound(_) => 0,
+        Msg::Name(x) => *x as u64 + 1,
+        Msg::Unit => 0,
+        Msg::Pair(a, b) => bound_of(a).max(bound_of(b)),
+        Msg::Inl(a) => bound_of(a),
+        Msg::Inr(a) => bound_of(a),
+        Msg::Enc(a, b) => bound_of(a).max(bound_of(b)),
+        Msg::Hash(a) => bound_of(a),
+    }
+}
+
+impl Keys {
+    /// No keys.
+    pub fn new(alloc: Global) -> Keys
+        ensures { (i : ℕ) → get nat_eq result.keys i ≡ None }
+    {
+        Keys {
+            keys: IndexMap::new(alloc),
+            ids: IndexMap::new(alloc),
+        }
+    }
+
+    /// The key of the message with this number, where it has one.
+    pub fn key(&self, id: MsgId) -> Option<u64>
+        ensures { result ≡ get nat_eq self.now.keys id.place }
+    {
+        self.keys.get(&id.place()).copied()
+    }
+
+    /// The number in this place, where its message has a key.
+    pub fn id(&self, place: usize) -> Option<MsgId>
+        ensures { (k : ℕ) → get nat_eq self.now.keys place ≡ Some k → place_in result ≡ Some place }
+    {
+        self.ids.get(&place).copied()
+    }
+
+    /// Keeps the key of a message. There is no room for 2 ^ 32 messages: a store with so many takes more than 100 GB, so
+    /// that memory has run out before. An error is want of memory.
+    pub fn keep(&mut self, id: MsgId, m: &Msg) -> Result<(), AllocError>
+        ensures kept { OnOk result ((i : ℕ) → get nat_eq self.new.keys i ≡ (if eqb id.place i then Some (key_of (name_bound (message m.now)) id.place) else get nat_eq self.old.keys i)) }
+        ensures small { OnOk result (id.place < 4294967296) }
+    {
+        let above = bound_of(m);
+        let place = id.place();
+        if place >= 4_294_967_296 || above >= 4_294_967_296 {
+            return Err(AllocError);
+        }
+        self.ids.insert(place, id)?;
+        self.keys
+            .insert(place, above * 4_294_967_296 + place as u64)?;
+        Ok(())
+    }
+}

@@ -1,0 +1,5 @@
+pub mod Leading
+pub mod Waits
+pub mod Finding
+pub mod Needs
+pub mod Lines

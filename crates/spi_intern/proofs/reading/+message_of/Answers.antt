@@ -1,0 +1,69 @@
+use Rattle.std.proofs.Common.{◌≡◌, ap, arith, subst, ◌∙◌, Result, Ok, IfOk}
+use Rattle.spi_term.specs.Term as Term
+use Rattle.spi_term.specs.View.{message}
+use Rattle.spi_intern.proofs.Sized.{pair_of, enc_of, left_of, right_of, hash_of, bound_of, name_of, unit_of}
+use Rattle.spi_term.specs.declared.term.Msg.{Msg}
+use Rattle.spi_intern.proofs.reading.+message_of.Goals as goal
+
+-- what is said of an answer holds of its message
+ok_message : {E : Type 0} {r : Result Msg E} {m : Msg} {n : Term.Message} → r ≡ Ok m → IfOk r (λ (k : Msg). message k ≡ n) → message m ≡ n
+ok_message {n = n} e h = subst (λ r. IfOk r (λ (k : Msg). message k ≡ n)) e h
+
+pub message_of-requires : goal.message_of-requires
+message_of-requires t c = let w = pair_of c.args.store.now.messages c.args.id c.in-Pair.ensures c.requires in (omega (arith, w.size, c.decreases), w.first)
+
+pub message_of-requires-in-Pair : goal.message_of-requires-in-Pair
+message_of-requires-in-Pair t c = let w = pair_of c.args.store.now.messages c.args.id c.in-Pair.ensures c.requires in (omega (arith, w.size, c.decreases), w.second)
+
+pub message_of-requires-in-Enc : goal.message_of-requires-in-Enc
+message_of-requires-in-Enc t c = let w = enc_of c.args.store.now.messages c.args.id c.in-Enc.ensures c.requires in (omega (arith, w.size, c.decreases), w.first)
+
+pub message_of-requires-in-Enc-2 : goal.message_of-requires-in-Enc-2
+message_of-requires-in-Enc-2 t c = let w = enc_of c.args.store.now.messages c.args.id c.in-Enc.ensures c.requires in (omega (arith, w.size, c.decreases), w.second)
+
+pub message_of-requires-in-Inl : goal.message_of-requires-in-Inl
+message_of-requires-in-Inl t c = let w = left_of c.args.store.now.messages c.args.id c.in-Inl.ensures c.requires in (omega (arith, w.size, c.decreases), w.part)
+
+pub message_of-requires-in-Inr : goal.message_of-requires-in-Inr
+message_of-requires-in-Inr t c = let w = right_of c.args.store.now.messages c.args.id c.in-Inr.ensures c.requires in (omega (arith, w.size, c.decreases), w.part)
+
+pub message_of-requires-in-Hash : goal.message_of-requires-in-Hash
+message_of-requires-in-Hash t c = let w = hash_of c.args.store.now.messages c.args.id c.in-Hash.ensures c.requires in (omega (arith, w.size, c.decreases), w.part)
+
+pub returns-in-Bound : goal.returns-in-Bound
+returns-in-Bound t c = bound_of c.args.store.now.messages c.args.id c.in-Bound.ensures c.requires
+
+pub returns-in-Name : goal.returns-in-Name
+returns-in-Name t c = name_of c.args.store.now.messages c.args.id c.in-Name.ensures c.requires
+
+pub returns-in-Unit : goal.returns-in-Unit
+returns-in-Unit t c = unit_of c.args.store.now.messages c.args.id c.in-Unit.ensures c.requires
+
+pub returns-in_ok-second-in-Pair : goal.returns-in_ok-second-in-Pair
+returns-in_ok-second-in-Pair t c =
+    let w = pair_of c.args.store.now.messages c.args.id c.in-Pair.ensures c.requires in
+    let x = ok_message c.in_ok-first-in-Pair.ensures c.message_of.ensures in
+    let y = ok_message c.in_ok-second-in-Pair.ensures c.message_of-in-Pair.ensures in
+    (λ i. Term.pair (x i) (y i)) ∙ w.is
+
+pub returns-in_ok-key-in-Enc : goal.returns-in_ok-key-in-Enc
+returns-in_ok-key-in-Enc t c =
+    let w = enc_of c.args.store.now.messages c.args.id c.in-Enc.ensures c.requires in
+    let x = ok_message c.in_ok-body-in-Enc.ensures c.message_of-in-Enc.ensures in
+    let y = ok_message c.in_ok-key-in-Enc.ensures c.message_of-in-Enc-2.ensures in
+    (λ i. Term.enc (x i) (y i)) ∙ w.is
+
+pub returns-in_ok-part-in-Inl : goal.returns-in_ok-part-in-Inl
+returns-in_ok-part-in-Inl t c =
+    let w = left_of c.args.store.now.messages c.args.id c.in-Inl.ensures c.requires in
+    ap Term.in_left (ok_message c.in_ok-part-in-Inl.ensures c.message_of-in-Inl.ensures) ∙ w.is
+
+pub returns-in_ok-part-in-Inr : goal.returns-in_ok-part-in-Inr
+returns-in_ok-part-in-Inr t c =
+    let w = right_of c.args.store.now.messages c.args.id c.in-Inr.ensures c.requires in
+    ap Term.in_right (ok_message c.in_ok-part-in-Inr.ensures c.message_of-in-Inr.ensures) ∙ w.is
+
+pub returns-in_ok-part-in-Hash : goal.returns-in_ok-part-in-Hash
+returns-in_ok-part-in-Hash t c =
+    let w = hash_of c.args.store.now.messages c.args.id c.in-Hash.ensures c.requires in
+    ap Term.hash (ok_message c.in_ok-part-in-Hash.ensures c.message_of-in-Hash.ensures) ∙ w.is

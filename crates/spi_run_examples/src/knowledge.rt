@@ -1,0 +1,123 @@
+// Knowledge by example.
+
+ghost use Rattle.std.specs.Prelude.{◌≡◌, ◌+◌, ◌-◌, ◌^◌, ◌<◌, IfOk, map};
+ghost use Rattle.spi_term.specs.Term.{message_size};
+ghost use Rattle.spi_term.specs.View.{message};
+ghost use Rattle.spi_know.specs.Numbered.{nodes_in};
+
+use crate::processes::{NoMemory, shows};
+use spi_know::{Knowledge, check_cert, decide};
+use spi_term::Msg;
+use std::alloc::{AllocError, Global};
+
+fn pair(alloc: Global, a: Msg, b: Msg) -> Result<Msg, NoMemory>
+    ensures { IfOk result (λ m. message_size (message m) ≡ 1 + (message_size (message a) + message_size (message b))) }
+{
+    Ok(Msg::Pair(Box::new(alloc, a)?, Box::new(alloc, b)?))
+}
+
+fn enc(alloc: Global, a: Msg, b: Msg) -> Result<Msg, NoMemory>
+    ensures { IfOk result (λ m. message_size (message m) ≡ 1 + (message_size (message a) + message_size (message b))) }
+{
+    Ok(Msg::Enc(Box::new(alloc, a)?, Box::new(alloc, b)?))
+}
+
+// The ciphertext of #0 under the pair of #1 and #2.
+fn locked(alloc: Global) -> Result<Msg, NoMemory>
+    ensures { IfOk result (λ m. message_size (message m) ≡ 5) }
+{
+    let key = pair(alloc, Msg::Name(1), Msg::Name(2))?;
+    enc(alloc, Msg::Name(0), key)
+}
+
+// How many lines the certificate has, where the target is known; it's accepted.
+fn lines(alloc: Global, sent: &[Msg], target: &Msg) -> Result<Option<usize>, NoMemory>
+    requires { nodes_in (map message sent.now) + message_size (message target.now) < 2 ^ 32 - 2 }
+{
+    match &decide(alloc, sent, target)? {
+        Knowledge::Unknown => Ok(None),
+        Knowledge::Known(cert) => {
+            if check_cert(sent, cert, target) {
+                Ok(Some(cert.lines.len()))
+            } else {
+                Err(AllocError)
+            }
+        }
+    }
+}
+
+fn opens_by_a_compound_key(alloc: Global) -> Result<bool, NoMemory> {
+    let some = Vec::from_array(alloc, [locked(alloc)?, Msg::Name(2)])?;
+    let all = Vec::from_array(alloc, [locked(alloc)?, Msg::Name(2), Msg::Name(1)])?;
+    let without = lines(alloc, &some, &Msg::Name(0))?;
+    let with = lines(alloc, &all, &Msg::Name(0))?;
+    let other = lines(alloc, &all, &Msg::Name(3))?;
+    Ok(without == None && with == Some(5) && other == None)
+}
+
+#[test]
+fn a_compound_key_is_made(rt: HostRuntime) {
+    shows(
+        &rt,
+        "a ciphertext under a pair",
+        opens_by_a_compound_key(rt.alloc()),
+    );
+}
+
+fn has_no_unused_line(alloc: Global) -> Result<bool, NoMemory> {
+    let sent = Vec::from_array(alloc, [Msg::Name(1), Msg::Name(0)])?;
+    let made = pair(alloc, Msg::Unit, Msg::Name(0))?;
+    let three = lines(alloc, &sent, &made)?;
+    let hash = Msg::Hash(Box::new(alloc, Msg::Name(0))?);
+    let two = lines(alloc, &sent, &hash)?;
+    let one = lines(alloc, &[], &Msg::Unit)?;
+    Ok(three == Some(3) && two == Some(2) && one == Some(1))
+}
+
+#[test]
+fn what_is_not_used_is_left_out(rt: HostRuntime) {
+    shows(
+        &rt,
+        "a pair, a hash and unit",
+        has_no_unused_line(rt.alloc()),
+    );
+}
+
+// The ciphertext of the name behind a name, under that name.
+fn next(alloc: Global, name: u32) -> Result<Msg, NoMemory>
+    requires { name < 1000 }
+    ensures { IfOk result (λ m. message_size (message m) ≡ 3) }
+{
+    enc(alloc, Msg::Name(name + 1), Msg::Name(name))
+}
+
+// Ciphertexts in a row, each of which has the next one's key, the last one first.
+fn opens_in_a_row(alloc: Global) -> Result<bool, NoMemory> {
+    let locked = Vec::from_array(
+        alloc,
+        [
+            next(alloc, 3)?,
+            next(alloc, 2)?,
+            next(alloc, 1)?,
+            next(alloc, 0)?,
+        ],
+    )?;
+    let without = lines(alloc, &locked, &Msg::Name(4))?;
+    let opened = Vec::from_array(
+        alloc,
+        [
+            next(alloc, 3)?,
+            next(alloc, 2)?,
+            next(alloc, 1)?,
+            next(alloc, 0)?,
+            Msg::Name(0),
+        ],
+    )?;
+    let with = lines(alloc, &opened, &Msg::Name(4))?;
+    Ok(without == None && with == Some(9))
+}
+
+#[test]
+fn keys_in_the_worst_order(rt: HostRuntime) {
+    shows(&rt, "ciphertexts in a row", opens_in_a_row(rt.alloc()));
+}
