@@ -20,16 +20,11 @@ import tempfile
 import threading
 import time
 
+from tokens import EXTRA, KEYWORDS_2, TYPES, files, read, tokens_of
+
 ROOT = os.path.dirname(os.path.dirname(os.path.abspath(__file__)))
 SERVER = f"{ROOT}/editors/cryptyc_lsp.py"
 LIMIT = 20  # seconds for an answer
-TOKEN = re.compile(r"(?P<comment>//[^\n]*)|(?P<number>[0-9]+)|(?P<mark>[][(){},;:=|+#])"
-                   r"|(?P<name>[^\s\]\[(){},;:=|+#/]+)")
-KEYWORDS = set("""free type process opponent schedule derivation out inp repeat split match case decrypt check begin end
-    cast new stop is inl inr""".split())
-KEYWORDS_2 = KEYWORDS | {"hash", "endmany", "many"}
-TYPES = {"Un", "Key", "Nonce"}
-RULE = re.compile(r"(Proc|Msg)[A-Z]\w*")
 passed, failed = 0, 0
 
 
@@ -40,60 +35,8 @@ def expect(shows, holds, why=""):
         print(f"editors: {shows}{': ' if why else ''}{why}")
 
 
-def read(path):
-    with open(f"{ROOT}/{path}", encoding="utf-8") as file:
-        return file.read()
-
-
 def left_out(what, tool):
     print(f"left out: {what} (there is no {tool})")
-
-
-# The classes of tokens
-
-def tokens_of(text):
-    """Each token and comment: its offset, its spelling and the class that it should have."""
-    found = [(it.start(), it[0], it.lastgroup) for it in TOKEN.finditer(text)]
-    real = [word for _, word, kind in found if kind != "comment"]
-    second = [word.lstrip("0") for word in real[:3]] == ["version", "2", ";"]
-    part, depth, number = "", 0, 0
-    for at, word, kind in found:
-        number += kind != "comment"
-        depth += {"[": 1, "]": -1}.get(word, 0)
-        if kind == "name":
-            if word in ("schedule", "derivation"):
-                part = word
-            if word in TYPES:
-                kind = "type"
-            elif word in (KEYWORDS_2 if second else KEYWORDS) or second and number == 1:
-                kind = "keyword"
-            elif part == "schedule" and word in ("act", "talk"):
-                kind = "keyword"
-            elif part == "derivation" and depth == 0 and RULE.fullmatch(word):
-                kind = "rule"
-        yield at, word, kind
-
-
-EXTRA = {  # files for what no file of the repository has
-    "words inside names": "free ending, Unit, 𝒳end, e\u0301nd, a\u00b7end, Keys, typeof, _new; // end\nprocess stop",
-    "names that version 2 reserves": "free hash, many, endmany, version, act, talk, ProcEnd;\nprocess out hash many",
-    "marks in the way": "free a;process out a(a,a)|stop\nopponent stop schedule act 0;talk 1 2;// schedule\nact 3;",
-    "version 2": "// a comment\nversion 2; free a, version, hashes;\nprocess endmany hash(a); stop\nderivation\n"
-                 "ProcSub [many hash(a), end #3]\nProcEndMany\nMsgHash\nProcStop",
-    "version 2, with a zero": "version 02;\nfree many_a;\nprocess new (x: Nonce [many many_a]); stop",
-    "a derivation of version 1": "free hash;\nprocess end hash; stop\nderivation ProcSub [end hash, check hash]\n"
-                                 "ProcEnd MsgName ProcStop",
-    "sums and matches": "free a;\ntype T = (Un + (x: Key(()), Nonce []));\nprocess match a is (x: Un = a, y: Un); stop",
-}
-
-
-def files():
-    """Names and texts of all files that the grammars are held to, and of the derivations of some."""
-    found = dict(EXTRA)
-    for pattern in ("examples/*.spi", "examples/reasons/*.spi", "protocols/*/*.spi"):
-        for path in sorted(glob.glob(f"{ROOT}/{pattern}")):
-            found[os.path.relpath(path, ROOT)] = read(os.path.relpath(path, ROOT))
-    return found
 
 
 # The grammar of TextMate
@@ -262,7 +205,7 @@ def test_vim(room):
     with open(f"{room}/ask.vim", "w", encoding="utf-8") as file:
         file.write(VIM_ASKS % {"folder": f"{ROOT}/editors/vim", "list": f"{room}/list"})
     words = ["--headless"] if program.endswith("nvim") else ["-e", "-s", "-N", "-i", "NONE"]
-    ran = run([program, "-u", "NONE", *words, "-S", f"{room}/ask.vim"], limit=120)
+    ran = run([program, "-u", "NONE", *words, "-S", f"{room}/ask.vim"], limit=600)
     expect("Vim reads the syntax file", ran.returncode == 0 and not re.search(r"\bE\d+:", ran.stdout + ran.stderr),
            ran.stdout + ran.stderr)
     for path, (name, places) in asked.items():

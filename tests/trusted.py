@@ -16,7 +16,8 @@ says the number with which the process ends.
 
 Without an option it prints the numbers. `--list NAME` prints the definitions of a row: `theorem`, `yes` (what is said
 of a yes of `check`: `IsSafe` and `IsManySafe`), `statuses` (the fields of `IsExact` but `written`, and `IsManySafe`),
-`headline` (the clauses `headline` and `many_to_one`), another clause of `run`, or `run`, the whole. `--unreached`
+`headline` (the clauses `headline` and `many_to_one`), the word of a command (its row of
+`Promise`), another clause of `run`, or `run`, the whole. `--unreached`
 prints the files of specs/ that no clause of `run` and no law reaches. `--check` holds the document to what is found,
 and `--write` rewrites its numbers and which files it has; the words and their order are the document's own. The last
 line of `--check` is 'N passed, M failed'."""
@@ -494,22 +495,31 @@ def laws():
 
 def status_roots():
     """What the field `safe` of `IsExact` and `many_to_one` say, and what all its fields say but `written`."""
-    module = module_of("crates/spi_commands/specs/Run.antt")
+    module = module_of("crates/spi_commands/specs/Checking.antt")
     fields = [unit for unit in module.own["IsExact"].units[1:] if "pub written :" not in unit]
     said = [read_unit(module, ("bytes", "old", "new", "status"), unit).targets for unit in fields]
     yes = {module_of("crates/spi_commands/specs/Spelled.antt").own[name] for name in ("IsSafe", "IsManySafe")}
     return yes, yes.union(*said)
 
 
+def promised_roots():
+    """What the rows of `Promise` say, by the commands' words, but for the row of `check`, which the headline has."""
+    module = module_of("crates/spi_commands/specs/Commands.antt")
+    bound = ("bytes", "before", "after", "old", "new", "status", "most", "only", "sessions")
+    rows = {re.match(r"Promise \(?(\w+)", unit)[1].lower(): unit for unit in module.own["Promise"].units[1:]}
+    return {word: read_unit(module, bound, unit).targets for word, unit in rows.items() if word != "check"}
+
+
 @functools.cache
 def promises():
-    """What is reached from the theorem, from a yes, from the statuses, from the headline, from each further clause of
-    `run`, and from all of these."""
+    """What is reached from the theorem, from a yes, from the statuses, from the headline, from each row of the table of
+    promises, from each further clause of `run`, and from all of these."""
     contract = contract_of("crates/spi_commands/src/running.rt", "run")
     clauses = {name: targets for name, (targets, _) in contract.items()}
     roots = {"theorem": contract_of("crates/spi_sound/src/lib.rt", "derivable_is_safe")[""][0]}
     roots["yes"], roots["statuses"] = status_roots()
     roots["headline"] = set().union(*(clauses.pop(name) for name in HEADLINE))
+    roots.update(promised_roots())
     roots.update(clauses)
     roots["run"] = set().union(*roots.values())
     return {name: reached_from(targets) for name, targets in roots.items()}
