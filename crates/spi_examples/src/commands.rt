@@ -5,7 +5,7 @@ use spi_commands::{Command, FirstReady, InTurn, Player, Seeded, asked_of, run};
 use spi_io::{MemorySink, MemorySource};
 use std::alloc::Global;
 
-fn words_of(alloc: Global, words: &[&str]) -> Result<Vec<String>, NoMemory> {
+pub fn words_of(alloc: Global, words: &[&str]) -> Result<Vec<String>, NoMemory> {
     let mut asked = Vec::new(alloc);
     for word in words {
         asked.push(String::from_str(alloc, word)?)?;

@@ -10,6 +10,8 @@ mod events;
 #[cfg(test)]
 mod given;
 #[cfg(test)]
+mod hostile;
+#[cfg(test)]
 mod inference;
 #[cfg(test)]
 mod judges;
