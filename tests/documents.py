@@ -6,12 +6,16 @@ each on a line that starts with '$ ', and behind each the lines that it writes, 
 All other blocks are left alone. The blocks of a document are run in their order in one temporary folder, which has
 copies of examples/ and protocols/ and where ./cryptyc is the program; `$ echo $?` shows the status of the command
 before it. Each command is a test, and so is that some command of the document names the file of each `spi` block.
+A row of a table that begins with a link to an .spi file has what `check` answers to that file in its second cell, and
+that is a test too; and so is that all wrong files of such a folder have a row (NAME.mended.spi is no wrong file).
 `--program FILE`, once or more often, gives the programs. A command may take ten seconds.
 The last line is 'N passed, M failed'."""
 
 import argparse
 import glob
+import itertools
 import os
+import re
 import shutil
 import signal
 import subprocess
@@ -21,6 +25,7 @@ import tempfile
 ROOT = os.path.dirname(os.path.dirname(os.path.abspath(__file__)))
 SECONDS = 10
 FENCE = "```"
+ROW = re.compile(r"\| \[[^]]+\]\(([^)]+\.spi)\) \| `([^`]*)` \|")
 
 
 def documents():
@@ -67,6 +72,31 @@ def run_command(folder, command, status):
         running.communicate()
         return None
     return written.decode(errors="replace"), running.returncode
+
+
+def rows_of(path):
+    """The rows that begin with a link to an .spi file: the number of the line, the file, and the answer."""
+    with open(path, encoding="utf-8") as file:
+        for number, line in enumerate(file, 1):
+            if row := ROW.match(line):
+                yield number, os.path.normpath(f"{os.path.dirname(path)}/{row[1]}"), row[2]
+
+
+def row_results(path, program):
+    """For each test of the rows of a document None where it passes, and else the number of its line and what is wrong."""
+    listed = {}
+    for number, file, wanted in rows_of(path):
+        listed[file] = number
+        found = "no file"
+        if os.path.exists(file):
+            with open(file, "rb") as given:
+                ran = subprocess.run([program, "check"], stdin=given, capture_output=True, timeout=SECONDS)
+            found = ran.stdout.decode(errors="replace").rstrip("\n")
+        yield None if found == wanted else (number, f"check answers '{found}' to {os.path.basename(file)}, not '{wanted}'")
+    for folder in {os.path.dirname(file) for file in listed}:
+        for file in sorted(glob.glob(f"{folder}/*.spi")):
+            if not file.endswith(".mended.spi"):
+                yield None if file in listed else (1, f"{os.path.basename(file)} has no row")
 
 
 def prepare(folder, program):
@@ -116,7 +146,7 @@ def main():
     passed, failed = 0, 0
     for program in asked.program:
         for path in documents():
-            for wrong in results_of(path, program):
+            for wrong in itertools.chain(results_of(path, program), row_results(path, program)):
                 if wrong is None:
                     passed += 1
                 else:

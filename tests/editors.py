@@ -456,7 +456,7 @@ def test_walk():
     sys.path.insert(0, f"{ROOT}/editors")
     import cryptyc_lsp
     for name, text in files().items():
-        if name not in EXTRA:
+        if name not in EXTRA and (not name.startswith("examples/mistakes/") or name.endswith(".mended.spi")):
             walk = cryptyc_lsp.Walk(text)
             missing = [word for kind, word, at in cryptyc_lsp.tokens_of(text)
                        if kind == "word" and at not in walk.binder and word not in ("act", "talk")]
@@ -587,11 +587,11 @@ def test_extension_runs(room, program):
 def test_sarif(room, program):
     sarif = [f"{ROOT}/tools/sarif", "--program", program]
     wanted = []
-    for path in ["examples/end_of_another.spi", "examples/unchecked_nonce.spi", *sorted(
-            os.path.relpath(it, ROOT) for it in glob.glob(f"{ROOT}/examples/reasons/*.spi"))]:
+    for path in [os.path.relpath(it, ROOT) for pattern in ("*.spi", "*/*.spi") for it in sorted(glob.glob(f"{ROOT}/examples/{pattern}"))]:
         said = run([program, "check"], read(path)).stdout.strip()
-        what, place, shown = re.fullmatch(r"(.*?) at (\d+:\d+)(.*)", said).groups()
-        wanted.append(f"{path}:{place}: error: {what}{shown}\n")
+        if said != "yes":
+            what, place, shown = re.fullmatch(r"(.*?) at (\d+:\d+)(.*)", said).groups()
+            wanted.append(f"{path}:{place}: error: {what}{shown}\n")
     ran = run([*sarif, "--lines", "examples"], cwd=ROOT)
     expect("sarif: lines", (ran.returncode, ran.stdout) == (1, "".join(wanted)), ran.stdout + ran.stderr)
     ran = run([*sarif, "examples"], cwd=ROOT)
@@ -604,7 +604,8 @@ def test_sarif(room, program):
     expect("sarif: results", ran.returncode == 1 and lines == wanted)
     rules = log["tool"]["driver"]["rules"]
     expect("sarif: rules", all(rules[it["ruleIndex"]]["id"] == it["ruleId"] for it in log["results"]))
-    expect("sarif: what rules say", all(len(it["fullDescription"]["text"]) > 30 for it in rules), f"{rules}")
+    expect("sarif: what rules say", all(len(it["fullDescription"]["text"]) > 25 for it in rules), f"{rules}")
+    expect("sarif: no links in plain text", not any("](" in it["fullDescription"]["text"] for it in rules))
     expect("sarif: columns are characters", log["columnKind"] == "unicodeCodePoints")
     ran = run([*sarif, "--output", f"{room}/out.sarif", f"{ROOT}/examples/nonce_handshake.spi"])
     with open(f"{room}/out.sarif", encoding="utf-8") as file:
