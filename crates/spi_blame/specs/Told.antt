@@ -1,0 +1,25 @@
+-- What the program's answer says.
+use Rattle.std.specs.Prelude.{◌≡◌, ℕ, reverse, Option, Some, None}
+use Rattle.spi_blame.specs.Blaming.{Question, typed, labelled, Holds, Blamed}
+use Rattle.spi_blame.specs.declared.blame.Blame.{Blame}
+use Rattle.spi_rules.specs.Environment.{Env}
+use Rattle.spi_term.specs.Lists.{At}
+use Rattle.spi_term.specs.Term as Term
+use Rattle.spi_term.specs.Term.{Message, name, key}
+use Rattle.spi_term.specs.View.{message, ty}
+use Rattle.spi_term.specs.declared.term.Msg.{Msg}
+use Rattle.spi_term.specs.declared.term.Ty.{Ty}
+
+-- what is asked of a part: a type, or to be a label
+abbrev pub asked : Msg → Option Ty → Question
+asked m None = labelled (message m)
+asked m (Some t) = typed (message m) (ty t)
+
+-- nothing where the question holds, and else what is to blame
+abbrev pub Tells : Env → Question → Option Blame → Type 0
+Tells env q None = Holds env q
+Tells env q (Some b) = Blamed env q (reverse b.steps.items) (asked b.part b.wanted)
+
+-- the message is a name of type Key(t)
+abbrev pub IsKeyFor : Env → Message → Term.Ty → Type 0
+IsKeyFor env m t = (x : ℕ) × (m ≡ name x) × At env x (key t)

@@ -1,0 +1,238 @@
+// The first part of a message that lacks what typing asks of it.
+
+ghost use Rattle.std.specs.Prelude.{◌≡◌, ℕ, IfOk, IfSome, IfNone, IsTrue, ◌↔◌, List, [], ◌∷◌, reverse, Some};
+ghost use Rattle.spi_term.specs.Term.{name, key, Ty as Sort};
+ghost use Rattle.spi_term.specs.View.{message, ty};
+ghost use Rattle.spi_rules.specs.Environment.{Env as Names};
+ghost use Rattle.spi_rules.specs.Messages.{HasType};
+ghost use Rattle.spi_blame.specs.Blaming.{Question, typed, labelled, Asks, IsMisfit, IsKeyName, Holds};
+ghost use Rattle.spi_blame.specs.Told.{Tells, IsKeyFor};
+
+use crate::NoMemory;
+use spi_rules::Env;
+use spi_term::{Msg, Ty, opened, same_type};
+use std::alloc::Global;
+
+/// A part of a message that lacks what typing asks of it: the steps to it, the last one first, the part, and the type that
+/// it lacks, or none where it is to be a label. A step is the number of a part: of a pair and of `{M}N` it is 0 or 1, where
+/// the key N is part 0, and else 0.
+pub struct Blame {
+    pub steps: Vec<u32>,
+    pub part: Msg,
+    pub wanted: Option<Ty>,
+}
+
+impl Drop for Blame {
+    fn drop(self) {
+        let Blame {
+            steps: _,
+            part: _,
+            wanted: _,
+        } = self;
+    }
+}
+
+// The same, seen from the message whose part number `step` was asked.
+fn below(b: Blame, step: u32) -> Result<Blame, NoMemory>
+    ensures steps { IfOk result (λ r. reverse r.steps.items ≡ step ∷ reverse b.steps.items) }
+    ensures part { IfOk result (λ r. r.part ≡ b.part) }
+    ensures wanted { IfOk result (λ r. r.wanted ≡ b.wanted) }
+{
+    let mut b = b;
+    b.steps.push(step)?;
+    Ok(b)
+}
+
+// What is to blame for the no of a message that asks one question, from the answer for it.
+fn of_one(part: Option<Blame>) -> Result<Option<Blame>, NoMemory>
+    ensures { IfOk result (λ o. (env : Names) (q a : Question)
+        → Asks env q (a ∷ []) → Tells env a part → Tells env q o) }
+{
+    match part {
+        None => Ok(None),
+        Some(b) => Ok(Some(below(b, 0)?)),
+    }
+}
+
+// The same where it asks two.
+fn of_two(first: Option<Blame>, second: Option<Blame>) -> Result<Option<Blame>, NoMemory>
+    ensures { IfOk result (λ o. (env : Names) (q a b : Question)
+        → Asks env q (a ∷ b ∷ []) → Tells env a first → Tells env b second → Tells env q o) }
+{
+    match first {
+        Some(d) => Ok(Some(below(d, 0)?)),
+        None => match second {
+            None => Ok(None),
+            Some(d) => Ok(Some(below(d, 1)?)),
+        },
+    }
+}
+
+// The same of {M}N, where N has the type that its own question asks, from the answer for M.
+fn of_body(body: Option<Blame>) -> Result<Option<Blame>, NoMemory>
+    ensures { IfOk result (λ o. (env : Names) (q k a : Question)
+        → Asks env q (k ∷ a ∷ []) → Holds env k → Tells env a body → Tells env q o) }
+{
+    of_two(None, body)
+}
+
+// The whole message: no rule is for it at this type.
+fn itself(alloc: Global, m: &Msg, t: &Ty) -> Result<Option<Blame>, NoMemory>
+    ensures { IfOk result (λ o. (env : Names)
+        → IsMisfit env (typed (message m.now) (ty t.now)) → Tells env (typed (message m.now) (ty t.now)) o) }
+{
+    Ok(Some(Blame {
+        steps: Vec::new(alloc),
+        part: m.copy(alloc)?,
+        wanted: Some(t.copy(alloc)?),
+    }))
+}
+
+// The whole message: no rule is for it as a label.
+fn no_label(alloc: Global, m: &Msg) -> Result<Option<Blame>, NoMemory>
+    ensures { IfOk result (λ o. (env : Names)
+        → IsMisfit env (labelled (message m.now)) → Tells env (labelled (message m.now)) o) }
+{
+    Ok(Some(Blame {
+        steps: Vec::new(alloc),
+        part: m.copy(alloc)?,
+        wanted: None,
+    }))
+}
+
+// The T of a type Key(T).
+fn payload_of(t: &Ty) -> Option<&Ty>
+    ensures some { IfSome result (λ u. ty t.now ≡ key (ty u.now)) }
+    ensures none { IfNone result ((u : Sort) → ty t.now ≡ key u → ⊥) }
+{
+    match t {
+        Ty::Un => None,
+        Ty::Unit => None,
+        Ty::Pair(_, _) => None,
+        Ty::Sum(_, _) => None,
+        Ty::Key(u) => Some(u),
+        Ty::Nonce(_) => None,
+    }
+}
+
+// The T, where the message is a name of type Key(T).
+fn payload<'a>(env: &'a Env, m: &Msg) -> Option<&'a Ty>
+    ensures some { IfSome result (λ t. IsKeyFor env.now (message m.now) (ty t.now)) }
+    ensures none { IfNone result (IsKeyName env.now (message m.now) → ⊥) }
+{
+    match m {
+        Msg::Name(x) => match env.get(*x) {
+            Some(t) => payload_of(t),
+            None => None,
+        },
+        Msg::Bound(_) => None,
+        Msg::Unit => None,
+        Msg::Pair(_, _) => None,
+        Msg::Inl(_) => None,
+        Msg::Inr(_) => None,
+        Msg::Enc(_, _) => None,
+        Msg::Hash(_) => None,
+    }
+}
+
+// Whether the name has the type.
+fn has_type(env: &Env, x: u32, t: &Ty) -> bool
+    ensures { IsTrue result ↔ HasType [] env.now (name x) (ty t.now) }
+{
+    match env.get(x) {
+        Some(s) => same_type(s, t),
+        None => false,
+    }
+}
+
+/// The first part that lacks what typing asks of it, where the message is no label. `None` where it is one.
+#[cycle(lacks)]
+pub fn lacking_label(alloc: Global, env: &Env, m: &Msg) -> Result<Option<Blame>, NoMemory>
+    ensures { IfOk result (λ o. Tells env.now (labelled (message m.now)) o) }
+{
+    match m {
+        Msg::Name(x) => match env.get(*x) {
+            Some(_) => Ok(None),
+            None => no_label(alloc, m),
+        },
+        Msg::Bound(_) => no_label(alloc, m),
+        Msg::Unit => Ok(None),
+        Msg::Pair(a, b) => {
+            let first = lacking_label(alloc, env, a)?;
+            let second = lacking_label(alloc, env, b)?;
+            of_two(first, second)
+        }
+        Msg::Inl(a) => of_one(lacking_label(alloc, env, a)?),
+        Msg::Inr(a) => of_one(lacking_label(alloc, env, a)?),
+        Msg::Enc(a, k) => match payload(env, k) {
+            Some(t) => of_body(lacking(alloc, env, a, t)?),
+            None => {
+                let first = lacking(alloc, env, k, &Ty::Un)?;
+                let second = lacking(alloc, env, a, &Ty::Un)?;
+                of_two(first, second)
+            }
+        },
+        Msg::Hash(a) => of_one(lacking_label(alloc, env, a)?),
+    }
+}
+
+/// The first part that lacks what typing asks of it, where the message lacks the type. `None` where it has the type.
+#[cycle(lacks)]
+pub fn lacking(alloc: Global, env: &Env, m: &Msg, t: &Ty) -> Result<Option<Blame>, NoMemory>
+    ensures { IfOk result (λ o. Tells env.now (typed (message m.now) (ty t.now)) o) }
+{
+    match m {
+        Msg::Name(x) => {
+            if has_type(env, *x, t) {
+                Ok(None)
+            } else {
+                itself(alloc, m, t)
+            }
+        }
+        Msg::Bound(_) => itself(alloc, m, t),
+        Msg::Unit => match t {
+            Ty::Un => Ok(None),
+            Ty::Unit => Ok(None),
+            _ => itself(alloc, m, t),
+        },
+        Msg::Pair(a, b) => match t {
+            Ty::Un => {
+                let first = lacking(alloc, env, a, t)?;
+                let second = lacking(alloc, env, b, t)?;
+                of_two(first, second)
+            }
+            Ty::Pair(u, v) => {
+                let wanted = opened(alloc, v, a)?;
+                let first = lacking(alloc, env, a, u)?;
+                let second = lacking(alloc, env, b, &wanted)?;
+                of_two(first, second)
+            }
+            _ => itself(alloc, m, t),
+        },
+        Msg::Inl(a) => match t {
+            Ty::Un => of_one(lacking(alloc, env, a, t)?),
+            Ty::Sum(u, _) => of_one(lacking(alloc, env, a, u)?),
+            _ => itself(alloc, m, t),
+        },
+        Msg::Inr(a) => match t {
+            Ty::Un => of_one(lacking(alloc, env, a, t)?),
+            Ty::Sum(_, u) => of_one(lacking(alloc, env, a, u)?),
+            _ => itself(alloc, m, t),
+        },
+        Msg::Enc(a, k) => match t {
+            Ty::Un => match payload(env, k) {
+                Some(u) => of_body(lacking(alloc, env, a, u)?),
+                None => {
+                    let first = lacking(alloc, env, k, t)?;
+                    let second = lacking(alloc, env, a, t)?;
+                    of_two(first, second)
+                }
+            },
+            _ => itself(alloc, m, t),
+        },
+        Msg::Hash(a) => match t {
+            Ty::Un => of_one(lacking_label(alloc, env, a)?),
+            _ => itself(alloc, m, t),
+        },
+    }
+}
