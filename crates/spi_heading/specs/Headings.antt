@@ -1,0 +1,10 @@
+-- What a narration or a bench begins with, without where it lies in memory.
+use Rattle.spi_text.specs.declared.lines.Span.{Span}
+use Rattle.spi_tree.specs.declared.tree.SWord.{SWord}
+use Rattle.spi_tree.specs.Trees as t
+
+-- a name with its type that all parts share
+pub record Shared : Type 0 where
+  pub span : Span
+  pub name : SWord
+  pub ty : t.Ty

@@ -1,0 +1,6 @@
+//! What narrations and benches begin with: the version, the declarations and the shared names.
+#![tactic(auto)]
+
+mod shared;
+
+pub use shared::Shared;

@@ -1,0 +1,2 @@
+pub mod Narrations
+pub mod Views
