@@ -1,0 +1,62 @@
+-- The whole process of shared types and parts, and what makes it derivable.
+use Rattle.std.specs.Prelude.{ℕ, suc, List, [], ◌∷◌, ◌++◌, if◌then◌else◌, ◌==◌, ⊤}
+use Rattle.spi_term.specs.Names.{TyOver}
+use Rattle.spi_term.specs.Substitution.{process_map}
+use Rattle.spi_term.specs.Term.{Message, bound, name, unit, pair, in_left, in_right, enc, hash, checks, Effect, Ty, Process, fresh, par, stop}
+use Rattle.spi_rules.specs.Environment.{Env, extended}
+use Rattle.spi_rules.specs.Good.{GoodTy}
+use Rattle.spi_rules.specs.Least.{Least}
+use Rattle.spi_rules.specs.Processes.{IsGenerative}
+
+-- the name k as the index of a binder that stands outside of d others
+abbrev pub indexed : ℕ → ℕ → Message → Message
+indexed k d (bound i) = bound i
+indexed k d (name x) = if x == k then bound d else name x
+indexed k d unit = unit
+indexed k d (pair a b) = pair (indexed k d a) (indexed k d b)
+indexed k d (in_left a) = in_left (indexed k d a)
+indexed k d (in_right a) = in_right (indexed k d a)
+indexed k d (enc a b) = enc (indexed k d a) (indexed k d b)
+indexed k d (hash a) = hash (indexed k d a)
+
+-- new (x: T); P, where x is the name k in P
+abbrev pub new_named : ℕ → Ty → Process → Process
+new_named k t p = fresh t (process_map (indexed k) 0 p)
+
+-- P1 | P2 and so on, or `stop` where there are none
+abbrev pub together : List Process → Process
+together [] = stop
+together (p ∷ []) = p
+together (p ∷ (q ∷ ps)) = par p (together (q ∷ ps))
+
+-- new (x1: T1); up to new (xm: Tm); and then the parts, in which the shared names are k, k + 1 and so on
+abbrev pub whole : ℕ → List Ty → List Process → Process
+whole k [] ps = together ps
+whole k (t ∷ ts) ps = new_named k t (whole (suc k) ts ps)
+
+-- each type is closed over the names before it
+abbrev pub AreOver : ℕ → List Ty → Type 0
+AreOver k [] = ⊤
+AreOver k (t ∷ ts) = TyOver k t × AreOver (suc k) ts
+
+-- each type is one that `new` may make, and good in the environment of the names before it
+abbrev pub AreShared : Env → List Ty → Type 0
+AreShared env [] = ⊤
+AreShared env (t ∷ ts) = IsGenerative t × GoodTy [] env t × AreShared (extended env t) ts
+
+-- one `check x` for each shared name x
+abbrev pub each_check : ℕ → List Ty → Effect
+each_check k [] = []
+each_check k (t ∷ ts) = checks (name k) ∷ each_check (suc k) ts
+
+-- the sum of effects: their atoms, of which a `many` counts once
+abbrev pub sum_of : List Effect → Effect
+sum_of [] = []
+sum_of (es ∷ ess) = es ++ sum_of ess
+
+-- the least effects of the parts, one for each
+abbrev pub AreLeast : Env → List Process → List Effect → Type 0
+AreLeast env [] [] = ⊤
+AreLeast env [] (es ∷ ess) = ⊥
+AreLeast env (p ∷ ps) [] = ⊥
+AreLeast env (p ∷ ps) (es ∷ ess) = Least env p es × AreLeast env ps ess
