@@ -10,7 +10,8 @@ ghost use Rattle.spi_rules.specs.Messages.{HasType, IsLabel};
 ghost use Rattle.spi_rules.specs.Good.{GoodTy};
 ghost use Rattle.spi_intern.specs.Given.{IsGiven};
 ghost use Rattle.spi_intern.specs.Meaning.{Means, Keeps};
-ghost use Rattle.spi_intern.specs.Growing.{Adds, a_message, a_type};
+ghost use Rattle.spi_intern.specs.Growing.{Adds, Gave, a_message, a_type};
+ghost use Rattle.spi_message.specs.Giving.{HasParts};
 
 use crate::NoMemory;
 use crate::answering::answered;
@@ -67,6 +68,7 @@ impl Judge {
         ensures free { IfOk result (λ j. j.free ≡ free) }
         ensures length { IfOk result (λ j. length j.types ≡ free) }
         ensures names { IfOk result (λ j. Stands j (untrusted free)) }
+        ensures gave { IfOk result (λ j. Gave (a_type Term.un ∷ []) j.store) }
     {
         let mut store = Store::new(alloc);
         let un = store.ty(alloc, &Ty::Un)?;
@@ -128,11 +130,13 @@ impl Judge {
         self.answers.forget_above(self.types.len());
     }
 
-    /// The number of `t{x := m}`, where `t` stands under one binder x.
+    /// The number of `t{x := m}`, where `t` stands under one binder x. This type and its parts have numbers afterwards, and
+    /// nothing else is new. `m` is to have its parts in the store, as each message whose number a call gave.
     pub fn opened(&mut self, alloc: Global, t: TyId, m: MsgId) -> Result<TyId, NoMemory>
         requires ty { IsGiven self.old.store t.place }
         requires message { m.place < length self.old.store.messages }
         ensures at { IfOk result (λ id. (u : Term.Ty) (n : Term.Message) → Means self.old.store t.place u → slice_get self.old.store.messages m.place ≡ Some n → Means self.new.store id.place (ty_put n u)) }
+        ensures adds { OnOk result ((u : Term.Ty) (n : Term.Message) → Means self.old.store t.place u → slice_get self.old.store.messages m.place ≡ Some n → HasParts self.old.store.messages n → Adds self.old.store self.new.store (a_type (ty_put n u))) }
         ensures kept { IsKept self.old self.new }
     {
         filled_type(alloc, &mut self.store, &[m], 0, t)

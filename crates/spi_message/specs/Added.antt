@@ -1,0 +1,41 @@
+-- What the machine that fills binders adds to a store.
+use Rattle.std.specs.Prelude.{◌≡◌, ℕ, List, map, Some, slice_get}
+use Rattle.spi_term.specs.Term.{Message, Ty, un}
+use Rattle.spi_term.specs.Substitution.{effect_map, ty_map}
+use Rattle.spi_rules.specs.Environment.{Env}
+use Rattle.spi_intern.specs.Messages.{message_at}
+use Rattle.spi_intern.specs.Meaning.{Means}
+use Rattle.spi_intern.specs.Parts.{InEffect}
+use Rattle.spi_intern.specs.Growing.{AddsMessages, AddsTypes, Adds, a_message, a_type}
+use Rattle.spi_intern.specs.declared.messages.MsgId.{MsgId}
+use Rattle.spi_intern.specs.declared.types.TyId.{TyId}
+use Rattle.spi_intern.specs.declared.atoms.AtomId.{AtomId}
+use Rattle.spi_intern.specs.declared.store.Store.{Store}
+use Rattle.spi_message.specs.Judging.{StandFor}
+use Rattle.spi_message.specs.Filling.{values_of, atom_at, fill, filled, AllStay, IsDepth}
+use Rattle.spi_message.specs.Giving.{HasParts, GivesOnly, Compared}
+
+-- the values and their parts have numbers
+pub record AllHaveParts (ms vs : List Message) : Type 0 where
+  pub at : (i : ℕ) (v : Message) → slice_get vs i ≡ Some v → HasParts ms v
+
+-- the filled message, where the values and their parts have numbers
+pub record MessageIsAdded (old new : Store) (values : List MsgId) (depth : ℕ) (m : MsgId) : Type 0 where
+  pub at : (d : ℕ) → IsDepth d depth → AllHaveParts old.messages (values_of old.messages values) → Adds old new (a_message (fill (values_of old.messages values) d (message_at old.messages m)))
+
+-- the messages of the filled atoms
+pub record AtomsAreAdded (old new : Store) (values : List MsgId) (depth : ℕ) (ids : List AtomId) : Type 0 where
+  pub messages : (d : ℕ) → IsDepth d depth → AllHaveParts old.messages (values_of old.messages values) → AddsMessages old.messages new.messages (λ x. InEffect x (effect_map (fill (values_of old.messages values) d) (map (atom_at old.messages) ids)))
+  pub types : (d : ℕ) → IsDepth d depth → AllHaveParts old.messages (values_of old.messages values) → AddsTypes old new (λ u. ⊥)
+
+-- the filled type
+pub record TypeIsAdded (old new : Store) (values : List MsgId) (depth : ℕ) (t : TyId) : Type 0 where
+  pub at : (d : ℕ) (u : Ty) → IsDepth d depth → Means old t.place u → AllHaveParts old.messages (values_of old.messages values) → Adds old new (a_type (ty_map (fill (values_of old.messages values)) d u))
+
+-- what typing a message gives numbers to, where the values and the message have their parts
+pub record TypingGives (old new : Store) (env : List TyId) (n : Message) (t : TyId) (vs : List MsgId) : Type 0 where
+  pub at : (e : Env) (u : Ty) → StandFor old env e → Means old t.place u → AllStay (values_of old.messages vs) → AllHaveParts old.messages (values_of old.messages vs) → HasParts old.messages n → GivesOnly (Compared e n (filled (values_of old.messages vs) u)) old new
+
+-- what asking for a label gives numbers to
+pub record LabelGives (old new : Store) (env : List TyId) (n : Message) : Type 0 where
+  pub at : (e : Env) → StandFor old env e → HasParts old.messages n → GivesOnly (Compared e n un) old new
