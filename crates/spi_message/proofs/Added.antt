@@ -211,7 +211,7 @@ atom_added {s} {p} {vs} {depth} a e h = subst (MessageIsAdded s p vs depth) e h
 pub no_atoms_added : {s : Store} {vs : List MsgId} {depth : ℕ} → AtomsAreAdded s s vs depth []
 no_atoms_added = record { messages = λ d e h. adds_no_atom refl; types = λ d e h. types_none refl }
 
-message_of_atom : (f : Message → Message) (ms : List Message) (a : AtomId) → message_of (atom_map f (atom_at ms a)) ≡ f (message_at ms (message_in a))
+pub message_of_atom : (f : Message → Message) (ms : List Message) (a : AtomId) → message_of (atom_map f (atom_at ms a)) ≡ f (message_at ms (message_in a))
 message_of_atom f ms (End m) = refl
 message_of_atom f ms (Check m) = refl
 message_of_atom f ms (Many m) = refl

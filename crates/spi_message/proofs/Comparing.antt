@@ -119,7 +119,7 @@ later_label {s} {p} {r} {d = d} k w g e st hn =
     let em : message_at p.messages d ≡ message_at s.messages d = message_keeps d k.messages w in
     subst (λ n. GivesOnly (Compared e n un) p r) em (g.at e (stand_keeps k st) (subst (HasParts p.messages) (sym em) (parts_keep k.messages hn)))
 
-none_have_parts : {ms : List Message} → AllHaveParts ms []
+pub none_have_parts : {ms : List Message} → AllHaveParts ms []
 none_have_parts = record { at = λ i v e. absurd cc }
 
 -- a message that is typed with no values
@@ -176,7 +176,7 @@ both_typing a d f k w b q g = record {
       gives_more (gives_as (λ g. compared_part (of_first whole)) (f.at e u st m stay hp (parts_of_part (of_first whole) hn))) (gives_as (λ g. compared_part (of_second whole)) (later_typing k w b q g e u st m stay hp (parts_of_part (of_second whole) hn)));
 }
 
-parts_push : {ms us : List Message} {n : Message} → AllHaveParts ms us → HasParts ms n → AllHaveParts ms (us ++ n ∷ [])
+pub parts_push : {ms us : List Message} {n : Message} → AllHaveParts ms us → HasParts ms n → AllHaveParts ms (us ++ n ∷ [])
 parts_push {ms} {us} {n} h p = record {
   at = λ i v e. ⊎_elim (λ f. h.at i v f) (λ f. subst (HasParts ms) (sym f.1) p) (get_push us n i v e);
 }
@@ -215,7 +215,7 @@ payload_label {k = k} h q g = record {
 }
 
 -- a key and a body at Un
-un_part : {s p q : Store} {env : List TyId} {n : Message} {d : MsgId} {i : TyId} {vs : List MsgId} → Keeps s p → Means p i.place un → d.place < length s.messages → vs ≡ [] → PartOf (message_at s.messages d) n → TypingGives p q env (message_at p.messages d) i vs → (e : Env) → StandFor s env e → HasParts s.messages n → GivesOnly (Compared e n un) p q
+pub un_part : {s p q : Store} {env : List TyId} {n : Message} {d : MsgId} {i : TyId} {vs : List MsgId} → Keeps s p → Means p i.place un → d.place < length s.messages → vs ≡ [] → PartOf (message_at s.messages d) n → TypingGives p q env (message_at p.messages d) i vs → (e : Env) → StandFor s env e → HasParts s.messages n → GivesOnly (Compared e n un) p q
 un_part {s} {p} {q} {d = d} k m w b o g e st hn =
     let em : message_at p.messages d ≡ message_at s.messages d = message_keeps d k.messages w in
     let f = alone_typing b g e un (stand_keeps k st) m (subst (HasParts p.messages) (sym em) (parts_keep k.messages (parts_of_part o hn))) in

@@ -16,7 +16,7 @@ use Rattle.spi_intern.proofs.Meanings.{terms_same, terms_more}
 use Rattle.spi_intern.proofs.Counted.{counted, counted_at_least}
 use Rattle.spi_message.specs.Filling.{filled, values_of}
 use Rattle.spi_message.specs.Judging.{Numbered}
-use Rattle.spi_message.specs.Giving.{HasParts, Grows, grows_none, grows_next, GivesOnly, Compared, with_un, with_type, with_payload, Examined, the_name, its_type, in_first as from_first, in_second, in_left, in_right, in_payload, the_message, its_typing, IsWhole, whole_message, whole_type, AreWhole, HasGiven, HasGivenAtLeast}
+use Rattle.spi_message.specs.Giving.{HasParts, Grows, grows_none, grows_next, GivesOnly, Compared, with_un, with_type, with_payload, Tested, the_message, its_typing, Examined, the_name, its_type, in_first as from_first, in_second, in_left, in_right, in_payload, of_atom, IsWhole, whole_message, whole_type, AreWhole, HasGiven, HasGivenAtLeast}
 use Rattle.spi_message.specs.Added.{AllHaveParts, TypeIsAdded}
 use Rattle.spi_message.proofs.Fills.{at_message}
 use Rattle.spi_message.proofs.Typings.{filled_one}

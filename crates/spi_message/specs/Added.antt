@@ -1,6 +1,6 @@
 -- What the machine that fills binders adds to a store.
 use Rattle.std.specs.Prelude.{◌≡◌, ℕ, List, map, Some, slice_get}
-use Rattle.spi_term.specs.Term.{Message, Ty, un}
+use Rattle.spi_term.specs.Term.{Message, Ty, un, nonce}
 use Rattle.spi_term.specs.Substitution.{effect_map, ty_map}
 use Rattle.spi_rules.specs.Environment.{Env}
 use Rattle.spi_intern.specs.Messages.{message_at}
@@ -12,8 +12,8 @@ use Rattle.spi_intern.specs.declared.types.TyId.{TyId}
 use Rattle.spi_intern.specs.declared.atoms.AtomId.{AtomId}
 use Rattle.spi_intern.specs.declared.store.Store.{Store}
 use Rattle.spi_message.specs.Judging.{StandFor}
-use Rattle.spi_message.specs.Filling.{values_of, atom_at, fill, filled, AllStay, IsDepth}
-use Rattle.spi_message.specs.Giving.{HasParts, GivesOnly, Compared}
+use Rattle.spi_message.specs.Filling.{values_of, atom_at, message_in, fill, filled, AllStay, IsDepth}
+use Rattle.spi_message.specs.Giving.{HasParts, GivesOnly, Compared, Tested, Examined}
 
 -- the values and their parts have numbers
 pub record AllHaveParts (ms vs : List Message) : Type 0 where
@@ -39,3 +39,15 @@ pub record TypingGives (old new : Store) (env : List TyId) (n : Message) (t : Ty
 -- what asking for a label gives numbers to
 pub record LabelGives (old new : Store) (env : List TyId) (n : Message) : Type 0 where
   pub at : (e : Env) → StandFor old env e → HasParts old.messages n → GivesOnly (Compared e n un) old new
+
+-- what testing the message of an atom gives numbers to
+pub record AtomGives (old new : Store) (env : List TyId) (a : AtomId) (vs : List MsgId) : Type 0 where
+  pub at : (e : Env) → StandFor old env e → AllHaveParts old.messages (values_of old.messages vs) → GivesOnly (Tested e (fill (values_of old.messages vs) 0 (message_at old.messages (message_in a)))) old new
+
+-- what testing atoms gives numbers to
+pub record AtomsGive (old new : Store) (env : List TyId) (ids : List AtomId) (vs : List MsgId) : Type 0 where
+  pub at : (e : Env) → StandFor old env e → AllHaveParts old.messages (values_of old.messages vs) → GivesOnly (Examined e (nonce (effect_map (fill (values_of old.messages vs) 0) (map (atom_at old.messages) ids)))) old new
+
+-- what asking whether a type is good gives numbers to
+pub record GoodGives (old new : Store) (env : List TyId) (t : TyId) (vs : List MsgId) : Type 0 where
+  pub at : (e : Env) (u : Ty) → StandFor old env e → Means old t.place u → AllStay (values_of old.messages vs) → AllHaveParts old.messages (values_of old.messages vs) → GivesOnly (Examined e (filled (values_of old.messages vs) u)) old new

@@ -39,8 +39,14 @@ pub data Compared (e : Env) (n : Message) (u : Ty) : Given → Type 0 where
   with_type : {v : Ty} → Opening n v u → Compared e n u (a_type v)
   with_payload : {t v : Ty} → In (key t) e → Opening n v t → Compared e n u (a_type v)
 
--- What asking whether a type is good gives numbers to: the name that stands for each binder and its type, the messages of
--- the atoms, and what typing these at Un gives numbers to.
+-- What asking whether the message of an atom is a label, or has type Un, gives numbers to: the message, and what typing it
+-- at Un gives numbers to.
+pub data Tested (e : Env) (n : Message) : Given → Type 0 where
+  the_message : Tested e n (a_message n)
+  its_typing : {g : Given} → Compared e n un g → Tested e n g
+
+-- What asking whether a type is good gives numbers to: for each pair the name that its binder is opened with and the type
+-- of that name, and what testing the atoms of each Nonce gives numbers to.
 pub data Examined : Env → Ty → Given → Type 0 where
   the_name : {e : Env} {t u : Ty} → Examined e (pair_ty t u) (a_message (name (length e)))
   its_type : {e : Env} {t u : Ty} → Examined e (pair_ty t u) (a_type t)
@@ -49,8 +55,7 @@ pub data Examined : Env → Ty → Given → Type 0 where
   in_left : {e : Env} {t u : Ty} {g : Given} → Examined e t g → Examined e (sum_ty t u) g
   in_right : {e : Env} {t u : Ty} {g : Given} → Examined e u g → Examined e (sum_ty t u) g
   in_payload : {e : Env} {t : Ty} {g : Given} → Examined e t g → Examined e (key t) g
-  the_message : {e : Env} {a : Atom} {es : Effect} → In a es → Examined e (nonce es) (a_message (message_of a))
-  its_typing : {e : Env} {a : Atom} {es : Effect} {g : Given} → In a es → Compared e (message_of a) un g → Examined e (nonce es) g
+  of_atom : {e : Env} {a : Atom} {es : Effect} {g : Given} → In a es → Tested e (message_of a) g → Examined e (nonce es) g
 
 -- a whole term, and no constructor over numbers alone
 pub data IsWhole : Given → Type 0 where
