@@ -1,7 +1,6 @@
 -- What filling the indices of messages and types adds to a store.
-use Rattle.std.proofs.Common.{◌≡◌, ℕ, suc, ◌<◌, ◌≤◌, List, [], ◌∷◌, ◌++◌, map, Some, None, slice_get, length, refl, sym, ap, subst, ◌∙◌, ◌⊎◌, inl, inr, ⊎_elim, Result, Ok, Err, OnOk}
+use Rattle.std.proofs.Common.{◌≡◌, ℕ, suc, ◌<◌, ◌≤◌, List, [], ◌∷◌, ◌++◌, map, Some, None, length, refl, sym, ap, subst, ◌∙◌, ◌⊎◌, inl, inr, ⊎_elim, Result, Ok, Err, OnOk}
 use Rattle.std.specs.Prelude.{option_map}
-use Rattle.spi_term.specs.Term as Term
 use Rattle.spi_term.specs.Term.{Message, bound, name, unit, pair, in_left, in_right, enc, hash, Atom, Effect, Ty, un, unit_ty, pair_ty, sum_ty, key, nonce}
 use Rattle.spi_term.specs.Counts.{SameEffect}
 use Rattle.spi_term.specs.SameTy.{same_nonce}
@@ -14,7 +13,7 @@ use Rattle.spi_intern.specs.Messages.{Says, says_pair, says_left, says_right, sa
 use Rattle.spi_intern.specs.Atoms.{SaysAtom}
 use Rattle.spi_intern.specs.Meaning.{Means, Keeps}
 use Rattle.spi_intern.specs.Parts.{PartOf, whole, of_first, of_second, of_left, of_right, of_body, of_key, of_hash, message_of, InEffect, in_first, in_later, InTy, in_pair_first, in_pair_second, in_sum_left, in_sum_right, in_key, in_nonce, TyPartOf, whole_ty, of_pair_first, of_pair_second, of_sum_left, of_sum_right, of_payload}
-use Rattle.spi_intern.specs.Growing.{Has, HasTy, AddsMessages, AddsTypes, Adds, a_message, a_type, over_messages, over_types}
+use Rattle.spi_intern.specs.Growing.{HasTy, AddsMessages, AddsTypes, Adds, a_message, a_type, over_messages, over_types}
 use Rattle.spi_intern.specs.declared.messages.MsgId.{MsgId}
 use Rattle.spi_intern.specs.declared.messages.MsgPart.TheVariants.{Pair, Inl, Inr, Enc, Hash}
 use Rattle.spi_intern.specs.declared.types.TyId.{TyId}
@@ -28,7 +27,7 @@ use Rattle.spi_message.specs.Filling.{value_of, or_bound, fill, values_of, atom_
 use Rattle.spi_message.specs.Giving.{HasParts}
 use Rattle.spi_message.specs.Added.{AllHaveParts, MessageIsAdded, AtomsAreAdded, TypeIsAdded}
 use Rattle.spi_message.proofs.Fills.{TwoOf, OneOf, at_message, message_there, message_keeps, values_keep, two_values, values_at, value_mapped, value_in, fills_value}
-use Rattle.spi_message.proofs.FillsTypes.{TwoTys, OneTy, NonceTy, means_as, atom_at_keeps}
+use Rattle.spi_message.proofs.FillsTypes.{TwoTys, OneTy, NonceTy, means_as}
 
 -- ---- what has numbers keeps them
 

@@ -5,7 +5,7 @@ use Rattle.spi_term.specs.Lists.{In, in_first, in_later}
 use Rattle.spi_term.specs.Substitution.{ty_map, ty_put}
 use Rattle.spi_rules.specs.Environment.{Env}
 use Rattle.spi_intern.specs.Messages.{message_at}
-use Rattle.spi_intern.specs.Parts.{PartOf, whole, of_first, of_second, of_left, of_right, of_body, of_key, of_hash}
+use Rattle.spi_intern.specs.Parts.{PartOf, whole, of_first, of_second, of_body, of_key}
 use Rattle.spi_intern.specs.Meaning.{Means, Keeps}
 use Rattle.spi_intern.specs.Growing.{Given, Adds, a_type}
 use Rattle.spi_intern.specs.declared.messages.MsgId.{MsgId}
@@ -123,7 +123,7 @@ pub none_have_parts : {ms : List Message} → AllHaveParts ms []
 none_have_parts = record { at = λ i v e. absurd cc }
 
 -- a message that is typed with no values
-alone_typing : {s r : Store} {env : List TyId} {n : Message} {t : TyId} {vs : List MsgId} → vs ≡ [] → TypingGives s r env n t vs → (e : Env) (u : Ty) → StandFor s env e → Means s t.place u → HasParts s.messages n → GivesOnly (Compared e n u) s r
+pub alone_typing : {s r : Store} {env : List TyId} {n : Message} {t : TyId} {vs : List MsgId} → vs ≡ [] → TypingGives s r env n t vs → (e : Env) (u : Ty) → StandFor s env e → Means s t.place u → HasParts s.messages n → GivesOnly (Compared e n u) s r
 alone_typing {s} {r} {env} {n} {t} q g e u st m hn =
     let f : TypingGives s r env n t [] = subst (TypingGives s r env n t) q g in
     subst (λ v. GivesOnly (Compared e n v) s r) (filled_none u) (f.at e u st m none_stay none_have_parts hn)

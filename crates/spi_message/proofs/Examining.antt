@@ -1,35 +1,36 @@
 -- What asking whether types are good gives numbers to, form by form.
-use Rattle.std.proofs.Common.{◌≡◌, ◌<◌, Bool, true, List, [], ◌∷◌, ◌++◌, map, get_or, Some, slice_get, length, refl, sym, ap, subst, ◌∙◌, ◌⊎◌, inl, inr, ⊎_elim, ℕ, zero, suc, Result, Ok, Err, OnOk, arith}
-use Rattle.spi_term.specs.Term.{Message, name, Atom, Effect, Ty, un, unit_ty, pair_ty, sum_ty, key, nonce}
+use Rattle.std.proofs.Common.{◌≡◌, ◌<◌, List, [], ◌∷◌, ◌++◌, map, get_or, Some, slice_get, length, refl, sym, ap, subst, ◌∙◌, ℕ, zero, suc, arith}
+use Rattle.spi_term.specs.Term.{Message, name, Effect, Ty, un, pair_ty, sum_ty, key, nonce}
 use Rattle.spi_term.specs.Counts.{SameEffect}
 use Rattle.spi_term.specs.Lists.{In, in_first as first_of, in_later as later_of}
 use Rattle.spi_term.specs.Substitution.{put, atom_map, effect_map, ty_map, ty_put}
 use Rattle.spi_effect.proofs.Laws.{same_map}
 use Rattle.spi_rules.specs.Environment.{Env}
-use Rattle.spi_intern.specs.Messages.{Says, says_name, message_at}
+use Rattle.spi_intern.specs.Messages.{message_at}
 use Rattle.spi_intern.specs.Parts.{PartOf, whole, message_of}
 use Rattle.spi_intern.specs.Meaning.{Means, Keeps}
 use Rattle.spi_intern.specs.Growing.{Given, Adds, a_message, a_type, over_messages}
 use Rattle.spi_intern.specs.declared.messages.MsgId.{MsgId}
-use Rattle.spi_intern.specs.declared.messages.MsgPart.TheVariants.{Name}
 use Rattle.spi_intern.specs.declared.types.TyId.{TyId}
 use Rattle.spi_intern.specs.declared.atoms.AtomId.{AtomId}
 use Rattle.spi_intern.specs.declared.store.Store.{Store}
 use Rattle.spi_intern.proofs.Meanings.{means_keeps}
 use Rattle.spi_intern.proofs.Adding.{adds_as}
+use Rattle.spi_message.specs.declared.answers.Asked.{Asked}
+use Rattle.spi_message.specs.declared.answers.Asked.TheVariants.{Typed, Labelled, Good}
 use Rattle.spi_message.specs.Judging.{StandFor}
 use Rattle.spi_message.specs.Filling.{fill, filled, AllStay, values_of, atom_at, message_in, AreBelow, FillsMessage, FillsTy}
 use Rattle.spi_message.specs.Giving.{HasParts, GivesOnly, Compared, with_un, Tested, the_message, its_typing, Examined, the_name, its_type, in_first, in_second, in_left, in_right, in_payload, of_atom}
-use Rattle.spi_message.specs.Added.{AllHaveParts, MessageIsAdded, TypeIsAdded, TypingGives, LabelGives, AtomGives, AtomsGive, GoodGives}
+use Rattle.spi_message.specs.Added.{AllHaveParts, MessageIsAdded, TypeIsAdded, TypingGives, LabelGives, AtomGives, AtomsGive, GoodGives, AnswerGives}
 use Rattle.spi_message.proofs.Fills.{at_message, message_keeps, values_keep, all_below_keeps}
 use Rattle.spi_message.proofs.FillsTypes.{TwoTys, OneTy, NonceTy}
 use Rattle.spi_message.proofs.Added.{parts_keep, all_parts_keep, message_of_atom, atom_same_in}
 use Rattle.spi_message.proofs.Standing.{stand_keeps, stand_push, stand_length}
-use Rattle.spi_message.proofs.Typings.{put_filled, stay_push}
+use Rattle.spi_message.proofs.Typings.{put_filled, filled_none, none_stay, stay_push}
 use Rattle.spi_message.proofs.Questions.{values_push}
 use Rattle.spi_message.proofs.Giving.{gives_none, gives_one, gives_more, gives_as}
-use Rattle.spi_message.proofs.Comparing.{parts_push, un_part}
-use Rattle.spi_message.proofs.Goods.{filled_below, filled_is}
+use Rattle.spi_message.proofs.Comparing.{parts_push, un_part, alone_typing, none_have_parts}
+use Rattle.spi_message.proofs.Goods.{filled_is}
 
 -- ---- one atom
 
@@ -170,3 +171,27 @@ pair_examined {s} {p} {q} {r} {o} {env} {ns} {x = x} {y = y} {i = i} m {vs} {ws}
       let then_type : GivesOnly (Examined e (pair_ty v1 v2)) s r = gives_more then_name (gives_one its_type j gave_type) in
       subst (λ w. GivesOnly (Examined e (filled us w)) s o) (sym z.2) (gives_more then_type (gives_as (λ g. in_second) under));
 }
+
+-- ---- questions
+
+pub typing_answer : {s r : Store} {ids ds : List TyId} (m : MsgId) (t : TyId) {vs : List MsgId} → ds ≡ ids → vs ≡ [] → TypingGives s r ds (message_at s.messages m) t vs → AnswerGives s r ids (Typed m t)
+typing_answer {s} {r} {ids} m t {vs} p q h = λ env n u st at mu hn.
+    let g : TypingGives s r ids (message_at s.messages m) t vs = subst (λ is. TypingGives s r is (message_at s.messages m) t vs) p h in
+    let e = at_message s.messages m at in
+    subst (λ n. GivesOnly (Compared env n u) s r) e (alone_typing q g env u st mu (subst (HasParts s.messages) (sym e) hn))
+
+pub label_answer : {s r : Store} {ids ds : List TyId} (m : MsgId) → ds ≡ ids → LabelGives s r ds (message_at s.messages m) → AnswerGives s r ids (Labelled m)
+label_answer {s} {r} {ids} m p h = λ env n st at hn.
+    let g : LabelGives s r ids (message_at s.messages m) = subst (λ is. LabelGives s r is (message_at s.messages m)) p h in
+    let e = at_message s.messages m at in
+    subst (λ n. GivesOnly (Compared env n un) s r) e (g.at env st (subst (HasParts s.messages) (sym e) hn))
+
+pub good_answer : {s r : Store} {ids : List TyId} (t : TyId) {vs : List MsgId} → vs ≡ [] → GoodGives s r ids t vs → AnswerGives s r ids (Good t)
+good_answer {s} {r} {ids} t q h = λ env u st mu.
+    let g : GoodGives s r ids t [] = subst (GoodGives s r ids t) q h in
+    subst (λ v. GivesOnly (Examined env v) s r) (filled_none u) (g.at env u st mu none_stay none_have_parts)
+
+pub kept_answer : (s : Store) (ids : List TyId) (a : Asked) → AnswerGives s s ids a
+kept_answer s ids (Typed m t) = λ env n u st at mu hn. gives_none
+kept_answer s ids (Labelled m) = λ env n st at hn. gives_none
+kept_answer s ids (Good t) = λ env u st mu. gives_none

@@ -11,6 +11,8 @@ use Rattle.spi_intern.specs.declared.messages.MsgId.{MsgId}
 use Rattle.spi_intern.specs.declared.types.TyId.{TyId}
 use Rattle.spi_intern.specs.declared.atoms.AtomId.{AtomId}
 use Rattle.spi_intern.specs.declared.store.Store.{Store}
+use Rattle.spi_message.specs.declared.answers.Asked.{Asked}
+use Rattle.spi_message.specs.declared.answers.Asked.TheVariants.{Typed, Labelled, Good}
 use Rattle.spi_message.specs.Judging.{StandFor}
 use Rattle.spi_message.specs.Filling.{values_of, atom_at, message_in, fill, filled, AllStay, IsDepth}
 use Rattle.spi_message.specs.Giving.{HasParts, GivesOnly, Compared, Tested, Examined}
@@ -51,3 +53,9 @@ pub record AtomsGive (old new : Store) (env : List TyId) (ids : List AtomId) (vs
 -- what asking whether a type is good gives numbers to
 pub record GoodGives (old new : Store) (env : List TyId) (t : TyId) (vs : List MsgId) : Type 0 where
   pub at : (e : Env) (u : Ty) → StandFor old env e → Means old t.place u → AllStay (values_of old.messages vs) → AllHaveParts old.messages (values_of old.messages vs) → GivesOnly (Examined e (filled (values_of old.messages vs) u)) old new
+
+-- what a question gives numbers to
+abbrev pub AnswerGives : Store → Store → List TyId → Asked → Type 0
+AnswerGives s r ids (Typed m t) = (env : Env) (n : Message) (u : Ty) → StandFor s ids env → slice_get s.messages m.place ≡ Some n → Means s t.place u → HasParts s.messages n → GivesOnly (Compared env n u) s r
+AnswerGives s r ids (Labelled m) = (env : Env) (n : Message) → StandFor s ids env → slice_get s.messages m.place ≡ Some n → HasParts s.messages n → GivesOnly (Compared env n un) s r
+AnswerGives s r ids (Good t) = (env : Env) (u : Ty) → StandFor s ids env → Means s t.place u → GivesOnly (Examined env u) s r

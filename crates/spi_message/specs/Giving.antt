@@ -1,5 +1,5 @@
 -- What the calls of a judge give numbers to: whole messages and types, each with its parts.
-use Rattle.std.specs.Prelude.{◌≡◌, ◌++◌, List, [], ◌∷◌, Some, slice_get, length}
+use Rattle.std.specs.Prelude.{◌++◌, List, [], ◌∷◌, length}
 use Rattle.spi_term.specs.Term.{Message, name, Atom, Effect, Ty, un, pair_ty, sum_ty, key, nonce}
 use Rattle.spi_term.specs.Lists.{In}
 use Rattle.spi_term.specs.Substitution.{ty_put}

@@ -1,7 +1,7 @@
 use Rattle.std.proofs.Common.{arith, refl, sym, ap, subst, IfOk, OnOk, List, ◌∙◌, ◌++◌, ◌∷◌, []}
 use Rattle.spi_intern.specs.declared.messages.MsgId.{MsgId}
 use Rattle.spi_term.specs.Term.{Message, name}
-use Rattle.spi_intern.specs.Parts.{PartOf, whole, of_first, of_second, of_left, of_right, of_body, of_key, of_hash}
+use Rattle.spi_intern.specs.Parts.{PartOf, whole, of_first, of_left, of_right, of_hash}
 use Rattle.spi_intern.proofs.Meanings.{means_keeps, terms_more}
 use Rattle.spi_message.specs.Asking.{IsTyped}
 use Rattle.spi_message.proofs.Fills.{below_keeps, size_keeps, pair_of, enc_of, left_of, right_of, hash_of, bound_of, name_of, unit_of}
