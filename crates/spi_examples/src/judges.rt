@@ -173,3 +173,34 @@ fn the_last_name_has_the_type_that_was_bound(rt: HostRuntime) {
     let text = "free a; process new (x: Key(Un)); new (y: Un); out a a";
     each(&rt, rt.alloc(), Last, &[(text, 1)]);
 }
+
+/// How many different messages and types a judge's store has once the first type was opened and the datum was typed.
+#[derive(Clone, Copy)]
+struct Counted;
+
+impl Question for Counted {
+    fn answer(self, alloc: Global, file: &File) -> Result<u64, NoMemory> {
+        let Some(parts) = sample_of(file) else {
+            return Ok(MISSING);
+        };
+        let mut judge = judge_of(alloc, &file.process, parts.first)?;
+        let _ = is_opened(alloc, &mut judge, &parts)?;
+        let _ = is_typed(alloc, &mut judge, parts.datum, parts.second)?;
+        Ok(judge.store().distinct())
+    }
+}
+
+#[test]
+fn a_judge_counts_what_it_opened_and_compared(rt: HostRuntime) {
+    let table = [
+        (
+            "free a; process new (x: (p: Un, Nonce [end p])); new (y: Nonce [end a]); out a a",
+            6,
+        ),
+        (
+            "free a; process new (x: Un); new (y: (p: Un, Nonce [end p])); out a (a, a)",
+            7,
+        ),
+    ];
+    each(&rt, rt.alloc(), Counted, &table);
+}

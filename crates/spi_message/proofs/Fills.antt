@@ -154,7 +154,7 @@ pub fills_unit : {ms : List Message} {vs : List MsgId} {depth : ℕ} {m : MsgId}
 fills_unit {ms} {vs} h e = fills_same h (λ d. ap (fill (values_of ms vs) d) e ∙ sym e)
 
 -- the parts of a message with values for its indices
-two_values : {ls ms ns : List Message} {vs : List MsgId} {depth : ℕ} {a b x y : MsgId} → KeepsAll ls ms → AreBelow vs (length ls) → b.place < length ls → FillsMessage ls ms vs depth a x → KeepsAll ms ns → FillsMessage ms ns vs depth b y → (d : ℕ) → IsDepth d depth → (slice_get ns x.place ≡ Some (fill (values_of ls vs) d (message_at ls a))) × (slice_get ns y.place ≡ Some (fill (values_of ls vs) d (message_at ls b)))
+pub two_values : {ls ms ns : List Message} {vs : List MsgId} {depth : ℕ} {a b x y : MsgId} → KeepsAll ls ms → AreBelow vs (length ls) → b.place < length ls → FillsMessage ls ms vs depth a x → KeepsAll ms ns → FillsMessage ms ns vs depth b y → (d : ℕ) → IsDepth d depth → (slice_get ns x.place ≡ Some (fill (values_of ls vs) d (message_at ls a))) × (slice_get ns y.place ≡ Some (fill (values_of ls vs) d (message_at ls b)))
 two_values {vs = vs} {b = b} k v w f l g d e =
     (l.at _ _ (f.at d e), g.at d e ∙ (λ i. Some (fill (values_keep vs k v i) d (message_keeps b k w i))))
 
@@ -181,7 +181,7 @@ fills_hash {ls = ls} ns {vs = vs} t f (Ok id) at = record { at = λ d e. at _ (s
 fills_hash ns t f (Err e) at = tt
 
 -- an index with a value, and without one
-values_at : (ms : List Message) (ids : List MsgId) (i : ℕ) → slice_get (values_of ms ids) i ≡ option_map (message_at ms) (slice_get ids i)
+pub values_at : (ms : List Message) (ids : List MsgId) (i : ℕ) → slice_get (values_of ms ids) i ≡ option_map (message_at ms) (slice_get ids i)
 values_at ms [] i = refl
 values_at ms (id ∷ ids) zero = refl
 values_at ms (id ∷ ids) (suc i) = values_at ms ids i
@@ -198,7 +198,7 @@ last_mapped ms ids k =
     by true = values_at ms ids (length ids - suc k)
     by false = refl
 
-value_mapped : (ms : List Message) (ids : List MsgId) (d i : ℕ) → value_of (values_of ms ids) d i ≡ option_map (message_at ms) (value_of ids d i)
+pub value_mapped : (ms : List Message) (ids : List MsgId) (d i : ℕ) → value_of (values_of ms ids) d i ≡ option_map (message_at ms) (value_of ids d i)
 value_mapped ms ids d i = by (nat_lt i d)
   where
     by : (b : Bool) → (if b then None else last_but (i - d) (values_of ms ids)) ≡ option_map (message_at ms) (if b then None else last_but (i - d) ids)
@@ -212,7 +212,7 @@ last_in ids k v = by (nat_lt k (length ids))
     by true e = (length ids - suc k, e)
     by false e = absurd cc
 
-value_in : (ids : List MsgId) (d i : ℕ) (v : MsgId) → value_of ids d i ≡ Some v → (k : ℕ) × (slice_get ids k ≡ Some v)
+pub value_in : (ids : List MsgId) (d i : ℕ) (v : MsgId) → value_of ids d i ≡ Some v → (k : ℕ) × (slice_get ids k ≡ Some v)
 value_in ids d i v = by (nat_lt i d)
   where
     by : (b : Bool) → (if b then None else last_but (i - d) ids) ≡ Some v → (k : ℕ) × (slice_get ids k ≡ Some v)

@@ -1,5 +1,5 @@
 -- What a judge stands for, and its answers as tests.
-use Rattle.std.proofs.Common.{◌≡◌, ◌↔◌, ℕ, zero, suc, ◌<◌, Bool, true, false, List, [], ◌∷◌, Some, None, length, refl, sym, ap, subst, ◌∙◌, arith, Result, Ok, Err, IfOk}
+use Rattle.std.proofs.Common.{◌≡◌, ◌↔◌, ℕ, ◌<◌, Bool, true, false, [], Some, None, length, refl, sym, ap, subst, ◌∙◌, arith, Result, Ok, Err, IfOk}
 use Rattle.std.specs.Prelude.{slice_get}
 use Rattle.std.proofs.lemmas.Option.{slice_get_past}
 use Rattle.spi_term.specs.Term.{Message, name, Ty, un, nonce}

@@ -1,9 +1,10 @@
 // Messages for the binders that a type stands under, over shared terms.
 
-ghost use Rattle.std.specs.Prelude.{◌≡◌, ℕ, suc, ◌≤◌, ◌<◌, ◌^◌, IfOk, length};
+ghost use Rattle.std.specs.Prelude.{◌≡◌, ℕ, suc, ◌≤◌, ◌<◌, ◌^◌, IfOk, OnOk, length};
 ghost use Rattle.spi_intern.specs.Given.{IsGiven};
 ghost use Rattle.spi_intern.specs.Meaning.{Keeps};
 ghost use Rattle.spi_message.specs.Filling.{value_of, message_in, AreBelow, AtomsAreBelow, IsDepth, FillsMessage, FillsAtom, FillsAtoms, FillsTy};
+ghost use Rattle.spi_message.specs.Added.{MessageIsAdded, AtomsAreAdded, TypeIsAdded};
 
 use crate::NoMemory;
 use spi_intern::{AtomId, MsgId, MsgPart, Store, TyId, TyPart};
@@ -49,6 +50,7 @@ pub fn filled_message(
     requires message { m.place < length store.old.messages }
     requires values { AreBelow values.now (length store.old.messages) }
     ensures at { IfOk result (FillsMessage store.old.messages store.new.messages values.now depth m) }
+    ensures adds { OnOk result (MessageIsAdded store.old store.new values.now depth m) }
     ensures kept { Keeps store.old store.new }
 {
     match store.part(m) {
@@ -104,6 +106,7 @@ fn filled_atom(
     requires message { (message_in a).place < length store.old.messages }
     requires values { AreBelow values.now (length store.old.messages) }
     ensures at { IfOk result (FillsAtom store.old.messages store.new.messages values.now depth a) }
+    ensures adds { OnOk result (MessageIsAdded store.old store.new values.now depth (message_in a)) }
     ensures kept { Keeps store.old store.new }
 {
     let filled = filled_message(store, values, depth, message_of(a))?;
@@ -125,6 +128,7 @@ fn filled_atoms(
     requires atoms { AtomsAreBelow atoms.now (length store.old.messages) }
     requires values { AreBelow values.now (length store.old.messages) }
     ensures at { IfOk result (λ rs. FillsAtoms store.old.messages store.new.messages values.now depth atoms.now rs.items) }
+    ensures adds { OnOk result (AtomsAreAdded store.old store.new values.now depth atoms.now) }
     ensures kept { Keeps store.old store.new }
 {
     let mut filled = Vec::new(alloc);
@@ -147,6 +151,7 @@ pub fn filled_type(
     requires ty { IsGiven store.old t.place }
     requires values { AreBelow values.now (length store.old.messages) }
     ensures at { IfOk result (FillsTy store.old store.new values.now depth t) }
+    ensures adds { OnOk result (TypeIsAdded store.old store.new values.now depth t) }
     ensures kept { Keeps store.old store.new }
 {
     match store.ty_part(t) {

@@ -3,6 +3,7 @@
 ghost use Rattle.std.specs.Prelude.{◌≡◌, ◌<◌, length, IfOk, OnOk};
 ghost use Rattle.spi_intern.specs.Meaning.{Keeps};
 ghost use Rattle.spi_message.specs.Filling.{message_in, AreBelow};
+ghost use Rattle.spi_message.specs.Added.{AtomGives, AtomsGive, GoodGives};
 ghost use Rattle.spi_message.specs.Asking.{IsEnvironment, IsGoodAtom, IsAskedAtoms, AreGood, IsAskedGood, IsGood};
 
 use crate::NoMemory;
@@ -23,6 +24,7 @@ fn is_good_atom(
     requires names { IsEnvironment store.old env.now }
     requires values { AreBelow values.now (length store.old.messages) }
     ensures answer { IfOk result (IsGoodAtom store.old env.now a values.now) }
+    ensures adds { OnOk result (AtomGives store.old store.new env.now a values.now) }
     ensures kept { Keeps store.old store.new }
 {
     let filled = filled_message(store, values, 0, message_of(a))?;
@@ -46,6 +48,7 @@ fn are_good_atoms(
 ) -> Result<bool, NoMemory>
     requires { IsAskedAtoms store.old env.now atoms.now values.now }
     ensures answer { IfOk result (AreGood store.old env.now atoms.now values.now) }
+    ensures adds { OnOk result (AtomsGive store.old store.new env.now atoms.now values.now) }
     ensures kept { Keeps store.old store.new }
 {
     for a in atoms {
@@ -66,6 +69,7 @@ pub fn is_good_type(
 ) -> Result<bool, NoMemory>
     requires { IsAskedGood store.old env.old.items t values.old.items }
     ensures answer { IfOk result (IsGood store.old env.old.items t values.old.items) }
+    ensures adds { OnOk result (GoodGives store.old store.new env.old.items t values.old.items) }
     ensures kept { Keeps store.old store.new }
     ensures names { env.new.items ≡ env.old.items }
     ensures values { OnOk result (values.new.items ≡ values.old.items) }

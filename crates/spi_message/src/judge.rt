@@ -11,6 +11,7 @@ ghost use Rattle.spi_rules.specs.Good.{GoodTy};
 ghost use Rattle.spi_intern.specs.Given.{IsGiven};
 ghost use Rattle.spi_intern.specs.Meaning.{Means, Keeps};
 ghost use Rattle.spi_intern.specs.Growing.{Adds, a_message, a_type};
+ghost use Rattle.spi_message.specs.Giving.{HasParts, GivesOnly, Compared, Examined, HasGiven};
 
 use crate::NoMemory;
 use crate::answering::answered;
@@ -61,12 +62,13 @@ impl Model for Judge {
 impl Judge {
     ghost use Rattle.spi_message.specs.Judging.{Stands, IsGivenSmall, IsKept, IsJudge};
 
-    /// `free` names of type `Un`, at most 100,000.
+    /// `free` names of type `Un`, at most 100,000. This type alone has a number.
     pub fn new(alloc: Global, free: u32) -> Result<Judge, NoMemory>
         requires { free ≤ 100_000 }
         ensures free { IfOk result (λ j. j.free ≡ free) }
         ensures length { IfOk result (λ j. length j.types ≡ free) }
         ensures names { IfOk result (λ j. Stands j (untrusted free)) }
+        ensures gave { IfOk result (λ j. HasGiven (a_type Term.un ∷ []) j.store) }
     {
         let mut store = Store::new(alloc);
         let un = store.ty(alloc, &Ty::Un)?;
@@ -128,21 +130,24 @@ impl Judge {
         self.answers.forget_above(self.types.len());
     }
 
-    /// The number of `t{x := m}`, where `t` stands under one binder x.
+    /// The number of `t{x := m}`, where `t` stands under one binder x. This type and its parts have numbers afterwards, and
+    /// nothing else is new. `m` is to have its parts in the store, as each message whose number a call gave.
     pub fn opened(&mut self, alloc: Global, t: TyId, m: MsgId) -> Result<TyId, NoMemory>
         requires ty { IsGiven self.old.store t.place }
         requires message { m.place < length self.old.store.messages }
         ensures at { IfOk result (λ id. (u : Term.Ty) (n : Term.Message) → Means self.old.store t.place u → slice_get self.old.store.messages m.place ≡ Some n → Means self.new.store id.place (ty_put n u)) }
+        ensures adds { OnOk result ((u : Term.Ty) (n : Term.Message) → Means self.old.store t.place u → slice_get self.old.store.messages m.place ≡ Some n → HasParts self.old.store.messages n → Adds self.old.store self.new.store (a_type (ty_put n u))) }
         ensures kept { IsKept self.old self.new }
     {
         filled_type(alloc, &mut self.store, &[m], 0, t)
     }
 
-    /// Whether the message has the type.
+    /// Whether the message has the type. Only types that a name of the message was compared with are new.
     pub fn has_type(&mut self, alloc: Global, m: MsgId, t: TyId) -> Result<bool, NoMemory>
         requires message { m.place < length self.old.store.messages }
         requires ty { IsGiven self.old.store t.place }
         ensures answer { IfOk result (λ b. (env : Env) (n : Term.Message) (u : Term.Ty) → Stands self.old env → slice_get self.old.store.messages m.place ≡ Some n → Means self.old.store t.place u → (b ≡ true) ↔ HasType [] env n u) }
+        ensures adds { OnOk result ((env : Env) (n : Term.Message) (u : Term.Ty) → Stands self.old env → slice_get self.old.store.messages m.place ≡ Some n → Means self.old.store t.place u → HasParts self.old.store.messages n → GivesOnly (Compared env n u) self.old.store self.new.store) }
         ensures kept { IsKept self.old self.new }
     {
         answered(
@@ -154,10 +159,11 @@ impl Judge {
         )
     }
 
-    /// Whether the message is a label.
+    /// Whether the message is a label. Only types that a name of the message was compared with are new.
     pub fn is_label(&mut self, alloc: Global, m: MsgId) -> Result<bool, NoMemory>
         requires { m.place < length self.old.store.messages }
         ensures answer { IfOk result (λ b. (env : Env) (n : Term.Message) → Stands self.old env → slice_get self.old.store.messages m.place ≡ Some n → (b ≡ true) ↔ IsLabel [] env n) }
+        ensures adds { OnOk result ((env : Env) (n : Term.Message) → Stands self.old env → slice_get self.old.store.messages m.place ≡ Some n → HasParts self.old.store.messages n → GivesOnly (Compared env n Term.un) self.old.store self.new.store) }
         ensures kept { IsKept self.old self.new }
     {
         answered(
@@ -170,10 +176,12 @@ impl Judge {
     }
 
     /// Whether the type is good. The length of the environment and the nodes of the type are at most 4,294,967,295
-    /// together.
+    /// together. Only the names for its binders, their types, the messages of its atoms and types that these were compared
+    /// with are new.
     pub fn good_type(&mut self, alloc: Global, t: TyId) -> Result<bool, NoMemory>
         requires { IsGivenSmall self.old.store t.place (length self.old.types) }
         ensures answer { IfOk result (λ b. (env : Env) (u : Term.Ty) → Stands self.old env → Means self.old.store t.place u → (b ≡ true) ↔ GoodTy [] env u) }
+        ensures adds { OnOk result ((env : Env) (u : Term.Ty) → Stands self.old env → Means self.old.store t.place u → GivesOnly (Examined env u) self.old.store self.new.store) }
         ensures kept { IsKept self.old self.new }
     {
         answered(

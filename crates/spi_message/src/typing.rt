@@ -6,6 +6,7 @@ ghost use Rattle.spi_term.specs.Term.{name, pair, in_left, in_right, enc};
 ghost use Rattle.spi_intern.specs.Messages.{message_at};
 ghost use Rattle.spi_intern.specs.Meaning.{Keeps};
 ghost use Rattle.spi_message.specs.Filling.{AreBelow};
+ghost use Rattle.spi_message.specs.Added.{TypingGives, LabelGives};
 ghost use Rattle.spi_message.specs.Asking.{IsEnvironment, IsAsked, IsTyped, IsLabelled, IsPayload, IsNoPayload};
 
 use crate::NoMemory;
@@ -41,6 +42,7 @@ fn name_has_type(
 ) -> Result<bool, NoMemory>
     requires { IsAsked store.old env.now t values.now }
     ensures answer { IfOk result (IsTyped store.old env.now (name x) t values.now) }
+    ensures adds { OnOk result (TypingGives store.old store.new env.now (name x) t values.now) }
     ensures kept { Keeps store.old store.new }
 {
     match env.get(x as usize) {
@@ -67,6 +69,7 @@ pub fn has_type(
     requires message { m.place < length store.old.messages }
     requires asked { IsAsked store.old env.now t values.old.items }
     ensures answer { IfOk result (IsTyped store.old env.now (message_at store.old.messages m) t values.old.items) }
+    ensures adds { OnOk result (TypingGives store.old store.new env.now (message_at store.old.messages m) t values.old.items) }
     ensures kept { Keeps store.old store.new }
     ensures values { OnOk result (values.new.items ≡ values.old.items) }
 {
@@ -108,6 +111,7 @@ fn pair_has_type(
     requires second { b.place < length store.old.messages }
     requires asked { IsAsked store.old env.now t values.old.items }
     ensures answer { IfOk result (IsTyped store.old env.now (pair (message_at store.old.messages a) (message_at store.old.messages b)) t values.old.items) }
+    ensures adds { OnOk result (TypingGives store.old store.new env.now (pair (message_at store.old.messages a) (message_at store.old.messages b)) t values.old.items) }
     ensures kept { Keeps store.old store.new }
     ensures values { OnOk result (values.new.items ≡ values.old.items) }
 {
@@ -148,6 +152,7 @@ fn left_has_type(
     requires part { a.place < length store.old.messages }
     requires asked { IsAsked store.old env.now t values.old.items }
     ensures answer { IfOk result (IsTyped store.old env.now (in_left (message_at store.old.messages a)) t values.old.items) }
+    ensures adds { OnOk result (TypingGives store.old store.new env.now (in_left (message_at store.old.messages a)) t values.old.items) }
     ensures kept { Keeps store.old store.new }
     ensures values { OnOk result (values.new.items ≡ values.old.items) }
 {
@@ -173,6 +178,7 @@ fn right_has_type(
     requires part { a.place < length store.old.messages }
     requires asked { IsAsked store.old env.now t values.old.items }
     ensures answer { IfOk result (IsTyped store.old env.now (in_right (message_at store.old.messages a)) t values.old.items) }
+    ensures adds { OnOk result (TypingGives store.old store.new env.now (in_right (message_at store.old.messages a)) t values.old.items) }
     ensures kept { Keeps store.old store.new }
     ensures values { OnOk result (values.new.items ≡ values.old.items) }
 {
@@ -200,6 +206,7 @@ fn is_sealed(
     requires key { key.place < length store.old.messages }
     requires names { IsEnvironment store.old env.now }
     ensures answer { IfOk result (IsLabelled store.old env.now (enc (message_at store.old.messages body) (message_at store.old.messages key))) }
+    ensures adds { OnOk result (LabelGives store.old store.new env.now (enc (message_at store.old.messages body) (message_at store.old.messages key))) }
     ensures kept { Keeps store.old store.new }
 {
     let mut values = Vec::new(alloc);
@@ -222,6 +229,7 @@ pub fn is_label(alloc: Global, store: &mut Store, env: &[TyId], m: MsgId) -> Res
     requires message { m.place < length store.old.messages }
     requires names { IsEnvironment store.old env.now }
     ensures answer { IfOk result (IsLabelled store.old env.now (message_at store.old.messages m)) }
+    ensures adds { OnOk result (LabelGives store.old store.new env.now (message_at store.old.messages m)) }
     ensures kept { Keeps store.old store.new }
 {
     match store.part(m) {

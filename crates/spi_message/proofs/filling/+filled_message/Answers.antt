@@ -1,5 +1,6 @@
 use Rattle.std.proofs.Common.{arith}
 use Rattle.spi_message.proofs.Fills.{below_keeps, size_keeps, all_below_keeps, pair_of, enc_of, left_of, right_of, hash_of, bound_of, name_of, unit_of, over_pair, over_enc, over_left, over_right, over_hash, fills_name, fills_unit, fills_value, fills_bound, fills_pair, fills_enc, fills_left, fills_right, fills_hash}
+use Rattle.spi_message.proofs.Added.{added_value, added_bound, added_name, added_unit, added_pair, added_enc, added_left, added_right, added_hash}
 use Rattle.spi_message.proofs.filling.+filled_message.Goals as goal
 
 pub filled_message-requires : goal.filled_message-requires
@@ -86,3 +87,36 @@ message_over-requires-in-Hash t c = over_hash c.requires.depth c.in_ok-part-in-H
 
 pub returns-in_ok-part-in-Hash-clause-at : goal.returns-in_ok-part-in-Hash-clause-at
 returns-in_ok-part-in-Hash-clause-at t c = fills_hash _ (hash_of c.in-Hash.ensures c.requires.message) c.in_ok-part-in-Hash.ensures.at c.message_over-in-Hash.result c.message_over-in-Hash.ensures.at
+
+pub returns-in-Some-clause-adds : goal.returns-in-Some-clause-adds
+returns-in-Some-clause-adds t c = added_value (bound_of c.in-Bound.ensures c.requires.message) c.requires.values (λ d e. c.in-Some.ensures d e)
+
+pub returns-in-None-clause-adds : goal.returns-in-None-clause-adds
+returns-in-None-clause-adds t c = added_bound c.requires.message (bound_of c.in-Bound.ensures c.requires.message) (λ d e. c.in-None.ensures d e)
+
+pub returns-in-Name-clause-adds : goal.returns-in-Name-clause-adds
+returns-in-Name-clause-adds t c = added_name c.requires.message (name_of c.in-Name.ensures c.requires.message)
+
+pub returns-in-Unit-clause-adds : goal.returns-in-Unit-clause-adds
+returns-in-Unit-clause-adds t c = added_unit c.requires.message (unit_of c.in-Unit.ensures c.requires.message)
+
+pub returns-in_ok-second-in-Pair-clause-adds : goal.returns-in_ok-second-in-Pair-clause-adds
+returns-in_ok-second-in-Pair-clause-adds t c =
+    let a = c.in_ok-first-in-Pair.ensures in
+    let b = c.in_ok-second-in-Pair.ensures in
+    added_pair _ (pair_of c.in-Pair.ensures c.requires.message) a.kept c.requires.values a.at a.adds b.kept b.at b.adds c.message_over.ensures.kept c.message_over.result c.message_over.ensures.adds
+
+pub returns-in_ok-key-in-Enc-clause-adds : goal.returns-in_ok-key-in-Enc-clause-adds
+returns-in_ok-key-in-Enc-clause-adds t c =
+    let a = c.in_ok-body-in-Enc.ensures in
+    let b = c.in_ok-key-in-Enc.ensures in
+    added_enc _ (enc_of c.in-Enc.ensures c.requires.message) a.kept c.requires.values a.at a.adds b.kept b.at b.adds c.message_over-in-Enc.ensures.kept c.message_over-in-Enc.result c.message_over-in-Enc.ensures.adds
+
+pub returns-in_ok-part-in-Inl-clause-adds : goal.returns-in_ok-part-in-Inl-clause-adds
+returns-in_ok-part-in-Inl-clause-adds t c = let a = c.in_ok-part-in-Inl.ensures in added_left _ (left_of c.in-Inl.ensures c.requires.message) a.at a.adds c.message_over-in-Inl.ensures.kept c.message_over-in-Inl.result c.message_over-in-Inl.ensures.adds
+
+pub returns-in_ok-part-in-Inr-clause-adds : goal.returns-in_ok-part-in-Inr-clause-adds
+returns-in_ok-part-in-Inr-clause-adds t c = let a = c.in_ok-part-in-Inr.ensures in added_right _ (right_of c.in-Inr.ensures c.requires.message) a.at a.adds c.message_over-in-Inr.ensures.kept c.message_over-in-Inr.result c.message_over-in-Inr.ensures.adds
+
+pub returns-in_ok-part-in-Hash-clause-adds : goal.returns-in_ok-part-in-Hash-clause-adds
+returns-in_ok-part-in-Hash-clause-adds t c = let a = c.in_ok-part-in-Hash.ensures in added_hash _ (hash_of c.in-Hash.ensures c.requires.message) a.at a.adds c.message_over-in-Hash.ensures.kept c.message_over-in-Hash.result c.message_over-in-Hash.ensures.adds

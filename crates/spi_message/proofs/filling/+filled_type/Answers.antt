@@ -1,6 +1,7 @@
 use Rattle.std.proofs.Common.{arith, ◌∙◌}
 use Rattle.spi_message.proofs.Fills.{all_below_keeps}
 use Rattle.spi_message.proofs.FillsTypes.{given_keeps, size_of_kept, pair_ty_of, sum_ty_of, key_ty_of, nonce_ty_of, un_of, unit_ty_of, fills_given, depth_stands, fills_un, fills_unit_ty, fills_pair_ty, fills_sum_ty, fills_key_ty, fills_nonce_ty, given_atoms}
+use Rattle.spi_message.proofs.Added.{added_un, added_unit_ty, added_pair_ty, added_sum_ty, added_key_ty, added_nonce_ty}
 use Rattle.spi_message.proofs.filling.+filled_type.Goals as goal
 
 pub filled_type-requires : goal.filled_type-requires
@@ -86,3 +87,30 @@ pub returns-in_ok-filled-in-Nonce-clause-at : goal.returns-in_ok-filled-in-Nonce
 returns-in_ok-filled-in-Nonce-clause-at t c =
     let e = c.deref.ensures.value ∙ c.in_ok-atoms-in-Nonce.ensures.items_if_clones_equal (λ x y h. h) in
     fills_nonce_ty c.filled_atoms.new.store _ (nonce_ty_of c.in-Nonce.ensures c.requires.ty) e c.in_ok-filled-in-Nonce.ensures.at c.nonce_over.result c.nonce_over.ensures.at
+
+pub returns-in_ok-second-in-Pair-clause-adds : goal.returns-in_ok-second-in-Pair-clause-adds
+returns-in_ok-second-in-Pair-clause-adds t c =
+    let a = c.in_ok-first-in-Pair.ensures in
+    let b = c.in_ok-second-in-Pair.ensures in
+    added_pair_ty _ (pair_ty_of c.in-Pair.ensures c.requires.ty) a.kept c.requires.values a.at a.adds c.deeper.ensures.next b.kept b.at b.adds c.pair_over.ensures.kept c.pair_over.result c.pair_over.ensures.adds
+
+pub returns-in_ok-right-in-Sum-clause-adds : goal.returns-in_ok-right-in-Sum-clause-adds
+returns-in_ok-right-in-Sum-clause-adds t c =
+    let a = c.in_ok-left-in-Sum.ensures in
+    let b = c.in_ok-right-in-Sum.ensures in
+    added_sum_ty _ (sum_ty_of c.in-Sum.ensures c.requires.ty) a.kept c.requires.values a.at a.adds b.kept b.at b.adds c.sum_over.ensures.kept c.sum_over.result c.sum_over.ensures.adds
+
+pub returns-in_ok-payload-in-Key-clause-adds : goal.returns-in_ok-payload-in-Key-clause-adds
+returns-in_ok-payload-in-Key-clause-adds t c = let a = c.in_ok-payload-in-Key.ensures in added_key_ty _ (key_ty_of c.in-Key.ensures c.requires.ty) a.at a.adds c.key_over.ensures.kept c.key_over.result c.key_over.ensures.adds
+
+pub returns-in-Un-clause-adds : goal.returns-in-Un-clause-adds
+returns-in-Un-clause-adds t c = added_un (un_of c.in-Un.ensures)
+
+pub returns-in-Unit-clause-adds : goal.returns-in-Unit-clause-adds
+returns-in-Unit-clause-adds t c = added_unit_ty (unit_ty_of c.in-Unit.ensures)
+
+pub returns-in_ok-filled-in-Nonce-clause-adds : goal.returns-in_ok-filled-in-Nonce-clause-adds
+returns-in_ok-filled-in-Nonce-clause-adds t c =
+    let e = c.deref.ensures.value ∙ c.in_ok-atoms-in-Nonce.ensures.items_if_clones_equal (λ x y h. h) in
+    let a = c.in_ok-filled-in-Nonce.ensures in
+    added_nonce_ty c.filled_atoms.new.store _ (nonce_ty_of c.in-Nonce.ensures c.requires.ty) e a.at a.adds c.nonce_over.ensures.kept c.nonce_over.result c.nonce_over.ensures.adds

@@ -2,10 +2,14 @@ use Rattle.std.proofs.Common.{◌≡◌, arith, ap, sym, subst, ◌∙◌, ◌++
 use Rattle.spi_term.specs.Term.{name}
 use Rattle.spi_message.specs.Filling.{AreBelow, FillsTy}
 use Rattle.spi_intern.specs.Messages.{says_name}
+use Rattle.spi_intern.specs.Growing.{Adds, over_messages}
+use Rattle.spi_message.specs.Added.{TypeIsAdded}
 use Rattle.spi_intern.proofs.Meanings.{terms_more}
 use Rattle.spi_message.proofs.Fills.{all_below_keeps}
 use Rattle.spi_message.proofs.FillsTypes.{given_keeps, size_of_kept, pair_ty_of, sum_ty_of, key_ty_of, nonce_ty_of, un_of, unit_ty_of, fills_given, depth_stands}
 use Rattle.spi_message.proofs.Goods.{un_good, unit_good, key_good, nonce_good, sum_good, sum_bad, pair_good, pair_bad, asked_good_part, asked_good_later, asked_good_under, asked_atoms, name_over}
+use Rattle.spi_message.proofs.Comparing.{on_ok}
+use Rattle.spi_message.proofs.Examining.{no_examining, first_examined, left_examined, payload_examined, sum_examined, nonce_examined, pair_examined}
 use Rattle.spi_message.proofs.goodness.+is_good_type.Goals as goal
 
 pub is_good_type-requires : goal.is_good_type-requires
@@ -85,3 +89,38 @@ returns-in-Un-clause-answer t c = un_good (un_of c.in-Un.ensures)
 
 pub returns-in-Unit-clause-answer : goal.returns-in-Unit-clause-answer
 returns-in-Unit-clause-answer t c = unit_good (unit_ty_of c.in-Unit.ensures)
+
+pub returns-in-Un-clause-adds : goal.returns-in-Un-clause-adds
+returns-in-Un-clause-adds t c = no_examining
+
+pub returns-in-Unit-clause-adds : goal.returns-in-Unit-clause-adds
+returns-in-Unit-clause-adds t c = no_examining
+
+pub returns-then-not-branch-clause-adds : goal.returns-then-not-branch-clause-adds
+returns-then-not-branch-clause-adds t c = first_examined (pair_ty_of c.in-Pair.ensures c.requires.given) c.in_ok-is_good_type-in-Pair.ensures.adds
+
+pub returns-else-branch-clause-adds : goal.returns-else-branch-clause-adds
+returns-else-branch-clause-adds t c = left_examined (sum_ty_of c.in-Sum.ensures c.requires.given) c.in_ok-is_good_type-in-Sum.ensures.adds
+
+pub returns-then-branch-clause-adds : goal.returns-then-branch-clause-adds
+returns-then-branch-clause-adds t c =
+    let a = c.in_ok-is_good_type-in-Sum.ensures in
+    on_ok c.is_good_type-then-branch.result (sum_examined (sum_ty_of c.in-Sum.ensures c.requires.given) a.adds a.kept c.requires.values a.names a.values) c.is_good_type-then-branch.ensures.adds
+
+pub returns-in-Key-clause-adds : goal.returns-in-Key-clause-adds
+returns-in-Key-clause-adds t c = on_ok c.is_good_type-in-Key.result (payload_examined (key_ty_of c.in-Key.ensures c.requires.given)) c.is_good_type-in-Key.ensures.adds
+
+pub returns-in_ok-atoms-in-Nonce-clause-adds : goal.returns-in_ok-atoms-in-Nonce-clause-adds
+returns-in_ok-atoms-in-Nonce-clause-adds t c = on_ok c.are_good_atoms.result (nonce_examined (nonce_ty_of c.in-Nonce.ensures c.requires.given) (c.deref-in-Nonce-2.ensures.value ∙ c.in_ok-atoms-in-Nonce.ensures.items_if_clones_equal (λ x y h. h)) c.deref-in-Nonce.ensures.value c.deref-in-Nonce-3.ensures.value) c.are_good_atoms.ensures.adds
+
+pub returns-in_ok-push-in-Pair-2-clause-adds : goal.returns-in_ok-push-in-Pair-2-clause-adds
+returns-in_ok-push-in-Pair-2-clause-adds t c =
+    let a = c.in_ok-is_good_type-in-Pair.ensures in
+    let n = c.in_ok-name-in-Pair.ensures in
+    let o = c.in_ok-outer-in-Pair.ensures in
+    let count : c.len-count.result ≡ length c.args.env.now.items = c.len-count.ensures ∙ c.is_good_type.new.env.ok.0 ∙ ap length a.names in
+    let values = c.deref.ensures.value ∙ a.values in
+    let fills = subst (λ us. FillsTy c.message_over.new.self c.filled_type.new.store us 0 c.in-Pair.first c.in_ok-outer-in-Pair.outer) values o.at in
+    let added = subst (λ us. TypeIsAdded c.message_over.new.self c.filled_type.new.store us 0 c.in-Pair.first) values o.adds in
+    let named = subst (λ x. Adds c.is_good_type.new.store c.message_over.new.self (over_messages (name x))) count (n.adds _ says_name) in
+    on_ok c.is_good_type-answer.result (pair_examined c.in_ok-name-in-Pair.name (pair_ty_of c.in-Pair.ensures c.requires.given) a.adds a.kept c.requires.values n.kept (n.at _ says_name ∙ ap (λ x. Some (name x)) count) named o.kept fills added (c.in_ok-push-in-Pair-2.ensures.items ∙ ap (λ is. is ++ c.in_ok-outer-in-Pair.outer ∷ []) a.names) (c.in_ok-push-in-Pair.ensures.items ∙ ap (λ us. us ++ c.in_ok-name-in-Pair.name ∷ []) a.values)) c.is_good_type-answer.ensures.adds

@@ -3,6 +3,8 @@ use Rattle.spi_message.proofs.FillsTypes.{message_fills}
 use Rattle.spi_message.proofs.Standing.{environment_keeps}
 use Rattle.spi_message.proofs.Questions.{asked_alone}
 use Rattle.spi_message.proofs.Goods.{filled_below, good_end, good_many, good_check}
+use Rattle.spi_message.proofs.Comparing.{on_ok}
+use Rattle.spi_message.proofs.Examining.{atom_gives, un_label}
 use Rattle.spi_message.proofs.goodness.is_good_atom.Goals as goal
 
 pub filled_message-requires-clause-message : goal.filled_message-requires-clause-message
@@ -34,3 +36,15 @@ returns-in_ok-un-in-Check-clause-answer c = good_check _ _ c.in-Check.is c.in_ok
 
 pub returns-in-Many-clause-answer : goal.returns-in-Many-clause-answer
 returns-in-Many-clause-answer c = good_many _ _ c.in-Many.is c.in_ok-filled.ensures.kept (message_fills c.message_of.ensures c.in-Many.is c.in_ok-filled.ensures.at) c.is_label-in-Many.result c.is_label-in-Many.ensures.answer
+
+pub returns-in-End-clause-adds : goal.returns-in-End-clause-adds
+returns-in-End-clause-adds c = let f = c.in_ok-filled.ensures in on_ok c.is_label.result (atom_gives c.args.a c.message_of.ensures f.kept f.at f.adds) c.is_label.ensures.adds
+
+pub returns-in-Many-clause-adds : goal.returns-in-Many-clause-adds
+returns-in-Many-clause-adds c = let f = c.in_ok-filled.ensures in on_ok c.is_label-in-Many.result (atom_gives c.args.a c.message_of.ensures f.kept f.at f.adds) c.is_label-in-Many.ensures.adds
+
+pub returns-in_ok-un-in-Check-clause-adds : goal.returns-in_ok-un-in-Check-clause-adds
+returns-in_ok-un-in-Check-clause-adds c =
+    let f = c.in_ok-filled.ensures in
+    let u = c.in_ok-un-in-Check.ensures in
+    on_ok c.has_type.result (λ h. atom_gives c.args.a c.message_of.ensures f.kept f.at f.adds (un_label c.in_ok-filled.filled u.kept u.adds u.at (filled_below f.at) c.new-none.ensures.items h)) c.has_type.ensures.adds

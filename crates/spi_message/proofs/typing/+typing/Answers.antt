@@ -1,11 +1,15 @@
-use Rattle.std.proofs.Common.{arith, refl, sym, ap, subst, IfOk, List, ◌∙◌, ◌++◌, ◌∷◌, []}
+use Rattle.std.proofs.Common.{arith, refl, sym, ap, subst, IfOk, OnOk, List, ◌∙◌, ◌++◌, ◌∷◌, []}
 use Rattle.spi_intern.specs.declared.messages.MsgId.{MsgId}
-use Rattle.spi_term.specs.Term.{name}
+use Rattle.spi_term.specs.Term.{Message, name}
+use Rattle.spi_intern.specs.Parts.{PartOf, whole, of_first, of_left, of_right, of_hash}
+use Rattle.spi_intern.proofs.Meanings.{means_keeps, terms_more}
 use Rattle.spi_message.specs.Asking.{IsTyped}
 use Rattle.spi_message.proofs.Fills.{below_keeps, size_keeps, pair_of, enc_of, left_of, right_of, hash_of, bound_of, name_of, unit_of}
 use Rattle.spi_message.proofs.FillsTypes.{given_keeps, pair_ty_of, sum_ty_of, un_of}
 use Rattle.spi_message.proofs.Standing.{environment_keeps}
 use Rattle.spi_message.proofs.Questions.{typed_as, labelled_as, bound_untyped, bound_unlabelled, unit_labelled, name_labelled, unit_typed, sealed_typed, sealed_untyped, hash_typed, hash_untyped, pair_untyped, left_untyped, right_untyped, left_un, right_un, left_sum, right_sum, pair_un, pair_un_not, pair_not, pair_pair, pair_labelled, pair_unlabelled, left_labelled, right_labelled, hash_labelled, by_payload, by_un, not_by_un, asked_part, asked_later, asked_under, asked_alone, payload_is_given}
+use Rattle.spi_message.specs.Added.{TypingGives, LabelGives}
+use Rattle.spi_message.proofs.Comparing.{on_ok, no_typing, no_label, part_typing, part_label, label_typing, left_typing, right_typing, first_typing, both_typing, pair_typing, both_labels, payload_label, key_label, body_label}
 use Rattle.spi_message.proofs.typing.+typing.Goals as goal
 
 pub has_type-pair_has_type-requires : goal.has_type-pair_has_type-requires
@@ -217,3 +221,163 @@ pair_has_type-returns-in-Key-clause-answer t c = pair_untyped c.in-Key.ensures r
 
 pub pair_has_type-returns-in-Nonce-clause-answer : goal.pair_has_type-returns-in-Nonce-clause-answer
 pair_has_type-returns-in-Nonce-clause-answer t c = pair_untyped c.in-Nonce.ensures refl
+
+pub has_type-returns-in-Bound-clause-adds : goal.has_type-returns-in-Bound-clause-adds
+has_type-returns-in-Bound-clause-adds t c = no_typing
+
+pub has_type-returns-in-Unit-clause-adds : goal.has_type-returns-in-Unit-clause-adds
+has_type-returns-in-Unit-clause-adds t c = no_typing
+
+pub has_type-returns-in-Name-clause-adds : goal.has_type-returns-in-Name-clause-adds
+has_type-returns-in-Name-clause-adds t c =
+    let e = sym (name_of c.in-Name.ensures c.requires.message) in
+    subst (λ (n : Message). OnOk c.name_has_type.result (TypingGives c.args.store.now c.name_has_type.new.store c.args.env.now n c.args.t c.args.values.now.items)) e (subst (λ us. OnOk c.name_has_type.result (TypingGives c.args.store.now c.name_has_type.new.store c.args.env.now (name c.in-Name.x) c.args.t us)) c.deref.ensures.value c.name_has_type.ensures.adds)
+
+pub has_type-returns-in-Pair-clause-adds : goal.has_type-returns-in-Pair-clause-adds
+has_type-returns-in-Pair-clause-adds t c =
+    let e = sym ((pair_of c.in-Pair.ensures c.requires.message).is) in
+    subst (λ (n : Message). OnOk c.pair_has_type.result (TypingGives c.args.store.now c.pair_has_type.new.store c.args.env.now n c.args.t c.args.values.now.items)) e c.pair_has_type.ensures.adds
+
+pub has_type-returns-in-Inl-clause-adds : goal.has_type-returns-in-Inl-clause-adds
+has_type-returns-in-Inl-clause-adds t c =
+    let e = sym ((left_of c.in-Inl.ensures c.requires.message).is) in
+    subst (λ (n : Message). OnOk c.left_has_type.result (TypingGives c.args.store.now c.left_has_type.new.store c.args.env.now n c.args.t c.args.values.now.items)) e c.left_has_type.ensures.adds
+
+pub has_type-returns-in-Inr-clause-adds : goal.has_type-returns-in-Inr-clause-adds
+has_type-returns-in-Inr-clause-adds t c =
+    let e = sym ((right_of c.in-Inr.ensures c.requires.message).is) in
+    subst (λ (n : Message). OnOk c.right_has_type.result (TypingGives c.args.store.now c.right_has_type.new.store c.args.env.now n c.args.t c.args.values.now.items)) e c.right_has_type.ensures.adds
+
+pub has_type-returns-then-is_un_type-clause-adds : goal.has_type-returns-then-is_un_type-clause-adds
+has_type-returns-then-is_un_type-clause-adds t c =
+    let e = sym ((enc_of c.in-Enc.ensures c.requires.message).is) in
+    on_ok c.is_sealed.result label_typing (subst (λ (n : Message). OnOk c.is_sealed.result (LabelGives c.args.store.now c.is_sealed.new.store c.args.env.now n)) e c.is_sealed.ensures.adds)
+
+pub has_type-returns-else-is_un_type-clause-adds : goal.has_type-returns-else-is_un_type-clause-adds
+has_type-returns-else-is_un_type-clause-adds t c = no_typing
+
+pub has_type-returns-then-is_un_type-2-clause-adds : goal.has_type-returns-then-is_un_type-2-clause-adds
+has_type-returns-then-is_un_type-2-clause-adds t c =
+    let e = sym ((hash_of c.in-Hash.ensures c.requires.message).is) in
+    on_ok c.is_label.result (λ h. label_typing (part_label (subst (PartOf _) e (of_hash whole)) h)) c.is_label.ensures.adds
+
+pub has_type-returns-else-is_un_type-2-clause-adds : goal.has_type-returns-else-is_un_type-2-clause-adds
+has_type-returns-else-is_un_type-2-clause-adds t c = no_typing
+
+pub is_label-returns-in-Bound-clause-adds : goal.is_label-returns-in-Bound-clause-adds
+is_label-returns-in-Bound-clause-adds t c = no_label
+
+pub is_label-returns-in-Name-clause-adds : goal.is_label-returns-in-Name-clause-adds
+is_label-returns-in-Name-clause-adds t c = no_label
+
+pub is_label-returns-in-Unit-clause-adds : goal.is_label-returns-in-Unit-clause-adds
+is_label-returns-in-Unit-clause-adds t c = no_label
+
+pub is_label-returns-in-Inl-clause-adds : goal.is_label-returns-in-Inl-clause-adds
+is_label-returns-in-Inl-clause-adds t c =
+    let e = sym ((left_of c.in-Inl.ensures c.requires.message).is) in
+    on_ok c.is_label-in-Inl.result (part_label (subst (PartOf _) e (of_left whole))) c.is_label-in-Inl.ensures.adds
+
+pub is_label-returns-in-Inr-clause-adds : goal.is_label-returns-in-Inr-clause-adds
+is_label-returns-in-Inr-clause-adds t c =
+    let e = sym ((right_of c.in-Inr.ensures c.requires.message).is) in
+    on_ok c.is_label-in-Inr.result (part_label (subst (PartOf _) e (of_right whole))) c.is_label-in-Inr.ensures.adds
+
+pub is_label-returns-in-Hash-clause-adds : goal.is_label-returns-in-Hash-clause-adds
+is_label-returns-in-Hash-clause-adds t c =
+    let e = sym ((hash_of c.in-Hash.ensures c.requires.message).is) in
+    on_ok c.is_label-in-Hash.result (part_label (subst (PartOf _) e (of_hash whole))) c.is_label-in-Hash.ensures.adds
+
+pub is_label-returns-in-Enc-clause-adds : goal.is_label-returns-in-Enc-clause-adds
+is_label-returns-in-Enc-clause-adds t c =
+    let e = sym ((enc_of c.in-Enc.ensures c.requires.message).is) in
+    subst (λ (n : Message). OnOk c.is_sealed.result (LabelGives c.args.store.now c.is_sealed.new.store c.args.env.now n)) e c.is_sealed.ensures.adds
+
+pub is_label-returns-then-branch-clause-adds : goal.is_label-returns-then-branch-clause-adds
+is_label-returns-then-branch-clause-adds t c =
+    let w = pair_of c.in-Pair.ensures c.requires.message in
+    let a = c.in_ok-is_label-in-Pair.ensures in
+    on_ok c.is_label-then-branch.result (λ h. subst (LabelGives c.args.store.now c.is_label-then-branch.new.store c.args.env.now) (sym w.is) (both_labels c.in-Pair.a c.in-Pair.b a.adds a.kept w.second h)) c.is_label-then-branch.ensures.adds
+
+pub is_label-returns-else-branch-clause-adds : goal.is_label-returns-else-branch-clause-adds
+is_label-returns-else-branch-clause-adds t c =
+    let e = sym ((pair_of c.in-Pair.ensures c.requires.message).is) in
+    part_label (subst (PartOf _) e (of_first whole)) c.in_ok-is_label-in-Pair.ensures.adds
+
+pub is_sealed-returns-in-Some-clause-adds : goal.is_sealed-returns-in-Some-clause-adds
+is_sealed-returns-in-Some-clause-adds t c = on_ok c.has_type.result (payload_label c.in-Some.ensures.some c.new-values.ensures.items) c.has_type.ensures.adds
+
+pub is_sealed-returns-clause-adds : goal.is_sealed-returns-clause-adds
+is_sealed-returns-clause-adds t c =
+    let u = c.in_ok-un-in-None.ensures in
+    key_label c.args.body c.args.key u.kept u.adds u.at c.requires.key c.new-values.ensures.items c.in_ok-has_type-in-None.ensures.adds
+
+pub is_sealed-returns-then-branch-clause-adds : goal.is_sealed-returns-then-branch-clause-adds
+is_sealed-returns-then-branch-clause-adds t c =
+    let u = c.in_ok-un-in-None.ensures in
+    let h = c.in_ok-has_type-in-None.ensures in
+    on_ok c.has_type-then-branch.result (body_label c.args.body (key_label c.args.body c.args.key u.kept u.adds u.at c.requires.key c.new-values.ensures.items h.adds) (terms_more u.kept h.kept) (means_keeps h.kept u.at) c.requires.body (◌∙◌ {A = List MsgId} h.values c.new-values.ensures.items)) c.has_type-then-branch.ensures.adds
+
+pub left_has_type-returns-in-Unit-clause-adds : goal.left_has_type-returns-in-Unit-clause-adds
+left_has_type-returns-in-Unit-clause-adds t c = no_typing
+
+pub left_has_type-returns-in-Pair-clause-adds : goal.left_has_type-returns-in-Pair-clause-adds
+left_has_type-returns-in-Pair-clause-adds t c = no_typing
+
+pub left_has_type-returns-in-Key-clause-adds : goal.left_has_type-returns-in-Key-clause-adds
+left_has_type-returns-in-Key-clause-adds t c = no_typing
+
+pub left_has_type-returns-in-Nonce-clause-adds : goal.left_has_type-returns-in-Nonce-clause-adds
+left_has_type-returns-in-Nonce-clause-adds t c = no_typing
+
+pub left_has_type-returns-in-Un-clause-adds : goal.left_has_type-returns-in-Un-clause-adds
+left_has_type-returns-in-Un-clause-adds t c = on_ok c.has_type.result (part_typing (of_left whole)) c.has_type.ensures.adds
+
+pub left_has_type-returns-in-Sum-clause-adds : goal.left_has_type-returns-in-Sum-clause-adds
+left_has_type-returns-in-Sum-clause-adds t c = on_ok c.has_type-in-Sum.result (left_typing (sum_ty_of c.in-Sum.ensures c.requires.asked.given) (of_left whole)) c.has_type-in-Sum.ensures.adds
+
+pub right_has_type-returns-in-Unit-clause-adds : goal.right_has_type-returns-in-Unit-clause-adds
+right_has_type-returns-in-Unit-clause-adds t c = no_typing
+
+pub right_has_type-returns-in-Pair-clause-adds : goal.right_has_type-returns-in-Pair-clause-adds
+right_has_type-returns-in-Pair-clause-adds t c = no_typing
+
+pub right_has_type-returns-in-Key-clause-adds : goal.right_has_type-returns-in-Key-clause-adds
+right_has_type-returns-in-Key-clause-adds t c = no_typing
+
+pub right_has_type-returns-in-Nonce-clause-adds : goal.right_has_type-returns-in-Nonce-clause-adds
+right_has_type-returns-in-Nonce-clause-adds t c = no_typing
+
+pub right_has_type-returns-in-Un-clause-adds : goal.right_has_type-returns-in-Un-clause-adds
+right_has_type-returns-in-Un-clause-adds t c = on_ok c.has_type.result (part_typing (of_right whole)) c.has_type.ensures.adds
+
+pub right_has_type-returns-in-Sum-clause-adds : goal.right_has_type-returns-in-Sum-clause-adds
+right_has_type-returns-in-Sum-clause-adds t c = on_ok c.has_type-in-Sum.result (right_typing (sum_ty_of c.in-Sum.ensures c.requires.asked.given) (of_right whole)) c.has_type-in-Sum.ensures.adds
+
+pub pair_has_type-returns-in-Unit-clause-adds : goal.pair_has_type-returns-in-Unit-clause-adds
+pair_has_type-returns-in-Unit-clause-adds t c = no_typing
+
+pub pair_has_type-returns-in-Sum-clause-adds : goal.pair_has_type-returns-in-Sum-clause-adds
+pair_has_type-returns-in-Sum-clause-adds t c = no_typing
+
+pub pair_has_type-returns-in-Key-clause-adds : goal.pair_has_type-returns-in-Key-clause-adds
+pair_has_type-returns-in-Key-clause-adds t c = no_typing
+
+pub pair_has_type-returns-in-Nonce-clause-adds : goal.pair_has_type-returns-in-Nonce-clause-adds
+pair_has_type-returns-in-Nonce-clause-adds t c = no_typing
+
+pub pair_has_type-returns-else-branch-clause-adds : goal.pair_has_type-returns-else-branch-clause-adds
+pair_has_type-returns-else-branch-clause-adds t c = part_typing (of_first whole) c.in_ok-has_type-in-Un.ensures.adds
+
+pub pair_has_type-returns-then-branch-clause-adds : goal.pair_has_type-returns-then-branch-clause-adds
+pair_has_type-returns-then-branch-clause-adds t c =
+    let a = c.in_ok-has_type-in-Un.ensures in
+    on_ok c.has_type-then-branch.result (both_typing c.args.a c.args.b a.adds a.kept c.requires.second c.requires.asked.values a.values) c.has_type-then-branch.ensures.adds
+
+pub pair_has_type-returns-then-not-branch-clause-adds : goal.pair_has_type-returns-then-not-branch-clause-adds
+pair_has_type-returns-then-not-branch-clause-adds t c = first_typing (pair_ty_of c.in-Pair.ensures c.requires.asked.given) (of_first whole) c.in_ok-has_type-in-Pair.ensures.adds
+
+pub pair_has_type-returns-in_ok-answer-in-Pair-clause-adds : goal.pair_has_type-returns-in_ok-answer-in-Pair-clause-adds
+pair_has_type-returns-in_ok-answer-in-Pair-clause-adds t c =
+    let a = c.in_ok-has_type-in-Pair.ensures in
+    pair_typing (pair_ty_of c.in-Pair.ensures c.requires.asked.given) a.answer c.if-not-branch.false a.adds a.kept c.requires.first c.requires.second c.requires.asked.values (c.in_ok-push-in-Pair.ensures.items ∙ ap (λ us. us ++ c.args.a ∷ []) a.values) c.in_ok-answer-in-Pair.ensures.adds

@@ -1,4 +1,5 @@
 use Rattle.std.proofs.Common.{arith}
+use Rattle.spi_message.proofs.Giving.{first_given}
 use Rattle.spi_message.proofs.Judges.{free_none, free_next, free_all, free_judge, free_length}
 use Rattle.spi_message.proofs.Kept.{answers_none}
 use Rattle.spi_message.proofs.judge.Judge.new.Goals as goal
@@ -20,3 +21,6 @@ returns-clause-names c = free_all c.loop-name.name c.args.free c.loop-name.invar
 
 pub returns-clause-length : goal.returns-clause-length
 returns-clause-length c = free_length c.args.free (free_all c.loop-name.name c.args.free c.loop-name.invariant (omega (arith, c.loop-name-test.false, c.loop-name.auto.name-end)))
+
+pub returns-clause-gave : goal.returns-clause-gave
+returns-clause-gave c = first_given c.new-store.ensures.messages c.new-store.ensures.types c.in_ok-un.ensures.kept c.in_ok-un.ensures.adds
