@@ -1,0 +1,52 @@
+//! What a bench is written as.
+
+use spi_heading::Shared;
+use spi_text::Span;
+use spi_tree::{Decl, SProc, SWord};
+
+/// A bench: what it declares, the names that all parts share, and edits of its parts.
+pub struct BenchText {
+    /// 1, or 2 where the bench begins with `version 2;`
+    pub version: u32,
+    pub decls: Vec<Decl>,
+    pub shared: Vec<Shared>,
+    pub edits: Vec<Edit>,
+    pub span: Span,
+}
+
+impl Drop for BenchText {
+    fn drop(self) {
+        let BenchText {
+            version: _,
+            decls: _,
+            shared: _,
+            edits: _,
+            span: _,
+        } = self;
+    }
+}
+
+/// An edit of one part.
+pub enum Edit {
+    /// `put A { P }`
+    Put {
+        name: SWord,
+        part: SProc,
+        span: Span,
+    },
+    /// `drop A;`
+    Drop { name: SWord, span: Span },
+}
+
+impl Drop for Edit {
+    fn drop(self) {
+        match self {
+            Edit::Put {
+                name: _,
+                part: _,
+                span: _,
+            } => {}
+            Edit::Drop { name: _, span: _ } => {}
+        }
+    }
+}

@@ -1,0 +1,18 @@
+use Rattle.std.proofs.Common.{arith, ◌≡◌, ap, ◌∙◌, map}
+use Rattle.spi_tree.specs.Trees.{msgs_of_list}
+use Rattle.spi_tree.specs.Views.{msg_of}
+use Rattle.spi_tree.specs.declared.tree.SMsg.{SMsg}
+use Rattle.spi_tree.specs.declared.tree.SMsg.TheVariants.{Tuple}
+use Rattle.spi_tree.proofs.Rows.{tuple_is}
+use Rattle.spi_term.specs.Spelling.{stopped}
+use Rattle.spi_workbench.specs.Sizes.{msg_size, msgs_size}
+use Rattle.spi_workbench.proofs.sizes.+messages.Goals as goal
+
+pub message_nodes-returns-in-Tuple : goal.message_nodes-returns-in-Tuple
+message_nodes-returns-in-Tuple t c =
+    let w = c.in-Tuple in
+    let e : c.args.m.now ≡ Tuple w.first w.second w.more w.span = w.is in
+    let a : c.message_nodes-in-Tuple.result ≡ stopped (msg_size (msg_of w.first.value)) = c.message_nodes-in-Tuple.ensures ∙ ap (λ (x : SMsg). stopped (msg_size (msg_of x))) c.deref-in-Tuple-2.ensures in
+    let b : c.message_nodes.result ≡ stopped (msg_size (msg_of w.second.value)) = c.message_nodes.ensures ∙ ap (λ (x : SMsg). stopped (msg_size (msg_of x))) c.deref.ensures in
+    let r : c.messages_nodes.result ≡ stopped (msgs_size (msgs_of_list (map msg_of w.more.items))) = c.messages_nodes.ensures ∙ ap (λ x. stopped (msgs_size (msgs_of_list (map msg_of x)))) c.deref-in-Tuple.ensures.value in
+    rw (ap msg_of e ∙ tuple_is w.first w.second w.more w.span) (omega (arith, a, b, r, c.saturating_add-rest.ensures, c.one_over.ensures))

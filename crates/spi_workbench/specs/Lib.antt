@@ -1,0 +1,5 @@
+pub mod Reading
+pub mod Counting
+pub mod Sizes
+pub mod Answers
+pub mod Behind

@@ -1,0 +1,13 @@
+//! What a bench answers: its first refusal, or a verdict after each edit.
+#![tactic(auto)]
+
+mod answer;
+mod behind;
+mod placing;
+mod sizes;
+
+pub use answer::{Answer, Refusal, Verdicts};
+use std::alloc::AllocError;
+
+/// Memory ran out.
+pub type NoMemory = AllocError;

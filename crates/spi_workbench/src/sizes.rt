@@ -1,0 +1,134 @@
+//! How many nodes trees have.
+
+ghost use Rattle.std.specs.Prelude.{◌≡◌, ◌+◌, map};
+ghost use Rattle.spi_tree.specs.Trees.{msgs_of_list, fields_of_list};
+ghost use Rattle.spi_tree.specs.Views.{msg_of, atom_of, ty_of, field_of, last_of, proc_of};
+ghost use Rattle.spi_term.specs.Spelling.{stopped};
+ghost use Rattle.spi_workbench.specs.Sizes.{nodes_in, msg_size, msgs_size, atom_size, atoms_size, ty_size, fields_size, last_size, proc_size};
+
+use indexmap::IndexMap;
+use spi_tree::{Last, SAtom, SField, SMsg, SProc, STy, SWord};
+
+/// How many nodes each abbreviation has.
+pub type Sizes<'t> = IndexMap<&'t str, u64>;
+
+fn one_more(below: u64) -> u64
+    ensures { result ≡ stopped (1 + below) }
+{
+    below.saturating_add(1)
+}
+
+/// A node over two parts.
+fn one_over(first: u64, second: u64) -> u64
+    ensures { result ≡ stopped (1 + (first + second)) }
+{
+    first.saturating_add(second).saturating_add(1)
+}
+
+#[cycle(messages)]
+pub fn message_nodes(m: &SMsg) -> u64
+    ensures { result ≡ stopped (msg_size (msg_of m.now)) }
+{
+    match m {
+        SMsg::Name { .. } => 1,
+        SMsg::Unit { .. } => 1,
+        SMsg::Tuple {
+            first,
+            second,
+            more,
+            ..
+        } => {
+            let rest = message_nodes(second).saturating_add(messages_nodes(more));
+            one_over(message_nodes(first), rest)
+        }
+        SMsg::Inl { part, .. } => one_more(message_nodes(part)),
+        SMsg::Inr { part, .. } => one_more(message_nodes(part)),
+        SMsg::Enc { body, key, .. } => one_over(message_nodes(body), message_nodes(key)),
+        SMsg::Hash { part, .. } => one_more(message_nodes(part)),
+        SMsg::Num { .. } => 1,
+    }
+}
+
+/// Components of a tuple, with a pair for each.
+#[cycle(messages)]
+fn messages_nodes(ms: &[SMsg]) -> u64
+    ensures { result ≡ stopped (msgs_size (msgs_of_list (map msg_of ms.now))) }
+{
+    let mut total: u64 = 0;
+    for m in ms {
+        total = one_over(total, message_nodes(m));
+    }
+    total
+}
+
+fn atom_nodes(a: &SAtom) -> u64
+    ensures { result ≡ stopped (atom_size (atom_of a.now)) }
+{
+    match a {
+        SAtom::End { label, .. } => one_more(message_nodes(label)),
+        SAtom::Check { nonce, .. } => one_more(message_nodes(nonce)),
+        SAtom::Many { label, .. } => one_more(message_nodes(label)),
+    }
+}
+
+fn atoms_nodes(es: &[SAtom]) -> u64
+    ensures { result ≡ stopped (atoms_size (map atom_of es.now)) }
+{
+    let mut total: u64 = 0;
+    for a in es {
+        total = total.saturating_add(atom_nodes(a));
+    }
+    total
+}
+
+/// The nodes of an abbreviation's type, and of `Un` where it isn't known.
+fn abbreviation_nodes(sizes: &Sizes, word: &SWord) -> u64
+    ensures { result ≡ nodes_in sizes.now word.now.word }
+{
+    match sizes.get(&word.word.as_str()) {
+        None => 1,
+        Some(nodes) => *nodes,
+    }
+}
+
+#[cycle(types)]
+pub fn type_nodes(sizes: &Sizes, t: &STy) -> u64
+    ensures { result ≡ stopped (ty_size (nodes_in sizes.now) (ty_of t.now)) }
+{
+    match t {
+        STy::Un { .. } => 1,
+        STy::Unit { .. } => 1,
+        STy::Tuple {
+            first, more, last, ..
+        } => {
+            let rest = fields_nodes(sizes, more).saturating_add(last_nodes(sizes, last));
+            one_over(type_nodes(sizes, first), rest)
+        }
+        STy::Sum { left, right, .. } => one_over(type_nodes(sizes, left), type_nodes(sizes, right)),
+        STy::Key { part, .. } => one_more(type_nodes(sizes, part)),
+        STy::Nonce { effect, .. } => one_more(atoms_nodes(effect)),
+        STy::Abbr { name, .. } => abbreviation_nodes(sizes, name),
+    }
+}
+
+/// Components of a tuple type, with a pair for each.
+#[cycle(types)]
+fn fields_nodes(sizes: &Sizes, fs: &[SField]) -> u64
+    ensures { result ≡ stopped (fields_size (nodes_in sizes.now) (fields_of_list (map field_of fs.now))) }
+{
+    let mut total: u64 = 0;
+    for f in fs {
+        total = one_over(total, type_nodes(sizes, &f.ty));
+    }
+    total
+}
+
+#[cycle(types)]
+fn last_nodes(sizes: &Sizes, end: &Last) -> u64
+    ensures { result ≡ stopped (last_size (nodes_in sizes.now) (last_of end.now)) }
+{
+    match end {
+        Last::Bare(ty) => type_nodes(sizes, ty),
+        Last::Named(_, ty) => type_nodes(sizes, ty),
+    }
+}
