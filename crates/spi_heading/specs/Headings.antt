@@ -1,4 +1,5 @@
 -- What a narration or a bench begins with, without where it lies in memory.
+use Rattle.std.specs.Prelude.{ℕ, List}
 use Rattle.spi_text.specs.declared.lines.Span.{Span}
 use Rattle.spi_tree.specs.declared.tree.SWord.{SWord}
 use Rattle.spi_tree.specs.Trees as t
@@ -6,5 +7,10 @@ use Rattle.spi_tree.specs.Trees as t
 -- a name with its type that all parts share
 pub record Shared : Type 0 where
   pub span : Span
+  pub name : SWord
+  pub ty : t.Ty
+
+-- a name with its type
+pub record Named : Type 0 where
   pub name : SWord
   pub ty : t.Ty
