@@ -1,5 +1,5 @@
 -- The answers of calls as items and parts at a place, and back.
-use Rattle.std.proofs.Common.{◌≡◌, ℕ, suc, ◌+◌, ◌≤◌, ◌<◌, Bool, false, List, [], ◌∷◌, ◌++◌, length, drop, map, Ok, Err, refl, sym, ap, subst, ◌∙◌, arith}
+use Rattle.std.proofs.Common.{◌≡◌, ℕ, suc, ◌+◌, ◌≤◌, ◌<◌, Bool, List, [], ◌∷◌, ◌++◌, length, drop, Ok, Err, refl, sym, ap, subst, ◌∙◌, arith}
 use Rattle.std.proofs.lemmas.List.{length-map}
 use Rattle.spi_lex.specs.declared.token.Kind.{Kind}
 use Rattle.spi_lex.specs.declared.token.Kind.TheVariants as K
@@ -9,19 +9,17 @@ use Rattle.spi_text.specs.declared.lines.Span.{Span}
 use Rattle.spi_tree.specs.declared.tree.SWord.{SWord}
 use Rattle.spi_tree.specs.Trees as t
 use Rattle.spi_tree.specs.Pieces.{Piece, opens, cell, closes, cells, kinds_in}
-use Rattle.spi_tree.specs.Formed.{IsWordFit, AreWordsFit}
 use Rattle.spi_parse.specs.declared.fault.ParseFault.{ParseFault}
 use Rattle.spi_parse.specs.declared.fault.ParseFault.TheVariants as faults
 use Rattle.spi_parse.specs.Formed.{whole_type, whole_message, IsWholeType, IsWholeMessage}
 use Rattle.spi_parse.specs.Exact as exact
-use Rattle.spi_parse.proofs.Wholes.{fits_from}
 use Rattle.spi_grammar.specs.Exactly.{kinds, IsClosed, IsSame, IsEnd}
 use Rattle.spi_grammar.proofs.Good.{end_closed}
 use Rattle.spi_parts.proofs.Bridge.{kinds_cells, OfPieces, of_piece, end_to}
-use Rattle.spi_heading.specs.Spans.{start_of, end_before, first_from, first_to}
+use Rattle.spi_heading.specs.Spans.{end_before, first_from, first_to}
 use Rattle.spi_heading.specs.Taking.{IsThere, Takes, TakesWord}
 use Rattle.spi_heading.proofs.Standing.{Stands, found, within_one, within_part, behind_one, behind_part, spelled, standing, IsSolid, solid, msg_solid, ty_solid}
-use Rattle.spi_heading.proofs.Failing.{FailsAt, memory, one_fail, fails_from}
+use Rattle.spi_heading.proofs.Failing.{FailsAt, memory, one_fail}
 use Rattle.spi_heading.proofs.Symbols.{Tok, kind_of, IsName, name_token, asked_fits, shared, spelling, token, name, message, ty, Item}
 use Rattle.spi_heading.proofs.Rows.{ItemAt}
 
@@ -74,8 +72,7 @@ module _ {X : Type 0} (pieces : X → List Piece) (P : X → Type 0) (x : X) (ts
   pub part_at : (j : ℕ) → P x → IsSolid (pieces x) → IsClosed (OfPieces pieces P) → Stands ts i (pieces x) j → (n : ℕ) × (j ≡ i + n) × exact.IsPartAt pieces P x (drop i ts) n
   part_at j px s no_more h =
       let f = front (pieces x) i j h in
-      let cells_are : kinds (cells (pieces x)) ≡ kinds_of f.0 = kinds_cells (pieces x) ∙ f.2 in
-      (
+      let cells_are : kinds (cells (pieces x)) ≡ kinds_of f.0 = kinds_cells (pieces x) ∙ f.2 in (
         length f.0,
         place (pieces x) i j h ∙ ap (λ (l : List Kind). i + length l) f.2 ∙ ap (λ (n : ℕ). i + n) (length-map f.0 (λ (k : Token). k.kind)),
         record {

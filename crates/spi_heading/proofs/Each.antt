@@ -1,15 +1,14 @@
 -- Any number of parts at a place of a text.
-use Rattle.std.proofs.Common.{◌≡◌, ℕ, suc, ◌+◌, ◌≤◌, ◌<◌, Bool, List, [], ◌∷◌, ◌++◌, length, drop, Result, Ok, Err, refl, sym, ap, subst, ◌∙◌, append_assoc, append-nil, arith}
+use Rattle.std.proofs.Common.{◌≡◌, ℕ, suc, ◌+◌, ◌≤◌, ◌<◌, Bool, List, [], ◌∷◌, ◌++◌, length, drop, Result, Ok, Err, refl, sym, ap, subst, ◌∙◌, append_assoc, arith}
 use Rattle.std.specs.List.{AllByRecursion}
 use Rattle.std.specs.Result.{IsErrAnd}
-use Rattle.spi_lex.specs.declared.token.Kind.{Kind}
 use Rattle.spi_lex.specs.declared.token.Token.{Token}
 use Rattle.spi_lex.specs.Lexing.{kinds_of}
-use Rattle.spi_tree.specs.Pieces.{Piece, opens, cell, closes, cells, kinds_in}
+use Rattle.spi_tree.specs.Pieces.{Piece, opens, cell, closes}
 use Rattle.spi_tree.specs.Formed.{AreWordsFit}
 use Rattle.spi_parse.specs.declared.fault.ParseFault.{ParseFault}
 use Rattle.spi_parse.specs.Exact as exact
-use Rattle.spi_grammar.specs.Exactly.{kinds, IsGood}
+use Rattle.spi_grammar.specs.Exactly.{IsGood}
 use Rattle.spi_parts.proofs.Bridge.{OfPieces, of_piece}
 use Rattle.spi_heading.specs.Spans.{end_before}
 use Rattle.spi_heading.specs.Each.{each_pieces, IsWhole, EachAt, ReadsEach}

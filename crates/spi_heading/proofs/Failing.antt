@@ -1,15 +1,15 @@
 -- The faults of kinds of parts at a place of a text, and those of parts one behind another.
-use Rattle.std.proofs.Common.{◌≡◌, ℕ, ◌+◌, Bool, List, [], ◌∷◌, ◌++◌, length, drop, Err, refl, sym, ap, subst, ◌∙◌, ◌⊎◌, inl, inr, arith}
+use Rattle.std.proofs.Common.{◌≡◌, ℕ, ◌+◌, Bool, List, [], ◌∷◌, length, drop, Err, refl, sym, ap, subst, ◌∙◌, ◌⊎◌, inl, inr, arith}
 use Rattle.spi_lex.specs.declared.token.Kind.{Kind}
 use Rattle.spi_lex.specs.declared.token.Token.{Token}
 use Rattle.spi_lex.specs.Lexing.{kinds_of}
-use Rattle.spi_tree.specs.Pieces.{Piece, cells, kinds_in}
+use Rattle.spi_tree.specs.Pieces.{Piece}
 use Rattle.spi_parse.specs.declared.fault.ParseFault.{ParseFault}
 use Rattle.spi_parse.specs.declared.fault.ParseFault.TheVariants as faults
 use Rattle.spi_parse.specs.Exact as exact
-use Rattle.spi_grammar.specs.Exactly.{kinds, IsClean, IsLive, IsSame, Apart, IsGood, Then, Either, Many, Nothing, One, Fault, at_syntax, at_deep, Fails, Refuses, Reads}
+use Rattle.spi_grammar.specs.Exactly.{kinds, IsSame, IsGood, Then, Either, One, Fault, at_syntax, at_deep, Refuses, Reads}
 use Rattle.spi_grammar.proofs.Sequence.{apart_closed}
-use Rattle.spi_grammar.proofs.Answers.{same_refuses, same_fails, first_refuses, second_refuses, one_refuses}
+use Rattle.spi_grammar.proofs.Answers.{same_refuses, first_refuses, second_refuses, one_refuses}
 use Rattle.spi_grammar.proofs.Good.{this_refuses}
 use Rattle.spi_heading.specs.Taking.{IsThere}
 use Rattle.spi_heading.proofs.Standing.{found, unfound}
@@ -112,4 +112,3 @@ module _ {V X : Type 0} (view : V → X) (pieces : X → List Piece) (P : X → 
   pub fails_to : (f : ParseFault) → FailsAt (OfPieces pieces P) ts i f → exact.Reads view pieces P (Err f) ts i
   fails_to f (memory e) = subst (λ (g : ParseFault). exact.Reads view pieces P (Err g) ts i) (sym e) tt
   fails_to f (fault d n t r) = fails_as f d n t r
-

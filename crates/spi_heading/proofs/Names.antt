@@ -1,25 +1,22 @@
 -- Names with their types, and shared names, as rows.
-use Rattle.std.proofs.Common.{◌≡◌, ℕ, ◌+◌, ◌≤◌, ◌<◌, Bool, List, [], ◌∷◌, ◌++◌, length, drop, Result, Ok, Err, refl, sym, ap, subst, ◌∙◌}
+use Rattle.std.proofs.Common.{◌≡◌, ℕ, ◌+◌, ◌≤◌, Bool, List, [], ◌∷◌, ◌++◌, length, drop, Result, Ok, Err, sym, subst}
 use Rattle.std.specs.Result.{IsErrAnd}
 use Rattle.spi_lex.specs.declared.token.Kind.{Kind}
 use Rattle.spi_lex.specs.declared.token.Mark.TheVariants as mark
 use Rattle.spi_lex.specs.declared.token.Token.{Token}
 use Rattle.spi_lex.specs.Lexing.{kinds_of}
-use Rattle.spi_tree.specs.declared.tree.SWord.{SWord}
-use Rattle.spi_tree.specs.Trees as t
-use Rattle.spi_tree.specs.Pieces.{Piece, cells}
+use Rattle.spi_tree.specs.Pieces.{Piece}
 use Rattle.spi_tree.specs.Formed.{AreWordsFit}
 use Rattle.spi_parse.specs.declared.fault.ParseFault.{ParseFault}
 use Rattle.spi_parse.specs.Exact as exact
-use Rattle.spi_grammar.specs.Exactly.{IsSame, IsClosed, IsGood}
+use Rattle.spi_grammar.specs.Exactly.{IsSame, IsClosed}
 use Rattle.spi_parts.proofs.Bridge.{OfPieces}
 use Rattle.spi_heading.specs.Headings as h
 use Rattle.spi_heading.specs.Grammar.{shared_pieces, whole_named, whole_shared, IsWholeNamed, IsWholeShared}
-use Rattle.spi_heading.specs.Spans.{start_of, end_before, span_over}
 use Rattle.spi_heading.proofs.Standing.{Stands, IsSolid}
 use Rattle.spi_heading.proofs.Failing.{FailsAt, same_fail, fails_from, fails_to}
 use Rattle.spi_heading.proofs.Symbols.{Sym, token, name, ty, opening, closing, the_mark, the_word, shared}
-use Rattle.spi_heading.proofs.Rows.{Values, Row, row_good, row_into, row_from, RowAt, RowFails, row_fits, rows_first, rows_behind, rows_more, join, row_behind}
+use Rattle.spi_heading.proofs.Rows.{Values, Row, row_good, row_into, row_from, RowAt, RowFails, row_fits, row_behind}
 use Rattle.spi_heading.proofs.Calls.{part_at, part_stands, same_closed}
 
 abbrev pub named_row : List Sym

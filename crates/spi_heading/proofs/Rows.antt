@@ -1,5 +1,5 @@
 -- Rows: symbols one behind another.
-use Rattle.std.proofs.Common.{◌≡◌, ℕ, zero, suc, ◌+◌, ◌<◌, Bool, false, List, [], ◌∷◌, ◌++◌, length, drop, refl, sym, ap, subst, ◌∙◌, append_assoc, arith}
+use Rattle.std.proofs.Common.{◌≡◌, ℕ, ◌+◌, ◌<◌, Bool, List, [], ◌∷◌, ◌++◌, length, drop, refl, sym, ap, subst, ◌∙◌, append_assoc}
 use Rattle.spi_lex.specs.declared.token.Kind.{Kind}
 use Rattle.spi_lex.specs.declared.token.Token.{Token}
 use Rattle.spi_lex.specs.Lexing.{kinds_of}
@@ -8,7 +8,7 @@ use Rattle.spi_tree.specs.Formed.{AreWordsFit}
 use Rattle.spi_parse.specs.declared.fault.ParseFault.{ParseFault}
 use Rattle.spi_parse.proofs.Words.{fits_append, fits_front, fits_drop}
 use Rattle.spi_parse.proofs.Wholes.{fits_from}
-use Rattle.spi_grammar.specs.Exactly.{kinds, IsGood, IsSame, Then, Nothing, Reads}
+use Rattle.spi_grammar.specs.Exactly.{IsGood, IsSame, Then, Nothing}
 use Rattle.spi_grammar.proofs.Answers.{good_both}
 use Rattle.spi_grammar.proofs.Good.{end_closed}
 use Rattle.spi_parts.proofs.Alone.{kinds_in_append}
@@ -16,7 +16,7 @@ use Rattle.spi_parts.proofs.Bridge.{kinds_cells}
 use Rattle.spi_heading.proofs.Standing.{Stands, stands_both, stands_kinds, stands_clean, stands_length}
 use Rattle.spi_heading.specs.Spans.{start_of, end_before}
 use Rattle.spi_heading.proofs.Failing.{FailsAt, ReadAt, first_fail, second_fail, same_fail}
-use Rattle.spi_heading.proofs.Symbols.{cells_append, Sym, opening, closing, Value, item_pieces, IsItem, item_behind, Item, item_good, item_into, FromItem, item_from, nothing_good}
+use Rattle.spi_heading.proofs.Symbols.{cells_append, Sym, opening, closing, Value, item_pieces, IsItem, item_behind, Item, item_good, item_into, item_from, nothing_good}
 
 abbrev pub Values : List Sym → Type 0
 Values [] = Unit {0}

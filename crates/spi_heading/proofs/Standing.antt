@@ -1,11 +1,11 @@
 -- Where pieces stand among the tokens of a text: from the token of one number up to that of another.
-use Rattle.std.proofs.Common.{◌≡◌, ℕ, zero, suc, ◌+◌, ◌-◌, ◌≤◌, ◌<◌, Bool, false, List, [], ◌∷◌, ◌++◌, length, drop, slice_get, Some, refl, sym, ap, subst, ◌∙◌, arith, length-drop}
+use Rattle.std.proofs.Common.{◌≡◌, ℕ, zero, suc, ◌+◌, ◌≤◌, ◌<◌, false, List, [], ◌∷◌, ◌++◌, length, drop, slice_get, Some, refl, sym, ap, subst, ◌∙◌, arith, length-drop}
 use Rattle.std.proofs.lemmas.List.{length-append}
 use Rattle.spi_lex.specs.declared.token.Kind.{Kind}
 use Rattle.spi_lex.specs.declared.token.Token.{Token}
 use Rattle.spi_lex.specs.Lexing.{kinds_of}
 use Rattle.spi_tree.specs.Trees as t
-use Rattle.spi_tree.specs.Pieces.{Piece, opens, cell, closes, cells, kinds_in, Place, in_seq, at_level, msg_pieces, ty_pieces, decl_pieces, proc_pieces}
+use Rattle.spi_tree.specs.Pieces.{Piece, opens, cell, closes, cells, kinds_in, in_seq, at_level, msg_pieces, ty_pieces, decl_pieces, proc_pieces}
 use Rattle.spi_parse.specs.Exact.{Spells}
 use Rattle.spi_grammar.specs.Exactly.{IsClean}
 use Rattle.spi_heading.specs.Spans.{start_of, end_before, first_from, first_to}

@@ -13,10 +13,10 @@ use Rattle.spi_tree.specs.Pieces.{Piece, opens, cell, closes, cells, kinds_in, a
 use Rattle.spi_tree.specs.Formed.{IsWordFit, AreWordsFit, IsMsg, IsTy, IsProc}
 use Rattle.spi_parse.specs.Bare.{nowhere}
 use Rattle.spi_parse.specs.Formed.{whole_type, whole_message, whole_process, IsWholeType, IsWholeMessage, IsWholeProcess}
-use Rattle.spi_parse.proofs.Words.{fit_any, fits_append, fits_front, fits_drop}
-use Rattle.spi_grammar.specs.Exactly.{kinds, IsLive, IsClosed, IsEven, IsGood, Then, Nothing, One, StartsDeep}
+use Rattle.spi_parse.proofs.Words.{fit_any, fits_append, fits_front}
+use Rattle.spi_grammar.specs.Exactly.{kinds, IsClosed, IsEven, IsGood, Then, Nothing, One}
 use Rattle.spi_grammar.proofs.Answers.{one_good}
-use Rattle.spi_parts.proofs.Bridge.{OfPieces, of_piece}
+use Rattle.spi_parts.proofs.Bridge.{of_piece}
 use Rattle.spi_parts.proofs.Behind.{msg_behind, ty_behind, proc_behind}
 use Rattle.spi_parts.proofs.Alone.{Types, types_closed, types_even, types_live, Messages, messages_closed, messages_even, messages_live, kinds_in_append}
 use Rattle.spi_parts.proofs.Processes.{Processes, IsBraceClose, braced_good}

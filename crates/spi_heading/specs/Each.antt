@@ -1,6 +1,6 @@
 -- Any number of parts of one kind, one behind another. `piece` has the pieces of a part in front of others, and `Is` says
 -- which parts are formed.
-use Rattle.std.specs.Prelude.{◌≡◌, ℕ, ◌≤◌, Bool, List, [], ◌∷◌, drop, length, Result, Ok, Err}
+use Rattle.std.specs.Prelude.{ℕ, ◌≤◌, Bool, List, [], ◌∷◌, drop, length, Result, Ok, Err}
 use Rattle.std.specs.List.{AllByRecursion}
 use Rattle.spi_lex.specs.declared.token.Token.{Token}
 use Rattle.spi_tree.specs.Pieces.{Piece, kinds_in}

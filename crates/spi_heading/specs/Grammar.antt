@@ -1,5 +1,5 @@
 -- The tokens of shared names, as spi_tree's Pieces has those of trees: `{"shared" Word ":" STy ";"}*`.
-use Rattle.std.specs.Prelude.{ℕ, ◌⊎◌, Bool, false, List, [], ◌∷◌, codes}
+use Rattle.std.specs.Prelude.{ℕ, ◌⊎◌, Bool, false, List, [], codes}
 use Rattle.spi_lex.specs.declared.token.Kind.{Kind}
 use Rattle.spi_lex.specs.declared.token.Kind.TheVariants as kinds
 use Rattle.spi_lex.specs.declared.token.Mark.TheVariants as mark

@@ -1,5 +1,4 @@
 -- What a narration or a bench begins with, without where it lies in memory.
-use Rattle.std.specs.Prelude.{ℕ, List}
 use Rattle.spi_text.specs.declared.lines.Span.{Span}
 use Rattle.spi_tree.specs.declared.tree.SWord.{SWord}
 use Rattle.spi_tree.specs.Trees as t

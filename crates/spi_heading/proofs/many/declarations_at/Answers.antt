@@ -1,4 +1,4 @@
-use Rattle.std.proofs.Common.{◌≡◌, ◌==◌, ◌-◌, ◌∙◌, ◌++◌, ◌∷◌, [], List, ◌<◌, length, arith, map, refl, ap, sym, subst, IsTrue}
+use Rattle.std.proofs.Common.{◌≡◌, ◌==◌, ◌∙◌, List, arith, map, ap, sym, subst, true, false}
 use Rattle.std.specs.Global.{Vec}
 use Rattle.std.proofs.lemmas.List.{map_push}
 use Rattle.spi_tree.specs.Pieces.{decl_pieces}
@@ -11,7 +11,6 @@ use Rattle.spi_heading.specs.Grammar.{BeginsDecl}
 use Rattle.spi_heading.proofs.Standing.{decl_solid}
 use Rattle.spi_heading.specs.Each.{IsWhole}
 use Rattle.spi_heading.proofs.Each.{Along, along_start, along_each, each_fails, each_step, each_rises}
-use Rattle.spi_parse.specs.declared.fault.ParseFault.TheVariants as faults
 use Rattle.spi_heading.proofs.many.declarations_at.Goals as goal
 
 pub decls-init : goal.decls-init
@@ -50,4 +49,4 @@ decls-preserved c =
 pub returns : goal.returns
 returns c =
     let v = c.args.version == 2 in
-    (along_each decl_pieces decl_behind (IsDeclared v) c.args.tokens.now decl_solid c.args.start c.decls.at (map decl_of c.decls.decls.items) c.decls.invariant, λ b. search (c.begins_declaration.ensures.1 b, c.decls-test.false))
+    (along_each decl_pieces decl_behind (IsDeclared v) c.args.tokens.now decl_solid c.args.start c.decls.at (map decl_of c.decls.decls.items) c.decls.invariant, λ b. let no : false ≡ true = sym c.decls-test.false ∙ c.begins_declaration.ensures.1 b in cc)

@@ -2,11 +2,7 @@ use Rattle.std.proofs.Common.{◌==◌, length, map, ◌-◌}
 use Rattle.spi_tree.specs.Pieces.{decl_pieces}
 use Rattle.spi_tree.specs.Formed.{IsDeclared}
 use Rattle.spi_tree.specs.Views.{decl_of}
-use Rattle.spi_tree.specs.Trees.{Declared}
-use Rattle.spi_tree.specs.declared.tree.Decl.{Decl}
 use Rattle.spi_parts.proofs.Behind.{decl_behind}
-use Rattle.spi_heading.specs.Grammar.{BeginsDecl}
-use Rattle.spi_heading.proofs.Standing.{decl_solid}
 use Rattle.spi_heading.proofs.Each.{Along}
 use Rattle.spi_heading.proofs.many.declarations_at.Given as goal
 

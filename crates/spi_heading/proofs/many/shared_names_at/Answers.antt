@@ -1,4 +1,4 @@
-use Rattle.std.proofs.Common.{◌≡◌, ◌==◌, ◌-◌, ◌∙◌, ◌++◌, ◌∷◌, [], List, ◌<◌, length, arith, map, refl, ap, sym, subst, IsTrue}
+use Rattle.std.proofs.Common.{◌≡◌, ◌==◌, ◌∙◌, List, arith, map, ap, sym, subst, true, false}
 use Rattle.std.specs.Global.{Vec}
 use Rattle.std.proofs.lemmas.List.{map_push}
 use Rattle.spi_heading.specs.Grammar.{shared_pieces, IsShared, BeginsShared}
@@ -8,7 +8,6 @@ use Rattle.spi_heading.specs.declared.shared.Shared.{Shared}
 use Rattle.spi_heading.proofs.Names.{shared_behind, shared_solid}
 use Rattle.spi_heading.specs.Each.{IsWhole}
 use Rattle.spi_heading.proofs.Each.{Along, along_start, along_each, each_fails, each_step, each_rises}
-use Rattle.spi_parse.specs.declared.fault.ParseFault.TheVariants as faults
 use Rattle.spi_heading.proofs.many.shared_names_at.Goals as goal
 
 pub names-init : goal.names-init
@@ -47,4 +46,4 @@ names-preserved c =
 pub returns : goal.returns
 returns c =
     let v = c.args.version == 2 in
-    (along_each shared_pieces shared_behind (IsShared v) c.args.tokens.now shared_solid c.args.start c.names.at (map shared_of c.names.names.items) c.names.invariant, λ b. search (c.spelled_at.ensures.1 b, c.names-test.false))
+    (along_each shared_pieces shared_behind (IsShared v) c.args.tokens.now shared_solid c.args.start c.names.at (map shared_of c.names.names.items) c.names.invariant, λ b. let no : false ≡ true = sym c.names-test.false ∙ c.spelled_at.ensures.1 b in cc)

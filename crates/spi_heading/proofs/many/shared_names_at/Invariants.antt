@@ -1,9 +1,7 @@
 use Rattle.std.proofs.Common.{◌==◌, length, map, ◌-◌}
-use Rattle.spi_heading.specs.Grammar.{shared_pieces, IsShared, BeginsShared}
+use Rattle.spi_heading.specs.Grammar.{shared_pieces, IsShared}
 use Rattle.spi_heading.specs.Views.{shared_of}
-use Rattle.spi_heading.specs.Headings as h
-use Rattle.spi_heading.specs.declared.shared.Shared.{Shared}
-use Rattle.spi_heading.proofs.Names.{shared_behind, shared_solid}
+use Rattle.spi_heading.proofs.Names.{shared_behind}
 use Rattle.spi_heading.proofs.Each.{Along}
 use Rattle.spi_heading.proofs.many.shared_names_at.Given as goal
 

@@ -1,4 +1,4 @@
-use Rattle.std.proofs.Common.{◌==◌, length}
+use Rattle.std.proofs.Common.{◌==◌}
 use Rattle.spi_lex.specs.declared.token.Mark.TheVariants as mark
 use Rattle.spi_parse.specs.Formed.{whole_type, IsWholeType}
 use Rattle.spi_tree.specs.Views.{ty_of}
