@@ -5,3 +5,4 @@ pub mod Rows
 pub mod Calls
 pub mod Names
 pub mod Each
+pub mod Told
