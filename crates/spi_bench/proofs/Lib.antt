@@ -1,2 +1,4 @@
 mod Named
 mod Wholes
+pub mod Counted
+pub mod Totals
