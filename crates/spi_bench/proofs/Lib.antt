@@ -2,3 +2,4 @@ mod Named
 mod Wholes
 pub mod Counted
 pub mod Totals
+pub mod Placing

@@ -108,3 +108,19 @@ sums_padded s ss ts h e = record {
       let z = sum_by_push (of_slot s.free (shared_in s) m) ss None in
       let v = ap (total s.free (shared_in s) m) e in omega arith;
 }
+
+-- an emptied slot leaves room
+pub emptied_le : (k n : ℕ) (m : Measure) (ss : List (Option Slot)) (i : ℕ) → i < length ss → total k n m (slice_set ss i None) ≤ total k n m ss
+emptied_le k n m ss i l = let z = sum_by-set (of_slot k n m) ss i None None l in omega arith
+
+pub room_after : (k n k' n' : ℕ) (ss ts : List (Option Slot)) (m : Measure) (i r : ℕ) → k' ≡ k → n' ≡ n → ts ≡ slice_set ss i None → i < length ss → total k n m ss + r < 18446744073709551616 → total k' n' m ts + r < 18446744073709551616
+room_after k n k' n' ss ts m i r e f g l h =
+    let a = ap (λ j. total j n' m ts) e in
+    let b = ap (λ j. total k j m ts) f in
+    let c = ap (total k n m) g in
+    let d = emptied_le k n m ss i l in omega arith
+
+pub room_padded : (k n : ℕ) (ss ts : List (Option Slot)) (m : Measure) (r : ℕ) → ts ≡ ss ++ None ∷ [] → total k n m ss + r < 18446744073709551616 → total k n m ts + r < 18446744073709551616
+room_padded k n ss ts m r g h =
+    let z = sum_by_push (of_slot k n m) ss None in
+    let c = ap (total k n m) g in omega arith

@@ -1,10 +1,12 @@
 -- The slots in which the parts of a bench stand. A slot that is empty had a part that was dropped.
 use Rattle.std.specs.Prelude.{◌≡◌, ◌⊎◌, ◌↔◌, ℕ, ◌+◌, ◌<◌, ◌≤◌, List, [], ◌∷◌, ◌++◌, map, length, Option, Some, None, slice_get, slice_set}
+use Rattle.spi_term.specs.Spelling.{Spelling}
 use Rattle.spi_term.specs.Term.{Ty, Process}
+use Rattle.spi_term.specs.declared.term.Effect as Declared
 use Rattle.spi_rules.specs.Environment.{Env, untrusted}
 use Rattle.spi_infer.specs.Inferring.{IsLeast}
 use Rattle.spi_message.specs.Judging.{Numbered, Stands}
-use Rattle.spi_bench.specs.Parts.{Part}
+use Rattle.spi_bench.specs.Parts.{Part, named, with_part, without}
 use Rattle.spi_bench.specs.Sums.{blocked, placed, total}
 use Rattle.spi_bench.specs.Whole.{AreOver, AreShared}
 use Rattle.spi_bench.specs.declared.slot.Slot.{Slot}
@@ -51,6 +53,33 @@ pub record HaveNoneTwice (k n : ℕ) (ss : List (Option Slot)) : Type 0 where
   pub others : total k n (placed None) ss ≡ 0
   pub once : (i : ℕ) → i < n → total k n (placed (Some i)) ss ≤ 1
 
--- the slot with this number holds the slot, and all others hold what they held
-abbrev pub SetsSlot : ℕ → Option Slot → List (Option Slot) → List (Option Slot) → Type 0
-SetsSlot i s old new = new ≡ slice_set old i s
+-- the slot with this number holds the part, under the name that was there, and its part before is given back
+pub data SetsPart (i : ℕ) (p : Spelling) (least : Option Declared.Effect) : Option Spelling → List (Option Slot) → List (Option Slot) → Type 0 where
+  sets_part : {s t : Slot} {old new : List (Option Slot)} → slice_get old i ≡ Some (Some s) → t.name ≡ s.name → t.part ≡ p → t.least ≡ least
+      → new ≡ slice_set old i (Some t) → SetsPart i p least (Some s.part) old new
+  sets_none : {old new : List (Option Slot)} → slice_get old i ≡ Some None → SetsPart i p least None old new
+
+-- a slot comes last, with the part under the name
+pub data SetsLast (n : List ℕ) (p : Spelling) (least : Option Declared.Effect) (old new : List (Option Slot)) : Type 0 where
+  sets_last : {t : Slot} → t.name ≡ n → t.part ≡ p → t.least ≡ least → new ≡ slice_set (old ++ None ∷ []) (length old) (Some t)
+      → SetsLast n p least old new
+
+-- a put: the parts, the part that was there, the places of the names, and what is inferred
+pub record Puts (n : List ℕ) (p : Spelling) (least : Option Declared.Effect) (r : Option Spelling) (old new : List (Option Slot)) (to : List ℕ → Option ℕ) : Type 0 where
+  pub places : AreNamed new to
+  pub parts : parts_of new ≡ with_part n p (parts_of old)
+  pub before : r ≡ named n (parts_of old)
+  pub inferred : (env : Env) (count : ℕ) → AreInferred env count old → IsLeast env p.process least → p.names ≡ count → AreInferred env count new
+
+-- a drop
+pub record Drops (n : List ℕ) (r : Option Spelling) (old new : List (Option Slot)) (to : List ℕ → Option ℕ) : Type 0 where
+  pub places : AreNamed new to
+  pub parts : parts_of new ≡ without n (parts_of old)
+  pub before : r ≡ named n (parts_of old)
+  pub inferred : (env : Env) (count : ℕ) → AreInferred env count old → AreInferred env count new
+
+-- no change
+pub record Stays (old new : List (Option Slot)) (to : List ℕ → Option ℕ) : Type 0 where
+  pub places : AreNamed new to
+  pub parts : parts_of new ≡ parts_of old
+  pub inferred : (env : Env) (count : ℕ) → AreInferred env count old → AreInferred env count new

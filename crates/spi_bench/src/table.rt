@@ -100,6 +100,19 @@ impl Table {
         before
     }
 
+    /// Empties a slot, and gives back what was there.
+    pub fn clear(&mut self, at: usize) -> Option<Slot>
+        requires { at < length self.old.slots.items }
+        ensures before { slice_get self.old.slots.items at ≡ Some result }
+        ensures after { self.new.slots.items ≡ slice_set self.old.slots.items at None }
+        ensures free { self.new.sums.free ≡ self.old.sums.free }
+        ensures shared { shared_in self.new.sums ≡ shared_in self.old.sums }
+    {
+        let before = replace(&mut self.slots[at], None);
+        self.sums.take(&before);
+        before
+    }
+
     /// How many nodes the parts have.
     pub fn nodes(&self) -> u64
         ensures { result ≡ total self.now.sums.free (shared_in self.now.sums) S.nodes self.now.slots.items }
