@@ -1,2 +1,5 @@
 mod Named
 mod Wholes
+pub mod Counted
+pub mod Totals
+pub mod Placing

@@ -1,1 +1,4 @@
 pub mod Whole
+pub mod Parts
+pub mod Sums
+pub mod Slots

@@ -2,5 +2,13 @@
 #![tactic(auto)]
 
 mod laws;
+mod naming;
+mod slot;
+mod sums;
+mod table;
 
 pub use laws::parts_decide;
+use std::alloc::AllocError;
+
+/// Memory ran out.
+pub type NoMemory = AllocError;

@@ -1,0 +1,299 @@
+-- Slots under names, as they change.
+use Rattle.std.proofs.Common.{◌≡◌, ◌≢◌, ◌↔◌, ◌⊎◌, inl, inr, refl, sym, ap, ◌∙◌, subst, ℕ, zero, suc, ◌+◌, ◌<◌, ◌≤◌, Bool, true, false, eqb, List, [], ◌∷◌, ◌++◌, map, length, Option, Some, None, arith, eqb-true, length-append}
+use Rattle.std.proofs.lemmas.Bool.{eqb-false}
+use Rattle.std.specs.Prelude.{slice_get, slice_set}
+use Rattle.std.specs.Str.{bytes_eq}
+use Rattle.std.specs.HashMap.{HashMap}
+use Rattle.std.specs.Map.{lookup}
+use Rattle.indexmap.specs.IndexMap.{get}
+use Rattle.std.specs.Cmp.Lexicographic.{bytes_decides}
+use Rattle.spi_term.specs.Spelling.{Spelling}
+use Rattle.spi_rules.specs.Environment.{Env}
+use Rattle.spi_bench.specs.Parts.{Part, named, with_part, without}
+use Rattle.std.proofs.lemmas.Option.{slice_get_within}
+use Rattle.spi_infer.specs.Inferring.{IsLeast}
+use Rattle.spi_term.specs.declared.term.Effect as D
+use Rattle.spi_bench.specs.Slots.{SetsPart, sets_part, sets_none, SetsLast, sets_last, IsPadded, Puts, Drops, Stays}
+use Rattle.spi_bench.specs.Slots.{part_of, kept, parts_of, StandsAt, AreNamed, IsInferred, AreInferred}
+use Rattle.spi_bench.specs.declared.slot.Slot.{Slot}
+
+-- texts
+same_text : (n m : List ℕ) → n ≡ m → bytes_eq n m ≡ true
+same_text n m e = (bytes_decides n m).1 e
+
+told_text : (n m : List ℕ) (b : Bool) → bytes_eq n m ≡ b → (n ≡ m) ⊎ ((n ≢ m) × (bytes_eq n m ≡ false))
+told_text n m true e = inl ((bytes_decides n m).0 e)
+told_text n m false e = inr (λ q. let f : true ≡ false = sym (same_text n m q) ∙ e in absurd (cc), e)
+
+pub other_text : (n m : List ℕ) → n ≢ m → bytes_eq n m ≡ false
+other_text n m h = other (told_text n m (bytes_eq n m) refl)
+  where
+    other : (n ≡ m) ⊎ ((n ≢ m) × (bytes_eq n m ≡ false)) → bytes_eq n m ≡ false
+    other (inl e) = absurd (h e)
+    other (inr p) = p.1
+
+told_place : (i j : ℕ) → (i ≡ j) ⊎ (i ≢ j)
+told_place i j = go (eqb i j) refl
+  where
+    go : (b : Bool) → eqb i j ≡ b → (i ≡ j) ⊎ (i ≢ j)
+    go true e = inl (eqb-true i j e)
+    go false e = inr (eqb-false i j e)
+
+-- elements
+pub get_here : {A : Type 0} (xs : List A) (i : ℕ) (a : A) → i < length xs → slice_get (slice_set xs i a) i ≡ Some a
+get_here [] i a h = absurd (omega arith)
+get_here (x ∷ xs) zero a h = refl
+get_here (x ∷ xs) (suc i) a h = get_here xs i a (omega arith)
+
+pub get_there : {A : Type 0} (xs : List A) (i j : ℕ) (a : A) → j ≢ i → slice_get (slice_set xs i a) j ≡ slice_get xs j
+get_there [] i j a h = refl
+get_there (x ∷ xs) zero zero a h = absurd (h refl)
+get_there (x ∷ xs) zero (suc j) a h = refl
+get_there (x ∷ xs) (suc i) zero a h = refl
+get_there (x ∷ xs) (suc i) (suc j) a h = get_there xs i j a (λ e. h (ap suc e))
+
+get_padded : (ss : List (Option Slot)) (j : ℕ) (u : Slot) → slice_get (ss ++ None ∷ []) j ≡ Some (Some u) → slice_get ss j ≡ Some (Some u)
+get_padded [] zero u e = absurd (cc)
+get_padded [] (suc j) u e = absurd (cc)
+get_padded (x ∷ ss) zero u e = e
+get_padded (x ∷ ss) (suc j) u e = get_padded ss j u e
+
+get_kept : (ss : List (Option Slot)) (j : ℕ) (u : Slot) → slice_get ss j ≡ Some (Some u) → slice_get (ss ++ None ∷ []) j ≡ Some (Some u)
+get_kept [] j u e = absurd (cc)
+get_kept (x ∷ ss) zero u e = e
+get_kept (x ∷ ss) (suc j) u e = get_kept ss j u e
+
+-- a slot named n stands at i, if any does
+abbrev pub Only : List ℕ → ℕ → List (Option Slot) → Type 0
+Only n i ss = (j : ℕ) (u : Slot) → slice_get ss j ≡ Some (Some u) → u.name ≡ n → j ≡ i
+
+abbrev pub NoName : List ℕ → List (Option Slot) → Type 0
+NoName n ss = (j : ℕ) (u : Slot) → slice_get ss j ≡ Some (Some u) → u.name ≢ n
+
+pub only_one : (n : List ℕ) (i : ℕ) (ss : List (Option Slot)) (at : List ℕ → Option ℕ) → AreNamed ss at → at n ≡ Some i → Only n i ss
+only_one n i ss at h e j u g f = let a : at n ≡ Some j = (h n j).1 (u, g, f) in cc
+
+pub no_name : (n : List ℕ) (ss : List (Option Slot)) (at : List ℕ → Option ℕ) → AreNamed ss at → at n ≡ None → NoName n ss
+no_name n ss at h e j u g f = let a : at n ≡ Some j = (h n j).1 (u, g, f) in absurd (cc)
+
+next_only : (n : List ℕ) (i : ℕ) (x : Option Slot) (ss : List (Option Slot)) → Only n (suc i) (x ∷ ss) → Only n i ss
+next_only n i x ss h j u e f = let a : suc j ≡ suc i = h (suc j) u e f in omega arith
+
+-- the parts, where the slot named n changes
+put_there : (ss : List (Option Slot)) (i : ℕ) (s t : Slot) (n : List ℕ) → slice_get ss i ≡ Some (Some s) → s.name ≡ n → t.name ≡ n → Only n i ss → parts_of (slice_set ss i (Some t)) ≡ with_part n t.part (parts_of ss)
+put_there [] i s t n e f g o = absurd (cc)
+put_there (None ∷ ss) zero s t n e f g o = absurd (cc)
+put_there (None ∷ ss) (suc i) s t n e f g o = put_there ss i s t n e f g (next_only n i None ss o)
+put_there (Some u ∷ ss) zero s t n e f g o =
+    let q : u ≡ s = cc in
+    let w : n ≡ u.name = sym (ap (λ (v : Slot). v.name) q ∙ f) in
+    rw (same_text n u.name w) (ap (λ (m : List ℕ). record { name = m; part = t.part } ∷ parts_of ss) g)
+put_there (Some u ∷ ss) (suc i) s t n e f g o =
+    let w : n ≢ u.name = λ q. let z : 0 ≡ suc i = o 0 u refl (sym q) in absurd (omega arith) in
+    rw (other_text n u.name w) (ap (λ l. part_of u ∷ l) (put_there ss i s t n e f g (next_only n i (Some u) ss o)))
+
+find_there : (ss : List (Option Slot)) (i : ℕ) (s : Slot) (n : List ℕ) → slice_get ss i ≡ Some (Some s) → s.name ≡ n → Only n i ss → named n (parts_of ss) ≡ Some s.part
+find_there [] i s n e f o = absurd (cc)
+find_there (None ∷ ss) zero s n e f o = absurd (cc)
+find_there (None ∷ ss) (suc i) s n e f o = find_there ss i s n e f (next_only n i None ss o)
+find_there (Some u ∷ ss) zero s n e f o =
+    let q : u ≡ s = cc in
+    let w : n ≡ u.name = sym (ap (λ (v : Slot). v.name) q ∙ f) in
+    rw (same_text n u.name w) (ap (λ (v : Slot). Some v.part) q)
+find_there (Some u ∷ ss) (suc i) s n e f o =
+    let w : n ≢ u.name = λ q. let z : 0 ≡ suc i = o 0 u refl (sym q) in absurd (omega arith) in
+    rw (other_text n u.name w) (find_there ss i s n e f (next_only n i (Some u) ss o))
+
+drop_there : (ss : List (Option Slot)) (i : ℕ) (s : Slot) (n : List ℕ) → slice_get ss i ≡ Some (Some s) → s.name ≡ n → Only n i ss → parts_of (slice_set ss i None) ≡ without n (parts_of ss)
+drop_there [] i s n e f o = absurd (cc)
+drop_there (None ∷ ss) zero s n e f o = absurd (cc)
+drop_there (None ∷ ss) (suc i) s n e f o = drop_there ss i s n e f (next_only n i None ss o)
+drop_there (Some u ∷ ss) zero s n e f o =
+    let q : u ≡ s = cc in
+    let w : n ≡ u.name = sym (ap (λ (v : Slot). v.name) q ∙ f) in
+    rw (same_text n u.name w) refl
+drop_there (Some u ∷ ss) (suc i) s n e f o =
+    let w : n ≢ u.name = λ q. let z : 0 ≡ suc i = o 0 u refl (sym q) in absurd (omega arith) in
+    rw (other_text n u.name w) (ap (λ l. part_of u ∷ l) (drop_there ss i s n e f (next_only n i (Some u) ss o)))
+
+-- where no slot is named n
+put_last : (ss : List (Option Slot)) (t : Slot) (n : List ℕ) → t.name ≡ n → NoName n ss → parts_of (slice_set (ss ++ None ∷ []) (length ss) (Some t)) ≡ with_part n t.part (parts_of ss)
+put_last [] t n g o = ap (λ (m : List ℕ). record { name = m; part = t.part } ∷ []) g
+put_last (None ∷ ss) t n g o = put_last ss t n g (λ j. o (suc j))
+put_last (Some u ∷ ss) t n g o = rw (other_text n u.name (λ q. o 0 u refl (sym q))) (ap (λ l. part_of u ∷ l) (put_last ss t n g (λ j. o (suc j))))
+
+find_none : (ss : List (Option Slot)) (n : List ℕ) → NoName n ss → named n (parts_of ss) ≡ None
+find_none [] n o = refl
+find_none (None ∷ ss) n o = find_none ss n (λ j. o (suc j))
+find_none (Some u ∷ ss) n o = rw (other_text n u.name (λ q. o 0 u refl (sym q))) (find_none ss n (λ j. o (suc j)))
+
+drop_none : (ss : List (Option Slot)) (n : List ℕ) → NoName n ss → without n (parts_of ss) ≡ parts_of ss
+drop_none [] n o = refl
+drop_none (None ∷ ss) n o = drop_none ss n (λ j. o (suc j))
+drop_none (Some u ∷ ss) n o = rw (other_text n u.name (λ q. o 0 u refl (sym q))) (ap (λ l. part_of u ∷ l) (drop_none ss n (λ j. o (suc j))))
+
+parts_padded : (ss : List (Option Slot)) → parts_of (ss ++ None ∷ []) ≡ parts_of ss
+parts_padded [] = refl
+parts_padded (None ∷ ss) = parts_padded ss
+parts_padded (Some u ∷ ss) = ap (λ l. part_of u ∷ l) (parts_padded ss)
+
+-- what a slot may become, with the place of its name
+pub data Becomes (n : List ℕ) (i : ℕ) : Option Slot → Option ℕ → Type 0 where
+  gone : Becomes n i None None
+  there : {t : Slot} → t.name ≡ n → Becomes n i (Some t) (Some i)
+
+becomes_at : {n : List ℕ} {i : ℕ} {x : Option Slot} {w : Option ℕ} (u : Slot) → Becomes n i x w → x ≡ Some u → (w ≡ Some i) × (u.name ≡ n)
+becomes_at u gone e = absurd (cc)
+becomes_at u (there {t} g) e = let q : t ≡ u = cc in (refl, sym (ap (λ (v : Slot). v.name) q) ∙ g)
+
+-- the names after the slot with number i becomes x, where it is empty or named n, and no other is named n
+module _ (n : List ℕ) (i : ℕ) (ss : List (Option Slot)) (at to : List ℕ → Option ℕ) (x : Option Slot) (w : Option ℕ) (l : i < length ss) (h : AreNamed ss at) (o : Only n i ss) (old : (u : Slot) → slice_get ss i ≡ Some (Some u) → u.name ≡ n) (b : Becomes n i x w) (here : to n ≡ w) (others : (m : List ℕ) → n ≢ m → to m ≡ at m) where
+  stands_here : (j : ℕ) → w ≡ Some j → StandsAt (slice_set ss i x) j n
+  stands_here j e = go b e
+    where
+      go : {y : Option Slot} {v : Option ℕ} → Becomes n i y v → v ≡ Some j → StandsAt (slice_set ss i y) j n
+      go gone e = absurd (cc)
+      go (there {t} g) e = let q : i ≡ j = cc in subst (λ k. StandsAt (slice_set ss i (Some t)) k n) q (t, get_here ss i (Some t) l, g)
+
+  from_here : (j : ℕ) (m : List ℕ) (u : Slot) → slice_get (slice_set ss i x) j ≡ Some (Some u) → u.name ≡ m → j ≡ i → to m ≡ Some j
+  from_here j m u e f q =
+      let a : slice_get (slice_set ss i x) i ≡ Some (Some u) = subst (λ k. slice_get (slice_set ss i x) k ≡ Some (Some u)) q e in
+      let c : x ≡ Some u = let d = get_here ss i x l in cc in
+      let r = becomes_at u b c in
+      let g : n ≡ m = sym r.1 ∙ f in
+      subst (λ p. to p ≡ Some j) g (here ∙ r.0 ∙ ap Some (sym q))
+
+  to_there : (m : List ℕ) (j : ℕ) → n ≢ m → StandsAt ss j m → StandsAt (slice_set ss i x) j m
+  to_there m j d (u, e, f) =
+      let q : j ≢ i = λ r. d (sym (old u (subst (λ k. slice_get ss k ≡ Some (Some u)) r e)) ∙ f) in
+      (u, get_there ss i j x q ∙ e, f)
+
+  from_there : (m : List ℕ) (j : ℕ) → StandsAt (slice_set ss i x) j m → j ≢ i → StandsAt ss j m
+  from_there m j (u, e, f) q = (u, sym (get_there ss i j x q) ∙ e, f)
+
+  pub named_after : AreNamed (slice_set ss i x) to
+  named_after m j = (forth (told_text n m (bytes_eq n m) refl), back (told_place j i))
+    where
+      forth : (n ≡ m) ⊎ ((n ≢ m) × (bytes_eq n m ≡ false)) → to m ≡ Some j → StandsAt (slice_set ss i x) j m
+      forth (inl q) e = subst (λ p. StandsAt (slice_set ss i x) j p) q (stands_here j (sym here ∙ ap to q ∙ e))
+      forth (inr d) e = to_there m j d.0 ((h m j).0 (sym (others m d.0) ∙ e))
+
+      same : (n ≡ m) ⊎ ((n ≢ m) × (bytes_eq n m ≡ false)) → j ≢ i → StandsAt ss j m → to m ≡ Some j
+      same (inl q) d (u, e, f) = absurd (d (o j u e (f ∙ sym q)))
+      same (inr p) d s = others m p.0 ∙ (h m j).1 s
+
+      back : (j ≡ i) ⊎ (j ≢ i) → StandsAt (slice_set ss i x) j m → to m ≡ Some j
+      back (inl q) (u, e, f) = from_here j m u e f q
+      back (inr d) s = same (told_text n m (bytes_eq n m) refl) d (from_there m j s d)
+
+named_padded : (ss : List (Option Slot)) (at : List ℕ → Option ℕ) → AreNamed ss at → AreNamed (ss ++ None ∷ []) at
+named_padded ss at h m j = (λ e. let s = (h m j).0 e in (s.0, get_kept ss j s.0 s.1, s.2), λ s. (h m j).1 (s.0, get_padded ss j s.0 s.1, s.2))
+
+-- what is inferred of each slot
+pub inferred_after : (env : Env) (count i : ℕ) (ss : List (Option Slot)) (x : Option Slot) → i < length ss → AreInferred env count ss → ((u : Slot) → x ≡ Some u → IsInferred env count u) → AreInferred env count (slice_set ss i x)
+inferred_after env count i ss x l h g j u e = go (told_place j i)
+  where
+    go : (j ≡ i) ⊎ (j ≢ i) → IsInferred env count u
+    go (inl q) = let a : slice_get (slice_set ss i x) i ≡ Some (Some u) = subst (λ k. slice_get (slice_set ss i x) k ≡ Some (Some u)) q e in g u (let d = get_here ss i x l in cc)
+    go (inr d) = h j u (sym (get_there ss i j x d) ∙ e)
+
+inferred_padded : (env : Env) (count : ℕ) (ss : List (Option Slot)) → AreInferred env count ss → AreInferred env count (ss ++ None ∷ [])
+inferred_padded env count ss h j u e = h j u (get_padded ss j u e)
+
+-- a slot with a part and its least effect
+inferred_slot : (env : Env) (count : ℕ) (t : Slot) (p : Spelling) (least : Option D.Effect) → t.part ≡ p → t.least ≡ least → IsLeast env p.process least → p.names ≡ count → IsInferred env count t
+inferred_slot env count t p least q m y z = record {
+  names = ap (λ (x : Spelling). x.names) q ∙ z;
+  least = subst (λ (x : Spelling). IsLeast env x.process t.least) (sym q) (subst (λ x. IsLeast env p.process x) (sym m) y);
+}
+
+none_some : {A : Type 0} (u : Slot) (x : Option (Option Slot)) → x ≡ Some None → x ≡ Some (Some u) → A
+none_some u x e f = absurd (cc)
+
+-- puts and drops, from what becomes of the slots
+abbrev At : Type 0
+At = List ℕ → Option ℕ
+
+pub puts_there : (n : List ℕ) (p : Spelling) (least : Option D.Effect) (i : ℕ) (r : Option Spelling) (old new : List (Option Slot)) (at : At) → AreNamed old at → at n ≡ Some i → SetsPart i p least r old new → Puts n p least r old new at
+puts_there n p least i _ old new at h e (sets_part {s} {t} g f q m w) =
+    let (u, v, z) = (h n i).0 e in
+    let a : s ≡ u = cc in
+    let b : s.name ≡ n = ap (λ (x : Slot). x.name) a ∙ z in
+    let o = only_one n i old at h e in
+    let l = slice_get_within old i (Some s) g in
+    record {
+      places = subst (λ x. AreNamed x at) (sym w) (named_after n i old at at (Some t) (Some i) l h o (λ y k. let c : s ≡ y = cc in sym (ap (λ (x : Slot). x.name) c) ∙ b) (there (f ∙ b)) e (λ m d. refl));
+      parts = ap parts_of w ∙ put_there old i s t n g b (f ∙ b) o ∙ ap (λ x. with_part n x (parts_of old)) q;
+      before = sym (find_there old i s n g b o);
+      inferred = λ env count k y z.
+          subst (λ x. AreInferred env count x) (sym w) (inferred_after env count i old (Some t) l k (λ x c. let d : t ≡ x = cc in subst (IsInferred env count) d (inferred_slot env count t p least q m y z)));
+    }
+puts_there n p least i _ old new at h e (sets_none g) =
+    let (u, v, z) = (h n i).0 e in
+    none_some u (slice_get old i) g v
+
+pub puts_last : (n : List ℕ) (p : Spelling) (least : Option D.Effect) (old new : List (Option Slot)) (at to : At) → AreNamed old at → at n ≡ None → SetsLast n p least old new → to n ≡ Some (length old) → ((m : List ℕ) → n ≢ m → to m ≡ at m) → Puts n p least None old new to
+puts_last n p least old new at to h e (sets_last {t} f q m w) here others =
+    let o = no_name n old at h e in
+    let l : length old < length (old ++ None ∷ []) = let a = length-append old (None ∷ []) in omega arith in
+    let padded = old ++ None ∷ [] in
+    record {
+      places = subst (λ x. AreNamed x to) (sym w) (named_after n (length old) padded at to (Some t) (Some (length old)) l (named_padded old at h) (λ j u g k. absurd (o j u (get_padded old j u g) k)) (λ u g. absurd (past old u (get_padded old (length old) u g))) (there f) here others);
+      parts = ap parts_of w ∙ put_last old t n f o ∙ ap (λ x. with_part n x (parts_of old)) q;
+      before = sym (find_none old n o);
+      inferred = λ env count k y z.
+          subst (λ x. AreInferred env count x) (sym w) (inferred_after env count (length old) padded (Some t) l (inferred_padded env count old k) (λ x c. let d : t ≡ x = cc in subst (IsInferred env count) d (inferred_slot env count t p least q m y z)));
+    }
+  where
+    past : (ss : List (Option Slot)) (u : Slot) → slice_get ss (length ss) ≡ Some (Some u) → ⊥
+    past ss u g = let a = slice_get_within ss (length ss) (Some u) g in omega arith
+
+pub stays_padded : (old new : List (Option Slot)) (at to : At) → AreNamed old at → ((m : List ℕ) → to m ≡ at m) → IsPadded old new → Stays old new to
+stays_padded old new at to h e p = go p
+  where
+    named_to : (ss : List (Option Slot)) → AreNamed ss at → AreNamed ss to
+    named_to ss a m j = (λ x. (a m j).0 (sym (e m) ∙ x), λ s. e m ∙ (a m j).1 s)
+
+    go : IsPadded old new → Stays old new to
+    go (inl q) = record {
+      places = subst (λ x. AreNamed x to) (sym q) (named_to old h);
+      parts = ap parts_of q;
+      inferred = λ env count k. subst (λ x. AreInferred env count x) (sym q) k;
+    }
+    go (inr q) = record {
+      places = subst (λ x. AreNamed x to) (sym q) (named_to (old ++ None ∷ []) (named_padded old at h));
+      parts = ap parts_of q ∙ parts_padded old;
+      inferred = λ env count k. subst (λ x. AreInferred env count x) (sym q) (inferred_padded env count old k);
+    }
+
+pub drops_there : (n : List ℕ) (i : ℕ) (s : Slot) (old new : List (Option Slot)) (at to : At) → AreNamed old at → at n ≡ Some i → slice_get old i ≡ Some (Some s) → new ≡ slice_set old i None → to n ≡ None → ((m : List ℕ) → n ≢ m → to m ≡ at m) → Drops n (Some s.part) old new to
+drops_there n i s old new at to h e g w here others =
+    let (u, v, z) = (h n i).0 e in
+    let a : s ≡ u = cc in
+    let b : s.name ≡ n = ap (λ (x : Slot). x.name) a ∙ z in
+    let o = only_one n i old at h e in
+    let l = slice_get_within old i (Some s) g in
+    record {
+      places = subst (λ x. AreNamed x to) (sym w) (named_after n i old at to None None l h o (λ y k. let c : s ≡ y = cc in sym (ap (λ (x : Slot). x.name) c) ∙ b) gone here others);
+      parts = ap parts_of w ∙ drop_there old i s n g b o;
+      before = sym (find_there old i s n g b o);
+      inferred = λ env count k. subst (λ x. AreInferred env count x) (sym w) (inferred_after env count i old None l k (λ x c. absurd (cc)));
+    }
+
+pub stands_some : (n : List ℕ) (i : ℕ) (old : List (Option Slot)) (at : At) → AreNamed old at → at n ≡ Some i → slice_get old i ≡ Some None → ⊥
+stands_some n i old at h e g =
+    let (u, v, z) = (h n i).0 e in
+    none_some u (slice_get old i) g v
+
+pub stands_within : (n : List ℕ) (i : ℕ) (old : List (Option Slot)) (at : At) → AreNamed old at → at n ≡ Some i → i < length old
+stands_within n i old at h e = let (u, v, z) = (h n i).0 e in slice_get_within old i (Some u) v
+
+pub drops_none : (n : List ℕ) (old : List (Option Slot)) (at to : At) → AreNamed old at → at n ≡ None → ((m : List ℕ) → to m ≡ at m) → Drops n None old old to
+drops_none n old at to h e q =
+    let o = no_name n old at h e in
+    let s = stays_padded old old at to h q (inl refl) in
+    record { places = s.places; parts = sym (drop_none old n o); before = sym (find_none old n o); inferred = s.inferred }
+
+-- a map with the same entries finds the same
+pub lookup_same : {S : Type 0} (m m' : HashMap (List ℕ) ℕ S) → m'.entries ≡ m.entries → (n : List ℕ) → get bytes_eq m' n ≡ get bytes_eq m n
+lookup_same m m' e n = ap (λ es. lookup (bytes_eq n) es) e

@@ -1,0 +1,85 @@
+-- The slots in which the parts of a bench stand. A slot that is empty had a part that was dropped.
+use Rattle.std.specs.Prelude.{◌≡◌, ◌⊎◌, ◌↔◌, ℕ, ◌+◌, ◌<◌, ◌≤◌, List, [], ◌∷◌, ◌++◌, map, length, Option, Some, None, slice_get, slice_set}
+use Rattle.spi_term.specs.Spelling.{Spelling}
+use Rattle.spi_term.specs.Term.{Ty, Process}
+use Rattle.spi_term.specs.declared.term.Effect as Declared
+use Rattle.spi_rules.specs.Environment.{Env, untrusted}
+use Rattle.spi_infer.specs.Inferring.{IsLeast}
+use Rattle.spi_message.specs.Judging.{Numbered, Stands}
+use Rattle.spi_bench.specs.Parts.{Part, named, with_part, without}
+use Rattle.spi_bench.specs.Sums.{blocked, placed, total}
+use Rattle.spi_bench.specs.Whole.{AreOver, AreShared}
+use Rattle.spi_bench.specs.declared.slot.Slot.{Slot}
+
+-- the parts that are there, in order
+abbrev pub part_of : Slot → Part
+part_of s = record { name = s.name; part = s.part }
+
+abbrev pub kept : List (Option Slot) → List Slot
+kept [] = []
+kept (None ∷ ss) = kept ss
+kept (Some s ∷ ss) = s ∷ kept ss
+
+abbrev pub parts_of : List (Option Slot) → List Part
+parts_of ss = map part_of (kept ss)
+
+-- a slot with this name stands there
+abbrev pub StandsAt : List (Option Slot) → ℕ → List ℕ → Type 0
+StandsAt ss i n = (s : Slot) × (slice_get ss i ≡ Some (Some s)) × (s.name ≡ n)
+
+-- each name is found exactly where its slot stands
+abbrev pub AreNamed : List (Option Slot) → (List ℕ → Option ℕ) → Type 0
+AreNamed ss at = (n : List ℕ) (i : ℕ) → (at n ≡ Some i) ↔ StandsAt ss i n
+
+-- each part is over so many names, and its least effect is what is kept with it
+pub record IsInferred (env : Env) (count : ℕ) (s : Slot) : Type 0 where
+  pub names : s.part.names ≡ count
+  pub least : IsLeast env s.part.process s.least
+
+abbrev pub AreInferred : Env → ℕ → List (Option Slot) → Type 0
+AreInferred env count ss = (i : ℕ) (s : Slot) → slice_get ss i ≡ Some (Some s) → IsInferred env count s
+
+-- at most one empty slot is new
+abbrev pub IsPadded : List (Option Slot) → List (Option Slot) → Type 0
+IsPadded old new = (new ≡ old) ⊎ (new ≡ old ++ None ∷ [])
+
+-- the types of the free and the shared names
+abbrev pub names_of : ℕ → List Ty → Env
+names_of k ts = untrusted k ++ ts
+
+-- each part has an effect, and their atoms are at most one `check x` for each shared name x, where k names are free and n shared
+pub record HaveNoneTwice (k n : ℕ) (ss : List (Option Slot)) : Type 0 where
+  pub effects : total k n blocked ss ≡ 0
+  pub others : total k n (placed None) ss ≡ 0
+  pub once : (i : ℕ) → i < n → total k n (placed (Some i)) ss ≤ 1
+
+-- the slot with this number holds the part, under the name that was there, and its part before is given back
+pub data SetsPart (i : ℕ) (p : Spelling) (least : Option Declared.Effect) : Option Spelling → List (Option Slot) → List (Option Slot) → Type 0 where
+  sets_part : {s t : Slot} {old new : List (Option Slot)} → slice_get old i ≡ Some (Some s) → t.name ≡ s.name → t.part ≡ p → t.least ≡ least
+      → new ≡ slice_set old i (Some t) → SetsPart i p least (Some s.part) old new
+  sets_none : {old new : List (Option Slot)} → slice_get old i ≡ Some None → SetsPart i p least None old new
+
+-- a slot comes last, with the part under the name
+pub data SetsLast (n : List ℕ) (p : Spelling) (least : Option Declared.Effect) (old new : List (Option Slot)) : Type 0 where
+  sets_last : {t : Slot} → t.name ≡ n → t.part ≡ p → t.least ≡ least → new ≡ slice_set (old ++ None ∷ []) (length old) (Some t)
+      → SetsLast n p least old new
+
+-- a put: the parts, the part that was there, the places of the names, and what is inferred
+pub record Puts (n : List ℕ) (p : Spelling) (least : Option Declared.Effect) (r : Option Spelling) (old new : List (Option Slot)) (to : List ℕ → Option ℕ) : Type 0 where
+  pub places : AreNamed new to
+  pub parts : parts_of new ≡ with_part n p (parts_of old)
+  pub before : r ≡ named n (parts_of old)
+  pub inferred : (env : Env) (count : ℕ) → AreInferred env count old → IsLeast env p.process least → p.names ≡ count → AreInferred env count new
+
+-- a drop
+pub record Drops (n : List ℕ) (r : Option Spelling) (old new : List (Option Slot)) (to : List ℕ → Option ℕ) : Type 0 where
+  pub places : AreNamed new to
+  pub parts : parts_of new ≡ without n (parts_of old)
+  pub before : r ≡ named n (parts_of old)
+  pub inferred : (env : Env) (count : ℕ) → AreInferred env count old → AreInferred env count new
+
+-- no change
+pub record Stays (old new : List (Option Slot)) (to : List ℕ → Option ℕ) : Type 0 where
+  pub places : AreNamed new to
+  pub parts : parts_of new ≡ parts_of old
+  pub inferred : (env : Env) (count : ℕ) → AreInferred env count old → AreInferred env count new
