@@ -1,0 +1,7 @@
+pub mod Held
+pub mod Meant
+pub mod Alone
+pub mod Places
+pub mod Standing
+pub mod Steps
+pub mod Telling
