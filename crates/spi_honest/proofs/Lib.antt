@@ -5,3 +5,4 @@ pub mod Places
 pub mod Standing
 pub mod Steps
 pub mod Telling
+pub mod Passing

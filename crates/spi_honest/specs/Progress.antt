@@ -13,6 +13,7 @@ use Rattle.spi_honest.specs.Standing.{Stands, Stopped, Locates, left}
 
 -- these lines were told, and the rest is left
 pub record Progress (x : n.Narration) (file : Meant) (before rest : List n.Line) (pool : Pooled) (steps : List Step) (events : List Event) (is : List ℕ) : Type 0 where
+  pub cut : x.lines ≡ before ++ rest
   pub told : Told
   pub place : Word → ℕ
   pub narrates : NarratesSmall (free_of x) (begins x) before events told
