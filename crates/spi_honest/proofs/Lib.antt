@@ -6,3 +6,5 @@ pub mod Standing
 pub mod Steps
 pub mod Telling
 pub mod Passing
+pub mod Opened
+pub mod Settled

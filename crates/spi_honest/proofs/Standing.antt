@@ -15,8 +15,8 @@ use Rattle.spi_honest.specs.Reading.{Map, word_in}
 use Rattle.spi_honest.specs.Narrated.{giving}
 use Rattle.spi_honest.specs.Schedule.{moved}
 use Rattle.spi_honest.specs.Holds.{Holds, AreClosed}
-use Rattle.spi_honest.specs.Roles.{AreApart, IsRole}
-use Rattle.spi_honest.specs.Standing.{Stood, Stands, Stopped, StoppedBut}
+use Rattle.spi_honest.specs.Roles.{IsRole}
+use Rattle.spi_honest.specs.Standing.{AreApart, Stood, Stands, Stopped, StoppedBut}
 use Rattle.spi_honest.proofs.Places.{at_below, at_set, at_set_other, set_other, at_before, at_behind, append_at}
 
 -- a choice by two words

@@ -20,8 +20,8 @@ use Rattle.spi_honest.specs.Reading.{Given, Map, at_word, or_unit, word_in, valu
 use Rattle.spi_honest.specs.Narrated.{at, giving, Does, shown}
 use Rattle.spi_honest.specs.Schedule.{moved}
 use Rattle.spi_honest.specs.Holds.{Holds}
-use Rattle.spi_honest.specs.Roles.{AreApart, IsRole}
-use Rattle.spi_honest.specs.Standing.{Stood, Stands, Stopped, StoppedBut, left}
+use Rattle.spi_honest.specs.Roles.{IsRole}
+use Rattle.spi_honest.specs.Standing.{AreApart, Stood, Stands, Stopped, StoppedBut, left}
 use Rattle.spi_honest.proofs.Held.{holds_one}
 use Rattle.spi_honest.proofs.Places.{at_below, at_set, at_set_other, at_before}
 use Rattle.spi_honest.proofs.Alone.{Alone, does_acts, DoesSome, acts_does, given_one, one_closed, valued_closed}

@@ -17,8 +17,8 @@ use Rattle.spi_honest.specs.Reading.{Map, word_in, value}
 use Rattle.spi_honest.specs.Narrated.{at, giving, Told, IsFree, Does, does_split, does_match, does_decrypt, does_check, does_begin, does_end, does_end_many, does_cast, does_new, Tells, tells_local, tells_pass, Narrates, narrates_none, narrates_line, AreSmall, NarratesSmall, shown, free_of, begins}
 use Rattle.spi_honest.specs.Schedule.{moved, line_steps, honest_steps}
 use Rattle.spi_honest.specs.Holds.{AreClosed}
-use Rattle.spi_honest.specs.Roles.{AreApart, IsRole}
-use Rattle.spi_honest.specs.Standing.{Stands, Stopped, StoppedBut, Locates, left}
+use Rattle.spi_honest.specs.Roles.{IsRole}
+use Rattle.spi_honest.specs.Standing.{AreApart, Stands, Stopped, StoppedBut, Locates, left}
 use Rattle.spi_honest.specs.Honest.{Replays, replays_none, replays_step, opening}
 use Rattle.spi_honest.specs.Progress.{Progress}
 use Rattle.spi_honest.proofs.Steps.{LocalTakes, local_takes, local_back, at_places, mid, parted, parts_takes, parts_bound, parts_stand, parts_out, parts_none, parts_length, talk_takes, talk_bound, talk_stands, talk_length, received_now}
@@ -47,7 +47,7 @@ pub replays_run : {p q : Pooled} {ss : List Step} {es : List Event} → Replays 
 replays_run replays_none = runs_none
 replays_run (replays_step {e = e} t h) = runs_from e t.takes (replays_run h)
 
-step_order : {xs : List Step} (ys : List Step) (s : Step) {zs ws : List Step} → xs ≡ ys ++ (s ∷ zs) → zs ≡ ws → xs ≡ (ys ++ s ∷ []) ++ ws
+pub step_order : {xs : List Step} (ys : List Step) (s : Step) {zs ws : List Step} → xs ≡ ys ++ (s ∷ zs) → zs ≡ ws → xs ≡ (ys ++ s ∷ []) ++ ws
 step_order ys s e f = e ∙ ap (λ z. ys ++ (s ∷ z)) f ∙ sym (append_assoc ys (s ∷ []) _)
 
 does_names : {k k' : ℕ} {g : Map} {f : n.Prefix} {more : Map} {e : Option Event} → Does k g f more e k' → k' ≤ suc k

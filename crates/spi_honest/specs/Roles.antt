@@ -1,13 +1,14 @@
 -- The narrations that are told.
-use Rattle.std.specs.Prelude.{◌≡◌, ◌≤◌, ℕ, List, [], ◌∷◌, length, Some, ⊤}
+use Rattle.std.specs.Prelude.{◌≡◌, ◌≢◌, ◌≤◌, ℕ, List, [], ◌∷◌, length, Some, ⊤}
 use Rattle.spi_tree.specs.declared.tree.SWord.{SWord}
 use Rattle.spi_term.specs.Lists.{In}
 use Rattle.spi_narrate.specs.Narrations as n
 use Rattle.spi_scope.specs.Scope.{Word, Names, number_of}
 
 -- no word is that of two roles
-pub record AreApart (roles : List SWord) : Type 0 where
-  pub once : (r q : SWord) → In r roles → In q roles → r.word ≡ q.word → r ≡ q
+abbrev pub AreDistinct : List SWord → Type 0
+AreDistinct [] = ⊤
+AreDistinct (r ∷ rs) = ((q : SWord) → In q rs → r.word ≢ q.word) × AreDistinct rs
 
 -- a role, by its word
 pub record IsRole (roles : List SWord) (w : Word) : Type 0 where
@@ -27,7 +28,7 @@ HaveRoles roles (l ∷ ls) = HasRoles roles l × HaveRoles roles ls
 -- no role is unknown, none is declared twice, and the limits of narrations are kept
 pub record IsTellable (x : n.Narration) : Type 0 where
   pub known : HaveRoles x.roles x.lines
-  pub apart : AreApart x.roles
+  pub distinct : AreDistinct x.roles
   pub shared : length x.shared ≤ 16
   pub roles : length x.roles ≤ 8
   pub lines : length x.lines ≤ 200

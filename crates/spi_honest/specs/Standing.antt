@@ -10,6 +10,10 @@ use Rattle.spi_weave.specs.Woven.{role_process}
 use Rattle.spi_honest.specs.Reading.{Map, word_in}
 use Rattle.spi_honest.specs.Holds.{Holds, AreClosed}
 
+-- roles with one word are one
+pub record AreApart (roles : List SWord) : Type 0 where
+  pub once : (r q : SWord) → In r roles → In q roles → r.word ≡ q.word → r ≡ q
+
 -- what is left of a role's process, at its place
 pub record Stood (place : Word → ℕ) (tree : SWord → t.Proc) (has : Word → Map) (ps : List Process) (r : SWord) : Type 0 where
   pub process : Process
