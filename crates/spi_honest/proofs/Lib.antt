@@ -8,3 +8,4 @@ pub mod Telling
 pub mod Passing
 pub mod Opened
 pub mod Settled
+pub mod Stages

@@ -20,7 +20,7 @@ use Rattle.spi_honest.specs.Holds.{Holds}
 use Rattle.spi_honest.specs.Roles.{AreDistinct, IsTellable}
 use Rattle.spi_honest.specs.Standing.{AreApart, Stood, Stands, Stopped, Locates, left}
 use Rattle.spi_honest.specs.Honest.{Replays, replays_none, opening}
-use Rattle.spi_honest.specs.Progress.{Progress, place_number, beside_stop, steps_behind, Shares, Each, each_none, each_role, Spreads}
+use Rattle.spi_honest.specs.Progress.{Progress, place_number, beside_stop, steps_behind, Shares, Each, each_none, each_role, Spreads, ArePlaces}
 use Rattle.spi_honest.proofs.Meant.{holds_meaning, names_closed}
 use Rattle.spi_honest.proofs.Standing.{chosen, not_chosen}
 use Rattle.spi_honest.proofs.Opened.{place_at, each_length, each_more}
@@ -129,11 +129,6 @@ each_stands {x} rs zs e d = record {
   apart = λ r q i j f. let a = in_at i in let b = in_at j in at_unique a.1 (subst (λ k. At rs k q) (sym (number_one a.0 b.0 (sym (placed rs d a.1) ∙ f ∙ placed rs d b.1))) b.1);
   others = idle_at x rs zs e d;
 }
-
--- the places of the roles by their numbers
-pub record ArePlaces (count : ℕ) (is : List ℕ) : Type 0 where
-  pub many : length is ≡ count
-  pub each : (j : ℕ) → j < count → slice_get is j ≡ Some (place_number j)
 
 pub located : (rs : List SWord) (is : List ℕ) → AreDistinct rs → ArePlaces (length rs) is → Locates rs (places_of rs) is
 located rs is d h = record {

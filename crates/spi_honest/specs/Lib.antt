@@ -6,3 +6,4 @@ pub mod Holds
 pub mod Standing
 pub mod Honest
 pub mod Progress
+pub mod Stages

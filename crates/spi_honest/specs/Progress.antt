@@ -1,5 +1,5 @@
 -- How far a narration was told. No public clause names it.
-use Rattle.std.specs.Prelude.{◌≡◌, ℕ, zero, suc, ◌+◌, ◌≤◌, List, [], ◌∷◌, ◌++◌, length, map, take, drop}
+use Rattle.std.specs.Prelude.{◌≡◌, ℕ, zero, suc, ◌+◌, ◌≤◌, List, [], ◌∷◌, ◌++◌, length, Some, slice_get, ◌<◌}
 use Rattle.spi_tree.specs.declared.tree.SWord.{SWord}
 use Rattle.spi_heading.specs.Headings.{Shared}
 use Rattle.spi_narrate.specs.Narrations as n
@@ -76,3 +76,8 @@ pub record Spreads (x : n.Narration) (file : Meant) (before : List SWord) (role 
   pub order : honest_steps x ≡ steps ++ (role_steps (place_number (length before)) (2 + length before) rest ++ steps_behind x)
   pub few_names : pool.configuration.names ≤ 100016
   pub most : pool.most ≡ 5000
+
+-- the places of the roles by their numbers
+pub record ArePlaces (count : ℕ) (is : List ℕ) : Type 0 where
+  pub many : length is ≡ count
+  pub each : (j : ℕ) → j < count → slice_get is j ≡ Some (place_number j)
