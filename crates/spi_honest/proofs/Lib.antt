@@ -9,3 +9,4 @@ pub mod Passing
 pub mod Opened
 pub mod Settled
 pub mod Stages
+pub mod Playing

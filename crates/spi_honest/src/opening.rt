@@ -1,6 +1,6 @@
 //! The start of a narration: the shared names are made, and the roles are taken apart.
 
-ghost use Rattle.std.specs.Prelude.{◌≡◌, ◌≤◌, ◌<◌, map, length, IfOk, IfErr, OnOk, OnErr, Err};
+ghost use Rattle.std.specs.Prelude.{◌≡◌, length, Some, IfOk, OnOk, OnErr, Err};
 ghost use Rattle.spi_scope.specs.StandsFor.{StandsFor};
 ghost use Rattle.spi_scope.specs.Files.{meant};
 ghost use Rattle.spi_narrate.specs.Views.{narration_of};
@@ -9,7 +9,7 @@ ghost use Rattle.spi_honest.specs.Roles.{IsTellable};
 ghost use Rattle.spi_honest.specs.Stages.{SharesTo, SpreadsTo, ToldTo};
 
 use crate::fault::HonestFault;
-use crate::roles::first_places;
+use crate::roles::{first_place, first_places};
 use crate::stage::{Stage, must};
 use spi_narrate::Narration;
 use spi_replay::Pool;
@@ -27,8 +27,8 @@ fn start<'p>(
     file: &'p File,
     opponent: &'p Process,
 ) -> Result<Stage<'p>, HonestFault>
-    requires file { StandsFor (woven (narration_of n.now)) (meant file.entry.now) }
-    requires opponent { file.entry.now.opponent ≡ Some opponent.entry.now }
+    requires file { StandsFor (woven (narration_of n.now)) (meant file.now) }
+    requires opponent { file.now.opponent ≡ Some opponent.now }
     ensures shares { IfOk result (λ stage. SharesTo (narration_of n.now) (meant file.entry.now) 0 stage) }
     ensures err { OnErr result (result ≡ Err HonestFault.NoMemory) }
 {
@@ -63,7 +63,7 @@ fn spread(stage: &mut Stage<'_>, n: &Narration, file: &File) -> Result<(), Hones
     ensures err { OnErr result (result ≡ Err HonestFault.NoMemory) }
 {
     for i in 0..n.more.len() {
-        must(stage, Step::Act(if i == 0 { 0 } else { i as u32 + 1 }))?;
+        must(stage, Step::Act(first_place(i)))?;
     }
     Ok(())
 }
@@ -75,7 +75,7 @@ pub fn open<'p>(
     file: &'p File,
 ) -> Result<Stage<'p>, HonestFault>
     requires tellable { IsTellable (narration_of n.now) }
-    requires file { StandsFor (woven (narration_of n.now)) (meant file.entry.now) }
+    requires file { StandsFor (woven (narration_of n.now)) (meant file.now) }
     ensures told { IfOk result (λ stage. ToldTo (narration_of n.now) (meant file.entry.now) 0 stage) }
     ensures err { OnErr result (result ≡ Err HonestFault.NoMemory) }
 {

@@ -1,9 +1,9 @@
 //! Roles and free names by their numbers.
 
-ghost use Rattle.std.specs.Prelude.{◌≡◌, ◌∷◌, ◌<◌, length, map, reverse, Some, slice_get, IfOk};
+ghost use Rattle.std.specs.Prelude.{◌≡◌, ℕ, ◌∷◌, ◌<◌, ◌^◌, length, reverse, Some, IfOk};
 ghost use Rattle.spi_scope.specs.Scope.{number_of};
 ghost use Rattle.spi_honest.specs.Roles.{IsRole};
-ghost use Rattle.spi_honest.specs.Progress.{ArePlaces};
+ghost use Rattle.spi_honest.specs.Progress.{place_number, ArePlaces};
 ghost use Rattle.spi_honest.specs.Stages.{IsRoleAt};
 
 use crate::NoMemory;
@@ -39,14 +39,22 @@ pub fn name_number(names: &[Text], word: &Text) -> u32
     number
 }
 
-/// The place of each role by its number, where the opponent has place 1.
+/// The place of the role with this number, where the opponent has place 1.
+pub fn first_place(i: usize) -> u32
+    requires { i < 2 ^ 16 }
+    ensures { result ≡ place_number i }
+{
+    if i == 0 { 0 } else { i as u32 + 1 }
+}
+
+/// The places of so many roles.
 pub fn first_places(alloc: Global, count: usize) -> Result<Vec<u32>, NoMemory>
     requires { count < 2 ^ 16 }
     ensures { IfOk result (λ is. ArePlaces count is.items) }
 {
     let mut places = Vec::new(alloc);
     for i in 0..count {
-        places.push(if i == 0 { 0 } else { i as u32 + 1 })?;
+        places.push(first_place(i))?;
     }
     Ok(places)
 }
