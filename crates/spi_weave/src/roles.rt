@@ -1,0 +1,140 @@
+//! The processes of roles.
+
+ghost use Rattle.std.specs.Prelude.{◌≡◌, ◌∷◌, map, IfOk};
+ghost use Rattle.spi_tree.specs.Views.{proc_of};
+ghost use Rattle.spi_narrate.specs.Views.{line_of};
+ghost use Rattle.spi_heading.specs.Views.{shared_of};
+ghost use Rattle.spi_weave.specs.Woven.{is_word, role_part, role_process, roles_beside, roles_together, sharing, last_span};
+
+use crate::NoMemory;
+use crate::forms::{new, prefixed, received, sent};
+use spi_heading::Shared;
+use spi_narrate::Line;
+use spi_text::Span;
+use spi_tree::{SProc, SWord};
+use std::alloc::Global;
+
+/// Whether two words are spelled in the same way.
+fn is_word(v: &SWord, w: &SWord) -> bool
+    ensures { result ≡ is_word v.now w.now }
+{
+    v.word == w.word
+}
+
+// What a role does in a line, before the process that follows.
+fn role_part(alloc: Global, role: &SWord, line: &Line, then: SProc) -> Result<SProc, NoMemory>
+    ensures { IfOk result (λ p. proc_of p ≡ role_part role.now (line_of line.now) (proc_of then)) }
+{
+    match line {
+        Line::Local {
+            role: who,
+            prefix,
+            span,
+        } => {
+            if is_word(who, role) {
+                prefixed(alloc, *span, prefix, then)
+            } else {
+                Ok(then)
+            }
+        }
+        Line::Pass {
+            from,
+            to,
+            channel,
+            datum,
+            name,
+            span,
+        } => {
+            let then = if is_word(to, role) {
+                received(alloc, *span, channel, name, then)?
+            } else {
+                then
+            };
+            if is_word(from, role) {
+                sent(alloc, *span, channel, datum, then)
+            } else {
+                Ok(then)
+            }
+        }
+    }
+}
+
+// The lines of a role, in order.
+fn role_process(alloc: Global, role: &SWord, lines: &[Line]) -> Result<SProc, NoMemory>
+    ensures { IfOk result (λ p. proc_of p ≡ role_process role.now (map line_of lines.now)) }
+{
+    let mut process = SProc::Stop { span: role.span };
+    for at in (0..lines.len()).rev() {
+        process = role_part(alloc, role, &lines[at], process)?;
+    }
+    Ok(process)
+}
+
+/// A `new` for each shared name, before the process that follows.
+pub fn sharing(alloc: Global, shared: &[Shared], then: SProc) -> Result<SProc, NoMemory>
+    ensures { IfOk result (λ p. proc_of p ≡ sharing (map shared_of shared.now) (proc_of then)) }
+{
+    let mut process = then;
+    for at in (0..shared.len()).rev() {
+        let Shared { name, ty, span } = &shared[at];
+        process = new(alloc, name, ty, process, *span)?;
+    }
+    Ok(process)
+}
+
+// One role and more, beside one another.
+fn roles_beside(
+    alloc: Global,
+    lines: &[Line],
+    first: &SWord,
+    more: &[SWord],
+) -> Result<SProc, NoMemory>
+    ensures { IfOk result (λ p. proc_of p ≡ roles_beside (map line_of lines.now) first.now more.now) }
+{
+    match more.split_first() {
+        None => role_process(alloc, first, lines),
+        Some((next, rest)) => {
+            let after = Box::new(alloc, roles_beside(alloc, lines, next, rest)?)?;
+            let process = role_process(alloc, first, lines)?;
+            Ok(SProc::Par {
+                first: Box::new(alloc, process)?,
+                rest: after,
+                span: first.span,
+            })
+        }
+    }
+}
+
+/// The roles beside one another, in the place of a `Seq`.
+pub fn roles_together(
+    alloc: Global,
+    lines: &[Line],
+    first: &SWord,
+    more: &[SWord],
+) -> Result<SProc, NoMemory>
+    ensures { IfOk result (λ p. proc_of p ≡ roles_together (map line_of lines.now) (first.now ∷ more.now)) }
+{
+    match more.split_first() {
+        None => role_process(alloc, first, lines),
+        Some((next, rest)) => {
+            let after = Box::new(alloc, roles_beside(alloc, lines, next, rest)?)?;
+            let process = role_process(alloc, first, lines)?;
+            Ok(SProc::Group {
+                first: Box::new(alloc, process)?,
+                rest: after,
+                span: first.span,
+            })
+        }
+    }
+}
+
+/// Where the word of the last role stands.
+pub fn last_span(first: Span, more: &[SWord]) -> Span
+    ensures { result ≡ last_span first more.now }
+{
+    let mut span = first;
+    for role in more {
+        span = role.span;
+    }
+    span
+}

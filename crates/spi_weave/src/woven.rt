@@ -1,0 +1,33 @@
+//! Narrations as trees of files.
+
+ghost use Rattle.std.specs.Prelude.{◌≡◌, IfOk};
+ghost use Rattle.spi_tree.specs.Views.{file_of};
+ghost use Rattle.spi_narrate.specs.Views.{narration_of};
+ghost use Rattle.spi_weave.specs.Woven.{woven};
+
+use crate::NoMemory;
+use crate::copies::declarations;
+use crate::roles::{last_span, roles_together, sharing};
+use spi_narrate::Narration;
+use spi_tree::{SProc, Tree};
+use std::alloc::Global;
+
+/// The tree of the file that a narration is woven into. Its time is that of the narration's nodes, times the number of
+/// roles. Its only error is NoMemory.
+pub fn weave(alloc: Global, n: &Narration) -> Result<Tree, NoMemory>
+    ensures { IfOk result (λ tree. file_of tree ≡ woven (narration_of n.now)) }
+{
+    let roles = roles_together(alloc, &n.lines, &n.first, &n.more)?;
+    let process = sharing(alloc, &n.shared, roles)?;
+    Ok(Tree {
+        version: n.version,
+        decls: declarations(alloc, &n.decls)?,
+        process,
+        opponent: Some(SProc::Stop {
+            span: last_span(n.first.span, &n.more),
+        }),
+        schedule: None,
+        derivation: None,
+        span: n.span,
+    })
+}
