@@ -1,2 +1,3 @@
 pub mod Narrations
 pub mod Views
+pub mod Grammar
