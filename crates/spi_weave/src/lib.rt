@@ -3,9 +3,11 @@
 
 mod copies;
 mod forms;
+mod laws;
 mod roles;
 mod woven;
 
+pub use laws::woven_trees_are_formed;
 use std::alloc::AllocError;
 pub use woven::weave;
 
