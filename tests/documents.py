@@ -7,7 +7,7 @@ All other blocks are left alone. The blocks of a document are run in their order
 copies of examples/ and protocols/ and where ./cryptyc is the program; `$ echo $?` shows the status of the command
 before it. Each command is a test, and so is that some command of the document names the file of each `spi` block.
 `--program FILE`, once or more often, gives the programs. A command may take ten seconds.
-The last line is 'N passed, M failed'."""
+That docs/reports.md quotes the usage line is a test too. The last line is 'N passed, M failed'."""
 
 import argparse
 import glob
@@ -17,6 +17,8 @@ import signal
 import subprocess
 import sys
 import tempfile
+
+from run import usage
 
 ROOT = os.path.dirname(os.path.dirname(os.path.abspath(__file__)))
 SECONDS = 10
@@ -109,11 +111,19 @@ def results_of(path, program):
         yield None if any(name in command for command in commands) else (first, f"no command names {name}")
 
 
+def quotes_usage():
+    """Whether the table of reports has the usage line, where a bar is written behind a backslash."""
+    with open(f"{ROOT}/docs/reports.md", encoding="utf-8") as file:
+        return "`" + usage().rstrip("\n").replace("|", "\\|") + "`" in file.read()
+
+
 def main():
     words = argparse.ArgumentParser()
     words.add_argument("--program", action="append", required=True)
     asked = words.parse_args()
-    passed, failed = 0, 0
+    passed, failed = (1, 0) if quotes_usage() else (0, 1)
+    if failed:
+        print("docs/reports.md doesn't quote the usage line")
     for program in asked.program:
         for path in documents():
             for wrong in results_of(path, program):
