@@ -9,7 +9,7 @@ before it. Each command is a test, and so is that some command of the document n
 A row of a table that begins with a link to an .spi file has what `check` answers to that file in its second cell, and
 that is a test too; and so is that all wrong files of such a folder have a row (NAME.mended.spi is no wrong file).
 `--program FILE`, once or more often, gives the programs. A command may take ten seconds.
-The last line is 'N passed, M failed'."""
+That docs/reports.md quotes the usage line is a test too. The last line is 'N passed, M failed'."""
 
 import argparse
 import glob
@@ -21,6 +21,8 @@ import signal
 import subprocess
 import sys
 import tempfile
+
+from run import usage
 
 ROOT = os.path.dirname(os.path.dirname(os.path.abspath(__file__)))
 SECONDS = 10
@@ -139,11 +141,19 @@ def results_of(path, program):
         yield None if any(name in command for command in commands) else (first, f"no command names {name}")
 
 
+def quotes_usage():
+    """Whether the table of reports has the usage line, where a bar is written behind a backslash."""
+    with open(f"{ROOT}/docs/reports.md", encoding="utf-8") as file:
+        return "`" + usage().rstrip("\n").replace("|", "\\|") + "`" in file.read()
+
+
 def main():
     words = argparse.ArgumentParser()
     words.add_argument("--program", action="append", required=True)
     asked = words.parse_args()
-    passed, failed = 0, 0
+    passed, failed = (1, 0) if quotes_usage() else (0, 1)
+    if failed:
+        print("docs/reports.md doesn't quote the usage line")
     for program in asked.program:
         for path in documents():
             for wrong in itertools.chain(results_of(path, program), row_results(path, program)):

@@ -3,8 +3,8 @@
 
 A case is a JSON object on a line: `shows` (what it shows), `words` (the command line), its standard input as `input`
 (text), `input_file` (a file of the repository), `input_base64`, or `input_parts` (pairs of a text and how often it
-stands), `output` (what is written) and `status`. Each file of examples/reasons is a case too: its first line is a comment
-with the line that `check` writes. Each case runs on each `--program FILE`; without one it runs on the build without
+stands), `output` (what is written, and without it the usage line) and `status`. Each file of examples/reasons is a case
+too: its first line is a comment with the line that `check` writes. Each case runs on each `--program FILE`; without one it runs on the build without
 proofs that tools/keep.py keeps. A program that hasn't ended after ten seconds has failed its case. The one that Rattle's
 own compiler makes (its name ends in .by-rattle) gets 16 MB of stack: processes nested 500 deep take up to 12 there.
 The last line is 'N passed, M failed'."""
@@ -14,6 +14,7 @@ import base64
 import glob
 import json
 import os
+import re
 import subprocess
 import sys
 from concurrent.futures import ThreadPoolExecutor
@@ -22,11 +23,18 @@ ROOT = os.path.dirname(os.path.dirname(os.path.abspath(__file__)))
 LIMIT = 10  # seconds
 
 
+def usage():
+    """The line for words that are no command, from the program's source."""
+    with open(f"{ROOT}/crates/spi_commands/src/words.rt", encoding="utf-8") as source:
+        return re.search(r'b"(usage: [^"]*)\\n"', source.read())[1] + "\n"
+
+
 def cases_of(pattern):
+    line_of_usage = usage()
     for path in sorted(glob.glob(f"{ROOT}/tests/cases/{pattern}")):
         with open(path, encoding="utf-8") as lines:
             for line in lines:
-                yield json.loads(line)
+                yield {"output": line_of_usage, **json.loads(line)}
     for path in sorted(glob.glob(f"{ROOT}/examples/reasons/*.spi")) if pattern == "*.jsonl" else []:
         with open(path, encoding="utf-8") as file:
             wanted = file.readline().removeprefix("// ")

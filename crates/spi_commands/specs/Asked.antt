@@ -1,11 +1,46 @@
 -- The command that words ask for.
-use Rattle.std.specs.Prelude.{ℕ, ◌<◌, ◌≤◌, ◌==◌, List, [], ◌∷◌, ◌++◌, codes, Bool, true, false, if◌then◌else◌, ◌&&◌, Some, None, take, drop, ⊤}
+use Rattle.std.specs.Prelude.{ℕ, ◌+◌, ◌<◌, ◌≤◌, nat_lt, List, [], ◌∷◌, ◌++◌, codes, Bool, true, false, if◌then◌else◌, ◌&&◌, Some, None, take, drop, ⊤}
 use Rattle.std.specs.Option.{ForSome}
 use Rattle.std.specs.Str.{bytes_eq}
 use Rattle.std.specs.declared.option.Option.{Option}
 use Rattle.spi_commands.specs.declared.asked.Command.{Command}
 use Rattle.spi_commands.specs.declared.asked.Command.TheVariants.{Check, Derive, Verify, Replay, Play, Print, Load, Upgrade}
 use Rattle.spi_commands.specs.Number.{number_below}
+
+-- ---- the tables
+
+-- the commands of one word
+abbrev pub word_table : List (List ℕ × Command)
+word_table =
+    (codes "check", Check) ∷ (codes "derive", Derive) ∷ (codes "verify", Verify) ∷ (codes "replay", Replay)
+    ∷ (codes "print", Print) ∷ (codes "upgrade", Upgrade) ∷ []
+
+-- the commands of a word and a number behind it, from the least to the most
+pub record Numbered : Type 0 where
+  pub least : ℕ
+  pub most : ℕ
+  pub command : ℕ → Command
+
+abbrev pub number_table : List (List ℕ × Numbered)
+number_table = (codes "load", record { least = 1; most = 500; command = Load }) ∷ []
+
+-- what a table has for a word
+module _ {X : Type 0} where
+  abbrev pub row_of : List ℕ → List (List ℕ × X) → Option X
+  row_of word [] = None
+  row_of word (row ∷ rows) = if bytes_eq row.0 word then Some row.1 else row_of word rows
+
+-- ---- a number behind the word
+
+abbrev pub at_least : Numbered → Option ℕ → Option Command
+at_least form None = None
+at_least form (Some n) = if nat_lt n form.least then None else Some (form.command n)
+
+abbrev pub with_number : Option Numbered → List (List ℕ) → Option Command
+with_number (Some form) (n ∷ []) = at_least form (number_below (form.most + 1) n)
+with_number form words = None
+
+-- ---- `play`
 
 -- an option with its value in one word is taken apart at its `=`
 abbrev pub apart : List ℕ → List (List ℕ)
@@ -37,34 +72,15 @@ with_options (a ∷ n ∷ b ∷ m ∷ []) players =
     None))
 with_options words players = None
 
--- a command that is spelled by one word alone
-abbrev pub alone : List ℕ → Option Command
-alone word =
-    (if bytes_eq word (codes "check") then Some Check else
-    (if bytes_eq word (codes "derive") then Some Derive else
-    (if bytes_eq word (codes "verify") then Some Verify else
-    (if bytes_eq word (codes "replay") then Some Replay else
-    (if bytes_eq word (codes "print") then Some Print else
-    (if bytes_eq word (codes "upgrade") then Some Upgrade else
-    None))))))
-
--- the one word behind `load`: a number from 1 to 500
-abbrev pub load_of : Option ℕ → Option Command
-load_of None = None
-load_of (Some n) = if n == 0 then None else Some (Load n)
-
-abbrev pub with_number : List (List ℕ) → Option Command
-with_number (n ∷ []) = load_of (number_below 501 n)
-with_number words = None
+-- ---- all words
 
 -- the command that the words spell, where there are so many players
 abbrev pub asked : List (List ℕ) → ℕ → Option Command
 asked [] players = None
-asked (word ∷ []) players = alone word
+asked (word ∷ []) players = row_of word word_table
 asked (word ∷ other ∷ more) players =
     (if bytes_eq word (codes "play") then with_options (pieces (other ∷ more)) players else
-    (if bytes_eq word (codes "load") then with_number (other ∷ more) else
-    None))
+    with_number (row_of word number_table) (other ∷ more))
 
 -- it asks the players
 abbrev pub is_play : Option Command → Bool

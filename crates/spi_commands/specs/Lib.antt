@@ -12,6 +12,7 @@ pub mod Deriving
 pub mod Verifying
 pub mod Beside
 pub mod Replays
+pub mod Ran
 pub mod Replaying
 pub mod Playing
 pub mod Canonical

@@ -1,13 +1,34 @@
 -- The command line's forms, as clap reads them, and the command that is read from what clap found. No public clause
 -- names them.
-use Rattle.std.specs.Prelude.{ℕ, List, codes, Bool, true, false, if◌then◌else◌, Option, Some, None}
-use Rattle.std.specs.List.{list_any}
+use Rattle.std.specs.Prelude.{ℕ, ◌+◌, List, map, codes, Bool, true, false, if◌then◌else◌, Option, Some, None}
+use Rattle.std.specs.List.{fold, list_any}
 use Rattle.std.specs.Str.{bytes_eq}
+use Rattle.std.specs.Borrow.{Bor}
 use Rattle.clap.specs.Words.{App, Row, Rule, Text, first_of, new_app, new_rule, with_rule, with_subcommand}
 use Rattle.clap.specs.declared.builder.ArgAction.TheVariants.{Set}
 use Rattle.spi_commands.specs.declared.asked.Command.{Command}
+use Rattle.spi_commands.specs.declared.asked.Command.TheVariants.{Load}
+use Rattle.spi_commands.specs.declared.words.Numbered.{Numbered as Given}
 use Rattle.spi_commands.specs.Number.{number_below}
-use Rattle.spi_commands.specs.Asked.{alone, load_of, play_all, play_one}
+use Rattle.spi_commands.specs.Asked.{Numbered, at_least, number_table, play_all, play_one, row_of, word_table}
+
+-- ---- what the code's tables mean
+
+-- the command with another number
+abbrev pub numbered : Command → ℕ → Command
+numbered (Load k) n = Load n
+numbered command n = command
+
+abbrev pub number_of : Given → Numbered
+number_of form = record { least = form.least; most = form.most; command = numbered form.command }
+
+abbrev pub word_rows : List (Bor Text × Command) → List (Text × Command)
+word_rows = map (λ row. (row.0.now, row.1))
+
+abbrev pub number_rows : List (Bor Text × Given) → List (Text × Numbered)
+number_rows = map (λ row. (row.0.now, number_of row.1))
+
+-- ---- the forms
 
 -- `--NAME VALUE`
 abbrev pub named : Text → Bool → Rule
@@ -16,12 +37,9 @@ named name required = record (new_rule name) { long = Some name; action = Some S
 abbrev pub play : App
 play = with_rule (with_rule (new_app (codes "play")) (named (codes "steps") true)) (named (codes "player") false)
 
--- the number of `load`
+-- a number that stands alone
 abbrev pub counted : Rule
 counted = record (new_rule (codes "count")) { action = Some Set; required = true }
-
-abbrev pub load : App
-load = with_rule (new_app (codes "load")) counted
 
 -- the program: nothing stands before its words, it has no help, and it wants a command
 abbrev pub bare : App
@@ -34,20 +52,27 @@ bare = record (new_app (codes "cryptyc")) {
   };
 }
 
+-- with one more command of one word, or of a word and a number
 abbrev pub with_word : App → Text → App
 with_word a name = with_subcommand a (new_app name).top
 
--- with its commands of one word
-abbrev pub worded : App
-worded = with_word (with_word (with_word (with_word (with_word (with_word bare
-    (codes "check")) (codes "derive")) (codes "verify")) (codes "replay")) (codes "print")) (codes "upgrade")
+abbrev pub with_counted : App → Text → App
+with_counted a name = with_subcommand a (with_rule (new_app name) counted).top
 
+-- the words of a table
+module _ {X : Type 0} where
+  abbrev pub words_of : List (Text × X) → List Text
+  words_of = map (λ row. row.0)
+
+-- with all its commands
 abbrev pub whole : App
-whole = with_subcommand (with_subcommand worded play.top) load.top
+whole = fold with_counted (with_subcommand (fold with_word bare (words_of word_table)) play.top) (words_of number_table)
 
 -- one of the words is `--`
 abbrev pub has_dashes : List Text → Bool
 has_dashes = list_any (λ word. bytes_eq word (codes "--"))
+
+-- ---- what is read
 
 -- a play with these values of its options
 abbrev pub with_values : Option Text → Option Text → ℕ → Option Command
@@ -55,15 +80,18 @@ with_values None player players = None
 with_values (Some n) None players = play_all (number_below 1001 n)
 with_values (Some n) (Some m) players = play_one (number_below 1001 n) (number_below players m)
 
-abbrev pub with_count : Option Text → Option Command
-with_count None = None
-with_count (Some n) = load_of (number_below 501 n)
+abbrev pub with_count : Numbered → Option Text → Option Command
+with_count form None = None
+with_count form (Some n) = at_least form (number_below (form.most + 1) n)
+
+abbrev pub word_or_number : Option Command → Option Numbered → List Row → Option Command
+word_or_number word (Some form) rows = with_count form (first_of (codes "count") rows)
+word_or_number word None rows = word
 
 abbrev pub found : Text → List Row → ℕ → Option Command
 found name rows players =
     (if bytes_eq name (codes "play") then with_values (first_of (codes "steps") rows) (first_of (codes "player") rows) players else
-    (if bytes_eq name (codes "load") then with_count (first_of (codes "count") rows) else
-    alone name))
+    word_or_number (row_of name word_table) (row_of name number_table) rows)
 
 -- the command that is read from the subcommand that clap found, with its rows
 abbrev pub read : Option (Text × List Row) → ℕ → Option Command

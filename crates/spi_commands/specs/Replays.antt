@@ -5,8 +5,10 @@ use Rattle.std.specs.Fmt.{decimal}
 use Rattle.spi_text.specs.declared.lines.Span.{Span}
 use Rattle.spi_tree.specs.Trees.{File}
 use Rattle.spi_term.specs.Spelling.{Spelling}
+use Rattle.spi_term.specs.Term.{Message}
 use Rattle.spi_run.specs.Opponent.{IsOpponent}
 use Rattle.spi_run.specs.Reduction.{Step, Event}
+use Rattle.spi_know.specs.Sent.{handed}
 use Rattle.spi_replay.specs.declared.fault.StepFault.{StepFault}
 use Rattle.spi_replay.specs.declared.fault.StepFault.TheVariants.{NoPlace, NotReady, RunMessageTooLarge, TooManyPlaces, NoMemory as OutOfMemory}
 use Rattle.spi_replay.specs.Stepping.{Pooled, Refuses as RefusesStep, IsTaken}
@@ -17,11 +19,11 @@ use Rattle.spi_commands.specs.Spelled.{IsTreeOf, SpellsFile}
 use Rattle.spi_commands.specs.Refusals.{layered, Refuses, IsMissing}
 use Rattle.spi_commands.specs.Beside.{pool_of, HasOpponent, LacksOpponent, HasOffence}
 
--- the steps are taken one by one, each within the limits, with these events
-pub data Replays : Pooled → List Step → List Event → Pooled → Type 0 where
-  replays_none : {p : Pooled} → Replays p [] [] p
-  replays_step : {p q r : Pooled} {s : Step} {e : Option Event} {ss : List Step} {es : List Event}
-      → IsTaken p s e q → Replays q ss es r → Replays p (s ∷ ss) (option_to_list e ++ es) r
+-- the steps are taken one by one, each within the limits, with these events, and these data of their talks
+pub data Replays : Pooled → List Step → List Event → List Message → Pooled → Type 0 where
+  replays_none : {p : Pooled} → Replays p [] [] [] p
+  replays_step : {p q r : Pooled} {s : Step} {e : Option Event} {ss : List Step} {es : List Event} {ms : List Message}
+      → IsTaken p s e q → Replays q ss es ms r → Replays p (s ∷ ss) (option_to_list e ++ es) (handed p.configuration s ++ ms) r
 
 -- the steps before this one are taken, and it is refused so
 pub record IsRefusedAt (p : Pooled) (steps : List Step) (index : ℕ) (fault : StepFault) : Type 0 where
@@ -29,24 +31,30 @@ pub record IsRefusedAt (p : Pooled) (steps : List Step) (index : ℕ) (fault : S
   pub step : Step
   pub late : List Step
   pub events : List Event
+  pub talks : List Message
   pub mid : Pooled
   pub split : steps ≡ early ++ step ∷ late
   pub at : index ≡ length early
-  pub replays : Replays p early events mid
+  pub replays : Replays p early events talks mid
   pub refuses : RefusesStep mid.configuration mid.most step fault
 
 -- how many places a replay may have
 abbrev pub places_most : ℕ
 places_most = 5000
 
+-- how many nodes the data of its talks may have where they are asked for
+abbrev pub talks_most : ℕ
+talks_most = 20000
+
 -- the file's schedule runs through beside its opponent, with these events
 pub record RunsThrough (file : Meant) (events : List Event) : Type 0 where
   pub opponent : Spelling
   pub steps : List Step
+  pub talks : List Message
   pub last : Pooled
   pub beside : HasOpponent file opponent
   pub schedule : file.schedule ≡ Some steps
-  pub replays : Replays (pool_of places_most file opponent) steps events last
+  pub replays : Replays (pool_of places_most file opponent) steps events talks last
 
 -- why a file isn't replayed
 pub data IsUnplayed (file : Meant) : Type 0 where

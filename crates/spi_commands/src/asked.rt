@@ -1,20 +1,18 @@
 // What the words of the command line ask for.
-ghost use Rattle.std.specs.Prelude.{◌≡◌, ◌<◌, ◌≤◌, ℕ, List, [], ◌∷◌, map, string_bytes, length, IfOk, IfSome, option_map};
+ghost use Rattle.std.specs.Prelude.{◌≡◌, ◌<◌, ◌≤◌, ◌-◌, ◌^◌, ℕ, List, [], ◌∷◌, map, string_bytes, length, IfOk, IfSome, option_map};
 ghost use Rattle.clap.specs.Words.{subcommand_rows_of};
-ghost use Rattle.spi_commands.specs.Asked.{alone, asked, IsWithin};
+ghost use Rattle.spi_commands.specs.Asked.{asked, IsWithin};
 ghost use Rattle.spi_commands.specs.Number.{digits, number_below};
-ghost use Rattle.spi_commands.specs.Options.{has_dashes, read, with_count, with_values};
+ghost use Rattle.spi_commands.specs.Options.{has_dashes, number_of as number_form, read, with_count, with_values};
 
 use crate::options::whole_form;
+use crate::words::{Numbered, number_command, with, word_command};
 use clap::ArgMatches;
 use clap::error::ErrorKind;
 use std::alloc::{AllocError, Global};
 
 /// How many steps a play may have.
 const STEPS: usize = 1_000;
-
-/// How many sessions of the handshake may be asked for.
-const SESSIONS: usize = 500;
 
 /// A command.
 #[derive(Clone, Copy, Debug, PartialEq, Eq)]
@@ -37,22 +35,6 @@ pub enum Command {
     Upgrade,
 }
 
-/// The command that is spelled by one word alone.
-fn command_of(word: &str) -> Option<Command>
-    ensures value { result ≡ alone word.now }
-    ensures within { (players : ℕ) → IfSome result (λ command. IsWithin players command) }
-{
-    match word {
-        "check" => Some(Command::Check),
-        "derive" => Some(Command::Derive),
-        "verify" => Some(Command::Verify),
-        "replay" => Some(Command::Replay),
-        "print" => Some(Command::Print),
-        "upgrade" => Some(Command::Upgrade),
-        _ => None,
-    }
-}
-
 /// The value of one to nine digits.
 fn value_of(text: &[u8]) -> Option<u32>
     requires { length text.now ≤ 9 }
@@ -70,8 +52,7 @@ fn value_of(text: &[u8]) -> Option<u32>
 
 /// The number of one to nine digits, where it is below this one.
 fn number(most: usize, text: &[u8]) -> Option<u32>
-    ensures value { result ≡ number_below most text.now }
-    ensures within { IfSome result (λ n. n < most) }
+    ensures { result ≡ number_below most text.now }
 {
     if text.is_empty() || text.len() > 9 {
         return None;
@@ -84,8 +65,7 @@ fn number(most: usize, text: &[u8]) -> Option<u32>
 
 /// A play with these values of its options.
 fn play_of(steps: Option<&str>, player: Option<&str>, players: usize) -> Option<Command>
-    ensures value { result ≡ with_values (option_map (λ s. s.now) steps.entry) (option_map (λ s. s.now) player.entry) players }
-    ensures within { IfSome result (λ command. IsWithin players command) }
+    ensures { result ≡ with_values (option_map (λ s. s.now) steps.entry) (option_map (λ s. s.now) player.entry) players }
 {
     let most = number(STEPS + 1, steps?.as_bytes())?;
     match player {
@@ -100,27 +80,28 @@ fn play_of(steps: Option<&str>, player: Option<&str>, players: usize) -> Option<
     }
 }
 
-/// So many sessions.
-fn load_of(count: Option<&str>) -> Option<Command>
-    ensures value { result ≡ with_count (option_map (λ s. s.now) count.entry) }
-    ensures within { (players : ℕ) → IfSome result (λ command. IsWithin players command) }
+/// The command of this form with the number that the text spells.
+fn number_of(form: &Numbered, text: Option<&str>) -> Option<Command>
+    requires { form.now.most < 2 ^ 32 - 1 }
+    ensures { result ≡ with_count (number_form form.now) (option_map (λ s. s.now) text.entry) }
 {
-    match number(SESSIONS + 1, count?.as_bytes()) {
-        Some(sessions) if sessions > 0 => Some(Command::Load { sessions }),
+    match number(form.most as usize + 1, text?.as_bytes()) {
+        Some(n) if n >= form.least => Some(with(form.command, n)),
         _ => None,
     }
 }
 
 /// The command that was found.
 fn read_from(matches: &ArgMatches<'_>, players: usize) -> Option<Command>
-    ensures value { result ≡ read (subcommand_rows_of matches.now) players }
-    ensures within { IfSome result (λ command. IsWithin players command) }
+    ensures { result ≡ read (subcommand_rows_of matches.now) players }
 {
     let (name, found) = matches.subcommand()?;
-    match name {
-        "play" => play_of(found.get_str("steps"), found.get_str("player"), players),
-        "load" => load_of(found.get_str("count")),
-        _ => command_of(name),
+    if name == "play" {
+        return play_of(found.get_str("steps"), found.get_str("player"), players);
+    }
+    match number_command(name) {
+        Some(form) => number_of(&form, found.get_str("count")),
+        None => word_command(name),
     }
 }
 

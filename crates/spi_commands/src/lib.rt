@@ -17,15 +17,18 @@ mod reading;
 mod rejection;
 mod replay;
 mod running;
+mod schedule;
 mod status;
 mod text;
 mod upgrade;
 mod verify;
+mod words;
 
 pub use asked::{Command, asked_of};
 pub use players::{FirstReady, InTurn, Seeded};
 pub use reading::{Unread, read};
 pub use running::{one_file, refused_is_none, run};
+pub use schedule::replays_are_runs;
 pub use spi_play::{Menu, Pick, Player};
 pub use status::Status;
 use std::alloc::AllocError;

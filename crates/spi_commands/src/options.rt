@@ -1,8 +1,11 @@
 // The command line's forms.
 ghost use Rattle.std.specs.Prelude.{◌≡◌, IfOk, false};
+ghost use Rattle.std.specs.List.{fold};
 ghost use Rattle.clap.specs.Words.{app_of, rule_of};
-ghost use Rattle.spi_commands.specs.Options.{bare, counted, named, whole, with_word, worded};
+ghost use Rattle.spi_commands.specs.Options.{bare, counted, named, number_rows, whole, with_counted, with_word, word_rows, words_of};
 
+use crate::asked::Command as Asked;
+use crate::words::{NUMBERS, Numbered, WORDS};
 use clap::{Arg, ArgAction, Command};
 use std::alloc::{AllocError, Global};
 
@@ -49,27 +52,56 @@ fn with_word_form<'a>(
     form.subcommand(Command::new(alloc, name))
 }
 
-/// The program with its commands of one word.
-fn worded_form<'a>(alloc: Global) -> Result<Command<'a>, AllocError>
-    ensures { IfOk result (λ c. app_of c ≡ worded) }
+/// The program with one more command of a word and a number.
+fn with_counted_form<'a>(
+    form: Command<'a>,
+    alloc: Global,
+    name: &'a str,
+) -> Result<Command<'a>, AllocError>
+    ensures { IfOk result (λ c. app_of c ≡ with_counted (app_of form.entry) name.entry.now) }
 {
-    let form = with_word_form(bare_form(alloc), alloc, "check")?;
-    let form = with_word_form(form, alloc, "derive")?;
-    let form = with_word_form(form, alloc, "verify")?;
-    let form = with_word_form(form, alloc, "replay")?;
-    let form = with_word_form(form, alloc, "print")?;
-    with_word_form(form, alloc, "upgrade")
+    let counted = Command::new(alloc, name).arg(counted_form(alloc))?;
+    form.subcommand(counted)
+}
+
+/// The program with these commands of one word.
+fn with_word_forms<'a>(
+    form: Command<'a>,
+    alloc: Global,
+    rows: &[(&'a str, Asked)],
+) -> Result<Command<'a>, AllocError>
+    ensures { IfOk result (λ c. app_of c ≡ fold with_word (app_of form.entry) (words_of (word_rows rows.now))) }
+{
+    let mut form = form;
+    for row in rows {
+        form = with_word_form(form, alloc, row.0)?;
+    }
+    Ok(form)
+}
+
+/// The program with these commands of a word and a number.
+fn with_counted_forms<'a>(
+    form: Command<'a>,
+    alloc: Global,
+    rows: &[(&'a str, Numbered)],
+) -> Result<Command<'a>, AllocError>
+    ensures { IfOk result (λ c. app_of c ≡ fold with_counted (app_of form.entry) (words_of (number_rows rows.now))) }
+{
+    let mut form = form;
+    for row in rows {
+        form = with_counted_form(form, alloc, row.0)?;
+    }
+    Ok(form)
 }
 
 /// The program with all its commands.
 pub fn whole_form<'a>(alloc: Global) -> Result<Command<'a>, AllocError>
     ensures { IfOk result (λ c. app_of c ≡ whole) }
 {
-    let form = worded_form(alloc)?;
+    let form = with_word_forms(bare_form(alloc), alloc, &WORDS)?;
     let play = Command::new(alloc, "play")
         .arg(named_form(alloc, "steps", true))?
         .arg(named_form(alloc, "player", false))?;
     let form = form.subcommand(play)?;
-    let load = Command::new(alloc, "load").arg(counted_form(alloc))?;
-    form.subcommand(load)
+    with_counted_forms(form, alloc, &NUMBERS)
 }

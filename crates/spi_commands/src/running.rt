@@ -24,6 +24,7 @@ use crate::replay::replays;
 use crate::status::Status;
 use crate::upgrade::upgrades;
 use crate::verify::verifies;
+use crate::words::USAGE;
 use spi_deriv::one_canonical;
 use spi_io::{Put, Sink, Source, put_all};
 use spi_lex::one_answer;
@@ -33,10 +34,6 @@ use spi_scope::one_or_other;
 use spi_sound::{derivable_is_many_safe, derivable_is_safe};
 use spi_spell::{canonical_reads_back, derivation_joins, schedule_joins};
 use std::alloc::Global;
-
-/// The line for words that are no command.
-const USAGE: &[u8] =
-    b"usage: check | derive | verify | replay | play --steps N [--player I] | print | load K | upgrade\n";
 
 /// Does what the words ask for: reads a file from the source, writes the answer to the sink, and says how
 /// it ended. The whole output is made first and written last. Only a play asks the players.

@@ -1,6 +1,6 @@
 use Rattle.std.proofs.Common.{refl, rules, None}
 use Rattle.spi_commands.specs.Refusals.{IsMissing, missing}
-use Rattle.spi_commands.proofs.Lines.{line_if}
+use Rattle.spi_commands.proofs.AnswerLines.{line_if}
 use Rattle.spi_commands.proofs.answer.missing.Goals as goal
 
 pub returns-clause-ok : goal.returns-clause-ok

@@ -1,6 +1,6 @@
 use Rattle.std.proofs.Common.{refl, rules, None}
 use Rattle.spi_commands.specs.Refusals.{IsTooMuch, too_much}
-use Rattle.spi_commands.proofs.Lines.{line_if}
+use Rattle.spi_commands.proofs.AnswerLines.{line_if}
 use Rattle.spi_commands.proofs.answer.too_much.Goals as goal
 
 pub returns-clause-ok : goal.returns-clause-ok

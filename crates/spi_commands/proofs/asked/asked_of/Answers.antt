@@ -1,9 +1,11 @@
-use Rattle.std.proofs.Common.{◌≡◌, ◌∙◌, sym, map, true, true≢false}
-use Rattle.std.specs.Prelude.{string_bytes}
+use Rattle.std.proofs.Common.{◌≡◌, ◌∙◌, sym, subst, map, true, true≢false}
+use Rattle.std.specs.Prelude.{IfSome, string_bytes}
 use Rattle.clap.specs.Words.{app_of, kind_of, rows_of, found_of, matches_of, subcommand_rows_of}
 use Rattle.clap.specs.declared.error.kind.ErrorKind.TheVariants.{OutOfMemory}
-use Rattle.spi_commands.proofs.Dashes.{dashes_ask_nothing}
-use Rattle.spi_commands.proofs.Found.{fault_asks_nothing, found_is_asked, same_kind}
+use Rattle.spi_commands.specs.Asked.{IsWithin}
+use Rattle.spi_commands.proofs.WordsTables.{asked_within}
+use Rattle.spi_commands.proofs.WordsDashes.{dashes_ask_nothing}
+use Rattle.spi_commands.proofs.WordsFound.{fault_asks_nothing, found_is_asked, same_kind}
 use Rattle.spi_commands.proofs.asked.asked_of.Goals as goal
 
 pub returns-then-has_dashes_in-clause-value : goal.returns-then-has_dashes_in-clause-value
@@ -12,7 +14,10 @@ returns-then-has_dashes_in-clause-value c = dashes_ask_nothing (map string_bytes
 pub returns-in-Ok-clause-value : goal.returns-in-Ok-clause-value
 returns-in-Ok-clause-value c = found_is_asked (app_of c.in_ok-form.form) (map string_bytes c.args.words.now) c.args.players (subcommand_rows_of c.in-Ok.matches)
     (rows_of (found_of c.in-Ok.matches)) (matches_of (app_of c.in_ok-form.form) (map string_bytes c.args.words.now)) c.read_from.result
-    c.in_ok-form.ensures (sym c.has_dashes_in.ensures ∙ c.if-has_dashes_in.false) c.in-Ok.ensures.kinds c.in-Ok.ensures.matches c.read_from.ensures.value
+    c.in_ok-form.ensures (sym c.has_dashes_in.ensures ∙ c.if-has_dashes_in.false) c.in-Ok.ensures.kinds c.in-Ok.ensures.matches c.read_from.ensures
+
+pub returns-in-Ok-clause-within : goal.returns-in-Ok-clause-within
+returns-in-Ok-clause-within c = subst (λ o. IfSome o (IsWithin c.args.players)) (sym (returns-in-Ok-clause-value c)) (asked_within (map string_bytes c.args.words.now) c.args.players)
 
 pub returns-in-Err-2-clause-value : goal.returns-in-Err-2-clause-value
 returns-in-Err-2-clause-value c =

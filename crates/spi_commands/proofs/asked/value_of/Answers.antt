@@ -1,5 +1,5 @@
 use Rattle.std.proofs.Common.{arith, inl, inr, ◌<◌}
-use Rattle.spi_commands.proofs.Digits.{tens_within, tens_more, digit_at, no_digit_at, all_digits}
+use Rattle.spi_commands.proofs.WordsDigits.{tens_within, tens_more, digit_at, no_digit_at, all_digits}
 use Rattle.spi_commands.proofs.asked.value_of.Goals as goal
 use Rattle.spi_commands.proofs.asked.value_of.Goals.{then-b-lt48-via-then-b-lt48, then-b-lt48-via-else-b-lt48+then-b-gt57}
 

@@ -1,6 +1,6 @@
 use Rattle.std.proofs.Common.{◌≡◌, ◌<◌, drop}
 use Rattle.spi_commands.specs.Number.{digits}
-use Rattle.spi_commands.proofs.Digits.{tens}
+use Rattle.spi_commands.proofs.WordsDigits.{tens}
 use Rattle.spi_commands.proofs.asked.value_of.Given as goal
 
 -- the value of the digits so far

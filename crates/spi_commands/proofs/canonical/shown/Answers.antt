@@ -1,6 +1,6 @@
 use Rattle.std.proofs.Common.{arith}
 use Rattle.spi_scope.specs.Files.{meant}
-use Rattle.spi_commands.proofs.Shown.{long_text}
+use Rattle.spi_commands.proofs.AnswerText.{long_text}
 use Rattle.spi_commands.proofs.canonical.shown.Goals as goal
 
 pub returns-else-len-le-LIMIT-clause-ok : goal.returns-else-len-le-LIMIT-clause-ok

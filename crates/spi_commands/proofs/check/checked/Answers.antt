@@ -1,4 +1,4 @@
-use Rattle.spi_commands.proofs.Judging.{refused, none_derivable}
+use Rattle.spi_commands.proofs.AnswerNo.{refused, none_derivable}
 use Rattle.spi_commands.proofs.check.checked.Goals as goal
 
 pub returns-clause-ok : goal.returns-clause-ok

@@ -1,5 +1,5 @@
 use Rattle.spi_commands.specs.Checking.{ChecksTo}
-use Rattle.spi_commands.proofs.Taking.{of_taken, refused_given}
+use Rattle.spi_commands.proofs.FileTaking.{of_taken, refused_given}
 use Rattle.spi_commands.proofs.check.checks.Goals as goal
 
 pub checked-requires-clause-sized : goal.checked-requires-clause-sized

@@ -1,5 +1,5 @@
 use Rattle.spi_commands.specs.Deriving.{DerivesTo}
-use Rattle.spi_commands.proofs.Taking.{of_taken, refused_given, first_of_all}
+use Rattle.spi_commands.proofs.FileTaking.{of_taken, refused_given, first_of_all}
 use Rattle.spi_commands.proofs.derive.derives.Goals as goal
 
 pub derived-requires-clause-sized : goal.derived-requires-clause-sized

@@ -1,6 +1,6 @@
 use Rattle.std.proofs.Common.{length, ◌+◌, arith}
 use Rattle.spi_rules.specs.Deriv.{rule_uses}
-use Rattle.spi_commands.proofs.Deriving.{listing, long_listing}
+use Rattle.spi_commands.proofs.DeriveAnswers.{listing, long_listing}
 use Rattle.spi_commands.proofs.derive.listed.Goals as goal
 
 pub returns-then-count-clause-ok : goal.returns-then-count-clause-ok

@@ -1,5 +1,5 @@
-use Rattle.spi_commands.proofs.Judging.{some_derivable}
-use Rattle.spi_commands.proofs.Deriving.{refused}
+use Rattle.spi_commands.proofs.AnswerNo.{some_derivable}
+use Rattle.spi_commands.proofs.DeriveAnswers.{refused}
 use Rattle.spi_commands.proofs.derive.underivable.Goals as goal
 
 pub returns-clause-ok : goal.returns-clause-ok

@@ -1,5 +1,5 @@
-use Rattle.spi_commands.proofs.Refusals.{refused_named, refused_within}
-use Rattle.spi_commands.proofs.FirstFault.{first_is_fault}
+use Rattle.spi_commands.proofs.FileRefusals.{refused_named, refused_within}
+use Rattle.spi_commands.proofs.FileScopes.{first_is_fault}
 use Rattle.spi_commands.proofs.file.line_of.Goals as goal
 
 pub refusal_line-requires-clause-named : goal.refusal_line-requires-clause-named

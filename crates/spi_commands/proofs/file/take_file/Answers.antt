@@ -1,4 +1,4 @@
-use Rattle.spi_commands.proofs.Taking.{lexical_refused}
+use Rattle.spi_commands.proofs.FileTaking.{lexical_refused}
 use Rattle.spi_commands.proofs.file.take_file.Goals as goal
 
 pub returns-in-Refused-clause-gives : goal.returns-in-Refused-clause-gives

@@ -1,5 +1,5 @@
 use Rattle.spi_tree.specs.Views.{file_of}
-use Rattle.spi_commands.proofs.Loading.{only_memory}
+use Rattle.spi_commands.proofs.LoadAnswers.{only_memory}
 use Rattle.spi_commands.proofs.load.loads.Goals as goal
 
 pub stopped-requires : goal.stopped-requires

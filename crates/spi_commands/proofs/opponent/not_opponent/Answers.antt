@@ -1,6 +1,6 @@
 use Rattle.std.proofs.Common.{refl, ap, Some}
 use Rattle.spi_text.specs.declared.lines.Span.{Span}
-use Rattle.spi_commands.proofs.Opponents.{node_within, offence_line}
+use Rattle.spi_commands.proofs.AnswerOffence.{node_within, offence_line}
 use Rattle.spi_commands.proofs.opponent.not_opponent.Goals as goal
 
 pub refusal-requires-clause-within : goal.refusal-requires-clause-within

@@ -1,6 +1,6 @@
 use Rattle.spi_commands.specs.Playing.{not_asked}
-use Rattle.spi_commands.proofs.Parties.{same_names}
-use Rattle.spi_commands.proofs.Playing.{few_at_start, play_listed, play_refused, leaves_ended, leaves_stopped, on_err}
+use Rattle.spi_commands.proofs.FileParts.{same_names}
+use Rattle.spi_commands.proofs.PlayAnswers.{few_at_start, play_listed, play_refused, leaves_ended, leaves_stopped, on_err}
 use Rattle.spi_commands.proofs.play.beside.Goals as goal
 
 pub start-requires-clause-names : goal.start-requires-clause-names

@@ -1,6 +1,6 @@
 use Rattle.std.proofs.Common.{length, map, ◌+◌, arith}
 use Rattle.spi_run.specs.View.{step}
-use Rattle.spi_commands.proofs.Playing.{lists, lists_long}
+use Rattle.spi_commands.proofs.PlayAnswers.{lists, lists_long}
 use Rattle.spi_commands.proofs.play.listed.Goals as goal
 
 pub returns-then-count-clause-ok : goal.returns-then-count-clause-ok

@@ -1,4 +1,4 @@
-use Rattle.spi_commands.proofs.Playing.{lacks_opponent, offends, on_err}
+use Rattle.spi_commands.proofs.PlayAnswers.{lacks_opponent, offends, on_err}
 use Rattle.spi_commands.specs.Playing.{not_asked}
 use Rattle.spi_commands.proofs.play.played.Goals as goal
 

@@ -1,7 +1,7 @@
 use Rattle.std.proofs.Common.{refl}
 use Rattle.spi_commands.specs.Playing.{PlaysTo}
-use Rattle.spi_commands.proofs.Playing.{unread, leaves_taken}
-use Rattle.spi_commands.proofs.Taking.{of_taken, refused_given}
+use Rattle.spi_commands.proofs.PlayAnswers.{unread, leaves_taken}
+use Rattle.spi_commands.proofs.FileTaking.{of_taken, refused_given}
 use Rattle.spi_commands.proofs.play.plays.Goals as goal
 
 pub played-requires-clause-sized : goal.played-requires-clause-sized

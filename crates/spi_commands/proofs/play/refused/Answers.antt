@@ -1,5 +1,5 @@
 use Rattle.std.proofs.Common.{refl, string_bytes}
-use Rattle.spi_commands.proofs.Playing.{refused_line}
+use Rattle.spi_commands.proofs.PlayAnswers.{refused_line}
 use Rattle.spi_commands.proofs.play.refused.Goals as goal
 
 pub returns-in_ok-shown-in-BadPick-clause-ok : goal.returns-in_ok-shown-in-BadPick-clause-ok

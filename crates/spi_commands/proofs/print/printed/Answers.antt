@@ -1,5 +1,5 @@
-use Rattle.spi_commands.proofs.Printing.{printed}
-use Rattle.spi_commands.proofs.Taking.{are_answered}
+use Rattle.spi_commands.proofs.PrintAnswers.{printed}
+use Rattle.spi_commands.proofs.FileTaking.{are_answered}
 use Rattle.spi_commands.proofs.print.printed.Goals as goal
 
 pub returns-clause-ok : goal.returns-clause-ok

@@ -1,5 +1,5 @@
 use Rattle.spi_commands.specs.Printing.{PrintsTo}
-use Rattle.spi_commands.proofs.Taking.{of_taken, refused_given, first_of_all}
+use Rattle.spi_commands.proofs.FileTaking.{of_taken, refused_given, first_of_all}
 use Rattle.spi_commands.proofs.print.prints.Goals as goal
 
 pub printed-requires-clause-sized : goal.printed-requires-clause-sized

@@ -1,7 +1,7 @@
 use Rattle.std.proofs.Common.{[], inl, inr}
 use Rattle.spi_parse.proofs.Lexed.{kinds_fit}
 use Rattle.spi_commands.specs.Refusals.{Refuses, syntax, too_deep}
-use Rattle.spi_commands.proofs.Refusals.{unread_as}
+use Rattle.spi_commands.proofs.FileRefusals.{unread_as}
 use Rattle.spi_commands.proofs.reading.read_tokens.Goals as goal
 
 pub parse-requires-clause-words : goal.parse-requires-clause-words

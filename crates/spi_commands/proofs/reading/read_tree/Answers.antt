@@ -1,4 +1,4 @@
-use Rattle.spi_commands.proofs.FirstFault.{unscoped}
+use Rattle.spi_commands.proofs.FileScopes.{unscoped}
 use Rattle.spi_commands.proofs.reading.read_tree.Goals as goal
 
 pub returns-in-Err-clause-unread : goal.returns-in-Err-clause-unread

@@ -1,5 +1,5 @@
 use Rattle.std.proofs.Common.{refl}
-use Rattle.spi_commands.proofs.Judging.{stands_within}
+use Rattle.spi_commands.proofs.AnswerNo.{stands_within}
 use Rattle.spi_commands.proofs.rejection.fault_line.Goals as goal
 
 pub no_fault-requires : goal.no_fault-requires

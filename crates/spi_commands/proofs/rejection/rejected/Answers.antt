@@ -1,5 +1,5 @@
 use Rattle.spi_fault.specs.Faults.{told}
-use Rattle.spi_commands.proofs.Judging.{rejects}
+use Rattle.spi_commands.proofs.AnswerNo.{rejects}
 use Rattle.spi_commands.proofs.rejection.rejected.Goals as goal
 
 pub returns-clause-ok : goal.returns-clause-ok

@@ -1,7 +1,7 @@
 use Rattle.std.proofs.Common.{refl, sym, inl, inr, map}
 use Rattle.spi_run.specs.View.{event}
 use Rattle.spi_report.proofs.Lines.{each_paired}
-use Rattle.spi_commands.proofs.Paying.{paid_by_none, unpaid_by_one}
+use Rattle.spi_commands.proofs.ReplayPaid.{paid_by_none, unpaid_by_one}
 use Rattle.spi_commands.proofs.replay.judgement.Goals as goal
 
 pub first_unpaid-requires : goal.first_unpaid-requires

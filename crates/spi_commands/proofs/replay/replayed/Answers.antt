@@ -1,10 +1,23 @@
-use Rattle.std.proofs.Common.{ap}
-use Rattle.spi_scope.specs.Files.{steps_in}
-use Rattle.spi_commands.proofs.Replaying.{lacks_opponent, lacks_schedule}
+use Rattle.std.proofs.Common.{false, map, subst}
+use Rattle.spi_run.specs.View.{event}
+use Rattle.spi_scope.specs.Files.{meant}
+use Rattle.spi_commands.specs.declared.schedule.Ran.{Ran}
+use Rattle.spi_commands.specs.Ran.{IsRan}
+use Rattle.spi_commands.proofs.ReplayAnswers.{judged, refused, told}
 use Rattle.spi_commands.proofs.replay.replayed.Goals as goal
 
-pub returns-in-None-clause-ok : goal.returns-in-None-clause-ok
-returns-in-None-clause-ok c = lacks_opponent c.args.bytes.now c.args.file.now c.missing.result c.requires.read c.in-None.is c.missing.ensures.ok
+pub judged-requires : goal.judged-requires
+judged-requires c = rw c.deref.ensures.value (subst (λ (r : Ran). IsRan c.args.bytes.now (meant c.args.file.now) false r) c.in-Through.is c.in_ok-replay.ensures.ok).3
 
-pub returns-in-None-schedule-clause-ok : goal.returns-in-None-schedule-clause-ok
-returns-in-None-schedule-clause-ok c = lacks_schedule c.args.bytes.now c.args.file.now c.in-Some.opponent c.missing-in-None-schedule.result c.requires.read c.in-Some.is (ap steps_in c.in-None-schedule.is) c.missing-in-None-schedule.ensures.ok
+pub returns-in-Through-clause-ok : goal.returns-in-Through-clause-ok
+returns-in-Through-clause-ok c =
+    judged c.args.bytes.now c.args.file.now c.in-Through.replay c.judged.result c.requires.read
+    (subst (λ (r : Ran). IsRan c.args.bytes.now (meant c.args.file.now) false r) c.in-Through.is c.in_ok-replay.ensures.ok) (rw c.deref.ensures.value at c.judged.ensures.ok)
+
+pub returns-in-Through-clause-answered : goal.returns-in-Through-clause-answered
+returns-in-Through-clause-answered c = told (map event c.in-Through.replay.events.items) c.args.file.now c.judged.result (rw c.deref.ensures.value at c.judged.ensures.ok)
+
+pub returns-in-Refused-clause-ok : goal.returns-in-Refused-clause-ok
+returns-in-Refused-clause-ok c =
+    refused c.args.bytes.now c.in-Refused.line.items c.refused_with.result.output.items c.refused_with.result.status
+    (subst (λ (r : Ran). IsRan c.args.bytes.now (meant c.args.file.now) false r) c.in-Refused.is c.in_ok-replay.ensures.ok) c.refused_with.ensures.status c.refused_with.ensures.output

@@ -1,5 +1,5 @@
 use Rattle.spi_commands.specs.Replaying.{ReplaysTo}
-use Rattle.spi_commands.proofs.Taking.{of_taken, refused_given, first_of_all}
+use Rattle.spi_commands.proofs.FileTaking.{of_taken, refused_given, first_of_all}
 use Rattle.spi_commands.proofs.replay.replays.Goals as goal
 
 pub replayed-requires-clause-sized : goal.replayed-requires-clause-sized

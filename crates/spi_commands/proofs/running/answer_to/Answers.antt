@@ -1,7 +1,7 @@
 use Rattle.std.proofs.Common.{◌∙◌, ap, Some}
 use Rattle.spi_commands.specs.declared.asked.Command.TheVariants.{Check, Derive, Verify, Replay, Play, Print, Upgrade}
-use Rattle.spi_commands.proofs.Ending.{wants_given}
-use Rattle.spi_commands.proofs.Playing.{left_same, left_given}
+use Rattle.spi_commands.proofs.RunEnds.{wants_given}
+use Rattle.spi_commands.proofs.PlayAnswers.{left_same, left_given}
 use Rattle.spi_commands.proofs.running.answer_to.Goals as goal
 
 pub returns-in_ok-take_file-in-Some-Check-clause-answer : goal.returns-in_ok-take_file-in-Some-Check-clause-answer

@@ -1,4 +1,4 @@
-use Rattle.spi_commands.proofs.Facts.{one_spelled}
+use Rattle.spi_commands.proofs.FileFacts.{one_spelled}
 use Rattle.spi_commands.proofs.running.one_file.Goals as goal
 
 pub returns : goal.returns

@@ -1,4 +1,4 @@
-use Rattle.spi_commands.proofs.Refusals.{refused_none}
+use Rattle.spi_commands.proofs.FileRefusals.{refused_none}
 use Rattle.spi_commands.proofs.running.refused_is_none.Goals as goal
 
 pub returns : goal.returns

@@ -1,5 +1,5 @@
-use Rattle.spi_commands.proofs.Facts.{Facts}
-use Rattle.spi_commands.proofs.Ending.{headline, many_to_one, promise, complete}
+use Rattle.spi_commands.proofs.FileFacts.{Facts}
+use Rattle.spi_commands.proofs.RunEnds.{headline, many_to_one, promise, complete}
 use Rattle.spi_commands.proofs.running.run.Goals as goal
 
 pub returns-clause-headline : goal.returns-clause-headline

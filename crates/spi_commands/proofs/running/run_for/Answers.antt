@@ -1,5 +1,5 @@
-use Rattle.spi_commands.proofs.Ending.{cut_short}
-use Rattle.spi_commands.proofs.Playing.{left_same}
+use Rattle.spi_commands.proofs.RunEnds.{cut_short}
+use Rattle.spi_commands.proofs.PlayAnswers.{left_same}
 use Rattle.spi_commands.proofs.running.run_for.Goals as goal
 
 pub returns-in-Ok-answer_to-clause-answer : goal.returns-in-Ok-answer_to-clause-answer

@@ -1,4 +1,4 @@
-use Rattle.spi_commands.proofs.Refusals.{unlexed_named, unlexed_within}
+use Rattle.spi_commands.proofs.FileRefusals.{unlexed_named, unlexed_within}
 use Rattle.spi_commands.proofs.text.lexical_line.Goals as goal
 
 pub refusal_line-requires-clause-named : goal.refusal_line-requires-clause-named

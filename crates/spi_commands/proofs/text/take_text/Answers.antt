@@ -1,5 +1,5 @@
 use Rattle.std.proofs.Common.{rules}
-use Rattle.spi_commands.proofs.Taking.{takes_long, taken_long, text_taken, text_long, on_ok}
+use Rattle.spi_commands.proofs.FileTaking.{takes_long, taken_long, text_taken, text_long, on_ok}
 use Rattle.spi_commands.proofs.text.take_text.Goals as goal
 
 pub returns-in-Ok-clause-gives : goal.returns-in-Ok-clause-gives

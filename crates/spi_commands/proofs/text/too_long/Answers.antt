@@ -1,5 +1,5 @@
 use Rattle.std.proofs.Common.{refl, rules, None, []}
-use Rattle.spi_commands.proofs.Taking.{long_line}
+use Rattle.spi_commands.proofs.FileTaking.{long_line}
 use Rattle.spi_commands.proofs.text.too_long.Goals as goal
 
 pub returns-clause-gives : goal.returns-clause-gives

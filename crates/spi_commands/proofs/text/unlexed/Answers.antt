@@ -1,6 +1,6 @@
 use Rattle.std.proofs.Common.{[]}
 use Rattle.spi_commands.specs.Refusals.{IsUnlexed, not_utf8, bad_char, bad_number, name_too_long}
-use Rattle.spi_commands.proofs.Refusals.{lexed_fault, unread_as}
+use Rattle.spi_commands.proofs.FileRefusals.{lexed_fault, unread_as}
 use Rattle.spi_commands.proofs.text.unlexed.Goals as goal
 
 pub returns-in-NotUtf8 : goal.returns-in-NotUtf8

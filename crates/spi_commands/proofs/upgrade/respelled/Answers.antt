@@ -1,6 +1,6 @@
 use Rattle.std.proofs.Common.{subst, sym}
 use Rattle.spi_commands.specs.Upgrading.{AreRespelled, IsRespelled, none_respelled}
-use Rattle.spi_commands.proofs.Upgrading.{respelled_next}
+use Rattle.spi_commands.proofs.UpgradeAnswers.{respelled_next}
 use Rattle.spi_commands.proofs.upgrade.respelled.Goals as goal
 
 pub loop-name-init : goal.loop-name-init

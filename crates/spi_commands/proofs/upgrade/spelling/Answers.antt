@@ -1,5 +1,5 @@
 use Rattle.std.proofs.Common.{◌∙◌}
-use Rattle.spi_commands.proofs.Upgrading.{respelled_if}
+use Rattle.spi_commands.proofs.UpgradeAnswers.{respelled_if}
 use Rattle.spi_commands.proofs.upgrade.spelling.Goals as goal
 
 pub returns-in_ok-word-in-Some : goal.returns-in_ok-word-in-Some

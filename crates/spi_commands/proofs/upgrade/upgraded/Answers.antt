@@ -1,6 +1,6 @@
 use Rattle.spi_scope.specs.Files.{meant}
-use Rattle.spi_commands.proofs.Upgrading.{read_spelled, read_version, upgrades}
-use Rattle.spi_commands.proofs.Taking.{are_answered}
+use Rattle.spi_commands.proofs.UpgradeAnswers.{read_spelled, read_version, upgrades}
+use Rattle.spi_commands.proofs.FileTaking.{are_answered}
 use Rattle.spi_commands.proofs.upgrade.upgraded.Goals as goal
 
 pub in_version_2-requires : goal.in_version_2-requires

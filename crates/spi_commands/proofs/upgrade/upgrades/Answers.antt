@@ -1,5 +1,5 @@
 use Rattle.spi_commands.specs.Upgrading.{UpgradesTo}
-use Rattle.spi_commands.proofs.Taking.{of_taken, refused_given, first_of_all}
+use Rattle.spi_commands.proofs.FileTaking.{of_taken, refused_given, first_of_all}
 use Rattle.spi_commands.proofs.upgrade.upgrades.Goals as goal
 
 pub upgraded-requires-clause-sized : goal.upgraded-requires-clause-sized

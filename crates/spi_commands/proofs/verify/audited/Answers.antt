@@ -1,5 +1,5 @@
 use Rattle.spi_rules.specs.Deriv.{rule_uses}
-use Rattle.spi_commands.proofs.Verifying.{audits_few, audits_tree, unproved_step, unproved_unpaid}
+use Rattle.spi_commands.proofs.VerifyAnswers.{audits_few, audits_tree, unproved_step, unproved_unpaid}
 use Rattle.spi_commands.proofs.verify.audited.Goals as goal
 
 pub audit-requires-clause-few : goal.audit-requires-clause-few

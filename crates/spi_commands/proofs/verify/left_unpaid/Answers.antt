@@ -1,5 +1,5 @@
 use Rattle.spi_term.specs.View.{effect}
-use Rattle.spi_commands.proofs.Verifying.{unpaid_answer, never_empty}
+use Rattle.spi_commands.proofs.VerifyAnswers.{unpaid_answer, never_empty}
 use Rattle.spi_commands.proofs.verify.left_unpaid.Goals as goal
 
 pub returns-clause-ok : goal.returns-clause-ok

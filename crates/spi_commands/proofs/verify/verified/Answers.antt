@@ -1,6 +1,6 @@
 use Rattle.std.proofs.Common.{ap}
 use Rattle.spi_scope.specs.Files.{uses_of}
-use Rattle.spi_commands.proofs.Verifying.{lacks}
+use Rattle.spi_commands.proofs.VerifyAnswers.{lacks}
 use Rattle.spi_commands.proofs.verify.verified.Goals as goal
 
 pub returns-in-None-clause-ok : goal.returns-in-None-clause-ok

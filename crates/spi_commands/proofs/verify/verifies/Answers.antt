@@ -1,5 +1,5 @@
 use Rattle.spi_commands.specs.Verifying.{VerifiesTo}
-use Rattle.spi_commands.proofs.Taking.{of_taken, refused_given, first_of_all}
+use Rattle.spi_commands.proofs.FileTaking.{of_taken, refused_given, first_of_all}
 use Rattle.spi_commands.proofs.verify.verifies.Goals as goal
 
 pub verified-requires-clause-sized : goal.verified-requires-clause-sized

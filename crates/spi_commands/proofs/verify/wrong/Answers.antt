@@ -1,5 +1,5 @@
 use Rattle.std.proofs.Common.{refl}
-use Rattle.spi_commands.proofs.Verifying.{use_within, wrong_line}
+use Rattle.spi_commands.proofs.VerifyAnswers.{use_within, wrong_line}
 use Rattle.spi_commands.proofs.verify.wrong.Goals as goal
 
 pub wrong_step-requires : goal.wrong_step-requires

@@ -1,0 +1,57 @@
+-- What is answered on a file.
+use Rattle.std.proofs.Common.{◌≡◌, ◌↔◌, ℕ, List, [], sym, subst, length, reverse, Option, Some, None, refl, Result, Ok, Err, IfOk, IsNone, ◌≤◌}
+use Rattle.spi_text.specs.declared.lines.Span.{Span}
+use Rattle.spi_scope.specs.declared.file.File.{File}
+use Rattle.spi_scope.specs.Files.{meant, Marked, marked}
+use Rattle.spi_scope.specs.Places.{place_in}
+use Rattle.spi_scope.specs.Chains.{chain_at}
+use Rattle.spi_rules.specs.Environment.{untrusted}
+use Rattle.spi_rules.specs.Derivations.{Derivable}
+use Rattle.spi_fault.specs.Faults.{Told, IsFault}
+use Rattle.spi_report.specs.Fault.{fault_text}
+use Rattle.spi_commands.specs.declared.answer.Answer.{Answer}
+use Rattle.spi_commands.specs.declared.answer.Stop.{Stop}
+use Rattle.spi_commands.specs.declared.status.Status.TheVariants.{No}
+use Rattle.spi_commands.specs.NoLine.{IsNo}
+use Rattle.spi_commands.specs.Checking.{ChecksTo}
+use Rattle.spi_commands.specs.Reading.{IsRead}
+use Rattle.spi_commands.proofs.FilePlaces.{place_within}
+
+-- what the file tells of places and names is what its tree has
+abbrev pub place_of : Marked → ℕ → Span
+place_of m i = place_in m.process i
+
+abbrev pub names_of : Marked → ℕ → List (List ℕ)
+names_of m i = reverse (chain_at m.scopes i)
+
+pub stands_within : (bytes : List ℕ) (f : File) (i : ℕ) → IsRead bytes f → (place_of (marked f) i).from ≤ length bytes
+stands_within bytes f i (tree, is, stands, marks) = subst (λ m. (place_of m i).from ≤ length bytes) (sym marks) (place_within bytes tree is i)
+
+pub no_line : (bytes output : List ℕ) (f : File) (fault : Told) → IsRead bytes f → IsFault (names_of (marked f)) f.process.names f.process.process fault → output ≡ fault_text bytes (place_of (marked f)) (names_of (marked f)) fault → IsNo bytes output
+no_line bytes output f fault (tree, is, stands, marks) h e = (
+  tree,
+  meant f,
+  fault,
+  is,
+  stands,
+  subst (λ m. IsFault (names_of m) f.process.names f.process.process fault) marks h,
+  subst (λ m. output ≡ fault_text bytes (place_of m) (names_of m) fault) marks e,
+)
+
+pub rejects : (bytes : List ℕ) (f : File) (fault : Told) (result : Result Answer Stop) → IsRead bytes f → IsFault (names_of (marked f)) f.process.names f.process.process fault
+    → IfOk result (λ a. (a.status ≡ No) × (a.output.items ≡ fault_text bytes (place_of (marked f)) (names_of (marked f)) fault)) → IfOk result (λ a. (a.status ≡ No) × IsNo bytes a.output.items)
+rejects bytes f fault (Ok a) r is h = (h.0, no_line bytes a.output.items f fault r is h.1)
+rejects bytes f fault (Err e) r is h = tt
+
+-- a no
+pub refused : (bytes : List ℕ) (f : File) (result : Result Answer Stop) → IsRead bytes f → (Derivable (untrusted f.process.names) f.process.process [] → ⊥) → IfOk result (λ a. (a.status ≡ No) × IsNo bytes a.output.items) → IfOk result (λ a. ChecksTo bytes a.status a.output.items)
+refused bytes f (Ok a) (tree, is, stands, marks) none h =
+    let wanted : ChecksTo bytes No a.output.items = ((meant f, (tree, is, stands), none), h.1) in
+    subst (λ s. ChecksTo bytes s a.output.items) (sym h.0) wanted
+refused bytes f (Err e) r none h = tt
+
+pub none_derivable : {A : Type 0} (o : Option A) (x : A) (D : Type 0) → o ≡ Some x → IsNone o ↔ D → D → ⊥
+none_derivable o x D e h d = absurd (let n : IsNone (Some x) = subst IsNone e (h.1 d) in cc n)
+
+pub some_derivable : {A : Type 0} (o : Option A) (D : Type 0) → IsNone o ↔ D → (D → ⊥) → o ≡ None → ⊥
+some_derivable o D h none e = none (h.0 (rw e refl))

@@ -1,0 +1,169 @@
+-- A file's process and opponent: over how many names they are, and that these names and the steps are few.
+use Rattle.std.proofs.Common.{◌≡◌, ⊎_elim, refl, sym, ap, ◌∙◌, subst, ℕ, suc, ◌+◌, ◌<◌, ◌≤◌, List, [], ◌∷◌, ◌++◌, length, map, Option, Some, None, arith, if◌then◌else◌}
+use Rattle.std.proofs.lemmas.Bool.{cases_lt, lt-ltb}
+use Rattle.std.proofs.lemmas.List.{length-map}
+use Rattle.spi_lex.specs.declared.token.Token.{Token}
+use Rattle.spi_lex.specs.Lexing.{kinds_of}
+use Rattle.spi_lex.proofs.Lexed.{lexed}
+use Rattle.spi_tree.specs.Trees as t
+use Rattle.spi_tree.specs.Pieces.{Piece, opens, cell, closes, kinds_in, ends, steps_pieces, schedule_pieces, derivation_pieces}
+use Rattle.spi_parse.specs.Formed.{whole_file}
+use Rattle.spi_term.specs.Spelling.{Spelling}
+use Rattle.spi_term.specs.Names.{ProcessOver}
+use Rattle.spi_term.specs.Term.{Process}
+use Rattle.spi_run.specs.Safety.{beside}
+use Rattle.spi_run.specs.Reduction.{Configuration, Step}
+use Rattle.spi_run.specs.declared.step.Step as program
+use Rattle.spi_run.specs.View.{step as step_of}
+use Rattle.spi_scope.specs.declared.fault.ScopeFault.TheVariants.{FileTooLarge}
+use Rattle.spi_scope.specs.declared.file.File.{File}
+use Rattle.spi_scope.specs.Parts.{step_in}
+use Rattle.spi_scope.specs.Points.{Point, uses_name, uses_type, declares_name, declares_type, ends_message, ends_type, adds, starts_step, Points, none, one, ◌⨾◌, in_order, fault_at, added, decls_points, body_points, all_names, all_types}
+use Rattle.spi_scope.specs.First.{count, Clean, IsClean}
+use Rattle.spi_scope.specs.Files.{meant}
+use Rattle.spi_scope.specs.StandsFor.{Meant, StandsFor, over_free, opponent_over, schedule_in}
+use Rattle.spi_scope.proofs.Counting.{weight, names_weigh}
+use Rattle.spi_scope.proofs.Indexing.{all_over, nodes_spell}
+use Rattle.spi_commands.specs.Spelled.{limit, IsTreeOf}
+use Rattle.spi_commands.specs.Reading.{IsRead}
+use Rattle.spi_commands.proofs.FilePieces as Past
+use Rattle.spi_commands.proofs.FileRefusals.{tokens_within, spells_kinds}
+
+-- process and opponent are over the free names
+is_over : (tree : t.File) (p : t.Proc) → ProcessOver (over_free (all_types [] [] tree.decls) (all_names [] tree.decls) p).names (over_free (all_types [] [] tree.decls) (all_names [] tree.decls) p).process
+is_over tree p = (nodes_spell (all_types [] [] tree.decls) (all_names [] tree.decls) (all_over [] [] tree.decls tt) p).0
+
+abbrev IsOver : Spelling → Type 0
+IsOver s = ProcessOver s.names s.process
+
+pub process_over_names : (tree : t.File) (file : Meant) → StandsFor tree file → ProcessOver file.process.names file.process.process
+process_over_names tree file stands = subst IsOver (sym stands.process) (is_over tree tree.process)
+
+-- what is known of an opponent
+record Joins (file : Meant) (o : Spelling) : Type 0 where
+  names : o.names ≡ file.process.names
+  over : ProcessOver o.names o.process
+
+joins : (tree : t.File) (file : Meant) (o : Spelling) → StandsFor tree file → file.opponent ≡ Some o → Joins file o
+joins tree file o stands e = by tree.opponent (sym stands.opponent ∙ e)
+  where
+    by : (p : Option t.Proc) → opponent_over (all_types [] [] tree.decls) (all_names [] tree.decls) p ≡ Some o → Joins file o
+    by None h = absurd (cc)
+    by (Some p) h =
+        let same : over_free (all_types [] [] tree.decls) (all_names [] tree.decls) p ≡ o = (let g : Some (over_free (all_types [] [] tree.decls) (all_names [] tree.decls) p) ≡ Some o = h in cc) in
+        record {
+          names = ap (λ (s : Spelling). s.names) (sym same) ∙ ap (λ (s : Spelling). s.names) (sym stands.process);
+          over = subst IsOver same (is_over tree p);
+        }
+
+pub opponent_names : (tree : t.File) (file : Meant) (o : Spelling) → StandsFor tree file → file.opponent ≡ Some o → file.process.names ≡ o.names
+opponent_names tree file o stands e = sym (joins tree file o stands e).names
+
+pub opponent_over_names : (tree : t.File) (file : Meant) (o : Spelling) → StandsFor tree file → file.opponent ≡ Some o → ProcessOver file.process.names o.process
+opponent_over_names tree file o stands e =
+    let j : Joins file o = joins tree file o stands e in
+    subst (λ (n : ℕ). ProcessOver n o.process) j.names j.over
+
+-- a clean tree has few free names
+point_few : (c : ℕ) (p : Point) → c ≤ 100000 → fault_at c p ≡ None → c + added p ≤ 100000
+point_few c (uses_name xs w) few h = omega (arith, few)
+point_few c (uses_type ts w) few h = omega (arith, few)
+point_few c (declares_name xs w) few h = omega (arith, few)
+point_few c (declares_type ts w) few h = omega (arith, few)
+point_few c (ends_message n s) few h = omega (arith, few)
+point_few c (ends_type n s) few h = omega (arith, few)
+point_few c (adds n s) few h = ⊎_elim large (λ small. small) (cases_lt 100000 (c + n))
+  where
+    large : 100000 < c + n → c + n ≤ 100000
+    large g =
+        let f : Some (FileTooLarge s (c + n)) ≡ None = sym (ap (λ b. if b then Some (FileTooLarge s (c + n)) else None) (lt-ltb 100000 (c + n) g)) ∙ h in
+        absurd (cc)
+point_few c (starts_step i n s) few h = omega (arith, few)
+
+front_few : (c : ℕ) (ps qs : List Point) → c ≤ 100000 → Clean c (ps ++ qs) → c + count ps ≤ 100000
+front_few c [] qs few h = omega (arith, few)
+front_few c (p ∷ ps) qs few h =
+    let rest = front_few (c + added p) ps qs (point_few c p few h.0) h.1 in
+    omega (arith, rest)
+
+count_append : (ps qs : List Point) → count (ps ++ qs) ≡ count ps + count qs
+count_append [] qs = omega arith
+count_append (p ∷ ps) qs = omega (arith, count_append ps qs)
+
+weighs : (ps : Points) → count (in_order ps) ≡ weight ps
+weighs none = refl
+weighs (one p) = omega arith
+weighs (ps ⨾ qs) = omega (arith, count_append (in_order ps) (in_order qs), weighs ps, weighs qs)
+
+few_free : (tree : t.File) → IsClean tree → length (all_names [] tree.decls) ≤ 100000
+few_free tree clean =
+    let ps = decls_points [] [] tree.decls in
+    let few = front_few 0 (in_order ps) (in_order (body_points (all_types [] [] tree.decls) (all_names [] tree.decls) tree)) (omega arith) clean in
+    omega (arith, few, weighs ps, names_weigh [] [] tree.decls)
+
+-- each step has a token of its own
+abbrev Longer : ℕ → List Piece → Type 0
+Longer k r = k ≤ length (kinds_in r)
+
+longer_on : (k : ℕ) (a : Piece) (r : List Piece) → Longer k r → Longer k (a ∷ r)
+longer_on k (opens from) r h = h
+longer_on k (cell kind deep) r h = omega (arith, h)
+longer_on k (closes to) r h = h
+
+steps_long : (xs : List t.Step) (r : List Piece) → Longer (length xs) (steps_pieces xs r)
+steps_long [] r = omega arith
+steps_long (t.act s i ∷ xs) r = let more = steps_long xs r in omega (arith, more)
+steps_long (t.talk s i j ∷ xs) r = let more = steps_long xs r in omega (arith, more)
+
+abbrev steps_of_tree : Option (List t.Step) → List t.Step
+steps_of_tree None = []
+steps_of_tree (Some xs) = xs
+
+schedule_long : (o : Option (List t.Step)) (r : List Piece) → Longer (length (steps_of_tree o)) (schedule_pieces o r)
+schedule_long None r = omega arith
+schedule_long (Some xs) r = let more = steps_long xs r in omega (arith, more)
+
+same_length : (o : Option (List t.Step)) (steps : List Step) → schedule_in o ≡ Some steps → length steps ≡ length (steps_of_tree o)
+same_length None steps h = absurd (cc)
+same_length (Some xs) steps h =
+    let same : map step_in xs ≡ steps = (let g : Some (map step_in xs) ≡ Some steps = h in cc) in
+    ap (λ (l : List Step). length l) (sym same) ∙ length-map xs step_in
+
+few_steps : (bytes : List ℕ) (tree : t.File) (steps : List Step) → IsTreeOf bytes tree → schedule_in tree.schedule ≡ Some steps → length steps ≤ limit
+few_steps bytes tree steps is e =
+    let n : ℕ = length (steps_of_tree tree.schedule) in
+    let long = Past.past_body {P = Longer n} (longer_on n) tree (schedule_long tree.schedule (derivation_pieces tree.derivation (ends tree.span []))) in
+    let same : kinds_in (whole_file tree) ≡ kinds_of is.tokens = spells_kinds 0 (whole_file tree) is.tokens is.spelled in
+    let each : length (kinds_of is.tokens) ≡ length is.tokens = kinds_long is.tokens in
+    let most = tokens_within 0 (length bytes) is.tokens (lexed bytes is.tokens is.lexed).1 in
+    let some : n ≤ length (kinds_of is.tokens) = subst (λ ks. n ≤ length ks) same long in
+    omega (arith, some, each, most, is.within, same_length tree.schedule steps e)
+  where
+    kinds_long : (ts : List Token) → length (kinds_of ts) ≡ length ts
+    kinds_long [] = refl
+    kinds_long (token ∷ ts) = ap suc (kinds_long ts)
+
+-- so a replay uses few names, and has few events
+pub few_used : (bytes : List ℕ) (f : File) (steps : List program.Step) → IsRead bytes f → (meant f).schedule ≡ Some (map step_of steps) → f.process.names + length steps < 4294967295
+few_used bytes f steps (tree, is, stands, marks) e =
+    let free = few_free tree stands.clean in
+    let names : f.process.names ≡ length (all_names [] tree.decls) = ap (λ (s : Spelling). s.names) stands.process in
+    let few = few_steps bytes tree (map step_of steps) is (sym stands.schedule ∙ e) in
+    let each : length (map step_of steps) ≡ length steps = length-map steps step_of in
+    omega (arith, free, names, few, each)
+
+-- and a play too
+pub few_names : (bytes : List ℕ) (f : File) → IsRead bytes f → f.process.names ≤ 100000
+few_names bytes f (tree, is, stands, marks) =
+    let free = few_free tree stands.clean in
+    let names : f.process.names ≡ length (all_names [] tree.decls) = ap (λ (s : Spelling). s.names) stands.process in
+    omega (arith, free, names)
+
+pub few_from : (bytes : List ℕ) (f : File) (o : Process) (steps : List program.Step) (c : Configuration) → IsRead bytes f → (meant f).schedule ≡ Some (map step_of steps) → c ≡ beside f.process.names f.process.process o → c.names + length steps < 4294967295
+few_from bytes f o steps c r e start =
+    let few = few_used bytes f steps r e in
+    let names : c.names ≡ f.process.names = ap (λ (c : Configuration). c.names) start in
+    omega (arith, few, names)
+
+pub same_names : (bytes : List ℕ) (f : File) (o : Spelling) → IsRead bytes f → (meant f).opponent ≡ Some o → f.process.names ≡ o.names
+same_names bytes f o (tree, is, stands, marks) e = opponent_names tree (meant f) o stands e

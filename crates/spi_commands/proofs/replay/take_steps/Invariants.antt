@@ -1,5 +1,0 @@
-use Rattle.spi_commands.proofs.Replays.{Came}
-use Rattle.spi_commands.proofs.replay.take_steps.Given as goal
-
-abbrev pub invariant-loop-i : goal.invariant-loop-i
-invariant-loop-i l = Came l.fn.pool l.i l.steps l.events.items l.pool
