@@ -175,10 +175,10 @@ module _ (s : Store) (noted : Noted) (k : ℕ) (p : Process) (env : Env) (h : Is
     abbrev st : List (Option Effect)
     st = run (drop id ss) (drop id ns)
 
-    at_node : drop i ss ≡ x ∷ drop id ss
+    pub at_node : drop i ss ≡ x ∷ drop id ss
     at_node = drop_at ss i x g ∙ ap (λ n. x ∷ drop n ss) (sym z)
 
-    at_note : drop i ns ≡ note_here ∷ drop id ns
+    pub at_note : drop i ns ≡ note_here ∷ drop id ns
     at_note = unfold note_here in (here.is ∙ ap (λ n. here.note ∷ drop n ns) (sym z))
 
     behind : Behind x st

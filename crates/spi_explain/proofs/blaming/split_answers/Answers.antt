@@ -1,0 +1,15 @@
+use Rattle.std.proofs.Common.{◌≡◌, sym, ap, subst, List, [], ◌∷◌, ◌++◌, Some, None}
+use Rattle.spi_blame.specs.Blaming.{typed, labelled}
+use Rattle.spi_term.specs.Term.{un, pair_ty, sum_ty, key}
+use Rattle.spi_term.specs.View.{message, ty}
+use Rattle.spi_explain.specs.Premises.{AreAnswered, answered_none}
+use Rattle.spi_explain.proofs.Answered.{answered_more, answered_start}
+use Rattle.spi_explain.proofs.blaming.split_answers.Goals as goal
+
+pub returns : goal.returns
+returns c =
+    let e = c.args.env.now in
+    let m = message c.args.m.now in
+    let a = c.in_ok-ask_type.ensures [] (answered_start e c.new-answers.result.items c.new-answers.ensures.items) in
+    let b = c.in_ok-ask_type-2.ensures (typed m (ty c.in_ok-whole.whole) ∷ []) a in
+    subst (λ t. AreAnswered e (typed m t ∷ (typed m un ∷ [])) c.ask_type-2.new.answers.items) c.in_ok-whole.ensures b

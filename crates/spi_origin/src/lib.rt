@@ -1,0 +1,12 @@
+//! What stands behind a verdict: every node that blocks, and the nodes that put an atom in an effect.
+#![tactic(auto)]
+
+mod adding;
+mod finding;
+mod gathering;
+
+pub use finding::{blocked, origins};
+use std::alloc::AllocError;
+
+/// Memory ran out.
+pub type NoMemory = AllocError;
