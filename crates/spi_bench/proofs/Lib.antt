@@ -3,3 +3,4 @@ mod Wholes
 pub mod Counted
 pub mod Totals
 pub mod Placing
+pub mod Verdicts
