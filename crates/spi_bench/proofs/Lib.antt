@@ -4,3 +4,4 @@ pub mod Counted
 pub mod Totals
 pub mod Placing
 pub mod Verdicts
+pub mod Judged

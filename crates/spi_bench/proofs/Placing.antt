@@ -1,7 +1,7 @@
 -- Slots under names, as they change.
 use Rattle.std.proofs.Common.{◌≡◌, ◌≢◌, ◌↔◌, ◌⊎◌, inl, inr, refl, sym, ap, ◌∙◌, subst, ℕ, zero, suc, ◌+◌, ◌<◌, ◌≤◌, Bool, true, false, eqb, List, [], ◌∷◌, ◌++◌, map, length, Option, Some, None, arith, eqb-true, length-append}
 use Rattle.std.proofs.lemmas.Bool.{eqb-false}
-use Rattle.std.specs.Prelude.{slice_get, slice_set}
+use Rattle.std.specs.Prelude.{slice_get, slice_set, Result, Ok, Err, IfOk, OnErr}
 use Rattle.std.specs.Str.{bytes_eq}
 use Rattle.std.specs.HashMap.{HashMap}
 use Rattle.std.specs.Map.{lookup}
@@ -294,3 +294,12 @@ drops_none n old at to h e q =
 -- a map with the same entries finds the same
 pub lookup_same : {S : Type 0} (m m' : HashMap (List ℕ) ℕ S) → m'.entries ≡ m.entries → (n : List ℕ) → get bytes_eq m' n ≡ get bytes_eq m n
 lookup_same m m' e n = ap (λ es. lookup (bytes_eq n) es) e
+
+-- after a put that may have failed
+pub done_places : (n : List ℕ) (p : Spelling) (least : Option D.Effect) (old new : List (Option Slot)) (to : At) (r : Result (Option Spelling) Spelling) → IfOk r (λ x. Puts n p least x old new to) → OnErr r (Stays old new to) → AreNamed new to
+done_places n p least old new to (Ok x) a b = a.places
+done_places n p least old new to (Err x) a b = b.places
+
+pub done_inferred : (n : List ℕ) (p : Spelling) (least : Option D.Effect) (old new : List (Option Slot)) (to : At) (env : Env) (count : ℕ) (r : Result (Option Spelling) Spelling) → IfOk r (λ x. Puts n p least x old new to) → OnErr r (Stays old new to) → AreInferred env count old → IsPart env count p least → AreInferred env count new
+done_inferred n p least old new to env count (Ok x) a b h k = a.inferred env count h k
+done_inferred n p least old new to env count (Err x) a b h k = b.inferred env count h

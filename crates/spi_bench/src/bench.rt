@@ -8,7 +8,7 @@ ghost use Rattle.spi_bench.specs.Whole.{AreOver};
 
 use crate::NoMemory;
 use crate::judging::{bind_all, least_of};
-use crate::naming::{drop_from, put_in};
+use crate::naming::{drop_from, put_fitting};
 use crate::table::Table;
 use indexmap::IndexMap;
 use spi_infer::Steps;
@@ -107,6 +107,42 @@ impl Bench {
         ensures { IsTrue result ↔ IsYes self.now }
     {
         self.fine && self.table.is_paid()
+    }
+
+    /// Puts a part under a name. A part that is there under that name goes, and is given back. The part is over the free and
+    /// the shared names, and with it the bench has at most 100,000 nodes. A step is a visit of a node of the part, of which
+    /// each is visited at most once. Where memory runs out, the bench is as before and the part is given back.
+    pub fn put<L: Ledger>(
+        &mut self,
+        name: &Text,
+        part: Process,
+        steps: &mut Steps<L>,
+    ) -> Result<Option<Process>, PutFault>
+        requires names { part.names ≡ self.old.free + length self.old.shared }
+        requires nodes { nodes_in self.old.parts + process_size part.process ≤ 100_000 }
+        ensures before { IfOk result (λ r. r ≡ named name.now self.old.parts) }
+        ensures parts { OnOk result (self.new ≡ record self.old { parts = with_part name.now part self.old.parts }) }
+        ensures unchanged { OnErr result (self.new ≡ self.old) }
+        ensures part { IfErr result (λ f. f ≡ PutFault.NoMemory part) }
+        ensures steps { (steps.old ≤ steps.new) × (steps.new ≤ steps.old + process_size part.process) }
+    {
+        // The number of nodes is asked for what it says: the part is over its names.
+        let _ = part.len();
+        let least = match least_of(self.alloc, &mut self.judge, &part, steps) {
+            Ok(least) => least,
+            Err(_) => return Err(PutFault::NoMemory(part)),
+        };
+        match put_fitting(
+            self.alloc,
+            &mut self.table,
+            &mut self.places,
+            name,
+            part,
+            least,
+        ) {
+            Ok(before) => Ok(before),
+            Err(part) => Err(PutFault::NoMemory(part)),
+        }
     }
 
     /// The part of that name goes, and is given back. `None` where no part has that name.

@@ -31,6 +31,12 @@ fn is_made(t: &Ty) -> bool
     }
 }
 
+fn are_all(fine: bool, made: bool, good: bool) -> bool
+    ensures { IsTrue result ↔ (IsTrue fine × IsTrue made × IsTrue good) }
+{
+    fine && made && good
+}
+
 // One shared name more. It answers whether all was in order before, `new` may make the type, and the type is good.
 fn bind_shared(alloc: Global, judge: &mut Judge, t: &Ty, fine: bool) -> Result<bool, NoMemory>
     requires names { length judge.old.types < 100000 }
@@ -42,7 +48,8 @@ fn bind_shared(alloc: Global, judge: &mut Judge, t: &Ty, fine: bool) -> Result<b
     let id = judge.ty(alloc, t)?;
     let good = judge.good_type(alloc, id)?;
     judge.bind(id)?;
-    Ok(fine && is_made(t) && good)
+    let made = is_made(t);
+    Ok(are_all(fine, made, good))
 }
 
 /// Binds the shared types in order. It answers whether each is one that `new` may make, and good in the environment of the
