@@ -303,3 +303,13 @@ done_places n p least old new to (Err x) a b = b.places
 pub done_inferred : (n : List ℕ) (p : Spelling) (least : Option D.Effect) (old new : List (Option Slot)) (to : At) (env : Env) (count : ℕ) (r : Result (Option Spelling) Spelling) → IfOk r (λ x. Puts n p least x old new to) → OnErr r (Stays old new to) → AreInferred env count old → IsPart env count p least → AreInferred env count new
 done_inferred n p least old new to env count (Ok x) a b h k = a.inferred env count h k
 done_inferred n p least old new to env count (Err x) a b h k = b.inferred env count h
+
+-- at the start
+pub nothing_named : {S : Type 0} (ss : List (Option Slot)) (m : HashMap (List ℕ) ℕ S) → ss ≡ [] → m.entries ≡ [] → AreNamed ss (get bytes_eq m)
+nothing_named ss m e f n i = (λ g. let a : get bytes_eq m n ≡ None = ap (λ es. lookup (bytes_eq n) es) f in absurd (let b : None ≡ Some i = sym a ∙ g in cc), λ (u, g, h). nothing_stands ss i u e g)
+  where
+    nothing_stands : {A : Type 0} (xs : List (Option Slot)) (j : ℕ) (v : Slot) → xs ≡ [] → slice_get xs j ≡ Some (Some v) → A
+    nothing_stands xs j v q g = absurd (let b : None ≡ Some (Some v) = sym (ap (λ l. slice_get l j) q) ∙ g in cc)
+
+pub nothing_inferred : (env : Env) (count : ℕ) (ss : List (Option Slot)) → ss ≡ [] → AreInferred env count ss
+nothing_inferred env count ss e j u g = absurd (let b : None ≡ Some (Some u) = sym (ap (λ l. slice_get l j) e) ∙ g in cc)
