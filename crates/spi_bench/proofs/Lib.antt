@@ -3,3 +3,5 @@ mod Wholes
 pub mod Counted
 pub mod Totals
 pub mod Placing
+pub mod Verdicts
+pub mod Judged

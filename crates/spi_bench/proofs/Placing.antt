@@ -1,7 +1,7 @@
 -- Slots under names, as they change.
 use Rattle.std.proofs.Common.{◌≡◌, ◌≢◌, ◌↔◌, ◌⊎◌, inl, inr, refl, sym, ap, ◌∙◌, subst, ℕ, zero, suc, ◌+◌, ◌<◌, ◌≤◌, Bool, true, false, eqb, List, [], ◌∷◌, ◌++◌, map, length, Option, Some, None, arith, eqb-true, length-append}
 use Rattle.std.proofs.lemmas.Bool.{eqb-false}
-use Rattle.std.specs.Prelude.{slice_get, slice_set}
+use Rattle.std.specs.Prelude.{slice_get, slice_set, Result, Ok, Err, IfOk, OnErr}
 use Rattle.std.specs.Str.{bytes_eq}
 use Rattle.std.specs.HashMap.{HashMap}
 use Rattle.std.specs.Map.{lookup}
@@ -14,7 +14,7 @@ use Rattle.std.proofs.lemmas.Option.{slice_get_within}
 use Rattle.spi_infer.specs.Inferring.{IsLeast}
 use Rattle.spi_term.specs.declared.term.Effect as D
 use Rattle.spi_bench.specs.Slots.{SetsPart, sets_part, sets_none, SetsLast, sets_last, IsPadded, Puts, Drops, Stays}
-use Rattle.spi_bench.specs.Slots.{part_of, kept, parts_of, StandsAt, AreNamed, IsInferred, AreInferred}
+use Rattle.spi_bench.specs.Slots.{part_of, kept, parts_of, StandsAt, AreNamed, IsPart, IsInferred, AreInferred}
 use Rattle.spi_bench.specs.declared.slot.Slot.{Slot}
 
 -- texts
@@ -201,11 +201,8 @@ inferred_padded : (env : Env) (count : ℕ) (ss : List (Option Slot)) → AreInf
 inferred_padded env count ss h j u e = h j u (get_padded ss j u e)
 
 -- a slot with a part and its least effect
-inferred_slot : (env : Env) (count : ℕ) (t : Slot) (p : Spelling) (least : Option D.Effect) → t.part ≡ p → t.least ≡ least → IsLeast env p.process least → p.names ≡ count → IsInferred env count t
-inferred_slot env count t p least q m y z = record {
-  names = ap (λ (x : Spelling). x.names) q ∙ z;
-  least = subst (λ (x : Spelling). IsLeast env x.process t.least) (sym q) (subst (λ x. IsLeast env p.process x) (sym m) y);
-}
+inferred_slot : (env : Env) (count : ℕ) (t : Slot) (p : Spelling) (least : Option D.Effect) → t.part ≡ p → t.least ≡ least → IsPart env count p least → IsInferred env count t
+inferred_slot env count t p least q m h = subst (λ o. IsPart env count t.part o) (sym m) (subst (λ x. IsPart env count x least) (sym q) h)
 
 none_some : {A : Type 0} (u : Slot) (x : Option (Option Slot)) → x ≡ Some None → x ≡ Some (Some u) → A
 none_some u x e f = absurd (cc)
@@ -225,8 +222,8 @@ puts_there n p least i _ old new at h e (sets_part {s} {t} g f q m w) =
       places = subst (λ x. AreNamed x at) (sym w) (named_after n i old at at (Some t) (Some i) l h o (λ y k. let c : s ≡ y = cc in sym (ap (λ (x : Slot). x.name) c) ∙ b) (there (f ∙ b)) e (λ m d. refl));
       parts = ap parts_of w ∙ put_there old i s t n g b (f ∙ b) o ∙ ap (λ x. with_part n x (parts_of old)) q;
       before = sym (find_there old i s n g b o);
-      inferred = λ env count k y z.
-          subst (λ x. AreInferred env count x) (sym w) (inferred_after env count i old (Some t) l k (λ x c. let d : t ≡ x = cc in subst (IsInferred env count) d (inferred_slot env count t p least q m y z)));
+      inferred = λ env count k y.
+          subst (λ x. AreInferred env count x) (sym w) (inferred_after env count i old (Some t) l k (λ x c. let d : t ≡ x = cc in subst (IsInferred env count) d (inferred_slot env count t p least q m y)));
     }
 puts_there n p least i _ old new at h e (sets_none g) =
     let (u, v, z) = (h n i).0 e in
@@ -241,8 +238,8 @@ puts_last n p least old new at to h e (sets_last {t} f q m w) here others =
       places = subst (λ x. AreNamed x to) (sym w) (named_after n (length old) padded at to (Some t) (Some (length old)) l (named_padded old at h) (λ j u g k. absurd (o j u (get_padded old j u g) k)) (λ u g. absurd (past old u (get_padded old (length old) u g))) (there f) here others);
       parts = ap parts_of w ∙ put_last old t n f o ∙ ap (λ x. with_part n x (parts_of old)) q;
       before = sym (find_none old n o);
-      inferred = λ env count k y z.
-          subst (λ x. AreInferred env count x) (sym w) (inferred_after env count (length old) padded (Some t) l (inferred_padded env count old k) (λ x c. let d : t ≡ x = cc in subst (IsInferred env count) d (inferred_slot env count t p least q m y z)));
+      inferred = λ env count k y.
+          subst (λ x. AreInferred env count x) (sym w) (inferred_after env count (length old) padded (Some t) l (inferred_padded env count old k) (λ x c. let d : t ≡ x = cc in subst (IsInferred env count) d (inferred_slot env count t p least q m y)));
     }
   where
     past : (ss : List (Option Slot)) (u : Slot) → slice_get ss (length ss) ≡ Some (Some u) → ⊥
@@ -297,3 +294,22 @@ drops_none n old at to h e q =
 -- a map with the same entries finds the same
 pub lookup_same : {S : Type 0} (m m' : HashMap (List ℕ) ℕ S) → m'.entries ≡ m.entries → (n : List ℕ) → get bytes_eq m' n ≡ get bytes_eq m n
 lookup_same m m' e n = ap (λ es. lookup (bytes_eq n) es) e
+
+-- after a put that may have failed
+pub done_places : (n : List ℕ) (p : Spelling) (least : Option D.Effect) (old new : List (Option Slot)) (to : At) (r : Result (Option Spelling) Spelling) → IfOk r (λ x. Puts n p least x old new to) → OnErr r (Stays old new to) → AreNamed new to
+done_places n p least old new to (Ok x) a b = a.places
+done_places n p least old new to (Err x) a b = b.places
+
+pub done_inferred : (n : List ℕ) (p : Spelling) (least : Option D.Effect) (old new : List (Option Slot)) (to : At) (env : Env) (count : ℕ) (r : Result (Option Spelling) Spelling) → IfOk r (λ x. Puts n p least x old new to) → OnErr r (Stays old new to) → AreInferred env count old → IsPart env count p least → AreInferred env count new
+done_inferred n p least old new to env count (Ok x) a b h k = a.inferred env count h k
+done_inferred n p least old new to env count (Err x) a b h k = b.inferred env count h
+
+-- at the start
+pub nothing_named : {S : Type 0} (ss : List (Option Slot)) (m : HashMap (List ℕ) ℕ S) → ss ≡ [] → m.entries ≡ [] → AreNamed ss (get bytes_eq m)
+nothing_named ss m e f n i = (λ g. let a : get bytes_eq m n ≡ None = ap (λ es. lookup (bytes_eq n) es) f in absurd (let b : None ≡ Some i = sym a ∙ g in cc), λ (u, g, h). nothing_stands ss i u e g)
+  where
+    nothing_stands : {A : Type 0} (xs : List (Option Slot)) (j : ℕ) (v : Slot) → xs ≡ [] → slice_get xs j ≡ Some (Some v) → A
+    nothing_stands xs j v q g = absurd (let b : None ≡ Some (Some v) = sym (ap (λ l. slice_get l j) q) ∙ g in cc)
+
+pub nothing_inferred : (env : Env) (count : ℕ) (ss : List (Option Slot)) → ss ≡ [] → AreInferred env count ss
+nothing_inferred env count ss e j u g = absurd (let b : None ≡ Some (Some u) = sym (ap (λ l. slice_get l j) e) ∙ g in cc)

@@ -1,11 +1,13 @@
 -- What is counted over slots, as they change.
 use Rattle.std.proofs.Common.{◌≡◌, refl, sym, ap, ◌∙◌, subst, ℕ, zero, suc, ◌+◌, ◌<◌, ◌≤◌, List, [], ◌∷◌, ◌++◌, length, Option, Some, None, arith, le_refl}
 use Rattle.std.specs.Prelude.{slice_get, slice_set, slice_index_or}
-use Rattle.std.proofs.lemmas.List.Sums.{sum_by-set, sum_by_push, sum_by-le-sum_by, get_or-le-sum_by}
+use Rattle.std.proofs.lemmas.List.Sums.{sum_by-set, sum_by_push, sum_by-le-sum_by, get_or-le-sum_by, sum_by-cons}
 use Rattle.spi_term.specs.Term.{Effect, Process, process_size, leaf, prefix, fork}
 use Rattle.spi_term.specs.View.{effect}
 use Rattle.spi_term.specs.declared.term.Effect as D
 use Rattle.spi_bench.specs.Sums.{Measure, nodes, blocked, atoms, placed, times, of_least, if_none, measured, of_slot, total, counted, IsPlace, IsMeasure, shared_in, Adds, AreSums}
+use Rattle.spi_bench.specs.Parts.{nodes_in}
+use Rattle.spi_bench.specs.Slots.{parts_of}
 use Rattle.spi_bench.specs.declared.slot.Slot.{Slot}
 use Rattle.spi_bench.specs.declared.sums.Sums.{Sums}
 use Rattle.spi_bench.proofs.Counted.{times_le}
@@ -124,3 +126,9 @@ pub room_padded : (k n : ℕ) (ss ts : List (Option Slot)) (m : Measure) (r : �
 room_padded k n ss ts m r g h =
     let z = sum_by_push (of_slot k n m) ss None in
     let c = ap (total k n m) g in omega arith
+
+-- the nodes of the parts
+pub nodes_total : (k n : ℕ) (ss : List (Option Slot)) → nodes_in (parts_of ss) ≡ total k n nodes ss
+nodes_total k n [] = refl
+nodes_total k n (None ∷ ss) = let a = sum_by-cons (of_slot k n nodes) None ss in let h = nodes_total k n ss in omega arith
+nodes_total k n (Some s ∷ ss) = let a = sum_by-cons (of_slot k n nodes) (Some s) ss in let h = nodes_total k n ss in omega arith

@@ -26,7 +26,7 @@ together_over n [] h = tt
 together_over n (p ∷ []) h = h p in_first
 together_over n (p ∷ (q ∷ ps)) h = (tt, h p in_first, together_over n (q ∷ ps) (λ r i. h r (in_later i)))
 
-together_least : (env : Env) (ps : List Process) (ess : List Effect) → AreLeast env ps ess → LeastOf env (together ps) (sum_of ess)
+pub together_least : (env : Env) (ps : List Process) (ess : List Effect) → AreLeast env ps ess → LeastOf env (together ps) (sum_of ess)
 together_least env [] [] h = stop_least
 together_least env [] (es ∷ ess) h = absurd h
 together_least env (p ∷ ps) [] h = absurd h

@@ -1,5 +1,6 @@
 -- The slots in which the parts of a bench stand. A slot that is empty had a part that was dropped.
-use Rattle.std.specs.Prelude.{◌≡◌, ◌⊎◌, ◌↔◌, ℕ, ◌+◌, ◌<◌, ◌≤◌, List, [], ◌∷◌, ◌++◌, map, length, Option, Some, None, slice_get, slice_set}
+use Rattle.std.specs.Prelude.{◌≡◌, ◌⊎◌, ◌↔◌, ℕ, ◌+◌, ◌<◌, ◌≤◌, Bool, true, List, [], ◌∷◌, ◌++◌, map, length, Option, Some, None, slice_get, slice_set}
+use Rattle.spi_term.specs.Names.{ProcessOver}
 use Rattle.spi_term.specs.Spelling.{Spelling}
 use Rattle.spi_term.specs.Term.{Ty, Process}
 use Rattle.spi_term.specs.declared.term.Effect as Declared
@@ -31,10 +32,14 @@ StandsAt ss i n = (s : Slot) × (slice_get ss i ≡ Some (Some s)) × (s.name �
 abbrev pub AreNamed : List (Option Slot) → (List ℕ → Option ℕ) → Type 0
 AreNamed ss at = (n : List ℕ) (i : ℕ) → (at n ≡ Some i) ↔ StandsAt ss i n
 
--- each part is over so many names, and its least effect is what is kept with it
-pub record IsInferred (env : Env) (count : ℕ) (s : Slot) : Type 0 where
-  pub names : s.part.names ≡ count
-  pub least : IsLeast env s.part.process s.least
+-- the part is over so many names, and this is its least effect
+pub record IsPart (env : Env) (count : ℕ) (p : Spelling) (o : Option Declared.Effect) : Type 0 where
+  pub names : p.names ≡ count
+  pub over : ProcessOver count p.process
+  pub least : IsLeast env p.process o
+
+abbrev pub IsInferred : Env → ℕ → Slot → Type 0
+IsInferred env count s = IsPart env count s.part s.least
 
 abbrev pub AreInferred : Env → ℕ → List (Option Slot) → Type 0
 AreInferred env count ss = (i : ℕ) (s : Slot) → slice_get ss i ≡ Some (Some s) → IsInferred env count s
@@ -69,7 +74,7 @@ pub record Puts (n : List ℕ) (p : Spelling) (least : Option Declared.Effect) (
   pub places : AreNamed new to
   pub parts : parts_of new ≡ with_part n p (parts_of old)
   pub before : r ≡ named n (parts_of old)
-  pub inferred : (env : Env) (count : ℕ) → AreInferred env count old → IsLeast env p.process least → p.names ≡ count → AreInferred env count new
+  pub inferred : (env : Env) (count : ℕ) → AreInferred env count old → IsPart env count p least → AreInferred env count new
 
 -- a drop
 pub record Drops (n : List ℕ) (r : Option Spelling) (old new : List (Option Slot)) (to : List ℕ → Option ℕ) : Type 0 where
@@ -83,3 +88,14 @@ pub record Stays (old new : List (Option Slot)) (to : List ℕ → Option ℕ) :
   pub places : AreNamed new to
   pub parts : parts_of new ≡ parts_of old
   pub inferred : (env : Env) (count : ℕ) → AreInferred env count old → AreInferred env count new
+
+-- what holds of a bench: its judge stands for the types of the names, `fine` says whether the shared types are in order,
+-- the counts are over the same names, each name is found where its slot stands, and each slot has its least effect
+pub record IsBench (j : Numbered) (free : ℕ) (ts : List Ty) (fine : Bool) (k n : ℕ) (ss : List (Option Slot)) (at : List ℕ → Option ℕ) : Type 0 where
+  pub stands : Stands j (names_of free ts)
+  pub shared : (fine ≡ true) ↔ AreShared (untrusted free) ts
+  pub over : AreOver free ts
+  pub free_is : k ≡ free
+  pub shared_is : n ≡ length ts
+  pub places : AreNamed ss at
+  pub inferred : AreInferred (names_of free ts) (free + length ts) ss

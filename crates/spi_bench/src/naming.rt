@@ -92,9 +92,8 @@ fn put_new(
     }
 }
 
-/// A part under a name: another one in its place where the name is there, and else the last one. It gives back the part
-/// that was there. Without memory the new part is given back.
-pub fn put_in(
+// A part under a name: another one in its place where the name is there, and else the last one.
+fn put_in(
     alloc: Global,
     table: &mut Table,
     places: &mut IndexMap<Text, usize>,
@@ -118,6 +117,30 @@ pub fn put_in(
             Err(part) => Err(part),
         },
     }
+}
+
+/// A part under a name: another one in its place where the name is there, and else the last one. It gives back the part
+/// that was there. Without memory the new part is given back.
+pub fn put_fitting(
+    alloc: Global,
+    table: &mut Table,
+    places: &mut IndexMap<Text, usize>,
+    name: &Text,
+    part: Process,
+    least: Option<Effect>,
+) -> Result<Option<Process>, Process>
+    requires places { AreNamed table.old.slots.items (get bytes_eq places.old) }
+    requires nodes { total table.old.sums.free (shared_in table.old.sums) S.nodes table.old.slots.items + process_size part.process < 2 ^ 64 }
+    ensures ok { IfOk result (λ r. Puts name.now part least r table.old.slots.items table.new.slots.items (get bytes_eq places.new)) }
+    ensures err { OnErr result (Stays table.old.slots.items table.new.slots.items (get bytes_eq places.new)) }
+    ensures part { IfErr result (λ p. p ≡ part) }
+    ensures free { table.new.sums.free ≡ table.old.sums.free }
+    ensures shared { shared_in table.new.sums ≡ shared_in table.old.sums }
+{
+    if !table.has_room(&least) {
+        return Err(part);
+    }
+    put_in(alloc, table, places, name, part, least)
 }
 
 /// The part under the name goes, where there is one, and is given back.
