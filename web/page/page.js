@@ -54,6 +54,7 @@ class Page {
 
   // Takes a whole file, in place of the one that is there.
   take(text, title, name, command = 'check') {
+    for (const dialog of document.querySelectorAll('dialog[open]')) dialog.close(); // the text goes where the focus is
     this.title = title;
     this.fileName = name;
     this.choose(command, false);
