@@ -584,6 +584,18 @@ def test_extension_runs(room, program):
 
 # tools/sarif
 
+def expect_sarif(shows, text):
+    """Holds a log to what the standard asks of the objects that are in it."""
+    try:
+        import jsonschema
+    except ImportError:
+        left_out(f"sarif: the schema, for {shows}", "python3-jsonschema")
+        return
+    schema = json.loads(read("tests/sarif_2_1_0.json"))
+    faults = list(jsonschema.Draft7Validator(schema).iter_errors(json.loads(text)))
+    expect(f"sarif: the schema, for {shows}", not faults, "; ".join(it.message[:200] for it in faults[:3]))
+
+
 def test_sarif(room, program):
     sarif = [f"{ROOT}/tools/sarif", "--program", program]
     wanted = []
@@ -595,6 +607,7 @@ def test_sarif(room, program):
     ran = run([*sarif, "--lines", "examples"], cwd=ROOT)
     expect("sarif: lines", (ran.returncode, ran.stdout) == (1, "".join(wanted)), ran.stdout + ran.stderr)
     ran = run([*sarif, "examples"], cwd=ROOT)
+    expect_sarif("many files", ran.stdout)
     log = json.loads(ran.stdout)["runs"][0]
     lines = []
     for result in log["results"]:
@@ -609,7 +622,12 @@ def test_sarif(room, program):
     expect("sarif: columns are characters", log["columnKind"] == "unicodeCodePoints")
     ran = run([*sarif, "--output", f"{room}/out.sarif", f"{ROOT}/examples/nonce_handshake.spi"])
     with open(f"{room}/out.sarif", encoding="utf-8") as file:
-        expect("sarif: a yes", ran.returncode == 0 and json.load(file)["runs"][0]["results"] == [])
+        written = file.read()
+    expect("sarif: a yes", ran.returncode == 0 and json.loads(written)["runs"][0]["results"] == [])
+    expect_sarif("a yes", written)
+    with open(f"{room}/a name with blanks, é.spi", "w", encoding="utf-8") as file:
+        file.write("process stop")
+    expect_sarif("a name with blanks", run([*sarif, room]).stdout)
     fails = write_program(f"{room}/fails", "exit 5")
     hangs = write_program(f"{room}/hangs", "exec sleep 100")
     here = f"{ROOT}/examples/nonce_handshake.spi"
@@ -621,6 +639,8 @@ def test_sarif(room, program):
                                  ("no place to write", ["--program", program, "--output", f"{room}/no/out", here], 73),
                                  ("no words", [], 74)]:
         ran = run([f"{ROOT}/tools/sarif", *words])
+        if ran.stdout:
+            expect_sarif(shows, ran.stdout)
         told_why = f"{ran.returncode} {ran.stderr}"
         expect(f"sarif: {shows}", ran.returncode == status and "Traceback" not in ran.stderr, told_why)
 

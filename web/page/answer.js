@@ -43,7 +43,7 @@ function button(words, done) {
 class Answer {
   constructor(root, page) {
     this.root = root;
-    this.page = page; // it has reasons, put(text), replace(text) and select(from, to)
+    this.page = page; // it has reasons, put(part, text, command), replace(text), choose(command) and select(from, to)
     this.all = false;
   }
 
@@ -78,7 +78,20 @@ class Answer {
     this.show(this.head(command, outcome), this.output(outcome), this.actions(command, outcome), said, this.reason(outcome));
   }
 
+  // What can be done where a part of the file is missing.
+  supplies(command, fault) {
+    const { put, choose } = this.page;
+    const it = {
+      opponent: () => button('Put an idle opponent behind the file', () => put('opponent', 'opponent stop\n', command)),
+      schedule: () => button('Let a schedule be played', () => choose('play')),
+      derivation: () => button('Derive one', () => choose('derive')),
+    }[fault.shows];
+    return it ? element('p', { className: 'buttons' }, it()) : null;
+  }
+
   actions(command, outcome) {
+    const fault = faultOf(outcome);
+    if (fault && fault.number === 38) return this.supplies(command, fault);
     if (outcome.status !== 0) return null;
     const { put, replace } = this.page;
     const { output } = outcome;

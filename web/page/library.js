@@ -33,7 +33,7 @@ class Library {
 
   show() {
     const words = this.search.value.toLowerCase().split(/\s+/);
-    const fits = (entry) => words.every((word) => `${entry.title} ${entry.source}`.toLowerCase().includes(word));
+    const fits = (entry) => words.every((word) => `${entry.group} ${entry.title} ${entry.source}`.toLowerCase().includes(word));
     const rows = [];
     let group = null;
     for (const entry of this.entries.filter(fits)) {

@@ -17,7 +17,7 @@ class Page {
     this.isTaken = false;
     this.answer = new Answer(byId('answer'), this);
     this.library = new Library(entries, byId('library'), (file) => this.take(file.text, file.title, file.name, file.command));
-    for (const method of ['put', 'replace', 'select']) this[method] = this[method].bind(this);
+    for (const method of ['put', 'replace', 'select', 'choose']) this[method] = this[method].bind(this);
     this.listen();
   }
 
@@ -54,6 +54,7 @@ class Page {
 
   // Takes a whole file, in place of the one that is there.
   take(text, title, name, command = 'check') {
+    for (const dialog of document.querySelectorAll('dialog[open]')) dialog.close(); // the text goes where the focus is
     this.title = title;
     this.fileName = name;
     this.choose(command, false);
@@ -276,14 +277,16 @@ class Page {
   }
 }
 
-// A text with a part behind it that begins with its own word. A part of this kind that is there makes way for it, and a
-// derivation stands behind a schedule.
+// A text with a part behind it that begins with its own word. A part of this kind that is there makes way for it, and the
+// parts that belong behind it stay there: the opponent comes first, then the schedule, and then the derivation.
 function withPart(text, part, more) {
   const tokens = tokensOf(text);
+  const order = ['opponent', 'schedule', 'derivation'];
+  const behind = order.slice(order.indexOf(part) + 1);
   const start = tokens.find((it) => it.word === part);
-  const next = tokens.find((it) => it.word === 'derivation' && it.kind === 'declaration');
+  const next = tokens.find((it) => behind.includes(it.word) && it.kind === 'declaration');
   const from = start ? start.at : next ? next.at : text.length;
-  const to = part === 'schedule' && next ? next.at : text.length;
+  const to = next ? next.at : text.length;
   const before = text.slice(0, from);
   return `${before}${/\n$/.test(before) ? '' : '\n'}${more}${text.slice(to)}`;
 }
