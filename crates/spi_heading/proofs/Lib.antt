@@ -6,3 +6,4 @@ pub mod Calls
 pub mod Names
 pub mod Each
 pub mod Told
+pub mod Wholes
