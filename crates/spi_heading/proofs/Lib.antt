@@ -7,3 +7,5 @@ pub mod Names
 pub mod Each
 pub mod Told
 pub mod Wholes
+pub mod Manys
+pub mod Firsts

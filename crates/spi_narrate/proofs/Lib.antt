@@ -1,2 +1,3 @@
 pub mod Prefixes
-pub mod Lines
+pub mod LineRows
+pub mod RoleRows

@@ -22,7 +22,7 @@ use Rattle.spi_heading.proofs.Failing.{FailsAt, IsToldBy, told_fail, fails_to}
 use Rattle.spi_heading.proofs.Symbols.{Sym, token, name, message, ty, opening, closing, Tok, kind_of, the_mark, the_reserved}
 use Rattle.spi_heading.proofs.Rows.{Values, Row, row_good, row_pieces, row_into, row_from, row_behind, RowAt, RowFails, fits_at}
 use Rattle.spi_heading.proofs.Standing.{Stands, IsSolid}
-use Rattle.spi_heading.proofs.Calls.{part_at}
+use Rattle.spi_heading.proofs.Calls.{part_at, part_stands}
 use Rattle.spi_heading.proofs.Told.{FormOf, forms_good}
 use Rattle.spi_heading.proofs.Wholes.{none_fail}
 use Rattle.spi_grammar.proofs.Good.{IsSome}
@@ -295,6 +295,10 @@ module _ (v : Bool) where
     prefix_reads x j fit formed row xs are r =
         let stands = subst (λ (l : List Piece). Stands ts i l j) (sym are) r.stands in
         part_at whole_prefix (IsWholePrefix v) x ts i j (formed, fits_at v ts (whole_prefix x) i j fit stands) (prefix_solid x []) prefixes_good.closed stands
+
+-- a prefix that is read, where it stands
+pub prefix_stands : (v : Bool) (ts : List Token) (i : ℕ) (x : n.Prefix) (j : ℕ) → i ≤ length ts → (r : (m : ℕ) × (j ≡ i + m) × exact.IsPartAt whole_prefix (IsWholePrefix v) x (drop i ts) m) → Stands ts i (whole_prefix x) j
+prefix_stands v ts i x j w r = subst (λ (k : ℕ). Stands ts i (whole_prefix x) k) (sym r.1) (part_stands whole_prefix (IsWholePrefix v) x ts i r.0 w (prefix_solid v x []) r.2)
 
 -- ---- where none begins
 

@@ -21,12 +21,13 @@ use Rattle.spi_grammar.proofs.Answers.{good_both}
 use Rattle.spi_grammar.proofs.Good.{IsSome, Differ, good_either}
 use Rattle.spi_parts.proofs.Alone.{kinds_in_append}
 use Rattle.spi_parts.proofs.Bridge.{OfPieces, of_piece}
-use Rattle.spi_heading.specs.Taking.{IsThere}
+use Rattle.spi_heading.specs.Spans.{start_of, end_before}
+use Rattle.spi_heading.specs.Taking.{IsThere, Takes, TakesWord}
 use Rattle.spi_heading.proofs.Standing.{Stands, IsSolid, stands_both}
 use Rattle.spi_heading.proofs.Failing.{FailsAt, IsToldBy, told_fail, same_fail, first_fail, second_fail, fails_from, fails_to}
 use Rattle.spi_heading.proofs.Symbols.{cells_append, Sym, token, name, message, opening, closing, the_mark, the_word, to, on, as_}
-use Rattle.spi_heading.proofs.Rows.{Values, Row, row_good, row_pieces, row_into, row_from, row_behind, row_read, RowAt, RowFails, fits_at, stands_read}
-use Rattle.spi_heading.proofs.Calls.{part_at, part_stands}
+use Rattle.spi_heading.proofs.Rows.{Values, Row, row_good, row_pieces, row_into, row_from, row_behind, row_read, RowAt, RowFails, row_end, row_more, opened, closed, fits_at, stands_read}
+use Rattle.spi_heading.proofs.Calls.{part_at, part_stands, took, took_word, there_before}
 use Rattle.spi_heading.proofs.Wholes.{none_fail}
 use Rattle.spi_narrate.specs.Narrations as n
 use Rattle.spi_narrate.specs.Grammar.{whole_prefix, IsPrefix, IsWholePrefix, line_pieces, whole_line, IsLine, IsWholeLine}
@@ -278,3 +279,43 @@ module _ (v : Bool) where
       pub pass_reads : (b c : SWord) (m : t.Msg) (x : SWord) (end k : ℕ) → RowAt v ts j pass_row (pass_values b c m x end) k → (o : ℕ) × (k ≡ i + o) × exact.IsPartAt whole_line (IsWholeLine v) (n.pass (record { from = from; to = end }) w b c m x) (drop i ts) o
       pass_reads b c m x end k rest = line_reads (n.pass (record { from = from; to = end }) w b c m x) k rest.are.1.1.1.1.1.0
           (stands_both ts (row_pieces head_row (head_values from w) []) (row_pieces pass_row (pass_values b c m x end) []) i j k head.stands rest.stands)
+
+pub line_solids : (x : n.Line) (r : List Piece) → IsSolid (line_pieces x r)
+line_solids x r = line_solid true x r
+
+pub line_behind : (x : n.Line) (r : List Piece) → line_pieces x r ≡ line_pieces x [] ++ r
+line_behind (n.local s w x) r =
+    let front = λ (l : List Piece). opens s.from ∷ opens w.span.from ∷ cell (K.Word w.word) false ∷ closes w.span.to ∷ cell (K.Mark mark.Colon) false ∷ l in
+    ap front (prefix_behind true x (a_mark mark.Semicolon (ends s r)) ∙ regroup (whole_prefix x) ∙ ap (λ (l : List Piece). l ++ r) (sym (prefix_behind true x (a_mark mark.Semicolon (ends s [])))))
+  where
+    regroup : (l : List Piece) → l ++ a_mark mark.Semicolon (ends s r) ≡ (l ++ a_mark mark.Semicolon (ends s [])) ++ r
+    regroup [] = refl
+    regroup (q ∷ l) = ap (λ (m : List Piece). q ∷ m) (regroup l)
+line_behind (n.pass s a b c m x) r =
+    ap (λ (l : List Piece). opens s.from ∷ opens a.span.from ∷ cell (K.Word a.word) false ∷ closes a.span.to ∷ l) (row_behind pass_row (pass_values b c m x s.to) r)
+
+-- ---- the answers of the readers of lines
+
+module _ (v : Bool) (ts : List Token) where
+  pub head_at : (i next : ℕ) (w : SWord) → TakesWord (Ok (w, next)) ts i → RowAt v ts i head_row (head_values (start_of ts i) w) next
+  head_at i next w h =
+      row_more v ts i i next opening (name ∷ []) (start_of ts i) (w, tt) (opened v ts i (there_before ts i (K.Word w.word) (h.0, h.1, h.2)))
+      (row_more v ts i next next name [] w tt (took_word v ts i (w, next) h) (row_end v ts next))
+
+  pub colon_at : (i : ℕ) → IsThere ts i (K.Mark mark.Colon) → RowAt v ts i colon_row (tt, tt) (i + 1)
+  colon_at i h = row_more v ts i (i + 1) (i + 1) (token (the_mark mark.Colon)) [] tt tt (took v ts i (i + 1) (the_mark mark.Colon) (h, refl)) (row_end v ts (i + 1))
+
+  pub tail_at : (i next : ℕ) → Takes (K.Mark mark.Semicolon) (Ok next) ts i → RowAt v ts i tail_row (tail_values (end_before ts next)) next
+  tail_at i next h =
+      row_more v ts i next next (token (the_mark mark.Semicolon)) (closing ∷ []) tt (end_before ts next, tt) (took v ts i next (the_mark mark.Semicolon) h)
+      (row_more v ts next next next closing [] (end_before ts next) tt (closed v ts next) (row_end v ts next))
+
+  pub line_answer : {V : Type 0} (view : V → n.Line) (i : ℕ) (f : ParseFault) (r : Result (V × ℕ) ParseFault) → IsErrAnd r (λ e. e ≡ f) → FailsAt (Lines v) ts i f → exact.Reads view whole_line (IsWholeLine v) r ts i
+  line_answer view i f (Ok x) is h = absurd is
+  line_answer view i f (Err e) is h = fails_to view whole_line (IsWholeLine v) ts i e (subst (λ (g : ParseFault). FailsAt (Lines v) ts i g) (sym is) h)
+
+  -- only a fault of the syntax comes of a single token, and it is at that token
+  pub no_pass : (i j from : ℕ) (w : SWord) → AreWordsFit v (kinds_of ts) → RowAt v ts i head_row (head_values from w) j → (IsThere ts j (K.Mark mark.Colon) → ⊥) → (f : ParseFault) → Takes (K.Word (codes "to")) (Err f) ts j → FailsAt (Lines v) ts i f
+  no_pass i j from w fit head other (faults.Syntax k) h = subst (λ (m : ℕ). FailsAt (Lines v) ts i (faults.Syntax m)) (sym h.1) (neither_fails v ts i fit j from w head other h.0)
+  no_pass i j from w fit head other (faults.TooDeep k) h = absurd h
+  no_pass i j from w fit head other faults.NoMemory h = absurd h
