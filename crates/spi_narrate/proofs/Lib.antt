@@ -1,3 +1,4 @@
 pub mod Prefixes
 pub mod LineRows
 pub mod RoleRows
+pub mod Whole

@@ -319,3 +319,11 @@ module _ (v : Bool) (ts : List Token) where
   no_pass i j from w fit head other (faults.Syntax k) h = subst (λ (m : ℕ). FailsAt (Lines v) ts i (faults.Syntax m)) (sym h.1) (neither_fails v ts i fit j from w head other h.0)
   no_pass i j from w fit head other (faults.TooDeep k) h = absurd h
   no_pass i j from w fit head other faults.NoMemory h = absurd h
+
+-- a line begins with a word
+pub line_first : (v : Bool) (a : List (Kind × Bool)) → Lines v a → (k : Kind) × (x : List Kind) × (kinds a ≡ k ∷ x)
+line_first v a p = go p.part p.shows
+  where
+    go : (l : n.Line) → cells (whole_line l) ≡ a → (k : Kind) × (x : List Kind) × (kinds a ≡ k ∷ x)
+    go (n.local s w x) e = (K.Word w.word, _, ap kinds (sym e))
+    go (n.pass s b c d m x) e = (K.Word b.word, _, ap kinds (sym e))

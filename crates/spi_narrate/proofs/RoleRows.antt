@@ -28,7 +28,7 @@ use Rattle.spi_heading.proofs.Rows.{Values, Row, row_good, row_pieces, row_into,
 use Rattle.spi_heading.proofs.Calls.{part_at, took, took_word}
 use Rattle.spi_heading.proofs.Each.{Along, along_rest, each_behind, one_read}
 use Rattle.spi_heading.proofs.Manys.{part_fail, more_fail, last_fail, FromMany, many_from, many_into}
-use Rattle.spi_narrate.specs.Grammar.{comma_pieces, IsAnyWord, HasRole, whole_roles, AreWholeRoles}
+use Rattle.spi_narrate.specs.Grammar.{comma_pieces, roles_pieces, IsAnyWord, HasRole, whole_roles, AreWholeRoles}
 
 abbrev pub roles_head : List Sym
 roles_head = token (the_word roles) ∷ name ∷ []
@@ -212,3 +212,22 @@ module _ (v : Bool) where
               (stands_both ts (row_pieces roles_head (tt, (w, tt)) []) (each_pieces comma_pieces ws [] ++ row_pieces semicolon_row (tt, tt) []) i j l head.stands
               (stands_both ts (each_pieces comma_pieces ws []) (row_pieces semicolon_row (tt, tt) []) j k l along.stands last.stands)) in
               part_at whole_roles (AreWholeRoles v) (w ∷ ws) ts i l ((w, ws, refl), fits_at v ts (whole_roles (w ∷ ws)) i l fit stands) tt roles_good.closed stands
+
+-- ---- roles in front of others
+
+pub roles_behind : (ws : List SWord) (r : List Piece) → roles_pieces ws r ≡ whole_roles ws ++ r
+roles_behind [] r = refl
+roles_behind (w ∷ ws) r =
+    ap (λ (l : List Piece). cell (K.Word (codes "roles")) false ∷ opens w.span.from ∷ cell (K.Word w.word) false ∷ closes w.span.to ∷ l)
+    (each_behind comma_pieces comma_behind ws (a_mark mark.Semicolon r) ∙ regroup (each_pieces comma_pieces ws []) ∙ ap (λ (l : List Piece). l ++ r) (sym (each_behind comma_pieces comma_behind ws (a_mark mark.Semicolon []))))
+  where
+    regroup : (l : List Piece) → l ++ a_mark mark.Semicolon r ≡ (l ++ a_mark mark.Semicolon []) ++ r
+    regroup [] = refl
+    regroup (q ∷ l) = ap (λ (m : List Piece). q ∷ m) (regroup l)
+
+pub roles_first : (v : Bool) (a : List (Kind × Bool)) → Roles v a → (x : List Kind) × (kinds a ≡ K.Word (codes "roles") ∷ x)
+roles_first v a p = go p.part p.is.0 p.shows
+  where
+    go : (ws : List SWord) → HasRole ws → cells (whole_roles ws) ≡ a → (x : List Kind) × (kinds a ≡ K.Word (codes "roles") ∷ x)
+    go [] h e = absurd (let f : [] ≡ h.0 ∷ h.1 = h.2 in cc)
+    go (w ∷ ws) h e = (_, ap kinds (sym e))
