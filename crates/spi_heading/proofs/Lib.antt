@@ -6,3 +6,6 @@ pub mod Calls
 pub mod Names
 pub mod Each
 pub mod Told
+pub mod Wholes
+pub mod Manys
+pub mod Firsts

@@ -38,6 +38,7 @@ pub data Asked : Type 0 where
   as_ : Asked
   put : Asked
   drop_ : Asked
+  version : Asked
 
 abbrev pub spelling : Asked → List ℕ
 spelling shared = codes "shared"
@@ -47,6 +48,7 @@ spelling on = codes "on"
 spelling as_ = codes "as"
 spelling put = codes "put"
 spelling drop_ = codes "drop"
+spelling version = codes "version"
 
 pub asked_fits : (v : Bool) (a : Asked) → IsWordFit v (K.Word (spelling a))
 asked_fits v shared = fit_any v (K.Word (codes "shared")) (letters_identifier (codes "shared") refl (lit≤ tt), lit≤ tt, refl)
@@ -56,21 +58,25 @@ asked_fits v on = fit_any v (K.Word (codes "on")) (letters_identifier (codes "on
 asked_fits v as_ = fit_any v (K.Word (codes "as")) (letters_identifier (codes "as") refl (lit≤ tt), lit≤ tt, refl)
 asked_fits v put = fit_any v (K.Word (codes "put")) (letters_identifier (codes "put") refl (lit≤ tt), lit≤ tt, refl)
 asked_fits v drop_ = fit_any v (K.Word (codes "drop")) (letters_identifier (codes "drop") refl (lit≤ tt), lit≤ tt, refl)
+asked_fits v version = fit_any v (K.Word (codes "version")) (letters_identifier (codes "version") refl (lit≤ tt), lit≤ tt, refl)
 
 pub data Tok : Type 0 where
   the_mark : Mark → Tok
   the_reserved : Reserved → Tok
   the_word : Asked → Tok
+  the_two : Tok
 
 abbrev pub kind_of : Tok → Kind
 kind_of (the_mark m) = K.Mark m
 kind_of (the_reserved w) = K.Reserved w
 kind_of (the_word a) = K.Word (spelling a)
+kind_of the_two = K.Number 2
 
 pub tok_fits : (v : Bool) (x : Tok) → IsWordFit v (kind_of x)
 tok_fits v (the_mark m) = tt
 tok_fits v (the_reserved w) = tt
 tok_fits v (the_word a) = asked_fits v a
+tok_fits v the_two = tt
 
 -- a word of the version
 abbrev pub IsName : Bool → Kind → Type 0

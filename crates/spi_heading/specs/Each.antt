@@ -6,7 +6,9 @@ use Rattle.spi_lex.specs.declared.token.Token.{Token}
 use Rattle.spi_tree.specs.Pieces.{Piece, kinds_in}
 use Rattle.spi_tree.specs.Formed.{AreWordsFit}
 use Rattle.spi_parse.specs.declared.fault.ParseFault.{ParseFault}
-use Rattle.spi_parse.specs.Exact.{Spells, Reads}
+use Rattle.spi_parse.specs.declared.fault.ParseFault.TheVariants as faults
+use Rattle.spi_parse.specs.Exact.{Spells, Reads, IsSyntaxAt, IsDeepAt}
+use Rattle.spi_lex.specs.Lexing.{kinds_of}
 
 abbrev pub each_pieces : {X : Type 0} → (X → List Piece → List Piece) → List X → List Piece → List Piece
 each_pieces piece [] r = r
@@ -28,3 +30,9 @@ abbrev pub ReadsEach : {V X : Type 0} → (V → List X) → (X → List Piece �
 ReadsEach view piece later Is Begins (Ok r) ts i = EachAt piece Is (view r.0) ts i r.1 × (Begins ts r.1 → ⊥)
 ReadsEach {X = X} view piece later Is Begins (Err f) ts i =
     (xs : List X) × (j : ℕ) × EachAt piece Is xs ts i j × Begins ts j × Reads (λ (x : X). x) (λ x. piece x []) (IsWhole later piece Is) (Err f) ts j
+
+-- the fault of a whole text
+abbrev pub FailsWhole : {X : Type 0} → (X → List Piece) → (X → Type 0) → ParseFault → List Token → Type 0
+FailsWhole pieces IsPart (faults.Syntax token) ts = IsSyntaxAt pieces IsPart (kinds_of ts) token
+FailsWhole pieces IsPart (faults.TooDeep token) ts = IsDeepAt pieces IsPart (kinds_of ts) token
+FailsWhole pieces IsPart faults.NoMemory ts = Unit {0}

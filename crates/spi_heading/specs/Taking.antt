@@ -1,7 +1,8 @@
 -- What is taken of single tokens, by the number of the token.
-use Rattle.std.specs.Prelude.{◌≡◌, ℕ, ◌+◌, List, slice_get, Some, Result, Ok, Err}
+use Rattle.std.specs.Prelude.{◌≡◌, ◌⊎◌, ℕ, ◌+◌, List, slice_get, Some, Result, Ok, Err, codes}
 use Rattle.spi_lex.specs.declared.token.Kind.{Kind}
 use Rattle.spi_lex.specs.declared.token.Kind.TheVariants as kinds
+use Rattle.spi_lex.specs.declared.token.Mark.TheVariants as mark
 use Rattle.spi_lex.specs.declared.token.Token.{Token}
 use Rattle.spi_tree.specs.declared.tree.SWord.{SWord}
 use Rattle.spi_parse.specs.declared.fault.ParseFault.{ParseFault}
@@ -24,3 +25,17 @@ TakesWord (Ok r) ts i = (t : Token) × (slice_get ts i ≡ Some t) × (t.kind �
 TakesWord (Err (faults.Syntax token)) ts i = ((word : List ℕ) → IsThere ts i (kinds.Word word) → ⊥) × (token ≡ i)
 TakesWord (Err (faults.TooDeep token)) ts i = ⊥
 TakesWord (Err faults.NoMemory) ts i = Unit {0}
+
+abbrev pub version_word : Kind
+version_word = kinds.Word (codes "version")
+
+-- the version that a text begins with and the number of the token behind it, or the fault behind the word
+abbrev pub ReadsVersion : Result (ℕ × ℕ) ParseFault → List Token → Type 0
+ReadsVersion (Ok r) ts =
+    ((r.0 ≡ 2) × (r.1 ≡ 3) × IsThere ts 0 version_word × IsThere ts 1 (kinds.Number 2) × IsThere ts 2 (kinds.Mark mark.Semicolon))
+    ⊎ ((r.0 ≡ 1) × (r.1 ≡ 0) × (IsThere ts 0 version_word → ⊥))
+ReadsVersion (Err (faults.Syntax token)) ts =
+    IsThere ts 0 version_word
+    × (((token ≡ 1) × (IsThere ts 1 (kinds.Number 2) → ⊥)) ⊎ ((token ≡ 2) × IsThere ts 1 (kinds.Number 2) × (IsThere ts 2 (kinds.Mark mark.Semicolon) → ⊥)))
+ReadsVersion (Err (faults.TooDeep token)) ts = ⊥
+ReadsVersion (Err faults.NoMemory) ts = ⊥

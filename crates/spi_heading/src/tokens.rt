@@ -3,7 +3,7 @@
 ghost use Rattle.std.specs.Prelude.{◌≡◌, ◌≤◌, ◌<◌, ◌↔◌, IsTrue, length, IfOk};
 ghost use Rattle.spi_lex.specs.declared.token.Kind.TheVariants as kinds;
 ghost use Rattle.spi_heading.specs.Spans.{span_over};
-ghost use Rattle.spi_heading.specs.Taking.{IsThere, Takes, TakesWord};
+ghost use Rattle.spi_heading.specs.Taking.{IsThere, Takes, TakesWord, ReadsVersion};
 
 use spi_lex::{Kind, Mark, Reserved, Token};
 use spi_parse::ParseFault;
@@ -107,6 +107,52 @@ pub fn take_spelled(tokens: &[Token], at: u32, spelling: &str) -> Result<u32, Pa
     } else {
         Err(ParseFault::Syntax { token: at })
     }
+}
+
+fn is_two(kind: &Kind) -> bool
+    ensures { IsTrue result ↔ kind.now ≡ kinds.Number 2 }
+{
+    match kind {
+        Kind::Number(number) => *number == 2,
+        _ => false,
+    }
+}
+
+fn two_at(tokens: &[Token], at: u32) -> bool
+    ensures { IsTrue result ↔ IsThere tokens.now at (kinds.Number 2) }
+{
+    match tokens.get(at as usize) {
+        Some(token) => is_two(&token.kind),
+        None => false,
+    }
+}
+
+fn take_two(tokens: &[Token], at: u32) -> Result<u32, ParseFault>
+    requires size { length tokens.now ≤ 16_777_216 }
+    ensures taken { Takes (kinds.Number 2) result tokens.now at }
+    ensures within { IfOk result (λ next. next ≤ length tokens.now) }
+{
+    if two_at(tokens, at) {
+        Ok(at + 1)
+    } else {
+        Err(ParseFault::Syntax { token: at })
+    }
+}
+
+/// The version that the tokens begin with, and the number of the token behind it: 2 and 3 where they begin with the word
+/// `version`, the number 2 and a semicolon, and 1 and 0 where they don't begin with that word. `Syntax` is at the token behind
+/// the word that is another.
+pub fn version_of(tokens: &[Token]) -> Result<(u32, u32), ParseFault>
+    requires size { length tokens.now ≤ 16_777_216 }
+    ensures read { ReadsVersion result tokens.now }
+    ensures within { IfOk result (λ r. r.1 ≤ length tokens.now) }
+{
+    if !spelled_at(tokens, 0, "version") {
+        return Ok((1, 0));
+    }
+    let semicolon = take_two(tokens, 1)?;
+    let next = take_mark(tokens, semicolon, Mark::Semicolon)?;
+    Ok((2, next))
 }
 
 /// Takes a word that isn't reserved, and gives it with the number of the token behind it. Where another token stands there, or

@@ -1,1 +1,4 @@
 pub mod Prefixes
+pub mod LineRows
+pub mod RoleRows
+pub mod Whole

@@ -1,5 +1,5 @@
 -- The forms of what a role does by itself, as rows, each told by its first token.
-use Rattle.std.proofs.Common.{◌≡◌, ℕ, ◌+◌, ◌≤◌, ◌<◌, Bool, true, false, List, [], ◌∷◌, ◌++◌, length, drop, Result, Ok, Err, refl, sym, ap, subst, ◌∙◌, ◌⊎◌, inl, inr}
+use Rattle.std.proofs.Common.{◌≡◌, ℕ, ◌+◌, ◌≤◌, ◌<◌, Bool, true, false, List, [], ◌∷◌, ◌++◌, length, drop, Option, Some, Result, Ok, Err, refl, sym, ap, subst, ◌∙◌, ◌⊎◌, inl, inr}
 use Rattle.std.specs.Result.{IsErrAnd}
 use Rattle.spi_lex.specs.declared.token.Kind.{Kind}
 use Rattle.spi_lex.specs.declared.token.Kind.TheVariants as K
@@ -20,10 +20,13 @@ use Rattle.spi_parts.proofs.Bridge.{OfPieces}
 use Rattle.spi_heading.specs.Taking.{IsThere}
 use Rattle.spi_heading.proofs.Failing.{FailsAt, IsToldBy, told_fail, fails_to}
 use Rattle.spi_heading.proofs.Symbols.{Sym, token, name, message, ty, opening, closing, Tok, kind_of, the_mark, the_reserved}
-use Rattle.spi_heading.proofs.Rows.{Values, Row, row_good, row_pieces, row_into, row_from, RowAt, RowFails, fits_at}
+use Rattle.spi_heading.proofs.Rows.{Values, Row, row_good, row_pieces, row_into, row_from, row_behind, RowAt, RowFails, fits_at}
 use Rattle.spi_heading.proofs.Standing.{Stands, IsSolid}
-use Rattle.spi_heading.proofs.Calls.{part_at}
+use Rattle.spi_heading.proofs.Calls.{part_at, part_stands}
 use Rattle.spi_heading.proofs.Told.{FormOf, forms_good}
+use Rattle.spi_heading.proofs.Wholes.{none_fail}
+use Rattle.spi_grammar.proofs.Good.{IsSome}
+use Rattle.spi_parse.specs.declared.fault.ParseFault.TheVariants as faults
 use Rattle.spi_narrate.specs.Narrations as n
 use Rattle.spi_narrate.specs.Grammar.{prefix_pieces, whole_prefix, IsPrefix, IsWholePrefix}
 
@@ -267,6 +270,18 @@ module _ (v : Bool) where
   prefix_solid (n.cast s m x a) r = tt
   prefix_solid (n.new s x a) r = tt
 
+  pub prefix_behind : (x : n.Prefix) (r : List Piece) → prefix_pieces x r ≡ whole_prefix x ++ r
+
+  prefix_behind (n.split s m x a y b) r = row_behind split_row (s.from, (tt, (m, (tt, (tt, (x, (tt, (a, (tt, (y, (tt, (b, (tt, (s.to, tt)))))))))))))) r
+  prefix_behind (n.match s m x a k y b) r = row_behind match_row (s.from, (tt, (m, (tt, (tt, (x, (tt, (a, (tt, (k, (tt, (y, (tt, (b, (tt, (s.to, tt)))))))))))))))) r
+  prefix_behind (n.decrypt s m x a k) r = row_behind decrypt_row (s.from, (tt, (m, (tt, (tt, (x, (tt, (a, (tt, (k, (s.to, tt))))))))))) r
+  prefix_behind (n.check s m k) r = row_behind check_row (s.from, (tt, (m, (tt, (k, (s.to, tt)))))) r
+  prefix_behind (n.begin s m) r = row_behind begin_row (s.from, (tt, (m, (s.to, tt)))) r
+  prefix_behind (n.end s m) r = row_behind end_row (s.from, (tt, (m, (s.to, tt)))) r
+  prefix_behind (n.end_many s m) r = row_behind end_many_row (s.from, (tt, (m, (s.to, tt)))) r
+  prefix_behind (n.cast s m x a) r = row_behind cast_row (s.from, (tt, (m, (tt, (tt, (x, (tt, (a, (tt, (s.to, tt)))))))))) r
+  prefix_behind (n.new s x a) r = row_behind new_row (s.from, (tt, (tt, (x, (tt, (a, (tt, (s.to, tt)))))))) r
+
   -- ---- the answers of the readers of forms
 
   module _ (ts : List Token) (i : ℕ) where
@@ -280,3 +295,51 @@ module _ (v : Bool) where
     prefix_reads x j fit formed row xs are r =
         let stands = subst (λ (l : List Piece). Stands ts i l j) (sym are) r.stands in
         part_at whole_prefix (IsWholePrefix v) x ts i j (formed, fits_at v ts (whole_prefix x) i j fit stands) (prefix_solid x []) prefixes_good.closed stands
+
+-- a prefix that is read, where it stands
+pub prefix_stands : (v : Bool) (ts : List Token) (i : ℕ) (x : n.Prefix) (j : ℕ) → i ≤ length ts → (r : (m : ℕ) × (j ≡ i + m) × exact.IsPartAt whole_prefix (IsWholePrefix v) x (drop i ts) m) → Stands ts i (whole_prefix x) j
+prefix_stands v ts i x j w r = subst (λ (k : ℕ). Stands ts i (whole_prefix x) k) (sym r.1) (part_stands whole_prefix (IsWholePrefix v) x ts i r.0 w (prefix_solid v x []) r.2)
+
+-- ---- where none begins
+
+abbrev pub first_word : n.Prefix → Reserved
+first_word (n.split s m x a y b) = word.Split
+first_word (n.match s m x a k y b) = word.Match
+first_word (n.decrypt s m x a k) = word.Decrypt
+first_word (n.check s m k) = word.Check
+first_word (n.begin s m) = word.Begin
+first_word (n.end s m) = word.End
+first_word (n.end_many s m) = word.EndMany
+first_word (n.cast s m x a) = word.Cast
+first_word (n.new s x a) = word.New
+
+first_token : (x : n.Prefix) → (r : List Kind) × (kinds (cells (whole_prefix x)) ≡ K.Reserved (first_word x) ∷ r)
+first_token (n.split s m x a y b) = (_, refl)
+first_token (n.match s m x a k y b) = (_, refl)
+first_token (n.decrypt s m x a k) = (_, refl)
+first_token (n.check s m k) = (_, refl)
+first_token (n.begin s m) = (_, refl)
+first_token (n.end s m) = (_, refl)
+first_token (n.end_many s m) = (_, refl)
+first_token (n.cast s m x a) = (_, refl)
+first_token (n.new s x a) = (_, refl)
+
+module _ (v : Bool) (ts : List Token) (i : ℕ) where
+  pub prefixes_some : IsSome (Prefixes v)
+  prefixes_some a p e = let f = first_token p.part in let g : K.Reserved (first_word p.part) ∷ f.0 ≡ [] = sym f.1 ∙ ap kinds p.shows ∙ e in cc
+
+  pub no_prefix : {V : Type 0} (view : V → n.Prefix) → ((x : n.Prefix) → IsPrefix v x → IsThere ts i (K.Reserved (first_word x)) → ⊥) → exact.Reads view whole_prefix (IsWholePrefix v) (Err (faults.Syntax i)) ts i
+  no_prefix view not = fails_to view whole_prefix (IsWholePrefix v) ts i (faults.Syntax i) (none_fail (Prefixes v) (prefixes_good v).live prefixes_some ts i none)
+    where
+      none : (a : List (Kind × Bool)) → Prefixes v a → (k : Kind) (x : List Kind) → kinds a ≡ k ∷ x → IsThere ts i k → ⊥
+      none a p k x e there =
+          let f = first_token p.part in
+          let g : K.Reserved (first_word p.part) ∷ f.0 ≡ k ∷ x = sym f.1 ∙ ap kinds p.shows ∙ e in
+          let j : k ≡ K.Reserved (first_word p.part) = cc in
+          not p.part p.is.0 (there.0, there.1, there.2 ∙ j)
+
+  pub no_prefix_word : {V : Type 0} (view : V → n.Prefix) (w : Reserved) → IsThere ts i (K.Reserved w) → ((x : n.Prefix) → IsPrefix v x → first_word x ≡ w → ⊥) → exact.Reads view whole_prefix (IsWholePrefix v) (Err (faults.Syntax i)) ts i
+  no_prefix_word view w there not = no_prefix view (λ x h at. not x h (same x (ap (λ (o : Option Token). o) (sym at.1 ∙ there.1)) at.2 there.2))
+    where
+      same : (x : n.Prefix) {t s : Token} → Some t ≡ Some s → t.kind ≡ K.Reserved (first_word x) → s.kind ≡ K.Reserved w → first_word x ≡ w
+      same x {t = t} {s = s} e f g = let j : t ≡ s = cc in let h : K.Reserved (first_word x) ≡ K.Reserved w = sym f ∙ ap (λ (y : Token). y.kind) j ∙ g in cc

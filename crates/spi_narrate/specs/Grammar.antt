@@ -6,7 +6,7 @@ use Rattle.spi_lex.specs.declared.token.Kind.TheVariants as kinds
 use Rattle.spi_lex.specs.declared.token.Reserved.TheVariants as word
 use Rattle.spi_lex.specs.declared.token.Mark.TheVariants as mark
 use Rattle.spi_tree.specs.declared.tree.SWord.{SWord}
-use Rattle.spi_tree.specs.Pieces.{Piece, opens, begins, ends, a_token, a_word, a_mark, a_reserved, msg_pieces, named_pieces, words_pieces, decl_pieces, version_pieces, kinds_in}
+use Rattle.spi_tree.specs.Pieces.{Piece, opens, begins, ends, a_token, a_word, a_mark, a_reserved, msg_pieces, named_pieces, decl_pieces, version_pieces, kinds_in}
 use Rattle.spi_tree.specs.Formed.{IsMsg, IsTy, IsDeclared, AreWordsFit}
 use Rattle.spi_heading.specs.Each.{each_pieces}
 use Rattle.spi_heading.specs.Grammar.{shared_pieces, IsShared}
@@ -31,9 +31,14 @@ line_pieces (n.local s role x) r = opens s.from ∷ a_word false role (a_mark ma
 line_pieces (n.pass s from to channel m x) r =
     opens s.from ∷ a_word false from (asked_word (codes "to") (a_word false to (asked_word (codes "on") (a_word false channel (a_mark mark.Colon (msg_pieces 1 m (asked_word (codes "as") (a_word false x (a_mark mark.Semicolon (ends s r))))))))))
 
+-- a word behind a comma
+abbrev pub comma_pieces : SWord → List Piece → List Piece
+comma_pieces w r = a_mark mark.Comma (a_word false w r)
+
+-- a formed narration has a first role
 abbrev pub roles_pieces : List SWord → List Piece → List Piece
 roles_pieces [] r = r
-roles_pieces (w ∷ ws) r = asked_word (codes "roles") (a_word false w (words_pieces ws (a_mark mark.Semicolon r)))
+roles_pieces (w ∷ ws) r = asked_word (codes "roles") (a_word false w (each_pieces comma_pieces ws (a_mark mark.Semicolon r)))
 
 abbrev pub narration_pieces : n.Narration → List Piece → List Piece
 narration_pieces x r = opens x.span.from ∷ version_pieces x.version (each_pieces decl_pieces x.decls (each_pieces shared_pieces x.shared (roles_pieces x.roles (each_pieces line_pieces x.lines (ends x.span r)))))
@@ -54,6 +59,9 @@ IsPrefix later (n.new s x a) = IsTy later a
 abbrev pub IsLine : Bool → n.Line → Type 0
 IsLine later (n.local s role x) = IsPrefix later x
 IsLine later (n.pass s from to channel m x) = IsMsg later false m
+
+abbrev pub IsAnyWord : SWord → Type 0
+IsAnyWord w = Unit {0}
 
 abbrev pub HasRole : List SWord → Type 0
 HasRole ws = (w : SWord) × (more : List SWord) × (ws ≡ w ∷ more)

@@ -1,3 +1,4 @@
 pub mod Narrations
 pub mod Views
 pub mod Grammar
+pub mod Words

@@ -1,6 +1,6 @@
 //! What a role does by itself.
 
-ghost use Rattle.std.specs.Prelude.{◌≡◌, ◌≤◌, ◌⊎◌, ◌==◌, true, length, MatchOption};
+ghost use Rattle.std.specs.Prelude.{◌≡◌, ◌≤◌, ◌⊎◌, ◌==◌, true, length};
 ghost use Rattle.spi_lex.specs.declared.token.Kind.TheVariants as kinds;
 ghost use Rattle.spi_lex.specs.declared.token.Reserved.TheVariants as word;
 ghost use Rattle.spi_lex.specs.Lexing.{kinds_of};
@@ -9,6 +9,7 @@ ghost use Rattle.spi_parse.specs.Exact.{Reads};
 ghost use Rattle.spi_heading.specs.Taking.{IsThere};
 ghost use Rattle.spi_narrate.specs.Grammar.{whole_prefix, IsWholePrefix};
 ghost use Rattle.spi_narrate.specs.Views.{prefix_of};
+ghost use Rattle.spi_narrate.specs.Words.{IsReservedAt};
 
 use crate::tree::Prefix;
 use spi_heading::{named_at, span_between, take_mark, take_reserved};
@@ -276,3 +277,51 @@ fn new_at(
     ))
 }
 
+/// The reserved word at the token of this number, where one stands there.
+fn reserved_word(tokens: &[Token], at: u32) -> Option<Reserved>
+    ensures { IsReservedAt result tokens.now at }
+{
+    match tokens.get(at as usize) {
+        Some(token) => match token.kind {
+            Kind::Reserved(word) => Some(word),
+            _ => None,
+        },
+        None => None,
+    }
+}
+
+/// The part of a process form that the tokens from number `at` on begin with, in a text of the version, and the number of the
+/// token behind it. Where they begin with none that is within the nesting limits, the faults are as `message_at` has them.
+pub fn prefix_at(
+    alloc: Global,
+    tokens: &[Token],
+    at: u32,
+    version: u32,
+) -> Result<(Prefix, u32), ParseFault>
+    requires size { length tokens.now ≤ 16_777_216 }
+    requires known { (version ≡ 1) ⊎ (version ≡ 2) }
+    requires words { AreWordsFit (version == 2) (kinds_of tokens.now) }
+    ensures { Reads prefix_of whole_prefix (IsWholePrefix (version == 2)) result tokens.now at }
+{
+    let Some(word) = reserved_word(tokens, at) else {
+        return Err(ParseFault::Syntax { token: at });
+    };
+    match word {
+        Reserved::Split => split_at(alloc, tokens, at, version),
+        Reserved::Match => match_at(alloc, tokens, at, version),
+        Reserved::Decrypt => decrypt_at(alloc, tokens, at, version),
+        Reserved::Check => check_at(alloc, tokens, at, version),
+        Reserved::Begin => begin_at(alloc, tokens, at, version),
+        Reserved::End => end_at(alloc, tokens, at, version),
+        Reserved::EndMany => {
+            if version == 2 {
+                end_many_at(alloc, tokens, at, version)
+            } else {
+                Err(ParseFault::Syntax { token: at })
+            }
+        }
+        Reserved::Cast => cast_at(alloc, tokens, at, version),
+        Reserved::New => new_at(alloc, tokens, at, version),
+        _ => Err(ParseFault::Syntax { token: at }),
+    }
+}

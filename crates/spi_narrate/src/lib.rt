@@ -2,6 +2,10 @@
 #![tactic(auto)]
 
 mod forms;
+mod lines;
+mod roles;
 mod tree;
 
+pub use lines::{line_at, lines_at};
+pub use roles::roles_at;
 pub use tree::{Line, Narration, Prefix};
