@@ -1,12 +1,11 @@
 -- How often atoms are counted at a place.
-use Rattle.std.proofs.Common.{◌≡◌, ◌≢◌, refl, sym, ap, ◌∙◌, subst, ℕ, suc, ◌+◌, ◌-◌, ◌<◌, ◌≤◌, Bool, true, false, eqb, nat_lt, if◌then◌else◌, List, [], ◌∷◌, ◌++◌, length, map, take, drop, Option, Some, None, arith, eq-eqb, ltb-true}
-use Rattle.std.specs.Prelude.{slice_index}
+use Rattle.std.proofs.Common.{◌≡◌, refl, sym, ap, ◌∙◌, subst, ℕ, ◌+◌, ◌-◌, ◌<◌, ◌≤◌, Bool, true, false, nat_lt, if◌then◌else◌, List, [], ◌∷◌, ◌++◌, length, map, take, drop, Option, Some, None, arith, eq-eqb, ltb-true}
 use Rattle.std.proofs.lemmas.List.{length-map, length-take, map-append, take-append-drop}
 use Rattle.spi_term.specs.declared.term.Effect as D
 use Rattle.spi_term.specs.View.{effect}
 use Rattle.spi_term.specs.Term.{process_size}
 use Rattle.spi_term.specs.Term.{Message, bound, name, unit, pair, in_left, in_right, enc, hash, Atom, ends, checks, many, Effect}
-use Rattle.spi_bench.specs.Sums.{shared_at, shared_name, place_of, same_place, times, at_place, IsPlace, shared_in, AddsAtoms}
+use Rattle.spi_bench.specs.Sums.{shared_name, place_of, same_place, times, at_place, IsPlace, shared_in, AddsAtoms}
 use Rattle.spi_bench.specs.Sums.{nodes, blocked, atoms, placed, of_least, if_none, of_slot}
 use Rattle.spi_bench.specs.declared.slot.Slot.{Slot}
 use Rattle.spi_bench.specs.declared.sums.Sums.{Sums}

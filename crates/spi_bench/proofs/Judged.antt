@@ -1,5 +1,5 @@
 -- Shared types in order.
-use Rattle.std.proofs.Common.{◌≡◌, ◌↔◌, sym, ap, ◌∙◌, subst, ℕ, Bool, true, List, [], ◌∷◌, ◌++◌, ◌+◌, length, arith, append-nil, append_assoc, length-append}
+use Rattle.std.proofs.Common.{◌≡◌, ◌↔◌, sym, subst, ℕ, Bool, true, List, [], ◌∷◌, ◌++◌, ◌+◌, length, arith, append-nil, append_assoc, length-append}
 use Rattle.spi_term.specs.Term.{Ty}
 use Rattle.spi_rules.specs.Environment.{Env, extended, untrusted}
 use Rattle.spi_rules.specs.Good.{GoodTy}

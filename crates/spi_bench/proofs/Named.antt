@@ -1,5 +1,5 @@
 -- A name as the index of a binder, and back.
-use Rattle.std.proofs.Common.{◌≡◌, refl, sym, subst, ℕ, suc, ◌+◌, ◌<◌, ◌≤◌, ◌≢◌, Bool, true, false, [], ◌∷◌, if◌then◌else◌, ◌==◌, arith, ap, ne_eqb, eq-eqb}
+use Rattle.std.proofs.Common.{◌≡◌, refl, sym, subst, ℕ, suc, ◌+◌, ◌<◌, ◌≢◌, Bool, true, false, [], ◌∷◌, if◌then◌else◌, ◌==◌, arith, ap, ne_eqb, eq-eqb}
 use Rattle.std.proofs.lemmas.Bool.{eqb-false, eqb-true}
 use Rattle.spi_term.specs.Term.{Message, bound, name, unit, pair, in_left, in_right, enc, hash, ends, checks, many, Effect, Ty, un, unit_ty, pair_ty, sum_ty, key, nonce, Process, Leaf, Sends, Stops, Prefix, Recvs, Serves, Splits, Selects, Decrypts, Checks, Begins, Ends, EndManys, Casts, Makes, Fork, Cases, Pars, leaf, prefix, fork, binds, fork_binds}
 use Rattle.spi_term.specs.Substitution.{effect_map, ty_map, process_map, leaf_map, prefix_map, fork_map, put}

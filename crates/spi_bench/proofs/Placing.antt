@@ -1,5 +1,5 @@
 -- Slots under names, as they change.
-use Rattle.std.proofs.Common.{◌≡◌, ◌≢◌, ◌↔◌, ◌⊎◌, inl, inr, refl, sym, ap, ◌∙◌, subst, ℕ, zero, suc, ◌+◌, ◌<◌, ◌≤◌, Bool, true, false, eqb, List, [], ◌∷◌, ◌++◌, map, length, Option, Some, None, arith, eqb-true, length-append}
+use Rattle.std.proofs.Common.{◌≡◌, ◌≢◌, ◌⊎◌, inl, inr, refl, sym, ap, ◌∙◌, subst, ℕ, zero, suc, ◌<◌, Bool, true, false, eqb, List, [], ◌∷◌, ◌++◌, length, Option, Some, None, arith, eqb-true, length-append}
 use Rattle.std.proofs.lemmas.Bool.{eqb-false}
 use Rattle.std.specs.Prelude.{slice_get, slice_set, Result, Ok, Err, IfOk, OnErr}
 use Rattle.std.specs.Str.{bytes_eq}
@@ -9,12 +9,11 @@ use Rattle.indexmap.specs.IndexMap.{get}
 use Rattle.std.specs.Cmp.Lexicographic.{bytes_decides}
 use Rattle.spi_term.specs.Spelling.{Spelling}
 use Rattle.spi_rules.specs.Environment.{Env}
-use Rattle.spi_bench.specs.Parts.{Part, named, with_part, without}
+use Rattle.spi_bench.specs.Parts.{named, with_part, without}
 use Rattle.std.proofs.lemmas.Option.{slice_get_within}
-use Rattle.spi_infer.specs.Inferring.{IsLeast}
 use Rattle.spi_term.specs.declared.term.Effect as D
 use Rattle.spi_bench.specs.Slots.{SetsPart, sets_part, sets_none, SetsLast, sets_last, IsPadded, Puts, Drops, Stays}
-use Rattle.spi_bench.specs.Slots.{part_of, kept, parts_of, StandsAt, AreNamed, IsPart, IsInferred, AreInferred}
+use Rattle.spi_bench.specs.Slots.{part_of, parts_of, StandsAt, AreNamed, IsPart, IsInferred, AreInferred}
 use Rattle.spi_bench.specs.declared.slot.Slot.{Slot}
 
 -- texts

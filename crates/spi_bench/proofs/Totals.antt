@@ -2,10 +2,10 @@
 use Rattle.std.proofs.Common.{◌≡◌, refl, sym, ap, ◌∙◌, subst, ℕ, zero, suc, ◌+◌, ◌<◌, ◌≤◌, List, [], ◌∷◌, ◌++◌, length, Option, Some, None, arith, le_refl}
 use Rattle.std.specs.Prelude.{slice_get, slice_set, slice_index_or}
 use Rattle.std.proofs.lemmas.List.Sums.{sum_by-set, sum_by_push, sum_by-le-sum_by, get_or-le-sum_by, sum_by-cons}
-use Rattle.spi_term.specs.Term.{Effect, Process, process_size, leaf, prefix, fork}
+use Rattle.spi_term.specs.Term.{Process, process_size, leaf, prefix, fork}
 use Rattle.spi_term.specs.View.{effect}
 use Rattle.spi_term.specs.declared.term.Effect as D
-use Rattle.spi_bench.specs.Sums.{Measure, nodes, blocked, atoms, placed, times, of_least, if_none, measured, of_slot, total, counted, IsPlace, IsMeasure, shared_in, Adds, AreSums}
+use Rattle.spi_bench.specs.Sums.{Measure, nodes, blocked, atoms, placed, times, of_least, if_none, of_slot, total, counted, IsMeasure, shared_in, Adds, AreSums}
 use Rattle.spi_bench.specs.Parts.{nodes_in}
 use Rattle.spi_bench.specs.Slots.{parts_of}
 use Rattle.spi_bench.specs.declared.slot.Slot.{Slot}

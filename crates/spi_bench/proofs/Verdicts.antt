@@ -1,30 +1,28 @@
 -- The verdict from what is counted.
-use Rattle.std.proofs.Common.{◌≡◌, ◌≢◌, ◌↔◌, ◌⊎◌, inl, inr, refl, sym, ap, ◌∙◌, subst, ℕ, zero, suc, ◌+◌, ◌-◌, ◌<◌, ◌≤◌, Bool, true, false, eqb, nat_lt, if◌then◌else◌, List, [], ◌∷◌, ◌++◌, map, length, Option, Some, None, arith, le_trans, ltb-true, ltb-false, eqb-true, eq-eqb, IsTrue}
-use Rattle.std.specs.Prelude.{slice_get}
+use Rattle.std.proofs.Common.{◌≡◌, ◌↔◌, refl, sym, ap, ◌∙◌, subst, ℕ, zero, suc, ◌+◌, ◌-◌, ◌<◌, ◌≤◌, Bool, true, false, eqb, nat_lt, if◌then◌else◌, List, [], ◌∷◌, map, length, Option, Some, None, arith, le_trans, ltb-true, ltb-false, eqb-true, eq-eqb, IsTrue}
 use Rattle.std.proofs.lemmas.List.Sums.{sum_by-cons}
 use Rattle.spi_term.specs.declared.term.Effect as D
 use Rattle.spi_term.specs.View.{effect}
-use Rattle.spi_term.specs.Counts.{tally, cut, count}
+use Rattle.spi_term.specs.Counts.{tally, count}
 use Rattle.spi_term.specs.Lists.{In, in_first, in_later}
 use Rattle.spi_term.specs.Names.{ProcessOver}
 use Rattle.spi_term.specs.Term.{Message, bound, name, unit, pair, in_left, in_right, enc, hash, Atom, ends, checks, many, same_atom, Effect, Ty, Process}
-use Rattle.spi_term.proofs.Counting.{cut_le, same_atom_refl, same_atom_true, in_tally, tally_in, count_tally}
+use Rattle.spi_term.proofs.Counting.{cut_le, same_atom_refl, same_atom_true, in_tally, tally_in}
 use Rattle.spi_effect.specs.Effect.{Within}
 use Rattle.spi_effect.proofs.Laws.{within_trans, within_in}
 use Rattle.spi_rules.specs.Environment.{Env, untrusted}
 use Rattle.spi_rules.specs.Derivations.{Derivable}
 use Rattle.spi_rules.specs.Least.{Least}
-use Rattle.spi_rules.proofs.Least.{LeastOf}
 use Rattle.spi_rules.proofs.Paying.{has_pays}
 use Rattle.spi_infer.specs.Inferring.{IsLeast}
 use Rattle.spi_bench.specs.Parts.{Part, Benched, IsYes}
-use Rattle.spi_bench.specs.Whole.{together, whole, AreOver, AreShared, each_check, sum_of, AreLeast}
-use Rattle.spi_bench.specs.Sums.{Measure, blocked, placed, shared_at, shared_name, place_of, same_place, times, of_least, if_none, of_slot, total}
+use Rattle.spi_bench.specs.Whole.{whole, AreOver, AreShared, each_check, sum_of, AreLeast}
+use Rattle.spi_bench.specs.Sums.{blocked, placed, shared_name, place_of, same_place, times, of_least, if_none, of_slot, total}
 use Rattle.spi_message.specs.Judging.{Numbered}
-use Rattle.spi_bench.specs.Slots.{IsBench, part_of, kept, parts_of, IsPart, IsInferred, AreInferred, HaveNoneTwice, names_of}
+use Rattle.spi_bench.specs.Slots.{IsBench, parts_of, AreInferred, HaveNoneTwice, names_of}
 use Rattle.spi_bench.specs.declared.slot.Slot.{Slot}
 use Rattle.spi_bench.proofs.Counted.{times_append}
-use Rattle.spi_bench.proofs.Wholes.{Decided, decided, together_least, together_is_least}
+use Rattle.spi_bench.proofs.Wholes.{decided, together_least, together_is_least}
 
 -- the atom that is counted at a shared name
 at_is : (k n x i : ℕ) (a b : Bool) → nat_lt x k ≡ a → nat_lt (x - k) n ≡ b → (if a then None else (if b then Some (x - k) else None)) ≡ Some i → (x ≡ k + i) × (i < n)
@@ -137,10 +135,13 @@ none_times k n (b ∷ es) h = more (same_place (place_of k n b) None) refl (none
 
 -- what is within a `check` of each shared name
 pub within_counts : (k : ℕ) (ts : List Ty) (es : Effect) → Within es (each_check k ts) → (times k (length ts) None es ≡ 0) × ((i : ℕ) → i < length ts → times k (length ts) (Some i) es ≤ 1)
-within_counts k ts es w = (none_times k (length ts) es (λ a i e. each_none k (length ts) ts a refl (within_in w i) e), λ i l.
-    let a = times_le_tally k (length ts) i es in
-    let b = w.at (checks (name (k + i))) in
-    let c = each_once k (k + i) ts in omega arith)
+within_counts k ts es w = (
+  none_times k (length ts) es (λ a i e. each_none k (length ts) ts a refl (within_in w i) e),
+  λ i l.
+      let a = times_le_tally k (length ts) i es in
+      let b = w.at (checks (name (k + i))) in
+      let c = each_once k (k + i) ts in omega arith,
+)
 
 pub counts_within : (k : ℕ) (ts : List Ty) (es : Effect) → times k (length ts) None es ≡ 0 → ((i : ℕ) → i < length ts → times k (length ts) (Some i) es ≤ 1) → Within es (each_check k ts)
 counts_within k ts es z o = record { at = λ a. go a (place_of k (length ts) a) refl }
@@ -240,12 +241,14 @@ only_if k ts ss o h d =
     let z = none_blocked env (k + length ts) k (length ts) ss ess l h in
     let m = least_kept env (k + length ts) k (length ts) ss z h in
     let v = (together_least env (processes ss) (effects_of ss) m).least (sum_of ess) (has_pays (together_is_least env (processes ss) ess l).derivable.has) in
-    let c = within_counts k ts (sum_of (effects_of ss)) (within_trans v w) in
-    (g, record {
-      effects = z;
-      others = placed_total k (length ts) None ss ∙ c.0;
-      once = λ i b. let a = placed_total k (length ts) (Some i) ss in let e = c.1 i b in omega arith;
-    })
+    let c = within_counts k ts (sum_of (effects_of ss)) (within_trans v w) in (
+      g,
+      record {
+        effects = z;
+        others = placed_total k (length ts) None ss ∙ c.0;
+        once = λ i b. let a = placed_total k (length ts) (Some i) ss in let e = c.1 i b in omega arith;
+      },
+    )
 
 pub verdict_is : (k : ℕ) (ts : List Ty) (ss : List (Option Slot)) → AreOver k ts → AreInferred (names_of k ts) (k + length ts) ss → IsWhole k ts ss ↔ (AreShared (untrusted k) ts × HaveNoneTwice k (length ts) ss)
 verdict_is k ts ss o h = (only_if k ts ss o h, λ p. yes_if k ts ss o h p.0 p.1)

@@ -1,16 +1,15 @@
 -- What parts side by side pay with, and what the whole pays with.
-use Rattle.std.proofs.Common.{◌≡◌, ◌≢◌, ◌⊎◌, ◌↔◌, inl, inr, refl, sym, ap, ◌∙◌, subst, ℕ, suc, ◌+◌, ◌<◌, ◌≤◌, List, [], ◌∷◌, ◌++◌, length, arith, append-nil, append_assoc, length-append, le_refl, ⊎_elim}
+use Rattle.std.proofs.Common.{◌≡◌, ◌≢◌, ◌⊎◌, ◌↔◌, inl, inr, sym, subst, ℕ, suc, ◌+◌, ◌≤◌, List, [], ◌∷◌, ◌++◌, length, arith, append-nil, append_assoc, length-append, le_refl, ⊎_elim}
 use Rattle.spi_term.specs.Lists.{In, in_first, in_later}
-use Rattle.spi_term.specs.Names.{ProcessOver, TyOver, EffectAvoids}
+use Rattle.spi_term.specs.Names.{ProcessOver, EffectAvoids}
 use Rattle.spi_term.specs.Substitution.{process_map, process_put}
-use Rattle.spi_term.specs.Term.{name, Atom, checks, Effect, Ty, Process, fresh, par, stop}
-use Rattle.spi_term.proofs.Terms.{over_more_process}
+use Rattle.spi_term.specs.Term.{name, Atom, checks, Effect, Ty, Process}
 use Rattle.spi_effect.specs.Effect.{Within}
 use Rattle.spi_effect.proofs.Laws.{within_refl, within_trans, within_append, within_tally, sum_append, tally_append}
 use Rattle.spi_rules.specs.Environment.{Env, extended, untrusted}
 use Rattle.spi_rules.specs.Good.{GoodTy, good_none}
 use Rattle.spi_rules.specs.Derivations.{Derivable}
-use Rattle.spi_rules.specs.Processes.{HasEffect, IsGenerative, proc_sub}
+use Rattle.spi_rules.specs.Processes.{IsGenerative, proc_sub}
 use Rattle.spi_rules.specs.Least.{Least}
 use Rattle.spi_rules.proofs.Paying.{Pays, pays_new, pays_par, has_pays, pays_more, flip}
 use Rattle.spi_rules.proofs.Having.{pays_has}

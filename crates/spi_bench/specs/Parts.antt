@@ -2,7 +2,7 @@
 use Rattle.std.specs.Prelude.{ℕ, ◌+◌, List, [], ◌∷◌, map, Option, Some, None, if◌then◌else◌}
 use Rattle.std.specs.Str.{bytes_eq}
 use Rattle.spi_term.specs.Spelling.{Spelling}
-use Rattle.spi_term.specs.Term.{Ty, Process, process_size}
+use Rattle.spi_term.specs.Term.{Ty, process_size}
 use Rattle.spi_rules.specs.Derivations.{Derivable}
 use Rattle.spi_rules.specs.Environment.{untrusted}
 use Rattle.spi_bench.specs.Whole.{whole}
@@ -12,7 +12,7 @@ pub record Part : Type 0 where
   pub name : List ℕ
   pub part : Spelling
 
--- how many names are free, the types of the shared names, and the parts that are there, in the order of ⟨Whole⟩: in which
+-- how many names are free, the types of the shared names, and the parts that are there, in the order in which
 -- their names were first put and not dropped since
 pub record Benched : Type 0 where
   pub free : ℕ

@@ -2,7 +2,7 @@
 use Rattle.std.specs.Prelude.{◌≡◌, ◌⊎◌, ◌↔◌, ℕ, ◌+◌, ◌<◌, ◌≤◌, Bool, true, List, [], ◌∷◌, ◌++◌, map, length, Option, Some, None, slice_get, slice_set}
 use Rattle.spi_term.specs.Names.{ProcessOver}
 use Rattle.spi_term.specs.Spelling.{Spelling}
-use Rattle.spi_term.specs.Term.{Ty, Process}
+use Rattle.spi_term.specs.Term.{Ty}
 use Rattle.spi_term.specs.declared.term.Effect as Declared
 use Rattle.spi_rules.specs.Environment.{Env, untrusted}
 use Rattle.spi_infer.specs.Inferring.{IsLeast}

@@ -1,5 +1,5 @@
 -- What a bench counts over its parts.
-use Rattle.std.specs.Prelude.{◌≡◌, ℕ, ◌+◌, ◌-◌, ◌<◌, ◌≤◌, Bool, true, false, eqb, nat_lt, if◌then◌else◌, List, [], ◌∷◌, length, map, Option, Some, None, slice_index, ⊤}
+use Rattle.std.specs.Prelude.{◌≡◌, ℕ, ◌+◌, ◌-◌, ◌<◌, ◌≤◌, Bool, true, false, eqb, nat_lt, if◌then◌else◌, List, [], ◌∷◌, length, Option, Some, None, slice_index, ⊤}
 use Rattle.std.specs.List.{sum_by}
 use Rattle.spi_term.specs.Term.{Message, bound, name, unit, pair, in_left, in_right, enc, hash, Atom, ends, checks, many, Effect, process_size}
 use Rattle.spi_term.specs.View as View
@@ -100,6 +100,16 @@ pub record AddsAtoms (old new : Sums) (es : Effect) : Type 0 where
   pub blocked : new.blocked ≡ old.blocked
   pub atoms : new.atoms ≡ old.atoms
   pub at : (w : Option ℕ) → IsPlace (shared_in old) w → at_place new w ≡ at_place old w + times old.free (shared_in old) w es
+
+-- a count over slots and of one slot, with the names of these sums
+abbrev pub total_in : Sums → Measure → List (Option Slot) → ℕ
+total_in s m ss = total s.free (shared_in s) m ss
+
+abbrev pub slot_in : Sums → Measure → Option Slot → ℕ
+slot_in s m slot = of_slot s.free (shared_in s) m slot
+
+abbrev pub times_in : Sums → Option ℕ → Effect → ℕ
+times_in s w es = times s.free (shared_in s) w es
 
 -- a slot is counted too
 pub record Adds (old new : Sums) (s : Option Slot) : Type 0 where

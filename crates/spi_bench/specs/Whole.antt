@@ -1,9 +1,12 @@
 -- The whole process of shared types and parts, and what makes it derivable.
-use Rattle.std.specs.Prelude.{ℕ, suc, List, [], ◌∷◌, ◌++◌, if◌then◌else◌, ◌==◌, ⊤}
-use Rattle.spi_term.specs.Names.{TyOver}
+use Rattle.std.specs.Prelude.{◌↔◌, ℕ, suc, ◌+◌, length, List, [], ◌∷◌, ◌++◌, if◌then◌else◌, ◌==◌, ⊤}
+use Rattle.spi_term.specs.Lists.{In}
+use Rattle.spi_term.specs.Names.{TyOver, ProcessOver}
 use Rattle.spi_term.specs.Substitution.{process_map}
 use Rattle.spi_term.specs.Term.{Message, bound, name, unit, pair, in_left, in_right, enc, hash, checks, Effect, Ty, Process, fresh, par, stop}
-use Rattle.spi_rules.specs.Environment.{Env, extended}
+use Rattle.spi_rules.specs.Environment.{Env, extended, untrusted}
+use Rattle.spi_effect.specs.Effect.{Within}
+use Rattle.spi_rules.specs.Derivations.{Derivable}
 use Rattle.spi_rules.specs.Good.{GoodTy}
 use Rattle.spi_rules.specs.Least.{Least}
 use Rattle.spi_rules.specs.Processes.{IsGenerative}
@@ -60,3 +63,34 @@ AreLeast env [] [] = ⊤
 AreLeast env [] (es ∷ ess) = ⊥
 AreLeast env (p ∷ ps) [] = ⊥
 AreLeast env (p ∷ ps) (es ∷ ess) = Least env p es × AreLeast env ps ess
+
+-- no effect is derivable for it
+abbrev pub HasNone : Env → Process → Type 0
+HasNone env p = (es : Effect) → Derivable env p es → ⊥
+
+-- each process is over n names
+abbrev pub AreAllOver : ℕ → List Process → Type 0
+AreAllOver n ps = (p : Process) → In p ps → ProcessOver n p
+
+-- the least effect of parts side by side is the sum of their least effects
+abbrev pub SumIsLeast : Type 0
+SumIsLeast = (env : Env) (ps : List Process) (ess : List Effect) → AreLeast env ps ess → Least env (together ps) (sum_of ess)
+
+-- they have no effect exactly where one of them has none
+abbrev pub OneHasNone : Type 0
+OneHasNone =
+    (env : Env) (ps : List Process) → AreAllOver (length env) ps
+    → HasNone env (together ps) ↔ ((p : Process) × In p ps × HasNone env p)
+
+-- each shared type is in order, each part has a least effect, and the sum of these is at most one `check x` for each shared
+-- name x, and nothing else
+abbrev pub ArePaid : ℕ → List Ty → List Process → Type 0
+ArePaid k ts ps =
+    AreShared (untrusted k) ts
+    × ((ess : List Effect) × AreLeast (untrusted k ++ ts) ps ess × Within (sum_of ess) (each_check k ts))
+
+-- the whole is derivable with no effect exactly there
+abbrev pub PartsDecide : Type 0
+PartsDecide =
+    (k : ℕ) (ts : List Ty) (ps : List Process) → AreOver k ts → AreAllOver (k + length ts) ps
+    → Derivable (untrusted k) (whole k ts ps) [] ↔ ArePaid k ts ps

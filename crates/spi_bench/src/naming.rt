@@ -4,7 +4,7 @@ ghost use Rattle.std.specs.Str.{bytes_eq};
 ghost use Rattle.indexmap.specs.IndexMap.{get, IsUnchanged, Updates};
 ghost use Rattle.spi_term.specs.Term.{process_size};
 ghost use Rattle.spi_bench.specs.Slots.{AreNamed, IsPadded, SetsPart, SetsLast, Puts, Drops, Stays};
-ghost use Rattle.spi_bench.specs.Sums.{of_least, total, shared_in};
+ghost use Rattle.spi_bench.specs.Sums.{of_least, total_in, shared_in};
 ghost use Rattle.spi_bench.specs.Sums as S;
 
 use crate::NoMemory;
@@ -39,15 +39,10 @@ fn new_place(
 }
 
 // Another part in the slot, whose name stays: the part that was there.
-fn put_there(
-    table: &mut Table,
-    at: usize,
-    part: Process,
-    least: Option<Effect>,
-) -> Option<Process>
+fn put_there(table: &mut Table, at: usize, part: Process, least: Option<Effect>) -> Option<Process>
     requires at { at < length table.old.slots.items }
-    requires nodes { total table.old.sums.free (shared_in table.old.sums) S.nodes table.old.slots.items + process_size part.process < 2 ^ 64 }
-    requires atoms { total table.old.sums.free (shared_in table.old.sums) S.atoms table.old.slots.items + of_least length least < 2 ^ 64 }
+    requires nodes { total_in table.old.sums S.nodes table.old.slots.items + process_size part.process < 2 ^ 64 }
+    requires atoms { total_in table.old.sums S.atoms table.old.slots.items + of_least length least < 2 ^ 64 }
     ensures set { SetsPart at part least result table.old.slots.items table.new.slots.items }
     ensures free { table.new.sums.free ≡ table.old.sums.free }
     ensures shared { shared_in table.new.sums ≡ shared_in table.old.sums }
@@ -73,8 +68,8 @@ fn put_new(
     part: Process,
     least: Option<Effect>,
 ) -> Result<(), Process>
-    requires nodes { total table.old.sums.free (shared_in table.old.sums) S.nodes table.old.slots.items + process_size part.process < 2 ^ 64 }
-    requires atoms { total table.old.sums.free (shared_in table.old.sums) S.atoms table.old.slots.items + of_least length least < 2 ^ 64 }
+    requires nodes { total_in table.old.sums S.nodes table.old.slots.items + process_size part.process < 2 ^ 64 }
+    requires atoms { total_in table.old.sums S.atoms table.old.slots.items + of_least length least < 2 ^ 64 }
     ensures set { OnOk result (SetsLast name.now part least table.old.slots.items table.new.slots.items) }
     ensures placed { OnOk result (Updates bytes_eq places.old places.new name.now (Some (length table.old.slots.items))) }
     ensures padded { OnErr result (IsPadded table.old.slots.items table.new.slots.items) }
@@ -102,8 +97,8 @@ fn put_in(
     least: Option<Effect>,
 ) -> Result<Option<Process>, Process>
     requires places { AreNamed table.old.slots.items (get bytes_eq places.old) }
-    requires nodes { total table.old.sums.free (shared_in table.old.sums) S.nodes table.old.slots.items + process_size part.process < 2 ^ 64 }
-    requires atoms { total table.old.sums.free (shared_in table.old.sums) S.atoms table.old.slots.items + of_least length least < 2 ^ 64 }
+    requires nodes { total_in table.old.sums S.nodes table.old.slots.items + process_size part.process < 2 ^ 64 }
+    requires atoms { total_in table.old.sums S.atoms table.old.slots.items + of_least length least < 2 ^ 64 }
     ensures ok { IfOk result (λ r. Puts name.now part least r table.old.slots.items table.new.slots.items (get bytes_eq places.new)) }
     ensures err { OnErr result (Stays table.old.slots.items table.new.slots.items (get bytes_eq places.new)) }
     ensures part { IfErr result (λ p. p ≡ part) }
@@ -130,7 +125,7 @@ pub fn put_fitting(
     least: Option<Effect>,
 ) -> Result<Option<Process>, Process>
     requires places { AreNamed table.old.slots.items (get bytes_eq places.old) }
-    requires nodes { total table.old.sums.free (shared_in table.old.sums) S.nodes table.old.slots.items + process_size part.process < 2 ^ 64 }
+    requires nodes { total_in table.old.sums S.nodes table.old.slots.items + process_size part.process < 2 ^ 64 }
     ensures ok { IfOk result (λ r. Puts name.now part least r table.old.slots.items table.new.slots.items (get bytes_eq places.new)) }
     ensures err { OnErr result (Stays table.old.slots.items table.new.slots.items (get bytes_eq places.new)) }
     ensures part { IfErr result (λ p. p ≡ part) }

@@ -1,7 +1,7 @@
 // What is counted over the parts.
 ghost use Rattle.std.specs.Prelude.{◌≡◌, ◌↔◌, ◌+◌, ◌<◌, ◌≤◌, ◌^◌, ◌∷◌, ℕ, [], Option, length, IfOk, IsTrue};
 ghost use Rattle.spi_term.specs.View.{message, atom, effect};
-ghost use Rattle.spi_bench.specs.Sums.{shared_name, place_of, times, Measure, of_slot, at_place, counted, shared_in, IsPlace, IsMeasure, AddsAtoms, Adds, ArePaid};
+ghost use Rattle.spi_bench.specs.Sums.{shared_name, place_of, times_in, Measure, slot_in, at_place, counted, shared_in, IsPlace, IsMeasure, AddsAtoms, Adds, ArePaid};
 
 use crate::NoMemory;
 use crate::slot::Slot;
@@ -94,7 +94,7 @@ impl Sums {
     }
 
     fn take_atom(&mut self, a: &Atom)
-        requires { (w : Option ℕ) → IsPlace (shared_in self.old) w → times self.old.free (shared_in self.old) w (atom a.now ∷ []) ≤ at_place self.old w }
+        requires { (w : Option ℕ) → IsPlace (shared_in self.old) w → times_in self.old w (atom a.now ∷ []) ≤ at_place self.old w }
         ensures { AddsAtoms self.new self.old (atom a.now ∷ []) }
     {
         match place(self.free, self.checks.len(), a) {
@@ -113,7 +113,7 @@ impl Sums {
     }
 
     fn take_atoms(&mut self, e: &Effect)
-        requires { (w : Option ℕ) → IsPlace (shared_in self.old) w → times self.old.free (shared_in self.old) w (effect e.now) ≤ at_place self.old w }
+        requires { (w : Option ℕ) → IsPlace (shared_in self.old) w → times_in self.old w (effect e.now) ≤ at_place self.old w }
         ensures { AddsAtoms self.new self.old (effect e.now) }
     {
         for a in &e.atoms {
@@ -123,7 +123,7 @@ impl Sums {
 
     /// Counts what stands in a slot.
     pub fn add(&mut self, slot: &Option<Slot>)
-        requires room { (m : Measure) → IsMeasure (shared_in self.old) m → counted self.old m + of_slot self.old.free (shared_in self.old) m slot.now < 2 ^ 64 }
+        requires room { (m : Measure) → IsMeasure (shared_in self.old) m → counted self.old m + slot_in self.old m slot.now < 2 ^ 64 }
         requires atoms { (w : Option ℕ) → IsPlace (shared_in self.old) w → at_place self.old w ≤ self.old.atoms }
         ensures { Adds self.old self.new slot.now }
     {
@@ -141,7 +141,7 @@ impl Sums {
 
     /// Counts what stands in a slot no longer.
     pub fn take(&mut self, slot: &Option<Slot>)
-        requires { (m : Measure) → IsMeasure (shared_in self.old) m → of_slot self.old.free (shared_in self.old) m slot.now ≤ counted self.old m }
+        requires { (m : Measure) → IsMeasure (shared_in self.old) m → slot_in self.old m slot.now ≤ counted self.old m }
         ensures { Adds self.new self.old slot.now }
     {
         if let Some(slot) = slot {

@@ -1,6 +1,6 @@
 // The slots of a bench, with what is counted over them.
 ghost use Rattle.std.specs.Prelude.{◌≡◌, ◌↔◌, ◌+◌, ◌<◌, ◌≤◌, ◌^◌, ◌++◌, ◌∷◌, ℕ, [], Option, None, Some, length, IfOk, IfErr, OnOk, OnErr, IsTrue, slice_get, slice_set};
-ghost use Rattle.spi_bench.specs.Sums.{of_slot, of_least, total, shared_in, AreSums};
+ghost use Rattle.spi_bench.specs.Sums.{slot_in, of_least, total_in, shared_in, AreSums};
 ghost use Rattle.spi_bench.specs.Sums as S;
 ghost use Rattle.spi_bench.specs.Slots.{HaveNoneTwice, IsPadded};
 
@@ -20,10 +20,7 @@ pub struct Table {
 
 impl Drop for Table {
     fn drop(self) {
-        let Table {
-            slots: _,
-            sums: _,
-        } = self;
+        let Table { slots: _, sums: _ } = self;
     }
 }
 
@@ -78,7 +75,7 @@ impl Table {
 
     /// Whether the atoms of one more least effect can be counted. 2 ^ 64 atoms never stand in memory at once.
     pub fn has_room(&self, least: &Option<Effect>) -> bool
-        ensures { IsTrue result → total self.now.sums.free (shared_in self.now.sums) S.atoms self.now.slots.items + of_least length least.now < 2 ^ 64 }
+        ensures { IsTrue result → total_in self.now.sums S.atoms self.now.slots.items + of_least length least.now < 2 ^ 64 }
     {
         fits(self.sums.atoms, least)
     }
@@ -86,8 +83,8 @@ impl Table {
     /// Puts this into a slot, and gives back what was there.
     pub fn set(&mut self, at: usize, slot: Option<Slot>) -> Option<Slot>
         requires at { at < length self.old.slots.items }
-        requires nodes { total self.old.sums.free (shared_in self.old.sums) S.nodes self.old.slots.items + of_slot self.old.sums.free (shared_in self.old.sums) S.nodes slot < 2 ^ 64 }
-        requires atoms { total self.old.sums.free (shared_in self.old.sums) S.atoms self.old.slots.items + of_slot self.old.sums.free (shared_in self.old.sums) S.atoms slot < 2 ^ 64 }
+        requires nodes { total_in self.old.sums S.nodes self.old.slots.items + slot_in self.old.sums S.nodes slot < 2 ^ 64 }
+        requires atoms { total_in self.old.sums S.atoms self.old.slots.items + slot_in self.old.sums S.atoms slot < 2 ^ 64 }
         ensures before { slice_get self.old.slots.items at ≡ Some result }
         ensures after { self.new.slots.items ≡ slice_set self.old.slots.items at slot }
         ensures free { self.new.sums.free ≡ self.old.sums.free }
@@ -115,7 +112,7 @@ impl Table {
 
     /// How many nodes the parts have.
     pub fn nodes(&self) -> u64
-        ensures { result ≡ total self.now.sums.free (shared_in self.now.sums) S.nodes self.now.slots.items }
+        ensures { result ≡ total_in self.now.sums S.nodes self.now.slots.items }
     {
         self.sums.nodes
     }

@@ -1,4 +1,4 @@
-use Rattle.std.proofs.Common.{◌≡◌, ◌+◌, ◌++◌, ◌∷◌, [], refl, ap, ◌∙◌, subst, map, take, arith, append_assoc}
+use Rattle.std.proofs.Common.{◌+◌, ◌++◌, ◌∷◌, [], refl, ap, ◌∙◌, subst, map, take, arith, append_assoc}
 use Rattle.spi_term.specs.View.{ty}
 use Rattle.spi_rules.specs.Environment.{Env}
 use Rattle.spi_message.specs.Judging.{Stands}

@@ -1,4 +1,3 @@
-use Rattle.std.proofs.Common.{◌≡◌, ◌↔◌, sym, ◌∙◌, subst, true, []}
 use Rattle.spi_term.specs.View.{ty}
 use Rattle.spi_intern.proofs.Meanings.{means_keeps}
 use Rattle.spi_message.proofs.Tested.{kept_more, stands_kept}

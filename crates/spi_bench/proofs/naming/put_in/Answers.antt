@@ -1,4 +1,4 @@
-use Rattle.std.proofs.Common.{◌≡◌, ℕ, List, sym, ◌∙◌, Some, None, length}
+use Rattle.std.proofs.Common.{◌≡◌, Some, None}
 use Rattle.std.specs.Str.{bytes_eq}
 use Rattle.indexmap.specs.IndexMap.{get}
 use Rattle.spi_bench.proofs.Placing.{stands_within, puts_there, puts_last, stays_padded, other_text, lookup_same}

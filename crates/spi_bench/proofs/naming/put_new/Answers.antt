@@ -1,6 +1,6 @@
-use Rattle.std.proofs.Common.{◌≡◌, ◌++◌, ◌∷◌, [], refl, sym, ap, ◌∙◌, subst, length, Option, Some, None, slice_set}
+use Rattle.std.proofs.Common.{◌++◌, ◌∷◌, [], refl, ap, ◌∙◌, Some, None, slice_set}
 use Rattle.spi_bench.specs.declared.slot.Slot.{Slot}
-use Rattle.spi_bench.specs.Slots.{SetsLast, sets_last}
+use Rattle.spi_bench.specs.Slots.{sets_last}
 use Rattle.spi_bench.proofs.naming.put_new.Goals as goal
 
 pub returns-in-Ok-clause-set : goal.returns-in-Ok-clause-set

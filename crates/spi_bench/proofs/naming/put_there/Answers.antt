@@ -1,9 +1,9 @@
-use Rattle.std.proofs.Common.{◌≡◌, ◌<◌, ◌+◌, refl, sym, ap, ◌∙◌, subst, length, Option, Some, None, slice_get, slice_set, arith}
+use Rattle.std.proofs.Common.{refl, sym, ap, ◌∙◌, subst, length, Some, None, slice_set, arith}
 use Rattle.spi_term.specs.Spelling.{Spelling}
 use Rattle.spi_term.specs.Term.{process_size}
 use Rattle.spi_bench.specs.declared.slot.Slot.{Slot}
 use Rattle.spi_bench.specs.Slots.{SetsPart, sets_part, sets_none}
-use Rattle.spi_bench.specs.Sums.{nodes, atoms, of_least, total, shared_in}
+use Rattle.spi_bench.specs.Sums.{nodes, atoms, of_least, shared_in}
 use Rattle.spi_bench.proofs.Totals.{room_after, set_twice}
 use Rattle.spi_bench.proofs.naming.put_there.Goals as goal
 
@@ -26,7 +26,7 @@ returns-in-Some-clause-set c =
     let t : Slot = record { name = c.in-Some.slot.name; part = c.replace-before.new.dest; least = c.args.least } in
     let e = c.set-in-Some.ensures.after ∙ ap (λ l. slice_set l c.args.at (Some t)) c.set.ensures.after ∙ set_twice old c.args.at None (Some t) in
     subst (λ (p : Spelling). SetsPart c.args.at c.args.part c.args.least (Some p) old c.set-in-Some.new.self.slots.items) (sym c.replace-before.ensures.value)
-        (sets_part {s = s} {t = t} (c.set.ensures.before ∙ ap Some c.in-Some.is) refl c.replace-before.ensures.after refl e)
+    (sets_part {s = s} {t = t} (c.set.ensures.before ∙ ap Some c.in-Some.is) refl c.replace-before.ensures.after refl e)
 
 pub returns-in-None-clause-set : goal.returns-in-None-clause-set
 returns-in-None-clause-set c = sets_none (c.set.ensures.before ∙ ap Some c.in-None.is)

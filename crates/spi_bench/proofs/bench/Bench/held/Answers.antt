@@ -1,4 +1,4 @@
-use Rattle.std.proofs.Common.{◌≡◌, sym, ap, ◌∙◌, subst}
+use Rattle.std.proofs.Common.{sym, ap, ◌∙◌}
 use Rattle.spi_bench.specs.Parts.{Benched, nodes_in}
 use Rattle.spi_bench.specs.Sums.{shared_in}
 use Rattle.spi_bench.proofs.Totals.{nodes_total}

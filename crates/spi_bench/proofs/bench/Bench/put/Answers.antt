@@ -6,7 +6,6 @@ use Rattle.spi_term.specs.View.{ty}
 use Rattle.spi_message.proofs.Standing.{stand_length}
 use Rattle.spi_message.proofs.Tested.{stands_kept}
 use Rattle.spi_bench.specs.Parts.{Benched, nodes_in}
-use Rattle.spi_bench.specs.Slots.{names_of}
 use Rattle.spi_bench.specs.Sums.{shared_in}
 use Rattle.spi_bench.proofs.Judged.{names_length}
 use Rattle.spi_bench.proofs.Totals.{nodes_total}

@@ -1,16 +1,13 @@
-use Rattle.std.proofs.Common.{◌≡◌, ◌↔◌, subst, sym, ap, map, true, false, length, IsTrue}
-use Rattle.spi_term.specs.View.{ty}
+use Rattle.std.proofs.Common.{◌↔◌, subst, IsTrue}
 use Rattle.spi_bench.specs.Parts.{Benched, IsYes}
-use Rattle.spi_bench.specs.Sums.{shared_in}
-use Rattle.spi_bench.specs.Slots.{HaveNoneTwice}
-use Rattle.spi_bench.proofs.Verdicts.{verdict_is, verdict_then, verdict_else}
+use Rattle.spi_bench.proofs.Verdicts.{verdict_then, verdict_else}
 use Rattle.spi_bench.proofs.bench.Bench.verdict.Goals as goal
 
 pub returns-then-self : goal.returns-then-self
 returns-then-self c =
     let b = c.self.inside in
     subst (λ (v : Benched). IsTrue c.is_paid.result ↔ IsYes v) c.self.view_is
-        (verdict_then c.self.invariant c.is_paid.ensures c.if-self.true)
+    (verdict_then c.self.invariant c.is_paid.ensures c.if-self.true)
 
 pub returns-else-self : goal.returns-else-self
 returns-else-self c =

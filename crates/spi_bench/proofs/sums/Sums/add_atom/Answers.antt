@@ -1,4 +1,4 @@
-use Rattle.std.proofs.Common.{◌≡◌, ℕ, sym, ◌∙◌, length, Some, None, arith}
+use Rattle.std.proofs.Common.{◌≡◌, ◌∙◌, length, Some, None, arith}
 use Rattle.std.proofs.lemmas.Grind.{get_or_default_zero}
 use Rattle.spi_term.specs.View.{atom}
 use Rattle.spi_bench.specs.Sums.{place_of}

@@ -1,7 +1,7 @@
-use Rattle.std.proofs.Common.{◌≡◌, ◌<◌, ◌-◌, ◌≤◌, ℕ, sym, subst, length, Some, None, arith}
+use Rattle.std.proofs.Common.{◌-◌, arith}
 use Rattle.std.proofs.lemmas.List.{length-map}
-use Rattle.spi_term.specs.View.{atom, effect}
-use Rattle.spi_bench.specs.Sums.{nodes, blocked, atoms, placed, at_place, shared_in}
+use Rattle.spi_term.specs.View.{atom}
+use Rattle.spi_bench.specs.Sums.{nodes, blocked, atoms, placed, shared_in}
 use Rattle.spi_bench.proofs.Counted.{slot_nodes, slot_blocked, slot_atoms, slot_placed, at_with}
 use Rattle.spi_bench.proofs.sums.Sums.take.Goals as goal
 

@@ -1,4 +1,4 @@
-use Rattle.std.proofs.Common.{◌≡◌, ◌<◌, ◌+◌, ℕ, sym, ap, ◌∙◌, subst, length, map, take, drop, [], ◌∷◌, ◌++◌, arith}
+use Rattle.std.proofs.Common.{◌+◌, ap, ◌∙◌, subst, map, take, drop, [], ◌∷◌, ◌++◌}
 use Rattle.spi_term.specs.Term.{Effect}
 use Rattle.spi_term.specs.View.{atom}
 use Rattle.spi_intern.proofs.Meanings.{map_more}

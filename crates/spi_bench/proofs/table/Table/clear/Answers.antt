@@ -1,5 +1,5 @@
-use Rattle.std.proofs.Common.{◌≡◌, ◌<◌, sym, ap, ◌∙◌, subst, length, Some, None, arith}
-use Rattle.std.specs.Prelude.{slice_get, slice_set, slice_index_or}
+use Rattle.std.proofs.Common.{sym, ap, ◌∙◌, subst, Some}
+use Rattle.std.specs.Prelude.{slice_set}
 use Rattle.spi_bench.specs.Sums.{AreSums}
 use Rattle.spi_bench.proofs.Totals.{get_within, slot_within, sums_taken}
 use Rattle.spi_bench.proofs.table.Table.clear.Goals as goal

@@ -1,5 +1,5 @@
-use Rattle.std.proofs.Common.{◌<◌, ◌+◌, subst, length, arith}
-use Rattle.spi_bench.specs.Sums.{atoms, of_least}
+use Rattle.std.proofs.Common.{arith}
+use Rattle.spi_bench.specs.Sums.{atoms}
 use Rattle.spi_bench.proofs.table.Table.has_room.Goals as goal
 
 pub returns : goal.returns

@@ -1,6 +1,6 @@
-use Rattle.std.proofs.Common.{◌≡◌, ◌<◌, sym, ap, ◌∙◌, subst, length, Some, None, arith}
-use Rattle.std.specs.Prelude.{slice_get, slice_set, slice_index_or}
-use Rattle.spi_bench.specs.Sums.{atoms, placed, IsMeasure, shared_in, AreSums, total, of_slot, counted}
+use Rattle.std.proofs.Common.{◌<◌, sym, ap, ◌∙◌, subst, length, Some, None, arith}
+use Rattle.std.specs.Prelude.{slice_set}
+use Rattle.spi_bench.specs.Sums.{atoms, placed, IsMeasure, shared_in, AreSums, of_slot}
 use Rattle.spi_bench.proofs.Totals.{get_within, set_twice, set_length, get_set, all_fit, placed_within, slot_within, sums_taken, sums_added}
 use Rattle.spi_bench.proofs.table.Table.set.Goals as goal
 
