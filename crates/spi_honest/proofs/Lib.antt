@@ -1,0 +1,17 @@
+pub mod Held
+pub mod Meant
+pub mod Alone
+pub mod Places
+pub mod Standing
+pub mod Steps
+pub mod Telling
+pub mod Passing
+pub mod Opened
+pub mod Settled
+pub mod Stages
+pub mod Playing
+pub mod Meeting
+pub mod Numbers
+pub mod Opens
+pub mod Lined
+pub mod Finished

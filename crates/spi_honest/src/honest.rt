@@ -1,0 +1,18 @@
+//! Honest schedules.
+
+use spi_run::{Event, Step};
+
+/// An honest schedule: the steps by which a narration goes, in order, and its events, in order.
+pub struct Honest {
+    pub steps: Vec<Step>,
+    pub events: Vec<Event>,
+}
+
+impl Drop for Honest {
+    fn drop(self) {
+        let Honest {
+            steps: _,
+            events: _,
+        } = self;
+    }
+}
