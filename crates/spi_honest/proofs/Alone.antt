@@ -1,12 +1,12 @@
 -- What a role does by itself is the act of its process.
-use Rattle.std.proofs.Common.{◌≡◌, ℕ, suc, Bool, true, false, List, [], ◌∷◌, ◌++◌, refl, sym, ap, ◌∙◌, subst, arith, Option, Some, None}
-use Rattle.std.specs.Prelude.{if◌then◌else◌, ⊤}
+use Rattle.std.proofs.Common.{◌≡◌, ℕ, Bool, true, false, List, [], ◌∷◌, ◌++◌, refl, sym, ap, ◌∙◌, subst, arith, Option, Some, None}
+use Rattle.std.specs.Prelude.{if◌then◌else◌}
 use Rattle.std.specs.Str.{bytes_eq}
 use Rattle.spi_text.specs.declared.lines.Span.{Span}
 use Rattle.spi_tree.specs.declared.tree.SWord.{SWord}
 use Rattle.spi_tree.specs.Trees as t
 use Rattle.spi_narrate.specs.Narrations as n
-use Rattle.spi_term.specs.Term.{Message, name, pair, enc, Ty, Process, split, select, decrypt, check, begin, end, end_many, cast, fresh}
+use Rattle.spi_term.specs.Term.{Message, name, Ty, Process, split, select, decrypt, check, begin, end, end_many, cast, fresh}
 use Rattle.spi_term.specs.Substitution.{process_put, process_put_two}
 use Rattle.spi_run.specs.Reduction.{Event, begun, ended, ended_many, Acts, acts_split, acts_match, acts_decrypt, acts_check, acts_begin, acts_end, acts_end_many, acts_cast, acts_new}
 use Rattle.spi_replay.specs.Holding.{IsClosed}
@@ -14,7 +14,7 @@ use Rattle.spi_replay.specs.Stepping.{largest, bound_here}
 use Rattle.spi_scope.specs.Scope.{Word}
 use Rattle.spi_scope.specs.Meaning.{nested}
 use Rattle.spi_weave.specs.Woven.{prefixed}
-use Rattle.spi_honest.specs.Reading.{Given, Map, at_word, or_unit, word_in, valued, all_valued, value}
+use Rattle.spi_honest.specs.Reading.{Map, at_word, or_unit, word_in, valued, all_valued, value}
 use Rattle.spi_honest.specs.Narrated.{at, Does, does_split, does_match, does_decrypt, does_check, does_begin, does_end, does_end_many, does_cast, does_new, shown}
 use Rattle.spi_honest.specs.Holds.{with, Holds, AreClosed}
 use Rattle.spi_honest.proofs.Held.{holds_one, holds_two}

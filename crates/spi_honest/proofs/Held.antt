@@ -2,17 +2,16 @@
 use Rattle.std.proofs.Common.{◌≡◌, ℕ, suc, ◌+◌, ◌-◌, ◌<◌, ◌≤◌, Bool, true, false, List, [], ◌∷◌, ◌++◌, length, refl, sym, ap, ◌∙◌, subst, arith, Option, Some, None, ⊎_elim, true≢false, length-append}
 use Rattle.std.specs.Prelude.{if◌then◌else◌, ◌==◌, nat_lt}
 use Rattle.std.specs.Str.{bytes_eq}
-use Rattle.std.proofs.lemmas.Bool.{cases_lt, cases_eq, ne_eqb}
-use Rattle.spi_tree.specs.declared.tree.SWord.{SWord}
+use Rattle.std.proofs.lemmas.Bool.{ne_eqb}
 use Rattle.spi_tree.specs.Trees as t
-use Rattle.spi_term.specs.Term.{Message, bound, name, unit, pair, in_left, in_right, enc, hash, Ty, Process, send, recv, serve, split, select, decrypt, check, begin, end, end_many, cast, fresh, branch, par, stop}
+use Rattle.spi_term.specs.Term.{Message, bound, pair, in_left, in_right, enc, hash, Process, send, recv, serve, split, select, decrypt, check, begin, end, end_many, cast, branch, par}
 use Rattle.spi_term.specs.Substitution.{ty_map, process_map, process_put, process_put_two, put}
 use Rattle.spi_replay.specs.Holding.{IsClosed}
 use Rattle.spi_replay.proofs.Opening.{put_closed}
-use Rattle.spi_scope.specs.Scope.{Word, Names, number_of, Abbreviations}
-use Rattle.spi_scope.specs.Meaning.{named, nested, message_in, messages_in, type_in, process_in}
+use Rattle.spi_scope.specs.Scope.{Word, Names}
+use Rattle.spi_scope.specs.Meaning.{nested}
 use Rattle.spi_honest.specs.Holds.{deeper, index_of, or_bound, under, with, Holds, AreClosed}
-use Rattle.spi_honest.specs.Reading.{Given, Map, at_word, or_unit, word_in, valued, all_valued, value, numbered}
+use Rattle.spi_honest.specs.Reading.{valued, all_valued}
 
 -- a message put in is one word more
 abbrev pub all_put : Message → ℕ → List Message → List Message

@@ -10,3 +10,8 @@ pub mod Opened
 pub mod Settled
 pub mod Stages
 pub mod Playing
+pub mod Meeting
+pub mod Numbers
+pub mod Opens
+pub mod Lined
+pub mod Finished

@@ -4,12 +4,11 @@ use Rattle.std.specs.Prelude.{if◌then◌else◌, nat_lt}
 use Rattle.std.specs.Str.{bytes_eq}
 use Rattle.std.proofs.lemmas.Bool.{cases_lt}
 use Rattle.spi_tree.specs.Trees as t
-use Rattle.spi_term.specs.Term.{Message, bound, name, unit, pair, in_left, in_right, enc, hash, send, recv, serve, split, select, decrypt, check, begin, end, end_many, cast, branch, par}
-use Rattle.spi_term.proofs.Numbers.{index_low, index_high}
+use Rattle.spi_term.specs.Term.{Message, bound, name, unit, in_left, in_right, enc, hash, send, recv, serve, split, select, decrypt, check, begin, end, end_many, cast, branch, par}
 use Rattle.spi_replay.specs.Holding.{IsClosed}
 use Rattle.spi_scope.specs.Scope.{Word, Names, number_of, Abbreviations}
 use Rattle.spi_scope.specs.Meaning.{named, nested, message_in, messages_in, type_in, process_in}
-use Rattle.spi_honest.specs.Reading.{Map, at_word, or_unit, word_in, valued, all_valued, numbered}
+use Rattle.spi_honest.specs.Reading.{at_word, or_unit, word_in, valued, all_valued, numbered}
 use Rattle.spi_honest.specs.Holds.{deeper, index_of, or_bound, under, Holds, AreClosed}
 use Rattle.spi_honest.proofs.Held.{Within, index_within}
 

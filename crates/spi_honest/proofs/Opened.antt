@@ -1,34 +1,28 @@
 -- The shared names are made, and the roles are taken apart.
-use Rattle.std.proofs.Common.{◌≡◌, ℕ, zero, suc, ◌+◌, ◌<◌, ◌≤◌, List, [], ◌∷◌, ◌++◌, length, slice_set, slice_get, refl, sym, ap, ◌∙◌, subst, arith, Option, Some, None, append_assoc, length-append, option_to_list, ◌⊎◌, inl, inr, ⊎_elim}
-use Rattle.std.specs.Prelude.{⊤, ◌≢◌}
-use Rattle.std.proofs.lemmas.List.{length-set, append-nil}
+use Rattle.std.proofs.Common.{◌≡◌, ℕ, zero, suc, ◌+◌, ◌<◌, ◌≤◌, List, [], ◌∷◌, ◌++◌, length, slice_set, slice_get, refl, sym, ap, ◌∙◌, subst, arith, Option, None, append_assoc, length-append, option_to_list}
 use Rattle.spi_tree.specs.declared.tree.SWord.{SWord}
-use Rattle.spi_tree.specs.Trees as t
 use Rattle.spi_heading.specs.Headings.{Shared}
 use Rattle.spi_narrate.specs.Narrations as n
-use Rattle.spi_term.specs.Lists.{At, at_first, at_later, In, in_first, in_later}
-use Rattle.spi_term.proofs.Lists.{at_unique, at_get, get_at, in_cases}
-use Rattle.spi_term.specs.Term.{Message, name, Ty, Process, fresh, par, stop}
+use Rattle.spi_term.specs.Lists.{At, at_first, at_later}
+use Rattle.spi_term.proofs.Lists.{at_get}
+use Rattle.spi_term.specs.Term.{name, Process}
 use Rattle.spi_term.specs.Substitution.{process_put}
-use Rattle.spi_run.specs.Reduction.{Configuration, Step, act, Event, Acts, acts_new, acts_par, Takes, takes_act}
+use Rattle.spi_run.specs.Reduction.{Step, act, Event, Acts, acts_new, acts_par, Takes, takes_act}
 use Rattle.spi_run.proofs.Once.{takes_once}
-use Rattle.spi_replay.specs.Stepping.{Pooled, IsTaken, largest, message_most, bound_here, by_place, bound_by}
-use Rattle.spi_scope.specs.Scope.{Word, Names}
+use Rattle.spi_replay.specs.Stepping.{Pooled, IsTaken, largest, bound_here, by_place, bound_by}
+use Rattle.spi_scope.specs.Scope.{Names}
 use Rattle.spi_scope.specs.StandsFor.{Meant}
-use Rattle.spi_weave.specs.Woven.{role_process, roles_beside, roles_together, sharing}
-use Rattle.spi_honest.specs.Reading.{Map, word_in, numbered}
-use Rattle.spi_honest.specs.Narrated.{at, Told, narrates_none, NarratesSmall, free_of, with_shared, begins}
-use Rattle.spi_honest.specs.Schedule.{line_steps, shared_steps, role_steps, places_from, places_of, others, honest_steps}
-use Rattle.spi_honest.specs.Holds.{Holds, AreClosed}
-use Rattle.spi_honest.specs.Roles.{AreDistinct}
-use Rattle.spi_honest.specs.Standing.{AreApart, Stood, Stands, Stopped, Locates, left}
+use Rattle.spi_weave.specs.Woven.{role_process, roles_together, sharing}
+use Rattle.spi_honest.specs.Reading.{word_in, numbered}
+use Rattle.spi_honest.specs.Narrated.{at, free_of, with_shared, begins}
+use Rattle.spi_honest.specs.Schedule.{role_steps}
+use Rattle.spi_honest.specs.Holds.{Holds}
 use Rattle.spi_honest.specs.Honest.{Replays, opening}
-use Rattle.spi_honest.specs.Progress.{Progress, place_number, beside_stop, steps_behind, Shares, Each, each_none, each_role, Spreads}
+use Rattle.spi_honest.specs.Progress.{place_number, beside_stop, steps_behind, Shares, Each, each_none, each_role, Spreads}
 use Rattle.spi_honest.proofs.Held.{holds_one}
 use Rattle.spi_honest.proofs.Meant.{names_closed}
-use Rattle.spi_honest.proofs.Places.{at_below, at_behind, at_before, append_at}
+use Rattle.spi_honest.proofs.Places.{at_behind}
 use Rattle.spi_honest.proofs.Alone.{given_one}
-use Rattle.spi_honest.proofs.Standing.{chosen, not_chosen}
 use Rattle.spi_honest.proofs.Steps.{at_places}
 use Rattle.spi_honest.proofs.Telling.{replays_more, step_order}
 
@@ -61,21 +55,23 @@ module _ {x : n.Narration} {file : Meant} {before rest : List Shared} {pool : Po
       let u = takes_once t.takes share_takes in
       let w : with_shared (free_of x) (before ++ s ∷ []) ≡ s.name.word ∷ scope = with_one (free_of x) before s in
       let z = length-append before (s ∷ []) in
-      let ns : new.configuration.names ≡ suc pool.configuration.names = ap (λ c. c.names) u.1 in
-      (u.0, record {
-        cut = h.cut ∙ sym (append_assoc before (s ∷ []) rest);
-        process = shared_now;
-        places = ap (λ c. c.places) u.1;
-        names = ns ∙ ap suc h.names ∙ sym (ap length w);
-        holds =
-            subst (λ xs. Holds (sharing rest (roles_together x.lines x.roles)) [] (word_in (numbered xs)) shared_now) (sym w)
-            (subst (λ g. Holds (sharing rest (roles_together x.lines x.roles)) [] g shared_now) (given_one s.name (name pool.configuration.names) (numbered scope) ∙ ap (λ k. word_in (at s.name (name k) ∷ numbered scope)) h.names)
-            (holds_one (sharing rest (roles_together x.lines x.roles)) (name pool.configuration.names) s.name.word (word_in (numbered scope)) h.holds.1 (names_closed scope) h.holds.3));
-        replays = replays_more_silent u.0 h.replays t;
-        order = step_order steps (act 0) h.order refl;
-        few_names = omega (arith, ns, h.few_names, z);
-        most = t.most ∙ h.most;
-      })
+      let ns : new.configuration.names ≡ suc pool.configuration.names = ap (λ c. c.names) u.1 in (
+        u.0,
+        record {
+          cut = h.cut ∙ sym (append_assoc before (s ∷ []) rest);
+          process = shared_now;
+          places = ap (λ c. c.places) u.1;
+          names = ns ∙ ap suc h.names ∙ sym (ap length w);
+          holds =
+              subst (λ xs. Holds (sharing rest (roles_together x.lines x.roles)) [] (word_in (numbered xs)) shared_now) (sym w)
+              (subst (λ g. Holds (sharing rest (roles_together x.lines x.roles)) [] g shared_now) (given_one s.name (name pool.configuration.names) (numbered scope) ∙ ap (λ k. word_in (at s.name (name k) ∷ numbered scope)) h.names)
+              (holds_one (sharing rest (roles_together x.lines x.roles)) (name pool.configuration.names) s.name.word (word_in (numbered scope)) h.holds.1 (names_closed scope) h.holds.3));
+          replays = replays_more_silent u.0 h.replays t;
+          order = step_order steps (act 0) h.order refl;
+          few_names = omega (arith, ns, h.few_names, z);
+          most = t.most ∙ h.most;
+        },
+      )
     where
       replays_more_silent : {e : Option Event} {p q r : Pooled} {ss : List Step} {k : Step} → e ≡ None → Replays p ss [] q → IsTaken q k e r → Replays p (ss ++ k ∷ []) [] r
       replays_more_silent {e} {p} {q} {r} {ss} {k} f a b = subst (λ e. Replays p (ss ++ k ∷ []) (option_to_list e) r) f (replays_more a b)
@@ -148,20 +144,22 @@ module _ {x : n.Narration} {file : Meant} {before rest : List SWord} {r q : SWor
   spread_more {e} {new} t =
       let u = takes_once t.takes spread_takes in
       let z = length-append before (r ∷ []) in
-      let l : length (before ++ r ∷ []) ≡ suc (length before) = omega (arith, z) in
-      (u.0, record {
-        cut = h.cut ∙ sym (append_assoc before (r ∷ []) (q ∷ rest));
-        apart = h.apart ++ h.holds.0 ∷ [];
-        last = h.holds.1;
-        each = each_more r h.holds.0 h.each h.holds.3;
-        holds = h.holds.4;
-        places = ap (λ c. c.places) u.1;
-        names = ap (λ c. c.names) u.1 ∙ h.names;
-        replays = subst (λ e. Replays (opening file) (steps ++ act spread_place ∷ []) (option_to_list e) new) u.0 (replays_more h.replays t);
-        order = step_order steps (act spread_place) h.order (λ i. role_steps (place_next l i) (count_next l i) rest ++ steps_behind x);
-        few_names = let ns = ap (λ c. c.names) u.1 in omega (arith, ns, h.few_names);
-        most = t.most ∙ h.most;
-      })
+      let l : length (before ++ r ∷ []) ≡ suc (length before) = omega (arith, z) in (
+        u.0,
+        record {
+          cut = h.cut ∙ sym (append_assoc before (r ∷ []) (q ∷ rest));
+          apart = h.apart ++ h.holds.0 ∷ [];
+          last = h.holds.1;
+          each = each_more r h.holds.0 h.each h.holds.3;
+          holds = h.holds.4;
+          places = ap (λ c. c.places) u.1;
+          names = ap (λ c. c.names) u.1 ∙ h.names;
+          replays = subst (λ e. Replays (opening file) (steps ++ act spread_place ∷ []) (option_to_list e) new) u.0 (replays_more h.replays t);
+          order = step_order steps (act spread_place) h.order (λ i. role_steps (place_next l i) (count_next l i) rest ++ steps_behind x);
+          few_names = let ns = ap (λ c. c.names) u.1 in omega (arith, ns, h.few_names);
+          most = t.most ∙ h.most;
+        },
+      )
     where
       place_next : {m : ℕ} → m ≡ suc (length before) → 2 + length before ≡ place_number m
       place_next l = let z : 2 + length before ≡ suc (suc (length before)) = omega arith in z ∙ ap place_number (sym l)

@@ -1,6 +1,6 @@
 -- One message more goes from one role to another.
-use Rattle.std.proofs.Common.{◌≡◌, ℕ, suc, ◌+◌, ◌<◌, ◌≤◌, List, [], ◌∷◌, ◌++◌, length, slice_set, slice_get, refl, sym, ap, ◌∙◌, subst, arith, Option, Some, None, append_assoc, length-append, option_to_list}
-use Rattle.std.proofs.lemmas.List.{length-set, append-nil}
+use Rattle.std.proofs.Common.{◌≡◌, ℕ, suc, ◌≤◌, List, [], ◌∷◌, ◌++◌, length, slice_set, refl, sym, ap, ◌∙◌, subst, arith, Option, Some, None, append_assoc, length-append, option_to_list}
+use Rattle.std.proofs.lemmas.List.{append-nil}
 use Rattle.spi_text.specs.declared.lines.Span.{Span}
 use Rattle.spi_tree.specs.declared.tree.SWord.{SWord}
 use Rattle.spi_tree.specs.Trees as t
@@ -10,7 +10,7 @@ use Rattle.spi_term.proofs.Lists.{at_unique}
 use Rattle.spi_term.specs.Term.{Message, name, unit, Ty, Process, send, recv}
 use Rattle.spi_run.specs.Reduction.{Configuration, Step, act, talk, Event, Takes}
 use Rattle.spi_run.proofs.Once.{takes_once}
-use Rattle.spi_replay.specs.Stepping.{Pooled, IsTaken, largest, message_most, bound_by}
+use Rattle.spi_replay.specs.Stepping.{Pooled, IsTaken, largest, bound_by}
 use Rattle.spi_replay.specs.Ready.{PutsOut, puts_out, TakesIn, takes_once as takes_in_once}
 use Rattle.spi_scope.specs.Scope.{Word, Names, number_of}
 use Rattle.spi_scope.specs.StandsFor.{Meant}
@@ -19,9 +19,8 @@ use Rattle.spi_honest.specs.Narrated.{at, giving, Told, IsFree, Tells, tells_pas
 use Rattle.spi_honest.specs.Schedule.{moved, line_steps}
 use Rattle.spi_honest.specs.Roles.{IsRole}
 use Rattle.spi_honest.specs.Standing.{AreApart, Stands, Stopped, StoppedBut, Locates, left}
-use Rattle.spi_honest.specs.Honest.{Replays}
 use Rattle.spi_honest.specs.Progress.{Progress}
-use Rattle.spi_honest.proofs.Steps.{at_places, mid, channel, datum, parted, parts_takes, parts_bound, parts_stand, parts_out, parts_none, parts_length, receives, talk_takes, talk_bound, talk_stands, talk_length, received_now}
+use Rattle.spi_honest.proofs.Steps.{at_places, mid, parted, parts_takes, parts_bound, parts_stand, parts_out, parts_none, parts_length, receives, talk_takes, talk_bound, talk_stands, talk_length, received_now}
 use Rattle.spi_honest.proofs.Alone.{valued_closed}
 use Rattle.spi_honest.proofs.Telling.{narrates_more, replays_more}
 

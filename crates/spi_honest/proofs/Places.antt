@@ -1,5 +1,5 @@
 -- Elements of lists that are set or are longer.
-use Rattle.std.proofs.Common.{◌≡◌, ℕ, zero, suc, ◌<◌, List, [], ◌∷◌, ◌++◌, length, slice_set, refl, sym, ap, subst, arith, ◌⊎◌, inl, inr, ⊎_elim}
+use Rattle.std.proofs.Common.{◌≡◌, ℕ, zero, suc, ◌<◌, List, [], ◌∷◌, ◌++◌, length, slice_set, refl, ap, arith, ◌⊎◌, inl, inr, ⊎_elim}
 use Rattle.spi_term.specs.Lists.{At, at_first, at_later}
 
 pub at_below : {A : Type 0} {xs : List A} {i : ℕ} {x : A} → At xs i x → i < length xs

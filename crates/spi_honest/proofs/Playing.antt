@@ -1,20 +1,18 @@
 -- A line of one role, told on a stage.
-use Rattle.std.proofs.Common.{◌≡◌, ℕ, zero, suc, ◌+◌, ◌<◌, ◌≤◌, List, [], ◌∷◌, ◌++◌, length, take, drop, map, slice_get, get_or, refl, sym, ap, ◌∙◌, subst, arith, Option, Some, None, Result, Ok, Err, ◌⊎◌, inl, inr, ⊎_elim, length-append, option_to_list}
+use Rattle.std.proofs.Common.{◌≡◌, ℕ, zero, suc, ◌+◌, ◌≤◌, List, [], ◌∷◌, ◌++◌, length, take, drop, slice_get, get_or, refl, sym, ap, ◌∙◌, subst, arith, Option, Some, Result, Ok, Err, ◌⊎◌, inl, inr, ⊎_elim}
 use Rattle.std.specs.Prelude.{IfErr, OnOk}
 use Rattle.std.proofs.lemmas.Option.{get_or_from_slice_get}
 use Rattle.spi_tree.specs.declared.tree.SWord.{SWord}
 use Rattle.spi_narrate.specs.Narrations as n
-use Rattle.spi_term.specs.Lists.{At, In}
 use Rattle.spi_term.proofs.Lists.{get_at, in_cases}
 use Rattle.spi_run.specs.Reduction.{Configuration, Step, act, Event, Takes}
-use Rattle.spi_replay.specs.Stepping.{Pooled, IsTaken, largest, message_most, bound_by}
-use Rattle.spi_replay.specs.Ready.{IsReady}
+use Rattle.spi_replay.specs.Stepping.{Pooled, IsTaken, largest, bound_by}
 use Rattle.spi_scope.specs.Scope.{Word}
 use Rattle.spi_scope.specs.StandsFor.{Meant}
 use Rattle.spi_honest.specs.declared.stage.Stage.{Stage}
 use Rattle.spi_honest.specs.declared.fault.HonestFault.{HonestFault}
 use Rattle.spi_honest.specs.declared.fault.HonestFault.TheVariants.{LineNotReady, NarratedTooLarge, NoMemory}
-use Rattle.spi_honest.specs.Narrated.{Told, free_of, begins}
+use Rattle.spi_honest.specs.Narrated.{Told, free_of}
 use Rattle.spi_honest.specs.Roles.{IsRole, IsTellable}
 use Rattle.spi_honest.specs.Standing.{AreApart, Locates}
 use Rattle.spi_honest.specs.Honest.{IsWrongAt, IsNotReady, IsTooLarge, HasFault}

@@ -1,8 +1,7 @@
 -- The roles stand at their places, and no line was told yet.
-use Rattle.std.proofs.Common.{◌≡◌, ℕ, zero, suc, ◌+◌, ◌<◌, ◌≤◌, List, [], ◌∷◌, ◌++◌, length, slice_get, refl, sym, ap, ◌∙◌, subst, arith, Option, Some, None, length-append}
+use Rattle.std.proofs.Common.{◌≡◌, ℕ, zero, suc, ◌+◌, ◌≤◌, List, [], ◌∷◌, ◌++◌, length, refl, sym, ap, ◌∙◌, subst, arith, Some}
 use Rattle.std.proofs.lemmas.List.{append-nil}
 use Rattle.spi_tree.specs.declared.tree.SWord.{SWord}
-use Rattle.spi_tree.specs.Trees as t
 use Rattle.spi_narrate.specs.Narrations as n
 use Rattle.spi_term.specs.Lists.{At, at_first, at_later, In, in_first, in_later}
 use Rattle.spi_term.proofs.Lists.{at_unique, get_at}
@@ -11,15 +10,15 @@ use Rattle.spi_run.specs.Reduction.{Step}
 use Rattle.spi_replay.specs.Stepping.{Pooled}
 use Rattle.spi_scope.specs.Scope.{Word, Names}
 use Rattle.spi_scope.specs.Points.{all_types}
-use Rattle.spi_scope.specs.StandsFor.{Meant, StandsFor, over_free}
+use Rattle.spi_scope.specs.StandsFor.{Meant, StandsFor}
 use Rattle.spi_weave.specs.Woven.{role_process, roles_beside, roles_together, sharing, woven}
-use Rattle.spi_honest.specs.Reading.{Map, word_in, numbered}
-use Rattle.spi_honest.specs.Narrated.{Told, narrates_none, NarratesSmall, free_of, with_shared, begins}
-use Rattle.spi_honest.specs.Schedule.{line_steps, shared_steps, role_steps, places_from, places_of, others, honest_steps}
+use Rattle.spi_honest.specs.Reading.{word_in, numbered}
+use Rattle.spi_honest.specs.Narrated.{narrates_none, free_of, with_shared, begins}
+use Rattle.spi_honest.specs.Schedule.{line_steps, role_steps, places_from, places_of, others}
 use Rattle.spi_honest.specs.Holds.{Holds}
 use Rattle.spi_honest.specs.Roles.{AreDistinct, IsTellable}
-use Rattle.spi_honest.specs.Standing.{AreApart, Stood, Stands, Stopped, Locates, left}
-use Rattle.spi_honest.specs.Honest.{Replays, replays_none, opening}
+use Rattle.spi_honest.specs.Standing.{AreApart, Stands, Stopped, Locates, left}
+use Rattle.spi_honest.specs.Honest.{replays_none, opening}
 use Rattle.spi_honest.specs.Progress.{Progress, place_number, beside_stop, steps_behind, Shares, Each, each_none, each_role, Spreads, ArePlaces}
 use Rattle.spi_honest.proofs.Meant.{holds_meaning, names_closed}
 use Rattle.spi_honest.proofs.Standing.{chosen, not_chosen}
@@ -144,10 +143,10 @@ pub settled : {x : n.Narration} {file : Meant} {before : List SWord} {r : SWord}
 settled {x} {file} {before} {r} {pool} {steps} is ok h s =
     let e : Each x (before ++ r ∷ []) (s.apart ++ s.last ∷ []) = each_more r s.last s.each s.holds in
     let stands : Stands x.roles (places_of x.roles) (left x.lines) (begins x).has Stopped pool.configuration.places =
-        subst (λ ps. Stands x.roles (places_of x.roles) (left x.lines) (begins x).has Stopped ps) (sym s.places)
-        (each_stands x.roles (s.apart ++ s.last ∷ []) (subst (λ rs. Each x rs (s.apart ++ s.last ∷ [])) (sym s.cut) e) ok.distinct) in
+    subst (λ ps. Stands x.roles (places_of x.roles) (left x.lines) (begins x).has Stopped ps) (sym s.places)
+    (each_stands x.roles (s.apart ++ s.last ∷ []) (subst (λ rs. Each x rs (s.apart ++ s.last ∷ [])) (sym s.cut) e) ok.distinct) in
     let many : length pool.configuration.places ≡ suc (length x.roles) =
-        ap length s.places ∙ beside_many s.apart s.last ∙ ap suc (each_length (subst (λ rs. Each x rs (s.apart ++ s.last ∷ [])) (sym s.cut) e)) in
+    ap length s.places ∙ beside_many s.apart s.last ∙ ap suc (each_length (subst (λ rs. Each x rs (s.apart ++ s.last ∷ [])) (sym s.cut) e)) in
     let last : length x.roles ≡ suc (length (others x.roles)) = others_many x.roles (subst (λ rs. In r rs) (sym s.cut) (behind before)) in
     record {
       cut = refl;

@@ -3,7 +3,7 @@ use Rattle.std.proofs.Common.{◌≡◌, ℕ, ◌<◌, ◌≤◌, Bool, true, fa
 use Rattle.std.specs.Prelude.{◌==◌, ◌||◌, IsTrue}
 use Rattle.std.specs.List.{list_any}
 use Rattle.std.proofs.lemmas.Bool.{eqb-true}
-use Rattle.spi_term.specs.Lists.{At, In, in_first, in_later}
+use Rattle.spi_term.specs.Lists.{In, in_first, in_later}
 use Rattle.spi_term.proofs.Lists.{in_cases}
 use Rattle.spi_run.specs.Reduction.{Configuration, Step, Event, Takes, takes_act, takes_talk}
 use Rattle.spi_run.proofs.Once.{takes_once}

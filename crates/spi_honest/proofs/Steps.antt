@@ -3,28 +3,28 @@ use Rattle.std.proofs.Common.{◌≡◌, ℕ, suc, ◌<◌, Bool, true, false, L
 use Rattle.std.specs.Str.{bytes_eq}
 use Rattle.std.proofs.lemmas.Slice.Eq.{bytes_eq-Decides}
 use Rattle.std.proofs.lemmas.Bool.{false_from_ne_true}
-use Rattle.std.proofs.lemmas.List.{length-set, append-nil}
+use Rattle.std.proofs.lemmas.List.{length-set}
 use Rattle.spi_text.specs.declared.lines.Span.{Span}
 use Rattle.spi_tree.specs.declared.tree.SWord.{SWord}
 use Rattle.spi_tree.specs.Trees as t
 use Rattle.spi_narrate.specs.Narrations as n
 use Rattle.spi_term.specs.Lists.{At, In}
 use Rattle.spi_term.proofs.Lists.{at_unique, at_get}
-use Rattle.spi_term.specs.Term.{Message, name, unit, Ty, Process, send, recv, par, stop}
+use Rattle.spi_term.specs.Term.{Message, Ty, Process, send, recv, stop}
 use Rattle.spi_term.specs.Substitution.{process_put}
-use Rattle.spi_run.specs.Reduction.{Configuration, Step, act, talk, Event, Acts, acts_par, Talks, talks_once, Takes, takes_act, takes_talk}
+use Rattle.spi_run.specs.Reduction.{Configuration, act, talk, Event, Acts, acts_par, talks_once, Takes, takes_act, takes_talk}
 use Rattle.spi_replay.specs.Stepping.{largest, bound_here, handed_over, by_place, bound_by}
 use Rattle.spi_scope.specs.Scope.{Word}
 use Rattle.spi_weave.specs.Woven.{is_word, spelled, sent, received, done, role_process}
-use Rattle.spi_honest.specs.Reading.{Given, Map, at_word, or_unit, word_in, value}
+use Rattle.spi_honest.specs.Reading.{Map, word_in, value}
 use Rattle.spi_honest.specs.Narrated.{at, giving, Does, shown}
 use Rattle.spi_honest.specs.Schedule.{moved}
 use Rattle.spi_honest.specs.Holds.{Holds}
 use Rattle.spi_honest.specs.Roles.{IsRole}
 use Rattle.spi_honest.specs.Standing.{AreApart, Stood, Stands, Stopped, StoppedBut, left}
 use Rattle.spi_honest.proofs.Held.{holds_one}
-use Rattle.spi_honest.proofs.Places.{at_below, at_set, at_set_other, at_before}
-use Rattle.spi_honest.proofs.Alone.{Alone, does_acts, DoesSome, acts_does, given_one, one_closed, valued_closed}
+use Rattle.spi_honest.proofs.Places.{at_below, at_set, at_before}
+use Rattle.spi_honest.proofs.Alone.{does_acts, DoesSome, acts_does, given_one, one_closed}
 use Rattle.spi_honest.proofs.Standing.{goes_on, forks, stops, by_words, moved_own, moved_other}
 
 pub same_word : (v w : SWord) → v.word ≡ w.word → is_word v w ≡ true

@@ -1,28 +1,22 @@
 -- One line more is told.
-use Rattle.std.proofs.Common.{◌≡◌, ℕ, suc, ◌+◌, ◌<◌, ◌≤◌, List, [], ◌∷◌, ◌++◌, length, slice_set, slice_get, refl, sym, ap, ◌∙◌, subst, arith, Option, Some, None, append_assoc, length-append, option_to_list}
-use Rattle.std.specs.Prelude.{⊤}
+use Rattle.std.proofs.Common.{◌≡◌, ℕ, suc, ◌≤◌, List, [], ◌∷◌, ◌++◌, length, slice_set, refl, sym, ap, ◌∙◌, subst, arith, Option, Some, None, append_assoc, length-append, option_to_list}
 use Rattle.std.proofs.lemmas.List.{length-set, append-nil}
 use Rattle.spi_text.specs.declared.lines.Span.{Span}
 use Rattle.spi_tree.specs.declared.tree.SWord.{SWord}
-use Rattle.spi_tree.specs.Trees as t
 use Rattle.spi_narrate.specs.Narrations as n
-use Rattle.spi_term.specs.Lists.{At, In}
-use Rattle.spi_term.specs.Term.{Message, name, unit, Process}
-use Rattle.spi_run.specs.Reduction.{Configuration, Step, act, talk, Event, Takes, Runs, runs_none, runs_silent, runs_event}
+use Rattle.spi_run.specs.Reduction.{Configuration, Step, act, Event, Takes, Runs, runs_none, runs_silent, runs_event}
 use Rattle.spi_run.proofs.Once.{takes_once}
 use Rattle.spi_replay.specs.Stepping.{Pooled, IsTaken, largest, message_most, bound_by}
-use Rattle.spi_scope.specs.Scope.{Word, Names}
+use Rattle.spi_scope.specs.Scope.{Names}
 use Rattle.spi_scope.specs.StandsFor.{Meant}
-use Rattle.spi_honest.specs.Reading.{Map, word_in, value}
-use Rattle.spi_honest.specs.Narrated.{at, giving, Told, IsFree, Does, does_split, does_match, does_decrypt, does_check, does_begin, does_end, does_end_many, does_cast, does_new, Tells, tells_local, tells_pass, Narrates, narrates_none, narrates_line, AreSmall, NarratesSmall, shown, free_of, begins}
-use Rattle.spi_honest.specs.Schedule.{moved, line_steps, honest_steps}
-use Rattle.spi_honest.specs.Holds.{AreClosed}
+use Rattle.spi_honest.specs.Reading.{Map}
+use Rattle.spi_honest.specs.Narrated.{giving, Told, Does, does_split, does_match, does_decrypt, does_check, does_begin, does_end, does_end_many, does_cast, does_new, Tells, tells_local, Narrates, narrates_none, narrates_line, AreSmall, NarratesSmall, shown, free_of}
+use Rattle.spi_honest.specs.Schedule.{line_steps}
 use Rattle.spi_honest.specs.Roles.{IsRole}
-use Rattle.spi_honest.specs.Standing.{AreApart, Stands, Stopped, StoppedBut, Locates, left}
-use Rattle.spi_honest.specs.Honest.{Replays, replays_none, replays_step, opening}
+use Rattle.spi_honest.specs.Standing.{AreApart, Stands, Stopped, left}
+use Rattle.spi_honest.specs.Honest.{Replays, replays_none, replays_step}
 use Rattle.spi_honest.specs.Progress.{Progress}
-use Rattle.spi_honest.proofs.Steps.{LocalTakes, local_takes, local_back, at_places, mid, parted, parts_takes, parts_bound, parts_stand, parts_out, parts_none, parts_length, talk_takes, talk_bound, talk_stands, talk_length, received_now}
-use Rattle.spi_honest.proofs.Alone.{DoesSome, valued_closed}
+use Rattle.spi_honest.proofs.Steps.{LocalTakes, local_takes, local_back}
 
 -- one line, or one step, at the end
 small_as : {free : Names} {o p : Told} {ls : List n.Line} {es fs : List Event} → es ≡ fs → NarratesSmall free o ls es p → NarratesSmall free o ls fs p

@@ -1,6 +1,6 @@
 -- What the process of a place holds: the meaning of a tree, with messages for the names bound outside it. No public clause
 -- names it.
-use Rattle.std.specs.Prelude.{◌≡◌, ℕ, suc, List, [], ◌∷◌, Option, Some, None, if◌then◌else◌}
+use Rattle.std.specs.Prelude.{◌≡◌, ℕ, suc, [], ◌∷◌, Option, Some, None, if◌then◌else◌}
 use Rattle.std.specs.Str.{bytes_eq}
 use Rattle.spi_tree.specs.Trees as t
 use Rattle.spi_term.specs.Term.{Message, bound, Ty, Process, send, recv, serve, split, select, decrypt, check, begin, end, end_many, cast, fresh, branch, par, stop}

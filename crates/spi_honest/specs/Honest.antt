@@ -1,5 +1,5 @@
 -- What an honest schedule is, and why a narration has none.
-use Rattle.std.specs.Prelude.{◌≡◌, ℕ, ◌<◌, List, [], ◌∷◌, ◌++◌, length, map, Option, Some, None, option_to_list}
+use Rattle.std.specs.Prelude.{◌≡◌, ℕ, ◌<◌, List, [], ◌∷◌, ◌++◌, length, map, Option, option_to_list}
 use Rattle.spi_term.specs.Lists.{At}
 use Rattle.spi_term.specs.Term.{Process, stop}
 use Rattle.spi_term.specs.Spelling.{stopped}

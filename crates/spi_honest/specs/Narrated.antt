@@ -56,7 +56,7 @@ pub data Tells (free : Names) (o : Told) : n.Line → Map → Option Event → T
   tells_pass : {s : Span} {from to c x : SWord} {m : Msg}
       → IsFree free (o.has from.word) c.word → IsFree free (o.has to.word) c.word
       → Tells free o (n.pass s from to c m x) (at x (value (o.has from.word) m) ∷ []) None
-          (record { names = o.names; has = giving to.word (at x (value (o.has from.word) m) ∷ []) o.has })
+      (record { names = o.names; has = giving to.word (at x (value (o.has from.word) m) ∷ []) o.has })
 
 -- lines in order, with their events
 pub data Narrates (free : Names) : Told → List n.Line → List Event → Told → Type 0 where

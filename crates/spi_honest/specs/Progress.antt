@@ -6,8 +6,7 @@ use Rattle.spi_narrate.specs.Narrations as n
 use Rattle.spi_term.specs.Term.{Process, stop}
 use Rattle.spi_weave.specs.Woven.{role_process, roles_beside, roles_together, sharing}
 use Rattle.spi_run.specs.Reduction.{Step, Event}
-use Rattle.spi_run.specs.View.{step, event}
-use Rattle.spi_replay.specs.Stepping.{Pooled, IsTaken}
+use Rattle.spi_replay.specs.Stepping.{Pooled}
 use Rattle.spi_scope.specs.Scope.{Word}
 use Rattle.spi_scope.specs.StandsFor.{Meant}
 use Rattle.spi_honest.specs.Narrated.{Told, NarratesSmall, free_of, with_shared, begins}

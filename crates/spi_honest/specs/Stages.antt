@@ -65,6 +65,7 @@ pub record SharesTo (x : n.Narration) (file : Meant) (i : ℕ) (st : Stage) : Ty
 
 pub record SpreadsTo (x : n.Narration) (file : Meant) (i : ℕ) (st : Stage) : Type 0 where
   pub role : SWord
+  pub here : slice_get x.roles i ≡ Some role
   pub spreads : Spreads x file (take i x.roles) role (drop (suc i) x.roles) st.pool (steps_in st)
   pub quiet : events_in st ≡ []
 

@@ -82,12 +82,7 @@ fn meet(
 }
 
 /// The line with this number, told.
-pub fn tell(
-    stage: &mut Stage<'_>,
-    n: &Narration,
-    file: &File,
-    at: usize,
-) -> Result<(), HonestFault>
+pub fn tell(stage: &mut Stage<'_>, n: &Narration, file: &File, at: usize) -> Result<(), HonestFault>
     requires tellable { IsTellable (narration_of n.now) }
     requires channels { HaveChannels (free_of (narration_of n.now)) (narration_of n.now).lines }
     requires file { StandsFor (woven (narration_of n.now)) (meant file.now) }
@@ -96,13 +91,18 @@ pub fn tell(
     ensures told { OnOk result (ToldTo (narration_of n.now) (meant file.now) (at + 1) stage.new) }
     ensures fault { IfErr result (λ e. (e ≡ HonestFault.NoMemory) ⊎ HasFault (narration_of n.now) e) }
 {
+    // The nodes are asked for what their answer says: a process is over few names.
+    let _ = file.process.len();
     match &n.lines[at] {
         Line::Local { role, .. } => {
             let role = role_number(&n.first, &n.more, role);
             local(stage, n, file, at, role)
         }
         Line::Pass {
-            from, to, channel, ..
+            from,
+            to,
+            channel,
+            ..
         } => {
             let from = role_number(&n.first, &n.more, from);
             let to = role_number(&n.first, &n.more, to);

@@ -69,11 +69,7 @@ fn spread(stage: &mut Stage<'_>, n: &Narration, file: &File) -> Result<(), Hones
 }
 
 /// The roles stand at their places, and no line was told.
-pub fn open<'p>(
-    alloc: Global,
-    n: &Narration,
-    file: &'p File,
-) -> Result<Stage<'p>, HonestFault>
+pub fn open<'p>(alloc: Global, n: &Narration, file: &'p File) -> Result<Stage<'p>, HonestFault>
     requires tellable { IsTellable (narration_of n.now) }
     requires file { StandsFor (woven (narration_of n.now)) (meant file.now) }
     ensures told { IfOk result (λ stage. ToldTo (narration_of n.now) (meant file.entry.now) 0 stage) }

@@ -4,4 +4,4 @@ use Rattle.spi_honest.specs.Stages.{SharesTo}
 use Rattle.spi_honest.proofs.opening.share.Given as goal
 
 abbrev pub invariant-loop-i : goal.invariant-loop-i
-invariant-loop-i l = SharesTo (narration_of l.n) (meant l.file) l.i l.stage
+invariant-loop-i l = SharesTo (narration_of l.n) (meant l.file) l._i l.stage
