@@ -92,7 +92,7 @@ module _ (v : Bool) where
   pub shared_differ : Differ (Shareds v) RolesOn
   shared_differ a b la lb k x y e f = let g : shared_word ≡ K.Word (codes "roles") = sym (shareds_begin v a la k x e) ∙ roles_on_first b lb k y f in cc
 
-  shared_on_first : (k : Kind) → BeginsDeclared k → (b : Cells) → SharedOn b → (x : List Kind) → kinds b ≡ k ∷ x → ⊥
+  pub shared_on_first : (k : Kind) → BeginsDeclared k → (b : Cells) → SharedOn b → (x : List Kind) → kinds b ≡ k ∷ x → ⊥
   shared_on_first k is = begins_many (Shareds v) RolesOn (shareds_some v) k (λ a la x e. one k is (shareds_begin v a la k x e)) (λ b lb x e. two k is (roles_on_first b lb k x e))
     where
       one : (k : Kind) → BeginsDeclared k → k ≡ shared_word → ⊥
@@ -105,6 +105,9 @@ module _ (v : Bool) where
 
   pub decls_differ : Differ (Decls v) SharedOn
   decls_differ a b la lb k x y e f = shared_on_first k (decls_begin v a la k x e) b lb y f
+
+  pub roles_on_begins : (b : Cells) → RolesOn b → (x : List Kind) → kinds b ≡ shared_word ∷ x → ⊥
+  roles_on_begins b lb x e = let g : shared_word ≡ K.Word (codes "roles") = roles_on_first b lb shared_word x e in cc
 
   pub lines_differ : Differ (Lines v) Nothing
   lines_differ a b la lb k x y e f = let g : [] ≡ k ∷ y = ap kinds (sym lb) ∙ f in cc
@@ -225,7 +228,7 @@ later_always a h =
 abbrev of_version : ℕ → Span → List t.Declared → List h.Shared → List SWord → List n.Line → n.Narration
 of_version v s ds ss ws ls = record { span = s; version = v; decls = ds; shared = ss; roles = ws; lines = ls }
 
-abbrev version_are : List Piece
+abbrev pub version_are : List Piece
 version_are = row_pieces version_row (tt, (tt, (tt, tt))) []
 
 later_pieces : (s : Span) (ds : List t.Declared) (ss : List h.Shared) (ws : List SWord) (ls : List n.Line) → whole_narration (of_version 2 s ds ss ws ls) ≡ opens s.from ∷ (version_are ++ (body_pieces ds ss ws ls ++ closes s.to ∷ []))
