@@ -1,6 +1,5 @@
 -- Reading a narration part after part.
-use Rattle.std.proofs.Common.{◌≡◌, ℕ, zero, suc, ◌+◌, ◌≤◌, ◌<◌, ◌==◌, Bool, true, false, List, [], ◌∷◌, ◌++◌, length, drop, Result, Ok, Err, refl, sym, ap, subst, ◌∙◌, codes, ◌⊎◌, inl, inr, arith}
-use Rattle.std.specs.List.{AllByRecursion}
+use Rattle.std.proofs.Common.{◌≡◌, ℕ, suc, ◌<◌, ◌==◌, Bool, true, false, List, [], ◌∷◌, ◌++◌, length, drop, Result, Ok, Err, refl, sym, ap, subst, ◌∙◌, codes, ◌⊎◌, inl, inr, arith}
 use Rattle.std.specs.Prelude.{◌&&◌}
 use Rattle.std.specs.Result.{IsErrAnd}
 use Rattle.std.specs.Str.{bytes_eq}
@@ -20,29 +19,29 @@ use Rattle.spi_tree.specs.Formed.{AreWordsFit, IsDeclared}
 use Rattle.spi_parse.specs.declared.fault.ParseFault.{ParseFault}
 use Rattle.spi_parse.specs.declared.fault.ParseFault.TheVariants as faults
 use Rattle.spi_parse.specs.Exact as exact
-use Rattle.spi_grammar.specs.Exactly.{kinds, IsOther, Either, Then, Many, Nothing, Fault, Fails}
+use Rattle.spi_grammar.specs.Exactly.{kinds, Either, Nothing}
 use Rattle.spi_grammar.proofs.Along.{Leads, either_this, either_other}
 use Rattle.spi_parts.proofs.Behind.{decl_behind}
 use Rattle.spi_parts.proofs.Alone.{Decls}
 use Rattle.spi_parts.proofs.Bridge.{of_piece}
 use Rattle.spi_heading.specs.Headings as h
-use Rattle.spi_heading.specs.Spans.{start_of, end_before, span_over}
+use Rattle.spi_heading.specs.Spans.{span_over}
 use Rattle.spi_heading.specs.Taking.{IsThere, version_word, ReadsVersion}
-use Rattle.spi_heading.specs.Each.{each_pieces, EachAt, FailsWhole}
+use Rattle.spi_heading.specs.Each.{each_pieces, FailsWhole}
 use Rattle.spi_heading.specs.Grammar.{shared_word, shared_pieces, IsShared, BeginsDecl, BeginsShared}
-use Rattle.spi_heading.proofs.Standing.{Stands, stands_both, stands_within, spelled, found, unfound, one_there, within_one, behind_one, decl_solid}
+use Rattle.spi_heading.proofs.Standing.{Stands, stands_both, spelled, found, unfound, one_there, within_one, behind_one}
 use Rattle.spi_heading.proofs.Failing.{FailsAt}
 use Rattle.spi_heading.proofs.Symbols.{token, the_mark, the_word, the_two, version}
 use Rattle.spi_heading.proofs.Rows.{Row, row_good, row_read, row_end, row_more, RowAt, RowFails, fails_first, fails_behind, fits_at, stands_read}
 use Rattle.spi_heading.proofs.Calls.{took, untaken}
-use Rattle.spi_heading.proofs.Each.{Along, each_along}
-use Rattle.spi_heading.proofs.Names.{Shareds, shared_behind, shared_solid}
+use Rattle.spi_heading.proofs.Each.{Along}
+use Rattle.spi_heading.proofs.Names.{Shareds, shared_behind}
 use Rattle.spi_heading.proofs.Wholes.{WholeFails, Rest, rest_start, rest_next, rest_fails, many_fault, many_end, each_next, whole_fails}
 use Rattle.spi_heading.proofs.Firsts.{decls_begin, decls_some, decls_good, shareds_begin, shareds_some, shareds_good}
 use Rattle.spi_narrate.specs.Narrations as n
 use Rattle.spi_narrate.specs.Grammar.{line_pieces, IsLine, whole_roles, AreWholeRoles, HasRole, whole_narration, IsNarration}
 use Rattle.spi_narrate.specs.Reads.{IsSpelled, ParsesNarration}
-use Rattle.spi_narrate.proofs.LineRows.{Lines, lines_good, line_behind, line_solids}
+use Rattle.spi_narrate.proofs.LineRows.{Lines, lines_good, line_behind}
 use Rattle.spi_narrate.proofs.RoleRows.{Roles, roles_good}
 use Rattle.spi_narrate.proofs.Whole.{body_pieces, body_are, version_row, LinesOn, RolesOn, SharedOn, Body, Later, Narrations, narration_same, first_never, later_always, shared_differ, decls_differ, lines_differ, no_line, lines_some, lines_live, roles_live, shared_live, body_live, roles_on_begins, shared_on_first, version_are}
 
@@ -210,27 +209,34 @@ module _ (ts : List Token) (some : 0 < length ts) (s : Span) (spans : s ≡ span
   whole_stands : (ds : List t.Declared) (ss : List h.Shared) (ws : List SWord) (ls : List n.Line) (r : ℕ × ℕ) → ReadsVersion (Ok r) ts → Stands ts r.1 (body_pieces ds ss ws ls ++ closes s.to ∷ []) (length ts)
       → Stands ts 0 (whole_narration (record { span = s; version = r.0; decls = ds; shared = ss; roles = ws; lines = ls })) (length ts)
   whole_stands ds ss ws ls r (inl h) body =
-      subst (λ (n : ℕ). Stands ts 0 (whole_narration (record { span = s; version = n; decls = ds; shared = ss; roles = ws; lines = ls })) (length ts)) (sym h.0)
-      (some, ap (λ (y : Span). y.from) (sym spans),
-      subst (λ (l : List Piece). Stands ts 0 (version_are ++ l) (length ts)) (sym (body_are ds ss ws ls (closes s.to ∷ [])))
-      (stands_both ts version_are (body_pieces ds ss ws ls ++ closes s.to ∷ []) 0 3 (length ts) (version_row_at false ts h.2 h.3 h.4).stands (subst (λ (n : ℕ). Stands ts n (body_pieces ds ss ws ls ++ closes s.to ∷ []) (length ts)) h.1 body)))
+      subst (λ (n : ℕ). Stands ts 0 (whole_narration (record { span = s; version = n; decls = ds; shared = ss; roles = ws; lines = ls })) (length ts)) (sym h.0) (
+        some,
+        ap (λ (y : Span). y.from) (sym spans),
+        subst (λ (l : List Piece). Stands ts 0 (version_are ++ l) (length ts)) (sym (body_are ds ss ws ls (closes s.to ∷ [])))
+            (stands_both ts version_are (body_pieces ds ss ws ls ++ closes s.to ∷ []) 0 3 (length ts) (version_row_at false ts h.2 h.3 h.4).stands (subst (λ (n : ℕ). Stands ts n (body_pieces ds ss ws ls ++ closes s.to ∷ []) (length ts)) h.1 body)),
+      )
   whole_stands ds ss ws ls r (inr h) body =
-      subst (λ (n : ℕ). Stands ts 0 (whole_narration (record { span = s; version = n; decls = ds; shared = ss; roles = ws; lines = ls })) (length ts)) (sym h.0)
-      (some, ap (λ (y : Span). y.from) (sym spans),
-      subst (λ (l : List Piece). Stands ts 0 l (length ts)) (sym (body_are ds ss ws ls (closes s.to ∷ [])))
-      (subst (λ (n : ℕ). Stands ts n (body_pieces ds ss ws ls ++ closes s.to ∷ []) (length ts)) h.1 body))
+      subst (λ (n : ℕ). Stands ts 0 (whole_narration (record { span = s; version = n; decls = ds; shared = ss; roles = ws; lines = ls })) (length ts)) (sym h.0) (
+        some,
+        ap (λ (y : Span). y.from) (sym spans),
+        subst (λ (l : List Piece). Stands ts 0 l (length ts)) (sym (body_are ds ss ws ls (closes s.to ∷ [])))
+            (subst (λ (n : ℕ). Stands ts n (body_pieces ds ss ws ls ++ closes s.to ∷ []) (length ts)) h.1 body),
+      )
 
   pub narration_read : (fit : AreWordsFit (is_version_2 (kinds_of ts)) (kinds_of ts)) (r : ℕ × ℕ) (vr : ReadsVersion (Ok r) ts) (ds : List t.Declared) (ss : List h.Shared) (w : SWord) (ws : List SWord) (ls : List n.Line) (j k l : ℕ)
       → Decls_at (r.0 == 2) ts (version_fits ts fit r vr) r.1 ds j → Shared_at (r.0 == 2) ts (version_fits ts fit r vr) j ss k → Stands ts k (whole_roles (w ∷ ws)) l → Lines_at (r.0 == 2) ts (version_fits ts fit r vr) l ls (length ts)
       → IsSpelled (record { span = s; version = r.0; decls = ds; shared = ss; roles = w ∷ ws; lines = ls }) ts
-  narration_read fit r vr ds ss w ws ls j k l a b c d = (record {
-    version = version_known ts r vr;
-    decls = a.are;
-    shared = b.are;
-    roles = (w, ws, refl);
-    lines = d.are;
-    words = fits_at (r.0 == 2) ts (whole_narration x) 0 (length ts) (version_fits ts fit r vr) stands;
-  }, spell x stands)
+  narration_read fit r vr ds ss w ws ls j k l a b c d = (
+    record {
+      version = version_known ts r vr;
+      decls = a.are;
+      shared = b.are;
+      roles = (w, ws, refl);
+      lines = d.are;
+      words = fits_at (r.0 == 2) ts (whole_narration x) 0 (length ts) (version_fits ts fit r vr) stands;
+    },
+    spell x stands,
+  )
     where
       x : n.Narration
       x = record { span = s; version = r.0; decls = ds; shared = ss; roles = w ∷ ws; lines = ls }

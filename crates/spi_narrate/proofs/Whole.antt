@@ -1,40 +1,36 @@
 -- Whole narrations: the version, the declarations, the shared names, the roles and the lines.
-use Rattle.std.proofs.Common.{◌≡◌, ℕ, zero, suc, ◌+◌, ◌≤◌, ◌<◌, ◌==◌, Bool, true, false, List, [], ◌∷◌, ◌++◌, length, drop, refl, sym, ap, subst, ◌∙◌, append_assoc, append-nil, codes, ◌⊎◌, inl, inr, arith}
+use Rattle.std.proofs.Common.{◌≡◌, ℕ, Bool, true, false, List, [], ◌∷◌, ◌++◌, refl, sym, ap, subst, ◌∙◌, append_assoc, append-nil, codes, ◌⊎◌, inl, inr}
 use Rattle.std.specs.List.{AllByRecursion}
 use Rattle.spi_lex.specs.declared.token.Kind.{Kind}
 use Rattle.spi_lex.specs.declared.token.Kind.TheVariants as K
 use Rattle.spi_lex.specs.declared.token.Mark.TheVariants as mark
-use Rattle.spi_lex.specs.declared.token.Reserved.TheVariants as word
-use Rattle.spi_lex.specs.declared.token.Token.{Token}
-use Rattle.spi_lex.specs.Lexing.{kinds_of}
 use Rattle.spi_text.specs.declared.lines.Span.{Span}
 use Rattle.spi_tree.specs.declared.tree.SWord.{SWord}
 use Rattle.spi_tree.specs.Trees as t
-use Rattle.spi_tree.specs.Pieces.{Piece, opens, cell, closes, cells, kinds_in, decl_pieces, version_pieces}
+use Rattle.spi_tree.specs.Pieces.{Piece, opens, closes, cells, kinds_in, decl_pieces}
 use Rattle.spi_tree.specs.Formed.{AreWordsFit, IsDeclared}
 use Rattle.spi_parse.specs.Bare.{nowhere}
-use Rattle.spi_parse.specs.declared.fault.ParseFault.{ParseFault}
 use Rattle.spi_parse.proofs.Words.{fits_append, fits_front, fits_drop}
-use Rattle.spi_grammar.specs.Exactly.{kinds, IsGood, IsLive, IsSame, IsOther, Then, Either, Many, Nothing}
+use Rattle.spi_grammar.specs.Exactly.{kinds, IsLive, IsSame, Then, Either, Many, Nothing}
 use Rattle.spi_grammar.proofs.Cuts.{kinds_append}
 use Rattle.spi_grammar.proofs.Repetition.{live_many}
 use Rattle.spi_grammar.proofs.Sequence.{live_both}
 use Rattle.spi_grammar.proofs.Good.{IsSome, Differ, begins_many}
 use Rattle.spi_parts.proofs.Behind.{decl_behind}
 use Rattle.spi_parts.proofs.Alone.{kinds_in_append, Decls}
-use Rattle.spi_parts.proofs.Bridge.{OfPieces, of_piece}
+use Rattle.spi_parts.proofs.Bridge.{OfPieces}
 use Rattle.spi_heading.specs.Headings as h
 use Rattle.spi_heading.specs.Each.{each_pieces}
 use Rattle.spi_heading.specs.Grammar.{shared_word, shared_pieces, IsShared}
 use Rattle.spi_heading.proofs.Symbols.{cells_append, Sym, token, the_mark, the_word, the_two, version}
-use Rattle.spi_heading.proofs.Rows.{Row, row_good, row_pieces, row_into, row_from}
+use Rattle.spi_heading.proofs.Rows.{Row, row_pieces, row_into, row_from}
 use Rattle.spi_heading.proofs.Each.{each_behind}
 use Rattle.spi_heading.proofs.Names.{Shareds, shared_behind}
-use Rattle.spi_heading.proofs.Manys.{FromMany, many_from, many_into}
-use Rattle.spi_heading.proofs.Firsts.{BeginsDeclared, decls_begin, decls_some, decls_good, shareds_begin, shareds_some, shareds_good}
+use Rattle.spi_heading.proofs.Manys.{many_from, many_into}
+use Rattle.spi_heading.proofs.Firsts.{BeginsDeclared, decls_begin, decls_some, shareds_begin, shareds_some}
 use Rattle.spi_narrate.specs.Narrations as n
-use Rattle.spi_narrate.specs.Grammar.{line_pieces, IsLine, roles_pieces, whole_roles, HasRole, narration_pieces, whole_narration, IsNarration}
-use Rattle.spi_narrate.proofs.LineRows.{Lines, lines_good, line_behind, line_first}
+use Rattle.spi_narrate.specs.Grammar.{line_pieces, IsLine, roles_pieces, whole_roles, HasRole, whole_narration, IsNarration}
+use Rattle.spi_narrate.proofs.LineRows.{Lines, line_behind, line_first}
 use Rattle.spi_narrate.proofs.RoleRows.{Roles, roles_good, roles_first, roles_behind}
 
 -- what stands behind the version
@@ -205,7 +201,7 @@ module _ (v : Bool) where
         cells = cells_append (whole_roles ws) lines;
       } in
       let second : SharedOn (cells (names ++ (whole_roles ws ++ lines))) = subst SharedOn (sym (cells_append names (whole_roles ws ++ lines)))
-          (many_into shared_pieces shared_behind v (IsShared v) RolesOn ss hs (fits_front v (kinds_in names) (kinds_in (whole_roles ws ++ lines)) g) (cells (whole_roles ws ++ lines)) third) in
+      (many_into shared_pieces shared_behind v (IsShared v) RolesOn ss hs (fits_front v (kinds_in names) (kinds_in (whole_roles ws ++ lines)) g) (cells (whole_roles ws ++ lines)) third) in
       subst Body (sym (cells_append decls (names ++ (whole_roles ws ++ lines))))
       (many_into decl_pieces decl_behind v (IsDeclared v) SharedOn ds hd (fits_front v (kinds_in decls) (kinds_in (names ++ (whole_roles ws ++ lines))) f) (cells (names ++ (whole_roles ws ++ lines))) second)
 

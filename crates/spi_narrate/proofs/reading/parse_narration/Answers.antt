@@ -1,7 +1,5 @@
 use Rattle.std.proofs.Common.{◌≡◌, ◌==◌, ◌≤◌, ◌<◌, ◌∷◌, ℕ, List, length, map, refl, sym, ap, subst, ◌∙◌, arith}
 use Rattle.std.specs.Global.{Vec}
-use Rattle.spi_lex.specs.declared.token.Token.{Token}
-use Rattle.spi_text.specs.declared.lines.Span.{Span}
 use Rattle.spi_tree.specs.Pieces.{decl_pieces}
 use Rattle.spi_tree.specs.Formed.{IsDeclared}
 use Rattle.spi_tree.specs.Views.{decl_of}
@@ -20,7 +18,6 @@ use Rattle.spi_heading.proofs.Each.{Along, each_along}
 use Rattle.spi_heading.proofs.Names.{shared_behind, shared_solid}
 use Rattle.spi_narrate.specs.Narrations as n
 use Rattle.spi_narrate.specs.Grammar.{line_pieces, whole_line, IsLine, IsWholeLine, whole_roles, AreWholeRoles}
-use Rattle.spi_narrate.specs.Reads.{IsSpelled}
 use Rattle.spi_narrate.specs.Views.{line_of, narration_of}
 use Rattle.spi_narrate.proofs.LineRows.{line_behind, line_solids}
 use Rattle.spi_narrate.proofs.Steps.{version_fits, version_fault, after_version, decls_fault, after_decls, shared_fault, after_shared, roles_fault, after_roles, lines_fault, narration_read, parse_fails, roles_some}
