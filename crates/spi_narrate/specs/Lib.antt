@@ -3,3 +3,4 @@ pub mod Views
 pub mod Grammar
 pub mod Words
 pub mod Reads
+pub mod Faults
