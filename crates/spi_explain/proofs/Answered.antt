@@ -1,8 +1,7 @@
 -- One question more.
-use Rattle.std.proofs.Common.{◌≡◌, sym, ap, ◌∙◌, subst, List, [], ◌∷◌, ◌++◌, Option, Some, None}
-use Rattle.spi_blame.specs.Blaming.{Question, typed, labelled}
+use Rattle.std.proofs.Common.{◌≡◌, sym, subst, List, [], ◌∷◌, ◌++◌}
+use Rattle.spi_blame.specs.Blaming.{Question}
 use Rattle.spi_blame.specs.Told.{asked, Tells}
-use Rattle.spi_blame.specs.declared.blame.Blame.{Blame}
 use Rattle.spi_explain.specs.Premises.{AreAnswered, answered_none, answered_next}
 use Rattle.spi_explain.specs.declared.blaming.Answer.{Answer}
 use Rattle.spi_rules.specs.Environment.{Env}

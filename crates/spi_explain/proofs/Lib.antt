@@ -1,2 +1,3 @@
 pub mod Answered
+pub mod Beyond
 pub mod Shaped

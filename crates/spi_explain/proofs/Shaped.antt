@@ -1,5 +1,5 @@
 -- The premises of a node's process are those of its shape.
-use Rattle.std.proofs.Common.{◌≡◌, sym, ap, ◌∙◌, ℕ, suc, ◌+◌, List, [], ◌∷◌, ◌++◌, drop, length, Some, arith, subst, Result, Ok, Err, IfOk}
+use Rattle.std.proofs.Common.{◌≡◌, sym, ap, ◌∙◌, ℕ, ◌+◌, List, [], ◌∷◌, ◌++◌, drop, length, Some, arith, subst, Result, Ok, Err, IfOk}
 use Rattle.std.specs.Prelude.{slice_get}
 use Rattle.spi_explain.specs.Premises.{premises, premises_at, AreAnswered}
 use Rattle.spi_explain.specs.declared.blaming.Answer.{Answer}

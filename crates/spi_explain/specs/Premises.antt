@@ -1,5 +1,5 @@
 -- What the typing rules for a process's form ask of its messages.
-use Rattle.std.specs.Prelude.{List, [], ◌∷◌, Option}
+use Rattle.std.specs.Prelude.{List, [], ◌∷◌}
 use Rattle.spi_blame.specs.Blaming.{Question, typed, labelled}
 use Rattle.spi_blame.specs.Told.{asked, Tells}
 use Rattle.spi_explain.specs.declared.blaming.Answer.{Answer}

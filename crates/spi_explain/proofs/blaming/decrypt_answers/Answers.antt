@@ -1,9 +1,9 @@
-use Rattle.std.proofs.Common.{◌≡◌, sym, ap, subst, List, [], ◌∷◌, ◌++◌, Some, None}
-use Rattle.spi_blame.specs.Blaming.{typed, labelled}
-use Rattle.spi_term.specs.Term.{un, pair_ty, sum_ty, key}
+use Rattle.std.proofs.Common.{subst, [], ◌∷◌}
+use Rattle.spi_blame.specs.Blaming.{typed}
+use Rattle.spi_term.specs.Term.{un}
 use Rattle.spi_term.specs.View.{message, ty}
-use Rattle.spi_explain.specs.Premises.{AreAnswered, answered_none}
-use Rattle.spi_explain.proofs.Answered.{answered_more, answered_start}
+use Rattle.spi_explain.specs.Premises.{AreAnswered}
+use Rattle.spi_explain.proofs.Answered.{answered_start}
 use Rattle.spi_explain.proofs.blaming.decrypt_answers.Goals as goal
 
 pub returns : goal.returns
