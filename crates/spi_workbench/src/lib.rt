@@ -3,6 +3,8 @@
 
 mod answer;
 mod behind;
+mod counting;
+mod judging;
 mod placing;
 mod sizes;
 
