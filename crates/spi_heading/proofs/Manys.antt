@@ -91,8 +91,7 @@ module _ {X : Type 0} (piece : X → List Piece → List Piece) (behind : (x : X
   many_into [] h fit rest m = (zero, m)
   many_into (x ∷ xs) h fit rest m =
       let f = subst (AreWordsFit v) (each_kinds x xs) fit in
-      let r = many_into xs h.1 (fits_drop v (kinds_in (piece x [])) (kinds_in (each_pieces piece xs [])) f) rest m in
-      (
+      let r = many_into xs h.1 (fits_drop v (kinds_in (piece x [])) (kinds_in (each_pieces piece xs [])) f) rest m in (
         suc r.0,
         record {
           left = cells (piece x []);

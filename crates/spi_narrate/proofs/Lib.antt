@@ -2,3 +2,4 @@ pub mod Prefixes
 pub mod LineRows
 pub mod RoleRows
 pub mod Whole
+pub mod Steps

@@ -1,5 +1,5 @@
 -- Lines: a role and a colon and what it does, or the words and the message of a pass.
-use Rattle.std.proofs.Common.{◌≡◌, ℕ, ◌+◌, ◌≤◌, ◌<◌, Bool, true, false, List, [], ◌∷◌, ◌++◌, length, drop, Result, Ok, Err, refl, sym, ap, subst, ◌∙◌, codes, ◌⊎◌, inl, inr}
+use Rattle.std.proofs.Common.{◌≡◌, ℕ, ◌+◌, Bool, true, false, List, [], ◌∷◌, ◌++◌, drop, Result, Ok, Err, refl, sym, ap, subst, ◌∙◌, codes, ◌⊎◌, inl, inr}
 use Rattle.std.specs.Result.{IsErrAnd}
 use Rattle.spi_lex.specs.declared.token.Kind.{Kind}
 use Rattle.spi_lex.specs.declared.token.Kind.TheVariants as K
@@ -15,7 +15,7 @@ use Rattle.spi_parse.specs.declared.fault.ParseFault.{ParseFault}
 use Rattle.spi_parse.specs.declared.fault.ParseFault.TheVariants as faults
 use Rattle.spi_parse.specs.Exact as exact
 use Rattle.spi_parse.proofs.Words.{fits_append, fits_front, fits_drop}
-use Rattle.spi_grammar.specs.Exactly.{kinds, IsGood, IsSame, IsClosed, IsEven, IsLive, Then, Either, StartsDeep, IsClean}
+use Rattle.spi_grammar.specs.Exactly.{kinds, IsGood, IsSame, IsLive, Then, Either}
 use Rattle.spi_grammar.proofs.Cuts.{kinds_append}
 use Rattle.spi_grammar.proofs.Answers.{good_both}
 use Rattle.spi_grammar.proofs.Good.{IsSome, Differ, good_either}
@@ -24,14 +24,14 @@ use Rattle.spi_parts.proofs.Bridge.{OfPieces, of_piece}
 use Rattle.spi_heading.specs.Spans.{start_of, end_before}
 use Rattle.spi_heading.specs.Taking.{IsThere, Takes, TakesWord}
 use Rattle.spi_heading.proofs.Standing.{Stands, IsSolid, stands_both}
-use Rattle.spi_heading.proofs.Failing.{FailsAt, IsToldBy, told_fail, same_fail, first_fail, second_fail, fails_from, fails_to}
+use Rattle.spi_heading.proofs.Failing.{FailsAt, IsToldBy, told_fail, same_fail, first_fail, second_fail, fails_to}
 use Rattle.spi_heading.proofs.Symbols.{cells_append, Sym, token, name, message, opening, closing, the_mark, the_word, to, on, as_}
 use Rattle.spi_heading.proofs.Rows.{Values, Row, row_good, row_pieces, row_into, row_from, row_behind, row_read, RowAt, RowFails, row_end, row_more, opened, closed, fits_at, stands_read}
-use Rattle.spi_heading.proofs.Calls.{part_at, part_stands, took, took_word, there_before}
+use Rattle.spi_heading.proofs.Calls.{part_at, took, took_word, there_before}
 use Rattle.spi_heading.proofs.Wholes.{none_fail}
 use Rattle.spi_narrate.specs.Narrations as n
 use Rattle.spi_narrate.specs.Grammar.{whole_prefix, IsPrefix, IsWholePrefix, line_pieces, whole_line, IsLine, IsWholeLine}
-use Rattle.spi_narrate.proofs.Prefixes.{Prefixes, prefixes_good, prefix_solid, prefix_behind}
+use Rattle.spi_narrate.proofs.Prefixes.{Prefixes, prefixes_good, prefix_behind}
 
 abbrev pub head_row : List Sym
 head_row = opening ∷ name ∷ []
@@ -115,8 +115,8 @@ module _ (v : Bool) where
             is = (
               k.two.one.is.0,
               subst (λ (l : List Piece). AreWordsFit v (kinds_in l)) (sym (local_are s w p))
-              (both_fit (row_pieces head_row (head_values s.from w) []) (row_pieces colon_row (tt, tt) [] ++ rest) r.fit
-              (both_fit (row_pieces colon_row (tt, tt) []) rest colon.fit (both_fit (whole_prefix p) (row_pieces tail_row (tail_values s.to) []) k.two.one.is.1 tail.fit))),
+                  (both_fit (row_pieces head_row (head_values s.from w) []) (row_pieces colon_row (tt, tt) [] ++ rest) r.fit
+                  (both_fit (row_pieces colon_row (tt, tt) []) rest colon.fit (both_fit (whole_prefix p) (row_pieces tail_row (tail_values s.to) []) k.two.one.is.1 tail.fit))),
             );
             shows =
                 ap cells (local_are s w p)

@@ -1,5 +1,5 @@
 -- The forms of what a role does by itself, as rows, each told by its first token.
-use Rattle.std.proofs.Common.{◌≡◌, ℕ, ◌+◌, ◌≤◌, ◌<◌, Bool, true, false, List, [], ◌∷◌, ◌++◌, length, drop, Option, Some, Result, Ok, Err, refl, sym, ap, subst, ◌∙◌, ◌⊎◌, inl, inr}
+use Rattle.std.proofs.Common.{◌≡◌, ℕ, ◌+◌, ◌≤◌, Bool, true, false, List, [], ◌∷◌, ◌++◌, length, drop, Option, Some, Result, Ok, Err, refl, sym, ap, subst, ◌∙◌, ◌⊎◌, inl, inr}
 use Rattle.std.specs.Result.{IsErrAnd}
 use Rattle.spi_lex.specs.declared.token.Kind.{Kind}
 use Rattle.spi_lex.specs.declared.token.Kind.TheVariants as K
@@ -19,7 +19,7 @@ use Rattle.spi_grammar.specs.Exactly.{kinds, IsGood}
 use Rattle.spi_parts.proofs.Bridge.{OfPieces}
 use Rattle.spi_heading.specs.Taking.{IsThere}
 use Rattle.spi_heading.proofs.Failing.{FailsAt, IsToldBy, told_fail, fails_to}
-use Rattle.spi_heading.proofs.Symbols.{Sym, token, name, message, ty, opening, closing, Tok, kind_of, the_mark, the_reserved}
+use Rattle.spi_heading.proofs.Symbols.{Sym, token, name, message, ty, opening, closing, the_mark, the_reserved}
 use Rattle.spi_heading.proofs.Rows.{Values, Row, row_good, row_pieces, row_into, row_from, row_behind, RowAt, RowFails, fits_at}
 use Rattle.spi_heading.proofs.Standing.{Stands, IsSolid}
 use Rattle.spi_heading.proofs.Calls.{part_at, part_stands}
@@ -271,7 +271,6 @@ module _ (v : Bool) where
   prefix_solid (n.new s x a) r = tt
 
   pub prefix_behind : (x : n.Prefix) (r : List Piece) → prefix_pieces x r ≡ whole_prefix x ++ r
-
   prefix_behind (n.split s m x a y b) r = row_behind split_row (s.from, (tt, (m, (tt, (tt, (x, (tt, (a, (tt, (y, (tt, (b, (tt, (s.to, tt)))))))))))))) r
   prefix_behind (n.match s m x a k y b) r = row_behind match_row (s.from, (tt, (m, (tt, (tt, (x, (tt, (a, (tt, (k, (tt, (y, (tt, (b, (tt, (s.to, tt)))))))))))))))) r
   prefix_behind (n.decrypt s m x a k) r = row_behind decrypt_row (s.from, (tt, (m, (tt, (tt, (x, (tt, (a, (tt, (k, (s.to, tt))))))))))) r

@@ -1,5 +1,5 @@
 -- Roles: the first, and the further ones behind commas.
-use Rattle.std.proofs.Common.{◌≡◌, ℕ, ◌+◌, ◌≤◌, Bool, true, false, List, [], ◌∷◌, ◌++◌, length, drop, Result, Ok, Err, refl, sym, ap, subst, ◌∙◌, codes}
+use Rattle.std.proofs.Common.{◌≡◌, ℕ, ◌+◌, Bool, false, List, [], ◌∷◌, ◌++◌, drop, Result, Ok, Err, refl, sym, ap, subst, ◌∙◌, codes}
 use Rattle.std.specs.List.{AllByRecursion}
 use Rattle.std.specs.Result.{IsErrAnd}
 use Rattle.spi_lex.specs.declared.token.Kind.{Kind}
@@ -22,12 +22,12 @@ use Rattle.spi_parts.proofs.Bridge.{OfPieces}
 use Rattle.spi_heading.specs.Taking.{IsThere, Takes, TakesWord}
 use Rattle.spi_heading.specs.Each.{each_pieces, IsWhole}
 use Rattle.spi_heading.proofs.Standing.{Stands, IsSolid, stands_both}
-use Rattle.spi_heading.proofs.Failing.{FailsAt, same_fail, first_fail, second_fail, fails_from, fails_to}
+use Rattle.spi_heading.proofs.Failing.{FailsAt, same_fail, first_fail, second_fail, fails_to}
 use Rattle.spi_heading.proofs.Symbols.{cells_append, Sym, token, name, the_mark, the_word, roles}
-use Rattle.spi_heading.proofs.Rows.{Values, Row, row_good, row_pieces, row_into, row_from, FromRow, row_read, RowAt, RowFails, row_end, row_more, fits_at}
+use Rattle.spi_heading.proofs.Rows.{Row, row_good, row_pieces, row_into, row_from, row_read, RowAt, RowFails, row_end, row_more, fits_at}
 use Rattle.spi_heading.proofs.Calls.{part_at, took, took_word}
 use Rattle.spi_heading.proofs.Each.{Along, along_rest, each_behind, one_read}
-use Rattle.spi_heading.proofs.Manys.{part_fail, more_fail, last_fail, FromMany, many_from, many_into}
+use Rattle.spi_heading.proofs.Manys.{part_fail, more_fail, last_fail, many_from, many_into}
 use Rattle.spi_narrate.specs.Grammar.{comma_pieces, roles_pieces, IsAnyWord, HasRole, whole_roles, AreWholeRoles}
 
 abbrev pub roles_head : List Sym

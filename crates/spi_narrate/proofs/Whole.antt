@@ -1,40 +1,36 @@
 -- Whole narrations: the version, the declarations, the shared names, the roles and the lines.
-use Rattle.std.proofs.Common.{◌≡◌, ℕ, zero, suc, ◌+◌, ◌≤◌, ◌<◌, ◌==◌, Bool, true, false, List, [], ◌∷◌, ◌++◌, length, drop, refl, sym, ap, subst, ◌∙◌, append_assoc, append-nil, codes, ◌⊎◌, inl, inr, arith}
+use Rattle.std.proofs.Common.{◌≡◌, ℕ, Bool, true, false, List, [], ◌∷◌, ◌++◌, refl, sym, ap, subst, ◌∙◌, append_assoc, append-nil, codes, ◌⊎◌, inl, inr}
 use Rattle.std.specs.List.{AllByRecursion}
 use Rattle.spi_lex.specs.declared.token.Kind.{Kind}
 use Rattle.spi_lex.specs.declared.token.Kind.TheVariants as K
 use Rattle.spi_lex.specs.declared.token.Mark.TheVariants as mark
-use Rattle.spi_lex.specs.declared.token.Reserved.TheVariants as word
-use Rattle.spi_lex.specs.declared.token.Token.{Token}
-use Rattle.spi_lex.specs.Lexing.{kinds_of}
 use Rattle.spi_text.specs.declared.lines.Span.{Span}
 use Rattle.spi_tree.specs.declared.tree.SWord.{SWord}
 use Rattle.spi_tree.specs.Trees as t
-use Rattle.spi_tree.specs.Pieces.{Piece, opens, cell, closes, cells, kinds_in, decl_pieces, version_pieces}
+use Rattle.spi_tree.specs.Pieces.{Piece, opens, closes, cells, kinds_in, decl_pieces}
 use Rattle.spi_tree.specs.Formed.{AreWordsFit, IsDeclared}
 use Rattle.spi_parse.specs.Bare.{nowhere}
-use Rattle.spi_parse.specs.declared.fault.ParseFault.{ParseFault}
 use Rattle.spi_parse.proofs.Words.{fits_append, fits_front, fits_drop}
-use Rattle.spi_grammar.specs.Exactly.{kinds, IsGood, IsLive, IsSame, IsOther, Then, Either, Many, Nothing}
+use Rattle.spi_grammar.specs.Exactly.{kinds, IsLive, IsSame, Then, Either, Many, Nothing}
 use Rattle.spi_grammar.proofs.Cuts.{kinds_append}
 use Rattle.spi_grammar.proofs.Repetition.{live_many}
 use Rattle.spi_grammar.proofs.Sequence.{live_both}
 use Rattle.spi_grammar.proofs.Good.{IsSome, Differ, begins_many}
 use Rattle.spi_parts.proofs.Behind.{decl_behind}
 use Rattle.spi_parts.proofs.Alone.{kinds_in_append, Decls}
-use Rattle.spi_parts.proofs.Bridge.{OfPieces, of_piece}
+use Rattle.spi_parts.proofs.Bridge.{OfPieces}
 use Rattle.spi_heading.specs.Headings as h
 use Rattle.spi_heading.specs.Each.{each_pieces}
 use Rattle.spi_heading.specs.Grammar.{shared_word, shared_pieces, IsShared}
 use Rattle.spi_heading.proofs.Symbols.{cells_append, Sym, token, the_mark, the_word, the_two, version}
-use Rattle.spi_heading.proofs.Rows.{Row, row_good, row_pieces, row_into, row_from}
+use Rattle.spi_heading.proofs.Rows.{Row, row_pieces, row_into, row_from}
 use Rattle.spi_heading.proofs.Each.{each_behind}
 use Rattle.spi_heading.proofs.Names.{Shareds, shared_behind}
-use Rattle.spi_heading.proofs.Manys.{FromMany, many_from, many_into}
-use Rattle.spi_heading.proofs.Firsts.{BeginsDeclared, decls_begin, decls_some, decls_good, shareds_begin, shareds_some, shareds_good}
+use Rattle.spi_heading.proofs.Manys.{many_from, many_into}
+use Rattle.spi_heading.proofs.Firsts.{BeginsDeclared, decls_begin, decls_some, shareds_begin, shareds_some}
 use Rattle.spi_narrate.specs.Narrations as n
-use Rattle.spi_narrate.specs.Grammar.{line_pieces, IsLine, roles_pieces, whole_roles, HasRole, narration_pieces, whole_narration, IsNarration}
-use Rattle.spi_narrate.proofs.LineRows.{Lines, lines_good, line_behind, line_first}
+use Rattle.spi_narrate.specs.Grammar.{line_pieces, IsLine, roles_pieces, whole_roles, HasRole, whole_narration, IsNarration}
+use Rattle.spi_narrate.proofs.LineRows.{Lines, line_behind, line_first}
 use Rattle.spi_narrate.proofs.RoleRows.{Roles, roles_good, roles_first, roles_behind}
 
 -- what stands behind the version
@@ -92,7 +88,7 @@ module _ (v : Bool) where
   pub shared_differ : Differ (Shareds v) RolesOn
   shared_differ a b la lb k x y e f = let g : shared_word ≡ K.Word (codes "roles") = sym (shareds_begin v a la k x e) ∙ roles_on_first b lb k y f in cc
 
-  shared_on_first : (k : Kind) → BeginsDeclared k → (b : Cells) → SharedOn b → (x : List Kind) → kinds b ≡ k ∷ x → ⊥
+  pub shared_on_first : (k : Kind) → BeginsDeclared k → (b : Cells) → SharedOn b → (x : List Kind) → kinds b ≡ k ∷ x → ⊥
   shared_on_first k is = begins_many (Shareds v) RolesOn (shareds_some v) k (λ a la x e. one k is (shareds_begin v a la k x e)) (λ b lb x e. two k is (roles_on_first b lb k x e))
     where
       one : (k : Kind) → BeginsDeclared k → k ≡ shared_word → ⊥
@@ -105,6 +101,9 @@ module _ (v : Bool) where
 
   pub decls_differ : Differ (Decls v) SharedOn
   decls_differ a b la lb k x y e f = shared_on_first k (decls_begin v a la k x e) b lb y f
+
+  pub roles_on_begins : (b : Cells) → RolesOn b → (x : List Kind) → kinds b ≡ shared_word ∷ x → ⊥
+  roles_on_begins b lb x e = let g : shared_word ≡ K.Word (codes "roles") = roles_on_first b lb shared_word x e in cc
 
   pub lines_differ : Differ (Lines v) Nothing
   lines_differ a b la lb k x y e f = let g : [] ≡ k ∷ y = ap kinds (sym lb) ∙ f in cc
@@ -202,7 +201,7 @@ module _ (v : Bool) where
         cells = cells_append (whole_roles ws) lines;
       } in
       let second : SharedOn (cells (names ++ (whole_roles ws ++ lines))) = subst SharedOn (sym (cells_append names (whole_roles ws ++ lines)))
-          (many_into shared_pieces shared_behind v (IsShared v) RolesOn ss hs (fits_front v (kinds_in names) (kinds_in (whole_roles ws ++ lines)) g) (cells (whole_roles ws ++ lines)) third) in
+      (many_into shared_pieces shared_behind v (IsShared v) RolesOn ss hs (fits_front v (kinds_in names) (kinds_in (whole_roles ws ++ lines)) g) (cells (whole_roles ws ++ lines)) third) in
       subst Body (sym (cells_append decls (names ++ (whole_roles ws ++ lines))))
       (many_into decl_pieces decl_behind v (IsDeclared v) SharedOn ds hd (fits_front v (kinds_in decls) (kinds_in (names ++ (whole_roles ws ++ lines))) f) (cells (names ++ (whole_roles ws ++ lines))) second)
 
@@ -225,7 +224,7 @@ later_always a h =
 abbrev of_version : ℕ → Span → List t.Declared → List h.Shared → List SWord → List n.Line → n.Narration
 of_version v s ds ss ws ls = record { span = s; version = v; decls = ds; shared = ss; roles = ws; lines = ls }
 
-abbrev version_are : List Piece
+abbrev pub version_are : List Piece
 version_are = row_pieces version_row (tt, (tt, (tt, tt))) []
 
 later_pieces : (s : Span) (ds : List t.Declared) (ss : List h.Shared) (ws : List SWord) (ls : List n.Line) → whole_narration (of_version 2 s ds ss ws ls) ≡ opens s.from ∷ (version_are ++ (body_pieces ds ss ws ls ++ closes s.to ∷ []))

@@ -2,3 +2,4 @@ pub mod Narrations
 pub mod Views
 pub mod Grammar
 pub mod Words
+pub mod Reads

@@ -137,14 +137,7 @@ fn check_at(
     let nonce_at = take_reserved(tokens, is_at, Reserved::Is)?;
     let (nonce, next) = message_at(alloc, tokens, nonce_at, version)?;
     let span = span_between(tokens, at, next);
-    Ok((
-        Prefix::Check {
-            whole,
-            nonce,
-            span,
-        },
-        next,
-    ))
+    Ok((Prefix::Check { whole, nonce, span }, next))
 }
 
 /// `begin L`, where the token of number `at` is its first.
@@ -162,13 +155,7 @@ fn begin_at(
 {
     let (label, next) = message_at(alloc, tokens, at + 1, version)?;
     let span = span_between(tokens, at, next);
-    Ok((
-        Prefix::Begin {
-            label,
-            span,
-        },
-        next,
-    ))
+    Ok((Prefix::Begin { label, span }, next))
 }
 
 /// `end L`, where the token of number `at` is its first.
@@ -186,13 +173,7 @@ fn end_at(
 {
     let (label, next) = message_at(alloc, tokens, at + 1, version)?;
     let span = span_between(tokens, at, next);
-    Ok((
-        Prefix::End {
-            label,
-            span,
-        },
-        next,
-    ))
+    Ok((Prefix::End { label, span }, next))
 }
 
 /// `endmany L`, where the token of number `at` is its first.
@@ -211,13 +192,7 @@ fn end_many_at(
 {
     let (label, next) = message_at(alloc, tokens, at + 1, version)?;
     let span = span_between(tokens, at, next);
-    Ok((
-        Prefix::EndMany {
-            label,
-            span,
-        },
-        next,
-    ))
+    Ok((Prefix::EndMany { label, span }, next))
 }
 
 /// `cast M is (x: T)`, where the token of number `at` is its first.

@@ -3,9 +3,11 @@
 
 mod forms;
 mod lines;
+mod reading;
 mod roles;
 mod tree;
 
 pub use lines::{line_at, lines_at};
+pub use reading::parse_narration;
 pub use roles::roles_at;
 pub use tree::{Line, Narration, Prefix};

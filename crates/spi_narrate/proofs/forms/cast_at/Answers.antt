@@ -1,4 +1,4 @@
-use Rattle.std.proofs.Common.{◌≡◌, ℕ, drop, arith, ◌==◌, ◌+◌, length, subst, sym, refl}
+use Rattle.std.proofs.Common.{◌≡◌, ℕ, drop, ◌==◌, ◌+◌, subst, sym, refl}
 use Rattle.spi_lex.specs.declared.token.Mark.TheVariants as mark
 use Rattle.spi_lex.specs.declared.token.Reserved.TheVariants as word
 use Rattle.spi_parse.specs.Formed.{whole_message, IsWholeMessage}
@@ -6,9 +6,9 @@ use Rattle.spi_tree.specs.Views.{msg_of, ty_of}
 use Rattle.spi_heading.specs.Views.{named_of}
 use Rattle.spi_heading.specs.Spans.{start_of, end_before}
 use Rattle.spi_heading.proofs.Failing.{fails_from}
-use Rattle.spi_heading.proofs.Symbols.{token, name, message, opening, closing, the_mark, the_reserved, the_word, shared, roles, to, on, as_, put, drop_}
+use Rattle.spi_heading.proofs.Symbols.{token, message, opening, closing, the_mark, the_reserved}
 use Rattle.spi_heading.proofs.Rows.{row_end, row_more, rows_more, fails_first, fails_behind, rows_first, rows_behind, fails_opening, opened, closed}
-use Rattle.spi_heading.proofs.Calls.{took, untaken, took_word, untaken_word, read_message, message_within, there_within, there_before}
+use Rattle.spi_heading.proofs.Calls.{took, untaken, read_message, there_within, there_before}
 use Rattle.spi_heading.proofs.Names.{named_row, named_values, named_at_row, unnamed_row}
 use Rattle.spi_lex.specs.declared.token.Kind.TheVariants as K
 use Rattle.spi_text.specs.declared.lines.Span.{Span}
@@ -94,7 +94,6 @@ returns c =
     (rows_more v ts c.in_ok-name_at.name_at c.in_ok-named.close c.in_ok-next.next named_row _ (named_values (named_of c.in_ok-named.named)) _ (named_at_row v ts c.in_ok-name_at.name_at (named_of c.in_ok-named.named) c.in_ok-named.close c.in_ok-name_at.ensures.within c.in_ok-named.ensures.read)
     (row_more v ts c.in_ok-named.close c.in_ok-next.next c.in_ok-next.next (token (the_mark mark.ParenClose)) _ tt _ (took v ts c.in_ok-named.close c.in_ok-next.next (the_mark mark.ParenClose) c.in_ok-next.ensures.taken)
     (row_more v ts c.in_ok-next.next c.in_ok-next.next c.in_ok-next.next closing _ (end_before ts c.in_ok-next.next) _ (closed v ts c.in_ok-next.next) (row_end v ts c.in_ok-next.next))))))))))
-
 
 pub message_at-requires-clause-start : goal.message_at-requires-clause-start
 message_at-requires-clause-start c = there_within c.args.tokens.now c.args.at (K.Reserved word.Cast) c.requires.first

@@ -1,7 +1,6 @@
-use Rattle.std.proofs.Common.{◌≡◌, ◌==◌, ◌-◌, ◌∙◌, ◌++◌, ◌∷◌, [], List, ℕ, ◌<◌, length, arith, map, ap, sym, subst}
+use Rattle.std.proofs.Common.{◌==◌, ◌∙◌, List, ◌<◌, length, arith, map, ap, sym, subst}
 use Rattle.std.specs.Global.{Vec}
 use Rattle.std.proofs.lemmas.List.{map_push}
-use Rattle.spi_lex.specs.declared.token.Token.{Token}
 use Rattle.spi_heading.specs.Each.{IsWhole}
 use Rattle.spi_heading.proofs.Each.{Along, along_start, along_each, each_fails, each_step, each_rises}
 use Rattle.spi_narrate.specs.Grammar.{line_pieces, IsLine}

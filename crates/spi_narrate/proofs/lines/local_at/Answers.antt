@@ -1,14 +1,13 @@
-use Rattle.std.proofs.Common.{◌≡◌, ◌==◌, ◌+◌, ℕ, length, drop, sym, subst, arith}
+use Rattle.std.proofs.Common.{◌≡◌, ◌==◌, ◌+◌, ℕ, drop, sym, subst}
 use Rattle.spi_lex.specs.declared.token.Kind.TheVariants as K
 use Rattle.spi_lex.specs.declared.token.Mark.TheVariants as mark
 use Rattle.spi_text.specs.declared.lines.Span.{Span}
 use Rattle.spi_parse.specs.Exact as exact
 use Rattle.spi_heading.specs.Spans.{start_of, end_before}
 use Rattle.spi_heading.proofs.Failing.{fails_from}
-use Rattle.spi_heading.proofs.Symbols.{token, closing, the_mark}
+use Rattle.spi_heading.proofs.Symbols.{token, the_mark}
 use Rattle.spi_heading.proofs.Rows.{fails_first}
-use Rattle.spi_heading.proofs.Calls.{untaken, there_within, part_stands, took_before}
-use Rattle.spi_heading.proofs.Standing.{Stands}
+use Rattle.spi_heading.proofs.Calls.{untaken, there_within}
 use Rattle.spi_narrate.specs.Narrations as n
 use Rattle.spi_narrate.specs.Grammar.{whole_prefix, IsWholePrefix, whole_line, IsWholeLine}
 use Rattle.spi_narrate.specs.Views.{prefix_of, line_of}

@@ -1,15 +1,12 @@
-use Rattle.std.proofs.Common.{◌≡◌, ℕ, drop, arith, ◌==◌, ◌+◌, length, subst, sym, refl}
+use Rattle.std.proofs.Common.{◌≡◌, ℕ, drop, ◌==◌, ◌+◌, subst, sym}
 use Rattle.spi_lex.specs.declared.token.Mark.TheVariants as mark
-use Rattle.spi_lex.specs.declared.token.Reserved.TheVariants as word
 use Rattle.spi_parse.specs.Formed.{whole_message, IsWholeMessage}
-use Rattle.spi_tree.specs.Views.{msg_of, ty_of}
-use Rattle.spi_heading.specs.Views.{named_of}
+use Rattle.spi_tree.specs.Views.{msg_of}
 use Rattle.spi_heading.specs.Spans.{start_of, end_before}
 use Rattle.spi_heading.proofs.Failing.{fails_from}
-use Rattle.spi_heading.proofs.Symbols.{token, name, message, opening, closing, the_mark, the_reserved, the_word, shared, roles, to, on, as_, put, drop_}
-use Rattle.spi_heading.proofs.Rows.{row_end, row_more, rows_more, fails_first, fails_behind, rows_first, rows_behind, fails_opening, opened, closed}
-use Rattle.spi_heading.proofs.Calls.{took, untaken, took_word, untaken_word, read_message, message_within, there_within}
-use Rattle.spi_heading.proofs.Names.{named_row, named_values, named_at_row, unnamed_row}
+use Rattle.spi_heading.proofs.Symbols.{token, name, message, closing, the_mark, the_word, to, on, as_}
+use Rattle.spi_heading.proofs.Rows.{row_end, row_more, fails_first, fails_behind, closed}
+use Rattle.spi_heading.proofs.Calls.{took, untaken, took_word, untaken_word, read_message}
 use Rattle.spi_text.specs.declared.lines.Span.{Span}
 use Rattle.spi_parse.specs.Exact as exact
 use Rattle.spi_narrate.specs.Narrations as n

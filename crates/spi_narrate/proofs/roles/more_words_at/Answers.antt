@@ -1,8 +1,7 @@
-use Rattle.std.proofs.Common.{◌≡◌, ◌==◌, ◌+◌, ◌++◌, ◌∷◌, [], List, ℕ, Bool, true, false, length, arith, refl, ap, sym, subst, ◌∙◌}
+use Rattle.std.proofs.Common.{◌≡◌, ◌==◌, ◌+◌, ◌∷◌, [], List, true, false, refl, sym, subst, ◌∙◌}
 use Rattle.std.specs.Global.{Vec}
 use Rattle.spi_lex.specs.declared.token.Kind.TheVariants as K
 use Rattle.spi_lex.specs.declared.token.Mark.TheVariants as mark
-use Rattle.spi_lex.specs.declared.token.Token.{Token}
 use Rattle.spi_tree.specs.declared.tree.SWord.{SWord}
 use Rattle.spi_heading.specs.Each.{IsWhole}
 use Rattle.spi_heading.specs.Taking.{IsThere}

@@ -1,4 +1,4 @@
-use Rattle.std.proofs.Common.{◌≡◌, ◌==◌, ◌∷◌, [], List}
+use Rattle.std.proofs.Common.{◌==◌, ◌∷◌, [], List}
 use Rattle.std.specs.Global.{Vec}
 use Rattle.spi_lex.specs.declared.token.Mark.TheVariants as mark
 use Rattle.spi_tree.specs.declared.tree.SWord.{SWord}
@@ -6,7 +6,7 @@ use Rattle.spi_heading.specs.Each.{IsWhole}
 use Rattle.spi_heading.proofs.Failing.{fails_from}
 use Rattle.spi_heading.proofs.Symbols.{token, name, the_mark, the_word, roles}
 use Rattle.spi_heading.proofs.Rows.{row_end, row_more, fails_first, fails_behind}
-use Rattle.spi_heading.proofs.Calls.{took, untaken, took_word, untaken_word}
+use Rattle.spi_heading.proofs.Calls.{took, untaken, untaken_word}
 use Rattle.spi_heading.proofs.Each.{each_along}
 use Rattle.spi_narrate.specs.Grammar.{comma_pieces, IsAnyWord}
 use Rattle.spi_narrate.proofs.RoleRows.{comma_behind, comma_solid, roles_answer, roles_head_fails, roles_head_at, word_fails, semicolon_fails, roles_read}
