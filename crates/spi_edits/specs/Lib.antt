@@ -1,2 +1,5 @@
 pub mod Edits
 pub mod Views
+pub mod Grammar
+pub mod Reads
+pub mod Spans

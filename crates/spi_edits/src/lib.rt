@@ -1,6 +1,10 @@
 //! The text of a bench as a tree: declarations, shared names and edits of parts.
 #![tactic(auto)]
 
+mod edits;
+mod reading;
 mod text;
 
+pub use edits::{edit_at, edits_at};
+pub use reading::read_bench;
 pub use text::{BenchText, Edit};

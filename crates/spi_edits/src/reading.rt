@@ -1,0 +1,53 @@
+//! Whole benches.
+
+ghost use Rattle.std.specs.Prelude.{◌≡◌, ◌≤◌, length};
+ghost use Rattle.spi_lex.specs.Lexing.{kinds_of, is_version_2};
+ghost use Rattle.spi_tree.specs.Formed.{AreWordsFit};
+ghost use Rattle.spi_edits.specs.Reads.{ParsesBench};
+ghost use Rattle.spi_edits.specs.Spans.{span_of_all};
+ghost use Rattle.spi_edits.specs.Views.{bench_of};
+
+use crate::edits::edits_at;
+use crate::text::BenchText;
+use spi_heading::{declarations_at, shared_names_at, span_between, version_of};
+use spi_lex::Token;
+use spi_parse::ParseFault;
+use spi_text::Span;
+use std::alloc::Global;
+
+/// From the start of the first token to the end of the last; the empty span at 0 where there is none.
+fn whole_span(tokens: &[Token]) -> Span
+    requires size { length tokens.now ≤ 16_777_216 }
+    ensures { result ≡ span_of_all tokens.now }
+{
+    if tokens.is_empty() {
+        Span { from: 0, to: 0 }
+    } else {
+        span_between(tokens, 0, tokens.len() as u32)
+    }
+}
+
+/// The bench whose tokens these are, with the spans of its nodes and words, or the first fault. Limits on what it holds aren't
+/// looked at. A bench without tokens has the empty span at 0.
+///
+/// A fault names its token by its number from 0. `Syntax` is at the token with which no bench goes on, and at the end it is the
+/// number of tokens. `TooDeep` is at the first token at which a node of some bench starts that is above its nesting limit.
+/// `NoMemory` comes where memory runs out. `_end` is the length of the text in bytes, where a fault at the end is placed.
+pub fn read_bench(alloc: Global, tokens: &[Token], _end: u32) -> Result<BenchText, ParseFault>
+    requires size { length tokens.now ≤ 16_777_216 }
+    requires words { AreWordsFit (is_version_2 (kinds_of tokens.now)) (kinds_of tokens.now) }
+    ensures { ParsesBench bench_of result tokens.now }
+{
+    let (version, start) = version_of(tokens)?;
+    let (decls, shared_start) = declarations_at(alloc, tokens, start, version)?;
+    let (shared, edits_start) = shared_names_at(alloc, tokens, shared_start, version)?;
+    let (edits, _) = edits_at(alloc, tokens, edits_start, version)?;
+    let span = whole_span(tokens);
+    Ok(BenchText {
+        version,
+        decls,
+        shared,
+        edits,
+        span,
+    })
+}
