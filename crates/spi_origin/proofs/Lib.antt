@@ -1,5 +1,6 @@
 pub mod Blocking
 pub mod Chosen
+pub mod Existing
 pub mod Gathered
 pub mod Listed
 pub mod Marks

@@ -25,10 +25,10 @@ use Rattle.spi_term.specs.Names.{ProcessOver}
 use Rattle.spi_term.specs.Substitution.{ty_put}
 use Rattle.spi_term.specs.Term.{Message, bound, name, unit, pair, in_left, in_right, enc, hash, Atom, ends, checks, many, same_atom, Effect, Ty, un, unit_ty, pair_ty, sum_ty, key, nonce, Prefix, Recvs, Serves, Splits, Selects, Decrypts, Checks, Begins, Ends, EndManys, Casts, Makes, Cases, Pars, Process, leaf, prefix, fork, process_size}
 
-some_in : (a : Atom) (es : Effect) → 0 < count a es → In a es
+pub some_in : (a : Atom) (es : Effect) → 0 < count a es → In a es
 some_in a es h = tally_in a es ((count_tally a (tally a es)).0 (omega (arith, h)))
 
-in_some : (a : Atom) (es : Effect) → In a es → 0 < count a es
+pub in_some : (a : Atom) (es : Effect) → In a es → 0 < count a es
 in_some a es i = let h = (count_tally a (tally a es)).1 (in_tally i) in omega (arith, h)
 
 -- the atom is left

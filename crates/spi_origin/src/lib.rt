@@ -4,8 +4,10 @@
 mod adding;
 mod finding;
 mod gathering;
+mod laws;
 
 pub use finding::{blocked, origins};
+pub use laws::left_atoms_have_origins;
 use std::alloc::AllocError;
 
 /// Memory ran out.
