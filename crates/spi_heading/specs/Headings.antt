@@ -8,3 +8,8 @@ pub record Shared : Type 0 where
   pub span : Span
   pub name : SWord
   pub ty : t.Ty
+
+-- a name with its type
+pub record Named : Type 0 where
+  pub name : SWord
+  pub ty : t.Ty

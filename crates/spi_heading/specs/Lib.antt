@@ -1,2 +1,6 @@
 pub mod Headings
 pub mod Views
+pub mod Spans
+pub mod Grammar
+pub mod Taking
+pub mod Each

@@ -1,2 +1,6 @@
 pub mod Narrations
 pub mod Views
+pub mod Grammar
+pub mod Words
+pub mod Reads
+pub mod Faults

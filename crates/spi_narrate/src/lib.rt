@@ -1,6 +1,15 @@
 //! Narrations: protocols told as a list of lines by roles.
 #![tactic(auto)]
 
+mod fault;
+mod forms;
+mod lines;
+mod reading;
+mod roles;
 mod tree;
 
+pub use fault::NarrateFault;
+pub use lines::{line_at, lines_at};
+pub use reading::parse_narration;
+pub use roles::roles_at;
 pub use tree::{Line, Narration, Prefix};

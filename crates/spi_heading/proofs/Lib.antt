@@ -1,0 +1,11 @@
+pub mod Standing
+pub mod Failing
+pub mod Symbols
+pub mod Rows
+pub mod Calls
+pub mod Names
+pub mod Each
+pub mod Told
+pub mod Wholes
+pub mod Manys
+pub mod Firsts

@@ -1,0 +1,5 @@
+pub mod Prefixes
+pub mod LineRows
+pub mod RoleRows
+pub mod Whole
+pub mod Steps

@@ -1,0 +1,44 @@
+//! Whole narrations.
+
+ghost use Rattle.std.specs.Prelude.{◌≡◌, ◌≤◌, length};
+ghost use Rattle.spi_lex.specs.Lexing.{kinds_of, is_version_2};
+ghost use Rattle.spi_tree.specs.Formed.{AreWordsFit};
+ghost use Rattle.spi_narrate.specs.Reads.{ParsesNarration};
+ghost use Rattle.spi_narrate.specs.Views.{narration_of};
+
+use crate::lines::lines_at;
+use crate::roles::roles_at;
+use crate::tree::Narration;
+use spi_heading::{declarations_at, shared_names_at, span_between, version_of};
+use spi_lex::Token;
+use spi_parse::ParseFault;
+use std::alloc::Global;
+
+/// The narration whose tokens these are, with the spans of its nodes and words, or the first fault. Roles and limits aren't
+/// looked at.
+///
+/// A fault names its token by its number from 0. `Syntax` is at the token with which no narration goes on, and at the end it
+/// is the number of tokens. `TooDeep` is at the first token at which a node of some narration starts that is above its nesting
+/// limit. `NoMemory` comes where memory runs out.
+pub fn parse_narration(alloc: Global, tokens: &[Token]) -> Result<Narration, ParseFault>
+    requires size { length tokens.now ≤ 16_777_216 }
+    requires words { AreWordsFit (is_version_2 (kinds_of tokens.now)) (kinds_of tokens.now) }
+    ensures { ParsesNarration narration_of result tokens.now }
+{
+    let (version, start) = version_of(tokens)?;
+    let (decls, shared_start) = declarations_at(alloc, tokens, start, version)?;
+    let (shared, roles_start) = shared_names_at(alloc, tokens, shared_start, version)?;
+    let (roles, lines_start) = roles_at(alloc, tokens, roles_start, version)?;
+    let (lines, end) = lines_at(alloc, tokens, lines_start, version)?;
+    let (first, more) = roles;
+    let span = span_between(tokens, 0, end);
+    Ok(Narration {
+        version,
+        decls,
+        shared,
+        first,
+        more,
+        lines,
+        span,
+    })
+}
