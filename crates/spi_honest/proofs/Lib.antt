@@ -15,3 +15,4 @@ pub mod Numbers
 pub mod Opens
 pub mod Lined
 pub mod Finished
+pub mod Tellable

@@ -3,6 +3,7 @@
 
 mod fault;
 mod honest;
+mod laws;
 mod lines;
 mod opening;
 mod roles;
@@ -11,6 +12,7 @@ mod stage;
 
 pub use fault::HonestFault;
 pub use honest::Honest;
+pub use laws::faultless_is_tellable;
 pub use schedule::schedule_of;
 use std::alloc::AllocError;
 
