@@ -1,0 +1,20 @@
+//! Laws of told narrations.
+
+ghost use Rattle.std.specs.Prelude.{◌≤◌, ℕ, List, length};
+ghost use Rattle.spi_lex.specs.Writing.{AreKinds};
+ghost use Rattle.spi_tree.specs.Pieces.{kinds_in};
+ghost use Rattle.spi_parse.specs.Exact.{IsWithin};
+ghost use Rattle.spi_scope.specs.StandsFor.{Meant};
+ghost use Rattle.spi_show.specs.Files.{IsCanonicalText};
+ghost use Rattle.spi_spell.specs.Spelled.{limit, SpellsFile};
+ghost use Rattle.spi_narrate.specs.Narrations.{Narration};
+ghost use Rattle.spi_narrate.specs.Grammar.{IsNarration, whole_narration};
+ghost use Rattle.spi_honest.specs.Roles.{IsTellable};
+ghost use Rattle.spi_narrator.specs.Answers.{IsTold};
+
+/// The canonical text of a narration's file, where it isn't longer than a file may be, spells that file with its schedule.
+pub fn told_files_read_back()
+    ensures { (x : Narration) (told : Meant) (text : List ℕ) → IsNarration x → IsWithin (whole_narration x)
+        → AreKinds (kinds_in (whole_narration x)) → IsTellable x → IsTold x told
+        → IsCanonicalText told text → length text ≤ limit → SpellsFile text told }
+{}
