@@ -36,10 +36,7 @@ fn heading_tree(alloc: Global, text: &mut BenchText, end: u32) -> Result<Tree, N
     ensures tree { IfOk result (λ f. file_of f ≡ heading_file (bench_of text.old) end) }
     ensures edits { text.new.edits ≡ text.old.edits }
 {
-    let span = Span {
-        from: end,
-        to: end,
-    };
+    let span = Span { from: end, to: end };
     let decls = replace(&mut text.decls, Vec::new(alloc));
     let shared = replace(&mut text.shared, Vec::new(alloc));
     let process = behind_all(alloc, shared, SProc::Stop { span })?;
@@ -125,7 +122,13 @@ fn judge_edits_over<L: Ledger>(
         }));
     }
     let mut steps = Steps::<L>::new(blank);
-    match judge_all(alloc, &mut work, &mut text.edits, &counted.edits, &mut steps)? {
+    match judge_all(
+        alloc,
+        &mut work,
+        &mut text.edits,
+        &counted.edits,
+        &mut steps,
+    )? {
         Ok(each) => {
             let last = work.bench.verdict();
             Ok(Answer::Judged(Verdicts { each, last }))

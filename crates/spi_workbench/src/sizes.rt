@@ -99,7 +99,10 @@ pub fn type_nodes(sizes: &Sizes, t: &STy) -> u64
         STy::Un { .. } => 1,
         STy::Unit { .. } => 1,
         STy::Tuple {
-            first, more, last, ..
+            first,
+            more,
+            last,
+            ..
         } => {
             let rest = fields_nodes(sizes, more).saturating_add(last_nodes(sizes, last));
             one_over(type_nodes(sizes, first), rest)
@@ -160,10 +163,16 @@ pub fn process_nodes(sizes: &Sizes, p: &SProc) -> u64
             head.saturating_add(one_more(process_nodes(sizes, then)))
         }
         SProc::Inp {
-            channel, ty, then, ..
+            channel,
+            ty,
+            then,
+            ..
         } => typed_nodes(sizes, channel, ty).saturating_add(process_nodes(sizes, then)),
         SProc::Repeat {
-            channel, ty, then, ..
+            channel,
+            ty,
+            then,
+            ..
         } => typed_nodes(sizes, channel, ty).saturating_add(process_nodes(sizes, then)),
         SProc::Split {
             whole,
@@ -210,7 +219,10 @@ pub fn process_nodes(sizes: &Sizes, p: &SProc) -> u64
             typed_nodes(sizes, whole, ty).saturating_add(rest)
         }
         SProc::Check {
-            whole, nonce, then, ..
+            whole,
+            nonce,
+            then,
+            ..
         } => {
             let head = one_over(message_nodes(whole), message_nodes(nonce));
             head.saturating_add(process_nodes(sizes, then))
@@ -225,7 +237,10 @@ pub fn process_nodes(sizes: &Sizes, p: &SProc) -> u64
             one_more(message_nodes(label)).saturating_add(process_nodes(sizes, then))
         }
         SProc::Cast {
-            whole, ty, then, ..
+            whole,
+            ty,
+            then,
+            ..
         } => typed_nodes(sizes, whole, ty).saturating_add(process_nodes(sizes, then)),
         SProc::New { ty, then, .. } => {
             one_more(type_nodes(sizes, ty)).saturating_add(process_nodes(sizes, then))
