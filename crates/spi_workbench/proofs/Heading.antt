@@ -1,6 +1,6 @@
 -- What the declarations, the shared names and a part count together, and what they are as one file.
-use Rattle.std.proofs.Common.{◌≡◌, ℕ, suc, ◌+◌, ◌<◌, ◌≤◌, List, [], ◌∷◌, ◌++◌, length, Bool, true, false, refl, sym, ap, ◌∙◌, subst, arith, ⊎_elim}
-use Rattle.std.specs.Prelude.{Some, None, nat_lt, if◌then◌else◌}
+use Rattle.std.proofs.Common.{◌≡◌, ℕ, ◌+◌, ◌<◌, ◌≤◌, List, [], ◌∷◌, ◌++◌, length, refl, sym, ap, ◌∙◌, subst, arith, ⊎_elim}
+use Rattle.std.specs.Prelude.{Some, None, if◌then◌else◌}
 use Rattle.std.proofs.lemmas.Bool.{cases_lt, lt-ltb}
 use Rattle.spi_text.specs.declared.lines.Span.{Span}
 use Rattle.spi_tree.specs.declared.tree.SProc.{SProc}
@@ -11,14 +11,14 @@ use Rattle.spi_heading.specs.Headings.{Shared}
 use Rattle.spi_term.specs.Spelling.{Spelling}
 use Rattle.spi_scope.specs.declared.fault.ScopeFault.TheVariants.{FileTooLarge}
 use Rattle.spi_scope.specs.Scope.{Names, Abbreviations}
-use Rattle.spi_scope.specs.Points.{Point, uses_name, uses_type, declares_name, declares_type, ends_message, ends_type, adds, starts_step, fault_at, added, Points, none, one, ◌⨾◌, in_order, process_points, decls_points, file_points, all_names}
+use Rattle.spi_scope.specs.Points.{Point, uses_name, uses_type, declares_name, declares_type, ends_message, ends_type, adds, starts_step, fault_at, added, Points, none, one, ◌⨾◌, in_order, process_points, decls_points, file_points}
 use Rattle.spi_scope.specs.First.{count, Clean, IsClean}
 use Rattle.spi_scope.specs.Over.{AreOver}
 use Rattle.spi_scope.specs.StandsFor.{StandsFor, Meant}
 use Rattle.spi_scope.proofs.Counting.{weight, names_weigh}
 use Rattle.spi_scope.proofs.Indexing.{all_over}
 use Rattle.spi_edits.specs.Edits.{Bench}
-use Rattle.spi_workbench.specs.Reading.{behind_shared, file_with, free_names, abbreviations_of, with_shared, part_names, part_meant}
+use Rattle.spi_workbench.specs.Reading.{behind_shared, file_with, free_names, abbreviations_of, with_shared, part_meant}
 use Rattle.spi_workbench.specs.Counting.{all_added, shared_points, heading_nodes, part_nodes}
 use Rattle.spi_workbench.specs.Behind.{StandsBehind}
 use Rattle.spi_workbench.specs.Work.{IsHeaded}

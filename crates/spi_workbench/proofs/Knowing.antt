@@ -1,5 +1,5 @@
 -- The table of abbreviations grows with the declarations.
-use Rattle.std.proofs.Common.{◌≡◌, ℕ, suc, ◌+◌, ◌<◌, List, [], ◌∷◌, ◌++◌, length, map, take, get_or, Bool, true, false, cond, refl, sym, ap, ◌∙◌, subst, arith}
+use Rattle.std.proofs.Common.{◌≡◌, ℕ, ◌+◌, ◌<◌, List, [], ◌∷◌, ◌++◌, length, map, take, get_or, Bool, true, false, cond, refl, sym, ap, ◌∙◌, subst, arith}
 use Rattle.spi_term.proofs.Lookup.{map_take_more}
 use Rattle.spi_tree.specs.declared.tree.Decl.{Decl}
 use Rattle.spi_tree.specs.Views.{decl_of}

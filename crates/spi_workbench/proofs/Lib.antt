@@ -6,3 +6,4 @@ pub mod Knowing
 pub mod Heading
 pub mod Stepping
 pub mod Looping
+pub mod Starting

@@ -1,19 +1,17 @@
 -- Edits one after another.
 use Rattle.std.proofs.Common.{◌≡◌, ℕ, zero, suc, ◌+◌, ◌<◌, ◌≤◌, ◌↔◌, List, [], ◌∷◌, ◌++◌, length, map, take, drop, get_or, Bool, IsTrue, refl, sym, ap, ◌∙◌, subst, arith, append_assoc, append-nil}
-use Rattle.std.specs.Prelude.{None, Some, Option, slice_set, slice_index_or}
+use Rattle.std.specs.Prelude.{None, Some, slice_get, slice_set}
 use Rattle.std.proofs.lemmas.List.{take-append-drop, take_all, map-append}
-use Rattle.spi_term.specs.Spelling.{stopped}
 use Rattle.spi_term.proofs.Lookup.{map_take_more}
 use Rattle.spi_bench.specs.Parts.{Benched, IsYes}
 use Rattle.spi_edits.specs.Edits.{Edit, Bench}
 use Rattle.spi_edits.specs.declared.text.Edit as declared
 use Rattle.spi_edits.specs.Views.{edit_of}
 use Rattle.spi_workbench.specs.Reading.{bench_after}
-use Rattle.spi_workbench.specs.Counting.{edit_nodes}
 use Rattle.spi_workbench.specs.Answers.{EditStands, EditsStand, IsRefused, AreVerdicts}
 use Rattle.spi_workbench.specs.declared.answer.Refusal.{Refusal}
 use Rattle.spi_workbench.specs.declared.judging.Work.{Work}
-use Rattle.spi_workbench.specs.Work.{IsAt, Comes, Starts, Stood, Stopped}
+use Rattle.spi_workbench.specs.Work.{IsAt, Comes, Stood, Stopped}
 
 head_drop : {A : Type 0} (i : ℕ) (xs : List A) (d : A) → get_or (drop i xs) 0 d ≡ get_or xs i d
 head_drop zero xs d = refl
@@ -91,3 +89,8 @@ module _ (b : Bench) (es : List declared.Edit) (i : ℕ) (x : declared.Edit) (lt
 
 pub stood_all : (b : Bench) (es : List declared.Edit) (i : ℕ) (w : Work) (vs : List Bool) → length es ≤ i → Stood b (map edit_of (take i es)) w vs → Stood b (map edit_of es) w vs
 stood_all b es i w vs le h = subst (λ (l : List declared.Edit). Stood b (map edit_of l) w vs) (take_all i es le) h
+
+pub get_mapped : {A B : Type 0} (f : A → B) (xs : List A) (i : ℕ) (x : A) → i < length xs → x ≡ get_or xs i x → slice_get (map f xs) i ≡ Some (f x)
+get_mapped f [] i x h e = absurd (omega arith)
+get_mapped f (y ∷ xs) zero x h e = ap (λ z. Some (f z)) (sym e)
+get_mapped f (y ∷ xs) (suc i) x h e = get_mapped f xs i x (omega arith) e

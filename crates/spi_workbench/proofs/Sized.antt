@@ -1,9 +1,8 @@
 -- The nodes of a tree are those that its points add.
-use Rattle.std.proofs.Common.{◌≡◌, ℕ, ◌+◌, ◌-◌, suc, List, [], ◌∷◌, ◌++◌, length, map, Bool, true, false, cond, refl, sym, ap, ◌∙◌, arith}
+use Rattle.std.proofs.Common.{◌≡◌, ℕ, ◌+◌, ◌-◌, suc, List, [], ◌∷◌, length, map, Bool, true, false, refl, sym, ap, ◌∙◌, arith}
 use Rattle.std.specs.Prelude.{Option, Some, None, nat_lt, if◌then◌else◌}
 use Rattle.std.specs.Option.{option_map}
-use Rattle.std.specs.Str.{bytes_eq}
-use Rattle.indexmap.specs.IndexMap.{IndexMap, get_by}
+use Rattle.indexmap.specs.IndexMap.{IndexMap}
 use denote.Ref.{Bor}
 use Rattle.spi_text.specs.declared.lines.Span.{Span}
 use Rattle.spi_tree.specs.declared.tree.SWord.{SWord}
@@ -13,7 +12,7 @@ use Rattle.spi_term.specs.Spelling.{atom_nodes, effect_nodes, ty_nodes, stopped}
 use Rattle.spi_heading.specs.Headings.{Shared}
 use Rattle.spi_scope.specs.Scope.{Word, Names, number_of, Abbreviations, type_of}
 use Rattle.spi_scope.specs.Meaning.{named, message_in, messages_in, atom_in, effect_in, known, type_in, fields_in, last_in, behind}
-use Rattle.spi_scope.specs.Points.{Points, message_points, messages_points, atom_points, atoms_points, type_points, fields_points, last_points, msg_nodes, type_nodes, whole_message, bounded_type, whole_type, part, message_head, messages_head, typed_head, new_head, tested_head, split_head, match_head, process_points, free_points, decl_points, decls_points, types_behind, names_behind, all_types, all_names}
+use Rattle.spi_scope.specs.Points.{message_points, messages_points, atom_points, atoms_points, type_points, fields_points, last_points, msg_nodes, type_nodes, whole_type, part, message_head, messages_head, typed_head, new_head, tested_head, split_head, match_head, process_points, free_points}
 use Rattle.spi_scope.specs.State.{row_nodes, type_row_nodes}
 use Rattle.spi_scope.proofs.Tuples.{nested_nodes, nested_types_nodes}
 use Rattle.spi_edits.specs.Edits.{Edit as Written}

@@ -1,12 +1,12 @@
 -- One edit more.
-use Rattle.std.proofs.Common.{◌≡◌, ℕ, suc, ◌+◌, ◌<◌, ◌≤◌, List, [], ◌∷◌, ◌++◌, length, Bool, true, false, cond, refl, sym, ap, ◌∙◌, subst, arith}
+use Rattle.std.proofs.Common.{◌≡◌, ℕ, ◌+◌, ◌<◌, ◌≤◌, List, [], ◌∷◌, ◌++◌, length, Bool, true, false, cond, refl, sym, ap, ◌∙◌, subst, arith}
 use Rattle.std.specs.Prelude.{Option, Some, None, IsSome}
 use Rattle.std.specs.Str.{bytes_eq}
 use Rattle.spi_text.specs.declared.lines.Span.{Span}
 use Rattle.spi_tree.specs.declared.tree.SWord.{SWord}
 use Rattle.spi_tree.specs.Trees as t
 use Rattle.spi_tree.specs.Views.{file_of}
-use Rattle.spi_term.specs.Term.{process_size, Ty}
+use Rattle.spi_term.specs.Term.{process_size}
 use Rattle.spi_term.specs.Spelling.{Spelling}
 use Rattle.spi_scope.specs.First.{IsClean}
 use Rattle.spi_scope.specs.Points.{process_points}
@@ -14,12 +14,12 @@ use Rattle.spi_scope.proofs.Counting.{process_weighs}
 use Rattle.spi_bench.specs.Parts.{Part, Benched, named, with_part, without, nodes_in}
 use Rattle.spi_edits.specs.Edits.{Edit, puts, drops, Bench}
 use Rattle.spi_workbench.specs.Reading.{file_with, free_names, abbreviations_of, part_names, part_meant, shared_types, edited, parts_after, bench_after}
-use Rattle.spi_workbench.specs.Counting.{edit_nodes, part_nodes, heading_nodes, nodes_put, bench_nodes}
-use Rattle.spi_workbench.specs.Answers.{EditStands, IsRefused, too_large, unknown}
+use Rattle.spi_workbench.specs.Counting.{edit_nodes, part_nodes, nodes_put, bench_nodes}
+use Rattle.spi_workbench.specs.Answers.{IsRefused, too_large, unknown}
 use Rattle.spi_workbench.specs.declared.answer.Refusal.TheVariants.{BenchTooLarge, UnknownPart}
 use Rattle.spi_workbench.specs.declared.judging.Work.{Work}
 use Rattle.spi_workbench.specs.Work.{IsHeaded, IsAt, Comes}
-use Rattle.spi_workbench.proofs.Heading.{weight_added, names_counted, clean_nodes}
+use Rattle.spi_workbench.proofs.Heading.{weight_added}
 use Rattle.spi_workbench.proofs.PartNodes.{more_names, as_many_types}
 
 parts_last : (b : Bench) (ps : List Part) (es : List Edit) (e : Edit) → parts_after b ps (es ++ e ∷ []) ≡ edited b (parts_after b ps es) e

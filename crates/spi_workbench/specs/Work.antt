@@ -3,7 +3,6 @@ use Rattle.std.specs.Prelude.{◌≡◌, ◌≤◌, ℕ, List, [], ◌∷◌, �
 use Rattle.spi_tree.specs.Trees as t
 use Rattle.spi_tree.specs.Views.{file_of}
 use Rattle.spi_bench.specs.Parts.{nodes_in}
-use Rattle.spi_scope.specs.First.{IsClean}
 use Rattle.spi_edits.specs.Edits.{Edit, Bench}
 use Rattle.spi_edits.specs.declared.text.Edit as declared
 use Rattle.spi_edits.specs.Views.{edit_of}
