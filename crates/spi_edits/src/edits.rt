@@ -16,12 +16,7 @@ use spi_parse::{ParseFault, process_at};
 use std::alloc::Global;
 
 /// `put A { P }`, where the token of number `at` is its first.
-fn put_at(
-    alloc: Global,
-    tokens: &[Token],
-    at: u32,
-    version: u32,
-) -> Result<(Edit, u32), ParseFault>
+fn put_at(alloc: Global, tokens: &[Token], at: u32, version: u32) -> Result<(Edit, u32), ParseFault>
     requires size { length tokens.now ≤ 16_777_216 }
     requires known { (version ≡ 1) ⊎ (version ≡ 2) }
     requires words { AreWordsFit (version == 2) (kinds_of tokens.now) }

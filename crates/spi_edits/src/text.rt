@@ -35,7 +35,10 @@ pub enum Edit {
         span: Span,
     },
     /// `drop A;`
-    Drop { name: SWord, span: Span },
+    Drop {
+        name: SWord,
+        span: Span,
+    },
 }
 
 impl Drop for Edit {
