@@ -1,5 +1,5 @@
 #!/usr/bin/env python3
-"""Times `cryptyc verify`, `replay`, `play`, `print`, `upgrade` and `load` on files, and on the same files doubled.
+"""Times `cryptyc verify`, `replay`, `knows`, `play`, `print`, `upgrade` and `load` on files, and on the same files doubled.
 
 Usage: bench/runs.py [--program FILE] [--runs N] [--only WORD] [--part N]. Without --program it takes the proved build,
 crates/cryptyc/out/cryptyc. With --part it takes an Nth of each size, for a slower build. It prints a line for each
@@ -82,6 +82,19 @@ def talking(count, channels):
     return f"free {names(channels)};\nprocess {text}\nopponent stop\nschedule\n{steps}"
 
 
+def opened(count):
+    """So many ciphertexts, each of the key of the next under its own, sent from the last to the first, 24 in a message, and
+    then the first key: only with that do they open, one after the other, up to a name. A key is a name under a secret."""
+    keys = [f"{{f{i}}}s" for i in range(count)]
+    ciphertexts = [f"{{{body}}}{key}" for body, key in zip([*keys[1:], "t"], keys)][::-1]
+    parts = [ciphertexts[i:i + 24] for i in range(0, count, 24)]
+    sends = "".join(f"out a {f'({chr(44).join(part)})' if len(part) > 1 else part[0]};\n" for part in parts) + f"out a {keys[0]};\n"
+    steps = "act 0;\n" * 2 + "".join(f"act {2 * i};\ntalk {2 * i} 1;\n" for i in range(len(parts) + 1))
+    free = ", ".join(f"f{i}" for i in range(count))
+    return (f"free a, {free};\nprocess new (s: Un); new (t: Un);\n{sends}stop\nopponent repeat inp a (x: Un); stop\n"
+            f"schedule\n{steps}")
+
+
 def played_chains():
     chain = "".join(f"begin n{i}; " for i in range(240)) + "".join(f"end n{i}; " for i in range(240)) + "stop"
     return f"free {names(240)};\nprocess {' | '.join([chain] * 8)}\nopponent stop\n"
@@ -107,6 +120,7 @@ def workloads(program):
     yield "replay: a repeated input", 2450, lambda n: (["replay"], repeating(n))
     yield "replay: talks over 500 channels", 1200, lambda n: (["replay"], talking(n, 500))
     yield "replay: talks over one channel", 1200, lambda n: (["replay"], talking(n, 1))
+    yield "knows: ciphertexts that open one another", 1200, lambda n: (["knows", str(n + 2)], opened(n))
     for player in range(3):
         words = ["--player", str(player)]
         yield f"play: chains, player {player}", 500, lambda n: (["play", "--steps", str(n), *words], played_chains())

@@ -3,7 +3,8 @@
 
 A case is a JSON object on a line: `shows` (what it shows), `words` (the command line), its standard input as `input`
 (text), `input_file` (a file of the repository), `input_base64`, or `input_parts` (pairs of a text and how often it
-stands), `output` (what is written, and without it the usage line) and `status`. Each file of examples/reasons is a case
+stands), `output` (what is written, and without it the usage line) and `status`. What `knows` writes of a known name is
+free but for its first line: such a case has `first` in place of `output`, and tests/knowledge.py checks the lines behind it. Each file of examples/reasons is a case
 too: its first line is a comment with the line that `check` writes. Each case runs on each `--program FILE`; without one it runs on the build without
 proofs that tools/keep.py keeps. A program that hasn't ended after ten seconds has failed its case. The one that Rattle's
 own compiler makes (its name ends in .by-rattle) gets 16 MB of stack: processes nested 500 deep take up to 12 there.
@@ -18,6 +19,8 @@ import re
 import subprocess
 import sys
 from concurrent.futures import ThreadPoolExecutor
+
+from knowledge import is_certified
 
 ROOT = os.path.dirname(os.path.dirname(os.path.abspath(__file__)))
 LIMIT = 10  # seconds
@@ -59,13 +62,21 @@ def starting(program):
     return [*larger, program]
 
 
+def is_wanted(program, case, output):
+    """Whether the output is as wanted."""
+    if "first" not in case:
+        return output == case["output"].encode()
+    canonical = subprocess.run([*starting(program), "print"], input=input_of(case), capture_output=True, timeout=LIMIT).stdout
+    return output.startswith(case["first"].encode()) and is_certified(canonical.decode(), int(case["words"][1]), output.decode())
+
+
 def run_case(program, case):
     """The status, and whether the output is as wanted."""
     try:
         run = subprocess.run([*starting(program), *case["words"]], input=input_of(case), capture_output=True, timeout=LIMIT)
     except subprocess.TimeoutExpired:
         return f"none after {LIMIT} s", False
-    return run.returncode, run.stdout == case["output"].encode()
+    return run.returncode, is_wanted(program, case, run.stdout)
 
 
 def kept():

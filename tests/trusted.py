@@ -117,8 +117,17 @@ def lines_of(path):
 
 def items_of(path):
     """The items of a file: kind, name, and the numbered lines."""
-    items = []
+    items, given = [], ""
     for number, line in lines_of(path):
+        # what stands in a module with parameters has them in front of its type
+        if opened := re.match(r"module _ (.*) where$", line):
+            given = opened[1]
+            continue
+        given = given if line.startswith(" ") or not line.strip() else ""
+        if given:
+            line = line.removeprefix("  ")
+            if re.match(r"abbrev (pub )?\S+ : ", line):
+                line = line.replace(" : ", f" : {given} → ", 1)
         head = HEAD.match(line)
         if re.match(r"(pub )?(use|mod) |infix", line):
             continue

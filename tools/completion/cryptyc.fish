@@ -7,6 +7,7 @@ complete -c cryptyc -n __fish_use_subcommand -a verify -d 'whether the derivatio
 complete -c cryptyc -n __fish_use_subcommand -a replay -d 'run the schedule of the file, step by step'
 complete -c cryptyc -n __fish_use_subcommand -a play -d 'a schedule, as a player picks it'
 complete -c cryptyc -n __fish_use_subcommand -a print -d 'the file in its canonical text'
+complete -c cryptyc -n __fish_use_subcommand -a knows -d 'whether an intruder knows a name at the end of the schedule'
 complete -c cryptyc -n __fish_use_subcommand -a upgrade -d 'the file in version 2'
 complete -c cryptyc -n __fish_use_subcommand -a load -d 'the counts of K sessions of the handshake'
 complete -c cryptyc -n '__fish_seen_subcommand_from play' -l steps -x -d 'the greatest number of steps, up to 1000'

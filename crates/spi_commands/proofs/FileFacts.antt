@@ -7,6 +7,7 @@ use Rattle.spi_rules.specs.Environment.{untrusted}
 use Rattle.spi_rules.specs.Derivations.{RuleUse, Derivable}
 use Rattle.spi_run.specs.Reduction.{Step}
 use Rattle.spi_run.specs.Safety.{RobustlySafe, RobustlySafeMany}
+use Rattle.spi_know.specs.Sent.{KeysStayUnknown}
 use Rattle.spi_deriv.specs.Canonical.{Canonical}
 use Rattle.spi_deriv.specs.Text.{derivation_text}
 use Rattle.spi_show.specs.Files.{IsCanonicalText}
@@ -53,6 +54,7 @@ pub record Facts : Type 0 where
   pub derivation : DerivationJoins
   pub schedule : ScheduleJoins
   pub reads : ReadsBack
+  pub keys : Safe KeysStayUnknown
 
 -- bytes spell one file at most, since they have one tree, and it stands for one file at most
 pub one_spelled : OneLexing → OnePlaced → OneMeant → OneFile

@@ -27,6 +27,7 @@ pub mod ScheduleSteps
 pub mod ScheduleTalks
 pub mod ScheduleRefusals
 pub mod ScheduleFiles
+pub mod ScheduleRuns
 pub mod ReplayAnswers
 pub mod ReplayPromise
 pub mod ReplayPaid
@@ -34,6 +35,8 @@ pub mod PlayAnswers
 pub mod PlaySteps
 pub mod PlayTold
 pub mod PlayPromise
+pub mod KnowsAnswers
+pub mod KnowsPromise
 pub mod LoadProcesses
 pub mod LoadDerivations
 pub mod LoadPoints

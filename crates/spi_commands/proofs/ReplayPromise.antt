@@ -1,23 +1,17 @@
 -- What `replay` promises.
-use Rattle.std.proofs.Common.{◌≡◌, ◌⊎◌, ℕ, ◌≤◌, List, Option, Some, refl, subst, inl, inr, arith}
-use Rattle.spi_tree.specs.Trees as t
+use Rattle.std.proofs.Common.{◌⊎◌, ℕ, ◌≤◌, List, refl, subst, inl, inr, arith}
 use Rattle.spi_scope.specs.StandsFor.{Meant}
-use Rattle.spi_term.specs.Spelling.{Spelling}
-use Rattle.spi_run.specs.Reduction.{Step, Event}
+use Rattle.spi_run.specs.Reduction.{Event}
 use Rattle.spi_run.specs.Safety.{Paid, PaidMany, RobustlySafe, RobustlySafeMany}
 use Rattle.spi_commands.specs.declared.status.Status.{Status}
 use Rattle.spi_commands.specs.declared.status.Status.TheVariants.{Yes, No, Refused, ReadFault, WriteFault, NoMemory, Usage}
 use Rattle.spi_commands.specs.Spelled.{SpellsFile, SpellsDerivable, SpellsNone}
-use Rattle.spi_commands.specs.Replays.{places_most, RunsThrough, IsUnplayed, no_opponent_part, no_schedule, no_opponent, no_step, SpellsUnplayed, RefusesReplay, IsStepRefusal, step_refused}
-use Rattle.spi_commands.specs.Beside.{pool_of, HasOpponent}
+use Rattle.spi_commands.specs.Replays.{RunsThrough, IsUnplayed, SpellsUnplayed}
 use Rattle.spi_commands.specs.Replaying.{ArePaid, SpellsPaid, SpellsUnpaid, ReplaysTo, IsReplayed}
 use Rattle.spi_commands.proofs.FileFacts.{OneFile, Safe, RefusedNone, holds_after}
 use Rattle.spi_commands.proofs.FileParts.{process_over_names, opponent_over_names}
 use Rattle.spi_commands.proofs.ScheduleSteps.{runs_of}
-use Rattle.spi_commands.proofs.ScheduleFiles.{never_unplayed, offends, runs_once}
-
-step_unplayed : {tree : t.File} {file : Meant} {o : Spelling} {steps : List Step} {number : ℕ} {offset : Option ℕ} {shown : List ℕ} → HasOpponent file o → file.schedule ≡ Some steps → IsStepRefusal tree (pool_of places_most file o) steps number offset shown → IsUnplayed file
-step_unplayed has e (step_refused refused) = no_step has e refused
+use Rattle.spi_commands.proofs.ScheduleFiles.{never_unplayed, runs_once, unreplayed}
 
 module _ (one : OneFile) (bytes : List ℕ) where
   -- the events of the file that the bytes spell
@@ -55,16 +49,6 @@ module _ (one : OneFile) (bytes : List ℕ) where
     refutes = λ e. absurd (cc);
   }
 
-  unreplayed : RefusedNone → (number : ℕ) (offset : Option ℕ) (shown : List ℕ) → RefusesReplay bytes number offset shown → SpellsNone bytes ⊎ SpellsUnplayed bytes
-  unreplayed none_of number offset shown (inl refuses) = inl (none_of bytes number offset shown refuses)
-  unreplayed none_of number offset shown (inr (inl (f, spells, e, lack))) = inr (f, spells, no_opponent_part e)
-  unreplayed none_of number offset shown (inr (inr (inl (f, o, spells, e, none, lack)))) = inr (f, spells, no_schedule none)
-  unreplayed none_of number offset shown (inr (inr (inr (inl (h, there))))) =
-      let (f, spells, (o, e, none)) = offends h in
-      inr (f, spells, no_opponent e none)
-  unreplayed none_of number offset shown (inr (inr (inr (inr (tree, f, o, steps, is, stands, has, e, h))))) =
-      inr (f, (tree, is, stands), step_unplayed has e h)
-
   pub replays : RefusedNone → Safe RobustlySafe → Safe RobustlySafeMany → (output : List ℕ) (status : Status) → ReplaysTo bytes status output → IsReplayed bytes status
   replays none_of safe many output Yes (f, es, spells, a, paid, text) = record {
     yes = (λ e. (f, es, spells, a, paid), λ p. refl);
@@ -78,7 +62,7 @@ module _ (one : OneFile) (bytes : List ℕ) where
     refused = (λ e. absurd (cc), λ r. absurd (played_never f es spells a r));
     refutes = λ e. unpaid_underivable safe many (f, es, spells, a, unpaid);
   }
-  replays none_of safe many output Refused (r, why, line) = unplayed_is (unreplayed none_of r.number r.offset r.shown.items why)
+  replays none_of safe many output Refused (r, why, line) = unplayed_is (unreplayed bytes none_of r.number r.offset r.shown.items why)
   replays none_of safe many output ReadFault is = absurd is
   replays none_of safe many output WriteFault is = absurd is
   replays none_of safe many output NoMemory is = absurd is

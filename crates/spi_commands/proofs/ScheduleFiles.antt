@@ -1,5 +1,5 @@
 -- What the schedule of a file runs through to.
-use Rattle.std.proofs.Common.{◌≡◌, ℕ, List, [], Option, None, Some, sym, ◌∙◌, subst}
+use Rattle.std.proofs.Common.{◌≡◌, ◌⊎◌, inl, inr, ℕ, List, [], Option, None, Some, sym, ◌∙◌, subst}
 use Rattle.spi_tree.specs.Trees as t
 use Rattle.spi_scope.specs.StandsFor.{Meant}
 use Rattle.spi_term.specs.Spelling.{Spelling, spelled}
@@ -9,9 +9,10 @@ use Rattle.spi_run.specs.Reduction.{Step, Event}
 use Rattle.spi_opponent.specs.Allowed.{IsFirstOffence}
 use Rattle.spi_opponent.proofs.Nodes.{allowed_of, get_all}
 use Rattle.spi_replay.specs.Stepping.{Pooled}
-use Rattle.spi_commands.specs.Spelled.{SpellsFile}
-use Rattle.spi_commands.specs.Replays.{places_most, Replays, RunsThrough, IsUnplayed, no_opponent_part, no_schedule, no_opponent, no_step}
-use Rattle.spi_commands.specs.Beside.{pool_of, IsOffence, HasOffence, offence}
+use Rattle.spi_commands.specs.Spelled.{SpellsFile, SpellsNone}
+use Rattle.spi_commands.specs.Replays.{places_most, Replays, RunsThrough, IsUnplayed, no_opponent_part, no_schedule, no_opponent, no_step, SpellsUnplayed, RefusesReplay, IsStepRefusal, step_refused}
+use Rattle.spi_commands.specs.Beside.{pool_of, HasOpponent, IsOffence, HasOffence, offence}
+use Rattle.spi_commands.proofs.FileFacts.{RefusedNone}
 use Rattle.spi_commands.proofs.ScheduleSteps.{replays_once, never_refused}
 
 -- an opponent, or a schedule, that is given twice
@@ -58,3 +59,17 @@ offence_none {o = o} (offence {node = node} first) = no_first o node first
 -- bytes with an offence spell a file whose opponent part is none
 pub offends : {bytes : List ℕ} {number : ℕ} {offset : Option ℕ} {shown : List ℕ} → HasOffence bytes number offset shown → (file : Meant) × SpellsFile bytes file × ((o : Spelling) × (file.opponent ≡ Some o) × (¬ IsOpponent o.process))
 offends (tree, file, o, is, stands, e, h) = (file, (tree, is, stands), (o, e, offence_none h))
+
+-- why a file is refused
+step_unplayed : {tree : t.File} {file : Meant} {o : Spelling} {steps : List Step} {number : ℕ} {offset : Option ℕ} {shown : List ℕ} → HasOpponent file o → file.schedule ≡ Some steps → IsStepRefusal tree (pool_of places_most file o) steps number offset shown → IsUnplayed file
+step_unplayed has e (step_refused refused) = no_step has e refused
+
+pub unreplayed : (bytes : List ℕ) → RefusedNone → (number : ℕ) (offset : Option ℕ) (shown : List ℕ) → RefusesReplay bytes number offset shown → SpellsNone bytes ⊎ SpellsUnplayed bytes
+unreplayed bytes none_of number offset shown (inl refuses) = inl (none_of bytes number offset shown refuses)
+unreplayed bytes none_of number offset shown (inr (inl (f, spells, e, lack))) = inr (f, spells, no_opponent_part e)
+unreplayed bytes none_of number offset shown (inr (inr (inl (f, o, spells, e, none, lack)))) = inr (f, spells, no_schedule none)
+unreplayed bytes none_of number offset shown (inr (inr (inr (inl (h, there))))) =
+    let (f, spells, (o, e, none)) = offends h in
+    inr (f, spells, no_opponent e none)
+unreplayed bytes none_of number offset shown (inr (inr (inr (inr (tree, f, o, steps, is, stands, has, e, h))))) =
+    inr (f, (tree, is, stands), step_unplayed has e h)

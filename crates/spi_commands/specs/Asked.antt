@@ -4,7 +4,7 @@ use Rattle.std.specs.Option.{ForSome}
 use Rattle.std.specs.Str.{bytes_eq}
 use Rattle.std.specs.declared.option.Option.{Option}
 use Rattle.spi_commands.specs.declared.asked.Command.{Command}
-use Rattle.spi_commands.specs.declared.asked.Command.TheVariants.{Check, Derive, Verify, Replay, Play, Print, Load, Upgrade}
+use Rattle.spi_commands.specs.declared.asked.Command.TheVariants.{Check, Derive, Verify, Replay, Play, Print, Load, Upgrade, Knows}
 use Rattle.spi_commands.specs.Number.{number_below}
 
 -- ---- the tables
@@ -22,7 +22,9 @@ pub record Numbered : Type 0 where
   pub command : ℕ → Command
 
 abbrev pub number_table : List (List ℕ × Numbered)
-number_table = (codes "load", record { least = 1; most = 500; command = Load }) ∷ []
+number_table =
+    (codes "load", record { least = 1; most = 500; command = Load })
+    ∷ (codes "knows", record { least = 0; most = 999999999; command = Knows }) ∷ []
 
 -- what a table has for a word
 module _ {X : Type 0} where

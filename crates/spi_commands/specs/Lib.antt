@@ -13,6 +13,8 @@ pub mod Verifying
 pub mod Beside
 pub mod Replays
 pub mod Ran
+pub mod Certificate
+pub mod Knowing
 pub mod Replaying
 pub mod Playing
 pub mod Canonical

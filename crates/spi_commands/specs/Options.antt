@@ -7,7 +7,7 @@ use Rattle.std.specs.Borrow.{Bor}
 use Rattle.clap.specs.Words.{App, Row, Rule, Text, first_of, new_app, new_rule, with_rule, with_subcommand}
 use Rattle.clap.specs.declared.builder.ArgAction.TheVariants.{Set}
 use Rattle.spi_commands.specs.declared.asked.Command.{Command}
-use Rattle.spi_commands.specs.declared.asked.Command.TheVariants.{Load}
+use Rattle.spi_commands.specs.declared.asked.Command.TheVariants.{Load, Knows}
 use Rattle.spi_commands.specs.declared.words.Numbered.{Numbered as Given}
 use Rattle.spi_commands.specs.Number.{number_below}
 use Rattle.spi_commands.specs.Asked.{Numbered, at_least, number_table, play_all, play_one, row_of, word_table}
@@ -17,6 +17,7 @@ use Rattle.spi_commands.specs.Asked.{Numbered, at_least, number_table, play_all,
 -- the command with another number
 abbrev pub numbered : Command → ℕ → Command
 numbered (Load k) n = Load n
+numbered (Knows k) n = Knows n
 numbered command n = command
 
 abbrev pub number_of : Given → Numbered

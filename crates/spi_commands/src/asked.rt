@@ -33,6 +33,8 @@ pub enum Command {
     Load { sessions: u32 },
     /// The canonical text of a file in version 2.
     Upgrade,
+    /// Whether the name with this number is known at the end of a file's schedule from what was sent.
+    Knows { name: u32 },
 }
 
 /// The value of one to nine digits.

@@ -4,9 +4,11 @@
 mod answer;
 mod asked;
 mod canonical;
+mod certificate;
 mod check;
 mod derive;
 mod file;
+mod knows;
 mod load;
 mod opponent;
 mod options;

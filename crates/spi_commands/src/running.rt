@@ -17,6 +17,7 @@ use crate::asked::{Command, asked_of};
 use crate::check::checks;
 use crate::derive::derives;
 use crate::file::take_file;
+use crate::knows::knows;
 use crate::load::loads;
 use crate::play::plays;
 use crate::print::prints;
@@ -27,6 +28,7 @@ use crate::verify::verifies;
 use crate::words::USAGE;
 use spi_deriv::one_canonical;
 use spi_io::{Put, Sink, Source, put_all};
+use spi_know::keys_stay_unknown;
 use spi_lex::one_answer;
 use spi_parse::one_placed_tree;
 use spi_play::Player;
@@ -103,6 +105,7 @@ pub fn run<S: Source, K: Sink>(
     derivation_joins();
     schedule_joins();
     canonical_reads_back();
+    keys_stay_unknown();
     run_for(alloc, words, source, sink, players)
 }
 
@@ -205,5 +208,6 @@ fn answer_to<S: Source>(
         Some(Command::Print) => prints(alloc, take_file(alloc, source)?),
         Some(Command::Load { sessions }) => loads(alloc, sessions),
         Some(Command::Upgrade) => upgrades(alloc, take_file(alloc, source)?),
+        Some(Command::Knows { name }) => knows(alloc, take_file(alloc, source)?, name),
     }
 }

@@ -7,7 +7,7 @@ use crate::asked::Command;
 
 /// The line for words that are no command.
 pub const USAGE: &[u8] =
-    b"usage: check | derive | verify | replay | play --steps N [--player I] | print | load K | upgrade\n";
+    b"usage: check | derive | verify | replay | play --steps N [--player I] | print | load K | upgrade | knows I\n";
 
 /// The commands of one word.
 pub const WORDS: [(&str, Command); 6] = [
@@ -28,14 +28,24 @@ pub struct Numbered {
 }
 
 /// The commands with a number behind their word.
-pub const NUMBERS: [(&str, Numbered); 1] = [(
-    "load",
-    Numbered {
-        least: 1,
-        most: 500,
-        command: Command::Load { sessions: 0 },
-    },
-)];
+pub const NUMBERS: [(&str, Numbered); 2] = [
+    (
+        "load",
+        Numbered {
+            least: 1,
+            most: 500,
+            command: Command::Load { sessions: 0 },
+        },
+    ),
+    (
+        "knows",
+        Numbered {
+            least: 0,
+            most: 999_999_999,
+            command: Command::Knows { name: 0 },
+        },
+    ),
+];
 
 /// The command of one word.
 pub fn word_command(word: &str) -> Option<Command>
@@ -81,6 +91,7 @@ pub fn with(command: Command, n: u32) -> Command
 {
     match command {
         Command::Load { sessions: _ } => Command::Load { sessions: n },
+        Command::Knows { name: _ } => Command::Knows { name: n },
         other => other,
     }
 }

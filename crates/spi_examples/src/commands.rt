@@ -44,7 +44,7 @@ const PAID: &str = "free a; process begin a; end a; stop opponent stop schedule 
 
 #[test]
 fn each_command_answers(rt: HostRuntime) {
-    let table: [(&[&str], &str, &str, u8); 11] = [
+    let table: [(&[&str], &str, &str, u8); 12] = [
         (&["check"], "process stop", "yes\n", 0),
         (
             &["check"],
@@ -76,9 +76,15 @@ fn each_command_answers(rt: HostRuntime) {
             0,
         ),
         (
+            &["knows", "0"],
+            "process new (k: Un); stop opponent stop schedule act 0;",
+            "unknown: #0\n",
+            1,
+        ),
+        (
             &["Check"],
             "",
-            "usage: check | derive | verify | replay | play --steps N [--player I] | print | load K | upgrade\n",
+            "usage: check | derive | verify | replay | play --steps N [--player I] | print | load K | upgrade | knows I\n",
             6,
         ),
     ];

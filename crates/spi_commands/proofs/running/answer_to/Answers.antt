@@ -1,5 +1,5 @@
 use Rattle.std.proofs.Common.{◌∙◌, ap, Some}
-use Rattle.spi_commands.specs.declared.asked.Command.TheVariants.{Check, Derive, Verify, Replay, Play, Print, Upgrade}
+use Rattle.spi_commands.specs.declared.asked.Command.TheVariants.{Check, Derive, Verify, Replay, Play, Print, Upgrade, Knows}
 use Rattle.spi_commands.proofs.RunEnds.{wants_given}
 use Rattle.spi_commands.proofs.PlayAnswers.{left_same, left_given}
 use Rattle.spi_commands.proofs.running.answer_to.Goals as goal
@@ -30,3 +30,6 @@ returns-in_ok-take_file-in-Some-Play-clause-left g c = λ most only e err. left_
 
 pub returns-in_err-take_file-in-Some-Play-clause-left : goal.returns-in_err-take_file-in-Some-Play-clause-left
 returns-in_err-take_file-in-Some-Play-clause-left g c = λ most only e err. left_same most only _ _
+
+pub returns-in_ok-take_file-in-Some-Knows-clause-answer : goal.returns-in_ok-take_file-in-Some-Knows-clause-answer
+returns-in_ok-take_file-in-Some-Knows-clause-answer g c = wants_given c.args.command (Knows c.in-Some-Knows.name) _ _ _ _ c.knows.result (c.in-Some-Knows.is ∙ ap Some (rw c.in-Some-Knows.is at c.in-Some-Knows.field-0-is)) c.in_ok-take_file-in-Some-Knows.ensures.gives c.knows.ensures.ok

@@ -14,6 +14,7 @@ returns-clause-headline g c =
       derivation = c.derivation_joins.ensures;
       schedule = c.schedule_joins.ensures;
       reads = c.canonical_reads_back.ensures;
+      keys = c.keys_stay_unknown.ensures;
     } in
     headline _ _ _ _ _ _ _ _ _ _ _ e.read_fault e.write_fault facts _ e.within e.answer
 
@@ -33,6 +34,7 @@ returns-clause-promise g c =
       derivation = c.derivation_joins.ensures;
       schedule = c.schedule_joins.ensures;
       reads = c.canonical_reads_back.ensures;
+      keys = c.keys_stay_unknown.ensures;
     } in
     promise _ _ _ _ _ _ _ _ _ _ _ e.read_fault e.write_fault facts _ e.within e.answer
 

@@ -1,0 +1,11 @@
+use Rattle.std.proofs.Common.{refl, rules, None}
+use Rattle.std.specs.Fmt.{decimal}
+use Rattle.spi_report.specs.declared.refusal.Refusal.{Refusal}
+use Rattle.spi_commands.specs.Refusals.{IsCause}
+use Rattle.spi_commands.proofs.AnswerLines.{line_if}
+use Rattle.spi_commands.proofs.knows.counted.Goals as goal
+
+pub returns-clause-ok : goal.returns-clause-ok
+returns-clause-ok c =
+    let r : Refusal = record { number = c.args.number; offset = None; shown = c.into_bytes-shown.result } in
+    line_if c.args.bytes.now (decimal c.args.count) c.args.number None r (IsCause c.args.number None (decimal c.args.count)) c.refusal.result (refl, refl, refl) refl refl (search rules) c.refusal.ensures.ok
