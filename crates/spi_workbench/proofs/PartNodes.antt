@@ -72,7 +72,7 @@ flat_behind ts p xs (s ∷ ss) i k e =
     ∙ ap (λ m. prefix_at k (Makes a) (suc i) ∷ (made (suc i) (suc k) (types_in ts ys ss) ++ flat m (length (with_shared ys ss)) rest)) n
 
 -- the abbreviations are over the shared names too
-more_over : (n m : ℕ) → n ≤ m → (ts : Abbreviations) → AreOver n ts → AreOver m ts
+pub more_over : (n m : ℕ) → n ≤ m → (ts : Abbreviations) → AreOver n ts → AreOver m ts
 more_over n m h [] o = tt
 more_over n m h (u ∷ ts) o = (over_more_ty n m h 0 u.stands_for o.0, more_over n m h ts o.1)
 

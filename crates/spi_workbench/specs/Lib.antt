@@ -3,3 +3,4 @@ pub mod Counting
 pub mod Sizes
 pub mod Answers
 pub mod Behind
+pub mod Work

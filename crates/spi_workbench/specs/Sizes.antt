@@ -1,12 +1,14 @@
 -- The nodes of trees, where an abbreviation has so many. No public clause names it.
-use Rattle.std.specs.Prelude.{ℕ, ◌+◌, List, [], ◌∷◌, Option, Some, None}
+use Rattle.std.specs.Prelude.{◌≡◌, ℕ, ◌+◌, List, [], ◌∷◌, Option, Some, None}
+use Rattle.std.specs.Option.{option_map}
 use Rattle.std.specs.Str.{bytes_eq}
 use Rattle.indexmap.specs.IndexMap.{IndexMap, get_by}
 use denote.Ref.{Bor}
 use Rattle.spi_tree.specs.Trees as t
 use Rattle.spi_heading.specs.Headings.{Shared}
 use Rattle.spi_edits.specs.Edits.{Edit, puts, drops}
-use Rattle.spi_scope.specs.Scope.{Word}
+use Rattle.spi_term.specs.Spelling.{ty_nodes, stopped}
+use Rattle.spi_scope.specs.Scope.{Word, Abbreviations, type_of}
 
 -- an abbreviation that isn't known counts as `Un`
 abbrev pub known_nodes : Option ℕ → ℕ
@@ -86,3 +88,7 @@ shared_size z (s ∷ ss) = 1 + ty_size z s.ty + shared_size z ss
 abbrev pub edit_size : (Word → ℕ) → Edit → ℕ
 edit_size z (puts s w p) = proc_size z p
 edit_size z (drops s w) = 0
+
+-- the table has the nodes of each abbreviation
+abbrev pub Know : {S : Type 0} → IndexMap (Bor (List ℕ)) ℕ S → Abbreviations → Type 0
+Know m ts = (w : Word) → get_by (λ k. bytes_eq w k.now) m ≡ option_map (λ a. stopped (ty_nodes a)) (type_of ts w)

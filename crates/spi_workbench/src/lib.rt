@@ -3,10 +3,14 @@
 
 mod answer;
 mod behind;
+mod bench;
+mod counting;
+mod judging;
 mod placing;
 mod sizes;
 
 pub use answer::{Answer, Refusal, Verdicts};
+pub use bench::judge_edits;
 use std::alloc::AllocError;
 
 /// Memory ran out.

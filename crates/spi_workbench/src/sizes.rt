@@ -132,3 +132,107 @@ fn last_nodes(sizes: &Sizes, end: &Last) -> u64
         Last::Named(_, ty) => type_nodes(sizes, ty),
     }
 }
+
+/// A form with one message and one annotation.
+fn typed_nodes(sizes: &Sizes, m: &SMsg, t: &STy) -> u64
+    ensures { result ≡ stopped (1 + (msg_size (msg_of m.now) + ty_size (nodes_in sizes.now) (ty_of t.now))) }
+{
+    one_over(message_nodes(m), type_nodes(sizes, t))
+}
+
+pub fn process_nodes(sizes: &Sizes, p: &SProc) -> u64
+    ensures { result ≡ stopped (proc_size (nodes_in sizes.now) (proc_of p.now)) }
+{
+    match p {
+        SProc::Par { first, rest, .. } => {
+            one_over(process_nodes(sizes, first), process_nodes(sizes, rest))
+        }
+        SProc::Out { channel, datum, .. } => {
+            one_over(message_nodes(channel), message_nodes(datum))
+        }
+        SProc::OutThen {
+            channel,
+            datum,
+            then,
+            ..
+        } => {
+            let head = one_over(message_nodes(channel), message_nodes(datum));
+            head.saturating_add(one_more(process_nodes(sizes, then)))
+        }
+        SProc::Inp {
+            channel, ty, then, ..
+        } => typed_nodes(sizes, channel, ty).saturating_add(process_nodes(sizes, then)),
+        SProc::Repeat {
+            channel, ty, then, ..
+        } => typed_nodes(sizes, channel, ty).saturating_add(process_nodes(sizes, then)),
+        SProc::Split {
+            whole,
+            left_ty,
+            right_ty,
+            then,
+            ..
+        } => {
+            let rest = type_nodes(sizes, right_ty).saturating_add(process_nodes(sizes, then));
+            typed_nodes(sizes, whole, left_ty).saturating_add(rest)
+        }
+        SProc::Match {
+            whole,
+            left_ty,
+            equal,
+            right_ty,
+            then,
+            ..
+        } => {
+            let second = message_nodes(equal).saturating_add(type_nodes(sizes, right_ty));
+            let head = typed_nodes(sizes, whole, left_ty).saturating_add(second);
+            head.saturating_add(process_nodes(sizes, then))
+        }
+        SProc::Case {
+            whole,
+            left_ty,
+            on_left,
+            right_ty,
+            on_right,
+            ..
+        } => {
+            let right = type_nodes(sizes, right_ty).saturating_add(process_nodes(sizes, on_right));
+            let both = process_nodes(sizes, on_left).saturating_add(right);
+            typed_nodes(sizes, whole, left_ty).saturating_add(both)
+        }
+        SProc::Decrypt {
+            whole,
+            ty,
+            key,
+            then,
+            ..
+        } => {
+            let rest = message_nodes(key).saturating_add(process_nodes(sizes, then));
+            typed_nodes(sizes, whole, ty).saturating_add(rest)
+        }
+        SProc::Check {
+            whole, nonce, then, ..
+        } => {
+            let head = one_over(message_nodes(whole), message_nodes(nonce));
+            head.saturating_add(process_nodes(sizes, then))
+        }
+        SProc::Begin { label, then, .. } => {
+            one_more(message_nodes(label)).saturating_add(process_nodes(sizes, then))
+        }
+        SProc::End { label, then, .. } => {
+            one_more(message_nodes(label)).saturating_add(process_nodes(sizes, then))
+        }
+        SProc::EndMany { label, then, .. } => {
+            one_more(message_nodes(label)).saturating_add(process_nodes(sizes, then))
+        }
+        SProc::Cast {
+            whole, ty, then, ..
+        } => typed_nodes(sizes, whole, ty).saturating_add(process_nodes(sizes, then)),
+        SProc::New { ty, then, .. } => {
+            one_more(type_nodes(sizes, ty)).saturating_add(process_nodes(sizes, then))
+        }
+        SProc::Stop { .. } => 1,
+        SProc::Group { first, rest, .. } => {
+            one_over(process_nodes(sizes, first), process_nodes(sizes, rest))
+        }
+    }
+}
