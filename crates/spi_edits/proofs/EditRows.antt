@@ -9,24 +9,24 @@ use Rattle.spi_lex.specs.Lexing.{kinds_of}
 use Rattle.spi_text.specs.declared.lines.Span.{Span}
 use Rattle.spi_tree.specs.declared.tree.SWord.{SWord}
 use Rattle.spi_tree.specs.Trees as t
-use Rattle.spi_tree.specs.Pieces.{Piece, cells, a_mark, proc_pieces, at_level}
+use Rattle.spi_tree.specs.Pieces.{Piece, cells, a_mark, at_level}
 use Rattle.spi_tree.specs.Formed.{AreWordsFit}
 use Rattle.spi_parse.specs.declared.fault.ParseFault.{ParseFault}
 use Rattle.spi_parse.specs.declared.fault.ParseFault.TheVariants as faults
 use Rattle.spi_parse.specs.Exact as exact
 use Rattle.spi_parse.specs.Formed.{whole_process, IsWholeProcess}
-use Rattle.spi_grammar.specs.Exactly.{kinds, IsGood, IsEnd, Then, One}
+use Rattle.spi_grammar.specs.Exactly.{kinds, IsGood, IsEnd, One}
 use Rattle.spi_grammar.proofs.Answers.{first_refuses, second_refuses, one_good}
 use Rattle.spi_grammar.proofs.Good.{IsSome}
 use Rattle.spi_parts.proofs.Behind.{proc_behind}
 use Rattle.spi_parts.proofs.Bridge.{kinds_cells, OfPieces, of_piece, part_from}
-use Rattle.spi_parts.proofs.Processes.{Processes, IsBraceClose, processes_apart, processes_even, processes_live}
+use Rattle.spi_parts.proofs.Processes.{Processes, IsBraceClose, processes_apart, processes_even}
 use Rattle.spi_heading.specs.Taking.{IsThere, Takes}
 use Rattle.spi_heading.proofs.Standing.{Stands, IsSolid, proc_solid, stands_both, stands_kinds, stands_length, behind_part}
-use Rattle.spi_heading.proofs.Failing.{FailsAt, memory, fault, tells_at, ReadAt, IsToldBy, told_fail, fails_from, fails_to}
+use Rattle.spi_heading.proofs.Failing.{FailsAt, memory, fault, tells_at, ReadAt, IsToldBy, told_fail, fails_to}
 use Rattle.spi_heading.proofs.Symbols.{Sym, token, name, braced, opening, closing, Tok, kind_of, the_mark, the_word, put, drop_, Item}
 use Rattle.spi_heading.proofs.Rows.{Values, Row, row_good, row_pieces, row_into, row_from, row_behind, ItemAt, RowAt, RowFails, fits_at}
-use Rattle.spi_heading.proofs.Calls.{part_at, part_stands, took, untaken}
+use Rattle.spi_heading.proofs.Calls.{part_at, part_stands, took}
 use Rattle.spi_heading.proofs.Told.{FormOf, forms_good}
 use Rattle.spi_heading.proofs.Wholes.{none_fail}
 use Rattle.spi_edits.specs.Edits.{Edit, puts, drops}

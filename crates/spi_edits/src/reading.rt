@@ -41,7 +41,7 @@ pub fn read_bench(alloc: Global, tokens: &[Token], _end: u32) -> Result<BenchTex
     let (version, start) = version_of(tokens)?;
     let (decls, shared_start) = declarations_at(alloc, tokens, start, version)?;
     let (shared, edits_start) = shared_names_at(alloc, tokens, shared_start, version)?;
-    let (edits, _) = edits_at(alloc, tokens, edits_start, version)?;
+    let (edits, _behind) = edits_at(alloc, tokens, edits_start, version)?;
     let span = whole_span(tokens);
     Ok(BenchText {
         version,
