@@ -30,18 +30,18 @@ returns-then-count-gt100000 g c b before s at n =
     let few = clean_nodes b (proc_of c.args.part) r.1 in
     too_many b before c.args.work.now at s c.args.name.now (proc_of c.args.part) c.saturating_add-count.result r.1 (omega (arith, few, n, c.saturating_add-count.ensures, at.few)) (omega (arith, c.if-count-gt100000.true))
 
-pub put-requires-clause-over : goal.put-requires-clause-over
-put-requires-clause-over g c =
+pub put-requires-clause-names : goal.put-requires-clause-names
+put-requires-clause-names g c =
     let b = c.requires.0 in
     let at = c.requires.2 in
-    let r = read g (goal.at.put-requires-clause-over g c).In-Ok b at.tree in
+    let r = read g (goal.at.put-requires-clause-names g c).In-Ok b at.tree in
     ap (λ (q : Spelling). q.names) r.0 ∙ names_fit b c.requires.1 c.args.work.now at (proc_of c.args.part)
 
-pub put-requires-clause-room : goal.put-requires-clause-room
-put-requires-clause-room g c =
+pub put-requires-clause-nodes : goal.put-requires-clause-nodes
+put-requires-clause-nodes g c =
     let b = c.requires.0 in
     let at = c.requires.2 in
-    let r = read g (goal.at.put-requires-clause-room g c).In-Ok b at.tree in
+    let r = read g (goal.at.put-requires-clause-nodes g c).In-Ok b at.tree in
     let few = clean_nodes b (proc_of c.args.part) r.1 in
     let e = ap (λ (q : Spelling). process_size q.process) r.0 in
     let h : c.args.work.now.count + part_nodes b (proc_of c.args.part) ≤ 100000 = omega (arith, few, c.requires.3, c.saturating_add-count.ensures, at.few, c.if-count-gt100000.false) in
@@ -53,5 +53,5 @@ returns-in-Ok-put g c b before s at n =
     let p = proc_of c.args.part in
     let r = read g (goal.at.returns-in-Ok-put g c).In-Ok b at.tree in
     let few = clean_nodes b p r.1 in
-    let bench = c.in-Ok-put.ensures.ok ∙ ap (λ (q : Spelling). record w.bench { parts = with_part c.args.name.now.word q w.bench.parts }) r.0 in
+    let bench = c.in-Ok-put.ensures.parts ∙ ap (λ (q : Spelling). record w.bench { parts = with_part c.args.name.now.word q w.bench.parts }) r.0 in
     put_next b before w at s c.args.name.now p (record { tree = c.read_part.new.tree; news = w.news; bench = c.put.new.self; count = c.saturating_add-count.result }) r.1 (at.tree.0, (p, c.in_ok-process.ensures.tree b at.tree)) bench (omega (arith, few, n, c.saturating_add-count.ensures, at.few)) c.if-count-gt100000.false
