@@ -9,21 +9,24 @@ from fuzzing.terms import UNIT, read
 WORD = re.compile(r"\s*(#?\w+|[(){},])")
 
 
-def sent_in(text):
-    """The free names of a canonical file by their numbers, and the datum of each talk of its schedule."""
+def run_of(text):
+    """The free names of a canonical file, what is sent in the run of its schedule (the numbers of the free names and then the
+    datum of each talk), which names are made at a Key type, and how many names there are in the end."""
     file = read(text)
     run = Run(file.free, file.process, file.opponent)
-    sent = list(range(len(file.free)))
+    sent, keys = list(range(len(file.free))), []
     for step in file.schedule:
         word, *places = step.split()
         places = [int(place) for place in places]
+        process, scope = run.places[places[0]]
         if word == "act":
+            if process[0] == "new" and process[2][0] == "key":
+                keys.append(run.names)
             run.act(*places)
         else:
-            process, scope = run.places[places[0]]
             sent.append(value(process[2], scope))
             run.talk(*places)
-    return file.free, sent
+    return file.free, sent, keys, run.names
 
 
 class Reader:
@@ -86,7 +89,7 @@ def follows(message, word, at, sent, lines):
 def is_certified(canonical, name, output):
     """Whether the output says that the name is known, and each of its lines follows, up to the name."""
     first, *rest = output.splitlines()
-    free, sent = sent_in(canonical)
+    free, sent, *_ = run_of(canonical)
     lines = []
     for number, line in enumerate(rest, 1):
         found = re.fullmatch(rf"{number} (.*) by (\w+)((?: \d+)*)", line)

@@ -37,10 +37,11 @@ HONEST = """opponent stop
 schedule act 0; act 0; act 2; act 2; talk 2 0; act 0; act 0; act 0; talk 0 3; act 3; act 3; act 3; act 3;
 """
 TWO_BEGINS = "free a; process begin a; begin a; stop opponent stop"
+LEAK = "free a; process new (k: Key(Un)); out a k opponent inp a (x: Un); stop schedule act 0; talk 0 1;"
 RESERVED = "free hash, many, endmany; process new (x: Un); out hash (many, endmany, x) | inp hash (y: Un); stop"
 
-# What runs: its title, the words, and the text of the file, where one is read. A command that comes to the program (of what
-# the intruder knows, of narrations, of many edits) gets its line here.
+# What runs: its title, the words, and the text of the file, where one is read. A command that comes to the program (of
+# narrations, of many edits) gets its line here.
 RUNS = [
     ("`check`, the handshake", ["check"], HANDSHAKE),
     ("`check`, the handshake without its check", ["check"], HANDSHAKE.replace("check n is p; ", "")),
@@ -48,6 +49,8 @@ RUNS = [
     ("`derive`, the handshake", ["derive"], HANDSHAKE),
     ("`verify`, the handshake with its derivation", ["verify"], None),
     ("`replay`, the handshake with its honest run", ["replay"], HANDSHAKE + HONEST),
+    ("`knows 3`, the handshake with its honest run", ["knows", "3"], HANDSHAKE + HONEST),
+    ("`knows 1`, a key that is sent", ["knows", "1"], LEAK),
     ("`play --steps 9`, two begins", ["play", "--steps", "9"], TWO_BEGINS),
     ("`play --steps 40`, the handshake", ["play", "--steps", "40"], HANDSHAKE + "opponent stop"),
     ("`print`, the handshake with its honest run", ["print"], HANDSHAKE + HONEST),

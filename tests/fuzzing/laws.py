@@ -8,6 +8,8 @@ import random
 import re
 import signal
 
+from knowledge import is_certified, run_of
+
 from .terms import RESERVED, RESERVED_IN_2, tokens_of
 from .wild import RULES
 from .writing import SPELLINGS, TYPE_SPELLINGS, is_word, laid_out
@@ -18,21 +20,23 @@ YES, NO, REFUSED = 0, 1, 2
 
 PLACE = rb" at \d+:\d+"
 LINE_OF_NO = re.compile(rb"no: (\d\d) (\w+)" + PLACE + rb"(: [^\n]*)?\n")
-LINE_OF_REFUSAL = re.compile(rb"refused: (\d\d?) (\w+)(?:" + PLACE + rb")?(: [^\n]*)?\n")
+LINE_OF_REFUSAL = re.compile(rb"refused: (\d+) (\w+)(?:" + PLACE + rb")?(: [^\n]*)?\n")
 OF_FILES = set(range(2, 38))  # the refusals of what is no file
 
 # Each command on a file: its words, the statuses that it has, and the text of a yes. A command that comes to the program
-# (of what the intruder knows, of narrations, of many edits) gets its line here, and its laws below.
+# (of narrations, of many edits) gets its line here, and its laws below.
 COMMANDS = {
     "check": (["check"], {YES, NO, REFUSED}, rb"yes\n"),
     "derive": (["derive"], {YES, NO, REFUSED}, rb"derivation\n([A-Za-z]+\n)+"),
     "verify": (["verify"], {YES, NO, REFUSED}, rb"yes\n"),
     "replay": (["replay"], {YES, NO, REFUSED}, rb"(\d+ (begin|end|endmany) [^\n]*\n)*paid\n"),
+    "knows": (["knows", "0"], {YES, NO, REFUSED}, rb"known: #0\n(\d+ [^\n]* by \w+( \d+)*\n)+"),
     "play": (["play", "--steps", "40"], {YES, REFUSED}, rb"schedule\n((act \d+|talk \d+ \d+);\n)*"),
     "print": (["print"], {YES, REFUSED}, rb"(version 2;\n)?(free [^\n]*;\n)?process .*\n"),
     "upgrade": (["upgrade"], {YES, REFUSED}, rb"version 2;\n(free [^\n]*;\n)?process .*\n"),
 }
 PLAYS = [["play", "--steps", "9", *who] for who in ([], ["--player", "0"], ["--player", "1"], ["--player", "2"])]
+UNKNOWN = re.compile(rb"unknown: #\d+\n")
 UNPAID = re.compile(rb"(\d+ (begin|end|endmany) [^\n]*\n)*unpaid at \d+\n")
 
 
@@ -97,7 +101,7 @@ def every_call_ends(ask, data):
     """Each command has an answer: a status of its own, the line or text of that status, and nothing on standard error."""
     for name, (words, statuses, yes) in COMMANDS.items():
         text, status = ask.words(words, data)
-        forms = {YES: re.compile(yes, re.S), NO: UNPAID if name == "replay" else LINE_OF_NO, REFUSED: LINE_OF_REFUSAL}
+        forms = {YES: re.compile(yes, re.S), NO: {"replay": UNPAID, "knows": UNKNOWN}.get(name, LINE_OF_NO), REFUSED: LINE_OF_REFUSAL}
         if status not in statuses or not forms[status].fullmatch(text):
             return f"{name} has status {status} and writes {text[:200]!r}"
     return None
@@ -175,6 +179,33 @@ def a_yes_has_no_attack(ask, data):
     if ask.check(data)[1] != YES and ask.verify(data)[1] != YES or ask.replay(data)[1] == REFUSED:
         return UNASKED
     return f"an attack on a yes: replay writes {ask.replay(data)[0][-200:]!r}" if ask.replay(data)[1] == NO else None
+
+
+def what_is_known_is_certified(ask, data):
+    """Each free name is known, and where a name is known, each line of its certificate follows; no other name is a name."""
+    canonical, status = ask.print(data)
+    if status != YES or ask.replay(data)[1] == REFUSED or number_of(ask.knows(data)) == 110:
+        return UNASKED
+    free, _, _, names = run_of(canonical.decode())
+    for name in {0, len(free) - 1, len(free), names - 1, names} - {-1}:
+        text, status = ask.words(["knows", str(name)], data)
+        if (status == REFUSED) != (name >= names) or status == NO and name < len(free):
+            return f"of {names} names, {len(free)} of them free, knows {name} writes {text[:200]!r}"
+        if status == YES and not is_certified(canonical.decode(), name, text.decode()):
+            return f"knows {name} writes {text[:400]!r}"
+    return None
+
+
+def keys_stay_unknown(ask, data):
+    """After a yes, no name that is made at a Key type along the schedule is known."""
+    canonical, status = ask.print(data)
+    if status != YES or ask.check(data)[1] != YES or ask.replay(data)[1] == REFUSED:
+        return UNASKED
+    keys = run_of(canonical.decode())[2]
+    for name in keys[:3]:
+        if ask.words(["knows", str(name)], data)[1] == YES:
+            return f"the key {name} is known after a yes"
+    return None if keys else UNASKED
 
 
 def a_play_is_replayed(ask, data):
@@ -271,5 +302,5 @@ def company_keeps_the_answer(ask, data):
 
 
 LAWS = [every_call_ends, refusals_agree, a_print_prints_itself, an_upgrade_keeps_answers, a_derivation_is_verified,
-        what_is_verified_is_checked, a_yes_has_no_attack, a_play_is_replayed, a_shorter_schedule_has_fewer_events,
-        a_layout_means_nothing, company_keeps_the_answer]
+        what_is_verified_is_checked, a_yes_has_no_attack, what_is_known_is_certified, keys_stay_unknown, a_play_is_replayed,
+        a_shorter_schedule_has_fewer_events, a_layout_means_nothing, company_keeps_the_answer]
