@@ -35,6 +35,14 @@ WHAT = {
     "spi_spell": "that what is written is read back",
     "spi_report": "the line of its event",
     "spi_commands": "the events that a command prints, the words that `upgrade` respells",
+    "spi_heading": "a case of a proof",
+    "spi_narrate": "its row in the grammar of narrations, its reader",
+    "spi_weave": "the tree that it becomes",
+    "spi_origin": "that it adds an atom",
+    "spi_honest": "its event in an honest run",
+    "spi_bench": "a case of a proof",
+    "spi_workbench": "its case of the part that stands behind the shared names",
+    "spi_explain": "the premises of its rule",
     "spi_examples": "a test",
 }
 

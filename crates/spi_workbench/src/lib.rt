@@ -1,4 +1,6 @@
-//! What a bench answers: its first refusal, or a verdict after each edit.
+//! What a bench answers, defined in `specs/Answers.antt`, and its parts: how many nodes its heading and its edits have, the work
+//! before any edit, and the edits in order, each with its verdict, up to the first that is refused. The call that puts these
+//! together isn't there yet.
 #![tactic(auto)]
 
 mod answer;
@@ -10,7 +12,9 @@ mod placing;
 mod sizes;
 
 pub use answer::{Answer, Refusal, Verdicts};
-pub use bench::judge_edits;
+pub use bench::start;
+pub use counting::{Counted, count_bench};
+pub use judging::{Work, judge_all};
 use std::alloc::AllocError;
 
 /// Memory ran out.

@@ -1,7 +1,7 @@
 use Rattle.std.proofs.Common.{arith}
 use Rattle.spi_term.specs.Spelling.{spelled}
 use Rattle.spi_scope.specs.Files.{meant}
-use Rattle.spi_workbench.proofs.Starting.{small_types, enough, few_names, many_types, are_over}
+use Rattle.spi_workbench.proofs.Starting.{small_types, enough, few_names, many_types, are_over, is_first}
 use Rattle.spi_workbench.proofs.bench.first_bench.Goals as goal
 
 pub types_before-requires : goal.types_before-requires
@@ -22,3 +22,7 @@ new-requires-clause-over c =
 pub new-requires-clause-small : goal.new-requires-clause-small
 new-requires-clause-small c =
     small_types c.in_ok-types.types.items (spelled c.args.file.now.process.names c.args.file.now.process.process) c.args.news c.in_ok-types.ensures c.len-nodes.ensures.small.parts
+
+pub returns : goal.returns
+returns c b p s n =
+    is_first b p (meant c.args.file.now) s c.args.news n c.in_ok-types.types.items c.in_ok-types.ensures c.names.result c.in_ok-bench.bench c.names.ensures c.in_ok-bench.ensures
