@@ -199,13 +199,15 @@ def what_is_known_is_certified(ask, data):
 def keys_stay_unknown(ask, data):
     """After a yes, no name that is made at a Key type along the schedule is known."""
     canonical, status = ask.print(data)
-    if status != YES or ask.check(data)[1] != YES or ask.replay(data)[1] == REFUSED:
+    if status != YES or ask.replay(data)[1] == REFUSED:
         return UNASKED
+    if ask.check(data)[1] != YES:
+        return None
     keys = run_of(canonical.decode())[2]
     for name in keys[:3]:
         if ask.words(["knows", str(name)], data)[1] == YES:
             return f"the key {name} is known after a yes"
-    return None if keys else UNASKED
+    return None
 
 
 def a_play_is_replayed(ask, data):
