@@ -19,8 +19,8 @@ use std::alloc::Global;
 use std::marker::Model;
 use std::sync::ledger::Ledger;
 
-/// Parts of a protocol by name over shared names, with what the verdict of their whole needs: how often each atom that is
-/// asked for stands in their least effects, and how many parts have none.
+/// Parts of a protocol by name over shared names, with what the verdict of their whole needs: how often their least effects
+/// have a `check` of each shared name, how many other atoms they have, and how many parts have none.
 pub struct Bench {
     alloc: Global,
     judge: Judge,

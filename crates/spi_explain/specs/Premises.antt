@@ -11,7 +11,8 @@ abbrev pub leaf_premises : Leaf → List Question
 leaf_premises (Sends m n) = typed m un ∷ typed n un ∷ []
 leaf_premises Stops = []
 
--- Where two rules are for a form, the typed one and that for untrusted parts, the premises of the typed one come first
+-- Where two rules are for a form, the typed one and that for untrusted parts, the premises of the typed one come first. The
+-- rule for a `check` of a nonce asks for any Nonce type, so that is none of these
 abbrev pub prefix_premises : Prefix → List Question
 prefix_premises (Recvs m t) = typed m un ∷ []
 prefix_premises (Serves m t) = typed m un ∷ []

@@ -18,7 +18,7 @@ use spi_count::{Keys, keep_message};
 use spi_infer::{Noted, Steps, own_notes};
 use spi_message::Judge;
 use spi_term::{Atom, Msg, Process};
-use std::alloc::{AllocError, Global};
+use std::alloc::Global;
 use std::marker::Brand;
 use std::sync::ledger::{Blank, Ledger};
 
@@ -60,7 +60,7 @@ fn key_of_message(judge: &mut Judge, keys: &mut Keys, m: &Msg) -> Result<u64, No
     let id = keep_message(judge, keys, m)?;
     match keys.key(id) {
         Some(key) => Ok(key),
-        None => Err(AllocError),
+        None => unreachable!(),
     }
 }
 
