@@ -1,11 +1,12 @@
 #!/usr/bin/env python3
-"""Times `cryptyc verify`, `replay`, `knows`, `play`, `print`, `upgrade` and `load` on files, and on the same files doubled.
+"""Times `cryptyc verify`, `replay`, `knows`, `play`, `print`, `upgrade`, `narrate` and `load` on files, and on the same files
+doubled; and `bench` with one small part that is put again and again beside a part of three sizes.
 
 Usage: bench/runs.py [--program FILE] [--runs N] [--only WORD] [--part N]. Without --program it takes the proved build,
 crates/cryptyc/out/cryptyc. With --part it takes an Nth of each size, for a slower build. It prints a line for each
 workload: bytes of the doubled file, the least processor time of the smaller and of the doubled file, and how much longer
 the doubled one takes. The times hold reading, parsing and resolving too. The derivations of `verify` are those that
-`derive` prints, or repeat ProcSub.
+`derive` prints, or repeat ProcSub. For `bench` the line has the time of all puts behind the first one, for each size.
 """
 
 import os
@@ -111,6 +112,14 @@ def played_channels():
     return f"free {names(230)};\nprocess stop {parts}\nopponent stop\n"
 
 
+def narrated(n):
+    """A narration of so many lines, at most 200, by 8 roles that pass a message on, with labels of 190 nodes."""
+    label = "(" + ", ".join(["a"] * 95) + ")"
+    lines = [f"R{i % 8} to R{(i + 1) % 8} on net: {label} as x{i};\n" if i % 2 else f"R{i % 8}: begin {label};\n"
+             for i in range(n)]
+    return "free a, net;\nroles R0, R1, R2, R3, R4, R5, R6, R7;\n" + "".join(lines)
+
+
 def workloads(program):
     yield "verify: handshakes", 250, lambda n: (["verify"], derived(program, sessions(n)))
     yield "verify: chains of begins and ends", 40, lambda n: (["verify"], derived(program, chains(n)))
@@ -130,12 +139,34 @@ def workloads(program):
         yield f"{word}: handshakes", 245, lambda n: ([word], sessions(n))
     yield "print: free names", 45000, lambda n: (["print"], named([f"v{i}" for i in range(n)]))
     yield "upgrade: free names", 45000, lambda n: (["upgrade"], named(["hash", *(f"hash_{i}" for i in range(n - 1))]))
+    yield "narrate: lines of eight roles", 100, lambda n: (["narrate"], narrated(n))
     yield "load: sessions", 250, lambda n: (["load", str(n)], "")
 
 
 def named(names):
     """A file with these free names, of which `print` and `upgrade` have to find the number or the spelling of a new one."""
     return f"free {', '.join(names)}; process new (x: Un); out {names[0]} x"
+
+
+def beside(nodes, puts):
+    """A bench with a part of so many nodes, and then so many puts of one part of 10 nodes."""
+    large = "inp n0 (x: Un); begin n0; end n0; out n0 n0"
+    rows = [f"({' | '.join([large] * 250)})"] * (nodes // 2750)
+    rest = (nodes - 2750 * len(rows)) // 11
+    rows += [f"({' | '.join([large] * rest)})"] if rest > 1 else []
+    return (f"free n0;\nput A {{ {' | '.join(rows)} }}\n" + "put B { inp n0 (x: Un); begin n0; end n0; out n0 n0 }\n" * puts)
+
+
+def time_bench(program, runs, part):
+    """The time of 999 puts of a small part beside a large one, by the size of that one."""
+    puts, spent = 999 // part, []
+    for nodes in (1000, 10000, 90000):
+        first, _ = timed(program, ["bench"], beside(nodes // part, 0), runs)
+        every, said = timed(program, ["bench"], beside(nodes // part, puts), runs)
+        spent.append(every - first)
+        print(f"bench: {puts} puts of a part of 10 nodes beside one of {nodes // part}: {every - first:.3f} s, and {first:.3f} s "
+              f"for the first; {said}", flush=True)
+    print(f"bench: the longest of these takes {max(spent) / min(spent):.2f} times the shortest", flush=True)
 
 
 def timed(program, words, text, runs):
@@ -172,6 +203,8 @@ def main():
         twice, said_twice = timed(program, *large, asked.runs)
         print(f"{name}: {size} and {2 * size}, {len(small[1])} and {len(large[1])} bytes: {once:.3f} s and {twice:.3f} s, "
               f"{twice / once:.1f} times; {said}; {said_twice}", flush=True)
+    if asked.only in "bench: puts beside a large part":
+        time_bench(program, asked.runs, asked.part)
 
 
 if __name__ == "__main__":

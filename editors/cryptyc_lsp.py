@@ -1,7 +1,8 @@
 #!/usr/bin/env python3
 """cryptyc_lsp.py [--limit SECONDS] [PROGRAM]: a language server for Cryptyc, over standard input and output.
 
-- Diagnostics: `check` runs at each change, and its no or refusal stands at its place.
+- Diagnostics: `check` runs at each change, and its no or refusal stands at its place. On a narration, a file that ends in
+  .nar, it's `narrate` that runs.
 - Hover on that place: the section of docs/reasons.md for its number.
 - Definition: the binder of a name, and the declaration of a type. This works in files that aren't finished.
 - Formatting: the text of `print`, where the file has no comments. `print` drops comments, so a file with some stays as
@@ -106,8 +107,43 @@ class Walk:
                     self.takes(")")  # one too many
             elif self.word() in ("schedule", "derivation"):
                 break
+            elif self.takes("shared"):
+                free = self.bound(free, self.annotation(free))
+            elif self.takes("roles"):
+                self.narration(free)
             else:
                 self.take()
+
+    def narration(self, scope):
+        """Behind the word `roles`: the roles, and the lines, each in the scope of its role."""
+        roles = {}
+        while self.kind() == "word":
+            _, word, at = self.take()
+            self.binder[at] = roles.setdefault(word, at)
+            self.takes(",")
+        scopes = {role: scope for role in roles}
+        while self.kind():
+            if self.kind() != "word":
+                self.take()
+                continue
+            role = self.word()
+            self.use(roles)
+            if self.takes("to"):
+                self.passes(role, roles, scopes)
+            elif self.takes(":") and self.word() in FORMS:
+                scopes[role] = self.form(self.take()[1], scopes.get(role, scope), [])
+
+    def passes(self, role, roles, scopes):
+        """Behind the word `to`: who gets a message, on which channel, and what it's called there."""
+        other = self.word()
+        if self.kind() == "word":
+            self.use(roles)
+        if self.takes("on"):
+            self.message(scopes.get(role, {}))
+        self.takes(":")
+        self.message(scopes.get(role, {}))
+        if self.takes("as") and self.kind() == "word":
+            scopes[other] = self.bound(scopes.get(other, {}), self.take())
 
     def kind(self):
         return self.tokens[self.at][0] if self.at < len(self.tokens) else None
@@ -323,9 +359,9 @@ class Checker:
             return f"the checker failed with status {running.returncode}: {complaint[-400:] or said}", None
         return said, running.returncode
 
-    def diagnostics(self, text):
-        said, _ = self.run("check", text.text)
-        if said == "yes":
+    def diagnostics(self, text, address):
+        said, status = self.run("narrate" if address.endswith(".nar") else "check", text.text)
+        if status == 0:
             return []
         answer, start, end, code = ANSWER.match(said), 0, 0, {}
         if answer:
@@ -365,7 +401,7 @@ class Server:
         while True:
             address, asked = self.changed.get()
             if self.files.get(address) is asked:
-                found = self.checker.diagnostics(asked[0])
+                found = self.checker.diagnostics(asked[0], address)
                 if self.files.get(address) is asked:
                     self.publish(address, found, asked[1])
 

@@ -8,6 +8,7 @@ copies of examples/ and protocols/ and where ./cryptyc is the program; `$ echo $
 before it. Each command is a test, and so is that some command of the document names the file of each `spi` block.
 A row of a table that begins with a link to an .spi file has what `check` answers to that file in its second cell, and
 that is a test too; and so is that all wrong files of such a folder have a row (NAME.mended.spi is no wrong file).
+That each link to a file of the repository leads to one, and to a heading of it where it names one, is a test too.
 `--program FILE`, once or more often, gives the programs. A command may take ten seconds.
 That docs/reports.md quotes the usage line is a test too. The last line is 'N passed, M failed'."""
 
@@ -141,6 +142,39 @@ def results_of(path, program):
         yield None if any(name in command for command in commands) else (first, f"no command names {name}")
 
 
+def text_of(path):
+    """The lines of a document, empty in the place of fenced ones."""
+    inside, lines = False, []
+    with open(path, encoding="utf-8") as file:
+        for line in file.read().split("\n"):
+            fence = line.startswith(FENCE)
+            lines.append("" if inside or fence else line)
+            inside ^= fence
+    return lines
+
+
+def anchors_of(path):
+    """What a link may name of a document: its headings in small letters, with hyphens and without other marks."""
+    headings = [line.lstrip("# ").lower() for line in text_of(path) if line.startswith("#")]
+    return {re.sub(r"[^\w -]", "", re.sub(r"\]\([^)]*\)", "", heading)).replace(" ", "-") for heading in headings}
+
+
+def link_results(path):
+    """For each link of a document None where it leads somewhere, and else the number of its line and what is wrong."""
+    for number, line in enumerate(text_of(path), 1):
+        for target in re.findall(r"\]\(([^)\s]+)\)", line):
+            name, _, anchor = target.partition("#")
+            file = os.path.normpath(f"{os.path.dirname(path)}/{name}") if name else path
+            if re.match(r"\w+:", target):
+                continue
+            if not os.path.exists(file):
+                yield number, f"the link leads to no file: {target}"
+            elif anchor and file.endswith(".md") and anchor not in anchors_of(file):
+                yield number, f"the link leads to no heading: {target}"
+            else:
+                yield None
+
+
 def quotes_usage():
     """Whether the table of reports has the usage line, where a bar is written behind a backslash."""
     with open(f"{ROOT}/docs/reports.md", encoding="utf-8") as file:
@@ -154,14 +188,14 @@ def main():
     passed, failed = (1, 0) if quotes_usage() else (0, 1)
     if failed:
         print("docs/reports.md doesn't quote the usage line")
-    for program in asked.program:
-        for path in documents():
-            for wrong in itertools.chain(results_of(path, program), row_results(path, program)):
-                if wrong is None:
-                    passed += 1
-                else:
-                    failed += 1
-                    print(f"{os.path.relpath(path, ROOT)}:{wrong[0]}: {wrong[1]}")
+    for path in documents():
+        runs = [it(path, program) for program in asked.program for it in (results_of, row_results)]
+        for wrong in itertools.chain(link_results(path), *runs):
+            if wrong is None:
+                passed += 1
+            else:
+                failed += 1
+                print(f"{os.path.relpath(path, ROOT)}:{wrong[0]}: {wrong[1]}")
     print(f"{passed} passed, {failed} failed")
     return 1 if failed or not passed else 0
 

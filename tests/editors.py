@@ -151,7 +151,7 @@ def test_extension():
     language, grammar = contributes["languages"][0], contributes["grammars"][0]
     named = [package["main"], language["configuration"], grammar["path"]]
     expect("the extension's files", all(os.path.isfile(f"{folder}/{name}") for name in named))
-    expect("the extension's language", language["id"] == grammar["language"] and language["extensions"] == [".spi"])
+    expect("the extension's language", language["id"] == grammar["language"] and language["extensions"] == [".spi", ".nar"])
     scope = json.loads(read("editors/vscode/syntaxes/cryptyc.tmLanguage.json"))["scopeName"]
     expect("the extension's scope", scope == grammar["scopeName"])
     configuration = json.loads(read("editors/vscode/language-configuration.json"))
@@ -297,19 +297,19 @@ class Client:
                 return {}
             self.notes.append(message)
 
-    def open(self, text, name="a"):
-        file = {"uri": f"file:///{name}.spi", "languageId": "cryptyc", "version": 1, "text": text}
+    def open(self, text, name="a", ending=".spi"):
+        file = {"uri": f"file:///{name}{ending}", "languageId": "cryptyc", "version": 1, "text": text}
         self.note("textDocument/didOpen", textDocument=file)
-        return self.found(1, name)
+        return self.found(1, name, ending)
 
     def change(self, text, version, name="a"):
         file = {"uri": f"file:///{name}.spi", "version": version}
         self.note("textDocument/didChange", textDocument=file, contentChanges=[{"text": text}])
         return self.found(version, name)
 
-    def found(self, version, name="a"):
+    def found(self, version, name="a", ending=".spi"):
         def holds(params):
-            return (params["uri"], params.get("version")) == (f"file:///{name}.spi", version)
+            return (params["uri"], params.get("version")) == (f"file:///{name}{ending}", version)
         return self.wait("textDocument/publishDiagnostics", holds).get("diagnostics")
 
     def at(self, method, line, character, name="a"):
@@ -369,6 +369,12 @@ def test_diagnostics(program):
     client.running.stdin.write(b"Content-Length: none\r\n\r\nContent-Length: 2\r\n\r\n[]Content-Length: 3\r\n\r\n{?}")
     client.note("textDocument/didChange", textDocument={})
     expect("server: it stays", client.open(good, "b") == [])
+    told_run = read("protocols/wide_mouthed_frog/honest.nar")
+    expect("server: a narration", client.open(told_run, "n", ".nar") == [])
+    broken = told_run.replace("B: check nb is q;", "B: check kbs is q;")
+    line = broken[:broken.index("B: check kbs")].count("\n")
+    got = told(client.open(broken, "o", ".nar"))
+    expect("server: a line that isn't ready", got == [(102, "refused: 102 LineNotReady", span(line, 0, 1))], f"{got}")
     expect("server: shutdown", client.end() == 0)
 
 
@@ -388,6 +394,7 @@ def utf16(text, at):
     return text.count("\n", 0, at), len(text[text.rfind("\n", 0, at) + 1:at].encode("utf-16-le")) // 2
 
 
+WORDS_OF_PARTS = ("act", "talk", "shared", "roles", "to", "on", "as")
 DEFINITIONS = [  # ‹ stands before a binder, › before a use of it
     "free ‹a, b; process out ›a b",
     "free a, ‹b; process inp a (x: Un); out a ›b",
@@ -426,6 +433,15 @@ DEFINITIONS = [  # ‹ stands before a binder, › before a use of it
     "free ‹net, process new (k: Un) out ›net",
     "free net; process ((new (‹k: Un); out net (k, ; out net ›k",
     "type ‹T = (x: Un; process new (x: Key(›T",
+    "free net; shared ‹k: Key(Un); shared n: Nonce [check ›k]; roles A;",
+    "free net; roles A, ‹B; A: new (x: Un); ›B: new (x: Un);",
+    "free net; roles ‹A, B; B to ›A on net: net as x;",
+    "free ‹net; roles A, B; A: new (net: Un); B to A on ›net: () as x;",
+    "free net; roles A, B; A: new (‹x: Un); B: new (x: Un); A: check net is ›x;",
+    "free net; roles A, B; A: new (‹x: Un); A to B on net: (›x, x) as x;",
+    "free net; roles A, B; A: new (x: Un); A to B on net: x as ‹x; B: check ›x is x;",
+    "shared ‹k: Key(Un); roles A; A: decrypt k is {k: Un}›k;",
+    "free net; roles A, B; A: new (‹x: Un); A to B on net: (x, ; A: check ›x",
     "free ‹a; process new (x: Un); ) ›a",
 ]
 
@@ -459,7 +475,7 @@ def test_walk():
         if name not in EXTRA and (not name.startswith("examples/mistakes/") or name.endswith(".mended.spi")):
             walk = cryptyc_lsp.Walk(text)
             missing = [word for kind, word, at in cryptyc_lsp.tokens_of(text)
-                       if kind == "word" and at not in walk.binder and word not in ("act", "talk")]
+                       if kind == "word" and at not in walk.binder and word not in WORDS_OF_PARTS]
             expect(f"definition: all names of {name}", not missing, f"{missing}")
     text = read("examples/nonce_handshake.spi")
     try:
@@ -620,6 +636,13 @@ def test_sarif(room, program):
     expect("sarif: what rules say", all(len(it["fullDescription"]["text"]) > 25 for it in rules), f"{rules}")
     expect("sarif: no links in plain text", not any("](" in it["fullDescription"]["text"] for it in rules))
     expect("sarif: columns are characters", log["columnKind"] == "unicodeCodePoints")
+    os.makedirs(f"{room}/told")
+    for name, text in (("told.nar", "free net; roles A; A: new (x: Un);"), ("wrong.nar", "free a, b; roles A;\nA: check a is b;")):
+        with open(f"{room}/told/{name}", "w", encoding="utf-8") as file:
+            file.write(text)
+    ran = run([*sarif, "--lines", "told"], cwd=room)
+    wanted = "told/wrong.nar:2:1: error: refused: 102 LineNotReady\n"
+    expect("sarif: narrations", (ran.returncode, ran.stdout) == (1, wanted), ran.stdout + ran.stderr)
     ran = run([*sarif, "--output", f"{room}/out.sarif", f"{ROOT}/examples/nonce_handshake.spi"])
     with open(f"{room}/out.sarif", encoding="utf-8") as file:
         written = file.read()
@@ -648,7 +671,7 @@ def test_sarif(room, program):
 # Completions, man pages, installing and packing
 
 def test_completions():
-    commands = set("check derive verify replay play print upgrade load knows".split())
+    commands = set("check derive verify replay play print upgrade narrate load knows bench".split())
     for shell, name in [("bash", "cryptyc.bash"), ("zsh", "_cryptyc"), ("fish", "cryptyc.fish")]:
         path = f"tools/completion/{name}"
         expect(f"completion: the words for {shell}", all(word in read(path) for word in commands))
@@ -673,7 +696,7 @@ def test_man():
     expect("man: both pages", len(pages) == 2)
     usage = set(re.findall(r"^  (\w+) ", run(["bash", f"{ROOT}/cryptyc", "--help"]).stdout, re.M))
     page = read("man/cryptyc.1")
-    missing = [word for word in usage if not re.search(rf"^\.(B|BI) \"?{word}\b", page, re.M)]
+    missing = [word for word in usage if not re.search(rf"^\.(B|BI|BR) \"?{word}\b", page, re.M)]
     expect("man: all commands", usage and not missing, f"{missing}")
     numbers = set(re.findall(r"^## (\d+) (\w+)", read("docs/reasons.md"), re.M))
     expect("man: all reasons", all(f"{number} {name}" in page for number, name in numbers))

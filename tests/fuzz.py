@@ -4,7 +4,8 @@
 A file is made along the rules of typing, so that it's a yes; or so with a slip, or changed in a form or two; or is of any shape
 that the grammar has; or is one of protocols/ and examples/, changed; or is large or deep. Some are then damaged by tokens,
 by bytes, or in a derivation that `derive` has printed. Each is put to the laws of tests/fuzzing/laws.py. Beside each yes
-and each no, opponents and schedules are made that step as far as they can: after a yes none of them may be an attack.
+and each no, opponents and schedules are made that step as far as they can: after a yes none of them may be an attack. With
+each file goes a narration of its own, which is told, or has a slip, or is damaged (tests/fuzzing/narrated.py).
 
 What breaks a law is made smaller, shown, and kept as target/fuzz-SEED-N.spi. A file is made from the seed and its number
 alone, so `--file SEED:NUMBER` makes that one again, and shows it. At the end, and where it's interrupted, the shares of
@@ -22,7 +23,7 @@ import resource
 import sys
 import time
 
-from fuzzing import attacks, damage, laws, shrinking, terms, typed, wild, writing
+from fuzzing import attacks, damage, laws, narrated, shrinking, terms, typed, wild, writing
 from given import ROOT, end_with, kept
 
 DEEP = 50_000  # calls in calls: a process may be nested 500 deep, and each level takes a few
@@ -31,7 +32,8 @@ SHRINKING = 30  # seconds
 SHOWN = 4000  # bytes
 MADE_BY_THE_RULES = "what is made by the rules is a yes"
 GOES_THROUGH = "a schedule that is made goes through"
-NAMES = [MADE_BY_THE_RULES, GOES_THROUGH, *(law.__name__ for law in laws.LAWS)]
+TOLD_BY_THE_RULES = "what is told by the rules is told, and a yes"
+NAMES = [MADE_BY_THE_RULES, GOES_THROUGH, TOLD_BY_THE_RULES, *(law.__name__ for law in [*laws.LAWS, narrated.a_narration_is_run])]
 LONGER = 60  # seconds, where some law wasn't asked in the time that was given
 
 
@@ -41,7 +43,7 @@ class Fuzz:
     def __init__(self, program, seed):
         self.ask, self.seed, self.number = laws.Ask(program), seed, 0
         self.put, self.broken = collections.Counter(), collections.Counter()
-        self.answers, self.replays, self.steps = collections.Counter(), collections.Counter(), 0
+        self.answers, self.replays, self.told, self.steps = *(collections.Counter() for _ in range(3)), 0
         paths = glob.glob(f"{ROOT}/protocols/*/*.spi") + glob.glob(f"{ROOT}/examples/**/*.spi", recursive=True)
         self.protocols = [read(path) for path in sorted(paths)]
 
@@ -167,6 +169,19 @@ class Fuzz:
         self.hold(laws.a_yes_has_no_attack, data)
         self.hold(laws.a_shorter_schedule_has_fewer_events, data)
 
+    # narrations
+
+    def narrate(self, rng):
+        """A narration, put to its law."""
+        data, is_told = narrated.made(rng)
+        text, status = self.ask.words(["narrate"], data)
+        self.told[{laws.YES: "told", laws.REFUSED: "refused"}.get(status, "neither")] += 1
+        if is_told:
+            checked = self.ask.check(text)
+            holds = (status, checked) == (laws.YES, (b"yes\n", laws.YES))
+            self.require(TOLD_BY_THE_RULES, holds, f"narrate writes {text[:200]!r}, and check {checked[0]!r}", data)
+        self.hold(narrated.a_narration_is_run, data)
+
     # the run
 
     def one(self, number):
@@ -184,6 +199,7 @@ class Fuzz:
             self.hold(law, data)
         if status in (laws.YES, laws.NO) and len(data) < 20_000:
             self.attack(rng, data)
+        self.narrate(rng)
         return data
 
     def table(self):
@@ -195,6 +211,7 @@ class Fuzz:
         for judged in ("a yes", "a no"):
             paid, unpaid, ends = (self.replays[judged, it] for it in ("paid", "unpaid", "with an end"))
             yield f"replays beside {judged}: {paid + unpaid}, {ends} of them with an end; unpaid: {unpaid}"
+        yield f"narrations told: {self.told['told']}, refused: {self.told['refused']}"
         yield f"steps scheduled: {self.steps}; runs of the program: {self.ask.runs}"
 
     def end(self):

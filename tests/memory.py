@@ -33,11 +33,27 @@ SECONDS = 20
 READ_FAULT, WRITE_FAULT, NO_MEMORY = 3, 4, 5
 DEVICE, INTERRUPTED = "5", "4"
 
+TOLD = """free a, b, net;
+shared k: Key((m: Un, n: Nonce [end (a, b, m)]));
+roles A, B;
+B: new (n: Un);
+B to A on net: n as q;
+A: new (m: Un);
+A: begin (a, b, m);
+A: cast q is (p: Nonce [end (a, b, m)]);
+A to B on net: {(m, p)}k as c;
+B: decrypt c is {x: (m: Un, n: Nonce [end (a, b, m)])}k;
+B: split x is (m: Un, p: Nonce [end (a, b, m)]);
+B: check n is p;
+B: end (a, b, m);
+"""
 HONEST = """opponent stop
 schedule act 0; act 0; act 2; act 2; talk 2 0; act 0; act 0; act 0; talk 0 3; act 3; act 3; act 3; act 3;
 """
 TWO_BEGINS = "free a; process begin a; begin a; stop opponent stop"
 LEAK = "free a; process new (k: Key(Un)); out a k opponent inp a (x: Un); stop schedule act 0; talk 0 1;"
+BENCH = """free a, net; shared k: Key(Un); put A { out net {a}k } put B { end a; stop } drop B; put B { out net k }
+put B { inp net (x: Un); stop }"""
 RESERVED = "free hash, many, endmany; process new (x: Un); out hash (many, endmany, x) | inp hash (y: Un); stop"
 
 # What runs: its title, the words, and the text of the file, where one is read. A command that comes to the program (of
@@ -51,11 +67,14 @@ RUNS = [
     ("`replay`, the handshake with its honest run", ["replay"], HANDSHAKE + HONEST),
     ("`knows 3`, the handshake with its honest run", ["knows", "3"], HANDSHAKE + HONEST),
     ("`knows 1`, a key that is sent", ["knows", "1"], LEAK),
+    ("`bench`, five edits", ["bench"], BENCH),
     ("`play --steps 9`, two begins", ["play", "--steps", "9"], TWO_BEGINS),
     ("`play --steps 40`, the handshake", ["play", "--steps", "40"], HANDSHAKE + "opponent stop"),
     ("`print`, the handshake with its honest run", ["print"], HANDSHAKE + HONEST),
     ("`upgrade`, names that version 2 reserves", ["upgrade"], RESERVED),
     ("`load 3`", ["load", "3"], ""),
+    ("`narrate`, the handshake", ["narrate"], TOLD),
+    ("`narrate`, a line that isn't ready", ["narrate"], TOLD.replace("check n is", "check k is")),
     ("words that are no command", ["check", "now"], ""),
 ]
 

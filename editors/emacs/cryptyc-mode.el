@@ -7,7 +7,7 @@
 
 ;;; Commentary:
 
-;; A major mode for files of Cryptyc, which end in .spi: colours, comments, indentation, and `C-c C-c' to check.
+;; A major mode for files of Cryptyc, which end in .spi or .nar: colours, comments, indentation, and `C-c C-c' to check.
 ;; Where Eglot is there (Emacs 29 has it), `M-x eglot' starts the language server cryptyc-lsp.
 
 ;;; Code:
@@ -101,11 +101,12 @@
       (back-to-indentation))))
 
 (defun cryptyc-check ()
-  "Check the file of this buffer, and show the answer."
+  "Check the file of this buffer, or tell the narration in it, and show the answer."
   (interactive)
   (save-buffer)
-  (compile (format "echo %s: $(%s check < %s)" (shell-quote-argument (file-relative-name buffer-file-name))
-                   cryptyc-program (shell-quote-argument buffer-file-name))))
+  (compile (format "echo %s: $(%s %s < %s)" (shell-quote-argument (file-relative-name buffer-file-name))
+                   cryptyc-program (if (string-suffix-p ".nar" buffer-file-name) "narrate" "check")
+                   (shell-quote-argument buffer-file-name))))
 
 (defvar cryptyc-mode-map
   (let ((map (make-sparse-keymap)))
@@ -128,7 +129,7 @@
 (add-to-list 'compilation-error-regexp-alist 'cryptyc)
 
 ;;;###autoload
-(add-to-list 'auto-mode-alist '("\\.spi\\'" . cryptyc-mode))
+(add-to-list 'auto-mode-alist '("\\.\\(?:spi\\|nar\\)\\'" . cryptyc-mode))
 
 (defvar eglot-server-programs)
 (with-eval-after-load 'eglot

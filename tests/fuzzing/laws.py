@@ -35,6 +35,9 @@ COMMANDS = {
     "print": (["print"], {YES, REFUSED}, rb"(version 2;\n)?(free [^\n]*;\n)?process .*\n"),
     "upgrade": (["upgrade"], {YES, REFUSED}, rb"version 2;\n(free [^\n]*;\n)?process .*\n"),
 }
+# And each command on another text, of which a file is seldom one.
+ON_OTHER_TEXTS = {"bench": (["bench"], {YES, NO, REFUSED}, rb"(\d+ (yes|no)\n)*")}
+VERDICTS = re.compile(rb"(\d+ (yes|no)\n)*")
 PLAYS = [["play", "--steps", "9", *who] for who in ([], ["--player", "0"], ["--player", "1"], ["--player", "2"])]
 UNKNOWN = re.compile(rb"unknown: #\d+\n")
 UNPAID = re.compile(rb"(\d+ (begin|end|endmany) [^\n]*\n)*unpaid at \d+\n")
@@ -99,9 +102,10 @@ def is_missing(answer, part):
 
 def every_call_ends(ask, data):
     """Each command has an answer: a status of its own, the line or text of that status, and nothing on standard error."""
-    for name, (words, statuses, yes) in COMMANDS.items():
+    noes = {"replay": UNPAID, "knows": UNKNOWN, "bench": VERDICTS}
+    for name, (words, statuses, yes) in {**COMMANDS, **ON_OTHER_TEXTS}.items():
         text, status = ask.words(words, data)
-        forms = {YES: re.compile(yes, re.S), NO: {"replay": UNPAID, "knows": UNKNOWN}.get(name, LINE_OF_NO), REFUSED: LINE_OF_REFUSAL}
+        forms = {YES: re.compile(yes, re.S), NO: noes.get(name, LINE_OF_NO), REFUSED: LINE_OF_REFUSAL}
         if status not in statuses or not forms[status].fullmatch(text):
             return f"{name} has status {status} and writes {text[:200]!r}"
     return None
@@ -210,6 +214,56 @@ def keys_stay_unknown(ask, data):
     return None
 
 
+def ends_at(text, at, stop):
+    """The index from `at` on of a text outside of all brackets, or the length."""
+    depth = 0
+    while at < len(text) and (depth or not text.startswith(stop, at)):
+        depth += {"(": 1, "{": 1, "[": 1, ")": -1, "}": -1, "]": -1}.get(text[at], 0)
+        at += 1
+    return at
+
+
+def benched(canonical):
+    """The heading and the parts of a bench whose whole is the process of a canonical file: its first `new`s are shared."""
+    heading, _, process = canonical.partition("process ")
+    process = re.split(r"\n(?:opponent|schedule|derivation)\b", process)[0].strip()
+    alone = ends_at(process, 0, "|") == len(process)
+    for _ in range(16):
+        if not (found := re.match(r"new \((\w+): ", process)) or not alone:
+            break
+        end = ends_at(process, found.end(), ")")
+        heading += f"shared {found[1]}: {process[found.end():end]};\n"
+        process = process[end:].removeprefix(");").strip()
+    if process.startswith("(") and ends_at(process, 1, ")") == len(process) - 1:
+        process = process[1:-1]
+    parts = []
+    while process:
+        end = ends_at(process, 0, "|")
+        parts.append(process[:end].strip())
+        process = process[end + 1:].strip()
+    return heading, parts
+
+
+def a_bench_says_what_check_says(ask, data):
+    """The whole of the parts of a file has the verdict of the file, whatever was put and dropped before. So has it where the
+    last part is put before the others. A part that isn't there is refused."""
+    text, status = ask.print(data)
+    if status != YES or ask.check(data)[1] == REFUSED:
+        return UNASKED
+    heading, parts = benched(text.decode())
+    if len(parts) > 300:
+        return UNASKED
+    puts = [f"put p{i} {{ {part} }}\n" for i, part in enumerate(parts)]
+    for edits in ([*puts, "put q { stop } drop q;\n"], [puts[-1], *puts[:-1], puts[0]]):
+        answer = ask.words(["bench"], (heading + "".join(edits)).encode())
+        if number_of(answer) in (21, 123):  # a part may nest deeper than in its file, and parts that are put again are counted twice
+            return UNASKED
+        if answer[1] != ask.check(data)[1]:
+            return f"check writes {ask.check(data)[0]!r}, and bench {answer[0][-200:]!r}"
+    refused = ask.words(["bench"], (heading + "".join(puts) + "drop none;").encode())
+    return None if number_of(refused) == 120 else f"bench writes {refused[0][-200:]!r} where a part is dropped that isn't there"
+
+
 def a_play_is_replayed(ask, data):
     """The text of a play replays behind its file; and who plays longer plays the same first."""
     if not is_missing(ask.replay(data), b"schedule") or not is_missing(ask.verify(data), b"derivation"):
@@ -304,5 +358,5 @@ def company_keeps_the_answer(ask, data):
 
 
 LAWS = [every_call_ends, refusals_agree, a_print_prints_itself, an_upgrade_keeps_answers, a_derivation_is_verified,
-        what_is_verified_is_checked, a_yes_has_no_attack, what_is_known_is_certified, keys_stay_unknown, a_play_is_replayed,
-        a_shorter_schedule_has_fewer_events, a_layout_means_nothing, company_keeps_the_answer]
+        what_is_verified_is_checked, a_yes_has_no_attack, what_is_known_is_certified, keys_stay_unknown, a_bench_says_what_check_says,
+        a_play_is_replayed, a_shorter_schedule_has_fewer_events, a_layout_means_nothing, company_keeps_the_answer]

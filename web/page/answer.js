@@ -7,6 +7,8 @@ const COMMANDS = [
   { name: 'verify', says: 'whether the derivation in the file proves its process' },
   { name: 'replay', says: 'the file’s schedule, run step by step beside its opponent' },
   { name: 'play', says: 'a schedule, as players pick its steps' },
+  { name: 'knows', says: 'whether an intruder knows a name at the end of that schedule, and how' },
+  { name: 'narrate', says: 'the file that a narration tells, with the schedule of its run' },
   { name: 'print', says: 'the file in canonical text' },
   { name: 'upgrade', says: 'the file in version 2' },
   { name: 'load', says: 'the counts of so many sessions of the handshake; it reads no file' },
@@ -16,6 +18,8 @@ const SAYS_YES = {
   verify: 'A yes says: the derivation in the file proves its process, whoever made it.',
   derive: 'Behind the file, this is what verify judges. Most of its lines name the rule of typing for one form of the process.',
   play: 'Behind the file, this is a schedule for replay. It shows one way in which the process may run, and no more.',
+  knows: 'Each line is a message that the intruder has: sent to it, or made or taken from those above. The last is the name.',
+  narrate: 'One session, and its run as the narration tells it. Names that aren’t free have new spellings.',
   print: 'Two files of the same meaning have the same canonical text. Comments are not in it.',
   upgrade: 'The same file in version 2, in canonical text. Comments are not in it.',
   load: 'Nodes of the file, rules of its derivation, and its verdict.',
@@ -43,7 +47,7 @@ function button(words, done) {
 class Answer {
   constructor(root, page) {
     this.root = root;
-    this.page = page; // it has reasons, put(part, text, command), replace(text), choose(command) and select(from, to)
+    this.page = page; // it has reasons, put(part, text, command), replace(text), choose(command, isAsked) and select(from, to)
     this.all = false;
   }
 
@@ -93,11 +97,16 @@ class Answer {
     const fault = faultOf(outcome);
     if (fault && fault.number === 38) return this.supplies(command, fault);
     if (outcome.status !== 0) return null;
-    const { put, replace } = this.page;
+    const { put, replace, choose } = this.page;
     const { output } = outcome;
+    const shown = () => {
+      choose('replay', false);
+      replace(output);
+    };
     const them = {
       derive: [button('Put it behind the file, and verify', () => put('derivation', output, 'verify'))],
       play: [button('Put it behind the file, and replay', () => put('schedule', output, 'replay'))],
+      narrate: [button('Put it in place of the narration, and replay', shown)],
       print: [button('Put it in place of the file', () => replace(output))],
       upgrade: [button('Put it in place of the file', () => replace(output))],
     }[command];

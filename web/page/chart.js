@@ -7,6 +7,7 @@ const MARGIN = 40;
 const LETTER = 7.25;
 const LETTERS = 72; // of a line; more are cut off, and told where the pointer is
 const HEIGHTS = { heading: 30, talk: 36, made: 62, mark: 22 };
+const NAME = 19; // letters of a role's name in its box
 const ROWS = 1000; // are drawn at most
 const MARKED = new Set(['new', 'begin', 'end', 'endmany']);
 
@@ -24,10 +25,11 @@ function placesOf(role) {
   return others ? `places ${others} and ${last}` : `place ${last}`;
 }
 
-// What a role is called: by the comment in front of its process, or by what is written there, or by its place.
+// What a role is called: by the comment in front of its process, or by what is written there, or by its place. Of a
+// comment too long for a box, the part in front of its first mark is taken.
 function nameOf(role) {
   if (role.isOpponent) return 'opponent';
-  if (role.label) return role.label;
+  if (role.label) return role.label.length > NAME ? role.label.split(/[.,:;]/)[0] : role.label;
   if (role.serves) return role.serves;
   return role.number === 0 ? 'process' : `place ${role.places[0]}`;
 }
@@ -141,7 +143,7 @@ class Chart {
     const name = nameOf(role);
     const lines = [drawn('title', {}, `${name}, ${placesOf(role)}`)];
     [name, placesOf(role)].forEach((words, index) => {
-      const short = words.length > 20 ? `${words.slice(0, 19)}…` : words;
+      const short = words.length > NAME ? `${words.slice(0, NAME - 1)}…` : words;
       lines.push(drawn('text', { x, y: top + 15 + 14 * index, class: index ? 'where' : 'who' }, short));
     });
     const kind = role.isOpponent ? 'lane opponent' : 'lane';

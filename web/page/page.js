@@ -27,7 +27,7 @@ class Page {
       it.title = says;
       byId('commands').append(it);
     }
-    for (const id of ['steps', 'player', 'sessions']) byId(id).addEventListener('input', () => this.ask());
+    for (const id of ['steps', 'player', 'known', 'sessions']) byId(id).addEventListener('input', () => this.ask());
     byId('open-library').addEventListener('click', () => this.library.open());
     byId('open-file').addEventListener('click', () => byId('file').click());
     byId('file').addEventListener('change', () => this.open(byId('file').files[0]));
@@ -57,6 +57,8 @@ class Page {
     for (const dialog of document.querySelectorAll('dialog[open]')) dialog.close(); // the text goes where the focus is
     this.title = title;
     this.fileName = name;
+    const asked = /^\/\/ knows (\d+):/m.exec(text); // in the library, of a new key
+    if (asked) [, byId('known').value] = asked;
     this.choose(command, false);
     this.isTaken = true;
     if (!this.editor.text) this.editor.reset(text);
@@ -91,8 +93,7 @@ class Page {
   choose(command, isAsked = true) {
     this.command = command;
     for (const it of byId('commands').children) it.setAttribute('aria-pressed', String(it.textContent === command));
-    byId('words-of-play').hidden = command !== 'play';
-    byId('words-of-load').hidden = command !== 'load';
+    for (const it of ['play', 'knows', 'load']) byId(`words-of-${it}`).hidden = command !== it;
     this.keepDraft();
     if (isAsked) this.ask();
   }
@@ -104,12 +105,14 @@ class Page {
 
   words() {
     if (this.command === 'load') return ['load', byId('sessions').value];
+    if (this.command === 'knows') return ['knows', byId('known').value];
     if (this.command !== 'play') return [this.command];
     const player = byId('player').value;
     return ['play', '--steps', byId('steps').value, ...(player ? ['--player', player] : [])];
   }
 
   // Asks for the check, and for the command that is pressed; an answer to a text that has changed meanwhile isn't shown.
+  // A narration is no file to check: where that command is pressed, its answer stands in the place of the check.
   async ask() {
     clearTimeout(this.timer);
     this.isWaiting = false;
@@ -118,12 +121,13 @@ class Page {
     const number = (this.asked = (this.asked || 0) + 1);
     const isOld = () => number !== this.asked;
     byId('verdict').setAttribute('aria-busy', 'true');
-    const check = await this.machine.run(['check'], text, 'check');
+    const first = command === 'narrate' ? command : 'check';
+    const check = await this.machine.run([first], text, 'check');
     if (!check || isOld()) return;
     this.faults = { check: faultOf(check), command: null };
-    this.showCheck(check, text);
+    this.showCheck(check, text, first);
     try {
-      if (command === 'check') this.answer.plain('check', check);
+      if (command === first) this.answer.plain(first, check);
       else await this.askCommand(command, text, isOld);
     } catch (error) {
       this.answer.show(element('p', { className: 'bad' }, `The answer can’t be shown: ${error.message}.`));
@@ -161,11 +165,12 @@ class Page {
     this.answer.run('replay', outcome, text, replayed, count);
   }
 
-  showCheck(check, text) {
+  showCheck(check, text, command) {
     const verdict = byId('verdict');
     verdict.removeAttribute('aria-busy');
     verdict.className = check.status === 0 ? 'good' : 'bad';
-    verdict.textContent = check.failure ? `there is no answer: ${check.failure}` : check.output.trim();
+    if (check.failure) verdict.textContent = `there is no answer: ${check.failure}`;
+    else verdict.textContent = command === 'narrate' && check.status === 0 ? 'a narration' : check.output.trim();
     this.showMarks(text);
   }
 
@@ -217,7 +222,8 @@ class Page {
   save() {
     const address = URL.createObjectURL(new Blob([this.editor.text], { type: 'text/plain' }));
     const name = (this.fileName || 'protocol.spi').replaceAll('/', '_');
-    element('a', { href: address, download: name.endsWith('.spi') ? name : `${name}.spi` }).click();
+    const ending = this.command === 'narrate' ? '.nar' : '.spi';
+    element('a', { href: address, download: /\.(spi|nar)$/.test(name) ? name : `${name}${ending}` }).click();
     setTimeout(() => URL.revokeObjectURL(address), 10000);
   }
 

@@ -1,5 +1,5 @@
 -- What is answered on a file.
-use Rattle.std.proofs.Common.{◌≡◌, ◌↔◌, ℕ, List, [], sym, subst, length, reverse, Option, Some, None, refl, Result, Ok, Err, IfOk, IsNone, ◌≤◌}
+use Rattle.std.proofs.Common.{◌≡◌, ◌↔◌, ℕ, List, [], sym, subst, length, reverse, Option, Some, None, refl, Result, Ok, Err, IfOk, IsNone, IsSome, ◌≤◌}
 use Rattle.spi_text.specs.declared.lines.Span.{Span}
 use Rattle.spi_scope.specs.declared.file.File.{File}
 use Rattle.spi_scope.specs.Files.{meant, Marked, marked}
@@ -55,3 +55,7 @@ none_derivable o x D e h d = absurd (let n : IsNone (Some x) = subst IsNone e (h
 
 pub some_derivable : {A : Type 0} (o : Option A) (D : Type 0) → IsNone o ↔ D → (D → ⊥) → o ≡ None → ⊥
 some_derivable o D h none e = none (h.0 (rw e refl))
+
+-- and where no derivation is given, there is none
+pub none_derived : {A : Type 0} (o : Option A) (D : Type 0) → o ≡ None → IsSome o ↔ D → D → ⊥
+none_derived {A} o D e h d = absurd (let n : IsSome {T = A} None = subst (λ (o : Option A). IsSome o) e (h.1 d) in cc n)

@@ -1,5 +1,5 @@
 -- What `derive` answers on a file.
-use Rattle.std.proofs.Common.{◌≡◌, ◌↔◌, ℕ, ◌+◌, ◌≤◌, List, [], ◌++◌, sym, subst, ap, ◌∙◌, length, length-append, Option, None, Result, Ok, Err, IfOk, IsSome, arith, inr}
+use Rattle.std.proofs.Common.{◌≡◌, ℕ, ◌+◌, ◌≤◌, List, [], ◌++◌, sym, subst, ap, ◌∙◌, length, length-append, Result, Ok, Err, IfOk, arith, inr}
 use Rattle.std.specs.Prelude.{codes}
 use Rattle.spi_scope.specs.declared.file.File.{File}
 use Rattle.spi_scope.specs.Files.{meant}
@@ -41,6 +41,3 @@ refused bytes f (Ok a) (tree, is, stands, marks) none h =
     let wanted : DerivesTo bytes No a.output.items = ((meant f, (tree, is, stands), none), h.1) in
     subst (λ s. DerivesTo bytes s a.output.items) (sym h.0) wanted
 refused bytes f (Err e) r none h = tt
-
-pub none_derived : {A : Type 0} (o : Option A) (D : Type 0) → o ≡ None → IsSome o ↔ D → D → ⊥
-none_derived {A} o D e h d = absurd (let n : IsSome {T = A} None = subst (λ (o : Option A). IsSome o) e (h.1 d) in cc n)

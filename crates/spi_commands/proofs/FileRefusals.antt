@@ -24,7 +24,7 @@ use Rattle.spi_report.specs.Names.{name_of}
 use Rattle.spi_commands.specs.declared.reading.Unread.{Unread}
 use Rattle.spi_commands.specs.declared.reading.Unread.TheVariants as unread
 use Rattle.spi_commands.specs.Reading.{IsUnreadBy, Tells}
-use Rattle.spi_commands.specs.Spelled.{IsTreeOf, SpellsNone}
+use Rattle.spi_commands.specs.Spelled.{limit, IsTreeOf, SpellsNone}
 use Rattle.spi_commands.specs.Refusals.{start_of, scope_number, IsUnlexed, IsUnparsed, IsUnscoped, Refuses, too_long, not_utf8, bad_char, bad_number, name_too_long, syntax, too_deep, out_of_scope}
 
 -- the way of lexemes goes through the bytes
@@ -99,7 +99,7 @@ refused_within at (inl h) = unlexed_within h
 refused_within at (inr (inl h)) = unparsed_within h
 refused_within at (inr (inr (tree, is, h))) = unscoped_within at is h
 
-scope_named : (fault : ScopeFault) → ¬ (fault ≡ scope.NoMemory) → IsSome (name_of (scope_number fault))
+pub scope_named : (fault : ScopeFault) → ¬ (fault ≡ scope.NoMemory) → IsSome (name_of (scope_number fault))
 scope_named (scope.UnknownName s w) n = refl
 scope_named (scope.UnknownType s w) n = refl
 scope_named (scope.NameTwice s w) n = refl
@@ -139,7 +139,7 @@ spells_kinds e (cell k deep ∷ ps) [] h = absurd h
 spells_kinds e (cell k deep ∷ ps) (tok ∷ ts) h = ap (λ l. k ∷ l) (spells_kinds tok.span.to ps ts h.2) ∙ ap (λ k. k ∷ kinds_of ts) (sym h.0)
 spells_kinds e (closes to ∷ ps) ts h = spells_kinds e ps ts h.1
 
-spells_within : (e : ℕ) (ps : List Part) (ts : List Token) → Spells [] e ps ts → IsWithin ps
+pub spells_within : (e : ℕ) (ps : List Part) (ts : List Token) → Spells [] e ps ts → IsWithin ps
 spells_within e [] ts h = tt
 spells_within e (opens from ∷ ps) [] h = absurd h
 spells_within e (opens from ∷ ps) (tok ∷ ts) h = spells_within e ps (tok ∷ ts) h.1
@@ -160,7 +160,7 @@ OneMeant = (tree : t.File) (file other : Meant) → StandsFor tree file → Stan
 abbrev pub NeverBoth : Type 0
 NeverBoth = (tree : t.File) (file : Meant) (fault : ScopeFault) → StandsFor tree file → HasFirst tree fault → ⊥
 
-same_tokens : OneLexing → (bytes : List ℕ) (ts us : List Token) → Lexes bytes (Ok ts) → Lexes bytes (Ok us) → ts ≡ us
+pub same_tokens : OneLexing → (bytes : List ℕ) (ts us : List Token) → Lexes bytes (Ok ts) → Lexes bytes (Ok us) → ts ≡ us
 same_tokens one bytes ts us h k = let e : Ok ts ≡ Ok us = one bytes (Ok ts) (Ok us) h k in cc
 
 -- bytes have one tree at most
@@ -169,30 +169,40 @@ one_tree lexing placed bytes f g a b =
     let e : b.tokens ≡ a.tokens = same_tokens lexing bytes b.tokens a.tokens b.lexed a.lexed in
     placed f g a.tokens a.formed b.formed a.spelled (subst (Spells [] 0 (whole_file g)) e b.spelled)
 
-not_at : (tree : t.File) (ks : List Kind) (i : ℕ) → IsFile tree → kinds_in (whole_file tree) ≡ ks → IsSyntaxAt whole_file IsFile ks i → ⊥
-not_at tree ks i formed e at = go at.rest (e ∙ at.split) at.stops
-  where
-    go : (rest : List Kind) → kinds_in (whole_file tree) ≡ at.pre ++ rest → Stops whole_file IsFile at.pre rest → ⊥
-    go [] f stops = stops tree formed (f ∙ append-nil at.pre)
-    go (k ∷ rest) f stops = stops tree formed rest f
+-- bytes that have no tokens have none
+pub unlexed_never : OneLexing → {bytes : List ℕ} {number : ℕ} {offset : Option ℕ} {shown : List ℕ} → IsUnlexed bytes number offset shown → length bytes ≤ limit → (tokens : List Token) → Lexes bytes (Ok tokens) → ⊥
+unlexed_never lexing (too_long l) within tokens lexes = omega arith
+unlexed_never lexing {bytes} (not_utf8 l h) within tokens lexes = let e = lexing bytes _ _ h lexes in cc
+unlexed_never lexing {bytes} (bad_char l h) within tokens lexes = let e = lexing bytes _ _ h lexes in cc
+unlexed_never lexing {bytes} (bad_number l h) within tokens lexes = let e = lexing bytes _ _ h lexes in cc
+unlexed_never lexing {bytes} (name_too_long l h) within tokens lexes = let e = lexing bytes _ _ h lexes in cc
 
-tree_kinds : OneLexing → (bytes : List ℕ) (tokens : List Token) (tree : t.File) → Lexes bytes (Ok tokens) → IsTreeOf bytes tree → kinds_in (whole_file tree) ≡ kinds_of tokens
-tree_kinds lexing bytes tokens tree h is =
-    spells_kinds 0 (whole_file tree) is.tokens is.spelled ∙ ap kinds_of (same_tokens lexing bytes is.tokens tokens is.lexed h)
+-- tokens of a formed text aren't those of none
+module _ {X : Type 0} (pieces : X → List Part) (IsFormed : X → Type 0) where
+  not_at : (x : X) (ks : List Kind) (i : ℕ) → IsFormed x → kinds_in (pieces x) ≡ ks → IsSyntaxAt pieces IsFormed ks i → ⊥
+  not_at x ks i formed e at = go at.rest (e ∙ at.split) at.stops
+    where
+      go : (rest : List Kind) → kinds_in (pieces x) ≡ at.pre ++ rest → Stops pieces IsFormed at.pre rest → ⊥
+      go [] f stops = stops x formed (f ∙ append-nil at.pre)
+      go (k ∷ rest) f stops = stops x formed rest f
+
+  spelled_kinds : OneLexing → (bytes : List ℕ) (tokens others : List Token) (x : X) → Lexes bytes (Ok tokens) → Lexes bytes (Ok others) → Spells [] 0 (pieces x) others → kinds_in (pieces x) ≡ kinds_of tokens
+  spelled_kinds lexing bytes tokens others x h lexes spelled =
+      spells_kinds 0 (pieces x) others spelled ∙ ap kinds_of (same_tokens lexing bytes others tokens lexes h)
+
+  pub unparsed_never : OneLexing → {bytes : List ℕ} {number : ℕ} {offset : Option ℕ} {shown : List ℕ} → IsUnparsed pieces IsFormed bytes number offset shown
+      → (x : X) → IsFormed x → (tokens : List Token) → Lexes bytes (Ok tokens) → Spells [] 0 (pieces x) tokens → ⊥
+  unparsed_never lexing {bytes} (syntax {tokens = tokens} {i = i} l h at) x formed others lexes spelled =
+      not_at x (kinds_of tokens) i formed (spelled_kinds lexing bytes tokens others x h lexes spelled) at
+  unparsed_never lexing {bytes} (too_deep {tokens = tokens} {i = i} l h at) x formed others lexes spelled =
+      at.every x formed at.rest (spelled_kinds lexing bytes tokens others x h lexes spelled ∙ at.split) (spells_within 0 (pieces x) others spelled)
 
 -- bytes that are refused spell no file
 unlexed_none : OneLexing → {bytes : List ℕ} {number : ℕ} {offset : Option ℕ} {shown : List ℕ} → IsUnlexed bytes number offset shown → SpellsNone bytes
-unlexed_none lexing (too_long l) file (tree, is, stands) = let w = is.within in omega arith
-unlexed_none lexing {bytes} (not_utf8 l h) file (tree, is, stands) = let e = lexing bytes _ _ h is.lexed in cc
-unlexed_none lexing {bytes} (bad_char l h) file (tree, is, stands) = let e = lexing bytes _ _ h is.lexed in cc
-unlexed_none lexing {bytes} (bad_number l h) file (tree, is, stands) = let e = lexing bytes _ _ h is.lexed in cc
-unlexed_none lexing {bytes} (name_too_long l h) file (tree, is, stands) = let e = lexing bytes _ _ h is.lexed in cc
+unlexed_none lexing h file (tree, is, stands) = unlexed_never lexing h is.within is.tokens is.lexed
 
 unparsed_none : OneLexing → {bytes : List ℕ} {number : ℕ} {offset : Option ℕ} {shown : List ℕ} → IsUnparsed whole_file IsFile bytes number offset shown → SpellsNone bytes
-unparsed_none lexing {bytes} (syntax {tokens = tokens} {i = i} l h at) file (tree, is, stands) =
-    not_at tree (kinds_of tokens) i is.formed (tree_kinds lexing bytes tokens tree h is) at
-unparsed_none lexing {bytes} (too_deep {tokens = tokens} {i = i} l h at) file (tree, is, stands) =
-    at.every tree is.formed at.rest (tree_kinds lexing bytes tokens tree h is ∙ at.split) (spells_within 0 (whole_file tree) is.tokens is.spelled)
+unparsed_none lexing h file (tree, is, stands) = unparsed_never whole_file IsFile lexing h tree is.formed is.tokens is.lexed is.spelled
 
 unscoped_none : OneLexing → OnePlaced → NeverBoth → {bytes : List ℕ} {other : t.File} {number : ℕ} {offset : Option ℕ} {shown : List ℕ} → IsTreeOf bytes other → IsUnscoped other number offset shown → SpellsNone bytes
 unscoped_none lexing placed never {bytes} {other} is (out_of_scope {fault = fault} f) file (tree, that, stands) =

@@ -10,8 +10,10 @@ pub mod WordsDashes
 pub mod WordsFound
 pub mod FileRefusals
 pub mod AnswerLines
+pub mod AnswerText
 pub mod FileTaking
 pub mod FileScopes
+pub mod NarrateOnce
 pub mod FileFacts
 pub mod FilePlaces
 pub mod AnswerOffence
@@ -37,6 +39,9 @@ pub mod PlayTold
 pub mod PlayPromise
 pub mod KnowsAnswers
 pub mod KnowsPromise
+pub mod BenchPlaces
+pub mod BenchAnswers
+pub mod BenchPromise
 pub mod LoadProcesses
 pub mod LoadDerivations
 pub mod LoadPoints
@@ -46,10 +51,13 @@ pub mod UpgradeVersions
 pub mod UpgradeNames
 pub mod UpgradeFiles
 pub mod UpgradeParts
-pub mod AnswerText
 pub mod UpgradeAnswers
 pub mod UpgradePromise
 pub mod PrintAnswers
 pub mod PrintPromise
+pub mod NarrateRefusals
+pub mod NarrateAnswers
+pub mod NarrateRuns
+pub mod NarratePromise
 pub mod RunPromises
 pub mod RunEnds

@@ -9,7 +9,8 @@ use Rattle.spi_commands.specs.declared.asked.Command.TheVariants.{Check}
 use Rattle.spi_commands.specs.declared.status.Status.{Status}
 use Rattle.spi_commands.specs.declared.status.Status.TheVariants.{Yes, No, Refused, ReadFault, WriteFault, NoMemory, Usage}
 use Rattle.spi_commands.specs.declared.file.Given.{Given}
-use Rattle.spi_commands.specs.Reading.{Gives}
+use Rattle.spi_commands.specs.declared.text.Text.{Text}
+use Rattle.spi_commands.specs.Reading.{Gives, GivesText}
 use Rattle.spi_play.specs.Way.{Seen}
 use Rattle.spi_commands.specs.Asked.{IsWithin}
 use Rattle.spi_commands.specs.Spelled.{IsManySafe}
@@ -81,10 +82,19 @@ many_to_one one many asks (Some bytes) before after old new status ends is = λ 
     let one_yes : Ends (Wants (Some Check) bytes before after) old new Yes = subst (λ (s : Status). Ends (Wants (Some Check) bytes before after) old new s) e (subst (λ (o : Option Command). Ends (Wants o bytes before after) old new status) is ends) in
     many_yes one many bytes one_yes.0 Yes one_yes.1 refl
 
--- what a command answers on what is given of the bytes that were left
+-- what a command answers on bytes of which something is known
+wants_by : {E : Type 0} (asks : Option Command) (own : Command) (before after : List Seen) (left : Option (List ℕ)) (P : List ℕ → Type 0) (result : Result Answer E) → asks ≡ Some own → IfSome left P
+    → IfOk result (λ a. (bytes : List ℕ) → P bytes → AnswersTo own bytes before after a.status a.output.items) → IfOk result (λ a. IfSome left (λ bytes. Wants asks bytes before after a.status a.output.items))
+wants_by asks own before after None P (Ok a) is known h = tt
+wants_by asks own before after (Some bytes) P (Ok a) is known h =
+    subst (λ (o : Option Command). Wants o bytes before after a.status a.output.items) (sym is) (h bytes known)
+wants_by asks own before after left P (Err e) is known h = tt
+
+-- what a command answers on what is given of the bytes that were left, and on their text
 pub wants_given : {E : Type 0} (asks : Option Command) (own : Command) (before after : List Seen) (left : Option (List ℕ)) (given : Given) (result : Result Answer E) → asks ≡ Some own → IfSome left (λ bytes. Gives bytes given)
     → IfOk result (λ a. (bytes : List ℕ) → Gives bytes given → AnswersTo own bytes before after a.status a.output.items) → IfOk result (λ a. IfSome left (λ bytes. Wants asks bytes before after a.status a.output.items))
-wants_given asks own before after None given (Ok a) is gives h = tt
-wants_given asks own before after (Some bytes) given (Ok a) is gives h =
-    subst (λ (o : Option Command). Wants o bytes before after a.status a.output.items) (sym is) (h bytes gives)
-wants_given asks own before after left given (Err e) is gives h = tt
+wants_given asks own before after left given result is gives h = wants_by asks own before after left (λ bytes. Gives bytes given) result is gives h
+
+pub wants_text : {E : Type 0} (asks : Option Command) (own : Command) (before after : List Seen) (left : Option (List ℕ)) (text : Text) (result : Result Answer E) → asks ≡ Some own → IfSome left (λ bytes. GivesText bytes text)
+    → IfOk result (λ a. (bytes : List ℕ) → GivesText bytes text → AnswersTo own bytes before after a.status a.output.items) → IfOk result (λ a. IfSome left (λ bytes. Wants asks bytes before after a.status a.output.items))
+wants_text asks own before after left text result is gives h = wants_by asks own before after left (λ bytes. GivesText bytes text) result is gives h

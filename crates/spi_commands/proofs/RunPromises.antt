@@ -3,7 +3,7 @@ use Rattle.std.proofs.Common.{ℕ, List, Option, refl}
 use Rattle.std.specs.Io.KnownBytes.{Appends}
 use Rattle.spi_play.specs.Way.{Seen}
 use Rattle.spi_commands.specs.declared.asked.Command.{Command}
-use Rattle.spi_commands.specs.declared.asked.Command.TheVariants.{Check, Derive, Verify, Replay, Play, Print, Load, Upgrade, Knows}
+use Rattle.spi_commands.specs.declared.asked.Command.TheVariants.{Check, Derive, Verify, Replay, Play, Print, Load, Upgrade, Narrate, Knows, Bench}
 use Rattle.spi_commands.specs.declared.status.Status.{Status}
 use Rattle.spi_commands.specs.declared.status.Status.TheVariants.{Yes, No, Refused, ReadFault, WriteFault, NoMemory, Usage}
 use Rattle.spi_commands.specs.Asked.{IsWithin}
@@ -16,9 +16,11 @@ use Rattle.spi_commands.proofs.VerifyPromise.{verifies}
 use Rattle.spi_commands.proofs.ReplayPromise.{replays}
 use Rattle.spi_commands.proofs.PlayPromise.{plays}
 use Rattle.spi_commands.proofs.KnowsPromise.{knows}
+use Rattle.spi_commands.proofs.BenchPromise.{benches}
 use Rattle.spi_commands.proofs.PrintPromise.{prints}
 use Rattle.spi_commands.proofs.UpgradePromise.{upgrades}
 use Rattle.spi_commands.proofs.UpgradeParts.{upgrade_reads_back}
+use Rattle.spi_commands.proofs.NarratePromise.{narrates}
 
 loads : (k : ℕ) (old new : Option (List ℕ)) (output : List ℕ) (status : Status) → LoadsTo k status output → Appends old new output → IsLoadedOn k old new status
 loads k old new output Yes is put = record { yes = refl; written = (output, is, put) }
@@ -38,4 +40,6 @@ promised l players (Play most only) within bytes before after old new output sta
 promised l players Print within bytes before after old new output status is put = prints l.one l.none_of bytes l.reads old new output status is put
 promised l players (Load sessions) within bytes before after old new output status is put = loads sessions old new output status is put
 promised l players Upgrade within bytes before after old new output status is put = upgrades l.one l.none_of bytes upgrade_reads_back old new output status is put
+promised l players Narrate within bytes before after old new output status is put = narrates l.one l.none_of l.narrations bytes old new output status is put
 promised l players (Knows name) within bytes before after old new output status is put = knows l.one name bytes old new l.none_of l.keys output status is put
+promised l players Bench within bytes before after old new output status is put = benches l.lexing l.one bytes old new output status is put

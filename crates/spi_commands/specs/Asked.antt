@@ -4,7 +4,7 @@ use Rattle.std.specs.Option.{ForSome}
 use Rattle.std.specs.Str.{bytes_eq}
 use Rattle.std.specs.declared.option.Option.{Option}
 use Rattle.spi_commands.specs.declared.asked.Command.{Command}
-use Rattle.spi_commands.specs.declared.asked.Command.TheVariants.{Check, Derive, Verify, Replay, Play, Print, Load, Upgrade, Knows}
+use Rattle.spi_commands.specs.declared.asked.Command.TheVariants.{Check, Derive, Verify, Replay, Play, Print, Load, Upgrade, Narrate, Knows, Bench}
 use Rattle.spi_commands.specs.Number.{number_below}
 
 -- ---- the tables
@@ -13,7 +13,7 @@ use Rattle.spi_commands.specs.Number.{number_below}
 abbrev pub word_table : List (List ℕ × Command)
 word_table =
     (codes "check", Check) ∷ (codes "derive", Derive) ∷ (codes "verify", Verify) ∷ (codes "replay", Replay)
-    ∷ (codes "print", Print) ∷ (codes "upgrade", Upgrade) ∷ []
+    ∷ (codes "print", Print) ∷ (codes "upgrade", Upgrade) ∷ (codes "narrate", Narrate) ∷ (codes "bench", Bench) ∷ []
 
 -- the commands of a word and a number behind it, from the least to the most
 pub record Numbered : Type 0 where

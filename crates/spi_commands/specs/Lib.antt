@@ -20,6 +20,8 @@ pub mod Playing
 pub mod Canonical
 pub mod Printing
 pub mod Upgrading
+pub mod Narrating
 pub mod Loading
+pub mod Benching
 pub mod Commands
 pub mod Run

@@ -12,7 +12,7 @@ use Rattle.spi_commands.specs.Commands.{AnswersTo}
 
 -- the line for words that are no command
 abbrev pub usage_line : List ℕ
-usage_line = codes "usage: check | derive | verify | replay | play --steps N [--player I] | print | load K | upgrade | knows I\n"
+usage_line = codes "usage: check | derive | verify | replay | play --steps N [--player I] | print | load K | upgrade | narrate | knows I | bench\n"
 
 -- What is to be answered to a command, or to no command: the bytes are the file, and the players are as
 -- they are seen before the call and after it.

@@ -33,8 +33,12 @@ pub enum Command {
     Load { sessions: u32 },
     /// The canonical text of a file in version 2.
     Upgrade,
+    /// The file that a narration is woven into, with an honest schedule, in its canonical text.
+    Narrate,
     /// Whether the name with this number is known at the end of a file's schedule from what was sent.
     Knows { name: u32 },
+    /// The verdict of parts of a protocol after each edit of them.
+    Bench,
 }
 
 /// The value of one to nine digits.

@@ -3,6 +3,7 @@
 
 mod answer;
 mod asked;
+mod bench;
 mod canonical;
 mod certificate;
 mod check;
@@ -10,6 +11,7 @@ mod derive;
 mod file;
 mod knows;
 mod load;
+mod narrate;
 mod opponent;
 mod options;
 mod play;

@@ -74,7 +74,7 @@ pub fn read_tokens(alloc: Global, bytes: &[u8], tokens: &[Token]) -> Result<File
 }
 
 /// Where a token begins, and where the file ends.
-fn start(bytes: &[u8], tokens: &[Token], token: u32) -> u32
+pub fn start(bytes: &[u8], tokens: &[Token], token: u32) -> u32
     requires within { length bytes.now ≤ 16_777_216 }
     requires token { token ≤ length tokens.now }
     ensures { result ≡ start_of bytes.now (drop token tokens.now) }
@@ -94,30 +94,30 @@ fn read_tree(alloc: Global, bytes: &[u8], tree: &Tree) -> Result<File, Unread>
 {
     match resolve(alloc, tree) {
         Ok(file) => Ok(file),
-        Err(fault) => Err(out_of_scope(alloc, fault)),
+        Err(fault) => Err(out_of_scope(alloc, &fault)),
     }
 }
 
 /// The refusal of a fault of scopes.
-fn out_of_scope(alloc: Global, fault: ScopeFault) -> Unread
-    ensures tells { Tells (scope_number fault) (span_from fault) (scope_shown fault) result }
-    ensures memory { fault ≡ ScopeFault.NoMemory → result ≡ Unread.NoMemory }
+pub fn out_of_scope(alloc: Global, fault: &ScopeFault) -> Unread
+    ensures tells { Tells (scope_number fault.now) (span_from fault.now) (scope_shown fault.now) result }
+    ensures memory { fault.now ≡ ScopeFault.NoMemory → result ≡ Unread.NoMemory }
 {
     match fault {
-        ScopeFault::UnknownName { span, word } => shown_word(alloc, 30, span, &word),
-        ScopeFault::UnknownType { span, word } => shown_word(alloc, 31, span, &word),
-        ScopeFault::NameTwice { span, word } => shown_word(alloc, 32, span, &word),
-        ScopeFault::TypeTwice { span, word } => shown_word(alloc, 33, span, &word),
-        ScopeFault::MessageTooLarge { span, count } => shown_count(alloc, 34, span, count),
-        ScopeFault::TypeTooLarge { span, count } => shown_count(alloc, 35, span, count),
-        ScopeFault::FileTooLarge { span, count } => shown_count(alloc, 36, span, count),
-        ScopeFault::ScheduleTooLong { span, count } => shown_count(alloc, 37, span, count),
+        ScopeFault::UnknownName { span, word } => shown_word(alloc, 30, *span, word),
+        ScopeFault::UnknownType { span, word } => shown_word(alloc, 31, *span, word),
+        ScopeFault::NameTwice { span, word } => shown_word(alloc, 32, *span, word),
+        ScopeFault::TypeTwice { span, word } => shown_word(alloc, 33, *span, word),
+        ScopeFault::MessageTooLarge { span, count } => shown_count(alloc, 34, *span, *count),
+        ScopeFault::TypeTooLarge { span, count } => shown_count(alloc, 35, *span, *count),
+        ScopeFault::FileTooLarge { span, count } => shown_count(alloc, 36, *span, *count),
+        ScopeFault::ScheduleTooLong { span, count } => shown_count(alloc, 37, *span, *count),
         ScopeFault::NoMemory => Unread::NoMemory,
     }
 }
 
 /// A refusal that shows a word.
-fn shown_word(alloc: Global, number: u32, span: Span, word: &Text) -> Unread
+pub fn shown_word(alloc: Global, number: u32, span: Span, word: &Text) -> Unread
     ensures { Tells number span.from word.now result }
 {
     match word.as_str().as_bytes().to_vec(alloc) {
@@ -131,7 +131,7 @@ fn shown_word(alloc: Global, number: u32, span: Span, word: &Text) -> Unread
 }
 
 /// A refusal that shows a count.
-fn shown_count(alloc: Global, number: u32, span: Span, count: u64) -> Unread
+pub fn shown_count(alloc: Global, number: u32, span: Span, count: u64) -> Unread
     ensures { Tells number span.from (decimal count) result }
 {
     match format!(in alloc; "{count}") {

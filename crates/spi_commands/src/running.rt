@@ -14,15 +14,18 @@ ghost use Rattle.spi_commands.specs.Run.{Wants, IsAnswered, Ends, Completes, IsU
 
 use crate::answer::{Answer, Stop, made};
 use crate::asked::{Command, asked_of};
+use crate::bench::benches;
 use crate::check::checks;
 use crate::derive::derives;
 use crate::file::take_file;
 use crate::knows::knows;
 use crate::load::loads;
+use crate::narrate::{narrates, narrations_have_one_answer};
 use crate::play::plays;
 use crate::print::prints;
 use crate::replay::replays;
 use crate::status::Status;
+use crate::text::take_text;
 use crate::upgrade::upgrades;
 use crate::verify::verifies;
 use crate::words::USAGE;
@@ -47,56 +50,78 @@ pub fn run<S: Source, K: Sink>(
     players: &mut Vec<Box<dyn Player>>,
 ) -> Status
     // The headline, where the source tells its bytes, no count of faults rises and memory doesn't run out.
-    ensures headline { asked (map string_bytes words.now) (vec_len players.old) ≡ Some Command.Check → IfSome (S.left source.old) (λ bytes.
-        ¬ Rose (S.faults source.old) (S.faults source.new) → ¬ Rose (K.faults sink.old) (K.faults sink.new) → result ≢ Status.NoMemory
-        → IsExact bytes (K.holds sink.old) (K.holds sink.new) result) }
+    ensures headline { asked (map string_bytes words.now) (vec_len players.old) ≡ Some Command.Check
+        → IfSome (S.left source.old) (λ bytes.
+        ¬ Rose (S.faults source.old) (S.faults source.new) → ¬ Rose (K.faults sink.old) (K.faults sink.new)
+        → result ≢ Status.NoMemory → IsExact bytes (K.holds sink.old) (K.holds sink.new) result) }
 
     // And after a yes each endmany event has an earlier begin event.
-    ensures many_to_one { asked (map string_bytes words.now) (vec_len players.old) ≡ Some Command.Check → IfSome (S.left source.old) (λ bytes.
-        result ≡ Status.Yes → IsManySafe bytes) }
+    ensures many_to_one { asked (map string_bytes words.now) (vec_len players.old) ≡ Some Command.Check
+        → IfSome (S.left source.old) (λ bytes. result ≡ Status.Yes → IsManySafe bytes) }
 
     // What each command promises, under the same conditions.
-    ensures promise { (command : Command) → asked (map string_bytes words.now) (vec_len players.old) ≡ Some command → IfSome (S.left source.old) (λ bytes.
-        IsUndisturbed (S.faults source.old) (S.faults source.new) (K.faults sink.old) (K.faults sink.new) result
+    ensures promise { (command : Command)
+        → asked (map string_bytes words.now) (vec_len players.old) ≡ Some command
+        → IfSome (S.left source.old) (λ bytes.
+        IsUndisturbed (S.faults source.old) (S.faults source.new) (K.faults sink.old) (K.faults sink.new)
+        result
         → Promise command bytes
-        (seen_of (λ b. times b) (λ b. way b) players.old.items) (seen_of (λ b. times b) (λ b. way b) players.new.items)
+        (seen_of (λ b. times b) (λ b. way b) players.old.items)
+        (seen_of (λ b. times b) (λ b. way b) players.new.items)
         (K.holds sink.old) (K.holds sink.new) result) }
 
-    // Where the source tells its bytes, the status is the one that these words and bytes ask for, and its output is appended.
-    ensures answer { IfSome (S.left source.old) (λ bytes. Ends (Wants (asked (map string_bytes words.now) (vec_len players.old)) bytes
-        (seen_of (λ b. times b) (λ b. way b) players.old.items) (seen_of (λ b. times b) (λ b. way b) players.new.items))
+    // Where the source tells its bytes, the status is the one that these words and bytes ask for, and its
+    // output is appended.
+    ensures answer { IfSome (S.left source.old) (λ bytes.
+        Ends (Wants (asked (map string_bytes words.now) (vec_len players.old)) bytes
+        (seen_of (λ b. times b) (λ b. way b) players.old.items)
+        (seen_of (λ b. times b) (λ b. way b) players.new.items))
         (K.holds sink.old) (K.holds sink.new) result) }
-    ensures complete { IfSome (S.left source.old) (λ bytes. ¬ Rose (S.faults source.old) (S.faults source.new) → ¬ Rose (K.faults sink.old) (K.faults sink.new)
+    ensures complete { IfSome (S.left source.old) (λ bytes.
+        ¬ Rose (S.faults source.old) (S.faults source.new) → ¬ Rose (K.faults sink.old) (K.faults sink.new)
         → Completes (Wants (asked (map string_bytes words.now) (vec_len players.old)) bytes
-        (seen_of (λ b. times b) (λ b. way b) players.old.items) (seen_of (λ b. times b) (λ b. way b) players.new.items))
+        (seen_of (λ b. times b) (λ b. way b) players.old.items)
+        (seen_of (λ b. times b) (λ b. way b) players.new.items))
         (K.holds sink.old) (K.holds sink.new) result) }
 
-    // Whatever the source tells: the words alone decide on the usage line, a command without input answers, and reads nothing.
-    ensures usage { result ≡ Status.Usage → (asked (map string_bytes words.now) (vec_len players.old) ≡ None) }
-    ensures no_usage { (asked (map string_bytes words.now) (vec_len players.old) ≡ None) → (result ≡ Status.Usage) ⊎ (result ≡ Status.WriteFault) ⊎ (result ≡ Status.NoMemory) }
+    // Whatever the source tells: the words alone decide on the usage line, a command without input answers,
+    // and reads nothing.
+    ensures usage { result ≡ Status.Usage
+        → (asked (map string_bytes words.now) (vec_len players.old) ≡ None) }
+    ensures no_usage { (asked (map string_bytes words.now) (vec_len players.old) ≡ None)
+        → (result ≡ Status.Usage) ⊎ (result ≡ Status.WriteFault) ⊎ (result ≡ Status.NoMemory) }
     ensures inputless { reads_input (asked (map string_bytes words.now) (vec_len players.old)) ≡ false
-        → (source.new ≡ source.old) × Ends (Wants (asked (map string_bytes words.now) (vec_len players.old)) [] [] []) (K.holds sink.old) (K.holds sink.new) result }
+        → (source.new ≡ source.old)
+        × Ends (Wants (asked (map string_bytes words.now) (vec_len players.old)) [] [] [])
+        (K.holds sink.old) (K.holds sink.new) result }
 
-    // A fault has its cause, with a fault of reading or of memory nothing is written, and what was held stays in front.
+    // A fault has its cause, with a fault of reading or of memory nothing is written, and what was held stays
+    // in front.
     ensures read_fault { result ≡ Status.ReadFault → Rose (S.faults source.old) (S.faults source.new) }
     ensures failed_reads { result ≢ Status.ReadFault → S.failed_reads source.new ≡ S.failed_reads source.old }
     ensures write_fault { result ≡ Status.WriteFault → Rose (K.faults sink.old) (K.faults sink.new) }
     ensures unwritten { (result ≡ Status.ReadFault) ⊎ (result ≡ Status.NoMemory) → sink.new ≡ sink.old }
     ensures in_front { (output : List ℕ) × Appends (K.holds sink.old) (K.holds sink.new) output }
 
-    // What is read is at the front of what was left, and is gone: all of it, or one byte more than an input may have.
+    // What is read is at the front of what was left, and is gone: all of it, or one byte more than an input
+    // may have.
     ensures taken { TakesUpTo (S.left source.old) (S.left source.new) (limit + 1) }
-    ensures whole { reads_input (asked (map string_bytes words.now) (vec_len players.old)) ≡ true → result ≢ Status.ReadFault → result ≢ Status.NoMemory
+    ensures whole { reads_input (asked (map string_bytes words.now) (vec_len players.old)) ≡ true
+        → result ≢ Status.ReadFault → result ≢ Status.NoMemory
         → TakesInput (S.left source.old) (S.left source.new) }
     ensures reads { S.reads source.new ≤ S.reads source.old + limit + 2 }
 
-    // Only a play asks the players, else they are as they were, and where a read failed. Where a play's memory runs out they
-    // are as they were, or as it left them.
-    ensures players { (is_play (asked (map string_bytes words.now) (vec_len players.old)) ≡ false) ⊎ (result ≡ Status.ReadFault) → players.new ≡ players.old }
-    ensures left { (most : ℕ) (only : Option ℕ) → asked (map string_bytes words.now) (vec_len players.old) ≡ Some (Command.Play most only) → result ≡ Status.NoMemory
-        → IfSome (S.left source.old) (λ bytes. LeavesPlayers most only bytes
-        (seen_of (λ b. times b) (λ b. way b) players.old.items) (seen_of (λ b. times b) (λ b. way b) players.new.items)) }
+    // Only a play asks the players, else they are as they were, and where a read failed. Where a play's memory
+    // runs out they are as they were, or as it left them.
+    ensures players { (is_play (asked (map string_bytes words.now) (vec_len players.old)) ≡ false)
+        ⊎ (result ≡ Status.ReadFault) → players.new ≡ players.old }
+    ensures left { (most : ℕ) (only : Option ℕ)
+        → asked (map string_bytes words.now) (vec_len players.old) ≡ Some (Command.Play most only)
+        → result ≡ Status.NoMemory → IfSome (S.left source.old) (λ bytes. LeavesPlayers most only bytes
+        (seen_of (λ b. times b) (λ b. way b) players.old.items)
+        (seen_of (λ b. times b) (λ b. way b) players.new.items)) }
 {
+    one_answer();
     one_file();
     refused_is_none();
     derivable_is_safe();
@@ -106,12 +131,14 @@ pub fn run<S: Source, K: Sink>(
     schedule_joins();
     canonical_reads_back();
     keys_stay_unknown();
+    narrations_have_one_answer();
     run_for(alloc, words, source, sink, players)
 }
 
 /// Bytes spell one file at most.
 pub fn one_file()
-    ensures { (bytes : List ℕ) (file other : Meant) → SpellsFile bytes file → SpellsFile bytes other → file ≡ other }
+    ensures { (bytes : List ℕ) (file other : Meant)
+        → SpellsFile bytes file → SpellsFile bytes other → file ≡ other }
 {
     one_answer();
     one_placed_tree();
@@ -120,7 +147,8 @@ pub fn one_file()
 
 /// Bytes that are refused spell no file.
 pub fn refused_is_none()
-    ensures { (bytes : List ℕ) (number : ℕ) (offset : Option ℕ) (shown : List ℕ) → Refuses bytes number offset shown → SpellsNone bytes }
+    ensures { (bytes : List ℕ) (number : ℕ) (offset : Option ℕ) (shown : List ℕ)
+        → Refuses bytes number offset shown → SpellsNone bytes }
 {
     one_answer();
     one_placed_tree();
@@ -135,27 +163,39 @@ fn run_for<S: Source, K: Sink>(
     sink: &mut K,
     players: &mut Vec<Box<dyn Player>>,
 ) -> Status
-    ensures within { result ≢ Status.NoMemory → IfSome (asked (map string_bytes words.now) (vec_len players.old)) (λ command. IsWithin (vec_len players.old) command) }
-    ensures answer { IfSome (S.left source.old) (λ bytes. Ends (Wants (asked (map string_bytes words.now) (vec_len players.old)) bytes
-        (seen_of (λ b. times b) (λ b. way b) players.old.items) (seen_of (λ b. times b) (λ b. way b) players.new.items))
+    ensures within { result ≢ Status.NoMemory
+        → IfSome (asked (map string_bytes words.now) (vec_len players.old))
+        (λ command. IsWithin (vec_len players.old) command) }
+    ensures answer { IfSome (S.left source.old) (λ bytes.
+        Ends (Wants (asked (map string_bytes words.now) (vec_len players.old)) bytes
+        (seen_of (λ b. times b) (λ b. way b) players.old.items)
+        (seen_of (λ b. times b) (λ b. way b) players.new.items))
         (K.holds sink.old) (K.holds sink.new) result) }
-    ensures usage { result ≡ Status.Usage → (asked (map string_bytes words.now) (vec_len players.old) ≡ None) }
-    ensures no_usage { (asked (map string_bytes words.now) (vec_len players.old) ≡ None) → (result ≡ Status.Usage) ⊎ (result ≡ Status.WriteFault) ⊎ (result ≡ Status.NoMemory) }
+    ensures usage { result ≡ Status.Usage
+        → (asked (map string_bytes words.now) (vec_len players.old) ≡ None) }
+    ensures no_usage { (asked (map string_bytes words.now) (vec_len players.old) ≡ None)
+        → (result ≡ Status.Usage) ⊎ (result ≡ Status.WriteFault) ⊎ (result ≡ Status.NoMemory) }
     ensures inputless { reads_input (asked (map string_bytes words.now) (vec_len players.old)) ≡ false
-        → (source.new ≡ source.old) × Ends (Wants (asked (map string_bytes words.now) (vec_len players.old)) [] [] []) (K.holds sink.old) (K.holds sink.new) result }
+        → (source.new ≡ source.old)
+        × Ends (Wants (asked (map string_bytes words.now) (vec_len players.old)) [] [] [])
+        (K.holds sink.old) (K.holds sink.new) result }
     ensures read_fault { result ≡ Status.ReadFault → Rose (S.faults source.old) (S.faults source.new) }
     ensures failed_reads { result ≢ Status.ReadFault → S.failed_reads source.new ≡ S.failed_reads source.old }
     ensures write_fault { result ≡ Status.WriteFault → Rose (K.faults sink.old) (K.faults sink.new) }
     ensures unwritten { (result ≡ Status.ReadFault) ⊎ (result ≡ Status.NoMemory) → sink.new ≡ sink.old }
     ensures in_front { (output : List ℕ) × Appends (K.holds sink.old) (K.holds sink.new) output }
     ensures taken { TakesUpTo (S.left source.old) (S.left source.new) (limit + 1) }
-    ensures whole { reads_input (asked (map string_bytes words.now) (vec_len players.old)) ≡ true → result ≢ Status.ReadFault → result ≢ Status.NoMemory
+    ensures whole { reads_input (asked (map string_bytes words.now) (vec_len players.old)) ≡ true
+        → result ≢ Status.ReadFault → result ≢ Status.NoMemory
         → TakesInput (S.left source.old) (S.left source.new) }
     ensures reads { S.reads source.new ≤ S.reads source.old + limit + 2 }
-    ensures players { (is_play (asked (map string_bytes words.now) (vec_len players.old)) ≡ false) ⊎ (result ≡ Status.ReadFault) → players.new ≡ players.old }
-    ensures left { (most : ℕ) (only : Option ℕ) → asked (map string_bytes words.now) (vec_len players.old) ≡ Some (Command.Play most only) → result ≡ Status.NoMemory
-        → IfSome (S.left source.old) (λ bytes. LeavesPlayers most only bytes
-        (seen_of (λ b. times b) (λ b. way b) players.old.items) (seen_of (λ b. times b) (λ b. way b) players.new.items)) }
+    ensures players { (is_play (asked (map string_bytes words.now) (vec_len players.old)) ≡ false)
+        ⊎ (result ≡ Status.ReadFault) → players.new ≡ players.old }
+    ensures left { (most : ℕ) (only : Option ℕ)
+        → asked (map string_bytes words.now) (vec_len players.old) ≡ Some (Command.Play most only)
+        → result ≡ Status.NoMemory → IfSome (S.left source.old) (λ bytes. LeavesPlayers most only bytes
+        (seen_of (λ b. times b) (λ b. way b) players.old.items)
+        (seen_of (λ b. times b) (λ b. way b) players.new.items)) }
 {
     let Ok(command) = asked_of(alloc, words, players.len()) else {
         return Status::NoMemory;
@@ -179,22 +219,27 @@ fn answer_to<S: Source>(
 ) -> Result<Answer, Stop>
     requires { IfSome command (λ command. IsWithin (vec_len players.old) command) }
     ensures answer { IfOk result (λ answer. IfSome (S.left source.old) (λ bytes. Wants command bytes
-        (seen_of (λ b. times b) (λ b. way b) players.old.items) (seen_of (λ b. times b) (λ b. way b) players.new.items)
+        (seen_of (λ b. times b) (λ b. way b) players.old.items)
+        (seen_of (λ b. times b) (λ b. way b) players.new.items)
         answer.status answer.output.items)) }
     ensures answered { IfOk result (λ answer. IsAnswered answer.status) }
     ensures usage { IfOk result (λ answer. (answer.status ≡ Status.Usage) ↔ (command ≡ None)) }
-    ensures inputless { reads_input command ≡ false → IfOk result (λ answer. Wants command [] [] [] answer.status answer.output.items) }
+    ensures inputless { reads_input command ≡ false
+        → IfOk result (λ answer. Wants command [] [] [] answer.status answer.output.items) }
     ensures unread { reads_input command ≡ false → source.new ≡ source.old }
     ensures memory { reads_input command ≡ false → OnErr result (result ≡ Err Stop.NoMemory) }
     ensures read_fault { IsErrOf result Stop.ReadFault → Rose (S.faults source.old) (S.faults source.new) }
-    ensures failed_reads { ¬ IsErrOf result Stop.ReadFault → S.failed_reads source.new ≡ S.failed_reads source.old }
+    ensures failed_reads { ¬ IsErrOf result Stop.ReadFault
+        → S.failed_reads source.new ≡ S.failed_reads source.old }
     ensures taken { TakesUpTo (S.left source.old) (S.left source.new) (limit + 1) }
-    ensures whole { reads_input command ≡ true → OnOk result (TakesInput (S.left source.old) (S.left source.new)) }
+    ensures whole { reads_input command ≡ true
+        → OnOk result (TakesInput (S.left source.old) (S.left source.new)) }
     ensures reads { S.reads source.new ≤ S.reads source.old + limit + 2 }
     ensures players { (is_play command ≡ false) ⊎ IsErrOf result Stop.ReadFault → players.new ≡ players.old }
-    ensures left { (most : ℕ) (only : Option ℕ) → command ≡ Some (Command.Play most only) → IsErrOf result Stop.NoMemory
-        → IfSome (S.left source.old) (λ bytes. LeavesPlayers most only bytes
-        (seen_of (λ b. times b) (λ b. way b) players.old.items) (seen_of (λ b. times b) (λ b. way b) players.new.items)) }
+    ensures left { (most : ℕ) (only : Option ℕ) → command ≡ Some (Command.Play most only)
+        → IsErrOf result Stop.NoMemory → IfSome (S.left source.old) (λ bytes. LeavesPlayers most only bytes
+        (seen_of (λ b. times b) (λ b. way b) players.old.items)
+        (seen_of (λ b. times b) (λ b. way b) players.new.items)) }
 {
     match command {
         None => made(alloc, Status::Usage, USAGE),
@@ -208,6 +253,8 @@ fn answer_to<S: Source>(
         Some(Command::Print) => prints(alloc, take_file(alloc, source)?),
         Some(Command::Load { sessions }) => loads(alloc, sessions),
         Some(Command::Upgrade) => upgrades(alloc, take_file(alloc, source)?),
+        Some(Command::Narrate) => narrates(alloc, take_text(alloc, source)?),
         Some(Command::Knows { name }) => knows(alloc, take_file(alloc, source)?, name),
+        Some(Command::Bench) => benches(alloc, take_text(alloc, source)?),
     }
 }

@@ -7,16 +7,18 @@ use crate::asked::Command;
 
 /// The line for words that are no command.
 pub const USAGE: &[u8] =
-    b"usage: check | derive | verify | replay | play --steps N [--player I] | print | load K | upgrade | knows I\n";
+    b"usage: check | derive | verify | replay | play --steps N [--player I] | print | load K | upgrade | narrate | knows I | bench\n";
 
 /// The commands of one word.
-pub const WORDS: [(&str, Command); 6] = [
+pub const WORDS: [(&str, Command); 8] = [
     ("check", Command::Check),
     ("derive", Command::Derive),
     ("verify", Command::Verify),
     ("replay", Command::Replay),
     ("print", Command::Print),
     ("upgrade", Command::Upgrade),
+    ("narrate", Command::Narrate),
+    ("bench", Command::Bench),
 ];
 
 /// A command with a number behind its word, from the least to the most. The command here has any number.

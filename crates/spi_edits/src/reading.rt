@@ -32,8 +32,8 @@ fn whole_span(tokens: &[Token]) -> Span
 ///
 /// A fault names its token by its number from 0. `Syntax` is at the token with which no bench goes on, and at the end it is the
 /// number of tokens. `TooDeep` is at the first token at which a node of some bench starts that is above its nesting limit.
-/// `NoMemory` comes where memory runs out. `_end` is the length of the text in bytes, where a fault at the end is placed.
-pub fn read_bench(alloc: Global, tokens: &[Token], _end: u32) -> Result<BenchText, ParseFault>
+/// `NoMemory` comes where memory runs out.
+pub fn read_bench(alloc: Global, tokens: &[Token]) -> Result<BenchText, ParseFault>
     requires size { length tokens.now ≤ 16_777_216 }
     requires words { AreWordsFit (is_version_2 (kinds_of tokens.now)) (kinds_of tokens.now) }
     ensures { ParsesBench bench_of result tokens.now }

@@ -44,7 +44,7 @@ const PAID: &str = "free a; process begin a; end a; stop opponent stop schedule 
 
 #[test]
 fn each_command_answers(rt: HostRuntime) {
-    let table: [(&[&str], &str, &str, u8); 12] = [
+    let table: [(&[&str], &str, &str, u8); 14] = [
         (&["check"], "process stop", "yes\n", 0),
         (
             &["check"],
@@ -76,15 +76,27 @@ fn each_command_answers(rt: HostRuntime) {
             0,
         ),
         (
+            &["narrate"],
+            "free a; roles A; A: begin a;",
+            "free a;\nprocess begin a; stop\nopponent stop\nschedule\nact 0;\n",
+            0,
+        ),
+        (
             &["knows", "0"],
             "process new (k: Un); stop opponent stop schedule act 0;",
             "unknown: #0\n",
             1,
         ),
         (
+            &["bench"],
+            "free a; put A { end a; stop } drop A;",
+            "1 no\n2 yes\n",
+            0,
+        ),
+        (
             &["Check"],
             "",
-            "usage: check | derive | verify | replay | play --steps N [--player I] | print | load K | upgrade | knows I\n",
+            "usage: check | derive | verify | replay | play --steps N [--player I] | print | load K | upgrade | narrate | knows I | bench\n",
             6,
         ),
     ];

@@ -55,7 +55,7 @@ abbrev pub pass_values : SWord → SWord → t.Msg → SWord → ℕ → Values 
 pass_values b c m x end = (tt, (b, (tt, (c, (tt, (m, (tt, (x, (tt, (end, tt))))))))))
 
 -- a line's pieces, by its parts
-local_are : (s : Span) (w : SWord) (x : n.Prefix) → whole_line (n.local s w x) ≡ row_pieces head_row (head_values s.from w) [] ++ (row_pieces colon_row (tt, tt) [] ++ (whole_prefix x ++ row_pieces tail_row (tail_values s.to) []))
+pub local_are : (s : Span) (w : SWord) (x : n.Prefix) → whole_line (n.local s w x) ≡ row_pieces head_row (head_values s.from w) [] ++ (row_pieces colon_row (tt, tt) [] ++ (whole_prefix x ++ row_pieces tail_row (tail_values s.to) []))
 local_are s w x = ap (λ (l : List Piece). opens s.from ∷ opens w.span.from ∷ cell (K.Word w.word) false ∷ closes w.span.to ∷ cell (K.Mark mark.Colon) false ∷ l) (prefix_behind true x (a_mark mark.Semicolon (ends s [])))
 
 module _ (v : Bool) where

@@ -45,7 +45,7 @@ comma_behind w r = refl
 pub comma_solid : (w : SWord) (r : List Piece) → IsSolid (comma_pieces w r)
 comma_solid w r = tt
 
-roles_are : (w : SWord) (ws : List SWord) → whole_roles (w ∷ ws) ≡ row_pieces roles_head (tt, (w, tt)) [] ++ (each_pieces comma_pieces ws [] ++ row_pieces semicolon_row (tt, tt) [])
+pub roles_are : (w : SWord) (ws : List SWord) → whole_roles (w ∷ ws) ≡ row_pieces roles_head (tt, (w, tt)) [] ++ (each_pieces comma_pieces ws [] ++ row_pieces semicolon_row (tt, tt) [])
 roles_are w ws = ap (λ (l : List Piece). cell (K.Word (codes "roles")) false ∷ opens w.span.from ∷ cell (K.Word w.word) false ∷ closes w.span.to ∷ l) (each_behind comma_pieces comma_behind ws (a_mark mark.Semicolon []))
 
 module _ (v : Bool) where

@@ -2,5 +2,5 @@ pub mod Narrations
 pub mod Views
 pub mod Grammar
 pub mod Words
-pub mod Reads
 pub mod Faults
+pub mod Reads

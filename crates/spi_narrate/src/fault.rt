@@ -1,6 +1,10 @@
 //! Why tokens are no narration.
 
+ghost use Rattle.std.specs.Prelude.{◌≡◌};
+ghost use Rattle.spi_narrate.specs.declared.fault.NarrateFault.TheVariants.{NoMemory};
+
 use spi_text::{Span, Text};
+use std::alloc::AllocError;
 
 /// Why tokens are no narration that can be woven, with the place at which it is seen.
 pub enum NarrateFault {
@@ -16,6 +20,14 @@ pub enum NarrateFault {
     NarrationTooLarge { span: Span, count: u64 },
     /// Memory ran out.
     NoMemory,
+}
+
+impl From<AllocError> for NarrateFault {
+    ghost from_gives = { λ _ e. e ≡ NoMemory };
+
+    fn from(_: AllocError) -> NarrateFault {
+        NarrateFault::NoMemory
+    }
 }
 
 impl Drop for NarrateFault {

@@ -2,13 +2,17 @@
 #![tactic(auto)]
 
 mod fault;
+mod faultless;
 mod forms;
+mod laws;
 mod lines;
 mod reading;
 mod roles;
 mod tree;
 
 pub use fault::NarrateFault;
+pub use faultless::read_narration;
+pub use laws::{one_first_fault, one_narration};
 pub use lines::{line_at, lines_at};
 pub use reading::parse_narration;
 pub use roles::roles_at;

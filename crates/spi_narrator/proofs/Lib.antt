@@ -1,3 +1,4 @@
 pub mod Reading
 pub mod Freed
 pub mod Told
+pub mod OneAnswer

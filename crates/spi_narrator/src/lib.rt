@@ -7,7 +7,7 @@ mod laws;
 mod telling;
 
 pub use answer::{Answer, Refusal};
-pub use laws::told_files_read_back;
+pub use laws::{one_telling, told_files_read_back};
 use std::alloc::AllocError;
 pub use telling::tell;
 

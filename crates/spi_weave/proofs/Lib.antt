@@ -1,3 +1,4 @@
 pub mod Copied
 pub mod Forming
 pub mod Formed
+pub mod Starting

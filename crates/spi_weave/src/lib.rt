@@ -7,7 +7,7 @@ mod laws;
 mod roles;
 mod woven;
 
-pub use laws::woven_trees_are_formed;
+pub use laws::{woven_nodes_start_within, woven_trees_are_formed};
 use std::alloc::AllocError;
 pub use woven::weave;
 

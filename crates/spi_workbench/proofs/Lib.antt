@@ -7,3 +7,4 @@ pub mod Heading
 pub mod Stepping
 pub mod Looping
 pub mod Starting
+pub mod Answering

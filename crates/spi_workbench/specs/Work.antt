@@ -4,13 +4,15 @@ use Rattle.spi_tree.specs.Trees as t
 use Rattle.spi_tree.specs.Views.{file_of}
 use Rattle.spi_bench.specs.Parts.{nodes_in}
 use Rattle.spi_edits.specs.Edits.{Edit, Bench}
+use Rattle.spi_edits.specs.declared.text.BenchText.{BenchText}
 use Rattle.spi_edits.specs.declared.text.Edit as declared
 use Rattle.spi_edits.specs.Views.{edit_of}
 use Rattle.spi_term.specs.Spelling.{stopped}
 use Rattle.spi_workbench.specs.Reading.{file_with, bench_after}
 use Rattle.spi_workbench.specs.Counting.{bench_nodes, nodes_put, edit_nodes}
-use Rattle.spi_workbench.specs.Answers.{EditStands, EditsStand, IsRefused, AreVerdicts}
+use Rattle.spi_workbench.specs.Answers.{HeadingStands, EditStands, EditsStand, IsRefused, AreVerdicts}
 use Rattle.spi_workbench.specs.declared.answer.Refusal.{Refusal}
+use Rattle.spi_workbench.specs.declared.counting.Counted.{Counted}
 use Rattle.spi_workbench.specs.declared.judging.Work.{Work}
 
 -- the tree is that of the heading and some process
@@ -33,6 +35,13 @@ Comes b before e w (Some r) = IsRefused b before e r
 -- nothing was put yet, and so many nodes will be
 abbrev pub Starts : Bench → Work → List declared.Edit → List ℕ → Type 0
 Starts b w es ns = IsAt b [] w × (ns ≡ map (λ e. stopped (edit_nodes b (edit_of e))) es)
+
+-- nothing was put yet, behind a heading that stands, and these are the edits and the nodes that they will put
+pub record StartsEdits (b : Bench) (end : ℕ) (w : Work) (text : BenchText) (counted : Counted)
+    : Type 0 where
+  pub heading : HeadingStands b end
+  pub starts : Starts b w text.edits.items counted.edits.items
+  pub edits : map edit_of text.edits.items ≡ b.edits
 
 -- all these edits stand, and these are the verdicts
 pub record Stood (b : Bench) (es : List Edit) (w : Work) (vs : List Bool) : Type 0 where

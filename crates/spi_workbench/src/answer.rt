@@ -4,6 +4,7 @@ use spi_scope::ScopeFault;
 use spi_text::{Span, Text};
 
 /// Why a bench is refused, and where.
+#[derive(Drop)]
 pub enum Refusal {
     /// There are more than 16 shared names, `count` of them. The span is that of the seventeenth.
     TooManyShared { span: Span, count: u64 },
@@ -18,18 +19,6 @@ pub enum Refusal {
     BenchTooLarge { span: Span, count: u64 },
 }
 
-impl Drop for Refusal {
-    fn drop(self) {
-        match self {
-            Refusal::TooManyShared { span: _, count: _ } => {}
-            Refusal::Scope(_) => {}
-            Refusal::TooManyEdits { span: _, count: _ } => {}
-            Refusal::UnknownPart { span: _, word: _ } => {}
-            Refusal::BenchTooLarge { span: _, count: _ } => {}
-        }
-    }
-}
-
 /// The verdicts of a bench.
 #[derive(Drop)]
 pub struct Verdicts {
@@ -40,16 +29,8 @@ pub struct Verdicts {
 }
 
 /// What a bench answers.
+#[derive(Drop)]
 pub enum Answer {
     Judged(Verdicts),
     Refused(Refusal),
-}
-
-impl Drop for Answer {
-    fn drop(self) {
-        match self {
-            Answer::Judged(_) => {}
-            Answer::Refused(_) => {}
-        }
-    }
 }

@@ -1,6 +1,5 @@
 //! What a bench answers, defined in `specs/Answers.antt`, and its parts: how many nodes its heading and its edits have, the work
-//! before any edit, and the edits in order, each with its verdict, up to the first that is refused. The call that puts these
-//! together isn't there yet.
+//! before any edit, and the edits in order, each with its verdict, up to the first that is refused.
 #![tactic(auto)]
 
 mod answer;
@@ -12,7 +11,7 @@ mod placing;
 mod sizes;
 
 pub use answer::{Answer, Refusal, Verdicts};
-pub use bench::start;
+pub use bench::{judge_edits, start};
 pub use counting::{Counted, count_bench};
 pub use judging::{Work, judge_all};
 use std::alloc::AllocError;

@@ -1,4 +1,4 @@
-use Rattle.spi_commands.proofs.DeriveAnswers.{none_derived}
+use Rattle.spi_commands.proofs.AnswerNo.{none_derived}
 use Rattle.spi_commands.proofs.derive.derived.Goals as goal
 
 pub listed-requires-clause-canonical : goal.listed-requires-clause-canonical

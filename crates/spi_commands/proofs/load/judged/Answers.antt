@@ -2,7 +2,7 @@ use Rattle.std.proofs.Common.{arith, refl, ◌+◌, ◌*◌}
 use Rattle.std.proofs.lemmas.List.{length-map}
 use Rattle.spi_rules.specs.Deriv.{rule_use, rule_uses}
 use Rattle.spi_scope.specs.Files.{meant}
-use Rattle.spi_commands.proofs.DeriveAnswers.{none_derived}
+use Rattle.spi_commands.proofs.AnswerNo.{none_derived}
 use Rattle.spi_commands.proofs.LoadAnswers.{derivable, summary}
 use Rattle.spi_commands.proofs.load.judged.Goals as goal
 

@@ -1,6 +1,6 @@
 use Rattle.std.proofs.Common.{◌∙◌, ap, Some}
-use Rattle.spi_commands.specs.declared.asked.Command.TheVariants.{Check, Derive, Verify, Replay, Play, Print, Upgrade, Knows}
-use Rattle.spi_commands.proofs.RunEnds.{wants_given}
+use Rattle.spi_commands.specs.declared.asked.Command.TheVariants.{Check, Derive, Verify, Replay, Play, Print, Upgrade, Narrate, Knows, Bench}
+use Rattle.spi_commands.proofs.RunEnds.{wants_given, wants_text}
 use Rattle.spi_commands.proofs.PlayAnswers.{left_same, left_given}
 use Rattle.spi_commands.proofs.running.answer_to.Goals as goal
 
@@ -33,3 +33,9 @@ returns-in_err-take_file-in-Some-Play-clause-left g c = λ most only e err. left
 
 pub returns-in_ok-take_file-in-Some-Knows-clause-answer : goal.returns-in_ok-take_file-in-Some-Knows-clause-answer
 returns-in_ok-take_file-in-Some-Knows-clause-answer g c = wants_given c.args.command (Knows c.in-Some-Knows.name) _ _ _ _ c.knows.result (c.in-Some-Knows.is ∙ ap Some (rw c.in-Some-Knows.is at c.in-Some-Knows.field-0-is)) c.in_ok-take_file-in-Some-Knows.ensures.gives c.knows.ensures.ok
+
+pub returns-in_ok-take_text-in-Some-Narrate-clause-answer : goal.returns-in_ok-take_text-in-Some-Narrate-clause-answer
+returns-in_ok-take_text-in-Some-Narrate-clause-answer g c = wants_text c.args.command Narrate _ _ _ _ c.narrates.result (c.in-Some-Narrate.is ∙ ap Some (rw c.in-Some-Narrate.is at c.in-Some-Narrate.field-0-is)) c.in_ok-take_text-in-Some-Narrate.ensures.gives c.narrates.ensures.ok
+
+pub returns-in_ok-take_text-in-Some-Bench-clause-answer : goal.returns-in_ok-take_text-in-Some-Bench-clause-answer
+returns-in_ok-take_text-in-Some-Bench-clause-answer g c = wants_text c.args.command Bench _ _ _ _ c.benches.result (c.in-Some-Bench.is ∙ ap Some (rw c.in-Some-Bench.is at c.in-Some-Bench.field-0-is)) c.in_ok-take_text-in-Some-Bench.ensures.gives c.benches.ensures.ok

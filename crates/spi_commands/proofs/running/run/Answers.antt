@@ -6,6 +6,7 @@ pub returns-clause-headline : goal.returns-clause-headline
 returns-clause-headline g c =
     let e = c.run_for.ensures in
     let facts : Facts = record {
+      lexing = c.one_answer.ensures.one;
       none_of = c.refused_is_none.ensures;
       one = c.one_file.ensures;
       safe = c.derivable_is_safe.ensures;
@@ -15,6 +16,12 @@ returns-clause-headline g c =
       schedule = c.schedule_joins.ensures;
       reads = c.canonical_reads_back.ensures;
       keys = c.keys_stay_unknown.ensures;
+      narrations = record {
+        one = c.narrations_have_one_answer.ensures.one;
+        told = c.narrations_have_one_answer.ensures.told;
+        untold = c.narrations_have_one_answer.ensures.untold;
+        reads = c.narrations_have_one_answer.ensures.reads;
+      };
     } in
     headline _ _ _ _ _ _ _ _ _ _ _ e.read_fault e.write_fault facts _ e.within e.answer
 
@@ -26,6 +33,7 @@ pub returns-clause-promise : goal.returns-clause-promise
 returns-clause-promise g c =
     let e = c.run_for.ensures in
     let facts : Facts = record {
+      lexing = c.one_answer.ensures.one;
       none_of = c.refused_is_none.ensures;
       one = c.one_file.ensures;
       safe = c.derivable_is_safe.ensures;
@@ -35,6 +43,12 @@ returns-clause-promise g c =
       schedule = c.schedule_joins.ensures;
       reads = c.canonical_reads_back.ensures;
       keys = c.keys_stay_unknown.ensures;
+      narrations = record {
+        one = c.narrations_have_one_answer.ensures.one;
+        told = c.narrations_have_one_answer.ensures.told;
+        untold = c.narrations_have_one_answer.ensures.untold;
+        reads = c.narrations_have_one_answer.ensures.reads;
+      };
     } in
     promise _ _ _ _ _ _ _ _ _ _ _ e.read_fault e.write_fault facts _ e.within e.answer
 

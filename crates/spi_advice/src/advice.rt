@@ -1,0 +1,166 @@
+// From bytes to an explanation.
+ghost use Rattle.std.specs.Prelude.{◌≡◌, ℕ, ◌≤◌, ◌<◌, ◌++◌, List, length, IfOk};
+ghost use Rattle.spi_advice.specs.Advising.{Advises, verdict};
+ghost use Rattle.spi_commands.specs.Reading.{IsRead};
+ghost use Rattle.spi_commands.specs.Refusals.{Refuses};
+
+use crate::NoMemory;
+use spi_commands::{Status, Unread, read};
+use spi_explain::{Explained, explain_file};
+use spi_fault::Fault;
+use spi_lex::{Token, lex};
+use spi_report::{Refusal, refused};
+use spi_scope::{File, faults_stand_at_nodes};
+use spi_text::Lines;
+use spi_wording::{
+    Page, Source, Style, tell_expected, tell_fault, tell_others, tell_refusal, tell_yes,
+};
+use std::alloc::{AllocError, Global};
+
+/// How many bytes a file has at most.
+const LIMIT: usize = 16_777_216;
+
+/// An explanation, with the status of `check`.
+pub struct Advice {
+    /// Yes, no or refused.
+    pub status: Status,
+    /// The line of `check`, and behind it the explanation.
+    pub output: Vec<u8>,
+}
+
+impl Drop for Advice {
+    fn drop(self) {
+        let Advice {
+            status: _,
+            output: _,
+        } = self;
+    }
+}
+
+// The tokens of the bytes, or none where they have none.
+fn tokens_of(alloc: Global, bytes: &[u8]) -> Vec<Token>
+    requires { length bytes.now ≤ 16_777_216 }
+{
+    match lex(alloc, bytes) {
+        Ok(tokens) => tokens,
+        Err(_) => Vec::new(alloc),
+    }
+}
+
+// This status, this line, and behind it this text.
+fn joined(status: Status, line: Vec<u8>, rest: &[u8]) -> Result<Advice, NoMemory>
+    ensures { IfOk result (λ a. (a.status ≡ status) × (a.output.items ≡ line.items ++ rest.now)) }
+{
+    let mut output = line;
+    output.extend_from_slice(rest)?;
+    Ok(Advice { status, output })
+}
+
+// What `check` answers to a process with this fault, or with none.
+fn verdict(fault: &Option<Fault>) -> Status
+    ensures { result ≡ verdict fault.now }
+{
+    match fault {
+        None => Status::Yes,
+        Some(_) => Status::No,
+    }
+}
+
+// The text behind the line of a file.
+fn text_of(
+    alloc: Global,
+    bytes: &[u8],
+    lines: &Lines<'_>,
+    file: &File,
+    found: &Explained,
+    style: Style,
+) -> Result<Vec<u8>, NoMemory>
+    requires sized { length bytes.now ≤ 16_777_216 }
+    requires lines { lines.now ≡ bytes.now }
+{
+    let mut page = Page::new(alloc, style);
+    match &found.fault {
+        None => tell_yes(&mut page),
+        Some(fault) => {
+            let tokens = tokens_of(alloc, bytes);
+            let source = Source::new(bytes, lines, &tokens);
+            tell_fault(alloc, &mut page, &source, file, found, fault)?;
+            tell_others(alloc, &mut page, &source, file, &found.blocked)?;
+        }
+    }
+    page.into_text()
+}
+
+// The line of what was found.
+fn line_of(alloc: Global, found: &Explained) -> Result<Vec<u8>, NoMemory>
+    ensures { IfOk result (λ line. line.items ≡ found.now.line.items) }
+{
+    found.line.to_vec(alloc)
+}
+
+// The explanation of the file of these bytes.
+fn of_file(alloc: Global, bytes: &[u8], file: &File, style: Style) -> Result<Advice, NoMemory>
+    requires sized { length bytes.now ≤ 16_777_216 }
+    requires read { IsRead bytes.now file.now }
+    ensures { IfOk result (λ a. Advises bytes.now a.status a.output.items) }
+{
+    let lines = Lines::of(alloc, bytes)?;
+    let found = explain_file(alloc, file, &lines)?;
+    let rest = text_of(alloc, bytes, &lines, file, &found, style)?;
+    let line = line_of(alloc, &found)?;
+    joined(verdict(&found.fault), line, &rest)
+}
+
+// The explanation of bytes that spell no file, for this first reason.
+fn of_refusal(alloc: Global, bytes: &[u8], r: &Refusal, style: Style) -> Result<Advice, NoMemory>
+    requires sized { length bytes.now ≤ 16_777_216 }
+    requires refuses { Refuses bytes.now r.now.number r.now.offset r.now.shown.items }
+    ensures { IfOk result (λ a. Advises bytes.now a.status a.output.items) }
+{
+    faults_stand_at_nodes();
+    let lines = Lines::of(alloc, bytes)?;
+    let line = refused(alloc, &lines, r)?;
+    let tokens = tokens_of(alloc, bytes);
+    let source = Source::new(bytes, &lines, &tokens);
+    let mut page = Page::new(alloc, style);
+    tell_refusal(&mut page, &source, r);
+    tell_expected(alloc, &mut page, &source, bytes)?;
+    let rest = page.into_text()?;
+    joined(Status::Refused, line, &rest)
+}
+
+// The explanation of more bytes than a file may have.
+fn of_too_many(alloc: Global, style: Style) -> Result<Advice, NoMemory>
+    ensures { IfOk result (λ a. (bytes : List ℕ) → 16_777_216 < length bytes
+        → Advises bytes a.status a.output.items) }
+{
+    let count = LIMIT + 1;
+    let shown = format!(in alloc; "{count}")?.into_bytes();
+    let lines = Lines::of(alloc, b"")?;
+    let r = Refusal {
+        number: 2,
+        offset: None,
+        shown,
+    };
+    let line = refused(alloc, &lines, &r)?;
+    let source = Source::new(b"", &lines, &[]);
+    let mut page = Page::new(alloc, style);
+    tell_refusal(&mut page, &source, &r);
+    let rest = page.into_text()?;
+    joined(Status::Refused, line, &rest)
+}
+
+/// The explanation of the bytes: what `check` answers to them, and behind its line the explanation, in this style. More
+/// than 16,777,216 bytes are refused, as by `check`.
+pub fn advise(alloc: Global, bytes: &[u8], style: Style) -> Result<Advice, NoMemory>
+    ensures { IfOk result (λ a. Advises bytes.now a.status a.output.items) }
+{
+    if bytes.len() > LIMIT {
+        return of_too_many(alloc, style);
+    }
+    match read(alloc, bytes) {
+        Ok(file) => of_file(alloc, bytes, &file, style),
+        Err(Unread::Refused(r)) => of_refusal(alloc, bytes, &r, style),
+        Err(Unread::NoMemory) => Err(AllocError),
+    }
+}

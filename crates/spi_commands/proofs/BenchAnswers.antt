@@ -1,0 +1,61 @@
+-- What `bench` answers on a text.
+use Rattle.std.proofs.Common.{◌≡◌, ◌≢◌, inl, inr, ℕ, List, [], refl, sym, subst, Option, Result, Ok, Err, IfOk, IfErr, length}
+use Rattle.std.specs.Prelude.{Some}
+use Rattle.spi_edits.specs.Edits.{Bench}
+use Rattle.spi_workbench.specs.Answers.{IsJudged, Refuses}
+use Rattle.spi_workbench.specs.declared.answer.Refusal.{Refusal}
+use Rattle.spi_workbench.specs.declared.answer.Verdicts.{Verdicts}
+use Rattle.spi_commands.specs.declared.answer.Answer.{Answer}
+use Rattle.spi_commands.specs.declared.answer.Stop.{Stop}
+use Rattle.spi_commands.specs.declared.reading.Unread.{Unread}
+use Rattle.spi_commands.specs.declared.reading.Unread.TheVariants as unread
+use Rattle.spi_commands.specs.declared.status.Status.{Status}
+use Rattle.spi_commands.specs.declared.status.Status.TheVariants.{Yes, No, Refused, ReadFault, WriteFault, NoMemory, Usage}
+use Rattle.spi_commands.specs.declared.text.Text.{Text}
+use Rattle.spi_commands.specs.Reading.{GivesText, IsUnreadBy, Tells}
+use Rattle.spi_commands.specs.Refusals.{IsLineOf, IsUnlexed}
+use Rattle.spi_commands.specs.Run.{IsAnswered}
+use Rattle.spi_commands.specs.Benching.{IsBenchOf, IsTold, IsUnjudged, unjudged, RefusesBench, BenchesTo, bench_number, bench_place, bench_shown}
+use Rattle.spi_commands.proofs.AnswerLines.{line_map}
+use Rattle.spi_commands.proofs.FileRefusals.{unread_as}
+
+-- ---- refusals
+
+-- what is told of a refusal is one of the bench
+pub tells_unjudged : (b : Bench) (end : ℕ) (r : Refusal) (u : Unread) → Refuses b end r → Tells (bench_number r) (bench_place r) (bench_shown r) u → IsUnreadBy (IsUnjudged b end) u
+tells_unjudged b end r u h t = unread_as (IsUnjudged b end) (bench_number r) (bench_place r) (bench_shown r) u (unjudged h) t
+
+-- and of the bytes that spell it
+pub unjudged_refuses : (bytes : List ℕ) (b : Bench) (u : Unread) → IsBenchOf bytes b → IsUnreadBy (IsUnjudged b (length bytes)) u → IsUnreadBy (RefusesBench bytes) u
+unjudged_refuses bytes b (unread.Refused r) is h = inr (inr (b, is, h))
+unjudged_refuses bytes b unread.NoMemory is h = tt
+
+-- the line of bytes that have no tokens
+pub unlexed_line : (bytes line output : List ℕ) (status : Status) → status ≡ Refused → output ≡ line → IsLineOf bytes (IsUnlexed bytes) line → BenchesTo bytes status output
+unlexed_line bytes line output status e is h =
+    subst (λ (s : Status). BenchesTo bytes s output) (sym e) (subst (λ (o : List ℕ). IsLineOf bytes (RefusesBench bytes) o) (sym is) (line_map bytes line (IsUnlexed bytes) (RefusesBench bytes) (λ n o s m. inl m) h))
+
+-- any refusal
+pub refused_to : (bytes : List ℕ) (result : Result Answer Stop) → IfOk result (λ a. (a.status ≡ Refused) × IsLineOf bytes (RefusesBench bytes) a.output.items) → IfOk result (λ a. BenchesTo bytes a.status a.output.items)
+refused_to bytes (Ok a) (e, line) = subst (λ (s : Status). BenchesTo bytes s a.output.items) (sym e) line
+refused_to bytes (Err s) h = tt
+
+-- ---- verdicts
+
+told_one : (bytes : List ℕ) (b : Bench) (v : Verdicts) → IsBenchOf bytes b → IsJudged b (length bytes) v → (status : Status) (output : List ℕ) → IsTold v status output → BenchesTo bytes status output
+told_one bytes b v is judged Yes output (h, text) = (b, (is, judged.stands), judged.last.0 h, (v.each.items, judged.each, text))
+told_one bytes b v is judged No output (h, text) = (b, (is, judged.stands), λ y. h (judged.last.1 y), (v.each.items, judged.each, text))
+told_one bytes b v is judged Refused output h = absurd h
+told_one bytes b v is judged ReadFault output h = absurd h
+told_one bytes b v is judged WriteFault output h = absurd h
+told_one bytes b v is judged NoMemory output h = absurd h
+told_one bytes b v is judged Usage output h = absurd h
+
+pub told_to : (bytes : List ℕ) (v : Verdicts) → (b : Bench) × IsBenchOf bytes b × IsJudged b (length bytes) v → (result : Result Answer Stop) → IfOk result (λ a. IsTold v a.status a.output.items) → IfOk result (λ a. BenchesTo bytes a.status a.output.items)
+told_to bytes v (b, is, judged) (Ok a) h = told_one bytes b v is judged a.status a.output.items h
+told_to bytes v b (Err s) h = tt
+
+-- ---- the status
+
+pub bench_answered : (bytes : List ℕ) (result : Result Answer Stop) → IfOk result (λ a. BenchesTo bytes a.status a.output.items) → IfOk result (λ a. IsAnswered a.status × (a.status ≢ Usage))
+bench_answered bytes result h = Rattle.spi_commands.proofs.FileTaking.are_answered _ _ _ result h

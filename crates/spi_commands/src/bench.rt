@@ -1,0 +1,155 @@
+// The command `bench`.
+ghost use Rattle.std.specs.Prelude.{◌≡◌, ◌≢◌, ◌+◌, ◌<◌, ◌≤◌, ◌^◌, ◌++◌, ℕ, List, length};
+ghost use Rattle.std.specs.Prelude.{IfOk, IfErr, OnOk, OnErr, Ok, Err};
+ghost use Rattle.spi_lex.specs.Lexing.{Lexes, kinds_of};
+ghost use Rattle.spi_lex.specs.Writing.{AreKinds, AreSpans, spans_of};
+ghost use Rattle.spi_edits.specs.Edits.{Bench};
+ghost use Rattle.spi_edits.specs.Views.{bench_of};
+ghost use Rattle.spi_workbench.specs.Answers.{IsJudged};
+ghost use Rattle.spi_commands.specs.Reading.{IsText, GivesText, IsUnreadBy, Tells};
+ghost use Rattle.spi_commands.specs.Refusals.{IsLineOf};
+ghost use Rattle.spi_commands.specs.Benching.{IsBenchOf, IsTold, IsUnjudged, RefusesBench, BenchesTo};
+ghost use Rattle.spi_commands.specs.Benching.{bench_number, bench_place, bench_shown};
+ghost use Rattle.spi_commands.specs.Benching.{verdict_text, verdicts_text};
+ghost use Rattle.spi_commands.specs.Run.{IsAnswered};
+
+use crate::NoMemory;
+use crate::answer::{Answer, Stop, refusal, refused_with};
+use crate::reading::{Unread, out_of_scope, shown_count, shown_word, start};
+use crate::status::Status;
+use crate::text::{Text, unspelled};
+use spi_edits::{BenchText, read_bench};
+use spi_lex::Token;
+use spi_parse::ParseFault;
+use spi_report::Refusal;
+use spi_scope::faults_stand_at_nodes;
+use spi_workbench::{Answer as Judged, Refusal as Unjudged, Verdicts, judge_edits};
+use std::alloc::Global;
+
+/// What `bench` answers on the text of an input.
+pub fn benches(alloc: Global, text: Text) -> Result<Answer, Stop>
+    requires { IsText text }
+    ensures ok { IfOk result (λ answer. (bytes : List ℕ) → GivesText bytes text
+        → BenchesTo bytes answer.status answer.output.items) }
+    ensures answered { IfOk result (λ answer. IsAnswered answer.status × (answer.status ≢ Status.Usage)) }
+    ensures err { OnErr result (result ≡ Err Stop.NoMemory) }
+{
+    match text {
+        Text::Lexed { bytes, tokens } => benched(alloc, &bytes, &tokens),
+        Text::Refused(line) => Ok(refused_with(line)),
+    }
+}
+
+/// What `bench` answers on these bytes, which have these tokens.
+fn benched(alloc: Global, bytes: &[u8], tokens: &[Token]) -> Result<Answer, Stop>
+    requires within { length bytes.now ≤ 16_777_216 }
+    requires lexed { Lexes bytes.now (Ok tokens.now) }
+    requires kinds { AreKinds (kinds_of tokens.now) }
+    requires spans { AreSpans 0 (spans_of tokens.now) (length bytes.now) }
+    ensures ok { IfOk result (λ answer. BenchesTo bytes.now answer.status answer.output.items) }
+    ensures answered { IfOk result (λ answer. IsAnswered answer.status × (answer.status ≢ Status.Usage)) }
+    ensures err { OnErr result (result ≡ Err Stop.NoMemory) }
+{
+    match verdicts_of(alloc, bytes, tokens) {
+        Ok(verdicts) => told(alloc, &verdicts),
+        Err(Unread::Refused(r)) => unbenched(alloc, bytes, &r),
+        Err(Unread::NoMemory) => Err(Stop::NoMemory),
+    }
+}
+
+/// The verdicts of the bench that the tokens of these bytes spell.
+fn verdicts_of(alloc: Global, bytes: &[u8], tokens: &[Token]) -> Result<Verdicts, Unread>
+    requires within { length bytes.now ≤ 16_777_216 }
+    requires few { length tokens.now ≤ 16_777_216 }
+    requires lexed { Lexes bytes.now (Ok tokens.now) }
+    requires kinds { AreKinds (kinds_of tokens.now) }
+    ensures verdicts { IfOk result (λ verdicts. (b : Bench) × IsBenchOf bytes.now b
+        × IsJudged b (length bytes.now) verdicts) }
+    ensures unread { IfErr result (IsUnreadBy (RefusesBench bytes.now)) }
+{
+    match read_bench(alloc, tokens) {
+        Ok(text) => judged(alloc, text, bytes.len() as u32),
+        Err(ParseFault::Syntax { token }) => Err(unspelled(alloc, 20, start(bytes, tokens, token))),
+        Err(ParseFault::TooDeep { token }) => Err(unspelled(
+            alloc,
+            21,
+            start(bytes, tokens, token),
+        )),
+        Err(ParseFault::NoMemory) => Err(Unread::NoMemory),
+    }
+}
+
+/// The verdicts of this bench, of so many bytes.
+fn judged(alloc: Global, text: BenchText, end: u32) -> Result<Verdicts, Unread>
+    ensures verdicts { IfOk result (IsJudged (bench_of text) end) }
+    ensures unread { IfErr result (IsUnreadBy (IsUnjudged (bench_of text) end)) }
+{
+    match judge_edits(alloc, text, end)? {
+        Judged::Judged(verdicts) => Ok(verdicts),
+        Judged::Refused(r) => Err(unjudged(alloc, r)),
+    }
+}
+
+/// The refusal of a bench.
+fn unjudged(alloc: Global, r: Unjudged) -> Unread
+    ensures { Tells (bench_number r) (bench_place r) (bench_shown r) result }
+{
+    match r {
+        Unjudged::TooManyShared { span, count } => shown_count(alloc, 122, span, count),
+        Unjudged::Scope(fault) => out_of_scope(alloc, &fault),
+        Unjudged::TooManyEdits { span, count } => shown_count(alloc, 121, span, count),
+        Unjudged::UnknownPart { span, word } => shown_word(alloc, 120, span, &word),
+        Unjudged::BenchTooLarge { span, count } => shown_count(alloc, 123, span, count),
+    }
+}
+
+/// The answer that bytes are refused with, for this first reason.
+fn unbenched(alloc: Global, bytes: &[u8], r: &Refusal) -> Result<Answer, Stop>
+    requires sized { length bytes.now ≤ 16_777_216 }
+    requires refuses { RefusesBench bytes.now r.now.number r.now.offset r.now.shown.items }
+    ensures ok { IfOk result (λ answer. (answer.status ≡ Status.Refused)
+        × IsLineOf bytes.now (RefusesBench bytes.now) answer.output.items) }
+    ensures err { OnErr result (result ≡ Err Stop.NoMemory) }
+{
+    faults_stand_at_nodes();
+    refusal(alloc, bytes, r)
+}
+
+/// The answer with these verdicts. The last one is the status.
+fn told(alloc: Global, verdicts: &Verdicts) -> Result<Answer, Stop>
+    ensures ok { IfOk result (λ answer. IsTold verdicts.now answer.status answer.output.items) }
+    ensures err { OnErr result (result ≡ Err Stop.NoMemory) }
+{
+    let output = verdict_lines(alloc, &verdicts.each)?;
+    let status = if verdicts.last {
+        Status::Yes
+    } else {
+        Status::No
+    };
+    Ok(Answer { status, output })
+}
+
+/// Appends the line of a verdict, by the number of its edit from 0 on.
+fn put_verdict(alloc: Global, out: &mut Vec<u8>, k: usize, yes: bool) -> Result<(), NoMemory>
+    requires { k + 1 < 2 ^ 64 }
+    ensures { OnOk result (out.new.items ≡ out.old.items ++ verdict_text k yes) }
+{
+    let number = k as u64 + 1;
+    out.extend_from_slice(format!(in alloc; "{number}")?.as_bytes())?;
+    if yes {
+        out.extend_from_slice(b" yes\n")
+    } else {
+        out.extend_from_slice(b" no\n")
+    }
+}
+
+/// A line for each verdict. The time is linear in their number.
+fn verdict_lines(alloc: Global, verdicts: &[bool]) -> Result<Vec<u8>, NoMemory>
+    ensures { IfOk result (λ text. text.items ≡ verdicts_text 0 verdicts.now) }
+{
+    let mut out = Vec::new(alloc);
+    for k in 0..verdicts.len() {
+        put_verdict(alloc, &mut out, k, verdicts[k])?;
+    }
+    Ok(out)
+}

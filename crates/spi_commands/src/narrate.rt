@@ -1,0 +1,141 @@
+// The command `narrate`.
+ghost use Rattle.std.specs.Prelude.{◌≡◌, ◌≢◌, ◌≤◌, ◌⊎◌, ℕ, List, Option, length, IfOk, OnErr, Ok, Err};
+ghost use Rattle.spi_lex.specs.Lexing.{Lexes, kinds_of};
+ghost use Rattle.spi_lex.specs.Writing.{AreKinds, AreSpans, spans_of};
+ghost use Rattle.spi_narrate.specs.Narrations.{Narration as Told};
+ghost use Rattle.spi_narrate.specs.Reads.{FailsNarration};
+ghost use Rattle.spi_narrate.specs.Views.{narration_of};
+ghost use Rattle.spi_narrator.specs.Answers.{IsTold, Refuses as RefusesTelling};
+ghost use Rattle.spi_scope.specs.StandsFor.{Meant};
+ghost use Rattle.spi_commands.specs.Canonical.{IsPrint};
+ghost use Rattle.spi_commands.specs.Narrating.{
+  IsNarrationOf,
+  SpellsNarration,
+  RefusesNarrate,
+  NarratesTo,
+  SpellsUntold,
+  SpellsLongTelling,
+};
+ghost use Rattle.spi_commands.specs.Reading.{IsText, GivesText, IsUnreadBy};
+ghost use Rattle.spi_commands.specs.Run.{IsAnswered};
+ghost use Rattle.spi_commands.specs.Spelled.{SpellsFile};
+
+use crate::answer::{Answer, Stop, refusal, refused_with};
+use crate::canonical::shown;
+use crate::reading::{Unread, out_of_scope, shown_count, shown_word, start};
+use crate::status::Status;
+use crate::text::{Text, unspelled};
+use spi_honest::faultless_is_tellable;
+use spi_lex::{Token, one_answer};
+use spi_narrate::{NarrateFault, Narration, one_first_fault, one_narration, read_narration};
+use spi_narrator::{Answer as Telling, Refusal as Untold, one_telling, tell, told_files_read_back};
+use spi_scope::faults_stand_at_nodes;
+use std::alloc::Global;
+
+/// What `narrate` answers on what it is given.
+pub fn narrates(alloc: Global, text: Text) -> Result<Answer, Stop>
+    requires { IsText text }
+    ensures ok { IfOk result (λ answer. (bytes : List ℕ) → GivesText bytes text
+        → NarratesTo bytes answer.status answer.output.items) }
+    ensures answered { IfOk result (λ answer. IsAnswered answer.status × (answer.status ≢ Status.Usage)) }
+    ensures err { OnErr result (result ≡ Err Stop.NoMemory) }
+{
+    match text {
+        Text::Lexed { bytes, tokens } => narrated(alloc, &bytes, &tokens),
+        Text::Refused(line) => Ok(refused_with(line)),
+    }
+}
+
+/// What `narrate` answers on these bytes, which have these tokens.
+fn narrated(alloc: Global, bytes: &[u8], tokens: &[Token]) -> Result<Answer, Stop>
+    requires within { length bytes.now ≤ 16_777_216 }
+    requires lexed { Lexes bytes.now (Ok tokens.now) }
+    requires kinds { AreKinds (kinds_of tokens.now) }
+    requires spans { AreSpans 0 (spans_of tokens.now) (length bytes.now) }
+    ensures ok { IfOk result (λ answer. NarratesTo bytes.now answer.status answer.output.items) }
+    ensures answered { IfOk result (λ answer. IsAnswered answer.status × (answer.status ≢ Status.Usage)) }
+    ensures err { OnErr result (result ≡ Err Stop.NoMemory) }
+{
+    match read_narration(alloc, tokens) {
+        Ok(narration) => told(alloc, bytes, &narration),
+        Err(fault) => refused_by(alloc, bytes, unnarrated(alloc, bytes, tokens, &fault)),
+    }
+}
+
+/// The refusal of tokens that are those of no faultless narration.
+fn unnarrated(alloc: Global, bytes: &[u8], tokens: &[Token], fault: &NarrateFault) -> Unread
+    requires within { length bytes.now ≤ 16_777_216 }
+    requires lexed { Lexes bytes.now (Ok tokens.now) }
+    requires fails { FailsNarration fault.now tokens.now }
+    ensures { IsUnreadBy (RefusesNarrate bytes.now) result }
+{
+    match fault {
+        NarrateFault::Syntax { token } => unspelled(alloc, 20, start(bytes, tokens, *token)),
+        NarrateFault::TooDeep { token } => unspelled(alloc, 21, start(bytes, tokens, *token)),
+        NarrateFault::UnknownRole { span, word } => shown_word(alloc, 100, *span, word),
+        NarrateFault::RoleTwice { span, word } => shown_word(alloc, 101, *span, word),
+        NarrateFault::NarrationTooLarge { span, count } => shown_count(alloc, 103, *span, *count),
+        NarrateFault::NoMemory => Unread::NoMemory,
+    }
+}
+
+/// What `narrate` answers on the narration of these bytes.
+fn told(alloc: Global, bytes: &[u8], narration: &Narration) -> Result<Answer, Stop>
+    requires { SpellsNarration bytes.now (narration_of narration.now) }
+    ensures ok { IfOk result (λ answer. NarratesTo bytes.now answer.status answer.output.items) }
+    ensures answered { IfOk result (λ answer. IsAnswered answer.status × (answer.status ≢ Status.Usage)) }
+    ensures err { OnErr result (result ≡ Err Stop.NoMemory) }
+{
+    faultless_is_tellable();
+    let telling = tell(alloc, narration)?;
+    match &telling {
+        Telling::Told(file) => shown(alloc, bytes, file),
+        Telling::Refused(cause) => refused_by(alloc, bytes, untold(alloc, cause)),
+    }
+}
+
+/// The refusal of a narration that isn't told, for this cause.
+fn untold(alloc: Global, cause: &Untold) -> Unread
+    ensures { (bytes : List ℕ) (x : Told) → SpellsNarration bytes x → RefusesTelling x cause.now
+        → IsUnreadBy (RefusesNarrate bytes) result }
+{
+    match cause {
+        Untold::NotFree { span, word } => shown_word(alloc, 30, *span, word),
+        Untold::Scope(fault) => out_of_scope(alloc, fault),
+        Untold::NotReady { span } => unspelled(alloc, 102, span.from),
+        Untold::TooLarge { span, nodes } => shown_count(alloc, 104, *span, *nodes),
+    }
+}
+
+/// A refusal, with this cause.
+fn refused_by(alloc: Global, bytes: &[u8], cause: Unread) -> Result<Answer, Stop>
+    requires sized { length bytes.now ≤ 16_777_216 }
+    requires causes { IsUnreadBy (RefusesNarrate bytes.now) cause }
+    ensures ok { IfOk result (λ answer. NarratesTo bytes.now answer.status answer.output.items) }
+    ensures answered { IfOk result (λ answer. IsAnswered answer.status × (answer.status ≢ Status.Usage)) }
+    ensures err { OnErr result (result ≡ Err Stop.NoMemory) }
+{
+    faults_stand_at_nodes();
+    match cause {
+        Unread::Refused(r) => refusal(alloc, bytes, &r),
+        Unread::NoMemory => Err(Stop::NoMemory),
+    }
+}
+
+/// Bytes are those of one narration at most, and it is told by one file at most. Where they are refused they are those of
+/// none that is told, or its text would be too long. A text that isn't is read as that file.
+pub fn narrations_have_one_answer()
+    ensures one { (bytes : List ℕ) (x y : Told) → IsNarrationOf bytes x → IsNarrationOf bytes y → x ≡ y }
+    ensures told { (x : Told) (told other : Meant) → IsTold x told → IsTold x other → told ≡ other }
+    ensures untold { (bytes : List ℕ) (number : ℕ) (offset : Option ℕ) (shown : List ℕ)
+        → RefusesNarrate bytes number offset shown → SpellsUntold bytes ⊎ SpellsLongTelling bytes }
+    ensures reads { (bytes : List ℕ) (x : Told) (told : Meant) (text : List ℕ)
+        → SpellsNarration bytes x → IsTold x told → IsPrint told text → SpellsFile text told }
+{
+    one_answer();
+    one_narration();
+    one_first_fault();
+    one_telling();
+    faultless_is_tellable();
+    told_files_read_back();
+}

@@ -1,0 +1,38 @@
+//! Texts of files that break off.
+
+ghost use Rattle.std.specs.Prelude.{◌≡◌, ◌≤◌, ℕ, List, length, take, IfOk, IfSome, Ok};
+ghost use Rattle.spi_lex.specs.declared.token.Token.{Token};
+ghost use Rattle.spi_lex.specs.Lexing.{Lexes, kinds_of};
+ghost use Rattle.spi_parse.specs.Exact.{IsSyntaxAt};
+ghost use Rattle.spi_parse.specs.Formed.{whole_file, IsFile};
+ghost use Rattle.spi_expected.specs.Expected.{candidates, AreThose, GoesOn};
+
+use crate::NoMemory;
+use crate::fronts::expected;
+use spi_lex::{Kind, LexFault, lex};
+use spi_parse::{ParseFault, parse};
+use std::alloc::{AllocError, Global};
+
+/// The kinds of token of which one could stand where the syntax of these bytes breaks off. None where the bytes have no
+/// tokens, where it doesn't break off, and for 16,777,216 tokens. Its only error is NoMemory.
+pub fn expected_in(alloc: Global, bytes: &[u8]) -> Result<Option<Vec<Kind>>, NoMemory>
+    requires { length bytes.now ≤ 16_777_216 }
+    ensures { IfOk result
+        (λ r. IfSome r (λ those. (tokens : List Token) × (at : ℕ) × Lexes bytes.now (Ok tokens)
+        × IsSyntaxAt whole_file IsFile (kinds_of tokens) at
+        × AreThose (GoesOn (take at (kinds_of tokens))) candidates those.items)) }
+{
+    let tokens = match lex(alloc, bytes) {
+        Ok(tokens) => tokens,
+        Err(LexFault::NoMemory) => return Err(AllocError),
+        Err(_) => return Ok(None),
+    };
+    if tokens.len() >= 16_777_216 {
+        return Ok(None);
+    }
+    match parse(alloc, &tokens, bytes.len() as u32) {
+        Err(ParseFault::Syntax { token }) => Ok(Some(expected(alloc, &tokens, token)?)),
+        Err(ParseFault::NoMemory) => Err(AllocError),
+        _ => Ok(None),
+    }
+}
