@@ -18,13 +18,16 @@ use Rattle.spi_count.specs.Adding.{SumOf}
 
 -- An effect is held: the atoms that aren't loose by counts, the loose ones by the names that they have and by whether each
 -- is a `many`.
-pub record HeldBy (s : Store) (keys : Keys) (loose : Atom → Bool) (sum : Sum) (names : BTreeMap ℕ ℕ) (lasting : Bool) (es : Effect) : Type 0 where
+pub record HeldBy (s : Store) (keys : Keys) (loose : Atom → Bool) (sum : Sum) (names : BTreeMap ℕ ℕ)
+    (lasting : Bool) (es : Effect) : Type 0 where
   pub inner : Effect
   pub stands : SumOf s keys sum inner
   pub inside : (a : Atom) → loose a ≡ false → count a inner ≡ count a es
   pub outside : (a : Atom) → loose a ≡ true → count a inner ≡ 0
-  pub named : (a : Atom) (y : ℕ) → loose a ≡ true → 0 < count a es → is_free_at y a ≡ true → 0 < count_of names y
-  pub names_of : (y : ℕ) → 0 < count_of names y → (a : Atom) × (loose a ≡ true) × (0 < count a es) × (is_free_at y a ≡ true)
+  pub named : (a : Atom) (y : ℕ) → loose a ≡ true → 0 < count a es → is_free_at y a ≡ true
+      → 0 < count_of names y
+  pub names_of : (y : ℕ) → 0 < count_of names y
+      → (a : Atom) × (loose a ≡ true) × (0 < count a es) × (is_free_at y a ≡ true)
   pub lasts : lasting ≡ true → (a : Atom) → loose a ≡ true → 0 < count a es → IsMany a
   pub once : lasting ≡ false → (a : Atom) × (loose a ≡ true) × (0 < count a es) × (IsMany a → ⊥)
 
@@ -38,7 +41,8 @@ Held s keys n acc es = HeldBy s keys (outer n) acc.sum acc.loose.counts acc.last
 -- effects where n names are in scope, one by one
 pub data Holds (s : Store) (keys : Keys) : List ℕ → List Account → List Effect → Type 0 where
   holds_none : Holds s keys [] [] []
-  holds_next : {n : ℕ} {acc : Account} {es : Effect} {ns : List ℕ} {accs : List Account} {st : List Effect} → Held s keys n acc es → Holds s keys ns accs st → Holds s keys (n ∷ ns) (acc ∷ accs) (es ∷ st)
+  holds_next : {n : ℕ} {acc : Account} {es : Effect} {ns : List ℕ} {accs : List Account} {st : List Effect}
+      → Held s keys n acc es → Holds s keys ns accs st → Holds s keys (n ∷ ns) (acc ∷ accs) (es ∷ st)
 
 -- whether each is a `many`, with one more of this kind
 abbrev pub lasting_with : Bool → AtomKind → Bool
@@ -63,14 +67,17 @@ IsCut s keys k old b new =
     (n : ℕ) (es : Effect) → k ≤ n → Held s keys n old es
     → Held s keys k new es
     × (b ≡ true → (a : Atom) → 0 < count a es → name_bound (message_of a) ≤ n → name_bound (message_of a) ≤ k)
-    × (b ≡ false → (a : Atom) × (0 < count a es) × (k < name_bound (message_of a)) × (name_bound (message_of a) ≤ n))
+    × (b ≡ false → (a : Atom) × (0 < count a es) × (k < name_bound (message_of a))
+    × (name_bound (message_of a) ≤ n))
 
 -- the name k has left, or two names from k on, and whether none of them did
 abbrev pub LeavesOne : Store → Keys → ℕ → Account → Bool → Account → Type 0
-LeavesOne s keys k old b new = (es : Effect) → Held s keys (suc k) old es → Held s keys k new es × (b ≡ not (mentions k es))
+LeavesOne s keys k old b new = (es : Effect) → Held s keys (suc k) old es
+    → Held s keys k new es × (b ≡ not (mentions k es))
 
 abbrev pub LeavesTwo : Store → Keys → ℕ → Account → Bool → Account → Type 0
-LeavesTwo s keys k old b new = (es : Effect) → Held s keys (suc (suc k)) old es → Held s keys k new es × (b ≡ not (mentions k es || mentions (suc k) es))
+LeavesTwo s keys k old b new = (es : Effect) → Held s keys (suc (suc k)) old es
+    → Held s keys k new es × (b ≡ not (mentions k es || mentions (suc k) es))
 
 -- atoms with names in scope go in, or out
 abbrev pub HoldsMore : Store → Keys → ℕ → Effect → Account → Account → Type 0

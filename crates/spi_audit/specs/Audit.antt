@@ -22,7 +22,8 @@ pub data MisfitAt : List Subject → List RuleUse → ℕ → Type 0 where
 -- root of its tree by the table of rules, whether the uses pay or not.
 pub data Judged : List Subject → List RuleUse → List Effect → Type 0 where
   judged_none : Judged [] [] []
-  judged_use : {u : RuleUse} {s : Subject} {ps ss : List Subject} {us : List RuleUse} {es fs : List Effect} {e : Effect}
+  judged_use : {u : RuleUse} {s : Subject} {ps ss : List Subject} {us : List RuleUse} {es fs : List Effect}
+      {e : Effect}
       → Fits u s ps → Judged (ps ++ ss) us (es ++ fs) → length es ≡ length ps → Gives u s es e
       → Judged (s ∷ ss) (u ∷ us) (e ∷ fs)
 
@@ -32,7 +33,8 @@ AllPay judged_none = ⊤
 AllPay (judged_use {u} {s} {es = es} f j l g) = Pays u s es × AllPay j
 
 -- use number i is the first in preorder that doesn't pay
-abbrev pub FirstUnpaid : {ss : List Subject} {us : List RuleUse} {es : List Effect} → Judged ss us es → ℕ → Type 0
+abbrev pub FirstUnpaid : {ss : List Subject} {us : List RuleUse} {es : List Effect} → Judged ss us es → ℕ
+    → Type 0
 FirstUnpaid judged_none i = ⊥
 FirstUnpaid (judged_use {u} {s} {es = es} f j l g) zero = Pays u s es → ⊥
 FirstUnpaid (judged_use {u} {s} {es = es} f j l g) (suc i) = Pays u s es × FirstUnpaid j i
@@ -46,7 +48,8 @@ IsWrongAt env p us i =
 -- each use fits and pays, and the root has this effect, which isn't empty
 abbrev pub LeavesUnpaid : Env → Process → List RuleUse → Effect → Type 0
 LeavesUnpaid env p us fs =
-    (e : Effect) × (j : Judged (of_process env p ∷ []) us (e ∷ [])) × AllPay j × SameEffect e fs × (SameEffect fs [] → ⊥)
+    (e : Effect) × (j : Judged (of_process env p ∷ []) us (e ∷ [])) × AllPay j × SameEffect e fs
+    × (SameEffect fs [] → ⊥)
 
 -- what an audit answers of a process whose k free names are untrusted
 abbrev pub IsAudited : ℕ → Process → List RuleUse → Audited → Type 0

@@ -203,4 +203,5 @@ IsScoped (subsumed_to k fs) = Below k fs
 -- the open processes have these numbers of names in scope
 pub data AreScoped : List ℕ → List Change → Type 0 where
   scoped_none : AreScoped [] []
-  scoped_next : {c : Change} {ms : List ℕ} {cs : List Change} (ns : List ℕ) → IsScoped c → ms ≡ own c ++ ns → AreScoped (before c ++ ns) cs → AreScoped ms (c ∷ cs)
+  scoped_next : {c : Change} {ms : List ℕ} {cs : List Change} (ns : List ℕ) → IsScoped c → ms ≡ own c ++ ns
+      → AreScoped (before c ++ ns) cs → AreScoped ms (c ∷ cs)

@@ -36,18 +36,26 @@ pub data NotedAs (s : Store) (keys : Keys) : Change → Note → Type 0 where
   noted_two : {k : ℕ} → NotedAs s keys (two_left k) (N.LeaveTwo k)
   noted_serve : {k : ℕ} → NotedAs s keys (served k) (N.Serve k)
   noted_case : {k : ℕ} → NotedAs s keys (chosen k) (N.Case k)
-  noted_check : {k : ℕ} {m : Message} {fs : Effect} {id : MsgId} {t : TyId} → with_keys s keys id.place m → Means s t.place (nonce fs) → NotedAs s keys (checked k m fs) (N.Check id t)
-  noted_begin : {k : ℕ} {m : Message} {id : MsgId} → slice_get s.messages id.place ≡ Some m → NotedAs s keys (begun k m) (N.Begin id)
-  noted_end : {k : ℕ} {m : Message} {id : MsgId} → with_keys s keys id.place m → NotedAs s keys (ended k m) (N.End id)
-  noted_many : {k : ℕ} {m : Message} {id : MsgId} → with_keys s keys id.place m → NotedAs s keys (ended_many k m) (N.EndMany id)
-  noted_cast : {k : ℕ} {fs : Effect} {t : TyId} → Means s t.place (nonce fs) → HaveKeys s keys fs → NotedAs s keys (casted k fs) (N.Cast k t)
-  noted_make : {k : ℕ} {id : MsgId} → slice_get s.messages id.place ≡ Some (name k) → NotedAs s keys (made k) (N.Make k id)
+  noted_check : {k : ℕ} {m : Message} {fs : Effect} {id : MsgId} {t : TyId} → with_keys s keys id.place m
+      → Means s t.place (nonce fs) → NotedAs s keys (checked k m fs) (N.Check id t)
+  noted_begin : {k : ℕ} {m : Message} {id : MsgId} → slice_get s.messages id.place ≡ Some m
+      → NotedAs s keys (begun k m) (N.Begin id)
+  noted_end : {k : ℕ} {m : Message} {id : MsgId} → with_keys s keys id.place m
+      → NotedAs s keys (ended k m) (N.End id)
+  noted_many : {k : ℕ} {m : Message} {id : MsgId} → with_keys s keys id.place m
+      → NotedAs s keys (ended_many k m) (N.EndMany id)
+  noted_cast : {k : ℕ} {fs : Effect} {t : TyId} → Means s t.place (nonce fs) → HaveKeys s keys fs
+      → NotedAs s keys (casted k fs) (N.Cast k t)
+  noted_make : {k : ℕ} {id : MsgId} → slice_get s.messages id.place ≡ Some (name k)
+      → NotedAs s keys (made k) (N.Make k id)
   noted_both : {k : ℕ} → NotedAs s keys (summed k) N.Both
-  noted_taken : {k : ℕ} {fs : Effect} {ids : AtomVec} → TellsAll (SaysAtom s.messages) ids.items fs → HaveKeys s keys fs → NotedAs s keys (subsumed_to k fs) (N.Taken ids)
+  noted_taken : {k : ℕ} {fs : Effect} {ids : AtomVec} → TellsAll (SaysAtom s.messages) ids.items fs
+      → HaveKeys s keys fs → NotedAs s keys (subsumed_to k fs) (N.Taken ids)
 
 pub data AreNoted (s : Store) (keys : Keys) : List Change → List Note → Type 0 where
   are_noted_none : AreNoted s keys [] []
-  are_noted_next : {c : Change} {o : Note} {cs : List Change} {os : List Note} → NotedAs s keys c o → AreNoted s keys cs os → AreNoted s keys (c ∷ cs) (o ∷ os)
+  are_noted_next : {c : Change} {o : Note} {cs : List Change} {os : List Note} → NotedAs s keys c o
+      → AreNoted s keys cs os → AreNoted s keys (c ∷ cs) (o ∷ os)
 
 -- what is kept of a node's use in each environment that the judge stood for
 pub record NotesNode (old new : Numbered) (ks : Keys) (rule : Rule) (x : Shape) (o : Note) : Type 0 where
@@ -56,16 +64,21 @@ pub record NotesNode (old new : Numbered) (ks : Keys) (rule : Rule) (x : Shape) 
 -- the atoms of a written effect by numbers, where it is good
 abbrev pub TakesEffect : Numbered → Numbered → Keys → Effect → Option AtomVec → Type 0
 TakesEffect old new ks es None = (e : Env) → Stands old e → GoodEffect [] e es → ⊥
-TakesEffect old new ks es (Some ids) = TellsAll (SaysAtom new.store.messages) ids.items es × HaveKeys new.store ks es × ((e : Env) → Stands old e → GoodEffect [] e es)
+TakesEffect old new ks es (Some ids) = TellsAll (SaysAtom new.store.messages) ids.items es
+    × HaveKeys new.store ks es × ((e : Env) → Stands old e → GoodEffect [] e es)
 
 -- what a change with one premise does to its account
-pub record ChangesOne (s : Store) (keys : Keys) (o : Note) (old : Account) (b : Bool) (new : Account) : Type 0 where
-  pub at : (c : Change) (n : ℕ) (es : Effect) → NotedAs s keys c o → IsScoped c → before c ≡ n ∷ [] → Held s keys n old es
-      → Held s keys (scope_in c) new (top (after c (es ∷ []))) × (b ≡ pays c (es ∷ []))
+pub record ChangesOne (s : Store) (keys : Keys) (o : Note) (old : Account) (b : Bool) (new : Account) : Type 0
+  where
+    pub at : (c : Change) (n : ℕ) (es : Effect) → NotedAs s keys c o → IsScoped c → before c ≡ n ∷ []
+        → Held s keys n old es
+        → Held s keys (scope_in c) new (top (after c (es ∷ []))) × (b ≡ pays c (es ∷ []))
 
 -- what a change does to the accounts of the open processes: the stack grows at its end
-pub record ChangesAll (s : Store) (keys : Keys) (o : Note) (old : List Account) (b : Bool) (new : List Account) : Type 0 where
-  pub at : (c : Change) (ns : List ℕ) (st : List Effect) → NotedAs s keys c o → IsScoped c → Holds s keys (before c ++ ns) (reverse old) st
+pub record ChangesAll (s : Store) (keys : Keys) (o : Note) (old : List Account) (b : Bool)
+    (new : List Account) : Type 0 where
+  pub at : (c : Change) (ns : List ℕ) (st : List Effect) → NotedAs s keys c o → IsScoped c
+      → Holds s keys (before c ++ ns) (reverse old) st
       → Holds s keys (own c ++ ns) (reverse new) (after c st) × (b ≡ pays c st)
 
 -- a change that is to be made, with what stands behind it
@@ -140,13 +153,16 @@ pub record IsRooted (s : Store) (keys : Keys) (os : List Note) : Type 0 where
 -- a message's number with its key, where it is a label, and where it has type Un
 abbrev pub TakesLabelled : Numbered → Numbered → Keys → Message → Option MsgId → Type 0
 TakesLabelled old new ks m None = (e : Env) → Stands old e → IsLabel [] e m → ⊥
-TakesLabelled old new ks m (Some id) = with_keys new.store ks id.place m × ((e : Env) → Stands old e → IsLabel [] e m)
+TakesLabelled old new ks m (Some id) = with_keys new.store ks id.place m
+    × ((e : Env) → Stands old e → IsLabel [] e m)
 
 abbrev pub TakesUn : Numbered → Numbered → Keys → Message → Option MsgId → Type 0
 TakesUn old new ks m None = (e : Env) → Stands old e → HasType [] e m un → ⊥
-TakesUn old new ks m (Some id) = with_keys new.store ks id.place m × ((e : Env) → Stands old e → HasType [] e m un)
+TakesUn old new ks m (Some id) = with_keys new.store ks id.place m
+    × ((e : Env) → Stands old e → HasType [] e m un)
 
 -- an atom by numbers, where it is good
 abbrev pub TakesAtomic : Numbered → Numbered → Keys → Atom → Option AtomId → Type 0
 TakesAtomic old new ks a None = (e : Env) → Stands old e → GoodEffect [] e (a ∷ []) → ⊥
-TakesAtomic old new ks a (Some id) = SaysAtom new.store.messages id a × HasKey new.store ks (message_of a) × ((e : Env) → Stands old e → GoodEffect [] e (a ∷ []))
+TakesAtomic old new ks a (Some id) = SaysAtom new.store.messages id a × HasKey new.store ks (message_of a)
+    × ((e : Env) → Stands old e → GoodEffect [] e (a ∷ []))

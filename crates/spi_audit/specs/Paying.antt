@@ -13,36 +13,50 @@ use Rattle.spi_audit.specs.Fits.{Subject, of_message, of_process, plain, subsume
 -- The effect that a use of a rule has by the table of rules, where its premises have these. What is asked of a message
 -- has no effect, and stands in the list as any.
 pub data Gives : RuleUse → Subject → List Effect → Effect → Type 0 where
-  gives_message : {u : RuleUse} {env : Env} {m : Message} {t : Ty} {es : List Effect} → Gives u (of_message env m t) es []
+  gives_message : {u : RuleUse} {env : Env} {m : Message} {t : Ty} {es : List Effect}
+      → Gives u (of_message env m t) es []
   gives_stop : {env : Env} {p : Process} → Gives (plain ProcStop) (of_process env p) [] []
-  gives_out : {env : Env} {p : Process} {a b : Effect} → Gives (plain ProcOut) (of_process env p) (a ∷ b ∷ []) []
-  gives_in : {env : Env} {p : Process} {a es : Effect} → Gives (plain ProcIn) (of_process env p) (a ∷ es ∷ []) es
-  gives_repeat : {env : Env} {p : Process} {a es : Effect} → Gives (plain ProcRepeat) (of_process env p) (a ∷ es ∷ []) es
-  gives_split : {env : Env} {p : Process} {a es : Effect} → Gives (plain ProcSplit) (of_process env p) (a ∷ es ∷ []) es
-  gives_split_un : {env : Env} {p : Process} {a es : Effect} → Gives (plain ProcSplitUn) (of_process env p) (a ∷ es ∷ []) es
-  gives_match : {env : Env} {p : Process} {a b es : Effect} → Gives (plain ProcMatch) (of_process env p) (a ∷ b ∷ es ∷ []) es
-  gives_match_un : {env : Env} {p : Process} {a b es : Effect} → Gives (plain ProcMatchUn) (of_process env p) (a ∷ b ∷ es ∷ []) es
+  gives_out : {env : Env} {p : Process} {a b : Effect}
+      → Gives (plain ProcOut) (of_process env p) (a ∷ b ∷ []) []
+  gives_in : {env : Env} {p : Process} {a es : Effect}
+      → Gives (plain ProcIn) (of_process env p) (a ∷ es ∷ []) es
+  gives_repeat : {env : Env} {p : Process} {a es : Effect}
+      → Gives (plain ProcRepeat) (of_process env p) (a ∷ es ∷ []) es
+  gives_split : {env : Env} {p : Process} {a es : Effect}
+      → Gives (plain ProcSplit) (of_process env p) (a ∷ es ∷ []) es
+  gives_split_un : {env : Env} {p : Process} {a es : Effect}
+      → Gives (plain ProcSplitUn) (of_process env p) (a ∷ es ∷ []) es
+  gives_match : {env : Env} {p : Process} {a b es : Effect}
+      → Gives (plain ProcMatch) (of_process env p) (a ∷ b ∷ es ∷ []) es
+  gives_match_un : {env : Env} {p : Process} {a b es : Effect}
+      → Gives (plain ProcMatchUn) (of_process env p) (a ∷ b ∷ es ∷ []) es
   gives_case : {env : Env} {p : Process} {a es fs rs : Effect}
       → IsGreater rs es fs → Gives (plain ProcCase) (of_process env p) (a ∷ es ∷ fs ∷ []) rs
   gives_case_un : {env : Env} {p : Process} {a es fs rs : Effect}
       → IsGreater rs es fs → Gives (plain ProcCaseUn) (of_process env p) (a ∷ es ∷ fs ∷ []) rs
-  gives_decrypt : {env : Env} {p : Process} {a b es : Effect} → Gives (plain ProcDecrypt) (of_process env p) (a ∷ b ∷ es ∷ []) es
-  gives_decrypt_un : {env : Env} {p : Process} {a b es : Effect} → Gives (plain ProcDecryptUn) (of_process env p) (a ∷ b ∷ es ∷ []) es
+  gives_decrypt : {env : Env} {p : Process} {a b es : Effect}
+      → Gives (plain ProcDecrypt) (of_process env p) (a ∷ b ∷ es ∷ []) es
+  gives_decrypt_un : {env : Env} {p : Process} {a b es : Effect}
+      → Gives (plain ProcDecryptUn) (of_process env p) (a ∷ b ∷ es ∷ []) es
   gives_check : {env : Env} {m n : Message} {p : Process} {a es fs ds rs : Effect}
       → IsNonce [] env n fs → IsDifference ds es fs → IsSum rs ds (checks m ∷ [])
       → Gives (plain ProcCheck) (of_process env (check m n p)) (a ∷ es ∷ []) rs
-  gives_check_un : {env : Env} {p : Process} {a b es : Effect} → Gives (plain ProcCheckUn) (of_process env p) (a ∷ b ∷ es ∷ []) es
+  gives_check_un : {env : Env} {p : Process} {a b es : Effect}
+      → Gives (plain ProcCheckUn) (of_process env p) (a ∷ b ∷ es ∷ []) es
   gives_begin : {env : Env} {m : Message} {p : Process} {es rs : Effect}
-      → IsDifference rs es (ends m ∷ many m ∷ []) → Gives (plain ProcBegin) (of_process env (begin m p)) (es ∷ []) rs
+      → IsDifference rs es (ends m ∷ many m ∷ [])
+      → Gives (plain ProcBegin) (of_process env (begin m p)) (es ∷ []) rs
   gives_end : {env : Env} {m : Message} {p : Process} {es rs : Effect}
       → IsSum rs es (ends m ∷ []) → Gives (plain ProcEnd) (of_process env (end m p)) (es ∷ []) rs
   gives_end_many : {env : Env} {m : Message} {p : Process} {es rs : Effect}
       → IsSum rs es (many m ∷ []) → Gives (plain ProcEndMany) (of_process env (end_many m p)) (es ∷ []) rs
   gives_cast : {env : Env} {m : Message} {p : Process} {a es fs rs : Effect}
       → IsSum rs es fs → Gives (plain ProcCast) (of_process env (cast m (nonce fs) p)) (a ∷ es ∷ []) rs
-  gives_cast_un : {env : Env} {p : Process} {a es : Effect} → Gives (plain ProcCastUn) (of_process env p) (a ∷ es ∷ []) es
+  gives_cast_un : {env : Env} {p : Process} {a es : Effect}
+      → Gives (plain ProcCastUn) (of_process env p) (a ∷ es ∷ []) es
   gives_new : {env : Env} {p : Process} {es rs : Effect}
-      → IsDifference rs es (checks (name (length env)) ∷ []) → Gives (plain ProcNew) (of_process env p) (es ∷ []) rs
+      → IsDifference rs es (checks (name (length env)) ∷ [])
+      → Gives (plain ProcNew) (of_process env p) (es ∷ []) rs
   gives_par : {env : Env} {p : Process} {es fs rs : Effect}
       → IsSum rs es fs → Gives (plain ProcPar) (of_process env p) (es ∷ fs ∷ []) rs
   gives_sub : {env : Env} {p : Process} {es fs : Effect} → Gives (subsumed fs) (of_process env p) (es ∷ []) fs
@@ -81,13 +95,17 @@ pub data Pays : RuleUse → Subject → List Effect → Type 0 where
   pays_new : {env : Env} {p : Process} {es rs : Effect}
       → IsDifference rs es (checks (name (length env)) ∷ []) → EffectAvoids (length env) rs
       → Pays (plain ProcNew) (of_process env p) (es ∷ [])
-  pays_sub : {env : Env} {p : Process} {es fs : Effect} → Within es fs → Pays (subsumed fs) (of_process env p) (es ∷ [])
-  pays_message : {u : RuleUse} {env : Env} {m : Message} {t : Ty} {es : List Effect} → Pays u (of_message env m t) es
+  pays_sub : {env : Env} {p : Process} {es fs : Effect} → Within es fs
+      → Pays (subsumed fs) (of_process env p) (es ∷ [])
+  pays_message : {u : RuleUse} {env : Env} {m : Message} {t : Ty} {es : List Effect}
+      → Pays u (of_message env m t) es
   pays_stop : {env : Env} {p : Process} {es : List Effect} → Pays (plain ProcStop) (of_process env p) es
   pays_out : {env : Env} {p : Process} {es : List Effect} → Pays (plain ProcOut) (of_process env p) es
   pays_check : {env : Env} {p : Process} {es : List Effect} → Pays (plain ProcCheck) (of_process env p) es
-  pays_check_un : {env : Env} {p : Process} {es : List Effect} → Pays (plain ProcCheckUn) (of_process env p) es
+  pays_check_un : {env : Env} {p : Process} {es : List Effect}
+      → Pays (plain ProcCheckUn) (of_process env p) es
   pays_begin : {env : Env} {p : Process} {es : List Effect} → Pays (plain ProcBegin) (of_process env p) es
   pays_end : {env : Env} {p : Process} {es : List Effect} → Pays (plain ProcEnd) (of_process env p) es
-  pays_end_many : {env : Env} {p : Process} {es : List Effect} → Pays (plain ProcEndMany) (of_process env p) es
+  pays_end_many : {env : Env} {p : Process} {es : List Effect}
+      → Pays (plain ProcEndMany) (of_process env p) es
   pays_par : {env : Env} {p : Process} {es : List Effect} → Pays (plain ProcPar) (of_process env p) es

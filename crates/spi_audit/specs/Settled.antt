@@ -16,4 +16,5 @@ IsLeft es (Unpaid f) = SameEffect es (View.effect f) × (SameEffect (View.effect
 abbrev pub IsSettled : List Change → Audited → Type 0
 IsSettled cs Proved = (first_unpaid 0 cs ≡ None) × (top (run cs) ≡ [])
 IsSettled cs (WrongStep i) = first_unpaid 0 cs ≡ Some i
-IsSettled cs (Unpaid f) = (first_unpaid 0 cs ≡ None) × SameEffect (top (run cs)) (View.effect f) × (SameEffect (View.effect f) [] → ⊥)
+IsSettled cs (Unpaid f) = (first_unpaid 0 cs ≡ None) × SameEffect (top (run cs)) (View.effect f)
+    × (SameEffect (View.effect f) [] → ⊥)

@@ -54,7 +54,9 @@ impl Account {
 
     /// The sum of two effects.
     pub fn summed(self, other: Account) -> Result<Account, NoMemory>
-        ensures { IfOk result (λ r. (s : Store) (keys : Keys) (n : ℕ) (es fs : Effect) → IsKeyed s keys → Held s keys n self es → Held s keys n other fs → Held s keys n r (es ++ fs)) }
+        ensures { IfOk result
+            (λ r. (s : Store) (keys : Keys) (n : ℕ) (es fs : Effect) → IsKeyed s keys → Held s keys n self es
+            → Held s keys n other fs → Held s keys n r (es ++ fs)) }
     {
         let Account {
             sum,
@@ -75,7 +77,9 @@ impl Account {
 
     /// The greater count of each atom of two effects.
     pub fn greatest(self, other: Account) -> Result<Account, NoMemory>
-        ensures { IfOk result (λ r. (s : Store) (keys : Keys) (n : ℕ) (es fs : Effect) → IsKeyed s keys → Held s keys n self es → Held s keys n other fs → Held s keys n r (greater es fs)) }
+        ensures { IfOk result
+            (λ r. (s : Store) (keys : Keys) (n : ℕ) (es fs : Effect) → IsKeyed s keys → Held s keys n self es
+            → Held s keys n other fs → Held s keys n r (greater es fs)) }
     {
         let Account {
             sum,
@@ -109,7 +113,9 @@ pub fn empty_account(alloc: Global) -> Account
 // The names of a message are marked.
 fn mark_names(store: &Store, id: MsgId, loose: &mut Counts) -> Result<(), NoMemory>
     requires { id.place < length store.now.messages }
-    ensures { OnOk result ((m : Message) → slice_get store.now.messages id.place ≡ Some m → Marks loose.old.counts loose.new.counts m) }
+    ensures { OnOk result
+        ((m : Message) → slice_get store.now.messages id.place ≡ Some m
+        → Marks loose.old.counts loose.new.counts m) }
 {
     match store.part(id) {
         MsgPart::Bound(_) => Ok(()),
@@ -155,7 +161,9 @@ fn is_lasting(lasting: bool, kind: AtomKind) -> bool
 fn loosen(store: &Store, keys: &Keys, scope: u32, account: &mut Account) -> Result<(), NoMemory>
     requires scope { scope ≤ 300000 }
     requires held { IsHeld store.now keys.now account.old }
-    ensures { OnOk result ((n : ℕ) (es : Effect) → scope ≤ n → Held store.now keys.now n account.old es → Held store.now keys.now scope account.new es) }
+    ensures { OnOk result
+        ((n : ℕ) (es : Effect) → scope ≤ n → Held store.now keys.now n account.old es
+        → Held store.now keys.now scope account.new es) }
 {
     let least = (scope as u64 + 1) * 4_294_967_296;
     while let Some((kind, key, _)) = account.sum.take_from(least) {
@@ -234,7 +242,9 @@ pub fn serve(
 ) -> Result<bool, NoMemory>
     requires scope { scope ≤ 300000 }
     requires held { IsHeld store.now keys.now account.old }
-    ensures { IfOk result (λ b. (es : Effect) → Held store.now keys.now (suc scope) account.old es → Held store.now keys.now scope account.new es × (b ≡ are_many es && not (mentions scope es))) }
+    ensures { IfOk result
+        (λ b. (es : Effect) → Held store.now keys.now (suc scope) account.old es
+        → Held store.now keys.now scope account.new es × (b ≡ are_many es && not (mentions scope es))) }
 {
     let lasting = both(account.lasting, account.sum.is_all_many());
     let free = leave_one(store, keys, scope, account)?;
@@ -243,7 +253,10 @@ pub fn serve(
 
 /// One more atom, whose message has a key.
 pub fn put_atom(keys: &Keys, a: AtomId, account: &mut Account) -> Result<(), NoMemory>
-    ensures { OnOk result ((s : Store) (b : Atom) (k : ℕ) → IsKeyed s keys.now → SaysAtom s.messages a b → HasKey s keys.now (message_of b) → name_bound (message_of b) ≤ k → HoldsMore s keys.now k (b ∷ []) account.old account.new) }
+    ensures { OnOk result
+        ((s : Store) (b : Atom) (k : ℕ) → IsKeyed s keys.now → SaysAtom s.messages a b
+        → HasKey s keys.now (message_of b) → name_bound (message_of b) ≤ k
+        → HoldsMore s keys.now k (b ∷ []) account.old account.new) }
 {
     add_atom(keys, a, &mut account.sum)?;
     Ok(())
@@ -251,7 +264,8 @@ pub fn put_atom(keys: &Keys, a: AtomId, account: &mut Account) -> Result<(), NoM
 
 /// An atom less, where it stands there.
 pub fn drop_atom(keys: &Keys, a: AtomId, account: &mut Account)
-    ensures { (s : Store) (b : Atom) (k : ℕ) → IsKeyed s keys.now → SaysAtom s.messages a b → name_bound (message_of b) ≤ k → HoldsLess s keys.now k (b ∷ []) account.old account.new }
+    ensures { (s : Store) (b : Atom) (k : ℕ) → IsKeyed s keys.now → SaysAtom s.messages a b
+        → name_bound (message_of b) ≤ k → HoldsLess s keys.now k (b ∷ []) account.old account.new }
 {
     take_atom(keys, a, &mut account.sum);
 }
@@ -259,7 +273,10 @@ pub fn drop_atom(keys: &Keys, a: AtomId, account: &mut Account)
 /// The effect of a Nonce type goes in.
 pub fn put_type(store: &Store, keys: &Keys, t: TyId, account: &mut Account) -> Result<(), NoMemory>
     requires { t.place < length store.now.types }
-    ensures { OnOk result ((fs : Effect) (k : ℕ) → IsKeyed store.now keys.now → Means store.now t.place (nonce fs) → HaveKeys store.now keys.now fs → Below k fs → HoldsMore store.now keys.now k fs account.old account.new) }
+    ensures { OnOk result
+        ((fs : Effect) (k : ℕ) → IsKeyed store.now keys.now → Means store.now t.place (nonce fs)
+        → HaveKeys store.now keys.now fs → Below k fs
+        → HoldsMore store.now keys.now k fs account.old account.new) }
 {
     add_type(store, keys, t, &mut account.sum)?;
     Ok(())
@@ -268,14 +285,16 @@ pub fn put_type(store: &Store, keys: &Keys, t: TyId, account: &mut Account) -> R
 /// The effect of a Nonce type goes out.
 pub fn drop_type(store: &Store, keys: &Keys, t: TyId, account: &mut Account)
     requires { t.place < length store.now.types }
-    ensures { (fs : Effect) (k : ℕ) → IsKeyed store.now keys.now → Means store.now t.place (nonce fs) → Below k fs → HoldsLess store.now keys.now k fs account.old account.new }
+    ensures { (fs : Effect) (k : ℕ) → IsKeyed store.now keys.now → Means store.now t.place (nonce fs)
+        → Below k fs → HoldsLess store.now keys.now k fs account.old account.new }
 {
     take_type(store, keys, t, &mut account.sum);
 }
 
 // The names of both.
 fn merged(a: Counts, b: Counts) -> Result<Counts, NoMemory>
-    ensures { IfOk result (λ c. (k : ℕ) → count_of c.counts k ≡ max (count_of a.counts k) (count_of b.counts k)) }
+    ensures { IfOk result
+        (λ c. (k : ℕ) → count_of c.counts k ≡ max (count_of a.counts k) (count_of b.counts k)) }
 {
     let (mut most, less) = if a.len() < b.len() { (b, a) } else { (a, b) };
     most.rise_to(less)?;
@@ -284,7 +303,8 @@ fn merged(a: Counts, b: Counts) -> Result<Counts, NoMemory>
 
 // No count of the first is above that of the second.
 fn is_sum_within(a: Sum, b: &Sum) -> bool
-    ensures { (s : Store) (keys : Keys) (es fs : Effect) → IsKeyed s keys → SumOf s keys a es → SumOf s keys b.now fs → result ≡ is_within es fs }
+    ensures { (s : Store) (keys : Keys) (es fs : Effect) → IsKeyed s keys → SumOf s keys a es
+        → SumOf s keys b.now fs → result ≡ is_within es fs }
 {
     let mut rest = a;
     while let Some((kind, key, count)) = rest.pop() {
@@ -302,7 +322,10 @@ pub fn written_over(
     ids: &[AtomId],
     account: &mut Account,
 ) -> Result<bool, NoMemory>
-    ensures { IfOk result (λ b. (s : Store) (fs es : Effect) (k : ℕ) → IsKeyed s keys.now → TellsAll (SaysAtom s.messages) ids.now fs → HaveKeys s keys.now fs → Below k fs → Held s keys.now k account.old es → Held s keys.now k account.new fs × (b ≡ is_within es fs)) }
+    ensures { IfOk result
+        (λ b. (s : Store) (fs es : Effect) (k : ℕ) → IsKeyed s keys.now
+        → TellsAll (SaysAtom s.messages) ids.now fs → HaveKeys s keys.now fs → Below k fs
+        → Held s keys.now k account.old es → Held s keys.now k account.new fs × (b ≡ is_within es fs)) }
 {
     let mut written = empty_account(alloc);
     add_atoms(keys, ids, &mut written.sum)?;

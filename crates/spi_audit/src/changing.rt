@@ -37,7 +37,8 @@ fn checked(
 
 // A `begin` pays for the ends of its label.
 fn begun(keys: &Keys, id: MsgId, account: &mut Account) -> bool
-    ensures { (s : Store) → IsKeyed s keys.now → ChangesOne s keys.now (Note.Begin id) account.old result account.new }
+    ensures { (s : Store) → IsKeyed s keys.now
+        → ChangesOne s keys.now (Note.Begin id) account.old result account.new }
 {
     drop_atom(keys, AtomId::End(id), account);
     drop_atom(keys, AtomId::Many(id), account);
@@ -45,14 +46,18 @@ fn begun(keys: &Keys, id: MsgId, account: &mut Account) -> bool
 }
 
 fn ended(keys: &Keys, id: MsgId, account: &mut Account) -> Result<bool, NoMemory>
-    ensures { IfOk result (λ b. (s : Store) → IsKeyed s keys.now → ChangesOne s keys.now (Note.End id) account.old b account.new) }
+    ensures { IfOk result
+        (λ b. (s : Store) → IsKeyed s keys.now
+        → ChangesOne s keys.now (Note.End id) account.old b account.new) }
 {
     put_atom(keys, AtomId::End(id), account)?;
     Ok(true)
 }
 
 fn ended_many(keys: &Keys, id: MsgId, account: &mut Account) -> Result<bool, NoMemory>
-    ensures { IfOk result (λ b. (s : Store) → IsKeyed s keys.now → ChangesOne s keys.now (Note.EndMany id) account.old b account.new) }
+    ensures { IfOk result
+        (λ b. (s : Store) → IsKeyed s keys.now
+        → ChangesOne s keys.now (Note.EndMany id) account.old b account.new) }
 {
     put_atom(keys, AtomId::Many(id), account)?;
     Ok(true)
@@ -83,7 +88,8 @@ fn made(
 ) -> Result<bool, NoMemory>
     requires scope { scope ≤ 300000 }
     requires before { IsBeforeOne store.now keys.now (Note.Make scope id) account.old }
-    ensures { IfOk result (λ b. ChangesOne store.now keys.now (Note.Make scope id) account.old b account.new) }
+    ensures { IfOk result
+        (λ b. ChangesOne store.now keys.now (Note.Make scope id) account.old b account.new) }
 {
     drop_atom(keys, AtomId::Check(id), account);
     leave_one(store, keys, scope, account)
@@ -144,7 +150,9 @@ fn change_top(
 
 // The use of a form with no process in it.
 fn change_none(alloc: Global, stack: &mut Vec<Account>) -> Result<bool, NoMemory>
-    ensures { IfOk result (λ b. (s : Store) (keys : Keys) → IsKeyed s keys → ChangesAll s keys Note.Empty stack.old.items b stack.new.items) }
+    ensures { IfOk result
+        (λ b. (s : Store) (keys : Keys) → IsKeyed s keys
+        → ChangesAll s keys Note.Empty stack.old.items b stack.new.items) }
 {
     stack.push(empty_account(alloc))?;
     Ok(true)
@@ -152,7 +160,9 @@ fn change_none(alloc: Global, stack: &mut Vec<Account>) -> Result<bool, NoMemory
 
 // Two processes side by side.
 fn change_both(stack: &mut Vec<Account>) -> Result<bool, NoMemory>
-    ensures { IfOk result (λ b. (s : Store) (keys : Keys) → IsKeyed s keys → ChangesAll s keys Note.Both stack.old.items b stack.new.items) }
+    ensures { IfOk result
+        (λ b. (s : Store) (keys : Keys) → IsKeyed s keys
+        → ChangesAll s keys Note.Both stack.old.items b stack.new.items) }
 {
     match stack.pop() {
         None => Ok(true),
@@ -178,7 +188,11 @@ fn both_sides(
     requires scope { scope ≤ 300000 }
     requires first { IsHeld store.now keys.now a.old }
     requires second { IsHeld store.now keys.now b.old }
-    ensures { IfOk result (λ r. (es fs : Effect) → Held store.now keys.now (suc scope) a.old es → Held store.now keys.now (suc scope) b.old fs → Held store.now keys.now scope a.new es × Held store.now keys.now scope b.new fs × (r ≡ not (mentions scope es) && not (mentions scope fs))) }
+    ensures { IfOk result
+        (λ r. (es fs : Effect) → Held store.now keys.now (suc scope) a.old es
+        → Held store.now keys.now (suc scope) b.old fs
+        → Held store.now keys.now scope a.new es × Held store.now keys.now scope b.new fs
+        × (r ≡ not (mentions scope es) && not (mentions scope fs))) }
 {
     let first = leave_one(store, keys, scope, a)?;
     let second = leave_one(store, keys, scope, b)?;
@@ -193,7 +207,8 @@ fn change_case(
 ) -> Result<bool, NoMemory>
     requires scope { scope ≤ 300000 }
     requires before { IsBefore store.now keys.now (Note.Case scope) stack.old.items }
-    ensures { IfOk result (λ b. ChangesAll store.now keys.now (Note.Case scope) stack.old.items b stack.new.items) }
+    ensures { IfOk result
+        (λ b. ChangesAll store.now keys.now (Note.Case scope) stack.old.items b stack.new.items) }
 {
     match stack.pop() {
         None => Ok(true),
@@ -242,8 +257,12 @@ pub fn account(
     requires few { vec_len notes < 2 ^ 32 }
     requires small { AreSmallNotes notes.items }
     requires noted { IsRooted store.now keys.now notes.items }
-    ensures effect { IfOk result (λ r. (cs : List Change) (n : ℕ) → AreNoted store.now keys.now cs notes.items → AreScoped (n ∷ []) cs → Held store.now keys.now n r.0 (top (run cs))) }
-    ensures unpaid { IfOk result (λ r. (cs : List Change) (n : ℕ) → AreNoted store.now keys.now cs notes.items → AreScoped (n ∷ []) cs → r.1 ≡ first_unpaid 0 cs) }
+    ensures effect { IfOk result
+        (λ r. (cs : List Change) (n : ℕ) → AreNoted store.now keys.now cs notes.items → AreScoped (n ∷ []) cs
+        → Held store.now keys.now n r.0 (top (run cs))) }
+    ensures unpaid { IfOk result
+        (λ r. (cs : List Change) (n : ℕ) → AreNoted store.now keys.now cs notes.items → AreScoped (n ∷ []) cs
+        → r.1 ≡ first_unpaid 0 cs) }
 {
     // The count is asked for what its answer says: nothing has two numbers.
     let _ = store.distinct();

@@ -64,7 +64,8 @@ fn of_send(
     channel: &Msg,
     datum: &Msg,
 ) -> Result<Option<Premises>, NoMemory>
-    ensures answer { IfOk result (AnswersLeaf judge.old judge.new rule (Term.Sends (message channel.now) (message datum.now))) }
+    ensures answer { IfOk result
+        (AnswersLeaf judge.old judge.new rule (Term.Sends (message channel.now) (message datum.now))) }
     ensures kept { IsKept judge.old judge.new }
 {
     match rule {
@@ -96,7 +97,8 @@ fn of_recv(
     ty: &Ty,
     body: u32,
 ) -> Result<Option<Premises>, NoMemory>
-    ensures answer { IfOk result (AnswersPrefix judge.old judge.new rule (Term.Recvs (message m.now) (type_of ty.now)) body) }
+    ensures answer { IfOk result
+        (AnswersPrefix judge.old judge.new rule (Term.Recvs (message m.now) (type_of ty.now)) body) }
     ensures kept { IsKept judge.old judge.new }
 {
     match rule {
@@ -114,7 +116,8 @@ fn of_serve(
     ty: &Ty,
     body: u32,
 ) -> Result<Option<Premises>, NoMemory>
-    ensures answer { IfOk result (AnswersPrefix judge.old judge.new rule (Term.Serves (message m.now) (type_of ty.now)) body) }
+    ensures answer { IfOk result
+        (AnswersPrefix judge.old judge.new rule (Term.Serves (message m.now) (type_of ty.now)) body) }
     ensures kept { IsKept judge.old judge.new }
 {
     match rule {
@@ -132,8 +135,11 @@ fn split_typed(
     second: &Ty,
     body: u32,
 ) -> Result<Option<Premises>, NoMemory>
-    requires { length judge.old.types + (ty_nodes (type_of first.now) + ty_nodes (type_of second.now)) + 1 < 2 ^ 32 }
-    ensures answer { IfOk result (AnswersPrefix judge.old judge.new Rule.ProcSplit (Term.Splits (message whole.now) (type_of first.now) (type_of second.now)) body) }
+    requires { length judge.old.types + (ty_nodes (type_of first.now) + ty_nodes (type_of second.now)) + 1
+        < 2 ^ 32 }
+    ensures answer { IfOk result
+        (AnswersPrefix judge.old judge.new Rule.ProcSplit
+        (Term.Splits (message whole.now) (type_of first.now) (type_of second.now)) body) }
     ensures kept { IsKept judge.old judge.new }
 {
     let both = pair_type(alloc, first, second)?;
@@ -154,7 +160,9 @@ fn split_untrusted(
     second: &Ty,
     body: u32,
 ) -> Result<Option<Premises>, NoMemory>
-    ensures answer { IfOk result (AnswersPrefix judge.old judge.new Rule.ProcSplitUn (Term.Splits (message whole.now) (type_of first.now) (type_of second.now)) body) }
+    ensures answer { IfOk result
+        (AnswersPrefix judge.old judge.new Rule.ProcSplitUn
+        (Term.Splits (message whole.now) (type_of first.now) (type_of second.now)) body) }
     ensures kept { IsKept judge.old judge.new }
 {
     if !is_un_type(first) {
@@ -178,8 +186,11 @@ fn of_split(
     second: &Ty,
     body: u32,
 ) -> Result<Option<Premises>, NoMemory>
-    requires { length judge.old.types + (ty_nodes (type_of first.now) + ty_nodes (type_of second.now)) + 1 < 2 ^ 32 }
-    ensures answer { IfOk result (AnswersPrefix judge.old judge.new rule (Term.Splits (message whole.now) (type_of first.now) (type_of second.now)) body) }
+    requires { length judge.old.types + (ty_nodes (type_of first.now) + ty_nodes (type_of second.now)) + 1
+        < 2 ^ 32 }
+    ensures answer { IfOk result
+        (AnswersPrefix judge.old judge.new rule
+        (Term.Splits (message whole.now) (type_of first.now) (type_of second.now)) body) }
     ensures kept { IsKept judge.old judge.new }
 {
     match rule {
@@ -199,8 +210,12 @@ fn select_typed(
     second: &Ty,
     body: u32,
 ) -> Result<Option<Premises>, NoMemory>
-    requires { length judge.old.types + (ty_nodes (type_of first.now) + ty_nodes (type_of second.now)) + 1 < 2 ^ 32 }
-    ensures answer { IfOk result (AnswersPrefix judge.old judge.new Rule.ProcMatch (Term.Selects (message whole.now) (type_of first.now) (message equal.now) (type_of second.now)) body) }
+    requires { length judge.old.types + (ty_nodes (type_of first.now) + ty_nodes (type_of second.now)) + 1
+        < 2 ^ 32 }
+    ensures answer { IfOk result
+        (AnswersPrefix judge.old judge.new Rule.ProcMatch
+        (Term.Selects (message whole.now) (type_of first.now) (message equal.now) (type_of second.now))
+        body) }
     ensures kept { IsKept judge.old judge.new }
 {
     let both = pair_type(alloc, first, second)?;
@@ -223,7 +238,10 @@ fn select_untrusted(
     second: &Ty,
     body: u32,
 ) -> Result<Option<Premises>, NoMemory>
-    ensures answer { IfOk result (AnswersPrefix judge.old judge.new Rule.ProcMatchUn (Term.Selects (message whole.now) (type_of first.now) (message equal.now) (type_of second.now)) body) }
+    ensures answer { IfOk result
+        (AnswersPrefix judge.old judge.new Rule.ProcMatchUn
+        (Term.Selects (message whole.now) (type_of first.now) (message equal.now) (type_of second.now))
+        body) }
     ensures kept { IsKept judge.old judge.new }
 {
     if !is_un_type(first) {
@@ -249,8 +267,12 @@ fn of_select(
     second: &Ty,
     body: u32,
 ) -> Result<Option<Premises>, NoMemory>
-    requires { length judge.old.types + (ty_nodes (type_of first.now) + ty_nodes (type_of second.now)) + 1 < 2 ^ 32 }
-    ensures answer { IfOk result (AnswersPrefix judge.old judge.new rule (Term.Selects (message whole.now) (type_of first.now) (message equal.now) (type_of second.now)) body) }
+    requires { length judge.old.types + (ty_nodes (type_of first.now) + ty_nodes (type_of second.now)) + 1
+        < 2 ^ 32 }
+    ensures answer { IfOk result
+        (AnswersPrefix judge.old judge.new rule
+        (Term.Selects (message whole.now) (type_of first.now) (message equal.now) (type_of second.now))
+        body) }
     ensures kept { IsKept judge.old judge.new }
 {
     match rule {
@@ -270,8 +292,11 @@ fn branch_typed(
     right: &Ty,
     on_right: u32,
 ) -> Result<Option<Premises>, NoMemory>
-    requires { length judge.old.types + (ty_nodes (type_of left.now) + ty_nodes (type_of right.now)) < 2 ^ 32 }
-    ensures answer { IfOk result (AnswersFork judge.old judge.new Rule.ProcCase (Term.Cases (message whole.now) (type_of left.now) (type_of right.now)) on_left on_right) }
+    requires { length judge.old.types + (ty_nodes (type_of left.now) + ty_nodes (type_of right.now))
+        < 2 ^ 32 }
+    ensures answer { IfOk result
+        (AnswersFork judge.old judge.new Rule.ProcCase
+        (Term.Cases (message whole.now) (type_of left.now) (type_of right.now)) on_left on_right) }
     ensures kept { IsKept judge.old judge.new }
 {
     if !is_good(alloc, judge, left)? {
@@ -297,7 +322,9 @@ fn branch_untrusted(
     right: &Ty,
     on_right: u32,
 ) -> Result<Option<Premises>, NoMemory>
-    ensures answer { IfOk result (AnswersFork judge.old judge.new Rule.ProcCaseUn (Term.Cases (message whole.now) (type_of left.now) (type_of right.now)) on_left on_right) }
+    ensures answer { IfOk result
+        (AnswersFork judge.old judge.new Rule.ProcCaseUn
+        (Term.Cases (message whole.now) (type_of left.now) (type_of right.now)) on_left on_right) }
     ensures kept { IsKept judge.old judge.new }
 {
     if !is_un_type(left) {
@@ -323,8 +350,11 @@ fn of_branch(
     right: &Ty,
     on_right: u32,
 ) -> Result<Option<Premises>, NoMemory>
-    requires { length judge.old.types + (ty_nodes (type_of left.now) + ty_nodes (type_of right.now)) < 2 ^ 32 }
-    ensures answer { IfOk result (AnswersFork judge.old judge.new rule (Term.Cases (message whole.now) (type_of left.now) (type_of right.now)) on_left on_right) }
+    requires { length judge.old.types + (ty_nodes (type_of left.now) + ty_nodes (type_of right.now))
+        < 2 ^ 32 }
+    ensures answer { IfOk result
+        (AnswersFork judge.old judge.new rule
+        (Term.Cases (message whole.now) (type_of left.now) (type_of right.now)) on_left on_right) }
     ensures kept { IsKept judge.old judge.new }
 {
     match rule {
@@ -353,7 +383,9 @@ fn decrypt_typed(
     body: u32,
 ) -> Result<Option<Premises>, NoMemory>
     requires { length judge.old.types + ty_nodes (type_of ty.now) < 2 ^ 32 }
-    ensures answer { IfOk result (AnswersPrefix judge.old judge.new Rule.ProcDecrypt (Term.Decrypts (message whole.now) (type_of ty.now) (message key.now)) body) }
+    ensures answer { IfOk result
+        (AnswersPrefix judge.old judge.new Rule.ProcDecrypt
+        (Term.Decrypts (message whole.now) (type_of ty.now) (message key.now)) body) }
     ensures kept { IsKept judge.old judge.new }
 {
     if !is_good(alloc, judge, ty)? {
@@ -375,7 +407,9 @@ fn decrypt_untrusted(
     key: &Msg,
     body: u32,
 ) -> Result<Option<Premises>, NoMemory>
-    ensures answer { IfOk result (AnswersPrefix judge.old judge.new Rule.ProcDecryptUn (Term.Decrypts (message whole.now) (type_of ty.now) (message key.now)) body) }
+    ensures answer { IfOk result
+        (AnswersPrefix judge.old judge.new Rule.ProcDecryptUn
+        (Term.Decrypts (message whole.now) (type_of ty.now) (message key.now)) body) }
     ensures kept { IsKept judge.old judge.new }
 {
     if !is_un_type(ty) {
@@ -398,7 +432,9 @@ fn of_decrypt(
     body: u32,
 ) -> Result<Option<Premises>, NoMemory>
     requires { length judge.old.types + ty_nodes (type_of ty.now) < 2 ^ 32 }
-    ensures answer { IfOk result (AnswersPrefix judge.old judge.new rule (Term.Decrypts (message whole.now) (type_of ty.now) (message key.now)) body) }
+    ensures answer { IfOk result
+        (AnswersPrefix judge.old judge.new rule
+        (Term.Decrypts (message whole.now) (type_of ty.now) (message key.now)) body) }
     ensures kept { IsKept judge.old judge.new }
 {
     match rule {
@@ -416,7 +452,9 @@ fn check_typed(
     nonce: &Msg,
     body: u32,
 ) -> Result<Option<Premises>, NoMemory>
-    ensures answer { IfOk result (AnswersPrefix judge.old judge.new Rule.ProcCheck (Term.Checks (message whole.now) (message nonce.now)) body) }
+    ensures answer { IfOk result
+        (AnswersPrefix judge.old judge.new Rule.ProcCheck
+        (Term.Checks (message whole.now) (message nonce.now)) body) }
     ensures kept { IsKept judge.old judge.new }
 {
     judge.stands_for_one();
@@ -438,7 +476,9 @@ fn check_untrusted(
     nonce: &Msg,
     body: u32,
 ) -> Result<Option<Premises>, NoMemory>
-    ensures answer { IfOk result (AnswersPrefix judge.old judge.new Rule.ProcCheckUn (Term.Checks (message whole.now) (message nonce.now)) body) }
+    ensures answer { IfOk result
+        (AnswersPrefix judge.old judge.new Rule.ProcCheckUn
+        (Term.Checks (message whole.now) (message nonce.now)) body) }
     ensures kept { IsKept judge.old judge.new }
 {
     let first = asked_untrusted(alloc, judge, whole)?;
@@ -456,7 +496,8 @@ fn of_check(
     nonce: &Msg,
     body: u32,
 ) -> Result<Option<Premises>, NoMemory>
-    ensures answer { IfOk result (AnswersPrefix judge.old judge.new rule (Term.Checks (message whole.now) (message nonce.now)) body) }
+    ensures answer { IfOk result
+        (AnswersPrefix judge.old judge.new rule (Term.Checks (message whole.now) (message nonce.now)) body) }
     ensures kept { IsKept judge.old judge.new }
 {
     match rule {
@@ -474,7 +515,8 @@ fn of_begin(
     label: &Msg,
     body: u32,
 ) -> Result<Option<Premises>, NoMemory>
-    ensures answer { IfOk result (AnswersPrefix judge.old judge.new rule (Term.Begins (message label.now)) body) }
+    ensures answer { IfOk result
+        (AnswersPrefix judge.old judge.new rule (Term.Begins (message label.now)) body) }
     ensures kept { IsKept judge.old judge.new }
 {
     match rule {
@@ -491,7 +533,8 @@ fn of_end(
     label: &Msg,
     body: u32,
 ) -> Result<Option<Premises>, NoMemory>
-    ensures answer { IfOk result (AnswersPrefix judge.old judge.new rule (Term.Ends (message label.now)) body) }
+    ensures answer { IfOk result
+        (AnswersPrefix judge.old judge.new rule (Term.Ends (message label.now)) body) }
     ensures kept { IsKept judge.old judge.new }
 {
     match rule {
@@ -508,7 +551,8 @@ fn of_end_many(
     label: &Msg,
     body: u32,
 ) -> Result<Option<Premises>, NoMemory>
-    ensures answer { IfOk result (AnswersPrefix judge.old judge.new rule (Term.EndManys (message label.now)) body) }
+    ensures answer { IfOk result
+        (AnswersPrefix judge.old judge.new rule (Term.EndManys (message label.now)) body) }
     ensures kept { IsKept judge.old judge.new }
 {
     match rule {
@@ -546,7 +590,9 @@ fn cast_typed(
     body: u32,
 ) -> Result<Option<Premises>, NoMemory>
     requires { length judge.old.types + ty_nodes (type_of ty.now) < 2 ^ 32 }
-    ensures answer { IfOk result (AnswersPrefix judge.old judge.new Rule.ProcCast (Term.Casts (message whole.now) (type_of ty.now)) body) }
+    ensures answer { IfOk result
+        (AnswersPrefix judge.old judge.new Rule.ProcCast (Term.Casts (message whole.now) (type_of ty.now))
+        body) }
     ensures kept { IsKept judge.old judge.new }
 {
     match ty {
@@ -565,7 +611,8 @@ fn of_cast(
     body: u32,
 ) -> Result<Option<Premises>, NoMemory>
     requires { length judge.old.types + ty_nodes (type_of ty.now) < 2 ^ 32 }
-    ensures answer { IfOk result (AnswersPrefix judge.old judge.new rule (Term.Casts (message whole.now) (type_of ty.now)) body) }
+    ensures answer { IfOk result
+        (AnswersPrefix judge.old judge.new rule (Term.Casts (message whole.now) (type_of ty.now)) body) }
     ensures kept { IsKept judge.old judge.new }
 {
     match rule {
@@ -583,7 +630,8 @@ fn new_good(
     body: u32,
 ) -> Result<Option<Premises>, NoMemory>
     requires { length judge.old.types + ty_nodes (type_of ty.now) < 2 ^ 32 }
-    ensures answer { IfOk result (AnswersPrefix judge.old judge.new Rule.ProcNew (Term.Makes (type_of ty.now)) body) }
+    ensures answer { IfOk result
+        (AnswersPrefix judge.old judge.new Rule.ProcNew (Term.Makes (type_of ty.now)) body) }
     ensures kept { IsKept judge.old judge.new }
 {
     if !is_fresh_type(ty) {

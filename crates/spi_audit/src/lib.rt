@@ -42,7 +42,8 @@ pub type NoMemory = AllocError;
 // What is left unpaid where each use pays.
 fn left(alloc: Global, store: &Store, keys: &Keys, root: Account) -> Result<Audited, NoMemory>
     requires { IsHeld store.now keys.now root }
-    ensures { IfOk result (λ r. (es : Term.Effect) (n : ℕ) → Held store.now keys.now n root es → Below n es → IsLeft es r) }
+    ensures { IfOk result
+        (λ r. (es : Term.Effect) (n : ℕ) → Held store.now keys.now n root es → Below n es → IsLeft es r) }
 {
     let effect = effect_of_sum(alloc, store, keys, root.into_sum())?;
     if effect.atoms.is_empty() {
@@ -57,7 +58,9 @@ fn settled(alloc: Global, store: &Store, keys: &Keys, notes: Vec<Note>) -> Resul
     requires few { vec_len notes < 2 ^ 32 }
     requires small { AreSmallNotes notes.items }
     requires noted { IsRooted store.now keys.now notes.items }
-    ensures { IfOk result (λ r. (cs : List Change) (n : ℕ) → AreNoted store.now keys.now cs notes.items → AreScoped (n ∷ []) cs → IsSettled cs r) }
+    ensures { IfOk result
+        (λ r. (cs : List Change) (n : ℕ) → AreNoted store.now keys.now cs notes.items → AreScoped (n ∷ []) cs
+        → IsSettled cs r) }
 {
     // The count is asked for what its answer says: nothing has two numbers.
     let _ = store.distinct();

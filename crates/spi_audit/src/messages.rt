@@ -77,8 +77,10 @@ fn payload_at(judge: &Judge, x: u32) -> Option<TyId>
 // The T of a message that is a name of type Key(T).
 fn key_payload(judge: &Judge, m: MsgId) -> Option<TyId>
     requires { m.place < length judge.now.store.messages }
-    ensures some { IfSome result (λ t. (k : Message) → slice_get judge.now.store.messages m.place ≡ Some k → IsKeyAt judge.now k t) }
-    ensures none { IfNone result ((k : Message) → slice_get judge.now.store.messages m.place ≡ Some k → IsNoKeyAt judge.now k) }
+    ensures some { IfSome result
+        (λ t. (k : Message) → slice_get judge.now.store.messages m.place ≡ Some k → IsKeyAt judge.now k t) }
+    ensures none { IfNone result
+        ((k : Message) → slice_get judge.now.store.messages m.place ≡ Some k → IsNoKeyAt judge.now k) }
 {
     match judge.store().part(m) {
         MsgPart::Name(x) => payload_at(judge, x),

@@ -31,7 +31,8 @@ fn note_cast(
 ) -> Result<Note, NoMemory>
     requires keys { AreKept judge.old.store keys.old }
     requires nonce { type_of t.now ≡ Term.nonce (effect e.now) }
-    ensures note { IfOk result (NotedAs judge.new.store keys.new (cast_change Rule.ProcCast scope (type_of t.now))) }
+    ensures note { IfOk result
+        (NotedAs judge.new.store keys.new (cast_change Rule.ProcCast scope (type_of t.now))) }
     ensures grows { OnOk result (GrowsTo judge.old.store keys.old judge.new.store keys.new) }
     ensures kept { IsKept judge.old judge.new }
 {
@@ -49,7 +50,8 @@ fn note_cast_typed(
     t: &Ty,
 ) -> Result<Note, NoMemory>
     requires { AreKept judge.old.store keys.old }
-    ensures note { IfOk result (NotedAs judge.new.store keys.new (cast_change Rule.ProcCast scope (type_of t.now))) }
+    ensures note { IfOk result
+        (NotedAs judge.new.store keys.new (cast_change Rule.ProcCast scope (type_of t.now))) }
     ensures grows { OnOk result (GrowsTo judge.old.store keys.old judge.new.store keys.new) }
     ensures kept { IsKept judge.old judge.new }
 {
@@ -87,7 +89,10 @@ fn note_casts(
 #[tactic(auto, using(spi_message::proofs::Tested::kept_same, spi_count::proofs::Kept::grows_same))]
 fn note_check(judge: &mut Judge, keys: &mut Keys, m: &Msg, nonce: &Msg) -> Result<Note, NoMemory>
     requires keys { AreKept judge.old.store keys.old }
-    ensures note { IfOk result (λ o. (e : Env) (k : ℕ) → Stands judge.old e → NotedAs judge.new.store keys.new (check_change Rule.ProcCheck k (message m.now) (nonce_of e (message nonce.now))) o) }
+    ensures note { IfOk result
+        (λ o. (e : Env) (k : ℕ) → Stands judge.old e
+        → NotedAs judge.new.store keys.new
+        (check_change Rule.ProcCheck k (message m.now) (nonce_of e (message nonce.now))) o) }
     ensures grows { OnOk result (GrowsTo judge.old.store keys.old judge.new.store keys.new) }
     ensures kept { IsKept judge.old judge.new }
 {
@@ -110,7 +115,10 @@ fn note_checks(
     nonce: &Msg,
 ) -> Result<Note, NoMemory>
     requires keys { AreKept judge.old.store keys.old }
-    ensures note { IfOk result (λ o. (e : Env) (k : ℕ) → Stands judge.old e → NotedAs judge.new.store keys.new (check_change rule k (message m.now) (nonce_of e (message nonce.now))) o) }
+    ensures note { IfOk result
+        (λ o. (e : Env) (k : ℕ) → Stands judge.old e
+        → NotedAs judge.new.store keys.new
+        (check_change rule k (message m.now) (nonce_of e (message nonce.now))) o) }
     ensures grows { OnOk result (GrowsTo judge.old.store keys.old judge.new.store keys.new) }
     ensures kept { IsKept judge.old judge.new }
 {
@@ -122,7 +130,8 @@ fn note_checks(
 
 // What a `begin` takes off.
 fn note_begin(judge: &mut Judge, m: &Msg) -> Result<Note, NoMemory>
-    ensures note { IfOk result (λ o. (keys : Keys) (k : ℕ) → NotedAs judge.new.store keys (begun k (message m.now)) o) }
+    ensures note { IfOk result
+        (λ o. (keys : Keys) (k : ℕ) → NotedAs judge.new.store keys (begun k (message m.now)) o) }
     ensures kept { IsKept judge.old judge.new }
 {
     let id = judge.message(m)?;
@@ -141,7 +150,8 @@ fn note_end(judge: &mut Judge, keys: &mut Keys, m: &Msg) -> Result<Note, NoMemor
 
 fn note_end_many(judge: &mut Judge, keys: &mut Keys, m: &Msg) -> Result<Note, NoMemory>
     requires { AreKept judge.old.store keys.old }
-    ensures note { IfOk result (λ o. (k : ℕ) → NotedAs judge.new.store keys.new (ended_many k (message m.now)) o) }
+    ensures note { IfOk result
+        (λ o. (k : ℕ) → NotedAs judge.new.store keys.new (ended_many k (message m.now)) o) }
     ensures grows { OnOk result (GrowsTo judge.old.store keys.old judge.new.store keys.new) }
     ensures kept { IsKept judge.old judge.new }
 {

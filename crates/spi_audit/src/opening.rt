@@ -58,7 +58,8 @@ pub fn begun_opened(
     value: &Msg,
     body: u32,
 ) -> Result<Asked, NoMemory>
-    ensures begins { IfOk result (Begins judge.old judge.new body (λ e. ty_put (message value.now) (type_of t.now) ∷ [])) }
+    ensures begins { IfOk result
+        (Begins judge.old judge.new body (λ e. ty_put (message value.now) (type_of t.now) ∷ [])) }
     ensures kept { IsKept judge.old judge.new }
 {
     let scope = judge.len();
@@ -78,7 +79,9 @@ pub fn begun_two(
     second: &Ty,
     body: u32,
 ) -> Result<Asked, NoMemory>
-    ensures begins { IfOk result (Begins judge.old judge.new body (λ e. type_of first.now ∷ (ty_put (name (length e)) (type_of second.now) ∷ []))) }
+    ensures begins { IfOk result
+        (Begins judge.old judge.new body
+        (λ e. type_of first.now ∷ (ty_put (name (length e)) (type_of second.now) ∷ []))) }
     ensures kept { IsKept judge.old judge.new }
 {
     let scope = judge.len();

@@ -108,7 +108,8 @@ fn sub_use(
     id: u32,
 ) -> Result<Option<Fit>, NoMemory>
     requires { AreKept judge.old.store keys.old }
-    ensures answer { IfOk result (λ r. (ss : List Shape) → FitsNode judge.old judge.new keys.new ss (subsumed (effect e.now)) id r) }
+    ensures answer { IfOk result
+        (λ r. (ss : List Shape) → FitsNode judge.old judge.new keys.new ss (subsumed (effect e.now)) id r) }
     ensures grows { OnOk result (GrowsTo judge.old.store keys.old judge.new.store keys.new) }
     ensures kept { IsKept judge.old judge.new }
 {
@@ -136,7 +137,9 @@ fn node_use(
     requires keys { AreKept judge.old.store keys.old }
     requires node { id < process_size process.now.process }
     requires placed { IsPlaced judge.old (spelled process.now.names process.now.process) id }
-    ensures answer { IfOk result (FitsNode judge.old judge.new keys.new (spelled process.now.names process.now.process) (plain rule) id) }
+    ensures answer { IfOk result
+        (FitsNode judge.old judge.new keys.new (spelled process.now.names process.now.process) (plain rule)
+        id) }
     ensures grows { OnOk result (GrowsTo judge.old.store keys.old judge.new.store keys.new) }
     ensures kept { IsKept judge.old judge.new }
 {
@@ -163,7 +166,9 @@ fn process_use(
     requires node { id < process_size process.now.process }
     requires placed { IsPlaced judge.old (spelled process.now.names process.now.process) id }
     requires usage { IsUse (rule_use u.now) }
-    ensures answer { IfOk result (FitsNode judge.old judge.new keys.new (spelled process.now.names process.now.process) (rule_use u.now) id) }
+    ensures answer { IfOk result
+        (FitsNode judge.old judge.new keys.new (spelled process.now.names process.now.process)
+        (rule_use u.now) id) }
     ensures grows { OnOk result (GrowsTo judge.old.store keys.old judge.new.store keys.new) }
     ensures kept { IsKept judge.old judge.new }
 {
@@ -185,7 +190,9 @@ fn held_against(
     requires keys { AreKept judge.old.store keys.old }
     requires usage { IsUse (rule_use u.now) }
     requires next { IsOpen judge.old (spelled process.now.names process.now.process) next }
-    ensures answer { IfOk result (FitsNext judge.old judge.new keys.new (spelled process.now.names process.now.process) (rule_use u.now) next) }
+    ensures answer { IfOk result
+        (FitsNext judge.old judge.new keys.new (spelled process.now.names process.now.process)
+        (rule_use u.now) next) }
     ensures grows { OnOk result (GrowsTo judge.old.store keys.old judge.new.store keys.new) }
     ensures free { judge.new.free ≡ judge.old.free }
 {
@@ -210,9 +217,20 @@ fn step(
 ) -> Result<Option<Note>, NoMemory>
     requires keys { AreKept judge.old.store keys.old }
     requires usage { IsUse (rule_use u.now) }
-    requires state { (ts : List Subject) × IsState judge.old (spelled process.now.names process.now.process) asked.old.items ts × (0 < length ts) }
-    ensures misfit { IfOk result (λ r. IfNone r ((ts : List Subject) → IsState judge.old (spelled process.now.names process.now.process) asked.old.items ts → Misfits (rule_use u.now) ts)) }
-    ensures fit { IfOk result (λ r. IfSome r (λ o. (ts : List Subject) → IsState judge.old (spelled process.now.names process.now.process) asked.old.items ts → Steps judge.new keys.new (spelled process.now.names process.now.process) (rule_use u.now) asked.new.items ts o)) }
+    requires state { (ts : List Subject)
+        × IsState judge.old (spelled process.now.names process.now.process) asked.old.items ts
+        × (0 < length ts) }
+    ensures misfit { IfOk result
+        (λ r. IfNone r
+        ((ts : List Subject)
+        → IsState judge.old (spelled process.now.names process.now.process) asked.old.items ts
+        → Misfits (rule_use u.now) ts)) }
+    ensures fit { IfOk result
+        (λ r. IfSome r
+        (λ o. (ts : List Subject)
+        → IsState judge.old (spelled process.now.names process.now.process) asked.old.items ts
+        → Steps judge.new keys.new (spelled process.now.names process.now.process) (rule_use u.now)
+        asked.new.items ts o)) }
     ensures small { IfOk result (λ r. IfSome r IsSmallNote) }
     ensures grows { OnOk result (GrowsTo judge.old.store keys.old judge.new.store keys.new) }
     ensures free { judge.new.free ≡ judge.old.free }
@@ -242,7 +260,9 @@ pub fn walk_uses(
     requires keys { AreKept judge.old.store keys.old }
     requires names { Stands judge.old (untrusted process.now.names) }
     requires free { judge.old.free ≡ process.now.names }
-    ensures walked { IfOk result (IsWalked judge.new.store keys.new (of_process (untrusted process.now.names) process.now.process) (rule_uses d.now)) }
+    ensures walked { IfOk result
+        (IsWalked judge.new.store keys.new (of_process (untrusted process.now.names) process.now.process)
+        (rule_uses d.now)) }
     ensures kept { OnOk result (AreKept judge.new.store keys.new) }
 {
     let _ = process.len();

@@ -27,7 +27,8 @@ named n (q ∷ qs) = if bytes_eq n q.name then Some q.part else named n qs
 -- the parts after a put: a name that is there keeps its place, and another one comes last
 abbrev pub with_part : List ℕ → Spelling → List Part → List Part
 with_part n p [] = record { name = n; part = p } ∷ []
-with_part n p (q ∷ qs) = if bytes_eq n q.name then record { name = n; part = p } ∷ qs else q ∷ with_part n p qs
+with_part n p (q ∷ qs) =
+    if bytes_eq n q.name then record { name = n; part = p } ∷ qs else q ∷ with_part n p qs
 
 -- the parts after a drop
 abbrev pub without : List ℕ → List Part → List Part

@@ -59,25 +59,32 @@ pub record HaveNoneTwice (k n : ℕ) (ss : List (Option Slot)) : Type 0 where
   pub once : (i : ℕ) → i < n → total k n (placed (Some i)) ss ≤ 1
 
 -- the slot with this number holds the part, under the name that was there, and its part before is given back
-pub data SetsPart (i : ℕ) (p : Spelling) (least : Option Declared.Effect) : Option Spelling → List (Option Slot) → List (Option Slot) → Type 0 where
-  sets_part : {s t : Slot} {old new : List (Option Slot)} → slice_get old i ≡ Some (Some s) → t.name ≡ s.name → t.part ≡ p → t.least ≡ least
+pub data SetsPart (i : ℕ) (p : Spelling) (least : Option Declared.Effect) : Option Spelling
+    → List (Option Slot) → List (Option Slot) → Type 0 where
+  sets_part : {s t : Slot} {old new : List (Option Slot)} → slice_get old i ≡ Some (Some s) → t.name ≡ s.name
+      → t.part ≡ p → t.least ≡ least
       → new ≡ slice_set old i (Some t) → SetsPart i p least (Some s.part) old new
   sets_none : {old new : List (Option Slot)} → slice_get old i ≡ Some None → SetsPart i p least None old new
 
 -- a slot comes last, with the part under the name
-pub data SetsLast (n : List ℕ) (p : Spelling) (least : Option Declared.Effect) (old new : List (Option Slot)) : Type 0 where
-  sets_last : {t : Slot} → t.name ≡ n → t.part ≡ p → t.least ≡ least → new ≡ slice_set (old ++ None ∷ []) (length old) (Some t)
+pub data SetsLast (n : List ℕ) (p : Spelling) (least : Option Declared.Effect)
+    (old new : List (Option Slot)) : Type 0 where
+  sets_last : {t : Slot} → t.name ≡ n → t.part ≡ p → t.least ≡ least
+      → new ≡ slice_set (old ++ None ∷ []) (length old) (Some t)
       → SetsLast n p least old new
 
 -- a put: the parts, the part that was there, the places of the names, and what is inferred
-pub record Puts (n : List ℕ) (p : Spelling) (least : Option Declared.Effect) (r : Option Spelling) (old new : List (Option Slot)) (to : List ℕ → Option ℕ) : Type 0 where
+pub record Puts (n : List ℕ) (p : Spelling) (least : Option Declared.Effect) (r : Option Spelling)
+    (old new : List (Option Slot)) (to : List ℕ → Option ℕ) : Type 0 where
   pub places : AreNamed new to
   pub parts : parts_of new ≡ with_part n p (parts_of old)
   pub before : r ≡ named n (parts_of old)
-  pub inferred : (env : Env) (count : ℕ) → AreInferred env count old → IsPart env count p least → AreInferred env count new
+  pub inferred : (env : Env) (count : ℕ) → AreInferred env count old → IsPart env count p least
+      → AreInferred env count new
 
 -- a drop
-pub record Drops (n : List ℕ) (r : Option Spelling) (old new : List (Option Slot)) (to : List ℕ → Option ℕ) : Type 0 where
+pub record Drops (n : List ℕ) (r : Option Spelling) (old new : List (Option Slot))
+    (to : List ℕ → Option ℕ) : Type 0 where
   pub places : AreNamed new to
   pub parts : parts_of new ≡ without n (parts_of old)
   pub before : r ≡ named n (parts_of old)
@@ -91,7 +98,8 @@ pub record Stays (old new : List (Option Slot)) (to : List ℕ → Option ℕ) :
 
 -- what holds of a bench: its judge stands for the types of the names, `fine` says whether the shared types are in order,
 -- the counts are over the same names, each name is found where its slot stands, and each slot has its least effect
-pub record IsBench (j : Numbered) (free : ℕ) (ts : List Ty) (fine : Bool) (k n : ℕ) (ss : List (Option Slot)) (at : List ℕ → Option ℕ) : Type 0 where
+pub record IsBench (j : Numbered) (free : ℕ) (ts : List Ty) (fine : Bool) (k n : ℕ) (ss : List (Option Slot))
+    (at : List ℕ → Option ℕ) : Type 0 where
   pub stands : Stands j (names_of free ts)
   pub shared : (fine ≡ true) ↔ AreShared (untrusted free) ts
   pub over : AreOver free ts

@@ -99,7 +99,8 @@ pub record AddsAtoms (old new : Sums) (es : Effect) : Type 0 where
   pub nodes : new.nodes ≡ old.nodes
   pub blocked : new.blocked ≡ old.blocked
   pub atoms : new.atoms ≡ old.atoms
-  pub at : (w : Option ℕ) → IsPlace (shared_in old) w → at_place new w ≡ at_place old w + times old.free (shared_in old) w es
+  pub at : (w : Option ℕ) → IsPlace (shared_in old) w
+      → at_place new w ≡ at_place old w + times old.free (shared_in old) w es
 
 -- a count over slots and of one slot, with the names of these sums
 abbrev pub total_in : Sums → Measure → List (Option Slot) → ℕ
@@ -115,7 +116,8 @@ times_in s w es = times s.free (shared_in s) w es
 pub record Adds (old new : Sums) (s : Option Slot) : Type 0 where
   pub free : new.free ≡ old.free
   pub shared : shared_in new ≡ shared_in old
-  pub each : (m : Measure) → IsMeasure (shared_in old) m → counted new m ≡ counted old m + of_slot old.free (shared_in old) m s
+  pub each : (m : Measure) → IsMeasure (shared_in old) m
+      → counted new m ≡ counted old m + of_slot old.free (shared_in old) m s
 
 -- the sums are those of the slots
 pub record AreSums (s : Sums) (ss : List (Option Slot)) : Type 0 where

@@ -74,7 +74,8 @@ AreAllOver n ps = (p : Process) → In p ps → ProcessOver n p
 
 -- the least effect of parts side by side is the sum of their least effects
 abbrev pub SumIsLeast : Type 0
-SumIsLeast = (env : Env) (ps : List Process) (ess : List Effect) → AreLeast env ps ess → Least env (together ps) (sum_of ess)
+SumIsLeast = (env : Env) (ps : List Process) (ess : List Effect) → AreLeast env ps ess
+    → Least env (together ps) (sum_of ess)
 
 -- they have no effect exactly where one of them has none
 abbrev pub OneHasNone : Type 0

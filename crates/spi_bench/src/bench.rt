@@ -62,7 +62,8 @@ impl Model for Bench {
 
     ghost view = { λ b. record { free = b.free; shared = map ty b.shared.items; parts = parts_of b.table.slots.items } };
 
-    ghost invariant = { λ b. IsBench b.judge b.free (map ty b.shared.items) b.fine b.table.sums.free (shared_in b.table.sums) b.table.slots.items (get bytes_eq b.places) };
+    ghost invariant = { λ b. IsBench b.judge b.free (map ty b.shared.items) b.fine b.table.sums.free
+        (shared_in b.table.sums) b.table.slots.items (get bytes_eq b.places) };
 }
 
 /// Why a put failed: memory ran out. The part is given back.
@@ -121,7 +122,8 @@ impl Bench {
         requires names { part.names ≡ self.old.free + length self.old.shared }
         requires nodes { nodes_in self.old.parts + process_size part.process ≤ 100_000 }
         ensures before { IfOk result (λ r. r ≡ named name.now self.old.parts) }
-        ensures parts { OnOk result (self.new ≡ record self.old { parts = with_part name.now part self.old.parts }) }
+        ensures parts { OnOk result
+            (self.new ≡ record self.old { parts = with_part name.now part self.old.parts }) }
         ensures unchanged { OnErr result (self.new ≡ self.old) }
         ensures part { IfErr result (λ f. f ≡ PutFault.NoMemory part) }
         ensures steps { (steps.old ≤ steps.new) × (steps.new ≤ steps.old + process_size part.process) }

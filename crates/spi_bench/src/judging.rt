@@ -41,8 +41,11 @@ fn are_all(fine: bool, made: bool, good: bool) -> bool
 fn bind_shared(alloc: Global, judge: &mut Judge, t: &Ty, fine: bool) -> Result<bool, NoMemory>
     requires names { length judge.old.types < 100000 }
     requires small { HasFewTy (ty t.now) }
-    ensures stands { OnOk result ((env : Env) → Stands judge.old env → Stands judge.new (env ++ ty t.now ∷ [])) }
-    ensures answer { IfOk result (λ b. (env : Env) → Stands judge.old env → (b ≡ true) ↔ ((fine ≡ true) × (IsGenerative (ty t.now) × GoodTy [] env (ty t.now)))) }
+    ensures stands { OnOk result
+        ((env : Env) → Stands judge.old env → Stands judge.new (env ++ ty t.now ∷ [])) }
+    ensures answer { IfOk result
+        (λ b. (env : Env) → Stands judge.old env
+        → (b ≡ true) ↔ ((fine ≡ true) × (IsGenerative (ty t.now) × GoodTy [] env (ty t.now)))) }
     ensures more { OnOk result (length judge.new.types ≡ length judge.old.types + 1) }
 {
     let id = judge.ty(alloc, t)?;
@@ -57,8 +60,10 @@ fn bind_shared(alloc: Global, judge: &mut Judge, t: &Ty, fine: bool) -> Result<b
 pub fn bind_all(alloc: Global, judge: &mut Judge, shared: &[Ty]) -> Result<bool, NoMemory>
     requires names { length judge.old.types + length shared.now ≤ 100000 }
     requires small { All (λ t. HasFewTy (ty t)) shared.now }
-    ensures stands { OnOk result ((env : Env) → Stands judge.old env → Stands judge.new (env ++ map ty shared.now)) }
-    ensures answer { IfOk result (λ b. (env : Env) → Stands judge.old env → (b ≡ true) ↔ AreShared env (map ty shared.now)) }
+    ensures stands { OnOk result
+        ((env : Env) → Stands judge.old env → Stands judge.new (env ++ map ty shared.now)) }
+    ensures answer { IfOk result
+        (λ b. (env : Env) → Stands judge.old env → (b ≡ true) ↔ AreShared env (map ty shared.now)) }
 {
     let mut fine = true;
     for t in shared {

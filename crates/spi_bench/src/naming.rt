@@ -26,7 +26,8 @@ fn new_place(
     ensures name { IfOk result (λ r. r.0 ≡ name.now) }
     ensures at { IfOk result (λ r. r.1 ≡ length table.old.slots.items) }
     ensures slots { OnOk result (table.new.slots.items ≡ table.old.slots.items ++ None ∷ []) }
-    ensures placed { OnOk result (Updates bytes_eq places.old places.new name.now (Some (length table.old.slots.items))) }
+    ensures placed { OnOk result
+        (Updates bytes_eq places.old places.new name.now (Some (length table.old.slots.items))) }
     ensures padded { IsPadded table.old.slots.items table.new.slots.items }
     ensures unchanged { OnErr result (IsUnchanged places.old places.new) }
     ensures sums { table.new.sums ≡ table.old.sums }
@@ -41,7 +42,8 @@ fn new_place(
 // Another part in the slot, whose name stays: the part that was there.
 fn put_there(table: &mut Table, at: usize, part: Process, least: Option<Effect>) -> Option<Process>
     requires at { at < length table.old.slots.items }
-    requires nodes { total_in table.old.sums S.nodes table.old.slots.items + process_size part.process < 2 ^ 64 }
+    requires nodes { total_in table.old.sums S.nodes table.old.slots.items + process_size part.process
+        < 2 ^ 64 }
     requires atoms { total_in table.old.sums S.atoms table.old.slots.items + of_least length least < 2 ^ 64 }
     ensures set { SetsPart at part least result table.old.slots.items table.new.slots.items }
     ensures free { table.new.sums.free ≡ table.old.sums.free }
@@ -68,10 +70,12 @@ fn put_new(
     part: Process,
     least: Option<Effect>,
 ) -> Result<(), Process>
-    requires nodes { total_in table.old.sums S.nodes table.old.slots.items + process_size part.process < 2 ^ 64 }
+    requires nodes { total_in table.old.sums S.nodes table.old.slots.items + process_size part.process
+        < 2 ^ 64 }
     requires atoms { total_in table.old.sums S.atoms table.old.slots.items + of_least length least < 2 ^ 64 }
     ensures set { OnOk result (SetsLast name.now part least table.old.slots.items table.new.slots.items) }
-    ensures placed { OnOk result (Updates bytes_eq places.old places.new name.now (Some (length table.old.slots.items))) }
+    ensures placed { OnOk result
+        (Updates bytes_eq places.old places.new name.now (Some (length table.old.slots.items))) }
     ensures padded { OnErr result (IsPadded table.old.slots.items table.new.slots.items) }
     ensures unchanged { OnErr result (IsUnchanged places.old places.new) }
     ensures part { IfErr result (λ p. p ≡ part) }
@@ -97,9 +101,12 @@ fn put_in(
     least: Option<Effect>,
 ) -> Result<Option<Process>, Process>
     requires places { AreNamed table.old.slots.items (get bytes_eq places.old) }
-    requires nodes { total_in table.old.sums S.nodes table.old.slots.items + process_size part.process < 2 ^ 64 }
+    requires nodes { total_in table.old.sums S.nodes table.old.slots.items + process_size part.process
+        < 2 ^ 64 }
     requires atoms { total_in table.old.sums S.atoms table.old.slots.items + of_least length least < 2 ^ 64 }
-    ensures ok { IfOk result (λ r. Puts name.now part least r table.old.slots.items table.new.slots.items (get bytes_eq places.new)) }
+    ensures ok { IfOk result
+        (λ r. Puts name.now part least r table.old.slots.items table.new.slots.items
+        (get bytes_eq places.new)) }
     ensures err { OnErr result (Stays table.old.slots.items table.new.slots.items (get bytes_eq places.new)) }
     ensures part { IfErr result (λ p. p ≡ part) }
     ensures free { table.new.sums.free ≡ table.old.sums.free }
@@ -125,8 +132,11 @@ pub fn put_fitting(
     least: Option<Effect>,
 ) -> Result<Option<Process>, Process>
     requires places { AreNamed table.old.slots.items (get bytes_eq places.old) }
-    requires nodes { total_in table.old.sums S.nodes table.old.slots.items + process_size part.process < 2 ^ 64 }
-    ensures ok { IfOk result (λ r. Puts name.now part least r table.old.slots.items table.new.slots.items (get bytes_eq places.new)) }
+    requires nodes { total_in table.old.sums S.nodes table.old.slots.items + process_size part.process
+        < 2 ^ 64 }
+    ensures ok { IfOk result
+        (λ r. Puts name.now part least r table.old.slots.items table.new.slots.items
+        (get bytes_eq places.new)) }
     ensures err { OnErr result (Stays table.old.slots.items table.new.slots.items (get bytes_eq places.new)) }
     ensures part { IfErr result (λ p. p ≡ part) }
     ensures free { table.new.sums.free ≡ table.old.sums.free }
@@ -145,7 +155,8 @@ pub fn drop_from(
     name: &Text,
 ) -> Option<Process>
     requires { AreNamed table.old.slots.items (get bytes_eq places.old) }
-    ensures dropped { Drops name.now result table.old.slots.items table.new.slots.items (get bytes_eq places.new) }
+    ensures dropped { Drops name.now result table.old.slots.items table.new.slots.items
+        (get bytes_eq places.new) }
     ensures free { table.new.sums.free ≡ table.old.sums.free }
     ensures shared { shared_in table.new.sums ≡ shared_in table.old.sums }
 {

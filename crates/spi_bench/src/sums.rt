@@ -94,7 +94,8 @@ impl Sums {
     }
 
     fn take_atom(&mut self, a: &Atom)
-        requires { (w : Option ℕ) → IsPlace (shared_in self.old) w → times_in self.old w (atom a.now ∷ []) ≤ at_place self.old w }
+        requires { (w : Option ℕ) → IsPlace (shared_in self.old) w
+            → times_in self.old w (atom a.now ∷ []) ≤ at_place self.old w }
         ensures { AddsAtoms self.new self.old (atom a.now ∷ []) }
     {
         match place(self.free, self.checks.len(), a) {
@@ -104,7 +105,8 @@ impl Sums {
     }
 
     fn add_atoms(&mut self, e: &Effect)
-        requires { (w : Option ℕ) → IsPlace (shared_in self.old) w → at_place self.old w + length (effect e.now) < 2 ^ 64 }
+        requires { (w : Option ℕ) → IsPlace (shared_in self.old) w
+            → at_place self.old w + length (effect e.now) < 2 ^ 64 }
         ensures { AddsAtoms self.old self.new (effect e.now) }
     {
         for a in &e.atoms {
@@ -113,7 +115,8 @@ impl Sums {
     }
 
     fn take_atoms(&mut self, e: &Effect)
-        requires { (w : Option ℕ) → IsPlace (shared_in self.old) w → times_in self.old w (effect e.now) ≤ at_place self.old w }
+        requires { (w : Option ℕ) → IsPlace (shared_in self.old) w
+            → times_in self.old w (effect e.now) ≤ at_place self.old w }
         ensures { AddsAtoms self.new self.old (effect e.now) }
     {
         for a in &e.atoms {
@@ -123,8 +126,10 @@ impl Sums {
 
     /// Counts what stands in a slot.
     pub fn add(&mut self, slot: &Option<Slot>)
-        requires room { (m : Measure) → IsMeasure (shared_in self.old) m → counted self.old m + slot_in self.old m slot.now < 2 ^ 64 }
-        requires atoms { (w : Option ℕ) → IsPlace (shared_in self.old) w → at_place self.old w ≤ self.old.atoms }
+        requires room { (m : Measure) → IsMeasure (shared_in self.old) m
+            → counted self.old m + slot_in self.old m slot.now < 2 ^ 64 }
+        requires atoms { (w : Option ℕ) → IsPlace (shared_in self.old) w
+            → at_place self.old w ≤ self.old.atoms }
         ensures { Adds self.old self.new slot.now }
     {
         if let Some(slot) = slot {
@@ -141,7 +146,8 @@ impl Sums {
 
     /// Counts what stands in a slot no longer.
     pub fn take(&mut self, slot: &Option<Slot>)
-        requires { (m : Measure) → IsMeasure (shared_in self.old) m → slot_in self.old m slot.now ≤ counted self.old m }
+        requires { (m : Measure) → IsMeasure (shared_in self.old) m
+            → slot_in self.old m slot.now ≤ counted self.old m }
         ensures { Adds self.new self.old slot.now }
     {
         if let Some(slot) = slot {

@@ -75,7 +75,8 @@ impl Table {
 
     /// Whether the atoms of one more least effect can be counted. 2 ^ 64 atoms never stand in memory at once.
     pub fn has_room(&self, least: &Option<Effect>) -> bool
-        ensures { IsTrue result → total_in self.now.sums S.atoms self.now.slots.items + of_least length least.now < 2 ^ 64 }
+        ensures { IsTrue result
+            → total_in self.now.sums S.atoms self.now.slots.items + of_least length least.now < 2 ^ 64 }
     {
         fits(self.sums.atoms, least)
     }
@@ -83,8 +84,10 @@ impl Table {
     /// Puts this into a slot, and gives back what was there.
     pub fn set(&mut self, at: usize, slot: Option<Slot>) -> Option<Slot>
         requires at { at < length self.old.slots.items }
-        requires nodes { total_in self.old.sums S.nodes self.old.slots.items + slot_in self.old.sums S.nodes slot < 2 ^ 64 }
-        requires atoms { total_in self.old.sums S.atoms self.old.slots.items + slot_in self.old.sums S.atoms slot < 2 ^ 64 }
+        requires nodes { total_in self.old.sums S.nodes self.old.slots.items
+            + slot_in self.old.sums S.nodes slot < 2 ^ 64 }
+        requires atoms { total_in self.old.sums S.atoms self.old.slots.items
+            + slot_in self.old.sums S.atoms slot < 2 ^ 64 }
         ensures before { slice_get self.old.slots.items at ≡ Some result }
         ensures after { self.new.slots.items ≡ slice_set self.old.slots.items at slot }
         ensures free { self.new.sums.free ≡ self.old.sums.free }
@@ -119,7 +122,8 @@ impl Table {
 
     /// Whether each part has an effect, and their atoms are at most one `check x` for each shared name x.
     pub fn is_paid(&self) -> bool
-        ensures { IsTrue result ↔ HaveNoneTwice self.now.sums.free (shared_in self.now.sums) self.now.slots.items }
+        ensures { IsTrue result
+            ↔ HaveNoneTwice self.now.sums.free (shared_in self.now.sums) self.now.slots.items }
     {
         self.sums.are_paid()
     }

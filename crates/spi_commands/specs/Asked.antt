@@ -13,7 +13,8 @@ use Rattle.spi_commands.specs.Number.{number_below}
 abbrev pub word_table : List (List ℕ × Command)
 word_table =
     (codes "check", Check) ∷ (codes "derive", Derive) ∷ (codes "verify", Verify) ∷ (codes "replay", Replay)
-    ∷ (codes "print", Print) ∷ (codes "upgrade", Upgrade) ∷ (codes "narrate", Narrate) ∷ (codes "bench", Bench) ∷ []
+    ∷ (codes "print", Print) ∷ (codes "upgrade", Upgrade) ∷ (codes "narrate", Narrate)
+    ∷ (codes "bench", Bench) ∷ []
 
 -- the commands of a word and a number behind it, from the least to the most
 pub record Numbered : Type 0 where
@@ -67,10 +68,13 @@ play_one (Some steps) (Some player) = Some (Play steps (Some player))
 
 -- the options of `play`: `--steps N` with N from 0 to 1,000, and where it is there `--player I` with the place of a player
 abbrev pub with_options : List (List ℕ) → ℕ → Option Command
-with_options (a ∷ n ∷ []) players = if bytes_eq a (codes "--steps") then play_all (number_below 1001 n) else None
+with_options (a ∷ n ∷ []) players =
+    if bytes_eq a (codes "--steps") then play_all (number_below 1001 n) else None
 with_options (a ∷ n ∷ b ∷ m ∷ []) players =
-    (if bytes_eq a (codes "--steps") && bytes_eq b (codes "--player") then play_one (number_below 1001 n) (number_below players m) else
-    (if bytes_eq a (codes "--player") && bytes_eq b (codes "--steps") then play_one (number_below 1001 m) (number_below players n) else
+    (if bytes_eq a (codes "--steps") && bytes_eq b (codes "--player") then play_one (number_below 1001 n)
+    (number_below players m) else
+    (if bytes_eq a (codes "--player") && bytes_eq b (codes "--steps") then play_one (number_below 1001 m)
+    (number_below players n) else
     None))
 with_options words players = None
 

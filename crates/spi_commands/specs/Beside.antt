@@ -16,7 +16,8 @@ use Rattle.spi_commands.specs.Refusals.{IsMissing}
 
 -- the process at place 0 and the opponent at place 1, with at most so many places
 abbrev pub pool_of : ℕ → Meant → Spelling → Pooled
-pool_of most file o = record { configuration = beside file.process.names file.process.process o.process; most = most }
+pool_of most file o =
+    record { configuration = beside file.process.names file.process.process o.process; most = most }
 
 -- the file has this opponent part, and it is an opponent
 abbrev pub HasOpponent : Meant → Spelling → Type 0
@@ -25,7 +26,8 @@ HasOpponent file o = (file.opponent ≡ Some o) × IsOpponent o.process
 -- the file has no opponent part
 abbrev pub LacksOpponent : List ℕ → ℕ → Option ℕ → List ℕ → Type 0
 LacksOpponent bytes number offset shown =
-    (file : Meant) × SpellsFile bytes file × (file.opponent ≡ None) × IsMissing (codes "opponent") number offset shown
+    (file : Meant) × SpellsFile bytes file × (file.opponent ≡ None)
+    × IsMissing (codes "opponent") number offset shown
 
 -- where node number i of a tree's opponent part stands
 abbrev pub opponent_at : File → ℕ → Span
@@ -33,9 +35,11 @@ opponent_at tree i = place_in (opponent_places tree.opponent) i
 
 -- the opponent part of a tree's file is no opponent; this is the first node that no opponent has
 pub data IsOffence (tree : File) (o : Spelling) : ℕ → Option ℕ → List ℕ → Type 0 where
-  offence : {node : ℕ} → IsFirstOffence (spelled o.names o.process) node → IsOffence tree o 39 (Some (opponent_at tree node).from) []
+  offence : {node : ℕ} → IsFirstOffence (spelled o.names o.process) node
+      → IsOffence tree o 39 (Some (opponent_at tree node).from) []
 
 abbrev pub HasOffence : List ℕ → ℕ → Option ℕ → List ℕ → Type 0
 HasOffence bytes number offset shown =
-    (tree : File) × (file : Meant) × (o : Spelling) × IsTreeOf bytes tree × StandsFor tree file × (file.opponent ≡ Some o)
+    (tree : File) × (file : Meant) × (o : Spelling) × IsTreeOf bytes tree × StandsFor tree file
+    × (file.opponent ≡ Some o)
     × IsOffence tree o number offset shown

@@ -17,7 +17,8 @@ abbrev pub IsLong : Meant → Type 0
 IsLong file = (text : List ℕ) × IsCanonicalText file text × (limit < length text)
 
 abbrev pub HasLongPrint : Meant → ℕ → Option ℕ → List ℕ → Type 0
-HasLongPrint file number offset shown = (text : List ℕ) × IsCanonicalText file text × IsTooMuch (length text) number offset shown
+HasLongPrint file number offset shown = (text : List ℕ) × IsCanonicalText file text
+    × IsTooMuch (length text) number offset shown
 
 -- that text, or the line of its refusal, among these bytes
 abbrev pub ShowsTo : List ℕ → Meant → Status → List ℕ → Type 0

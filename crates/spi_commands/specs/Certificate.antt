@@ -31,7 +31,9 @@ by_text (MakeHash i) = of_one (codes "MakeHash") i
 
 -- line number k, counted from 0
 abbrev pub line_text : List (List ℕ) → ℕ → CertLine → List ℕ
-line_text names k line = decimal (suc k) ++ (codes " " ++ (message_text names (said line) ++ (codes " by " ++ (by_text line.by ++ codes "\n"))))
+line_text names k line =
+    decimal (suc k)
+    ++ (codes " " ++ (message_text names (said line) ++ (codes " by " ++ (by_text line.by ++ codes "\n"))))
 
 -- a line for each, from number k on
 abbrev pub lines_text : List (List ℕ) → ℕ → List CertLine → List ℕ

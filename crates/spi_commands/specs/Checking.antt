@@ -12,7 +12,8 @@ use Rattle.spi_commands.specs.NoLine.{IsNo}
 -- yes, no, or a refusal
 abbrev pub ChecksTo : List ℕ → Status → List ℕ → Type 0
 ChecksTo bytes =
-    Answers (λ output. SpellsDerivable bytes × (output ≡ codes "yes\n")) (λ output. SpellsUnderivable bytes × IsNo bytes output) (IsRefusal bytes)
+    Answers (λ output. SpellsDerivable bytes × (output ≡ codes "yes\n"))
+    (λ output. SpellsUnderivable bytes × IsNo bytes output) (IsRefusal bytes)
 
 -- `check` answers yes exactly where the file spells a process with a typing derivation of empty effect, no
 -- exactly where it spells one without, and refused exactly where it spells none; the text of that answer is

@@ -35,12 +35,15 @@ AnswersTo (Knows name) bytes before after = KnowsTo name bytes
 AnswersTo Bench bytes before after = BenchesTo bytes
 
 -- what is so where no fault rose and memory didn't run out, where what the sink holds went from old to new
-abbrev pub Promise : Command → List ℕ → List Seen → List Seen → Option (List ℕ) → Option (List ℕ) → Status → Type 0
-Promise Check bytes before after old new status = IsExact bytes old new status × (status ≡ Yes → IsManySafe bytes)
+abbrev pub Promise : Command → List ℕ → List Seen → List Seen → Option (List ℕ) → Option (List ℕ) → Status
+    → Type 0
+Promise Check bytes before after old new status = IsExact bytes old new status
+    × (status ≡ Yes → IsManySafe bytes)
 Promise Derive bytes before after old new status = IsDerived bytes old new status
 Promise Verify bytes before after old new status = IsVerified bytes status
 Promise Replay bytes before after old new status = IsReplayed bytes status
-Promise (Play most only) bytes before after old new status = IsPlayedOn most only bytes before after old new status
+Promise (Play most only) bytes before after old new status =
+    IsPlayedOn most only bytes before after old new status
 Promise Print bytes before after old new status = IsPrinted bytes old new status
 Promise (Load sessions) bytes before after old new status = IsLoadedOn sessions old new status
 Promise Upgrade bytes before after old new status = IsUpgraded bytes old new status

@@ -16,7 +16,8 @@ use Rattle.spi_commands.specs.NoLine.{IsNo}
 
 -- the bytes spell a file of whose process this is the canonical derivation
 abbrev pub SpellsCanonical : List ℕ → List RuleUse → Type 0
-SpellsCanonical bytes d = (file : Meant) × SpellsFile bytes file × Canonical d file.process.names file.process.process
+SpellsCanonical bytes d = (file : Meant) × SpellsFile bytes file
+    × Canonical d file.process.names file.process.process
 
 -- how many bytes the file and the text of a derivation behind it have
 abbrev pub listing_length : List ℕ → List RuleUse → ℕ
@@ -25,7 +26,8 @@ listing_length bytes d = length (joined bytes (derivation_text d))
 -- the text is that derivation, and can stand behind the file
 abbrev pub IsListing : List ℕ → List ℕ → Type 0
 IsListing bytes output =
-    (d : List RuleUse) × SpellsCanonical bytes d × (output ≡ derivation_text d) × (length (joined bytes output) ≤ limit)
+    (d : List RuleUse) × SpellsCanonical bytes d × (output ≡ derivation_text d)
+    × (length (joined bytes output) ≤ limit)
 
 -- that derivation is too long for it
 abbrev pub SpellsLongListing : List ℕ → Type 0
@@ -48,4 +50,5 @@ pub record IsDerived (bytes : List ℕ) (old new : Option (List ℕ)) (status : 
   pub yes : (status ≡ Yes) ↔ ((output : List ℕ) × IsListing bytes output)
   pub no : (status ≡ No) ↔ SpellsUnderivable bytes
   pub refused : (status ≡ Refused) ↔ (SpellsNone bytes ⊎ SpellsLongListing bytes)
-  pub joins : status ≡ Yes → SpellsUnderived bytes → (output : List ℕ) × Appends old new output × SpellsProved (joined bytes output)
+  pub joins : status ≡ Yes → SpellsUnderived bytes
+      → (output : List ℕ) × Appends old new output × SpellsProved (joined bytes output)

@@ -51,7 +51,8 @@ RefusesKnows i bytes = layered (RefusesReplay bytes) (layered (HasMuchSent bytes
 -- ---- answers
 
 -- the bytes spell a file whose schedule runs through, with few nodes in the data of its talks, and uses the name
-pub record IsAsked (i : ℕ) (bytes : List ℕ) (file : Meant) (events : List Event) (run : RunsThrough file events) : Type 0 where
+pub record IsAsked (i : ℕ) (bytes : List ℕ) (file : Meant) (events : List Event)
+    (run : RunsThrough file events) : Type 0 where
   pub spells : SpellsFile bytes file
   pub few : nodes_in run.talks ≤ talks_most
   pub used : i < run.last.configuration.names
@@ -59,29 +60,35 @@ pub record IsAsked (i : ℕ) (bytes : List ℕ) (file : Meant) (events : List Ev
 -- and the name is known from what was sent, or isn't
 abbrev pub SpellsKnown : ℕ → List ℕ → Type 0
 SpellsKnown i bytes =
-    (file : Meant) × (events : List Event) × (run : RunsThrough file events) × IsAsked i bytes file events run × Knows (sent file run) (name i)
+    (file : Meant) × (events : List Event) × (run : RunsThrough file events) × IsAsked i bytes file events run
+    × Knows (sent file run) (name i)
 
 abbrev pub SpellsUnknown : ℕ → List ℕ → Type 0
 SpellsUnknown i bytes =
-    (file : Meant) × (events : List Event) × (run : RunsThrough file events) × IsAsked i bytes file events run × (¬ Knows (sent file run) (name i))
+    (file : Meant) × (events : List Event) × (run : RunsThrough file events) × IsAsked i bytes file events run
+    × (¬ Knows (sent file run) (name i))
 
 -- the text is that of a certificate of the name
 abbrev pub IsKnown : ℕ → List ℕ → List ℕ → Type 0
 IsKnown i bytes output =
-    (file : Meant) × (events : List Event) × (run : RunsThrough file events) × (lines : List CertLine) × IsAsked i bytes file events run
-    × Knows (sent file run) (name i) × Certifies (sent file run) lines (name i) × (output ≡ known_text file.names i lines)
+    (file : Meant) × (events : List Event) × (run : RunsThrough file events) × (lines : List CertLine)
+    × IsAsked i bytes file events run
+    × Knows (sent file run) (name i) × Certifies (sent file run) lines (name i)
+    × (output ≡ known_text file.names i lines)
 
 -- yes, no, or a refusal
 abbrev pub KnowsTo : ℕ → List ℕ → Status → List ℕ → Type 0
 KnowsTo i bytes =
-    Answers (IsKnown i bytes) (λ output. SpellsUnknown i bytes × (output ≡ unknown_text i)) (IsLineOf bytes (RefusesKnows i bytes))
+    Answers (IsKnown i bytes) (λ output. SpellsUnknown i bytes × (output ≡ unknown_text i))
+    (IsLineOf bytes (RefusesKnows i bytes))
 
 -- what is decided of a name, where these are the data of the talks
 abbrev pub IsDecided : Meant → List Message → ℕ → Status → List ℕ → Type 0
 IsDecided file talks i =
     Answers
     (λ output. (lines : List CertLine) × Knows (names_up file.process.names ++ talks) (name i)
-    × Certifies (names_up file.process.names ++ talks) lines (name i) × (output ≡ known_text file.names i lines))
+    × Certifies (names_up file.process.names ++ talks) lines (name i)
+    × (output ≡ known_text file.names i lines))
     (λ output. (¬ Knows (names_up file.process.names ++ talks) (name i)) × (output ≡ unknown_text i)) never
 
 -- ---- the promise
@@ -89,16 +96,19 @@ IsDecided file talks i =
 -- the bytes spell a file whose schedule runs through, and the data of its talks have too many nodes, or it doesn't use the name
 abbrev pub SpellsMuchSent : List ℕ → Type 0
 SpellsMuchSent bytes =
-    (file : Meant) × (events : List Event) × (run : RunsThrough file events) × SpellsFile bytes file × (talks_most < nodes_in run.talks)
+    (file : Meant) × (events : List Event) × (run : RunsThrough file events) × SpellsFile bytes file
+    × (talks_most < nodes_in run.talks)
 
 abbrev pub SpellsNameless : ℕ → List ℕ → Type 0
 SpellsNameless i bytes =
-    (file : Meant) × (events : List Event) × (run : RunsThrough file events) × SpellsFile bytes file × (run.last.configuration.names ≤ i)
+    (file : Meant) × (events : List Event) × (run : RunsThrough file events) × SpellsFile bytes file
+    × (run.last.configuration.names ≤ i)
 
 -- the name is made at a Key type in the replay
 abbrev pub MakesKey : ℕ → (file : Meant) {events : List Event} → RunsThrough file events → Type 0
 MakesKey i file {events} run =
-    (r : Runs (beside file.process.names file.process.process run.opponent.process) run.steps events run.last.configuration) × In i (keys_in r)
+    (r : Runs (beside file.process.names file.process.process run.opponent.process) run.steps events
+    run.last.configuration) × In i (keys_in r)
 
 -- `knows` answers yes exactly where the file's schedule runs through, the data of its talks have few nodes, and the name
 -- is used at the end and known from what was sent; no exactly where it isn't known; and refused where the file is none, is
@@ -107,8 +117,12 @@ MakesKey i file {events} run =
 pub record IsKnownOn (i : ℕ) (bytes : List ℕ) (old new : Option (List ℕ)) (status : Status) : Type 0 where
   pub yes : (status ≡ Yes) ↔ SpellsKnown i bytes
   pub no : (status ≡ No) ↔ SpellsUnknown i bytes
-  pub refused : (status ≡ Refused) ↔ ((SpellsNone bytes ⊎ SpellsUnplayed bytes) ⊎ (SpellsMuchSent bytes ⊎ SpellsNameless i bytes))
-  pub certified : status ≡ Yes → (file : Meant) (events : List Event) → SpellsFile bytes file → (run : RunsThrough file events)
-      → (lines : List CertLine) × Certifies (sent file run) lines (name i) × Appends old new (known_text file.names i lines)
-  pub secret : SpellsDerivable bytes → (file : Meant) (events : List Event) → SpellsFile bytes file → (run : RunsThrough file events)
+  pub refused : (status ≡ Refused)
+      ↔ ((SpellsNone bytes ⊎ SpellsUnplayed bytes) ⊎ (SpellsMuchSent bytes ⊎ SpellsNameless i bytes))
+  pub certified : status ≡ Yes → (file : Meant) (events : List Event) → SpellsFile bytes file
+      → (run : RunsThrough file events)
+      → (lines : List CertLine) × Certifies (sent file run) lines (name i)
+      × Appends old new (known_text file.names i lines)
+  pub secret : SpellsDerivable bytes → (file : Meant) (events : List Event) → SpellsFile bytes file
+      → (run : RunsThrough file events)
       → MakesKey i file run → status ≢ Yes

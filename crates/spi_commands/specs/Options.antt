@@ -36,7 +36,8 @@ abbrev pub named : Text → Bool → Rule
 named name required = record (new_rule name) { long = Some name; action = Some Set; required = required }
 
 abbrev pub play : App
-play = with_rule (with_rule (new_app (codes "play")) (named (codes "steps") true)) (named (codes "player") false)
+play = with_rule (with_rule (new_app (codes "play")) (named (codes "steps") true))
+    (named (codes "player") false)
 
 -- a number that stands alone
 abbrev pub counted : Rule
@@ -67,7 +68,8 @@ module _ {X : Type 0} where
 
 -- with all its commands
 abbrev pub whole : App
-whole = fold with_counted (with_subcommand (fold with_word bare (words_of word_table)) play.top) (words_of number_table)
+whole = fold with_counted (with_subcommand (fold with_word bare (words_of word_table)) play.top)
+    (words_of number_table)
 
 -- one of the words is `--`
 abbrev pub has_dashes : List Text → Bool
@@ -91,7 +93,8 @@ word_or_number word None rows = word
 
 abbrev pub found : Text → List Row → ℕ → Option Command
 found name rows players =
-    (if bytes_eq name (codes "play") then with_values (first_of (codes "steps") rows) (first_of (codes "player") rows) players else
+    (if bytes_eq name (codes "play") then with_values (first_of (codes "steps") rows)
+    (first_of (codes "player") rows) players else
     word_or_number (row_of name word_table) (row_of name number_table) rows)
 
 -- the command that is read from the subcommand that clap found, with its rows

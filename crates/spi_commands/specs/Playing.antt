@@ -30,15 +30,18 @@ abbrev pub play_places : ℕ
 play_places = 1000
 
 -- the players that were handed in, as they are seen before and after, played so on the file's process beside its opponent
-pub record IsPlayed (file : Meant) (most : ℕ) (only : Option ℕ) (before after : List Seen) (steps : List Step) (events : List Event) : Type 0 where
+pub record IsPlayed (file : Meant) (most : ℕ) (only : Option ℕ) (before after : List Seen) (steps : List Step)
+    (events : List Event) : Type 0 where
   pub opponent : Spelling
   pub beside : HasOpponent file opponent
   pub last : Pooled
   pub ended : Ended
-  pub ends : EndsAt only most (start (pool_of play_places file opponent) before only) (record { pool = last; steps = steps; events = events }) after ended
+  pub ends : EndsAt only most (start (pool_of play_places file opponent) before only)
+      (record { pool = last; steps = steps; events = events }) after ended
 
 -- or a pick of theirs was refused so, or there was no memory to go on
-pub record IsStopped (file : Meant) (most : ℕ) (only : Option ℕ) (before after : List Seen) (fault : PlayFault) : Type 0 where
+pub record IsStopped (file : Meant) (most : ℕ) (only : Option ℕ) (before after : List Seen)
+    (fault : PlayFault) : Type 0 where
   pub opponent : Spelling
   pub beside : HasOpponent file opponent
   pub last : Pooled
@@ -52,13 +55,15 @@ play_length bytes steps = length (joined bytes (schedule_text steps))
 abbrev pub IsPlay : ℕ → Option ℕ → List ℕ → List Seen → List Seen → List ℕ → Type 0
 IsPlay most only bytes before after output =
     (file : Meant) × (steps : List Step) × (events : List Event) × SpellsFile bytes file
-    × IsPlayed file most only before after steps events × (output ≡ schedule_text steps) × (length (joined bytes output) ≤ limit)
+    × IsPlayed file most only before after steps events × (output ≡ schedule_text steps)
+    × (length (joined bytes output) ≤ limit)
 
 -- that text is too long for it
 abbrev pub HasLongPlay : ℕ → Option ℕ → List ℕ → List Seen → List Seen → ℕ → Option ℕ → List ℕ → Type 0
 HasLongPlay most only bytes before after number offset shown =
     (file : Meant) × (steps : List Step) × (events : List Event) × SpellsFile bytes file
-    × IsPlayed file most only before after steps events × IsTooMuch (play_length bytes steps) number offset shown
+    × IsPlayed file most only before after steps events
+    × IsTooMuch (play_length bytes steps) number offset shown
 
 -- the text of these steps, or the line of its refusal where it is too long to stand behind the file
 abbrev pub ListsTo : List ℕ → List Step → Status → List ℕ → Type 0
@@ -74,7 +79,8 @@ play_number (TooManyPlaces places) = 72
 play_number OutOfMemory = 0
 
 abbrev pub play_shown : PlayFault → List ℕ
-play_shown (BadPick player picked ready) = decimal player ++ (codes " " ++ (decimal picked ++ (codes " " ++ decimal ready)))
+play_shown (BadPick player picked ready) =
+    decimal player ++ (codes " " ++ (decimal picked ++ (codes " " ++ decimal ready)))
 play_shown (RunMessageTooLarge nodes) = decimal nodes
 play_shown (TooManyPlaces places) = decimal places
 play_shown OutOfMemory = []
@@ -91,7 +97,8 @@ HasPlayFault most only bytes before after number offset shown =
 -- before a player is asked, when the players stay as they are
 abbrev pub IsUnplayable : List ℕ → List Seen → List Seen → ℕ → Option ℕ → List ℕ → Type 0
 IsUnplayable bytes before after number offset shown =
-    layered (Refuses bytes) (layered (LacksOpponent bytes) (HasOffence bytes)) number offset shown × (after ≡ before)
+    layered (Refuses bytes) (layered (LacksOpponent bytes) (HasOffence bytes)) number offset shown
+    × (after ≡ before)
 
 -- yes, or a refusal, by the players before and after
 abbrev pub PlaysTo : ℕ → Option ℕ → List ℕ → List Seen → List Seen → Status → List ℕ → Type 0
@@ -102,19 +109,23 @@ PlaysTo most only bytes before after =
 
 -- Where memory ran out the players are as they were, or as a play of the file left them, which had ended, or stopped at a
 -- pick that was refused or for want of memory.
-pub data LeavesPlayers (most : ℕ) (only : Option ℕ) (bytes : List ℕ) (before : List Seen) : List Seen → Type 0 where
+pub data LeavesPlayers (most : ℕ) (only : Option ℕ) (bytes : List ℕ) (before : List Seen) : List Seen
+    → Type 0 where
   not_asked : LeavesPlayers most only bytes before before
-  asked_to_the_end : {file : Meant} {after : List Seen} {steps : List Step} {events : List Event} → SpellsFile bytes file
+  asked_to_the_end : {file : Meant} {after : List Seen} {steps : List Step} {events : List Event}
+      → SpellsFile bytes file
       → IsPlayed file most only before after steps events → LeavesPlayers most only bytes before after
   stopped : {file : Meant} {after : List Seen} {fault : PlayFault} → SpellsFile bytes file
       → IsStopped file most only before after fault → LeavesPlayers most only bytes before after
 
 -- each player that had one of these turns told its way before the play
 abbrev pub AskedTold : List Seen → List TurnOf → Type 0
-AskedTold before turns = (turn : TurnOf) → In turn turns → IfSome (slice_get before turn.who) (λ player. IsSome player.way)
+AskedTold before turns = (turn : TurnOf) → In turn turns
+    → IfSome (slice_get before turn.who) (λ player. IsSome player.way)
 
 -- and so did the one that was asked last, whose pick was refused
-abbrev pub StoppedTold : {file : Meant} {most : ℕ} {only : Option ℕ} {after : List Seen} {fault : PlayFault} (before : List Seen) → IsStopped file most only before after fault → Type 0
+abbrev pub StoppedTold : {file : Meant} {most : ℕ} {only : Option ℕ} {after : List Seen} {fault : PlayFault}
+    (before : List Seen) → IsStopped file most only before after fault → Type 0
 StoppedTold before s = AskedTold before s.stops.stands.turns × IsSome s.stops.asks.old.way
 
 -- the bytes spell a file that isn't played, whatever the players do
@@ -126,7 +137,8 @@ SpellsUnopposed bytes =
 -- and one whose play was stopped by a pick, or has a text that is too long
 abbrev pub SpellsStopped : ℕ → Option ℕ → List ℕ → List Seen → List Seen → Type 0
 SpellsStopped most only bytes before after =
-    (file : Meant) × (fault : PlayFault) × SpellsFile bytes file × IsStopped file most only before after fault × (fault ≢ OutOfMemory)
+    (file : Meant) × (fault : PlayFault) × SpellsFile bytes file × IsStopped file most only before after fault
+    × (fault ≢ OutOfMemory)
 
 abbrev pub SpellsLongPlay : ℕ → Option ℕ → List ℕ → List Seen → List Seen → Type 0
 SpellsLongPlay most only bytes before after =
@@ -139,18 +151,26 @@ SpellsLongPlay most only bytes before after =
 -- in it had told their ways, its text is the answer, or the refusal of that text; where it is stopped by a pick, and they
 -- had, it's that refusal. And after a yes, where the file has neither schedule nor derivation, the file, one line feed and
 -- the text that was appended are a file whose schedule runs through with the events of the play.
-pub record IsPlayedOn (most : ℕ) (only : Option ℕ) (bytes : List ℕ) (before after : List Seen) (old new : Option (List ℕ)) (status : Status) : Type 0 where
+pub record IsPlayedOn (most : ℕ) (only : Option ℕ) (bytes : List ℕ) (before after : List Seen)
+    (old new : Option (List ℕ)) (status : Status) : Type 0 where
   pub yes : status ≡ Yes → (output : List ℕ) × IsPlay most only bytes before after output
   pub no : status ≢ No
   pub refused : status ≡ Refused → (SpellsNone bytes ⊎ SpellsUnopposed bytes)
       ⊎ (SpellsStopped most only bytes before after ⊎ SpellsLongPlay most only bytes before after)
   pub unplayed : SpellsNone bytes ⊎ SpellsUnopposed bytes → (status ≡ Refused) × (after ≡ before)
-  pub ended : (file : Meant) (others : List Seen) (steps : List Step) (events : List Event) → SpellsFile bytes file
-      → (played : IsPlayed file most only before others steps events) → AskedTold before played.ends.stands.turns
+  pub ended : (file : Meant) (others : List Seen) (steps : List Step) (events : List Event)
+      → SpellsFile bytes file
+      → (played : IsPlayed file most only before others steps events)
+      → AskedTold before played.ends.stands.turns
       → (output : List ℕ) × ListsTo bytes steps status output × Appends old new output
-  pub stopped : (file : Meant) (others : List Seen) (fault : PlayFault) → SpellsFile bytes file → fault ≢ OutOfMemory
+  pub stopped : (file : Meant) (others : List Seen) (fault : PlayFault) → SpellsFile bytes file
+      → fault ≢ OutOfMemory
       → (s : IsStopped file most only before others fault) → StoppedTold before s
-      → (status ≡ Refused) × ((output : List ℕ) × IsLineOf bytes (IsPlayFault fault) output × Appends old new output)
-  pub joins : status ≡ Yes → (file : Meant) → SpellsFile bytes file → file.schedule ≡ None → file.derivation ≡ None
-      → (steps : List Step) × (events : List Event) × Appends old new (schedule_text steps) × IsPlayed file most only before after steps events
-      × SpellsFile (joined bytes (schedule_text steps)) (with_schedule file steps) × RunsThrough (with_schedule file steps) events
+      → (status ≡ Refused)
+      × ((output : List ℕ) × IsLineOf bytes (IsPlayFault fault) output × Appends old new output)
+  pub joins : status ≡ Yes → (file : Meant) → SpellsFile bytes file → file.schedule ≡ None
+      → file.derivation ≡ None
+      → (steps : List Step) × (events : List Event) × Appends old new (schedule_text steps)
+      × IsPlayed file most only before after steps events
+      × SpellsFile (joined bytes (schedule_text steps)) (with_schedule file steps)
+      × RunsThrough (with_schedule file steps) events

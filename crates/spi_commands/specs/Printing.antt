@@ -18,11 +18,13 @@ abbrev pub SpellsLongPrint : List ℕ → Type 0
 SpellsLongPrint bytes = (file : Meant) × SpellsFile bytes file × IsLong file
 
 abbrev pub RefusesPrint : List ℕ → ℕ → Option ℕ → List ℕ → Type 0
-RefusesPrint bytes number offset shown = (file : Meant) × SpellsFile bytes file × HasLongPrint file number offset shown
+RefusesPrint bytes number offset shown = (file : Meant) × SpellsFile bytes file
+    × HasLongPrint file number offset shown
 
 -- the canonical text, or a refusal
 abbrev pub PrintsTo : List ℕ → Status → List ℕ → Type 0
-PrintsTo bytes = Answers (SpellsPrint bytes) never (IsLineOf bytes (layered (Refuses bytes) (RefusesPrint bytes)))
+PrintsTo bytes =
+    Answers (SpellsPrint bytes) never (IsLineOf bytes (layered (Refuses bytes) (RefusesPrint bytes)))
 
 -- `print` answers yes exactly where the file's canonical text is no longer than a file may be, and refused where it is
 -- longer or the file is none; and after a yes what was appended is that text, and it spells the same file.

@@ -18,7 +18,8 @@ use Rattle.spi_commands.specs.Replays.{RunsThrough, RefusesReplay, talks_most}
 
 -- the nodes of the data are counted, and the data kept where these are few
 abbrev pub AreTalks : List Message → Talks → Type 0
-AreTalks ms talks = (talks.nodes ≡ nodes_in ms) × (nodes_in ms ≤ talks_most → map message talks.data.items ≡ ms)
+AreTalks ms talks = (talks.nodes ≡ nodes_in ms)
+    × (nodes_in ms ≤ talks_most → map message talks.data.items ≡ ms)
 
 -- what a step hands over, where that is asked for
 abbrev pub IsDatum : Bool → Configuration → Step → Option Msg → Type 0

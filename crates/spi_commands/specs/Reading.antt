@@ -31,7 +31,8 @@ IsUnread bytes = IsUnreadBy (Refuses bytes)
 
 -- the refusal has this number, stands there, and shows this
 abbrev pub Tells : ℕ → ℕ → List ℕ → Unread → Type 0
-Tells number offset shown (Refused r) = (r.number ≡ number) × (r.offset ≡ Some offset) × (r.shown.items ≡ shown)
+Tells number offset shown (Refused r) = (r.number ≡ number) × (r.offset ≡ Some offset)
+    × (r.shown.items ≡ shown)
 Tells number offset shown NoMemory = ⊤
 
 -- the tokens are those of the bytes, and these are few

@@ -19,12 +19,14 @@ use Rattle.spi_report.specs.Refused.{refused_text}
 use Rattle.spi_commands.specs.Spelled.{limit, IsTreeOf}
 
 -- the causes of a layer, and behind them those of further layers
-abbrev pub layered : (ℕ → Option ℕ → List ℕ → Type 0) → (ℕ → Option ℕ → List ℕ → Type 0) → ℕ → Option ℕ → List ℕ → Type 0
+abbrev pub layered : (ℕ → Option ℕ → List ℕ → Type 0) → (ℕ → Option ℕ → List ℕ → Type 0) → ℕ → Option ℕ
+    → List ℕ → Type 0
 layered first later number offset shown = first number offset shown ⊎ later number offset shown
 
 -- the text is the line of one of these causes
 abbrev pub IsLineOf : List ℕ → (ℕ → Option ℕ → List ℕ → Type 0) → List ℕ → Type 0
-IsLineOf bytes causes output = (r : Refusal) × causes r.number r.offset r.shown.items × (output ≡ refused_text bytes r)
+IsLineOf bytes causes output = (r : Refusal) × causes r.number r.offset r.shown.items
+    × (output ≡ refused_text bytes r)
 
 -- the one cause that has this number, stands there and shows this
 abbrev pub IsCause : ℕ → Option ℕ → List ℕ → ℕ → Option ℕ → List ℕ → Type 0
@@ -35,10 +37,14 @@ IsCause number offset shown n o s = (n ≡ number) × (o ≡ offset) × (s ≡ s
 -- the bytes are too many, or have no tokens
 pub data IsUnlexed (bytes : List ℕ) : ℕ → Option ℕ → List ℕ → Type 0 where
   too_long : limit < length bytes → IsUnlexed bytes 2 None (decimal (limit + 1))
-  not_utf8 : {at : ℕ} → length bytes ≤ limit → Lexes bytes (Err (NotUtf8 at)) → IsUnlexed bytes 10 (Some at) []
-  bad_char : {at : ℕ} → length bytes ≤ limit → Lexes bytes (Err (BadChar at)) → IsUnlexed bytes 11 (Some at) []
-  bad_number : {at : ℕ} → length bytes ≤ limit → Lexes bytes (Err (BadNumber at)) → IsUnlexed bytes 12 (Some at) []
-  name_too_long : {at : ℕ} → length bytes ≤ limit → Lexes bytes (Err (NameTooLong at)) → IsUnlexed bytes 13 (Some at) []
+  not_utf8 : {at : ℕ} → length bytes ≤ limit → Lexes bytes (Err (NotUtf8 at))
+      → IsUnlexed bytes 10 (Some at) []
+  bad_char : {at : ℕ} → length bytes ≤ limit → Lexes bytes (Err (BadChar at))
+      → IsUnlexed bytes 11 (Some at) []
+  bad_number : {at : ℕ} → length bytes ≤ limit → Lexes bytes (Err (BadNumber at))
+      → IsUnlexed bytes 12 (Some at) []
+  name_too_long : {at : ℕ} → length bytes ≤ limit → Lexes bytes (Err (NameTooLong at))
+      → IsUnlexed bytes 13 (Some at) []
 
 -- ---- syntax
 
@@ -48,11 +54,14 @@ start_of bytes [] = length bytes
 start_of bytes (token ∷ rest) = token.span.from
 
 -- the tokens are those of no formed text of this kind, whose texts have these pieces
-pub data IsUnparsed {X : Type 0} (pieces : X → List Piece) (IsFormed : X → Type 0) (bytes : List ℕ) : ℕ → Option ℕ → List ℕ → Type 0 where
+pub data IsUnparsed {X : Type 0} (pieces : X → List Piece) (IsFormed : X → Type 0) (bytes : List ℕ) : ℕ
+    → Option ℕ → List ℕ → Type 0 where
   syntax : {tokens : List Token} {i : ℕ} → length bytes ≤ limit → Lexes bytes (Ok tokens)
-      → IsSyntaxAt pieces IsFormed (kinds_of tokens) i → IsUnparsed pieces IsFormed bytes 20 (Some (start_of bytes (drop i tokens))) []
+      → IsSyntaxAt pieces IsFormed (kinds_of tokens) i
+      → IsUnparsed pieces IsFormed bytes 20 (Some (start_of bytes (drop i tokens))) []
   too_deep : {tokens : List Token} {i : ℕ} → length bytes ≤ limit → Lexes bytes (Ok tokens)
-      → IsDeepAt pieces IsFormed (kinds_of tokens) i → IsUnparsed pieces IsFormed bytes 21 (Some (start_of bytes (drop i tokens))) []
+      → IsDeepAt pieces IsFormed (kinds_of tokens) i
+      → IsUnparsed pieces IsFormed bytes 21 (Some (start_of bytes (drop i tokens))) []
 
 -- ---- scopes
 
@@ -88,7 +97,8 @@ pub data IsUnscoped (tree : File) : ℕ → Option ℕ → List ℕ → Type 0 w
 
 -- the tree that the bytes spell stands for none
 abbrev pub HasUnscoped : List ℕ → ℕ → Option ℕ → List ℕ → Type 0
-HasUnscoped bytes number offset shown = (tree : File) × IsTreeOf bytes tree × IsUnscoped tree number offset shown
+HasUnscoped bytes number offset shown = (tree : File) × IsTreeOf bytes tree
+    × IsUnscoped tree number offset shown
 
 -- the bytes spell no file
 abbrev pub Refuses : List ℕ → ℕ → Option ℕ → List ℕ → Type 0

@@ -19,14 +19,17 @@ ArePaid events = Paid events × PaidMany events
 
 -- the bytes spell a file whose schedule runs through with events that are paid, or with events that aren't
 abbrev pub SpellsPaid : List ℕ → Type 0
-SpellsPaid bytes = (file : Meant) × (events : List Event) × SpellsFile bytes file × RunsThrough file events × ArePaid events
+SpellsPaid bytes = (file : Meant) × (events : List Event) × SpellsFile bytes file × RunsThrough file events
+    × ArePaid events
 
 abbrev pub SpellsUnpaid : List ℕ → Type 0
-SpellsUnpaid bytes = (file : Meant) × (events : List Event) × SpellsFile bytes file × RunsThrough file events × (¬ ArePaid events)
+SpellsUnpaid bytes = (file : Meant) × (events : List Event) × SpellsFile bytes file × RunsThrough file events
+    × (¬ ArePaid events)
 
 -- the text has the events, each end with the begin that pays for it
 abbrev pub IsReplayText : Meant → List Event → List ℕ → Type 0
-IsReplayText file events output = (from : List (Option ℕ)) × IsPairing events from × (output ≡ events_text file.names events from)
+IsReplayText file events output = (from : List (Option ℕ)) × IsPairing events from
+    × (output ≡ events_text file.names events from)
 
 -- the status tells whether the events are paid
 abbrev pub IsJudged : List Event → Status → Type 0
@@ -34,11 +37,13 @@ IsJudged events status = ((status ≡ Yes) × ArePaid events) ⊎ ((status ≡ N
 
 abbrev pub IsPaidReplay : List ℕ → List ℕ → Type 0
 IsPaidReplay bytes output =
-    (file : Meant) × (events : List Event) × SpellsFile bytes file × RunsThrough file events × ArePaid events × IsReplayText file events output
+    (file : Meant) × (events : List Event) × SpellsFile bytes file × RunsThrough file events × ArePaid events
+    × IsReplayText file events output
 
 abbrev pub IsUnpaidReplay : List ℕ → List ℕ → Type 0
 IsUnpaidReplay bytes output =
-    (file : Meant) × (events : List Event) × SpellsFile bytes file × RunsThrough file events × (¬ ArePaid events) × IsReplayText file events output
+    (file : Meant) × (events : List Event) × SpellsFile bytes file × RunsThrough file events
+    × (¬ ArePaid events) × IsReplayText file events output
 
 -- yes, no, or a refusal
 abbrev pub ReplaysTo : List ℕ → Status → List ℕ → Type 0

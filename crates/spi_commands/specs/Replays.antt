@@ -22,8 +22,10 @@ use Rattle.spi_commands.specs.Beside.{pool_of, HasOpponent, LacksOpponent, HasOf
 -- the steps are taken one by one, each within the limits, with these events, and these data of their talks
 pub data Replays : Pooled → List Step → List Event → List Message → Pooled → Type 0 where
   replays_none : {p : Pooled} → Replays p [] [] [] p
-  replays_step : {p q r : Pooled} {s : Step} {e : Option Event} {ss : List Step} {es : List Event} {ms : List Message}
-      → IsTaken p s e q → Replays q ss es ms r → Replays p (s ∷ ss) (option_to_list e ++ es) (handed p.configuration s ++ ms) r
+  replays_step : {p q r : Pooled} {s : Step} {e : Option Event} {ss : List Step} {es : List Event}
+      {ms : List Message}
+      → IsTaken p s e q → Replays q ss es ms r
+      → Replays p (s ∷ ss) (option_to_list e ++ es) (handed p.configuration s ++ ms) r
 
 -- the steps before this one are taken, and it is refused so
 pub record IsRefusedAt (p : Pooled) (steps : List Step) (index : ℕ) (fault : StepFault) : Type 0 where
@@ -61,7 +63,8 @@ pub data IsUnplayed (file : Meant) : Type 0 where
   no_opponent_part : file.opponent ≡ None → IsUnplayed file
   no_schedule : file.schedule ≡ None → IsUnplayed file
   no_opponent : {o : Spelling} → file.opponent ≡ Some o → ¬ IsOpponent o.process → IsUnplayed file
-  no_step : {o : Spelling} {steps : List Step} {i : ℕ} {fault : StepFault} → HasOpponent file o → file.schedule ≡ Some steps
+  no_step : {o : Spelling} {steps : List Step} {i : ℕ} {fault : StepFault} → HasOpponent file o
+      → file.schedule ≡ Some steps
       → IsRefusedAt (pool_of places_most file o) steps i fault → IsUnplayed file
 
 abbrev pub SpellsUnplayed : List ℕ → Type 0
@@ -89,7 +92,8 @@ step_shown OutOfMemory = []
 -- there is an opponent part and no schedule
 abbrev pub LacksSchedule : List ℕ → ℕ → Option ℕ → List ℕ → Type 0
 LacksSchedule bytes number offset shown =
-    (file : Meant) × (o : Spelling) × SpellsFile bytes file × (file.opponent ≡ Some o) × (file.schedule ≡ None)
+    (file : Meant) × (o : Spelling) × SpellsFile bytes file × (file.opponent ≡ Some o)
+    × (file.schedule ≡ None)
     × IsMissing (codes "schedule") number offset shown
 
 -- both parts are there, and the opponent part is none
@@ -99,17 +103,21 @@ IsOffended bytes number offset shown =
     × ((file : Meant) × (steps : List Step) × SpellsFile bytes file × (file.schedule ≡ Some steps))
 
 -- a step of the schedule is refused
-pub data IsStepRefusal (tree : File) (first : Pooled) (steps : List Step) : ℕ → Option ℕ → List ℕ → Type 0 where
+pub data IsStepRefusal (tree : File) (first : Pooled) (steps : List Step) : ℕ → Option ℕ → List ℕ
+    → Type 0 where
   step_refused : {i : ℕ} {fault : StepFault} → IsRefusedAt first steps i fault
       → IsStepRefusal tree first steps (step_number fault) (Some (step_at tree i).from) (step_shown fault)
 
 abbrev pub HasStepRefusal : List ℕ → ℕ → Option ℕ → List ℕ → Type 0
 HasStepRefusal bytes number offset shown =
-    (tree : File) × (file : Meant) × (o : Spelling) × (steps : List Step) × IsTreeOf bytes tree × StandsFor tree file
+    (tree : File) × (file : Meant) × (o : Spelling) × (steps : List Step) × IsTreeOf bytes tree
+    × StandsFor tree file
     × HasOpponent file o × (file.schedule ≡ Some steps)
     × IsStepRefusal tree (pool_of places_most file o) steps number offset shown
 
 -- what a replay is refused for
 abbrev pub RefusesReplay : List ℕ → ℕ → Option ℕ → List ℕ → Type 0
 RefusesReplay bytes =
-    layered (Refuses bytes) (layered (LacksOpponent bytes) (layered (LacksSchedule bytes) (layered (IsOffended bytes) (HasStepRefusal bytes))))
+    layered (Refuses bytes)
+    (layered (LacksOpponent bytes)
+    (layered (LacksSchedule bytes) (layered (IsOffended bytes) (HasStepRefusal bytes))))

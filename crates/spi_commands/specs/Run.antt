@@ -12,7 +12,8 @@ use Rattle.spi_commands.specs.Commands.{AnswersTo}
 
 -- the line for words that are no command
 abbrev pub usage_line : List ℕ
-usage_line = codes "usage: check | derive | verify | replay | play --steps N [--player I] | print | load K | upgrade | narrate | knows I | bench\n"
+usage_line = codes
+    "usage: check | derive | verify | replay | play --steps N [--player I] | print | load K | upgrade | narrate | knows I | bench\n"
 
 -- What is to be answered to a command, or to no command: the bytes are the file, and the players are as
 -- they are seen before the call and after it.
@@ -37,19 +38,23 @@ Ends wants old new Yes = (output : List ℕ) × wants Yes output × Appends old 
 Ends wants old new No = (output : List ℕ) × wants No output × Appends old new output
 Ends wants old new Refused = (output : List ℕ) × wants Refused output × Appends old new output
 Ends wants old new ReadFault = Keeps old new
-Ends wants old new WriteFault = (status : Status) × (output : List ℕ) × wants status output × PutsPrefix old new output
+Ends wants old new WriteFault = (status : Status) × (output : List ℕ) × wants status output
+    × PutsPrefix old new output
 Ends wants old new NoMemory = Keeps old new
 Ends wants old new Usage = (output : List ℕ) × wants Usage output × Appends old new output
 
 -- what is wanted is done, or memory ran out
 abbrev pub Completes : (Status → List ℕ → Type 0) → Option (List ℕ) → Option (List ℕ) → Status → Type 0
-Completes wants old new status = (status ≡ NoMemory) ⊎ ((output : List ℕ) × wants status output × Appends old new output)
+Completes wants old new status =
+    (status ≡ NoMemory) ⊎ ((output : List ℕ) × wants status output × Appends old new output)
 
 -- no fault rose, by the counts of the source and of the sink, and memory didn't run out
 abbrev pub IsUndisturbed : ℕ → ℕ → ℕ → ℕ → Status → Type 0
-IsUndisturbed reads reads' writes writes' status = (¬ Rose reads reads') × (¬ Rose writes writes') × (status ≢ NoMemory)
+IsUndisturbed reads reads' writes writes' status = (¬ Rose reads reads') × (¬ Rose writes writes')
+    × (status ≢ NoMemory)
 
 -- the bytes that were left are all taken, or one more than an input may have, where there are so many
 abbrev pub TakesInput : Option (List ℕ) → Option (List ℕ) → Type 0
 TakesInput None new = ⊤
-TakesInput (Some bytes) new = (length bytes ≤ limit → IsAtEnd new) × (limit < length bytes → TakesCount (Some bytes) new (limit + 1))
+TakesInput (Some bytes) new = (length bytes ≤ limit → IsAtEnd new)
+    × (limit < length bytes → TakesCount (Some bytes) new (limit + 1))

@@ -28,10 +28,12 @@ IsProved file d = Proves d (untrusted file.process.names) file.process.process [
 
 -- the bytes spell a file whose derivation proves that, and one whose derivation doesn't
 abbrev pub SpellsProved : List ℕ → Type 0
-SpellsProved bytes = (file : Meant) × (d : List RuleUse) × SpellsFile bytes file × (file.derivation ≡ Some d) × IsProved file d
+SpellsProved bytes = (file : Meant) × (d : List RuleUse) × SpellsFile bytes file × (file.derivation ≡ Some d)
+    × IsProved file d
 
 abbrev pub SpellsUnproved : List ℕ → Type 0
-SpellsUnproved bytes = (file : Meant) × (d : List RuleUse) × SpellsFile bytes file × (file.derivation ≡ Some d) × (¬ IsProved file d)
+SpellsUnproved bytes = (file : Meant) × (d : List RuleUse) × SpellsFile bytes file
+    × (file.derivation ≡ Some d) × (¬ IsProved file d)
 
 -- the bytes spell a file without a derivation
 abbrev pub SpellsUnderived : List ℕ → Type 0
@@ -44,4 +46,5 @@ IsSafe bytes = (file : Meant) → SpellsFile bytes file → RobustlySafe file.pr
 
 -- beside every opponent, along every run of every length, each endmany event has an earlier begin event with the same label
 abbrev pub IsManySafe : List ℕ → Type 0
-IsManySafe bytes = (file : Meant) → SpellsFile bytes file → RobustlySafeMany file.process.names file.process.process
+IsManySafe bytes = (file : Meant) → SpellsFile bytes file
+    → RobustlySafeMany file.process.names file.process.process

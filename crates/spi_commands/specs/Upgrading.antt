@@ -36,7 +36,8 @@ IsRespelled names old new = (IsNewWord old × IsRenumbered names old new) ⊎ ((
 
 pub data AreRespelled (names : List (List ℕ)) : List (List ℕ) → List (List ℕ) → Type 0 where
   none_respelled : AreRespelled names [] []
-  one_respelled : {old new : List ℕ} {olds news : List (List ℕ)} → IsRespelled names old new → AreRespelled names olds news → AreRespelled names (old ∷ olds) (new ∷ news)
+  one_respelled : {old new : List ℕ} {olds news : List (List ℕ)} → IsRespelled names old new
+      → AreRespelled names olds news → AreRespelled names (old ∷ olds) (new ∷ news)
 
 -- the same file but for its version and the spelling of its free names
 pub record IsVersion2 (file upgraded : Meant) : Type 0 where
@@ -56,18 +57,22 @@ IsUpgrade file upgraded =
 
 -- of the file that the file of these bytes is upgraded to
 abbrev pub SpellsUpgrade : List ℕ → List ℕ → Type 0
-SpellsUpgrade bytes output = (file upgraded : Meant) × SpellsFile bytes file × IsUpgrade file upgraded × IsPrint upgraded output
+SpellsUpgrade bytes output = (file upgraded : Meant) × SpellsFile bytes file × IsUpgrade file upgraded
+    × IsPrint upgraded output
 
 abbrev pub SpellsLongUpgrade : List ℕ → Type 0
-SpellsLongUpgrade bytes = (file upgraded : Meant) × SpellsFile bytes file × IsUpgrade file upgraded × IsLong upgraded
+SpellsLongUpgrade bytes = (file upgraded : Meant) × SpellsFile bytes file × IsUpgrade file upgraded
+    × IsLong upgraded
 
 abbrev pub RefusesUpgrade : List ℕ → ℕ → Option ℕ → List ℕ → Type 0
 RefusesUpgrade bytes number offset shown =
-    (file upgraded : Meant) × SpellsFile bytes file × IsUpgrade file upgraded × HasLongPrint upgraded number offset shown
+    (file upgraded : Meant) × SpellsFile bytes file × IsUpgrade file upgraded
+    × HasLongPrint upgraded number offset shown
 
 -- the canonical text in version 2, or a refusal
 abbrev pub UpgradesTo : List ℕ → Status → List ℕ → Type 0
-UpgradesTo bytes = Answers (SpellsUpgrade bytes) never (IsLineOf bytes (layered (Refuses bytes) (RefusesUpgrade bytes)))
+UpgradesTo bytes =
+    Answers (SpellsUpgrade bytes) never (IsLineOf bytes (layered (Refuses bytes) (RefusesUpgrade bytes)))
 
 -- `check` and `verify` give the same status on both
 pub record HaveSameAnswers (bytes output : List ℕ) : Type 0 where
@@ -84,5 +89,6 @@ pub record IsUpgraded (bytes : List ℕ) (old new : Option (List ℕ)) (status :
   pub yes : (status ≡ Yes) ↔ ((output : List ℕ) × SpellsUpgrade bytes output)
   pub refused : (status ≡ Refused) ↔ (SpellsNone bytes ⊎ SpellsLongUpgrade bytes)
   pub reads_back : status ≡ Yes → (file : Meant) → SpellsFile bytes file
-      → (output : List ℕ) × (upgraded : Meant) × Appends old new output × IsUpgrade file upgraded × IsPrint upgraded output
+      → (output : List ℕ) × (upgraded : Meant) × Appends old new output × IsUpgrade file upgraded
+      × IsPrint upgraded output
       × SpellsFile output upgraded × HaveSameAnswers bytes output

@@ -27,26 +27,31 @@ rule_at tree i = place_in (rule_places tree.derivation) i
 -- the text is the line of the first wrong use, or of what the derivation leaves unpaid
 abbrev pub IsWrongLine : List ℕ → File → Meant → List RuleUse → List ℕ → Type 0
 IsWrongLine bytes tree file d output =
-    (i : ℕ) × IsWrongAt (untrusted file.process.names) file.process.process d i × (output ≡ wrong_text bytes (rule_at tree i) i)
+    (i : ℕ) × IsWrongAt (untrusted file.process.names) file.process.process d i
+    × (output ≡ wrong_text bytes (rule_at tree i) i)
 
 abbrev pub IsUnpaidLine : List ℕ → File → Meant → List RuleUse → List ℕ → Type 0
 IsUnpaidLine bytes tree file d output =
     (es : Effect) × (fault : Told) × LeavesUnpaid (untrusted file.process.names) file.process.process d es
-    × IsUnpaid (spelled_at tree) es fault × (output ≡ fault_text bytes (place_at tree) (spelled_at tree) fault)
+    × IsUnpaid (spelled_at tree) es fault
+    × (output ≡ fault_text bytes (place_at tree) (spelled_at tree) fault)
 
 abbrev pub IsUnprovedLine : List ℕ → List ℕ → Type 0
 IsUnprovedLine bytes output =
-    (tree : File) × (file : Meant) × (d : List RuleUse) × IsTreeOf bytes tree × StandsFor tree file × (file.derivation ≡ Some d)
+    (tree : File) × (file : Meant) × (d : List RuleUse) × IsTreeOf bytes tree × StandsFor tree file
+    × (file.derivation ≡ Some d)
     × (IsWrongLine bytes tree file d output ⊎ IsUnpaidLine bytes tree file d output)
 
 -- the file has no derivation
 abbrev pub LacksDerivation : List ℕ → ℕ → Option ℕ → List ℕ → Type 0
-LacksDerivation bytes number offset shown = SpellsUnderived bytes × IsMissing (codes "derivation") number offset shown
+LacksDerivation bytes number offset shown = SpellsUnderived bytes
+    × IsMissing (codes "derivation") number offset shown
 
 -- yes, no, or a refusal
 abbrev pub VerifiesTo : List ℕ → Status → List ℕ → Type 0
 VerifiesTo bytes =
-    Answers (λ output. SpellsProved bytes × (output ≡ codes "yes\n")) (λ output. SpellsUnproved bytes × IsUnprovedLine bytes output)
+    Answers (λ output. SpellsProved bytes × (output ≡ codes "yes\n"))
+    (λ output. SpellsUnproved bytes × IsUnprovedLine bytes output)
     (IsLineOf bytes (layered (Refuses bytes) (LacksDerivation bytes)))
 
 -- `verify` answers yes exactly where the file's derivation proves that its process has the empty effect, no exactly where it

@@ -60,7 +60,8 @@ pub fn refusal(alloc: Global, bytes: &[u8], r: &Refusal) -> Result<Answer, Stop>
     requires sized { IsSized bytes.now }
     requires named { IsSome (name_of r.now.number) }
     requires within { IfSome r.now.offset (λ offset. offset ≤ length bytes.now) }
-    ensures ok { IfOk result (λ answer. (answer.status ≡ Status.Refused) × (answer.output.items ≡ refused_text bytes.now r.now)) }
+    ensures ok { IfOk result
+        (λ answer. (answer.status ≡ Status.Refused) × (answer.output.items ≡ refused_text bytes.now r.now)) }
     ensures err { OnErr result (result ≡ Err Stop.NoMemory) }
 {
     let output = refusal_line(alloc, bytes, r)?;
@@ -85,7 +86,9 @@ pub fn refusal_line(alloc: Global, bytes: &[u8], r: &Refusal) -> Result<Vec<u8>,
 pub fn too_much(alloc: Global, bytes: &[u8], count: u64) -> Result<Answer, Stop>
     requires sized { length bytes.now ≤ 16_777_216 }
     requires much { 16_777_216 < count }
-    ensures ok { IfOk result (λ answer. (answer.status ≡ Status.Refused) × IsLineOf bytes.now (IsTooMuch count) answer.output.items) }
+    ensures ok { IfOk result
+        (λ answer. (answer.status ≡ Status.Refused)
+        × IsLineOf bytes.now (IsTooMuch count) answer.output.items) }
     ensures err { OnErr result (result ≡ Err Stop.NoMemory) }
 {
     let shown = format!(in alloc; "{count}")?.into_bytes();
@@ -100,7 +103,9 @@ pub fn too_much(alloc: Global, bytes: &[u8], count: u64) -> Result<Answer, Stop>
 /// The refusal of a file that lacks a part.
 pub fn missing(alloc: Global, bytes: &[u8], part: &[u8]) -> Result<Answer, Stop>
     requires { length bytes.now ≤ 16_777_216 }
-    ensures ok { IfOk result (λ answer. (answer.status ≡ Status.Refused) × IsLineOf bytes.now (IsMissing part.now) answer.output.items) }
+    ensures ok { IfOk result
+        (λ answer. (answer.status ≡ Status.Refused)
+        × IsLineOf bytes.now (IsMissing part.now) answer.output.items) }
     ensures err { OnErr result (result ≡ Err Stop.NoMemory) }
 {
     let shown = part.to_vec(alloc)?;

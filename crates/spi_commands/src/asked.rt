@@ -71,7 +71,8 @@ fn number(most: usize, text: &[u8]) -> Option<u32>
 
 /// A play with these values of its options.
 fn play_of(steps: Option<&str>, player: Option<&str>, players: usize) -> Option<Command>
-    ensures { result ≡ with_values (option_map (λ s. s.now) steps.entry) (option_map (λ s. s.now) player.entry) players }
+    ensures { result
+        ≡ with_values (option_map (λ s. s.now) steps.entry) (option_map (λ s. s.now) player.entry) players }
 {
     let most = number(STEPS + 1, steps?.as_bytes())?;
     match player {

@@ -13,7 +13,8 @@ use std::alloc::Global;
 /// The canonical text of this file, or the refusal where it is longer than a file may be.
 pub fn shown(alloc: Global, bytes: &[u8], file: &File) -> Result<Answer, Stop>
     requires { length bytes.now ≤ 16_777_216 }
-    ensures ok { IfOk result (λ answer. ShowsTo bytes.now (meant file.now) answer.status answer.output.items) }
+    ensures ok { IfOk result
+        (λ answer. ShowsTo bytes.now (meant file.now) answer.status answer.output.items) }
     ensures err { OnErr result (result ≡ Err Stop.NoMemory) }
 {
     let output = show_file(alloc, file)?;

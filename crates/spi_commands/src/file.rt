@@ -32,7 +32,8 @@ pub fn take_file<S: Source>(alloc: Global, source: &mut S) -> Result<Given, Stop
     ensures gives { IfOk result (λ given. IfSome (S.left source.old) (λ bytes. Gives bytes given)) }
     ensures whole { OnOk result (TakesInput (S.left source.old) (S.left source.new)) }
     ensures read_fault { IsErrOf result Stop.ReadFault → Rose (S.faults source.old) (S.faults source.new) }
-    ensures failed_reads { ¬ IsErrOf result Stop.ReadFault → S.failed_reads source.new ≡ S.failed_reads source.old }
+    ensures failed_reads { ¬ IsErrOf result Stop.ReadFault
+        → S.failed_reads source.new ≡ S.failed_reads source.old }
     ensures taken { TakesUpTo (S.left source.old) (S.left source.new) (limit + 1) }
     ensures reads { S.reads source.new ≤ S.reads source.old + limit + 2 }
 {

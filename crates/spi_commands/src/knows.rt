@@ -28,7 +28,9 @@ use std::alloc::Global;
 /// What `knows` answers on what it is given, about the name with this number.
 pub fn knows(alloc: Global, given: Given, name: u32) -> Result<Answer, Stop>
     requires { IsGiven given }
-    ensures ok { IfOk result (λ answer. (bytes : List ℕ) → Gives bytes given → KnowsTo name bytes answer.status answer.output.items) }
+    ensures ok { IfOk result
+        (λ answer. (bytes : List ℕ) → Gives bytes given
+        → KnowsTo name bytes answer.status answer.output.items) }
     ensures answered { IfOk result (λ answer. IsAnswered answer.status × (answer.status ≢ Status.Usage)) }
     ensures err { OnErr result (result ≡ Err Stop.NoMemory) }
 {
@@ -80,7 +82,9 @@ fn known_after(
 fn counted(alloc: Global, bytes: &[u8], number: u32, count: u64) -> Result<Answer, Stop>
     requires sized { length bytes.now ≤ 16_777_216 }
     requires named { IsSome (name_of number) }
-    ensures ok { IfOk result (λ answer. (answer.status ≡ Status.Refused) × IsLineOf bytes.now (IsCause number None (decimal count)) answer.output.items) }
+    ensures ok { IfOk result
+        (λ answer. (answer.status ≡ Status.Refused)
+        × IsLineOf bytes.now (IsCause number None (decimal count)) answer.output.items) }
     ensures err { OnErr result (result ≡ Err Stop.NoMemory) }
 {
     let shown = format!(in alloc; "{count}")?.into_bytes();
@@ -96,7 +100,9 @@ fn counted(alloc: Global, bytes: &[u8], number: u32, count: u64) -> Result<Answe
 fn decided(alloc: Global, file: &File, talks: Talks, name: u32) -> Result<Answer, Stop>
     requires names { file.now.process.names ≤ 100_000 }
     requires few { nodes_in (map message talks.data.items) ≤ 20_000 }
-    ensures ok { IfOk result (λ answer. IsDecided (meant file.now) (map message talks.data.items) name answer.status answer.output.items) }
+    ensures ok { IfOk result
+        (λ answer. IsDecided (meant file.now) (map message talks.data.items) name answer.status
+        answer.output.items) }
     ensures err { OnErr result (result ≡ Err Stop.NoMemory) }
 {
     let sent = sent_of(alloc, file.process.names(), talks.data)?;

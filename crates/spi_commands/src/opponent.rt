@@ -17,8 +17,11 @@ use std::alloc::Global;
 pub fn not_opponent(alloc: Global, bytes: &[u8], file: &File, node: u32) -> Result<Answer, Stop>
     requires sized { length bytes.now ≤ 16_777_216 }
     requires read { IsRead bytes.now file.now }
-    requires first { (o : Spelling) × ((meant file.now).opponent ≡ Some o) × IsFirstOffence (spelled o.names o.process) node }
-    ensures ok { IfOk result (λ answer. (answer.status ≡ Status.Refused) × IsLineOf bytes.now (HasOffence bytes.now) answer.output.items) }
+    requires first { (o : Spelling) × ((meant file.now).opponent ≡ Some o)
+        × IsFirstOffence (spelled o.names o.process) node }
+    ensures ok { IfOk result
+        (λ answer. (answer.status ≡ Status.Refused)
+        × IsLineOf bytes.now (HasOffence bytes.now) answer.output.items) }
     ensures err { OnErr result (result ≡ Err Stop.NoMemory) }
 {
     let offset = file.opponent_place(node).from;

@@ -70,7 +70,8 @@ fn with_word_forms<'a>(
     alloc: Global,
     rows: &[(&'a str, Asked)],
 ) -> Result<Command<'a>, AllocError>
-    ensures { IfOk result (λ c. app_of c ≡ fold with_word (app_of form.entry) (words_of (word_rows rows.now))) }
+    ensures { IfOk result
+        (λ c. app_of c ≡ fold with_word (app_of form.entry) (words_of (word_rows rows.now))) }
 {
     let mut form = form;
     for row in rows {
@@ -85,7 +86,8 @@ fn with_counted_forms<'a>(
     alloc: Global,
     rows: &[(&'a str, Numbered)],
 ) -> Result<Command<'a>, AllocError>
-    ensures { IfOk result (λ c. app_of c ≡ fold with_counted (app_of form.entry) (words_of (number_rows rows.now))) }
+    ensures { IfOk result
+        (λ c. app_of c ≡ fold with_counted (app_of form.entry) (words_of (number_rows rows.now))) }
 {
     let mut form = form;
     for row in rows {

@@ -42,10 +42,12 @@ pub fn plays(
     requires few { most ≤ 1000 }
     requires only { ForSome only (λ place. place < vec_len players.old) }
     ensures ok { IfOk result (λ answer. (bytes : List ℕ) → Gives bytes given → PlaysTo most only bytes
-        (seen_of (λ b. times b) (λ b. way b) players.old.items) (seen_of (λ b. times b) (λ b. way b) players.new.items) answer.status answer.output.items) }
+        (seen_of (λ b. times b) (λ b. way b) players.old.items)
+        (seen_of (λ b. times b) (λ b. way b) players.new.items) answer.status answer.output.items) }
     ensures answered { IfOk result (λ answer. IsAnswered answer.status × (answer.status ≢ Status.Usage)) }
     ensures left { OnErr result ((bytes : List ℕ) → Gives bytes given → LeavesPlayers most only bytes
-        (seen_of (λ b. times b) (λ b. way b) players.old.items) (seen_of (λ b. times b) (λ b. way b) players.new.items)) }
+        (seen_of (λ b. times b) (λ b. way b) players.old.items)
+        (seen_of (λ b. times b) (λ b. way b) players.new.items)) }
     ensures err { OnErr result (result ≡ Err Stop.NoMemory) }
 {
     match given {
@@ -68,10 +70,12 @@ fn played(
     requires few { most ≤ 1000 }
     requires only { ForSome only (λ place. place < vec_len players.old) }
     ensures ok { IfOk result (λ answer. PlaysTo most only bytes.now
-        (seen_of (λ b. times b) (λ b. way b) players.old.items) (seen_of (λ b. times b) (λ b. way b) players.new.items) answer.status answer.output.items) }
+        (seen_of (λ b. times b) (λ b. way b) players.old.items)
+        (seen_of (λ b. times b) (λ b. way b) players.new.items) answer.status answer.output.items) }
     ensures answered { IfOk result (λ answer. IsAnswered answer.status × (answer.status ≢ Status.Usage)) }
     ensures left { OnErr result (LeavesPlayers most only bytes.now
-        (seen_of (λ b. times b) (λ b. way b) players.old.items) (seen_of (λ b. times b) (λ b. way b) players.new.items)) }
+        (seen_of (λ b. times b) (λ b. way b) players.old.items)
+        (seen_of (λ b. times b) (λ b. way b) players.new.items)) }
     ensures err { OnErr result (result ≡ Err Stop.NoMemory) }
 {
     match &file.opponent {
@@ -100,10 +104,12 @@ fn beside(
     requires few { most ≤ 1000 }
     requires only { ForSome only (λ place. place < vec_len players.old) }
     ensures ok { IfOk result (λ answer. PlaysTo most only bytes.now
-        (seen_of (λ b. times b) (λ b. way b) players.old.items) (seen_of (λ b. times b) (λ b. way b) players.new.items) answer.status answer.output.items) }
+        (seen_of (λ b. times b) (λ b. way b) players.old.items)
+        (seen_of (λ b. times b) (λ b. way b) players.new.items) answer.status answer.output.items) }
     ensures answered { IfOk result (λ answer. IsAnswered answer.status × (answer.status ≢ Status.Usage)) }
     ensures left { OnErr result (LeavesPlayers most only bytes.now
-        (seen_of (λ b. times b) (λ b. way b) players.old.items) (seen_of (λ b. times b) (λ b. way b) players.new.items)) }
+        (seen_of (λ b. times b) (λ b. way b) players.old.items)
+        (seen_of (λ b. times b) (λ b. way b) players.new.items)) }
     ensures err { OnErr result (result ≡ Err Stop.NoMemory) }
 {
     let mut pool = Pool::start(alloc, &file.process, opponent, PLACES)?;
@@ -116,7 +122,8 @@ fn beside(
 /// The text of these steps, where it isn't too long to stand behind the file.
 fn listed(alloc: Global, bytes: &[u8], steps: &[Step]) -> Result<Answer, Stop>
     requires { length bytes.now ≤ 16_777_216 }
-    ensures ok { IfOk result (λ answer. ListsTo bytes.now (map step_of steps.now) answer.status answer.output.items) }
+    ensures ok { IfOk result
+        (λ answer. ListsTo bytes.now (map step_of steps.now) answer.status answer.output.items) }
     ensures answered { IfOk result (λ answer. IsAnswered answer.status × (answer.status ≢ Status.Usage)) }
     ensures err { OnErr result (result ≡ Err Stop.NoMemory) }
 {
@@ -135,7 +142,9 @@ fn listed(alloc: Global, bytes: &[u8], steps: &[Step]) -> Result<Answer, Stop>
 /// The refusal of a play.
 fn refused(alloc: Global, bytes: &[u8], fault: &PlayFault) -> Result<Answer, Stop>
     requires { length bytes.now ≤ 16_777_216 }
-    ensures ok { IfOk result (λ answer. (answer.status ≡ Status.Refused) × IsLineOf bytes.now (IsPlayFault fault.now) answer.output.items) }
+    ensures ok { IfOk result
+        (λ answer. (answer.status ≡ Status.Refused)
+        × IsLineOf bytes.now (IsPlayFault fault.now) answer.output.items) }
     ensures answered { IfOk result (λ answer. IsAnswered answer.status × (answer.status ≢ Status.Usage)) }
     ensures err { OnErr result (result ≡ Err Stop.NoMemory) }
 {
@@ -164,7 +173,9 @@ fn refused(alloc: Global, bytes: &[u8], fault: &PlayFault) -> Result<Answer, Sto
 fn placeless(alloc: Global, bytes: &[u8], number: u32, shown: String) -> Result<Answer, Stop>
     requires sized { length bytes.now ≤ 16_777_216 }
     requires named { IsSome (name_of number) }
-    ensures ok { IfOk result (λ answer. (answer.status ≡ Status.Refused) × IsLineOf bytes.now (IsCause number None (string_bytes shown)) answer.output.items) }
+    ensures ok { IfOk result
+        (λ answer. (answer.status ≡ Status.Refused)
+        × IsLineOf bytes.now (IsCause number None (string_bytes shown)) answer.output.items) }
     ensures err { OnErr result (result ≡ Err Stop.NoMemory) }
 {
     let r = Refusal {

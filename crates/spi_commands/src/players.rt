@@ -82,7 +82,8 @@ impl Seeded {
     /// It was asked 0 times, and its generator is the one of this seed.
     pub fn new(seed: u64) -> Seeded
         ensures times { result.asked ≡ 0 }
-        ensures generator { result.generator ≡ ⟦<Lcg64Xsh32 as SeedableRng>⟧.of_seed (⟦<Lcg64Xsh32 as SeedableRng>⟧.seed_of_u64 seed) }
+        ensures generator { result.generator
+            ≡ ⟦<Lcg64Xsh32 as SeedableRng>⟧.of_seed (⟦<Lcg64Xsh32 as SeedableRng>⟧.seed_of_u64 seed) }
     {
         Seeded {
             generator: Lcg64Xsh32::seed_from_u64(seed),
@@ -100,7 +101,8 @@ impl Player for Seeded {
         requires { 0 < menu.now.ready }
         ensures times { self.new.asked ≡ next_count self.old.asked }
         ensures way { Follows None self.old.asked menu.now.ready result None }
-        ensures word { (word : ℕ) × ((word, self.new.generator) ≡ pcg32 self.old.generator) × (result ≡ Take (word % menu.now.ready)) }
+        ensures word { (word : ℕ) × ((word, self.new.generator) ≡ pcg32 self.old.generator)
+            × (result ≡ Take (word % menu.now.ready)) }
     {
         self.asked = self.asked.saturating_add(1);
         let word = self.generator.next_word();

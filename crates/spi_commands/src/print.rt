@@ -14,7 +14,8 @@ use std::alloc::Global;
 /// What `print` answers on what it is given.
 pub fn prints(alloc: Global, given: Given) -> Result<Answer, Stop>
     requires { IsGiven given }
-    ensures ok { IfOk result (λ answer. (bytes : List ℕ) → Gives bytes given → PrintsTo bytes answer.status answer.output.items) }
+    ensures ok { IfOk result
+        (λ answer. (bytes : List ℕ) → Gives bytes given → PrintsTo bytes answer.status answer.output.items) }
     ensures answered { IfOk result (λ answer. IsAnswered answer.status × (answer.status ≢ Status.Usage)) }
     ensures err { OnErr result (result ≡ Err Stop.NoMemory) }
 {

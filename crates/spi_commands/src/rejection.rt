@@ -19,7 +19,8 @@ use std::alloc::Global;
 pub fn rejected(alloc: Global, bytes: &[u8], file: &File, fault: &Fault) -> Result<Answer, Stop>
     requires sized { length bytes.now ≤ 16_777_216 }
     requires read { IsRead bytes.now file.now }
-    requires fault { IsFault (λ i. reverse (chain_at file.now.marks.scopes i)) file.now.process.names file.now.process.process (told fault.now) }
+    requires fault { IsFault (λ i. reverse (chain_at file.now.marks.scopes i)) file.now.process.names
+        file.now.process.process (told fault.now) }
     ensures ok { IfOk result (λ answer. (answer.status ≡ Status.No) × IsNo bytes.now answer.output.items) }
     ensures err { OnErr result (result ≡ Err Stop.NoMemory) }
 {
@@ -30,7 +31,11 @@ pub fn rejected(alloc: Global, bytes: &[u8], file: &File, fault: &Fault) -> Resu
 pub fn fault_line(alloc: Global, bytes: &[u8], file: &File, fault: &Fault) -> Result<Answer, Stop>
     requires sized { length bytes.now ≤ 16_777_216 }
     requires read { IsRead bytes.now file.now }
-    ensures ok { IfOk result (λ answer. (answer.status ≡ Status.No) × (answer.output.items ≡ fault_text bytes.now (λ i. place_in file.now.marks.process.items i) (λ i. reverse (chain_at file.now.marks.scopes i)) (told fault.now))) }
+    ensures ok { IfOk result
+        (λ answer. (answer.status ≡ Status.No)
+        × (answer.output.items
+        ≡ fault_text bytes.now (λ i. place_in file.now.marks.process.items i)
+        (λ i. reverse (chain_at file.now.marks.scopes i)) (told fault.now))) }
     ensures err { OnErr result (result ≡ Err Stop.NoMemory) }
 {
     let lines = Lines::of(alloc, bytes)?;

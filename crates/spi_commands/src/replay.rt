@@ -20,7 +20,8 @@ use std::alloc::Global;
 /// What `replay` answers on what it is given.
 pub fn replays(alloc: Global, given: Given) -> Result<Answer, Stop>
     requires { IsGiven given }
-    ensures ok { IfOk result (λ answer. (bytes : List ℕ) → Gives bytes given → ReplaysTo bytes answer.status answer.output.items) }
+    ensures ok { IfOk result
+        (λ answer. (bytes : List ℕ) → Gives bytes given → ReplaysTo bytes answer.status answer.output.items) }
     ensures answered { IfOk result (λ answer. IsAnswered answer.status × (answer.status ≢ Status.Usage)) }
     ensures err { OnErr result (result ≡ Err Stop.NoMemory) }
 {
@@ -47,7 +48,9 @@ fn replayed(alloc: Global, bytes: &[u8], file: &File) -> Result<Answer, Stop>
 /// The lines of these events, and whether they are paid.
 fn judged(alloc: Global, file: &File, happened: &[Event]) -> Result<Answer, Stop>
     requires { length happened.now < 2 ^ 32 }
-    ensures ok { IfOk result (λ answer. IsJudged (map event_of happened.now) answer.status × IsReplayText (meant file.now) (map event_of happened.now) answer.output.items) }
+    ensures ok { IfOk result
+        (λ answer. IsJudged (map event_of happened.now) answer.status
+        × IsReplayText (meant file.now) (map event_of happened.now) answer.output.items) }
     ensures err { OnErr result (result ≡ Err Stop.NoMemory) }
 {
     let pairing = pair_up(alloc, happened)?;

@@ -144,9 +144,13 @@ fn take_steps(
     keeps: bool,
 ) -> Result<Replay, RefusedStep>
     requires { pool.old.configuration.names + length steps.now < 2 ^ 32 - 1 }
-    ensures ok { IfOk result (λ replay. (ms : List Message) × Replays pool.old (map step_of steps.now) (map event_of replay.events.items) ms pool.new
+    ensures ok { IfOk result
+        (λ replay. (ms : List Message)
+        × Replays pool.old (map step_of steps.now) (map event_of replay.events.items) ms pool.new
         × (keeps ≡ true → AreTalks ms replay.talks) × (replay.names ≡ pool.new.configuration.names)) }
-    ensures err { IfErr result (λ refused. (refused.fault ≡ StepFault.NoMemory) ⊎ IsRefusedAt pool.old (map step_of steps.now) refused.index refused.fault) }
+    ensures err { IfErr result
+        (λ refused. (refused.fault ≡ StepFault.NoMemory)
+        ⊎ IsRefusedAt pool.old (map step_of steps.now) refused.index refused.fault) }
 {
     let mut events = Vec::new(alloc);
     let mut talks = Talks {
@@ -181,10 +185,16 @@ fn take_step(
 ) -> Result<(), StepFault>
     requires names { pool.old.configuration.names < 2 ^ 32 - 1 }
     requires room { talks.old.nodes + 1000 < 2 ^ 64 }
-    ensures ok { OnOk result ((e : Option Shown) × IsTaken pool.old (step_of step) e pool.new × (map event_of events.new.items ≡ map event_of events.old.items ++ option_to_list e)) }
-    ensures talks { OnOk result ((ms : List Message) → keeps ≡ true → AreTalks ms talks.old → AreTalks (ms ++ handed pool.old.configuration (step_of step)) talks.new) }
+    ensures ok { OnOk result
+        ((e : Option Shown) × IsTaken pool.old (step_of step) e pool.new
+        × (map event_of events.new.items ≡ map event_of events.old.items ++ option_to_list e)) }
+    ensures talks { OnOk result
+        ((ms : List Message) → keeps ≡ true → AreTalks ms talks.old
+        → AreTalks (ms ++ handed pool.old.configuration (step_of step)) talks.new) }
     ensures room { OnOk result (talks.new.nodes ≤ talks.old.nodes + 1000) }
-    ensures err { IfErr result (λ fault. (fault ≡ StepFault.NoMemory) ⊎ Refuses pool.old.configuration pool.old.most (step_of step) fault) }
+    ensures err { IfErr result
+        (λ fault. (fault ≡ StepFault.NoMemory)
+        ⊎ Refuses pool.old.configuration pool.old.most (step_of step) fault) }
 {
     let datum = datum_of(pool, step, keeps)?;
     let event = pool.step(step)?;
@@ -206,7 +216,8 @@ fn datum_of(pool: &Pool<'_>, step: Step, keeps: bool) -> Result<Option<Msg>, Ste
 
 /// Appends an event, where there is one.
 fn note(events: &mut Vec<Event>, event: Option<Event>) -> Result<(), StepFault>
-    ensures ok { OnOk result (map event_of events.new.items ≡ map event_of events.old.items ++ option_to_list (event_in event)) }
+    ensures ok { OnOk result
+        (map event_of events.new.items ≡ map event_of events.old.items ++ option_to_list (event_in event)) }
     ensures err { OnErr result (result ≡ Err StepFault.NoMemory) }
 {
     match event {
@@ -223,7 +234,9 @@ fn hear(talks: &mut Talks, datum: Option<Msg>) -> Result<(), StepFault>
     requires room { talks.old.nodes + 1000 < 2 ^ 64 }
     requires small { IfSome datum (λ m. message_size (message m) ≤ 1000) }
     ensures count { OnOk result (talks.new.nodes ≡ talks.old.nodes + nodes_in (said datum)) }
-    ensures kept { OnOk result (talks.new.nodes ≤ 20000 → map message talks.new.data.items ≡ map message talks.old.data.items ++ said datum) }
+    ensures kept { OnOk result
+        (talks.new.nodes ≤ 20000
+        → map message talks.new.data.items ≡ map message talks.old.data.items ++ said datum) }
     ensures err { OnErr result (result ≡ Err StepFault.NoMemory) }
 {
     match datum {
@@ -247,7 +260,9 @@ struct Told {
 
 /// What is told of a step that is refused, and nothing where memory ran out.
 fn told_of(fault: &StepFault) -> Option<Told>
-    ensures { IfSome result (λ told. (fault.now ≢ StepFault.NoMemory) × (told.number ≡ step_number fault.now) × (decimal told.count ≡ step_shown fault.now)) }
+    ensures { IfSome result
+        (λ told. (fault.now ≢ StepFault.NoMemory) × (told.number ≡ step_number fault.now)
+        × (decimal told.count ≡ step_shown fault.now)) }
 {
     match fault {
         StepFault::NoPlace { place } => Some(Told {
@@ -274,7 +289,12 @@ fn told_of(fault: &StepFault) -> Option<Told>
 fn stopped(alloc: Global, bytes: &[u8], file: &File, refused: &RefusedStep) -> Result<Ran, Stop>
     requires sized { length bytes.now ≤ 16_777_216 }
     requires read { IsRead bytes.now file.now }
-    ensures ok { IfOk result (λ ran. (refused.now.fault ≢ StepFault.NoMemory) × IsRefused bytes.now (IsCause (step_number refused.now.fault) (Some (place_in file.now.marks.steps.items refused.now.index).from) (step_shown refused.now.fault)) ran) }
+    ensures ok { IfOk result
+        (λ ran. (refused.now.fault ≢ StepFault.NoMemory)
+        × IsRefused bytes.now
+        (IsCause (step_number refused.now.fault)
+        (Some (place_in file.now.marks.steps.items refused.now.index).from) (step_shown refused.now.fault))
+        ran) }
     ensures err { OnErr result (result ≡ Err Stop.NoMemory) }
 {
     match told_of(&refused.fault) {
@@ -296,7 +316,12 @@ fn step_refusal(
     requires some { refused.now.fault ≢ StepFault.NoMemory }
     requires number { told.now.number ≡ step_number refused.now.fault }
     requires count { decimal told.now.count ≡ step_shown refused.now.fault }
-    ensures ok { IfOk result (λ ran. (refused.now.fault ≢ StepFault.NoMemory) × IsRefused bytes.now (IsCause (step_number refused.now.fault) (Some (place_in file.now.marks.steps.items refused.now.index).from) (step_shown refused.now.fault)) ran) }
+    ensures ok { IfOk result
+        (λ ran. (refused.now.fault ≢ StepFault.NoMemory)
+        × IsRefused bytes.now
+        (IsCause (step_number refused.now.fault)
+        (Some (place_in file.now.marks.steps.items refused.now.index).from) (step_shown refused.now.fault))
+        ran) }
     ensures err { OnErr result (result ≡ Err Stop.NoMemory) }
 {
     let offset = file.step_place(refused.index).from;

@@ -18,7 +18,9 @@ use std::alloc::Global;
 /// What `upgrade` answers on what it is given.
 pub fn upgrades(alloc: Global, given: Given) -> Result<Answer, Stop>
     requires { IsGiven given }
-    ensures ok { IfOk result (λ answer. (bytes : List ℕ) → Gives bytes given → UpgradesTo bytes answer.status answer.output.items) }
+    ensures ok { IfOk result
+        (λ answer. (bytes : List ℕ) → Gives bytes given
+        → UpgradesTo bytes answer.status answer.output.items) }
     ensures answered { IfOk result (λ answer. IsAnswered answer.status × (answer.status ≢ Status.Usage)) }
     ensures err { OnErr result (result ≡ Err Stop.NoMemory) }
 {
@@ -79,7 +81,8 @@ fn spelling(alloc: Global, names: &[Text], name: &str) -> Result<Text, NoMemory>
 
 /// What stands before the number in the spelling of a word that version 2 reserves and version 1 doesn't.
 fn before_number(name: &str) -> Option<&'static str>
-    ensures { MatchOption result (¬ IsNewWord name.now) (λ prefix. IsNewWord name.now × (prefix.now ≡ name.now ++ codes "_")) }
+    ensures { MatchOption result (¬ IsNewWord name.now)
+        (λ prefix. IsNewWord name.now × (prefix.now ≡ name.now ++ codes "_")) }
 {
     match name {
         "hash" => Some("hash_"),

@@ -26,7 +26,9 @@ use std::alloc::Global;
 /// What `verify` answers on what it is given.
 pub fn verifies(alloc: Global, given: Given) -> Result<Answer, Stop>
     requires { IsGiven given }
-    ensures ok { IfOk result (λ answer. (bytes : List ℕ) → Gives bytes given → VerifiesTo bytes answer.status answer.output.items) }
+    ensures ok { IfOk result
+        (λ answer. (bytes : List ℕ) → Gives bytes given
+        → VerifiesTo bytes answer.status answer.output.items) }
     ensures answered { IfOk result (λ answer. IsAnswered answer.status × (answer.status ≢ Status.Usage)) }
     ensures err { OnErr result (result ≡ Err Stop.NoMemory) }
 {
@@ -71,8 +73,10 @@ fn audited(alloc: Global, bytes: &[u8], file: &File, d: &Deriv) -> Result<Answer
 fn wrong(alloc: Global, bytes: &[u8], file: &File, index: u32) -> Result<Answer, Stop>
     requires sized { length bytes.now ≤ 16_777_216 }
     requires read { IsRead bytes.now file.now }
-    requires wrong { (us : List RuleUse) × (uses_of file.now.derivation ≡ Some us) × IsWrongAt (untrusted file.now.process.names) file.now.process.process us index }
-    ensures ok { IfOk result (λ answer. (answer.status ≡ Status.No) × IsUnprovedLine bytes.now answer.output.items) }
+    requires wrong { (us : List RuleUse) × (uses_of file.now.derivation ≡ Some us)
+        × IsWrongAt (untrusted file.now.process.names) file.now.process.process us index }
+    ensures ok { IfOk result
+        (λ answer. (answer.status ≡ Status.No) × IsUnprovedLine bytes.now answer.output.items) }
     ensures err { OnErr result (result ≡ Err Stop.NoMemory) }
 {
     let lines = Lines::of(alloc, bytes)?;
@@ -87,8 +91,10 @@ fn wrong(alloc: Global, bytes: &[u8], file: &File, index: u32) -> Result<Answer,
 fn left_unpaid(alloc: Global, bytes: &[u8], file: &File, effect: &Effect) -> Result<Answer, Stop>
     requires sized { length bytes.now ≤ 16_777_216 }
     requires read { IsRead bytes.now file.now }
-    requires left { (us : List RuleUse) × (uses_of file.now.derivation ≡ Some us) × LeavesUnpaid (untrusted file.now.process.names) file.now.process.process us (effect_of effect.now) }
-    ensures ok { IfOk result (λ answer. (answer.status ≡ Status.No) × IsUnprovedLine bytes.now answer.output.items) }
+    requires left { (us : List RuleUse) × (uses_of file.now.derivation ≡ Some us)
+        × LeavesUnpaid (untrusted file.now.process.names) file.now.process.process us (effect_of effect.now) }
+    ensures ok { IfOk result
+        (λ answer. (answer.status ≡ Status.No) × IsUnprovedLine bytes.now answer.output.items) }
     ensures err { OnErr result (result ≡ Err Stop.NoMemory) }
 {
     match unpaid(alloc, file, effect)? {

@@ -20,21 +20,25 @@ SumOf s keys sum es = Stands (with_keys s keys) sum es
 -- an atom whose message has a key goes in
 abbrev pub AddsAtom : Keys → AtomId → Sum → Sum → Type 0
 AddsAtom keys a old new =
-    (s : Store) (b : Atom) (es : Effect) → IsKeyed s keys → SaysAtom s.messages a b → HasKey s keys (message_of b) → SumOf s keys old es → SumOf s keys new (es ++ b ∷ [])
+    (s : Store) (b : Atom) (es : Effect) → IsKeyed s keys → SaysAtom s.messages a b
+    → HasKey s keys (message_of b) → SumOf s keys old es → SumOf s keys new (es ++ b ∷ [])
 
 -- an atom goes out, where it stands there
 abbrev pub TakesAtom : Keys → AtomId → Sum → Sum → Type 0
 TakesAtom keys a old new =
-    (s : Store) (b : Atom) (es : Effect) → IsKeyed s keys → SaysAtom s.messages a b → SumOf s keys old es → SumOf s keys new (minus es (b ∷ []))
+    (s : Store) (b : Atom) (es : Effect) → IsKeyed s keys → SaysAtom s.messages a b → SumOf s keys old es
+    → SumOf s keys new (minus es (b ∷ []))
 
 -- the same for the atoms of an effect
 abbrev pub AddsAll : Keys → List AtomId → Sum → Sum → Type 0
 AddsAll keys ids old new =
-    (s : Store) (fs es : Effect) → IsKeyed s keys → TellsAll (SaysAtom s.messages) ids fs → HaveKeys s keys fs → SumOf s keys old es → SumOf s keys new (es ++ fs)
+    (s : Store) (fs es : Effect) → IsKeyed s keys → TellsAll (SaysAtom s.messages) ids fs → HaveKeys s keys fs
+    → SumOf s keys old es → SumOf s keys new (es ++ fs)
 
 abbrev pub TakesAll : Keys → List AtomId → Sum → Sum → Type 0
 TakesAll keys ids old new =
-    (s : Store) (fs es : Effect) → IsKeyed s keys → TellsAll (SaysAtom s.messages) ids fs → SumOf s keys old es → SumOf s keys new (minus es fs)
+    (s : Store) (fs es : Effect) → IsKeyed s keys → TellsAll (SaysAtom s.messages) ids fs
+    → SumOf s keys old es → SumOf s keys new (minus es fs)
 
 -- an atom by its kind and its message
 abbrev pub atom_of : AtomKind → Message → Atom

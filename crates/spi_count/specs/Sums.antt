@@ -63,9 +63,11 @@ pub record Puts (kind : AtomKind) (old new : Sum) (key n : ℕ) : Type 0 where
 
 -- The counts are those of an effect, where At i m says that the message m has the number i.
 pub record Stands (At : ℕ → Message → Type 0) (s : Sum) (es : Effect) : Type 0 where
-  pub counted : (a : Atom) (i : ℕ) → At i (message_of a) → count_of (part (kind_of a) s) (key_of (name_bound (message_of a)) i) ≡ count a es
+  pub counted : (a : Atom) (i : ℕ) → At i (message_of a)
+      → count_of (part (kind_of a) s) (key_of (name_bound (message_of a)) i) ≡ count a es
   pub known : (a : Atom) → In a es → (i : ℕ) × At i (message_of a)
-  pub kept : (kind : AtomKind) (k : ℕ) → 0 < count_of (part kind s) k → (i : ℕ) × (m : Message) × At i m × (k ≡ key_of (name_bound m) i)
+  pub kept : (kind : AtomKind) (k : ℕ) → 0 < count_of (part kind s) k
+      → (i : ℕ) × (m : Message) × At i m × (k ≡ key_of (name_bound m) i)
 
 -- numbers below 2 ^ 32, of which no two are of one message and none is of two
 pub record AreNumbers (At : ℕ → Message → Type 0) : Type 0 where

@@ -16,7 +16,9 @@ use crate::sum::{AtomKind, Sum};
 use spi_intern::{AtomId, MsgId, Store, TyId, TyPart};
 
 fn add_keyed(keys: &Keys, kind: AtomKind, id: MsgId, sum: &mut Sum) -> Result<(), NoMemory>
-    ensures { OnOk result ((k : ℕ) → get nat_eq keys.now.keys id.place ≡ Some k → Puts kind sum.old sum.new k (one_more kind (count_of (part kind sum.old) k))) }
+    ensures { OnOk result
+        ((k : ℕ) → get nat_eq keys.now.keys id.place ≡ Some k
+        → Puts kind sum.old sum.new k (one_more kind (count_of (part kind sum.old) k))) }
 {
     match keys.key(id) {
         Some(key) => sum.add(kind, key),
@@ -25,7 +27,8 @@ fn add_keyed(keys: &Keys, kind: AtomKind, id: MsgId, sum: &mut Sum) -> Result<()
 }
 
 fn take_keyed(keys: &Keys, kind: AtomKind, id: MsgId, sum: &mut Sum)
-    ensures taken { (k : ℕ) → get nat_eq keys.now.keys id.place ≡ Some k → Puts kind sum.old sum.new k (count_of (part kind sum.old) k - 1) }
+    ensures taken { (k : ℕ) → get nat_eq keys.now.keys id.place ≡ Some k
+        → Puts kind sum.old sum.new k (count_of (part kind sum.old) k - 1) }
     ensures absent { get nat_eq keys.now.keys id.place ≡ None → sum.new ≡ sum.old }
 {
     if let Some(key) = keys.key(id) {
@@ -77,7 +80,10 @@ fn take_atoms(keys: &Keys, ids: &[AtomId], sum: &mut Sum)
 /// The effect of a type that is cast to goes in. An error is want of memory.
 pub fn add_type(store: &Store, keys: &Keys, t: TyId, sum: &mut Sum) -> Result<(), NoMemory>
     requires { t.place < length store.now.types }
-    ensures { OnOk result ((u : Ty) (es : Effect) → IsKeyed store.now keys.now → Means store.now t.place u → HaveKeys store.now keys.now (cast_effect_of u) → SumOf store.now keys.now sum.old es → SumOf store.now keys.now sum.new (es ++ cast_effect_of u)) }
+    ensures { OnOk result
+        ((u : Ty) (es : Effect) → IsKeyed store.now keys.now → Means store.now t.place u
+        → HaveKeys store.now keys.now (cast_effect_of u) → SumOf store.now keys.now sum.old es
+        → SumOf store.now keys.now sum.new (es ++ cast_effect_of u)) }
 {
     match store.ty_part(t) {
         TyPart::Nonce(ids) => add_atoms(keys, ids, sum),
@@ -92,7 +98,9 @@ pub fn add_type(store: &Store, keys: &Keys, t: TyId, sum: &mut Sum) -> Result<()
 /// The effect of the type of a nonce goes out.
 pub fn take_type(store: &Store, keys: &Keys, t: TyId, sum: &mut Sum)
     requires { t.place < length store.now.types }
-    ensures { (u : Ty) (es : Effect) → IsKeyed store.now keys.now → Means store.now t.place u → SumOf store.now keys.now sum.old es → SumOf store.now keys.now sum.new (minus es (cast_effect_of u)) }
+    ensures { (u : Ty) (es : Effect) → IsKeyed store.now keys.now → Means store.now t.place u
+        → SumOf store.now keys.now sum.old es
+        → SumOf store.now keys.now sum.new (minus es (cast_effect_of u)) }
 {
     match store.ty_part(t) {
         TyPart::Nonce(ids) => take_atoms(keys, ids, sum),

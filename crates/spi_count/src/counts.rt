@@ -51,7 +51,8 @@ impl Counts {
 
     /// The greatest key that is counted.
     pub fn last(&self) -> Option<u64>
-        ensures some { IfSome result (λ k. (0 < count_of self.now.counts k) × ((q : ℕ) → 0 < count_of self.now.counts q → q ≤ k)) }
+        ensures some { IfSome result
+            (λ k. (0 < count_of self.now.counts k) × ((q : ℕ) → 0 < count_of self.now.counts q → q ≤ k)) }
         ensures none { IfNone result (IsNothing self.now.counts) }
     {
         match self.counts.last_key_value() {
@@ -89,7 +90,8 @@ impl Counts {
     /// Counts a key so high at least.
     pub fn raise_to(&mut self, key: u64, least: u64) -> Result<(), AllocError>
         requires { 0 < least }
-        ensures { OnOk result (Sets self.old.counts self.new.counts key (max (count_of self.old.counts key) least)) }
+        ensures { OnOk result
+            (Sets self.old.counts self.new.counts key (max (count_of self.old.counts key) least)) }
     {
         let count = self.count(key).max(least);
         self.counts.insert(key, count)?;
@@ -110,7 +112,9 @@ impl Counts {
 
     /// Takes the least key out, with its count.
     pub fn take(&mut self) -> Option<(u64, u64)>
-        ensures some { IfSome result (λ p. (0 < p.1) × (count_of self.old.counts p.0 ≡ p.1) × Sets self.old.counts self.new.counts p.0 0) }
+        ensures some { IfSome result
+            (λ p. (0 < p.1) × (count_of self.old.counts p.0 ≡ p.1)
+            × Sets self.old.counts self.new.counts p.0 0) }
         ensures none { IfNone result (IsNothing self.old.counts × IsNothing self.new.counts) }
         ensures less { IfSome result (λ p. btree_map_len self.new.counts < btree_map_len self.old.counts) }
     {
@@ -119,7 +123,9 @@ impl Counts {
 
     /// Takes the greatest key out, with its count, where it is at least this one.
     pub fn take_from(&mut self, least: u64) -> Option<(u64, u64)>
-        ensures some { IfSome result (λ p. (least ≤ p.0) × (0 < p.1) × (count_of self.old.counts p.0 ≡ p.1) × Sets self.old.counts self.new.counts p.0 0) }
+        ensures some { IfSome result
+            (λ p. (least ≤ p.0) × (0 < p.1) × (count_of self.old.counts p.0 ≡ p.1)
+            × Sets self.old.counts self.new.counts p.0 0) }
         ensures none { IfNone result ((q : ℕ) → 0 < count_of self.old.counts q → q < least) }
         ensures same { IfNone result (self.new.counts ≡ self.old.counts) }
         ensures less { IfSome result (λ p. btree_map_len self.new.counts < btree_map_len self.old.counts) }
@@ -138,7 +144,8 @@ impl Counts {
 
     /// Adds the counts of another.
     pub fn absorb(&mut self, other: Counts) -> Result<(), AllocError>
-        ensures { OnOk result ((q : ℕ) → count_of self.new.counts q ≡ count_of self.old.counts q + count_of other.counts q) }
+        ensures { OnOk result
+            ((q : ℕ) → count_of self.new.counts q ≡ count_of self.old.counts q + count_of other.counts q) }
     {
         let mut rest = other;
         while let Some((key, by)) = rest.take() {
@@ -149,7 +156,9 @@ impl Counts {
 
     /// Takes the greater count of each key.
     pub fn rise_to(&mut self, other: Counts) -> Result<(), AllocError>
-        ensures { OnOk result ((q : ℕ) → count_of self.new.counts q ≡ max (count_of self.old.counts q) (count_of other.counts q)) }
+        ensures { OnOk result
+            ((q : ℕ) → count_of self.new.counts q
+            ≡ max (count_of self.old.counts q) (count_of other.counts q)) }
     {
         let mut rest = other;
         while let Some((key, least)) = rest.take() {

@@ -67,7 +67,10 @@ impl Keys {
     /// Keeps the key of a message. There is no room for 2 ^ 32 messages: a store with so many takes more than 100 GB, so
     /// that memory has run out before. An error is want of memory.
     pub fn keep(&mut self, id: MsgId, m: &Msg) -> Result<(), AllocError>
-        ensures kept { OnOk result ((i : ℕ) → get nat_eq self.new.keys i ≡ (if eqb id.place i then Some (key_of (name_bound (message m.now)) id.place) else get nat_eq self.old.keys i)) }
+        ensures kept { OnOk result
+            ((i : ℕ) → get nat_eq self.new.keys i
+            ≡ (if eqb id.place i then Some (key_of (name_bound (message m.now)) id.place) else get nat_eq
+            self.old.keys i)) }
         ensures small { OnOk result (id.place < 4294967296) }
     {
         let above = bound_of(m);

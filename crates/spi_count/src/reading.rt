@@ -67,7 +67,9 @@ fn push_atoms(
     count: u64,
     atoms: &mut Vec<Atom>,
 ) -> Result<(), NoMemory>
-    ensures { OnOk result (map atom atoms.new.items ≡ map atom atoms.old.items ++ replicate count (atom_of kind (message m.now))) }
+    ensures { OnOk result
+        (map atom atoms.new.items ≡ map atom atoms.old.items
+        ++ replicate count (atom_of kind (message m.now))) }
 {
     for i in 0..count {
         let a = atom_over(alloc, kind, m)?;
@@ -87,7 +89,9 @@ fn read_atoms(
     atoms: &mut Vec<Atom>,
 ) -> Result<(), NoMemory>
     requires { IsKey store.now keys.now key }
-    ensures { OnOk result ((i : ℕ) (m : Term.Message) → with_keys store.now keys.now i m → key ≡ key_of (name_bound m) i → map atom atoms.new.items ≡ map atom atoms.old.items ++ replicate count (atom_of kind m)) }
+    ensures { OnOk result
+        ((i : ℕ) (m : Term.Message) → with_keys store.now keys.now i m → key ≡ key_of (name_bound m) i
+        → map atom atoms.new.items ≡ map atom atoms.old.items ++ replicate count (atom_of kind m)) }
 {
     match keys.id((key % 4_294_967_296) as usize) {
         Some(id) => {
@@ -106,7 +110,8 @@ pub fn effect_of_sum(
     sum: Sum,
 ) -> Result<Effect, NoMemory>
     requires { (es : Term.Effect) × IsKeyed store.now keys.now × SumOf store.now keys.now sum es }
-    ensures { IfOk result (λ e. (es : Term.Effect) → SumOf store.now keys.now sum es → SameEffect (effect e) es) }
+    ensures { IfOk result
+        (λ e. (es : Term.Effect) → SumOf store.now keys.now sum es → SameEffect (effect e) es) }
 {
     let mut rest = sum;
     let mut atoms = Vec::new(alloc);

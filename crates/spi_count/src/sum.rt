@@ -51,7 +51,8 @@ impl Sum {
 
     /// Adds an atom.
     pub fn add(&mut self, kind: AtomKind, key: u64) -> Result<(), NoMemory>
-        ensures { OnOk result (Puts kind self.old self.new key (one_more kind (count_of (part kind self.old) key))) }
+        ensures { OnOk result
+            (Puts kind self.old self.new key (one_more kind (count_of (part kind self.old) key))) }
     {
         match kind {
             AtomKind::End => self.ends.raise(key, 1),
@@ -74,7 +75,8 @@ impl Sum {
     /// Takes all atoms of one kind over one message out, where there are some: the kind, the key of the message and how
     /// often the atom stood there.
     pub fn pop(&mut self) -> Option<(AtomKind, u64, u64)>
-        ensures some { IfSome result (λ p. (0 < p.2) × (count_of (part p.0 self.old) p.1 ≡ p.2) × Puts p.0 self.old self.new p.1 0) }
+        ensures some { IfSome result
+            (λ p. (0 < p.2) × (count_of (part p.0 self.old) p.1 ≡ p.2) × Puts p.0 self.old self.new p.1 0) }
         ensures none { IfNone result ((kind : AtomKind) → IsNothing (part kind self.old)) }
         ensures less { IfSome result (λ p. keys_in self.new < keys_in self.old) }
     {
@@ -99,8 +101,11 @@ impl Sum {
     /// Takes all atoms of one kind over one message with a key from this one on out, where there are some: the kind, the
     /// key of the message and how often the atom stood there.
     pub fn take_from(&mut self, least: u64) -> Option<(AtomKind, u64, u64)>
-        ensures some { IfSome result (λ p. (least ≤ p.1) × (0 < p.2) × (count_of (part p.0 self.old) p.1 ≡ p.2) × Puts p.0 self.old self.new p.1 0) }
-        ensures none { IfNone result ((kind : AtomKind) (q : ℕ) → 0 < count_of (part kind self.old) q → q < least) }
+        ensures some { IfSome result
+            (λ p. (least ≤ p.1) × (0 < p.2) × (count_of (part p.0 self.old) p.1 ≡ p.2)
+            × Puts p.0 self.old self.new p.1 0) }
+        ensures none { IfNone result
+            ((kind : AtomKind) (q : ℕ) → 0 < count_of (part kind self.old) q → q < least) }
         ensures same { IfNone result ((kind : AtomKind) → part kind self.new ≡ part kind self.old) }
         ensures less { IfSome result (λ p. keys_in self.new < keys_in self.old) }
     {
@@ -129,7 +134,10 @@ impl Sum {
 
     // Adds the atoms of another.
     fn absorb(&mut self, other: Sum) -> Result<(), NoMemory>
-        ensures { OnOk result ((kind : AtomKind) (k : ℕ) → count_of (part kind self.new) k ≡ both_counts kind (count_of (part kind self.old) k) (count_of (part kind other) k)) }
+        ensures { OnOk result
+            ((kind : AtomKind) (k : ℕ)
+            → count_of (part kind self.new) k
+            ≡ both_counts kind (count_of (part kind self.old) k) (count_of (part kind other) k)) }
     {
         let Sum {
             ends,
@@ -143,7 +151,10 @@ impl Sum {
 
     // Takes the greater count of each atom.
     fn rise_to(&mut self, other: Sum) -> Result<(), NoMemory>
-        ensures { OnOk result ((kind : AtomKind) (k : ℕ) → count_of (part kind self.new) k ≡ max (count_of (part kind self.old) k) (count_of (part kind other) k)) }
+        ensures { OnOk result
+            ((kind : AtomKind) (k : ℕ)
+            → count_of (part kind self.new) k
+            ≡ max (count_of (part kind self.old) k) (count_of (part kind other) k)) }
     {
         let Sum {
             ends,
@@ -157,7 +168,10 @@ impl Sum {
 
     /// The sum of two effects.
     pub fn joined(a: Sum, b: Sum) -> Result<Sum, NoMemory>
-        ensures { IfOk result (λ s. (kind : AtomKind) (k : ℕ) → count_of (part kind s) k ≡ both_counts kind (count_of (part kind a) k) (count_of (part kind b) k)) }
+        ensures { IfOk result
+            (λ s. (kind : AtomKind) (k : ℕ)
+            → count_of (part kind s) k
+            ≡ both_counts kind (count_of (part kind a) k) (count_of (part kind b) k)) }
     {
         let mut both = a;
         both.absorb(b)?;
@@ -166,7 +180,9 @@ impl Sum {
 
     /// The greater count of each atom.
     pub fn greatest(a: Sum, b: Sum) -> Result<Sum, NoMemory>
-        ensures { IfOk result (λ s. (kind : AtomKind) (k : ℕ) → count_of (part kind s) k ≡ max (count_of (part kind a) k) (count_of (part kind b) k)) }
+        ensures { IfOk result
+            (λ s. (kind : AtomKind) (k : ℕ)
+            → count_of (part kind s) k ≡ max (count_of (part kind a) k) (count_of (part kind b) k)) }
     {
         let mut most = a;
         most.rise_to(b)?;
@@ -175,15 +191,18 @@ impl Sum {
 
     /// Whether each atom is a `many`.
     pub fn is_all_many(&self) -> bool
-        ensures { IsTrue result ↔ (IsNothing (part kinds.End self.now) × IsNothing (part kinds.Check self.now)) }
+        ensures { IsTrue result
+            ↔ (IsNothing (part kinds.End self.now) × IsNothing (part kinds.Check self.now)) }
     {
         self.ends.is_empty() && self.checks.is_empty()
     }
 
     /// Whether an atom has a key from this one on.
     pub fn reaches(&self, least: u64) -> bool
-        ensures reached { IsTrue result → (kind : AtomKind) × (k : ℕ) × (0 < count_of (part kind self.now) k) × (least ≤ k) }
-        ensures unreached { result ≡ false → (kind : AtomKind) (k : ℕ) → 0 < count_of (part kind self.now) k → k < least }
+        ensures reached { IsTrue result
+            → (kind : AtomKind) × (k : ℕ) × (0 < count_of (part kind self.now) k) × (least ≤ k) }
+        ensures unreached { result ≡ false → (kind : AtomKind) (k : ℕ) → 0 < count_of (part kind self.now) k
+            → k < least }
     {
         self.ends.reaches(least) || self.checks.reaches(least) || self.lasting.reaches(least)
     }
@@ -191,7 +210,8 @@ impl Sum {
 
 // Adds the counts of another, of which the smaller is gone over.
 fn merge(counts: &mut Counts, other: Counts) -> Result<(), NoMemory>
-    ensures { OnOk result ((k : ℕ) → count_of counts.new.counts k ≡ count_of counts.old.counts k + count_of other.counts k) }
+    ensures { OnOk result
+        ((k : ℕ) → count_of counts.new.counts k ≡ count_of counts.old.counts k + count_of other.counts k) }
 {
     if counts.len() < other.len() {
         let less = replace(counts, other);
@@ -203,7 +223,9 @@ fn merge(counts: &mut Counts, other: Counts) -> Result<(), NoMemory>
 
 // Takes the greater count of each key. The smaller is gone over.
 fn rise(counts: &mut Counts, other: Counts) -> Result<(), NoMemory>
-    ensures { OnOk result ((k : ℕ) → count_of counts.new.counts k ≡ max (count_of counts.old.counts k) (count_of other.counts k)) }
+    ensures { OnOk result
+        ((k : ℕ) → count_of counts.new.counts k
+        ≡ max (count_of counts.old.counts k) (count_of other.counts k)) }
 {
     if counts.len() < other.len() {
         let less = replace(counts, other);

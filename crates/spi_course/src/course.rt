@@ -55,7 +55,8 @@ fn grown(before: u32, after: u32) -> Option<u32>
 // Appends an event, where there is one, and gives its number.
 fn noted(events: &mut Vec<Event>, event: Option<Event>) -> Result<Option<usize>, StepFault>
     ensures number { IfOk result (λ n. n ≡ event_number (length events.old.items) (event_in event)) }
-    ensures events { OnOk result (map event_of events.new.items ≡ map event_of events.old.items ++ option_to_list (event_in event)) }
+    ensures events { OnOk result
+        (map event_of events.new.items ≡ map event_of events.old.items ++ option_to_list (event_in event)) }
     ensures err { OnErr result (result ≡ Err StepFault.NoMemory) }
 {
     match event {

@@ -38,12 +38,14 @@ node_uses e (prefix_at k s b) = prefix_uses e s
 node_uses e (fork_at k f a r) = fork_uses e f
 
 -- the last on the stack is bound on top of the names that are in scope outside
-pub record IsSettled (scope : ℕ) (b : List Term.Ty) (rest : List (List Term.Ty)) (old new : List Term.Ty) (after : List (List Term.Ty)) : Type 0 where
+pub record IsSettled (scope : ℕ) (b : List Term.Ty) (rest : List (List Term.Ty)) (old new : List Term.Ty)
+    (after : List (List Term.Ty)) : Type 0 where
   pub types : new ≡ take (scope - length b) old ++ b
   pub left : after ≡ rest
 
 -- A node is passed: its uses are added, and the processes in it are to be done.
-pub record IsPassed (scope : ℕ) (x : Shape) (b : List Term.Ty) (rest : List (List Term.Ty)) (old new : List Term.Ty) (after : List (List Term.Ty)) (us vs : List RuleUse) : Type 0 where
+pub record IsPassed (scope : ℕ) (x : Shape) (b : List Term.Ty) (rest : List (List Term.Ty))
+    (old new : List Term.Ty) (after : List (List Term.Ty)) (us vs : List RuleUse) : Type 0 where
   pub types : new ≡ take (scope - length b) old ++ b
   pub left : after ≡ next x ++ rest
   pub uses : vs ≡ us ++ node_uses new x

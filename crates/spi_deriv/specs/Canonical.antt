@@ -40,7 +40,8 @@ IsCanonicalMessage (msg_inl_un h) = IsCanonicalMessage h
 IsCanonicalMessage (msg_inr h) = IsCanonicalMessage h
 IsCanonicalMessage (msg_inr_un h) = IsCanonicalMessage h
 IsCanonicalMessage (msg_enc h a) = IsCanonicalMessage h
-IsCanonicalMessage {env} (msg_enc_un {m} {n} h k) = HasNoTypedMessage env (enc m n) un × IsCanonicalMessage h × IsCanonicalMessage k
+IsCanonicalMessage {env} (msg_enc_un {m} {n} h k) = HasNoTypedMessage env (enc m n) un × IsCanonicalMessage h
+    × IsCanonicalMessage k
 IsCanonicalMessage (msg_hash l) = ⊤
 IsCanonicalMessage (msg_cast i s) = ⊥
 
@@ -81,13 +82,17 @@ IsCanonical (proc_repeat h d m a) = IsCanonicalMessage h × IsCanonical d
 IsCanonical (proc_split h d g a b) = IsCanonicalMessage h × IsCanonical d
 IsCanonical {env} {p} (proc_split_un h d a b) = HasNoTyped env p × IsCanonicalMessage h × IsCanonical d
 IsCanonical (proc_match h k d g a) = IsCanonicalMessage h × IsCanonicalMessage k × IsCanonical d
-IsCanonical {env} {p} (proc_match_un h k d a) = HasNoTyped env p × IsCanonicalMessage h × IsCanonicalMessage k × IsCanonical d
+IsCanonical {env} {p} (proc_match_un h k d a) = HasNoTyped env p × IsCanonicalMessage h × IsCanonicalMessage k
+    × IsCanonical d
 IsCanonical (proc_case h d e g k a b r) = IsCanonicalMessage h × IsCanonical d × IsCanonical e
-IsCanonical {env} {p} (proc_case_un h d e a b r) = HasNoTyped env p × IsCanonicalMessage h × IsCanonical d × IsCanonical e
+IsCanonical {env} {p} (proc_case_un h d e a b r) = HasNoTyped env p × IsCanonicalMessage h × IsCanonical d
+    × IsCanonical e
 IsCanonical (proc_decrypt h k d g a) = IsCanonicalMessage h × IsCanonicalMessage k × IsCanonical d
-IsCanonical {env} {p} (proc_decrypt_un h k d a) = HasNoTyped env p × IsCanonicalMessage h × IsCanonicalMessage k × IsCanonical d
+IsCanonical {env} {p} (proc_decrypt_un h k d a) = HasNoTyped env p × IsCanonicalMessage h
+    × IsCanonicalMessage k × IsCanonical d
 IsCanonical (proc_check h d n s r) = IsCanonicalMessage h × IsCanonical d
-IsCanonical {env} {p} (proc_check_un h k d) = HasNoTyped env p × IsCanonicalMessage h × IsCanonicalMessage k × IsCanonical d
+IsCanonical {env} {p} (proc_check_un h k d) = HasNoTyped env p × IsCanonicalMessage h × IsCanonicalMessage k
+    × IsCanonical d
 IsCanonical (proc_begin d l r) = IsCanonical d
 IsCanonical (proc_end d l r) = IsCanonical d
 IsCanonical (proc_end_many d l r) = IsCanonical d

@@ -167,4 +167,5 @@ binding (Makes t) = t ∷ []
 abbrev pub process_uses : Process → List Ty → List RuleUse
 process_uses (leaf l) e = leaf_uses e l
 process_uses (prefix s p) e = prefix_uses e s ++ process_uses p (e ++ binding s)
-process_uses (fork f p q) e = fork_uses e f ++ (process_uses p (e ++ on_first f) ++ process_uses q (e ++ on_rest f))
+process_uses (fork f p q) e =
+    fork_uses e f ++ (process_uses p (e ++ on_first f) ++ process_uses q (e ++ on_rest f))

@@ -54,7 +54,10 @@ pub fn settle<'a>(
     pending: &mut Vec<Binding<'a>>,
     types: &mut Vec<&'a Ty>,
 ) -> Result<(), NoMemory>
-    ensures { OnOk result ((b : List Term.Ty) (rest : List (List Term.Ty)) → tops pending.old.items ≡ b ∷ rest → IsSettled scope b rest (types_of types.old.items) (types_of types.new.items) (tops pending.new.items)) }
+    ensures { OnOk result
+        ((b : List Term.Ty) (rest : List (List Term.Ty)) → tops pending.old.items ≡ b ∷ rest
+        → IsSettled scope b rest (types_of types.old.items) (types_of types.new.items)
+        (tops pending.new.items)) }
 {
     match pending.pop() {
         None => Ok(()),
@@ -78,7 +81,9 @@ fn push_bindings<'a>(
     rest: Binding<'a>,
     pending: &mut Vec<Binding<'a>>,
 ) -> Result<(), NoMemory>
-    ensures { OnOk result (tops pending.new.items ≡ bound_types first.entry ∷ (bound_types rest.entry ∷ tops pending.old.items)) }
+    ensures { OnOk result
+        (tops pending.new.items ≡ bound_types first.entry
+        ∷ (bound_types rest.entry ∷ tops pending.old.items)) }
 {
     push_binding(rest, pending)?;
     push_binding(first, pending)

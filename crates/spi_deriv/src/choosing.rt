@@ -22,7 +22,10 @@ fn push_split(
     types: &[&Ty],
     out: &mut Vec<RuleUse>,
 ) -> Result<(), NoMemory>
-    ensures { OnOk result (map rule_use out.new.items ≡ map rule_use out.old.items ++ split_uses (is_pair (types_of types.now) (message whole.now)) (types_of types.now) (message whole.now) (type_of first.now) (type_of second.now)) }
+    ensures { OnOk result
+        (map rule_use out.new.items ≡ map rule_use out.old.items
+        ++ split_uses (is_pair (types_of types.now) (message whole.now)) (types_of types.now)
+        (message whole.now) (type_of first.now) (type_of second.now)) }
 {
     if is_pair(types, whole) {
         push_rule(Rule::ProcSplit, out)?;
@@ -40,7 +43,10 @@ fn push_select(
     types: &[&Ty],
     out: &mut Vec<RuleUse>,
 ) -> Result<(), NoMemory>
-    ensures { OnOk result (map rule_use out.new.items ≡ map rule_use out.old.items ++ select_uses (is_pair (types_of types.now) (message whole.now)) (types_of types.now) (message whole.now) (type_of first.now) (message equal.now) (type_of second.now)) }
+    ensures { OnOk result
+        (map rule_use out.new.items ≡ map rule_use out.old.items
+        ++ select_uses (is_pair (types_of types.now) (message whole.now)) (types_of types.now)
+        (message whole.now) (type_of first.now) (message equal.now) (type_of second.now)) }
 {
     if is_pair(types, whole) {
         push_rule(Rule::ProcMatch, out)?;
@@ -66,7 +72,10 @@ fn push_case(
     types: &[&Ty],
     out: &mut Vec<RuleUse>,
 ) -> Result<(), NoMemory>
-    ensures { OnOk result (map rule_use out.new.items ≡ map rule_use out.old.items ++ case_uses (is_sum (types_of types.now) (message whole.now)) (types_of types.now) (message whole.now) (type_of left.now) (type_of right.now)) }
+    ensures { OnOk result
+        (map rule_use out.new.items ≡ map rule_use out.old.items
+        ++ case_uses (is_sum (types_of types.now) (message whole.now)) (types_of types.now)
+        (message whole.now) (type_of left.now) (type_of right.now)) }
 {
     if is_sum(types, whole) {
         push_rule(Rule::ProcCase, out)?;
@@ -82,7 +91,10 @@ fn push_decrypt(
     types: &[&Ty],
     out: &mut Vec<RuleUse>,
 ) -> Result<(), NoMemory>
-    ensures { OnOk result (map rule_use out.new.items ≡ map rule_use out.old.items ++ decrypt_uses (key_of (types_of types.now) (message key.now)) (types_of types.now) (message whole.now) (message key.now)) }
+    ensures { OnOk result
+        (map rule_use out.new.items ≡ map rule_use out.old.items
+        ++ decrypt_uses (key_of (types_of types.now) (message key.now)) (types_of types.now)
+        (message whole.now) (message key.now)) }
 {
     match payload(types, key) {
         Some(_) => {
@@ -107,7 +119,10 @@ fn push_check(
     types: &[&Ty],
     out: &mut Vec<RuleUse>,
 ) -> Result<(), NoMemory>
-    ensures { OnOk result (map rule_use out.new.items ≡ map rule_use out.old.items ++ check_uses (is_nonce (nonce_of (types_of types.now) (message nonce.now))) (types_of types.now) (message whole.now) (message nonce.now)) }
+    ensures { OnOk result
+        (map rule_use out.new.items ≡ map rule_use out.old.items
+        ++ check_uses (is_nonce (nonce_of (types_of types.now) (message nonce.now))) (types_of types.now)
+        (message whole.now) (message nonce.now)) }
 {
     if is_nonce_name(types, nonce) {
         push_one(Rule::ProcCheck, whole, &Ty::Un, types, out)
@@ -139,7 +154,9 @@ fn cast_rule(t: &Ty) -> Rule
 
 /// The use of the node's rule and those of its messages.
 pub fn push_uses(node: &Node, types: &[&Ty], out: &mut Vec<RuleUse>) -> Result<(), NoMemory>
-    ensures { OnOk result (map rule_use out.new.items ≡ map rule_use out.old.items ++ node_uses (types_of types.now) (shape_of node.now)) }
+    ensures { OnOk result
+        (map rule_use out.new.items ≡ map rule_use out.old.items
+        ++ node_uses (types_of types.now) (shape_of node.now)) }
 {
     match &node.form {
         Form::Send { channel, datum } => push_both(

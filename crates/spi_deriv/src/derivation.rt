@@ -42,7 +42,11 @@ fn visit<'a>(
     pending: &mut Vec<Binding<'a>>,
     out: &mut Vec<RuleUse>,
 ) -> Result<(), NoMemory>
-    ensures { OnOk result ((b : List Term.Ty) (rest : List (List Term.Ty)) → tops pending.old.items ≡ b ∷ rest → IsPassed node.now.scope (shape_of node.now) b rest (types_of types.old.items) (types_of types.new.items) (tops pending.new.items) (map rule_use out.old.items) (map rule_use out.new.items)) }
+    ensures { OnOk result
+        ((b : List Term.Ty) (rest : List (List Term.Ty)) → tops pending.old.items ≡ b ∷ rest
+        → IsPassed node.now.scope (shape_of node.now) b rest (types_of types.old.items)
+        (types_of types.new.items) (tops pending.new.items) (map rule_use out.old.items)
+        (map rule_use out.new.items)) }
 {
     settle(node.scope, pending, types)?;
     push_uses(node, types, out)?;
@@ -52,7 +56,9 @@ fn visit<'a>(
 // The uses of a process that has some effect over its untrusted names.
 fn all_uses<'a>(alloc: Global, process: &'a Process, t: &'a Ty) -> Result<Vec<RuleUse>, NoMemory>
     requires { type_of t.now ≡ un }
-    ensures { IfOk result (λ v. map rule_use v.items ≡ process_uses (numbered [] process.now.names process.now.process) (untrusted process.now.names)) }
+    ensures { IfOk result
+        (λ v. map rule_use v.items
+        ≡ process_uses (numbered [] process.now.names process.now.process) (untrusted process.now.names)) }
 {
     let mut types = repeated(alloc, t, process.names())?;
     let mut pending = Vec::new(alloc);
@@ -66,7 +72,9 @@ fn all_uses<'a>(alloc: Global, process: &'a Process, t: &'a Ty) -> Result<Vec<Ru
 
 // The same, with a type Un of its own.
 fn uses_over(alloc: Global, process: &Process) -> Result<Vec<RuleUse>, NoMemory>
-    ensures { IfOk result (λ v. map rule_use v.items ≡ process_uses (numbered [] process.now.names process.now.process) (untrusted process.now.names)) }
+    ensures { IfOk result
+        (λ v. map rule_use v.items
+        ≡ process_uses (numbered [] process.now.names process.now.process) (untrusted process.now.names)) }
 {
     let un = Ty::Un;
     all_uses(alloc, process, &un)
@@ -84,8 +92,10 @@ fn has_no_atom(e: &Effect) -> bool
 // By the least effect over the untrusted names.
 fn derive_by(alloc: Global, process: &Process, least: &Effect) -> Result<Option<Deriv>, NoMemory>
     requires { Least (untrusted process.now.names) process.now.process (effect least.now) }
-    ensures some { IfOk result (λ d. IsSome d ↔ Derivable (untrusted process.now.names) process.now.process []) }
-    ensures canonical { IfOk result (λ d. IfSome d (λ d. Canonical (rule_uses d) process.now.names process.now.process)) }
+    ensures some { IfOk result
+        (λ d. IsSome d ↔ Derivable (untrusted process.now.names) process.now.process []) }
+    ensures canonical { IfOk result
+        (λ d. IfSome d (λ d. Canonical (rule_uses d) process.now.names process.now.process)) }
 {
     if has_no_atom(least) {
         let uses = uses_over(alloc, process)?;
@@ -99,8 +109,10 @@ fn derive_by(alloc: Global, process: &Process, least: &Effect) -> Result<Option<
 /// where there is no derivation of that. It has no use of `ProcSub`. Inference comes first, and then one visit of each
 /// node. Its only error is NoMemory.
 pub fn derive(alloc: Global, process: &Process) -> Result<Option<Deriv>, NoMemory>
-    ensures some { IfOk result (λ d. IsSome d ↔ Derivable (untrusted process.now.names) process.now.process []) }
-    ensures canonical { IfOk result (λ d. IfSome d (λ d. Canonical (rule_uses d) process.now.names process.now.process)) }
+    ensures some { IfOk result
+        (λ d. IsSome d ↔ Derivable (untrusted process.now.names) process.now.process []) }
+    ensures canonical { IfOk result
+        (λ d. IfSome d (λ d. Canonical (rule_uses d) process.now.names process.now.process)) }
 {
     match infer(alloc, process)? {
         Inferred::Blocked(_) => Ok(None),

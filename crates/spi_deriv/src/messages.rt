@@ -22,7 +22,8 @@ pub fn push_rule(rule: Rule, out: &mut Vec<RuleUse>) -> Result<(), NoMemory>
 }
 
 fn push_unit(wanted: &Ty, out: &mut Vec<RuleUse>) -> Result<(), NoMemory>
-    ensures { OnOk result (map rule_use out.new.items ≡ map rule_use out.old.items ++ unit_uses (type_of wanted.now)) }
+    ensures { OnOk result
+        (map rule_use out.new.items ≡ map rule_use out.old.items ++ unit_uses (type_of wanted.now)) }
 {
     match wanted {
         Ty::Un => push_rule(Rule::MsgUnitUn, out),
@@ -45,7 +46,10 @@ pub fn push_both(
     types: &[&Ty],
     out: &mut Vec<RuleUse>,
 ) -> Result<(), NoMemory>
-    ensures { OnOk result (map rule_use out.new.items ≡ map rule_use out.old.items ++ uses rule (message_uses (message a.now) (types_of types.now) (type_of first.now) ++ message_uses (message b.now) (types_of types.now) (type_of second.now))) }
+    ensures { OnOk result
+        (map rule_use out.new.items ≡ map rule_use out.old.items
+        ++ uses rule (message_uses (message a.now) (types_of types.now) (type_of first.now)
+        ++ message_uses (message b.now) (types_of types.now) (type_of second.now))) }
 {
     push_rule(rule, out)?;
     push_message(a, first, types, out)?;
@@ -60,7 +64,10 @@ fn push_pair(
     types: &[&Ty],
     out: &mut Vec<RuleUse>,
 ) -> Result<(), NoMemory>
-    ensures { OnOk result (map rule_use out.new.items ≡ map rule_use out.old.items ++ pair_uses (message_uses (message a.now) (types_of types.now)) (message_uses (message b.now) (types_of types.now)) (type_of wanted.now)) }
+    ensures { OnOk result
+        (map rule_use out.new.items ≡ map rule_use out.old.items
+        ++ pair_uses (message_uses (message a.now) (types_of types.now))
+        (message_uses (message b.now) (types_of types.now)) (type_of wanted.now)) }
 {
     match wanted {
         Ty::Un => push_both(Rule::MsgPairUn, a, &Ty::Un, b, &Ty::Un, types, out),
@@ -81,7 +88,9 @@ pub fn push_one(
     types: &[&Ty],
     out: &mut Vec<RuleUse>,
 ) -> Result<(), NoMemory>
-    ensures { OnOk result (map rule_use out.new.items ≡ map rule_use out.old.items ++ uses rule (message_uses (message a.now) (types_of types.now) (type_of wanted.now))) }
+    ensures { OnOk result
+        (map rule_use out.new.items ≡ map rule_use out.old.items
+        ++ uses rule (message_uses (message a.now) (types_of types.now) (type_of wanted.now))) }
 {
     push_rule(rule, out)?;
     push_message(a, wanted, types, out)
@@ -89,7 +98,9 @@ pub fn push_one(
 
 #[cycle(message)]
 fn push_left(a: &Msg, wanted: &Ty, types: &[&Ty], out: &mut Vec<RuleUse>) -> Result<(), NoMemory>
-    ensures { OnOk result (map rule_use out.new.items ≡ map rule_use out.old.items ++ left_uses (message_uses (message a.now) (types_of types.now)) (type_of wanted.now)) }
+    ensures { OnOk result
+        (map rule_use out.new.items ≡ map rule_use out.old.items
+        ++ left_uses (message_uses (message a.now) (types_of types.now)) (type_of wanted.now)) }
 {
     match wanted {
         Ty::Un => push_one(Rule::MsgInlUn, a, &Ty::Un, types, out),
@@ -103,7 +114,9 @@ fn push_left(a: &Msg, wanted: &Ty, types: &[&Ty], out: &mut Vec<RuleUse>) -> Res
 
 #[cycle(message)]
 fn push_right(a: &Msg, wanted: &Ty, types: &[&Ty], out: &mut Vec<RuleUse>) -> Result<(), NoMemory>
-    ensures { OnOk result (map rule_use out.new.items ≡ map rule_use out.old.items ++ right_uses (message_uses (message a.now) (types_of types.now)) (type_of wanted.now)) }
+    ensures { OnOk result
+        (map rule_use out.new.items ≡ map rule_use out.old.items
+        ++ right_uses (message_uses (message a.now) (types_of types.now)) (type_of wanted.now)) }
 {
     match wanted {
         Ty::Un => push_one(Rule::MsgInrUn, a, &Ty::Un, types, out),
@@ -117,7 +130,9 @@ fn push_right(a: &Msg, wanted: &Ty, types: &[&Ty], out: &mut Vec<RuleUse>) -> Re
 
 #[cycle(message)]
 fn push_enc(a: &Msg, key: &Msg, types: &[&Ty], out: &mut Vec<RuleUse>) -> Result<(), NoMemory>
-    ensures { OnOk result (map rule_use out.new.items ≡ map rule_use out.old.items ++ message_uses (enc (message a.now) (message key.now)) (types_of types.now) un) }
+    ensures { OnOk result
+        (map rule_use out.new.items ≡ map rule_use out.old.items
+        ++ message_uses (enc (message a.now) (message key.now)) (types_of types.now) un) }
 {
     match payload(types, key) {
         Some(t) => push_one(Rule::MsgEnc, a, t, types, out),
@@ -133,7 +148,9 @@ pub fn push_message(
     types: &[&Ty],
     out: &mut Vec<RuleUse>,
 ) -> Result<(), NoMemory>
-    ensures { OnOk result (map rule_use out.new.items ≡ map rule_use out.old.items ++ message_uses (message m.now) (types_of types.now) (type_of wanted.now)) }
+    ensures { OnOk result
+        (map rule_use out.new.items ≡ map rule_use out.old.items
+        ++ message_uses (message m.now) (types_of types.now) (type_of wanted.now)) }
 {
     match m {
         Msg::Bound(_) => Ok(()),
@@ -155,7 +172,10 @@ pub fn push_at_pair(
     types: &[&Ty],
     out: &mut Vec<RuleUse>,
 ) -> Result<(), NoMemory>
-    ensures { OnOk result (map rule_use out.new.items ≡ map rule_use out.old.items ++ message_uses (message m.now) (types_of types.now) (pair_ty (type_of first.now) (type_of second.now))) }
+    ensures { OnOk result
+        (map rule_use out.new.items ≡ map rule_use out.old.items
+        ++ message_uses (message m.now) (types_of types.now)
+        (pair_ty (type_of first.now) (type_of second.now))) }
 {
     match m {
         Msg::Bound(_) => Ok(()),
@@ -177,7 +197,10 @@ pub fn push_at_sum(
     types: &[&Ty],
     out: &mut Vec<RuleUse>,
 ) -> Result<(), NoMemory>
-    ensures { OnOk result (map rule_use out.new.items ≡ map rule_use out.old.items ++ message_uses (message m.now) (types_of types.now) (sum_ty (type_of left.now) (type_of right.now))) }
+    ensures { OnOk result
+        (map rule_use out.new.items ≡ map rule_use out.old.items
+        ++ message_uses (message m.now) (types_of types.now)
+        (sum_ty (type_of left.now) (type_of right.now))) }
 {
     match m {
         Msg::Bound(_) => Ok(()),

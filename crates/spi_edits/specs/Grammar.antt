@@ -20,12 +20,17 @@ abbrev pub drop_word : Kind
 drop_word = kinds.Word (codes "drop")
 
 abbrev pub edit_pieces : Edit → List Piece → List Piece
-edit_pieces (puts s w p) r = begins s put_word false (a_word false w (a_mark mark.BraceOpen (proc_pieces (at_level 0) p (a_mark mark.BraceClose (ends s r)))))
+edit_pieces (puts s w p) r =
+    begins s put_word false
+    (a_word false w (a_mark mark.BraceOpen (proc_pieces (at_level 0) p (a_mark mark.BraceClose (ends s r)))))
 edit_pieces (drops s w) r = begins s drop_word false (a_word false w (a_mark mark.Semicolon (ends s r)))
 
 -- the version, the declarations, the shared names and the edits
 abbrev pub bench_pieces : Bench → List Piece
-bench_pieces b = version_pieces b.version (each_pieces decl_pieces b.decls (each_pieces shared_pieces b.shared (each_pieces edit_pieces b.edits [])))
+bench_pieces b =
+    version_pieces b.version
+    (each_pieces decl_pieces b.decls
+    (each_pieces shared_pieces b.shared (each_pieces edit_pieces b.edits [])))
 
 -- a node from the first of these tokens to the last, where there are any
 abbrev pub placed : Span → List Piece → List Piece

@@ -84,7 +84,8 @@ pub fn edits_at(
     requires start { start ≤ length tokens.now }
     requires known { (version ≡ 1) ⊎ (version ≡ 2) }
     requires words { AreWordsFit (version == 2) (kinds_of tokens.now) }
-    ensures { ReadsEach (λ v. map edit_of v.items) edit_pieces (version == 2) (IsEdit (version == 2)) (λ ts i. i < length ts) result tokens.now start }
+    ensures { ReadsEach (λ v. map edit_of v.items) edit_pieces (version == 2) (IsEdit (version == 2))
+        (λ ts i. i < length ts) result tokens.now start }
 {
     let mut edits = Vec::new(alloc);
     let mut at = start;

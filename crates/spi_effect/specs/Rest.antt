@@ -12,7 +12,8 @@ owed (many m) n k = k
 
 -- it is written at the place of each atom, after those of es
 pub record IsOwed (sorted es fs : Effect) (left : List ℕ) : Type 0 where
-  pub at : (a : Atom) (i : ℕ) → IsPlace a sorted (Some i) → slice_index left i ≡ owed a (tally a es) (tally a fs)
+  pub at : (a : Atom) (i : ℕ) → IsPlace a sorted (Some i)
+      → slice_index left i ≡ owed a (tally a es) (tally a fs)
 
 abbrev pub is_owed : Option ℕ → List ℕ → Bool
 is_owed None left = false

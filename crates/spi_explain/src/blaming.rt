@@ -108,7 +108,8 @@ fn label_answers(alloc: Global, env: &Env, m: &Msg) -> Result<Vec<Answer>, NoMem
 
 fn split_answers(alloc: Global, env: &Env, m: &Msg, t: &Ty, u: &Ty) -> Result<Vec<Answer>, NoMemory>
     ensures { IfOk result (λ v. AreAnswered env.now
-        (typed (message m.now) (pair_ty (type_of t.now) (type_of u.now)) ∷ typed (message m.now) un ∷ []) v.items) }
+        (typed (message m.now) (pair_ty (type_of t.now) (type_of u.now)) ∷ typed (message m.now) un ∷ [])
+        v.items) }
 {
     let mut answers = Vec::new(alloc);
     let whole = pair_type(alloc, t, u)?;
@@ -126,7 +127,8 @@ fn select_answers(
     u: &Ty,
 ) -> Result<Vec<Answer>, NoMemory>
     ensures { IfOk result (λ v. AreAnswered env.now
-        (typed (message m.now) (pair_ty (type_of t.now) (type_of u.now)) ∷ typed (message n.now) (type_of t.now)
+        (typed (message m.now) (pair_ty (type_of t.now) (type_of u.now))
+        ∷ typed (message n.now) (type_of t.now)
         ∷ typed (message m.now) un ∷ typed (message n.now) un ∷ []) v.items) }
 {
     let mut answers = Vec::new(alloc);
@@ -147,7 +149,8 @@ fn branch_answers(
     u: &Ty,
 ) -> Result<Vec<Answer>, NoMemory>
     ensures { IfOk result (λ v. AreAnswered env.now
-        (typed (message m.now) (sum_ty (type_of t.now) (type_of u.now)) ∷ typed (message m.now) un ∷ []) v.items) }
+        (typed (message m.now) (sum_ty (type_of t.now) (type_of u.now)) ∷ typed (message m.now) un ∷ [])
+        v.items) }
 {
     let mut answers = Vec::new(alloc);
     let whole = sum_type(alloc, t, u)?;
@@ -164,7 +167,8 @@ fn decrypt_answers(
     n: &Msg,
 ) -> Result<Vec<Answer>, NoMemory>
     ensures { IfOk result (λ v. AreAnswered env.now
-        (typed (message m.now) un ∷ typed (message n.now) (key (type_of t.now)) ∷ typed (message n.now) un ∷ [])
+        (typed (message m.now) un ∷ typed (message n.now) (key (type_of t.now)) ∷ typed (message n.now) un
+        ∷ [])
         v.items) }
 {
     let mut answers = Vec::new(alloc);
@@ -219,7 +223,8 @@ fn answers_at(alloc: Global, env: &Env, node: &Node) -> Result<Vec<Answer>, NoMe
 pub fn blames(alloc: Global, process: &Process, node: u32) -> Result<Vec<Answer>, NoMemory>
     requires { node < process_size process.now.process }
     ensures { IfOk result (λ v. (env : Rules.Env) (q : Term.Process)
-        → NodeOf (untrusted process.now.names) process.now.process node env q → AreAnswered env (premises q) v.items) }
+        → NodeOf (untrusted process.now.names) process.now.process node env q
+        → AreAnswered env (premises q) v.items) }
 {
     let _ = process.len();
     let env = reached(alloc, process, node)?;

@@ -53,7 +53,8 @@ fn line(
     fault: &Option<Fault>,
 ) -> Result<Vec<u8>, NoMemory>
     requires { (i : ℕ) → (place_in file.now.marks.process.items i).from ≤ length lines.now }
-    ensures { IfOk result (λ text. text.items ≡ line_of lines.now (λ i. place_in file.now.marks.process.items i)
+    ensures { IfOk result
+        (λ text. text.items ≡ line_of lines.now (λ i. place_in file.now.marks.process.items i)
         (λ i. reverse (chain_at file.now.marks.scopes i)) fault.now) }
 {
     match fault {
@@ -69,7 +70,8 @@ fn origins_in(
     node: u32,
     atom: &Atom,
 ) -> Result<Vec<u32>, NoMemory>
-    ensures { IfOk result (λ v. AreAll (IsOriginIn process.now.names process.now.process node (atom_of atom.now)) v.items) }
+    ensures { IfOk result
+        (λ v. AreAll (IsOriginIn process.now.names process.now.process node (atom_of atom.now)) v.items) }
 {
     if node < process.len() {
         origins(alloc, process, node, atom)
@@ -99,12 +101,15 @@ fn shown_origins(
 /// What is found of a file's process. The condition is that its nodes stand in the bytes of the lines.
 pub fn explain_file(alloc: Global, file: &File, lines: &Lines<'_>) -> Result<Explained, NoMemory>
     requires { (i : ℕ) → (place_in file.now.marks.process.items i).from ≤ length lines.now }
-    ensures line { IfOk result (λ r. r.line.items ≡ line_of lines.now (λ i. place_in file.now.marks.process.items i)
+    ensures line { IfOk result
+        (λ r. r.line.items ≡ line_of lines.now (λ i. place_in file.now.marks.process.items i)
         (λ i. reverse (chain_at file.now.marks.scopes i)) r.fault) }
     ensures fault { IfOk result (λ r. Explains (λ i. reverse (chain_at file.now.marks.scopes i))
         file.now.process.names file.now.process.process r.fault) }
-    ensures blocked { IfOk result (λ r. AreAll (Blocks (untrusted file.now.process.names) file.now.process.process) r.blocked.items) }
-    ensures origins { IfOk result (λ r. AreOrigins file.now.process.names file.now.process.process r.fault r.origins.items) }
+    ensures blocked { IfOk result
+        (λ r. AreAll (Blocks (untrusted file.now.process.names) file.now.process.process) r.blocked.items) }
+    ensures origins { IfOk result
+        (λ r. AreOrigins file.now.process.names file.now.process.process r.fault r.origins.items) }
 {
     let inferred = infer(alloc, &file.process)?;
     let fault = explain(alloc, file, &inferred)?;

@@ -35,7 +35,8 @@ abbrev pub prefix_checks : Prefix → List Check
 prefix_checks (Recvs m t) = channel m ∷ untrusted t ∷ stays 1 1 ∷ []
 prefix_checks (Serves m t) = channel m ∷ untrusted t ∷ served 1 ∷ stays 1 1 ∷ []
 prefix_checks (Splits m t u) = good (pair_ty t u) ∷ scrutinee m (pair_ty t u) t u ∷ stays 2 1 ∷ []
-prefix_checks (Selects m t n u) = good (pair_ty t u) ∷ scrutinee m (pair_ty t u) t u ∷ first n t ∷ stays 1 1 ∷ []
+prefix_checks (Selects m t n u) =
+    good (pair_ty t u) ∷ scrutinee m (pair_ty t u) t u ∷ first n t ∷ stays 1 1 ∷ []
 prefix_checks (Decrypts m t n) = good t ∷ sealed m ∷ key_of n t ∷ stays 1 1 ∷ []
 prefix_checks (Checks m n) = sealed m ∷ nonce_of n ∷ []
 prefix_checks (Begins m) = label m ∷ []
@@ -46,7 +47,8 @@ prefix_checks (Makes t) = generative t ∷ good t ∷ made 1 ∷ []
 
 -- the second process has so many nodes before it
 abbrev pub fork_checks : Fork → ℕ → List Check
-fork_checks (Cases m t u) rest = good t ∷ good u ∷ scrutinee m (sum_ty t u) t u ∷ stays 1 1 ∷ stays 1 rest ∷ []
+fork_checks (Cases m t u) rest =
+    good t ∷ good u ∷ scrutinee m (sum_ty t u) t u ∷ stays 1 1 ∷ stays 1 rest ∷ []
 fork_checks Pars rest = []
 
 abbrev pub checks : Process → List Check

@@ -67,10 +67,12 @@ subject (C.made i) = nothing
 -- What is shown of a check that fails at node n, and in the scope of which node: its message in that of node n itself, or
 -- an atom of an effect in that of the process that has the effect. `spelled` has the spellings of the names in scope at a
 -- node.
-pub data Shows (spelled : ℕ → List (List ℕ)) (n : ℕ) (env : Env) (p : Process) : Check → ℕ → Thing → Type 0 where
+pub data Shows (spelled : ℕ → List (List ℕ)) (n : ℕ) (env : Env) (p : Process) : Check → ℕ → Thing
+    → Type 0 where
   shows_subject : {c : Check} → process_of c ≡ None → Shows spelled n env p c n (subject c)
   shows_atom : {c : Check} {i : ℕ} {a : Atom}
-      → process_of c ≡ Some i → IsLeastText (spelled (n + i)) (Spoils env p c) a → Shows spelled n env p c (n + i) (the_atom a)
+      → process_of c ≡ Some i → IsLeastText (spelled (n + i)) (Spoils env p c) a
+      → Shows spelled n env p c (n + i) (the_atom a)
 
 -- the first of the checks that fails
 pub record FailsFirst (env : Env) (p : Process) (c : Check) : Type 0 where
@@ -92,7 +94,8 @@ pub data IsFault (spelled : ℕ → List (List ℕ)) (k : ℕ) (p : Process) : T
       → Least (untrusted k) p es → IsLeastText (spelled 0) (λ b. In b es) a
       → IsFault spelled k p (record { reason = Unpaid; node = 0; scope_of = 0; shown = the_atom a })
   fails : {n s : ℕ} {env : Env} {q : Process} {c : Check} {shown : Thing}
-      → FirstBlocks (untrusted k) p n → NodeOf (untrusted k) p n env q → FailsFirst env q c → Shows spelled n env q c s shown
+      → FirstBlocks (untrusted k) p n → NodeOf (untrusted k) p n env q → FailsFirst env q c
+      → Shows spelled n env q c s shown
       → IsFault spelled k p (record { reason = reason_of c; node = n; scope_of = s; shown = shown })
 
 -- the fault of an effect of the whole process that isn't empty: an atom of it is shown at the root

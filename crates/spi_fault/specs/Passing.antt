@@ -39,7 +39,8 @@ pub data Spoils (env : Env) (p : Process) : Check → Atom → Type 0 where
   escapes : {k at : ℕ} {es : Effect} {a : Atom}
       → Follows env p at es → In a es → HasBound (length env) k a → Spoils env p (stays k at) a
   unchecked : {at : ℕ} {es ds : Effect} {a : Atom}
-      → Follows env p at es → IsDifference ds es (checks (name (length env)) ∷ []) → In a ds → HasBound (length env) 1 a
+      → Follows env p at es → IsDifference ds es (checks (name (length env)) ∷ []) → In a ds
+      → HasBound (length env) 1 a
       → Spoils env p (made at) a
 
 -- Where a typed rule and its Un form have different premises on a message, one of the two holds, with what it asks of

@@ -67,7 +67,8 @@ place_in (Some (j, text)) = Some j
 -- the same without the text
 abbrev pub IsPlaceOfLeast : List (List ℕ) → (Atom → Type 0) → List Atom → Option ℕ → Type 0
 IsPlaceOfLeast names P es None = (b : Atom) → In b es → P b → ⊥
-IsPlaceOfLeast names P es (Some j) = (a : Atom) × (slice_get es j ≡ Some a) × IsLeastText names (λ b. In b es × P b) a
+IsPlaceOfLeast names P es (Some j) = (a : Atom) × (slice_get es j ≡ Some a)
+    × IsLeastText names (λ b. In b es × P b) a
 
 -- the names of the kind are numbers of 32 bits
 abbrev pub CanBe : Kind → Type 0
@@ -120,10 +121,12 @@ Tells spelled n env p c (Some f) = (Passes env p c → ⊥) × Shows spelled n e
 abbrev pub TellsAtom : (ℕ → List (List ℕ)) → ℕ → (Atom → Type 0) → Effect → Option Found → Type 0
 TellsAtom spelled s P es None = (a : Atom) → In a es → P a → ⊥
 TellsAtom spelled s P es (Some f) =
-    (f.scope_of ≡ s) × ((a : Atom) × (thing f.shown ≡ the_atom a) × IsLeastText (spelled s) (λ b. In b es × P b) a)
+    (f.scope_of ≡ s)
+    × ((a : Atom) × (thing f.shown ≡ the_atom a) × IsLeastText (spelled s) (λ b. In b es × P b) a)
 
 -- each check passes, or the fault is that of the first which fails
 abbrev pub IsBlamed : (ℕ → List (List ℕ)) → ℕ → Env → Process → Option Fault → Type 0
 IsBlamed spelled n env q None = (d : C.Check) → In d (C.checks q) → Passes env q d
 IsBlamed spelled n env q (Some f) =
-    (c : C.Check) × FailsFirst env q c × Shows spelled n env q c f.scope_of (thing f.shown) × (f.node ≡ n) × (f.reason ≡ C.reason_of c)
+    (c : C.Check) × FailsFirst env q c × Shows spelled n env q c f.scope_of (thing f.shown) × (f.node ≡ n)
+    × (f.reason ≡ C.reason_of c)

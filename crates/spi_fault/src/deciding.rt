@@ -72,7 +72,10 @@ fn is_scrutinee(
     first: &Ty,
     second: &Ty,
 ) -> Result<bool, NoMemory>
-    ensures { IfOk result (λ b. IsTrue b ↔ (HasType [] env.now (message m.now) (type_of whole.now) ⊎ (HasType [] env.now (message m.now) un × (type_of first.now ≡ un) × (type_of second.now ≡ un)))) }
+    ensures { IfOk result
+        (λ b. IsTrue b
+        ↔ (HasType [] env.now (message m.now) (type_of whole.now)
+        ⊎ (HasType [] env.now (message m.now) un × (type_of first.now ≡ un) × (type_of second.now ≡ un)))) }
 {
     if has_type(alloc, env, m, whole)? {
         return Ok(true);
@@ -84,7 +87,10 @@ fn is_scrutinee(
 }
 
 fn is_key_of(alloc: Global, env: &Env, m: &Msg, t: &Ty) -> Result<bool, NoMemory>
-    ensures { IfOk result (λ b. IsTrue b ↔ (HasType [] env.now (message m.now) (key (type_of t.now)) ⊎ (HasType [] env.now (message m.now) un × (type_of t.now ≡ un)))) }
+    ensures { IfOk result
+        (λ b. IsTrue b
+        ↔ (HasType [] env.now (message m.now) (key (type_of t.now))
+        ⊎ (HasType [] env.now (message m.now) un × (type_of t.now ≡ un)))) }
 {
     let wanted = key_type(alloc, t)?;
     if has_type(alloc, env, m, &wanted)? {
@@ -121,7 +127,10 @@ fn is_nonce_name(env: &Env, m: &Msg) -> bool
 }
 
 fn is_nonce(alloc: Global, env: &Env, m: &Msg) -> Result<bool, NoMemory>
-    ensures { IfOk result (λ b. IsTrue b ↔ (((fs : Term.Effect) × IsNonce [] env.now (message m.now) fs) ⊎ HasType [] env.now (message m.now) un)) }
+    ensures { IfOk result
+        (λ b. IsTrue b
+        ↔ (((fs : Term.Effect) × IsNonce [] env.now (message m.now) fs)
+        ⊎ HasType [] env.now (message m.now) un)) }
 {
     if is_nonce_name(env, m) {
         return Ok(true);
@@ -132,7 +141,9 @@ fn is_nonce(alloc: Global, env: &Env, m: &Msg) -> Result<bool, NoMemory>
 // Whether a check passes that asks about no effect.
 fn holds(alloc: Global, env: &Env, check: &Check) -> Result<bool, NoMemory>
     requires { Fits (length env.now) (check_of check.now) }
-    ensures { IfOk result (λ b. process_of (check_of check.now) ≡ None → (p : Term.Process) → IsTrue b ↔ Passes env.now p (check_of check.now)) }
+    ensures { IfOk result
+        (λ b. process_of (check_of check.now) ≡ None → (p : Term.Process)
+        → IsTrue b ↔ Passes env.now p (check_of check.now)) }
 {
     match check {
         Check::Channel(m) => has_type(alloc, env, m, &Ty::Un),
@@ -187,7 +198,9 @@ fn subject(alloc: Global, check: &Check) -> Result<Option<Shown>, NoMemory>
 // What is shown where a check fails that asks about no effect.
 fn failing_here(alloc: Global, id: u32, env: &Env, check: &Check) -> Result<Option<Found>, NoMemory>
     requires { Fits (length env.now) (check_of check.now) }
-    ensures { IfOk result (λ r. process_of (check_of check.now) ≡ None → (spelled : ℕ → List (List ℕ)) (q : Term.Process) → Tells spelled id env.now q (check_of check.now) r) }
+    ensures { IfOk result
+        (λ r. process_of (check_of check.now) ≡ None → (spelled : ℕ → List (List ℕ)) (q : Term.Process)
+        → Tells spelled id env.now q (check_of check.now) r) }
 {
     if holds(alloc, env, check)? {
         return Ok(None);
@@ -207,7 +220,9 @@ pub fn shown_atom(
     effect: &Effect,
 ) -> Result<Option<Found>, NoMemory>
     requires { CanBe kind }
-    ensures { IfOk result (λ r. TellsAtom (λ i. reverse (chain_at file.now.marks.scopes i)) scope_of (IsOf kind) (effect_of effect.now) r) }
+    ensures { IfOk result
+        (λ r. TellsAtom (λ i. reverse (chain_at file.now.marks.scopes i)) scope_of (IsOf kind)
+        (effect_of effect.now) r) }
 {
     let names = file.scope_names(alloc, scope_of)?;
     match least_text(alloc, &names, kind, &effect.atoms)? {
@@ -225,9 +240,13 @@ pub fn shown_atom(
 // The atom of the least effect at a node that is shown.
 fn spoiled(alloc: Global, file: &File, node: u32, kind: Kind) -> Result<Option<Found>, NoMemory>
     requires kind { CanBe kind }
-    requires there { (e : Rules.Env) × (q : Term.Process) × NodeOf (untrusted file.now.process.names) file.now.process.process node e q × HasSome e q }
-    ensures { IfOk result (λ r. (e : Rules.Env) (q : Term.Process) → NodeOf (untrusted file.now.process.names) file.now.process.process node e q
-        → (es : Term.Effect) × Least e q es × TellsAtom (λ i. reverse (chain_at file.now.marks.scopes i)) node (IsOf kind) es r) }
+    requires there { (e : Rules.Env) × (q : Term.Process)
+        × NodeOf (untrusted file.now.process.names) file.now.process.process node e q × HasSome e q }
+    ensures { IfOk result
+        (λ r. (e : Rules.Env) (q : Term.Process)
+        → NodeOf (untrusted file.now.process.names) file.now.process.process node e q
+        → (es : Term.Effect) × Least e q es
+        × TellsAtom (λ i. reverse (chain_at file.now.marks.scopes i)) node (IsOf kind) es r) }
 {
     let _ = file.process.len();
     match effect_at(alloc, &file.process, node)? {
@@ -248,9 +267,13 @@ fn one_check(alloc: Global, name: u32) -> Result<Effect, NoMemory>
 // The same, with one check of this name taken off.
 fn unchecked(alloc: Global, file: &File, node: u32, name: u32) -> Result<Option<Found>, NoMemory>
     requires kind { name + 1 < 2 ^ 32 }
-    requires there { (e : Rules.Env) × (q : Term.Process) × NodeOf (untrusted file.now.process.names) file.now.process.process node e q × HasSome e q }
-    ensures { IfOk result (λ r. (e : Rules.Env) (q : Term.Process) → NodeOf (untrusted file.now.process.names) file.now.process.process node e q
-        → (es ds : Term.Effect) × Least e q es × IsDifference ds es (Term.checks (Term.name name) ∷ []) × TellsAtom (λ i. reverse (chain_at file.now.marks.scopes i)) node (IsOf (Kind.Naming name 1)) ds r) }
+    requires there { (e : Rules.Env) × (q : Term.Process)
+        × NodeOf (untrusted file.now.process.names) file.now.process.process node e q × HasSome e q }
+    ensures { IfOk result
+        (λ r. (e : Rules.Env) (q : Term.Process)
+        → NodeOf (untrusted file.now.process.names) file.now.process.process node e q
+        → (es ds : Term.Effect) × Least e q es × IsDifference ds es (Term.checks (Term.name name) ∷ [])
+        × TellsAtom (λ i. reverse (chain_at file.now.marks.scopes i)) node (IsOf (Kind.Naming name 1)) ds r) }
 {
     let _ = file.process.len();
     match effect_at(alloc, &file.process, node)? {
@@ -273,8 +296,12 @@ pub fn failing(
 ) -> Result<Option<Found>, NoMemory>
     requires fits { Fits (length env.now) (check_of check.now) }
     requires few { length env.now ≤ 300000 }
-    requires node { (q : Term.Process) × NodeOf (untrusted file.now.process.names) file.now.process.process id env.now q × BlocksAt env.now q × Asked env.now q (check_of check.now) }
-    ensures { IfOk result (λ r. (q : Term.Process) → NodeOf (untrusted file.now.process.names) file.now.process.process id env.now q
+    requires node { (q : Term.Process)
+        × NodeOf (untrusted file.now.process.names) file.now.process.process id env.now q × BlocksAt env.now q
+        × Asked env.now q (check_of check.now) }
+    ensures { IfOk result
+        (λ r. (q : Term.Process)
+        → NodeOf (untrusted file.now.process.names) file.now.process.process id env.now q
         → Tells (λ i. reverse (chain_at file.now.marks.scopes i)) id env.now q (check_of check.now) r) }
 {
     let _ = file.process.len();

@@ -27,7 +27,8 @@ use std::alloc::Global;
 /// The fault of an effect that the file's process has and that nothing pays for: `Unpaid` at the root, with the atom whose
 /// report form is least by its bytes. `None` exactly where the effect has no atom.
 pub fn unpaid(alloc: Global, file: &File, effect: &Effect) -> Result<Option<Fault>, NoMemory>
-    ensures { IfOk result (TellsUnpaid (λ i. reverse (chain_at file.now.marks.scopes i)) (effect_of effect.now)) }
+    ensures { IfOk result
+        (TellsUnpaid (λ i. reverse (chain_at file.now.marks.scopes i)) (effect_of effect.now)) }
 {
     match shown_atom(alloc, file, 0, Kind::Any, effect)? {
         Some(found) => Ok(Some(Fault {
@@ -43,7 +44,9 @@ pub fn unpaid(alloc: Global, file: &File, effect: &Effect) -> Result<Option<Faul
 // The fault of a process with this least effect, where the effect isn't empty.
 fn left_over(alloc: Global, file: &File, effect: &Effect) -> Result<Option<Fault>, NoMemory>
     requires { Least (untrusted file.now.process.names) file.now.process.process (effect_of effect.now) }
-    ensures { IfOk result (Explains (λ i. reverse (chain_at file.now.marks.scopes i)) file.now.process.names file.now.process.process) }
+    ensures { IfOk result
+        (Explains (λ i. reverse (chain_at file.now.marks.scopes i)) file.now.process.names
+        file.now.process.process) }
 {
     unpaid(alloc, file, effect)
 }
@@ -58,8 +61,12 @@ fn first_failing(
 ) -> Result<Option<Fault>, NoMemory>
     requires few { length env.now ≤ 300000 }
     requires fits { (c : Checks.Check) → In c (map check_of checks.now) → Fits (length env.now) c }
-    requires node { (q : Term.Process) × NodeOf (untrusted file.now.process.names) file.now.process.process node env.now q × BlocksAt env.now q × (map check_of checks.now ≡ checks_in q) }
-    ensures { IfOk result (λ r. (q : Term.Process) → NodeOf (untrusted file.now.process.names) file.now.process.process node env.now q
+    requires node { (q : Term.Process)
+        × NodeOf (untrusted file.now.process.names) file.now.process.process node env.now q
+        × BlocksAt env.now q × (map check_of checks.now ≡ checks_in q) }
+    ensures { IfOk result
+        (λ r. (q : Term.Process)
+        → NodeOf (untrusted file.now.process.names) file.now.process.process node env.now q
         → IsBlamed (λ i. reverse (chain_at file.now.marks.scopes i)) node env.now q r) }
 {
     let mut i = 0;
@@ -81,7 +88,9 @@ fn first_failing(
 // The fault of the first node that blocks.
 fn blocked(alloc: Global, file: &File, node: u32) -> Result<Fault, NoMemory>
     requires { FirstBlocks (untrusted file.now.process.names) file.now.process.process node }
-    ensures { IfOk result (λ f. IsFault (λ i. reverse (chain_at file.now.marks.scopes i)) file.now.process.names file.now.process.process (told f)) }
+    ensures { IfOk result
+        (λ f. IsFault (λ i. reverse (chain_at file.now.marks.scopes i)) file.now.process.names
+        file.now.process.process (told f)) }
 {
     let _ = file.process.len();
     let env = reached(alloc, &file.process, node)?;
@@ -98,8 +107,11 @@ fn blocked(alloc: Global, file: &File, node: u32) -> Result<Fault, NoMemory>
 /// one is shown whose report form is least by its bytes, with names as the file spells them.
 pub fn explain(alloc: Global, file: &File, inferred: &Inferred) -> Result<Option<Fault>, NoMemory>
     requires { Answers file.now.process.names file.now.process.process inferred.now }
-    ensures explained { IfOk result (Explains (λ i. reverse (chain_at file.now.marks.scopes i)) file.now.process.names file.now.process.process) }
-    ensures exact { IfOk result (λ r. IsNone r ↔ Derivable (untrusted file.now.process.names) file.now.process.process []) }
+    ensures explained { IfOk result
+        (Explains (λ i. reverse (chain_at file.now.marks.scopes i)) file.now.process.names
+        file.now.process.process) }
+    ensures exact { IfOk result
+        (λ r. IsNone r ↔ Derivable (untrusted file.now.process.names) file.now.process.process []) }
 {
     match inferred {
         Inferred::Least(effect) => left_over(alloc, file, effect),

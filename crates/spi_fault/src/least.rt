@@ -91,7 +91,9 @@ fn next_best(
     a: &Atom,
 ) -> Result<Option<(usize, Vec<u8>)>, NoMemory>
     requires { CanBe kind }
-    ensures { IfOk result (λ r. (es : Effect) → i ≡ length es → IsBest names.now (IsOf kind) es best → IsBest names.now (IsOf kind) (es ++ atom a.now ∷ []) r) }
+    ensures { IfOk result
+        (λ r. (es : Effect) → i ≡ length es → IsBest names.now (IsOf kind) es best
+        → IsBest names.now (IsOf kind) (es ++ atom a.now ∷ []) r) }
 {
     if is_of(kind, a) {
         let text = show_atom(alloc, names, a)?;

@@ -7,12 +7,14 @@ mutual
   -- n sessions in the place of a process: one alone, or one half, rounded up, beside the other
   pub data AreBeside : ℕ → t.Proc → Type 0 where
     one_session : AreBeside 1 handshake
-    two_halves : {n m : ℕ} {p q : t.Proc} → 2 ≤ n → m ≡ (n + 1) / 2 → AreGrouped m p → AreGrouped (n - m) q → AreBeside n (t.par nowhere p q)
+    two_halves : {n m : ℕ} {p q : t.Proc} → 2 ≤ n → m ≡ (n + 1) / 2 → AreGrouped m p → AreGrouped (n - m) q
+        → AreBeside n (t.par nowhere p q)
 
   -- n sessions in the place of a part: one alone, or several in parentheses
   pub data AreGrouped : ℕ → t.Proc → Type 0 where
     alone : AreGrouped 1 handshake
-    in_parentheses : {n : ℕ} {p q : t.Proc} → 2 ≤ n → AreBeside n (t.par nowhere p q) → AreGrouped n (t.group nowhere p q)
+    in_parentheses : {n : ℕ} {p q : t.Proc} → 2 ≤ n → AreBeside n (t.par nowhere p q)
+        → AreGrouped n (t.group nowhere p q)
 
 -- the file of n sessions
 pub record IsSessions (n : ℕ) (file : t.File) : Type 0 where

@@ -28,7 +28,9 @@ fn name(alloc: Global, spelling: &str) -> Result<SMsg, NoMemory>
 }
 
 fn tuple(alloc: Global, first: SMsg, second: SMsg, more: Vec<SMsg>) -> Result<SMsg, NoMemory>
-    ensures { IfOk result (λ m. msg_of m ≡ t.tuple H.nowhere (msg_of first) (msg_of second) (t.msgs_of_list (map msg_of more.items))) }
+    ensures { IfOk result
+        (λ m. msg_of m
+        ≡ t.tuple H.nowhere (msg_of first) (msg_of second) (t.msgs_of_list (map msg_of more.items))) }
 {
     Ok(SMsg::Tuple {
         first: Box::new(alloc, first)?,
@@ -77,7 +79,8 @@ fn proof(alloc: Global) -> Result<STy, NoMemory>
 }
 
 fn pair_type(alloc: Global, name: SWord, first: STy, last: Last) -> Result<STy, NoMemory>
-    ensures { IfOk result (λ a. ty_of a ≡ t.tuple_ty H.nowhere name (ty_of first) t.no_fields (last_of last)) }
+    ensures { IfOk result
+        (λ a. ty_of a ≡ t.tuple_ty H.nowhere name (ty_of first) t.no_fields (last_of last)) }
 {
     Ok(STy::Tuple {
         name,
@@ -106,7 +109,10 @@ fn answer_name(alloc: Global) -> Result<STy, NoMemory>
 
 // out net {(m, p)}k
 fn reply(alloc: Global) -> Result<SProc, NoMemory>
-    ensures { IfOk result (λ p. proc_of p ≡ t.out H.nowhere H.net (t.enc H.nowhere (H.pair (H.name (codes "m")) (H.name (codes "p"))) (H.name (codes "k")))) }
+    ensures { IfOk result
+        (λ p. proc_of p
+        ≡ t.out H.nowhere H.net
+        (t.enc H.nowhere (H.pair (H.name (codes "m")) (H.name (codes "p"))) (H.name (codes "k")))) }
 {
     let body = Box::new(alloc, pair(alloc, "m", "p")?)?;
     let key = Box::new(alloc, name(alloc, "k")?)?;

@@ -14,7 +14,8 @@ abbrev pub shared_word : Kind
 shared_word = kinds.Word (codes "shared")
 
 abbrev pub shared_pieces : Shared → List Piece → List Piece
-shared_pieces s r = begins s.span shared_word false (named_pieces s.name s.ty (a_mark mark.Semicolon (ends s.span r)))
+shared_pieces s r =
+    begins s.span shared_word false (named_pieces s.name s.ty (a_mark mark.Semicolon (ends s.span r)))
 
 -- those of a version
 abbrev pub IsShared : Bool → Shared → Type 0

@@ -21,8 +21,10 @@ Takes k (Err faults.NoMemory) ts i = ⊥
 
 -- the word that is the token of this number, and the number behind it, or the fault at it
 abbrev pub TakesWord : Result (SWord × ℕ) ParseFault → List Token → ℕ → Type 0
-TakesWord (Ok r) ts i = (t : Token) × (slice_get ts i ≡ Some t) × (t.kind ≡ kinds.Word r.0.word) × (t.span ≡ r.0.span) × (r.1 ≡ i + 1)
-TakesWord (Err (faults.Syntax token)) ts i = ((word : List ℕ) → IsThere ts i (kinds.Word word) → ⊥) × (token ≡ i)
+TakesWord (Ok r) ts i = (t : Token) × (slice_get ts i ≡ Some t) × (t.kind ≡ kinds.Word r.0.word)
+    × (t.span ≡ r.0.span) × (r.1 ≡ i + 1)
+TakesWord (Err (faults.Syntax token)) ts i = ((word : List ℕ) → IsThere ts i (kinds.Word word) → ⊥)
+    × (token ≡ i)
 TakesWord (Err (faults.TooDeep token)) ts i = ⊥
 TakesWord (Err faults.NoMemory) ts i = Unit {0}
 
@@ -32,10 +34,12 @@ version_word = kinds.Word (codes "version")
 -- the version that a text begins with and the number of the token behind it, or the fault behind the word
 abbrev pub ReadsVersion : Result (ℕ × ℕ) ParseFault → List Token → Type 0
 ReadsVersion (Ok r) ts =
-    ((r.0 ≡ 2) × (r.1 ≡ 3) × IsThere ts 0 version_word × IsThere ts 1 (kinds.Number 2) × IsThere ts 2 (kinds.Mark mark.Semicolon))
+    ((r.0 ≡ 2) × (r.1 ≡ 3) × IsThere ts 0 version_word × IsThere ts 1 (kinds.Number 2)
+    × IsThere ts 2 (kinds.Mark mark.Semicolon))
     ⊎ ((r.0 ≡ 1) × (r.1 ≡ 0) × (IsThere ts 0 version_word → ⊥))
 ReadsVersion (Err (faults.Syntax token)) ts =
     IsThere ts 0 version_word
-    × (((token ≡ 1) × (IsThere ts 1 (kinds.Number 2) → ⊥)) ⊎ ((token ≡ 2) × IsThere ts 1 (kinds.Number 2) × (IsThere ts 2 (kinds.Mark mark.Semicolon) → ⊥)))
+    × (((token ≡ 1) × (IsThere ts 1 (kinds.Number 2) → ⊥))
+    ⊎ ((token ≡ 2) × IsThere ts 1 (kinds.Number 2) × (IsThere ts 2 (kinds.Mark mark.Semicolon) → ⊥)))
 ReadsVersion (Err (faults.TooDeep token)) ts = ⊥
 ReadsVersion (Err faults.NoMemory) ts = ⊥

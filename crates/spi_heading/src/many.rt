@@ -34,7 +34,8 @@ pub fn declarations_at(
     requires start { start ≤ length tokens.now }
     requires known { (version ≡ 1) ⊎ (version ≡ 2) }
     requires words { AreWordsFit (version == 2) (kinds_of tokens.now) }
-    ensures { ReadsEach (λ v. map decl_of v.items) decl_pieces (version == 2) (IsDeclared (version == 2)) BeginsDecl result tokens.now start }
+    ensures { ReadsEach (λ v. map decl_of v.items) decl_pieces (version == 2) (IsDeclared (version == 2))
+        BeginsDecl result tokens.now start }
 {
     let mut decls = Vec::new(alloc);
     let mut at = start;
@@ -61,7 +62,8 @@ pub fn shared_names_at(
     requires start { start ≤ length tokens.now }
     requires known { (version ≡ 1) ⊎ (version ≡ 2) }
     requires words { AreWordsFit (version == 2) (kinds_of tokens.now) }
-    ensures { ReadsEach (λ v. map shared_of v.items) shared_pieces (version == 2) (IsShared (version == 2)) BeginsShared result tokens.now start }
+    ensures { ReadsEach (λ v. map shared_of v.items) shared_pieces (version == 2) (IsShared (version == 2))
+        BeginsShared result tokens.now start }
 {
     let mut names = Vec::new(alloc);
     let mut at = start;

@@ -35,7 +35,8 @@ pub record IsHonest (x : n.Narration) (file : Meant) (h : Honest) : Type 0 where
   pub narrates : NarratesSmall (free_of x) (begins x) x.lines (map event h.events.items) told
   pub order : map step h.steps.items ≡ honest_steps x
   pub replays : Replays (opening file) (map step h.steps.items) (map event h.events.items) last
-  pub runs : Runs (opening file).configuration (map step h.steps.items) (map event h.events.items) last.configuration
+  pub runs : Runs (opening file).configuration (map step h.steps.items) (map event h.events.items)
+      last.configuration
   pub stops : (i : ℕ) (p : Process) → At last.configuration.places i p → p ≡ stop
 
 -- the line with this number is wrong where the lines before it have values and messages that aren't too large

@@ -29,7 +29,8 @@ pub data Does (k : ℕ) (g : Map) : n.Prefix → Map → Option Event → ℕ �
   does_begin : {s : Span} {m : Msg} → Does k g (n.begin s m) [] (Some (begun (value g m))) k
   does_end : {s : Span} {m : Msg} → Does k g (n.end s m) [] (Some (ended (value g m))) k
   does_end_many : {s : Span} {m : Msg} → Does k g (n.end_many s m) [] (Some (ended_many (value g m))) k
-  does_cast : {s : Span} {m : Msg} {x : SWord} {t : Ty} → Does k g (n.cast s m x t) (at x (value g m) ∷ []) None k
+  does_cast : {s : Span} {m : Msg} {x : SWord} {t : Ty}
+      → Does k g (n.cast s m x t) (at x (value g m) ∷ []) None k
   does_new : {s : Span} {x : SWord} {t : Ty} → Does k g (n.new s x t) (at x (name k) ∷ []) None (suc k)
 
 -- how many names are used, and what each role has
@@ -61,8 +62,10 @@ pub data Tells (free : Names) (o : Told) : n.Line → Map → Option Event → T
 -- lines in order, with their events
 pub data Narrates (free : Names) : Told → List n.Line → List Event → Told → Type 0 where
   narrates_none : {o : Told} → Narrates free o [] [] o
-  narrates_line : {o p q : Told} {l : n.Line} {ls : List n.Line} {more : Map} {e : Option Event} {es : List Event}
-      → Tells free o l more e p → Narrates free p ls es q → Narrates free o (l ∷ ls) (option_to_list e ++ es) q
+  narrates_line : {o p q : Told} {l : n.Line} {ls : List n.Line} {more : Map} {e : Option Event}
+      {es : List Event}
+      → Tells free o l more e p → Narrates free p ls es q
+      → Narrates free o (l ∷ ls) (option_to_list e ++ es) q
 
 -- the messages that a line binds or reports
 abbrev pub label : Event → Message
@@ -74,13 +77,15 @@ abbrev pub shown : Map → Option Event → List Message
 shown more e = map (λ x. x.message) more ++ map label (option_to_list e)
 
 -- lines in order, none of whose messages has more than 1,000 nodes
-abbrev pub AreSmall : {free : Names} {o p : Told} {ls : List n.Line} {es : List Event} → Narrates free o ls es p → Type 0
+abbrev pub AreSmall : {free : Names} {o p : Told} {ls : List n.Line} {es : List Event}
+    → Narrates free o ls es p → Type 0
 AreSmall narrates_none = ⊤
 AreSmall (narrates_line {more = more} {e = e} t r) = (largest (shown more e) ≤ message_most) × AreSmall r
 
-pub record NarratesSmall (free : Names) (o : Told) (ls : List n.Line) (es : List Event) (p : Told) : Type 0 where
-  pub narrates : Narrates free o ls es p
-  pub small : AreSmall narrates
+pub record NarratesSmall (free : Names) (o : Told) (ls : List n.Line) (es : List Event) (p : Told) : Type 0
+  where
+    pub narrates : Narrates free o ls es p
+    pub small : AreSmall narrates
 
 -- the free names, and with them the shared names, the innermost first
 abbrev pub free_of : n.Narration → Names

@@ -17,7 +17,8 @@ use Rattle.spi_honest.specs.Holds.{Holds}
 use Rattle.spi_honest.specs.Standing.{Stands, Stopped, Locates, left}
 
 -- these lines were told, and the rest is left
-pub record Progress (x : n.Narration) (file : Meant) (before rest : List n.Line) (pool : Pooled) (steps : List Step) (events : List Event) (is : List ℕ) : Type 0 where
+pub record Progress (x : n.Narration) (file : Meant) (before rest : List n.Line) (pool : Pooled)
+    (steps : List Step) (events : List Event) (is : List ℕ) : Type 0 where
   pub cut : x.lines ≡ before ++ rest
   pub told : Told
   pub place : Word → ℕ
@@ -45,14 +46,17 @@ abbrev pub steps_behind : n.Narration → List Step
 steps_behind x = line_steps (places_of x.roles) (2 + length (others x.roles)) x.lines
 
 -- these shared names were made, and the rest is left
-pub record Shares (x : n.Narration) (file : Meant) (before rest : List Shared) (pool : Pooled) (steps : List Step) : Type 0 where
+pub record Shares (x : n.Narration) (file : Meant) (before rest : List Shared) (pool : Pooled)
+    (steps : List Step) : Type 0 where
   pub cut : x.shared ≡ before ++ rest
   pub process : Process
   pub places : pool.configuration.places ≡ beside_stop (process ∷ [])
   pub names : pool.configuration.names ≡ length (with_shared (free_of x) before)
-  pub holds : Holds (sharing rest (roles_together x.lines x.roles)) [] (word_in (numbered (with_shared (free_of x) before))) process
+  pub holds : Holds (sharing rest (roles_together x.lines x.roles)) []
+      (word_in (numbered (with_shared (free_of x) before))) process
   pub replays : Replays (opening file) steps [] pool
-  pub order : honest_steps x ≡ steps ++ (shared_steps rest ++ role_steps 0 2 (others x.roles) ++ steps_behind x)
+  pub order : honest_steps x ≡ steps
+      ++ (shared_steps rest ++ role_steps 0 2 (others x.roles) ++ steps_behind x)
   pub few_names : pool.configuration.names ≤ 100000 + length before
   pub most : pool.most ≡ 5000
 
@@ -60,10 +64,12 @@ pub record Shares (x : n.Narration) (file : Meant) (before rest : List Shared) (
 pub data Each (x : n.Narration) : List SWord → List Process → Type 0 where
   each_none : Each x [] []
   each_role : {r : SWord} {rs : List SWord} {p : Process} {ps : List Process}
-      → Holds (role_process r x.lines) [] (word_in ((begins x).has r.word)) p → Each x rs ps → Each x (r ∷ rs) (p ∷ ps)
+      → Holds (role_process r x.lines) [] (word_in ((begins x).has r.word)) p → Each x rs ps
+      → Each x (r ∷ rs) (p ∷ ps)
 
 -- these roles were taken apart, and the last place has this one with the rest
-pub record Spreads (x : n.Narration) (file : Meant) (before : List SWord) (role : SWord) (rest : List SWord) (pool : Pooled) (steps : List Step) : Type 0 where
+pub record Spreads (x : n.Narration) (file : Meant) (before : List SWord) (role : SWord) (rest : List SWord)
+    (pool : Pooled) (steps : List Step) : Type 0 where
   pub cut : x.roles ≡ before ++ role ∷ rest
   pub apart : List Process
   pub last : Process
@@ -72,7 +78,8 @@ pub record Spreads (x : n.Narration) (file : Meant) (before : List SWord) (role 
   pub places : pool.configuration.places ≡ beside_stop (apart ++ last ∷ [])
   pub names : pool.configuration.names ≡ (begins x).names
   pub replays : Replays (opening file) steps [] pool
-  pub order : honest_steps x ≡ steps ++ (role_steps (place_number (length before)) (2 + length before) rest ++ steps_behind x)
+  pub order : honest_steps x ≡ steps
+      ++ (role_steps (place_number (length before)) (2 + length before) rest ++ steps_behind x)
   pub few_names : pool.configuration.names ≤ 100016
   pub most : pool.most ≡ 5000
 

@@ -17,7 +17,8 @@ abbrev pub line_steps : (Word → ℕ) → ℕ → List n.Line → List Step
 line_steps place k [] = []
 line_steps place k (n.local s r f ∷ ls) = act (place r.word) ∷ line_steps place k ls
 line_steps place k (n.pass s from to c m x ∷ ls) =
-    act (place from.word) ∷ talk (place from.word) (moved from.word k place to.word) ∷ line_steps (moved from.word k place) (suc k) ls
+    act (place from.word) ∷ talk (place from.word) (moved from.word k place to.word)
+    ∷ line_steps (moved from.word k place) (suc k) ls
 
 -- one act for each shared name
 abbrev pub shared_steps : List Shared → List Step
@@ -45,4 +46,6 @@ others (r ∷ rs) = rs
 
 -- the steps in their order
 abbrev pub honest_steps : n.Narration → List Step
-honest_steps x = shared_steps x.shared ++ role_steps 0 2 (others x.roles) ++ line_steps (places_of x.roles) (2 + length (others x.roles)) x.lines
+honest_steps x =
+    shared_steps x.shared ++ role_steps 0 2 (others x.roles)
+    ++ line_steps (places_of x.roles) (2 + length (others x.roles)) x.lines

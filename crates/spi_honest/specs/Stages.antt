@@ -26,7 +26,8 @@ pub record TookStep (old new : Stage) (s : Step) : Type 0 where
   pub event : Option Event
   pub taken : IsTaken old.pool s event new.pool
   pub steps : map step new.steps.items ≡ map step old.steps.items ++ s ∷ []
-  pub events : map Rattle.spi_run.specs.View.event new.events.items ≡ map Rattle.spi_run.specs.View.event old.events.items ++ option_to_list event
+  pub events : map Rattle.spi_run.specs.View.event new.events.items
+      ≡ map Rattle.spi_run.specs.View.event old.events.items ++ option_to_list event
   pub places : new.places.items ≡ old.places.items
 
 -- the places that the step names are there, and no place too many comes by it
@@ -38,7 +39,8 @@ pub record IsRoomy (p : Pooled) (s : Step) : Type 0 where
 abbrev pub IsRefused : Pooled → Step → ℕ → HonestFault → Type 0
 IsRefused p s line (LineNotReady k) = (k ≡ line) × (IsReady p.configuration s → ⊥)
 IsRefused p s line (NarratedTooLarge k nodes) =
-    (k ≡ line) × IsReady p.configuration s × (message_most < largest (bound_by p.configuration s)) × (nodes ≡ stopped (largest (bound_by p.configuration s)))
+    (k ≡ line) × IsReady p.configuration s × (message_most < largest (bound_by p.configuration s))
+    × (nodes ≡ stopped (largest (bound_by p.configuration s)))
 IsRefused p s line NoMemory = ⊥
 
 -- the process at a place puts out, or takes in, on this channel
@@ -70,7 +72,8 @@ pub record SpreadsTo (x : n.Narration) (file : Meant) (i : ℕ) (st : Stage) : T
   pub quiet : events_in st ≡ []
 
 abbrev pub ToldTo : n.Narration → Meant → ℕ → Stage → Type 0
-ToldTo x file i st = Progress x file (take i x.lines) (drop i x.lines) st.pool (steps_in st) (events_in st) st.places.items
+ToldTo x file i st =
+    Progress x file (take i x.lines) (drop i x.lines) st.pool (steps_in st) (events_in st) st.places.items
 
 -- the line with this number is of the role with this number, or is a message between roles with these numbers
 pub record IsLocalAt (x : n.Narration) (at j : ℕ) : Type 0 where
@@ -99,10 +102,13 @@ pub record IsParted (x : n.Narration) (file : Meant) (at j k i out : ℕ) (st : 
   pub steps : List Step
   pub events : List Event
   pub is : List ℕ
-  pub told : Progress x file (take at x.lines) (n.pass line.span line.from line.to line.channel line.datum line.name ∷ drop (suc at) x.lines) pool steps events is
+  pub told : Progress x file (take at x.lines)
+      (n.pass line.span line.from line.to line.channel line.datum line.name ∷ drop (suc at) x.lines) pool
+      steps events is
   pub event : Option Event
   pub taken : IsTaken pool (act (told.place line.from.word)) event st.pool
   pub place : out ≡ told.place line.from.word
   pub steps_now : steps_in st ≡ steps ++ act (told.place line.from.word) ∷ []
   pub events_now : events_in st ≡ events ++ option_to_list event
-  pub located : Locates x.roles (moved line.from.word (length pool.configuration.places) told.place) st.places.items
+  pub located : Locates x.roles (moved line.from.word (length pool.configuration.places) told.place)
+      st.places.items

@@ -48,7 +48,8 @@ fn part(
     requires tellable { IsTellable (narration_of n.now) }
     requires line { IsPassAt (narration_of n.now) at from to channel }
     requires told { ToldTo (narration_of n.now) (meant file.now) at stage.old }
-    ensures parted { IfOk result (λ out. IsParted (narration_of n.now) (meant file.now) at from to channel out stage.new) }
+    ensures parted { IfOk result
+        (λ out. IsParted (narration_of n.now) (meant file.now) at from to channel out stage.new) }
     ensures err { IfErr result (λ e. e ≡ HonestFault.NoMemory) }
 {
     let out = stage.places[from];

@@ -46,7 +46,8 @@ fn start<'p>(
 fn share(stage: &mut Stage<'_>, n: &Narration, file: &File) -> Result<(), HonestFault>
     requires tellable { IsTellable (narration_of n.now) }
     requires shares { SharesTo (narration_of n.now) (meant file.now) 0 stage.old }
-    ensures shares { OnOk result (SharesTo (narration_of n.now) (meant file.now) (length n.now.shared.items) stage.new) }
+    ensures shares { OnOk result
+        (SharesTo (narration_of n.now) (meant file.now) (length n.now.shared.items) stage.new) }
     ensures err { OnErr result (result ≡ Err HonestFault.NoMemory) }
 {
     for _i in 0..n.shared.len() {
@@ -59,7 +60,8 @@ fn share(stage: &mut Stage<'_>, n: &Narration, file: &File) -> Result<(), Honest
 fn spread(stage: &mut Stage<'_>, n: &Narration, file: &File) -> Result<(), HonestFault>
     requires tellable { IsTellable (narration_of n.now) }
     requires spreads { SpreadsTo (narration_of n.now) (meant file.now) 0 stage.old }
-    ensures spreads { OnOk result (SpreadsTo (narration_of n.now) (meant file.now) (length n.now.more.items) stage.new) }
+    ensures spreads { OnOk result
+        (SpreadsTo (narration_of n.now) (meant file.now) (length n.now.more.items) stage.new) }
     ensures err { OnErr result (result ≡ Err HonestFault.NoMemory) }
 {
     for i in 0..n.more.len() {

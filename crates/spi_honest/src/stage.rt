@@ -52,7 +52,8 @@ impl Stage<'_> {
 
 // Appends an event, where there is one.
 fn note(events: &mut Vec<Event>, event: Option<Event>) -> Result<(), NoMemory>
-    ensures { OnOk result (map event_of events.new.items ≡ map event_of events.old.items ++ option_to_list (event_in event)) }
+    ensures { OnOk result
+        (map event_of events.new.items ≡ map event_of events.old.items ++ option_to_list (event_in event)) }
 {
     match event {
         None => Ok(()),
@@ -67,7 +68,9 @@ fn note(events: &mut Vec<Event>, event: Option<Event>) -> Result<(), NoMemory>
 pub fn take(stage: &mut Stage<'_>, step: Step) -> Result<(), StepFault>
     requires { stage.old.pool.configuration.names < 2 ^ 32 - 1 }
     ensures taken { OnOk result (TookStep stage.old stage.new (step_of step)) }
-    ensures refused { IfErr result (λ f. (f ≡ StepFault.NoMemory) ⊎ Refuses stage.old.pool.configuration stage.old.pool.most (step_of step) f) }
+    ensures refused { IfErr result
+        (λ f. (f ≡ StepFault.NoMemory)
+        ⊎ Refuses stage.old.pool.configuration stage.old.pool.most (step_of step) f) }
 {
     match stage.pool.step(step) {
         Ok(event) => {
@@ -100,7 +103,8 @@ pub fn attempt(stage: &mut Stage<'_>, step: Step, line: u32) -> Result<(), Hones
     requires names { stage.old.pool.configuration.names < 2 ^ 32 - 1 }
     requires roomy { IsRoomy stage.old.pool (step_of step) }
     ensures taken { OnOk result (TookStep stage.old stage.new (step_of step)) }
-    ensures refused { IfErr result (λ f. (f ≡ HonestFault.NoMemory) ⊎ IsRefused stage.old.pool (step_of step) line f) }
+    ensures refused { IfErr result
+        (λ f. (f ≡ HonestFault.NoMemory) ⊎ IsRefused stage.old.pool (step_of step) line f) }
 {
     match take(stage, step) {
         Ok(()) => Ok(()),
@@ -124,7 +128,9 @@ fn is_in(places: &[u32], place: u32) -> bool
 
 /// Whether an output and an input on the channel of this name stand at these places.
 pub fn meets(pool: &Pool<'_>, channel: u32, out: u32, inp: u32) -> bool
-    ensures { IsTrue result ↔ (PutsAt (name channel) pool.now.configuration.places out × TakesAt (name channel) pool.now.configuration.places inp) }
+    ensures { IsTrue result
+        ↔ (PutsAt (name channel) pool.now.configuration.places out
+        × TakesAt (name channel) pool.now.configuration.places inp) }
 {
     let channel = Msg::Name(channel);
     is_in(pool.outs_on(&channel), out) && is_in(pool.ins_on(&channel), inp)

@@ -19,7 +19,8 @@ unplaced (None ∷ ps) = suc (unplaced ps)
 abbrev pub Adds : ℕ → Why → List Reached → List (Option ℕ) → List Reached → List (Option ℕ) → Type 0
 Adds n why order places order' places' =
     (Stands places n × (order' ≡ order) × (places' ≡ places))
-    ⊎ ((slice_get places n ≡ Some None) × (order' ≡ order ++ reached n why ∷ []) × (places' ≡ slice_set places n (Some (length order))))
+    ⊎ ((slice_get places n ≡ Some None) × (order' ≡ order ++ reached n why ∷ [])
+    × (places' ≡ slice_set places n (Some (length order))))
 
 -- and after the rule number k was tried
 abbrev pub Tries : Rule → ℕ → List Reached → List (Option ℕ) → List Reached → List (Option ℕ) → Type 0
@@ -32,13 +33,16 @@ abbrev pub IsLeft : List ℕ → ℕ → ℕ → Type 0
 IsLeft ks i k = (j : ℕ) × (i ≤ j) × (slice_get ks j ≡ Some k)
 
 -- the numbers before c were looked at: each rule with both premises there has given its conclusion, or is left
-pub record IsGood (rules : List Rule) (start : List ℕ) (order : List Reached) (places : List (Option ℕ)) (c : ℕ) (left : List ℕ) (i : ℕ) : Type 0 where
+pub record IsGood (rules : List Rule) (start : List ℕ) (order : List Reached) (places : List (Option ℕ))
+    (c : ℕ) (left : List ℕ) (i : ℕ) : Type 0 where
   pub ordered : IsOrder rules start order places
   pub count : unplaced places + length order ≡ length places
   pub ahead : c ≤ length order
-  pub done : (k : ℕ) (r : Rule) (s t : ℕ) → slice_get rules k ≡ Some r → StandsAt places r.first s → StandsAt places r.second t
+  pub done : (k : ℕ) (r : Rule) (s t : ℕ) → slice_get rules k ≡ Some r → StandsAt places r.first s
+      → StandsAt places r.second t
       → Stands places r.gives ⊎ ((c ≤ s) ⊎ ((c ≤ t) ⊎ IsLeft left i k))
 
 -- each place is kept
 abbrev pub Keeps : List (Option ℕ) → List (Option ℕ) → Type 0
-Keeps places places' = (length places' ≡ length places) × ((n t : ℕ) → StandsAt places n t → StandsAt places' n t)
+Keeps places places' = (length places' ≡ length places)
+    × ((n t : ℕ) → StandsAt places n t → StandsAt places' n t)

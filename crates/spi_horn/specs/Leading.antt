@@ -7,7 +7,8 @@ use Rattle.spi_horn.specs.declared.rules.Why.TheVariants.{Start, ByRule}
 
 -- the rules speak of numbers below n, and so does the start
 abbrev pub IsWithin : ℕ → List Rule → Type 0
-IsWithin n rules = (k : ℕ) (r : Rule) → slice_get rules k ≡ Some r → (r.first < n) × (r.second < n) × (r.gives < n)
+IsWithin n rules = (k : ℕ) (r : Rule) → slice_get rules k ≡ Some r
+    → (r.first < n) × (r.second < n) × (r.gives < n)
 
 abbrev pub StartsWithin : ℕ → List ℕ → Type 0
 StartsWithin n start = (j x : ℕ) → slice_get start j ≡ Some x → x < n
@@ -32,16 +33,20 @@ StandsBefore places t n = (s : ℕ) × (s < t) × StandsAt places n s
 abbrev pub IsReason : List Rule → List ℕ → List (Option ℕ) → ℕ → ℕ → Why → Type 0
 IsReason rules start places t n (Start j) = slice_get start j ≡ Some n
 IsReason rules start places t n (ByRule k) =
-    (r : Rule) × (slice_get rules k ≡ Some r) × (r.gives ≡ n) × StandsBefore places t r.first × StandsBefore places t r.second
+    (r : Rule) × (slice_get rules k ≡ Some r) × (r.gives ≡ n) × StandsBefore places t r.first
+    × StandsBefore places t r.second
 
 -- numbers in an order, each once, with its place and with a reason that looks back
-pub record IsOrder (rules : List Rule) (start : List ℕ) (order : List Reached) (places : List (Option ℕ)) : Type 0 where
+pub record IsOrder (rules : List Rule) (start : List ℕ) (order : List Reached)
+    (places : List (Option ℕ)) : Type 0 where
   pub placed : (n t : ℕ) → StandsAt places n t → (x : Reached) × (slice_get order t ≡ Some x) × (x.number ≡ n)
   pub stands : (t : ℕ) (x : Reached) → slice_get order t ≡ Some x → StandsAt places x.number t
-  pub reasons : (t : ℕ) (x : Reached) → slice_get order t ≡ Some x → IsReason rules start places t x.number x.why
+  pub reasons : (t : ℕ) (x : Reached) → slice_get order t ≡ Some x
+      → IsReason rules start places t x.number x.why
 
 -- exactly what the rules lead to has a place: the start has, no rule adds another, and what has one is derived
 pub record IsLeast (rules : List Rule) (start : List ℕ) (places : List (Option ℕ)) : Type 0 where
   pub started : (j n : ℕ) → slice_get start j ≡ Some n → Stands places n
-  pub closed : (k : ℕ) (r : Rule) → slice_get rules k ≡ Some r → Stands places r.first → Stands places r.second → Stands places r.gives
+  pub closed : (k : ℕ) (r : Rule) → slice_get rules k ≡ Some r → Stands places r.first
+      → Stands places r.second → Stands places r.gives
   pub derived : (n : ℕ) → Stands places n → Derived rules start n

@@ -18,4 +18,5 @@ WaitsAt lists p k = (ks : List ℕ) → slice_get lists p ≡ Some ks → (i : �
 pub record Waits (rules : List Rule) (n : ℕ) (lists : List (List ℕ)) : Type 0 where
   pub first : (k : ℕ) (r : Rule) → k < n → slice_get rules k ≡ Some r → WaitsAt lists r.first k
   pub second : (k : ℕ) (r : Rule) → k < n → slice_get rules k ≡ Some r → WaitsAt lists r.second k
-  pub within : (p : ℕ) (ks : List ℕ) → slice_get lists p ≡ Some ks → (i k : ℕ) → slice_get ks i ≡ Some k → k < length rules
+  pub within : (p : ℕ) (ks : List ℕ) → slice_get lists p ≡ Some ks → (i k : ℕ) → slice_get ks i ≡ Some k
+      → k < length rules

@@ -27,7 +27,9 @@ fn is_found(closure: &Closure, n: usize) -> bool
 
 fn add(closure: &mut Closure, n: usize, why: Why) -> Result<(), NoMemory>
     requires { n < length closure.old.places.items }
-    ensures { OnOk result (Adds n why closure.old.order.items closure.old.places.items closure.new.order.items closure.new.places.items) }
+    ensures { OnOk result
+        (Adds n why closure.old.order.items closure.old.places.items closure.new.order.items
+        closure.new.places.items) }
 {
     if !is_found(closure, n) {
         let place = closure.order.len();
@@ -41,7 +43,9 @@ fn try_rule(closure: &mut Closure, rule: Rule, k: usize) -> Result<(), NoMemory>
     requires first { rule.first < length closure.old.places.items }
     requires second { rule.second < length closure.old.places.items }
     requires gives { rule.gives < length closure.old.places.items }
-    ensures { OnOk result (Tries rule k closure.old.order.items closure.old.places.items closure.new.order.items closure.new.places.items) }
+    ensures { OnOk result
+        (Tries rule k closure.old.order.items closure.old.places.items closure.new.order.items
+        closure.new.places.items) }
 {
     if is_found(closure, rule.first) && is_found(closure, rule.second) {
         add(closure, rule.gives, Why::ByRule(k))?;
@@ -53,7 +57,10 @@ fn try_rule(closure: &mut Closure, rule: Rule, k: usize) -> Result<(), NoMemory>
 fn fire(rules: &[Rule], waiting: &Waiting, closure: &mut Closure) -> Result<(), NoMemory>
     requires rules { IsWithin (length closure.old.places.items) rules.now }
     requires tried { StartsWithin (length rules.now) (numbers waiting.now) }
-    ensures good { OnOk result ((start : List ℕ) (c : ℕ) → IsGood rules.now start closure.old.order.items closure.old.places.items c (numbers waiting.now) 0 → IsGood rules.now start closure.new.order.items closure.new.places.items c [] 0) }
+    ensures good { OnOk result
+        ((start : List ℕ) (c : ℕ)
+        → IsGood rules.now start closure.old.order.items closure.old.places.items c (numbers waiting.now) 0
+        → IsGood rules.now start closure.new.order.items closure.new.places.items c [] 0) }
     ensures keeps { OnOk result (Keeps closure.old.places.items closure.new.places.items) }
 {
     for k in &waiting.rules {
@@ -67,8 +74,11 @@ fn start_all(start: &[usize], closure: &mut Closure) -> Result<(), NoMemory>
     requires within { StartsWithin (length closure.old.places.items) start.now }
     requires order { closure.old.order.items ≡ [] }
     requires places { closure.old.places.items ≡ replicate (length closure.old.places.items) None }
-    ensures good { OnOk result ((rules : List Rule) → IsGood rules start.now closure.new.order.items closure.new.places.items 0 [] 0) }
-    ensures started { OnOk result ((j n : ℕ) → slice_get start.now j ≡ Some n → Stands closure.new.places.items n) }
+    ensures good { OnOk result
+        ((rules : List Rule)
+        → IsGood rules start.now closure.new.order.items closure.new.places.items 0 [] 0) }
+    ensures started { OnOk result
+        ((j n : ℕ) → slice_get start.now j ≡ Some n → Stands closure.new.places.items n) }
     ensures count { OnOk result (length closure.new.places.items ≡ length closure.old.places.items) }
 {
     for (j, n) in start.iter().enumerate() {
@@ -82,8 +92,12 @@ fn reach_all(rules: &[Rule], lists: &[Waiting], closure: &mut Closure) -> Result
     requires rules { IsWithin (length closure.old.places.items) rules.now }
     requires waits { Waits rules.now (length rules.now) (map numbers lists.now) }
     requires same { length lists.now ≡ length closure.old.places.items }
-    requires begun { (start : List ℕ) × IsGood rules.now start closure.old.order.items closure.old.places.items 0 [] 0 }
-    ensures good { OnOk result ((start : List ℕ) → IsGood rules.now start closure.old.order.items closure.old.places.items 0 [] 0 → IsGood rules.now start closure.new.order.items closure.new.places.items (length closure.new.order.items) [] 0) }
+    requires begun { (start : List ℕ)
+        × IsGood rules.now start closure.old.order.items closure.old.places.items 0 [] 0 }
+    ensures good { OnOk result
+        ((start : List ℕ) → IsGood rules.now start closure.old.order.items closure.old.places.items 0 [] 0
+        → IsGood rules.now start closure.new.order.items closure.new.places.items
+        (length closure.new.order.items) [] 0) }
     ensures keeps { OnOk result (Keeps closure.old.places.items closure.new.places.items) }
 {
     let mut cursor = 0;
@@ -107,7 +121,8 @@ pub fn close(
     requires rules { IsWithin count rules.now }
     requires start { StartsWithin count start.now }
     ensures least { IfOk result (λ closure. IsLeast rules.now start.now closure.places.items) }
-    ensures order { IfOk result (λ closure. IsOrder rules.now start.now closure.order.items closure.places.items) }
+    ensures order { IfOk result
+        (λ closure. IsOrder rules.now start.now closure.order.items closure.places.items) }
     ensures count { IfOk result (λ closure. length closure.places.items ≡ count) }
     ensures few { IfOk result (λ closure. length closure.order.items ≤ count) }
 {

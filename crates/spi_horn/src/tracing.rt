@@ -38,7 +38,8 @@ fn mark(closure: &Closure, marks: &mut [bool], n: usize)
 fn spread(rules: &[Rule], closure: &Closure, marks: &mut [bool], t: usize)
     requires within { t < length marks.old }
     requires short { length marks.old ≤ length closure.now.order.items }
-    requires order { (start : List ℕ) × IsOrder rules.now start closure.now.order.items closure.now.places.items }
+    requires order { (start : List ℕ)
+        × IsOrder rules.now start closure.now.order.items closure.now.places.items }
     ensures { Spreads rules.now closure.now.order.items closure.now.places.items t marks.old marks.new }
 {
     if marks[t] {
@@ -55,8 +56,11 @@ fn spread(rules: &[Rule], closure: &Closure, marks: &mut [bool], t: usize)
 
 fn spread_all(rules: &[Rule], closure: &Closure, marks: &mut [bool])
     requires short { length marks.old ≤ length closure.now.order.items }
-    requires order { (start : List ℕ) × IsOrder rules.now start closure.now.order.items closure.now.places.items }
-    ensures spread { (goal : ℕ) → IsSpread rules.now closure.now.order.items closure.now.places.items goal (length marks.old) marks.old → IsSpread rules.now closure.now.order.items closure.now.places.items goal 0 marks.new }
+    requires order { (start : List ℕ)
+        × IsOrder rules.now start closure.now.order.items closure.now.places.items }
+    ensures spread { (goal : ℕ)
+        → IsSpread rules.now closure.now.order.items closure.now.places.items goal (length marks.old)
+        marks.old → IsSpread rules.now closure.now.order.items closure.now.places.items goal 0 marks.new }
     ensures count { length marks.new ≡ length marks.old }
 {
     let mut t = marks.len();
@@ -77,7 +81,8 @@ fn line_of(closure: &Closure, line_at: &[usize], n: usize) -> usize
 }
 
 fn ground_of(rules: &[Rule], closure: &Closure, line_at: &[usize], why: Why) -> Ground
-    requires { (start : List ℕ) × (t : ℕ) × (n : ℕ) × (t < length line_at.now) × IsReason rules.now start closure.now.places.items t n why }
+    requires { (start : List ℕ) × (t : ℕ) × (n : ℕ) × (t < length line_at.now)
+        × IsReason rules.now start closure.now.places.items t n why }
     ensures { SaysWhy rules.now closure.now.places.items line_at.now why result }
 {
     match why {
@@ -95,7 +100,8 @@ fn ground_of(rules: &[Rule], closure: &Closure, line_at: &[usize], why: Why) -> 
 fn line_for(rules: &[Rule], closure: &Closure, line_at: &[usize], t: usize) -> Line
     requires within { t < length closure.now.order.items }
     requires long { t < length line_at.now }
-    requires order { (start : List ℕ) × IsOrder rules.now start closure.now.order.items closure.now.places.items }
+    requires order { (start : List ℕ)
+        × IsOrder rules.now start closure.now.order.items closure.now.places.items }
     ensures { SaysAt rules.now closure.now.order.items closure.now.places.items line_at.now t result }
 {
     let reached = closure.order[t];
@@ -117,9 +123,13 @@ fn write_at(
 ) -> Result<(), NoMemory>
     requires within { t < length marks.now }
     requires short { length marks.now ≤ length closure.now.order.items }
-    requires order { (start : List ℕ) × IsOrder rules.now start closure.now.order.items closure.now.places.items }
-    requires written { IsWritten rules.now closure.now.order.items closure.now.places.items marks.now t lines.old.items line_at.old.items }
-    ensures { OnOk result (IsWritten rules.now closure.now.order.items closure.now.places.items marks.now (t + 1) lines.new.items line_at.new.items) }
+    requires order { (start : List ℕ)
+        × IsOrder rules.now start closure.now.order.items closure.now.places.items }
+    requires written { IsWritten rules.now closure.now.order.items closure.now.places.items marks.now t
+        lines.old.items line_at.old.items }
+    ensures { OnOk result
+        (IsWritten rules.now closure.now.order.items closure.now.places.items marks.now (t + 1)
+        lines.new.items line_at.new.items) }
 {
     line_at.push(lines.len())?;
     if marks[t] {
@@ -137,8 +147,12 @@ fn write(
     marks: &[bool],
 ) -> Result<Vec<Line>, NoMemory>
     requires short { length marks.now ≤ length closure.now.order.items }
-    requires order { (start : List ℕ) × IsOrder rules.now start closure.now.order.items closure.now.places.items }
-    ensures written { IfOk result (λ lines. (line_at : List ℕ) × IsWritten rules.now closure.now.order.items closure.now.places.items marks.now (length marks.now) lines.items line_at) }
+    requires order { (start : List ℕ)
+        × IsOrder rules.now start closure.now.order.items closure.now.places.items }
+    ensures written { IfOk result
+        (λ lines. (line_at : List ℕ)
+        × IsWritten rules.now closure.now.order.items closure.now.places.items marks.now (length marks.now)
+        lines.items line_at) }
     ensures few { IfOk result (λ lines. length lines.items ≤ length marks.now) }
 {
     let mut lines = Vec::new(alloc);
@@ -157,8 +171,10 @@ fn needed(
     place: usize,
 ) -> Result<Vec<bool>, NoMemory>
     requires within { place < length closure.now.order.items }
-    requires order { (start : List ℕ) × IsOrder rules.now start closure.now.order.items closure.now.places.items }
-    ensures spread { IfOk result (λ marks. IsSpread rules.now closure.now.order.items closure.now.places.items place 0 marks.items) }
+    requires order { (start : List ℕ)
+        × IsOrder rules.now start closure.now.order.items closure.now.places.items }
+    ensures spread { IfOk result
+        (λ marks. IsSpread rules.now closure.now.order.items closure.now.places.items place 0 marks.items) }
     ensures count { IfOk result (λ marks. length marks.items ≡ place + 1) }
 {
     let mut marks = vec![in alloc; false; place + 1]?;
@@ -176,8 +192,12 @@ pub fn trace(
     place: usize,
 ) -> Result<Vec<Line>, NoMemory>
     requires within { place < length closure.now.order.items }
-    requires order { (start : List ℕ) × IsOrder rules.now start closure.now.order.items closure.now.places.items }
-    ensures proves { IfOk result (λ lines. (start : List ℕ) (target : ℕ) → IsOrder rules.now start closure.now.order.items closure.now.places.items → StandsAt closure.now.places.items target place → Proves rules.now start lines.items target) }
+    requires order { (start : List ℕ)
+        × IsOrder rules.now start closure.now.order.items closure.now.places.items }
+    ensures proves { IfOk result
+        (λ lines. (start : List ℕ) (target : ℕ)
+        → IsOrder rules.now start closure.now.order.items closure.now.places.items
+        → StandsAt closure.now.places.items target place → Proves rules.now start lines.items target) }
     ensures few { IfOk result (λ lines. length lines.items ≤ place + 1) }
 {
     let marks = needed(alloc, rules, closure, place)?;

@@ -28,27 +28,35 @@ use Rattle.spi_count.specs.Adding.{SumOf}
 -- what a form that binds the name k, or two names from k on, does to an effect
 abbrev pub AfterOne : ℕ → Sum → Option Sum → Type 0
 AfterOne k sum r =
-    (s : Store) (keys : Keys) (es : Effect) → IsKeyed s keys → SumOf s keys sum es → Below (k + 1) es → StandsFor (with_keys s keys) r (unless (mentions k es) es)
+    (s : Store) (keys : Keys) (es : Effect) → IsKeyed s keys → SumOf s keys sum es → Below (k + 1) es
+    → StandsFor (with_keys s keys) r (unless (mentions k es) es)
 
 abbrev pub AfterTwo : ℕ → Sum → Option Sum → Type 0
 AfterTwo k sum r =
-    (s : Store) (keys : Keys) (es : Effect) → IsKeyed s keys → SumOf s keys sum es → Below (k + 2) es → StandsFor (with_keys s keys) r (unless (mentions k es || mentions (suc k) es) es)
+    (s : Store) (keys : Keys) (es : Effect) → IsKeyed s keys → SumOf s keys sum es → Below (k + 2) es
+    → StandsFor (with_keys s keys) r (unless (mentions k es || mentions (suc k) es) es)
 
 abbrev pub AfterServe : ℕ → Sum → Option Sum → Type 0
 AfterServe k sum r =
-    (s : Store) (keys : Keys) (es : Effect) → IsKeyed s keys → SumOf s keys sum es → Below (k + 1) es → StandsFor (with_keys s keys) r (keep (are_many es) (unless (mentions k es) es))
+    (s : Store) (keys : Keys) (es : Effect) → IsKeyed s keys → SumOf s keys sum es → Below (k + 1) es
+    → StandsFor (with_keys s keys) r (keep (are_many es) (unless (mentions k es) es))
 
 abbrev pub AfterMake : ℕ → Store → Keys → Sum → Option Sum → Type 0
 AfterMake k s keys sum r =
-    (es : Effect) → IsKeyed s keys → SumOf s keys sum es → Below (k + 1) es → StandsFor (with_keys s keys) r (unless (mentions k (minus es (checks (name k) ∷ []))) (minus es (checks (name k) ∷ [])))
+    (es : Effect) → IsKeyed s keys → SumOf s keys sum es → Below (k + 1) es
+    → StandsFor (with_keys s keys) r
+    (unless (mentions k (minus es (checks (name k) ∷ []))) (minus es (checks (name k) ∷ [])))
 
 abbrev pub AfterCast : ℕ → Store → Keys → TyId → Sum → Option Sum → Type 0
 AfterCast k s keys t sum r =
-    (u : Ty) (es : Effect) → IsKeyed s keys → Means s t.place u → HaveKeys s keys (cast_effect_of u) → SumOf s keys sum es → Below (k + 1) es → StandsFor (with_keys s keys) r (unless (mentions k es) (es ++ cast_effect_of u))
+    (u : Ty) (es : Effect) → IsKeyed s keys → Means s t.place u → HaveKeys s keys (cast_effect_of u)
+    → SumOf s keys sum es → Below (k + 1) es
+    → StandsFor (with_keys s keys) r (unless (mentions k es) (es ++ cast_effect_of u))
 
 abbrev pub AfterCheck : Store → Keys → MsgId → Option TyId → Sum → Option Sum → Type 0
 AfterCheck s keys id t sum r =
-    (m : Message) (paid : Option Effect) (es : Effect) → IsKeyed s keys → with_keys s keys id.place m → PaidFits s t paid → SumOf s keys sum es → StandsFor (with_keys s keys) r (checked paid m es)
+    (m : Message) (paid : Option Effect) (es : Effect) → IsKeyed s keys → with_keys s keys id.place m
+    → PaidFits s t paid → SumOf s keys sum es → StandsFor (with_keys s keys) r (checked paid m es)
 
 -- the type of a nonce is one of the store
 abbrev pub MayBeType : Store → Option TyId → Type 0
@@ -63,16 +71,20 @@ BelowIn (fork_at k f a r) es = Below (k + fork_binds f) es
 
 abbrev pub AfterForm : Store → Keys → Shape → Own → Sum → Option Sum → Type 0
 AfterForm s keys x own sum r =
-    (paid : Option Effect) (es : Effect) → IsKeyed s keys → Fits s (with_keys s keys) x paid own → SumOf s keys sum es → BelowIn x es → StandsFor (with_keys s keys) r (after_shape x paid es)
+    (paid : Option Effect) (es : Effect) → IsKeyed s keys → Fits s (with_keys s keys) x paid own
+    → SumOf s keys sum es → BelowIn x es → StandsFor (with_keys s keys) r (after_shape x paid es)
 
 -- what a form with two processes does to theirs
 abbrev pub BothForm : Shape → Sum → Sum → Option Sum → Type 0
 BothForm x a b r =
-    (s : Store) (keys : Keys) (es fs : Effect) → IsKeyed s keys → SumOf s keys a es → SumOf s keys b fs → BelowIn x es → BelowIn x fs → StandsFor (with_keys s keys) r (both_shape x es fs)
+    (s : Store) (keys : Keys) (es fs : Effect) → IsKeyed s keys → SumOf s keys a es → SumOf s keys b fs
+    → BelowIn x es → BelowIn x fs → StandsFor (with_keys s keys) r (both_shape x es fs)
 
 abbrev pub BothCase : ℕ → Sum → Sum → Option Sum → Type 0
 BothCase k a b r =
-    (s : Store) (keys : Keys) (es fs : Effect) → IsKeyed s keys → SumOf s keys a es → SumOf s keys b fs → Below (k + 1) es → Below (k + 1) fs → StandsFor (with_keys s keys) r (unless (mentions k es || mentions k fs) (greater es fs))
+    (s : Store) (keys : Keys) (es fs : Effect) → IsKeyed s keys → SumOf s keys a es → SumOf s keys b fs
+    → Below (k + 1) es → Below (k + 1) fs
+    → StandsFor (with_keys s keys) r (unless (mentions k es || mentions k fs) (greater es fs))
 
 -- by what is kept of the form
 abbrev pub OwnCheck : Store → Keys → Own → Sum → Option Sum → Type 0
@@ -82,19 +94,26 @@ abbrev pub OwnCast : ℕ → Store → Keys → Own → Sum → Option Sum → T
 OwnCast k s keys own sum r = (t : TyId) → own ≡ Cast t → AfterCast k s keys t sum r
 
 abbrev pub OwnMake : ℕ → Keys → Own → Sum → Option Sum → Type 0
-OwnMake k keys own sum r = (s : Store) (id : MsgId) → own ≡ Made id → slice_get s.messages id.place ≡ Some (name k) → AfterMake k s keys sum r
+OwnMake k keys own sum r = (s : Store) (id : MsgId) → own ≡ Made id
+    → slice_get s.messages id.place ≡ Some (name k) → AfterMake k s keys sum r
 
 abbrev pub OwnBegin : Keys → Own → Sum → Option Sum → Type 0
 OwnBegin keys own sum r =
-    (s : Store) (id : MsgId) (m : Message) (es : Effect) → own ≡ Label id → IsKeyed s keys → slice_get s.messages id.place ≡ Some m → SumOf s keys sum es → StandsFor (with_keys s keys) r (Some (minus es (ends m ∷ (many m ∷ []))))
+    (s : Store) (id : MsgId) (m : Message) (es : Effect) → own ≡ Label id → IsKeyed s keys
+    → slice_get s.messages id.place ≡ Some m → SumOf s keys sum es
+    → StandsFor (with_keys s keys) r (Some (minus es (ends m ∷ (many m ∷ []))))
 
 abbrev pub OwnEnd : Keys → Own → Sum → Option Sum → Type 0
 OwnEnd keys own sum r =
-    (s : Store) (id : MsgId) (m : Message) (es : Effect) → own ≡ Label id → IsKeyed s keys → with_keys s keys id.place m → SumOf s keys sum es → StandsFor (with_keys s keys) r (Some (es ++ ends m ∷ []))
+    (s : Store) (id : MsgId) (m : Message) (es : Effect) → own ≡ Label id → IsKeyed s keys
+    → with_keys s keys id.place m → SumOf s keys sum es
+    → StandsFor (with_keys s keys) r (Some (es ++ ends m ∷ []))
 
 abbrev pub OwnMany : Keys → Own → Sum → Option Sum → Type 0
 OwnMany keys own sum r =
-    (s : Store) (id : MsgId) (m : Message) (es : Effect) → own ≡ Label id → IsKeyed s keys → with_keys s keys id.place m → SumOf s keys sum es → StandsFor (with_keys s keys) r (Some (es ++ many m ∷ []))
+    (s : Store) (id : MsgId) (m : Message) (es : Effect) → own ≡ Label id → IsKeyed s keys
+    → with_keys s keys id.place m → SumOf s keys sum es
+    → StandsFor (with_keys s keys) r (Some (es ++ many m ∷ []))
 
 -- the types that are kept are of the store
 abbrev pub CheckGiven : Store → Own → Type 0
@@ -145,7 +164,8 @@ abbrev pub Tops : Store → Keys → List (Option Sum) → List (Option Effect) 
 Tops s keys os st = TopsStand (with_keys s keys) (reverse os) st
 
 -- before a node is acted on
-pub record IsBefore (s : Store) (keys : Keys) (x : Shape) (o : OwnNote) (os : List (Option Sum)) (n : Note) (st : List (Option Effect)) : Type 0 where
+pub record IsBefore (s : Store) (keys : Keys) (x : Shape) (o : OwnNote) (os : List (Option Sum)) (n : Note)
+    (st : List (Option Effect)) : Type 0 where
   pub keyed : IsKeyed s keys
   pub noted : NotedAs s (with_keys s keys) x n o
   pub behind : Behind x st

@@ -29,12 +29,16 @@ FormFits s At k (Serves m t) paid own = ⊤
 FormFits s At k (Splits m t u) paid own = ⊤
 FormFits s At k (Selects m t n u) paid own = ⊤
 FormFits s At k (Decrypts m t n) paid own = ⊤
-FormFits s At k (Checks m n) paid own = (id : MsgId) × (t : Option TyId) × (own ≡ Checked id t) × At id.place m × PaidFits s t paid
-FormFits s At k (Begins m) paid own = (id : MsgId) × (own ≡ Label id) × (slice_get s.messages id.place ≡ Some m)
+FormFits s At k (Checks m n) paid own = (id : MsgId) × (t : Option TyId) × (own ≡ Checked id t)
+    × At id.place m × PaidFits s t paid
+FormFits s At k (Begins m) paid own = (id : MsgId) × (own ≡ Label id)
+    × (slice_get s.messages id.place ≡ Some m)
 FormFits s At k (Ends m) paid own = (id : MsgId) × (own ≡ Label id) × At id.place m
 FormFits s At k (EndManys m) paid own = (id : MsgId) × (own ≡ Label id) × At id.place m
-FormFits s At k (Casts m t) paid own = (id : TyId) × (own ≡ Cast id) × Means s id.place t × ((a : Atom) → In a (cast_effect_of t) → (i : ℕ) × At i (message_of a))
-FormFits s At k (Makes t) paid own = (id : MsgId) × (own ≡ Made id) × (slice_get s.messages id.place ≡ Some (name k))
+FormFits s At k (Casts m t) paid own = (id : TyId) × (own ≡ Cast id) × Means s id.place t
+    × ((a : Atom) → In a (cast_effect_of t) → (i : ℕ) × At i (message_of a))
+FormFits s At k (Makes t) paid own = (id : MsgId) × (own ≡ Made id)
+    × (slice_get s.messages id.place ≡ Some (name k))
 
 abbrev pub Fits : Store → (ℕ → Message → Type 0) → Shape → Option Effect → Own → Type 0
 Fits s At (leaf_at k l) paid own = ⊤
@@ -52,7 +56,8 @@ StandsFor At (Some s) (Some es) = Stands At s es
 abbrev pub NotedAs : Store → (ℕ → Message → Type 0) → Shape → Note → OwnNote → Type 0
 NotedAs s At x n o = (o.fine ≡ n.fine) × (n.fine ≡ true → Fits s At x n.paid o.own)
 
-pub data AreNoted (s : Store) (At : ℕ → Message → Type 0) : List Shape → List Note → List OwnNote → Type 0 where
+pub data AreNoted (s : Store) (At : ℕ → Message → Type 0) : List Shape → List Note → List OwnNote
+    → Type 0 where
   noted_none : AreNoted s At [] [] []
   noted_next : {x : Shape} {n : Note} {o : OwnNote} {ss : List Shape} {ns : List Note} {os : List OwnNote}
       → NotedAs s At x n o → AreNoted s At ss ns os → AreNoted s At (x ∷ ss) (n ∷ ns) (o ∷ os)

@@ -12,7 +12,8 @@ use Rattle.spi_infer.specs.Passes.{Wait, wait}
 -- what each type that waits stands for, the last first
 pub data AreWaiting (s : Store) : List Pending → List Wait → Type 0 where
   waiting_none : AreWaiting s [] []
-  waiting_next : {p : Pending} {u : Ty} {ps : List Pending} {ws : List Wait} → Means s p.ty.place u → AreWaiting s ps ws → AreWaiting s (p ∷ ps) (wait p.at u ∷ ws)
+  waiting_next : {p : Pending} {u : Ty} {ps : List Pending} {ws : List Wait} → Means s p.ty.place u
+      → AreWaiting s ps ws → AreWaiting s (p ∷ ps) (wait p.at u ∷ ws)
 
 abbrev pub Queued : Store → List Pending → List Wait → Type 0
 Queued s ps ws = AreWaiting s (reverse ps) ws

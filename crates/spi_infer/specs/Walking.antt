@@ -30,7 +30,8 @@ pub record NotesIn (old new : Numbered) (ks : Keys) (x : Shape) (o : OwnNote) : 
   pub at : (e : Env) → Stands old e → NotedAs new.store (with_keys new.store ks) x (note_of e x) o
 
 -- the nodes before place i are noted, and the rest is to be noted in an environment that the judge stands for
-pub record Walked (ss : List Shape) (start : Env) (i : ℕ) (j : Numbered) (ks : Keys) (ps : List Pending) (os : List OwnNote) : Type 0 where
+pub record Walked (ss : List Shape) (start : Env) (i : ℕ) (j : Numbered) (ks : Keys) (ps : List Pending)
+    (os : List OwnNote) : Type 0 where
   pub env : Env
   pub stands : Stands j env
   pub waits : List Wait
@@ -42,6 +43,8 @@ pub record Walked (ss : List Shape) (start : Env) (i : ℕ) (j : Numbered) (ks :
 
 -- What happens at a node in place i with k names in scope: it is noted in the environment that is settled there, and the
 -- judge stands for the one that is entered.
-pub record IsPassed (old new : Numbered) (ks : Keys) (i k : ℕ) (x : Shape) (ws : List Wait) (o : OwnNote) : Type 0 where
-  pub noted : (e : Env) → Stands old e → NotedAs new.store (with_keys new.store ks) x (note_of (settled i k e ws) x) o
+pub record IsPassed (old new : Numbered) (ks : Keys) (i k : ℕ) (x : Shape) (ws : List Wait)
+    (o : OwnNote) : Type 0 where
+  pub noted : (e : Env) → Stands old e
+      → NotedAs new.store (with_keys new.store ks) x (note_of (settled i k e ws) x) o
   pub enters : (e : Env) → Stands old e → Stands new (entered (settled i k e ws) x)

@@ -27,7 +27,9 @@ pub fn act_on_none(
     fine: bool,
     stack: &mut Vec<Option<Sum>>,
 ) -> Result<bool, NoMemory>
-    ensures stack { OnOk result ((s : Store) (keys : Keys) (st : List (Option Effect)) → IsKeyed s keys → Tops s keys stack.old.items st → Tops s keys stack.new.items (keep fine (Some []) ∷ st)) }
+    ensures stack { OnOk result
+        ((s : Store) (keys : Keys) (st : List (Option Effect)) → IsKeyed s keys
+        → Tops s keys stack.old.items st → Tops s keys stack.new.items (keep fine (Some []) ∷ st)) }
     ensures stuck { IfOk result (λ b. b ≡ not fine) }
 {
     if fine {
@@ -48,8 +50,15 @@ pub fn act_on_one(
 ) -> Result<bool, NoMemory>
     requires scope { scope_of (shape_of node.now) ≤ 300000 }
     requires own { NoteGiven store.now (shape_of node.now) note.now }
-    ensures stack { OnOk result ((n : Note) (st : List (Option Effect)) → IsBefore store.now keys.now (shape_of node.now) note.now stack.old.items n st → Tops store.now keys.now stack.new.items (act_by (after_shape (shape_of node.now) n.paid) n.fine st)) }
-    ensures stuck { IfOk result (λ b. (n : Note) (st : List (Option Effect)) → IsBefore store.now keys.now (shape_of node.now) note.now stack.old.items n st → b ≡ stuck_top_by (after_shape (shape_of node.now) n.paid) n.fine st) }
+    ensures stack { OnOk result
+        ((n : Note) (st : List (Option Effect))
+        → IsBefore store.now keys.now (shape_of node.now) note.now stack.old.items n st
+        → Tops store.now keys.now stack.new.items
+        (act_by (after_shape (shape_of node.now) n.paid) n.fine st)) }
+    ensures stuck { IfOk result
+        (λ b. (n : Note) (st : List (Option Effect))
+        → IsBefore store.now keys.now (shape_of node.now) note.now stack.old.items n st
+        → b ≡ stuck_top_by (after_shape (shape_of node.now) n.paid) n.fine st) }
 {
     match stack.pop() {
         None => Ok(false),
@@ -77,8 +86,16 @@ pub fn both_of(
     b: Option<Sum>,
 ) -> Result<(Option<Sum>, bool), NoMemory>
     requires { scope_of (shape_of node.now) ≤ 300000 }
-    ensures effect { IfOk result (λ r. (s : Store) (keys : Keys) (e f : Option Effect) → IsKeyed s keys → StandsFor (with_keys s keys) a e → StandsFor (with_keys s keys) b f → MayBelowIn (shape_of node.now) e → MayBelowIn (shape_of node.now) f → StandsFor (with_keys s keys) r.0 (keep fine (by_effects (both_shape (shape_of node.now)) e f))) }
-    ensures stuck { IfOk result (λ r. (s : Store) (keys : Keys) (e f : Option Effect) → IsKeyed s keys → StandsFor (with_keys s keys) a e → StandsFor (with_keys s keys) b f → MayBelowIn (shape_of node.now) e → MayBelowIn (shape_of node.now) f → r.1 ≡ stuck_two_by (both_shape (shape_of node.now)) fine e f) }
+    ensures effect { IfOk result
+        (λ r. (s : Store) (keys : Keys) (e f : Option Effect) → IsKeyed s keys
+        → StandsFor (with_keys s keys) a e → StandsFor (with_keys s keys) b f
+        → MayBelowIn (shape_of node.now) e → MayBelowIn (shape_of node.now) f
+        → StandsFor (with_keys s keys) r.0 (keep fine (by_effects (both_shape (shape_of node.now)) e f))) }
+    ensures stuck { IfOk result
+        (λ r. (s : Store) (keys : Keys) (e f : Option Effect) → IsKeyed s keys
+        → StandsFor (with_keys s keys) a e → StandsFor (with_keys s keys) b f
+        → MayBelowIn (shape_of node.now) e → MayBelowIn (shape_of node.now) f
+        → r.1 ≡ stuck_two_by (both_shape (shape_of node.now)) fine e f) }
 {
     match a {
         None => Ok((None, false)),
@@ -98,8 +115,14 @@ pub fn both_of(
 
 pub fn act_on_two(node: &Node, fine: bool, stack: &mut Vec<Option<Sum>>) -> Result<bool, NoMemory>
     requires { scope_of (shape_of node.now) ≤ 300000 }
-    ensures stack { OnOk result ((s : Store) (keys : Keys) (st : List (Option Effect)) → IsKeyed s keys → BothBelowIn (shape_of node.now) st → Tops s keys stack.old.items st → Tops s keys stack.new.items (act_both (both_shape (shape_of node.now)) fine st)) }
-    ensures stuck { IfOk result (λ b. (s : Store) (keys : Keys) (st : List (Option Effect)) → IsKeyed s keys → BothBelowIn (shape_of node.now) st → Tops s keys stack.old.items st → b ≡ stuck_both (both_shape (shape_of node.now)) fine st) }
+    ensures stack { OnOk result
+        ((s : Store) (keys : Keys) (st : List (Option Effect)) → IsKeyed s keys
+        → BothBelowIn (shape_of node.now) st → Tops s keys stack.old.items st
+        → Tops s keys stack.new.items (act_both (both_shape (shape_of node.now)) fine st)) }
+    ensures stuck { IfOk result
+        (λ b. (s : Store) (keys : Keys) (st : List (Option Effect)) → IsKeyed s keys
+        → BothBelowIn (shape_of node.now) st → Tops s keys stack.old.items st
+        → b ≡ stuck_both (both_shape (shape_of node.now)) fine st) }
 {
     match stack.pop() {
         None => Ok(false),
@@ -125,8 +148,14 @@ pub fn act_on(
 ) -> Result<bool, NoMemory>
     requires scope { scope_of (shape_of node.now) ≤ 300000 }
     requires own { NoteGiven store.now (shape_of node.now) note.now }
-    ensures stack { OnOk result ((n : Note) (st : List (Option Effect)) → IsBefore store.now keys.now (shape_of node.now) note.now stack.old.items n st → Tops store.now keys.now stack.new.items (act (shape_of node.now) n st)) }
-    ensures stuck { IfOk result (λ b. (n : Note) (st : List (Option Effect)) → IsBefore store.now keys.now (shape_of node.now) note.now stack.old.items n st → b ≡ is_stuck (shape_of node.now) n st) }
+    ensures stack { OnOk result
+        ((n : Note) (st : List (Option Effect))
+        → IsBefore store.now keys.now (shape_of node.now) note.now stack.old.items n st
+        → Tops store.now keys.now stack.new.items (act (shape_of node.now) n st)) }
+    ensures stuck { IfOk result
+        (λ b. (n : Note) (st : List (Option Effect))
+        → IsBefore store.now keys.now (shape_of node.now) note.now stack.old.items n st
+        → b ≡ is_stuck (shape_of node.now) n st) }
 {
     match &node.form {
         Form::Send { .. } => act_on_none(alloc, note.fine, stack),
@@ -148,8 +177,15 @@ pub fn account(
 ) -> Result<(Option<Sum>, Option<u32>), NoMemory>
     requires noted { (env : Env) × IsNoted store.now noted.now process.now.names process.now.process env }
     requires from { from < process_size process.now.process }
-    ensures effect { IfOk result (λ r. (env e : Env) (q : ProcessTerm) → IsNoted store.now noted.now process.now.names process.now.process env → NodeOf env process.now.process from e q → StandsFor (with_keys store.now noted.now.keys) r.0 (effect_of (numbered [] (length e) q) e)) }
-    ensures stuck { IfOk result (λ r. (env : Env) → IsNoted store.now noted.now process.now.names process.now.process env → r.1 ≡ first_stuck from (drop from (spelled process.now.names process.now.process)) (drop from (scan 0 env [] (spelled process.now.names process.now.process)))) }
+    ensures effect { IfOk result
+        (λ r. (env e : Env) (q : ProcessTerm)
+        → IsNoted store.now noted.now process.now.names process.now.process env
+        → NodeOf env process.now.process from e q
+        → StandsFor (with_keys store.now noted.now.keys) r.0 (effect_of (numbered [] (length e) q) e)) }
+    ensures stuck { IfOk result
+        (λ r. (env : Env) → IsNoted store.now noted.now process.now.names process.now.process env
+        → r.1 ≡ first_stuck from (drop from (spelled process.now.names process.now.process))
+        (drop from (scan 0 env [] (spelled process.now.names process.now.process)))) }
     ensures once { NoneTwice store.now }
 {
     // The count is asked for what its answer says: nothing has two numbers.

@@ -29,7 +29,8 @@ fn are_un(first: &Ty, second: &Ty) -> bool
 // Both have type Un.
 #[tactic(auto, using(spi_message::proofs::Tested::kept_more))]
 fn are_untrusted(alloc: Global, judge: &mut Judge, m: &Msg, n: &Msg) -> Result<bool, NoMemory>
-    ensures answer { IfOk result (IsTest judge.old (λ e. typed (message m.now) e un && typed (message n.now) e un)) }
+    ensures answer { IfOk result
+        (IsTest judge.old (λ e. typed (message m.now) e un && typed (message n.now) e un)) }
     ensures kept { IsKept judge.old judge.new }
 {
     let first = is_untrusted(alloc, judge, m)?;
@@ -43,7 +44,8 @@ fn are_untrusted(alloc: Global, judge: &mut Judge, m: &Msg, n: &Msg) -> Result<b
 // The message has type Un, and the name that is bound too.
 #[tactic(auto, using(spi_message::proofs::Tested::kept_more))]
 fn is_untrusted_over(alloc: Global, judge: &mut Judge, m: &Msg, t: &Ty) -> Result<bool, NoMemory>
-    ensures answer { IfOk result (IsTest judge.old (λ e. typed (message m.now) e un && is_un (type_of t.now))) }
+    ensures answer { IfOk result
+        (IsTest judge.old (λ e. typed (message m.now) e un && is_un (type_of t.now))) }
     ensures kept { IsKept judge.old judge.new }
 {
     let first = is_untrusted(alloc, judge, m)?;
@@ -59,7 +61,9 @@ fn is_untrusted_over_two(
     t: &Ty,
     u: &Ty,
 ) -> Result<bool, NoMemory>
-    ensures answer { IfOk result (IsTest judge.old (λ e. typed (message m.now) e un && (is_un (type_of t.now) && is_un (type_of u.now)))) }
+    ensures answer { IfOk result
+        (IsTest judge.old
+        (λ e. typed (message m.now) e un && (is_un (type_of t.now) && is_un (type_of u.now)))) }
     ensures kept { IsKept judge.old judge.new }
 {
     let first = is_untrusted(alloc, judge, m)?;
@@ -76,7 +80,8 @@ fn is_typed_over_good(
     u: &Ty,
 ) -> Result<bool, NoMemory>
     requires { length judge.old.types + ty_nodes (type_of u.now) < 2 ^ 32 }
-    ensures answer { IfOk result (IsTest judge.old (λ e. typed (message m.now) e (type_of t.now) && good e (type_of u.now))) }
+    ensures answer { IfOk result
+        (IsTest judge.old (λ e. typed (message m.now) e (type_of t.now) && good e (type_of u.now))) }
     ensures kept { IsKept judge.old judge.new }
 {
     let first = is_typed(alloc, judge, m, t)?;
@@ -96,8 +101,11 @@ fn is_split_ok(
     first: &Ty,
     second: &Ty,
 ) -> Result<bool, NoMemory>
-    requires { length judge.old.types + (ty_nodes (type_of first.now) + ty_nodes (type_of second.now)) + 1 < 2 ^ 32 }
-    ensures answer { IfOk result (IsTest judge.old (λ e. prefix_ok e (Splits (message m.now) (type_of first.now) (type_of second.now)))) }
+    requires { length judge.old.types + (ty_nodes (type_of first.now) + ty_nodes (type_of second.now)) + 1
+        < 2 ^ 32 }
+    ensures answer { IfOk result
+        (IsTest judge.old
+        (λ e. prefix_ok e (Splits (message m.now) (type_of first.now) (type_of second.now)))) }
     ensures kept { IsKept judge.old judge.new }
 {
     let both = pair_type(alloc, first, second)?;
@@ -120,7 +128,10 @@ fn is_select_typed(
     first: &Ty,
 ) -> Result<bool, NoMemory>
     requires { length judge.old.types + ty_nodes (type_of both.now) < 2 ^ 32 }
-    ensures answer { IfOk result (IsTest judge.old (λ e. typed (message m.now) e (type_of both.now) && (typed (message equal.now) e (type_of first.now) && good e (type_of both.now)))) }
+    ensures answer { IfOk result
+        (IsTest judge.old
+        (λ e. typed (message m.now) e (type_of both.now) &&
+        (typed (message equal.now) e (type_of first.now) && good e (type_of both.now)))) }
     ensures kept { IsKept judge.old judge.new }
 {
     let whole = is_typed(alloc, judge, m, both)?;
@@ -141,7 +152,10 @@ fn is_select_untrusted(
     first: &Ty,
     second: &Ty,
 ) -> Result<bool, NoMemory>
-    ensures answer { IfOk result (IsTest judge.old (λ e. typed (message m.now) e un && (typed (message equal.now) e un && (is_un (type_of first.now) && is_un (type_of second.now))))) }
+    ensures answer { IfOk result
+        (IsTest judge.old
+        (λ e. typed (message m.now) e un &&
+        (typed (message equal.now) e un && (is_un (type_of first.now) && is_un (type_of second.now))))) }
     ensures kept { IsKept judge.old judge.new }
 {
     let whole = is_untrusted(alloc, judge, m)?;
@@ -161,8 +175,12 @@ fn is_select_ok(
     equal: &Msg,
     second: &Ty,
 ) -> Result<bool, NoMemory>
-    requires { length judge.old.types + (ty_nodes (type_of first.now) + ty_nodes (type_of second.now)) + 1 < 2 ^ 32 }
-    ensures answer { IfOk result (IsTest judge.old (λ e. prefix_ok e (Selects (message m.now) (type_of first.now) (message equal.now) (type_of second.now)))) }
+    requires { length judge.old.types + (ty_nodes (type_of first.now) + ty_nodes (type_of second.now)) + 1
+        < 2 ^ 32 }
+    ensures answer { IfOk result
+        (IsTest judge.old
+        (λ e. prefix_ok e
+        (Selects (message m.now) (type_of first.now) (message equal.now) (type_of second.now)))) }
     ensures kept { IsKept judge.old judge.new }
 {
     let both = pair_type(alloc, first, second)?;
@@ -178,7 +196,10 @@ fn is_select_ok(
 #[tactic(auto, using(spi_message::proofs::Tested::kept_more))]
 fn is_key_ok(alloc: Global, judge: &mut Judge, key: &Msg, t: &Ty) -> Result<bool, NoMemory>
     requires { length judge.old.types + ty_nodes (type_of t.now) < 2 ^ 32 }
-    ensures answer { IfOk result (IsTest judge.old (λ e. (typed (message key.now) e (Term.key (type_of t.now)) && good e (type_of t.now)) || (typed (message key.now) e un && is_un (type_of t.now)))) }
+    ensures answer { IfOk result
+        (IsTest judge.old
+        (λ e. (typed (message key.now) e (Term.key (type_of t.now)) && good e (type_of t.now)) ||
+        (typed (message key.now) e un && is_un (type_of t.now)))) }
     ensures kept { IsKept judge.old judge.new }
 {
     let wanted = key_type(alloc, t)?;
@@ -199,7 +220,8 @@ fn is_decrypt_ok(
     key: &Msg,
 ) -> Result<bool, NoMemory>
     requires { length judge.old.types + ty_nodes (type_of t.now) < 2 ^ 32 }
-    ensures answer { IfOk result (IsTest judge.old (λ e. prefix_ok e (Decrypts (message m.now) (type_of t.now) (message key.now)))) }
+    ensures answer { IfOk result
+        (IsTest judge.old (λ e. prefix_ok e (Decrypts (message m.now) (type_of t.now) (message key.now)))) }
     ensures kept { IsKept judge.old judge.new }
 {
     let whole = is_untrusted(alloc, judge, m)?;
@@ -212,8 +234,10 @@ fn is_decrypt_ok(
 
 #[tactic(auto, using(spi_message::proofs::Tested::kept_more))]
 fn are_good(alloc: Global, judge: &mut Judge, left: &Ty, right: &Ty) -> Result<bool, NoMemory>
-    requires { length judge.old.types + (ty_nodes (type_of left.now) + ty_nodes (type_of right.now)) < 2 ^ 32 }
-    ensures answer { IfOk result (IsTest judge.old (λ e. good e (type_of left.now) && good e (type_of right.now))) }
+    requires { length judge.old.types + (ty_nodes (type_of left.now) + ty_nodes (type_of right.now))
+        < 2 ^ 32 }
+    ensures answer { IfOk result
+        (IsTest judge.old (λ e. good e (type_of left.now) && good e (type_of right.now))) }
     ensures kept { IsKept judge.old judge.new }
 {
     let first = is_good(alloc, judge, left)?;
@@ -234,8 +258,12 @@ fn is_case_typed(
     left: &Ty,
     right: &Ty,
 ) -> Result<bool, NoMemory>
-    requires { length judge.old.types + (ty_nodes (type_of left.now) + ty_nodes (type_of right.now)) < 2 ^ 32 }
-    ensures answer { IfOk result (IsTest judge.old (λ e. typed (message m.now) e (type_of both.now) && (good e (type_of left.now) && good e (type_of right.now)))) }
+    requires { length judge.old.types + (ty_nodes (type_of left.now) + ty_nodes (type_of right.now))
+        < 2 ^ 32 }
+    ensures answer { IfOk result
+        (IsTest judge.old
+        (λ e. typed (message m.now) e (type_of both.now) &&
+        (good e (type_of left.now) && good e (type_of right.now)))) }
     ensures kept { IsKept judge.old judge.new }
 {
     let whole = is_typed(alloc, judge, m, both)?;
@@ -254,8 +282,10 @@ fn is_case_ok(
     left: &Ty,
     right: &Ty,
 ) -> Result<bool, NoMemory>
-    requires { length judge.old.types + (ty_nodes (type_of left.now) + ty_nodes (type_of right.now)) < 2 ^ 32 }
-    ensures answer { IfOk result (IsTest judge.old (λ e. fork_ok e (Cases (message m.now) (type_of left.now) (type_of right.now)))) }
+    requires { length judge.old.types + (ty_nodes (type_of left.now) + ty_nodes (type_of right.now))
+        < 2 ^ 32 }
+    ensures answer { IfOk result
+        (IsTest judge.old (λ e. fork_ok e (Cases (message m.now) (type_of left.now) (type_of right.now)))) }
     ensures kept { IsKept judge.old judge.new }
 {
     let both = sum_type(alloc, left, right)?;
@@ -269,7 +299,8 @@ fn is_case_ok(
 
 fn is_nonce_or_untrusted(alloc: Global, judge: &mut Judge, m: &Msg) -> Result<bool, NoMemory>
     requires { IsEnvironment judge.old.store judge.old.types }
-    ensures answer { IfOk result (IsTest judge.old (λ e. is_nonce (nonce_of e (message m.now)) || typed (message m.now) e un)) }
+    ensures answer { IfOk result
+        (IsTest judge.old (λ e. is_nonce (nonce_of e (message m.now)) || typed (message m.now) e un)) }
     ensures kept { IsKept judge.old judge.new }
 {
     match nonce_at(judge, m) {
@@ -281,7 +312,10 @@ fn is_nonce_or_untrusted(alloc: Global, judge: &mut Judge, m: &Msg) -> Result<bo
 #[tactic(auto, using(spi_message::proofs::Tested::kept_more))]
 fn is_check_ok(alloc: Global, judge: &mut Judge, m: &Msg, nonce: &Msg) -> Result<bool, NoMemory>
     requires { IsEnvironment judge.old.store judge.old.types }
-    ensures answer { IfOk result (IsTest judge.old (λ e. typed (message m.now) e un && (is_nonce (nonce_of e (message nonce.now)) || typed (message nonce.now) e un))) }
+    ensures answer { IfOk result
+        (IsTest judge.old
+        (λ e. typed (message m.now) e un &&
+        (is_nonce (nonce_of e (message nonce.now)) || typed (message nonce.now) e un))) }
     ensures kept { IsKept judge.old judge.new }
 {
     let whole = is_untrusted(alloc, judge, m)?;
@@ -307,7 +341,8 @@ fn is_cast_type_ok(alloc: Global, judge: &mut Judge, t: &Ty) -> Result<bool, NoM
 #[tactic(auto, using(spi_message::proofs::Tested::kept_more))]
 fn is_cast_ok(alloc: Global, judge: &mut Judge, m: &Msg, t: &Ty) -> Result<bool, NoMemory>
     requires { length judge.old.types + ty_nodes (type_of t.now) < 2 ^ 32 }
-    ensures answer { IfOk result (IsTest judge.old (λ e. typed (message m.now) e un && cast_ok e (type_of t.now))) }
+    ensures answer { IfOk result
+        (IsTest judge.old (λ e. typed (message m.now) e un && cast_ok e (type_of t.now))) }
     ensures kept { IsKept judge.old judge.new }
 {
     let whole = is_untrusted(alloc, judge, m)?;
@@ -320,7 +355,8 @@ fn is_cast_ok(alloc: Global, judge: &mut Judge, m: &Msg, t: &Ty) -> Result<bool,
 
 fn is_new_ok(alloc: Global, judge: &mut Judge, t: &Ty) -> Result<bool, NoMemory>
     requires { length judge.old.types + ty_nodes (type_of t.now) < 2 ^ 32 }
-    ensures answer { IfOk result (IsTest judge.old (λ e. is_fresh (type_of t.now) && good e (type_of t.now))) }
+    ensures answer { IfOk result
+        (IsTest judge.old (λ e. is_fresh (type_of t.now) && good e (type_of t.now))) }
     ensures kept { IsKept judge.old judge.new }
 {
     if is_fresh_type(t) {

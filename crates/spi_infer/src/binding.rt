@@ -31,7 +31,8 @@ fn bind_type(alloc: Global, judge: &mut Judge, t: &Ty) -> Result<(), NoMemory>
 #[tactic(auto, using(crate::proofs::Bound::above_kept, crate::proofs::Bound::above_more))]
 fn bind_opened(alloc: Global, judge: &mut Judge, t: &Ty, value: &Msg) -> Result<(), NoMemory>
     requires { length judge.old.types ≤ 400000 }
-    ensures bound { OnOk result (Turns judge.old judge.new (λ e. e ++ ty_put (message value.now) (type_of t.now) ∷ [])) }
+    ensures bound { OnOk result
+        (Turns judge.old judge.new (λ e. e ++ ty_put (message value.now) (type_of t.now) ∷ [])) }
     ensures above { IsAbove judge.old judge.new }
 {
     let id = judge.ty(alloc, t)?;
@@ -43,7 +44,9 @@ fn bind_opened(alloc: Global, judge: &mut Judge, t: &Ty, value: &Msg) -> Result<
 #[tactic(auto, using(crate::proofs::Bound::above_more))]
 fn enter_split(alloc: Global, judge: &mut Judge, first: &Ty, second: &Ty) -> Result<(), NoMemory>
     requires { length judge.old.types ≤ 300001 }
-    ensures bound { OnOk result (Turns judge.old judge.new (λ e. e ++ type_of first.now ∷ (ty_put (name (length e)) (type_of second.now) ∷ []))) }
+    ensures bound { OnOk result
+        (Turns judge.old judge.new
+        (λ e. e ++ type_of first.now ∷ (ty_put (name (length e)) (type_of second.now) ∷ []))) }
     ensures above { IsAbove judge.old judge.new }
 {
     let name = Msg::Name(judge.len());
@@ -81,11 +84,16 @@ pub fn settle(
 ) -> Result<(), NoMemory>
     requires low { CanReach judge.old.free id scope judge.old.store pending.old.items }
     requires few { scope ≤ 300000 }
-    ensures bound { OnOk result ((ws : List Wait) → Queued judge.old.store pending.old.items ws → Turns judge.old judge.new (λ e. settled id scope e ws)) }
-    ensures rest { OnOk result ((ws : List Wait) → Queued judge.old.store pending.old.items ws → Queued judge.new.store pending.new.items (left_waiting id ws)) }
+    ensures bound { OnOk result
+        ((ws : List Wait) → Queued judge.old.store pending.old.items ws
+        → Turns judge.old judge.new (λ e. settled id scope e ws)) }
+    ensures rest { OnOk result
+        ((ws : List Wait) → Queued judge.old.store pending.old.items ws
+        → Queued judge.new.store pending.new.items (left_waiting id ws)) }
     ensures few { OnOk result (length judge.new.types ≤ 300001) }
     ensures store { Keeps judge.old.store judge.new.store }
-    ensures above { (first : Numbered) → IsAbove first judge.old → CanReach (length first.types) id scope judge.old.store pending.old.items → IsAbove first judge.new }
+    ensures above { (first : Numbered) → IsAbove first judge.old
+        → CanReach (length first.types) id scope judge.old.store pending.old.items → IsAbove first judge.new }
 {
     match due(id, pending)? {
         None => {

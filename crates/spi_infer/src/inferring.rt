@@ -30,8 +30,10 @@ fn read_back(
     keys: &Keys,
     sum: Option<Sum>,
 ) -> Result<Option<Effect>, NoMemory>
-    requires { (es : Option EffectTerm) × IsKeyed store.now keys.now × StandsFor (with_keys store.now keys.now) sum es }
-    ensures { IfOk result (λ r. (es : Option EffectTerm) → StandsFor (with_keys store.now keys.now) sum es → IsReadAs r es) }
+    requires { (es : Option EffectTerm) × IsKeyed store.now keys.now
+        × StandsFor (with_keys store.now keys.now) sum es }
+    ensures { IfOk result
+        (λ r. (es : Option EffectTerm) → StandsFor (with_keys store.now keys.now) sum es → IsReadAs r es) }
 {
     match sum {
         None => Ok(None),
@@ -50,11 +52,17 @@ fn least_from<L: Ledger>(
 ) -> Result<(Option<Effect>, Option<u32>), NoMemory>
     requires names { length judge.old.types ≡ process.now.names }
     requires node { node < process_size process.now.process }
-    ensures effect { IfOk result (λ r. (env e : Env) (q : ProcessTerm) → Stands judge.old env → NodeOf env process.now.process node e q → IsLeast e q r.0) }
-    ensures stuck { IfOk result (λ r. (env : Env) → Stands judge.old env → r.1 ≡ first_stuck node (drop node (spelled process.now.names process.now.process)) (drop node (scan 0 env [] (spelled process.now.names process.now.process)))) }
+    ensures effect { IfOk result
+        (λ r. (env e : Env) (q : ProcessTerm) → Stands judge.old env → NodeOf env process.now.process node e q
+        → IsLeast e q r.0) }
+    ensures stuck { IfOk result
+        (λ r. (env : Env) → Stands judge.old env
+        → r.1 ≡ first_stuck node (drop node (spelled process.now.names process.now.process))
+        (drop node (scan 0 env [] (spelled process.now.names process.now.process)))) }
     ensures kept { IsKept judge.old judge.new }
     ensures counted { OnOk result (steps.new ≡ steps.old + process_size process.now.process) }
-    ensures fewer { OnErr result ((steps.old ≤ steps.new) × (steps.new ≤ steps.old + process_size process.now.process)) }
+    ensures fewer { OnErr result
+        ((steps.old ≤ steps.new) × (steps.new ≤ steps.old + process_size process.now.process)) }
 {
     judge.stands_for_one();
     let _ = process.len();
@@ -76,10 +84,12 @@ pub fn infer_in<L: Ledger>(
     steps: &mut Steps<L>,
 ) -> Result<Inferred, NoMemory>
     requires { length judge.old.types ≡ process.now.names }
-    ensures answer { IfOk result (λ r. (env : Env) → Stands judge.old env → AnswersIn env process.now.process r) }
+    ensures answer { IfOk result
+        (λ r. (env : Env) → Stands judge.old env → AnswersIn env process.now.process r) }
     ensures kept { IsKept judge.old judge.new }
     ensures counted { OnOk result (steps.new ≡ steps.old + process_size process.now.process) }
-    ensures fewer { OnErr result ((steps.old ≤ steps.new) × (steps.new ≤ steps.old + process_size process.now.process)) }
+    ensures fewer { OnErr result
+        ((steps.old ≤ steps.new) × (steps.new ≤ steps.old + process_size process.now.process)) }
 {
     judge.stands_for_one();
     let _ = process.len();

@@ -40,7 +40,9 @@ fn keep_cast(judge: &mut Judge, keys: &mut Keys, t: &Ty) -> Result<(), NoMemory>
 #[tactic(auto, using(spi_message::proofs::Tested::kept_more))]
 fn cast_own(alloc: Global, judge: &mut Judge, keys: &mut Keys, t: &Ty) -> Result<Own, NoMemory>
     requires { AreKept judge.old.store keys.old }
-    ensures fits { IfOk result (FormFits judge.new.store (with_keys judge.new.store keys.new) 0 (Term.Casts Term.unit (type_of t.now)) None) }
+    ensures fits { IfOk result
+        (FormFits judge.new.store (with_keys judge.new.store keys.new) 0
+        (Term.Casts Term.unit (type_of t.now)) None) }
     ensures grows { OnOk result (GrowsTo judge.old.store keys.old judge.new.store keys.new) }
     ensures kept { IsKept judge.old judge.new }
 {
@@ -52,7 +54,8 @@ fn cast_own(alloc: Global, judge: &mut Judge, keys: &mut Keys, t: &Ty) -> Result
 // What an `end` or an `endmany` adds.
 fn end_own(judge: &mut Judge, keys: &mut Keys, m: &Msg) -> Result<Own, NoMemory>
     requires { AreKept judge.old.store keys.old }
-    ensures fits { IfOk result (FormFits judge.new.store (with_keys judge.new.store keys.new) 0 (Term.Ends (message m.now)) None) }
+    ensures fits { IfOk result
+        (FormFits judge.new.store (with_keys judge.new.store keys.new) 0 (Term.Ends (message m.now)) None) }
     ensures grows { OnOk result (GrowsTo judge.old.store keys.old judge.new.store keys.new) }
     ensures kept { IsKept judge.old judge.new }
 {
@@ -63,7 +66,8 @@ fn end_own(judge: &mut Judge, keys: &mut Keys, m: &Msg) -> Result<Own, NoMemory>
 // What a `begin` takes off.
 fn begin_own(judge: &mut Judge, keys: &mut Keys, m: &Msg) -> Result<Own, NoMemory>
     requires { AreKept judge.old.store keys.old }
-    ensures fits { IfOk result (FormFits judge.new.store (with_keys judge.new.store keys.new) 0 (Term.Begins (message m.now)) None) }
+    ensures fits { IfOk result
+        (FormFits judge.new.store (with_keys judge.new.store keys.new) 0 (Term.Begins (message m.now)) None) }
     ensures grows { OnOk result (GrowsTo judge.old.store keys.old judge.new.store keys.new) }
     ensures kept { IsKept judge.old judge.new }
 {
@@ -74,7 +78,8 @@ fn begin_own(judge: &mut Judge, keys: &mut Keys, m: &Msg) -> Result<Own, NoMemor
 // What a new name takes off, by its number.
 fn new_own(judge: &mut Judge, keys: &mut Keys, scope: u32) -> Result<Own, NoMemory>
     requires { AreKept judge.old.store keys.old }
-    ensures fits { IfOk result (FormFits judge.new.store (with_keys judge.new.store keys.new) scope (Term.Makes Term.un) None) }
+    ensures fits { IfOk result
+        (FormFits judge.new.store (with_keys judge.new.store keys.new) scope (Term.Makes Term.un) None) }
     ensures grows { OnOk result (GrowsTo judge.old.store keys.old judge.new.store keys.new) }
     ensures kept { IsKept judge.old judge.new }
 {
@@ -87,7 +92,10 @@ fn new_own(judge: &mut Judge, keys: &mut Keys, scope: u32) -> Result<Own, NoMemo
 fn check_own(judge: &mut Judge, keys: &mut Keys, m: &Msg, nonce: &Msg) -> Result<Own, NoMemory>
     requires keys { AreKept judge.old.store keys.old }
     requires names { IsEnvironment judge.old.store judge.old.types }
-    ensures fits { IfOk result (λ own. (e : Env) → Stands judge.old e → FormFits judge.new.store (with_keys judge.new.store keys.new) 0 (Term.Checks (message m.now) (message nonce.now)) (nonce_of e (message nonce.now)) own) }
+    ensures fits { IfOk result
+        (λ own. (e : Env) → Stands judge.old e
+        → FormFits judge.new.store (with_keys judge.new.store keys.new) 0
+        (Term.Checks (message m.now) (message nonce.now)) (nonce_of e (message nonce.now)) own) }
     ensures grows { OnOk result (GrowsTo judge.old.store keys.old judge.new.store keys.new) }
     ensures kept { IsKept judge.old judge.new }
 {

@@ -38,10 +38,16 @@ fn visit(
     requires low { CanReach judge.old.free id node.now.scope judge.old.store pending.old.items }
     requires keys { AreKept judge.old.store keys.old }
     requires names { IsEnvironment judge.old.store judge.old.types }
-    ensures note { IfOk result (λ o. (ws : List Wait) → Queued judge.old.store pending.old.items ws → IsPassed judge.old judge.new keys.new id node.now.scope (shape_of node.now) ws o) }
-    ensures rest { OnOk result ((ws : List Wait) → Queued judge.old.store pending.old.items ws → Queued judge.new.store pending.new.items (waiting (left_waiting id ws) (shape_of node.now))) }
+    ensures note { IfOk result
+        (λ o. (ws : List Wait) → Queued judge.old.store pending.old.items ws
+        → IsPassed judge.old judge.new keys.new id node.now.scope (shape_of node.now) ws o) }
+    ensures rest { OnOk result
+        ((ws : List Wait) → Queued judge.old.store pending.old.items ws
+        → Queued judge.new.store pending.new.items (waiting (left_waiting id ws) (shape_of node.now))) }
     ensures grows { OnOk result (GrowsTo judge.old.store keys.old judge.new.store keys.new) }
-    ensures above { (first : Numbered) → IsAbove first judge.old → CanReach (length first.types) id node.now.scope judge.old.store pending.old.items → IsAbove first judge.new }
+    ensures above { (first : Numbered) → IsAbove first judge.old
+        → CanReach (length first.types) id node.now.scope judge.old.store pending.old.items
+        → IsAbove first judge.new }
 {
     settle(judge, id, node.scope, pending)?;
     let note = own_note(alloc, judge, keys, node)?;
@@ -59,11 +65,16 @@ fn walk<L: Ledger>(
 ) -> Result<Noted, NoMemory>
     requires judge { IsJudge judge.old.store judge.old.free judge.old.types }
     requires names { length judge.old.types ≡ process.now.names }
-    ensures notes { IfOk result (λ n. (e : Env) → Stands judge.old e → AreNoted judge.new.store (with_keys judge.new.store n.keys) (spelled process.now.names process.now.process) (scan 0 e [] (spelled process.now.names process.now.process)) n.notes.items) }
+    ensures notes { IfOk result
+        (λ n. (e : Env) → Stands judge.old e
+        → AreNoted judge.new.store (with_keys judge.new.store n.keys)
+        (spelled process.now.names process.now.process)
+        (scan 0 e [] (spelled process.now.names process.now.process)) n.notes.items) }
     ensures keys { IfOk result (λ n. AreKept judge.new.store n.keys) }
     ensures above { IsAbove judge.old judge.new }
     ensures counted { OnOk result (steps.new ≡ steps.old + process_size process.now.process) }
-    ensures fewer { OnErr result ((steps.old ≤ steps.new) × (steps.new ≤ steps.old + process_size process.now.process)) }
+    ensures fewer { OnErr result
+        ((steps.old ≤ steps.new) × (steps.new ≤ steps.old + process_size process.now.process)) }
 {
     let mut keys = Keys::new(alloc);
     let mut pending = Vec::new(alloc);
@@ -87,11 +98,16 @@ pub fn own_notes<L: Ledger>(
 ) -> Result<Noted, NoMemory>
     requires judge { IsJudge judge.old.store judge.old.free judge.old.types }
     requires names { length judge.old.types ≡ process.now.names }
-    ensures notes { IfOk result (λ n. (e : Env) → Stands judge.old e → AreNoted judge.new.store (with_keys judge.new.store n.keys) (spelled process.now.names process.now.process) (scan 0 e [] (spelled process.now.names process.now.process)) n.notes.items) }
+    ensures notes { IfOk result
+        (λ n. (e : Env) → Stands judge.old e
+        → AreNoted judge.new.store (with_keys judge.new.store n.keys)
+        (spelled process.now.names process.now.process)
+        (scan 0 e [] (spelled process.now.names process.now.process)) n.notes.items) }
     ensures keys { IfOk result (λ n. AreKept judge.new.store n.keys) }
     ensures kept { IsKept judge.old judge.new }
     ensures counted { OnOk result (steps.new ≡ steps.old + process_size process.now.process) }
-    ensures fewer { OnErr result ((steps.old ≤ steps.new) × (steps.new ≤ steps.old + process_size process.now.process)) }
+    ensures fewer { OnErr result
+        ((steps.old ≤ steps.new) × (steps.new ≤ steps.old + process_size process.now.process)) }
 {
     let count = judge.len();
     let noted = walk(alloc, judge, process, steps);

@@ -52,7 +52,9 @@ fn enter_split(
 ) -> Result<u32, NoMemory>
     requires { length env.old ≤ 300000 }
     ensures next { IfOk result (λ next. next ≡ body) }
-    ensures env { OnOk result (env.new ≡ env.old ++ type_of first.now ∷ (ty_put (name (length env.old)) (type_of second.now) ∷ [])) }
+    ensures env { OnOk result
+        (env.new ≡ env.old ++ type_of first.now
+        ∷ (ty_put (name (length env.old)) (type_of second.now) ∷ [])) }
 {
     let name = Msg::Name(env.len());
     let _ = enter(alloc, first, body, env)?;
@@ -70,8 +72,10 @@ fn enter_side(
     env: &mut Env,
 ) -> Result<u32, NoMemory>
     requires { length env.old ≤ 300000 }
-    ensures first { IfOk result (λ next. target < on_right → (next ≡ on_left) × (env.new ≡ env.old ++ type_of left.now ∷ [])) }
-    ensures rest { IfOk result (λ next. on_right ≤ target → (next ≡ on_right) × (env.new ≡ env.old ++ type_of right.now ∷ [])) }
+    ensures first { IfOk result
+        (λ next. target < on_right → (next ≡ on_left) × (env.new ≡ env.old ++ type_of left.now ∷ [])) }
+    ensures rest { IfOk result
+        (λ next. on_right ≤ target → (next ≡ on_right) × (env.new ≡ env.old ++ type_of right.now ∷ [])) }
 {
     if target < on_right {
         enter(alloc, left, on_left, env)
@@ -138,6 +142,8 @@ pub fn reached(alloc: Global, process: &Process, node: u32) -> Result<Env, NoMem
 
 /// A process has a node for each number below that of its nodes, with one reached environment and one process there.
 pub fn nodes_are_reached()
-    ensures some { (env : Rules.Env) (p : Term.Process) (i : ℕ) → i < process_size p → (e : Rules.Env) × (q : Term.Process) × NodeOf env p i e q }
-    ensures one { (env e f : Rules.Env) (p q r : Term.Process) (i : ℕ) → NodeOf env p i e q → NodeOf env p i f r → (e ≡ f) × (q ≡ r) }
+    ensures some { (env : Rules.Env) (p : Term.Process) (i : ℕ) → i < process_size p
+        → (e : Rules.Env) × (q : Term.Process) × NodeOf env p i e q }
+    ensures one { (env e f : Rules.Env) (p q r : Term.Process) (i : ℕ) → NodeOf env p i e q
+        → NodeOf env p i f r → (e ≡ f) × (q ≡ r) }
 {}

@@ -38,7 +38,8 @@ pub fn after_serve(scope: u32, sum: Sum) -> Option<Sum>
 
 pub fn after_new(scope: u32, keys: &Keys, name: MsgId, sum: Sum) -> Option<Sum>
     requires { scope ≤ 300000 }
-    ensures { (s : Store) → slice_get s.messages name.place ≡ Some (Term.name scope) → AfterMake scope s keys.now sum result }
+    ensures { (s : Store) → slice_get s.messages name.place ≡ Some (Term.name scope)
+        → AfterMake scope s keys.now sum result }
 {
     let mut rest = sum;
     take_atom(keys, AtomId::Check(name), &mut rest);

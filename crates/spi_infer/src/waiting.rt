@@ -26,7 +26,9 @@ fn push_pending(
     t: &Ty,
     pending: &mut Vec<Pending>,
 ) -> Result<(), NoMemory>
-    ensures waits { OnOk result ((ws : List Wait) → Queued judge.old.store pending.old.items ws → Queued judge.new.store pending.new.items (wait at (type_of t.now) ∷ ws)) }
+    ensures waits { OnOk result
+        ((ws : List Wait) → Queued judge.old.store pending.old.items ws
+        → Queued judge.new.store pending.new.items (wait at (type_of t.now) ∷ ws)) }
     ensures kept { IsKept judge.old judge.new }
 {
     let ty = judge.ty(alloc, t)?;
@@ -42,7 +44,9 @@ pub fn put_off(
     node: &Node,
     pending: &mut Vec<Pending>,
 ) -> Result<(), NoMemory>
-    ensures waits { OnOk result ((ws : List Wait) → Queued judge.old.store pending.old.items ws → Queued judge.new.store pending.new.items (waiting ws (shape_of node.now))) }
+    ensures waits { OnOk result
+        ((ws : List Wait) → Queued judge.old.store pending.old.items ws
+        → Queued judge.new.store pending.new.items (waiting ws (shape_of node.now))) }
     ensures kept { IsKept judge.old judge.new }
 {
     match &node.form {
@@ -58,7 +62,8 @@ pub fn put_off(
 /// The last type that waits, if it waits for this place.
 pub fn due(id: u32, pending: &mut Vec<Pending>) -> Result<Option<TyId>, NoMemory>
     ensures some { IfOk result (λ r. IfSome r (IsDue id pending.old.items pending.new.items)) }
-    ensures none { IfOk result (λ r. IfNone r ((pending.new.items ≡ pending.old.items) × IsNotDue id (reverse pending.old.items))) }
+    ensures none { IfOk result
+        (λ r. IfNone r ((pending.new.items ≡ pending.old.items) × IsNotDue id (reverse pending.old.items))) }
 {
     match pending.pop() {
         None => Ok(None),

@@ -43,7 +43,8 @@ pub data IsNotAfter (a b : AtomId) : Type 0 where
 -- no atom is after one that comes later
 pub data InOrder : List AtomId → Type 0 where
   order_none : InOrder []
-  order_next : {x : AtomId} {xs : List AtomId} → ((z : AtomId) → 1 ≤ times z (x ∷ xs) → IsNotAfter x z) → InOrder xs → InOrder (x ∷ xs)
+  order_next : {x : AtomId} {xs : List AtomId} → ((z : AtomId) → 1 ≤ times z (x ∷ xs) → IsNotAfter x z)
+      → InOrder xs → InOrder (x ∷ xs)
 
 -- the numbers of an effect's atoms: the counts are its counts, each `many` stands once, and they are in order
 pub record IdsMean (ms : List Message) (ids : List AtomId) (es : Effect) : Type 0 where

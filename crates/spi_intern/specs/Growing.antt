@@ -52,12 +52,14 @@ pub record Adds (old new : Store) (g : Given) : Type 0 where
 -- a store that has given a number for each of these terms, the last first
 pub data Gave : List Given → Store → Type 0 where
   gave_none : {s : Store} → s.messages ≡ [] → s.types ≡ [] → Gave [] s
-  gave_next : {gs : List Given} {g : Given} {s r : Store} → Gave gs s → Keeps s r → Adds s r g → Gave (g ∷ gs) r
+  gave_next : {gs : List Given} {g : Given} {s r : Store} → Gave gs s → Keeps s r → Adds s r g
+      → Gave (g ∷ gs) r
 
 -- a store that has given a number for each of these terms, the last first, where other calls answered NoMemory
 pub data GaveAtLeast : List Given → Store → Type 0 where
   gave_nothing : {s : Store} → GaveAtLeast [] s
-  gave_also : {gs : List Given} {g : Given} {s r : Store} → GaveAtLeast gs s → Keeps s r → Adds s r g → GaveAtLeast (g ∷ gs) r
+  gave_also : {gs : List Given} {g : Given} {s r : Store} → GaveAtLeast gs s → Keeps s r → Adds s r g
+      → GaveAtLeast (g ∷ gs) r
   gave_up : {gs : List Given} {s r : Store} → GaveAtLeast gs s → Keeps s r → GaveAtLeast gs r
 
 -- these and their parts
@@ -72,23 +74,27 @@ pub record TypeAmong (gs : List Given) (u : Ty) : Type 0 where
   pub part : TypeIn given u
 
 -- the numbers below n count what has P, where what is Same counts as one: each number is that of such a thing, each such thing has a number, and two numbers are equal just where the things are the same
-pub record Counts {A : Type 0} (n : ℕ) (IsAt : ℕ → A → Type 0) (P : A → Type 0) (Same : A → A → Type 0) : Type 0 where
+pub record Counts {A : Type 0} (n : ℕ) (IsAt : ℕ → A → Type 0) (P : A → Type 0) (Same : A → A → Type 0) : Type
+    0 where
   pub each : (i : ℕ) → i < n → (a : A) × P a × IsAt i a
   pub all : (a : A) → P a → (i : ℕ) × (i < n) × IsAt i a
   pub apart : (i j : ℕ) (a b : A) → IsAt i a → IsAt j b → (i ≡ j) ↔ Same a b
 
 -- the store's messages and types are those among the given terms and their parts
 pub record CountsParts (gs : List Given) (s : Store) : Type 0 where
-  pub messages : Counts (length s.messages) (λ i x. slice_get s.messages i ≡ Some x) (MessageAmong gs) (λ x y. x ≡ y)
+  pub messages : Counts (length s.messages) (λ i x. slice_get s.messages i ≡ Some x) (MessageAmong gs)
+      (λ x y. x ≡ y)
   pub types : Counts (length s.types) (Means s) (TypeAmong gs) SameTy
 
 -- numbers below n for all that has P, where what is Same has one: each such thing has a number, and two numbers are equal just
 -- where the things are the same
-pub record CountsAtLeast {A : Type 0} (n : ℕ) (IsAt : ℕ → A → Type 0) (P : A → Type 0) (Same : A → A → Type 0) : Type 0 where
+pub record CountsAtLeast {A : Type 0} (n : ℕ) (IsAt : ℕ → A → Type 0) (P : A → Type 0)
+    (Same : A → A → Type 0) : Type 0 where
   pub all : (a : A) → P a → (i : ℕ) × (i < n) × IsAt i a
   pub apart : (i j : ℕ) (a b : A) → IsAt i a → IsAt j b → (i ≡ j) ↔ Same a b
 
 -- the store's messages and types are at least those among the given terms and their parts
 pub record CountsPartsAtLeast (gs : List Given) (s : Store) : Type 0 where
-  pub messages : CountsAtLeast (length s.messages) (λ i x. slice_get s.messages i ≡ Some x) (MessageAmong gs) (λ x y. x ≡ y)
+  pub messages : CountsAtLeast (length s.messages) (λ i x. slice_get s.messages i ≡ Some x) (MessageAmong gs)
+      (λ x y. x ≡ y)
   pub types : CountsAtLeast (length s.types) (Means s) (TypeAmong gs) SameTy

@@ -14,7 +14,9 @@ use Rattle.spi_intern.specs.declared.store.TyPart.TheVariants.{Un, Unit as NoPar
 pub data SaysTy (s : Store) : TyPart → Ty → Type 0 where
   says_un : SaysTy s Un Term.un
   says_unit : SaysTy s NoParts unit_ty
-  says_pair : {a b : TyId} {t u : Ty} → Means s a.place t → Means s b.place u → SaysTy s (Pair a b) (pair_ty t u)
+  says_pair : {a b : TyId} {t u : Ty} → Means s a.place t → Means s b.place u
+      → SaysTy s (Pair a b) (pair_ty t u)
   says_sum : {a b : TyId} {t u : Ty} → Means s a.place t → Means s b.place u → SaysTy s (Sum a b) (sum_ty t u)
   says_key : {a : TyId} {t : Ty} → Means s a.place t → SaysTy s (Key a) (Term.key t)
-  says_nonce : {ids : Bor (List AtomId)} {es : Effect} → IdsMean s.messages ids.now es → SaysTy s (Nonce ids) (Term.nonce es)
+  says_nonce : {ids : Bor (List AtomId)} {es : Effect} → IdsMean s.messages ids.now es
+      → SaysTy s (Nonce ids) (Term.nonce es)

@@ -12,10 +12,13 @@ use Rattle.spi_intern.specs.declared.store.Store.{Store}
 pub data KindMeans (ms : List Message) (ls : List (List AtomId)) : Kind → Ty → Type 0 where
   means_un : KindMeans ms ls un Term.un
   means_unit : KindMeans ms ls Kinds.unit unit_ty
-  means_pair : {k l : Kind} {t u : Ty} → KindMeans ms ls k t → KindMeans ms ls l u → KindMeans ms ls (pair k l) (pair_ty t u)
-  means_sum : {k l : Kind} {t u : Ty} → KindMeans ms ls k t → KindMeans ms ls l u → KindMeans ms ls (sum k l) (sum_ty t u)
+  means_pair : {k l : Kind} {t u : Ty} → KindMeans ms ls k t → KindMeans ms ls l u
+      → KindMeans ms ls (pair k l) (pair_ty t u)
+  means_sum : {k l : Kind} {t u : Ty} → KindMeans ms ls k t → KindMeans ms ls l u
+      → KindMeans ms ls (sum k l) (sum_ty t u)
   means_key : {k : Kind} {t : Ty} → KindMeans ms ls k t → KindMeans ms ls (key k) (Term.key t)
-  means_nonce : {e : ℕ} {ids : List AtomId} {es : Effect} → slice_get ls e ≡ Some ids → IdsMean ms ids es → KindMeans ms ls (nonce e) (Term.nonce es)
+  means_nonce : {e : ℕ} {ids : List AtomId} {es : Effect} → slice_get ls e ≡ Some ids → IdsMean ms ids es
+      → KindMeans ms ls (nonce e) (Term.nonce es)
 
 -- the type with the number i is t, up to equal counts within each Nonce
 pub record Means (s : Store) (i : ℕ) (t : Ty) : Type 0 where

@@ -11,10 +11,12 @@ pub data Says (ms : List Message) : MsgPart → Message → Type 0 where
   says_bound : {i : ℕ} → Says ms (Bound i) (bound i)
   says_name : {x : ℕ} → Says ms (Name x) (name x)
   says_unit : Says ms NoParts unit
-  says_pair : {a b : MsgId} {m n : Message} → slice_get ms a.place ≡ Some m → slice_get ms b.place ≡ Some n → Says ms (Pair a b) (pair m n)
+  says_pair : {a b : MsgId} {m n : Message} → slice_get ms a.place ≡ Some m → slice_get ms b.place ≡ Some n
+      → Says ms (Pair a b) (pair m n)
   says_left : {a : MsgId} {m : Message} → slice_get ms a.place ≡ Some m → Says ms (Inl a) (in_left m)
   says_right : {a : MsgId} {m : Message} → slice_get ms a.place ≡ Some m → Says ms (Inr a) (in_right m)
-  says_enc : {a b : MsgId} {m n : Message} → slice_get ms a.place ≡ Some m → slice_get ms b.place ≡ Some n → Says ms (Enc a b) (enc m n)
+  says_enc : {a b : MsgId} {m n : Message} → slice_get ms a.place ≡ Some m → slice_get ms b.place ≡ Some n
+      → Says ms (Enc a b) (enc m n)
   says_hash : {a : MsgId} {m : Message} → slice_get ms a.place ≡ Some m → Says ms (Hash a) (hash m)
 
 abbrev pub or_unit : Option Message → Message

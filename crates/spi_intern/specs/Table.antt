@@ -13,7 +13,8 @@ pub record AllDiffer {M : Type 0} (ms : List M) : Type 0 where
 -- each node in turn says the value at its place
 pub data TellsAll {P M : Type 0} (S : P → M → Type 0) : List P → List M → Type 0 where
   tells_none : TellsAll S [] []
-  tells_next : {p : P} {m : M} {ps : List P} {ms : List M} → S p m → TellsAll S ps ms → TellsAll S (p ∷ ps) (m ∷ ms)
+  tells_next : {p : P} {m : M} {ps : List P} {ms : List M} → S p m → TellsAll S ps ms
+      → TellsAll S (p ∷ ps) (m ∷ ms)
 
 -- the values with m, at the end where it is new
 abbrev pub with_value : {M : Type 0} → (M → M → Bool) → List M → M → List M

@@ -9,8 +9,10 @@ use Rattle.spi_intern.specs.declared.types.TyNode.TheVariants.{Un, Unit as NoPar
 pub data SaysKind (ts : List Kind) : TyNode → Kind → Type 0 where
   says_un : SaysKind ts Un un
   says_unit : SaysKind ts NoParts Kinds.unit
-  says_pair : {a b : TyId} {t u : Kind} → slice_get ts a.place ≡ Some t → slice_get ts b.place ≡ Some u → SaysKind ts (Pair a b) (pair t u)
-  says_sum : {a b : TyId} {t u : Kind} → slice_get ts a.place ≡ Some t → slice_get ts b.place ≡ Some u → SaysKind ts (Sum a b) (sum t u)
+  says_pair : {a b : TyId} {t u : Kind} → slice_get ts a.place ≡ Some t → slice_get ts b.place ≡ Some u
+      → SaysKind ts (Pair a b) (pair t u)
+  says_sum : {a b : TyId} {t u : Kind} → slice_get ts a.place ≡ Some t → slice_get ts b.place ≡ Some u
+      → SaysKind ts (Sum a b) (sum t u)
   says_key : {a : TyId} {t : Kind} → slice_get ts a.place ≡ Some t → SaysKind ts (Key a) (key t)
   says_nonce : {e : ℕ} → SaysKind ts (Nonce e) (nonce e)
 

@@ -24,7 +24,8 @@ pub enum AtomId {
 // The number of an atom's message.
 fn atom_id(messages: &mut Messages, a: &Atom) -> Result<AtomId, NoMemory>
     ensures at { IfOk result (λ id. SaysAtom messages.new id (atom a.now)) }
-    ensures grows { IfOk result (λ id. AddsMessages messages.old messages.new (λ x. PartOf x (message_of (atom a.now)))) }
+    ensures grows { IfOk result
+        (λ id. AddsMessages messages.old messages.new (λ x. PartOf x (message_of (atom a.now)))) }
     ensures kept { KeepsAll messages.old messages.new }
 {
     match a {
@@ -46,7 +47,8 @@ fn atom_id(messages: &mut Messages, a: &Atom) -> Result<AtomId, NoMemory>
 /// The atoms of an effect, as they are written.
 pub fn atom_ids(alloc: Global, messages: &mut Messages, e: &Effect) -> Result<Vec<AtomId>, NoMemory>
     ensures at { IfOk result (λ ids. TellsAll (SaysAtom messages.new) ids.items (effect e.now)) }
-    ensures grows { IfOk result (λ ids. AddsMessages messages.old messages.new (λ x. InEffect x (effect e.now))) }
+    ensures grows { IfOk result
+        (λ ids. AddsMessages messages.old messages.new (λ x. InEffect x (effect e.now))) }
     ensures kept { KeepsAll messages.old messages.new }
 {
     let mut ids = Vec::new(alloc);

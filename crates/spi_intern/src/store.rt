@@ -72,9 +72,12 @@ impl Store {
     pub fn message(&mut self, m: &Msg) -> Result<MsgId, NoMemory>
         ensures at { IfOk result (λ id. slice_get self.new.messages id.place ≡ Some (message m.now)) }
         ensures within { IfOk result (λ id. id.place < length self.new.messages) }
-        ensures equal { IfOk result (λ id. (j : ℕ) (n : Term.Message) → slice_get self.new.messages j ≡ Some n → (id.place ≡ j) ↔ (message m.now ≡ n)) }
+        ensures equal { IfOk result
+            (λ id. (j : ℕ) (n : Term.Message) → slice_get self.new.messages j ≡ Some n
+            → (id.place ≡ j) ↔ (message m.now ≡ n)) }
         ensures adds { OnOk result (Adds self.old self.new (a_message (message m.now))) }
-        ensures few { OnOk result (length self.new.messages ≤ length self.old.messages + message_size (message m.now)) }
+        ensures few { OnOk result
+            (length self.new.messages ≤ length self.old.messages + message_size (message m.now)) }
         ensures kept { Keeps self.old self.new }
     {
         self.messages.intern(m)
@@ -85,7 +88,8 @@ impl Store {
     pub fn ty(&mut self, alloc: Global, t: &Ty) -> Result<TyId, NoMemory>
         ensures at { IfOk result (λ id. Means self.new id.place (ty t.now)) }
         ensures within { IfOk result (λ id. id.place < length self.new.types) }
-        ensures equal { IfOk result (λ id. (j : ℕ) (u : Term.Ty) → Means self.new j u → (id.place ≡ j) ↔ SameTy (ty t.now) u) }
+        ensures equal { IfOk result
+            (λ id. (j : ℕ) (u : Term.Ty) → Means self.new j u → (id.place ≡ j) ↔ SameTy (ty t.now) u) }
         ensures adds { OnOk result (Adds self.old self.new (a_type (ty t.now))) }
         ensures kept { Keeps self.old self.new }
     {
@@ -118,7 +122,8 @@ impl Store {
     /// The outermost constructor of the message with a number of this store, with the numbers of its parts.
     pub fn part(&self, m: MsgId) -> MsgPart
         requires { m.place < length self.now.messages }
-        ensures { (n : Term.Message) → slice_get self.now.messages m.place ≡ Some n → Says self.now.messages result n }
+        ensures { (n : Term.Message) → slice_get self.now.messages m.place ≡ Some n
+            → Says self.now.messages result n }
     {
         self.messages.part(m)
     }
@@ -143,8 +148,11 @@ impl Store {
     /// The number of the message with this outermost constructor, whose parts are numbers of this store. Nothing else is new.
     pub fn message_over(&mut self, part: MsgPart) -> Result<MsgId, NoMemory>
         requires { IsOverGiven self.old.messages part }
-        ensures at { IfOk result (λ id. (n : Term.Message) → Says self.old.messages part n → slice_get self.new.messages id.place ≡ Some n) }
-        ensures adds { OnOk result ((n : Term.Message) → Says self.old.messages part n → Adds self.old self.new (over_messages n)) }
+        ensures at { IfOk result
+            (λ id. (n : Term.Message) → Says self.old.messages part n
+            → slice_get self.new.messages id.place ≡ Some n) }
+        ensures adds { OnOk result
+            ((n : Term.Message) → Says self.old.messages part n → Adds self.old self.new (over_messages n)) }
         ensures kept { Keeps self.old self.new }
     {
         self.messages.put(part)
@@ -154,8 +162,12 @@ impl Store {
     pub fn pair_over(&mut self, first: TyId, second: TyId) -> Result<TyId, NoMemory>
         requires first { IsGiven self.old first.place }
         requires second { IsGiven self.old second.place }
-        ensures at { IfOk result (λ id. (t u : Term.Ty) → Means self.old first.place t → Means self.old second.place u → Means self.new id.place (Term.pair_ty t u)) }
-        ensures adds { OnOk result ((t u : Term.Ty) → Means self.old first.place t → Means self.old second.place u → Adds self.old self.new (over_types (Term.pair_ty t u))) }
+        ensures at { IfOk result
+            (λ id. (t u : Term.Ty) → Means self.old first.place t → Means self.old second.place u
+            → Means self.new id.place (Term.pair_ty t u)) }
+        ensures adds { OnOk result
+            ((t u : Term.Ty) → Means self.old first.place t → Means self.old second.place u
+            → Adds self.old self.new (over_types (Term.pair_ty t u))) }
         ensures kept { Keeps self.old self.new }
     {
         self.put(TyNode::Pair(first, second))
@@ -165,8 +177,12 @@ impl Store {
     pub fn sum_over(&mut self, left: TyId, right: TyId) -> Result<TyId, NoMemory>
         requires left { IsGiven self.old left.place }
         requires right { IsGiven self.old right.place }
-        ensures at { IfOk result (λ id. (t u : Term.Ty) → Means self.old left.place t → Means self.old right.place u → Means self.new id.place (Term.sum_ty t u)) }
-        ensures adds { OnOk result ((t u : Term.Ty) → Means self.old left.place t → Means self.old right.place u → Adds self.old self.new (over_types (Term.sum_ty t u))) }
+        ensures at { IfOk result
+            (λ id. (t u : Term.Ty) → Means self.old left.place t → Means self.old right.place u
+            → Means self.new id.place (Term.sum_ty t u)) }
+        ensures adds { OnOk result
+            ((t u : Term.Ty) → Means self.old left.place t → Means self.old right.place u
+            → Adds self.old self.new (over_types (Term.sum_ty t u))) }
         ensures kept { Keeps self.old self.new }
     {
         self.put(TyNode::Sum(left, right))
@@ -175,8 +191,11 @@ impl Store {
     /// The number of the type of keys for this payload, which is a number of this store. Nothing else is new.
     pub fn key_over(&mut self, payload: TyId) -> Result<TyId, NoMemory>
         requires { IsGiven self.old payload.place }
-        ensures at { IfOk result (λ id. (t : Term.Ty) → Means self.old payload.place t → Means self.new id.place (Term.key t)) }
-        ensures adds { OnOk result ((t : Term.Ty) → Means self.old payload.place t → Adds self.old self.new (over_types (Term.key t))) }
+        ensures at { IfOk result
+            (λ id. (t : Term.Ty) → Means self.old payload.place t → Means self.new id.place (Term.key t)) }
+        ensures adds { OnOk result
+            ((t : Term.Ty) → Means self.old payload.place t
+            → Adds self.old self.new (over_types (Term.key t))) }
         ensures kept { Keeps self.old self.new }
     {
         self.put(TyNode::Key(payload))
@@ -185,8 +204,12 @@ impl Store {
     /// The number of the Nonce type with these atoms, over numbers of this store. Nothing else is new.
     pub fn nonce_over(&mut self, alloc: Global, atoms: Vec<AtomId>) -> Result<TyId, NoMemory>
         requires { AreGiven self.old.messages atoms.items }
-        ensures at { IfOk result (λ id. (es : Term.Effect) → TellsAll (SaysAtom self.old.messages) atoms.items es → Means self.new id.place (Term.nonce es)) }
-        ensures adds { OnOk result ((es : Term.Effect) → TellsAll (SaysAtom self.old.messages) atoms.items es → Adds self.old self.new (over_types (Term.nonce es))) }
+        ensures at { IfOk result
+            (λ id. (es : Term.Effect) → TellsAll (SaysAtom self.old.messages) atoms.items es
+            → Means self.new id.place (Term.nonce es)) }
+        ensures adds { OnOk result
+            ((es : Term.Effect) → TellsAll (SaysAtom self.old.messages) atoms.items es
+            → Adds self.old self.new (over_types (Term.nonce es))) }
         ensures kept { Keeps self.old self.new }
     {
         // The count is asked for what its answer says: no message has two numbers.
@@ -199,8 +222,10 @@ impl Store {
     // The number of a type of which this is the outermost constructor.
     fn put(&mut self, node: TyNode) -> Result<TyId, NoMemory>
         requires { SaysKind self.old.types node (said_kind self.old.types node) }
-        ensures at { IfOk result (λ id. slice_get self.new.types id.place ≡ Some (said_kind self.old.types node)) }
-        ensures grows { OnOk result (self.new.types ≡ with_value same_kind self.old.types (said_kind self.old.types node)) }
+        ensures at { IfOk result
+            (λ id. slice_get self.new.types id.place ≡ Some (said_kind self.old.types node)) }
+        ensures grows { OnOk result
+            (self.new.types ≡ with_value same_kind self.old.types (said_kind self.old.types node)) }
         ensures kept { Keeps self.old self.new }
         ensures messages { self.new.messages ≡ self.old.messages }
         ensures effects { self.new.effects ≡ self.old.effects }
@@ -210,8 +235,11 @@ impl Store {
 
     // The number of an effect.
     fn effect(&mut self, alloc: Global, e: &Effect) -> Result<usize, NoMemory>
-        ensures at { IfOk result (λ place. (ids : List AtomId) × (slice_get self.new.effects place ≡ Some ids) × IdsMean self.new.messages ids (effect e.now)) }
-        ensures adds { OnOk result (AddsMessages self.old.messages self.new.messages (λ x. InEffect x (effect e.now))) }
+        ensures at { IfOk result
+            (λ place. (ids : List AtomId) × (slice_get self.new.effects place ≡ Some ids)
+            × IdsMean self.new.messages ids (effect e.now)) }
+        ensures adds { OnOk result
+            (AddsMessages self.old.messages self.new.messages (λ x. InEffect x (effect e.now))) }
         ensures types { self.new.types ≡ self.old.types }
         ensures kept { Keeps self.old self.new }
     {

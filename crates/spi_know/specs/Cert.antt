@@ -14,20 +14,24 @@ said l = message l.message
 abbrev pub Follows : List Message → List Message → By → Message → Type 0
 Follows sent before (Sent i) m = slice_get sent i ≡ Some m
 Follows sent before MakeUnit m = m ≡ Term.unit
-Follows sent before (MakePair i j) m = (a : Message) × (b : Message) × (m ≡ pair a b) × (slice_get before i ≡ Some a) × (slice_get before j ≡ Some b)
+Follows sent before (MakePair i j) m = (a : Message) × (b : Message) × (m ≡ pair a b)
+    × (slice_get before i ≡ Some a) × (slice_get before j ≡ Some b)
 Follows sent before (First i) m = (b : Message) × (slice_get before i ≡ Some (pair m b))
 Follows sent before (Second i) m = (a : Message) × (slice_get before i ≡ Some (pair a m))
 Follows sent before (MakeInl i) m = (a : Message) × (m ≡ in_left a) × (slice_get before i ≡ Some a)
 Follows sent before (MakeInr i) m = (a : Message) × (m ≡ in_right a) × (slice_get before i ≡ Some a)
 Follows sent before (TakeInl i) m = slice_get before i ≡ Some (in_left m)
 Follows sent before (TakeInr i) m = slice_get before i ≡ Some (in_right m)
-Follows sent before (MakeEnc i j) m = (a : Message) × (b : Message) × (m ≡ enc a b) × (slice_get before i ≡ Some a) × (slice_get before j ≡ Some b)
-Follows sent before (Open i j) m = (b : Message) × (slice_get before i ≡ Some (enc m b)) × (slice_get before j ≡ Some b)
+Follows sent before (MakeEnc i j) m = (a : Message) × (b : Message) × (m ≡ enc a b)
+    × (slice_get before i ≡ Some a) × (slice_get before j ≡ Some b)
+Follows sent before (Open i j) m = (b : Message) × (slice_get before i ≡ Some (enc m b))
+    × (slice_get before j ≡ Some b)
 Follows sent before (MakeHash i) m = (a : Message) × (m ≡ hash a) × (slice_get before i ≡ Some a)
 
 -- each line follows from the lines before it, and the last says the target
 pub record Certifies (sent : List Message) (lines : List CertLine) (target : Message) : Type 0 where
-  pub each : (k : ℕ) (l : CertLine) → slice_get lines k ≡ Some l → Follows sent (map said (take k lines)) l.by (said l)
+  pub each : (k : ℕ) (l : CertLine) → slice_get lines k ≡ Some l
+      → Follows sent (map said (take k lines)) l.by (said l)
   pub last : (k : ℕ) × (suc k ≡ length lines) × (slice_get (map said lines) k ≡ Some target)
 
 -- a line by this clause names the line k
@@ -47,4 +51,5 @@ Uses (MakeHash i) k = i ≡ k
 
 -- each line but the last is used by a later one
 abbrev pub AllUsed : List CertLine → Type 0
-AllUsed lines = (k : ℕ) → suc k < length lines → (j : ℕ) × (l : CertLine) × (k < j) × (slice_get lines j ≡ Some l) × Uses l.by k
+AllUsed lines = (k : ℕ) → suc k < length lines
+    → (j : ℕ) × (l : CertLine) × (k < j) × (slice_get lines j ≡ Some l) × Uses l.by k

@@ -62,10 +62,12 @@ HasRule rules a b c = (k : ℕ) × (slice_get rules k ≡ Some (rule a b c))
 
 -- the rules have each clause that makes m, which has the number j, or takes it apart
 abbrev pub HasClauses : List Message → List Rule → ℕ → Message → Type 0
-HasClauses ms rules j (pair a b) = (i : ℕ) × (k : ℕ) × Numbers ms i a × Numbers ms k b × HasRule rules i k j × HasRule rules j j i × HasRule rules j j k
+HasClauses ms rules j (pair a b) = (i : ℕ) × (k : ℕ) × Numbers ms i a × Numbers ms k b × HasRule rules i k j
+    × HasRule rules j j i × HasRule rules j j k
 HasClauses ms rules j (in_left a) = (i : ℕ) × Numbers ms i a × HasRule rules i i j × HasRule rules j j i
 HasClauses ms rules j (in_right a) = (i : ℕ) × Numbers ms i a × HasRule rules i i j × HasRule rules j j i
-HasClauses ms rules j (enc a b) = (i : ℕ) × (k : ℕ) × Numbers ms i a × Numbers ms k b × HasRule rules i k j × HasRule rules j k i
+HasClauses ms rules j (enc a b) = (i : ℕ) × (k : ℕ) × Numbers ms i a × Numbers ms k b × HasRule rules i k j
+    × HasRule rules j k i
 HasClauses ms rules j (hash a) = (i : ℕ) × Numbers ms i a × HasRule rules i i j
 HasClauses ms rules j m = ⊤
 
@@ -77,12 +79,14 @@ pub record AreClauses (ms : List Message) (n : ℕ) (rules : List Rule) (ways : 
 -- the first n messages have these numbers in turn
 pub record AreNumbers (ms sent : List Message) (n : ℕ) (numbers : List ℕ) : Type 0 where
   pub count : length numbers ≡ n
-  pub at : (j : ℕ) (m : Message) → j < n → slice_get sent j ≡ Some m → (i : ℕ) × (slice_get numbers j ≡ Some i) × Numbers ms i m
+  pub at : (j : ℕ) (m : Message) → j < n → slice_get sent j ≡ Some m
+      → (i : ℕ) × (slice_get numbers j ≡ Some i) × Numbers ms i m
 
 -- the start has the numbers of the messages sent in turn, and then that of unit
 pub record Starts (ms sent : List Message) (start : List ℕ) : Type 0 where
   pub count : length start ≡ length sent + 1
-  pub sent_at : (j : ℕ) (m : Message) → slice_get sent j ≡ Some m → (i : ℕ) × (slice_get start j ≡ Some i) × Numbers ms i m
+  pub sent_at : (j : ℕ) (m : Message) → slice_get sent j ≡ Some m
+      → (i : ℕ) × (slice_get start j ≡ Some i) × Numbers ms i m
   pub unit_at : (i : ℕ) → slice_get start (length sent) ≡ Some i → Numbers ms i Term.unit
 
 -- how many nodes messages have

@@ -18,13 +18,15 @@ abbrev pub handed : Configuration → Step → List Message
 handed c (act i) = []
 handed c (talk i j) = datum (slice_get c.places i)
 
-abbrev pub handed_in : {c d : Configuration} {ss : List Step} {es : List Event} → Runs c ss es d → List Message
+abbrev pub handed_in : {c d : Configuration} {ss : List Step} {es : List Event} → Runs c ss es d
+    → List Message
 handed_in runs_none = []
 handed_in (runs_silent {c} {s = s} t r) = handed c s ++ handed_in r
 handed_in (runs_event {c} {s = s} t r) = handed c s ++ handed_in r
 
 -- the names at the start in order, and then the datum of each talk in order
-abbrev pub sent_in : {c d : Configuration} {ss : List Step} {es : List Event} → ℕ → Runs c ss es d → List Message
+abbrev pub sent_in : {c d : Configuration} {ss : List Step} {es : List Event} → ℕ → Runs c ss es d
+    → List Message
 sent_in n r = names_up n ++ handed_in r
 
 -- beside every opponent, along every run, no name made at a Key type is known from what was sent

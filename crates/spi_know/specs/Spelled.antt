@@ -39,10 +39,13 @@ abbrev pub IsLineOf : List Message → ℕ → List Way → Line → CertLine �
 IsLineOf ms n ways l c = Numbers ms l.number (said c) × SaysBy n ways l.ground c.by
 
 -- the first i lines, in their order
-pub record AreLines (ms : List Message) (n : ℕ) (ways : List Way) (lines : List Line) (i : ℕ) (cert : List CertLine) : Type 0 where
+pub record AreLines (ms : List Message) (n : ℕ) (ways : List Way) (lines : List Line) (i : ℕ)
+    (cert : List CertLine) : Type 0 where
   pub count : length cert ≡ i
-  pub each : (j : ℕ) (l : Line) (c : CertLine) → slice_get lines j ≡ Some l → slice_get cert j ≡ Some c → IsLineOf ms n ways l c
+  pub each : (j : ℕ) (l : Line) (c : CertLine) → slice_get lines j ≡ Some l → slice_get cert j ≡ Some c
+      → IsLineOf ms n ways l c
 
 -- each line can be spelled
 abbrev pub AreSmall : ℕ → List Way → List Line → Type 0
-AreSmall n ways lines = (i : ℕ) (l : Line) → slice_get lines i ≡ Some l → (l.number < n) × IsSmall ways l.ground
+AreSmall n ways lines = (i : ℕ) (l : Line) → slice_get lines i ≡ Some l
+    → (l.number < n) × IsSmall ways l.ground

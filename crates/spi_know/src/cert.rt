@@ -59,7 +59,8 @@ fn is_sent(sent: &[Msg], i: u32, m: &Msg) -> bool
 
 // What the line with that number says.
 fn message_at(lines: &[CertLine], i: u32) -> Option<&Msg>
-    ensures { MatchOption result (slice_get (map said lines.now) i ≡ None) (λ m. slice_get (map said lines.now) i ≡ Some (message m.now)) }
+    ensures { MatchOption result (slice_get (map said lines.now) i ≡ None)
+        (λ m. slice_get (map said lines.now) i ≡ Some (message m.now)) }
 {
     match lines.get(i as usize) {
         Some(line) => Some(&line.message),
@@ -79,7 +80,8 @@ fn says(lines: &[CertLine], i: u32, m: &Msg) -> bool
 
 // The line number i says a pair with the first part m.
 fn says_first(lines: &[CertLine], i: u32, m: &Msg) -> bool
-    ensures { IsTrue result ↔ ((n : Message) × slice_get (map said lines.now) i ≡ Some (pair (message m.now) n)) }
+    ensures { IsTrue result
+        ↔ ((n : Message) × slice_get (map said lines.now) i ≡ Some (pair (message m.now) n)) }
 {
     match message_at(lines, i) {
         Some(Msg::Pair(a, _)) => same_message(a, m),
@@ -88,7 +90,8 @@ fn says_first(lines: &[CertLine], i: u32, m: &Msg) -> bool
 }
 
 fn says_second(lines: &[CertLine], i: u32, m: &Msg) -> bool
-    ensures { IsTrue result ↔ ((n : Message) × slice_get (map said lines.now) i ≡ Some (pair n (message m.now))) }
+    ensures { IsTrue result
+        ↔ ((n : Message) × slice_get (map said lines.now) i ≡ Some (pair n (message m.now))) }
 {
     match message_at(lines, i) {
         Some(Msg::Pair(_, b)) => same_message(b, m),
@@ -116,7 +119,9 @@ fn says_right(lines: &[CertLine], i: u32, m: &Msg) -> bool
 
 // The line number i says a ciphertext of m, and the line number j its key.
 fn opens(lines: &[CertLine], i: u32, j: u32, m: &Msg) -> bool
-    ensures { IsTrue result ↔ ((n : Message) × (slice_get (map said lines.now) i ≡ Some (enc (message m.now) n)) × (slice_get (map said lines.now) j ≡ Some n)) }
+    ensures { IsTrue result
+        ↔ ((n : Message) × (slice_get (map said lines.now) i ≡ Some (enc (message m.now) n))
+        × (slice_get (map said lines.now) j ≡ Some n)) }
 {
     match message_at(lines, i) {
         Some(Msg::Enc(a, k)) => same_message(a, m) && says(lines, j, k),
@@ -125,7 +130,8 @@ fn opens(lines: &[CertLine], i: u32, j: u32, m: &Msg) -> bool
 }
 
 fn follows(sent: &[Msg], before: &[CertLine], line: &CertLine) -> bool
-    ensures { IsTrue result ↔ Follows (map message sent.now) (map said before.now) line.now.by (message line.now.message) }
+    ensures { IsTrue result
+        ↔ Follows (map message sent.now) (map said before.now) line.now.by (message line.now.message) }
 {
     let m = &line.message;
     match line.by {

@@ -37,7 +37,8 @@ fn add(
     gives: usize,
     way: Way,
 ) -> Result<(), NoMemory>
-    ensures rules { OnOk result (clauses.new.rules.items ≡ clauses.old.rules.items ++ rule first second gives ∷ []) }
+    ensures rules { OnOk result
+        (clauses.new.rules.items ≡ clauses.old.rules.items ++ rule first second gives ∷ []) }
     ensures ways { OnOk result (clauses.new.ways.items ≡ clauses.old.ways.items ++ way ∷ []) }
 {
     clauses.rules.push(Rule {
@@ -50,8 +51,10 @@ fn add(
 }
 
 fn add_pair(clauses: &mut Clauses, j: usize, a: usize, b: usize) -> Result<(), NoMemory>
-    ensures rules { OnOk result (clauses.new.rules.items ≡ clauses.old.rules.items ++ rule a b j ∷ rule j j a ∷ rule j j b ∷ []) }
-    ensures ways { OnOk result (clauses.new.ways.items ≡ clauses.old.ways.items ++ Way.MakePair ∷ Way.First ∷ Way.Second ∷ []) }
+    ensures rules { OnOk result
+        (clauses.new.rules.items ≡ clauses.old.rules.items ++ rule a b j ∷ rule j j a ∷ rule j j b ∷ []) }
+    ensures ways { OnOk result
+        (clauses.new.ways.items ≡ clauses.old.ways.items ++ Way.MakePair ∷ Way.First ∷ Way.Second ∷ []) }
 {
     add(clauses, a, b, j, Way::MakePair)?;
     add(clauses, j, j, a, Way::First)?;
@@ -59,8 +62,10 @@ fn add_pair(clauses: &mut Clauses, j: usize, a: usize, b: usize) -> Result<(), N
 }
 
 fn add_enc(clauses: &mut Clauses, j: usize, a: usize, k: usize) -> Result<(), NoMemory>
-    ensures rules { OnOk result (clauses.new.rules.items ≡ clauses.old.rules.items ++ rule a k j ∷ rule j k a ∷ []) }
-    ensures ways { OnOk result (clauses.new.ways.items ≡ clauses.old.ways.items ++ Way.MakeEnc ∷ Way.Open ∷ []) }
+    ensures rules { OnOk result
+        (clauses.new.rules.items ≡ clauses.old.rules.items ++ rule a k j ∷ rule j k a ∷ []) }
+    ensures ways { OnOk result
+        (clauses.new.ways.items ≡ clauses.old.ways.items ++ Way.MakeEnc ∷ Way.Open ∷ []) }
 {
     add(clauses, a, k, j, Way::MakeEnc)?;
     add(clauses, j, k, a, Way::Open)
@@ -73,7 +78,8 @@ fn add_one(
     makes: Way,
     takes: Way,
 ) -> Result<(), NoMemory>
-    ensures rules { OnOk result (clauses.new.rules.items ≡ clauses.old.rules.items ++ rule a a j ∷ rule j j a ∷ []) }
+    ensures rules { OnOk result
+        (clauses.new.rules.items ≡ clauses.old.rules.items ++ rule a a j ∷ rule j j a ∷ []) }
     ensures ways { OnOk result (clauses.new.ways.items ≡ clauses.old.ways.items ++ makes ∷ takes ∷ []) }
 {
     add(clauses, a, a, j, makes)?;
@@ -100,7 +106,9 @@ fn add_part(clauses: &mut Clauses, j: usize, part: MsgPart) -> Result<(), NoMemo
 /// The clauses of knowledge at all messages of a store. Their number is linear in that of the messages. The only error
 /// is NoMemory.
 pub fn clauses_of(alloc: Global, store: &Store) -> Result<Clauses, NoMemory>
-    ensures { IfOk result (λ clauses. AreClauses store.now.messages (length store.now.messages) clauses.rules.items clauses.ways.items) }
+    ensures { IfOk result
+        (λ clauses. AreClauses store.now.messages (length store.now.messages) clauses.rules.items
+        clauses.ways.items) }
 {
     let rules = Vec::new(alloc);
     let ways = Vec::new(alloc);

@@ -35,7 +35,8 @@ impl Drop for Knowledge {
 // The numbers of the messages sent.
 fn number_sent(alloc: Global, store: &mut Store, sent: &[Msg]) -> Result<Vec<usize>, NoMemory>
     requires { store.old.messages ≡ [] }
-    ensures numbers { IfOk result (λ start. AreNumbers store.new.messages (map message sent.now) (length sent.now) start.items) }
+    ensures numbers { IfOk result
+        (λ start. AreNumbers store.new.messages (map message sent.now) (length sent.now) start.items) }
     ensures few { OnOk result (length store.new.messages ≤ nodes_in (map message sent.now)) }
 {
     let mut start = Vec::new(alloc);
@@ -70,9 +71,16 @@ fn certify(
 ) -> Result<Vec<CertLine>, NoMemory>
     requires clauses { AreClauses store.now.messages (length store.now.messages) rules.now ways.now }
     requires within { place < length closure.now.order.items }
-    requires order { (start : List ℕ) × IsOrder rules.now start closure.now.order.items closure.now.places.items × StartsWithin (length store.now.messages) start }
+    requires order { (start : List ℕ)
+        × IsOrder rules.now start closure.now.order.items closure.now.places.items
+        × StartsWithin (length store.now.messages) start }
     requires few { length closure.now.order.items < 2 ^ 32 }
-    ensures { IfOk result (λ cert. (start : List ℕ) (from : List Message) (target : ℕ) (m : Message) → IsOrder rules.now start closure.now.order.items closure.now.places.items → Starts store.now.messages from start → length from ≡ sent → StandsAt closure.now.places.items target place → Numbers store.now.messages target m → Certifies from cert.items m × AllUsed cert.items) }
+    ensures { IfOk result
+        (λ cert. (start : List ℕ) (from : List Message) (target : ℕ) (m : Message)
+        → IsOrder rules.now start closure.now.order.items closure.now.places.items
+        → Starts store.now.messages from start → length from ≡ sent
+        → StandsAt closure.now.places.items target place → Numbers store.now.messages target m
+        → Certifies from cert.items m × AllUsed cert.items) }
 {
     let lines = trace(alloc, rules, closure, place)?;
     let cert = spell(alloc, store, sent, ways, &lines)?;
@@ -93,7 +101,9 @@ fn decide_by(
     requires start { StartsWithin (length store.now.messages) start.now }
     requires target { target < length store.now.messages }
     requires few { length store.now.messages < 2 ^ 32 }
-    ensures { IfOk result (λ k. (from : List Message) (m : Message) → Starts store.now.messages from start.now → length from ≡ sent → Numbers store.now.messages target m → Decides from m k) }
+    ensures { IfOk result
+        (λ k. (from : List Message) (m : Message) → Starts store.now.messages from start.now
+        → length from ≡ sent → Numbers store.now.messages target m → Decides from m k) }
 {
     let count = store.message_count();
     let closure = close(alloc, rules, start, count)?;
@@ -117,7 +127,9 @@ fn decide_numbers(
     requires start { StartsWithin (length store.now.messages) start.now }
     requires target { target < length store.now.messages }
     requires few { length store.now.messages < 2 ^ 32 }
-    ensures { IfOk result (λ k. (from : List Message) (m : Message) → Starts store.now.messages from start.now → length from ≡ sent → Numbers store.now.messages target m → Decides from m k) }
+    ensures { IfOk result
+        (λ k. (from : List Message) (m : Message) → Starts store.now.messages from start.now
+        → length from ≡ sent → Numbers store.now.messages target m → Decides from m k) }
 {
     let clauses = clauses_of(alloc, store)?;
     let knowledge = decide_by(

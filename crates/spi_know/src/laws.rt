@@ -18,22 +18,30 @@ pub fn known_is_made_of_reached()
 /// Where nothing is left to take apart in a list of messages that holds what was sent, each known
 /// message is made of that list, and each reached message stands in it.
 pub fn closed_has_all()
-    ensures known { (sent parts : List Message) (m : Message) → ((n : Message) → In n sent → In n parts) → IsClosed (Among parts) → Knows sent m → MadeOf (Among parts) m }
-    ensures reached { (sent parts : List Message) (m : Message) → ((n : Message) → In n sent → In n parts) → IsClosed (Among parts) → Reached sent m → In m parts }
+    ensures known { (sent parts : List Message) (m : Message) → ((n : Message) → In n sent → In n parts)
+        → IsClosed (Among parts) → Knows sent m → MadeOf (Among parts) m }
+    ensures reached { (sent parts : List Message) (m : Message) → ((n : Message) → In n sent → In n parts)
+        → IsClosed (Among parts) → Reached sent m → In m parts }
 {}
 
 /// And where such a list holds reached messages alone, it decides knowledge.
 pub fn reached_is_least()
-    ensures { (sent parts : List Message) (m : Message) → ((n : Message) → In n sent → In n parts) → ((n : Message) → In n parts → Knows sent n) → IsClosed (Among parts) → Knows sent m ↔ MadeOf (Among parts) m }
+    ensures { (sent parts : List Message) (m : Message) → ((n : Message) → In n sent → In n parts)
+        → ((n : Message) → In n parts → Knows sent n) → IsClosed (Among parts)
+        → Knows sent m ↔ MadeOf (Among parts) m }
 {}
 
 /// A list of messages with all their parts: those of them that are known are found within the list,
 /// by the clauses of knowledge until none adds another.
 pub fn knowledge_is_local()
-    ensures { (sent all known : List Message) (m : Message) → HasParts (Among all) → IsSaturated (Among all) (Among known) → ((n : Message) → In n sent → In n known) → ((n : Message) → In n known → In n all) → ((n : Message) → In n known → Knows sent n) → In m all → Knows sent m ↔ In m known }
+    ensures { (sent all known : List Message) (m : Message) → HasParts (Among all)
+        → IsSaturated (Among all) (Among known) → ((n : Message) → In n sent → In n known)
+        → ((n : Message) → In n known → In n all) → ((n : Message) → In n known → Knows sent n) → In m all
+        → Knows sent m ↔ In m known }
 {}
 
 /// What a certificate says last is known.
 pub fn certified_is_known()
-    ensures { (sent : List Message) (lines : List CertLine) (target : Message) → Certifies sent lines target → Knows sent target }
+    ensures { (sent : List Message) (lines : List CertLine) (target : Message) → Certifies sent lines target
+        → Knows sent target }
 {}

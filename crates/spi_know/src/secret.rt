@@ -15,7 +15,8 @@ use spi_sound::keys_stay_secret;
 pub fn sent_is_shown()
     ensures count { (n : ℕ) → length (names_up n) ≡ n }
     ensures names { (n i : ℕ) → i < n → slice_get (names_up n) i ≡ Some (name i) }
-    ensures shown { (n : ℕ) (c d : Configuration) (ss : List Step) (es : List Event) (r : Runs c ss es d) (m : Message) → In m (sent_in n r) → In m (names_below n ++ shown_in r) }
+    ensures shown { (n : ℕ) (c d : Configuration) (ss : List Step) (es : List Event) (r : Runs c ss es d)
+        (m : Message) → In m (sent_in n r) → In m (names_below n ++ shown_in r) }
 {}
 
 /// Where the process is derivable with the empty effect, no name that is made at a Key type along a run beside an opponent is

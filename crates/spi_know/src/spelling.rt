@@ -68,7 +68,8 @@ pub fn spell(
     lines: &[Line],
 ) -> Result<Vec<CertLine>, NoMemory>
     requires { AreSmall (length store.now.messages) ways.now lines.now }
-    ensures { IfOk result (λ cert. AreLines store.now.messages sent ways.now lines.now (length lines.now) cert.items) }
+    ensures { IfOk result
+        (λ cert. AreLines store.now.messages sent ways.now lines.now (length lines.now) cert.items) }
 {
     let mut cert = Vec::new(alloc);
     for line in lines {

@@ -21,9 +21,12 @@ question n a = record { names = n; asked = a }
 
 -- the answer b to a question is what the rules say, in each environment that the numbers of the names stand for
 abbrev pub Tells : Store → List TyId → Asked → Bool → Type 0
-Tells s ids (Typed m t) b = (env : Env) (n : Message) (u : Ty) → StandFor s ids env → slice_get s.messages m.place ≡ Some n → Means s t.place u → (b ≡ true) ↔ HasType [] env n u
-Tells s ids (Labelled m) b = (env : Env) (n : Message) → StandFor s ids env → slice_get s.messages m.place ≡ Some n → (b ≡ true) ↔ IsLabel [] env n
-Tells s ids (Good t) b = (env : Env) (u : Ty) → StandFor s ids env → Means s t.place u → (b ≡ true) ↔ GoodTy [] env u
+Tells s ids (Typed m t) b = (env : Env) (n : Message) (u : Ty) → StandFor s ids env
+    → slice_get s.messages m.place ≡ Some n → Means s t.place u → (b ≡ true) ↔ HasType [] env n u
+Tells s ids (Labelled m) b = (env : Env) (n : Message) → StandFor s ids env
+    → slice_get s.messages m.place ≡ Some n → (b ≡ true) ↔ IsLabel [] env n
+Tells s ids (Good t) b = (env : Env) (u : Ty) → StandFor s ids env → Means s t.place u
+    → (b ≡ true) ↔ GoodTy [] env u
 
 -- the question is over numbers of the store, and a type is small enough to be judged where so many names are in scope
 abbrev pub CanAsk : Store → ℕ → Asked → Type 0
@@ -41,7 +44,8 @@ pub record IsAnswer (s : Store) (ids : List TyId) (q : Question) (b : Bool) : Ty
 -- scope are the last ones.
 pub record AreAnswers (s : Store) (ids : List TyId) (es : Entries) : Type 0 where
   pub each : (i : ℕ) (q : Question) (b : Bool) → slice_get es i ≡ Some (q, b) → IsAnswer s ids q b
-  pub order : (i j : ℕ) (q r : Question) (b c : Bool) → i < j → slice_get es i ≡ Some (q, b) → slice_get es j ≡ Some (r, c) → q.names ≤ r.names
+  pub order : (i j : ℕ) (q r : Question) (b c : Bool) → i < j → slice_get es i ≡ Some (q, b)
+      → slice_get es j ≡ Some (r, c) → q.names ≤ r.names
 
 -- b is kept as the answer to q
 pub record Holds (es : Entries) (q : Question) (b : Bool) : Type 0 where
@@ -54,7 +58,8 @@ pub record IsNew (es : Entries) (q : Question) : Type 0 where
 
 -- the last answer, if any, was given where at most so many names were in scope
 pub record EndsWithin (es : Entries) (names : ℕ) : Type 0 where
-  pub last : (i : ℕ) (q : Question) (b : Bool) → slice_get es i ≡ Some (q, b) → i + 1 ≡ length es → q.names ≤ names
+  pub last : (i : ℕ) (q : Question) (b : Bool) → slice_get es i ≡ Some (q, b) → i + 1 ≡ length es
+      → q.names ≤ names
 
 -- what holds of the fields of every judge, with the answers that it keeps
 pub record IsInside (s : Store) (free : ℕ) (ids : List TyId) (es : Entries) : Type 0 where

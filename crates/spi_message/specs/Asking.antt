@@ -26,8 +26,10 @@ pub record IsAsked (s : Store) (env : List TyId) (t : TyId) (vs : List MsgId) : 
   pub values : AreBelow vs (length s.messages)
 
 -- the message has the type
-pub record IsTyped (s : Store) (env : List TyId) (n : Message) (t : TyId) (vs : List MsgId) (b : Bool) : Type 0 where
-  pub at : (e : Env) (u : Ty) → StandFor s env e → Means s t.place u → AllStay (values_of s.messages vs) → b ≡ typed n e (filled (values_of s.messages vs) u)
+pub record IsTyped (s : Store) (env : List TyId) (n : Message) (t : TyId) (vs : List MsgId) (b : Bool) : Type
+    0 where
+  pub at : (e : Env) (u : Ty) → StandFor s env e → Means s t.place u → AllStay (values_of s.messages vs)
+      → b ≡ typed n e (filled (values_of s.messages vs) u)
 
 -- the message is a label
 pub record IsLabelled (s : Store) (env : List TyId) (n : Message) (b : Bool) : Type 0 where
@@ -49,7 +51,8 @@ pub record IsNoPayload (s : Store) (env : List TyId) (n : Message) : Type 0 wher
 
 -- an atom of a Nonce type is good
 pub record IsGoodAtom (s : Store) (env : List TyId) (a : AtomId) (vs : List MsgId) (b : Bool) : Type 0 where
-  pub at : (e : Env) → StandFor s env e → b ≡ good_atom (atom_map (fill (values_of s.messages vs) 0) (atom_at s.messages a)) e
+  pub at : (e : Env) → StandFor s env e
+      → b ≡ good_atom (atom_map (fill (values_of s.messages vs) 0) (atom_at s.messages a)) e
 
 -- atoms of a Nonce type
 pub record IsAskedAtoms (s : Store) (env : List TyId) (ids : List AtomId) (vs : List MsgId) : Type 0 where
@@ -57,8 +60,10 @@ pub record IsAskedAtoms (s : Store) (env : List TyId) (ids : List AtomId) (vs : 
   pub atoms : AtomsAreBelow ids (length s.messages)
   pub values : AreBelow vs (length s.messages)
 
-pub record AreGood (s : Store) (env : List TyId) (ids : List AtomId) (vs : List MsgId) (b : Bool) : Type 0 where
-  pub at : (e : Env) → StandFor s env e → b ≡ good_effect (effect_map (fill (values_of s.messages vs) 0) (map (atom_at s.messages) ids)) e
+pub record AreGood (s : Store) (env : List TyId) (ids : List AtomId) (vs : List MsgId) (b : Bool) : Type 0
+  where
+    pub at : (e : Env) → StandFor s env e
+        → b ≡ good_effect (effect_map (fill (values_of s.messages vs) 0) (map (atom_at s.messages) ids)) e
 
 -- a type of which each binder takes one more name
 pub record IsAskedGood (s : Store) (env : List TyId) (t : TyId) (vs : List MsgId) : Type 0 where
@@ -68,4 +73,5 @@ pub record IsAskedGood (s : Store) (env : List TyId) (t : TyId) (vs : List MsgId
   pub few : length env + kind_size (kind_at s.types t) < 2 ^ 32
 
 pub record IsGood (s : Store) (env : List TyId) (t : TyId) (vs : List MsgId) (b : Bool) : Type 0 where
-  pub at : (e : Env) (u : Ty) → StandFor s env e → Means s t.place u → AllStay (values_of s.messages vs) → b ≡ good e (filled (values_of s.messages vs) u)
+  pub at : (e : Env) (u : Ty) → StandFor s env e → Means s t.place u → AllStay (values_of s.messages vs)
+      → b ≡ good e (filled (values_of s.messages vs) u)

@@ -69,17 +69,23 @@ pub record AtomsAreBelow (ids : List AtomId) (n : ℕ) : Type 0 where
 abbrev pub IsDepth : ℕ → ℕ → Type 0
 IsDepth d depth = min d (2 ^ 32) ≡ depth
 
-pub record FillsMessage (old new : List Message) (values : List MsgId) (depth : ℕ) (m r : MsgId) : Type 0 where
-  pub at : (d : ℕ) → IsDepth d depth → slice_get new r.place ≡ Some (fill (values_of old values) d (message_at old m))
+pub record FillsMessage (old new : List Message) (values : List MsgId) (depth : ℕ) (m r : MsgId) : Type 0
+  where
+    pub at : (d : ℕ) → IsDepth d depth
+        → slice_get new r.place ≡ Some (fill (values_of old values) d (message_at old m))
 
 pub record FillsAtom (old new : List Message) (values : List MsgId) (depth : ℕ) (a r : AtomId) : Type 0 where
-  pub at : (d : ℕ) → IsDepth d depth → SaysAtom new r (atom_map (fill (values_of old values) d) (atom_at old a))
+  pub at : (d : ℕ) → IsDepth d depth
+      → SaysAtom new r (atom_map (fill (values_of old values) d) (atom_at old a))
 
-pub record FillsAtoms (old new : List Message) (values : List MsgId) (depth : ℕ) (xs rs : List AtomId) : Type 0 where
-  pub at : (d : ℕ) → IsDepth d depth → TellsAll (SaysAtom new) rs (effect_map (fill (values_of old values) d) (map (atom_at old) xs))
+pub record FillsAtoms (old new : List Message) (values : List MsgId) (depth : ℕ) (xs rs : List AtomId) : Type
+    0 where
+  pub at : (d : ℕ) → IsDepth d depth
+      → TellsAll (SaysAtom new) rs (effect_map (fill (values_of old values) d) (map (atom_at old) xs))
 
 pub record FillsTy (old new : Store) (values : List MsgId) (depth : ℕ) (t r : TyId) : Type 0 where
-  pub at : (d : ℕ) (u : Ty) → IsDepth d depth → Means old t.place u → Means new r.place (ty_map (fill (values_of old.messages values)) d u)
+  pub at : (d : ℕ) (u : Ty) → IsDepth d depth → Means old t.place u
+      → Means new r.place (ty_map (fill (values_of old.messages values)) d u)
 
 -- constructors of a type outside its effects
 abbrev pub kind_size : Kind → ℕ

@@ -16,7 +16,8 @@ pub record HasParts (ms : List Message) (m : Message) : Type 0 where
 -- the store grew from s as each of these terms, the last first, was given a number
 pub data Grows (s : Store) : List Given → Store → Type 0 where
   grows_none : Grows s [] s
-  grows_next : {gs : List Given} {g : Given} {q r : Store} → Grows s gs q → Keeps q r → Adds q r g → Grows s (g ∷ gs) r
+  grows_next : {gs : List Given} {g : Given} {q r : Store} → Grows s gs q → Keeps q r → Adds q r g
+      → Grows s (g ∷ gs) r
 
 -- the store grew from s to r as terms with P were given numbers, and no others
 pub record GivesOnly (P : Given → Type 0) (s r : Store) : Type 0 where
@@ -51,11 +52,13 @@ pub data Examined : Env → Ty → Given → Type 0 where
   the_name : {e : Env} {t u : Ty} → Examined e (pair_ty t u) (a_message (name (length e)))
   its_type : {e : Env} {t u : Ty} → Examined e (pair_ty t u) (a_type t)
   in_first : {e : Env} {t u : Ty} {g : Given} → Examined e t g → Examined e (pair_ty t u) g
-  in_second : {e : Env} {t u : Ty} {g : Given} → Examined (e ++ t ∷ []) (ty_put (name (length e)) u) g → Examined e (pair_ty t u) g
+  in_second : {e : Env} {t u : Ty} {g : Given} → Examined (e ++ t ∷ []) (ty_put (name (length e)) u) g
+      → Examined e (pair_ty t u) g
   in_left : {e : Env} {t u : Ty} {g : Given} → Examined e t g → Examined e (sum_ty t u) g
   in_right : {e : Env} {t u : Ty} {g : Given} → Examined e u g → Examined e (sum_ty t u) g
   in_payload : {e : Env} {t : Ty} {g : Given} → Examined e t g → Examined e (key t) g
-  of_atom : {e : Env} {a : Atom} {es : Effect} {g : Given} → In a es → Tested e (message_of a) g → Examined e (nonce es) g
+  of_atom : {e : Env} {a : Atom} {es : Effect} {g : Given} → In a es → Tested e (message_of a) g
+      → Examined e (nonce es) g
 
 -- a whole term, and no constructor over numbers alone
 pub data IsWhole : Given → Type 0 where

@@ -16,7 +16,8 @@ pub record Numbered : Type 0 where
 -- each number means the type at its place
 pub data StandFor (s : Store) : List TyId → Env → Type 0 where
   stand_none : StandFor s [] []
-  stand_next : {i : TyId} {t : Ty} {ids : List TyId} {env : Env} → Means s i.place t → StandFor s ids env → StandFor s (i ∷ ids) (t ∷ env)
+  stand_next : {i : TyId} {t : Ty} {ids : List TyId} {env : Env} → Means s i.place t → StandFor s ids env
+      → StandFor s (i ∷ ids) (t ∷ env)
 
 -- The judge's environment is env. A number means its type up to equal counts of atoms within each Nonce, so a judge
 -- stands for several environments, and what it answers is so in each of them.

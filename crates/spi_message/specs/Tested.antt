@@ -13,7 +13,8 @@ pub record IsTest (j : Numbered) (test : Env → Bool) (b : Bool) : Type 0 where
 
 -- the number of Nonce es, where the message is a name of such a type
 pub record IsNonceAt (j : Numbered) (m : Message) (t : TyId) : Type 0 where
-  pub at : (e : Env) → Stands j e → (es : Effect) × (nonce_of e m ≡ Some es) × Means j.store t.place (nonce es)
+  pub at : (e : Env) → Stands j e
+      → (es : Effect) × (nonce_of e m ≡ Some es) × Means j.store t.place (nonce es)
 
 pub record IsNoNonce (j : Numbered) (m : Message) : Type 0 where
   pub at : (e : Env) → Stands j e → nonce_of e m ≡ None

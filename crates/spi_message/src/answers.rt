@@ -50,7 +50,8 @@ impl Answers {
     /// Keeps an answer.
     pub fn keep(&mut self, names: usize, asked: Asked, answer: bool) -> Result<(), NoMemory>
         requires { IsNew self.old.given.entries (question names asked) }
-        ensures ok { OnOk result (self.new.given.entries ≡ self.old.given.entries ++ (question names asked, answer) ∷ []) }
+        ensures ok { OnOk result
+            (self.new.given.entries ≡ self.old.given.entries ++ (question names asked, answer) ∷ []) }
         ensures err { OnErr result (self.new.given.entries ≡ self.old.given.entries) }
     {
         self.given.insert(Question { names, asked }, answer)?;

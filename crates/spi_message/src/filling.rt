@@ -127,7 +127,8 @@ fn filled_atoms(
     requires depth { depth ≤ 2 ^ 32 }
     requires atoms { AtomsAreBelow atoms.now (length store.old.messages) }
     requires values { AreBelow values.now (length store.old.messages) }
-    ensures at { IfOk result (λ rs. FillsAtoms store.old.messages store.new.messages values.now depth atoms.now rs.items) }
+    ensures at { IfOk result
+        (λ rs. FillsAtoms store.old.messages store.new.messages values.now depth atoms.now rs.items) }
     ensures adds { OnOk result (AtomsAreAdded store.old store.new values.now depth atoms.now) }
     ensures kept { Keeps store.old store.new }
 {

@@ -89,7 +89,9 @@ impl Judge {
     pub fn message(&mut self, m: &Msg) -> Result<MsgId, NoMemory>
         ensures at { IfOk result (λ id. slice_get self.new.store.messages id.place ≡ Some (message m.now)) }
         ensures within { IfOk result (λ id. id.place < length self.new.store.messages) }
-        ensures equal { IfOk result (λ id. (j : ℕ) (n : Term.Message) → slice_get self.new.store.messages j ≡ Some n → (id.place ≡ j) ↔ (message m.now ≡ n)) }
+        ensures equal { IfOk result
+            (λ id. (j : ℕ) (n : Term.Message) → slice_get self.new.store.messages j ≡ Some n
+            → (id.place ≡ j) ↔ (message m.now ≡ n)) }
         ensures adds { OnOk result (Adds self.old.store self.new.store (a_message (message m.now))) }
         ensures kept { IsKept self.old self.new }
     {
@@ -99,7 +101,8 @@ impl Judge {
     /// The number of a type, as `Store::ty` of the judge's store gives it.
     pub fn ty(&mut self, alloc: Global, t: &Ty) -> Result<TyId, NoMemory>
         ensures at { IfOk result (λ id. Means self.new.store id.place (ty t.now)) }
-        ensures equal { IfOk result (λ id. (j : ℕ) (u : Term.Ty) → Means self.new.store j u → (id.place ≡ j) ↔ SameTy (ty t.now) u) }
+        ensures equal { IfOk result
+            (λ id. (j : ℕ) (u : Term.Ty) → Means self.new.store j u → (id.place ≡ j) ↔ SameTy (ty t.now) u) }
         ensures adds { OnOk result (Adds self.old.store self.new.store (a_type (ty t.now))) }
         ensures kept { IsKept self.old self.new }
     {
@@ -135,8 +138,14 @@ impl Judge {
     pub fn opened(&mut self, alloc: Global, t: TyId, m: MsgId) -> Result<TyId, NoMemory>
         requires ty { IsGiven self.old.store t.place }
         requires message { m.place < length self.old.store.messages }
-        ensures at { IfOk result (λ id. (u : Term.Ty) (n : Term.Message) → Means self.old.store t.place u → slice_get self.old.store.messages m.place ≡ Some n → Means self.new.store id.place (ty_put n u)) }
-        ensures adds { OnOk result ((u : Term.Ty) (n : Term.Message) → Means self.old.store t.place u → slice_get self.old.store.messages m.place ≡ Some n → HasParts self.old.store.messages n → Adds self.old.store self.new.store (a_type (ty_put n u))) }
+        ensures at { IfOk result
+            (λ id. (u : Term.Ty) (n : Term.Message) → Means self.old.store t.place u
+            → slice_get self.old.store.messages m.place ≡ Some n
+            → Means self.new.store id.place (ty_put n u)) }
+        ensures adds { OnOk result
+            ((u : Term.Ty) (n : Term.Message) → Means self.old.store t.place u
+            → slice_get self.old.store.messages m.place ≡ Some n → HasParts self.old.store.messages n
+            → Adds self.old.store self.new.store (a_type (ty_put n u))) }
         ensures kept { IsKept self.old self.new }
     {
         filled_type(alloc, &mut self.store, &[m], 0, t)
@@ -146,8 +155,15 @@ impl Judge {
     pub fn has_type(&mut self, alloc: Global, m: MsgId, t: TyId) -> Result<bool, NoMemory>
         requires message { m.place < length self.old.store.messages }
         requires ty { IsGiven self.old.store t.place }
-        ensures answer { IfOk result (λ b. (env : Env) (n : Term.Message) (u : Term.Ty) → Stands self.old env → slice_get self.old.store.messages m.place ≡ Some n → Means self.old.store t.place u → (b ≡ true) ↔ HasType [] env n u) }
-        ensures adds { OnOk result ((env : Env) (n : Term.Message) (u : Term.Ty) → Stands self.old env → slice_get self.old.store.messages m.place ≡ Some n → Means self.old.store t.place u → HasParts self.old.store.messages n → GivesOnly (Compared env n u) self.old.store self.new.store) }
+        ensures answer { IfOk result
+            (λ b. (env : Env) (n : Term.Message) (u : Term.Ty) → Stands self.old env
+            → slice_get self.old.store.messages m.place ≡ Some n → Means self.old.store t.place u
+            → (b ≡ true) ↔ HasType [] env n u) }
+        ensures adds { OnOk result
+            ((env : Env) (n : Term.Message) (u : Term.Ty) → Stands self.old env
+            → slice_get self.old.store.messages m.place ≡ Some n → Means self.old.store t.place u
+            → HasParts self.old.store.messages n
+            → GivesOnly (Compared env n u) self.old.store self.new.store) }
         ensures kept { IsKept self.old self.new }
     {
         answered(
@@ -162,8 +178,13 @@ impl Judge {
     /// Whether the message is a label. Only types that a name of the message was compared with are new.
     pub fn is_label(&mut self, alloc: Global, m: MsgId) -> Result<bool, NoMemory>
         requires { m.place < length self.old.store.messages }
-        ensures answer { IfOk result (λ b. (env : Env) (n : Term.Message) → Stands self.old env → slice_get self.old.store.messages m.place ≡ Some n → (b ≡ true) ↔ IsLabel [] env n) }
-        ensures adds { OnOk result ((env : Env) (n : Term.Message) → Stands self.old env → slice_get self.old.store.messages m.place ≡ Some n → HasParts self.old.store.messages n → GivesOnly (Compared env n Term.un) self.old.store self.new.store) }
+        ensures answer { IfOk result
+            (λ b. (env : Env) (n : Term.Message) → Stands self.old env
+            → slice_get self.old.store.messages m.place ≡ Some n → (b ≡ true) ↔ IsLabel [] env n) }
+        ensures adds { OnOk result
+            ((env : Env) (n : Term.Message) → Stands self.old env
+            → slice_get self.old.store.messages m.place ≡ Some n → HasParts self.old.store.messages n
+            → GivesOnly (Compared env n Term.un) self.old.store self.new.store) }
         ensures kept { IsKept self.old self.new }
     {
         answered(
@@ -180,8 +201,12 @@ impl Judge {
     /// with are new.
     pub fn good_type(&mut self, alloc: Global, t: TyId) -> Result<bool, NoMemory>
         requires { IsGivenSmall self.old.store t.place (length self.old.types) }
-        ensures answer { IfOk result (λ b. (env : Env) (u : Term.Ty) → Stands self.old env → Means self.old.store t.place u → (b ≡ true) ↔ GoodTy [] env u) }
-        ensures adds { OnOk result ((env : Env) (u : Term.Ty) → Stands self.old env → Means self.old.store t.place u → GivesOnly (Examined env u) self.old.store self.new.store) }
+        ensures answer { IfOk result
+            (λ b. (env : Env) (u : Term.Ty) → Stands self.old env → Means self.old.store t.place u
+            → (b ≡ true) ↔ GoodTy [] env u) }
+        ensures adds { OnOk result
+            ((env : Env) (u : Term.Ty) → Stands self.old env → Means self.old.store t.place u
+            → GivesOnly (Examined env u) self.old.store self.new.store) }
         ensures kept { IsKept self.old self.new }
     {
         answered(

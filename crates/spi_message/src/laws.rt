@@ -13,9 +13,11 @@ ghost use Rattle.spi_message.specs.Giving.{HasParts, Grows, Compared, Examined, 
 /// hold after a call that gives numbers to whole terms alone, as every call of a judge does. So each part of a message
 /// with a number has a number.
 pub fn judged_parts_are_counted()
-    ensures parts { (gs : List Given) (s : Store) (n : Message) → HasGiven gs s → Has s.messages n → HasParts s.messages n }
+    ensures parts { (gs : List Given) (s : Store) (n : Message) → HasGiven gs s → Has s.messages n
+        → HasParts s.messages n }
     ensures counted { (gs : List Given) (s : Store) → HasGiven gs s → NoneTwice s → CountsParts gs s }
-    ensures next { (gs hs : List Given) (s r : Store) → HasGiven gs s → Grows s hs r → AreWhole hs → HasGiven (hs ++ gs) r }
+    ensures next { (gs hs : List Given) (s r : Store) → HasGiven gs s → Grows s hs r → AreWhole hs
+        → HasGiven (hs ++ gs) r }
     ensures typing { (env : Env) (n : Message) (u : Ty) (g : Given) → Compared env n u g → IsWhole g }
     ensures good { (env : Env) (u : Ty) (g : Given) → Examined env u g → IsWhole g }
 {}
@@ -23,7 +25,10 @@ pub fn judged_parts_are_counted()
 /// Where calls on it have answered `NoMemory`, a judge has a number for each different message and each different type
 /// among the terms for which calls that answered `Ok` gave one, and their parts.
 pub fn judged_parts_are_counted_at_least()
-    ensures parts { (gs : List Given) (s : Store) (n : Message) → HasGivenAtLeast gs s → MessageAmong gs n → HasParts s.messages n }
-    ensures counted { (gs : List Given) (s : Store) → HasGivenAtLeast gs s → NoneTwice s → CountsPartsAtLeast gs s }
-    ensures next { (gs hs : List Given) (s r : Store) → HasGivenAtLeast gs s → Grows s hs r → AreWhole hs → HasGivenAtLeast (hs ++ gs) r }
+    ensures parts { (gs : List Given) (s : Store) (n : Message) → HasGivenAtLeast gs s → MessageAmong gs n
+        → HasParts s.messages n }
+    ensures counted { (gs : List Given) (s : Store) → HasGivenAtLeast gs s → NoneTwice s
+        → CountsPartsAtLeast gs s }
+    ensures next { (gs hs : List Given) (s r : Store) → HasGivenAtLeast gs s → Grows s hs r → AreWhole hs
+        → HasGivenAtLeast (hs ++ gs) r }
 {}

@@ -32,7 +32,8 @@ fn type_of<'a>(x: u32, env: &'a [Ty], inner: &'a [Ty]) -> Option<&'a Ty>
 
 // The T of a name of type Key(T).
 fn key_type<'a>(m: &Msg, env: &'a [Ty], inner: &'a [Ty]) -> Option<&'a Ty>
-    ensures some { IfSome result (λ t. key_of (scope_of env.now inner.now) (message m.now) ≡ Some (ty t.now)) }
+    ensures some { IfSome result
+        (λ t. key_of (scope_of env.now inner.now) (message m.now) ≡ Some (ty t.now)) }
     ensures none { IfNone result (key_of (scope_of env.now inner.now) (message m.now) ≡ None) }
 {
     match m {
@@ -108,7 +109,8 @@ fn pair_has_type(
     inner: &[Ty],
     t: &Ty,
 ) -> Result<bool, NoMemory>
-    ensures { IfOk result (λ x. x ≡ typed (pair (message a.now) (message b.now)) (scope_of env.now inner.now) (ty t.now)) }
+    ensures { IfOk result
+        (λ x. x ≡ typed (pair (message a.now) (message b.now)) (scope_of env.now inner.now) (ty t.now)) }
 {
     match t {
         Ty::Un => {
@@ -140,7 +142,8 @@ fn is_sealed(
     env: &[Ty],
     inner: &[Ty],
 ) -> Result<bool, NoMemory>
-    ensures { IfOk result (λ b. b ≡ labelled (enc (message body.now) (message key.now)) (scope_of env.now inner.now)) }
+    ensures { IfOk result
+        (λ b. b ≡ labelled (enc (message body.now) (message key.now)) (scope_of env.now inner.now)) }
 {
     if let Some(payload) = key_type(key, env, inner) {
         return has_type(alloc, body, env, inner, payload);

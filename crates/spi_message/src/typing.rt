@@ -68,8 +68,10 @@ pub fn has_type(
 ) -> Result<bool, NoMemory>
     requires message { m.place < length store.old.messages }
     requires asked { IsAsked store.old env.now t values.old.items }
-    ensures answer { IfOk result (IsTyped store.old env.now (message_at store.old.messages m) t values.old.items) }
-    ensures adds { OnOk result (TypingGives store.old store.new env.now (message_at store.old.messages m) t values.old.items) }
+    ensures answer { IfOk result
+        (IsTyped store.old env.now (message_at store.old.messages m) t values.old.items) }
+    ensures adds { OnOk result
+        (TypingGives store.old store.new env.now (message_at store.old.messages m) t values.old.items) }
     ensures kept { Keeps store.old store.new }
     ensures values { OnOk result (values.new.items ≡ values.old.items) }
 {
@@ -110,8 +112,12 @@ fn pair_has_type(
     requires first { a.place < length store.old.messages }
     requires second { b.place < length store.old.messages }
     requires asked { IsAsked store.old env.now t values.old.items }
-    ensures answer { IfOk result (IsTyped store.old env.now (pair (message_at store.old.messages a) (message_at store.old.messages b)) t values.old.items) }
-    ensures adds { OnOk result (TypingGives store.old store.new env.now (pair (message_at store.old.messages a) (message_at store.old.messages b)) t values.old.items) }
+    ensures answer { IfOk result
+        (IsTyped store.old env.now (pair (message_at store.old.messages a) (message_at store.old.messages b))
+        t values.old.items) }
+    ensures adds { OnOk result
+        (TypingGives store.old store.new env.now
+        (pair (message_at store.old.messages a) (message_at store.old.messages b)) t values.old.items) }
     ensures kept { Keeps store.old store.new }
     ensures values { OnOk result (values.new.items ≡ values.old.items) }
 {
@@ -151,8 +157,11 @@ fn left_has_type(
 ) -> Result<bool, NoMemory>
     requires part { a.place < length store.old.messages }
     requires asked { IsAsked store.old env.now t values.old.items }
-    ensures answer { IfOk result (IsTyped store.old env.now (in_left (message_at store.old.messages a)) t values.old.items) }
-    ensures adds { OnOk result (TypingGives store.old store.new env.now (in_left (message_at store.old.messages a)) t values.old.items) }
+    ensures answer { IfOk result
+        (IsTyped store.old env.now (in_left (message_at store.old.messages a)) t values.old.items) }
+    ensures adds { OnOk result
+        (TypingGives store.old store.new env.now (in_left (message_at store.old.messages a)) t
+        values.old.items) }
     ensures kept { Keeps store.old store.new }
     ensures values { OnOk result (values.new.items ≡ values.old.items) }
 {
@@ -177,8 +186,11 @@ fn right_has_type(
 ) -> Result<bool, NoMemory>
     requires part { a.place < length store.old.messages }
     requires asked { IsAsked store.old env.now t values.old.items }
-    ensures answer { IfOk result (IsTyped store.old env.now (in_right (message_at store.old.messages a)) t values.old.items) }
-    ensures adds { OnOk result (TypingGives store.old store.new env.now (in_right (message_at store.old.messages a)) t values.old.items) }
+    ensures answer { IfOk result
+        (IsTyped store.old env.now (in_right (message_at store.old.messages a)) t values.old.items) }
+    ensures adds { OnOk result
+        (TypingGives store.old store.new env.now (in_right (message_at store.old.messages a)) t
+        values.old.items) }
     ensures kept { Keeps store.old store.new }
     ensures values { OnOk result (values.new.items ≡ values.old.items) }
 {
@@ -205,8 +217,12 @@ fn is_sealed(
     requires body { body.place < length store.old.messages }
     requires key { key.place < length store.old.messages }
     requires names { IsEnvironment store.old env.now }
-    ensures answer { IfOk result (IsLabelled store.old env.now (enc (message_at store.old.messages body) (message_at store.old.messages key))) }
-    ensures adds { OnOk result (LabelGives store.old store.new env.now (enc (message_at store.old.messages body) (message_at store.old.messages key))) }
+    ensures answer { IfOk result
+        (IsLabelled store.old env.now
+        (enc (message_at store.old.messages body) (message_at store.old.messages key))) }
+    ensures adds { OnOk result
+        (LabelGives store.old store.new env.now
+        (enc (message_at store.old.messages body) (message_at store.old.messages key))) }
     ensures kept { Keeps store.old store.new }
 {
     let mut values = Vec::new(alloc);

@@ -48,16 +48,20 @@ shared_items i all (s ∷ ss) = counts i shared_limit all s.span ∷ shared_item
 -- at one place the fault with the lower number comes first: a role that is declared again, before one past the limit
 abbrev pub role_items : ℕ → ℕ → List SWord → List SWord → List Item
 role_items i all before [] = []
-role_items i all before (w ∷ ws) = declares before w ∷ counts i role_limit all w.span ∷ role_items (i + 1) all (before ++ w ∷ []) ws
+role_items i all before (w ∷ ws) =
+    declares before w ∷ counts i role_limit all w.span ∷ role_items (i + 1) all (before ++ w ∷ []) ws
 
 -- and a sender that isn't declared, before a line past the limit
 abbrev pub line_items : ℕ → ℕ → List SWord → List n.Line → List Item
 line_items i all roles [] = []
-line_items i all roles (n.local s role x ∷ ls) = speaks roles role ∷ counts i line_limit all s ∷ line_items (i + 1) all roles ls
-line_items i all roles (n.pass s from to channel m x ∷ ls) = speaks roles from ∷ counts i line_limit all s ∷ speaks roles to ∷ line_items (i + 1) all roles ls
+line_items i all roles (n.local s role x ∷ ls) =
+    speaks roles role ∷ counts i line_limit all s ∷ line_items (i + 1) all roles ls
+line_items i all roles (n.pass s from to channel m x ∷ ls) =
+    speaks roles from ∷ counts i line_limit all s ∷ speaks roles to ∷ line_items (i + 1) all roles ls
 
 abbrev pub items_of : n.Narration → List Item
-items_of x = shared_items 0 (length x.shared) x.shared ++ (role_items 0 (length x.roles) [] x.roles ++ line_items 0 (length x.lines) x.roles x.lines)
+items_of x = shared_items 0 (length x.shared) x.shared
+    ++ (role_items 0 (length x.roles) [] x.roles ++ line_items 0 (length x.lines) x.roles x.lines)
 
 -- ---- the first fault of items, or none
 

@@ -15,20 +15,50 @@ abbrev pub asked_word : List ℕ → List Piece → List Piece
 asked_word spelling r = a_token (kinds.Word spelling) r
 
 abbrev pub prefix_pieces : n.Prefix → List Piece → List Piece
-prefix_pieces (n.split s m x a y b) r = begins s (kinds.Reserved word.Split) false (msg_pieces 1 m (a_reserved word.Is (a_mark mark.ParenOpen (named_pieces x a (a_mark mark.Comma (named_pieces y b (a_mark mark.ParenClose (ends s r))))))))
-prefix_pieces (n.match s m x a k y b) r = begins s (kinds.Reserved word.Match) false (msg_pieces 1 m (a_reserved word.Is (a_mark mark.ParenOpen (named_pieces x a (a_mark mark.Equals (msg_pieces 1 k (a_mark mark.Comma (named_pieces y b (a_mark mark.ParenClose (ends s r))))))))))
-prefix_pieces (n.decrypt s m x a k) r = begins s (kinds.Reserved word.Decrypt) false (msg_pieces 1 m (a_reserved word.Is (a_mark mark.BraceOpen (named_pieces x a (a_mark mark.BraceClose (msg_pieces 1 k (ends s r)))))))
-prefix_pieces (n.check s m k) r = begins s (kinds.Reserved word.Check) false (msg_pieces 1 m (a_reserved word.Is (msg_pieces 1 k (ends s r))))
+prefix_pieces (n.split s m x a y b) r =
+    begins s (kinds.Reserved word.Split) false
+    (msg_pieces 1 m
+    (a_reserved word.Is
+    (a_mark mark.ParenOpen
+    (named_pieces x a (a_mark mark.Comma (named_pieces y b (a_mark mark.ParenClose (ends s r))))))))
+prefix_pieces (n.match s m x a k y b) r =
+    begins s (kinds.Reserved word.Match) false
+    (msg_pieces 1 m
+    (a_reserved word.Is
+    (a_mark mark.ParenOpen
+    (named_pieces x a
+    (a_mark mark.Equals
+    (msg_pieces 1 k (a_mark mark.Comma (named_pieces y b (a_mark mark.ParenClose (ends s r))))))))))
+prefix_pieces (n.decrypt s m x a k) r =
+    begins s (kinds.Reserved word.Decrypt) false
+    (msg_pieces 1 m
+    (a_reserved word.Is
+    (a_mark mark.BraceOpen (named_pieces x a (a_mark mark.BraceClose (msg_pieces 1 k (ends s r)))))))
+prefix_pieces (n.check s m k) r =
+    begins s (kinds.Reserved word.Check) false
+    (msg_pieces 1 m (a_reserved word.Is (msg_pieces 1 k (ends s r))))
 prefix_pieces (n.begin s m) r = begins s (kinds.Reserved word.Begin) false (msg_pieces 1 m (ends s r))
 prefix_pieces (n.end s m) r = begins s (kinds.Reserved word.End) false (msg_pieces 1 m (ends s r))
 prefix_pieces (n.end_many s m) r = begins s (kinds.Reserved word.EndMany) false (msg_pieces 1 m (ends s r))
-prefix_pieces (n.cast s m x a) r = begins s (kinds.Reserved word.Cast) false (msg_pieces 1 m (a_reserved word.Is (a_mark mark.ParenOpen (named_pieces x a (a_mark mark.ParenClose (ends s r))))))
-prefix_pieces (n.new s x a) r = begins s (kinds.Reserved word.New) false (a_mark mark.ParenOpen (named_pieces x a (a_mark mark.ParenClose (ends s r))))
+prefix_pieces (n.cast s m x a) r =
+    begins s (kinds.Reserved word.Cast) false
+    (msg_pieces 1 m
+    (a_reserved word.Is (a_mark mark.ParenOpen (named_pieces x a (a_mark mark.ParenClose (ends s r))))))
+prefix_pieces (n.new s x a) r =
+    begins s (kinds.Reserved word.New) false
+    (a_mark mark.ParenOpen (named_pieces x a (a_mark mark.ParenClose (ends s r))))
 
 abbrev pub line_pieces : n.Line → List Piece → List Piece
-line_pieces (n.local s role x) r = opens s.from ∷ a_word false role (a_mark mark.Colon (prefix_pieces x (a_mark mark.Semicolon (ends s r))))
+line_pieces (n.local s role x) r =
+    opens s.from ∷ a_word false role (a_mark mark.Colon (prefix_pieces x (a_mark mark.Semicolon (ends s r))))
 line_pieces (n.pass s from to channel m x) r =
-    opens s.from ∷ a_word false from (asked_word (codes "to") (a_word false to (asked_word (codes "on") (a_word false channel (a_mark mark.Colon (msg_pieces 1 m (asked_word (codes "as") (a_word false x (a_mark mark.Semicolon (ends s r))))))))))
+    opens s.from ∷ a_word false from
+    (asked_word (codes "to")
+    (a_word false to
+    (asked_word (codes "on")
+    (a_word false channel
+    (a_mark mark.Colon
+    (msg_pieces 1 m (asked_word (codes "as") (a_word false x (a_mark mark.Semicolon (ends s r))))))))))
 
 -- a word behind a comma
 abbrev pub comma_pieces : SWord → List Piece → List Piece
@@ -37,16 +67,23 @@ comma_pieces w r = a_mark mark.Comma (a_word false w r)
 -- a formed narration has a first role
 abbrev pub roles_pieces : List SWord → List Piece → List Piece
 roles_pieces [] r = r
-roles_pieces (w ∷ ws) r = asked_word (codes "roles") (a_word false w (each_pieces comma_pieces ws (a_mark mark.Semicolon r)))
+roles_pieces (w ∷ ws) r =
+    asked_word (codes "roles") (a_word false w (each_pieces comma_pieces ws (a_mark mark.Semicolon r)))
 
 abbrev pub narration_pieces : n.Narration → List Piece → List Piece
-narration_pieces x r = opens x.span.from ∷ version_pieces x.version (each_pieces decl_pieces x.decls (each_pieces shared_pieces x.shared (roles_pieces x.roles (each_pieces line_pieces x.lines (ends x.span r)))))
+narration_pieces x r =
+    opens x.span.from
+    ∷ version_pieces x.version
+    (each_pieces decl_pieces x.decls
+    (each_pieces shared_pieces x.shared
+    (roles_pieces x.roles (each_pieces line_pieces x.lines (ends x.span r)))))
 
 -- ---- which are formed
 
 abbrev pub IsPrefix : Bool → n.Prefix → Type 0
 IsPrefix later (n.split s m x a y b) = IsMsg later false m × IsTy later a × IsTy later b
-IsPrefix later (n.match s m x a k y b) = IsMsg later false m × IsTy later a × IsMsg later false k × IsTy later b
+IsPrefix later (n.match s m x a k y b) = IsMsg later false m × IsTy later a × IsMsg later false k
+    × IsTy later b
 IsPrefix later (n.decrypt s m x a k) = IsMsg later false m × IsTy later a × IsMsg later false k
 IsPrefix later (n.check s m k) = IsMsg later false m × IsMsg later false k
 IsPrefix later (n.begin s m) = IsMsg later false m

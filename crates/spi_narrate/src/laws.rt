@@ -14,7 +14,8 @@ pub fn one_narration()
 
 /// A narration has at most one first fault, and none where it is faultless.
 pub fn one_first_fault()
-    ensures one { (x : Narration) (f g : NarrateFault) → IsFirstFault (items_of x) f → IsFirstFault (items_of x) g
+    ensures one { (x : Narration) (f g : NarrateFault) → IsFirstFault (items_of x) f
+        → IsFirstFault (items_of x) g
         → f ≡ g }
     ensures none { (x : Narration) (f : NarrateFault) → IsFirstFault (items_of x) f → IsFaultless (items_of x)
         → ⊥ }

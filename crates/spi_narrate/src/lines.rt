@@ -113,7 +113,8 @@ pub fn lines_at(
     requires start { start ≤ length tokens.now }
     requires known { (version ≡ 1) ⊎ (version ≡ 2) }
     requires words { AreWordsFit (version == 2) (kinds_of tokens.now) }
-    ensures { ReadsEach (λ v. map line_of v.items) line_pieces (version == 2) (IsLine (version == 2)) (λ ts i. i < length ts) result tokens.now start }
+    ensures { ReadsEach (λ v. map line_of v.items) line_pieces (version == 2) (IsLine (version == 2))
+        (λ ts i. i < length ts) result tokens.now start }
 {
     let mut lines = Vec::new(alloc);
     let mut at = start;

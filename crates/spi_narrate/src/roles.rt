@@ -26,7 +26,8 @@ fn more_words_at(
     requires size { length tokens.now ≤ 16_777_216 }
     requires start { start ≤ length tokens.now }
     requires words { AreWordsFit (version == 2) (kinds_of tokens.now) }
-    ensures { ReadsEach (λ v. v.items) comma_pieces (version == 2) IsAnyWord (λ ts i. IsThere ts i (kinds.Mark Comma)) result tokens.now start }
+    ensures { ReadsEach (λ v. v.items) comma_pieces (version == 2) IsAnyWord
+        (λ ts i. IsThere ts i (kinds.Mark Comma)) result tokens.now start }
 {
     let mut words = Vec::new(alloc);
     let mut at = start;

@@ -46,10 +46,12 @@ pub record IsFirstNotFree (free : Names) (lines : List n.Line) (w : SWord) : Typ
 -- the first refusal, in this order
 pub data Refuses (x : n.Narration) : Refusal → Type 0 where
   not_free : {w : SWord} → IsFirstNotFree (free_of x) x.lines w → Refuses x (NotFree w.span w.word)
-  out_of_scope : {f : ScopeFault} → HaveChannels (free_of x) x.lines → HasFirst (woven x) f → Refuses x (Scope f)
+  out_of_scope : {f : ScopeFault} → HaveChannels (free_of x) x.lines → HasFirst (woven x) f
+      → Refuses x (Scope f)
   not_ready : {i : ℕ} {s : Span} {file : Meant} → HaveChannels (free_of x) x.lines → StandsFor (woven x) file
       → HasFault x (LineNotReady i) → LineIn x.lines i s → Refuses x (NotReady s)
-  too_large : {i nodes : ℕ} {s : Span} {file : Meant} → HaveChannels (free_of x) x.lines → StandsFor (woven x) file
+  too_large : {i nodes : ℕ} {s : Span} {file : Meant} → HaveChannels (free_of x) x.lines
+      → StandsFor (woven x) file
       → HasFault x (NarratedTooLarge i nodes) → LineIn x.lines i s → Refuses x (TooLarge s nodes)
 
 -- the file is the one that the narration is woven into, with an honest schedule

@@ -36,7 +36,8 @@ fn is_among(words: &[SWord], word: &SWord) -> bool
 
 /// Whether the word is a free name.
 fn is_free(decls: &[Decl], word: &SWord) -> bool
-    ensures { IsTrue result ↔ ((i : ℕ) × (number_of (all_names [] (map decl_of decls.now)) word.now.word ≡ Some i)) }
+    ensures { IsTrue result
+        ↔ ((i : ℕ) × (number_of (all_names [] (map decl_of decls.now)) word.now.word ≡ Some i)) }
 {
     for decl in decls {
         if declares(decl, word) {
@@ -48,7 +49,8 @@ fn is_free(decls: &[Decl], word: &SWord) -> bool
 
 /// The word after `on`, where it isn't a free name.
 fn strange<'n>(decls: &[Decl], line: &'n Line) -> Option<&'n SWord>
-    ensures { MatchOption result (HasChannel (all_names [] (map decl_of decls.now)) (line_of line.now)) (λ w. IsStrange (all_names [] (map decl_of decls.now)) (line_of line.now) w.now) }
+    ensures { MatchOption result (HasChannel (all_names [] (map decl_of decls.now)) (line_of line.now))
+        (λ w. IsStrange (all_names [] (map decl_of decls.now)) (line_of line.now) w.now) }
 {
     match line {
         Line::Local { .. } => None,
@@ -64,7 +66,8 @@ fn strange<'n>(decls: &[Decl], line: &'n Line) -> Option<&'n SWord>
 
 /// The first word after `on` that isn't a free name. The time is that of the declarations for each line.
 pub fn first_not_free<'n>(decls: &[Decl], lines: &'n [Line]) -> Option<&'n SWord>
-    ensures { MatchOption result (HaveChannels (all_names [] (map decl_of decls.now)) (map line_of lines.now)) (λ w. IsFirstNotFree (all_names [] (map decl_of decls.now)) (map line_of lines.now) w.now) }
+    ensures { MatchOption result (HaveChannels (all_names [] (map decl_of decls.now)) (map line_of lines.now))
+        (λ w. IsFirstNotFree (all_names [] (map decl_of decls.now)) (map line_of lines.now) w.now) }
 {
     for line in lines {
         if let Some(word) = strange(decls, line) {

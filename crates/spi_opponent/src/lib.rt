@@ -22,7 +22,8 @@ pub struct NotOpponent {
 /// One pass over the nodes, and no memory.
 pub fn is_opponent(process: &Process) -> Result<(), NotOpponent>
     ensures opponent { IsOk result ↔ IsOpponent process.now.process }
-    ensures first { IfErr result (λ fault. IsFirstOffence (spelled process.now.names process.now.process) fault.node) }
+    ensures first { IfErr result
+        (λ fault. IsFirstOffence (spelled process.now.names process.now.process) fault.node) }
 {
     for node in 0..process.len() {
         if !is_allowed(process.node(node)) {

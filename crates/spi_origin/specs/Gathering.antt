@@ -113,7 +113,8 @@ Marked marks found ls = AreMarked (reverse marks) (reverse found) ls
 -- what is gathered in a process whose bound names are numbers and whose first node is number i
 abbrev pub picked : Aim → Process → Env → ℕ → List ℕ
 picked w (leaf l) e i =
-    with_node (keeps w (effect_of (leaf l) e)) (picks w (leaf_at (length e) l) (note_of e (leaf_at (length e) l)) []) i []
+    with_node (keeps w (effect_of (leaf l) e))
+    (picks w (leaf_at (length e) l) (note_of e (leaf_at (length e) l)) []) i []
 picked w (prefix s p) e i =
     let x = prefix_at (length e) s (suc i) in
     with_node (keeps w (effect_of (prefix s p) e))

@@ -10,10 +10,12 @@ use Rattle.spi_term.specs.Term.{Message, Atom, ends, checks, many, Effect, nonce
 
 -- the rule for the process's form adds the atom to the effect of what follows
 pub data Adds (env : Env) : Process → Atom → Type 0 where
-  adds_check : {m n : Message} {p : Process} {fs : Effect} → IsNonce [] env n fs → Adds env (check m n p) (checks m)
+  adds_check : {m n : Message} {p : Process} {fs : Effect} → IsNonce [] env n fs
+      → Adds env (check m n p) (checks m)
   adds_end : {m : Message} {p : Process} → Adds env (end m p) (ends m)
   adds_end_many : {m : Message} {p : Process} → Adds env (end_many m p) (many m)
-  adds_cast : {a : Atom} {m : Message} {p : Process} {fs : Effect} → In a fs → Adds env (cast m (nonce fs) p) a
+  adds_cast : {a : Atom} {m : Message} {p : Process} {fs : Effect} → In a fs
+      → Adds env (cast m (nonce fs) p) a
 
 -- the atom stands in the least effect of the process
 pub record IsLeft (a : Atom) (env : Env) (p : Process) : Type 0 where
@@ -31,4 +33,5 @@ pub data IsOrigin (a : Atom) : Env → Process → ℕ → Type 0 where
 -- the same for the process of a node, where the k free names are untrusted, by the numbers of the whole process's nodes
 abbrev pub IsOriginIn : ℕ → Process → ℕ → Atom → ℕ → Type 0
 IsOriginIn k p node a i =
-    (env : Env) × (q : Process) × (j : ℕ) × NodeOf (untrusted k) p node env q × IsOrigin a env q j × (i ≡ node + j)
+    (env : Env) × (q : Process) × (j : ℕ) × NodeOf (untrusted k) p node env q × IsOrigin a env q j
+    × (i ≡ node + j)

@@ -31,7 +31,8 @@ fn noted_over<L: Ledger>(
     requires name { blank.name ≡ L.name }
     requires parts { blank.parts ≡ L.parts }
     requires some { 0 < blank.parts }
-    ensures { IfOk result (λ r. IsNoted r.0.store r.1 process.now.names process.now.process (untrusted process.now.names)) }
+    ensures { IfOk result
+        (λ r. IsNoted r.0.store r.1 process.now.names process.now.process (untrusted process.now.names)) }
 {
     let _ = process.len();
     let mut steps = Steps::<L>::new(blank);
@@ -83,7 +84,8 @@ pub fn origins(
     atom: &Atom,
 ) -> Result<Vec<u32>, NoMemory>
     requires { node < process_size process.now.process }
-    ensures { IfOk result (λ v. AreAll (IsOriginIn process.now.names process.now.process node (atom_of atom.now)) v.items) }
+    ensures { IfOk result
+        (λ v. AreAll (IsOriginIn process.now.names process.now.process node (atom_of atom.now)) v.items) }
 {
     let _ = process.len();
     let (judge, noted) = noted_over::<Brand>(alloc, process, Blank::new(1))?;

@@ -34,7 +34,8 @@ abbrev mutual
   pub bare_ty : t.Ty → t.Ty
   bare_ty (t.un s) = t.un nowhere
   bare_ty (t.unit_ty s) = t.unit_ty nowhere
-  bare_ty (t.tuple_ty s w a fs l) = t.tuple_ty nowhere (bare_word w) (bare_ty a) (bare_fields fs) (bare_last l)
+  bare_ty (t.tuple_ty s w a fs l) =
+      t.tuple_ty nowhere (bare_word w) (bare_ty a) (bare_fields fs) (bare_last l)
   bare_ty (t.sum s a b) = t.sum nowhere (bare_ty a) (bare_ty b)
   bare_ty (t.key s a) = t.key nowhere (bare_ty a)
   bare_ty (t.nonce s es) = t.nonce nowhere (map bare_atom es)
@@ -54,10 +55,16 @@ bare_proc (t.out s m n) = t.out nowhere (bare_msg m) (bare_msg n)
 bare_proc (t.out_then s m n p) = t.out_then nowhere (bare_msg m) (bare_msg n) (bare_proc p)
 bare_proc (t.inp s m w b p) = t.inp nowhere (bare_msg m) (bare_word w) (bare_ty b) (bare_proc p)
 bare_proc (t.repeat s m w b p) = t.repeat nowhere (bare_msg m) (bare_word w) (bare_ty b) (bare_proc p)
-bare_proc (t.split s m w b x c p) = t.split nowhere (bare_msg m) (bare_word w) (bare_ty b) (bare_word x) (bare_ty c) (bare_proc p)
-bare_proc (t.match s m w b n x c p) = t.match nowhere (bare_msg m) (bare_word w) (bare_ty b) (bare_msg n) (bare_word x) (bare_ty c) (bare_proc p)
-bare_proc (t.case s m w b p x c q) = t.case nowhere (bare_msg m) (bare_word w) (bare_ty b) (bare_proc p) (bare_word x) (bare_ty c) (bare_proc q)
-bare_proc (t.decrypt s m w b n p) = t.decrypt nowhere (bare_msg m) (bare_word w) (bare_ty b) (bare_msg n) (bare_proc p)
+bare_proc (t.split s m w b x c p) =
+    t.split nowhere (bare_msg m) (bare_word w) (bare_ty b) (bare_word x) (bare_ty c) (bare_proc p)
+bare_proc (t.match s m w b n x c p) =
+    t.match nowhere (bare_msg m) (bare_word w) (bare_ty b) (bare_msg n) (bare_word x) (bare_ty c)
+    (bare_proc p)
+bare_proc (t.case s m w b p x c q) =
+    t.case nowhere (bare_msg m) (bare_word w) (bare_ty b) (bare_proc p) (bare_word x) (bare_ty c)
+    (bare_proc q)
+bare_proc (t.decrypt s m w b n p) =
+    t.decrypt nowhere (bare_msg m) (bare_word w) (bare_ty b) (bare_msg n) (bare_proc p)
 bare_proc (t.check s m n p) = t.check nowhere (bare_msg m) (bare_msg n) (bare_proc p)
 bare_proc (t.begin s m p) = t.begin nowhere (bare_msg m) (bare_proc p)
 bare_proc (t.end s m p) = t.end nowhere (bare_msg m) (bare_proc p)

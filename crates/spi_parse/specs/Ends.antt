@@ -25,4 +25,6 @@ numeral_form v d n = parts (msg v d n) (the_number ∷ []) (λ ss to xs. t.num (
 
 -- a sum behind its second type
 abbrev pub sum_end : List Span → t.Ty → t.Ty → State → Out t.Ty
-sum_end ss a b s = read_all (read limited) (the_mark mark.ParenClose ∷ []) s >>= λ xs. Ok (t.sum (over ss xs.1.end) a b, xs.1)
+sum_end ss a b s =
+    read_all (read limited) (the_mark mark.ParenClose ∷ []) s >>= λ xs. Ok
+    (t.sum (over ss xs.1.end) a b, xs.1)

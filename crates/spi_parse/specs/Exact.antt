@@ -33,7 +33,8 @@ Begins {X = X} pieces IsPart pre = (x : X) × IsPart x × (c : List Kind) × (ki
 
 -- no part's tokens begin so and then with this token
 abbrev pub NoneGoesOn : {X : Type 0} → (X → List Piece) → (X → Type 0) → List Kind → Kind → Type 0
-NoneGoesOn {X = X} pieces IsPart pre k = (x : X) → IsPart x → (c : List Kind) → kinds_in (pieces x) ≡ pre ++ k ∷ c → ⊥
+NoneGoesOn {X = X} pieces IsPart pre k = (x : X) → IsPart x → (c : List Kind)
+    → kinds_in (pieces x) ≡ pre ++ k ∷ c → ⊥
 
 -- no part's tokens begin with one more of the rest, and at the end none are these
 abbrev pub Stops : {X : Type 0} → (X → List Piece) → (X → Type 0) → List Kind → List Kind → Type 0
@@ -54,10 +55,12 @@ pub record StartsDeep (ps : List Piece) (pre : List Kind) (k : Kind) : Type 0 wh
 
 -- at none of the first i tokens such a node of some part starts
 abbrev pub NoDeepBefore : {X : Type 0} → (X → List Piece) → (X → Type 0) → List Kind → ℕ → Type 0
-NoDeepBefore {X = X} pieces IsPart ks i = (pre : List Kind) (k : Kind) (rest : List Kind) → ks ≡ pre ++ k ∷ rest → length pre < i → (x : X) → IsPart x → StartsDeep (pieces x) pre k → ⊥
+NoDeepBefore {X = X} pieces IsPart ks i = (pre : List Kind) (k : Kind) (rest : List Kind)
+    → ks ≡ pre ++ k ∷ rest → length pre < i → (x : X) → IsPart x → StartsDeep (pieces x) pre k → ⊥
 
 -- token i is the one with which no part goes on
-pub record IsSyntaxAt {X : Type 0} (pieces : X → List Piece) (IsPart : X → Type 0) (ks : List Kind) (i : ℕ) : Type 0 where
+pub record IsSyntaxAt {X : Type 0} (pieces : X → List Piece) (IsPart : X → Type 0) (ks : List Kind)
+    (i : ℕ) : Type 0 where
   pub pre : List Kind
   pub rest : List Kind
   pub split : ks ≡ pre ++ rest
@@ -67,7 +70,8 @@ pub record IsSyntaxAt {X : Type 0} (pieces : X → List Piece) (IsPart : X → T
   pub first : NoDeepBefore pieces IsPart ks i
 
 -- Token i is the first at which a node above a limit of some part starts. Every part whose tokens begin so has such a node.
-pub record IsDeepAt {X : Type 0} (pieces : X → List Piece) (IsPart : X → Type 0) (ks : List Kind) (i : ℕ) : Type 0 where
+pub record IsDeepAt {X : Type 0} (pieces : X → List Piece) (IsPart : X → Type 0) (ks : List Kind)
+    (i : ℕ) : Type 0 where
   pub pre : List Kind
   pub token : Kind
   pub rest : List Kind
@@ -75,10 +79,12 @@ pub record IsDeepAt {X : Type 0} (pieces : X → List Piece) (IsPart : X → Typ
   pub place : length pre ≡ i
   pub part : (x : X) × IsPart x × StartsDeep (pieces x) pre token
   pub first : NoDeepBefore pieces IsPart ks i
-  pub every : (x : X) → IsPart x → (c : List Kind) → kinds_in (pieces x) ≡ pre ++ token ∷ c → IsWithin (pieces x) → ⊥
+  pub every : (x : X) → IsPart x → (c : List Kind) → kinds_in (pieces x) ≡ pre ++ token ∷ c
+      → IsWithin (pieces x) → ⊥
 
 -- the first n tokens are those of this part, which is within the limits and has their spans, and no part goes on behind them
-pub record IsPartAt {X : Type 0} (pieces : X → List Piece) (IsPart : X → Type 0) (x : X) (ts : List Token) (n : ℕ) : Type 0 where
+pub record IsPartAt {X : Type 0} (pieces : X → List Piece) (IsPart : X → Type 0) (x : X) (ts : List Token)
+    (n : ℕ) : Type 0 where
   pub pre : List Token
   pub rest : List Token
   pub split : ts ≡ pre ++ rest
@@ -90,13 +96,18 @@ pub record IsPartAt {X : Type 0} (pieces : X → List Piece) (IsPart : X → Typ
 
 -- no front of the tokens is such a part
 abbrev pub IsNoPart : {X : Type 0} → (X → List Piece) → (X → Type 0) → List Kind → Type 0
-IsNoPart {X = X} pieces IsPart ks = (x : X) (pre rest : List Kind) → ks ≡ pre ++ rest → IsPart x → IsWithin (pieces x) → kinds_in (pieces x) ≡ pre → IsEnd pieces IsPart pre rest → ⊥
+IsNoPart {X = X} pieces IsPart ks = (x : X) (pre rest : List Kind) → ks ≡ pre ++ rest → IsPart x
+    → IsWithin (pieces x) → kinds_in (pieces x) ≡ pre → IsEnd pieces IsPart pre rest → ⊥
 
 -- the answer on the tokens from this number on: a part and the number of the token behind it, or the fault
-abbrev pub Reads : {V X : Type 0} → (V → X) → (X → List Piece) → (X → Type 0) → Result (V × ℕ) ParseFault → List Token → ℕ → Type 0
-Reads view pieces IsPart (Ok r) ts from = (n : ℕ) × (r.1 ≡ from + n) × IsPartAt pieces IsPart (view r.0) (drop from ts) n
-Reads view pieces IsPart (Err (faults.Syntax i)) ts from = (n : ℕ) × (i ≡ from + n) × IsSyntaxAt pieces IsPart (kinds_of (drop from ts)) n × IsNoPart pieces IsPart (kinds_of (drop from ts))
-Reads view pieces IsPart (Err (faults.TooDeep i)) ts from = (n : ℕ) × (i ≡ from + n) × IsDeepAt pieces IsPart (kinds_of (drop from ts)) n × IsNoPart pieces IsPart (kinds_of (drop from ts))
+abbrev pub Reads : {V X : Type 0} → (V → X) → (X → List Piece) → (X → Type 0) → Result (V × ℕ) ParseFault
+    → List Token → ℕ → Type 0
+Reads view pieces IsPart (Ok r) ts from = (n : ℕ) × (r.1 ≡ from + n)
+    × IsPartAt pieces IsPart (view r.0) (drop from ts) n
+Reads view pieces IsPart (Err (faults.Syntax i)) ts from = (n : ℕ) × (i ≡ from + n)
+    × IsSyntaxAt pieces IsPart (kinds_of (drop from ts)) n × IsNoPart pieces IsPart (kinds_of (drop from ts))
+Reads view pieces IsPart (Err (faults.TooDeep i)) ts from = (n : ℕ) × (i ≡ from + n)
+    × IsDeepAt pieces IsPart (kinds_of (drop from ts)) n × IsNoPart pieces IsPart (kinds_of (drop from ts))
 Reads view pieces IsPart (Err faults.NoMemory) ts from = Unit {0}
 
 -- the tree of all the tokens, or the fault

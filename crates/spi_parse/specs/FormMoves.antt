@@ -72,22 +72,51 @@ form_of later (K.Mark m) = form_of_mark m
 
 -- the move of a form, the same as that of its first token
 abbrev pub form_move : (v : Bool) (n : ℕ) → Form → Move (seq v n) false
-form_move v n (forms.Talk talks.Out) = eat (msg v false 1 ∷ msg v false 1 ∷ out_tail v n ∷ []) (λ ss to xs. out_of (over ss to) xs.0 xs.1.0 xs.1.1.0)
-form_move v n (forms.Talk talks.Inp) = eat (msg v false 1 ∷ binder v ∷ seq v (n + 1) ∷ []) (λ ss to xs. t.inp (over ss to) xs.0 xs.1.0.0 xs.1.0.1 xs.1.1.0)
-form_move v n (forms.Talk talks.Repeat) = eat (the_reserved word.Inp ∷ msg v false 1 ∷ binder v ∷ seq v (n + 1) ∷ []) (λ ss to xs. t.repeat (over ss to) xs.1.0 xs.1.1.0.0 xs.1.1.0.1 xs.1.1.1.0)
-form_move v n (forms.Open opens.Split) = eat (msg v false 1 ∷ split_head v ∷ seq v (n + 1) ∷ []) (λ ss to xs. t.split (over ss to) xs.0 xs.1.0.0 xs.1.0.1 xs.1.0.2 xs.1.0.3 xs.1.1.0)
-form_move v n (forms.Open opens.Match) = eat (msg v false 1 ∷ match_head v ∷ seq v (n + 1) ∷ []) (λ ss to xs. t.match (over ss to) xs.0 xs.1.0.0 xs.1.0.1 xs.1.0.2 xs.1.0.3 xs.1.0.4 xs.1.1.0)
-form_move v n (forms.Open opens.Case) = eat (msg v false 1 ∷ case_head v word.Inl ∷ seq v (n + 1) ∷ case_head v word.Inr ∷ seq v (n + 1) ∷ []) (λ ss to xs. t.case (over ss to) xs.0 xs.1.0.0 xs.1.0.1 xs.1.1.0 xs.1.1.1.0.0 xs.1.1.1.0.1 xs.1.1.1.1.0)
-form_move v n (forms.Open opens.Decrypt) = eat (msg v false 1 ∷ decrypt_head v ∷ seq v (n + 1) ∷ []) (λ ss to xs. t.decrypt (over ss to) xs.0 xs.1.0.0 xs.1.0.1 xs.1.0.2 xs.1.1.0)
-form_move v n (forms.Event events.Check) = eat (msg v false 1 ∷ check_head v ∷ seq v (n + 1) ∷ []) (λ ss to xs. t.check (over ss to) xs.0 xs.1.0 xs.1.1.0)
-form_move v n (forms.Event events.Begin) = eat (msg v false 1 ∷ the_mark mark.Semicolon ∷ seq v (n + 1) ∷ []) (λ ss to xs. t.begin (over ss to) xs.0 xs.1.1.0)
-form_move v n (forms.Event events.End) = eat (msg v false 1 ∷ the_mark mark.Semicolon ∷ seq v (n + 1) ∷ []) (λ ss to xs. t.end (over ss to) xs.0 xs.1.1.0)
-form_move v n (forms.Event events.EndMany) = eat (msg v false 1 ∷ the_mark mark.Semicolon ∷ seq v (n + 1) ∷ []) (λ ss to xs. t.end_many (over ss to) xs.0 xs.1.1.0)
-form_move v n (forms.Plain plains.Cast) = eat (msg v false 1 ∷ cast_head v ∷ seq v (n + 1) ∷ []) (λ ss to xs. t.cast (over ss to) xs.0 xs.1.0.0 xs.1.0.1 xs.1.1.0)
-form_move v n (forms.Plain plains.New) = eat (binder v ∷ seq v (n + 1) ∷ []) (λ ss to xs. t.new (over ss to) xs.0.0 xs.0.1 xs.1.0)
+form_move v n (forms.Talk talks.Out) =
+    eat (msg v false 1 ∷ msg v false 1 ∷ out_tail v n ∷ [])
+    (λ ss to xs. out_of (over ss to) xs.0 xs.1.0 xs.1.1.0)
+form_move v n (forms.Talk talks.Inp) =
+    eat (msg v false 1 ∷ binder v ∷ seq v (n + 1) ∷ [])
+    (λ ss to xs. t.inp (over ss to) xs.0 xs.1.0.0 xs.1.0.1 xs.1.1.0)
+form_move v n (forms.Talk talks.Repeat) =
+    eat (the_reserved word.Inp ∷ msg v false 1 ∷ binder v ∷ seq v (n + 1) ∷ [])
+    (λ ss to xs. t.repeat (over ss to) xs.1.0 xs.1.1.0.0 xs.1.1.0.1 xs.1.1.1.0)
+form_move v n (forms.Open opens.Split) =
+    eat (msg v false 1 ∷ split_head v ∷ seq v (n + 1) ∷ [])
+    (λ ss to xs. t.split (over ss to) xs.0 xs.1.0.0 xs.1.0.1 xs.1.0.2 xs.1.0.3 xs.1.1.0)
+form_move v n (forms.Open opens.Match) =
+    eat (msg v false 1 ∷ match_head v ∷ seq v (n + 1) ∷ [])
+    (λ ss to xs. t.match (over ss to) xs.0 xs.1.0.0 xs.1.0.1 xs.1.0.2 xs.1.0.3 xs.1.0.4 xs.1.1.0)
+form_move v n (forms.Open opens.Case) =
+    eat (msg v false 1 ∷ case_head v word.Inl ∷ seq v (n + 1) ∷ case_head v word.Inr ∷ seq v (n + 1) ∷ [])
+    (λ ss to xs. t.case (over ss to) xs.0 xs.1.0.0 xs.1.0.1 xs.1.1.0 xs.1.1.1.0.0 xs.1.1.1.0.1 xs.1.1.1.1.0)
+form_move v n (forms.Open opens.Decrypt) =
+    eat (msg v false 1 ∷ decrypt_head v ∷ seq v (n + 1) ∷ [])
+    (λ ss to xs. t.decrypt (over ss to) xs.0 xs.1.0.0 xs.1.0.1 xs.1.0.2 xs.1.1.0)
+form_move v n (forms.Event events.Check) =
+    eat (msg v false 1 ∷ check_head v ∷ seq v (n + 1) ∷ [])
+    (λ ss to xs. t.check (over ss to) xs.0 xs.1.0 xs.1.1.0)
+form_move v n (forms.Event events.Begin) =
+    eat (msg v false 1 ∷ the_mark mark.Semicolon ∷ seq v (n + 1) ∷ [])
+    (λ ss to xs. t.begin (over ss to) xs.0 xs.1.1.0)
+form_move v n (forms.Event events.End) =
+    eat (msg v false 1 ∷ the_mark mark.Semicolon ∷ seq v (n + 1) ∷ [])
+    (λ ss to xs. t.end (over ss to) xs.0 xs.1.1.0)
+form_move v n (forms.Event events.EndMany) =
+    eat (msg v false 1 ∷ the_mark mark.Semicolon ∷ seq v (n + 1) ∷ [])
+    (λ ss to xs. t.end_many (over ss to) xs.0 xs.1.1.0)
+form_move v n (forms.Plain plains.Cast) =
+    eat (msg v false 1 ∷ cast_head v ∷ seq v (n + 1) ∷ [])
+    (λ ss to xs. t.cast (over ss to) xs.0 xs.1.0.0 xs.1.0.1 xs.1.1.0)
+form_move v n (forms.Plain plains.New) =
+    eat (binder v ∷ seq v (n + 1) ∷ []) (λ ss to xs. t.new (over ss to) xs.0.0 xs.0.1 xs.1.0)
 form_move v n (forms.Plain plains.Stop) = eat [] (λ ss to xs. t.stop (over ss to))
-form_move v n (forms.Plain plains.Group) = eat (seq v (n + 1) ∷ the_mark mark.Bar ∷ sproc v (n + 1) ∷ the_mark mark.ParenClose ∷ []) (λ ss to xs. t.group (over ss to) xs.0 xs.1.1.0)
+form_move v n (forms.Plain plains.Group) =
+    eat (seq v (n + 1) ∷ the_mark mark.Bar ∷ sproc v (n + 1) ∷ the_mark mark.ParenClose ∷ [])
+    (λ ss to xs. t.group (over ss to) xs.0 xs.1.1.0)
 form_move v n forms.NoForm = fail
 
 abbrev pub by_form : (v : Bool) (n : ℕ) → Form → State → Out t.Proc
-by_form v n form s = with_next s (λ t _. go_on limited (read limited) (form_move v n form) (nat_lt process_limit n) [] s) (Err (Syntax 0))
+by_form v n form s =
+    with_next s (λ t _. go_on limited (read limited) (form_move v n form) (nat_lt process_limit n) [] s)
+    (Err (Syntax 0))

@@ -16,7 +16,8 @@ is_written (Some es) = true
 -- each rule is one of the version, has its arity, and writes an effect where it is `ProcSub` and nowhere else
 abbrev mutual
   pub HasRules : Bool → t.Deriv → Type 0
-  HasRules later (t.rule s w es ds) = (arity_of later w.word ≡ Some (number_of ds)) × (writes_effect w.word ≡ is_written es) × HaveRules later ds
+  HasRules later (t.rule s w es ds) = (arity_of later w.word ≡ Some (number_of ds))
+      × (writes_effect w.word ≡ is_written es) × HaveRules later ds
 
   pub HaveRules : Bool → t.Derivs → Type 0
   HaveRules later t.no_derivs = Unit {0}

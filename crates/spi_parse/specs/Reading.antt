@@ -78,17 +78,25 @@ may_lead told true false false left go = Err (Syntax left)
 may_lead told _ _ _ left go = go
 may_lead any may said leads left go = go
 
-abbrev pub go_on : {a : Sym} {ate : Bool} → Mode → Reader → Move a ate → Bool → List Span → State → Out (Tree a)
+abbrev pub go_on : {a : Sym} {ate : Bool} → Mode → Reader → Move a ate → Bool → List Span → State
+    → Out (Tree a)
 go_on m rd fail deep ss s = Err (Syntax (length s.rest))
 go_on m rd (stay l low b) deep ss s =
-    with_next s (λ t _. read_all rd l s >>= λ xs. Ok (b (ss ++ t.span ∷ []) xs.1.end xs.0, xs.1)) (Err (Syntax 0))
+    with_next s (λ t _. read_all rd l s >>= λ xs. Ok (b (ss ++ t.span ∷ []) xs.1.end xs.0, xs.1))
+    (Err (Syntax 0))
 go_on m rd (skip x) deep ss s = Ok (x, s)
 go_on m rd (eat l b) deep ss s =
-    with_next s (λ t s'. pass m deep t.deep (length s.rest) (read_all rd l s' >>= λ xs. Ok (b (ss ++ t.span ∷ []) xs.1.end xs.0, xs.1))) (Err (Syntax 0))
+    with_next s (λ t s'. pass m deep t.deep (length s.rest)
+    (read_all rd l s' >>= λ xs. Ok (b (ss ++ t.span ∷ []) xs.1.end xs.0, xs.1))) (Err (Syntax 0))
 go_on m rd (look f) deep ss s =
-    with_next s (λ t s'. pass m deep t.deep (length s.rest) (with_next s' (λ t' _. go_on m rd (f t'.kind) false (ss ++ t.span ∷ []) s') (Err (Syntax 0)))) (Err (Syntax 0))
+    with_next s (λ t s'. pass m deep t.deep (length s.rest)
+    (with_next s' (λ t' _. go_on m rd (f t'.kind) false (ss ++ t.span ∷ []) s') (Err (Syntax 0))))
+    (Err (Syntax 0))
 go_on m rd (may_look may f) deep ss s =
-    with_next s (λ t s'. may_pass m may t.deep (length s.rest) (with_next s' (λ t' _. may_lead m may t.deep (leads_deep (f t'.kind)) (length s.rest) (go_on m rd (f t'.kind) false (ss ++ t.span ∷ []) s')) (Err (Syntax 0)))) (Err (Syntax 0))
+    with_next s (λ t s'. may_pass m may t.deep (length s.rest)
+    (with_next s'
+    (λ t' _. may_lead m may t.deep (leads_deep (f t'.kind)) (length s.rest)
+    (go_on m rd (f t'.kind) false (ss ++ t.span ∷ []) s')) (Err (Syntax 0)))) (Err (Syntax 0))
 
 -- what a look leads to
 abbrev pub behind : {a : Sym} → Mode → Reader → (Kind → Move a true) → List Span → State → Out (Tree a)

@@ -283,16 +283,24 @@ delta_two _ = fail
 -- behind the left parenthesis of a message
 abbrev pub delta_paren : (v d : Bool) (n : ℕ) → Kind → Move (msg v d n) true
 delta_paren v d n (K.Mark mark.ParenClose) = eat [] (λ ss to xs. t.unit (over ss to))
-delta_paren v d n _ = stay (msg v d (n + 1) ∷ the_mark mark.Comma ∷ msg v d (n + 1) ∷ msgs v d (n + 1) ∷ []) tt (λ ss to xs. t.tuple (over ss to) xs.0 xs.1.1.0 (t.msgs_of_list xs.1.1.1.0.0))
+delta_paren v d n _ =
+    stay (msg v d (n + 1) ∷ the_mark mark.Comma ∷ msg v d (n + 1) ∷ msgs v d (n + 1) ∷ []) tt
+    (λ ss to xs. t.tuple (over ss to) xs.0 xs.1.1.0 (t.msgs_of_list xs.1.1.1.0.0))
 
 abbrev pub delta_msg : (v d : Bool) (n : ℕ) → Kind → Move (msg v d n) false
-delta_msg v d n (K.Word w) = if d then fail else eat [] (λ ss to xs. t.name (over ss to) (word_at w (first ss)))
+delta_msg v d n (K.Word w) =
+    if d then fail else eat [] (λ ss to xs. t.name (over ss to) (word_at w (first ss)))
 delta_msg v d n (K.Mark mark.ParenOpen) = look (delta_paren v d n)
-delta_msg v d n (K.Mark mark.BraceOpen) = eat (msg v d (n + 1) ∷ the_mark mark.BraceClose ∷ msg v d (n + 1) ∷ []) (λ ss to xs. t.enc (over ss to) xs.0 xs.1.1.0)
-delta_msg v d n (K.Mark mark.NumberSign) = if d then eat (the_number ∷ []) (λ ss to xs. t.num (over ss to) xs.0) else fail
+delta_msg v d n (K.Mark mark.BraceOpen) =
+    eat (msg v d (n + 1) ∷ the_mark mark.BraceClose ∷ msg v d (n + 1) ∷ [])
+    (λ ss to xs. t.enc (over ss to) xs.0 xs.1.1.0)
+delta_msg v d n (K.Mark mark.NumberSign) =
+    if d then eat (the_number ∷ []) (λ ss to xs. t.num (over ss to) xs.0) else fail
 delta_msg v d n (K.Reserved word.Inl) = eat (msg v d (n + 1) ∷ []) (λ ss to xs. t.inl (over ss to) xs.0)
 delta_msg v d n (K.Reserved word.Inr) = eat (msg v d (n + 1) ∷ []) (λ ss to xs. t.inr (over ss to) xs.0)
-delta_msg v d n (K.Reserved word.Hash) = if v then eat (the_mark mark.ParenOpen ∷ msg v d (n + 1) ∷ the_mark mark.ParenClose ∷ []) (λ ss to xs. t.hash (over ss to) xs.1.0) else fail
+delta_msg v d n (K.Reserved word.Hash) =
+    if v then eat (the_mark mark.ParenOpen ∷ msg v d (n + 1) ∷ the_mark mark.ParenClose ∷ [])
+    (λ ss to xs. t.hash (over ss to) xs.1.0) else fail
 delta_msg v d n _ = fail
 
 abbrev pub delta_msgs_item : (v d : Bool) (n : ℕ) → Kind → Move (msgs_item v d n) false
@@ -301,14 +309,16 @@ delta_msgs_item v d n (K.Mark mark.ParenClose) = eat [] (λ ss to xs. last tt)
 delta_msgs_item v d n _ = fail
 
 abbrev pub delta_msgs : (v d : Bool) (n : ℕ) → Kind → Move (msgs v d n) false
-delta_msgs v d n (K.Mark mark.Comma) = eat (msg v d n ∷ msgs v d n ∷ []) (λ ss to xs. (xs.0 ∷ xs.1.0.0, xs.1.0.1))
+delta_msgs v d n (K.Mark mark.Comma) =
+    eat (msg v d n ∷ msgs v d n ∷ []) (λ ss to xs. (xs.0 ∷ xs.1.0.0, xs.1.0.1))
 delta_msgs v d n (K.Mark mark.ParenClose) = eat [] (λ ss to xs. ([], tt))
 delta_msgs v d n _ = fail
 
 abbrev pub delta_atom : (v d : Bool) (n : ℕ) → Kind → Move (atom v d n) false
 delta_atom v d n (K.Reserved word.End) = eat (msg v d (n + 1) ∷ []) (λ ss to xs. t.ends (over ss to) xs.0)
 delta_atom v d n (K.Reserved word.Check) = eat (msg v d (n + 1) ∷ []) (λ ss to xs. t.checks (over ss to) xs.0)
-delta_atom v d n (K.Reserved word.Many) = if v then eat (msg v d (n + 1) ∷ []) (λ ss to xs. t.many (over ss to) xs.0) else fail
+delta_atom v d n (K.Reserved word.Many) =
+    if v then eat (msg v d (n + 1) ∷ []) (λ ss to xs. t.many (over ss to) xs.0) else fail
 delta_atom v d n _ = fail
 
 abbrev pub delta_atoms_item : (v d : Bool) (n : ℕ) → Kind → Move (atoms_item v d n) false
@@ -317,7 +327,8 @@ delta_atoms_item v d n (K.Mark mark.BracketClose) = eat [] (λ ss to xs. last tt
 delta_atoms_item v d n _ = fail
 
 abbrev pub delta_atoms : (v d : Bool) (n : ℕ) → Kind → Move (atoms v d n) false
-delta_atoms v d n (K.Mark mark.Comma) = eat (atom v d n ∷ atoms v d n ∷ []) (λ ss to xs. (xs.0 ∷ xs.1.0.0, xs.1.0.1))
+delta_atoms v d n (K.Mark mark.Comma) =
+    eat (atom v d n ∷ atoms v d n ∷ []) (λ ss to xs. (xs.0 ∷ xs.1.0.0, xs.1.0.1))
 delta_atoms v d n (K.Mark mark.BracketClose) = eat [] (λ ss to xs. ([], tt))
 delta_atoms v d n _ = fail
 
@@ -332,28 +343,42 @@ delta_effect v d n _ = fail
 
 -- behind the left parenthesis of a type and a word
 abbrev pub delta_ty_word : (v : Bool) (n : ℕ) → List ℕ → Kind → Move (ty v n) true
-delta_ty_word v n w (K.Mark mark.Colon) = eat (ty v (n + 1) ∷ the_mark mark.Comma ∷ fields v (n + 1) ∷ []) (λ ss to xs. t.tuple_ty (over ss to) (word_at w (second ss)) xs.0 (t.fields_of_list xs.1.1.0.0) xs.1.1.0.1)
-delta_ty_word v n w (K.Mark mark.Plus) = eat (ty v (n + 1) ∷ the_mark mark.ParenClose ∷ []) (λ ss to xs. t.sum (over ss to) (t.abbr (second ss) (word_at w (second ss))) xs.0)
+delta_ty_word v n w (K.Mark mark.Colon) =
+    eat (ty v (n + 1) ∷ the_mark mark.Comma ∷ fields v (n + 1) ∷ [])
+    (λ ss to xs. t.tuple_ty (over ss to) (word_at w (second ss)) xs.0 (t.fields_of_list xs.1.1.0.0)
+    xs.1.1.0.1)
+delta_ty_word v n w (K.Mark mark.Plus) =
+    eat (ty v (n + 1) ∷ the_mark mark.ParenClose ∷ [])
+    (λ ss to xs. t.sum (over ss to) (t.abbr (second ss) (word_at w (second ss))) xs.0)
 delta_ty_word v n w _ = fail
 
 -- behind the left parenthesis of a type
 abbrev pub delta_ty_paren : (v : Bool) (n : ℕ) → Kind → Move (ty v n) true
 delta_ty_paren v n (K.Mark mark.ParenClose) = eat [] (λ ss to xs. t.unit_ty (over ss to))
 delta_ty_paren v n (K.Word w) = may_look (nat_lt message_limit (n + 1)) (delta_ty_word v n w)
-delta_ty_paren v n _ = stay (ty v (n + 1) ∷ the_mark mark.Plus ∷ ty v (n + 1) ∷ the_mark mark.ParenClose ∷ []) tt (λ ss to xs. t.sum (over ss to) xs.0 xs.1.1.0)
+delta_ty_paren v n _ =
+    stay (ty v (n + 1) ∷ the_mark mark.Plus ∷ ty v (n + 1) ∷ the_mark mark.ParenClose ∷ []) tt
+    (λ ss to xs. t.sum (over ss to) xs.0 xs.1.1.0)
 
 abbrev pub delta_ty : (v : Bool) (n : ℕ) → Kind → Move (ty v n) false
 delta_ty v n (K.Word w) = eat [] (λ ss to xs. t.abbr (over ss to) (word_at w (first ss)))
 delta_ty v n (K.Reserved word.Un) = eat [] (λ ss to xs. t.un (over ss to))
-delta_ty v n (K.Reserved word.Key) = eat (the_mark mark.ParenOpen ∷ ty v (n + 1) ∷ the_mark mark.ParenClose ∷ []) (λ ss to xs. t.key (over ss to) xs.1.0)
-delta_ty v n (K.Reserved word.Nonce) = eat (effect v false (n + 1) ∷ []) (λ ss to xs. t.nonce (over ss to) xs.0)
+delta_ty v n (K.Reserved word.Key) =
+    eat (the_mark mark.ParenOpen ∷ ty v (n + 1) ∷ the_mark mark.ParenClose ∷ [])
+    (λ ss to xs. t.key (over ss to) xs.1.0)
+delta_ty v n (K.Reserved word.Nonce) =
+    eat (effect v false (n + 1) ∷ []) (λ ss to xs. t.nonce (over ss to) xs.0)
 delta_ty v n (K.Mark mark.ParenOpen) = look (delta_ty_paren v n)
 delta_ty v n _ = fail
 
 -- behind a word among the parts of a tuple
 abbrev pub delta_item_word : (v : Bool) (n : ℕ) → List ℕ → Kind → Move (fields_item v n) true
-delta_item_word v n w (K.Mark mark.Colon) = eat (ty v n ∷ fields_rest ∷ []) (λ ss to xs. if xs.1.0 then last (t.named (word_at w (first ss)) xs.0) else one (record { name = word_at w (first ss); ty = xs.0 }))
-delta_item_word v n w (K.Mark mark.ParenClose) = eat [] (λ ss to xs. last (t.bare (t.abbr (first ss) (word_at w (first ss)))))
+delta_item_word v n w (K.Mark mark.Colon) =
+    eat (ty v n ∷ fields_rest ∷ [])
+    (λ ss to xs. if xs.1.0 then last (t.named (word_at w (first ss)) xs.0) else one
+    (record { name = word_at w (first ss); ty = xs.0 }))
+delta_item_word v n w (K.Mark mark.ParenClose) =
+    eat [] (λ ss to xs. last (t.bare (t.abbr (first ss) (word_at w (first ss)))))
 delta_item_word v n w _ = fail
 
 abbrev pub delta_fields_item : (v : Bool) (n : ℕ) → Kind → Move (fields_item v n) false
@@ -371,8 +396,10 @@ with_field w a None = ([], t.named w a)
 with_field w a (Some r) = (record { name = w; ty = a } ∷ r.0, r.1)
 
 abbrev pub delta_fields_word : (v : Bool) (n : ℕ) → List ℕ → Kind → Move (fields v n) true
-delta_fields_word v n w (K.Mark mark.Colon) = eat (ty v n ∷ fields_more v n ∷ []) (λ ss to xs. with_field (word_at w (first ss)) xs.0 xs.1.0)
-delta_fields_word v n w (K.Mark mark.ParenClose) = eat [] (λ ss to xs. ([], t.bare (t.abbr (first ss) (word_at w (first ss)))))
+delta_fields_word v n w (K.Mark mark.Colon) =
+    eat (ty v n ∷ fields_more v n ∷ []) (λ ss to xs. with_field (word_at w (first ss)) xs.0 xs.1.0)
+delta_fields_word v n w (K.Mark mark.ParenClose) =
+    eat [] (λ ss to xs. ([], t.bare (t.abbr (first ss) (word_at w (first ss)))))
 delta_fields_word v n w _ = fail
 
 abbrev pub delta_fields : (v : Bool) (n : ℕ) → Kind → Move (fields v n) false
@@ -388,15 +415,21 @@ abbrev pub delta_named : (v : Bool) → Kind → Move (named v) false
 delta_named v _ = stay (the_word ∷ the_mark mark.Colon ∷ ty v 1 ∷ []) tt (λ ss to xs. (xs.0, xs.1.1.0))
 
 abbrev pub delta_binder : (v : Bool) → Kind → Move (binder v) false
-delta_binder v (K.Mark mark.ParenOpen) = eat (named v ∷ the_mark mark.ParenClose ∷ the_mark mark.Semicolon ∷ []) (λ ss to xs. xs.0)
+delta_binder v (K.Mark mark.ParenOpen) =
+    eat (named v ∷ the_mark mark.ParenClose ∷ the_mark mark.Semicolon ∷ []) (λ ss to xs. xs.0)
 delta_binder v _ = fail
 
 abbrev pub delta_split_head : (v : Bool) → Kind → Move (split_head v) false
-delta_split_head v (K.Reserved word.Is) = eat (the_mark mark.ParenOpen ∷ named v ∷ the_mark mark.Comma ∷ named v ∷ the_mark mark.ParenClose ∷ the_mark mark.Semicolon ∷ []) (λ ss to xs. (xs.1.0.0, xs.1.0.1, xs.1.1.1.0.0, xs.1.1.1.0.1))
+delta_split_head v (K.Reserved word.Is) =
+    eat (the_mark mark.ParenOpen ∷ named v ∷ the_mark mark.Comma ∷ named v ∷ the_mark mark.ParenClose
+    ∷ the_mark mark.Semicolon ∷ []) (λ ss to xs. (xs.1.0.0, xs.1.0.1, xs.1.1.1.0.0, xs.1.1.1.0.1))
 delta_split_head v _ = fail
 
 abbrev pub delta_match_head : (v : Bool) → Kind → Move (match_head v) false
-delta_match_head v (K.Reserved word.Is) = eat (the_mark mark.ParenOpen ∷ named v ∷ the_mark mark.Equals ∷ msg v false 1 ∷ the_mark mark.Comma ∷ named v ∷ the_mark mark.ParenClose ∷ the_mark mark.Semicolon ∷ []) (λ ss to xs. (xs.1.0.0, xs.1.0.1, xs.1.1.1.0, xs.1.1.1.1.1.0.0, xs.1.1.1.1.1.0.1))
+delta_match_head v (K.Reserved word.Is) =
+    eat (the_mark mark.ParenOpen ∷ named v ∷ the_mark mark.Equals ∷ msg v false 1 ∷ the_mark mark.Comma
+    ∷ named v ∷ the_mark mark.ParenClose ∷ the_mark mark.Semicolon ∷ [])
+    (λ ss to xs. (xs.1.0.0, xs.1.0.1, xs.1.1.1.0, xs.1.1.1.1.1.0.0, xs.1.1.1.1.1.0.1))
 delta_match_head v _ = fail
 
 abbrev pub delta_case_head : (v : Bool) (w : Reserved) → Kind → Move (case_head v w) false
@@ -404,11 +437,14 @@ delta_case_head v w (K.Reserved word.Is) = eat (the_reserved w ∷ binder v ∷ 
 delta_case_head v w _ = fail
 
 abbrev pub delta_decrypt_head : (v : Bool) → Kind → Move (decrypt_head v) false
-delta_decrypt_head v (K.Reserved word.Is) = eat (the_mark mark.BraceOpen ∷ named v ∷ the_mark mark.BraceClose ∷ msg v false 1 ∷ the_mark mark.Semicolon ∷ []) (λ ss to xs. (xs.1.0.0, xs.1.0.1, xs.1.1.1.0))
+delta_decrypt_head v (K.Reserved word.Is) =
+    eat (the_mark mark.BraceOpen ∷ named v ∷ the_mark mark.BraceClose ∷ msg v false 1
+    ∷ the_mark mark.Semicolon ∷ []) (λ ss to xs. (xs.1.0.0, xs.1.0.1, xs.1.1.1.0))
 delta_decrypt_head v _ = fail
 
 abbrev pub delta_check_head : (v : Bool) → Kind → Move (check_head v) false
-delta_check_head v (K.Reserved word.Is) = eat (msg v false 1 ∷ the_mark mark.Semicolon ∷ []) (λ ss to xs. xs.0)
+delta_check_head v (K.Reserved word.Is) =
+    eat (msg v false 1 ∷ the_mark mark.Semicolon ∷ []) (λ ss to xs. xs.0)
 delta_check_head v _ = fail
 
 abbrev pub delta_cast_head : (v : Bool) → Kind → Move (cast_head v) false
@@ -427,21 +463,48 @@ out_of s m n None = t.out s m n
 out_of s m n (Some p) = t.out_then s m n p
 
 abbrev pub delta_seq : (v : Bool) (n : ℕ) → Kind → Move (seq v n) false
-delta_seq v n (K.Reserved word.Out) = eat (msg v false 1 ∷ msg v false 1 ∷ out_tail v n ∷ []) (λ ss to xs. out_of (over ss to) xs.0 xs.1.0 xs.1.1.0)
-delta_seq v n (K.Reserved word.Inp) = eat (msg v false 1 ∷ binder v ∷ seq v (n + 1) ∷ []) (λ ss to xs. t.inp (over ss to) xs.0 xs.1.0.0 xs.1.0.1 xs.1.1.0)
-delta_seq v n (K.Reserved word.Repeat) = eat (the_reserved word.Inp ∷ msg v false 1 ∷ binder v ∷ seq v (n + 1) ∷ []) (λ ss to xs. t.repeat (over ss to) xs.1.0 xs.1.1.0.0 xs.1.1.0.1 xs.1.1.1.0)
-delta_seq v n (K.Reserved word.Split) = eat (msg v false 1 ∷ split_head v ∷ seq v (n + 1) ∷ []) (λ ss to xs. t.split (over ss to) xs.0 xs.1.0.0 xs.1.0.1 xs.1.0.2 xs.1.0.3 xs.1.1.0)
-delta_seq v n (K.Reserved word.Match) = eat (msg v false 1 ∷ match_head v ∷ seq v (n + 1) ∷ []) (λ ss to xs. t.match (over ss to) xs.0 xs.1.0.0 xs.1.0.1 xs.1.0.2 xs.1.0.3 xs.1.0.4 xs.1.1.0)
-delta_seq v n (K.Reserved word.Case) = eat (msg v false 1 ∷ case_head v word.Inl ∷ seq v (n + 1) ∷ case_head v word.Inr ∷ seq v (n + 1) ∷ []) (λ ss to xs. t.case (over ss to) xs.0 xs.1.0.0 xs.1.0.1 xs.1.1.0 xs.1.1.1.0.0 xs.1.1.1.0.1 xs.1.1.1.1.0)
-delta_seq v n (K.Reserved word.Decrypt) = eat (msg v false 1 ∷ decrypt_head v ∷ seq v (n + 1) ∷ []) (λ ss to xs. t.decrypt (over ss to) xs.0 xs.1.0.0 xs.1.0.1 xs.1.0.2 xs.1.1.0)
-delta_seq v n (K.Reserved word.Check) = eat (msg v false 1 ∷ check_head v ∷ seq v (n + 1) ∷ []) (λ ss to xs. t.check (over ss to) xs.0 xs.1.0 xs.1.1.0)
-delta_seq v n (K.Reserved word.Begin) = eat (msg v false 1 ∷ the_mark mark.Semicolon ∷ seq v (n + 1) ∷ []) (λ ss to xs. t.begin (over ss to) xs.0 xs.1.1.0)
-delta_seq v n (K.Reserved word.End) = eat (msg v false 1 ∷ the_mark mark.Semicolon ∷ seq v (n + 1) ∷ []) (λ ss to xs. t.end (over ss to) xs.0 xs.1.1.0)
-delta_seq v n (K.Reserved word.EndMany) = if v then eat (msg v false 1 ∷ the_mark mark.Semicolon ∷ seq v (n + 1) ∷ []) (λ ss to xs. t.end_many (over ss to) xs.0 xs.1.1.0) else fail
-delta_seq v n (K.Reserved word.Cast) = eat (msg v false 1 ∷ cast_head v ∷ seq v (n + 1) ∷ []) (λ ss to xs. t.cast (over ss to) xs.0 xs.1.0.0 xs.1.0.1 xs.1.1.0)
-delta_seq v n (K.Reserved word.New) = eat (binder v ∷ seq v (n + 1) ∷ []) (λ ss to xs. t.new (over ss to) xs.0.0 xs.0.1 xs.1.0)
+delta_seq v n (K.Reserved word.Out) =
+    eat (msg v false 1 ∷ msg v false 1 ∷ out_tail v n ∷ [])
+    (λ ss to xs. out_of (over ss to) xs.0 xs.1.0 xs.1.1.0)
+delta_seq v n (K.Reserved word.Inp) =
+    eat (msg v false 1 ∷ binder v ∷ seq v (n + 1) ∷ [])
+    (λ ss to xs. t.inp (over ss to) xs.0 xs.1.0.0 xs.1.0.1 xs.1.1.0)
+delta_seq v n (K.Reserved word.Repeat) =
+    eat (the_reserved word.Inp ∷ msg v false 1 ∷ binder v ∷ seq v (n + 1) ∷ [])
+    (λ ss to xs. t.repeat (over ss to) xs.1.0 xs.1.1.0.0 xs.1.1.0.1 xs.1.1.1.0)
+delta_seq v n (K.Reserved word.Split) =
+    eat (msg v false 1 ∷ split_head v ∷ seq v (n + 1) ∷ [])
+    (λ ss to xs. t.split (over ss to) xs.0 xs.1.0.0 xs.1.0.1 xs.1.0.2 xs.1.0.3 xs.1.1.0)
+delta_seq v n (K.Reserved word.Match) =
+    eat (msg v false 1 ∷ match_head v ∷ seq v (n + 1) ∷ [])
+    (λ ss to xs. t.match (over ss to) xs.0 xs.1.0.0 xs.1.0.1 xs.1.0.2 xs.1.0.3 xs.1.0.4 xs.1.1.0)
+delta_seq v n (K.Reserved word.Case) =
+    eat (msg v false 1 ∷ case_head v word.Inl ∷ seq v (n + 1) ∷ case_head v word.Inr ∷ seq v (n + 1) ∷ [])
+    (λ ss to xs. t.case (over ss to) xs.0 xs.1.0.0 xs.1.0.1 xs.1.1.0 xs.1.1.1.0.0 xs.1.1.1.0.1 xs.1.1.1.1.0)
+delta_seq v n (K.Reserved word.Decrypt) =
+    eat (msg v false 1 ∷ decrypt_head v ∷ seq v (n + 1) ∷ [])
+    (λ ss to xs. t.decrypt (over ss to) xs.0 xs.1.0.0 xs.1.0.1 xs.1.0.2 xs.1.1.0)
+delta_seq v n (K.Reserved word.Check) =
+    eat (msg v false 1 ∷ check_head v ∷ seq v (n + 1) ∷ [])
+    (λ ss to xs. t.check (over ss to) xs.0 xs.1.0 xs.1.1.0)
+delta_seq v n (K.Reserved word.Begin) =
+    eat (msg v false 1 ∷ the_mark mark.Semicolon ∷ seq v (n + 1) ∷ [])
+    (λ ss to xs. t.begin (over ss to) xs.0 xs.1.1.0)
+delta_seq v n (K.Reserved word.End) =
+    eat (msg v false 1 ∷ the_mark mark.Semicolon ∷ seq v (n + 1) ∷ [])
+    (λ ss to xs. t.end (over ss to) xs.0 xs.1.1.0)
+delta_seq v n (K.Reserved word.EndMany) =
+    if v then eat (msg v false 1 ∷ the_mark mark.Semicolon ∷ seq v (n + 1) ∷ [])
+    (λ ss to xs. t.end_many (over ss to) xs.0 xs.1.1.0) else fail
+delta_seq v n (K.Reserved word.Cast) =
+    eat (msg v false 1 ∷ cast_head v ∷ seq v (n + 1) ∷ [])
+    (λ ss to xs. t.cast (over ss to) xs.0 xs.1.0.0 xs.1.0.1 xs.1.1.0)
+delta_seq v n (K.Reserved word.New) =
+    eat (binder v ∷ seq v (n + 1) ∷ []) (λ ss to xs. t.new (over ss to) xs.0.0 xs.0.1 xs.1.0)
 delta_seq v n (K.Reserved word.Stop) = eat [] (λ ss to xs. t.stop (over ss to))
-delta_seq v n (K.Mark mark.ParenOpen) = eat (seq v (n + 1) ∷ the_mark mark.Bar ∷ sproc v (n + 1) ∷ the_mark mark.ParenClose ∷ []) (λ ss to xs. t.group (over ss to) xs.0 xs.1.1.0)
+delta_seq v n (K.Mark mark.ParenOpen) =
+    eat (seq v (n + 1) ∷ the_mark mark.Bar ∷ sproc v (n + 1) ∷ the_mark mark.ParenClose ∷ [])
+    (λ ss to xs. t.group (over ss to) xs.0 xs.1.1.0)
 delta_seq v n _ = fail
 
 abbrev pub delta_out_tail : (v : Bool) (n : ℕ) → Kind → Move (out_tail v n) false
@@ -466,7 +529,9 @@ abbrev pub delta_free_rest : Kind → Move free_rest false
 delta_free_rest _ = stay (the_word ∷ words ∷ []) tt (λ ss to xs. (xs.0, xs.1.0.0, to))
 
 abbrev pub delta_abbr_rest : (v : Bool) → Kind → Move (abbr_rest v) false
-delta_abbr_rest v _ = stay (the_word ∷ the_mark mark.Equals ∷ ty v 1 ∷ the_mark mark.Semicolon ∷ []) tt (λ ss to xs. (xs.0, xs.1.1.0, to))
+delta_abbr_rest v _ =
+    stay (the_word ∷ the_mark mark.Equals ∷ ty v 1 ∷ the_mark mark.Semicolon ∷ []) tt
+    (λ ss to xs. (xs.0, xs.1.1.0, to))
 
 abbrev pub free_from : List Span → SWord × List SWord × ℕ → t.Declared
 free_from ss y = t.free (over ss y.2) y.0 y.1
@@ -486,8 +551,10 @@ delta_decls_item v (K.Reserved word.Process) = eat [] (λ ss to xs. last tt)
 delta_decls_item v _ = fail
 
 abbrev pub delta_decls : (v : Bool) → Kind → Move (decls v) false
-delta_decls v (K.Reserved word.Free) = eat (free_rest ∷ decls v ∷ []) (λ ss to xs. (free_from ss xs.0 ∷ xs.1.0.0, xs.1.0.1))
-delta_decls v (K.Reserved word.TypeWord) = eat (abbr_rest v ∷ decls v ∷ []) (λ ss to xs. (abbr_from ss xs.0 ∷ xs.1.0.0, xs.1.0.1))
+delta_decls v (K.Reserved word.Free) =
+    eat (free_rest ∷ decls v ∷ []) (λ ss to xs. (free_from ss xs.0 ∷ xs.1.0.0, xs.1.0.1))
+delta_decls v (K.Reserved word.TypeWord) =
+    eat (abbr_rest v ∷ decls v ∷ []) (λ ss to xs. (abbr_from ss xs.0 ∷ xs.1.0.0, xs.1.0.1))
 delta_decls v (K.Reserved word.Process) = eat [] (λ ss to xs. ([], tt))
 delta_decls v _ = fail
 
@@ -495,7 +562,8 @@ abbrev pub delta_act_rest : Kind → Move act_rest false
 delta_act_rest _ = stay (the_number ∷ the_mark mark.Semicolon ∷ []) tt (λ ss to xs. (xs.0, to))
 
 abbrev pub delta_talk_rest : Kind → Move talk_rest false
-delta_talk_rest _ = stay (the_number ∷ the_number ∷ the_mark mark.Semicolon ∷ []) tt (λ ss to xs. (xs.0, xs.1.0, to))
+delta_talk_rest _ =
+    stay (the_number ∷ the_number ∷ the_mark mark.Semicolon ∷ []) tt (λ ss to xs. (xs.0, xs.1.0, to))
 
 abbrev pub act_from : List Span → ℕ × ℕ → t.Step
 act_from ss y = t.act (over ss y.1) y.0
@@ -510,22 +578,37 @@ abbrev pub is_talk : List ℕ → Bool
 is_talk w = bytes_eq w (codes "talk")
 
 abbrev pub delta_steps_item : Kind → Move steps_item false
-delta_steps_item (K.Word w) = if is_act w then eat (act_rest ∷ []) (λ ss to xs. one (act_from ss xs.0)) else (if is_talk w then eat (talk_rest ∷ []) (λ ss to xs. one (talk_from ss xs.0)) else skip (last tt))
+delta_steps_item (K.Word w) =
+    if is_act w then eat (act_rest ∷ []) (λ ss to xs. one (act_from ss xs.0)) else
+    (if is_talk w then eat (talk_rest ∷ []) (λ ss to xs. one (talk_from ss xs.0)) else skip (last tt))
 delta_steps_item _ = skip (last tt)
 
 abbrev pub delta_steps : Kind → Move steps false
-delta_steps (K.Word w) = if is_act w then eat (act_rest ∷ steps ∷ []) (λ ss to xs. (act_from ss xs.0 ∷ xs.1.0.0, xs.1.0.1)) else (if is_talk w then eat (talk_rest ∷ steps ∷ []) (λ ss to xs. (talk_from ss xs.0 ∷ xs.1.0.0, xs.1.0.1)) else skip ([], tt))
+delta_steps (K.Word w) =
+    if is_act w then eat (act_rest ∷ steps ∷ []) (λ ss to xs. (act_from ss xs.0 ∷ xs.1.0.0, xs.1.0.1)) else
+    (if is_talk w then eat (talk_rest ∷ steps ∷ []) (λ ss to xs. (talk_from ss xs.0 ∷ xs.1.0.0, xs.1.0.1))
+    else skip ([], tt))
 delta_steps _ = skip ([], tt)
 
 -- the rule of a word, by its premises and whether it writes its effect
 abbrev pub rule_move : (v : Bool) (n : ℕ) → List ℕ → Option ℕ → Bool → Move (deriv v n) false
 rule_move v n w None writes = fail
-rule_move v n w (Some zero) false = eat [] (λ ss to xs. t.rule (over ss to) (word_at w (first ss)) None t.no_derivs)
-rule_move v n w (Some (suc zero)) false = eat (deriv v (n + 1) ∷ []) (λ ss to xs. t.rule (over ss to) (word_at w (first ss)) None (t.derivs_of_list (xs.0 ∷ [])))
-rule_move v n w (Some (suc (suc zero))) false = eat (deriv v (n + 1) ∷ deriv v (n + 1) ∷ []) (λ ss to xs. t.rule (over ss to) (word_at w (first ss)) None (t.derivs_of_list (xs.0 ∷ xs.1.0 ∷ [])))
-rule_move v n w (Some (suc (suc (suc zero)))) false = eat (deriv v (n + 1) ∷ deriv v (n + 1) ∷ deriv v (n + 1) ∷ []) (λ ss to xs. t.rule (over ss to) (word_at w (first ss)) None (t.derivs_of_list (xs.0 ∷ xs.1.0 ∷ xs.1.1.0 ∷ [])))
+rule_move v n w (Some zero) false =
+    eat [] (λ ss to xs. t.rule (over ss to) (word_at w (first ss)) None t.no_derivs)
+rule_move v n w (Some (suc zero)) false =
+    eat (deriv v (n + 1) ∷ [])
+    (λ ss to xs. t.rule (over ss to) (word_at w (first ss)) None (t.derivs_of_list (xs.0 ∷ [])))
+rule_move v n w (Some (suc (suc zero))) false =
+    eat (deriv v (n + 1) ∷ deriv v (n + 1) ∷ [])
+    (λ ss to xs. t.rule (over ss to) (word_at w (first ss)) None (t.derivs_of_list (xs.0 ∷ xs.1.0 ∷ [])))
+rule_move v n w (Some (suc (suc (suc zero)))) false =
+    eat (deriv v (n + 1) ∷ deriv v (n + 1) ∷ deriv v (n + 1) ∷ [])
+    (λ ss to xs. t.rule (over ss to) (word_at w (first ss)) None
+    (t.derivs_of_list (xs.0 ∷ xs.1.0 ∷ xs.1.1.0 ∷ [])))
 rule_move v n w (Some (suc (suc (suc (suc k))))) false = fail
-rule_move v n w (Some (suc zero)) true = eat (effect v true 0 ∷ deriv v (n + 1) ∷ []) (λ ss to xs. t.rule (over ss to) (word_at w (first ss)) (Some xs.0) (t.derivs_of_list (xs.1.0 ∷ [])))
+rule_move v n w (Some (suc zero)) true =
+    eat (effect v true 0 ∷ deriv v (n + 1) ∷ [])
+    (λ ss to xs. t.rule (over ss to) (word_at w (first ss)) (Some xs.0) (t.derivs_of_list (xs.1.0 ∷ [])))
 rule_move v n w (Some zero) true = fail
 rule_move v n w (Some (suc (suc k))) true = fail
 
@@ -547,16 +630,33 @@ delta_derivation_tail v _ = skip None
 
 abbrev pub delta_body : (v : Bool) → Kind → Move (body v) false
 delta_body v _ = stay (decls v ∷ sproc v 0 ∷ opponent_tail v ∷ schedule_tail ∷ derivation_tail v ∷ []) tt
-    (λ ss to xs. record { decls = xs.0.0; process = xs.1.0; opponent = xs.1.1.0; schedule = xs.1.1.1.0; derivation = xs.1.1.1.1.0 })
+    (λ ss to xs. record {
+      decls = xs.0.0;
+      process = xs.1.0;
+      opponent = xs.1.1.0;
+      schedule = xs.1.1.1.0;
+      derivation = xs.1.1.1.1.0;
+    })
 
 abbrev pub file_from : ℕ → Span → Body → t.File
-file_from v s b = record { span = s; version = v; decls = b.decls; process = b.process; opponent = b.opponent; schedule = b.schedule; derivation = b.derivation }
+file_from v s b =
+    record {
+      span = s;
+      version = v;
+      decls = b.decls;
+      process = b.process;
+      opponent = b.opponent;
+      schedule = b.schedule;
+      derivation = b.derivation;
+    }
 
 abbrev pub is_version_word : List ℕ → Bool
 is_version_word w = bytes_eq w (codes "version")
 
 abbrev pub delta_file : Kind → Move file false
-delta_file (K.Word w) = if is_version_word w then eat (the_two ∷ the_mark mark.Semicolon ∷ body true ∷ []) (λ ss to xs. file_from 2 (over ss to) xs.1.1.0) else fail
+delta_file (K.Word w) =
+    if is_version_word w then eat (the_two ∷ the_mark mark.Semicolon ∷ body true ∷ [])
+    (λ ss to xs. file_from 2 (over ss to) xs.1.1.0) else fail
 delta_file _ = stay (body false ∷ []) tt (λ ss to xs. file_from 1 (over ss to) xs.0)
 
 abbrev pub delta : (a : Sym) → Kind → Move a false

@@ -11,22 +11,38 @@ use Rattle.spi_parse.specs.Reading.{Out}
 use Rattle.spi_parse.specs.Places.{parts}
 
 abbrev pub one_form : (v : Bool) (n : ℕ) → List ℕ → List Span → State → Out t.Deriv
-one_form v n w = parts (deriv v n) (deriv v (n + 1) ∷ []) (λ ss to xs. t.rule (over ss to) (word_at w (first ss)) None (t.derivs_of_list (xs.0 ∷ [])))
+one_form v n w =
+    parts (deriv v n) (deriv v (n + 1) ∷ [])
+    (λ ss to xs. t.rule (over ss to) (word_at w (first ss)) None (t.derivs_of_list (xs.0 ∷ [])))
 
 abbrev pub two_form : (v : Bool) (n : ℕ) → List ℕ → List Span → State → Out t.Deriv
-two_form v n w = parts (deriv v n) (deriv v (n + 1) ∷ deriv v (n + 1) ∷ []) (λ ss to xs. t.rule (over ss to) (word_at w (first ss)) None (t.derivs_of_list (xs.0 ∷ xs.1.0 ∷ [])))
+two_form v n w =
+    parts (deriv v n) (deriv v (n + 1) ∷ deriv v (n + 1) ∷ [])
+    (λ ss to xs. t.rule (over ss to) (word_at w (first ss)) None (t.derivs_of_list (xs.0 ∷ xs.1.0 ∷ [])))
 
 abbrev pub three_form : (v : Bool) (n : ℕ) → List ℕ → List Span → State → Out t.Deriv
-three_form v n w = parts (deriv v n) (deriv v (n + 1) ∷ deriv v (n + 1) ∷ deriv v (n + 1) ∷ []) (λ ss to xs. t.rule (over ss to) (word_at w (first ss)) None (t.derivs_of_list (xs.0 ∷ xs.1.0 ∷ xs.1.1.0 ∷ [])))
+three_form v n w =
+    parts (deriv v n) (deriv v (n + 1) ∷ deriv v (n + 1) ∷ deriv v (n + 1) ∷ [])
+    (λ ss to xs. t.rule (over ss to) (word_at w (first ss)) None
+    (t.derivs_of_list (xs.0 ∷ xs.1.0 ∷ xs.1.1.0 ∷ [])))
 
 abbrev pub sub_form : (v : Bool) (n : ℕ) → List ℕ → List Span → State → Out t.Deriv
-sub_form v n w = parts (deriv v n) (effect v true 0 ∷ deriv v (n + 1) ∷ []) (λ ss to xs. t.rule (over ss to) (word_at w (first ss)) (Some xs.0) (t.derivs_of_list (xs.1.0 ∷ [])))
+sub_form v n w =
+    parts (deriv v n) (effect v true 0 ∷ deriv v (n + 1) ∷ [])
+    (λ ss to xs. t.rule (over ss to) (word_at w (first ss)) (Some xs.0) (t.derivs_of_list (xs.1.0 ∷ [])))
 
 abbrev pub body_of : FileParts → Body
-body_of p = record { decls = map decl_of p.decls.items; process = proc_of p.process; opponent = opponent_of p.opponent; schedule = schedule_of p.schedule; derivation = derivation_of p.derivation }
+body_of p = record {
+  decls = map decl_of p.decls.items;
+  process = proc_of p.process;
+  opponent = opponent_of p.opponent;
+  schedule = schedule_of p.schedule;
+  derivation = derivation_of p.derivation;
+}
 
 abbrev pub later_form : List Span → State → Out t.File
-later_form = parts file (the_two ∷ the_mark mark.Semicolon ∷ body true ∷ []) (λ ss to xs. file_from 2 (over ss to) xs.1.1.0)
+later_form = parts file (the_two ∷ the_mark mark.Semicolon ∷ body true ∷ [])
+    (λ ss to xs. file_from 2 (over ss to) xs.1.1.0)
 
 abbrev pub first_form : List Span → State → Out t.File
 first_form = parts file (body false ∷ []) (λ ss to xs. file_from 1 (over ss to) xs.0)

@@ -39,7 +39,8 @@ pub fn too_deep(left: usize) -> Stop
 
 /// Stops above the nesting limit of processes.
 pub fn process_fits(nesting: u32, left: usize) -> Result<(), Stop>
-    ensures { MatchResult result (λ _. nesting ≤ 500) (λ e. (500 < nesting) × (e ≡ stops.Fault (TooDeep left))) }
+    ensures { MatchResult result (λ _. nesting ≤ 500)
+        (λ e. (500 < nesting) × (e ≡ stops.Fault (TooDeep left))) }
 {
     if nesting > PROCESS_LIMIT {
         return Err(Stop::Fault(Fault::TooDeep(left)));

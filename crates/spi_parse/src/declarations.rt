@@ -17,13 +17,15 @@ use spi_tree::{Decl, STy, SWord};
 use std::alloc::Global;
 
 fn next_word<'t>(alloc: Global, at: Cursor<'t>) -> Result<(Option<SWord>, Cursor<'t>), Stop>
-    ensures { Gives (λ x. (item_of (λ w. w) tt x.0, state_of x.1)) result (read limited words_item (state_of at.entry)) }
+    ensures { Gives (λ x. (item_of (λ w. w) tt x.0, state_of x.1)) result
+        (read limited words_item (state_of at.entry)) }
 {
     next_word_step(alloc, at)
 }
 
 fn next_word_step<'t>(alloc: Global, at: Cursor<'t>) -> Result<(Option<SWord>, Cursor<'t>), Stop>
-    ensures { Gives (λ x. (item_of (λ w. w) tt x.0, state_of x.1)) result (step limited (read limited) words_item (state_of at.entry)) }
+    ensures { Gives (λ x. (item_of (λ w. w) tt x.0, state_of x.1)) result
+        (step limited (read limited) words_item (state_of at.entry)) }
 {
     let [first, rest @ ..] = at.rest else {
         return Err(syntax(0));
@@ -43,7 +45,8 @@ fn next_word_step<'t>(alloc: Global, at: Cursor<'t>) -> Result<(Option<SWord>, C
 }
 
 fn more_words<'t>(alloc: Global, start: Cursor<'t>) -> Result<(Vec<SWord>, Cursor<'t>), Stop>
-    ensures { Gives (λ x. ((x.0.items, tt), state_of x.1)) result (read limited words (state_of start.entry)) }
+    ensures { Gives (λ x. ((x.0.items, tt), state_of x.1)) result
+        (read limited words (state_of start.entry)) }
 {
     let mut more = Vec::new(alloc);
     let mut at = start;
@@ -59,7 +62,8 @@ fn more_words<'t>(alloc: Global, start: Cursor<'t>) -> Result<(Vec<SWord>, Curso
 
 /// The words of a declaration of free names.
 fn free_words<'t>(alloc: Global, at: Cursor<'t>) -> Result<(SWord, Vec<SWord>, Cursor<'t>), Stop>
-    ensures { Gives (λ x. ((x.0, x.1.items, x.2.end), state_of x.2)) result (read limited free_rest (state_of at.entry)) }
+    ensures { Gives (λ x. ((x.0, x.1.items, x.2.end), state_of x.2)) result
+        (read limited free_rest (state_of at.entry)) }
 {
     free_words_step(alloc, at)
 }
@@ -68,7 +72,8 @@ fn free_words_step<'t>(
     alloc: Global,
     at: Cursor<'t>,
 ) -> Result<(SWord, Vec<SWord>, Cursor<'t>), Stop>
-    ensures { Gives (λ x. ((x.0, x.1.items, x.2.end), state_of x.2)) result (step limited (read limited) free_rest (state_of at.entry)) }
+    ensures { Gives (λ x. ((x.0, x.1.items, x.2.end), state_of x.2)) result
+        (step limited (read limited) free_rest (state_of at.entry)) }
 {
     let [_, ..] = at.rest else {
         return Err(syntax(0));
@@ -84,7 +89,8 @@ fn abbreviation<'t>(
     at: Cursor<'t>,
     later: bool,
 ) -> Result<(SWord, STy, Cursor<'t>), Stop>
-    ensures { Gives (λ x. ((x.0, ty_of x.1, x.2.end), state_of x.2)) result (read limited (abbr_rest later) (state_of at.entry)) }
+    ensures { Gives (λ x. ((x.0, ty_of x.1, x.2.end), state_of x.2)) result
+        (read limited (abbr_rest later) (state_of at.entry)) }
 {
     abbreviation_step(alloc, at, later)
 }
@@ -94,7 +100,8 @@ fn abbreviation_step<'t>(
     at: Cursor<'t>,
     later: bool,
 ) -> Result<(SWord, STy, Cursor<'t>), Stop>
-    ensures { Gives (λ x. ((x.0, ty_of x.1, x.2.end), state_of x.2)) result (step limited (read limited) (abbr_rest later) (state_of at.entry)) }
+    ensures { Gives (λ x. ((x.0, ty_of x.1, x.2.end), state_of x.2)) result
+        (step limited (read limited) (abbr_rest later) (state_of at.entry)) }
 {
     let [_, ..] = at.rest else {
         return Err(syntax(0));
@@ -106,7 +113,9 @@ fn abbreviation_step<'t>(
 
 /// The type behind the name of an abbreviation, with the marks round it.
 fn abbreviated<'t>(alloc: Global, at: Cursor<'t>, later: bool) -> Result<(STy, Cursor<'t>), Stop>
-    ensures { Gives (λ x. ((tt, (ty_of x.0, (tt, tt))), state_of x.1)) result (read_all (read limited) (the_mark Equals ∷ ty later 1 ∷ the_mark Semicolon ∷ []) (state_of at.entry)) }
+    ensures { Gives (λ x. ((tt, (ty_of x.0, (tt, tt))), state_of x.1)) result
+        (read_all (read limited) (the_mark Equals ∷ ty later 1 ∷ the_mark Semicolon ∷ [])
+        (state_of at.entry)) }
 {
     let at = take_mark(at, Mark::Equals)?;
     let (ty, at) = read_type(alloc, at, later, 1)?;
@@ -120,7 +129,8 @@ pub fn declaration<'t>(
     at: Cursor<'t>,
     later: bool,
 ) -> Result<(Decl, Cursor<'t>), Stop>
-    ensures { Gives (λ x. (decl_of x.0, state_of x.1)) result (read limited (decl later) (state_of at.entry)) }
+    ensures { Gives (λ x. (decl_of x.0, state_of x.1)) result
+        (read limited (decl later) (state_of at.entry)) }
 {
     declaration_step(alloc, at, later)
 }
@@ -130,7 +140,8 @@ fn declaration_step<'t>(
     at: Cursor<'t>,
     later: bool,
 ) -> Result<(Decl, Cursor<'t>), Stop>
-    ensures { Gives (λ x. (decl_of x.0, state_of x.1)) result (step limited (read limited) (decl later) (state_of at.entry)) }
+    ensures { Gives (λ x. (decl_of x.0, state_of x.1)) result
+        (step limited (read limited) (decl later) (state_of at.entry)) }
 {
     let [first, rest @ ..] = at.rest else {
         return Err(syntax(0));
@@ -170,7 +181,8 @@ fn next_declaration<'t>(
     at: Cursor<'t>,
     later: bool,
 ) -> Result<(Option<Decl>, Cursor<'t>), Stop>
-    ensures { Gives (λ x. (item_of decl_of tt x.0, state_of x.1)) result (read limited (decls_item later) (state_of at.entry)) }
+    ensures { Gives (λ x. (item_of decl_of tt x.0, state_of x.1)) result
+        (read limited (decls_item later) (state_of at.entry)) }
 {
     next_declaration_step(alloc, at, later)
 }
@@ -180,7 +192,8 @@ fn next_declaration_step<'t>(
     at: Cursor<'t>,
     later: bool,
 ) -> Result<(Option<Decl>, Cursor<'t>), Stop>
-    ensures { Gives (λ x. (item_of decl_of tt x.0, state_of x.1)) result (step limited (read limited) (decls_item later) (state_of at.entry)) }
+    ensures { Gives (λ x. (item_of decl_of tt x.0, state_of x.1)) result
+        (step limited (read limited) (decls_item later) (state_of at.entry)) }
 {
     let [first, rest @ ..] = at.rest else {
         return Err(syntax(0));
@@ -222,7 +235,8 @@ pub fn all_declarations<'t>(
     start: Cursor<'t>,
     later: bool,
 ) -> Result<(Vec<Decl>, Cursor<'t>), Stop>
-    ensures { Gives (λ x. ((map decl_of x.0.items, tt), state_of x.1)) result (read limited (decls later) (state_of start.entry)) }
+    ensures { Gives (λ x. ((map decl_of x.0.items, tt), state_of x.1)) result
+        (read limited (decls later) (state_of start.entry)) }
 {
     let mut more = Vec::new(alloc);
     let mut at = start;

@@ -90,7 +90,8 @@ fn shape_of(later: bool, word: &str) -> Shape
 }
 
 fn make_use(rule: SWord, effect: Option<Vec<SAtom>>, premises: Vec<SDeriv>, span: Span) -> SDeriv
-    ensures { deriv_of result ≡ trees.rule span rule (effect_of effect) (derivs_of_list (map deriv_of premises.items)) }
+    ensures { deriv_of result
+        ≡ trees.rule span rule (effect_of effect) (derivs_of_list (map deriv_of premises.items)) }
 {
     SDeriv {
         rule,
@@ -116,7 +117,8 @@ pub fn derivation<'t>(
     nesting: u32,
 ) -> Result<(SDeriv, Cursor<'t>), Stop>
     requires { nesting ≤ 1001 }
-    ensures { Gives (λ x. (deriv_of x.0, state_of x.1)) result (read limited (deriv later nesting) (state_of at.entry)) }
+    ensures { Gives (λ x. (deriv_of x.0, state_of x.1)) result
+        (read limited (deriv later nesting) (state_of at.entry)) }
 {
     let (tree, at) = boxed_derivation(alloc, at, later, nesting)?;
     Ok((Box::into_inner(tree), at))
@@ -133,7 +135,8 @@ fn boxed_derivation<'t>(
     nesting: u32,
 ) -> Result<(Box<SDeriv>, Cursor<'t>), Stop>
     requires { nesting ≤ 1001 }
-    ensures { Gives (λ x. (deriv_of x.0.value, state_of x.1)) result (read limited (deriv later nesting) (state_of at.entry)) }
+    ensures { Gives (λ x. (deriv_of x.0.value, state_of x.1)) result
+        (read limited (deriv later nesting) (state_of at.entry)) }
 {
     derivation_step(alloc, at, later, nesting)
 }
@@ -146,7 +149,8 @@ fn derivation_step<'t>(
     nesting: u32,
 ) -> Result<(Box<SDeriv>, Cursor<'t>), Stop>
     requires { nesting ≤ 1001 }
-    ensures { Gives (λ x. (deriv_of x.0.value, state_of x.1)) result (step limited (read limited) (deriv later nesting) (state_of at.entry)) }
+    ensures { Gives (λ x. (deriv_of x.0.value, state_of x.1)) result
+        (step limited (read limited) (deriv later nesting) (state_of at.entry)) }
 {
     let [first, rest @ ..] = at.rest else {
         return Err(syntax(0));
@@ -208,7 +212,8 @@ fn read_one<'t>(
     nesting: u32,
 ) -> Result<(Box<SDeriv>, Cursor<'t>), Stop>
     requires { nesting ≤ 1000 }
-    ensures { Gives (λ x. (deriv_of x.0.value, state_of x.1)) result (one_form later nesting name.word (name.span ∷ []) (state_of at.entry)) }
+    ensures { Gives (λ x. (deriv_of x.0.value, state_of x.1)) result
+        (one_form later nesting name.word (name.span ∷ []) (state_of at.entry)) }
 {
     let (first, at) = boxed_derivation(alloc, at, later, nesting + 1)?;
     end_one(alloc, name, None, first, at)
@@ -223,7 +228,8 @@ fn read_two<'t>(
     nesting: u32,
 ) -> Result<(Box<SDeriv>, Cursor<'t>), Stop>
     requires { nesting ≤ 1000 }
-    ensures { Gives (λ x. (deriv_of x.0.value, state_of x.1)) result (two_form later nesting name.word (name.span ∷ []) (state_of at.entry)) }
+    ensures { Gives (λ x. (deriv_of x.0.value, state_of x.1)) result
+        (two_form later nesting name.word (name.span ∷ []) (state_of at.entry)) }
 {
     let (first, at) = boxed_derivation(alloc, at, later, nesting + 1)?;
     let (second, at) = boxed_derivation(alloc, at, later, nesting + 1)?;
@@ -239,7 +245,8 @@ fn read_three<'t>(
     nesting: u32,
 ) -> Result<(Box<SDeriv>, Cursor<'t>), Stop>
     requires { nesting ≤ 1000 }
-    ensures { Gives (λ x. (deriv_of x.0.value, state_of x.1)) result (three_form later nesting name.word (name.span ∷ []) (state_of at.entry)) }
+    ensures { Gives (λ x. (deriv_of x.0.value, state_of x.1)) result
+        (three_form later nesting name.word (name.span ∷ []) (state_of at.entry)) }
 {
     let (first, at) = boxed_derivation(alloc, at, later, nesting + 1)?;
     let (second, at) = boxed_derivation(alloc, at, later, nesting + 1)?;
@@ -256,7 +263,8 @@ fn read_sub<'t>(
     nesting: u32,
 ) -> Result<(Box<SDeriv>, Cursor<'t>), Stop>
     requires { nesting ≤ 1000 }
-    ensures { Gives (λ x. (deriv_of x.0.value, state_of x.1)) result (sub_form later nesting name.word (name.span ∷ []) (state_of at.entry)) }
+    ensures { Gives (λ x. (deriv_of x.0.value, state_of x.1)) result
+        (sub_form later nesting name.word (name.span ∷ []) (state_of at.entry)) }
 {
     let (effect, at) = effect(alloc, at, later, true, 0)?;
     let (first, at) = boxed_derivation(alloc, at, later, nesting + 1)?;
@@ -271,7 +279,9 @@ fn end_one<'t>(
     first: Box<SDeriv>,
     at: Cursor<'t>,
 ) -> Result<(Box<SDeriv>, Cursor<'t>), Stop>
-    ensures { Gives (λ x. (deriv_of x.0.value, state_of x.1)) result (done (trees.rule (over (rule.span ∷ []) at.entry.end) rule (effect_of effect) (derivs_of_list (deriv_of first.value ∷ []))) (state_of at.entry)) }
+    ensures { Gives (λ x. (deriv_of x.0.value, state_of x.1)) result
+        (done (trees.rule (over (rule.span ∷ []) at.entry.end) rule (effect_of effect)
+        (derivs_of_list (deriv_of first.value ∷ []))) (state_of at.entry)) }
 {
     let span = Span {
         from: rule.span.from,
@@ -291,7 +301,9 @@ fn end_two<'t>(
     second: Box<SDeriv>,
     at: Cursor<'t>,
 ) -> Result<(Box<SDeriv>, Cursor<'t>), Stop>
-    ensures { Gives (λ x. (deriv_of x.0.value, state_of x.1)) result (done (trees.rule (over (rule.span ∷ []) at.entry.end) rule None (derivs_of_list (deriv_of first.value ∷ deriv_of second.value ∷ []))) (state_of at.entry)) }
+    ensures { Gives (λ x. (deriv_of x.0.value, state_of x.1)) result
+        (done (trees.rule (over (rule.span ∷ []) at.entry.end) rule None
+        (derivs_of_list (deriv_of first.value ∷ deriv_of second.value ∷ []))) (state_of at.entry)) }
 {
     let span = Span {
         from: rule.span.from,
@@ -312,7 +324,10 @@ fn end_three<'t>(
     third: Box<SDeriv>,
     at: Cursor<'t>,
 ) -> Result<(Box<SDeriv>, Cursor<'t>), Stop>
-    ensures { Gives (λ x. (deriv_of x.0.value, state_of x.1)) result (done (trees.rule (over (rule.span ∷ []) at.entry.end) rule None (derivs_of_list (deriv_of first.value ∷ deriv_of second.value ∷ deriv_of third.value ∷ []))) (state_of at.entry)) }
+    ensures { Gives (λ x. (deriv_of x.0.value, state_of x.1)) result
+        (done (trees.rule (over (rule.span ∷ []) at.entry.end) rule None
+        (derivs_of_list (deriv_of first.value ∷ deriv_of second.value ∷ deriv_of third.value ∷ [])))
+        (state_of at.entry)) }
 {
     let span = Span {
         from: rule.span.from,

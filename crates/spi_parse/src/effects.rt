@@ -23,7 +23,8 @@ fn atom<'t>(
     nesting: u32,
 ) -> Result<(SAtom, Cursor<'t>), Stop>
     requires { nesting ≤ 1001 }
-    ensures { Gives (λ x. (atom_of x.0, state_of x.1)) result (read limited (atom later numbered nesting) (state_of at.entry)) }
+    ensures { Gives (λ x. (atom_of x.0, state_of x.1)) result
+        (read limited (atom later numbered nesting) (state_of at.entry)) }
 {
     atom_step(alloc, at, later, numbered, nesting)
 }
@@ -36,7 +37,8 @@ fn atom_step<'t>(
     nesting: u32,
 ) -> Result<(SAtom, Cursor<'t>), Stop>
     requires { nesting ≤ 1001 }
-    ensures { Gives (λ x. (atom_of x.0, state_of x.1)) result (step limited (read limited) (atom later numbered nesting) (state_of at.entry)) }
+    ensures { Gives (λ x. (atom_of x.0, state_of x.1)) result
+        (step limited (read limited) (atom later numbered nesting) (state_of at.entry)) }
 {
     let [first, rest @ ..] = at.rest else {
         return Err(syntax(0));
@@ -94,7 +96,8 @@ fn next_atom<'t>(
     nesting: u32,
 ) -> Result<(Option<SAtom>, Cursor<'t>), Stop>
     requires { nesting ≤ 1001 }
-    ensures { Gives (λ x. (item_of atom_of tt x.0, state_of x.1)) result (read limited (atoms_item later numbered nesting) (state_of at.entry)) }
+    ensures { Gives (λ x. (item_of atom_of tt x.0, state_of x.1)) result
+        (read limited (atoms_item later numbered nesting) (state_of at.entry)) }
 {
     next_atom_step(alloc, at, later, numbered, nesting)
 }
@@ -107,7 +110,8 @@ fn next_atom_step<'t>(
     nesting: u32,
 ) -> Result<(Option<SAtom>, Cursor<'t>), Stop>
     requires { nesting ≤ 1001 }
-    ensures { Gives (λ x. (item_of atom_of tt x.0, state_of x.1)) result (step limited (read limited) (atoms_item later numbered nesting) (state_of at.entry)) }
+    ensures { Gives (λ x. (item_of atom_of tt x.0, state_of x.1)) result
+        (step limited (read limited) (atoms_item later numbered nesting) (state_of at.entry)) }
 {
     let [first, rest @ ..] = at.rest else {
         return Err(syntax(0));
@@ -134,7 +138,8 @@ fn more_atoms<'t>(
     nesting: u32,
 ) -> Result<(Vec<SAtom>, Cursor<'t>), Stop>
     requires { nesting ≤ 1001 }
-    ensures { Gives (λ x. ((map atom_of x.0.items, tt), state_of x.1)) result (read limited (atoms later numbered nesting) (state_of start.entry)) }
+    ensures { Gives (λ x. ((map atom_of x.0.items, tt), state_of x.1)) result
+        (read limited (atoms later numbered nesting) (state_of start.entry)) }
 {
     let mut more = Vec::new(alloc);
     let mut at = start;
@@ -157,7 +162,8 @@ pub fn effect<'t>(
     nesting: u32,
 ) -> Result<(Vec<SAtom>, Cursor<'t>), Stop>
     requires { nesting ≤ 1001 }
-    ensures { Gives (λ x. (map atom_of x.0.items, state_of x.1)) result (read limited (effect later numbered nesting) (state_of at.entry)) }
+    ensures { Gives (λ x. (map atom_of x.0.items, state_of x.1)) result
+        (read limited (effect later numbered nesting) (state_of at.entry)) }
 {
     effect_step(alloc, at, later, numbered, nesting)
 }
@@ -170,7 +176,8 @@ fn effect_step<'t>(
     nesting: u32,
 ) -> Result<(Vec<SAtom>, Cursor<'t>), Stop>
     requires { nesting ≤ 1001 }
-    ensures { Gives (λ x. (map atom_of x.0.items, state_of x.1)) result (step limited (read limited) (effect later numbered nesting) (state_of at.entry)) }
+    ensures { Gives (λ x. (map atom_of x.0.items, state_of x.1)) result
+        (step limited (read limited) (effect later numbered nesting) (state_of at.entry)) }
 {
     let [first, rest @ ..] = at.rest else {
         return Err(syntax(0));
@@ -196,7 +203,9 @@ fn effect_in_brackets<'t>(
     nesting: u32,
 ) -> Result<(Vec<SAtom>, Cursor<'t>), Stop>
     requires { nesting ≤ 1001 }
-    ensures { Gives (λ x. (map atom_of x.0.items, state_of x.1)) result (behind limited (read limited) (delta_bracket later numbered nesting) (_first ∷ []) (state_of at.entry)) }
+    ensures { Gives (λ x. (map atom_of x.0.items, state_of x.1)) result
+        (behind limited (read limited) (delta_bracket later numbered nesting) (_first ∷ [])
+        (state_of at.entry)) }
 {
     let [second, rest @ ..] = at.rest else {
         return Err(syntax(0));
@@ -221,7 +230,8 @@ fn some_atoms<'t>(
     nesting: u32,
 ) -> Result<(Vec<SAtom>, Cursor<'t>), Stop>
     requires { nesting ≤ 1001 }
-    ensures { Gives (λ x. (map atom_of x.0.items, state_of x.1)) result (effect_form later numbered nesting [] (state_of at.entry)) }
+    ensures { Gives (λ x. (map atom_of x.0.items, state_of x.1)) result
+        (effect_form later numbered nesting [] (state_of at.entry)) }
 {
     let (first, at) = atom(alloc, at, later, numbered, nesting)?;
     let (more, at) = more_atoms(alloc, at, later, numbered, nesting)?;

@@ -34,7 +34,8 @@ fn opponent<'t>(
     at: Cursor<'t>,
     later: bool,
 ) -> Result<(Option<SProc>, Cursor<'t>), Stop>
-    ensures { Gives (λ x. (opponent_of x.0, state_of x.1)) result (read limited (opponent_tail later) (state_of at.entry)) }
+    ensures { Gives (λ x. (opponent_of x.0, state_of x.1)) result
+        (read limited (opponent_tail later) (state_of at.entry)) }
 {
     opponent_step(alloc, at, later)
 }
@@ -44,7 +45,8 @@ fn opponent_step<'t>(
     at: Cursor<'t>,
     later: bool,
 ) -> Result<(Option<SProc>, Cursor<'t>), Stop>
-    ensures { Gives (λ x. (opponent_of x.0, state_of x.1)) result (step limited (read limited) (opponent_tail later) (state_of at.entry)) }
+    ensures { Gives (λ x. (opponent_of x.0, state_of x.1)) result
+        (step limited (read limited) (opponent_tail later) (state_of at.entry)) }
 {
     let [first, rest @ ..] = at.rest else {
         return Ok((None, at));
@@ -63,7 +65,8 @@ fn opponent_step<'t>(
 }
 
 fn schedule<'t>(alloc: Global, at: Cursor<'t>) -> Result<(Option<Vec<SStep>>, Cursor<'t>), Stop>
-    ensures { Gives (λ x. (schedule_of x.0, state_of x.1)) result (read limited schedule_tail (state_of at.entry)) }
+    ensures { Gives (λ x. (schedule_of x.0, state_of x.1)) result
+        (read limited schedule_tail (state_of at.entry)) }
 {
     schedule_step(alloc, at)
 }
@@ -72,7 +75,8 @@ fn schedule_step<'t>(
     alloc: Global,
     at: Cursor<'t>,
 ) -> Result<(Option<Vec<SStep>>, Cursor<'t>), Stop>
-    ensures { Gives (λ x. (schedule_of x.0, state_of x.1)) result (step limited (read limited) schedule_tail (state_of at.entry)) }
+    ensures { Gives (λ x. (schedule_of x.0, state_of x.1)) result
+        (step limited (read limited) schedule_tail (state_of at.entry)) }
 {
     let [first, rest @ ..] = at.rest else {
         return Ok((None, at));
@@ -95,7 +99,8 @@ fn derivation_part<'t>(
     at: Cursor<'t>,
     later: bool,
 ) -> Result<(Option<SDeriv>, Cursor<'t>), Stop>
-    ensures { Gives (λ x. (derivation_of x.0, state_of x.1)) result (read limited (derivation_tail later) (state_of at.entry)) }
+    ensures { Gives (λ x. (derivation_of x.0, state_of x.1)) result
+        (read limited (derivation_tail later) (state_of at.entry)) }
 {
     derivation_part_step(alloc, at, later)
 }
@@ -105,7 +110,8 @@ fn derivation_part_step<'t>(
     at: Cursor<'t>,
     later: bool,
 ) -> Result<(Option<SDeriv>, Cursor<'t>), Stop>
-    ensures { Gives (λ x. (derivation_of x.0, state_of x.1)) result (step limited (read limited) (derivation_tail later) (state_of at.entry)) }
+    ensures { Gives (λ x. (derivation_of x.0, state_of x.1)) result
+        (step limited (read limited) (derivation_tail later) (state_of at.entry)) }
 {
     let [first, rest @ ..] = at.rest else {
         return Ok((None, at));
@@ -128,7 +134,8 @@ fn file_parts<'t>(
     at: Cursor<'t>,
     later: bool,
 ) -> Result<(FileParts, Cursor<'t>), Stop>
-    ensures { Gives (λ x. (body_of x.0, state_of x.1)) result (read limited (body later) (state_of at.entry)) }
+    ensures { Gives (λ x. (body_of x.0, state_of x.1)) result
+        (read limited (body later) (state_of at.entry)) }
 {
     file_parts_step(alloc, at, later)
 }
@@ -138,7 +145,8 @@ fn file_parts_step<'t>(
     at: Cursor<'t>,
     later: bool,
 ) -> Result<(FileParts, Cursor<'t>), Stop>
-    ensures { Gives (λ x. (body_of x.0, state_of x.1)) result (step limited (read limited) (body later) (state_of at.entry)) }
+    ensures { Gives (λ x. (body_of x.0, state_of x.1)) result
+        (step limited (read limited) (body later) (state_of at.entry)) }
 {
     let [_, ..] = at.rest else {
         return Err(syntax(0));
@@ -180,7 +188,8 @@ pub fn read_file<'t>(alloc: Global, at: Cursor<'t>) -> Result<(Tree, Cursor<'t>)
 }
 
 fn file_step<'t>(alloc: Global, at: Cursor<'t>) -> Result<(Tree, Cursor<'t>), Stop>
-    ensures { Gives (λ x. (file_of x.0, state_of x.1)) result (step limited (read limited) file (state_of at.entry)) }
+    ensures { Gives (λ x. (file_of x.0, state_of x.1)) result
+        (step limited (read limited) file (state_of at.entry)) }
 {
     let [first, rest @ ..] = at.rest else {
         return Err(syntax(0));

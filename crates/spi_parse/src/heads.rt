@@ -18,7 +18,8 @@ use std::alloc::Global;
 
 /// A name with its type.
 fn named<'t>(alloc: Global, at: Cursor<'t>, later: bool) -> Result<(SWord, STy, Cursor<'t>), Stop>
-    ensures { Gives (λ x. ((x.0, ty_of x.1), state_of x.2)) result (read limited (named later) (state_of at.entry)) }
+    ensures { Gives (λ x. ((x.0, ty_of x.1), state_of x.2)) result
+        (read limited (named later) (state_of at.entry)) }
 {
     named_step(alloc, at, later)
 }
@@ -28,7 +29,8 @@ fn named_step<'t>(
     at: Cursor<'t>,
     later: bool,
 ) -> Result<(SWord, STy, Cursor<'t>), Stop>
-    ensures { Gives (λ x. ((x.0, ty_of x.1), state_of x.2)) result (step limited (read limited) (named later) (state_of at.entry)) }
+    ensures { Gives (λ x. ((x.0, ty_of x.1), state_of x.2)) result
+        (step limited (read limited) (named later) (state_of at.entry)) }
 {
     let [_, ..] = at.rest else {
         return Err(syntax(0));
@@ -41,7 +43,8 @@ fn named_step<'t>(
 
 /// The closing parenthesis, and the semicolon.
 fn take_closing<'t>(at: Cursor<'t>) -> Result<Cursor<'t>, Stop>
-    ensures { Gives (λ x. ((tt, (tt, tt)), state_of x)) result (read_all (read limited) (the_mark ParenClose ∷ the_mark Semicolon ∷ []) (state_of at.entry)) }
+    ensures { Gives (λ x. ((tt, (tt, tt)), state_of x)) result
+        (read_all (read limited) (the_mark ParenClose ∷ the_mark Semicolon ∷ []) (state_of at.entry)) }
 {
     let at = take_mark(at, Mark::ParenClose)?;
     let at = take_mark(at, Mark::Semicolon)?;
@@ -54,7 +57,8 @@ pub fn binder<'t>(
     at: Cursor<'t>,
     later: bool,
 ) -> Result<(SWord, STy, Cursor<'t>), Stop>
-    ensures { Gives (λ x. ((x.0, ty_of x.1), state_of x.2)) result (read limited (binder later) (state_of at.entry)) }
+    ensures { Gives (λ x. ((x.0, ty_of x.1), state_of x.2)) result
+        (read limited (binder later) (state_of at.entry)) }
 {
     binder_step(alloc, at, later)
 }
@@ -64,7 +68,8 @@ fn binder_step<'t>(
     at: Cursor<'t>,
     later: bool,
 ) -> Result<(SWord, STy, Cursor<'t>), Stop>
-    ensures { Gives (λ x. ((x.0, ty_of x.1), state_of x.2)) result (step limited (read limited) (binder later) (state_of at.entry)) }
+    ensures { Gives (λ x. ((x.0, ty_of x.1), state_of x.2)) result
+        (step limited (read limited) (binder later) (state_of at.entry)) }
 {
     let [first, rest @ ..] = at.rest else {
         return Err(syntax(0));
@@ -89,7 +94,9 @@ fn second_named<'t>(
     at: Cursor<'t>,
     later: bool,
 ) -> Result<(SWord, STy, Cursor<'t>), Stop>
-    ensures { Gives (λ x. ((tt, ((x.0, ty_of x.1), (tt, (tt, tt)))), state_of x.2)) result (read_all (read limited) (the_mark Comma ∷ named later ∷ the_mark ParenClose ∷ the_mark Semicolon ∷ []) (state_of at.entry)) }
+    ensures { Gives (λ x. ((tt, ((x.0, ty_of x.1), (tt, (tt, tt)))), state_of x.2)) result
+        (read_all (read limited)
+        (the_mark Comma ∷ named later ∷ the_mark ParenClose ∷ the_mark Semicolon ∷ []) (state_of at.entry)) }
 {
     let at = take_mark(at, Mark::Comma)?;
     let (name, ty, at) = named(alloc, at, later)?;
@@ -103,7 +110,8 @@ pub fn split_head<'t>(
     at: Cursor<'t>,
     later: bool,
 ) -> Result<(SWord, STy, SWord, STy, Cursor<'t>), Stop>
-    ensures { Gives (λ x. ((x.0, ty_of x.1, x.2, ty_of x.3), state_of x.4)) result (read limited (split_head later) (state_of at.entry)) }
+    ensures { Gives (λ x. ((x.0, ty_of x.1, x.2, ty_of x.3), state_of x.4)) result
+        (read limited (split_head later) (state_of at.entry)) }
 {
     split_head_step(alloc, at, later)
 }
@@ -113,7 +121,8 @@ fn split_head_step<'t>(
     at: Cursor<'t>,
     later: bool,
 ) -> Result<(SWord, STy, SWord, STy, Cursor<'t>), Stop>
-    ensures { Gives (λ x. ((x.0, ty_of x.1, x.2, ty_of x.3), state_of x.4)) result (step limited (read limited) (split_head later) (state_of at.entry)) }
+    ensures { Gives (λ x. ((x.0, ty_of x.1, x.2, ty_of x.3), state_of x.4)) result
+        (step limited (read limited) (split_head later) (state_of at.entry)) }
 {
     let [first, rest @ ..] = at.rest else {
         return Err(syntax(0));
@@ -139,7 +148,8 @@ pub fn match_head<'t>(
     at: Cursor<'t>,
     later: bool,
 ) -> Result<(SWord, STy, SMsg, SWord, STy, Cursor<'t>), Stop>
-    ensures { Gives (λ x. ((x.0, ty_of x.1, msg_of x.2, x.3, ty_of x.4), state_of x.5)) result (read limited (match_head later) (state_of at.entry)) }
+    ensures { Gives (λ x. ((x.0, ty_of x.1, msg_of x.2, x.3, ty_of x.4), state_of x.5)) result
+        (read limited (match_head later) (state_of at.entry)) }
 {
     match_head_step(alloc, at, later)
 }
@@ -149,7 +159,8 @@ fn match_head_step<'t>(
     at: Cursor<'t>,
     later: bool,
 ) -> Result<(SWord, STy, SMsg, SWord, STy, Cursor<'t>), Stop>
-    ensures { Gives (λ x. ((x.0, ty_of x.1, msg_of x.2, x.3, ty_of x.4), state_of x.5)) result (step limited (read limited) (match_head later) (state_of at.entry)) }
+    ensures { Gives (λ x. ((x.0, ty_of x.1, msg_of x.2, x.3, ty_of x.4), state_of x.5)) result
+        (step limited (read limited) (match_head later) (state_of at.entry)) }
 {
     let [first, rest @ ..] = at.rest else {
         return Err(syntax(0));
@@ -178,7 +189,8 @@ pub fn case_head<'t>(
     later: bool,
     side: Reserved,
 ) -> Result<(SWord, STy, Cursor<'t>), Stop>
-    ensures { Gives (λ x. ((x.0, ty_of x.1), state_of x.2)) result (read limited (case_head later side) (state_of at.entry)) }
+    ensures { Gives (λ x. ((x.0, ty_of x.1), state_of x.2)) result
+        (read limited (case_head later side) (state_of at.entry)) }
 {
     case_head_step(alloc, at, later, side)
 }
@@ -189,7 +201,8 @@ fn case_head_step<'t>(
     later: bool,
     side: Reserved,
 ) -> Result<(SWord, STy, Cursor<'t>), Stop>
-    ensures { Gives (λ x. ((x.0, ty_of x.1), state_of x.2)) result (step limited (read limited) (case_head later side) (state_of at.entry)) }
+    ensures { Gives (λ x. ((x.0, ty_of x.1), state_of x.2)) result
+        (step limited (read limited) (case_head later side) (state_of at.entry)) }
 {
     let [first, rest @ ..] = at.rest else {
         return Err(syntax(0));
@@ -213,7 +226,8 @@ pub fn decrypt_head<'t>(
     at: Cursor<'t>,
     later: bool,
 ) -> Result<(SWord, STy, SMsg, Cursor<'t>), Stop>
-    ensures { Gives (λ x. ((x.0, ty_of x.1, msg_of x.2), state_of x.3)) result (read limited (decrypt_head later) (state_of at.entry)) }
+    ensures { Gives (λ x. ((x.0, ty_of x.1, msg_of x.2), state_of x.3)) result
+        (read limited (decrypt_head later) (state_of at.entry)) }
 {
     decrypt_head_step(alloc, at, later)
 }
@@ -223,7 +237,8 @@ fn decrypt_head_step<'t>(
     at: Cursor<'t>,
     later: bool,
 ) -> Result<(SWord, STy, SMsg, Cursor<'t>), Stop>
-    ensures { Gives (λ x. ((x.0, ty_of x.1, msg_of x.2), state_of x.3)) result (step limited (read limited) (decrypt_head later) (state_of at.entry)) }
+    ensures { Gives (λ x. ((x.0, ty_of x.1, msg_of x.2), state_of x.3)) result
+        (step limited (read limited) (decrypt_head later) (state_of at.entry)) }
 {
     let [first, rest @ ..] = at.rest else {
         return Err(syntax(0));
@@ -251,7 +266,8 @@ pub fn check_head<'t>(
     at: Cursor<'t>,
     later: bool,
 ) -> Result<(SMsg, Cursor<'t>), Stop>
-    ensures { Gives (λ x. (msg_of x.0, state_of x.1)) result (read limited (check_head later) (state_of at.entry)) }
+    ensures { Gives (λ x. (msg_of x.0, state_of x.1)) result
+        (read limited (check_head later) (state_of at.entry)) }
 {
     check_head_step(alloc, at, later)
 }
@@ -261,7 +277,8 @@ fn check_head_step<'t>(
     at: Cursor<'t>,
     later: bool,
 ) -> Result<(SMsg, Cursor<'t>), Stop>
-    ensures { Gives (λ x. (msg_of x.0, state_of x.1)) result (step limited (read limited) (check_head later) (state_of at.entry)) }
+    ensures { Gives (λ x. (msg_of x.0, state_of x.1)) result
+        (step limited (read limited) (check_head later) (state_of at.entry)) }
 {
     let [first, rest @ ..] = at.rest else {
         return Err(syntax(0));
@@ -286,7 +303,8 @@ pub fn cast_head<'t>(
     at: Cursor<'t>,
     later: bool,
 ) -> Result<(SWord, STy, Cursor<'t>), Stop>
-    ensures { Gives (λ x. ((x.0, ty_of x.1), state_of x.2)) result (read limited (cast_head later) (state_of at.entry)) }
+    ensures { Gives (λ x. ((x.0, ty_of x.1), state_of x.2)) result
+        (read limited (cast_head later) (state_of at.entry)) }
 {
     cast_head_step(alloc, at, later)
 }
@@ -296,7 +314,8 @@ fn cast_head_step<'t>(
     at: Cursor<'t>,
     later: bool,
 ) -> Result<(SWord, STy, Cursor<'t>), Stop>
-    ensures { Gives (λ x. ((x.0, ty_of x.1), state_of x.2)) result (step limited (read limited) (cast_head later) (state_of at.entry)) }
+    ensures { Gives (λ x. ((x.0, ty_of x.1), state_of x.2)) result
+        (step limited (read limited) (cast_head later) (state_of at.entry)) }
 {
     let [first, rest @ ..] = at.rest else {
         return Err(syntax(0));

@@ -17,7 +17,8 @@ use spi_tree::{SMsg, SWord};
 use std::alloc::Global;
 
 fn make_tuple(first: Box<SMsg>, second: Box<SMsg>, more: Vec<SMsg>, span: Span) -> SMsg
-    ensures { msg_of result ≡ tuple span (msg_of first.value) (msg_of second.value) (msgs_of_list (map msg_of more.items)) }
+    ensures { msg_of result
+        ≡ tuple span (msg_of first.value) (msg_of second.value) (msgs_of_list (map msg_of more.items)) }
 {
     SMsg::Tuple {
         first,
@@ -36,7 +37,8 @@ pub fn message<'t>(
     nesting: u32,
 ) -> Result<(SMsg, Cursor<'t>), Stop>
     requires { nesting ≤ 1001 }
-    ensures { Gives (λ x. (msg_of x.0, state_of x.1)) result (read limited (msg later numbered nesting) (state_of at.entry)) }
+    ensures { Gives (λ x. (msg_of x.0, state_of x.1)) result
+        (read limited (msg later numbered nesting) (state_of at.entry)) }
 {
     let (tree, at) = boxed_message(alloc, at, later, numbered, nesting)?;
     Ok((Box::into_inner(tree), at))
@@ -60,7 +62,8 @@ fn boxed_message<'t>(
     nesting: u32,
 ) -> Result<(Box<SMsg>, Cursor<'t>), Stop>
     requires { nesting ≤ 1001 }
-    ensures { Gives (λ x. (msg_of x.0.value, state_of x.1)) result (read limited (msg later numbered nesting) (state_of at.entry)) }
+    ensures { Gives (λ x. (msg_of x.0.value, state_of x.1)) result
+        (read limited (msg later numbered nesting) (state_of at.entry)) }
 {
     message_step(alloc, at, later, numbered, nesting)
 }
@@ -74,7 +77,8 @@ fn message_step<'t>(
     nesting: u32,
 ) -> Result<(Box<SMsg>, Cursor<'t>), Stop>
     requires { nesting ≤ 1001 }
-    ensures { Gives (λ x. (msg_of x.0.value, state_of x.1)) result (step limited (read limited) (msg later numbered nesting) (state_of at.entry)) }
+    ensures { Gives (λ x. (msg_of x.0.value, state_of x.1)) result
+        (step limited (read limited) (msg later numbered nesting) (state_of at.entry)) }
 {
     let [first, rest @ ..] = at.rest else {
         return Err(syntax(0));
@@ -145,7 +149,8 @@ fn read_name<'t>(
     span: Span,
     at: Cursor<'t>,
 ) -> Result<(Box<SMsg>, Cursor<'t>), Stop>
-    ensures { Gives (λ x. (msg_of x.0.value, state_of x.1)) result (done (name span (word_at word.now span)) (state_of at.entry)) }
+    ensures { Gives (λ x. (msg_of x.0.value, state_of x.1)) result
+        (done (name span (word_at word.now span)) (state_of at.entry)) }
 {
     let name = SWord {
         word: copy_word(alloc, word)?,
@@ -162,7 +167,8 @@ fn read_numeral<'t>(
     numbered: bool,
     nesting: u32,
 ) -> Result<(Box<SMsg>, Cursor<'t>), Stop>
-    ensures { Gives (λ x. (msg_of x.0.value, state_of x.1)) result (numeral_form later numbered nesting (first ∷ []) (state_of at.entry)) }
+    ensures { Gives (λ x. (msg_of x.0.value, state_of x.1)) result
+        (numeral_form later numbered nesting (first ∷ []) (state_of at.entry)) }
 {
     let (number, at) = take_number(at)?;
     let span = Span {
@@ -182,7 +188,8 @@ fn read_enc<'t>(
     nesting: u32,
 ) -> Result<(Box<SMsg>, Cursor<'t>), Stop>
     requires { nesting ≤ 1000 }
-    ensures { Gives (λ x. (msg_of x.0.value, state_of x.1)) result (enc_form later numbered nesting (first ∷ []) (state_of at.entry)) }
+    ensures { Gives (λ x. (msg_of x.0.value, state_of x.1)) result
+        (enc_form later numbered nesting (first ∷ []) (state_of at.entry)) }
 {
     let (body, at) = boxed_message(alloc, at, later, numbered, nesting + 1)?;
     let at = take_mark(at, Mark::BraceClose)?;
@@ -204,7 +211,8 @@ fn read_inl<'t>(
     nesting: u32,
 ) -> Result<(Box<SMsg>, Cursor<'t>), Stop>
     requires { nesting ≤ 1000 }
-    ensures { Gives (λ x. (msg_of x.0.value, state_of x.1)) result (inl_form later numbered nesting (first ∷ []) (state_of at.entry)) }
+    ensures { Gives (λ x. (msg_of x.0.value, state_of x.1)) result
+        (inl_form later numbered nesting (first ∷ []) (state_of at.entry)) }
 {
     let (part, at) = boxed_message(alloc, at, later, numbered, nesting + 1)?;
     let span = Span {
@@ -224,7 +232,8 @@ fn read_inr<'t>(
     nesting: u32,
 ) -> Result<(Box<SMsg>, Cursor<'t>), Stop>
     requires { nesting ≤ 1000 }
-    ensures { Gives (λ x. (msg_of x.0.value, state_of x.1)) result (inr_form later numbered nesting (first ∷ []) (state_of at.entry)) }
+    ensures { Gives (λ x. (msg_of x.0.value, state_of x.1)) result
+        (inr_form later numbered nesting (first ∷ []) (state_of at.entry)) }
 {
     let (part, at) = boxed_message(alloc, at, later, numbered, nesting + 1)?;
     let span = Span {
@@ -244,7 +253,8 @@ fn read_hash<'t>(
     nesting: u32,
 ) -> Result<(Box<SMsg>, Cursor<'t>), Stop>
     requires { nesting ≤ 1000 }
-    ensures { Gives (λ x. (msg_of x.0.value, state_of x.1)) result (hash_form later numbered nesting (first ∷ []) (state_of at.entry)) }
+    ensures { Gives (λ x. (msg_of x.0.value, state_of x.1)) result
+        (hash_form later numbered nesting (first ∷ []) (state_of at.entry)) }
 {
     let at = take_mark(at, Mark::ParenOpen)?;
     let (part, at) = boxed_message(alloc, at, later, numbered, nesting + 1)?;
@@ -266,7 +276,9 @@ fn message_in_parens<'t>(
     nesting: u32,
 ) -> Result<(Box<SMsg>, Cursor<'t>), Stop>
     requires { nesting ≤ 1000 }
-    ensures { Gives (λ x. (msg_of x.0.value, state_of x.1)) result (behind limited (read limited) (delta_paren later numbered nesting) (first ∷ []) (state_of at.entry)) }
+    ensures { Gives (λ x. (msg_of x.0.value, state_of x.1)) result
+        (behind limited (read limited) (delta_paren later numbered nesting) (first ∷ [])
+        (state_of at.entry)) }
 {
     let [second, rest @ ..] = at.rest else {
         return Err(syntax(0));
@@ -294,7 +306,8 @@ fn read_tuple<'t>(
     nesting: u32,
 ) -> Result<(Box<SMsg>, Cursor<'t>), Stop>
     requires { nesting ≤ 1000 }
-    ensures { Gives (λ x. (msg_of x.0.value, state_of x.1)) result (tuple_form later numbered nesting (opening ∷ []) (state_of at.entry)) }
+    ensures { Gives (λ x. (msg_of x.0.value, state_of x.1)) result
+        (tuple_form later numbered nesting (opening ∷ []) (state_of at.entry)) }
 {
     let (first, at) = boxed_message(alloc, at, later, numbered, nesting + 1)?;
     let at = take_mark(at, Mark::Comma)?;
@@ -312,7 +325,9 @@ fn end_tuple<'t>(
     more: Vec<SMsg>,
     at: Cursor<'t>,
 ) -> Result<(Box<SMsg>, Cursor<'t>), Stop>
-    ensures { Gives (λ x. (msg_of x.0.value, state_of x.1)) result (done (tuple (over (opening ∷ []) at.entry.end) (msg_of first.value) (msg_of second.value) (msgs_of_list (map msg_of more.items))) (state_of at.entry)) }
+    ensures { Gives (λ x. (msg_of x.0.value, state_of x.1)) result
+        (done (tuple (over (opening ∷ []) at.entry.end) (msg_of first.value) (msg_of second.value)
+        (msgs_of_list (map msg_of more.items))) (state_of at.entry)) }
 {
     let span = Span {
         from: opening.from,
@@ -331,7 +346,8 @@ fn more_messages<'t>(
     nesting: u32,
 ) -> Result<(Vec<SMsg>, Cursor<'t>), Stop>
     requires { nesting ≤ 1001 }
-    ensures { Gives (λ x. ((map msg_of x.0.items, tt), state_of x.1)) result (read limited (msgs later numbered nesting) (state_of start.entry)) }
+    ensures { Gives (λ x. ((map msg_of x.0.items, tt), state_of x.1)) result
+        (read limited (msgs later numbered nesting) (state_of start.entry)) }
 {
     let mut more = Vec::new(alloc);
     let mut at = start;
@@ -354,7 +370,8 @@ fn next_message<'t>(
     nesting: u32,
 ) -> Result<(Option<Box<SMsg>>, Cursor<'t>), Stop>
     requires { nesting ≤ 1001 }
-    ensures { Gives (λ x. (item_of (λ b. msg_of b.value) tt x.0, state_of x.1)) result (read limited (msgs_item later numbered nesting) (state_of at.entry)) }
+    ensures { Gives (λ x. (item_of (λ b. msg_of b.value) tt x.0, state_of x.1)) result
+        (read limited (msgs_item later numbered nesting) (state_of at.entry)) }
 {
     next_message_step(alloc, at, later, numbered, nesting)
 }
@@ -368,7 +385,8 @@ fn next_message_step<'t>(
     nesting: u32,
 ) -> Result<(Option<Box<SMsg>>, Cursor<'t>), Stop>
     requires { nesting ≤ 1001 }
-    ensures { Gives (λ x. (item_of (λ b. msg_of b.value) tt x.0, state_of x.1)) result (step limited (read limited) (msgs_item later numbered nesting) (state_of at.entry)) }
+    ensures { Gives (λ x. (item_of (λ b. msg_of b.value) tt x.0, state_of x.1)) result
+        (step limited (read limited) (msgs_item later numbered nesting) (state_of at.entry)) }
 {
     let [first, rest @ ..] = at.rest else {
         return Err(syntax(0));

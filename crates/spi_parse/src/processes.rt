@@ -31,7 +31,8 @@ pub fn process<'t>(
     level: u32,
 ) -> Result<(SProc, Cursor<'t>), Stop>
     requires { level ≤ 500 }
-    ensures { Gives (λ x. (proc_of x.0, state_of x.1)) result (read limited (sproc later level) (state_of at.entry)) }
+    ensures { Gives (λ x. (proc_of x.0, state_of x.1)) result
+        (read limited (sproc later level) (state_of at.entry)) }
 {
     let (tree, at) = parallel(alloc, at, later, level)?;
     Ok((Box::into_inner(tree), at))
@@ -39,7 +40,8 @@ pub fn process<'t>(
 
 /// The process as a box, with the place behind it.
 fn boxed<'t>(alloc: Global, tree: SProc, at: Cursor<'t>) -> Result<(Box<SProc>, Cursor<'t>), Stop>
-    ensures { Gives (λ x. (proc_of x.0.value, state_of x.1)) result (done (proc_of tree) (state_of at.entry)) }
+    ensures { Gives (λ x. (proc_of x.0.value, state_of x.1)) result
+        (done (proc_of tree) (state_of at.entry)) }
 {
     Ok((Box::new(alloc, tree)?, at))
 }
@@ -52,7 +54,8 @@ fn parallel<'t>(
     level: u32,
 ) -> Result<(Box<SProc>, Cursor<'t>), Stop>
     requires { level ≤ 500 }
-    ensures { Gives (λ x. (proc_of x.0.value, state_of x.1)) result (read limited (sproc later level) (state_of at.entry)) }
+    ensures { Gives (λ x. (proc_of x.0.value, state_of x.1)) result
+        (read limited (sproc later level) (state_of at.entry)) }
 {
     parallel_step(alloc, at, later, level)
 }
@@ -65,7 +68,8 @@ fn parallel_step<'t>(
     level: u32,
 ) -> Result<(Box<SProc>, Cursor<'t>), Stop>
     requires { level ≤ 500 }
-    ensures { Gives (λ x. (proc_of x.0.value, state_of x.1)) result (step limited (read limited) (sproc later level) (state_of at.entry)) }
+    ensures { Gives (λ x. (proc_of x.0.value, state_of x.1)) result
+        (step limited (read limited) (sproc later level) (state_of at.entry)) }
 {
     let [token, ..] = at.rest else {
         return Err(syntax(0));
@@ -90,7 +94,8 @@ fn sequence<'t>(
     nesting: u32,
 ) -> Result<(Box<SProc>, Cursor<'t>), Stop>
     requires { nesting ≤ 501 }
-    ensures { Gives (λ x. (proc_of x.0.value, state_of x.1)) result (read limited (seq later nesting) (state_of at.entry)) }
+    ensures { Gives (λ x. (proc_of x.0.value, state_of x.1)) result
+        (read limited (seq later nesting) (state_of at.entry)) }
 {
     sequence_step(alloc, at, later, nesting)
 }
@@ -103,7 +108,8 @@ fn sequence_step<'t>(
     nesting: u32,
 ) -> Result<(Box<SProc>, Cursor<'t>), Stop>
     requires { nesting ≤ 501 }
-    ensures { Gives (λ x. (proc_of x.0.value, state_of x.1)) result (step limited (read limited) (seq later nesting) (state_of at.entry)) }
+    ensures { Gives (λ x. (proc_of x.0.value, state_of x.1)) result
+        (step limited (read limited) (seq later nesting) (state_of at.entry)) }
 {
     let [first, ..] = at.rest else {
         return Err(syntax(0));
@@ -121,7 +127,8 @@ fn read_form<'t>(
     nesting: u32,
 ) -> Result<(Box<SProc>, Cursor<'t>), Stop>
     requires { nesting ≤ 501 }
-    ensures { Gives (λ x. (proc_of x.0.value, state_of x.1)) result (by_form later nesting form (state_of at.entry)) }
+    ensures { Gives (λ x. (proc_of x.0.value, state_of x.1)) result
+        (by_form later nesting form (state_of at.entry)) }
 {
     match form {
         Form::Talk(form) => read_talk(alloc, form, at, later, nesting),
@@ -146,7 +153,8 @@ fn read_talk<'t>(
     nesting: u32,
 ) -> Result<(Box<SProc>, Cursor<'t>), Stop>
     requires { nesting ≤ 501 }
-    ensures { Gives (λ x. (proc_of x.0.value, state_of x.1)) result (by_form later nesting (forms.Talk form) (state_of at.entry)) }
+    ensures { Gives (λ x. (proc_of x.0.value, state_of x.1)) result
+        (by_form later nesting (forms.Talk form) (state_of at.entry)) }
 {
     let [first, rest @ ..] = at.rest else {
         return Err(syntax(0));
@@ -172,7 +180,8 @@ fn read_open<'t>(
     nesting: u32,
 ) -> Result<(Box<SProc>, Cursor<'t>), Stop>
     requires { nesting ≤ 501 }
-    ensures { Gives (λ x. (proc_of x.0.value, state_of x.1)) result (by_form later nesting (forms.Open form) (state_of at.entry)) }
+    ensures { Gives (λ x. (proc_of x.0.value, state_of x.1)) result
+        (by_form later nesting (forms.Open form) (state_of at.entry)) }
 {
     let [first, rest @ ..] = at.rest else {
         return Err(syntax(0));
@@ -199,7 +208,8 @@ fn read_event<'t>(
     nesting: u32,
 ) -> Result<(Box<SProc>, Cursor<'t>), Stop>
     requires { nesting ≤ 501 }
-    ensures { Gives (λ x. (proc_of x.0.value, state_of x.1)) result (by_form later nesting (forms.Event form) (state_of at.entry)) }
+    ensures { Gives (λ x. (proc_of x.0.value, state_of x.1)) result
+        (by_form later nesting (forms.Event form) (state_of at.entry)) }
 {
     let [first, rest @ ..] = at.rest else {
         return Err(syntax(0));
@@ -226,7 +236,8 @@ fn read_plain<'t>(
     nesting: u32,
 ) -> Result<(Box<SProc>, Cursor<'t>), Stop>
     requires { nesting ≤ 501 }
-    ensures { Gives (λ x. (proc_of x.0.value, state_of x.1)) result (by_form later nesting (forms.Plain form) (state_of at.entry)) }
+    ensures { Gives (λ x. (proc_of x.0.value, state_of x.1)) result
+        (by_form later nesting (forms.Plain form) (state_of at.entry)) }
 {
     let [first, rest @ ..] = at.rest else {
         return Err(syntax(0));
@@ -253,7 +264,8 @@ fn read_out<'t>(
     nesting: u32,
 ) -> Result<(Box<SProc>, Cursor<'t>), Stop>
     requires { nesting ≤ 500 }
-    ensures { Gives (λ x. (proc_of x.0.value, state_of x.1)) result (out_form later nesting (first ∷ []) (state_of at.entry)) }
+    ensures { Gives (λ x. (proc_of x.0.value, state_of x.1)) result
+        (out_form later nesting (first ∷ []) (state_of at.entry)) }
 {
     let (channel, at) = message(alloc, at, later, false, 1)?;
     let (datum, at) = message(alloc, at, later, false, 1)?;
@@ -270,7 +282,9 @@ fn end_out<'t>(
     then: Option<Box<SProc>>,
     at: Cursor<'t>,
 ) -> Result<(Box<SProc>, Cursor<'t>), Stop>
-    ensures { Gives (λ x. (proc_of x.0.value, state_of x.1)) result (done (out_of (over (first ∷ []) at.entry.end) (msg_of channel) (msg_of datum) (boxed_option then)) (state_of at.entry)) }
+    ensures { Gives (λ x. (proc_of x.0.value, state_of x.1)) result
+        (done (out_of (over (first ∷ []) at.entry.end) (msg_of channel) (msg_of datum) (boxed_option then))
+        (state_of at.entry)) }
 {
     let span = Span {
         from: first.from,
@@ -307,7 +321,8 @@ fn read_inp<'t>(
     nesting: u32,
 ) -> Result<(Box<SProc>, Cursor<'t>), Stop>
     requires { nesting ≤ 500 }
-    ensures { Gives (λ x. (proc_of x.0.value, state_of x.1)) result (inp_form later nesting (first ∷ []) (state_of at.entry)) }
+    ensures { Gives (λ x. (proc_of x.0.value, state_of x.1)) result
+        (inp_form later nesting (first ∷ []) (state_of at.entry)) }
 {
     let (channel, at) = message(alloc, at, later, false, 1)?;
     let (name, ty, at) = binder(alloc, at, later)?;
@@ -338,7 +353,8 @@ fn read_repeat<'t>(
     nesting: u32,
 ) -> Result<(Box<SProc>, Cursor<'t>), Stop>
     requires { nesting ≤ 500 }
-    ensures { Gives (λ x. (proc_of x.0.value, state_of x.1)) result (repeat_form later nesting (first ∷ []) (state_of at.entry)) }
+    ensures { Gives (λ x. (proc_of x.0.value, state_of x.1)) result
+        (repeat_form later nesting (first ∷ []) (state_of at.entry)) }
 {
     let at = take_reserved(at, Reserved::Inp)?;
     let (channel, at) = message(alloc, at, later, false, 1)?;
@@ -370,7 +386,8 @@ fn read_split<'t>(
     nesting: u32,
 ) -> Result<(Box<SProc>, Cursor<'t>), Stop>
     requires { nesting ≤ 500 }
-    ensures { Gives (λ x. (proc_of x.0.value, state_of x.1)) result (split_form later nesting (first ∷ []) (state_of at.entry)) }
+    ensures { Gives (λ x. (proc_of x.0.value, state_of x.1)) result
+        (split_form later nesting (first ∷ []) (state_of at.entry)) }
 {
     let (whole, at) = message(alloc, at, later, false, 1)?;
     let (left, left_ty, right, right_ty, at) = split_head(alloc, at, later)?;
@@ -403,7 +420,8 @@ fn read_match<'t>(
     nesting: u32,
 ) -> Result<(Box<SProc>, Cursor<'t>), Stop>
     requires { nesting ≤ 500 }
-    ensures { Gives (λ x. (proc_of x.0.value, state_of x.1)) result (match_form later nesting (first ∷ []) (state_of at.entry)) }
+    ensures { Gives (λ x. (proc_of x.0.value, state_of x.1)) result
+        (match_form later nesting (first ∷ []) (state_of at.entry)) }
 {
     let (whole, at) = message(alloc, at, later, false, 1)?;
     let (left, left_ty, equal, right, right_ty, at) = match_head(alloc, at, later)?;
@@ -437,7 +455,8 @@ fn read_case<'t>(
     nesting: u32,
 ) -> Result<(Box<SProc>, Cursor<'t>), Stop>
     requires { nesting ≤ 500 }
-    ensures { Gives (λ x. (proc_of x.0.value, state_of x.1)) result (case_form later nesting (first ∷ []) (state_of at.entry)) }
+    ensures { Gives (λ x. (proc_of x.0.value, state_of x.1)) result
+        (case_form later nesting (first ∷ []) (state_of at.entry)) }
 {
     let (whole, at) = message(alloc, at, later, false, 1)?;
     let (left, left_ty, at) = case_head(alloc, at, later, Reserved::Inl)?;
@@ -473,7 +492,8 @@ fn read_decrypt<'t>(
     nesting: u32,
 ) -> Result<(Box<SProc>, Cursor<'t>), Stop>
     requires { nesting ≤ 500 }
-    ensures { Gives (λ x. (proc_of x.0.value, state_of x.1)) result (decrypt_form later nesting (first ∷ []) (state_of at.entry)) }
+    ensures { Gives (λ x. (proc_of x.0.value, state_of x.1)) result
+        (decrypt_form later nesting (first ∷ []) (state_of at.entry)) }
 {
     let (whole, at) = message(alloc, at, later, false, 1)?;
     let (name, ty, key, at) = decrypt_head(alloc, at, later)?;
@@ -505,7 +525,8 @@ fn read_check<'t>(
     nesting: u32,
 ) -> Result<(Box<SProc>, Cursor<'t>), Stop>
     requires { nesting ≤ 500 }
-    ensures { Gives (λ x. (proc_of x.0.value, state_of x.1)) result (check_form later nesting (first ∷ []) (state_of at.entry)) }
+    ensures { Gives (λ x. (proc_of x.0.value, state_of x.1)) result
+        (check_form later nesting (first ∷ []) (state_of at.entry)) }
 {
     let (whole, at) = message(alloc, at, later, false, 1)?;
     let (nonce, at) = check_head(alloc, at, later)?;
@@ -535,7 +556,8 @@ fn read_begin<'t>(
     nesting: u32,
 ) -> Result<(Box<SProc>, Cursor<'t>), Stop>
     requires { nesting ≤ 500 }
-    ensures { Gives (λ x. (proc_of x.0.value, state_of x.1)) result (begin_form later nesting (first ∷ []) (state_of at.entry)) }
+    ensures { Gives (λ x. (proc_of x.0.value, state_of x.1)) result
+        (begin_form later nesting (first ∷ []) (state_of at.entry)) }
 {
     let (label, at) = message(alloc, at, later, false, 1)?;
     let at = take_mark(at, Mark::Semicolon)?;
@@ -556,7 +578,8 @@ fn read_end<'t>(
     nesting: u32,
 ) -> Result<(Box<SProc>, Cursor<'t>), Stop>
     requires { nesting ≤ 500 }
-    ensures { Gives (λ x. (proc_of x.0.value, state_of x.1)) result (end_form later nesting (first ∷ []) (state_of at.entry)) }
+    ensures { Gives (λ x. (proc_of x.0.value, state_of x.1)) result
+        (end_form later nesting (first ∷ []) (state_of at.entry)) }
 {
     let (label, at) = message(alloc, at, later, false, 1)?;
     let at = take_mark(at, Mark::Semicolon)?;
@@ -577,7 +600,8 @@ fn read_end_many<'t>(
     nesting: u32,
 ) -> Result<(Box<SProc>, Cursor<'t>), Stop>
     requires { nesting ≤ 500 }
-    ensures { Gives (λ x. (proc_of x.0.value, state_of x.1)) result (end_many_form later nesting (first ∷ []) (state_of at.entry)) }
+    ensures { Gives (λ x. (proc_of x.0.value, state_of x.1)) result
+        (end_many_form later nesting (first ∷ []) (state_of at.entry)) }
 {
     let (label, at) = message(alloc, at, later, false, 1)?;
     let at = take_mark(at, Mark::Semicolon)?;
@@ -598,7 +622,8 @@ fn read_cast<'t>(
     nesting: u32,
 ) -> Result<(Box<SProc>, Cursor<'t>), Stop>
     requires { nesting ≤ 500 }
-    ensures { Gives (λ x. (proc_of x.0.value, state_of x.1)) result (cast_form later nesting (first ∷ []) (state_of at.entry)) }
+    ensures { Gives (λ x. (proc_of x.0.value, state_of x.1)) result
+        (cast_form later nesting (first ∷ []) (state_of at.entry)) }
 {
     let (whole, at) = message(alloc, at, later, false, 1)?;
     let (name, ty, at) = cast_head(alloc, at, later)?;
@@ -629,7 +654,8 @@ fn read_new<'t>(
     nesting: u32,
 ) -> Result<(Box<SProc>, Cursor<'t>), Stop>
     requires { nesting ≤ 500 }
-    ensures { Gives (λ x. (proc_of x.0.value, state_of x.1)) result (new_form later nesting (first ∷ []) (state_of at.entry)) }
+    ensures { Gives (λ x. (proc_of x.0.value, state_of x.1)) result
+        (new_form later nesting (first ∷ []) (state_of at.entry)) }
 {
     let (name, ty, at) = binder(alloc, at, later)?;
     let (then, at) = sequence(alloc, at, later, nesting + 1)?;
@@ -668,7 +694,8 @@ fn read_group<'t>(
     nesting: u32,
 ) -> Result<(Box<SProc>, Cursor<'t>), Stop>
     requires { nesting ≤ 500 }
-    ensures { Gives (λ x. (proc_of x.0.value, state_of x.1)) result (group_form later nesting (start ∷ []) (state_of at.entry)) }
+    ensures { Gives (λ x. (proc_of x.0.value, state_of x.1)) result
+        (group_form later nesting (start ∷ []) (state_of at.entry)) }
 {
     let (first, at) = sequence(alloc, at, later, nesting + 1)?;
     let at = take_mark(at, Mark::Bar)?;
@@ -689,7 +716,8 @@ fn out_rest<'t>(
     nesting: u32,
 ) -> Result<(Option<Box<SProc>>, Cursor<'t>), Stop>
     requires { nesting ≤ 500 }
-    ensures { Gives (λ x. (boxed_option x.0, state_of x.1)) result (read limited (out_tail later nesting) (state_of at.entry)) }
+    ensures { Gives (λ x. (boxed_option x.0, state_of x.1)) result
+        (read limited (out_tail later nesting) (state_of at.entry)) }
 {
     out_rest_step(alloc, at, later, nesting)
 }
@@ -702,7 +730,8 @@ fn out_rest_step<'t>(
     nesting: u32,
 ) -> Result<(Option<Box<SProc>>, Cursor<'t>), Stop>
     requires { nesting ≤ 500 }
-    ensures { Gives (λ x. (boxed_option x.0, state_of x.1)) result (step limited (read limited) (out_tail later nesting) (state_of at.entry)) }
+    ensures { Gives (λ x. (boxed_option x.0, state_of x.1)) result
+        (step limited (read limited) (out_tail later nesting) (state_of at.entry)) }
 {
     let [first, rest @ ..] = at.rest else {
         return Ok((None, at));
@@ -728,7 +757,8 @@ fn par_rest<'t>(
     level: u32,
 ) -> Result<(Option<Box<SProc>>, Cursor<'t>), Stop>
     requires { level ≤ 499 }
-    ensures { Gives (λ x. (boxed_option x.0, state_of x.1)) result (read limited (par_tail later level) (state_of at.entry)) }
+    ensures { Gives (λ x. (boxed_option x.0, state_of x.1)) result
+        (read limited (par_tail later level) (state_of at.entry)) }
 {
     par_rest_step(alloc, at, later, level)
 }
@@ -741,7 +771,8 @@ fn par_rest_step<'t>(
     level: u32,
 ) -> Result<(Option<Box<SProc>>, Cursor<'t>), Stop>
     requires { level ≤ 499 }
-    ensures { Gives (λ x. (boxed_option x.0, state_of x.1)) result (step limited (read limited) (par_tail later level) (state_of at.entry)) }
+    ensures { Gives (λ x. (boxed_option x.0, state_of x.1)) result
+        (step limited (read limited) (par_tail later level) (state_of at.entry)) }
 {
     let [first, rest @ ..] = at.rest else {
         return Ok((None, at));

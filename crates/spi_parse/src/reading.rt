@@ -37,7 +37,8 @@ pub fn take_mark<'t>(at: Cursor<'t>, mark: Mark) -> Result<Cursor<'t>, Stop>
 }
 
 fn mark_step<'t>(at: Cursor<'t>, mark: Mark) -> Result<Cursor<'t>, Stop>
-    ensures { Gives (λ x. (tt, state_of x)) result (step limited (read limited) (the_mark mark) (state_of at.entry)) }
+    ensures { Gives (λ x. (tt, state_of x)) result
+        (step limited (read limited) (the_mark mark) (state_of at.entry)) }
 {
     let [first, rest @ ..] = at.rest else {
         return Err(syntax(0));
@@ -59,7 +60,8 @@ pub fn take_reserved<'t>(at: Cursor<'t>, word: Reserved) -> Result<Cursor<'t>, S
 }
 
 fn reserved_step<'t>(at: Cursor<'t>, word: Reserved) -> Result<Cursor<'t>, Stop>
-    ensures { Gives (λ x. (tt, state_of x)) result (step limited (read limited) (the_reserved word) (state_of at.entry)) }
+    ensures { Gives (λ x. (tt, state_of x)) result
+        (step limited (read limited) (the_reserved word) (state_of at.entry)) }
 {
     let [first, rest @ ..] = at.rest else {
         return Err(syntax(0));
@@ -81,7 +83,8 @@ pub fn take_word<'t>(alloc: Global, at: Cursor<'t>) -> Result<(SWord, Cursor<'t>
 }
 
 fn word_step<'t>(alloc: Global, at: Cursor<'t>) -> Result<(SWord, Cursor<'t>), Stop>
-    ensures { Gives (λ x. (x.0, state_of x.1)) result (step limited (read limited) the_word (state_of at.entry)) }
+    ensures { Gives (λ x. (x.0, state_of x.1)) result
+        (step limited (read limited) the_word (state_of at.entry)) }
 {
     let [first, rest @ ..] = at.rest else {
         return Err(syntax(0));
@@ -112,7 +115,8 @@ pub fn take_number<'t>(at: Cursor<'t>) -> Result<(u32, Cursor<'t>), Stop>
 }
 
 fn number_step<'t>(at: Cursor<'t>) -> Result<(u32, Cursor<'t>), Stop>
-    ensures { Gives (λ x. (x.0, state_of x.1)) result (step limited (read limited) the_number (state_of at.entry)) }
+    ensures { Gives (λ x. (x.0, state_of x.1)) result
+        (step limited (read limited) the_number (state_of at.entry)) }
 {
     let [first, rest @ ..] = at.rest else {
         return Err(syntax(0));

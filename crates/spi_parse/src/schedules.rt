@@ -21,7 +21,8 @@ fn act<'t>(at: Cursor<'t>) -> Result<(u32, Cursor<'t>), Stop>
 }
 
 fn act_step<'t>(at: Cursor<'t>) -> Result<(u32, Cursor<'t>), Stop>
-    ensures { Gives (λ x. ((x.0, x.1.end), state_of x.1)) result (step limited (read limited) act_rest (state_of at.entry)) }
+    ensures { Gives (λ x. ((x.0, x.1.end), state_of x.1)) result
+        (step limited (read limited) act_rest (state_of at.entry)) }
 {
     let [_, ..] = at.rest else {
         return Err(syntax(0));
@@ -32,13 +33,15 @@ fn act_step<'t>(at: Cursor<'t>) -> Result<(u32, Cursor<'t>), Stop>
 }
 
 fn talk<'t>(at: Cursor<'t>) -> Result<(u32, u32, Cursor<'t>), Stop>
-    ensures { Gives (λ x. ((x.0, x.1, x.2.end), state_of x.2)) result (read limited talk_rest (state_of at.entry)) }
+    ensures { Gives (λ x. ((x.0, x.1, x.2.end), state_of x.2)) result
+        (read limited talk_rest (state_of at.entry)) }
 {
     talk_step(at)
 }
 
 fn talk_step<'t>(at: Cursor<'t>) -> Result<(u32, u32, Cursor<'t>), Stop>
-    ensures { Gives (λ x. ((x.0, x.1, x.2.end), state_of x.2)) result (step limited (read limited) talk_rest (state_of at.entry)) }
+    ensures { Gives (λ x. ((x.0, x.1, x.2.end), state_of x.2)) result
+        (step limited (read limited) talk_rest (state_of at.entry)) }
 {
     let [_, ..] = at.rest else {
         return Err(syntax(0));
@@ -50,13 +53,15 @@ fn talk_step<'t>(at: Cursor<'t>) -> Result<(u32, u32, Cursor<'t>), Stop>
 }
 
 fn next_step<'t>(at: Cursor<'t>) -> Result<(Option<SStep>, Cursor<'t>), Stop>
-    ensures { Gives (λ x. (item_of step_of tt x.0, state_of x.1)) result (read limited steps_item (state_of at.entry)) }
+    ensures { Gives (λ x. (item_of step_of tt x.0, state_of x.1)) result
+        (read limited steps_item (state_of at.entry)) }
 {
     next_step_step(at)
 }
 
 fn next_step_step<'t>(at: Cursor<'t>) -> Result<(Option<SStep>, Cursor<'t>), Stop>
-    ensures { Gives (λ x. (item_of step_of tt x.0, state_of x.1)) result (step limited (read limited) steps_item (state_of at.entry)) }
+    ensures { Gives (λ x. (item_of step_of tt x.0, state_of x.1)) result
+        (step limited (read limited) steps_item (state_of at.entry)) }
 {
     let [first, rest @ ..] = at.rest else {
         return Ok((None, at));
@@ -91,7 +96,8 @@ fn next_step_step<'t>(at: Cursor<'t>) -> Result<(Option<SStep>, Cursor<'t>), Sto
 
 /// The steps of a schedule.
 pub fn all_steps<'t>(alloc: Global, start: Cursor<'t>) -> Result<(Vec<SStep>, Cursor<'t>), Stop>
-    ensures { Gives (λ x. ((map step_of x.0.items, tt), state_of x.1)) result (read limited steps (state_of start.entry)) }
+    ensures { Gives (λ x. ((map step_of x.0.items, tt), state_of x.1)) result
+        (read limited steps (state_of start.entry)) }
 {
     let mut more = Vec::new(alloc);
     let mut at = start;

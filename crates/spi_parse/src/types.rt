@@ -32,7 +32,9 @@ fn make_tuple_type(
     last: Box<Last>,
     span: Span,
 ) -> STy
-    ensures { ty_of result ≡ tuple_ty span name (ty_of first.value) (fields_of_list (map field_of more.items)) (last_of last.value) }
+    ensures { ty_of result
+        ≡ tuple_ty span name (ty_of first.value) (fields_of_list (map field_of more.items))
+        (last_of last.value) }
 {
     STy::Tuple {
         name,
@@ -66,7 +68,8 @@ pub fn read_type<'t>(
     nesting: u32,
 ) -> Result<(STy, Cursor<'t>), Stop>
     requires { nesting ≤ 1001 }
-    ensures { Gives (λ x. (ty_of x.0, state_of x.1)) result (read limited (ty later nesting) (state_of at.entry)) }
+    ensures { Gives (λ x. (ty_of x.0, state_of x.1)) result
+        (read limited (ty later nesting) (state_of at.entry)) }
 {
     let (tree, at) = boxed_type(alloc, at, later, nesting)?;
     Ok((Box::into_inner(tree), at))
@@ -80,7 +83,8 @@ fn boxed_type<'t>(
     nesting: u32,
 ) -> Result<(Box<STy>, Cursor<'t>), Stop>
     requires { nesting ≤ 1001 }
-    ensures { Gives (λ x. (ty_of x.0.value, state_of x.1)) result (read limited (ty later nesting) (state_of at.entry)) }
+    ensures { Gives (λ x. (ty_of x.0.value, state_of x.1)) result
+        (read limited (ty later nesting) (state_of at.entry)) }
 {
     type_step(alloc, at, later, nesting)
 }
@@ -93,7 +97,8 @@ fn type_step<'t>(
     nesting: u32,
 ) -> Result<(Box<STy>, Cursor<'t>), Stop>
     requires { nesting ≤ 1001 }
-    ensures { Gives (λ x. (ty_of x.0.value, state_of x.1)) result (step limited (read limited) (ty later nesting) (state_of at.entry)) }
+    ensures { Gives (λ x. (ty_of x.0.value, state_of x.1)) result
+        (step limited (read limited) (ty later nesting) (state_of at.entry)) }
 {
     let [first, rest @ ..] = at.rest else {
         return Err(syntax(0));
@@ -143,7 +148,8 @@ fn read_abbreviation<'t>(
     span: Span,
     at: Cursor<'t>,
 ) -> Result<(Box<STy>, Cursor<'t>), Stop>
-    ensures { Gives (λ x. (ty_of x.0.value, state_of x.1)) result (done (abbr span (word_at word.now span)) (state_of at.entry)) }
+    ensures { Gives (λ x. (ty_of x.0.value, state_of x.1)) result
+        (done (abbr span (word_at word.now span)) (state_of at.entry)) }
 {
     let name = SWord {
         word: copy_word(alloc, word)?,
@@ -160,7 +166,8 @@ fn read_nonce<'t>(
     nesting: u32,
 ) -> Result<(Box<STy>, Cursor<'t>), Stop>
     requires { nesting ≤ 1000 }
-    ensures { Gives (λ x. (ty_of x.0.value, state_of x.1)) result (nonce_form later nesting (first ∷ []) (state_of at.entry)) }
+    ensures { Gives (λ x. (ty_of x.0.value, state_of x.1)) result
+        (nonce_form later nesting (first ∷ []) (state_of at.entry)) }
 {
     let (effect, at) = effect(alloc, at, later, false, nesting + 1)?;
     let span = Span {
@@ -179,7 +186,8 @@ fn read_key<'t>(
     nesting: u32,
 ) -> Result<(Box<STy>, Cursor<'t>), Stop>
     requires { nesting ≤ 1000 }
-    ensures { Gives (λ x. (ty_of x.0.value, state_of x.1)) result (key_form later nesting (first ∷ []) (state_of at.entry)) }
+    ensures { Gives (λ x. (ty_of x.0.value, state_of x.1)) result
+        (key_form later nesting (first ∷ []) (state_of at.entry)) }
 {
     let at = take_mark(at, Mark::ParenOpen)?;
     let (part, at) = boxed_type(alloc, at, later, nesting + 1)?;
@@ -200,7 +208,8 @@ fn type_in_parens<'t>(
     nesting: u32,
 ) -> Result<(Box<STy>, Cursor<'t>), Stop>
     requires { nesting ≤ 1000 }
-    ensures { Gives (λ x. (ty_of x.0.value, state_of x.1)) result (behind limited (read limited) (delta_ty_paren later nesting) (first ∷ []) (state_of at.entry)) }
+    ensures { Gives (λ x. (ty_of x.0.value, state_of x.1)) result
+        (behind limited (read limited) (delta_ty_paren later nesting) (first ∷ []) (state_of at.entry)) }
 {
     let [second, rest @ ..] = at.rest else {
         return Err(syntax(0));
@@ -236,7 +245,8 @@ fn read_sum<'t>(
     nesting: u32,
 ) -> Result<(Box<STy>, Cursor<'t>), Stop>
     requires { nesting ≤ 1000 }
-    ensures { Gives (λ x. (ty_of x.0.value, state_of x.1)) result (sum_form later nesting (first ∷ []) (state_of at.entry)) }
+    ensures { Gives (λ x. (ty_of x.0.value, state_of x.1)) result
+        (sum_form later nesting (first ∷ []) (state_of at.entry)) }
 {
     let (left, at) = boxed_type(alloc, at, later, nesting + 1)?;
     let at = take_mark(at, Mark::Plus)?;
@@ -252,7 +262,8 @@ fn end_sum<'t>(
     right: Box<STy>,
     at: Cursor<'t>,
 ) -> Result<(Box<STy>, Cursor<'t>), Stop>
-    ensures { Gives (λ x. (ty_of x.0.value, state_of x.1)) result (sum_end (first ∷ []) (ty_of left.value) (ty_of right.value) (state_of at.entry)) }
+    ensures { Gives (λ x. (ty_of x.0.value, state_of x.1)) result
+        (sum_end (first ∷ []) (ty_of left.value) (ty_of right.value) (state_of at.entry)) }
 {
     let at = take_mark(at, Mark::ParenClose)?;
     let span = Span {
@@ -273,7 +284,9 @@ fn type_behind_word<'t>(
     nesting: u32,
 ) -> Result<(Box<STy>, Cursor<'t>), Stop>
     requires { nesting ≤ 999 }
-    ensures { Gives (λ x. (ty_of x.0.value, state_of x.1)) result (behind limited (read limited) (delta_ty_word later nesting word.now) (first ∷ place ∷ []) (state_of at.entry)) }
+    ensures { Gives (λ x. (ty_of x.0.value, state_of x.1)) result
+        (behind limited (read limited) (delta_ty_word later nesting word.now) (first ∷ place ∷ [])
+        (state_of at.entry)) }
 {
     let [second, rest @ ..] = at.rest else {
         return Err(syntax(0));
@@ -300,7 +313,8 @@ fn read_tuple_type<'t>(
     nesting: u32,
 ) -> Result<(Box<STy>, Cursor<'t>), Stop>
     requires { nesting ≤ 999 }
-    ensures { Gives (λ x. (ty_of x.0.value, state_of x.1)) result (tuple_ty_form later nesting word.now (first ∷ place ∷ []) (state_of at.entry)) }
+    ensures { Gives (λ x. (ty_of x.0.value, state_of x.1)) result
+        (tuple_ty_form later nesting word.now (first ∷ place ∷ []) (state_of at.entry)) }
 {
     let (part, at) = boxed_type(alloc, at, later, nesting + 1)?;
     let at = take_mark(at, Mark::Comma)?;
@@ -319,7 +333,9 @@ fn end_tuple_type<'t>(
     last: Box<Last>,
     at: Cursor<'t>,
 ) -> Result<(Box<STy>, Cursor<'t>), Stop>
-    ensures { Gives (λ x. (ty_of x.0.value, state_of x.1)) result (done (tuple_ty (over (first ∷ []) at.entry.end) (word_at word.now place) (ty_of part.value) (fields_of_list (map field_of more.items)) (last_of last.value)) (state_of at.entry)) }
+    ensures { Gives (λ x. (ty_of x.0.value, state_of x.1)) result
+        (done (tuple_ty (over (first ∷ []) at.entry.end) (word_at word.now place) (ty_of part.value)
+        (fields_of_list (map field_of more.items)) (last_of last.value)) (state_of at.entry)) }
 {
     let name = SWord {
         word: copy_word(alloc, word)?,
@@ -344,7 +360,8 @@ fn read_sum_of_word<'t>(
     nesting: u32,
 ) -> Result<(Box<STy>, Cursor<'t>), Stop>
     requires { nesting ≤ 999 }
-    ensures { Gives (λ x. (ty_of x.0.value, state_of x.1)) result (sum_word_form later nesting word.now (first ∷ place ∷ []) (state_of at.entry)) }
+    ensures { Gives (λ x. (ty_of x.0.value, state_of x.1)) result
+        (sum_word_form later nesting word.now (first ∷ place ∷ []) (state_of at.entry)) }
 {
     let (right, at) = boxed_type(alloc, at, later, nesting + 1)?;
     end_sum_of_word(alloc, first, word, place, right, at)
@@ -359,7 +376,8 @@ fn end_sum_of_word<'t>(
     right: Box<STy>,
     at: Cursor<'t>,
 ) -> Result<(Box<STy>, Cursor<'t>), Stop>
-    ensures { Gives (λ x. (ty_of x.0.value, state_of x.1)) result (sum_end (first ∷ []) (abbr place (word_at word.now place)) (ty_of right.value) (state_of at.entry)) }
+    ensures { Gives (λ x. (ty_of x.0.value, state_of x.1)) result
+        (sum_end (first ∷ []) (abbr place (word_at word.now place)) (ty_of right.value) (state_of at.entry)) }
 {
     let at = take_mark(at, Mark::ParenClose)?;
     let name = SWord {
@@ -382,7 +400,8 @@ fn read_fields<'t>(
     nesting: u32,
 ) -> Result<(Vec<SField>, Box<Last>, Cursor<'t>), Stop>
     requires { nesting ≤ 1001 }
-    ensures { Gives (λ x. ((map field_of x.0.items, last_of x.1.value), state_of x.2)) result (read limited (fields later nesting) (state_of start.entry)) }
+    ensures { Gives (λ x. ((map field_of x.0.items, last_of x.1.value), state_of x.2)) result
+        (read limited (fields later nesting) (state_of start.entry)) }
 {
     let mut more = Vec::new(alloc);
     let mut at = start;
@@ -402,7 +421,8 @@ fn bare_last<'t>(
     ty: Box<STy>,
     at: Cursor<'t>,
 ) -> Result<(Box<FieldOrLast>, Cursor<'t>), Stop>
-    ensures { Gives (λ x. (field_item x.0.value, state_of x.1)) result (done (last (bare (ty_of ty.value))) (state_of at.entry)) }
+    ensures { Gives (λ x. (field_item x.0.value, state_of x.1)) result
+        (done (last (bare (ty_of ty.value))) (state_of at.entry)) }
 {
     let last = Last::Bare(Box::into_inner(ty));
     Ok((Box::new(alloc, FieldOrLast::Last(last))?, at))
@@ -414,7 +434,8 @@ fn abbreviated_last<'t>(
     name: SWord,
     at: Cursor<'t>,
 ) -> Result<(Box<FieldOrLast>, Cursor<'t>), Stop>
-    ensures { Gives (λ x. (field_item x.0.value, state_of x.1)) result (done (last (bare (abbr name.span name))) (state_of at.entry)) }
+    ensures { Gives (λ x. (field_item x.0.value, state_of x.1)) result
+        (done (last (bare (abbr name.span name))) (state_of at.entry)) }
 {
     let span = name.span;
     let last = Last::Bare(STy::Abbr { name, span });
@@ -429,7 +450,9 @@ fn named_part<'t>(
     ends: bool,
     at: Cursor<'t>,
 ) -> Result<(Box<FieldOrLast>, Cursor<'t>), Stop>
-    ensures { Gives (λ x. (field_item x.0.value, state_of x.1)) result (done (if ends then last (named name (ty_of ty.value)) else one (record { name = name; ty = ty_of ty.value })) (state_of at.entry)) }
+    ensures { Gives (λ x. (field_item x.0.value, state_of x.1)) result
+        (done (if ends then last (named name (ty_of ty.value)) else one
+        (record { name = name; ty = ty_of ty.value })) (state_of at.entry)) }
 {
     let ty = Box::into_inner(ty);
     let part = if ends {
@@ -448,7 +471,8 @@ fn next_field<'t>(
     nesting: u32,
 ) -> Result<(Box<FieldOrLast>, Cursor<'t>), Stop>
     requires { nesting ≤ 1001 }
-    ensures { Gives (λ x. (field_item x.0.value, state_of x.1)) result (read limited (fields_item later nesting) (state_of at.entry)) }
+    ensures { Gives (λ x. (field_item x.0.value, state_of x.1)) result
+        (read limited (fields_item later nesting) (state_of at.entry)) }
 {
     next_field_step(alloc, at, later, nesting)
 }
@@ -461,7 +485,8 @@ fn next_field_step<'t>(
     nesting: u32,
 ) -> Result<(Box<FieldOrLast>, Cursor<'t>), Stop>
     requires { nesting ≤ 1001 }
-    ensures { Gives (λ x. (field_item x.0.value, state_of x.1)) result (step limited (read limited) (fields_item later nesting) (state_of at.entry)) }
+    ensures { Gives (λ x. (field_item x.0.value, state_of x.1)) result
+        (step limited (read limited) (fields_item later nesting) (state_of at.entry)) }
 {
     let [first, rest @ ..] = at.rest else {
         return Err(syntax(0));
@@ -498,7 +523,9 @@ fn field_behind_word<'t>(
     nesting: u32,
 ) -> Result<(Box<FieldOrLast>, Cursor<'t>), Stop>
     requires { nesting ≤ 1000 }
-    ensures { Gives (λ x. (field_item x.0.value, state_of x.1)) result (behind limited (read limited) (delta_item_word later nesting name.word) (name.span ∷ []) (state_of at.entry)) }
+    ensures { Gives (λ x. (field_item x.0.value, state_of x.1)) result
+        (behind limited (read limited) (delta_item_word later nesting name.word) (name.span ∷ [])
+        (state_of at.entry)) }
 {
     let [first, rest @ ..] = at.rest else {
         return Err(syntax(0));
@@ -525,7 +552,8 @@ fn field_rest<'t>(at: Cursor<'t>) -> Result<(bool, Cursor<'t>), Stop>
 }
 
 fn field_rest_step<'t>(at: Cursor<'t>) -> Result<(bool, Cursor<'t>), Stop>
-    ensures { Gives (λ x. (x.0, state_of x.1)) result (step limited (read limited) fields_rest (state_of at.entry)) }
+    ensures { Gives (λ x. (x.0, state_of x.1)) result
+        (step limited (read limited) fields_rest (state_of at.entry)) }
 {
     let [first, rest @ ..] = at.rest else {
         return Err(syntax(0));

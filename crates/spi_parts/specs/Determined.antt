@@ -21,18 +21,21 @@ HasOneAnswer {X = X} pieces IsPart =
 -- a text is cut in one way into a part and what is behind it
 abbrev pub IsCutOnce : {X : Type 0} → (X → X) → (X → List Piece) → (X → Type 0) → Type 0
 IsCutOnce {X = X} bare pieces IsPart =
-    (a b : X) (c d : List Kind) → IsPart a → IsPart b → kinds_in (pieces a) ++ c ≡ kinds_in (pieces b) ++ d → (bare a ≡ bare b) × (c ≡ d)
+    (a b : X) (c d : List Kind) → IsPart a → IsPart b → kinds_in (pieces a) ++ c ≡ kinds_in (pieces b) ++ d
+    → (bare a ≡ bare b) × (c ≡ d)
 
 -- a text is cut in one way into a part that goes on no further and what is behind it
 abbrev pub IsCutOnceAtEnds : {X : Type 0} → (X → X) → (X → List Piece) → (X → Type 0) → Type 0
 IsCutOnceAtEnds {X = X} bare pieces IsPart =
     (a b : X) (c d : List Kind) → IsPart a → IsPart b → kinds_in (pieces a) ++ c ≡ kinds_in (pieces b) ++ d
-    → IsEnd pieces IsPart (kinds_in (pieces a)) c → IsEnd pieces IsPart (kinds_in (pieces b)) d → (bare a ≡ bare b) × (c ≡ d)
+    → IsEnd pieces IsPart (kinds_in (pieces a)) c → IsEnd pieces IsPart (kinds_in (pieces b)) d
+    → (bare a ≡ bare b) × (c ≡ d)
 
 -- no part's tokens are a proper prefix of another's
 abbrev pub BeginsNoOther : {X : Type 0} → (X → List Piece) → (X → Type 0) → Type 0
 BeginsNoOther {X = X} pieces IsPart =
-    (a b : X) (k : Kind) (more : List Kind) → IsPart a → IsPart b → kinds_in (pieces b) ≡ kinds_in (pieces a) ++ k ∷ more → ⊥
+    (a b : X) (k : Kind) (more : List Kind) → IsPart a → IsPart b
+    → kinds_in (pieces b) ≡ kinds_in (pieces a) ++ k ∷ more → ⊥
 
 -- where a part is within the nesting limits, no part that begins so has a node above one there
 abbrev pub AgreesOnDepth : {X : Type 0} → (X → List Piece) → (X → Type 0) → Type 0

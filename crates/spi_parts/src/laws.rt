@@ -11,7 +11,8 @@ ghost use Rattle.spi_parts.specs.Determined.{AreOne, HasOneAnswer, IsCutOnce, Is
 
 /// Tokens have one answer of `parse`, but for want of memory: one tree with its spans, or one fault at one token.
 pub fn one_answer()
-    ensures { (a b : Result File ParseFault) (ts : List Token) → Parses (λ f. f) a ts → Parses (λ f. f) b ts → AreOne a b }
+    ensures { (a b : Result File ParseFault) (ts : List Token) → Parses (λ f. f) a ts → Parses (λ f. f) b ts
+        → AreOne a b }
 {}
 
 /// Tokens have one answer of `type_at`, but for want of memory: one type with its spans and its end, or one fault.

@@ -30,6 +30,8 @@ AreInOrder (seat ∷ seats) = ((other : Seat) → In other seats → seat.who < 
 -- left in the last of them, and nobody else is in the list.
 pub record TurnsFit (players : List Seen) (turns : List TurnOf) (left : List Seat) : Type 0 where
   pub each : (who : ℕ) (old : Seen) → At players who old
-      → (new : Seen) × Fits old (turns_of who turns) new × (In (record { who = who; seen = new }) left ⊎ EndInLeave (turns_of who turns))
-  pub stays : (seat : Seat) → In seat left → (old : Seen) × At players seat.who old × Fits old (turns_of seat.who turns) seat.seen
+      → (new : Seen) × Fits old (turns_of who turns) new
+      × (In (record { who = who; seen = new }) left ⊎ EndInLeave (turns_of who turns))
+  pub stays : (seat : Seat) → In seat left
+      → (old : Seen) × At players seat.who old × Fits old (turns_of seat.who turns) seat.seen
   pub ordered : AreInOrder left

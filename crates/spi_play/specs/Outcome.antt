@@ -20,14 +20,16 @@ abbrev pub course : Pooled → List steps.Step → List events.Event → Course
 course pool steps events = record { pool = pool; steps = map View.step steps; events = map View.event events }
 
 -- A play that started so stands here: what was done, what is seen of the players in the list, and which is asked next.
-pub record Stands (only : Option ℕ) (most : ℕ) (first : State) (done : Course) (players : List Seen) (next : Option ℕ) : Type 0 where
+pub record Stands (only : Option ℕ) (most : ℕ) (first : State) (done : Course) (players : List Seen)
+    (next : Option ℕ) : Type 0 where
   pub turns : List TurnOf
   pub seats : List Seat
   pub plays : Plays only most first turns (record { course = done; seats = seats; next = next })
   pub seen : map (λ seat. seat.seen) seats ≡ players
 
 -- A play that started so has ended so.
-pub record EndsAt (only : Option ℕ) (most : ℕ) (first : State) (done : Course) (players : List Seen) (ended : Ended) : Type 0 where
+pub record EndsAt (only : Option ℕ) (most : ℕ) (first : State) (done : Course) (players : List Seen)
+    (ended : Ended) : Type 0 where
   pub next : Option ℕ
   pub stands : Stands only most first done players next
   pub end : EndsBy done.pool.configuration next (length done.steps) most ended
@@ -48,14 +50,16 @@ pub record RefusesKth (pool : Pooled) (k : ℕ) (fault : StepFault) : Type 0 whe
 
 -- why the number that the player at this place picked isn't taken, where so many steps are ready
 abbrev pub IsRefused : Pooled → ℕ → ℕ → ℕ → PlayFault → Type 0
-IsRefused pool place ready k (BadPick player picked count) = (player ≡ place) × (picked ≡ k) × (count ≡ ready) × (ready ≤ k)
+IsRefused pool place ready k (BadPick player picked count) = (player ≡ place) × (picked ≡ k) × (count ≡ ready)
+    × (ready ≤ k)
 IsRefused pool place ready k (RunMessageTooLarge nodes) = RefusesKth pool k (refused.RunMessageTooLarge nodes)
 IsRefused pool place ready k (TooManyPlaces places) = RefusesKth pool k (refused.TooManyPlaces places)
 IsRefused pool place ready k NoMemory = k < ready
 
 -- A play that started so is refused here: it stands as it is, but that the player asked next was asked once more, and what
 -- it picked is refused so.
-pub record RefusedAt (only : Option ℕ) (most : ℕ) (first : State) (pool : Pooled) (players : List Seen) (fault : PlayFault) : Type 0 where
+pub record RefusedAt (only : Option ℕ) (most : ℕ) (first : State) (pool : Pooled) (players : List Seen)
+    (fault : PlayFault) : Type 0 where
   pub steps : List Step
   pub events : List Event
   pub before : List Seen
@@ -77,4 +81,5 @@ AskedTell (Some place) players = IfSome (slice_get players place) (λ player. Is
 abbrev pub OnlyPlay : Option ℕ → ℕ → State → List Step → Type 0
 OnlyPlay only most first steps =
     (turns : List TurnOf) (last : State) (ended : Ended) → Plays only most first turns last
-    → EndsBy last.course.pool.configuration last.next (length last.course.steps) most ended → last.course.steps ≡ steps
+    → EndsBy last.course.pool.configuration last.next (length last.course.steps) most ended
+    → last.course.steps ≡ steps

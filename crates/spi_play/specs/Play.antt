@@ -59,7 +59,8 @@ after_take (Some only) place players = Some place
 
 -- and after the player at this place left.
 abbrev pub after_leave : Option ℕ → ℕ → ℕ → Option ℕ
-after_leave None place players = if players == 0 then None else (if place == players then Some 0 else Some place)
+after_leave None place players =
+    if players == 0 then None else (if place == players then Some 0 else Some place)
 after_leave (Some only) place players = None
 
 -- how a play starts
@@ -74,7 +75,8 @@ start pool players only = record {
 pub data EndsBy (c : Configuration) (next : Option ℕ) (taken most : ℕ) : Ended → Type 0 where
   most_reached : taken ≡ most → EndsBy c next taken most MostReached
   no_players : taken ≢ most → next ≡ None → EndsBy c next taken most NoPlayers
-  none_ready : {place : ℕ} → taken ≢ most → next ≡ Some place → CountsReady c 0 → EndsBy c next taken most NoneReady
+  none_ready : {place : ℕ} → taken ≢ most → next ≡ Some place → CountsReady c 0
+      → EndsBy c next taken most NoneReady
 
 -- none of them holds: the player at this place is asked, and so many steps are ready
 pub record GoesOn (c : Configuration) (next : Option ℕ) (taken most place ready : ℕ) : Type 0 where
@@ -109,8 +111,10 @@ pub record Goes (old : Course) (k : ℕ) (new : Course) : Type 0 where
 -- What an answer of the player at this place does: to what was done, to the list of players, in whatever form they are
 -- seen, and to the cursor.
 abbrev pub Does : {A : Type 0} → Option ℕ → ℕ → Pick → Course → Course → List A → List A → Option ℕ → Type 0
-Does only place (Take k) old new players after next = Goes old k new × (after ≡ players) × (next ≡ after_take only place (length after))
-Does only place Leave old new players after next = (new ≡ old) × (after ≡ remove players place) × (next ≡ after_leave only place (length after))
+Does only place (Take k) old new players after next = Goes old k new × (after ≡ players)
+    × (next ≡ after_take only place (length after))
+Does only place Leave old new players after next = (new ≡ old) × (after ≡ remove players place)
+    × (next ≡ after_leave only place (length after))
 
 -- a turn of a play
 pub record Turns (only : Option ℕ) (most : ℕ) (old : State) (turn : TurnOf) (new : State) : Type 0 where
@@ -123,4 +127,5 @@ pub record Turns (only : Option ℕ) (most : ℕ) (old : State) (turn : TurnOf) 
 -- a play with these turns leads from a state to another
 abbrev pub Plays : Option ℕ → ℕ → State → List TurnOf → State → Type 0
 Plays only most old [] new = new ≡ old
-Plays only most old (turn ∷ turns) new = (mid : State) × Turns only most old turn mid × Plays only most mid turns new
+Plays only most old (turn ∷ turns) new = (mid : State) × Turns only most old turn mid
+    × Plays only most mid turns new

@@ -31,14 +31,16 @@ abbrev pub IsLate : StepFault → Type 0
 IsLate fault = (other : PlayFault) × IsFaultOf fault other
 
 -- the player at this place has a turn
-pub record Turned (only : Option ℕ) (place ready : ℕ) (old new : Course) (before after : List Seen) (next : Option ℕ) : Type 0 where
+pub record Turned (only : Option ℕ) (place ready : ℕ) (old new : Course) (before after : List Seen)
+    (next : Option ℕ) : Type 0 where
   pub pick : Pick
   pub players : List Seen
   pub asks : AsksAt before place ready pick players
   pub does : Does only place pick old new players after next
 
 -- the player at this place was asked, and what it picked is refused so
-pub record TurnRefused (pool : Pooled) (place ready : ℕ) (before after : List Seen) (fault : PlayFault) : Type 0 where
+pub record TurnRefused (pool : Pooled) (place ready : ℕ) (before after : List Seen) (fault : PlayFault) : Type
+    0 where
   pub picked : ℕ
   pub asks : AsksAt before place ready (Take picked) after
   pub refused : IsRefused pool place ready picked fault

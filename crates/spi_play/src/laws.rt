@@ -9,10 +9,14 @@ ghost use Rattle.spi_play.specs.Fitting.{TurnsFit};
 
 /// The turns of a play fit its players.
 pub fn turns_fit()
-    ensures { (only : Option ℕ) (most : ℕ) (pool : Pooled) (players : List Seen) (turns : List TurnOf) (last : State) → Plays only most (start pool players only) turns last → TurnsFit players turns last.seats }
+    ensures { (only : Option ℕ) (most : ℕ) (pool : Pooled) (players : List Seen) (turns : List TurnOf)
+        (last : State) → Plays only most (start pool players only) turns last
+        → TurnsFit players turns last.seats }
 {}
 
 /// The steps of a play are a run, with its events.
 pub fn play_runs()
-    ensures { (only : Option ℕ) (most : ℕ) (pool : Pooled) (players : List Seen) (turns : List TurnOf) (last : State) → Plays only most (start pool players only) turns last → Runs pool.configuration last.course.steps last.course.events last.course.pool.configuration }
+    ensures { (only : Option ℕ) (most : ℕ) (pool : Pooled) (players : List Seen) (turns : List TurnOf)
+        (last : State) → Plays only most (start pool players only) turns last
+        → Runs pool.configuration last.course.steps last.course.events last.course.pool.configuration }
 {}

@@ -95,7 +95,8 @@ pub fn play<'p>(
         (start pool.old (seen_of (λ b. times b) (λ b. way b) players.old.items) only)
         (course pool.new played.steps.items played.events.items)
         (seen_of (λ b. times b) (λ b. way b) players.new.items) played.ended) }
-    ensures alone { IfOk result (λ played. AskedTell only (seen_of (λ b. times b) (λ b. way b) players.old.items) → OnlyPlay only most
+    ensures alone { IfOk result
+        (λ played. AskedTell only (seen_of (λ b. times b) (λ b. way b) players.old.items) → OnlyPlay only most
         (start pool.old (seen_of (λ b. times b) (λ b. way b) players.old.items) only)
         (course pool.new played.steps.items played.events.items).steps) }
     ensures refused { IfErr result (λ fault. RefusedAt only most

@@ -44,7 +44,8 @@ pub(crate) fn look_ahead(pool: &Pool<'_>, next: Option<usize>, taken: usize, mos
 // Asks a player.
 fn ask(player: &mut Box<dyn Player>, menu: &Menu) -> Pick
     requires { 0 < menu.now.ready }
-    ensures { Picks (record { times = times player.old; way = way player.old }) menu.now.ready result (record { times = times player.new; way = way player.new }) }
+    ensures { Picks (record { times = times player.old; way = way player.old }) menu.now.ready result
+        (record { times = times player.new; way = way player.new }) }
 {
     player.pick(menu)
 }
@@ -53,7 +54,8 @@ fn ask(player: &mut Box<dyn Player>, menu: &Menu) -> Pick
 fn ask_at(players: &mut Vec<Box<dyn Player>>, place: usize, menu: &Menu) -> Pick
     requires place { place < vec_len players.old }
     requires ready { 0 < menu.now.ready }
-    ensures asks { AsksAt (seen_of (λ b. times b) (λ b. way b) players.old.items) place menu.now.ready result (seen_of (λ b. times b) (λ b. way b) players.new.items) }
+    ensures asks { AsksAt (seen_of (λ b. times b) (λ b. way b) players.old.items) place menu.now.ready result
+        (seen_of (λ b. times b) (λ b. way b) players.new.items) }
     ensures len { vec_len players.new ≡ vec_len players.old }
 {
     ask(&mut players[place], menu)
@@ -64,7 +66,8 @@ fn keep(steps: &mut Vec<Step>, events: &mut Vec<Event>, done: Step, shown: Optio
     requires steps { vec_len steps.old < vec_capacity steps.old }
     requires events { vec_len events.old < vec_capacity events.old }
     ensures steps { map step_of steps.new.items ≡ map step_of steps.old.items ++ step_of done ∷ [] }
-    ensures events { map event_of events.new.items ≡ map event_of events.old.items ++ option_to_list (event_in shown) }
+    ensures events { map event_of events.new.items ≡ map event_of events.old.items
+        ++ option_to_list (event_in shown) }
     ensures len { vec_len steps.new ≡ vec_len steps.old + 1 }
 {
     let _ = steps.push(done);
@@ -98,7 +101,9 @@ fn take(
 ) -> Result<(), PlayFault>
     requires ready { CountsReady pool.old.configuration ready }
     requires names { pool.old.configuration.names < 2 ^ 32 - 1 }
-    ensures goes { OnOk result (Goes (course pool.old steps.old.items events.old.items) k (course pool.new steps.new.items events.new.items)) }
+    ensures goes { OnOk result
+        (Goes (course pool.old steps.old.items events.old.items) k
+        (course pool.new steps.new.items events.new.items)) }
     ensures len { OnOk result (vec_len steps.new ≡ vec_len steps.old + 1) }
     ensures same { OnErr result (pool.new ≡ pool.old) }
     ensures refused { IfErr result (λ fault. IsRefused pool.old place ready k fault) }
@@ -137,14 +142,22 @@ pub(crate) fn turn(
     requires counts { CountsReady pool.old.configuration ready }
     requires some { 0 < ready }
     requires names { pool.old.configuration.names < 2 ^ 32 - 1 }
-    ensures turned { IfOk result (λ next. Turned only place ready (course pool.old steps.old.items events.old.items) (course pool.new steps.new.items events.new.items)
-        (seen_of (λ b. times b) (λ b. way b) players.old.items) (seen_of (λ b. times b) (λ b. way b) players.new.items) next) }
+    ensures turned { IfOk result
+        (λ next. Turned only place ready (course pool.old steps.old.items events.old.items)
+        (course pool.new steps.new.items events.new.items)
+        (seen_of (λ b. times b) (λ b. way b) players.old.items)
+        (seen_of (λ b. times b) (λ b. way b) players.new.items) next) }
     ensures within { IfOk result (λ next. ForSome next (λ p. p < vec_len players.new)) }
     ensures more { OnOk result (vec_len steps.new ≤ vec_len steps.old + 1) }
-    ensures fewer { OnOk result (vec_len players.new + vec_len steps.old + 1 ≡ vec_len players.old + vec_len steps.new) }
-    ensures names { OnOk result (pool.new.configuration.names + vec_len steps.old ≤ pool.old.configuration.names + vec_len steps.new) }
+    ensures fewer { OnOk result
+        (vec_len players.new + vec_len steps.old + 1 ≡ vec_len players.old + vec_len steps.new) }
+    ensures names { OnOk result
+        (pool.new.configuration.names + vec_len steps.old
+        ≤ pool.old.configuration.names + vec_len steps.new) }
     ensures same { OnErr result (pool.new ≡ pool.old) }
-    ensures refused { IfErr result (λ fault. TurnRefused pool.old place ready (seen_of (λ b. times b) (λ b. way b) players.old.items) (seen_of (λ b. times b) (λ b. way b) players.new.items) fault) }
+    ensures refused { IfErr result
+        (λ fault. TurnRefused pool.old place ready (seen_of (λ b. times b) (λ b. way b) players.old.items)
+        (seen_of (λ b. times b) (λ b. way b) players.new.items) fault) }
 {
     let menu = Menu {
         ready,

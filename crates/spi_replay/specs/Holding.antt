@@ -18,7 +18,8 @@ held_message f k s d m = replace f (index_message k s d m)
 abbrev pub held : (ℕ → Message) → ℕ → ℕ → Process → Process
 held f k s (leaf l) = leaf (leaf_map (held_message f k s) 0 l)
 held f k s (prefix t p) = prefix (prefix_map (held_message f k s) 0 t) (held f k (s + binds t) p)
-held f k s (fork b p q) = fork (fork_map (held_message f k s) 0 b) (held f k (s + fork_binds b) p) (held f k (s + fork_binds b) q)
+held f k s (fork b p q) =
+    fork (fork_map (held_message f k s) 0 b) (held f k (s + fork_binds b) p) (held f k (s + fork_binds b) q)
 
 -- the process that stands at a node, with numbers for bound names
 abbrev pub subtree : List Shape → ℕ → Process
@@ -44,7 +45,8 @@ chain ms ls (suc n) i = linked ms (chain ms ls n) (slice_get ls i)
 -- the process of a place
 abbrev pub place_process : List Message → List Link → Place → Process
 place_process ms ls p =
-    if p.done then stop else held_at p.source.now.names (chain ms ls p.bound p.last) (spelled p.source.now.names p.source.now.process) p.node
+    if p.done then stop else held_at p.source.now.names (chain ms ls p.bound p.last)
+    (spelled p.source.now.names p.source.now.process) p.node
 
 -- no index is loose
 abbrev pub IsClosed : Message → Type 0
@@ -64,4 +66,5 @@ AllClosed (m ∷ ms) = IsClosed m × AllClosed ms
 -- the messages of names from a link on
 pub data Chain (ms : List Message) (ls : List Link) : ℕ → List Message → Type 0 where
   no_link : {i : ℕ} → Chain ms ls i []
-  a_link : {i : ℕ} {l : Link} {m : Message} {vs : List Message} → slice_get ls i ≡ Some l → slice_get ms l.value.place ≡ Some m → Chain ms ls l.before vs → Chain ms ls i (m ∷ vs)
+  a_link : {i : ℕ} {l : Link} {m : Message} {vs : List Message} → slice_get ls i ≡ Some l
+      → slice_get ms l.value.place ≡ Some m → Chain ms ls l.before vs → Chain ms ls i (m ∷ vs)

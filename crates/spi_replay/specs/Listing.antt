@@ -36,7 +36,8 @@ is_channel c (Some d) = same_message c d
 -- the meetings of the output at place i with the inputs among these processes, which stand from place j on
 abbrev pub talks_to : Message → ℕ → ℕ → List Process → List Step
 talks_to c i j [] = []
-talks_to c i j (q ∷ qs) = if is_channel c (takes_on q) then talk i j ∷ talks_to c i (suc j) qs else talks_to c i (suc j) qs
+talks_to c i j (q ∷ qs) =
+    if is_channel c (takes_on q) then talk i j ∷ talks_to c i (suc j) qs else talks_to c i (suc j) qs
 
 abbrev pub talks_of : List Process → ℕ → Option Message → List Step
 talks_of all i None = []

@@ -74,11 +74,14 @@ pub data Waits (ms : List Message) : Wait → Move → Type 0 where
   w_stays : Waits ms W.Stays stays
   w_puts : {i j : MsgId} {m n : Message} → Numbers ms i m → Numbers ms j n → Waits ms (W.Puts i j) (puts m n)
   w_takes : {i : MsgId} {m : Message} {b : ℕ} → Numbers ms i m → Waits ms (W.Takes i b) (takes m b)
-  w_takes_again : {i : MsgId} {m : Message} {b : ℕ} → Numbers ms i m → Waits ms (W.TakesAgain i b) (takes_again m b)
+  w_takes_again : {i : MsgId} {m : Message} {b : ℕ} → Numbers ms i m
+      → Waits ms (W.TakesAgain i b) (takes_again m b)
   w_binds_one : {i : MsgId} {m : Message} {b : ℕ} → Numbers ms i m → Waits ms (W.BindsOne i b) (binds_one m b)
-  w_binds_two : {i j : MsgId} {m n : Message} {b : ℕ} → Numbers ms i m → Numbers ms j n → Waits ms (W.BindsTwo i j b) (binds_two m n b)
+  w_binds_two : {i j : MsgId} {m n : Message} {b : ℕ} → Numbers ms i m → Numbers ms j n
+      → Waits ms (W.BindsTwo i j b) (binds_two m n b)
   w_goes_on : {b : ℕ} → Waits ms (W.GoesOn b) (goes_on b)
-  w_shows : {k : Kind} {i : MsgId} {m : Message} {b : ℕ} → Numbers ms i m → Waits ms (W.Shows k i b) (shows k m b)
+  w_shows : {k : Kind} {i : MsgId} {m : Message} {b : ℕ} → Numbers ms i m
+      → Waits ms (W.Shows k i b) (shows k m b)
   w_makes : {b : ℕ} → Waits ms (W.Makes b) (makes b)
   w_forks : {a b : ℕ} → Waits ms (W.Forks a b) (forks a b)
 

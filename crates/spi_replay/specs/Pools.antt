@@ -32,8 +32,10 @@ pub record IsState (s : State) : Type 0 where
   pub most : s.most < 2 ^ 32 - 1
 
 -- what an act gives, where n names are used: what its place is then, and what is appended
-pub record TakenBy (old : List Message) (ls : List Link) (new : List Message) (ls' : List Link) (n : ℕ) (p : Place) (t : Taken) : Type 0 where
-  pub acts : Acts n (place_process old ls p) (event_in t.event) t.names (place_process new ls' t.now) (map (place_process new ls') (listed t.more))
+pub record TakenBy (old : List Message) (ls : List Link) (new : List Message) (ls' : List Link) (n : ℕ)
+    (p : Place) (t : Taken) : Type 0 where
+  pub acts : Acts n (place_process old ls p) (event_in t.event) t.names (place_process new ls' t.now)
+      (map (place_process new ls') (listed t.more))
   pub now : IsPlace new ls' t.now
   pub more : (q : Place) → t.more ≡ Some q → IsPlace new ls' q
 

@@ -67,7 +67,8 @@ pub data Refuses (c : Configuration) (most : ℕ) (s : Step) : StepFault → Typ
       → Refuses c most s (NotReady (first_place s))
   too_large : IsReady c s → message_most < largest (bound_by c s)
       → Refuses c most s (RunMessageTooLarge (stopped (largest (bound_by c s))))
-  too_many : {e : Option Event} {d : Configuration} → Takes c s e d → largest (bound_by c s) ≤ message_most → most < length d.places
+  too_many : {e : Option Event} {d : Configuration} → Takes c s e d → largest (bound_by c s) ≤ message_most
+      → most < length d.places
       → Refuses c most s (TooManyPlaces (length d.places))
 
 -- the event of a step, where it has one

@@ -21,7 +21,8 @@ AllRise t = (c : ℕ) → Rises 0 (or_none (t c))
 
 -- an ascending list, with place k or without it
 abbrev pub with_place : ℕ → Bool → List ℕ → List ℕ
-with_place k on is = filter (λ i. nat_lt i k) is ++ ((if on then k ∷ [] else []) ++ filter (λ i. nat_lt k i) is)
+with_place k on is =
+    filter (λ i. nat_lt i k) is ++ ((if on then k ∷ [] else []) ++ filter (λ i. nat_lt k i) is)
 
 -- what a place that may come waits for
 abbrev pub next_wait : Option Place → Wait
@@ -50,4 +51,5 @@ pub record IsRelisted (t : ℕ → Option (Vec ℕ)) (a b : Change) (r : Reliste
 
 -- the table u has each list of t after two changes
 abbrev pub HasChanged : Change → Change → (ℕ → Option (Vec ℕ)) → (ℕ → Option (Vec ℕ)) → Type 0
-HasChanged a b t u = (c : ℕ) → or_none (u c) ≡ (if is_touched a b c then relisted a b c (or_none (t c)) else or_none (t c))
+HasChanged a b t u = (c : ℕ)
+    → or_none (u c) ≡ (if is_touched a b c then relisted a b c (or_none (t c)) else or_none (t c))

@@ -75,7 +75,8 @@ wait_largest ms (Puts i j) = 0
 wait_largest ms (Takes i b) = 0
 wait_largest ms (TakesAgain i b) = 0
 wait_largest ms (BindsOne i b) = stopped (message_size (message_at ms i))
-wait_largest ms (BindsTwo i j b) = max (stopped (message_size (message_at ms i))) (stopped (message_size (message_at ms j)))
+wait_largest ms (BindsTwo i j b) =
+    max (stopped (message_size (message_at ms i))) (stopped (message_size (message_at ms j)))
 wait_largest ms (GoesOn b) = 0
 wait_largest ms (Shows k i b) = stopped (message_size (message_at ms i))
 wait_largest ms (Makes b) = 1

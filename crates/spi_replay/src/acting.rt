@@ -48,7 +48,8 @@ fn take_one<'p>(
 ) -> Result<Taken<'p>, NoMemory>
     requires is { IsPlace store.old.messages links.old.items place.now }
     requires waits { place.now.wait ≡ Wait.BindsOne value body }
-    ensures taken { IfOk result (TakenBy store.old.messages links.old.items store.new.messages links.new.items names place.now) }
+    ensures taken { IfOk result
+        (TakenBy store.old.messages links.old.items store.new.messages links.new.items names place.now) }
     ensures kept { Keeps store.old store.new }
     ensures links { KeepsAll links.old.items links.new.items }
 {
@@ -72,7 +73,8 @@ fn take_two<'p>(
 ) -> Result<Taken<'p>, NoMemory>
     requires is { IsPlace store.old.messages links.old.items place.now }
     requires waits { place.now.wait ≡ Wait.BindsTwo first second body }
-    ensures taken { IfOk result (TakenBy store.old.messages links.old.items store.new.messages links.new.items names place.now) }
+    ensures taken { IfOk result
+        (TakenBy store.old.messages links.old.items store.new.messages links.new.items names place.now) }
     ensures kept { Keeps store.old store.new }
     ensures links { KeepsAll links.old.items links.new.items }
 {
@@ -94,7 +96,8 @@ fn take_on<'p>(
 ) -> Result<Taken<'p>, NoMemory>
     requires is { IsPlace store.old.messages links.now place.now }
     requires waits { place.now.wait ≡ Wait.GoesOn body }
-    ensures taken { IfOk result (TakenBy store.old.messages links.now store.new.messages links.now names place.now) }
+    ensures taken { IfOk result
+        (TakenBy store.old.messages links.now store.new.messages links.now names place.now) }
     ensures kept { Keeps store.old store.new }
 {
     let now = entered(store, links, place.source, body, place.last)?;
@@ -118,7 +121,8 @@ fn take_showing<'p>(
 ) -> Result<Taken<'p>, NoMemory>
     requires is { IsPlace store.old.messages links.now place.now }
     requires waits { place.now.wait ≡ Wait.Shows kind label body }
-    ensures taken { IfOk result (TakenBy store.old.messages links.now store.new.messages links.now names place.now) }
+    ensures taken { IfOk result
+        (TakenBy store.old.messages links.now store.new.messages links.now names place.now) }
     ensures kept { Keeps store.old store.new }
 {
     let shown = message_of(alloc, store, label)?;
@@ -141,7 +145,8 @@ fn take_making<'p>(
     requires is { IsPlace store.old.messages links.old.items place.now }
     requires waits { place.now.wait ≡ Wait.Makes body }
     requires names { names < 2 ^ 32 - 1 }
-    ensures taken { IfOk result (TakenBy store.old.messages links.old.items store.new.messages links.new.items names place.now) }
+    ensures taken { IfOk result
+        (TakenBy store.old.messages links.old.items store.new.messages links.new.items names place.now) }
     ensures kept { Keeps store.old store.new }
     ensures links { KeepsAll links.old.items links.new.items }
 {
@@ -165,7 +170,8 @@ fn take_forking<'p>(
 ) -> Result<Taken<'p>, NoMemory>
     requires is { IsPlace store.old.messages links.now place.now }
     requires waits { place.now.wait ≡ Wait.Forks first rest }
-    ensures taken { IfOk result (TakenBy store.old.messages links.now store.new.messages links.now names place.now) }
+    ensures taken { IfOk result
+        (TakenBy store.old.messages links.now store.new.messages links.now names place.now) }
     ensures kept { Keeps store.old store.new }
 {
     let now = entered(store, links, place.source, first, place.last)?;
@@ -190,7 +196,8 @@ pub fn take<'p>(
     requires is { IsPlace store.old.messages links.old.items place.now }
     requires acts { wait_acts place.now.wait ≡ true }
     requires names { names < 2 ^ 32 - 1 }
-    ensures taken { IfOk result (TakenBy store.old.messages links.old.items store.new.messages links.new.items names place.now) }
+    ensures taken { IfOk result
+        (TakenBy store.old.messages links.old.items store.new.messages links.new.items names place.now) }
     ensures kept { Keeps store.old store.new }
     ensures links { KeepsAll links.old.items links.new.items }
 {

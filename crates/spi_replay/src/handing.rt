@@ -16,7 +16,10 @@ use spi_term::Msg;
 /// The message that an output hands over to an input, where they are ready to talk.
 pub fn handed(state: &State<'_>, out: u32, inp: u32) -> Result<Option<Msg>, NoMemory>
     requires { IsState state.now }
-    ensures { IfOk result (λ d. MatchOption d (IsReady (pooled state.now).configuration (talk out inp) → ⊥) (λ m. IsReady (pooled state.now).configuration (talk out inp) × (shown (pooled state.now).configuration (talk out inp) ≡ message m ∷ []))) }
+    ensures { IfOk result
+        (λ d. MatchOption d (IsReady (pooled state.now).configuration (talk out inp) → ⊥)
+        (λ m. IsReady (pooled state.now).configuration (talk out inp)
+        × (shown (pooled state.now).configuration (talk out inp) ≡ message m ∷ []))) }
 {
     if out as usize >= state.index.len() {
         return Ok(None);

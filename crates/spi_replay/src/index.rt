@@ -111,7 +111,8 @@ impl<'p> Index<'p> {
     ) -> Result<(), NoMemory>
         requires at { at < length self.old.places.items }
         requires few { length self.old.places.items < 2 ^ 32 - 1 }
-        ensures moved { OnOk result (self.new.places.items ≡ moved_of self.old.places.items at now.entry more.entry) }
+        ensures moved { OnOk result
+            (self.new.places.items ≡ moved_of self.old.places.items at now.entry more.entry) }
         ensures same { OnErr result (self.new.places.items ≡ self.old.places.items) }
     {
         self.places.reserve(1)?;
@@ -141,7 +142,9 @@ impl<'p> Index<'p> {
         requires out { out < length self.old.places.items }
         requires inp { inp < length self.old.places.items }
         requires stays { done.wait ≡ Wait.Stays }
-        ensures settled { OnOk result (self.new.places.items ≡ slice_set (slice_set self.old.places.items out done.entry) inp now.entry) }
+        ensures settled { OnOk result
+            (self.new.places.items
+            ≡ slice_set (slice_set self.old.places.items out done.entry) inp now.entry) }
         ensures same { OnErr result (self.new.places.items ≡ self.old.places.items) }
     {
         let first = Turn {
@@ -166,7 +169,9 @@ impl<'p> Index<'p> {
         requires out { out < length self.old.places.items }
         requires inp { inp < length self.old.places.items }
         requires few { length self.old.places.items < 2 ^ 32 - 1 }
-        ensures settled { OnOk result ((sender : PlaceTerm) → slice_get self.old.places.items out ≡ Some sender → self.new.places.items ≡ settled self.old.places.items out sender inp now.entry again) }
+        ensures settled { OnOk result
+            ((sender : PlaceTerm) → slice_get self.old.places.items out ≡ Some sender
+            → self.new.places.items ≡ settled self.old.places.items out sender inp now.entry again) }
         ensures same { OnErr result (self.new.places.items ≡ self.old.places.items) }
     {
         let done = done_place(self.at(out));

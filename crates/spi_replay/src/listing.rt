@@ -69,7 +69,8 @@ fn step_at(state: &State<'_>, place: u32, k: u64) -> Step
 pub fn ready_at(state: &State<'_>, place: u32) -> u64
     requires is { IsState state.now }
     requires there { place < length state.now.index.places.items }
-    ensures { (ss : List StepTerm) × AreReady (pooled state.now).configuration ss × (result ≡ count_at place ss) }
+    ensures { (ss : List StepTerm) × AreReady (pooled state.now).configuration ss
+        × (result ≡ count_at place ss) }
 {
     begun_at(state, place)
 }
@@ -89,7 +90,10 @@ pub fn ready(state: &State<'_>) -> u64
 /// The ready step with this number.
 pub fn kth(state: &State<'_>, k: u64) -> Option<Step>
     requires { IsState state.now }
-    ensures { MatchOption result ((ss : List StepTerm) × AreReady (pooled state.now).configuration ss × (length ss ≤ k)) (λ s. (ss : List StepTerm) × AreReady (pooled state.now).configuration ss × (slice_get ss k ≡ Some (step_of s))) }
+    ensures { MatchOption result
+        ((ss : List StepTerm) × AreReady (pooled state.now).configuration ss × (length ss ≤ k))
+        (λ s. (ss : List StepTerm) × AreReady (pooled state.now).configuration ss
+        × (slice_get ss k ≡ Some (step_of s))) }
 {
     let mut left = k;
     for place in 0..state.index.len() as u32 {
@@ -104,7 +108,8 @@ pub fn kth(state: &State<'_>, k: u64) -> Option<Step>
 
 // The number of the channel that is waited on.
 fn channel_of(wait: Wait) -> Option<MsgId>
-    ensures { MatchOption result ((out_channel wait ≡ None) × (in_channel wait ≡ None)) (λ c. (out_channel wait ≡ Some c.place) ⊎ (in_channel wait ≡ Some c.place)) }
+    ensures { MatchOption result ((out_channel wait ≡ None) × (in_channel wait ≡ None))
+        (λ c. (out_channel wait ≡ Some c.place) ⊎ (in_channel wait ≡ Some c.place)) }
 {
     match wait {
         Wait::Stays => None,
@@ -157,7 +162,10 @@ fn is_message(store: &Store, id: MsgId, m: &Msg) -> bool
 // The number of a channel on which some place waits.
 fn waited_on(state: &State<'_>, channel: &Msg) -> Option<MsgId>
     requires { IsState state.now }
-    ensures { MatchOption result ((i : ℕ) (p : Process) → slice_get (pooled state.now).configuration.places i ≡ Some p → PutsOut (message channel.now) p ⊎ TakesIn (message channel.now) p → ⊥) (λ id. slice_get state.now.store.messages id.place ≡ Some (message channel.now)) }
+    ensures { MatchOption result
+        ((i : ℕ) (p : Process) → slice_get (pooled state.now).configuration.places i ≡ Some p
+        → PutsOut (message channel.now) p ⊎ TakesIn (message channel.now) p → ⊥)
+        (λ id. slice_get state.now.store.messages id.place ≡ Some (message channel.now)) }
 {
     for place in 0..state.index.len() as u32 {
         if let Some(id) = channel_of(state.index.at(place).wait) {

@@ -28,7 +28,8 @@ pub struct Scope {
 
 /// A message for one more name, and its link.
 pub fn bind(links: &mut Vec<Link>, value: MsgId, before: usize) -> Result<usize, NoMemory>
-    ensures links { IfOk result (λ last. links.new.items ≡ links.old.items ++ record { value = value; before = before } ∷ []) }
+    ensures links { IfOk result
+        (λ last. links.new.items ≡ links.old.items ++ record { value = value; before = before } ∷ []) }
     ensures last { IfOk result (λ last. last ≡ length links.old.items) }
     ensures same { OnErr result (links.new.items ≡ links.old.items) }
 {
@@ -55,7 +56,8 @@ pub fn value_at(links: &[Link], last: usize, steps: u32) -> MsgId
 fn named(store: &mut Store, links: &[Link], scope: Scope, x: u32) -> Result<MsgId, NoMemory>
     requires over { x < scope.free + scope.bound }
     requires names { HasNames store.old.messages links.now scope }
-    ensures at { IfOk result (λ id. IsInstance store.old.messages store.new.messages links.now scope (Term.name x) id) }
+    ensures at { IfOk result
+        (λ id. IsInstance store.old.messages store.new.messages links.now scope (Term.name x) id) }
     ensures kept { Keeps store.old store.new }
 {
     if x < scope.free {
@@ -69,7 +71,8 @@ fn named(store: &mut Store, links: &[Link], scope: Scope, x: u32) -> Result<MsgI
 pub fn instance(store: &mut Store, links: &[Link], scope: Scope, m: &Msg) -> Result<MsgId, NoMemory>
     requires over { MessageOver (scope.free + scope.bound) 0 (message m.now) }
     requires names { HasNames store.old.messages links.now scope }
-    ensures at { IfOk result (λ id. IsInstance store.old.messages store.new.messages links.now scope (message m.now) id) }
+    ensures at { IfOk result
+        (λ id. IsInstance store.old.messages store.new.messages links.now scope (message m.now) id) }
     ensures kept { Keeps store.old store.new }
 {
     match m {

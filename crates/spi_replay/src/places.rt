@@ -38,7 +38,9 @@ fn wait_to_put(
     requires over { MessageOver (scope.free + scope.bound) 0 (message channel.now) }
     requires datum { MessageOver (scope.free + scope.bound) 0 (message datum.now) }
     requires names { HasNames store.old.messages links.now scope }
-    ensures at { IfOk result (λ w. WaitsFor store.old.messages store.new.messages links.now scope (λ f. puts (replace f (message channel.now)) (replace f (message datum.now))) w) }
+    ensures at { IfOk result
+        (λ w. WaitsFor store.old.messages store.new.messages links.now scope
+        (λ f. puts (replace f (message channel.now)) (replace f (message datum.now))) w) }
     ensures kept { Keeps store.old store.new }
 {
     let on = instance(store, links, scope, channel)?;
@@ -55,7 +57,9 @@ fn wait_alone(
 ) -> Result<Wait, NoMemory>
     requires over { MessageOver (scope.free + scope.bound) 0 (message m.now) }
     requires names { HasNames store.old.messages links.now scope }
-    ensures at { IfOk result (λ w. WaitsFor store.old.messages store.new.messages links.now scope (λ f. lone_move lone (replace f (message m.now))) w) }
+    ensures at { IfOk result
+        (λ w. WaitsFor store.old.messages store.new.messages links.now scope
+        (λ f. lone_move lone (replace f (message m.now))) w) }
     ensures kept { Keeps store.old store.new }
 {
     let id = instance(store, links, scope, m)?;
@@ -73,7 +77,9 @@ fn wait_to_select(
     requires over { MessageOver (scope.free + scope.bound) 0 (message whole.now) }
     requires equal { MessageOver (scope.free + scope.bound) 0 (message equal.now) }
     requires names { HasNames store.old.messages links.now scope }
-    ensures at { IfOk result (λ w. WaitsFor store.old.messages store.new.messages links.now scope (λ f. select_move (replace f (message whole.now)) (replace f (message equal.now)) body) w) }
+    ensures at { IfOk result
+        (λ w. WaitsFor store.old.messages store.new.messages links.now scope
+        (λ f. select_move (replace f (message whole.now)) (replace f (message equal.now)) body) w) }
     ensures kept { Keeps store.old store.new }
 {
     let id = instance(store, links, scope, whole)?;
@@ -94,7 +100,9 @@ fn wait_to_decrypt(
     requires over { MessageOver (scope.free + scope.bound) 0 (message whole.now) }
     requires key { MessageOver (scope.free + scope.bound) 0 (message key.now) }
     requires names { HasNames store.old.messages links.now scope }
-    ensures at { IfOk result (λ w. WaitsFor store.old.messages store.new.messages links.now scope (λ f. decrypt_move (replace f (message whole.now)) (replace f (message key.now)) body) w) }
+    ensures at { IfOk result
+        (λ w. WaitsFor store.old.messages store.new.messages links.now scope
+        (λ f. decrypt_move (replace f (message whole.now)) (replace f (message key.now)) body) w) }
     ensures kept { Keeps store.old store.new }
 {
     let id = instance(store, links, scope, whole)?;
@@ -115,7 +123,9 @@ fn wait_to_check(
     requires over { MessageOver (scope.free + scope.bound) 0 (message whole.now) }
     requires nonce { MessageOver (scope.free + scope.bound) 0 (message nonce.now) }
     requires names { HasNames store.old.messages links.now scope }
-    ensures at { IfOk result (λ w. WaitsFor store.old.messages store.new.messages links.now scope (λ f. check_move (replace f (message whole.now)) (replace f (message nonce.now)) body) w) }
+    ensures at { IfOk result
+        (λ w. WaitsFor store.old.messages store.new.messages links.now scope
+        (λ f. check_move (replace f (message whole.now)) (replace f (message nonce.now)) body) w) }
     ensures kept { Keeps store.old store.new }
 {
     let id = instance(store, links, scope, whole)?;
@@ -129,7 +139,9 @@ fn wait_to_check(
 fn wait_at(store: &mut Store, links: &[Link], scope: Scope, node: &Node) -> Result<Wait, NoMemory>
     requires below { AreBelow (scope.free + scope.bound) (shape_of node.now) }
     requires names { HasNames store.old.messages links.now scope }
-    ensures at { IfOk result (λ w. WaitsFor store.old.messages store.new.messages links.now scope (λ f. move_of f (shape_of node.now)) w) }
+    ensures at { IfOk result
+        (λ w. WaitsFor store.old.messages store.new.messages links.now scope
+        (λ f. move_of f (shape_of node.now)) w) }
     ensures kept { Keeps store.old store.new }
 {
     match &node.form {
@@ -225,7 +237,8 @@ pub fn entered<'p>(
     last: usize,
 ) -> Result<Place<'p>, NoMemory>
     requires { CanEnter store.old.messages links.now source.now node last }
-    ensures at { IfOk result (λ p. HasEntered store.old.messages store.new.messages links.now source.now node last p) }
+    ensures at { IfOk result
+        (λ p. HasEntered store.old.messages store.new.messages links.now source.now node last p) }
     ensures kept { Keeps store.old store.new }
 {
     let at = source.node(node);
@@ -253,7 +266,9 @@ pub fn entered_with<'p>(
     value: MsgId,
 ) -> Result<Place<'p>, NoMemory>
     requires { CanBind store.old.messages links.old.items source.now node last value }
-    ensures at { IfOk result (λ p. HasBound store.old.messages store.new.messages links.old.items links.new.items source.now node last value p) }
+    ensures at { IfOk result
+        (λ p. HasBound store.old.messages store.new.messages links.old.items links.new.items source.now node
+        last value p) }
     ensures kept { Keeps store.old store.new }
     ensures links { KeepsAll links.old.items links.new.items }
 {
@@ -272,7 +287,9 @@ pub fn entered_with_two<'p>(
     second: MsgId,
 ) -> Result<Place<'p>, NoMemory>
     requires { CanBindTwo store.old.messages links.old.items source.now node last first second }
-    ensures at { IfOk result (λ p. HasBoundTwo store.old.messages store.new.messages links.old.items links.new.items source.now node last first second p) }
+    ensures at { IfOk result
+        (λ p. HasBoundTwo store.old.messages store.new.messages links.old.items links.new.items source.now
+        node last first second p) }
     ensures kept { Keeps store.old store.new }
     ensures links { KeepsAll links.old.items links.new.items }
 {

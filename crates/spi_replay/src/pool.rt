@@ -55,7 +55,8 @@ impl<'p> Pool<'p> {
         requires names { process.now.names ≡ opponent.now.names }
         requires places { 2 ≤ most_places }
         requires most { most_places < 2 ^ 32 - 1 }
-        ensures configuration { IfOk result (λ p. p.configuration ≡ beside process.now.names process.now.process opponent.now.process) }
+        ensures configuration { IfOk result
+            (λ p. p.configuration ≡ beside process.now.names process.now.process opponent.now.process) }
         ensures most { IfOk result (λ p. p.most ≡ most_places) }
     {
         let state = start(alloc, process, opponent, most_places)?;
@@ -70,7 +71,8 @@ impl<'p> Pool<'p> {
     pub fn step(&mut self, step: Step) -> Result<Option<Event>, StepFault>
         requires { self.old.configuration.names < 2 ^ 32 - 1 }
         ensures ok { IfOk result (λ e. IsTaken self.old (step_of step) (event_in e) self.new) }
-        ensures refused { IfErr result (λ f. (f ≡ StepFault.NoMemory) ⊎ Refuses self.old.configuration self.old.most (step_of step) f) }
+        ensures refused { IfErr result
+            (λ f. (f ≡ StepFault.NoMemory) ⊎ Refuses self.old.configuration self.old.most (step_of step) f) }
         ensures unchanged { OnErr result (self.new ≡ self.old) }
     {
         match step {
@@ -82,7 +84,10 @@ impl<'p> Pool<'p> {
     /// The closed message that a ready Talk hands over. `None` where the step isn't a ready Talk. The time is linear in
     /// the message. Its only error is NoMemory.
     pub fn datum(&self, step: Step) -> Result<Option<Msg>, NoMemory>
-        ensures { IfOk result (λ d. MatchOption d (IsReadyTalk self.now.configuration (step_of step) → ⊥) (λ m. IsReadyTalk self.now.configuration (step_of step) × (shown self.now.configuration (step_of step) ≡ message m ∷ []))) }
+        ensures { IfOk result
+            (λ d. MatchOption d (IsReadyTalk self.now.configuration (step_of step) → ⊥)
+            (λ m. IsReadyTalk self.now.configuration (step_of step)
+            × (shown self.now.configuration (step_of step) ≡ message m ∷ []))) }
     {
         match step {
             Step::Act(_) => Ok(None),
@@ -114,7 +119,10 @@ impl<'p> Pool<'p> {
     /// The ready step with the number k, counted from 0 in their order: by the first place, and the meetings of one output by
     /// the input's place. `None` where k is at least `ready`.
     pub fn kth(&self, k: u64) -> Option<Step>
-        ensures { MatchOption result ((ss : List StepTerm) × AreReady self.now.configuration ss × (length ss ≤ k)) (λ s. (ss : List StepTerm) × AreReady self.now.configuration ss × (slice_get ss k ≡ Some (step_of s))) }
+        ensures { MatchOption result
+            ((ss : List StepTerm) × AreReady self.now.configuration ss × (length ss ≤ k))
+            (λ s. (ss : List StepTerm) × AreReady self.now.configuration ss
+            × (slice_get ss k ≡ Some (step_of s))) }
     {
         kth(&self.state, k)
     }

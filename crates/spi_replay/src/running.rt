@@ -69,7 +69,12 @@ pub fn start<'p>(
     requires names { process.now.names ≡ opponent.now.names }
     requires places { 2 ≤ most }
     requires most { most < 2 ^ 32 - 1 }
-    ensures beside { IfOk result (λ s. pooled s ≡ record { configuration = beside process.now.names process.now.process opponent.now.process; most = most }) }
+    ensures beside { IfOk result
+        (λ s. pooled s
+        ≡ record {
+          configuration = beside process.now.names process.now.process opponent.now.process;
+          most = most;
+        }) }
     ensures is { IfOk result IsState }
 {
     let mut state = State {
@@ -113,7 +118,8 @@ fn act_now(state: &mut State<'_>, place: u32) -> Result<Option<Event>, NoMemory>
     requires is { IsState state.old }
     requires may { MayAct state.old place }
     requires names { state.old.names < 2 ^ 32 - 1 }
-    ensures taken { IfOk result (λ e. IsTaken (pooled state.old) (act place) (event_in e) (pooled state.new)) }
+    ensures taken { IfOk result
+        (λ e. IsTaken (pooled state.old) (act place) (event_in e) (pooled state.new)) }
     ensures unchanged { OnErr result (pooled state.new ≡ pooled state.old) }
     ensures is { IsState state.new }
 {
@@ -139,8 +145,11 @@ fn act_now(state: &mut State<'_>, place: u32) -> Result<Option<Event>, NoMemory>
 pub fn step_act(state: &mut State<'_>, place: u32) -> Result<Option<Event>, StepFault>
     requires is { IsState state.old }
     requires names { state.old.names < 2 ^ 32 - 1 }
-    ensures taken { IfOk result (λ e. IsTaken (pooled state.old) (act place) (event_in e) (pooled state.new)) }
-    ensures refused { IfErr result (λ f. (f ≡ StepFault.NoMemory) ⊎ Refuses (pooled state.old).configuration state.old.most (act place) f) }
+    ensures taken { IfOk result
+        (λ e. IsTaken (pooled state.old) (act place) (event_in e) (pooled state.new)) }
+    ensures refused { IfErr result
+        (λ f. (f ≡ StepFault.NoMemory)
+        ⊎ Refuses (pooled state.old).configuration state.old.most (act place) f) }
     ensures unchanged { OnErr result (pooled state.new ≡ pooled state.old) }
     ensures is { IsState state.new }
 {
@@ -212,8 +221,11 @@ fn talk_now(state: &mut State<'_>, out: u32, inp: u32, meeting: Meeting) -> Resu
 /// The meeting of an output and an input.
 pub fn step_talk(state: &mut State<'_>, out: u32, inp: u32) -> Result<Option<Event>, StepFault>
     requires is { IsState state.old }
-    ensures taken { IfOk result (λ e. IsTaken (pooled state.old) (talk out inp) (event_in e) (pooled state.new)) }
-    ensures refused { IfErr result (λ f. (f ≡ StepFault.NoMemory) ⊎ Refuses (pooled state.old).configuration state.old.most (talk out inp) f) }
+    ensures taken { IfOk result
+        (λ e. IsTaken (pooled state.old) (talk out inp) (event_in e) (pooled state.new)) }
+    ensures refused { IfErr result
+        (λ f. (f ≡ StepFault.NoMemory)
+        ⊎ Refuses (pooled state.old).configuration state.old.most (talk out inp) f) }
     ensures unchanged { OnErr result (pooled state.new ≡ pooled state.old) }
     ensures is { IsState state.new }
 {

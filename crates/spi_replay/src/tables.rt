@@ -42,7 +42,10 @@ impl Lists {
     // The lists become those of the channels of a change. There is room for them.
     fn put_in(self, table: &mut IndexMap<usize, Vec<u32>>, change: Change)
         requires { 2 ≤ spare table.old }
-        ensures lists { (c : ℕ) → or_none (get nat_eq table.new c) ≡ (if is_on_of c change.to then self.to.items else (if is_on_of c change.from then self.from.items else or_none (get nat_eq table.old c))) }
+        ensures lists { (c : ℕ)
+            → or_none (get nat_eq table.new c)
+            ≡ (if is_on_of c change.to then self.to.items else
+            (if is_on_of c change.from then self.from.items else or_none (get nat_eq table.old c))) }
         ensures room { spare table.old ≤ spare table.new + 2 }
     {
         let Lists { from, to } = self;
@@ -180,7 +183,9 @@ fn list_after(
     second: Change,
 ) -> Result<Vec<u32>, NoMemory>
     requires { AllRise (get nat_eq table.now) }
-    ensures { IfOk result (λ v. (c : ℕ) → is_on_of c channel ≡ true → v.items ≡ relisted_of first second c (or_none (get nat_eq table.now c))) }
+    ensures { IfOk result
+        (λ v. (c : ℕ) → is_on_of c channel ≡ true
+        → v.items ≡ relisted_of first second c (or_none (get nat_eq table.now c))) }
 {
     let Some(channel) = channel else {
         return Ok(Vec::new(alloc));
@@ -229,7 +234,9 @@ pub fn prepared(
 // The list becomes the channel's. There is room for it.
 fn put(table: &mut IndexMap<usize, Vec<u32>>, channel: Option<usize>, list: Vec<u32>)
     requires { 0 < spare table.old }
-    ensures lists { (c : ℕ) → or_none (get nat_eq table.new c) ≡ (if is_on_of c channel then list.items else or_none (get nat_eq table.old c)) }
+    ensures lists { (c : ℕ)
+        → or_none (get nat_eq table.new c)
+        ≡ (if is_on_of c channel then list.items else or_none (get nat_eq table.old c)) }
     ensures room { spare table.old ≤ spare table.new + 1 }
 {
     if let Some(channel) = channel {
@@ -247,8 +254,12 @@ pub fn turn_both(
 ) -> Result<(), NoMemory>
     requires outs { AllRise (get nat_eq outs.old) }
     requires ins { AllRise (get nat_eq ins.old) }
-    ensures outs { OnOk result (HasChanged (change_of out_channel_of first) (change_of out_channel_of second) (get nat_eq outs.old) (get nat_eq outs.new)) }
-    ensures ins { OnOk result (HasChanged (change_of in_channel_of first) (change_of in_channel_of second) (get nat_eq ins.old) (get nat_eq ins.new)) }
+    ensures outs { OnOk result
+        (HasChanged (change_of out_channel_of first) (change_of out_channel_of second) (get nat_eq outs.old)
+        (get nat_eq outs.new)) }
+    ensures ins { OnOk result
+        (HasChanged (change_of in_channel_of first) (change_of in_channel_of second) (get nat_eq ins.old)
+        (get nat_eq ins.new)) }
     ensures same_outs { OnErr result (IsUnchanged outs.old outs.new) }
     ensures same_ins { OnErr result (IsUnchanged ins.old ins.new) }
 {

@@ -24,4 +24,5 @@ shown_text (b ∷ bs) = codes ": " ++ (b ∷ bs)
 -- `refused: N Name at L:C: shown` and a LF
 abbrev pub refused_text : List ℕ → Refusal → List ℕ
 refused_text bytes r =
-    head_text r.number (unwrap_or (name_of r.number) []) ++ place_text bytes r.offset ++ shown_text r.shown.items ++ codes "\n"
+    head_text r.number (unwrap_or (name_of r.number) []) ++ place_text bytes r.offset
+    ++ shown_text r.shown.items ++ codes "\n"

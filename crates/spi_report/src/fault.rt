@@ -59,7 +59,8 @@ fn reason_name(reason: Reason) -> &'static str
 
 /// The start of the line: `no: N Name`.
 fn fault_head(alloc: Global, number: u32, name: &str) -> Result<String, NoMemory>
-    ensures { IfOk result (λ text. string_bytes text ≡ codes "no: " ++ decimal number ++ codes " " ++ name.now) }
+    ensures { IfOk result
+        (λ text. string_bytes text ≡ codes "no: " ++ decimal number ++ codes " " ++ name.now) }
 {
     let text = format!(in alloc; "no: {number} {name}")?;
     Ok(text)
@@ -78,7 +79,9 @@ fn put_term(alloc: Global, out: &mut Vec<u8>, names: &[Text], shown: &Shown) -> 
 
 /// Appends what a fault shows, as `: shown`, or nothing where it shows nothing.
 fn put_thing(alloc: Global, out: &mut Vec<u8>, file: &File, f: &Fault) -> Result<(), NoMemory>
-    ensures { OnOk result (out.new.items ≡ out.old.items ++ thing_text (reverse (chain_at file.now.marks.scopes f.now.scope_of)) (thing f.now.shown)) }
+    ensures { OnOk result
+        (out.new.items ≡ out.old.items
+        ++ thing_text (reverse (chain_at file.now.marks.scopes f.now.scope_of)) (thing f.now.shown)) }
 {
     let names = file.scope_names(alloc, f.scope_of)?;
     match &f.shown {
@@ -97,7 +100,10 @@ pub fn no_fault(
     f: &Fault,
 ) -> Result<Vec<u8>, NoMemory>
     requires { (place_in file.now.marks.process.items f.now.node).from ≤ length lines.now }
-    ensures { IfOk result (λ text. text.items ≡ fault_text lines.now (λ i. place_in file.now.marks.process.items i) (λ i. reverse (chain_at file.now.marks.scopes i)) (told f.now)) }
+    ensures { IfOk result
+        (λ text. text.items
+        ≡ fault_text lines.now (λ i. place_in file.now.marks.process.items i)
+        (λ i. reverse (chain_at file.now.marks.scopes i)) (told f.now)) }
 {
     let mut out = fault_head(alloc, number_of(f.reason), reason_name(f.reason))?.into_bytes();
     put_place(

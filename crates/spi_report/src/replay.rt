@@ -35,7 +35,8 @@ fn put_label(
     names: &[Text],
     label: &Msg,
 ) -> Result<(), NoMemory>
-    ensures { OnOk result (out.new.items ≡ out.old.items ++ (word.now ++ message_text names.now (message label.now))) }
+    ensures { OnOk result
+        (out.new.items ≡ out.old.items ++ (word.now ++ message_text names.now (message label.now))) }
 {
     out.extend_from_slice(word)?;
     out.extend_from_slice(&show_message(alloc, names, label)?)
@@ -130,7 +131,8 @@ pub(crate) fn lines_of(
     pairing: &Pairing,
 ) -> Result<Vec<u8>, NoMemory>
     requires { length pairing.now.from.items ≡ length events.now }
-    ensures { IfOk result (λ text. text.items ≡ events_text names.now (map event events.now) pairing.now.from.items) }
+    ensures { IfOk result
+        (λ text. text.items ≡ events_text names.now (map event events.now) pairing.now.from.items) }
 {
     let mut out = Vec::new(alloc);
     for k in 0..events.len() {
@@ -151,7 +153,9 @@ pub fn events(
     pairing: &Pairing,
 ) -> Result<Vec<u8>, NoMemory>
     requires { length pairing.now.from.items ≡ length events.now }
-    ensures { IfOk result (λ text. text.items ≡ events_text file.now.names.items (map event events.now) pairing.now.from.items) }
+    ensures { IfOk result
+        (λ text. text.items
+        ≡ events_text file.now.names.items (map event events.now) pairing.now.from.items) }
 {
     lines_of(alloc, &file.names, events, pairing)
 }

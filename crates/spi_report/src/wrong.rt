@@ -27,7 +27,8 @@ pub fn wrong_step(
     index: u32,
 ) -> Result<Vec<u8>, NoMemory>
     requires { (place_in file.now.marks.rules.items index).from ≤ length lines.now }
-    ensures { IfOk result (λ text. text.items ≡ wrong_text lines.now (place_in file.now.marks.rules.items index) index) }
+    ensures { IfOk result
+        (λ text. text.items ≡ wrong_text lines.now (place_in file.now.marks.rules.items index) index) }
 {
     let mut out = b"no: 90 WrongStep".to_vec(alloc)?;
     put_place(alloc, &mut out, lines, Some(file.rule_place(index).from))?;

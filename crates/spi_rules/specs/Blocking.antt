@@ -12,13 +12,15 @@ pub data Child : Env → Process → ℕ → Env → Process → Type 0 where
   child_serve : {env : Env} {m : Message} {t : Ty} {p : Process}
       → Child env (serve m t p) 1 (extended env t) (process_put (name (length env)) p)
   child_split : {env : Env} {m : Message} {t u : Ty} {p : Process}
-      → Child env (split m t u p) 1 (extended (extended env t) (ty_put (name (length env)) u)) (process_put_two (name (length env)) (name (suc (length env))) p)
+      → Child env (split m t u p) 1 (extended (extended env t) (ty_put (name (length env)) u))
+      (process_put_two (name (length env)) (name (suc (length env))) p)
   child_select : {env : Env} {m n : Message} {t u : Ty} {p : Process}
       → Child env (select m t n u p) 1 (extended env (ty_put n u)) (process_put (name (length env)) p)
   child_left : {env : Env} {m : Message} {t u : Ty} {p q : Process}
       → Child env (branch m t p u q) 1 (extended env t) (process_put (name (length env)) p)
   child_right : {env : Env} {m : Message} {t u : Ty} {p q : Process}
-      → Child env (branch m t p u q) (suc (process_size p)) (extended env u) (process_put (name (length env)) q)
+      → Child env (branch m t p u q) (suc (process_size p)) (extended env u)
+      (process_put (name (length env)) q)
   child_decrypt : {env : Env} {m n : Message} {t : Ty} {p : Process}
       → Child env (decrypt m t n p) 1 (extended env t) (process_put (name (length env)) p)
   child_check : {env : Env} {m n : Message} {p : Process} → Child env (check m n p) 1 env p

@@ -23,14 +23,16 @@ mutual
     msg_pair : {m n : Message} {t u : Ty}
         → HasType casts env m t → HasType casts env n (ty_put m u)
         → HasType casts env (pair m n) (pair_ty t u)
-    msg_pair_un : {m n : Message} → HasType casts env m un → HasType casts env n un → HasType casts env (pair m n) un
+    msg_pair_un : {m n : Message} → HasType casts env m un → HasType casts env n un
+        → HasType casts env (pair m n) un
     msg_inl : {m : Message} {t u : Ty} → HasType casts env m t → HasType casts env (in_left m) (sum_ty t u)
     msg_inl_un : {m : Message} → HasType casts env m un → HasType casts env (in_left m) un
     msg_inr : {m : Message} {t u : Ty} → HasType casts env m u → HasType casts env (in_right m) (sum_ty t u)
     msg_inr_un : {m : Message} → HasType casts env m un → HasType casts env (in_right m) un
     msg_enc : {m : Message} {x : ℕ} {t : Ty}
         → HasType casts env m t → At env x (key t) → HasType casts env (enc m (name x)) un
-    msg_enc_un : {m n : Message} → HasType casts env m un → HasType casts env n un → HasType casts env (enc m n) un
+    msg_enc_un : {m n : Message} → HasType casts env m un → HasType casts env n un
+        → HasType casts env (enc m n) un
     msg_hash : {m : Message} → IsLabel casts env m → HasType casts env (hash m) un
     msg_cast : {m : Message} {fs : Effect} {t : Ty}
         → In (cast_of m fs) casts → SameTy (nonce fs) t → HasType casts env m t

@@ -38,12 +38,14 @@ pub data HasEffect (casts : List Cast) : Env → Process → Effect → Type 0 w
       → AllMany es → EffectAvoids (length env) es → HasEffect casts env (serve m un p) es
   proc_split : {env : Env} {m : Message} {t u : Ty} {p : Process} {es : Effect}
       → HasType casts env m (pair_ty t u)
-      → HasEffect casts (extended (extended env t) (ty_put (name (length env)) u)) (process_put_two (name (length env)) (name (suc (length env))) p) es
+      → HasEffect casts (extended (extended env t) (ty_put (name (length env)) u))
+      (process_put_two (name (length env)) (name (suc (length env))) p) es
       → GoodTy casts env (pair_ty t u) → EffectAvoids (length env) es → EffectAvoids (suc (length env)) es
       → HasEffect casts env (split m t u p) es
   proc_split_un : {env : Env} {m : Message} {p : Process} {es : Effect}
       → HasType casts env m un
-      → HasEffect casts (extended (extended env un) un) (process_put_two (name (length env)) (name (suc (length env))) p) es
+      → HasEffect casts (extended (extended env un) un)
+      (process_put_two (name (length env)) (name (suc (length env))) p) es
       → EffectAvoids (length env) es → EffectAvoids (suc (length env)) es
       → HasEffect casts env (split m un un p) es
   proc_match : {env : Env} {m n : Message} {t u : Ty} {p : Process} {es : Effect}

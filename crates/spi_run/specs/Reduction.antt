@@ -24,8 +24,10 @@ pub data Acts (n : ℕ) : Process → Option Event → ℕ → Process → List 
       → Acts n (split (pair a b) t u p) None n (process_put_two a b p) []
   acts_match : {a b c : Message} {t u : Ty} {p : Process}
       → a ≡ c → Acts n (select (pair a b) t c u p) None n (process_put b p) []
-  acts_inl : {a : Message} {t u : Ty} {p q : Process} → Acts n (branch (in_left a) t p u q) None n (process_put a p) []
-  acts_inr : {a : Message} {t u : Ty} {p q : Process} → Acts n (branch (in_right a) t p u q) None n (process_put a q) []
+  acts_inl : {a : Message} {t u : Ty} {p q : Process}
+      → Acts n (branch (in_left a) t p u q) None n (process_put a p) []
+  acts_inr : {a : Message} {t u : Ty} {p q : Process}
+      → Acts n (branch (in_right a) t p u q) None n (process_put a q) []
   acts_decrypt : {a k j : Message} {t : Ty} {p : Process}
       → k ≡ j → Acts n (decrypt (enc a k) t j p) None n (process_put a p) []
   acts_check : {a b : Message} {p : Process} → a ≡ b → Acts n (check a b p) None n p []
@@ -38,7 +40,8 @@ pub data Acts (n : ℕ) : Process → Option Event → ℕ → Process → List 
 
 -- an output and an input: what the input's place holds then, and what is appended
 pub data Talks : Process → Process → Process → List Process → Type 0 where
-  talks_once : {a b c : Message} {t : Ty} {p : Process} → a ≡ c → Talks (send a b) (recv c t p) (process_put b p) []
+  talks_once : {a b c : Message} {t : Ty} {p : Process} → a ≡ c
+      → Talks (send a b) (recv c t p) (process_put b p) []
   talks_again : {a b c : Message} {t : Ty} {p : Process}
       → a ≡ c → Talks (send a b) (serve c t p) (serve c t p) (process_put b p ∷ [])
 
@@ -46,10 +49,12 @@ pub data Talks : Process → Process → Process → List Process → Type 0 whe
 pub data Takes : Configuration → Step → Option Event → Configuration → Type 0 where
   takes_act : {n n' i : ℕ} {ps more : List Process} {p p' : Process} {e : Option Event}
       → At ps i p → Acts n p e n' p' more
-      → Takes (record { names = n; places = ps }) (act i) e (record { names = n'; places = slice_set ps i p' ++ more })
+      → Takes (record { names = n; places = ps }) (act i) e
+      (record { names = n'; places = slice_set ps i p' ++ more })
   takes_talk : {n i j : ℕ} {ps more : List Process} {p q q' : Process}
       → At ps i p → At ps j q → Talks p q q' more
-      → Takes (record { names = n; places = ps }) (talk i j) None (record { names = n; places = slice_set (slice_set ps i stop) j q' ++ more })
+      → Takes (record { names = n; places = ps }) (talk i j) None
+      (record { names = n; places = slice_set (slice_set ps i stop) j q' ++ more })
 
 -- a list of steps, with the events in order
 pub data Runs : Configuration → List Step → List Event → Configuration → Type 0 where

@@ -21,11 +21,13 @@ ends_of m (ended_many l ∷ es) = ends_of m es
 
 -- every prefix has at most as many ends of a label as begins of it
 abbrev pub Paid : List Event → Type 0
-Paid events = (early late : List Event) (m : Message) → events ≡ early ++ late → ends_of m early ≤ begins_of m early
+Paid events = (early late : List Event) (m : Message) → events ≡ early ++ late
+    → ends_of m early ≤ begins_of m early
 
 -- each endmany has an earlier begin of its label
 abbrev pub PaidMany : List Event → Type 0
-PaidMany events = (early late : List Event) (m : Message) → events ≡ early ++ ended_many m ∷ late → In (begun m) early
+PaidMany events = (early late : List Event) (m : Message) → events ≡ early ++ ended_many m ∷ late
+    → In (begun m) early
 
 -- each process is over n names
 abbrev pub AllOver : ℕ → List Process → Type 0

@@ -11,13 +11,15 @@ use spi_term::Msg;
 use std::alloc::{AllocError, Global};
 
 fn pair(alloc: Global, a: Msg, b: Msg) -> Result<Msg, NoMemory>
-    ensures { IfOk result (λ m. message_size (message m) ≡ 1 + (message_size (message a) + message_size (message b))) }
+    ensures { IfOk result
+        (λ m. message_size (message m) ≡ 1 + (message_size (message a) + message_size (message b))) }
 {
     Ok(Msg::Pair(Box::new(alloc, a)?, Box::new(alloc, b)?))
 }
 
 fn enc(alloc: Global, a: Msg, b: Msg) -> Result<Msg, NoMemory>
-    ensures { IfOk result (λ m. message_size (message m) ≡ 1 + (message_size (message a) + message_size (message b))) }
+    ensures { IfOk result
+        (λ m. message_size (message m) ≡ 1 + (message_size (message a) + message_size (message b))) }
 {
     Ok(Msg::Enc(Box::new(alloc, a)?, Box::new(alloc, b)?))
 }

@@ -13,7 +13,8 @@ pub record Chained : Type 0 where
 
 abbrev pub coded_chained : Coded Chained
 coded_chained =
-    code_by (List Names × List Names) (coded× (coded_list coded_names) (coded_list coded_names)) (λ s. (s.chains, s.noted)) (λ p. record { chains = p.0; noted = p.1 }) (λ _. refl)
+    code_by (List Names × List Names) (coded× (coded_list coded_names) (coded_list coded_names))
+    (λ s. (s.chains, s.noted)) (λ p. record { chains = p.0; noted = p.1 }) (λ _. refl)
 
 pub record Pair : Type 0 where
   pub word : Word

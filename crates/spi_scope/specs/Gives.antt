@@ -37,5 +37,6 @@ Goes (Err e) ran c = Fails e ran
 
 -- the same of a term with its nodes counted on: the term is left out where there are more than 1,000
 abbrev pub Counts : {X Y : Type 0} → (X → Y) → (Y → ℕ) → Result (X × ℕ) ScopeFault → Ran → ℕ → ℕ → Y → Type 0
-Counts view nodes (Ok x) ran c spent meant = (ran ≡ Ok c) × (x.1 ≡ stopped (spent + nodes meant)) × (x.1 ≤ 1000 → view x.0 ≡ meant)
+Counts view nodes (Ok x) ran c spent meant = (ran ≡ Ok c) × (x.1 ≡ stopped (spent + nodes meant))
+    × (x.1 ≤ 1000 → view x.0 ≡ meant)
 Counts view nodes (Err e) ran c spent meant = Fails e ran

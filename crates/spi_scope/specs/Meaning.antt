@@ -61,7 +61,9 @@ abbrev mutual
   pub type_in : ℕ → Abbreviations → Names → t.Ty → Ty
   type_in k ts xs (t.un s) = un
   type_in k ts xs (t.unit_ty s) = unit_ty
-  type_in k ts xs (t.tuple_ty s w a fs l) = nested_types (type_in k ts xs a ∷ fields_in k ts (w.word ∷ xs) fs) (last_in k ts (behind (w.word ∷ xs) fs) l)
+  type_in k ts xs (t.tuple_ty s w a fs l) =
+      nested_types (type_in k ts xs a ∷ fields_in k ts (w.word ∷ xs) fs)
+      (last_in k ts (behind (w.word ∷ xs) fs) l)
   type_in k ts xs (t.sum s a b) = sum_ty (type_in k ts xs a) (type_in k ts xs b)
   type_in k ts xs (t.key s a) = key (type_in k ts xs a)
   type_in k ts xs (t.nonce s es) = nonce (effect_in k xs es)
@@ -80,21 +82,31 @@ abbrev mutual
 abbrev pub process_in : (ℕ → ℕ) → Abbreviations → Names → t.Proc → Process
 process_in b ts xs (t.par s p q) = par (process_in b ts xs p) (process_in b ts xs q)
 process_in b ts xs (t.out s m n) = let k = b (length xs) in send (message_in k xs m) (message_in k xs n)
-process_in b ts xs (t.out_then s m n p) = let k = b (length xs) in par (send (message_in k xs m) (message_in k xs n)) (process_in b ts xs p)
-process_in b ts xs (t.inp s m x a p) = let k = b (length xs) in recv (message_in k xs m) (type_in k ts xs a) (process_in b ts (x.word ∷ xs) p)
-process_in b ts xs (t.repeat s m x a p) = let k = b (length xs) in serve (message_in k xs m) (type_in k ts xs a) (process_in b ts (x.word ∷ xs) p)
+process_in b ts xs (t.out_then s m n p) = let k =
+    b (length xs) in par (send (message_in k xs m) (message_in k xs n)) (process_in b ts xs p)
+process_in b ts xs (t.inp s m x a p) = let k =
+    b (length xs) in recv (message_in k xs m) (type_in k ts xs a) (process_in b ts (x.word ∷ xs) p)
+process_in b ts xs (t.repeat s m x a p) = let k =
+    b (length xs) in serve (message_in k xs m) (type_in k ts xs a) (process_in b ts (x.word ∷ xs) p)
 process_in b ts xs (t.split s m x a y c p) = let k = b (length xs) in
-    split (message_in k xs m) (type_in k ts xs a) (type_in k ts (x.word ∷ xs) c) (process_in b ts (y.word ∷ x.word ∷ xs) p)
+    split (message_in k xs m) (type_in k ts xs a) (type_in k ts (x.word ∷ xs) c)
+    (process_in b ts (y.word ∷ x.word ∷ xs) p)
 process_in b ts xs (t.match s m x a n y c p) = let k = b (length xs) in
-    select (message_in k xs m) (type_in k ts xs a) (message_in k xs n) (type_in k ts (x.word ∷ xs) c) (process_in b ts (y.word ∷ xs) p)
+    select (message_in k xs m) (type_in k ts xs a) (message_in k xs n) (type_in k ts (x.word ∷ xs) c)
+    (process_in b ts (y.word ∷ xs) p)
 process_in b ts xs (t.case s m x a p y c q) = let k = b (length xs) in
-    branch (message_in k xs m) (type_in k ts xs a) (process_in b ts (x.word ∷ xs) p) (type_in k ts xs c) (process_in b ts (y.word ∷ xs) q)
-process_in b ts xs (t.decrypt s m x a n p) = let k = b (length xs) in decrypt (message_in k xs m) (type_in k ts xs a) (message_in k xs n) (process_in b ts (x.word ∷ xs) p)
-process_in b ts xs (t.check s m n p) = let k = b (length xs) in check (message_in k xs m) (message_in k xs n) (process_in b ts xs p)
+    branch (message_in k xs m) (type_in k ts xs a) (process_in b ts (x.word ∷ xs) p) (type_in k ts xs c)
+    (process_in b ts (y.word ∷ xs) q)
+process_in b ts xs (t.decrypt s m x a n p) = let k =
+    b (length xs) in decrypt (message_in k xs m) (type_in k ts xs a) (message_in k xs n)
+    (process_in b ts (x.word ∷ xs) p)
+process_in b ts xs (t.check s m n p) = let k =
+    b (length xs) in check (message_in k xs m) (message_in k xs n) (process_in b ts xs p)
 process_in b ts xs (t.begin s m p) = begin (message_in (b (length xs)) xs m) (process_in b ts xs p)
 process_in b ts xs (t.end s m p) = end (message_in (b (length xs)) xs m) (process_in b ts xs p)
 process_in b ts xs (t.end_many s m p) = end_many (message_in (b (length xs)) xs m) (process_in b ts xs p)
-process_in b ts xs (t.cast s m x a p) = let k = b (length xs) in cast (message_in k xs m) (type_in k ts xs a) (process_in b ts (x.word ∷ xs) p)
+process_in b ts xs (t.cast s m x a p) = let k =
+    b (length xs) in cast (message_in k xs m) (type_in k ts xs a) (process_in b ts (x.word ∷ xs) p)
 process_in b ts xs (t.new s x a p) = fresh (type_in (b (length xs)) ts xs a) (process_in b ts (x.word ∷ xs) p)
 process_in b ts xs (t.stop s) = stop
 process_in b ts xs (t.group s p q) = par (process_in b ts xs p) (process_in b ts xs q)

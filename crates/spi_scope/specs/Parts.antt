@@ -24,7 +24,8 @@ abbrev mutual
   pub numbered_message : t.Msg → Message
   numbered_message (t.name s w) = unit
   numbered_message (t.unit s) = unit
-  numbered_message (t.tuple s a b ms) = nested (numbered_message a) (numbered_message b ∷ numbered_messages ms)
+  numbered_message (t.tuple s a b ms) =
+      nested (numbered_message a) (numbered_message b ∷ numbered_messages ms)
   numbered_message (t.inl s a) = in_left (numbered_message a)
   numbered_message (t.inr s a) = in_right (numbered_message a)
   numbered_message (t.enc s a b) = enc (numbered_message a) (numbered_message b)
@@ -47,9 +48,12 @@ numbered_effect (Some es) = Some (map numbered_atom es)
 -- the rule with this name. Each word of a rule names one in a formed tree
 abbrev pub every_rule : List Rule
 every_rule =
-    MsgName ∷ MsgUnit ∷ MsgUnitUn ∷ MsgPair ∷ MsgPairUn ∷ MsgInl ∷ MsgInlUn ∷ MsgInr ∷ MsgInrUn ∷ MsgEnc ∷ MsgEncUn ∷ MsgHash
-    ∷ ProcStop ∷ ProcOut ∷ ProcIn ∷ ProcRepeat ∷ ProcSplit ∷ ProcSplitUn ∷ ProcMatch ∷ ProcMatchUn ∷ ProcCase ∷ ProcCaseUn
-    ∷ ProcDecrypt ∷ ProcDecryptUn ∷ ProcCheck ∷ ProcCheckUn ∷ ProcBegin ∷ ProcEnd ∷ ProcEndMany ∷ ProcCast ∷ ProcCastUn
+    MsgName ∷ MsgUnit ∷ MsgUnitUn ∷ MsgPair ∷ MsgPairUn ∷ MsgInl ∷ MsgInlUn ∷ MsgInr ∷ MsgInrUn ∷ MsgEnc
+    ∷ MsgEncUn ∷ MsgHash
+    ∷ ProcStop ∷ ProcOut ∷ ProcIn ∷ ProcRepeat ∷ ProcSplit ∷ ProcSplitUn ∷ ProcMatch ∷ ProcMatchUn ∷ ProcCase
+    ∷ ProcCaseUn
+    ∷ ProcDecrypt ∷ ProcDecryptUn ∷ ProcCheck ∷ ProcCheckUn ∷ ProcBegin ∷ ProcEnd ∷ ProcEndMany ∷ ProcCast
+    ∷ ProcCastUn
     ∷ ProcNew ∷ ProcPar ∷ ProcSub ∷ []
 
 abbrev pub known_rule : Option Rule → Rule
@@ -62,7 +66,8 @@ rule_named w = known_rule (named every_rule w)
 -- the uses of a derivation in preorder, and where they stand
 abbrev mutual
   pub uses_in : t.Deriv → List RuleUse
-  uses_in (t.rule s w es ds) = record { rule = rule_named w.word; taken = numbered_effect es } ∷ all_uses_in ds
+  uses_in (t.rule s w es ds) =
+      record { rule = rule_named w.word; taken = numbered_effect es } ∷ all_uses_in ds
 
   pub all_uses_in : t.Derivs → List RuleUse
   all_uses_in t.no_derivs = []

@@ -30,7 +30,8 @@ pub data Point : Type 0 where
 abbrev pub fault_at : ℕ → Point → Option ScopeFault
 fault_at c (uses_name xs w) = if is_some (number_of xs w.word) then None else Some (UnknownName w.span w.word)
 fault_at c (uses_type ts w) = if is_some (type_of ts w.word) then None else Some (UnknownType w.span w.word)
-fault_at c (declares_name xs w) = if is_some (number_of xs w.word) then Some (NameTwice w.span w.word) else None
+fault_at c (declares_name xs w) =
+    if is_some (number_of xs w.word) then Some (NameTwice w.span w.word) else None
 fault_at c (declares_type ts w) = if is_some (type_of ts w.word) then Some (TypeTwice w.span w.word) else None
 fault_at c (ends_message n s) = if nat_lt 200 n then Some (MessageTooLarge s (stopped n)) else None
 fault_at c (ends_type n s) = if nat_lt 1000 n then Some (TypeTooLarge s (stopped n)) else None
@@ -176,10 +177,13 @@ process_points ts xs (t.out s m n) = messages_head xs s m n
 process_points ts xs (t.out_then s m n p) = messages_head xs s m n ⨾ one (adds 1 s) ⨾ process_points ts xs p
 process_points ts xs (t.inp s m x a p) = typed_head ts xs s m a ⨾ process_points ts (x.word ∷ xs) p
 process_points ts xs (t.repeat s m x a p) = typed_head ts xs s m a ⨾ process_points ts (x.word ∷ xs) p
-process_points ts xs (t.split s m x a y c p) = split_head ts xs s m x a c ⨾ process_points ts (y.word ∷ x.word ∷ xs) p
-process_points ts xs (t.match s m x a n y c p) = match_head ts xs s m x a n c ⨾ process_points ts (y.word ∷ xs) p
+process_points ts xs (t.split s m x a y c p) =
+    split_head ts xs s m x a c ⨾ process_points ts (y.word ∷ x.word ∷ xs) p
+process_points ts xs (t.match s m x a n y c p) =
+    match_head ts xs s m x a n c ⨾ process_points ts (y.word ∷ xs) p
 process_points ts xs (t.case s m x a p y c q) =
-    typed_head ts xs s m a ⨾ process_points ts (x.word ∷ xs) p ⨾ whole_type ts xs c ⨾ process_points ts (y.word ∷ xs) q
+    typed_head ts xs s m a ⨾ process_points ts (x.word ∷ xs) p ⨾ whole_type ts xs c
+    ⨾ process_points ts (y.word ∷ xs) q
 process_points ts xs (t.decrypt s m x a n p) = tested_head ts xs s m a n ⨾ process_points ts (x.word ∷ xs) p
 process_points ts xs (t.check s m n p) = messages_head xs s m n ⨾ process_points ts xs p
 process_points ts xs (t.begin s m p) = message_head xs s m ⨾ process_points ts xs p
@@ -213,7 +217,8 @@ names_behind xs (t.abbreviated s w a) = xs
 -- an abbreviation stands for its type with the free names declared so far
 abbrev pub types_behind : Abbreviations → Names → t.Declared → Abbreviations
 types_behind ts xs (t.free s w ws) = ts
-types_behind ts xs (t.abbreviated s w a) = ts ++ record { word = w.word; stands_for = type_in (length xs) ts xs a } ∷ []
+types_behind ts xs (t.abbreviated s w a) =
+    ts ++ record { word = w.word; stands_for = type_in (length xs) ts xs a } ∷ []
 
 -- each declaration sees those before it
 abbrev pub decls_points : Abbreviations → Names → List t.Declared → Points
@@ -274,7 +279,8 @@ derivation_points (Some d) = deriv_points d
 -- the points of a file, from its declarations on
 abbrev pub body_points : Abbreviations → Names → t.File → Points
 body_points ts xs f =
-    process_points ts xs f.process ⨾ opponent_points ts xs f.opponent ⨾ schedule_points f.schedule ⨾ derivation_points f.derivation
+    process_points ts xs f.process ⨾ opponent_points ts xs f.opponent ⨾ schedule_points f.schedule
+    ⨾ derivation_points f.derivation
 
 abbrev pub file_points : t.File → Points
 file_points f = decls_points [] [] f.decls ⨾ body_points (all_types [] [] f.decls) (all_names [] f.decls) f

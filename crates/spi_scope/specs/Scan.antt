@@ -64,11 +64,14 @@ abbrev mutual
   message_scan xs (t.name s w) = a_word w ▸ here (uses_name xs w)
   message_scan xs (t.unit s) = a_mark mark.ParenOpen ▸ a_mark mark.ParenClose
   message_scan xs (t.tuple s a b ms) =
-      a_mark mark.ParenOpen ▸ message_scan xs a ▸ a_mark mark.Comma ▸ message_scan xs b ▸ messages_scan xs ms ▸ a_mark mark.ParenClose
+      a_mark mark.ParenOpen ▸ message_scan xs a ▸ a_mark mark.Comma ▸ message_scan xs b ▸ messages_scan xs ms
+      ▸ a_mark mark.ParenClose
   message_scan xs (t.inl s a) = a_reserved word.Inl ▸ message_scan xs a
   message_scan xs (t.inr s a) = a_reserved word.Inr ▸ message_scan xs a
-  message_scan xs (t.enc s a b) = a_mark mark.BraceOpen ▸ message_scan xs a ▸ a_mark mark.BraceClose ▸ message_scan xs b
-  message_scan xs (t.hash s a) = a_reserved word.Hash ▸ a_mark mark.ParenOpen ▸ message_scan xs a ▸ a_mark mark.ParenClose
+  message_scan xs (t.enc s a b) =
+      a_mark mark.BraceOpen ▸ message_scan xs a ▸ a_mark mark.BraceClose ▸ message_scan xs b
+  message_scan xs (t.hash s a) =
+      a_reserved word.Hash ▸ a_mark mark.ParenOpen ▸ message_scan xs a ▸ a_mark mark.ParenClose
   message_scan xs (t.num s i) = a_mark mark.NumberSign ▸ a_number i
 
   pub messages_scan : Names → t.Msgs → Scan
@@ -94,7 +97,8 @@ atoms_scan xs (e ∷ es) = a_mark mark.Comma ▸ atom_scan xs e ▸ atoms_scan x
 
 abbrev pub effect_scan : Names → List t.Atom → Scan
 effect_scan xs [] = a_mark mark.BracketOpen ▸ a_mark mark.BracketClose
-effect_scan xs (e ∷ es) = a_mark mark.BracketOpen ▸ atom_scan xs e ▸ atoms_scan xs es ▸ a_mark mark.BracketClose
+effect_scan xs (e ∷ es) =
+    a_mark mark.BracketOpen ▸ atom_scan xs e ▸ atoms_scan xs es ▸ a_mark mark.BracketClose
 
 -- a type: at each identifier that stands for one, is it known? The names that a tuple binds have no point
 abbrev mutual
@@ -102,16 +106,21 @@ abbrev mutual
   type_scan ts xs (t.un s) = a_reserved word.Un
   type_scan ts xs (t.unit_ty s) = a_mark mark.ParenOpen ▸ a_mark mark.ParenClose
   type_scan ts xs (t.tuple_ty s w a fs l) =
-      a_mark mark.ParenOpen ▸ a_word w ▸ a_mark mark.Colon ▸ type_scan ts xs a ▸ a_mark mark.Comma ▸ fields_scan ts (w.word ∷ xs) fs
+      a_mark mark.ParenOpen ▸ a_word w ▸ a_mark mark.Colon ▸ type_scan ts xs a ▸ a_mark mark.Comma ▸
+      fields_scan ts (w.word ∷ xs) fs
       ▸ last_scan ts (behind (w.word ∷ xs) fs) l ▸ a_mark mark.ParenClose
-  type_scan ts xs (t.sum s a b) = a_mark mark.ParenOpen ▸ type_scan ts xs a ▸ a_mark mark.Plus ▸ type_scan ts xs b ▸ a_mark mark.ParenClose
-  type_scan ts xs (t.key s a) = a_reserved word.Key ▸ a_mark mark.ParenOpen ▸ type_scan ts xs a ▸ a_mark mark.ParenClose
+  type_scan ts xs (t.sum s a b) =
+      a_mark mark.ParenOpen ▸ type_scan ts xs a ▸ a_mark mark.Plus ▸ type_scan ts xs b ▸ a_mark
+      mark.ParenClose
+  type_scan ts xs (t.key s a) =
+      a_reserved word.Key ▸ a_mark mark.ParenOpen ▸ type_scan ts xs a ▸ a_mark mark.ParenClose
   type_scan ts xs (t.nonce s es) = a_reserved word.Nonce ▸ effect_scan xs es
   type_scan ts xs (t.abbr s w) = a_word w ▸ here (uses_type ts w)
 
   pub fields_scan : Abbreviations → Names → t.Fields → Scan
   fields_scan ts xs t.no_fields = []
-  fields_scan ts xs (t.more_fields w a fs) = a_word w ▸ a_mark mark.Colon ▸ type_scan ts xs a ▸ a_mark mark.Comma ▸ fields_scan ts (w.word ∷ xs) fs
+  fields_scan ts xs (t.more_fields w a fs) =
+      a_word w ▸ a_mark mark.Colon ▸ type_scan ts xs a ▸ a_mark mark.Comma ▸ fields_scan ts (w.word ∷ xs) fs
 
   pub last_scan : Abbreviations → Names → t.Last → Scan
   last_scan ts xs (t.bare a) = type_scan ts xs a
@@ -130,7 +139,8 @@ abbrev pub named_scan : Abbreviations → Names → SWord → t.Ty → Scan
 named_scan ts xs w a = a_word w ▸ a_mark mark.Colon ▸ whole_type_scan ts xs a
 
 abbrev pub binder_scan : Abbreviations → Names → SWord → t.Ty → Scan
-binder_scan ts xs w a = a_mark mark.ParenOpen ▸ named_scan ts xs w a ▸ a_mark mark.ParenClose ▸ a_mark mark.Semicolon
+binder_scan ts xs w a =
+    a_mark mark.ParenOpen ▸ named_scan ts xs w a ▸ a_mark mark.ParenClose ▸ a_mark mark.Semicolon
 
 -- the first token of a process form: the form adds 1
 abbrev pub form : Span → Reserved → Scan
@@ -143,30 +153,48 @@ composition s m = a_mark m ▸ here (adds 1 s)
 abbrev pub process_scan : Abbreviations → Names → t.Proc → Scan
 process_scan ts xs (t.par s p q) = process_scan ts xs p ▸ composition s mark.Bar ▸ process_scan ts xs q
 process_scan ts xs (t.out s m n) = form s word.Out ▸ part_scan xs m ▸ part_scan xs n
-process_scan ts xs (t.out_then s m n p) = form s word.Out ▸ part_scan xs m ▸ part_scan xs n ▸ composition s mark.Semicolon ▸ process_scan ts xs p
-process_scan ts xs (t.inp s m x a p) = form s word.Inp ▸ part_scan xs m ▸ binder_scan ts xs x a ▸ process_scan ts (x.word ∷ xs) p
-process_scan ts xs (t.repeat s m x a p) = form s word.Repeat ▸ a_reserved word.Inp ▸ part_scan xs m ▸ binder_scan ts xs x a ▸ process_scan ts (x.word ∷ xs) p
+process_scan ts xs (t.out_then s m n p) =
+    form s word.Out ▸ part_scan xs m ▸ part_scan xs n ▸ composition s mark.Semicolon ▸ process_scan ts xs p
+process_scan ts xs (t.inp s m x a p) =
+    form s word.Inp ▸ part_scan xs m ▸ binder_scan ts xs x a ▸ process_scan ts (x.word ∷ xs) p
+process_scan ts xs (t.repeat s m x a p) =
+    form s word.Repeat ▸ a_reserved word.Inp ▸ part_scan xs m ▸ binder_scan ts xs x a ▸ process_scan ts
+    (x.word ∷ xs) p
 process_scan ts xs (t.split s m x a y c p) =
-    form s word.Split ▸ part_scan xs m ▸ a_reserved word.Is ▸ a_mark mark.ParenOpen ▸ named_scan ts xs x a ▸ a_mark mark.Comma
-    ▸ named_scan ts (x.word ∷ xs) y c ▸ a_mark mark.ParenClose ▸ a_mark mark.Semicolon ▸ process_scan ts (y.word ∷ x.word ∷ xs) p
+    form s word.Split ▸ part_scan xs m ▸ a_reserved word.Is ▸ a_mark mark.ParenOpen ▸ named_scan ts xs x a ▸
+    a_mark mark.Comma
+    ▸ named_scan ts (x.word ∷ xs) y c ▸ a_mark mark.ParenClose ▸ a_mark mark.Semicolon ▸ process_scan ts
+    (y.word ∷ x.word ∷ xs) p
 process_scan ts xs (t.match s m x a n y c p) =
-    form s word.Match ▸ part_scan xs m ▸ a_reserved word.Is ▸ a_mark mark.ParenOpen ▸ named_scan ts xs x a ▸ a_mark mark.Equals ▸ part_scan xs n
-    ▸ a_mark mark.Comma ▸ named_scan ts (x.word ∷ xs) y c ▸ a_mark mark.ParenClose ▸ a_mark mark.Semicolon ▸ process_scan ts (y.word ∷ xs) p
+    form s word.Match ▸ part_scan xs m ▸ a_reserved word.Is ▸ a_mark mark.ParenOpen ▸ named_scan ts xs x a ▸
+    a_mark mark.Equals ▸ part_scan xs n
+    ▸ a_mark mark.Comma ▸ named_scan ts (x.word ∷ xs) y c ▸ a_mark mark.ParenClose ▸ a_mark mark.Semicolon ▸
+    process_scan ts (y.word ∷ xs) p
 process_scan ts xs (t.case s m x a p y c q) =
-    form s word.Case ▸ part_scan xs m ▸ a_reserved word.Is ▸ a_reserved word.Inl ▸ binder_scan ts xs x a ▸ process_scan ts (x.word ∷ xs) p
+    form s word.Case ▸ part_scan xs m ▸ a_reserved word.Is ▸ a_reserved word.Inl ▸ binder_scan ts xs x a ▸
+    process_scan ts (x.word ∷ xs) p
     ▸ a_reserved word.Is ▸ a_reserved word.Inr ▸ binder_scan ts xs y c ▸ process_scan ts (y.word ∷ xs) q
 process_scan ts xs (t.decrypt s m x a n p) =
-    form s word.Decrypt ▸ part_scan xs m ▸ a_reserved word.Is ▸ a_mark mark.BraceOpen ▸ named_scan ts xs x a ▸ a_mark mark.BraceClose ▸ part_scan xs n
+    form s word.Decrypt ▸ part_scan xs m ▸ a_reserved word.Is ▸ a_mark mark.BraceOpen ▸ named_scan ts xs x a ▸
+    a_mark mark.BraceClose ▸ part_scan xs n
     ▸ a_mark mark.Semicolon ▸ process_scan ts (x.word ∷ xs) p
-process_scan ts xs (t.check s m n p) = form s word.Check ▸ part_scan xs m ▸ a_reserved word.Is ▸ part_scan xs n ▸ a_mark mark.Semicolon ▸ process_scan ts xs p
-process_scan ts xs (t.begin s m p) = form s word.Begin ▸ part_scan xs m ▸ a_mark mark.Semicolon ▸ process_scan ts xs p
-process_scan ts xs (t.end s m p) = form s word.End ▸ part_scan xs m ▸ a_mark mark.Semicolon ▸ process_scan ts xs p
-process_scan ts xs (t.end_many s m p) = form s word.EndMany ▸ part_scan xs m ▸ a_mark mark.Semicolon ▸ process_scan ts xs p
-process_scan ts xs (t.cast s m x a p) = form s word.Cast ▸ part_scan xs m ▸ a_reserved word.Is ▸ binder_scan ts xs x a ▸ process_scan ts (x.word ∷ xs) p
+process_scan ts xs (t.check s m n p) =
+    form s word.Check ▸ part_scan xs m ▸ a_reserved word.Is ▸ part_scan xs n ▸ a_mark mark.Semicolon ▸
+    process_scan ts xs p
+process_scan ts xs (t.begin s m p) =
+    form s word.Begin ▸ part_scan xs m ▸ a_mark mark.Semicolon ▸ process_scan ts xs p
+process_scan ts xs (t.end s m p) =
+    form s word.End ▸ part_scan xs m ▸ a_mark mark.Semicolon ▸ process_scan ts xs p
+process_scan ts xs (t.end_many s m p) =
+    form s word.EndMany ▸ part_scan xs m ▸ a_mark mark.Semicolon ▸ process_scan ts xs p
+process_scan ts xs (t.cast s m x a p) =
+    form s word.Cast ▸ part_scan xs m ▸ a_reserved word.Is ▸ binder_scan ts xs x a ▸ process_scan ts
+    (x.word ∷ xs) p
 process_scan ts xs (t.new s x a p) = form s word.New ▸ binder_scan ts xs x a ▸ process_scan ts (x.word ∷ xs) p
 process_scan ts xs (t.stop s) = form s word.Stop
 process_scan ts xs (t.group s p q) =
-    a_mark mark.ParenOpen ▸ process_scan ts xs p ▸ composition s mark.Bar ▸ process_scan ts xs q ▸ a_mark mark.ParenClose
+    a_mark mark.ParenOpen ▸ process_scan ts xs p ▸ composition s mark.Bar ▸ process_scan ts xs q ▸ a_mark
+    mark.ParenClose
 
 -- the identifier of a free name: was it declared before? It adds 1
 abbrev pub free_scan : Names → SWord → Scan
@@ -178,9 +206,11 @@ frees_scan xs (w ∷ ws) = a_mark mark.Comma ▸ free_scan xs w ▸ frees_scan (
 
 -- and the identifier of an abbreviation: was it declared before?
 abbrev pub decl_scan : Abbreviations → Names → t.Declared → Scan
-decl_scan ts xs (t.free s w ws) = a_reserved word.Free ▸ free_scan xs w ▸ frees_scan (w.word ∷ xs) ws ▸ a_mark mark.Semicolon
+decl_scan ts xs (t.free s w ws) =
+    a_reserved word.Free ▸ free_scan xs w ▸ frees_scan (w.word ∷ xs) ws ▸ a_mark mark.Semicolon
 decl_scan ts xs (t.abbreviated s w a) =
-    a_reserved word.TypeWord ▸ a_word w ▸ here (declares_type ts w) ▸ a_mark mark.Equals ▸ whole_type_scan ts xs a ▸ a_mark mark.Semicolon
+    a_reserved word.TypeWord ▸ a_word w ▸ here (declares_type ts w) ▸ a_mark mark.Equals ▸ whole_type_scan ts
+    xs a ▸ a_mark mark.Semicolon
 
 abbrev pub decls_scan : Abbreviations → Names → List t.Declared → Scan
 decls_scan ts xs [] = []
@@ -188,8 +218,11 @@ decls_scan ts xs (d ∷ ds) = decl_scan ts xs d ▸ decls_scan (types_behind ts 
 
 -- the first token of the step with the number i, of n steps: are there too many?
 abbrev pub step_scan : ℕ → ℕ → t.Step → Scan
-step_scan i n (t.act s k) = a_token (kinds.Word (codes "act")) ▸ here (starts_step i n s) ▸ a_number k ▸ a_mark mark.Semicolon
-step_scan i n (t.talk s k l) = a_token (kinds.Word (codes "talk")) ▸ here (starts_step i n s) ▸ a_number k ▸ a_number l ▸ a_mark mark.Semicolon
+step_scan i n (t.act s k) =
+    a_token (kinds.Word (codes "act")) ▸ here (starts_step i n s) ▸ a_number k ▸ a_mark mark.Semicolon
+step_scan i n (t.talk s k l) =
+    a_token (kinds.Word (codes "talk")) ▸ here (starts_step i n s) ▸ a_number k ▸ a_number l ▸ a_mark
+    mark.Semicolon
 
 abbrev pub steps_scan : ℕ → ℕ → List t.Step → Scan
 steps_scan i n [] = []
@@ -197,7 +230,9 @@ steps_scan i n (x ∷ xs) = step_scan i n x ▸ steps_scan (i + 1) n xs
 
 -- a message of a derivation: at its last token, is it too large? It isn't counted
 abbrev pub numbered_scan : t.Msg → Scan
-numbered_scan m = map token (kinds_in (msg_pieces 1 m [])) ▸ here (ends_message (message_size (numbered_message m)) (msg_span m))
+numbered_scan m =
+    map token (kinds_in (msg_pieces 1 m [])) ▸ here
+    (ends_message (message_size (numbered_message m)) (msg_span m))
 
 abbrev pub numbered_atom_scan : t.Atom → Scan
 numbered_atom_scan (t.ends s m) = a_reserved word.End ▸ numbered_scan m
@@ -211,7 +246,8 @@ numbered_atoms_scan (e ∷ es) = a_mark mark.Comma ▸ numbered_atom_scan e ▸ 
 abbrev pub written_scan : Option (List t.Atom) → Scan
 written_scan None = []
 written_scan (Some []) = a_mark mark.BracketOpen ▸ a_mark mark.BracketClose
-written_scan (Some (e ∷ es)) = a_mark mark.BracketOpen ▸ numbered_atom_scan e ▸ numbered_atoms_scan es ▸ a_mark mark.BracketClose
+written_scan (Some (e ∷ es)) =
+    a_mark mark.BracketOpen ▸ numbered_atom_scan e ▸ numbered_atoms_scan es ▸ a_mark mark.BracketClose
 
 abbrev mutual
   pub deriv_scan : t.Deriv → Scan
@@ -223,7 +259,8 @@ abbrev mutual
 
 -- the parts of a file, each present or absent
 abbrev pub version_scan : ℕ → Scan
-version_scan v = if v == 2 then a_token (kinds.Word (codes "version")) ▸ a_number 2 ▸ a_mark mark.Semicolon else []
+version_scan v =
+    if v == 2 then a_token (kinds.Word (codes "version")) ▸ a_number 2 ▸ a_mark mark.Semicolon else []
 
 abbrev pub opponent_scan : Abbreviations → Names → Option t.Proc → Scan
 opponent_scan ts xs None = []
@@ -239,7 +276,10 @@ derivation_scan (Some d) = a_reserved word.Derivation ▸ deriv_scan d
 
 abbrev pub body_scan : Abbreviations → Names → t.File → Scan
 body_scan ts xs f =
-    a_reserved word.Process ▸ process_scan ts xs f.process ▸ opponent_scan ts xs f.opponent ▸ schedule_scan f.schedule ▸ derivation_scan f.derivation
+    a_reserved word.Process ▸ process_scan ts xs f.process ▸ opponent_scan ts xs f.opponent ▸ schedule_scan
+    f.schedule ▸ derivation_scan f.derivation
 
 abbrev pub file_scan : t.File → Scan
-file_scan f = version_scan f.version ▸ decls_scan [] [] f.decls ▸ body_scan (all_types [] [] f.decls) (all_names [] f.decls) f
+file_scan f =
+    version_scan f.version ▸ decls_scan [] [] f.decls ▸ body_scan (all_types [] [] f.decls)
+    (all_names [] f.decls) f

@@ -42,6 +42,7 @@ pub record StandsFor (tree : t.File) (file : Meant) : Type 0 where
   pub version : file.version ≡ tree.version
   pub names : file.names ≡ reverse (all_names [] tree.decls)
   pub process : file.process ≡ over_free (all_types [] [] tree.decls) (all_names [] tree.decls) tree.process
-  pub opponent : file.opponent ≡ opponent_over (all_types [] [] tree.decls) (all_names [] tree.decls) tree.opponent
+  pub opponent : file.opponent
+      ≡ opponent_over (all_types [] [] tree.decls) (all_names [] tree.decls) tree.opponent
   pub schedule : file.schedule ≡ schedule_in tree.schedule
   pub derivation : file.derivation ≡ derivation_in tree.derivation

@@ -18,7 +18,8 @@ coded_names = coded_list (coded_list coded_ℕ)
 
 abbrev pub coded_naming : Coded Naming
 coded_naming =
-    code_by (Names × List Names) (coded× coded_names (coded_list coded_names)) (λ s. (s.names, s.noted)) (λ p. record { names = p.0; noted = p.1 }) (λ _. Rattle.std.specs.Prelude.refl)
+    code_by (Names × List Names) (coded× coded_names (coded_list coded_names)) (λ s. (s.names, s.noted))
+    (λ p. record { names = p.0; noted = p.1 }) (λ _. Rattle.std.specs.Prelude.refl)
 
 -- other names in scope
 abbrev pub with_names : Naming → Names → Naming

@@ -38,7 +38,8 @@ pub fn push(
     form: Form,
     place: Span,
 ) -> Result<(), ScopeFault>
-    ensures nodes { OnOk result (map shape_of arena.new.nodes.items ≡ map shape_of arena.old.nodes.items ++ form_of base form ∷ []) }
+    ensures nodes { OnOk result
+        (map shape_of arena.new.nodes.items ≡ map shape_of arena.old.nodes.items ++ form_of base form ∷ []) }
     ensures len { OnOk result (length arena.new.nodes.items ≡ length arena.old.nodes.items + 1) }
     ensures places { OnOk result (arena.new.places.items ≡ arena.old.places.items ++ place ∷ []) }
     ensures names { OnOk result (scope.new.held.names ≡ scope.old.held.names) }
@@ -63,7 +64,8 @@ pub fn put<T: Drop>(place: &mut T, value: T)
 /// The node of a composition is written when the place of its second process is known.
 pub fn close(arena: &mut Arena, at: usize, base: u32, form: Form)
     requires { at < length arena.old.nodes.items }
-    ensures nodes { map shape_of arena.new.nodes.items ≡ slice_set (map shape_of arena.old.nodes.items) at (form_of base form) }
+    ensures nodes { map shape_of arena.new.nodes.items
+        ≡ slice_set (map shape_of arena.old.nodes.items) at (form_of base form) }
     ensures places { arena.new.places ≡ arena.old.places }
     ensures len { length arena.new.nodes.items ≡ length arena.old.nodes.items }
 {

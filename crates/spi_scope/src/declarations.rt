@@ -17,7 +17,8 @@ use std::alloc::Global;
 /// One more free name.
 fn declare_name<'t>(alloc: Global, scope: &mut Scope<'t>, word: &'t SWord) -> Result<(), ScopeFault>
     requires few { scope.old.count ≤ 100000 }
-    ensures gives { Goes result (run (free_point scope.old.held.names word.entry.now) scope.old.count) scope.new.count }
+    ensures gives { Goes result (run (free_point scope.old.held.names word.entry.now) scope.old.count)
+        scope.new.count }
     ensures names { OnOk result (scope.new.held.names ≡ word.entry.now.word ∷ scope.old.held.names) }
     ensures noted { OnOk result (scope.new.held.noted ≡ scope.old.held.noted) }
     ensures types { OnOk result (scope.new.types ≡ scope.old.types) }
@@ -42,7 +43,8 @@ fn declare_more<'t>(
     more: &'t [SWord],
 ) -> Result<(), ScopeFault>
     requires few { scope.old.count ≤ 100000 }
-    ensures gives { Goes result (run (free_points scope.old.held.names more.entry.now) scope.old.count) scope.new.count }
+    ensures gives { Goes result (run (free_points scope.old.held.names more.entry.now) scope.old.count)
+        scope.new.count }
     ensures names { OnOk result (scope.new.held.names ≡ with_free scope.old.held.names more.entry.now) }
     ensures noted { OnOk result (scope.new.held.noted ≡ scope.old.held.noted) }
     ensures types { OnOk result (scope.new.types ≡ scope.old.types) }
@@ -62,9 +64,19 @@ fn declare_type<'t>(
     ty: &'t STy,
 ) -> Result<(), ScopeFault>
     requires few { scope.old.count ≤ 100000 }
-    ensures gives { Goes result (run (one (declares_type (abbreviations scope.old.types) word.entry.now) ⨾ whole_type (abbreviations scope.old.types) scope.old.held.names (ty_of ty.entry.now)) scope.old.count) scope.new.count }
+    ensures gives { Goes result
+        (run (one (declares_type (abbreviations scope.old.types) word.entry.now)
+        ⨾ whole_type (abbreviations scope.old.types) scope.old.held.names (ty_of ty.entry.now))
+        scope.old.count) scope.new.count }
     ensures held { OnOk result (scope.new.held ≡ scope.old.held) }
-    ensures types { OnOk result (abbreviations scope.new.types ≡ abbreviations scope.old.types ++ record { word = word.entry.now.word; stands_for = type_in (length scope.old.held.names) (abbreviations scope.old.types) scope.old.held.names (ty_of ty.entry.now) } ∷ []) }
+    ensures types { OnOk result
+        (abbreviations scope.new.types ≡ abbreviations scope.old.types
+        ++ record {
+          word = word.entry.now.word;
+          stands_for =
+              type_in (length scope.old.held.names) (abbreviations scope.old.types) scope.old.held.names
+              (ty_of ty.entry.now);
+        } ∷ []) }
     ensures few { OnOk result (scope.new.count ≤ 100000) }
 {
     let text = word.word.as_str();
@@ -85,10 +97,15 @@ fn declare_type<'t>(
 /// One more declaration.
 fn declare<'t>(alloc: Global, scope: &mut Scope<'t>, decl: &'t Decl) -> Result<(), ScopeFault>
     requires few { scope.old.count ≤ 100000 }
-    ensures gives { Goes result (run (decl_points (abbreviations scope.old.types) scope.old.held.names (decl_of decl.entry.now)) scope.old.count) scope.new.count }
-    ensures names { OnOk result (scope.new.held.names ≡ names_behind scope.old.held.names (decl_of decl.entry.now)) }
+    ensures gives { Goes result
+        (run (decl_points (abbreviations scope.old.types) scope.old.held.names (decl_of decl.entry.now))
+        scope.old.count) scope.new.count }
+    ensures names { OnOk result
+        (scope.new.held.names ≡ names_behind scope.old.held.names (decl_of decl.entry.now)) }
     ensures noted { OnOk result (scope.new.held.noted ≡ scope.old.held.noted) }
-    ensures types { OnOk result (abbreviations scope.new.types ≡ types_behind (abbreviations scope.old.types) scope.old.held.names (decl_of decl.entry.now)) }
+    ensures types { OnOk result
+        (abbreviations scope.new.types
+        ≡ types_behind (abbreviations scope.old.types) scope.old.held.names (decl_of decl.entry.now)) }
     ensures few { OnOk result (scope.new.count ≤ 100000) }
 {
     match decl {
@@ -107,10 +124,15 @@ pub fn declare_all<'t>(
     decls: &'t [Decl],
 ) -> Result<(), ScopeFault>
     requires few { scope.old.count ≤ 100000 }
-    ensures gives { Goes result (run (decls_points (abbreviations scope.old.types) scope.old.held.names (map decl_of decls.entry.now)) scope.old.count) scope.new.count }
-    ensures names { OnOk result (scope.new.held.names ≡ all_names scope.old.held.names (map decl_of decls.entry.now)) }
+    ensures gives { Goes result
+        (run (decls_points (abbreviations scope.old.types) scope.old.held.names (map decl_of decls.entry.now))
+        scope.old.count) scope.new.count }
+    ensures names { OnOk result
+        (scope.new.held.names ≡ all_names scope.old.held.names (map decl_of decls.entry.now)) }
     ensures noted { OnOk result (scope.new.held.noted ≡ scope.old.held.noted) }
-    ensures types { OnOk result (abbreviations scope.new.types ≡ all_types (abbreviations scope.old.types) scope.old.held.names (map decl_of decls.entry.now)) }
+    ensures types { OnOk result
+        (abbreviations scope.new.types
+        ≡ all_types (abbreviations scope.old.types) scope.old.held.names (map decl_of decls.entry.now)) }
     ensures few { OnOk result (scope.new.count ≤ 100000) }
 {
     for decl in decls {

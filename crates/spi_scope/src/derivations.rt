@@ -35,7 +35,8 @@ fn boxed(alloc: Global, read: Result<(Msg, u64), NoMemory>) -> Result<(Box<Msg>,
 /// means nothing.
 #[cycle(numbered)]
 fn read_numbered(alloc: Global, spent: u64, m: &SMsg) -> Result<(Msg, u64), NoMemory>
-    ensures counted { IfOk result (λ x. x.1 ≡ stopped (spent + message_size (numbered_message (msg_of m.now)))) }
+    ensures counted { IfOk result
+        (λ x. x.1 ≡ stopped (spent + message_size (numbered_message (msg_of m.now)))) }
     ensures read { IfOk result (λ x. x.1 ≤ 1000 → message x.0 ≡ numbered_message (msg_of m.now)) }
 {
     match m {
@@ -81,8 +82,10 @@ fn read_numbered(alloc: Global, spent: u64, m: &SMsg) -> Result<(Msg, u64), NoMe
 /// The components of a tuple but the first two, with their nodes and those of the pairs counted on.
 #[cycle(numbered)]
 fn read_all_numbered(alloc: Global, spent: u64, ms: &[SMsg]) -> Result<(Vec<Msg>, u64), NoMemory>
-    ensures counted { IfOk result (λ x. x.1 ≡ stopped (spent + row_nodes (numbered_messages (msgs_of_list (map msg_of ms.now))))) }
-    ensures read { IfOk result (λ x. x.1 ≤ 1000 → map message x.0.items ≡ numbered_messages (msgs_of_list (map msg_of ms.now))) }
+    ensures counted { IfOk result
+        (λ x. x.1 ≡ stopped (spent + row_nodes (numbered_messages (msgs_of_list (map msg_of ms.now))))) }
+    ensures read { IfOk result
+        (λ x. x.1 ≤ 1000 → map message x.0.items ≡ numbered_messages (msgs_of_list (map msg_of ms.now))) }
 {
     let mut read = Vec::new(alloc);
     let mut total = spent;
@@ -96,7 +99,8 @@ fn read_all_numbered(alloc: Global, spent: u64, ms: &[SMsg]) -> Result<(Vec<Msg>
 
 /// The message of an atom: of 200 nodes at most.
 fn read_small(alloc: Global, count: u64, m: &SMsg) -> Result<Msg, ScopeFault>
-    ensures { Gives message result (run (numbered_points (msg_of m.now)) count) count (numbered_message (msg_of m.now)) }
+    ensures { Gives message result (run (numbered_points (msg_of m.now)) count) count
+        (numbered_message (msg_of m.now)) }
 {
     let span = message_place(m);
     let (read, nodes) = read_numbered(alloc, 0, m)?;
@@ -107,7 +111,8 @@ fn read_small(alloc: Global, count: u64, m: &SMsg) -> Result<Msg, ScopeFault>
 }
 
 fn read_atom(alloc: Global, count: u64, a: &SAtom) -> Result<Atom, ScopeFault>
-    ensures { Gives atom result (run (numbered_atom_points (atom_of a.now)) count) count (numbered_atom (atom_of a.now)) }
+    ensures { Gives atom result (run (numbered_atom_points (atom_of a.now)) count) count
+        (numbered_atom (atom_of a.now)) }
 {
     match a {
         SAtom::End { label, .. } => Ok(Atom::End(read_small(alloc, count, label)?)),
@@ -117,7 +122,8 @@ fn read_atom(alloc: Global, count: u64, a: &SAtom) -> Result<Atom, ScopeFault>
 }
 
 fn read_atoms(alloc: Global, count: u64, es: &[SAtom]) -> Result<Vec<Atom>, ScopeFault>
-    ensures { Gives (λ v. map atom v.items) result (run (numbered_atoms_points (map atom_of es.now)) count) count (map numbered_atom (map atom_of es.now)) }
+    ensures { Gives (λ v. map atom v.items) result (run (numbered_atoms_points (map atom_of es.now)) count)
+        count (map numbered_atom (map atom_of es.now)) }
 {
     let mut read = Vec::new(alloc);
     for a in es {
@@ -133,7 +139,8 @@ fn read_written(
     count: u64,
     effect: &Option<Vec<SAtom>>,
 ) -> Result<Option<Effect>, ScopeFault>
-    ensures { Gives written result (run (written_points (effect_of effect.now)) count) count (numbered_effect (effect_of effect.now)) }
+    ensures { Gives written result (run (written_points (effect_of effect.now)) count) count
+        (numbered_effect (effect_of effect.now)) }
 {
     match effect {
         None => Ok(None),
@@ -170,8 +177,10 @@ pub fn read_derivation(
     d: &SDeriv,
 ) -> Result<(), ScopeFault>
     ensures gives { Goes result (run (deriv_points (deriv_of d.now)) count) count }
-    ensures uses { OnOk result (map rule_use uses.new.uses.items ≡ map rule_use uses.old.uses.items ++ uses_in (deriv_of d.now)) }
-    ensures places { OnOk result (uses.new.places.items ≡ uses.old.places.items ++ use_places (deriv_of d.now)) }
+    ensures uses { OnOk result
+        (map rule_use uses.new.uses.items ≡ map rule_use uses.old.uses.items ++ uses_in (deriv_of d.now)) }
+    ensures places { OnOk result
+        (uses.new.places.items ≡ uses.old.places.items ++ use_places (deriv_of d.now)) }
 {
     let rule = rule_of(d.rule.word.as_str());
     let taken = read_written(alloc, count, &d.effect)?;
@@ -189,8 +198,12 @@ fn read_premises(
     ds: &[SDeriv],
 ) -> Result<(), ScopeFault>
     ensures gives { Goes result (run (derivs_points (derivs_of_list (map deriv_of ds.now))) count) count }
-    ensures uses { OnOk result (map rule_use uses.new.uses.items ≡ map rule_use uses.old.uses.items ++ all_uses_in (derivs_of_list (map deriv_of ds.now))) }
-    ensures places { OnOk result (uses.new.places.items ≡ uses.old.places.items ++ all_use_places (derivs_of_list (map deriv_of ds.now))) }
+    ensures uses { OnOk result
+        (map rule_use uses.new.uses.items ≡ map rule_use uses.old.uses.items
+        ++ all_uses_in (derivs_of_list (map deriv_of ds.now))) }
+    ensures places { OnOk result
+        (uses.new.places.items ≡ uses.old.places.items
+        ++ all_use_places (derivs_of_list (map deriv_of ds.now))) }
 {
     for d in ds {
         read_derivation(alloc, count, uses, d)?;

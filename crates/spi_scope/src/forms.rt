@@ -33,12 +33,21 @@ pub fn receive<'t>(
     ty: &'t STy,
 ) -> Result<(), ScopeFault>
     requires few { scope.old.count ≤ 100000 }
-    ensures gives { Leads result (run (typed_head (abbreviations scope.old.types) scope.old.held.names span (msg_of channel.now) (ty_of ty.entry.now)) scope.old.count) scope.new.count }
-    ensures nodes { OnOk result (map shape_of arena.new.nodes.items ≡ map shape_of arena.old.nodes.items ++ prefix_at (length scope.old.held.names) (Recvs (message_in (length scope.old.held.names) scope.old.held.names (msg_of channel.now)) (type_in (length scope.old.held.names) (abbreviations scope.old.types) scope.old.held.names (ty_of ty.entry.now))) (suc (length arena.old.nodes.items)) ∷ []) }
+    ensures gives { Leads result
+        (run (typed_head (abbreviations scope.old.types) scope.old.held.names span (msg_of channel.now)
+        (ty_of ty.entry.now)) scope.old.count) scope.new.count }
+    ensures nodes { OnOk result
+        (map shape_of arena.new.nodes.items ≡ map shape_of arena.old.nodes.items
+        ++ prefix_at (length scope.old.held.names)
+        (Recvs (message_in (length scope.old.held.names) scope.old.held.names (msg_of channel.now))
+        (type_in (length scope.old.held.names) (abbreviations scope.old.types) scope.old.held.names
+        (ty_of ty.entry.now))) (suc (length arena.old.nodes.items)) ∷ []) }
     ensures len { OnOk result (length arena.new.nodes.items ≡ length arena.old.nodes.items + 1) }
     ensures places { OnOk result (arena.new.places.items ≡ arena.old.places.items ++ span ∷ []) }
     ensures noted { OnOk result (scope.new.held.noted ≡ scope.old.held.noted ++ scope.old.held.names ∷ []) }
-    ensures kept { OnOk result ((scope.new.held.names ≡ scope.old.held.names) × (scope.new.types ≡ scope.old.types) × (scope.new.count ≤ 100000)) }
+    ensures kept { OnOk result
+        ((scope.new.held.names ≡ scope.old.held.names) × (scope.new.types ≡ scope.old.types)
+        × (scope.new.count ≤ 100000)) }
 {
     let base = scope.held.len();
     let body = here(arena)? + 1;
@@ -56,12 +65,21 @@ pub fn serve<'t>(
     ty: &'t STy,
 ) -> Result<(), ScopeFault>
     requires few { scope.old.count ≤ 100000 }
-    ensures gives { Leads result (run (typed_head (abbreviations scope.old.types) scope.old.held.names span (msg_of channel.now) (ty_of ty.entry.now)) scope.old.count) scope.new.count }
-    ensures nodes { OnOk result (map shape_of arena.new.nodes.items ≡ map shape_of arena.old.nodes.items ++ prefix_at (length scope.old.held.names) (Serves (message_in (length scope.old.held.names) scope.old.held.names (msg_of channel.now)) (type_in (length scope.old.held.names) (abbreviations scope.old.types) scope.old.held.names (ty_of ty.entry.now))) (suc (length arena.old.nodes.items)) ∷ []) }
+    ensures gives { Leads result
+        (run (typed_head (abbreviations scope.old.types) scope.old.held.names span (msg_of channel.now)
+        (ty_of ty.entry.now)) scope.old.count) scope.new.count }
+    ensures nodes { OnOk result
+        (map shape_of arena.new.nodes.items ≡ map shape_of arena.old.nodes.items
+        ++ prefix_at (length scope.old.held.names)
+        (Serves (message_in (length scope.old.held.names) scope.old.held.names (msg_of channel.now))
+        (type_in (length scope.old.held.names) (abbreviations scope.old.types) scope.old.held.names
+        (ty_of ty.entry.now))) (suc (length arena.old.nodes.items)) ∷ []) }
     ensures len { OnOk result (length arena.new.nodes.items ≡ length arena.old.nodes.items + 1) }
     ensures places { OnOk result (arena.new.places.items ≡ arena.old.places.items ++ span ∷ []) }
     ensures noted { OnOk result (scope.new.held.noted ≡ scope.old.held.noted ++ scope.old.held.names ∷ []) }
-    ensures kept { OnOk result ((scope.new.held.names ≡ scope.old.held.names) × (scope.new.types ≡ scope.old.types) × (scope.new.count ≤ 100000)) }
+    ensures kept { OnOk result
+        ((scope.new.held.names ≡ scope.old.held.names) × (scope.new.types ≡ scope.old.types)
+        × (scope.new.count ≤ 100000)) }
 {
     let base = scope.held.len();
     let body = here(arena)? + 1;
@@ -82,12 +100,24 @@ pub fn split<'t>(
     right: &'t STy,
 ) -> Result<(), ScopeFault>
     requires few { scope.old.count ≤ 100000 }
-    ensures gives { Leads result (run (split_head (abbreviations scope.old.types) scope.old.held.names span (msg_of whole.now) name.entry.now (ty_of left.entry.now) (ty_of right.entry.now)) scope.old.count) scope.new.count }
-    ensures nodes { OnOk result (map shape_of arena.new.nodes.items ≡ map shape_of arena.old.nodes.items ++ prefix_at (length scope.old.held.names) (Splits (message_in (length scope.old.held.names) scope.old.held.names (msg_of whole.now)) (type_in (length scope.old.held.names) (abbreviations scope.old.types) scope.old.held.names (ty_of left.entry.now)) (type_in (length scope.old.held.names) (abbreviations scope.old.types) (name.entry.now.word ∷ scope.old.held.names) (ty_of right.entry.now))) (suc (length arena.old.nodes.items)) ∷ []) }
+    ensures gives { Leads result
+        (run (split_head (abbreviations scope.old.types) scope.old.held.names span (msg_of whole.now)
+        name.entry.now (ty_of left.entry.now) (ty_of right.entry.now)) scope.old.count) scope.new.count }
+    ensures nodes { OnOk result
+        (map shape_of arena.new.nodes.items ≡ map shape_of arena.old.nodes.items
+        ++ prefix_at (length scope.old.held.names)
+        (Splits (message_in (length scope.old.held.names) scope.old.held.names (msg_of whole.now))
+        (type_in (length scope.old.held.names) (abbreviations scope.old.types) scope.old.held.names
+        (ty_of left.entry.now))
+        (type_in (length scope.old.held.names) (abbreviations scope.old.types)
+        (name.entry.now.word ∷ scope.old.held.names) (ty_of right.entry.now)))
+        (suc (length arena.old.nodes.items)) ∷ []) }
     ensures len { OnOk result (length arena.new.nodes.items ≡ length arena.old.nodes.items + 1) }
     ensures places { OnOk result (arena.new.places.items ≡ arena.old.places.items ++ span ∷ []) }
     ensures noted { OnOk result (scope.new.held.noted ≡ scope.old.held.noted ++ scope.old.held.names ∷ []) }
-    ensures kept { OnOk result ((scope.new.held.names ≡ scope.old.held.names) × (scope.new.types ≡ scope.old.types) × (scope.new.count ≤ 100000)) }
+    ensures kept { OnOk result
+        ((scope.new.held.names ≡ scope.old.held.names) × (scope.new.types ≡ scope.old.types)
+        × (scope.new.count ≤ 100000)) }
 {
     let base = scope.held.len();
     let body = here(arena)? + 1;
@@ -123,12 +153,26 @@ pub fn select<'t>(
     right: &'t STy,
 ) -> Result<(), ScopeFault>
     requires few { scope.old.count ≤ 100000 }
-    ensures gives { Leads result (run (match_head (abbreviations scope.old.types) scope.old.held.names span (msg_of whole.now) name.entry.now (ty_of left.entry.now) (msg_of equal.now) (ty_of right.entry.now)) scope.old.count) scope.new.count }
-    ensures nodes { OnOk result (map shape_of arena.new.nodes.items ≡ map shape_of arena.old.nodes.items ++ prefix_at (length scope.old.held.names) (Selects (message_in (length scope.old.held.names) scope.old.held.names (msg_of whole.now)) (type_in (length scope.old.held.names) (abbreviations scope.old.types) scope.old.held.names (ty_of left.entry.now)) (message_in (length scope.old.held.names) scope.old.held.names (msg_of equal.now)) (type_in (length scope.old.held.names) (abbreviations scope.old.types) (name.entry.now.word ∷ scope.old.held.names) (ty_of right.entry.now))) (suc (length arena.old.nodes.items)) ∷ []) }
+    ensures gives { Leads result
+        (run (match_head (abbreviations scope.old.types) scope.old.held.names span (msg_of whole.now)
+        name.entry.now (ty_of left.entry.now) (msg_of equal.now) (ty_of right.entry.now)) scope.old.count)
+        scope.new.count }
+    ensures nodes { OnOk result
+        (map shape_of arena.new.nodes.items ≡ map shape_of arena.old.nodes.items
+        ++ prefix_at (length scope.old.held.names)
+        (Selects (message_in (length scope.old.held.names) scope.old.held.names (msg_of whole.now))
+        (type_in (length scope.old.held.names) (abbreviations scope.old.types) scope.old.held.names
+        (ty_of left.entry.now))
+        (message_in (length scope.old.held.names) scope.old.held.names (msg_of equal.now))
+        (type_in (length scope.old.held.names) (abbreviations scope.old.types)
+        (name.entry.now.word ∷ scope.old.held.names) (ty_of right.entry.now)))
+        (suc (length arena.old.nodes.items)) ∷ []) }
     ensures len { OnOk result (length arena.new.nodes.items ≡ length arena.old.nodes.items + 1) }
     ensures places { OnOk result (arena.new.places.items ≡ arena.old.places.items ++ span ∷ []) }
     ensures noted { OnOk result (scope.new.held.noted ≡ scope.old.held.noted ++ scope.old.held.names ∷ []) }
-    ensures kept { OnOk result ((scope.new.held.names ≡ scope.old.held.names) × (scope.new.types ≡ scope.old.types) × (scope.new.count ≤ 100000)) }
+    ensures kept { OnOk result
+        ((scope.new.held.names ≡ scope.old.held.names) × (scope.new.types ≡ scope.old.types)
+        × (scope.new.count ≤ 100000)) }
 {
     let base = scope.held.len();
     let body = here(arena)? + 1;
@@ -160,12 +204,23 @@ pub fn decrypt<'t>(
     key: &SMsg,
 ) -> Result<(), ScopeFault>
     requires few { scope.old.count ≤ 100000 }
-    ensures gives { Leads result (run (tested_head (abbreviations scope.old.types) scope.old.held.names span (msg_of whole.now) (ty_of ty.entry.now) (msg_of key.now)) scope.old.count) scope.new.count }
-    ensures nodes { OnOk result (map shape_of arena.new.nodes.items ≡ map shape_of arena.old.nodes.items ++ prefix_at (length scope.old.held.names) (Decrypts (message_in (length scope.old.held.names) scope.old.held.names (msg_of whole.now)) (type_in (length scope.old.held.names) (abbreviations scope.old.types) scope.old.held.names (ty_of ty.entry.now)) (message_in (length scope.old.held.names) scope.old.held.names (msg_of key.now))) (suc (length arena.old.nodes.items)) ∷ []) }
+    ensures gives { Leads result
+        (run (tested_head (abbreviations scope.old.types) scope.old.held.names span (msg_of whole.now)
+        (ty_of ty.entry.now) (msg_of key.now)) scope.old.count) scope.new.count }
+    ensures nodes { OnOk result
+        (map shape_of arena.new.nodes.items ≡ map shape_of arena.old.nodes.items
+        ++ prefix_at (length scope.old.held.names)
+        (Decrypts (message_in (length scope.old.held.names) scope.old.held.names (msg_of whole.now))
+        (type_in (length scope.old.held.names) (abbreviations scope.old.types) scope.old.held.names
+        (ty_of ty.entry.now))
+        (message_in (length scope.old.held.names) scope.old.held.names (msg_of key.now)))
+        (suc (length arena.old.nodes.items)) ∷ []) }
     ensures len { OnOk result (length arena.new.nodes.items ≡ length arena.old.nodes.items + 1) }
     ensures places { OnOk result (arena.new.places.items ≡ arena.old.places.items ++ span ∷ []) }
     ensures noted { OnOk result (scope.new.held.noted ≡ scope.old.held.noted ++ scope.old.held.names ∷ []) }
-    ensures kept { OnOk result ((scope.new.held.names ≡ scope.old.held.names) × (scope.new.types ≡ scope.old.types) × (scope.new.count ≤ 100000)) }
+    ensures kept { OnOk result
+        ((scope.new.held.names ≡ scope.old.held.names) × (scope.new.types ≡ scope.old.types)
+        × (scope.new.count ≤ 100000)) }
 {
     let base = scope.held.len();
     let body = here(arena)? + 1;
@@ -194,12 +249,21 @@ pub fn check(
     nonce: &SMsg,
 ) -> Result<(), ScopeFault>
     requires few { scope.old.count ≤ 100000 }
-    ensures gives { Leads result (run (messages_head scope.old.held.names span (msg_of whole.now) (msg_of nonce.now)) scope.old.count) scope.new.count }
-    ensures nodes { OnOk result (map shape_of arena.new.nodes.items ≡ map shape_of arena.old.nodes.items ++ prefix_at (length scope.old.held.names) (Checks (message_in (length scope.old.held.names) scope.old.held.names (msg_of whole.now)) (message_in (length scope.old.held.names) scope.old.held.names (msg_of nonce.now))) (suc (length arena.old.nodes.items)) ∷ []) }
+    ensures gives { Leads result
+        (run (messages_head scope.old.held.names span (msg_of whole.now) (msg_of nonce.now)) scope.old.count)
+        scope.new.count }
+    ensures nodes { OnOk result
+        (map shape_of arena.new.nodes.items ≡ map shape_of arena.old.nodes.items
+        ++ prefix_at (length scope.old.held.names)
+        (Checks (message_in (length scope.old.held.names) scope.old.held.names (msg_of whole.now))
+        (message_in (length scope.old.held.names) scope.old.held.names (msg_of nonce.now)))
+        (suc (length arena.old.nodes.items)) ∷ []) }
     ensures len { OnOk result (length arena.new.nodes.items ≡ length arena.old.nodes.items + 1) }
     ensures places { OnOk result (arena.new.places.items ≡ arena.old.places.items ++ span ∷ []) }
     ensures noted { OnOk result (scope.new.held.noted ≡ scope.old.held.noted ++ scope.old.held.names ∷ []) }
-    ensures kept { OnOk result ((scope.new.held.names ≡ scope.old.held.names) × (scope.new.types ≡ scope.old.types) × (scope.new.count ≤ 100000)) }
+    ensures kept { OnOk result
+        ((scope.new.held.names ≡ scope.old.held.names) × (scope.new.types ≡ scope.old.types)
+        × (scope.new.count ≤ 100000)) }
 {
     let base = scope.held.len();
     let body = here(arena)? + 1;
@@ -216,12 +280,19 @@ pub fn begin(
     label: &SMsg,
 ) -> Result<(), ScopeFault>
     requires few { scope.old.count ≤ 100000 }
-    ensures gives { Leads result (run (message_head scope.old.held.names span (msg_of label.now)) scope.old.count) scope.new.count }
-    ensures nodes { OnOk result (map shape_of arena.new.nodes.items ≡ map shape_of arena.old.nodes.items ++ prefix_at (length scope.old.held.names) (Begins (message_in (length scope.old.held.names) scope.old.held.names (msg_of label.now))) (suc (length arena.old.nodes.items)) ∷ []) }
+    ensures gives { Leads result
+        (run (message_head scope.old.held.names span (msg_of label.now)) scope.old.count) scope.new.count }
+    ensures nodes { OnOk result
+        (map shape_of arena.new.nodes.items ≡ map shape_of arena.old.nodes.items
+        ++ prefix_at (length scope.old.held.names)
+        (Begins (message_in (length scope.old.held.names) scope.old.held.names (msg_of label.now)))
+        (suc (length arena.old.nodes.items)) ∷ []) }
     ensures len { OnOk result (length arena.new.nodes.items ≡ length arena.old.nodes.items + 1) }
     ensures places { OnOk result (arena.new.places.items ≡ arena.old.places.items ++ span ∷ []) }
     ensures noted { OnOk result (scope.new.held.noted ≡ scope.old.held.noted ++ scope.old.held.names ∷ []) }
-    ensures kept { OnOk result ((scope.new.held.names ≡ scope.old.held.names) × (scope.new.types ≡ scope.old.types) × (scope.new.count ≤ 100000)) }
+    ensures kept { OnOk result
+        ((scope.new.held.names ≡ scope.old.held.names) × (scope.new.types ≡ scope.old.types)
+        × (scope.new.count ≤ 100000)) }
 {
     let base = scope.held.len();
     let body = here(arena)? + 1;
@@ -238,12 +309,19 @@ pub fn end(
     label: &SMsg,
 ) -> Result<(), ScopeFault>
     requires few { scope.old.count ≤ 100000 }
-    ensures gives { Leads result (run (message_head scope.old.held.names span (msg_of label.now)) scope.old.count) scope.new.count }
-    ensures nodes { OnOk result (map shape_of arena.new.nodes.items ≡ map shape_of arena.old.nodes.items ++ prefix_at (length scope.old.held.names) (Ends (message_in (length scope.old.held.names) scope.old.held.names (msg_of label.now))) (suc (length arena.old.nodes.items)) ∷ []) }
+    ensures gives { Leads result
+        (run (message_head scope.old.held.names span (msg_of label.now)) scope.old.count) scope.new.count }
+    ensures nodes { OnOk result
+        (map shape_of arena.new.nodes.items ≡ map shape_of arena.old.nodes.items
+        ++ prefix_at (length scope.old.held.names)
+        (Ends (message_in (length scope.old.held.names) scope.old.held.names (msg_of label.now)))
+        (suc (length arena.old.nodes.items)) ∷ []) }
     ensures len { OnOk result (length arena.new.nodes.items ≡ length arena.old.nodes.items + 1) }
     ensures places { OnOk result (arena.new.places.items ≡ arena.old.places.items ++ span ∷ []) }
     ensures noted { OnOk result (scope.new.held.noted ≡ scope.old.held.noted ++ scope.old.held.names ∷ []) }
-    ensures kept { OnOk result ((scope.new.held.names ≡ scope.old.held.names) × (scope.new.types ≡ scope.old.types) × (scope.new.count ≤ 100000)) }
+    ensures kept { OnOk result
+        ((scope.new.held.names ≡ scope.old.held.names) × (scope.new.types ≡ scope.old.types)
+        × (scope.new.count ≤ 100000)) }
 {
     let base = scope.held.len();
     let body = here(arena)? + 1;
@@ -260,12 +338,19 @@ pub fn end_many(
     label: &SMsg,
 ) -> Result<(), ScopeFault>
     requires few { scope.old.count ≤ 100000 }
-    ensures gives { Leads result (run (message_head scope.old.held.names span (msg_of label.now)) scope.old.count) scope.new.count }
-    ensures nodes { OnOk result (map shape_of arena.new.nodes.items ≡ map shape_of arena.old.nodes.items ++ prefix_at (length scope.old.held.names) (EndManys (message_in (length scope.old.held.names) scope.old.held.names (msg_of label.now))) (suc (length arena.old.nodes.items)) ∷ []) }
+    ensures gives { Leads result
+        (run (message_head scope.old.held.names span (msg_of label.now)) scope.old.count) scope.new.count }
+    ensures nodes { OnOk result
+        (map shape_of arena.new.nodes.items ≡ map shape_of arena.old.nodes.items
+        ++ prefix_at (length scope.old.held.names)
+        (EndManys (message_in (length scope.old.held.names) scope.old.held.names (msg_of label.now)))
+        (suc (length arena.old.nodes.items)) ∷ []) }
     ensures len { OnOk result (length arena.new.nodes.items ≡ length arena.old.nodes.items + 1) }
     ensures places { OnOk result (arena.new.places.items ≡ arena.old.places.items ++ span ∷ []) }
     ensures noted { OnOk result (scope.new.held.noted ≡ scope.old.held.noted ++ scope.old.held.names ∷ []) }
-    ensures kept { OnOk result ((scope.new.held.names ≡ scope.old.held.names) × (scope.new.types ≡ scope.old.types) × (scope.new.count ≤ 100000)) }
+    ensures kept { OnOk result
+        ((scope.new.held.names ≡ scope.old.held.names) × (scope.new.types ≡ scope.old.types)
+        × (scope.new.count ≤ 100000)) }
 {
     let base = scope.held.len();
     let body = here(arena)? + 1;
@@ -283,12 +368,21 @@ pub fn cast<'t>(
     ty: &'t STy,
 ) -> Result<(), ScopeFault>
     requires few { scope.old.count ≤ 100000 }
-    ensures gives { Leads result (run (typed_head (abbreviations scope.old.types) scope.old.held.names span (msg_of whole.now) (ty_of ty.entry.now)) scope.old.count) scope.new.count }
-    ensures nodes { OnOk result (map shape_of arena.new.nodes.items ≡ map shape_of arena.old.nodes.items ++ prefix_at (length scope.old.held.names) (Casts (message_in (length scope.old.held.names) scope.old.held.names (msg_of whole.now)) (type_in (length scope.old.held.names) (abbreviations scope.old.types) scope.old.held.names (ty_of ty.entry.now))) (suc (length arena.old.nodes.items)) ∷ []) }
+    ensures gives { Leads result
+        (run (typed_head (abbreviations scope.old.types) scope.old.held.names span (msg_of whole.now)
+        (ty_of ty.entry.now)) scope.old.count) scope.new.count }
+    ensures nodes { OnOk result
+        (map shape_of arena.new.nodes.items ≡ map shape_of arena.old.nodes.items
+        ++ prefix_at (length scope.old.held.names)
+        (Casts (message_in (length scope.old.held.names) scope.old.held.names (msg_of whole.now))
+        (type_in (length scope.old.held.names) (abbreviations scope.old.types) scope.old.held.names
+        (ty_of ty.entry.now))) (suc (length arena.old.nodes.items)) ∷ []) }
     ensures len { OnOk result (length arena.new.nodes.items ≡ length arena.old.nodes.items + 1) }
     ensures places { OnOk result (arena.new.places.items ≡ arena.old.places.items ++ span ∷ []) }
     ensures noted { OnOk result (scope.new.held.noted ≡ scope.old.held.noted ++ scope.old.held.names ∷ []) }
-    ensures kept { OnOk result ((scope.new.held.names ≡ scope.old.held.names) × (scope.new.types ≡ scope.old.types) × (scope.new.count ≤ 100000)) }
+    ensures kept { OnOk result
+        ((scope.new.held.names ≡ scope.old.held.names) × (scope.new.types ≡ scope.old.types)
+        × (scope.new.count ≤ 100000)) }
 {
     let base = scope.held.len();
     let body = here(arena)? + 1;
@@ -306,12 +400,20 @@ pub fn fresh<'t>(
     ty: &'t STy,
 ) -> Result<(), ScopeFault>
     requires few { scope.old.count ≤ 100000 }
-    ensures gives { Leads result (run (new_head (abbreviations scope.old.types) scope.old.held.names span (ty_of ty.entry.now)) scope.old.count) scope.new.count }
-    ensures nodes { OnOk result (map shape_of arena.new.nodes.items ≡ map shape_of arena.old.nodes.items ++ prefix_at (length scope.old.held.names) (Makes (type_in (length scope.old.held.names) (abbreviations scope.old.types) scope.old.held.names (ty_of ty.entry.now))) (suc (length arena.old.nodes.items)) ∷ []) }
+    ensures gives { Leads result
+        (run (new_head (abbreviations scope.old.types) scope.old.held.names span (ty_of ty.entry.now))
+        scope.old.count) scope.new.count }
+    ensures nodes { OnOk result
+        (map shape_of arena.new.nodes.items ≡ map shape_of arena.old.nodes.items
+        ++ prefix_at (length scope.old.held.names)
+        (Makes (type_in (length scope.old.held.names) (abbreviations scope.old.types) scope.old.held.names
+        (ty_of ty.entry.now))) (suc (length arena.old.nodes.items)) ∷ []) }
     ensures len { OnOk result (length arena.new.nodes.items ≡ length arena.old.nodes.items + 1) }
     ensures places { OnOk result (arena.new.places.items ≡ arena.old.places.items ++ span ∷ []) }
     ensures noted { OnOk result (scope.new.held.noted ≡ scope.old.held.noted ++ scope.old.held.names ∷ []) }
-    ensures kept { OnOk result ((scope.new.held.names ≡ scope.old.held.names) × (scope.new.types ≡ scope.old.types) × (scope.new.count ≤ 100000)) }
+    ensures kept { OnOk result
+        ((scope.new.held.names ≡ scope.old.held.names) × (scope.new.types ≡ scope.old.types)
+        × (scope.new.count ≤ 100000)) }
 {
     let base = scope.held.len();
     let body = here(arena)? + 1;

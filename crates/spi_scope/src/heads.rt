@@ -39,7 +39,8 @@ pub fn add(scope: &mut Scope, nodes: u64, span: Span) -> Result<(), ScopeFault>
 #[tactic(auto, unfolding(crate::specs::Points::part))]
 pub fn read_part(alloc: Global, scope: &mut Scope, base: u32, m: &SMsg) -> Result<Msg, ScopeFault>
     requires few { scope.old.count ≤ 100000 }
-    ensures gives { Gives message result (run (part scope.old.held.names (msg_of m.now)) scope.old.count) scope.new.count (message_in base scope.old.held.names (msg_of m.now)) }
+    ensures gives { Gives message result (run (part scope.old.held.names (msg_of m.now)) scope.old.count)
+        scope.new.count (message_in base scope.old.held.names (msg_of m.now)) }
     ensures held { OnOk result (scope.new.held ≡ scope.old.held) }
     ensures types { OnOk result (scope.new.types ≡ scope.old.types) }
     ensures few { OnOk result (scope.new.count ≤ 100000) }
@@ -74,8 +75,13 @@ fn read_bounded<'t>(
     span: Span,
 ) -> Result<(Ty, u64), ScopeFault>
     requires { span ≡ ty_span (ty_of t.now) }
-    ensures gives { Gives (λ x. ty x.0) result (run (bounded_type (abbreviations scope.old.types) scope.old.held.names (ty_of t.entry.now)) scope.old.count) scope.old.count (type_in base (abbreviations scope.old.types) scope.old.held.names (ty_of t.entry.now)) }
-    ensures nodes { IfOk result (λ x. (x.1 ≡ type_nodes (abbreviations scope.old.types) scope.old.held.names (ty_of t.entry.now)) × (x.1 ≡ ty_nodes (ty x.0)) × (x.1 ≤ 1000)) }
+    ensures gives { Gives (λ x. ty x.0) result
+        (run (bounded_type (abbreviations scope.old.types) scope.old.held.names (ty_of t.entry.now))
+        scope.old.count) scope.old.count
+        (type_in base (abbreviations scope.old.types) scope.old.held.names (ty_of t.entry.now)) }
+    ensures nodes { IfOk result
+        (λ x. (x.1 ≡ type_nodes (abbreviations scope.old.types) scope.old.held.names (ty_of t.entry.now))
+        × (x.1 ≡ ty_nodes (ty x.0)) × (x.1 ≤ 1000)) }
     ensures scope { OnOk result (scope.new ≡ scope.old) }
 {
     let (read, count) = read_type(alloc, scope, base, 0, t)?;
@@ -94,7 +100,10 @@ pub fn read_annotation<'t>(
     t: &'t STy,
 ) -> Result<(Ty, u64), ScopeFault>
     requires few { scope.old.count ≤ 100000 }
-    ensures gives { Gives (λ x. ty x.0) result (run (whole_type (abbreviations scope.old.types) scope.old.held.names (ty_of t.entry.now)) scope.old.count) scope.new.count (type_in base (abbreviations scope.old.types) scope.old.held.names (ty_of t.entry.now)) }
+    ensures gives { Gives (λ x. ty x.0) result
+        (run (whole_type (abbreviations scope.old.types) scope.old.held.names (ty_of t.entry.now))
+        scope.old.count) scope.new.count
+        (type_in base (abbreviations scope.old.types) scope.old.held.names (ty_of t.entry.now)) }
     ensures nodes { IfOk result (λ x. x.1 ≡ ty_nodes (ty x.0)) }
     ensures held { OnOk result (scope.new.held ≡ scope.old.held) }
     ensures types { OnOk result (scope.new.types ≡ scope.old.types) }
@@ -116,7 +125,9 @@ pub fn read_message_head(
     m: &SMsg,
 ) -> Result<Msg, ScopeFault>
     requires few { scope.old.count ≤ 100000 }
-    ensures gives { Gives message result (run (message_head scope.old.held.names span (msg_of m.now)) scope.old.count) scope.new.count (message_in base scope.old.held.names (msg_of m.now)) }
+    ensures gives { Gives message result
+        (run (message_head scope.old.held.names span (msg_of m.now)) scope.old.count) scope.new.count
+        (message_in base scope.old.held.names (msg_of m.now)) }
     ensures held { OnOk result (scope.new.held ≡ scope.old.held) }
     ensures types { OnOk result (scope.new.types ≡ scope.old.types) }
     ensures few { OnOk result (scope.new.count ≤ 100000) }
@@ -136,8 +147,12 @@ pub fn read_messages_head(
     n: &SMsg,
 ) -> Result<(Msg, Msg), ScopeFault>
     requires few { scope.old.count ≤ 100000 }
-    ensures gives { Leads result (run (messages_head scope.old.held.names span (msg_of m.now) (msg_of n.now)) scope.old.count) scope.new.count }
-    ensures read { IfOk result (λ x. (message x.0 ≡ message_in base scope.old.held.names (msg_of m.now)) × (message x.1 ≡ message_in base scope.old.held.names (msg_of n.now))) }
+    ensures gives { Leads result
+        (run (messages_head scope.old.held.names span (msg_of m.now) (msg_of n.now)) scope.old.count)
+        scope.new.count }
+    ensures read { IfOk result
+        (λ x. (message x.0 ≡ message_in base scope.old.held.names (msg_of m.now))
+        × (message x.1 ≡ message_in base scope.old.held.names (msg_of n.now))) }
     ensures held { OnOk result (scope.new.held ≡ scope.old.held) }
     ensures types { OnOk result (scope.new.types ≡ scope.old.types) }
     ensures few { OnOk result (scope.new.count ≤ 100000) }
@@ -159,8 +174,12 @@ pub fn read_typed_head<'t>(
     a: &'t STy,
 ) -> Result<(Msg, Ty), ScopeFault>
     requires few { scope.old.count ≤ 100000 }
-    ensures gives { Leads result (run (typed_head (abbreviations scope.old.types) scope.old.held.names span (msg_of m.now) (ty_of a.entry.now)) scope.old.count) scope.new.count }
-    ensures read { IfOk result (λ x. (message x.0 ≡ message_in base scope.old.held.names (msg_of m.now)) × (ty x.1 ≡ type_in base (abbreviations scope.old.types) scope.old.held.names (ty_of a.entry.now))) }
+    ensures gives { Leads result
+        (run (typed_head (abbreviations scope.old.types) scope.old.held.names span (msg_of m.now)
+        (ty_of a.entry.now)) scope.old.count) scope.new.count }
+    ensures read { IfOk result
+        (λ x. (message x.0 ≡ message_in base scope.old.held.names (msg_of m.now))
+        × (ty x.1 ≡ type_in base (abbreviations scope.old.types) scope.old.held.names (ty_of a.entry.now))) }
     ensures held { OnOk result (scope.new.held ≡ scope.old.held) }
     ensures types { OnOk result (scope.new.types ≡ scope.old.types) }
     ensures few { OnOk result (scope.new.count ≤ 100000) }
@@ -183,8 +202,13 @@ pub fn read_tested_head<'t>(
     n: &SMsg,
 ) -> Result<(Msg, Ty, Msg), ScopeFault>
     requires few { scope.old.count ≤ 100000 }
-    ensures gives { Leads result (run (tested_head (abbreviations scope.old.types) scope.old.held.names span (msg_of m.now) (ty_of a.entry.now) (msg_of n.now)) scope.old.count) scope.new.count }
-    ensures read { IfOk result (λ x. (message x.0 ≡ message_in base scope.old.held.names (msg_of m.now)) × (ty x.1 ≡ type_in base (abbreviations scope.old.types) scope.old.held.names (ty_of a.entry.now)) × (message x.2 ≡ message_in base scope.old.held.names (msg_of n.now))) }
+    ensures gives { Leads result
+        (run (tested_head (abbreviations scope.old.types) scope.old.held.names span (msg_of m.now)
+        (ty_of a.entry.now) (msg_of n.now)) scope.old.count) scope.new.count }
+    ensures read { IfOk result
+        (λ x. (message x.0 ≡ message_in base scope.old.held.names (msg_of m.now))
+        × (ty x.1 ≡ type_in base (abbreviations scope.old.types) scope.old.held.names (ty_of a.entry.now))
+        × (message x.2 ≡ message_in base scope.old.held.names (msg_of n.now))) }
     ensures held { OnOk result (scope.new.held ≡ scope.old.held) }
     ensures types { OnOk result (scope.new.types ≡ scope.old.types) }
     ensures few { OnOk result (scope.new.count ≤ 100000) }
@@ -205,7 +229,11 @@ pub fn read_under<'t>(
     a: &'t STy,
 ) -> Result<Ty, ScopeFault>
     requires few { scope.old.count ≤ 100000 }
-    ensures gives { Gives ty result (run (whole_type (abbreviations scope.old.types) (name.entry.now.word ∷ scope.old.held.names) (ty_of a.entry.now)) scope.old.count) scope.new.count (type_in base (abbreviations scope.old.types) (name.entry.now.word ∷ scope.old.held.names) (ty_of a.entry.now)) }
+    ensures gives { Gives ty result
+        (run (whole_type (abbreviations scope.old.types) (name.entry.now.word ∷ scope.old.held.names)
+        (ty_of a.entry.now)) scope.old.count) scope.new.count
+        (type_in base (abbreviations scope.old.types) (name.entry.now.word ∷ scope.old.held.names)
+        (ty_of a.entry.now)) }
     ensures held { OnOk result (scope.new.held ≡ scope.old.held) }
     ensures types { OnOk result (scope.new.types ≡ scope.old.types) }
     ensures few { OnOk result (scope.new.count ≤ 100000) }

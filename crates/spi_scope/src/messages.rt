@@ -39,7 +39,9 @@ fn read_name(
     spent: u64,
     word: &SWord,
 ) -> Result<(Msg, u64), ScopeFault>
-    ensures { Counts message message_size result (run (one (uses_name scope.now.held.names word.now)) scope.now.count) scope.now.count spent (named base (length scope.now.held.names) (number_of scope.now.held.names word.now.word)) }
+    ensures { Counts message message_size result
+        (run (one (uses_name scope.now.held.names word.now)) scope.now.count) scope.now.count spent
+        (named base (length scope.now.held.names) (number_of scope.now.held.names word.now.word)) }
 {
     let text = word.word.as_str();
     match scope.held.number(text) {
@@ -62,7 +64,8 @@ pub fn nest(
     second: Msg,
     more: Vec<Msg>,
 ) -> Result<Msg, AllocError>
-    ensures { IfOk result (λ m. total ≤ 1000 → message m ≡ nested (message first) (message second ∷ map message more.items)) }
+    ensures { IfOk result
+        (λ m. total ≤ 1000 → message m ≡ nested (message first) (message second ∷ map message more.items)) }
 {
     if total > 1000 {
         return Ok(Msg::Unit);
@@ -112,7 +115,9 @@ pub fn read_message(
     spent: u64,
     m: &SMsg,
 ) -> Result<(Msg, u64), ScopeFault>
-    ensures { Counts message message_size result (run (message_points scope.now.held.names (msg_of m.now)) scope.now.count) scope.now.count spent (message_in base scope.now.held.names (msg_of m.now)) }
+    ensures { Counts message message_size result
+        (run (message_points scope.now.held.names (msg_of m.now)) scope.now.count) scope.now.count spent
+        (message_in base scope.now.held.names (msg_of m.now)) }
 {
     match m {
         SMsg::Name { name, .. } => read_name(alloc, scope, base, spent, name),
@@ -169,7 +174,9 @@ fn read_messages(
     spent: u64,
     ms: &[SMsg],
 ) -> Result<(Vec<Msg>, u64), ScopeFault>
-    ensures { Counts (λ v. map message v.items) row_nodes result (run (messages_points scope.now.held.names (msgs_of_list (map msg_of ms.now))) scope.now.count) scope.now.count spent (messages_in base scope.now.held.names (msgs_of_list (map msg_of ms.now))) }
+    ensures { Counts (λ v. map message v.items) row_nodes result
+        (run (messages_points scope.now.held.names (msgs_of_list (map msg_of ms.now))) scope.now.count)
+        scope.now.count spent (messages_in base scope.now.held.names (msgs_of_list (map msg_of ms.now))) }
 {
     let mut read = Vec::new(alloc);
     let mut total = spent;

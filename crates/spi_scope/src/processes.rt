@@ -32,11 +32,20 @@ pub fn read_process<'t>(
     p: &'t SProc,
 ) -> Result<(), ScopeFault>
     requires few { scope.old.count ≤ 100000 }
-    ensures gives { Goes result (run (process_points (abbreviations scope.old.types) scope.old.held.names (proc_of p.entry.now)) scope.old.count) scope.new.count }
-    ensures nodes { OnOk result (map shape_of arena.new.nodes.items ≡ map shape_of arena.old.nodes.items ++ flat (length arena.old.nodes.items) (length scope.old.held.names) (process_in (λ s. s) (abbreviations scope.old.types) scope.old.held.names (proc_of p.entry.now))) }
-    ensures places { OnOk result (arena.new.places.items ≡ arena.old.places.items ++ places (proc_of p.entry.now)) }
-    ensures noted { OnOk result (scope.new.held.noted ≡ scope.old.held.noted ++ scopes scope.old.held.names (proc_of p.entry.now)) }
-    ensures kept { OnOk result ((scope.new.held.names ≡ scope.old.held.names) × (scope.new.types ≡ scope.old.types) × (scope.new.count ≤ 100000)) }
+    ensures gives { Goes result
+        (run (process_points (abbreviations scope.old.types) scope.old.held.names (proc_of p.entry.now))
+        scope.old.count) scope.new.count }
+    ensures nodes { OnOk result
+        (map shape_of arena.new.nodes.items ≡ map shape_of arena.old.nodes.items
+        ++ flat (length arena.old.nodes.items) (length scope.old.held.names)
+        (process_in (λ s. s) (abbreviations scope.old.types) scope.old.held.names (proc_of p.entry.now))) }
+    ensures places { OnOk result
+        (arena.new.places.items ≡ arena.old.places.items ++ places (proc_of p.entry.now)) }
+    ensures noted { OnOk result
+        (scope.new.held.noted ≡ scope.old.held.noted ++ scopes scope.old.held.names (proc_of p.entry.now)) }
+    ensures kept { OnOk result
+        ((scope.new.held.names ≡ scope.old.held.names) × (scope.new.types ≡ scope.old.types)
+        × (scope.new.count ≤ 100000)) }
 {
     let base = scope.held.len();
     match p {
@@ -186,11 +195,22 @@ fn read_under<'t>(
     p: &'t SProc,
 ) -> Result<(), ScopeFault>
     requires few { scope.old.count ≤ 100000 }
-    ensures gives { Goes result (run (process_points (abbreviations scope.old.types) (name.entry.now.word ∷ scope.old.held.names) (proc_of p.entry.now)) scope.old.count) scope.new.count }
-    ensures nodes { OnOk result (map shape_of arena.new.nodes.items ≡ map shape_of arena.old.nodes.items ++ flat (length arena.old.nodes.items) (suc (length scope.old.held.names)) (process_in (λ s. s) (abbreviations scope.old.types) (name.entry.now.word ∷ scope.old.held.names) (proc_of p.entry.now))) }
-    ensures places { OnOk result (arena.new.places.items ≡ arena.old.places.items ++ places (proc_of p.entry.now)) }
-    ensures noted { OnOk result (scope.new.held.noted ≡ scope.old.held.noted ++ scopes (name.entry.now.word ∷ scope.old.held.names) (proc_of p.entry.now)) }
-    ensures kept { OnOk result ((scope.new.held.names ≡ scope.old.held.names) × (scope.new.types ≡ scope.old.types) × (scope.new.count ≤ 100000)) }
+    ensures gives { Goes result
+        (run (process_points (abbreviations scope.old.types) (name.entry.now.word ∷ scope.old.held.names)
+        (proc_of p.entry.now)) scope.old.count) scope.new.count }
+    ensures nodes { OnOk result
+        (map shape_of arena.new.nodes.items ≡ map shape_of arena.old.nodes.items
+        ++ flat (length arena.old.nodes.items) (suc (length scope.old.held.names))
+        (process_in (λ s. s) (abbreviations scope.old.types) (name.entry.now.word ∷ scope.old.held.names)
+        (proc_of p.entry.now))) }
+    ensures places { OnOk result
+        (arena.new.places.items ≡ arena.old.places.items ++ places (proc_of p.entry.now)) }
+    ensures noted { OnOk result
+        (scope.new.held.noted ≡ scope.old.held.noted
+        ++ scopes (name.entry.now.word ∷ scope.old.held.names) (proc_of p.entry.now)) }
+    ensures kept { OnOk result
+        ((scope.new.held.names ≡ scope.old.held.names) × (scope.new.types ≡ scope.old.types)
+        × (scope.new.count ≤ 100000)) }
 {
     scope.held.bind(name.word.as_str())?;
     read_process(alloc, scope, arena, p)?;
@@ -210,11 +230,26 @@ fn send_then<'t>(
     span: Span,
 ) -> Result<(), ScopeFault>
     requires few { scope.old.count ≤ 100000 }
-    ensures gives { Goes result (run (process_points (abbreviations scope.old.types) scope.old.held.names (out_then span (msg_of channel.entry.now) (msg_of datum.entry.now) (proc_of then.entry.now))) scope.old.count) scope.new.count }
-    ensures nodes { OnOk result (map shape_of arena.new.nodes.items ≡ map shape_of arena.old.nodes.items ++ flat (length arena.old.nodes.items) (length scope.old.held.names) (process_in (λ s. s) (abbreviations scope.old.types) scope.old.held.names (out_then span (msg_of channel.entry.now) (msg_of datum.entry.now) (proc_of then.entry.now)))) }
-    ensures places { OnOk result (arena.new.places.items ≡ arena.old.places.items ++ places (out_then span (msg_of channel.entry.now) (msg_of datum.entry.now) (proc_of then.entry.now))) }
-    ensures noted { OnOk result (scope.new.held.noted ≡ scope.old.held.noted ++ scopes scope.old.held.names (out_then span (msg_of channel.entry.now) (msg_of datum.entry.now) (proc_of then.entry.now))) }
-    ensures kept { OnOk result ((scope.new.held.names ≡ scope.old.held.names) × (scope.new.types ≡ scope.old.types) × (scope.new.count ≤ 100000)) }
+    ensures gives { Goes result
+        (run (process_points (abbreviations scope.old.types) scope.old.held.names
+        (out_then span (msg_of channel.entry.now) (msg_of datum.entry.now) (proc_of then.entry.now)))
+        scope.old.count) scope.new.count }
+    ensures nodes { OnOk result
+        (map shape_of arena.new.nodes.items ≡ map shape_of arena.old.nodes.items
+        ++ flat (length arena.old.nodes.items) (length scope.old.held.names)
+        (process_in (λ s. s) (abbreviations scope.old.types) scope.old.held.names
+        (out_then span (msg_of channel.entry.now) (msg_of datum.entry.now) (proc_of then.entry.now)))) }
+    ensures places { OnOk result
+        (arena.new.places.items ≡ arena.old.places.items
+        ++ places (out_then span (msg_of channel.entry.now) (msg_of datum.entry.now)
+        (proc_of then.entry.now))) }
+    ensures noted { OnOk result
+        (scope.new.held.noted ≡ scope.old.held.noted
+        ++ scopes scope.old.held.names
+        (out_then span (msg_of channel.entry.now) (msg_of datum.entry.now) (proc_of then.entry.now))) }
+    ensures kept { OnOk result
+        ((scope.new.held.names ≡ scope.old.held.names) × (scope.new.types ≡ scope.old.types)
+        × (scope.new.count ≤ 100000)) }
 {
     let base = scope.held.len();
     let at = here(arena)?;
@@ -242,11 +277,29 @@ fn branch<'t>(
     span: Span,
 ) -> Result<(), ScopeFault>
     requires few { scope.old.count ≤ 100000 }
-    ensures gives { Goes result (run (process_points (abbreviations scope.old.types) scope.old.held.names (case span (msg_of whole.entry.now) left.entry.now (ty_of left_ty.entry.now) (proc_of first.entry.now) other.entry.now (ty_of right_ty.entry.now) (proc_of second.entry.now))) scope.old.count) scope.new.count }
-    ensures nodes { OnOk result (map shape_of arena.new.nodes.items ≡ map shape_of arena.old.nodes.items ++ flat (length arena.old.nodes.items) (length scope.old.held.names) (process_in (λ s. s) (abbreviations scope.old.types) scope.old.held.names (case span (msg_of whole.entry.now) left.entry.now (ty_of left_ty.entry.now) (proc_of first.entry.now) other.entry.now (ty_of right_ty.entry.now) (proc_of second.entry.now)))) }
-    ensures places { OnOk result (arena.new.places.items ≡ arena.old.places.items ++ places (case span (msg_of whole.entry.now) left.entry.now (ty_of left_ty.entry.now) (proc_of first.entry.now) other.entry.now (ty_of right_ty.entry.now) (proc_of second.entry.now))) }
-    ensures noted { OnOk result (scope.new.held.noted ≡ scope.old.held.noted ++ scopes scope.old.held.names (case span (msg_of whole.entry.now) left.entry.now (ty_of left_ty.entry.now) (proc_of first.entry.now) other.entry.now (ty_of right_ty.entry.now) (proc_of second.entry.now))) }
-    ensures kept { OnOk result ((scope.new.held.names ≡ scope.old.held.names) × (scope.new.types ≡ scope.old.types) × (scope.new.count ≤ 100000)) }
+    ensures gives { Goes result
+        (run (process_points (abbreviations scope.old.types) scope.old.held.names
+        (case span (msg_of whole.entry.now) left.entry.now (ty_of left_ty.entry.now) (proc_of first.entry.now)
+        other.entry.now (ty_of right_ty.entry.now) (proc_of second.entry.now))) scope.old.count)
+        scope.new.count }
+    ensures nodes { OnOk result
+        (map shape_of arena.new.nodes.items ≡ map shape_of arena.old.nodes.items
+        ++ flat (length arena.old.nodes.items) (length scope.old.held.names)
+        (process_in (λ s. s) (abbreviations scope.old.types) scope.old.held.names
+        (case span (msg_of whole.entry.now) left.entry.now (ty_of left_ty.entry.now) (proc_of first.entry.now)
+        other.entry.now (ty_of right_ty.entry.now) (proc_of second.entry.now)))) }
+    ensures places { OnOk result
+        (arena.new.places.items ≡ arena.old.places.items
+        ++ places (case span (msg_of whole.entry.now) left.entry.now (ty_of left_ty.entry.now)
+        (proc_of first.entry.now) other.entry.now (ty_of right_ty.entry.now) (proc_of second.entry.now))) }
+    ensures noted { OnOk result
+        (scope.new.held.noted ≡ scope.old.held.noted
+        ++ scopes scope.old.held.names
+        (case span (msg_of whole.entry.now) left.entry.now (ty_of left_ty.entry.now) (proc_of first.entry.now)
+        other.entry.now (ty_of right_ty.entry.now) (proc_of second.entry.now))) }
+    ensures kept { OnOk result
+        ((scope.new.held.names ≡ scope.old.held.names) × (scope.new.types ≡ scope.old.types)
+        × (scope.new.count ≤ 100000)) }
 {
     let base = scope.held.len();
     let at = here(arena)?;
@@ -282,11 +335,23 @@ fn compose<'t>(
     span: Span,
 ) -> Result<(), ScopeFault>
     requires few { scope.old.count ≤ 100000 }
-    ensures gives { Goes result (run (process_points (abbreviations scope.old.types) scope.old.held.names (par span (proc_of first.entry.now) (proc_of rest.entry.now))) scope.old.count) scope.new.count }
-    ensures nodes { OnOk result (map shape_of arena.new.nodes.items ≡ map shape_of arena.old.nodes.items ++ flat (length arena.old.nodes.items) (length scope.old.held.names) (process_in (λ s. s) (abbreviations scope.old.types) scope.old.held.names (par span (proc_of first.entry.now) (proc_of rest.entry.now)))) }
-    ensures places { OnOk result (arena.new.places.items ≡ arena.old.places.items ++ places (par span (proc_of first.entry.now) (proc_of rest.entry.now))) }
-    ensures noted { OnOk result (scope.new.held.noted ≡ scope.old.held.noted ++ scopes scope.old.held.names (par span (proc_of first.entry.now) (proc_of rest.entry.now))) }
-    ensures kept { OnOk result ((scope.new.held.names ≡ scope.old.held.names) × (scope.new.types ≡ scope.old.types) × (scope.new.count ≤ 100000)) }
+    ensures gives { Goes result
+        (run (process_points (abbreviations scope.old.types) scope.old.held.names
+        (par span (proc_of first.entry.now) (proc_of rest.entry.now))) scope.old.count) scope.new.count }
+    ensures nodes { OnOk result
+        (map shape_of arena.new.nodes.items ≡ map shape_of arena.old.nodes.items
+        ++ flat (length arena.old.nodes.items) (length scope.old.held.names)
+        (process_in (λ s. s) (abbreviations scope.old.types) scope.old.held.names
+        (par span (proc_of first.entry.now) (proc_of rest.entry.now)))) }
+    ensures places { OnOk result
+        (arena.new.places.items ≡ arena.old.places.items
+        ++ places (par span (proc_of first.entry.now) (proc_of rest.entry.now))) }
+    ensures noted { OnOk result
+        (scope.new.held.noted ≡ scope.old.held.noted
+        ++ scopes scope.old.held.names (par span (proc_of first.entry.now) (proc_of rest.entry.now))) }
+    ensures kept { OnOk result
+        ((scope.new.held.names ≡ scope.old.held.names) × (scope.new.types ≡ scope.old.types)
+        × (scope.new.count ≤ 100000)) }
 {
     let base = scope.held.len();
     let at = here(arena)?;

@@ -39,11 +39,14 @@ use std::alloc::Global;
 
 /// The process that the nodes spell.
 fn laid_out(scope: &Scope, count: u64, nodes: Vec<Node>, p: &SProc) -> Process
-    requires ran { run (process_points (abbreviations scope.now.types) scope.now.held.names (proc_of p.now)) count ≡ Ok scope.now.count }
+    requires ran { run (process_points (abbreviations scope.now.types) scope.now.held.names (proc_of p.now))
+        count ≡ Ok scope.now.count }
     requires few { scope.now.count ≤ 100000 }
     requires names { length scope.now.held.names ≤ 100000 }
     requires over { AreOver (length scope.now.held.names) (abbreviations scope.now.types) }
-    requires nodes { map shape_of nodes.items ≡ flat 0 (length scope.now.held.names) (process_in (λ s. s) (abbreviations scope.now.types) scope.now.held.names (proc_of p.now)) }
+    requires nodes { map shape_of nodes.items
+        ≡ flat 0 (length scope.now.held.names)
+        (process_in (λ s. s) (abbreviations scope.now.types) scope.now.held.names (proc_of p.now)) }
     ensures { result ≡ over_free (abbreviations scope.now.types) scope.now.held.names (proc_of p.now) }
 {
     match Process::from_nodes(scope.held.len(), nodes) {
@@ -61,10 +64,14 @@ fn read_part<'t>(
     requires few { scope.old.count ≤ 100000 }
     requires names { length scope.old.held.names ≤ 100000 }
     requires over { AreOver (length scope.old.held.names) (abbreviations scope.old.types) }
-    ensures gives { Leads result (run (process_points (abbreviations scope.old.types) scope.old.held.names (proc_of p.entry.now)) scope.old.count) scope.new.count }
-    ensures process { IfOk result (λ x. x.0 ≡ over_free (abbreviations scope.old.types) scope.old.held.names (proc_of p.entry.now)) }
+    ensures gives { Leads result
+        (run (process_points (abbreviations scope.old.types) scope.old.held.names (proc_of p.entry.now))
+        scope.old.count) scope.new.count }
+    ensures process { IfOk result
+        (λ x. x.0 ≡ over_free (abbreviations scope.old.types) scope.old.held.names (proc_of p.entry.now)) }
     ensures places { IfOk result (λ x. x.1.items ≡ places (proc_of p.entry.now)) }
-    ensures noted { OnOk result (scope.new.held.noted ≡ scope.old.held.noted ++ scopes scope.old.held.names (proc_of p.entry.now)) }
+    ensures noted { OnOk result
+        (scope.new.held.noted ≡ scope.old.held.noted ++ scopes scope.old.held.names (proc_of p.entry.now)) }
     ensures names { OnOk result (scope.new.held.names ≡ scope.old.held.names) }
     ensures types { OnOk result (scope.new.types ≡ scope.old.types) }
     ensures few { OnOk result (scope.new.count ≤ 100000) }
@@ -89,8 +96,12 @@ fn read_opponent<'t>(
     requires few { scope.old.count ≤ 100000 }
     requires names { length scope.old.held.names ≤ 100000 }
     requires over { AreOver (length scope.old.held.names) (abbreviations scope.old.types) }
-    ensures gives { Leads result (run (opponent_points (abbreviations scope.old.types) scope.old.held.names (opponent_of opponent.entry.now)) scope.old.count) scope.new.count }
-    ensures process { IfOk result (λ x. x.0 ≡ opponent_over (abbreviations scope.old.types) scope.old.held.names (opponent_of opponent.entry.now)) }
+    ensures gives { Leads result
+        (run (opponent_points (abbreviations scope.old.types) scope.old.held.names
+        (opponent_of opponent.entry.now)) scope.old.count) scope.new.count }
+    ensures process { IfOk result
+        (λ x. x.0 ≡ opponent_over (abbreviations scope.old.types) scope.old.held.names
+        (opponent_of opponent.entry.now)) }
     ensures places { IfOk result (λ x. x.1.items ≡ opponent_places (opponent_of opponent.entry.now)) }
     ensures few { OnOk result (scope.new.count ≤ 100000) }
 {
@@ -156,13 +167,24 @@ fn read_rest<'t>(
     requires few { scope.old.count ≤ 100000 }
     requires names { length scope.old.held.names ≤ 100000 }
     requires over { AreOver (length scope.old.held.names) (abbreviations scope.old.types) }
-    ensures gives { Leads result (run (opponent_points (abbreviations scope.old.types) scope.old.held.names (opponent_of tree.entry.now.opponent) ⨾ schedule_points (schedule_of tree.entry.now.schedule) ⨾ derivation_points (derivation_of tree.entry.now.derivation)) scope.old.count) scope.new.count }
-    ensures opponent { OnOk result (file.new.opponent ≡ opponent_over (abbreviations scope.old.types) scope.old.held.names (opponent_of tree.entry.now.opponent)) }
-    ensures schedule { OnOk result (steps_in file.new.schedule ≡ schedule_in (schedule_of tree.entry.now.schedule)) }
-    ensures derivation { OnOk result (uses_of file.new.derivation ≡ derivation_in (derivation_of tree.entry.now.derivation)) }
-    ensures opponent_places { OnOk result (file.new.marks.opponent.items ≡ opponent_places (opponent_of tree.entry.now.opponent)) }
-    ensures step_places { OnOk result (file.new.marks.steps.items ≡ step_places (schedule_of tree.entry.now.schedule)) }
-    ensures rule_places { OnOk result (file.new.marks.rules.items ≡ rule_places (derivation_of tree.entry.now.derivation)) }
+    ensures gives { Leads result
+        (run (opponent_points (abbreviations scope.old.types) scope.old.held.names
+        (opponent_of tree.entry.now.opponent) ⨾ schedule_points (schedule_of tree.entry.now.schedule)
+        ⨾ derivation_points (derivation_of tree.entry.now.derivation)) scope.old.count) scope.new.count }
+    ensures opponent { OnOk result
+        (file.new.opponent
+        ≡ opponent_over (abbreviations scope.old.types) scope.old.held.names
+        (opponent_of tree.entry.now.opponent)) }
+    ensures schedule { OnOk result
+        (steps_in file.new.schedule ≡ schedule_in (schedule_of tree.entry.now.schedule)) }
+    ensures derivation { OnOk result
+        (uses_of file.new.derivation ≡ derivation_in (derivation_of tree.entry.now.derivation)) }
+    ensures opponent_places { OnOk result
+        (file.new.marks.opponent.items ≡ opponent_places (opponent_of tree.entry.now.opponent)) }
+    ensures step_places { OnOk result
+        (file.new.marks.steps.items ≡ step_places (schedule_of tree.entry.now.schedule)) }
+    ensures rule_places { OnOk result
+        (file.new.marks.rules.items ≡ rule_places (derivation_of tree.entry.now.derivation)) }
     ensures version { OnOk result (file.new.version ≡ file.old.version) }
     ensures names { OnOk result (file.new.names ≡ file.old.names) }
     ensures process { OnOk result (file.new.process ≡ file.old.process) }
@@ -187,18 +209,32 @@ fn read_body<'t>(alloc: Global, scope: &mut Scope<'t>, tree: &'t Tree) -> Result
     requires names { length scope.old.held.names ≤ 100000 }
     requires over { AreOver (length scope.old.held.names) (abbreviations scope.old.types) }
     requires noted { scope.old.held.noted ≡ [] }
-    ensures gives { Leads result (run (body_points (abbreviations scope.old.types) scope.old.held.names (file_of tree.entry.now)) scope.old.count) scope.new.count }
+    ensures gives { Leads result
+        (run (body_points (abbreviations scope.old.types) scope.old.held.names (file_of tree.entry.now))
+        scope.old.count) scope.new.count }
     ensures version { IfOk result (λ f. f.version ≡ tree.entry.now.version) }
     ensures names { IfOk result (λ f. f.names.items ≡ reverse scope.old.held.names) }
-    ensures process { IfOk result (λ f. f.process ≡ over_free (abbreviations scope.old.types) scope.old.held.names (proc_of tree.entry.now.process)) }
-    ensures opponent { IfOk result (λ f. f.opponent ≡ opponent_over (abbreviations scope.old.types) scope.old.held.names (opponent_of tree.entry.now.opponent)) }
-    ensures schedule { IfOk result (λ f. steps_in f.schedule ≡ schedule_in (schedule_of tree.entry.now.schedule)) }
-    ensures derivation { IfOk result (λ f. uses_of f.derivation ≡ derivation_in (derivation_of tree.entry.now.derivation)) }
-    ensures process_places { IfOk result (λ f. f.marks.process.items ≡ places (proc_of tree.entry.now.process)) }
-    ensures opponent_places { IfOk result (λ f. f.marks.opponent.items ≡ opponent_places (opponent_of tree.entry.now.opponent)) }
-    ensures step_places { IfOk result (λ f. f.marks.steps.items ≡ step_places (schedule_of tree.entry.now.schedule)) }
-    ensures rule_places { IfOk result (λ f. f.marks.rules.items ≡ rule_places (derivation_of tree.entry.now.derivation)) }
-    ensures scopes { IfOk result (λ f. f.marks.scopes ≡ scopes scope.old.held.names (proc_of tree.entry.now.process)) }
+    ensures process { IfOk result
+        (λ f. f.process
+        ≡ over_free (abbreviations scope.old.types) scope.old.held.names (proc_of tree.entry.now.process)) }
+    ensures opponent { IfOk result
+        (λ f. f.opponent
+        ≡ opponent_over (abbreviations scope.old.types) scope.old.held.names
+        (opponent_of tree.entry.now.opponent)) }
+    ensures schedule { IfOk result
+        (λ f. steps_in f.schedule ≡ schedule_in (schedule_of tree.entry.now.schedule)) }
+    ensures derivation { IfOk result
+        (λ f. uses_of f.derivation ≡ derivation_in (derivation_of tree.entry.now.derivation)) }
+    ensures process_places { IfOk result
+        (λ f. f.marks.process.items ≡ places (proc_of tree.entry.now.process)) }
+    ensures opponent_places { IfOk result
+        (λ f. f.marks.opponent.items ≡ opponent_places (opponent_of tree.entry.now.opponent)) }
+    ensures step_places { IfOk result
+        (λ f. f.marks.steps.items ≡ step_places (schedule_of tree.entry.now.schedule)) }
+    ensures rule_places { IfOk result
+        (λ f. f.marks.rules.items ≡ rule_places (derivation_of tree.entry.now.derivation)) }
+    ensures scopes { IfOk result
+        (λ f. f.marks.scopes ≡ scopes scope.old.held.names (proc_of tree.entry.now.process)) }
 {
     let names = scope.held.texts(alloc)?;
     let (process, process_places) = read_part(alloc, scope, &tree.process)?;
@@ -241,8 +277,12 @@ pub fn resolve(alloc: Global, tree: &Tree) -> Result<File, ScopeFault>
 
 /// Each tree stands for one file or has one first fault, and never both.
 pub fn one_or_other()
-    ensures some { (tree : t.File) → ((file : Meant) × StandsFor tree file) ⊎ ((fault : ScopeFault) × HasFirst tree fault) }
-    ensures never_both { (tree : t.File) (file : Meant) (fault : ScopeFault) → StandsFor tree file → HasFirst tree fault → ⊥ }
-    ensures one_file { (tree : t.File) (file other : Meant) → StandsFor tree file → StandsFor tree other → file ≡ other }
-    ensures one_fault { (tree : t.File) (fault other : ScopeFault) → HasFirst tree fault → HasFirst tree other → fault ≡ other }
+    ensures some { (tree : t.File)
+        → ((file : Meant) × StandsFor tree file) ⊎ ((fault : ScopeFault) × HasFirst tree fault) }
+    ensures never_both { (tree : t.File) (file : Meant) (fault : ScopeFault) → StandsFor tree file
+        → HasFirst tree fault → ⊥ }
+    ensures one_file { (tree : t.File) (file other : Meant) → StandsFor tree file → StandsFor tree other
+        → file ≡ other }
+    ensures one_fault { (tree : t.File) (fault other : ScopeFault) → HasFirst tree fault → HasFirst tree other
+        → fault ≡ other }
 {}

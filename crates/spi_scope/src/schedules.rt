@@ -38,7 +38,8 @@ pub fn read_steps(
     count: u64,
     steps: &[SStep],
 ) -> Result<(Vec<Step>, Vec<Span>), ScopeFault>
-    ensures gives { Leads result (run (steps_points 1 (length steps.now) (map step_of steps.now)) count) count }
+    ensures gives { Leads result (run (steps_points 1 (length steps.now) (map step_of steps.now)) count)
+        count }
     ensures steps { IfOk result (λ x. map step x.0.items ≡ map step_in (map step_of steps.now)) }
     ensures places { IfOk result (λ x. x.1.items ≡ map step_span (map step_of steps.now)) }
 {

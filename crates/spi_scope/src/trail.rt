@@ -44,7 +44,8 @@ impl<'t> Model for Trail<'t> {
 
     ghost view = { λ s. let cs = chains (map link s.links.items) in record { chains = cs; noted = all_at cs s.noted.items } };
 
-    ghost invariant = { λ s. LeadBack 1 (map link s.links.items) × AreBelow (length s.links.items + 1) s.noted.items × (length s.links.items < 2 ^ 32) };
+    ghost invariant = { λ s. LeadBack 1 (map link s.links.items) × AreBelow (length s.links.items + 1) s.noted.items
+        × (length s.links.items < 2 ^ 32) };
 }
 
 impl<'t> Trail<'t> {
@@ -64,7 +65,8 @@ impl<'t> Trail<'t> {
     pub fn extend(&mut self, word: &'t str, outer: u32) -> Result<u32, NoMemory>
         requires { outer < length self.old.chains }
         ensures number { IfOk result (λ n. n ≡ length self.old.chains) }
-        ensures chains { OnOk result (self.new.chains ≡ self.old.chains ++ (word.now ∷ chain_at self.old.chains outer) ∷ []) }
+        ensures chains { OnOk result
+            (self.new.chains ≡ self.old.chains ++ (word.now ∷ chain_at self.old.chains outer) ∷ []) }
         ensures noted { OnOk result (self.new.noted ≡ self.old.noted) }
         ensures err { OnErr result (self.new ≡ self.old) }
     {

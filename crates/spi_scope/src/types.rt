@@ -46,8 +46,12 @@ pub fn read_whole(
     span: Span,
 ) -> Result<(Msg, u64), ScopeFault>
     requires { span ≡ msg_span (msg_of m.now) }
-    ensures gives { Gives (λ x. message x.0) result (run (whole_message scope.now.held.names (msg_of m.now)) scope.now.count) scope.now.count (message_in base scope.now.held.names (msg_of m.now)) }
-    ensures nodes { IfOk result (λ x. (x.1 ≡ msg_nodes scope.now.held.names (msg_of m.now)) × (x.1 ≡ message_size (message_in base scope.now.held.names (msg_of m.now))) × (x.1 ≤ 200)) }
+    ensures gives { Gives (λ x. message x.0) result
+        (run (whole_message scope.now.held.names (msg_of m.now)) scope.now.count) scope.now.count
+        (message_in base scope.now.held.names (msg_of m.now)) }
+    ensures nodes { IfOk result
+        (λ x. (x.1 ≡ msg_nodes scope.now.held.names (msg_of m.now))
+        × (x.1 ≡ message_size (message_in base scope.now.held.names (msg_of m.now))) × (x.1 ≤ 200)) }
 {
     let (read, count) = read_message(alloc, scope, base, 0, m)?;
     if count > 200 {
@@ -58,8 +62,11 @@ pub fn read_whole(
 
 /// An atom, with the nodes of its message.
 fn read_atom(alloc: Global, scope: &Scope, base: u32, a: &SAtom) -> Result<(Atom, u64), ScopeFault>
-    ensures gives { Gives (λ x. atom x.0) result (run (atom_points scope.now.held.names (atom_of a.now)) scope.now.count) scope.now.count (atom_in base scope.now.held.names (atom_of a.now)) }
-    ensures nodes { IfOk result (λ x. (x.1 + 1 ≡ atom_nodes (atom_in base scope.now.held.names (atom_of a.now))) × (x.1 ≤ 200)) }
+    ensures gives { Gives (λ x. atom x.0) result
+        (run (atom_points scope.now.held.names (atom_of a.now)) scope.now.count) scope.now.count
+        (atom_in base scope.now.held.names (atom_of a.now)) }
+    ensures nodes { IfOk result
+        (λ x. (x.1 + 1 ≡ atom_nodes (atom_in base scope.now.held.names (atom_of a.now))) × (x.1 ≤ 200)) }
 {
     match a {
         SAtom::End { label, .. } => {
@@ -85,8 +92,12 @@ fn read_atoms(
     spent: u64,
     es: &[SAtom],
 ) -> Result<(Vec<Atom>, u64), ScopeFault>
-    ensures gives { Gives (λ x. map atom x.0.items) result (run (atoms_points scope.now.held.names (map atom_of es.now)) scope.now.count) scope.now.count (effect_in base scope.now.held.names (map atom_of es.now)) }
-    ensures nodes { IfOk result (λ x. x.1 ≡ stopped (spent + effect_nodes (effect_in base scope.now.held.names (map atom_of es.now)))) }
+    ensures gives { Gives (λ x. map atom x.0.items) result
+        (run (atoms_points scope.now.held.names (map atom_of es.now)) scope.now.count) scope.now.count
+        (effect_in base scope.now.held.names (map atom_of es.now)) }
+    ensures nodes { IfOk result
+        (λ x. x.1 ≡ stopped
+        (spent + effect_nodes (effect_in base scope.now.held.names (map atom_of es.now)))) }
 {
     let mut read = Vec::new(alloc);
     let mut total = spent;
@@ -105,7 +116,9 @@ fn read_abbreviation(
     spent: u64,
     word: &SWord,
 ) -> Result<(Ty, u64), ScopeFault>
-    ensures { Counts ty ty_nodes result (run (one (uses_type (abbreviations scope.now.types) word.now)) scope.now.count) scope.now.count spent (known (type_of (abbreviations scope.now.types) word.now.word)) }
+    ensures { Counts ty ty_nodes result
+        (run (one (uses_type (abbreviations scope.now.types) word.now)) scope.now.count) scope.now.count spent
+        (known (type_of (abbreviations scope.now.types) word.now.word)) }
 {
     let text = word.word.as_str();
     match scope.types.get(&text) {
@@ -167,7 +180,10 @@ pub fn read_type<'t>(
     spent: u64,
     t: &'t STy,
 ) -> Result<(Ty, u64), ScopeFault>
-    ensures gives { Counts ty ty_nodes result (run (type_points (abbreviations scope.old.types) scope.old.held.names (ty_of t.entry.now)) scope.old.count) scope.old.count spent (type_in base (abbreviations scope.old.types) scope.old.held.names (ty_of t.entry.now)) }
+    ensures gives { Counts ty ty_nodes result
+        (run (type_points (abbreviations scope.old.types) scope.old.held.names (ty_of t.entry.now))
+        scope.old.count) scope.old.count spent
+        (type_in base (abbreviations scope.old.types) scope.old.held.names (ty_of t.entry.now)) }
     ensures scope { OnOk result (scope.new ≡ scope.old) }
 {
     match t {
@@ -217,8 +233,16 @@ fn read_fields<'t>(
     spent: u64,
     fs: &'t [SField],
 ) -> Result<(Vec<Ty>, u64), ScopeFault>
-    ensures gives { Counts (λ v. map ty v.items) type_row_nodes result (run (fields_points (abbreviations scope.old.types) scope.old.held.names (fields_of_list (map field_of fs.entry.now))) scope.old.count) scope.old.count spent (fields_in base (abbreviations scope.old.types) scope.old.held.names (fields_of_list (map field_of fs.entry.now))) }
-    ensures scope { OnOk result (scope.new ≡ record scope.old { held = with_names scope.old.held (behind scope.old.held.names (fields_of_list (map field_of fs.entry.now))) }) }
+    ensures gives { Counts (λ v. map ty v.items) type_row_nodes result
+        (run (fields_points (abbreviations scope.old.types) scope.old.held.names
+        (fields_of_list (map field_of fs.entry.now))) scope.old.count) scope.old.count spent
+        (fields_in base (abbreviations scope.old.types) scope.old.held.names
+        (fields_of_list (map field_of fs.entry.now))) }
+    ensures scope { OnOk result
+        (scope.new ≡ record scope.old {
+          held = with_names scope.old.held
+              (behind scope.old.held.names (fields_of_list (map field_of fs.entry.now)));
+        }) }
 {
     let mut read = Vec::new(alloc);
     let mut total = spent;
@@ -240,7 +264,10 @@ fn read_last<'t>(
     spent: u64,
     end: &'t Last,
 ) -> Result<(Ty, u64), ScopeFault>
-    ensures gives { Counts ty ty_nodes result (run (last_points (abbreviations scope.old.types) scope.old.held.names (last_of end.entry.now)) scope.old.count) scope.old.count spent (last_in base (abbreviations scope.old.types) scope.old.held.names (last_of end.entry.now)) }
+    ensures gives { Counts ty ty_nodes result
+        (run (last_points (abbreviations scope.old.types) scope.old.held.names (last_of end.entry.now))
+        scope.old.count) scope.old.count spent
+        (last_in base (abbreviations scope.old.types) scope.old.held.names (last_of end.entry.now)) }
     ensures scope { OnOk result (scope.new ≡ scope.old) }
 {
     match end {

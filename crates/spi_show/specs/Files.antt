@@ -40,8 +40,10 @@ derivation_part (Some uses) = derivation_text uses
 -- the file, where the numbers of bound names are moved up by s
 abbrev pub file_text : ℕ → Meant → List ℕ
 file_text s f =
-    version_text f.version ++ (free_text f.names ++ (codes "process " ++ (line_text (name_text s f.names) f.process
-    ++ (opponent_text (name_text s f.names) f.opponent ++ (schedule_part f.schedule ++ derivation_part f.derivation)))))
+    version_text f.version
+    ++ (free_text f.names ++ (codes "process " ++ (line_text (name_text s f.names) f.process
+    ++ (opponent_text (name_text s f.names) f.opponent
+    ++ (schedule_part f.schedule ++ derivation_part f.derivation)))))
 
 -- the text is the canonical one of the file
 abbrev pub IsCanonicalText : Meant → List ℕ → Type 0

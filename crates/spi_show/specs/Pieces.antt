@@ -49,7 +49,8 @@ open_text sequel output = if output then [] else codes "("
 abbrev pub head_text : (ℕ → List ℕ) → Standing → Bool → Shape → List ℕ
 head_text spell at output (leaf_at n l) = leaf_text spell n l
 head_text spell at output (prefix_at n s b) = prefix_text spell n s
-head_text spell at output (fork_at n (Cases m t u) a r) = left_text spell n (message_text spell n m) (type_text spell n t)
+head_text spell at output (fork_at n (Cases m t u) a r) =
+    left_text spell n (message_text spell n m) (type_text spell n t)
 head_text spell at output (fork_at n Pars a r) = open_text at output
 
 -- the pieces of a parallel composition behind that
@@ -63,7 +64,8 @@ parts_of sequel output =
 abbrev pub pieces_at : (ℕ → List ℕ) → Standing → Bool → Shape → List Piece
 pieces_at spell at output (leaf_at n l) = []
 pieces_at spell at output (prefix_at n s b) = process sequel ∷ []
-pieces_at spell at output (fork_at n (Cases m t u) a r) = process sequel ∷ (words (right_text spell n (type_text spell n u)) ∷ (process sequel ∷ []))
+pieces_at spell at output (fork_at n (Cases m t u) a r) =
+    process sequel ∷ (words (right_text spell n (type_text spell n u)) ∷ (process sequel ∷ []))
 pieces_at spell at output (fork_at n Pars a r) = parts_of at output
 
 -- the same where a node is the next one, or none is left
@@ -87,14 +89,16 @@ piece_text spell ss i (process at) = first_text spell at (output_in (slice_get s
 
 abbrev pub piece_parts : (ℕ → List ℕ) → List Shape → ℕ → Piece → List Piece
 piece_parts spell ss i (words w) = []
-piece_parts spell ss i (process at) = first_pieces spell at (output_in (slice_get ss (i + 1))) (slice_get ss i)
+piece_parts spell ss i (process at) =
+    first_pieces spell at (output_in (slice_get ss (i + 1))) (slice_get ss i)
 
 abbrev pub piece_after : List Shape → ℕ → Piece → ℕ
 piece_after ss i (words w) = i
 piece_after ss i (process at) = node_after i (slice_get ss i)
 
 -- A piece is written, and i and j are the next nodes before and after.
-pub record IsPut (spell : ℕ → List ℕ) (ss : List Shape) (i j : ℕ) (x : Piece) (old new : List ℕ) (rest after : List Piece) : Type 0 where
+pub record IsPut (spell : ℕ → List ℕ) (ss : List Shape) (i j : ℕ) (x : Piece) (old new : List ℕ)
+    (rest after : List Piece) : Type 0 where
   pub node : j ≡ piece_after ss i x
   pub text : new ≡ old ++ piece_text spell ss i x
   pub left : after ≡ piece_parts spell ss i x ++ rest

@@ -14,7 +14,8 @@ abbrev pub message_text : List (List ℕ) → Message → List ℕ
 message_text names (bound i) = []
 message_text names (name x) = name_text (slice_get names x) x
 message_text names unit = codes "()"
-message_text names (pair m n) = codes "(" ++ message_text names m ++ codes ", " ++ message_text names n ++ codes ")"
+message_text names (pair m n) =
+    codes "(" ++ message_text names m ++ codes ", " ++ message_text names n ++ codes ")"
 message_text names (in_left m) = codes "inl " ++ message_text names m
 message_text names (in_right m) = codes "inr " ++ message_text names m
 message_text names (enc m n) = codes "{" ++ message_text names m ++ codes "}" ++ message_text names n

@@ -8,10 +8,12 @@ abbrev mutual
   message_text spell n (bound i) = spell (n - suc i)
   message_text spell n (name x) = spell x
   message_text spell n unit = codes "()"
-  message_text spell n (pair a b) = codes "(" ++ (message_text spell n a ++ (codes ", " ++ (tuple_text spell n b ++ codes ")")))
+  message_text spell n (pair a b) =
+      codes "(" ++ (message_text spell n a ++ (codes ", " ++ (tuple_text spell n b ++ codes ")")))
   message_text spell n (in_left a) = codes "inl " ++ message_text spell n a
   message_text spell n (in_right a) = codes "inr " ++ message_text spell n a
-  message_text spell n (enc a b) = codes "{" ++ (message_text spell n a ++ (codes "}" ++ message_text spell n b))
+  message_text spell n (enc a b) =
+      codes "{" ++ (message_text spell n a ++ (codes "}" ++ message_text spell n b))
   message_text spell n (hash a) = codes "hash(" ++ (message_text spell n a ++ codes ")")
 
   -- the parts of a tuple behind its first
@@ -22,7 +24,8 @@ abbrev mutual
   tuple_text spell n (pair a b) = message_text spell n a ++ (codes ", " ++ tuple_text spell n b)
   tuple_text spell n (in_left a) = codes "inl " ++ message_text spell n a
   tuple_text spell n (in_right a) = codes "inr " ++ message_text spell n a
-  tuple_text spell n (enc a b) = codes "{" ++ (message_text spell n a ++ (codes "}" ++ message_text spell n b))
+  tuple_text spell n (enc a b) =
+      codes "{" ++ (message_text spell n a ++ (codes "}" ++ message_text spell n b))
   tuple_text spell n (hash a) = codes "hash(" ++ (message_text spell n a ++ codes ")")
 
 abbrev pub atom_text : (ℕ → List ℕ) → ℕ → Atom → List ℕ
@@ -47,8 +50,11 @@ abbrev mutual
   pub type_text : (ℕ → List ℕ) → ℕ → Ty → List ℕ
   type_text spell n un = codes "Un"
   type_text spell n unit_ty = codes "()"
-  type_text spell n (pair_ty t u) = codes "(" ++ (typed_text spell n (type_text spell n t) ++ (codes ", " ++ (tuple_type_text spell (suc n) u ++ codes ")")))
-  type_text spell n (sum_ty t u) = codes "(" ++ (type_text spell n t ++ (codes " + " ++ (type_text spell n u ++ codes ")")))
+  type_text spell n (pair_ty t u) =
+      codes "(" ++ (typed_text spell n (type_text spell n t)
+      ++ (codes ", " ++ (tuple_type_text spell (suc n) u ++ codes ")")))
+  type_text spell n (sum_ty t u) =
+      codes "(" ++ (type_text spell n t ++ (codes " + " ++ (type_text spell n u ++ codes ")")))
   type_text spell n (key t) = codes "Key(" ++ (type_text spell n t ++ codes ")")
   type_text spell n (nonce es) = codes "Nonce " ++ effect_text spell n es
 
@@ -56,7 +62,9 @@ abbrev mutual
   pub tuple_type_text : (ℕ → List ℕ) → ℕ → Ty → List ℕ
   tuple_type_text spell n un = codes "Un"
   tuple_type_text spell n unit_ty = codes "()"
-  tuple_type_text spell n (pair_ty t u) = typed_text spell n (type_text spell n t) ++ (codes ", " ++ tuple_type_text spell (suc n) u)
-  tuple_type_text spell n (sum_ty t u) = codes "(" ++ (type_text spell n t ++ (codes " + " ++ (type_text spell n u ++ codes ")")))
+  tuple_type_text spell n (pair_ty t u) =
+      typed_text spell n (type_text spell n t) ++ (codes ", " ++ tuple_type_text spell (suc n) u)
+  tuple_type_text spell n (sum_ty t u) =
+      codes "(" ++ (type_text spell n t ++ (codes " + " ++ (type_text spell n u ++ codes ")")))
   tuple_type_text spell n (key t) = codes "Key(" ++ (type_text spell n t ++ codes ")")
   tuple_type_text spell n (nonce es) = codes "Nonce " ++ effect_text spell n es

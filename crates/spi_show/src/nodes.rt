@@ -24,7 +24,9 @@ fn put_out(
     datum: &Msg,
     out: &mut Vec<u8>,
 ) -> Result<(), NoMemory>
-    ensures { OnOk result (out.new.items ≡ out.old.items ++ leaf_text (spelling spell.now) n (Sends (message channel.now) (message datum.now))) }
+    ensures { OnOk result
+        (out.new.items ≡ out.old.items
+        ++ leaf_text (spelling spell.now) n (Sends (message channel.now) (message datum.now))) }
 {
     out.extend_from_slice(b"out ")?;
     put_message(alloc, spell, n, channel, out)?;
@@ -44,7 +46,11 @@ fn put_binder(
     out: &mut Vec<u8>,
 ) -> Result<(), NoMemory>
     requires { n + ty_nodes (type_of t.now) < 2 ^ 32 }
-    ensures { OnOk result (out.new.items ≡ out.old.items ++ (word.now ++ (message_text (spelling spell.now) n (message m.now) ++ (open.now ++ (typed_text (spelling spell.now) n (type_text (spelling spell.now) n (type_of t.now)) ++ codes "); "))))) }
+    ensures { OnOk result
+        (out.new.items ≡ out.old.items
+        ++ (word.now ++ (message_text (spelling spell.now) n (message m.now)
+        ++ (open.now ++ (typed_text (spelling spell.now) n (type_text (spelling spell.now) n (type_of t.now))
+        ++ codes "); "))))) }
 {
     out.extend_from_slice(word)?;
     put_message(alloc, spell, n, m, out)?;
@@ -64,7 +70,10 @@ fn put_split(
 ) -> Result<(), NoMemory>
     requires first { n + ty_nodes (type_of first.now) < 2 ^ 32 }
     requires second { n + 1 + ty_nodes (type_of second.now) < 2 ^ 32 }
-    ensures { OnOk result (out.new.items ≡ out.old.items ++ prefix_text (spelling spell.now) n (Splits (message m.now) (type_of first.now) (type_of second.now))) }
+    ensures { OnOk result
+        (out.new.items ≡ out.old.items
+        ++ prefix_text (spelling spell.now) n
+        (Splits (message m.now) (type_of first.now) (type_of second.now))) }
 {
     out.extend_from_slice(b"split ")?;
     put_message(alloc, spell, n, m, out)?;
@@ -84,7 +93,10 @@ fn put_second(
     out: &mut Vec<u8>,
 ) -> Result<(), NoMemory>
     requires { n + 1 + ty_nodes (type_of second.now) < 2 ^ 32 }
-    ensures { OnOk result (out.new.items ≡ out.old.items ++ (typed_text (spelling spell.now) n (type_text (spelling spell.now) (suc n) (type_of second.now)) ++ codes "); ")) }
+    ensures { OnOk result
+        (out.new.items ≡ out.old.items
+        ++ (typed_text (spelling spell.now) n (type_text (spelling spell.now) (suc n) (type_of second.now))
+        ++ codes "); ")) }
 {
     put_name(alloc, spell, n, out)?;
     out.extend_from_slice(b": ")?;
@@ -104,7 +116,10 @@ fn put_match(
 ) -> Result<(), NoMemory>
     requires first { n + ty_nodes (type_of first.now) < 2 ^ 32 }
     requires second { n + 1 + ty_nodes (type_of second.now) < 2 ^ 32 }
-    ensures { OnOk result (out.new.items ≡ out.old.items ++ prefix_text (spelling spell.now) n (Selects (message m.now) (type_of first.now) (message equal.now) (type_of second.now))) }
+    ensures { OnOk result
+        (out.new.items ≡ out.old.items
+        ++ prefix_text (spelling spell.now) n
+        (Selects (message m.now) (type_of first.now) (message equal.now) (type_of second.now))) }
 {
     out.extend_from_slice(b"match ")?;
     put_message(alloc, spell, n, m, out)?;
@@ -126,7 +141,9 @@ fn put_decrypt(
     out: &mut Vec<u8>,
 ) -> Result<(), NoMemory>
     requires { n + ty_nodes (type_of t.now) < 2 ^ 32 }
-    ensures { OnOk result (out.new.items ≡ out.old.items ++ prefix_text (spelling spell.now) n (Decrypts (message m.now) (type_of t.now) (message key.now))) }
+    ensures { OnOk result
+        (out.new.items ≡ out.old.items
+        ++ prefix_text (spelling spell.now) n (Decrypts (message m.now) (type_of t.now) (message key.now))) }
 {
     out.extend_from_slice(b"decrypt ")?;
     put_message(alloc, spell, n, m, out)?;
@@ -145,7 +162,9 @@ fn put_check(
     nonce: &Msg,
     out: &mut Vec<u8>,
 ) -> Result<(), NoMemory>
-    ensures { OnOk result (out.new.items ≡ out.old.items ++ prefix_text (spelling spell.now) n (Checks (message m.now) (message nonce.now))) }
+    ensures { OnOk result
+        (out.new.items ≡ out.old.items
+        ++ prefix_text (spelling spell.now) n (Checks (message m.now) (message nonce.now))) }
 {
     out.extend_from_slice(b"check ")?;
     put_message(alloc, spell, n, m, out)?;
@@ -163,7 +182,9 @@ fn put_label(
     label: &Msg,
     out: &mut Vec<u8>,
 ) -> Result<(), NoMemory>
-    ensures { OnOk result (out.new.items ≡ out.old.items ++ (word.now ++ (message_text (spelling spell.now) n (message label.now) ++ codes "; "))) }
+    ensures { OnOk result
+        (out.new.items ≡ out.old.items
+        ++ (word.now ++ (message_text (spelling spell.now) n (message label.now) ++ codes "; "))) }
 {
     out.extend_from_slice(word)?;
     put_message(alloc, spell, n, label, out)?;
@@ -172,7 +193,8 @@ fn put_label(
 
 fn put_new(alloc: Global, spell: &Spell, n: u32, t: &Ty, out: &mut Vec<u8>) -> Result<(), NoMemory>
     requires { n + ty_nodes (type_of t.now) < 2 ^ 32 }
-    ensures { OnOk result (out.new.items ≡ out.old.items ++ prefix_text (spelling spell.now) n (Makes (type_of t.now))) }
+    ensures { OnOk result
+        (out.new.items ≡ out.old.items ++ prefix_text (spelling spell.now) n (Makes (type_of t.now))) }
 {
     out.extend_from_slice(b"new (")?;
     put_typed(alloc, spell, n, t, out)?;
@@ -206,7 +228,9 @@ pub fn put_head(
 ) -> Result<(), NoMemory>
     requires small { HasSmallParts (shape_of node.now) }
     requires few { node.now.scope ≤ 300000 }
-    ensures { OnOk result (out.new.items ≡ out.old.items ++ head_text (spelling spell.now) (standing at) output (shape_of node.now)) }
+    ensures { OnOk result
+        (out.new.items ≡ out.old.items
+        ++ head_text (spelling spell.now) (standing at) output (shape_of node.now)) }
 {
     let n = node.scope;
     match &node.form {

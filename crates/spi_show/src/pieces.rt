@@ -47,7 +47,8 @@ pub fn push_sequel(pending: &mut Vec<Piece>) -> Result<(), NoMemory>
 }
 
 fn push_three(x: Piece, y: Piece, z: Piece, pending: &mut Vec<Piece>) -> Result<(), NoMemory>
-    ensures { OnOk result (tops pending.new.items ≡ piece x ∷ (piece y ∷ (piece z ∷ tops pending.old.items))) }
+    ensures { OnOk result
+        (tops pending.new.items ≡ piece x ∷ (piece y ∷ (piece z ∷ tops pending.old.items))) }
 {
     push_piece(z, pending)?;
     push_piece(y, pending)?;
@@ -80,7 +81,9 @@ pub fn push_parts(at: Place, output: bool, pending: &mut Vec<Piece>) -> Result<(
 // What stands between the processes of a `case`.
 fn between(alloc: Global, spell: &Spell, n: u32, right: &Ty) -> Result<Vec<u8>, NoMemory>
     requires { n + ty_nodes (type_of right.now) < 2 ^ 32 }
-    ensures { IfOk result (λ v. v.items ≡ right_text (spelling spell.now) n (type_text (spelling spell.now) n (type_of right.now))) }
+    ensures { IfOk result
+        (λ v. v.items
+        ≡ right_text (spelling spell.now) n (type_text (spelling spell.now) n (type_of right.now))) }
 {
     let mut out = Vec::new(alloc);
     out.extend_from_slice(b" is inr (")?;
@@ -98,7 +101,10 @@ pub fn push_sides(
     pending: &mut Vec<Piece>,
 ) -> Result<(), NoMemory>
     requires { n + ty_nodes (type_of right.now) < 2 ^ 32 }
-    ensures { OnOk result (tops pending.new.items ≡ process sequel ∷ (words (right_text (spelling spell.now) n (type_text (spelling spell.now) n (type_of right.now))) ∷ (process sequel ∷ tops pending.old.items))) }
+    ensures { OnOk result
+        (tops pending.new.items ≡ process sequel
+        ∷ (words (right_text (spelling spell.now) n (type_text (spelling spell.now) n (type_of right.now)))
+        ∷ (process sequel ∷ tops pending.old.items))) }
 {
     let words = between(alloc, spell, n, right)?;
     push_three(

@@ -60,7 +60,9 @@ fn put_off(
 ) -> Result<(), NoMemory>
     requires small { HasSmallParts (shape_of node.now) }
     requires few { node.now.scope ≤ 300000 }
-    ensures { OnOk result (tops pending.new.items ≡ pieces_at (spelling spell.now) (standing at) output (shape_of node.now) ++ tops pending.old.items) }
+    ensures { OnOk result
+        (tops pending.new.items ≡ pieces_at (spelling spell.now) (standing at) output (shape_of node.now)
+        ++ tops pending.old.items) }
 {
     match &node.form {
         Form::Send { .. } => Ok(()),
@@ -94,7 +96,9 @@ fn put_node(
 ) -> Result<u32, NoMemory>
     requires nodes { nodes ≡ process_size process.now.process }
     requires small { IsSmall process.now.names process.now.process }
-    ensures { IfOk result (λ next. IsPut (spelling spell.now) (spelled process.now.names process.now.process) id next (inner (standing at)) out.old.items out.new.items (tops pending.old.items) (tops pending.new.items)) }
+    ensures { IfOk result
+        (λ next. IsPut (spelling spell.now) (spelled process.now.names process.now.process) id next
+        (inner (standing at)) out.old.items out.new.items (tops pending.old.items) (tops pending.new.items)) }
 {
     if id >= nodes {
         return Ok(id);
@@ -119,7 +123,9 @@ fn put_piece(
 ) -> Result<u32, NoMemory>
     requires nodes { nodes ≡ process_size process.now.process }
     requires small { IsSmall process.now.names process.now.process }
-    ensures { IfOk result (λ next. IsPut (spelling spell.now) (spelled process.now.names process.now.process) id next (piece x) out.old.items out.new.items (tops pending.old.items) (tops pending.new.items)) }
+    ensures { IfOk result
+        (λ next. IsPut (spelling spell.now) (spelled process.now.names process.now.process) id next (piece x)
+        out.old.items out.new.items (tops pending.old.items) (tops pending.new.items)) }
 {
     match x {
         Piece::Bar => out.extend_from_slice(b" | ")?,
@@ -141,7 +147,10 @@ fn put_nodes(
 ) -> Result<(), NoMemory>
     requires nodes { nodes ≡ process_size process.now.process }
     requires small { IsSmall process.now.names process.now.process }
-    ensures { OnOk result (out.new.items ≡ out.old.items ++ process_text (spelling spell.now) alone process.now.names (numbered [] process.now.names process.now.process)) }
+    ensures { OnOk result
+        (out.new.items ≡ out.old.items
+        ++ process_text (spelling spell.now) alone process.now.names
+        (numbered [] process.now.names process.now.process)) }
 {
     let mut pending = Vec::new(alloc);
     pending.push(Piece::Process(Place::Alone))?;
@@ -159,7 +168,9 @@ pub fn put_process(
     process: &Process,
     out: &mut Vec<u8>,
 ) -> Result<(), NoMemory>
-    ensures { OnOk result (out.new.items ≡ out.old.items ++ process_text (spelling spell.now) alone process.now.names process.now.process) }
+    ensures { OnOk result
+        (out.new.items ≡ out.old.items
+        ++ process_text (spelling spell.now) alone process.now.names process.now.process) }
 {
     let nodes = process.len();
     put_nodes(alloc, spell, process, nodes, out)

@@ -13,14 +13,16 @@ use std::alloc::Global;
 
 // What stands behind the prefix.
 fn behind<'a>(word: &'a str, prefix: &str) -> Option<&'a str>
-    ensures { MatchOption result ((rest : List ℕ) → word.now ≢ prefix.now ++ rest) (λ x. word.now ≡ prefix.now ++ x.now) }
+    ensures { MatchOption result ((rest : List ℕ) → word.now ≢ prefix.now ++ rest)
+        (λ x. word.now ≡ prefix.now ++ x.now) }
 {
     word.strip_prefix(prefix)
 }
 
 // The number, if these are its digits.
 fn if_written(alloc: Global, n: u128, digits: &str) -> Result<Option<u128>, NoMemory>
-    ensures { IfOk result (λ o. MatchOption o (decimal n ≢ digits.now) (λ m. (m ≡ n) × (decimal n ≡ digits.now))) }
+    ensures { IfOk result
+        (λ o. MatchOption o (decimal n ≢ digits.now) (λ m. (m ≡ n) × (decimal n ≡ digits.now))) }
 {
     let written = format!(in alloc; "{n}")?;
     if written.as_str() == digits {

@@ -34,7 +34,11 @@ fn put_enc(
     key: &Msg,
     out: &mut Vec<u8>,
 ) -> Result<(), NoMemory>
-    ensures { OnOk result (out.new.items ≡ out.old.items ++ (codes "{" ++ (message_text (spelling spell.now) n (message body.now) ++ (codes "}" ++ message_text (spelling spell.now) n (message key.now))))) }
+    ensures { OnOk result
+        (out.new.items ≡ out.old.items
+        ++ (codes "{"
+        ++ (message_text (spelling spell.now) n (message body.now)
+        ++ (codes "}" ++ message_text (spelling spell.now) n (message key.now))))) }
 {
     out.extend_from_slice(b"{")?;
     put_message(alloc, spell, n, body, out)?;
@@ -51,7 +55,8 @@ pub fn put_message(
     m: &Msg,
     out: &mut Vec<u8>,
 ) -> Result<(), NoMemory>
-    ensures { OnOk result (out.new.items ≡ out.old.items ++ message_text (spelling spell.now) n (message m.now)) }
+    ensures { OnOk result
+        (out.new.items ≡ out.old.items ++ message_text (spelling spell.now) n (message m.now)) }
 {
     match m {
         Msg::Bound(i) => put_bound(alloc, spell, n, *i, out),
@@ -90,7 +95,8 @@ fn put_tuple(
     m: &Msg,
     out: &mut Vec<u8>,
 ) -> Result<(), NoMemory>
-    ensures { OnOk result (out.new.items ≡ out.old.items ++ tuple_text (spelling spell.now) n (message m.now)) }
+    ensures { OnOk result
+        (out.new.items ≡ out.old.items ++ tuple_text (spelling spell.now) n (message m.now)) }
 {
     match m {
         Msg::Pair(first, second) => {
@@ -151,7 +157,8 @@ fn put_more(
     atoms: &[Atom],
     out: &mut Vec<u8>,
 ) -> Result<(), NoMemory>
-    ensures { OnOk result (out.new.items ≡ out.old.items ++ more_text (spelling spell.now) n (map atom atoms.now)) }
+    ensures { OnOk result
+        (out.new.items ≡ out.old.items ++ more_text (spelling spell.now) n (map atom atoms.now)) }
 {
     for a in atoms {
         out.extend_from_slice(b", ")?;
@@ -168,7 +175,8 @@ pub fn put_effect(
     e: &Effect,
     out: &mut Vec<u8>,
 ) -> Result<(), NoMemory>
-    ensures { OnOk result (out.new.items ≡ out.old.items ++ effect_text (spelling spell.now) n (effect e.now)) }
+    ensures { OnOk result
+        (out.new.items ≡ out.old.items ++ effect_text (spelling spell.now) n (effect e.now)) }
 {
     match e.atoms.as_slice() {
         [] => out.extend_from_slice(b"[]"),
@@ -191,7 +199,9 @@ pub fn put_typed(
     out: &mut Vec<u8>,
 ) -> Result<(), NoMemory>
     requires { n + ty_nodes (type_of t.now) < 2 ^ 32 }
-    ensures { OnOk result (out.new.items ≡ out.old.items ++ typed_text (spelling spell.now) n (type_text (spelling spell.now) n (type_of t.now))) }
+    ensures { OnOk result
+        (out.new.items ≡ out.old.items
+        ++ typed_text (spelling spell.now) n (type_text (spelling spell.now) n (type_of t.now))) }
 {
     put_name(alloc, spell, n, out)?;
     out.extend_from_slice(b": ")?;
@@ -208,7 +218,11 @@ fn put_sum(
     out: &mut Vec<u8>,
 ) -> Result<(), NoMemory>
     requires { n + (ty_nodes (type_of left.now) + ty_nodes (type_of right.now)) < 2 ^ 32 }
-    ensures { OnOk result (out.new.items ≡ out.old.items ++ (codes "(" ++ (type_text (spelling spell.now) n (type_of left.now) ++ (codes " + " ++ (type_text (spelling spell.now) n (type_of right.now) ++ codes ")"))))) }
+    ensures { OnOk result
+        (out.new.items ≡ out.old.items
+        ++ (codes "("
+        ++ (type_text (spelling spell.now) n (type_of left.now)
+        ++ (codes " + " ++ (type_text (spelling spell.now) n (type_of right.now) ++ codes ")"))))) }
 {
     out.extend_from_slice(b"(")?;
     put_type(alloc, spell, n, left, out)?;
@@ -226,7 +240,9 @@ fn put_key(
     out: &mut Vec<u8>,
 ) -> Result<(), NoMemory>
     requires { n + ty_nodes (type_of payload.now) < 2 ^ 32 }
-    ensures { OnOk result (out.new.items ≡ out.old.items ++ (codes "Key(" ++ (type_text (spelling spell.now) n (type_of payload.now) ++ codes ")"))) }
+    ensures { OnOk result
+        (out.new.items ≡ out.old.items
+        ++ (codes "Key(" ++ (type_text (spelling spell.now) n (type_of payload.now) ++ codes ")"))) }
 {
     out.extend_from_slice(b"Key(")?;
     put_type(alloc, spell, n, payload, out)?;
@@ -240,7 +256,9 @@ fn put_nonce(
     e: &Effect,
     out: &mut Vec<u8>,
 ) -> Result<(), NoMemory>
-    ensures { OnOk result (out.new.items ≡ out.old.items ++ (codes "Nonce " ++ effect_text (spelling spell.now) n (effect e.now))) }
+    ensures { OnOk result
+        (out.new.items ≡ out.old.items
+        ++ (codes "Nonce " ++ effect_text (spelling spell.now) n (effect e.now))) }
 {
     out.extend_from_slice(b"Nonce ")?;
     put_effect(alloc, spell, n, e, out)
@@ -256,7 +274,8 @@ pub fn put_type(
     out: &mut Vec<u8>,
 ) -> Result<(), NoMemory>
     requires { n + ty_nodes (type_of t.now) < 2 ^ 32 }
-    ensures { OnOk result (out.new.items ≡ out.old.items ++ type_text (spelling spell.now) n (type_of t.now)) }
+    ensures { OnOk result
+        (out.new.items ≡ out.old.items ++ type_text (spelling spell.now) n (type_of t.now)) }
 {
     match t {
         Ty::Un => out.extend_from_slice(b"Un"),
@@ -284,7 +303,8 @@ fn put_tuple_type(
     out: &mut Vec<u8>,
 ) -> Result<(), NoMemory>
     requires { n + ty_nodes (type_of t.now) < 2 ^ 32 }
-    ensures { OnOk result (out.new.items ≡ out.old.items ++ tuple_type_text (spelling spell.now) n (type_of t.now)) }
+    ensures { OnOk result
+        (out.new.items ≡ out.old.items ++ tuple_type_text (spelling spell.now) n (type_of t.now)) }
 {
     match t {
         Ty::Un => out.extend_from_slice(b"Un"),

@@ -13,13 +13,15 @@ use Rattle.spi_run.specs.Safety.{beside}
 use Rattle.spi_sound.specs.Account.{Account, PlacesHave, places_none, places_more, Balances, with_label, with_begun, with_name, with_cast, with_checked, first_account}
 
 -- what the typing of a process releases at once: the effect of the Nonce type, where its rule is that of a check by a nonce
-abbrev pub released : {casts : List Cast} {env : Env} {p : Process} {es : Effect} → HasEffect casts env p es → Option Effect
+abbrev pub released : {casts : List Cast} {env : Env} {p : Process} {es : Effect} → HasEffect casts env p es
+    → Option Effect
 released (proc_check {fs = fs} h d n s r) = Some fs
 released (proc_sub d w g) = released d
 released _ = None
 
 -- and that of each place
-abbrev pub all_released : {casts : List Cast} {env : Env} {ps : List Process} {es : Effect} → PlacesHave casts env ps es → List (Option Effect)
+abbrev pub all_released : {casts : List Cast} {env : Env} {ps : List Process} {es : Effect}
+    → PlacesHave casts env ps es → List (Option Effect)
 all_released places_none = []
 all_released (places_more d ds) = released d ∷ all_released ds
 
@@ -36,7 +38,8 @@ pub data Moves (a : Account) : Process → Option Effect → Option Event → Ac
   releases : {x : ℕ} {p : Process} {fs : Effect}
       → a.unchecked x ≡ true → In (cast_of (name x) fs) a.casts
       → Moves a (check (name x) (name x) p) (Some fs) None (with_checked a x)
-  begins : {m : Message} {p : Process} {r : Option Effect} → Moves a (begin m p) r (Some (begun m)) (with_label a m)
+  begins : {m : Message} {p : Process} {r : Option Effect}
+      → Moves a (begin m p) r (Some (begun m)) (with_label a m)
   takes : {m : Message} {p : Process} {r : Option Effect} (pre post : List Message)
       → a.begun ≡ pre ++ m ∷ post → Moves a (end m p) r (Some (ended m)) (with_begun a (pre ++ post))
   claims : {m : Message} {p : Process} {r : Option Effect}
@@ -49,7 +52,8 @@ pub data Moves (a : Account) : Process → Option Effect → Option Event → Ac
 
 -- The account after a step, where rs is what the typings of the places release: a place that acts changes it as its process
 -- does, and a talk leaves it.
-pub data Changes (c : Configuration) (rs : List (Option Effect)) (a : Account) : Step → Option Event → Account → Type 0 where
+pub data Changes (c : Configuration) (rs : List (Option Effect)) (a : Account) : Step → Option Event → Account
+    → Type 0 where
   by_act : {i : ℕ} {p : Process} {r : Option Effect} {e : Option Event} {b : Account}
       → At c.places i p → At rs i r → Moves a p r e b → Changes c rs a (act i) e b
   by_talk : {i j : ℕ} → Changes c rs a (talk i j) None a
@@ -62,7 +66,8 @@ pub record Grows (c : Configuration) (s : Step) (a b : Account) : Type 0 where
 
 -- every step leads from a balanced account to a balanced account: the one that what acts makes of it, which only grows
 abbrev pub StepsKeepBalance : Type 0
-StepsKeepBalance = (c d : Configuration) (s : Step) (e : Option Event) (a : Account) (h : Balances c a) → Takes c s e d
+StepsKeepBalance = (c d : Configuration) (s : Step) (e : Option Event) (a : Account) (h : Balances c a)
+    → Takes c s e d
     → (b : Account) × Balances d b × Changes c (all_released h.have) a s e b × Grows c s a b
 
 -- and the account at the start balances

@@ -25,24 +25,33 @@ ghost use Rattle.spi_spell.specs.Joined.{joined, schedule_text, with_derivation,
 /// A file without a derivation, one line feed and the text of the canonical derivation of its process are a file with
 /// that derivation.
 pub fn derivation_joins()
-    ensures { (bytes : List ℕ) (file : Meant) (d : List RuleUse) → SpellsFile bytes file → file.derivation ≡ None → Canonical d file.process.names file.process.process → length (joined bytes (derivation_text d)) ≤ limit → SpellsFile (joined bytes (derivation_text d)) (with_derivation file d) }
+    ensures { (bytes : List ℕ) (file : Meant) (d : List RuleUse) → SpellsFile bytes file
+        → file.derivation ≡ None → Canonical d file.process.names file.process.process
+        → length (joined bytes (derivation_text d)) ≤ limit
+        → SpellsFile (joined bytes (derivation_text d)) (with_derivation file d) }
 {}
 
 /// A file with neither schedule nor derivation, one line feed and the text of a schedule of at most 10,000 steps, whose
 /// places are below 2 ^ 32, are a file with that schedule.
 pub fn schedule_joins()
-    ensures { (bytes : List ℕ) (file : Meant) (steps : List Step) → SpellsFile bytes file → file.schedule ≡ None → file.derivation ≡ None → length steps ≤ 10000 → All HasLowPlaces steps → length (joined bytes (schedule_text steps)) ≤ limit → SpellsFile (joined bytes (schedule_text steps)) (with_schedule file steps) }
+    ensures { (bytes : List ℕ) (file : Meant) (steps : List Step) → SpellsFile bytes file
+        → file.schedule ≡ None → file.derivation ≡ None → length steps ≤ 10000 → All HasLowPlaces steps
+        → length (joined bytes (schedule_text steps)) ≤ limit
+        → SpellsFile (joined bytes (schedule_text steps)) (with_schedule file steps) }
 {}
 
 /// The canonical text of a file that bytes spell, where it isn't longer than a file may be, spells that file as well.
 pub fn canonical_reads_back()
-    ensures { (bytes text : List ℕ) (file : Meant) → SpellsFile bytes file → IsCanonicalText file text → length text ≤ limit → SpellsFile text file }
+    ensures { (bytes text : List ℕ) (file : Meant) → SpellsFile bytes file → IsCanonicalText file text
+        → length text ≤ limit → SpellsFile text file }
 {}
 
 /// The same of each file that a tree stands for: a formed tree within the nesting limits, whose words and numbers are
 /// those of tokens.
 pub fn printed_trees_read_back()
-    ensures { (tree : File) (file : Meant) (text : List ℕ) → IsFile tree → IsWithin (whole_file tree) → AreKinds (tokens_of tree) → StandsFor tree file → IsCanonicalText file text → length text ≤ limit → SpellsFile text file }
+    ensures { (tree : File) (file : Meant) (text : List ℕ) → IsFile tree → IsWithin (whole_file tree)
+        → AreKinds (tokens_of tree) → StandsFor tree file → IsCanonicalText file text → length text ≤ limit
+        → SpellsFile text file }
 {}
 
 /// The file of so many generated sessions is formed, so it's one that can be written and read.
@@ -52,5 +61,6 @@ pub fn sessions_are_formed()
 
 /// The tokens of one generated session are those of the handshake as it is written by hand.
 pub fn one_session_is_the_handshake()
-    ensures { (file : File) → IsSessions 1 file → (tokens : List Token) × Lexes handshake_text (Ok tokens) × (kinds_of tokens ≡ tokens_of file) }
+    ensures { (file : File) → IsSessions 1 file
+        → (tokens : List Token) × Lexes handshake_text (Ok tokens) × (kinds_of tokens ≡ tokens_of file) }
 {}

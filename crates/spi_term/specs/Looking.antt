@@ -8,7 +8,8 @@ use Rattle.spi_term.specs.Order.{atom_cmp}
 
 -- no atom is before an earlier one
 pub record IsInOrder (es : Effect) : Type 0 where
-  pub at : (i j : ℕ) (a b : Atom) → i ≤ j → slice_get es i ≡ Some a → slice_get es j ≡ Some b → is_lt (atom_cmp b a) ≡ false
+  pub at : (i j : ℕ) (a b : Atom) → i ≤ j → slice_get es i ≡ Some a → slice_get es j ≡ Some b
+      → is_lt (atom_cmp b a) ≡ false
 
 -- the first place of an atom, or none where it doesn't stand in the list
 abbrev pub IsPlace : Atom → Effect → Option ℕ → Type 0

@@ -57,7 +57,8 @@ OfFork P k Pars = ⊤
 abbrev pub OfProcess : (ℕ → Message → Type 0) → ℕ → Process → Type 0
 OfProcess P k (leaf l) = OfLeaf P k l
 OfProcess P k (prefix b p) = OfPrefix P k b × OfProcess P (k + binds b) p
-OfProcess P k (fork b p q) = OfFork P k b × OfProcess P (k + fork_binds b) p × OfProcess P (k + fork_binds b) q
+OfProcess P k (fork b p q) = OfFork P k b × OfProcess P (k + fork_binds b) p
+    × OfProcess P (k + fork_binds b) q
 
 -- a type over n names, and a process over n names, with no loose index
 abbrev pub TyOver : ℕ → Ty → Type 0

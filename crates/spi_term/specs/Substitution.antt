@@ -45,7 +45,8 @@ fork_map f k Pars = Pars
 abbrev pub process_map : (ℕ → Message → Message) → ℕ → Process → Process
 process_map f k (leaf l) = leaf (leaf_map f k l)
 process_map f k (prefix b p) = prefix (prefix_map f k b) (process_map f (k + binds b) p)
-process_map f k (fork b p q) = fork (fork_map f k b) (process_map f (k + fork_binds b) p) (process_map f (k + fork_binds b) q)
+process_map f k (fork b p q) =
+    fork (fork_map f k b) (process_map f (k + fork_binds b) p) (process_map f (k + fork_binds b) q)
 
 -- n for the bound name k
 abbrev pub put : Message → ℕ → Message → Message

@@ -25,7 +25,8 @@ fn deeper(depth: u64) -> u64
 // The value for the index of the binder at this depth.
 fn put_message(alloc: Global, value: &Msg, depth: u64, m: &Msg) -> Result<Msg, NoMemory>
     requires { depth ≤ 2 ^ 32 }
-    ensures { IfOk result (λ r. (d : ℕ) → min d (2 ^ 32) ≡ depth → message r ≡ put (message value.now) d (message m.now)) }
+    ensures { IfOk result
+        (λ r. (d : ℕ) → min d (2 ^ 32) ≡ depth → message r ≡ put (message value.now) d (message m.now)) }
 {
     match m {
         Msg::Bound(i) => {
@@ -53,7 +54,8 @@ fn put_message(alloc: Global, value: &Msg, depth: u64, m: &Msg) -> Result<Msg, N
 
 fn put_atom(alloc: Global, value: &Msg, depth: u64, a: &Atom) -> Result<Atom, NoMemory>
     requires { depth ≤ 2 ^ 32 }
-    ensures { IfOk result (λ r. (d : ℕ) → min d (2 ^ 32) ≡ depth → atom r ≡ atom_map (put (message value.now) d) (atom a.now)) }
+    ensures { IfOk result
+        (λ r. (d : ℕ) → min d (2 ^ 32) ≡ depth → atom r ≡ atom_map (put (message value.now) d) (atom a.now)) }
 {
     match a {
         Atom::End(m) => Ok(Atom::End(put_message(alloc, value, depth, m)?)),
@@ -64,7 +66,9 @@ fn put_atom(alloc: Global, value: &Msg, depth: u64, a: &Atom) -> Result<Atom, No
 
 fn put_effect(alloc: Global, value: &Msg, depth: u64, e: &Effect) -> Result<Effect, NoMemory>
     requires { depth ≤ 2 ^ 32 }
-    ensures { IfOk result (λ r. (d : ℕ) → min d (2 ^ 32) ≡ depth → effect r ≡ effect_map (put (message value.now) d) (effect e.now)) }
+    ensures { IfOk result
+        (λ r. (d : ℕ) → min d (2 ^ 32) ≡ depth
+        → effect r ≡ effect_map (put (message value.now) d) (effect e.now)) }
 {
     let mut atoms = Vec::new(alloc);
     for a in &e.atoms {
@@ -75,7 +79,8 @@ fn put_effect(alloc: Global, value: &Msg, depth: u64, e: &Effect) -> Result<Effe
 
 fn put_ty(alloc: Global, value: &Msg, depth: u64, t: &Ty) -> Result<Ty, NoMemory>
     requires { depth ≤ 2 ^ 32 }
-    ensures { IfOk result (λ r. (d : ℕ) → min d (2 ^ 32) ≡ depth → ty r ≡ ty_map (put (message value.now)) d (ty t.now)) }
+    ensures { IfOk result
+        (λ r. (d : ℕ) → min d (2 ^ 32) ≡ depth → ty r ≡ ty_map (put (message value.now)) d (ty t.now)) }
 {
     match t {
         Ty::Un => Ok(Ty::Un),
@@ -121,7 +126,8 @@ fn value_of_name(alloc: Global, name: u32, from: u32, values: &[Msg]) -> Result<
 /// in by a value is left as it is. A name below `from`, or past the last value, stays.
 /// Its only error is NoMemory.
 pub fn put_in(alloc: Global, m: &Msg, from: u32, values: &[Msg]) -> Result<Msg, NoMemory>
-    ensures { IfOk result (λ r. message r ≡ replace (value_for from (map message values.now)) (message m.now)) }
+    ensures { IfOk result
+        (λ r. message r ≡ replace (value_for from (map message values.now)) (message m.now)) }
 {
     match m {
         Msg::Bound(i) => Ok(Msg::Bound(*i)),

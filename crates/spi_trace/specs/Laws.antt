@@ -8,7 +8,8 @@ use Rattle.spi_trace.specs.Pairing.{IsPairing, EndsPaired, ManysPaired}
 
 -- events have one pairing
 abbrev pub PairingIsOne : Type 0
-PairingIsOne = (events : List Event) (is js : List (Option ℕ)) → IsPairing events is → IsPairing events js → is ≡ js
+PairingIsOne = (events : List Event) (is js : List (Option ℕ)) → IsPairing events is → IsPairing events js
+    → is ≡ js
 
 -- no begin pays for two ends
 abbrev pub BeginsPayOnce : Type 0
@@ -22,7 +23,9 @@ BeginsComeBefore = (events : List Event) (is : List (Option ℕ)) (i b : ℕ) (m
 
 -- each end has a begin just where the events are paid
 abbrev pub PairedIsPaid : Type 0
-PairedIsPaid = (events : List Event) (is : List (Option ℕ)) → IsPairing events is → EndsPaired events is ↔ Paid events
+PairedIsPaid = (events : List Event) (is : List (Option ℕ)) → IsPairing events is
+    → EndsPaired events is ↔ Paid events
 
 abbrev pub PairedIsPaidMany : Type 0
-PairedIsPaidMany = (events : List Event) (is : List (Option ℕ)) → IsPairing events is → ManysPaired events is ↔ PaidMany events
+PairedIsPaidMany = (events : List Event) (is : List (Option ℕ)) → IsPairing events is
+    → ManysPaired events is ↔ PaidMany events

@@ -19,16 +19,19 @@ pub data Pairs : List Event → List ℕ → List Event → List (Option ℕ) �
   pairs_none : {seen : List Event} {taken : List ℕ} → Pairs seen taken [] []
   pairs_begin : {seen : List Event} {taken : List ℕ} {m : Message} {es : List Event} {is : List (Option ℕ)}
       → Pairs (seen ++ begun m ∷ []) taken es is → Pairs seen taken (begun m ∷ es) (None ∷ is)
-  pairs_end : {seen : List Event} {taken : List ℕ} {m : Message} {i : ℕ} {es : List Event} {is : List (Option ℕ)}
+  pairs_end : {seen : List Event} {taken : List ℕ} {m : Message} {i : ℕ} {es : List Event}
+      {is : List (Option ℕ)}
       → IsEarliest seen taken m i → Pairs (seen ++ ended m ∷ []) (i ∷ taken) es is
       → Pairs seen taken (ended m ∷ es) (Some i ∷ is)
   pairs_unpaid : {seen : List Event} {taken : List ℕ} {m : Message} {es : List Event} {is : List (Option ℕ)}
       → ((i : ℕ) → IsFree seen taken m i → ⊥) → Pairs (seen ++ ended m ∷ []) taken es is
       → Pairs seen taken (ended m ∷ es) (None ∷ is)
-  pairs_end_many : {seen : List Event} {taken : List ℕ} {m : Message} {i : ℕ} {es : List Event} {is : List (Option ℕ)}
+  pairs_end_many : {seen : List Event} {taken : List ℕ} {m : Message} {i : ℕ} {es : List Event}
+      {is : List (Option ℕ)}
       → IsEarliest seen [] m i → Pairs (seen ++ ended_many m ∷ []) taken es is
       → Pairs seen taken (ended_many m ∷ es) (Some i ∷ is)
-  pairs_unpaid_many : {seen : List Event} {taken : List ℕ} {m : Message} {es : List Event} {is : List (Option ℕ)}
+  pairs_unpaid_many : {seen : List Event} {taken : List ℕ} {m : Message} {es : List Event}
+      {is : List (Option ℕ)}
       → ((i : ℕ) → IsFree seen [] m i → ⊥) → Pairs (seen ++ ended_many m ∷ []) taken es is
       → Pairs seen taken (ended_many m ∷ es) (None ∷ is)
 

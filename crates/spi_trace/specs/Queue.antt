@@ -35,6 +35,7 @@ after (ended m) i q = one_taken (next q) q
 after (ended_many m) i q = q
 
 -- the event with this place is paid by the begins of its label, which have this number
-pub record IsPaidFrom (e : Event) (i : ℕ) (number : ℕ) (old new : List Queue) (begin : Option ℕ) : Type 0 where
-  pub by : (q : Queue) → slice_get old number ≡ Some q → begin ≡ pays e q
-  pub left : (q : Queue) → slice_get old number ≡ Some q → new ≡ slice_set old number (after e i q)
+pub record IsPaidFrom (e : Event) (i : ℕ) (number : ℕ) (old new : List Queue) (begin : Option ℕ) : Type 0
+  where
+    pub by : (q : Queue) → slice_get old number ≡ Some q → begin ≡ pays e q
+    pub left : (q : Queue) → slice_get old number ≡ Some q → new ≡ slice_set old number (after e i q)

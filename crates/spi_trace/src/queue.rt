@@ -75,7 +75,8 @@ pub fn pay(
     place: u32,
 ) -> Result<Option<u32>, NoMemory>
     requires { number < length queues.old }
-    ensures { IfOk result (λ begin. IsPaidFrom (event e.now) place number (map queue queues.old) (map queue queues.new) begin) }
+    ensures { IfOk result
+        (λ begin. IsPaidFrom (event e.now) place number (map queue queues.old) (map queue queues.new) begin) }
 {
     match e {
         Event::Begin(_) => {

@@ -24,7 +24,8 @@ abbrev mutual
   pub IsMsg : (later numbered : Bool) → t.Msg → Type 0
   IsMsg later numbered (t.name s w) = numbered ≡ false
   IsMsg later numbered (t.unit s) = Unit {0}
-  IsMsg later numbered (t.tuple s a b ms) = IsMsg later numbered a × IsMsg later numbered b × AreMsgs later numbered ms
+  IsMsg later numbered (t.tuple s a b ms) = IsMsg later numbered a × IsMsg later numbered b
+      × AreMsgs later numbered ms
   IsMsg later numbered (t.inl s a) = IsMsg later numbered a
   IsMsg later numbered (t.inr s a) = IsMsg later numbered a
   IsMsg later numbered (t.enc s a b) = IsMsg later numbered a × IsMsg later numbered b
@@ -70,10 +71,14 @@ IsProc later a (t.out s m n) = IsMsg later false m × IsMsg later false n
 IsProc later a (t.out_then s m n p) = IsMsg later false m × IsMsg later false n × IsProc later (below a) p
 IsProc later a (t.inp s m w b p) = IsMsg later false m × IsTy later b × IsProc later (below a) p
 IsProc later a (t.repeat s m w b p) = IsMsg later false m × IsTy later b × IsProc later (below a) p
-IsProc later a (t.split s m w b x c p) = IsMsg later false m × IsTy later b × IsTy later c × IsProc later (below a) p
-IsProc later a (t.match s m w b n x c p) = IsMsg later false m × IsTy later b × IsMsg later false n × IsTy later c × IsProc later (below a) p
-IsProc later a (t.case s m w b p x c q) = IsMsg later false m × IsTy later b × IsProc later (below a) p × IsTy later c × IsProc later (below a) q
-IsProc later a (t.decrypt s m w b n p) = IsMsg later false m × IsTy later b × IsMsg later false n × IsProc later (below a) p
+IsProc later a (t.split s m w b x c p) = IsMsg later false m × IsTy later b × IsTy later c
+    × IsProc later (below a) p
+IsProc later a (t.match s m w b n x c p) = IsMsg later false m × IsTy later b × IsMsg later false n
+    × IsTy later c × IsProc later (below a) p
+IsProc later a (t.case s m w b p x c q) = IsMsg later false m × IsTy later b × IsProc later (below a) p
+    × IsTy later c × IsProc later (below a) q
+IsProc later a (t.decrypt s m w b n p) = IsMsg later false m × IsTy later b × IsMsg later false n
+    × IsProc later (below a) p
 IsProc later a (t.check s m n p) = IsMsg later false m × IsMsg later false n × IsProc later (below a) p
 IsProc later a (t.begin s m p) = IsMsg later false m × IsProc later (below a) p
 IsProc later a (t.end s m p) = IsMsg later false m × IsProc later (below a) p

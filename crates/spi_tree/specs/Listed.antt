@@ -35,11 +35,14 @@ abbrev mutual
   pub msg_list : t.Msg → List Kind
   msg_list (t.name s w) = word_list w
   msg_list (t.unit s) = mark_list mark.ParenOpen ++ mark_list mark.ParenClose
-  msg_list (t.tuple s a b ms) = mark_list mark.ParenOpen ++ msg_list a ++ mark_list mark.Comma ++ msg_list b ++ msgs_list ms ++ mark_list mark.ParenClose
+  msg_list (t.tuple s a b ms) =
+      mark_list mark.ParenOpen ++ msg_list a ++ mark_list mark.Comma ++ msg_list b ++ msgs_list ms
+      ++ mark_list mark.ParenClose
   msg_list (t.inl s a) = reserved_list word.Inl ++ msg_list a
   msg_list (t.inr s a) = reserved_list word.Inr ++ msg_list a
   msg_list (t.enc s a b) = mark_list mark.BraceOpen ++ msg_list a ++ mark_list mark.BraceClose ++ msg_list b
-  msg_list (t.hash s a) = reserved_list word.Hash ++ mark_list mark.ParenOpen ++ msg_list a ++ mark_list mark.ParenClose
+  msg_list (t.hash s a) =
+      reserved_list word.Hash ++ mark_list mark.ParenOpen ++ msg_list a ++ mark_list mark.ParenClose
   msg_list (t.num s i) = mark_list mark.NumberSign ++ number_list i
 
   pub msgs_list : t.Msgs → List Kind
@@ -50,7 +53,9 @@ abbrev pub more_list : t.Msg → List Kind
 more_list m = mark_list mark.Comma ++ msg_list m
 
 abbrev pub tuple_list : t.Msg → t.Msg → List t.Msg → List Kind
-tuple_list a b ms = mark_list mark.ParenOpen ++ msg_list a ++ mark_list mark.Comma ++ msg_list b ++ joined more_list ms ++ mark_list mark.ParenClose
+tuple_list a b ms =
+    mark_list mark.ParenOpen ++ msg_list a ++ mark_list mark.Comma ++ msg_list b ++ joined more_list ms
+    ++ mark_list mark.ParenClose
 
 abbrev pub atom_list : t.Atom → List Kind
 atom_list (t.ends s m) = reserved_list word.End ++ msg_list m
@@ -62,21 +67,27 @@ more_atom_list e = mark_list mark.Comma ++ atom_list e
 
 abbrev pub effect_list : List t.Atom → List Kind
 effect_list [] = mark_list mark.BracketOpen ++ mark_list mark.BracketClose
-effect_list (e ∷ es) = mark_list mark.BracketOpen ++ atom_list e ++ joined more_atom_list es ++ mark_list mark.BracketClose
+effect_list (e ∷ es) =
+    mark_list mark.BracketOpen ++ atom_list e ++ joined more_atom_list es ++ mark_list mark.BracketClose
 
 abbrev mutual
   pub ty_list : t.Ty → List Kind
   ty_list (t.un s) = reserved_list word.Un
   ty_list (t.unit_ty s) = mark_list mark.ParenOpen ++ mark_list mark.ParenClose
-  ty_list (t.tuple_ty s w a fs l) = mark_list mark.ParenOpen ++ word_list w ++ mark_list mark.Colon ++ ty_list a ++ mark_list mark.Comma ++ fields_list fs ++ last_list l ++ mark_list mark.ParenClose
-  ty_list (t.sum s a b) = mark_list mark.ParenOpen ++ ty_list a ++ mark_list mark.Plus ++ ty_list b ++ mark_list mark.ParenClose
-  ty_list (t.key s a) = reserved_list word.Key ++ mark_list mark.ParenOpen ++ ty_list a ++ mark_list mark.ParenClose
+  ty_list (t.tuple_ty s w a fs l) =
+      mark_list mark.ParenOpen ++ word_list w ++ mark_list mark.Colon ++ ty_list a ++ mark_list mark.Comma
+      ++ fields_list fs ++ last_list l ++ mark_list mark.ParenClose
+  ty_list (t.sum s a b) =
+      mark_list mark.ParenOpen ++ ty_list a ++ mark_list mark.Plus ++ ty_list b ++ mark_list mark.ParenClose
+  ty_list (t.key s a) =
+      reserved_list word.Key ++ mark_list mark.ParenOpen ++ ty_list a ++ mark_list mark.ParenClose
   ty_list (t.nonce s es) = reserved_list word.Nonce ++ effect_list es
   ty_list (t.abbr s w) = word_list w
 
   pub fields_list : t.Fields → List Kind
   fields_list t.no_fields = []
-  fields_list (t.more_fields w a fs) = word_list w ++ mark_list mark.Colon ++ ty_list a ++ mark_list mark.Comma ++ fields_list fs
+  fields_list (t.more_fields w a fs) =
+      word_list w ++ mark_list mark.Colon ++ ty_list a ++ mark_list mark.Comma ++ fields_list fs
 
   pub last_list : t.Last → List Kind
   last_list (t.bare a) = ty_list a
@@ -86,63 +97,103 @@ abbrev pub field_list : t.Field → List Kind
 field_list f = word_list f.name ++ mark_list mark.Colon ++ ty_list f.ty ++ mark_list mark.Comma
 
 abbrev pub tuple_ty_list : SWord → t.Ty → List t.Field → t.Last → List Kind
-tuple_ty_list w a fs l = mark_list mark.ParenOpen ++ word_list w ++ mark_list mark.Colon ++ ty_list a ++ mark_list mark.Comma ++ joined field_list fs ++ last_list l ++ mark_list mark.ParenClose
+tuple_ty_list w a fs l =
+    mark_list mark.ParenOpen ++ word_list w ++ mark_list mark.Colon ++ ty_list a ++ mark_list mark.Comma
+    ++ joined field_list fs ++ last_list l ++ mark_list mark.ParenClose
 
 abbrev pub named_list : SWord → t.Ty → List Kind
 named_list w a = word_list w ++ mark_list mark.Colon ++ ty_list a
 
 abbrev pub binder_list : SWord → t.Ty → List Kind
-binder_list w a = mark_list mark.ParenOpen ++ named_list w a ++ mark_list mark.ParenClose ++ mark_list mark.Semicolon
+binder_list w a =
+    mark_list mark.ParenOpen ++ named_list w a ++ mark_list mark.ParenClose ++ mark_list mark.Semicolon
 
 abbrev pub second_list : SWord → t.Ty → List Kind
-second_list x b = mark_list mark.Comma ++ named_list x b ++ mark_list mark.ParenClose ++ mark_list mark.Semicolon
+second_list x b =
+    mark_list mark.Comma ++ named_list x b ++ mark_list mark.ParenClose ++ mark_list mark.Semicolon
 
 abbrev pub first_list : SWord → t.Ty → List Kind
 first_list w a = reserved_list word.Is ++ mark_list mark.ParenOpen ++ named_list w a
 
 -- the heads of the forms that bind two names
 abbrev pub split_list : t.Msg → SWord → t.Ty → SWord → t.Ty → List Kind
-split_list m w b x c = reserved_list word.Split ++ msg_list m ++ reserved_list word.Is ++ mark_list mark.ParenOpen ++ word_list w ++ mark_list mark.Colon ++ ty_list b ++ mark_list mark.Comma ++ word_list x ++ mark_list mark.Colon ++ ty_list c ++ mark_list mark.ParenClose ++ mark_list mark.Semicolon
+split_list m w b x c =
+    reserved_list word.Split ++ msg_list m ++ reserved_list word.Is ++ mark_list mark.ParenOpen ++ word_list w
+    ++ mark_list mark.Colon ++ ty_list b ++ mark_list mark.Comma ++ word_list x ++ mark_list mark.Colon
+    ++ ty_list c ++ mark_list mark.ParenClose ++ mark_list mark.Semicolon
 
 abbrev pub match_list : t.Msg → SWord → t.Ty → t.Msg → SWord → t.Ty → List Kind
-match_list m w b n x c = reserved_list word.Match ++ msg_list m ++ reserved_list word.Is ++ mark_list mark.ParenOpen ++ word_list w ++ mark_list mark.Colon ++ ty_list b ++ mark_list mark.Equals ++ msg_list n ++ mark_list mark.Comma ++ word_list x ++ mark_list mark.Colon ++ ty_list c ++ mark_list mark.ParenClose ++ mark_list mark.Semicolon
+match_list m w b n x c =
+    reserved_list word.Match ++ msg_list m ++ reserved_list word.Is ++ mark_list mark.ParenOpen ++ word_list w
+    ++ mark_list mark.Colon ++ ty_list b ++ mark_list mark.Equals ++ msg_list n ++ mark_list mark.Comma
+    ++ word_list x ++ mark_list mark.Colon ++ ty_list c ++ mark_list mark.ParenClose
+    ++ mark_list mark.Semicolon
 
 abbrev pub side_list : Reserved → SWord → t.Ty → List Kind
 side_list side w a = reserved_list word.Is ++ reserved_list side ++ binder_list w a
 
 -- the part of an opened message, and the key
 abbrev pub open_list : SWord → t.Ty → t.Msg → List Kind
-open_list w a n = reserved_list word.Is ++ mark_list mark.BraceOpen ++ named_list w a ++ mark_list mark.BraceClose ++ msg_list n ++ mark_list mark.Semicolon
+open_list w a n =
+    reserved_list word.Is ++ mark_list mark.BraceOpen ++ named_list w a ++ mark_list mark.BraceClose
+    ++ msg_list n ++ mark_list mark.Semicolon
 
 abbrev pub proc_list : t.Proc → List Kind
 proc_list (t.par s p q) = proc_list p ++ mark_list mark.Bar ++ proc_list q
 proc_list (t.out s m n) = reserved_list word.Out ++ msg_list m ++ msg_list n
-proc_list (t.out_then s m n p) = reserved_list word.Out ++ msg_list m ++ msg_list n ++ mark_list mark.Semicolon ++ proc_list p
-proc_list (t.inp s m w b p) = reserved_list word.Inp ++ msg_list m ++ mark_list mark.ParenOpen ++ word_list w ++ mark_list mark.Colon ++ ty_list b ++ mark_list mark.ParenClose ++ mark_list mark.Semicolon ++ proc_list p
-proc_list (t.repeat s m w b p) = reserved_list word.Repeat ++ reserved_list word.Inp ++ msg_list m ++ mark_list mark.ParenOpen ++ word_list w ++ mark_list mark.Colon ++ ty_list b ++ mark_list mark.ParenClose ++ mark_list mark.Semicolon ++ proc_list p
+proc_list (t.out_then s m n p) =
+    reserved_list word.Out ++ msg_list m ++ msg_list n ++ mark_list mark.Semicolon ++ proc_list p
+proc_list (t.inp s m w b p) =
+    reserved_list word.Inp ++ msg_list m ++ mark_list mark.ParenOpen ++ word_list w ++ mark_list mark.Colon
+    ++ ty_list b ++ mark_list mark.ParenClose ++ mark_list mark.Semicolon ++ proc_list p
+proc_list (t.repeat s m w b p) =
+    reserved_list word.Repeat ++ reserved_list word.Inp ++ msg_list m ++ mark_list mark.ParenOpen
+    ++ word_list w ++ mark_list mark.Colon ++ ty_list b ++ mark_list mark.ParenClose
+    ++ mark_list mark.Semicolon ++ proc_list p
 proc_list (t.split s m w b x c p) = split_list m w b x c ++ proc_list p
 proc_list (t.match s m w b n x c p) = match_list m w b n x c ++ proc_list p
-proc_list (t.case s m w b p x c q) = reserved_list word.Case ++ msg_list m ++ reserved_list word.Is ++ reserved_list word.Inl ++ mark_list mark.ParenOpen ++ word_list w ++ mark_list mark.Colon ++ ty_list b ++ mark_list mark.ParenClose ++ mark_list mark.Semicolon ++ proc_list p ++ reserved_list word.Is ++ reserved_list word.Inr ++ mark_list mark.ParenOpen ++ word_list x ++ mark_list mark.Colon ++ ty_list c ++ mark_list mark.ParenClose ++ mark_list mark.Semicolon ++ proc_list q
-proc_list (t.decrypt s m w b n p) = reserved_list word.Decrypt ++ msg_list m ++ reserved_list word.Is ++ mark_list mark.BraceOpen ++ word_list w ++ mark_list mark.Colon ++ ty_list b ++ mark_list mark.BraceClose ++ msg_list n ++ mark_list mark.Semicolon ++ proc_list p
-proc_list (t.check s m n p) = reserved_list word.Check ++ msg_list m ++ reserved_list word.Is ++ msg_list n ++ mark_list mark.Semicolon ++ proc_list p
+proc_list (t.case s m w b p x c q) =
+    reserved_list word.Case ++ msg_list m ++ reserved_list word.Is ++ reserved_list word.Inl
+    ++ mark_list mark.ParenOpen ++ word_list w ++ mark_list mark.Colon ++ ty_list b
+    ++ mark_list mark.ParenClose ++ mark_list mark.Semicolon ++ proc_list p ++ reserved_list word.Is
+    ++ reserved_list word.Inr ++ mark_list mark.ParenOpen ++ word_list x ++ mark_list mark.Colon ++ ty_list c
+    ++ mark_list mark.ParenClose ++ mark_list mark.Semicolon ++ proc_list q
+proc_list (t.decrypt s m w b n p) =
+    reserved_list word.Decrypt ++ msg_list m ++ reserved_list word.Is ++ mark_list mark.BraceOpen
+    ++ word_list w ++ mark_list mark.Colon ++ ty_list b ++ mark_list mark.BraceClose ++ msg_list n
+    ++ mark_list mark.Semicolon ++ proc_list p
+proc_list (t.check s m n p) =
+    reserved_list word.Check ++ msg_list m ++ reserved_list word.Is ++ msg_list n ++ mark_list mark.Semicolon
+    ++ proc_list p
 proc_list (t.begin s m p) = reserved_list word.Begin ++ msg_list m ++ mark_list mark.Semicolon ++ proc_list p
 proc_list (t.end s m p) = reserved_list word.End ++ msg_list m ++ mark_list mark.Semicolon ++ proc_list p
-proc_list (t.end_many s m p) = reserved_list word.EndMany ++ msg_list m ++ mark_list mark.Semicolon ++ proc_list p
-proc_list (t.cast s m w b p) = reserved_list word.Cast ++ msg_list m ++ reserved_list word.Is ++ mark_list mark.ParenOpen ++ word_list w ++ mark_list mark.Colon ++ ty_list b ++ mark_list mark.ParenClose ++ mark_list mark.Semicolon ++ proc_list p
-proc_list (t.new s w b p) = reserved_list word.New ++ mark_list mark.ParenOpen ++ word_list w ++ mark_list mark.Colon ++ ty_list b ++ mark_list mark.ParenClose ++ mark_list mark.Semicolon ++ proc_list p
+proc_list (t.end_many s m p) =
+    reserved_list word.EndMany ++ msg_list m ++ mark_list mark.Semicolon ++ proc_list p
+proc_list (t.cast s m w b p) =
+    reserved_list word.Cast ++ msg_list m ++ reserved_list word.Is ++ mark_list mark.ParenOpen ++ word_list w
+    ++ mark_list mark.Colon ++ ty_list b ++ mark_list mark.ParenClose ++ mark_list mark.Semicolon
+    ++ proc_list p
+proc_list (t.new s w b p) =
+    reserved_list word.New ++ mark_list mark.ParenOpen ++ word_list w ++ mark_list mark.Colon ++ ty_list b
+    ++ mark_list mark.ParenClose ++ mark_list mark.Semicolon ++ proc_list p
 proc_list (t.stop s) = reserved_list word.Stop
-proc_list (t.group s p q) = mark_list mark.ParenOpen ++ proc_list p ++ mark_list mark.Bar ++ proc_list q ++ mark_list mark.ParenClose
+proc_list (t.group s p q) =
+    mark_list mark.ParenOpen ++ proc_list p ++ mark_list mark.Bar ++ proc_list q ++ mark_list mark.ParenClose
 
 abbrev pub more_word_list : SWord → List Kind
 more_word_list w = mark_list mark.Comma ++ word_list w
 
 abbrev pub decl_list : t.Declared → List Kind
-decl_list (t.free s w ws) = reserved_list word.Free ++ word_list w ++ joined more_word_list ws ++ mark_list mark.Semicolon
-decl_list (t.abbreviated s w a) = reserved_list word.TypeWord ++ word_list w ++ mark_list mark.Equals ++ ty_list a ++ mark_list mark.Semicolon
+decl_list (t.free s w ws) =
+    reserved_list word.Free ++ word_list w ++ joined more_word_list ws ++ mark_list mark.Semicolon
+decl_list (t.abbreviated s w a) =
+    reserved_list word.TypeWord ++ word_list w ++ mark_list mark.Equals ++ ty_list a
+    ++ mark_list mark.Semicolon
 
 abbrev pub step_list : t.Step → List Kind
 step_list (t.act s i) = literal_list (codes "act") ++ number_list i ++ mark_list mark.Semicolon
-step_list (t.talk s i j) = literal_list (codes "talk") ++ number_list i ++ number_list j ++ mark_list mark.Semicolon
+step_list (t.talk s i j) =
+    literal_list (codes "talk") ++ number_list i ++ number_list j ++ mark_list mark.Semicolon
 
 abbrev pub written_list : Option (List t.Atom) → List Kind
 written_list None = []
@@ -157,7 +208,8 @@ abbrev mutual
   derivs_list (t.more_derivs d ds) = deriv_list d ++ derivs_list ds
 
 abbrev pub version_list : ℕ → List Kind
-version_list v = if v == 2 then literal_list (codes "version") ++ number_list 2 ++ mark_list mark.Semicolon else []
+version_list v =
+    if v == 2 then literal_list (codes "version") ++ number_list 2 ++ mark_list mark.Semicolon else []
 
 abbrev pub opponent_list : Option t.Proc → List Kind
 opponent_list None = []
@@ -172,4 +224,6 @@ derivation_list None = []
 derivation_list (Some d) = reserved_list word.Derivation ++ deriv_list d
 
 abbrev pub file_list : t.File → List Kind
-file_list f = version_list f.version ++ joined decl_list f.decls ++ reserved_list word.Process ++ proc_list f.process ++ opponent_list f.opponent ++ schedule_list f.schedule ++ derivation_list f.derivation
+file_list f =
+    version_list f.version ++ joined decl_list f.decls ++ reserved_list word.Process ++ proc_list f.process
+    ++ opponent_list f.opponent ++ schedule_list f.schedule ++ derivation_list f.derivation

@@ -48,7 +48,9 @@ fn put_split(
     right: &SWord,
     right_ty: &STy,
 ) -> Result<(), NoMemory>
-    ensures { OnOk result (out.new.items ≡ out.old.items ++ split_list (msg_of whole.now) left.now (ty_of left_ty.now) right.now (ty_of right_ty.now)) }
+    ensures { OnOk result
+        (out.new.items ≡ out.old.items
+        ++ split_list (msg_of whole.now) left.now (ty_of left_ty.now) right.now (ty_of right_ty.now)) }
 {
     put_reserved(out, Reserved::Split)?;
     put_message(alloc, out, whole)?;
@@ -67,7 +69,10 @@ fn put_match(
     right: &SWord,
     right_ty: &STy,
 ) -> Result<(), NoMemory>
-    ensures { OnOk result (out.new.items ≡ out.old.items ++ match_list (msg_of whole.now) left.now (ty_of left_ty.now) (msg_of equal.now) right.now (ty_of right_ty.now)) }
+    ensures { OnOk result
+        (out.new.items ≡ out.old.items
+        ++ match_list (msg_of whole.now) left.now (ty_of left_ty.now) (msg_of equal.now) right.now
+        (ty_of right_ty.now)) }
 {
     put_reserved(out, Reserved::Match)?;
     put_message(alloc, out, whole)?;
@@ -99,7 +104,8 @@ fn put_open(
     ty: &STy,
     key: &SMsg,
 ) -> Result<(), NoMemory>
-    ensures { OnOk result (out.new.items ≡ out.old.items ++ open_list name.now (ty_of ty.now) (msg_of key.now)) }
+    ensures { OnOk result
+        (out.new.items ≡ out.old.items ++ open_list name.now (ty_of ty.now) (msg_of key.now)) }
 {
     put_reserved(out, Reserved::Is)?;
     put_mark(out, Mark::BraceOpen)?;

@@ -21,7 +21,10 @@ fn split(
     then: SProc,
     span: Span,
 ) -> Result<SProc, NoMemory>
-    ensures { IfOk result (λ p. proc_of p ≡ t.split span (msg_of whole.now) left.entry.0.now (ty_of left.entry.1.now) right.entry.0.now (ty_of right.entry.1.now) (proc_of then)) }
+    ensures { IfOk result
+        (λ p. proc_of p
+        ≡ t.split span (msg_of whole.now) left.entry.0.now (ty_of left.entry.1.now) right.entry.0.now
+        (ty_of right.entry.1.now) (proc_of then)) }
 {
     let then = Box::new(alloc, then)?;
     Ok(SProc::Split {
@@ -44,7 +47,10 @@ fn select(
     then: SProc,
     span: Span,
 ) -> Result<SProc, NoMemory>
-    ensures { IfOk result (λ p. proc_of p ≡ t.match span (msg_of whole.now) left.entry.0.now (ty_of left.entry.1.now) (msg_of equal.now) right.entry.0.now (ty_of right.entry.1.now) (proc_of then)) }
+    ensures { IfOk result
+        (λ p. proc_of p
+        ≡ t.match span (msg_of whole.now) left.entry.0.now (ty_of left.entry.1.now) (msg_of equal.now)
+        right.entry.0.now (ty_of right.entry.1.now) (proc_of then)) }
 {
     let then = Box::new(alloc, then)?;
     Ok(SProc::Match {
@@ -67,7 +73,10 @@ fn decrypt(
     then: SProc,
     span: Span,
 ) -> Result<SProc, NoMemory>
-    ensures { IfOk result (λ p. proc_of p ≡ t.decrypt span (msg_of whole.now) name.entry.0.now (ty_of name.entry.1.now) (msg_of key.now) (proc_of then)) }
+    ensures { IfOk result
+        (λ p. proc_of p
+        ≡ t.decrypt span (msg_of whole.now) name.entry.0.now (ty_of name.entry.1.now) (msg_of key.now)
+        (proc_of then)) }
 {
     let then = Box::new(alloc, then)?;
     Ok(SProc::Decrypt {
@@ -88,7 +97,8 @@ fn cast(
     then: SProc,
     span: Span,
 ) -> Result<SProc, NoMemory>
-    ensures { IfOk result (λ p. proc_of p ≡ t.cast span (msg_of whole.now) name.now (ty_of a.now) (proc_of then)) }
+    ensures { IfOk result
+        (λ p. proc_of p ≡ t.cast span (msg_of whole.now) name.now (ty_of a.now) (proc_of then)) }
 {
     let then = Box::new(alloc, then)?;
     Ok(SProc::Cast {
@@ -120,7 +130,8 @@ fn check(
     then: SProc,
     span: Span,
 ) -> Result<SProc, NoMemory>
-    ensures { IfOk result (λ p. proc_of p ≡ t.check span (msg_of whole.now) (msg_of nonce.now) (proc_of then)) }
+    ensures { IfOk result
+        (λ p. proc_of p ≡ t.check span (msg_of whole.now) (msg_of nonce.now) (proc_of then)) }
 {
     let then = Box::new(alloc, then)?;
     Ok(SProc::Check {

@@ -13,7 +13,8 @@ ghost use Rattle.spi_weave.specs.Woven.{woven};
 /// Where a narration is formed, within the nesting limits, and has at most 16 shared names, 8 roles and 200 lines, the tree
 /// that it is woven into is formed and within the nesting limits, and its words and numbers are those of tokens.
 pub fn woven_trees_are_formed()
-    ensures { (x : Narration) → IsNarration x → IsWithin (whole_narration x) → AreKinds (kinds_in (whole_narration x))
+    ensures { (x : Narration) → IsNarration x → IsWithin (whole_narration x)
+        → AreKinds (kinds_in (whole_narration x))
         → length x.shared ≤ 16 → length x.roles ≤ 8 → length x.lines ≤ 200
         → IsFile (woven x) × IsWithin (whole_file (woven x)) × AreKinds (tokens_of (woven x)) }
 {}

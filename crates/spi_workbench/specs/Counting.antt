@@ -20,7 +20,9 @@ shared_points ts xs (s ∷ ss) = new_head ts xs s.span s.ty ⨾ shared_points ts
 
 -- one for each free name, the types of the abbreviations, and one for each shared name with its type
 abbrev pub heading_nodes : Bench → ℕ
-heading_nodes b = all_added (decls_points [] [] b.decls) + all_added (shared_points (abbreviations_of b) (free_names b) b.shared)
+heading_nodes b =
+    all_added (decls_points [] [] b.decls)
+    + all_added (shared_points (abbreviations_of b) (free_names b) b.shared)
 
 abbrev pub part_nodes : Bench → t.Proc → ℕ
 part_nodes b p = all_added (process_points (abbreviations_of b) (part_names b) p)

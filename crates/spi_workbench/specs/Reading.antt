@@ -72,4 +72,5 @@ parts_after b ps (e ∷ es) = parts_after b (edited b ps e) es
 
 -- the bench after edits
 abbrev pub bench_after : Bench → List Edit → Benched
-bench_after b es = record { free = length (free_names b); shared = shared_types b; parts = parts_after b [] es }
+bench_after b es =
+    record { free = length (free_names b); shared = shared_types b; parts = parts_after b [] es }

@@ -69,8 +69,10 @@ proc_size z (t.out_then s m n p) = 1 + (msg_size m + msg_size n) + (1 + proc_siz
 proc_size z (t.inp s m x a p) = 1 + (msg_size m + ty_size z a) + proc_size z p
 proc_size z (t.repeat s m x a p) = 1 + (msg_size m + ty_size z a) + proc_size z p
 proc_size z (t.split s m x a y c p) = 1 + (msg_size m + ty_size z a) + (ty_size z c + proc_size z p)
-proc_size z (t.match s m x a n y c p) = 1 + (msg_size m + ty_size z a) + (msg_size n + ty_size z c) + proc_size z p
-proc_size z (t.case s m x a p y c q) = 1 + (msg_size m + ty_size z a) + (proc_size z p + (ty_size z c + proc_size z q))
+proc_size z (t.match s m x a n y c p) =
+    1 + (msg_size m + ty_size z a) + (msg_size n + ty_size z c) + proc_size z p
+proc_size z (t.case s m x a p y c q) =
+    1 + (msg_size m + ty_size z a) + (proc_size z p + (ty_size z c + proc_size z q))
 proc_size z (t.decrypt s m x a n p) = 1 + (msg_size m + ty_size z a) + (msg_size n + proc_size z p)
 proc_size z (t.check s m n p) = 1 + (msg_size m + msg_size n) + proc_size z p
 proc_size z (t.begin s m p) = 1 + msg_size m + proc_size z p
@@ -91,4 +93,5 @@ edit_size z (drops s w) = 0
 
 -- the table has the nodes of each abbreviation
 abbrev pub Know : {S : Type 0} → IndexMap (Bor (List ℕ)) ℕ S → Abbreviations → Type 0
-Know m ts = (w : Word) → get_by (λ k. bytes_eq w k.now) m ≡ option_map (λ a. stopped (ty_nodes a)) (type_of ts w)
+Know m ts = (w : Word)
+    → get_by (λ k. bytes_eq w k.now) m ≡ option_map (λ a. stopped (ty_nodes a)) (type_of ts w)

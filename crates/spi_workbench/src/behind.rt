@@ -12,7 +12,10 @@ use std::alloc::Global;
 
 /// A form with one process that receives: its parts, and its process so many places earlier.
 fn form_earlier(alloc: Global, form: &Form, n: u32) -> Result<Form, NoMemory>
-    ensures { IfOk result (λ f. (k : Rattle.std.specs.Prelude.ℕ) → Rattle.spi_term.specs.View.form_of k f ≡ earlier n (Rattle.spi_term.specs.View.form_of k form.now)) }
+    ensures { IfOk result
+        (λ f. (k : Rattle.std.specs.Prelude.ℕ)
+        → Rattle.spi_term.specs.View.form_of k f
+        ≡ earlier n (Rattle.spi_term.specs.View.form_of k form.now)) }
 {
     Ok(match form {
         Form::Send { channel, datum } => Form::Send {
@@ -151,7 +154,9 @@ pub fn part_behind(alloc: Global, whole: &Process, news: u32) -> Result<Process,
 /// The types that the first nodes make.
 pub fn types_before(alloc: Global, whole: &Process, news: u32) -> Result<Vec<Ty>, NoMemory>
     requires some { news ≤ process_size whole.now.process }
-    ensures { IfOk result (λ v. map type_value v.items ≡ map type_made (take news (spelled whole.now.names whole.now.process))) }
+    ensures { IfOk result
+        (λ v. map type_value v.items
+        ≡ map type_made (take news (spelled whole.now.names whole.now.process))) }
 {
     let mut types = Vec::new(alloc);
     for id in 0..news {

@@ -21,7 +21,9 @@ use std::alloc::Global;
 
 /// One more abbreviation is known, unless one of its spelling was.
 fn know<'t>(sizes: &mut Sizes<'t>, name: &'t SWord, nodes: u64) -> Result<(), NoMemory>
-    ensures { OnOk result ((ts : Abbreviations) (a : Ty) → nodes ≡ stopped (ty_nodes a) → Know sizes.old ts → Know sizes.new (ts ++ record { word = name.entry.now.word; stands_for = a } ∷ [])) }
+    ensures { OnOk result
+        ((ts : Abbreviations) (a : Ty) → nodes ≡ stopped (ty_nodes a) → Know sizes.old ts
+        → Know sizes.new (ts ++ record { word = name.entry.now.word; stands_for = a } ∷ [])) }
 {
     let word = name.word.as_str();
     if let None = sizes.get(&word) {
@@ -32,8 +34,12 @@ fn know<'t>(sizes: &mut Sizes<'t>, name: &'t SWord, nodes: u64) -> Result<(), No
 
 /// The nodes of a declaration, whose abbreviation is known behind it.
 fn declaration_nodes<'t>(sizes: &mut Sizes<'t>, decl: &'t Decl) -> Result<u64, NoMemory>
-    ensures nodes { IfOk result (λ n. (ts : Abbreviations) (xs : Names) → Know sizes.old ts → n ≡ stopped (all_added (decl_points ts xs (decl_of decl.entry.now)))) }
-    ensures know { OnOk result ((ts : Abbreviations) (xs : Names) → Know sizes.old ts → Know sizes.new (types_behind ts xs (decl_of decl.entry.now))) }
+    ensures nodes { IfOk result
+        (λ n. (ts : Abbreviations) (xs : Names) → Know sizes.old ts
+        → n ≡ stopped (all_added (decl_points ts xs (decl_of decl.entry.now)))) }
+    ensures know { OnOk result
+        ((ts : Abbreviations) (xs : Names) → Know sizes.old ts
+        → Know sizes.new (types_behind ts xs (decl_of decl.entry.now))) }
 {
     match decl {
         Decl::Free { more, .. } => Ok((more.len() as u64).saturating_add(1)),
@@ -48,7 +54,8 @@ fn declaration_nodes<'t>(sizes: &mut Sizes<'t>, decl: &'t Decl) -> Result<u64, N
 /// The nodes of the declarations, whose abbreviations are known behind them.
 fn declared_nodes<'t>(sizes: &mut Sizes<'t>, decls: &'t [Decl]) -> Result<u64, NoMemory>
     requires { Know sizes.old [] }
-    ensures nodes { IfOk result (λ n. n ≡ stopped (all_added (decls_points [] [] (map decl_of decls.entry.now)))) }
+    ensures nodes { IfOk result
+        (λ n. n ≡ stopped (all_added (decls_points [] [] (map decl_of decls.entry.now)))) }
     ensures know { OnOk result (Know sizes.new (all_types [] [] (map decl_of decls.entry.now))) }
 {
     let mut total: u64 = 0;
@@ -79,7 +86,8 @@ fn put_nodes(sizes: &Sizes, edit: &Edit) -> u64
 }
 
 fn all_put_nodes(alloc: Global, sizes: &Sizes, edits: &[Edit]) -> Result<Vec<u64>, NoMemory>
-    ensures { IfOk result (λ v. v.items ≡ map (λ e. stopped (edit_size (nodes_in sizes.now) (edit_of e))) edits.now) }
+    ensures { IfOk result
+        (λ v. v.items ≡ map (λ e. stopped (edit_size (nodes_in sizes.now) (edit_of e))) edits.now) }
 {
     let mut nodes = Vec::new(alloc);
     for edit in edits {
@@ -100,7 +108,9 @@ pub struct Counted {
 /// The nodes of the heading and of each edit.
 pub fn count_bench(alloc: Global, text: &BenchText) -> Result<Counted, NoMemory>
     ensures heading { IfOk result (λ c. c.heading ≡ stopped (heading_nodes (bench_of text.now))) }
-    ensures edits { IfOk result (λ c. c.edits.items ≡ map (λ e. stopped (edit_nodes (bench_of text.now) (edit_of e))) text.now.edits.items) }
+    ensures edits { IfOk result
+        (λ c. c.edits.items
+        ≡ map (λ e. stopped (edit_nodes (bench_of text.now) (edit_of e))) text.now.edits.items) }
 {
     let mut sizes = IndexMap::new(alloc);
     let declared = declared_nodes(&mut sizes, &text.decls)?;

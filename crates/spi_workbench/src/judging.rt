@@ -69,9 +69,16 @@ fn read_part(
     part: SProc,
 ) -> Result<Result<Process, ScopeFault>, NoMemory>
     requires { (b : Written_bench) × IsHeaded b news (file_of tree.old) }
-    ensures tree { OnOk result ((b : Written_bench) → IsHeaded b news (file_of tree.old) → file_of tree.new ≡ file_with b (proc_of part)) }
-    ensures ok { IfOk result (λ r. IfOk r (λ q. (b : Written_bench) → IsHeaded b news (file_of tree.old) → (q ≡ part_meant b (proc_of part)) × IsClean (file_with b (proc_of part)))) }
-    ensures err { IfOk result (λ r. IfErr r (λ e. (b : Written_bench) → IsHeaded b news (file_of tree.old) → HasFirst (file_with b (proc_of part)) e)) }
+    ensures tree { OnOk result
+        ((b : Written_bench) → IsHeaded b news (file_of tree.old)
+        → file_of tree.new ≡ file_with b (proc_of part)) }
+    ensures ok { IfOk result
+        (λ r. IfOk r (λ q. (b : Written_bench) → IsHeaded b news (file_of tree.old)
+        → (q ≡ part_meant b (proc_of part)) × IsClean (file_with b (proc_of part)))) }
+    ensures err { IfOk result
+        (λ r. IfErr r
+        (λ e. (b : Written_bench) → IsHeaded b news (file_of tree.old)
+        → HasFirst (file_with b (proc_of part)) e)) }
 {
     put_behind(&mut tree.process, news, part);
     match read_file(alloc, tree)? {
@@ -89,8 +96,12 @@ fn put_part<L: Ledger>(
     nodes: u64,
     steps: &mut Steps<L>,
 ) -> Result<Option<Refusal>, NoMemory>
-    requires { (b : Written_bench) × (before : List Written) × IsAt b before work.old × (nodes ≡ stopped (part_nodes b (proc_of part))) }
-    ensures { IfOk result (λ r. (b : Written_bench) (before : List Written) (s : Place) → IsAt b before work.old → nodes ≡ stopped (part_nodes b (proc_of part)) → Comes b before (puts s name.now (proc_of part)) work.new r) }
+    requires { (b : Written_bench) × (before : List Written) × IsAt b before work.old
+        × (nodes ≡ stopped (part_nodes b (proc_of part))) }
+    ensures { IfOk result
+        (λ r. (b : Written_bench) (before : List Written) (s : Place) → IsAt b before work.old
+        → nodes ≡ stopped (part_nodes b (proc_of part))
+        → Comes b before (puts s name.now (proc_of part)) work.new r) }
 {
     let process = match read_part(alloc, &mut work.tree, work.news, part)? {
         Ok(process) => process,
@@ -110,7 +121,9 @@ fn put_part<L: Ledger>(
 
 /// A part is dropped, or there is none of that name.
 fn drop_part(alloc: Global, work: &mut Work, name: &SWord) -> Result<Option<Refusal>, NoMemory>
-    ensures { IfOk result (λ r. (b : Written_bench) (before : List Written) (s : Place) → IsAt b before work.old → Comes b before (drops s name.now) work.new r) }
+    ensures { IfOk result
+        (λ r. (b : Written_bench) (before : List Written) (s : Place) → IsAt b before work.old
+        → Comes b before (drops s name.now) work.new r) }
 {
     if let Some(_) = work.bench.drop_part(&name.word) {
         return Ok(None);
@@ -128,8 +141,11 @@ fn judge_edit<L: Ledger>(
     nodes: u64,
     steps: &mut Steps<L>,
 ) -> Result<Option<Refusal>, NoMemory>
-    requires { (b : Written_bench) × (before : List Written) × IsAt b before work.old × (nodes ≡ stopped (edit_nodes b (edit_of edit.old))) }
-    ensures { IfOk result (λ r. (b : Written_bench) (before : List Written) → IsAt b before work.old → nodes ≡ stopped (edit_nodes b (edit_of edit.old)) → Comes b before (edit_of edit.old) work.new r) }
+    requires { (b : Written_bench) × (before : List Written) × IsAt b before work.old
+        × (nodes ≡ stopped (edit_nodes b (edit_of edit.old))) }
+    ensures { IfOk result
+        (λ r. (b : Written_bench) (before : List Written) → IsAt b before work.old
+        → nodes ≡ stopped (edit_nodes b (edit_of edit.old)) → Comes b before (edit_of edit.old) work.new r) }
 {
     match edit {
         Edit::Put { name, part, span } => {
@@ -150,8 +166,13 @@ pub fn judge_all<L: Ledger>(
     steps: &mut Steps<L>,
 ) -> Result<Result<Vec<bool>, Refusal>, NoMemory>
     requires { (b : Written_bench) × Starts b work.old edits.old nodes.now }
-    ensures ok { IfOk result (λ r. IfOk r (λ vs. (b : Written_bench) → Starts b work.old edits.old nodes.now → Stood b (map edit_of edits.old) work.new vs.items)) }
-    ensures err { IfOk result (λ r. IfErr r (λ e. (b : Written_bench) → Starts b work.old edits.old nodes.now → Stopped b (map edit_of edits.old) e)) }
+    ensures ok { IfOk result
+        (λ r. IfOk r (λ vs. (b : Written_bench) → Starts b work.old edits.old nodes.now
+        → Stood b (map edit_of edits.old) work.new vs.items)) }
+    ensures err { IfOk result
+        (λ r. IfErr r
+        (λ e. (b : Written_bench) → Starts b work.old edits.old nodes.now
+        → Stopped b (map edit_of edits.old) e)) }
 {
     let mut verdicts = Vec::new(alloc);
     for i in 0..edits.len() {

@@ -44,7 +44,8 @@ pub fn behind_all(alloc: Global, mut shared: Vec<Shared>, then: SProc) -> Result
 
 /// Another process in the place of that behind so many `new`s.
 pub fn put_behind(place: &mut SProc, news: u32, part: SProc)
-    ensures { (ss : List SharedName) (p : t.Proc) → length ss ≡ news → proc_of place.old ≡ behind_shared ss p → proc_of place.new ≡ behind_shared ss (proc_of part) }
+    ensures { (ss : List SharedName) (p : t.Proc) → length ss ≡ news → proc_of place.old ≡ behind_shared ss p
+        → proc_of place.new ≡ behind_shared ss (proc_of part) }
 {
     if news == 0 {
         drop(replace(place, part));
