@@ -312,8 +312,8 @@ class Client:
             return (params["uri"], params.get("version")) == (f"file:///{name}{ending}", version)
         return self.wait("textDocument/publishDiagnostics", holds).get("diagnostics")
 
-    def at(self, method, line, character, name="a"):
-        file, place = {"uri": f"file:///{name}.spi"}, {"line": line, "character": character}
+    def at(self, method, line, character, name="a", ending=".spi"):
+        file, place = {"uri": f"file:///{name}{ending}"}, {"line": line, "character": character}
         return self.ask(f"textDocument/{method}", textDocument=file, position=place).get("result")
 
     def end(self):
@@ -375,6 +375,10 @@ def test_diagnostics(program):
     line = broken[:broken.index("B: check kbs")].count("\n")
     got = told(client.open(broken, "o", ".nar"))
     expect("server: a line that isn't ready", got == [(102, "refused: 102 LineNotReady", span(line, 0, 1))], f"{got}")
+    section = (client.at("hover", line, 0, "o", ".nar") or {}).get("contents", {}).get("value", "")
+    expect("server: hover in a narration", section.startswith("## 102 LineNotReady\n") and section.count("\n## ") == 0)
+    got = told(client.open("free net; roles A;\nA to B on net: net as x;", "p", ".nar"))
+    expect("server: a role that isn't declared", got == [(100, "refused: 100 UnknownRole: B", span(1, 5, 6))], f"{got}")
     expect("server: shutdown", client.end() == 0)
 
 

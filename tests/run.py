@@ -3,11 +3,13 @@
 
 A case is a JSON object on a line: `shows` (what it shows), `words` (the command line), its standard input as `input`
 (text), `input_file` (a file of the repository), `input_base64`, or `input_parts` (pairs of a text and how often it
-stands), `output` (what is written, and without it the usage line) and `status`. What `knows` writes of a known name is
-free but for its first line: such a case has `first` in place of `output`, and tests/knowledge.py checks the lines behind it. Each file of examples/reasons is a case
-too: its first line is a comment with the line that `check` writes. Each case runs on each `--program FILE`; without one it runs on the build without
-proofs that tools/keep.py keeps. A program that hasn't ended after ten seconds has failed its case. The one that Rattle's
-own compiler makes (its name ends in .by-rattle) gets 16 MB of stack: processes nested 500 deep take up to 12 there.
+stands; a third member is a mark in the text, in whose place each copy has its number, from 0 on, in as many digits),
+`output` (what is written, and without it the usage line) and `status`. What `knows` writes of a known name is free but
+for its first line: such a case has `first` in place of `output`, and tests/knowledge.py checks the lines behind it. Each
+file of examples/reasons is a case too: its first line is a comment with the line that `check` writes. Each case runs on
+each `--program FILE`; without one it runs on the build without proofs that tools/keep.py keeps. A program that hasn't
+ended after ten seconds has failed its case. The one that Rattle's own compiler makes (its name ends in .by-rattle) gets
+16 MB of stack: processes nested 500 deep take up to 12 there.
 The last line is 'N passed, M failed'."""
 
 import argparse
@@ -45,11 +47,18 @@ def cases_of(pattern):
                "output": wanted, "status": 1}
 
 
+def copies(text, times, mark=""):
+    """A text so many times, each with its number in the place of the mark."""
+    if not mark:
+        return text.encode() * times
+    return "".join(text.replace(mark, f"{number:0{len(mark)}}") for number in range(times)).encode()
+
+
 def input_of(case):
     if "input_base64" in case:
         return base64.b64decode(case["input_base64"])
     if "input_parts" in case:
-        return b"".join(part.encode() * times for part, times in case["input_parts"])
+        return b"".join(copies(*part) for part in case["input_parts"])
     if "input_file" in case:
         with open(f"{ROOT}/{case['input_file']}", "rb") as file:
             return file.read()
