@@ -9,10 +9,12 @@ const COMMANDS = [
   { name: 'play', says: 'a schedule, as players pick its steps' },
   { name: 'knows', says: 'whether an intruder knows a name at the end of that schedule, and how' },
   { name: 'narrate', says: 'the file that a narration tells, with the schedule of its run' },
+  { name: 'bench', says: 'after each edit of named parts, whether they are typed together; it reads a bench, no file' },
   { name: 'print', says: 'the file in canonical text' },
   { name: 'upgrade', says: 'the file in version 2' },
   { name: 'load', says: 'the counts of so many sessions of the handshake; it reads no file' },
 ];
+const SAYS_BENCH = 'Behind the number of each edit: whether the parts that are there after it are typed together.';
 const SAYS_YES = {
   check: 'A yes says: beside every opponent, along every run, each end has an earlier begin of its own with the same label.',
   verify: 'A yes says: the derivation in the file proves its process, whoever made it.',
@@ -22,6 +24,7 @@ const SAYS_YES = {
   narrate: 'One session, and its run as the narration tells it. Names that aren’t free have new spellings.',
   print: 'Two files of the same meaning have the same canonical text. Comments are not in it.',
   upgrade: 'The same file in version 2, in canonical text. Comments are not in it.',
+  bench: `${SAYS_BENCH} A yes says of them together what a yes of check says of a file.`,
   load: 'Nodes of the file, rules of its derivation, and its verdict.',
 };
 const ANSWER = /^(no|refused): (\d+) (\w+)(?: at (\d+):(\d+))?(?:: ([^]*))?\n$/;
@@ -47,7 +50,7 @@ function button(words, done) {
 class Answer {
   constructor(root, page) {
     this.root = root;
-    this.page = page; // it has reasons, put(part, text, command), replace(text), choose(command, isAsked) and select(from, to)
+    this.page = page; // it has reasons, editor, put(part, text, command), replace(text), choose(command, isAsked) and select(from, to)
     this.all = false;
   }
 
@@ -62,6 +65,7 @@ class Answer {
 
   output(outcome) {
     if (outcome.failure) return element('p', { className: 'bad' }, `There is no answer: ${outcome.failure}.`);
+    if (!outcome.output) return element('p', {}, 'Nothing is written.');
     const kind = outcome.status === 0 ? 'yes' : outcome.status <= 2 ? 'no' : '';
     return element('pre', { className: `output ${kind}`, tabIndex: 0 }, outcome.output);
   }
@@ -77,7 +81,8 @@ class Answer {
   }
 
   plain(command, outcome) {
-    const says = outcome.status === 0 && SAYS_YES[command];
+    const isNo = command === 'bench' && outcome.status === 1;
+    const says = isNo ? `${SAYS_BENCH} A no says no reason; check says one, of the whole.` : outcome.status === 0 && SAYS_YES[command];
     const said = says ? element('p', { className: 'aside' }, says) : null;
     this.show(this.head(command, outcome), this.output(outcome), this.actions(command, outcome), said, this.reason(outcome));
   }
@@ -96,9 +101,16 @@ class Answer {
   actions(command, outcome) {
     const fault = faultOf(outcome);
     if (fault && fault.number === 38) return this.supplies(command, fault);
-    if (outcome.status !== 0) return null;
     const { put, replace, choose } = this.page;
     const { output } = outcome;
+    const asFile = () => {
+      choose('check', false);
+      replace(new Bench(this.page.editor.text).whole());
+    };
+    if (command === 'bench' && outcome.status < 2) {
+      return element('p', { className: 'buttons' }, button('Put the whole in its place as a file, and check', asFile));
+    }
+    if (outcome.status !== 0) return null;
     const shown = () => {
       choose('replay', false);
       replace(output);

@@ -17,9 +17,12 @@ class Editor {
     this.colours = root.querySelector('.colours');
     this.numbers = root.querySelector('.numbers');
     this.strips = root.querySelector('.strips');
+    this.kind = 'spi'; // or nar, or bench
     this.marks = [];
+    this.notes = [];
     this.area.addEventListener('input', () => {
       this.marks = [];
+      this.notes = [];
       this.show();
       changed();
     });
@@ -55,9 +58,17 @@ class Editor {
     this.put(`\n${blank}`, this.area.selectionStart, this.area.selectionEnd);
   }
 
-  // Marks places: each is { from, to, words }.
-  mark(marks) {
+  // Colours the text as one of this kind from now on.
+  colour(kind) {
+    const isNew = kind !== this.kind;
+    this.kind = kind;
+    if (isNew) this.show();
+  }
+
+  // Marks places: each is { from, to, words }. A note, { from, words, isGood }, stands at the end of a line and marks nothing.
+  mark(marks, notes = []) {
     this.marks = marks;
+    this.notes = notes;
     this.area.setAttribute('aria-invalid', String(marks.length > 0));
     this.show();
   }
@@ -80,6 +91,7 @@ class Editor {
   // The text in coloured pieces, with the marks in it, and the words of each at the end of its line.
   pieces(text) {
     const tokens = text.length > COLOURED_AT_MOST ? [] : tokensOf(text);
+    if (this.kind !== 'spi') colourItems(tokens, this.kind === 'bench');
     const ranges = tokens.map(({ at, word, kind }) => ({ from: at, to: at + word.length, kind }));
     for (const { from, to } of this.marks) {
       const index = ranges.findIndex((it) => it.to > from);
@@ -99,12 +111,19 @@ class Editor {
     return pieces;
   }
 
+  // What stands between two coloured pieces, with the notes of the lines that end in it.
   plain(text, from, to) {
-    const notes = this.marks.map((mark) => ({ ...mark, at: lineEnd(text, mark.from) }));
+    const ends = new Map();
+    for (const { from: at, words, isGood } of [...this.marks, ...this.notes]) {
+      const end = lineEnd(text, at);
+      if (end < from || end >= to) continue;
+      const note = element('span', { className: isGood ? 'note good' : 'note' }, words);
+      ends.set(end, [...(ends.get(end) || []), note]);
+    }
     const pieces = [];
-    for (const { at, words } of notes.filter((note) => note.at >= from && note.at < to)) {
-      pieces.push(text.slice(from, at), element('span', { className: 'note', textContent: words }));
-      from = at;
+    for (const [end, notes] of [...ends].sort(([one], [other]) => one - other)) {
+      pieces.push(text.slice(from, end), element('span', { className: 'notes' }, ...notes));
+      from = end;
     }
     pieces.push(text.slice(from, to));
     return pieces;

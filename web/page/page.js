@@ -3,6 +3,7 @@
 
 const byId = (id) => document.getElementById(id);
 const DRAFT = 'cryptyc';
+const KINDS = { narrate: 'nar', bench: 'bench' }; // of commands that read no file; the ending of what they read
 const LINKED_AT_MOST = 60000; // characters; a link may be longer, and is then warned of
 const NEEDS = 'It needs WebAssembly with 64-bit memory, which Chromium 133 and Firefox 134 have, and later ones.';
 
@@ -13,6 +14,7 @@ class Page {
     this.command = 'check';
     this.isWaiting = true;
     this.faults = { check: null, command: null };
+    this.notes = [];
     this.editor = new Editor(byId('editor'), () => this.changed());
     this.isTaken = false;
     this.answer = new Answer(byId('answer'), this);
@@ -92,10 +94,16 @@ class Page {
 
   choose(command, isAsked = true) {
     this.command = command;
+    this.editor.colour(this.kind);
     for (const it of byId('commands').children) it.setAttribute('aria-pressed', String(it.textContent === command));
     for (const it of ['play', 'knows', 'load']) byId(`words-of-${it}`).hidden = command !== it;
     this.keepDraft();
     if (isAsked) this.ask();
+  }
+
+  // The ending of what the command reads.
+  get kind() {
+    return KINDS[this.command] || 'spi';
   }
 
   // Whether the answers shown are those to the text that is there.
@@ -112,7 +120,7 @@ class Page {
   }
 
   // Asks for the check, and for the command that is pressed; an answer to a text that has changed meanwhile isn't shown.
-  // A narration is no file to check: where that command is pressed, its answer stands in the place of the check.
+  // A narration or a bench is no file to check: where such a command is pressed, its answer stands in the place of the check.
   async ask() {
     clearTimeout(this.timer);
     this.isWaiting = false;
@@ -121,10 +129,11 @@ class Page {
     const number = (this.asked = (this.asked || 0) + 1);
     const isOld = () => number !== this.asked;
     byId('verdict').setAttribute('aria-busy', 'true');
-    const first = command === 'narrate' ? command : 'check';
+    const first = command in KINDS ? command : 'check';
     const check = await this.machine.run([first], text, 'check');
     if (!check || isOld()) return;
     this.faults = { check: faultOf(check), command: null };
+    this.notes = command === 'bench' && check.status < 2 ? new Bench(text).notes(check.output) : [];
     this.showCheck(check, text, first);
     try {
       if (command === first) this.answer.plain(first, check);
@@ -170,7 +179,9 @@ class Page {
     verdict.removeAttribute('aria-busy');
     verdict.className = check.status === 0 ? 'good' : 'bad';
     if (check.failure) verdict.textContent = `there is no answer: ${check.failure}`;
-    else verdict.textContent = command === 'narrate' && check.status === 0 ? 'a narration' : check.output.trim();
+    else if (command === 'narrate' && check.status === 0) verdict.textContent = 'a narration';
+    else if (command === 'bench' && check.status < 2) verdict.textContent = `a bench; at its end ${check.status ? 'no' : 'yes'}`;
+    else verdict.textContent = check.output.trim();
     this.showMarks(text);
   }
 
@@ -183,7 +194,7 @@ class Page {
       marks.set(from, { from, to: endOfToken(text, from), words: wordsOf(fault) });
     }
     byId('go').hidden = !marks.size;
-    this.editor.mark([...marks.values()]);
+    this.editor.mark([...marks.values()], this.notes);
   }
 
   // Goes to the next mark behind the caret, or to the first.
@@ -213,7 +224,8 @@ class Page {
     byId('file').value = '';
     const bytes = new Uint8Array(await file.arrayBuffer());
     try {
-      this.take(new TextDecoder('utf-8', { fatal: true, ignoreBOM: true }).decode(bytes), '', file.name);
+      const command = Object.keys(KINDS).find((it) => file.name.endsWith(`.${KINDS[it]}`));
+      this.take(new TextDecoder('utf-8', { fatal: true, ignoreBOM: true }).decode(bytes), '', file.name, command);
     } catch {
       this.answer.plain('check', await this.machine.run(['check'], bytes)); // 10 NotUtf8, with its place
     }
@@ -222,8 +234,7 @@ class Page {
   save() {
     const address = URL.createObjectURL(new Blob([this.editor.text], { type: 'text/plain' }));
     const name = (this.fileName || 'protocol.spi').replaceAll('/', '_');
-    const ending = this.command === 'narrate' ? '.nar' : '.spi';
-    element('a', { href: address, download: /\.(spi|nar)$/.test(name) ? name : `${name}${ending}` }).click();
+    element('a', { href: address, download: /\.(spi|nar|bench)$/.test(name) ? name : `${name}.${this.kind}` }).click();
     setTimeout(() => URL.revokeObjectURL(address), 10000);
   }
 
@@ -308,7 +319,7 @@ async function main() {
     return;
   }
   const texts = JSON.parse(new TextDecoder().decode(await unpacked(byId('texts').textContent)));
-  window.cryptyc = Object.assign(new Page(new Machine(module), texts), { parts: { Machine, Run, tokensOf } });
+  window.cryptyc = Object.assign(new Page(new Machine(module), texts), { parts: { Machine, Run, Bench, tokensOf } });
   await window.cryptyc.start();
 }
 
