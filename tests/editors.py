@@ -727,7 +727,8 @@ def test_install(room, program):
                  "zsh/site-functions/_cryptyc", "fish/vendor_completions.d/cryptyc.fish", "doc/cryptyc/README.md",
                  "doc/cryptyc/docs/reasons.md", "doc/cryptyc/LICENSE", "vim/vimfiles/syntax/cryptyc.vim",
                  "emacs/site-lisp/cryptyc-mode.el", "cryptyc/editors/vscode/package.json",
-                 "nvim/site/ftdetect/cryptyc.vim", "cryptyc/protocols/yahalom/protocol.spi"]:
+                 "nvim/site/ftdetect/cryptyc.vim", "cryptyc/protocols/yahalom/protocol.spi",
+                 "cryptyc/examples/handshake.bench"]:
         expect(f"install: {name}", os.path.isfile(f"{prefix}/share/{name}"))
     ran = run([f"{prefix}/bin/cryptyc-lsp", installed], frame(id=1, method="initialize", params={}))
     expect("install: the server", '"serverInfo"' in ran.stdout, ran.stderr)
