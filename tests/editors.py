@@ -717,12 +717,14 @@ def test_man():
 
 def test_install(room, program):
     prefix = f"{room}/a prefix"
-    ran = run([f"{ROOT}/install", "--program", program, prefix])
+    explains = write_program(f"{room}/explains", 'echo "$@"')
+    ran = run([f"{ROOT}/install", "--program", program, "--explain", explains, prefix])
     expect("install", ran.returncode == 0, ran.stdout + ran.stderr)
     expect("install: it says which program", program in ran.stdout, ran.stdout)
     installed = f"{prefix}/bin/cryptyc"
     example = f"{prefix}/share/cryptyc/examples/nonce_handshake.spi"
     expect("install: the program", run(["bash", "-c", '"$0" check < "$1"', installed, example]).stdout == "yes\n")
+    expect("install: explain", run([installed, "explain", "--lines", example]).stdout == f"explain --lines {example}\n")
     for name in ["man/man1/cryptyc.1", "man/man5/cryptyc.5", "bash-completion/completions/cryptyc",
                  "zsh/site-functions/_cryptyc", "fish/vendor_completions.d/cryptyc.fish", "doc/cryptyc/README.md",
                  "doc/cryptyc/docs/reasons.md", "doc/cryptyc/LICENSE", "vim/vimfiles/syntax/cryptyc.vim",
@@ -748,9 +750,10 @@ def test_package(room, program):
     for deb in debs:
         told, inside = run(["dpkg-deb", "-I", deb]).stdout, run(["dpkg-deb", "-c", deb]).stdout
         expect("package: its name", " Package: cryptyc\n" in told, told)
-        for name in ["bin/cryptyc", "bin/cryptyc-lsp", "share/man/man1/cryptyc.1.gz", "share/man/man5/cryptyc.5.gz",
-                     "share/bash-completion/completions/cryptyc", "share/doc/cryptyc/copyright",
-                     "share/cryptyc/protocols/yahalom/protocol.spi", "share/doc/cryptyc/docs/language.md"]:
+        for name in ["bin/cryptyc", "lib/cryptyc/cryptyc", "bin/cryptyc-lsp", "share/man/man1/cryptyc.1.gz",
+                     "share/man/man5/cryptyc.5.gz", "share/bash-completion/completions/cryptyc",
+                     "share/cryptyc/protocols/yahalom/protocol.spi", "share/doc/cryptyc/docs/language.md",
+                     "share/doc/cryptyc/copyright"]:
             expect(f"package: {name}", f" ./usr/{name}" in inside)
         expect("package: its owner", all(" root/root " in line for line in inside.splitlines()))
         run(["dpkg-deb", "-x", deb, f"{room}/out"])

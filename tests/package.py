@@ -69,7 +69,7 @@ def answers_wanted():
     return wanted
 
 
-def test_answers(folder):
+def test_answers(folder, given):
     wanted = answers_wanted()
     expect("the table has rows", len(wanted) > 30)
     asks = "".join(f"cryptyc {command} < /usr/share/cryptyc/{path} | tail -n 1\n" for path, command, _ in wanted)
@@ -77,6 +77,9 @@ def test_answers(folder):
     expect("as many answers as files", len(told) == len(wanted))
     for (path, command, line), answer in zip(wanted, told):
         expect(f"{command} of {path}", answer == line, f"'{answer}', wanted '{line}'")
+    ran = inside(folder, "cryptyc explain /usr/share/cryptyc/examples/unchecked_nonce.spi")
+    wanted = (72, False) if given else (1, True)  # where one program is given, it is packed alone
+    expect("explain", (ran.returncode, "\nwrong: " in ran.stdout) == wanted, ran.stdout + ran.stderr)
     deep = "; ".join(["begin a"] * 499)
     ran = inside(folder, f"echo 'free a; process {deep}; stop' | cryptyc check")
     expect("the deepest process", ran.stdout == "yes\n", ran.stdout)
@@ -88,7 +91,7 @@ def test_installed(folder):
                  "doc/cryptyc/docs/reasons.md", "doc/cryptyc/docs/web_1200.png", "doc/cryptyc/examples/nonce_handshake.spi"]:
         expect(name, os.path.exists(f"{folder}/usr/share/{name}"))
     expect("dpkg finds all files as packed", inside(folder, "dpkg -V cryptyc").stdout == "")
-    with open(f"{folder}/usr/bin/cryptyc", "rb") as file:
+    with open(f"{folder}/usr/lib/cryptyc/cryptyc", "rb") as file:
         total = hashlib.sha256(file.read()).hexdigest()
     with open(f"{folder}/usr/share/doc/cryptyc/build.txt", encoding="utf-8") as file:
         told = file.read()
@@ -111,7 +114,7 @@ def test_package(room, folder, words):
     expect("dpkg -i", ran.returncode == 0, ran.stdout + ran.stderr)
     if ran.returncode == 0:
         test_installed(folder)
-        test_answers(folder)
+        test_answers(folder, words)
         ran = inside(folder, "dpkg -r cryptyc && ! command -v cryptyc && ls -d /usr/share/*/cryptyc* /usr/share/cryptyc*")
         expect("dpkg -r leaves nothing", ran.stdout.count("/usr/share") == 0, ran.stdout)
 
