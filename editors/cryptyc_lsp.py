@@ -2,7 +2,7 @@
 """cryptyc_lsp.py [--limit SECONDS] [PROGRAM]: a language server for Cryptyc, over standard input and output.
 
 - Diagnostics: `check` runs at each change, and its no or refusal stands at its place. On a narration, a file that ends in
-  .nar, it's `narrate` that runs.
+  .nar, it's `narrate` that runs. On a bench, which ends in .bench, it's `bench`, and each no stands at its edit.
 - Hover on that place: the section of docs/reasons.md for its number.
 - Definition: the binder of a name, and the declaration of a type. This works in files that aren't finished.
 - Formatting: the text of `print`, where the file has no comments. `print` drops comments, so a file with some stays as
@@ -27,6 +27,7 @@ import threading
 HERE = os.path.dirname(os.path.realpath(__file__))
 REASONS = [f"{HERE}/../docs/reasons.md", f"{HERE}/../../doc/cryptyc/docs/reasons.md"]
 BUILD_LIMIT = 600  # seconds; the script ../cryptyc builds the checker at its first call
+COMMANDS = {".nar": "narrate", ".bench": "bench"}  # by the ending of a file; else check
 ANSWER = re.compile(r"(no|refused): (\d+) (\w+)(?: at (\d+):(\d+))?(?:: (.*))?\Z", re.S)
 PIECE = re.compile(r"(?P<comment>//[^\n]*)|(?P<word>[^\x00-@\[-^`{-\x7f][^\x00-/:-@\[-^`{-\x7f]*)|(?P<number>[0-9]+)"
                    r"|(?P<mark>[][(){},;:=|+#])")
@@ -86,7 +87,7 @@ class Walk:
     def __init__(self, text):
         self.tokens, self.at = tokens_of(text), 0
         self.types, self.binder = {}, {}  # binder: the offset of a name to the one where it is bound
-        free = {}
+        free, parts = {}, {}
         while self.kind():
             if self.takes("free"):
                 while self.kind() == "word":
@@ -104,15 +105,27 @@ class Walk:
                 self.take()
                 while self.kind() and self.word() not in ("opponent", "schedule", "derivation"):
                     self.processes(free)
-                    self.takes(")")  # one too many
+                    self.takes(")") or self.takes("}")  # one too many
             elif self.word() in ("schedule", "derivation"):
                 break
             elif self.takes("shared"):
                 free = self.bound(free, self.annotation(free))
             elif self.takes("roles"):
                 self.narration(free)
+            elif self.next_kind() == "word" and self.takes("put"):
+                self.part(free, parts)
+            elif self.next_kind() == "word" and self.takes("drop"):
+                self.use(parts)
             else:
                 self.take()
+
+    def part(self, scope, parts):
+        """Behind the word `put`: the part's name, and its process in braces. A name leads to where it was put first."""
+        _, word, at = self.take()
+        self.binder[at] = parts.setdefault(word, at)
+        if self.takes("{"):
+            self.processes(scope)
+            self.takes("}")
 
     def narration(self, scope):
         """Behind the word `roles`: the roles, and the lines, each in the scope of its role."""
@@ -150,6 +163,9 @@ class Walk:
 
     def word(self):
         return self.tokens[self.at][1] if self.at < len(self.tokens) else None
+
+    def next_kind(self):
+        return self.tokens[self.at + 1][0] if self.at + 1 < len(self.tokens) else None
 
     def next_word(self):
         return self.tokens[self.at + 1][1] if self.at + 1 < len(self.tokens) else None
@@ -249,7 +265,7 @@ class Walk:
         branches = []  # of the cases that wait for their `is inr`: the scope that it has
         while self.kind():
             word = self.word()
-            if word in ("|", ")", "opponent", "schedule", "derivation"):
+            if word in ("|", ")", "}", "opponent", "schedule", "derivation"):
                 return
             if word == "is" and branches:
                 self.takes("is")
@@ -306,6 +322,20 @@ def binder_of(text, offset):
     return None
 
 
+def edits_of(text):
+    """The edits of a bench: the start and the end of each `put` and `drop` that begins one."""
+    found, first, depth = [], True, 0
+    begun = None
+    for _, word, at in tokens_of(text):
+        if first:
+            begun = word
+            if word in ("put", "drop"):
+                found.append((at, at + len(word)))
+        depth = max(0, depth + {"{": 1, "}": -1}.get(word, 0))
+        first = depth == 0 and word == ("}" if begun == "put" else ";")
+    return found
+
+
 def section_of(number):
     """The section of docs/reasons.md for a number. Its links are written as plain words."""
     for path in REASONS:
@@ -359,8 +389,19 @@ class Checker:
             return f"the checker failed with status {running.returncode}: {complaint[-400:] or said}", None
         return said, running.returncode
 
+    def verdicts(self, text, said):
+        """Of a bench each no, at the word of its edit. The last one is the answer."""
+        lines, edits = said.split("\n"), edits_of(text.text)
+        wrong = [(number, line) for number, line in enumerate(lines) if line.endswith("no")]
+        return [{"range": text.range(*edits[number]), "severity": 1 if number == len(lines) - 1 else 2, "source": "cryptyc",
+                 "message": f"{line}: after this edit the parts aren't typed together"}
+                for number, line in wrong if len(lines) == len(edits)]
+
     def diagnostics(self, text, address):
-        said, status = self.run("narrate" if address.endswith(".nar") else "check", text.text)
+        command = COMMANDS.get(os.path.splitext(address)[1], "check")
+        said, status = self.run(command, text.text)
+        if command == "bench" and status in (0, 1):
+            return self.verdicts(text, said)
         if status == 0:
             return []
         answer, start, end, code = ANSWER.match(said), 0, 0, {}

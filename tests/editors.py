@@ -3,8 +3,8 @@
 and the man pages, ./install and tools/package.
 
 The server is driven over its protocol. The grammars of TextMate and of Vim are held to the lexer (docs/language.md,
-'Tokens'): each token of each .spi file of the repository has the class that it should have. For TextMate a small reader
-of its expressions stands here; for Vim, Vim or Neovim is asked. `--program FILE`, once or more often, gives the
+'Tokens'): each token of each .spi file of the repository has the class that it should have. For TextMate tests/textmate.py
+reads the grammar; for Vim, Vim or Neovim is asked. `--program FILE`, once or more often, gives the
 programs; without one, the build without proofs that tools/keep.py keeps. What needs a tool that isn't there is left
 out, and a line says so. The last line is 'N passed, M failed'."""
 
@@ -20,6 +20,7 @@ import tempfile
 import threading
 import time
 
+from textmate import TextMate
 from tokens import EXTRA, KEYWORDS_2, TYPES, files, read, tokens_of
 
 ROOT = os.path.dirname(os.path.dirname(os.path.abspath(__file__)))
@@ -40,92 +41,6 @@ def left_out(what, tool):
 
 
 # The grammar of TextMate
-
-def class_of_characters(holds):
-    """The inside of a character class of Python's for all characters that a test holds of."""
-    ranges, start = [], None
-    for code in range(0x110001):
-        inside = code < 0x110000 and holds(chr(code))
-        if inside and start is None:
-            start = code
-        elif not inside and start is not None:
-            ranges.append(f"\\U{start:08x}-\\U{code - 1:08x}")
-            start = None
-    return "".join(ranges)
-
-
-class TextMate:
-    """Reads a TextMate grammar as editors do: line by line, and at each place the rule that matches first."""
-
-    def __init__(self, path):
-        self.grammar, self.compiled, self.seen = json.loads(read(path)), {}, {}
-        self.start = class_of_characters(lambda c: c != "_" and c.isidentifier())
-        self.more = class_of_characters(lambda c: ("a" + c).isidentifier())
-
-    def expression(self, text):
-        if text not in self.compiled:
-            python = text.replace("[\\p{XID_Start}_]", f"[{self.start}_]")
-            self.compiled[text] = re.compile(python.replace("\\p{XID_Continue}", f"[{self.more}]"))
-        return self.compiled[text]
-
-    def search(self, text, line, at):
-        """The next match in a line. What was found from an earlier place still holds, where it isn't passed."""
-        found = self.seen.get(text, at)
-        if isinstance(found, int) or found is not None and found.start() < at:
-            found = self.seen[text] = self.expression(text).search(line, at)
-        return found
-
-    def rules(self, patterns):
-        for rule in patterns:
-            if "include" in rule:
-                rule = self.grammar["repository"][rule["include"][1:]]
-            if "match" in rule or "begin" in rule:
-                yield rule
-            else:
-                yield from self.rules(rule["patterns"])
-
-    def first(self, stack, line, at):
-        """The rule that is next in a line, with its match; the end of the region comes before all others."""
-        best = None
-        region = stack[-1]
-        if "end" in region:
-            found = self.search(region["end"], line, at)
-            best = (found.start(), "end", region, found) if found else None
-        for rule in self.rules(region["patterns"]):
-            found = self.search(rule.get("match", rule.get("begin")), line, at)
-            if found and (best is None or found.start() < best[0]):
-                best = (found.start(), "match" if "match" in rule else "begin", rule, found)
-        return best
-
-    def scopes(self, text):
-        """The innermost scope of each character that has one, by its offset."""
-        stack, found, base = [self.grammar], {}, 0
-
-        def mark(start, end, name):
-            for at in range(start, end) if name else ():
-                found[base + at] = name
-
-        for line in text.split("\n"):
-            at, before, self.seen = 0, None, {}
-            while at <= len(line):
-                best = self.first(stack, line, at)
-                if best is None:
-                    break
-                _, how, rule, match = best
-                assert (match.end(), len(stack), how) != before, f"the grammar goes round in {line!r}"
-                before = match.end(), len(stack), how
-                captures = rule.get({"begin": "beginCaptures", "end": "endCaptures", "match": "captures"}[how], {})
-                mark(match.start(), match.end(), rule.get("name"))
-                for number, capture in captures.items():
-                    mark(match.start(int(number)), match.end(int(number)), capture["name"])
-                if how == "begin":
-                    stack.append(rule)
-                elif how == "end":
-                    stack.pop()
-                at = match.end() if match.end() > match.start() or how != "match" else at + 1
-            base += len(line) + 1
-        return found
-
 
 TEXTMATE = {"comment.": "comment", "keyword.operator.cryptyc": "mark", "keyword.": "keyword", "punctuation.": "mark",
             "support.type.": "type", "constant.numeric.": "number", "variable.": "name",
@@ -151,7 +66,7 @@ def test_extension():
     language, grammar = contributes["languages"][0], contributes["grammars"][0]
     named = [package["main"], language["configuration"], grammar["path"]]
     expect("the extension's files", all(os.path.isfile(f"{folder}/{name}") for name in named))
-    expect("the extension's language", language["id"] == grammar["language"] and language["extensions"] == [".spi", ".nar"])
+    expect("the extension's language", language["id"] == grammar["language"] and language["extensions"] == [".spi", ".nar", ".bench"])
     scope = json.loads(read("editors/vscode/syntaxes/cryptyc.tmLanguage.json"))["scopeName"]
     expect("the extension's scope", scope == grammar["scopeName"])
     configuration = json.loads(read("editors/vscode/language-configuration.json"))
@@ -378,6 +293,14 @@ def test_diagnostics(program):
     section = (client.at("hover", line, 0, "o", ".nar") or {}).get("contents", {}).get("value", "")
     expect("server: hover in a narration", section.startswith("## 102 LineNotReady\n") and section.count("\n## ") == 0)
     got = told(client.open("free net; roles A;\nA to B on net: net as x;", "p", ".nar"))
+    marked = told(client.open(read("examples/handshake.bench"), "q", ".bench"))
+    wrong = [(None, f"{number} no: after this edit the parts aren't typed together", span(line, 0, 3))
+             for number, line in ((2, 9), (4, 21))]
+    expect("server: a bench", marked == wrong, f"{marked}")
+    marked = told(client.open("put A { stop }\ndrop B;", "r", ".bench"))
+    expect("server: a bench that is refused", marked == [(120, "refused: 120 UnknownPart: B", span(1, 5, 6))], f"{marked}")
+    section = (client.at("hover", 1, 5, "r", ".bench") or {}).get("contents", {}).get("value", "")
+    expect("server: hover in a bench", section.startswith("## 120 UnknownPart\n"), section[:40])
     expect("server: a role that isn't declared", got == [(100, "refused: 100 UnknownRole: B", span(1, 5, 6))], f"{got}")
     expect("server: shutdown", client.end() == 0)
 
@@ -398,7 +321,7 @@ def utf16(text, at):
     return text.count("\n", 0, at), len(text[text.rfind("\n", 0, at) + 1:at].encode("utf-16-le")) // 2
 
 
-WORDS_OF_PARTS = ("act", "talk", "shared", "roles", "to", "on", "as")
+WORDS_OF_PARTS = ("act", "talk", "shared", "roles", "to", "on", "as", "put", "drop")
 DEFINITIONS = [  # ‹ stands before a binder, › before a use of it
     "free ‹a, b; process out ›a b",
     "free a, ‹b; process inp a (x: Un); out a ›b",
@@ -446,7 +369,10 @@ DEFINITIONS = [  # ‹ stands before a binder, › before a use of it
     "free net; roles A, B; A: new (x: Un); A to B on net: x as ‹x; B: check ›x is x;",
     "shared ‹k: Key(Un); roles A; A: decrypt k is {k: Un}›k;",
     "free net; roles A, B; A: new (‹x: Un); A to B on net: (x, ; A: check ›x",
-    "free ‹a; process new (x: Un); ) ›a",
+    "free a; shared ‹k: Key(Un); put A { out a {a}›k } put B { out a k }",
+    "free a; put A { inp a (‹x: Un); (out a x | out a ›x) } put B { inp a (x: Un); stop }",
+    "free a; put ‹A { inp a (x: Un); stop } put B { stop } put A { stop } drop ›A;",
+    "free ‹put; put A { out put put } put B { out ›put put }",
 ]
 
 

@@ -59,7 +59,7 @@ EXTRA = {  # files for what no file of the repository has
 def files():
     """Names and texts of all files that the grammars are held to, and of the derivations of some."""
     found = dict(EXTRA)
-    for pattern in ("examples/*.spi", "examples/*/*.spi", "protocols/*/*.spi", "protocols/*/*.nar"):
+    for pattern in ("examples/*.spi", "examples/*/*.spi", "protocols/*/*.spi", "protocols/*/*.nar", "examples/*.bench"):
         for path in sorted(glob.glob(f"{ROOT}/{pattern}")):
             found[os.path.relpath(path, ROOT)] = read(os.path.relpath(path, ROOT))
     return found

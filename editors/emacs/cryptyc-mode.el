@@ -7,7 +7,7 @@
 
 ;;; Commentary:
 
-;; A major mode for files of Cryptyc, which end in .spi or .nar: colours, comments, indentation, and `C-c C-c' to check.
+;; A major mode for files of Cryptyc, which end in .spi, .nar or .bench: colours, comments, indentation, and `C-c C-c' to check.
 ;; Where Eglot is there (Emacs 29 has it), `M-x eglot' starts the language server cryptyc-lsp.
 
 ;;; Code:
@@ -101,11 +101,12 @@
       (back-to-indentation))))
 
 (defun cryptyc-check ()
-  "Check the file of this buffer, or tell the narration in it, and show the answer."
+  "Check the file of this buffer, or tell the narration or ask the bench in it, and show the answer."
   (interactive)
   (save-buffer)
   (compile (format "echo %s: $(%s %s < %s)" (shell-quote-argument (file-relative-name buffer-file-name))
-                   cryptyc-program (if (string-suffix-p ".nar" buffer-file-name) "narrate" "check")
+                   cryptyc-program
+                   (pcase (file-name-extension buffer-file-name) ("nar" "narrate") ("bench" "bench") (_ "check"))
                    (shell-quote-argument buffer-file-name))))
 
 (defvar cryptyc-mode-map
@@ -129,7 +130,7 @@
 (add-to-list 'compilation-error-regexp-alist 'cryptyc)
 
 ;;;###autoload
-(add-to-list 'auto-mode-alist '("\\.\\(?:spi\\|nar\\)\\'" . cryptyc-mode))
+(add-to-list 'auto-mode-alist '("\\.\\(?:spi\\|nar\\|bench\\)\\'" . cryptyc-mode))
 
 (defvar eglot-server-programs)
 (with-eval-after-load 'eglot

@@ -8,7 +8,7 @@ _cryptyc() {
         while IFS= read -r word; do
             if [ -d "$word" ]; then
                 COMPREPLY+=("$word/")
-            elif [[ $word == *.spi ]]; then
+            elif [[ $word == *.spi || $word == *.nar || $word == *.bench ]]; then
                 COMPREPLY+=("$word")
             fi
         done < <(compgen -f -- "$now")
