@@ -373,6 +373,8 @@ DEFINITIONS = [  # ‹ stands before a binder, › before a use of it
     "free a; put A { inp a (‹x: Un); (out a x | out a ›x) } put B { inp a (x: Un); stop }",
     "free a; put ‹A { inp a (x: Un); stop } put B { stop } put A { stop } drop ›A;",
     "free ‹put; put A { out put put } put B { out ›put put }",
+    "free ‹a; process new (x: Un); } out ›a a } stop",
+    "free ‹a; process new (x: Un); ) ›a",
 ]
 
 
