@@ -2,7 +2,8 @@
 """cryptyc_lsp.py [--limit SECONDS] [PROGRAM]: a language server for Cryptyc, over standard input and output.
 
 - Diagnostics: `check` runs at each change, and its no or refusal stands at its place. On a narration, a file that ends in
-  .nar, it's `narrate` that runs. On a bench, which ends in .bench, it's `bench`, and each no stands at its edit.
+  .nar, it's `narrate` that runs. On a bench, which ends in .bench, it's `bench`, and each no stands at its edit. Where the
+  program that explains is there, what `explain` says of a file is added as soon as it's known.
 - Hover on that place: the section of docs/reasons.md for its number.
 - Definition: the binder of a name, and the declaration of a type. This works in files that aren't finished.
 - Formatting: the text of `print`, where the file has no comments. `print` drops comments, so a file with some stays as
@@ -29,6 +30,8 @@ REASONS = [f"{HERE}/../docs/reasons.md", f"{HERE}/../../doc/cryptyc/docs/reasons
 BUILD_LIMIT = 600  # seconds; the script ../cryptyc builds the checker at its first call
 COMMANDS = {".nar": "narrate", ".bench": "bench"}  # by the ending of a file; else check
 ANSWER = re.compile(r"(no|refused): (\d+) (\w+)(?: at (\d+):(\d+))?(?:: (.*))?\Z", re.S)
+FINDING = re.compile(r"(?:(\d+)-(\d+) )?(wrong|also|note|help): (.*)\Z", re.S)
+EXPLAINERS = ["../lib/cryptyc/cryptyc_explain", "target/cryptyc_explain.kept", "crates/cryptyc_explain/out/cryptyc_explain"]
 PIECE = re.compile(r"(?P<comment>//[^\n]*)|(?P<word>[^\x00-@\[-^`{-\x7f][^\x00-/:-@\[-^`{-\x7f]*)|(?P<number>[0-9]+)"
                    r"|(?P<mark>[][(){},;:=|+#])")
 RESERVED = set("""free type process opponent schedule derivation out inp repeat split match case decrypt check begin end
@@ -50,6 +53,9 @@ class Text:
         for _ in range(line - 1):
             start = self.text.find("\n", start) + 1
         return min(start + column - 1, len(self.text))
+
+    def offset_of_byte(self, number):
+        return len(self.text.encode("utf-8", "surrogatepass")[:number].decode("utf-8", "ignore"))
 
     def position(self, offset):
         line = bisect.bisect_right(self.starts, offset) - 1
@@ -351,16 +357,18 @@ class Checker:
     def __init__(self, program, limit, tell):
         self.program, self.limit, self.tell = program, limit, tell
         self.running = set()
+        folder = os.path.dirname(os.path.realpath(program))  # of an installation, or of a clone that has made the other one
+        self.explains = any(os.path.exists(f"{folder}/{path}") for path in EXPLAINERS)
 
     def end_all(self):
         for running in list(self.running):
             with contextlib.suppress(ProcessLookupError):
                 os.killpg(running.pid, signal.SIGKILL)
 
-    def run(self, command, text):
+    def run(self, words, text):
         """What a command writes, and its status; with no status, why there is none."""
         try:
-            running = subprocess.Popen([self.program, command], stdin=subprocess.PIPE, stdout=subprocess.PIPE,
+            running = subprocess.Popen([self.program, *words.split()], stdin=subprocess.PIPE, stdout=subprocess.PIPE,
                                        stderr=subprocess.PIPE, start_new_session=True)
         except OSError as error:
             return f"the checker {self.program} can't be started: {error.strerror}", None
@@ -415,6 +423,26 @@ class Checker:
         return [{"range": text.range(start, end), "severity": 1, "source": "cryptyc", "message": said, **code}]
 
 
+    def explained(self, text, address, found):
+        """The diagnostics of a file with what `explain` says of it; nothing where it says nothing or isn't there."""
+        if not self.explains or len(found) != 1 or "code" not in found[0] or os.path.splitext(address)[1] in COMMANDS:
+            return None
+        said, status = self.run("explain --lines", text.text)
+        first, *lines = said.split("\n")
+        if status not in (1, 2) or not first.startswith(": ".join(found[0]["message"].split(": ")[:2])):
+            return None
+        words, notes, others = [found[0]["message"]], [], []
+        for start, end, kind, told in (it.groups() for it in map(FINDING.match, lines) if it):
+            place = start and text.range(text.offset_of_byte(int(start)), text.offset_of_byte(int(end)))
+            if kind == "also" and place:
+                others.append({"range": place, "severity": 1, "source": "cryptyc", "message": told})
+            elif kind == "note" and place:
+                notes.append({"location": {"uri": address, "range": place}, "message": told})
+            else:
+                words.append(f"{kind}: {told}")
+        return [{**found[0], "message": "\n".join(words), "relatedInformation": notes}, *others]
+
+
 class Server:
     def __init__(self, program, limit):
         self.sending, self.checker = threading.Lock(), Checker(program, limit, self.tell)
@@ -444,6 +472,9 @@ class Server:
             if self.files.get(address) is asked:
                 found = self.checker.diagnostics(asked[0], address)
                 if self.files.get(address) is asked:
+                    self.publish(address, found, asked[1])
+                    found = self.checker.explained(asked[0], address, found)
+                if found and self.files.get(address) is asked:
                     self.publish(address, found, asked[1])
 
     def set(self, address, text, version):

@@ -476,6 +476,38 @@ def test_programs(room, program):
         client.end()
 
 
+EXPLAINS = """[ "$*" = "explain --lines" ] || exit 6
+cat <<'TEXT'
+no: 41 DatumNotUn at 2:29: k
+37-38 wrong: `k` is sent, and is no message for everybody
+22-23 note: `k` is bound here
+help: send it under another key
+5-7 also: `é` is wrong too
+TEXT
+exit 1"""
+
+
+def test_explained(room, program):
+    """Where the program that explains is there, what it says comes behind the answer of check."""
+    for folder in ("bin", "lib/cryptyc"):
+        os.makedirs(f"{room}/{folder}")
+    shutil.copy(f"{ROOT}/tools/installed", f"{room}/bin/cryptyc")
+    os.symlink(program, f"{room}/lib/cryptyc/cryptyc")
+    write_program(f"{room}/lib/cryptyc/cryptyc_explain", EXPLAINS)
+    client = Client(f"{room}/bin/cryptyc")
+    plain = client.open("free é;\nprocess new (k: Key(Un)); out é k")
+    expect("explained: first check", told(plain) == [(41, "no: 41 DatumNotUn: k", span(1, 26, 29))], f"{plain}")
+    found = client.found(1) or [{"message": ""}]
+    words = ["no: 41 DatumNotUn: k", "wrong: `k` is sent, and is no message for everybody", "help: send it under another key"]
+    expect("explained: the words", found[0]["message"] == "\n".join(words), f"{found}")
+    notes = [{"location": {"uri": "file:///a.spi", "range": span(1, 13, 14)}, "message": "`k` is bound here"}]
+    expect("explained: the notes", found[0].get("relatedInformation") == notes, f"{found}")
+    expect("explained: a further place", told(found)[1:] == [(None, "`é` is wrong too", span(0, 5, 6))], f"{found}")
+    section = (client.at("hover", 1, 27) or {}).get("contents", {}).get("value", "")
+    expect("explained: hover", section.startswith("## 41 DatumNotUn\n"), section[:40])
+    client.end()
+
+
 EXTENSION = """
 const handlers = {}, shown = new Map(), said = [];
 class Range { constructor(a, b, c, d) { Object.assign(this, { at: [a, b, c, d] }); } }
@@ -487,7 +519,8 @@ const document = { uri, languageId: 'cryptyc', version: 1, getText: () => text }
 const on = (name) => (handler) => { handlers[name] = handler; return { dispose() {} }; };
 const provider = (name) => (_, it) => { handlers[name] = Object.values(it)[0]; return { dispose() {} }; };
 const vscode = {
-  Range, Diagnostic, Hover: Pair, Location: Pair, MarkdownString: String, DiagnosticSeverity: { Error: 0 },
+  Range, Diagnostic, Hover: Pair, Location: Pair, MarkdownString: String, DiagnosticSeverity: { Error: 0, Warning: 1 },
+  DiagnosticRelatedInformation: Pair,
   Uri: { parse: (it) => it }, TextEdit: { replace: (range, text) => ({ range, text }) },
   languages: {
     createDiagnosticCollection: () => ({ set: (uri, found) => shown.set(uri, found) }),
@@ -707,7 +740,7 @@ def main():
     test_completions()
     test_man()
     tests = [test_diagnostics, test_definitions, test_formatting]
-    tests_with_room = [test_programs, test_extension_runs, test_sarif, test_install, test_package]
+    tests_with_room = [test_programs, test_explained, test_extension_runs, test_sarif, test_install, test_package]
     with tempfile.TemporaryDirectory() as room:
         for number, test in enumerate([test_vim, test_emacs]):
             os.mkdir(f"{room}/{number}")

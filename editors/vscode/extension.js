@@ -100,7 +100,10 @@ function activate(context) {
     if (method === 'window/showMessage') vscode.window.showInformationMessage(params.message);
     if (method !== 'textDocument/publishDiagnostics') return;
     shown.set(vscode.Uri.parse(params.uri), params.diagnostics.map((it) => {
-      const diagnostic = new vscode.Diagnostic(range(it.range), it.message, vscode.DiagnosticSeverity.Error);
+      const { Error, Warning } = vscode.DiagnosticSeverity;
+      const diagnostic = new vscode.Diagnostic(range(it.range), it.message, it.severity === 2 ? Warning : Error);
+      diagnostic.relatedInformation = (it.relatedInformation || []).map(({ location, message }) =>
+        new vscode.DiagnosticRelatedInformation(new vscode.Location(vscode.Uri.parse(location.uri), range(location.range)), message));
       diagnostic.source = it.source;
       diagnostic.code = it.code;
       return diagnostic;
