@@ -18,9 +18,9 @@ Without an option it prints the numbers. `--list NAME` prints the definitions of
 of a yes of `check`: `IsSafe` and `IsManySafe`), `statuses` (the fields of `IsExact` but `written`, and `IsManySafe`),
 `headline` (the clauses `headline` and `many_to_one`), the word of a command (its row of
 `Promise`), another clause of `run`, or `run`, the whole. `--unreached`
-prints the files of specs/ that no clause of `run` and no law reaches. `--check` holds the document to what is found,
-and `--write` rewrites its numbers and which files it has; the words and their order are the document's own. The last
-line of `--check` is 'N passed, M failed'."""
+prints the files of specs/ that no clause of `run` and no law reaches. `--check` holds the document, and the two sentences
+of README.md that have its numbers, to what is found, and `--write` rewrites these numbers and which files it has; the
+words and their order are the document's own. The last line of `--check` is 'N passed, M failed'."""
 
 import argparse
 import dataclasses
@@ -44,6 +44,7 @@ LIBRARY_CONSTRUCTORS = ("suc", "zero", "true", "false", "[]", "◌∷◌", "yes"
 BUILT_IN = (":", "→", "=", ";", ",", "|", "×", "⊥", "¬", "Type", "Unit", "tt", "where", "record", "elim", "in", "do",
             "as", "deriving")
 HEADLINE = ("headline", "many_to_one")
+QUOTED = (("yes", r"you read ([\d,]+) definitions, ([\d,]+) lines"), ("theorem", r"rests on ([\d,]+) of them, ([\d,]+) lines"))
 ROW = re.compile(r"\| `([^`]+)` \| ?([^|]*?) ?\|")
 
 
@@ -139,11 +140,13 @@ def items_of(path):
 
 def units_of(kind, lines):
     """The text of an item by its parts: its head, and each clause, constructor or field."""
-    indent = "  " if kind in ("data", "record") else ""
-    units = [lines[0][1]]
-    for _, line in lines[1:]:
-        starts = line.startswith(indent) and line[len(indent)] not in (" ", *CLOSING)
-        if starts and (not indent or " where" in units[0]):
+    texts, head, indent = [line for _, line in lines], 1, ""
+    if kind in ("data", "record"):  # the head may be of several lines, and `where` one of them
+        head = next((number for number, line in enumerate(texts, 1) if re.search(r"(^|\s)where$", line)), len(texts))
+        indent = re.match(" *", texts[head])[0] if head < len(texts) else ""
+    units = ["\n".join(texts[:head])]
+    for line in texts[head:]:
+        if line.startswith(indent) and line[len(indent)] not in (" ", *CLOSING):
             units.append(line)
         else:
             units[-1] += "\n" + line
@@ -615,8 +618,19 @@ def faults_of(text):
         yield f"{name} uses what stands for nothing: {', '.join(sorted(unknown))}" if unknown else None
 
 
+def quoted(text):
+    """README.md with the numbers of the rows that it quotes, and for each row whether it has them."""
+    found = []
+    for name, pattern in QUOTED:
+        match = re.search(pattern, text)
+        found.append(None if match and list(match.groups()) == rows()[name][:2] else f"README.md hasn't the numbers of {name}")
+        for group in (2, 1) if match else ():
+            text = text[:match.start(group)] + rows()[name][group - 1] + text[match.end(group):]
+    return text, found
+
+
 def check():
-    faults = list(faults_of(text_of("docs/trusted.md")))
+    faults = [*faults_of(text_of("docs/trusted.md")), *quoted(text_of("README.md"))[1]]
     failed = [fault for fault in faults if fault]
     for fault in failed:
         print(fault)
@@ -625,9 +639,9 @@ def check():
 
 
 def write():
-    text = rewritten(text_of("docs/trusted.md"))
-    with open(f"{ROOT}/docs/trusted.md", "w", encoding="utf-8") as file:
-        file.write(text)
+    for path, text in (("docs/trusted.md", rewritten(text_of("docs/trusted.md"))), ("README.md", quoted(text_of("README.md"))[0])):
+        with open(f"{ROOT}/{path}", "w", encoding="utf-8") as file:
+            file.write(text)
 
 
 def show(name):
