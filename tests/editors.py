@@ -679,7 +679,7 @@ def test_man():
 def test_install(room, program):
     prefix = f"{room}/a prefix"
     explains = write_program(f"{room}/explains", 'echo "$@"')
-    ran = run([f"{ROOT}/install", "--program", program, "--explain", explains, prefix])
+    ran = run([f"{ROOT}/install", "--program", program, "--explain", explains, prefix], limit=60)
     expect("install", ran.returncode == 0, ran.stdout + ran.stderr)
     expect("install: it says which program", program in ran.stdout, ran.stdout)
     installed = f"{prefix}/bin/cryptyc"
