@@ -101,7 +101,8 @@
       (back-to-indentation))))
 
 (defun cryptyc-check ()
-  "Check the file of this buffer, or tell the narration or ask the bench in it, and show the answer."
+  "Check this buffer's file, or tell its narration or ask its bench.
+The answer is shown in a window of its own."
   (interactive)
   (save-buffer)
   (compile (format "echo %s: $(%s %s < %s)" (shell-quote-argument (file-relative-name buffer-file-name))
