@@ -11,8 +11,10 @@ use Rattle.spi_fault.specs.Faults.{Told, IsFault}
 use Rattle.spi_report.specs.Fault.{fault_text}
 use Rattle.spi_commands.specs.declared.answer.Answer.{Answer}
 use Rattle.spi_commands.specs.declared.answer.Stop.{Stop}
-use Rattle.spi_commands.specs.declared.status.Status.TheVariants.{No}
-use Rattle.spi_commands.specs.NoLine.{IsNo}
+use Rattle.spi_commands.specs.declared.status.Status.{Status}
+use Rattle.spi_commands.specs.declared.status.Status.TheVariants.{Yes, No}
+use Rattle.spi_commands.specs.Spelled.{IsDerivable}
+use Rattle.spi_commands.specs.NoLine.{IsNo, IsVerdict}
 use Rattle.spi_commands.specs.Checking.{ChecksTo}
 use Rattle.spi_commands.specs.Reading.{IsRead}
 use Rattle.spi_commands.proofs.FilePlaces.{place_within}
@@ -44,17 +46,23 @@ rejects bytes f fault (Ok a) r is h = (h.0, no_line bytes a.output.items f fault
 rejects bytes f fault (Err e) r is h = tt
 
 -- a no
-pub refused : (bytes : List ℕ) (f : File) (result : Result Answer Stop) → IsRead bytes f → (Derivable (untrusted f.process.names) f.process.process [] → ⊥) → IfOk result (λ a. (a.status ≡ No) × IsNo bytes a.output.items) → IfOk result (λ a. ChecksTo bytes a.status a.output.items)
-refused bytes f (Ok a) (tree, is, stands, marks) none h =
-    let wanted : ChecksTo bytes No a.output.items = ((meant f, (tree, is, stands), none), h.1) in
-    subst (λ s. ChecksTo bytes s a.output.items) (sym h.0) wanted
-refused bytes f (Err e) r none h = tt
+pub rejected_verdict : (bytes : List ℕ) (f : File) (result : Result Answer Stop) → (IsDerivable (meant f) → ⊥) → IfOk result (λ a. (a.status ≡ No) × IsNo bytes a.output.items) → IfOk result (λ a. IsVerdict bytes (meant f) a.status a.output.items)
+rejected_verdict bytes f (Ok a) none h =
+    let wanted : IsVerdict bytes (meant f) No a.output.items = (none, h.1) in
+    subst (λ s. IsVerdict bytes (meant f) s a.output.items) (sym h.0) wanted
+rejected_verdict bytes f (Err e) none h = tt
+
+-- a verdict is what `check` answers
+checks : (bytes output : List ℕ) (f : File) (status : Status) → IsRead bytes f → IsVerdict bytes (meant f) status output → ChecksTo bytes status output
+checks bytes output f Yes (tree, is, stands, marks) h = ((meant f, (tree, is, stands), h.0), h.1)
+checks bytes output f No (tree, is, stands, marks) h = ((meant f, (tree, is, stands), h.0), h.1)
+
+pub checked : (bytes : List ℕ) (f : File) (result : Result Answer Stop) → IsRead bytes f → IfOk result (λ a. IsVerdict bytes (meant f) a.status a.output.items) → IfOk result (λ a. ChecksTo bytes a.status a.output.items)
+checked bytes f (Ok a) r h = checks bytes a.output.items f a.status r h
+checked bytes f (Err e) r h = tt
 
 pub none_derivable : {A : Type 0} (o : Option A) (x : A) (D : Type 0) → o ≡ Some x → IsNone o ↔ D → D → ⊥
 none_derivable o x D e h d = absurd (let n : IsNone (Some x) = subst IsNone e (h.1 d) in cc n)
-
-pub some_derivable : {A : Type 0} (o : Option A) (D : Type 0) → IsNone o ↔ D → (D → ⊥) → o ≡ None → ⊥
-some_derivable o D h none e = none (h.0 (rw e refl))
 
 -- and where no derivation is given, there is none
 pub none_derived : {A : Type 0} (o : Option A) (D : Type 0) → o ≡ None → IsSome o ↔ D → D → ⊥

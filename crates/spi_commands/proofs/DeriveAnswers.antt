@@ -10,10 +10,11 @@ use Rattle.spi_deriv.specs.Text.{derivation_text}
 use Rattle.spi_spell.specs.Joined.{joined}
 use Rattle.spi_commands.specs.declared.answer.Answer.{Answer}
 use Rattle.spi_commands.specs.declared.answer.Stop.{Stop}
+use Rattle.spi_commands.specs.declared.status.Status.{Status}
 use Rattle.spi_commands.specs.declared.status.Status.TheVariants.{Yes, No, Refused}
-use Rattle.spi_commands.specs.Spelled.{limit}
+use Rattle.spi_commands.specs.Spelled.{limit, IsDerivable}
 use Rattle.spi_commands.specs.Refusals.{layered, IsLineOf, Refuses, IsTooMuch}
-use Rattle.spi_commands.specs.NoLine.{IsNo}
+use Rattle.spi_commands.specs.NoLine.{IsNo, IsVerdict}
 use Rattle.spi_commands.specs.Deriving.{SpellsCanonical, listing_length, HasLongListing, DerivesTo}
 use Rattle.spi_commands.specs.Reading.{IsRead}
 use Rattle.spi_commands.proofs.AnswerLines.{refuses_by, much}
@@ -36,8 +37,10 @@ long_listing bytes text f us count result r c e n h =
     refuses_by bytes (IsTooMuch count) (layered (Refuses bytes) (HasLongListing bytes)) _ _ result (λ m o s x. inr (us, spelled bytes f us r c, much count (listing_length bytes us) m o s same x)) h
 
 -- a no
-pub refused : (bytes : List ℕ) (f : File) (result : Result Answer Stop) → IsRead bytes f → (Derivable (untrusted f.process.names) f.process.process [] → ⊥) → IfOk result (λ a. (a.status ≡ No) × IsNo bytes a.output.items) → IfOk result (λ a. DerivesTo bytes a.status a.output.items)
-refused bytes f (Ok a) (tree, is, stands, marks) none h =
-    let wanted : DerivesTo bytes No a.output.items = ((meant f, (tree, is, stands), none), h.1) in
-    subst (λ s. DerivesTo bytes s a.output.items) (sym h.0) wanted
+refused_by : (bytes output : List ℕ) (f : File) (status : Status) → IsRead bytes f → (IsDerivable (meant f) → ⊥) → IsVerdict bytes (meant f) status output → DerivesTo bytes status output
+refused_by bytes output f Yes r none h = absurd (none h.0)
+refused_by bytes output f No (tree, is, stands, marks) none h = ((meant f, (tree, is, stands), none), h.1)
+
+pub refused : (bytes : List ℕ) (f : File) (result : Result Answer Stop) → IsRead bytes f → (IsDerivable (meant f) → ⊥) → IfOk result (λ a. IsVerdict bytes (meant f) a.status a.output.items) → IfOk result (λ a. DerivesTo bytes a.status a.output.items)
+refused bytes f (Ok a) r none h = refused_by bytes a.output.items f a.status r none h
 refused bytes f (Err e) r none h = tt

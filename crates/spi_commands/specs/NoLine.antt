@@ -1,5 +1,5 @@
--- The line of a process that isn't derivable with the empty effect.
-use Rattle.std.specs.Prelude.{◌≡◌, ℕ, List, [], reverse}
+-- The verdict on a process, and the line of one that isn't derivable with the empty effect.
+use Rattle.std.specs.Prelude.{◌≡◌, ℕ, List, [], reverse, codes}
 use Rattle.spi_text.specs.declared.lines.Span.{Span}
 use Rattle.spi_tree.specs.Trees.{File}
 use Rattle.spi_scope.specs.StandsFor.{Meant, StandsFor}
@@ -9,7 +9,9 @@ use Rattle.spi_scope.specs.Places.{place_in}
 use Rattle.spi_scope.specs.Chains.{chain_at}
 use Rattle.spi_fault.specs.Faults.{Told, IsFault}
 use Rattle.spi_report.specs.Fault.{fault_text}
-use Rattle.spi_commands.specs.Spelled.{IsTreeOf}
+use Rattle.spi_commands.specs.declared.status.Status.{Status}
+use Rattle.spi_commands.specs.Spelled.{IsTreeOf, IsDerivable}
+use Rattle.spi_commands.specs.Answers.{Answers, never}
 
 -- where the nodes of a tree's process stand, and how the names in scope there are spelled
 abbrev pub place_at : File → ℕ → Span
@@ -24,3 +26,9 @@ IsNo bytes output =
     (tree : File) × (file : Meant) × (fault : Told) × IsTreeOf bytes tree × StandsFor tree file
     × IsFault (spelled_at tree) file.process.names file.process.process fault
     × (output ≡ fault_text bytes (place_at tree) (spelled_at tree) fault)
+
+-- yes where the file's process is derivable with the empty effect, and else the no with its line
+abbrev pub IsVerdict : List ℕ → Meant → Status → List ℕ → Type 0
+IsVerdict bytes file =
+    Answers (λ output. IsDerivable file × (output ≡ codes "yes\n"))
+    (λ output. (¬ IsDerivable file) × IsNo bytes output) never

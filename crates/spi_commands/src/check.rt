@@ -4,13 +4,10 @@ ghost use Rattle.spi_commands.specs.Checking.{ChecksTo};
 ghost use Rattle.spi_commands.specs.Reading.{IsRead, IsGiven, Gives};
 ghost use Rattle.spi_commands.specs.Run.{IsAnswered};
 
-use crate::answer::{Answer, Stop, made, refused_with};
+use crate::answer::{Answer, Stop, refused_with};
 use crate::file::Given;
-use crate::rejection::rejected;
+use crate::rejection::judged;
 use crate::status::Status;
-use spi_fault::explain;
-use spi_infer::infer;
-use spi_report::yes;
 use spi_scope::File;
 use std::alloc::Global;
 
@@ -36,9 +33,5 @@ fn checked(alloc: Global, bytes: &[u8], file: &File) -> Result<Answer, Stop>
     ensures answered { IfOk result (λ answer. IsAnswered answer.status × (answer.status ≢ Status.Usage)) }
     ensures err { OnErr result (result ≡ Err Stop.NoMemory) }
 {
-    let inferred = infer(alloc, &file.process)?;
-    match explain(alloc, file, &inferred)? {
-        None => made(alloc, Status::Yes, yes()),
-        Some(fault) => rejected(alloc, bytes, file, &fault),
-    }
+    judged(alloc, bytes, file)
 }

@@ -10,12 +10,10 @@ ghost use Rattle.spi_commands.specs.Run.{IsAnswered};
 
 use crate::answer::{Answer, Stop, refused_with, too_much};
 use crate::file::Given;
-use crate::rejection::rejected;
+use crate::rejection::judged;
 use crate::status::Status;
 use crate::text::LIMIT;
 use spi_deriv::{derive, write};
-use spi_fault::explain;
-use spi_infer::infer;
 use spi_rules::Deriv;
 use spi_scope::File;
 use std::alloc::Global;
@@ -78,9 +76,5 @@ fn underivable(alloc: Global, bytes: &[u8], file: &File) -> Result<Answer, Stop>
     ensures answered { IfOk result (λ answer. IsAnswered answer.status × (answer.status ≢ Status.Usage)) }
     ensures err { OnErr result (result ≡ Err Stop.NoMemory) }
 {
-    let inferred = infer(alloc, &file.process)?;
-    match explain(alloc, file, &inferred)? {
-        Some(fault) => rejected(alloc, bytes, file, &fault),
-        None => unreachable!(),
-    }
+    judged(alloc, bytes, file)
 }

@@ -1,7 +1,8 @@
 // The command `load`.
-ghost use Rattle.std.specs.Prelude.{◌≡◌, ◌≢◌, ◌≤◌, IfOk, OnErr, Err};
+ghost use Rattle.std.specs.Prelude.{◌≡◌, ◌≢◌, ◌≤◌, IfOk, OnErr, IfSome, Err, length};
 ghost use Rattle.spi_tree.specs.Trees as t;
 ghost use Rattle.spi_gen.specs.Sessions.{IsSessions};
+ghost use Rattle.spi_rules.specs.Deriv.{rule_uses};
 ghost use Rattle.spi_scope.specs.Files.{meant};
 ghost use Rattle.spi_scope.specs.StandsFor.{StandsFor};
 ghost use Rattle.spi_commands.specs.Loading.{LoadsTo};
@@ -12,6 +13,7 @@ use crate::status::Status;
 use spi_deriv::{derive, one_canonical};
 use spi_gen::sessions;
 use spi_report::loaded;
+use spi_rules::Deriv;
 use spi_scope::{File, ScopeFault, resolve};
 use std::alloc::Global;
 
@@ -26,25 +28,25 @@ pub fn loads(alloc: Global, k: u32) -> Result<Answer, Stop>
     let tree = sessions(alloc, k)?;
     match resolve(alloc, &tree) {
         Ok(file) => judged(alloc, k, &file),
-        Err(fault) => Err(stopped(fault)),
+        Err(fault) => Err(stopped(&fault)),
     }
 }
 
 /// Memory ran out: the file of so many sessions has no other fault.
-fn stopped(fault: ScopeFault) -> Stop
-    requires { fault ≡ ScopeFault.NoMemory }
+fn stopped(_fault: &ScopeFault) -> Stop
+    requires { _fault.now ≡ ScopeFault.NoMemory }
     ensures { result ≡ Stop.NoMemory }
 {
-    match fault {
-        ScopeFault::UnknownName { span: _, word: _ } => unreachable!(),
-        ScopeFault::UnknownType { span: _, word: _ } => unreachable!(),
-        ScopeFault::NameTwice { span: _, word: _ } => unreachable!(),
-        ScopeFault::TypeTwice { span: _, word: _ } => unreachable!(),
-        ScopeFault::MessageTooLarge { span: _, count: _ } => unreachable!(),
-        ScopeFault::TypeTooLarge { span: _, count: _ } => unreachable!(),
-        ScopeFault::FileTooLarge { span: _, count: _ } => unreachable!(),
-        ScopeFault::ScheduleTooLong { span: _, count: _ } => unreachable!(),
-        ScopeFault::NoMemory => Stop::NoMemory,
+    Stop::NoMemory
+}
+
+/// How many rules a derivation uses, and 0 where there is none.
+fn rules(d: &Option<Deriv>) -> u64
+    ensures { IfSome d.now (λ d. result ≡ length (rule_uses d)) }
+{
+    match d {
+        Some(d) => d.uses.len() as u64,
+        None => 0,
     }
 }
 
@@ -57,15 +59,11 @@ fn judged(alloc: Global, k: u32, file: &File) -> Result<Answer, Stop>
     ensures err { OnErr result (result ≡ Err Stop.NoMemory) }
 {
     one_canonical();
-    match derive(alloc, &file.process)? {
-        Some(d) => {
-            let nodes = 81 * k as u64 + 11;
-            let output = loaded(alloc, k, nodes, d.uses.len() as u64)?;
-            Ok(Answer {
-                status: Status::Yes,
-                output,
-            })
-        }
-        None => unreachable!(),
-    }
+    let d = derive(alloc, &file.process)?;
+    let nodes = 81 * k as u64 + 11;
+    let output = loaded(alloc, k, nodes, rules(&d))?;
+    Ok(Answer {
+        status: Status::Yes,
+        output,
+    })
 }

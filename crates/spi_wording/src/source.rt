@@ -62,6 +62,17 @@ impl<'a> Source<'a> {
             self.lines.place(0)
         }
     }
+
+    /// Where an offset stands, by a place that is known: in the same line, only what is between them is counted.
+    pub fn place_behind(&self, from: u32, known: Place, offset: u32) -> Place {
+        match self.bytes.get(from as usize..offset as usize) {
+            Some(between) if !between.contains(&b'\n') => Place {
+                line: known.line,
+                column: known.column.saturating_add(starts(between)),
+            },
+            _ => self.place(offset),
+        }
+    }
 }
 
 // A stretch of the bytes, as far as it's there.
@@ -82,6 +93,11 @@ pub fn text_at<'a>(source: &Source<'a>, span: Span) -> &'a str {
 
 fn is_inner(b: u8) -> bool {
     b >= 128 && b < 192
+}
+
+// How many characters start in the bytes.
+fn starts(bytes: &[u8]) -> u32 {
+    bytes.iter().filter(|b| !is_inner(**b)).count() as u32
 }
 
 // How many bytes stand in front in the same line.
@@ -137,14 +153,10 @@ fn columns(text: &str) -> usize {
 
 /// ` L:C`.
 pub fn put_place(page: &mut Page, source: &Source<'_>, offset: u32) {
-    let place = source.place(offset);
+    let place = page.place(source, offset);
     page.put_number(place.line as usize);
     page.put(":");
     page.put_number(place.column as usize);
-}
-
-fn line_of(source: &Source<'_>, offset: u32) -> usize {
-    source.place(offset).line as usize
 }
 
 fn digits(n: usize) -> usize {
@@ -199,7 +211,7 @@ fn put_marked(page: &mut Page, front: &str, marked: &str, rest: &str, line: usiz
 /// ` --> L:C`, the source's line, and carets under the stretch, as far as it stands in that line. Of a long line there is
 /// only what stands near.
 pub fn put_snippet(page: &mut Page, source: &Source<'_>, span: Span) {
-    let line = line_of(source, span.from);
+    let line = page.place(source, span.from).line as usize;
     let from = span.from as usize;
     let start = from.saturating_sub(before(part(source.bytes, 0, from)));
     let end = from.saturating_add(behind(part(source.bytes, from, source.bytes.len())));
