@@ -142,6 +142,9 @@ def units_of(kind, lines):
     indent = "  " if kind in ("data", "record") else ""
     units = [lines[0][1]]
     for _, line in lines[1:]:
+        if line == "  where":  # behind a head that fills its line, what follows stands further in
+            units[0], indent = f"{units[0]} where", "    "
+            continue
         starts = line.startswith(indent) and line[len(indent)] not in (" ", *CLOSING)
         if starts and (not indent or " where" in units[0]):
             units.append(line)

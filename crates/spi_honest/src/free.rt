@@ -3,7 +3,7 @@
 ghost use Rattle.std.specs.Prelude.{◌≡◌, ◌∷◌, [], ℕ, map, Some, IfOk, OnOk};
 ghost use Rattle.spi_tree.specs.Views.{decl_of};
 ghost use Rattle.spi_scope.specs.Scope.{Names, number_of};
-ghost use Rattle.spi_scope.specs.Points.{names_behind, all_names};
+ghost use Rattle.spi_scope.specs.Points.{with_free, names_behind, all_names};
 ghost use Rattle.spi_honest.specs.Free.{Numbers};
 
 use crate::NoMemory;
@@ -39,6 +39,17 @@ fn bind<'n>(names: &mut FreeNames<'n>, word: &'n SWord) -> Result<(), NoMemory>
     Ok(())
 }
 
+/// More names, in order.
+fn bind_all<'n>(names: &mut FreeNames<'n>, words: &'n [SWord]) -> Result<(), NoMemory>
+    ensures { OnOk result
+        ((xs : Names) → Numbers names.old xs → Numbers names.new (with_free xs words.entry.now)) }
+{
+    for word in words {
+        bind(names, word)?;
+    }
+    Ok(())
+}
+
 /// The names that a declaration brings.
 fn bind_declared<'n>(names: &mut FreeNames<'n>, decl: &'n Decl) -> Result<(), NoMemory>
     ensures { OnOk result
@@ -48,10 +59,7 @@ fn bind_declared<'n>(names: &mut FreeNames<'n>, decl: &'n Decl) -> Result<(), No
     match decl {
         Decl::Free { first, more, .. } => {
             bind(names, first)?;
-            for word in more {
-                bind(names, word)?;
-            }
-            Ok(())
+            bind_all(names, more)
         }
         Decl::Abbr { .. } => Ok(()),
     }

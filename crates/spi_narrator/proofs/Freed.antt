@@ -1,44 +1,23 @@
--- The words after `on`, and the names that are declared.
-use Rattle.std.proofs.Common.{◌≡◌, ◌⊎◌, ℕ, zero, suc, ◌+◌, ◌<◌, ◌≤◌, true, false, true≢false, List, [], ◌∷◌, ◌++◌, length, map, take, get_or, slice_get, Some, inl, inr, refl, sym, ap, ◌∙◌, subst, arith}
-use Rattle.std.specs.Str.{bytes_eq}
-use Rattle.std.proofs.lemmas.List.{take_more}
-use Rattle.std.proofs.lemmas.Bool.{cases_Bool, cond-true, cond-false}
-use Rattle.std.proofs.lemmas.Slice.Eq.{bytes_eq-Decides}
+-- The words after `on`, line by line.
+use Rattle.std.proofs.Common.{◌≡◌, ℕ, zero, suc, ◌+◌, ◌<◌, List, [], ◌∷◌, ◌++◌, length, map, take, get_or, slice_get, Some, refl, sym, ap, ◌∙◌, subst, arith}
+use Rattle.spi_term.proofs.Lookup.{map_take_more}
 use Rattle.spi_text.specs.declared.lines.Span.{Span}
 use Rattle.spi_tree.specs.declared.tree.SWord.{SWord}
-use Rattle.spi_tree.specs.Trees as t
-use Rattle.spi_scope.specs.Scope.{Word, Names, number_of}
-use Rattle.spi_scope.specs.Points.{with_free, names_behind, all_names}
+use Rattle.spi_scope.specs.Scope.{Names}
 use Rattle.spi_narrate.specs.Narrations as n
 use Rattle.spi_honest.specs.Roles.{HasChannel, HaveChannels}
 use Rattle.spi_narrator.specs.Answers.{line_span, LineIn, IsFirstNotFree}
-use Rattle.spi_narrator.specs.Free.{IsAmong, Declares, AnyDeclares, IsStrange}
+use Rattle.spi_narrator.specs.Free.{IsStrange}
 
 -- ---- lists by their items
 
 some_is : {A : Type 0} {x y : A} → Some x ≡ Some y → x ≡ y
 some_is e = cc
 
-more_taken : {A : Type 0} (xs : List A) (i : ℕ) (x : A) → x ≡ get_or xs i x → i < length xs → take (i + 1) xs ≡ take i xs ++ x ∷ []
-more_taken xs i x e l = take_more xs i x l ∙ ap (λ y. take i xs ++ y ∷ []) (sym e)
-
-map_both : {A B : Type 0} (f : A → B) (xs ys : List A) → map f (xs ++ ys) ≡ map f xs ++ map f ys
-map_both f [] ys = refl
-map_both f (x ∷ xs) ys = ap (λ (r : List _). f x ∷ r) (map_both f xs ys)
-
-mapped : {A B : Type 0} (f : A → B) (xs : List A) (i : ℕ) (x : A) → x ≡ get_or xs i x → i < length xs → map f (take (i + 1) xs) ≡ map f (take i xs) ++ f x ∷ []
-mapped f xs i x e l = ap (λ (r : List _). map f r) (more_taken xs i x e l) ∙ map_both f (take i xs) (x ∷ [])
-
 cut_at : {A B : Type 0} (f : A → B) (xs : List A) (i : ℕ) (x : A) → x ≡ get_or xs i x → i < length xs → (after : List B) × (map f xs ≡ map f (take i xs) ++ f x ∷ after)
 cut_at f [] i x e l = absurd (omega (arith, l))
 cut_at f (y ∷ ys) zero x e l = (map f ys, ap (λ z. f z ∷ map f ys) (sym e))
 cut_at f (y ∷ ys) (suc i) x e l = let h = cut_at f ys i x e (omega (arith, l)) in (h.0, ap (λ (r : List _). f y ∷ r) h.1)
-
-pub all_taken : {A : Type 0} (xs : List A) (i : ℕ) → length xs ≤ i → take i xs ≡ xs
-all_taken [] zero h = refl
-all_taken [] (suc i) h = refl
-all_taken (x ∷ xs) zero h = absurd (omega (arith, h))
-all_taken (x ∷ xs) (suc i) h = ap (λ (r : List _). x ∷ r) (all_taken xs i (omega (arith, h)))
 
 -- the line with a number
 pub line_in : {A : Type 0} (f : A → n.Line) (xs : List A) (i : ℕ) (x : A) (s : Span) → slice_get xs i ≡ Some x → s ≡ line_span (f x) → LineIn (map f xs) i s
@@ -53,7 +32,7 @@ have_both free [] ms h g = g
 have_both free (l ∷ ls) ms h g = (h.0, have_both free ls ms h.1 g)
 
 pub have_more : {A : Type 0} (f : A → n.Line) (free : Names) (xs : List A) (i : ℕ) (x : A) → x ≡ get_or xs i x → i < length xs → HasChannel free (f x) → HaveChannels free (map f (take i xs)) → HaveChannels free (map f (take (i + 1) xs))
-have_more f free xs i x e l h g = subst (HaveChannels free) (sym (mapped f xs i x e l)) (have_both free (map f (take i xs)) (f x ∷ []) g (h, tt))
+have_more f free xs i x e l h g = subst (HaveChannels free) (sym (map_take_more f xs i x l e)) (have_both free (map f (take i xs)) (f x ∷ []) g (h, tt))
 
 first_at : (free : Names) (ls before after : List n.Line) (l : n.Line) (w : SWord) → ls ≡ before ++ l ∷ after → HaveChannels free before → IsStrange free l w → IsFirstNotFree free ls w
 first_at free ls before after (n.local s r f) w e h g = absurd g
