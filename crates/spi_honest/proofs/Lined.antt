@@ -11,7 +11,7 @@ use Rattle.spi_narrate.specs.declared.tree.Prefix.{Prefix}
 use Rattle.spi_narrate.specs.declared.tree.Narration.{Narration}
 use Rattle.spi_narrate.specs.Views.{prefix_of, line_of, narration_of}
 use Rattle.spi_narrate.specs.Narrations as n
-use Rattle.spi_scope.specs.Scope.{Word, Names, number_of}
+use Rattle.spi_scope.specs.Scope.{Names, number_of}
 use Rattle.spi_honest.specs.Narrated.{free_of}
 use Rattle.spi_honest.specs.Roles.{IsRole, HasRoles, HaveRoles, HasChannel, HaveChannels}
 use Rattle.spi_honest.specs.Stages.{IsRoleAt, IsLocalAt, IsPassAt}
