@@ -2,14 +2,16 @@
 """Times `cryptyc verify`, `replay`, `knows`, `play`, `print`, `upgrade`, `narrate` and `load` on files, and on the same files
 doubled; and `bench` with one small part that is put again and again beside a part of three sizes.
 
-Usage: bench/runs.py [--program FILE] [--runs N] [--only WORD] [--part N]. Without --program it takes the proved build,
-crates/cryptyc/out/cryptyc. With --part it takes an Nth of each size, for a slower build. It prints a line for each
-workload: bytes of the doubled file, the least processor time of the smaller and of the doubled file, and how much longer
-the doubled one takes. The times hold reading, parsing and resolving too. The derivations of `verify` are those that
-`derive` prints, or repeat ProcSub. For `bench` the line has the time of all puts behind the first one, for each size.
+Usage: bench/runs.py [--program FILE] [--runs N] [--only WORD] [--part N] [--instructions]. Without --program it takes the
+proved build, crates/cryptyc/out/cryptyc. With --part it takes an Nth of each size, for a slower build. It prints a line for
+each workload: bytes of the doubled file, the least processor time of the smaller and of the doubled file, and how much longer
+the doubled one takes. With --instructions it counts instructions instead, by valgrind, which other work doesn't disturb. Both
+hold reading, parsing and resolving too. The derivations of `verify` are those that `derive` prints, or repeat ProcSub. For
+`bench` the line has the time of all puts behind the first one, for each size.
 """
 
 import os
+import re
 import shlex
 import subprocess
 import tempfile
@@ -112,12 +114,26 @@ def played_channels():
     return f"free {names(230)};\nprocess stop {parts}\nopponent stop\n"
 
 
-def narrated(n):
+def told(free, lines):
+    return f"free {free};\nroles R0, R1, R2, R3, R4, R5, R6, R7;\n" + "".join(lines)
+
+
+def labelled(n):
     """A narration of so many lines, at most 200, by 8 roles that pass a message on, with labels of 190 nodes."""
     label = "(" + ", ".join(["a"] * 95) + ")"
-    lines = [f"R{i % 8} to R{(i + 1) % 8} on net: {label} as x{i};\n" if i % 2 else f"R{i % 8}: begin {label};\n"
-             for i in range(n)]
-    return "free a, net;\nroles R0, R1, R2, R3, R4, R5, R6, R7;\n" + "".join(lines)
+    return told("a, net", (f"R{i % 8} to R{(i + 1) % 8} on net: {label} as x{i};\n" if i % 2 else f"R{i % 8}: begin {label};\n"
+                           for i in range(n)))
+
+
+def growing(n):
+    """A narration of so many lines, at most 200: each role passes on what it got, and one name more."""
+    return told("x, net", (f"R{i % 8} to R{(i + 1) % 8} on net: (x, net) as x;\n" for i in range(n)))
+
+
+def channelled(n):
+    """A narration of so many lines, at most 200, each on a channel of its own: the last of 200 times as many free names."""
+    last = 200 * n - 1
+    return told(names(200 * n), (f"R{i % 8} to R{(i + 1) % 8} on n{last - i}: n{last - i} as x;\n" for i in range(n)))
 
 
 def workloads(program):
@@ -139,7 +155,9 @@ def workloads(program):
         yield f"{word}: handshakes", 245, lambda n: ([word], sessions(n))
     yield "print: free names", 45000, lambda n: (["print"], named([f"v{i}" for i in range(n)]))
     yield "upgrade: free names", 45000, lambda n: (["upgrade"], named(["hash", *(f"hash_{i}" for i in range(n - 1))]))
-    yield "narrate: lines of eight roles", 100, lambda n: (["narrate"], narrated(n))
+    yield "narrate: lines with labels", 100, lambda n: (["narrate"], labelled(n))
+    yield "narrate: messages that grow", 100, lambda n: (["narrate"], growing(n))
+    yield "narrate: channels among free names", 100, lambda n: (["narrate"], channelled(n))
     yield "load: sessions", 250, lambda n: (["load", str(n)], "")
 
 
@@ -188,9 +206,17 @@ def timed(program, words, text, runs):
     return best, said
 
 
+def instructions(program, words, text):
+    """How many instructions the program takes."""
+    counting = ["valgrind", "--tool=callgrind", "--callgrind-out-file=/dev/null"]
+    run = subprocess.run([*counting, *program, *words], input=text.encode(), capture_output=True)
+    return int(re.search(rb"Collected : (\d+)", run.stderr)[1])
+
+
 def main():
     words = options()
     words.add_argument("--part", type=int, default=1)
+    words.add_argument("--instructions", action="store_true")
     asked = words.parse_args()
     program = shlex.split(asked.program)
     stop_without(program[0])
@@ -199,11 +225,15 @@ def main():
             continue
         size //= asked.part
         small, large = make(size), make(2 * size)
+        if asked.instructions:
+            once, twice = instructions(program, *small), instructions(program, *large)
+            print(f"{name}: {size} and {2 * size}: {once:,} and {twice:,} instructions, {twice / once:.2f} times", flush=True)
+            continue
         once, said = timed(program, *small, asked.runs)
         twice, said_twice = timed(program, *large, asked.runs)
         print(f"{name}: {size} and {2 * size}, {len(small[1])} and {len(large[1])} bytes: {once:.3f} s and {twice:.3f} s, "
               f"{twice / once:.1f} times; {said}; {said_twice}", flush=True)
-    if asked.only in "bench: puts beside a large part":
+    if asked.only in "bench: puts beside a large part" and not asked.instructions:
         time_bench(program, asked.runs, asked.part)
 
 

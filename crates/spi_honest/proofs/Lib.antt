@@ -13,6 +13,7 @@ pub mod Playing
 pub mod Meeting
 pub mod Numbers
 pub mod Opens
+pub mod Named
 pub mod Lined
 pub mod Finished
 pub mod Tellable

@@ -1,7 +1,6 @@
 -- The lines of a narration by their numbers.
-use Rattle.std.proofs.Common.{◌≡◌, ℕ, zero, suc, ◌<◌, ◌≤◌, List, [], ◌∷◌, length, map, reverse, get_or, slice_get, refl, sym, ap, ◌∙◌, subst, arith, Some}
+use Rattle.std.proofs.Common.{◌≡◌, ℕ, zero, suc, ◌<◌, List, [], ◌∷◌, length, map, get_or, slice_get, refl, sym, ap, ◌∙◌, subst, Some}
 use Rattle.std.proofs.lemmas.Option.{slice_get_read}
-use Rattle.std.proofs.lemmas.List.{reverse-reverse, length-reverse}
 use Rattle.spi_text.specs.declared.lines.Span.{Span}
 use Rattle.spi_tree.specs.declared.tree.SWord.{SWord}
 use Rattle.spi_tree.specs.declared.tree.SMsg.{SMsg}
@@ -12,9 +11,7 @@ use Rattle.spi_narrate.specs.declared.tree.Prefix.{Prefix}
 use Rattle.spi_narrate.specs.declared.tree.Narration.{Narration}
 use Rattle.spi_narrate.specs.Views.{prefix_of, line_of, narration_of}
 use Rattle.spi_narrate.specs.Narrations as n
-use Rattle.spi_scope.specs.Scope.{Word, Names, number_of}
-use Rattle.spi_scope.specs.StandsFor.{Meant, StandsFor}
-use Rattle.spi_weave.specs.Woven.{woven}
+use Rattle.spi_scope.specs.Scope.{Names, number_of}
 use Rattle.spi_honest.specs.Narrated.{free_of}
 use Rattle.spi_honest.specs.Roles.{IsRole, HasRoles, HaveRoles, HasChannel, HaveChannels}
 use Rattle.spi_honest.specs.Stages.{IsRoleAt, IsLocalAt, IsPassAt}
@@ -55,13 +52,3 @@ module _ (x : Narration) (at : ℕ) (l : Line) (read : l ≡ get_or x.lines.item
 
     pub pass_is : (j k i : ℕ) → IsRoleAt (narration_of x).roles from.word j → IsRoleAt (narration_of x).roles to.word k → number_of (free_of (narration_of x)) c.word ≡ Some i → IsPassAt (narration_of x) at j k i
     pass_is j k i a b e = record { span = s; from = from; to = to; channel = c; datum = msg_of m; name = w; here = line_here is; sender = a; receiver = b; number = e }
-
--- the names of the file are the free names
-pub names_back : (x : n.Narration) (file : Meant) (names : List Word) → StandsFor (woven x) file → names ≡ file.names → reverse names ≡ free_of x
-names_back x file names h e = ap reverse (e ∙ h.names) ∙ reverse-reverse (free_of x)
-
-pub names_few : (x : n.Narration) (file : Meant) (names : List Word) → StandsFor (woven x) file → names ≡ file.names → file.process.names ≤ 100000 → length names < 4294967296
-names_few x file names h e few =
-    let a : length names ≡ length (free_of x) = ap length (e ∙ h.names) ∙ length-reverse (free_of x) in
-    let b : file.process.names ≡ length (free_of x) = ap (λ s. s.names) h.process in
-    omega (arith, a, b, few)

@@ -1,4 +1,5 @@
 pub mod Reading
+pub mod Free
 pub mod Narrated
 pub mod Schedule
 pub mod Roles

@@ -2,6 +2,7 @@
 #![tactic(auto)]
 
 mod fault;
+mod free;
 mod honest;
 mod laws;
 mod lines;
@@ -11,6 +12,7 @@ mod schedule;
 mod stage;
 
 pub use fault::HonestFault;
+pub use free::FreeNames;
 pub use honest::Honest;
 pub use laws::faultless_is_tellable;
 pub use schedule::schedule_of;

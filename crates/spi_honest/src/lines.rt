@@ -1,17 +1,17 @@
 //! Lines, told one by one.
 
 ghost use Rattle.std.specs.Prelude.{◌≡◌, ◌⊎◌, ◌+◌, ◌<◌, length, IfOk, IfErr, OnOk};
-ghost use Rattle.spi_scope.specs.StandsFor.{StandsFor};
 ghost use Rattle.spi_scope.specs.Files.{meant};
 ghost use Rattle.spi_narrate.specs.Views.{narration_of};
-ghost use Rattle.spi_weave.specs.Woven.{woven};
+ghost use Rattle.spi_honest.specs.Free.{Numbers};
 ghost use Rattle.spi_honest.specs.Narrated.{free_of};
 ghost use Rattle.spi_honest.specs.Roles.{IsTellable, HaveChannels};
 ghost use Rattle.spi_honest.specs.Honest.{HasFault};
 ghost use Rattle.spi_honest.specs.Stages.{ToldTo, IsLocalAt, IsPassAt, IsParted};
 
 use crate::fault::HonestFault;
-use crate::roles::{name_number, role_number};
+use crate::free::{FreeNames, name_number};
+use crate::roles::role_number;
 use crate::stage::{Stage, attempt, meets, must};
 use spi_narrate::{Line, Narration};
 use spi_run::Step;
@@ -83,17 +83,21 @@ fn meet(
 }
 
 /// The line with this number, told.
-pub fn tell(stage: &mut Stage<'_>, n: &Narration, file: &File, at: usize) -> Result<(), HonestFault>
+pub fn tell(
+    stage: &mut Stage<'_>,
+    n: &Narration,
+    file: &File,
+    names: &FreeNames<'_>,
+    at: usize,
+) -> Result<(), HonestFault>
     requires tellable { IsTellable (narration_of n.now) }
     requires channels { HaveChannels (free_of (narration_of n.now)) (narration_of n.now).lines }
-    requires file { StandsFor (woven (narration_of n.now)) (meant file.now) }
+    requires names { Numbers names.now (free_of (narration_of n.now)) }
     requires at { at < length n.now.lines.items }
     requires told { ToldTo (narration_of n.now) (meant file.now) at stage.old }
     ensures told { OnOk result (ToldTo (narration_of n.now) (meant file.now) (at + 1) stage.new) }
     ensures fault { IfErr result (λ e. (e ≡ HonestFault.NoMemory) ⊎ HasFault (narration_of n.now) e) }
 {
-    // The nodes are asked for what their answer says: a process is over few names.
-    let _ = file.process.len();
     match &n.lines[at] {
         Line::Local { role, .. } => {
             let role = role_number(&n.first, &n.more, role);
@@ -107,7 +111,7 @@ pub fn tell(stage: &mut Stage<'_>, n: &Narration, file: &File, at: usize) -> Res
         } => {
             let from = role_number(&n.first, &n.more, from);
             let to = role_number(&n.first, &n.more, to);
-            let channel = name_number(&file.names, &channel.word);
+            let channel = name_number(names, channel);
             let out = part(stage, n, file, at, from, to, channel)?;
             meet(stage, n, file, at, from, to, channel, out)
         }

@@ -1,13 +1,11 @@
-//! Roles and free names by their numbers.
+//! Roles by their numbers.
 
-ghost use Rattle.std.specs.Prelude.{◌≡◌, ℕ, ◌∷◌, ◌<◌, ◌^◌, length, reverse, Some, IfOk};
-ghost use Rattle.spi_scope.specs.Scope.{number_of};
+ghost use Rattle.std.specs.Prelude.{◌≡◌, ◌∷◌, ◌<◌, ◌^◌, IfOk};
 ghost use Rattle.spi_honest.specs.Roles.{IsRole};
 ghost use Rattle.spi_honest.specs.Progress.{place_number, ArePlaces};
 ghost use Rattle.spi_honest.specs.Stages.{IsRoleAt};
 
 use crate::NoMemory;
-use spi_text::Text;
 use spi_tree::SWord;
 use std::alloc::Global;
 
@@ -22,21 +20,6 @@ pub fn role_number(first: &SWord, more: &[SWord], word: &SWord) -> usize
         }
     }
     0
-}
-
-/// The number of the last of these names that is spelled so.
-pub fn name_number(names: &[Text], word: &Text) -> u32
-    requires few { length names.now < 2 ^ 32 }
-    requires some { (i : ℕ) × (number_of (reverse names.now) word.now ≡ Some i) }
-    ensures { number_of (reverse names.now) word.now ≡ Some result }
-{
-    let mut number = 0;
-    for (i, name) in names.iter().enumerate() {
-        if *name == *word {
-            number = i as u32;
-        }
-    }
-    number
 }
 
 /// The place of the role with this number, where the opponent has place 1.

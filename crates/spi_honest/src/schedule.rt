@@ -10,6 +10,7 @@ ghost use Rattle.spi_honest.specs.Roles.{IsTellable, HaveChannels};
 ghost use Rattle.spi_honest.specs.Honest.{IsHonest, HasFault};
 
 use crate::fault::HonestFault;
+use crate::free::FreeNames;
 use crate::honest::Honest;
 use crate::lines::tell;
 use crate::opening::open;
@@ -29,9 +30,10 @@ pub fn schedule_of(alloc: Global, n: &Narration, file: &File) -> Result<Honest, 
     ensures honest { IfOk result (λ h. IsHonest (narration_of n.now) (meant file.now) h) }
     ensures fault { IfErr result (λ e. (e ≡ HonestFault.NoMemory) ⊎ HasFault (narration_of n.now) e) }
 {
+    let names = FreeNames::of(alloc, &n.decls)?;
     let mut stage = open(alloc, n, file)?;
     for at in 0..n.lines.len() {
-        tell(&mut stage, n, file, at)?;
+        tell(&mut stage, n, file, &names, at)?;
     }
     Ok(stage.played())
 }

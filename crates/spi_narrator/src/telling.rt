@@ -12,7 +12,7 @@ ghost use Rattle.spi_narrator.specs.Answers.{IsAnswer, LineIn};
 use crate::NoMemory;
 use crate::answer::{Answer, Refusal};
 use crate::free::first_not_free;
-use spi_honest::{HonestFault, schedule_of};
+use spi_honest::{FreeNames, HonestFault, schedule_of};
 use spi_narrate::{Line, Narration};
 use spi_scope::{File, ScopeFault, resolve};
 use spi_text::{Span, Text};
@@ -69,7 +69,8 @@ pub fn tell(alloc: Global, n: &Narration) -> Result<Answer, NoMemory>
     requires { IsTellable (narration_of n.now) }
     ensures { IfOk result (IsAnswer (narration_of n.now)) }
 {
-    if let Some(word) = first_not_free(&n.decls, &n.lines) {
+    let names = FreeNames::of(alloc, &n.decls)?;
+    if let Some(word) = first_not_free(&names, &n.lines) {
         return Ok(Answer::Refused(Refusal::NotFree {
             span: word.span,
             word: Text::of(alloc, word.word.as_str())?,

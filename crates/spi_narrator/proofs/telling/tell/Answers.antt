@@ -1,5 +1,6 @@
 use Rattle.std.proofs.Common.{true≢false, sym, ◌∙◌, subst}
 use Rattle.spi_narrate.specs.Views.{narration_of}
+use Rattle.spi_honest.specs.Narrated.{free_of}
 use Rattle.spi_narrator.specs.declared.answer.Refusal.TheVariants.{NotFree}
 use Rattle.spi_narrator.specs.Answers.{Refuses, not_free}
 use Rattle.spi_narrator.proofs.Told.{scope_fault}
@@ -8,10 +9,10 @@ use Rattle.spi_narrator.proofs.telling.tell.Goals as goal
 pub returns-in-Some : goal.returns-in-Some
 returns-in-Some c =
     subst (λ w. Refuses (narration_of c.args.n.now) (NotFree c.in-Some.word.now.span w)) (sym (c.in_ok-of.ensures ∙ c.as_str.ensures))
-    (not_free (rw c.deref.ensures.value at (rw c.deref-2.ensures.value at c.in-Some.ensures)))
+    (not_free (rw c.deref-2.ensures.value at (c.in-Some.ensures (free_of (narration_of c.args.n.now)) (rw c.deref.ensures.value at c.in_ok-names.ensures))))
 
 pub returns : goal.returns
 returns c =
     scope_fault (narration_of c.args.n.now) c.in-Err.fault _ c.in_ok-tree.ensures
-    (rw c.deref.ensures.value at (rw c.deref-2.ensures.value at c.in_default.ensures))
+    (rw c.deref-2.ensures.value at (c.in_default.ensures (free_of (narration_of c.args.n.now)) (rw c.deref.ensures.value at c.in_ok-names.ensures)))
     (λ m. true≢false (sym (c.is_out_of_memory.ensures.1 m) ∙ c.if-is_out_of_memory.false)) c.in-Err.ensures.fault

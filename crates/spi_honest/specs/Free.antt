@@ -1,0 +1,11 @@
+-- What the table of free names keeps.
+use Rattle.std.specs.Prelude.{◌≡◌, length}
+use Rattle.std.specs.Str.{bytes_eq}
+use Rattle.indexmap.specs.IndexMap.{get_by}
+use Rattle.spi_scope.specs.Scope.{Word, Names, number_of}
+use Rattle.spi_honest.specs.declared.free.FreeNames.{FreeNames}
+
+-- each spelling has the number of the innermost name
+pub record Numbers (table : FreeNames) (names : Names) : Type 0 where
+  pub count : table.count ≡ length names
+  pub finds : (w : Word) → get_by (λ k. bytes_eq w k.now) table.numbers ≡ number_of names w
