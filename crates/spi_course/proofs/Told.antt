@@ -1,6 +1,6 @@
 -- Courses, step by step.
 use Rattle.std.proofs.Common.{◌≡◌, ◌≢◌, ◌⊎◌, inl, inr, refl, sym, ap, ◌∙◌, subst, subst₂, ℕ, zero, suc, ◌+◌, ◌<◌, ◌≤◌, List, [], ◌∷◌, ◌++◌, append_assoc, append-nil, length, map, take, drop, get_or, Option, Some, None, arith}
-use Rattle.std.proofs.lemmas.List.{length-map, length-append, map-append, take_all}
+use Rattle.std.proofs.lemmas.List.{length-map, length-append, take_all}
 use Rattle.std.specs.Prelude.{option_to_list, MatchOption}
 use Rattle.spi_term.specs.declared.term.Msg.{Msg}
 use Rattle.spi_term.specs.View.{message}

@@ -1,4 +1,4 @@
-use Rattle.std.proofs.Common.{◌<◌, ◌+◌, ◌^◌, ◌-◌, length, map, ap, arith, subst}
+use Rattle.std.proofs.Common.{map, ap, arith, subst}
 use Rattle.std.proofs.lemmas.List.{length-map}
 use Rattle.spi_run.specs.View.{step}
 use Rattle.spi_replay.specs.Stepping.{Pooled}
@@ -23,8 +23,8 @@ pub returns-clause-course : goal.returns-clause-course
 returns-clause-course c = (
   c.take_all.new.pool,
   subst (λ (p : Pooled). IsCourse p (map step c.args.steps.now) c.in_ok-course.course c.take_all.new.pool)
-  (starts c.args.file.now.process c.args.opponent.now c.in_ok-pool.pool c.in_ok-pool.ensures.configuration c.in_ok-pool.ensures.most)
-  c.in_ok-course.ensures,
+      (starts c.args.file.now.process c.args.opponent.now c.in_ok-pool.pool c.in_ok-pool.ensures.configuration c.in_ok-pool.ensures.most)
+      c.in_ok-course.ensures,
 )
 
 pub returns-clause-few : goal.returns-clause-few
