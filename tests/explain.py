@@ -5,7 +5,8 @@ The files are those of examples/reasons/ and examples/mistakes/, and the flawed.
 each, the first line and the status are those of `check`, by default and with --lines; then each other line is
 `FROM-TO KIND: TEXT` or `KIND: TEXT`, and its offsets stand in the file. A row of the table of docs/explain.md is
 `| [NAME](FILE) | `answer` | `phrase` | .. |`, and the phrase stands in the explanation; more phrases stand below. A block of
-that document with the info string `explained WORDS` has what the program writes with these words, exactly. `--program
+that document or of docs/trace.md with the info string `explained WORDS` or `mermaid WORDS` has what the program writes with
+these words, exactly. `--program
 FILE` is a cryptyc to run check with, `--explain FILE` a cryptyc_explain; the default of both is the build without proofs
 (tools/keep.py). With `--write` the blocks are written. A run has 10 seconds. The last line is 'N passed, M failed'."""
 
@@ -17,7 +18,7 @@ import subprocess
 import sys
 
 ROOT = os.path.dirname(os.path.dirname(os.path.abspath(__file__)))
-DOCUMENT = f"{ROOT}/docs/explain.md"
+DOCUMENTS = [f"{ROOT}/docs/explain.md", f"{ROOT}/docs/trace.md"]
 SECONDS = 10
 LINE = re.compile(r"(?:(\d+)-(\d+) )?(wrong|also|note|help): .+")
 ROW = re.compile(r"\| \[[^]]+\]\(\.\./([^)]+\.spi)\) \| `([^`]*)` \| (`+) ?(.+?) ?\3 \|")
@@ -109,8 +110,24 @@ def test_file(tests, check, explain, path):
 
 
 def blocks(document):
-    """The blocks `explained WORDS`: where the text begins and ends, and the words."""
-    return [(m.start(2), m.end(2), m[1].split()) for m in re.finditer(r"^```explained (.*)\n((?:(?!```).*\n)*)```$", document, re.M)]
+    """The blocks `explained WORDS` and `mermaid WORDS`: where the text begins and ends, and the words."""
+    block = r"^```(?:explained|mermaid) (.*)\n((?:(?!```).*\n)*)```$"
+    return [(m.start(2), m.end(2), m[1].split()) for m in re.finditer(block, document, re.M)]
+
+
+def test_document(tests, explain, path, write):
+    """Holds the blocks of a document to the program, or writes them."""
+    with open(path, encoding="utf-8") as file:
+        document = file.read()
+    for start, end, asked in reversed(blocks(document)):
+        output = run(explain, asked)[0].decode()
+        if write:
+            document = document[:start] + output + document[end:]
+        else:
+            tests.hold(f"{os.path.relpath(path, ROOT)}: {' '.join(asked)}", document[start:end] == output)
+    if write:
+        with open(path, "w", encoding="utf-8") as file:
+            file.write(document)
 
 
 def main():
@@ -122,7 +139,7 @@ def main():
     check = given.program or kept("cryptyc")
     explain = given.explain or kept("cryptyc_explain")
     tests = Tests()
-    with open(DOCUMENT, encoding="utf-8") as file:
+    with open(DOCUMENTS[0], encoding="utf-8") as file:
         document = file.read()
     phrases = dict(PHRASES)
     rows = [(m[1], m[4]) for m in ROW.finditer(document)]
@@ -130,25 +147,27 @@ def main():
     explained = {path: test_file(tests, check, explain, path) for path in files()}
     for path, phrase in [*phrases.items(), *rows]:
         tests.hold(f"{path}: {phrase}", phrase in explained.get(path, ""))
-    for start, end, asked in reversed(blocks(document)):
-        output = run(explain, asked)[0].decode()
-        if given.write:
-            document = document[:start] + output + document[end:]
-        else:
-            tests.hold(f"docs/explain.md: explained {' '.join(asked)}", document[start:end] == output)
-    if given.write:
-        with open(DOCUMENT, "w", encoding="utf-8") as file:
-            file.write(document)
+    for path in DOCUMENTS:
+        test_document(tests, explain, path, given.write)
     for asked, status, phrase in [
         (["--help"], 0, b"--lines"),
         (["--version"], 0, b"cryptyc_explain"),
         (["--color", "often"], 6, b"usage: "),
         (["a.spi", "b.spi"], 6, b"usage: "),
-        (["no_such_file.spi"], 3, b""),
+        (["trace", "--help"], 0, b"--chart"),
+        (["trace", "--version"], 0, b"cryptyc_explain"),
+        (["trace", "--lines"], 6, b"usage: "),
+        (["--chart"], 6, b"usage: "),
+        (["trace", "a.spi", "b.spi"], 6, b"usage: "),
         (["--color", "always", "examples/reasons/50_unpaid.spi"], 1, b"\x1b["),
     ]:
         output, ended = run(explain, asked)
         tests.hold(" ".join(asked), ended == status and phrase in output)
+    for asked, name in [(["no_such_file.spi"], "no_such_file.spi"), (["trace", "no_such_file.spi"], "no_such_file.spi"),
+                        (["explain", "docs"], "docs"), (["trace", "--chart", "docs"], "docs")]:
+        ended = subprocess.run([explain, *asked], capture_output=True, timeout=SECONDS, cwd=ROOT)
+        said = f"cryptyc_explain: {name} can't be read\n".encode()
+        tests.hold(" ".join(asked), (ended.returncode, ended.stdout, ended.stderr) == (74, b"", said))
     for name, data in [("a byte order mark", b"\xef\xbb\xbfprocess stop"), ("no UTF-8", b"process \xff"), ("nothing", b""),
                        ("tabs and wide letters", "free a;\tprocess new (密: Key(Un));\tout 密 a".encode())]:
         text, status = run(explain, [], data)

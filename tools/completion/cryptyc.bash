@@ -16,7 +16,7 @@ _cryptyc() {
         return
     fi
     if [ "$COMP_CWORD" -eq 1 ]; then
-        words="check explain derive verify replay play knows bench print upgrade narrate load"
+        words="check explain derive verify replay trace play knows bench print upgrade narrate load"
     elif [ "${COMP_WORDS[1]}" = play ]; then
         case "$before" in
             --steps) ;;

@@ -6,6 +6,7 @@ complete -c cryptyc -n __fish_use_subcommand -a explain -d 'what is wrong, where
 complete -c cryptyc -n __fish_use_subcommand -a derive -d 'the typing derivation behind a yes'
 complete -c cryptyc -n __fish_use_subcommand -a verify -d 'whether the derivation in the file proves its process'
 complete -c cryptyc -n __fish_use_subcommand -a replay -d 'run the schedule of the file, step by step'
+complete -c cryptyc -n __fish_use_subcommand -a trace -d 'tell the schedule step by step, and why a step is refused'
 complete -c cryptyc -n __fish_use_subcommand -a play -d 'a schedule, as a player picks it'
 complete -c cryptyc -n __fish_use_subcommand -a print -d 'the file in its canonical text'
 complete -c cryptyc -n __fish_use_subcommand -a knows -d 'whether an intruder knows a name at the end of the schedule'

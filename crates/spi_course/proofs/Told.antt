@@ -1,18 +1,38 @@
 -- Courses, step by step.
 use Rattle.std.proofs.Common.{◌≡◌, ◌≢◌, ◌⊎◌, inl, inr, refl, sym, ap, ◌∙◌, subst, subst₂, ℕ, zero, suc, ◌+◌, ◌<◌, ◌≤◌, List, [], ◌∷◌, ◌++◌, append_assoc, append-nil, length, map, take, drop, get_or, Option, Some, None, arith}
-use Rattle.std.proofs.lemmas.List.{length-map, length-append, map-append, take_all}
-use Rattle.std.specs.Prelude.{option_to_list}
+use Rattle.std.proofs.lemmas.List.{length-map, length-append, take_all}
+use Rattle.std.specs.Prelude.{option_to_list, MatchOption}
+use Rattle.spi_term.specs.declared.term.Msg.{Msg}
+use Rattle.spi_term.specs.View.{message}
+use Rattle.spi_run.specs.Knowledge.{shown}
+use Rattle.spi_replay.specs.Ready.{IsReadyTalk}
 use Rattle.spi_run.specs.declared.step.Step as program
 use Rattle.spi_run.specs.declared.step.Event as declared
 use Rattle.spi_run.specs.View.{step as step_of, event as event_of}
-use Rattle.spi_run.specs.Reduction.{Configuration, Step, Event, Acts, acts_split, acts_match, acts_inl, acts_inr, acts_decrypt, acts_check, acts_begin, acts_end, acts_end_many, acts_cast, acts_new, acts_par, Takes, takes_act, takes_talk, Runs, runs_none, runs_silent, runs_event}
+use Rattle.spi_run.specs.Reduction.{Configuration, Step, act, talk, Event, Acts, acts_split, acts_match, acts_inl, acts_inr, acts_decrypt, acts_check, acts_begin, acts_end, acts_end_many, acts_cast, acts_new, acts_par, Takes, takes_act, takes_talk, Runs, runs_none, runs_silent, runs_event}
 use Rattle.spi_term.specs.Term.{Process}
+use Rattle.spi_term.specs.Spelling.{Spelling}
+use Rattle.spi_run.specs.Safety.{beside}
+use Rattle.spi_course.specs.Fit.{places_most, pool_of}
 use Rattle.spi_replay.specs.declared.fault.StepFault.{StepFault}
 use Rattle.spi_replay.specs.declared.fault.StepFault.TheVariants.{NoMemory as OutOfMemory}
 use Rattle.spi_replay.specs.Stepping.{Pooled, Refuses}
 use Rattle.spi_course.specs.declared.course.Taken.{Taken}
 use Rattle.spi_course.specs.declared.course.Course.{Course}
-use Rattle.spi_course.specs.Courses.{IsTold, Tells, tells_none, tells_step, steps_of, IsEnd, all_taken, one_refused, IsCourse}
+use Rattle.spi_course.specs.Courses.{HandsOver, IsTold, Tells, tells_none, tells_step, steps_of, IsEnd, all_taken, one_refused, IsCourse}
+
+-- the pool at the start
+pub starts : (process opponent : Spelling) (p : Pooled) → p.configuration ≡ beside process.names process.process opponent.process → p.most ≡ places_most → p ≡ pool_of process opponent
+starts process opponent p e m =
+    let one : ℕ → Pooled = λ k. record { configuration = p.configuration; most = k } in
+    ap one m ∙ ap (λ (c : Configuration). record { configuration = c; most = places_most }) e
+
+-- what a step that is taken hands over
+pub hands : (c d : Configuration) (s : Step) (e : Option Event) (m : Option Msg) → Takes c s e d → MatchOption m (IsReadyTalk c s → ⊥) (λ (x : Msg). IsReadyTalk c s × (shown c s ≡ message x ∷ [])) → HandsOver c s m
+hands c d (act i) e None t h = refl
+hands c d (act i) e (Some x) t h = absurd h.0
+hands c d (talk i j) e None t h = absurd (h (e, d, t))
+hands c d (talk i j) e (Some x) t h = (x, refl, h.1)
 
 -- the steps that are told are a run
 pub runs_of : {p q : Pooled} {n : ℕ} {ts : List Taken} {es : List Event} → Tells p n ts es q → Runs p.configuration (steps_of ts) es q.configuration

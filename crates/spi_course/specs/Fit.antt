@@ -1,10 +1,14 @@
--- The files whose schedules can be told.
+-- The files whose schedules can be told, and what is told of them.
 use Rattle.std.specs.Prelude.{◌≡◌, ℕ, ◌+◌, ◌-◌, ◌^◌, ◌<◌, List, length, Some, None, ⊤}
 use Rattle.spi_term.specs.Spelling.{Spelling, spelled}
 use Rattle.spi_run.specs.Opponent.{IsOpponent}
+use Rattle.spi_run.specs.Safety.{beside}
 use Rattle.spi_run.specs.Reduction.{Step}
 use Rattle.spi_opponent.specs.Allowed.{IsFirstOffence}
+use Rattle.spi_replay.specs.Stepping.{Pooled}
 use Rattle.spi_scope.specs.StandsFor.{Meant}
+use Rattle.spi_course.specs.Courses.{IsCourse}
+use Rattle.spi_course.specs.declared.course.Course.{Course}
 use Rattle.spi_course.specs.declared.answer.Untold.{Untold}
 use Rattle.spi_course.specs.declared.answer.Untold.TheVariants.{NoOpponent, NoSchedule, NotOpponent, NoMemory}
 
@@ -13,18 +17,29 @@ pub record IsFit (file : Meant) : Type 0 where
   pub names : (o : Spelling) → file.opponent ≡ Some o → file.process.names ≡ o.names
   pub few : (steps : List Step) → file.schedule ≡ Some steps → file.process.names + length steps < 2 ^ 32 - 1
 
--- the file has an opponent and a schedule
-pub record CanBeTold (file : Meant) : Type 0 where
+-- how many places there are at most
+abbrev pub places_most : ℕ
+places_most = 5000
+
+-- the process at place 0 and the opponent at place 1
+abbrev pub pool_of : Spelling → Spelling → Pooled
+pool_of p o = record { configuration = beside p.names p.process o.process; most = places_most }
+
+-- the file has an opponent and a schedule, and this is the course of its steps beside that opponent
+pub record IsCourseOf (file : Meant) (course : Course) : Type 0 where
   pub opponent : Spelling
   pub steps : List Step
+  pub last : Pooled
   pub has : file.opponent ≡ Some opponent
   pub is : IsOpponent opponent.process
   pub schedule : file.schedule ≡ Some steps
+  pub taken : IsCourse (pool_of file.process opponent) steps course last
 
--- why nothing is told
+-- why nothing is told: the opponent is missing, or the schedule beside it, or with both the opponent part is no opponent
 abbrev pub IsUntold : Meant → Untold → Type 0
 IsUntold file NoOpponent = file.opponent ≡ None
-IsUntold file NoSchedule = file.schedule ≡ None
+IsUntold file NoSchedule = (o : Spelling) × (file.opponent ≡ Some o) × (file.schedule ≡ None)
 IsUntold file (NotOpponent node) =
-    (o : Spelling) × (file.opponent ≡ Some o) × IsFirstOffence (spelled o.names o.process) node
+    (o : Spelling) × (steps : List Step) × (file.opponent ≡ Some o) × (file.schedule ≡ Some steps)
+    × IsFirstOffence (spelled o.names o.process) node
 IsUntold file NoMemory = ⊤

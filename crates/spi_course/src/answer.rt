@@ -1,9 +1,13 @@
 // The text of a file's schedule.
 
-ghost use Rattle.std.specs.Prelude.{◌≡◌, ◌+◌, ◌-◌, ◌^◌, ◌<◌, length, IfErr, OnOk};
+ghost use Rattle.std.specs.Prelude.{◌≡◌, ◌+◌, ◌-◌, ◌^◌, ◌<◌, length, map, IfOk, IfErr};
+ghost use Rattle.spi_run.specs.View.{step as step_of};
+ghost use Rattle.spi_replay.specs.Stepping.{Pooled};
 ghost use Rattle.spi_scope.specs.Files.{meant};
 ghost use Rattle.spi_text.specs.Place.{IsSized};
-ghost use Rattle.spi_course.specs.Fit.{IsFit, CanBeTold, IsUntold};
+ghost use Rattle.spi_course.specs.Courses.{IsCourse};
+ghost use Rattle.spi_course.specs.Fit.{pool_of, IsFit, IsCourseOf, IsUntold};
+ghost use Rattle.spi_course.specs.declared.answer.Untold.TheVariants.{NoMemory as OutOfMemory};
 
 use crate::NoMemory;
 use crate::chart::put_chart;
@@ -25,6 +29,15 @@ use std::alloc::{AllocError, Global};
 
 /// How many places a replay may have.
 const PLACES: u32 = 5_000;
+
+/// What is told of a file's schedule.
+#[derive(Drop)]
+pub struct Account {
+    /// The course of its steps.
+    pub course: Course,
+    /// The text or the chart of it.
+    pub text: Vec<u8>,
+}
 
 /// Why nothing is told of a file.
 pub enum Untold {
@@ -50,6 +63,8 @@ impl Drop for Untold {
 }
 
 impl From<AllocError> for Untold {
+    ghost from_gives = { λ _ e. e ≡ OutOfMemory };
+
     fn from(_e: AllocError) -> Untold {
         Untold::NoMemory
     }
@@ -191,7 +206,34 @@ fn scene_of<'f>(
     })
 }
 
-// The text or the chart of these steps beside this opponent.
+// The text or the chart of a course of these steps beside this opponent. The pool is the one that the course led to.
+fn written(
+    alloc: Global,
+    file: &File,
+    opponent: &Process,
+    steps: &[Step],
+    pool: &Pool<'_>,
+    course: &Course,
+    tokens: &[Token],
+    bytes: &[u8],
+    chart: bool,
+) -> Result<Vec<u8>, NoMemory>
+    requires sized { IsSized bytes.now }
+    requires few { length course.now.events.items < 2 ^ 32 }
+{
+    let begins = begins_of(alloc, course)?;
+    let mut out = Vec::new(alloc);
+    let mark = if chart { "#35;" } else { "#" };
+    let mut scene = scene_of(alloc, file, opponent, tokens, bytes, mark)?;
+    if chart {
+        put_chart(&mut scene, &mut out, course, steps, &begins)?;
+    } else {
+        put_course(&mut scene, &mut out, pool, course, steps, &begins)?;
+    }
+    Ok(out)
+}
+
+// What is told of these steps beside this opponent.
 fn beside(
     alloc: Global,
     file: &File,
@@ -200,38 +242,36 @@ fn beside(
     tokens: &[Token],
     bytes: &[u8],
     chart: bool,
-) -> Result<Vec<u8>, NoMemory>
+) -> Result<Account, NoMemory>
     requires sized { IsSized bytes.now }
     requires names { file.now.process.names ≡ opponent.now.names }
     requires few { file.now.process.names + length steps.now < 2 ^ 32 - 1 }
+    ensures course { IfOk result (λ account. (last : Pooled)
+        × IsCourse (pool_of file.now.process opponent.now) (map step_of steps.now) account.course last) }
+    ensures few { IfOk result (λ account. length account.course.events.items < 2 ^ 32) }
 {
     let mut pool = Pool::start(alloc, &file.process, opponent, PLACES)?;
     let course = take_all(alloc, &mut pool, steps)?;
-    let begins = begins_of(alloc, &course)?;
-    let mut out = Vec::new(alloc);
-    let mark = if chart { "#35;" } else { "#" };
-    let mut scene = scene_of(alloc, file, opponent, tokens, bytes, mark)?;
-    if chart {
-        put_chart(&mut scene, &mut out, &course, steps, &begins)?;
-    } else {
-        put_course(&mut scene, &mut out, &pool, &course, steps, &begins)?;
-    }
-    Ok(out)
+    let text = written(
+        alloc, file, opponent, steps, &pool, &course, tokens, bytes, chart,
+    )?;
+    Ok(Account { course, text })
 }
 
-/// The text of the file's schedule beside its opponent, or the Mermaid chart of it. The tokens and the bytes are those of
-/// the file. The conditions are that process and opponent have the same number of free names, and that with the steps
-/// there are few of them.
+/// What is told of the file's schedule beside its opponent: its course, and the text or the Mermaid chart of it. The tokens
+/// and the bytes are those of the file. The conditions are that process and opponent have the same number of free names,
+/// and that with the steps there are few of them.
 pub fn course_text(
     alloc: Global,
     file: &File,
     tokens: &[Token],
     bytes: &[u8],
     chart: bool,
-) -> Result<Vec<u8>, Untold>
+) -> Result<Account, Untold>
     requires sized { IsSized bytes.now }
     requires fit { IsFit (meant file.now) }
-    ensures ok { OnOk result (CanBeTold (meant file.now)) }
+    ensures course { IfOk result (λ account. IsCourseOf (meant file.now) account.course) }
+    ensures few { IfOk result (λ account. length account.course.events.items < 2 ^ 32) }
     ensures err { IfErr result (IsUntold (meant file.now)) }
 {
     match &file.opponent {

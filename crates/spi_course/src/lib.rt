@@ -13,7 +13,7 @@ mod scene;
 mod source;
 mod waiting;
 
-pub use answer::{Untold, course_text};
+pub use answer::{Account, Untold, course_text};
 pub use course::{Course, Taken, take_all};
 pub use laws::courses_are_runs;
 use std::alloc::AllocError;

@@ -207,6 +207,47 @@ fn put_one(
     }
 }
 
+// Appends the talks of an output with these inputs.
+fn put_inputs(
+    scene: &Scene<'_>,
+    out: &mut Vec<u8>,
+    from: u32,
+    inputs: &[u32],
+) -> Result<(), NoMemory> {
+    for to in inputs {
+        put_one(scene, out, " talk ", from, Some(*to))?;
+    }
+    Ok(())
+}
+
+// Appends the talks of an input with these outputs.
+fn put_outputs(
+    scene: &Scene<'_>,
+    out: &mut Vec<u8>,
+    to: u32,
+    outputs: &[u32],
+) -> Result<(), NoMemory> {
+    for from in outputs {
+        put_one(scene, out, " talk ", *from, Some(to))?;
+    }
+    Ok(())
+}
+
+// Appends the act of a place, where it can go on alone.
+fn put_able(
+    scene: &Scene<'_>,
+    out: &mut Vec<u8>,
+    place: u32,
+    at: Standing,
+    form: &Form,
+) -> Result<(), NoMemory> {
+    if hindered(scene, at, form)?.is_empty() {
+        put_one(scene, out, " act ", place, None)
+    } else {
+        Ok(())
+    }
+}
+
 // Appends the steps that are ready with a place.
 fn put_ready(
     scene: &Scene<'_>,
@@ -216,30 +257,19 @@ fn put_ready(
 ) -> Result<(), NoMemory> {
     match scene.held(place) {
         Some((at, Form::Send { channel, .. })) => {
-            for other in pool.ins_on(&scene.instance(at, channel)?) {
-                put_one(scene, out, " talk ", place, Some(*other))?;
-            }
-            Ok(())
+            let channel = scene.instance(at, channel)?;
+            put_inputs(scene, out, place, pool.ins_on(&channel))
         }
         Some((at, Form::Recv { channel, .. })) => {
-            for other in pool.outs_on(&scene.instance(at, channel)?) {
-                put_one(scene, out, " talk ", *other, Some(place))?;
-            }
-            Ok(())
+            let channel = scene.instance(at, channel)?;
+            put_outputs(scene, out, place, pool.outs_on(&channel))
         }
         Some((at, Form::Serve { channel, .. })) => {
-            for other in pool.outs_on(&scene.instance(at, channel)?) {
-                put_one(scene, out, " talk ", *other, Some(place))?;
-            }
-            Ok(())
+            let channel = scene.instance(at, channel)?;
+            put_outputs(scene, out, place, pool.outs_on(&channel))
         }
         Some((_, Form::Stop)) => Ok(()),
-        Some((at, form)) => {
-            if hindered(scene, at, form)?.is_empty() {
-                put_one(scene, out, " act ", place, None)?;
-            }
-            Ok(())
-        }
+        Some((at, form)) => put_able(scene, out, place, at, form),
         None => Ok(()),
     }
 }
