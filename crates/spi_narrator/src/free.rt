@@ -15,7 +15,8 @@ use spi_tree::SWord;
 /// The word after `on`, where it isn't a free name.
 fn strange<'n>(names: &FreeNames<'_>, line: &'n Line) -> Option<&'n SWord>
     ensures { (free : Names) → Numbers names.now free
-        → MatchOption result (HasChannel free (line_of line.now)) (λ w. IsStrange free (line_of line.now) w.now) }
+        → MatchOption result (HasChannel free (line_of line.now))
+        (λ w. IsStrange free (line_of line.now) w.now) }
 {
     match line {
         Line::Local { .. } => None,
