@@ -12,7 +12,7 @@ use Rattle.spi_report.specs.Fault.{fault_text}
 use Rattle.spi_commands.specs.declared.answer.Answer.{Answer}
 use Rattle.spi_commands.specs.declared.answer.Stop.{Stop}
 use Rattle.spi_commands.specs.declared.status.Status.{Status}
-use Rattle.spi_commands.specs.declared.status.Status.TheVariants.{Yes, No}
+use Rattle.spi_commands.specs.declared.status.Status.TheVariants.{Yes, No, Refused, ReadFault, WriteFault, NoMemory, Usage}
 use Rattle.spi_commands.specs.Spelled.{IsDerivable}
 use Rattle.spi_commands.specs.NoLine.{IsNo, IsVerdict}
 use Rattle.spi_commands.specs.Checking.{ChecksTo}
@@ -56,6 +56,11 @@ rejected_verdict bytes f (Err e) none h = tt
 checks : (bytes output : List ℕ) (f : File) (status : Status) → IsRead bytes f → IsVerdict bytes (meant f) status output → ChecksTo bytes status output
 checks bytes output f Yes (tree, is, stands, marks) h = ((meant f, (tree, is, stands), h.0), h.1)
 checks bytes output f No (tree, is, stands, marks) h = ((meant f, (tree, is, stands), h.0), h.1)
+checks bytes output f Refused r h = elim h [ ]
+checks bytes output f ReadFault r h = elim h [ ]
+checks bytes output f WriteFault r h = elim h [ ]
+checks bytes output f NoMemory r h = elim h [ ]
+checks bytes output f Usage r h = elim h [ ]
 
 pub checked : (bytes : List ℕ) (f : File) (result : Result Answer Stop) → IsRead bytes f → IfOk result (λ a. IsVerdict bytes (meant f) a.status a.output.items) → IfOk result (λ a. ChecksTo bytes a.status a.output.items)
 checked bytes f (Ok a) r h = checks bytes a.output.items f a.status r h

@@ -11,7 +11,7 @@ use Rattle.spi_spell.specs.Joined.{joined}
 use Rattle.spi_commands.specs.declared.answer.Answer.{Answer}
 use Rattle.spi_commands.specs.declared.answer.Stop.{Stop}
 use Rattle.spi_commands.specs.declared.status.Status.{Status}
-use Rattle.spi_commands.specs.declared.status.Status.TheVariants.{Yes, No, Refused}
+use Rattle.spi_commands.specs.declared.status.Status.TheVariants.{Yes, No, Refused, ReadFault, WriteFault, NoMemory, Usage}
 use Rattle.spi_commands.specs.Spelled.{limit, IsDerivable}
 use Rattle.spi_commands.specs.Refusals.{layered, IsLineOf, Refuses, IsTooMuch}
 use Rattle.spi_commands.specs.NoLine.{IsNo, IsVerdict}
@@ -40,6 +40,11 @@ long_listing bytes text f us count result r c e n h =
 refused_by : (bytes output : List ℕ) (f : File) (status : Status) → IsRead bytes f → (IsDerivable (meant f) → ⊥) → IsVerdict bytes (meant f) status output → DerivesTo bytes status output
 refused_by bytes output f Yes r none h = absurd (none h.0)
 refused_by bytes output f No (tree, is, stands, marks) none h = ((meant f, (tree, is, stands), none), h.1)
+refused_by bytes output f Refused r none h = elim h [ ]
+refused_by bytes output f ReadFault r none h = elim h [ ]
+refused_by bytes output f WriteFault r none h = elim h [ ]
+refused_by bytes output f NoMemory r none h = elim h [ ]
+refused_by bytes output f Usage r none h = elim h [ ]
 
 pub refused : (bytes : List ℕ) (f : File) (result : Result Answer Stop) → IsRead bytes f → (IsDerivable (meant f) → ⊥) → IfOk result (λ a. IsVerdict bytes (meant f) a.status a.output.items) → IfOk result (λ a. DerivesTo bytes a.status a.output.items)
 refused bytes f (Ok a) r none h = refused_by bytes a.output.items f a.status r none h

@@ -1,5 +1,5 @@
 -- What `load` answers.
-use Rattle.std.proofs.Common.{◌≡◌, ◌⊎◌, ℕ, ◌+◌, ◌*◌, ◌≤◌, List, [], length, sym, subst, ap, ap₂, ◌∙◌, ⊎_elim, Option, Some, None, IsSome, IfSome, ◌↔◌}
+use Rattle.std.proofs.Common.{◌≡◌, ◌⊎◌, ℕ, ◌+◌, ◌*◌, ◌≤◌, List, [], length, sym, subst, ap, ap₂, ◌∙◌, ⊎_elim, Option, Some, None, IsSome, IfSome, ◌↔◌, refl}
 use Rattle.spi_tree.specs.Trees as t
 use Rattle.spi_gen.specs.Sessions.{IsSessions}
 use Rattle.spi_term.specs.Term.{Process}
@@ -17,6 +17,7 @@ use Rattle.spi_deriv.specs.Canonical.{Canonical}
 use Rattle.spi_report.specs.Loaded.{loaded_text}
 use Rattle.spi_commands.specs.Spelled.{IsDerivable}
 use Rattle.spi_commands.specs.Loading.{IsLoaded}
+use Rattle.spi_commands.proofs.AnswerNo.{none_derived}
 use Rattle.spi_commands.proofs.LoadDerivations.{sessions_canonical, sessions_derivable}
 use Rattle.spi_commands.proofs.LoadFiles.{sessions_clean, sessions_count, sessions_names, sessions_mean}
 
@@ -45,6 +46,6 @@ pub summary_of : OneCanonical → (n : ℕ) (file : Meant) (o : Option Deriv) (n
     → (tree : t.File) × IsSessions n tree × StandsFor tree file → IsSome o ↔ IsDerivable file
     → IfSome o (λ d. Canonical (rule_uses d) file.process.names file.process.process)
     → nodes ≡ 81 * n + 11 → IfSome o (λ d. rules ≡ length (rule_uses d)) → output ≡ loaded_text n nodes rules → IsLoaded n output
-summary_of one n file None nodes rules output few is some canonical counted long text = absurd (some.1 (derivable n file is))
+summary_of one n file None nodes rules output few is some canonical counted long text = absurd (none_derived {A = Deriv} None (IsDerivable file) refl some (derivable n file is))
 summary_of one n file (Some d) nodes rules output few is some canonical counted long text =
     summary one n file (rule_uses d) nodes rules output few is canonical counted long text

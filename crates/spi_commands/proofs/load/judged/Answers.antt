@@ -1,4 +1,4 @@
-use Rattle.std.proofs.Common.{refl}
+use Rattle.std.proofs.Common.{refl, ◌*◌, ◌+◌}
 use Rattle.spi_scope.specs.Files.{meant}
 use Rattle.spi_commands.proofs.LoadAnswers.{summary_of}
 use Rattle.spi_commands.proofs.load.judged.Goals as goal
