@@ -97,7 +97,12 @@ fn is_inner(b: u8) -> bool {
 
 // How many characters start in the bytes.
 fn starts(bytes: &[u8]) -> u32 {
-    bytes.iter().filter(|b| !is_inner(**b)).count() as u32
+    let count = bytes.iter().filter(|b| !is_inner(**b)).count();
+    if count <= u32::MAX as usize {
+        count as u32
+    } else {
+        u32::MAX
+    }
 }
 
 // How many bytes stand in front in the same line.
