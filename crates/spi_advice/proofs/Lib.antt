@@ -1,2 +1,2 @@
 pub mod Advised
-pub mod Tracing
+pub mod TraceLines

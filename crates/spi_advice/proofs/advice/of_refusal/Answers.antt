@@ -1,4 +1,3 @@
-use Rattle.std.proofs.Common.{refl}
 use Rattle.spi_commands.proofs.FileRefusals.{refused_named, refused_within}
 use Rattle.spi_commands.proofs.FileScopes.{first_is_fault}
 use Rattle.spi_commands.specs.declared.status.Status.TheVariants.{Refused}

@@ -1,6 +1,5 @@
-use Rattle.std.proofs.Common.{refl, rules, None, [], inl}
+use Rattle.std.proofs.Common.{refl, rules, None, []}
 use Rattle.spi_commands.proofs.FileTaking.{long_line}
-use Rattle.spi_commands.specs.declared.status.Status.TheVariants.{Refused}
 use Rattle.spi_advice.proofs.Advised.{advised_long}
 use Rattle.spi_advice.proofs.advice.of_too_many.Goals as goal
 

@@ -12,7 +12,7 @@ returns-in-None c =
     let none = sym (rw c.deref.ensures.value at c.in-None.ensures.first) in
     inl (refl, paid_by_none (map event c.args.happened.now) c.in_ok-pairing.pairing.from.items c.paired_is_paid.ensures.ends c.paired_is_paid.ensures.manys c.in_ok-pairing.ensures none)
 
-pub returns-in-Some : goal.returns-in-Some
-returns-in-Some c =
+pub returns : goal.returns
+returns c =
     let some = sym (rw c.deref.ensures.value at c.in-Some.ensures.first) in
     inr (refl, unpaid_by_one _ (map event c.args.happened.now) c.in_ok-pairing.pairing.from.items c.paired_is_paid.ensures.ends c.paired_is_paid.ensures.manys c.in_ok-pairing.ensures some)

@@ -1,7 +1,7 @@
 use Rattle.std.proofs.Common.{inl}
 use Rattle.spi_commands.proofs.FileRefusals.{refused_named, refused_within}
 use Rattle.spi_commands.proofs.FileScopes.{first_is_fault}
-use Rattle.spi_advice.proofs.Tracing.{refused_trace}
+use Rattle.spi_advice.proofs.TraceLines.{refused_trace}
 use Rattle.spi_advice.proofs.tracing.of_refusal.Goals as goal
 
 pub refused-requires-clause-named : goal.refused-requires-clause-named

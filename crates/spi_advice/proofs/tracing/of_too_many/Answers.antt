@@ -1,6 +1,6 @@
-use Rattle.std.proofs.Common.{refl, rules, None, [], inl}
+use Rattle.std.proofs.Common.{refl, rules, None, []}
 use Rattle.spi_commands.proofs.FileTaking.{long_line}
-use Rattle.spi_advice.proofs.Tracing.{long_trace}
+use Rattle.spi_advice.proofs.TraceLines.{long_trace}
 use Rattle.spi_advice.proofs.tracing.of_too_many.Goals as goal
 
 pub returns : goal.returns

@@ -6,7 +6,6 @@ use Rattle.std.specs.Prelude.{codes}
 use Rattle.spi_run.specs.Reduction.{Step}
 use Rattle.spi_run.specs.View.{step, event}
 use Rattle.spi_run.specs.declared.step.Step as program
-use Rattle.spi_term.specs.Spelling.{Spelling}
 use Rattle.spi_scope.specs.Files.{meant, marked, steps_in}
 use Rattle.spi_scope.specs.declared.file.File.{File}
 use Rattle.spi_course.specs.Fit.{IsFit, IsCourseOf, IsUntold}
@@ -65,8 +64,8 @@ refused_by bytes causes (Ok t) f (e, none) line = refused_trace bytes t.output.i
 refused_by bytes causes (Err x) f e line = tt
 
 -- the line of a part that is missing
-pub missing_line : (part shown output lines : List ℕ) (r : Refusal) → r.number ≡ 38 → r.offset ≡ None → r.shown.items ≡ part → output ≡ refused_text lines r → IsLineOf lines (IsMissing part) output
-missing_line part shown output lines r n o s line = one_line lines part output 38 None r (IsMissing part) missing n o s line
+pub missing_line : (part output lines : List ℕ) (r : Refusal) → r.number ≡ 38 → r.offset ≡ None → r.shown.items ≡ part → output ≡ refused_text lines r → IsLineOf lines (IsMissing part) output
+missing_line part output lines r n o s line = one_line lines part output 38 None r (IsMissing part) missing n o s line
 
 pub lacks_opponent : {E : Type 0} (bytes lines : List ℕ) (f : File) (result : Result Trace E) → IsRead bytes f → lines ≡ bytes → IsUntold (meant f) NoOpponent → IfOk result (λ t. (t.status ≡ Refused) × (t.course ≡ None)) → IfOk result (λ t. IsLineOf lines (IsMissing (codes "opponent")) t.output.items)
     → IfOk result (λ t. Traces bytes t.course t.status t.output.items)
