@@ -636,7 +636,7 @@ def test_sarif(room, program):
 # Completions, man pages, installing and packing
 
 def test_completions():
-    commands = set("check explain derive verify replay play print upgrade narrate load knows bench".split())
+    commands = set("check explain derive verify replay trace play print upgrade narrate load knows bench".split())
     for shell, name in [("bash", "cryptyc.bash"), ("zsh", "_cryptyc"), ("fish", "cryptyc.fish")]:
         path = f"tools/completion/{name}"
         expect(f"completion: the words for {shell}", all(word in read(path) for word in commands))
