@@ -1,12 +1,10 @@
 -- What is answered on a file.
-use Rattle.std.proofs.Common.{◌≡◌, ◌↔◌, ℕ, List, [], sym, subst, length, reverse, Option, Some, None, refl, Result, Ok, Err, IfOk, IsNone, IsSome, ◌≤◌}
+use Rattle.std.proofs.Common.{◌≡◌, ◌↔◌, ℕ, List, sym, subst, length, reverse, Option, Some, None, Result, Ok, Err, IfOk, IsNone, IsSome, ◌≤◌}
 use Rattle.spi_text.specs.declared.lines.Span.{Span}
 use Rattle.spi_scope.specs.declared.file.File.{File}
 use Rattle.spi_scope.specs.Files.{meant, Marked, marked}
 use Rattle.spi_scope.specs.Places.{place_in}
 use Rattle.spi_scope.specs.Chains.{chain_at}
-use Rattle.spi_rules.specs.Environment.{untrusted}
-use Rattle.spi_rules.specs.Derivations.{Derivable}
 use Rattle.spi_fault.specs.Faults.{Told, IsFault}
 use Rattle.spi_report.specs.Fault.{fault_text}
 use Rattle.spi_commands.specs.declared.answer.Answer.{Answer}

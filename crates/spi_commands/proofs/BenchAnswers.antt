@@ -1,6 +1,5 @@
 -- What `bench` answers on a text.
-use Rattle.std.proofs.Common.{◌≡◌, ◌≢◌, inl, inr, ℕ, List, [], refl, sym, subst, Option, Result, Ok, Err, IfOk, IfErr, length}
-use Rattle.std.specs.Prelude.{Some}
+use Rattle.std.proofs.Common.{◌≡◌, ◌≢◌, inl, inr, ℕ, List, sym, subst, Result, Ok, Err, IfOk, length}
 use Rattle.spi_edits.specs.Edits.{Bench}
 use Rattle.spi_workbench.specs.Answers.{IsJudged, Refuses}
 use Rattle.spi_workbench.specs.declared.answer.Refusal.{Refusal}
@@ -11,8 +10,7 @@ use Rattle.spi_commands.specs.declared.reading.Unread.{Unread}
 use Rattle.spi_commands.specs.declared.reading.Unread.TheVariants as unread
 use Rattle.spi_commands.specs.declared.status.Status.{Status}
 use Rattle.spi_commands.specs.declared.status.Status.TheVariants.{Yes, No, Refused, ReadFault, WriteFault, NoMemory, Usage}
-use Rattle.spi_commands.specs.declared.text.Text.{Text}
-use Rattle.spi_commands.specs.Reading.{GivesText, IsUnreadBy, Tells}
+use Rattle.spi_commands.specs.Reading.{IsUnreadBy, Tells}
 use Rattle.spi_commands.specs.Refusals.{IsLineOf, IsUnlexed}
 use Rattle.spi_commands.specs.Run.{IsAnswered}
 use Rattle.spi_commands.specs.Benching.{IsBenchOf, IsTold, IsUnjudged, unjudged, RefusesBench, BenchesTo, bench_number, bench_place, bench_shown}

@@ -1,6 +1,6 @@
 -- What a bench is refused for stands in the bytes that spell it, and its number has a name.
-use Rattle.std.proofs.Common.{◌≡◌, ◌⊎◌, inl, inr, ⊎_elim, ℕ, zero, suc, ◌+◌, ◌==◌, ◌≤◌, Bool, true, false, List, [], ◌∷◌, ◌++◌, length, Option, Some, IfSome, IsSome, refl, sym, ap, ◌∙◌, subst, append_assoc, arith, if◌then◌else◌}
-use Rattle.std.specs.Prelude.{slice_get, codes}
+use Rattle.std.proofs.Common.{◌≡◌, inl, inr, ⊎_elim, ℕ, ◌==◌, ◌≤◌, Bool, true, false, List, [], ◌∷◌, ◌++◌, length, Option, IfSome, IsSome, refl, sym, ap, ◌∙◌, subst, arith, if◌then◌else◌}
+use Rattle.std.specs.Prelude.{codes}
 use Rattle.spi_lex.specs.declared.token.Kind.TheVariants as kinds
 use Rattle.spi_lex.specs.declared.token.Mark.TheVariants as mark
 use Rattle.spi_text.specs.declared.lines.Span.{Span}
@@ -27,10 +27,8 @@ use Rattle.spi_heading.proofs.Each.{each_behind}
 use Rattle.spi_workbench.specs.Reading.{behind_shared, file_with, heading_file}
 use Rattle.spi_workbench.specs.Answers.{edit_span, IsRefused, wrong_part, too_large, unknown, Refuses, too_many_shared, wrong_heading, too_many_edits, wrong_edit}
 use Rattle.spi_workbench.specs.declared.answer.Refusal.{Refusal}
-use Rattle.spi_workbench.specs.declared.answer.Refusal.TheVariants as refusals
 use Rattle.spi_report.specs.Names.{name_of}
 use Rattle.spi_commands.specs.Benching.{IsBenchOf, bench_number, bench_place, IsUnjudged, unjudged, RefusesBench}
-use Rattle.spi_commands.specs.Refusals.{scope_number}
 use Rattle.spi_commands.proofs.FilePlaces.{get_in}
 use Rattle.spi_commands.proofs.FileRefusals.{opens_within, unlexed_within, unparsed_within, unlexed_named, unparsed_named, scope_named}
 

@@ -1,9 +1,8 @@
 -- What `bench` promises.
-use Rattle.std.proofs.Common.{◌≡◌, ◌⊎◌, ◌↔◌, inl, inr, ℕ, zero, suc, ◌<◌, ◌≤◌, List, [], ◌∷◌, ◌++◌, map, length, Option, Some, None, Ok, Err, Result, refl, sym, ap, ◌∙◌, subst, append_assoc, append-nil, arith}
+use Rattle.std.proofs.Common.{◌≡◌, ◌↔◌, inl, inr, ℕ, zero, suc, ◌<◌, List, [], ◌∷◌, ◌++◌, map, length, Option, Some, None, refl, sym, subst, append_assoc, append-nil, arith}
 use Rattle.std.specs.Prelude.{slice_get, IsSome}
 use Rattle.std.specs.Io.KnownBytes.{Appends}
 use Rattle.spi_lex.specs.declared.token.Token.{Token}
-use Rattle.spi_lex.specs.Lexing.{Lexes}
 use Rattle.spi_rules.specs.Derivations.{Derivable}
 use Rattle.spi_rules.specs.Environment.{untrusted}
 use Rattle.spi_term.specs.Term.{Process}
@@ -13,16 +12,15 @@ use Rattle.spi_scope.specs.Points.{in_order, file_points}
 use Rattle.spi_scope.proofs.Firsts.{never_both}
 use Rattle.spi_bench.specs.Parts.{Benched, IsYes, named}
 use Rattle.spi_bench.specs.Whole.{whole}
-use Rattle.spi_edits.specs.Edits.{Edit, puts, drops, Bench}
+use Rattle.spi_edits.specs.Edits.{Edit, Bench}
 use Rattle.spi_edits.specs.Grammar.{whole_bench, IsBench}
 use Rattle.spi_edits.proofs.OneBench.{one_spelled}
 use Rattle.spi_workbench.specs.Reading.{file_with, bench_after, parts_after}
-use Rattle.spi_workbench.specs.Counting.{bench_nodes}
 use Rattle.spi_workbench.specs.Answers.{EditStands, EditsStand, BenchStands, IsRefused, wrong_part, too_large, unknown, Refuses, too_many_shared, wrong_heading, too_many_edits, wrong_edit}
 use Rattle.spi_workbench.specs.declared.answer.Refusal.{Refusal}
 use Rattle.spi_commands.specs.declared.status.Status.{Status}
 use Rattle.spi_commands.specs.declared.status.Status.TheVariants.{Yes, No, Refused, ReadFault, WriteFault, NoMemory, Usage}
-use Rattle.spi_commands.specs.Spelled.{SpellsFile, IsDerivable, SpellsDerivable, SpellsUnderivable}
+use Rattle.spi_commands.specs.Spelled.{SpellsFile, IsDerivable}
 use Rattle.spi_commands.specs.Benching.{IsBenchOf, SpellsBench, IsUnjudged, unjudged, RefusesBench, HasVerdicts, EndsWithYes, BenchesTo, SpellsYes, SpellsNo, SpellsNoBench, IsWhole, IsChecked, IsBenchedOn}
 use Rattle.spi_commands.proofs.FileFacts.{OneFile}
 use Rattle.spi_commands.proofs.FileRefusals.{OneLexing, same_tokens, unlexed_never, unparsed_never}

@@ -1,10 +1,9 @@
 -- What `derive` answers on a file.
-use Rattle.std.proofs.Common.{◌≡◌, ℕ, ◌+◌, ◌≤◌, List, [], ◌++◌, sym, subst, ap, ◌∙◌, length, length-append, Result, Ok, Err, IfOk, arith, inr}
+use Rattle.std.proofs.Common.{◌≡◌, ℕ, ◌+◌, ◌≤◌, List, ◌++◌, sym, ap, ◌∙◌, length, length-append, Result, Ok, Err, IfOk, arith, inr}
 use Rattle.std.specs.Prelude.{codes}
 use Rattle.spi_scope.specs.declared.file.File.{File}
 use Rattle.spi_scope.specs.Files.{meant}
-use Rattle.spi_rules.specs.Environment.{untrusted}
-use Rattle.spi_rules.specs.Derivations.{Derivable, RuleUse}
+use Rattle.spi_rules.specs.Derivations.{RuleUse}
 use Rattle.spi_deriv.specs.Canonical.{Canonical}
 use Rattle.spi_deriv.specs.Text.{derivation_text}
 use Rattle.spi_spell.specs.Joined.{joined}
@@ -14,7 +13,7 @@ use Rattle.spi_commands.specs.declared.status.Status.{Status}
 use Rattle.spi_commands.specs.declared.status.Status.TheVariants.{Yes, No, Refused, ReadFault, WriteFault, NoMemory, Usage}
 use Rattle.spi_commands.specs.Spelled.{limit, IsDerivable}
 use Rattle.spi_commands.specs.Refusals.{layered, IsLineOf, Refuses, IsTooMuch}
-use Rattle.spi_commands.specs.NoLine.{IsNo, IsVerdict}
+use Rattle.spi_commands.specs.NoLine.{IsVerdict}
 use Rattle.spi_commands.specs.Deriving.{SpellsCanonical, listing_length, HasLongListing, DerivesTo}
 use Rattle.spi_commands.specs.Reading.{IsRead}
 use Rattle.spi_commands.proofs.AnswerLines.{refuses_by, much}

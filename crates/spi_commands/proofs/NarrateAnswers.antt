@@ -1,21 +1,17 @@
 -- What `narrate` answers on a narration, and on tokens that are none.
-use Rattle.std.proofs.Common.{◌≡◌, ◌≢◌, inl, inr, ℕ, ◌≤◌, List, [], Option, Some, None, Result, Ok, Err, IfOk, IfSome, refl, sym, subst, length, drop}
-use Rattle.std.specs.Fmt.{decimal}
+use Rattle.std.proofs.Common.{◌≡◌, ◌≢◌, inl, inr, ℕ, ◌≤◌, List, Result, Ok, Err, IfOk, sym, subst, length}
 use Rattle.spi_lex.specs.declared.token.Token.{Token}
-use Rattle.spi_lex.specs.Lexing.{Lexes, kinds_of}
-use Rattle.spi_text.specs.declared.lines.Span.{Span}
+use Rattle.spi_lex.specs.Lexing.{Lexes}
 use Rattle.spi_report.specs.declared.refusal.Refusal.{Refusal as Line}
 use Rattle.spi_report.specs.Refused.{refused_text}
 use Rattle.spi_scope.specs.StandsFor.{Meant}
 use Rattle.spi_narrate.specs.Narrations as n
-use Rattle.spi_narrate.specs.Reads.{IsSpelled, FailsNarration}
-use Rattle.spi_narrate.specs.Faults.{items_of, IsFaultless}
+use Rattle.spi_narrate.specs.Reads.{IsSpelled}
 use Rattle.spi_narrator.specs.Answers.{IsTold}
 use Rattle.spi_commands.specs.declared.answer.Answer.{Answer}
 use Rattle.spi_commands.specs.declared.answer.Stop.{Stop}
 use Rattle.spi_commands.specs.declared.status.Status.{Status}
 use Rattle.spi_commands.specs.declared.status.Status.TheVariants.{Refused, Usage}
-use Rattle.spi_commands.specs.Answers.{never}
 use Rattle.spi_commands.specs.Canonical.{ShowsTo}
 use Rattle.spi_commands.specs.Refusals.{IsLineOf, IsUnlexed}
 use Rattle.spi_commands.specs.Narrating.{IsNarrationOf, SpellsNarration, RefusesNarrate, SpellsTelling, NarratesTo}

@@ -1,14 +1,13 @@
 -- Bytes have one answer of `narrate`.
-use Rattle.std.proofs.Common.{◌≡◌, ◌⊎◌, inl, inr, ℕ, ◌++◌, List, [], ◌∷◌, Option, Some, Ok, refl, sym, ap, ◌∙◌, subst, append-nil, arith}
+use Rattle.std.proofs.Common.{◌≡◌, ◌⊎◌, inl, inr, ℕ, ◌++◌, List, [], ◌∷◌, Option, Ok, sym, ap, ◌∙◌, subst, append-nil, arith}
 use Rattle.spi_lex.specs.declared.token.Kind.{Kind}
 use Rattle.spi_lex.specs.declared.token.Token.{Token}
 use Rattle.spi_lex.specs.Lexing.{Lexes, kinds_of}
 use Rattle.spi_lex.specs.Writing.{AreKinds}
 use Rattle.spi_lex.proofs.Lexed.{lexed}
 use Rattle.spi_tree.specs.Pieces.{kinds_in}
-use Rattle.spi_parse.specs.Exact.{IsWithin, Stops, IsSyntaxAt}
+use Rattle.spi_parse.specs.Exact.{Stops, IsSyntaxAt}
 use Rattle.spi_scope.specs.StandsFor.{Meant}
-use Rattle.spi_show.specs.Files.{IsCanonicalText}
 use Rattle.spi_narrate.specs.Narrations as n
 use Rattle.spi_narrate.specs.Grammar.{whole_narration, IsNarration}
 use Rattle.spi_narrate.specs.Faults.{items_of, IsFirstFault, IsFaultless}

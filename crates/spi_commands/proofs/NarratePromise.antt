@@ -1,14 +1,13 @@
 -- What `narrate` promises.
-use Rattle.std.proofs.Common.{◌≡◌, ◌⊎◌, inl, inr, ℕ, List, Option, refl, sym, subst}
+use Rattle.std.proofs.Common.{◌≡◌, ◌⊎◌, inl, inr, ℕ, List, Option, refl, subst}
 use Rattle.std.specs.Io.KnownBytes.{Appends}
-use Rattle.spi_scope.specs.StandsFor.{Meant}
 use Rattle.spi_narrate.specs.Narrations as n
 use Rattle.spi_narrator.specs.Answers.{IsTold}
 use Rattle.spi_commands.specs.declared.status.Status.{Status}
 use Rattle.spi_commands.specs.declared.status.Status.TheVariants.{Yes, No, Refused, ReadFault, WriteFault, NoMemory, Usage}
 use Rattle.spi_commands.specs.Spelled.{SpellsFile}
-use Rattle.spi_commands.specs.Canonical.{IsPrint, IsLong}
-use Rattle.spi_commands.specs.Narrating.{IsNarrationOf, SpellsNarration, RefusesNarrate, SpellsTelling, NarratesTo, SpellsUntold, SpellsLongTelling, IsNarrated}
+use Rattle.spi_commands.specs.Canonical.{IsLong}
+use Rattle.spi_commands.specs.Narrating.{SpellsTelling, NarratesTo, SpellsUntold, SpellsLongTelling, IsNarrated}
 use Rattle.spi_commands.proofs.FileFacts.{OneFile, RefusedNone}
 use Rattle.spi_commands.proofs.AnswerText.{never_longer}
 use Rattle.spi_commands.proofs.NarrateOnce.{Narrations}

@@ -1,8 +1,7 @@
 -- What a narration is refused for: its number has a name, and it stands in the bytes.
-use Rattle.std.proofs.Common.{◌≡◌, ◌⊎◌, inl, inr, ℕ, ◌≤◌, List, [], ◌∷◌, length, Option, Some, IfSome, IsSome, Ok, refl, sym, ap, subst, arith}
+use Rattle.std.proofs.Common.{◌≡◌, inl, inr, ℕ, ◌≤◌, List, [], ◌∷◌, length, Option, IfSome, IsSome, refl, ap, subst, arith}
 use Rattle.spi_text.specs.declared.lines.Span.{Span}
 use Rattle.spi_lex.specs.declared.token.Token.{Token}
-use Rattle.spi_lex.specs.Lexing.{Lexes}
 use Rattle.spi_lex.specs.Writing.{AreSpans, spans_of}
 use Rattle.spi_lex.proofs.Lexed.{lexed}
 use Rattle.spi_tree.specs.Trees as t
@@ -21,10 +20,9 @@ use Rattle.spi_weave.specs.Starts.{StartBy}
 use Rattle.spi_weave.specs.Woven.{woven}
 use Rattle.spi_weave.proofs.Starting.{woven_starts, lines_of, fault_starts, channel_starts, line_from, line_starts}
 use Rattle.spi_narrator.specs.declared.answer.Refusal.{Refusal}
-use Rattle.spi_narrator.specs.Answers.{line_span, LineIn, IsFirstNotFree, Refuses as RefusesTelling, not_free, out_of_scope, not_ready, too_large}
+use Rattle.spi_narrator.specs.Answers.{line_span, LineIn, Refuses as RefusesTelling, not_free, out_of_scope, not_ready, too_large}
 use Rattle.spi_commands.specs.Refusals.{IsTooMuch, too_much}
-use Rattle.spi_commands.specs.Canonical.{HasLongPrint}
-use Rattle.spi_commands.specs.Narrating.{IsNarrationOf, SpellsNarration, IsFaulty, unknown_role, role_twice, narration_too_large, HasFaulty, telling_number, telling_from, IsUntold, untold, HasUntold, HasLongTelling, RefusesNarrate}
+use Rattle.spi_commands.specs.Narrating.{IsNarrationOf, IsFaulty, unknown_role, role_twice, narration_too_large, telling_number, telling_from, IsUntold, untold, RefusesNarrate}
 use Rattle.spi_commands.proofs.FileRefusals.{unlexed_named, unlexed_within, unparsed_named, unparsed_within, scope_named}
 use Rattle.spi_commands.proofs.FileScopes.{first_is_fault}
 

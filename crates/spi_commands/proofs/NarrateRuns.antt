@@ -1,28 +1,25 @@
 -- How the file that a narration is told by runs.
-use Rattle.std.proofs.Common.{◌≡◌, ℕ, ◌++◌, List, [], ◌∷◌, map, Option, Some, refl, sym, ap, ◌∙◌, subst, inl, inr}
-use Rattle.std.specs.Prelude.{option_to_list}
+use Rattle.std.proofs.Common.{◌≡◌, ℕ, ◌++◌, List, [], map, Option, Some, refl, sym, ap, ◌∙◌, subst, inl, inr}
 use Rattle.spi_tree.specs.Trees as t
 use Rattle.spi_term.specs.Lists.{At}
 use Rattle.spi_term.specs.Spelling.{Spelling}
-use Rattle.spi_term.specs.Term.{Message, Process, stop}
-use Rattle.spi_run.specs.Opponent.{IsOpponent}
+use Rattle.spi_term.specs.Term.{Message, stop}
 use Rattle.spi_run.specs.Reduction.{Step, Event}
 use Rattle.spi_run.specs.Safety.{beside}
 use Rattle.spi_run.specs.View.{step, event}
 use Rattle.spi_know.specs.Sent.{handed}
 use Rattle.spi_replay.specs.Stepping.{Pooled}
 use Rattle.spi_scope.specs.Points.{all_names, all_types}
-use Rattle.spi_scope.specs.StandsFor.{Meant, StandsFor, over_free}
-use Rattle.spi_spell.specs.Joined.{with_schedule}
+use Rattle.spi_scope.specs.StandsFor.{Meant, over_free}
 use Rattle.spi_narrate.specs.Narrations as n
-use Rattle.spi_weave.specs.Woven.{last_span, woven}
+use Rattle.spi_weave.specs.Woven.{last_span}
 use Rattle.spi_honest.specs.Honest.{Replays as Plays, replays_none as plays_none, replays_step as plays_step, opening}
 use Rattle.spi_narrator.specs.Answers.{IsTold}
 use Rattle.spi_commands.specs.declared.status.Status.{Status}
 use Rattle.spi_commands.specs.declared.status.Status.TheVariants.{Yes, No, Refused, ReadFault, WriteFault, NoMemory, Usage}
-use Rattle.spi_commands.specs.Spelled.{SpellsFile, SpellsNone}
-use Rattle.spi_commands.specs.Beside.{pool_of, HasOpponent}
-use Rattle.spi_commands.specs.Replays.{places_most, Replays, replays_none, replays_step, RunsThrough, SpellsUnplayed, IsUnplayed, RefusesReplay}
+use Rattle.spi_commands.specs.Spelled.{SpellsFile}
+use Rattle.spi_commands.specs.Beside.{pool_of}
+use Rattle.spi_commands.specs.Replays.{places_most, Replays, replays_none, replays_step, RunsThrough, IsUnplayed, RefusesReplay}
 use Rattle.spi_commands.specs.Replaying.{ReplaysTo, IsReplayText}
 use Rattle.spi_commands.specs.Narrating.{RunsAsTold}
 use Rattle.spi_commands.proofs.FileFacts.{OneFile, RefusedNone}

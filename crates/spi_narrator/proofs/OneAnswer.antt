@@ -1,26 +1,23 @@
 -- A narration that is told isn't refused, and is told by one file.
-use Rattle.std.proofs.Common.{◌≡◌, ℕ, ◌<◌, ◌≤◌, List, [], ◌∷◌, ◌++◌, map, Option, Some, None, refl, sym, ap, ◌∙◌, subst, arith}
-use Rattle.std.specs.Prelude.{option_to_list}
-use Rattle.spi_term.specs.Term.{Message, name, pair, enc}
+use Rattle.std.proofs.Common.{◌≡◌, ℕ, ◌≤◌, List, [], ◌∷◌, ◌++◌, map, Option, None, refl, sym, ap, ◌∙◌, subst, arith}
+use Rattle.spi_term.specs.Term.{Message, pair, enc}
 use Rattle.spi_run.specs.Reduction.{Event, Step}
-use Rattle.spi_run.specs.View.{step, event}
+use Rattle.spi_run.specs.View.{step}
 use Rattle.spi_replay.specs.Stepping.{largest, message_most}
 use Rattle.spi_scope.specs.declared.fault.ScopeFault.{ScopeFault}
-use Rattle.spi_scope.specs.Scope.{Names, number_of}
+use Rattle.spi_scope.specs.Scope.{Names}
 use Rattle.spi_scope.specs.First.{HasFirst}
 use Rattle.spi_scope.specs.StandsFor.{Meant, StandsFor}
 use Rattle.spi_spell.specs.Joined.{with_schedule}
 use Rattle.spi_tree.specs.Trees as t
 use Rattle.spi_narrate.specs.Narrations as n
 use Rattle.spi_weave.specs.Woven.{woven}
-use Rattle.spi_honest.specs.declared.fault.HonestFault.TheVariants.{LineNotReady, NarratedTooLarge}
 use Rattle.spi_honest.specs.Reading.{Map, value}
-use Rattle.spi_honest.specs.Narrated.{Told, Does, does_split, does_match, does_decrypt, does_check, does_begin, does_end, does_end_many, does_cast, does_new, Tells, tells_local, tells_pass, giving, Narrates, narrates_none, narrates_line, AreSmall, NarratesSmall, shown, free_of, begins, at}
+use Rattle.spi_honest.specs.Narrated.{Told, Does, does_split, does_match, does_decrypt, does_check, does_begin, does_end, does_end_many, does_cast, does_new, Tells, tells_local, tells_pass, giving, Narrates, narrates_none, narrates_line, AreSmall, NarratesSmall, shown, free_of, at}
 use Rattle.spi_honest.specs.Roles.{HasChannel, HaveChannels}
-use Rattle.spi_honest.specs.Schedule.{honest_steps}
-use Rattle.spi_honest.specs.Honest.{IsWrongAt, IsNotReady, IsTooLarge, HasFault}
+use Rattle.spi_honest.specs.Honest.{IsWrongAt, IsNotReady, IsTooLarge}
 use Rattle.spi_narrator.specs.declared.answer.Refusal.{Refusal}
-use Rattle.spi_narrator.specs.Answers.{IsFirstNotFree, Refuses, not_free, out_of_scope, not_ready, too_large, IsTold}
+use Rattle.spi_narrator.specs.Answers.{Refuses, not_free, out_of_scope, not_ready, too_large, IsTold}
 
 -- ---- a line is told in one way
 

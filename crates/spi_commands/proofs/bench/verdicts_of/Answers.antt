@@ -1,10 +1,8 @@
 use Rattle.std.proofs.Common.{[], inl, inr}
 use Rattle.spi_parse.proofs.Lexed.{kinds_fit}
-use Rattle.spi_edits.specs.Views.{bench_of}
 use Rattle.spi_commands.specs.Refusals.{syntax, too_deep}
 use Rattle.spi_commands.specs.Benching.{RefusesBench}
 use Rattle.spi_commands.proofs.FileRefusals.{unread_as}
-use Rattle.spi_commands.proofs.BenchAnswers.{unjudged_refuses}
 use Rattle.spi_commands.proofs.bench.verdicts_of.Goals as goal
 
 pub read_bench-requires-clause-words : goal.read_bench-requires-clause-words

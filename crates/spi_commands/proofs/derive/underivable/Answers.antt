@@ -1,4 +1,3 @@
-use Rattle.spi_scope.specs.Files.{meant}
 use Rattle.spi_commands.proofs.DeriveAnswers.{refused}
 use Rattle.spi_commands.proofs.derive.underivable.Goals as goal
 

@@ -1,4 +1,3 @@
-use Rattle.std.proofs.Common.{subst}
 use Rattle.spi_commands.proofs.NarrateRefusals.{narrate_named, narrate_within}
 use Rattle.spi_commands.proofs.NarrateAnswers.{refuses}
 use Rattle.spi_commands.proofs.narrate.refused_by.Goals as goal

@@ -1,6 +1,5 @@
 use Rattle.spi_scope.specs.Files.{meant}
 use Rattle.spi_narrate.specs.Views.{narration_of}
-use Rattle.spi_narrator.specs.Answers.{IsAnswer}
 use Rattle.spi_commands.proofs.NarrateAnswers.{tells}
 use Rattle.spi_commands.proofs.narrate.told.Goals as goal
 
