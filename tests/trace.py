@@ -13,11 +13,10 @@ import argparse
 import glob
 import os
 import re
-import subprocess
 import sys
 
-ROOT = os.path.dirname(os.path.dirname(os.path.abspath(__file__)))
-SECONDS = 10
+from explain import ROOT, kept, run as ran
+
 COMMENT = re.compile(r"//[^\n]*")
 STEP = re.compile(r"\b(act\s+\d+|talk\s+\d+\s+\d+)\s*;")
 LINE = re.compile(r"(\d+)\. (act \d+|talk \d+ \d+) (.*)")
@@ -27,20 +26,10 @@ REFUSED = re.compile(r"in the schedule at (\d+:\d+) is refused: (\d+ \w+)")
 WORD = re.compile(r"[\w']*#\d+|[\w']+|[^\s\w]")
 
 
-def kept(name):
-    ran = subprocess.run([f"{ROOT}/tools/keep.py", name], capture_output=True, text=True)
-    if ran.returncode:
-        sys.exit(f"there is no {name}: {ran.stderr[-400:]}")
-    return ran.stdout.strip()
-
-
 def run(program, words, data=b""):
     """What the program writes, and its status; None where it takes too long."""
-    try:
-        ended = subprocess.run([program, *words], input=data, capture_output=True, timeout=SECONDS, cwd=ROOT)
-    except subprocess.TimeoutExpired:
-        return "", None
-    return ended.stdout.decode(), ended.returncode
+    written, status = ran(program, words, data)
+    return written.decode(), status
 
 
 def message(words):
