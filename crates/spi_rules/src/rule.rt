@@ -2,6 +2,7 @@
 
 ghost use Rattle.std.specs.Prelude.{◌≡◌, ◌≤◌, IfSome, IsNone};
 ghost use Rattle.spi_rules.specs.Rule.{arity, spelled, named};
+ghost use Rattle.spi_rules.specs.Fifth.{rules_by};
 
 /// A rule of the type system, named as its row in the tables of rules. `MsgHash` and `ProcEndMany` are rules of
 /// version 2 derivations.
@@ -42,44 +43,6 @@ pub enum Rule {
     ProcPar,
     ProcSub,
 }
-
-/// Every rule, in the order of the tables.
-const RULES: [Rule; 34] = [
-    Rule::MsgName,
-    Rule::MsgUnit,
-    Rule::MsgUnitUn,
-    Rule::MsgPair,
-    Rule::MsgPairUn,
-    Rule::MsgInl,
-    Rule::MsgInlUn,
-    Rule::MsgInr,
-    Rule::MsgInrUn,
-    Rule::MsgEnc,
-    Rule::MsgEncUn,
-    Rule::MsgHash,
-    Rule::ProcStop,
-    Rule::ProcOut,
-    Rule::ProcIn,
-    Rule::ProcRepeat,
-    Rule::ProcSplit,
-    Rule::ProcSplitUn,
-    Rule::ProcMatch,
-    Rule::ProcMatchUn,
-    Rule::ProcCase,
-    Rule::ProcCaseUn,
-    Rule::ProcDecrypt,
-    Rule::ProcDecryptUn,
-    Rule::ProcCheck,
-    Rule::ProcCheckUn,
-    Rule::ProcBegin,
-    Rule::ProcEnd,
-    Rule::ProcEndMany,
-    Rule::ProcCast,
-    Rule::ProcCastUn,
-    Rule::ProcNew,
-    Rule::ProcPar,
-    Rule::ProcSub,
-];
 
 impl Rule {
     /// How many derivations of premises stand under a use of the rule, from 0 to 3.
@@ -163,12 +126,38 @@ impl Rule {
         }
     }
 
-    /// The rule with this name, and none exactly where no rule has it.
+    /// The rule with this name, and none exactly where no rule has it. It looks at the rules with the same fifth byte alone,
+    /// at eight of them at most.
     pub fn of_word(word: &str) -> Option<Rule>
         ensures some { IfSome result (λ rule. spelled rule ≡ word.now) }
         ensures none { IsNone result → (rule : Rule) → spelled rule ≡ word.now → ⊥ }
     {
-        named(&RULES, word)
+        match word.as_bytes().get(4) {
+            Some(byte) => named(rules_by(*byte), word),
+            None => None,
+        }
+    }
+}
+
+// The rules whose names have this fifth byte.
+fn rules_by(byte: u8) -> &'static [Rule]
+    ensures { result.now ≡ rules_by byte }
+{
+    match byte {
+        b'B' => &[Rule::ProcBegin],
+        b'C' => &[Rule::ProcCase, Rule::ProcCaseUn, Rule::ProcCheck, Rule::ProcCheckUn, Rule::ProcCast, Rule::ProcCastUn],
+        b'D' => &[Rule::ProcDecrypt, Rule::ProcDecryptUn],
+        b'E' => &[Rule::ProcEnd, Rule::ProcEndMany],
+        b'I' => &[Rule::ProcIn],
+        b'M' => &[Rule::ProcMatch, Rule::ProcMatchUn],
+        b'N' => &[Rule::ProcNew],
+        b'O' => &[Rule::ProcOut],
+        b'P' => &[Rule::ProcPar],
+        b'R' => &[Rule::ProcRepeat],
+        b'S' => &[Rule::ProcStop, Rule::ProcSplit, Rule::ProcSplitUn, Rule::ProcSub],
+        b'a' => &[Rule::MsgName, Rule::MsgPair, Rule::MsgPairUn, Rule::MsgHash],
+        b'n' => &[Rule::MsgUnit, Rule::MsgUnitUn, Rule::MsgInl, Rule::MsgInlUn, Rule::MsgInr, Rule::MsgInrUn, Rule::MsgEnc, Rule::MsgEncUn],
+        _ => &[],
     }
 }
 

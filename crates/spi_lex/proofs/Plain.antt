@@ -1,0 +1,66 @@
+-- ASCII bytes at the front that continue a name.
+use Rattle.std.proofs.Common.{◌≡◌, ℕ, suc, ◌+◌, ◌-◌, ◌<◌, ◌≤◌, true, ◌||◌, ◌==◌, inl, inr, List, [], ◌∷◌, ◌++◌, length, drop, get_or, refl, sym, ◌∙◌, ap, subst, arith, leb}
+use Rattle.std.proofs.lemmas.Bool.{cases_Bool, cases_lt, cond-true, cond-false, agree_below_at, and_parts, and_from, leb-true, eqb-true, or_cases}
+use Rattle.std.proofs.lemmas.List.Sums.{prefix_len-le-length, prefix_len_passes}
+use Rattle.std.proofs.lemmas.Str.{encode_ascii, IsCharBoundary-start, IsCharBoundary-after_ascii}
+use Rattle.std.specs.List.{prefix_len}
+use Rattle.std.specs.Char.{is_ascii_alphanumeric}
+use Rattle.std.specs.Int.{is_in_range}
+use Rattle.std.specs.Str.{encode_utf8_all, all_scalars, IsUtf8, IsCharBoundary}
+use Rattle.unicode_ident.proofs.IdentLemmas.{is_xid_continue-ascii}
+use lib.Utf8.{scalar}
+use Rattle.spi_lex.specs.Front.{is_plain, Passes}
+use Rattle.spi_lex.proofs.Fronts.{passes_none}
+
+in_range : (low high b : ℕ) → high < 128 → is_in_range low high b ≡ true → b < 128
+in_range low high b h r = let t = leb-true b high (and_parts (leb low b) (leb b high) r).1 in omega (arith, t)
+
+pub plain_ascii : (b : ℕ) → is_plain b ≡ true → b < 128
+plain_ascii b h = elim (or_cases (is_ascii_alphanumeric b) (b == 95) h) [
+  | inl word ↦ elim (or_cases (is_in_range 48 57 b || is_in_range 65 90 b) (is_in_range 97 122 b) word) [
+    | inl early ↦ elim (or_cases (is_in_range 48 57 b) (is_in_range 65 90 b) early) [
+      | inl digit ↦ in_range 48 57 b (omega arith) digit
+      | inr upper ↦ in_range 65 90 b (omega arith) upper
+    ]
+    | inr lower ↦ in_range 97 122 b (omega arith) lower
+  ]
+  | inr line ↦ (let e = eqb-true b 95 line in omega (arith, e))
+]
+
+-- they pass
+pub plain_passes : (text : List ℕ) → Passes text (drop (prefix_len is_plain text) text)
+plain_passes [] = passes_none []
+plain_passes (b ∷ bs) = elim (cases_Bool (is_plain b)) [
+  | inl is ↦
+      let h : Passes bs (drop (prefix_len is_plain bs) bs) = plain_passes bs in
+      let rest : List ℕ = drop (prefix_len is_plain bs) bs in
+      let ascii = plain_ascii b is in
+      let one_more : suc (prefix_len is_plain bs) ≡ 1 + prefix_len is_plain bs = omega arith in
+      let all : Passes (b ∷ bs) rest = record {
+        name = b ∷ h.name;
+        continue = (is_xid_continue-ascii b ascii ∙ is, h.continue);
+        scalars = and_from (scalar b) (all_scalars h.name) (agree_below_at scalar (λ c. true) 128 b refl ascii) h.scalars;
+        text_is = ap (λ (cs : List ℕ). b ∷ cs) h.text_is
+            ∙ ap (λ (cs : List ℕ). (cs ++ encode_utf8_all h.name) ++ rest) (sym (encode_ascii b ascii));
+      } in
+      subst (λ (n : ℕ). Passes (b ∷ bs) (drop n (b ∷ bs)))
+          (one_more ∙ sym (cond-true (is_plain b) (1 + prefix_len is_plain bs) 0 is)) all
+  | inr isnt ↦
+      subst (λ (n : ℕ). Passes (b ∷ bs) (drop n (b ∷ bs)))
+          (sym (cond-false (is_plain b) (1 + prefix_len is_plain bs) 0 isnt)) (passes_none (b ∷ bs))
+]
+
+-- and a character begins behind them
+pub plain_cut : (text : List ℕ) → IsUtf8 text → IsCharBoundary text (prefix_len is_plain text)
+plain_cut text u =
+    let n : ℕ = prefix_len is_plain text in
+    let le : n ≤ length text = prefix_len-le-length is_plain text in
+    elim (cases_lt 0 n) [
+      | inl some ↦
+          let last : get_or text (n - 1) 0 < 128 = plain_ascii (get_or text (n - 1) 0) (prefix_len_passes is_plain text (n - 1) 0 (omega arith)) in
+          let back : n - 1 + 1 ≡ n = omega arith in
+          subst (IsCharBoundary text) back (IsCharBoundary-after_ascii text (n - 1) u (omega arith) last)
+      | inr none ↦
+          let zero_is : 0 ≡ n = omega arith in
+          subst (IsCharBoundary text) zero_is (IsCharBoundary-start text u)
+    ]

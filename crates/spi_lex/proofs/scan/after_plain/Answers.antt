@@ -1,0 +1,17 @@
+use Rattle.std.proofs.Common.{ℕ, drop, ap, sym, subst, ◌∙◌}
+use Rattle.std.specs.List.{prefix_len}
+use Rattle.std.specs.Str.{IsCharBoundary}
+use Rattle.spi_lex.specs.Front.{is_plain, Passes}
+use Rattle.spi_lex.proofs.Plain.{plain_passes, plain_cut}
+use Rattle.spi_lex.proofs.scan.after_plain.Goals as goal
+
+pub split_at-requires : goal.split_at-requires
+split_at-requires c =
+    let len = c.plain_len.ensures.value ∙ ap (prefix_len is_plain) c.as_bytes.ensures.value in
+    subst (IsCharBoundary c.args.text.now) (sym len) (plain_cut c.args.text.now c.utf8.text)
+
+pub returns : goal.returns
+returns c =
+    let len = c.plain_len.ensures.value ∙ ap (prefix_len is_plain) c.as_bytes.ensures.value in
+    subst (Passes c.args.text.now) (sym c.split_at.ensures.back)
+    (subst (λ (n : ℕ). Passes c.args.text.now (drop n c.args.text.now)) (sym len) (plain_passes c.args.text.now))
