@@ -1,5 +1,5 @@
 -- Each rule's name has a fifth byte, and the rule is found among those whose names have it.
-use Rattle.std.proofs.Common.{◌≡◌, ℕ, true, List, Some, length, get_or, nat_lt, refl}
+use Rattle.std.proofs.Common.{◌≡◌, true, Some, length, get_or, nat_lt, refl}
 use Rattle.spi_rules.specs.declared.rule.Rule.{Rule}
 use Rattle.spi_rules.specs.declared.rule.Rule.TheVariants.{MsgName, MsgUnit, MsgUnitUn, MsgPair, MsgPairUn, MsgInl, MsgInlUn, MsgInr, MsgInrUn, MsgEnc, MsgEncUn, MsgHash, ProcStop, ProcOut, ProcIn, ProcRepeat, ProcSplit, ProcSplitUn, ProcMatch, ProcMatchUn, ProcCase, ProcCaseUn, ProcDecrypt, ProcDecryptUn, ProcCheck, ProcCheckUn, ProcBegin, ProcEnd, ProcEndMany, ProcCast, ProcCastUn, ProcNew, ProcPar, ProcSub}
 use Rattle.spi_rules.specs.Rule.{spelled, named}
