@@ -1,16 +1,17 @@
 -- ASCII bytes at the front that continue a name.
-use Rattle.std.proofs.Common.{◌≡◌, ℕ, suc, ◌+◌, ◌-◌, ◌<◌, ◌≤◌, true, ◌||◌, ◌==◌, inl, inr, List, [], ◌∷◌, ◌++◌, length, drop, get_or, refl, sym, ◌∙◌, ap, subst, arith, leb}
+use Rattle.std.proofs.Common.{◌≡◌, ℕ, suc, ◌+◌, ◌-◌, ◌<◌, ◌≤◌, Bool, true, ◌||◌, ◌==◌, inl, inr, List, [], ◌∷◌, ◌++◌, length, drop, get_or, refl, sym, ◌∙◌, ap, subst, arith, leb}
 use Rattle.std.proofs.lemmas.Bool.{cases_Bool, cases_lt, cond-true, cond-false, agree_below_at, and_parts, and_from, leb-true, eqb-true, or_cases}
 use Rattle.std.proofs.lemmas.List.Sums.{prefix_len-le-length, prefix_len_passes}
 use Rattle.std.proofs.lemmas.Str.{encode_ascii, IsCharBoundary-start, IsCharBoundary-after_ascii}
 use Rattle.std.specs.List.{prefix_len}
-use Rattle.std.specs.Char.{is_ascii_alphanumeric}
+use Rattle.std.specs.Char.{is_ascii_alphabetic, is_ascii_alphanumeric}
 use Rattle.std.specs.Int.{is_in_range}
 use Rattle.std.specs.Str.{encode_utf8_all, all_scalars, IsUtf8, IsCharBoundary}
-use Rattle.unicode_ident.proofs.IdentLemmas.{is_xid_continue-ascii}
+use Rattle.unicode_ident.proofs.IdentLemmas.{is_xid_start-ascii, is_xid_continue-ascii}
 use lib.Utf8.{scalar}
-use Rattle.spi_lex.specs.Front.{is_plain, Passes}
-use Rattle.spi_lex.proofs.Fronts.{passes_none}
+use Rattle.spi_lex.specs.declared.scan.Shape.TheVariants as shapes
+use Rattle.spi_lex.specs.Front.{is_plain, is_letter, StopsPlain, IsPlainEnd, Passes, Continues, IsFront}
+use Rattle.spi_lex.proofs.Fronts.{passes_none, stops_at_end, stops_at_char, name_front}
 
 in_range : (low high b : ℕ) → high < 128 → is_in_range low high b ≡ true → b < 128
 in_range low high b h r = let t = leb-true b high (and_parts (leb low b) (leb b high) r).1 in omega (arith, t)
@@ -64,3 +65,49 @@ plain_cut text u =
           let zero_is : 0 ≡ n = omega arith in
           subst (IsCharBoundary text) zero_is (IsCharBoundary-start text u)
     ]
+
+pub plain_stops : (text : List ℕ) → StopsPlain (drop (prefix_len is_plain text) text)
+plain_stops [] b bs e = absurd (cc)
+plain_stops (c ∷ cs) b bs e = elim (cases_Bool (is_plain c)) [
+  | inl is ↦
+      let one_more : prefix_len is_plain (c ∷ cs) ≡ suc (prefix_len is_plain cs) =
+          cond-true (is_plain c) (1 + prefix_len is_plain cs) 0 is ∙ omega arith in
+      plain_stops cs b bs (ap (λ (n : ℕ). drop n (c ∷ cs)) (sym one_more) ∙ e)
+  | inr isnt ↦
+      let none : prefix_len is_plain (c ∷ cs) ≡ 0 = cond-false (is_plain c) (1 + prefix_len is_plain cs) 0 isnt in
+      let same : c ∷ cs ≡ b ∷ bs = ap (λ (n : ℕ). drop n (c ∷ cs)) (sym none) ∙ e in
+      let first : c ≡ b = cc in
+      ap is_plain (sym first) ∙ isnt
+]
+
+-- so a name ends there
+pub plain_ends : (text rest : List ℕ) → Passes text rest → StopsPlain rest → IsPlainEnd rest → Continues text rest
+plain_ends text [] h s n = stops_at_end text [] h refl
+plain_ends text (b ∷ bs) h s n =
+    let ascii = n b bs refl in
+    stops_at_char text (b ∷ bs) bs b h (ap (λ (cs : List ℕ). cs ++ bs) (sym (encode_ascii b ascii)))
+    (is_xid_continue-ascii b ascii ∙ s b bs refl)
+
+letter_ascii : (b : ℕ) → is_letter b ≡ true → b < 128
+letter_ascii b h = elim (or_cases (is_ascii_alphabetic b) (b == 95) h) [
+  | inl letter ↦ elim (or_cases (is_in_range 65 90 b) (is_in_range 97 122 b) letter) [
+    | inl upper ↦ in_range 65 90 b (omega arith) upper
+    | inr lower ↦ in_range 97 122 b (omega arith) lower
+  ]
+  | inr line ↦ (let e = eqb-true b 95 line in omega (arith, e))
+]
+
+-- a name may begin with a letter
+pub letter_cut : (text : List ℕ) → IsUtf8 text → 0 < length text → is_letter (get_or text 0 0) ≡ true
+    → IsCharBoundary text 1
+letter_cut text u some h = IsCharBoundary-after_ascii text 0 u some (letter_ascii (get_or text 0 0) h)
+
+pub letter_front : (text rest after : List ℕ) → IsUtf8 text → IsUtf8 after → 0 < length text
+    → is_letter (get_or text 0 0) ≡ true → rest ≡ drop 1 text → Continues rest after
+    → IsFront text shapes.Identifier (length text - length after)
+letter_front [] rest after u v some h e k = absurd (omega arith)
+letter_front (b ∷ bs) rest after u v some h e k =
+    let ascii = letter_ascii b h in
+    name_front (b ∷ bs) rest after b u v
+    (ap (λ (cs : List ℕ). b ∷ cs) (sym e) ∙ ap (λ (cs : List ℕ). cs ++ rest) (sym (encode_ascii b ascii)))
+    (ap (λ (t : Bool). t || (b == 95)) (is_xid_start-ascii b ascii) ∙ h) k
