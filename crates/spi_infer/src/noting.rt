@@ -78,7 +78,7 @@ fn walk<L: Ledger>(
 {
     let mut keys = Keys::new(alloc);
     let mut pending = Vec::new(alloc);
-    let mut notes = Vec::new(alloc);
+    let mut notes = Vec::with_capacity(alloc, process.len() as usize)?;
     for id in 0..process.len() {
         steps.tick();
         let node = process.node(id);

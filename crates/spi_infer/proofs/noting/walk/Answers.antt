@@ -55,7 +55,7 @@ visit-requires-clause-names g c =
 
 pub loop-id-init : goal.loop-id-init
 loop-id-init g c = record {
-  walked = λ e s. walked_start (spelled c.args.process.now.names c.args.process.now.process) e c.args.judge.now c.new-keys.result c.new-pending.result.items c.new-notes.result.items s c.new-pending.ensures.items c.new-notes.ensures.items;
+  walked = λ e s. walked_start (spelled c.args.process.now.names c.args.process.now.process) e c.args.judge.now c.new-keys.result c.new-pending.result.items c.in_ok-notes.notes.items s c.new-pending.ensures.items c.in_ok-notes.ensures.items;
   keys = record { keyed = λ i k e. absurd (no_key (c.new-keys.ensures i) e) };
   above = above_same c.args.judge.now;
   counted = omega arith;
