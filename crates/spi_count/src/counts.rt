@@ -78,13 +78,13 @@ impl Counts {
         requires { 0 < by }
         ensures { OnOk result (Sets self.old.counts self.new.counts key (count_of self.old.counts key + by)) }
     {
-        match self.count(key).checked_add(by) {
-            Some(count) => {
-                self.counts.insert(key, count)?;
-                Ok(())
-            }
-            None => Err(AllocError),
+        if let Some(before) = self.counts.insert(key, by)? {
+            let Some(count) = before.checked_add(by) else {
+                return Err(AllocError);
+            };
+            self.counts.insert(key, count)?;
         }
+        Ok(())
     }
 
     /// Counts a key so high at least.
@@ -93,8 +93,9 @@ impl Counts {
         ensures { OnOk result
             (Sets self.old.counts self.new.counts key (max (count_of self.old.counts key) least)) }
     {
-        let count = self.count(key).max(least);
-        self.counts.insert(key, count)?;
+        if let Some(before) = self.counts.insert(key, least)? {
+            self.counts.insert(key, before.max(least))?;
+        }
         Ok(())
     }
 
