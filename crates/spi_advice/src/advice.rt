@@ -5,10 +5,10 @@ ghost use Rattle.spi_commands.specs.Reading.{IsRead};
 ghost use Rattle.spi_commands.specs.Refusals.{Refuses};
 
 use crate::NoMemory;
+use crate::tokens::{LIMIT, tokens_of};
 use spi_commands::{Status, Unread, read};
 use spi_explain::{Explained, explain_file};
 use spi_fault::Fault;
-use spi_lex::{Token, lex};
 use spi_report::{Refusal, refused};
 use spi_scope::{File, faults_stand_at_nodes};
 use spi_text::Lines;
@@ -16,9 +16,6 @@ use spi_wording::{
     Page, Source, Style, tell_expected, tell_fault, tell_others, tell_refusal, tell_yes,
 };
 use std::alloc::{AllocError, Global};
-
-/// How many bytes a file has at most.
-const LIMIT: usize = 16_777_216;
 
 /// An explanation, with the status of `check`.
 pub struct Advice {
@@ -34,16 +31,6 @@ impl Drop for Advice {
             status: _,
             output: _,
         } = self;
-    }
-}
-
-// The tokens of the bytes, or none where they have none.
-fn tokens_of(alloc: Global, bytes: &[u8]) -> Vec<Token>
-    requires { length bytes.now ≤ 16_777_216 }
-{
-    match lex(alloc, bytes) {
-        Ok(tokens) => tokens,
-        Err(_) => Vec::new(alloc),
     }
 }
 
@@ -82,7 +69,7 @@ fn text_of(
     match &found.fault {
         None => tell_yes(&mut page),
         Some(fault) => {
-            let tokens = tokens_of(alloc, bytes);
+            let tokens = tokens_of(alloc, bytes)?;
             let source = Source::new(bytes, lines, &tokens);
             tell_fault(alloc, &mut page, &source, file, found, fault)?;
             tell_others(alloc, &mut page, &source, file, &found.blocked)?;
@@ -120,7 +107,7 @@ fn of_refusal(alloc: Global, bytes: &[u8], r: &Refusal, style: Style) -> Result<
     faults_stand_at_nodes();
     let lines = Lines::of(alloc, bytes)?;
     let line = refused(alloc, &lines, r)?;
-    let tokens = tokens_of(alloc, bytes);
+    let tokens = tokens_of(alloc, bytes)?;
     let source = Source::new(bytes, &lines, &tokens);
     let mut page = Page::new(alloc, style);
     tell_refusal(&mut page, &source, r);

@@ -4,6 +4,7 @@
 #![tactic(auto)]
 
 mod advice;
+mod tokens;
 mod tracing;
 
 pub use advice::{Advice, advise};

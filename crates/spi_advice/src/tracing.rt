@@ -10,18 +10,15 @@ ghost use Rattle.spi_commands.specs.Beside.{HasOffence};
 ghost use Rattle.spi_advice.specs.Tracing.{Traces, EndsWith};
 
 use crate::NoMemory;
+use crate::tokens::{LIMIT, tokens_of};
 use spi_commands::{Status, Unread, read};
 use spi_course::{Account, Course, Untold, course_text};
-use spi_lex::{LexFault, Token, lex};
 use spi_report::{Refusal, first_unpaid, refused};
 use spi_run::Event;
 use spi_scope::{File, faults_stand_at_nodes};
 use spi_text::Lines;
 use spi_trace::{pair_up, paired_is_paid};
 use std::alloc::{AllocError, Global};
-
-/// How many bytes a file has at most.
-const LIMIT: usize = 16_777_216;
 
 /// A trace, with the status of `replay`.
 pub struct Trace {
@@ -40,17 +37,6 @@ impl Drop for Trace {
             course: _,
             output: _,
         } = self;
-    }
-}
-
-// The tokens of the bytes, or none where they have none.
-fn tokens_of(alloc: Global, bytes: &[u8]) -> Result<Vec<Token>, NoMemory>
-    requires { length bytes.now ≤ 16_777_216 }
-{
-    match lex(alloc, bytes) {
-        Ok(tokens) => Ok(tokens),
-        Err(LexFault::NoMemory) => Err(AllocError),
-        Err(_) => Ok(Vec::new(alloc)),
     }
 }
 

@@ -1,0 +1,20 @@
+// The tokens that places are told by.
+ghost use Rattle.std.specs.Prelude.{◌≤◌, length};
+
+use crate::NoMemory;
+use spi_lex::{LexFault, Token, lex};
+use std::alloc::{AllocError, Global};
+
+/// How many bytes a file has at most.
+pub const LIMIT: usize = 16_777_216;
+
+/// The tokens of the bytes, or none where they have none.
+pub fn tokens_of(alloc: Global, bytes: &[u8]) -> Result<Vec<Token>, NoMemory>
+    requires { length bytes.now ≤ 16_777_216 }
+{
+    match lex(alloc, bytes) {
+        Ok(tokens) => Ok(tokens),
+        Err(LexFault::NoMemory) => Err(AllocError),
+        Err(_) => Ok(Vec::new(alloc)),
+    }
+}
