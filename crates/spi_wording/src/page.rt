@@ -1,7 +1,7 @@
 // The page that an explanation is written on.
 use crate::NoMemory;
 use crate::source::{Source, put_place, put_snippet};
-use spi_text::{Place, Span};
+use spi_text::Span;
 use std::alloc::{AllocError, Global};
 
 /// How an explanation is written.
@@ -51,8 +51,6 @@ pub struct Page {
     style: Style,
     text: Vec<u8>,
     is_lost: bool,
-    /// The place that was written last, and its offset: the next one is mostly behind it in the same line.
-    last: (u32, Place),
 }
 
 impl Page {
@@ -62,16 +60,7 @@ impl Page {
             style,
             text: Vec::new(alloc),
             is_lost: false,
-            last: (0, Place { line: 1, column: 1 }),
         }
-    }
-
-    /// Where an offset stands.
-    pub fn place(&mut self, source: &Source<'_>, offset: u32) -> Place {
-        let (from, place) = self.last;
-        let place = source.place_behind(from, place, offset);
-        self.last = (offset, place);
-        place
     }
 
     pub fn put_bytes(&mut self, bytes: &[u8]) {
@@ -163,7 +152,6 @@ impl Page {
             style: _,
             text,
             is_lost,
-            last: _,
         } = self;
         if is_lost {
             return Err(AllocError);

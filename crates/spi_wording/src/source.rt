@@ -54,23 +54,12 @@ impl<'a> Source<'a> {
         self.bytes.starts_with(b"\xef\xbb\xbf")
     }
 
-    // Where an offset stands: the file's beginning for one behind its end.
-    fn place(&self, offset: u32) -> Place {
+    /// Where an offset stands: the file's beginning for one behind its end.
+    pub fn place(&self, offset: u32) -> Place {
         if offset as usize <= self.bytes.len() {
             self.lines.place(offset)
         } else {
             self.lines.place(0)
-        }
-    }
-
-    /// Where an offset stands, by a place that is known: in the same line, only what is between them is counted.
-    pub fn place_behind(&self, from: u32, known: Place, offset: u32) -> Place {
-        match self.bytes.get(from as usize..offset as usize) {
-            Some(between) if !between.contains(&b'\n') => Place {
-                line: known.line,
-                column: known.column.saturating_add(starts(between)),
-            },
-            _ => self.place(offset),
         }
     }
 }
@@ -93,16 +82,6 @@ pub fn text_at<'a>(source: &Source<'a>, span: Span) -> &'a str {
 
 fn is_inner(b: u8) -> bool {
     b >= 128 && b < 192
-}
-
-// How many characters start in the bytes.
-fn starts(bytes: &[u8]) -> u32 {
-    let count = bytes.iter().filter(|b| !is_inner(**b)).count();
-    if count <= u32::MAX as usize {
-        count as u32
-    } else {
-        u32::MAX
-    }
 }
 
 // How many bytes stand in front in the same line.
@@ -158,7 +137,7 @@ fn columns(text: &str) -> usize {
 
 /// ` L:C`.
 pub fn put_place(page: &mut Page, source: &Source<'_>, offset: u32) {
-    let place = page.place(source, offset);
+    let place = source.place(offset);
     page.put_number(place.line as usize);
     page.put(":");
     page.put_number(place.column as usize);
@@ -216,7 +195,7 @@ fn put_marked(page: &mut Page, front: &str, marked: &str, rest: &str, line: usiz
 /// ` --> L:C`, the source's line, and carets under the stretch, as far as it stands in that line. Of a long line there is
 /// only what stands near.
 pub fn put_snippet(page: &mut Page, source: &Source<'_>, span: Span) {
-    let line = page.place(source, span.from).line as usize;
+    let line = source.place(span.from).line as usize;
     let from = span.from as usize;
     let start = from.saturating_sub(before(part(source.bytes, 0, from)));
     let end = from.saturating_add(behind(part(source.bytes, from, source.bytes.len())));
