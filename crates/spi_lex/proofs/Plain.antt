@@ -45,10 +45,10 @@ plain_passes (b ∷ bs) = elim (cases_Bool (is_plain b)) [
             ∙ ap (λ (cs : List ℕ). (cs ++ encode_utf8_all h.name) ++ rest) (sym (encode_ascii b ascii));
       } in
       subst (λ (n : ℕ). Passes (b ∷ bs) (drop n (b ∷ bs)))
-          (one_more ∙ sym (cond-true (is_plain b) (1 + prefix_len is_plain bs) 0 is)) all
+      (one_more ∙ sym (cond-true (is_plain b) (1 + prefix_len is_plain bs) 0 is)) all
   | inr isnt ↦
       subst (λ (n : ℕ). Passes (b ∷ bs) (drop n (b ∷ bs)))
-          (sym (cond-false (is_plain b) (1 + prefix_len is_plain bs) 0 isnt)) (passes_none (b ∷ bs))
+      (sym (cond-false (is_plain b) (1 + prefix_len is_plain bs) 0 isnt)) (passes_none (b ∷ bs))
 ]
 
 -- and a character begins behind them
@@ -71,7 +71,7 @@ plain_stops [] b bs e = absurd (cc)
 plain_stops (c ∷ cs) b bs e = elim (cases_Bool (is_plain c)) [
   | inl is ↦
       let one_more : prefix_len is_plain (c ∷ cs) ≡ suc (prefix_len is_plain cs) =
-          cond-true (is_plain c) (1 + prefix_len is_plain cs) 0 is ∙ omega arith in
+      cond-true (is_plain c) (1 + prefix_len is_plain cs) 0 is ∙ omega arith in
       plain_stops cs b bs (ap (λ (n : ℕ). drop n (c ∷ cs)) (sym one_more) ∙ e)
   | inr isnt ↦
       let none : prefix_len is_plain (c ∷ cs) ≡ 0 = cond-false (is_plain c) (1 + prefix_len is_plain cs) 0 isnt in

@@ -145,7 +145,14 @@ fn rules_by(byte: u8) -> &'static [Rule]
 {
     match byte {
         b'B' => &[Rule::ProcBegin],
-        b'C' => &[Rule::ProcCase, Rule::ProcCaseUn, Rule::ProcCheck, Rule::ProcCheckUn, Rule::ProcCast, Rule::ProcCastUn],
+        b'C' => &[
+            Rule::ProcCase,
+            Rule::ProcCaseUn,
+            Rule::ProcCheck,
+            Rule::ProcCheckUn,
+            Rule::ProcCast,
+            Rule::ProcCastUn,
+        ],
         b'D' => &[Rule::ProcDecrypt, Rule::ProcDecryptUn],
         b'E' => &[Rule::ProcEnd, Rule::ProcEndMany],
         b'I' => &[Rule::ProcIn],
@@ -154,9 +161,23 @@ fn rules_by(byte: u8) -> &'static [Rule]
         b'O' => &[Rule::ProcOut],
         b'P' => &[Rule::ProcPar],
         b'R' => &[Rule::ProcRepeat],
-        b'S' => &[Rule::ProcStop, Rule::ProcSplit, Rule::ProcSplitUn, Rule::ProcSub],
+        b'S' => &[
+            Rule::ProcStop,
+            Rule::ProcSplit,
+            Rule::ProcSplitUn,
+            Rule::ProcSub,
+        ],
         b'a' => &[Rule::MsgName, Rule::MsgPair, Rule::MsgPairUn, Rule::MsgHash],
-        b'n' => &[Rule::MsgUnit, Rule::MsgUnitUn, Rule::MsgInl, Rule::MsgInlUn, Rule::MsgInr, Rule::MsgInrUn, Rule::MsgEnc, Rule::MsgEncUn],
+        b'n' => &[
+            Rule::MsgUnit,
+            Rule::MsgUnitUn,
+            Rule::MsgInl,
+            Rule::MsgInlUn,
+            Rule::MsgInr,
+            Rule::MsgInrUn,
+            Rule::MsgEnc,
+            Rule::MsgEncUn,
+        ],
         _ => &[],
     }
 }

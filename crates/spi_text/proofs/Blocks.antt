@@ -23,11 +23,11 @@ pub starts_from : (bytes : List ℕ) (from to : ℕ) → from ≤ to
     → starts (take to bytes) ≡ starts (take from bytes) + starts (take (to - from) (drop from bytes))
 starts_from bytes from to h =
     let both : starts (take from (take to bytes)) + starts (drop from (take to bytes)) ≡ starts (take to bytes) =
-        sum_by-take-drop _ (take to bytes) from in
+    sum_by-take-drop _ (take to bytes) from in
     let front : starts (take from (take to bytes)) ≡ starts (take from bytes) = ap starts (take-take from to bytes h) in
     let sum : to ≡ from + (to - from) = omega arith in
     let rest : starts (drop from (take to bytes)) ≡ starts (take (to - from) (drop from bytes)) =
-        ap (λ (n : ℕ). starts (drop from (take n bytes))) sum ∙ ap starts (drop-take from (to - from) bytes) in
+    ap (λ (n : ℕ). starts (drop from (take n bytes))) sum ∙ ap starts (drop-take from (to - from) bytes) in
     omega (arith, both, front, rest)
 
 -- one block more

@@ -33,5 +33,5 @@ pub returns-in-None-clause-none : goal.returns-in-None-clause-none
 returns-in-None-clause-none c none r s =
     let found = c.in-None.ensures in
     let short : false ≡ nat_lt 4 (length c.args.word.now) =
-        found.lookup.0 ∙ ap (λ (bs : List ℕ). nat_lt 4 (length bs)) c.as_bytes.ensures.value in
+    found.lookup.0 ∙ ap (λ (bs : List ℕ). nat_lt 4 (length bs)) c.as_bytes.ensures.value in
     false≢true (short ∙ ap (λ (bs : List ℕ). nat_lt 4 (length bs)) (sym s) ∙ has_fifth r)
