@@ -8,4 +8,9 @@ pub mod Each
 pub mod Told
 pub mod Wholes
 pub mod Manys
+pub mod RowParts
+pub mod Reached
+pub mod Versions
+pub mod Fronts
+pub mod Lasts
 pub mod Firsts

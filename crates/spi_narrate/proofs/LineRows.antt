@@ -29,6 +29,7 @@ use Rattle.spi_heading.proofs.Symbols.{cells_append, Sym, token, name, message, 
 use Rattle.spi_heading.proofs.Rows.{Values, Row, row_good, row_pieces, row_into, row_from, row_behind, row_read, RowAt, RowFails, row_end, row_more, opened, closed, fits_at, stands_read}
 use Rattle.spi_heading.proofs.Calls.{part_at, took, took_word, there_before}
 use Rattle.spi_heading.proofs.Wholes.{none_fail}
+use Rattle.spi_heading.proofs.Manys.{both_fit, both_cells}
 use Rattle.spi_narrate.specs.Narrations as n
 use Rattle.spi_narrate.specs.Grammar.{whole_prefix, IsPrefix, IsWholePrefix, line_pieces, whole_line, IsLine, IsWholeLine}
 use Rattle.spi_narrate.proofs.Prefixes.{Prefixes, prefixes_good, prefix_behind}
@@ -115,8 +116,8 @@ module _ (v : Bool) where
             is = (
               k.two.one.is.0,
               subst (λ (l : List Piece). AreWordsFit v (kinds_in l)) (sym (local_are s w p))
-                  (both_fit (row_pieces head_row (head_values s.from w) []) (row_pieces colon_row (tt, tt) [] ++ rest) r.fit
-                  (both_fit (row_pieces colon_row (tt, tt) []) rest colon.fit (both_fit (whole_prefix p) (row_pieces tail_row (tail_values s.to) []) k.two.one.is.1 tail.fit))),
+                  (both_fit v (row_pieces head_row (head_values s.from w) []) (row_pieces colon_row (tt, tt) [] ++ rest) r.fit
+                  (both_fit v (row_pieces colon_row (tt, tt) []) rest colon.fit (both_fit v (whole_prefix p) (row_pieces tail_row (tail_values s.to) []) k.two.one.is.1 tail.fit))),
             );
             shows =
                 ap cells (local_are s w p)
@@ -124,12 +125,6 @@ module _ (v : Bool) where
                 (both_cells (row_pieces colon_row (tt, tt) []) rest k.left k.right colon.shows (both_cells (whole_prefix p) (row_pieces tail_row (tail_values s.to) []) k.two.left k.two.right k.two.one.shows tail.shows ∙ sym k.two.cells) ∙ sym k.cells)
                 ∙ sym h.cells;
           }
-        where
-          both_fit : (ps qs : List Piece) → AreWordsFit v (kinds_in ps) → AreWordsFit v (kinds_in qs) → AreWordsFit v (kinds_in (ps ++ qs))
-          both_fit ps qs a b = subst (AreWordsFit v) (sym (kinds_in_append ps qs)) (fits_append v (kinds_in ps) (kinds_in qs) a b)
-
-          both_cells : (ps qs : List Piece) (c d : Cells) → cells ps ≡ c → cells qs ≡ d → cells (ps ++ qs) ≡ c ++ d
-          both_cells ps qs c d e f = cells_append ps qs ∙ ap (λ (l : Cells). l ++ cells qs) e ∙ ap (λ (l : Cells). c ++ l) f
       go r (inr k) =
           let p = row_from v pass_row h.right k in
           let y = p.values in
