@@ -9,8 +9,8 @@ use Rattle.spi_lex.specs.Lexing.{kinds_of}
 use Rattle.spi_text.specs.declared.lines.Span.{Span}
 use Rattle.spi_tree.specs.declared.tree.SWord.{SWord}
 use Rattle.spi_tree.specs.Trees as t
-use Rattle.spi_tree.specs.Pieces.{Piece, opens, cell, closes, cells, kinds_in, a_mark, ends}
-use Rattle.spi_tree.specs.Formed.{AreWordsFit}
+use Rattle.spi_tree.specs.Pieces.{Piece, opens, cell, closes, cells, kinds_in, a_mark, ends, a_word, a_token, msg_pieces}
+use Rattle.spi_tree.specs.Formed.{AreWordsFit, IsMsg}
 use Rattle.spi_parse.specs.declared.fault.ParseFault.{ParseFault}
 use Rattle.spi_parse.specs.declared.fault.ParseFault.TheVariants as faults
 use Rattle.spi_parse.specs.Exact as exact
@@ -30,6 +30,7 @@ use Rattle.spi_heading.proofs.Rows.{Values, Row, row_good, row_pieces, row_into,
 use Rattle.spi_heading.proofs.Calls.{part_at, took, took_word, there_before}
 use Rattle.spi_heading.proofs.Wholes.{none_fail}
 use Rattle.spi_heading.proofs.Manys.{both_fit, both_cells}
+use Rattle.spi_heading.proofs.RowParts.{AreRows}
 use Rattle.spi_narrate.specs.Narrations as n
 use Rattle.spi_narrate.specs.Grammar.{whole_prefix, IsPrefix, IsWholePrefix, line_pieces, whole_line, IsLine, IsWholeLine}
 use Rattle.spi_narrate.proofs.Prefixes.{Prefixes, prefixes_good, prefix_behind}
@@ -322,3 +323,23 @@ line_first v a p = go p.part p.shows
     go : (l : n.Line) → cells (whole_line l) ≡ a → (k : Kind) × (x : List Kind) × (kinds a ≡ k ∷ x)
     go (n.local s w x) e = (K.Word w.word, _, ap kinds (sym e))
     go (n.pass s b c d m x) e = (K.Word b.word, _, ap kinds (sym e))
+
+-- ---- the receiver, the channel and the datum by themselves
+
+abbrev pub addressed_row : List Sym
+addressed_row = name ∷ token (the_word on) ∷ name ∷ token (the_mark mark.Colon) ∷ message ∷ []
+
+abbrev addressed_part : SWord × SWord × t.Msg → List Piece
+addressed_part x = a_word false x.0 (a_token (K.Word (codes "on")) (a_word false x.1 (a_mark mark.Colon (msg_pieces 1 x.2 []))))
+
+pub addressed_are : (v : Bool) → AreRows v addressed_part (λ x. IsMsg v false x.2 × AreWordsFit v (kinds_in (addressed_part x))) addressed_row (λ x. (x.0, (tt, (x.1, (tt, (x.2, tt))))))
+addressed_are v = record {
+  part = λ xs. (xs.0, xs.1.1.0, xs.1.1.1.1.0);
+  values_of = λ xs. refl;
+  formed = λ xs are fit. (are.1.1.1.1.0, fit);
+  are = λ x is. (tt, (tt, (tt, (tt, (is.0, tt)))));
+  fit = λ x is. is.1;
+  pieces_of = λ x. refl;
+  known = λ x are fit. (are.1.1.1.1.0, fit);
+  solid = λ x. tt;
+}
