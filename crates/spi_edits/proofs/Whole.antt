@@ -1,5 +1,5 @@
 -- Whole benches: the version, the declarations, the shared names and the edits.
-use Rattle.std.proofs.Common.{◌≡◌, ℕ, Bool, true, false, List, [], ◌∷◌, ◌++◌, refl, sym, ap, subst, ◌∙◌, append-nil, ◌⊎◌, inl, inr}
+use Rattle.std.proofs.Common.{◌≡◌, ◌==◌, ℕ, Bool, true, false, List, [], ◌∷◌, ◌++◌, refl, sym, ap, subst, ◌∙◌, append-nil, ◌⊎◌, inl, inr}
 use Rattle.std.specs.List.{AllByRecursion}
 use Rattle.spi_lex.specs.declared.token.Kind.{Kind}
 use Rattle.spi_text.specs.declared.lines.Span.{Span}
@@ -127,6 +127,9 @@ placed_kinds : (s : Span) (ps : List Piece) → kinds_in (placed s ps) ≡ kinds
 placed_kinds s [] = refl
 placed_kinds s (p ∷ ps) = kinds_in_append (p ∷ ps) (closes s.to ∷ []) ∙ append-nil (kinds_in (p ∷ ps))
 
+formed_body : (v : ℕ) (cs : Cells) (b : FromBody (v == 2) cs) → (v ≡ 1) ⊎ (v ≡ 2) → AreWordsFit (v == 2) (kinds_in (whole_bench (of_version v nowhere b.decls b.shared b.edits))) → IsBench (of_version v nowhere b.decls b.shared b.edits)
+formed_body v cs b known words = record { version = known; decls = b.decls_are; shared = b.shared_are; edits = b.edits_are; words = words; place = λ e. refl }
+
 there : (cs : Cells) → Either (Later Fronts) (Fronts false) cs → Benches cs
 there cs (inl k) =
     let b = body_from true k.right k.two in
@@ -136,14 +139,7 @@ there cs (inl k) =
     let are = later_pieces nowhere b.decls b.shared b.edits in
     record {
       part = x;
-      is = record {
-        version = inr refl;
-        decls = b.decls_are;
-        shared = b.shared_are;
-        edits = b.edits_are;
-        words = subst (AreWordsFit true) (sym (placed_kinds nowhere (bench_pieces x) ∙ ap kinds_in are)) (both_fit true version_are body r.fit b.fit);
-        place = λ e. refl;
-      };
+      is = formed_body 2 k.right b (inr refl) (subst (AreWordsFit true) (sym (placed_kinds nowhere (bench_pieces x) ∙ ap kinds_in are)) (both_fit true version_are body r.fit b.fit));
       shows = placed_cells nowhere (bench_pieces x) ∙ ap cells are ∙ both_cells version_are body k.left k.right r.shows b.shows ∙ sym k.cells;
     }
 there cs (inr k) =
@@ -152,14 +148,7 @@ there cs (inr k) =
     let are = first_pieces nowhere b.decls b.shared b.edits in
     record {
       part = x;
-      is = record {
-        version = inl refl;
-        decls = b.decls_are;
-        shared = b.shared_are;
-        edits = b.edits_are;
-        words = subst (AreWordsFit false) (sym (placed_kinds nowhere (bench_pieces x) ∙ ap kinds_in are)) b.fit;
-        place = λ e. refl;
-      };
+      is = formed_body 1 cs b (inl refl) (subst (AreWordsFit false) (sym (placed_kinds nowhere (bench_pieces x) ∙ ap kinds_in are)) b.fit);
       shows = placed_cells nowhere (bench_pieces x) ∙ ap cells are ∙ b.shows;
     }
 

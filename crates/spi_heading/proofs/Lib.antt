@@ -10,6 +10,7 @@ pub mod Wholes
 pub mod Manys
 pub mod RowParts
 pub mod Reached
+pub mod Nodes
 pub mod Versions
 pub mod Fronts
 pub mod Lasts

@@ -26,6 +26,7 @@ use Rattle.spi_heading.proofs.Rows.{Values, Row, row_good, row_pieces, row_into,
 use Rattle.spi_heading.proofs.Standing.{Stands, IsSolid}
 use Rattle.spi_heading.proofs.Calls.{part_at, part_stands, there_before, there_within}
 use Rattle.spi_heading.proofs.Reached.{Reached, begun, ended, then_token, then_opening, then_message, then_closing}
+use Rattle.spi_heading.proofs.Nodes.{node_row, node_starts, begun_node, node_reads}
 use Rattle.spi_heading.proofs.Told.{FormOf, forms_good}
 use Rattle.spi_heading.proofs.Wholes.{none_fail}
 use Rattle.spi_grammar.proofs.Good.{IsSome}
@@ -35,7 +36,7 @@ use Rattle.spi_narrate.specs.Grammar.{prefix_pieces, whole_prefix, IsPrefix, IsW
 
 -- the row of a form: a node that begins with the reserved word
 abbrev pub form : Reserved → List Sym → List Sym
-form w ss = opening ∷ token (the_reserved w) ∷ ss
+form w ss = node_row (the_reserved w) ss
 
 abbrev pub split_rest : List Sym
 split_rest = message ∷ token (the_reserved word.Is) ∷ token (the_mark mark.ParenOpen) ∷ name ∷ token (the_mark mark.Colon) ∷ ty ∷ token (the_mark mark.Comma) ∷ name ∷ token (the_mark mark.Colon) ∷ ty ∷ token (the_mark mark.ParenClose) ∷ closing ∷ []
@@ -83,17 +84,11 @@ module _ (v : Bool) where
   abbrev pub Prefixes : List (Kind × Bool) → Type 0
   Prefixes = OfPieces whole_prefix (IsWholePrefix v)
 
-  form_starts : (w : Reserved) (ss : List Sym) → (a : List (Kind × Bool)) × Row v (form w ss) a × (x : List Kind) × (kinds a ≡ K.Reserved w ∷ x)
-  form_starts w ss =
-      let r = (row_good v ss).live in
-      let inner : Row v (token (the_reserved w) ∷ ss) ((K.Reserved w, false) ∷ r.0) = record { left = (K.Reserved w, false) ∷ []; right = r.0; one = record { token = K.Reserved w; is = refl; cells = refl }; two = r.1; cells = refl } in
-      ((K.Reserved w, false) ∷ r.0, record { left = []; right = (K.Reserved w, false) ∷ r.0; one = refl; two = inner; cells = refl }, kinds r.0, refl)
-
   split_is : (s : Span) (m : t.Msg) (x : SWord) (a : t.Ty) (y : SWord) (b : t.Ty) → IsWholePrefix v (n.split s m x a y b) → Row v split_row (cells (whole_prefix (n.split s m x a y b)))
   split_is s m x a y b is = row_into v split_row (s.from, (tt, (m, (tt, (tt, (x, (tt, (a, (tt, (y, (tt, (b, (tt, (s.to, tt)))))))))))))) (tt, (tt, (is.0.0, (tt, (tt, (tt, (tt, (is.0.1, (tt, (tt, (tt, (is.0.2, (tt, (tt, tt)))))))))))))) is.1
 
   pub split_told : IsToldBy (K.Reserved word.Split) (Row v split_row) Prefixes
-  split_told = record { starts = form_starts word.Split split_rest; into = into; splits = λ cs p. splits cs p.part p.is p.shows }
+  split_told = record { starts = node_starts v (the_reserved word.Split) split_rest; into = into; splits = λ cs p. splits cs p.part p.is p.shows }
     where
       into : (cs : List (Kind × Bool)) → Row v split_row cs → Prefixes cs
       into cs h =
@@ -109,7 +104,7 @@ module _ (v : Bool) where
   match_is s m x a k y b is = row_into v match_row (s.from, (tt, (m, (tt, (tt, (x, (tt, (a, (tt, (k, (tt, (y, (tt, (b, (tt, (s.to, tt)))))))))))))))) (tt, (tt, (is.0.0, (tt, (tt, (tt, (tt, (is.0.1, (tt, (is.0.2, (tt, (tt, (tt, (is.0.3, (tt, (tt, tt)))))))))))))))) is.1
 
   pub match_told : IsToldBy (K.Reserved word.Match) (Row v match_row) Prefixes
-  match_told = record { starts = form_starts word.Match match_rest; into = into; splits = λ cs p. splits cs p.part p.is p.shows }
+  match_told = record { starts = node_starts v (the_reserved word.Match) match_rest; into = into; splits = λ cs p. splits cs p.part p.is p.shows }
     where
       into : (cs : List (Kind × Bool)) → Row v match_row cs → Prefixes cs
       into cs h =
@@ -125,7 +120,7 @@ module _ (v : Bool) where
   decrypt_is s m x a k is = row_into v decrypt_row (s.from, (tt, (m, (tt, (tt, (x, (tt, (a, (tt, (k, (s.to, tt))))))))))) (tt, (tt, (is.0.0, (tt, (tt, (tt, (tt, (is.0.1, (tt, (is.0.2, (tt, tt))))))))))) is.1
 
   pub decrypt_told : IsToldBy (K.Reserved word.Decrypt) (Row v decrypt_row) Prefixes
-  decrypt_told = record { starts = form_starts word.Decrypt decrypt_rest; into = into; splits = λ cs p. splits cs p.part p.is p.shows }
+  decrypt_told = record { starts = node_starts v (the_reserved word.Decrypt) decrypt_rest; into = into; splits = λ cs p. splits cs p.part p.is p.shows }
     where
       into : (cs : List (Kind × Bool)) → Row v decrypt_row cs → Prefixes cs
       into cs h =
@@ -141,7 +136,7 @@ module _ (v : Bool) where
   check_is s m k is = row_into v check_row (s.from, (tt, (m, (tt, (k, (s.to, tt)))))) (tt, (tt, (is.0.0, (tt, (is.0.1, (tt, tt)))))) is.1
 
   pub check_told : IsToldBy (K.Reserved word.Check) (Row v check_row) Prefixes
-  check_told = record { starts = form_starts word.Check check_rest; into = into; splits = λ cs p. splits cs p.part p.is p.shows }
+  check_told = record { starts = node_starts v (the_reserved word.Check) check_rest; into = into; splits = λ cs p. splits cs p.part p.is p.shows }
     where
       into : (cs : List (Kind × Bool)) → Row v check_row cs → Prefixes cs
       into cs h =
@@ -157,7 +152,7 @@ module _ (v : Bool) where
   begin_is s m is = row_into v (label_row word.Begin) (s.from, (tt, (m, (s.to, tt)))) (tt, (tt, (is.0, (tt, tt)))) is.1
 
   pub begin_told : IsToldBy (K.Reserved word.Begin) (Row v (label_row word.Begin)) Prefixes
-  begin_told = record { starts = form_starts word.Begin label_rest; into = into; splits = λ cs p. splits cs p.part p.is p.shows }
+  begin_told = record { starts = node_starts v (the_reserved word.Begin) label_rest; into = into; splits = λ cs p. splits cs p.part p.is p.shows }
     where
       into : (cs : List (Kind × Bool)) → Row v (label_row word.Begin) cs → Prefixes cs
       into cs h =
@@ -173,7 +168,7 @@ module _ (v : Bool) where
   end_is s m is = row_into v (label_row word.End) (s.from, (tt, (m, (s.to, tt)))) (tt, (tt, (is.0, (tt, tt)))) is.1
 
   pub end_told : IsToldBy (K.Reserved word.End) (Row v (label_row word.End)) Prefixes
-  end_told = record { starts = form_starts word.End label_rest; into = into; splits = λ cs p. splits cs p.part p.is p.shows }
+  end_told = record { starts = node_starts v (the_reserved word.End) label_rest; into = into; splits = λ cs p. splits cs p.part p.is p.shows }
     where
       into : (cs : List (Kind × Bool)) → Row v (label_row word.End) cs → Prefixes cs
       into cs h =
@@ -189,7 +184,7 @@ module _ (v : Bool) where
   end_many_is s m is = row_into v (label_row word.EndMany) (s.from, (tt, (m, (s.to, tt)))) (tt, (tt, (is.0.1, (tt, tt)))) is.1
 
   pub end_many_told : v ≡ true → IsToldBy (K.Reserved word.EndMany) (Row v (label_row word.EndMany)) Prefixes
-  end_many_told later = record { starts = form_starts word.EndMany label_rest; into = into; splits = λ cs p. splits cs p.part p.is p.shows }
+  end_many_told later = record { starts = node_starts v (the_reserved word.EndMany) label_rest; into = into; splits = λ cs p. splits cs p.part p.is p.shows }
     where
       into : (cs : List (Kind × Bool)) → Row v (label_row word.EndMany) cs → Prefixes cs
       into cs h =
@@ -205,7 +200,7 @@ module _ (v : Bool) where
   cast_is s m x a is = row_into v cast_row (s.from, (tt, (m, (tt, (tt, (x, (tt, (a, (tt, (s.to, tt)))))))))) (tt, (tt, (is.0.0, (tt, (tt, (tt, (tt, (is.0.1, (tt, (tt, tt)))))))))) is.1
 
   pub cast_told : IsToldBy (K.Reserved word.Cast) (Row v cast_row) Prefixes
-  cast_told = record { starts = form_starts word.Cast cast_rest; into = into; splits = λ cs p. splits cs p.part p.is p.shows }
+  cast_told = record { starts = node_starts v (the_reserved word.Cast) cast_rest; into = into; splits = λ cs p. splits cs p.part p.is p.shows }
     where
       into : (cs : List (Kind × Bool)) → Row v cast_row cs → Prefixes cs
       into cs h =
@@ -221,7 +216,7 @@ module _ (v : Bool) where
   new_is s x a is = row_into v new_row (s.from, (tt, (tt, (x, (tt, (a, (tt, (s.to, tt)))))))) (tt, (tt, (tt, (tt, (tt, (is.0, (tt, (tt, tt)))))))) is.1
 
   pub new_told : IsToldBy (K.Reserved word.New) (Row v new_row) Prefixes
-  new_told = record { starts = form_starts word.New new_rest; into = into; splits = λ cs p. splits cs p.part p.is p.shows }
+  new_told = record { starts = node_starts v (the_reserved word.New) new_rest; into = into; splits = λ cs p. splits cs p.part p.is p.shows }
     where
       into : (cs : List (Kind × Bool)) → Row v new_row cs → Prefixes cs
       into cs h =
@@ -248,7 +243,7 @@ module _ (v : Bool) where
       go (n.new s x a) is e = record { first = K.Reserved word.New; row = new_row; told = new_told; is = subst (Row v new_row) e (new_is s x a is); begins = (_, ap kinds (sym e)) }
 
   pub prefixes_good : IsGood Prefixes
-  prefixes_good = forms_good v Prefixes prefix_form (let r = form_starts word.Begin label_rest in (r.0, begin_told.into r.0 r.1))
+  prefixes_good = forms_good v Prefixes prefix_form (let r = node_starts v (the_reserved word.Begin) label_rest in (r.0, begin_told.into r.0 r.1))
 
   pub prefix_solid : (x : n.Prefix) (r : List Piece) → IsSolid (prefix_pieces x r)
   prefix_solid (n.split s m x a y b) r = tt
@@ -289,28 +284,16 @@ module _ (v : Bool) where
 
   -- ---- the answers of the readers of forms
 
+  pub prefix_reads : (ts : List Token) (i : ℕ) → AreWordsFit v (kinds_of ts) → (x : Span → n.Prefix) (s : Span) (j : ℕ) → s ≡ span_over ts i j → IsPrefix v (x (span_over ts i j)) → (row : List Sym) (xs : Values row) → whole_prefix (x (span_over ts i j)) ≡ row_pieces row xs []
+      → RowAt v ts i row xs j → (m : ℕ) × (j ≡ i + m) × exact.IsPartAt whole_prefix (IsWholePrefix v) (x s) (drop i ts) m
+  prefix_reads ts i = node_reads v whole_prefix (IsPrefix v) (λ x. prefix_solid x []) prefixes_good.closed ts i
+
   module _ (ts : List Token) (i : ℕ) where
-    pub form_fails : {V : Type 0} (view : V → n.Prefix) (w : Reserved) (row : List Sym) → IsToldBy (K.Reserved w) (Row v row) Prefixes → IsThere ts i (K.Reserved w) → (f : ParseFault) (r : Result (V × ℕ) ParseFault) → IsErrAnd r (λ e. e ≡ f)
-        → RowFails v ts i row f → exact.Reads view whole_prefix (IsWholePrefix v) r ts i
-    form_fails view w row told there f (Ok x) is h = absurd is
-    form_fails view w row told there f (Err e) is h = fails_to view whole_prefix (IsWholePrefix v) ts i e (subst (λ (g : ParseFault). FailsAt Prefixes ts i g) (sym is) (told_fail (K.Reserved w) (Row v row) Prefixes told ts i there f h.by))
-
-    -- a form is begun by its first token
-    pub begun_form : AreWordsFit v (kinds_of ts) → (w : Reserved) (rest : List Sym) → IsThere ts i (K.Reserved w) → Reached v ts i (form w rest) rest (λ (xs : Values rest). (start_of ts i, (tt, xs))) (i + 1)
-    begun_form fit w rest there = then_token (then_opening (begun v ts i (form w rest) fit) (there_before ts i (K.Reserved w) there)) (i + 1) (there, refl)
-
-    pub prefix_reads : AreWordsFit v (kinds_of ts) → (x : Span → n.Prefix) (s : Span) (j : ℕ) → s ≡ span_over ts i j → IsPrefix v (x (span_over ts i j)) → (row : List Sym) (xs : Values row) → whole_prefix (x (span_over ts i j)) ≡ row_pieces row xs [] → RowAt v ts i row xs j
-        → (m : ℕ) × (j ≡ i + m) × exact.IsPartAt whole_prefix (IsWholePrefix v) (x s) (drop i ts) m
-    prefix_reads fit x s j spans formed row xs are r =
-        let y = x (span_over ts i j) in
-        let stands = subst (λ (l : List Piece). Stands ts i l j) (sym are) r.stands in
-        subst (λ (z : Span). (m : ℕ) × (j ≡ i + m) × exact.IsPartAt whole_prefix (IsWholePrefix v) (x z) (drop i ts) m) (sym spans)
-        (part_at whole_prefix (IsWholePrefix v) y ts i j (formed, fits_at v ts (whole_prefix y) i j fit stands) (prefix_solid y []) prefixes_good.closed stands)
-
     pub label_reads : AreWordsFit v (kinds_of ts) → (x : Span → n.Prefix) (s : Span) (j : ℕ) → s ≡ span_over ts i j → (w : Reserved) → IsThere ts i (K.Reserved w) → (m : t.Msg) → (h : (k : ℕ) × (j ≡ (i + 1) + k) × exact.IsPartAt whole_message (IsWholeMessage v) m (drop (i + 1) ts) k)
         → IsPrefix v (x (span_over ts i j)) → whole_prefix (x (span_over ts i j)) ≡ row_pieces (label_row w) (start_of ts i, (tt, (m, (end_before ts j, tt)))) [] → (k : ℕ) × (j ≡ i + k) × exact.IsPartAt whole_prefix (IsWholePrefix v) (x s) (drop i ts) k
     label_reads fit x s j spans w there m h formed are =
-        prefix_reads fit x s j spans formed (label_row w) (start_of ts i, (tt, (m, (end_before ts j, tt)))) are (ended (then_closing (then_message (begun_form fit w label_rest there) m j (there_within ts i (K.Reserved w) there) h)))
+        prefix_reads ts i fit x s j spans formed (label_row w) (start_of ts i, (tt, (m, (end_before ts j, tt)))) are
+        (ended (then_closing (then_message (begun_node v ts i fit (the_reserved w) label_rest there) m j (there_within ts i (K.Reserved w) there) h)))
 
 -- a prefix that is read, where it stands
 pub prefix_stands : (v : Bool) (ts : List Token) (i : ℕ) (x : n.Prefix) (j : ℕ) → i ≤ length ts → (r : (m : ℕ) × (j ≡ i + m) × exact.IsPartAt whole_prefix (IsWholePrefix v) x (drop i ts) m) → Stands ts i (whole_prefix x) j

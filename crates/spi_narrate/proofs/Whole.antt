@@ -1,5 +1,5 @@
 -- Whole narrations: the version, the declarations, the shared names, the roles and the lines.
-use Rattle.std.proofs.Common.{◌≡◌, ℕ, Bool, true, false, List, [], ◌∷◌, ◌++◌, refl, sym, ap, subst, ◌∙◌, append_assoc, append-nil, codes, ◌⊎◌, inl, inr}
+use Rattle.std.proofs.Common.{◌≡◌, ◌==◌, ℕ, Bool, true, false, List, [], ◌∷◌, ◌++◌, refl, sym, ap, subst, ◌∙◌, append_assoc, append-nil, codes, ◌⊎◌, inl, inr}
 use Rattle.std.specs.List.{AllByRecursion}
 use Rattle.spi_lex.specs.declared.token.Kind.{Kind}
 use Rattle.spi_lex.specs.declared.token.Kind.TheVariants as K
@@ -176,6 +176,9 @@ closed_cells ps to = cells_append ps (closes to ∷ []) ∙ append-nil (cells ps
 closed_kinds : (ps : List Piece) (to : ℕ) → kinds_in (ps ++ closes to ∷ []) ≡ kinds_in ps
 closed_kinds ps to = kinds_in_append ps (closes to ∷ []) ∙ append-nil (kinds_in ps)
 
+formed_body : (v : ℕ) (cs : Cells) (b : FromBody (v == 2) cs) → (v ≡ 1) ⊎ (v ≡ 2) → AreWordsFit (v == 2) (kinds_in (whole_narration (of_version v nowhere b.decls b.shared b.roles b.lines))) → IsNarration (of_version v nowhere b.decls b.shared b.roles b.lines)
+formed_body v cs b known words = record { version = known; decls = b.decls_are; shared = b.shared_are; roles = b.has_role; lines = b.lines_are; words = words }
+
 there : (cs : Cells) → Either (Later Fronts) (Fronts false) cs → Narrations cs
 there cs (inl k) =
     let b = body_from true k.right k.two in
@@ -185,14 +188,7 @@ there cs (inl k) =
     let rest = body ++ closes 0 ∷ [] in
     record {
       part = x;
-      is = record {
-        version = inr refl;
-        decls = b.decls_are;
-        shared = b.shared_are;
-        roles = b.has_role;
-        lines = b.lines_are;
-        words = subst (λ (l : List Piece). AreWordsFit true (kinds_in l)) (sym (later_pieces nowhere b.decls b.shared b.roles b.lines)) (both_fit true version_are rest r.fit (subst (AreWordsFit true) (sym (closed_kinds body 0)) b.fit));
-      };
+      is = formed_body 2 k.right b (inr refl) (subst (λ (l : List Piece). AreWordsFit true (kinds_in l)) (sym (later_pieces nowhere b.decls b.shared b.roles b.lines)) (both_fit true version_are rest r.fit (subst (AreWordsFit true) (sym (closed_kinds body 0)) b.fit)));
       shows = ap cells (later_pieces nowhere b.decls b.shared b.roles b.lines) ∙ both_cells version_are rest k.left k.right r.shows (closed_cells body 0 ∙ b.shows) ∙ sym k.cells;
     }
 there cs (inr k) =
@@ -201,14 +197,7 @@ there cs (inr k) =
     let body = body_pieces b.decls b.shared b.roles b.lines in
     record {
       part = x;
-      is = record {
-        version = inl refl;
-        decls = b.decls_are;
-        shared = b.shared_are;
-        roles = b.has_role;
-        lines = b.lines_are;
-        words = subst (λ (l : List Piece). AreWordsFit false (kinds_in l)) (sym (first_pieces nowhere b.decls b.shared b.roles b.lines)) (subst (AreWordsFit false) (sym (closed_kinds body 0)) b.fit);
-      };
+      is = formed_body 1 cs b (inl refl) (subst (λ (l : List Piece). AreWordsFit false (kinds_in l)) (sym (first_pieces nowhere b.decls b.shared b.roles b.lines)) (subst (AreWordsFit false) (sym (closed_kinds body 0)) b.fit));
       shows = ap cells (first_pieces nowhere b.decls b.shared b.roles b.lines) ∙ closed_cells body 0 ∙ b.shows;
     }
 

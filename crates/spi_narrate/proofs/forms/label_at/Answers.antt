@@ -9,20 +9,22 @@ use Rattle.spi_tree.specs.declared.tree.SMsg.{SMsg}
 use Rattle.spi_tree.specs.Views.{msg_of, ty_of}
 use Rattle.spi_heading.specs.declared.shared.Named.{Named}
 use Rattle.spi_heading.specs.Views.{named_of}
-use Rattle.spi_heading.proofs.Symbols.{token, message, closing, the_mark}
+use Rattle.spi_heading.proofs.Symbols.{token, message, closing, the_mark, the_reserved}
 use Rattle.spi_heading.proofs.RowParts.{then_part, no_part}
 use Rattle.spi_heading.proofs.Reached.{ended, then_message, then_token, then_closing, no_message, no_token}
 use Rattle.spi_heading.proofs.Calls.{there_within, message_within}
+use Rattle.spi_heading.proofs.Nodes.{begun_node, node_fails}
 use Rattle.spi_narrate.specs.Narrations as n
+use Rattle.spi_narrate.specs.Grammar.{whole_prefix, IsPrefix}
 use Rattle.spi_narrate.specs.Views.{prefix_of}
 use Rattle.spi_narrate.proofs.FormParts.{closed_row, whole_are, bound_are, closed_are}
-use Rattle.spi_narrate.proofs.Prefixes.{label_told, label_row, label_rest, last_label, label_reads, form_fails, begun_form}
+use Rattle.spi_narrate.proofs.Prefixes.{label_told, label_row, label_rest, last_label, label_reads}
 use Rattle.spi_narrate.proofs.forms.label_at.Goals as goal
 
 pub returns-in_err-label : goal.returns-in_err-label
 returns-in_err-label c =
-    form_fails (c.args.version == 2) c.args.tokens.now c.args.at prefix_of c.args.form (label_row c.args.form) (label_told (c.args.version == 2) c.args.form c.requires.form) c.requires.first c.in_err-label.field-0.0 c.from_residual.result c.from_residual.ensures.1
-    (no_message (begun_form (c.args.version == 2) c.args.tokens.now c.args.at c.requires.words c.args.form label_rest c.requires.first) msg_of c.in_err-label.field-0.0 c.in_err-label.ensures)
+    node_fails (c.args.version == 2) whole_prefix (IsPrefix (c.args.version == 2)) prefix_of (K.Reserved c.args.form) (label_row c.args.form) (label_told (c.args.version == 2) c.args.form c.requires.form) c.args.tokens.now c.args.at c.requires.first c.in_err-label.field-0.0 c.from_residual.result c.from_residual.ensures.1
+    (no_message (begun_node (c.args.version == 2) c.args.tokens.now c.args.at c.requires.words (the_reserved c.args.form) label_rest c.requires.first) msg_of c.in_err-label.field-0.0 c.in_err-label.ensures)
 
 pub returns-in-Begin : goal.returns-in-Begin
 returns-in-Begin c = label_reads (c.args.version == 2) c.args.tokens.now c.args.at c.requires.words (λ (s : Span). n.begin s (msg_of c.in_ok-label.label)) c.span_between-span.result c.in_ok-label.next c.span_between-span.ensures word.Begin (subst (λ (w : Reserved). IsThere c.args.tokens.now c.args.at (K.Reserved w)) c.in-Begin.is c.requires.first) (msg_of c.in_ok-label.label) c.in_ok-label.ensures c.in_ok-label.ensures.2.part.0 refl

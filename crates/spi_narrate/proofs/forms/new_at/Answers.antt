@@ -7,26 +7,28 @@ use Rattle.spi_tree.specs.declared.tree.SMsg.{SMsg}
 use Rattle.spi_tree.specs.Views.{msg_of, ty_of}
 use Rattle.spi_heading.specs.declared.shared.Named.{Named}
 use Rattle.spi_heading.specs.Views.{named_of}
-use Rattle.spi_heading.proofs.Symbols.{token, message, closing, the_mark}
+use Rattle.spi_heading.proofs.Symbols.{token, message, closing, the_mark, the_reserved}
 use Rattle.spi_heading.proofs.RowParts.{then_part, no_part}
 use Rattle.spi_heading.proofs.Reached.{ended, then_message, then_token, then_closing, no_message, no_token}
 use Rattle.spi_heading.proofs.Calls.{there_within, message_within}
+use Rattle.spi_heading.proofs.Nodes.{begun_node, node_fails}
 use Rattle.spi_narrate.specs.Narrations as n
+use Rattle.spi_narrate.specs.Grammar.{whole_prefix, IsPrefix}
 use Rattle.spi_narrate.specs.Views.{prefix_of}
 use Rattle.spi_narrate.proofs.FormParts.{closed_row, whole_are, bound_are, closed_are}
-use Rattle.spi_narrate.proofs.Prefixes.{new_told, new_row, new_rest, form_fails, begun_form, prefix_reads}
+use Rattle.spi_narrate.proofs.Prefixes.{new_told, new_row, new_rest, prefix_reads}
 use Rattle.spi_narrate.proofs.forms.new_at.Goals as goal
 
 pub returns-in_err-named : goal.returns-in_err-named
 returns-in_err-named c =
-    form_fails (c.args.version == 2) c.args.tokens.now c.args.at prefix_of word.New new_row (new_told (c.args.version == 2)) c.requires.first c.in_err-named.field-0.0 c.from_residual.result c.from_residual.ensures.1
-    (no_part (closing ∷ []) (closed_are (c.args.version == 2) mark.ParenOpen) (begun_form (c.args.version == 2) c.args.tokens.now c.args.at c.requires.words word.New new_rest c.requires.first) named_of c.in_err-named.field-0.0 c.in_err-named.ensures.read)
+    node_fails (c.args.version == 2) whole_prefix (IsPrefix (c.args.version == 2)) prefix_of (K.Reserved word.New) new_row (new_told (c.args.version == 2)) c.args.tokens.now c.args.at c.requires.first c.in_err-named.field-0.0 c.from_residual.result c.from_residual.ensures.1
+    (no_part (closing ∷ []) (closed_are (c.args.version == 2) mark.ParenOpen) (begun_node (c.args.version == 2) c.args.tokens.now c.args.at c.requires.words (the_reserved word.New) new_rest c.requires.first) named_of c.in_err-named.field-0.0 c.in_err-named.ensures.read)
 
 pub returns : goal.returns
 returns c =
-    let named = then_part (closing ∷ []) (closed_are (c.args.version == 2) mark.ParenOpen) (begun_form (c.args.version == 2) c.args.tokens.now c.args.at c.requires.words word.New new_rest c.requires.first) (named_of c.in_ok-named.named) c.in_ok-named.next (there_within c.args.tokens.now c.args.at (K.Reserved word.New) c.requires.first) c.in_ok-named.ensures.read in
+    let named = then_part (closing ∷ []) (closed_are (c.args.version == 2) mark.ParenOpen) (begun_node (c.args.version == 2) c.args.tokens.now c.args.at c.requires.words (the_reserved word.New) new_rest c.requires.first) (named_of c.in_ok-named.named) c.in_ok-named.next (there_within c.args.tokens.now c.args.at (K.Reserved word.New) c.requires.first) c.in_ok-named.ensures.read in
     prefix_reads (c.args.version == 2) c.args.tokens.now c.args.at c.requires.words (λ (s : Span). n.new s c.in_ok-named.named.name (ty_of c.in_ok-named.named.ty)) c.span_between-span.result c.in_ok-named.next c.span_between-span.ensures c.in_ok-named.ensures.read.2.part.0 new_row _ refl
-    (ended (then_closing (named)))
+    (ended (then_closing named))
 
 pub closed_at-requires-clause-start : goal.closed_at-requires-clause-start
 closed_at-requires-clause-start c = there_within c.args.tokens.now c.args.at (K.Reserved word.New) c.requires.first

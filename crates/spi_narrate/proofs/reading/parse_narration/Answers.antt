@@ -52,32 +52,21 @@ returns-in_err-shared c =
 pub returns-in_err-roles : goal.returns-in_err-roles
 returns-in_err-roles c =
     let r : ℕ × ℕ = (c.in_ok-version.version, c.in_ok-version.start) in
-    let ds = map decl_of c.in_ok-decls.decls.items in
-    let ss = map shared_of c.in_ok-shared.shared.items in
-    let k = c.in_ok-shared.roles_start in
-    let front = behind_front narrations_headed c.args.tokens.now c.requires.words r c.in_ok-version.ensures.read c.in_ok-version.ensures.within ds c.in_ok-decls.shared_start c.in_ok-decls.ensures ss k c.in_ok-shared.ensures in
-    let f = c.in_err-roles.field-0.0 in
-    parse_fails narration_of c.args.tokens.now f c.from_residual-in_err-roles.result c.from_residual-in_err-roles.ensures.1
-    (roles_fault (r.0 == 2) c.args.tokens.now (version_fits c.args.tokens.now c.requires.words r c.in_ok-version.ensures.read) k front f (fails_from roles_of whole_roles (AreWholeRoles (r.0 == 2)) c.args.tokens.now k f c.in_err-roles.ensures))
+    let front = behind_front narrations_headed c.args.tokens.now c.requires.words r c.in_ok-version.ensures.read c.in_ok-version.ensures.within (map decl_of c.in_ok-decls.decls.items) c.in_ok-decls.shared_start c.in_ok-decls.ensures (map shared_of c.in_ok-shared.shared.items) c.in_ok-shared.roles_start c.in_ok-shared.ensures in
+    let fault = fails_from roles_of whole_roles (AreWholeRoles (r.0 == 2)) c.args.tokens.now c.in_ok-shared.roles_start c.in_err-roles.field-0.0 c.in_err-roles.ensures in
+    parse_fails narration_of c.args.tokens.now c.in_err-roles.field-0.0 c.from_residual-in_err-roles.result c.from_residual-in_err-roles.ensures.1
+    (roles_fault (r.0 == 2) c.args.tokens.now (version_fits c.args.tokens.now c.requires.words r c.in_ok-version.ensures.read) c.in_ok-shared.roles_start front c.in_err-roles.field-0.0 fault)
   where
     roles_of : SWord × Vec SWord → List SWord
     roles_of x = x.0 ∷ x.1.items
 
 pub returns-in_err-lines : goal.returns-in_err-lines
 returns-in_err-lines c =
-    let ts = c.args.tokens.now in
     let r : ℕ × ℕ = (c.in_ok-version.version, c.in_ok-version.start) in
-    let v = r.0 == 2 in
-    let ds = map decl_of c.in_ok-decls.decls.items in
-    let ss = map shared_of c.in_ok-shared.shared.items in
-    let k = c.in_ok-shared.roles_start in
-    let front = behind_front narrations_headed ts c.requires.words r c.in_ok-version.ensures.read c.in_ok-version.ensures.within ds c.in_ok-decls.shared_start c.in_ok-decls.ensures ss k c.in_ok-shared.ensures in
-    let w = c.in_ok-roles.roles.0 in
-    let ws = c.in_ok-roles.roles.1.items in
-    let roles = roles_read v ts w ws k c.in_ok-roles.lines_start c.in_ok-shared.ensures.0.within c.in_ok-roles.ensures in
-    let f = c.in_err-lines.field-0.0 in
-    parse_fails narration_of ts f c.from_residual-in_err-lines.result c.from_residual-in_err-lines.ensures.1
-    (lines_answer v ts (version_fits ts c.requires.words r c.in_ok-version.ensures.read) w ws k c.in_ok-roles.lines_start roles.1 roles.0 front f c.in_err-lines.ensures)
+    let front = behind_front narrations_headed c.args.tokens.now c.requires.words r c.in_ok-version.ensures.read c.in_ok-version.ensures.within (map decl_of c.in_ok-decls.decls.items) c.in_ok-decls.shared_start c.in_ok-decls.ensures (map shared_of c.in_ok-shared.shared.items) c.in_ok-shared.roles_start c.in_ok-shared.ensures in
+    let roles = roles_read (r.0 == 2) c.args.tokens.now c.in_ok-roles.roles.0 c.in_ok-roles.roles.1.items c.in_ok-shared.roles_start c.in_ok-roles.lines_start c.in_ok-shared.ensures.0.within c.in_ok-roles.ensures in
+    parse_fails narration_of c.args.tokens.now c.in_err-lines.field-0.0 c.from_residual-in_err-lines.result c.from_residual-in_err-lines.ensures.1
+    (lines_answer (r.0 == 2) c.args.tokens.now (version_fits c.args.tokens.now c.requires.words r c.in_ok-version.ensures.read) c.in_ok-roles.roles.0 c.in_ok-roles.roles.1.items c.in_ok-shared.roles_start c.in_ok-roles.lines_start roles.1 roles.0 front c.in_err-lines.field-0.0 c.in_err-lines.ensures)
 
 pub returns : goal.returns
 returns c =
