@@ -1,10 +1,7 @@
 -- Reading a bench part after part.
-use Rattle.std.proofs.Common.{◌≡◌, ℕ, ◌<◌, ◌==◌, Bool, true, false, List, [], ◌∷◌, ◌++◌, length, Result, Ok, Err, refl, sym, ap, subst, ◌∙◌, ◌⊎◌, inl, inr, arith}
+use Rattle.std.proofs.Common.{◌≡◌, ℕ, ◌<◌, ◌==◌, Bool, false, List, [], ◌∷◌, ◌++◌, length, Result, Ok, Err, refl, sym, ap, subst, ◌∙◌, ◌⊎◌, inl, inr, arith}
 use Rattle.std.specs.Result.{IsErrAnd}
 use Rattle.std.proofs.Math.Seq.{drop-length}
-use Rattle.spi_lex.specs.declared.token.Kind.{Kind}
-use Rattle.spi_lex.specs.declared.token.Kind.TheVariants as K
-use Rattle.spi_lex.specs.declared.token.Reserved.TheVariants as word
 use Rattle.spi_lex.specs.declared.token.Token.{Token}
 use Rattle.spi_lex.specs.Lexing.{kinds_of, is_version_2}
 use Rattle.spi_text.specs.declared.lines.Span.{Span}
@@ -14,21 +11,17 @@ use Rattle.spi_tree.specs.Formed.{AreWordsFit, IsDeclared}
 use Rattle.spi_parse.specs.Bare.{nowhere}
 use Rattle.spi_parse.specs.declared.fault.ParseFault.{ParseFault}
 use Rattle.spi_parse.specs.Exact as exact
-use Rattle.spi_grammar.specs.Exactly.{Nothing}
 use Rattle.spi_parts.proofs.Behind.{decl_behind}
-use Rattle.spi_parts.proofs.Alone.{Decls}
 use Rattle.spi_heading.specs.Headings as h
 use Rattle.spi_heading.specs.Spans.{span_over}
-use Rattle.spi_heading.specs.Taking.{IsThere, ReadsVersion}
+use Rattle.spi_heading.specs.Taking.{ReadsVersion}
 use Rattle.spi_heading.specs.Each.{each_pieces, FailsWhole}
-use Rattle.spi_heading.specs.Grammar.{shared_word, shared_pieces, IsShared, BeginsDecl, BeginsShared}
-use Rattle.spi_heading.proofs.Standing.{Stands, stands_both, spelled, unfound, one_there, within_one, IsSolid, decl_solid}
-use Rattle.spi_heading.proofs.Failing.{FailsAt}
+use Rattle.spi_heading.specs.Grammar.{shared_pieces, IsShared}
+use Rattle.spi_heading.proofs.Standing.{Stands, stands_both, spelled, within_one, IsSolid, decl_solid}
 use Rattle.spi_heading.proofs.Rows.{fits_at}
 use Rattle.spi_heading.proofs.Each.{Along}
-use Rattle.spi_heading.proofs.Names.{Shareds, shared_behind, shared_solid}
-use Rattle.spi_heading.proofs.Wholes.{WholeFails, Rest, many_fault, many_end, each_next, whole_fails}
-use Rattle.spi_heading.proofs.Firsts.{decls_begin, decls_some, decls_good, shareds_begin, shareds_some, shareds_good}
+use Rattle.spi_heading.proofs.Names.{shared_behind, shared_solid}
+use Rattle.spi_heading.proofs.Wholes.{WholeFails, whole_fails}
 use Rattle.spi_heading.proofs.Versions.{version_row_at, version_fits, version_known}
 use Rattle.spi_edits.specs.Edits.{Edit, Bench}
 use Rattle.spi_edits.specs.Grammar.{edit_pieces, IsEdit, bench_pieces, placed, whole_bench, IsBench}

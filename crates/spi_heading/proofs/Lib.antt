@@ -5,6 +5,7 @@ pub mod Rows
 pub mod Calls
 pub mod Names
 pub mod Each
+pub mod Loops
 pub mod Told
 pub mod Wholes
 pub mod Manys

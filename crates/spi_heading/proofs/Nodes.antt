@@ -1,11 +1,11 @@
 -- Nodes that begin with a token that tells them: a row that opens, that token, and the rest of the row.
-use Rattle.std.proofs.Common.{◌≡◌, ℕ, ◌+◌, Bool, false, List, [], ◌∷◌, drop, Result, Ok, Err, refl, sym, subst}
+use Rattle.std.proofs.Common.{◌≡◌, ℕ, ◌+◌, Bool, false, List, [], ◌∷◌, drop, Result, Ok, Err, refl, sym, ap, subst, ◌∙◌, ◌⊎◌, inl, inr}
 use Rattle.std.specs.Result.{IsErrAnd}
 use Rattle.spi_lex.specs.declared.token.Kind.{Kind}
 use Rattle.spi_lex.specs.declared.token.Token.{Token}
 use Rattle.spi_lex.specs.Lexing.{kinds_of}
 use Rattle.spi_text.specs.declared.lines.Span.{Span}
-use Rattle.spi_tree.specs.Pieces.{Piece, kinds_in}
+use Rattle.spi_tree.specs.Pieces.{Piece, cells, kinds_in}
 use Rattle.spi_tree.specs.Formed.{AreWordsFit}
 use Rattle.spi_parse.specs.declared.fault.ParseFault.{ParseFault}
 use Rattle.spi_parse.specs.Exact as exact
@@ -16,7 +16,7 @@ use Rattle.spi_heading.specs.Taking.{IsThere}
 use Rattle.spi_heading.proofs.Standing.{Stands, IsSolid}
 use Rattle.spi_heading.proofs.Failing.{FailsAt, IsToldBy, told_fail, fails_to}
 use Rattle.spi_heading.proofs.Symbols.{Sym, token, opening, Tok, kind_of}
-use Rattle.spi_heading.proofs.Rows.{Values, Row, row_good, row_pieces, RowAt, RowFails, fits_at}
+use Rattle.spi_heading.proofs.Rows.{Values, AreItems, Row, row_good, row_pieces, row_from, RowAt, RowFails, fits_at}
 use Rattle.spi_heading.proofs.Calls.{part_at, there_before}
 use Rattle.spi_heading.proofs.Reached.{Reached, begun, then_token, then_opening}
 
@@ -32,6 +32,20 @@ node_starts v x rest =
 
 pub begun_node : (v : Bool) (ts : List Token) (i : ℕ) → AreWordsFit v (kinds_of ts) → (x : Tok) (rest : List Sym) → IsThere ts i (kind_of x) → Reached v ts i (node_row x rest) rest (λ (xs : Values rest). (start_of ts i, (tt, xs))) (i + 1)
 begun_node v ts i fit x rest there = then_token (then_opening (begun v ts i (node_row x rest) fit) (there_before ts i (kind_of x) there)) (i + 1) (there, refl)
+
+-- parts that are such nodes, among those that are others
+pub node_told : (v : Bool) {X : Type 0} (pieces : X → List Piece) (P : X → Type 0) (w : Tok) (rest : List Sym) (part : Values (node_row w rest) → X)
+    → ((xs : Values (node_row w rest)) → AreItems v (node_row w rest) xs → AreWordsFit v (kinds_in (row_pieces (node_row w rest) xs [])) → P (part xs))
+    → ((xs : Values (node_row w rest)) → cells (pieces (part xs)) ≡ cells (row_pieces (node_row w rest) xs []))
+    → ((x : X) → P x → Row v (node_row w rest) (cells (pieces x)) ⊎ ((y : List Kind) → kinds (cells (pieces x)) ≡ kind_of w ∷ y → ⊥)) → IsToldBy (kind_of w) (Row v (node_row w rest)) (OfPieces pieces P)
+node_told v pieces P w rest part formed shows either = record { starts = node_starts v w rest; into = into; splits = λ cs p. splits cs p (either p.part p.is) }
+  where
+    into : (cs : List (Kind × Bool)) → Row v (node_row w rest) cs → OfPieces pieces P cs
+    into cs h = let r = row_from v (node_row w rest) cs h in record { part = part r.values; is = formed r.values r.are r.fit; shows = shows r.values ∙ r.shows }
+
+    splits : (cs : List (Kind × Bool)) (p : OfPieces pieces P cs) → Row v (node_row w rest) (cells (pieces p.part)) ⊎ ((y : List Kind) → kinds (cells (pieces p.part)) ≡ kind_of w ∷ y → ⊥) → Row v (node_row w rest) cs ⊎ ((y : List Kind) → kinds cs ≡ kind_of w ∷ y → ⊥)
+    splits cs p (inl r) = inl (subst (Row v (node_row w rest)) p.shows r)
+    splits cs p (inr none) = inr (λ y g. none y (ap kinds p.shows ∙ g))
 
 -- ---- the answers of their readers
 

@@ -1,5 +1,5 @@
 -- The parts that forms share, as rows: `M is`, `M is (x: T` and `(x: T)`, with any mark before the name.
-use Rattle.std.proofs.Common.{◌==◌, Bool, false, List, [], ◌∷◌, ◌++◌, refl}
+use Rattle.std.proofs.Common.{Bool, false, List, [], ◌∷◌, ◌++◌, refl}
 use Rattle.spi_lex.specs.declared.token.Mark.{Mark}
 use Rattle.spi_lex.specs.declared.token.Mark.TheVariants as mark
 use Rattle.spi_lex.specs.declared.token.Reserved.TheVariants as word

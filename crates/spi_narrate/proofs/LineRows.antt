@@ -28,6 +28,7 @@ use Rattle.spi_heading.proofs.Failing.{FailsAt, IsToldBy, told_fail, same_fail, 
 use Rattle.spi_heading.proofs.Symbols.{cells_append, Sym, token, name, message, opening, closing, the_mark, the_word, to, on, as_}
 use Rattle.spi_heading.proofs.Rows.{Values, Row, row_good, row_pieces, row_into, row_from, row_behind, row_read, RowAt, RowFails, row_end, row_more, opened, closed, fits_at, stands_read}
 use Rattle.spi_heading.proofs.Calls.{part_at, took, took_word, there_before}
+use Rattle.spi_heading.proofs.Versions.{Cells}
 use Rattle.spi_heading.proofs.Wholes.{none_fail}
 use Rattle.spi_heading.proofs.Manys.{both_fit, both_cells}
 use Rattle.spi_heading.proofs.RowParts.{AreRows}
@@ -61,9 +62,6 @@ pub local_are : (s : Span) (w : SWord) (x : n.Prefix) → whole_line (n.local s 
 local_are s w x = ap (λ (l : List Piece). opens s.from ∷ opens w.span.from ∷ cell (K.Word w.word) false ∷ closes w.span.to ∷ cell (K.Mark mark.Colon) false ∷ l) (prefix_behind true x (a_mark mark.Semicolon (ends s [])))
 
 module _ (v : Bool) where
-  abbrev Cells : Type 0
-  Cells = List (Kind × Bool)
-
   abbrev pub Tail : Cells → Type 0
   Tail = Then (Prefixes v) (Row v tail_row)
 

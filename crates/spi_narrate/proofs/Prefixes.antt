@@ -1,6 +1,5 @@
 -- The forms of what a role does by itself, as rows, each told by its first token.
-use Rattle.std.proofs.Common.{◌≡◌, ℕ, ◌+◌, ◌≤◌, Bool, true, false, List, [], ◌∷◌, ◌++◌, length, drop, Option, Some, Result, Ok, Err, refl, sym, ap, subst, ◌∙◌, ◌⊎◌, inl, inr}
-use Rattle.std.specs.Result.{IsErrAnd}
+use Rattle.std.proofs.Common.{◌≡◌, ℕ, ◌+◌, ◌≤◌, Bool, true, List, [], ◌∷◌, ◌++◌, length, drop, Option, Some, Err, refl, sym, ap, subst, ◌∙◌, ◌⊎◌, inl, inr}
 use Rattle.spi_lex.specs.declared.token.Kind.{Kind}
 use Rattle.spi_lex.specs.declared.token.Kind.TheVariants as K
 use Rattle.spi_lex.specs.declared.token.Mark.TheVariants as mark
@@ -13,20 +12,19 @@ use Rattle.spi_text.specs.declared.lines.Span.{Span}
 use Rattle.spi_tree.specs.Trees as t
 use Rattle.spi_tree.specs.Pieces.{Piece, cells}
 use Rattle.spi_tree.specs.Formed.{AreWordsFit}
-use Rattle.spi_parse.specs.declared.fault.ParseFault.{ParseFault}
 use Rattle.spi_parse.specs.Formed.{whole_message, IsWholeMessage}
 use Rattle.spi_parse.specs.Exact as exact
 use Rattle.spi_grammar.specs.Exactly.{kinds, IsGood}
 use Rattle.spi_parts.proofs.Bridge.{OfPieces}
 use Rattle.spi_heading.specs.Spans.{start_of, end_before, span_over}
 use Rattle.spi_heading.specs.Taking.{IsThere}
-use Rattle.spi_heading.proofs.Failing.{FailsAt, IsToldBy, told_fail, fails_to}
-use Rattle.spi_heading.proofs.Symbols.{Sym, token, name, message, ty, opening, closing, the_mark, the_reserved}
-use Rattle.spi_heading.proofs.Rows.{Values, Row, row_good, row_pieces, row_into, row_from, row_behind, RowAt, RowFails, fits_at}
+use Rattle.spi_heading.proofs.Failing.{IsToldBy, fails_to}
+use Rattle.spi_heading.proofs.Symbols.{Sym, token, name, message, ty, closing, the_mark, the_reserved}
+use Rattle.spi_heading.proofs.Rows.{Values, Row, row_pieces, row_into, row_behind, RowAt}
 use Rattle.spi_heading.proofs.Standing.{Stands, IsSolid}
-use Rattle.spi_heading.proofs.Calls.{part_at, part_stands, there_before, there_within}
-use Rattle.spi_heading.proofs.Reached.{Reached, begun, ended, then_token, then_opening, then_message, then_closing}
-use Rattle.spi_heading.proofs.Nodes.{node_row, node_starts, begun_node, node_reads}
+use Rattle.spi_heading.proofs.Calls.{part_stands, there_within}
+use Rattle.spi_heading.proofs.Reached.{ended, then_message, then_closing}
+use Rattle.spi_heading.proofs.Nodes.{node_row, node_starts, node_told, begun_node, node_reads}
 use Rattle.spi_heading.proofs.Told.{FormOf, forms_good}
 use Rattle.spi_heading.proofs.Wholes.{none_fail}
 use Rattle.spi_grammar.proofs.Good.{IsSome}
@@ -88,145 +86,91 @@ module _ (v : Bool) where
   split_is s m x a y b is = row_into v split_row (s.from, (tt, (m, (tt, (tt, (x, (tt, (a, (tt, (y, (tt, (b, (tt, (s.to, tt)))))))))))))) (tt, (tt, (is.0.0, (tt, (tt, (tt, (tt, (is.0.1, (tt, (tt, (tt, (is.0.2, (tt, (tt, tt)))))))))))))) is.1
 
   pub split_told : IsToldBy (K.Reserved word.Split) (Row v split_row) Prefixes
-  split_told = record { starts = node_starts v (the_reserved word.Split) split_rest; into = into; splits = λ cs p. splits cs p.part p.is p.shows }
+  split_told = node_told v whole_prefix (IsWholePrefix v) (the_reserved word.Split) split_rest (λ x. n.split (record { from = x.0; to = x.1.1.1.1.1.1.1.1.1.1.1.1.1.0 }) x.1.1.0 x.1.1.1.1.1.0 x.1.1.1.1.1.1.1.0 x.1.1.1.1.1.1.1.1.1.0 x.1.1.1.1.1.1.1.1.1.1.1.0) (λ x are fit. ((are.1.1.0, are.1.1.1.1.1.1.1.0, are.1.1.1.1.1.1.1.1.1.1.1.0), fit)) (λ x. refl) either
     where
-      into : (cs : List (Kind × Bool)) → Row v split_row cs → Prefixes cs
-      into cs h =
-          let r = row_from v split_row cs h in
-          let x = r.values in
-          record { part = n.split (record { from = x.0; to = x.1.1.1.1.1.1.1.1.1.1.1.1.1.0 }) x.1.1.0 x.1.1.1.1.1.0 x.1.1.1.1.1.1.1.0 x.1.1.1.1.1.1.1.1.1.0 x.1.1.1.1.1.1.1.1.1.1.1.0; is = ((r.are.1.1.0, r.are.1.1.1.1.1.1.1.0, r.are.1.1.1.1.1.1.1.1.1.1.1.0), r.fit); shows = r.shows }
-
-      splits : (cs : List (Kind × Bool)) (p : n.Prefix) → IsWholePrefix v p → cells (whole_prefix p) ≡ cs → Row v split_row cs ⊎ ((x : List Kind) → kinds cs ≡ K.Reserved word.Split ∷ x → ⊥)
-      splits cs (n.split s m x a y b) is e = inl (subst (Row v split_row) e (split_is s m x a y b is))
-      splits cs p is e = inr (λ x g. let both : kinds (cells (whole_prefix p)) ≡ K.Reserved word.Split ∷ x = ap kinds e ∙ g in cc)
+      either : (x : n.Prefix) → IsWholePrefix v x → Row v split_row (cells (whole_prefix x)) ⊎ ((y : List Kind) → kinds (cells (whole_prefix x)) ≡ K.Reserved word.Split ∷ y → ⊥)
+      either (n.split s m x a y b) is = inl (split_is s m x a y b is)
+      either x is = inr (λ y g. cc)
 
   match_is : (s : Span) (m : t.Msg) (x : SWord) (a : t.Ty) (k : t.Msg) (y : SWord) (b : t.Ty) → IsWholePrefix v (n.match s m x a k y b) → Row v match_row (cells (whole_prefix (n.match s m x a k y b)))
   match_is s m x a k y b is = row_into v match_row (s.from, (tt, (m, (tt, (tt, (x, (tt, (a, (tt, (k, (tt, (y, (tt, (b, (tt, (s.to, tt)))))))))))))))) (tt, (tt, (is.0.0, (tt, (tt, (tt, (tt, (is.0.1, (tt, (is.0.2, (tt, (tt, (tt, (is.0.3, (tt, (tt, tt)))))))))))))))) is.1
 
   pub match_told : IsToldBy (K.Reserved word.Match) (Row v match_row) Prefixes
-  match_told = record { starts = node_starts v (the_reserved word.Match) match_rest; into = into; splits = λ cs p. splits cs p.part p.is p.shows }
+  match_told = node_told v whole_prefix (IsWholePrefix v) (the_reserved word.Match) match_rest (λ x. n.match (record { from = x.0; to = x.1.1.1.1.1.1.1.1.1.1.1.1.1.1.1.0 }) x.1.1.0 x.1.1.1.1.1.0 x.1.1.1.1.1.1.1.0 x.1.1.1.1.1.1.1.1.1.0 x.1.1.1.1.1.1.1.1.1.1.1.0 x.1.1.1.1.1.1.1.1.1.1.1.1.1.0) (λ x are fit. ((are.1.1.0, are.1.1.1.1.1.1.1.0, are.1.1.1.1.1.1.1.1.1.0, are.1.1.1.1.1.1.1.1.1.1.1.1.1.0), fit)) (λ x. refl) either
     where
-      into : (cs : List (Kind × Bool)) → Row v match_row cs → Prefixes cs
-      into cs h =
-          let r = row_from v match_row cs h in
-          let x = r.values in
-          record { part = n.match (record { from = x.0; to = x.1.1.1.1.1.1.1.1.1.1.1.1.1.1.1.0 }) x.1.1.0 x.1.1.1.1.1.0 x.1.1.1.1.1.1.1.0 x.1.1.1.1.1.1.1.1.1.0 x.1.1.1.1.1.1.1.1.1.1.1.0 x.1.1.1.1.1.1.1.1.1.1.1.1.1.0; is = ((r.are.1.1.0, r.are.1.1.1.1.1.1.1.0, r.are.1.1.1.1.1.1.1.1.1.0, r.are.1.1.1.1.1.1.1.1.1.1.1.1.1.0), r.fit); shows = r.shows }
-
-      splits : (cs : List (Kind × Bool)) (p : n.Prefix) → IsWholePrefix v p → cells (whole_prefix p) ≡ cs → Row v match_row cs ⊎ ((x : List Kind) → kinds cs ≡ K.Reserved word.Match ∷ x → ⊥)
-      splits cs (n.match s m x a k y b) is e = inl (subst (Row v match_row) e (match_is s m x a k y b is))
-      splits cs p is e = inr (λ x g. let both : kinds (cells (whole_prefix p)) ≡ K.Reserved word.Match ∷ x = ap kinds e ∙ g in cc)
+      either : (x : n.Prefix) → IsWholePrefix v x → Row v match_row (cells (whole_prefix x)) ⊎ ((y : List Kind) → kinds (cells (whole_prefix x)) ≡ K.Reserved word.Match ∷ y → ⊥)
+      either (n.match s m x a k y b) is = inl (match_is s m x a k y b is)
+      either x is = inr (λ y g. cc)
 
   decrypt_is : (s : Span) (m : t.Msg) (x : SWord) (a : t.Ty) (k : t.Msg) → IsWholePrefix v (n.decrypt s m x a k) → Row v decrypt_row (cells (whole_prefix (n.decrypt s m x a k)))
   decrypt_is s m x a k is = row_into v decrypt_row (s.from, (tt, (m, (tt, (tt, (x, (tt, (a, (tt, (k, (s.to, tt))))))))))) (tt, (tt, (is.0.0, (tt, (tt, (tt, (tt, (is.0.1, (tt, (is.0.2, (tt, tt))))))))))) is.1
 
   pub decrypt_told : IsToldBy (K.Reserved word.Decrypt) (Row v decrypt_row) Prefixes
-  decrypt_told = record { starts = node_starts v (the_reserved word.Decrypt) decrypt_rest; into = into; splits = λ cs p. splits cs p.part p.is p.shows }
+  decrypt_told = node_told v whole_prefix (IsWholePrefix v) (the_reserved word.Decrypt) decrypt_rest (λ x. n.decrypt (record { from = x.0; to = x.1.1.1.1.1.1.1.1.1.1.0 }) x.1.1.0 x.1.1.1.1.1.0 x.1.1.1.1.1.1.1.0 x.1.1.1.1.1.1.1.1.1.0) (λ x are fit. ((are.1.1.0, are.1.1.1.1.1.1.1.0, are.1.1.1.1.1.1.1.1.1.0), fit)) (λ x. refl) either
     where
-      into : (cs : List (Kind × Bool)) → Row v decrypt_row cs → Prefixes cs
-      into cs h =
-          let r = row_from v decrypt_row cs h in
-          let x = r.values in
-          record { part = n.decrypt (record { from = x.0; to = x.1.1.1.1.1.1.1.1.1.1.0 }) x.1.1.0 x.1.1.1.1.1.0 x.1.1.1.1.1.1.1.0 x.1.1.1.1.1.1.1.1.1.0; is = ((r.are.1.1.0, r.are.1.1.1.1.1.1.1.0, r.are.1.1.1.1.1.1.1.1.1.0), r.fit); shows = r.shows }
-
-      splits : (cs : List (Kind × Bool)) (p : n.Prefix) → IsWholePrefix v p → cells (whole_prefix p) ≡ cs → Row v decrypt_row cs ⊎ ((x : List Kind) → kinds cs ≡ K.Reserved word.Decrypt ∷ x → ⊥)
-      splits cs (n.decrypt s m x a k) is e = inl (subst (Row v decrypt_row) e (decrypt_is s m x a k is))
-      splits cs p is e = inr (λ x g. let both : kinds (cells (whole_prefix p)) ≡ K.Reserved word.Decrypt ∷ x = ap kinds e ∙ g in cc)
+      either : (x : n.Prefix) → IsWholePrefix v x → Row v decrypt_row (cells (whole_prefix x)) ⊎ ((y : List Kind) → kinds (cells (whole_prefix x)) ≡ K.Reserved word.Decrypt ∷ y → ⊥)
+      either (n.decrypt s m x a k) is = inl (decrypt_is s m x a k is)
+      either x is = inr (λ y g. cc)
 
   check_is : (s : Span) (m : t.Msg) (k : t.Msg) → IsWholePrefix v (n.check s m k) → Row v check_row (cells (whole_prefix (n.check s m k)))
   check_is s m k is = row_into v check_row (s.from, (tt, (m, (tt, (k, (s.to, tt)))))) (tt, (tt, (is.0.0, (tt, (is.0.1, (tt, tt)))))) is.1
 
   pub check_told : IsToldBy (K.Reserved word.Check) (Row v check_row) Prefixes
-  check_told = record { starts = node_starts v (the_reserved word.Check) check_rest; into = into; splits = λ cs p. splits cs p.part p.is p.shows }
+  check_told = node_told v whole_prefix (IsWholePrefix v) (the_reserved word.Check) check_rest (λ x. n.check (record { from = x.0; to = x.1.1.1.1.1.0 }) x.1.1.0 x.1.1.1.1.0) (λ x are fit. ((are.1.1.0, are.1.1.1.1.0), fit)) (λ x. refl) either
     where
-      into : (cs : List (Kind × Bool)) → Row v check_row cs → Prefixes cs
-      into cs h =
-          let r = row_from v check_row cs h in
-          let x = r.values in
-          record { part = n.check (record { from = x.0; to = x.1.1.1.1.1.0 }) x.1.1.0 x.1.1.1.1.0; is = ((r.are.1.1.0, r.are.1.1.1.1.0), r.fit); shows = r.shows }
-
-      splits : (cs : List (Kind × Bool)) (p : n.Prefix) → IsWholePrefix v p → cells (whole_prefix p) ≡ cs → Row v check_row cs ⊎ ((x : List Kind) → kinds cs ≡ K.Reserved word.Check ∷ x → ⊥)
-      splits cs (n.check s m k) is e = inl (subst (Row v check_row) e (check_is s m k is))
-      splits cs p is e = inr (λ x g. let both : kinds (cells (whole_prefix p)) ≡ K.Reserved word.Check ∷ x = ap kinds e ∙ g in cc)
+      either : (x : n.Prefix) → IsWholePrefix v x → Row v check_row (cells (whole_prefix x)) ⊎ ((y : List Kind) → kinds (cells (whole_prefix x)) ≡ K.Reserved word.Check ∷ y → ⊥)
+      either (n.check s m k) is = inl (check_is s m k is)
+      either x is = inr (λ y g. cc)
 
   begin_is : (s : Span) (m : t.Msg) → IsWholePrefix v (n.begin s m) → Row v (label_row word.Begin) (cells (whole_prefix (n.begin s m)))
   begin_is s m is = row_into v (label_row word.Begin) (s.from, (tt, (m, (s.to, tt)))) (tt, (tt, (is.0, (tt, tt)))) is.1
 
   pub begin_told : IsToldBy (K.Reserved word.Begin) (Row v (label_row word.Begin)) Prefixes
-  begin_told = record { starts = node_starts v (the_reserved word.Begin) label_rest; into = into; splits = λ cs p. splits cs p.part p.is p.shows }
+  begin_told = node_told v whole_prefix (IsWholePrefix v) (the_reserved word.Begin) label_rest (λ x. n.begin (record { from = x.0; to = x.1.1.1.0 }) x.1.1.0) (λ x are fit. (are.1.1.0, fit)) (λ x. refl) either
     where
-      into : (cs : List (Kind × Bool)) → Row v (label_row word.Begin) cs → Prefixes cs
-      into cs h =
-          let r = row_from v (label_row word.Begin) cs h in
-          let x = r.values in
-          record { part = n.begin (record { from = x.0; to = x.1.1.1.0 }) x.1.1.0; is = (r.are.1.1.0, r.fit); shows = r.shows }
-
-      splits : (cs : List (Kind × Bool)) (p : n.Prefix) → IsWholePrefix v p → cells (whole_prefix p) ≡ cs → Row v (label_row word.Begin) cs ⊎ ((x : List Kind) → kinds cs ≡ K.Reserved word.Begin ∷ x → ⊥)
-      splits cs (n.begin s m) is e = inl (subst (Row v (label_row word.Begin)) e (begin_is s m is))
-      splits cs p is e = inr (λ x g. let both : kinds (cells (whole_prefix p)) ≡ K.Reserved word.Begin ∷ x = ap kinds e ∙ g in cc)
+      either : (x : n.Prefix) → IsWholePrefix v x → Row v (label_row word.Begin) (cells (whole_prefix x)) ⊎ ((y : List Kind) → kinds (cells (whole_prefix x)) ≡ K.Reserved word.Begin ∷ y → ⊥)
+      either (n.begin s m) is = inl (begin_is s m is)
+      either x is = inr (λ y g. cc)
 
   end_is : (s : Span) (m : t.Msg) → IsWholePrefix v (n.end s m) → Row v (label_row word.End) (cells (whole_prefix (n.end s m)))
   end_is s m is = row_into v (label_row word.End) (s.from, (tt, (m, (s.to, tt)))) (tt, (tt, (is.0, (tt, tt)))) is.1
 
   pub end_told : IsToldBy (K.Reserved word.End) (Row v (label_row word.End)) Prefixes
-  end_told = record { starts = node_starts v (the_reserved word.End) label_rest; into = into; splits = λ cs p. splits cs p.part p.is p.shows }
+  end_told = node_told v whole_prefix (IsWholePrefix v) (the_reserved word.End) label_rest (λ x. n.end (record { from = x.0; to = x.1.1.1.0 }) x.1.1.0) (λ x are fit. (are.1.1.0, fit)) (λ x. refl) either
     where
-      into : (cs : List (Kind × Bool)) → Row v (label_row word.End) cs → Prefixes cs
-      into cs h =
-          let r = row_from v (label_row word.End) cs h in
-          let x = r.values in
-          record { part = n.end (record { from = x.0; to = x.1.1.1.0 }) x.1.1.0; is = (r.are.1.1.0, r.fit); shows = r.shows }
-
-      splits : (cs : List (Kind × Bool)) (p : n.Prefix) → IsWholePrefix v p → cells (whole_prefix p) ≡ cs → Row v (label_row word.End) cs ⊎ ((x : List Kind) → kinds cs ≡ K.Reserved word.End ∷ x → ⊥)
-      splits cs (n.end s m) is e = inl (subst (Row v (label_row word.End)) e (end_is s m is))
-      splits cs p is e = inr (λ x g. let both : kinds (cells (whole_prefix p)) ≡ K.Reserved word.End ∷ x = ap kinds e ∙ g in cc)
+      either : (x : n.Prefix) → IsWholePrefix v x → Row v (label_row word.End) (cells (whole_prefix x)) ⊎ ((y : List Kind) → kinds (cells (whole_prefix x)) ≡ K.Reserved word.End ∷ y → ⊥)
+      either (n.end s m) is = inl (end_is s m is)
+      either x is = inr (λ y g. cc)
 
   end_many_is : (s : Span) (m : t.Msg) → IsWholePrefix v (n.end_many s m) → Row v (label_row word.EndMany) (cells (whole_prefix (n.end_many s m)))
   end_many_is s m is = row_into v (label_row word.EndMany) (s.from, (tt, (m, (s.to, tt)))) (tt, (tt, (is.0.1, (tt, tt)))) is.1
 
   pub end_many_told : v ≡ true → IsToldBy (K.Reserved word.EndMany) (Row v (label_row word.EndMany)) Prefixes
-  end_many_told later = record { starts = node_starts v (the_reserved word.EndMany) label_rest; into = into; splits = λ cs p. splits cs p.part p.is p.shows }
+  end_many_told later = node_told v whole_prefix (IsWholePrefix v) (the_reserved word.EndMany) label_rest (λ x. n.end_many (record { from = x.0; to = x.1.1.1.0 }) x.1.1.0) (λ x are fit. ((later, are.1.1.0), fit)) (λ x. refl) either
     where
-      into : (cs : List (Kind × Bool)) → Row v (label_row word.EndMany) cs → Prefixes cs
-      into cs h =
-          let r = row_from v (label_row word.EndMany) cs h in
-          let x = r.values in
-          record { part = n.end_many (record { from = x.0; to = x.1.1.1.0 }) x.1.1.0; is = ((later, r.are.1.1.0), r.fit); shows = r.shows }
-
-      splits : (cs : List (Kind × Bool)) (p : n.Prefix) → IsWholePrefix v p → cells (whole_prefix p) ≡ cs → Row v (label_row word.EndMany) cs ⊎ ((x : List Kind) → kinds cs ≡ K.Reserved word.EndMany ∷ x → ⊥)
-      splits cs (n.end_many s m) is e = inl (subst (Row v (label_row word.EndMany)) e (end_many_is s m is))
-      splits cs p is e = inr (λ x g. let both : kinds (cells (whole_prefix p)) ≡ K.Reserved word.EndMany ∷ x = ap kinds e ∙ g in cc)
+      either : (x : n.Prefix) → IsWholePrefix v x → Row v (label_row word.EndMany) (cells (whole_prefix x)) ⊎ ((y : List Kind) → kinds (cells (whole_prefix x)) ≡ K.Reserved word.EndMany ∷ y → ⊥)
+      either (n.end_many s m) is = inl (end_many_is s m is)
+      either x is = inr (λ y g. cc)
 
   cast_is : (s : Span) (m : t.Msg) (x : SWord) (a : t.Ty) → IsWholePrefix v (n.cast s m x a) → Row v cast_row (cells (whole_prefix (n.cast s m x a)))
   cast_is s m x a is = row_into v cast_row (s.from, (tt, (m, (tt, (tt, (x, (tt, (a, (tt, (s.to, tt)))))))))) (tt, (tt, (is.0.0, (tt, (tt, (tt, (tt, (is.0.1, (tt, (tt, tt)))))))))) is.1
 
   pub cast_told : IsToldBy (K.Reserved word.Cast) (Row v cast_row) Prefixes
-  cast_told = record { starts = node_starts v (the_reserved word.Cast) cast_rest; into = into; splits = λ cs p. splits cs p.part p.is p.shows }
+  cast_told = node_told v whole_prefix (IsWholePrefix v) (the_reserved word.Cast) cast_rest (λ x. n.cast (record { from = x.0; to = x.1.1.1.1.1.1.1.1.1.0 }) x.1.1.0 x.1.1.1.1.1.0 x.1.1.1.1.1.1.1.0) (λ x are fit. ((are.1.1.0, are.1.1.1.1.1.1.1.0), fit)) (λ x. refl) either
     where
-      into : (cs : List (Kind × Bool)) → Row v cast_row cs → Prefixes cs
-      into cs h =
-          let r = row_from v cast_row cs h in
-          let x = r.values in
-          record { part = n.cast (record { from = x.0; to = x.1.1.1.1.1.1.1.1.1.0 }) x.1.1.0 x.1.1.1.1.1.0 x.1.1.1.1.1.1.1.0; is = ((r.are.1.1.0, r.are.1.1.1.1.1.1.1.0), r.fit); shows = r.shows }
-
-      splits : (cs : List (Kind × Bool)) (p : n.Prefix) → IsWholePrefix v p → cells (whole_prefix p) ≡ cs → Row v cast_row cs ⊎ ((x : List Kind) → kinds cs ≡ K.Reserved word.Cast ∷ x → ⊥)
-      splits cs (n.cast s m x a) is e = inl (subst (Row v cast_row) e (cast_is s m x a is))
-      splits cs p is e = inr (λ x g. let both : kinds (cells (whole_prefix p)) ≡ K.Reserved word.Cast ∷ x = ap kinds e ∙ g in cc)
+      either : (x : n.Prefix) → IsWholePrefix v x → Row v cast_row (cells (whole_prefix x)) ⊎ ((y : List Kind) → kinds (cells (whole_prefix x)) ≡ K.Reserved word.Cast ∷ y → ⊥)
+      either (n.cast s m x a) is = inl (cast_is s m x a is)
+      either x is = inr (λ y g. cc)
 
   new_is : (s : Span) (x : SWord) (a : t.Ty) → IsWholePrefix v (n.new s x a) → Row v new_row (cells (whole_prefix (n.new s x a)))
   new_is s x a is = row_into v new_row (s.from, (tt, (tt, (x, (tt, (a, (tt, (s.to, tt)))))))) (tt, (tt, (tt, (tt, (tt, (is.0, (tt, (tt, tt)))))))) is.1
 
   pub new_told : IsToldBy (K.Reserved word.New) (Row v new_row) Prefixes
-  new_told = record { starts = node_starts v (the_reserved word.New) new_rest; into = into; splits = λ cs p. splits cs p.part p.is p.shows }
+  new_told = node_told v whole_prefix (IsWholePrefix v) (the_reserved word.New) new_rest (λ x. n.new (record { from = x.0; to = x.1.1.1.1.1.1.1.0 }) x.1.1.1.0 x.1.1.1.1.1.0) (λ x are fit. (are.1.1.1.1.1.0, fit)) (λ x. refl) either
     where
-      into : (cs : List (Kind × Bool)) → Row v new_row cs → Prefixes cs
-      into cs h =
-          let r = row_from v new_row cs h in
-          let x = r.values in
-          record { part = n.new (record { from = x.0; to = x.1.1.1.1.1.1.1.0 }) x.1.1.1.0 x.1.1.1.1.1.0; is = (r.are.1.1.1.1.1.0, r.fit); shows = r.shows }
-
-      splits : (cs : List (Kind × Bool)) (p : n.Prefix) → IsWholePrefix v p → cells (whole_prefix p) ≡ cs → Row v new_row cs ⊎ ((x : List Kind) → kinds cs ≡ K.Reserved word.New ∷ x → ⊥)
-      splits cs (n.new s x a) is e = inl (subst (Row v new_row) e (new_is s x a is))
-      splits cs p is e = inr (λ x g. let both : kinds (cells (whole_prefix p)) ≡ K.Reserved word.New ∷ x = ap kinds e ∙ g in cc)
+      either : (x : n.Prefix) → IsWholePrefix v x → Row v new_row (cells (whole_prefix x)) ⊎ ((y : List Kind) → kinds (cells (whole_prefix x)) ≡ K.Reserved word.New ∷ y → ⊥)
+      either (n.new s x a) is = inl (new_is s x a is)
+      either x is = inr (λ y g. cc)
 
   pub prefix_form : (a : List (Kind × Bool)) → Prefixes a → FormOf v Prefixes a
   prefix_form a p = go p.part p.is p.shows

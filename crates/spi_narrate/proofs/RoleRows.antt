@@ -12,7 +12,7 @@ use Rattle.spi_tree.specs.Pieces.{Piece, opens, cell, closes, cells, kinds_in, a
 use Rattle.spi_tree.specs.Formed.{AreWordsFit}
 use Rattle.spi_parse.specs.declared.fault.ParseFault.{ParseFault}
 use Rattle.spi_parse.specs.Exact as exact
-use Rattle.spi_parse.proofs.Words.{fits_append, fits_front, fits_drop}
+use Rattle.spi_parse.proofs.Words.{fits_front, fits_drop}
 use Rattle.spi_grammar.specs.Exactly.{kinds, IsGood, IsSame, Then, Many}
 use Rattle.spi_grammar.proofs.Cuts.{kinds_append}
 use Rattle.spi_grammar.proofs.Answers.{good_both}
@@ -24,6 +24,7 @@ use Rattle.spi_heading.specs.Each.{each_pieces, IsWhole}
 use Rattle.spi_heading.proofs.Standing.{Stands, IsSolid, stands_both}
 use Rattle.spi_heading.proofs.Failing.{FailsAt, same_fail, first_fail, second_fail, fails_to}
 use Rattle.spi_heading.proofs.Symbols.{cells_append, Sym, token, name, the_mark, the_word, roles}
+use Rattle.spi_heading.proofs.Versions.{Cells}
 use Rattle.spi_heading.proofs.Rows.{Row, row_good, row_pieces, row_into, row_from, row_read, RowAt, RowFails, row_end, row_more, fits_at}
 use Rattle.spi_heading.proofs.Calls.{part_at, took, took_word}
 use Rattle.spi_heading.proofs.Each.{Along, along_rest, each_behind, one_read}
@@ -49,9 +50,6 @@ pub roles_are : (w : SWord) (ws : List SWord) → whole_roles (w ∷ ws) ≡ row
 roles_are w ws = ap (λ (l : List Piece). cell (K.Word (codes "roles")) false ∷ opens w.span.from ∷ cell (K.Word w.word) false ∷ closes w.span.to ∷ l) (each_behind comma_pieces comma_behind ws (a_mark mark.Semicolon []))
 
 module _ (v : Bool) where
-  abbrev Cells : Type 0
-  Cells = List (Kind × Bool)
-
   abbrev pub Commas : Cells → Type 0
   Commas = OfPieces (λ w. comma_pieces w []) (IsWhole v comma_pieces IsAnyWord)
 

@@ -1,43 +1,30 @@
 -- Reading a narration part after part.
-use Rattle.std.proofs.Common.{◌≡◌, ℕ, suc, ◌+◌, ◌≤◌, ◌<◌, ◌==◌, Bool, true, false, List, [], ◌∷◌, ◌++◌, length, drop, Result, Ok, Err, refl, sym, ap, subst, ◌∙◌, codes, ◌⊎◌, inl, inr, arith}
-use Rattle.std.specs.Prelude.{◌&&◌}
+use Rattle.std.proofs.Common.{◌≡◌, ℕ, ◌+◌, ◌≤◌, ◌<◌, ◌==◌, Bool, false, List, [], ◌∷◌, ◌++◌, length, drop, Result, Ok, Err, refl, sym, ap, subst, inl, inr, arith}
 use Rattle.std.specs.Result.{IsErrAnd}
-use Rattle.std.specs.Str.{bytes_eq}
-use Rattle.std.proofs.lemmas.Slice.Eq.{bytes_eq-Decides}
 use Rattle.std.proofs.Math.Seq.{drop-length}
-use Rattle.spi_lex.specs.declared.token.Kind.{Kind}
-use Rattle.spi_lex.specs.declared.token.Kind.TheVariants as K
-use Rattle.spi_lex.specs.declared.token.Mark.TheVariants as mark
-use Rattle.spi_lex.specs.declared.token.Reserved.TheVariants as word
 use Rattle.spi_lex.specs.declared.token.Token.{Token}
-use Rattle.spi_lex.specs.Lexing.{kinds_of, is_version_2, is_version, is_two, is_semicolon}
+use Rattle.spi_lex.specs.Lexing.{kinds_of, is_version_2}
 use Rattle.spi_text.specs.declared.lines.Span.{Span}
 use Rattle.spi_tree.specs.declared.tree.SWord.{SWord}
 use Rattle.spi_tree.specs.Trees as t
 use Rattle.spi_tree.specs.Pieces.{Piece, closes, decl_pieces}
 use Rattle.spi_tree.specs.Formed.{AreWordsFit, IsDeclared}
 use Rattle.spi_parse.specs.declared.fault.ParseFault.{ParseFault}
-use Rattle.spi_parse.specs.declared.fault.ParseFault.TheVariants as faults
 use Rattle.spi_parse.specs.Exact as exact
-use Rattle.spi_grammar.specs.Exactly.{kinds, Either, Nothing}
-use Rattle.spi_grammar.proofs.Along.{Leads, either_this, either_other}
 use Rattle.spi_parts.proofs.Behind.{decl_behind}
-use Rattle.spi_parts.proofs.Alone.{Decls}
 use Rattle.spi_parts.proofs.Bridge.{of_piece}
 use Rattle.spi_heading.specs.Headings as h
 use Rattle.spi_heading.specs.Spans.{span_over}
-use Rattle.spi_heading.specs.Taking.{IsThere, version_word, ReadsVersion}
+use Rattle.spi_heading.specs.Taking.{ReadsVersion}
 use Rattle.spi_heading.specs.Each.{each_pieces, ReadsEach, FailsWhole}
-use Rattle.spi_heading.specs.Grammar.{shared_word, shared_pieces, IsShared, BeginsDecl, BeginsShared}
-use Rattle.spi_heading.proofs.Standing.{Stands, stands_both, spelled, found, unfound, one_there, within_one, behind_one}
+use Rattle.spi_heading.specs.Grammar.{shared_pieces, IsShared}
+use Rattle.spi_heading.proofs.Standing.{Stands, stands_both, spelled, within_one}
 use Rattle.spi_heading.proofs.Failing.{FailsAt}
-use Rattle.spi_heading.proofs.Symbols.{token, the_mark, the_word, the_two, version}
-use Rattle.spi_heading.proofs.Rows.{Row, row_good, row_read, row_end, row_more, RowAt, RowFails, fails_first, fails_behind, fits_at, stands_read}
+use Rattle.spi_heading.proofs.Rows.{fits_at, stands_read}
 use Rattle.spi_heading.proofs.Calls.{part_stands, part_within}
 use Rattle.spi_heading.proofs.Each.{Along}
-use Rattle.spi_heading.proofs.Names.{Shareds, shared_behind}
-use Rattle.spi_heading.proofs.Wholes.{WholeFails, Rest, rest_start, rest_next, rest_fails, many_fault, many_end, each_next, whole_fails}
-use Rattle.spi_heading.proofs.Firsts.{decls_begin, decls_some, decls_good, shareds_begin, shareds_some, shareds_good}
+use Rattle.spi_heading.proofs.Names.{shared_behind}
+use Rattle.spi_heading.proofs.Wholes.{WholeFails, Rest, rest_next, rest_fails, whole_fails}
 use Rattle.spi_narrate.specs.Narrations as n
 use Rattle.spi_narrate.specs.Grammar.{line_pieces, IsLine, whole_roles, AreWholeRoles, HasRole, whole_narration, IsNarration}
 use Rattle.spi_narrate.specs.Reads.{IsSpelled, ParsesNarration}

@@ -3,33 +3,31 @@ use Rattle.std.proofs.Common.{◌≡◌, ◌==◌, ℕ, Bool, true, false, List,
 use Rattle.std.specs.List.{AllByRecursion}
 use Rattle.spi_lex.specs.declared.token.Kind.{Kind}
 use Rattle.spi_lex.specs.declared.token.Kind.TheVariants as K
-use Rattle.spi_lex.specs.declared.token.Mark.TheVariants as mark
 use Rattle.spi_text.specs.declared.lines.Span.{Span}
 use Rattle.spi_tree.specs.declared.tree.SWord.{SWord}
 use Rattle.spi_tree.specs.Trees as t
 use Rattle.spi_tree.specs.Pieces.{Piece, opens, closes, cells, kinds_in, decl_pieces}
 use Rattle.spi_tree.specs.Formed.{AreWordsFit, IsDeclared}
 use Rattle.spi_parse.specs.Bare.{nowhere}
-use Rattle.spi_parse.proofs.Words.{fits_append, fits_front, fits_drop}
-use Rattle.spi_grammar.specs.Exactly.{kinds, IsLive, IsSame, Then, Either, Many, Nothing}
+use Rattle.spi_parse.proofs.Words.{fits_front, fits_drop}
+use Rattle.spi_grammar.specs.Exactly.{kinds, IsLive, Then, Either, Many, Nothing}
 use Rattle.spi_grammar.proofs.Cuts.{kinds_append}
 use Rattle.spi_grammar.proofs.Repetition.{live_many}
 use Rattle.spi_grammar.proofs.Sequence.{live_both}
-use Rattle.spi_grammar.proofs.Good.{IsSome, Differ, begins_many}
+use Rattle.spi_grammar.proofs.Good.{IsSome}
 use Rattle.spi_parts.proofs.Behind.{decl_behind}
-use Rattle.spi_parts.proofs.Alone.{kinds_in_append, Decls}
+use Rattle.spi_parts.proofs.Alone.{kinds_in_append}
 use Rattle.spi_parts.proofs.Bridge.{OfPieces}
 use Rattle.spi_heading.specs.Headings as h
 use Rattle.spi_heading.specs.Each.{each_pieces}
-use Rattle.spi_heading.specs.Grammar.{shared_word, shared_pieces, IsShared}
-use Rattle.spi_heading.proofs.Symbols.{cells_append, Sym, token, the_mark, the_word, the_two, version}
-use Rattle.spi_heading.proofs.Rows.{Row, row_pieces, row_into, row_from}
+use Rattle.spi_heading.specs.Grammar.{shared_pieces, IsShared}
+use Rattle.spi_heading.proofs.Symbols.{cells_append}
+use Rattle.spi_heading.proofs.Rows.{row_pieces, row_into, row_from}
 use Rattle.spi_heading.proofs.Each.{each_behind}
-use Rattle.spi_heading.proofs.Names.{Shareds, shared_behind}
+use Rattle.spi_heading.proofs.Names.{shared_behind}
 use Rattle.spi_heading.proofs.Manys.{both_fit, both_cells, many_from, each_into, each_shows, last_into, last_shows}
 use Rattle.spi_heading.proofs.Versions.{version_row, Cells, Later}
 use Rattle.spi_heading.proofs.Fronts.{BeginsFront, NeverFront, SharedFront, Front, IsHeaded}
-use Rattle.spi_heading.proofs.Firsts.{BeginsDeclared, decls_begin, decls_some, shareds_begin, shareds_some}
 use Rattle.spi_narrate.specs.Narrations as n
 use Rattle.spi_narrate.specs.Grammar.{line_pieces, IsLine, roles_pieces, whole_roles, HasRole, whole_narration, IsNarration}
 use Rattle.spi_narrate.proofs.LineRows.{Lines, line_behind, line_first}

@@ -1,4 +1,4 @@
-use Rattle.std.proofs.Common.{◌≡◌, ℕ, [], drop, ◌==◌, ◌+◌, subst, sym, refl}
+use Rattle.std.proofs.Common.{[], ◌==◌, refl}
 use Rattle.spi_text.specs.declared.lines.Span.{Span}
 use Rattle.spi_heading.proofs.Symbols.{the_word, drop_}
 use Rattle.spi_heading.proofs.Reached.{ended, then_word, then_token, then_closing, no_word, no_token}

@@ -1,4 +1,4 @@
-use Rattle.std.proofs.Common.{◌≡◌, ℕ, [], drop, ◌==◌, ◌+◌, subst, sym, refl}
+use Rattle.std.proofs.Common.{[], ◌==◌, refl}
 use Rattle.spi_lex.specs.declared.token.Mark.TheVariants as mark
 use Rattle.spi_text.specs.declared.lines.Span.{Span}
 use Rattle.spi_tree.specs.Views.{proc_of}

@@ -1,4 +1,4 @@
-use Rattle.std.proofs.Common.{◌≡◌, ◌==◌, ◌+◌, [], ◌∷◌, ◌++◌, refl}
+use Rattle.std.proofs.Common.{◌==◌, [], ◌∷◌, refl}
 use Rattle.spi_lex.specs.declared.token.Kind.TheVariants as K
 use Rattle.spi_lex.specs.declared.token.Mark.TheVariants as mark
 use Rattle.spi_lex.specs.declared.token.Reserved.TheVariants as word
@@ -15,7 +15,7 @@ use Rattle.spi_heading.proofs.Nodes.{begun_node, node_fails}
 use Rattle.spi_narrate.specs.Narrations as n
 use Rattle.spi_narrate.specs.Grammar.{whole_prefix, IsPrefix}
 use Rattle.spi_narrate.specs.Views.{prefix_of}
-use Rattle.spi_narrate.proofs.FormParts.{closed_row, whole_are, bound_are, closed_are}
+use Rattle.spi_narrate.proofs.FormParts.{bound_are}
 use Rattle.spi_narrate.proofs.Prefixes.{decrypt_told, decrypt_row, decrypt_rest, prefix_reads}
 use Rattle.spi_narrate.proofs.forms.decrypt_at.Goals as goal
 

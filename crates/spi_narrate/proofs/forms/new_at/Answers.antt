@@ -1,21 +1,19 @@
-use Rattle.std.proofs.Common.{◌≡◌, ◌==◌, ◌+◌, [], ◌∷◌, ◌++◌, refl}
+use Rattle.std.proofs.Common.{◌==◌, [], ◌∷◌, refl}
 use Rattle.spi_lex.specs.declared.token.Kind.TheVariants as K
 use Rattle.spi_lex.specs.declared.token.Mark.TheVariants as mark
 use Rattle.spi_lex.specs.declared.token.Reserved.TheVariants as word
 use Rattle.spi_text.specs.declared.lines.Span.{Span}
-use Rattle.spi_tree.specs.declared.tree.SMsg.{SMsg}
-use Rattle.spi_tree.specs.Views.{msg_of, ty_of}
-use Rattle.spi_heading.specs.declared.shared.Named.{Named}
+use Rattle.spi_tree.specs.Views.{ty_of}
 use Rattle.spi_heading.specs.Views.{named_of}
-use Rattle.spi_heading.proofs.Symbols.{token, message, closing, the_mark, the_reserved}
+use Rattle.spi_heading.proofs.Symbols.{closing, the_reserved}
 use Rattle.spi_heading.proofs.RowParts.{then_part, no_part}
-use Rattle.spi_heading.proofs.Reached.{ended, then_message, then_token, then_closing, no_message, no_token}
-use Rattle.spi_heading.proofs.Calls.{there_within, message_within}
+use Rattle.spi_heading.proofs.Reached.{ended, then_closing}
+use Rattle.spi_heading.proofs.Calls.{there_within}
 use Rattle.spi_heading.proofs.Nodes.{begun_node, node_fails}
 use Rattle.spi_narrate.specs.Narrations as n
 use Rattle.spi_narrate.specs.Grammar.{whole_prefix, IsPrefix}
 use Rattle.spi_narrate.specs.Views.{prefix_of}
-use Rattle.spi_narrate.proofs.FormParts.{closed_row, whole_are, bound_are, closed_are}
+use Rattle.spi_narrate.proofs.FormParts.{closed_are}
 use Rattle.spi_narrate.proofs.Prefixes.{new_told, new_row, new_rest, prefix_reads}
 use Rattle.spi_narrate.proofs.forms.new_at.Goals as goal
 

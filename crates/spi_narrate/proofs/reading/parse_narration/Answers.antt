@@ -1,4 +1,4 @@
-use Rattle.std.proofs.Common.{◌≡◌, ◌==◌, ◌∷◌, ℕ, List, length, map, refl, ap, subst, ◌∙◌}
+use Rattle.std.proofs.Common.{◌≡◌, ◌==◌, ◌∷◌, ℕ, List, length, map, ap, subst, ◌∙◌}
 use Rattle.std.specs.Global.{Vec}
 use Rattle.spi_tree.specs.Views.{decl_of}
 use Rattle.spi_tree.specs.declared.tree.SWord.{SWord}
