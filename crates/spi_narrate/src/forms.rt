@@ -46,7 +46,7 @@ fn whole_at(
     Ok((whole, next))
 }
 
-/// `M is (x: T`, from the token of number `at` on, with the mark before the name.
+/// `M is (x: T`, or with another mark before the name, from the token of number `at` on.
 fn bound_at(
     alloc: Global,
     tokens: &[Token],
@@ -72,7 +72,7 @@ fn bound_at(
     Ok(((whole, named), next))
 }
 
-/// `(x: T)`, from the token of number `at` on, with the mark before the name.
+/// `(x: T)`, or with another mark before the name, from the token of number `at` on.
 fn closed_at(
     alloc: Global,
     tokens: &[Token],
