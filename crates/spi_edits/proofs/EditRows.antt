@@ -1,6 +1,5 @@
 -- Edits as rows, each told by its first token, and a process in front of its right brace.
-use Rattle.std.proofs.Common.{◌≡◌, ℕ, ◌+◌, ◌≤◌, Bool, false, List, [], ◌∷◌, ◌++◌, length, drop, Result, Ok, Err, refl, sym, ap, subst, ◌∙◌, ◌⊎◌, inl, inr, arith}
-use Rattle.std.specs.Result.{IsErrAnd}
+use Rattle.std.proofs.Common.{◌≡◌, ℕ, ◌+◌, ◌≤◌, Bool, List, [], ◌∷◌, ◌++◌, length, drop, Ok, Err, refl, sym, ap, subst, ◌∙◌, ◌⊎◌, inl, inr, arith}
 use Rattle.spi_lex.specs.declared.token.Kind.{Kind}
 use Rattle.spi_lex.specs.declared.token.Kind.TheVariants as K
 use Rattle.spi_lex.specs.declared.token.Mark.TheVariants as mark
@@ -10,7 +9,6 @@ use Rattle.spi_text.specs.declared.lines.Span.{Span}
 use Rattle.spi_tree.specs.declared.tree.SWord.{SWord}
 use Rattle.spi_tree.specs.Trees as t
 use Rattle.spi_tree.specs.Pieces.{Piece, cells, a_mark, at_level}
-use Rattle.spi_tree.specs.Formed.{AreWordsFit}
 use Rattle.spi_parse.specs.declared.fault.ParseFault.{ParseFault}
 use Rattle.spi_parse.specs.declared.fault.ParseFault.TheVariants as faults
 use Rattle.spi_parse.specs.Exact as exact
@@ -23,20 +21,28 @@ use Rattle.spi_parts.proofs.Bridge.{kinds_cells, OfPieces, of_piece, part_from}
 use Rattle.spi_parts.proofs.Processes.{Processes, IsBraceClose, processes_apart, processes_even}
 use Rattle.spi_heading.specs.Taking.{IsThere, Takes}
 use Rattle.spi_heading.proofs.Standing.{Stands, IsSolid, proc_solid, stands_both, stands_kinds, stands_length, behind_part}
-use Rattle.spi_heading.proofs.Failing.{FailsAt, memory, fault, tells_at, ReadAt, IsToldBy, told_fail, fails_to}
-use Rattle.spi_heading.proofs.Symbols.{Sym, token, name, braced, opening, closing, Tok, kind_of, the_mark, the_word, put, drop_, Item}
-use Rattle.spi_heading.proofs.Rows.{Values, Row, row_good, row_pieces, row_into, row_from, row_behind, ItemAt, RowAt, RowFails, fits_at}
-use Rattle.spi_heading.proofs.Calls.{part_at, part_stands, took}
+use Rattle.spi_heading.proofs.Failing.{FailsAt, memory, fault, tells_at, ReadAt, IsToldBy, fails_to}
+use Rattle.spi_heading.proofs.Symbols.{Sym, token, name, braced, closing, the_mark, the_word, put, drop_, Item}
+use Rattle.spi_heading.proofs.Versions.{Cells}
+use Rattle.spi_heading.proofs.Rows.{Values, Row, row_into, row_behind, ItemAt}
+use Rattle.spi_heading.proofs.Calls.{part_stands, took}
+use Rattle.spi_heading.proofs.Nodes.{node_row, node_told}
 use Rattle.spi_heading.proofs.Told.{FormOf, forms_good}
 use Rattle.spi_heading.proofs.Wholes.{none_fail}
 use Rattle.spi_edits.specs.Edits.{Edit, puts, drops}
-use Rattle.spi_edits.specs.Grammar.{put_word, drop_word, edit_pieces, whole_edit, IsEdit, IsWholeEdit}
+use Rattle.spi_edits.specs.Grammar.{put_word, drop_word, edit_pieces, whole_edit, IsWholeEdit}
+
+abbrev pub put_rest : List Sym
+put_rest = name ∷ token (the_mark mark.BraceOpen) ∷ braced ∷ closing ∷ []
 
 abbrev pub put_row : List Sym
-put_row = opening ∷ token (the_word put) ∷ name ∷ token (the_mark mark.BraceOpen) ∷ braced ∷ closing ∷ []
+put_row = node_row (the_word put) put_rest
+
+abbrev pub drop_rest : List Sym
+drop_rest = name ∷ token (the_mark mark.Semicolon) ∷ closing ∷ []
 
 abbrev pub drop_row : List Sym
-drop_row = opening ∷ token (the_word drop_) ∷ name ∷ token (the_mark mark.Semicolon) ∷ closing ∷ []
+drop_row = node_row (the_word drop_) drop_rest
 
 abbrev pub put_values : Span → SWord → t.Proc → Values put_row
 put_values s w p = (s.from, (tt, (w, (tt, (p, (s.to, tt))))))
@@ -55,18 +61,8 @@ edit_solid (drops s w) r = tt
 -- ---- the kind of edits
 
 module _ (v : Bool) where
-  abbrev Cells : Type 0
-  Cells = List (Kind × Bool)
-
   abbrev pub Edits : Cells → Type 0
   Edits = OfPieces whole_edit (IsWholeEdit v)
-
-  row_starts : (x : Tok) (ss : List Sym) → (a : Cells) × Row v (opening ∷ token x ∷ ss) a × (y : List Kind) × (kinds a ≡ kind_of x ∷ y)
-  row_starts x ss =
-      let r = (row_good v ss).live in
-      let k = kind_of x in
-      let inner : Row v (token x ∷ ss) ((k, false) ∷ r.0) = record { left = (k, false) ∷ []; right = r.0; one = record { token = k; is = refl; cells = refl }; two = r.1; cells = refl } in
-      ((k, false) ∷ r.0, record { left = []; right = (k, false) ∷ r.0; one = refl; two = inner; cells = refl }, kinds r.0, refl)
 
   put_is : (s : Span) (w : SWord) (p : t.Proc) → IsWholeEdit v (puts s w p) → Row v put_row (cells (whole_edit (puts s w p)))
   put_is s w p is = row_into v put_row (put_values s w p) (tt, (tt, (tt, (tt, (is.0, (tt, tt)))))) is.1
@@ -75,30 +71,18 @@ module _ (v : Bool) where
   drop_is s w is = row_into v drop_row (drop_values s w) (tt, (tt, (tt, (tt, (tt, tt))))) is.1
 
   pub put_told : IsToldBy put_word (Row v put_row) Edits
-  put_told = record { starts = row_starts (the_word put) (name ∷ token (the_mark mark.BraceOpen) ∷ braced ∷ closing ∷ []); into = into; splits = λ cs p. splits cs p.part p.is p.shows }
+  put_told = node_told v whole_edit (IsWholeEdit v) (the_word put) put_rest (λ x. puts (record { from = x.0; to = x.1.1.1.1.1.0 }) x.1.1.0 x.1.1.1.1.0) (λ x are fit. (are.1.1.1.1.0, fit)) (λ x. refl) either
     where
-      into : (cs : Cells) → Row v put_row cs → Edits cs
-      into cs h =
-          let r = row_from v put_row cs h in
-          let x = r.values in
-          record { part = puts (record { from = x.0; to = x.1.1.1.1.1.0 }) x.1.1.0 x.1.1.1.1.0; is = (r.are.1.1.1.1.0, r.fit); shows = r.shows }
-
-      splits : (cs : Cells) (e : Edit) → IsWholeEdit v e → cells (whole_edit e) ≡ cs → Row v put_row cs ⊎ ((x : List Kind) → kinds cs ≡ put_word ∷ x → ⊥)
-      splits cs (puts s w p) is e = inl (subst (Row v put_row) e (put_is s w p is))
-      splits cs (drops s w) is e = inr (λ x g. let both : kinds (cells (whole_edit (drops s w))) ≡ put_word ∷ x = ap kinds e ∙ g in cc)
+      either : (e : Edit) → IsWholeEdit v e → Row v put_row (cells (whole_edit e)) ⊎ ((y : List Kind) → kinds (cells (whole_edit e)) ≡ put_word ∷ y → ⊥)
+      either (puts s w p) is = inl (put_is s w p is)
+      either (drops s w) is = inr (λ y g. cc)
 
   pub drop_told : IsToldBy drop_word (Row v drop_row) Edits
-  drop_told = record { starts = row_starts (the_word drop_) (name ∷ token (the_mark mark.Semicolon) ∷ closing ∷ []); into = into; splits = λ cs p. splits cs p.part p.is p.shows }
+  drop_told = node_told v whole_edit (IsWholeEdit v) (the_word drop_) drop_rest (λ x. drops (record { from = x.0; to = x.1.1.1.1.0 }) x.1.1.0) (λ x are fit. (tt, fit)) (λ x. refl) either
     where
-      into : (cs : Cells) → Row v drop_row cs → Edits cs
-      into cs h =
-          let r = row_from v drop_row cs h in
-          let x = r.values in
-          record { part = drops (record { from = x.0; to = x.1.1.1.1.0 }) x.1.1.0; is = (tt, r.fit); shows = r.shows }
-
-      splits : (cs : Cells) (e : Edit) → IsWholeEdit v e → cells (whole_edit e) ≡ cs → Row v drop_row cs ⊎ ((x : List Kind) → kinds cs ≡ drop_word ∷ x → ⊥)
-      splits cs (puts s w p) is e = inr (λ x g. let both : kinds (cells (whole_edit (puts s w p))) ≡ drop_word ∷ x = ap kinds e ∙ g in cc)
-      splits cs (drops s w) is e = inl (subst (Row v drop_row) e (drop_is s w is))
+      either : (e : Edit) → IsWholeEdit v e → Row v drop_row (cells (whole_edit e)) ⊎ ((y : List Kind) → kinds (cells (whole_edit e)) ≡ drop_word ∷ y → ⊥)
+      either (puts s w p) is = inr (λ y g. cc)
+      either (drops s w) is = inl (drop_is s w is)
 
   edit_form : (a : Cells) → Edits a → FormOf v Edits a
   edit_form a p = go p.part p.is p.shows
@@ -170,18 +154,7 @@ module _ (v : Bool) where
           (stands_both ts (whole_process p) (a_mark mark.BraceClose []) i j k (process_stands p j w r) (took v ts j k (the_mark mark.BraceClose) h).stands);
     }
 
-    -- ---- the answers of the readers of edits
-
-    pub edit_fails : {V : Type 0} (view : V → Edit) (k : Kind) (row : List Sym) → IsToldBy k (Row v row) Edits → IsThere ts i k → (f : ParseFault) (r : Result (V × ℕ) ParseFault) → IsErrAnd r (λ e. e ≡ f)
-        → RowFails v ts i row f → exact.Reads view whole_edit (IsWholeEdit v) r ts i
-    edit_fails view k row told there f (Ok x) is h = absurd is
-    edit_fails view k row told there f (Err e) is h = fails_to view whole_edit (IsWholeEdit v) ts i e (subst (λ (g : ParseFault). FailsAt Edits ts i g) (sym is) (told_fail k (Row v row) Edits told ts i there f h.by))
-
-    pub edit_reads : (x : Edit) (j : ℕ) → AreWordsFit v (kinds_of ts) → IsEdit v x → (row : List Sym) (xs : Values row) → whole_edit x ≡ row_pieces row xs [] → RowAt v ts i row xs j
-        → (m : ℕ) × (j ≡ i + m) × exact.IsPartAt whole_edit (IsWholeEdit v) x (drop i ts) m
-    edit_reads x j fit formed row xs are r =
-        let stands = subst (λ (l : List Piece). Stands ts i l j) (sym are) r.stands in
-        part_at whole_edit (IsWholeEdit v) x ts i j (formed, fits_at v ts (whole_edit x) i j fit stands) (edit_solid x []) edits_good.closed stands
+    -- ---- where none begins
 
     pub no_edit : {V : Type 0} (view : V → Edit) → (IsThere ts i put_word → ⊥) → (IsThere ts i drop_word → ⊥) → exact.Reads view whole_edit (IsWholeEdit v) (Err (faults.Syntax i)) ts i
     no_edit view no_put no_drop = fails_to view whole_edit (IsWholeEdit v) ts i (faults.Syntax i) (none_fail Edits edits_good.live edits_some ts i (λ a p k x e there. none k there (edits_begin a p k x e)))

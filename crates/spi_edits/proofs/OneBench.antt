@@ -13,11 +13,10 @@ use Rattle.spi_tree.specs.Pieces.{Piece, opens, cell, closes, cells, kinds_in, a
 use Rattle.spi_tree.specs.Formed.{AreWordsFit, IsTy, IsProc, IsDeclared}
 use Rattle.spi_parse.specs.Bare.{nowhere, bare_ty, bare_proc, bare_decl}
 use Rattle.spi_parse.specs.Exact.{Spells}
-use Rattle.spi_parse.specs.Formed.{whole_type, whole_process, whole_decl, IsWholeType, IsWholeProcess, IsWholeDecl}
+use Rattle.spi_parse.specs.Formed.{whole_process, IsWholeProcess}
 use Rattle.spi_parse.proofs.Filled.{Rest, after_ty, after_proc, after_decl, fill_ty, fill_proc, fill_decl}
 use Rattle.spi_parse.proofs.OneTree.{Spelled, one_ty, one_proc, one_decl, kinds_spelled}
 use Rattle.spi_parse.proofs.Words.{fits_front, fits_drop}
-use Rattle.spi_grammar.specs.Exactly.{kinds}
 use Rattle.spi_parts.proofs.Alone.{kinds_in_append, types_split, declarations_split}
 use Rattle.spi_parts.proofs.Behind.{ty_behind, proc_behind, decl_behind}
 use Rattle.spi_parts.proofs.Bridge.{kinds_cells, of_piece}
@@ -29,7 +28,7 @@ use Rattle.spi_heading.specs.Taking.{version_word}
 use Rattle.spi_heading.proofs.Each.{each_behind}
 use Rattle.spi_heading.proofs.Names.{shared_behind}
 use Rattle.spi_edits.specs.Edits.{Edit, puts, drops, Bench}
-use Rattle.spi_edits.specs.Grammar.{edit_pieces, IsEdit, bench_pieces, placed, whole_bench, is_later, IsBench}
+use Rattle.spi_edits.specs.Grammar.{edit_pieces, IsEdit, bench_pieces, placed, whole_bench, is_later}
 use Rattle.spi_edits.specs.Reads.{IsSpelled}
 use Rattle.spi_edits.proofs.EditRows.{edit_behind}
 

@@ -1,10 +1,7 @@
 -- Reading a bench part after part.
-use Rattle.std.proofs.Common.{◌≡◌, ℕ, ◌<◌, ◌==◌, Bool, true, false, List, [], ◌∷◌, ◌++◌, length, Result, Ok, Err, refl, sym, ap, subst, ◌∙◌, ◌⊎◌, inl, inr, arith}
+use Rattle.std.proofs.Common.{◌≡◌, ℕ, ◌<◌, ◌==◌, Bool, false, List, [], ◌∷◌, ◌++◌, length, Result, Ok, Err, refl, sym, ap, subst, ◌∙◌, ◌⊎◌, inl, inr, arith}
 use Rattle.std.specs.Result.{IsErrAnd}
 use Rattle.std.proofs.Math.Seq.{drop-length}
-use Rattle.spi_lex.specs.declared.token.Kind.{Kind}
-use Rattle.spi_lex.specs.declared.token.Kind.TheVariants as K
-use Rattle.spi_lex.specs.declared.token.Reserved.TheVariants as word
 use Rattle.spi_lex.specs.declared.token.Token.{Token}
 use Rattle.spi_lex.specs.Lexing.{kinds_of, is_version_2}
 use Rattle.spi_text.specs.declared.lines.Span.{Span}
@@ -14,77 +11,29 @@ use Rattle.spi_tree.specs.Formed.{AreWordsFit, IsDeclared}
 use Rattle.spi_parse.specs.Bare.{nowhere}
 use Rattle.spi_parse.specs.declared.fault.ParseFault.{ParseFault}
 use Rattle.spi_parse.specs.Exact as exact
-use Rattle.spi_grammar.specs.Exactly.{Nothing}
 use Rattle.spi_parts.proofs.Behind.{decl_behind}
-use Rattle.spi_parts.proofs.Alone.{Decls}
 use Rattle.spi_heading.specs.Headings as h
 use Rattle.spi_heading.specs.Spans.{span_over}
-use Rattle.spi_heading.specs.Taking.{IsThere, ReadsVersion}
+use Rattle.spi_heading.specs.Taking.{ReadsVersion}
 use Rattle.spi_heading.specs.Each.{each_pieces, FailsWhole}
-use Rattle.spi_heading.specs.Grammar.{shared_word, shared_pieces, IsShared, BeginsDecl, BeginsShared}
-use Rattle.spi_heading.proofs.Standing.{Stands, stands_both, spelled, unfound, one_there, within_one, IsSolid, decl_solid}
-use Rattle.spi_heading.proofs.Failing.{FailsAt}
+use Rattle.spi_heading.specs.Grammar.{shared_pieces, IsShared}
+use Rattle.spi_heading.proofs.Standing.{Stands, stands_both, spelled, within_one, IsSolid, decl_solid}
 use Rattle.spi_heading.proofs.Rows.{fits_at}
 use Rattle.spi_heading.proofs.Each.{Along}
-use Rattle.spi_heading.proofs.Names.{Shareds, shared_behind, shared_solid}
-use Rattle.spi_heading.proofs.Wholes.{WholeFails, Rest, many_fault, many_end, each_next, whole_fails}
-use Rattle.spi_heading.proofs.Firsts.{decls_begin, decls_some, decls_good, shareds_begin, shareds_some, shareds_good}
+use Rattle.spi_heading.proofs.Names.{shared_behind, shared_solid}
+use Rattle.spi_heading.proofs.Wholes.{WholeFails, whole_fails}
+use Rattle.spi_heading.proofs.Versions.{version_row_at, version_fits, version_known}
 use Rattle.spi_edits.specs.Edits.{Edit, Bench}
 use Rattle.spi_edits.specs.Grammar.{edit_pieces, IsEdit, bench_pieces, placed, whole_bench, IsBench}
 use Rattle.spi_edits.specs.Reads.{IsSpelled, ParsesBench}
 use Rattle.spi_edits.specs.Spans.{span_of_all}
-use Rattle.spi_edits.proofs.EditRows.{Edits, edits_good, edits_some, edit_behind, edit_solid}
-use Rattle.spi_edits.proofs.Versions.{version_row_at, version_fits, version_known, after_version, version_fault}
-use Rattle.spi_edits.proofs.Whole.{body_pieces, EditsOn, SharedOn, Body, Benches, bench_same, version_never, none_left, shared_never, shared_differ, decls_never, decls_differ, edits_differ, edits_live, shared_live, body_live, of_version, version_are, later_pieces, first_pieces}
+use Rattle.spi_edits.proofs.EditRows.{edit_behind, edit_solid}
+use Rattle.spi_edits.proofs.Whole.{body_pieces, Benches, of_version, version_are, later_pieces, first_pieces}
 
-pub behind_version : (ts : List Token) → AreWordsFit (is_version_2 (kinds_of ts)) (kinds_of ts) → (r : ℕ × ℕ) → ReadsVersion (Ok r) ts → Rest Benches (Body (r.0 == 2)) ts r.1
-behind_version ts fit r h = after_version Benches Body bench_same (version_never false) (body_live true) ts fit r h
-
-pub wrong_version : (ts : List Token) → AreWordsFit (is_version_2 (kinds_of ts)) (kinds_of ts) → (f : ParseFault) → ReadsVersion (Err f) ts → WholeFails Benches ts f
-wrong_version ts fit f h = version_fault Benches Body bench_same (version_never false) (body_live true) ts fit f h
-
-module _ (v : Bool) (ts : List Token) (fit : AreWordsFit v (kinds_of ts)) where
-  abbrev Decls_at : ℕ → List t.Declared → ℕ → Type 0
-  Decls_at i ds j = Along decl_pieces decl_behind (IsDeclared v) ts i ds j
-
-  decls_next : (ds : List t.Declared) (i j : ℕ) → Decls_at i ds j → Rest Benches (Body v) ts i → Rest Benches (Body v) ts j
-  decls_next ds i j a r = each_next Benches (SharedOn v) ts decl_pieces decl_behind v (IsDeclared v) fit (decls_good v) (decls_some v) (decls_differ v) (shared_live v) ds i j a r
-
-  pub decls_fault : (ds : List t.Declared) (i j : ℕ) → Decls_at i ds j → Rest Benches (Body v) ts i → BeginsDecl ts j → (f : ParseFault) → FailsAt (Decls v) ts j f → WholeFails Benches ts f
-  decls_fault ds i j a r (inl there) f e = many_fault Benches (Decls v) (SharedOn v) ts j f (K.Reserved word.Free) there (λ b lb x g. decls_never v (K.Reserved word.Free) (inl refl) b lb x g) (decls_next ds i j a r) (decls_good v) (shared_live v) e
-  decls_fault ds i j a r (inr there) f e = many_fault Benches (Decls v) (SharedOn v) ts j f (K.Reserved word.TypeWord) there (λ b lb x g. decls_never v (K.Reserved word.TypeWord) (inr refl) b lb x g) (decls_next ds i j a r) (decls_good v) (shared_live v) e
-
-  pub after_decls : (ds : List t.Declared) (i j : ℕ) → Decls_at i ds j → Rest Benches (Body v) ts i → (BeginsDecl ts j → ⊥) → Rest Benches (SharedOn v) ts j
-  after_decls ds i j a r none = many_end Benches (Decls v) (SharedOn v) ts j (decls_next ds i j a r) (decls_some v) (λ b lb k x e there. none (go k (decls_begin v b lb k x e) there))
-    where
-      go : (k : Kind) → (k ≡ K.Reserved word.Free) ⊎ (k ≡ K.Reserved word.TypeWord) → IsThere ts j k → BeginsDecl ts j
-      go k (inl e) there = inl (there.0, there.1, there.2 ∙ e)
-      go k (inr e) there = inr (there.0, there.1, there.2 ∙ e)
-
-  abbrev Shared_at : ℕ → List h.Shared → ℕ → Type 0
-  Shared_at i ss j = Along shared_pieces shared_behind (IsShared v) ts i ss j
-
-  shared_next : (ss : List h.Shared) (i j : ℕ) → Shared_at i ss j → Rest Benches (SharedOn v) ts i → Rest Benches (SharedOn v) ts j
-  shared_next ss i j a r = each_next Benches (EditsOn v) ts shared_pieces shared_behind v (IsShared v) fit (shareds_good v) (shareds_some v) (shared_differ v) (edits_live v) ss i j a r
-
-  pub shared_fault : (ss : List h.Shared) (i j : ℕ) → Shared_at i ss j → Rest Benches (SharedOn v) ts i → BeginsShared ts j → (f : ParseFault) → FailsAt (Shareds v) ts j f → WholeFails Benches ts f
-  shared_fault ss i j a r there f e = many_fault Benches (Shareds v) (EditsOn v) ts j f shared_word there (λ b lb x g. shared_never v b lb x g) (shared_next ss i j a r) (shareds_good v) (edits_live v) e
-
-  pub after_shared : (ss : List h.Shared) (i j : ℕ) → Shared_at i ss j → Rest Benches (SharedOn v) ts i → (BeginsShared ts j → ⊥) → Rest Benches (EditsOn v) ts j
-  after_shared ss i j a r none = many_end Benches (Shareds v) (EditsOn v) ts j (shared_next ss i j a r) (shareds_some v) (λ b lb k x e there. none (there.0, there.1, there.2 ∙ shareds_begin v b lb k x e))
-
-  abbrev Edits_at : ℕ → List Edit → ℕ → Type 0
-  Edits_at i es j = Along edit_pieces edit_behind (IsEdit v) ts i es j
-
-  pub edits_fault : (es : List Edit) (i j : ℕ) → Edits_at i es j → Rest Benches (EditsOn v) ts i → j < length ts → (f : ParseFault) → FailsAt (Edits v) ts j f → WholeFails Benches ts f
-  edits_fault es i j a r lt f e =
-      let o = one_there ts j lt in
-      many_fault Benches (Edits v) Nothing ts j f o.0.kind (o.0, unfound ts j o.0 o.1 o.2, refl) (λ b lb x g. none_left v o.0.kind b lb x g)
-      (each_next Benches Nothing ts edit_pieces edit_behind v (IsEdit v) fit (edits_good v) (edits_some v) (edits_differ v) ([], refl) es i j a r) (edits_good v) ([], refl) e
-
-  body_stands : (ds : List t.Declared) (ss : List h.Shared) (es : List Edit) (i j k l : ℕ) → Decls_at i ds j → Shared_at j ss k → Edits_at k es l → Stands ts i (body_pieces ds ss es) l
-  body_stands ds ss es i j k l a b c =
-      stands_both ts (each_pieces decl_pieces ds []) (each_pieces shared_pieces ss [] ++ each_pieces edit_pieces es []) i j l a.stands (stands_both ts (each_pieces shared_pieces ss []) (each_pieces edit_pieces es []) j k l b.stands c.stands)
+body_stands : (v : Bool) (ts : List Token) (ds : List t.Declared) (ss : List h.Shared) (es : List Edit) (i j k l : ℕ) → Along decl_pieces decl_behind (IsDeclared v) ts i ds j → Along shared_pieces shared_behind (IsShared v) ts j ss k
+    → Along edit_pieces edit_behind (IsEdit v) ts k es l → Stands ts i (body_pieces ds ss es) l
+body_stands v ts ds ss es i j k l a b c =
+    stands_both ts (each_pieces decl_pieces ds []) (each_pieces shared_pieces ss [] ++ each_pieces edit_pieces es []) i j l a.stands (stands_both ts (each_pieces shared_pieces ss []) (each_pieces edit_pieces es []) j k l b.stands c.stands)
 
 -- ---- a bench has no pieces, or begins with a token
 
@@ -155,7 +104,7 @@ module _ (ts : List Token) (s : Span) (spans : s ≡ span_of_all ts) where
       (subst (λ (l : List Piece). Stands ts 0 l (length ts)) (sym (first_pieces s ds ss es)) (subst (λ (n : ℕ). Stands ts n (body_pieces ds ss es) (length ts)) h.1 body))
 
   pub bench_read : (fit : AreWordsFit (is_version_2 (kinds_of ts)) (kinds_of ts)) (r : ℕ × ℕ) (vr : ReadsVersion (Ok r) ts) (ds : List t.Declared) (ss : List h.Shared) (es : List Edit) (j k : ℕ)
-      → Decls_at (r.0 == 2) ts (version_fits ts fit r vr) r.1 ds j → Shared_at (r.0 == 2) ts (version_fits ts fit r vr) j ss k → Edits_at (r.0 == 2) ts (version_fits ts fit r vr) k es (length ts)
+      → Along decl_pieces decl_behind (IsDeclared (r.0 == 2)) ts r.1 ds j → Along shared_pieces shared_behind (IsShared (r.0 == 2)) ts j ss k → Along edit_pieces edit_behind (IsEdit (r.0 == 2)) ts k es (length ts)
       → IsSpelled (of_version r.0 s ds ss es) ts
   bench_read fit r vr ds ss es j k a b c = (
     record {
@@ -173,7 +122,7 @@ module _ (ts : List Token) (s : Span) (spans : s ≡ span_of_all ts) where
       x = of_version r.0 s ds ss es
 
       is : IsPlaced x
-      is = bench_placed x (bench_start r.0 s ds ss es (version_known ts r vr)) (whole_stands ds ss es r vr (body_stands (r.0 == 2) ts (version_fits ts fit r vr) ds ss es r.1 j k (length ts) a b c))
+      is = bench_placed x (bench_start r.0 s ds ss es (version_known ts r vr)) (whole_stands ds ss es r vr (body_stands (r.0 == 2) ts ds ss es r.1 j k (length ts) a b c))
 
 pub parse_fails : {V : Type 0} (view : V → Bench) (ts : List Token) (f : ParseFault) (r : Result V ParseFault) → IsErrAnd r (λ e. e ≡ f) → WholeFails Benches ts f → ParsesBench view r ts
 parse_fails view ts f (Ok x) is h = absurd is

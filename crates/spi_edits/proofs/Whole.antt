@@ -1,5 +1,5 @@
 -- Whole benches: the version, the declarations, the shared names and the edits.
-use Rattle.std.proofs.Common.{◌≡◌, ℕ, Bool, true, false, List, [], ◌∷◌, ◌++◌, refl, sym, ap, subst, ◌∙◌, append-nil, ◌⊎◌, inl, inr}
+use Rattle.std.proofs.Common.{◌≡◌, ◌==◌, ℕ, Bool, true, false, List, [], ◌∷◌, ◌++◌, refl, sym, ap, subst, ◌∙◌, append-nil, ◌⊎◌, inl, inr}
 use Rattle.std.specs.List.{AllByRecursion}
 use Rattle.spi_lex.specs.declared.token.Kind.{Kind}
 use Rattle.spi_text.specs.declared.lines.Span.{Span}
@@ -7,27 +7,27 @@ use Rattle.spi_tree.specs.Trees as t
 use Rattle.spi_tree.specs.Pieces.{Piece, closes, cells, kinds_in, decl_pieces}
 use Rattle.spi_tree.specs.Formed.{AreWordsFit, IsDeclared}
 use Rattle.spi_parse.specs.Bare.{nowhere}
-use Rattle.spi_parse.proofs.Words.{fits_append, fits_front, fits_drop}
-use Rattle.spi_grammar.specs.Exactly.{kinds, IsLive, IsSame, Either, Many, Nothing}
+use Rattle.spi_parse.proofs.Words.{fits_front, fits_drop}
+use Rattle.spi_grammar.specs.Exactly.{Either, Many, Nothing}
 use Rattle.spi_grammar.proofs.Repetition.{live_many}
-use Rattle.spi_grammar.proofs.Good.{Differ, begins_many}
+use Rattle.spi_grammar.proofs.Good.{begins_many}
 use Rattle.spi_parts.proofs.Behind.{decl_behind}
-use Rattle.spi_parts.proofs.Alone.{kinds_in_append, Decls}
+use Rattle.spi_parts.proofs.Alone.{kinds_in_append}
 use Rattle.spi_parts.proofs.Bridge.{OfPieces}
 use Rattle.spi_heading.specs.Headings as h
 use Rattle.spi_heading.specs.Each.{each_pieces}
-use Rattle.spi_heading.specs.Grammar.{shared_word, shared_pieces, IsShared}
-use Rattle.spi_heading.specs.Taking.{version_word}
+use Rattle.spi_heading.specs.Grammar.{shared_pieces, IsShared}
 use Rattle.spi_heading.proofs.Symbols.{cells_append}
 use Rattle.spi_heading.proofs.Rows.{row_pieces, row_into, row_from}
 use Rattle.spi_heading.proofs.Each.{each_behind}
-use Rattle.spi_heading.proofs.Names.{Shareds, shared_behind}
-use Rattle.spi_heading.proofs.Manys.{many_from, many_into}
-use Rattle.spi_heading.proofs.Firsts.{BeginsDeclared, decls_begin, decls_some, shareds_begin, shareds_some}
+use Rattle.spi_heading.proofs.Names.{shared_behind}
+use Rattle.spi_heading.proofs.Manys.{both_fit, both_cells, many_from, each_into, each_shows, last_into, last_shows}
+use Rattle.spi_heading.proofs.Versions.{version_row, Cells, Later}
+use Rattle.spi_heading.proofs.Fronts.{BeginsFront, NeverFront, SharedFront, Front, IsHeaded}
+use Rattle.spi_heading.proofs.Lasts.{nothing_begins}
 use Rattle.spi_edits.specs.Edits.{Edit, Bench}
 use Rattle.spi_edits.specs.Grammar.{put_word, drop_word, edit_pieces, IsEdit, bench_pieces, placed, whole_bench, IsBench}
 use Rattle.spi_edits.proofs.EditRows.{Edits, edits_begin, edits_some, edit_behind}
-use Rattle.spi_edits.proofs.Versions.{version_row, Cells, Later}
 
 -- what stands behind the version
 abbrev pub body_pieces : List t.Declared → List h.Shared → List Edit → List Piece
@@ -42,68 +42,20 @@ module _ (v : Bool) where
   abbrev pub EditsOn : Cells → Type 0
   EditsOn = Many (Edits v) Nothing
 
-  abbrev pub SharedOn : Cells → Type 0
-  SharedOn = Many (Shareds v) EditsOn
-
-  abbrev pub Body : Cells → Type 0
-  Body = Many (Decls v) SharedOn
-
   -- ---- what each begins with
 
-  pub none_left : (k : Kind) (b : Cells) → Nothing b → (x : List Kind) → kinds b ≡ k ∷ x → ⊥
-  none_left k b lb x e = let g : [] ≡ k ∷ x = ap kinds (sym lb) ∙ e in cc
-
-  edits_never : (k : Kind) → (k ≡ put_word → ⊥) → (k ≡ drop_word → ⊥) → (b : Cells) → EditsOn b → (x : List Kind) → kinds b ≡ k ∷ x → ⊥
-  edits_never k no_put no_drop = begins_many (Edits v) Nothing (edits_some v) k (λ a la x e. none (edits_begin v a la k x e)) (none_left k)
+  edits_never : NeverFront EditsOn
+  edits_never k is = begins_many (Edits v) Nothing (edits_some v) k (λ a la x e. none k is (edits_begin v a la k x e)) (nothing_begins k)
     where
-      none : (k ≡ put_word) ⊎ (k ≡ drop_word) → ⊥
-      none (inl e) = no_put e
-      none (inr e) = no_drop e
-
-  pub shared_never : (b : Cells) → EditsOn b → (x : List Kind) → kinds b ≡ shared_word ∷ x → ⊥
-  shared_never = edits_never shared_word (λ e. let g : shared_word ≡ put_word = e in cc) (λ e. let g : shared_word ≡ drop_word = e in cc)
-
-  pub shared_differ : Differ (Shareds v) EditsOn
-  shared_differ a b la lb k x y e f = shared_never b lb y (f ∙ ap (λ (q : Kind). q ∷ y) (shareds_begin v a la k x e))
-
-  pub decls_never : (k : Kind) → BeginsDeclared k → (b : Cells) → SharedOn b → (x : List Kind) → kinds b ≡ k ∷ x → ⊥
-  decls_never k is = begins_many (Shareds v) EditsOn (shareds_some v) k (λ a la x e. one k is (shareds_begin v a la k x e)) (edits_never k (two k is) (three k is))
-    where
-      one : (k : Kind) → BeginsDeclared k → k ≡ shared_word → ⊥
-      one k (inl f) e = cc
-      one k (inr f) e = cc
-
-      two : (k : Kind) → BeginsDeclared k → k ≡ put_word → ⊥
-      two k (inl f) e = cc
-      two k (inr f) e = cc
-
-      three : (k : Kind) → BeginsDeclared k → k ≡ drop_word → ⊥
-      three k (inl f) e = cc
-      three k (inr f) e = cc
-
-  pub decls_differ : Differ (Decls v) SharedOn
-  decls_differ a b la lb k x y e f = decls_never k (decls_begin v a la k x e) b lb y f
-
-  pub edits_differ : Differ (Edits v) Nothing
-  edits_differ a b la lb k x y e f = none_left k b lb y f
-
-  pub edits_live : IsLive EditsOn
-  edits_live = live_many (Edits v) Nothing ([], refl)
-
-  pub shared_live : IsLive SharedOn
-  shared_live = live_many (Shareds v) EditsOn edits_live
-
-  pub body_live : IsLive Body
-  body_live = live_many (Decls v) SharedOn shared_live
-
-  pub version_never : (b : Cells) → Body b → (x : List Kind) → kinds b ≡ version_word ∷ x → ⊥
-  version_never = begins_many (Decls v) SharedOn (decls_some v) version_word (λ a la x e. none (decls_begin v a la version_word x e))
-      (begins_many (Shareds v) EditsOn (shareds_some v) version_word (λ a la x e. let g : version_word ≡ shared_word = shareds_begin v a la version_word x e in cc)
-      (edits_never version_word (λ e. let g : version_word ≡ put_word = e in cc) (λ e. let g : version_word ≡ drop_word = e in cc)))
-    where
-      none : BeginsDeclared version_word → ⊥
-      none (inl f) = cc
-      none (inr f) = cc
+      none : (k : Kind) → BeginsFront k → (k ≡ put_word) ⊎ (k ≡ drop_word) → ⊥
+      none k (inl f) (inl e) = cc
+      none k (inl f) (inr e) = cc
+      none k (inr (inl f)) (inl e) = cc
+      none k (inr (inl f)) (inr e) = cc
+      none k (inr (inr (inl f))) (inl e) = cc
+      none k (inr (inr (inl f))) (inr e) = cc
+      none k (inr (inr (inr f))) (inl e) = cc
+      none k (inr (inr (inr f))) (inr e) = cc
 
   -- ---- bodies by their parts
 
@@ -117,20 +69,13 @@ module _ (v : Bool) where
     pub fit : AreWordsFit v (kinds_in (body_pieces decls shared edits))
     pub shows : cells (body_pieces decls shared edits) ≡ cs
 
-  both_fit : (ps qs : List Piece) → AreWordsFit v (kinds_in ps) → AreWordsFit v (kinds_in qs) → AreWordsFit v (kinds_in (ps ++ qs))
-  both_fit ps qs a b = subst (AreWordsFit v) (sym (kinds_in_append ps qs)) (fits_append v (kinds_in ps) (kinds_in qs) a b)
-
-  both_cells : (ps qs : List Piece) (c d : Cells) → cells ps ≡ c → cells qs ≡ d → cells (ps ++ qs) ≡ c ++ d
-  both_cells ps qs c d e f = cells_append ps qs ∙ ap (λ (l : Cells). l ++ cells qs) e ∙ ap (λ (l : Cells). c ++ l) f
-
-  pub body_from : (cs : Cells) → Body cs → FromBody cs
+  pub body_from : (cs : Cells) → Front v EditsOn cs → FromBody cs
   body_from cs b =
-      let d = many_from decl_pieces decl_behind v (IsDeclared v) SharedOn cs b in
+      let d = many_from decl_pieces decl_behind v (IsDeclared v) (SharedFront v EditsOn) cs b in
       let s = many_from shared_pieces shared_behind v (IsShared v) EditsOn d.rest d.behind_them in
       let e = many_from edit_pieces edit_behind v (IsEdit v) Nothing s.rest s.behind_them in
-      let decls = each_pieces decl_pieces d.parts [] in
-      let names = each_pieces shared_pieces s.parts [] in
       let edits = each_pieces edit_pieces e.parts [] in
+      let behind = each_pieces shared_pieces s.parts [] ++ edits in
       record {
         decls = d.parts;
         shared = s.parts;
@@ -138,28 +83,26 @@ module _ (v : Bool) where
         decls_are = d.are;
         shared_are = s.are;
         edits_are = e.are;
-        fit = both_fit decls (names ++ edits) d.fit (both_fit names edits s.fit e.fit);
+        fit = both_fit v (each_pieces decl_pieces d.parts []) behind d.fit (both_fit v (each_pieces shared_pieces s.parts []) edits s.fit e.fit);
         shows =
-            both_cells decls (names ++ edits) (cells decls) d.rest refl
-            (both_cells names edits (cells names) s.rest refl (sym (e.shows ∙ ap (λ (c : Cells). cells edits ++ c) e.behind_them ∙ append-nil (cells edits))) ∙ sym s.shows) ∙ sym d.shows;
+            each_shows decl_pieces decl_behind v (IsDeclared v) (SharedFront v EditsOn) cs d behind
+            (each_shows shared_pieces shared_behind v (IsShared v) EditsOn d.rest s edits (last_shows edit_pieces edit_behind v (IsEdit v) s.rest e));
       }
 
   pub body_into : (ds : List t.Declared) (ss : List h.Shared) (es : List Edit) → AllByRecursion (IsDeclared v) ds → AllByRecursion (IsShared v) ss → AllByRecursion (IsEdit v) es
-      → AreWordsFit v (kinds_in (body_pieces ds ss es)) → Body (cells (body_pieces ds ss es))
+      → AreWordsFit v (kinds_in (body_pieces ds ss es)) → Front v EditsOn (cells (body_pieces ds ss es))
   body_into ds ss es hd hs he fit =
-      let decls = each_pieces decl_pieces ds [] in
-      let names = each_pieces shared_pieces ss [] in
       let edits = each_pieces edit_pieces es [] in
-      let f = subst (AreWordsFit v) (kinds_in_append decls (names ++ edits)) fit in
-      let g = subst (AreWordsFit v) (kinds_in_append names edits) (fits_drop v (kinds_in decls) (kinds_in (names ++ edits)) f) in
-      let last : EditsOn (cells edits) = subst EditsOn (append-nil (cells edits)) (many_into edit_pieces edit_behind v (IsEdit v) Nothing es he (fits_drop v (kinds_in names) (kinds_in edits) g) [] refl) in
-      let second : SharedOn (cells (names ++ edits)) = subst SharedOn (sym (cells_append names edits)) (many_into shared_pieces shared_behind v (IsShared v) EditsOn ss hs (fits_front v (kinds_in names) (kinds_in edits) g) (cells edits) last) in
-      subst Body (sym (cells_append decls (names ++ edits))) (many_into decl_pieces decl_behind v (IsDeclared v) SharedOn ds hd (fits_front v (kinds_in decls) (kinds_in (names ++ edits)) f) (cells (names ++ edits)) second)
+      each_into decl_pieces decl_behind v (IsDeclared v) (SharedFront v EditsOn) ds hd (each_pieces shared_pieces ss [] ++ edits) fit
+      (λ f. each_into shared_pieces shared_behind v (IsShared v) EditsOn ss hs edits f (λ g. last_into edit_pieces edit_behind v (IsEdit v) es he g))
 
 -- ---- benches, with the version in front or not
 
 abbrev pub Benches : Cells → Type 0
 Benches = OfPieces whole_bench IsBench
+
+abbrev Fronts : Bool → Cells → Type 0
+Fronts v = Front v (EditsOn v)
 
 abbrev pub of_version : ℕ → Span → List t.Declared → List h.Shared → List Edit → Bench
 of_version v s ds ss es = record { span = s; version = v; decls = ds; shared = ss; edits = es }
@@ -182,7 +125,10 @@ placed_kinds : (s : Span) (ps : List Piece) → kinds_in (placed s ps) ≡ kinds
 placed_kinds s [] = refl
 placed_kinds s (p ∷ ps) = kinds_in_append (p ∷ ps) (closes s.to ∷ []) ∙ append-nil (kinds_in (p ∷ ps))
 
-there : (cs : Cells) → Either (Later Body) (Body false) cs → Benches cs
+formed_body : (v : ℕ) (cs : Cells) (b : FromBody (v == 2) cs) → (v ≡ 1) ⊎ (v ≡ 2) → AreWordsFit (v == 2) (kinds_in (whole_bench (of_version v nowhere b.decls b.shared b.edits))) → IsBench (of_version v nowhere b.decls b.shared b.edits)
+formed_body v cs b known words = record { version = known; decls = b.decls_are; shared = b.shared_are; edits = b.edits_are; words = words; place = λ e. refl }
+
+there : (cs : Cells) → Either (Later Fronts) (Fronts false) cs → Benches cs
 there cs (inl k) =
     let b = body_from true k.right k.two in
     let r = row_from true version_row k.left k.one in
@@ -191,15 +137,8 @@ there cs (inl k) =
     let are = later_pieces nowhere b.decls b.shared b.edits in
     record {
       part = x;
-      is = record {
-        version = inr refl;
-        decls = b.decls_are;
-        shared = b.shared_are;
-        edits = b.edits_are;
-        words = subst (AreWordsFit true) (sym (placed_kinds nowhere (bench_pieces x) ∙ ap kinds_in are)) (both_fit true version_are body r.fit b.fit);
-        place = λ e. refl;
-      };
-      shows = placed_cells nowhere (bench_pieces x) ∙ ap cells are ∙ both_cells true version_are body k.left k.right r.shows b.shows ∙ sym k.cells;
+      is = formed_body 2 k.right b (inr refl) (subst (AreWordsFit true) (sym (placed_kinds nowhere (bench_pieces x) ∙ ap kinds_in are)) (both_fit true version_are body r.fit b.fit));
+      shows = placed_cells nowhere (bench_pieces x) ∙ ap cells are ∙ both_cells version_are body k.left k.right r.shows b.shows ∙ sym k.cells;
     }
 there cs (inr k) =
     let b = body_from false cs k in
@@ -207,18 +146,11 @@ there cs (inr k) =
     let are = first_pieces nowhere b.decls b.shared b.edits in
     record {
       part = x;
-      is = record {
-        version = inl refl;
-        decls = b.decls_are;
-        shared = b.shared_are;
-        edits = b.edits_are;
-        words = subst (AreWordsFit false) (sym (placed_kinds nowhere (bench_pieces x) ∙ ap kinds_in are)) b.fit;
-        place = λ e. refl;
-      };
+      is = formed_body 1 cs b (inl refl) (subst (AreWordsFit false) (sym (placed_kinds nowhere (bench_pieces x) ∙ ap kinds_in are)) b.fit);
       shows = placed_cells nowhere (bench_pieces x) ∙ ap cells are ∙ b.shows;
     }
 
-later_back : (s : Span) (ds : List t.Declared) (ss : List h.Shared) (es : List Edit) → IsBench (of_version 2 s ds ss es) → Later Body (cells (whole_bench (of_version 2 s ds ss es)))
+later_back : (s : Span) (ds : List t.Declared) (ss : List h.Shared) (es : List Edit) → IsBench (of_version 2 s ds ss es) → Later Fronts (cells (whole_bench (of_version 2 s ds ss es)))
 later_back s ds ss es is =
     let body = body_pieces ds ss es in
     let x = of_version 2 s ds ss es in
@@ -232,20 +164,20 @@ later_back s ds ss es is =
       cells = placed_cells s (bench_pieces x) ∙ ap cells are ∙ cells_append version_are body;
     }
 
-first_back : (s : Span) (ds : List t.Declared) (ss : List h.Shared) (es : List Edit) → IsBench (of_version 1 s ds ss es) → Body false (cells (whole_bench (of_version 1 s ds ss es)))
+first_back : (s : Span) (ds : List t.Declared) (ss : List h.Shared) (es : List Edit) → IsBench (of_version 1 s ds ss es) → Fronts false (cells (whole_bench (of_version 1 s ds ss es)))
 first_back s ds ss es is =
     let x = of_version 1 s ds ss es in
     let are = first_pieces s ds ss es in
-    subst (Body false) (sym (placed_cells s (bench_pieces x) ∙ ap cells are)) (body_into false ds ss es is.decls is.shared is.edits (subst (AreWordsFit false) (placed_kinds s (bench_pieces x) ∙ ap kinds_in are) is.words))
+    subst (Fronts false) (sym (placed_cells s (bench_pieces x) ∙ ap cells are)) (body_into false ds ss es is.decls is.shared is.edits (subst (AreWordsFit false) (placed_kinds s (bench_pieces x) ∙ ap kinds_in are) is.words))
 
-back : (cs : Cells) → Benches cs → Either (Later Body) (Body false) cs
+back : (cs : Cells) → Benches cs → Either (Later Fronts) (Fronts false) cs
 back cs p = go p.part.version p.part.decls p.part.shared p.part.edits p.part.span p.is p.shows p.is.version
   where
-    go : (v : ℕ) (ds : List t.Declared) (ss : List h.Shared) (es : List Edit) (s : Span) → IsBench (of_version v s ds ss es) → cells (whole_bench (of_version v s ds ss es)) ≡ cs → (v ≡ 1) ⊎ (v ≡ 2) → Either (Later Body) (Body false) cs
+    go : (v : ℕ) (ds : List t.Declared) (ss : List h.Shared) (es : List Edit) (s : Span) → IsBench (of_version v s ds ss es) → cells (whole_bench (of_version v s ds ss es)) ≡ cs → (v ≡ 1) ⊎ (v ≡ 2) → Either (Later Fronts) (Fronts false) cs
     go v ds ss es s is e (inl f) =
-        inr (subst (Body false) (subst (λ (i : ℕ). cells (whole_bench (of_version i s ds ss es)) ≡ cs) f e) (first_back s ds ss es (subst (λ (i : ℕ). IsBench (of_version i s ds ss es)) f is)))
+        inr (subst (Fronts false) (subst (λ (i : ℕ). cells (whole_bench (of_version i s ds ss es)) ≡ cs) f e) (first_back s ds ss es (subst (λ (i : ℕ). IsBench (of_version i s ds ss es)) f is)))
     go v ds ss es s is e (inr f) =
-        inl (subst (Later Body) (subst (λ (i : ℕ). cells (whole_bench (of_version i s ds ss es)) ≡ cs) f e) (later_back s ds ss es (subst (λ (i : ℕ). IsBench (of_version i s ds ss es)) f is)))
+        inl (subst (Later Fronts) (subst (λ (i : ℕ). cells (whole_bench (of_version i s ds ss es)) ≡ cs) f e) (later_back s ds ss es (subst (λ (i : ℕ). IsBench (of_version i s ds ss es)) f is)))
 
-pub bench_same : IsSame (Either (Later Body) (Body false)) Benches
-bench_same = record { there = there; back = back }
+pub benches_headed : IsHeaded Benches EditsOn
+benches_headed = record { same = record { there = there; back = back }; live = λ v. live_many (Edits v) Nothing ([], refl); never = edits_never }

@@ -1,22 +1,22 @@
 -- Declarations and shared names are good kinds, told by their first tokens.
-use Rattle.std.proofs.Common.{◌≡◌, Bool, List, [], ◌∷◌, ◌++◌, codes, refl, sym, ap, subst, ◌∙◌, ◌⊎◌, inl, inr}
+use Rattle.std.proofs.Common.{◌≡◌, Bool, List, [], ◌∷◌, refl, sym, ap, subst, ◌∙◌, ◌⊎◌, inl, inr}
 use Rattle.spi_lex.specs.declared.token.Kind.{Kind}
 use Rattle.spi_lex.specs.declared.token.Kind.TheVariants as K
 use Rattle.spi_lex.specs.declared.token.Reserved.TheVariants as word
 use Rattle.spi_tree.specs.declared.tree.SWord.{SWord}
 use Rattle.spi_tree.specs.Trees as t
-use Rattle.spi_tree.specs.Pieces.{cells, kinds_in}
+use Rattle.spi_tree.specs.Pieces.{cells}
 use Rattle.spi_parse.specs.Bare.{nowhere}
 use Rattle.spi_parse.specs.Formed.{whole_decl, IsWholeDecl}
 use Rattle.spi_grammar.specs.Exactly.{kinds, IsGood}
 use Rattle.spi_grammar.proofs.Good.{IsSome}
-use Rattle.spi_parts.proofs.Bridge.{kinds_cells, OfPieces, of_piece}
+use Rattle.spi_parts.proofs.Bridge.{of_piece}
 use Rattle.spi_parts.proofs.Alone.{Decls, declarations_closed, declarations_even}
-use Rattle.spi_heading.specs.Headings as h
-use Rattle.spi_heading.specs.Grammar.{shared_word, whole_shared, IsWholeShared}
+use Rattle.spi_heading.specs.Grammar.{shared_word, whole_shared}
 use Rattle.spi_heading.proofs.Symbols.{asked_fits, shared, spelling}
-use Rattle.spi_heading.proofs.Rows.{Row, row_good}
-use Rattle.spi_heading.proofs.Names.{Shareds, shared_row, shared_same}
+use Rattle.spi_heading.proofs.Rows.{row_good}
+use Rattle.spi_heading.proofs.Names.{Shareds, shared_row, shared_are}
+use Rattle.spi_heading.proofs.RowParts.{rows_same}
 
 abbrev pub BeginsDeclared : Kind → Type 0
 BeginsDeclared k = (k ≡ K.Reserved word.Free) ⊎ (k ≡ K.Reserved word.TypeWord)
@@ -52,6 +52,6 @@ module _ (v : Bool) where
 
   pub shareds_good : IsGood (Shareds v)
   shareds_good =
-      let s = shared_same v in
+      let s = rows_same (shared_are v) in
       let g = row_good v shared_row in
       record { live = (g.live.0, s.there g.live.0 g.live.1); closed = λ a b ma mb k x e. g.closed a b (s.back a ma) (s.back b mb) k x e; even = λ a b ma mb within p k x e d. g.even a b (s.back a ma) (s.back b mb) within p k x e d }

@@ -5,7 +5,14 @@ pub mod Rows
 pub mod Calls
 pub mod Names
 pub mod Each
+pub mod Loops
 pub mod Told
 pub mod Wholes
 pub mod Manys
+pub mod RowParts
+pub mod Reached
+pub mod Nodes
+pub mod Versions
+pub mod Fronts
+pub mod Lasts
 pub mod Firsts

@@ -1,5 +1,5 @@
 -- Any number of parts in front of others, by lists.
-use Rattle.std.proofs.Common.{◌≡◌, ℕ, zero, suc, ◌+◌, ◌≤◌, Bool, List, [], ◌∷◌, ◌++◌, length, drop, refl, sym, ap, subst, ◌∙◌, append_assoc, arith}
+use Rattle.std.proofs.Common.{◌≡◌, ℕ, zero, suc, ◌+◌, Bool, List, [], ◌∷◌, ◌++◌, length, drop, refl, sym, ap, subst, ◌∙◌, append_assoc, append-nil, arith}
 use Rattle.std.specs.List.{AllByRecursion}
 use Rattle.spi_lex.specs.declared.token.Kind.{Kind}
 use Rattle.spi_lex.specs.declared.token.Token.{Token}
@@ -8,7 +8,7 @@ use Rattle.spi_tree.specs.Pieces.{Piece, cells, kinds_in}
 use Rattle.spi_tree.specs.Formed.{AreWordsFit}
 use Rattle.spi_parse.specs.declared.fault.ParseFault.{ParseFault}
 use Rattle.spi_parse.proofs.Words.{fits_append, fits_front, fits_drop}
-use Rattle.spi_grammar.specs.Exactly.{kinds, IsGood, IsOther, Times, Then, Many, Refuses}
+use Rattle.spi_grammar.specs.Exactly.{kinds, IsGood, Times, Many, Nothing, Refuses}
 use Rattle.spi_grammar.proofs.Good.{IsSome, Differ, part_refuses, further_refuses, last_refuses}
 use Rattle.spi_parts.proofs.Alone.{kinds_in_append}
 use Rattle.spi_parts.proofs.Bridge.{OfPieces, of_piece}
@@ -17,7 +17,14 @@ use Rattle.spi_heading.specs.Each.{each_pieces, IsWhole}
 use Rattle.spi_heading.proofs.Standing.{found, unfound}
 use Rattle.spi_heading.proofs.Symbols.{cells_append}
 use Rattle.spi_heading.proofs.Failing.{FailsAt, memory, fault, tells_at, ReadAt}
-use Rattle.spi_heading.proofs.Each.{Along, along_rest, one_read}
+
+-- ---- pieces one behind another
+
+pub both_fit : (v : Bool) (ps qs : List Piece) → AreWordsFit v (kinds_in ps) → AreWordsFit v (kinds_in qs) → AreWordsFit v (kinds_in (ps ++ qs))
+both_fit v ps qs a b = subst (AreWordsFit v) (sym (kinds_in_append ps qs)) (fits_append v (kinds_in ps) (kinds_in qs) a b)
+
+pub both_cells : (ps qs : List Piece) (c d : List (Kind × Bool)) → cells ps ≡ c → cells qs ≡ d → cells (ps ++ qs) ≡ c ++ d
+both_cells ps qs c d e f = cells_append ps qs ∙ ap (λ (l : List (Kind × Bool)). l ++ cells qs) e ∙ ap (λ (l : List (Kind × Bool)). c ++ l) f
 
 -- ---- the faults of any number of parts in front of others
 
@@ -101,3 +108,21 @@ module _ {X : Type 0} (piece : X → List Piece → List Piece) (behind : (x : X
           cells = ap (λ (l : List (Kind × Bool)). l ++ rest) (each_cells x xs) ∙ append_assoc (cells (piece x [])) (cells (each_pieces piece xs [])) rest;
         },
       )
+
+  -- with the pieces of what stands behind them
+  pub each_into : (xs : List X) → AllByRecursion Is xs → (tail : List Piece) → AreWordsFit v (kinds_in (each_pieces piece xs [] ++ tail)) → (AreWordsFit v (kinds_in tail) → M (cells tail)) → Many Parts M (cells (each_pieces piece xs [] ++ tail))
+  each_into xs h tail fit behind_them =
+      let ps = each_pieces piece xs [] in
+      let both = subst (AreWordsFit v) (kinds_in_append ps tail) fit in
+      subst (Many Parts M) (sym (cells_append ps tail)) (many_into xs h (fits_front v (kinds_in ps) (kinds_in tail) both) (cells tail) (behind_them (fits_drop v (kinds_in ps) (kinds_in tail) both)))
+
+  pub each_shows : (cs : List (Kind × Bool)) (m : FromMany cs) (tail : List Piece) → cells tail ≡ m.rest → cells (each_pieces piece m.parts [] ++ tail) ≡ cs
+  each_shows cs m tail e = both_cells (each_pieces piece m.parts []) tail (cells (each_pieces piece m.parts [])) m.rest refl e ∙ sym m.shows
+
+-- with nothing behind them
+module _ {X : Type 0} (piece : X → List Piece → List Piece) (behind : (x : X) (r : List Piece) → piece x r ≡ piece x [] ++ r) (v : Bool) (Is : X → Type 0) where
+  pub last_into : (xs : List X) → AllByRecursion Is xs → AreWordsFit v (kinds_in (each_pieces piece xs [])) → Many (OfPieces (λ x. piece x []) (IsWhole v piece Is)) Nothing (cells (each_pieces piece xs []))
+  last_into xs h fit = subst (Many (OfPieces (λ x. piece x []) (IsWhole v piece Is)) Nothing) (append-nil (cells (each_pieces piece xs []))) (many_into piece behind v Is Nothing xs h fit [] refl)
+
+  pub last_shows : (cs : List (Kind × Bool)) (m : FromMany piece behind v Is Nothing cs) → cells (each_pieces piece m.parts []) ≡ cs
+  last_shows cs m = sym (m.shows ∙ ap (λ (c : List (Kind × Bool)). cells (each_pieces piece m.parts []) ++ c) m.behind_them ∙ append-nil (cells (each_pieces piece m.parts [])))

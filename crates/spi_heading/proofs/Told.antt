@@ -1,7 +1,7 @@
 -- Kinds whose parts are rows, each told by its first token, are good.
-use Rattle.std.proofs.Common.{◌≡◌, ℕ, Bool, List, [], ◌∷◌, ◌++◌, refl, sym, ap, subst, ◌∙◌, ◌⊎◌, inl, inr}
+use Rattle.std.proofs.Common.{◌≡◌, Bool, List, [], ◌∷◌, ◌++◌, sym, ap, ◌∙◌, ◌⊎◌, inl, inr}
 use Rattle.spi_lex.specs.declared.token.Kind.{Kind}
-use Rattle.spi_grammar.specs.Exactly.{kinds, IsClean, StartsDeep, IsLive, IsClosed, IsEven, IsGood}
+use Rattle.spi_grammar.specs.Exactly.{kinds, IsLive, IsClosed, IsEven, IsGood}
 use Rattle.spi_grammar.proofs.Cuts.{deep_begins}
 use Rattle.spi_heading.proofs.Failing.{IsToldBy}
 use Rattle.spi_heading.proofs.Symbols.{Sym}

@@ -1,5 +1,5 @@
 -- Whole texts: what fails behind the parts that were read fails the whole.
-use Rattle.std.proofs.Common.{◌≡◌, ℕ, ◌+◌, ◌≤◌, Bool, List, [], ◌∷◌, ◌++◌, length, drop, refl, sym, ap, subst, ◌∙◌, arith}
+use Rattle.std.proofs.Common.{◌≡◌, ℕ, ◌+◌, Bool, List, [], ◌∷◌, ◌++◌, drop, refl, sym, ap, subst, ◌∙◌, arith}
 use Rattle.spi_lex.specs.declared.token.Kind.{Kind}
 use Rattle.spi_lex.specs.declared.token.Token.{Token}
 use Rattle.spi_lex.specs.Lexing.{kinds_of}
@@ -8,7 +8,7 @@ use Rattle.spi_tree.specs.Formed.{AreWordsFit}
 use Rattle.spi_parse.specs.declared.fault.ParseFault.{ParseFault}
 use Rattle.spi_parse.specs.declared.fault.ParseFault.TheVariants as faults
 use Rattle.spi_parse.specs.Exact as exact
-use Rattle.spi_grammar.specs.Exactly.{kinds, IsLive, IsSame, IsGood, IsClean, IsNone, IsSyntax, Then, Many, Nothing, Fault, at_syntax, at_deep, SyntaxAt, Fails, Refuses, Reads, NoneDeep, Stops, Begins}
+use Rattle.spi_grammar.specs.Exactly.{kinds, IsLive, IsSame, IsGood, Then, Many, Fault, at_syntax, at_deep, Fails, Refuses, Reads, Stops}
 use Rattle.spi_grammar.proofs.Sequence.{apart_closed}
 use Rattle.spi_grammar.proofs.Good.{IsSome, Differ}
 use Rattle.spi_grammar.proofs.Along.{Leads, lead, then_next, then_fails, many_next, many_fails, many_last}
@@ -16,7 +16,7 @@ use Rattle.spi_parts.proofs.Bridge.{OfPieces, syntax_to, deep_at_to}
 use Rattle.spi_heading.specs.Taking.{IsThere}
 use Rattle.spi_heading.specs.Each.{IsWhole, FailsWhole}
 use Rattle.spi_heading.proofs.Standing.{found, unfound}
-use Rattle.spi_heading.proofs.Failing.{Tells, tells_at, FailsAt, memory, fault, ReadAt}
+use Rattle.spi_heading.proofs.Failing.{Tells, FailsAt, memory, fault, ReadAt}
 use Rattle.spi_heading.proofs.Each.{Along, along_rest, one_read}
 
 -- ---- no part begins with the token that is there

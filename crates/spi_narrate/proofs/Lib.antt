@@ -1,3 +1,4 @@
+pub mod FormParts
 pub mod Prefixes
 pub mod LineRows
 pub mod RoleRows

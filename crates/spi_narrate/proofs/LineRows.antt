@@ -9,8 +9,8 @@ use Rattle.spi_lex.specs.Lexing.{kinds_of}
 use Rattle.spi_text.specs.declared.lines.Span.{Span}
 use Rattle.spi_tree.specs.declared.tree.SWord.{SWord}
 use Rattle.spi_tree.specs.Trees as t
-use Rattle.spi_tree.specs.Pieces.{Piece, opens, cell, closes, cells, kinds_in, a_mark, ends}
-use Rattle.spi_tree.specs.Formed.{AreWordsFit}
+use Rattle.spi_tree.specs.Pieces.{Piece, opens, cell, closes, cells, kinds_in, a_mark, ends, a_word, a_token, msg_pieces}
+use Rattle.spi_tree.specs.Formed.{AreWordsFit, IsMsg}
 use Rattle.spi_parse.specs.declared.fault.ParseFault.{ParseFault}
 use Rattle.spi_parse.specs.declared.fault.ParseFault.TheVariants as faults
 use Rattle.spi_parse.specs.Exact as exact
@@ -28,7 +28,10 @@ use Rattle.spi_heading.proofs.Failing.{FailsAt, IsToldBy, told_fail, same_fail, 
 use Rattle.spi_heading.proofs.Symbols.{cells_append, Sym, token, name, message, opening, closing, the_mark, the_word, to, on, as_}
 use Rattle.spi_heading.proofs.Rows.{Values, Row, row_good, row_pieces, row_into, row_from, row_behind, row_read, RowAt, RowFails, row_end, row_more, opened, closed, fits_at, stands_read}
 use Rattle.spi_heading.proofs.Calls.{part_at, took, took_word, there_before}
+use Rattle.spi_heading.proofs.Versions.{Cells}
 use Rattle.spi_heading.proofs.Wholes.{none_fail}
+use Rattle.spi_heading.proofs.Manys.{both_fit, both_cells}
+use Rattle.spi_heading.proofs.RowParts.{AreRows}
 use Rattle.spi_narrate.specs.Narrations as n
 use Rattle.spi_narrate.specs.Grammar.{whole_prefix, IsPrefix, IsWholePrefix, line_pieces, whole_line, IsLine, IsWholeLine}
 use Rattle.spi_narrate.proofs.Prefixes.{Prefixes, prefixes_good, prefix_behind}
@@ -59,9 +62,6 @@ pub local_are : (s : Span) (w : SWord) (x : n.Prefix) → whole_line (n.local s 
 local_are s w x = ap (λ (l : List Piece). opens s.from ∷ opens w.span.from ∷ cell (K.Word w.word) false ∷ closes w.span.to ∷ cell (K.Mark mark.Colon) false ∷ l) (prefix_behind true x (a_mark mark.Semicolon (ends s [])))
 
 module _ (v : Bool) where
-  abbrev Cells : Type 0
-  Cells = List (Kind × Bool)
-
   abbrev pub Tail : Cells → Type 0
   Tail = Then (Prefixes v) (Row v tail_row)
 
@@ -115,8 +115,8 @@ module _ (v : Bool) where
             is = (
               k.two.one.is.0,
               subst (λ (l : List Piece). AreWordsFit v (kinds_in l)) (sym (local_are s w p))
-                  (both_fit (row_pieces head_row (head_values s.from w) []) (row_pieces colon_row (tt, tt) [] ++ rest) r.fit
-                  (both_fit (row_pieces colon_row (tt, tt) []) rest colon.fit (both_fit (whole_prefix p) (row_pieces tail_row (tail_values s.to) []) k.two.one.is.1 tail.fit))),
+                  (both_fit v (row_pieces head_row (head_values s.from w) []) (row_pieces colon_row (tt, tt) [] ++ rest) r.fit
+                  (both_fit v (row_pieces colon_row (tt, tt) []) rest colon.fit (both_fit v (whole_prefix p) (row_pieces tail_row (tail_values s.to) []) k.two.one.is.1 tail.fit))),
             );
             shows =
                 ap cells (local_are s w p)
@@ -124,12 +124,6 @@ module _ (v : Bool) where
                 (both_cells (row_pieces colon_row (tt, tt) []) rest k.left k.right colon.shows (both_cells (whole_prefix p) (row_pieces tail_row (tail_values s.to) []) k.two.left k.two.right k.two.one.shows tail.shows ∙ sym k.two.cells) ∙ sym k.cells)
                 ∙ sym h.cells;
           }
-        where
-          both_fit : (ps qs : List Piece) → AreWordsFit v (kinds_in ps) → AreWordsFit v (kinds_in qs) → AreWordsFit v (kinds_in (ps ++ qs))
-          both_fit ps qs a b = subst (AreWordsFit v) (sym (kinds_in_append ps qs)) (fits_append v (kinds_in ps) (kinds_in qs) a b)
-
-          both_cells : (ps qs : List Piece) (c d : Cells) → cells ps ≡ c → cells qs ≡ d → cells (ps ++ qs) ≡ c ++ d
-          both_cells ps qs c d e f = cells_append ps qs ∙ ap (λ (l : Cells). l ++ cells qs) e ∙ ap (λ (l : Cells). c ++ l) f
       go r (inr k) =
           let p = row_from v pass_row h.right k in
           let y = p.values in
@@ -327,3 +321,23 @@ line_first v a p = go p.part p.shows
     go : (l : n.Line) → cells (whole_line l) ≡ a → (k : Kind) × (x : List Kind) × (kinds a ≡ k ∷ x)
     go (n.local s w x) e = (K.Word w.word, _, ap kinds (sym e))
     go (n.pass s b c d m x) e = (K.Word b.word, _, ap kinds (sym e))
+
+-- ---- the receiver, the channel and the datum by themselves
+
+abbrev pub addressed_row : List Sym
+addressed_row = name ∷ token (the_word on) ∷ name ∷ token (the_mark mark.Colon) ∷ message ∷ []
+
+abbrev addressed_part : SWord × SWord × t.Msg → List Piece
+addressed_part x = a_word false x.0 (a_token (K.Word (codes "on")) (a_word false x.1 (a_mark mark.Colon (msg_pieces 1 x.2 []))))
+
+pub addressed_are : (v : Bool) → AreRows v addressed_part (λ x. IsMsg v false x.2 × AreWordsFit v (kinds_in (addressed_part x))) addressed_row (λ x. (x.0, (tt, (x.1, (tt, (x.2, tt))))))
+addressed_are v = record {
+  part = λ xs. (xs.0, xs.1.1.0, xs.1.1.1.1.0);
+  values_of = λ xs. refl;
+  formed = λ xs are fit. (are.1.1.1.1.0, fit);
+  are = λ x is. (tt, (tt, (tt, (tt, (is.0, tt)))));
+  fit = λ x is. is.1;
+  pieces_of = λ x. refl;
+  known = λ x are fit. (are.1.1.1.1.0, fit);
+  solid = λ x. tt;
+}

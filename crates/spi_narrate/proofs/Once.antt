@@ -1,17 +1,16 @@
 -- Tokens are those of one narration at most, with the spans of its nodes and words: what stands at a place of a text.
-use Rattle.std.proofs.Common.{◌≡◌, ℕ, suc, ◌+◌, ◌≤◌, ◌<◌, ◌==◌, Bool, true, false, List, [], ◌∷◌, ◌++◌, length, drop, Result, Ok, refl, sym, ap, subst, ◌∙◌, codes, ◌⊎◌, inl, inr, arith}
+use Rattle.std.proofs.Common.{◌≡◌, ℕ, suc, Bool, List, [], ◌∷◌, ◌++◌, drop, Result, Ok, refl, sym, ap, subst, ◌∙◌, codes, inl, inr}
 use Rattle.std.specs.List.{AllByRecursion}
 use Rattle.spi_lex.specs.declared.token.Kind.{Kind}
 use Rattle.spi_lex.specs.declared.token.Kind.TheVariants as K
 use Rattle.spi_lex.specs.declared.token.Mark.TheVariants as mark
-use Rattle.spi_lex.specs.declared.token.Reserved.{Reserved}
 use Rattle.spi_lex.specs.declared.token.Reserved.TheVariants as word
 use Rattle.spi_lex.specs.declared.token.Token.{Token}
 use Rattle.spi_lex.specs.Lexing.{kinds_of}
 use Rattle.spi_text.specs.declared.lines.Span.{Span}
 use Rattle.spi_tree.specs.declared.tree.SWord.{SWord}
 use Rattle.spi_tree.specs.Trees as t
-use Rattle.spi_tree.specs.Pieces.{Piece, opens, cell, closes, kinds_in, decl_pieces}
+use Rattle.spi_tree.specs.Pieces.{Piece, decl_pieces}
 use Rattle.spi_tree.specs.Formed.{AreWordsFit, IsDeclared}
 use Rattle.spi_parse.specs.declared.fault.ParseFault.{ParseFault}
 use Rattle.spi_parse.specs.Formed.{whole_decl, whole_type, whole_message, IsWholeDecl, IsWholeType, IsWholeMessage}
@@ -23,19 +22,17 @@ use Rattle.spi_parts.proofs.Placed.{types_answer, messages_answer, declarations_
 use Rattle.spi_heading.specs.Headings as h
 use Rattle.spi_heading.specs.Each.{each_pieces}
 use Rattle.spi_heading.specs.Grammar.{shared_pieces, IsShared}
-use Rattle.spi_heading.specs.Spans.{start_of, end_before}
-use Rattle.spi_heading.specs.Taking.{IsThere}
-use Rattle.spi_heading.proofs.Standing.{Stands, IsSolid, unfound, msg_solid, ty_solid, decl_solid}
-use Rattle.spi_heading.proofs.Symbols.{Sym, token, name, message, ty, braced, opening, closing, Value, item_pieces, IsItem, item_behind, the_mark}
+use Rattle.spi_heading.proofs.Standing.{Stands, IsSolid, msg_solid, ty_solid, decl_solid}
+use Rattle.spi_heading.proofs.Symbols.{Sym, token, name, message, ty, braced, opening, closing, Value, item_pieces, IsItem, item_behind}
 use Rattle.spi_heading.proofs.Rows.{Values, row_pieces, AreItems, fits_at}
 use Rattle.spi_heading.proofs.Calls.{part_at}
 use Rattle.spi_heading.proofs.Each.{stands_cut}
 use Rattle.spi_heading.proofs.Names.{shared_row, shared_values}
 use Rattle.spi_narrate.specs.Narrations as n
-use Rattle.spi_narrate.specs.Grammar.{prefix_pieces, whole_prefix, IsPrefix, line_pieces, whole_line, IsLine, comma_pieces, whole_roles}
-use Rattle.spi_narrate.proofs.Prefixes.{split_row, match_row, decrypt_row, check_row, begin_row, end_row, end_many_row, cast_row, new_row}
+use Rattle.spi_narrate.specs.Grammar.{whole_prefix, IsPrefix, whole_line, IsLine, comma_pieces}
+use Rattle.spi_narrate.proofs.Prefixes.{first_word, split_row, match_row, decrypt_row, check_row, label_row, cast_row, new_row}
 use Rattle.spi_narrate.proofs.LineRows.{head_row, colon_row, tail_row, pass_row, head_values, tail_values, pass_values, local_are}
-use Rattle.spi_narrate.proofs.RoleRows.{roles_head, comma_row, semicolon_row, roles_are, comma_behind}
+use Rattle.spi_narrate.proofs.RoleRows.{comma_row}
 
 abbrev a_pair : {X : Type 0} → X → ℕ → X × ℕ
 a_pair z m = (z, m)
@@ -114,17 +111,6 @@ module _ (v : Bool) (ts : List Token) (fit : AreWordsFit v (kinds_of ts)) where
 
   -- ---- what a role does by itself
 
-  abbrev first_word : n.Prefix → Reserved
-  first_word (n.split s m x a y b) = word.Split
-  first_word (n.match s m x a k y b) = word.Match
-  first_word (n.decrypt s m x a k) = word.Decrypt
-  first_word (n.check s m k) = word.Check
-  first_word (n.begin s m) = word.Begin
-  first_word (n.end s m) = word.End
-  first_word (n.end_many s m) = word.EndMany
-  first_word (n.cast s m x a) = word.Cast
-  first_word (n.new s x a) = word.New
-
   first_stands : (x : n.Prefix) (i j : ℕ) → Stands ts i (whole_prefix x) j → (a : Token) × (more : List Token) × (drop i ts ≡ a ∷ more) × (a.kind ≡ K.Reserved (first_word x))
   first_stands (n.split s m x a y b) i j f = (f.2.0, f.2.1, f.2.2, f.2.3)
   first_stands (n.match s m x a k y b) i j f = (f.2.0, f.2.1, f.2.2, f.2.3)
@@ -153,14 +139,14 @@ module _ (v : Bool) (ts : List Token) (fit : AreWordsFit v (kinds_of ts)) where
       let r = row_once check_row i j k (s.from, (tt, (m, (tt, (l, (s.to, tt)))))) (s'.from, (tt, (m', (tt, (l', (s'.to, tt)))))) (tt, (tt, (tt, (tt, (tt, (tt, tt)))))) (tt, (tt, (p.0, (tt, (p.1, (tt, tt)))))) (tt, (tt, (q.0, (tt, (q.1, (tt, tt)))))) f g in
       (ap (λ (z : Values check_row). n.check (record { from = z.0; to = z.1.1.1.1.1.0 }) z.1.1.0 z.1.1.1.1.0) r.0, r.1)
   form_once i j k (n.begin s m) (n.begin s' m') e p q f g =
-      let r = row_once begin_row i j k (s.from, (tt, (m, (s.to, tt)))) (s'.from, (tt, (m', (s'.to, tt)))) (tt, (tt, (tt, (tt, tt)))) (tt, (tt, (p, (tt, tt)))) (tt, (tt, (q, (tt, tt)))) f g in
-      (ap (λ (z : Values begin_row). n.begin (record { from = z.0; to = z.1.1.1.0 }) z.1.1.0) r.0, r.1)
+      let r = row_once (label_row word.Begin) i j k (s.from, (tt, (m, (s.to, tt)))) (s'.from, (tt, (m', (s'.to, tt)))) (tt, (tt, (tt, (tt, tt)))) (tt, (tt, (p, (tt, tt)))) (tt, (tt, (q, (tt, tt)))) f g in
+      (ap (λ (z : Values (label_row word.Begin)). n.begin (record { from = z.0; to = z.1.1.1.0 }) z.1.1.0) r.0, r.1)
   form_once i j k (n.end s m) (n.end s' m') e p q f g =
-      let r = row_once end_row i j k (s.from, (tt, (m, (s.to, tt)))) (s'.from, (tt, (m', (s'.to, tt)))) (tt, (tt, (tt, (tt, tt)))) (tt, (tt, (p, (tt, tt)))) (tt, (tt, (q, (tt, tt)))) f g in
-      (ap (λ (z : Values end_row). n.end (record { from = z.0; to = z.1.1.1.0 }) z.1.1.0) r.0, r.1)
+      let r = row_once (label_row word.End) i j k (s.from, (tt, (m, (s.to, tt)))) (s'.from, (tt, (m', (s'.to, tt)))) (tt, (tt, (tt, (tt, tt)))) (tt, (tt, (p, (tt, tt)))) (tt, (tt, (q, (tt, tt)))) f g in
+      (ap (λ (z : Values (label_row word.End)). n.end (record { from = z.0; to = z.1.1.1.0 }) z.1.1.0) r.0, r.1)
   form_once i j k (n.end_many s m) (n.end_many s' m') e p q f g =
-      let r = row_once end_many_row i j k (s.from, (tt, (m, (s.to, tt)))) (s'.from, (tt, (m', (s'.to, tt)))) (tt, (tt, (tt, (tt, tt)))) (tt, (tt, (p.1, (tt, tt)))) (tt, (tt, (q.1, (tt, tt)))) f g in
-      (ap (λ (z : Values end_many_row). n.end_many (record { from = z.0; to = z.1.1.1.0 }) z.1.1.0) r.0, r.1)
+      let r = row_once (label_row word.EndMany) i j k (s.from, (tt, (m, (s.to, tt)))) (s'.from, (tt, (m', (s'.to, tt)))) (tt, (tt, (tt, (tt, tt)))) (tt, (tt, (p.1, (tt, tt)))) (tt, (tt, (q.1, (tt, tt)))) f g in
+      (ap (λ (z : Values (label_row word.EndMany)). n.end_many (record { from = z.0; to = z.1.1.1.0 }) z.1.1.0) r.0, r.1)
   form_once i j k (n.cast s m x a) (n.cast s' m' x' a') e p q f g =
       let r = row_once cast_row i j k (s.from, (tt, (m, (tt, (tt, (x, (tt, (a, (tt, (s.to, tt)))))))))) (s'.from, (tt, (m', (tt, (tt, (x', (tt, (a', (tt, (s'.to, tt))))))))))
       (tt, (tt, (tt, (tt, (tt, (tt, (tt, (tt, (tt, (tt, tt)))))))))) (tt, (tt, (p.0, (tt, (tt, (tt, (tt, (p.1, (tt, (tt, tt)))))))))) (tt, (tt, (q.0, (tt, (tt, (tt, (tt, (q.1, (tt, (tt, tt)))))))))) f g in

@@ -1,5 +1,5 @@
 -- Tokens are those of one narration at most: its parts in their order.
-use Rattle.std.proofs.Common.{◌≡◌, ℕ, suc, ◌+◌, ◌≤◌, ◌<◌, ◌==◌, Bool, true, false, List, [], ◌∷◌, ◌++◌, length, drop, slice_get, Some, refl, sym, ap, subst, ◌∙◌, codes, ◌⊎◌, inl, inr, arith, append-nil}
+use Rattle.std.proofs.Common.{◌≡◌, ℕ, ◌<◌, Bool, true, false, List, [], ◌∷◌, ◌++◌, length, drop, Some, sym, ap, subst, ◌∙◌, codes, ◌⊎◌, inl, inr, arith, append-nil}
 use Rattle.std.specs.List.{AllByRecursion}
 use Rattle.std.proofs.Math.Seq.{drop-length}
 use Rattle.spi_lex.specs.declared.token.Kind.{Kind}
@@ -25,7 +25,7 @@ use Rattle.spi_heading.proofs.Rows.{row_pieces}
 use Rattle.spi_heading.proofs.Each.{stands_cut}
 use Rattle.spi_heading.proofs.Names.{shared_behind}
 use Rattle.spi_narrate.specs.Narrations as n
-use Rattle.spi_narrate.specs.Grammar.{line_pieces, IsLine, comma_pieces, whole_roles, HasRole, whole_narration, IsNarration, is_later, IsAnyWord}
+use Rattle.spi_narrate.specs.Grammar.{line_pieces, IsLine, comma_pieces, whole_roles, HasRole, whole_narration, IsNarration, IsAnyWord}
 use Rattle.spi_narrate.specs.Reads.{IsSpelled}
 use Rattle.spi_narrate.proofs.LineRows.{line_behind}
 use Rattle.spi_narrate.proofs.RoleRows.{roles_head, semicolon_row, roles_are, comma_behind}

@@ -1,6 +1,5 @@
 -- The forms of what a role does by itself, as rows, each told by its first token.
-use Rattle.std.proofs.Common.{◌≡◌, ℕ, ◌+◌, ◌≤◌, Bool, true, false, List, [], ◌∷◌, ◌++◌, length, drop, Option, Some, Result, Ok, Err, refl, sym, ap, subst, ◌∙◌, ◌⊎◌, inl, inr}
-use Rattle.std.specs.Result.{IsErrAnd}
+use Rattle.std.proofs.Common.{◌≡◌, ℕ, ◌+◌, ◌≤◌, Bool, true, List, [], ◌∷◌, ◌++◌, length, drop, Option, Some, Err, refl, sym, ap, subst, ◌∙◌, ◌⊎◌, inl, inr}
 use Rattle.spi_lex.specs.declared.token.Kind.{Kind}
 use Rattle.spi_lex.specs.declared.token.Kind.TheVariants as K
 use Rattle.spi_lex.specs.declared.token.Mark.TheVariants as mark
@@ -13,16 +12,19 @@ use Rattle.spi_text.specs.declared.lines.Span.{Span}
 use Rattle.spi_tree.specs.Trees as t
 use Rattle.spi_tree.specs.Pieces.{Piece, cells}
 use Rattle.spi_tree.specs.Formed.{AreWordsFit}
-use Rattle.spi_parse.specs.declared.fault.ParseFault.{ParseFault}
+use Rattle.spi_parse.specs.Formed.{whole_message, IsWholeMessage}
 use Rattle.spi_parse.specs.Exact as exact
 use Rattle.spi_grammar.specs.Exactly.{kinds, IsGood}
 use Rattle.spi_parts.proofs.Bridge.{OfPieces}
+use Rattle.spi_heading.specs.Spans.{start_of, end_before, span_over}
 use Rattle.spi_heading.specs.Taking.{IsThere}
-use Rattle.spi_heading.proofs.Failing.{FailsAt, IsToldBy, told_fail, fails_to}
-use Rattle.spi_heading.proofs.Symbols.{Sym, token, name, message, ty, opening, closing, the_mark, the_reserved}
-use Rattle.spi_heading.proofs.Rows.{Values, Row, row_good, row_pieces, row_into, row_from, row_behind, RowAt, RowFails, fits_at}
+use Rattle.spi_heading.proofs.Failing.{IsToldBy, fails_to}
+use Rattle.spi_heading.proofs.Symbols.{Sym, token, name, message, ty, closing, the_mark, the_reserved}
+use Rattle.spi_heading.proofs.Rows.{Values, Row, row_pieces, row_into, row_behind, RowAt}
 use Rattle.spi_heading.proofs.Standing.{Stands, IsSolid}
-use Rattle.spi_heading.proofs.Calls.{part_at, part_stands}
+use Rattle.spi_heading.proofs.Calls.{part_stands, there_within}
+use Rattle.spi_heading.proofs.Reached.{ended, then_message, then_closing}
+use Rattle.spi_heading.proofs.Nodes.{node_row, node_starts, node_told, begun_node, node_reads}
 use Rattle.spi_heading.proofs.Told.{FormOf, forms_good}
 use Rattle.spi_heading.proofs.Wholes.{none_fail}
 use Rattle.spi_grammar.proofs.Good.{IsSome}
@@ -32,57 +34,45 @@ use Rattle.spi_narrate.specs.Grammar.{prefix_pieces, whole_prefix, IsPrefix, IsW
 
 -- the row of a form: a node that begins with the reserved word
 abbrev pub form : Reserved → List Sym → List Sym
-form w ss = opening ∷ token (the_reserved w) ∷ ss
+form w ss = node_row (the_reserved w) ss
 
-abbrev split_rest : List Sym
+abbrev pub split_rest : List Sym
 split_rest = message ∷ token (the_reserved word.Is) ∷ token (the_mark mark.ParenOpen) ∷ name ∷ token (the_mark mark.Colon) ∷ ty ∷ token (the_mark mark.Comma) ∷ name ∷ token (the_mark mark.Colon) ∷ ty ∷ token (the_mark mark.ParenClose) ∷ closing ∷ []
 
 abbrev pub split_row : List Sym
 split_row = form word.Split split_rest
 
-abbrev match_rest : List Sym
+abbrev pub match_rest : List Sym
 match_rest = message ∷ token (the_reserved word.Is) ∷ token (the_mark mark.ParenOpen) ∷ name ∷ token (the_mark mark.Colon) ∷ ty ∷ token (the_mark mark.Equals) ∷ message ∷ token (the_mark mark.Comma) ∷ name ∷ token (the_mark mark.Colon) ∷ ty ∷ token (the_mark mark.ParenClose) ∷ closing ∷ []
 
 abbrev pub match_row : List Sym
 match_row = form word.Match match_rest
 
-abbrev decrypt_rest : List Sym
+abbrev pub decrypt_rest : List Sym
 decrypt_rest = message ∷ token (the_reserved word.Is) ∷ token (the_mark mark.BraceOpen) ∷ name ∷ token (the_mark mark.Colon) ∷ ty ∷ token (the_mark mark.BraceClose) ∷ message ∷ closing ∷ []
 
 abbrev pub decrypt_row : List Sym
 decrypt_row = form word.Decrypt decrypt_rest
 
-abbrev check_rest : List Sym
+abbrev pub check_rest : List Sym
 check_rest = message ∷ token (the_reserved word.Is) ∷ message ∷ closing ∷ []
 
 abbrev pub check_row : List Sym
 check_row = form word.Check check_rest
 
-abbrev begin_rest : List Sym
-begin_rest = message ∷ closing ∷ []
+abbrev pub label_rest : List Sym
+label_rest = message ∷ closing ∷ []
 
-abbrev pub begin_row : List Sym
-begin_row = form word.Begin begin_rest
+abbrev pub label_row : Reserved → List Sym
+label_row w = form w label_rest
 
-abbrev end_rest : List Sym
-end_rest = message ∷ closing ∷ []
-
-abbrev pub end_row : List Sym
-end_row = form word.End end_rest
-
-abbrev end_many_rest : List Sym
-end_many_rest = message ∷ closing ∷ []
-
-abbrev pub end_many_row : List Sym
-end_many_row = form word.EndMany end_many_rest
-
-abbrev cast_rest : List Sym
+abbrev pub cast_rest : List Sym
 cast_rest = message ∷ token (the_reserved word.Is) ∷ token (the_mark mark.ParenOpen) ∷ name ∷ token (the_mark mark.Colon) ∷ ty ∷ token (the_mark mark.ParenClose) ∷ closing ∷ []
 
 abbrev pub cast_row : List Sym
 cast_row = form word.Cast cast_rest
 
-abbrev new_rest : List Sym
+abbrev pub new_rest : List Sym
 new_rest = token (the_mark mark.ParenOpen) ∷ name ∷ token (the_mark mark.Colon) ∷ ty ∷ token (the_mark mark.ParenClose) ∷ closing ∷ []
 
 abbrev pub new_row : List Sym
@@ -92,155 +82,95 @@ module _ (v : Bool) where
   abbrev pub Prefixes : List (Kind × Bool) → Type 0
   Prefixes = OfPieces whole_prefix (IsWholePrefix v)
 
-  form_starts : (w : Reserved) (ss : List Sym) → (a : List (Kind × Bool)) × Row v (form w ss) a × (x : List Kind) × (kinds a ≡ K.Reserved w ∷ x)
-  form_starts w ss =
-      let r = (row_good v ss).live in
-      let inner : Row v (token (the_reserved w) ∷ ss) ((K.Reserved w, false) ∷ r.0) = record { left = (K.Reserved w, false) ∷ []; right = r.0; one = record { token = K.Reserved w; is = refl; cells = refl }; two = r.1; cells = refl } in
-      ((K.Reserved w, false) ∷ r.0, record { left = []; right = (K.Reserved w, false) ∷ r.0; one = refl; two = inner; cells = refl }, kinds r.0, refl)
-
   split_is : (s : Span) (m : t.Msg) (x : SWord) (a : t.Ty) (y : SWord) (b : t.Ty) → IsWholePrefix v (n.split s m x a y b) → Row v split_row (cells (whole_prefix (n.split s m x a y b)))
   split_is s m x a y b is = row_into v split_row (s.from, (tt, (m, (tt, (tt, (x, (tt, (a, (tt, (y, (tt, (b, (tt, (s.to, tt)))))))))))))) (tt, (tt, (is.0.0, (tt, (tt, (tt, (tt, (is.0.1, (tt, (tt, (tt, (is.0.2, (tt, (tt, tt)))))))))))))) is.1
 
   pub split_told : IsToldBy (K.Reserved word.Split) (Row v split_row) Prefixes
-  split_told = record { starts = form_starts word.Split split_rest; into = into; splits = λ cs p. splits cs p.part p.is p.shows }
+  split_told = node_told v whole_prefix (IsWholePrefix v) (the_reserved word.Split) split_rest (λ x. n.split (record { from = x.0; to = x.1.1.1.1.1.1.1.1.1.1.1.1.1.0 }) x.1.1.0 x.1.1.1.1.1.0 x.1.1.1.1.1.1.1.0 x.1.1.1.1.1.1.1.1.1.0 x.1.1.1.1.1.1.1.1.1.1.1.0) (λ x are fit. ((are.1.1.0, are.1.1.1.1.1.1.1.0, are.1.1.1.1.1.1.1.1.1.1.1.0), fit)) (λ x. refl) either
     where
-      into : (cs : List (Kind × Bool)) → Row v split_row cs → Prefixes cs
-      into cs h =
-          let r = row_from v split_row cs h in
-          let x = r.values in
-          record { part = n.split (record { from = x.0; to = x.1.1.1.1.1.1.1.1.1.1.1.1.1.0 }) x.1.1.0 x.1.1.1.1.1.0 x.1.1.1.1.1.1.1.0 x.1.1.1.1.1.1.1.1.1.0 x.1.1.1.1.1.1.1.1.1.1.1.0; is = ((r.are.1.1.0, r.are.1.1.1.1.1.1.1.0, r.are.1.1.1.1.1.1.1.1.1.1.1.0), r.fit); shows = r.shows }
-
-      splits : (cs : List (Kind × Bool)) (p : n.Prefix) → IsWholePrefix v p → cells (whole_prefix p) ≡ cs → Row v split_row cs ⊎ ((x : List Kind) → kinds cs ≡ K.Reserved word.Split ∷ x → ⊥)
-      splits cs (n.split s m x a y b) is e = inl (subst (Row v split_row) e (split_is s m x a y b is))
-      splits cs p is e = inr (λ x g. let both : kinds (cells (whole_prefix p)) ≡ K.Reserved word.Split ∷ x = ap kinds e ∙ g in cc)
+      either : (x : n.Prefix) → IsWholePrefix v x → Row v split_row (cells (whole_prefix x)) ⊎ ((y : List Kind) → kinds (cells (whole_prefix x)) ≡ K.Reserved word.Split ∷ y → ⊥)
+      either (n.split s m x a y b) is = inl (split_is s m x a y b is)
+      either x is = inr (λ y g. cc)
 
   match_is : (s : Span) (m : t.Msg) (x : SWord) (a : t.Ty) (k : t.Msg) (y : SWord) (b : t.Ty) → IsWholePrefix v (n.match s m x a k y b) → Row v match_row (cells (whole_prefix (n.match s m x a k y b)))
   match_is s m x a k y b is = row_into v match_row (s.from, (tt, (m, (tt, (tt, (x, (tt, (a, (tt, (k, (tt, (y, (tt, (b, (tt, (s.to, tt)))))))))))))))) (tt, (tt, (is.0.0, (tt, (tt, (tt, (tt, (is.0.1, (tt, (is.0.2, (tt, (tt, (tt, (is.0.3, (tt, (tt, tt)))))))))))))))) is.1
 
   pub match_told : IsToldBy (K.Reserved word.Match) (Row v match_row) Prefixes
-  match_told = record { starts = form_starts word.Match match_rest; into = into; splits = λ cs p. splits cs p.part p.is p.shows }
+  match_told = node_told v whole_prefix (IsWholePrefix v) (the_reserved word.Match) match_rest (λ x. n.match (record { from = x.0; to = x.1.1.1.1.1.1.1.1.1.1.1.1.1.1.1.0 }) x.1.1.0 x.1.1.1.1.1.0 x.1.1.1.1.1.1.1.0 x.1.1.1.1.1.1.1.1.1.0 x.1.1.1.1.1.1.1.1.1.1.1.0 x.1.1.1.1.1.1.1.1.1.1.1.1.1.0) (λ x are fit. ((are.1.1.0, are.1.1.1.1.1.1.1.0, are.1.1.1.1.1.1.1.1.1.0, are.1.1.1.1.1.1.1.1.1.1.1.1.1.0), fit)) (λ x. refl) either
     where
-      into : (cs : List (Kind × Bool)) → Row v match_row cs → Prefixes cs
-      into cs h =
-          let r = row_from v match_row cs h in
-          let x = r.values in
-          record { part = n.match (record { from = x.0; to = x.1.1.1.1.1.1.1.1.1.1.1.1.1.1.1.0 }) x.1.1.0 x.1.1.1.1.1.0 x.1.1.1.1.1.1.1.0 x.1.1.1.1.1.1.1.1.1.0 x.1.1.1.1.1.1.1.1.1.1.1.0 x.1.1.1.1.1.1.1.1.1.1.1.1.1.0; is = ((r.are.1.1.0, r.are.1.1.1.1.1.1.1.0, r.are.1.1.1.1.1.1.1.1.1.0, r.are.1.1.1.1.1.1.1.1.1.1.1.1.1.0), r.fit); shows = r.shows }
-
-      splits : (cs : List (Kind × Bool)) (p : n.Prefix) → IsWholePrefix v p → cells (whole_prefix p) ≡ cs → Row v match_row cs ⊎ ((x : List Kind) → kinds cs ≡ K.Reserved word.Match ∷ x → ⊥)
-      splits cs (n.match s m x a k y b) is e = inl (subst (Row v match_row) e (match_is s m x a k y b is))
-      splits cs p is e = inr (λ x g. let both : kinds (cells (whole_prefix p)) ≡ K.Reserved word.Match ∷ x = ap kinds e ∙ g in cc)
+      either : (x : n.Prefix) → IsWholePrefix v x → Row v match_row (cells (whole_prefix x)) ⊎ ((y : List Kind) → kinds (cells (whole_prefix x)) ≡ K.Reserved word.Match ∷ y → ⊥)
+      either (n.match s m x a k y b) is = inl (match_is s m x a k y b is)
+      either x is = inr (λ y g. cc)
 
   decrypt_is : (s : Span) (m : t.Msg) (x : SWord) (a : t.Ty) (k : t.Msg) → IsWholePrefix v (n.decrypt s m x a k) → Row v decrypt_row (cells (whole_prefix (n.decrypt s m x a k)))
   decrypt_is s m x a k is = row_into v decrypt_row (s.from, (tt, (m, (tt, (tt, (x, (tt, (a, (tt, (k, (s.to, tt))))))))))) (tt, (tt, (is.0.0, (tt, (tt, (tt, (tt, (is.0.1, (tt, (is.0.2, (tt, tt))))))))))) is.1
 
   pub decrypt_told : IsToldBy (K.Reserved word.Decrypt) (Row v decrypt_row) Prefixes
-  decrypt_told = record { starts = form_starts word.Decrypt decrypt_rest; into = into; splits = λ cs p. splits cs p.part p.is p.shows }
+  decrypt_told = node_told v whole_prefix (IsWholePrefix v) (the_reserved word.Decrypt) decrypt_rest (λ x. n.decrypt (record { from = x.0; to = x.1.1.1.1.1.1.1.1.1.1.0 }) x.1.1.0 x.1.1.1.1.1.0 x.1.1.1.1.1.1.1.0 x.1.1.1.1.1.1.1.1.1.0) (λ x are fit. ((are.1.1.0, are.1.1.1.1.1.1.1.0, are.1.1.1.1.1.1.1.1.1.0), fit)) (λ x. refl) either
     where
-      into : (cs : List (Kind × Bool)) → Row v decrypt_row cs → Prefixes cs
-      into cs h =
-          let r = row_from v decrypt_row cs h in
-          let x = r.values in
-          record { part = n.decrypt (record { from = x.0; to = x.1.1.1.1.1.1.1.1.1.1.0 }) x.1.1.0 x.1.1.1.1.1.0 x.1.1.1.1.1.1.1.0 x.1.1.1.1.1.1.1.1.1.0; is = ((r.are.1.1.0, r.are.1.1.1.1.1.1.1.0, r.are.1.1.1.1.1.1.1.1.1.0), r.fit); shows = r.shows }
-
-      splits : (cs : List (Kind × Bool)) (p : n.Prefix) → IsWholePrefix v p → cells (whole_prefix p) ≡ cs → Row v decrypt_row cs ⊎ ((x : List Kind) → kinds cs ≡ K.Reserved word.Decrypt ∷ x → ⊥)
-      splits cs (n.decrypt s m x a k) is e = inl (subst (Row v decrypt_row) e (decrypt_is s m x a k is))
-      splits cs p is e = inr (λ x g. let both : kinds (cells (whole_prefix p)) ≡ K.Reserved word.Decrypt ∷ x = ap kinds e ∙ g in cc)
+      either : (x : n.Prefix) → IsWholePrefix v x → Row v decrypt_row (cells (whole_prefix x)) ⊎ ((y : List Kind) → kinds (cells (whole_prefix x)) ≡ K.Reserved word.Decrypt ∷ y → ⊥)
+      either (n.decrypt s m x a k) is = inl (decrypt_is s m x a k is)
+      either x is = inr (λ y g. cc)
 
   check_is : (s : Span) (m : t.Msg) (k : t.Msg) → IsWholePrefix v (n.check s m k) → Row v check_row (cells (whole_prefix (n.check s m k)))
   check_is s m k is = row_into v check_row (s.from, (tt, (m, (tt, (k, (s.to, tt)))))) (tt, (tt, (is.0.0, (tt, (is.0.1, (tt, tt)))))) is.1
 
   pub check_told : IsToldBy (K.Reserved word.Check) (Row v check_row) Prefixes
-  check_told = record { starts = form_starts word.Check check_rest; into = into; splits = λ cs p. splits cs p.part p.is p.shows }
+  check_told = node_told v whole_prefix (IsWholePrefix v) (the_reserved word.Check) check_rest (λ x. n.check (record { from = x.0; to = x.1.1.1.1.1.0 }) x.1.1.0 x.1.1.1.1.0) (λ x are fit. ((are.1.1.0, are.1.1.1.1.0), fit)) (λ x. refl) either
     where
-      into : (cs : List (Kind × Bool)) → Row v check_row cs → Prefixes cs
-      into cs h =
-          let r = row_from v check_row cs h in
-          let x = r.values in
-          record { part = n.check (record { from = x.0; to = x.1.1.1.1.1.0 }) x.1.1.0 x.1.1.1.1.0; is = ((r.are.1.1.0, r.are.1.1.1.1.0), r.fit); shows = r.shows }
+      either : (x : n.Prefix) → IsWholePrefix v x → Row v check_row (cells (whole_prefix x)) ⊎ ((y : List Kind) → kinds (cells (whole_prefix x)) ≡ K.Reserved word.Check ∷ y → ⊥)
+      either (n.check s m k) is = inl (check_is s m k is)
+      either x is = inr (λ y g. cc)
 
-      splits : (cs : List (Kind × Bool)) (p : n.Prefix) → IsWholePrefix v p → cells (whole_prefix p) ≡ cs → Row v check_row cs ⊎ ((x : List Kind) → kinds cs ≡ K.Reserved word.Check ∷ x → ⊥)
-      splits cs (n.check s m k) is e = inl (subst (Row v check_row) e (check_is s m k is))
-      splits cs p is e = inr (λ x g. let both : kinds (cells (whole_prefix p)) ≡ K.Reserved word.Check ∷ x = ap kinds e ∙ g in cc)
+  begin_is : (s : Span) (m : t.Msg) → IsWholePrefix v (n.begin s m) → Row v (label_row word.Begin) (cells (whole_prefix (n.begin s m)))
+  begin_is s m is = row_into v (label_row word.Begin) (s.from, (tt, (m, (s.to, tt)))) (tt, (tt, (is.0, (tt, tt)))) is.1
 
-  begin_is : (s : Span) (m : t.Msg) → IsWholePrefix v (n.begin s m) → Row v begin_row (cells (whole_prefix (n.begin s m)))
-  begin_is s m is = row_into v begin_row (s.from, (tt, (m, (s.to, tt)))) (tt, (tt, (is.0, (tt, tt)))) is.1
-
-  pub begin_told : IsToldBy (K.Reserved word.Begin) (Row v begin_row) Prefixes
-  begin_told = record { starts = form_starts word.Begin begin_rest; into = into; splits = λ cs p. splits cs p.part p.is p.shows }
+  pub begin_told : IsToldBy (K.Reserved word.Begin) (Row v (label_row word.Begin)) Prefixes
+  begin_told = node_told v whole_prefix (IsWholePrefix v) (the_reserved word.Begin) label_rest (λ x. n.begin (record { from = x.0; to = x.1.1.1.0 }) x.1.1.0) (λ x are fit. (are.1.1.0, fit)) (λ x. refl) either
     where
-      into : (cs : List (Kind × Bool)) → Row v begin_row cs → Prefixes cs
-      into cs h =
-          let r = row_from v begin_row cs h in
-          let x = r.values in
-          record { part = n.begin (record { from = x.0; to = x.1.1.1.0 }) x.1.1.0; is = (r.are.1.1.0, r.fit); shows = r.shows }
+      either : (x : n.Prefix) → IsWholePrefix v x → Row v (label_row word.Begin) (cells (whole_prefix x)) ⊎ ((y : List Kind) → kinds (cells (whole_prefix x)) ≡ K.Reserved word.Begin ∷ y → ⊥)
+      either (n.begin s m) is = inl (begin_is s m is)
+      either x is = inr (λ y g. cc)
 
-      splits : (cs : List (Kind × Bool)) (p : n.Prefix) → IsWholePrefix v p → cells (whole_prefix p) ≡ cs → Row v begin_row cs ⊎ ((x : List Kind) → kinds cs ≡ K.Reserved word.Begin ∷ x → ⊥)
-      splits cs (n.begin s m) is e = inl (subst (Row v begin_row) e (begin_is s m is))
-      splits cs p is e = inr (λ x g. let both : kinds (cells (whole_prefix p)) ≡ K.Reserved word.Begin ∷ x = ap kinds e ∙ g in cc)
+  end_is : (s : Span) (m : t.Msg) → IsWholePrefix v (n.end s m) → Row v (label_row word.End) (cells (whole_prefix (n.end s m)))
+  end_is s m is = row_into v (label_row word.End) (s.from, (tt, (m, (s.to, tt)))) (tt, (tt, (is.0, (tt, tt)))) is.1
 
-  end_is : (s : Span) (m : t.Msg) → IsWholePrefix v (n.end s m) → Row v end_row (cells (whole_prefix (n.end s m)))
-  end_is s m is = row_into v end_row (s.from, (tt, (m, (s.to, tt)))) (tt, (tt, (is.0, (tt, tt)))) is.1
-
-  pub end_told : IsToldBy (K.Reserved word.End) (Row v end_row) Prefixes
-  end_told = record { starts = form_starts word.End end_rest; into = into; splits = λ cs p. splits cs p.part p.is p.shows }
+  pub end_told : IsToldBy (K.Reserved word.End) (Row v (label_row word.End)) Prefixes
+  end_told = node_told v whole_prefix (IsWholePrefix v) (the_reserved word.End) label_rest (λ x. n.end (record { from = x.0; to = x.1.1.1.0 }) x.1.1.0) (λ x are fit. (are.1.1.0, fit)) (λ x. refl) either
     where
-      into : (cs : List (Kind × Bool)) → Row v end_row cs → Prefixes cs
-      into cs h =
-          let r = row_from v end_row cs h in
-          let x = r.values in
-          record { part = n.end (record { from = x.0; to = x.1.1.1.0 }) x.1.1.0; is = (r.are.1.1.0, r.fit); shows = r.shows }
+      either : (x : n.Prefix) → IsWholePrefix v x → Row v (label_row word.End) (cells (whole_prefix x)) ⊎ ((y : List Kind) → kinds (cells (whole_prefix x)) ≡ K.Reserved word.End ∷ y → ⊥)
+      either (n.end s m) is = inl (end_is s m is)
+      either x is = inr (λ y g. cc)
 
-      splits : (cs : List (Kind × Bool)) (p : n.Prefix) → IsWholePrefix v p → cells (whole_prefix p) ≡ cs → Row v end_row cs ⊎ ((x : List Kind) → kinds cs ≡ K.Reserved word.End ∷ x → ⊥)
-      splits cs (n.end s m) is e = inl (subst (Row v end_row) e (end_is s m is))
-      splits cs p is e = inr (λ x g. let both : kinds (cells (whole_prefix p)) ≡ K.Reserved word.End ∷ x = ap kinds e ∙ g in cc)
+  end_many_is : (s : Span) (m : t.Msg) → IsWholePrefix v (n.end_many s m) → Row v (label_row word.EndMany) (cells (whole_prefix (n.end_many s m)))
+  end_many_is s m is = row_into v (label_row word.EndMany) (s.from, (tt, (m, (s.to, tt)))) (tt, (tt, (is.0.1, (tt, tt)))) is.1
 
-  end_many_is : (s : Span) (m : t.Msg) → IsWholePrefix v (n.end_many s m) → Row v end_many_row (cells (whole_prefix (n.end_many s m)))
-  end_many_is s m is = row_into v end_many_row (s.from, (tt, (m, (s.to, tt)))) (tt, (tt, (is.0.1, (tt, tt)))) is.1
-
-  pub end_many_told : v ≡ true → IsToldBy (K.Reserved word.EndMany) (Row v end_many_row) Prefixes
-  end_many_told later = record { starts = form_starts word.EndMany end_many_rest; into = into; splits = λ cs p. splits cs p.part p.is p.shows }
+  pub end_many_told : v ≡ true → IsToldBy (K.Reserved word.EndMany) (Row v (label_row word.EndMany)) Prefixes
+  end_many_told later = node_told v whole_prefix (IsWholePrefix v) (the_reserved word.EndMany) label_rest (λ x. n.end_many (record { from = x.0; to = x.1.1.1.0 }) x.1.1.0) (λ x are fit. ((later, are.1.1.0), fit)) (λ x. refl) either
     where
-      into : (cs : List (Kind × Bool)) → Row v end_many_row cs → Prefixes cs
-      into cs h =
-          let r = row_from v end_many_row cs h in
-          let x = r.values in
-          record { part = n.end_many (record { from = x.0; to = x.1.1.1.0 }) x.1.1.0; is = ((later, r.are.1.1.0), r.fit); shows = r.shows }
-
-      splits : (cs : List (Kind × Bool)) (p : n.Prefix) → IsWholePrefix v p → cells (whole_prefix p) ≡ cs → Row v end_many_row cs ⊎ ((x : List Kind) → kinds cs ≡ K.Reserved word.EndMany ∷ x → ⊥)
-      splits cs (n.end_many s m) is e = inl (subst (Row v end_many_row) e (end_many_is s m is))
-      splits cs p is e = inr (λ x g. let both : kinds (cells (whole_prefix p)) ≡ K.Reserved word.EndMany ∷ x = ap kinds e ∙ g in cc)
+      either : (x : n.Prefix) → IsWholePrefix v x → Row v (label_row word.EndMany) (cells (whole_prefix x)) ⊎ ((y : List Kind) → kinds (cells (whole_prefix x)) ≡ K.Reserved word.EndMany ∷ y → ⊥)
+      either (n.end_many s m) is = inl (end_many_is s m is)
+      either x is = inr (λ y g. cc)
 
   cast_is : (s : Span) (m : t.Msg) (x : SWord) (a : t.Ty) → IsWholePrefix v (n.cast s m x a) → Row v cast_row (cells (whole_prefix (n.cast s m x a)))
   cast_is s m x a is = row_into v cast_row (s.from, (tt, (m, (tt, (tt, (x, (tt, (a, (tt, (s.to, tt)))))))))) (tt, (tt, (is.0.0, (tt, (tt, (tt, (tt, (is.0.1, (tt, (tt, tt)))))))))) is.1
 
   pub cast_told : IsToldBy (K.Reserved word.Cast) (Row v cast_row) Prefixes
-  cast_told = record { starts = form_starts word.Cast cast_rest; into = into; splits = λ cs p. splits cs p.part p.is p.shows }
+  cast_told = node_told v whole_prefix (IsWholePrefix v) (the_reserved word.Cast) cast_rest (λ x. n.cast (record { from = x.0; to = x.1.1.1.1.1.1.1.1.1.0 }) x.1.1.0 x.1.1.1.1.1.0 x.1.1.1.1.1.1.1.0) (λ x are fit. ((are.1.1.0, are.1.1.1.1.1.1.1.0), fit)) (λ x. refl) either
     where
-      into : (cs : List (Kind × Bool)) → Row v cast_row cs → Prefixes cs
-      into cs h =
-          let r = row_from v cast_row cs h in
-          let x = r.values in
-          record { part = n.cast (record { from = x.0; to = x.1.1.1.1.1.1.1.1.1.0 }) x.1.1.0 x.1.1.1.1.1.0 x.1.1.1.1.1.1.1.0; is = ((r.are.1.1.0, r.are.1.1.1.1.1.1.1.0), r.fit); shows = r.shows }
-
-      splits : (cs : List (Kind × Bool)) (p : n.Prefix) → IsWholePrefix v p → cells (whole_prefix p) ≡ cs → Row v cast_row cs ⊎ ((x : List Kind) → kinds cs ≡ K.Reserved word.Cast ∷ x → ⊥)
-      splits cs (n.cast s m x a) is e = inl (subst (Row v cast_row) e (cast_is s m x a is))
-      splits cs p is e = inr (λ x g. let both : kinds (cells (whole_prefix p)) ≡ K.Reserved word.Cast ∷ x = ap kinds e ∙ g in cc)
+      either : (x : n.Prefix) → IsWholePrefix v x → Row v cast_row (cells (whole_prefix x)) ⊎ ((y : List Kind) → kinds (cells (whole_prefix x)) ≡ K.Reserved word.Cast ∷ y → ⊥)
+      either (n.cast s m x a) is = inl (cast_is s m x a is)
+      either x is = inr (λ y g. cc)
 
   new_is : (s : Span) (x : SWord) (a : t.Ty) → IsWholePrefix v (n.new s x a) → Row v new_row (cells (whole_prefix (n.new s x a)))
   new_is s x a is = row_into v new_row (s.from, (tt, (tt, (x, (tt, (a, (tt, (s.to, tt)))))))) (tt, (tt, (tt, (tt, (tt, (is.0, (tt, (tt, tt)))))))) is.1
 
   pub new_told : IsToldBy (K.Reserved word.New) (Row v new_row) Prefixes
-  new_told = record { starts = form_starts word.New new_rest; into = into; splits = λ cs p. splits cs p.part p.is p.shows }
+  new_told = node_told v whole_prefix (IsWholePrefix v) (the_reserved word.New) new_rest (λ x. n.new (record { from = x.0; to = x.1.1.1.1.1.1.1.0 }) x.1.1.1.0 x.1.1.1.1.1.0) (λ x are fit. (are.1.1.1.1.1.0, fit)) (λ x. refl) either
     where
-      into : (cs : List (Kind × Bool)) → Row v new_row cs → Prefixes cs
-      into cs h =
-          let r = row_from v new_row cs h in
-          let x = r.values in
-          record { part = n.new (record { from = x.0; to = x.1.1.1.1.1.1.1.0 }) x.1.1.1.0 x.1.1.1.1.1.0; is = (r.are.1.1.1.1.1.0, r.fit); shows = r.shows }
-
-      splits : (cs : List (Kind × Bool)) (p : n.Prefix) → IsWholePrefix v p → cells (whole_prefix p) ≡ cs → Row v new_row cs ⊎ ((x : List Kind) → kinds cs ≡ K.Reserved word.New ∷ x → ⊥)
-      splits cs (n.new s x a) is e = inl (subst (Row v new_row) e (new_is s x a is))
-      splits cs p is e = inr (λ x g. let both : kinds (cells (whole_prefix p)) ≡ K.Reserved word.New ∷ x = ap kinds e ∙ g in cc)
+      either : (x : n.Prefix) → IsWholePrefix v x → Row v new_row (cells (whole_prefix x)) ⊎ ((y : List Kind) → kinds (cells (whole_prefix x)) ≡ K.Reserved word.New ∷ y → ⊥)
+      either (n.new s x a) is = inl (new_is s x a is)
+      either x is = inr (λ y g. cc)
 
   pub prefix_form : (a : List (Kind × Bool)) → Prefixes a → FormOf v Prefixes a
   prefix_form a p = go p.part p.is p.shows
@@ -250,14 +180,14 @@ module _ (v : Bool) where
       go (n.match s m x a k y b) is e = record { first = K.Reserved word.Match; row = match_row; told = match_told; is = subst (Row v match_row) e (match_is s m x a k y b is); begins = (_, ap kinds (sym e)) }
       go (n.decrypt s m x a k) is e = record { first = K.Reserved word.Decrypt; row = decrypt_row; told = decrypt_told; is = subst (Row v decrypt_row) e (decrypt_is s m x a k is); begins = (_, ap kinds (sym e)) }
       go (n.check s m k) is e = record { first = K.Reserved word.Check; row = check_row; told = check_told; is = subst (Row v check_row) e (check_is s m k is); begins = (_, ap kinds (sym e)) }
-      go (n.begin s m) is e = record { first = K.Reserved word.Begin; row = begin_row; told = begin_told; is = subst (Row v begin_row) e (begin_is s m is); begins = (_, ap kinds (sym e)) }
-      go (n.end s m) is e = record { first = K.Reserved word.End; row = end_row; told = end_told; is = subst (Row v end_row) e (end_is s m is); begins = (_, ap kinds (sym e)) }
-      go (n.end_many s m) is e = record { first = K.Reserved word.EndMany; row = end_many_row; told = end_many_told is.0.0; is = subst (Row v end_many_row) e (end_many_is s m is); begins = (_, ap kinds (sym e)) }
+      go (n.begin s m) is e = record { first = K.Reserved word.Begin; row = (label_row word.Begin); told = begin_told; is = subst (Row v (label_row word.Begin)) e (begin_is s m is); begins = (_, ap kinds (sym e)) }
+      go (n.end s m) is e = record { first = K.Reserved word.End; row = (label_row word.End); told = end_told; is = subst (Row v (label_row word.End)) e (end_is s m is); begins = (_, ap kinds (sym e)) }
+      go (n.end_many s m) is e = record { first = K.Reserved word.EndMany; row = (label_row word.EndMany); told = end_many_told is.0.0; is = subst (Row v (label_row word.EndMany)) e (end_many_is s m is); begins = (_, ap kinds (sym e)) }
       go (n.cast s m x a) is e = record { first = K.Reserved word.Cast; row = cast_row; told = cast_told; is = subst (Row v cast_row) e (cast_is s m x a is); begins = (_, ap kinds (sym e)) }
       go (n.new s x a) is e = record { first = K.Reserved word.New; row = new_row; told = new_told; is = subst (Row v new_row) e (new_is s x a is); begins = (_, ap kinds (sym e)) }
 
   pub prefixes_good : IsGood Prefixes
-  prefixes_good = forms_good v Prefixes prefix_form (let r = form_starts word.Begin begin_rest in (r.0, begin_told.into r.0 r.1))
+  prefixes_good = forms_good v Prefixes prefix_form (let r = node_starts v (the_reserved word.Begin) label_rest in (r.0, begin_told.into r.0 r.1))
 
   pub prefix_solid : (x : n.Prefix) (r : List Piece) → IsSolid (prefix_pieces x r)
   prefix_solid (n.split s m x a y b) r = tt
@@ -275,25 +205,39 @@ module _ (v : Bool) where
   prefix_behind (n.match s m x a k y b) r = row_behind match_row (s.from, (tt, (m, (tt, (tt, (x, (tt, (a, (tt, (k, (tt, (y, (tt, (b, (tt, (s.to, tt)))))))))))))))) r
   prefix_behind (n.decrypt s m x a k) r = row_behind decrypt_row (s.from, (tt, (m, (tt, (tt, (x, (tt, (a, (tt, (k, (s.to, tt))))))))))) r
   prefix_behind (n.check s m k) r = row_behind check_row (s.from, (tt, (m, (tt, (k, (s.to, tt)))))) r
-  prefix_behind (n.begin s m) r = row_behind begin_row (s.from, (tt, (m, (s.to, tt)))) r
-  prefix_behind (n.end s m) r = row_behind end_row (s.from, (tt, (m, (s.to, tt)))) r
-  prefix_behind (n.end_many s m) r = row_behind end_many_row (s.from, (tt, (m, (s.to, tt)))) r
+  prefix_behind (n.begin s m) r = row_behind (label_row word.Begin) (s.from, (tt, (m, (s.to, tt)))) r
+  prefix_behind (n.end s m) r = row_behind (label_row word.End) (s.from, (tt, (m, (s.to, tt)))) r
+  prefix_behind (n.end_many s m) r = row_behind (label_row word.EndMany) (s.from, (tt, (m, (s.to, tt)))) r
   prefix_behind (n.cast s m x a) r = row_behind cast_row (s.from, (tt, (m, (tt, (tt, (x, (tt, (a, (tt, (s.to, tt)))))))))) r
   prefix_behind (n.new s x a) r = row_behind new_row (s.from, (tt, (tt, (x, (tt, (a, (tt, (s.to, tt)))))))) r
 
+  -- ---- the forms that have a label alone
+
+  abbrev pub IsLabelled : Reserved → Type 0
+  IsLabelled w = (w ≡ word.Begin) ⊎ ((w ≡ word.End) ⊎ ((w ≡ word.EndMany) × (v ≡ true)))
+
+  pub label_told : (w : Reserved) → IsLabelled w → IsToldBy (K.Reserved w) (Row v (label_row w)) Prefixes
+  label_told w (inl e) = subst (λ (x : Reserved). IsToldBy (K.Reserved x) (Row v (label_row x)) Prefixes) (sym e) begin_told
+  label_told w (inr (inl e)) = subst (λ (x : Reserved). IsToldBy (K.Reserved x) (Row v (label_row x)) Prefixes) (sym e) end_told
+  label_told w (inr (inr e)) = subst (λ (x : Reserved). IsToldBy (K.Reserved x) (Row v (label_row x)) Prefixes) (sym e.0) (end_many_told e.1)
+
+  pub last_label : (w : Reserved) → IsLabelled w → (w ≡ word.Begin → ⊥) → (w ≡ word.End → ⊥) → (w ≡ word.EndMany) × (v ≡ true)
+  last_label w (inl e) no_begin no_end = absurd (no_begin e)
+  last_label w (inr (inl e)) no_begin no_end = absurd (no_end e)
+  last_label w (inr (inr e)) no_begin no_end = e
+
   -- ---- the answers of the readers of forms
 
-  module _ (ts : List Token) (i : ℕ) where
-    pub form_fails : {V : Type 0} (view : V → n.Prefix) (w : Reserved) (row : List Sym) → IsToldBy (K.Reserved w) (Row v row) Prefixes → IsThere ts i (K.Reserved w) → (f : ParseFault) (r : Result (V × ℕ) ParseFault) → IsErrAnd r (λ e. e ≡ f)
-        → RowFails v ts i row f → exact.Reads view whole_prefix (IsWholePrefix v) r ts i
-    form_fails view w row told there f (Ok x) is h = absurd is
-    form_fails view w row told there f (Err e) is h = fails_to view whole_prefix (IsWholePrefix v) ts i e (subst (λ (g : ParseFault). FailsAt Prefixes ts i g) (sym is) (told_fail (K.Reserved w) (Row v row) Prefixes told ts i there f h.by))
+  pub prefix_reads : (ts : List Token) (i : ℕ) → AreWordsFit v (kinds_of ts) → (x : Span → n.Prefix) (s : Span) (j : ℕ) → s ≡ span_over ts i j → IsPrefix v (x (span_over ts i j)) → (row : List Sym) (xs : Values row) → whole_prefix (x (span_over ts i j)) ≡ row_pieces row xs []
+      → RowAt v ts i row xs j → (m : ℕ) × (j ≡ i + m) × exact.IsPartAt whole_prefix (IsWholePrefix v) (x s) (drop i ts) m
+  prefix_reads ts i = node_reads v whole_prefix (IsPrefix v) (λ x. prefix_solid x []) prefixes_good.closed ts i
 
-    pub prefix_reads : (x : n.Prefix) (j : ℕ) → AreWordsFit v (kinds_of ts) → IsPrefix v x → (row : List Sym) (xs : Values row) → whole_prefix x ≡ row_pieces row xs [] → RowAt v ts i row xs j
-        → (m : ℕ) × (j ≡ i + m) × exact.IsPartAt whole_prefix (IsWholePrefix v) x (drop i ts) m
-    prefix_reads x j fit formed row xs are r =
-        let stands = subst (λ (l : List Piece). Stands ts i l j) (sym are) r.stands in
-        part_at whole_prefix (IsWholePrefix v) x ts i j (formed, fits_at v ts (whole_prefix x) i j fit stands) (prefix_solid x []) prefixes_good.closed stands
+  module _ (ts : List Token) (i : ℕ) where
+    pub label_reads : AreWordsFit v (kinds_of ts) → (x : Span → n.Prefix) (s : Span) (j : ℕ) → s ≡ span_over ts i j → (w : Reserved) → IsThere ts i (K.Reserved w) → (m : t.Msg) → (h : (k : ℕ) × (j ≡ (i + 1) + k) × exact.IsPartAt whole_message (IsWholeMessage v) m (drop (i + 1) ts) k)
+        → IsPrefix v (x (span_over ts i j)) → whole_prefix (x (span_over ts i j)) ≡ row_pieces (label_row w) (start_of ts i, (tt, (m, (end_before ts j, tt)))) [] → (k : ℕ) × (j ≡ i + k) × exact.IsPartAt whole_prefix (IsWholePrefix v) (x s) (drop i ts) k
+    label_reads fit x s j spans w there m h formed are =
+        prefix_reads ts i fit x s j spans formed (label_row w) (start_of ts i, (tt, (m, (end_before ts j, tt)))) are
+        (ended (then_closing (then_message (begun_node v ts i fit (the_reserved w) label_rest there) m j (there_within ts i (K.Reserved w) there) h)))
 
 -- a prefix that is read, where it stands
 pub prefix_stands : (v : Bool) (ts : List Token) (i : ℕ) (x : n.Prefix) (j : ℕ) → i ≤ length ts → (r : (m : ℕ) × (j ≡ i + m) × exact.IsPartAt whole_prefix (IsWholePrefix v) x (drop i ts) m) → Stands ts i (whole_prefix x) j

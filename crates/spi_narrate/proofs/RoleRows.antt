@@ -12,7 +12,7 @@ use Rattle.spi_tree.specs.Pieces.{Piece, opens, cell, closes, cells, kinds_in, a
 use Rattle.spi_tree.specs.Formed.{AreWordsFit}
 use Rattle.spi_parse.specs.declared.fault.ParseFault.{ParseFault}
 use Rattle.spi_parse.specs.Exact as exact
-use Rattle.spi_parse.proofs.Words.{fits_append, fits_front, fits_drop}
+use Rattle.spi_parse.proofs.Words.{fits_front, fits_drop}
 use Rattle.spi_grammar.specs.Exactly.{kinds, IsGood, IsSame, Then, Many}
 use Rattle.spi_grammar.proofs.Cuts.{kinds_append}
 use Rattle.spi_grammar.proofs.Answers.{good_both}
@@ -24,10 +24,11 @@ use Rattle.spi_heading.specs.Each.{each_pieces, IsWhole}
 use Rattle.spi_heading.proofs.Standing.{Stands, IsSolid, stands_both}
 use Rattle.spi_heading.proofs.Failing.{FailsAt, same_fail, first_fail, second_fail, fails_to}
 use Rattle.spi_heading.proofs.Symbols.{cells_append, Sym, token, name, the_mark, the_word, roles}
+use Rattle.spi_heading.proofs.Versions.{Cells}
 use Rattle.spi_heading.proofs.Rows.{Row, row_good, row_pieces, row_into, row_from, row_read, RowAt, RowFails, row_end, row_more, fits_at}
 use Rattle.spi_heading.proofs.Calls.{part_at, took, took_word}
 use Rattle.spi_heading.proofs.Each.{Along, along_rest, each_behind, one_read}
-use Rattle.spi_heading.proofs.Manys.{part_fail, more_fail, last_fail, many_from, many_into}
+use Rattle.spi_heading.proofs.Manys.{part_fail, more_fail, last_fail, both_fit, many_from, many_into}
 use Rattle.spi_narrate.specs.Grammar.{comma_pieces, roles_pieces, IsAnyWord, HasRole, whole_roles, AreWholeRoles}
 
 abbrev pub roles_head : List Sym
@@ -49,9 +50,6 @@ pub roles_are : (w : SWord) (ws : List SWord) → whole_roles (w ∷ ws) ≡ row
 roles_are w ws = ap (λ (l : List Piece). cell (K.Word (codes "roles")) false ∷ opens w.span.from ∷ cell (K.Word w.word) false ∷ closes w.span.to ∷ l) (each_behind comma_pieces comma_behind ws (a_mark mark.Semicolon []))
 
 module _ (v : Bool) where
-  abbrev Cells : Type 0
-  Cells = List (Kind × Bool)
-
   abbrev pub Commas : Cells → Type 0
   Commas = OfPieces (λ w. comma_pieces w []) (IsWhole v comma_pieces IsAnyWord)
 
@@ -106,9 +104,6 @@ module _ (v : Bool) where
 
   -- ---- roles
 
-  both_fit : (ps qs : List Piece) → AreWordsFit v (kinds_in ps) → AreWordsFit v (kinds_in qs) → AreWordsFit v (kinds_in (ps ++ qs))
-  both_fit ps qs a b = subst (AreWordsFit v) (sym (kinds_in_append ps qs)) (fits_append v (kinds_in ps) (kinds_in qs) a b)
-
   roles_into : (cs : Cells) (ws : List SWord) → HasRole ws → AreWordsFit v (kinds_in (whole_roles ws)) → cells (whole_roles ws) ≡ cs → RolesKind cs
   roles_into cs ws h fit e =
       let w = h.0 in
@@ -142,7 +137,7 @@ module _ (v : Bool) where
       let head = row_pieces roles_head (tt, (w, tt)) [] in
       record {
         part = w ∷ m.parts;
-        is = ((w, m.parts, refl), subst (λ (l : List Piece). AreWordsFit v (kinds_in l)) (sym (roles_are w m.parts)) (both_fit head (commas ++ last) r.fit (both_fit commas last m.fit s.fit)));
+        is = ((w, m.parts, refl), subst (λ (l : List Piece). AreWordsFit v (kinds_in l)) (sym (roles_are w m.parts)) (both_fit v head (commas ++ last) r.fit (both_fit v commas last m.fit s.fit)));
         shows =
             ap cells (roles_are w m.parts) ∙ cells_append head (commas ++ last) ∙ ap (λ (l : Cells). cells head ++ l) (cells_append commas last) ∙ ap (λ (l : Cells). l ++ (cells commas ++ cells last)) r.shows
             ∙ ap (λ (l : Cells). h.left ++ l) (ap (λ (l : Cells). cells commas ++ l) s.shows ∙ sym m.shows) ∙ sym h.cells;

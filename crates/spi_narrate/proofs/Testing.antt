@@ -1,5 +1,5 @@
 -- The first fault of items, in order.
-use Rattle.std.proofs.Common.{◌≡◌, ◌⊎◌, inl, inr, ℕ, zero, suc, ◌+◌, ◌<◌, ◌≤◌, Bool, true, false, List, [], ◌∷◌, ◌++◌, length, map, take, get_or, slice_get, Some, None, Result, Ok, Err, refl, sym, ap, ◌∙◌, subst, arith}
+use Rattle.std.proofs.Common.{◌≡◌, ◌⊎◌, inl, inr, ℕ, zero, suc, ◌+◌, ◌<◌, ◌≤◌, true, false, List, [], ◌∷◌, ◌++◌, length, map, take, get_or, slice_get, Some, Result, Ok, Err, refl, sym, ap, ◌∙◌, subst, arith}
 use Rattle.std.specs.Result.{IsErrAnd}
 use Rattle.std.specs.Str.{bytes_eq}
 use Rattle.std.proofs.lemmas.List.{take_more, append_assoc, append-nil, length-take-le}
@@ -244,25 +244,27 @@ whole r x h =
     subst (λ (k : ℕ). IsTested r (shared_items 0 k (map shared_of x.shared.items) ++ behind (length (map line_of x.lines.items)))) (sym (map_length shared_of x.shared.items))
     (subst (λ (k : ℕ). IsTested r (shared_items 0 (length x.shared.items) (map shared_of x.shared.items) ++ behind k)) (sym (map_length line_of x.lines.items)) h)
 
-no_syntax : (xs : List Item) (token : ℕ) → IsFirstFault xs (faults.Syntax token) → ⊥
-no_syntax [] token h = h
-no_syntax (declares before w ∷ xs) token (inl h) = let e = h.1 in cc
-no_syntax (speaks roles w ∷ xs) token (inl h) = let e = h.1 in cc
-no_syntax (counts i limit all s ∷ xs) token (inl h) = let e = h.1 in cc
-no_syntax (x ∷ xs) token (inr h) = no_syntax xs token h.1
+-- the faults of reading, which no test tells
+abbrev IsOfReading : NarrateFault → Type 0
+IsOfReading (faults.Syntax token) = Unit {0}
+IsOfReading (faults.TooDeep token) = Unit {0}
+IsOfReading (faults.UnknownRole s w) = ⊥
+IsOfReading (faults.RoleTwice s w) = ⊥
+IsOfReading (faults.NarrationTooLarge s count) = ⊥
+IsOfReading faults.NoMemory = ⊥
 
-no_depth : (xs : List Item) (token : ℕ) → IsFirstFault xs (faults.TooDeep token) → ⊥
-no_depth [] token h = h
-no_depth (declares before w ∷ xs) token (inl h) = let e = h.1 in cc
-no_depth (speaks roles w ∷ xs) token (inl h) = let e = h.1 in cc
-no_depth (counts i limit all s ∷ xs) token (inl h) = let e = h.1 in cc
-no_depth (x ∷ xs) token (inr h) = no_depth xs token h.1
+never_of_reading : (xs : List Item) (f : NarrateFault) → IsOfReading f → IsFirstFault xs f → ⊥
+never_of_reading [] f is h = h
+never_of_reading (declares before w ∷ xs) f is (inl h) = subst IsOfReading h.1 is
+never_of_reading (speaks roles w ∷ xs) f is (inl h) = subst IsOfReading h.1 is
+never_of_reading (counts i limit all s ∷ xs) f is (inl h) = subst IsOfReading h.1 is
+never_of_reading (x ∷ xs) f is (inr h) = never_of_reading xs f is h.1
 
 fails_of : (x : n.Narration) (f : NarrateFault) (ts : List Token) → IsSpelled x ts → IsFailed f (items_of x) → FailsNarration f ts
 fails_of x (faults.Syntax token) ts is (inl e) = absurd cc
-fails_of x (faults.Syntax token) ts is (inr h) = absurd (no_syntax (items_of x) token h)
+fails_of x (faults.Syntax token) ts is (inr h) = absurd (never_of_reading (items_of x) (faults.Syntax token) tt h)
 fails_of x (faults.TooDeep token) ts is (inl e) = absurd cc
-fails_of x (faults.TooDeep token) ts is (inr h) = absurd (no_depth (items_of x) token h)
+fails_of x (faults.TooDeep token) ts is (inr h) = absurd (never_of_reading (items_of x) (faults.TooDeep token) tt h)
 fails_of x (faults.UnknownRole s w) ts is (inl e) = absurd cc
 fails_of x (faults.UnknownRole s w) ts is (inr h) = (x, is, h)
 fails_of x (faults.RoleTwice s w) ts is (inl e) = absurd cc

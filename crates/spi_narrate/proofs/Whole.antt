@@ -1,33 +1,33 @@
 -- Whole narrations: the version, the declarations, the shared names, the roles and the lines.
-use Rattle.std.proofs.Common.{◌≡◌, ℕ, Bool, true, false, List, [], ◌∷◌, ◌++◌, refl, sym, ap, subst, ◌∙◌, append_assoc, append-nil, codes, ◌⊎◌, inl, inr}
+use Rattle.std.proofs.Common.{◌≡◌, ◌==◌, ℕ, Bool, true, false, List, [], ◌∷◌, ◌++◌, refl, sym, ap, subst, ◌∙◌, append_assoc, append-nil, codes, ◌⊎◌, inl, inr}
 use Rattle.std.specs.List.{AllByRecursion}
 use Rattle.spi_lex.specs.declared.token.Kind.{Kind}
 use Rattle.spi_lex.specs.declared.token.Kind.TheVariants as K
-use Rattle.spi_lex.specs.declared.token.Mark.TheVariants as mark
 use Rattle.spi_text.specs.declared.lines.Span.{Span}
 use Rattle.spi_tree.specs.declared.tree.SWord.{SWord}
 use Rattle.spi_tree.specs.Trees as t
 use Rattle.spi_tree.specs.Pieces.{Piece, opens, closes, cells, kinds_in, decl_pieces}
 use Rattle.spi_tree.specs.Formed.{AreWordsFit, IsDeclared}
 use Rattle.spi_parse.specs.Bare.{nowhere}
-use Rattle.spi_parse.proofs.Words.{fits_append, fits_front, fits_drop}
-use Rattle.spi_grammar.specs.Exactly.{kinds, IsLive, IsSame, Then, Either, Many, Nothing}
+use Rattle.spi_parse.proofs.Words.{fits_front, fits_drop}
+use Rattle.spi_grammar.specs.Exactly.{kinds, IsLive, Then, Either, Many, Nothing}
 use Rattle.spi_grammar.proofs.Cuts.{kinds_append}
 use Rattle.spi_grammar.proofs.Repetition.{live_many}
 use Rattle.spi_grammar.proofs.Sequence.{live_both}
-use Rattle.spi_grammar.proofs.Good.{IsSome, Differ, begins_many}
+use Rattle.spi_grammar.proofs.Good.{IsSome}
 use Rattle.spi_parts.proofs.Behind.{decl_behind}
-use Rattle.spi_parts.proofs.Alone.{kinds_in_append, Decls}
+use Rattle.spi_parts.proofs.Alone.{kinds_in_append}
 use Rattle.spi_parts.proofs.Bridge.{OfPieces}
 use Rattle.spi_heading.specs.Headings as h
 use Rattle.spi_heading.specs.Each.{each_pieces}
-use Rattle.spi_heading.specs.Grammar.{shared_word, shared_pieces, IsShared}
-use Rattle.spi_heading.proofs.Symbols.{cells_append, Sym, token, the_mark, the_word, the_two, version}
-use Rattle.spi_heading.proofs.Rows.{Row, row_pieces, row_into, row_from}
+use Rattle.spi_heading.specs.Grammar.{shared_pieces, IsShared}
+use Rattle.spi_heading.proofs.Symbols.{cells_append}
+use Rattle.spi_heading.proofs.Rows.{row_pieces, row_into, row_from}
 use Rattle.spi_heading.proofs.Each.{each_behind}
-use Rattle.spi_heading.proofs.Names.{Shareds, shared_behind}
-use Rattle.spi_heading.proofs.Manys.{many_from, many_into}
-use Rattle.spi_heading.proofs.Firsts.{BeginsDeclared, decls_begin, decls_some, shareds_begin, shareds_some}
+use Rattle.spi_heading.proofs.Names.{shared_behind}
+use Rattle.spi_heading.proofs.Manys.{both_fit, both_cells, many_from, each_into, each_shows, last_into, last_shows}
+use Rattle.spi_heading.proofs.Versions.{version_row, Cells, Later}
+use Rattle.spi_heading.proofs.Fronts.{BeginsFront, NeverFront, SharedFront, Front, IsHeaded}
 use Rattle.spi_narrate.specs.Narrations as n
 use Rattle.spi_narrate.specs.Grammar.{line_pieces, IsLine, roles_pieces, whole_roles, HasRole, whole_narration, IsNarration}
 use Rattle.spi_narrate.proofs.LineRows.{Lines, line_behind, line_first}
@@ -50,24 +50,12 @@ body_are ds ss ws ls r =
     ∙ sym (append_assoc names (roles_ ++ lines) r))
     ∙ sym (append_assoc decls (names ++ (roles_ ++ lines)) r)
 
-abbrev pub version_row : List Sym
-version_row = token (the_word version) ∷ token the_two ∷ token (the_mark mark.Semicolon) ∷ []
-
-abbrev pub Cells : Type 0
-Cells = List (Kind × Bool)
-
 module _ (v : Bool) where
   abbrev pub LinesOn : Cells → Type 0
   LinesOn = Many (Lines v) Nothing
 
   abbrev pub RolesOn : Cells → Type 0
   RolesOn = Then (Roles v) LinesOn
-
-  abbrev pub SharedOn : Cells → Type 0
-  SharedOn = Many (Shareds v) RolesOn
-
-  abbrev pub Body : Cells → Type 0
-  Body = Many (Decls v) SharedOn
 
   -- ---- what each begins with
 
@@ -85,31 +73,14 @@ module _ (v : Bool) where
           let j : K.Word (codes "roles") ∷ f.0 ≡ q ∷ u = sym f.1 ∙ is in
           cc
 
-  pub shared_differ : Differ (Shareds v) RolesOn
-  shared_differ a b la lb k x y e f = let g : shared_word ≡ K.Word (codes "roles") = sym (shareds_begin v a la k x e) ∙ roles_on_first b lb k y f in cc
-
-  pub shared_on_first : (k : Kind) → BeginsDeclared k → (b : Cells) → SharedOn b → (x : List Kind) → kinds b ≡ k ∷ x → ⊥
-  shared_on_first k is = begins_many (Shareds v) RolesOn (shareds_some v) k (λ a la x e. one k is (shareds_begin v a la k x e)) (λ b lb x e. two k is (roles_on_first b lb k x e))
+  roles_never : NeverFront RolesOn
+  roles_never k is b lb x e = none k is (roles_on_first b lb k x e)
     where
-      one : (k : Kind) → BeginsDeclared k → k ≡ shared_word → ⊥
-      one k (inl f) e = cc
-      one k (inr f) e = cc
-
-      two : (k : Kind) → BeginsDeclared k → k ≡ K.Word (codes "roles") → ⊥
-      two k (inl f) e = cc
-      two k (inr f) e = cc
-
-  pub decls_differ : Differ (Decls v) SharedOn
-  decls_differ a b la lb k x y e f = shared_on_first k (decls_begin v a la k x e) b lb y f
-
-  pub roles_on_begins : (b : Cells) → RolesOn b → (x : List Kind) → kinds b ≡ shared_word ∷ x → ⊥
-  roles_on_begins b lb x e = let g : shared_word ≡ K.Word (codes "roles") = roles_on_first b lb shared_word x e in cc
-
-  pub lines_differ : Differ (Lines v) Nothing
-  lines_differ a b la lb k x y e f = let g : [] ≡ k ∷ y = ap kinds (sym lb) ∙ f in cc
-
-  pub no_line : (k : Kind) (b : Cells) → Nothing b → (x : List Kind) → kinds b ≡ k ∷ x → ⊥
-  no_line k b lb x e = let g : [] ≡ k ∷ x = ap kinds (sym lb) ∙ e in cc
+      none : (k : Kind) → BeginsFront k → k ≡ K.Word (codes "roles") → ⊥
+      none k (inl f) g = cc
+      none k (inr (inl f)) g = cc
+      none k (inr (inr (inl f))) g = cc
+      none k (inr (inr (inr f))) g = cc
 
   pub lines_some : IsSome (Lines v)
   lines_some a la e = let f = line_first v a la in let g : f.0 ∷ f.1 ≡ [] = sym f.2 ∙ e in cc
@@ -119,23 +90,6 @@ module _ (v : Bool) where
 
   pub roles_live : IsLive RolesOn
   roles_live = live_both (Roles v) LinesOn (Rattle.spi_grammar.proofs.Sequence.apart_closed (Roles v) LinesOn (roles_good v).closed) (roles_good v).live lines_live
-
-  pub shared_live : IsLive SharedOn
-  shared_live = live_many (Shareds v) RolesOn roles_live
-
-  pub body_live : IsLive Body
-  body_live = live_many (Decls v) SharedOn shared_live
-
-  version_first : (b : Cells) → Body b → (x : List Kind) → kinds b ≡ K.Word (codes "version") ∷ x → ⊥
-  version_first b lb x e = begins_many (Decls v) SharedOn (decls_some v) (K.Word (codes "version")) (λ a la x e. none (decls_begin v a la (K.Word (codes "version")) x e)) rest b lb x e
-    where
-      none : BeginsDeclared (K.Word (codes "version")) → ⊥
-      none (inl f) = cc
-      none (inr f) = cc
-
-      rest : (b : Cells) → SharedOn b → (x : List Kind) → kinds b ≡ K.Word (codes "version") ∷ x → ⊥
-      rest b lb x e = begins_many (Shareds v) RolesOn (shareds_some v) (K.Word (codes "version")) (λ a la x e. let g : K.Word (codes "version") ≡ shared_word = shareds_begin v a la (K.Word (codes "version")) x e in cc)
-          (λ a la x e. let g : K.Word (codes "version") ≡ K.Word (codes "roles") = roles_on_first a la (K.Word (codes "version")) x e in cc) b lb x e
 
   -- ---- bodies by their parts
 
@@ -151,22 +105,15 @@ module _ (v : Bool) where
     pub fit : AreWordsFit v (kinds_in (body_pieces decls shared roles lines))
     pub shows : cells (body_pieces decls shared roles lines) ≡ cs
 
-  both_fit : (ps qs : List Piece) → AreWordsFit v (kinds_in ps) → AreWordsFit v (kinds_in qs) → AreWordsFit v (kinds_in (ps ++ qs))
-  both_fit ps qs a b = subst (AreWordsFit v) (sym (kinds_in_append ps qs)) (fits_append v (kinds_in ps) (kinds_in qs) a b)
-
-  both_cells : (ps qs : List Piece) (c d : Cells) → cells ps ≡ c → cells qs ≡ d → cells (ps ++ qs) ≡ c ++ d
-  both_cells ps qs c d e f = cells_append ps qs ∙ ap (λ (l : Cells). l ++ cells qs) e ∙ ap (λ (l : Cells). c ++ l) f
-
-  pub body_from : (cs : Cells) → Body cs → FromBody cs
+  pub body_from : (cs : Cells) → Front v RolesOn cs → FromBody cs
   body_from cs b =
-      let d = many_from decl_pieces decl_behind v (IsDeclared v) SharedOn cs b in
+      let d = many_from decl_pieces decl_behind v (IsDeclared v) (SharedFront v RolesOn) cs b in
       let s = many_from shared_pieces shared_behind v (IsShared v) RolesOn d.rest d.behind_them in
       let r = s.behind_them in
       let l = many_from line_pieces line_behind v (IsLine v) Nothing r.right r.two in
       let ws = r.one.part in
-      let decls = each_pieces decl_pieces d.parts [] in
-      let names = each_pieces shared_pieces s.parts [] in
       let lines = each_pieces line_pieces l.parts [] in
+      let behind = each_pieces shared_pieces s.parts [] ++ (whole_roles ws ++ lines) in
       record {
         decls = d.parts;
         shared = s.parts;
@@ -176,50 +123,38 @@ module _ (v : Bool) where
         shared_are = s.are;
         has_role = r.one.is.0;
         lines_are = l.are;
-        fit = both_fit decls (names ++ (whole_roles ws ++ lines)) d.fit (both_fit names (whole_roles ws ++ lines) s.fit (both_fit (whole_roles ws) lines r.one.is.1 l.fit));
+        fit = both_fit v (each_pieces decl_pieces d.parts []) behind d.fit (both_fit v (each_pieces shared_pieces s.parts []) (whole_roles ws ++ lines) s.fit (both_fit v (whole_roles ws) lines r.one.is.1 l.fit));
         shows =
-            both_cells decls (names ++ (whole_roles ws ++ lines)) (cells decls) d.rest refl
-            (both_cells names (whole_roles ws ++ lines) (cells names) s.rest refl
-            (both_cells (whole_roles ws) lines r.left r.right r.one.shows (sym (l.shows ∙ ap (λ (c : Cells). cells lines ++ c) l.behind_them ∙ append-nil (cells lines))) ∙ sym r.cells) ∙ sym s.shows) ∙ sym d.shows;
+            each_shows decl_pieces decl_behind v (IsDeclared v) (SharedFront v RolesOn) cs d behind
+            (each_shows shared_pieces shared_behind v (IsShared v) RolesOn d.rest s (whole_roles ws ++ lines)
+            (both_cells (whole_roles ws) lines r.left r.right r.one.shows (last_shows line_pieces line_behind v (IsLine v) r.right l) ∙ sym r.cells));
+      }
+
+  roles_into : (ws : List SWord) (ls : List n.Line) → HasRole ws → AllByRecursion (IsLine v) ls → AreWordsFit v (kinds_in (whole_roles ws ++ each_pieces line_pieces ls [])) → RolesOn (cells (whole_roles ws ++ each_pieces line_pieces ls []))
+  roles_into ws ls hw hl fit =
+      let lines = each_pieces line_pieces ls [] in
+      let both = subst (AreWordsFit v) (kinds_in_append (whole_roles ws) lines) fit in
+      record {
+        left = cells (whole_roles ws);
+        right = cells lines;
+        one = record { part = ws; is = (hw, fits_front v (kinds_in (whole_roles ws)) (kinds_in lines) both); shows = refl };
+        two = last_into line_pieces line_behind v (IsLine v) ls hl (fits_drop v (kinds_in (whole_roles ws)) (kinds_in lines) both);
+        cells = cells_append (whole_roles ws) lines;
       }
 
   pub body_into : (ds : List t.Declared) (ss : List h.Shared) (ws : List SWord) (ls : List n.Line) → AllByRecursion (IsDeclared v) ds → AllByRecursion (IsShared v) ss → HasRole ws → AllByRecursion (IsLine v) ls
-      → AreWordsFit v (kinds_in (body_pieces ds ss ws ls)) → Body (cells (body_pieces ds ss ws ls))
+      → AreWordsFit v (kinds_in (body_pieces ds ss ws ls)) → Front v RolesOn (cells (body_pieces ds ss ws ls))
   body_into ds ss ws ls hd hs hw hl fit =
-      let decls = each_pieces decl_pieces ds [] in
-      let names = each_pieces shared_pieces ss [] in
-      let lines = each_pieces line_pieces ls [] in
-      let f = subst (AreWordsFit v) (kinds_in_append decls (names ++ (whole_roles ws ++ lines))) fit in
-      let g = subst (AreWordsFit v) (kinds_in_append names (whole_roles ws ++ lines)) (fits_drop v (kinds_in decls) (kinds_in (names ++ (whole_roles ws ++ lines))) f) in
-      let i = subst (AreWordsFit v) (kinds_in_append (whole_roles ws) lines) (fits_drop v (kinds_in names) (kinds_in (whole_roles ws ++ lines)) g) in
-      let last : LinesOn (cells lines) = subst LinesOn (append-nil (cells lines)) (many_into line_pieces line_behind v (IsLine v) Nothing ls hl (fits_drop v (kinds_in (whole_roles ws)) (kinds_in lines) i) [] refl) in
-      let third : RolesOn (cells (whole_roles ws ++ lines)) = record {
-        left = cells (whole_roles ws);
-        right = cells lines;
-        one = record { part = ws; is = (hw, fits_front v (kinds_in (whole_roles ws)) (kinds_in lines) i); shows = refl };
-        two = last;
-        cells = cells_append (whole_roles ws) lines;
-      } in
-      let second : SharedOn (cells (names ++ (whole_roles ws ++ lines))) = subst SharedOn (sym (cells_append names (whole_roles ws ++ lines)))
-      (many_into shared_pieces shared_behind v (IsShared v) RolesOn ss hs (fits_front v (kinds_in names) (kinds_in (whole_roles ws ++ lines)) g) (cells (whole_roles ws ++ lines)) third) in
-      subst Body (sym (cells_append decls (names ++ (whole_roles ws ++ lines))))
-      (many_into decl_pieces decl_behind v (IsDeclared v) SharedOn ds hd (fits_front v (kinds_in decls) (kinds_in (names ++ (whole_roles ws ++ lines))) f) (cells (names ++ (whole_roles ws ++ lines))) second)
+      let tail = whole_roles ws ++ each_pieces line_pieces ls [] in
+      each_into decl_pieces decl_behind v (IsDeclared v) (SharedFront v RolesOn) ds hd (each_pieces shared_pieces ss [] ++ tail) fit (λ f. each_into shared_pieces shared_behind v (IsShared v) RolesOn ss hs tail f (λ g. roles_into ws ls hw hl g))
 
 -- ---- narrations, with the version in front or not
-
-abbrev pub Later : Cells → Type 0
-Later = Then (Row true version_row) (Body true)
 
 abbrev pub Narrations : Cells → Type 0
 Narrations = OfPieces whole_narration IsNarration
 
-pub first_never : (b : Cells) → Body false b → (x : List Kind) → kinds b ≡ K.Word (codes "version") ∷ x → ⊥
-first_never b lb x e = version_first false b lb x e
-
-pub later_always : (a : Cells) → Later a → (x : List Kind) × (kinds a ≡ K.Word (codes "version") ∷ x)
-later_always a h =
-    let left : kinds h.left ≡ K.Word (codes "version") ∷ kinds h.one.right = ap kinds h.one.cells ∙ kinds_append h.one.left h.one.right ∙ ap (λ (l : List Kind). l ++ kinds h.one.right) (ap kinds h.one.one.cells ∙ ap (λ (y : Kind). y ∷ []) h.one.one.is) in
-    (kinds h.one.right ++ kinds h.right, ap kinds h.cells ∙ kinds_append h.left h.right ∙ ap (λ (l : List Kind). l ++ kinds h.right) left)
+abbrev Fronts : Bool → Cells → Type 0
+Fronts v = Front v (RolesOn v)
 
 abbrev of_version : ℕ → Span → List t.Declared → List h.Shared → List SWord → List n.Line → n.Narration
 of_version v s ds ss ws ls = record { span = s; version = v; decls = ds; shared = ss; roles = ws; lines = ls }
@@ -239,7 +174,10 @@ closed_cells ps to = cells_append ps (closes to ∷ []) ∙ append-nil (cells ps
 closed_kinds : (ps : List Piece) (to : ℕ) → kinds_in (ps ++ closes to ∷ []) ≡ kinds_in ps
 closed_kinds ps to = kinds_in_append ps (closes to ∷ []) ∙ append-nil (kinds_in ps)
 
-there : (cs : Cells) → Either Later (Body false) cs → Narrations cs
+formed_body : (v : ℕ) (cs : Cells) (b : FromBody (v == 2) cs) → (v ≡ 1) ⊎ (v ≡ 2) → AreWordsFit (v == 2) (kinds_in (whole_narration (of_version v nowhere b.decls b.shared b.roles b.lines))) → IsNarration (of_version v nowhere b.decls b.shared b.roles b.lines)
+formed_body v cs b known words = record { version = known; decls = b.decls_are; shared = b.shared_are; roles = b.has_role; lines = b.lines_are; words = words }
+
+there : (cs : Cells) → Either (Later Fronts) (Fronts false) cs → Narrations cs
 there cs (inl k) =
     let b = body_from true k.right k.two in
     let r = row_from true version_row k.left k.one in
@@ -248,15 +186,8 @@ there cs (inl k) =
     let rest = body ++ closes 0 ∷ [] in
     record {
       part = x;
-      is = record {
-        version = inr refl;
-        decls = b.decls_are;
-        shared = b.shared_are;
-        roles = b.has_role;
-        lines = b.lines_are;
-        words = subst (λ (l : List Piece). AreWordsFit true (kinds_in l)) (sym (later_pieces nowhere b.decls b.shared b.roles b.lines)) (both_fit true version_are rest r.fit (subst (AreWordsFit true) (sym (closed_kinds body 0)) b.fit));
-      };
-      shows = ap cells (later_pieces nowhere b.decls b.shared b.roles b.lines) ∙ both_cells true version_are rest k.left k.right r.shows (closed_cells body 0 ∙ b.shows) ∙ sym k.cells;
+      is = formed_body 2 k.right b (inr refl) (subst (λ (l : List Piece). AreWordsFit true (kinds_in l)) (sym (later_pieces nowhere b.decls b.shared b.roles b.lines)) (both_fit true version_are rest r.fit (subst (AreWordsFit true) (sym (closed_kinds body 0)) b.fit)));
+      shows = ap cells (later_pieces nowhere b.decls b.shared b.roles b.lines) ∙ both_cells version_are rest k.left k.right r.shows (closed_cells body 0 ∙ b.shows) ∙ sym k.cells;
     }
 there cs (inr k) =
     let b = body_from false cs k in
@@ -264,18 +195,11 @@ there cs (inr k) =
     let body = body_pieces b.decls b.shared b.roles b.lines in
     record {
       part = x;
-      is = record {
-        version = inl refl;
-        decls = b.decls_are;
-        shared = b.shared_are;
-        roles = b.has_role;
-        lines = b.lines_are;
-        words = subst (λ (l : List Piece). AreWordsFit false (kinds_in l)) (sym (first_pieces nowhere b.decls b.shared b.roles b.lines)) (subst (AreWordsFit false) (sym (closed_kinds body 0)) b.fit);
-      };
+      is = formed_body 1 cs b (inl refl) (subst (λ (l : List Piece). AreWordsFit false (kinds_in l)) (sym (first_pieces nowhere b.decls b.shared b.roles b.lines)) (subst (AreWordsFit false) (sym (closed_kinds body 0)) b.fit));
       shows = ap cells (first_pieces nowhere b.decls b.shared b.roles b.lines) ∙ closed_cells body 0 ∙ b.shows;
     }
 
-later_back : (s : Span) (ds : List t.Declared) (ss : List h.Shared) (ws : List SWord) (ls : List n.Line) → IsNarration (of_version 2 s ds ss ws ls) → Later (cells (whole_narration (of_version 2 s ds ss ws ls)))
+later_back : (s : Span) (ds : List t.Declared) (ss : List h.Shared) (ws : List SWord) (ls : List n.Line) → IsNarration (of_version 2 s ds ss ws ls) → Later Fronts (cells (whole_narration (of_version 2 s ds ss ws ls)))
 later_back s ds ss ws ls is =
     let body = body_pieces ds ss ws ls in
     let rest = body ++ closes s.to ∷ [] in
@@ -285,24 +209,24 @@ later_back s ds ss ws ls is =
       right = cells body;
       one = row_into true version_row (tt, (tt, (tt, tt))) (tt, (tt, (tt, tt))) (fits_front true (kinds_in version_are) (kinds_in rest) fit);
       two = body_into true ds ss ws ls is.decls is.shared is.roles is.lines (subst (AreWordsFit true) (closed_kinds body s.to) (fits_drop true (kinds_in version_are) (kinds_in rest) fit));
-      cells = ap cells (later_pieces s ds ss ws ls) ∙ both_cells true version_are rest (cells version_are) (cells body) refl (closed_cells body s.to);
+      cells = ap cells (later_pieces s ds ss ws ls) ∙ both_cells version_are rest (cells version_are) (cells body) refl (closed_cells body s.to);
     }
 
-first_back : (s : Span) (ds : List t.Declared) (ss : List h.Shared) (ws : List SWord) (ls : List n.Line) → IsNarration (of_version 1 s ds ss ws ls) → Body false (cells (whole_narration (of_version 1 s ds ss ws ls)))
+first_back : (s : Span) (ds : List t.Declared) (ss : List h.Shared) (ws : List SWord) (ls : List n.Line) → IsNarration (of_version 1 s ds ss ws ls) → Fronts false (cells (whole_narration (of_version 1 s ds ss ws ls)))
 first_back s ds ss ws ls is =
     let body = body_pieces ds ss ws ls in
     let fit = subst (λ (l : List Piece). AreWordsFit false (kinds_in l)) (first_pieces s ds ss ws ls) is.words in
-    subst (Body false) (sym (ap cells (first_pieces s ds ss ws ls) ∙ closed_cells body s.to))
+    subst (Fronts false) (sym (ap cells (first_pieces s ds ss ws ls) ∙ closed_cells body s.to))
     (body_into false ds ss ws ls is.decls is.shared is.roles is.lines (subst (AreWordsFit false) (closed_kinds body s.to) fit))
 
-back : (cs : Cells) → Narrations cs → Either Later (Body false) cs
+back : (cs : Cells) → Narrations cs → Either (Later Fronts) (Fronts false) cs
 back cs p = go p.part.version p.part.decls p.part.shared p.part.roles p.part.lines p.part.span p.is p.shows p.is.version
   where
-    go : (v : ℕ) (ds : List t.Declared) (ss : List h.Shared) (ws : List SWord) (ls : List n.Line) (s : Span) → IsNarration (of_version v s ds ss ws ls) → cells (whole_narration (of_version v s ds ss ws ls)) ≡ cs → (v ≡ 1) ⊎ (v ≡ 2) → Either Later (Body false) cs
+    go : (v : ℕ) (ds : List t.Declared) (ss : List h.Shared) (ws : List SWord) (ls : List n.Line) (s : Span) → IsNarration (of_version v s ds ss ws ls) → cells (whole_narration (of_version v s ds ss ws ls)) ≡ cs → (v ≡ 1) ⊎ (v ≡ 2) → Either (Later Fronts) (Fronts false) cs
     go v ds ss ws ls s is e (inl f) =
-        inr (subst (Body false) (subst (λ (i : ℕ). cells (whole_narration (of_version i s ds ss ws ls)) ≡ cs) f e) (first_back s ds ss ws ls (subst (λ (i : ℕ). IsNarration (of_version i s ds ss ws ls)) f is)))
+        inr (subst (Fronts false) (subst (λ (i : ℕ). cells (whole_narration (of_version i s ds ss ws ls)) ≡ cs) f e) (first_back s ds ss ws ls (subst (λ (i : ℕ). IsNarration (of_version i s ds ss ws ls)) f is)))
     go v ds ss ws ls s is e (inr f) =
-        inl (subst Later (subst (λ (i : ℕ). cells (whole_narration (of_version i s ds ss ws ls)) ≡ cs) f e) (later_back s ds ss ws ls (subst (λ (i : ℕ). IsNarration (of_version i s ds ss ws ls)) f is)))
+        inl (subst (Later Fronts) (subst (λ (i : ℕ). cells (whole_narration (of_version i s ds ss ws ls)) ≡ cs) f e) (later_back s ds ss ws ls (subst (λ (i : ℕ). IsNarration (of_version i s ds ss ws ls)) f is)))
 
-pub narration_same : IsSame (Either Later (Body false)) Narrations
-narration_same = record { there = there; back = back }
+pub narrations_headed : IsHeaded Narrations RolesOn
+narrations_headed = record { same = record { there = there; back = back }; live = roles_live; never = roles_never }

@@ -1,21 +1,101 @@
 //! What a role does by itself.
 
-ghost use Rattle.std.specs.Prelude.{◌≡◌, ◌≤◌, ◌⊎◌, ◌==◌, true, length};
+ghost use Rattle.std.specs.Prelude.{◌≡◌, ◌≤◌, ◌⊎◌, ◌==◌, [], true, false, length, IfOk};
 ghost use Rattle.spi_lex.specs.declared.token.Kind.TheVariants as kinds;
+ghost use Rattle.spi_lex.specs.declared.token.Mark.TheVariants as marks;
 ghost use Rattle.spi_lex.specs.declared.token.Reserved.TheVariants as word;
 ghost use Rattle.spi_lex.specs.Lexing.{kinds_of};
-ghost use Rattle.spi_tree.specs.Formed.{AreWordsFit};
+ghost use Rattle.spi_tree.specs.Formed.{AreWordsFit, IsMsg, IsTy};
+ghost use Rattle.spi_tree.specs.Pieces.{a_mark, a_reserved, msg_pieces, named_pieces, kinds_in};
+ghost use Rattle.spi_tree.specs.Trees.{Msg};
+ghost use Rattle.spi_tree.specs.Views.{msg_of};
 ghost use Rattle.spi_parse.specs.Exact.{Reads};
+ghost use Rattle.spi_heading.specs.Headings as headings;
 ghost use Rattle.spi_heading.specs.Taking.{IsThere};
+ghost use Rattle.spi_heading.specs.Views.{named_of};
 ghost use Rattle.spi_narrate.specs.Grammar.{whole_prefix, IsWholePrefix};
 ghost use Rattle.spi_narrate.specs.Views.{prefix_of};
 ghost use Rattle.spi_narrate.specs.Words.{IsReservedAt};
 
 use crate::tree::Prefix;
-use spi_heading::{named_at, span_between, take_mark, take_reserved};
+use spi_heading::{Named, named_at, span_between, take_mark, take_reserved};
 use spi_lex::{Kind, Mark, Reserved, Token};
 use spi_parse::{ParseFault, message_at};
+use spi_tree::SMsg;
 use std::alloc::Global;
+
+/// `M is`, from the token of number `at` on.
+fn whole_at(
+    alloc: Global,
+    tokens: &[Token],
+    at: u32,
+    version: u32,
+) -> Result<(SMsg, u32), ParseFault>
+    requires size { length tokens.now ≤ 16_777_216 }
+    requires known { (version ≡ 1) ⊎ (version ≡ 2) }
+    requires words { AreWordsFit (version == 2) (kinds_of tokens.now) }
+    requires start { at ≤ length tokens.now }
+    ensures read { let pieces = λ (x : Msg). msg_pieces 1 x (a_reserved word.Is []) in
+        Reads msg_of pieces
+        (λ x. IsMsg (version == 2) false x × AreWordsFit (version == 2) (kinds_in (pieces x)))
+        result tokens.now at }
+    ensures within { IfOk result (λ r. r.1 ≤ length tokens.now) }
+{
+    let (whole, is_at) = message_at(alloc, tokens, at, version)?;
+    let next = take_reserved(tokens, is_at, Reserved::Is)?;
+    Ok((whole, next))
+}
+
+/// `M is (x: T`, or with another mark before the name, from the token of number `at` on.
+fn bound_at(
+    alloc: Global,
+    tokens: &[Token],
+    at: u32,
+    mark: Mark,
+    version: u32,
+) -> Result<((SMsg, Named), u32), ParseFault>
+    requires size { length tokens.now ≤ 16_777_216 }
+    requires known { (version ≡ 1) ⊎ (version ≡ 2) }
+    requires words { AreWordsFit (version == 2) (kinds_of tokens.now) }
+    requires start { at ≤ length tokens.now }
+    ensures read { let pieces = λ (x : Msg × headings.Named). msg_pieces 1 x.0
+        (a_reserved word.Is (a_mark mark (named_pieces x.1.name x.1.ty []))) in
+        Reads (λ r. (msg_of r.0, named_of r.1)) pieces
+        (λ x. IsMsg (version == 2) false x.0 × IsTy (version == 2) x.1.ty
+        × AreWordsFit (version == 2) (kinds_in (pieces x)))
+        result tokens.now at }
+    ensures within { IfOk result (λ r. r.1 ≤ length tokens.now) }
+{
+    let (whole, mark_at) = whole_at(alloc, tokens, at, version)?;
+    let name_at = take_mark(tokens, mark_at, mark)?;
+    let (named, next) = named_at(alloc, tokens, name_at, version)?;
+    Ok(((whole, named), next))
+}
+
+/// `(x: T)`, or with another mark before the name, from the token of number `at` on.
+fn closed_at(
+    alloc: Global,
+    tokens: &[Token],
+    at: u32,
+    mark: Mark,
+    version: u32,
+) -> Result<(Named, u32), ParseFault>
+    requires size { length tokens.now ≤ 16_777_216 }
+    requires known { (version ≡ 1) ⊎ (version ≡ 2) }
+    requires words { AreWordsFit (version == 2) (kinds_of tokens.now) }
+    requires start { at ≤ length tokens.now }
+    ensures read { let pieces = λ (x : headings.Named).
+        a_mark mark (named_pieces x.name x.ty (a_mark marks.ParenClose [])) in
+        Reads named_of pieces
+        (λ x. IsTy (version == 2) x.ty × AreWordsFit (version == 2) (kinds_in (pieces x)))
+        result tokens.now at }
+    ensures within { IfOk result (λ r. r.1 ≤ length tokens.now) }
+{
+    let name_at = take_mark(tokens, at, mark)?;
+    let (named, close) = named_at(alloc, tokens, name_at, version)?;
+    let next = take_mark(tokens, close, Mark::ParenClose)?;
+    Ok((named, next))
+}
 
 /// `split M is (x: T, y: U)`, where the token of number `at` is its first.
 fn split_at(
@@ -30,13 +110,9 @@ fn split_at(
     requires first { IsThere tokens.now at (kinds.Reserved word.Split) }
     ensures { Reads prefix_of whole_prefix (IsWholePrefix (version == 2)) result tokens.now at }
 {
-    let (whole, is_at) = message_at(alloc, tokens, at + 1, version)?;
-    let open = take_reserved(tokens, is_at, Reserved::Is)?;
-    let left_at = take_mark(tokens, open, Mark::ParenOpen)?;
-    let (left, comma) = named_at(alloc, tokens, left_at, version)?;
-    let right_at = take_mark(tokens, comma, Mark::Comma)?;
-    let (right, close) = named_at(alloc, tokens, right_at, version)?;
-    let next = take_mark(tokens, close, Mark::ParenClose)?;
+    let (bound, comma) = bound_at(alloc, tokens, at + 1, Mark::ParenOpen, version)?;
+    let (right, next) = closed_at(alloc, tokens, comma, Mark::Comma, version)?;
+    let (whole, left) = bound;
     let span = span_between(tokens, at, next);
     Ok((
         Prefix::Split {
@@ -64,15 +140,11 @@ fn match_at(
     requires first { IsThere tokens.now at (kinds.Reserved word.Match) }
     ensures { Reads prefix_of whole_prefix (IsWholePrefix (version == 2)) result tokens.now at }
 {
-    let (whole, is_at) = message_at(alloc, tokens, at + 1, version)?;
-    let open = take_reserved(tokens, is_at, Reserved::Is)?;
-    let left_at = take_mark(tokens, open, Mark::ParenOpen)?;
-    let (left, equals) = named_at(alloc, tokens, left_at, version)?;
+    let (bound, equals) = bound_at(alloc, tokens, at + 1, Mark::ParenOpen, version)?;
     let equal_at = take_mark(tokens, equals, Mark::Equals)?;
     let (equal, comma) = message_at(alloc, tokens, equal_at, version)?;
-    let right_at = take_mark(tokens, comma, Mark::Comma)?;
-    let (right, close) = named_at(alloc, tokens, right_at, version)?;
-    let next = take_mark(tokens, close, Mark::ParenClose)?;
+    let (right, next) = closed_at(alloc, tokens, comma, Mark::Comma, version)?;
+    let (whole, left) = bound;
     let span = span_between(tokens, at, next);
     Ok((
         Prefix::Match {
@@ -101,12 +173,10 @@ fn decrypt_at(
     requires first { IsThere tokens.now at (kinds.Reserved word.Decrypt) }
     ensures { Reads prefix_of whole_prefix (IsWholePrefix (version == 2)) result tokens.now at }
 {
-    let (whole, is_at) = message_at(alloc, tokens, at + 1, version)?;
-    let open = take_reserved(tokens, is_at, Reserved::Is)?;
-    let name_at = take_mark(tokens, open, Mark::BraceOpen)?;
-    let (named, close) = named_at(alloc, tokens, name_at, version)?;
+    let (bound, close) = bound_at(alloc, tokens, at + 1, Mark::BraceOpen, version)?;
     let key_at = take_mark(tokens, close, Mark::BraceClose)?;
     let (key, next) = message_at(alloc, tokens, key_at, version)?;
+    let (whole, named) = bound;
     let span = span_between(tokens, at, next);
     Ok((
         Prefix::Decrypt {
@@ -133,66 +203,35 @@ fn check_at(
     requires first { IsThere tokens.now at (kinds.Reserved word.Check) }
     ensures { Reads prefix_of whole_prefix (IsWholePrefix (version == 2)) result tokens.now at }
 {
-    let (whole, is_at) = message_at(alloc, tokens, at + 1, version)?;
-    let nonce_at = take_reserved(tokens, is_at, Reserved::Is)?;
+    let (whole, nonce_at) = whole_at(alloc, tokens, at + 1, version)?;
     let (nonce, next) = message_at(alloc, tokens, nonce_at, version)?;
     let span = span_between(tokens, at, next);
     Ok((Prefix::Check { whole, nonce, span }, next))
 }
 
-/// `begin L`, where the token of number `at` is its first.
-fn begin_at(
+/// `begin L`, `end L` or `endmany L`, where the token of number `at` is its first.
+fn label_at(
     alloc: Global,
     tokens: &[Token],
     at: u32,
+    form: Reserved,
     version: u32,
 ) -> Result<(Prefix, u32), ParseFault>
     requires size { length tokens.now ≤ 16_777_216 }
     requires known { (version ≡ 1) ⊎ (version ≡ 2) }
     requires words { AreWordsFit (version == 2) (kinds_of tokens.now) }
-    requires first { IsThere tokens.now at (kinds.Reserved word.Begin) }
+    requires first { IsThere tokens.now at (kinds.Reserved form) }
+    requires form { (form ≡ word.Begin) ⊎ ((form ≡ word.End)
+        ⊎ ((form ≡ word.EndMany) × ((version == 2) ≡ true))) }
     ensures { Reads prefix_of whole_prefix (IsWholePrefix (version == 2)) result tokens.now at }
 {
     let (label, next) = message_at(alloc, tokens, at + 1, version)?;
     let span = span_between(tokens, at, next);
-    Ok((Prefix::Begin { label, span }, next))
-}
-
-/// `end L`, where the token of number `at` is its first.
-fn end_at(
-    alloc: Global,
-    tokens: &[Token],
-    at: u32,
-    version: u32,
-) -> Result<(Prefix, u32), ParseFault>
-    requires size { length tokens.now ≤ 16_777_216 }
-    requires known { (version ≡ 1) ⊎ (version ≡ 2) }
-    requires words { AreWordsFit (version == 2) (kinds_of tokens.now) }
-    requires first { IsThere tokens.now at (kinds.Reserved word.End) }
-    ensures { Reads prefix_of whole_prefix (IsWholePrefix (version == 2)) result tokens.now at }
-{
-    let (label, next) = message_at(alloc, tokens, at + 1, version)?;
-    let span = span_between(tokens, at, next);
-    Ok((Prefix::End { label, span }, next))
-}
-
-/// `endmany L`, where the token of number `at` is its first.
-fn end_many_at(
-    alloc: Global,
-    tokens: &[Token],
-    at: u32,
-    version: u32,
-) -> Result<(Prefix, u32), ParseFault>
-    requires size { length tokens.now ≤ 16_777_216 }
-    requires known { (version ≡ 1) ⊎ (version ≡ 2) }
-    requires words { AreWordsFit (version == 2) (kinds_of tokens.now) }
-    requires version { (version == 2) ≡ true }
-    requires first { IsThere tokens.now at (kinds.Reserved word.EndMany) }
-    ensures { Reads prefix_of whole_prefix (IsWholePrefix (version == 2)) result tokens.now at }
-{
-    let (label, next) = message_at(alloc, tokens, at + 1, version)?;
-    let span = span_between(tokens, at, next);
-    Ok((Prefix::EndMany { label, span }, next))
+    match form {
+        Reserved::Begin => Ok((Prefix::Begin { label, span }, next)),
+        Reserved::End => Ok((Prefix::End { label, span }, next)),
+        _ => Ok((Prefix::EndMany { label, span }, next)),
+    }
 }
 
 /// `cast M is (x: T)`, where the token of number `at` is its first.
@@ -208,11 +247,8 @@ fn cast_at(
     requires first { IsThere tokens.now at (kinds.Reserved word.Cast) }
     ensures { Reads prefix_of whole_prefix (IsWholePrefix (version == 2)) result tokens.now at }
 {
-    let (whole, is_at) = message_at(alloc, tokens, at + 1, version)?;
-    let open = take_reserved(tokens, is_at, Reserved::Is)?;
-    let name_at = take_mark(tokens, open, Mark::ParenOpen)?;
-    let (named, close) = named_at(alloc, tokens, name_at, version)?;
-    let next = take_mark(tokens, close, Mark::ParenClose)?;
+    let (whole, open) = whole_at(alloc, tokens, at + 1, version)?;
+    let (named, next) = closed_at(alloc, tokens, open, Mark::ParenOpen, version)?;
     let span = span_between(tokens, at, next);
     Ok((
         Prefix::Cast {
@@ -238,9 +274,7 @@ fn new_at(
     requires first { IsThere tokens.now at (kinds.Reserved word.New) }
     ensures { Reads prefix_of whole_prefix (IsWholePrefix (version == 2)) result tokens.now at }
 {
-    let name_at = take_mark(tokens, at + 1, Mark::ParenOpen)?;
-    let (named, close) = named_at(alloc, tokens, name_at, version)?;
-    let next = take_mark(tokens, close, Mark::ParenClose)?;
+    let (named, next) = closed_at(alloc, tokens, at + 1, Mark::ParenOpen, version)?;
     let span = span_between(tokens, at, next);
     Ok((
         Prefix::New {
@@ -286,11 +320,11 @@ pub fn prefix_at(
         Reserved::Match => match_at(alloc, tokens, at, version),
         Reserved::Decrypt => decrypt_at(alloc, tokens, at, version),
         Reserved::Check => check_at(alloc, tokens, at, version),
-        Reserved::Begin => begin_at(alloc, tokens, at, version),
-        Reserved::End => end_at(alloc, tokens, at, version),
+        Reserved::Begin => label_at(alloc, tokens, at, Reserved::Begin, version),
+        Reserved::End => label_at(alloc, tokens, at, Reserved::End, version),
         Reserved::EndMany => {
             if version == 2 {
-                end_many_at(alloc, tokens, at, version)
+                label_at(alloc, tokens, at, Reserved::EndMany, version)
             } else {
                 Err(ParseFault::Syntax { token: at })
             }

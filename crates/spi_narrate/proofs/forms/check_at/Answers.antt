@@ -1,70 +1,40 @@
-use Rattle.std.proofs.Common.{◌≡◌, ℕ, drop, ◌==◌, ◌+◌, subst, sym, refl}
-use Rattle.spi_lex.specs.declared.token.Reserved.TheVariants as word
-use Rattle.spi_parse.specs.Formed.{whole_message, IsWholeMessage}
-use Rattle.spi_tree.specs.Views.{msg_of}
-use Rattle.spi_heading.specs.Spans.{start_of, end_before}
-use Rattle.spi_heading.proofs.Failing.{fails_from}
-use Rattle.spi_heading.proofs.Symbols.{token, message, opening, closing, the_reserved}
-use Rattle.spi_heading.proofs.Rows.{row_end, row_more, fails_first, fails_behind, fails_opening, opened, closed}
-use Rattle.spi_heading.proofs.Calls.{took, untaken, read_message, message_within, there_within, there_before}
+use Rattle.std.proofs.Common.{◌==◌, [], ◌∷◌, refl}
 use Rattle.spi_lex.specs.declared.token.Kind.TheVariants as K
+use Rattle.spi_lex.specs.declared.token.Reserved.TheVariants as word
 use Rattle.spi_text.specs.declared.lines.Span.{Span}
-use Rattle.spi_parse.specs.Exact as exact
-use Rattle.spi_heading.specs.Spans.{span_over}
+use Rattle.spi_tree.specs.Views.{msg_of}
+use Rattle.spi_heading.proofs.Symbols.{message, closing, the_reserved}
+use Rattle.spi_heading.proofs.RowParts.{then_part, no_part}
+use Rattle.spi_heading.proofs.Reached.{ended, then_message, then_closing, no_message}
+use Rattle.spi_heading.proofs.Calls.{there_within, message_within}
+use Rattle.spi_heading.proofs.Nodes.{begun_node, node_fails}
 use Rattle.spi_narrate.specs.Narrations as n
-use Rattle.spi_narrate.specs.Grammar.{whole_prefix, IsWholePrefix}
+use Rattle.spi_narrate.specs.Grammar.{whole_prefix, IsPrefix}
 use Rattle.spi_narrate.specs.Views.{prefix_of}
-use Rattle.spi_narrate.proofs.Prefixes.{check_told, check_row, form_fails, prefix_reads}
+use Rattle.spi_narrate.proofs.FormParts.{whole_are}
+use Rattle.spi_narrate.proofs.Prefixes.{check_told, check_row, check_rest, prefix_reads}
 use Rattle.spi_narrate.proofs.forms.check_at.Goals as goal
 
 pub returns-in_err-whole : goal.returns-in_err-whole
 returns-in_err-whole c =
-    let v = c.args.version == 2 in
-    let ts = c.args.tokens.now in
-    let f = c.in_err-whole.field-0.0 in
-    form_fails v ts c.args.at prefix_of word.Check check_row (check_told v) c.requires.first f c.from_residual.result c.from_residual.ensures.1
-    (fails_opening v ts c.args.at _ f
-    (fails_behind v ts c.args.at (c.args.at + 1) (token (the_reserved word.Check)) _ tt f c.requires.words (took v ts c.args.at (c.args.at + 1) (the_reserved word.Check) (c.requires.first, refl))
-    (fails_first v ts (c.args.at + 1) message _ f (fails_from msg_of whole_message (IsWholeMessage v) ts (c.args.at + 1) f c.in_err-whole.ensures))))
-
-pub returns-in_err-nonce_at : goal.returns-in_err-nonce_at
-returns-in_err-nonce_at c =
-    let v = c.args.version == 2 in
-    let ts = c.args.tokens.now in
-    let f = c.in_err-nonce_at.field-0.0 in
-    form_fails v ts c.args.at prefix_of word.Check check_row (check_told v) c.requires.first f c.from_residual-in_err-nonce_at.result c.from_residual-in_err-nonce_at.ensures.1
-    (fails_opening v ts c.args.at _ f
-    (fails_behind v ts c.args.at (c.args.at + 1) (token (the_reserved word.Check)) _ tt f c.requires.words (took v ts c.args.at (c.args.at + 1) (the_reserved word.Check) (c.requires.first, refl))
-    (fails_behind v ts (c.args.at + 1) c.in_ok-whole.is_at message _ (msg_of c.in_ok-whole.whole) f c.requires.words (read_message v ts (c.args.at + 1) (msg_of c.in_ok-whole.whole) c.in_ok-whole.is_at (there_within ts c.args.at (K.Reserved word.Check) c.requires.first) c.in_ok-whole.ensures)
-    (fails_first v ts c.in_ok-whole.is_at (token (the_reserved word.Is)) _ f (untaken v ts c.in_ok-whole.is_at (the_reserved word.Is) f c.in_err-nonce_at.ensures.taken)))))
+    node_fails (c.args.version == 2) whole_prefix (IsPrefix (c.args.version == 2)) prefix_of (K.Reserved word.Check) check_row (check_told (c.args.version == 2)) c.args.tokens.now c.args.at c.requires.first c.in_err-whole.field-0.0 c.from_residual.result c.from_residual.ensures.1
+    (no_part (message ∷ closing ∷ []) (whole_are (c.args.version == 2)) (begun_node (c.args.version == 2) c.args.tokens.now c.args.at c.requires.words (the_reserved word.Check) check_rest c.requires.first) msg_of c.in_err-whole.field-0.0 c.in_err-whole.ensures.read)
 
 pub returns-in_err-nonce : goal.returns-in_err-nonce
 returns-in_err-nonce c =
-    let v = c.args.version == 2 in
-    let ts = c.args.tokens.now in
-    let f = c.in_err-nonce.field-0.0 in
-    form_fails v ts c.args.at prefix_of word.Check check_row (check_told v) c.requires.first f c.from_residual-in_err-nonce.result c.from_residual-in_err-nonce.ensures.1
-    (fails_opening v ts c.args.at _ f
-    (fails_behind v ts c.args.at (c.args.at + 1) (token (the_reserved word.Check)) _ tt f c.requires.words (took v ts c.args.at (c.args.at + 1) (the_reserved word.Check) (c.requires.first, refl))
-    (fails_behind v ts (c.args.at + 1) c.in_ok-whole.is_at message _ (msg_of c.in_ok-whole.whole) f c.requires.words (read_message v ts (c.args.at + 1) (msg_of c.in_ok-whole.whole) c.in_ok-whole.is_at (there_within ts c.args.at (K.Reserved word.Check) c.requires.first) c.in_ok-whole.ensures)
-    (fails_behind v ts c.in_ok-whole.is_at c.in_ok-nonce_at.nonce_at (token (the_reserved word.Is)) _ tt f c.requires.words (took v ts c.in_ok-whole.is_at c.in_ok-nonce_at.nonce_at (the_reserved word.Is) c.in_ok-nonce_at.ensures.taken)
-    (fails_first v ts c.in_ok-nonce_at.nonce_at message _ f (fails_from msg_of whole_message (IsWholeMessage v) ts c.in_ok-nonce_at.nonce_at f c.in_err-nonce.ensures))))))
+    let whole = then_part (message ∷ closing ∷ []) (whole_are (c.args.version == 2)) (begun_node (c.args.version == 2) c.args.tokens.now c.args.at c.requires.words (the_reserved word.Check) check_rest c.requires.first) (msg_of c.in_ok-whole.whole) c.in_ok-whole.nonce_at (there_within c.args.tokens.now c.args.at (K.Reserved word.Check) c.requires.first) c.in_ok-whole.ensures.read in
+    node_fails (c.args.version == 2) whole_prefix (IsPrefix (c.args.version == 2)) prefix_of (K.Reserved word.Check) check_row (check_told (c.args.version == 2)) c.args.tokens.now c.args.at c.requires.first c.in_err-nonce.field-0.0 c.from_residual-in_err-nonce.result c.from_residual-in_err-nonce.ensures.1
+    (no_message whole msg_of c.in_err-nonce.field-0.0 c.in_err-nonce.ensures)
 
 pub returns : goal.returns
 returns c =
-    let v = c.args.version == 2 in
-    let ts = c.args.tokens.now in
-    subst (λ (s : Span). (k : ℕ) × (c.in_ok-nonce.next ≡ c.args.at + k) × exact.IsPartAt whole_prefix (IsWholePrefix v) (n.check s (msg_of c.in_ok-whole.whole) (msg_of c.in_ok-nonce.nonce)) (drop c.args.at ts) k) (sym c.span_between-span.ensures)
-    (prefix_reads v ts c.args.at (n.check (span_over ts c.args.at c.in_ok-nonce.next) (msg_of c.in_ok-whole.whole) (msg_of c.in_ok-nonce.nonce)) c.in_ok-nonce.next c.requires.words (c.in_ok-whole.ensures.2.part.0, c.in_ok-nonce.ensures.2.part.0) check_row _ refl
-    (row_more v ts c.args.at c.args.at c.in_ok-nonce.next opening _ (start_of ts c.args.at) _ (opened v ts c.args.at (there_before ts c.args.at (K.Reserved word.Check) c.requires.first))
-    (row_more v ts c.args.at (c.args.at + 1) c.in_ok-nonce.next (token (the_reserved word.Check)) _ tt _ (took v ts c.args.at (c.args.at + 1) (the_reserved word.Check) (c.requires.first, refl))
-    (row_more v ts (c.args.at + 1) c.in_ok-whole.is_at c.in_ok-nonce.next message _ (msg_of c.in_ok-whole.whole) _ (read_message v ts (c.args.at + 1) (msg_of c.in_ok-whole.whole) c.in_ok-whole.is_at (there_within ts c.args.at (K.Reserved word.Check) c.requires.first) c.in_ok-whole.ensures)
-    (row_more v ts c.in_ok-whole.is_at c.in_ok-nonce_at.nonce_at c.in_ok-nonce.next (token (the_reserved word.Is)) _ tt _ (took v ts c.in_ok-whole.is_at c.in_ok-nonce_at.nonce_at (the_reserved word.Is) c.in_ok-nonce_at.ensures.taken)
-    (row_more v ts c.in_ok-nonce_at.nonce_at c.in_ok-nonce.next c.in_ok-nonce.next message _ (msg_of c.in_ok-nonce.nonce) _ (read_message v ts c.in_ok-nonce_at.nonce_at (msg_of c.in_ok-nonce.nonce) c.in_ok-nonce.next c.in_ok-nonce_at.ensures.within c.in_ok-nonce.ensures)
-    (row_more v ts c.in_ok-nonce.next c.in_ok-nonce.next c.in_ok-nonce.next closing _ (end_before ts c.in_ok-nonce.next) _ (closed v ts c.in_ok-nonce.next) (row_end v ts c.in_ok-nonce.next))))))))
+    let whole = then_part (message ∷ closing ∷ []) (whole_are (c.args.version == 2)) (begun_node (c.args.version == 2) c.args.tokens.now c.args.at c.requires.words (the_reserved word.Check) check_rest c.requires.first) (msg_of c.in_ok-whole.whole) c.in_ok-whole.nonce_at (there_within c.args.tokens.now c.args.at (K.Reserved word.Check) c.requires.first) c.in_ok-whole.ensures.read in
+    let nonce = then_message whole (msg_of c.in_ok-nonce.nonce) c.in_ok-nonce.next c.in_ok-whole.ensures.within c.in_ok-nonce.ensures in
+    prefix_reads (c.args.version == 2) c.args.tokens.now c.args.at c.requires.words (λ (s : Span). n.check s (msg_of c.in_ok-whole.whole) (msg_of c.in_ok-nonce.nonce)) c.span_between-span.result c.in_ok-nonce.next c.span_between-span.ensures (c.in_ok-whole.ensures.read.2.part.0, c.in_ok-nonce.ensures.2.part.0) check_row _ refl
+    (ended (then_closing nonce))
 
-pub message_at-requires-clause-start : goal.message_at-requires-clause-start
-message_at-requires-clause-start c = there_within c.args.tokens.now c.args.at (K.Reserved word.Check) c.requires.first
+pub whole_at-requires-clause-start : goal.whole_at-requires-clause-start
+whole_at-requires-clause-start c = there_within c.args.tokens.now c.args.at (K.Reserved word.Check) c.requires.first
 
 pub span_between-span-requires-clause-within : goal.span_between-span-requires-clause-within
-span_between-span-requires-clause-within c = message_within (c.args.version == 2) c.args.tokens.now c.in_ok-nonce_at.nonce_at (msg_of c.in_ok-nonce.nonce) c.in_ok-nonce.next c.in_ok-nonce_at.ensures.within c.in_ok-nonce.ensures
+span_between-span-requires-clause-within c = message_within (c.args.version == 2) c.args.tokens.now c.in_ok-whole.nonce_at (msg_of c.in_ok-nonce.nonce) c.in_ok-nonce.next c.in_ok-whole.ensures.within c.in_ok-nonce.ensures

@@ -8,8 +8,5 @@ use Rattle.spi_narrate.proofs.lines.line_at.Goals as goal
 
 pub returns-in_err-role : goal.returns-in_err-role
 returns-in_err-role c =
-    let v = c.args.version == 2 in
-    let ts = c.args.tokens.now in
-    let f = c.in_err-role.field-0.0 in
-    line_answer v ts line_of c.args.at f c.from_residual.result c.from_residual.ensures.1
-    (head_fails v ts c.args.at c.requires.words f (fails_opening v ts c.args.at _ f (fails_first v ts c.args.at name _ f (untaken_word v ts c.args.at f c.in_err-role.ensures.taken))))
+    line_answer (c.args.version == 2) c.args.tokens.now line_of c.args.at c.in_err-role.field-0.0 c.from_residual.result c.from_residual.ensures.1
+    (head_fails (c.args.version == 2) c.args.tokens.now c.args.at c.requires.words c.in_err-role.field-0.0 (fails_opening (c.args.version == 2) c.args.tokens.now c.args.at _ c.in_err-role.field-0.0 (fails_first (c.args.version == 2) c.args.tokens.now c.args.at name _ c.in_err-role.field-0.0 (untaken_word (c.args.version == 2) c.args.tokens.now c.args.at c.in_err-role.field-0.0 c.in_err-role.ensures.taken))))
