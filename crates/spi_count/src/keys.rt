@@ -59,7 +59,8 @@ impl Keys {
 
     /// The number in this place, where its message has a key.
     pub fn id(&self, place: usize) -> Option<MsgId>
-        ensures { (k : ℕ) → get nat_eq self.now.keys place ≡ Some k → place_in result ≡ Some place }
+        ensures id { (k : ℕ) → get nat_eq self.now.keys place ≡ Some k → place_in result ≡ Some place }
+        ensures kept { result ≡ get nat_eq self.now.ids place }
     {
         self.ids.get(&place).copied()
     }

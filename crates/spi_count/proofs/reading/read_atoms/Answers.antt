@@ -5,7 +5,7 @@ use Rattle.spi_count.proofs.reading.read_atoms.Goals as goal
 
 pub read_message-requires : goal.read_message-requires
 read_message-requires c =
-    subst (λ i. i < length c.args.store.now.messages) (sym (id_place c.args.store.now c.args.keys.now c.args.key c.requires c.in-Some.id c.in-Some.ensures)) (get_below c.args.store.now.messages c.requires.0 c.requires.1 c.requires.2.at)
+    subst (λ i. i < length c.args.store.now.messages) (sym (id_place c.args.store.now c.args.keys.now c.args.key c.requires c.in-Some.id c.in-Some.ensures.id)) (get_below c.args.store.now.messages c.requires.0 c.requires.1 c.requires.2.at)
 
 pub unreachable-requires : goal.unreachable-requires
-unreachable-requires c = id_none c.args.store.now c.args.keys.now c.args.key c.requires c.in-None.ensures
+unreachable-requires c = id_none c.args.store.now c.args.keys.now c.args.key c.requires c.in-None.ensures.id
