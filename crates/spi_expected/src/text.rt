@@ -1,6 +1,6 @@
 //! Texts of files that break off.
 
-ghost use Rattle.std.specs.Prelude.{◌≡◌, ◌≤◌, ℕ, List, length, take, IfOk, IfSome, Ok};
+ghost use Rattle.std.specs.Prelude.{◌≡◌, ◌<◌, ◌≤◌, ℕ, List, length, take, IfOk, IfSome, IfNone, Ok};
 ghost use Rattle.spi_lex.specs.declared.token.Token.{Token};
 ghost use Rattle.spi_lex.specs.Lexing.{Lexes, kinds_of};
 ghost use Rattle.spi_parse.specs.Exact.{IsSyntaxAt};
@@ -17,10 +17,13 @@ use std::alloc::{AllocError, Global};
 /// tokens, where it doesn't break off, and for 16,777,216 tokens. Its only error is NoMemory.
 pub fn expected_in(alloc: Global, bytes: &[u8]) -> Result<Option<Vec<Kind>>, NoMemory>
     requires { length bytes.now ≤ 16_777_216 }
-    ensures { IfOk result
+    ensures some { IfOk result
         (λ r. IfSome r (λ those. (tokens : List Token) × (at : ℕ) × Lexes bytes.now (Ok tokens)
         × IsSyntaxAt whole_file IsFile (kinds_of tokens) at
         × AreThose (GoesOn (take at (kinds_of tokens))) candidates those.items)) }
+    ensures none { IfOk result
+        (λ r. IfNone r ((tokens : List Token) (at : ℕ) → Lexes bytes.now (Ok tokens)
+        → length tokens < 16_777_216 → IsSyntaxAt whole_file IsFile (kinds_of tokens) at → ⊥)) }
 {
     let tokens = match lex(alloc, bytes) {
         Ok(tokens) => tokens,
@@ -31,8 +34,9 @@ pub fn expected_in(alloc: Global, bytes: &[u8]) -> Result<Option<Vec<Kind>>, NoM
         return Ok(None);
     }
     match parse(alloc, &tokens, bytes.len() as u32) {
+        Ok(_) => Ok(None),
         Err(ParseFault::Syntax { token }) => Ok(Some(expected(alloc, &tokens, token)?)),
+        Err(ParseFault::TooDeep { .. }) => Ok(None),
         Err(ParseFault::NoMemory) => Err(AllocError),
-        _ => Ok(None),
     }
 }
