@@ -21,7 +21,8 @@ use Rattle.spi_replay.specs.Indexed.{out_channel, in_channel, is_on, places_on, 
 use Rattle.spi_replay.specs.Listing.{puts_on, takes_on, is_channel}
 use Rattle.spi_replay.specs.Ready.{PutsOut, puts_out, TakesIn, takes_once, takes_again, AreAscending, ArePlaces}
 use Rattle.spi_intern.proofs.Sized.{at_message, message_there}
-use Rattle.spi_replay.proofs.Told.{Channel, no_channel, a_channel, puts_told, takes_told, same_channel, get_map, many_places}
+use Rattle.spi_replay.proofs.Awaiting.{Channel, no_channel, a_channel}
+use Rattle.spi_replay.proofs.Told.{puts_told, takes_told, same_channel, get_map, many_places}
 
 -- what puts out and takes in, by its channel
 puts_some : {m : Message} {q : Process} → PutsOut m q → puts_on q ≡ Some m

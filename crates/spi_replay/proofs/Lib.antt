@@ -4,6 +4,7 @@ pub mod Forms
 pub mod Chains
 pub mod Waited
 pub mod Bindings
+pub mod Awaiting
 pub mod Does
 pub mod Stepped
 pub mod Takings
@@ -15,4 +16,6 @@ pub mod Channels
 pub mod Indexing
 pub mod Started
 pub mod Lone
+pub mod States
+pub mod Smaller
 pub mod Handed
