@@ -23,7 +23,8 @@ use Rattle.spi_replay.specs.Ready.{PutsOut, puts_out, TakesIn, takes_once, takes
 use Rattle.spi_intern.proofs.Sized.{at_message, message_there}
 use Rattle.spi_replay.proofs.Chosen.{chosen, InChosen, in_chosen, chosen_in}
 use Rattle.spi_replay.proofs.Awaiting.{Channel, no_channel, a_channel}
-use Rattle.spi_replay.proofs.Told.{puts_told, takes_told, same_channel, get_map, many_places}
+use Rattle.spi_replay.proofs.Stepped.{get_map}
+use Rattle.spi_replay.proofs.Told.{puts_told, takes_told, same_channel, many_places}
 
 -- what puts out and takes in, by its channel
 puts_some : {m : Message} {q : Process} → PutsOut m q → puts_on q ≡ Some m

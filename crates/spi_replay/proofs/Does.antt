@@ -5,6 +5,7 @@ use Rattle.spi_term.specs.Term.{Message, name, Ty, Process, send, recv, serve, s
 use Rattle.spi_term.specs.Names.{ProcessOver}
 use Rattle.std.proofs.lemmas.Bool.{eqb-true}
 use Rattle.spi_term.specs.Spelling.{Shape, Spelling, spelled}
+use Rattle.spi_intern.proofs.Lists.{some_one}
 use Rattle.spi_intern.specs.Table.{KeepsAll, AllDiffer}
 use Rattle.spi_intern.specs.declared.messages.MsgId.{MsgId}
 use Rattle.spi_run.specs.Reduction.{Event, Talks, talks_once, talks_again}
@@ -239,9 +240,6 @@ pub record Meets (ms : List Message) (ls : List Link) (p q : Place) (m : Meeting
   pub is : place_process ms ls p ≡ send channel datum
   pub talks : Talks (place_process ms ls p) (place_process ms ls q) (if m.again then place_process ms ls q else held_at q.source.now.names (datum ∷ values) (shapes_in q) m.body) (if m.again then held_at q.source.now.names (datum ∷ values) (shapes_in q) m.body ∷ [] else [])
   pub binds : Binds ms ls q.source.now m.body q.last values (datum ∷ [])
-
-some_one : {A : Type 0} {x y : A} → Some x ≡ Some y → x ≡ y
-some_one e = cc
 
 same_place : (ms : List Message) (i j : MsgId) {m n : Message} → i.place ≡ j.place → Numbers ms i m → Numbers ms j n → m ≡ n
 same_place ms i j e a b = some_one (sym a ∙ ap (slice_get ms) e ∙ b)

@@ -9,7 +9,7 @@ use Rattle.spi_term.specs.Names.{ProcessOver}
 use Rattle.spi_term.specs.Spelling.{Spelling, spelled, stopped}
 use Rattle.spi_intern.specs.Table.{KeepsAll, AllDiffer}
 use Rattle.spi_intern.specs.Messages.{message_at}
-use Rattle.spi_intern.proofs.Lists.{get_below}
+use Rattle.spi_intern.proofs.Lists.{get_below, some_one}
 use Rattle.spi_run.specs.Reduction.{Configuration, act, talk, Event, Acts, Talks, Takes, takes_act, takes_talk}
 use Rattle.spi_run.specs.Safety.{beside}
 use Rattle.spi_run.proofs.Once.{takes_once}
@@ -39,7 +39,7 @@ map_same : {A B : Type 0} (f g : A → B) (xs : List A) → ((i : ℕ) (x : A) �
 map_same f g [] h = refl
 map_same f g (x ∷ xs) h = λ i. h 0 x refl i ∷ map_same f g xs (λ j y e. h (suc j) y e) i
 
-get_map : {A B : Type 0} (f : A → B) (xs : List A) (i : ℕ) {x : A} → slice_get xs i ≡ Some x → slice_get (map f xs) i ≡ Some (f x)
+pub get_map : {A B : Type 0} (f : A → B) (xs : List A) (i : ℕ) {x : A} → slice_get xs i ≡ Some x → slice_get (map f xs) i ≡ Some (f x)
 get_map f [] i e = absurd cc
 get_map f (y ∷ xs) zero {x} e = let g : y ≡ x = cc in ap (λ z. Some (f z)) g
 get_map f (y ∷ xs) (suc i) e = get_map f xs i e
@@ -67,12 +67,6 @@ get_other (y ∷ xs) zero zero x h = absurd (h refl)
 get_other (y ∷ xs) zero (suc j) x h = refl
 get_other (y ∷ xs) (suc i) zero x h = refl
 get_other (y ∷ xs) (suc i) (suc j) x h = get_other xs i j x (λ e. h (ap suc e))
-
-some_one : {A : Type 0} {x y : A} → Some x ≡ Some y → x ≡ y
-some_one e = cc
-
-some_none : {A : Type 0} {x : A} → Some x ≡ None → ⊥
-some_none e = cc
 
 -- places that stay
 pub places_kept : {ms ns : List Message} {ls ks : List Link} {ps : List Place} → KeepsAll ms ns → KeepsAll ls ks → ArePlaces ms ls ps → ArePlaces ns ks ps

@@ -24,6 +24,7 @@ use Rattle.spi_replay.specs.Listing.{acts_now, puts_on, takes_on, is_channel, ta
 use Rattle.spi_replay.proofs.Forms.{IsQuiet, IsStill, Moves, moves_stays, moves_puts, moves_takes, moves_takes_again, moves_one, moves_two, moves_on, moves_shows, moves_makes, moves_forks}
 use Rattle.spi_replay.proofs.Awaiting.{Channel, no_channel, a_channel, put_of, take_of, waits_tell}
 use Rattle.spi_replay.proofs.Does.{acting, still_of, outcome_of}
+use Rattle.spi_replay.proofs.Stepped.{get_map}
 use Rattle.spi_replay.proofs.Listed.{acts_true, true_acts}
 use Rattle.spi_replay.proofs.Begun.{few_begun, length_more, before_all, before_fits, get_begun}
 
@@ -118,11 +119,6 @@ acts_at {ms} {ls} i ps p h e =
     by _ _ e (a_channel f) = absurd cc
 
 -- the same at a state
-pub get_map : {A B : Type 0} (f : A → B) (xs : List A) (i : ℕ) {x : A} → slice_get xs i ≡ Some x → slice_get (map f xs) i ≡ Some (f x)
-get_map f [] i e = absurd cc
-get_map f (x ∷ xs) zero e = ap (λ y. Some (f y)) (some_one e)
-get_map f (x ∷ xs) (suc i) e = get_map f xs i e
-
 begun_is : (s : State) (i : ℕ) (p : Place) → slice_get s.index.places.items i ≡ Some p → steps_begun (pooled s).configuration i ≡ steps_at (pooled s).configuration.places i (place_process s.store.messages s.links.items p)
 unfolding steps_begun
 begun_is s i p e = ap (steps_by (pooled s).configuration.places i) (get_map (place_process s.store.messages s.links.items) s.index.places.items i e)

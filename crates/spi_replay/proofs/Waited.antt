@@ -13,7 +13,7 @@ use Rattle.spi_intern.specs.Messages.{Says, says_bound, says_name, says_unit, sa
 use Rattle.spi_intern.specs.declared.messages.MsgId.{MsgId}
 use Rattle.spi_intern.specs.declared.messages.MsgPart.{MsgPart}
 use Rattle.spi_intern.proofs.MessageLaws.{same_true, same_self}
-use Rattle.spi_intern.proofs.Lists.{get_below}
+use Rattle.spi_intern.proofs.Lists.{get_below, some_one}
 use Rattle.spi_replay.specs.declared.names.Link.{Link}
 use Rattle.spi_replay.specs.declared.names.Scope.{Scope}
 use Rattle.spi_replay.specs.declared.places.Place.{Place}
@@ -25,9 +25,6 @@ use Rattle.spi_replay.specs.Moves.{Move, stays, puts, split_move, select_move, d
 use Rattle.spi_replay.specs.Standing.{InScopeOf, HasNames, IsInstance, WaitsFor, AreBelow, Enters, CanEnter, StandsAt, HasEntered}
 use Rattle.spi_replay.proofs.Subtrees.{IsNode, node_leaf, node_prefix, node_fork, node_at}
 use Rattle.spi_replay.proofs.Chains.{chain_is, chain_kept, stand_kept}
-
-some_one : {A : Type 0} {x y : A} → Some x ≡ Some y → x ≡ y
-some_one e = cc
 
 -- equal numbers are those of equal messages
 pub same_by : {ms : List Message} (i j : MsgId) {m n : Message} → AllDiffer ms → Numbers ms i m → Numbers ms j n → (i.place == j.place) ≡ same_message m n
