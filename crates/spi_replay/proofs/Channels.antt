@@ -1,8 +1,8 @@
 -- The places that wait on a channel.
 use Rattle.std.proofs.Common.{◌≡◌, ℕ, zero, suc, ◌+◌, ◌<◌, ◌≤◌, Bool, true, false, List, [], ◌∷◌, map, length, Option, Some, None, slice_get, refl, sym, ap, ◌∙◌, subst, arith, true≢false, ⊎_elim, ◌⊎◌, inl, inr}
 use Rattle.std.specs.Prelude.{if◌then◌else◌}
-use Rattle.spi_term.specs.Lists.{At, In, in_first, in_later}
-use Rattle.spi_term.proofs.Lists.{get_at, at_get, in_cases}
+use Rattle.spi_term.specs.Lists.{At, In}
+use Rattle.spi_term.proofs.Lists.{get_at, at_get}
 use Rattle.spi_term.specs.Term.{Message, same_message, Process, send, recv, serve}
 use Rattle.spi_intern.specs.Table.{AllDiffer}
 use Rattle.spi_intern.specs.Messages.{message_at}
@@ -21,7 +21,10 @@ use Rattle.spi_replay.specs.Indexed.{out_channel, in_channel, is_on, places_on, 
 use Rattle.spi_replay.specs.Listing.{puts_on, takes_on, is_channel}
 use Rattle.spi_replay.specs.Ready.{PutsOut, puts_out, TakesIn, takes_once, takes_again, AreAscending, ArePlaces}
 use Rattle.spi_intern.proofs.Sized.{at_message, message_there}
-use Rattle.spi_replay.proofs.Told.{Channel, no_channel, a_channel, puts_told, takes_told, same_channel, get_map, many_places}
+use Rattle.spi_replay.proofs.Chosen.{chosen, InChosen, in_chosen, chosen_in}
+use Rattle.spi_replay.proofs.Awaiting.{Channel, no_channel, a_channel}
+use Rattle.spi_replay.proofs.Stepped.{get_map}
+use Rattle.spi_replay.proofs.Told.{puts_told, takes_told, same_channel, many_places}
 
 -- what puts out and takes in, by its channel
 puts_some : {m : Message} {q : Process} → PutsOut m q → puts_on q ≡ Some m
@@ -129,38 +132,15 @@ none_end s m n l b i q e w =
     b.none i q (omega (arith, f, g)) e w
 
 -- the list of a channel's places
-record InPlaces (f : Wait → Option ℕ) (c i : ℕ) (ws : List Wait) (j : ℕ) : Type 0 where
-  pub place : ℕ
-  pub wait : Wait
-  pub there : slice_get ws place ≡ Some wait
-  pub on : is_on c (f wait) ≡ true
-  pub is : j ≡ i + place
+places_chosen : (f : Wait → Option ℕ) (c i : ℕ) (ws : List Wait) → places_on f c i ws ≡ chosen (λ w. is_on c (f w)) (λ n. n) i ws
+places_chosen f c i [] = refl
+places_chosen f c i (w ∷ ws) = ap (λ js. if is_on c (f w) then i ∷ js else js) (places_chosen f c (suc i) ws)
 
-in_places : (f : Wait → Option ℕ) (c i : ℕ) (ws : List Wait) (j : ℕ) → In j (places_on f c i ws) → InPlaces f c i ws j
-in_places f c i [] j h = elim h [ ]
-in_places f c i (w ∷ ws) j h = by (λ k. in_places f c (suc i) ws j k) (is_on c (f w)) refl h
-  where
-    later : InPlaces f c (suc i) ws j → InPlaces f c i (w ∷ ws) j
-    later x =
-        let e : suc i + x.place ≡ i + suc x.place = omega arith in
-        record { place = suc x.place; wait = x.wait; there = x.there; on = x.on; is = x.is ∙ e }
-
-    by : (In j (places_on f c (suc i) ws) → InPlaces f c (suc i) ws j) → (z : Bool) → is_on c (f w) ≡ z → In j (if z then i ∷ places_on f c (suc i) ws else places_on f c (suc i) ws) → InPlaces f c i (w ∷ ws) j
-    by go true e h = ⊎_elim (λ g. let k : i ≡ i + 0 = omega arith in record { place = 0; wait = w; there = refl; on = e; is = g ∙ k }) (λ k. later (go k)) (in_cases h)
-    by go false e h = later (go h)
+in_places : (f : Wait → Option ℕ) (c i : ℕ) (ws : List Wait) (j : ℕ) → In j (places_on f c i ws) → InChosen (λ w. is_on c (f w)) (λ (n : ℕ). n) i ws j
+in_places f c i ws j h = in_chosen (λ w. is_on c (f w)) (λ n. n) i ws j (subst (In j) (places_chosen f c i ws) h)
 
 places_in : (f : Wait → Option ℕ) (c i k : ℕ) (ws : List Wait) (w : Wait) → slice_get ws k ≡ Some w → is_on c (f w) ≡ true → In (i + k) (places_on f c i ws)
-places_in f c i k [] w e t = absurd cc
-places_in f c i zero (x ∷ ws) w e t =
-    let g : i ≡ i + 0 = omega arith in
-    subst (λ z. In (i + 0) (if z then i ∷ places_on f c (suc i) ws else places_on f c (suc i) ws)) (sym (ap (λ y. is_on c (f y)) (some_one e) ∙ t)) (subst (λ n. In n (i ∷ places_on f c (suc i) ws)) g in_first)
-places_in f c i (suc k) (x ∷ ws) w e t =
-    let g : suc i + k ≡ i + suc k = omega arith in
-    by (is_on c (f x)) (subst (λ n. In n (places_on f c (suc i) ws)) g (places_in f c (suc i) k ws w e t))
-  where
-    by : (z : Bool) → In (i + suc k) (places_on f c (suc i) ws) → In (i + suc k) (if z then i ∷ places_on f c (suc i) ws else places_on f c (suc i) ws)
-    by true h = in_later h
-    by false h = h
+places_in f c i k ws w e t = subst (In (i + k)) (sym (places_chosen f c i ws)) (chosen_in (λ x. is_on c (f x)) (λ n. n) i k ws w e t)
 
 ascending : (f : Wait → Option ℕ) (c i : ℕ) (ws : List Wait) → AreAscending (places_on f c i ws)
 ascending f c i [] = tt
@@ -195,9 +175,9 @@ module _ (s : State) (h : IsState s) (differ : AllDiffer s.store.messages) (id :
     there_then i k =
         let x = in_places f id.place 0 (waits_of s.index.places.items) i k in
         let z : x.place ≡ i = (let e = x.is in omega (arith, e)) in
-        let w = map_got (λ (p : Place). p.wait) s.index.places.items x.place x.wait x.there in
+        let w = map_got (λ (p : Place). p.wait) s.index.places.items x.place x.item x.there in
         let a = get_map process s.index.places.items x.place w.1 in
-        let t : is_on id.place (f (w.0).wait) ≡ true = ap (λ v. is_on id.place (f v)) w.2 ∙ x.on in
+        let t : is_on id.place (f (w.0).wait) ≡ true = ap (λ v. is_on id.place (f v)) w.2 ∙ x.chooses in
         (process w.0, get_at (pooled s).configuration.places i (ap (slice_get (pooled s).configuration.places) (sym z) ∙ a), back (process w.0) (on_some m (g (process w.0)) (same_on x.place w.0 w.1 ∙ t)))
 
     then_there : (i : ℕ) → (q : Process) × At (pooled s).configuration.places i q × P q → In i (places_on f id.place 0 (waits_of s.index.places.items))

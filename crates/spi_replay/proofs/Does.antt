@@ -1,16 +1,14 @@
 -- What a place does by what it waits for.
-use Rattle.std.proofs.Common.{◌≡◌, ℕ, suc, ◌+◌, Bool, true, false, List, [], ◌∷◌, ◌++◌, length, Option, Some, None, slice_get, refl, sym, ap, ◌∙◌, subst, arith, true≢false, ⊎_elim, ◌⊎◌, inl, inr, eq-eqb}
+use Rattle.std.proofs.Common.{◌≡◌, ℕ, suc, ◌+◌, Bool, true, false, List, [], ◌∷◌, ◌++◌, length, Option, Some, None, slice_get, refl, sym, ap, ◌∙◌, subst, true≢false, ⊎_elim, ◌⊎◌, inl, inr, eq-eqb}
 use Rattle.std.specs.Prelude.{if◌then◌else◌, ◌==◌}
-use Rattle.spi_term.specs.Term.{Message, name, Ty, Process, send, recv, serve, stop, message_size}
+use Rattle.spi_term.specs.Term.{Message, name, Ty, Process, send, recv, serve, stop}
 use Rattle.spi_term.specs.Names.{ProcessOver}
 use Rattle.std.proofs.lemmas.Bool.{eqb-true}
-use Rattle.spi_term.specs.Spelling.{Shape, Spelling, spelled, stopped}
+use Rattle.spi_term.specs.Spelling.{Shape, Spelling, spelled}
+use Rattle.spi_intern.proofs.Lists.{some_one}
 use Rattle.spi_intern.specs.Table.{KeepsAll, AllDiffer}
-use Rattle.spi_intern.specs.Messages.{message_at}
 use Rattle.spi_intern.specs.declared.messages.MsgId.{MsgId}
-use Rattle.spi_intern.proofs.Lists.{get_below}
 use Rattle.spi_run.specs.Reduction.{Event, Talks, talks_once, talks_again}
-use Rattle.spi_replay.specs.Stepping.{largest}
 use Rattle.spi_replay.specs.declared.names.Link.{Link}
 use Rattle.spi_replay.specs.declared.places.Place.{Place}
 use Rattle.spi_replay.specs.declared.waits.Kind.{Kind}
@@ -18,13 +16,13 @@ use Rattle.spi_replay.specs.declared.waits.Wait.{Wait}
 use Rattle.spi_replay.specs.declared.waits.Wait.TheVariants as W
 use Rattle.spi_replay.specs.declared.waits.Meeting.{Meeting}
 use Rattle.spi_replay.specs.Holding.{value, chain, held_at, place_process, IsClosed, AllClosed, Chain}
-use Rattle.spi_replay.specs.Waiting.{wait_acts, wait_appends, wait_within, wait_largest, met_if, met_with, met_by}
-use Rattle.spi_replay.specs.Moves.{event_of, Move, stays, puts, takes, takes_again, move_of, bound_in, appended, acts_alone, Numbers, Waits, w_stays, w_puts, w_takes, w_takes_again, w_binds_one, w_binds_two, w_goes_on, w_shows, w_makes, w_forks}
+use Rattle.spi_replay.specs.Waiting.{met_if, met_with, met_by}
+use Rattle.spi_replay.specs.Moves.{event_of, Move, stays, puts, takes, takes_again, move_of, bound_in, appended, acts_alone, Numbers, Waits, w_puts, w_takes, w_takes_again, w_binds_one, w_binds_two, w_goes_on, w_shows, w_makes, w_forks}
 use Rattle.spi_replay.specs.Standing.{Enters, IsPlace, Binds, StandsAt}
 use Rattle.spi_replay.proofs.Subtrees.{Follows, node_at}
 use Rattle.spi_replay.proofs.Forms.{IsQuiet, IsStill, Leads, Moves, moves_stays, moves_puts, moves_takes, moves_takes_again, moves_one, moves_two, moves_on, moves_shows, moves_makes, moves_forks, node_moves, done_moves}
 use Rattle.spi_replay.proofs.Chains.{chain_is, chain_kept}
-use Rattle.spi_intern.proofs.Sized.{at_message}
+use Rattle.spi_replay.proofs.Awaiting.{waits_kept}
 
 abbrev pub shapes_in : Place → List Shape
 shapes_in p = spelled p.source.now.names p.source.now.process
@@ -59,18 +57,6 @@ acting {ms} {ls} p h =
     }
 
 -- kept
-waits_kept : {ms ns : List Message} {w : Wait} {v : Move} → KeepsAll ms ns → Waits ms w v → Waits ns w v
-waits_kept k w_stays = w_stays
-waits_kept k (w_puts {i = i} {j = j} a b) = w_puts (k.at i.place _ a) (k.at j.place _ b)
-waits_kept k (w_takes {i = i} a) = w_takes (k.at i.place _ a)
-waits_kept k (w_takes_again {i = i} a) = w_takes_again (k.at i.place _ a)
-waits_kept k (w_binds_one {i = i} a) = w_binds_one (k.at i.place _ a)
-waits_kept k (w_binds_two {i = i} {j = j} a b) = w_binds_two (k.at i.place _ a) (k.at j.place _ b)
-waits_kept k w_goes_on = w_goes_on
-waits_kept k (w_shows {i = i} a) = w_shows (k.at i.place _ a)
-waits_kept k w_makes = w_makes
-waits_kept k w_forks = w_forks
-
 pub place_kept : {ms ns : List Message} {ls ks : List Link} {p : Place} → KeepsAll ms ns → KeepsAll ls ks → IsPlace ms ls p → IsPlace ns ks p
 place_kept k l h = record {
   values = h.values;
@@ -85,58 +71,6 @@ process_kept p k l h = process_is p (place_kept k l h) ∙ sym (process_is p h)
 
 pub stands_kept : {ms ns : List Message} {ls ks : List Link} {sp : Spelling} {node : ℕ} {vs : List Message} {p : Place} → KeepsAll ms ns → KeepsAll ls ks → StandsAt ms ls sp node vs p → StandsAt ns ks sp node vs p
 stands_kept {p = p} k l s = record { is = place_kept k l s.is; process = process_kept p k l s.is ∙ s.process }
-
--- what a wait says of a move
-pub waits_act : {ms : List Message} {w : Wait} {v : Move} → Waits ms w v → wait_acts w ≡ acts_alone v
-waits_act w_stays = refl
-waits_act (w_puts a b) = refl
-waits_act (w_takes a) = refl
-waits_act (w_takes_again a) = refl
-waits_act (w_binds_one a) = refl
-waits_act (w_binds_two a b) = refl
-waits_act w_goes_on = refl
-waits_act (w_shows a) = refl
-waits_act w_makes = refl
-waits_act w_forks = refl
-
-pub waits_append : {ms : List Message} {w : Wait} {v : Move} → Waits ms w v → wait_appends w ≡ appended v
-waits_append w_stays = refl
-waits_append (w_puts a b) = refl
-waits_append (w_takes a) = refl
-waits_append (w_takes_again a) = refl
-waits_append (w_binds_one a) = refl
-waits_append (w_binds_two a b) = refl
-waits_append w_goes_on = refl
-waits_append (w_shows a) = refl
-waits_append w_makes = refl
-waits_append w_forks = refl
-
-pub waits_within : {ms : List Message} {w : Wait} {v : Move} → Waits ms w v → wait_within (length ms) w
-waits_within w_stays = tt
-waits_within (w_puts a b) = tt
-waits_within (w_takes a) = tt
-waits_within (w_takes_again a) = tt
-waits_within {ms} (w_binds_one {i = i} {m = m} a) = get_below ms i.place m a
-waits_within {ms} (w_binds_two {i = i} {j = j} {m = m} {n = n} a b) = (get_below ms i.place m a, get_below ms j.place n b)
-waits_within w_goes_on = tt
-waits_within {ms} (w_shows {i = i} {m = m} a) = get_below ms i.place m a
-waits_within w_makes = tt
-waits_within w_forks = tt
-
-size_of : (ms : List Message) (i : MsgId) {m : Message} → Numbers ms i m → message_size (message_at ms i) ≡ message_size m
-size_of ms i a = ap message_size (at_message ms i a)
-
-pub waits_largest : {ms : List Message} {w : Wait} {v : Move} (n : ℕ) → Waits ms w v → wait_largest ms w ≡ stopped (largest (bound_in n v))
-waits_largest n w_stays = refl
-waits_largest n (w_puts a b) = refl
-waits_largest n (w_takes a) = refl
-waits_largest n (w_takes_again a) = refl
-waits_largest {ms} n (w_binds_one {i = i} a) = omega (arith, size_of ms i a)
-waits_largest {ms} n (w_binds_two {i = i} {j = j} a b) = omega (arith, size_of ms i a, size_of ms j b)
-waits_largest n w_goes_on = refl
-waits_largest {ms} n (w_shows {i = i} a) = omega (arith, size_of ms i a)
-waits_largest n w_makes = refl
-waits_largest n w_forks = refl
 
 -- a move that doesn't act, and one that does
 pub still_of : {k : ℕ} {ss : List Shape} {vs : List Message} {p : Process} {v : Move} → acts_alone v ≡ false → Moves k ss vs p v → IsStill p
@@ -306,9 +240,6 @@ pub record Meets (ms : List Message) (ls : List Link) (p q : Place) (m : Meeting
   pub is : place_process ms ls p ≡ send channel datum
   pub talks : Talks (place_process ms ls p) (place_process ms ls q) (if m.again then place_process ms ls q else held_at q.source.now.names (datum ∷ values) (shapes_in q) m.body) (if m.again then held_at q.source.now.names (datum ∷ values) (shapes_in q) m.body ∷ [] else [])
   pub binds : Binds ms ls q.source.now m.body q.last values (datum ∷ [])
-
-some_one : {A : Type 0} {x y : A} → Some x ≡ Some y → x ≡ y
-some_one e = cc
 
 same_place : (ms : List Message) (i j : MsgId) {m n : Message} → i.place ≡ j.place → Numbers ms i m → Numbers ms j n → m ≡ n
 same_place ms i j e a b = some_one (sym a ∙ ap (slice_get ms) e ∙ b)

@@ -1,5 +1,5 @@
 -- What a ready talk hands over.
-use Rattle.std.proofs.Common.{◌≡◌, refl, sym, ap, ◌∙◌, ℕ, ◌<◌, ◌≤◌, List, [], ◌∷◌, length, Option, Some, None, slice_get, arith}
+use Rattle.std.proofs.Common.{◌≡◌, refl, sym, ap, ◌∙◌, ℕ, ◌<◌, List, [], ◌∷◌, length, Option, Some, None, slice_get, arith}
 use Rattle.std.proofs.lemmas.List.{length-map}
 use Rattle.std.proofs.lemmas.Option.{slice_get_within, slice_get-map}
 use Rattle.std.specs.Option.{option_map}
@@ -17,7 +17,7 @@ use Rattle.spi_replay.specs.declared.fault.StepFault.{StepFault}
 use Rattle.spi_replay.specs.declared.fault.StepFault.TheVariants.{NotReady}
 use Rattle.spi_replay.specs.Holding.{place_process}
 use Rattle.spi_replay.specs.Ready.{IsReady}
-use Rattle.spi_replay.specs.Standing.{IsPlace, processes}
+use Rattle.spi_replay.specs.Standing.{ArePlaces, processes}
 use Rattle.spi_replay.specs.Stepping.{Refuses, no_place, not_ready, too_large, too_many}
 use Rattle.spi_replay.specs.Waiting.{met_by}
 use Rattle.spi_replay.specs.Pools.{configuration_of}
@@ -38,15 +38,15 @@ refused_apart k e (not_ready f g) = g
 refused_apart k e (too_large r l) = absurd cc
 refused_apart k e (too_many t s m) = absurd cc
 
-module _ (ms : List Message) (ls : List Link) (ps : List Place) (n i j : ℕ) {p q : Place} (at : slice_get ps i ≡ Some p) (at' : slice_get ps j ≡ Some q) (w : IsPlace ms ls p) (w' : IsPlace ms ls q) where
+module _ (ms : List Message) (ls : List Link) (ps : List Place) (n i j : ℕ) {p q : Place} (at : slice_get ps i ≡ Some p) (at' : slice_get ps j ≡ Some q) (h : ArePlaces ms ls ps) where
   pub apart_not_ready : AllDiffer ms → met_by p.wait q.wait ≡ None → IsReady (configuration_of ms ls ps n) (talk i j) → ⊥
-  apart_not_ready d e = refused_apart i refl (refuse_apart ms ls ps n 0 i j at at' w w' d e)
+  apart_not_ready d e = refused_apart i refl (refuse_apart ms ls ps n 0 i j at at' h d e)
 
   pub met_ready : (m : Meeting) → met_by p.wait q.wait ≡ Some m → IsReady (configuration_of ms ls ps n) (talk i j)
-  met_ready m e = (None, _, talk_takes ms ls ps n 0 i j at at' w w' m e)
+  met_ready m e = (None, _, talk_takes ms ls ps n 0 i j at at' h m e)
 
   pub met_shown : (m : Meeting) → met_by p.wait q.wait ≡ Some m → shown (configuration_of ms ls ps n) (talk i j) ≡ message_at ms m.datum ∷ []
   met_shown m e =
-      let x = meets_of p q m w w' e in
+      let x = meets_of p q m (h.each i p at) (h.each j q at') e in
       ap datum (slice_get-map (place_process ms ls) ps i ∙ (ap (option_map (place_process ms ls)) at ∙ ap (λ (r : Process). Some r) x.is))
       ∙ ap (λ d. d ∷ []) (sym (at_message ms m.datum x.number))

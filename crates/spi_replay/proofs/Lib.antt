@@ -4,9 +4,11 @@ pub mod Forms
 pub mod Chains
 pub mod Waited
 pub mod Bindings
+pub mod Awaiting
 pub mod Does
 pub mod Stepped
 pub mod Takings
+pub mod Chosen
 pub mod Listed
 pub mod Told
 pub mod Begun
@@ -15,4 +17,6 @@ pub mod Channels
 pub mod Indexing
 pub mod Started
 pub mod Lone
+pub mod States
+pub mod Smaller
 pub mod Handed

@@ -7,6 +7,7 @@ use Rattle.spi_term.specs.Term.{Message, pair, in_left, in_right, enc, same_mess
 use Rattle.spi_intern.proofs.MessageLaws.{same_true, same_self}
 use Rattle.spi_run.specs.Reduction.{Configuration, Step, act, talk, Event, Acts, acts_split, acts_match, acts_inl, acts_inr, acts_decrypt, acts_check, acts_begin, acts_end, acts_end_many, acts_cast, acts_new, acts_par, Talks, talks_once, talks_again, Takes, takes_act, takes_talk}
 use Rattle.spi_replay.specs.Ready.{IsReady, first_place, Before, before_place, before_input, AreOrdered, AreReady}
+use Rattle.spi_replay.proofs.Chosen.{chosen, InChosen, in_chosen, chosen_in}
 use Rattle.spi_replay.specs.Listing.{acts_now, puts_on, takes_on, is_channel, talks_to, talks_of, steps_at, steps_from, ready_steps}
 
 -- no two such lists
@@ -117,39 +118,15 @@ talks_true (talks_once {a} e) = record { channel = a; puts = refl; takes = same_
 talks_true (talks_again {a} e) = record { channel = a; puts = refl; takes = same_of e; quiet = refl }
 
 -- what stands in the lists
-record InTalks (c : Message) (i j : ℕ) (qs : List Process) (s : Step) : Type 0 where
-  pub place : ℕ
-  pub process : Process
-  pub there : slice_get qs place ≡ Some process
-  pub takes : is_channel c (takes_on process) ≡ true
-  pub is : s ≡ talk i (j + place)
+talks_chosen : (c : Message) (i j : ℕ) (qs : List Process) → talks_to c i j qs ≡ chosen (λ q. is_channel c (takes_on q)) (talk i) j qs
+talks_chosen c i j [] = refl
+talks_chosen c i j (q ∷ qs) = ap (λ ss. if is_channel c (takes_on q) then talk i j ∷ ss else ss) (talks_chosen c i (suc j) qs)
 
-in_talks : (c : Message) (i j : ℕ) (qs : List Process) (s : Step) → In s (talks_to c i j qs) → InTalks c i j qs s
-in_talks c i j [] s h = elim h [ ]
-in_talks c i j (q ∷ qs) s h = by (λ k. in_talks c i (suc j) qs s k) (is_channel c (takes_on q)) refl h
-  where
-    later : InTalks c i (suc j) qs s → InTalks c i j (q ∷ qs) s
-    later w =
-        let e : suc j + w.place ≡ j + suc w.place = omega arith in
-        record { place = suc w.place; process = w.process; there = w.there; takes = w.takes; is = w.is ∙ ap (talk i) e }
-
-    by : (In s (talks_to c i (suc j) qs) → InTalks c i (suc j) qs s) → (z : Bool) → is_channel c (takes_on q) ≡ z → In s (if z then talk i j ∷ talks_to c i (suc j) qs else talks_to c i (suc j) qs) → InTalks c i j (q ∷ qs) s
-    by go true e h = ⊎_elim (λ f. let g : j ≡ j + 0 = omega arith in record { place = 0; process = q; there = refl; takes = e; is = f ∙ ap (talk i) g }) (λ k. later (go k)) (in_cases h)
-    by go false e h = later (go h)
+in_talks : (c : Message) (i j : ℕ) (qs : List Process) (s : Step) → In s (talks_to c i j qs) → InChosen (λ q. is_channel c (takes_on q)) (talk i) j qs s
+in_talks c i j qs s h = in_chosen (λ q. is_channel c (takes_on q)) (talk i) j qs s (subst (In s) (talks_chosen c i j qs) h)
 
 talks_in : (c : Message) (i j k : ℕ) (qs : List Process) (q : Process) → slice_get qs k ≡ Some q → is_channel c (takes_on q) ≡ true → In (talk i (j + k)) (talks_to c i j qs)
-talks_in c i j k [] q e t = absurd cc
-talks_in c i j zero (x ∷ qs) q e t =
-    let f : q ≡ x = cc in
-    let g : j ≡ j + 0 = omega arith in
-    subst (λ z. In (talk i (j + 0)) (if z then talk i j ∷ talks_to c i (suc j) qs else talks_to c i (suc j) qs)) (sym (ap (λ y. is_channel c (takes_on y)) (sym f) ∙ t)) (subst (λ n. In (talk i n) (talk i j ∷ talks_to c i (suc j) qs)) g in_first)
-talks_in c i j (suc k) (x ∷ qs) q e t =
-    let f : suc j + k ≡ j + suc k = omega arith in
-    by (is_channel c (takes_on x)) (subst (λ n. In (talk i n) (talks_to c i (suc j) qs)) f (talks_in c i (suc j) k qs q e t))
-  where
-    by : (z : Bool) → In (talk i (j + suc k)) (talks_to c i (suc j) qs) → In (talk i (j + suc k)) (if z then talk i j ∷ talks_to c i (suc j) qs else talks_to c i (suc j) qs)
-    by true h = in_later h
-    by false h = h
+talks_in c i j k qs q e t = subst (In (talk i (j + k))) (sym (talks_chosen c i j qs)) (chosen_in (λ p. is_channel c (takes_on p)) (talk i) j k qs q e t)
 
 left_in : {s : Step} {xs : List Step} (ys : List Step) → In s xs → In s (xs ++ ys)
 left_in ys in_first = in_first
@@ -196,7 +173,7 @@ step_at all i p s h = by (acts_now p) refl h
   where
     talks : (o : Option Message) → puts_on p ≡ o → acts_now p ≡ false → In s (talks_of all i o) → StepAt all i p s
     talks None e f h = elim h [ ]
-    talks (Some c) e f h = let w = in_talks c i 0 all s h in let g : 0 + w.place ≡ w.place = omega arith in subst (StepAt all i p) (sym (w.is ∙ ap (talk i) g)) (a_talk f e w.there w.takes)
+    talks (Some c) e f h = let w = in_talks c i 0 all s h in let g : 0 + w.place ≡ w.place = omega arith in subst (StepAt all i p) (sym (w.is ∙ ap (talk i) g)) (a_talk f e w.there w.chooses)
 
     by : (z : Bool) → acts_now p ≡ z → In s (if z then act i ∷ [] else talks_of all i (puts_on p)) → StepAt all i p s
     by true e h = ⊎_elim (λ f. subst (StepAt all i p) (sym f) (an_act e)) (λ k. absurd (not_in_none k)) (in_cases h)

@@ -9,7 +9,7 @@ use Rattle.spi_term.specs.Names.{ProcessOver}
 use Rattle.spi_term.specs.Spelling.{Spelling, spelled, stopped}
 use Rattle.spi_intern.specs.Table.{KeepsAll, AllDiffer}
 use Rattle.spi_intern.specs.Messages.{message_at}
-use Rattle.spi_intern.proofs.Lists.{get_below}
+use Rattle.spi_intern.proofs.Lists.{get_below, some_one}
 use Rattle.spi_run.specs.Reduction.{Configuration, act, talk, Event, Acts, Talks, Takes, takes_act, takes_talk}
 use Rattle.spi_run.specs.Safety.{beside}
 use Rattle.spi_run.proofs.Once.{takes_once}
@@ -31,14 +31,15 @@ use Rattle.spi_replay.specs.Pools.{configuration_of, pool_of, TakenBy, again_app
 use Rattle.spi_replay.proofs.Opening.{held_first}
 use Rattle.spi_replay.proofs.Subtrees.{root_tree, root_follows}
 use Rattle.spi_intern.proofs.Sized.{at_message}
-use Rattle.spi_replay.proofs.Does.{acting, place_kept, process_kept, waits_act, waits_append, waits_largest, still_of, Outcome, outcome_of, Meets, meets_of, no_meeting}
+use Rattle.spi_replay.proofs.Awaiting.{waits_tell}
+use Rattle.spi_replay.proofs.Does.{acting, place_kept, process_kept, still_of, Outcome, outcome_of, Meets, meets_of, no_meeting}
 
 -- lists
 map_same : {A B : Type 0} (f g : A → B) (xs : List A) → ((i : ℕ) (x : A) → slice_get xs i ≡ Some x → f x ≡ g x) → map f xs ≡ map g xs
 map_same f g [] h = refl
 map_same f g (x ∷ xs) h = λ i. h 0 x refl i ∷ map_same f g xs (λ j y e. h (suc j) y e) i
 
-get_map : {A B : Type 0} (f : A → B) (xs : List A) (i : ℕ) {x : A} → slice_get xs i ≡ Some x → slice_get (map f xs) i ≡ Some (f x)
+pub get_map : {A B : Type 0} (f : A → B) (xs : List A) (i : ℕ) {x : A} → slice_get xs i ≡ Some x → slice_get (map f xs) i ≡ Some (f x)
 get_map f [] i e = absurd cc
 get_map f (y ∷ xs) zero {x} e = let g : y ≡ x = cc in ap (λ z. Some (f z)) g
 get_map f (y ∷ xs) (suc i) e = get_map f xs i e
@@ -66,12 +67,6 @@ get_other (y ∷ xs) zero zero x h = absurd (h refl)
 get_other (y ∷ xs) zero (suc j) x h = refl
 get_other (y ∷ xs) (suc i) zero x h = refl
 get_other (y ∷ xs) (suc i) (suc j) x h = get_other xs i j x (λ e. h (ap suc e))
-
-some_one : {A : Type 0} {x y : A} → Some x ≡ Some y → x ≡ y
-some_one e = cc
-
-some_none : {A : Type 0} {x : A} → Some x ≡ None → ⊥
-some_none e = cc
 
 -- places that stay
 pub places_kept : {ms ns : List Message} {ls ks : List Link} {ps : List Place} → KeepsAll ms ns → KeepsAll ls ks → ArePlaces ms ls ps → ArePlaces ns ks ps
@@ -126,7 +121,7 @@ module _ (ms : List Message) (ls : List Link) (ps : List Place) (n most i : ℕ)
       none h (outside_later g o) = elim o [ ]
 
   outcome_at : (h : IsPlace ms ls p) → wait_acts p.wait ≡ true → Outcome n (place_process ms ls p) (acting p h).move
-  outcome_at h e = let a = acting p h in outcome_of n (sym (waits_act a.waits) ∙ e) a.moves
+  outcome_at h e = let a = acting p h in outcome_of n (sym (waits_tell a.waits).acts ∙ e) a.moves
 
   pub act_ready : IsPlace ms ls p → wait_acts p.wait ≡ true → IsReady (configuration_of ms ls ps n) (act i)
   act_ready h e = let o = outcome_at h e in (o.event, _, takes_act there o.leads.acts)
@@ -135,18 +130,18 @@ module _ (ms : List Message) (ls : List Link) (ps : List Place) (n most i : ℕ)
   act_largest h e =
       let a = acting p h in
       let o = outcome_at h e in
-      waits_largest n a.waits ∙ ap (λ bs. stopped (largest bs)) (sym (bound_at ∙ o.leads.binds))
+      (waits_tell a.waits).largest n ∙ ap (λ bs. stopped (largest bs)) (sym (bound_at ∙ o.leads.binds))
 
   pub act_outside_none : (h : IsPlace ms ls p) → wait_acts p.wait ≡ false → IsReady (configuration_of ms ls ps n) (act i) → ⊥
   act_outside_none h e r =
       let a = acting p h in
-      let s = still_of (sym (waits_act a.waits) ∙ e) a.moves in
+      let s = still_of (sym (waits_tell a.waits).acts ∙ e) a.moves in
       none r.2
     where
       still : {q q' : Process} {n' : ℕ} {x : Option Event} {more : List Process} → q ≡ place_process ms ls p → Acts n q x n' q' more → ⊥
       still {q' = q'} {n' = n'} {x = x} {more = more} f b =
           let a = acting p h in
-          (still_of (sym (waits_act a.waits) ∙ e) a.moves).still n x n' q' more (subst (λ z. Acts n z x n' q' more) f b)
+          (still_of (sym (waits_tell a.waits).acts ∙ e) a.moves).still n x n' q' more (subst (λ z. Acts n z x n' q' more) f b)
 
       none : {x : Option Event} {d : Configuration} → Takes (configuration_of ms ls ps n) (act i) x d → ⊥
       none (takes_act b c) = still (at_unique b there) c
@@ -167,7 +162,7 @@ module _ (ms : List Message) (ls : List Link) (ps : List Place) (n most i : ℕ)
       let a = acting p h in
       let o = outcome_at h e in
       let ts = slice_set (processes ms ls ps) i o.now ++ o.more in
-      let c : length ts ≡ length ps + wait_appends p.wait = omega (arith, length-append (slice_set (processes ms ls ps) i o.now) o.more, length-set (processes ms ls ps) i o.now, length-map ps (place_process ms ls), o.count, waits_append a.waits) in
+      let c : length ts ≡ length ps + wait_appends p.wait = omega (arith, length-append (slice_set (processes ms ls ps) i o.now) o.more, length-set (processes ms ls ps) i o.now, length-map ps (place_process ms ls), o.count, (waits_tell a.waits).appends) in
       subst (λ z. Refuses (configuration_of ms ls ps n) most (act i) (TooManyPlaces z)) c (too_many (takes_act there o.leads.acts) (act_small h e l) (omega (arith, c)))
 
 pub refuse_large_by : (ms : List Message) (ls : List Link) (ps : List Place) (n most i : ℕ) {p : Place} (z : ℕ) → slice_get ps i ≡ Some p → IsPlace ms ls p → wait_acts p.wait ≡ true → z ≡ wait_largest ms p.wait → message_most < z → Refuses (configuration_of ms ls ps n) most (act i) (RunMessageTooLarge z)
@@ -195,7 +190,7 @@ act_taken {ms} {ns} {ls} {ks} {ps} n most i p t k l h at e s f b =
           let r = o.more in
           let u = takes_once c (takes_act (there ms ls ps n most i at) o.leads.acts) in
           let z : length (processes ns ks (moved ps i t.now t.more)) ≡ length (slice_set (processes ms ls ps) i o.now ++ r) = ap length q ∙ ap (λ d. length d.places) u.1 in
-          omega (arith, z, length-append (slice_set (processes ms ls ps) i o.now) r, length-set (processes ms ls ps) i o.now, length-map ps (place_process ms ls), o.count, waits_append a.waits);
+          omega (arith, z, length-append (slice_set (processes ms ls ps) i o.now) r, length-set (processes ms ls ps) i o.now, length-map ps (place_process ms ls), o.count, (waits_tell a.waits).appends);
       most = refl;
     }
 
@@ -226,19 +221,19 @@ pub refuse_inp : (ms : List Message) (ls : List Link) (ps : List Place) (n most 
 refuse_inp ms ls ps n most i j g h =
     no_place (outside_later (omega (arith, length-map ps (place_process ms ls), g)) (outside_here (omega (arith, length-map ps (place_process ms ls), h))))
 
-module _ (ms : List Message) (ls : List Link) (ps : List Place) (n most i j : ℕ) {p q : Place} (at : slice_get ps i ≡ Some p) (at' : slice_get ps j ≡ Some q) (w : IsPlace ms ls p) (w' : IsPlace ms ls q) where
+module _ (ms : List Message) (ls : List Link) (ps : List Place) (n most i j : ℕ) {p q : Place} (at : slice_get ps i ≡ Some p) (at' : slice_get ps j ≡ Some q) (h : ArePlaces ms ls ps) where
   pub refuse_apart : AllDiffer ms → met_by p.wait q.wait ≡ None → Refuses (configuration_of ms ls ps n) most (talk i j) (NotReady i)
   refuse_apart d e = not_ready (λ k o. two_inside (inside ms ls ps n most i at) (inside ms ls ps n most j at') o) (λ r. none r.2)
     where
       apart : {x y r : Process} {more : List Process} → x ≡ place_process ms ls p → y ≡ place_process ms ls q → Talks x y r more → ⊥
-      apart {y = y} {r = r} {more = more} f g t = no_meeting p q d w w' e r more (subst (λ b. Talks (place_process ms ls p) b r more) g (subst (λ a. Talks a y r more) f t))
+      apart {y = y} {r = r} {more = more} f g t = no_meeting p q d (h.each i p at) (h.each j q at') e r more (subst (λ b. Talks (place_process ms ls p) b r more) g (subst (λ a. Talks a y r more) f t))
 
       none : {x : Option Event} {c : Configuration} → Takes (configuration_of ms ls ps n) (talk i j) x c → ⊥
       none (takes_talk b c t) = apart (at_unique b (there ms ls ps n most i at)) (at_unique c (there ms ls ps n most j at')) t
 
   module _ (m : Meeting) (e : met_by p.wait q.wait ≡ Some m) where
     abbrev pub meet : Meets ms ls p q m
-    meet = meets_of p q m w w' e
+    meet = meets_of p q m (h.each i p at) (h.each j q at') e
 
     abbrev pub result : Process
     result = if m.again then place_process ms ls q else held_at q.source.now.names (meet.datum ∷ meet.values) (spelled q.source.now.names q.source.now.process) m.body
@@ -276,8 +271,8 @@ module _ (ms : List Message) (ls : List Link) (ps : List Place) (n most i j : �
     pub refuse_talk_many : stopped (message_size (message_at ms m.datum)) ≤ message_most → most < length ps + again_appends m.again → Refuses (configuration_of ms ls ps n) most (talk i j) (TooManyPlaces (length ps + again_appends m.again))
     refuse_talk_many s l = subst (λ z. Refuses (configuration_of ms ls ps n) most (talk i j) (TooManyPlaces z)) talk_many (too_many talk_takes (talk_small s) (omega (arith, talk_many)))
 
-    places_then : {ns : List Message} {ks : List Link} (now : Place) → ArePlaces ms ls ps → KeepsAll ms ns → KeepsAll ls ks → place_process ns ks now ≡ held_at q.source.now.names (meet.datum ∷ meet.values) (spelled q.source.now.names q.source.now.process) m.body → slice_set (slice_set (processes ms ls ps) i stop) j result ++ extra ≡ processes ns ks (settled ps i p j now m.again)
-    places_then {ns} {ks} now h k l f = by m.again
+    places_then : {ns : List Message} {ks : List Link} (now : Place) → KeepsAll ms ns → KeepsAll ls ks → place_process ns ks now ≡ held_at q.source.now.names (meet.datum ∷ meet.values) (spelled q.source.now.names q.source.now.process) m.body → slice_set (slice_set (processes ms ls ps) i stop) j result ++ extra ≡ processes ns ks (settled ps i p j now m.again)
+    places_then {ns} {ks} now k l f = by m.again
       where
         g : Place → Process
         g x = place_process ns ks x
@@ -299,9 +294,9 @@ module _ (ms : List Message) (ls : List Link) (ps : List Place) (n most i j : �
             ∙ (λ x. slice_set (sym gone x) j (sym f x))
             ∙ sym (map-set (place_process ns ks) (slice_set ps i (done p)) j now)
 
-    pub talk_taken : {ns : List Message} {ks : List Link} (now : Place) → ArePlaces ms ls ps → KeepsAll ms ns → KeepsAll ls ks → place_process ns ks now ≡ held_at q.source.now.names (meet.datum ∷ meet.values) (spelled q.source.now.names q.source.now.process) m.body → stopped (message_size (message_at ms m.datum)) ≤ message_most → length ps + again_appends m.again ≤ most → IsTaken (pool_of ms ls ps n most) (talk i j) None (pool_of ns ks (settled ps i p j now m.again) n most)
-    talk_taken {ns} {ks} now h k l f s b =
-        let z = places_then now h k l f in
+    pub talk_taken : {ns : List Message} {ks : List Link} (now : Place) → KeepsAll ms ns → KeepsAll ls ks → place_process ns ks now ≡ held_at q.source.now.names (meet.datum ∷ meet.values) (spelled q.source.now.names q.source.now.process) m.body → stopped (message_size (message_at ms m.datum)) ≤ message_most → length ps + again_appends m.again ≤ most → IsTaken (pool_of ms ls ps n most) (talk i j) None (pool_of ns ks (settled ps i p j now m.again) n most)
+    talk_taken {ns} {ks} now k l f s b =
+        let z = places_then now k l f in
         record {
           takes = subst (λ xs. Takes (configuration_of ms ls ps n) (talk i j) None (record { names = n; places = xs })) z talk_takes;
           small = talk_small s;
@@ -333,15 +328,15 @@ root_enters sp h =
 pub root_can : {ms : List Message} {ls : List Link} (sp : Spelling) → ProcessOver sp.names sp.process → CanEnter ms ls sp 0 0
 root_can sp h = record { values = []; enters = root_enters sp h }
 
-pub refuse_talk_large_by : (ms : List Message) (ls : List Link) (ps : List Place) (n most i j : ℕ) {p q : Place} (m : Meeting) (z : ℕ) → slice_get ps i ≡ Some p → slice_get ps j ≡ Some q → IsPlace ms ls p → IsPlace ms ls q → met_by p.wait q.wait ≡ Some m → z ≡ stopped (message_size (message_at ms m.datum)) → message_most < z → Refuses (configuration_of ms ls ps n) most (talk i j) (RunMessageTooLarge z)
-refuse_talk_large_by ms ls ps n most i j m z at at' w w' e f l = subst (λ x. Refuses (configuration_of ms ls ps n) most (talk i j) (RunMessageTooLarge x)) (sym f) (refuse_talk_large ms ls ps n most i j at at' w w' m e (omega (arith, f)))
+pub refuse_talk_large_by : (ms : List Message) (ls : List Link) (ps : List Place) (n most i j : ℕ) {p q : Place} (m : Meeting) (z : ℕ) → slice_get ps i ≡ Some p → slice_get ps j ≡ Some q → ArePlaces ms ls ps → met_by p.wait q.wait ≡ Some m → z ≡ stopped (message_size (message_at ms m.datum)) → message_most < z → Refuses (configuration_of ms ls ps n) most (talk i j) (RunMessageTooLarge z)
+refuse_talk_large_by ms ls ps n most i j m z at at' h e f l = subst (λ x. Refuses (configuration_of ms ls ps n) most (talk i j) (RunMessageTooLarge x)) (sym f) (refuse_talk_large ms ls ps n most i j at at' h m e (omega (arith, f)))
 
-pub refuse_talk_many_by : (ms : List Message) (ls : List Link) (ps : List Place) (n most i j : ℕ) {p q : Place} (m : Meeting) (z : ℕ) → slice_get ps i ≡ Some p → slice_get ps j ≡ Some q → IsPlace ms ls p → IsPlace ms ls q → met_by p.wait q.wait ≡ Some m → stopped (message_size (message_at ms m.datum)) ≤ message_most → z ≡ length ps + again_appends m.again → most < z → Refuses (configuration_of ms ls ps n) most (talk i j) (TooManyPlaces z)
-refuse_talk_many_by ms ls ps n most i j m z at at' w w' e s f l = subst (λ x. Refuses (configuration_of ms ls ps n) most (talk i j) (TooManyPlaces x)) (sym f) (refuse_talk_many ms ls ps n most i j at at' w w' m e s (omega (arith, f)))
+pub refuse_talk_many_by : (ms : List Message) (ls : List Link) (ps : List Place) (n most i j : ℕ) {p q : Place} (m : Meeting) (z : ℕ) → slice_get ps i ≡ Some p → slice_get ps j ≡ Some q → ArePlaces ms ls ps → met_by p.wait q.wait ≡ Some m → stopped (message_size (message_at ms m.datum)) ≤ message_most → z ≡ length ps + again_appends m.again → most < z → Refuses (configuration_of ms ls ps n) most (talk i j) (TooManyPlaces z)
+refuse_talk_many_by ms ls ps n most i j m z at at' h e s f l = subst (λ x. Refuses (configuration_of ms ls ps n) most (talk i j) (TooManyPlaces x)) (sym f) (refuse_talk_many ms ls ps n most i j at at' h m e s (omega (arith, f)))
 
 -- the datum has a number
-pub datum_below : {ms : List Message} {ls : List Link} (p q : Place) (m : Meeting) → IsPlace ms ls p → IsPlace ms ls q → met_by p.wait q.wait ≡ Some m → m.datum.place < length ms
-datum_below {ms} p q m w w' e = let t = meets_of p q m w w' e in get_below ms m.datum.place t.datum t.number
+pub datum_below : {ms : List Message} {ls : List Link} {ps : List Place} (i j : ℕ) {p q : Place} (m : Meeting) → slice_get ps i ≡ Some p → slice_get ps j ≡ Some q → ArePlaces ms ls ps → met_by p.wait q.wait ≡ Some m → m.datum.place < length ms
+datum_below {ms} i j {p} {q} m at at' h e = let t = meets_of p q m (h.each i p at) (h.each j q at') e in get_below ms m.datum.place t.datum t.number
 
 -- the two at the start
 pub two_places : {ms : List Message} {ls : List Link} {p q : Place} → IsPlace ms ls p → IsPlace ms ls q → ArePlaces ms ls (p ∷ (q ∷ []))
@@ -352,9 +347,9 @@ start_pool {ms} {ls} {ps} a b p q n k most e f g h h' s r =
     let x : processes ms ls ps ≡ a.process ∷ (b.process ∷ []) = ap (processes ms ls) e ∙ (λ i. (s.process ∙ root_held a.names a.process h) i ∷ ((r.process ∙ root_held b.names b.process h') i ∷ [])) in
     λ i. record { configuration = record { names = sym g i; places = x i }; most = most }
 
-pub talk_taken_as : {ms ns : List Message} {ls ks : List Link} {ps qs : List Place} (n most i j : ℕ) {p q : Place} (at : slice_get ps i ≡ Some p) (at' : slice_get ps j ≡ Some q) (w : IsPlace ms ls p) (w' : IsPlace ms ls q) (m : Meeting) (e : met_by p.wait q.wait ≡ Some m) (now : Place) → ArePlaces ms ls ps → KeepsAll ms ns → KeepsAll ls ks → StandsAt ns ks q.source.now m.body ((meets_of p q m w w' e).datum ∷ (meets_of p q m w w' e).values) now → stopped (message_size (message_at ms m.datum)) ≤ message_most → length ps + again_appends m.again ≤ most → qs ≡ settled ps i p j now m.again → IsTaken (pool_of ms ls ps n most) (talk i j) None (pool_of ns ks qs n most)
-talk_taken_as {ms} {ns} {ls} {ks} {ps} {qs} n most i j at at' w w' m e now h k l s small few g =
-    subst (λ xs. IsTaken (pool_of ms ls ps n most) (talk i j) None (pool_of ns ks xs n most)) (sym g) (talk_taken ms ls ps n most i j at at' w w' m e now h k l s.process small few)
+pub talk_taken_as : {ms ns : List Message} {ls ks : List Link} {ps qs : List Place} (n most i j : ℕ) {p q : Place} (at : slice_get ps i ≡ Some p) (at' : slice_get ps j ≡ Some q) (h : ArePlaces ms ls ps) (m : Meeting) (e : met_by p.wait q.wait ≡ Some m) (now : Place) → KeepsAll ms ns → KeepsAll ls ks → StandsAt ns ks q.source.now m.body ((meets_of p q m (h.each i p at) (h.each j q at') e).datum ∷ (meets_of p q m (h.each i p at) (h.each j q at') e).values) now → stopped (message_size (message_at ms m.datum)) ≤ message_most → length ps + again_appends m.again ≤ most → qs ≡ settled ps i p j now m.again → IsTaken (pool_of ms ls ps n most) (talk i j) None (pool_of ns ks qs n most)
+talk_taken_as {ms} {ns} {ls} {ks} {ps} {qs} n most i j at at' h m e now k l s small few g =
+    subst (λ xs. IsTaken (pool_of ms ls ps n most) (talk i j) None (pool_of ns ks xs n most)) (sym g) (talk_taken ms ls ps n most i j at at' h m e now k l s.process small few)
 
 pub on_err : {T E : Type 0} (r : Result T E) {P : Type 0} → P → OnErr r P
 on_err (Ok x) h = tt

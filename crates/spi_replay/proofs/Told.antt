@@ -15,14 +15,16 @@ use Rattle.spi_replay.specs.declared.waits.Wait.{Wait}
 use Rattle.spi_replay.specs.declared.waits.Wait.TheVariants as W
 use Rattle.spi_replay.specs.Holding.{place_process}
 use Rattle.spi_replay.specs.Waiting.{wait_acts}
-use Rattle.spi_replay.specs.Moves.{Move, puts, takes, takes_again, acts_alone, Waits, w_stays, w_puts, w_takes, w_takes_again, w_binds_one, w_binds_two, w_goes_on, w_shows, w_makes, w_forks}
+use Rattle.spi_replay.specs.Moves.{Move, acts_alone}
 use Rattle.spi_replay.specs.Standing.{IsPlace, ArePlaces, processes}
 use Rattle.spi_replay.specs.declared.running.State.{State}
 use Rattle.spi_replay.specs.Pools.{pooled, IsState}
 use Rattle.spi_replay.specs.Indexed.{out_channel, in_channel, is_on, places_on, waits_of}
 use Rattle.spi_replay.specs.Listing.{acts_now, puts_on, takes_on, is_channel, talks_to, talks_of, steps_at, steps_by, steps_begun, steps_before, ready_steps}
 use Rattle.spi_replay.proofs.Forms.{IsQuiet, IsStill, Moves, moves_stays, moves_puts, moves_takes, moves_takes_again, moves_one, moves_two, moves_on, moves_shows, moves_makes, moves_forks}
-use Rattle.spi_replay.proofs.Does.{acting, waits_act, still_of, outcome_of}
+use Rattle.spi_replay.proofs.Awaiting.{Channel, no_channel, a_channel, put_of, take_of, waits_tell}
+use Rattle.spi_replay.proofs.Does.{acting, still_of, outcome_of}
+use Rattle.spi_replay.proofs.Stepped.{get_map}
 use Rattle.spi_replay.proofs.Listed.{acts_true, true_acts}
 use Rattle.spi_replay.proofs.Begun.{few_begun, length_more, before_all, before_fits, get_begun}
 
@@ -39,13 +41,9 @@ acts_move true e m = let w = outcome_of 0 e m in acts_true w.leads.acts
 acts_move {p = p} false e m = still_false p (still_of e m)
 
 pub acts_told : {ms : List Message} {ls : List Link} (p : Place) → IsPlace ms ls p → acts_now (place_process ms ls p) ≡ wait_acts p.wait
-acts_told p h = let a = acting p h in acts_move (acts_alone a.move) refl a.moves ∙ sym (waits_act a.waits)
+acts_told p h = let a = acting p h in acts_move (acts_alone a.move) refl a.moves ∙ sym (waits_tell a.waits).acts
 
--- the number of a channel and the channel, or neither
-pub data Channel (ms : List Message) : Option ℕ → Option Message → Type 0 where
-  no_channel : Channel ms None None
-  a_channel : {c : ℕ} {m : Message} → slice_get ms c ≡ Some m → Channel ms (Some c) (Some m)
-
+-- the channels of a process
 quiet_puts : (p : Process) → IsQuiet p → puts_on p ≡ None
 quiet_puts (send a b) h = absurd h
 quiet_puts p h = refl
@@ -55,72 +53,28 @@ quiet_takes (recv a t p) h = absurd h
 quiet_takes (serve a t p) h = absurd h
 quiet_takes p h = refl
 
-put_of : Move → Option Message
-put_of (puts a b) = Some a
-put_of v = None
+record OnChannels (p : Process) (v : Move) : Type 0 where
+  put : put_of v ≡ puts_on p
+  take : take_of v ≡ takes_on p
 
-take_of : Move → Option Message
-take_of (takes a i) = Some a
-take_of (takes_again a i) = Some a
-take_of v = None
-
-puts_move : {k : ℕ} {ss : List Shape} {vs : List Message} {p : Process} {v : Move} → Moves k ss vs p v → put_of v ≡ puts_on p
-unfolding put_of
-puts_move {p = p} (moves_stays q s) = sym (quiet_puts p q)
-puts_move (moves_puts e c) = ap puts_on (sym e)
-puts_move (moves_takes e o) = ap puts_on (sym e)
-puts_move (moves_takes_again e o) = ap puts_on (sym e)
-puts_move {p = p} (moves_one q c l f) = sym (quiet_puts p q)
-puts_move {p = p} (moves_two q c d l f) = sym (quiet_puts p q)
-puts_move {p = p} (moves_on q l f) = sym (quiet_puts p q)
-puts_move {p = p} (moves_shows q l f) = sym (quiet_puts p q)
-puts_move {p = p} (moves_makes q l f) = sym (quiet_puts p q)
-puts_move {p = p} (moves_forks q l f g) = sym (quiet_puts p q)
-
-takes_move : {k : ℕ} {ss : List Shape} {vs : List Message} {p : Process} {v : Move} → Moves k ss vs p v → take_of v ≡ takes_on p
-unfolding take_of
-takes_move {p = p} (moves_stays q s) = sym (quiet_takes p q)
-takes_move (moves_puts e c) = ap takes_on (sym e)
-takes_move (moves_takes e o) = ap takes_on (sym e)
-takes_move (moves_takes_again e o) = ap takes_on (sym e)
-takes_move {p = p} (moves_one q c l f) = sym (quiet_takes p q)
-takes_move {p = p} (moves_two q c d l f) = sym (quiet_takes p q)
-takes_move {p = p} (moves_on q l f) = sym (quiet_takes p q)
-takes_move {p = p} (moves_shows q l f) = sym (quiet_takes p q)
-takes_move {p = p} (moves_makes q l f) = sym (quiet_takes p q)
-takes_move {p = p} (moves_forks q l f g) = sym (quiet_takes p q)
-
-puts_wait : {ms : List Message} {w : Wait} {v : Move} → Waits ms w v → Channel ms (out_channel w) (put_of v)
-unfolding put_of
-puts_wait w_stays = no_channel
-puts_wait (w_puts a b) = a_channel a
-puts_wait (w_takes a) = no_channel
-puts_wait (w_takes_again a) = no_channel
-puts_wait (w_binds_one a) = no_channel
-puts_wait (w_binds_two a b) = no_channel
-puts_wait w_goes_on = no_channel
-puts_wait (w_shows a) = no_channel
-puts_wait w_makes = no_channel
-puts_wait w_forks = no_channel
-
-takes_wait : {ms : List Message} {w : Wait} {v : Move} → Waits ms w v → Channel ms (in_channel w) (take_of v)
-unfolding take_of
-takes_wait w_stays = no_channel
-takes_wait (w_puts a b) = no_channel
-takes_wait (w_takes a) = a_channel a
-takes_wait (w_takes_again a) = a_channel a
-takes_wait (w_binds_one a) = no_channel
-takes_wait (w_binds_two a b) = no_channel
-takes_wait w_goes_on = no_channel
-takes_wait (w_shows a) = no_channel
-takes_wait w_makes = no_channel
-takes_wait w_forks = no_channel
+on_channels : {k : ℕ} {ss : List Shape} {vs : List Message} {p : Process} {v : Move} → Moves k ss vs p v → OnChannels p v
+unfolding put_of take_of
+on_channels {p = p} (moves_stays q s) = record { put = sym (quiet_puts p q); take = sym (quiet_takes p q) }
+on_channels (moves_puts e c) = record { put = ap puts_on (sym e); take = ap takes_on (sym e) }
+on_channels (moves_takes e o) = record { put = ap puts_on (sym e); take = ap takes_on (sym e) }
+on_channels (moves_takes_again e o) = record { put = ap puts_on (sym e); take = ap takes_on (sym e) }
+on_channels {p = p} (moves_one q c l f) = record { put = sym (quiet_puts p q); take = sym (quiet_takes p q) }
+on_channels {p = p} (moves_two q c d l f) = record { put = sym (quiet_puts p q); take = sym (quiet_takes p q) }
+on_channels {p = p} (moves_on q l f) = record { put = sym (quiet_puts p q); take = sym (quiet_takes p q) }
+on_channels {p = p} (moves_shows q l f) = record { put = sym (quiet_puts p q); take = sym (quiet_takes p q) }
+on_channels {p = p} (moves_makes q l f) = record { put = sym (quiet_puts p q); take = sym (quiet_takes p q) }
+on_channels {p = p} (moves_forks q l f g) = record { put = sym (quiet_puts p q); take = sym (quiet_takes p q) }
 
 pub puts_told : {ms : List Message} {ls : List Link} (p : Place) → IsPlace ms ls p → Channel ms (out_channel p.wait) (puts_on (place_process ms ls p))
-puts_told {ms} p h = let a = acting p h in subst (Channel ms (out_channel p.wait)) (puts_move a.moves) (puts_wait a.waits)
+puts_told {ms} p h = let a = acting p h in subst (Channel ms (out_channel p.wait)) (on_channels a.moves).put (waits_tell a.waits).put
 
 pub takes_told : {ms : List Message} {ls : List Link} (p : Place) → IsPlace ms ls p → Channel ms (in_channel p.wait) (takes_on (place_process ms ls p))
-takes_told {ms} p h = let a = acting p h in subst (Channel ms (in_channel p.wait)) (takes_move a.moves) (takes_wait a.waits)
+takes_told {ms} p h = let a = acting p h in subst (Channel ms (in_channel p.wait)) (on_channels a.moves).take (waits_tell a.waits).take
 
 -- where no message has two numbers, the numbers are equal where the channels are
 pub same_channel : {ms : List Message} {o : Option ℕ} {x : Option Message} (c : ℕ) (m : Message) → AllDiffer ms → slice_get ms c ≡ Some m → Channel ms o x → is_channel m x ≡ is_on c o
@@ -165,11 +119,6 @@ acts_at {ms} {ls} i ps p h e =
     by _ _ e (a_channel f) = absurd cc
 
 -- the same at a state
-pub get_map : {A B : Type 0} (f : A → B) (xs : List A) (i : ℕ) {x : A} → slice_get xs i ≡ Some x → slice_get (map f xs) i ≡ Some (f x)
-get_map f [] i e = absurd cc
-get_map f (x ∷ xs) zero e = ap (λ y. Some (f y)) (some_one e)
-get_map f (x ∷ xs) (suc i) e = get_map f xs i e
-
 begun_is : (s : State) (i : ℕ) (p : Place) → slice_get s.index.places.items i ≡ Some p → steps_begun (pooled s).configuration i ≡ steps_at (pooled s).configuration.places i (place_process s.store.messages s.links.items p)
 unfolding steps_begun
 begun_is s i p e = ap (steps_by (pooled s).configuration.places i) (get_map (place_process s.store.messages s.links.items) s.index.places.items i e)

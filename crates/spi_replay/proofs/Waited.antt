@@ -13,7 +13,7 @@ use Rattle.spi_intern.specs.Messages.{Says, says_bound, says_name, says_unit, sa
 use Rattle.spi_intern.specs.declared.messages.MsgId.{MsgId}
 use Rattle.spi_intern.specs.declared.messages.MsgPart.{MsgPart}
 use Rattle.spi_intern.proofs.MessageLaws.{same_true, same_self}
-use Rattle.spi_intern.proofs.Lists.{get_below}
+use Rattle.spi_intern.proofs.Lists.{get_below, some_one}
 use Rattle.spi_replay.specs.declared.names.Link.{Link}
 use Rattle.spi_replay.specs.declared.names.Scope.{Scope}
 use Rattle.spi_replay.specs.declared.places.Place.{Place}
@@ -25,9 +25,6 @@ use Rattle.spi_replay.specs.Moves.{Move, stays, puts, split_move, select_move, d
 use Rattle.spi_replay.specs.Standing.{InScopeOf, HasNames, IsInstance, WaitsFor, AreBelow, Enters, CanEnter, StandsAt, HasEntered}
 use Rattle.spi_replay.proofs.Subtrees.{IsNode, node_leaf, node_prefix, node_fork, node_at}
 use Rattle.spi_replay.proofs.Chains.{chain_is, chain_kept, stand_kept}
-
-some_one : {A : Type 0} {x y : A} → Some x ≡ Some y → x ≡ y
-some_one e = cc
 
 -- equal numbers are those of equal messages
 pub same_by : {ms : List Message} (i j : MsgId) {m n : Message} → AllDiffer ms → Numbers ms i m → Numbers ms j n → (i.place == j.place) ≡ same_message m n
@@ -95,11 +92,14 @@ case_waits i j (says_hash a) = w_stays
 pub given_below : {old new : List Message} {ls : List Link} {sc : Scope} {m : Message} {id : MsgId} → HasNames old ls sc → IsInstance old new ls sc m id → id.place < length new
 given_below {new = new} {id = id} h x = get_below new id.place _ (x.at h.values h.stand)
 
-pub given_kept : {old mid new : List Message} {ls : List Link} {sc : Scope} {m : Message} {id : MsgId} → HasNames old ls sc → IsInstance old mid ls sc m id → KeepsAll mid new → id.place < length new
-given_kept {new = new} {id = id} h x k = get_below new id.place _ (k.at id.place _ (x.at h.values h.stand))
+pub instance_later : {old mid new : List Message} {ls : List Link} {sc : Scope} {m : Message} {id : MsgId} → KeepsAll mid new → IsInstance old mid ls sc m id → IsInstance old new ls sc m id
+instance_later {id = id} k x = record { at = λ vs h. k.at id.place _ (x.at vs h) }
 
-pub puts_for : {old mid new : List Message} {ls : List Link} {sc : Scope} {a b : Message} {i j : MsgId} → IsInstance old mid ls sc a i → KeepsAll old mid → KeepsAll mid new → IsInstance mid new ls sc b j → WaitsFor old new ls sc (λ f. puts (replace f a) (replace f b)) (W.Puts i j)
-puts_for {i = i} x k l y = record { at = λ vs h. w_puts (l.at i.place _ (x.at vs h)) (y.at vs (stand_kept k h)) }
+pub instance_before : {old mid new : List Message} {ls : List Link} {sc : Scope} {m : Message} {id : MsgId} → KeepsAll old mid → IsInstance mid new ls sc m id → IsInstance old new ls sc m id
+instance_before k x = record { at = λ vs h. x.at vs (stand_kept k h) }
+
+pub puts_for : {old new : List Message} {ls : List Link} {sc : Scope} {a b : Message} {i j : MsgId} → IsInstance old new ls sc a i → IsInstance old new ls sc b j → WaitsFor old new ls sc (λ f. puts (replace f a) (replace f b)) (W.Puts i j)
+puts_for x y = record { at = λ vs h. w_puts (x.at vs h) (y.at vs h) }
 
 pub split_for : {old new : List Message} {ls : List Link} {sc : Scope} {m : Message} {id : MsgId} (p : MsgPart) (i : ℕ) (w : Wait) → IsInstance old new ls sc m id → ((n : Message) → Numbers new id n → Says new p n) → w ≡ split_wait p i → WaitsFor old new ls sc (λ f. split_move (replace f m) i) w
 split_for {new = new} {sc = sc} {m = m} p i w x s e = record { at = λ vs h. subst (λ v. Waits new v (split_move (replace (value sc.free vs) m) i)) (sym e) (split_waits i (s _ (x.at vs h))) }
@@ -107,14 +107,14 @@ split_for {new = new} {sc = sc} {m = m} p i w x s e = record { at = λ vs h. sub
 pub case_for : {old new : List Message} {ls : List Link} {sc : Scope} {m : Message} {id : MsgId} (p : MsgPart) (i j : ℕ) (w : Wait) → IsInstance old new ls sc m id → ((n : Message) → Numbers new id n → Says new p n) → w ≡ case_wait p i j → WaitsFor old new ls sc (λ f. case_move (replace f m) i j) w
 case_for {new = new} {sc = sc} {m = m} p i j w x s e = record { at = λ vs h. subst (λ v. Waits new v (case_move (replace (value sc.free vs) m) i j)) (sym e) (case_waits i j (s _ (x.at vs h))) }
 
-pub select_for : {old mid new : List Message} {ls : List Link} {sc : Scope} {m n : Message} {id j : MsgId} (p : MsgPart) (i : ℕ) (w : Wait) → AllDiffer new → IsInstance old mid ls sc m id → KeepsAll old mid → KeepsAll mid new → IsInstance mid new ls sc n j → ((n : Message) → Numbers new id n → Says new p n) → w ≡ select_wait p j i → WaitsFor old new ls sc (λ f. select_move (replace f m) (replace f n) i) w
-select_for {new = new} {sc = sc} {m = m} {n = n} {id = id} {j = j} p i w d x k l y s e = record { at = λ vs h. subst (λ v. Waits new v (select_move (replace (value sc.free vs) m) (replace (value sc.free vs) n) i)) (sym e) (select_waits j i d (y.at vs (stand_kept k h)) (s _ (l.at id.place _ (x.at vs h)))) }
+pub select_for : {old new : List Message} {ls : List Link} {sc : Scope} {m n : Message} {id j : MsgId} (p : MsgPart) (i : ℕ) (w : Wait) → AllDiffer new → IsInstance old new ls sc m id → IsInstance old new ls sc n j → ((n : Message) → Numbers new id n → Says new p n) → w ≡ select_wait p j i → WaitsFor old new ls sc (λ f. select_move (replace f m) (replace f n) i) w
+select_for {new = new} {sc = sc} {m = m} {n = n} {id = id} {j = j} p i w d x y s e = record { at = λ vs h. subst (λ v. Waits new v (select_move (replace (value sc.free vs) m) (replace (value sc.free vs) n) i)) (sym e) (select_waits j i d (y.at vs h) (s _ (x.at vs h))) }
 
-pub decrypt_for : {old mid new : List Message} {ls : List Link} {sc : Scope} {m n : Message} {id j : MsgId} (p : MsgPart) (i : ℕ) (w : Wait) → AllDiffer new → IsInstance old mid ls sc m id → KeepsAll old mid → KeepsAll mid new → IsInstance mid new ls sc n j → ((n : Message) → Numbers new id n → Says new p n) → w ≡ decrypt_wait p j i → WaitsFor old new ls sc (λ f. decrypt_move (replace f m) (replace f n) i) w
-decrypt_for {new = new} {sc = sc} {m = m} {n = n} {id = id} {j = j} p i w d x k l y s e = record { at = λ vs h. subst (λ v. Waits new v (decrypt_move (replace (value sc.free vs) m) (replace (value sc.free vs) n) i)) (sym e) (decrypt_waits j i d (y.at vs (stand_kept k h)) (s _ (l.at id.place _ (x.at vs h)))) }
+pub decrypt_for : {old new : List Message} {ls : List Link} {sc : Scope} {m n : Message} {id j : MsgId} (p : MsgPart) (i : ℕ) (w : Wait) → AllDiffer new → IsInstance old new ls sc m id → IsInstance old new ls sc n j → ((n : Message) → Numbers new id n → Says new p n) → w ≡ decrypt_wait p j i → WaitsFor old new ls sc (λ f. decrypt_move (replace f m) (replace f n) i) w
+decrypt_for {new = new} {sc = sc} {m = m} {n = n} {id = id} {j = j} p i w d x y s e = record { at = λ vs h. subst (λ v. Waits new v (decrypt_move (replace (value sc.free vs) m) (replace (value sc.free vs) n) i)) (sym e) (decrypt_waits j i d (y.at vs h) (s _ (x.at vs h))) }
 
-pub check_for : {old mid new : List Message} {ls : List Link} {sc : Scope} {m n : Message} {id j : MsgId} (i : ℕ) (w : Wait) → AllDiffer new → IsInstance old mid ls sc m id → KeepsAll old mid → KeepsAll mid new → IsInstance mid new ls sc n j → w ≡ check_wait id j i → WaitsFor old new ls sc (λ f. check_move (replace f m) (replace f n) i) w
-check_for {new = new} {sc = sc} {m = m} {n = n} {id = id} {j = j} i w d x k l y e = record { at = λ vs h. subst (λ v. Waits new v (check_move (replace (value sc.free vs) m) (replace (value sc.free vs) n) i)) (sym e) (if_waits (id.place == j.place) (same_message (replace (value sc.free vs) m) (replace (value sc.free vs) n)) (same_by id j d (l.at id.place _ (x.at vs h)) (y.at vs (stand_kept k h))) w_goes_on) }
+pub check_for : {old new : List Message} {ls : List Link} {sc : Scope} {m n : Message} {id j : MsgId} (i : ℕ) (w : Wait) → AllDiffer new → IsInstance old new ls sc m id → IsInstance old new ls sc n j → w ≡ check_wait id j i → WaitsFor old new ls sc (λ f. check_move (replace f m) (replace f n) i) w
+check_for {new = new} {sc = sc} {m = m} {n = n} {id = id} {j = j} i w d x y e = record { at = λ vs h. subst (λ v. Waits new v (check_move (replace (value sc.free vs) m) (replace (value sc.free vs) n) i)) (sym e) (if_waits (id.place == j.place) (same_message (replace (value sc.free vs) m) (replace (value sc.free vs) n)) (same_by id j d (x.at vs h) (y.at vs h)) w_goes_on) }
 
 -- a form that is another one
 pub waits_as : {E : Type 0} (old new : List Message) (ls : List Link) (sc : Scope) (x y : Shape) → x ≡ y → (f : (ℕ → Message) → Move) → ((g : ℕ → Message) → f g ≡ move_of g y) → (r : Result Wait E) → IfOk r (WaitsFor old new ls sc f) → IfOk r (WaitsFor old new ls sc (λ g. move_of g x))

@@ -22,16 +22,8 @@ fn out_of(wait: Wait) -> Option<MsgId>
     ensures { MatchOption result (out_channel wait ≡ None) (λ c. out_channel wait ≡ Some c.place) }
 {
     match wait {
-        Wait::Stays => None,
         Wait::Puts(channel, _) => Some(channel),
-        Wait::Takes(_, _) => None,
-        Wait::TakesAgain(_, _) => None,
-        Wait::BindsOne(_, _) => None,
-        Wait::BindsTwo(_, _, _) => None,
-        Wait::GoesOn(_) => None,
-        Wait::Shows(_, _, _) => None,
-        Wait::Makes(_) => None,
-        Wait::Forks(_, _) => None,
+        _ => None,
     }
 }
 
@@ -112,16 +104,10 @@ fn channel_of(wait: Wait) -> Option<MsgId>
         (λ c. (out_channel wait ≡ Some c.place) ⊎ (in_channel wait ≡ Some c.place)) }
 {
     match wait {
-        Wait::Stays => None,
         Wait::Puts(channel, _) => Some(channel),
         Wait::Takes(channel, _) => Some(channel),
         Wait::TakesAgain(channel, _) => Some(channel),
-        Wait::BindsOne(_, _) => None,
-        Wait::BindsTwo(_, _, _) => None,
-        Wait::GoesOn(_) => None,
-        Wait::Shows(_, _, _) => None,
-        Wait::Makes(_) => None,
-        Wait::Forks(_, _) => None,
+        _ => None,
     }
 }
 

@@ -5,10 +5,10 @@ ghost use Rattle.spi_term.specs.Names.{MessageOver};
 ghost use Rattle.spi_term.specs.Substitution.{replace};
 ghost use Rattle.spi_term.specs.View.{message, shape_of};
 ghost use Rattle.spi_intern.specs.Meaning.{Keeps};
-ghost use Rattle.spi_replay.specs.Moves.{puts, select_move, decrypt_move, check_move, move_of};
+ghost use Rattle.spi_replay.specs.Moves.{move_of};
 ghost use Rattle.spi_replay.specs.Lone.{lone_move};
-ghost use Rattle.spi_intern.specs.Table.{KeepsAll};
-ghost use Rattle.spi_replay.specs.Standing.{HasNames, WaitsFor, AreBelow, CanEnter, HasEntered, CanBind, HasBound, CanBindTwo, HasBoundTwo};
+ghost use Rattle.spi_intern.specs.Table.{KeepsAll, AllDiffer};
+ghost use Rattle.spi_replay.specs.Standing.{HasNames, IsInstance, WaitsFor, AreBelow, CanEnter, HasEntered, CanBind, HasBound, CanBindTwo, HasBoundTwo};
 
 use crate::NoMemory;
 use crate::names::{Link, Scope, bind, instance};
@@ -28,24 +28,29 @@ pub struct Place<'p> {
     pub wait: Wait,
 }
 
-fn wait_to_put(
+// The numbers of two messages, with the messages for their names.
+fn instances(
     store: &mut Store,
     links: &[Link],
     scope: Scope,
-    channel: &Msg,
-    datum: &Msg,
-) -> Result<Wait, NoMemory>
-    requires over { MessageOver (scope.free + scope.bound) 0 (message channel.now) }
-    requires datum { MessageOver (scope.free + scope.bound) 0 (message datum.now) }
+    first: &Msg,
+    second: &Msg,
+) -> Result<(MsgId, MsgId), NoMemory>
+    requires first { MessageOver (scope.free + scope.bound) 0 (message first.now) }
+    requires second { MessageOver (scope.free + scope.bound) 0 (message second.now) }
     requires names { HasNames store.old.messages links.now scope }
-    ensures at { IfOk result
-        (λ w. WaitsFor store.old.messages store.new.messages links.now scope
-        (λ f. puts (replace f (message channel.now)) (replace f (message datum.now))) w) }
+    ensures first { IfOk result
+        (λ p. IsInstance store.old.messages store.new.messages links.now scope (message first.now) p.0) }
+    ensures second { IfOk result
+        (λ p. IsInstance store.old.messages store.new.messages links.now scope (message second.now) p.1) }
+    ensures differ { IfOk result (λ _. AllDiffer store.new.messages) }
     ensures kept { Keeps store.old store.new }
 {
-    let on = instance(store, links, scope, channel)?;
-    let what = instance(store, links, scope, datum)?;
-    Ok(Wait::Puts(on, what))
+    let id = instance(store, links, scope, first)?;
+    let other = instance(store, links, scope, second)?;
+    // The count is asked for what its answer says: no message has two numbers.
+    let _ = store.distinct();
+    Ok((id, other))
 }
 
 fn wait_alone(
@@ -66,75 +71,6 @@ fn wait_alone(
     Ok(lone_wait(lone, id, store.part(id)))
 }
 
-fn wait_to_select(
-    store: &mut Store,
-    links: &[Link],
-    scope: Scope,
-    whole: &Msg,
-    equal: &Msg,
-    body: u32,
-) -> Result<Wait, NoMemory>
-    requires over { MessageOver (scope.free + scope.bound) 0 (message whole.now) }
-    requires equal { MessageOver (scope.free + scope.bound) 0 (message equal.now) }
-    requires names { HasNames store.old.messages links.now scope }
-    ensures at { IfOk result
-        (λ w. WaitsFor store.old.messages store.new.messages links.now scope
-        (λ f. select_move (replace f (message whole.now)) (replace f (message equal.now)) body) w) }
-    ensures kept { Keeps store.old store.new }
-{
-    let id = instance(store, links, scope, whole)?;
-    let other = instance(store, links, scope, equal)?;
-    // The count is asked for what its answer says: no message has two numbers.
-    let _ = store.distinct();
-    Ok(select_wait(store.part(id), other, body))
-}
-
-fn wait_to_decrypt(
-    store: &mut Store,
-    links: &[Link],
-    scope: Scope,
-    whole: &Msg,
-    key: &Msg,
-    body: u32,
-) -> Result<Wait, NoMemory>
-    requires over { MessageOver (scope.free + scope.bound) 0 (message whole.now) }
-    requires key { MessageOver (scope.free + scope.bound) 0 (message key.now) }
-    requires names { HasNames store.old.messages links.now scope }
-    ensures at { IfOk result
-        (λ w. WaitsFor store.old.messages store.new.messages links.now scope
-        (λ f. decrypt_move (replace f (message whole.now)) (replace f (message key.now)) body) w) }
-    ensures kept { Keeps store.old store.new }
-{
-    let id = instance(store, links, scope, whole)?;
-    let other = instance(store, links, scope, key)?;
-    // The count is asked for what its answer says: no message has two numbers.
-    let _ = store.distinct();
-    Ok(decrypt_wait(store.part(id), other, body))
-}
-
-fn wait_to_check(
-    store: &mut Store,
-    links: &[Link],
-    scope: Scope,
-    whole: &Msg,
-    nonce: &Msg,
-    body: u32,
-) -> Result<Wait, NoMemory>
-    requires over { MessageOver (scope.free + scope.bound) 0 (message whole.now) }
-    requires nonce { MessageOver (scope.free + scope.bound) 0 (message nonce.now) }
-    requires names { HasNames store.old.messages links.now scope }
-    ensures at { IfOk result
-        (λ w. WaitsFor store.old.messages store.new.messages links.now scope
-        (λ f. check_move (replace f (message whole.now)) (replace f (message nonce.now)) body) w) }
-    ensures kept { Keeps store.old store.new }
-{
-    let id = instance(store, links, scope, whole)?;
-    let other = instance(store, links, scope, nonce)?;
-    // The count is asked for what its answer says: no message has two numbers.
-    let _ = store.distinct();
-    Ok(check_wait(id, other, body))
-}
-
 // What a node waits for, with messages for the names in scope.
 fn wait_at(store: &mut Store, links: &[Link], scope: Scope, node: &Node) -> Result<Wait, NoMemory>
     requires below { AreBelow (scope.free + scope.bound) (shape_of node.now) }
@@ -145,7 +81,10 @@ fn wait_at(store: &mut Store, links: &[Link], scope: Scope, node: &Node) -> Resu
     ensures kept { Keeps store.old store.new }
 {
     match &node.form {
-        Form::Send { channel, datum } => wait_to_put(store, links, scope, channel, datum),
+        Form::Send { channel, datum } => {
+            let (on, what) = instances(store, links, scope, channel, datum)?;
+            Ok(Wait::Puts(on, what))
+        }
         Form::Recv { channel, body, .. } => wait_alone(
             store,
             links,
@@ -172,7 +111,10 @@ fn wait_at(store: &mut Store, links: &[Link], scope: Scope, node: &Node) -> Resu
             equal,
             body,
             ..
-        } => wait_to_select(store, links, scope, whole, equal, *body),
+        } => {
+            let (id, other) = instances(store, links, scope, whole, equal)?;
+            Ok(select_wait(store.part(id), other, *body))
+        }
         Form::Branch {
             whole,
             on_left,
@@ -190,10 +132,14 @@ fn wait_at(store: &mut Store, links: &[Link], scope: Scope, node: &Node) -> Resu
             key,
             body,
             ..
-        } => wait_to_decrypt(store, links, scope, whole, key, *body),
-        Form::Check { whole, nonce, body } => wait_to_check(
-            store, links, scope, whole, nonce, *body,
-        ),
+        } => {
+            let (id, by) = instances(store, links, scope, whole, key)?;
+            Ok(decrypt_wait(store.part(id), by, *body))
+        }
+        Form::Check { whole, nonce, body } => {
+            let (id, same) = instances(store, links, scope, whole, nonce)?;
+            Ok(check_wait(id, same, *body))
+        }
         Form::Begin { label, body } => wait_alone(
             store,
             links,

@@ -1,6 +1,6 @@
 // What a place waits for.
 
-ghost use Rattle.std.specs.Prelude.{◌≡◌};
+ghost use Rattle.std.specs.Prelude.{◌≡◌, ◌==◌, if◌then◌else◌};
 ghost use Rattle.spi_replay.specs.Lone.{lone_wait as lone_wait_of};
 ghost use Rattle.spi_replay.specs.Waiting.{split_wait as split_wait_of, select_wait as select_wait_of, decrypt_wait as decrypt_wait_of, case_wait as case_wait_of, check_wait as check_wait_of, wait_acts, wait_appends, met_if, met_by};
 
@@ -70,6 +70,17 @@ pub fn lone_wait(lone: Lone, id: MsgId, whole: MsgPart) -> Wait
     }
 }
 
+// What is waited for where the two messages are one.
+fn wait_if(one: MsgId, other: MsgId, wait: Wait) -> Wait
+    ensures { result ≡ (if one.place == other.place then wait else Wait.Stays) }
+{
+    if one.place() == other.place() {
+        wait
+    } else {
+        Wait::Stays
+    }
+}
+
 /// What a `split` of a message waits for.
 pub fn split_wait(whole: MsgPart, body: u32) -> Wait
     ensures { result ≡ split_wait_of whole body }
@@ -85,13 +96,7 @@ pub fn select_wait(whole: MsgPart, equal: MsgId, body: u32) -> Wait
     ensures { result ≡ select_wait_of whole equal body }
 {
     match whole {
-        MsgPart::Pair(first, second) => {
-            if first.place() == equal.place() {
-                Wait::BindsOne(second, body)
-            } else {
-                Wait::Stays
-            }
-        }
+        MsgPart::Pair(first, second) => wait_if(first, equal, Wait::BindsOne(second, body)),
         _ => Wait::Stays,
     }
 }
@@ -101,13 +106,7 @@ pub fn decrypt_wait(whole: MsgPart, key: MsgId, body: u32) -> Wait
     ensures { result ≡ decrypt_wait_of whole key body }
 {
     match whole {
-        MsgPart::Enc(inner, by) => {
-            if by.place() == key.place() {
-                Wait::BindsOne(inner, body)
-            } else {
-                Wait::Stays
-            }
-        }
+        MsgPart::Enc(inner, by) => wait_if(by, key, Wait::BindsOne(inner, body)),
         _ => Wait::Stays,
     }
 }
@@ -127,11 +126,7 @@ pub fn case_wait(whole: MsgPart, on_left: u32, on_right: u32) -> Wait
 pub fn check_wait(whole: MsgId, nonce: MsgId, body: u32) -> Wait
     ensures { result ≡ check_wait_of whole nonce body }
 {
-    if whole.place() == nonce.place() {
-        Wait::GoesOn(body)
-    } else {
-        Wait::Stays
-    }
+    wait_if(whole, nonce, Wait::GoesOn(body))
 }
 
 /// Whether it acts alone.

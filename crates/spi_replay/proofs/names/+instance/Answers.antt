@@ -2,10 +2,10 @@ use Rattle.std.proofs.Common.{refl, ap, arith, rules}
 use Rattle.spi_term.specs.Term as Term
 use Rattle.spi_term.specs.Term.{message_size}
 use Rattle.spi_term.specs.View.{message}
-use Rattle.spi_term.specs.declared.term.Msg.{Msg}
 use Rattle.spi_intern.specs.Messages.{says_unit, says_pair, says_left, says_right, says_enc, says_hash}
 use Rattle.spi_intern.specs.declared.messages.MsgPart.TheVariants as P
 use Rattle.spi_replay.proofs.Chains.{names_kept, given_two, instance_two, given_one, instance_one, instance_none}
+use Rattle.spi_replay.proofs.Smaller.{read_less}
 use Rattle.spi_replay.proofs.names.+instance.Goals as goal
 
 pub message_over-requires-in-Unit : goal.message_over-requires-in-Unit
@@ -15,12 +15,10 @@ pub returns-in-Unit-clause-at : goal.returns-in-Unit-clause-at
 returns-in-Unit-clause-at t c = instance_none c.args.store.now.messages c.message_over-in-Unit.new.self.messages c.args.links.now c.args.scope P.Unit Term.unit _ (ap message c.in-Unit.is) says_unit (λ g. refl) _ c.message_over-in-Unit.ensures.at
 
 pub instance-requires : goal.instance-requires
-instance-requires t c =
-    (omega (arith, ap (λ (m : Msg). message_size (message m)) c.in-Pair.is, ap (λ (m : Msg). message_size (message m)) c.deref.ensures, c.decreases), (search rules, c.requires.names))
+instance-requires t c = (read_less c.decreases c.in-Pair.is c.deref.ensures (omega arith), (search rules, c.requires.names))
 
 pub instance-requires-in-Pair : goal.instance-requires-in-Pair
-instance-requires-in-Pair t c =
-    (omega (arith, ap (λ (m : Msg). message_size (message m)) c.in-Pair.is, ap (λ (m : Msg). message_size (message m)) c.deref-in-Pair.ensures, c.decreases), (search rules, names_kept c.in_ok-first-in-Pair.ensures.kept.messages c.requires.names))
+instance-requires-in-Pair t c = (read_less c.decreases c.in-Pair.is c.deref-in-Pair.ensures (omega arith), (search rules, names_kept c.in_ok-first-in-Pair.ensures.kept.messages c.requires.names))
 
 pub message_over-requires-in-Pair : goal.message_over-requires-in-Pair
 message_over-requires-in-Pair t c =
@@ -31,12 +29,10 @@ returns-in_ok-second-in-Pair-clause-at t c =
     instance_two c.message_over-in-Pair.new.self.messages (P.Pair _ _) Term.pair (λ m n x y. says_pair x y) (λ g a b. refl) _ _ _ (cc (ap message c.in-Pair.is)) c.in_ok-first-in-Pair.ensures.at c.in_ok-first-in-Pair.ensures.kept.messages c.in_ok-second-in-Pair.ensures.kept.messages c.in_ok-second-in-Pair.ensures.at _ c.message_over-in-Pair.ensures.at
 
 pub instance-requires-in-Enc : goal.instance-requires-in-Enc
-instance-requires-in-Enc t c =
-    (omega (arith, ap (λ (m : Msg). message_size (message m)) c.in-Enc.is, ap (λ (m : Msg). message_size (message m)) c.deref-in-Enc.ensures, c.decreases), (search rules, c.requires.names))
+instance-requires-in-Enc t c = (read_less c.decreases c.in-Enc.is c.deref-in-Enc.ensures (omega arith), (search rules, c.requires.names))
 
 pub instance-requires-in-Enc-2 : goal.instance-requires-in-Enc-2
-instance-requires-in-Enc-2 t c =
-    (omega (arith, ap (λ (m : Msg). message_size (message m)) c.in-Enc.is, ap (λ (m : Msg). message_size (message m)) c.deref-in-Enc-2.ensures, c.decreases), (search rules, names_kept c.in_ok-body-in-Enc.ensures.kept.messages c.requires.names))
+instance-requires-in-Enc-2 t c = (read_less c.decreases c.in-Enc.is c.deref-in-Enc-2.ensures (omega arith), (search rules, names_kept c.in_ok-body-in-Enc.ensures.kept.messages c.requires.names))
 
 pub message_over-requires-in-Enc : goal.message_over-requires-in-Enc
 message_over-requires-in-Enc t c =
@@ -68,13 +64,10 @@ returns-in_ok-part-in-Hash-clause-at t c =
     instance_one c.message_over-in-Hash.new.self.messages (P.Hash _) Term.hash (λ m x. says_hash x) (λ g a. refl) _ _ (cc (ap message c.in-Hash.is)) c.in_ok-part-in-Hash.ensures.at _ c.message_over-in-Hash.ensures.at
 
 pub instance-requires-in-Inl : goal.instance-requires-in-Inl
-instance-requires-in-Inl t c =
-    (omega (arith, ap (λ (m : Msg). message_size (message m)) c.in-Inl.is, ap (λ (m : Msg). message_size (message m)) c.deref-in-Inl.ensures, c.decreases), (search rules, c.requires.names))
+instance-requires-in-Inl t c = (read_less c.decreases c.in-Inl.is c.deref-in-Inl.ensures (omega arith), (search rules, c.requires.names))
 
 pub instance-requires-in-Inr : goal.instance-requires-in-Inr
-instance-requires-in-Inr t c =
-    (omega (arith, ap (λ (m : Msg). message_size (message m)) c.in-Inr.is, ap (λ (m : Msg). message_size (message m)) c.deref-in-Inr.ensures, c.decreases), (search rules, c.requires.names))
+instance-requires-in-Inr t c = (read_less c.decreases c.in-Inr.is c.deref-in-Inr.ensures (omega arith), (search rules, c.requires.names))
 
 pub instance-requires-in-Hash : goal.instance-requires-in-Hash
-instance-requires-in-Hash t c =
-    (omega (arith, ap (λ (m : Msg). message_size (message m)) c.in-Hash.is, ap (λ (m : Msg). message_size (message m)) c.deref-in-Hash.ensures, c.decreases), (search rules, c.requires.names))
+instance-requires-in-Hash t c = (read_less c.decreases c.in-Hash.is c.deref-in-Hash.ensures (omega arith), (search rules, c.requires.names))
