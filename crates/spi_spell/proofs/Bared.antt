@@ -1,6 +1,6 @@
 -- What a tree stands for doesn't depend on its spans.
 use Rattle.std.proofs.Common.{◌≡◌, ℕ, ◌+◌, Bool, true, false, List, [], ◌∷◌, ◌++◌, length, map, reverse, Option, Some, None, refl, sym, ap, subst, ◌∙◌}
-use Rattle.std.specs.Prelude.{nat_lt, if◌then◌else◌}
+use Rattle.std.specs.Prelude.{◌↔◌, nat_lt, if◌then◌else◌}
 use Rattle.std.proofs.lemmas.List.{length-map}
 use Rattle.spi_text.specs.declared.lines.Span.{Span}
 use Rattle.spi_tree.specs.declared.tree.SWord.{SWord}
@@ -204,33 +204,23 @@ order_bared none = refl
 order_bared (one p) = refl
 order_bared (ps ⨾ qs) = rw (order_bared ps, order_bared qs) (sym (append_bared (in_order ps) (in_order qs)))
 
-when_none : (b : Bool) (f g : ScopeFault) → (if b then Some f else None) ≡ None → (if b then Some g else None) ≡ None
-when_none true f g h = absurd cc
-when_none false f g h = refl
+when_none : (b : Bool) (f g : ScopeFault) → ((if b then Some f else None) ≡ None) ↔ ((if b then Some g else None) ≡ None)
+when_none true f g = (λ h. absurd cc, λ h. absurd cc)
+when_none false f g = (λ h. refl, λ h. refl)
 
-else_none : (b : Bool) (f g : ScopeFault) → (if b then None else Some f) ≡ None → (if b then None else Some g) ≡ None
-else_none true f g h = refl
-else_none false f g h = absurd cc
+else_none : (b : Bool) (f g : ScopeFault) → ((if b then None else Some f) ≡ None) ↔ ((if b then None else Some g) ≡ None)
+else_none true f g = (λ h. refl, λ h. refl)
+else_none false f g = (λ h. absurd cc, λ h. absurd cc)
 
-point_bared : (c : ℕ) (p : Point) → fault_at c p ≡ None → fault_at c (bare_point p) ≡ None
-point_bared c (uses_name xs w) h = else_none _ _ _ h
-point_bared c (uses_type ts w) h = else_none _ _ _ h
-point_bared c (declares_name xs w) h = when_none _ _ _ h
-point_bared c (declares_type ts w) h = when_none _ _ _ h
-point_bared c (ends_message n s) h = when_none (nat_lt 200 n) _ _ h
-point_bared c (ends_type n s) h = when_none (nat_lt 1000 n) _ _ h
-point_bared c (adds n s) h = when_none (nat_lt 100000 (c + n)) _ _ h
-point_bared c (starts_step i n s) h = when_none (nat_lt 10000 i) _ _ h
-
-point_back : (c : ℕ) (p : Point) → fault_at c (bare_point p) ≡ None → fault_at c p ≡ None
-point_back c (uses_name xs w) h = else_none _ _ _ h
-point_back c (uses_type ts w) h = else_none _ _ _ h
-point_back c (declares_name xs w) h = when_none _ _ _ h
-point_back c (declares_type ts w) h = when_none _ _ _ h
-point_back c (ends_message n s) h = when_none (nat_lt 200 n) _ _ h
-point_back c (ends_type n s) h = when_none (nat_lt 1000 n) _ _ h
-point_back c (adds n s) h = when_none (nat_lt 100000 (c + n)) _ _ h
-point_back c (starts_step i n s) h = when_none (nat_lt 10000 i) _ _ h
+point_bared : (c : ℕ) (p : Point) → (fault_at c p ≡ None) ↔ (fault_at c (bare_point p) ≡ None)
+point_bared c (uses_name xs w) = else_none _ _ _
+point_bared c (uses_type ts w) = else_none _ _ _
+point_bared c (declares_name xs w) = when_none _ _ _
+point_bared c (declares_type ts w) = when_none _ _ _
+point_bared c (ends_message n s) = when_none (nat_lt 200 n) _ _
+point_bared c (ends_type n s) = when_none (nat_lt 1000 n) _ _
+point_bared c (adds n s) = when_none (nat_lt 100000 (c + n)) _ _
+point_bared c (starts_step i n s) = when_none (nat_lt 10000 i) _ _
 
 added_bared : (p : Point) → added (bare_point p) ≡ added p
 added_bared (uses_name xs w) = refl
@@ -244,11 +234,11 @@ added_bared (starts_step i n s) = refl
 
 clean_bared : (c : ℕ) (ps : List Point) → Clean c ps → Clean c (map bare_point ps)
 clean_bared c [] h = tt
-clean_bared c (p ∷ ps) h = (point_bared c p h.0, subst (λ (n : ℕ). Clean (c + n) (map bare_point ps)) (sym (added_bared p)) (clean_bared (c + added p) ps h.1))
+clean_bared c (p ∷ ps) h = ((point_bared c p).0 h.0, subst (λ (n : ℕ). Clean (c + n) (map bare_point ps)) (sym (added_bared p)) (clean_bared (c + added p) ps h.1))
 
 clean_back : (c : ℕ) (ps : List Point) → Clean c (map bare_point ps) → Clean c ps
 clean_back c [] h = tt
-clean_back c (p ∷ ps) h = (point_back c p h.0, clean_back (c + added p) ps (subst (λ (n : ℕ). Clean (c + n) (map bare_point ps)) (added_bared p) h.1))
+clean_back c (p ∷ ps) h = ((point_bared c p).1 h.0, clean_back (c + added p) ps (subst (λ (n : ℕ). Clean (c + n) (map bare_point ps)) (added_bared p) h.1))
 
 -- ---- the points of a tree
 

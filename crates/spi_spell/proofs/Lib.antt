@@ -9,6 +9,7 @@ pub mod Scheduled
 pub mod Joining
 pub mod Printed
 pub mod Printable
+pub mod Counts
 pub mod Prints
 pub mod PrintsTerms
 pub mod PrintsTypes

@@ -12,29 +12,8 @@ use Rattle.spi_scope.specs.Meaning.{named, nested, message_in, messages_in, atom
 use Rattle.spi_show.specs.Processes.{Standing, alone, sequel, is_output}
 use Rattle.spi_spell.proofs.Printed.{spelled_name, message_tree, second_tree, rest_trees, atom_tree, atom_trees, type_tree, field_trees, last_tree, leaf_tree, prefix_tree, then_tree, process_tree}
 use Rattle.spi_spell.proofs.Printable.{prefix_nodes, process_nodes}
+use Rattle.spi_spell.proofs.Counts.{binds_few}
 use Rattle.spi_spell.proofs.Scopes.{in_scope, scope_length, AreApart, found}
-
-some_nodes : (a : Ty) → 1 ≤ ty_nodes a
-some_nodes un = omega arith
-some_nodes unit_ty = omega arith
-some_nodes (pair_ty a b) = omega arith
-some_nodes (sum_ty a b) = omega arith
-some_nodes (key a) = omega arith
-some_nodes (nonce es) = omega arith
-
--- a form has more nodes than it binds names
-pub binds_few : (s : Prefix) → binds s ≤ prefix_nodes s
-binds_few (Recvs m a) = omega arith
-binds_few (Serves m a) = omega arith
-binds_few (Splits m a b) = omega (arith, some_nodes a)
-binds_few (Selects m a c b) = omega arith
-binds_few (Decrypts m a c) = omega arith
-binds_few (Checks m c) = omega arith
-binds_few (Begins m) = omega arith
-binds_few (Ends m) = omega arith
-binds_few (EndManys m) = omega arith
-binds_few (Casts m a) = omega arith
-binds_few (Makes a) = omega arith
 
 module _ (most : ℕ) (spell : ℕ → List ℕ) (apart : AreApart most spell) (k : ℕ) where
   -- ---- messages and effects, where n names are in scope, d of them bound

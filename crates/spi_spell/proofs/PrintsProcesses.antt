@@ -7,7 +7,7 @@ use Rattle.spi_lex.specs.Words.{words_of}
 use Rattle.spi_lex.specs.Writing.{is_apart, IsKind}
 use Rattle.spi_tree.specs.Trees as t
 use Rattle.spi_tree.specs.Pieces.{Piece, Place, below, beside, a_reserved, kinds_in, msg_pieces, named_pieces, binder_pieces, proc_pieces, ends}
-use Rattle.spi_term.specs.Term.{Message, bound, name, unit, pair, in_left, in_right, enc, hash, Ty, Leaf, Sends, Stops, Prefix, Recvs, Serves, Splits, Selects, Decrypts, Checks, Begins, Ends, EndManys, Casts, Makes, Cases, Pars, Process, leaf, prefix, fork, binds, message_size}
+use Rattle.spi_term.specs.Term.{Message, Ty, Leaf, Sends, Stops, Prefix, Recvs, Serves, Splits, Selects, Decrypts, Checks, Begins, Ends, EndManys, Casts, Makes, Cases, Pars, Process, leaf, prefix, fork, binds}
 use Rattle.spi_term.specs.Names.{MessageOver, OfTy, OfLeaf, OfPrefix, OfProcess}
 use Rattle.spi_term.specs.Spelling.{ty_nodes}
 use Rattle.spi_parse.specs.Bare.{nowhere}
@@ -16,35 +16,12 @@ use Rattle.spi_show.specs.Processes.{leaf_text, prefix_text, left_text, right_te
 use Rattle.spi_spell.proofs.Printed.{spelled_name, message_tree, type_tree, leaf_tree, prefix_tree, then_tree, process_tree}
 use Rattle.spi_spell.proofs.Printed as printed
 use Rattle.spi_spell.proofs.Printable.{MessageFits, TyFits, LeafFits, PrefixFits, ProcessFits, prefix_nodes, process_nodes}
+use Rattle.spi_spell.proofs.Counts.{some_size, binds_few}
 use Rattle.spi_spell.proofs.Prints as prints
 use Rattle.spi_spell.proofs.Prints.{Prints}
 use Rattle.spi_spell.proofs.PrintsTerms.{InScope}
 use Rattle.spi_spell.proofs.PrintsTypes as types
 use Rattle.spi_spell.proofs.PrintsTypes.{inner}
-
-some_size : (m : Message) → 1 ≤ message_size m
-some_size (bound i) = omega arith
-some_size (name x) = omega arith
-some_size unit = omega arith
-some_size (pair a b) = omega arith
-some_size (in_left a) = omega arith
-some_size (in_right a) = omega arith
-some_size (enc a b) = omega arith
-some_size (hash a) = omega arith
-
--- a form counts at least the names that it binds
-pub few_binds : (s : Prefix) → binds s ≤ prefix_nodes s
-few_binds (Recvs m a) = omega arith
-few_binds (Serves m a) = omega arith
-few_binds (Splits m a b) = omega (arith, some_size m)
-few_binds (Selects m a k b) = omega arith
-few_binds (Decrypts m a k) = omega arith
-few_binds (Checks m k) = omega arith
-few_binds (Begins m) = omega arith
-few_binds (Ends m) = omega arith
-few_binds (EndManys m) = omega arith
-few_binds (Casts m a) = omega arith
-few_binds (Makes a) = omega arith
 
 behind : {top k d n : ℕ} (b : ℕ) → InScope top k d n → n + b ≤ top → InScope top k (d + b) (n + b)
 behind b s few = (let low = s.bound in record { free = s.free; bound = omega arith; all = few })
@@ -165,7 +142,7 @@ module _ (later : Bool) (top : ℕ) (spell : ℕ → List ℕ) (fit : (i : ℕ) 
       → Prints later (kinds_in (proc_pieces at (process_tree spell st n p) r)) (process_text spell st n p ++ more)
   process k d n st (leaf l) scope few o v at r more apart h = one_leaf k d n at l scope o v r more apart h
   process k d n st (prefix s p) scope few o v at r more apart h =
-      let b = few_binds s in
+      let b = binds_few s in
       prints.part (prefix_text spell n s) _ more (one_prefix k d n at s _ scope (omega arith) o.0 v.0 r _
       (process k (d + binds s) (n + binds s) sequel p (behind (binds s) scope (omega arith)) (omega arith) o.1 v.1 (below at) _ more apart h))
   process k d n st (fork (Cases m a b) p q) scope few o v at r more apart h =

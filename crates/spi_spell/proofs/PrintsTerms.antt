@@ -1,6 +1,5 @@
 -- The texts of messages, effects and types write the tokens of their trees.
-use Rattle.std.specs.Prelude.{⊤}
-use Rattle.std.proofs.Common.{◌≡◌, ℕ, suc, ◌+◌, ◌-◌, ◌<◌, ◌≤◌, Bool, true, IsTrue, List, [], ◌∷◌, ◌++◌, codes, refl, arith}
+use Rattle.std.proofs.Common.{ℕ, suc, ◌+◌, ◌-◌, ◌<◌, ◌≤◌, Bool, IsTrue, List, [], ◌∷◌, ◌++◌, codes, refl, arith}
 use Rattle.spi_lex.specs.declared.token.Reserved.TheVariants as word
 use Rattle.spi_lex.specs.declared.token.Mark.TheVariants.{ParenOpen, ParenClose, BraceOpen, BraceClose, BracketOpen, BracketClose, Comma}
 use Rattle.spi_lex.specs.Writing.{is_apart}
@@ -10,18 +9,15 @@ use Rattle.spi_term.specs.Term.{Message, bound, name, unit, pair, in_left, in_ri
 use Rattle.spi_term.specs.Names.{MessageOver, OfAtom, OfEffect}
 use Rattle.spi_show.specs.Terms.{message_text, tuple_text, atom_text, more_text, effect_text}
 use Rattle.spi_spell.proofs.Printed.{message_tree, second_tree, rest_trees, atom_tree, atom_trees}
-use Rattle.spi_spell.proofs.Printable.{HasVersion, EffectFits}
+use Rattle.spi_spell.proofs.Printable.{HasVersion, IsAtomOf, IsEffectOf, EffectFits}
 use Rattle.spi_spell.proofs.Prints.{Prints, part, space, mark, keyword, late_keyword}
 
 -- no hash and no `many` in version 1
 abbrev pub IsAtomIn : Bool → Atom → Type 0
-IsAtomIn later (ends m) = HasVersion later m
-IsAtomIn later (checks m) = HasVersion later m
-IsAtomIn later (many m) = (later ≡ true) × HasVersion later m
+IsAtomIn later a = IsAtomOf later (HasVersion later) a
 
 abbrev pub IsEffectIn : Bool → Effect → Type 0
-IsEffectIn later [] = ⊤
-IsEffectIn later (a ∷ es) = IsAtomIn later a × IsEffectIn later es
+IsEffectIn later es = IsEffectOf later (HasVersion later) es
 
 pub effect_in : (later : Bool) (es : Effect) → EffectFits later es → IsEffectIn later es
 effect_in later [] h = tt
