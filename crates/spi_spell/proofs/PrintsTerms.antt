@@ -25,6 +25,9 @@ effect_in later (ends m ∷ es) h = (h.0.1, effect_in later es h.1)
 effect_in later (checks m ∷ es) h = (h.0.1, effect_in later es h.1)
 effect_in later (many m ∷ es) h = ((h.0.0, h.0.1.1), effect_in later es h.1)
 
+pub twice : {A : Type 0} → A → A × A
+twice x = (x, x)
+
 -- k free names and d bound ones, where n names are in scope and numbers are below top
 pub record InScope (top k d n : ℕ) : Type 0 where
   pub free : k ≤ top
@@ -35,35 +38,28 @@ pub record InScope (top k d n : ℕ) : Type 0 where
 -- follows, which begins with no letter or digit.
 module _ (later : Bool) (top : ℕ) (of : ℕ → t.Msg) (spell : ℕ → List ℕ)
     (names : (i : ℕ) → i < top → (c : ℕ) (r : List Piece) (more : List ℕ) → IsTrue (is_apart more) → Prints later (kinds_in r) more → Prints later (kinds_in (msg_pieces c (of i) r)) (spell i ++ more)) where
-  mutual
-    pub message : (k d n c : ℕ) (m : Message) → InScope top k d n → MessageOver k d m → HasVersion later m → (r : List Piece) (more : List ℕ)
-        → IsTrue (is_apart more) → Prints later (kinds_in r) more → Prints later (kinds_in (msg_pieces c (message_tree of n m) r)) (message_text spell n m ++ more)
-    message k d n c (bound i) scope o v r more apart p = (let b = scope.bound in let a = scope.all in names (n - suc i) (omega arith) c r more apart p)
-    message k d n c (name x) scope o v r more apart p = (let f = scope.free in names x (omega arith) c r more apart p)
-    message k d n c unit scope o v r more apart p = mark ParenOpen (mark ParenClose p)
-    message k d n c (pair a b) scope o v r more apart p =
-        mark ParenOpen (part (message_text spell n a) _ more (message k d n (c + 1) a scope o.0 v.0 _ _ refl
-        (mark Comma (space (part (tuple_text spell n b) _ more (tuple k d n (c + 1) b scope o.1 v.1 _ _ refl (mark ParenClose p)))))))
-    message k d n c (in_left a) scope o v r more apart p = keyword word.Inl refl refl (space (message k d n (c + 1) a scope o v _ more apart p))
-    message k d n c (in_right a) scope o v r more apart p = keyword word.Inr refl refl (space (message k d n (c + 1) a scope o v _ more apart p))
-    message k d n c (enc a b) scope o v r more apart p =
-        mark BraceOpen (part (message_text spell n a) _ more (message k d n (c + 1) a scope o.0 v.0 _ _ refl (mark BraceClose (message k d n (c + 1) b scope o.1 v.1 _ more apart p))))
-    message k d n c (hash a) scope o v r more apart p =
-        late_keyword word.Hash refl v.0 refl (mark ParenOpen (part (message_text spell n a) _ more (message k d n (c + 1) a scope o v.1 _ _ refl (mark ParenClose p))))
+  -- the message, and its text behind the first component of a tuple
+  both : (k d n c : ℕ) (m : Message) → InScope top k d n → MessageOver k d m → HasVersion later m → (r : List Piece) (more : List ℕ) → IsTrue (is_apart more) → Prints later (kinds_in r) more
+      → Prints later (kinds_in (msg_pieces c (message_tree of n m) r)) (message_text spell n m ++ more)
+      × Prints later (kinds_in (msg_pieces c (second_tree of n m) (msgs_pieces c (rest_trees of n m) r))) (tuple_text spell n m ++ more)
+  both k d n c (bound i) scope o v r more apart p = twice (let b = scope.bound in let a = scope.all in names (n - suc i) (omega arith) c r more apart p)
+  both k d n c (name x) scope o v r more apart p = twice (let f = scope.free in names x (omega arith) c r more apart p)
+  both k d n c unit scope o v r more apart p = twice (mark ParenOpen (mark ParenClose p))
+  both k d n c (pair a b) scope o v r more apart p = (
+    mark ParenOpen (part (message_text spell n a) _ more ((both k d n (c + 1) a scope o.0 v.0 _ _ refl
+        (mark Comma (space (part (tuple_text spell n b) _ more ((both k d n (c + 1) b scope o.1 v.1 _ _ refl (mark ParenClose p)).1))))).0)),
+    part (message_text spell n a) _ more ((both k d n c a scope o.0 v.0 _ _ refl (mark Comma (space ((both k d n c b scope o.1 v.1 r more apart p).1)))).0),
+  )
+  both k d n c (in_left a) scope o v r more apart p = twice (keyword word.Inl refl refl (space ((both k d n (c + 1) a scope o v _ more apart p).0)))
+  both k d n c (in_right a) scope o v r more apart p = twice (keyword word.Inr refl refl (space ((both k d n (c + 1) a scope o v _ more apart p).0)))
+  both k d n c (enc a b) scope o v r more apart p =
+      twice (mark BraceOpen (part (message_text spell n a) _ more ((both k d n (c + 1) a scope o.0 v.0 _ _ refl (mark BraceClose ((both k d n (c + 1) b scope o.1 v.1 _ more apart p).0))).0)))
+  both k d n c (hash a) scope o v r more apart p =
+      twice (late_keyword word.Hash refl v.0 refl (mark ParenOpen (part (message_text spell n a) _ more ((both k d n (c + 1) a scope o v.1 _ _ refl (mark ParenClose p)).0))))
 
-    pub tuple : (k d n c : ℕ) (m : Message) → InScope top k d n → MessageOver k d m → HasVersion later m → (r : List Piece) (more : List ℕ)
-        → IsTrue (is_apart more) → Prints later (kinds_in r) more → Prints later (kinds_in (msg_pieces c (second_tree of n m) (msgs_pieces c (rest_trees of n m) r))) (tuple_text spell n m ++ more)
-    tuple k d n c (bound i) scope o v r more apart p = (let b = scope.bound in let a = scope.all in names (n - suc i) (omega arith) c r more apart p)
-    tuple k d n c (name x) scope o v r more apart p = (let f = scope.free in names x (omega arith) c r more apart p)
-    tuple k d n c unit scope o v r more apart p = mark ParenOpen (mark ParenClose p)
-    tuple k d n c (pair a b) scope o v r more apart p =
-        part (message_text spell n a) _ more (message k d n c a scope o.0 v.0 _ _ refl (mark Comma (space (tuple k d n c b scope o.1 v.1 r more apart p))))
-    tuple k d n c (in_left a) scope o v r more apart p = keyword word.Inl refl refl (space (message k d n (c + 1) a scope o v _ more apart p))
-    tuple k d n c (in_right a) scope o v r more apart p = keyword word.Inr refl refl (space (message k d n (c + 1) a scope o v _ more apart p))
-    tuple k d n c (enc a b) scope o v r more apart p =
-        mark BraceOpen (part (message_text spell n a) _ more (message k d n (c + 1) a scope o.0 v.0 _ _ refl (mark BraceClose (message k d n (c + 1) b scope o.1 v.1 _ more apart p))))
-    tuple k d n c (hash a) scope o v r more apart p =
-        late_keyword word.Hash refl v.0 refl (mark ParenOpen (part (message_text spell n a) _ more (message k d n (c + 1) a scope o v.1 _ _ refl (mark ParenClose p))))
+  pub message : (k d n c : ℕ) (m : Message) → InScope top k d n → MessageOver k d m → HasVersion later m → (r : List Piece) (more : List ℕ)
+      → IsTrue (is_apart more) → Prints later (kinds_in r) more → Prints later (kinds_in (msg_pieces c (message_tree of n m) r)) (message_text spell n m ++ more)
+  message k d n c m scope o v r more apart p = (both k d n c m scope o v r more apart p).0
 
   pub atom : (k d n c : ℕ) (a : Atom) → InScope top k d n → OfAtom (MessageOver k d) a → IsAtomIn later a → (r : List Piece) (more : List ℕ)
       → IsTrue (is_apart more) → Prints later (kinds_in r) more → Prints later (kinds_in (atom_pieces c (atom_tree of n a) r)) (atom_text spell n a ++ more)
