@@ -14,6 +14,11 @@ use Rattle.spi_scope.specs.Points.{Point, uses_name, uses_type, declares_name, d
 use Rattle.spi_scope.specs.First.{Clean}
 use Rattle.spi_scope.specs.StandsFor.{Meant, StandsFor, over_free, opponent_over, schedule_in, derivation_in}
 
+-- what stands for each part stands for all
+each_bared : {A B : Type 0} (f : A → B) (bare : A → A) → ((x : A) → f (bare x) ≡ f x) → (xs : List A) → map f (map bare xs) ≡ map f xs
+each_bared f bare same [] = refl
+each_bared f bare same (x ∷ xs) = λ i. same x i ∷ each_bared f bare same xs i
+
 -- ---- messages, types and processes
 
 module _ (k : ℕ) (xs : Names) where
@@ -38,8 +43,7 @@ module _ (k : ℕ) (xs : Names) where
   atom_bared (t.many s m) = rw (message_bared m) refl
 
   effect_bared : (es : List t.Atom) → effect_in k xs (map bare_atom es) ≡ effect_in k xs es
-  effect_bared [] = refl
-  effect_bared (e ∷ es) = rw (atom_bared e, effect_bared es) refl
+  effect_bared = each_bared (atom_in k xs) bare_atom atom_bared
 
 behind_bared : (xs : Names) (fs : t.Fields) → behind xs (bare_fields fs) ≡ behind xs fs
 behind_bared xs t.no_fields = refl
@@ -131,8 +135,7 @@ step_bared (t.act s i) = refl
 step_bared (t.talk s i j) = refl
 
 steps_bared : (xs : List t.Step) → map step_in (map bare_step xs) ≡ map step_in xs
-steps_bared [] = refl
-steps_bared (x ∷ xs) = rw (step_bared x, steps_bared xs) refl
+steps_bared = each_bared step_in bare_step step_bared
 
 schedule_bared : (o : Option (List t.Step)) → schedule_in (bare_schedule o) ≡ schedule_in o
 schedule_bared None = refl
@@ -159,8 +162,7 @@ numbered_atom_bared (t.checks s m) = rw (numbered_bared m) refl
 numbered_atom_bared (t.many s m) = rw (numbered_bared m) refl
 
 numbered_atoms_bared : (es : List t.Atom) → map numbered_atom (map bare_atom es) ≡ map numbered_atom es
-numbered_atoms_bared [] = refl
-numbered_atoms_bared (e ∷ es) = rw (numbered_atom_bared e, numbered_atoms_bared es) refl
+numbered_atoms_bared = each_bared numbered_atom bare_atom numbered_atom_bared
 
 written_bared : (o : Option (List t.Atom)) → numbered_effect (bare_written o) ≡ numbered_effect o
 written_bared None = refl

@@ -23,7 +23,7 @@ use Rattle.spi_rules.specs.Derivations.{RuleUse, uses}
 use Rattle.spi_rules.specs.Rule.{arity, spelled, named}
 use Rattle.spi_rules.proofs.Named.{rules, each_named}
 use Rattle.spi_scope.specs.Parts.{uses_in, all_uses_in}
-use Rattle.spi_scope.specs.Points.{Point, in_order, deriv_points, derivs_points}
+use Rattle.spi_scope.specs.Points.{Point, Points, in_order, deriv_points, derivs_points}
 use Rattle.spi_scope.proofs.Rules.{rule_found}
 
 -- the tokens of rule uses that write no effect
@@ -39,28 +39,27 @@ plain_join : (us vs : List RuleUse) → ArePlain us → ArePlain vs → ArePlain
 plain_join [] vs h k = k
 plain_join (u ∷ us) vs h k = (h.0, plain_join us vs h.1 k)
 
--- the tree of these uses at a nesting, from the tokens on which those of the uses stand first, the token before which ends at e
-pub record Read (later : Bool) (n : ℕ) (us : List RuleUse) (e : ℕ) (ts : List Token) (ks : List Kind) : Type 0 where
-  pub deriv : t.Deriv
-  pub ruled : IsRuled later deriv
-  pub are : uses_in deriv ≡ us
-  pub no_points : in_order (deriv_points deriv) ≡ []
+-- what stands for these uses, from the tokens on which those of the uses stand first, the token before which ends at e
+pub record Reading {T : Type 0} (IsOne : T → Type 0) (uses_of : T → List RuleUse) (points_of : T → Points) (pieces : T → List Piece → List Piece) (us : List RuleUse) (e : ℕ) (ts : List Token) (ks : List Kind) : Type 0 where
+  pub read : T
+  pub ruled : IsOne read
+  pub are : uses_of read ≡ us
+  pub no_points : in_order (points_of read) ≡ []
   pub end : ℕ
   pub rest : List Token
   pub left : kinds_of rest ≡ ks
-  pub spells : (after : List Token) (r : List Piece) → Spells after end r rest → Spells after e (deriv_pieces n deriv r) ts
+  pub spells : (after : List Token) (r : List Piece) → Spells after end r rest → Spells after e (pieces read r) ts
+
+-- a tree at a nesting
+abbrev pub Read : Bool → ℕ → List RuleUse → ℕ → List Token → List Kind → Type 0
+Read later n us e ts ks = Reading (IsRuled later) uses_in deriv_points (deriv_pieces n) us e ts ks
 
 -- k trees one behind another
-pub record ReadAll (later : Bool) (n k : ℕ) (us : List RuleUse) (e : ℕ) (ts : List Token) (ks : List Kind) : Type 0 where
-  pub derivs : t.Derivs
-  pub number : number_of derivs ≡ k
-  pub ruled : AreRuled later derivs
-  pub are : all_uses_in derivs ≡ us
-  pub no_points : in_order (derivs_points derivs) ≡ []
-  pub end : ℕ
-  pub rest : List Token
-  pub left : kinds_of rest ≡ ks
-  pub spells : (after : List Token) (r : List Piece) → Spells after end r rest → Spells after e (derivs_pieces n derivs r) ts
+abbrev pub AreRead : Bool → ℕ → t.Derivs → Type 0
+AreRead later k ds = (number_of ds ≡ k) × AreRuled later ds
+
+abbrev pub ReadAll : Bool → ℕ → ℕ → List RuleUse → ℕ → List Token → List Kind → Type 0
+ReadAll later n k us e ts ks = Reading (AreRead later k) all_uses_in derivs_points (derivs_pieces n) us e ts ks
 
 -- the uses are one tree, and k trees, wherever their tokens stand
 pub record Derives (later : Bool) (n : ℕ) (us : List RuleUse) : Type 0 where
@@ -75,9 +74,8 @@ pub no_premise : (later : Bool) (n : ℕ) → DeriveAll later n 0 []
 no_premise later n = record {
   plain = tt;
   read = λ e ts ks is. record {
-    derivs = t.no_derivs;
-    number = refl;
-    ruled = tt;
+    read = t.no_derivs;
+    ruled = (refl, tt);
     are = refl;
     no_points = refl;
     end = e;
@@ -93,11 +91,10 @@ last_premise {us = us} d = record {
   read = λ e ts ks is.
       let x = d.read e ts ks is in
       record {
-        derivs = t.more_derivs x.deriv t.no_derivs;
-        number = refl;
-        ruled = (x.ruled, tt);
-        are = append-nil (uses_in x.deriv) ∙ x.are;
-        no_points = append-nil (in_order (deriv_points x.deriv)) ∙ x.no_points;
+        read = t.more_derivs x.read t.no_derivs;
+        ruled = (refl, (x.ruled, tt));
+        are = append-nil (uses_in x.read) ∙ x.are;
+        no_points = append-nil (in_order (deriv_points x.read)) ∙ x.no_points;
         end = x.end;
         rest = x.rest;
         left = x.left;
@@ -113,15 +110,14 @@ premise {n = n} {us = us} {vs = vs} d ds = record {
       let x = d.read e ts (rule_words vs ++ ks) (is ∙ split) in
       let y = ds.read x.end x.rest ks x.left in
       record {
-        derivs = t.more_derivs x.deriv y.derivs;
-        number = ap suc y.number;
-        ruled = (x.ruled, y.ruled);
-        are = ap (λ (l : List RuleUse). l ++ all_uses_in y.derivs) x.are ∙ ap (λ (l : List RuleUse). us ++ l) y.are;
-        no_points = ap (λ (l : List Point). l ++ in_order (derivs_points y.derivs)) x.no_points ∙ y.no_points;
+        read = t.more_derivs x.read y.read;
+        ruled = (ap suc y.ruled.0, (x.ruled, y.ruled.1));
+        are = ap (λ (l : List RuleUse). l ++ all_uses_in y.read) x.are ∙ ap (λ (l : List RuleUse). us ++ l) y.are;
+        no_points = ap (λ (l : List Point). l ++ in_order (derivs_points y.read)) x.no_points ∙ y.no_points;
         end = y.end;
         rest = y.rest;
         left = y.left;
-        spells = λ after r h. x.spells after (derivs_pieces n y.derivs r) (y.spells after r h);
+        spells = λ after r h. x.spells after (derivs_pieces n y.read r) (y.spells after r h);
       };
 }
 
@@ -155,9 +151,9 @@ rule {later = later} {n = n} {us = us} r plain early low ds = record {
         let not_deep : nat_lt derivation_limit n ≡ false = le-ltb derivation_limit n low in
         let w : SWord = record { word = spelled r; span = token.span } in
         record {
-          deriv = t.rule (record { from = token.span.from; to = y.end }) w None y.derivs;
-          ruled = (has_arity later r early ∙ ap Some (sym y.number), writes_none r plain, tt, y.ruled);
-          are = ap (λ (x : Rule). record { rule = x; taken = None } ∷ all_uses_in y.derivs) (sym (rule_found r (spelled r) refl)) ∙ ap (λ (l : List RuleUse). record { rule = r; taken = None } ∷ l) y.are;
+          read = t.rule (record { from = token.span.from; to = y.end }) w None y.read;
+          ruled = (has_arity later r early ∙ ap Some (sym y.ruled.0), writes_none r plain, tt, y.ruled.1);
+          are = ap (λ (x : Rule). record { rule = x; taken = None } ∷ all_uses_in y.read) (sym (rule_found r (spelled r) refl)) ∙ ap (λ (l : List RuleUse). record { rule = r; taken = None } ∷ l) y.are;
           no_points = y.no_points;
           end = y.end;
           rest = y.rest;

@@ -2,9 +2,10 @@
 use Rattle.std.proofs.Common.{◌≡◌, ℕ, suc, ◌+◌, ◌-◌, Bool, true, false, List, [], ◌∷◌, map, length, Option, Some, None, refl, sym, ap, ◌∙◌}
 use Rattle.std.specs.Prelude.{⊤}
 use Rattle.spi_tree.specs.Trees as t
-use Rattle.spi_tree.specs.Pieces.{Place, in_seq, at_level, tokens_of}
+use Rattle.spi_tree.specs.Pieces.{Place, in_seq, at_level, nesting_of, tokens_of}
 use Rattle.spi_tree.specs.Formed.{AreWordsFit, IsMsg, AreMsgs, IsAtom, AreAtoms, IsTy, AreFields, IsLast, IsProc, AreDeclared, IsWritten, IsDeriv, AreDerivs, IsOpponent, IsDerivation}
 use Rattle.spi_parse.specs.Formed.{number_of, is_written, HasRules, HaveRules, IsDerived, IsFile}
+use Rattle.spi_parse.proofs.TableLaws.{seq_is_proc}
 use Rattle.spi_term.specs.Term.{Message, bound, name, unit, pair, in_left, in_right, enc, hash, Atom, ends, checks, many, Effect, Ty, un, unit_ty, pair_ty, sum_ty, key, nonce, Leaf, Sends, Stops, Prefix, Recvs, Serves, Splits, Selects, Decrypts, Checks, Begins, Ends, EndManys, Casts, Makes, Cases, Pars, Process, leaf, prefix, fork, binds}
 use Rattle.spi_term.specs.Spelling.{Spelling}
 use Rattle.spi_scope.specs.Meaning.{nested}
@@ -99,43 +100,35 @@ module _ (later : Bool) (spell : ℕ → List ℕ) where
   bounded_formed : (n : ℕ) (a : Ty) → TyFits later a → IsTy later (type_tree spell n a)
   bounded_formed n a h = type_formed n a h.1
 
-  leaf_formed : (at : Standing) (k n : ℕ) (l : Leaf) → LeafFits later l → IsProc later (place_of at k) (leaf_tree spell n l)
-  leaf_formed alone k n (Sends a b) h = (spelled_formed n a h.0, spelled_formed n b h.1)
-  leaf_formed sequel k n (Sends a b) h = (spelled_formed n a h.0, spelled_formed n b h.1)
-  leaf_formed alone k n Stops h = tt
-  leaf_formed sequel k n Stops h = tt
+  -- what may stand in a sequence may stand at a level
+  placed : (at : Standing) (k : ℕ) (q : t.Proc) → IsProc later (in_seq (nesting_of (place_of at k))) q → IsProc later (place_of at k) q
+  placed sequel k q h = h
+  placed alone k q h = seq_is_proc later k q h
 
-  -- each form, whatever its place
-  prefix_formed : (at : Standing) (k n : ℕ) (s : Prefix) (p : t.Proc) → PrefixFits later s → ((i : ℕ) → IsProc later (in_seq i) p) → IsProc later (place_of at k) (prefix_tree spell n s p)
-  prefix_formed alone k n (Recvs m a) p h go = (spelled_formed n m h.0, bounded_formed n a h.1, go _)
-  prefix_formed alone k n (Serves m a) p h go = (spelled_formed n m h.0, bounded_formed n a h.1, go _)
-  prefix_formed alone k n (Splits m a b) p h go = (spelled_formed n m h.0, bounded_formed n a h.1, bounded_formed (suc n) b h.2, go _)
-  prefix_formed alone k n (Selects m a j b) p h go = (spelled_formed n m h.0, bounded_formed n a h.1, spelled_formed n j h.2, bounded_formed (suc n) b h.3, go _)
-  prefix_formed alone k n (Decrypts m a j) p h go = (spelled_formed n m h.0, bounded_formed n a h.1, spelled_formed n j h.2, go _)
-  prefix_formed alone k n (Checks m j) p h go = (spelled_formed n m h.0, spelled_formed n j h.1, go _)
-  prefix_formed alone k n (Begins m) p h go = (spelled_formed n m h, go _)
-  prefix_formed alone k n (Ends m) p h go = (spelled_formed n m h, go _)
-  prefix_formed alone k n (EndManys m) p h go = (h.0, spelled_formed n m h.1, go _)
-  prefix_formed alone k n (Casts m a) p h go = (spelled_formed n m h.0, bounded_formed n a h.1, go _)
-  prefix_formed alone k n (Makes a) p h go = (bounded_formed n a h, go _)
-  prefix_formed sequel k n (Recvs m a) p h go = (spelled_formed n m h.0, bounded_formed n a h.1, go _)
-  prefix_formed sequel k n (Serves m a) p h go = (spelled_formed n m h.0, bounded_formed n a h.1, go _)
-  prefix_formed sequel k n (Splits m a b) p h go = (spelled_formed n m h.0, bounded_formed n a h.1, bounded_formed (suc n) b h.2, go _)
-  prefix_formed sequel k n (Selects m a j b) p h go = (spelled_formed n m h.0, bounded_formed n a h.1, spelled_formed n j h.2, bounded_formed (suc n) b h.3, go _)
-  prefix_formed sequel k n (Decrypts m a j) p h go = (spelled_formed n m h.0, bounded_formed n a h.1, spelled_formed n j h.2, go _)
-  prefix_formed sequel k n (Checks m j) p h go = (spelled_formed n m h.0, spelled_formed n j h.1, go _)
-  prefix_formed sequel k n (Begins m) p h go = (spelled_formed n m h, go _)
-  prefix_formed sequel k n (Ends m) p h go = (spelled_formed n m h, go _)
-  prefix_formed sequel k n (EndManys m) p h go = (h.0, spelled_formed n m h.1, go _)
-  prefix_formed sequel k n (Casts m a) p h go = (spelled_formed n m h.0, bounded_formed n a h.1, go _)
-  prefix_formed sequel k n (Makes a) p h go = (bounded_formed n a h, go _)
+  leaf_formed : (k n : ℕ) (l : Leaf) → LeafFits later l → IsProc later (in_seq k) (leaf_tree spell n l)
+  leaf_formed k n (Sends a b) h = (spelled_formed n a h.0, spelled_formed n b h.1)
+  leaf_formed k n Stops h = tt
+
+  prefix_formed : (k n : ℕ) (s : Prefix) (p : t.Proc) → PrefixFits later s → IsProc later (in_seq (k + 1)) p → IsProc later (in_seq k) (prefix_tree spell n s p)
+  prefix_formed k n (Recvs m a) p h g = (spelled_formed n m h.0, bounded_formed n a h.1, g)
+  prefix_formed k n (Serves m a) p h g = (spelled_formed n m h.0, bounded_formed n a h.1, g)
+  prefix_formed k n (Splits m a b) p h g = (spelled_formed n m h.0, bounded_formed n a h.1, bounded_formed (suc n) b h.2, g)
+  prefix_formed k n (Selects m a j b) p h g = (spelled_formed n m h.0, bounded_formed n a h.1, spelled_formed n j h.2, bounded_formed (suc n) b h.3, g)
+  prefix_formed k n (Decrypts m a j) p h g = (spelled_formed n m h.0, bounded_formed n a h.1, spelled_formed n j h.2, g)
+  prefix_formed k n (Checks m j) p h g = (spelled_formed n m h.0, spelled_formed n j h.1, g)
+  prefix_formed k n (Begins m) p h g = (spelled_formed n m h, g)
+  prefix_formed k n (Ends m) p h g = (spelled_formed n m h, g)
+  prefix_formed k n (EndManys m) p h g = (h.0, spelled_formed n m h.1, g)
+  prefix_formed k n (Casts m a) p h g = (spelled_formed n m h.0, bounded_formed n a h.1, g)
+  prefix_formed k n (Makes a) p h g = (bounded_formed n a h, g)
 
   process_formed : (at : Standing) (k n : ℕ) (p : Process) → ProcessFits later p → IsProc later (place_of at k) (process_tree spell at n p)
-  process_formed at k n (leaf l) h = leaf_formed at k n l h
-  process_formed at k n (prefix s p) h = prefix_formed at k n s (process_tree spell sequel (n + binds s) p) h.0 (λ i. process_formed sequel i (n + binds s) p h.1)
-  process_formed alone k n (fork (Cases m a b) p q) h =
-      (spelled_formed n m h.0.0, bounded_formed n a h.0.1, process_formed sequel _ (n + 1) p h.1, bounded_formed n b h.0.2, process_formed sequel _ (n + 1) q h.2)
-  process_formed sequel k n (fork (Cases m a b) p q) h =
+  process_formed at k n (leaf l) h = placed at k (leaf_tree spell n l) (leaf_formed _ n l h)
+  process_formed at k n (prefix s p) h =
+      let behind = process_tree spell sequel (n + binds s) p in
+      placed at k (prefix_tree spell n s behind) (prefix_formed _ n s behind h.0 (process_formed sequel _ (n + binds s) p h.1))
+  process_formed at k n (fork (Cases m a b) p q) h =
+      placed at k (process_tree spell at n (fork (Cases m a b) p q))
       (spelled_formed n m h.0.0, bounded_formed n a h.0.1, process_formed sequel _ (n + 1) p h.1, bounded_formed n b h.0.2, process_formed sequel _ (n + 1) q h.2)
   process_formed alone k n (fork Pars p q) h = (process_formed sequel (k + 1) n p h.1, process_formed alone (k + 1) n q h.2)
   process_formed sequel k n (fork Pars (leaf (Sends a b)) q) h = (spelled_formed n a h.1.0, spelled_formed n b h.1.1, process_formed sequel (k + 1) n q h.2)

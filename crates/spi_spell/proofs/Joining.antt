@@ -123,7 +123,7 @@ has_derivation later d (t ∷ ts) derives is =
     let rest : kinds_of ts ≡ rule_words d = cc in
     let x = derives.read t.span.to ts [] (rest ∙ sym (append-nil (rule_words d))) in
     record {
-      deriv = x.deriv;
+      deriv = x.read;
       ruled = x.ruled;
       are = x.are;
       no_points = x.no_points;
