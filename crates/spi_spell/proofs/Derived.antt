@@ -10,8 +10,7 @@ use Rattle.spi_lex.specs.declared.token.Kind.TheVariants as kinds
 use Rattle.spi_lex.specs.Lexing.{kinds_of}
 use Rattle.spi_tree.specs.declared.tree.SWord.{SWord}
 use Rattle.spi_tree.specs.Trees as t
-use Rattle.spi_tree.specs.Pieces.{Piece, closes, derivation_limit, deriv_pieces, derivs_pieces}
-use Rattle.spi_parse.specs.Exact.{Spells}
+use Rattle.spi_tree.specs.Pieces.{closes, derivation_limit, deriv_pieces, derivs_pieces}
 use Rattle.spi_parse.specs.Formed.{number_of}
 use Rattle.spi_parse.specs.Rules.{arity_of, writes_effect, is_late}
 use Rattle.spi_parse.specs.Shapes.{is_sub}
@@ -23,8 +22,9 @@ use Rattle.spi_rules.specs.Derivations.{RuleUse, uses}
 use Rattle.spi_rules.specs.Rule.{arity, spelled, named}
 use Rattle.spi_rules.proofs.Named.{rules, each_named}
 use Rattle.spi_scope.specs.Parts.{uses_in, all_uses_in}
-use Rattle.spi_scope.specs.Points.{Point, Points, in_order, deriv_points, derivs_points}
+use Rattle.spi_scope.specs.Points.{Point, in_order, deriv_points, derivs_points}
 use Rattle.spi_scope.proofs.Rules.{rule_found}
+use Rattle.spi_spell.proofs.Reading.{Reads}
 
 -- the tokens of rule uses that write no effect
 abbrev pub rule_words : List RuleUse → List Kind
@@ -39,45 +39,30 @@ plain_join : (us vs : List RuleUse) → ArePlain us → ArePlain vs → ArePlain
 plain_join [] vs h k = k
 plain_join (u ∷ us) vs h k = (h.0, plain_join us vs h.1 k)
 
--- what stands for these uses, from the tokens on which those of the uses stand first, the token before which ends at e
-pub record Reading {T : Type 0} (IsOne : T → Type 0) (uses_of : T → List RuleUse) (points_of : T → Points) (pieces : T → List Piece → List Piece) (us : List RuleUse) (e : ℕ) (ts : List Token) (ks : List Kind) : Type 0 where
-  pub read : T
-  pub ruled : IsOne read
-  pub are : uses_of read ≡ us
-  pub no_points : in_order (points_of read) ≡ []
-  pub end : ℕ
-  pub rest : List Token
-  pub left : kinds_of rest ≡ ks
-  pub spells : (after : List Token) (r : List Piece) → Spells after end r rest → Spells after e (pieces read r) ts
+-- a tree that follows its rules and has no point
+abbrev pub IsTree : Bool → t.Deriv → Type 0
+IsTree later d = IsRuled later d × (in_order (deriv_points d) ≡ [])
 
--- a tree at a nesting
-abbrev pub Read : Bool → ℕ → List RuleUse → ℕ → List Token → List Kind → Type 0
-Read later n us e ts ks = Reading (IsRuled later) uses_in deriv_points (deriv_pieces n) us e ts ks
-
--- k trees one behind another
-abbrev pub AreRead : Bool → ℕ → t.Derivs → Type 0
-AreRead later k ds = (number_of ds ≡ k) × AreRuled later ds
-
-abbrev pub ReadAll : Bool → ℕ → ℕ → List RuleUse → ℕ → List Token → List Kind → Type 0
-ReadAll later n k us e ts ks = Reading (AreRead later k) all_uses_in derivs_points (derivs_pieces n) us e ts ks
+-- k such trees
+abbrev pub AreTrees : Bool → ℕ → t.Derivs → Type 0
+AreTrees later k ds = AreRuled later ds × (in_order (derivs_points ds) ≡ []) × (number_of ds ≡ k)
 
 -- the uses are one tree, and k trees, wherever their tokens stand
 pub record Derives (later : Bool) (n : ℕ) (us : List RuleUse) : Type 0 where
   pub plain : ArePlain us
-  pub read : (e : ℕ) (ts : List Token) (ks : List Kind) → kinds_of ts ≡ rule_words us ++ ks → Read later n us e ts ks
+  pub read : (e : ℕ) (ts : List Token) (ks : List Kind) → kinds_of ts ≡ rule_words us ++ ks → Reads (IsTree later) uses_in (deriv_pieces n) us e ts ks
 
 pub record DeriveAll (later : Bool) (n k : ℕ) (us : List RuleUse) : Type 0 where
   pub plain : ArePlain us
-  pub read : (e : ℕ) (ts : List Token) (ks : List Kind) → kinds_of ts ≡ rule_words us ++ ks → ReadAll later n k us e ts ks
+  pub read : (e : ℕ) (ts : List Token) (ks : List Kind) → kinds_of ts ≡ rule_words us ++ ks → Reads (AreTrees later k) all_uses_in (derivs_pieces n) us e ts ks
 
 pub no_premise : (later : Bool) (n : ℕ) → DeriveAll later n 0 []
 no_premise later n = record {
   plain = tt;
   read = λ e ts ks is. record {
     read = t.no_derivs;
-    ruled = (refl, tt);
+    is = (tt, refl, refl);
     are = refl;
-    no_points = refl;
     end = e;
     rest = ts;
     left = is;
@@ -92,9 +77,8 @@ last_premise {us = us} d = record {
       let x = d.read e ts ks is in
       record {
         read = t.more_derivs x.read t.no_derivs;
-        ruled = (refl, (x.ruled, tt));
+        is = ((x.is.0, tt), append-nil (in_order (deriv_points x.read)) ∙ x.is.1, refl);
         are = append-nil (uses_in x.read) ∙ x.are;
-        no_points = append-nil (in_order (deriv_points x.read)) ∙ x.no_points;
         end = x.end;
         rest = x.rest;
         left = x.left;
@@ -111,9 +95,8 @@ premise {n = n} {us = us} {vs = vs} d ds = record {
       let y = ds.read x.end x.rest ks x.left in
       record {
         read = t.more_derivs x.read y.read;
-        ruled = (ap suc y.ruled.0, (x.ruled, y.ruled.1));
+        is = ((x.is.0, y.is.0), ap (λ (l : List Point). l ++ in_order (derivs_points y.read)) x.is.1 ∙ y.is.1, ap suc y.is.2);
         are = ap (λ (l : List RuleUse). l ++ all_uses_in y.read) x.are ∙ ap (λ (l : List RuleUse). us ++ l) y.are;
-        no_points = ap (λ (l : List Point). l ++ in_order (derivs_points y.read)) x.no_points ∙ y.no_points;
         end = y.end;
         rest = y.rest;
         left = y.left;
@@ -142,7 +125,7 @@ rule {later = later} {n = n} {us = us} r plain early low ds = record {
   read = go;
 }
   where
-    go : (e : ℕ) (ts : List Token) (ks : List Kind) → kinds_of ts ≡ rule_words (uses r us) ++ ks → Read later n (uses r us) e ts ks
+    go : (e : ℕ) (ts : List Token) (ks : List Kind) → kinds_of ts ≡ rule_words (uses r us) ++ ks → Reads (IsTree later) uses_in (deriv_pieces n) (uses r us) e ts ks
     go e [] ks is = absurd cc
     go e (token ∷ ts) ks is =
         let kind : token.kind ≡ kinds.Word (spelled r) = cc in
@@ -152,9 +135,8 @@ rule {later = later} {n = n} {us = us} r plain early low ds = record {
         let w : SWord = record { word = spelled r; span = token.span } in
         record {
           read = t.rule (record { from = token.span.from; to = y.end }) w None y.read;
-          ruled = (has_arity later r early ∙ ap Some (sym y.ruled.0), writes_none r plain, tt, y.ruled.1);
+          is = ((has_arity later r early ∙ ap Some (sym y.is.2), writes_none r plain, tt, y.is.0), y.is.1);
           are = ap (λ (x : Rule). record { rule = x; taken = None } ∷ all_uses_in y.read) (sym (rule_found r (spelled r) refl)) ∙ ap (λ (l : List RuleUse). record { rule = r; taken = None } ∷ l) y.are;
-          no_points = y.no_points;
           end = y.end;
           rest = y.rest;
           left = y.left;

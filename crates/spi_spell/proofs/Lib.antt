@@ -1,5 +1,6 @@
 pub mod Feeds
 pub mod Together
+pub mod Reading
 pub mod Derived
 pub mod Fitting
 pub mod Past
