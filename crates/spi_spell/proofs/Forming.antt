@@ -13,42 +13,26 @@ use Rattle.spi_scope.specs.Parts.{numbered_message, numbered_messages, numbered_
 use Rattle.spi_scope.specs.StandsFor.{Meant}
 use Rattle.spi_show.specs.Spelled.{name_text}
 use Rattle.spi_show.specs.Processes.{Standing, alone, sequel}
-use Rattle.spi_spell.proofs.Printed.{spelled_name, numbered_name, message_tree, second_tree, rest_trees, atom_tree, atom_trees, type_tree, field_trees, last_tree, leaf_tree, prefix_tree, process_tree, free_trees, part_tree, opponent_tree, written_tree, deriv_tree, deriv_trees, derivation_tree, file_tree}
+use Rattle.spi_spell.proofs.Printed.{spelled_name, numbered_name, message_tree, second_tree, rest_trees, second_part, parts_of_type, atom_tree, atom_trees, type_tree, field_trees, last_tree, leaf_tree, prefix_tree, process_tree, free_trees, part_tree, opponent_tree, written_tree, deriv_tree, deriv_trees, derivation_tree, file_tree}
 use Rattle.spi_spell.proofs.Printable.{HasVersion, MessageFits, AtomFits, EffectFits, PartsFit, TyFits, LeafFits, PrefixFits, ProcessFits, IsPart, IsOpponentPart, is_later, IsPrintable}
 
 -- ---- messages and types
 
 module _ (later numbered : Bool) (of : ℕ → t.Msg) (names : (i : ℕ) → IsMsg later numbered (of i)) where
-  mutual
-    pub message_formed : (n : ℕ) (m : Message) → HasVersion later m → IsMsg later numbered (message_tree of n m)
-    message_formed n (bound i) h = names (n - suc i)
-    message_formed n (name x) h = names x
-    message_formed n unit h = tt
-    message_formed n (pair a b) h = (message_formed n a h.0, second_formed n b h.1, rest_formed n b h.1)
-    message_formed n (in_left a) h = message_formed n a h
-    message_formed n (in_right a) h = message_formed n a h
-    message_formed n (enc a b) h = (message_formed n a h.0, message_formed n b h.1)
-    message_formed n (hash a) h = (h.0, message_formed n a h.1)
+  -- the parts of a tuple behind its first
+  parts_formed : (n : ℕ) (m : Message) → IsMsg later numbered (message_tree of n m) → IsMsg later numbered (second_tree of n m) × AreMsgs later numbered (rest_trees of n m)
+  parts_formed n =
+      second_part of n (λ (a : t.Msg) (ms : t.Msgs) (x : t.Msg). IsMsg later numbered x → IsMsg later numbered a × AreMsgs later numbered ms) (λ x h. (h, tt)) (λ a b ms h. (h.0, (h.1, h.2)))
 
-    second_formed : (n : ℕ) (m : Message) → HasVersion later m → IsMsg later numbered (second_tree of n m)
-    second_formed n (bound i) h = names (n - suc i)
-    second_formed n (name x) h = names x
-    second_formed n unit h = tt
-    second_formed n (pair a b) h = message_formed n a h.0
-    second_formed n (in_left a) h = message_formed n a h
-    second_formed n (in_right a) h = message_formed n a h
-    second_formed n (enc a b) h = (message_formed n a h.0, message_formed n b h.1)
-    second_formed n (hash a) h = (h.0, message_formed n a h.1)
-
-    rest_formed : (n : ℕ) (m : Message) → HasVersion later m → AreMsgs later numbered (rest_trees of n m)
-    rest_formed n (bound i) h = tt
-    rest_formed n (name x) h = tt
-    rest_formed n unit h = tt
-    rest_formed n (pair a b) h = (second_formed n b h.1, rest_formed n b h.1)
-    rest_formed n (in_left a) h = tt
-    rest_formed n (in_right a) h = tt
-    rest_formed n (enc a b) h = tt
-    rest_formed n (hash a) h = tt
+  pub message_formed : (n : ℕ) (m : Message) → HasVersion later m → IsMsg later numbered (message_tree of n m)
+  message_formed n (bound i) h = names (n - suc i)
+  message_formed n (name x) h = names x
+  message_formed n unit h = tt
+  message_formed n (pair a b) h = (let k = parts_formed n b (message_formed n b h.1) in (message_formed n a h.0, k.0, k.1))
+  message_formed n (in_left a) h = message_formed n a h
+  message_formed n (in_right a) h = message_formed n a h
+  message_formed n (enc a b) h = (message_formed n a h.0, message_formed n b h.1)
+  message_formed n (hash a) h = (h.0, message_formed n a h.1)
 
   atom_formed : (n : ℕ) (a : Atom) → AtomFits later a → IsAtom later numbered (atom_tree of n a)
   atom_formed n (ends m) h = message_formed n m h.1
@@ -66,30 +50,18 @@ module _ (later : Bool) (spell : ℕ → List ℕ) where
   effect_formed : (n : ℕ) (es : Effect) → EffectFits later es → AreAtoms later false (atom_trees (spelled_name spell) n es)
   effect_formed n es h = atoms_formed later false (spelled_name spell) (λ i. refl) n es h
 
-  mutual
-    type_formed : (n : ℕ) (a : Ty) → PartsFit later a → IsTy later (type_tree spell n a)
-    type_formed n un h = tt
-    type_formed n unit_ty h = tt
-    type_formed n (pair_ty a b) h = (type_formed n a h.0, fields_formed (suc n) b h.1, last_formed (suc n) b h.1)
-    type_formed n (sum_ty a b) h = (type_formed n a h.0, type_formed n b h.1)
-    type_formed n (key a) h = type_formed n a h
-    type_formed n (nonce es) h = effect_formed n es h
+  -- the parts of a tuple type behind its first
+  fields_formed : (n : ℕ) (a : Ty) → IsTy later (type_tree spell n a) → AreFields later (field_trees spell n a) × IsLast later (last_tree spell n a)
+  fields_formed n =
+      parts_of_type spell n (λ (fs : t.Fields) (l : t.Last) (x : t.Ty). IsTy later x → AreFields later fs × IsLast later l) (λ x h. (tt, h)) (λ w a fs l h. ((h.0, h.1), h.2))
 
-    fields_formed : (n : ℕ) (a : Ty) → PartsFit later a → AreFields later (field_trees spell n a)
-    fields_formed n un h = tt
-    fields_formed n unit_ty h = tt
-    fields_formed n (pair_ty a b) h = (type_formed n a h.0, fields_formed (suc n) b h.1)
-    fields_formed n (sum_ty a b) h = tt
-    fields_formed n (key a) h = tt
-    fields_formed n (nonce es) h = tt
-
-    last_formed : (n : ℕ) (a : Ty) → PartsFit later a → IsLast later (last_tree spell n a)
-    last_formed n un h = tt
-    last_formed n unit_ty h = tt
-    last_formed n (pair_ty a b) h = last_formed (suc n) b h.1
-    last_formed n (sum_ty a b) h = (type_formed n a h.0, type_formed n b h.1)
-    last_formed n (key a) h = type_formed n a h
-    last_formed n (nonce es) h = effect_formed n es h
+  type_formed : (n : ℕ) (a : Ty) → PartsFit later a → IsTy later (type_tree spell n a)
+  type_formed n un h = tt
+  type_formed n unit_ty h = tt
+  type_formed n (pair_ty a b) h = (let k = fields_formed (suc n) b (type_formed (suc n) b h.1) in (type_formed n a h.0, k.0, k.1))
+  type_formed n (sum_ty a b) h = (type_formed n a h.0, type_formed n b h.1)
+  type_formed n (key a) h = type_formed n a h
+  type_formed n (nonce es) h = effect_formed n es h
 
   -- ---- processes
 
@@ -187,18 +159,6 @@ module _ (later : Bool) where
   written_formed None h = tt
   written_formed (Some es) h = numbered_atoms_formed es h
 
-  mutual
-    deriv_formed : (d : t.Deriv) → IsDeriv later d → IsDeriv later (deriv_tree d)
-    deriv_formed (t.rule s w es ds) h = (written_formed es h.0, derivs_formed ds h.1)
-
-    derivs_formed : (ds : t.Derivs) → AreDerivs later ds → AreDerivs later (deriv_trees ds)
-    derivs_formed t.no_derivs h = tt
-    derivs_formed (t.more_derivs d ds) h = (deriv_formed d h.0, derivs_formed ds h.1)
-
-  derivation_formed : (d : Option t.Deriv) → IsDerivation later d → IsDerivation later (derivation_tree d)
-  derivation_formed None h = tt
-  derivation_formed (Some d) h = deriv_formed d h
-
   same_number : (ds : t.Derivs) → number_of (deriv_trees ds) ≡ number_of ds
   same_number t.no_derivs = refl
   same_number (t.more_derivs d ds) = ap suc (same_number ds)
@@ -208,16 +168,21 @@ module _ (later : Bool) where
   same_written (Some es) = refl
 
   mutual
-    rules_kept : (d : t.Deriv) → HasRules later d → HasRules later (deriv_tree d)
-    rules_kept (t.rule s w es ds) h = (h.0 ∙ ap Some (sym (same_number ds)), h.1 ∙ sym (same_written es), all_rules_kept ds h.2)
+    deriv_kept : (d : t.Deriv) → IsDeriv later d × HasRules later d → IsDeriv later (deriv_tree d) × HasRules later (deriv_tree d)
+    deriv_kept (t.rule s w es ds) h =
+        let k = derivs_kept ds (h.0.1, h.1.2) in
+        ((written_formed es h.0.0, k.0), (h.1.0 ∙ ap Some (sym (same_number ds)), h.1.1 ∙ sym (same_written es), k.1))
 
-    all_rules_kept : (ds : t.Derivs) → HaveRules later ds → HaveRules later (deriv_trees ds)
-    all_rules_kept t.no_derivs h = tt
-    all_rules_kept (t.more_derivs d ds) h = (rules_kept d h.0, all_rules_kept ds h.1)
+    derivs_kept : (ds : t.Derivs) → AreDerivs later ds × HaveRules later ds → AreDerivs later (deriv_trees ds) × HaveRules later (deriv_trees ds)
+    derivs_kept t.no_derivs h = (tt, tt)
+    derivs_kept (t.more_derivs d ds) h =
+        let k = deriv_kept d (h.0.0, h.1.0) in
+        let ks = derivs_kept ds (h.0.1, h.1.1) in
+        ((k.0, ks.0), (k.1, ks.1))
 
-  derived_kept : (d : Option t.Deriv) → IsDerived later d → IsDerived later (derivation_tree d)
-  derived_kept None h = tt
-  derived_kept (Some d) h = rules_kept d h
+  derivation_kept : (d : Option t.Deriv) → IsDerivation later d × IsDerived later d → IsDerivation later (derivation_tree d) × IsDerived later (derivation_tree d)
+  derivation_kept None h = (tt, tt)
+  derivation_kept (Some d) h = deriv_kept d h
 
 -- ---- files
 
@@ -232,8 +197,8 @@ tree_formed s f d h words = record {
     decls = free_formed (is_later f) f.names;
     process = part_formed (is_later f) (name_text s f.names) (length f.names) f.process h.process;
     opponent = opponent_formed (is_later f) (name_text s f.names) (length f.names) f.opponent h.opponent;
-    derivation = derivation_formed (is_later f) d h.derivation.formed;
+    derivation = (derivation_kept (is_later f) d (h.derivation.formed, h.derivation.rules)).0;
     words = words;
   };
-  rules = derived_kept (is_later f) d h.derivation.rules;
+  rules = (derivation_kept (is_later f) d (h.derivation.formed, h.derivation.rules)).1;
 }

@@ -54,6 +54,10 @@ abbrev mutual
   rest_trees of n (enc a b) = t.no_msgs
   rest_trees of n (hash a) = t.no_msgs
 
+-- a fact of the whole and of its parts, where they are one
+pub twice : {A : Type 0} → A → A × A
+twice x = (x, x)
+
 -- the parts are the whole, or those of a tuple behind its first
 pub second_part : (of : ℕ → t.Msg) (n : ℕ) (P : t.Msg → t.Msgs → t.Msg → Type 0) → ((x : t.Msg) → P x t.no_msgs x)
     → ((a b : t.Msg) (ms : t.Msgs) → P a (t.more_msgs b ms) (t.tuple nowhere a b ms))

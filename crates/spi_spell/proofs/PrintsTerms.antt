@@ -8,7 +8,7 @@ use Rattle.spi_tree.specs.Pieces.{Piece, kinds_in, msg_pieces, msgs_pieces, atom
 use Rattle.spi_term.specs.Term.{Message, bound, name, unit, pair, in_left, in_right, enc, hash, Atom, ends, checks, many, Effect}
 use Rattle.spi_term.specs.Names.{MessageOver, OfAtom, OfEffect}
 use Rattle.spi_show.specs.Terms.{message_text, tuple_text, atom_text, more_text, effect_text}
-use Rattle.spi_spell.proofs.Printed.{message_tree, second_tree, rest_trees, atom_tree, atom_trees}
+use Rattle.spi_spell.proofs.Printed.{message_tree, second_tree, rest_trees, twice, atom_tree, atom_trees}
 use Rattle.spi_spell.proofs.Printable.{HasVersion, IsAtomOf, IsEffectOf, EffectFits}
 use Rattle.spi_spell.proofs.Prints.{Prints, part, space, mark, keyword, late_keyword}
 
@@ -24,9 +24,6 @@ effect_in later [] h = tt
 effect_in later (ends m ∷ es) h = (h.0.1, effect_in later es h.1)
 effect_in later (checks m ∷ es) h = (h.0.1, effect_in later es h.1)
 effect_in later (many m ∷ es) h = ((h.0.0, h.0.1.1), effect_in later es h.1)
-
-pub twice : {A : Type 0} → A → A × A
-twice x = (x, x)
 
 -- k free names and d bound ones, where n names are in scope and numbers are below top
 pub record InScope (top k d n : ℕ) : Type 0 where

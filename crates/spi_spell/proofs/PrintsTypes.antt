@@ -11,12 +11,12 @@ use Rattle.spi_term.specs.Term.{Message, Effect, Ty, un, unit_ty, pair_ty, sum_t
 use Rattle.spi_term.specs.Names.{MessageOver, OfEffect, OfTy}
 use Rattle.spi_term.specs.Spelling.{ty_nodes}
 use Rattle.spi_show.specs.Terms.{message_text, effect_text, typed_text, type_text, tuple_type_text}
-use Rattle.spi_spell.proofs.Printed.{spelled_name, message_tree, atom_trees, type_tree, field_trees, last_tree}
+use Rattle.spi_spell.proofs.Printed.{twice, spelled_name, message_tree, atom_trees, type_tree, field_trees, last_tree}
 use Rattle.spi_spell.proofs.Printable.{HasVersion, EffectFits, PartsFit}
 use Rattle.spi_spell.proofs.Prints as prints
 use Rattle.spi_spell.proofs.Prints.{Prints}
 use Rattle.spi_spell.proofs.PrintsTerms as terms
-use Rattle.spi_spell.proofs.PrintsTerms.{InScope, effect_in, twice}
+use Rattle.spi_spell.proofs.PrintsTerms.{InScope, effect_in}
 
 -- one more bound name
 pub inner : {top k d n : ℕ} → InScope top k d n → n < top → InScope top k (suc d) (suc n)
