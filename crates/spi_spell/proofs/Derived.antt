@@ -63,9 +63,7 @@ no_premise later n = record {
     read = t.no_derivs;
     is = (tt, refl, refl);
     are = refl;
-    end = e;
-    rest = ts;
-    left = is;
+    rest = record { end = e; tokens = ts; left = is };
     spells = λ after r h. h;
   };
 }
@@ -79,9 +77,7 @@ last_premise {us = us} d = record {
         read = t.more_derivs x.read t.no_derivs;
         is = ((x.is.0, tt), append-nil (in_order (deriv_points x.read)) ∙ x.is.1, refl);
         are = append-nil (uses_in x.read) ∙ x.are;
-        end = x.end;
         rest = x.rest;
-        left = x.left;
         spells = x.spells;
       };
 }
@@ -92,14 +88,12 @@ premise {n = n} {us = us} {vs = vs} d ds = record {
   read = λ e ts ks is.
       let split : rule_words (us ++ vs) ++ ks ≡ rule_words us ++ (rule_words vs ++ ks) = ap (λ (l : List Kind). l ++ ks) (map-append (λ (u : RuleUse). kinds.Word (spelled u.rule)) us vs) ∙ append_assoc (rule_words us) (rule_words vs) ks in
       let x = d.read e ts (rule_words vs ++ ks) (is ∙ split) in
-      let y = ds.read x.end x.rest ks x.left in
+      let y = ds.read x.rest.end x.rest.tokens ks x.rest.left in
       record {
         read = t.more_derivs x.read y.read;
         is = ((x.is.0, y.is.0), ap (λ (l : List Point). l ++ in_order (derivs_points y.read)) x.is.1 ∙ y.is.1, ap suc y.is.2);
         are = ap (λ (l : List RuleUse). l ++ all_uses_in y.read) x.are ∙ ap (λ (l : List RuleUse). us ++ l) y.are;
-        end = y.end;
         rest = y.rest;
-        left = y.left;
         spells = λ after r h. x.spells after (derivs_pieces n y.read r) (y.spells after r h);
       };
 }
@@ -134,11 +128,9 @@ rule {later = later} {n = n} {us = us} r plain early low ds = record {
         let not_deep : nat_lt derivation_limit n ≡ false = le-ltb derivation_limit n low in
         let w : SWord = record { word = spelled r; span = token.span } in
         record {
-          read = t.rule (record { from = token.span.from; to = y.end }) w None y.read;
+          read = t.rule (record { from = token.span.from; to = y.rest.end }) w None y.read;
           is = ((has_arity later r early ∙ ap Some (sym y.is.2), writes_none r plain, tt, y.is.0), y.is.1);
           are = ap (λ (x : Rule). record { rule = x; taken = None } ∷ all_uses_in y.read) (sym (rule_found r (spelled r) refl)) ∙ ap (λ (l : List RuleUse). record { rule = r; taken = None } ∷ l) y.are;
-          end = y.end;
           rest = y.rest;
-          left = y.left;
-          spells = λ after p h. (refl, (refl, (kind, not_deep, (refl, y.spells after (closes y.end ∷ p) (refl, h)))));
+          spells = λ after p h. (refl, (refl, (kind, not_deep, (refl, y.spells after (closes y.rest.end ∷ p) (refl, h)))));
         }

@@ -71,6 +71,10 @@ derivation_on more f x y h = schedule_on more f _ _ (same_schedule (GoesOn more)
 closed_on : (more : List Token) (to : ℕ) (y : List Piece) → ((e : ℕ) → Spells [] e y more) → GoesOn more (closes to ∷ []) y
 closed_on more to y f = record { on = λ e ts h. subst (λ (us : List Token). Spells [] e y (us ++ more)) (sym h.1) (f e) }
 
+-- a file with no derivation, up to its end
+to_end : (f : t.File) (ts : List Token) → f.derivation ≡ None → Spells [] 0 (whole_file f) ts → Spells [] 0 (opens f.span.from ∷ to_schedule f (schedule_pieces f.schedule (closes f.span.to ∷ []))) ts
+to_end f ts none h = subst (λ (o : Option t.Deriv). Spells [] 0 (opens f.span.from ∷ to_schedule f (schedule_pieces f.schedule (derivation_pieces o (ends f.span [])))) ts) none h
+
 -- ---- formed files
 
 made : (f : t.File) (bytes : List ℕ) (ts : List Token) → Lexes bytes (Ok ts) → IsRuledFile f → Spells [] 0 (whole_file f) ts → IsFile f
@@ -119,17 +123,17 @@ module _ (bytes : List ℕ) (file : Meant) (tree : t.File) (is : IsTreeOf bytes 
       let derives = derived bytes tree file d is stands canonical in
       let b = text_behind bytes (derivation_text d) is.tokens word.Derivation (rule_words d) is.lexed (derivation_writes d derives.plain) (derivation_kinds false d) (derivation_kinds true d) in
       let x = reads_behind (IsTree (is_later tree)) uses_in (deriv_pieces 1) d word.Derivation (rule_words d) b.more (λ e ts. derives.read e ts []) b.kinds_are in
-      let f : t.File = tree_with_derivation tree x.read x.end in
-      let old : Spells [] 0 (opens tree.span.from ∷ to_schedule tree (schedule_pieces tree.schedule (closes tree.span.to ∷ []))) is.tokens =
-      subst (λ (o : Option t.Deriv). Spells [] 0 (opens tree.span.from ∷ to_schedule tree (schedule_pieces tree.schedule (derivation_pieces o (ends tree.span [])))) is.tokens) tree_none is.spelled in
-      let spelled : Spells [] 0 (whole_file f) (is.tokens ++ b.more) = (derivation_on b.more tree _ _ (closed_on b.more tree.span.to (a_reserved word.Derivation (deriv_pieces 1 x.read (closes x.end ∷ []))) x.spells)).on 0 is.tokens old in
+      let y = x.reads in
+      let f : t.File = tree_with_derivation tree y.read y.rest.end in
+      let old = to_end tree is.tokens tree_none is.spelled in
+      let spelled : Spells [] 0 (whole_file f) (is.tokens ++ b.more) = (derivation_on b.more tree _ _ (closed_on b.more tree.span.to (a_reserved word.Derivation (deriv_pieces 1 y.read (closes y.rest.end ∷ []))) x.spells)).on 0 is.tokens old in
       let before = file_ruled tree is.formed in
-      let ruled : IsRuledFile f = record { version = before.version; decls = before.decls; process = before.process; opponent = before.opponent; derivation = x.is.0 } in
-      let last : in_order (derivation_points tree.derivation) ≡ in_order (deriv_points x.read) = ap (λ (o : Option t.Deriv). in_order (derivation_points o)) tree_none ∙ sym x.is.1 in
+      let ruled : IsRuledFile f = record { version = before.version; decls = before.decls; process = before.process; opponent = before.opponent; derivation = y.is.0 } in
+      let last : in_order (derivation_points tree.derivation) ≡ in_order (deriv_points y.read) = ap (λ (o : Option t.Deriv). in_order (derivation_points o)) tree_none ∙ sym y.is.1 in
       let clean : IsClean f = subst (λ (l : List Point). Clean 0 (points_with tree (in_order (schedule_points tree.schedule) ++ l))) last stands.clean in (
         f,
         record { within = short; tokens = is.tokens ++ b.more; lexed = b.lexed; formed = made f (joined bytes (derivation_text d)) (is.tokens ++ b.more) b.lexed ruled spelled; spelled = spelled },
-        record { clean = clean; version = stands.version; names = stands.names; process = stands.process; opponent = stands.opponent; schedule = stands.schedule; derivation = ap Some (sym x.are) },
+        record { clean = clean; version = stands.version; names = stands.names; process = stands.process; opponent = stands.opponent; schedule = stands.schedule; derivation = ap Some (sym y.are) },
       )
 
 -- ---- schedules
@@ -159,19 +163,19 @@ module _ (bytes : List ℕ) (file : Meant) (tree : t.File) (is : IsTreeOf bytes 
       let plain = no_derivation tree.derivation (sym stands.derivation ∙ none) in
       let b = text_behind bytes (schedule_text steps) is.tokens word.Schedule (steps_kinds steps) is.lexed (schedule_writes steps) (schedule_kinds false steps places) (schedule_kinds true steps places) in
       let x = reads_behind (λ (ss : List t.Step). length ss ≡ length steps) (λ (ss : List t.Step). map step_in ss) steps_pieces steps word.Schedule (steps_kinds steps) b.more (λ e ts. read_steps steps e ts []) b.kinds_are in
-      let f : t.File = tree_with_schedule tree x.read x.end in
-      let no_end : Spells [] 0 (opens tree.span.from ∷ to_schedule tree (schedule_pieces tree.schedule (closes tree.span.to ∷ []))) is.tokens =
-      subst (λ (o : Option t.Deriv). Spells [] 0 (opens tree.span.from ∷ to_schedule tree (schedule_pieces tree.schedule (derivation_pieces o (ends tree.span [])))) is.tokens) plain is.spelled in
+      let y = x.reads in
+      let f : t.File = tree_with_schedule tree y.read y.rest.end in
+      let no_end = to_end tree is.tokens plain is.spelled in
       let old : Spells [] 0 (opens tree.span.from ∷ to_schedule tree (closes tree.span.to ∷ [])) is.tokens =
       subst (λ (o : Option (List t.Step)). Spells [] 0 (opens tree.span.from ∷ to_schedule tree (schedule_pieces o (closes tree.span.to ∷ []))) is.tokens) bare no_end in
-      let spelled : Spells [] 0 (whole_file f) (is.tokens ++ b.more) = (schedule_on b.more tree _ _ (closed_on b.more tree.span.to (a_reserved word.Schedule (steps_pieces x.read (closes x.end ∷ []))) x.spells)).on 0 is.tokens old in
+      let spelled : Spells [] 0 (whole_file f) (is.tokens ++ b.more) = (schedule_on b.more tree _ _ (closed_on b.more tree.span.to (a_reserved word.Schedule (steps_pieces y.read (closes y.rest.end ∷ []))) x.spells)).on 0 is.tokens old in
       let before = file_ruled tree is.formed in
       let ruled : IsRuledFile f = record { version = before.version; decls = before.decls; process = before.process; opponent = before.opponent; derivation = tt } in
-      let number = x.is in
-      let new : (d : ℕ) → Clean d (in_order (schedule_points tree.schedule) ++ in_order (derivation_points tree.derivation)) → Clean d (in_order (steps_points 1 (length x.read) x.read) ++ []) =
-      λ d h. subst (Clean d) (sym (append-nil (in_order (steps_points 1 (length x.read) x.read)))) (steps_clean 1 (length x.read) d x.read (omega arith)) in
+      let number = y.is in
+      let new : (d : ℕ) → Clean d (in_order (schedule_points tree.schedule) ++ in_order (derivation_points tree.derivation)) → Clean d (in_order (steps_points 1 (length y.read) y.read) ++ []) =
+      λ d h. subst (Clean d) (sym (append-nil (in_order (steps_points 1 (length y.read) y.read)))) (steps_clean 1 (length y.read) d y.read (omega arith)) in
       let clean : IsClean f = clean_with tree _ _ new stands.clean in (
         f,
         record { within = short; tokens = is.tokens ++ b.more; lexed = b.lexed; formed = made f (joined bytes (schedule_text steps)) (is.tokens ++ b.more) b.lexed ruled spelled; spelled = spelled },
-        record { clean = clean; version = stands.version; names = stands.names; process = stands.process; opponent = stands.opponent; schedule = ap Some (sym x.are); derivation = none },
+        record { clean = clean; version = stands.version; names = stands.names; process = stands.process; opponent = stands.opponent; schedule = ap Some (sym y.are); derivation = none },
       )

@@ -38,9 +38,7 @@ read_act i ss e (a ∷ b ∷ c ∷ ts) ks go is =
       read = t.act (over a c) i ∷ x.read;
       are = ap (λ (l : List Step). act i ∷ l) x.are;
       is = omega (arith, x.is);
-      end = x.end;
       rest = x.rest;
-      left = x.left;
       spells = λ after r h. (refl, (first, refl, (place, refl, (closed, refl, (refl, x.spells after r h)))));
     }
 
@@ -61,14 +59,12 @@ read_talk i j ss e (a ∷ b ∷ d ∷ c ∷ ts) ks go is =
       read = t.talk (over a c) i j ∷ x.read;
       are = ap (λ (l : List Step). talk i j ∷ l) x.are;
       is = omega (arith, x.is);
-      end = x.end;
       rest = x.rest;
-      left = x.left;
       spells = λ after r h. (refl, (first, refl, (out, refl, (inp, refl, (closed, refl, (refl, x.spells after r h))))));
     }
 
 pub read_steps : (ss : List Step) (e : ℕ) (ts : List Token) (ks : List Kind) → kinds_of ts ≡ steps_kinds ss ++ ks → ReadSteps ss e ts ks
-read_steps [] e ts ks is = record { read = []; is = refl; are = refl; end = e; rest = ts; left = is; spells = λ after r h. h }
+read_steps [] e ts ks is = record { read = []; is = refl; are = refl; rest = record { end = e; tokens = ts; left = is }; spells = λ after r h. h }
 read_steps (act i ∷ ss) e ts ks is = read_act i ss e ts ks (λ f us q. read_steps ss f us ks q) (is ∙ append_assoc (step_kinds (act i)) (steps_kinds ss) ks)
 read_steps (talk i j ∷ ss) e ts ks is = read_talk i j ss e ts ks (λ f us q. read_steps ss f us ks q) (is ∙ append_assoc (step_kinds (talk i j)) (steps_kinds ss) ks)
 
