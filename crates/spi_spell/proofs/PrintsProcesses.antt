@@ -42,15 +42,21 @@ module _ (later : Bool) (top : ℕ) (spell : ℕ → List ℕ) (fit : (i : ℕ) 
   named {k = k} {d = d} {n = n} x a low in_scope few o v r more apart p =
       types.typed later top spell fit x (type_text spell n a) more low (types.type later top spell fit k d n 1 a in_scope few o v.1 r more apart p)
 
+  -- a binder, after which a process follows
+  binder : {k d n : ℕ} (x : ℕ) (a : Ty) → x < top → InScope top k d n → n + ty_nodes a ≤ top → OfTy (MessageOver k) d a → TyFits later a → (r : List Piece) (more : List ℕ) → Prints later (kinds_in r) more
+      → Prints later (kinds_in (binder_pieces (printed.word (spell x)) (type_tree spell n a) r)) (codes "(" ++ ((typed_text spell x (type_text spell n a) ++ codes "); ") ++ more))
+  binder {n = n} x a low in_scope few o v r more p =
+      prints.mark mark.ParenOpen (prints.part (typed_text spell x (type_text spell n a)) _ more (named x a low in_scope few o v _ _ refl (prints.mark mark.ParenClose (prints.mark mark.Semicolon (prints.space p)))))
+
   pub one_prefix : (k d n : ℕ) (at : Place) (s : Prefix) (q : t.Proc) → InScope top k d n → n + prefix_nodes s ≤ top → OfPrefix (MessageOver k) d s → PrefixFits later s
       → (r : List Piece) (more : List ℕ) → Prints later (kinds_in (proc_pieces (below at) q (ends nowhere r))) more
       → Prints later (kinds_in (proc_pieces at (prefix_tree spell n s q) r)) (prefix_text spell n s ++ more)
   one_prefix k d n at (Recvs m a) q scope few o v r more p =
-      prints.keyword word.Inp refl refl (prints.space (prints.part (message_text spell n m) _ more (message m scope o.0 v.0 _ _ refl (prints.space (prints.mark mark.ParenOpen
-      (prints.part (typed_text spell n (type_text spell n a)) _ more (named n a (omega arith) scope (omega arith) o.1 v.1 _ _ refl (prints.mark mark.ParenClose (prints.mark mark.Semicolon (prints.space p))))))))))
+      prints.keyword word.Inp refl refl (prints.space (prints.part (message_text spell n m) _ more (message m scope o.0 v.0 _ _ refl (prints.space
+      (binder n a (omega arith) scope (omega arith) o.1 v.1 _ more p)))))
   one_prefix k d n at (Serves m a) q scope few o v r more p =
-      prints.keyword word.Repeat refl refl (prints.space (prints.keyword word.Inp refl refl (prints.space (prints.part (message_text spell n m) _ more (message m scope o.0 v.0 _ _ refl (prints.space (prints.mark mark.ParenOpen
-      (prints.part (typed_text spell n (type_text spell n a)) _ more (named n a (omega arith) scope (omega arith) o.1 v.1 _ _ refl (prints.mark mark.ParenClose (prints.mark mark.Semicolon (prints.space p))))))))))))
+      prints.keyword word.Repeat refl refl (prints.space (prints.keyword word.Inp refl refl (prints.space (prints.part (message_text spell n m) _ more (message m scope o.0 v.0 _ _ refl (prints.space
+      (binder n a (omega arith) scope (omega arith) o.1 v.1 _ more p)))))))
   one_prefix k d n at (Splits m a b) q scope few o v r more p =
       prints.keyword word.Split refl refl (prints.space (prints.part (message_text spell n m) _ more (message m scope o.0 v.0 _ _ refl (prints.space (prints.keyword word.Is refl refl (prints.space (prints.mark mark.ParenOpen
       (prints.part (typed_text spell n (type_text spell n a)) _ more (named n a (omega arith) scope (omega arith) o.1 v.1 _ _ refl (prints.mark mark.Comma (prints.space
@@ -76,11 +82,10 @@ module _ (later : Bool) (top : ℕ) (spell : ℕ → List ℕ) (fit : (i : ℕ) 
   one_prefix k d n at (EndManys m) q scope few o v r more p =
       prints.late_keyword word.EndMany refl v.0 refl (prints.space (prints.part (message_text spell n m) _ more (message m scope o v.1 _ _ refl (prints.mark mark.Semicolon (prints.space p)))))
   one_prefix k d n at (Casts m a) q scope few o v r more p =
-      prints.keyword word.Cast refl refl (prints.space (prints.part (message_text spell n m) _ more (message m scope o.0 v.0 _ _ refl (prints.space (prints.keyword word.Is refl refl (prints.space (prints.mark mark.ParenOpen
-      (prints.part (typed_text spell n (type_text spell n a)) _ more (named n a (omega arith) scope (omega arith) o.1 v.1 _ _ refl (prints.mark mark.ParenClose (prints.mark mark.Semicolon (prints.space p))))))))))))
+      prints.keyword word.Cast refl refl (prints.space (prints.part (message_text spell n m) _ more (message m scope o.0 v.0 _ _ refl (prints.space (prints.keyword word.Is refl refl (prints.space
+      (binder n a (omega arith) scope (omega arith) o.1 v.1 _ more p)))))))
   one_prefix k d n at (Makes a) q scope few o v r more p =
-      prints.keyword word.New refl refl (prints.space (prints.mark mark.ParenOpen
-      (prints.part (typed_text spell n (type_text spell n a)) _ more (named n a (omega arith) scope (omega arith) o v _ _ refl (prints.mark mark.ParenClose (prints.mark mark.Semicolon (prints.space p)))))))
+      prints.keyword word.New refl refl (prints.space (binder n a (omega arith) scope (omega arith) o v _ more p))
 
   one_leaf : (k d n : ℕ) (at : Place) (l : Leaf) → InScope top k d n → OfLeaf (MessageOver k) d l → LeafFits later l → (r : List Piece) (more : List ℕ)
       → IsTrue (is_apart more) → Prints later (kinds_in r) more → Prints later (kinds_in (proc_pieces at (leaf_tree spell n l) r)) (leaf_text spell n l ++ more)
@@ -128,14 +133,12 @@ module _ (later : Bool) (top : ℕ) (spell : ℕ → List ℕ) (fit : (i : ℕ) 
       (left_text spell n (message_text spell n m) (type_text spell n a) ++ more)
   left k d n m a scope few o oa v va r more h =
       prints.keyword word.Case refl refl (prints.space (prints.part (message_text spell n m) _ more (message m scope o v _ _ refl (prints.space (prints.keyword word.Is refl refl (prints.space
-      (prints.keyword word.Inl refl refl (prints.space (prints.mark mark.ParenOpen (prints.part (typed_text spell n (type_text spell n a)) _ more (named n a (omega arith) scope (omega arith) oa va _ _ refl
-      (prints.mark mark.ParenClose (prints.mark mark.Semicolon (prints.space h))))))))))))))
+      (prints.keyword word.Inl refl refl (prints.space (binder n a (omega arith) scope (omega arith) oa va _ more h)))))))))
 
   between : (k d n : ℕ) (b : Ty) → InScope top k d n → suc (n + ty_nodes b) ≤ top → OfTy (MessageOver k) d b → TyFits later b → (r : List Piece) (more : List ℕ) → Prints later (kinds_in r) more
       → Prints later (kinds_in (a_reserved word.Is (a_reserved word.Inr (binder_pieces (printed.word (spell n)) (type_tree spell n b) r)))) (right_text spell n (type_text spell n b) ++ more)
   between k d n b scope few o v r more h =
-      prints.space (prints.keyword word.Is refl refl (prints.space (prints.keyword word.Inr refl refl (prints.space (prints.mark mark.ParenOpen
-      (prints.part (typed_text spell n (type_text spell n b)) _ more (named n b (omega arith) scope (omega arith) o v _ _ refl (prints.mark mark.ParenClose (prints.mark mark.Semicolon (prints.space h))))))))))
+      prints.space (prints.keyword word.Is refl refl (prints.space (prints.keyword word.Inr refl refl (prints.space (binder n b (omega arith) scope (omega arith) o v _ more h)))))
 
   pub process : (k d n : ℕ) (st : Standing) (p : Process) → InScope top k d n → n + process_nodes p ≤ top → OfProcess (MessageOver k) d p → ProcessFits later p
       → (at : Place) (r : List Piece) (more : List ℕ) → IsTrue (is_apart more) → Prints later (kinds_in r) more
