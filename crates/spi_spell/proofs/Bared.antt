@@ -1,6 +1,6 @@
 -- What a tree stands for doesn't depend on its spans.
 use Rattle.std.proofs.Common.{◌≡◌, ℕ, ◌+◌, Bool, true, false, List, [], ◌∷◌, ◌++◌, length, map, reverse, Option, Some, None, refl, sym, ap, subst, ◌∙◌}
-use Rattle.std.specs.Prelude.{nat_lt, if◌then◌else◌}
+use Rattle.std.specs.Prelude.{◌↔◌, nat_lt, if◌then◌else◌}
 use Rattle.std.proofs.lemmas.List.{length-map}
 use Rattle.spi_text.specs.declared.lines.Span.{Span}
 use Rattle.spi_tree.specs.declared.tree.SWord.{SWord}
@@ -13,6 +13,11 @@ use Rattle.spi_scope.specs.Parts.{step_in, step_span, numbered_message, numbered
 use Rattle.spi_scope.specs.Points.{Point, uses_name, uses_type, declares_name, declares_type, ends_message, ends_type, adds, starts_step, fault_at, added, Points, none, one, ◌⨾◌, in_order, msg_span, ty_span, message_points, messages_points, whole_message, atom_points, atoms_points, type_points, fields_points, last_points, whole_type, part, message_head, messages_head, typed_head, new_head, tested_head, split_head, match_head, process_points, free_points, with_free, decl_points, names_behind, types_behind, decls_points, all_names, all_types, opponent_points, steps_points, schedule_points, numbered_points, numbered_atom_points, numbered_atoms_points, written_points, deriv_points, derivs_points, derivation_points, body_points, file_points}
 use Rattle.spi_scope.specs.First.{Clean}
 use Rattle.spi_scope.specs.StandsFor.{Meant, StandsFor, over_free, opponent_over, schedule_in, derivation_in}
+
+-- what stands for each part stands for all
+each_bared : {A B : Type 0} (f : A → B) (bare : A → A) → ((x : A) → f (bare x) ≡ f x) → (xs : List A) → map f (map bare xs) ≡ map f xs
+each_bared f bare same [] = refl
+each_bared f bare same (x ∷ xs) = λ i. same x i ∷ each_bared f bare same xs i
 
 -- ---- messages, types and processes
 
@@ -38,8 +43,7 @@ module _ (k : ℕ) (xs : Names) where
   atom_bared (t.many s m) = rw (message_bared m) refl
 
   effect_bared : (es : List t.Atom) → effect_in k xs (map bare_atom es) ≡ effect_in k xs es
-  effect_bared [] = refl
-  effect_bared (e ∷ es) = rw (atom_bared e, effect_bared es) refl
+  effect_bared = each_bared (atom_in k xs) bare_atom atom_bared
 
 behind_bared : (xs : Names) (fs : t.Fields) → behind xs (bare_fields fs) ≡ behind xs fs
 behind_bared xs t.no_fields = refl
@@ -131,8 +135,7 @@ step_bared (t.act s i) = refl
 step_bared (t.talk s i j) = refl
 
 steps_bared : (xs : List t.Step) → map step_in (map bare_step xs) ≡ map step_in xs
-steps_bared [] = refl
-steps_bared (x ∷ xs) = rw (step_bared x, steps_bared xs) refl
+steps_bared = each_bared step_in bare_step step_bared
 
 schedule_bared : (o : Option (List t.Step)) → schedule_in (bare_schedule o) ≡ schedule_in o
 schedule_bared None = refl
@@ -159,8 +162,7 @@ numbered_atom_bared (t.checks s m) = rw (numbered_bared m) refl
 numbered_atom_bared (t.many s m) = rw (numbered_bared m) refl
 
 numbered_atoms_bared : (es : List t.Atom) → map numbered_atom (map bare_atom es) ≡ map numbered_atom es
-numbered_atoms_bared [] = refl
-numbered_atoms_bared (e ∷ es) = rw (numbered_atom_bared e, numbered_atoms_bared es) refl
+numbered_atoms_bared = each_bared numbered_atom bare_atom numbered_atom_bared
 
 written_bared : (o : Option (List t.Atom)) → numbered_effect (bare_written o) ≡ numbered_effect o
 written_bared None = refl
@@ -204,33 +206,23 @@ order_bared none = refl
 order_bared (one p) = refl
 order_bared (ps ⨾ qs) = rw (order_bared ps, order_bared qs) (sym (append_bared (in_order ps) (in_order qs)))
 
-when_none : (b : Bool) (f g : ScopeFault) → (if b then Some f else None) ≡ None → (if b then Some g else None) ≡ None
-when_none true f g h = absurd cc
-when_none false f g h = refl
+when_none : (b : Bool) (f g : ScopeFault) → ((if b then Some f else None) ≡ None) ↔ ((if b then Some g else None) ≡ None)
+when_none true f g = (λ h. absurd cc, λ h. absurd cc)
+when_none false f g = (λ h. refl, λ h. refl)
 
-else_none : (b : Bool) (f g : ScopeFault) → (if b then None else Some f) ≡ None → (if b then None else Some g) ≡ None
-else_none true f g h = refl
-else_none false f g h = absurd cc
+else_none : (b : Bool) (f g : ScopeFault) → ((if b then None else Some f) ≡ None) ↔ ((if b then None else Some g) ≡ None)
+else_none true f g = (λ h. refl, λ h. refl)
+else_none false f g = (λ h. absurd cc, λ h. absurd cc)
 
-point_bared : (c : ℕ) (p : Point) → fault_at c p ≡ None → fault_at c (bare_point p) ≡ None
-point_bared c (uses_name xs w) h = else_none _ _ _ h
-point_bared c (uses_type ts w) h = else_none _ _ _ h
-point_bared c (declares_name xs w) h = when_none _ _ _ h
-point_bared c (declares_type ts w) h = when_none _ _ _ h
-point_bared c (ends_message n s) h = when_none (nat_lt 200 n) _ _ h
-point_bared c (ends_type n s) h = when_none (nat_lt 1000 n) _ _ h
-point_bared c (adds n s) h = when_none (nat_lt 100000 (c + n)) _ _ h
-point_bared c (starts_step i n s) h = when_none (nat_lt 10000 i) _ _ h
-
-point_back : (c : ℕ) (p : Point) → fault_at c (bare_point p) ≡ None → fault_at c p ≡ None
-point_back c (uses_name xs w) h = else_none _ _ _ h
-point_back c (uses_type ts w) h = else_none _ _ _ h
-point_back c (declares_name xs w) h = when_none _ _ _ h
-point_back c (declares_type ts w) h = when_none _ _ _ h
-point_back c (ends_message n s) h = when_none (nat_lt 200 n) _ _ h
-point_back c (ends_type n s) h = when_none (nat_lt 1000 n) _ _ h
-point_back c (adds n s) h = when_none (nat_lt 100000 (c + n)) _ _ h
-point_back c (starts_step i n s) h = when_none (nat_lt 10000 i) _ _ h
+point_bared : (c : ℕ) (p : Point) → (fault_at c p ≡ None) ↔ (fault_at c (bare_point p) ≡ None)
+point_bared c (uses_name xs w) = else_none _ _ _
+point_bared c (uses_type ts w) = else_none _ _ _
+point_bared c (declares_name xs w) = when_none _ _ _
+point_bared c (declares_type ts w) = when_none _ _ _
+point_bared c (ends_message n s) = when_none (nat_lt 200 n) _ _
+point_bared c (ends_type n s) = when_none (nat_lt 1000 n) _ _
+point_bared c (adds n s) = when_none (nat_lt 100000 (c + n)) _ _
+point_bared c (starts_step i n s) = when_none (nat_lt 10000 i) _ _
 
 added_bared : (p : Point) → added (bare_point p) ≡ added p
 added_bared (uses_name xs w) = refl
@@ -244,11 +236,11 @@ added_bared (starts_step i n s) = refl
 
 clean_bared : (c : ℕ) (ps : List Point) → Clean c ps → Clean c (map bare_point ps)
 clean_bared c [] h = tt
-clean_bared c (p ∷ ps) h = (point_bared c p h.0, subst (λ (n : ℕ). Clean (c + n) (map bare_point ps)) (sym (added_bared p)) (clean_bared (c + added p) ps h.1))
+clean_bared c (p ∷ ps) h = ((point_bared c p).0 h.0, subst (λ (n : ℕ). Clean (c + n) (map bare_point ps)) (sym (added_bared p)) (clean_bared (c + added p) ps h.1))
 
 clean_back : (c : ℕ) (ps : List Point) → Clean c (map bare_point ps) → Clean c ps
 clean_back c [] h = tt
-clean_back c (p ∷ ps) h = (point_back c p h.0, clean_back (c + added p) ps (subst (λ (n : ℕ). Clean (c + n) (map bare_point ps)) (added_bared p) h.1))
+clean_back c (p ∷ ps) h = ((point_bared c p).1 h.0, clean_back (c + added p) ps (subst (λ (n : ℕ). Clean (c + n) (map bare_point ps)) (added_bared p) h.1))
 
 -- ---- the points of a tree
 

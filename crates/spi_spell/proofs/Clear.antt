@@ -36,6 +36,9 @@ pub record Adds (n : ℕ) (ps : Points) : Type 0 where
 pub next : {m n : ℕ} {ps qs : Points} → Adds m ps → Adds n qs → Adds (m + n) (ps ⨾ qs)
 next f g = record { clear = (f.clear, g.clear); weighs = omega (arith, f.weighs, g.weighs) }
 
+pub regrouped : {n : ℕ} {ps qs rs : Points} → Adds n (ps ⨾ (qs ⨾ rs)) → Adds n ((ps ⨾ qs) ⨾ rs)
+regrouped f = record { clear = ((f.clear.0, f.clear.1.0), f.clear.1.1); weighs = omega (arith, f.weighs) }
+
 pub in_all : {m n : ℕ} {ps : Points} → m ≡ n → Adds m ps → Adds n ps
 in_all e f = record { clear = f.clear; weighs = f.weighs ∙ e }
 

@@ -20,7 +20,7 @@ use Rattle.spi_show.specs.Spelled.{name_text}
 use Rattle.spi_show.specs.Processes.{Standing, alone, sequel}
 use Rattle.spi_tree.proofs.Same.{same_effect}
 use Rattle.spi_spell.proofs.Shallow.{AreSmall, small}
-use Rattle.spi_spell.proofs.Printed.{word, spelled_name, numbered_name, message_tree, second_tree, rest_trees, atom_tree, atom_trees, type_tree, field_trees, last_tree, leaf_tree, prefix_tree, process_tree, free_trees, part_tree, opponent_tree, step_tree, schedule_tree, written_tree, deriv_tree, deriv_trees, derivation_tree, file_tree}
+use Rattle.spi_spell.proofs.Printed.{twice, word, spelled_name, numbered_name, message_tree, second_tree, rest_trees, atom_tree, atom_trees, type_tree, field_trees, last_tree, leaf_tree, prefix_tree, process_tree, free_trees, part_tree, opponent_tree, step_tree, schedule_tree, written_tree, deriv_tree, deriv_trees, derivation_tree, file_tree}
 use Rattle.spi_spell.proofs.Printable.{MessageFits, TyFits, LeafFits, PrefixFits, ForkFits, ProcessFits, Nests, IsPart, IsOpponentPart, is_later, IsPrintable}
 
 -- the first token of a message, a type or an atom, and of a process
@@ -30,37 +30,23 @@ shallow k h = le-ltb 1000 k h
 -- ---- messages
 
 module _ (of : ℕ → t.Msg) (names : (i k : ℕ) (r : List Piece) → k ≤ 1000 → IsWithin r → IsWithin (msg_pieces k (of i) r)) where
-  mutual
-    pub message_within : (m : Message) (n k : ℕ) (r : List Piece) → k + message_size m ≤ 1001 → IsWithin r → IsWithin (msg_pieces k (message_tree of n m) r)
-    message_within (bound i) n k r low h = names (n - suc i) k r (omega arith) h
-    message_within (name x) n k r low h = names x k r (omega arith) h
-    message_within unit n k r low h = (shallow k (omega arith), (refl, h))
-    message_within (pair a b) n k r low h =
-        (shallow k (omega arith), message_within a n (k + 1) _ (omega arith) (refl, second_within b n (k + 1) _ (omega arith) (rest_within b n (k + 1) _ (omega arith) (refl, h))))
-    message_within (in_left a) n k r low h = (shallow k (omega arith), message_within a n (k + 1) _ (omega arith) h)
-    message_within (in_right a) n k r low h = (shallow k (omega arith), message_within a n (k + 1) _ (omega arith) h)
-    message_within (enc a b) n k r low h = (shallow k (omega arith), message_within a n (k + 1) _ (omega arith) (refl, message_within b n (k + 1) _ (omega arith) h))
-    message_within (hash a) n k r low h = (shallow k (omega arith), (refl, message_within a n (k + 1) _ (omega arith) (refl, h)))
+  -- the message, and its parts behind the first component of a tuple
+  both_within : (m : Message) (n k : ℕ) (r : List Piece) → k + message_size m ≤ 1001 → IsWithin r
+      → IsWithin (msg_pieces k (message_tree of n m) r) × IsWithin (msg_pieces k (second_tree of n m) (msgs_pieces k (rest_trees of n m) r))
+  both_within (bound i) n k r low h = twice (names (n - suc i) k r (omega arith) h)
+  both_within (name x) n k r low h = twice (names x k r (omega arith) h)
+  both_within unit n k r low h = twice (shallow k (omega arith), (refl, h))
+  both_within (pair a b) n k r low h = (
+    (shallow k (omega arith), (both_within a n (k + 1) _ (omega arith) (refl, (both_within b n (k + 1) _ (omega arith) (refl, h)).1)).0),
+    (both_within a n k _ (omega arith) (refl, (both_within b n k r (omega arith) h).1)).0,
+  )
+  both_within (in_left a) n k r low h = twice (shallow k (omega arith), (both_within a n (k + 1) _ (omega arith) h).0)
+  both_within (in_right a) n k r low h = twice (shallow k (omega arith), (both_within a n (k + 1) _ (omega arith) h).0)
+  both_within (enc a b) n k r low h = twice (shallow k (omega arith), (both_within a n (k + 1) _ (omega arith) (refl, (both_within b n (k + 1) _ (omega arith) h).0)).0)
+  both_within (hash a) n k r low h = twice (shallow k (omega arith), (refl, (both_within a n (k + 1) _ (omega arith) (refl, h)).0))
 
-    second_within : (m : Message) (n k : ℕ) (r : List Piece) → k + message_size m ≤ 1001 → IsWithin r → IsWithin (msg_pieces k (second_tree of n m) r)
-    second_within (bound i) n k r low h = names (n - suc i) k r (omega arith) h
-    second_within (name x) n k r low h = names x k r (omega arith) h
-    second_within unit n k r low h = (shallow k (omega arith), (refl, h))
-    second_within (pair a b) n k r low h = message_within a n k r (omega arith) h
-    second_within (in_left a) n k r low h = (shallow k (omega arith), message_within a n (k + 1) _ (omega arith) h)
-    second_within (in_right a) n k r low h = (shallow k (omega arith), message_within a n (k + 1) _ (omega arith) h)
-    second_within (enc a b) n k r low h = (shallow k (omega arith), message_within a n (k + 1) _ (omega arith) (refl, message_within b n (k + 1) _ (omega arith) h))
-    second_within (hash a) n k r low h = (shallow k (omega arith), (refl, message_within a n (k + 1) _ (omega arith) (refl, h)))
-
-    rest_within : (m : Message) (n k : ℕ) (r : List Piece) → k + message_size m ≤ 1001 → IsWithin r → IsWithin (msgs_pieces k (rest_trees of n m) r)
-    rest_within (bound i) n k r low h = h
-    rest_within (name x) n k r low h = h
-    rest_within unit n k r low h = h
-    rest_within (pair a b) n k r low h = (refl, second_within b n k _ (omega arith) (rest_within b n k r (omega arith) h))
-    rest_within (in_left a) n k r low h = h
-    rest_within (in_right a) n k r low h = h
-    rest_within (enc a b) n k r low h = h
-    rest_within (hash a) n k r low h = h
+  pub message_within : (m : Message) (n k : ℕ) (r : List Piece) → k + message_size m ≤ 1001 → IsWithin r → IsWithin (msg_pieces k (message_tree of n m) r)
+  message_within m n k r low h = (both_within m n k r low h).0
 
   atom_within : (a : Atom) (n k : ℕ) (r : List Piece) → k + atom_nodes a ≤ 1001 → IsWithin r → IsWithin (atom_pieces k (atom_tree of n a) r)
   atom_within (ends m) n k r low h = (shallow k (omega arith), message_within m n (k + 1) _ (omega arith) h)
@@ -96,31 +82,22 @@ module _ (spell : ℕ → List ℕ) where
   nonce_within : (es : Effect) (n k : ℕ) (r : List Piece) → k + effect_nodes es ≤ 1001 → IsWithin r → IsWithin (effect_pieces k (atom_trees (spelled_name spell) n es) r)
   nonce_within es n k r low h = effect_within (spelled_name spell) name_within es n k r (are_low (spelled_name spell) name_within k es low) h
 
-  mutual
-    type_within : (a : Ty) (n k : ℕ) (r : List Piece) → k + ty_nodes a ≤ 1001 → IsWithin r → IsWithin (ty_pieces k (type_tree spell n a) r)
-    type_within un n k r low h = (shallow k (omega arith), h)
-    type_within unit_ty n k r low h = (shallow k (omega arith), (refl, h))
-    type_within (pair_ty a b) n k r low h =
-        (shallow k (omega arith), (refl, (refl, type_within a n (k + 1) _ (omega arith) (refl, fields_within b (suc n) (k + 1) _ (omega arith) (last_within b (suc n) (k + 1) _ (omega arith) (refl, h))))))
-    type_within (sum_ty a b) n k r low h = (shallow k (omega arith), type_within a n (k + 1) _ (omega arith) (refl, type_within b n (k + 1) _ (omega arith) (refl, h)))
-    type_within (key a) n k r low h = (shallow k (omega arith), (refl, type_within a n (k + 1) _ (omega arith) (refl, h)))
-    type_within (nonce es) n k r low h = (shallow k (omega arith), nonce_within es n (k + 1) _ (omega arith) h)
+  -- the type, and its parts behind the first component of a tuple
+  type_both_within : (a : Ty) (n k : ℕ) (r : List Piece) → k + ty_nodes a ≤ 1001 → IsWithin r
+      → IsWithin (ty_pieces k (type_tree spell n a) r) × IsWithin (fields_pieces k (field_trees spell n a) (last_pieces k (last_tree spell n a) r))
+  type_both_within un n k r low h = twice (shallow k (omega arith), h)
+  type_both_within unit_ty n k r low h = twice (shallow k (omega arith), (refl, h))
+  type_both_within (pair_ty a b) n k r low h = (
+    (shallow k (omega arith), (refl, (refl, (type_both_within a n (k + 1) _ (omega arith) (refl, (type_both_within b (suc n) (k + 1) _ (omega arith) (refl, h)).1)).0))),
+    (refl, (refl, (type_both_within a n k _ (omega arith) (refl, (type_both_within b (suc n) k r (omega arith) h).1)).0)),
+  )
+  type_both_within (sum_ty a b) n k r low h =
+      twice (shallow k (omega arith), (type_both_within a n (k + 1) _ (omega arith) (refl, (type_both_within b n (k + 1) _ (omega arith) (refl, h)).0)).0)
+  type_both_within (key a) n k r low h = twice (shallow k (omega arith), (refl, (type_both_within a n (k + 1) _ (omega arith) (refl, h)).0))
+  type_both_within (nonce es) n k r low h = twice (shallow k (omega arith), nonce_within es n (k + 1) _ (omega arith) h)
 
-    fields_within : (a : Ty) (n k : ℕ) (r : List Piece) → k + ty_nodes a ≤ 1001 → IsWithin r → IsWithin (fields_pieces k (field_trees spell n a) r)
-    fields_within un n k r low h = h
-    fields_within unit_ty n k r low h = h
-    fields_within (pair_ty a b) n k r low h = (refl, (refl, type_within a n k _ (omega arith) (refl, fields_within b (suc n) k r (omega arith) h)))
-    fields_within (sum_ty a b) n k r low h = h
-    fields_within (key a) n k r low h = h
-    fields_within (nonce es) n k r low h = h
-
-    last_within : (a : Ty) (n k : ℕ) (r : List Piece) → k + ty_nodes a ≤ 1001 → IsWithin r → IsWithin (last_pieces k (last_tree spell n a) r)
-    last_within un n k r low h = (shallow k (omega arith), h)
-    last_within unit_ty n k r low h = (shallow k (omega arith), (refl, h))
-    last_within (pair_ty a b) n k r low h = last_within b (suc n) k r (omega arith) h
-    last_within (sum_ty a b) n k r low h = (shallow k (omega arith), type_within a n (k + 1) _ (omega arith) (refl, type_within b n (k + 1) _ (omega arith) (refl, h)))
-    last_within (key a) n k r low h = (shallow k (omega arith), (refl, type_within a n (k + 1) _ (omega arith) (refl, h)))
-    last_within (nonce es) n k r low h = (shallow k (omega arith), nonce_within es n (k + 1) _ (omega arith) h)
+  type_within : (a : Ty) (n k : ℕ) (r : List Piece) → k + ty_nodes a ≤ 1001 → IsWithin r → IsWithin (ty_pieces k (type_tree spell n a) r)
+  type_within a n k r low h = (type_both_within a n k r low h).0
 
 -- ---- processes
 

@@ -10,8 +10,7 @@ use Rattle.spi_lex.specs.declared.token.Kind.TheVariants as kinds
 use Rattle.spi_lex.specs.Lexing.{kinds_of}
 use Rattle.spi_tree.specs.declared.tree.SWord.{SWord}
 use Rattle.spi_tree.specs.Trees as t
-use Rattle.spi_tree.specs.Pieces.{Piece, closes, derivation_limit, deriv_pieces, derivs_pieces}
-use Rattle.spi_parse.specs.Exact.{Spells}
+use Rattle.spi_tree.specs.Pieces.{closes, derivation_limit, deriv_pieces, derivs_pieces}
 use Rattle.spi_parse.specs.Formed.{number_of}
 use Rattle.spi_parse.specs.Rules.{arity_of, writes_effect, is_late}
 use Rattle.spi_parse.specs.Shapes.{is_sub}
@@ -25,6 +24,7 @@ use Rattle.spi_rules.proofs.Named.{rules, each_named}
 use Rattle.spi_scope.specs.Parts.{uses_in, all_uses_in}
 use Rattle.spi_scope.specs.Points.{Point, in_order, deriv_points, derivs_points}
 use Rattle.spi_scope.proofs.Rules.{rule_found}
+use Rattle.spi_spell.proofs.Reading.{Reads}
 
 -- the tokens of rule uses that write no effect
 abbrev pub rule_words : List RuleUse → List Kind
@@ -39,50 +39,31 @@ plain_join : (us vs : List RuleUse) → ArePlain us → ArePlain vs → ArePlain
 plain_join [] vs h k = k
 plain_join (u ∷ us) vs h k = (h.0, plain_join us vs h.1 k)
 
--- the tree of these uses at a nesting, from the tokens on which those of the uses stand first, the token before which ends at e
-pub record Read (later : Bool) (n : ℕ) (us : List RuleUse) (e : ℕ) (ts : List Token) (ks : List Kind) : Type 0 where
-  pub deriv : t.Deriv
-  pub ruled : IsRuled later deriv
-  pub are : uses_in deriv ≡ us
-  pub no_points : in_order (deriv_points deriv) ≡ []
-  pub end : ℕ
-  pub rest : List Token
-  pub left : kinds_of rest ≡ ks
-  pub spells : (after : List Token) (r : List Piece) → Spells after end r rest → Spells after e (deriv_pieces n deriv r) ts
+-- a tree that follows its rules and has no point
+abbrev pub IsTree : Bool → t.Deriv → Type 0
+IsTree later d = IsRuled later d × (in_order (deriv_points d) ≡ [])
 
--- k trees one behind another
-pub record ReadAll (later : Bool) (n k : ℕ) (us : List RuleUse) (e : ℕ) (ts : List Token) (ks : List Kind) : Type 0 where
-  pub derivs : t.Derivs
-  pub number : number_of derivs ≡ k
-  pub ruled : AreRuled later derivs
-  pub are : all_uses_in derivs ≡ us
-  pub no_points : in_order (derivs_points derivs) ≡ []
-  pub end : ℕ
-  pub rest : List Token
-  pub left : kinds_of rest ≡ ks
-  pub spells : (after : List Token) (r : List Piece) → Spells after end r rest → Spells after e (derivs_pieces n derivs r) ts
+-- k such trees
+abbrev pub AreTrees : Bool → ℕ → t.Derivs → Type 0
+AreTrees later k ds = AreRuled later ds × (in_order (derivs_points ds) ≡ []) × (number_of ds ≡ k)
 
 -- the uses are one tree, and k trees, wherever their tokens stand
 pub record Derives (later : Bool) (n : ℕ) (us : List RuleUse) : Type 0 where
   pub plain : ArePlain us
-  pub read : (e : ℕ) (ts : List Token) (ks : List Kind) → kinds_of ts ≡ rule_words us ++ ks → Read later n us e ts ks
+  pub read : (e : ℕ) (ts : List Token) (ks : List Kind) → kinds_of ts ≡ rule_words us ++ ks → Reads (IsTree later) uses_in (deriv_pieces n) us e ts ks
 
 pub record DeriveAll (later : Bool) (n k : ℕ) (us : List RuleUse) : Type 0 where
   pub plain : ArePlain us
-  pub read : (e : ℕ) (ts : List Token) (ks : List Kind) → kinds_of ts ≡ rule_words us ++ ks → ReadAll later n k us e ts ks
+  pub read : (e : ℕ) (ts : List Token) (ks : List Kind) → kinds_of ts ≡ rule_words us ++ ks → Reads (AreTrees later k) all_uses_in (derivs_pieces n) us e ts ks
 
 pub no_premise : (later : Bool) (n : ℕ) → DeriveAll later n 0 []
 no_premise later n = record {
   plain = tt;
   read = λ e ts ks is. record {
-    derivs = t.no_derivs;
-    number = refl;
-    ruled = tt;
+    read = t.no_derivs;
+    is = (tt, refl, refl);
     are = refl;
-    no_points = refl;
-    end = e;
-    rest = ts;
-    left = is;
+    rest = record { end = e; tokens = ts; left = is };
     spells = λ after r h. h;
   };
 }
@@ -93,14 +74,10 @@ last_premise {us = us} d = record {
   read = λ e ts ks is.
       let x = d.read e ts ks is in
       record {
-        derivs = t.more_derivs x.deriv t.no_derivs;
-        number = refl;
-        ruled = (x.ruled, tt);
-        are = append-nil (uses_in x.deriv) ∙ x.are;
-        no_points = append-nil (in_order (deriv_points x.deriv)) ∙ x.no_points;
-        end = x.end;
+        read = t.more_derivs x.read t.no_derivs;
+        is = ((x.is.0, tt), append-nil (in_order (deriv_points x.read)) ∙ x.is.1, refl);
+        are = append-nil (uses_in x.read) ∙ x.are;
         rest = x.rest;
-        left = x.left;
         spells = x.spells;
       };
 }
@@ -111,17 +88,13 @@ premise {n = n} {us = us} {vs = vs} d ds = record {
   read = λ e ts ks is.
       let split : rule_words (us ++ vs) ++ ks ≡ rule_words us ++ (rule_words vs ++ ks) = ap (λ (l : List Kind). l ++ ks) (map-append (λ (u : RuleUse). kinds.Word (spelled u.rule)) us vs) ∙ append_assoc (rule_words us) (rule_words vs) ks in
       let x = d.read e ts (rule_words vs ++ ks) (is ∙ split) in
-      let y = ds.read x.end x.rest ks x.left in
+      let y = ds.read x.rest.end x.rest.tokens ks x.rest.left in
       record {
-        derivs = t.more_derivs x.deriv y.derivs;
-        number = ap suc y.number;
-        ruled = (x.ruled, y.ruled);
-        are = ap (λ (l : List RuleUse). l ++ all_uses_in y.derivs) x.are ∙ ap (λ (l : List RuleUse). us ++ l) y.are;
-        no_points = ap (λ (l : List Point). l ++ in_order (derivs_points y.derivs)) x.no_points ∙ y.no_points;
-        end = y.end;
+        read = t.more_derivs x.read y.read;
+        is = ((x.is.0, y.is.0), ap (λ (l : List Point). l ++ in_order (derivs_points y.read)) x.is.1 ∙ y.is.1, ap suc y.is.2);
+        are = ap (λ (l : List RuleUse). l ++ all_uses_in y.read) x.are ∙ ap (λ (l : List RuleUse). us ++ l) y.are;
         rest = y.rest;
-        left = y.left;
-        spells = λ after r h. x.spells after (derivs_pieces n y.derivs r) (y.spells after r h);
+        spells = λ after r h. x.spells after (derivs_pieces n y.read r) (y.spells after r h);
       };
 }
 
@@ -146,7 +119,7 @@ rule {later = later} {n = n} {us = us} r plain early low ds = record {
   read = go;
 }
   where
-    go : (e : ℕ) (ts : List Token) (ks : List Kind) → kinds_of ts ≡ rule_words (uses r us) ++ ks → Read later n (uses r us) e ts ks
+    go : (e : ℕ) (ts : List Token) (ks : List Kind) → kinds_of ts ≡ rule_words (uses r us) ++ ks → Reads (IsTree later) uses_in (deriv_pieces n) (uses r us) e ts ks
     go e [] ks is = absurd cc
     go e (token ∷ ts) ks is =
         let kind : token.kind ≡ kinds.Word (spelled r) = cc in
@@ -155,12 +128,9 @@ rule {later = later} {n = n} {us = us} r plain early low ds = record {
         let not_deep : nat_lt derivation_limit n ≡ false = le-ltb derivation_limit n low in
         let w : SWord = record { word = spelled r; span = token.span } in
         record {
-          deriv = t.rule (record { from = token.span.from; to = y.end }) w None y.derivs;
-          ruled = (has_arity later r early ∙ ap Some (sym y.number), writes_none r plain, tt, y.ruled);
-          are = ap (λ (x : Rule). record { rule = x; taken = None } ∷ all_uses_in y.derivs) (sym (rule_found r (spelled r) refl)) ∙ ap (λ (l : List RuleUse). record { rule = r; taken = None } ∷ l) y.are;
-          no_points = y.no_points;
-          end = y.end;
+          read = t.rule (record { from = token.span.from; to = y.rest.end }) w None y.read;
+          is = ((has_arity later r early ∙ ap Some (sym y.is.2), writes_none r plain, tt, y.is.0), y.is.1);
+          are = ap (λ (x : Rule). record { rule = x; taken = None } ∷ all_uses_in y.read) (sym (rule_found r (spelled r) refl)) ∙ ap (λ (l : List RuleUse). record { rule = r; taken = None } ∷ l) y.are;
           rest = y.rest;
-          left = y.left;
-          spells = λ after p h. (refl, (refl, (kind, not_deep, (refl, y.spells after (closes y.end ∷ p) (refl, h)))));
+          spells = λ after p h. (refl, (refl, (kind, not_deep, (refl, y.spells after (closes y.rest.end ∷ p) (refl, h)))));
         }

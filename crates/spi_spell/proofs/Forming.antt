@@ -2,9 +2,10 @@
 use Rattle.std.proofs.Common.{◌≡◌, ℕ, suc, ◌+◌, ◌-◌, Bool, true, false, List, [], ◌∷◌, map, length, Option, Some, None, refl, sym, ap, ◌∙◌}
 use Rattle.std.specs.Prelude.{⊤}
 use Rattle.spi_tree.specs.Trees as t
-use Rattle.spi_tree.specs.Pieces.{Place, in_seq, at_level, tokens_of}
+use Rattle.spi_tree.specs.Pieces.{Place, in_seq, at_level, nesting_of, tokens_of}
 use Rattle.spi_tree.specs.Formed.{AreWordsFit, IsMsg, AreMsgs, IsAtom, AreAtoms, IsTy, AreFields, IsLast, IsProc, AreDeclared, IsWritten, IsDeriv, AreDerivs, IsOpponent, IsDerivation}
 use Rattle.spi_parse.specs.Formed.{number_of, is_written, HasRules, HaveRules, IsDerived, IsFile}
+use Rattle.spi_parse.proofs.TableLaws.{seq_is_proc}
 use Rattle.spi_term.specs.Term.{Message, bound, name, unit, pair, in_left, in_right, enc, hash, Atom, ends, checks, many, Effect, Ty, un, unit_ty, pair_ty, sum_ty, key, nonce, Leaf, Sends, Stops, Prefix, Recvs, Serves, Splits, Selects, Decrypts, Checks, Begins, Ends, EndManys, Casts, Makes, Cases, Pars, Process, leaf, prefix, fork, binds}
 use Rattle.spi_term.specs.Spelling.{Spelling}
 use Rattle.spi_scope.specs.Meaning.{nested}
@@ -12,42 +13,26 @@ use Rattle.spi_scope.specs.Parts.{numbered_message, numbered_messages, numbered_
 use Rattle.spi_scope.specs.StandsFor.{Meant}
 use Rattle.spi_show.specs.Spelled.{name_text}
 use Rattle.spi_show.specs.Processes.{Standing, alone, sequel}
-use Rattle.spi_spell.proofs.Printed.{spelled_name, numbered_name, message_tree, second_tree, rest_trees, atom_tree, atom_trees, type_tree, field_trees, last_tree, leaf_tree, prefix_tree, process_tree, free_trees, part_tree, opponent_tree, written_tree, deriv_tree, deriv_trees, derivation_tree, file_tree}
+use Rattle.spi_spell.proofs.Printed.{spelled_name, numbered_name, message_tree, second_tree, rest_trees, second_part, parts_of_type, atom_tree, atom_trees, type_tree, field_trees, last_tree, leaf_tree, prefix_tree, process_tree, free_trees, part_tree, opponent_tree, written_tree, deriv_tree, deriv_trees, derivation_tree, file_tree}
 use Rattle.spi_spell.proofs.Printable.{HasVersion, MessageFits, AtomFits, EffectFits, PartsFit, TyFits, LeafFits, PrefixFits, ProcessFits, IsPart, IsOpponentPart, is_later, IsPrintable}
 
 -- ---- messages and types
 
 module _ (later numbered : Bool) (of : ℕ → t.Msg) (names : (i : ℕ) → IsMsg later numbered (of i)) where
-  mutual
-    pub message_formed : (n : ℕ) (m : Message) → HasVersion later m → IsMsg later numbered (message_tree of n m)
-    message_formed n (bound i) h = names (n - suc i)
-    message_formed n (name x) h = names x
-    message_formed n unit h = tt
-    message_formed n (pair a b) h = (message_formed n a h.0, second_formed n b h.1, rest_formed n b h.1)
-    message_formed n (in_left a) h = message_formed n a h
-    message_formed n (in_right a) h = message_formed n a h
-    message_formed n (enc a b) h = (message_formed n a h.0, message_formed n b h.1)
-    message_formed n (hash a) h = (h.0, message_formed n a h.1)
+  -- the parts of a tuple behind its first
+  parts_formed : (n : ℕ) (m : Message) → IsMsg later numbered (message_tree of n m) → IsMsg later numbered (second_tree of n m) × AreMsgs later numbered (rest_trees of n m)
+  parts_formed n =
+      second_part of n (λ (a : t.Msg) (ms : t.Msgs) (x : t.Msg). IsMsg later numbered x → IsMsg later numbered a × AreMsgs later numbered ms) (λ x h. (h, tt)) (λ a b ms h. (h.0, (h.1, h.2)))
 
-    second_formed : (n : ℕ) (m : Message) → HasVersion later m → IsMsg later numbered (second_tree of n m)
-    second_formed n (bound i) h = names (n - suc i)
-    second_formed n (name x) h = names x
-    second_formed n unit h = tt
-    second_formed n (pair a b) h = message_formed n a h.0
-    second_formed n (in_left a) h = message_formed n a h
-    second_formed n (in_right a) h = message_formed n a h
-    second_formed n (enc a b) h = (message_formed n a h.0, message_formed n b h.1)
-    second_formed n (hash a) h = (h.0, message_formed n a h.1)
-
-    rest_formed : (n : ℕ) (m : Message) → HasVersion later m → AreMsgs later numbered (rest_trees of n m)
-    rest_formed n (bound i) h = tt
-    rest_formed n (name x) h = tt
-    rest_formed n unit h = tt
-    rest_formed n (pair a b) h = (second_formed n b h.1, rest_formed n b h.1)
-    rest_formed n (in_left a) h = tt
-    rest_formed n (in_right a) h = tt
-    rest_formed n (enc a b) h = tt
-    rest_formed n (hash a) h = tt
+  pub message_formed : (n : ℕ) (m : Message) → HasVersion later m → IsMsg later numbered (message_tree of n m)
+  message_formed n (bound i) h = names (n - suc i)
+  message_formed n (name x) h = names x
+  message_formed n unit h = tt
+  message_formed n (pair a b) h = (let k = parts_formed n b (message_formed n b h.1) in (message_formed n a h.0, k.0, k.1))
+  message_formed n (in_left a) h = message_formed n a h
+  message_formed n (in_right a) h = message_formed n a h
+  message_formed n (enc a b) h = (message_formed n a h.0, message_formed n b h.1)
+  message_formed n (hash a) h = (h.0, message_formed n a h.1)
 
   atom_formed : (n : ℕ) (a : Atom) → AtomFits later a → IsAtom later numbered (atom_tree of n a)
   atom_formed n (ends m) h = message_formed n m h.1
@@ -65,30 +50,18 @@ module _ (later : Bool) (spell : ℕ → List ℕ) where
   effect_formed : (n : ℕ) (es : Effect) → EffectFits later es → AreAtoms later false (atom_trees (spelled_name spell) n es)
   effect_formed n es h = atoms_formed later false (spelled_name spell) (λ i. refl) n es h
 
-  mutual
-    type_formed : (n : ℕ) (a : Ty) → PartsFit later a → IsTy later (type_tree spell n a)
-    type_formed n un h = tt
-    type_formed n unit_ty h = tt
-    type_formed n (pair_ty a b) h = (type_formed n a h.0, fields_formed (suc n) b h.1, last_formed (suc n) b h.1)
-    type_formed n (sum_ty a b) h = (type_formed n a h.0, type_formed n b h.1)
-    type_formed n (key a) h = type_formed n a h
-    type_formed n (nonce es) h = effect_formed n es h
+  -- the parts of a tuple type behind its first
+  fields_formed : (n : ℕ) (a : Ty) → IsTy later (type_tree spell n a) → AreFields later (field_trees spell n a) × IsLast later (last_tree spell n a)
+  fields_formed n =
+      parts_of_type spell n (λ (fs : t.Fields) (l : t.Last) (x : t.Ty). IsTy later x → AreFields later fs × IsLast later l) (λ x h. (tt, h)) (λ w a fs l h. ((h.0, h.1), h.2))
 
-    fields_formed : (n : ℕ) (a : Ty) → PartsFit later a → AreFields later (field_trees spell n a)
-    fields_formed n un h = tt
-    fields_formed n unit_ty h = tt
-    fields_formed n (pair_ty a b) h = (type_formed n a h.0, fields_formed (suc n) b h.1)
-    fields_formed n (sum_ty a b) h = tt
-    fields_formed n (key a) h = tt
-    fields_formed n (nonce es) h = tt
-
-    last_formed : (n : ℕ) (a : Ty) → PartsFit later a → IsLast later (last_tree spell n a)
-    last_formed n un h = tt
-    last_formed n unit_ty h = tt
-    last_formed n (pair_ty a b) h = last_formed (suc n) b h.1
-    last_formed n (sum_ty a b) h = (type_formed n a h.0, type_formed n b h.1)
-    last_formed n (key a) h = type_formed n a h
-    last_formed n (nonce es) h = effect_formed n es h
+  type_formed : (n : ℕ) (a : Ty) → PartsFit later a → IsTy later (type_tree spell n a)
+  type_formed n un h = tt
+  type_formed n unit_ty h = tt
+  type_formed n (pair_ty a b) h = (let k = fields_formed (suc n) b (type_formed (suc n) b h.1) in (type_formed n a h.0, k.0, k.1))
+  type_formed n (sum_ty a b) h = (type_formed n a h.0, type_formed n b h.1)
+  type_formed n (key a) h = type_formed n a h
+  type_formed n (nonce es) h = effect_formed n es h
 
   -- ---- processes
 
@@ -99,43 +72,35 @@ module _ (later : Bool) (spell : ℕ → List ℕ) where
   bounded_formed : (n : ℕ) (a : Ty) → TyFits later a → IsTy later (type_tree spell n a)
   bounded_formed n a h = type_formed n a h.1
 
-  leaf_formed : (at : Standing) (k n : ℕ) (l : Leaf) → LeafFits later l → IsProc later (place_of at k) (leaf_tree spell n l)
-  leaf_formed alone k n (Sends a b) h = (spelled_formed n a h.0, spelled_formed n b h.1)
-  leaf_formed sequel k n (Sends a b) h = (spelled_formed n a h.0, spelled_formed n b h.1)
-  leaf_formed alone k n Stops h = tt
-  leaf_formed sequel k n Stops h = tt
+  -- what may stand in a sequence may stand at a level
+  placed : (at : Standing) (k : ℕ) (q : t.Proc) → IsProc later (in_seq (nesting_of (place_of at k))) q → IsProc later (place_of at k) q
+  placed sequel k q h = h
+  placed alone k q h = seq_is_proc later k q h
 
-  -- each form, whatever its place
-  prefix_formed : (at : Standing) (k n : ℕ) (s : Prefix) (p : t.Proc) → PrefixFits later s → ((i : ℕ) → IsProc later (in_seq i) p) → IsProc later (place_of at k) (prefix_tree spell n s p)
-  prefix_formed alone k n (Recvs m a) p h go = (spelled_formed n m h.0, bounded_formed n a h.1, go _)
-  prefix_formed alone k n (Serves m a) p h go = (spelled_formed n m h.0, bounded_formed n a h.1, go _)
-  prefix_formed alone k n (Splits m a b) p h go = (spelled_formed n m h.0, bounded_formed n a h.1, bounded_formed (suc n) b h.2, go _)
-  prefix_formed alone k n (Selects m a j b) p h go = (spelled_formed n m h.0, bounded_formed n a h.1, spelled_formed n j h.2, bounded_formed (suc n) b h.3, go _)
-  prefix_formed alone k n (Decrypts m a j) p h go = (spelled_formed n m h.0, bounded_formed n a h.1, spelled_formed n j h.2, go _)
-  prefix_formed alone k n (Checks m j) p h go = (spelled_formed n m h.0, spelled_formed n j h.1, go _)
-  prefix_formed alone k n (Begins m) p h go = (spelled_formed n m h, go _)
-  prefix_formed alone k n (Ends m) p h go = (spelled_formed n m h, go _)
-  prefix_formed alone k n (EndManys m) p h go = (h.0, spelled_formed n m h.1, go _)
-  prefix_formed alone k n (Casts m a) p h go = (spelled_formed n m h.0, bounded_formed n a h.1, go _)
-  prefix_formed alone k n (Makes a) p h go = (bounded_formed n a h, go _)
-  prefix_formed sequel k n (Recvs m a) p h go = (spelled_formed n m h.0, bounded_formed n a h.1, go _)
-  prefix_formed sequel k n (Serves m a) p h go = (spelled_formed n m h.0, bounded_formed n a h.1, go _)
-  prefix_formed sequel k n (Splits m a b) p h go = (spelled_formed n m h.0, bounded_formed n a h.1, bounded_formed (suc n) b h.2, go _)
-  prefix_formed sequel k n (Selects m a j b) p h go = (spelled_formed n m h.0, bounded_formed n a h.1, spelled_formed n j h.2, bounded_formed (suc n) b h.3, go _)
-  prefix_formed sequel k n (Decrypts m a j) p h go = (spelled_formed n m h.0, bounded_formed n a h.1, spelled_formed n j h.2, go _)
-  prefix_formed sequel k n (Checks m j) p h go = (spelled_formed n m h.0, spelled_formed n j h.1, go _)
-  prefix_formed sequel k n (Begins m) p h go = (spelled_formed n m h, go _)
-  prefix_formed sequel k n (Ends m) p h go = (spelled_formed n m h, go _)
-  prefix_formed sequel k n (EndManys m) p h go = (h.0, spelled_formed n m h.1, go _)
-  prefix_formed sequel k n (Casts m a) p h go = (spelled_formed n m h.0, bounded_formed n a h.1, go _)
-  prefix_formed sequel k n (Makes a) p h go = (bounded_formed n a h, go _)
+  leaf_formed : (k n : ℕ) (l : Leaf) → LeafFits later l → IsProc later (in_seq k) (leaf_tree spell n l)
+  leaf_formed k n (Sends a b) h = (spelled_formed n a h.0, spelled_formed n b h.1)
+  leaf_formed k n Stops h = tt
+
+  prefix_formed : (k n : ℕ) (s : Prefix) (p : t.Proc) → PrefixFits later s → IsProc later (in_seq (k + 1)) p → IsProc later (in_seq k) (prefix_tree spell n s p)
+  prefix_formed k n (Recvs m a) p h g = (spelled_formed n m h.0, bounded_formed n a h.1, g)
+  prefix_formed k n (Serves m a) p h g = (spelled_formed n m h.0, bounded_formed n a h.1, g)
+  prefix_formed k n (Splits m a b) p h g = (spelled_formed n m h.0, bounded_formed n a h.1, bounded_formed (suc n) b h.2, g)
+  prefix_formed k n (Selects m a j b) p h g = (spelled_formed n m h.0, bounded_formed n a h.1, spelled_formed n j h.2, bounded_formed (suc n) b h.3, g)
+  prefix_formed k n (Decrypts m a j) p h g = (spelled_formed n m h.0, bounded_formed n a h.1, spelled_formed n j h.2, g)
+  prefix_formed k n (Checks m j) p h g = (spelled_formed n m h.0, spelled_formed n j h.1, g)
+  prefix_formed k n (Begins m) p h g = (spelled_formed n m h, g)
+  prefix_formed k n (Ends m) p h g = (spelled_formed n m h, g)
+  prefix_formed k n (EndManys m) p h g = (h.0, spelled_formed n m h.1, g)
+  prefix_formed k n (Casts m a) p h g = (spelled_formed n m h.0, bounded_formed n a h.1, g)
+  prefix_formed k n (Makes a) p h g = (bounded_formed n a h, g)
 
   process_formed : (at : Standing) (k n : ℕ) (p : Process) → ProcessFits later p → IsProc later (place_of at k) (process_tree spell at n p)
-  process_formed at k n (leaf l) h = leaf_formed at k n l h
-  process_formed at k n (prefix s p) h = prefix_formed at k n s (process_tree spell sequel (n + binds s) p) h.0 (λ i. process_formed sequel i (n + binds s) p h.1)
-  process_formed alone k n (fork (Cases m a b) p q) h =
-      (spelled_formed n m h.0.0, bounded_formed n a h.0.1, process_formed sequel _ (n + 1) p h.1, bounded_formed n b h.0.2, process_formed sequel _ (n + 1) q h.2)
-  process_formed sequel k n (fork (Cases m a b) p q) h =
+  process_formed at k n (leaf l) h = placed at k (leaf_tree spell n l) (leaf_formed _ n l h)
+  process_formed at k n (prefix s p) h =
+      let behind = process_tree spell sequel (n + binds s) p in
+      placed at k (prefix_tree spell n s behind) (prefix_formed _ n s behind h.0 (process_formed sequel _ (n + binds s) p h.1))
+  process_formed at k n (fork (Cases m a b) p q) h =
+      placed at k (process_tree spell at n (fork (Cases m a b) p q))
       (spelled_formed n m h.0.0, bounded_formed n a h.0.1, process_formed sequel _ (n + 1) p h.1, bounded_formed n b h.0.2, process_formed sequel _ (n + 1) q h.2)
   process_formed alone k n (fork Pars p q) h = (process_formed sequel (k + 1) n p h.1, process_formed alone (k + 1) n q h.2)
   process_formed sequel k n (fork Pars (leaf (Sends a b)) q) h = (spelled_formed n a h.1.0, spelled_formed n b h.1.1, process_formed sequel (k + 1) n q h.2)
@@ -194,18 +159,6 @@ module _ (later : Bool) where
   written_formed None h = tt
   written_formed (Some es) h = numbered_atoms_formed es h
 
-  mutual
-    deriv_formed : (d : t.Deriv) → IsDeriv later d → IsDeriv later (deriv_tree d)
-    deriv_formed (t.rule s w es ds) h = (written_formed es h.0, derivs_formed ds h.1)
-
-    derivs_formed : (ds : t.Derivs) → AreDerivs later ds → AreDerivs later (deriv_trees ds)
-    derivs_formed t.no_derivs h = tt
-    derivs_formed (t.more_derivs d ds) h = (deriv_formed d h.0, derivs_formed ds h.1)
-
-  derivation_formed : (d : Option t.Deriv) → IsDerivation later d → IsDerivation later (derivation_tree d)
-  derivation_formed None h = tt
-  derivation_formed (Some d) h = deriv_formed d h
-
   same_number : (ds : t.Derivs) → number_of (deriv_trees ds) ≡ number_of ds
   same_number t.no_derivs = refl
   same_number (t.more_derivs d ds) = ap suc (same_number ds)
@@ -215,16 +168,21 @@ module _ (later : Bool) where
   same_written (Some es) = refl
 
   mutual
-    rules_kept : (d : t.Deriv) → HasRules later d → HasRules later (deriv_tree d)
-    rules_kept (t.rule s w es ds) h = (h.0 ∙ ap Some (sym (same_number ds)), h.1 ∙ sym (same_written es), all_rules_kept ds h.2)
+    deriv_kept : (d : t.Deriv) → IsDeriv later d × HasRules later d → IsDeriv later (deriv_tree d) × HasRules later (deriv_tree d)
+    deriv_kept (t.rule s w es ds) h =
+        let k = derivs_kept ds (h.0.1, h.1.2) in
+        ((written_formed es h.0.0, k.0), (h.1.0 ∙ ap Some (sym (same_number ds)), h.1.1 ∙ sym (same_written es), k.1))
 
-    all_rules_kept : (ds : t.Derivs) → HaveRules later ds → HaveRules later (deriv_trees ds)
-    all_rules_kept t.no_derivs h = tt
-    all_rules_kept (t.more_derivs d ds) h = (rules_kept d h.0, all_rules_kept ds h.1)
+    derivs_kept : (ds : t.Derivs) → AreDerivs later ds × HaveRules later ds → AreDerivs later (deriv_trees ds) × HaveRules later (deriv_trees ds)
+    derivs_kept t.no_derivs h = (tt, tt)
+    derivs_kept (t.more_derivs d ds) h =
+        let k = deriv_kept d (h.0.0, h.1.0) in
+        let ks = derivs_kept ds (h.0.1, h.1.1) in
+        ((k.0, ks.0), (k.1, ks.1))
 
-  derived_kept : (d : Option t.Deriv) → IsDerived later d → IsDerived later (derivation_tree d)
-  derived_kept None h = tt
-  derived_kept (Some d) h = rules_kept d h
+  derivation_kept : (d : Option t.Deriv) → IsDerivation later d × IsDerived later d → IsDerivation later (derivation_tree d) × IsDerived later (derivation_tree d)
+  derivation_kept None h = (tt, tt)
+  derivation_kept (Some d) h = deriv_kept d h
 
 -- ---- files
 
@@ -239,8 +197,8 @@ tree_formed s f d h words = record {
     decls = free_formed (is_later f) f.names;
     process = part_formed (is_later f) (name_text s f.names) (length f.names) f.process h.process;
     opponent = opponent_formed (is_later f) (name_text s f.names) (length f.names) f.opponent h.opponent;
-    derivation = derivation_formed (is_later f) d h.derivation.formed;
+    derivation = (derivation_kept (is_later f) d (h.derivation.formed, h.derivation.rules)).0;
     words = words;
   };
-  rules = derived_kept (is_later f) d h.derivation.rules;
+  rules = (derivation_kept (is_later f) d (h.derivation.formed, h.derivation.rules)).1;
 }

@@ -1,5 +1,5 @@
 -- A file with a derivation or a schedule more.
-use Rattle.std.proofs.Common.{◌≡◌, ℕ, ◌+◌, ◌≤◌, Bool, true, false, List, [], ◌∷◌, ◌++◌, length, map, Option, Some, None, Ok, refl, sym, ◌∙◌, ap, subst, arith, append-nil}
+use Rattle.std.proofs.Common.{◌≡◌, ℕ, ◌+◌, ◌≤◌, true, false, List, [], ◌∷◌, ◌++◌, length, map, Option, Some, None, Ok, refl, sym, ◌∙◌, ap, subst, arith, append-nil}
 use Rattle.std.specs.List.{AllByRecursion}
 use Rattle.spi_lex.specs.declared.token.Token.{Token}
 use Rattle.spi_lex.specs.declared.token.Kind.TheVariants as kinds
@@ -12,7 +12,7 @@ use Rattle.spi_tree.specs.Formed.{is_later}
 use Rattle.spi_parse.specs.Exact.{Spells}
 use Rattle.spi_parse.specs.Formed.{IsFile, whole_file}
 use Rattle.spi_parse.proofs.Lexed.{kinds_fit}
-use Rattle.spi_parse.proofs.Spell.{IsRuledFile, IsRuled}
+use Rattle.spi_parse.proofs.Spell.{IsRuledFile}
 use Rattle.spi_parse.proofs.Spelled.{tokens_spelled, spelled_within}
 use Rattle.spi_parse.proofs.Words.{file_ruled, file_made}
 use Rattle.spi_term.specs.Spelling.{Spelling}
@@ -28,7 +28,8 @@ use Rattle.spi_spell.specs.Spelled.{limit, IsTreeOf, SpellsFile}
 use Rattle.spi_spell.specs.Joined.{with_derivation, with_schedule, joined, schedule_text, HasLowPlaces}
 use Rattle.spi_spell.proofs.Together.{text_behind}
 use Rattle.spi_tree.proofs.Same.{same_version, same_decls, same_proc, same_opponent, same_schedule}
-use Rattle.spi_spell.proofs.Derived.{Derives, rule_words}
+use Rattle.spi_spell.proofs.Derived.{Derives, IsTree, rule_words}
+use Rattle.spi_spell.proofs.Reading.{reads_behind}
 use Rattle.spi_spell.proofs.Fitting.{Fits, effect_derives}
 use Rattle.spi_spell.proofs.Past.{past_version, past_decls}
 use Rattle.spi_spell.proofs.Shallow.{proc_fits, small}
@@ -70,9 +71,9 @@ derivation_on more f x y h = schedule_on more f _ _ (same_schedule (GoesOn more)
 closed_on : (more : List Token) (to : ℕ) (y : List Piece) → ((e : ℕ) → Spells [] e y more) → GoesOn more (closes to ∷ []) y
 closed_on more to y f = record { on = λ e ts h. subst (λ (us : List Token). Spells [] e y (us ++ more)) (sym h.1) (f e) }
 
-none_left : (ts : List Token) → kinds_of ts ≡ [] → ts ≡ []
-none_left [] h = refl
-none_left (t ∷ ts) h = absurd cc
+-- a file with no derivation, up to its end
+to_end : (f : t.File) (ts : List Token) → f.derivation ≡ None → Spells [] 0 (whole_file f) ts → Spells [] 0 (opens f.span.from ∷ to_schedule f (schedule_pieces f.schedule (closes f.span.to ∷ []))) ts
+to_end f ts none h = subst (λ (o : Option t.Deriv). Spells [] 0 (opens f.span.from ∷ to_schedule f (schedule_pieces f.schedule (derivation_pieces o (ends f.span [])))) ts) none h
 
 -- ---- formed files
 
@@ -107,30 +108,6 @@ derived bytes tree file d is stands canonical =
 abbrev tree_with_derivation : t.File → t.Deriv → ℕ → t.File
 tree_with_derivation f d end = record { span = record { from = f.span.from; to = end }; version = f.version; decls = f.decls; process = f.process; opponent = f.opponent; schedule = f.schedule; derivation = Some d }
 
--- the tree of a derivation's tokens, with their first
-record HasDerivation (later : Bool) (d : List RuleUse) (more : List Token) : Type 0 where
-  pub deriv : t.Deriv
-  pub ruled : IsRuled later deriv
-  pub are : uses_in deriv ≡ d
-  pub no_points : in_order (deriv_points deriv) ≡ []
-  pub end : ℕ
-  pub spells : (e : ℕ) → Spells [] e (a_reserved word.Derivation (deriv_pieces 1 deriv (closes end ∷ []))) more
-
-has_derivation : (later : Bool) (d : List RuleUse) (more : List Token) → Derives later 1 d → kinds_of more ≡ kinds.Reserved word.Derivation ∷ rule_words d → HasDerivation later d more
-has_derivation later d [] derives is = absurd cc
-has_derivation later d (t ∷ ts) derives is =
-    let first : t.kind ≡ kinds.Reserved word.Derivation = cc in
-    let rest : kinds_of ts ≡ rule_words d = cc in
-    let x = derives.read t.span.to ts [] (rest ∙ sym (append-nil (rule_words d))) in
-    record {
-      deriv = x.deriv;
-      ruled = x.ruled;
-      are = x.are;
-      no_points = x.no_points;
-      end = x.end;
-      spells = λ e. (first, refl, x.spells [] (closes x.end ∷ []) (refl, none_left x.rest x.left));
-    }
-
 abbrev points_with : t.File → List Point → List Point
 points_with f l =
     let ts = all_types [] [] f.decls in
@@ -145,46 +122,24 @@ module _ (bytes : List ℕ) (file : Meant) (tree : t.File) (is : IsTreeOf bytes 
   with_a_derivation d canonical short =
       let derives = derived bytes tree file d is stands canonical in
       let b = text_behind bytes (derivation_text d) is.tokens word.Derivation (rule_words d) is.lexed (derivation_writes d derives.plain) (derivation_kinds false d) (derivation_kinds true d) in
-      let x = has_derivation (is_later tree) d b.more derives b.kinds_are in
-      let f : t.File = tree_with_derivation tree x.deriv x.end in
-      let old : Spells [] 0 (opens tree.span.from ∷ to_schedule tree (schedule_pieces tree.schedule (closes tree.span.to ∷ []))) is.tokens =
-      subst (λ (o : Option t.Deriv). Spells [] 0 (opens tree.span.from ∷ to_schedule tree (schedule_pieces tree.schedule (derivation_pieces o (ends tree.span [])))) is.tokens) tree_none is.spelled in
-      let spelled : Spells [] 0 (whole_file f) (is.tokens ++ b.more) = (derivation_on b.more tree _ _ (closed_on b.more tree.span.to (a_reserved word.Derivation (deriv_pieces 1 x.deriv (closes x.end ∷ []))) x.spells)).on 0 is.tokens old in
+      let x = reads_behind (IsTree (is_later tree)) uses_in (deriv_pieces 1) d word.Derivation (rule_words d) b.more (λ e ts. derives.read e ts []) b.kinds_are in
+      let y = x.reads in
+      let f : t.File = tree_with_derivation tree y.read y.rest.end in
+      let old = to_end tree is.tokens tree_none is.spelled in
+      let spelled : Spells [] 0 (whole_file f) (is.tokens ++ b.more) = (derivation_on b.more tree _ _ (closed_on b.more tree.span.to (a_reserved word.Derivation (deriv_pieces 1 y.read (closes y.rest.end ∷ []))) x.spells)).on 0 is.tokens old in
       let before = file_ruled tree is.formed in
-      let ruled : IsRuledFile f = record { version = before.version; decls = before.decls; process = before.process; opponent = before.opponent; derivation = x.ruled } in
-      let last : in_order (derivation_points tree.derivation) ≡ in_order (deriv_points x.deriv) = ap (λ (o : Option t.Deriv). in_order (derivation_points o)) tree_none ∙ sym x.no_points in
+      let ruled : IsRuledFile f = record { version = before.version; decls = before.decls; process = before.process; opponent = before.opponent; derivation = y.is.0 } in
+      let last : in_order (derivation_points tree.derivation) ≡ in_order (deriv_points y.read) = ap (λ (o : Option t.Deriv). in_order (derivation_points o)) tree_none ∙ sym y.is.1 in
       let clean : IsClean f = subst (λ (l : List Point). Clean 0 (points_with tree (in_order (schedule_points tree.schedule) ++ l))) last stands.clean in (
         f,
         record { within = short; tokens = is.tokens ++ b.more; lexed = b.lexed; formed = made f (joined bytes (derivation_text d)) (is.tokens ++ b.more) b.lexed ruled spelled; spelled = spelled },
-        record { clean = clean; version = stands.version; names = stands.names; process = stands.process; opponent = stands.opponent; schedule = stands.schedule; derivation = ap Some (sym x.are) },
+        record { clean = clean; version = stands.version; names = stands.names; process = stands.process; opponent = stands.opponent; schedule = stands.schedule; derivation = ap Some (sym y.are) },
       )
 
 -- ---- schedules
 
 abbrev tree_with_schedule : t.File → List t.Step → ℕ → t.File
 tree_with_schedule f xs end = record { span = record { from = f.span.from; to = end }; version = f.version; decls = f.decls; process = f.process; opponent = f.opponent; schedule = Some xs; derivation = None }
-
--- the steps of a schedule's tokens, with their first
-record HasSchedule (ss : List Step) (more : List Token) : Type 0 where
-  pub steps : List t.Step
-  pub are : map step_in steps ≡ ss
-  pub number : length steps ≡ length ss
-  pub end : ℕ
-  pub spells : (e : ℕ) → Spells [] e (a_reserved word.Schedule (steps_pieces steps (closes end ∷ []))) more
-
-has_schedule : (ss : List Step) (more : List Token) → kinds_of more ≡ kinds.Reserved word.Schedule ∷ steps_kinds ss → HasSchedule ss more
-has_schedule ss [] is = absurd cc
-has_schedule ss (t ∷ ts) is =
-    let first : t.kind ≡ kinds.Reserved word.Schedule = cc in
-    let rest : kinds_of ts ≡ steps_kinds ss = cc in
-    let x = read_steps ss t.span.to ts [] (rest ∙ sym (append-nil (steps_kinds ss))) in
-    record {
-      steps = x.steps;
-      are = x.are;
-      number = x.number;
-      end = x.end;
-      spells = λ e. (first, refl, x.spells [] (closes x.end ∷ []) (refl, none_left x.rest x.left));
-    }
 
 -- other points at the end
 clean_more : (ps qs rs : List Point) (c : ℕ) → ((d : ℕ) → Clean d qs → Clean d rs) → Clean c (ps ++ qs) → Clean c (ps ++ rs)
@@ -207,20 +162,20 @@ module _ (bytes : List ℕ) (file : Meant) (tree : t.File) (is : IsTreeOf bytes 
       let bare = no_schedule tree.schedule (sym stands.schedule ∙ no_steps) in
       let plain = no_derivation tree.derivation (sym stands.derivation ∙ none) in
       let b = text_behind bytes (schedule_text steps) is.tokens word.Schedule (steps_kinds steps) is.lexed (schedule_writes steps) (schedule_kinds false steps places) (schedule_kinds true steps places) in
-      let x = has_schedule steps b.more b.kinds_are in
-      let f : t.File = tree_with_schedule tree x.steps x.end in
-      let no_end : Spells [] 0 (opens tree.span.from ∷ to_schedule tree (schedule_pieces tree.schedule (closes tree.span.to ∷ []))) is.tokens =
-      subst (λ (o : Option t.Deriv). Spells [] 0 (opens tree.span.from ∷ to_schedule tree (schedule_pieces tree.schedule (derivation_pieces o (ends tree.span [])))) is.tokens) plain is.spelled in
+      let x = reads_behind (λ (ss : List t.Step). length ss ≡ length steps) (λ (ss : List t.Step). map step_in ss) steps_pieces steps word.Schedule (steps_kinds steps) b.more (λ e ts. read_steps steps e ts []) b.kinds_are in
+      let y = x.reads in
+      let f : t.File = tree_with_schedule tree y.read y.rest.end in
+      let no_end = to_end tree is.tokens plain is.spelled in
       let old : Spells [] 0 (opens tree.span.from ∷ to_schedule tree (closes tree.span.to ∷ [])) is.tokens =
       subst (λ (o : Option (List t.Step)). Spells [] 0 (opens tree.span.from ∷ to_schedule tree (schedule_pieces o (closes tree.span.to ∷ []))) is.tokens) bare no_end in
-      let spelled : Spells [] 0 (whole_file f) (is.tokens ++ b.more) = (schedule_on b.more tree _ _ (closed_on b.more tree.span.to (a_reserved word.Schedule (steps_pieces x.steps (closes x.end ∷ []))) x.spells)).on 0 is.tokens old in
+      let spelled : Spells [] 0 (whole_file f) (is.tokens ++ b.more) = (schedule_on b.more tree _ _ (closed_on b.more tree.span.to (a_reserved word.Schedule (steps_pieces y.read (closes y.rest.end ∷ []))) x.spells)).on 0 is.tokens old in
       let before = file_ruled tree is.formed in
       let ruled : IsRuledFile f = record { version = before.version; decls = before.decls; process = before.process; opponent = before.opponent; derivation = tt } in
-      let number = x.number in
-      let new : (d : ℕ) → Clean d (in_order (schedule_points tree.schedule) ++ in_order (derivation_points tree.derivation)) → Clean d (in_order (steps_points 1 (length x.steps) x.steps) ++ []) =
-      λ d h. subst (Clean d) (sym (append-nil (in_order (steps_points 1 (length x.steps) x.steps)))) (steps_clean 1 (length x.steps) d x.steps (omega arith)) in
+      let number = y.is in
+      let new : (d : ℕ) → Clean d (in_order (schedule_points tree.schedule) ++ in_order (derivation_points tree.derivation)) → Clean d (in_order (steps_points 1 (length y.read) y.read) ++ []) =
+      λ d h. subst (Clean d) (sym (append-nil (in_order (steps_points 1 (length y.read) y.read)))) (steps_clean 1 (length y.read) d y.read (omega arith)) in
       let clean : IsClean f = clean_with tree _ _ new stands.clean in (
         f,
         record { within = short; tokens = is.tokens ++ b.more; lexed = b.lexed; formed = made f (joined bytes (schedule_text steps)) (is.tokens ++ b.more) b.lexed ruled spelled; spelled = spelled },
-        record { clean = clean; version = stands.version; names = stands.names; process = stands.process; opponent = stands.opponent; schedule = ap Some (sym x.are); derivation = none },
+        record { clean = clean; version = stands.version; names = stands.names; process = stands.process; opponent = stands.opponent; schedule = ap Some (sym y.are); derivation = none },
       )

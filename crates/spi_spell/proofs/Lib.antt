@@ -1,5 +1,6 @@
 pub mod Feeds
 pub mod Together
+pub mod Reading
 pub mod Derived
 pub mod Fitting
 pub mod Past
@@ -9,6 +10,7 @@ pub mod Scheduled
 pub mod Joining
 pub mod Printed
 pub mod Printable
+pub mod Counts
 pub mod Prints
 pub mod PrintsTerms
 pub mod PrintsTypes

@@ -10,31 +10,10 @@ use Rattle.spi_term.specs.Spelling.{ty_nodes}
 use Rattle.spi_scope.specs.Scope.{Abbreviations, number_of}
 use Rattle.spi_scope.specs.Meaning.{named, nested, message_in, messages_in, atom_in, effect_in, nested_types, behind, type_in, fields_in, last_in, process_in}
 use Rattle.spi_show.specs.Processes.{Standing, alone, sequel, is_output}
-use Rattle.spi_spell.proofs.Printed.{spelled_name, message_tree, second_tree, rest_trees, atom_tree, atom_trees, type_tree, field_trees, last_tree, leaf_tree, prefix_tree, then_tree, process_tree}
+use Rattle.spi_spell.proofs.Printed.{spelled_name, message_tree, second_tree, rest_trees, second_part, parts_of_type, atom_tree, atom_trees, type_tree, field_trees, last_tree, leaf_tree, prefix_tree, then_tree, process_tree}
 use Rattle.spi_spell.proofs.Printable.{prefix_nodes, process_nodes}
+use Rattle.spi_spell.proofs.Counts.{binds_few}
 use Rattle.spi_spell.proofs.Scopes.{in_scope, scope_length, AreApart, found}
-
-some_nodes : (a : Ty) → 1 ≤ ty_nodes a
-some_nodes un = omega arith
-some_nodes unit_ty = omega arith
-some_nodes (pair_ty a b) = omega arith
-some_nodes (sum_ty a b) = omega arith
-some_nodes (key a) = omega arith
-some_nodes (nonce es) = omega arith
-
--- a form has more nodes than it binds names
-pub binds_few : (s : Prefix) → binds s ≤ prefix_nodes s
-binds_few (Recvs m a) = omega arith
-binds_few (Serves m a) = omega arith
-binds_few (Splits m a b) = omega (arith, some_nodes a)
-binds_few (Selects m a c b) = omega arith
-binds_few (Decrypts m a c) = omega arith
-binds_few (Checks m c) = omega arith
-binds_few (Begins m) = omega arith
-binds_few (Ends m) = omega arith
-binds_few (EndManys m) = omega arith
-binds_few (Casts m a) = omega arith
-binds_few (Makes a) = omega arith
 
 module _ (most : ℕ) (spell : ℕ → List ℕ) (apart : AreApart most spell) (k : ℕ) where
   -- ---- messages and effects, where n names are in scope, d of them bound
@@ -53,28 +32,23 @@ module _ (most : ℕ) (spell : ℕ → List ℕ) (apart : AreApart most spell) (
       ∙ ap bound index
 
   module _ (n d : ℕ) (is : n ≡ k + d) (few : n ≤ most) where
-    mutual
-      pub message_means : (m : Message) → MessageOver k d m → message_in k (in_scope spell n) (message_tree (spelled_name spell) n m) ≡ m
-      message_means (bound i) h = bound_name n d i is h few
-      message_means (name x) h = free_name n x h (omega (arith, h, is)) few
-      message_means unit h = refl
-      message_means (pair a b) h = λ i. pair (message_means a h.0 i) (parts_mean b h.1 i)
-      message_means (in_left a) h = ap in_left (message_means a h)
-      message_means (in_right a) h = ap in_right (message_means a h)
-      message_means (enc a b) h = λ i. enc (message_means a h.0 i) (message_means b h.1 i)
-      message_means (hash a) h = ap hash (message_means a h)
+    -- the parts of a tuple behind its first
+    parts_mean : (m : Message)
+        → nested (message_in k (in_scope spell n) (second_tree (spelled_name spell) n m)) (messages_in k (in_scope spell n) (rest_trees (spelled_name spell) n m))
+        ≡ message_in k (in_scope spell n) (message_tree (spelled_name spell) n m)
+    parts_mean =
+        second_part (spelled_name spell) n (λ (a : t.Msg) (ms : t.Msgs) (x : t.Msg). nested (message_in k (in_scope spell n) a) (messages_in k (in_scope spell n) ms) ≡ message_in k (in_scope spell n) x)
+        (λ x. refl) (λ a b ms. refl)
 
-      -- the parts of a tuple behind its first
-      parts_mean : (m : Message) → MessageOver k d m
-          → nested (message_in k (in_scope spell n) (second_tree (spelled_name spell) n m)) (messages_in k (in_scope spell n) (rest_trees (spelled_name spell) n m)) ≡ m
-      parts_mean (bound i) h = bound_name n d i is h few
-      parts_mean (name x) h = free_name n x h (omega (arith, h, is)) few
-      parts_mean unit h = refl
-      parts_mean (pair a b) h = λ i. pair (message_means a h.0 i) (parts_mean b h.1 i)
-      parts_mean (in_left a) h = ap in_left (message_means a h)
-      parts_mean (in_right a) h = ap in_right (message_means a h)
-      parts_mean (enc a b) h = λ i. enc (message_means a h.0 i) (message_means b h.1 i)
-      parts_mean (hash a) h = ap hash (message_means a h)
+    pub message_means : (m : Message) → MessageOver k d m → message_in k (in_scope spell n) (message_tree (spelled_name spell) n m) ≡ m
+    message_means (bound i) h = bound_name n d i is h few
+    message_means (name x) h = free_name n x h (omega (arith, h, is)) few
+    message_means unit h = refl
+    message_means (pair a b) h = λ i. pair (message_means a h.0 i) ((parts_mean b ∙ message_means b h.1) i)
+    message_means (in_left a) h = ap in_left (message_means a h)
+    message_means (in_right a) h = ap in_right (message_means a h)
+    message_means (enc a b) h = λ i. enc (message_means a h.0 i) (message_means b h.1 i)
+    message_means (hash a) h = ap hash (message_means a h)
 
     atom_means : (a : Atom) → OfAtom (MessageOver k d) a → atom_in k (in_scope spell n) (atom_tree (spelled_name spell) n a) ≡ a
     atom_means (ends m) h = ap ends (message_means m h)
@@ -88,26 +62,23 @@ module _ (most : ℕ) (spell : ℕ → List ℕ) (apart : AreApart most spell) (
   -- ---- types
 
   module _ (ts : Abbreviations) where
-    mutual
-      pub type_means : (n d : ℕ) (a : Ty) → n ≡ k + d → n + ty_nodes a ≤ most → OfTy (MessageOver k) d a → type_in k ts (in_scope spell n) (type_tree spell n a) ≡ a
-      type_means n d un is few h = refl
-      type_means n d unit_ty is few h = refl
-      type_means n d (pair_ty a b) is few h =
-          λ i. pair_ty (type_means n d a is (omega (arith, few)) h.0 i) (fields_mean (suc n) (suc d) b (omega (arith, is)) (omega (arith, few)) h.1 i)
-      type_means n d (sum_ty a b) is few h = λ i. sum_ty (type_means n d a is (omega (arith, few)) h.0 i) (type_means n d b is (omega (arith, few)) h.1 i)
-      type_means n d (key a) is few h = ap key (type_means n d a is (omega (arith, few)) h)
-      type_means n d (nonce es) is few h = ap nonce (effect_means n d is (omega (arith, few)) es h)
+    -- the parts of a tuple type behind its first
+    fields_mean : (n : ℕ) (a : Ty)
+        → nested_types (fields_in k ts (in_scope spell n) (field_trees spell n a)) (last_in k ts (behind (in_scope spell n) (field_trees spell n a)) (last_tree spell n a))
+        ≡ type_in k ts (in_scope spell n) (type_tree spell n a)
+    fields_mean n =
+        parts_of_type spell n (λ (fs : t.Fields) (l : t.Last) (x : t.Ty). nested_types (fields_in k ts (in_scope spell n) fs) (last_in k ts (behind (in_scope spell n) fs) l) ≡ type_in k ts (in_scope spell n) x)
+        (λ x. refl) (λ w a fs l. refl)
 
-      -- the parts of a tuple type behind its first
-      fields_mean : (n d : ℕ) (a : Ty) → n ≡ k + d → n + ty_nodes a ≤ most → OfTy (MessageOver k) d a
-          → nested_types (fields_in k ts (in_scope spell n) (field_trees spell n a)) (last_in k ts (behind (in_scope spell n) (field_trees spell n a)) (last_tree spell n a)) ≡ a
-      fields_mean n d un is few h = refl
-      fields_mean n d unit_ty is few h = refl
-      fields_mean n d (pair_ty a b) is few h =
-          λ i. pair_ty (type_means n d a is (omega (arith, few)) h.0 i) (fields_mean (suc n) (suc d) b (omega (arith, is)) (omega (arith, few)) h.1 i)
-      fields_mean n d (sum_ty a b) is few h = λ i. sum_ty (type_means n d a is (omega (arith, few)) h.0 i) (type_means n d b is (omega (arith, few)) h.1 i)
-      fields_mean n d (key a) is few h = ap key (type_means n d a is (omega (arith, few)) h)
-      fields_mean n d (nonce es) is few h = ap nonce (effect_means n d is (omega (arith, few)) es h)
+    pub type_means : (n d : ℕ) (a : Ty) → n ≡ k + d → n + ty_nodes a ≤ most → OfTy (MessageOver k) d a → type_in k ts (in_scope spell n) (type_tree spell n a) ≡ a
+    type_means n d un is few h = refl
+    type_means n d unit_ty is few h = refl
+    type_means n d (pair_ty a b) is few h =
+        λ i. pair_ty (type_means n d a is (omega (arith, few)) h.0 i)
+        ((fields_mean (suc n) b ∙ type_means (suc n) (suc d) b (omega (arith, is)) (omega (arith, few)) h.1) i)
+    type_means n d (sum_ty a b) is few h = λ i. sum_ty (type_means n d a is (omega (arith, few)) h.0 i) (type_means n d b is (omega (arith, few)) h.1 i)
+    type_means n d (key a) is few h = ap key (type_means n d a is (omega (arith, few)) h)
+    type_means n d (nonce es) is few h = ap nonce (effect_means n d is (omega (arith, few)) es h)
 
     -- ---- processes
 

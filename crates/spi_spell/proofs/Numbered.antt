@@ -1,72 +1,48 @@
 -- The derivation and the schedule in the tree of a canonical text: what they stand for, and that nothing is wrong at their
 -- points.
-use Rattle.std.proofs.Common.{◌≡◌, ℕ, ◌+◌, ◌≤◌, List, [], ◌∷◌, ◌++◌, length, map, Option, Some, None, refl, sym, ap, subst, arith}
+use Rattle.std.proofs.Common.{◌≡◌, ℕ, ◌+◌, ◌≤◌, List, [], ◌∷◌, ◌++◌, length, map, Option, Some, None, refl, sym, ◌∙◌, ap, subst, arith}
 use Rattle.spi_tree.specs.Trees as t
-use Rattle.spi_term.specs.Term.{Message, bound, name, unit, pair, in_left, in_right, enc, hash, ends, checks, many, message_size}
+use Rattle.spi_term.specs.Term.{Message, pair, in_left, in_right, enc, hash, ends, checks, many, message_size}
 use Rattle.spi_run.specs.Reduction.{Step, act, talk}
 use Rattle.spi_scope.specs.Meaning.{nested}
 use Rattle.spi_scope.specs.Parts.{step_in, numbered_message, numbered_messages, numbered_atom, numbered_effect, rule_named, uses_in, all_uses_in}
 use Rattle.spi_scope.specs.Points.{in_order, numbered_points, numbered_atom_points, numbered_atoms_points, written_points, deriv_points, derivs_points, derivation_points, steps_points, schedule_points}
 use Rattle.spi_scope.specs.First.{Clean}
 use Rattle.spi_scope.specs.StandsFor.{schedule_in, derivation_in}
-use Rattle.spi_spell.proofs.Printed.{numbered_name, message_tree, second_tree, rest_trees, atom_tree, atom_trees, step_tree, schedule_tree, written_tree, deriv_tree, deriv_trees, derivation_tree}
+use Rattle.spi_spell.proofs.Printed.{numbered_name, message_tree, second_tree, rest_trees, second_part, atom_tree, atom_trees, step_tree, schedule_tree, written_tree, deriv_tree, deriv_trees, derivation_tree}
 use Rattle.spi_spell.proofs.Printable.{AreSteps}
 use Rattle.spi_spell.proofs.Shallow.{AreSmall, small}
 use Rattle.spi_spell.proofs.Clear.{Adds, next, no_point}
 
 -- ---- messages of a derivation
 
--- no index stands in a message
-abbrev HasNames : Message → Type 0
-HasNames (bound i) = ⊥
-HasNames (name x) = Unit {0}
-HasNames unit = Unit {0}
-HasNames (pair a b) = HasNames a × HasNames b
-HasNames (in_left a) = HasNames a
-HasNames (in_right a) = HasNames a
-HasNames (enc a b) = HasNames a × HasNames b
-HasNames (hash a) = HasNames a
-
-mutual
-  numbered_has : (m : t.Msg) → HasNames (numbered_message m)
-  numbered_has (t.name s w) = tt
-  numbered_has (t.unit s) = tt
-  numbered_has (t.tuple s a b ms) = (numbered_has a, row_has (numbered_message b) (numbered_has b) ms)
-  numbered_has (t.inl s a) = numbered_has a
-  numbered_has (t.inr s a) = numbered_has a
-  numbered_has (t.enc s a b) = (numbered_has a, numbered_has b)
-  numbered_has (t.hash s a) = numbered_has a
-  numbered_has (t.num s i) = tt
-
-  row_has : (first : Message) → HasNames first → (ms : t.Msgs) → HasNames (nested first (numbered_messages ms))
-  row_has first h t.no_msgs = h
-  row_has first h (t.more_msgs m ms) = (h, row_has (numbered_message m) (numbered_has m) ms)
-
-mutual
-  number_means : (m : Message) → HasNames m → numbered_message (message_tree numbered_name 0 m) ≡ m
-  number_means (bound i) h = absurd h
-  number_means (name x) h = refl
-  number_means unit h = refl
-  number_means (pair a b) h = λ i. pair (number_means a h.0 i) (numbers_mean b h.1 i)
-  number_means (in_left a) h = ap in_left (number_means a h)
-  number_means (in_right a) h = ap in_right (number_means a h)
-  number_means (enc a b) h = λ i. enc (number_means a h.0 i) (number_means b h.1 i)
-  number_means (hash a) h = ap hash (number_means a h)
-
-  -- the parts of a tuple behind its first
-  numbers_mean : (m : Message) → HasNames m → nested (numbered_message (second_tree numbered_name 0 m)) (numbered_messages (rest_trees numbered_name 0 m)) ≡ m
-  numbers_mean (bound i) h = absurd h
-  numbers_mean (name x) h = refl
-  numbers_mean unit h = refl
-  numbers_mean (pair a b) h = λ i. pair (number_means a h.0 i) (numbers_mean b h.1 i)
-  numbers_mean (in_left a) h = ap in_left (number_means a h)
-  numbers_mean (in_right a) h = ap in_right (number_means a h)
-  numbers_mean (enc a b) h = λ i. enc (number_means a h.0 i) (number_means b h.1 i)
-  numbers_mean (hash a) h = ap hash (number_means a h)
+-- the parts of a tuple behind its first
+numbers_mean : (m : Message) → nested (numbered_message (second_tree numbered_name 0 m)) (numbered_messages (rest_trees numbered_name 0 m)) ≡ numbered_message (message_tree numbered_name 0 m)
+numbers_mean =
+    second_part numbered_name 0 (λ (a : t.Msg) (ms : t.Msgs) (x : t.Msg). nested (numbered_message a) (numbered_messages ms) ≡ numbered_message x)
+    (λ x. refl) (λ a b ms. refl)
 
 -- a message is printed as it was read
-read_again : (m : t.Msg) → numbered_message (message_tree numbered_name 0 (numbered_message m)) ≡ numbered_message m
-read_again m = number_means (numbered_message m) (numbered_has m)
+abbrev IsReadAgain : Message → Type 0
+IsReadAgain m = numbered_message (message_tree numbered_name 0 m) ≡ m
+
+pair_again : (a b : Message) → IsReadAgain a → IsReadAgain b → IsReadAgain (pair a b)
+pair_again a b f g = λ i. pair (f i) ((numbers_mean b ∙ g) i)
+
+mutual
+  read_again : (m : t.Msg) → IsReadAgain (numbered_message m)
+  read_again (t.name s w) = refl
+  read_again (t.unit s) = refl
+  read_again (t.tuple s a b ms) = pair_again (numbered_message a) (nested (numbered_message b) (numbered_messages ms)) (read_again a) (row_again (numbered_message b) (read_again b) ms)
+  read_again (t.inl s a) = ap in_left (read_again a)
+  read_again (t.inr s a) = ap in_right (read_again a)
+  read_again (t.enc s a b) = λ i. enc (read_again a i) (read_again b i)
+  read_again (t.hash s a) = ap hash (read_again a)
+  read_again (t.num s i) = refl
+
+  row_again : (first : Message) → IsReadAgain first → (ms : t.Msgs) → IsReadAgain (nested first (numbered_messages ms))
+  row_again first h t.no_msgs = h
+  row_again first h (t.more_msgs m ms) = pair_again first (nested (numbered_message m) (numbered_messages ms)) h (row_again (numbered_message m) (read_again m) ms)
 
 atom_again : (a : t.Atom) → numbered_atom (atom_tree numbered_name 0 (numbered_atom a)) ≡ numbered_atom a
 atom_again (t.ends s m) = ap ends (read_again m)

@@ -1,12 +1,11 @@
 -- The tokens of a formed tree within the nesting limits are read, and what is read is that tree, with their spans.
-use Rattle.std.proofs.Common.{◌≡◌, ℕ, ◌==◌, Bool, false, List, [], ◌∷◌, ◌++◌, map, Ok, Err, refl, sym, ap, subst, ◌∙◌, ◌⊎◌, inl, inr, append-nil}
+use Rattle.std.proofs.Common.{◌≡◌, ℕ, Bool, List, [], ◌∷◌, ◌++◌, map, Ok, Err, refl, sym, ap, ◌∙◌, append-nil}
 use Rattle.spi_lex.specs.declared.token.Kind.{Kind}
-use Rattle.spi_lex.specs.declared.token.Kind.TheVariants as kinds
 use Rattle.spi_lex.specs.declared.token.Token.{Token}
 use Rattle.spi_lex.specs.Lexing.{kinds_of, is_version_2}
 use Rattle.spi_tree.specs.Trees as t
-use Rattle.spi_tree.specs.Pieces.{Piece, kinds_in, tokens_of, file_pieces, at_level, a_reserved, ends, decls_pieces, proc_pieces, version_pieces, opponent_pieces, schedule_pieces, derivation_pieces}
-use Rattle.spi_tree.specs.Formed.{AreWordsFit, is_later}
+use Rattle.spi_tree.specs.Pieces.{kinds_in, tokens_of, file_pieces}
+use Rattle.spi_tree.specs.Formed.{AreWordsFit}
 use Rattle.spi_parse.specs.Tokens.{Tok, tok}
 use Rattle.spi_parse.specs.Table.{file}
 use Rattle.spi_parse.specs.Reading.{Out, limited, told, read}

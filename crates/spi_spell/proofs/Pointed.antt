@@ -10,11 +10,12 @@ use Rattle.spi_scope.specs.Meaning.{behind}
 use Rattle.spi_scope.specs.Points.{◌⨾◌, msg_nodes, message_points, messages_points, whole_message, atom_points, atoms_points, type_points, fields_points, last_points, part, whole_type, process_points}
 use Rattle.spi_scope.proofs.Sizes.{message_sized, type_sized}
 use Rattle.spi_show.specs.Processes.{Standing, alone, sequel, is_output}
-use Rattle.spi_spell.proofs.Printed.{word, spelled_name, message_tree, second_tree, rest_trees, atom_tree, atom_trees, type_tree, field_trees, last_tree, leaf_tree, prefix_tree, then_tree, process_tree}
+use Rattle.spi_spell.proofs.Printed.{second_part, parts_of_type, word, spelled_name, message_tree, second_tree, rest_trees, atom_tree, atom_trees, type_tree, field_trees, last_tree, leaf_tree, prefix_tree, then_tree, process_tree}
 use Rattle.spi_spell.proofs.Printable.{MessageFits, AtomFits, EffectFits, PartsFit, TyFits, LeafFits, PrefixFits, ProcessFits, leaf_nodes, prefix_nodes, process_nodes}
 use Rattle.spi_spell.proofs.Scopes.{in_scope, AreApart, found}
-use Rattle.spi_spell.proofs.Means.{binds_few, message_means, type_means}
-use Rattle.spi_spell.proofs.Clear.{Adds, next, in_all, no_point, counted, message_adds, type_adds, message_head_adds, messages_head_adds, typed_head_adds, tested_head_adds, split_head_adds, match_head_adds, new_head_adds}
+use Rattle.spi_spell.proofs.Means.{message_means, type_means}
+use Rattle.spi_spell.proofs.Counts.{binds_few}
+use Rattle.spi_spell.proofs.Clear.{regrouped, Adds, next, in_all, no_point, counted, message_adds, type_adds, message_head_adds, messages_head_adds, typed_head_adds, tested_head_adds, split_head_adds, match_head_adds, new_head_adds}
 
 module _ (most : ℕ) (spell : ℕ → List ℕ) (apart : AreApart most spell) (k : ℕ) where
   -- ---- messages and effects, where n names are in scope, d of them bound
@@ -23,28 +24,22 @@ module _ (most : ℕ) (spell : ℕ → List ℕ) (apart : AreApart most spell) (
     known : (i : ℕ) → suc i ≤ n → Adds 0 (message_points (in_scope spell n) (spelled_name spell i))
     known i low = record { clear = ap is_some (found most spell apart n i low few); weighs = refl }
 
-    mutual
-      message_clear : (m : Message) → MessageOver k d m → Adds 0 (message_points (in_scope spell n) (message_tree (spelled_name spell) n m))
-      message_clear (bound i) h = known (n - suc i) (omega (arith, is, h))
-      message_clear (name x) h = known x (omega (arith, is, h))
-      message_clear unit h = no_point
-      message_clear (pair a b) h = next (message_clear a h.0) (parts_clear b h.1)
-      message_clear (in_left a) h = message_clear a h
-      message_clear (in_right a) h = message_clear a h
-      message_clear (enc a b) h = next (message_clear a h.0) (message_clear b h.1)
-      message_clear (hash a) h = message_clear a h
+    -- the parts of a tuple behind its first
+    parts_clear : (m : Message) → Adds 0 (message_points (in_scope spell n) (message_tree (spelled_name spell) n m))
+        → Adds 0 (message_points (in_scope spell n) (second_tree (spelled_name spell) n m) ⨾ messages_points (in_scope spell n) (rest_trees (spelled_name spell) n m))
+    parts_clear =
+        second_part (spelled_name spell) n (λ (a : t.Msg) (ms : t.Msgs) (x : t.Msg). Adds 0 (message_points (in_scope spell n) x) → Adds 0 (message_points (in_scope spell n) a ⨾ messages_points (in_scope spell n) ms))
+        (λ x h. next h no_point) (λ a b ms h. h)
 
-      -- the parts of a tuple behind its first
-      parts_clear : (m : Message) → MessageOver k d m
-          → Adds 0 (message_points (in_scope spell n) (second_tree (spelled_name spell) n m) ⨾ messages_points (in_scope spell n) (rest_trees (spelled_name spell) n m))
-      parts_clear (bound i) h = next (known (n - suc i) (omega (arith, is, h))) no_point
-      parts_clear (name x) h = next (known x (omega (arith, is, h))) no_point
-      parts_clear unit h = next no_point no_point
-      parts_clear (pair a b) h = next (message_clear a h.0) (parts_clear b h.1)
-      parts_clear (in_left a) h = next (message_clear a h) no_point
-      parts_clear (in_right a) h = next (message_clear a h) no_point
-      parts_clear (enc a b) h = next (next (message_clear a h.0) (message_clear b h.1)) no_point
-      parts_clear (hash a) h = next (message_clear a h) no_point
+    message_clear : (m : Message) → MessageOver k d m → Adds 0 (message_points (in_scope spell n) (message_tree (spelled_name spell) n m))
+    message_clear (bound i) h = known (n - suc i) (omega (arith, is, h))
+    message_clear (name x) h = known x (omega (arith, is, h))
+    message_clear unit h = no_point
+    message_clear (pair a b) h = next (message_clear a h.0) (parts_clear b (message_clear b h.1))
+    message_clear (in_left a) h = message_clear a h
+    message_clear (in_right a) h = message_clear a h
+    message_clear (enc a b) h = next (message_clear a h.0) (message_clear b h.1)
+    message_clear (hash a) h = message_clear a h
 
     same_nodes : (m : Message) → MessageOver k d m → msg_nodes (in_scope spell n) (message_tree (spelled_name spell) n m) ≡ message_size m
     same_nodes m h = sym (message_sized k (in_scope spell n) (message_tree (spelled_name spell) n m)) ∙ ap message_size (message_means most spell apart k n d is few m h)
@@ -67,36 +62,24 @@ module _ (most : ℕ) (spell : ℕ → List ℕ) (apart : AreApart most spell) (
   -- ---- types
 
   module _ (later : Bool) (ts : Abbreviations) where
-    mutual
-      parts_of_type_clear : (n d : ℕ) (a : Ty) → n ≡ k + d → n + ty_nodes a ≤ most → OfTy (MessageOver k) d a → PartsFit later a → Adds 0 (type_points ts (in_scope spell n) (type_tree spell n a))
-      parts_of_type_clear n d un is few h fits = no_point
-      parts_of_type_clear n d unit_ty is few h fits = no_point
-      parts_of_type_clear n d (pair_ty a b) is few h fits =
-          next (parts_of_type_clear n d a is (omega (arith, few)) h.0 fits.0)
-          (next (fields_clear (suc n) (suc d) b (omega (arith, is)) (omega (arith, few)) h.1 fits.1) (last_clear (suc n) (suc d) b (omega (arith, is)) (omega (arith, few)) h.1 fits.1))
-      parts_of_type_clear n d (sum_ty a b) is few h fits =
-          next (parts_of_type_clear n d a is (omega (arith, few)) h.0 fits.0) (parts_of_type_clear n d b is (omega (arith, few)) h.1 fits.1)
-      parts_of_type_clear n d (key a) is few h fits = parts_of_type_clear n d a is (omega (arith, few)) h fits
-      parts_of_type_clear n d (nonce es) is few h fits = effect_clear n d is (omega (arith, few)) later es h fits
+    -- the parts of a tuple type behind its first
+    fields_clear : (n : ℕ) (a : Ty) → Adds 0 (type_points ts (in_scope spell n) (type_tree spell n a))
+        → Adds 0 (fields_points ts (in_scope spell n) (field_trees spell n a) ⨾ last_points ts (behind (in_scope spell n) (field_trees spell n a)) (last_tree spell n a))
+    fields_clear n =
+        parts_of_type spell n (λ (fs : t.Fields) (l : t.Last) (x : t.Ty). Adds 0 (type_points ts (in_scope spell n) x)
+        → Adds 0 (fields_points ts (in_scope spell n) fs ⨾ last_points ts (behind (in_scope spell n) fs) l))
+        (λ x h. next no_point h) (λ w a fs l h. regrouped h)
 
-      fields_clear : (n d : ℕ) (a : Ty) → n ≡ k + d → n + ty_nodes a ≤ most → OfTy (MessageOver k) d a → PartsFit later a → Adds 0 (fields_points ts (in_scope spell n) (field_trees spell n a))
-      fields_clear n d un is few h fits = no_point
-      fields_clear n d unit_ty is few h fits = no_point
-      fields_clear n d (pair_ty a b) is few h fits =
-          next (parts_of_type_clear n d a is (omega (arith, few)) h.0 fits.0) (fields_clear (suc n) (suc d) b (omega (arith, is)) (omega (arith, few)) h.1 fits.1)
-      fields_clear n d (sum_ty a b) is few h fits = no_point
-      fields_clear n d (key a) is few h fits = no_point
-      fields_clear n d (nonce es) is few h fits = no_point
-
-      last_clear : (n d : ℕ) (a : Ty) → n ≡ k + d → n + ty_nodes a ≤ most → OfTy (MessageOver k) d a → PartsFit later a
-          → Adds 0 (last_points ts (behind (in_scope spell n) (field_trees spell n a)) (last_tree spell n a))
-      last_clear n d un is few h fits = no_point
-      last_clear n d unit_ty is few h fits = no_point
-      last_clear n d (pair_ty a b) is few h fits = last_clear (suc n) (suc d) b (omega (arith, is)) (omega (arith, few)) h.1 fits.1
-      last_clear n d (sum_ty a b) is few h fits =
-          next (parts_of_type_clear n d a is (omega (arith, few)) h.0 fits.0) (parts_of_type_clear n d b is (omega (arith, few)) h.1 fits.1)
-      last_clear n d (key a) is few h fits = parts_of_type_clear n d a is (omega (arith, few)) h fits
-      last_clear n d (nonce es) is few h fits = effect_clear n d is (omega (arith, few)) later es h fits
+    parts_of_type_clear : (n d : ℕ) (a : Ty) → n ≡ k + d → n + ty_nodes a ≤ most → OfTy (MessageOver k) d a → PartsFit later a → Adds 0 (type_points ts (in_scope spell n) (type_tree spell n a))
+    parts_of_type_clear n d un is few h fits = no_point
+    parts_of_type_clear n d unit_ty is few h fits = no_point
+    parts_of_type_clear n d (pair_ty a b) is few h fits =
+        next (parts_of_type_clear n d a is (omega (arith, few)) h.0 fits.0)
+        (fields_clear (suc n) b (parts_of_type_clear (suc n) (suc d) b (omega (arith, is)) (omega (arith, few)) h.1 fits.1))
+    parts_of_type_clear n d (sum_ty a b) is few h fits =
+        next (parts_of_type_clear n d a is (omega (arith, few)) h.0 fits.0) (parts_of_type_clear n d b is (omega (arith, few)) h.1 fits.1)
+    parts_of_type_clear n d (key a) is few h fits = parts_of_type_clear n d a is (omega (arith, few)) h fits
+    parts_of_type_clear n d (nonce es) is few h fits = effect_clear n d is (omega (arith, few)) later es h fits
 
     type_clear : (n d : ℕ) (a : Ty) → n ≡ k + d → n + ty_nodes a ≤ most → OfTy (MessageOver k) d a → TyFits later a → Adds (ty_nodes a) (whole_type ts (in_scope spell n) (type_tree spell n a))
     type_clear n d a is few h fits =

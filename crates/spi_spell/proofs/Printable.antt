@@ -34,14 +34,21 @@ HasVersion later (hash a) = (later ≡ true) × HasVersion later a
 abbrev pub MessageFits : Bool → Message → Type 0
 MessageFits later m = (message_size m ≤ 200) × HasVersion later m
 
+-- each message is one of these, and no `many` stands in version 1
+abbrev pub IsAtomOf : Bool → (Message → Type 0) → Atom → Type 0
+IsAtomOf later Is (ends m) = Is m
+IsAtomOf later Is (checks m) = Is m
+IsAtomOf later Is (many m) = (later ≡ true) × Is m
+
+abbrev pub IsEffectOf : Bool → (Message → Type 0) → Effect → Type 0
+IsEffectOf later Is [] = ⊤
+IsEffectOf later Is (a ∷ es) = IsAtomOf later Is a × IsEffectOf later Is es
+
 abbrev pub AtomFits : Bool → Atom → Type 0
-AtomFits later (ends m) = MessageFits later m
-AtomFits later (checks m) = MessageFits later m
-AtomFits later (many m) = (later ≡ true) × MessageFits later m
+AtomFits later a = IsAtomOf later (MessageFits later) a
 
 abbrev pub EffectFits : Bool → Effect → Type 0
-EffectFits later [] = ⊤
-EffectFits later (a ∷ es) = AtomFits later a × EffectFits later es
+EffectFits later es = IsEffectOf later (MessageFits later) es
 
 abbrev pub PartsFit : Bool → Ty → Type 0
 PartsFit later un = ⊤

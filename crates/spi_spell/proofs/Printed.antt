@@ -54,6 +54,23 @@ abbrev mutual
   rest_trees of n (enc a b) = t.no_msgs
   rest_trees of n (hash a) = t.no_msgs
 
+-- a fact of the whole and of its parts, where they are one
+pub twice : {A : Type 0} → A → A × A
+twice x = (x, x)
+
+-- the parts are the whole, or those of a tuple behind its first
+pub second_part : (of : ℕ → t.Msg) (n : ℕ) (P : t.Msg → t.Msgs → t.Msg → Type 0) → ((x : t.Msg) → P x t.no_msgs x)
+    → ((a b : t.Msg) (ms : t.Msgs) → P a (t.more_msgs b ms) (t.tuple nowhere a b ms))
+    → (m : Message) → P (second_tree of n m) (rest_trees of n m) (message_tree of n m)
+second_part of n P whole tuple (bound i) = whole _
+second_part of n P whole tuple (name x) = whole _
+second_part of n P whole tuple unit = whole _
+second_part of n P whole tuple (pair a b) = tuple _ _ _
+second_part of n P whole tuple (in_left a) = whole _
+second_part of n P whole tuple (in_right a) = whole _
+second_part of n P whole tuple (enc a b) = whole _
+second_part of n P whole tuple (hash a) = whole _
+
 abbrev pub atom_tree : (ℕ → t.Msg) → ℕ → Atom → t.Atom
 atom_tree of n (ends m) = t.ends nowhere (message_tree of n m)
 atom_tree of n (checks m) = t.checks nowhere (message_tree of n m)
@@ -88,6 +105,17 @@ abbrev mutual
   last_tree spell n (sum_ty a b) = t.bare (t.sum nowhere (type_tree spell n a) (type_tree spell n b))
   last_tree spell n (key a) = t.bare (t.key nowhere (type_tree spell n a))
   last_tree spell n (nonce es) = t.bare (t.nonce nowhere (atom_trees (spelled_name spell) n es))
+
+-- the parts are the whole, or those of a tuple
+pub parts_of_type : (spell : ℕ → List ℕ) (n : ℕ) (P : t.Fields → t.Last → t.Ty → Type 0) → ((x : t.Ty) → P t.no_fields (t.bare x) x)
+    → ((w : SWord) (a : t.Ty) (fs : t.Fields) (l : t.Last) → P (t.more_fields w a fs) l (t.tuple_ty nowhere w a fs l))
+    → (a : Ty) → P (field_trees spell n a) (last_tree spell n a) (type_tree spell n a)
+parts_of_type spell n P whole tuple un = whole _
+parts_of_type spell n P whole tuple unit_ty = whole _
+parts_of_type spell n P whole tuple (pair_ty a b) = tuple _ _ _ _
+parts_of_type spell n P whole tuple (sum_ty a b) = whole _
+parts_of_type spell n P whole tuple (key a) = whole _
+parts_of_type spell n P whole tuple (nonce es) = whole _
 
 abbrev pub leaf_tree : (ℕ → List ℕ) → ℕ → Leaf → t.Proc
 leaf_tree spell n (Sends a b) = t.out nowhere (message_tree (spelled_name spell) n a) (message_tree (spelled_name spell) n b)

@@ -7,7 +7,7 @@ use Rattle.spi_lex.specs.Words.{words_of}
 use Rattle.spi_lex.specs.Writing.{is_apart, IsKind}
 use Rattle.spi_tree.specs.Trees as t
 use Rattle.spi_tree.specs.Pieces.{Piece, Place, below, beside, a_reserved, kinds_in, msg_pieces, named_pieces, binder_pieces, proc_pieces, ends}
-use Rattle.spi_term.specs.Term.{Message, bound, name, unit, pair, in_left, in_right, enc, hash, Ty, Leaf, Sends, Stops, Prefix, Recvs, Serves, Splits, Selects, Decrypts, Checks, Begins, Ends, EndManys, Casts, Makes, Cases, Pars, Process, leaf, prefix, fork, binds, message_size}
+use Rattle.spi_term.specs.Term.{Message, Ty, Leaf, Sends, Stops, Prefix, Recvs, Serves, Splits, Selects, Decrypts, Checks, Begins, Ends, EndManys, Casts, Makes, Cases, Pars, Process, leaf, prefix, fork, binds}
 use Rattle.spi_term.specs.Names.{MessageOver, OfTy, OfLeaf, OfPrefix, OfProcess}
 use Rattle.spi_term.specs.Spelling.{ty_nodes}
 use Rattle.spi_parse.specs.Bare.{nowhere}
@@ -16,35 +16,12 @@ use Rattle.spi_show.specs.Processes.{leaf_text, prefix_text, left_text, right_te
 use Rattle.spi_spell.proofs.Printed.{spelled_name, message_tree, type_tree, leaf_tree, prefix_tree, then_tree, process_tree}
 use Rattle.spi_spell.proofs.Printed as printed
 use Rattle.spi_spell.proofs.Printable.{MessageFits, TyFits, LeafFits, PrefixFits, ProcessFits, prefix_nodes, process_nodes}
+use Rattle.spi_spell.proofs.Counts.{some_size, binds_few}
 use Rattle.spi_spell.proofs.Prints as prints
 use Rattle.spi_spell.proofs.Prints.{Prints}
 use Rattle.spi_spell.proofs.PrintsTerms.{InScope}
 use Rattle.spi_spell.proofs.PrintsTypes as types
 use Rattle.spi_spell.proofs.PrintsTypes.{inner}
-
-some_size : (m : Message) → 1 ≤ message_size m
-some_size (bound i) = omega arith
-some_size (name x) = omega arith
-some_size unit = omega arith
-some_size (pair a b) = omega arith
-some_size (in_left a) = omega arith
-some_size (in_right a) = omega arith
-some_size (enc a b) = omega arith
-some_size (hash a) = omega arith
-
--- a form counts at least the names that it binds
-pub few_binds : (s : Prefix) → binds s ≤ prefix_nodes s
-few_binds (Recvs m a) = omega arith
-few_binds (Serves m a) = omega arith
-few_binds (Splits m a b) = omega (arith, some_size m)
-few_binds (Selects m a k b) = omega arith
-few_binds (Decrypts m a k) = omega arith
-few_binds (Checks m k) = omega arith
-few_binds (Begins m) = omega arith
-few_binds (Ends m) = omega arith
-few_binds (EndManys m) = omega arith
-few_binds (Casts m a) = omega arith
-few_binds (Makes a) = omega arith
 
 behind : {top k d n : ℕ} (b : ℕ) → InScope top k d n → n + b ≤ top → InScope top k (d + b) (n + b)
 behind b s few = (let low = s.bound in record { free = s.free; bound = omega arith; all = few })
@@ -65,15 +42,21 @@ module _ (later : Bool) (top : ℕ) (spell : ℕ → List ℕ) (fit : (i : ℕ) 
   named {k = k} {d = d} {n = n} x a low in_scope few o v r more apart p =
       types.typed later top spell fit x (type_text spell n a) more low (types.type later top spell fit k d n 1 a in_scope few o v.1 r more apart p)
 
+  -- a binder, after which a process follows
+  binder : {k d n : ℕ} (x : ℕ) (a : Ty) → x < top → InScope top k d n → n + ty_nodes a ≤ top → OfTy (MessageOver k) d a → TyFits later a → (r : List Piece) (more : List ℕ) → Prints later (kinds_in r) more
+      → Prints later (kinds_in (binder_pieces (printed.word (spell x)) (type_tree spell n a) r)) (codes "(" ++ ((typed_text spell x (type_text spell n a) ++ codes "); ") ++ more))
+  binder {n = n} x a low in_scope few o v r more p =
+      prints.mark mark.ParenOpen (prints.part (typed_text spell x (type_text spell n a)) _ more (named x a low in_scope few o v _ _ refl (prints.mark mark.ParenClose (prints.mark mark.Semicolon (prints.space p)))))
+
   pub one_prefix : (k d n : ℕ) (at : Place) (s : Prefix) (q : t.Proc) → InScope top k d n → n + prefix_nodes s ≤ top → OfPrefix (MessageOver k) d s → PrefixFits later s
       → (r : List Piece) (more : List ℕ) → Prints later (kinds_in (proc_pieces (below at) q (ends nowhere r))) more
       → Prints later (kinds_in (proc_pieces at (prefix_tree spell n s q) r)) (prefix_text spell n s ++ more)
   one_prefix k d n at (Recvs m a) q scope few o v r more p =
-      prints.keyword word.Inp refl refl (prints.space (prints.part (message_text spell n m) _ more (message m scope o.0 v.0 _ _ refl (prints.space (prints.mark mark.ParenOpen
-      (prints.part (typed_text spell n (type_text spell n a)) _ more (named n a (omega arith) scope (omega arith) o.1 v.1 _ _ refl (prints.mark mark.ParenClose (prints.mark mark.Semicolon (prints.space p))))))))))
+      prints.keyword word.Inp refl refl (prints.space (prints.part (message_text spell n m) _ more (message m scope o.0 v.0 _ _ refl (prints.space
+      (binder n a (omega arith) scope (omega arith) o.1 v.1 _ more p)))))
   one_prefix k d n at (Serves m a) q scope few o v r more p =
-      prints.keyword word.Repeat refl refl (prints.space (prints.keyword word.Inp refl refl (prints.space (prints.part (message_text spell n m) _ more (message m scope o.0 v.0 _ _ refl (prints.space (prints.mark mark.ParenOpen
-      (prints.part (typed_text spell n (type_text spell n a)) _ more (named n a (omega arith) scope (omega arith) o.1 v.1 _ _ refl (prints.mark mark.ParenClose (prints.mark mark.Semicolon (prints.space p))))))))))))
+      prints.keyword word.Repeat refl refl (prints.space (prints.keyword word.Inp refl refl (prints.space (prints.part (message_text spell n m) _ more (message m scope o.0 v.0 _ _ refl (prints.space
+      (binder n a (omega arith) scope (omega arith) o.1 v.1 _ more p)))))))
   one_prefix k d n at (Splits m a b) q scope few o v r more p =
       prints.keyword word.Split refl refl (prints.space (prints.part (message_text spell n m) _ more (message m scope o.0 v.0 _ _ refl (prints.space (prints.keyword word.Is refl refl (prints.space (prints.mark mark.ParenOpen
       (prints.part (typed_text spell n (type_text spell n a)) _ more (named n a (omega arith) scope (omega arith) o.1 v.1 _ _ refl (prints.mark mark.Comma (prints.space
@@ -99,11 +82,10 @@ module _ (later : Bool) (top : ℕ) (spell : ℕ → List ℕ) (fit : (i : ℕ) 
   one_prefix k d n at (EndManys m) q scope few o v r more p =
       prints.late_keyword word.EndMany refl v.0 refl (prints.space (prints.part (message_text spell n m) _ more (message m scope o v.1 _ _ refl (prints.mark mark.Semicolon (prints.space p)))))
   one_prefix k d n at (Casts m a) q scope few o v r more p =
-      prints.keyword word.Cast refl refl (prints.space (prints.part (message_text spell n m) _ more (message m scope o.0 v.0 _ _ refl (prints.space (prints.keyword word.Is refl refl (prints.space (prints.mark mark.ParenOpen
-      (prints.part (typed_text spell n (type_text spell n a)) _ more (named n a (omega arith) scope (omega arith) o.1 v.1 _ _ refl (prints.mark mark.ParenClose (prints.mark mark.Semicolon (prints.space p))))))))))))
+      prints.keyword word.Cast refl refl (prints.space (prints.part (message_text spell n m) _ more (message m scope o.0 v.0 _ _ refl (prints.space (prints.keyword word.Is refl refl (prints.space
+      (binder n a (omega arith) scope (omega arith) o.1 v.1 _ more p)))))))
   one_prefix k d n at (Makes a) q scope few o v r more p =
-      prints.keyword word.New refl refl (prints.space (prints.mark mark.ParenOpen
-      (prints.part (typed_text spell n (type_text spell n a)) _ more (named n a (omega arith) scope (omega arith) o v _ _ refl (prints.mark mark.ParenClose (prints.mark mark.Semicolon (prints.space p)))))))
+      prints.keyword word.New refl refl (prints.space (binder n a (omega arith) scope (omega arith) o v _ more p))
 
   one_leaf : (k d n : ℕ) (at : Place) (l : Leaf) → InScope top k d n → OfLeaf (MessageOver k) d l → LeafFits later l → (r : List Piece) (more : List ℕ)
       → IsTrue (is_apart more) → Prints later (kinds_in r) more → Prints later (kinds_in (proc_pieces at (leaf_tree spell n l) r)) (leaf_text spell n l ++ more)
@@ -151,21 +133,19 @@ module _ (later : Bool) (top : ℕ) (spell : ℕ → List ℕ) (fit : (i : ℕ) 
       (left_text spell n (message_text spell n m) (type_text spell n a) ++ more)
   left k d n m a scope few o oa v va r more h =
       prints.keyword word.Case refl refl (prints.space (prints.part (message_text spell n m) _ more (message m scope o v _ _ refl (prints.space (prints.keyword word.Is refl refl (prints.space
-      (prints.keyword word.Inl refl refl (prints.space (prints.mark mark.ParenOpen (prints.part (typed_text spell n (type_text spell n a)) _ more (named n a (omega arith) scope (omega arith) oa va _ _ refl
-      (prints.mark mark.ParenClose (prints.mark mark.Semicolon (prints.space h))))))))))))))
+      (prints.keyword word.Inl refl refl (prints.space (binder n a (omega arith) scope (omega arith) oa va _ more h)))))))))
 
   between : (k d n : ℕ) (b : Ty) → InScope top k d n → suc (n + ty_nodes b) ≤ top → OfTy (MessageOver k) d b → TyFits later b → (r : List Piece) (more : List ℕ) → Prints later (kinds_in r) more
       → Prints later (kinds_in (a_reserved word.Is (a_reserved word.Inr (binder_pieces (printed.word (spell n)) (type_tree spell n b) r)))) (right_text spell n (type_text spell n b) ++ more)
   between k d n b scope few o v r more h =
-      prints.space (prints.keyword word.Is refl refl (prints.space (prints.keyword word.Inr refl refl (prints.space (prints.mark mark.ParenOpen
-      (prints.part (typed_text spell n (type_text spell n b)) _ more (named n b (omega arith) scope (omega arith) o v _ _ refl (prints.mark mark.ParenClose (prints.mark mark.Semicolon (prints.space h))))))))))
+      prints.space (prints.keyword word.Is refl refl (prints.space (prints.keyword word.Inr refl refl (prints.space (binder n b (omega arith) scope (omega arith) o v _ more h)))))
 
   pub process : (k d n : ℕ) (st : Standing) (p : Process) → InScope top k d n → n + process_nodes p ≤ top → OfProcess (MessageOver k) d p → ProcessFits later p
       → (at : Place) (r : List Piece) (more : List ℕ) → IsTrue (is_apart more) → Prints later (kinds_in r) more
       → Prints later (kinds_in (proc_pieces at (process_tree spell st n p) r)) (process_text spell st n p ++ more)
   process k d n st (leaf l) scope few o v at r more apart h = one_leaf k d n at l scope o v r more apart h
   process k d n st (prefix s p) scope few o v at r more apart h =
-      let b = few_binds s in
+      let b = binds_few s in
       prints.part (prefix_text spell n s) _ more (one_prefix k d n at s _ scope (omega arith) o.0 v.0 r _
       (process k (d + binds s) (n + binds s) sequel p (behind (binds s) scope (omega arith)) (omega arith) o.1 v.1 (below at) _ more apart h))
   process k d n st (fork (Cases m a b) p q) scope few o v at r more apart h =

@@ -1,6 +1,5 @@
 -- The texts of messages, effects and types write the tokens of their trees.
-use Rattle.std.specs.Prelude.{⊤}
-use Rattle.std.proofs.Common.{◌≡◌, ℕ, suc, ◌+◌, ◌-◌, ◌<◌, ◌≤◌, Bool, true, IsTrue, List, [], ◌∷◌, ◌++◌, codes, refl, arith}
+use Rattle.std.proofs.Common.{ℕ, suc, ◌+◌, ◌-◌, ◌<◌, ◌≤◌, Bool, IsTrue, List, [], ◌∷◌, ◌++◌, codes, refl, arith}
 use Rattle.spi_lex.specs.declared.token.Reserved.TheVariants as word
 use Rattle.spi_lex.specs.declared.token.Mark.TheVariants.{ParenOpen, ParenClose, BraceOpen, BraceClose, BracketOpen, BracketClose, Comma}
 use Rattle.spi_lex.specs.Writing.{is_apart}
@@ -9,19 +8,16 @@ use Rattle.spi_tree.specs.Pieces.{Piece, kinds_in, msg_pieces, msgs_pieces, atom
 use Rattle.spi_term.specs.Term.{Message, bound, name, unit, pair, in_left, in_right, enc, hash, Atom, ends, checks, many, Effect}
 use Rattle.spi_term.specs.Names.{MessageOver, OfAtom, OfEffect}
 use Rattle.spi_show.specs.Terms.{message_text, tuple_text, atom_text, more_text, effect_text}
-use Rattle.spi_spell.proofs.Printed.{message_tree, second_tree, rest_trees, atom_tree, atom_trees}
-use Rattle.spi_spell.proofs.Printable.{HasVersion, EffectFits}
+use Rattle.spi_spell.proofs.Printed.{message_tree, second_tree, rest_trees, twice, atom_tree, atom_trees}
+use Rattle.spi_spell.proofs.Printable.{HasVersion, IsAtomOf, IsEffectOf, EffectFits}
 use Rattle.spi_spell.proofs.Prints.{Prints, part, space, mark, keyword, late_keyword}
 
 -- no hash and no `many` in version 1
 abbrev pub IsAtomIn : Bool → Atom → Type 0
-IsAtomIn later (ends m) = HasVersion later m
-IsAtomIn later (checks m) = HasVersion later m
-IsAtomIn later (many m) = (later ≡ true) × HasVersion later m
+IsAtomIn later a = IsAtomOf later (HasVersion later) a
 
 abbrev pub IsEffectIn : Bool → Effect → Type 0
-IsEffectIn later [] = ⊤
-IsEffectIn later (a ∷ es) = IsAtomIn later a × IsEffectIn later es
+IsEffectIn later es = IsEffectOf later (HasVersion later) es
 
 pub effect_in : (later : Bool) (es : Effect) → EffectFits later es → IsEffectIn later es
 effect_in later [] h = tt
@@ -39,35 +35,28 @@ pub record InScope (top k d n : ℕ) : Type 0 where
 -- follows, which begins with no letter or digit.
 module _ (later : Bool) (top : ℕ) (of : ℕ → t.Msg) (spell : ℕ → List ℕ)
     (names : (i : ℕ) → i < top → (c : ℕ) (r : List Piece) (more : List ℕ) → IsTrue (is_apart more) → Prints later (kinds_in r) more → Prints later (kinds_in (msg_pieces c (of i) r)) (spell i ++ more)) where
-  mutual
-    pub message : (k d n c : ℕ) (m : Message) → InScope top k d n → MessageOver k d m → HasVersion later m → (r : List Piece) (more : List ℕ)
-        → IsTrue (is_apart more) → Prints later (kinds_in r) more → Prints later (kinds_in (msg_pieces c (message_tree of n m) r)) (message_text spell n m ++ more)
-    message k d n c (bound i) scope o v r more apart p = (let b = scope.bound in let a = scope.all in names (n - suc i) (omega arith) c r more apart p)
-    message k d n c (name x) scope o v r more apart p = (let f = scope.free in names x (omega arith) c r more apart p)
-    message k d n c unit scope o v r more apart p = mark ParenOpen (mark ParenClose p)
-    message k d n c (pair a b) scope o v r more apart p =
-        mark ParenOpen (part (message_text spell n a) _ more (message k d n (c + 1) a scope o.0 v.0 _ _ refl
-        (mark Comma (space (part (tuple_text spell n b) _ more (tuple k d n (c + 1) b scope o.1 v.1 _ _ refl (mark ParenClose p)))))))
-    message k d n c (in_left a) scope o v r more apart p = keyword word.Inl refl refl (space (message k d n (c + 1) a scope o v _ more apart p))
-    message k d n c (in_right a) scope o v r more apart p = keyword word.Inr refl refl (space (message k d n (c + 1) a scope o v _ more apart p))
-    message k d n c (enc a b) scope o v r more apart p =
-        mark BraceOpen (part (message_text spell n a) _ more (message k d n (c + 1) a scope o.0 v.0 _ _ refl (mark BraceClose (message k d n (c + 1) b scope o.1 v.1 _ more apart p))))
-    message k d n c (hash a) scope o v r more apart p =
-        late_keyword word.Hash refl v.0 refl (mark ParenOpen (part (message_text spell n a) _ more (message k d n (c + 1) a scope o v.1 _ _ refl (mark ParenClose p))))
+  -- the message, and its text behind the first component of a tuple
+  both : (k d n c : ℕ) (m : Message) → InScope top k d n → MessageOver k d m → HasVersion later m → (r : List Piece) (more : List ℕ) → IsTrue (is_apart more) → Prints later (kinds_in r) more
+      → Prints later (kinds_in (msg_pieces c (message_tree of n m) r)) (message_text spell n m ++ more)
+      × Prints later (kinds_in (msg_pieces c (second_tree of n m) (msgs_pieces c (rest_trees of n m) r))) (tuple_text spell n m ++ more)
+  both k d n c (bound i) scope o v r more apart p = twice (let b = scope.bound in let a = scope.all in names (n - suc i) (omega arith) c r more apart p)
+  both k d n c (name x) scope o v r more apart p = twice (let f = scope.free in names x (omega arith) c r more apart p)
+  both k d n c unit scope o v r more apart p = twice (mark ParenOpen (mark ParenClose p))
+  both k d n c (pair a b) scope o v r more apart p = (
+    mark ParenOpen (part (message_text spell n a) _ more ((both k d n (c + 1) a scope o.0 v.0 _ _ refl
+        (mark Comma (space (part (tuple_text spell n b) _ more ((both k d n (c + 1) b scope o.1 v.1 _ _ refl (mark ParenClose p)).1))))).0)),
+    part (message_text spell n a) _ more ((both k d n c a scope o.0 v.0 _ _ refl (mark Comma (space ((both k d n c b scope o.1 v.1 r more apart p).1)))).0),
+  )
+  both k d n c (in_left a) scope o v r more apart p = twice (keyword word.Inl refl refl (space ((both k d n (c + 1) a scope o v _ more apart p).0)))
+  both k d n c (in_right a) scope o v r more apart p = twice (keyword word.Inr refl refl (space ((both k d n (c + 1) a scope o v _ more apart p).0)))
+  both k d n c (enc a b) scope o v r more apart p =
+      twice (mark BraceOpen (part (message_text spell n a) _ more ((both k d n (c + 1) a scope o.0 v.0 _ _ refl (mark BraceClose ((both k d n (c + 1) b scope o.1 v.1 _ more apart p).0))).0)))
+  both k d n c (hash a) scope o v r more apart p =
+      twice (late_keyword word.Hash refl v.0 refl (mark ParenOpen (part (message_text spell n a) _ more ((both k d n (c + 1) a scope o v.1 _ _ refl (mark ParenClose p)).0))))
 
-    pub tuple : (k d n c : ℕ) (m : Message) → InScope top k d n → MessageOver k d m → HasVersion later m → (r : List Piece) (more : List ℕ)
-        → IsTrue (is_apart more) → Prints later (kinds_in r) more → Prints later (kinds_in (msg_pieces c (second_tree of n m) (msgs_pieces c (rest_trees of n m) r))) (tuple_text spell n m ++ more)
-    tuple k d n c (bound i) scope o v r more apart p = (let b = scope.bound in let a = scope.all in names (n - suc i) (omega arith) c r more apart p)
-    tuple k d n c (name x) scope o v r more apart p = (let f = scope.free in names x (omega arith) c r more apart p)
-    tuple k d n c unit scope o v r more apart p = mark ParenOpen (mark ParenClose p)
-    tuple k d n c (pair a b) scope o v r more apart p =
-        part (message_text spell n a) _ more (message k d n c a scope o.0 v.0 _ _ refl (mark Comma (space (tuple k d n c b scope o.1 v.1 r more apart p))))
-    tuple k d n c (in_left a) scope o v r more apart p = keyword word.Inl refl refl (space (message k d n (c + 1) a scope o v _ more apart p))
-    tuple k d n c (in_right a) scope o v r more apart p = keyword word.Inr refl refl (space (message k d n (c + 1) a scope o v _ more apart p))
-    tuple k d n c (enc a b) scope o v r more apart p =
-        mark BraceOpen (part (message_text spell n a) _ more (message k d n (c + 1) a scope o.0 v.0 _ _ refl (mark BraceClose (message k d n (c + 1) b scope o.1 v.1 _ more apart p))))
-    tuple k d n c (hash a) scope o v r more apart p =
-        late_keyword word.Hash refl v.0 refl (mark ParenOpen (part (message_text spell n a) _ more (message k d n (c + 1) a scope o v.1 _ _ refl (mark ParenClose p))))
+  pub message : (k d n c : ℕ) (m : Message) → InScope top k d n → MessageOver k d m → HasVersion later m → (r : List Piece) (more : List ℕ)
+      → IsTrue (is_apart more) → Prints later (kinds_in r) more → Prints later (kinds_in (msg_pieces c (message_tree of n m) r)) (message_text spell n m ++ more)
+  message k d n c m scope o v r more apart p = (both k d n c m scope o v r more apart p).0
 
   pub atom : (k d n c : ℕ) (a : Atom) → InScope top k d n → OfAtom (MessageOver k d) a → IsAtomIn later a → (r : List Piece) (more : List ℕ)
       → IsTrue (is_apart more) → Prints later (kinds_in r) more → Prints later (kinds_in (atom_pieces c (atom_tree of n a) r)) (atom_text spell n a ++ more)

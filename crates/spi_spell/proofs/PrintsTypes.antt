@@ -11,7 +11,7 @@ use Rattle.spi_term.specs.Term.{Message, Effect, Ty, un, unit_ty, pair_ty, sum_t
 use Rattle.spi_term.specs.Names.{MessageOver, OfEffect, OfTy}
 use Rattle.spi_term.specs.Spelling.{ty_nodes}
 use Rattle.spi_show.specs.Terms.{message_text, effect_text, typed_text, type_text, tuple_type_text}
-use Rattle.spi_spell.proofs.Printed.{spelled_name, message_tree, atom_trees, type_tree, field_trees, last_tree}
+use Rattle.spi_spell.proofs.Printed.{twice, spelled_name, message_tree, atom_trees, type_tree, field_trees, last_tree}
 use Rattle.spi_spell.proofs.Printable.{HasVersion, EffectFits, PartsFit}
 use Rattle.spi_spell.proofs.Prints as prints
 use Rattle.spi_spell.proofs.Prints.{Prints}
@@ -35,32 +35,27 @@ module _ (later : Bool) (top : ℕ) (spell : ℕ → List ℕ) (fit : (i : ℕ) 
       → Prints later (kinds_in r) more → Prints later (kinds_in (effect_pieces c (atom_trees (spelled_name spell) n es) r)) (effect_text spell n es ++ more)
   effect k d n c es scope o v = terms.effect later top (spelled_name spell) spell (λ i low c r more apart p. prints.spelling (spell i) (fit i low) apart p) k d n c es scope o (effect_in later es v)
 
-  mutual
-    pub type : (k d n c : ℕ) (a : Ty) → InScope top k d n → n + ty_nodes a ≤ top → OfTy (MessageOver k) d a → PartsFit later a → (r : List Piece) (more : List ℕ)
-        → IsTrue (is_apart more) → Prints later (kinds_in r) more → Prints later (kinds_in (ty_pieces c (type_tree spell n a) r)) (type_text spell n a ++ more)
-    type k d n c un scope few o v r more apart p = prints.keyword word.Un refl apart p
-    type k d n c unit_ty scope few o v r more apart p = prints.mark mark.ParenOpen (prints.mark mark.ParenClose p)
-    type k d n c (pair_ty a b) scope few o v r more apart p =
-        prints.mark mark.ParenOpen (prints.part (typed_text spell n (type_text spell n a)) _ more (typed n (type_text spell n a) _ (omega arith) (type k d n (c + 1) a scope (omega arith) o.0 v.0 _ _ refl
+  -- the type, and its text behind the first component of a tuple
+  both : (k d n c : ℕ) (a : Ty) → InScope top k d n → n + ty_nodes a ≤ top → OfTy (MessageOver k) d a → PartsFit later a → (r : List Piece) (more : List ℕ)
+      → IsTrue (is_apart more) → Prints later (kinds_in r) more
+      → Prints later (kinds_in (ty_pieces c (type_tree spell n a) r)) (type_text spell n a ++ more)
+      × Prints later (kinds_in (fields_pieces c (field_trees spell n a) (last_pieces c (last_tree spell n a) r))) (tuple_type_text spell n a ++ more)
+  both k d n c un scope few o v r more apart p = twice (prints.keyword word.Un refl apart p)
+  both k d n c unit_ty scope few o v r more apart p = twice (prints.mark mark.ParenOpen (prints.mark mark.ParenClose p))
+  both k d n c (pair_ty a b) scope few o v r more apart p = (
+    prints.mark mark.ParenOpen (prints.part (typed_text spell n (type_text spell n a)) _ more (typed n (type_text spell n a) _ (omega arith) ((both k d n (c + 1) a scope (omega arith) o.0 v.0 _ _ refl
         (prints.mark mark.Comma (prints.space (prints.part (tuple_type_text spell (suc n) b) _ more
-        (tuple k (suc d) (suc n) (c + 1) b (inner scope (omega arith)) (omega arith) o.1 v.1 _ _ refl (prints.mark mark.ParenClose p))))))))
-    type k d n c (sum_ty a b) scope few o v r more apart p =
-        prints.mark mark.ParenOpen (prints.part (type_text spell n a) _ more (type k d n (c + 1) a scope (omega arith) o.0 v.0 _ _ refl
-        (prints.space (prints.mark mark.Plus (prints.space (prints.part (type_text spell n b) _ more (type k d n (c + 1) b scope (omega arith) o.1 v.1 _ _ refl (prints.mark mark.ParenClose p))))))))
-    type k d n c (key a) scope few o v r more apart p =
-        prints.keyword word.Key refl refl (prints.mark mark.ParenOpen (prints.part (type_text spell n a) _ more (type k d n (c + 1) a scope (omega arith) o v _ _ refl (prints.mark mark.ParenClose p))))
-    type k d n c (nonce es) scope few o v r more apart p = prints.keyword word.Nonce refl refl (prints.space (effect k d n (c + 1) es scope o v _ more p))
+        ((both k (suc d) (suc n) (c + 1) b (inner scope (omega arith)) (omega arith) o.1 v.1 _ _ refl (prints.mark mark.ParenClose p)).1))))).0))),
+    prints.part (typed_text spell n (type_text spell n a)) _ more (typed n (type_text spell n a) _ (omega arith) ((both k d n c a scope (omega arith) o.0 v.0 _ _ refl
+        (prints.mark mark.Comma (prints.space ((both k (suc d) (suc n) c b (inner scope (omega arith)) (omega arith) o.1 v.1 r more apart p).1)))).0)),
+  )
+  both k d n c (sum_ty a b) scope few o v r more apart p =
+      twice (prints.mark mark.ParenOpen (prints.part (type_text spell n a) _ more ((both k d n (c + 1) a scope (omega arith) o.0 v.0 _ _ refl
+      (prints.space (prints.mark mark.Plus (prints.space (prints.part (type_text spell n b) _ more ((both k d n (c + 1) b scope (omega arith) o.1 v.1 _ _ refl (prints.mark mark.ParenClose p)).0)))))).0)))
+  both k d n c (key a) scope few o v r more apart p =
+      twice (prints.keyword word.Key refl refl (prints.mark mark.ParenOpen (prints.part (type_text spell n a) _ more ((both k d n (c + 1) a scope (omega arith) o v _ _ refl (prints.mark mark.ParenClose p)).0))))
+  both k d n c (nonce es) scope few o v r more apart p = twice (prints.keyword word.Nonce refl refl (prints.space (effect k d n (c + 1) es scope o v _ more p)))
 
-    tuple : (k d n c : ℕ) (a : Ty) → InScope top k d n → n + ty_nodes a ≤ top → OfTy (MessageOver k) d a → PartsFit later a → (r : List Piece) (more : List ℕ)
-        → IsTrue (is_apart more) → Prints later (kinds_in r) more → Prints later (kinds_in (fields_pieces c (field_trees spell n a) (last_pieces c (last_tree spell n a) r))) (tuple_type_text spell n a ++ more)
-    tuple k d n c un scope few o v r more apart p = prints.keyword word.Un refl apart p
-    tuple k d n c unit_ty scope few o v r more apart p = prints.mark mark.ParenOpen (prints.mark mark.ParenClose p)
-    tuple k d n c (pair_ty a b) scope few o v r more apart p =
-        prints.part (typed_text spell n (type_text spell n a)) _ more (typed n (type_text spell n a) _ (omega arith) (type k d n c a scope (omega arith) o.0 v.0 _ _ refl
-        (prints.mark mark.Comma (prints.space (tuple k (suc d) (suc n) c b (inner scope (omega arith)) (omega arith) o.1 v.1 r more apart p)))))
-    tuple k d n c (sum_ty a b) scope few o v r more apart p =
-        prints.mark mark.ParenOpen (prints.part (type_text spell n a) _ more (type k d n (c + 1) a scope (omega arith) o.0 v.0 _ _ refl
-        (prints.space (prints.mark mark.Plus (prints.space (prints.part (type_text spell n b) _ more (type k d n (c + 1) b scope (omega arith) o.1 v.1 _ _ refl (prints.mark mark.ParenClose p))))))))
-    tuple k d n c (key a) scope few o v r more apart p =
-        prints.keyword word.Key refl refl (prints.mark mark.ParenOpen (prints.part (type_text spell n a) _ more (type k d n (c + 1) a scope (omega arith) o v _ _ refl (prints.mark mark.ParenClose p))))
-    tuple k d n c (nonce es) scope few o v r more apart p = prints.keyword word.Nonce refl refl (prints.space (effect k d n (c + 1) es scope o v _ more p))
+  pub type : (k d n c : ℕ) (a : Ty) → InScope top k d n → n + ty_nodes a ≤ top → OfTy (MessageOver k) d a → PartsFit later a → (r : List Piece) (more : List ℕ)
+      → IsTrue (is_apart more) → Prints later (kinds_in r) more → Prints later (kinds_in (ty_pieces c (type_tree spell n a) r)) (type_text spell n a ++ more)
+  type k d n c a scope few o v r more apart p = (both k d n c a scope few o v r more apart p).0

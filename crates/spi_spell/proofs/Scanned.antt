@@ -1,15 +1,14 @@
 -- Whether a text writes tokens, and whether their words fit, by going over them.
-use Rattle.std.proofs.Common.{◌≡◌, ℕ, zero, suc, ◌<◌, ◌≤◌, Bool, true, false, ◌&&◌, ◌==◌, IsTrue, List, [], ◌∷◌, ◌++◌, length, Option, Some, None, if◌then◌else◌, arith, refl, sym, ap, subst, ◌∙◌}
+use Rattle.std.proofs.Common.{◌≡◌, ℕ, zero, suc, ◌<◌, Bool, true, false, ◌&&◌, ◌==◌, List, [], ◌∷◌, ◌++◌, length, Option, Some, None, if◌then◌else◌, arith, refl, sym, subst}
 use Rattle.std.specs.Prelude.{nat_lt, is_none}
 use Rattle.std.specs.Char.{is_ascii_alphabetic}
-use Rattle.std.specs.List.{AllByRecursion}
 use Rattle.std.proofs.lemmas.Bool.{and_parts, eqb-true, ltb-true}
 use Rattle.spi_lex.specs.declared.token.Kind.{Kind}
 use Rattle.spi_lex.specs.declared.token.Kind.TheVariants as kinds
 use Rattle.spi_lex.specs.declared.token.Reserved.{Reserved}
-use Rattle.spi_lex.specs.Lexeme.{is_blank, IsIdentifier}
-use Rattle.spi_lex.specs.Words.{version_1, word_bytes, word_of}
-use Rattle.spi_lex.specs.Writing.{written, is_apart, IsEnded, Writes, nothing, blank, token, IsKind}
+use Rattle.spi_lex.specs.Lexeme.{is_blank}
+use Rattle.spi_lex.specs.Words.{version_1, word_of}
+use Rattle.spi_lex.specs.Writing.{written, is_apart, IsEnded, Writes, nothing, blank, token}
 use Rattle.spi_tree.specs.Formed.{IsWordFit, AreWordsFit}
 use Rattle.spi_spell.proofs.Plain.{is_plain, ArePlain, plain_identifier}
 

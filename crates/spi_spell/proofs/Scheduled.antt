@@ -8,23 +8,17 @@ use Rattle.spi_lex.specs.declared.token.Kind.TheVariants as kinds
 use Rattle.spi_lex.specs.declared.token.Mark.TheVariants.{Semicolon}
 use Rattle.spi_lex.specs.Lexing.{kinds_of}
 use Rattle.spi_tree.specs.Trees as t
-use Rattle.spi_tree.specs.Pieces.{Piece, steps_pieces}
-use Rattle.spi_parse.specs.Exact.{Spells}
+use Rattle.spi_tree.specs.Pieces.{steps_pieces}
 use Rattle.spi_run.specs.Reduction.{Step, act, talk}
 use Rattle.spi_scope.specs.Parts.{step_in}
 use Rattle.spi_scope.specs.Points.{in_order, steps_points}
 use Rattle.spi_scope.specs.First.{Clean}
+use Rattle.spi_spell.proofs.Reading.{Reads}
 use Rattle.spi_spell.proofs.Texts.{step_kinds, steps_kinds}
 
--- the steps, from the tokens on which theirs stand first, the token before which ends at e
-pub record ReadSteps (ss : List Step) (e : ℕ) (ts : List Token) (ks : List Kind) : Type 0 where
-  pub steps : List t.Step
-  pub are : map step_in steps ≡ ss
-  pub number : length steps ≡ length ss
-  pub end : ℕ
-  pub rest : List Token
-  pub left : kinds_of rest ≡ ks
-  pub spells : (after : List Token) (r : List Piece) → Spells after end r rest → Spells after e (steps_pieces steps r) ts
+-- as many steps, from the tokens on which theirs stand first, the token before which ends at e
+abbrev pub ReadSteps : List Step → ℕ → List Token → List Kind → Type 0
+ReadSteps ss e ts ks = Reads (λ (steps : List t.Step). length steps ≡ length ss) (λ (steps : List t.Step). map step_in steps) steps_pieces ss e ts ks
 
 abbrev over : Token → Token → Span
 over a b = record { from = a.span.from; to = b.span.to }
@@ -41,12 +35,10 @@ read_act i ss e (a ∷ b ∷ c ∷ ts) ks go is =
     let behind : kinds_of ts ≡ steps_kinds ss ++ ks = cc in
     let x = go c.span.to ts behind in
     record {
-      steps = t.act (over a c) i ∷ x.steps;
+      read = t.act (over a c) i ∷ x.read;
       are = ap (λ (l : List Step). act i ∷ l) x.are;
-      number = omega (arith, x.number);
-      end = x.end;
+      is = omega (arith, x.is);
       rest = x.rest;
-      left = x.left;
       spells = λ after r h. (refl, (first, refl, (place, refl, (closed, refl, (refl, x.spells after r h)))));
     }
 
@@ -64,17 +56,15 @@ read_talk i j ss e (a ∷ b ∷ d ∷ c ∷ ts) ks go is =
     let behind : kinds_of ts ≡ steps_kinds ss ++ ks = cc in
     let x = go c.span.to ts behind in
     record {
-      steps = t.talk (over a c) i j ∷ x.steps;
+      read = t.talk (over a c) i j ∷ x.read;
       are = ap (λ (l : List Step). talk i j ∷ l) x.are;
-      number = omega (arith, x.number);
-      end = x.end;
+      is = omega (arith, x.is);
       rest = x.rest;
-      left = x.left;
       spells = λ after r h. (refl, (first, refl, (out, refl, (inp, refl, (closed, refl, (refl, x.spells after r h))))));
     }
 
 pub read_steps : (ss : List Step) (e : ℕ) (ts : List Token) (ks : List Kind) → kinds_of ts ≡ steps_kinds ss ++ ks → ReadSteps ss e ts ks
-read_steps [] e ts ks is = record { steps = []; are = refl; number = refl; end = e; rest = ts; left = is; spells = λ after r h. h }
+read_steps [] e ts ks is = record { read = []; is = refl; are = refl; rest = record { end = e; tokens = ts; left = is }; spells = λ after r h. h }
 read_steps (act i ∷ ss) e ts ks is = read_act i ss e ts ks (λ f us q. read_steps ss f us ks q) (is ∙ append_assoc (step_kinds (act i)) (steps_kinds ss) ks)
 read_steps (talk i j ∷ ss) e ts ks is = read_talk i j ss e ts ks (λ f us q. read_steps ss f us ks q) (is ∙ append_assoc (step_kinds (talk i j)) (steps_kinds ss) ks)
 

@@ -1,24 +1,23 @@
 -- The generated file of so many sessions is formed, and that of one session is the handshake as it is written.
-use Rattle.std.proofs.Common.{◌≡◌, ℕ, suc, ◌+◌, ◌≤◌, Bool, true, false, Some, ◌&&◌, List, [], ◌∷◌, ◌++◌, None, Ok, refl, sym, ap, subst, ◌∙◌, ◌⊎◌, inl, inr, arith}
+use Rattle.std.proofs.Common.{◌≡◌, ℕ, ◌+◌, Bool, true, false, Some, ◌&&◌, List, [], ◌∷◌, ◌++◌, None, Ok, refl, sym, ap, subst, ◌∙◌, inl, arith}
 use Rattle.std.specs.List.{AllByRecursion}
 use Rattle.std.proofs.lemmas.Bool.{and_parts}
 use Rattle.spi_lex.specs.declared.token.Kind.{Kind}
 use Rattle.spi_lex.specs.declared.token.Kind.TheVariants as kinds
 use Rattle.spi_lex.specs.declared.token.Token.{Token}
-use Rattle.spi_lex.specs.Lexing.{Lexes, kinds_of, is_version_2}
+use Rattle.spi_lex.specs.Lexing.{Lexes, kinds_of}
 use Rattle.spi_lex.specs.declared.token.Reserved.{Reserved}
 use Rattle.spi_lex.specs.declared.token.Reserved.TheVariants as word
 use Rattle.spi_lex.specs.Words.{version_1, word_of, word_bytes}
-use Rattle.spi_lex.specs.Writing.{Writes, AreKinds, first_version, IsKind}
+use Rattle.spi_lex.specs.Writing.{first_version, IsKind}
 use Rattle.spi_lex.proofs.Writing.{reads_back}
 use Rattle.spi_tree.specs.Trees as t
-use Rattle.spi_tree.specs.Pieces.{Piece, opens, cell, closes, Place, in_seq, at_level, below, beside, proc_pieces, decls_pieces, a_reserved, kinds_in, tokens_of, file_pieces}
-use Rattle.spi_tree.specs.Formed.{IsMsg, IsProc, IsFormed, AreWordsFit, IsWordFit}
-use Rattle.spi_tree.proofs.Same.{same_proc}
+use Rattle.spi_tree.specs.Pieces.{Piece, closes, Place, in_seq, at_level, below, beside, proc_pieces, decls_pieces, a_reserved, kinds_in, tokens_of}
+use Rattle.spi_tree.specs.Formed.{IsMsg, IsProc, IsFormed, AreWordsFit}
 use Rattle.spi_gen.specs.Handshake.{nowhere, label, handshake, answering, checking, asking, declarations}
 use Rattle.spi_gen.specs.Sessions.{AreBeside, one_session, two_halves, AreGrouped, alone, in_parentheses, IsSessions}
 use Rattle.spi_spell.specs.Generated.{handshake_text}
-use Rattle.spi_spell.proofs.Scanned.{is_written, writes, are_fit, words_fit}
+use Rattle.spi_spell.proofs.Scanned.{writes, words_fit}
 
 -- ---- its processes are formed
 

@@ -8,7 +8,7 @@ use Rattle.spi_tree.specs.Trees as t
 use Rattle.spi_tree.specs.Pieces.{Piece, Place, in_seq, at_level, nesting_of, level_of, below, beside, proc_pieces}
 use Rattle.spi_tree.specs.Formed.{IsMsg, AreMsgs, IsProc}
 use Rattle.spi_parse.specs.Exact.{IsWithin}
-use Rattle.spi_term.specs.Term.{Message, bound, name, unit, pair, in_left, in_right, enc, hash, Process, leaf, prefix, fork, message_size}
+use Rattle.spi_term.specs.Term.{Message, Process, leaf, prefix, fork, message_size}
 use Rattle.spi_scope.specs.declared.fault.ScopeFault.{ScopeFault}
 use Rattle.spi_scope.specs.Scope.{Names, number_of, Abbreviations}
 use Rattle.spi_scope.specs.Meaning.{named, nested, message_in, messages_in, process_in}
@@ -17,6 +17,7 @@ use Rattle.spi_scope.specs.First.{Clean}
 use Rattle.spi_scope.proofs.Sizes.{message_sized}
 use Rattle.spi_spell.proofs.Fitting.{FitsMessage, Fits, bound_put}
 use Rattle.spi_spell.proofs.Past.{past_msg, past_named, past_binder, past_proc}
+use Rattle.spi_spell.proofs.Counts.{some_size}
 
 -- ---- no message is too large
 
@@ -96,16 +97,6 @@ match_small ts xs s m x a n c h = tested_small ts xs s m a n h.0
 
 -- ---- messages
 
-some_nodes : (m : Message) → 1 ≤ message_size m
-some_nodes (bound i) = omega arith
-some_nodes (name x) = omega arith
-some_nodes unit = omega arith
-some_nodes (pair a b) = omega arith
-some_nodes (in_left a) = omega arith
-some_nodes (in_right a) = omega arith
-some_nodes (enc a b) = omega arith
-some_nodes (hash a) = omega arith
-
 name_fits : (later : Bool) (n k s : ℕ) (o : Option ℕ) → n ≤ 1000 → FitsMessage later n (named k s o)
 name_fits later n k s None h = h
 name_fits later n k s (Some x) h = bound_put later n x (s - suc x) (nat_lt x k) h
@@ -113,7 +104,7 @@ name_fits later n k s (Some x) h = bound_put later n x (s - suc x) (nat_lt x k) 
 module _ (later : Bool) (k : ℕ) (xs : Names) where
   mutual
     msg_fits : (m : t.Msg) (n : ℕ) → IsMsg later false m → n + message_size (message_in k xs m) ≤ 1001 → FitsMessage later n (message_in k xs m)
-    msg_fits (t.name s w) n h low = (let some = some_nodes (named k (length xs) (number_of xs w.word)) in name_fits later n k (length xs) (number_of xs w.word) (omega arith))
+    msg_fits (t.name s w) n h low = (let some = some_size (named k (length xs) (number_of xs w.word)) in name_fits later n k (length xs) (number_of xs w.word) (omega arith))
     msg_fits (t.unit s) n h low = omega arith
     msg_fits (t.tuple s a b ms) n h low =
         (omega arith, msg_fits a (n + 1) h.0 (omega arith), row_fits (message_in k xs b) ms (λ i q. msg_fits b i h.1 q) (n + 1) h.2 (omega arith))
