@@ -19,6 +19,10 @@ use Rattle.spi_blame.specs.Reasons.{Fits, IsUnscoped, loose, unknown, Reason, mi
 key_named : {env : Env} {x : ℕ} {t : Ty} → At env x (key t) → IsKeyName env (name x)
 key_named {env} {x} {t} a = record { number = x; payload = t; is = refl; has = a }
 
+-- the name of a Key type has one payload
+payload_one : {env : Env} {x : ℕ} {t u : Ty} → At env x (key t) → At env x (key u) → t ≡ u
+payload_one {t = t} {u = u} a b = let e : key t ≡ key u = at_unique a b in cc
+
 -- a question comes down to one list
 pub asks_one : {env : Env} {q : Question} {qs rs : List Question} → Asks env q qs → Asks env q rs → qs ≡ rs
 asks_one (asks_name a s) (asks_name b z) = refl
@@ -30,7 +34,7 @@ asks_one asks_left asks_left = refl
 asks_one asks_left_un asks_left_un = refl
 asks_one asks_right asks_right = refl
 asks_one asks_right_un asks_right_un = refl
-asks_one (asks_key {m} {x} {t} a) (asks_key {t = u} b) = let e : key t ≡ key u = at_unique a b in let f : t ≡ u = cc in ap (λ v. typed (name x) (key v) ∷ typed m v ∷ []) f
+asks_one (asks_key {m} {x} a) (asks_key b) = ap (λ v. typed (name x) (key v) ∷ typed m v ∷ []) (payload_one a b)
 asks_one (asks_key a) (asks_enc n) = absurd (n (key_named a))
 asks_one (asks_enc n) (asks_key a) = absurd (n (key_named a))
 asks_one (asks_enc n) (asks_enc k) = refl
@@ -40,7 +44,7 @@ asks_one asks_label_unit asks_label_unit = refl
 asks_one asks_label_pair asks_label_pair = refl
 asks_one asks_label_left asks_label_left = refl
 asks_one asks_label_right asks_label_right = refl
-asks_one (asks_label_key {m} {x} {t} a) (asks_label_key {t = u} b) = let e : key t ≡ key u = at_unique a b in let f : t ≡ u = cc in ap (λ v. typed (name x) (key v) ∷ typed m v ∷ []) f
+asks_one (asks_label_key {m} {x} a) (asks_label_key b) = ap (λ v. typed (name x) (key v) ∷ typed m v ∷ []) (payload_one a b)
 asks_one (asks_label_key a) (asks_label_enc n) = absurd (n (key_named a))
 asks_one (asks_label_enc n) (asks_label_key a) = absurd (n (key_named a))
 asks_one (asks_label_enc n) (asks_label_enc k) = refl
@@ -252,17 +256,7 @@ label_answer env x = ⊎_elim (λ h. none (asks_label_name h.1)) (λ n. no (itse
 -- a row is for a form that fits
 pub asks_fits : {env : Env} {m : Message} {t : Ty} {qs : List Question} → Asks env (typed m t) qs → Fits m t
 asks_fits (asks_name a s) = tt
-asks_fits asks_unit = tt
-asks_fits asks_unit_un = tt
-asks_fits asks_pair = tt
-asks_fits asks_pair_un = tt
-asks_fits asks_left = tt
-asks_fits asks_left_un = tt
-asks_fits asks_right = tt
-asks_fits asks_right_un = tt
-asks_fits (asks_key a) = tt
-asks_fits (asks_enc n) = tt
-asks_fits asks_hash = tt
+asks_fits _ = tt
 
 mutual
   pub answer_typed : (env : Env) (m : Message) (t : Ty) → Answer env (typed m t)
