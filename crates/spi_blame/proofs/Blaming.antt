@@ -225,12 +225,7 @@ key_or env (name x) = ⊎_elim (λ h. of h.0 h.1) (λ n. inr (λ k. let e : x �
     of (sum_ty t u) a = other a (λ v e. absurd (cc (e)))
     of (nonce es) a = other a (λ v e. absurd (cc (e)))
 key_or env (bound i) = inr (λ k. cc (k.is))
-key_or env unit = inr (λ k. cc (k.is))
-key_or env (pair m n) = inr (λ k. cc (k.is))
-key_or env (in_left m) = inr (λ k. cc (k.is))
-key_or env (in_right m) = inr (λ k. cc (k.is))
-key_or env (enc m n) = inr (λ k. cc (k.is))
-key_or env (hash m) = inr (λ k. cc (k.is))
+key_or env _ = inr (λ k. cc (k.is))
 
 typed_key : {env : Env} {m n : Message} (k : IsKeyName env n) → Asks env (typed (enc m n) un) (typed (name k.number) (key k.payload) ∷ typed m (k.payload) ∷ [])
 typed_key {env} {m} k = subst (λ n. Asks env (typed (enc m n) un) (typed (name k.number) (key k.payload) ∷ typed m (k.payload) ∷ [])) (sym k.is) (asks_key k.has)
@@ -335,9 +330,6 @@ two_children (at_later at_first) c d = d
 two_children (at_later (at_later x)) c d = elim x [ ]
 
 pub child_asked : {env : Env} {q r : Question} {qs : List Question} {i : ℕ} → Asks env q qs → At qs i r → ChildAt (subject q) i (subject r)
-child_asked (asks_name b s) a = no_child a
-child_asked asks_unit a = no_child a
-child_asked asks_unit_un a = no_child a
 child_asked asks_pair a = two_children a child_first child_second
 child_asked asks_pair_un a = two_children a child_first child_second
 child_asked asks_left a = one_child a child_left
@@ -347,14 +339,13 @@ child_asked asks_right_un a = one_child a child_right
 child_asked (asks_key b) a = two_children a child_key child_body
 child_asked (asks_enc n) a = two_children a child_key child_body
 child_asked asks_hash a = one_child a child_hash
-child_asked (asks_label_name b) a = no_child a
-child_asked asks_label_unit a = no_child a
 child_asked asks_label_pair a = two_children a child_first child_second
 child_asked asks_label_left a = one_child a child_left
 child_asked asks_label_right a = one_child a child_right
 child_asked (asks_label_key b) a = two_children a child_key child_body
 child_asked (asks_label_enc n) a = two_children a child_key child_body
 child_asked asks_label_hash a = one_child a child_hash
+child_asked _ a = no_child a
 
 pub reached_part : {env : Env} {q r : Question} {path : List ℕ} → Reaches env q path r → PartAt (subject q) path (subject r)
 reached_part reaches_itself = part_whole
