@@ -67,16 +67,7 @@ passes_from k n p t now bs us h g e b u =
 
 length_binding : (s : Prefix) → length (binding s) ≡ binds s
 length_binding (Recvs m t) = refl
-length_binding (Serves m t) = refl
-length_binding (Splits m t u) = refl
-length_binding (Selects m t n u) = refl
-length_binding (Decrypts m t n) = refl
-length_binding (Checks m n) = refl
-length_binding (Begins m) = refl
-length_binding (Ends m) = refl
-length_binding (EndManys m) = refl
-length_binding (Casts m t) = refl
-length_binding (Makes t) = refl
+length_binding _ = refl
 
 -- a process at another place, and after other names
 flat_at : (p : Process) {i j k n : ℕ} → i ≡ j → k ≡ n → flat i k p ≡ flat j n p
