@@ -2,7 +2,7 @@
 use Rattle.std.proofs.Common.{◌≡◌, ℕ, zero, suc, List, [], ◌∷◌, ◌++◌, Some, map, refl, sym, ap, ◌∙◌}
 use Rattle.std.specs.Prelude.{slice_get}
 use Rattle.std.proofs.lemmas.List.{map-append}
-use Rattle.spi_term.specs.Term.{Message, bound, name, unit, pair, in_left, in_right, enc, hash, Effect, Ty, un, unit_ty, pair_ty, sum_ty, key, nonce}
+use Rattle.spi_term.specs.Term.{Message, unit, pair, in_left, in_right, Effect, Ty, un, unit_ty, pair_ty, sum_ty, key, nonce}
 use Rattle.spi_term.specs.Substitution.{ty_map}
 use Rattle.spi_rules.specs.Derivations.{RuleUse, uses}
 use Rattle.spi_rules.specs.declared.rule.Rule.TheVariants.{MsgPair, MsgInl, MsgInr}

@@ -3,7 +3,7 @@ use Rattle.std.proofs.Common.{◌≡◌, ℕ, suc, ◌+◌, ◌-◌, ◌≤◌, 
 use Rattle.std.specs.Prelude.{slice_get}
 use Rattle.std.proofs.Math.Seq.{take-length}
 use Rattle.std.proofs.lemmas.List.{take-take, take-append-le, length-take-le, drop_all}
-use Rattle.spi_term.specs.Term.{Ty, un, Leaf, Prefix, Fork, Process, leaf, prefix, fork, binds, fork_binds, process_size, Recvs, Serves, Splits, Selects, Decrypts, Checks, Begins, Ends, EndManys, Casts, Makes}
+use Rattle.spi_term.specs.Term.{Ty, un, Leaf, Prefix, Fork, Process, leaf, prefix, fork, binds, fork_binds, process_size, Recvs}
 use Rattle.spi_term.specs.Spelling.{Shape, leaf_at, prefix_at, fork_at, flat, numbered, spelled}
 use Rattle.spi_term.specs.Arena.{scope_of}
 use Rattle.spi_rules.specs.Environment.{untrusted}
