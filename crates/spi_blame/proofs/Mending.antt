@@ -5,7 +5,7 @@ use Rattle.spi_term.specs.Lists.{At, at_first, at_later}
 use Rattle.spi_term.proofs.Lists.{at_unique}
 use Rattle.spi_term.specs.Term.{Message, un}
 use Rattle.spi_rules.specs.Environment.{Env}
-use Rattle.spi_blame.specs.Blaming.{Question, typed, Holds, subject, IsKeyName, Asks, asks_name, asks_unit, asks_unit_un, asks_pair, asks_pair_un, asks_left, asks_left_un, asks_right, asks_right_un, asks_key, asks_enc, asks_hash, asks_label_name, asks_label_unit, asks_label_pair, asks_label_left, asks_label_right, asks_label_key, asks_label_enc, asks_label_hash, HoldBefore, Blamed, itself, inside}
+use Rattle.spi_blame.specs.Blaming.{Question, typed, Holds, subject, IsKeyName, Asks, asks_pair, asks_pair_un, asks_left, asks_left_un, asks_right, asks_right_un, asks_key, asks_enc, asks_hash, asks_label_pair, asks_label_left, asks_label_right, asks_label_key, asks_label_enc, asks_label_hash, HoldBefore, Blamed, itself, inside}
 use Rattle.spi_blame.specs.Paths.{IsLeftOf, turns_here, turns_further, ChildAt, child_first, child_second, child_left, child_right, child_body, child_key, child_hash}
 use Rattle.spi_blame.specs.Mending.{asked_of, put_child, Swapped, swap_whole, swap_inside}
 use Rattle.spi_blame.proofs.Blaming.{no_key, key_typed, asks_one, blamed_no, child_asked}
