@@ -107,26 +107,6 @@ fn answer_name(alloc: Global) -> Result<STy, NoMemory>
     })
 }
 
-// out net {(m, p)}k
-fn reply(alloc: Global) -> Result<SProc, NoMemory>
-    ensures { IfOk result
-        (λ p. proc_of p
-        ≡ t.out H.nowhere H.net
-        (t.enc H.nowhere (H.pair (H.name (codes "m")) (H.name (codes "p"))) (H.name (codes "k")))) }
-{
-    let body = Box::new(alloc, pair(alloc, "m", "p")?)?;
-    let key = Box::new(alloc, name(alloc, "k")?)?;
-    Ok(SProc::Out {
-        channel: name(alloc, "net")?,
-        datum: SMsg::Enc {
-            body,
-            key,
-            span: Span { from: 0, to: 0 },
-        },
-        span: Span { from: 0, to: 0 },
-    })
-}
-
 // new (x: T); P
 fn new_name(alloc: Global, spelling: &str, ty: STy, then: SProc) -> Result<SProc, NoMemory>
     ensures { IfOk result
@@ -150,6 +130,26 @@ fn input(alloc: Global, spelling: &str, then: SProc) -> Result<SProc, NoMemory>
         name: word(alloc, spelling)?,
         ty: untrusted(),
         then: Box::new(alloc, then)?,
+        span: Span { from: 0, to: 0 },
+    })
+}
+
+// out net {(m, p)}k
+fn reply(alloc: Global) -> Result<SProc, NoMemory>
+    ensures { IfOk result
+        (λ p. proc_of p
+        ≡ t.out H.nowhere H.net
+        (t.enc H.nowhere (H.pair (H.name (codes "m")) (H.name (codes "p"))) (H.name (codes "k")))) }
+{
+    let body = Box::new(alloc, pair(alloc, "m", "p")?)?;
+    let key = Box::new(alloc, name(alloc, "k")?)?;
+    Ok(SProc::Out {
+        channel: name(alloc, "net")?,
+        datum: SMsg::Enc {
+            body,
+            key,
+            span: Span { from: 0, to: 0 },
+        },
         span: Span { from: 0, to: 0 },
     })
 }
