@@ -5,6 +5,7 @@ use spi_text::Span;
 use spi_tree::{Decl, SProc, SWord};
 
 /// A bench: what it declares, the names that all parts share, and edits of its parts.
+#[derive(Drop)]
 pub struct BenchText {
     /// 1, or 2 where the bench begins with `version 2;`
     pub version: u32,
@@ -12,18 +13,6 @@ pub struct BenchText {
     pub shared: Vec<Shared>,
     pub edits: Vec<Edit>,
     pub span: Span,
-}
-
-impl Drop for BenchText {
-    fn drop(self) {
-        let BenchText {
-            version: _,
-            decls: _,
-            shared: _,
-            edits: _,
-            span: _,
-        } = self;
-    }
 }
 
 /// An edit of one part.

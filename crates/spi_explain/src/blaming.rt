@@ -8,7 +8,7 @@ ghost use Rattle.spi_rules.specs.Blocking.{NodeOf};
 ghost use Rattle.spi_rules.specs.Environment as Rules;
 ghost use Rattle.spi_rules.specs.Environment.{untrusted};
 ghost use Rattle.spi_term.specs.Term as Term;
-ghost use Rattle.spi_term.specs.Term.{process_size, un, pair_ty, sum_ty, key};
+ghost use Rattle.spi_term.specs.Term.{process_size, un, pair_ty, key};
 ghost use Rattle.spi_term.specs.View.{message, ty as type_of, shape_of};
 
 use crate::NoMemory;
@@ -21,20 +21,11 @@ use std::alloc::Global;
 
 /// A question that a typing rule asks of a message: whether it has the type, or where none is given whether it is a label;
 /// and where it isn't so, what is to blame.
+#[derive(Drop)]
 pub struct Answer {
     pub message: Msg,
     pub wanted: Option<Ty>,
     pub blame: Option<Blame>,
-}
-
-impl Drop for Answer {
-    fn drop(self) {
-        let Answer {
-            message: _,
-            wanted: _,
-            blame: _,
-        } = self;
-    }
 }
 
 // One question more: whether the message has the type.
@@ -106,13 +97,12 @@ fn label_answers(alloc: Global, env: &Env, m: &Msg) -> Result<Vec<Answer>, NoMem
     Ok(answers)
 }
 
-fn split_answers(alloc: Global, env: &Env, m: &Msg, t: &Ty, u: &Ty) -> Result<Vec<Answer>, NoMemory>
+// Of a message that is taken apart, where its parts are of the types of this one.
+fn whole_answers(alloc: Global, env: &Env, m: &Msg, whole: Ty) -> Result<Vec<Answer>, NoMemory>
     ensures { IfOk result (λ v. AreAnswered env.now
-        (typed (message m.now) (pair_ty (type_of t.now) (type_of u.now)) ∷ typed (message m.now) un ∷ [])
-        v.items) }
+        (typed (message m.now) (type_of whole) ∷ typed (message m.now) un ∷ []) v.items) }
 {
     let mut answers = Vec::new(alloc);
-    let whole = pair_type(alloc, t, u)?;
     ask_type(alloc, env, m, whole, &mut answers)?;
     ask_type(alloc, env, m, Ty::Un, &mut answers)?;
     Ok(answers)
@@ -141,39 +131,19 @@ fn select_answers(
     Ok(answers)
 }
 
-fn branch_answers(
-    alloc: Global,
-    env: &Env,
-    m: &Msg,
-    t: &Ty,
-    u: &Ty,
-) -> Result<Vec<Answer>, NoMemory>
-    ensures { IfOk result (λ v. AreAnswered env.now
-        (typed (message m.now) (sum_ty (type_of t.now) (type_of u.now)) ∷ typed (message m.now) un ∷ [])
-        v.items) }
-{
-    let mut answers = Vec::new(alloc);
-    let whole = sum_type(alloc, t, u)?;
-    ask_type(alloc, env, m, whole, &mut answers)?;
-    ask_type(alloc, env, m, Ty::Un, &mut answers)?;
-    Ok(answers)
-}
-
 fn decrypt_answers(
     alloc: Global,
     env: &Env,
     m: &Msg,
-    t: &Ty,
     n: &Msg,
+    wanted: Ty,
 ) -> Result<Vec<Answer>, NoMemory>
     ensures { IfOk result (λ v. AreAnswered env.now
-        (typed (message m.now) un ∷ typed (message n.now) (key (type_of t.now)) ∷ typed (message n.now) un
-        ∷ [])
+        (typed (message m.now) un ∷ typed (message n.now) (type_of wanted) ∷ typed (message n.now) un ∷ [])
         v.items) }
 {
     let mut answers = Vec::new(alloc);
     ask_type(alloc, env, m, Ty::Un, &mut answers)?;
-    let wanted = key_type(alloc, t)?;
     ask_type(alloc, env, n, wanted, &mut answers)?;
     ask_type(alloc, env, n, Ty::Un, &mut answers)?;
     Ok(answers)
@@ -192,7 +162,7 @@ fn answers_at(alloc: Global, env: &Env, node: &Node) -> Result<Vec<Answer>, NoMe
             first,
             second,
             ..
-        } => split_answers(alloc, env, whole, first, second),
+        } => whole_answers(alloc, env, whole, pair_type(alloc, first, second)?),
         Form::Select {
             whole,
             first,
@@ -205,8 +175,10 @@ fn answers_at(alloc: Global, env: &Env, node: &Node) -> Result<Vec<Answer>, NoMe
             left,
             right,
             ..
-        } => branch_answers(alloc, env, whole, left, right),
-        Form::Decrypt { whole, ty, key, .. } => decrypt_answers(alloc, env, whole, ty, key),
+        } => whole_answers(alloc, env, whole, sum_type(alloc, left, right)?),
+        Form::Decrypt { whole, ty, key, .. } => {
+            decrypt_answers(alloc, env, whole, key, key_type(alloc, ty)?)
+        }
         Form::Check { whole, nonce, .. } => send_answers(alloc, env, whole, nonce),
         Form::Begin { label, .. } => label_answers(alloc, env, label),
         Form::End { label, .. } => label_answers(alloc, env, label),

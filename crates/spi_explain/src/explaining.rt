@@ -23,6 +23,7 @@ use spi_text::Lines;
 use std::alloc::Global;
 
 /// What is found of a file's process.
+#[derive(Drop)]
 pub struct Explained {
     /// The line that `check` writes on the file, with its LF.
     pub line: Vec<u8>,
@@ -32,17 +33,6 @@ pub struct Explained {
     pub blocked: Vec<u32>,
     /// Where the fault shows an atom, the nodes that put it in the effect in which it stands, the least first.
     pub origins: Vec<u32>,
-}
-
-impl Drop for Explained {
-    fn drop(self) {
-        let Explained {
-            line: _,
-            fault: _,
-            blocked: _,
-            origins: _,
-        } = self;
-    }
 }
 
 // The line of this fault, or of none.

@@ -1,5 +1,5 @@
 // So many sessions beside one another.
-ghost use Rattle.std.specs.Prelude.{◌≤◌, IfOk};
+ghost use Rattle.std.specs.Prelude.{◌≡◌, ◌≤◌, true, false, IfOk};
 ghost use Rattle.spi_tree.specs.Views.{proc_of, file_of};
 ghost use Rattle.spi_gen.specs.Sessions.{AreBeside, AreGrouped, IsSessions};
 
@@ -9,42 +9,25 @@ use spi_text::Span;
 use spi_tree::{SProc, Tree};
 use std::alloc::Global;
 
-// So many sessions in the place of a part.
-fn grouped(alloc: Global, n: u32) -> Result<SProc, NoMemory>
+// So many sessions in the place of a part, where several are in parentheses, or in the place of a process.
+fn beside(alloc: Global, n: u32, in_part: bool) -> Result<SProc, NoMemory>
     requires some { 1 ≤ n }
     requires few { n ≤ 500 }
-    ensures { IfOk result (λ p. AreGrouped n (proc_of p)) }
+    ensures part { IfOk result (λ p. in_part ≡ true → AreGrouped n (proc_of p)) }
+    ensures process { IfOk result (λ p. in_part ≡ false → AreBeside n (proc_of p)) }
 {
     if n == 1 {
         return handshake(alloc);
     }
     let half = (n + 1) / 2;
-    let first = Box::new(alloc, grouped(alloc, half)?)?;
-    let rest = Box::new(alloc, grouped(alloc, n - half)?)?;
-    Ok(SProc::Group {
-        first,
-        rest,
-        span: Span { from: 0, to: 0 },
-    })
-}
-
-// So many sessions in the place of a process.
-fn beside(alloc: Global, n: u32) -> Result<SProc, NoMemory>
-    requires some { 1 ≤ n }
-    requires few { n ≤ 500 }
-    ensures { IfOk result (λ p. AreBeside n (proc_of p)) }
-{
-    if n == 1 {
-        return handshake(alloc);
+    let first = Box::new(alloc, beside(alloc, half, true)?)?;
+    let rest = Box::new(alloc, beside(alloc, n - half, true)?)?;
+    let span = Span { from: 0, to: 0 };
+    if in_part {
+        Ok(SProc::Group { first, rest, span })
+    } else {
+        Ok(SProc::Par { first, rest, span })
     }
-    let half = (n + 1) / 2;
-    let first = Box::new(alloc, grouped(alloc, half)?)?;
-    let rest = Box::new(alloc, grouped(alloc, n - half)?)?;
-    Ok(SProc::Par {
-        first,
-        rest,
-        span: Span { from: 0, to: 0 },
-    })
 }
 
 /// The file of so many sessions of the nonce handshake beside one another, from 1 to 500: of two halves the first is rounded
@@ -57,7 +40,7 @@ pub fn sessions(alloc: Global, k: u32) -> Result<Tree, NoMemory>
     Ok(Tree {
         version: 1,
         decls: declarations(alloc)?,
-        process: beside(alloc, k)?,
+        process: beside(alloc, k, false)?,
         opponent: None,
         schedule: None,
         derivation: None,

@@ -107,6 +107,33 @@ fn answer_name(alloc: Global) -> Result<STy, NoMemory>
     })
 }
 
+// new (x: T); P
+fn new_name(alloc: Global, spelling: &str, ty: STy, then: SProc) -> Result<SProc, NoMemory>
+    ensures { IfOk result
+        (λ p. proc_of p ≡ t.new H.nowhere (H.word spelling.now) (ty_of ty) (proc_of then)) }
+{
+    Ok(SProc::New {
+        name: word(alloc, spelling)?,
+        ty,
+        then: Box::new(alloc, then)?,
+        span: Span { from: 0, to: 0 },
+    })
+}
+
+// inp net (x: Un); P
+fn input(alloc: Global, spelling: &str, then: SProc) -> Result<SProc, NoMemory>
+    ensures { IfOk result
+        (λ p. proc_of p ≡ t.inp H.nowhere H.net (H.word spelling.now) H.untrusted (proc_of then)) }
+{
+    Ok(SProc::Inp {
+        channel: name(alloc, "net")?,
+        name: word(alloc, spelling)?,
+        ty: untrusted(),
+        then: Box::new(alloc, then)?,
+        span: Span { from: 0, to: 0 },
+    })
+}
+
 // out net {(m, p)}k
 fn reply(alloc: Global) -> Result<SProc, NoMemory>
     ensures { IfOk result
@@ -142,19 +169,8 @@ fn answering(alloc: Global) -> Result<SProc, NoMemory>
         then: Box::new(alloc, cast)?,
         span: Span { from: 0, to: 0 },
     };
-    let new = SProc::New {
-        name: word(alloc, "m")?,
-        ty: untrusted(),
-        then: Box::new(alloc, begin)?,
-        span: Span { from: 0, to: 0 },
-    };
-    Ok(SProc::Inp {
-        channel: name(alloc, "net")?,
-        name: word(alloc, "q")?,
-        ty: untrusted(),
-        then: Box::new(alloc, new)?,
-        span: Span { from: 0, to: 0 },
-    })
+    let new = new_name(alloc, "m", untrusted(), begin)?;
+    input(alloc, "q", new)
 }
 
 fn checking(alloc: Global) -> Result<SProc, NoMemory>
@@ -196,25 +212,14 @@ fn asking(alloc: Global) -> Result<SProc, NoMemory>
         then: Box::new(alloc, checking(alloc)?)?,
         span: Span { from: 0, to: 0 },
     };
-    let inp = SProc::Inp {
-        channel: name(alloc, "net")?,
-        name: word(alloc, "c")?,
-        ty: untrusted(),
-        then: Box::new(alloc, decrypt)?,
-        span: Span { from: 0, to: 0 },
-    };
+    let inp = input(alloc, "c", decrypt)?;
     let out = SProc::OutThen {
         channel: name(alloc, "net")?,
         datum: name(alloc, "n")?,
         then: Box::new(alloc, inp)?,
         span: Span { from: 0, to: 0 },
     };
-    Ok(SProc::New {
-        name: word(alloc, "n")?,
-        ty: untrusted(),
-        then: Box::new(alloc, out)?,
-        span: Span { from: 0, to: 0 },
-    })
+    new_name(alloc, "n", untrusted(), out)
 }
 
 /// One session of the handshake.
@@ -230,12 +235,7 @@ pub fn handshake(alloc: Global) -> Result<SProc, NoMemory>
         part: Box::new(alloc, answer_name(alloc)?)?,
         span: Span { from: 0, to: 0 },
     };
-    Ok(SProc::New {
-        name: word(alloc, "k")?,
-        ty: key,
-        then: Box::new(alloc, group)?,
-        span: Span { from: 0, to: 0 },
-    })
+    new_name(alloc, "k", key, group)
 }
 
 /// The declarations of the handshake.

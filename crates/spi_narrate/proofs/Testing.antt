@@ -66,7 +66,7 @@ map_both f (x ∷ xs) ys = ap (λ (r : List _). f x ∷ r) (map_both f xs ys)
 mapped : {A B : Type 0} (f : A → B) (xs : List A) (i : ℕ) (x : A) → x ≡ get_or xs i x → i < length xs → map f (take (i + 1) xs) ≡ map f (take i xs) ++ f x ∷ []
 mapped f xs i x e l = ap (λ (r : List _). map f r) (more_taken xs i x e l) ∙ map_both f (take i xs) (x ∷ [])
 
-cut_at : {A B : Type 0} (f : A → B) (xs : List A) (i : ℕ) (x : A) → x ≡ get_or xs i x → i < length xs → (after : List B) × (map f xs ≡ map f (take i xs) ++ f x ∷ after)
+pub cut_at : {A B : Type 0} (f : A → B) (xs : List A) (i : ℕ) (x : A) → x ≡ get_or xs i x → i < length xs → (after : List B) × (map f xs ≡ map f (take i xs) ++ f x ∷ after)
 cut_at f [] i x e l = absurd (omega (arith, l))
 cut_at f (y ∷ ys) zero x e l = (map f ys, ap (λ z. f z ∷ map f ys) (sym e))
 cut_at f (y ∷ ys) (suc i) x e l = let h = cut_at f ys i x e (omega (arith, l)) in (h.0, ap (λ (r : List _). f y ∷ r) h.1)

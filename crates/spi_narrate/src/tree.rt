@@ -5,6 +5,7 @@ use spi_text::Span;
 use spi_tree::{Decl, SMsg, STy, SWord};
 
 /// A narration: `["version" 2 ";"]? {Decl}* {Shared}* "roles" A, B, ..; {Line}*`. The first role stands apart, since there is one.
+#[derive(Drop)]
 pub struct Narration {
     pub version: u32,
     pub decls: Vec<Decl>,
@@ -13,20 +14,6 @@ pub struct Narration {
     pub more: Vec<SWord>,
     pub lines: Vec<Line>,
     pub span: Span,
-}
-
-impl Drop for Narration {
-    fn drop(self) {
-        let Narration {
-            version: _,
-            decls: _,
-            shared: _,
-            first: _,
-            more: _,
-            lines: _,
-            span: _,
-        } = self;
-    }
 }
 
 /// A line of a narration.

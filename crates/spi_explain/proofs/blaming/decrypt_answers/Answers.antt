@@ -1,17 +1,14 @@
-use Rattle.std.proofs.Common.{subst, [], ◌∷◌}
+use Rattle.std.proofs.Common.{[], ◌∷◌}
 use Rattle.spi_blame.specs.Blaming.{typed}
 use Rattle.spi_term.specs.Term.{un}
 use Rattle.spi_term.specs.View.{message, ty}
-use Rattle.spi_explain.specs.Premises.{AreAnswered}
 use Rattle.spi_explain.proofs.Answered.{answered_start}
 use Rattle.spi_explain.proofs.blaming.decrypt_answers.Goals as goal
 
 pub returns : goal.returns
 returns c =
-    let e = c.args.env.now in
     let m = message c.args.m.now in
     let n = message c.args.n.now in
-    let a = c.in_ok-ask_type.ensures [] (answered_start e c.new-answers.result.items c.new-answers.ensures.items) in
+    let a = c.in_ok-ask_type.ensures [] (answered_start c.args.env.now c.new-answers.result.items c.new-answers.ensures.items) in
     let b = c.in_ok-ask_type-2.ensures (typed m un ∷ []) a in
-    let d = c.in_ok-ask_type-3.ensures (typed m un ∷ (typed n (ty c.in_ok-wanted.wanted) ∷ [])) b in
-    subst (λ t. AreAnswered e (typed m un ∷ (typed n t ∷ (typed n un ∷ []))) c.ask_type-3.new.answers.items) c.in_ok-wanted.ensures d
+    c.in_ok-ask_type-3.ensures (typed m un ∷ (typed n (ty c.args.wanted) ∷ [])) b
