@@ -90,8 +90,12 @@ next_tells : (only : Option ℕ) (s : State) → AskedTellOn only s → NextTell
 next_tells None s tell = λ place seat next there. all_at Tells s.seats place seat tell there
 next_tells (Some only) s tell = tell
 
-turns_same : (only : Option ℕ) (most : ℕ) (old : State) (t u : TurnOf) (m n : State) → NextTells old → Turns only most old t m → Turns only most old u n → m ≡ n
-turns_same only most old t u m n tell first second =
+asked_now : (only : Option ℕ) {most : ℕ} {t : TurnOf} {m : State} (old : State) → AskedTellOn only old → (first : Turns only most old t m) → Tells first.asks.seat
+asked_now only old tell first = next_tells only old tell first.place first.asks.seat first.goes_on.at first.asks.was
+
+-- where who is asked tells its way, a turn has one outcome
+pub turns_same : (only : Option ℕ) (most : ℕ) (old : State) (t u : TurnOf) (m n : State) → (first : Turns only most old t m) → IsSome first.asks.seat.seen.way → Turns only most old u n → m ≡ n
+turns_same only most old t u m n first tell second =
     let a = first.asks in
     let b = second.asks in
     let next : Some second.place ≡ Some first.place = sym second.goes_on.at ∙ first.goes_on.at in
@@ -102,7 +106,7 @@ turns_same only most old t u m n tell first second =
     let P : Seat → Type 0 = λ s. Picks s.seen u.ready u.pick b.new in
     let Q : ℕ → Type 0 = λ r. Picks a.seat.seen r u.pick b.new in
     let picks : Picks a.seat.seen t.ready u.pick b.new = subst Q ready (subst P seat b.picks) in
-    let same : (u.pick ≡ t.pick) × (b.new ≡ a.new) = picks_same a.seat.seen t.ready u.pick t.pick b.new a.new (tell first.place a.seat first.goes_on.at a.was) picks a.picks in
+    let same : (u.pick ≡ t.pick) × (b.new ≡ a.new) = picks_same a.seat.seen t.ready u.pick t.pick b.new a.new tell picks a.picks in
     let put : ℕ → Seat → Seen → List Seat = λ p s v. slice_set old.seats p (record { who = s.who; seen = v }) in
     let seats : second.seats ≡ first.seats =
     b.others ∙ ap (λ p. put p b.seat b.new) place ∙ ap (λ s. put first.place s b.new) seat ∙ ap (put first.place a.seat) same.1 ∙ sym a.others in
@@ -172,7 +176,7 @@ plays_same only most old (t ∷ ts) [] m n e f tell first first_end second secon
     let P : State → Type 0 = λ s. HasEnded most s f in
     absurd (ended_once (subst P second second_end) first.1.goes_on)
 plays_same only most old (t ∷ ts) (u ∷ us) m n e f tell first first_end second second_end =
-    let same : first.0 ≡ second.0 = turns_same only most old t u first.0 second.0 (next_tells only old tell) first.1 second.1 in
+    let same : first.0 ≡ second.0 = turns_same only most old t u first.0 second.0 first.1 (asked_now only old tell first.1) second.1 in
     let P : State → Type 0 = λ s. Plays only most s us n in
     plays_same only most first.0 ts us m n e f (tells_kept only most old t first.0 tell first.1) first.2 first_end (subst P (sym same) second.2) second_end
 
