@@ -22,7 +22,8 @@ use Rattle.spi_honest.specs.Standing.{AreApart, Locates}
 use Rattle.spi_honest.specs.Honest.{IsNotReady, IsTooLarge, HasFault}
 use Rattle.spi_honest.specs.Progress.{Progress}
 use Rattle.spi_honest.specs.Stages.{TookStep, IsRoomy, IsRefused, IsRoleAt, ToldTo, steps_in, events_in, IsPassAt, IsParted, PutsAt, TakesAt}
-use Rattle.spi_honest.proofs.Places.{at_below, at_set, at_set_other}
+use Rattle.spi_rules.proofs.Typing.{at_below}
+use Rattle.spi_honest.proofs.Places.{at_set, at_set_other}
 use Rattle.spi_honest.proofs.Settled.{apart_of, distinct_at}
 use Rattle.spi_honest.proofs.Standing.{moved_own, moved_other}
 use Rattle.spi_honest.proofs.Steps.{at_places}

@@ -21,7 +21,7 @@ use Rattle.spi_honest.specs.Honest.{Replays, opening}
 use Rattle.spi_honest.specs.Progress.{place_number, beside_stop, steps_behind, Shares, Each, each_none, each_role, Spreads}
 use Rattle.spi_honest.proofs.Held.{holds_one}
 use Rattle.spi_honest.proofs.Meant.{names_closed}
-use Rattle.spi_honest.proofs.Places.{at_behind}
+use Rattle.spi_rules.proofs.Typing.{at_last}
 use Rattle.spi_honest.proofs.Alone.{given_one}
 use Rattle.spi_honest.proofs.Steps.{at_places}
 use Rattle.spi_honest.proofs.Telling.{replays_more, step_order}
@@ -109,7 +109,7 @@ module _ {x : n.Narration} {file : Meant} {before rest : List SWord} {r q : SWor
   last_at : At pool.configuration.places spread_place h.last
   last_at =
       subst (λ ps. At ps spread_place h.last) (sym h.places)
-      (subst (λ j. At (beside_stop (h.apart ++ h.last ∷ [])) (place_number j) h.last) (each_length h.each) (place_at (length h.apart) (at_behind h.apart h.last)))
+      (subst (λ j. At (beside_stop (h.apart ++ h.last ∷ [])) (place_number j) h.last) (each_length h.each) (place_at (length h.apart) (at_last h.apart h.last)))
 
   set_now : slice_set pool.configuration.places spread_place h.holds.0 ++ h.holds.1 ∷ [] ≡ spread_now
   set_now =

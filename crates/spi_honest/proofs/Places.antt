@@ -1,10 +1,6 @@
 -- Elements of lists that are set or are longer.
-use Rattle.std.proofs.Common.{◌≡◌, ℕ, zero, suc, ◌<◌, List, [], ◌∷◌, ◌++◌, length, slice_set, refl, ap, arith, ◌⊎◌, inl, inr, ⊎_elim}
+use Rattle.std.proofs.Common.{◌≡◌, ℕ, zero, suc, List, [], ◌∷◌, ◌++◌, slice_set, refl, ap}
 use Rattle.spi_term.specs.Lists.{At, at_first, at_later}
-
-pub at_below : {A : Type 0} {xs : List A} {i : ℕ} {x : A} → At xs i x → i < length xs
-at_below at_first = omega arith
-at_below (at_later h) = let g = at_below h in omega (arith, g)
 
 pub at_set : {A : Type 0} {xs : List A} {i : ℕ} {x : A} (y : A) → At xs i x → At (slice_set xs i y) i y
 at_set y at_first = at_first
@@ -22,20 +18,6 @@ set_other (z ∷ xs) zero zero y d h = absurd (d refl)
 set_other (z ∷ xs) zero (suc j) y d (at_later h) = at_later h
 set_other (z ∷ xs) (suc i) zero y d at_first = at_first
 set_other (z ∷ xs) (suc i) (suc j) y d (at_later h) = at_later (set_other xs i j y (λ e. d (ap suc e)) h)
-
-pub at_before : {A : Type 0} {xs : List A} {i : ℕ} {x : A} (ys : List A) → At xs i x → At (xs ++ ys) i x
-at_before ys at_first = at_first
-at_before ys (at_later h) = at_later (at_before ys h)
-
-pub at_behind : {A : Type 0} (xs : List A) (y : A) → At (xs ++ y ∷ []) (length xs) y
-at_behind [] y = at_first
-at_behind (x ∷ xs) y = at_later (at_behind xs y)
-
-pub append_at : {A : Type 0} (xs : List A) (i : ℕ) {x y : A} → At (xs ++ y ∷ []) i x → At xs i x ⊎ ((i ≡ length xs) × (x ≡ y))
-append_at [] zero at_first = inr (refl, refl)
-append_at [] (suc i) (at_later h) = elim h [ ]
-append_at (z ∷ xs) zero at_first = inl at_first
-append_at (z ∷ xs) (suc i) (at_later h) = ⊎_elim (λ g. inl (at_later g)) (λ e. inr (ap suc e.0, e.1)) (append_at xs i h)
 
 pub nil_at : {A : Type 0} (xs : List A) (i : ℕ) {x : A} → At (xs ++ []) i x → At xs i x
 nil_at [] i h = elim h [ ]

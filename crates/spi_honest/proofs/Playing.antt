@@ -18,7 +18,7 @@ use Rattle.spi_honest.specs.Standing.{AreApart, Locates}
 use Rattle.spi_honest.specs.Honest.{IsWrongAt, IsNotReady, IsTooLarge, HasFault}
 use Rattle.spi_honest.specs.Progress.{Progress}
 use Rattle.spi_honest.specs.Stages.{TookStep, IsRoomy, IsRefused, IsRoleAt, ToldTo, steps_in, events_in, IsLocalAt}
-use Rattle.spi_honest.proofs.Places.{at_below}
+use Rattle.spi_rules.proofs.Typing.{at_below}
 use Rattle.spi_honest.proofs.Settled.{apart_of, at_in}
 use Rattle.spi_honest.proofs.Telling.{LocalTold, local_told, local_not_ready, local_progress}
 

@@ -7,6 +7,7 @@ use Rattle.spi_term.specs.Lists.{At, at_first, at_later, In, in_first, in_later}
 use Rattle.spi_term.proofs.Lists.{at_unique, get_at}
 use Rattle.spi_term.specs.Term.{Message, Process, stop}
 use Rattle.spi_run.specs.Reduction.{Step}
+use Rattle.spi_rules.proofs.Typing.{at_below}
 use Rattle.spi_replay.specs.Stepping.{Pooled}
 use Rattle.spi_scope.specs.Scope.{Word, Names}
 use Rattle.spi_scope.specs.Points.{all_types}
@@ -132,7 +133,7 @@ each_stands {x} rs zs e d = record {
 pub located : (rs : List SWord) (is : List ℕ) → AreDistinct rs → ArePlaces (length rs) is → Locates rs (places_of rs) is
 located rs is d h = record {
   many = h.many;
-  each = λ j r e. let a = get_at rs j e in h.each j (Rattle.spi_honest.proofs.Places.at_below a) ∙ ap Some (sym (placed rs d a));
+  each = λ j r e. let a = get_at rs j e in h.each j (at_below a) ∙ ap Some (sym (placed rs d a));
 }
 
 others_many : (rs : List SWord) {r : SWord} → In r rs → length rs ≡ suc (length (others rs))

@@ -11,7 +11,7 @@ use Rattle.spi_replay.specs.declared.fault.StepFault.{StepFault}
 use Rattle.spi_replay.specs.declared.fault.StepFault.TheVariants as faults
 use Rattle.spi_replay.specs.Stepping.{Pooled, IsTaken, places_named, FirstOutside, outside_here, outside_later, Refuses, no_place, not_ready, too_large, too_many}
 use Rattle.spi_honest.specs.Stages.{IsRoomy}
-use Rattle.spi_honest.proofs.Places.{at_below}
+use Rattle.spi_rules.proofs.Typing.{at_below}
 
 takes_inside : {c d : Configuration} {s : Step} {e : Option Event} → Takes c s e d → (i : ℕ) → In i (places_named s) → i < length c.places
 takes_inside {c} (takes_act {i = j} {ps = ps} a h) i m = ⊎_elim (λ e. subst (λ k. k < length ps) (sym e) (at_below a)) (λ x. elim x [ ]) (in_cases m)

@@ -17,7 +17,8 @@ use Rattle.spi_honest.specs.Schedule.{moved}
 use Rattle.spi_honest.specs.Holds.{Holds, AreClosed}
 use Rattle.spi_honest.specs.Roles.{IsRole}
 use Rattle.spi_honest.specs.Standing.{AreApart, Stood, Stands, Stopped, StoppedBut}
-use Rattle.spi_honest.proofs.Places.{at_below, at_set, at_set_other, set_other, at_before, at_behind, append_at}
+use Rattle.spi_rules.proofs.Typing.{at_below, at_more, at_last, at_cases}
+use Rattle.spi_honest.proofs.Places.{at_set, at_set_other, set_other}
 
 -- a choice by two words
 pub chosen : {X : Type 0} (a b : X) (v w : Word) → v ≡ w → (if bytes_eq v w then a else b) ≡ a
@@ -93,7 +94,7 @@ module _ {roles : List SWord} {place : Word → ℕ} {tree : SWord → t.Proc} {
       now = slice_set ps (place w) left ++ right ∷ []
 
       behind : At (slice_set ps (place w) left ++ right ∷ []) (length ps) right
-      behind = subst (λ n. At (slice_set ps (place w) left ++ right ∷ []) n right) (length-set ps (place w) left) (at_behind (slice_set ps (place w) left) right)
+      behind = subst (λ n. At (slice_set ps (place w) left ++ right ∷ []) n right) (length-set ps (place w) left) (at_last (slice_set ps (place w) left) right)
 
       mine : (r : SWord) → In r roles → w ≡ r.word → Stood (moved w (length ps) place) tree' has (slice_set ps (place w) left ++ right ∷ []) r
       mine r i e = record {
@@ -107,13 +108,13 @@ module _ {roles : List SWord} {place : Word → ℕ} {tree : SWord → t.Proc} {
           let s = h.there r i in
           record {
             process = s.process;
-            there = subst (λ n. At (slice_set ps (place w) left ++ right ∷ []) n s.process) (sym (moved_other w (length ps) place r.word d)) (at_before (right ∷ []) (at_set_other (place w) left (λ e. d (sym k.word ∙ ap (λ q. q.word) (h.apart k.role r k.is i (ap place k.word ∙ e)))) s.there));
+            there = subst (λ n. At (slice_set ps (place w) left ++ right ∷ []) n s.process) (sym (moved_other w (length ps) place r.word d)) (at_more (right ∷ []) (at_set_other (place w) left (λ e. d (sym k.word ∙ ap (λ q. q.word) (h.apart k.role r k.is i (ap place k.word ∙ e)))) s.there));
             holds = subst (λ p. Holds p [] (word_in (has r.word)) s.process) (sym (kept r i (λ e. d (sym e)))) s.holds;
           }
 
       before : (i : ℕ) (p : Process) → At (slice_set ps (place w) left ++ right ∷ []) i p → ((r : SWord) → In r roles → moved w (length ps) place r.word ≡ i → ⊥) → (place w ≡ i → ⊥) → At ps i p
       before i p a away d =
-          ⊎_elim (λ b. set_other ps (place w) i left d b) (λ e. absurd (away k.role k.is (moved_own w (length ps) place k.role.word (sym k.word) ∙ sym (length-set ps (place w) left) ∙ sym e.0))) (append_at (slice_set ps (place w) left) i a)
+          ⊎_elim (λ b. set_other ps (place w) i left d b) (λ e. absurd (away k.role k.is (moved_own w (length ps) place k.role.word (sym k.word) ∙ sym (length-set ps (place w) left) ∙ sym e.0))) (at_cases (slice_set ps (place w) left) right a)
 
 -- what stood apart stops
 pub stops : {roles : List SWord} {place : Word → ℕ} {tree : SWord → t.Proc} {has : Word → Map} {ps : List Process} (i : ℕ) {x : Process} → At ps i x → ((r : SWord) → In r roles → place r.word ≡ i → ⊥)

@@ -23,7 +23,8 @@ use Rattle.spi_honest.specs.Holds.{Holds}
 use Rattle.spi_honest.specs.Roles.{IsRole}
 use Rattle.spi_honest.specs.Standing.{AreApart, Stood, Stands, Stopped, StoppedBut, left}
 use Rattle.spi_honest.proofs.Held.{holds_one}
-use Rattle.spi_honest.proofs.Places.{at_below, at_set, at_before}
+use Rattle.spi_rules.proofs.Typing.{at_below, at_more}
+use Rattle.spi_honest.proofs.Places.{at_set}
 use Rattle.spi_honest.proofs.Alone.{does_acts, DoesSome, acts_does, given_one, one_closed}
 use Rattle.spi_honest.proofs.Standing.{goes_on, forks, stops, by_words, moved_own, moved_other}
 
@@ -120,7 +121,7 @@ module _ {roles : List SWord} {place : Word → ℕ} {has : Word → Map} {ps : 
   parts_stand = forks once from.word k (mid to s c x ls) (λ q i v. sym (ap (λ b. sent b s c m (mid to s c x ls q)) (other_word from q (λ u. v (sym u))))) (send channel datum) sender_holds.0 (λ q i v. subst (λ r. Holds (mid to s c x ls r) [] (word_in (has from.word)) sender_holds.0) (once.once k.role q k.is i (k.word ∙ sym v)) sender_holds.2) h
 
   pub parts_out : At parted (place from.word) (send channel datum)
-  parts_out = at_before (sender_holds.0 ∷ []) (at_set (send channel datum) sender_there)
+  parts_out = at_more (sender_holds.0 ∷ []) (at_set (send channel datum) sender_there)
 
   pub parts_none : (r : SWord) → In r roles → moved from.word (length ps) place r.word ≡ place from.word → ⊥
   parts_none = none_moved from.word k h

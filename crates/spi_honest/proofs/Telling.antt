@@ -4,13 +4,14 @@ use Rattle.std.proofs.lemmas.List.{length-set, append-nil}
 use Rattle.spi_text.specs.declared.lines.Span.{Span}
 use Rattle.spi_tree.specs.declared.tree.SWord.{SWord}
 use Rattle.spi_narrate.specs.Narrations as n
-use Rattle.spi_run.specs.Reduction.{Configuration, Step, act, Event, Takes, Runs, runs_none, runs_silent, runs_event}
+use Rattle.spi_run.specs.Reduction.{Configuration, Step, act, Event, Takes, Runs, runs_none}
 use Rattle.spi_run.proofs.Once.{takes_once}
 use Rattle.spi_replay.specs.Stepping.{Pooled, IsTaken, largest, message_most, bound_by}
+use Rattle.spi_replay.proofs.Taken.{takes_names, runs_more}
 use Rattle.spi_scope.specs.Scope.{Names}
 use Rattle.spi_scope.specs.StandsFor.{Meant}
 use Rattle.spi_honest.specs.Reading.{Map}
-use Rattle.spi_honest.specs.Narrated.{giving, Told, Does, does_split, does_match, does_decrypt, does_check, does_begin, does_end, does_end_many, does_cast, does_new, Tells, tells_local, Narrates, narrates_none, narrates_line, AreSmall, NarratesSmall, shown, free_of}
+use Rattle.spi_honest.specs.Narrated.{giving, Told, Does, Tells, tells_local, Narrates, narrates_none, narrates_line, AreSmall, NarratesSmall, shown, free_of}
 use Rattle.spi_honest.specs.Schedule.{line_steps}
 use Rattle.spi_honest.specs.Roles.{IsRole}
 use Rattle.spi_honest.specs.Standing.{AreApart, Stands, Stopped, left}
@@ -33,27 +34,12 @@ replays_more {p} {r = r} {s = s} {e = e} replays_none t = subst (λ es. Replays 
 replays_more {p} {r = r} {s = s} {e = e} (replays_step {s = s'} {e = e'} {ss = ss} {es = es} t' h) t =
     subst (λ es. Replays p (s' ∷ (ss ++ s ∷ [])) es r) (sym (append_assoc (option_to_list e') es (option_to_list e))) (replays_step t' (replays_more h t))
 
-runs_from : {c d f : Configuration} {s : Step} {ss : List Step} {es : List Event} (e : Option Event) → Takes c s e d → Runs d ss es f → Runs c (s ∷ ss) (option_to_list e ++ es) f
-runs_from None t r = runs_silent t r
-runs_from (Some x) t r = runs_event t r
-
 pub replays_run : {p q : Pooled} {ss : List Step} {es : List Event} → Replays p ss es q → Runs p.configuration ss es q.configuration
 replays_run replays_none = runs_none
-replays_run (replays_step {e = e} t h) = runs_from e t.takes (replays_run h)
+replays_run (replays_step {e = e} t h) = runs_more e t.takes (replays_run h)
 
 pub step_order : {xs : List Step} (ys : List Step) (s : Step) {zs ws : List Step} → xs ≡ ys ++ (s ∷ zs) → zs ≡ ws → xs ≡ (ys ++ s ∷ []) ++ ws
 step_order ys s e f = e ∙ ap (λ z. ys ++ (s ∷ z)) f ∙ sym (append_assoc ys (s ∷ []) _)
-
-does_names : {k k' : ℕ} {g : Map} {f : n.Prefix} {more : Map} {e : Option Event} → Does k g f more e k' → k' ≤ suc k
-does_names (does_split v) = omega arith
-does_names (does_match v w) = omega arith
-does_names (does_decrypt v w) = omega arith
-does_names (does_check v) = omega arith
-does_names does_begin = omega arith
-does_names does_end = omega arith
-does_names does_end_many = omega arith
-does_names does_cast = omega arith
-does_names does_new = omega arith
 
 -- a line of one role
 module _ {x : n.Narration} {file : Meant} {before rest : List n.Line} {pool : Pooled} {steps : List Step} {events : List Event} {is : List ℕ} (s : Span) (who : SWord) (f : n.Prefix) (once : AreApart x.roles) (k : IsRole x.roles who.word) (h : Progress x file before (n.local s who f ∷ rest) pool steps events is) where
@@ -86,7 +72,7 @@ module _ {x : n.Narration} {file : Meant} {before rest : List n.Line} {pool : Po
         tells = tells_local (subst (λ z. Does z (h.told.has who.word) f b.more e d.names) h.names b.does);
         size = a.size;
         names = refl;
-        few_names = does_names b.does;
+        few_names = let few = takes_names t in omega (arith, few);
         many = ap length places ∙ length-set pool.configuration.places (h.place who.word) a.now;
         stands = subst (λ ps. Stands x.roles h.place (left rest) (giving who.word b.more h.told.has) Stopped ps) (sym places) a.stands;
       }

@@ -4,6 +4,9 @@ use Rattle.spi_tree.specs.declared.tree.SWord.{SWord}
 use Rattle.spi_term.specs.Lists.{In}
 use Rattle.spi_narrate.specs.Narrations as n
 use Rattle.spi_scope.specs.Scope.{Word, Names, number_of}
+use Rattle.spi_scope.specs.StandsFor.{Meant, StandsFor}
+use Rattle.spi_weave.specs.Woven.{woven}
+use Rattle.spi_honest.specs.Narrated.{free_of}
 
 -- no word is that of two roles
 abbrev pub AreDistinct : List SWord → Type 0
@@ -41,3 +44,10 @@ HasChannel free (n.pass s from to c m x) = (i : ℕ) × (number_of free c.word �
 abbrev pub HaveChannels : Names → List n.Line → Type 0
 HaveChannels free [] = ⊤
 HaveChannels free (l ∷ ls) = HasChannel free l × HaveChannels free ls
+
+abbrev pub NamesChannels : n.Narration → Type 0
+NamesChannels x = HaveChannels (free_of x) x.lines
+
+-- the file is the one that the narration's woven tree stands for
+abbrev pub WeavesTo : n.Narration → Meant → Type 0
+WeavesTo x file = StandsFor (woven x) file

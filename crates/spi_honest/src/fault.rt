@@ -1,9 +1,5 @@
 //! Why a narration has no honest schedule.
 
-ghost use Rattle.std.specs.Prelude.{◌≡◌};
-ghost use Rattle.spi_honest.specs.declared.fault.HonestFault.TheVariants.{NoMemory as OutOfMemory};
-
-use std::alloc::{AllocError, AllocFailed};
 use thiserror::Error;
 
 /// Why a narration has no honest schedule. `line` is the number of the first line that is wrong, counted from 0.
@@ -19,20 +15,4 @@ pub enum HonestFault {
     /// Memory ran out.
     #[error("out of memory")]
     NoMemory,
-}
-
-impl From<AllocError> for HonestFault {
-    ghost from_gives = { λ _ e. e ≡ OutOfMemory };
-
-    fn from(_e: AllocError) -> HonestFault {
-        HonestFault::NoMemory
-    }
-}
-
-impl<T: Drop> From<AllocFailed<T>> for HonestFault {
-    ghost from_gives = { λ _ e. e ≡ OutOfMemory };
-
-    fn from(_e: AllocFailed<T>) -> HonestFault {
-        HonestFault::NoMemory
-    }
 }

@@ -19,10 +19,7 @@ pub struct FreeNames<'n> {
 
 impl Drop for FreeNames<'_> {
     fn drop(self) {
-        let FreeNames {
-            numbers: _,
-            count: _,
-        } = self;
+        let Self { numbers, count } = self;
     }
 }
 

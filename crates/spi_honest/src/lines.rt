@@ -3,12 +3,12 @@
 ghost use Rattle.std.specs.Prelude.{◌≡◌, ◌⊎◌, ◌+◌, ◌<◌, length, IfOk, IfErr, OnOk};
 ghost use Rattle.spi_scope.specs.Files.{meant};
 ghost use Rattle.spi_narrate.specs.Views.{narration_of};
-ghost use Rattle.spi_honest.specs.Free.{Numbers};
-ghost use Rattle.spi_honest.specs.Narrated.{free_of};
-ghost use Rattle.spi_honest.specs.Roles.{IsTellable, HaveChannels};
+ghost use Rattle.spi_honest.specs.Free.{NumbersFree};
+ghost use Rattle.spi_honest.specs.Roles.{IsTellable, NamesChannels};
 ghost use Rattle.spi_honest.specs.Honest.{HasFault};
 ghost use Rattle.spi_honest.specs.Stages.{ToldTo, IsLocalAt, IsPassAt, IsParted};
 
+use crate::NoMemory;
 use crate::fault::HonestFault;
 use crate::free::{FreeNames, name_number};
 use crate::roles::role_number;
@@ -44,13 +44,12 @@ fn part(
     from: usize,
     to: usize,
     channel: u32,
-) -> Result<u32, HonestFault>
+) -> Result<u32, NoMemory>
     requires tellable { IsTellable (narration_of n.now) }
     requires line { IsPassAt (narration_of n.now) at from to channel }
     requires told { ToldTo (narration_of n.now) (meant file.now) at stage.old }
     ensures parted { IfOk result
         (λ out. IsParted (narration_of n.now) (meant file.now) at from to channel out stage.new) }
-    ensures err { IfErr result (λ e. e ≡ HonestFault.NoMemory) }
 {
     let out = stage.places[from];
     let rest = stage.pool.places();
@@ -91,8 +90,8 @@ pub fn tell(
     at: usize,
 ) -> Result<(), HonestFault>
     requires tellable { IsTellable (narration_of n.now) }
-    requires channels { HaveChannels (free_of (narration_of n.now)) (narration_of n.now).lines }
-    requires names { Numbers names.now (free_of (narration_of n.now)) }
+    requires channels { NamesChannels (narration_of n.now) }
+    requires names { NumbersFree names.now (narration_of n.now) }
     requires at { at < length n.now.lines.items }
     requires told { ToldTo (narration_of n.now) (meant file.now) at stage.old }
     ensures told { OnOk result (ToldTo (narration_of n.now) (meant file.now) (at + 1) stage.new) }
@@ -112,8 +111,10 @@ pub fn tell(
             let from = role_number(&n.first, &n.more, from);
             let to = role_number(&n.first, &n.more, to);
             let channel = name_number(names, channel);
-            let out = part(stage, n, file, at, from, to, channel)?;
-            meet(stage, n, file, at, from, to, channel, out)
+            match part(stage, n, file, at, from, to, channel) {
+                Ok(out) => meet(stage, n, file, at, from, to, channel, out),
+                Err(_) => Err(HonestFault::NoMemory),
+            }
         }
     }
 }

@@ -1,14 +1,12 @@
 //! The start of a narration: the shared names are made, and the roles are taken apart.
 
-ghost use Rattle.std.specs.Prelude.{◌≡◌, length, Some, IfOk, OnOk, OnErr, Err};
-ghost use Rattle.spi_scope.specs.StandsFor.{StandsFor};
+ghost use Rattle.std.specs.Prelude.{◌≡◌, length, Some, IfOk, OnOk};
 ghost use Rattle.spi_scope.specs.Files.{meant};
 ghost use Rattle.spi_narrate.specs.Views.{narration_of};
-ghost use Rattle.spi_weave.specs.Woven.{woven};
-ghost use Rattle.spi_honest.specs.Roles.{IsTellable};
+ghost use Rattle.spi_honest.specs.Roles.{IsTellable, WeavesTo};
 ghost use Rattle.spi_honest.specs.Stages.{SharesTo, SpreadsTo, ToldTo};
 
-use crate::fault::HonestFault;
+use crate::NoMemory;
 use crate::roles::{first_place, first_places};
 use crate::stage::{Stage, must};
 use spi_narrate::Narration;
@@ -26,11 +24,10 @@ fn start<'p>(
     n: &Narration,
     file: &'p File,
     opponent: &'p Process,
-) -> Result<Stage<'p>, HonestFault>
-    requires file { StandsFor (woven (narration_of n.now)) (meant file.now) }
+) -> Result<Stage<'p>, NoMemory>
+    requires file { WeavesTo (narration_of n.now) (meant file.now) }
     requires opponent { file.now.opponent ≡ Some opponent.now }
     ensures shares { IfOk result (λ stage. SharesTo (narration_of n.now) (meant file.entry.now) 0 stage) }
-    ensures err { OnErr result (result ≡ Err HonestFault.NoMemory) }
 {
     // The nodes are asked for what their answer says: a process has few names.
     let _ = file.process.len();
@@ -43,12 +40,11 @@ fn start<'p>(
 }
 
 // One act for each shared name.
-fn share(stage: &mut Stage<'_>, n: &Narration, file: &File) -> Result<(), HonestFault>
+fn share(stage: &mut Stage<'_>, n: &Narration, file: &File) -> Result<(), NoMemory>
     requires tellable { IsTellable (narration_of n.now) }
     requires shares { SharesTo (narration_of n.now) (meant file.now) 0 stage.old }
     ensures shares { OnOk result
         (SharesTo (narration_of n.now) (meant file.now) (length n.now.shared.items) stage.new) }
-    ensures err { OnErr result (result ≡ Err HonestFault.NoMemory) }
 {
     for _i in 0..n.shared.len() {
         must(stage, Step::Act(0))?;
@@ -57,12 +53,11 @@ fn share(stage: &mut Stage<'_>, n: &Narration, file: &File) -> Result<(), Honest
 }
 
 // One act for each parallel composition of roles.
-fn spread(stage: &mut Stage<'_>, n: &Narration, file: &File) -> Result<(), HonestFault>
+fn spread(stage: &mut Stage<'_>, n: &Narration, file: &File) -> Result<(), NoMemory>
     requires tellable { IsTellable (narration_of n.now) }
     requires spreads { SpreadsTo (narration_of n.now) (meant file.now) 0 stage.old }
     ensures spreads { OnOk result
         (SpreadsTo (narration_of n.now) (meant file.now) (length n.now.more.items) stage.new) }
-    ensures err { OnErr result (result ≡ Err HonestFault.NoMemory) }
 {
     for i in 0..n.more.len() {
         must(stage, Step::Act(first_place(i)))?;
@@ -71,11 +66,10 @@ fn spread(stage: &mut Stage<'_>, n: &Narration, file: &File) -> Result<(), Hones
 }
 
 /// The roles stand at their places, and no line was told.
-pub fn open<'p>(alloc: Global, n: &Narration, file: &'p File) -> Result<Stage<'p>, HonestFault>
+pub fn open<'p>(alloc: Global, n: &Narration, file: &'p File) -> Result<Stage<'p>, NoMemory>
     requires tellable { IsTellable (narration_of n.now) }
-    requires file { StandsFor (woven (narration_of n.now)) (meant file.now) }
+    requires file { WeavesTo (narration_of n.now) (meant file.now) }
     ensures told { IfOk result (λ stage. ToldTo (narration_of n.now) (meant file.entry.now) 0 stage) }
-    ensures err { OnErr result (result ≡ Err HonestFault.NoMemory) }
 {
     match &file.opponent {
         None => unreachable!(),

@@ -1,12 +1,9 @@
 //! The honest schedule of a narration.
 
 ghost use Rattle.std.specs.Prelude.{◌≡◌, ◌⊎◌, IfOk, IfErr};
-ghost use Rattle.spi_scope.specs.StandsFor.{StandsFor};
 ghost use Rattle.spi_scope.specs.Files.{meant};
 ghost use Rattle.spi_narrate.specs.Views.{narration_of};
-ghost use Rattle.spi_weave.specs.Woven.{woven};
-ghost use Rattle.spi_honest.specs.Narrated.{free_of};
-ghost use Rattle.spi_honest.specs.Roles.{IsTellable, HaveChannels};
+ghost use Rattle.spi_honest.specs.Roles.{IsTellable, NamesChannels, WeavesTo};
 ghost use Rattle.spi_honest.specs.Honest.{IsHonest, HasFault};
 
 use crate::fault::HonestFault;
@@ -25,13 +22,17 @@ use std::alloc::Global;
 /// is `NarratedTooLarge`. The earlier line counts, and at one line `LineNotReady` comes first. The last error is `NoMemory`.
 pub fn schedule_of(alloc: Global, n: &Narration, file: &File) -> Result<Honest, HonestFault>
     requires tellable { IsTellable (narration_of n.now) }
-    requires channels { HaveChannels (free_of (narration_of n.now)) (narration_of n.now).lines }
-    requires file { StandsFor (woven (narration_of n.now)) (meant file.now) }
+    requires channels { NamesChannels (narration_of n.now) }
+    requires file { WeavesTo (narration_of n.now) (meant file.now) }
     ensures honest { IfOk result (λ h. IsHonest (narration_of n.now) (meant file.now) h) }
     ensures fault { IfErr result (λ e. (e ≡ HonestFault.NoMemory) ⊎ HasFault (narration_of n.now) e) }
 {
-    let names = FreeNames::of(alloc, &n.decls)?;
-    let mut stage = open(alloc, n, file)?;
+    let Ok(names) = FreeNames::of(alloc, &n.decls) else {
+        return Err(HonestFault::NoMemory);
+    };
+    let Ok(mut stage) = open(alloc, n, file) else {
+        return Err(HonestFault::NoMemory);
+    };
     for at in 0..n.lines.len() {
         tell(&mut stage, n, file, &names, at)?;
     }

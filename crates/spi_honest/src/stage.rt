@@ -1,6 +1,6 @@
 //! The pool in which a narration goes.
 
-ghost use Rattle.std.specs.Prelude.{◌≡◌, ◌⊎◌, ◌↔◌, ◌-◌, ◌^◌, ◌<◌, ◌++◌, IsTrue, Option, Err, map, option_to_list, IfErr, OnOk, OnErr};
+ghost use Rattle.std.specs.Prelude.{◌≡◌, ◌⊎◌, ◌↔◌, ◌-◌, ◌^◌, ◌<◌, ◌++◌, IsTrue, Option, map, option_to_list, IfErr, OnOk};
 ghost use Rattle.spi_term.specs.Lists.{In};
 ghost use Rattle.spi_term.specs.Term.{name};
 ghost use Rattle.spi_run.specs.Reduction.{Event as Shown};
@@ -14,6 +14,7 @@ use crate::honest::Honest;
 use spi_replay::{Pool, StepFault};
 use spi_run::{Event, Step};
 use spi_term::Msg;
+use std::alloc::AllocError;
 
 /// A pool, the steps and the events so far, and the place of each role by its number.
 pub struct Stage<'p> {
@@ -25,11 +26,11 @@ pub struct Stage<'p> {
 
 impl Drop for Stage<'_> {
     fn drop(self) {
-        let Stage {
-            pool: _,
-            steps: _,
-            events: _,
-            places: _,
+        let Self {
+            pool,
+            steps,
+            events,
+            places,
         } = self;
     }
 }
@@ -82,17 +83,16 @@ pub fn take(stage: &mut Stage<'_>, step: Step) -> Result<(), StepFault>
     }
 }
 
-/// Takes a step that can be taken. Its only error is NoMemory.
-pub fn must(stage: &mut Stage<'_>, step: Step) -> Result<(), HonestFault>
+/// Takes a step that can be taken.
+pub fn must(stage: &mut Stage<'_>, step: Step) -> Result<(), NoMemory>
     requires names { stage.old.pool.configuration.names < 2 ^ 32 - 1 }
     requires can { (e : Option Shown) × (new : Pooled) × IsTaken stage.old.pool (step_of step) e new }
     ensures taken { OnOk result (TookStep stage.old stage.new (step_of step)) }
-    ensures err { OnErr result (result ≡ Err HonestFault.NoMemory) }
 {
     match take(stage, step) {
         Ok(()) => Ok(()),
         Err(fault) => match fault {
-            StepFault::NoMemory => Err(HonestFault::NoMemory),
+            StepFault::NoMemory => Err(AllocError),
             _ => unreachable!(),
         },
     }

@@ -1,8 +1,9 @@
 -- The steps of a play are a run.
-use Rattle.std.proofs.Common.{◌≡◌, ℕ, List, [], ◌∷◌, ◌++◌, Option, Some, None, ap, sym, ◌∙◌, subst, append-nil, append_assoc}
+use Rattle.std.proofs.Common.{◌≡◌, ℕ, List, [], ◌∷◌, ◌++◌, Option, ap, sym, ◌∙◌, subst, append-nil, append_assoc}
 use Rattle.std.specs.Option.{option_to_list}
-use Rattle.spi_run.specs.Reduction.{Configuration, Step, Event, Takes, Runs, runs_none, runs_silent, runs_event}
+use Rattle.spi_run.specs.Reduction.{Step, Event, Runs, runs_none}
 use Rattle.spi_replay.specs.Stepping.{Pooled}
+use Rattle.spi_replay.proofs.Taken.{runs_more}
 use Rattle.spi_play.specs.declared.player.Pick.{Pick}
 use Rattle.spi_play.specs.declared.player.Pick.TheVariants.{Take, Leave}
 use Rattle.spi_play.specs.Way.{Seen}
@@ -15,10 +16,6 @@ record Ran (old new : Course) : Type 0 where
   runs : Runs old.pool.configuration steps events new.pool.configuration
   steps_are : new.steps ≡ old.steps ++ steps
   events_are : new.events ≡ old.events ++ events
-
-runs_more : {c d f : Configuration} {s : Step} {ss : List Step} {es : List Event} (e : Option Event) → Takes c s e d → Runs d ss es f → Runs c (s ∷ ss) (option_to_list e ++ es) f
-runs_more None t r = runs_silent t r
-runs_more (Some e) t r = runs_event t r
 
 ran_none : (old : Course) → Ran old old
 ran_none old = record {

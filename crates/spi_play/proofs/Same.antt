@@ -16,9 +16,10 @@ use Rattle.spi_play.specs.Way.{Way, Seen, Script, First, Turn, Follows}
 use Rattle.spi_play.specs.Play.{Seat, State, Course, TurnOf, Picks, Goes, Does, Turns, Plays, GoesOn, EndsBy, most_reached, no_players, none_ready, seats_from, start, after_take, after_leave}
 use Rattle.spi_play.specs.Outcome.{course, EndsAt, AskedTell, OnlyPlay}
 use Rattle.spi_play.proofs.Standing.{seats_seen}
-use Rattle.spi_play.proofs.Steps.{counts_once, kth_once, taken_once}
+use Rattle.spi_replay.proofs.Taken.{taken_once}
+use Rattle.spi_play.proofs.Steps.{counts_once, kth_once}
 
-follows_same : (way : Option Way) (times ready : ℕ) (p q : Pick) (v w : Option Way) → IsSome way → Follows way times ready p v → Follows way times ready q w → (p ≡ q) × (v ≡ w)
+pub follows_same : (way : Option Way) (times ready : ℕ) (p q : Pick) (v w : Option Way) → IsSome way → Follows way times ready p v → Follows way times ready q w → (p ≡ q) × (v ≡ w)
 follows_same None times ready p q v w some a b = absurd (cc)
 follows_same (Some (Script [])) times ready p q v w some a b = (a.0 ∙ sym b.0, a.1 ∙ sym b.1)
 follows_same (Some (Script (k ∷ script))) times ready p q v w some a b = (a.0 ∙ sym b.0, a.1 ∙ sym b.1)
@@ -26,39 +27,28 @@ follows_same (Some First) times ready p q v w some a b = (a.0 ∙ sym b.0, a.1 �
 follows_same (Some Turn) times ready p q v w some a b = (a.0 ∙ sym b.0, a.1 ∙ sym b.1)
 
 -- who goes by a told way keeps telling it
-follows_tells : (way : Option Way) (times ready : ℕ) (p : Pick) (v : Option Way) → IsSome way → Follows way times ready p v → IsSome v
+pub follows_tells : (way : Option Way) (times ready : ℕ) (p : Pick) (v : Option Way) → IsSome way → Follows way times ready p v → IsSome v
 follows_tells None times ready p v some a = absurd (cc)
 follows_tells (Some (Script [])) times ready p v some a = rw a.1
 follows_tells (Some (Script (k ∷ script))) times ready p v some a = rw a.1
 follows_tells (Some First) times ready p v some a = rw a.1
 follows_tells (Some Turn) times ready p v some a = rw a.1
 
-seen_same : (a b : Seen) → a.times ≡ b.times → a.way ≡ b.way → a ≡ b
-seen_same a b times way =
-    let f : ℕ → Seen = λ t. record { times = t; way = a.way } in
-    let g : Option Way → Seen = λ w. record { times = b.times; way = w } in
-    ap f times ∙ ap g way
+pub seen_same : (a b : Seen) → a.times ≡ b.times → a.way ≡ b.way → a ≡ b
+seen_same a b times way = λ i. record { times = times i; way = way i }
 
-state_same : (a b : State) → a.course ≡ b.course → a.seats ≡ b.seats → a.next ≡ b.next → a ≡ b
-state_same a b done seats next =
-    let f : Course → State = λ x. record { course = x; seats = a.seats; next = a.next } in
-    let g : List Seat → State = λ x. record { course = b.course; seats = x; next = a.next } in
-    let h : Option ℕ → State = λ x. record { course = b.course; seats = b.seats; next = x } in
-    ap f done ∙ ap g seats ∙ ap h next
+pub state_same : (a b : State) → a.course ≡ b.course → a.seats ≡ b.seats → a.next ≡ b.next → a ≡ b
+state_same a b done seats next = λ i. record { course = done i; seats = seats i; next = next i }
 
-course_same : (a b : Course) → a.pool ≡ b.pool → a.steps ≡ b.steps → a.events ≡ b.events → a ≡ b
-course_same a b pool steps events =
-    let f : Pooled → Course = λ x. record { pool = x; steps = a.steps; events = a.events } in
-    let g : List Step → Course = λ x. record { pool = b.pool; steps = x; events = a.events } in
-    let h : List Event → Course = λ x. record { pool = b.pool; steps = b.steps; events = x } in
-    ap f pool ∙ ap g steps ∙ ap h events
+pub course_same : (a b : Course) → a.pool ≡ b.pool → a.steps ≡ b.steps → a.events ≡ b.events → a ≡ b
+course_same a b pool steps events = λ i. record { pool = pool i; steps = steps i; events = events i }
 
-picks_same : (old : Seen) (ready : ℕ) (p q : Pick) (a b : Seen) → IsSome old.way → Picks old ready p a → Picks old ready q b → (p ≡ q) × (a ≡ b)
+pub picks_same : (old : Seen) (ready : ℕ) (p q : Pick) (a b : Seen) → IsSome old.way → Picks old ready p a → Picks old ready q b → (p ≡ q) × (a ≡ b)
 picks_same old ready p q a b tells first second =
     let same : (p ≡ q) × (a.way ≡ b.way) = follows_same old.way old.times ready p q a.way b.way tells first.way second.way in
     (same.0, seen_same a b (first.times ∙ sym second.times) same.1)
 
-goes_same : (old : Course) (k : ℕ) (m n : Course) → Goes old k m → Goes old k n → m ≡ n
+pub goes_same : (old : Course) (k : ℕ) (m n : Course) → Goes old k m → Goes old k n → m ≡ n
 goes_same old k m n first second =
     let step : second.step ≡ first.step = kth_once second.kth first.kth in
     let P : Step → Type 0 = λ s. IsTaken old.pool s second.event n.pool in
@@ -68,7 +58,7 @@ goes_same old k m n first second =
     (first.steps ∙ ap (λ x. old.steps ++ x ∷ []) (sym step) ∙ sym second.steps)
     (first.events ∙ ap (λ x. old.events ++ option_to_list x) same.0 ∙ sym second.events)
 
-does_same : (only : Option ℕ) (old : State) (place : ℕ) (p : Pick) (seats : List Seat) (m n : State) → Does only place p old.course m.course seats m.seats m.next → Does only place p old.course n.course seats n.seats n.next → m ≡ n
+pub does_same : (only : Option ℕ) (old : State) (place : ℕ) (p : Pick) (seats : List Seat) (m n : State) → Does only place p old.course m.course seats m.seats m.next → Does only place p old.course n.course seats n.seats n.next → m ≡ n
 does_same only old place (Take k) seats m n first second =
     let after : m.seats ≡ n.seats = first.1 ∙ sym second.1 in
     state_same m n (goes_same old.course k m.course n.course first.0 second.0) after
@@ -81,7 +71,7 @@ does_same only old place Leave seats m n first second =
 abbrev Tells : Seat → Type 0
 Tells seat = IsSome seat.seen.way
 
-all_at : {X : Type 0} (P : X → Type 0) (xs : List X) (i : ℕ) (x : X) → All P xs → slice_get xs i ≡ Some x → P x
+pub all_at : {X : Type 0} (P : X → Type 0) (xs : List X) (i : ℕ) (x : X) → All P xs → slice_get xs i ≡ Some x → P x
 all_at P xs i x all is =
     elim (slice_get_cases xs i).1 [
       | inl within ↦ subst P (get_or_from_slice_get xs i x x is) (all i x within.1)
@@ -100,8 +90,12 @@ next_tells : (only : Option ℕ) (s : State) → AskedTellOn only s → NextTell
 next_tells None s tell = λ place seat next there. all_at Tells s.seats place seat tell there
 next_tells (Some only) s tell = tell
 
-turns_same : (only : Option ℕ) (most : ℕ) (old : State) (t u : TurnOf) (m n : State) → NextTells old → Turns only most old t m → Turns only most old u n → m ≡ n
-turns_same only most old t u m n tell first second =
+asked_now : (only : Option ℕ) {most : ℕ} {t : TurnOf} {m : State} (old : State) → AskedTellOn only old → (first : Turns only most old t m) → Tells first.asks.seat
+asked_now only old tell first = next_tells only old tell first.place first.asks.seat first.goes_on.at first.asks.was
+
+-- where who is asked tells its way, a turn has one outcome
+pub turns_same : (only : Option ℕ) (most : ℕ) (old : State) (t u : TurnOf) (m n : State) → (first : Turns only most old t m) → IsSome first.asks.seat.seen.way → Turns only most old u n → m ≡ n
+turns_same only most old t u m n first tell second =
     let a = first.asks in
     let b = second.asks in
     let next : Some second.place ≡ Some first.place = sym second.goes_on.at ∙ first.goes_on.at in
@@ -112,7 +106,7 @@ turns_same only most old t u m n tell first second =
     let P : Seat → Type 0 = λ s. Picks s.seen u.ready u.pick b.new in
     let Q : ℕ → Type 0 = λ r. Picks a.seat.seen r u.pick b.new in
     let picks : Picks a.seat.seen t.ready u.pick b.new = subst Q ready (subst P seat b.picks) in
-    let same : (u.pick ≡ t.pick) × (b.new ≡ a.new) = picks_same a.seat.seen t.ready u.pick t.pick b.new a.new (tell first.place a.seat first.goes_on.at a.was) picks a.picks in
+    let same : (u.pick ≡ t.pick) × (b.new ≡ a.new) = picks_same a.seat.seen t.ready u.pick t.pick b.new a.new tell picks a.picks in
     let put : ℕ → Seat → Seen → List Seat = λ p s v. slice_set old.seats p (record { who = s.who; seen = v }) in
     let seats : second.seats ≡ first.seats =
     b.others ∙ ap (λ p. put p b.seat b.new) place ∙ ap (λ s. put first.place s b.new) seat ∙ ap (put first.place a.seat) same.1 ∙ sym a.others in
@@ -182,7 +176,7 @@ plays_same only most old (t ∷ ts) [] m n e f tell first first_end second secon
     let P : State → Type 0 = λ s. HasEnded most s f in
     absurd (ended_once (subst P second second_end) first.1.goes_on)
 plays_same only most old (t ∷ ts) (u ∷ us) m n e f tell first first_end second second_end =
-    let same : first.0 ≡ second.0 = turns_same only most old t u first.0 second.0 (next_tells only old tell) first.1 second.1 in
+    let same : first.0 ≡ second.0 = turns_same only most old t u first.0 second.0 first.1 (asked_now only old tell first.1) second.1 in
     let P : State → Type 0 = λ s. Plays only most s us n in
     plays_same only most first.0 ts us m n e f (tells_kept only most old t first.0 tell first.1) first.2 first_end (subst P (sym same) second.2) second_end
 

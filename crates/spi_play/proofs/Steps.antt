@@ -1,17 +1,16 @@
 -- Ready steps: their number, which is which, and why one is refused.
 use Rattle.std.proofs.Common.{◌≡◌, ℕ, zero, suc, ◌+◌, ◌<◌, ◌≤◌, ◌⊎◌, ⊎_elim, List, [], ◌∷◌, length, Option, Some, None, refl, ap, sym, ◌∙◌, subst, arith, slice_get}
 use Rattle.std.specs.Prelude.{MatchOption, IsSome}
-use Rattle.spi_term.specs.Term.{Process}
-use Rattle.spi_term.specs.Lists.{At, at_first, at_later, In, in_first, in_later}
-use Rattle.spi_run.specs.Reduction.{Configuration, Step, Event, Acts, acts_split, acts_match, acts_inl, acts_inr, acts_decrypt, acts_check, acts_begin, acts_end, acts_end_many, acts_cast, acts_new, acts_par, Takes, takes_act, takes_talk}
+use Rattle.spi_term.specs.Lists.{In, in_first, in_later}
+use Rattle.spi_run.specs.Reduction.{Configuration, Step}
 use Rattle.spi_run.specs.View.{step}
 use Rattle.spi_run.specs.declared.step.Step as steps
-use Rattle.spi_run.proofs.Once.{takes_once}
 use Rattle.spi_replay.specs.declared.fault.StepFault.{StepFault}
 use Rattle.spi_replay.specs.declared.fault.StepFault.TheVariants as refused
 use Rattle.spi_replay.specs.Ready.{AreReady, IsReady}
-use Rattle.spi_replay.specs.Stepping.{Pooled, IsTaken, Refuses, no_place, not_ready, too_large, too_many, FirstOutside, outside_here, outside_later, places_named}
+use Rattle.spi_replay.specs.Stepping.{Pooled, Refuses, no_place, not_ready, too_large, too_many}
 use Rattle.spi_replay.proofs.Listed.{one_order}
+use Rattle.spi_replay.proofs.Taken.{takes_inside}
 use Rattle.spi_play.specs.declared.plays.PlayFault.{PlayFault}
 use Rattle.spi_play.specs.declared.plays.PlayFault.TheVariants.{RunMessageTooLarge, TooManyPlaces, NoMemory}
 use Rattle.spi_play.specs.Play.{CountsReady, IsKth}
@@ -45,23 +44,6 @@ get_in (y ∷ xs) (suc k) e = in_later (get_in xs k e)
 pub kth_ready : {c : Configuration} {k : ℕ} {s : Step} → IsKth c k s → IsReady c s
 kth_ready {k = k} a = (a.1.ready _).0 (get_in a.0 k a.2)
 
-at_within : {A : Type 0} {xs : List A} {i : ℕ} {x : A} → At xs i x → i < length xs
-at_within at_first = omega arith
-at_within (at_later a) = let h = at_within a in omega (arith, h)
-
-none_outside : {n i j k : ℕ} → i < n → j < n → FirstOutside n (i ∷ j ∷ []) k → ⊥
-none_outside h l (outside_here m) = omega (arith, h, m)
-none_outside h l (outside_later m (outside_here p)) = omega (arith, l, p)
-none_outside h l (outside_later m (outside_later p o)) = elim o [ ]
-
-one_outside : {n i k : ℕ} → i < n → FirstOutside n (i ∷ []) k → ⊥
-one_outside h (outside_here m) = omega (arith, h, m)
-one_outside h (outside_later m o) = elim o [ ]
-
-takes_inside : {c d : Configuration} {s : Step} {e : Option Event} {k : ℕ} → Takes c s e d → FirstOutside (length c.places) (places_named s) k → ⊥
-takes_inside (takes_act a x) o = one_outside (at_within a) o
-takes_inside (takes_talk a b t) o = none_outside (at_within a) (at_within b) o
-
 -- a ready step is refused by its size or the places alone
 pub late : {c : Configuration} {most : ℕ} {s : Step} {fault : StepFault} → IsReady c s → Refuses c most s fault → IsLate fault
 late ready (no_place o) = absurd (takes_inside ready.2 o)
@@ -90,34 +72,3 @@ step_refused pool place ready k s fault other within kth why is =
     let P : PlayFault → Type 0 = λ f. IsRefused pool place ready k f in
     let Q : StepFault → Type 0 = λ f. IsFaultOf f other in
     ⊎_elim (λ e. subst P (sym (subst Q e is)) within) (λ r. refused_by pool place ready k s fault other kth r is) why
-
-acts_names : {n n' : ℕ} {p p' : Process} {e : Option Event} {more : List Process} → Acts n p e n' p' more → n' ≤ n + 1
-acts_names acts_split = omega arith
-acts_names (acts_match e) = omega arith
-acts_names acts_inl = omega arith
-acts_names acts_inr = omega arith
-acts_names (acts_decrypt e) = omega arith
-acts_names (acts_check e) = omega arith
-acts_names acts_begin = omega arith
-acts_names acts_end = omega arith
-acts_names acts_end_many = omega arith
-acts_names acts_cast = omega arith
-acts_names acts_new = omega arith
-acts_names acts_par = omega arith
-
--- a step uses at most one more name
-pub takes_names : {c d : Configuration} {s : Step} {e : Option Event} → Takes c s e d → d.names ≤ c.names + 1
-takes_names (takes_act a x) = acts_names x
-takes_names (takes_talk a b t) = omega arith
-
-pooled_same : (m n : Pooled) → m.configuration ≡ n.configuration → m.most ≡ n.most → m ≡ n
-pooled_same m n e f =
-    let g : Configuration → Pooled = λ c. record { configuration = c; most = m.most } in
-    let h : ℕ → Pooled = λ x. record { configuration = n.configuration; most = x } in
-    ap g e ∙ ap h f
-
--- a step has one outcome
-pub taken_once : {old m n : Pooled} {s : Step} {d e : Option Event} → IsTaken old s d m → IsTaken old s e n → (d ≡ e) × (m ≡ n)
-taken_once {m = m} {n = n} a b =
-    let o = takes_once a.takes b.takes in
-    (o.0, pooled_same m n o.1 (a.most ∙ sym b.most))

@@ -1,18 +1,17 @@
 // Plays.
 
-ghost use Rattle.std.specs.Prelude.{◌≡◌, ◌+◌, ◌-◌, ◌^◌, ◌<◌, ◌≤◌, vec_len, IfOk, IfErr};
+ghost use Rattle.std.specs.Prelude.{◌-◌, ◌^◌, ◌<◌, ◌≤◌, vec_len, IfOk, IfErr};
 ghost use Rattle.std.specs.Option.{ForSome};
 ghost use Rattle.spi_play.specs.Way.{seen_of};
 ghost use Rattle.spi_play.specs.Play.{start};
 ghost use Rattle.spi_play.specs.Outcome.{course, EndsAt, RefusedAt, AskedTell, OnlyPlay};
-ghost use Rattle.spi_play.specs.declared.plays.PlayFault.TheVariants.{NoMemory as OutOfMemory};
 
 use crate::cursor::place_at_first;
 use crate::player::Player;
 use crate::turns::{Ahead, look_ahead, turn};
 use spi_replay::Pool;
 use spi_run::{Event, Step};
-use std::alloc::{AllocError, AllocFailed, Global};
+use std::alloc::Global;
 use thiserror::Error;
 
 /// How a play ended: the first of these that holds.
@@ -60,22 +59,6 @@ pub enum PlayFault {
     /// Memory ran out.
     #[error("out of memory")]
     NoMemory,
-}
-
-impl From<AllocError> for PlayFault {
-    ghost from_gives = { λ _ e. e ≡ OutOfMemory };
-
-    fn from(_e: AllocError) -> PlayFault {
-        PlayFault::NoMemory
-    }
-}
-
-impl<T: Drop> From<AllocFailed<T>> for PlayFault {
-    ghost from_gives = { λ _ e. e ≡ OutOfMemory };
-
-    fn from(_e: AllocFailed<T>) -> PlayFault {
-        PlayFault::NoMemory
-    }
 }
 
 /// Plays until `most` steps were taken, no player may be asked or no step is ready.

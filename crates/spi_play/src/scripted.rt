@@ -15,11 +15,7 @@ pub struct Scripted {
 
 impl Drop for Scripted {
     fn drop(self) {
-        let Scripted {
-            script: _,
-            at: _,
-            asked: _,
-        } = self;
+        let Self { script, at, asked } = self;
     }
 }
 

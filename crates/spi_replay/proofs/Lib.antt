@@ -8,6 +8,7 @@ pub mod Awaiting
 pub mod Does
 pub mod Stepped
 pub mod Takings
+pub mod Taken
 pub mod Chosen
 pub mod Listed
 pub mod Told

@@ -87,29 +87,16 @@ pub data Waits (ms : List Message) : Wait → Move → Type 0 where
 
 -- what is bound to a name or shown, where n names are used
 abbrev pub bound_in : ℕ → Move → List Message
-bound_in n stays = []
-bound_in n (puts m d) = []
-bound_in n (takes m i) = []
-bound_in n (takes_again m i) = []
 bound_in n (binds_one m i) = m ∷ []
 bound_in n (binds_two m d i) = m ∷ d ∷ []
-bound_in n (goes_on i) = []
 bound_in n (shows k m i) = m ∷ []
 bound_in n (makes i) = name n ∷ []
-bound_in n (forks i j) = []
+bound_in n m = []
 
 -- how many places it appends
 abbrev pub appended : Move → ℕ
-appended stays = 0
-appended (puts m d) = 0
-appended (takes m i) = 0
-appended (takes_again m i) = 0
-appended (binds_one m i) = 0
-appended (binds_two m d i) = 0
-appended (goes_on i) = 0
-appended (shows k m i) = 0
-appended (makes i) = 0
 appended (forks i j) = 1
+appended m = 0
 
 -- it acts alone
 abbrev pub acts_alone : Move → Bool
@@ -117,9 +104,4 @@ acts_alone stays = false
 acts_alone (puts m d) = false
 acts_alone (takes m i) = false
 acts_alone (takes_again m i) = false
-acts_alone (binds_one m i) = true
-acts_alone (binds_two m d i) = true
-acts_alone (goes_on i) = true
-acts_alone (shows k m i) = true
-acts_alone (makes i) = true
-acts_alone (forks i j) = true
+acts_alone m = true

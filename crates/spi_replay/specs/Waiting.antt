@@ -36,51 +36,27 @@ wait_acts Stays = false
 wait_acts (Puts i j) = false
 wait_acts (Takes i b) = false
 wait_acts (TakesAgain i b) = false
-wait_acts (BindsOne i b) = true
-wait_acts (BindsTwo i j b) = true
-wait_acts (GoesOn b) = true
-wait_acts (Shows k i b) = true
-wait_acts (Makes b) = true
-wait_acts (Forks a b) = true
+wait_acts w = true
 
 abbrev pub wait_appends : Wait → ℕ
-wait_appends Stays = 0
-wait_appends (Puts i j) = 0
-wait_appends (Takes i b) = 0
-wait_appends (TakesAgain i b) = 0
-wait_appends (BindsOne i b) = 0
-wait_appends (BindsTwo i j b) = 0
-wait_appends (GoesOn b) = 0
-wait_appends (Shows k i b) = 0
-wait_appends (Makes b) = 0
 wait_appends (Forks a b) = 1
+wait_appends w = 0
 
 -- the messages that are bound or shown have numbers below n
 abbrev pub wait_within : ℕ → Wait → Type 0
-wait_within n Stays = ⊤
-wait_within n (Puts i j) = ⊤
-wait_within n (Takes i b) = ⊤
-wait_within n (TakesAgain i b) = ⊤
 wait_within n (BindsOne i b) = i.place < n
 wait_within n (BindsTwo i j b) = (i.place < n) × (j.place < n)
-wait_within n (GoesOn b) = ⊤
 wait_within n (Shows k i b) = i.place < n
-wait_within n (Makes b) = ⊤
-wait_within n (Forks a b) = ⊤
+wait_within n w = ⊤
 
 -- the nodes of the largest of them, or of a new name
 abbrev pub wait_largest : List Message → Wait → ℕ
-wait_largest ms Stays = 0
-wait_largest ms (Puts i j) = 0
-wait_largest ms (Takes i b) = 0
-wait_largest ms (TakesAgain i b) = 0
 wait_largest ms (BindsOne i b) = stopped (message_size (message_at ms i))
 wait_largest ms (BindsTwo i j b) =
     max (stopped (message_size (message_at ms i))) (stopped (message_size (message_at ms j)))
-wait_largest ms (GoesOn b) = 0
 wait_largest ms (Shows k i b) = stopped (message_size (message_at ms i))
 wait_largest ms (Makes b) = 1
-wait_largest ms (Forks a b) = 0
+wait_largest ms w = 0
 
 -- an output and an input on one channel
 abbrev pub met_if : MsgId → MsgId → Meeting → Option Meeting

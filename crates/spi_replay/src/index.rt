@@ -28,11 +28,11 @@ pub struct Index<'p> {
 
 impl Drop for Index<'_> {
     fn drop(self) {
-        let Index {
-            alloc: _,
-            places: _,
-            outs: _,
-            ins: _,
+        let Self {
+            alloc,
+            places,
+            outs,
+            ins,
         } = self;
     }
 }

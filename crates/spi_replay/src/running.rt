@@ -36,13 +36,13 @@ pub struct State<'p> {
 
 impl Drop for State<'_> {
     fn drop(self) {
-        let State {
-            alloc: _,
-            names: _,
-            most: _,
-            store: _,
-            links: _,
-            index: _,
+        let Self {
+            alloc,
+            names,
+            most,
+            store,
+            links,
+            index,
         } = self;
     }
 }

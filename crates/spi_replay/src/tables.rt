@@ -34,7 +34,7 @@ pub struct Lists {
 
 impl Drop for Lists {
     fn drop(self) {
-        let Lists { from: _, to: _ } = self;
+        let Self { from, to } = self;
     }
 }
 
@@ -62,10 +62,7 @@ pub struct Relisted {
 
 impl Drop for Relisted {
     fn drop(self) {
-        let Relisted {
-            first: _,
-            second: _,
-        } = self;
+        let Self { first, second } = self;
     }
 }
 
@@ -104,26 +101,22 @@ fn in_channel(wait: Wait) -> Option<usize>
     }
 }
 
-/// What changes in the table of the outputs.
-pub fn out_change(turn: Turn) -> Change
-    ensures { result ≡ change_of out_channel_of turn }
+// What a turn changes in the tables of the outputs and of the inputs.
+fn changes(turn: Turn) -> (Change, Change)
+    ensures outs { result.0 ≡ change_of out_channel_of turn }
+    ensures ins { result.1 ≡ change_of in_channel_of turn }
 {
-    Change {
+    let outs = Change {
         place: turn.place,
         from: out_channel(turn.from),
         to: out_channel(turn.to),
-    }
-}
-
-/// What changes in the table of the inputs.
-pub fn in_change(turn: Turn) -> Change
-    ensures { result ≡ change_of in_channel_of turn }
-{
-    Change {
+    };
+    let ins = Change {
         place: turn.place,
         from: in_channel(turn.from),
         to: in_channel(turn.to),
-    }
+    };
+    (outs, ins)
 }
 
 fn is_on(channel: usize, on: Option<usize>) -> bool
@@ -263,10 +256,8 @@ pub fn turn_both(
     ensures same_outs { OnErr result (IsUnchanged outs.old outs.new) }
     ensures same_ins { OnErr result (IsUnchanged ins.old ins.new) }
 {
-    let first_out = out_change(first);
-    let second_out = out_change(second);
-    let first_in = in_change(first);
-    let second_in = in_change(second);
+    let (first_out, first_in) = changes(first);
+    let (second_out, second_in) = changes(second);
     let new_outs = prepared(alloc, outs, first_out, second_out)?;
     let new_ins = prepared(alloc, ins, first_in, second_in)?;
     new_outs.put_all(outs, first_out, second_out);

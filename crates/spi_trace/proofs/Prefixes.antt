@@ -10,7 +10,7 @@ use Rattle.spi_run.specs.Reduction.{Event, begun, ended, ended_many}
 use Rattle.spi_run.specs.Safety.{begins_of, ends_of, Paid, PaidMany}
 use Rattle.spi_run.specs.View.{event}
 use Rattle.spi_run.specs.declared.step.Event as Declared
-use Rattle.spi_trace.specs.Next.{EndIsPaid, ManyIsPaid}
+use Rattle.spi_trace.specs.Next.{EndIsPaid, ManyIsPaid, Each}
 use Rattle.spi_trace.proofs.Seen.{and_then}
 
 abbrev one_if : Bool → ℕ
@@ -112,7 +112,7 @@ next_below P es n x l e h p pre y post f k =
     (cases_lt (length pre) n)
 
 -- the element at a place is one of them
-pub each_at : (P : List Event → Event → Type 0) (es : List Declared.Event) (n : ℕ) (x : Declared.Event) → n < length es → x ≡ get_or es n x → ((pre : List Event) (e : Event) (post : List Event) → map event es ≡ pre ++ e ∷ post → P pre e) → P (map event (take n es)) (event x)
+pub each_at : (P : List Event → Event → Type 0) (es : List Declared.Event) (n : ℕ) (x : Declared.Event) → n < length es → x ≡ get_or es n x → Each P (map event es) → P (map event (take n es)) (event x)
 each_at P es n x l e h = h (map event (take n es)) (event x) (map event (drop (suc n) es)) (split_map es n x l e)
 
 -- events are paid
@@ -146,13 +146,13 @@ front_shorter : (pre : List Event) (e : Event) (post : List Event) → length pr
 front_shorter [] e post = omega arith
 front_shorter (x ∷ pre) e post = let h = front_shorter pre e post in omega arith
 
-any_below : (P : List Event → Event → Type 0) (es : List Event) (n : ℕ) → length es ≤ n → EachBelow P es n → (pre : List Event) (e : Event) (post : List Event) → es ≡ pre ++ e ∷ post → P pre e
+pub any_below : (P : List Event → Event → Type 0) (es : List Event) (n : ℕ) → length es ≤ n → EachBelow P es n → Each P es
 any_below P es n l h pre e post f = h pre e post f (let a = front_shorter pre e post in let b = ap length f in omega arith)
 
-pub each_paid : (es : List Event) (n : ℕ) → length es ≤ n → EachBelow EndIsPaid es n → Paid es
-each_paid es n l h early late m f = paid_on m [] early (omega arith) (λ pre e post g. any_below EndIsPaid es n l h pre e (post ++ late) (before_rest late pre e post f g))
+pub each_paid : (es : List Event) → Each EndIsPaid es → Paid es
+each_paid es h early late m f = paid_on m [] early (omega arith) (λ pre e post g. h pre e (post ++ late) (before_rest late pre e post f g))
 
-pub paid_each : (es : List Event) → Paid es → (pre : List Event) (e : Event) (post : List Event) → es ≡ pre ++ e ∷ post → EndIsPaid pre e
+pub paid_each : (es : List Event) → Paid es → Each EndIsPaid es
 paid_each es p pre (begun l) post f = tt
 paid_each es p pre (ended l) post f =
     let h = p (pre ++ ended l ∷ []) post l (f ∙ sym (and_then pre (ended l) post)) in
@@ -162,10 +162,10 @@ paid_each es p pre (ended l) post f =
     omega arith
 paid_each es p pre (ended_many l) post f = tt
 
-pub each_paid_many : (es : List Event) (n : ℕ) → length es ≤ n → EachBelow ManyIsPaid es n → PaidMany es
-each_paid_many es n l h early late m f = any_below ManyIsPaid es n l h early (ended_many m) late f
+pub each_paid_many : (es : List Event) → Each ManyIsPaid es → PaidMany es
+each_paid_many es h early late m f = h early (ended_many m) late f
 
-pub paid_many_each : (es : List Event) → PaidMany es → (pre : List Event) (e : Event) (post : List Event) → es ≡ pre ++ e ∷ post → ManyIsPaid pre e
+pub paid_many_each : (es : List Event) → PaidMany es → Each ManyIsPaid es
 paid_many_each es p pre (begun l) post f = tt
 paid_many_each es p pre (ended l) post f = tt
 paid_many_each es p pre (ended_many l) post f = p pre post l f

@@ -6,7 +6,7 @@ ghost use Rattle.spi_term.specs.View.{message};
 ghost use Rattle.spi_run.specs.Reduction.{begun};
 ghost use Rattle.spi_run.specs.Safety.{begins_of, ends_of, Paid, PaidMany};
 ghost use Rattle.spi_run.specs.View.{event};
-ghost use Rattle.spi_trace.specs.Next.{EndIsPaid, ManyIsPaid};
+ghost use Rattle.spi_trace.specs.Next.{EndIsPaid, ManyIsPaid, IsPaidAs, Each};
 
 use spi_run::Event;
 use spi_term::{Msg, same_message};
@@ -80,18 +80,42 @@ fn is_many_paid(before: &[Event], e: &Event) -> bool
     }
 }
 
+/// Which ends are asked for: those that take a begin each, or those that share one.
+#[derive(Clone, Copy)]
+pub enum Ends {
+    Single,
+    Many,
+}
+
+fn is_paid(ends: Ends, before: &[Event], e: &Event) -> bool
+    ensures { IsTrue result ↔ IsPaidAs ends (map event before.now) (event e.now) }
+{
+    match ends {
+        Ends::Single => is_end_paid(before, e),
+        Ends::Many => is_many_paid(before, e),
+    }
+}
+
+// Whether each of these ends is paid by the events before it.
+fn are_paid(ends: Ends, events: &[Event]) -> bool
+    requires { length events.now < 2 ^ 32 }
+    ensures { IsTrue result ↔ Each (IsPaidAs ends) (map event events.now) }
+{
+    for place in 0..events.len() {
+        if !is_paid(ends, &events[..place], &events[place]) {
+            return false;
+        }
+    }
+    true
+}
+
 /// Whether every prefix of the events has at most as many ends of each label as begins of it. It takes no memory,
 /// and looks through the events before each end.
 pub fn always_paid(events: &[Event]) -> bool
     requires { length events.now < 2 ^ 32 }
     ensures { IsTrue result ↔ Paid (map event events.now) }
 {
-    for place in 0..events.len() {
-        if !is_end_paid(&events[..place], &events[place]) {
-            return false;
-        }
-    }
-    true
+    are_paid(Ends::Single, events)
 }
 
 /// Whether each endmany has an earlier begin of its label. It takes no memory, and looks through the events before
@@ -100,10 +124,5 @@ pub fn always_paid_many(events: &[Event]) -> bool
     requires { length events.now < 2 ^ 32 }
     ensures { IsTrue result ↔ PaidMany (map event events.now) }
 {
-    for place in 0..events.len() {
-        if !is_many_paid(&events[..place], &events[place]) {
-            return false;
-        }
-    }
-    true
+    are_paid(Ends::Many, events)
 }

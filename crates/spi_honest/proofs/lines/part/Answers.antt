@@ -12,5 +12,5 @@ index_mut-requires c =
     let b = part_below (narration_of c.args.n.now) (meant c.args.file.now) c.args.at c.args.from c.args.to c.args.channel c.args.stage.now c.requires.tellable c.requires.line c.requires.told c.index-out.result.now c.index-out.ensures c.in_ok-must.ensures.taken in
     omega (arith, b, c.must.new.stage.places.ok.0)
 
-pub returns-clause-parted : goal.returns-clause-parted
-returns-clause-parted c = part_done (narration_of c.args.n.now) (meant c.args.file.now) c.args.at c.args.from c.args.to c.args.channel c.args.stage.now c.requires.tellable c.requires.line c.requires.told c.index-out.result.now c.index-out.ensures c.must.new.stage _ c.places-rest.result c.in_ok-must.ensures.taken c.places-rest.ensures refl refl refl refl
+pub returns : goal.returns
+returns c = record { parted = part_done (narration_of c.args.n.now) (meant c.args.file.now) c.args.at c.args.from c.args.to c.args.channel c.args.stage.now c.requires.tellable c.requires.line c.requires.told c.index-out.result.now c.index-out.ensures c.must.new.stage _ c.places-rest.result c.in_ok-must.ensures.taken c.places-rest.ensures refl refl refl refl }

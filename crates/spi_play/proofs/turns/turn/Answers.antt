@@ -1,6 +1,6 @@
 use Rattle.std.proofs.Common.{arith}
 use Rattle.spi_play.proofs.Standing.{turned_leave}
-use Rattle.spi_play.proofs.Steps.{takes_names}
+use Rattle.spi_replay.proofs.Taken.{takes_names}
 use Rattle.spi_play.proofs.turns.turn.Goals as goal
 
 pub returns-in-Ok-clause-names : goal.returns-in-Ok-clause-names

@@ -1,20 +1,9 @@
-use Rattle.std.proofs.Common.{refl, sym, ◌∙◌, map, arith}
+use Rattle.std.proofs.Common.{map}
 use Rattle.spi_run.specs.View.{event}
-use Rattle.spi_trace.specs.Next.{ManyIsPaid}
-use Rattle.spi_trace.proofs.Prefixes.{next_below, each_at, each_paid_many, paid_many_each, length_events}
+use Rattle.spi_trace.proofs.Prefixes.{each_paid_many, paid_many_each}
 use Rattle.spi_trace.proofs.paid.always_paid_many.Goals as goal
 
-pub returns-then-not-is_many_paid : goal.returns-then-not-is_many_paid
-returns-then-not-is_many_paid c = (
-  (λ e. absurd (cc)),
-  (λ p. sym c.if-not-is_many_paid.true ∙ c.is_many_paid.ensures.1 (each_at ManyIsPaid c.args.events.now c.loop-place.place c.index-events-place.result c.loop-place-test.true c.index-events-place.is (paid_many_each (map event c.args.events.now) p))),
-)
-
-pub loop-place-preserved : goal.loop-place-preserved
-loop-place-preserved c = next_below ManyIsPaid c.args.events.now c.loop-place.place c.index-events-place.result c.loop-place-test.true c.index-events-place.is c.loop-place.invariant (c.is_many_paid.ensures.0 c.if-not-is_many_paid.false)
-
 pub returns : goal.returns
-returns c = (
-  (λ e. each_paid_many (map event c.args.events.now) c.loop-place.place (omega (arith, length_events c.args.events.now, c.loop-place-test.false)) c.loop-place.invariant),
-  (λ p. refl),
-)
+returns c =
+    let es = map event c.args.events.now in
+    ((λ t. each_paid_many es (c.are_paid.ensures.0 t)), (λ h. c.are_paid.ensures.1 (paid_many_each es h)))

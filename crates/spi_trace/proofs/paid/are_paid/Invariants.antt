@@ -1,8 +1,8 @@
 use Rattle.std.proofs.Common.{map}
 use Rattle.spi_run.specs.View.{event}
-use Rattle.spi_trace.specs.Next.{EndIsPaid}
+use Rattle.spi_trace.specs.Next.{IsPaidAs}
 use Rattle.spi_trace.proofs.Prefixes.{EachBelow}
-use Rattle.spi_trace.proofs.paid.always_paid.Given as goal
+use Rattle.spi_trace.proofs.paid.are_paid.Given as goal
 
 abbrev pub invariant-loop-place : goal.invariant-loop-place
-invariant-loop-place l = EachBelow EndIsPaid (map event l.events) l.place
+invariant-loop-place l = EachBelow (IsPaidAs l.ends) (map event l.events) l.place
