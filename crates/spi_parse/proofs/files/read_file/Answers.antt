@@ -2,5 +2,5 @@ use Rattle.std.proofs.Common.{rules}
 use Rattle.spi_parse.proofs.Readers.{read_is_step}
 use Rattle.spi_parse.proofs.files.read_file.Goals as goal
 
-pub returns : goal.returns
-returns c = rw read_is_step (search rules)
+pub returns-in_default : goal.returns-in_default
+returns-in_default c = rw read_is_step (search rules)

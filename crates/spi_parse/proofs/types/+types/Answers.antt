@@ -11,11 +11,11 @@ use Rattle.spi_parse.proofs.Readers.{read_is_step, takes_some}
 use Rattle.spi_parse.proofs.Lists.{fields_law, fields_take}
 use Rattle.spi_parse.proofs.types.+types.Goals as goal
 
-pub boxed_type-returns : goal.boxed_type-returns
-boxed_type-returns t c = rw read_is_step (search rules)
+pub boxed_type-returns-in_default : goal.boxed_type-returns-in_default
+boxed_type-returns-in_default t c = rw read_is_step (search rules)
 
-pub next_field-returns : goal.next_field-returns
-next_field-returns t c = rw read_is_step (search rules)
+pub next_field-returns-in_default : goal.next_field-returns-in_default
+next_field-returns-in_default t c = rw read_is_step (search rules)
 
 pub read_fields-items-smaller : goal.read_fields-items-smaller
 read_fields-items-smaller t c =
