@@ -71,7 +71,7 @@ pub fn next_token<'t>(at: Cursor<'t>) -> Read<'t, &'t Token>
 }
 
 /// From the start of a node's first token to the end of its last, which stands before this place.
-pub fn span_from<'t>(first: Span, at: Cursor<'t>) -> Span
+pub fn span_from(first: Span, at: Cursor<'_>) -> Span
     ensures { result ≡ over (first ∷ []) at.entry.end }
 {
     Span {

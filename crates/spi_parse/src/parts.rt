@@ -52,7 +52,7 @@ fn place_at(tokens: &[Token], from: u32) -> Cursor<'_>
 /// What reading answered, with the number of the token behind the part, or the fault by the number of its token.
 fn by_number<X>(tokens: &[Token], answer: Read<'_, X>) -> Result<(X, u32), ParseFault>
     requires { length tokens.now ≤ 16_777_216 }
-    ensures { MatchResult answer (λ x. result ≡ Ok (x.0, length tokens.now - length x.1.rest.now))
+    ensures { MatchResult answer.entry (λ x. result ≡ Ok (x.0, length tokens.now - length x.1.rest.now))
         (λ e. result ≡ Err (fault_at (length tokens.now) e)) }
 {
     match answer {
