@@ -10,7 +10,7 @@ ghost use Rattle.spi_parse.specs.Wholes.{one_form, two_form, three_form, sub_for
 ghost use Rattle.spi_parse.specs.Rules.{arity_of, writes_effect, is_late};
 ghost use Rattle.spi_parse.specs.Shapes.{is_sub, by_arity, IsShape};
 ghost use Rattle.spi_parse.specs.Table.{deriv, over};
-ghost use Rattle.spi_parse.specs.Reading.{Gives, read, limited};
+ghost use Rattle.spi_parse.specs.Reading.{Gives, read, step, limited};
 
 use crate::NoMemory;
 use crate::cursor::{Cursor, DERIVATION_LIMIT, Read, copy_word, fits, span_from, syntax};
@@ -130,6 +130,15 @@ fn boxed_derivation(alloc: Global, at: Cursor<'_>, later: bool, nesting: u32) ->
     requires { nesting ≤ 1001 }
     ensures { Gives (λ x. (deriv_of x.0.value, state_of x.1)) result
         (read limited (deriv later nesting) (state_of at.entry)) }
+{
+    derivation_step(alloc, at, later, nesting)
+}
+
+#[cycle(derivations)]
+fn derivation_step(alloc: Global, at: Cursor<'_>, later: bool, nesting: u32) -> Part<'_>
+    requires { nesting ≤ 1001 }
+    ensures { Gives (λ x. (deriv_of x.0.value, state_of x.1)) result
+        (step limited (read limited) (deriv later nesting) (state_of at.entry)) }
 {
     let [first, rest @ ..] = at.rest else {
         return Err(syntax(0));

@@ -6,7 +6,7 @@ ghost use Rattle.spi_tree.specs.Views.{ty_of, field_of, last_of};
 ghost use Rattle.spi_parse.specs.Places.{state_of, field_item, sum_form, key_form, nonce_form, tuple_ty_form, sum_word_form};
 ghost use Rattle.spi_parse.specs.Ends.{done, sum_end};
 ghost use Rattle.spi_parse.specs.Table.{one, last, ty, fields, fields_item, fields_rest, delta_ty_paren, delta_ty_word, delta_item_word, word_at, over};
-ghost use Rattle.spi_parse.specs.Reading.{Gives, read, limited, behind};
+ghost use Rattle.spi_parse.specs.Reading.{Gives, read, step, limited, behind};
 
 use crate::NoMemory;
 use crate::cursor::{Cursor, MESSAGE_LIMIT, Read, copy_word, fits, next_token, span_from, syntax};
@@ -79,6 +79,15 @@ fn boxed_type(alloc: Global, at: Cursor<'_>, later: bool, nesting: u32) -> Part<
     requires { nesting ≤ 1001 }
     ensures { Gives (λ x. (ty_of x.0.value, state_of x.1)) result
         (read limited (ty later nesting) (state_of at.entry)) }
+{
+    type_step(alloc, at, later, nesting)
+}
+
+#[cycle(types)]
+fn type_step(alloc: Global, at: Cursor<'_>, later: bool, nesting: u32) -> Part<'_>
+    requires { nesting ≤ 1001 }
+    ensures { Gives (λ x. (ty_of x.0.value, state_of x.1)) result
+        (step limited (read limited) (ty later nesting) (state_of at.entry)) }
 {
     let (first, next) = next_token(at)?;
     match &first.kind {
@@ -367,6 +376,20 @@ fn next_field(
     requires { nesting ≤ 1001 }
     ensures { Gives (λ x. (field_item x.0.value, state_of x.1)) result
         (read limited (fields_item later nesting) (state_of at.entry)) }
+{
+    next_field_step(alloc, at, later, nesting)
+}
+
+#[cycle(types)]
+fn next_field_step(
+    alloc: Global,
+    at: Cursor<'_>,
+    later: bool,
+    nesting: u32,
+) -> Read<'_, Box<FieldOrLast>>
+    requires { nesting ≤ 1001 }
+    ensures { Gives (λ x. (field_item x.0.value, state_of x.1)) result
+        (step limited (read limited) (fields_item later nesting) (state_of at.entry)) }
 {
     let (first, next) = next_token(at)?;
     match &first.kind {

@@ -1,4 +1,4 @@
-use Rattle.std.proofs.Common.{rules, arith, ◌≡◌, ◌≤◌, ℕ, Bool, true, false, List, Option, Some, Result, map, take, drop, ◌-◌, ◌∷◌, [], get_or, length, sym, ap, subst, ◌∙◌}
+use Rattle.std.proofs.Common.{rules, arith, ◌≡◌, ◌≤◌, ℕ, Bool, true, false, List, Option, Some, Result, map, take, drop, ◌-◌, ◌∷◌, [], get_or, length, ap, subst, ◌∙◌}
 use Rattle.std.specs.Global.{Box}
 use Rattle.spi_lex.specs.declared.token.Kind.TheVariants as K
 use Rattle.spi_lex.specs.declared.token.Token.{Token}
@@ -12,25 +12,21 @@ use Rattle.spi_parse.specs.Tokens.{State, tok}
 use Rattle.spi_parse.specs.Places.{state_of}
 use Rattle.spi_parse.specs.Rules.{arity_of, writes_effect}
 use Rattle.spi_parse.specs.Table.{deriv, rule_move}
-use Rattle.spi_parse.specs.Reading.{Out, Gives, read, limited, go_on}
-use Rattle.spi_parse.proofs.Readers.{at, read_is_step}
+use Rattle.spi_parse.specs.Reading.{Out, Gives, read, limited, step, go_on}
+use Rattle.spi_parse.proofs.Readers.{at}
 use Rattle.spi_parse.proofs.DerivLaws.{rule_is_first}
 use Rattle.spi_parse.proofs.derivations.+derivations.Goals as goal
 
 abbrev Read : Result (Box SDeriv × Cursor) Stop → Out trees.Deriv → Type 0
 Read r o = Gives {X = Box SDeriv × Cursor} {Y = trees.Deriv × State} (λ x. (deriv_of x.0.value, state_of x.1)) r o
 
--- what the move of a rule gives behind its word is what reading gives before it, where the word was copied
+-- what the move of a rule gives behind its word is what a step gives before it, where the word was copied
 by_rule : (later : Bool) (nesting : ℕ) (start : Cursor) (first : Token) (w shown : List ℕ) (o : Option ℕ) (b : Bool) (r : Result (Box SDeriv × Cursor) Stop)
     → 1 ≤ length start.rest.now → first ≡ get_or start.rest.now 0 first → first.kind ≡ K.Word w → w ≡ shown → arity_of later shown ≡ o → writes_effect shown ≡ b → nesting ≤ derivation_limit
     → Read r (go_on limited (read limited) (rule_move later nesting w o b) false [] (at start.end (tok first ∷ map tok (take (length start.rest.now - 1) (drop 1 start.rest.now)))))
-    → Read r (read limited (deriv later nesting) (state_of start))
+    → Read r (step limited (read limited) (deriv later nesting) (state_of start))
 by_rule later nesting start first w shown o b r some is kind copied arity writes fits gives =
-    subst (Read r) (rule_is_first later nesting start.end start.rest.now first w o b some is kind (ap (arity_of later) copied ∙ arity) (ap writes_effect copied ∙ writes) fits
-    ∙ sym (read_is_step limited (deriv later nesting) (state_of start))) gives
-
-pub boxed_derivation-returns-in_default : goal.boxed_derivation-returns-in_default
-boxed_derivation-returns-in_default t c = rw read_is_step (search rules)
+    subst (Read r) (rule_is_first later nesting start.end start.rest.now first w o b some is kind (ap (arity_of later) copied ∙ arity) (ap writes_effect copied ∙ writes) fits) gives
 
 pub boxed_derivation-returns-in-One : goal.boxed_derivation-returns-in-One
 boxed_derivation-returns-in-One t c =

@@ -1,4 +1,5 @@
-use Rattle.std.proofs.Common.{rules, arith, map}
+use Rattle.std.proofs.Common.{arith, map}
+use Rattle.std.proofs.lemmas.Grind.{common_steps}
 use Rattle.std.proofs.lemmas.List.{length-map, map_push}
 use Rattle.std.proofs.lemmas.Result.{err_from_is_err_and}
 use Rattle.spi_parse.specs.Tokens.{tok}
@@ -11,11 +12,8 @@ use Rattle.spi_parse.proofs.Readers.{read_is_step, takes_some}
 use Rattle.spi_parse.proofs.Lists.{msgs_law, msgs_take}
 use Rattle.spi_parse.proofs.messages.+messages.Goals as goal
 
-pub boxed_message-returns-in_default : goal.boxed_message-returns-in_default
-boxed_message-returns-in_default t c = rw read_is_step (search rules)
-
 pub next_message-returns-in_default : goal.next_message-returns-in_default
-next_message-returns-in_default t c = rw read_is_step (search rules)
+next_message-returns-in_default t c = rw read_is_step (grind (arith, common_steps))
 
 pub more_messages-items-smaller : goal.more_messages-items-smaller
 more_messages-items-smaller t c =

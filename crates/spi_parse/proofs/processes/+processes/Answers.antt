@@ -1,4 +1,5 @@
-use Rattle.std.proofs.Common.{rules, arith, ◌+◌, subst, ap, ◌∙◌}
+use Rattle.std.proofs.Common.{arith, ◌+◌, subst, ap, ◌∙◌}
+use Rattle.std.proofs.lemmas.Grind.{common_steps}
 use Rattle.std.specs.Global.{Box}
 use Rattle.spi_tree.specs.Trees as trees
 use Rattle.spi_tree.specs.Views.{proc_of}
@@ -15,10 +16,10 @@ use Rattle.spi_parse.proofs.Lists.{seq_fits}
 use Rattle.spi_parse.proofs.processes.+processes.Goals as goal
 
 pub out_rest-returns-in_default : goal.out_rest-returns-in_default
-out_rest-returns-in_default t c = rw read_is_step (search rules)
+out_rest-returns-in_default t c = rw read_is_step (grind (arith, common_steps))
 
 pub par_rest-returns-in_default : goal.par_rest-returns-in_default
-par_rest-returns-in_default t c = rw read_is_step (search rules)
+par_rest-returns-in_default t c = rw read_is_step (grind (arith, common_steps))
 
 pub parallel-par_rest-requires : goal.parallel-par_rest-requires
 parallel-par_rest-requires t c =
