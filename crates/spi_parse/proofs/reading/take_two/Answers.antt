@@ -5,3 +5,6 @@ use Rattle.spi_parse.proofs.reading.take_two.Goals as goal
 
 pub returns-in_default : goal.returns-in_default
 returns-in_default c = rw read_is_step (grind (arith, common_steps))
+
+pub returns-else-number-eq2 : goal.returns-else-number-eq2
+returns-else-number-eq2 c = rw read_is_step (grind (arith, common_steps))
