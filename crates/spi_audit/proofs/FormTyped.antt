@@ -1,8 +1,8 @@
 -- Uses of the rules of processes that take a message apart, and of those that check and that make one.
-use Rattle.std.proofs.Common.{◌≡◌, refl, sym, subst, ℕ, suc, true, false, List, [], ◌∷◌, length, Some, None}
+use Rattle.std.proofs.Common.{◌≡◌, refl, sym, subst, ℕ, true, false, List, [], ◌∷◌, Some, None}
 use Rattle.spi_term.specs.Term.{Message, name, Effect, Ty, un, pair_ty, sum_ty, key, Splits, Selects, Decrypts, Checks, Makes, Cases, Pars, Process, split, select, branch, decrypt, check, fresh}
-use Rattle.spi_term.specs.Substitution.{ty_put, process_put, process_put_two}
-use Rattle.spi_rules.specs.Environment.{Env, extended}
+use Rattle.spi_term.specs.Substitution.{ty_put}
+use Rattle.spi_rules.specs.Environment.{Env, extended, opened, opened_two, opened_ty}
 use Rattle.spi_rules.specs.Good.{GoodTy}
 use Rattle.spi_rules.specs.Processes.{IsNonce, IsGenerative}
 use Rattle.spi_rules.specs.declared.rule.Rule.{Rule}
@@ -64,11 +64,11 @@ module _ (j k : Numbered) (m : Message) where
     pub split_bad : (v : Ty) → v ≡ pair_ty t u → ((e : Env) → Stands j e → GoodTy [] e v → ⊥) → AnswersPrefix j k ProcSplit (Splits m t u) body None
     split_bad v q h = record { at = λ ss e p s l ps f. h e s (subst (GoodTy [] e) (sym q) (split_good f)) }
 
-    pub split_fits : (v : Ty) {a b : Asked} → v ≡ pair_ty t u → ((e : Env) → Stands j e → GoodTy [] e v) → IsAsked k.store a m v → Begins j k body (λ e. t ∷ (ty_put (name (length e)) u ∷ [])) b
+    pub split_fits : (v : Ty) {a b : Asked} → v ≡ pair_ty t u → ((e : Env) → Stands j e → GoodTy [] e v) → IsAsked k.store a m v → Begins j k body (λ e. t ∷ (opened_ty e u ∷ [])) b
         → AnswersPrefix j k ProcSplit (Splits m t u) body (Some (TwoPremises a b))
     split_fits v {a} q g x y = record {
       at = λ ss e p s l. (
-        of_message e m (pair_ty t u) ∷ (of_process (extended (extended e t) (ty_put (name (length e)) u)) (process_put_two (name (length e)) (name (suc (length e))) p) ∷ []),
+        of_message e m (pair_ty t u) ∷ (of_process (extended (extended e t) (opened_ty e u)) (opened_two e p) ∷ []),
         fits_split (subst (GoodTy [] e) q (g e s)),
         open_message (subst (IsAsked k.store a m) q x) (process_open (two j k ss e p s u y l)),
       );
@@ -80,13 +80,13 @@ module _ (j k : Numbered) (m : Message) where
     pub split_second : is_un u ≡ false → AnswersPrefix j k ProcSplitUn (Splits m t u) body None
     split_second h = record { at = λ ss e p s l ps f. not_un h (split_types f).1 }
 
-    pub split_un_fits : {a b : Asked} → is_un t ≡ true → is_un u ≡ true → IsAsked k.store a m un → Begins j k body (λ e. t ∷ (ty_put (name (length e)) u ∷ [])) b
+    pub split_un_fits : {a b : Asked} → is_un t ≡ true → is_un u ≡ true → IsAsked k.store a m un → Begins j k body (λ e. t ∷ (opened_ty e u ∷ [])) b
         → AnswersPrefix j k ProcSplitUn (Splits m t u) body (Some (TwoPremises a b))
     split_un_fits {a} {b} h g x y =
-        as_un (λ t. Begins j k body (λ e. t ∷ (ty_put (name (length e)) u ∷ [])) b → AnswersPrefix j k ProcSplitUn (Splits m t u) body (Some (TwoPremises a b))) t h
-        (as_un (λ u. Begins j k body (λ e. un ∷ (ty_put (name (length e)) u ∷ [])) b → AnswersPrefix j k ProcSplitUn (Splits m un u) body (Some (TwoPremises a b))) u g (λ y. record {
+        as_un (λ t. Begins j k body (λ e. t ∷ (opened_ty e u ∷ [])) b → AnswersPrefix j k ProcSplitUn (Splits m t u) body (Some (TwoPremises a b))) t h
+        (as_un (λ u. Begins j k body (λ e. un ∷ (opened_ty e u ∷ [])) b → AnswersPrefix j k ProcSplitUn (Splits m un u) body (Some (TwoPremises a b))) u g (λ y. record {
           at = λ ss e p s l. (
-            of_message e m un ∷ (of_process (extended (extended e un) un) (process_put_two (name (length e)) (name (suc (length e))) p) ∷ []),
+            of_message e m un ∷ (of_process (extended (extended e un) un) (opened_two e p) ∷ []),
             fits_split_un,
             open_message x (process_open (two j k ss e p s un y l)),
           );
@@ -101,7 +101,7 @@ module _ (j k : Numbered) (m : Message) where
         → AnswersPrefix j k ProcMatch (Selects m t n u) body (Some (ThreePremises a b c))
     select_fits v {a} q g x y z = record {
       at = λ ss e p s l. (
-        of_message e m (pair_ty t u) ∷ (of_message e n t ∷ (of_process (extended e (ty_put n u)) (process_put (name (length e)) p) ∷ [])),
+        of_message e m (pair_ty t u) ∷ (of_message e n t ∷ (of_process (extended e (ty_put n u)) (opened e p) ∷ [])),
         fits_match (subst (GoodTy [] e) q (g e s)),
         open_message (subst (IsAsked k.store a m) q x) (open_message y (process_open (one j k ss e p s z l))),
       );
@@ -119,7 +119,7 @@ module _ (j k : Numbered) (m : Message) where
         as_un (λ t. AnswersPrefix j k ProcMatchUn (Selects m t n u) body (Some (ThreePremises a b c))) t h
         (as_un (λ u. Begins j k body (λ e. u ∷ []) c → AnswersPrefix j k ProcMatchUn (Selects m un n u) body (Some (ThreePremises a b c))) u g (λ z. record {
           at = λ ss e p s l. (
-            of_message e m un ∷ (of_message e n un ∷ (of_process (extended e un) (process_put (name (length e)) p) ∷ [])),
+            of_message e m un ∷ (of_message e n un ∷ (of_process (extended e un) (opened e p) ∷ [])),
             fits_match_un,
             open_message x (open_message y (process_open (one j k ss e p s z l))),
           );
@@ -137,7 +137,7 @@ module _ (j k : Numbered) (m : Message) where
         → AnswersFork j k ProcCase (Cases m t u) first rest (Some (ThreePremises a b c))
     branch_fits v {a} q g h x y z = record {
       at = λ ss e p r s l o. (
-        of_message e m (sum_ty t u) ∷ (of_process (extended e t) (process_put (name (length e)) p) ∷ (of_process (extended e u) (process_put (name (length e)) r) ∷ [])),
+        of_message e m (sum_ty t u) ∷ (of_process (extended e t) (opened e p) ∷ (of_process (extended e u) (opened e r) ∷ [])),
         fits_case (g e s) (h e s),
         open_message (subst (IsAsked k.store a m) q x) (two_open (one j k ss e p s y l) (one j k ss e r s z o)),
       );
@@ -155,7 +155,7 @@ module _ (j k : Numbered) (m : Message) where
         as_un (λ t. Begins j k first (λ e. t ∷ []) b → AnswersFork j k ProcCaseUn (Cases m t u) first rest (Some (ThreePremises a b c))) t h
         (λ y. as_un (λ u. Begins j k rest (λ e. u ∷ []) c → AnswersFork j k ProcCaseUn (Cases m un u) first rest (Some (ThreePremises a b c))) u g (λ z. record {
           at = λ ss e p r s l o. (
-            of_message e m un ∷ (of_process (extended e un) (process_put (name (length e)) p) ∷ (of_process (extended e un) (process_put (name (length e)) r) ∷ [])),
+            of_message e m un ∷ (of_process (extended e un) (opened e p) ∷ (of_process (extended e un) (opened e r) ∷ [])),
             fits_case_un,
             open_message x (two_open (one j k ss e p s y l) (one j k ss e r s z o)),
           );
@@ -170,7 +170,7 @@ module _ (j k : Numbered) (m : Message) where
         → AnswersPrefix j k ProcDecrypt (Decrypts m t n) body (Some (ThreePremises a b c))
     decrypt_fits v {a} {b} q g x y z = record {
       at = λ ss e p s l. (
-        of_message e m un ∷ (of_message e n (key t) ∷ (of_process (extended e t) (process_put (name (length e)) p) ∷ [])),
+        of_message e m un ∷ (of_message e n (key t) ∷ (of_process (extended e t) (opened e p) ∷ [])),
         fits_decrypt (g e s),
         open_message x (open_message (subst (IsAsked k.store b n) q y) (process_open (one j k ss e p s z l))),
       );
@@ -184,7 +184,7 @@ module _ (j k : Numbered) (m : Message) where
     decrypt_un_fits {a} {b} {c} h x y z =
         as_un (λ t. Begins j k body (λ e. t ∷ []) c → AnswersPrefix j k ProcDecryptUn (Decrypts m t n) body (Some (ThreePremises a b c))) t h (λ z. record {
           at = λ ss e p s l. (
-            of_message e m un ∷ (of_message e n un ∷ (of_process (extended e un) (process_put (name (length e)) p) ∷ [])),
+            of_message e m un ∷ (of_message e n un ∷ (of_process (extended e un) (opened e p) ∷ [])),
             fits_decrypt_un,
             open_message x (open_message y (process_open (one j k ss e p s z l))),
           );
@@ -219,7 +219,7 @@ module _ (j k : Numbered) (t : Ty) (body : ℕ) where
 
   pub fresh_fits : {a : Asked} → is_fresh t ≡ true → ((e : Env) → Stands j e → GoodTy [] e t) → Begins j k body (λ e. t ∷ []) a → AnswersPrefix j k ProcNew (Makes t) body (Some (OnePremise a))
   fresh_fits h g x = record {
-    at = λ ss e p s l. (of_process (extended e t) (process_put (name (length e)) p) ∷ [], fits_new (generative t h) (g e s), process_open (one j k ss e p s x l));
+    at = λ ss e p s l. (of_process (extended e t) (opened e p) ∷ [], fits_new (generative t h) (g e s), process_open (one j k ss e p s x l));
   }
 
 -- two processes

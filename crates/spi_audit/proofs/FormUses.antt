@@ -1,12 +1,11 @@
 -- Uses of the rules of processes, held against the forms that they are asked of.
-use Rattle.std.proofs.Common.{◌≡◌, refl, sym, ap, ◌∙◌, subst, ℕ, suc, Bool, true, false, true≢false, List, [], ◌∷◌, ◌++◌, length, Option, Some, None, Result, IfOk, append_assoc, append-nil}
+use Rattle.std.proofs.Common.{◌≡◌, refl, sym, ap, ◌∙◌, subst, ℕ, Bool, true, false, true≢false, List, [], ◌∷◌, ◌++◌, Option, Some, None, Result, IfOk, append_assoc, append-nil}
 use Rattle.std.specs.Prelude.{slice_get}
 use Rattle.std.proofs.lemmas.Result.{IfOk-weaker}
 use Rattle.spi_term.specs.Term.{Message, name, Effect, Ty, un, unit_ty, pair_ty, sum_ty, key, nonce, Sends, Stops, Prefix, Recvs, Serves, Begins as BeginsAt, Ends, EndManys, Casts, Fork, Process, recv, serve, begin, end, end_many, cast}
 use Rattle.spi_term.specs.Spelling.{Shape}
-use Rattle.spi_term.specs.Substitution.{ty_put, process_put, process_put_two}
 use Rattle.spi_term.proofs.Lists.{get_at}
-use Rattle.spi_rules.specs.Environment.{Env, extended}
+use Rattle.spi_rules.specs.Environment.{Env, extended, opened, opened_two, opened_ty}
 use Rattle.spi_rules.specs.Messages.{IsLabel}
 use Rattle.spi_rules.specs.Good.{GoodTy}
 use Rattle.spi_rules.specs.Processes.{IsNonce, nonce_name, IsGenerative}
@@ -77,13 +76,13 @@ module _ (j k : Numbered) (ss : List Shape) {node : ℕ} {a : Asked} (e : Env) (
   pub same : Begins j k node (λ e. []) a → Located ss node (e ++ []) p → IsBegun k.store ss e a e p
   same h l = is_begun j k ss (λ e. []) e e p (sym (append-nil e)) s h l
 
-  pub one : {t : Ty} → Begins j k node (λ e. t ∷ []) a → Located ss node (e ++ t ∷ []) (process_put (name (length e)) p) → IsBegun k.store ss e a (extended e t) (process_put (name (length e)) p)
-  one {t} h l = is_begun j k ss (λ e. t ∷ []) e (extended e t) (process_put (name (length e)) p) refl s h l
+  pub one : {t : Ty} → Begins j k node (λ e. t ∷ []) a → Located ss node (e ++ t ∷ []) (opened e p) → IsBegun k.store ss e a (extended e t) (opened e p)
+  one {t} h l = is_begun j k ss (λ e. t ∷ []) e (extended e t) (opened e p) refl s h l
 
-  pub two : {t : Ty} (u : Ty) → Begins j k node (λ e. t ∷ (ty_put (name (length e)) u ∷ [])) a → Located ss node (e ++ t ∷ (ty_put (name (length e)) u ∷ [])) (process_put_two (name (length e)) (name (suc (length e))) p)
-      → IsBegun k.store ss e a (extended (extended e t) (ty_put (name (length e)) u)) (process_put_two (name (length e)) (name (suc (length e))) p)
+  pub two : {t : Ty} (u : Ty) → Begins j k node (λ e. t ∷ (opened_ty e u ∷ [])) a → Located ss node (e ++ t ∷ (opened_ty e u ∷ [])) (opened_two e p)
+      → IsBegun k.store ss e a (extended (extended e t) (opened_ty e u)) (opened_two e p)
   two {t} u h l =
-      is_begun j k ss (λ e. t ∷ (ty_put (name (length e)) u ∷ [])) e (extended (extended e t) (ty_put (name (length e)) u)) (process_put_two (name (length e)) (name (suc (length e))) p) (append_assoc e (t ∷ []) (ty_put (name (length e)) u ∷ [])) s h l
+      is_begun j k ss (λ e. t ∷ (opened_ty e u ∷ [])) e (extended (extended e t) (opened_ty e u)) (opened_two e p) (append_assoc e (t ∷ []) (opened_ty e u ∷ [])) s h l
 
 -- the rule of an arm
 module _ (j k : Numbered) (rule w : Rule) (q : rule ≡ w) where
@@ -106,23 +105,23 @@ send_fits j k rule {m} {n} {a} {b} q x y =
 
 -- forms under one name of an untrusted type
 module _ (j k : Numbered) where
-  under_un : (ss : List Shape) (e : Env) (p : Process) {body : ℕ} {m : Message} {t : Ty} {a b : Asked} → Stands j e → IsAsked k.store a m un → Begins j k body (λ e. t ∷ []) b → Located ss body (e ++ t ∷ []) (process_put (name (length e)) p)
-      → AreOpen k.store ss e (a ∷ (b ∷ [])) (of_message e m un ∷ (of_process (extended e t) (process_put (name (length e)) p) ∷ []))
+  under_un : (ss : List Shape) (e : Env) (p : Process) {body : ℕ} {m : Message} {t : Ty} {a b : Asked} → Stands j e → IsAsked k.store a m un → Begins j k body (λ e. t ∷ []) b → Located ss body (e ++ t ∷ []) (opened e p)
+      → AreOpen k.store ss e (a ∷ (b ∷ [])) (of_message e m un ∷ (of_process (extended e t) (opened e p) ∷ []))
   under_un ss e p s x y l = open_message x (process_open (one j k ss e p s y l))
 
   recv_un : {m : Message} {body : ℕ} {a b : Asked} → IsAsked k.store a m un → Begins j k body (λ e. un ∷ []) b → AnswersPrefix j k ProcIn (Recvs m un) body (Some (TwoPremises a b))
   recv_un {m} x y = record {
-    at = λ ss e p s l. (of_message e m un ∷ (of_process (extended e un) (process_put (name (length e)) p) ∷ []), fits_in, under_un ss e p s x y l);
+    at = λ ss e p s l. (of_message e m un ∷ (of_process (extended e un) (opened e p) ∷ []), fits_in, under_un ss e p s x y l);
   }
 
   serve_un : {m : Message} {body : ℕ} {a b : Asked} → IsAsked k.store a m un → Begins j k body (λ e. un ∷ []) b → AnswersPrefix j k ProcRepeat (Serves m un) body (Some (TwoPremises a b))
   serve_un {m} x y = record {
-    at = λ ss e p s l. (of_message e m un ∷ (of_process (extended e un) (process_put (name (length e)) p) ∷ []), fits_repeat, under_un ss e p s x y l);
+    at = λ ss e p s l. (of_message e m un ∷ (of_process (extended e un) (opened e p) ∷ []), fits_repeat, under_un ss e p s x y l);
   }
 
   cast_un : {m : Message} {body : ℕ} {a b : Asked} → IsAsked k.store a m un → Begins j k body (λ e. un ∷ []) b → AnswersPrefix j k ProcCastUn (Casts m un) body (Some (TwoPremises a b))
   cast_un {m} x y = record {
-    at = λ ss e p s l. (of_message e m un ∷ (of_process (extended e un) (process_put (name (length e)) p) ∷ []), fits_cast_un, under_un ss e p s x y l);
+    at = λ ss e p s l. (of_message e m un ∷ (of_process (extended e un) (opened e p) ∷ []), fits_cast_un, under_un ss e p s x y l);
   }
 
   recv_type : {e : Env} {m : Message} {t : Ty} {p : Process} {ps : List Subject} → Fits (plain ProcIn) (of_process e (recv m t p)) ps → t ≡ un
@@ -178,7 +177,7 @@ module _ (j k : Numbered) where
   cast_nonce m fs body None h = record { at = λ ss e p s l ps f. h e s (cast_good_type f) }
   cast_nonce m fs body (Some p) (a, b, q, x, y, g) =
       subst (λ p. AnswersPrefix j k ProcCast (Casts m (nonce fs)) body (Some p)) (sym q) (record {
-        at = λ ss e p s l. (of_message e m un ∷ (of_process (extended e (nonce fs)) (process_put (name (length e)) p) ∷ []), fits_cast (g e s), under_un ss e p s x y l);
+        at = λ ss e p s l. (of_message e m un ∷ (of_process (extended e (nonce fs)) (opened e p) ∷ []), fits_cast (g e s), under_un ss e p s x y l);
       })
 
   pub cast_answers : {E : Type 0} (m : Message) (t : Ty) (fs : Effect) (body : ℕ) (r : Result (Option Premises) E) → t ≡ nonce fs → IfOk r (TakesGood j k m t body) → IfOk r (AnswersPrefix j k ProcCast (Casts m t) body)

@@ -4,12 +4,12 @@ use Rattle.std.specs.Prelude.{if◌then◌else◌, ⊤}
 use Rattle.spi_term.specs.Term.{Message, name, ends, checks, many, Effect, Ty, un, nonce, Process, check}
 use Rattle.spi_term.specs.Lists.{At}
 use Rattle.spi_term.specs.Names.{MessageOver, OfTy, OfProcess, TyOver, ProcessOver}
-use Rattle.spi_term.specs.Substitution.{process_map, put, ty_put, process_put, process_put_two}
+use Rattle.spi_term.specs.Substitution.{process_map, put, ty_put}
 use Rattle.spi_term.proofs.Terms.{over_put_process, over_more_process, over_put_ty, over_more_ty}
 use Rattle.spi_effect.specs.Made.{mentions, minus}
 use Rattle.spi_effect.proofs.Made.{or_false, and_true}
 use Rattle.spi_count.specs.Sums.{Below}
-use Rattle.spi_rules.specs.Environment.{Env, extended}
+use Rattle.spi_rules.specs.Environment.{Env, extended, opened, opened_two, opened_ty}
 use Rattle.spi_rules.specs.Good.{GoodEffect}
 use Rattle.spi_rules.specs.Processes.{IsNonce, nonce_name, nonce_cast}
 use Rattle.spi_rules.specs.Derivations.{RuleUse}
@@ -122,12 +122,12 @@ over_enter (suc b) k n p l o =
     let low : k < n = omega (arith, l) in
     over_enter b (suc k) n (process_map (put (name k)) b p) (omega (arith, l)) (over_put_process n (name k) low b p o)
 
-over_one : (env : Env) (t : Ty) (p : Process) → OfProcess (MessageOver (length env)) 1 p → ProcessOver (length (extended env t)) (process_put (name (length env)) p)
+over_one : (env : Env) (t : Ty) (p : Process) → OfProcess (MessageOver (length env)) 1 p → ProcessOver (length (extended env t)) (opened env p)
 over_one env t p o =
     let l = length_extended env t in
     over_enter 1 (length env) (length (extended env t)) p (omega (arith, l)) (over_more_process (length env) (length (extended env t)) (omega (arith, l)) 1 p o)
 
-over_two : (env : Env) (t u : Ty) (p : Process) → OfProcess (MessageOver (length env)) 2 p → ProcessOver (length (extended (extended env t) u)) (process_put_two (name (length env)) (name (suc (length env))) p)
+over_two : (env : Env) (t u : Ty) (p : Process) → OfProcess (MessageOver (length env)) 2 p → ProcessOver (length (extended (extended env t) u)) (opened_two env p)
 over_two env t u p o =
     let l = length_extended env t in let m = length_extended (extended env t) u in
     let n = length (extended (extended env t) u) in
@@ -143,11 +143,11 @@ none : (k : ℕ) (p : Process) → OfProcess (MessageOver k) (0 + 0) p → Proce
 none k p o = let z : 0 + 0 ≡ 0 = omega arith in subst (λ j. OfProcess (MessageOver k) j p) z o
 
 -- under one more name
-under : (env : Env) (t : Ty) (p : Process) → EnvOver env → TyOver (length env) t → OfProcess (MessageOver (length env)) (0 + 1) p → Over (of_process (extended env t) (process_put (name (length env)) p))
+under : (env : Env) (t : Ty) (p : Process) → EnvOver env → TyOver (length env) t → OfProcess (MessageOver (length env)) (0 + 1) p → Over (of_process (extended env t) (opened env p))
 under env t p e o h = (env_more env t e o, over_one env t p (one (length env) p h))
 
 under_two : (env : Env) (t u : Ty) (p : Process) → EnvOver env → TyOver (length env) t → OfTy (MessageOver (length env)) 1 u → OfProcess (MessageOver (length env)) (0 + 2) p
-    → Over (of_process (extended (extended env t) (ty_put (name (length env)) u)) (process_put_two (name (length env)) (name (suc (length env))) p))
+    → Over (of_process (extended (extended env t) (opened_ty env u)) (opened_two env p))
 under_two env t u p e o v h =
     let k = length env in
     let l = length_extended env t in
@@ -194,7 +194,7 @@ in_scope fits_stop o = record { scoped = tt; over = tt; behind = λ ns. refl; he
 in_scope fits_out o = record { scoped = tt; over = (tt, (tt, tt)); behind = λ ns. refl; here = λ ss. refl }
 in_scope (fits_in {env = env} {p = p}) o = record { scoped = tt; over = (tt, (under env un p o.0 tt o.1.1, tt)); behind = one_more env un; here = λ ss. refl }
 in_scope (fits_repeat {env = env} {p = p}) o = record { scoped = tt; over = (tt, (under env un p o.0 tt o.1.1, tt)); behind = one_more env un; here = λ ss. refl }
-in_scope (fits_split {env = env} {t = t} {u = u} {p = p} g) o = record { scoped = tt; over = (tt, (under_two env t u p o.0 o.1.0.1 o.1.0.2 o.1.1, tt)); behind = two_more env t (ty_put (name (length env)) u); here = λ ss. refl }
+in_scope (fits_split {env = env} {t = t} {u = u} {p = p} g) o = record { scoped = tt; over = (tt, (under_two env t u p o.0 o.1.0.1 o.1.0.2 o.1.1, tt)); behind = two_more env t (opened_ty env u); here = λ ss. refl }
 in_scope (fits_split_un {env = env} {p = p}) o = record { scoped = tt; over = (tt, (under_two env un un p o.0 tt tt o.1.1, tt)); behind = two_more env un un; here = λ ss. refl }
 in_scope (fits_match {env = env} {n = n} {u = u} {p = p} g) o = record { scoped = tt; over = (tt, (tt, (under env (ty_put n u) p o.0 (over_put_ty (length env) n o.1.0.2 0 u o.1.0.3) o.1.1, tt))); behind = one_more env (ty_put n u); here = λ ss. refl }
 in_scope (fits_match_un {env = env} {p = p}) o = record { scoped = tt; over = (tt, (tt, (under env un p o.0 tt o.1.1, tt))); behind = one_more env un; here = λ ss. refl }

@@ -1,11 +1,11 @@
 -- Where a use of a rule fits: what it is asked of has the rule's form, and each side condition holds that doesn't speak
 -- of the effects of its premises. A use that fits asks further subjects of its premises, in their order.
-use Rattle.std.specs.Prelude.{ℕ, suc, List, [], ◌∷◌, length, Some, None}
+use Rattle.std.specs.Prelude.{ℕ, List, [], ◌∷◌, Some, None}
 use Rattle.spi_term.specs.Lists.{At}
 use Rattle.spi_term.specs.SameTy.{SameTy}
-use Rattle.spi_term.specs.Substitution.{ty_put, process_put, process_put_two}
+use Rattle.spi_term.specs.Substitution.{ty_put}
 use Rattle.spi_term.specs.Term.{Message, name, unit, pair, in_left, in_right, enc, hash, Effect, Ty, un, unit_ty, pair_ty, sum_ty, key, nonce, Process, send, recv, serve, split, select, branch, decrypt, check, begin, end, end_many, cast, fresh, par, stop}
-use Rattle.spi_rules.specs.Environment.{Env, extended}
+use Rattle.spi_rules.specs.Environment.{Env, extended, opened, opened_two, opened_ty}
 use Rattle.spi_rules.specs.Messages.{IsLabel}
 use Rattle.spi_rules.specs.Good.{GoodEffect, GoodTy}
 use Rattle.spi_rules.specs.Processes.{IsNonce, IsGenerative}
@@ -54,48 +54,45 @@ pub data Fits : RuleUse → Subject → List Subject → Type 0 where
       → Fits (plain ProcOut) (of_process env (send m n)) (of_message env m un ∷ of_message env n un ∷ [])
   fits_in : {env : Env} {m : Message} {p : Process}
       → Fits (plain ProcIn) (of_process env (recv m un p))
-      (of_message env m un ∷ of_process (extended env un) (process_put (name (length env)) p) ∷ [])
+      (of_message env m un ∷ of_process (extended env un) (opened env p) ∷ [])
   fits_repeat : {env : Env} {m : Message} {p : Process}
       → Fits (plain ProcRepeat) (of_process env (serve m un p))
-      (of_message env m un ∷ of_process (extended env un) (process_put (name (length env)) p) ∷ [])
+      (of_message env m un ∷ of_process (extended env un) (opened env p) ∷ [])
   fits_split : {env : Env} {m : Message} {t u : Ty} {p : Process}
       → GoodTy [] env (pair_ty t u)
       → Fits (plain ProcSplit) (of_process env (split m t u p))
       (of_message env m (pair_ty t u)
-      ∷ of_process (extended (extended env t) (ty_put (name (length env)) u))
-      (process_put_two (name (length env)) (name (suc (length env))) p) ∷ [])
+      ∷ of_process (extended (extended env t) (opened_ty env u)) (opened_two env p) ∷ [])
   fits_split_un : {env : Env} {m : Message} {p : Process}
       → Fits (plain ProcSplitUn) (of_process env (split m un un p))
-      (of_message env m un
-      ∷ of_process (extended (extended env un) un)
-      (process_put_two (name (length env)) (name (suc (length env))) p) ∷ [])
+      (of_message env m un ∷ of_process (extended (extended env un) un) (opened_two env p) ∷ [])
   fits_match : {env : Env} {m n : Message} {t u : Ty} {p : Process}
       → GoodTy [] env (pair_ty t u)
       → Fits (plain ProcMatch) (of_process env (select m t n u p))
       (of_message env m (pair_ty t u) ∷ of_message env n t
-      ∷ of_process (extended env (ty_put n u)) (process_put (name (length env)) p) ∷ [])
+      ∷ of_process (extended env (ty_put n u)) (opened env p) ∷ [])
   fits_match_un : {env : Env} {m n : Message} {p : Process}
       → Fits (plain ProcMatchUn) (of_process env (select m un n un p))
       (of_message env m un ∷ of_message env n un
-      ∷ of_process (extended env un) (process_put (name (length env)) p) ∷ [])
+      ∷ of_process (extended env un) (opened env p) ∷ [])
   fits_case : {env : Env} {m : Message} {t u : Ty} {p q : Process}
       → GoodTy [] env t → GoodTy [] env u
       → Fits (plain ProcCase) (of_process env (branch m t p u q))
-      (of_message env m (sum_ty t u) ∷ of_process (extended env t) (process_put (name (length env)) p)
-      ∷ of_process (extended env u) (process_put (name (length env)) q) ∷ [])
+      (of_message env m (sum_ty t u) ∷ of_process (extended env t) (opened env p)
+      ∷ of_process (extended env u) (opened env q) ∷ [])
   fits_case_un : {env : Env} {m : Message} {p q : Process}
       → Fits (plain ProcCaseUn) (of_process env (branch m un p un q))
-      (of_message env m un ∷ of_process (extended env un) (process_put (name (length env)) p)
-      ∷ of_process (extended env un) (process_put (name (length env)) q) ∷ [])
+      (of_message env m un ∷ of_process (extended env un) (opened env p)
+      ∷ of_process (extended env un) (opened env q) ∷ [])
   fits_decrypt : {env : Env} {m n : Message} {t : Ty} {p : Process}
       → GoodTy [] env t
       → Fits (plain ProcDecrypt) (of_process env (decrypt m t n p))
       (of_message env m un ∷ of_message env n (key t)
-      ∷ of_process (extended env t) (process_put (name (length env)) p) ∷ [])
+      ∷ of_process (extended env t) (opened env p) ∷ [])
   fits_decrypt_un : {env : Env} {m n : Message} {p : Process}
       → Fits (plain ProcDecryptUn) (of_process env (decrypt m un n p))
       (of_message env m un ∷ of_message env n un
-      ∷ of_process (extended env un) (process_put (name (length env)) p) ∷ [])
+      ∷ of_process (extended env un) (opened env p) ∷ [])
   fits_check : {env : Env} {m n : Message} {p : Process} {fs : Effect}
       → IsNonce [] env n fs
       → Fits (plain ProcCheck) (of_process env (check m n p)) (of_message env m un ∷ of_process env p ∷ [])
@@ -111,14 +108,14 @@ pub data Fits : RuleUse → Subject → List Subject → Type 0 where
   fits_cast : {env : Env} {m : Message} {p : Process} {fs : Effect}
       → GoodTy [] env (nonce fs)
       → Fits (plain ProcCast) (of_process env (cast m (nonce fs) p))
-      (of_message env m un ∷ of_process (extended env (nonce fs)) (process_put (name (length env)) p) ∷ [])
+      (of_message env m un ∷ of_process (extended env (nonce fs)) (opened env p) ∷ [])
   fits_cast_un : {env : Env} {m : Message} {p : Process}
       → Fits (plain ProcCastUn) (of_process env (cast m un p))
-      (of_message env m un ∷ of_process (extended env un) (process_put (name (length env)) p) ∷ [])
+      (of_message env m un ∷ of_process (extended env un) (opened env p) ∷ [])
   fits_new : {env : Env} {t : Ty} {p : Process}
       → IsGenerative t → GoodTy [] env t
       → Fits (plain ProcNew) (of_process env (fresh t p))
-      (of_process (extended env t) (process_put (name (length env)) p) ∷ [])
+      (of_process (extended env t) (opened env p) ∷ [])
   fits_par : {env : Env} {p q : Process}
       → Fits (plain ProcPar) (of_process env (par p q)) (of_process env p ∷ of_process env q ∷ [])
   fits_sub : {env : Env} {p : Process} {fs : Effect}

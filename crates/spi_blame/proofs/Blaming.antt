@@ -19,6 +19,10 @@ use Rattle.spi_blame.specs.Reasons.{Fits, IsUnscoped, loose, unknown, Reason, mi
 key_named : {env : Env} {x : ℕ} {t : Ty} → At env x (key t) → IsKeyName env (name x)
 key_named {env} {x} {t} a = record { number = x; payload = t; is = refl; has = a }
 
+-- the name of a Key type has one payload
+payload_one : {env : Env} {x : ℕ} {t u : Ty} → At env x (key t) → At env x (key u) → t ≡ u
+payload_one {t = t} {u = u} a b = let e : key t ≡ key u = at_unique a b in cc
+
 -- a question comes down to one list
 pub asks_one : {env : Env} {q : Question} {qs rs : List Question} → Asks env q qs → Asks env q rs → qs ≡ rs
 asks_one (asks_name a s) (asks_name b z) = refl
@@ -30,7 +34,7 @@ asks_one asks_left asks_left = refl
 asks_one asks_left_un asks_left_un = refl
 asks_one asks_right asks_right = refl
 asks_one asks_right_un asks_right_un = refl
-asks_one (asks_key {m} {x} {t} a) (asks_key {t = u} b) = let e : key t ≡ key u = at_unique a b in let f : t ≡ u = cc in ap (λ v. typed (name x) (key v) ∷ typed m v ∷ []) f
+asks_one (asks_key {m} {x} a) (asks_key b) = ap (λ v. typed (name x) (key v) ∷ typed m v ∷ []) (payload_one a b)
 asks_one (asks_key a) (asks_enc n) = absurd (n (key_named a))
 asks_one (asks_enc n) (asks_key a) = absurd (n (key_named a))
 asks_one (asks_enc n) (asks_enc k) = refl
@@ -40,7 +44,7 @@ asks_one asks_label_unit asks_label_unit = refl
 asks_one asks_label_pair asks_label_pair = refl
 asks_one asks_label_left asks_label_left = refl
 asks_one asks_label_right asks_label_right = refl
-asks_one (asks_label_key {m} {x} {t} a) (asks_label_key {t = u} b) = let e : key t ≡ key u = at_unique a b in let f : t ≡ u = cc in ap (λ v. typed (name x) (key v) ∷ typed m v ∷ []) f
+asks_one (asks_label_key {m} {x} a) (asks_label_key b) = ap (λ v. typed (name x) (key v) ∷ typed m v ∷ []) (payload_one a b)
 asks_one (asks_label_key a) (asks_label_enc n) = absurd (n (key_named a))
 asks_one (asks_label_enc n) (asks_label_key a) = absurd (n (key_named a))
 asks_one (asks_label_enc n) (asks_label_enc k) = refl
@@ -221,12 +225,7 @@ key_or env (name x) = ⊎_elim (λ h. of h.0 h.1) (λ n. inr (λ k. let e : x �
     of (sum_ty t u) a = other a (λ v e. absurd (cc (e)))
     of (nonce es) a = other a (λ v e. absurd (cc (e)))
 key_or env (bound i) = inr (λ k. cc (k.is))
-key_or env unit = inr (λ k. cc (k.is))
-key_or env (pair m n) = inr (λ k. cc (k.is))
-key_or env (in_left m) = inr (λ k. cc (k.is))
-key_or env (in_right m) = inr (λ k. cc (k.is))
-key_or env (enc m n) = inr (λ k. cc (k.is))
-key_or env (hash m) = inr (λ k. cc (k.is))
+key_or env _ = inr (λ k. cc (k.is))
 
 typed_key : {env : Env} {m n : Message} (k : IsKeyName env n) → Asks env (typed (enc m n) un) (typed (name k.number) (key k.payload) ∷ typed m (k.payload) ∷ [])
 typed_key {env} {m} k = subst (λ n. Asks env (typed (enc m n) un) (typed (name k.number) (key k.payload) ∷ typed m (k.payload) ∷ [])) (sym k.is) (asks_key k.has)
@@ -252,17 +251,7 @@ label_answer env x = ⊎_elim (λ h. none (asks_label_name h.1)) (λ n. no (itse
 -- a row is for a form that fits
 pub asks_fits : {env : Env} {m : Message} {t : Ty} {qs : List Question} → Asks env (typed m t) qs → Fits m t
 asks_fits (asks_name a s) = tt
-asks_fits asks_unit = tt
-asks_fits asks_unit_un = tt
-asks_fits asks_pair = tt
-asks_fits asks_pair_un = tt
-asks_fits asks_left = tt
-asks_fits asks_left_un = tt
-asks_fits asks_right = tt
-asks_fits asks_right_un = tt
-asks_fits (asks_key a) = tt
-asks_fits (asks_enc n) = tt
-asks_fits asks_hash = tt
+asks_fits _ = tt
 
 mutual
   pub answer_typed : (env : Env) (m : Message) (t : Ty) → Answer env (typed m t)
@@ -341,9 +330,6 @@ two_children (at_later at_first) c d = d
 two_children (at_later (at_later x)) c d = elim x [ ]
 
 pub child_asked : {env : Env} {q r : Question} {qs : List Question} {i : ℕ} → Asks env q qs → At qs i r → ChildAt (subject q) i (subject r)
-child_asked (asks_name b s) a = no_child a
-child_asked asks_unit a = no_child a
-child_asked asks_unit_un a = no_child a
 child_asked asks_pair a = two_children a child_first child_second
 child_asked asks_pair_un a = two_children a child_first child_second
 child_asked asks_left a = one_child a child_left
@@ -353,14 +339,13 @@ child_asked asks_right_un a = one_child a child_right
 child_asked (asks_key b) a = two_children a child_key child_body
 child_asked (asks_enc n) a = two_children a child_key child_body
 child_asked asks_hash a = one_child a child_hash
-child_asked (asks_label_name b) a = no_child a
-child_asked asks_label_unit a = no_child a
 child_asked asks_label_pair a = two_children a child_first child_second
 child_asked asks_label_left a = one_child a child_left
 child_asked asks_label_right a = one_child a child_right
 child_asked (asks_label_key b) a = two_children a child_key child_body
 child_asked (asks_label_enc n) a = two_children a child_key child_body
 child_asked asks_label_hash a = one_child a child_hash
+child_asked _ a = no_child a
 
 pub reached_part : {env : Env} {q r : Question} {path : List ℕ} → Reaches env q path r → PartAt (subject q) path (subject r)
 reached_part reaches_itself = part_whole

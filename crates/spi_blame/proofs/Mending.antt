@@ -5,7 +5,7 @@ use Rattle.spi_term.specs.Lists.{At, at_first, at_later}
 use Rattle.spi_term.proofs.Lists.{at_unique}
 use Rattle.spi_term.specs.Term.{Message, un}
 use Rattle.spi_rules.specs.Environment.{Env}
-use Rattle.spi_blame.specs.Blaming.{Question, typed, Holds, subject, IsKeyName, Asks, asks_name, asks_unit, asks_unit_un, asks_pair, asks_pair_un, asks_left, asks_left_un, asks_right, asks_right_un, asks_key, asks_enc, asks_hash, asks_label_name, asks_label_unit, asks_label_pair, asks_label_left, asks_label_right, asks_label_key, asks_label_enc, asks_label_hash, HoldBefore, Blamed, itself, inside}
+use Rattle.spi_blame.specs.Blaming.{Question, typed, Holds, subject, IsKeyName, Asks, asks_pair, asks_pair_un, asks_left, asks_left_un, asks_right, asks_right_un, asks_key, asks_enc, asks_hash, asks_label_pair, asks_label_left, asks_label_right, asks_label_key, asks_label_enc, asks_label_hash, HoldBefore, Blamed, itself, inside}
 use Rattle.spi_blame.specs.Paths.{IsLeftOf, turns_here, turns_further, ChildAt, child_first, child_second, child_left, child_right, child_body, child_key, child_hash}
 use Rattle.spi_blame.specs.Mending.{asked_of, put_child, Swapped, swap_whole, swap_inside}
 use Rattle.spi_blame.proofs.Blaming.{no_key, key_typed, asks_one, blamed_no, child_asked}
@@ -21,12 +21,7 @@ child_one child_hash child_hash = refl
 
 put_named : {env : Env} {m c : Message} {i : ℕ} (d : Message) → ChildAt m i c → IsKeyName env (put_child m i d) → ⊥
 put_named d child_first k = absurd (cc (k.is))
-put_named d child_second k = absurd (cc (k.is))
-put_named d child_left k = absurd (cc (k.is))
-put_named d child_right k = absurd (cc (k.is))
-put_named d child_body k = absurd (cc (k.is))
-put_named d child_key k = absurd (cc (k.is))
-put_named d child_hash k = absurd (cc (k.is))
+put_named d _ k = absurd (cc (k.is))
 
 -- a mended key is no name of a Key type
 key_kept : {env : Env} {w r : Question} {p : List ℕ} {m n c d : Message} → Blamed env w p r → Holds env (asked_of r n) → w ≡ typed m un → Swapped c p n d → IsKeyName env d → ⊥
@@ -62,9 +57,6 @@ before_one {a} {b} {c} j v lt at = go at lt
     go (at_later x) lt = absurd (omega arith)
 
 step : {env : Env} {q w : Question} {qs : List Question} {i : ℕ} (c : Message) → Asks env q qs → At qs i w → Step env q qs c i w
-step {env} {q} {w} {qs} c (asks_name b s) a = none_case (Step env q qs c) a
-step {env} {q} {w} {qs} c asks_unit a = none_case (Step env q qs c) a
-step {env} {q} {w} {qs} c asks_unit_un a = none_case (Step env q qs c) a
 step {env} {q} {w} {qs} c asks_pair a = two_case (Step env q qs c) a (λ h z. (_, asks_pair, at_first, before_none)) (λ h z. (_, asks_pair, at_later at_first, before_one))
 step {env} {q} {w} {qs} c asks_pair_un a = two_case (Step env q qs c) a (λ h z. (_, asks_pair_un, at_first, before_none)) (λ h z. (_, asks_pair_un, at_later at_first, before_one))
 step {env} {q} {w} {qs} c asks_left a = one_case (Step env q qs c) a (λ h z. (_, asks_left, at_first, before_none))
@@ -74,14 +66,13 @@ step {env} {q} {w} {qs} c asks_right_un a = one_case (Step env q qs c) a (λ h z
 step {env} {q} {w} {qs} c (asks_key b) a = two_case (Step env q qs c) a (λ h z. absurd (h (key_typed b))) (λ h z. (_, asks_key b, at_later at_first, before_one))
 step {env} {q} {w} {qs} c (asks_enc n) a = two_case (Step env q qs c) a (λ h z. (_, asks_enc (z _ refl), at_first, before_none)) (λ h z. (_, asks_enc n, at_later at_first, before_one))
 step {env} {q} {w} {qs} c asks_hash a = one_case (Step env q qs c) a (λ h z. (_, asks_hash, at_first, before_none))
-step {env} {q} {w} {qs} c (asks_label_name b) a = none_case (Step env q qs c) a
-step {env} {q} {w} {qs} c asks_label_unit a = none_case (Step env q qs c) a
 step {env} {q} {w} {qs} c asks_label_pair a = two_case (Step env q qs c) a (λ h z. (_, asks_label_pair, at_first, before_none)) (λ h z. (_, asks_label_pair, at_later at_first, before_one))
 step {env} {q} {w} {qs} c asks_label_left a = one_case (Step env q qs c) a (λ h z. (_, asks_label_left, at_first, before_none))
 step {env} {q} {w} {qs} c asks_label_right a = one_case (Step env q qs c) a (λ h z. (_, asks_label_right, at_first, before_none))
 step {env} {q} {w} {qs} c (asks_label_key b) a = two_case (Step env q qs c) a (λ h z. absurd (h (key_typed b))) (λ h z. (_, asks_label_key b, at_later at_first, before_one))
 step {env} {q} {w} {qs} c (asks_label_enc n) a = two_case (Step env q qs c) a (λ h z. (_, asks_label_enc (z _ refl), at_first, before_none)) (λ h z. (_, asks_label_enc n, at_later at_first, before_one))
 step {env} {q} {w} {qs} c asks_label_hash a = one_case (Step env q qs c) a (λ h z. (_, asks_label_hash, at_first, before_none))
+step {env} {q} {w} {qs} c _ a = none_case (Step env q qs c) a
 
 -- the new blame, if any, once it's known for the part
 further : {env : Env} {q s : Question} {qs rs : List Question} {i : ℕ} {p o : List ℕ} (w : Question) (c : Message) → HoldBefore env qs i → Asks env q rs → At rs i (asked_of w c) → ((j : ℕ) (v : Question) → j < i → At rs j v → At qs j v) → ((o : List ℕ) → Blamed env (asked_of w c) o s → IsLeftOf p o) → Blamed env q o s → IsLeftOf (i ∷ p) o

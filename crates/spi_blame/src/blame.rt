@@ -106,12 +106,8 @@ fn payload_of(t: &Ty) -> Option<&Ty>
     ensures none { IfNone result ((u : Sort) → ty t.now ≡ key u → ⊥) }
 {
     match t {
-        Ty::Un => None,
-        Ty::Unit => None,
-        Ty::Pair(_, _) => None,
-        Ty::Sum(_, _) => None,
         Ty::Key(u) => Some(u),
-        Ty::Nonce(_) => None,
+        _ => None,
     }
 }
 
@@ -125,13 +121,7 @@ fn payload<'a>(env: &'a Env, m: &Msg) -> Option<&'a Ty>
             Some(t) => payload_of(t),
             None => None,
         },
-        Msg::Bound(_) => None,
-        Msg::Unit => None,
-        Msg::Pair(_, _) => None,
-        Msg::Inl(_) => None,
-        Msg::Inr(_) => None,
-        Msg::Enc(_, _) => None,
-        Msg::Hash(_) => None,
+        _ => None,
     }
 }
 

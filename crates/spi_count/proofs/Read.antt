@@ -1,13 +1,15 @@
 -- Effects read back from counts.
-use Rattle.std.proofs.Common.{◌≡◌, refl, sym, ap, ◌∙◌, subst, ℕ, zero, suc, ◌+◌, ◌<◌, ◌≤◌, Bool, true, false, [], ◌∷◌, ◌++◌, List, length, replicate, Option, Some, None, Result, Ok, IfOk, ⊎_elim, arith}
+use Rattle.std.proofs.Common.{◌≡◌, refl, sym, ap, ◌∙◌, subst, ℕ, zero, suc, ◌+◌, ◌<◌, ◌≤◌, Bool, true, false, [], ◌∷◌, ◌++◌, List, length, replicate, Option, Some, None, Result, Ok, Err, IfOk, ⊎_elim, arith}
 use Rattle.std.specs.Prelude.{slice_get, nat_eq, IfNone, ◌%◌, if◌then◌else◌}
-use Rattle.spi_term.specs.Term.{Message, bound, name, unit, pair, in_left, in_right, enc, hash, message_size, Atom, ends, checks, many, same_atom, Effect}
+use Rattle.spi_term.specs.Term.{Message, pair, in_left, in_right, enc, hash, message_size, Atom, ends, checks, many, same_atom, Effect}
+use Rattle.spi_term.specs.View.{message}
+use Rattle.spi_term.specs.declared.term.Msg.{Msg}
 use Rattle.spi_term.specs.Counts.{tally, cut, count, SameEffect}
 use Rattle.spi_term.proofs.Counting.{tally_append, same_atom_true, in_tally, tally_in, count_tally}
 use Rattle.spi_intern.specs.declared.store.Store.{Store}
 use Rattle.spi_intern.specs.declared.messages.MsgId.{MsgId}
 use Rattle.spi_intern.specs.declared.messages.MsgPart.TheVariants as P
-use Rattle.spi_intern.specs.Messages.{Says, says_bound, says_name, says_unit, says_pair, says_left, says_right, says_enc, says_hash, or_unit, message_at}
+use Rattle.spi_intern.specs.Messages.{Says, says_pair, says_left, says_right, says_enc, says_hash, or_unit, message_at}
 use Rattle.spi_count.specs.Counts.{count_of, IsNothing}
 use Rattle.spi_count.specs.Sums.{name_bound, key_of, kind_of, message_of, part, Puts}
 use Rattle.spi_count.specs.declared.sum.AtomKind.{AtomKind}
@@ -142,6 +144,10 @@ there [] i h = absurd (omega arith)
 there (m ∷ ms) zero h = refl
 there (m ∷ ms) (suc i) h = there ms i (omega arith)
 
+pub read_there : {E : Type 0} (ms : List Message) (id : MsgId) → id.place < length ms → (r : Result Msg E) → IfOk r (λ (m : Msg). message m ≡ message_at ms id) → IfOk r (λ (m : Msg). slice_get ms id.place ≡ Some (message m))
+read_there ms id h (Ok m) e = there ms id.place h ∙ ap Some (sym e)
+read_there ms id h (Err x) e = tt
+
 abbrev pub IsPart : List Message → MsgId → Message → Type 0
 IsPart ms a n = (message_size (message_at ms a) < message_size n) × (a.place < length ms)
 
@@ -169,30 +175,6 @@ right_part ms a _ (says_right {m = m} g) = part_ok ms a m (in_right m) g (omega 
 pub hash_part : (ms : List Message) (a : MsgId) (n : Message) → Says ms (P.Hash a) n → IsPart ms a n
 hash_part ms a _ (says_hash {m = m} g) = part_ok ms a m (hash m) g (omega arith)
 
-pub bound_read : (ms : List Message) (i : ℕ) (n : Message) → Says ms (P.Bound i) n → n ≡ bound i
-bound_read ms i _ says_bound = refl
-
-pub name_read : (ms : List Message) (x : ℕ) (n : Message) → Says ms (P.Name x) n → n ≡ name x
-name_read ms x _ says_name = refl
-
-pub unit_read : (ms : List Message) (n : Message) → Says ms P.Unit n → n ≡ unit
-unit_read ms _ says_unit = refl
-
-pub pair_read : (ms : List Message) (a b : MsgId) (n u v : Message) → Says ms (P.Pair a b) n → slice_get ms a.place ≡ Some u → slice_get ms b.place ≡ Some v → n ≡ pair u v
-pair_read ms a b _ u v (says_pair g h) e f = cc
-
-pub enc_read : (ms : List Message) (a b : MsgId) (n u v : Message) → Says ms (P.Enc a b) n → slice_get ms a.place ≡ Some u → slice_get ms b.place ≡ Some v → n ≡ enc u v
-enc_read ms a b _ u v (says_enc g h) e f = cc
-
-pub left_read : (ms : List Message) (a : MsgId) (n u : Message) → Says ms (P.Inl a) n → slice_get ms a.place ≡ Some u → n ≡ in_left u
-left_read ms a _ u (says_left g) e = cc
-
-pub right_read : (ms : List Message) (a : MsgId) (n u : Message) → Says ms (P.Inr a) n → slice_get ms a.place ≡ Some u → n ≡ in_right u
-right_read ms a _ u (says_right g) e = cc
-
-pub hash_read : (ms : List Message) (a : MsgId) (n u : Message) → Says ms (P.Hash a) n → slice_get ms a.place ≡ Some u → n ≡ hash u
-hash_read ms a _ u (says_hash g) e = cc
-
 -- the place of a key
 pub key_place : (s : Store) (keys : Keys) (i q : ℕ) (m : Message) → with_keys s keys i m → q ≡ key_of (name_bound m) i → q % 4294967296 ≡ i
 key_place s keys i q m w e = let l = w.small in omega (arith, e, l)
@@ -207,9 +189,6 @@ id_none s keys q r h =
     let e = key_place s keys r.0 q r.1 r.2 r.3 in
     let f = h (key_of (name_bound r.1) r.0) (ap (get nat_eq keys.keys) e ∙ r.2.key) in
     cc
-
-pub of_ok : {X E : Type 0} (r : Result X E) (x : X) (P : X → Type 0) → r ≡ Ok x → IfOk r P → P x
-of_ok r x P e h = subst (λ r. IfOk r P) e h
 
 pub at_none : {A : Type 0} (o : Option A) (P : Type 0) → ((x : A) → o ≡ Some x → ⊥) → IfNone o P → P
 at_none None P n h = h

@@ -10,8 +10,7 @@ ghost use Rattle.spi_count.specs.Adding.{IsKey, SumOf, atom_of};
 use crate::NoMemory;
 use crate::keys::Keys;
 use crate::sum::{AtomKind, Sum};
-use spi_intern::{MsgId, MsgPart, Store};
-use spi_message::boxed;
+use spi_intern::{MsgId, Store, message_of};
 use spi_term::{Atom, Effect, Msg};
 use std::alloc::Global;
 
@@ -20,33 +19,7 @@ fn read_message(alloc: Global, store: &Store, id: MsgId) -> Result<Msg, NoMemory
     requires { id.place < length store.now.messages }
     ensures { IfOk result (λ m. slice_get store.now.messages id.place ≡ Some (message m)) }
 {
-    match store.part(id) {
-        MsgPart::Bound(i) => Ok(Msg::Bound(i)),
-        MsgPart::Name(x) => Ok(Msg::Name(x)),
-        MsgPart::Unit => Ok(Msg::Unit),
-        MsgPart::Pair(a, b) => {
-            let first = boxed(alloc, read_message(alloc, store, a))?;
-            let second = boxed(alloc, read_message(alloc, store, b))?;
-            Ok(Msg::Pair(first, second))
-        }
-        MsgPart::Inl(a) => {
-            let part = boxed(alloc, read_message(alloc, store, a))?;
-            Ok(Msg::Inl(part))
-        }
-        MsgPart::Inr(a) => {
-            let part = boxed(alloc, read_message(alloc, store, a))?;
-            Ok(Msg::Inr(part))
-        }
-        MsgPart::Enc(a, b) => {
-            let whole = boxed(alloc, read_message(alloc, store, a))?;
-            let key = boxed(alloc, read_message(alloc, store, b))?;
-            Ok(Msg::Enc(whole, key))
-        }
-        MsgPart::Hash(a) => {
-            let part = boxed(alloc, read_message(alloc, store, a))?;
-            Ok(Msg::Hash(part))
-        }
-    }
+    message_of(alloc, store, id)
 }
 
 fn atom_over(alloc: Global, kind: AtomKind, m: &Msg) -> Result<Atom, NoMemory>

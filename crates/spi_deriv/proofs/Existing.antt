@@ -3,12 +3,11 @@ use Rattle.std.proofs.Common.{◌≡◌, suc, Bool, true, false, [], ◌∷◌, 
 use Rattle.std.proofs.lemmas.Bool.{false≢true}
 use Rattle.spi_term.specs.Term.{Message, name, ends, checks, many, Effect, Ty, un, pair_ty, sum_ty, key, Process, split, select, branch, decrypt, check}
 use Rattle.spi_term.specs.Names.{Avoids, EffectAvoids}
-use Rattle.spi_term.specs.Substitution.{process_put, process_put_two}
 use Rattle.spi_effect.specs.Effect.{Within, IsGreater}
 use Rattle.spi_effect.proofs.Laws.{within_refl, within_trans, within_append, within_tally, within_difference, greater_within, sum_append, OfEffect_within, AllMany_within}
 use Rattle.spi_effect.specs.Made.{minus, greater}
 use Rattle.spi_effect.proofs.Made.{minus_difference, greater_is}
-use Rattle.spi_rules.specs.Environment.{Env, extended}
+use Rattle.spi_rules.specs.Environment.{Env, extended, opened, opened_two}
 use Rattle.spi_rules.specs.Messages.{HasType}
 use Rattle.spi_rules.specs.Good.{good_un, good_pair}
 use Rattle.spi_rules.specs.Processes.{HasEffect, IsNonce, proc_stop, proc_out, proc_in, proc_repeat, proc_split, proc_split_un, proc_match, proc_match_un, proc_case, proc_case_un, proc_decrypt, proc_decrypt_un, proc_check, proc_check_un, proc_begin, proc_end, proc_end_many, proc_cast, proc_cast_un, proc_new, proc_par, proc_sub}
@@ -64,15 +63,15 @@ no_check : {e : Env} {m n : Message} {p : Process} → HasType [] e n un → Has
 no_check k = λ es d i. nonce_or_un (check_typed d i).1 k
 
 -- the typed rule where it is there, else its Un form
-split_chosen : {e : Env} {m : Message} {p : Process} {es fs : Effect} (b : Bool) → typed m e (pair_ty un un) ≡ b → HasType [] e m un → (d : HasEffect [] (extended (extended e un) un) (process_put_two (name (length e)) (name (suc (length e))) p) es) → IsCanonical d → EffectAvoids (length e) es → EffectAvoids (suc (length e)) es → Within es fs → Chosen e (split m un un p) fs
+split_chosen : {e : Env} {m : Message} {p : Process} {es fs : Effect} (b : Bool) → typed m e (pair_ty un un) ≡ b → HasType [] e m un → (d : HasEffect [] (extended (extended e un) un) (opened_two e p) es) → IsCanonical d → EffectAvoids (length e) es → EffectAvoids (suc (length e)) es → Within es fs → Chosen e (split m un un p) fs
 split_chosen {e} {m} {p} {es} true q h d c a b w = let k = typed_true m e (pair_ty un un) q in (es, proc_split k d (good_pair good_un good_un) a b, w, (every k, c))
 split_chosen {e} {m} {p} {es} false q h d c a b w = (es, proc_split_un h d a b, w, (no_split q, every h, c))
 
-match_chosen : {e : Env} {m n : Message} {p : Process} {es fs : Effect} (b : Bool) → typed m e (pair_ty un un) ≡ b → HasType [] e m un → HasType [] e n un → (d : HasEffect [] (extended e un) (process_put (name (length e)) p) es) → IsCanonical d → EffectAvoids (length e) es → Within es fs → Chosen e (select m un n un p) fs
+match_chosen : {e : Env} {m n : Message} {p : Process} {es fs : Effect} (b : Bool) → typed m e (pair_ty un un) ≡ b → HasType [] e m un → HasType [] e n un → (d : HasEffect [] (extended e un) (opened e p) es) → IsCanonical d → EffectAvoids (length e) es → Within es fs → Chosen e (select m un n un p) fs
 match_chosen {e} {m} {n} {p} {es} true q h k d c a w = let l = typed_true m e (pair_ty un un) q in (es, proc_match l k d (good_pair good_un good_un) a, w, (every l, every k, c))
 match_chosen {e} {m} {n} {p} {es} false q h k d c a w = (es, proc_match_un h k d a, w, (no_match q, every h, every k, c))
 
-case_chosen : {e : Env} {m : Message} {p q : Process} {es gs rs fs : Effect} (b : Bool) → typed m e (sum_ty un un) ≡ b → HasType [] e m un → (d : HasEffect [] (extended e un) (process_put (name (length e)) p) es) → IsCanonical d → (f : HasEffect [] (extended e un) (process_put (name (length e)) q) gs) → IsCanonical f → EffectAvoids (length e) es → EffectAvoids (length e) gs → IsGreater rs es gs → Within rs fs → Chosen e (branch m un p un q) fs
+case_chosen : {e : Env} {m : Message} {p q : Process} {es gs rs fs : Effect} (b : Bool) → typed m e (sum_ty un un) ≡ b → HasType [] e m un → (d : HasEffect [] (extended e un) (opened e p) es) → IsCanonical d → (f : HasEffect [] (extended e un) (opened e q) gs) → IsCanonical f → EffectAvoids (length e) es → EffectAvoids (length e) gs → IsGreater rs es gs → Within rs fs → Chosen e (branch m un p un q) fs
 case_chosen {e} {m} {p} {q} {es} {gs} {rs} true o h d c f k a b r w = let l = typed_true m e (sum_ty un un) o in (rs, proc_case l d f good_un good_un a b r, w, (every l, c, k))
 case_chosen {e} {m} {p} {q} {es} {gs} {rs} false o h d c f k a b r w = (rs, proc_case_un h d f a b r, w, (no_case o, every h, c, k))
 

@@ -2,7 +2,7 @@
 use Rattle.std.proofs.Common.{◌≡◌, ℕ, zero, suc, List, [], ◌∷◌, ◌++◌, Some, map, refl, sym, ap, ◌∙◌}
 use Rattle.std.specs.Prelude.{slice_get}
 use Rattle.std.proofs.lemmas.List.{map-append}
-use Rattle.spi_term.specs.Term.{Message, bound, name, unit, pair, in_left, in_right, enc, hash, Effect, Ty, un, unit_ty, pair_ty, sum_ty, key, nonce}
+use Rattle.spi_term.specs.Term.{Message, unit, pair, in_left, in_right, Effect, Ty, un, unit_ty, pair_ty, sum_ty, key, nonce}
 use Rattle.spi_term.specs.Substitution.{ty_map}
 use Rattle.spi_rules.specs.Derivations.{RuleUse, uses}
 use Rattle.spi_rules.specs.declared.rule.Rule.TheVariants.{MsgPair, MsgInl, MsgInr}
@@ -28,43 +28,23 @@ bare_map f k (nonce es) = refl
 -- what is read off a bare type
 pub bare_un : (t : Ty) → bare t ≡ un → t ≡ un
 bare_un un h = refl
-bare_un unit_ty h = absurd (cc)
-bare_un (pair_ty t u) h = absurd (cc)
-bare_un (sum_ty t u) h = absurd (cc)
-bare_un (key t) h = absurd (cc)
-bare_un (nonce es) h = absurd (cc)
+bare_un _ h = absurd (cc)
 
 pub bare_pair : (t a b : Ty) → bare t ≡ pair_ty a b → (c : Ty) × (d : Ty) × (t ≡ pair_ty c d)
-bare_pair un a b h = absurd (cc)
-bare_pair unit_ty a b h = absurd (cc)
 bare_pair (pair_ty t u) a b h = (t, u, refl)
-bare_pair (sum_ty t u) a b h = absurd (cc)
-bare_pair (key t) a b h = absurd (cc)
-bare_pair (nonce es) a b h = absurd (cc)
+bare_pair _ a b h = absurd (cc)
 
 pub bare_sum : (t a b : Ty) → bare t ≡ sum_ty a b → (c : Ty) × (d : Ty) × (t ≡ sum_ty c d)
-bare_sum un a b h = absurd (cc)
-bare_sum unit_ty a b h = absurd (cc)
-bare_sum (pair_ty t u) a b h = absurd (cc)
 bare_sum (sum_ty t u) a b h = (t, u, refl)
-bare_sum (key t) a b h = absurd (cc)
-bare_sum (nonce es) a b h = absurd (cc)
+bare_sum _ a b h = absurd (cc)
 
 pub bare_key : (t a : Ty) → bare t ≡ key a → (c : Ty) × (t ≡ key c) × (bare c ≡ a)
-bare_key un a h = absurd (cc)
-bare_key unit_ty a h = absurd (cc)
-bare_key (pair_ty t u) a h = absurd (cc)
-bare_key (sum_ty t u) a h = absurd (cc)
 bare_key (key t) a h = let e : bare t ≡ a = cc in (t, refl, e)
-bare_key (nonce es) a h = absurd (cc)
+bare_key _ a h = absurd (cc)
 
 pub bare_nonce : (t : Ty) (es : Effect) → bare t ≡ nonce es → (fs : Effect) × (t ≡ nonce fs)
-bare_nonce un es h = absurd (cc)
-bare_nonce unit_ty es h = absurd (cc)
-bare_nonce (pair_ty t u) es h = absurd (cc)
-bare_nonce (sum_ty t u) es h = absurd (cc)
-bare_nonce (key t) es h = absurd (cc)
 bare_nonce (nonce fs) es h = (fs, refl)
+bare_nonce _ es h = absurd (cc)
 
 -- two lists of types that are the same so
 abbrev pub Alike : List Ty → List Ty → Type 0
@@ -83,45 +63,26 @@ seen (t ∷ e) (u ∷ f) (suc x) s a h = let b : map bare e ≡ map bare f = cc 
 -- the uses of a message's typing go by the bare type alone
 unit_bare : (t : Ty) → unit_uses t ≡ unit_uses (bare t)
 unit_bare un = refl
-unit_bare unit_ty = refl
-unit_bare (pair_ty t u) = refl
-unit_bare (sum_ty t u) = refl
-unit_bare (key t) = refl
-unit_bare (nonce es) = refl
+unit_bare _ = refl
 
 pair_bare : (f g : Ty → List RuleUse) → ((t : Ty) → f t ≡ f (bare t)) → ((t : Ty) → g t ≡ g (bare t)) → (t : Ty) → pair_uses f g t ≡ pair_uses f g (bare t)
-pair_bare f g p q un = refl
-pair_bare f g p q unit_ty = refl
 pair_bare f g p q (pair_ty t u) = λ i. uses MsgPair (p t i ++ q u i)
-pair_bare f g p q (sum_ty t u) = refl
-pair_bare f g p q (key t) = refl
-pair_bare f g p q (nonce es) = refl
+pair_bare f g p q _ = refl
 
 left_bare : (f : Ty → List RuleUse) → ((t : Ty) → f t ≡ f (bare t)) → (t : Ty) → left_uses f t ≡ left_uses f (bare t)
-left_bare f p un = refl
-left_bare f p unit_ty = refl
-left_bare f p (pair_ty t u) = refl
 left_bare f p (sum_ty t u) = ap (uses MsgInl) (p t)
-left_bare f p (key t) = refl
-left_bare f p (nonce es) = refl
+left_bare f p _ = refl
 
 right_bare : (f : Ty → List RuleUse) → ((t : Ty) → f t ≡ f (bare t)) → (t : Ty) → right_uses f t ≡ right_uses f (bare t)
-right_bare f p un = refl
-right_bare f p unit_ty = refl
-right_bare f p (pair_ty t u) = refl
 right_bare f p (sum_ty t u) = ap (uses MsgInr) (p u)
-right_bare f p (key t) = refl
-right_bare f p (nonce es) = refl
+right_bare f p _ = refl
 
 message_bare : (m : Message) (e : List Ty) (t : Ty) → message_uses m e t ≡ message_uses m e (bare t)
-message_bare (bound i) e t = refl
-message_bare (name x) e t = refl
 message_bare unit e t = unit_bare t
 message_bare (pair a b) e t = pair_bare (message_uses a e) (message_uses b e) (message_bare a e) (message_bare b e) t
 message_bare (in_left a) e t = left_bare (message_uses a e) (message_bare a e) t
 message_bare (in_right a) e t = right_bare (message_uses a e) (message_bare a e) t
-message_bare (enc a b) e t = refl
-message_bare (hash a) e t = refl
+message_bare _ e t = refl
 
 pub same_uses : (m : Message) (e : List Ty) (t u : Ty) → bare t ≡ bare u → message_uses m e t ≡ message_uses m e u
 same_uses m e t u h = message_bare m e t ∙ ap (message_uses m e) h ∙ sym (message_bare m e u)

@@ -3,7 +3,7 @@ use Rattle.std.proofs.Common.{◌≡◌, ℕ, suc, ◌+◌, ◌-◌, ◌≤◌, 
 use Rattle.std.specs.Prelude.{slice_get}
 use Rattle.std.proofs.Math.Seq.{take-length}
 use Rattle.std.proofs.lemmas.List.{take-take, take-append-le, length-take-le, drop_all}
-use Rattle.spi_term.specs.Term.{Ty, un, Leaf, Prefix, Fork, Process, leaf, prefix, fork, binds, fork_binds, process_size, Recvs, Serves, Splits, Selects, Decrypts, Checks, Begins, Ends, EndManys, Casts, Makes}
+use Rattle.spi_term.specs.Term.{Ty, un, Leaf, Prefix, Fork, Process, leaf, prefix, fork, binds, fork_binds, process_size, Recvs}
 use Rattle.spi_term.specs.Spelling.{Shape, leaf_at, prefix_at, fork_at, flat, numbered, spelled}
 use Rattle.spi_term.specs.Arena.{scope_of}
 use Rattle.spi_rules.specs.Environment.{untrusted}
@@ -67,16 +67,7 @@ passes_from k n p t now bs us h g e b u =
 
 length_binding : (s : Prefix) → length (binding s) ≡ binds s
 length_binding (Recvs m t) = refl
-length_binding (Serves m t) = refl
-length_binding (Splits m t u) = refl
-length_binding (Selects m t n u) = refl
-length_binding (Decrypts m t n) = refl
-length_binding (Checks m n) = refl
-length_binding (Begins m) = refl
-length_binding (Ends m) = refl
-length_binding (EndManys m) = refl
-length_binding (Casts m t) = refl
-length_binding (Makes t) = refl
+length_binding _ = refl
 
 -- a process at another place, and after other names
 flat_at : (p : Process) {i j k n : ℕ} → i ≡ j → k ≡ n → flat i k p ≡ flat j n p

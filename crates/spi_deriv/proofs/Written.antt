@@ -74,47 +74,26 @@ module _ {e : Env} (f : List Ty) (a : Alike f e) where
   -- a message of type Un
   pub un_no_key : {n : Message} → HasType [] e n un → key_of f n ≡ None
   un_no_key (msg_name h same_un) = ap key_in (un_seen h)
-  un_no_key msg_unit_un = refl
-  un_no_key (msg_pair_un h k) = refl
-  un_no_key (msg_inl_un h) = refl
-  un_no_key (msg_inr_un h) = refl
-  un_no_key (msg_enc h k) = refl
-  un_no_key (msg_enc_un h k) = refl
-  un_no_key (msg_hash l) = refl
   un_no_key (msg_cast i s) = elim i [ ]
+  un_no_key _ = refl
 
   pub un_no_nonce : {n : Message} → HasType [] e n un → nonce_of f n ≡ None
   un_no_nonce (msg_name h same_un) = ap nonce_in (un_seen h)
-  un_no_nonce msg_unit_un = refl
-  un_no_nonce (msg_pair_un h k) = refl
-  un_no_nonce (msg_inl_un h) = refl
-  un_no_nonce (msg_inr_un h) = refl
-  un_no_nonce (msg_enc h k) = refl
-  un_no_nonce (msg_enc_un h k) = refl
-  un_no_nonce (msg_hash l) = refl
   un_no_nonce (msg_cast i s) = elim i [ ]
+  un_no_nonce _ = refl
 
   pub un_no_pair : {m : Message} → HasType [] e m un → (HasType [] e m (pair_ty un un) → ⊥) → is_pair f m ≡ false
   un_no_pair (msg_name h same_un) n = ap is_pair_ty (un_seen h)
-  un_no_pair msg_unit_un n = refl
   un_no_pair (msg_pair_un h k) n = absurd (n (msg_pair h k))
-  un_no_pair (msg_inl_un h) n = refl
-  un_no_pair (msg_inr_un h) n = refl
-  un_no_pair (msg_enc h k) n = refl
-  un_no_pair (msg_enc_un h k) n = refl
-  un_no_pair (msg_hash l) n = refl
   un_no_pair (msg_cast i s) n = elim i [ ]
+  un_no_pair _ n = refl
 
   pub un_no_sum : {m : Message} → HasType [] e m un → (HasType [] e m (sum_ty un un) → ⊥) → is_sum f m ≡ false
   un_no_sum (msg_name h same_un) n = ap is_sum_ty (un_seen h)
-  un_no_sum msg_unit_un n = refl
-  un_no_sum (msg_pair_un h k) n = refl
   un_no_sum (msg_inl_un h) n = absurd (n (msg_inl h))
   un_no_sum (msg_inr_un h) n = absurd (n (msg_inr h))
-  un_no_sum (msg_enc h k) n = refl
-  un_no_sum (msg_enc_un h k) n = refl
-  un_no_sum (msg_hash l) n = refl
   un_no_sum (msg_cast i s) n = elim i [ ]
+  un_no_sum _ n = refl
 
   -- a message of another type
   pub pair_is_pair : {m : Message} {t u : Ty} → HasType [] e m (pair_ty t u) → is_pair f m ≡ true

@@ -1,7 +1,7 @@
 -- The rule uses of a canonical derivation, computed form by form. Of a type the head alone matters, so the types of the
 -- names in scope stand here as they are written, and what is opened in them doesn't matter.
 use Rattle.std.specs.Prelude.{Bool, true, false, List, [], ◌∷◌, ◌++◌, Option, Some, None, slice_get}
-use Rattle.spi_term.specs.Term.{Message, bound, name, unit, pair, in_left, in_right, enc, hash, Ty, un, unit_ty, pair_ty, sum_ty, key, nonce, Leaf, Sends, Stops, Prefix, Recvs, Serves, Splits, Selects, Decrypts, Checks, Begins, Ends, EndManys, Casts, Makes, Fork, Cases, Pars, Process, leaf, prefix, fork}
+use Rattle.spi_term.specs.Term.{Message, bound, name, unit, pair, in_left, in_right, enc, hash, Ty, un, unit_ty, pair_ty, sum_ty, nonce, Leaf, Sends, Stops, Prefix, Recvs, Serves, Splits, Selects, Decrypts, Checks, Begins, Ends, EndManys, Casts, Makes, Fork, Cases, Pars, Process, leaf, prefix, fork}
 use Rattle.spi_rules.specs.Derivations.{RuleUse, uses}
 use Rattle.spi_rules.specs.declared.rule.Rule.{Rule}
 use Rattle.spi_rules.specs.declared.rule.Rule.TheVariants.{MsgName, MsgUnit, MsgUnitUn, MsgPair, MsgPairUn, MsgInl, MsgInlUn, MsgInr, MsgInrUn, MsgEnc, MsgEncUn, MsgHash, ProcStop, ProcOut, ProcIn, ProcRepeat, ProcSplit, ProcSplitUn, ProcMatch, ProcMatchUn, ProcCase, ProcCaseUn, ProcDecrypt, ProcDecryptUn, ProcCheck, ProcCheckUn, ProcBegin, ProcEnd, ProcEndMany, ProcCast, ProcCastUn, ProcNew, ProcPar}
@@ -12,34 +12,22 @@ use Rattle.spi_message.specs.Forms.{is_nonce, on_first, on_rest}
 abbrev pub unit_uses : Ty → List RuleUse
 unit_uses un = uses MsgUnitUn []
 unit_uses unit_ty = uses MsgUnit []
-unit_uses (pair_ty t u) = []
-unit_uses (sum_ty t u) = []
-unit_uses (key t) = []
-unit_uses (nonce es) = []
+unit_uses _ = []
 
 abbrev pub pair_uses : (Ty → List RuleUse) → (Ty → List RuleUse) → Ty → List RuleUse
 pair_uses f g un = uses MsgPairUn (f un ++ g un)
-pair_uses f g unit_ty = []
 pair_uses f g (pair_ty t u) = uses MsgPair (f t ++ g u)
-pair_uses f g (sum_ty t u) = []
-pair_uses f g (key t) = []
-pair_uses f g (nonce es) = []
+pair_uses f g _ = []
 
 abbrev pub left_uses : (Ty → List RuleUse) → Ty → List RuleUse
 left_uses f un = uses MsgInlUn (f un)
-left_uses f unit_ty = []
-left_uses f (pair_ty t u) = []
 left_uses f (sum_ty t u) = uses MsgInl (f t)
-left_uses f (key t) = []
-left_uses f (nonce es) = []
+left_uses f _ = []
 
 abbrev pub right_uses : (Ty → List RuleUse) → Ty → List RuleUse
 right_uses f un = uses MsgInrUn (f un)
-right_uses f unit_ty = []
-right_uses f (pair_ty t u) = []
 right_uses f (sum_ty t u) = uses MsgInr (f u)
-right_uses f (key t) = []
-right_uses f (nonce es) = []
+right_uses f _ = []
 
 -- by the payload's type, where the key is a name of a Key type
 abbrev pub enc_uses : (Ty → List RuleUse) → (Ty → List RuleUse) → Option Ty → List RuleUse
@@ -58,43 +46,24 @@ message_uses (hash a) e t = uses MsgHash []
 
 -- a message is a pair or a name of a pair type
 abbrev pub is_pair_ty : Option Ty → Bool
-is_pair_ty None = false
-is_pair_ty (Some un) = false
-is_pair_ty (Some unit_ty) = false
 is_pair_ty (Some (pair_ty t u)) = true
-is_pair_ty (Some (sum_ty t u)) = false
-is_pair_ty (Some (key t)) = false
-is_pair_ty (Some (nonce es)) = false
+is_pair_ty _ = false
 
 abbrev pub is_pair : List Ty → Message → Bool
-is_pair e (bound i) = false
 is_pair e (name x) = is_pair_ty (slice_get e x)
-is_pair e unit = false
 is_pair e (pair a b) = true
-is_pair e (in_left a) = false
-is_pair e (in_right a) = false
-is_pair e (enc a b) = false
-is_pair e (hash a) = false
+is_pair e _ = false
 
 -- a message is a side of a sum or a name of a sum type
 abbrev pub is_sum_ty : Option Ty → Bool
-is_sum_ty None = false
-is_sum_ty (Some un) = false
-is_sum_ty (Some unit_ty) = false
-is_sum_ty (Some (pair_ty t u)) = false
 is_sum_ty (Some (sum_ty t u)) = true
-is_sum_ty (Some (key t)) = false
-is_sum_ty (Some (nonce es)) = false
+is_sum_ty _ = false
 
 abbrev pub is_sum : List Ty → Message → Bool
-is_sum e (bound i) = false
 is_sum e (name x) = is_sum_ty (slice_get e x)
-is_sum e unit = false
-is_sum e (pair a b) = false
 is_sum e (in_left a) = true
 is_sum e (in_right a) = true
-is_sum e (enc a b) = false
-is_sum e (hash a) = false
+is_sum e _ = false
 
 -- the uses of a form itself and of its messages
 abbrev pub two_uses : List Ty → Message → Ty → Message → Ty → List RuleUse
@@ -117,12 +86,8 @@ check_uses true e m n = uses ProcCheck (message_uses m e un)
 check_uses false e m n = uses ProcCheckUn (two_uses e m un n un)
 
 abbrev pub cast_rule : Ty → Rule
-cast_rule un = ProcCastUn
-cast_rule unit_ty = ProcCastUn
-cast_rule (pair_ty t u) = ProcCastUn
-cast_rule (sum_ty t u) = ProcCastUn
-cast_rule (key t) = ProcCastUn
 cast_rule (nonce es) = ProcCast
+cast_rule _ = ProcCastUn
 
 abbrev pub case_uses : Bool → List Ty → Message → Ty → Ty → List RuleUse
 case_uses true e m t u = uses ProcCase (message_uses m e (sum_ty t u))

@@ -143,12 +143,8 @@ fn cast_rule(t: &Ty) -> Rule
     ensures { result ≡ cast_rule (type_of t.now) }
 {
     match t {
-        Ty::Un => Rule::ProcCastUn,
-        Ty::Unit => Rule::ProcCastUn,
-        Ty::Pair(_, _) => Rule::ProcCastUn,
-        Ty::Sum(_, _) => Rule::ProcCastUn,
-        Ty::Key(_) => Rule::ProcCastUn,
         Ty::Nonce(_) => Rule::ProcCast,
+        _ => Rule::ProcCastUn,
     }
 }
 

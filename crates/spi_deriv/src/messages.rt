@@ -28,10 +28,7 @@ fn push_unit(wanted: &Ty, out: &mut Vec<RuleUse>) -> Result<(), NoMemory>
     match wanted {
         Ty::Un => push_rule(Rule::MsgUnitUn, out),
         Ty::Unit => push_rule(Rule::MsgUnit, out),
-        Ty::Pair(_, _) => Ok(()),
-        Ty::Sum(_, _) => Ok(()),
-        Ty::Key(_) => Ok(()),
-        Ty::Nonce(_) => Ok(()),
+        _ => Ok(()),
     }
 }
 
@@ -71,11 +68,8 @@ fn push_pair(
 {
     match wanted {
         Ty::Un => push_both(Rule::MsgPairUn, a, &Ty::Un, b, &Ty::Un, types, out),
-        Ty::Unit => Ok(()),
         Ty::Pair(first, second) => push_both(Rule::MsgPair, a, first, b, second, types, out),
-        Ty::Sum(_, _) => Ok(()),
-        Ty::Key(_) => Ok(()),
-        Ty::Nonce(_) => Ok(()),
+        _ => Ok(()),
     }
 }
 
@@ -104,11 +98,8 @@ fn push_left(a: &Msg, wanted: &Ty, types: &[&Ty], out: &mut Vec<RuleUse>) -> Res
 {
     match wanted {
         Ty::Un => push_one(Rule::MsgInlUn, a, &Ty::Un, types, out),
-        Ty::Unit => Ok(()),
-        Ty::Pair(_, _) => Ok(()),
         Ty::Sum(left, _) => push_one(Rule::MsgInl, a, left, types, out),
-        Ty::Key(_) => Ok(()),
-        Ty::Nonce(_) => Ok(()),
+        _ => Ok(()),
     }
 }
 
@@ -120,11 +111,8 @@ fn push_right(a: &Msg, wanted: &Ty, types: &[&Ty], out: &mut Vec<RuleUse>) -> Re
 {
     match wanted {
         Ty::Un => push_one(Rule::MsgInrUn, a, &Ty::Un, types, out),
-        Ty::Unit => Ok(()),
-        Ty::Pair(_, _) => Ok(()),
         Ty::Sum(_, right) => push_one(Rule::MsgInr, a, right, types, out),
-        Ty::Key(_) => Ok(()),
-        Ty::Nonce(_) => Ok(()),
+        _ => Ok(()),
     }
 }
 
@@ -178,14 +166,11 @@ pub fn push_at_pair(
         (pair_ty (type_of first.now) (type_of second.now))) }
 {
     match m {
-        Msg::Bound(_) => Ok(()),
         Msg::Name(_) => push_rule(Rule::MsgName, out),
-        Msg::Unit => Ok(()),
         Msg::Pair(a, b) => push_both(Rule::MsgPair, a, first, b, second, types, out),
-        Msg::Inl(_) => Ok(()),
-        Msg::Inr(_) => Ok(()),
         Msg::Enc(a, key) => push_enc(a, key, types, out),
         Msg::Hash(_) => push_rule(Rule::MsgHash, out),
+        _ => Ok(()),
     }
 }
 
@@ -203,13 +188,11 @@ pub fn push_at_sum(
         (sum_ty (type_of left.now) (type_of right.now))) }
 {
     match m {
-        Msg::Bound(_) => Ok(()),
         Msg::Name(_) => push_rule(Rule::MsgName, out),
-        Msg::Unit => Ok(()),
-        Msg::Pair(_, _) => Ok(()),
         Msg::Inl(a) => push_one(Rule::MsgInl, a, left, types, out),
         Msg::Inr(a) => push_one(Rule::MsgInr, a, right, types, out),
         Msg::Enc(a, key) => push_enc(a, key, types, out),
         Msg::Hash(_) => push_rule(Rule::MsgHash, out),
+        _ => Ok(()),
     }
 }

@@ -33,13 +33,7 @@ pub fn payload<'a>(types: &[&'a Ty], key: &Msg) -> Option<&'a Ty>
             Some(t) => payload_of(t),
             None => None,
         },
-        Msg::Bound(_) => None,
-        Msg::Unit => None,
-        Msg::Pair(_, _) => None,
-        Msg::Inl(_) => None,
-        Msg::Inr(_) => None,
-        Msg::Enc(_, _) => None,
-        Msg::Hash(_) => None,
+        _ => None,
     }
 }
 
@@ -52,13 +46,7 @@ pub fn is_nonce_name(types: &[&Ty], m: &Msg) -> bool
             Some(t) => is_nonce_type(t),
             None => false,
         },
-        Msg::Bound(_) => false,
-        Msg::Unit => false,
-        Msg::Pair(_, _) => false,
-        Msg::Inl(_) => false,
-        Msg::Inr(_) => false,
-        Msg::Enc(_, _) => false,
-        Msg::Hash(_) => false,
+        _ => false,
     }
 }
 
@@ -66,12 +54,8 @@ fn is_pair_type(t: &Ty) -> bool
     ensures { result ≡ is_pair_ty (Some (type_of t.now)) }
 {
     match t {
-        Ty::Un => false,
-        Ty::Unit => false,
         Ty::Pair(_, _) => true,
-        Ty::Sum(_, _) => false,
-        Ty::Key(_) => false,
-        Ty::Nonce(_) => false,
+        _ => false,
     }
 }
 
@@ -84,13 +68,8 @@ pub fn is_pair(types: &[&Ty], m: &Msg) -> bool
             Some(t) => is_pair_type(t),
             None => false,
         },
-        Msg::Bound(_) => false,
-        Msg::Unit => false,
         Msg::Pair(_, _) => true,
-        Msg::Inl(_) => false,
-        Msg::Inr(_) => false,
-        Msg::Enc(_, _) => false,
-        Msg::Hash(_) => false,
+        _ => false,
     }
 }
 
@@ -98,12 +77,8 @@ fn is_sum_type(t: &Ty) -> bool
     ensures { result ≡ is_sum_ty (Some (type_of t.now)) }
 {
     match t {
-        Ty::Un => false,
-        Ty::Unit => false,
-        Ty::Pair(_, _) => false,
         Ty::Sum(_, _) => true,
-        Ty::Key(_) => false,
-        Ty::Nonce(_) => false,
+        _ => false,
     }
 }
 
@@ -116,12 +91,8 @@ pub fn is_sum(types: &[&Ty], m: &Msg) -> bool
             Some(t) => is_sum_type(t),
             None => false,
         },
-        Msg::Bound(_) => false,
-        Msg::Unit => false,
-        Msg::Pair(_, _) => false,
         Msg::Inl(_) => true,
         Msg::Inr(_) => true,
-        Msg::Enc(_, _) => false,
-        Msg::Hash(_) => false,
+        _ => false,
     }
 }

@@ -1,7 +1,6 @@
 -- Reading part after part: what fails behind the parts that were read fails the whole, so many tokens later.
-use Rattle.std.proofs.Common.{◌≡◌, ℕ, ◌+◌, Bool, List, [], ◌∷◌, ◌++◌, length, sym, subst, arith}
-use Rattle.spi_grammar.specs.Exactly.{kinds, IsOther, Either, Nothing, at_syntax, IsLive, Apart, IsEven, IsGood, IsSame, Then, Many, Fault, Fails, Refuses, Reads}
-use Rattle.spi_grammar.proofs.Sequence.{apart_closed}
+use Rattle.std.proofs.Common.{◌≡◌, ℕ, ◌+◌, Bool, List, [], ◌∷◌, length, subst, arith}
+use Rattle.spi_grammar.specs.Exactly.{kinds, IsOther, Either, Nothing, at_syntax, IsLive, Apart, IsEven, IsSame, Then, Many, Fault, Fails, Refuses, Reads}
 use Rattle.spi_grammar.proofs.Answers.{same_refuses, same_fails, first_refuses, first_fails, second_refuses, second_fails, part_fails, further_fails, last_fails, end_fails}
 use Rattle.spi_grammar.proofs.Good.{this_fails, other_fails}
 

@@ -48,6 +48,10 @@ rule_read rules start places t n k w d e i =
     let P : Rule → Type 0 = λ x. (slice_get rules k ≡ Some x) × StandsBefore places t x.first × StandsBefore places t x.second in
     subst P q (f, a, b)
 
+-- the rule that gives the number at a place of an order
+pub rule_at : (rules : List Rule) (start : List ℕ) (order : List Reached) (places : List (Option ℕ)) (t k : ℕ) (x : Reached) (d : Rule) → IsOrder rules start order places → slice_get order t ≡ Some x → x.why ≡ ByRule k → (slice_get rules k ≡ Some (get_or rules k d)) × StandsBefore places t (get_or rules k d).first × StandsBefore places t (get_or rules k d).second
+rule_at rules start order places t k x d o e w = rule_read rules start places t x.number k x.why d w (o.reasons t x e)
+
 pub before_within : (places : List (Option ℕ)) (t m n : ℕ) → t ≤ m → StandsBefore places t n → StandsBefore places m n
 before_within places t m n le (s, lt, e) = (s, omega (arith, lt, le), e)
 

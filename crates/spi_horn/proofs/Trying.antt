@@ -22,24 +22,29 @@ left_more ks i j k e (s, le, f) = ⊎_elim
     (λ (q : i < s). inr (s, omega (arith, q), f))
     (same_or_less i s le)
 
--- the rule at i is passed over, where it asks for nothing more
-good_skip : (rules : List Rule) (start : List ℕ) (order : List Reached) (places : List (Option ℕ)) (c : ℕ) (left : List ℕ) (i k : ℕ) (q : Rule) → slice_get left i ≡ Some k → slice_get rules k ≡ Some q → (Stands places q.first → Stands places q.second → Stands places q.gives) → IsGood rules start order places c left i → IsGood rules start order places c left (i + 1)
-good_skip rules start order places c left i k q e f h g = record {
+-- other rules are left, where each that isn't any more has given what it gives
+good_left : (rules : List Rule) (start : List ℕ) (order : List Reached) (places : List (Option ℕ)) (c : ℕ) (left left' : List ℕ) (i i' : ℕ) → ((j : ℕ) (r : Rule) → slice_get rules j ≡ Some r → Stands places r.first → Stands places r.second → IsLeft left i j → Stands places r.gives ⊎ IsLeft left' i' j) → IsGood rules start order places c left i → IsGood rules start order places c left' i'
+good_left rules start order places c left left' i i' f g = record {
   ordered = g.ordered;
   count = g.count;
   ahead = g.ahead;
   done = λ j r s t a x y. ⊎_elim (λ z. inl z)
       (λ z. ⊎_elim (λ u. inr (inl u))
       (λ u. ⊎_elim (λ v. inr (inr (inl v)))
-      (λ v. ⊎_elim
-      (λ same. let w : Some r ≡ Some q = sym a ∙ (ap (slice_get rules) same ∙ f) in
-      let eq : q ≡ r = cc in
-      let P : Rule → Type 0 = λ p. Stands places p.first → Stands places p.second → Stands places p.gives in
-      inl (subst P eq h (s, x) (t, y)))
-      (λ w. inr (inr (inr w)))
-      (left_more left i j k e v)) u) z)
+      (λ v. ⊎_elim (λ w. inl w) (λ w. inr (inr (inr w))) (f j r a (s, x) (t, y) v)) u) z)
       (g.done j r s t a x y);
 }
+
+-- the rule at i is passed over, where it asks for nothing more
+good_skip : (rules : List Rule) (start : List ℕ) (order : List Reached) (places : List (Option ℕ)) (c : ℕ) (left : List ℕ) (i k : ℕ) (q : Rule) → slice_get left i ≡ Some k → slice_get rules k ≡ Some q → (Stands places q.first → Stands places q.second → Stands places q.gives) → IsGood rules start order places c left i → IsGood rules start order places c left (i + 1)
+good_skip rules start order places c left i k q e f h g = good_left rules start order places c left left i (i + 1)
+    (λ j r a x y v. ⊎_elim
+    (λ same. let w : Some r ≡ Some q = sym a ∙ (ap (slice_get rules) same ∙ f) in
+    let eq : q ≡ r = cc in
+    let P : Rule → Type 0 = λ p. Stands places p.first → Stands places p.second → Stands places p.gives in
+    inl (subst P eq h x y))
+    (λ w. inr w)
+    (left_more left i j k e v)) g
 
 before_all : {rules : List Rule} {start : List ℕ} {order : List Reached} {places : List (Option ℕ)} (n : ℕ) → IsOrder rules start order places → Stands places n → StandsBefore places (length order) n
 before_all {order = order} n o (t, e) = let (x, f, g) = o.placed n t e in (t, slice_get_within order t x f, e)
@@ -61,16 +66,15 @@ tried_keeps order order' places places' q k t =
 
 -- nothing is left of a list behind its end
 pub good_end : (rules : List Rule) (start : List ℕ) (order : List Reached) (places : List (Option ℕ)) (c : ℕ) (left : List ℕ) (i : ℕ) → length left ≤ i → IsGood rules start order places c left i → IsGood rules start order places c [] 0
-good_end rules start order places c left i le g = record {
-  ordered = g.ordered;
-  count = g.count;
-  ahead = g.ahead;
-  done = λ j r s t a x y. ⊎_elim (λ z. inl z)
-      (λ z. ⊎_elim (λ u. inr (inl u))
-      (λ u. ⊎_elim (λ v. inr (inr (inl v)))
-      (λ (v, w, h). let lt = slice_get_within left v j h in absurd (omega (arith, le, lt, w))) u) z)
-      (g.done j r s t a x y);
-}
+good_end rules start order places c left i le g = good_left rules start order places c left [] i 0
+    (λ j r a x y (v, w, h). let lt = slice_get_within left v j h in absurd (omega (arith, le, lt, w))) g
+
+-- a number of the order has a list, where there is one for each place
+pub has_list : {A : Type 0} (rules : List Rule) (start : List ℕ) (order : List Reached) (places before : List (Option ℕ)) (lists : List A) (c : ℕ) (x : Reached) → IsOrder rules start order places → Keeps before places → length lists ≡ length before → slice_get order c ≡ Some x → x.number < length lists
+has_list rules start order places before lists c x o keeps same e =
+    let within = slice_get_within places x.number (Some c) (o.stands c x e) in
+    let k = keeps.0 in
+    omega (arith, within, k, same)
 
 -- the number at the cursor is looked at, and the rules that wait for it are left
 pub good_next : (rules : List Rule) (start : List ℕ) (order : List Reached) (places : List (Option ℕ)) (c : ℕ) (ks : List ℕ) (x : Reached) → slice_get order c ≡ Some x → ((k : ℕ) (r : Rule) → slice_get rules k ≡ Some r → (r.first ≡ x.number) ⊎ (r.second ≡ x.number) → (j : ℕ) × (slice_get ks j ≡ Some k)) → IsGood rules start order places c [] 0 → IsGood rules start order places (c + 1) ks 0

@@ -1,5 +1,5 @@
 -- The lines of a number, as a certificate.
-use Rattle.std.proofs.Common.{◌≡◌, sym, ap, subst, ◌∙◌, ℕ, zero, suc, ◌+◌, ◌<◌, ◌^◌, ◌⊎◌, ⊎_elim, List, [], ◌∷◌, ◌++◌, Some, slice_get, length, map, take, arith}
+use Rattle.std.proofs.Common.{◌≡◌, ◌≤◌, sym, ap, subst, ◌∙◌, ℕ, zero, suc, ◌+◌, ◌<◌, ◌^◌, ◌⊎◌, ⊎_elim, List, [], ◌∷◌, ◌++◌, Some, slice_get, length, map, take, arith}
 use Rattle.std.proofs.lemmas.List.{length_push}
 use Rattle.std.proofs.lemmas.Option.{slice_get-map}
 use Rattle.std.specs.Option.{option_map}
@@ -54,20 +54,22 @@ taken_line (x ∷ xs) zero i c lt e = absurd (omega (arith, lt))
 taken_line (x ∷ xs) (suc k) zero c lt e = ap (λ (z : CertLine). Some (said z)) (some_one e)
 taken_line (x ∷ xs) (suc k) (suc i) c lt e = taken_line xs k i c (omega (arith, lt)) e
 
+-- what stands at the same place of a list that is as long
+same_place : {A B : Type 0} (xs : List A) (ys : List B) (i : ℕ) (x : A) → length xs ≤ length ys → slice_get xs i ≡ Some x → (y : B) × (slice_get ys i ≡ Some y)
+same_place xs ys i x le e = let lt = get_below xs i x e in below_get ys i (omega (arith, le, lt))
+
 module _ (ms from : List Message) (rules : List Rule) (ways : List Way) (start : List ℕ) (lines : List Line) (cert : List CertLine) (target : ℕ) (m : Message) (n : ℕ) (cl : AreClauses ms n rules ways) (st : Starts ms from start) (pr : Proves rules start lines target) (ar : AreLines ms (length from) ways lines (length lines) cert) (at : Numbers ms target m) where
   -- the line with this index
   line_of : (i : ℕ) (l : Line) → slice_get lines i ≡ Some l → (c : CertLine) × (slice_get cert i ≡ Some c) × IsLineOf ms (length from) ways l c
   line_of i l e =
       let count = ar.count in
-      let lt = get_below lines i l e in
-      let (c, f) = below_get cert i (omega (arith, count, lt)) in
+      let (c, f) = same_place lines cert i l (omega (arith, count)) e in
       (c, f, ar.each i l c e f)
 
   of_line : (i : ℕ) (c : CertLine) → slice_get cert i ≡ Some c → (l : Line) × (slice_get lines i ≡ Some l) × IsLineOf ms (length from) ways l c
   of_line i c e =
       let count = ar.count in
-      let lt = get_below cert i c e in
-      let (l, f) = below_get lines i (omega (arith, count, lt)) in
+      let (l, f) = same_place cert lines i c (omega (arith, count)) e in
       (l, f, ar.each i l c f e)
 
   premise_said : (i a x : ℕ) → SaysBefore lines i a x → (v : Message) → Numbers ms x v → slice_get (map said (take i cert)) a ≡ Some v

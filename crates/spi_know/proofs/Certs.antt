@@ -1,7 +1,8 @@
 -- What a certificate says is known.
-use Rattle.std.proofs.Common.{◌≡◌, refl, sym, ap, subst, ◌∙◌, ◌↔◌, Bool, IsTrue, ℕ, zero, suc, ◌-◌, ◌<◌, List, [], ◌∷◌, Some, slice_get, length, map, take, arith}
+use Rattle.std.proofs.Common.{◌≡◌, refl, sym, ap, subst, ◌∙◌, ◌↔◌, Bool, IsTrue, ℕ, zero, suc, ◌-◌, ◌<◌, List, [], ◌∷◌, Some, slice_get, get_or, length, map, take, arith}
 use Rattle.std.proofs.lemmas.Option.{slice_get-map, slice_get_within}
 use Rattle.std.specs.Option.{option_map}
+use Rattle.spi_horn.proofs.Lookups.{get_read}
 use Rattle.spi_term.specs.Lists.{In, in_first, in_later}
 use Rattle.spi_term.specs.Term.{Message}
 use Rattle.spi_run.specs.Knowledge.{Knows, knows_sent, knows_unit, knows_pair, knows_first, knows_second, knows_inl, knows_inr, knows_from_inl, knows_from_inr, knows_enc, knows_opened, knows_hash}
@@ -18,6 +19,10 @@ get_in (y ∷ xs) (suc i) e = in_later (get_in xs i e)
 pub in_get : {A : Type 0} {x : A} {xs : List A} → In x xs → (k : ℕ) × (slice_get xs k ≡ Some x)
 in_get in_first = (0, refl)
 in_get (in_later i) = let (k, e) = in_get i in (suc k, e)
+
+-- what is read of a list with one entry for each of so many
+pub read_below : {A : Type 0} (xs : List A) (count n i : ℕ) (x : A) → length xs ≡ count → count ≡ n → i < n → x ≡ get_or xs i x → slice_get xs i ≡ Some x
+read_below xs count n i x all same below e = get_read xs i x (omega (arith, all, same, below)) e
 
 -- what follows from known messages is known
 follows_known : (sent before : List Message) (b : By) (m : Message) → ((i : ℕ) (n : Message) → slice_get before i ≡ Some n → Knows sent n) → Follows sent before b m → Knows sent m

@@ -1,5 +1,5 @@
 -- What filling the indices of messages and types adds to a store.
-use Rattle.std.proofs.Common.{◌≡◌, ℕ, suc, ◌<◌, ◌≤◌, List, [], ◌∷◌, ◌++◌, map, Some, None, length, refl, sym, ap, subst, ◌∙◌, ◌⊎◌, inl, inr, ⊎_elim, Result, Ok, Err, OnOk}
+use Rattle.std.proofs.Common.{◌≡◌, ℕ, suc, ◌<◌, ◌≤◌, List, [], ◌∷◌, ◌++◌, map, Some, None, slice_get, length, refl, sym, ap, subst, ◌∙◌, ◌⊎◌, inl, inr, ⊎_elim, Result, Ok, Err, OnOk}
 use Rattle.std.specs.Prelude.{option_map}
 use Rattle.spi_term.specs.Term.{Message, bound, name, unit, pair, in_left, in_right, enc, hash, Atom, Effect, Ty, un, unit_ty, pair_ty, sum_ty, key, nonce}
 use Rattle.spi_term.specs.Counts.{SameEffect}
@@ -15,6 +15,7 @@ use Rattle.spi_intern.specs.Meaning.{Means, Keeps}
 use Rattle.spi_intern.specs.Parts.{PartOf, whole, of_first, of_second, of_left, of_right, of_body, of_key, of_hash, message_of, InEffect, in_first, in_later, InTy, in_pair_first, in_pair_second, in_sum_left, in_sum_right, in_key, in_nonce, TyPartOf, whole_ty, of_pair_first, of_pair_second, of_sum_left, of_sum_right, of_payload}
 use Rattle.spi_intern.specs.Growing.{HasTy, AddsMessages, AddsTypes, Adds, a_message, a_type, over_messages, over_types}
 use Rattle.spi_intern.specs.declared.messages.MsgId.{MsgId}
+use Rattle.spi_intern.specs.declared.messages.MsgPart.{MsgPart}
 use Rattle.spi_intern.specs.declared.messages.MsgPart.TheVariants.{Pair, Inl, Inr, Enc, Hash}
 use Rattle.spi_intern.specs.declared.types.TyId.{TyId}
 use Rattle.spi_intern.specs.declared.atoms.AtomId.{AtomId}
@@ -58,54 +59,55 @@ same_adds h = record {
   types = types_none refl;
 }
 
--- a message over one part or two
-pub record Joins (f : Message → Message → Message) : Type 0 where
+-- P of a message that stands right below the outermost constructor
+abbrev OfMessageParts : (Message → Type 0) → Message → Type 0
+OfMessageParts P (pair a b) = P a ⊎ P b
+OfMessageParts P (enc a b) = P a ⊎ P b
+OfMessageParts P (in_left a) = P a
+OfMessageParts P (in_right a) = P a
+OfMessageParts P (hash a) = P a
+OfMessageParts P _ = ⊥
+
+message_parts : {x m : Message} → PartOf x m → OfMessageParts (PartOf x) m ⊎ (x ≡ m)
+message_parts whole = inr refl
+message_parts (of_first p) = inl (inl p)
+message_parts (of_second p) = inl (inr p)
+message_parts (of_left p) = inl p
+message_parts (of_right p) = inl p
+message_parts (of_body p) = inl (inl p)
+message_parts (of_key p) = inl (inr p)
+message_parts (of_hash p) = inl p
+
+-- a message over two parts, or one, and the part that says it
+pub record Joins (f : Message → Message → Message) (part : MsgId → MsgId → MsgPart) : Type 0 where
   pub split : (x a b : Message) → PartOf x (f a b) → (PartOf x a ⊎ PartOf x b) ⊎ (x ≡ f a b)
   pub first : (x a b : Message) → PartOf x a → PartOf x (f a b)
   pub second : (x a b : Message) → PartOf x b → PartOf x (f a b)
+  pub says : (ms : List Message) (x y : MsgId) (m n : Message) → slice_get ms x.place ≡ Some m → slice_get ms y.place ≡ Some n → Says ms (part x y) (f m n)
+  pub fills : (vs : List Message) (d : ℕ) (a b : Message) → fill vs d (f a b) ≡ f (fill vs d a) (fill vs d b)
 
-pub record Wraps (f : Message → Message) : Type 0 where
+pub record Wraps (f : Message → Message) (part : MsgId → MsgPart) : Type 0 where
   pub split : (x a : Message) → PartOf x (f a) → PartOf x a ⊎ (x ≡ f a)
   pub inner : (x a : Message) → PartOf x a → PartOf x (f a)
+  pub says : (ms : List Message) (x : MsgId) (m : Message) → slice_get ms x.place ≡ Some m → Says ms (part x) (f m)
+  pub fills : (vs : List Message) (d : ℕ) (a : Message) → fill vs d (f a) ≡ f (fill vs d a)
 
-pair_joins : Joins pair
-pair_joins = record { split = split; first = λ x a b p. of_first p; second = λ x a b p. of_second p }
-  where
-    split : (x a b : Message) → PartOf x (pair a b) → (PartOf x a ⊎ PartOf x b) ⊎ (x ≡ pair a b)
-    split x a b whole = inr refl
-    split x a b (of_first p) = inl (inl p)
-    split x a b (of_second p) = inl (inr p)
+pub pair_joins : Joins pair Pair
+pair_joins = record { split = λ x a b p. message_parts p; first = λ x a b p. of_first p; second = λ x a b p. of_second p; says = λ ms x y m n p q. says_pair p q; fills = λ vs d a b. refl }
 
-enc_joins : Joins enc
-enc_joins = record { split = split; first = λ x a b p. of_body p; second = λ x a b p. of_key p }
-  where
-    split : (x a b : Message) → PartOf x (enc a b) → (PartOf x a ⊎ PartOf x b) ⊎ (x ≡ enc a b)
-    split x a b whole = inr refl
-    split x a b (of_body p) = inl (inl p)
-    split x a b (of_key p) = inl (inr p)
+pub enc_joins : Joins enc Enc
+enc_joins = record { split = λ x a b p. message_parts p; first = λ x a b p. of_body p; second = λ x a b p. of_key p; says = λ ms x y m n p q. says_enc p q; fills = λ vs d a b. refl }
 
-left_wraps : Wraps in_left
-left_wraps = record { split = split; inner = λ x a p. of_left p }
-  where
-    split : (x a : Message) → PartOf x (in_left a) → PartOf x a ⊎ (x ≡ in_left a)
-    split x a whole = inr refl
-    split x a (of_left p) = inl p
+pub left_wraps : Wraps in_left Inl
+left_wraps = record { split = λ x a p. message_parts p; inner = λ x a p. of_left p; says = λ ms x m p. says_left p; fills = λ vs d a. refl }
 
-right_wraps : Wraps in_right
-right_wraps = record { split = split; inner = λ x a p. of_right p }
-  where
-    split : (x a : Message) → PartOf x (in_right a) → PartOf x a ⊎ (x ≡ in_right a)
-    split x a whole = inr refl
-    split x a (of_right p) = inl p
+pub right_wraps : Wraps in_right Inr
+right_wraps = record { split = λ x a p. message_parts p; inner = λ x a p. of_right p; says = λ ms x m p. says_right p; fills = λ vs d a. refl }
 
-hash_wraps : Wraps hash
-hash_wraps = record { split = split; inner = λ x a p. of_hash p }
-  where
-    split : (x a : Message) → PartOf x (hash a) → PartOf x a ⊎ (x ≡ hash a)
-    split x a whole = inr refl
-    split x a (of_hash p) = inl p
+pub hash_wraps : Wraps hash Hash
+hash_wraps = record { split = λ x a p. message_parts p; inner = λ x a p. of_hash p; says = λ ms x m p. says_hash p; fills = λ vs d a. refl }
 
-adds_two : {s p q r : Store} {a b : Message} (f : Message → Message → Message) → Joins f → Adds s p (a_message a) → Keeps p q → Adds p q (a_message b) → Keeps q r → Adds q r (over_messages (f a b)) → Adds s r (a_message (f a b))
+adds_two : {s p q r : Store} {a b : Message} (f : Message → Message → Message) {part : MsgId → MsgId → MsgPart} → Joins f part → Adds s p (a_message a) → Keeps p q → Adds p q (a_message b) → Keeps q r → Adds q r (over_messages (f a b)) → Adds s r (a_message (f a b))
 adds_two {a = a} {b = b} f j g k h l o = record {
   messages = adds_as to (λ x m. j.split x a b m) (adds_more (adds_more g.messages k.messages h.messages) l.messages o.messages);
   types = no_types (no_types g.types k h.types) l o.types;
@@ -116,7 +118,7 @@ adds_two {a = a} {b = b} f j g k h l o = record {
     to x (inl (inr m)) = j.second x a b m
     to x (inr e) = subst (λ y. PartOf y (f a b)) (sym e) whole
 
-adds_one : {s p r : Store} {a : Message} (f : Message → Message) → Wraps f → Adds s p (a_message a) → Keeps p r → Adds p r (over_messages (f a)) → Adds s r (a_message (f a))
+adds_one : {s p r : Store} {a : Message} (f : Message → Message) {part : MsgId → MsgPart} → Wraps f part → Adds s p (a_message a) → Keeps p r → Adds p r (over_messages (f a)) → Adds s r (a_message (f a))
 adds_one {a = a} f j g l o = record {
   messages = adds_as to (λ x m. j.split x a m) (adds_more g.messages l.messages o.messages);
   types = no_types g.types l o.types;
@@ -131,66 +133,37 @@ later_added : {s p q : Store} {vs : List MsgId} {depth : ℕ} {b : MsgId} → Ke
 later_added {s} {p} {q} {vs} {b = b} k v w g d e h =
     subst (λ m. Adds p q (a_message m)) (λ i. fill (values_keep vs k.messages v i) d (message_keeps b k.messages w i)) (g.at d e (all_parts_keep k.messages v h))
 
-pub added_pair : {E : Type 0} {s p q : Store} (r : Store) {vs : List MsgId} {depth : ℕ} {m a b x y : MsgId} → TwoOf s.messages m a b pair → Keeps s p → AreBelow vs (length s.messages) → FillsMessage s.messages p.messages vs depth a x → MessageIsAdded s p vs depth a → Keeps p q → FillsMessage p.messages q.messages vs depth b y → MessageIsAdded p q vs depth b → Keeps q r → (o : Result MsgId E) → OnOk o ((n : Message) → Says q.messages (Pair x y) n → Adds q r (over_messages n)) → OnOk o (MessageIsAdded s r vs depth m)
-added_pair {s = s} r {vs = vs} t k v f fa l g ga w (Ok id) h = record {
-  at = λ d e c.
+pub added_two : {E : Type 0} {s p q : Store} (r : Store) {c : Message → Message → Message} {part : MsgId → MsgId → MsgPart} {vs : List MsgId} {depth : ℕ} {m a b x y : MsgId} → Joins c part → TwoOf s.messages m a b c → Keeps s p → AreBelow vs (length s.messages) → FillsMessage s.messages p.messages vs depth a x → MessageIsAdded s p vs depth a → Keeps p q → FillsMessage p.messages q.messages vs depth b y → MessageIsAdded p q vs depth b → Keeps q r → (o : Result MsgId E) → OnOk o ((n : Message) → Says q.messages (part x y) n → Adds q r (over_messages n)) → OnOk o (MessageIsAdded s r vs depth m)
+added_two {s = s} r {c = c} {vs = vs} {x = x} {y = y} i t k v f fa l g ga w (Ok id) h = record {
+  at = λ d e b.
       let z = two_values k.messages v t.second f l.messages g d e in
-      subst (λ n. Adds s r (a_message (fill (values_of s.messages vs) d n))) (sym t.is) (adds_two pair pair_joins (fa.at d e c) l (later_added k v t.second ga d e c) w (h _ (says_pair z.0 z.1)));
+      subst (λ n. Adds s r (a_message n)) (sym (ap (fill (values_of s.messages vs) d) t.is ∙ i.fills _ d _ _)) (adds_two c i (fa.at d e b) l (later_added k v t.second ga d e b) w (h _ (i.says _ x y _ _ z.0 z.1)));
 }
-added_pair r t k v f fa l g ga w (Err e) h = tt
+added_two r i t k v f fa l g ga w (Err e) h = tt
 
-pub added_enc : {E : Type 0} {s p q : Store} (r : Store) {vs : List MsgId} {depth : ℕ} {m a b x y : MsgId} → TwoOf s.messages m a b enc → Keeps s p → AreBelow vs (length s.messages) → FillsMessage s.messages p.messages vs depth a x → MessageIsAdded s p vs depth a → Keeps p q → FillsMessage p.messages q.messages vs depth b y → MessageIsAdded p q vs depth b → Keeps q r → (o : Result MsgId E) → OnOk o ((n : Message) → Says q.messages (Enc x y) n → Adds q r (over_messages n)) → OnOk o (MessageIsAdded s r vs depth m)
-added_enc {s = s} r {vs = vs} t k v f fa l g ga w (Ok id) h = record {
-  at = λ d e c.
-      let z = two_values k.messages v t.second f l.messages g d e in
-      subst (λ n. Adds s r (a_message (fill (values_of s.messages vs) d n))) (sym t.is) (adds_two enc enc_joins (fa.at d e c) l (later_added k v t.second ga d e c) w (h _ (says_enc z.0 z.1)));
+pub added_one : {E : Type 0} {s p : Store} (r : Store) {c : Message → Message} {part : MsgId → MsgPart} {vs : List MsgId} {depth : ℕ} {m a x : MsgId} → Wraps c part → OneOf s.messages m a c → FillsMessage s.messages p.messages vs depth a x → MessageIsAdded s p vs depth a → Keeps p r → (o : Result MsgId E) → OnOk o ((n : Message) → Says p.messages (part x) n → Adds p r (over_messages n)) → OnOk o (MessageIsAdded s r vs depth m)
+added_one {s = s} r {c = c} {vs = vs} {x = x} i t f fa w (Ok id) h = record {
+  at = λ d e b. subst (λ n. Adds s r (a_message n)) (sym (ap (fill (values_of s.messages vs) d) t.is ∙ i.fills _ d _)) (adds_one c i (fa.at d e b) w (h _ (i.says _ x _ (f.at d e))));
 }
-added_enc r t k v f fa l g ga w (Err e) h = tt
-
-pub added_left : {E : Type 0} {s p : Store} (r : Store) {vs : List MsgId} {depth : ℕ} {m a x : MsgId} → OneOf s.messages m a in_left → FillsMessage s.messages p.messages vs depth a x → MessageIsAdded s p vs depth a → Keeps p r → (o : Result MsgId E) → OnOk o ((n : Message) → Says p.messages (Inl x) n → Adds p r (over_messages n)) → OnOk o (MessageIsAdded s r vs depth m)
-added_left {s = s} r {vs = vs} t f fa w (Ok id) h = record {
-  at = λ d e c. subst (λ n. Adds s r (a_message (fill (values_of s.messages vs) d n))) (sym t.is) (adds_one in_left left_wraps (fa.at d e c) w (h _ (says_left (f.at d e))));
-}
-added_left r t f fa w (Err e) h = tt
-
-pub added_right : {E : Type 0} {s p : Store} (r : Store) {vs : List MsgId} {depth : ℕ} {m a x : MsgId} → OneOf s.messages m a in_right → FillsMessage s.messages p.messages vs depth a x → MessageIsAdded s p vs depth a → Keeps p r → (o : Result MsgId E) → OnOk o ((n : Message) → Says p.messages (Inr x) n → Adds p r (over_messages n)) → OnOk o (MessageIsAdded s r vs depth m)
-added_right {s = s} r {vs = vs} t f fa w (Ok id) h = record {
-  at = λ d e c. subst (λ n. Adds s r (a_message (fill (values_of s.messages vs) d n))) (sym t.is) (adds_one in_right right_wraps (fa.at d e c) w (h _ (says_right (f.at d e))));
-}
-added_right r t f fa w (Err e) h = tt
-
-pub added_hash : {E : Type 0} {s p : Store} (r : Store) {vs : List MsgId} {depth : ℕ} {m a x : MsgId} → OneOf s.messages m a hash → FillsMessage s.messages p.messages vs depth a x → MessageIsAdded s p vs depth a → Keeps p r → (o : Result MsgId E) → OnOk o ((n : Message) → Says p.messages (Hash x) n → Adds p r (over_messages n)) → OnOk o (MessageIsAdded s r vs depth m)
-added_hash {s = s} r {vs = vs} t f fa w (Ok id) h = record {
-  at = λ d e c. subst (λ n. Adds s r (a_message (fill (values_of s.messages vs) d n))) (sym t.is) (adds_one hash hash_wraps (fa.at d e c) w (h _ (says_hash (f.at d e))));
-}
-added_hash r t f fa w (Err e) h = tt
+added_one r i t f fa w (Err e) h = tt
 
 -- a message without parts, which stays
-added_leaf : {s : Store} {vs : List MsgId} {depth : ℕ} {m : MsgId} (n : Message) → m.place < length s.messages → message_at s.messages m ≡ n → ((d : ℕ) → IsDepth d depth → fill (values_of s.messages vs) d n ≡ n) → ((y : Message) → PartOf y n → y ≡ n) → MessageIsAdded s s vs depth m
+added_leaf : {s : Store} {vs : List MsgId} {depth : ℕ} {m : MsgId} (n : Message) → m.place < length s.messages → message_at s.messages m ≡ n → ((d : ℕ) → IsDepth d depth → fill (values_of s.messages vs) d n ≡ n) → ((y : Message) → OfMessageParts (PartOf y) n → ⊥) → MessageIsAdded s s vs depth m
 added_leaf {s} {vs} {m = m} n l e f g = record {
   at = λ d w h.
       let q : fill (values_of s.messages vs) d (message_at s.messages m) ≡ n = ap (fill (values_of s.messages vs) d) e ∙ f d w in
-      same_adds record { each = λ y p. record { place = m.place; at = message_there s.messages m l ∙ ap Some (e ∙ sym (g y (subst (PartOf y) q p))) } };
+      same_adds record { each = λ y p. record { place = m.place; at = message_there s.messages m l ∙ ap Some (e ∙ sym (⊎_elim (λ z. absurd (g y z)) (λ w. w) (message_parts (subst (PartOf y) q p)))) } };
 }
 
 pub added_name : {s : Store} {vs : List MsgId} {depth x : ℕ} {m : MsgId} → m.place < length s.messages → message_at s.messages m ≡ name x → MessageIsAdded s s vs depth m
-added_name {x = x} l e = added_leaf (name x) l e (λ d w. refl) part
-  where
-    part : (y : Message) → PartOf y (name x) → y ≡ name x
-    part y whole = refl
+added_name {x = x} l e = added_leaf (name x) l e (λ d w. refl) (λ y p. p)
 
 pub added_unit : {s : Store} {vs : List MsgId} {depth : ℕ} {m : MsgId} → m.place < length s.messages → message_at s.messages m ≡ unit → MessageIsAdded s s vs depth m
-added_unit l e = added_leaf unit l e (λ d w. refl) part
-  where
-    part : (y : Message) → PartOf y unit → y ≡ unit
-    part y whole = refl
+added_unit l e = added_leaf unit l e (λ d w. refl) (λ y p. p)
 
 pub added_bound : {s : Store} {vs : List MsgId} {depth i : ℕ} {m : MsgId} → m.place < length s.messages → message_at s.messages m ≡ bound i → ((d : ℕ) → IsDepth d depth → None ≡ value_of vs d i) → MessageIsAdded s s vs depth m
 added_bound {s} {vs} {i = i} l e f =
-    added_leaf (bound i) l e (λ d w. ap (or_bound i) (value_mapped s.messages vs d i ∙ ap (option_map (message_at s.messages)) (sym (f d w)))) part
-  where
-    part : (y : Message) → PartOf y (bound i) → y ≡ bound i
-    part y whole = refl
+    added_leaf (bound i) l e (λ d w. ap (or_bound i) (value_mapped s.messages vs d i ∙ ap (option_map (message_at s.messages)) (sym (f d w)))) (λ y p. p)
 
 -- a value, which has its parts
 pub added_value : {s : Store} {vs : List MsgId} {depth i : ℕ} {m v : MsgId} → message_at s.messages m ≡ bound i → AreBelow vs (length s.messages) → ((d : ℕ) → IsDepth d depth → Some v ≡ value_of vs d i) → MessageIsAdded s s vs depth m
@@ -231,106 +204,76 @@ next_atom_added {s} {p} {q} {vs} {depth} {xs} {ys} a k v w f l g e = subst (Atom
 
 -- ---- types
 
+-- P of a type, and M of an effect, that stand right below the outermost constructor of a type
+abbrev OfParts : (Ty → Type 0) → (Effect → Type 0) → Ty → Type 0
+OfParts P M (pair_ty t u) = P t ⊎ P u
+OfParts P M (sum_ty t u) = P t ⊎ P u
+OfParts P M (key t) = P t
+OfParts P M (nonce es) = M es
+OfParts P M _ = ⊥
+
+in_parts : {x : Message} {w : Ty} → InTy x w → OfParts (InTy x) (InEffect x) w
+in_parts (in_pair_first h) = inl h
+in_parts (in_pair_second h) = inr h
+in_parts (in_sum_left h) = inl h
+in_parts (in_sum_right h) = inr h
+in_parts (in_key h) = h
+in_parts (in_nonce h) = h
+
+from_parts : {x : Message} (w : Ty) → OfParts (InTy x) (InEffect x) w → InTy x w
+from_parts (pair_ty t u) h = ⊎_elim (λ a. in_pair_first a) (λ b. in_pair_second b) h
+from_parts (sum_ty t u) h = ⊎_elim (λ a. in_sum_left a) (λ b. in_sum_right b) h
+from_parts (key t) h = in_key h
+from_parts (nonce es) h = in_nonce h
+from_parts _ h = absurd h
+
+ty_parts : {v w : Ty} → TyPartOf v w → OfParts (TyPartOf v) (λ es. ⊥) w ⊎ (v ≡ w)
+ty_parts whole_ty = inr refl
+ty_parts (of_pair_first h) = inl (inl h)
+ty_parts (of_pair_second h) = inl (inr h)
+ty_parts (of_sum_left h) = inl (inl h)
+ty_parts (of_sum_right h) = inl (inr h)
+ty_parts (of_payload h) = inl h
+
+from_ty_parts : {v : Ty} (w : Ty) → OfParts (TyPartOf v) (λ es. ⊥) w → TyPartOf v w
+from_ty_parts (pair_ty t u) h = ⊎_elim (λ a. of_pair_first a) (λ b. of_pair_second b) h
+from_ty_parts (sum_ty t u) h = ⊎_elim (λ a. of_sum_left a) (λ b. of_sum_right b) h
+from_ty_parts (key t) h = of_payload h
+from_ty_parts _ h = absurd h
+
+-- a type is put over its parts
+adds_ty : {s q r : Store} (w : Ty) → AddsMessages s.messages q.messages (λ x. OfParts (InTy x) (InEffect x) w) → AddsTypes s q (λ v. OfParts (TyPartOf v) (λ es. ⊥) w) → Keeps q r → Adds q r (over_types w) → Adds s r (a_type w)
+adds_ty w f g l o = record {
+  messages = adds_as (λ x h. ⊎_elim (from_parts w) (λ z. absurd z) h) (λ x h. inl (in_parts h)) (adds_more f l.messages o.messages);
+  types = types_as (λ v h. ⊎_elim (from_ty_parts w) (λ e. subst (λ z. TyPartOf z w) (sym e) whole_ty) h) (λ v h. ty_parts h) (types_more g l o.types);
+}
+
 -- a type without parts, which stays
-type_stays : {s : Store} {vs : List MsgId} {depth : ℕ} {t : TyId} (n : Ty) → ((u : Ty) → Means s t.place u → u ≡ n) → ((f : ℕ → Message → Message) (d : ℕ) → ty_map f d n ≡ n) → ((x : Message) → InTy x n → ⊥) → ((v : Ty) → TyPartOf v n → v ≡ n) → TypeIsAdded s s vs depth t
+type_stays : {s : Store} {vs : List MsgId} {depth : ℕ} {t : TyId} (n : Ty) → ((u : Ty) → Means s t.place u → u ≡ n) → ((f : ℕ → Message → Message) (d : ℕ) → ty_map f d n ≡ n) → ((x : Message) → OfParts (InTy x) (InEffect x) n → ⊥) → ((v : Ty) → OfParts (TyPartOf v) (λ es. ⊥) n → ⊥) → TypeIsAdded s s vs depth t
 type_stays {s} {vs} {t = t} n f g a b = record {
   at = λ d u e m h.
       let q : n ≡ ty_map (fill (values_of s.messages vs)) d u = sym (g (fill (values_of s.messages vs)) d) ∙ ap (ty_map (fill (values_of s.messages vs)) d) (sym (f u m)) in
       let there : Means s t.place n = subst (Means s t.place) (f u m) m in
       subst (λ v. Adds s s (a_type v)) q record {
-        messages = adds_as (λ x p. absurd p) a (adds_none refl);
-        types = record { all = λ v p. record { place = t.place; means = subst (Means s t.place) (sym (b v p)) there }; only = λ i l. inl l };
+        messages = adds_as (λ x p. absurd p) (λ x p. a x (in_parts p)) (adds_none refl);
+        types = record { all = λ v p. record { place = t.place; means = subst (Means s t.place) (sym (⊎_elim (λ z. absurd (b v z)) (λ w. w) (ty_parts p))) there }; only = λ i l. inl l };
       };
 }
 
 pub added_un : {s : Store} {vs : List MsgId} {depth : ℕ} {t : TyId} → ((u : Ty) → Means s t.place u → u ≡ un) → TypeIsAdded s s vs depth t
-added_un f = type_stays un f (λ g d. refl) none part
-  where
-    none : (x : Message) → InTy x un → ⊥
-    none x h = elim h [ ]
-
-    part : (v : Ty) → TyPartOf v un → v ≡ un
-    part v whole_ty = refl
+added_un f = type_stays un f (λ g d. refl) (λ x p. p) (λ v p. p)
 
 pub added_unit_ty : {s : Store} {vs : List MsgId} {depth : ℕ} {t : TyId} → ((u : Ty) → Means s t.place u → u ≡ unit_ty) → TypeIsAdded s s vs depth t
-added_unit_ty f = type_stays unit_ty f (λ g d. refl) none part
-  where
-    none : (x : Message) → InTy x unit_ty → ⊥
-    none x h = elim h [ ]
+added_unit_ty f = type_stays unit_ty f (λ g d. refl) (λ x p. p) (λ v p. p)
 
-    part : (v : Ty) → TyPartOf v unit_ty → v ≡ unit_ty
-    part v whole_ty = refl
+adds_pair : {s p q r : Store} {t u : Ty} → Adds s p (a_type t) → Keeps p q → Adds p q (a_type u) → Keeps q r → Adds q r (over_types (pair_ty t u)) → Adds s r (a_type (pair_ty t u))
+adds_pair {t = t} {u = u} f k g l o = adds_ty (pair_ty t u) (adds_more f.messages k.messages g.messages) (types_more f.types k g.types) l o
 
-adds_pair_ty : {s p q r : Store} {t u : Ty} → Adds s p (a_type t) → Keeps p q → Adds p q (a_type u) → Keeps q r → Adds q r (over_types (pair_ty t u)) → Adds s r (a_type (pair_ty t u))
-adds_pair_ty {t = t} {u = u} f k g l o = record {
-  messages = adds_as to from (adds_more (adds_more f.messages k.messages g.messages) l.messages o.messages);
-  types = types_as up down (types_more (types_more f.types k g.types) l o.types);
-}
-  where
-    to : (x : Message) → (InTy x t ⊎ InTy x u) ⊎ ⊥ → InTy x (pair_ty t u)
-    to x (inl (inl a)) = in_pair_first a
-    to x (inl (inr b)) = in_pair_second b
-    to x (inr c) = absurd c
+adds_sum : {s p q r : Store} {t u : Ty} → Adds s p (a_type t) → Keeps p q → Adds p q (a_type u) → Keeps q r → Adds q r (over_types (sum_ty t u)) → Adds s r (a_type (sum_ty t u))
+adds_sum {t = t} {u = u} f k g l o = adds_ty (sum_ty t u) (adds_more f.messages k.messages g.messages) (types_more f.types k g.types) l o
 
-    from : (x : Message) → InTy x (pair_ty t u) → (InTy x t ⊎ InTy x u) ⊎ ⊥
-    from x (in_pair_first a) = inl (inl a)
-    from x (in_pair_second b) = inl (inr b)
-
-    up : (v : Ty) → (TyPartOf v t ⊎ TyPartOf v u) ⊎ (v ≡ pair_ty t u) → TyPartOf v (pair_ty t u)
-    up v (inl (inl a)) = of_pair_first a
-    up v (inl (inr b)) = of_pair_second b
-    up v (inr w) = subst (λ z. TyPartOf z (pair_ty t u)) (sym w) whole_ty
-
-    down : (v : Ty) → TyPartOf v (pair_ty t u) → (TyPartOf v t ⊎ TyPartOf v u) ⊎ (v ≡ pair_ty t u)
-    down v whole_ty = inr refl
-    down v (of_pair_first a) = inl (inl a)
-    down v (of_pair_second b) = inl (inr b)
-
-adds_sum_ty : {s p q r : Store} {t u : Ty} → Adds s p (a_type t) → Keeps p q → Adds p q (a_type u) → Keeps q r → Adds q r (over_types (sum_ty t u)) → Adds s r (a_type (sum_ty t u))
-adds_sum_ty {t = t} {u = u} f k g l o = record {
-  messages = adds_as to from (adds_more (adds_more f.messages k.messages g.messages) l.messages o.messages);
-  types = types_as up down (types_more (types_more f.types k g.types) l o.types);
-}
-  where
-    to : (x : Message) → (InTy x t ⊎ InTy x u) ⊎ ⊥ → InTy x (sum_ty t u)
-    to x (inl (inl a)) = in_sum_left a
-    to x (inl (inr b)) = in_sum_right b
-    to x (inr c) = absurd c
-
-    from : (x : Message) → InTy x (sum_ty t u) → (InTy x t ⊎ InTy x u) ⊎ ⊥
-    from x (in_sum_left a) = inl (inl a)
-    from x (in_sum_right b) = inl (inr b)
-
-    up : (v : Ty) → (TyPartOf v t ⊎ TyPartOf v u) ⊎ (v ≡ sum_ty t u) → TyPartOf v (sum_ty t u)
-    up v (inl (inl a)) = of_sum_left a
-    up v (inl (inr b)) = of_sum_right b
-    up v (inr w) = subst (λ z. TyPartOf z (sum_ty t u)) (sym w) whole_ty
-
-    down : (v : Ty) → TyPartOf v (sum_ty t u) → (TyPartOf v t ⊎ TyPartOf v u) ⊎ (v ≡ sum_ty t u)
-    down v whole_ty = inr refl
-    down v (of_sum_left a) = inl (inl a)
-    down v (of_sum_right b) = inl (inr b)
-
-adds_key_ty : {s p r : Store} {t : Ty} → Adds s p (a_type t) → Keeps p r → Adds p r (over_types (key t)) → Adds s r (a_type (key t))
-adds_key_ty {t = t} f l o = record {
-  messages = adds_as to from (adds_more f.messages l.messages o.messages);
-  types = types_as up down (types_more f.types l o.types);
-}
-  where
-    to : (x : Message) → InTy x t ⊎ ⊥ → InTy x (key t)
-    to x (inl a) = in_key a
-    to x (inr c) = absurd c
-
-    from : (x : Message) → InTy x (key t) → InTy x t ⊎ ⊥
-    from x (in_key a) = inl a
-
-    up : (v : Ty) → TyPartOf v t ⊎ (v ≡ key t) → TyPartOf v (key t)
-    up v (inl a) = of_payload a
-    up v (inr w) = subst (λ z. TyPartOf z (key t)) (sym w) whole_ty
-
-    down : (v : Ty) → TyPartOf v (key t) → TyPartOf v t ⊎ (v ≡ key t)
-    down v whole_ty = inr refl
-    down v (of_payload a) = inl a
+adds_key : {s q r : Store} {t : Ty} → Adds s q (a_type t) → Keeps q r → Adds q r (over_types (key t)) → Adds s r (a_type (key t))
+adds_key {t = t} f l o = adds_ty (key t) f.messages f.types l o
 
 -- effects with equal counts are over the same messages
 effect_has : (x : Message) (es : Effect) → InEffect x es → (a : Atom) × In a es × PartOf x (message_of a)
@@ -381,7 +324,7 @@ pub added_pair_ty : {E : Type 0} {s p q : Store} (r : Store) {vs : List MsgId} {
 added_pair_ty {s = s} r {vs = vs} t k v f fa n l g ga j (Ok id) h = record {
   at = λ d u e m c.
       let z = t.at u m in
-      subst (λ w. Adds s r (a_type (ty_map (fill (values_of s.messages vs)) d w))) (sym z.2) (adds_pair_ty (fa.at d z.0 e z.3 c) l (later_type k v ga (suc d) (n d e) z.4 c) j (h _ _ (means_keeps l (f.at d z.0 e z.3)) (later_means k v g (suc d) (n d e) z.4)));
+      subst (λ w. Adds s r (a_type (ty_map (fill (values_of s.messages vs)) d w))) (sym z.2) (adds_pair (fa.at d z.0 e z.3 c) l (later_type k v ga (suc d) (n d e) z.4 c) j (h _ _ (means_keeps l (f.at d z.0 e z.3)) (later_means k v g (suc d) (n d e) z.4)));
 }
 added_pair_ty r t k v f fa n l g ga j (Err e) h = tt
 
@@ -389,7 +332,7 @@ pub added_sum_ty : {E : Type 0} {s p q : Store} (r : Store) {vs : List MsgId} {d
 added_sum_ty {s = s} r {vs = vs} t k v f fa l g ga j (Ok id) h = record {
   at = λ d u e m c.
       let z = t.at u m in
-      subst (λ w. Adds s r (a_type (ty_map (fill (values_of s.messages vs)) d w))) (sym z.2) (adds_sum_ty (fa.at d z.0 e z.3 c) l (later_type k v ga d e z.4 c) j (h _ _ (means_keeps l (f.at d z.0 e z.3)) (later_means k v g d e z.4)));
+      subst (λ w. Adds s r (a_type (ty_map (fill (values_of s.messages vs)) d w))) (sym z.2) (adds_sum (fa.at d z.0 e z.3 c) l (later_type k v ga d e z.4 c) j (h _ _ (means_keeps l (f.at d z.0 e z.3)) (later_means k v g d e z.4)));
 }
 added_sum_ty r t k v f fa l g ga j (Err e) h = tt
 
@@ -397,7 +340,7 @@ pub added_key_ty : {E : Type 0} {s p : Store} (r : Store) {vs : List MsgId} {dep
 added_key_ty {s = s} r {vs = vs} t f fa j (Ok id) h = record {
   at = λ d u e m c.
       let z = t.at u m in
-      subst (λ w. Adds s r (a_type (ty_map (fill (values_of s.messages vs)) d w))) (sym z.1) (adds_key_ty (fa.at d z.0 e z.2 c) j (h _ (f.at d z.0 e z.2)));
+      subst (λ w. Adds s r (a_type (ty_map (fill (values_of s.messages vs)) d w))) (sym z.1) (adds_key (fa.at d z.0 e z.2 c) j (h _ (f.at d z.0 e z.2)));
 }
 added_key_ty r t f fa j (Err e) h = tt
 

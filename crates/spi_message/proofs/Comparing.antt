@@ -1,6 +1,6 @@
 -- What typing messages gives numbers to, form by form.
-use Rattle.std.proofs.Common.{◌≡◌, ℕ, zero, suc, ◌<◌, Bool, true, List, [], ◌∷◌, ◌++◌, Option, Some, None, slice_get, length, refl, sym, ap, subst, ◌∙◌, ⊎_elim, Result, Ok, Err, OnOk, arith}
-use Rattle.spi_term.specs.Term.{Message, bound, name, unit, pair, in_left, in_right, enc, hash, Ty, un, unit_ty, pair_ty, sum_ty, key, nonce}
+use Rattle.std.proofs.Common.{◌≡◌, ℕ, zero, suc, ◌<◌, Bool, true, List, [], ◌∷◌, ◌++◌, Some, slice_get, length, refl, sym, ap, subst, ◌∙◌, ⊎_elim, Result, Ok, Err, OnOk, arith}
+use Rattle.spi_term.specs.Term.{Message, name, pair, enc, Ty, un, pair_ty, sum_ty, key}
 use Rattle.spi_term.specs.Lists.{In, in_first, in_later}
 use Rattle.spi_term.specs.Substitution.{ty_map, ty_put}
 use Rattle.spi_rules.specs.Environment.{Env}
@@ -16,15 +16,16 @@ use Rattle.spi_intern.proofs.Meanings.{means_keeps}
 use Rattle.spi_message.specs.Judging.{StandFor}
 use Rattle.spi_message.specs.Filling.{fill, filled, AllStay, values_of, AreBelow}
 use Rattle.spi_message.specs.Asking.{IsTyped, IsPayload}
-use Rattle.spi_message.specs.Tests.{key_in, key_of, typed}
+use Rattle.spi_message.specs.Tests.{key_of}
 use Rattle.spi_message.specs.Giving.{HasParts, GivesOnly, Opening, itself, of_first as opens_first, of_second as opens_second, of_left as opens_left, of_right as opens_right, Compared, with_un, with_type, with_payload}
 use Rattle.spi_message.specs.Added.{AllHaveParts, TypeIsAdded, TypingGives, LabelGives}
+use Rattle.spi_message.proofs.Deciding.{key_in_some}
 use Rattle.spi_message.proofs.Fills.{message_keeps, values_keep}
 use Rattle.spi_message.proofs.FillsTypes.{TwoTys}
 use Rattle.spi_message.proofs.Added.{parts_keep, all_parts_keep}
 use Rattle.spi_message.proofs.Standing.{stand_keeps}
-use Rattle.spi_message.proofs.Typings.{typed_stays, put_filled, filled_none, none_stay, stay_push}
-use Rattle.spi_message.proofs.Questions.{values_push, below_more}
+use Rattle.spi_message.proofs.Typings.{put_filled, filled_none, none_stay}
+use Rattle.spi_message.proofs.Questions.{values_push, below_more, stay_typed}
 use Rattle.spi_message.proofs.Giving.{gives_none, gives_one, gives_more, gives_as, part_trans, parts_of_part}
 
 pub on_ok : {A E P Q : Type 0} (o : Result A E) → (P → Q) → OnOk o P → OnOk o Q
@@ -77,33 +78,14 @@ compared_payload i p with_un = with_un
 compared_payload i p (with_type o) = with_payload i (opening_part p o)
 compared_payload i p (with_payload j o) = with_payload j (opening_part p o)
 
-key_is : (o : Option Ty) (t : Ty) → key_in o ≡ Some t → o ≡ Some (key t)
-key_is None t h = absurd cc
-key_is (Some un) t h = absurd cc
-key_is (Some unit_ty) t h = absurd cc
-key_is (Some (pair_ty s u)) t h = absurd cc
-key_is (Some (sum_ty s u)) t h = absurd cc
-key_is (Some (key s)) t h = ap (λ o. Some (payload o)) h
-  where
-    payload : Option Ty → Ty
-    payload None = un
-    payload (Some v) = key v
-key_is (Some (nonce es)) t h = absurd cc
-
 get_in : (e : Env) (x : ℕ) (t : Ty) → slice_get e x ≡ Some t → In t e
 get_in [] x t h = absurd cc
 get_in (u ∷ e) zero t h = let q : u ≡ t = cc in subst (λ v. In v (u ∷ e)) q in_first
 get_in (u ∷ e) (suc x) t h = in_later (get_in e x t h)
 
 key_in_env : (e : Env) (m : Message) (t : Ty) → key_of e m ≡ Some t → In (key t) e
-key_in_env e (bound i) t h = absurd cc
-key_in_env e (name x) t h = get_in e x (key t) (key_is (slice_get e x) t h)
-key_in_env e unit t h = absurd cc
-key_in_env e (pair a b) t h = absurd cc
-key_in_env e (in_left a) t h = absurd cc
-key_in_env e (in_right a) t h = absurd cc
-key_in_env e (enc a b) t h = absurd cc
-key_in_env e (hash a) t h = absurd cc
+key_in_env e (name x) t h = get_in e x (key t) (key_in_some (slice_get e x) t h)
+key_in_env e _ t h = absurd cc
 
 -- ---- over a store that has grown
 
@@ -189,12 +171,10 @@ pair_typing {s} {p} {r} {a = a} {d = d} {vs = vs} t h q fa k l j v w g = record 
       let na = message_at s.messages a in
       let nd = message_at s.messages d in
       let z = t.at u m in
-      let f : typed na e (filled us z.0) ≡ true = sym (h.at e z.0 st z.3 stay) ∙ q in
       let s1 : values_of s.messages (vs ++ a ∷ []) ≡ us ++ na ∷ [] = values_push s.messages vs a in
-      let stays : AllStay (us ++ na ∷ []) = stay_push us na stay (typed_stays e na (filled us z.0) f) in
       let ha = parts_of_part (of_first whole) hn in
       let one = gives_as (λ g c. compared_first (compared_part (of_first whole) c)) (fa.at e z.0 st z.3 stay hp ha) in
-      let two : GivesOnly (Compared e nd (filled (values_of s.messages (vs ++ a ∷ [])) z.1)) p r = later_typing k j (below_more {vs = vs} {ws = vs ++ a ∷ []} v l refl) w g e z.1 st z.4 (subst AllStay (sym s1) stays) (subst (AllHaveParts s.messages) (sym s1) (parts_push hp ha)) (parts_of_part (of_second whole) hn) in
+      let two : GivesOnly (Compared e nd (filled (values_of s.messages (vs ++ a ∷ [])) z.1)) p r = later_typing k j (below_more {vs = vs} {ws = vs ++ a ∷ []} v l refl) w g e z.1 st z.4 (stay_typed a h q e z.0 st z.3 stay) (subst (AllHaveParts s.messages) (sym s1) (parts_push hp ha)) (parts_of_part (of_second whole) hn) in
       let put : GivesOnly (Compared e nd (ty_put na (ty_map (fill us) 1 z.1))) p r = subst (λ v. GivesOnly (Compared e nd v) p r) (ap (λ ns. filled ns z.1) s1 ∙ sym (put_filled us stay na z.1)) two in
       subst (λ v. GivesOnly (Compared e (pair na nd) (filled us v)) s r) (sym z.2) (gives_more one (gives_as (λ g c. compared_second (of_first whole) (compared_part (of_second whole) c)) put));
 }

@@ -148,25 +148,21 @@ un_part says_un = refl
 unit_part : {s : Store} {u : Ty} → SaysTy s Part.Unit u → u ≡ unit_ty
 unit_part says_unit = refl
 
-pub pair_ty_of : {s : Store} {t a b : TyId} → ((u : Ty) → Means s t.place u → SaysTy s (Part.Pair a b) u) → IsGiven s t.place → TwoTys s t a b pair_ty
-pair_ty_of {s} {t} {a} {b} f g =
-    let w = pair_parts (f g.type g.means) in
+two_tys_of : {s : Store} {t a b : TyId} (f : Ty → Ty → Ty) → ((v w : Ty) → ty_size (f v w) ≡ suc (ty_size v + ty_size w)) → ((u : Ty) → Means s t.place u → (v : Ty) × (w : Ty) × (u ≡ f v w) × Means s a.place v × Means s b.place w) → IsGiven s t.place → TwoTys s t a b f
+two_tys_of {s} {t} {a} {b} f n h g =
+    let w = h g.type g.means in
     record {
       first = record { type = w.0; means = w.3 };
       second = record { type = w.1; means = w.4 };
-      size = means_size s t g.means ∙ ap ty_size w.2 ∙ sym (λ i. suc (means_size s a w.3 i + means_size s b w.4 i));
-      at = λ u m. pair_parts (f u m);
+      size = means_size s t g.means ∙ ap ty_size w.2 ∙ n w.0 w.1 ∙ sym (λ i. suc (means_size s a w.3 i + means_size s b w.4 i));
+      at = h;
     }
 
+pub pair_ty_of : {s : Store} {t a b : TyId} → ((u : Ty) → Means s t.place u → SaysTy s (Part.Pair a b) u) → IsGiven s t.place → TwoTys s t a b pair_ty
+pair_ty_of f g = two_tys_of pair_ty (λ v w. refl) (λ u m. pair_parts (f u m)) g
+
 pub sum_ty_of : {s : Store} {t a b : TyId} → ((u : Ty) → Means s t.place u → SaysTy s (Part.Sum a b) u) → IsGiven s t.place → TwoTys s t a b sum_ty
-sum_ty_of {s} {t} {a} {b} f g =
-    let w = sum_parts (f g.type g.means) in
-    record {
-      first = record { type = w.0; means = w.3 };
-      second = record { type = w.1; means = w.4 };
-      size = means_size s t g.means ∙ ap ty_size w.2 ∙ sym (λ i. suc (means_size s a w.3 i + means_size s b w.4 i));
-      at = λ u m. sum_parts (f u m);
-    }
+sum_ty_of f g = two_tys_of sum_ty (λ v w. refl) (λ u m. sum_parts (f u m)) g
 
 pub key_ty_of : {s : Store} {t a : TyId} → ((u : Ty) → Means s t.place u → SaysTy s (Part.Key a) u) → IsGiven s t.place → OneTy s t a key
 key_ty_of {s} {t} {a} f g =

@@ -1,30 +1,31 @@
 -- Answers to questions over shared terms, form by form.
 use Rattle.std.proofs.Common.{◌≡◌, ℕ, zero, suc, ◌<◌, Bool, true, false, ◌&&◌, ◌||◌, List, [], ◌∷◌, ◌++◌, Option, Some, None, length, refl, sym, ap, subst, ◌∙◌, arith, Result, Ok, Err, IfOk}
 use Rattle.std.specs.Prelude.{slice_get, nat_lt, IfSome, IfNone, nat_eq}
-use Rattle.std.proofs.lemmas.Bool.{false≢true, eqb-true, eq-eqb}
-use Rattle.spi_term.specs.Term.{Message, bound, name, unit, pair, in_left, in_right, enc, hash, Ty, un, unit_ty, pair_ty, sum_ty, key, nonce}
+use Rattle.std.proofs.lemmas.Bool.{eqb-true, eq-eqb}
+use Rattle.spi_term.specs.Term.{Message, bound, name, unit, pair, in_left, in_right, enc, hash, Ty, un, pair_ty, sum_ty, key}
 use Rattle.spi_term.specs.SameTy.{SameTy}
 use Rattle.spi_term.specs.Substitution.{ty_map, ty_put}
 use Rattle.spi_effect.specs.Made.{same_ty}
 use Rattle.spi_effect.proofs.Made.{same_sound, same_complete}
 use Rattle.spi_rules.specs.Environment.{Env}
-use Rattle.spi_intern.specs.Messages.{Says, says_bound, says_name, says_unit, says_pair, says_left, says_right, says_enc, says_hash, message_at}
+use Rattle.spi_intern.specs.Messages.{Says, says_name, message_at}
 use Rattle.spi_intern.specs.Meaning.{Means, Keeps, NoneTwice}
 use Rattle.spi_intern.specs.Given.{IsGiven}
-use Rattle.spi_intern.specs.Lent.{SaysTy, says_un, says_unit as says_unit_ty, says_pair as says_pair_ty, says_sum, says_key, says_nonce}
+use Rattle.spi_intern.specs.Lent.{SaysTy, says_un, says_unit as says_unit_ty, says_pair as says_pair_ty, says_sum, says_key}
 use Rattle.spi_intern.specs.declared.messages.MsgId.{MsgId}
 use Rattle.spi_intern.specs.declared.messages.MsgPart.{MsgPart}
 use Rattle.spi_intern.specs.declared.messages.MsgPart.TheVariants.{Name}
 use Rattle.spi_intern.specs.declared.types.TyId.{TyId}
 use Rattle.spi_intern.specs.declared.store.Store.{Store}
 use Rattle.spi_intern.specs.declared.store.TyPart.{TyPart}
-use Rattle.spi_intern.specs.declared.store.TyPart.TheVariants.{Un, Unit as NoParts, Pair, Sum, Key, Nonce}
+use Rattle.spi_intern.specs.declared.store.TyPart.TheVariants.{Un, Unit as NoParts, Pair, Sum, Key}
 use Rattle.spi_intern.proofs.Lists.{truths}
 use Rattle.spi_intern.proofs.Meanings.{means_keeps}
 use Rattle.spi_intern.proofs.Telling.{types_tell}
+use Rattle.spi_message.specs.Judging.{StandFor}
 use Rattle.spi_message.specs.Filling.{fill, filled, AllStay, values_of, AreBelow, FillsTy}
 use Rattle.spi_message.specs.Asking.{IsEnvironment, IsAsked, IsTyped, IsLabelled, IsKeyFor, IsNoKey, IsPayload, IsNoPayload}
-use Rattle.spi_message.specs.Tests.{is_un, is_unit, as_name, key_in, key_of, by_key, typed, labelled}
+use Rattle.spi_message.specs.Tests.{is_un, is_unit, as_name, as_pair, as_left, as_right, key_in, key_of, by_key, typed, labelled}
 use Rattle.spi_message.proofs.Deciding.{and_false, key_alone}
 use Rattle.spi_message.proofs.Fills.{message_keeps, below_keeps, values_keep, all_below_keeps, message_there, none_below, Tells}
 use Rattle.spi_message.proofs.FillsTypes.{TwoTys, OneTy, given_keeps}
@@ -32,71 +33,20 @@ use Rattle.spi_message.proofs.Standing.{stand_keeps, stand_at, stand_none_at, en
 use Rattle.spi_message.proofs.Typings.{typed_stays, put_filled, filled_none, none_stay, stay_push}
 
 -- what the outermost constructor of a type says of it
-abbrev part_is_un : TyPart → Bool
-part_is_un Un = true
-part_is_un NoParts = false
-part_is_un (Pair a b) = false
-part_is_un (Sum a b) = false
-part_is_un (Key a) = false
-part_is_un (Nonce ids) = false
+pub not_un_says : {s : Store} {p : TyPart} {u : Ty} → SaysTy s p u → (p ≡ Un → ⊥) → false ≡ is_un u
+not_un_says says_un h = absurd (h refl)
+not_un_says _ h = refl
 
-abbrev part_is_unit : TyPart → Bool
-part_is_unit Un = true
-part_is_unit NoParts = true
-part_is_unit (Pair a b) = false
-part_is_unit (Sum a b) = false
-part_is_unit (Key a) = false
-part_is_unit (Nonce ids) = false
+pub not_unit_says : {s : Store} {p : TyPart} {u : Ty} → SaysTy s p u → (p ≡ Un → ⊥) → (p ≡ NoParts → ⊥) → false ≡ is_unit u
+not_unit_says says_un h k = absurd (h refl)
+not_unit_says says_unit_ty h k = absurd (k refl)
+not_unit_says _ h k = refl
 
-abbrev part_has_pairs : TyPart → Bool
-part_has_pairs Un = true
-part_has_pairs NoParts = false
-part_has_pairs (Pair a b) = true
-part_has_pairs (Sum a b) = false
-part_has_pairs (Key a) = false
-part_has_pairs (Nonce ids) = false
+no_key_says : {s : Store} {p : TyPart} {u : Ty} → SaysTy s p u → ((a : TyId) → p ≡ Key a → ⊥) → key_in (Some u) ≡ None
+no_key_says (says_key {a = a} m) h = absurd (h a refl)
+no_key_says _ h = refl
 
-abbrev part_has_sides : TyPart → Bool
-part_has_sides Un = true
-part_has_sides NoParts = false
-part_has_sides (Pair a b) = false
-part_has_sides (Sum a b) = true
-part_has_sides (Key a) = false
-part_has_sides (Nonce ids) = false
-
-abbrev part_is_key : TyPart → Bool
-part_is_key Un = false
-part_is_key NoParts = false
-part_is_key (Pair a b) = false
-part_is_key (Sum a b) = false
-part_is_key (Key a) = true
-part_is_key (Nonce ids) = false
-
-pub un_says : {s : Store} {p : TyPart} {u : Ty} → SaysTy s p u → part_is_un p ≡ is_un u
-un_says says_un = refl
-un_says says_unit_ty = refl
-un_says (says_pair_ty m n) = refl
-un_says (says_sum m n) = refl
-un_says (says_key m) = refl
-un_says (says_nonce m) = refl
-
-pub unit_says : {s : Store} {p : TyPart} {u : Ty} → SaysTy s p u → part_is_unit p ≡ is_unit u
-unit_says says_un = refl
-unit_says says_unit_ty = refl
-unit_says (says_pair_ty m n) = refl
-unit_says (says_sum m n) = refl
-unit_says (says_key m) = refl
-unit_says (says_nonce m) = refl
-
-no_key_says : {s : Store} {p : TyPart} {u : Ty} → SaysTy s p u → part_is_key p ≡ false → key_in (Some u) ≡ None
-no_key_says says_un h = refl
-no_key_says says_unit_ty h = refl
-no_key_says (says_pair_ty m n) h = refl
-no_key_says (says_sum m n) h = refl
-no_key_says (says_key m) h = absurd (false≢true (sym h))
-no_key_says (says_nonce m) h = refl
-
-pub no_key : {s : Store} {t : TyId} {p : TyPart} → ((u : Ty) → Means s t.place u → SaysTy s p u) → part_is_key p ≡ false → IsNoKey s t
+pub no_key : {s : Store} {t : TyId} {p : TyPart} → ((u : Ty) → Means s t.place u → SaysTy s p u) → ((a : TyId) → p ≡ Key a → ⊥) → IsNoKey s t
 no_key f h = record { at = λ u m. no_key_says (f u m) h }
 
 pub key_for : {s : Store} {t p : TyId} → OneTy s t p key → IsKeyFor s t p
@@ -104,14 +54,8 @@ key_for w = record { at = w.at }
 
 -- a name of a type
 pub no_name : {ms : List Message} {p : MsgPart} {n : Message} (e : Env) → Says ms p n → ((x : ℕ) → p ≡ Name x → ⊥) → key_of e n ≡ None
-no_name e says_bound h = refl
 no_name e (says_name {x = x}) h = absurd (h x refl)
-no_name e says_unit h = refl
-no_name e (says_pair a b) h = refl
-no_name e (says_left a) h = refl
-no_name e (says_right a) h = refl
-no_name e (says_enc a b) h = refl
-no_name e (says_hash a) h = refl
+no_name e _ h = refl
 
 pub no_payload_name : {s : Store} {env : List TyId} {n : Message} {x : ℕ} → n ≡ name x → slice_get env x ≡ None → IsNoPayload s env n
 no_payload_name {n = n} {x = x} q h = record { at = λ e st. ap (key_of e) q ∙ ap key_in (stand_none_at st x h) }
@@ -178,19 +122,11 @@ name_labelled {env = env} {x = x} q = record { at = λ e st. ap (nat_lt x) (stan
 
 un_filled : (vs : List Message) (u : Ty) → is_un (filled vs u) ≡ is_un u
 un_filled vs un = refl
-un_filled vs unit_ty = refl
-un_filled vs (pair_ty t u) = refl
-un_filled vs (sum_ty t u) = refl
-un_filled vs (key t) = refl
-un_filled vs (nonce es) = refl
+un_filled vs _ = refl
 
 unit_filled : (vs : List Message) (u : Ty) → is_unit (filled vs u) ≡ is_unit u
 unit_filled vs un = refl
-unit_filled vs unit_ty = refl
-unit_filled vs (pair_ty t u) = refl
-unit_filled vs (sum_ty t u) = refl
-unit_filled vs (key t) = refl
-unit_filled vs (nonce es) = refl
+unit_filled vs _ = refl
 
 pub unit_typed : {s : Store} {env : List TyId} {n : Message} {t : TyId} {vs : List MsgId} → n ≡ unit → (b : Bool) → ((u : Ty) → Means s t.place u → b ≡ is_unit u) → IsTyped s env n t vs b
 unit_typed {s} {vs = vs} q b f = record { at = λ e u st m a. f u m ∙ sym (unit_filled (values_of s.messages vs) u) ∙ sym (ap (λ n. typed n e (filled (values_of s.messages vs) u)) q) }
@@ -231,38 +167,24 @@ hash_untyped {s} {x = x} {vs = vs} q f w = record {
 }
 
 -- types that a form of message doesn't have
-pair_refused : {s : Store} {p : TyPart} {u : Ty} (a b : Message) (e : Env) (vs : List Message) → SaysTy s p u → part_has_pairs p ≡ false → typed (pair a b) e (filled vs u) ≡ false
-pair_refused a b e vs says_un h = absurd (false≢true (sym h))
-pair_refused a b e vs says_unit_ty h = refl
-pair_refused a b e vs (says_pair_ty m n) h = absurd (false≢true (sym h))
-pair_refused a b e vs (says_sum m n) h = refl
-pair_refused a b e vs (says_key m) h = refl
-pair_refused a b e vs (says_nonce m) h = refl
+not_as_pair : {s : Store} {p : TyPart} {u : Ty} (f g : Ty → Bool) (a : Message) (vs : List Message) → SaysTy s p u → (p ≡ Un → ⊥) → ((x y : TyId) → p ≡ Pair x y → ⊥) → false ≡ as_pair f g a (filled vs u)
+not_as_pair f g a vs says_un h k = absurd (h refl)
+not_as_pair f g a vs (says_pair_ty {a = x} {b = y} m n) h k = absurd (k x y refl)
+not_as_pair f g a vs _ h k = refl
 
-left_refused : {s : Store} {p : TyPart} {u : Ty} (a : Message) (e : Env) (vs : List Message) → SaysTy s p u → part_has_sides p ≡ false → typed (in_left a) e (filled vs u) ≡ false
-left_refused a e vs says_un h = absurd (false≢true (sym h))
-left_refused a e vs says_unit_ty h = refl
-left_refused a e vs (says_pair_ty m n) h = refl
-left_refused a e vs (says_sum m n) h = absurd (false≢true (sym h))
-left_refused a e vs (says_key m) h = refl
-left_refused a e vs (says_nonce m) h = refl
+not_as_side : {s : Store} {p : TyPart} {u : Ty} (f : Ty → Bool) (vs : List Message) → SaysTy s p u → (p ≡ Un → ⊥) → ((x y : TyId) → p ≡ Sum x y → ⊥) → (false ≡ as_left f (filled vs u)) × (false ≡ as_right f (filled vs u))
+not_as_side f vs says_un h k = absurd (h refl)
+not_as_side f vs (says_sum {a = x} {b = y} m n) h k = absurd (k x y refl)
+not_as_side f vs _ h k = (refl, refl)
 
-right_refused : {s : Store} {p : TyPart} {u : Ty} (a : Message) (e : Env) (vs : List Message) → SaysTy s p u → part_has_sides p ≡ false → typed (in_right a) e (filled vs u) ≡ false
-right_refused a e vs says_un h = absurd (false≢true (sym h))
-right_refused a e vs says_unit_ty h = refl
-right_refused a e vs (says_pair_ty m n) h = refl
-right_refused a e vs (says_sum m n) h = absurd (false≢true (sym h))
-right_refused a e vs (says_key m) h = refl
-right_refused a e vs (says_nonce m) h = refl
+pub pair_untyped : {s : Store} {env : List TyId} {a b : Message} {t : TyId} {vs : List MsgId} {p : TyPart} → ((u : Ty) → Means s t.place u → SaysTy s p u) → (p ≡ Un → ⊥) → ((x y : TyId) → p ≡ Pair x y → ⊥) → IsTyped s env (pair a b) t vs false
+pair_untyped {s} {a = a} {b = b} {vs = vs} f h k = record { at = λ e u st m w. not_as_pair (typed a e) (typed b e) a (values_of s.messages vs) (f u m) h k }
 
-pub pair_untyped : {s : Store} {env : List TyId} {a b : Message} {t : TyId} {vs : List MsgId} {p : TyPart} → ((u : Ty) → Means s t.place u → SaysTy s p u) → part_has_pairs p ≡ false → IsTyped s env (pair a b) t vs false
-pair_untyped {s} {a = a} {b = b} {vs = vs} f h = record { at = λ e u st m w. sym (pair_refused a b e (values_of s.messages vs) (f u m) h) }
+pub left_untyped : {s : Store} {env : List TyId} {a : Message} {t : TyId} {vs : List MsgId} {p : TyPart} → ((u : Ty) → Means s t.place u → SaysTy s p u) → (p ≡ Un → ⊥) → ((x y : TyId) → p ≡ Sum x y → ⊥) → IsTyped s env (in_left a) t vs false
+left_untyped {s} {a = a} {vs = vs} f h k = record { at = λ e u st m w. (not_as_side (typed a e) (values_of s.messages vs) (f u m) h k).0 }
 
-pub left_untyped : {s : Store} {env : List TyId} {a : Message} {t : TyId} {vs : List MsgId} {p : TyPart} → ((u : Ty) → Means s t.place u → SaysTy s p u) → part_has_sides p ≡ false → IsTyped s env (in_left a) t vs false
-left_untyped {s} {a = a} {vs = vs} f h = record { at = λ e u st m w. sym (left_refused a e (values_of s.messages vs) (f u m) h) }
-
-pub right_untyped : {s : Store} {env : List TyId} {a : Message} {t : TyId} {vs : List MsgId} {p : TyPart} → ((u : Ty) → Means s t.place u → SaysTy s p u) → part_has_sides p ≡ false → IsTyped s env (in_right a) t vs false
-right_untyped {s} {a = a} {vs = vs} f h = record { at = λ e u st m w. sym (right_refused a e (values_of s.messages vs) (f u m) h) }
+pub right_untyped : {s : Store} {env : List TyId} {a : Message} {t : TyId} {vs : List MsgId} {p : TyPart} → ((u : Ty) → Means s t.place u → SaysTy s p u) → (p ≡ Un → ⊥) → ((x y : TyId) → p ≡ Sum x y → ⊥) → IsTyped s env (in_right a) t vs false
+right_untyped {s} {a = a} {vs = vs} f h k = record { at = λ e u st m w. (not_as_side (typed a e) (values_of s.messages vs) (f u m) h k).1 }
 
 -- one part
 pub left_un : {E : Type 0} {s : Store} (env : List TyId) (a : Message) {t : TyId} (vs : List MsgId) → ((u : Ty) → Means s t.place u → u ≡ un) → (r : Result Bool E) → IfOk r (IsTyped s env a t vs) → IfOk r (IsTyped s env (in_left a) t vs)
@@ -341,6 +263,13 @@ below_push (v ∷ vs) x n f h (suc i) id e = below_push vs x n (λ j. f (suc j))
 pub below_more : {vs ws : List MsgId} {x : MsgId} {n : ℕ} → AreBelow vs n → x.place < n → ws ≡ vs ++ x ∷ [] → AreBelow ws n
 below_more {vs} {x = x} {n = n} h l q = subst (λ us. AreBelow us n) (sym q) record { at = below_push vs x n h.at l }
 
+-- the values with one more, which has a type
+pub stay_typed : {s : Store} {env : List TyId} (a : MsgId) {x : TyId} {vs : List MsgId} {c : Bool} → IsTyped s env (message_at s.messages a) x vs c → c ≡ true → (e : Env) (v : Ty) → StandFor s env e → Means s x.place v → AllStay (values_of s.messages vs) → AllStay (values_of s.messages (vs ++ a ∷ []))
+stay_typed {s} a {vs = vs} h q e v st m w =
+    let us = values_of s.messages vs in
+    let n = message_at s.messages a in
+    subst AllStay (sym (values_push s.messages vs a)) (stay_push us n w (typed_stays e n (filled us v) (sym (h.at e v st m w) ∙ q)))
+
 pub pair_pair : {s r : Store} {env : List TyId} {a d : MsgId} {t x y : TyId} {vs ws : List MsgId} {c b : Bool} → TwoTys s t x y pair_ty → IsTyped s env (message_at s.messages a) x vs c → c ≡ true → Keeps s r → a.place < length s.messages → d.place < length s.messages → AreBelow vs (length s.messages) → ws ≡ vs ++ a ∷ [] → IsTyped r env (message_at r.messages d) y ws b → IsTyped s env (pair (message_at s.messages a) (message_at s.messages d)) t vs b
 pair_pair {s} {a = a} {d = d} {vs = vs} {ws = ws} t h q k l j v p g = record {
   at = λ e u st m w.
@@ -350,8 +279,7 @@ pair_pair {s} {a = a} {d = d} {vs = vs} {ws = ws} t h q k l j v p g = record {
       let z = t.at u m in
       let f : typed na e (filled us z.0) ≡ true = sym (h.at e z.0 st z.3 w) ∙ q in
       let s1 : values_of s.messages (vs ++ a ∷ []) ≡ us ++ na ∷ [] = values_push s.messages vs a in
-      let stays : AllStay (us ++ na ∷ []) = stay_push us na w (typed_stays e na (filled us z.0) f) in
-      (later_typed k j (below_more {vs = vs} {ws = vs ++ a ∷ []} v l refl) p g).at e z.1 st z.4 (subst AllStay (sym s1) stays)
+      (later_typed k j (below_more {vs = vs} {ws = vs ++ a ∷ []} v l refl) p g).at e z.1 st z.4 (stay_typed a h q e z.0 st z.3 w)
       ∙ ap (λ ns. typed nd e (filled ns z.1)) s1
       ∙ ap (typed nd e) (sym (put_filled us w na z.1))
       ∙ ap (λ b. b && typed nd e (ty_put na (ty_map (fill us) 1 z.1))) (sym f)
@@ -374,17 +302,10 @@ pair_unlabelled {a = a} {d = d} w h q = record {
       ap (λ b. b && labelled d e) (sym z) ∙ sym (ap (λ n. labelled n e) w);
 }
 
-pub left_labelled : {E : Type 0} (s : Store) (env : List TyId) {n a : Message} → n ≡ in_left a → (o : Result Bool E) → IfOk o (IsLabelled s env a) → IfOk o (IsLabelled s env n)
-left_labelled s env w (Ok b) h = record { at = λ e st. h.at e st ∙ sym (ap (λ n. labelled n e) w) }
-left_labelled s env w (Err e) h = tt
-
-pub right_labelled : {E : Type 0} (s : Store) (env : List TyId) {n a : Message} → n ≡ in_right a → (o : Result Bool E) → IfOk o (IsLabelled s env a) → IfOk o (IsLabelled s env n)
-right_labelled s env w (Ok b) h = record { at = λ e st. h.at e st ∙ sym (ap (λ n. labelled n e) w) }
-right_labelled s env w (Err e) h = tt
-
-pub hash_labelled : {E : Type 0} (s : Store) (env : List TyId) {n a : Message} → n ≡ hash a → (o : Result Bool E) → IfOk o (IsLabelled s env a) → IfOk o (IsLabelled s env n)
-hash_labelled s env w (Ok b) h = record { at = λ e st. h.at e st ∙ sym (ap (λ n. labelled n e) w) }
-hash_labelled s env w (Err e) h = tt
+-- the label of a part
+pub part_labelled : {E : Type 0} (s : Store) (env : List TyId) (n a : Message) → ((e : Env) → labelled n e ≡ labelled a e) → (o : Result Bool E) → IfOk o (IsLabelled s env a) → IfOk o (IsLabelled s env n)
+part_labelled s env n a w (Ok b) h = record { at = λ e st. h.at e st ∙ sym (w e) }
+part_labelled s env n a w (Err e) h = tt
 
 -- ciphertexts
 and_true : (b : Bool) → (b && true) ≡ b

@@ -1,5 +1,5 @@
 -- What a judge stands for, and its answers as tests.
-use Rattle.std.proofs.Common.{◌≡◌, ◌↔◌, ℕ, ◌<◌, Bool, true, false, [], Some, None, length, refl, sym, ap, subst, ◌∙◌, arith, Result, Ok, Err, IfOk}
+use Rattle.std.proofs.Common.{◌≡◌, ◌↔◌, ℕ, ◌<◌, Bool, true, false, List, [], Some, None, length, refl, sym, ap, subst, ◌∙◌, arith, Result, Ok, Err, IfOk}
 use Rattle.std.specs.Prelude.{slice_get}
 use Rattle.std.proofs.lemmas.Option.{slice_get_past}
 use Rattle.spi_term.specs.Term.{Message, name, Ty, un, nonce}
@@ -8,12 +8,13 @@ use Rattle.spi_rules.specs.Messages.{HasType, IsLabel}
 use Rattle.spi_rules.specs.Good.{GoodTy}
 use Rattle.spi_intern.specs.Given.{IsGiven}
 use Rattle.spi_intern.specs.Meaning.{Means}
-use Rattle.spi_intern.specs.Lent.{SaysTy, says_un, says_unit, says_pair, says_sum, says_key, says_nonce}
+use Rattle.spi_intern.specs.Lent.{SaysTy, says_nonce}
 use Rattle.spi_intern.specs.declared.messages.MsgId.{MsgId}
 use Rattle.spi_intern.specs.declared.types.TyId.{TyId}
+use Rattle.spi_intern.specs.declared.atoms.AtomId.{AtomId}
 use Rattle.spi_intern.specs.declared.store.Store.{Store}
 use Rattle.spi_intern.specs.declared.store.TyPart.{TyPart}
-use Rattle.spi_intern.specs.declared.store.TyPart.TheVariants.{Un, Unit as NoParts, Pair, Sum, Key, Nonce}
+use Rattle.spi_intern.specs.declared.store.TyPart.TheVariants.{Nonce}
 use Rattle.spi_intern.proofs.Lists.{truths}
 use Rattle.spi_intern.proofs.Meanings.{terms_same, terms_more}
 use Rattle.spi_message.specs.Judging.{Numbered, Stands, StandFor, IsKept}
@@ -23,6 +24,7 @@ use Rattle.spi_message.proofs.Deciding.{typed_true, typed_from, labelled_true, l
 use Rattle.spi_message.proofs.Standing.{stand_keeps, stand_at, stand_none_at}
 use Rattle.spi_message.specs.Forms.{is_nonce}
 use Rattle.spi_message.specs.Tested.{IsTest, IsNonceAt, IsNoNonce}
+use denote.Ref.{Bor}
 
 pub kept_more : {a b c : Numbered} → IsKept a b → IsKept b c → IsKept a c
 kept_more k l = record { store = terms_more k.store l.store; free = l.free ∙ k.free; types = l.types ∙ k.types }
@@ -66,21 +68,9 @@ good_test j k t u h w (Ok b) f = record {
 good_test j k t u h w (Err x) f = tt
 
 -- names of Nonce types
-abbrev part_is_nonce : TyPart → Bool
-part_is_nonce Un = false
-part_is_nonce NoParts = false
-part_is_nonce (Pair a b) = false
-part_is_nonce (Sum a b) = false
-part_is_nonce (Key a) = false
-part_is_nonce (Nonce ids) = true
-
-pub nonce_says : {s : Store} {p : TyPart} {u : Ty} → SaysTy s p u → part_is_nonce p ≡ is_nonce (nonce_in (Some u))
-nonce_says says_un = refl
-nonce_says says_unit = refl
-nonce_says (says_pair m n) = refl
-nonce_says (says_sum m n) = refl
-nonce_says (says_key m) = refl
-nonce_says (says_nonce m) = refl
+pub not_nonce_says : {s : Store} {p : TyPart} {u : Ty} → SaysTy s p u → ((ids : Bor (List AtomId)) → p ≡ Nonce ids → ⊥) → false ≡ is_nonce (nonce_in (Some u))
+not_nonce_says (says_nonce {ids = ids} m) h = absurd (h ids refl)
+not_nonce_says _ h = refl
 
 pub nonce_there : (u : Ty) → is_nonce (nonce_in (Some u)) ≡ true → (es : _) × (u ≡ nonce es)
 nonce_there un h = absurd (cc)

@@ -2,46 +2,25 @@
 use Rattle.std.proofs.Common.{◌≡◌, ℕ, zero, suc, ◌-◌, ◌<◌, ◌≤◌, Bool, true, false, List, [], ◌∷◌, ◌++◌, Option, Some, None, length, refl, sym, ap, subst, ◌∙◌, arith, ⊎_elim, ◌⊎◌, inl, inr}
 use Rattle.std.specs.Prelude.{slice_get, nat_lt, if◌then◌else◌, ⊤}
 use Rattle.std.proofs.lemmas.Bool.{lt-ltb, le-ltb, eq-eqb, ne_eqb, ltb-true, ltb-false}
-use Rattle.spi_term.specs.Term.{Message, bound, name, unit, pair, in_left, in_right, enc, hash, Ty}
+use Rattle.spi_term.specs.Term.{Message, bound, name, unit, pair, in_left, in_right, enc, hash, Effect, Ty}
 use Rattle.spi_term.specs.Substitution.{put, ty_map, ty_put}
 use Rattle.spi_term.specs.Names.{MessageOver}
+use Rattle.spi_term.specs.Lists.{In}
 use Rattle.spi_term.proofs.Terms.{put_closed}
 use Rattle.spi_term.proofs.Maps.{fixed_ty, joined_ty, each_ty}
 use Rattle.spi_rules.specs.Environment.{Env}
-use Rattle.spi_rules.specs.Messages.{HasType, msg_name, msg_unit, msg_unit_un, msg_pair, msg_pair_un, msg_inl, msg_inl_un, msg_inr, msg_inr_un, msg_enc, msg_enc_un, msg_hash, msg_cast, IsLabel, label_name, label_unit, label_pair, label_inl, label_inr, label_enc, label_hash}
-use Rattle.spi_rules.proofs.Typing.{at_below}
+use Rattle.spi_rules.specs.Messages.{cast_of}
+use Rattle.spi_rules.proofs.Good.{type_over}
 use Rattle.spi_message.specs.Filling.{last_but, value_of, or_bound, fill, filled, AllStay}
 use Rattle.spi_message.specs.Tests.{typed}
 use Rattle.spi_message.proofs.Deciding.{typed_true}
 
--- a message that has a type, or is a label, has no loose index
-mutual
-  pub type_over : {e : Env} {m : Message} {t : Ty} → HasType [] e m t → MessageOver (length e) 0 m
-  type_over (msg_name a s) = at_below a
-  type_over msg_unit = tt
-  type_over msg_unit_un = tt
-  type_over (msg_pair h g) = (type_over h, type_over g)
-  type_over (msg_pair_un h g) = (type_over h, type_over g)
-  type_over (msg_inl h) = type_over h
-  type_over (msg_inl_un h) = type_over h
-  type_over (msg_inr h) = type_over h
-  type_over (msg_inr_un h) = type_over h
-  type_over (msg_enc h a) = (type_over h, at_below a)
-  type_over (msg_enc_un h g) = (type_over h, type_over g)
-  type_over (msg_hash l) = label_over l
-  type_over (msg_cast i s) = elim i [ ]
-
-  pub label_over : {e : Env} {m : Message} → IsLabel [] e m → MessageOver (length e) 0 m
-  label_over (label_name a) = at_below a
-  label_over label_unit = tt
-  label_over (label_pair h g) = (label_over h, label_over g)
-  label_over (label_inl h) = label_over h
-  label_over (label_inr h) = label_over h
-  label_over (label_enc h) = type_over h
-  label_over (label_hash h) = label_over h
+-- a message that has a type has no loose index
+no_casts : (e : Env) (m : Message) (fs : Effect) → In (cast_of m fs) [] → MessageOver (length e) 0 m
+no_casts e m fs i = elim i [ ]
 
 pub typed_stays : (e : Env) (m : Message) (t : Ty) → typed m e t ≡ true → (n : Message) (d : ℕ) → put n d m ≡ m
-typed_stays e m t h n d = put_closed (length e) n d m (type_over (typed_true m e t h))
+typed_stays e m t h n d = put_closed (length e) n d m (type_over (λ m fs i. no_casts e m fs i) (typed_true m e t h))
 
 -- the last values
 length_push : {A : Type 0} (xs : List A) (x : A) → length (xs ++ x ∷ []) ≡ suc (length xs)

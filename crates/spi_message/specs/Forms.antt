@@ -1,6 +1,6 @@
 -- Forms as they are entered: the types that a form binds, and its processes with their binders opened.
 use Rattle.std.specs.Prelude.{ℕ, zero, suc, Bool, true, false, [], ◌∷◌, length, Option, Some, None}
-use Rattle.spi_term.specs.Term.{name, Effect, Ty, un, unit_ty, pair_ty, sum_ty, key, nonce, Prefix, Recvs, Serves, Splits, Selects, Decrypts, Checks, Begins, Ends, EndManys, Casts, Makes, Fork, Cases, Pars, Process}
+use Rattle.spi_term.specs.Term.{name, Effect, Ty, nonce, Prefix, Recvs, Serves, Splits, Selects, Decrypts, Checks, Begins, Ends, EndManys, Casts, Makes, Fork, Cases, Pars, Process}
 use Rattle.spi_term.specs.Substitution.{process_map, put, ty_put}
 use Rattle.spi_rules.specs.Environment.{Env}
 
@@ -33,12 +33,8 @@ on_rest (Cases m t u) = u ∷ []
 
 -- the effect of a type that is cast to
 abbrev pub cast_effect_of : Ty → Effect
-cast_effect_of un = []
-cast_effect_of unit_ty = []
-cast_effect_of (pair_ty t u) = []
-cast_effect_of (sum_ty t u) = []
-cast_effect_of (key t) = []
 cast_effect_of (nonce es) = es
+cast_effect_of _ = []
 
 -- whether there is an effect
 abbrev pub is_nonce : Option Effect → Bool

@@ -17,11 +17,7 @@ pub fn is_un_type(store: &Store, t: TyId) -> bool
 {
     match store.ty_part(t) {
         TyPart::Un => true,
-        TyPart::Unit => false,
-        TyPart::Pair(_, _) => false,
-        TyPart::Sum(_, _) => false,
-        TyPart::Key(_) => false,
-        TyPart::Nonce(_) => false,
+        _ => false,
     }
 }
 
@@ -33,10 +29,7 @@ pub fn is_unit_type(store: &Store, t: TyId) -> bool
     match store.ty_part(t) {
         TyPart::Un => true,
         TyPart::Unit => true,
-        TyPart::Pair(_, _) => false,
-        TyPart::Sum(_, _) => false,
-        TyPart::Key(_) => false,
-        TyPart::Nonce(_) => false,
+        _ => false,
     }
 }
 
@@ -46,12 +39,8 @@ pub fn is_nonce_type(store: &Store, t: TyId) -> bool
     ensures { (u : TypeTerm) → Means store.now t.place u → result ≡ is_nonce (nonce_in (Some u)) }
 {
     match store.ty_part(t) {
-        TyPart::Un => false,
-        TyPart::Unit => false,
-        TyPart::Pair(_, _) => false,
-        TyPart::Sum(_, _) => false,
-        TyPart::Key(_) => false,
         TyPart::Nonce(_) => true,
+        _ => false,
     }
 }
 
@@ -62,11 +51,7 @@ pub fn payload_of(store: &Store, t: TyId) -> Option<TyId>
     ensures none { IfNone result (IsNoKey store.now t) }
 {
     match store.ty_part(t) {
-        TyPart::Un => None,
-        TyPart::Unit => None,
-        TyPart::Pair(_, _) => None,
-        TyPart::Sum(_, _) => None,
         TyPart::Key(payload) => Some(payload),
-        TyPart::Nonce(_) => None,
+        _ => None,
     }
 }

@@ -129,7 +129,6 @@ fn pair_has_type(
                 Ok(false)
             }
         }
-        TyPart::Unit => Ok(false),
         TyPart::Pair(first, second) => {
             if !has_type(alloc, store, env, a, first, values)? {
                 return Ok(false);
@@ -140,9 +139,7 @@ fn pair_has_type(
             values.truncate(count);
             Ok(answer)
         }
-        TyPart::Sum(_, _) => Ok(false),
-        TyPart::Key(_) => Ok(false),
-        TyPart::Nonce(_) => Ok(false),
+        _ => Ok(false),
     }
 }
 
@@ -167,11 +164,8 @@ fn left_has_type(
 {
     match store.ty_part(t) {
         TyPart::Un => has_type(alloc, store, env, a, t, values),
-        TyPart::Unit => Ok(false),
-        TyPart::Pair(_, _) => Ok(false),
         TyPart::Sum(left, _) => has_type(alloc, store, env, a, left, values),
-        TyPart::Key(_) => Ok(false),
-        TyPart::Nonce(_) => Ok(false),
+        _ => Ok(false),
     }
 }
 
@@ -196,11 +190,8 @@ fn right_has_type(
 {
     match store.ty_part(t) {
         TyPart::Un => has_type(alloc, store, env, a, t, values),
-        TyPart::Unit => Ok(false),
-        TyPart::Pair(_, _) => Ok(false),
         TyPart::Sum(_, right) => has_type(alloc, store, env, a, right, values),
-        TyPart::Key(_) => Ok(false),
-        TyPart::Nonce(_) => Ok(false),
+        _ => Ok(false),
     }
 }
 

@@ -23,12 +23,8 @@ pub fn is_nonce_type(t: &Ty) -> bool
     ensures { result ≡ is_nonce (nonce_in (Some (ty t.now))) }
 {
     match t {
-        Ty::Un => false,
-        Ty::Unit => false,
-        Ty::Pair(_, _) => false,
-        Ty::Sum(_, _) => false,
-        Ty::Key(_) => false,
         Ty::Nonce(_) => true,
+        _ => false,
     }
 }
 
@@ -38,11 +34,7 @@ pub fn payload_of(t: &Ty) -> Option<&Ty>
     ensures none { IfNone result (key_in (Some (ty t.now)) ≡ None) }
 {
     match t {
-        Ty::Un => None,
-        Ty::Unit => None,
-        Ty::Pair(_, _) => None,
-        Ty::Sum(_, _) => None,
         Ty::Key(u) => Some(u),
-        Ty::Nonce(_) => None,
+        _ => None,
     }
 }

@@ -1,7 +1,7 @@
 -- A process is an opponent exactly where each of its nodes is allowed.
 use Rattle.std.proofs.Common.{◌≡◌, ℕ, zero, suc, ◌<◌, List, [], ◌∷◌, ◌++◌, length, subst, refl, arith}
 use Rattle.std.specs.Prelude.{slice_get, Some, ⊤}
-use Rattle.spi_term.specs.Term.{Message, Ty, un, unit_ty, pair_ty, sum_ty, key, nonce, Sends, Stops, Recvs, Serves, Splits, Selects, Decrypts, Checks, Begins, Ends, EndManys, Casts, Makes, Cases, Pars, Process, leaf, prefix, fork}
+use Rattle.spi_term.specs.Term.{Message, Ty, un, Sends, Stops, Recvs, Serves, Splits, Selects, Decrypts, Checks, Begins, Ends, EndManys, Casts, Makes, Cases, Pars, Process, leaf, prefix, fork}
 use Rattle.spi_term.specs.Substitution.{ty_map}
 use Rattle.spi_term.specs.Spelling.{Shape, flat, numbered}
 use Rattle.spi_run.specs.Opponent.{IsUn, IsOpponent}
@@ -26,19 +26,11 @@ all_both (x ∷ xs) ys h k = (h.0, all_both xs ys h.1 k)
 -- a map of messages changes no annotation that is Un, and makes none
 un_kept : (f : ℕ → Message → Message) (k : ℕ) (t : Ty) → IsUn t → IsUn (ty_map f k t)
 un_kept f k un h = tt
-un_kept f k unit_ty h = absurd h
-un_kept f k (pair_ty t u) h = absurd h
-un_kept f k (sum_ty t u) h = absurd h
-un_kept f k (key t) h = absurd h
-un_kept f k (nonce es) h = absurd h
+un_kept f k _ h = absurd h
 
 un_was : (f : ℕ → Message → Message) (k : ℕ) (t : Ty) → IsUn (ty_map f k t) → IsUn t
 un_was f k un h = tt
-un_was f k unit_ty h = absurd h
-un_was f k (pair_ty t u) h = absurd h
-un_was f k (sum_ty t u) h = absurd h
-un_was f k (key t) h = absurd h
-un_was f k (nonce es) h = absurd h
+un_was f k _ h = absurd h
 
 pub allowed_of : (p : Process) (names : List ℕ) (i k : ℕ) → IsOpponent p → AllAllowed (flat i k (numbered names k p))
 allowed_of (leaf l) names i k h = (tt, tt)

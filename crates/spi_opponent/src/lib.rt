@@ -51,61 +51,15 @@ fn is_allowed(node: &Node) -> bool
     ensures { IsTrue result ↔ Allowed (shape_of node.now) }
 {
     match &node.form {
-        Form::Send {
-            channel: _,
-            datum: _,
-        } => true,
-        Form::Recv {
-            channel: _,
-            ty,
-            body: _,
-        } => is_un(ty),
-        Form::Serve {
-            channel: _,
-            ty,
-            body: _,
-        } => is_un(ty),
-        Form::Split {
-            whole: _,
-            first,
-            second,
-            body: _,
-        } => is_un(first) && is_un(second),
-        Form::Select {
-            whole: _,
-            first,
-            equal: _,
-            second,
-            body: _,
-        } => is_un(first) && is_un(second),
-        Form::Branch {
-            whole: _,
-            left,
-            on_left: _,
-            right,
-            on_right: _,
-        } => is_un(left) && is_un(right),
-        Form::Decrypt {
-            whole: _,
-            ty,
-            key: _,
-            body: _,
-        } => is_un(ty),
-        Form::Check {
-            whole: _,
-            nonce: _,
-            body: _,
-        } => true,
-        Form::Begin { label: _, body: _ } => false,
-        Form::End { label: _, body: _ } => false,
-        Form::EndMany { label: _, body: _ } => false,
-        Form::Cast {
-            whole: _,
-            ty,
-            body: _,
-        } => is_un(ty),
-        Form::Fresh { ty, body: _ } => is_un(ty),
-        Form::Par { first: _, rest: _ } => true,
-        Form::Stop => true,
+        Form::Send { .. } | Form::Check { .. } | Form::Par { .. } | Form::Stop => true,
+        Form::Begin { .. } | Form::End { .. } | Form::EndMany { .. } => false,
+        Form::Recv { ty, .. }
+        | Form::Serve { ty, .. }
+        | Form::Decrypt { ty, .. }
+        | Form::Cast { ty, .. }
+        | Form::Fresh { ty, .. } => is_un(ty),
+        Form::Split { first, second, .. } | Form::Select { first, second, .. } => is_un(first)
+            && is_un(second),
+        Form::Branch { left, right, .. } => is_un(left) && is_un(right),
     }
 }

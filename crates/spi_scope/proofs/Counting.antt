@@ -1,7 +1,7 @@
 -- What the points add, and what they rule out: the process has at most as many nodes as were counted, and its messages
 -- and types are small.
 use Rattle.std.proofs.Common.{◌≡◌, ℕ, ◌+◌, ◌<◌, ◌≤◌, List, [], ◌∷◌, ◌++◌, length, refl, sym, ap, ◌∙◌, arith, ⊎_elim}
-use Rattle.std.specs.Prelude.{Option, Some, None, Ok, Err, if◌then◌else◌}
+use Rattle.std.specs.Prelude.{Option, Some, None, Ok, Err, if◌then◌else◌, nat_lt}
 use Rattle.std.proofs.lemmas.Bool.{cases_lt, lt-ltb}
 use Rattle.spi_text.specs.declared.lines.Span.{Span}
 use Rattle.spi_tree.specs.declared.tree.SWord.{SWord}
@@ -106,20 +106,13 @@ Passes (one (adds n s)) = Unit {0}
 Passes (one (starts_step i n s)) = Unit {0}
 Passes (ps ⨾ qs) = Passes ps × Passes qs
 
-passed_message : (c d n : ℕ) (s : Span) → run (one (ends_message n s)) c ≡ Ok d → n ≤ 200
-passed_message c d n s e = ⊎_elim large (λ h. h) (cases_lt 200 n)
+-- what is passed at a limit is within it
+pub passed_limit : (c d limit n : ℕ) (f : ScopeFault) → unless (if nat_lt limit n then Some f else None) c ≡ Ok d → n ≤ limit
+passed_limit c d limit n f e = ⊎_elim large (λ h. h) (cases_lt limit n)
   where
-    large : 200 < n → n ≤ 200
+    large : limit < n → n ≤ limit
     large h =
-        let f : Err (MessageTooLarge s (stopped n)) ≡ Ok d = sym (ap (λ b. unless (if b then Some (MessageTooLarge s (stopped n)) else None) (c + 0)) (lt-ltb 200 n h)) ∙ e in
-        absurd (cc)
-
-passed_type : (c d n : ℕ) (s : Span) → run (one (ends_type n s)) c ≡ Ok d → n ≤ 1000
-passed_type c d n s e = ⊎_elim large (λ h. h) (cases_lt 1000 n)
-  where
-    large : 1000 < n → n ≤ 1000
-    large h =
-        let f : Err (TypeTooLarge s (stopped n)) ≡ Ok d = sym (ap (λ b. unless (if b then Some (TypeTooLarge s (stopped n)) else None) (c + 0)) (lt-ltb 1000 n h)) ∙ e in
+        let g : Err f ≡ Ok d = sym (ap (λ b. unless (if b then Some f else None) c) (lt-ltb limit n h)) ∙ e in
         absurd (cc)
 
 pub passed : (ps : Points) (c d : ℕ) → run ps c ≡ Ok d → Passes ps
@@ -128,8 +121,8 @@ passed (one (uses_name xs w)) c d e = tt
 passed (one (uses_type ts w)) c d e = tt
 passed (one (declares_name xs w)) c d e = tt
 passed (one (declares_type ts w)) c d e = tt
-passed (one (ends_message n s)) c d e = passed_message c d n s e
-passed (one (ends_type n s)) c d e = passed_type c d n s e
+passed (one (ends_message n s)) c d e = passed_limit (c + 0) d 200 n (MessageTooLarge s (stopped n)) e
+passed (one (ends_type n s)) c d e = passed_limit (c + 0) d 1000 n (TypeTooLarge s (stopped n)) e
 passed (one (adds n s)) c d e = tt
 passed (one (starts_step i n s)) c d e = tt
 passed (ps ⨾ qs) c d e = by (run ps c) (λ m. passed ps c m) (λ m. passed qs m d) e

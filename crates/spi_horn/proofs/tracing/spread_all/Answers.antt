@@ -1,4 +1,4 @@
-use Rattle.std.proofs.Common.{◌∙◌, ◌-◌, arith}
+use Rattle.std.proofs.Common.{◌∙◌, arith}
 use Rattle.spi_horn.proofs.Spreading.{spread_back}
 use Rattle.spi_horn.proofs.tracing.spread_all.Goals as goal
 

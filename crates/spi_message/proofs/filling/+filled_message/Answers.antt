@@ -1,6 +1,6 @@
 use Rattle.std.proofs.Common.{arith}
 use Rattle.spi_message.proofs.Fills.{below_keeps, size_keeps, all_below_keeps, pair_of, enc_of, left_of, right_of, hash_of, bound_of, name_of, unit_of, over_pair, over_enc, over_left, over_right, over_hash, fills_name, fills_unit, fills_value, fills_bound, fills_pair, fills_enc, fills_left, fills_right, fills_hash}
-use Rattle.spi_message.proofs.Added.{added_value, added_bound, added_name, added_unit, added_pair, added_enc, added_left, added_right, added_hash}
+use Rattle.spi_message.proofs.Added.{added_value, added_bound, added_name, added_unit, pair_joins, enc_joins, left_wraps, right_wraps, hash_wraps, added_two, added_one}
 use Rattle.spi_message.proofs.filling.+filled_message.Goals as goal
 
 pub filled_message-requires : goal.filled_message-requires
@@ -104,19 +104,19 @@ pub returns-in_ok-second-in-Pair-clause-adds : goal.returns-in_ok-second-in-Pair
 returns-in_ok-second-in-Pair-clause-adds t c =
     let a = c.in_ok-first-in-Pair.ensures in
     let b = c.in_ok-second-in-Pair.ensures in
-    added_pair _ (pair_of c.in-Pair.ensures c.requires.message) a.kept c.requires.values a.at a.adds b.kept b.at b.adds c.message_over.ensures.kept c.message_over.result c.message_over.ensures.adds
+    added_two _ pair_joins (pair_of c.in-Pair.ensures c.requires.message) a.kept c.requires.values a.at a.adds b.kept b.at b.adds c.message_over.ensures.kept c.message_over.result c.message_over.ensures.adds
 
 pub returns-in_ok-key-in-Enc-clause-adds : goal.returns-in_ok-key-in-Enc-clause-adds
 returns-in_ok-key-in-Enc-clause-adds t c =
     let a = c.in_ok-body-in-Enc.ensures in
     let b = c.in_ok-key-in-Enc.ensures in
-    added_enc _ (enc_of c.in-Enc.ensures c.requires.message) a.kept c.requires.values a.at a.adds b.kept b.at b.adds c.message_over-in-Enc.ensures.kept c.message_over-in-Enc.result c.message_over-in-Enc.ensures.adds
+    added_two _ enc_joins (enc_of c.in-Enc.ensures c.requires.message) a.kept c.requires.values a.at a.adds b.kept b.at b.adds c.message_over-in-Enc.ensures.kept c.message_over-in-Enc.result c.message_over-in-Enc.ensures.adds
 
 pub returns-in_ok-part-in-Inl-clause-adds : goal.returns-in_ok-part-in-Inl-clause-adds
-returns-in_ok-part-in-Inl-clause-adds t c = let a = c.in_ok-part-in-Inl.ensures in added_left _ (left_of c.in-Inl.ensures c.requires.message) a.at a.adds c.message_over-in-Inl.ensures.kept c.message_over-in-Inl.result c.message_over-in-Inl.ensures.adds
+returns-in_ok-part-in-Inl-clause-adds t c = let a = c.in_ok-part-in-Inl.ensures in added_one _ left_wraps (left_of c.in-Inl.ensures c.requires.message) a.at a.adds c.message_over-in-Inl.ensures.kept c.message_over-in-Inl.result c.message_over-in-Inl.ensures.adds
 
 pub returns-in_ok-part-in-Inr-clause-adds : goal.returns-in_ok-part-in-Inr-clause-adds
-returns-in_ok-part-in-Inr-clause-adds t c = let a = c.in_ok-part-in-Inr.ensures in added_right _ (right_of c.in-Inr.ensures c.requires.message) a.at a.adds c.message_over-in-Inr.ensures.kept c.message_over-in-Inr.result c.message_over-in-Inr.ensures.adds
+returns-in_ok-part-in-Inr-clause-adds t c = let a = c.in_ok-part-in-Inr.ensures in added_one _ right_wraps (right_of c.in-Inr.ensures c.requires.message) a.at a.adds c.message_over-in-Inr.ensures.kept c.message_over-in-Inr.result c.message_over-in-Inr.ensures.adds
 
 pub returns-in_ok-part-in-Hash-clause-adds : goal.returns-in_ok-part-in-Hash-clause-adds
-returns-in_ok-part-in-Hash-clause-adds t c = let a = c.in_ok-part-in-Hash.ensures in added_hash _ (hash_of c.in-Hash.ensures c.requires.message) a.at a.adds c.message_over-in-Hash.ensures.kept c.message_over-in-Hash.result c.message_over-in-Hash.ensures.adds
+returns-in_ok-part-in-Hash-clause-adds t c = let a = c.in_ok-part-in-Hash.ensures in added_one _ hash_wraps (hash_of c.in-Hash.ensures c.requires.message) a.at a.adds c.message_over-in-Hash.ensures.kept c.message_over-in-Hash.result c.message_over-in-Hash.ensures.adds

@@ -1,20 +1,12 @@
-use Rattle.spi_message.proofs.Tested.{nonce_says}
+use Rattle.std.proofs.Common.{sym, ap, Some}
+use Rattle.spi_message.specs.Forms.{is_nonce}
+use Rattle.spi_message.specs.Tests.{nonce_in}
+use Rattle.spi_message.proofs.FillsTypes.{nonce_ty_of}
+use Rattle.spi_message.proofs.Tested.{not_nonce_says}
 use Rattle.spi_message.proofs.heads.is_nonce_type.Goals as goal
 
-pub returns-in-Un : goal.returns-in-Un
-returns-in-Un c u m = nonce_says (c.in-Un.ensures u m)
-
-pub returns-in-Unit : goal.returns-in-Unit
-returns-in-Unit c u m = nonce_says (c.in-Unit.ensures u m)
-
-pub returns-in-Pair : goal.returns-in-Pair
-returns-in-Pair c u m = nonce_says (c.in-Pair.ensures u m)
-
-pub returns-in-Sum : goal.returns-in-Sum
-returns-in-Sum c u m = nonce_says (c.in-Sum.ensures u m)
-
-pub returns-in-Key : goal.returns-in-Key
-returns-in-Key c u m = nonce_says (c.in-Key.ensures u m)
-
 pub returns-in-Nonce : goal.returns-in-Nonce
-returns-in-Nonce c u m = nonce_says (c.in-Nonce.ensures u m)
+returns-in-Nonce c u m = let w = (nonce_ty_of c.in-Nonce.ensures c.requires).at u m in sym (ap (λ t. is_nonce (nonce_in (Some t))) w.1)
+
+pub returns-in_default : goal.returns-in_default
+returns-in_default c u m = not_nonce_says (c.ty_part.ensures u m) c.in_default.not-Nonce

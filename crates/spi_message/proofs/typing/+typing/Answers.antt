@@ -1,13 +1,15 @@
-use Rattle.std.proofs.Common.{arith, refl, sym, ap, subst, IfOk, OnOk, List, ◌∙◌, ◌++◌, ◌∷◌, []}
+use Rattle.std.proofs.Common.{arith, sym, ap, subst, IfOk, OnOk, List, ◌∙◌, ◌++◌, ◌∷◌, []}
 use Rattle.spi_intern.specs.declared.messages.MsgId.{MsgId}
 use Rattle.spi_term.specs.Term.{Message, name}
+use Rattle.spi_intern.specs.Messages.{message_at}
 use Rattle.spi_intern.specs.Parts.{PartOf, whole, of_first, of_left, of_right, of_hash}
 use Rattle.spi_intern.proofs.Meanings.{means_keeps, terms_more}
 use Rattle.spi_message.specs.Asking.{IsTyped}
+use Rattle.spi_message.specs.Tests.{labelled}
 use Rattle.spi_message.proofs.Fills.{below_keeps, size_keeps, pair_of, enc_of, left_of, right_of, hash_of, bound_of, name_of, unit_of}
 use Rattle.spi_message.proofs.FillsTypes.{given_keeps, pair_ty_of, sum_ty_of, un_of}
 use Rattle.spi_message.proofs.Standing.{environment_keeps}
-use Rattle.spi_message.proofs.Questions.{typed_as, labelled_as, bound_untyped, bound_unlabelled, unit_labelled, name_labelled, unit_typed, sealed_typed, sealed_untyped, hash_typed, hash_untyped, pair_untyped, left_untyped, right_untyped, left_un, right_un, left_sum, right_sum, pair_un, pair_un_not, pair_not, pair_pair, pair_labelled, pair_unlabelled, left_labelled, right_labelled, hash_labelled, by_payload, by_un, not_by_un, asked_part, asked_later, asked_under, asked_alone, payload_is_given}
+use Rattle.spi_message.proofs.Questions.{typed_as, labelled_as, bound_untyped, bound_unlabelled, unit_labelled, name_labelled, unit_typed, sealed_typed, sealed_untyped, hash_typed, hash_untyped, pair_untyped, left_untyped, right_untyped, left_un, right_un, left_sum, right_sum, pair_un, pair_un_not, pair_not, pair_pair, pair_labelled, pair_unlabelled, part_labelled, by_payload, by_un, not_by_un, asked_part, asked_later, asked_under, asked_alone, payload_is_given}
 use Rattle.spi_message.specs.Added.{TypingGives, LabelGives}
 use Rattle.spi_message.proofs.Comparing.{on_ok, no_typing, no_label, part_typing, part_label, label_typing, left_typing, right_typing, first_typing, both_typing, pair_typing, both_labels, payload_label, key_label, body_label}
 use Rattle.spi_message.proofs.typing.+typing.Goals as goal
@@ -70,19 +72,19 @@ pub is_label-is_label-requires-in-Inl : goal.is_label-is_label-requires-in-Inl
 is_label-is_label-requires-in-Inl t c = let w = left_of c.in-Inl.ensures c.requires.message in (omega (arith, w.size, c.decreases), (w.part, c.requires.names))
 
 pub is_label-returns-in-Inl-clause-answer : goal.is_label-returns-in-Inl-clause-answer
-is_label-returns-in-Inl-clause-answer t c = left_labelled _ _ ((left_of c.in-Inl.ensures c.requires.message).is) c.is_label-in-Inl.result c.is_label-in-Inl.ensures.answer
+is_label-returns-in-Inl-clause-answer t c = let q = (left_of c.in-Inl.ensures c.requires.message).is in part_labelled _ _ (message_at c.args.store.now.messages c.args.m) (message_at c.args.store.now.messages c.in-Inl.a) (λ e. ap (λ n. labelled n e) q) c.is_label-in-Inl.result c.is_label-in-Inl.ensures.answer
 
 pub is_label-is_label-requires-in-Inr : goal.is_label-is_label-requires-in-Inr
 is_label-is_label-requires-in-Inr t c = let w = right_of c.in-Inr.ensures c.requires.message in (omega (arith, w.size, c.decreases), (w.part, c.requires.names))
 
 pub is_label-returns-in-Inr-clause-answer : goal.is_label-returns-in-Inr-clause-answer
-is_label-returns-in-Inr-clause-answer t c = right_labelled _ _ ((right_of c.in-Inr.ensures c.requires.message).is) c.is_label-in-Inr.result c.is_label-in-Inr.ensures.answer
+is_label-returns-in-Inr-clause-answer t c = let q = (right_of c.in-Inr.ensures c.requires.message).is in part_labelled _ _ (message_at c.args.store.now.messages c.args.m) (message_at c.args.store.now.messages c.in-Inr.a) (λ e. ap (λ n. labelled n e) q) c.is_label-in-Inr.result c.is_label-in-Inr.ensures.answer
 
 pub is_label-is_label-requires-in-Hash : goal.is_label-is_label-requires-in-Hash
 is_label-is_label-requires-in-Hash t c = let w = hash_of c.in-Hash.ensures c.requires.message in (omega (arith, w.size, c.decreases), (w.part, c.requires.names))
 
 pub is_label-returns-in-Hash-clause-answer : goal.is_label-returns-in-Hash-clause-answer
-is_label-returns-in-Hash-clause-answer t c = hash_labelled _ _ ((hash_of c.in-Hash.ensures c.requires.message).is) c.is_label-in-Hash.result c.is_label-in-Hash.ensures.answer
+is_label-returns-in-Hash-clause-answer t c = let q = (hash_of c.in-Hash.ensures c.requires.message).is in part_labelled _ _ (message_at c.args.store.now.messages c.args.m) (message_at c.args.store.now.messages c.in-Hash.a) (λ e. ap (λ n. labelled n e) q) c.is_label-in-Hash.result c.is_label-in-Hash.ensures.answer
 
 pub is_label-is_sealed-requires : goal.is_label-is_sealed-requires
 is_label-is_sealed-requires t c = let w = enc_of c.in-Enc.ensures c.requires.message in (omega (arith, w.size, c.decreases), (w.first, (w.second, c.requires.names)))
@@ -144,17 +146,8 @@ left_has_type-returns-in-Un-clause-answer t c = left_un _ _ _ (un_of c.in-Un.ens
 pub left_has_type-returns-in-Sum-clause-answer : goal.left_has_type-returns-in-Sum-clause-answer
 left_has_type-returns-in-Sum-clause-answer t c = left_sum _ _ _ (sum_ty_of c.in-Sum.ensures c.requires.asked.given) c.has_type-in-Sum.result c.has_type-in-Sum.ensures.answer
 
-pub left_has_type-returns-in-Unit-clause-answer : goal.left_has_type-returns-in-Unit-clause-answer
-left_has_type-returns-in-Unit-clause-answer t c = left_untyped c.in-Unit.ensures refl
-
-pub left_has_type-returns-in-Pair-clause-answer : goal.left_has_type-returns-in-Pair-clause-answer
-left_has_type-returns-in-Pair-clause-answer t c = left_untyped c.in-Pair.ensures refl
-
-pub left_has_type-returns-in-Key-clause-answer : goal.left_has_type-returns-in-Key-clause-answer
-left_has_type-returns-in-Key-clause-answer t c = left_untyped c.in-Key.ensures refl
-
-pub left_has_type-returns-in-Nonce-clause-answer : goal.left_has_type-returns-in-Nonce-clause-answer
-left_has_type-returns-in-Nonce-clause-answer t c = left_untyped c.in-Nonce.ensures refl
+pub left_has_type-returns-in_default-clause-answer : goal.left_has_type-returns-in_default-clause-answer
+left_has_type-returns-in_default-clause-answer t c = left_untyped c.ty_part.ensures c.in_default.not-Un c.in_default.not-Sum
 
 pub right_has_type-has_type-requires : goal.right_has_type-has_type-requires
 right_has_type-has_type-requires t c = (omega (arith, c.decreases), (c.requires.part, c.requires.asked))
@@ -168,17 +161,8 @@ right_has_type-returns-in-Un-clause-answer t c = right_un _ _ _ (un_of c.in-Un.e
 pub right_has_type-returns-in-Sum-clause-answer : goal.right_has_type-returns-in-Sum-clause-answer
 right_has_type-returns-in-Sum-clause-answer t c = right_sum _ _ _ (sum_ty_of c.in-Sum.ensures c.requires.asked.given) c.has_type-in-Sum.result c.has_type-in-Sum.ensures.answer
 
-pub right_has_type-returns-in-Unit-clause-answer : goal.right_has_type-returns-in-Unit-clause-answer
-right_has_type-returns-in-Unit-clause-answer t c = right_untyped c.in-Unit.ensures refl
-
-pub right_has_type-returns-in-Pair-clause-answer : goal.right_has_type-returns-in-Pair-clause-answer
-right_has_type-returns-in-Pair-clause-answer t c = right_untyped c.in-Pair.ensures refl
-
-pub right_has_type-returns-in-Key-clause-answer : goal.right_has_type-returns-in-Key-clause-answer
-right_has_type-returns-in-Key-clause-answer t c = right_untyped c.in-Key.ensures refl
-
-pub right_has_type-returns-in-Nonce-clause-answer : goal.right_has_type-returns-in-Nonce-clause-answer
-right_has_type-returns-in-Nonce-clause-answer t c = right_untyped c.in-Nonce.ensures refl
+pub right_has_type-returns-in_default-clause-answer : goal.right_has_type-returns-in_default-clause-answer
+right_has_type-returns-in_default-clause-answer t c = right_untyped c.ty_part.ensures c.in_default.not-Un c.in_default.not-Sum
 
 pub pair_has_type-has_type-requires : goal.pair_has_type-has_type-requires
 pair_has_type-has_type-requires t c = (omega (arith, c.decreases), (c.requires.first, c.requires.asked))
@@ -210,17 +194,8 @@ pair_has_type-returns-in_ok-answer-in-Pair-clause-answer t c =
     let a = c.in_ok-has_type-in-Pair.ensures in
     pair_pair (pair_ty_of c.in-Pair.ensures c.requires.asked.given) a.answer c.if-not-branch.false a.kept c.requires.first c.requires.second c.requires.asked.values (c.in_ok-push-in-Pair.ensures.items ∙ ap (λ us. us ++ c.args.a ∷ []) a.values) c.in_ok-answer-in-Pair.ensures.answer
 
-pub pair_has_type-returns-in-Unit-clause-answer : goal.pair_has_type-returns-in-Unit-clause-answer
-pair_has_type-returns-in-Unit-clause-answer t c = pair_untyped c.in-Unit.ensures refl
-
-pub pair_has_type-returns-in-Sum-clause-answer : goal.pair_has_type-returns-in-Sum-clause-answer
-pair_has_type-returns-in-Sum-clause-answer t c = pair_untyped c.in-Sum.ensures refl
-
-pub pair_has_type-returns-in-Key-clause-answer : goal.pair_has_type-returns-in-Key-clause-answer
-pair_has_type-returns-in-Key-clause-answer t c = pair_untyped c.in-Key.ensures refl
-
-pub pair_has_type-returns-in-Nonce-clause-answer : goal.pair_has_type-returns-in-Nonce-clause-answer
-pair_has_type-returns-in-Nonce-clause-answer t c = pair_untyped c.in-Nonce.ensures refl
+pub pair_has_type-returns-in_default-clause-answer : goal.pair_has_type-returns-in_default-clause-answer
+pair_has_type-returns-in_default-clause-answer t c = pair_untyped c.ty_part.ensures c.in_default.not-Un c.in_default.not-Pair
 
 pub has_type-returns-in-Bound-clause-adds : goal.has_type-returns-in-Bound-clause-adds
 has_type-returns-in-Bound-clause-adds t c = no_typing
@@ -318,17 +293,8 @@ is_sealed-returns-then-branch-clause-adds t c =
     let h = c.in_ok-has_type-in-None.ensures in
     on_ok c.has_type-then-branch.result (body_label c.args.body (key_label c.args.body c.args.key u.kept u.adds u.at c.requires.key c.new-values.ensures.items h.adds) (terms_more u.kept h.kept) (means_keeps h.kept u.at) c.requires.body (◌∙◌ {A = List MsgId} h.values c.new-values.ensures.items)) c.has_type-then-branch.ensures.adds
 
-pub left_has_type-returns-in-Unit-clause-adds : goal.left_has_type-returns-in-Unit-clause-adds
-left_has_type-returns-in-Unit-clause-adds t c = no_typing
-
-pub left_has_type-returns-in-Pair-clause-adds : goal.left_has_type-returns-in-Pair-clause-adds
-left_has_type-returns-in-Pair-clause-adds t c = no_typing
-
-pub left_has_type-returns-in-Key-clause-adds : goal.left_has_type-returns-in-Key-clause-adds
-left_has_type-returns-in-Key-clause-adds t c = no_typing
-
-pub left_has_type-returns-in-Nonce-clause-adds : goal.left_has_type-returns-in-Nonce-clause-adds
-left_has_type-returns-in-Nonce-clause-adds t c = no_typing
+pub left_has_type-returns-in_default-clause-adds : goal.left_has_type-returns-in_default-clause-adds
+left_has_type-returns-in_default-clause-adds t c = no_typing
 
 pub left_has_type-returns-in-Un-clause-adds : goal.left_has_type-returns-in-Un-clause-adds
 left_has_type-returns-in-Un-clause-adds t c = on_ok c.has_type.result (part_typing (of_left whole)) c.has_type.ensures.adds
@@ -336,17 +302,8 @@ left_has_type-returns-in-Un-clause-adds t c = on_ok c.has_type.result (part_typi
 pub left_has_type-returns-in-Sum-clause-adds : goal.left_has_type-returns-in-Sum-clause-adds
 left_has_type-returns-in-Sum-clause-adds t c = on_ok c.has_type-in-Sum.result (left_typing (sum_ty_of c.in-Sum.ensures c.requires.asked.given) (of_left whole)) c.has_type-in-Sum.ensures.adds
 
-pub right_has_type-returns-in-Unit-clause-adds : goal.right_has_type-returns-in-Unit-clause-adds
-right_has_type-returns-in-Unit-clause-adds t c = no_typing
-
-pub right_has_type-returns-in-Pair-clause-adds : goal.right_has_type-returns-in-Pair-clause-adds
-right_has_type-returns-in-Pair-clause-adds t c = no_typing
-
-pub right_has_type-returns-in-Key-clause-adds : goal.right_has_type-returns-in-Key-clause-adds
-right_has_type-returns-in-Key-clause-adds t c = no_typing
-
-pub right_has_type-returns-in-Nonce-clause-adds : goal.right_has_type-returns-in-Nonce-clause-adds
-right_has_type-returns-in-Nonce-clause-adds t c = no_typing
+pub right_has_type-returns-in_default-clause-adds : goal.right_has_type-returns-in_default-clause-adds
+right_has_type-returns-in_default-clause-adds t c = no_typing
 
 pub right_has_type-returns-in-Un-clause-adds : goal.right_has_type-returns-in-Un-clause-adds
 right_has_type-returns-in-Un-clause-adds t c = on_ok c.has_type.result (part_typing (of_right whole)) c.has_type.ensures.adds
@@ -354,17 +311,8 @@ right_has_type-returns-in-Un-clause-adds t c = on_ok c.has_type.result (part_typ
 pub right_has_type-returns-in-Sum-clause-adds : goal.right_has_type-returns-in-Sum-clause-adds
 right_has_type-returns-in-Sum-clause-adds t c = on_ok c.has_type-in-Sum.result (right_typing (sum_ty_of c.in-Sum.ensures c.requires.asked.given) (of_right whole)) c.has_type-in-Sum.ensures.adds
 
-pub pair_has_type-returns-in-Unit-clause-adds : goal.pair_has_type-returns-in-Unit-clause-adds
-pair_has_type-returns-in-Unit-clause-adds t c = no_typing
-
-pub pair_has_type-returns-in-Sum-clause-adds : goal.pair_has_type-returns-in-Sum-clause-adds
-pair_has_type-returns-in-Sum-clause-adds t c = no_typing
-
-pub pair_has_type-returns-in-Key-clause-adds : goal.pair_has_type-returns-in-Key-clause-adds
-pair_has_type-returns-in-Key-clause-adds t c = no_typing
-
-pub pair_has_type-returns-in-Nonce-clause-adds : goal.pair_has_type-returns-in-Nonce-clause-adds
-pair_has_type-returns-in-Nonce-clause-adds t c = no_typing
+pub pair_has_type-returns-in_default-clause-adds : goal.pair_has_type-returns-in_default-clause-adds
+pair_has_type-returns-in_default-clause-adds t c = no_typing
 
 pub pair_has_type-returns-else-branch-clause-adds : goal.pair_has_type-returns-else-branch-clause-adds
 pair_has_type-returns-else-branch-clause-adds t c = part_typing (of_first whole) c.in_ok-has_type-in-Un.ensures.adds
