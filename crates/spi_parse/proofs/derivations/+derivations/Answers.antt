@@ -28,26 +28,26 @@ by_rule : (later : Bool) (nesting : ℕ) (start : Cursor) (first : Token) (w sho
 by_rule later nesting start first w shown o b r some is kind copied arity writes fits gives =
     subst (Read r) (rule_is_first later nesting start.end start.rest.now first w o b some is kind (ap (arity_of later) copied ∙ arity) (ap writes_effect copied ∙ writes) fits) gives
 
-pub boxed_derivation-returns-in-One : goal.boxed_derivation-returns-in-One
-boxed_derivation-returns-in-One t c =
+pub derivation_step-returns-in_ok-fits-in-One : goal.derivation_step-returns-in_ok-fits-in-One
+derivation_step-returns-in_ok-fits-in-One t c =
     let fits : c.args.nesting ≤ 1000 = omega arith in
     by_rule c.args.later c.args.nesting c.args.at c.first-item.result c.in_ok-copy_word-in-Word.field-0 c.as_str.result.now (Some 1) false c.read_one.result
     c.in-len1-up.len_at_least c.first-item.is (search rules) (search rules) c.in-One.ensures.0 c.in-One.ensures.1 fits c.read_one.ensures
 
-pub boxed_derivation-returns-in-Two : goal.boxed_derivation-returns-in-Two
-boxed_derivation-returns-in-Two t c =
+pub derivation_step-returns-in_ok-fits-in-Two : goal.derivation_step-returns-in_ok-fits-in-Two
+derivation_step-returns-in_ok-fits-in-Two t c =
     let fits : c.args.nesting ≤ 1000 = omega arith in
     by_rule c.args.later c.args.nesting c.args.at c.first-item.result c.in_ok-copy_word-in-Word.field-0 c.as_str.result.now (Some 2) false c.read_two.result
     c.in-len1-up.len_at_least c.first-item.is (search rules) (search rules) c.in-Two.ensures.0 c.in-Two.ensures.1 fits c.read_two.ensures
 
-pub boxed_derivation-returns-in-Three : goal.boxed_derivation-returns-in-Three
-boxed_derivation-returns-in-Three t c =
+pub derivation_step-returns-in_ok-fits-in-Three : goal.derivation_step-returns-in_ok-fits-in-Three
+derivation_step-returns-in_ok-fits-in-Three t c =
     let fits : c.args.nesting ≤ 1000 = omega arith in
     by_rule c.args.later c.args.nesting c.args.at c.first-item.result c.in_ok-copy_word-in-Word.field-0 c.as_str.result.now (Some 3) false c.read_three.result
     c.in-len1-up.len_at_least c.first-item.is (search rules) (search rules) c.in-Three.ensures.0 c.in-Three.ensures.1 fits c.read_three.ensures
 
-pub boxed_derivation-returns-in-Sub : goal.boxed_derivation-returns-in-Sub
-boxed_derivation-returns-in-Sub t c =
+pub derivation_step-returns-in_ok-fits-in-Sub : goal.derivation_step-returns-in_ok-fits-in-Sub
+derivation_step-returns-in_ok-fits-in-Sub t c =
     let fits : c.args.nesting ≤ 1000 = omega arith in
     by_rule c.args.later c.args.nesting c.args.at c.first-item.result c.in_ok-copy_word-in-Word.field-0 c.as_str.result.now (Some 1) true c.read_sub.result
     c.in-len1-up.len_at_least c.first-item.is (search rules) (search rules) c.in-Sub.ensures.0 c.in-Sub.ensures.1 fits c.read_sub.ensures
