@@ -15,6 +15,7 @@ pub mod Complete
 pub mod ExactLaws
 pub mod Words
 pub mod Wholes
+pub mod Numbered
 pub mod Filled
 pub mod OneTree
 pub mod Lists

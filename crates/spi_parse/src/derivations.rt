@@ -13,14 +13,17 @@ ghost use Rattle.spi_parse.specs.Table.{deriv, over};
 ghost use Rattle.spi_parse.specs.Reading.{Gives, read, step, limited};
 
 use crate::NoMemory;
-use crate::cursor::{Cursor, DERIVATION_LIMIT, copy_word, syntax, too_deep};
+use crate::cursor::{Cursor, DERIVATION_LIMIT, Read, copy_word, fits, span_from, syntax};
 use crate::effects::effect;
-use crate::fault::Stop;
+use crate::messages::Node;
 use spi_lex::Kind;
 use spi_rules::Rule;
 use spi_text::Span;
 use spi_tree::{SAtom, SDeriv, SWord};
 use std::alloc::Global;
+
+/// A use of a rule in a box, with the place behind it.
+type Part<'t> = Read<'t, Box<SDeriv>>;
 
 /// What stands behind the word of a rule.
 #[derive(Clone, Copy)]
@@ -110,12 +113,7 @@ fn leaf(alloc: Global, rule: SWord, span: Span) -> Result<Box<SDeriv>, NoMemory>
 }
 
 /// A use of a rule, of a nesting.
-pub fn derivation<'t>(
-    alloc: Global,
-    at: Cursor<'t>,
-    later: bool,
-    nesting: u32,
-) -> Result<(SDeriv, Cursor<'t>), Stop>
+pub fn derivation(alloc: Global, at: Cursor<'_>, later: bool, nesting: u32) -> Read<'_, SDeriv>
     requires { nesting ≤ 1001 }
     ensures { Gives (λ x. (deriv_of x.0, state_of x.1)) result
         (read limited (deriv later nesting) (state_of at.entry)) }
@@ -128,12 +126,7 @@ pub fn derivation<'t>(
 ///
 /// What reads a premise holds it as a box while it reads the next, so that deep derivations fit the stack.
 #[cycle(derivations)]
-fn boxed_derivation<'t>(
-    alloc: Global,
-    at: Cursor<'t>,
-    later: bool,
-    nesting: u32,
-) -> Result<(Box<SDeriv>, Cursor<'t>), Stop>
+fn boxed_derivation(alloc: Global, at: Cursor<'_>, later: bool, nesting: u32) -> Part<'_>
     requires { nesting ≤ 1001 }
     ensures { Gives (λ x. (deriv_of x.0.value, state_of x.1)) result
         (read limited (deriv later nesting) (state_of at.entry)) }
@@ -142,12 +135,7 @@ fn boxed_derivation<'t>(
 }
 
 #[cycle(derivations)]
-fn derivation_step<'t>(
-    alloc: Global,
-    at: Cursor<'t>,
-    later: bool,
-    nesting: u32,
-) -> Result<(Box<SDeriv>, Cursor<'t>), Stop>
+fn derivation_step(alloc: Global, at: Cursor<'_>, later: bool, nesting: u32) -> Part<'_>
     requires { nesting ≤ 1001 }
     ensures { Gives (λ x. (deriv_of x.0.value, state_of x.1)) result
         (step limited (read limited) (deriv later nesting) (state_of at.entry)) }
@@ -168,33 +156,23 @@ fn derivation_step<'t>(
             match shape_of(later, word.as_str()) {
                 Shape::NoRule => Err(syntax(at.rest.len())),
                 Shape::Leaf => {
-                    if nesting > DERIVATION_LIMIT {
-                        return Err(too_deep(at.rest.len()));
-                    }
+                    fits(nesting, DERIVATION_LIMIT, at.rest.len())?;
                     Ok((leaf(alloc, name, first.span)?, next))
                 }
                 Shape::One => {
-                    if nesting > DERIVATION_LIMIT {
-                        return Err(too_deep(at.rest.len()));
-                    }
+                    fits(nesting, DERIVATION_LIMIT, at.rest.len())?;
                     read_one(alloc, name, next, later, nesting)
                 }
                 Shape::Two => {
-                    if nesting > DERIVATION_LIMIT {
-                        return Err(too_deep(at.rest.len()));
-                    }
+                    fits(nesting, DERIVATION_LIMIT, at.rest.len())?;
                     read_two(alloc, name, next, later, nesting)
                 }
                 Shape::Three => {
-                    if nesting > DERIVATION_LIMIT {
-                        return Err(too_deep(at.rest.len()));
-                    }
+                    fits(nesting, DERIVATION_LIMIT, at.rest.len())?;
                     read_three(alloc, name, next, later, nesting)
                 }
                 Shape::Sub => {
-                    if nesting > DERIVATION_LIMIT {
-                        return Err(too_deep(at.rest.len()));
-                    }
+                    fits(nesting, DERIVATION_LIMIT, at.rest.len())?;
                     read_sub(alloc, name, next, later, nesting)
                 }
             }
@@ -204,13 +182,7 @@ fn derivation_step<'t>(
 }
 
 #[cycle(derivations)]
-fn read_one<'t>(
-    alloc: Global,
-    name: SWord,
-    at: Cursor<'t>,
-    later: bool,
-    nesting: u32,
-) -> Result<(Box<SDeriv>, Cursor<'t>), Stop>
+fn read_one(alloc: Global, name: SWord, at: Cursor<'_>, later: bool, nesting: u32) -> Part<'_>
     requires { nesting ≤ 1000 }
     ensures { Gives (λ x. (deriv_of x.0.value, state_of x.1)) result
         (one_form later nesting name.word (name.span ∷ []) (state_of at.entry)) }
@@ -220,13 +192,7 @@ fn read_one<'t>(
 }
 
 #[cycle(derivations)]
-fn read_two<'t>(
-    alloc: Global,
-    name: SWord,
-    at: Cursor<'t>,
-    later: bool,
-    nesting: u32,
-) -> Result<(Box<SDeriv>, Cursor<'t>), Stop>
+fn read_two(alloc: Global, name: SWord, at: Cursor<'_>, later: bool, nesting: u32) -> Part<'_>
     requires { nesting ≤ 1000 }
     ensures { Gives (λ x. (deriv_of x.0.value, state_of x.1)) result
         (two_form later nesting name.word (name.span ∷ []) (state_of at.entry)) }
@@ -237,13 +203,7 @@ fn read_two<'t>(
 }
 
 #[cycle(derivations)]
-fn read_three<'t>(
-    alloc: Global,
-    name: SWord,
-    at: Cursor<'t>,
-    later: bool,
-    nesting: u32,
-) -> Result<(Box<SDeriv>, Cursor<'t>), Stop>
+fn read_three(alloc: Global, name: SWord, at: Cursor<'_>, later: bool, nesting: u32) -> Part<'_>
     requires { nesting ≤ 1000 }
     ensures { Gives (λ x. (deriv_of x.0.value, state_of x.1)) result
         (three_form later nesting name.word (name.span ∷ []) (state_of at.entry)) }
@@ -255,38 +215,34 @@ fn read_three<'t>(
 }
 
 #[cycle(derivations)]
-fn read_sub<'t>(
-    alloc: Global,
-    name: SWord,
-    at: Cursor<'t>,
-    later: bool,
-    nesting: u32,
-) -> Result<(Box<SDeriv>, Cursor<'t>), Stop>
+fn read_sub(alloc: Global, name: SWord, at: Cursor<'_>, later: bool, nesting: u32) -> Part<'_>
     requires { nesting ≤ 1000 }
     ensures { Gives (λ x. (deriv_of x.0.value, state_of x.1)) result
         (sub_form later nesting name.word (name.span ∷ []) (state_of at.entry)) }
 {
-    let (effect, at) = effect(alloc, at, later, true, 0)?;
+    let atoms = Node {
+        later,
+        numbered: true,
+        nesting: 0,
+    };
+    let (effect, at) = effect(alloc, at, atoms)?;
     let (first, at) = boxed_derivation(alloc, at, later, nesting + 1)?;
     end_one(alloc, name, Some(effect), first, at)
 }
 
 /// The use of a rule with one premise, which ends before this place.
-fn end_one<'t>(
+fn end_one(
     alloc: Global,
     rule: SWord,
     effect: Option<Vec<SAtom>>,
     first: Box<SDeriv>,
-    at: Cursor<'t>,
-) -> Result<(Box<SDeriv>, Cursor<'t>), Stop>
+    at: Cursor<'_>,
+) -> Part<'_>
     ensures { Gives (λ x. (deriv_of x.0.value, state_of x.1)) result
         (done (trees.rule (over (rule.span ∷ []) at.entry.end) rule (effect_of effect)
         (derivs_of_list (deriv_of first.value ∷ []))) (state_of at.entry)) }
 {
-    let span = Span {
-        from: rule.span.from,
-        to: at.end,
-    };
+    let span = span_from(rule.span, at);
     let premises = [Box::into_inner(first)];
     let premises = Vec::from_array(alloc, premises)?;
     let tree = make_use(rule, effect, premises, span);
@@ -294,21 +250,18 @@ fn end_one<'t>(
 }
 
 /// The use of a rule with two premises, which ends before this place.
-fn end_two<'t>(
+fn end_two(
     alloc: Global,
     rule: SWord,
     first: Box<SDeriv>,
     second: Box<SDeriv>,
-    at: Cursor<'t>,
-) -> Result<(Box<SDeriv>, Cursor<'t>), Stop>
+    at: Cursor<'_>,
+) -> Part<'_>
     ensures { Gives (λ x. (deriv_of x.0.value, state_of x.1)) result
         (done (trees.rule (over (rule.span ∷ []) at.entry.end) rule None
         (derivs_of_list (deriv_of first.value ∷ deriv_of second.value ∷ []))) (state_of at.entry)) }
 {
-    let span = Span {
-        from: rule.span.from,
-        to: at.end,
-    };
+    let span = span_from(rule.span, at);
     let premises = [Box::into_inner(first), Box::into_inner(second)];
     let premises = Vec::from_array(alloc, premises)?;
     let tree = make_use(rule, None, premises, span);
@@ -316,23 +269,20 @@ fn end_two<'t>(
 }
 
 /// The use of a rule with three premises, which ends before this place.
-fn end_three<'t>(
+fn end_three(
     alloc: Global,
     rule: SWord,
     first: Box<SDeriv>,
     second: Box<SDeriv>,
     third: Box<SDeriv>,
-    at: Cursor<'t>,
-) -> Result<(Box<SDeriv>, Cursor<'t>), Stop>
+    at: Cursor<'_>,
+) -> Part<'_>
     ensures { Gives (λ x. (deriv_of x.0.value, state_of x.1)) result
         (done (trees.rule (over (rule.span ∷ []) at.entry.end) rule None
         (derivs_of_list (deriv_of first.value ∷ deriv_of second.value ∷ deriv_of third.value ∷ [])))
         (state_of at.entry)) }
 {
-    let span = Span {
-        from: rule.span.from,
-        to: at.end,
-    };
+    let span = span_from(rule.span, at);
     let premises = [
         Box::into_inner(first),
         Box::into_inner(second),

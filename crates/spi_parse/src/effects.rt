@@ -4,125 +4,61 @@ ghost use Rattle.std.specs.Prelude.{◌≡◌, ◌+◌, ◌≤◌, [], ◌∷◌
 ghost use Rattle.spi_tree.specs.Views.{atom_of};
 ghost use Rattle.spi_parse.specs.Places.{state_of, effect_form};
 ghost use Rattle.spi_parse.specs.Table.{atom, atoms, atoms_item, effect, delta_bracket};
-ghost use Rattle.spi_parse.specs.Reading.{Gives, read, step, limited, behind, item_of};
+ghost use Rattle.spi_parse.specs.Reading.{Gives, read, limited, behind, item_of};
 
 use crate::NoMemory;
-use crate::cursor::{Cursor, MESSAGE_LIMIT, syntax, too_deep};
-use crate::fault::Stop;
-use crate::messages::message;
+use crate::cursor::{Cursor, MESSAGE_LIMIT, Read, fits, next_token, span_from, syntax};
+use crate::messages::{Node, message_of};
 use spi_lex::{Kind, Mark, Reserved};
 use spi_text::Span;
 use spi_tree::SAtom;
 use std::alloc::Global;
 
-fn atom<'t>(
-    alloc: Global,
-    at: Cursor<'t>,
-    later: bool,
-    numbered: bool,
-    nesting: u32,
-) -> Result<(SAtom, Cursor<'t>), Stop>
-    requires { nesting ≤ 1001 }
+fn atom(alloc: Global, at: Cursor<'_>, node: Node) -> Read<'_, SAtom>
+    requires { node.nesting ≤ 1001 }
     ensures { Gives (λ x. (atom_of x.0, state_of x.1)) result
-        (read limited (atom later numbered nesting) (state_of at.entry)) }
+        (read limited (atom node.later node.numbered node.nesting) (state_of at.entry)) }
 {
-    atom_step(alloc, at, later, numbered, nesting)
-}
-
-fn atom_step<'t>(
-    alloc: Global,
-    at: Cursor<'t>,
-    later: bool,
-    numbered: bool,
-    nesting: u32,
-) -> Result<(SAtom, Cursor<'t>), Stop>
-    requires { nesting ≤ 1001 }
-    ensures { Gives (λ x. (atom_of x.0, state_of x.1)) result
-        (step limited (read limited) (atom later numbered nesting) (state_of at.entry)) }
-{
-    let [first, rest @ ..] = at.rest else {
-        return Err(syntax(0));
-    };
-    let next = Cursor {
-        rest,
-        end: first.span.to,
+    let (first, next) = next_token(at)?;
+    let inner = Node {
+        nesting: node.nesting + 1,
+        ..node
     };
     match first.kind {
         Kind::Reserved(Reserved::End) => {
-            if nesting > MESSAGE_LIMIT {
-                return Err(too_deep(at.rest.len()));
-            }
-            let (label, at) = message(alloc, next, later, numbered, nesting + 1)?;
-            let span = Span {
-                from: first.span.from,
-                to: at.end,
-            };
+            fits(node.nesting, MESSAGE_LIMIT, at.rest.len())?;
+            let (label, at) = message_of(alloc, next, inner)?;
+            let span = span_from(first.span, at);
             Ok((SAtom::End { label, span }, at))
         }
         Kind::Reserved(Reserved::Check) => {
-            if nesting > MESSAGE_LIMIT {
-                return Err(too_deep(at.rest.len()));
-            }
-            let (nonce, at) = message(alloc, next, later, numbered, nesting + 1)?;
-            let span = Span {
-                from: first.span.from,
-                to: at.end,
-            };
+            fits(node.nesting, MESSAGE_LIMIT, at.rest.len())?;
+            let (nonce, at) = message_of(alloc, next, inner)?;
+            let span = span_from(first.span, at);
             Ok((SAtom::Check { nonce, span }, at))
         }
         Kind::Reserved(Reserved::Many) => {
-            if !later {
+            if !node.later {
                 return Err(syntax(at.rest.len()));
             }
-            if nesting > MESSAGE_LIMIT {
-                return Err(too_deep(at.rest.len()));
-            }
-            let (label, at) = message(alloc, next, later, numbered, nesting + 1)?;
-            let span = Span {
-                from: first.span.from,
-                to: at.end,
-            };
+            fits(node.nesting, MESSAGE_LIMIT, at.rest.len())?;
+            let (label, at) = message_of(alloc, next, inner)?;
+            let span = span_from(first.span, at);
             Ok((SAtom::Many { label, span }, at))
         }
         _ => Err(syntax(at.rest.len())),
     }
 }
 
-fn next_atom<'t>(
-    alloc: Global,
-    at: Cursor<'t>,
-    later: bool,
-    numbered: bool,
-    nesting: u32,
-) -> Result<(Option<SAtom>, Cursor<'t>), Stop>
-    requires { nesting ≤ 1001 }
+fn next_atom(alloc: Global, at: Cursor<'_>, node: Node) -> Read<'_, Option<SAtom>>
+    requires { node.nesting ≤ 1001 }
     ensures { Gives (λ x. (item_of atom_of tt x.0, state_of x.1)) result
-        (read limited (atoms_item later numbered nesting) (state_of at.entry)) }
+        (read limited (atoms_item node.later node.numbered node.nesting) (state_of at.entry)) }
 {
-    next_atom_step(alloc, at, later, numbered, nesting)
-}
-
-fn next_atom_step<'t>(
-    alloc: Global,
-    at: Cursor<'t>,
-    later: bool,
-    numbered: bool,
-    nesting: u32,
-) -> Result<(Option<SAtom>, Cursor<'t>), Stop>
-    requires { nesting ≤ 1001 }
-    ensures { Gives (λ x. (item_of atom_of tt x.0, state_of x.1)) result
-        (step limited (read limited) (atoms_item later numbered nesting) (state_of at.entry)) }
-{
-    let [first, rest @ ..] = at.rest else {
-        return Err(syntax(0));
-    };
-    let next = Cursor {
-        rest,
-        end: first.span.to,
-    };
+    let (first, next) = next_token(at)?;
     match first.kind {
         Kind::Mark(Mark::Comma) => {
-            let (part, at) = atom(alloc, next, later, numbered, nesting)?;
+            let (part, at) = atom(alloc, next, node)?;
             Ok((Some(part), at))
         }
         Kind::Mark(Mark::BracketClose) => Ok((None, next)),
@@ -130,21 +66,15 @@ fn next_atom_step<'t>(
     }
 }
 
-fn more_atoms<'t>(
-    alloc: Global,
-    start: Cursor<'t>,
-    later: bool,
-    numbered: bool,
-    nesting: u32,
-) -> Result<(Vec<SAtom>, Cursor<'t>), Stop>
-    requires { nesting ≤ 1001 }
+fn more_atoms(alloc: Global, start: Cursor<'_>, node: Node) -> Read<'_, Vec<SAtom>>
+    requires { node.nesting ≤ 1001 }
     ensures { Gives (λ x. ((map atom_of x.0.items, tt), state_of x.1)) result
-        (read limited (atoms later numbered nesting) (state_of start.entry)) }
+        (read limited (atoms node.later node.numbered node.nesting) (state_of start.entry)) }
 {
     let mut more = Vec::new(alloc);
     let mut at = start;
     'items: loop {
-        let (item, after) = next_atom(alloc, at, later, numbered, nesting)?;
+        let (item, after) = next_atom(alloc, at, node)?;
         match item {
             Some(part) => more.push(part)?,
             None => return Ok((more, after)),
@@ -154,87 +84,43 @@ fn more_atoms<'t>(
 }
 
 /// An effect whose atoms have this nesting, or 0 where they have none.
-pub fn effect<'t>(
-    alloc: Global,
-    at: Cursor<'t>,
-    later: bool,
-    numbered: bool,
-    nesting: u32,
-) -> Result<(Vec<SAtom>, Cursor<'t>), Stop>
-    requires { nesting ≤ 1001 }
+pub fn effect(alloc: Global, at: Cursor<'_>, node: Node) -> Read<'_, Vec<SAtom>>
+    requires { node.nesting ≤ 1001 }
     ensures { Gives (λ x. (map atom_of x.0.items, state_of x.1)) result
-        (read limited (effect later numbered nesting) (state_of at.entry)) }
+        (read limited (effect node.later node.numbered node.nesting) (state_of at.entry)) }
 {
-    effect_step(alloc, at, later, numbered, nesting)
-}
-
-fn effect_step<'t>(
-    alloc: Global,
-    at: Cursor<'t>,
-    later: bool,
-    numbered: bool,
-    nesting: u32,
-) -> Result<(Vec<SAtom>, Cursor<'t>), Stop>
-    requires { nesting ≤ 1001 }
-    ensures { Gives (λ x. (map atom_of x.0.items, state_of x.1)) result
-        (step limited (read limited) (effect later numbered nesting) (state_of at.entry)) }
-{
-    let [first, rest @ ..] = at.rest else {
-        return Err(syntax(0));
-    };
-    let next = Cursor {
-        rest,
-        end: first.span.to,
-    };
+    let (first, next) = next_token(at)?;
     match first.kind {
-        Kind::Mark(Mark::BracketOpen) => {
-            effect_in_brackets(alloc, first.span, next, later, numbered, nesting)
-        }
+        Kind::Mark(Mark::BracketOpen) => { effect_in_brackets(alloc, first.span, next, node) }
         _ => Err(syntax(at.rest.len())),
     }
 }
 
-fn effect_in_brackets<'t>(
+fn effect_in_brackets(
     alloc: Global,
     _first: Span,
-    at: Cursor<'t>,
-    later: bool,
-    numbered: bool,
-    nesting: u32,
-) -> Result<(Vec<SAtom>, Cursor<'t>), Stop>
-    requires { nesting ≤ 1001 }
+    at: Cursor<'_>,
+    node: Node,
+) -> Read<'_, Vec<SAtom>>
+    requires { node.nesting ≤ 1001 }
     ensures { Gives (λ x. (map atom_of x.0.items, state_of x.1)) result
-        (behind limited (read limited) (delta_bracket later numbered nesting) (_first ∷ [])
+        (behind limited (read limited) (delta_bracket node.later node.numbered node.nesting) (_first ∷ [])
         (state_of at.entry)) }
 {
-    let [second, rest @ ..] = at.rest else {
-        return Err(syntax(0));
-    };
+    let (second, next) = next_token(at)?;
     match second.kind {
-        Kind::Mark(Mark::BracketClose) => Ok((
-            Vec::new(alloc),
-            Cursor {
-                rest,
-                end: second.span.to,
-            },
-        )),
-        _ => some_atoms(alloc, at, later, numbered, nesting),
+        Kind::Mark(Mark::BracketClose) => Ok((Vec::new(alloc), next)),
+        _ => some_atoms(alloc, at, node),
     }
 }
 
-fn some_atoms<'t>(
-    alloc: Global,
-    at: Cursor<'t>,
-    later: bool,
-    numbered: bool,
-    nesting: u32,
-) -> Result<(Vec<SAtom>, Cursor<'t>), Stop>
-    requires { nesting ≤ 1001 }
+fn some_atoms(alloc: Global, at: Cursor<'_>, node: Node) -> Read<'_, Vec<SAtom>>
+    requires { node.nesting ≤ 1001 }
     ensures { Gives (λ x. (map atom_of x.0.items, state_of x.1)) result
-        (effect_form later numbered nesting [] (state_of at.entry)) }
+        (effect_form node.later node.numbered node.nesting [] (state_of at.entry)) }
 {
-    let (first, at) = atom(alloc, at, later, numbered, nesting)?;
-    let (more, at) = more_atoms(alloc, at, later, numbered, nesting)?;
+    let (first, at) = atom(alloc, at, node)?;
+    let (more, at) = more_atoms(alloc, at, node)?;
     let atoms = put_first(alloc, first, more)?;
     Ok((atoms, at))
 }

@@ -5,12 +5,11 @@ ghost use Rattle.spi_tree.specs.Views.{opponent_of, schedule_of, derivation_of, 
 ghost use Rattle.spi_parse.specs.Places.{state_of};
 ghost use Rattle.spi_parse.specs.Wholes.{body_of, first_form, later_form};
 ghost use Rattle.spi_parse.specs.Table.{opponent_tail, schedule_tail, derivation_tail, body, file, file_from};
-ghost use Rattle.spi_parse.specs.Reading.{Gives, read, step, limited};
+ghost use Rattle.spi_parse.specs.Reading.{Gives, read, limited};
 
-use crate::cursor::{Cursor, syntax};
+use crate::cursor::{Cursor, Read, next_token, span_from, syntax};
 use crate::declarations::all_declarations;
 use crate::derivations::derivation;
-use crate::fault::Stop;
 use crate::processes::process;
 use crate::reading::{take_mark, take_two};
 use crate::schedules::all_steps;
@@ -29,31 +28,12 @@ pub struct FileParts {
     pub derivation: Option<SDeriv>,
 }
 
-fn opponent<'t>(
-    alloc: Global,
-    at: Cursor<'t>,
-    later: bool,
-) -> Result<(Option<SProc>, Cursor<'t>), Stop>
+fn opponent(alloc: Global, at: Cursor<'_>, later: bool) -> Read<'_, Option<SProc>>
     ensures { Gives (λ x. (opponent_of x.0, state_of x.1)) result
         (read limited (opponent_tail later) (state_of at.entry)) }
 {
-    opponent_step(alloc, at, later)
-}
-
-fn opponent_step<'t>(
-    alloc: Global,
-    at: Cursor<'t>,
-    later: bool,
-) -> Result<(Option<SProc>, Cursor<'t>), Stop>
-    ensures { Gives (λ x. (opponent_of x.0, state_of x.1)) result
-        (step limited (read limited) (opponent_tail later) (state_of at.entry)) }
-{
-    let [first, rest @ ..] = at.rest else {
+    let Ok((first, next)) = next_token(at) else {
         return Ok((None, at));
-    };
-    let next = Cursor {
-        rest,
-        end: first.span.to,
     };
     match first.kind {
         Kind::Reserved(Reserved::Opponent) => {
@@ -64,26 +44,12 @@ fn opponent_step<'t>(
     }
 }
 
-fn schedule<'t>(alloc: Global, at: Cursor<'t>) -> Result<(Option<Vec<SStep>>, Cursor<'t>), Stop>
+fn schedule(alloc: Global, at: Cursor<'_>) -> Read<'_, Option<Vec<SStep>>>
     ensures { Gives (λ x. (schedule_of x.0, state_of x.1)) result
         (read limited schedule_tail (state_of at.entry)) }
 {
-    schedule_step(alloc, at)
-}
-
-fn schedule_step<'t>(
-    alloc: Global,
-    at: Cursor<'t>,
-) -> Result<(Option<Vec<SStep>>, Cursor<'t>), Stop>
-    ensures { Gives (λ x. (schedule_of x.0, state_of x.1)) result
-        (step limited (read limited) schedule_tail (state_of at.entry)) }
-{
-    let [first, rest @ ..] = at.rest else {
+    let Ok((first, next)) = next_token(at) else {
         return Ok((None, at));
-    };
-    let next = Cursor {
-        rest,
-        end: first.span.to,
     };
     match first.kind {
         Kind::Reserved(Reserved::Schedule) => {
@@ -94,31 +60,12 @@ fn schedule_step<'t>(
     }
 }
 
-fn derivation_part<'t>(
-    alloc: Global,
-    at: Cursor<'t>,
-    later: bool,
-) -> Result<(Option<SDeriv>, Cursor<'t>), Stop>
+fn derivation_part(alloc: Global, at: Cursor<'_>, later: bool) -> Read<'_, Option<SDeriv>>
     ensures { Gives (λ x. (derivation_of x.0, state_of x.1)) result
         (read limited (derivation_tail later) (state_of at.entry)) }
 {
-    derivation_part_step(alloc, at, later)
-}
-
-fn derivation_part_step<'t>(
-    alloc: Global,
-    at: Cursor<'t>,
-    later: bool,
-) -> Result<(Option<SDeriv>, Cursor<'t>), Stop>
-    ensures { Gives (λ x. (derivation_of x.0, state_of x.1)) result
-        (step limited (read limited) (derivation_tail later) (state_of at.entry)) }
-{
-    let [first, rest @ ..] = at.rest else {
+    let Ok((first, next)) = next_token(at) else {
         return Ok((None, at));
-    };
-    let next = Cursor {
-        rest,
-        end: first.span.to,
     };
     match first.kind {
         Kind::Reserved(Reserved::Derivation) => {
@@ -129,28 +76,11 @@ fn derivation_part_step<'t>(
     }
 }
 
-fn file_parts<'t>(
-    alloc: Global,
-    at: Cursor<'t>,
-    later: bool,
-) -> Result<(FileParts, Cursor<'t>), Stop>
+fn file_parts(alloc: Global, at: Cursor<'_>, later: bool) -> Read<'_, FileParts>
     ensures { Gives (λ x. (body_of x.0, state_of x.1)) result
         (read limited (body later) (state_of at.entry)) }
 {
-    file_parts_step(alloc, at, later)
-}
-
-fn file_parts_step<'t>(
-    alloc: Global,
-    at: Cursor<'t>,
-    later: bool,
-) -> Result<(FileParts, Cursor<'t>), Stop>
-    ensures { Gives (λ x. (body_of x.0, state_of x.1)) result
-        (step limited (read limited) (body later) (state_of at.entry)) }
-{
-    let [_, ..] = at.rest else {
-        return Err(syntax(0));
-    };
+    next_token(at)?;
     let (decls, at) = all_declarations(alloc, at, later)?;
     let (process, at) = process(alloc, at, later, 0)?;
     let (opponent, at) = opponent(alloc, at, later)?;
@@ -181,23 +111,10 @@ fn make_tree(version: u32, parts: FileParts, span: Span) -> Tree
 }
 
 /// A file.
-pub fn read_file<'t>(alloc: Global, at: Cursor<'t>) -> Result<(Tree, Cursor<'t>), Stop>
+pub fn read_file(alloc: Global, at: Cursor<'_>) -> Read<'_, Tree>
     ensures { Gives (λ x. (file_of x.0, state_of x.1)) result (read limited file (state_of at.entry)) }
 {
-    file_step(alloc, at)
-}
-
-fn file_step<'t>(alloc: Global, at: Cursor<'t>) -> Result<(Tree, Cursor<'t>), Stop>
-    ensures { Gives (λ x. (file_of x.0, state_of x.1)) result
-        (step limited (read limited) file (state_of at.entry)) }
-{
-    let [first, rest @ ..] = at.rest else {
-        return Err(syntax(0));
-    };
-    let next = Cursor {
-        rest,
-        end: first.span.to,
-    };
+    let (first, next) = next_token(at)?;
     match &first.kind {
         Kind::Word(word) => {
             if word.as_str() == "version" {
@@ -209,26 +126,20 @@ fn file_step<'t>(alloc: Global, at: Cursor<'t>) -> Result<(Tree, Cursor<'t>), St
     }
 }
 
-fn later_file<'t>(alloc: Global, first: Span, at: Cursor<'t>) -> Result<(Tree, Cursor<'t>), Stop>
+fn later_file(alloc: Global, first: Span, at: Cursor<'_>) -> Read<'_, Tree>
     ensures { Gives (λ x. (file_of x.0, state_of x.1)) result (later_form (first ∷ []) (state_of at.entry)) }
 {
     let at = take_two(at)?;
     let at = take_mark(at, Mark::Semicolon)?;
     let (parts, at) = file_parts(alloc, at, true)?;
-    let span = Span {
-        from: first.from,
-        to: at.end,
-    };
+    let span = span_from(first, at);
     Ok((make_tree(2, parts, span), at))
 }
 
-fn first_file<'t>(alloc: Global, first: Span, at: Cursor<'t>) -> Result<(Tree, Cursor<'t>), Stop>
+fn first_file(alloc: Global, first: Span, at: Cursor<'_>) -> Read<'_, Tree>
     ensures { Gives (λ x. (file_of x.0, state_of x.1)) result (first_form (first ∷ []) (state_of at.entry)) }
 {
     let (parts, at) = file_parts(alloc, at, false)?;
-    let span = Span {
-        from: first.from,
-        to: at.end,
-    };
+    let span = span_from(first, at);
     Ok((make_tree(1, parts, span), at))
 }

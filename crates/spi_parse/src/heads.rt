@@ -5,9 +5,9 @@ ghost use Rattle.spi_lex.specs.declared.token.Mark.TheVariants.{Comma, ParenClos
 ghost use Rattle.spi_tree.specs.Views.{msg_of, ty_of};
 ghost use Rattle.spi_parse.specs.Places.{state_of};
 ghost use Rattle.spi_parse.specs.Table.{the_mark, named, binder, split_head, match_head, case_head, decrypt_head, check_head, cast_head};
-ghost use Rattle.spi_parse.specs.Reading.{Gives, read, read_all, step, limited};
+ghost use Rattle.spi_parse.specs.Reading.{Gives, read, read_all, limited};
 
-use crate::cursor::{Cursor, syntax};
+use crate::cursor::{Cursor, Read, next_token, syntax};
 use crate::fault::Stop;
 use crate::messages::message;
 use crate::reading::{take_mark, take_reserved, take_word};
@@ -16,25 +16,15 @@ use spi_lex::{Kind, Mark, Reserved};
 use spi_tree::{SMsg, STy, SWord};
 use std::alloc::Global;
 
+/// A name with its type, and the place behind them.
+type TypedName<'t> = Result<(SWord, STy, Cursor<'t>), Stop>;
+
 /// A name with its type.
-fn named<'t>(alloc: Global, at: Cursor<'t>, later: bool) -> Result<(SWord, STy, Cursor<'t>), Stop>
+fn named(alloc: Global, at: Cursor<'_>, later: bool) -> TypedName<'_>
     ensures { Gives (λ x. ((x.0, ty_of x.1), state_of x.2)) result
         (read limited (named later) (state_of at.entry)) }
 {
-    named_step(alloc, at, later)
-}
-
-fn named_step<'t>(
-    alloc: Global,
-    at: Cursor<'t>,
-    later: bool,
-) -> Result<(SWord, STy, Cursor<'t>), Stop>
-    ensures { Gives (λ x. ((x.0, ty_of x.1), state_of x.2)) result
-        (step limited (read limited) (named later) (state_of at.entry)) }
-{
-    let [_, ..] = at.rest else {
-        return Err(syntax(0));
-    };
+    next_token(at)?;
     let (name, at) = take_word(alloc, at)?;
     let at = take_mark(at, Mark::Colon)?;
     let (ty, at) = read_type(alloc, at, later, 1)?;
@@ -42,7 +32,7 @@ fn named_step<'t>(
 }
 
 /// The closing parenthesis, and the semicolon.
-fn take_closing<'t>(at: Cursor<'t>) -> Result<Cursor<'t>, Stop>
+fn take_closing(at: Cursor<'_>) -> Result<Cursor<'_>, Stop>
     ensures { Gives (λ x. ((tt, (tt, tt)), state_of x)) result
         (read_all (read limited) (the_mark ParenClose ∷ the_mark Semicolon ∷ []) (state_of at.entry)) }
 {
@@ -52,32 +42,11 @@ fn take_closing<'t>(at: Cursor<'t>) -> Result<Cursor<'t>, Stop>
 }
 
 /// A name with its type in parentheses, and the semicolon.
-pub fn binder<'t>(
-    alloc: Global,
-    at: Cursor<'t>,
-    later: bool,
-) -> Result<(SWord, STy, Cursor<'t>), Stop>
+pub fn binder(alloc: Global, at: Cursor<'_>, later: bool) -> TypedName<'_>
     ensures { Gives (λ x. ((x.0, ty_of x.1), state_of x.2)) result
         (read limited (binder later) (state_of at.entry)) }
 {
-    binder_step(alloc, at, later)
-}
-
-fn binder_step<'t>(
-    alloc: Global,
-    at: Cursor<'t>,
-    later: bool,
-) -> Result<(SWord, STy, Cursor<'t>), Stop>
-    ensures { Gives (λ x. ((x.0, ty_of x.1), state_of x.2)) result
-        (step limited (read limited) (binder later) (state_of at.entry)) }
-{
-    let [first, rest @ ..] = at.rest else {
-        return Err(syntax(0));
-    };
-    let next = Cursor {
-        rest,
-        end: first.span.to,
-    };
+    let (first, next) = next_token(at)?;
     match first.kind {
         Kind::Mark(Mark::ParenOpen) => {
             let (name, ty, at) = named(alloc, next, later)?;
@@ -89,11 +58,7 @@ fn binder_step<'t>(
 }
 
 /// The second name of a split or a match with its type, from the comma on, and what closes the head.
-fn second_named<'t>(
-    alloc: Global,
-    at: Cursor<'t>,
-    later: bool,
-) -> Result<(SWord, STy, Cursor<'t>), Stop>
+fn second_named(alloc: Global, at: Cursor<'_>, later: bool) -> TypedName<'_>
     ensures { Gives (λ x. ((tt, ((x.0, ty_of x.1), (tt, (tt, tt)))), state_of x.2)) result
         (read_all (read limited)
         (the_mark Comma ∷ named later ∷ the_mark ParenClose ∷ the_mark Semicolon ∷ []) (state_of at.entry)) }
@@ -105,32 +70,15 @@ fn second_named<'t>(
 }
 
 /// The names of a split, from `is` on.
-pub fn split_head<'t>(
+pub fn split_head(
     alloc: Global,
-    at: Cursor<'t>,
+    at: Cursor<'_>,
     later: bool,
-) -> Result<(SWord, STy, SWord, STy, Cursor<'t>), Stop>
+) -> Result<(SWord, STy, SWord, STy, Cursor<'_>), Stop>
     ensures { Gives (λ x. ((x.0, ty_of x.1, x.2, ty_of x.3), state_of x.4)) result
         (read limited (split_head later) (state_of at.entry)) }
 {
-    split_head_step(alloc, at, later)
-}
-
-fn split_head_step<'t>(
-    alloc: Global,
-    at: Cursor<'t>,
-    later: bool,
-) -> Result<(SWord, STy, SWord, STy, Cursor<'t>), Stop>
-    ensures { Gives (λ x. ((x.0, ty_of x.1, x.2, ty_of x.3), state_of x.4)) result
-        (step limited (read limited) (split_head later) (state_of at.entry)) }
-{
-    let [first, rest @ ..] = at.rest else {
-        return Err(syntax(0));
-    };
-    let next = Cursor {
-        rest,
-        end: first.span.to,
-    };
+    let (first, next) = next_token(at)?;
     match first.kind {
         Kind::Reserved(Reserved::Is) => {
             let at = take_mark(next, Mark::ParenOpen)?;
@@ -143,38 +91,21 @@ fn split_head_step<'t>(
 }
 
 /// The names of a match, from `is` on.
-pub fn match_head<'t>(
+pub fn match_head(
     alloc: Global,
-    at: Cursor<'t>,
+    at: Cursor<'_>,
     later: bool,
-) -> Result<(SWord, STy, SMsg, SWord, STy, Cursor<'t>), Stop>
+) -> Result<(SWord, STy, SMsg, SWord, STy, Cursor<'_>), Stop>
     ensures { Gives (λ x. ((x.0, ty_of x.1, msg_of x.2, x.3, ty_of x.4), state_of x.5)) result
         (read limited (match_head later) (state_of at.entry)) }
 {
-    match_head_step(alloc, at, later)
-}
-
-fn match_head_step<'t>(
-    alloc: Global,
-    at: Cursor<'t>,
-    later: bool,
-) -> Result<(SWord, STy, SMsg, SWord, STy, Cursor<'t>), Stop>
-    ensures { Gives (λ x. ((x.0, ty_of x.1, msg_of x.2, x.3, ty_of x.4), state_of x.5)) result
-        (step limited (read limited) (match_head later) (state_of at.entry)) }
-{
-    let [first, rest @ ..] = at.rest else {
-        return Err(syntax(0));
-    };
-    let next = Cursor {
-        rest,
-        end: first.span.to,
-    };
+    let (first, next) = next_token(at)?;
     match first.kind {
         Kind::Reserved(Reserved::Is) => {
             let at = take_mark(next, Mark::ParenOpen)?;
             let (left, left_ty, at) = named(alloc, at, later)?;
             let at = take_mark(at, Mark::Equals)?;
-            let (equal, at) = message(alloc, at, later, false, 1)?;
+            let (equal, at) = message(alloc, at, later)?;
             let (right, right_ty, at) = second_named(alloc, at, later)?;
             Ok((left, left_ty, equal, right, right_ty, at))
         }
@@ -183,34 +114,11 @@ fn match_head_step<'t>(
 }
 
 /// The name of a side of a case, from `is` on.
-pub fn case_head<'t>(
-    alloc: Global,
-    at: Cursor<'t>,
-    later: bool,
-    side: Reserved,
-) -> Result<(SWord, STy, Cursor<'t>), Stop>
+pub fn case_head(alloc: Global, at: Cursor<'_>, later: bool, side: Reserved) -> TypedName<'_>
     ensures { Gives (λ x. ((x.0, ty_of x.1), state_of x.2)) result
         (read limited (case_head later side) (state_of at.entry)) }
 {
-    case_head_step(alloc, at, later, side)
-}
-
-fn case_head_step<'t>(
-    alloc: Global,
-    at: Cursor<'t>,
-    later: bool,
-    side: Reserved,
-) -> Result<(SWord, STy, Cursor<'t>), Stop>
-    ensures { Gives (λ x. ((x.0, ty_of x.1), state_of x.2)) result
-        (step limited (read limited) (case_head later side) (state_of at.entry)) }
-{
-    let [first, rest @ ..] = at.rest else {
-        return Err(syntax(0));
-    };
-    let next = Cursor {
-        rest,
-        end: first.span.to,
-    };
+    let (first, next) = next_token(at)?;
     match first.kind {
         Kind::Reserved(Reserved::Is) => {
             let at = take_reserved(next, side)?;
@@ -221,38 +129,21 @@ fn case_head_step<'t>(
 }
 
 /// The name and the key of a decryption, from `is` on.
-pub fn decrypt_head<'t>(
+pub fn decrypt_head(
     alloc: Global,
-    at: Cursor<'t>,
+    at: Cursor<'_>,
     later: bool,
-) -> Result<(SWord, STy, SMsg, Cursor<'t>), Stop>
+) -> Result<(SWord, STy, SMsg, Cursor<'_>), Stop>
     ensures { Gives (λ x. ((x.0, ty_of x.1, msg_of x.2), state_of x.3)) result
         (read limited (decrypt_head later) (state_of at.entry)) }
 {
-    decrypt_head_step(alloc, at, later)
-}
-
-fn decrypt_head_step<'t>(
-    alloc: Global,
-    at: Cursor<'t>,
-    later: bool,
-) -> Result<(SWord, STy, SMsg, Cursor<'t>), Stop>
-    ensures { Gives (λ x. ((x.0, ty_of x.1, msg_of x.2), state_of x.3)) result
-        (step limited (read limited) (decrypt_head later) (state_of at.entry)) }
-{
-    let [first, rest @ ..] = at.rest else {
-        return Err(syntax(0));
-    };
-    let next = Cursor {
-        rest,
-        end: first.span.to,
-    };
+    let (first, next) = next_token(at)?;
     match first.kind {
         Kind::Reserved(Reserved::Is) => {
             let at = take_mark(next, Mark::BraceOpen)?;
             let (name, ty, at) = named(alloc, at, later)?;
             let at = take_mark(at, Mark::BraceClose)?;
-            let (key, at) = message(alloc, at, later, false, 1)?;
+            let (key, at) = message(alloc, at, later)?;
             let at = take_mark(at, Mark::Semicolon)?;
             Ok((name, ty, key, at))
         }
@@ -261,35 +152,14 @@ fn decrypt_head_step<'t>(
 }
 
 /// The nonce of a check, from `is` on.
-pub fn check_head<'t>(
-    alloc: Global,
-    at: Cursor<'t>,
-    later: bool,
-) -> Result<(SMsg, Cursor<'t>), Stop>
+pub fn check_head(alloc: Global, at: Cursor<'_>, later: bool) -> Read<'_, SMsg>
     ensures { Gives (λ x. (msg_of x.0, state_of x.1)) result
         (read limited (check_head later) (state_of at.entry)) }
 {
-    check_head_step(alloc, at, later)
-}
-
-fn check_head_step<'t>(
-    alloc: Global,
-    at: Cursor<'t>,
-    later: bool,
-) -> Result<(SMsg, Cursor<'t>), Stop>
-    ensures { Gives (λ x. (msg_of x.0, state_of x.1)) result
-        (step limited (read limited) (check_head later) (state_of at.entry)) }
-{
-    let [first, rest @ ..] = at.rest else {
-        return Err(syntax(0));
-    };
-    let next = Cursor {
-        rest,
-        end: first.span.to,
-    };
+    let (first, next) = next_token(at)?;
     match first.kind {
         Kind::Reserved(Reserved::Is) => {
-            let (nonce, at) = message(alloc, next, later, false, 1)?;
+            let (nonce, at) = message(alloc, next, later)?;
             let at = take_mark(at, Mark::Semicolon)?;
             Ok((nonce, at))
         }
@@ -298,32 +168,11 @@ fn check_head_step<'t>(
 }
 
 /// The name of a cast, from `is` on.
-pub fn cast_head<'t>(
-    alloc: Global,
-    at: Cursor<'t>,
-    later: bool,
-) -> Result<(SWord, STy, Cursor<'t>), Stop>
+pub fn cast_head(alloc: Global, at: Cursor<'_>, later: bool) -> TypedName<'_>
     ensures { Gives (λ x. ((x.0, ty_of x.1), state_of x.2)) result
         (read limited (cast_head later) (state_of at.entry)) }
 {
-    cast_head_step(alloc, at, later)
-}
-
-fn cast_head_step<'t>(
-    alloc: Global,
-    at: Cursor<'t>,
-    later: bool,
-) -> Result<(SWord, STy, Cursor<'t>), Stop>
-    ensures { Gives (λ x. ((x.0, ty_of x.1), state_of x.2)) result
-        (step limited (read limited) (cast_head later) (state_of at.entry)) }
-{
-    let [first, rest @ ..] = at.rest else {
-        return Err(syntax(0));
-    };
-    let next = Cursor {
-        rest,
-        end: first.span.to,
-    };
+    let (first, next) = next_token(at)?;
     match first.kind {
         Kind::Reserved(Reserved::Is) => { binder(alloc, next, later) }
         _ => Err(syntax(at.rest.len())),

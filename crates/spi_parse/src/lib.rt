@@ -1,5 +1,5 @@
 //! The tree of a file's tokens, or the exact fault.
-#![tactic(auto)]
+#![tactic(auto, using(crate::proofs::Readers::read_is_step))]
 
 mod cursor;
 mod declarations;
@@ -20,9 +20,9 @@ mod whole;
 
 pub use fault::ParseFault;
 pub use laws::one_placed_tree;
-pub use parts::{message_at, one_tree, process_at, type_at};
+pub use parts::{decl_at, message_at, one_tree, process_at, type_at};
 use std::alloc::AllocError;
-pub use whole::{decl_at, parse};
+pub use whole::parse;
 
 /// Memory ran out.
 pub type NoMemory = AllocError;

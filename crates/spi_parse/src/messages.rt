@@ -1,6 +1,6 @@
 //! Messages.
 
-ghost use Rattle.std.specs.Prelude.{◌≡◌, ◌+◌, ◌≤◌, [], ◌∷◌, map};
+ghost use Rattle.std.specs.Prelude.{◌≡◌, false, ◌+◌, ◌≤◌, [], ◌∷◌, map};
 ghost use Rattle.spi_tree.specs.Trees.{name, tuple, msgs_of_list};
 ghost use Rattle.spi_tree.specs.Views.{msg_of};
 ghost use Rattle.spi_parse.specs.Places.{state_of, tuple_form, enc_form, inl_form, inr_form, hash_form};
@@ -8,13 +8,15 @@ ghost use Rattle.spi_parse.specs.Ends.{done, numeral_form};
 ghost use Rattle.spi_parse.specs.Table.{msg, msgs, msgs_item, delta_paren, word_at, over};
 ghost use Rattle.spi_parse.specs.Reading.{Gives, read, step, limited, behind, item_of};
 
-use crate::cursor::{Cursor, MESSAGE_LIMIT, copy_word, syntax, too_deep};
-use crate::fault::Stop;
+use crate::cursor::{Cursor, MESSAGE_LIMIT, Read, copy_word, fits, next_token, span_from, syntax};
 use crate::reading::{take_mark, take_number};
 use spi_lex::{Kind, Mark, Reserved};
 use spi_text::{Span, Text};
 use spi_tree::{SMsg, SWord};
 use std::alloc::Global;
+
+/// A message in a box, with the place behind it.
+type Part<'t> = Read<'t, Box<SMsg>>;
 
 fn make_tuple(first: Box<SMsg>, second: Box<SMsg>, more: Vec<SMsg>, span: Span) -> SMsg
     ensures { msg_of result
@@ -28,127 +30,106 @@ fn make_tuple(first: Box<SMsg>, second: Box<SMsg>, more: Vec<SMsg>, span: Span) 
     }
 }
 
-/// A message of a nesting. In version 2 it may have hashes, and numbers may stand in the place of names.
-pub fn message<'t>(
-    alloc: Global,
-    at: Cursor<'t>,
-    later: bool,
-    numbered: bool,
-    nesting: u32,
-) -> Result<(SMsg, Cursor<'t>), Stop>
-    requires { nesting ≤ 1001 }
+/// Where a message stands: whether it may have hashes, as in version 2, whether numbers stand in the place of names, and its
+/// nesting.
+#[derive(Clone, Copy)]
+pub struct Node {
+    pub later: bool,
+    pub numbered: bool,
+    pub nesting: u32,
+}
+
+/// An outermost message with names.
+pub fn message(alloc: Global, at: Cursor<'_>, later: bool) -> Read<'_, SMsg>
     ensures { Gives (λ x. (msg_of x.0, state_of x.1)) result
-        (read limited (msg later numbered nesting) (state_of at.entry)) }
+        (read limited (msg later false 1) (state_of at.entry)) }
 {
-    let (tree, at) = boxed_message(alloc, at, later, numbered, nesting)?;
+    let node = Node {
+        later,
+        numbered: false,
+        nesting: 1,
+    };
+    message_of(alloc, at, node)
+}
+
+/// A message that stands so.
+pub fn message_of(alloc: Global, at: Cursor<'_>, node: Node) -> Read<'_, SMsg>
+    requires { node.nesting ≤ 1001 }
+    ensures { Gives (λ x. (msg_of x.0, state_of x.1)) result
+        (read limited (msg node.later node.numbered node.nesting) (state_of at.entry)) }
+{
+    let (tree, at) = boxed_message(alloc, at, node)?;
     Ok((Box::into_inner(tree), at))
 }
 
 /// The message as a box, with the place behind it.
 ///
 /// What reads a part of a message holds it as a box while it reads the next part, so that deep messages fit the stack.
-fn boxed<'t>(alloc: Global, tree: SMsg, at: Cursor<'t>) -> Result<(Box<SMsg>, Cursor<'t>), Stop>
+fn boxed(alloc: Global, tree: SMsg, at: Cursor<'_>) -> Part<'_>
     ensures { Gives (λ x. (msg_of x.0.value, state_of x.1)) result (done (msg_of tree) (state_of at.entry)) }
 {
     Ok((Box::new(alloc, tree)?, at))
 }
 
 #[cycle(messages)]
-fn boxed_message<'t>(
-    alloc: Global,
-    at: Cursor<'t>,
-    later: bool,
-    numbered: bool,
-    nesting: u32,
-) -> Result<(Box<SMsg>, Cursor<'t>), Stop>
-    requires { nesting ≤ 1001 }
+fn boxed_message(alloc: Global, at: Cursor<'_>, node: Node) -> Part<'_>
+    requires { node.nesting ≤ 1001 }
     ensures { Gives (λ x. (msg_of x.0.value, state_of x.1)) result
-        (read limited (msg later numbered nesting) (state_of at.entry)) }
+        (read limited (msg node.later node.numbered node.nesting) (state_of at.entry)) }
 {
-    message_step(alloc, at, later, numbered, nesting)
+    message_step(alloc, at, node)
 }
 
 #[cycle(messages)]
-fn message_step<'t>(
-    alloc: Global,
-    at: Cursor<'t>,
-    later: bool,
-    numbered: bool,
-    nesting: u32,
-) -> Result<(Box<SMsg>, Cursor<'t>), Stop>
-    requires { nesting ≤ 1001 }
+fn message_step(alloc: Global, at: Cursor<'_>, node: Node) -> Part<'_>
+    requires { node.nesting ≤ 1001 }
     ensures { Gives (λ x. (msg_of x.0.value, state_of x.1)) result
-        (step limited (read limited) (msg later numbered nesting) (state_of at.entry)) }
+        (step limited (read limited) (msg node.later node.numbered node.nesting) (state_of at.entry)) }
 {
-    let [first, rest @ ..] = at.rest else {
-        return Err(syntax(0));
-    };
-    let next = Cursor {
-        rest,
-        end: first.span.to,
-    };
+    let (first, next) = next_token(at)?;
     match &first.kind {
         Kind::Word(word) => {
-            if numbered {
+            if node.numbered {
                 return Err(syntax(at.rest.len()));
             }
-            if nesting > MESSAGE_LIMIT {
-                return Err(too_deep(at.rest.len()));
-            }
+            fits(node.nesting, MESSAGE_LIMIT, at.rest.len())?;
             read_name(alloc, word, first.span, next)
         }
         Kind::Mark(Mark::ParenOpen) => {
-            if nesting > MESSAGE_LIMIT {
-                return Err(too_deep(at.rest.len()));
-            }
-            message_in_parens(alloc, first.span, next, later, numbered, nesting)
+            fits(node.nesting, MESSAGE_LIMIT, at.rest.len())?;
+            message_in_parens(alloc, first.span, next, node)
         }
         Kind::Mark(Mark::BraceOpen) => {
-            if nesting > MESSAGE_LIMIT {
-                return Err(too_deep(at.rest.len()));
-            }
-            read_enc(alloc, first.span, next, later, numbered, nesting)
+            fits(node.nesting, MESSAGE_LIMIT, at.rest.len())?;
+            read_enc(alloc, first.span, next, node)
         }
         Kind::Mark(Mark::NumberSign) => {
-            if !numbered {
+            if !node.numbered {
                 return Err(syntax(at.rest.len()));
             }
-            if nesting > MESSAGE_LIMIT {
-                return Err(too_deep(at.rest.len()));
-            }
-            read_numeral(alloc, first.span, next, later, numbered, nesting)
+            fits(node.nesting, MESSAGE_LIMIT, at.rest.len())?;
+            read_numeral(alloc, first.span, next, node)
         }
         Kind::Reserved(Reserved::Inl) => {
-            if nesting > MESSAGE_LIMIT {
-                return Err(too_deep(at.rest.len()));
-            }
-            read_inl(alloc, first.span, next, later, numbered, nesting)
+            fits(node.nesting, MESSAGE_LIMIT, at.rest.len())?;
+            read_inl(alloc, first.span, next, node)
         }
         Kind::Reserved(Reserved::Inr) => {
-            if nesting > MESSAGE_LIMIT {
-                return Err(too_deep(at.rest.len()));
-            }
-            read_inr(alloc, first.span, next, later, numbered, nesting)
+            fits(node.nesting, MESSAGE_LIMIT, at.rest.len())?;
+            read_inr(alloc, first.span, next, node)
         }
         Kind::Reserved(Reserved::Hash) => {
-            if !later {
+            if !node.later {
                 return Err(syntax(at.rest.len()));
             }
-            if nesting > MESSAGE_LIMIT {
-                return Err(too_deep(at.rest.len()));
-            }
-            read_hash(alloc, first.span, next, later, numbered, nesting)
+            fits(node.nesting, MESSAGE_LIMIT, at.rest.len())?;
+            read_hash(alloc, first.span, next, node)
         }
         _ => Err(syntax(at.rest.len())),
     }
 }
 
-fn read_name<'t>(
-    alloc: Global,
-    word: &Text,
-    span: Span,
-    at: Cursor<'t>,
-) -> Result<(Box<SMsg>, Cursor<'t>), Stop>
+fn read_name<'t>(alloc: Global, word: &Text, span: Span, at: Cursor<'t>) -> Part<'t>
     ensures { Gives (λ x. (msg_of x.0.value, state_of x.1)) result
         (done (name span (word_at word.now span)) (state_of at.entry)) }
 {
@@ -159,200 +140,141 @@ fn read_name<'t>(
     Ok((Box::new(alloc, SMsg::Name { name, span })?, at))
 }
 
-fn read_numeral<'t>(
-    alloc: Global,
-    first: Span,
-    at: Cursor<'t>,
-    later: bool,
-    numbered: bool,
-    nesting: u32,
-) -> Result<(Box<SMsg>, Cursor<'t>), Stop>
+fn read_numeral(alloc: Global, first: Span, at: Cursor<'_>, node: Node) -> Part<'_>
     ensures { Gives (λ x. (msg_of x.0.value, state_of x.1)) result
-        (numeral_form later numbered nesting (first ∷ []) (state_of at.entry)) }
+        (numeral_form node.later node.numbered node.nesting (first ∷ []) (state_of at.entry)) }
 {
     let (number, at) = take_number(at)?;
-    let span = Span {
-        from: first.from,
-        to: at.end,
-    };
+    let span = span_from(first, at);
     boxed(alloc, SMsg::Num { number, span }, at)
 }
 
 #[cycle(messages)]
-fn read_enc<'t>(
-    alloc: Global,
-    first: Span,
-    at: Cursor<'t>,
-    later: bool,
-    numbered: bool,
-    nesting: u32,
-) -> Result<(Box<SMsg>, Cursor<'t>), Stop>
-    requires { nesting ≤ 1000 }
+fn read_enc(alloc: Global, first: Span, at: Cursor<'_>, node: Node) -> Part<'_>
+    requires { node.nesting ≤ 1000 }
     ensures { Gives (λ x. (msg_of x.0.value, state_of x.1)) result
-        (enc_form later numbered nesting (first ∷ []) (state_of at.entry)) }
+        (enc_form node.later node.numbered node.nesting (first ∷ []) (state_of at.entry)) }
 {
-    let (body, at) = boxed_message(alloc, at, later, numbered, nesting + 1)?;
-    let at = take_mark(at, Mark::BraceClose)?;
-    let (key, at) = boxed_message(alloc, at, later, numbered, nesting + 1)?;
-    let span = Span {
-        from: first.from,
-        to: at.end,
+    let inner = Node {
+        nesting: node.nesting + 1,
+        ..node
     };
+    let (body, at) = boxed_message(alloc, at, inner)?;
+    let at = take_mark(at, Mark::BraceClose)?;
+    let (key, at) = boxed_message(alloc, at, inner)?;
+    let span = span_from(first, at);
     boxed(alloc, SMsg::Enc { body, key, span }, at)
 }
 
 #[cycle(messages)]
-fn read_inl<'t>(
-    alloc: Global,
-    first: Span,
-    at: Cursor<'t>,
-    later: bool,
-    numbered: bool,
-    nesting: u32,
-) -> Result<(Box<SMsg>, Cursor<'t>), Stop>
-    requires { nesting ≤ 1000 }
+fn read_inl(alloc: Global, first: Span, at: Cursor<'_>, node: Node) -> Part<'_>
+    requires { node.nesting ≤ 1000 }
     ensures { Gives (λ x. (msg_of x.0.value, state_of x.1)) result
-        (inl_form later numbered nesting (first ∷ []) (state_of at.entry)) }
+        (inl_form node.later node.numbered node.nesting (first ∷ []) (state_of at.entry)) }
 {
-    let (part, at) = boxed_message(alloc, at, later, numbered, nesting + 1)?;
-    let span = Span {
-        from: first.from,
-        to: at.end,
+    let inner = Node {
+        nesting: node.nesting + 1,
+        ..node
     };
+    let (part, at) = boxed_message(alloc, at, inner)?;
+    let span = span_from(first, at);
     boxed(alloc, SMsg::Inl { part, span }, at)
 }
 
 #[cycle(messages)]
-fn read_inr<'t>(
-    alloc: Global,
-    first: Span,
-    at: Cursor<'t>,
-    later: bool,
-    numbered: bool,
-    nesting: u32,
-) -> Result<(Box<SMsg>, Cursor<'t>), Stop>
-    requires { nesting ≤ 1000 }
+fn read_inr(alloc: Global, first: Span, at: Cursor<'_>, node: Node) -> Part<'_>
+    requires { node.nesting ≤ 1000 }
     ensures { Gives (λ x. (msg_of x.0.value, state_of x.1)) result
-        (inr_form later numbered nesting (first ∷ []) (state_of at.entry)) }
+        (inr_form node.later node.numbered node.nesting (first ∷ []) (state_of at.entry)) }
 {
-    let (part, at) = boxed_message(alloc, at, later, numbered, nesting + 1)?;
-    let span = Span {
-        from: first.from,
-        to: at.end,
+    let inner = Node {
+        nesting: node.nesting + 1,
+        ..node
     };
+    let (part, at) = boxed_message(alloc, at, inner)?;
+    let span = span_from(first, at);
     boxed(alloc, SMsg::Inr { part, span }, at)
 }
 
 #[cycle(messages)]
-fn read_hash<'t>(
-    alloc: Global,
-    first: Span,
-    at: Cursor<'t>,
-    later: bool,
-    numbered: bool,
-    nesting: u32,
-) -> Result<(Box<SMsg>, Cursor<'t>), Stop>
-    requires { nesting ≤ 1000 }
+fn read_hash(alloc: Global, first: Span, at: Cursor<'_>, node: Node) -> Part<'_>
+    requires { node.nesting ≤ 1000 }
     ensures { Gives (λ x. (msg_of x.0.value, state_of x.1)) result
-        (hash_form later numbered nesting (first ∷ []) (state_of at.entry)) }
+        (hash_form node.later node.numbered node.nesting (first ∷ []) (state_of at.entry)) }
 {
-    let at = take_mark(at, Mark::ParenOpen)?;
-    let (part, at) = boxed_message(alloc, at, later, numbered, nesting + 1)?;
-    let at = take_mark(at, Mark::ParenClose)?;
-    let span = Span {
-        from: first.from,
-        to: at.end,
+    let inner = Node {
+        nesting: node.nesting + 1,
+        ..node
     };
+    let at = take_mark(at, Mark::ParenOpen)?;
+    let (part, at) = boxed_message(alloc, at, inner)?;
+    let at = take_mark(at, Mark::ParenClose)?;
+    let span = span_from(first, at);
     boxed(alloc, SMsg::Hash { part, span }, at)
 }
 
 #[cycle(messages)]
-fn message_in_parens<'t>(
-    alloc: Global,
-    first: Span,
-    at: Cursor<'t>,
-    later: bool,
-    numbered: bool,
-    nesting: u32,
-) -> Result<(Box<SMsg>, Cursor<'t>), Stop>
-    requires { nesting ≤ 1000 }
+fn message_in_parens(alloc: Global, first: Span, at: Cursor<'_>, node: Node) -> Part<'_>
+    requires { node.nesting ≤ 1000 }
     ensures { Gives (λ x. (msg_of x.0.value, state_of x.1)) result
-        (behind limited (read limited) (delta_paren later numbered nesting) (first ∷ [])
+        (behind limited (read limited) (delta_paren node.later node.numbered node.nesting) (first ∷ [])
         (state_of at.entry)) }
 {
-    let [second, rest @ ..] = at.rest else {
-        return Err(syntax(0));
-    };
+    let (second, next) = next_token(at)?;
     match second.kind {
         Kind::Mark(Mark::ParenClose) => {
-            let end = second.span.to;
-            let span = Span {
-                from: first.from,
-                to: end,
-            };
-            boxed(alloc, SMsg::Unit { span }, Cursor { rest, end })
+            let span = span_from(first, next);
+            boxed(alloc, SMsg::Unit { span }, next)
         }
-        _ => read_tuple(alloc, first, at, later, numbered, nesting),
+        _ => read_tuple(alloc, first, at, node),
     }
 }
 
 #[cycle(messages)]
-fn read_tuple<'t>(
-    alloc: Global,
-    opening: Span,
-    at: Cursor<'t>,
-    later: bool,
-    numbered: bool,
-    nesting: u32,
-) -> Result<(Box<SMsg>, Cursor<'t>), Stop>
-    requires { nesting ≤ 1000 }
+fn read_tuple(alloc: Global, opening: Span, at: Cursor<'_>, node: Node) -> Part<'_>
+    requires { node.nesting ≤ 1000 }
     ensures { Gives (λ x. (msg_of x.0.value, state_of x.1)) result
-        (tuple_form later numbered nesting (opening ∷ []) (state_of at.entry)) }
+        (tuple_form node.later node.numbered node.nesting (opening ∷ []) (state_of at.entry)) }
 {
-    let (first, at) = boxed_message(alloc, at, later, numbered, nesting + 1)?;
+    let inner = Node {
+        nesting: node.nesting + 1,
+        ..node
+    };
+    let (first, at) = boxed_message(alloc, at, inner)?;
     let at = take_mark(at, Mark::Comma)?;
-    let (second, at) = boxed_message(alloc, at, later, numbered, nesting + 1)?;
-    let (more, at) = more_messages(alloc, at, later, numbered, nesting + 1)?;
+    let (second, at) = boxed_message(alloc, at, inner)?;
+    let (more, at) = more_messages(alloc, at, inner)?;
     end_tuple(alloc, opening, first, second, more, at)
 }
 
 /// The tuple of these parts, which ends before this place.
-fn end_tuple<'t>(
+fn end_tuple(
     alloc: Global,
     opening: Span,
     first: Box<SMsg>,
     second: Box<SMsg>,
     more: Vec<SMsg>,
-    at: Cursor<'t>,
-) -> Result<(Box<SMsg>, Cursor<'t>), Stop>
+    at: Cursor<'_>,
+) -> Part<'_>
     ensures { Gives (λ x. (msg_of x.0.value, state_of x.1)) result
         (done (tuple (over (opening ∷ []) at.entry.end) (msg_of first.value) (msg_of second.value)
         (msgs_of_list (map msg_of more.items))) (state_of at.entry)) }
 {
-    let span = Span {
-        from: opening.from,
-        to: at.end,
-    };
+    let span = span_from(opening, at);
     let tuple = make_tuple(first, second, more, span);
     Ok((Box::new(alloc, tuple)?, at))
 }
 
 #[cycle(messages)]
-fn more_messages<'t>(
-    alloc: Global,
-    start: Cursor<'t>,
-    later: bool,
-    numbered: bool,
-    nesting: u32,
-) -> Result<(Vec<SMsg>, Cursor<'t>), Stop>
-    requires { nesting ≤ 1001 }
+fn more_messages(alloc: Global, start: Cursor<'_>, node: Node) -> Read<'_, Vec<SMsg>>
+    requires { node.nesting ≤ 1001 }
     ensures { Gives (λ x. ((map msg_of x.0.items, tt), state_of x.1)) result
-        (read limited (msgs later numbered nesting) (state_of start.entry)) }
+        (read limited (msgs node.later node.numbered node.nesting) (state_of start.entry)) }
 {
     let mut more = Vec::new(alloc);
     let mut at = start;
     'items: loop {
-        let (item, after) = next_message(alloc, at, later, numbered, nesting)?;
+        let (item, after) = next_message(alloc, at, node)?;
         match item {
             Some(part) => more.push(Box::into_inner(part))?,
             None => return Ok((more, after)),
@@ -362,42 +284,15 @@ fn more_messages<'t>(
 }
 
 #[cycle(messages)]
-fn next_message<'t>(
-    alloc: Global,
-    at: Cursor<'t>,
-    later: bool,
-    numbered: bool,
-    nesting: u32,
-) -> Result<(Option<Box<SMsg>>, Cursor<'t>), Stop>
-    requires { nesting ≤ 1001 }
+fn next_message(alloc: Global, at: Cursor<'_>, node: Node) -> Read<'_, Option<Box<SMsg>>>
+    requires { node.nesting ≤ 1001 }
     ensures { Gives (λ x. (item_of (λ b. msg_of b.value) tt x.0, state_of x.1)) result
-        (read limited (msgs_item later numbered nesting) (state_of at.entry)) }
+        (read limited (msgs_item node.later node.numbered node.nesting) (state_of at.entry)) }
 {
-    next_message_step(alloc, at, later, numbered, nesting)
-}
-
-#[cycle(messages)]
-fn next_message_step<'t>(
-    alloc: Global,
-    at: Cursor<'t>,
-    later: bool,
-    numbered: bool,
-    nesting: u32,
-) -> Result<(Option<Box<SMsg>>, Cursor<'t>), Stop>
-    requires { nesting ≤ 1001 }
-    ensures { Gives (λ x. (item_of (λ b. msg_of b.value) tt x.0, state_of x.1)) result
-        (step limited (read limited) (msgs_item later numbered nesting) (state_of at.entry)) }
-{
-    let [first, rest @ ..] = at.rest else {
-        return Err(syntax(0));
-    };
-    let next = Cursor {
-        rest,
-        end: first.span.to,
-    };
+    let (first, next) = next_token(at)?;
     match first.kind {
         Kind::Mark(Mark::Comma) => {
-            let (part, at) = boxed_message(alloc, next, later, numbered, nesting)?;
+            let (part, at) = boxed_message(alloc, next, node)?;
             Ok((Some(part), at))
         }
         Kind::Mark(Mark::ParenClose) => Ok((None, next)),

@@ -1,24 +1,25 @@
 //! The parts of files, read by themselves.
 
-ghost use Rattle.std.specs.Prelude.{◌≡◌, ◌≤◌, ◌⊎◌, ◌==◌, length};
+ghost use Rattle.std.specs.Prelude.{◌≡◌, ◌≤◌, ◌⊎◌, ◌==◌, ◌-◌, length, drop, Ok, Err, MatchResult};
 ghost use Rattle.spi_lex.specs.Lexing.{kinds_of};
 ghost use Rattle.spi_tree.specs.Trees.{File};
 ghost use Rattle.spi_tree.specs.Pieces.{tokens_of};
 ghost use Rattle.spi_tree.specs.Formed.{AreWordsFit};
-ghost use Rattle.spi_tree.specs.Views.{ty_of, msg_of, proc_of};
+ghost use Rattle.spi_tree.specs.Views.{decl_of, ty_of, msg_of, proc_of};
 ghost use Rattle.spi_parse.specs.Bare.{bare_file};
 ghost use Rattle.spi_parse.specs.Exact.{Reads};
 ghost use Rattle.spi_parse.specs.Faults.{fault_at};
-ghost use Rattle.spi_parse.specs.Formed.{IsFile, whole_type, whole_message, whole_process, IsWholeType, IsWholeMessage, IsWholeProcess};
+ghost use Rattle.spi_parse.specs.Formed.{IsFile, whole_decl, whole_type, whole_message, whole_process, IsWholeDecl, IsWholeType, IsWholeMessage, IsWholeProcess};
 
 use crate::ParseFault;
-use crate::cursor::Cursor;
+use crate::cursor::{Cursor, Read};
+use crate::declarations::declaration;
 use crate::fault::{Fault, Stop};
 use crate::messages::message;
 use crate::processes::process;
 use crate::types::read_type;
 use spi_lex::Token;
-use spi_tree::{SMsg, SProc, STy};
+use spi_tree::{Decl, SMsg, SProc, STy};
 use std::alloc::Global;
 
 /// The fault by the number of its token, among so many.
@@ -35,6 +36,51 @@ pub fn fault_of(count: usize, stop: Stop) -> ParseFault
             token: count.saturating_sub(left) as u32,
         },
     }
+}
+
+/// The place before the token of this number.
+fn place_at(tokens: &[Token], from: u32) -> Cursor<'_>
+    requires { from ≤ length tokens.now }
+    ensures { (result.rest.now ≡ drop from tokens.now) × (result.end ≡ 0) }
+{
+    Cursor {
+        rest: &tokens[from as usize..],
+        end: 0,
+    }
+}
+
+/// What reading answered, with the number of the token behind the part, or the fault by the number of its token.
+fn by_number<X>(tokens: &[Token], answer: Read<'_, X>) -> Result<(X, u32), ParseFault>
+    requires { length tokens.now ≤ 16_777_216 }
+    ensures { MatchResult answer.entry (λ x. result ≡ Ok (x.0, length tokens.now - length x.1.rest.now))
+        (λ e. result ≡ Err (fault_at (length tokens.now) e)) }
+{
+    match answer {
+        Ok((part, at)) => Ok((part, tokens.len().saturating_sub(at.rest.len()) as u32)),
+        Err(stop) => Err(fault_of(tokens.len(), stop)),
+    }
+}
+
+/// The declaration that the tokens from number `from` on begin with, in a text of the version, and the number of the
+/// token behind it.
+///
+/// Where they begin with none that is within the nesting limits, the fault counts its token in the whole list. `Syntax` is at
+/// the token with which no declaration goes on, and at the end it is the number of tokens. `TooDeep` is at the first token at
+/// which a node of some declaration starts that is above its nesting limit. `NoMemory` comes where memory runs out.
+pub fn decl_at(
+    alloc: Global,
+    tokens: &[Token],
+    from: u32,
+    version: u32,
+) -> Result<(Decl, u32), ParseFault>
+    requires size { length tokens.now ≤ 16_777_216 }
+    requires start { from ≤ length tokens.now }
+    requires known { (version ≡ 1) ⊎ (version ≡ 2) }
+    requires words { AreWordsFit (version == 2) (kinds_of tokens.now) }
+    ensures { Reads decl_of whole_decl (IsWholeDecl (version == 2)) result tokens.now from }
+{
+    let start = place_at(tokens, from);
+    by_number(tokens, declaration(alloc, start, version == 2))
 }
 
 /// The type that the tokens from number `from` on begin with, in a text of the version, and the number of the token
@@ -55,14 +101,8 @@ pub fn type_at(
     requires words { AreWordsFit (version == 2) (kinds_of tokens.now) }
     ensures { Reads ty_of whole_type (IsWholeType (version == 2)) result tokens.now from }
 {
-    let start = Cursor {
-        rest: &tokens[from as usize..],
-        end: 0,
-    };
-    match read_type(alloc, start, version == 2, 1) {
-        Ok((part, at)) => Ok((part, tokens.len().saturating_sub(at.rest.len()) as u32)),
-        Err(stop) => Err(fault_of(tokens.len(), stop)),
-    }
+    let start = place_at(tokens, from);
+    by_number(tokens, read_type(alloc, start, version == 2, 1))
 }
 
 /// The message that the tokens from number `from` on begin with, in a text of the version, and the number of the
@@ -83,14 +123,8 @@ pub fn message_at(
     requires words { AreWordsFit (version == 2) (kinds_of tokens.now) }
     ensures { Reads msg_of whole_message (IsWholeMessage (version == 2)) result tokens.now from }
 {
-    let start = Cursor {
-        rest: &tokens[from as usize..],
-        end: 0,
-    };
-    match message(alloc, start, version == 2, false, 1) {
-        Ok((part, at)) => Ok((part, tokens.len().saturating_sub(at.rest.len()) as u32)),
-        Err(stop) => Err(fault_of(tokens.len(), stop)),
-    }
+    let start = place_at(tokens, from);
+    by_number(tokens, message(alloc, start, version == 2))
 }
 
 /// The process that the tokens from number `from` on begin with, in a text of the version, and the number of the
@@ -111,14 +145,8 @@ pub fn process_at(
     requires words { AreWordsFit (version == 2) (kinds_of tokens.now) }
     ensures { Reads proc_of whole_process (IsWholeProcess (version == 2)) result tokens.now from }
 {
-    let start = Cursor {
-        rest: &tokens[from as usize..],
-        end: 0,
-    };
-    match process(alloc, start, version == 2, 0) {
-        Ok((part, at)) => Ok((part, tokens.len().saturating_sub(at.rest.len()) as u32)),
-        Err(stop) => Err(fault_of(tokens.len(), stop)),
-    }
+    let start = place_at(tokens, from);
+    by_number(tokens, process(alloc, start, version == 2, 0))
 }
 
 /// Two formed trees with the same tokens are equal up to spans.

@@ -8,10 +8,9 @@ ghost use Rattle.spi_parse.specs.Ends.{done, boxed_option};
 ghost use Rattle.spi_parse.specs.FormMoves.{by_form};
 ghost use Rattle.spi_parse.specs.declared.forms.Form.TheVariants as forms;
 ghost use Rattle.spi_parse.specs.Table.{sproc, seq, out_tail, par_tail, out_of, over};
-ghost use Rattle.spi_parse.specs.Reading.{Gives, read, step, limited};
+ghost use Rattle.spi_parse.specs.Reading.{Gives, read, limited};
 
-use crate::cursor::{Cursor, process_fits, syntax};
-use crate::fault::Stop;
+use crate::cursor::{Cursor, PROCESS_LIMIT, Read, fits, next_token, span_from, syntax};
 use crate::forms::{Event, Form, Open, Plain, Talk, form_of};
 use crate::heads::{
     binder, case_head, cast_head, check_head, decrypt_head, match_head, split_head,
@@ -23,13 +22,11 @@ use spi_text::Span;
 use spi_tree::{SMsg, SProc};
 use std::alloc::Global;
 
+/// A process in a box, with the place behind it.
+type Part<'t> = Read<'t, Box<SProc>>;
+
 /// A process of a level.
-pub fn process<'t>(
-    alloc: Global,
-    at: Cursor<'t>,
-    later: bool,
-    level: u32,
-) -> Result<(SProc, Cursor<'t>), Stop>
+pub fn process(alloc: Global, at: Cursor<'_>, later: bool, level: u32) -> Read<'_, SProc>
     requires { level ≤ 500 }
     ensures { Gives (λ x. (proc_of x.0, state_of x.1)) result
         (read limited (sproc later level) (state_of at.entry)) }
@@ -39,7 +36,7 @@ pub fn process<'t>(
 }
 
 /// The process as a box, with the place behind it.
-fn boxed<'t>(alloc: Global, tree: SProc, at: Cursor<'t>) -> Result<(Box<SProc>, Cursor<'t>), Stop>
+fn boxed(alloc: Global, tree: SProc, at: Cursor<'_>) -> Part<'_>
     ensures { Gives (λ x. (proc_of x.0.value, state_of x.1)) result
         (done (proc_of tree) (state_of at.entry)) }
 {
@@ -47,69 +44,28 @@ fn boxed<'t>(alloc: Global, tree: SProc, at: Cursor<'t>) -> Result<(Box<SProc>, 
 }
 
 #[cycle(processes)]
-fn parallel<'t>(
-    alloc: Global,
-    at: Cursor<'t>,
-    later: bool,
-    level: u32,
-) -> Result<(Box<SProc>, Cursor<'t>), Stop>
+fn parallel(alloc: Global, at: Cursor<'_>, later: bool, level: u32) -> Part<'_>
     requires { level ≤ 500 }
     ensures { Gives (λ x. (proc_of x.0.value, state_of x.1)) result
         (read limited (sproc later level) (state_of at.entry)) }
 {
-    parallel_step(alloc, at, later, level)
-}
-
-#[cycle(processes)]
-fn parallel_step<'t>(
-    alloc: Global,
-    at: Cursor<'t>,
-    later: bool,
-    level: u32,
-) -> Result<(Box<SProc>, Cursor<'t>), Stop>
-    requires { level ≤ 500 }
-    ensures { Gives (λ x. (proc_of x.0.value, state_of x.1)) result
-        (step limited (read limited) (sproc later level) (state_of at.entry)) }
-{
-    let [token, ..] = at.rest else {
-        return Err(syntax(0));
-    };
-    let from = token.span.from;
+    let (token, _) = next_token(at)?;
     let (first, at) = sequence(alloc, at, later, level + 1)?;
     let (rest, at) = par_rest(alloc, at, later, level)?;
     match rest {
         None => Ok((first, at)),
         Some(rest) => {
-            let span = Span { from, to: at.end };
+            let span = span_from(token.span, at);
             boxed(alloc, SProc::Par { first, rest, span }, at)
         }
     }
 }
 
 #[cycle(processes)]
-fn sequence<'t>(
-    alloc: Global,
-    at: Cursor<'t>,
-    later: bool,
-    nesting: u32,
-) -> Result<(Box<SProc>, Cursor<'t>), Stop>
+fn sequence(alloc: Global, at: Cursor<'_>, later: bool, nesting: u32) -> Part<'_>
     requires { nesting ≤ 501 }
     ensures { Gives (λ x. (proc_of x.0.value, state_of x.1)) result
         (read limited (seq later nesting) (state_of at.entry)) }
-{
-    sequence_step(alloc, at, later, nesting)
-}
-
-#[cycle(processes)]
-fn sequence_step<'t>(
-    alloc: Global,
-    at: Cursor<'t>,
-    later: bool,
-    nesting: u32,
-) -> Result<(Box<SProc>, Cursor<'t>), Stop>
-    requires { nesting ≤ 501 }
-    ensures { Gives (λ x. (proc_of x.0.value, state_of x.1)) result
-        (step limited (read limited) (seq later nesting) (state_of at.entry)) }
 {
     let [first, ..] = at.rest else {
         return Err(syntax(0));
@@ -119,13 +75,7 @@ fn sequence_step<'t>(
 }
 
 #[cycle(processes)]
-fn read_form<'t>(
-    alloc: Global,
-    form: Form,
-    at: Cursor<'t>,
-    later: bool,
-    nesting: u32,
-) -> Result<(Box<SProc>, Cursor<'t>), Stop>
+fn read_form(alloc: Global, form: Form, at: Cursor<'_>, later: bool, nesting: u32) -> Part<'_>
     requires { nesting ≤ 501 }
     ensures { Gives (λ x. (proc_of x.0.value, state_of x.1)) result
         (by_form later nesting form (state_of at.entry)) }
@@ -136,34 +86,20 @@ fn read_form<'t>(
         Form::Event(form) => read_event(alloc, form, at, later, nesting),
         Form::Plain(form) => read_plain(alloc, form, at, later, nesting),
         Form::NoForm => {
-            let [_, ..] = at.rest else {
-                return Err(syntax(0));
-            };
+            next_token(at)?;
             Err(syntax(at.rest.len()))
         }
     }
 }
 
 #[cycle(processes)]
-fn read_talk<'t>(
-    alloc: Global,
-    form: Talk,
-    at: Cursor<'t>,
-    later: bool,
-    nesting: u32,
-) -> Result<(Box<SProc>, Cursor<'t>), Stop>
+fn read_talk(alloc: Global, form: Talk, at: Cursor<'_>, later: bool, nesting: u32) -> Part<'_>
     requires { nesting ≤ 501 }
     ensures { Gives (λ x. (proc_of x.0.value, state_of x.1)) result
         (by_form later nesting (forms.Talk form) (state_of at.entry)) }
 {
-    let [first, rest @ ..] = at.rest else {
-        return Err(syntax(0));
-    };
-    let next = Cursor {
-        rest,
-        end: first.span.to,
-    };
-    process_fits(nesting, at.rest.len())?;
+    let (first, next) = next_token(at)?;
+    fits(nesting, PROCESS_LIMIT, at.rest.len())?;
     match form {
         Talk::Out => read_out(alloc, first.span, next, later, nesting),
         Talk::Inp => read_inp(alloc, first.span, next, later, nesting),
@@ -172,25 +108,13 @@ fn read_talk<'t>(
 }
 
 #[cycle(processes)]
-fn read_open<'t>(
-    alloc: Global,
-    form: Open,
-    at: Cursor<'t>,
-    later: bool,
-    nesting: u32,
-) -> Result<(Box<SProc>, Cursor<'t>), Stop>
+fn read_open(alloc: Global, form: Open, at: Cursor<'_>, later: bool, nesting: u32) -> Part<'_>
     requires { nesting ≤ 501 }
     ensures { Gives (λ x. (proc_of x.0.value, state_of x.1)) result
         (by_form later nesting (forms.Open form) (state_of at.entry)) }
 {
-    let [first, rest @ ..] = at.rest else {
-        return Err(syntax(0));
-    };
-    let next = Cursor {
-        rest,
-        end: first.span.to,
-    };
-    process_fits(nesting, at.rest.len())?;
+    let (first, next) = next_token(at)?;
+    fits(nesting, PROCESS_LIMIT, at.rest.len())?;
     match form {
         Open::Split => read_split(alloc, first.span, next, later, nesting),
         Open::Match => read_match(alloc, first.span, next, later, nesting),
@@ -200,25 +124,13 @@ fn read_open<'t>(
 }
 
 #[cycle(processes)]
-fn read_event<'t>(
-    alloc: Global,
-    form: Event,
-    at: Cursor<'t>,
-    later: bool,
-    nesting: u32,
-) -> Result<(Box<SProc>, Cursor<'t>), Stop>
+fn read_event(alloc: Global, form: Event, at: Cursor<'_>, later: bool, nesting: u32) -> Part<'_>
     requires { nesting ≤ 501 }
     ensures { Gives (λ x. (proc_of x.0.value, state_of x.1)) result
         (by_form later nesting (forms.Event form) (state_of at.entry)) }
 {
-    let [first, rest @ ..] = at.rest else {
-        return Err(syntax(0));
-    };
-    let next = Cursor {
-        rest,
-        end: first.span.to,
-    };
-    process_fits(nesting, at.rest.len())?;
+    let (first, next) = next_token(at)?;
+    fits(nesting, PROCESS_LIMIT, at.rest.len())?;
     match form {
         Event::Check => read_check(alloc, first.span, next, later, nesting),
         Event::Begin => read_begin(alloc, first.span, next, later, nesting),
@@ -228,25 +140,13 @@ fn read_event<'t>(
 }
 
 #[cycle(processes)]
-fn read_plain<'t>(
-    alloc: Global,
-    form: Plain,
-    at: Cursor<'t>,
-    later: bool,
-    nesting: u32,
-) -> Result<(Box<SProc>, Cursor<'t>), Stop>
+fn read_plain(alloc: Global, form: Plain, at: Cursor<'_>, later: bool, nesting: u32) -> Part<'_>
     requires { nesting ≤ 501 }
     ensures { Gives (λ x. (proc_of x.0.value, state_of x.1)) result
         (by_form later nesting (forms.Plain form) (state_of at.entry)) }
 {
-    let [first, rest @ ..] = at.rest else {
-        return Err(syntax(0));
-    };
-    let next = Cursor {
-        rest,
-        end: first.span.to,
-    };
-    process_fits(nesting, at.rest.len())?;
+    let (first, next) = next_token(at)?;
+    fits(nesting, PROCESS_LIMIT, at.rest.len())?;
     match form {
         Plain::Cast => read_cast(alloc, first.span, next, later, nesting),
         Plain::New => read_new(alloc, first.span, next, later, nesting),
@@ -256,40 +156,31 @@ fn read_plain<'t>(
 }
 
 #[cycle(processes)]
-fn read_out<'t>(
-    alloc: Global,
-    first: Span,
-    at: Cursor<'t>,
-    later: bool,
-    nesting: u32,
-) -> Result<(Box<SProc>, Cursor<'t>), Stop>
+fn read_out(alloc: Global, first: Span, at: Cursor<'_>, later: bool, nesting: u32) -> Part<'_>
     requires { nesting ≤ 500 }
     ensures { Gives (λ x. (proc_of x.0.value, state_of x.1)) result
         (out_form later nesting (first ∷ []) (state_of at.entry)) }
 {
-    let (channel, at) = message(alloc, at, later, false, 1)?;
-    let (datum, at) = message(alloc, at, later, false, 1)?;
+    let (channel, at) = message(alloc, at, later)?;
+    let (datum, at) = message(alloc, at, later)?;
     let (then, at) = out_rest(alloc, at, later, nesting)?;
     end_out(alloc, first, channel, datum, then, at)
 }
 
 /// The sending of these parts, which ends before this place.
-fn end_out<'t>(
+fn end_out(
     alloc: Global,
     first: Span,
     channel: SMsg,
     datum: SMsg,
     then: Option<Box<SProc>>,
-    at: Cursor<'t>,
-) -> Result<(Box<SProc>, Cursor<'t>), Stop>
+    at: Cursor<'_>,
+) -> Part<'_>
     ensures { Gives (λ x. (proc_of x.0.value, state_of x.1)) result
         (done (out_of (over (first ∷ []) at.entry.end) (msg_of channel) (msg_of datum) (boxed_option then))
         (state_of at.entry)) }
 {
-    let span = Span {
-        from: first.from,
-        to: at.end,
-    };
+    let span = span_from(first, at);
     let tree = make_out(channel, datum, then, span);
     Ok((Box::new(alloc, tree)?, at))
 }
@@ -313,24 +204,15 @@ fn make_out(channel: SMsg, datum: SMsg, then: Option<Box<SProc>>, span: Span) ->
 }
 
 #[cycle(processes)]
-fn read_inp<'t>(
-    alloc: Global,
-    first: Span,
-    at: Cursor<'t>,
-    later: bool,
-    nesting: u32,
-) -> Result<(Box<SProc>, Cursor<'t>), Stop>
+fn read_inp(alloc: Global, first: Span, at: Cursor<'_>, later: bool, nesting: u32) -> Part<'_>
     requires { nesting ≤ 500 }
     ensures { Gives (λ x. (proc_of x.0.value, state_of x.1)) result
         (inp_form later nesting (first ∷ []) (state_of at.entry)) }
 {
-    let (channel, at) = message(alloc, at, later, false, 1)?;
+    let (channel, at) = message(alloc, at, later)?;
     let (name, ty, at) = binder(alloc, at, later)?;
     let (then, at) = sequence(alloc, at, later, nesting + 1)?;
-    let span = Span {
-        from: first.from,
-        to: at.end,
-    };
+    let span = span_from(first, at);
     boxed(
         alloc,
         SProc::Inp {
@@ -345,25 +227,16 @@ fn read_inp<'t>(
 }
 
 #[cycle(processes)]
-fn read_repeat<'t>(
-    alloc: Global,
-    first: Span,
-    at: Cursor<'t>,
-    later: bool,
-    nesting: u32,
-) -> Result<(Box<SProc>, Cursor<'t>), Stop>
+fn read_repeat(alloc: Global, first: Span, at: Cursor<'_>, later: bool, nesting: u32) -> Part<'_>
     requires { nesting ≤ 500 }
     ensures { Gives (λ x. (proc_of x.0.value, state_of x.1)) result
         (repeat_form later nesting (first ∷ []) (state_of at.entry)) }
 {
     let at = take_reserved(at, Reserved::Inp)?;
-    let (channel, at) = message(alloc, at, later, false, 1)?;
+    let (channel, at) = message(alloc, at, later)?;
     let (name, ty, at) = binder(alloc, at, later)?;
     let (then, at) = sequence(alloc, at, later, nesting + 1)?;
-    let span = Span {
-        from: first.from,
-        to: at.end,
-    };
+    let span = span_from(first, at);
     boxed(
         alloc,
         SProc::Repeat {
@@ -378,24 +251,15 @@ fn read_repeat<'t>(
 }
 
 #[cycle(processes)]
-fn read_split<'t>(
-    alloc: Global,
-    first: Span,
-    at: Cursor<'t>,
-    later: bool,
-    nesting: u32,
-) -> Result<(Box<SProc>, Cursor<'t>), Stop>
+fn read_split(alloc: Global, first: Span, at: Cursor<'_>, later: bool, nesting: u32) -> Part<'_>
     requires { nesting ≤ 500 }
     ensures { Gives (λ x. (proc_of x.0.value, state_of x.1)) result
         (split_form later nesting (first ∷ []) (state_of at.entry)) }
 {
-    let (whole, at) = message(alloc, at, later, false, 1)?;
+    let (whole, at) = message(alloc, at, later)?;
     let (left, left_ty, right, right_ty, at) = split_head(alloc, at, later)?;
     let (then, at) = sequence(alloc, at, later, nesting + 1)?;
-    let span = Span {
-        from: first.from,
-        to: at.end,
-    };
+    let span = span_from(first, at);
     boxed(
         alloc,
         SProc::Split {
@@ -412,24 +276,15 @@ fn read_split<'t>(
 }
 
 #[cycle(processes)]
-fn read_match<'t>(
-    alloc: Global,
-    first: Span,
-    at: Cursor<'t>,
-    later: bool,
-    nesting: u32,
-) -> Result<(Box<SProc>, Cursor<'t>), Stop>
+fn read_match(alloc: Global, first: Span, at: Cursor<'_>, later: bool, nesting: u32) -> Part<'_>
     requires { nesting ≤ 500 }
     ensures { Gives (λ x. (proc_of x.0.value, state_of x.1)) result
         (match_form later nesting (first ∷ []) (state_of at.entry)) }
 {
-    let (whole, at) = message(alloc, at, later, false, 1)?;
+    let (whole, at) = message(alloc, at, later)?;
     let (left, left_ty, equal, right, right_ty, at) = match_head(alloc, at, later)?;
     let (then, at) = sequence(alloc, at, later, nesting + 1)?;
-    let span = Span {
-        from: first.from,
-        to: at.end,
-    };
+    let span = span_from(first, at);
     boxed(
         alloc,
         SProc::Match {
@@ -447,26 +302,17 @@ fn read_match<'t>(
 }
 
 #[cycle(processes)]
-fn read_case<'t>(
-    alloc: Global,
-    first: Span,
-    at: Cursor<'t>,
-    later: bool,
-    nesting: u32,
-) -> Result<(Box<SProc>, Cursor<'t>), Stop>
+fn read_case(alloc: Global, first: Span, at: Cursor<'_>, later: bool, nesting: u32) -> Part<'_>
     requires { nesting ≤ 500 }
     ensures { Gives (λ x. (proc_of x.0.value, state_of x.1)) result
         (case_form later nesting (first ∷ []) (state_of at.entry)) }
 {
-    let (whole, at) = message(alloc, at, later, false, 1)?;
+    let (whole, at) = message(alloc, at, later)?;
     let (left, left_ty, at) = case_head(alloc, at, later, Reserved::Inl)?;
     let (on_left, at) = sequence(alloc, at, later, nesting + 1)?;
     let (right, right_ty, at) = case_head(alloc, at, later, Reserved::Inr)?;
     let (on_right, at) = sequence(alloc, at, later, nesting + 1)?;
-    let span = Span {
-        from: first.from,
-        to: at.end,
-    };
+    let span = span_from(first, at);
     boxed(
         alloc,
         SProc::Case {
@@ -484,24 +330,15 @@ fn read_case<'t>(
 }
 
 #[cycle(processes)]
-fn read_decrypt<'t>(
-    alloc: Global,
-    first: Span,
-    at: Cursor<'t>,
-    later: bool,
-    nesting: u32,
-) -> Result<(Box<SProc>, Cursor<'t>), Stop>
+fn read_decrypt(alloc: Global, first: Span, at: Cursor<'_>, later: bool, nesting: u32) -> Part<'_>
     requires { nesting ≤ 500 }
     ensures { Gives (λ x. (proc_of x.0.value, state_of x.1)) result
         (decrypt_form later nesting (first ∷ []) (state_of at.entry)) }
 {
-    let (whole, at) = message(alloc, at, later, false, 1)?;
+    let (whole, at) = message(alloc, at, later)?;
     let (name, ty, key, at) = decrypt_head(alloc, at, later)?;
     let (then, at) = sequence(alloc, at, later, nesting + 1)?;
-    let span = Span {
-        from: first.from,
-        to: at.end,
-    };
+    let span = span_from(first, at);
     boxed(
         alloc,
         SProc::Decrypt {
@@ -517,24 +354,15 @@ fn read_decrypt<'t>(
 }
 
 #[cycle(processes)]
-fn read_check<'t>(
-    alloc: Global,
-    first: Span,
-    at: Cursor<'t>,
-    later: bool,
-    nesting: u32,
-) -> Result<(Box<SProc>, Cursor<'t>), Stop>
+fn read_check(alloc: Global, first: Span, at: Cursor<'_>, later: bool, nesting: u32) -> Part<'_>
     requires { nesting ≤ 500 }
     ensures { Gives (λ x. (proc_of x.0.value, state_of x.1)) result
         (check_form later nesting (first ∷ []) (state_of at.entry)) }
 {
-    let (whole, at) = message(alloc, at, later, false, 1)?;
+    let (whole, at) = message(alloc, at, later)?;
     let (nonce, at) = check_head(alloc, at, later)?;
     let (then, at) = sequence(alloc, at, later, nesting + 1)?;
-    let span = Span {
-        from: first.from,
-        to: at.end,
-    };
+    let span = span_from(first, at);
     boxed(
         alloc,
         SProc::Check {
@@ -548,90 +376,54 @@ fn read_check<'t>(
 }
 
 #[cycle(processes)]
-fn read_begin<'t>(
-    alloc: Global,
-    first: Span,
-    at: Cursor<'t>,
-    later: bool,
-    nesting: u32,
-) -> Result<(Box<SProc>, Cursor<'t>), Stop>
+fn read_begin(alloc: Global, first: Span, at: Cursor<'_>, later: bool, nesting: u32) -> Part<'_>
     requires { nesting ≤ 500 }
     ensures { Gives (λ x. (proc_of x.0.value, state_of x.1)) result
         (begin_form later nesting (first ∷ []) (state_of at.entry)) }
 {
-    let (label, at) = message(alloc, at, later, false, 1)?;
+    let (label, at) = message(alloc, at, later)?;
     let at = take_mark(at, Mark::Semicolon)?;
     let (then, at) = sequence(alloc, at, later, nesting + 1)?;
-    let span = Span {
-        from: first.from,
-        to: at.end,
-    };
+    let span = span_from(first, at);
     boxed(alloc, SProc::Begin { label, then, span }, at)
 }
 
 #[cycle(processes)]
-fn read_end<'t>(
-    alloc: Global,
-    first: Span,
-    at: Cursor<'t>,
-    later: bool,
-    nesting: u32,
-) -> Result<(Box<SProc>, Cursor<'t>), Stop>
+fn read_end(alloc: Global, first: Span, at: Cursor<'_>, later: bool, nesting: u32) -> Part<'_>
     requires { nesting ≤ 500 }
     ensures { Gives (λ x. (proc_of x.0.value, state_of x.1)) result
         (end_form later nesting (first ∷ []) (state_of at.entry)) }
 {
-    let (label, at) = message(alloc, at, later, false, 1)?;
+    let (label, at) = message(alloc, at, later)?;
     let at = take_mark(at, Mark::Semicolon)?;
     let (then, at) = sequence(alloc, at, later, nesting + 1)?;
-    let span = Span {
-        from: first.from,
-        to: at.end,
-    };
+    let span = span_from(first, at);
     boxed(alloc, SProc::End { label, then, span }, at)
 }
 
 #[cycle(processes)]
-fn read_end_many<'t>(
-    alloc: Global,
-    first: Span,
-    at: Cursor<'t>,
-    later: bool,
-    nesting: u32,
-) -> Result<(Box<SProc>, Cursor<'t>), Stop>
+fn read_end_many(alloc: Global, first: Span, at: Cursor<'_>, later: bool, nesting: u32) -> Part<'_>
     requires { nesting ≤ 500 }
     ensures { Gives (λ x. (proc_of x.0.value, state_of x.1)) result
         (end_many_form later nesting (first ∷ []) (state_of at.entry)) }
 {
-    let (label, at) = message(alloc, at, later, false, 1)?;
+    let (label, at) = message(alloc, at, later)?;
     let at = take_mark(at, Mark::Semicolon)?;
     let (then, at) = sequence(alloc, at, later, nesting + 1)?;
-    let span = Span {
-        from: first.from,
-        to: at.end,
-    };
+    let span = span_from(first, at);
     boxed(alloc, SProc::EndMany { label, then, span }, at)
 }
 
 #[cycle(processes)]
-fn read_cast<'t>(
-    alloc: Global,
-    first: Span,
-    at: Cursor<'t>,
-    later: bool,
-    nesting: u32,
-) -> Result<(Box<SProc>, Cursor<'t>), Stop>
+fn read_cast(alloc: Global, first: Span, at: Cursor<'_>, later: bool, nesting: u32) -> Part<'_>
     requires { nesting ≤ 500 }
     ensures { Gives (λ x. (proc_of x.0.value, state_of x.1)) result
         (cast_form later nesting (first ∷ []) (state_of at.entry)) }
 {
-    let (whole, at) = message(alloc, at, later, false, 1)?;
+    let (whole, at) = message(alloc, at, later)?;
     let (name, ty, at) = cast_head(alloc, at, later)?;
     let (then, at) = sequence(alloc, at, later, nesting + 1)?;
-    let span = Span {
-        from: first.from,
-        to: at.end,
-    };
+    let span = span_from(first, at);
     boxed(
         alloc,
         SProc::Cast {
@@ -646,23 +438,14 @@ fn read_cast<'t>(
 }
 
 #[cycle(processes)]
-fn read_new<'t>(
-    alloc: Global,
-    first: Span,
-    at: Cursor<'t>,
-    later: bool,
-    nesting: u32,
-) -> Result<(Box<SProc>, Cursor<'t>), Stop>
+fn read_new(alloc: Global, first: Span, at: Cursor<'_>, later: bool, nesting: u32) -> Part<'_>
     requires { nesting ≤ 500 }
     ensures { Gives (λ x. (proc_of x.0.value, state_of x.1)) result
         (new_form later nesting (first ∷ []) (state_of at.entry)) }
 {
     let (name, ty, at) = binder(alloc, at, later)?;
     let (then, at) = sequence(alloc, at, later, nesting + 1)?;
-    let span = Span {
-        from: first.from,
-        to: at.end,
-    };
+    let span = span_from(first, at);
     boxed(
         alloc,
         SProc::New {
@@ -675,24 +458,14 @@ fn read_new<'t>(
     )
 }
 
-fn read_stop<'t>(
-    alloc: Global,
-    span: Span,
-    at: Cursor<'t>,
-) -> Result<(Box<SProc>, Cursor<'t>), Stop>
+fn read_stop(alloc: Global, span: Span, at: Cursor<'_>) -> Part<'_>
     ensures { Gives (λ x. (proc_of x.0.value, state_of x.1)) result (done (stop span) (state_of at.entry)) }
 {
     boxed(alloc, SProc::Stop { span }, at)
 }
 
 #[cycle(processes)]
-fn read_group<'t>(
-    alloc: Global,
-    start: Span,
-    at: Cursor<'t>,
-    later: bool,
-    nesting: u32,
-) -> Result<(Box<SProc>, Cursor<'t>), Stop>
+fn read_group(alloc: Global, start: Span, at: Cursor<'_>, later: bool, nesting: u32) -> Part<'_>
     requires { nesting ≤ 500 }
     ensures { Gives (λ x. (proc_of x.0.value, state_of x.1)) result
         (group_form later nesting (start ∷ []) (state_of at.entry)) }
@@ -701,44 +474,23 @@ fn read_group<'t>(
     let at = take_mark(at, Mark::Bar)?;
     let (rest, at) = parallel(alloc, at, later, nesting + 1)?;
     let at = take_mark(at, Mark::ParenClose)?;
-    let span = Span {
-        from: start.from,
-        to: at.end,
-    };
+    let span = span_from(start, at);
     boxed(alloc, SProc::Group { first, rest, span }, at)
 }
 
 #[cycle(processes)]
-fn out_rest<'t>(
+fn out_rest(
     alloc: Global,
-    at: Cursor<'t>,
+    at: Cursor<'_>,
     later: bool,
     nesting: u32,
-) -> Result<(Option<Box<SProc>>, Cursor<'t>), Stop>
+) -> Read<'_, Option<Box<SProc>>>
     requires { nesting ≤ 500 }
     ensures { Gives (λ x. (boxed_option x.0, state_of x.1)) result
         (read limited (out_tail later nesting) (state_of at.entry)) }
 {
-    out_rest_step(alloc, at, later, nesting)
-}
-
-#[cycle(processes)]
-fn out_rest_step<'t>(
-    alloc: Global,
-    at: Cursor<'t>,
-    later: bool,
-    nesting: u32,
-) -> Result<(Option<Box<SProc>>, Cursor<'t>), Stop>
-    requires { nesting ≤ 500 }
-    ensures { Gives (λ x. (boxed_option x.0, state_of x.1)) result
-        (step limited (read limited) (out_tail later nesting) (state_of at.entry)) }
-{
-    let [first, rest @ ..] = at.rest else {
+    let Ok((first, next)) = next_token(at) else {
         return Ok((None, at));
-    };
-    let next = Cursor {
-        rest,
-        end: first.span.to,
     };
     match first.kind {
         Kind::Mark(Mark::Semicolon) => {
@@ -750,36 +502,13 @@ fn out_rest_step<'t>(
 }
 
 #[cycle(processes)]
-fn par_rest<'t>(
-    alloc: Global,
-    at: Cursor<'t>,
-    later: bool,
-    level: u32,
-) -> Result<(Option<Box<SProc>>, Cursor<'t>), Stop>
+fn par_rest(alloc: Global, at: Cursor<'_>, later: bool, level: u32) -> Read<'_, Option<Box<SProc>>>
     requires { level ≤ 499 }
     ensures { Gives (λ x. (boxed_option x.0, state_of x.1)) result
         (read limited (par_tail later level) (state_of at.entry)) }
 {
-    par_rest_step(alloc, at, later, level)
-}
-
-#[cycle(processes)]
-fn par_rest_step<'t>(
-    alloc: Global,
-    at: Cursor<'t>,
-    later: bool,
-    level: u32,
-) -> Result<(Option<Box<SProc>>, Cursor<'t>), Stop>
-    requires { level ≤ 499 }
-    ensures { Gives (λ x. (boxed_option x.0, state_of x.1)) result
-        (step limited (read limited) (par_tail later level) (state_of at.entry)) }
-{
-    let [first, rest @ ..] = at.rest else {
+    let Ok((first, next)) = next_token(at) else {
         return Ok((None, at));
-    };
-    let next = Cursor {
-        rest,
-        end: first.span.to,
     };
     match first.kind {
         Kind::Mark(Mark::Bar) => {

@@ -9,14 +9,18 @@ ghost use Rattle.spi_parse.specs.Table.{one, last, ty, fields, fields_item, fiel
 ghost use Rattle.spi_parse.specs.Reading.{Gives, read, step, limited, behind};
 
 use crate::NoMemory;
-use crate::cursor::{Cursor, MESSAGE_LIMIT, copy_word, syntax, too_deep};
+use crate::cursor::{Cursor, MESSAGE_LIMIT, Read, copy_word, fits, next_token, span_from, syntax};
 use crate::effects::effect;
 use crate::fault::Stop;
+use crate::messages::Node;
 use crate::reading::take_mark;
 use spi_lex::{Kind, Mark, Reserved};
 use spi_text::{Span, Text};
 use spi_tree::{Last, SField, STy, SWord};
 use std::alloc::Global;
+
+/// A type in a box, with the place behind it.
+type Part<'t> = Read<'t, Box<STy>>;
 
 /// What stands behind a comma of a tuple type.
 #[derive(Drop)]
@@ -48,7 +52,7 @@ fn make_tuple_type(
 /// The type as a box, with the place behind it.
 ///
 /// What reads a part of a type holds it as a box while it reads the next part, so that deep types fit the stack.
-fn boxed<'t>(alloc: Global, tree: STy, at: Cursor<'t>) -> Result<(Box<STy>, Cursor<'t>), Stop>
+fn boxed(alloc: Global, tree: STy, at: Cursor<'_>) -> Part<'_>
     ensures { Gives (λ x. (ty_of x.0.value, state_of x.1)) result (done (ty_of tree) (state_of at.entry)) }
 {
     Ok((Box::new(alloc, tree)?, at))
@@ -61,12 +65,7 @@ fn boxed_last(alloc: Global, last: Last) -> Result<Box<Last>, NoMemory>
 }
 
 /// A type of a nesting.
-pub fn read_type<'t>(
-    alloc: Global,
-    at: Cursor<'t>,
-    later: bool,
-    nesting: u32,
-) -> Result<(STy, Cursor<'t>), Stop>
+pub fn read_type(alloc: Global, at: Cursor<'_>, later: bool, nesting: u32) -> Read<'_, STy>
     requires { nesting ≤ 1001 }
     ensures { Gives (λ x. (ty_of x.0, state_of x.1)) result
         (read limited (ty later nesting) (state_of at.entry)) }
@@ -76,12 +75,7 @@ pub fn read_type<'t>(
 }
 
 #[cycle(types)]
-fn boxed_type<'t>(
-    alloc: Global,
-    at: Cursor<'t>,
-    later: bool,
-    nesting: u32,
-) -> Result<(Box<STy>, Cursor<'t>), Stop>
+fn boxed_type(alloc: Global, at: Cursor<'_>, later: bool, nesting: u32) -> Part<'_>
     requires { nesting ≤ 1001 }
     ensures { Gives (λ x. (ty_of x.0.value, state_of x.1)) result
         (read limited (ty later nesting) (state_of at.entry)) }
@@ -90,64 +84,38 @@ fn boxed_type<'t>(
 }
 
 #[cycle(types)]
-fn type_step<'t>(
-    alloc: Global,
-    at: Cursor<'t>,
-    later: bool,
-    nesting: u32,
-) -> Result<(Box<STy>, Cursor<'t>), Stop>
+fn type_step(alloc: Global, at: Cursor<'_>, later: bool, nesting: u32) -> Part<'_>
     requires { nesting ≤ 1001 }
     ensures { Gives (λ x. (ty_of x.0.value, state_of x.1)) result
         (step limited (read limited) (ty later nesting) (state_of at.entry)) }
 {
-    let [first, rest @ ..] = at.rest else {
-        return Err(syntax(0));
-    };
-    let next = Cursor {
-        rest,
-        end: first.span.to,
-    };
+    let (first, next) = next_token(at)?;
     match &first.kind {
         Kind::Word(word) => {
-            if nesting > MESSAGE_LIMIT {
-                return Err(too_deep(at.rest.len()));
-            }
+            fits(nesting, MESSAGE_LIMIT, at.rest.len())?;
             read_abbreviation(alloc, word, first.span, next)
         }
         Kind::Reserved(Reserved::Un) => {
-            if nesting > MESSAGE_LIMIT {
-                return Err(too_deep(at.rest.len()));
-            }
+            fits(nesting, MESSAGE_LIMIT, at.rest.len())?;
             boxed(alloc, STy::Un { span: first.span }, next)
         }
         Kind::Reserved(Reserved::Key) => {
-            if nesting > MESSAGE_LIMIT {
-                return Err(too_deep(at.rest.len()));
-            }
+            fits(nesting, MESSAGE_LIMIT, at.rest.len())?;
             read_key(alloc, first.span, next, later, nesting)
         }
         Kind::Reserved(Reserved::Nonce) => {
-            if nesting > MESSAGE_LIMIT {
-                return Err(too_deep(at.rest.len()));
-            }
+            fits(nesting, MESSAGE_LIMIT, at.rest.len())?;
             read_nonce(alloc, first.span, next, later, nesting)
         }
         Kind::Mark(Mark::ParenOpen) => {
-            if nesting > MESSAGE_LIMIT {
-                return Err(too_deep(at.rest.len()));
-            }
+            fits(nesting, MESSAGE_LIMIT, at.rest.len())?;
             type_in_parens(alloc, first.span, next, later, nesting)
         }
         _ => Err(syntax(at.rest.len())),
     }
 }
 
-fn read_abbreviation<'t>(
-    alloc: Global,
-    word: &Text,
-    span: Span,
-    at: Cursor<'t>,
-) -> Result<(Box<STy>, Cursor<'t>), Stop>
+fn read_abbreviation<'t>(alloc: Global, word: &Text, span: Span, at: Cursor<'t>) -> Part<'t>
     ensures { Gives (λ x. (ty_of x.0.value, state_of x.1)) result
         (done (abbr span (word_at word.now span)) (state_of at.entry)) }
 {
@@ -158,33 +126,23 @@ fn read_abbreviation<'t>(
     Ok((Box::new(alloc, STy::Abbr { name, span })?, at))
 }
 
-fn read_nonce<'t>(
-    alloc: Global,
-    first: Span,
-    at: Cursor<'t>,
-    later: bool,
-    nesting: u32,
-) -> Result<(Box<STy>, Cursor<'t>), Stop>
+fn read_nonce(alloc: Global, first: Span, at: Cursor<'_>, later: bool, nesting: u32) -> Part<'_>
     requires { nesting ≤ 1000 }
     ensures { Gives (λ x. (ty_of x.0.value, state_of x.1)) result
         (nonce_form later nesting (first ∷ []) (state_of at.entry)) }
 {
-    let (effect, at) = effect(alloc, at, later, false, nesting + 1)?;
-    let span = Span {
-        from: first.from,
-        to: at.end,
+    let atoms = Node {
+        later,
+        numbered: false,
+        nesting: nesting + 1,
     };
+    let (effect, at) = effect(alloc, at, atoms)?;
+    let span = span_from(first, at);
     boxed(alloc, STy::Nonce { effect, span }, at)
 }
 
 #[cycle(types)]
-fn read_key<'t>(
-    alloc: Global,
-    first: Span,
-    at: Cursor<'t>,
-    later: bool,
-    nesting: u32,
-) -> Result<(Box<STy>, Cursor<'t>), Stop>
+fn read_key(alloc: Global, first: Span, at: Cursor<'_>, later: bool, nesting: u32) -> Part<'_>
     requires { nesting ≤ 1000 }
     ensures { Gives (λ x. (ty_of x.0.value, state_of x.1)) result
         (key_form later nesting (first ∷ []) (state_of at.entry)) }
@@ -192,44 +150,24 @@ fn read_key<'t>(
     let at = take_mark(at, Mark::ParenOpen)?;
     let (part, at) = boxed_type(alloc, at, later, nesting + 1)?;
     let at = take_mark(at, Mark::ParenClose)?;
-    let span = Span {
-        from: first.from,
-        to: at.end,
-    };
+    let span = span_from(first, at);
     boxed(alloc, STy::Key { part, span }, at)
 }
 
 #[cycle(types)]
-fn type_in_parens<'t>(
-    alloc: Global,
-    first: Span,
-    at: Cursor<'t>,
-    later: bool,
-    nesting: u32,
-) -> Result<(Box<STy>, Cursor<'t>), Stop>
+fn type_in_parens(alloc: Global, first: Span, at: Cursor<'_>, later: bool, nesting: u32) -> Part<'_>
     requires { nesting ≤ 1000 }
     ensures { Gives (λ x. (ty_of x.0.value, state_of x.1)) result
         (behind limited (read limited) (delta_ty_paren later nesting) (first ∷ []) (state_of at.entry)) }
 {
-    let [second, rest @ ..] = at.rest else {
-        return Err(syntax(0));
-    };
-    let next = Cursor {
-        rest,
-        end: second.span.to,
-    };
+    let (second, next) = next_token(at)?;
     match &second.kind {
         Kind::Mark(Mark::ParenClose) => {
-            let span = Span {
-                from: first.from,
-                to: next.end,
-            };
+            let span = span_from(first, next);
             boxed(alloc, STy::Unit { span }, next)
         }
         Kind::Word(word) => {
-            if nesting + 1 > MESSAGE_LIMIT {
-                return Err(too_deep(at.rest.len()));
-            }
+            fits(nesting + 1, MESSAGE_LIMIT, at.rest.len())?;
             type_behind_word(alloc, first, word, second.span, next, later, nesting)
         }
         _ => read_sum(alloc, first, at, later, nesting),
@@ -237,13 +175,7 @@ fn type_in_parens<'t>(
 }
 
 #[cycle(types)]
-fn read_sum<'t>(
-    alloc: Global,
-    first: Span,
-    at: Cursor<'t>,
-    later: bool,
-    nesting: u32,
-) -> Result<(Box<STy>, Cursor<'t>), Stop>
+fn read_sum(alloc: Global, first: Span, at: Cursor<'_>, later: bool, nesting: u32) -> Part<'_>
     requires { nesting ≤ 1000 }
     ensures { Gives (λ x. (ty_of x.0.value, state_of x.1)) result
         (sum_form later nesting (first ∷ []) (state_of at.entry)) }
@@ -255,21 +187,12 @@ fn read_sum<'t>(
 }
 
 /// The sum of two types, where its parenthesis closes.
-fn end_sum<'t>(
-    alloc: Global,
-    first: Span,
-    left: Box<STy>,
-    right: Box<STy>,
-    at: Cursor<'t>,
-) -> Result<(Box<STy>, Cursor<'t>), Stop>
+fn end_sum(alloc: Global, first: Span, left: Box<STy>, right: Box<STy>, at: Cursor<'_>) -> Part<'_>
     ensures { Gives (λ x. (ty_of x.0.value, state_of x.1)) result
         (sum_end (first ∷ []) (ty_of left.value) (ty_of right.value) (state_of at.entry)) }
 {
     let at = take_mark(at, Mark::ParenClose)?;
-    let span = Span {
-        from: first.from,
-        to: at.end,
-    };
+    let span = span_from(first, at);
     boxed(alloc, STy::Sum { left, right, span }, at)
 }
 
@@ -282,19 +205,13 @@ fn type_behind_word<'t>(
     at: Cursor<'t>,
     later: bool,
     nesting: u32,
-) -> Result<(Box<STy>, Cursor<'t>), Stop>
+) -> Part<'t>
     requires { nesting ≤ 999 }
     ensures { Gives (λ x. (ty_of x.0.value, state_of x.1)) result
         (behind limited (read limited) (delta_ty_word later nesting word.now) (first ∷ place ∷ [])
         (state_of at.entry)) }
 {
-    let [second, rest @ ..] = at.rest else {
-        return Err(syntax(0));
-    };
-    let next = Cursor {
-        rest,
-        end: second.span.to,
-    };
+    let (second, next) = next_token(at)?;
     match second.kind {
         Kind::Mark(Mark::Colon) => read_tuple_type(alloc, first, word, place, next, later, nesting),
         Kind::Mark(Mark::Plus) => read_sum_of_word(alloc, first, word, place, next, later, nesting),
@@ -311,7 +228,7 @@ fn read_tuple_type<'t>(
     at: Cursor<'t>,
     later: bool,
     nesting: u32,
-) -> Result<(Box<STy>, Cursor<'t>), Stop>
+) -> Part<'t>
     requires { nesting ≤ 999 }
     ensures { Gives (λ x. (ty_of x.0.value, state_of x.1)) result
         (tuple_ty_form later nesting word.now (first ∷ place ∷ []) (state_of at.entry)) }
@@ -332,7 +249,7 @@ fn end_tuple_type<'t>(
     more: Vec<SField>,
     last: Box<Last>,
     at: Cursor<'t>,
-) -> Result<(Box<STy>, Cursor<'t>), Stop>
+) -> Part<'t>
     ensures { Gives (λ x. (ty_of x.0.value, state_of x.1)) result
         (done (tuple_ty (over (first ∷ []) at.entry.end) (word_at word.now place) (ty_of part.value)
         (fields_of_list (map field_of more.items)) (last_of last.value)) (state_of at.entry)) }
@@ -341,10 +258,7 @@ fn end_tuple_type<'t>(
         word: copy_word(alloc, word)?,
         span: place,
     };
-    let span = Span {
-        from: first.from,
-        to: at.end,
-    };
+    let span = span_from(first, at);
     let tuple = make_tuple_type(name, part, more, last, span);
     Ok((Box::new(alloc, tuple)?, at))
 }
@@ -358,7 +272,7 @@ fn read_sum_of_word<'t>(
     at: Cursor<'t>,
     later: bool,
     nesting: u32,
-) -> Result<(Box<STy>, Cursor<'t>), Stop>
+) -> Part<'t>
     requires { nesting ≤ 999 }
     ensures { Gives (λ x. (ty_of x.0.value, state_of x.1)) result
         (sum_word_form later nesting word.now (first ∷ place ∷ []) (state_of at.entry)) }
@@ -375,7 +289,7 @@ fn end_sum_of_word<'t>(
     place: Span,
     right: Box<STy>,
     at: Cursor<'t>,
-) -> Result<(Box<STy>, Cursor<'t>), Stop>
+) -> Part<'t>
     ensures { Gives (λ x. (ty_of x.0.value, state_of x.1)) result
         (sum_end (first ∷ []) (abbr place (word_at word.now place)) (ty_of right.value) (state_of at.entry)) }
 {
@@ -385,20 +299,17 @@ fn end_sum_of_word<'t>(
         span: place,
     };
     let left = Box::new(alloc, STy::Abbr { name, span: place })?;
-    let span = Span {
-        from: first.from,
-        to: at.end,
-    };
+    let span = span_from(first, at);
     Ok((Box::new(alloc, STy::Sum { left, right, span })?, at))
 }
 
 #[cycle(types)]
-fn read_fields<'t>(
+fn read_fields(
     alloc: Global,
-    start: Cursor<'t>,
+    start: Cursor<'_>,
     later: bool,
     nesting: u32,
-) -> Result<(Vec<SField>, Box<Last>, Cursor<'t>), Stop>
+) -> Result<(Vec<SField>, Box<Last>, Cursor<'_>), Stop>
     requires { nesting ≤ 1001 }
     ensures { Gives (λ x. ((map field_of x.0.items, last_of x.1.value), state_of x.2)) result
         (read limited (fields later nesting) (state_of start.entry)) }
@@ -416,11 +327,7 @@ fn read_fields<'t>(
 }
 
 /// A last part without a name, with the place behind it.
-fn bare_last<'t>(
-    alloc: Global,
-    ty: Box<STy>,
-    at: Cursor<'t>,
-) -> Result<(Box<FieldOrLast>, Cursor<'t>), Stop>
+fn bare_last(alloc: Global, ty: Box<STy>, at: Cursor<'_>) -> Read<'_, Box<FieldOrLast>>
     ensures { Gives (λ x. (field_item x.0.value, state_of x.1)) result
         (done (last (bare (ty_of ty.value))) (state_of at.entry)) }
 {
@@ -429,11 +336,7 @@ fn bare_last<'t>(
 }
 
 /// A last part that is the name of a declared type, with the place behind it.
-fn abbreviated_last<'t>(
-    alloc: Global,
-    name: SWord,
-    at: Cursor<'t>,
-) -> Result<(Box<FieldOrLast>, Cursor<'t>), Stop>
+fn abbreviated_last(alloc: Global, name: SWord, at: Cursor<'_>) -> Read<'_, Box<FieldOrLast>>
     ensures { Gives (λ x. (field_item x.0.value, state_of x.1)) result
         (done (last (bare (abbr name.span name))) (state_of at.entry)) }
 {
@@ -443,13 +346,13 @@ fn abbreviated_last<'t>(
 }
 
 /// A part with a name, the last one where the tuple ends behind it, with the place behind it.
-fn named_part<'t>(
+fn named_part(
     alloc: Global,
     name: SWord,
     ty: Box<STy>,
     ends: bool,
-    at: Cursor<'t>,
-) -> Result<(Box<FieldOrLast>, Cursor<'t>), Stop>
+    at: Cursor<'_>,
+) -> Read<'_, Box<FieldOrLast>>
     ensures { Gives (λ x. (field_item x.0.value, state_of x.1)) result
         (done (if ends then last (named name (ty_of ty.value)) else one
         (record { name = name; ty = ty_of ty.value })) (state_of at.entry)) }
@@ -464,12 +367,12 @@ fn named_part<'t>(
 }
 
 #[cycle(types)]
-fn next_field<'t>(
+fn next_field(
     alloc: Global,
-    at: Cursor<'t>,
+    at: Cursor<'_>,
     later: bool,
     nesting: u32,
-) -> Result<(Box<FieldOrLast>, Cursor<'t>), Stop>
+) -> Read<'_, Box<FieldOrLast>>
     requires { nesting ≤ 1001 }
     ensures { Gives (λ x. (field_item x.0.value, state_of x.1)) result
         (read limited (fields_item later nesting) (state_of at.entry)) }
@@ -478,28 +381,20 @@ fn next_field<'t>(
 }
 
 #[cycle(types)]
-fn next_field_step<'t>(
+fn next_field_step(
     alloc: Global,
-    at: Cursor<'t>,
+    at: Cursor<'_>,
     later: bool,
     nesting: u32,
-) -> Result<(Box<FieldOrLast>, Cursor<'t>), Stop>
+) -> Read<'_, Box<FieldOrLast>>
     requires { nesting ≤ 1001 }
     ensures { Gives (λ x. (field_item x.0.value, state_of x.1)) result
         (step limited (read limited) (fields_item later nesting) (state_of at.entry)) }
 {
-    let [first, rest @ ..] = at.rest else {
-        return Err(syntax(0));
-    };
-    let next = Cursor {
-        rest,
-        end: first.span.to,
-    };
+    let (first, next) = next_token(at)?;
     match &first.kind {
         Kind::Word(word) => {
-            if nesting > MESSAGE_LIMIT {
-                return Err(too_deep(at.rest.len()));
-            }
+            fits(nesting, MESSAGE_LIMIT, at.rest.len())?;
             let name = SWord {
                 word: copy_word(alloc, word)?,
                 span: first.span,
@@ -515,25 +410,19 @@ fn next_field_step<'t>(
 }
 
 #[cycle(types)]
-fn field_behind_word<'t>(
+fn field_behind_word(
     alloc: Global,
     name: SWord,
-    at: Cursor<'t>,
+    at: Cursor<'_>,
     later: bool,
     nesting: u32,
-) -> Result<(Box<FieldOrLast>, Cursor<'t>), Stop>
+) -> Read<'_, Box<FieldOrLast>>
     requires { nesting ≤ 1000 }
     ensures { Gives (λ x. (field_item x.0.value, state_of x.1)) result
         (behind limited (read limited) (delta_item_word later nesting name.word) (name.span ∷ [])
         (state_of at.entry)) }
 {
-    let [first, rest @ ..] = at.rest else {
-        return Err(syntax(0));
-    };
-    let next = Cursor {
-        rest,
-        end: first.span.to,
-    };
+    let (first, next) = next_token(at)?;
     match first.kind {
         Kind::Mark(Mark::Colon) => {
             let (ty, at) = boxed_type(alloc, next, later, nesting)?;
@@ -545,23 +434,10 @@ fn field_behind_word<'t>(
     }
 }
 
-fn field_rest<'t>(at: Cursor<'t>) -> Result<(bool, Cursor<'t>), Stop>
+fn field_rest(at: Cursor<'_>) -> Read<'_, bool>
     ensures { Gives (λ x. (x.0, state_of x.1)) result (read limited fields_rest (state_of at.entry)) }
 {
-    field_rest_step(at)
-}
-
-fn field_rest_step<'t>(at: Cursor<'t>) -> Result<(bool, Cursor<'t>), Stop>
-    ensures { Gives (λ x. (x.0, state_of x.1)) result
-        (step limited (read limited) fields_rest (state_of at.entry)) }
-{
-    let [first, rest @ ..] = at.rest else {
-        return Err(syntax(0));
-    };
-    let next = Cursor {
-        rest,
-        end: first.span.to,
-    };
+    let (first, next) = next_token(at)?;
     match first.kind {
         Kind::Mark(Mark::Comma) => Ok((false, next)),
         Kind::Mark(Mark::ParenClose) => Ok((true, next)),

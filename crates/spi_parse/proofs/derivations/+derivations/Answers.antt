@@ -1,61 +1,53 @@
-use Rattle.std.proofs.Common.{rules, arith, ◌≡◌, ◌≤◌, true, false, Some, ap, subst, ◌∙◌}
+use Rattle.std.proofs.Common.{rules, arith, ◌≡◌, ◌≤◌, ℕ, Bool, true, false, List, Option, Some, Result, map, take, drop, ◌-◌, ◌∷◌, [], get_or, length, ap, subst, ◌∙◌}
 use Rattle.std.specs.Global.{Box}
 use Rattle.spi_lex.specs.declared.token.Kind.TheVariants as K
+use Rattle.spi_lex.specs.declared.token.Token.{Token}
 use Rattle.spi_tree.specs.declared.tree.SDeriv.{SDeriv}
+use Rattle.spi_tree.specs.Pieces.{derivation_limit}
 use Rattle.spi_tree.specs.Trees as trees
 use Rattle.spi_tree.specs.Views.{deriv_of}
 use Rattle.spi_parse.specs.declared.cursor.Cursor.{Cursor}
-use Rattle.spi_parse.specs.Tokens.{State}
+use Rattle.spi_parse.specs.declared.fault.Stop.{Stop}
+use Rattle.spi_parse.specs.Tokens.{State, tok}
 use Rattle.spi_parse.specs.Places.{state_of}
 use Rattle.spi_parse.specs.Rules.{arity_of, writes_effect}
-use Rattle.spi_parse.specs.Reading.{Out, Gives}
-use Rattle.spi_parse.proofs.Readers.{read_is_step}
+use Rattle.spi_parse.specs.Table.{deriv, rule_move}
+use Rattle.spi_parse.specs.Reading.{Out, Gives, read, limited, step, go_on}
+use Rattle.spi_parse.proofs.Readers.{at}
 use Rattle.spi_parse.proofs.DerivLaws.{rule_is_first}
 use Rattle.spi_parse.proofs.derivations.+derivations.Goals as goal
 
-pub boxed_derivation-returns : goal.boxed_derivation-returns
-boxed_derivation-returns t c = rw read_is_step (search rules)
+abbrev Read : Result (Box SDeriv × Cursor) Stop → Out trees.Deriv → Type 0
+Read r o = Gives {X = Box SDeriv × Cursor} {Y = trees.Deriv × State} (λ x. (deriv_of x.0.value, state_of x.1)) r o
 
-pub derivation_step-returns-else-nesting-gt-DERIVATION_LIMIT-2 : goal.derivation_step-returns-else-nesting-gt-DERIVATION_LIMIT-2
-derivation_step-returns-else-nesting-gt-DERIVATION_LIMIT-2 t c =
-    let fits : c.args.nesting ≤ 1000 = omega arith in
-    let copied : c.in_ok-copy_word-in-Word.field-0 ≡ c.as_str.result.now = search rules in
-    let kind : c.first-item.result.kind ≡ K.Word c.in_ok-copy_word-in-Word.field-0 = search rules in
-    let arity : arity_of c.args.later c.in_ok-copy_word-in-Word.field-0 ≡ Some 1 = ap (arity_of c.args.later) copied ∙ c.in-One.ensures.0 in
-    let writes : writes_effect c.in_ok-copy_word-in-Word.field-0 ≡ false = ap writes_effect copied ∙ c.in-One.ensures.1 in
-    subst (λ (o : Out trees.Deriv). Gives {X = Box SDeriv × Cursor} {Y = trees.Deriv × State} (λ x. (deriv_of x.0.value, state_of x.1)) c.read_one.result o)
-    (rule_is_first c.args.later c.args.nesting c.args.at.end c.args.at.rest.now c.first-item.result c.in_ok-copy_word-in-Word.field-0 (Some 1) false c.in-len1-up.len_at_least c.first-item.is kind arity writes fits)
-    c.read_one.ensures
+-- what the move of a rule gives behind its word is what a step gives before it, where the word was copied
+by_rule : (later : Bool) (nesting : ℕ) (start : Cursor) (first : Token) (w shown : List ℕ) (o : Option ℕ) (b : Bool) (r : Result (Box SDeriv × Cursor) Stop)
+    → 1 ≤ length start.rest.now → first ≡ get_or start.rest.now 0 first → first.kind ≡ K.Word w → w ≡ shown → arity_of later shown ≡ o → writes_effect shown ≡ b → nesting ≤ derivation_limit
+    → Read r (go_on limited (read limited) (rule_move later nesting w o b) false [] (at start.end (tok first ∷ map tok (take (length start.rest.now - 1) (drop 1 start.rest.now)))))
+    → Read r (step limited (read limited) (deriv later nesting) (state_of start))
+by_rule later nesting start first w shown o b r some is kind copied arity writes fits gives =
+    subst (Read r) (rule_is_first later nesting start.end start.rest.now first w o b some is kind (ap (arity_of later) copied ∙ arity) (ap writes_effect copied ∙ writes) fits) gives
 
-pub derivation_step-returns-else-nesting-gt-DERIVATION_LIMIT-3 : goal.derivation_step-returns-else-nesting-gt-DERIVATION_LIMIT-3
-derivation_step-returns-else-nesting-gt-DERIVATION_LIMIT-3 t c =
+pub derivation_step-returns-in_ok-fits-in-One : goal.derivation_step-returns-in_ok-fits-in-One
+derivation_step-returns-in_ok-fits-in-One t c =
     let fits : c.args.nesting ≤ 1000 = omega arith in
-    let copied : c.in_ok-copy_word-in-Word.field-0 ≡ c.as_str.result.now = search rules in
-    let kind : c.first-item.result.kind ≡ K.Word c.in_ok-copy_word-in-Word.field-0 = search rules in
-    let arity : arity_of c.args.later c.in_ok-copy_word-in-Word.field-0 ≡ Some 2 = ap (arity_of c.args.later) copied ∙ c.in-Two.ensures.0 in
-    let writes : writes_effect c.in_ok-copy_word-in-Word.field-0 ≡ false = ap writes_effect copied ∙ c.in-Two.ensures.1 in
-    subst (λ (o : Out trees.Deriv). Gives {X = Box SDeriv × Cursor} {Y = trees.Deriv × State} (λ x. (deriv_of x.0.value, state_of x.1)) c.read_two.result o)
-    (rule_is_first c.args.later c.args.nesting c.args.at.end c.args.at.rest.now c.first-item.result c.in_ok-copy_word-in-Word.field-0 (Some 2) false c.in-len1-up.len_at_least c.first-item.is kind arity writes fits)
-    c.read_two.ensures
+    by_rule c.args.later c.args.nesting c.args.at c.first-item.result c.in_ok-copy_word-in-Word.field-0 c.as_str.result.now (Some 1) false c.read_one.result
+    c.in-len1-up.len_at_least c.first-item.is (search rules) (search rules) c.in-One.ensures.0 c.in-One.ensures.1 fits c.read_one.ensures
 
-pub derivation_step-returns-else-nesting-gt-DERIVATION_LIMIT-4 : goal.derivation_step-returns-else-nesting-gt-DERIVATION_LIMIT-4
-derivation_step-returns-else-nesting-gt-DERIVATION_LIMIT-4 t c =
+pub derivation_step-returns-in_ok-fits-in-Two : goal.derivation_step-returns-in_ok-fits-in-Two
+derivation_step-returns-in_ok-fits-in-Two t c =
     let fits : c.args.nesting ≤ 1000 = omega arith in
-    let copied : c.in_ok-copy_word-in-Word.field-0 ≡ c.as_str.result.now = search rules in
-    let kind : c.first-item.result.kind ≡ K.Word c.in_ok-copy_word-in-Word.field-0 = search rules in
-    let arity : arity_of c.args.later c.in_ok-copy_word-in-Word.field-0 ≡ Some 3 = ap (arity_of c.args.later) copied ∙ c.in-Three.ensures.0 in
-    let writes : writes_effect c.in_ok-copy_word-in-Word.field-0 ≡ false = ap writes_effect copied ∙ c.in-Three.ensures.1 in
-    subst (λ (o : Out trees.Deriv). Gives {X = Box SDeriv × Cursor} {Y = trees.Deriv × State} (λ x. (deriv_of x.0.value, state_of x.1)) c.read_three.result o)
-    (rule_is_first c.args.later c.args.nesting c.args.at.end c.args.at.rest.now c.first-item.result c.in_ok-copy_word-in-Word.field-0 (Some 3) false c.in-len1-up.len_at_least c.first-item.is kind arity writes fits)
-    c.read_three.ensures
+    by_rule c.args.later c.args.nesting c.args.at c.first-item.result c.in_ok-copy_word-in-Word.field-0 c.as_str.result.now (Some 2) false c.read_two.result
+    c.in-len1-up.len_at_least c.first-item.is (search rules) (search rules) c.in-Two.ensures.0 c.in-Two.ensures.1 fits c.read_two.ensures
 
-pub derivation_step-returns-else-nesting-gt-DERIVATION_LIMIT-5 : goal.derivation_step-returns-else-nesting-gt-DERIVATION_LIMIT-5
-derivation_step-returns-else-nesting-gt-DERIVATION_LIMIT-5 t c =
+pub derivation_step-returns-in_ok-fits-in-Three : goal.derivation_step-returns-in_ok-fits-in-Three
+derivation_step-returns-in_ok-fits-in-Three t c =
     let fits : c.args.nesting ≤ 1000 = omega arith in
-    let copied : c.in_ok-copy_word-in-Word.field-0 ≡ c.as_str.result.now = search rules in
-    let kind : c.first-item.result.kind ≡ K.Word c.in_ok-copy_word-in-Word.field-0 = search rules in
-    let arity : arity_of c.args.later c.in_ok-copy_word-in-Word.field-0 ≡ Some 1 = ap (arity_of c.args.later) copied ∙ c.in-Sub.ensures.0 in
-    let writes : writes_effect c.in_ok-copy_word-in-Word.field-0 ≡ true = ap writes_effect copied ∙ c.in-Sub.ensures.1 in
-    subst (λ (o : Out trees.Deriv). Gives {X = Box SDeriv × Cursor} {Y = trees.Deriv × State} (λ x. (deriv_of x.0.value, state_of x.1)) c.read_sub.result o)
-    (rule_is_first c.args.later c.args.nesting c.args.at.end c.args.at.rest.now c.first-item.result c.in_ok-copy_word-in-Word.field-0 (Some 1) true c.in-len1-up.len_at_least c.first-item.is kind arity writes fits)
-    c.read_sub.ensures
+    by_rule c.args.later c.args.nesting c.args.at c.first-item.result c.in_ok-copy_word-in-Word.field-0 c.as_str.result.now (Some 3) false c.read_three.result
+    c.in-len1-up.len_at_least c.first-item.is (search rules) (search rules) c.in-Three.ensures.0 c.in-Three.ensures.1 fits c.read_three.ensures
+
+pub derivation_step-returns-in_ok-fits-in-Sub : goal.derivation_step-returns-in_ok-fits-in-Sub
+derivation_step-returns-in_ok-fits-in-Sub t c =
+    let fits : c.args.nesting ≤ 1000 = omega arith in
+    by_rule c.args.later c.args.nesting c.args.at c.first-item.result c.in_ok-copy_word-in-Word.field-0 c.as_str.result.now (Some 1) true c.read_sub.result
+    c.in-len1-up.len_at_least c.first-item.is (search rules) (search rules) c.in-Sub.ensures.0 c.in-Sub.ensures.1 fits c.read_sub.ensures

@@ -1,4 +1,5 @@
-use Rattle.std.proofs.Common.{rules, arith, map}
+use Rattle.std.proofs.Common.{arith, map}
+use Rattle.std.proofs.lemmas.Grind.{common_steps}
 use Rattle.std.proofs.lemmas.List.{length-map, map_push}
 use Rattle.std.proofs.lemmas.Result.{err_from_is_err_and}
 use Rattle.spi_parse.specs.Tokens.{tok}
@@ -11,29 +12,26 @@ use Rattle.spi_parse.proofs.Readers.{read_is_step, takes_some}
 use Rattle.spi_parse.proofs.Lists.{msgs_law, msgs_take}
 use Rattle.spi_parse.proofs.messages.+messages.Goals as goal
 
-pub boxed_message-returns : goal.boxed_message-returns
-boxed_message-returns t c = rw read_is_step (search rules)
-
-pub next_message-returns : goal.next_message-returns
-next_message-returns t c = rw read_is_step (search rules)
+pub next_message-returns-in_default : goal.next_message-returns-in_default
+next_message-returns-in_default t c = rw read_is_step (grind (arith, common_steps))
 
 pub more_messages-items-smaller : goal.more_messages-items-smaller
 more_messages-items-smaller t c =
-    let k = takes_some limited (msgs_item c.args.later c.args.numbered c.args.nesting) (state_of c.items.at) _ (msgs_take c.args.later c.args.numbered c.args.nesting) c.in_ok-item.ensures in
+    let k = takes_some limited (msgs_item c.args.node.later c.args.node.numbered c.args.node.nesting) (state_of c.items.at) _ (msgs_take c.args.node.later c.args.node.numbered c.args.node.nesting) c.in_ok-item.ensures in
     omega (arith, length-map c.items.at.rest.now tok, length-map c.in_ok-item.after.rest.now tok)
 
 pub more_messages-items-preserved : goal.more_messages-items-preserved
 more_messages-items-preserved t c =
     let e = rw c.in-Some.is at c.in_ok-item.ensures in
     rw (c.in_ok-push-in-Some.ensures.items, c.into_inner.ensures, map_push msg_of c.items.more.items c.in-Some.part.value)
-    (goes_on (read limited (msgs_item c.args.later c.args.numbered c.args.nesting)) (read limited (msgs c.args.later c.args.numbered c.args.nesting)) (msgs_law c.args.later c.args.numbered c.args.nesting) (map msg_of c.items.more.items) (msg_of c.in-Some.part.value) (state_of c.items.at) (state_of c.in_ok-item.after) _ e c.items.invariant)
+    (goes_on (read limited (msgs_item c.args.node.later c.args.node.numbered c.args.node.nesting)) (read limited (msgs c.args.node.later c.args.node.numbered c.args.node.nesting)) (msgs_law c.args.node.later c.args.node.numbered c.args.node.nesting) (map msg_of c.items.more.items) (msg_of c.in-Some.part.value) (state_of c.items.at) (state_of c.in_ok-item.after) _ e c.items.invariant)
 
 pub more_messages-returns-in_err-item : goal.more_messages-returns-in_err-item
 more_messages-returns-in_err-item t c =
     let p = err_from_is_err_and c.from_residual.result c.from_residual.ensures.1 in
-    rw (p.1, p.2) (gives_up (read limited (msgs_item c.args.later c.args.numbered c.args.nesting)) (read limited (msgs c.args.later c.args.numbered c.args.nesting)) (msgs_law c.args.later c.args.numbered c.args.nesting) (map msg_of c.items.more.items) c.in_err-item.field-0.0 (state_of c.items.at) _ c.in_err-item.ensures c.items.invariant)
+    rw (p.1, p.2) (gives_up (read limited (msgs_item c.args.node.later c.args.node.numbered c.args.node.nesting)) (read limited (msgs c.args.node.later c.args.node.numbered c.args.node.nesting)) (msgs_law c.args.node.later c.args.node.numbered c.args.node.nesting) (map msg_of c.items.more.items) c.in_err-item.field-0.0 (state_of c.items.at) _ c.in_err-item.ensures c.items.invariant)
 
 pub more_messages-returns-in-None : goal.more_messages-returns-in-None
 more_messages-returns-in-None t c =
     let e = rw c.in-None.is at c.in_ok-item.ensures in
-    is_done (read limited (msgs_item c.args.later c.args.numbered c.args.nesting)) (read limited (msgs c.args.later c.args.numbered c.args.nesting)) (msgs_law c.args.later c.args.numbered c.args.nesting) (map msg_of c.items.more.items) tt (state_of c.items.at) (state_of c.in_ok-item.after) _ e c.items.invariant
+    is_done (read limited (msgs_item c.args.node.later c.args.node.numbered c.args.node.nesting)) (read limited (msgs c.args.node.later c.args.node.numbered c.args.node.nesting)) (msgs_law c.args.node.later c.args.node.numbered c.args.node.nesting) (map msg_of c.items.more.items) tt (state_of c.items.at) (state_of c.in_ok-item.after) _ e c.items.invariant

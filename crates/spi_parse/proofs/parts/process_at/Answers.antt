@@ -1,16 +1,9 @@
-use Rattle.std.proofs.Common.{◌==◌, ◌∙◌}
-use Rattle.std.proofs.lemmas.List.{take_rest}
+use Rattle.std.proofs.Common.{◌==◌}
 use Rattle.spi_tree.specs.Views.{proc_of}
-use Rattle.spi_parse.proofs.Wholes.{process_ok, process_err}
+use Rattle.spi_parse.proofs.Numbered.{process_answer}
 use Rattle.spi_parse.proofs.parts.process_at.Goals as goal
 
-pub returns-in-Ok : goal.returns-in-Ok
-returns-in-Ok c =
-    let there = rw (take_rest c.args.tokens.now c.args.from) at c.in-Ok.ensures in
-    let answer = process_ok (c.args.version == 2) c.args.tokens.now c.args.from c.requires.start c.requires.words proc_of c.in-Ok.part c.in-Ok.at.end c.in-Ok.at.rest.now there in
-    (answer.0, c.saturating_sub.ensures ∙ answer.1, answer.2)
-
-pub returns-in-Err : goal.returns-in-Err
-returns-in-Err c =
-    let there = rw (take_rest c.args.tokens.now c.args.from) at c.in-Err.ensures in
-    rw c.fault_of.ensures (process_err (c.args.version == 2) c.args.tokens.now c.args.from c.requires.start c.requires.words proc_of c.in-Err.stop there)
+pub returns : goal.returns
+returns c =
+    process_answer c.args.tokens.now c.args.from c.place_at-start.result c.place_at-start.ensures (c.args.version == 2)
+    c.requires.start c.requires.words proc_of c.process.result c.by_number.result c.process.ensures c.by_number.ensures

@@ -1,4 +1,5 @@
-use Rattle.std.proofs.Common.{rules, arith, ◌+◌, subst, ap, ◌∙◌}
+use Rattle.std.proofs.Common.{arith, ◌+◌, subst, ap, ◌∙◌}
+use Rattle.std.proofs.lemmas.Grind.{common_steps}
 use Rattle.std.specs.Global.{Box}
 use Rattle.spi_tree.specs.Trees as trees
 use Rattle.spi_tree.specs.Views.{proc_of}
@@ -14,20 +15,14 @@ use Rattle.spi_parse.proofs.Readers.{read_is_step}
 use Rattle.spi_parse.proofs.Lists.{seq_fits}
 use Rattle.spi_parse.proofs.processes.+processes.Goals as goal
 
-pub parallel-returns : goal.parallel-returns
-parallel-returns t c = rw read_is_step (search rules)
+pub out_rest-returns-in_default : goal.out_rest-returns-in_default
+out_rest-returns-in_default t c = rw read_is_step (grind (arith, common_steps))
 
-pub sequence-returns : goal.sequence-returns
-sequence-returns t c = rw read_is_step (search rules)
+pub par_rest-returns-in_default : goal.par_rest-returns-in_default
+par_rest-returns-in_default t c = rw read_is_step (grind (arith, common_steps))
 
-pub out_rest-returns : goal.out_rest-returns
-out_rest-returns t c = rw read_is_step (search rules)
-
-pub par_rest-returns : goal.par_rest-returns
-par_rest-returns t c = rw read_is_step (search rules)
-
-pub parallel_step-par_rest-requires : goal.parallel_step-par_rest-requires
-parallel_step-par_rest-requires t c =
+pub parallel-par_rest-requires : goal.parallel-par_rest-requires
+parallel-par_rest-requires t c =
     let k = seq_fits c.args.later (c.args.level + 1) (state_of c.args.at) _ c.in_ok-first.ensures in
     (omega arith, omega arith)
 
@@ -36,8 +31,9 @@ read_group-parallel-requires t c =
     let k = seq_fits c.args.later (c.args.nesting + 1) _ _ c.in_ok-first.ensures in
     (omega arith, omega arith)
 
-pub sequence_step-returns : goal.sequence_step-returns
-sequence_step-returns t c =
+pub sequence-returns : goal.sequence-returns
+sequence-returns t c =
     let first = form_is_first c.args.later c.args.nesting c.args.at.end c.args.at.rest.now c.first-item.result c.in-len1-up.len_at_least c.first-item.is in
-    subst (λ (o : Out trees.Proc). Gives {X = Box SProc × Cursor} {Y = trees.Proc × State} (λ x. (proc_of x.0.value, state_of x.1)) c.read_form.result o)
-    (ap (λ (f : Form). by_form c.args.later c.args.nesting f (state_of c.args.at)) c.form_of-form.ensures ∙ first) c.read_form.ensures
+    rw read_is_step
+    (subst (λ (o : Out trees.Proc). Gives {X = Box SProc × Cursor} {Y = trees.Proc × State} (λ x. (proc_of x.0.value, state_of x.1)) c.read_form.result o)
+    (ap (λ (f : Form). by_form c.args.later c.args.nesting f (state_of c.args.at)) c.form_of-form.ensures ∙ first) c.read_form.ensures)

@@ -4,26 +4,14 @@ use Rattle.spi_parse.proofs.processes.+processes.Given as goal
 abbrev pub decreases-parallel : goal.decreases-parallel
 decreases-parallel l = 20 * (501 - l.level) + 5
 
-abbrev pub decreases-parallel_step : goal.decreases-parallel_step
-decreases-parallel_step l = 20 * (501 - l.level) + 4
-
 abbrev pub decreases-par_rest : goal.decreases-par_rest
 decreases-par_rest l = 20 * (501 - l.level) + 3
-
-abbrev pub decreases-par_rest_step : goal.decreases-par_rest_step
-decreases-par_rest_step l = 20 * (501 - l.level) + 2
 
 abbrev pub decreases-sequence : goal.decreases-sequence
 decreases-sequence l = 20 * (501 - l.nesting) + 12
 
-abbrev pub decreases-sequence_step : goal.decreases-sequence_step
-decreases-sequence_step l = 20 * (501 - l.nesting) + 11
-
 abbrev pub decreases-out_rest : goal.decreases-out_rest
 decreases-out_rest l = 20 * (501 - l.nesting) + 1
-
-abbrev pub decreases-out_rest_step : goal.decreases-out_rest_step
-decreases-out_rest_step l = 20 * (501 - l.nesting) + 0
 
 abbrev pub decreases-read_out : goal.decreases-read_out
 decreases-read_out l = 20 * (501 - l.nesting) + 7

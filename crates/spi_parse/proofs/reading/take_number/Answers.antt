@@ -1,6 +1,7 @@
-use Rattle.std.proofs.Common.{rules}
+use Rattle.std.proofs.Common.{arith}
+use Rattle.std.proofs.lemmas.Grind.{common_steps}
 use Rattle.spi_parse.proofs.Readers.{read_is_step}
 use Rattle.spi_parse.proofs.reading.take_number.Goals as goal
 
-pub returns : goal.returns
-returns c = rw read_is_step (search rules)
+pub returns-in_default : goal.returns-in_default
+returns-in_default c = rw read_is_step (grind (arith, common_steps))

@@ -1,4 +1,4 @@
-use Rattle.std.proofs.Common.{rules, arith, map}
+use Rattle.std.proofs.Common.{arith, map}
 use Rattle.std.proofs.lemmas.List.{length-map, map_push}
 use Rattle.std.proofs.lemmas.Result.{err_from_is_err_and}
 use Rattle.spi_parse.specs.Tokens.{tok}
@@ -7,15 +7,9 @@ use Rattle.spi_parse.specs.Reading.{read, limited}
 use Rattle.spi_parse.proofs.Fronts.{goes_on, is_done, gives_up}
 use Rattle.spi_tree.specs.Views.{field_of, last_of}
 use Rattle.spi_parse.specs.Table.{fields, fields_item}
-use Rattle.spi_parse.proofs.Readers.{read_is_step, takes_some}
+use Rattle.spi_parse.proofs.Readers.{takes_some}
 use Rattle.spi_parse.proofs.Lists.{fields_law, fields_take}
 use Rattle.spi_parse.proofs.types.+types.Goals as goal
-
-pub boxed_type-returns : goal.boxed_type-returns
-boxed_type-returns t c = rw read_is_step (search rules)
-
-pub next_field-returns : goal.next_field-returns
-next_field-returns t c = rw read_is_step (search rules)
 
 pub read_fields-items-smaller : goal.read_fields-items-smaller
 read_fields-items-smaller t c =
