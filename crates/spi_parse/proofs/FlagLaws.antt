@@ -23,13 +23,16 @@ flags : (a : Sym) (k : Kind) → deep_here a ≡ true → Flags (delta a k)
 flags (msg v true n) (K.Word w) e = tt
 flags (msg v d n) (K.Mark mark.ParenOpen) e = tt
 flags (msg true d n) (K.Reserved word.Hash) e = tt
+flags (msg false d n) (K.Reserved word.Hash) e = tt
 flags (msg v d n) _ e = tt
 flags (atom true d n) (K.Reserved word.Many) e = tt
+flags (atom false d n) (K.Reserved word.Many) e = tt
 flags (atom v d n) _ e = tt
 flags (ty v n) (K.Reserved word.Un) e = tt
 flags (ty v n) (K.Mark mark.ParenOpen) e = tt
 flags (ty v n) _ e = tt
 flags (seq true n) (K.Reserved word.EndMany) e = tt
+flags (seq false n) (K.Reserved word.EndMany) e = tt
 flags (seq v n) (K.Mark mark.ParenOpen) e = tt
 flags (seq v n) _ e = tt
 flags (deriv v n) (K.Word w) e = rule_flags v n w (arity_of v w) (writes_effect w)
@@ -45,19 +48,19 @@ deep_ends (deriv v n) e = refl
 deep_ends _ e = absurd cc
 
 -- a step that is told by two words, or none
-skips_open : {a : Sym} (l l' : List Sym) (b : Build a l) (b' : Build a l') (x : Tree a) (c c' : Bool) → Opens {a = a} (cond c (eat l b) (cond c' (eat l' b') (skip x)))
-skips_open l l' b b' x true c' = tt
-skips_open l l' b b' x false true = tt
-skips_open l l' b b' x false false = tt
+skips_open : (a : Sym) (l l' : List Sym) (b : Build a l) (b' : Build a l') (x : Tree a) (c c' : Bool) → Opens {a = a} (cond c (eat l b) (cond c' (eat l' b') (skip x)))
+skips_open a l l' b b' x true c' = tt
+skips_open a l l' b b' x false true = tt
+skips_open a l l' b b' x false false = tt
 
 tails : (a : Sym) (k : Kind) (x : Tree a) → at_end a ≡ Some x → Opens (delta a k) × (deep_here a ≡ false)
 tails (out_tail v n) (K.Mark mark.Semicolon) x e = (tt, refl)
 tails (out_tail v n) _ x e = (tt, refl)
 tails (par_tail v n) (K.Mark mark.Bar) x e = (tt, refl)
 tails (par_tail v n) _ x e = (tt, refl)
-tails steps_item (K.Word w) x e = (skips_open _ _ _ _ _ (is_act w) (is_talk w), refl)
+tails steps_item (K.Word w) x e = (skips_open steps_item _ _ _ _ _ (is_act w) (is_talk w), refl)
 tails steps_item _ x e = (tt, refl)
-tails steps (K.Word w) x e = (skips_open _ _ _ _ _ (is_act w) (is_talk w), refl)
+tails steps (K.Word w) x e = (skips_open steps _ _ _ _ _ (is_act w) (is_talk w), refl)
 tails steps _ x e = (tt, refl)
 tails (opponent_tail v) (K.Reserved word.Opponent) x e = (tt, refl)
 tails (opponent_tail v) _ x e = (tt, refl)

@@ -20,15 +20,15 @@ use Rattle.spi_parse.proofs.Viable.{Live, AreSpare, TableLive}
 use Rattle.spi_lex.proofs.Writing.{letters_identifier}
 
 -- a move by a test is live where it looks no further
-eats_live : {a : Sym} (l : List Sym) (b : Build a l) (c deep : Bool) (ss : List Span) (from : ℕ) (fr : Front) (k : Kind) (s : Span) → Live {a = a} {ate = false} (cond c (eat l b) fail) deep ss from fr k s
-eats_live l b true deep ss from fr k s = tt
-eats_live l b false deep ss from fr k s = tt
+eats_live : (a : Sym) (l : List Sym) (b : Build a l) (c deep : Bool) (ss : List Span) (from : ℕ) (fr : Front) (k : Kind) (s : Span) → Live {a = a} {ate = false} (cond c (eat l b) fail) deep ss from fr k s
+eats_live a l b true deep ss from fr k s = tt
+eats_live a l b false deep ss from fr k s = tt
 
 -- so is one by two tests, the second behind the first
-skips_live : {a : Sym} (l l' : List Sym) (b : Build a l) (b' : Build a l') (x : Tree a) (c c' deep : Bool) (ss : List Span) (from : ℕ) (fr : Front) (k : Kind) (s : Span) → Live {a = a} {ate = false} (cond c (eat l b) (cond c' (eat l' b') (skip x))) deep ss from fr k s
-skips_live l l' b b' x true c' deep ss from fr k s = tt
-skips_live l l' b b' x false true deep ss from fr k s = tt
-skips_live l l' b b' x false false deep ss from fr k s = tt
+skips_live : (a : Sym) (l l' : List Sym) (b : Build a l) (b' : Build a l') (x : Tree a) (c c' deep : Bool) (ss : List Span) (from : ℕ) (fr : Front) (k : Kind) (s : Span) → Live {a = a} {ate = false} (cond c (eat l b) (cond c' (eat l' b') (skip x))) deep ss from fr k s
+skips_live a l l' b b' x true c' deep ss from fr k s = tt
+skips_live a l l' b b' x false true deep ss from fr k s = tt
+skips_live a l l' b b' x false false deep ss from fr k s = tt
 
 -- words of trees that aren't given
 abbrev spare_word : SWord
@@ -84,17 +84,19 @@ rule_live v n w s (Some (suc (suc k))) true = tt
 
 -- A clause names a token where the moves of its symbol have to be told apart, and the last is for all others.
 moves_live : (a : Sym) (k : Kind) (s : Span) → Live (delta a k) (deep_here a) [] s.from (λ q. q) k s
-moves_live (the_mark m) k s = eats_live _ _ (is_mark m k) _ _ _ _ _ _
-moves_live (the_reserved w) k s = eats_live _ _ (is_reserved w k) _ _ _ _ _ _
+moves_live (the_mark m) k s = eats_live (the_mark m) _ _ (is_mark m k) _ _ _ _ _ _
+moves_live (the_reserved w) k s = eats_live (the_reserved w) _ _ (is_reserved w k) _ _ _ _ _ _
 moves_live the_word (K.Word w) s = tt
 moves_live the_number (K.Number n) s = tt
-moves_live the_two (K.Number n) s = eats_live _ _ (n == 2) _ _ _ _ _ _
+moves_live the_two (K.Number n) s = eats_live the_two _ _ (n == 2) _ _ _ _ _ _
 moves_live (msg v true n) (K.Word w) s = tt
 moves_live (msg v d n) (K.Mark mark.ParenOpen) s = ((K.Mark mark.ParenClose, tt, tt), λ k' s'. paren_live v d n _ _ _ k' s')
 moves_live (msg true d n) (K.Reserved word.Hash) s = tt
+moves_live (msg false d n) (K.Reserved word.Hash) s = tt
 moves_live (msgs_item v d n) (K.Mark mark.Comma) s = tt
 moves_live (msgs v d n) (K.Mark mark.Comma) s = tt
 moves_live (atom true d n) (K.Reserved word.Many) s = tt
+moves_live (atom false d n) (K.Reserved word.Many) s = tt
 moves_live (atoms_item v d n) (K.Mark mark.Comma) s = tt
 moves_live (atoms v d n) (K.Mark mark.Comma) s = tt
 moves_live (effect v d n) (K.Mark mark.BracketOpen) s = ((K.Mark mark.BracketClose, tt, tt), λ k' s'. bracket_live v d n _ _ _ k' s')
@@ -112,6 +114,7 @@ moves_live (decrypt_head v) (K.Reserved word.Is) s = tt
 moves_live (check_head v) (K.Reserved word.Is) s = tt
 moves_live (cast_head v) (K.Reserved word.Is) s = tt
 moves_live (seq true n) (K.Reserved word.EndMany) s = tt
+moves_live (seq false n) (K.Reserved word.EndMany) s = tt
 moves_live (seq v n) (K.Mark mark.ParenOpen) s = tt
 moves_live (out_tail v n) (K.Mark mark.Semicolon) s = tt
 moves_live (par_tail v n) (K.Mark mark.Bar) s = tt
@@ -120,13 +123,13 @@ moves_live words (K.Mark mark.Comma) s = tt
 moves_live (decl v) (K.Reserved word.Free) s = tt
 moves_live (decls_item v) (K.Reserved word.Free) s = tt
 moves_live (decls v) (K.Reserved word.Free) s = tt
-moves_live steps_item (K.Word w) s = skips_live _ _ _ _ _ (is_act w) (is_talk w) _ _ _ _ _ _
-moves_live steps (K.Word w) s = skips_live _ _ _ _ _ (is_act w) (is_talk w) _ _ _ _ _ _
+moves_live steps_item (K.Word w) s = skips_live steps_item _ _ _ _ _ (is_act w) (is_talk w) _ _ _ _ _ _
+moves_live steps (K.Word w) s = skips_live steps _ _ _ _ _ (is_act w) (is_talk w) _ _ _ _ _ _
 moves_live (deriv v n) (K.Word w) s = rule_live v n w s (arity_of v w) (writes_effect w)
 moves_live (opponent_tail v) (K.Reserved word.Opponent) s = tt
 moves_live schedule_tail (K.Reserved word.Schedule) s = tt
 moves_live (derivation_tail v) (K.Reserved word.Derivation) s = tt
-moves_live file (K.Word w) s = eats_live _ _ (is_version_word w) _ _ _ _ _ _
+moves_live file (K.Word w) s = eats_live file _ _ (is_version_word w) _ _ _ _ _ _
 moves_live _ _ s = tt
 
 some_tree : (a : Sym) → Tree a

@@ -456,7 +456,8 @@ delta (msgs v d n) (K.Mark mark.Comma) =
     eat (msg v d n ∷ msgs v d n ∷ []) (λ ss to xs. (xs.0 ∷ xs.1.0.0, xs.1.0.1))
 delta (msgs v d n) (K.Mark mark.ParenClose) = eat [] (λ ss to xs. ([], tt))
 delta (atom v d n) (K.Reserved word.End) = eat (msg v d (n + 1) ∷ []) (λ ss to xs. t.ends (over ss to) xs.0)
-delta (atom v d n) (K.Reserved word.Check) = eat (msg v d (n + 1) ∷ []) (λ ss to xs. t.checks (over ss to) xs.0)
+delta (atom v d n) (K.Reserved word.Check) =
+    eat (msg v d (n + 1) ∷ []) (λ ss to xs. t.checks (over ss to) xs.0)
 delta (atom v d n) (K.Reserved word.Many) =
     if v then eat (msg v d (n + 1) ∷ []) (λ ss to xs. t.many (over ss to) xs.0) else fail
 delta (atoms_item v d n) (K.Mark mark.Comma) = eat (atom v d n ∷ []) (λ ss to xs. one xs.0)
@@ -499,7 +500,8 @@ delta (decrypt_head v) (K.Reserved word.Is) =
 delta (check_head v) (K.Reserved word.Is) =
     eat (msg v false 1 ∷ the_mark mark.Semicolon ∷ []) (λ ss to xs. xs.0)
 delta (cast_head v) (K.Reserved word.Is) = eat (binder v ∷ []) (λ ss to xs. xs.0)
-delta (sproc v n) _ = stay (seq v (n + 1) ∷ par_tail v n ∷ []) tt (λ ss to xs. par_of (over ss to) xs.0 xs.1.0)
+delta (sproc v n) _ =
+    stay (seq v (n + 1) ∷ par_tail v n ∷ []) tt (λ ss to xs. par_of (over ss to) xs.0 xs.1.0)
 delta (seq v n) k = form_move v n (form_of v k)
 delta (out_tail v n) (K.Mark mark.Semicolon) = eat (seq v (n + 1) ∷ []) (λ ss to xs. Some xs.0)
 delta (out_tail v n) _ = skip None
