@@ -56,51 +56,14 @@ module _ (m : Mode) (φ : Bool → Bool) (fits : Fits m φ) where
 
   mark_step : (k : Mark) (r : List Piece) → step m (read m) (the_mark k) (flat_at (a_mark k r)) ≡ Ok (tt, flat_at r)
   mark_step mark.ParenOpen r = pass_same false _ _
-  mark_step mark.ParenClose r = pass_same false _ _
-  mark_step mark.BracketOpen r = pass_same false _ _
-  mark_step mark.BracketClose r = pass_same false _ _
-  mark_step mark.BraceOpen r = pass_same false _ _
-  mark_step mark.BraceClose r = pass_same false _ _
-  mark_step mark.Comma r = pass_same false _ _
-  mark_step mark.Semicolon r = pass_same false _ _
-  mark_step mark.Colon r = pass_same false _ _
-  mark_step mark.Equals r = pass_same false _ _
-  mark_step mark.Bar r = pass_same false _ _
-  mark_step mark.Plus r = pass_same false _ _
-  mark_step mark.NumberSign r = pass_same false _ _
+  mark_step _ r = pass_same false _ _
 
   mark_c : (k : Mark) (r : List Piece) → read m (the_mark k) (flat_at (a_mark k r)) ≡ Ok (tt, flat_at r)
   mark_c k r = read_is_step m (the_mark k) (flat_at (a_mark k r)) ∙ mark_step k r
 
   reserved_step : (w : Reserved) (r : List Piece) → step m (read m) (the_reserved w) (flat_at (a_reserved w r)) ≡ Ok (tt, flat_at r)
   reserved_step word.Free r = pass_same false _ _
-  reserved_step word.TypeWord r = pass_same false _ _
-  reserved_step word.Process r = pass_same false _ _
-  reserved_step word.Opponent r = pass_same false _ _
-  reserved_step word.Schedule r = pass_same false _ _
-  reserved_step word.Derivation r = pass_same false _ _
-  reserved_step word.Out r = pass_same false _ _
-  reserved_step word.Inp r = pass_same false _ _
-  reserved_step word.Repeat r = pass_same false _ _
-  reserved_step word.Split r = pass_same false _ _
-  reserved_step word.Match r = pass_same false _ _
-  reserved_step word.Case r = pass_same false _ _
-  reserved_step word.Decrypt r = pass_same false _ _
-  reserved_step word.Check r = pass_same false _ _
-  reserved_step word.Begin r = pass_same false _ _
-  reserved_step word.End r = pass_same false _ _
-  reserved_step word.Cast r = pass_same false _ _
-  reserved_step word.New r = pass_same false _ _
-  reserved_step word.Stop r = pass_same false _ _
-  reserved_step word.Is r = pass_same false _ _
-  reserved_step word.Inl r = pass_same false _ _
-  reserved_step word.Inr r = pass_same false _ _
-  reserved_step word.Un r = pass_same false _ _
-  reserved_step word.Key r = pass_same false _ _
-  reserved_step word.Nonce r = pass_same false _ _
-  reserved_step word.Hash r = pass_same false _ _
-  reserved_step word.EndMany r = pass_same false _ _
-  reserved_step word.Many r = pass_same false _ _
+  reserved_step _ r = pass_same false _ _
 
   reserved_c : (w : Reserved) (r : List Piece) → read m (the_reserved w) (flat_at (a_reserved w r)) ≡ Ok (tt, flat_at r)
   reserved_c w r = read_is_step m (the_reserved w) (flat_at (a_reserved w r)) ∙ reserved_step w r
@@ -131,13 +94,7 @@ module _ (m : Mode) (φ : Bool → Bool) (fits : Fits m φ) where
   paren_first : (x : t.Msg) (v d : Bool) (n n' : ℕ) (q : List Piece) → behind m (read m) (delta_paren v d n) (nowhere ∷ []) (flat_at (msg_pieces n' x q))
       ≡ ◌>>=◌ {B = t.Msg × State} (read_all (read m) (tuple_parts v d n) (flat_at (msg_pieces n' x q))) (λ xs. Ok (t.tuple (over (nowhere ∷ []) xs.1.end) xs.0.0 xs.0.1.1.0 (t.msgs_of_list xs.0.1.1.1.0.0), xs.1))
   paren_first (t.name s w) v d n n' q = refl
-  paren_first (t.unit s) v d n n' q = refl
-  paren_first (t.tuple s a b ms) v d n n' q = refl
-  paren_first (t.inl s a) v d n n' q = refl
-  paren_first (t.inr s a) v d n n' q = refl
-  paren_first (t.enc s a b) v d n n' q = refl
-  paren_first (t.hash s a) v d n n' q = refl
-  paren_first (t.num s i) v d n n' q = refl
+  paren_first _ v d n n' q = refl
 
   mutual
     pub msg_c : (x : t.Msg) (v d : Bool) (n : ℕ) (r : List Piece) → IsMsg v d x → read m (msg v d n) (flat_at (msg_pieces n x r)) ≡ Ok (bare_msg x, flat_at r)
@@ -205,23 +162,13 @@ module _ (m : Mode) (φ : Bool → Bool) (fits : Fits m φ) where
   -- what is no word begins a sum
   sum_first : (x : t.Ty) (v : Bool) (n n' : ℕ) (q : List Piece) → NotWord x → behind m (read m) (delta_ty_paren v n) (nowhere ∷ []) (flat_at (ty_pieces n' x q))
       ≡ ◌>>=◌ {B = t.Ty × State} (read_all (read m) (ty v (n + 1) ∷ the_mark mark.Plus ∷ ty v (n + 1) ∷ the_mark mark.ParenClose ∷ []) (flat_at (ty_pieces n' x q))) (λ xs. Ok (t.sum (over (nowhere ∷ []) xs.1.end) xs.0.0 xs.0.1.1.0, xs.1))
-  sum_first (t.un s) v n n' q h = refl
-  sum_first (t.unit_ty s) v n n' q h = refl
-  sum_first (t.tuple_ty s w a fs l) v n n' q h = refl
-  sum_first (t.sum s a b) v n n' q h = refl
-  sum_first (t.key s a) v n n' q h = refl
-  sum_first (t.nonce s es) v n n' q h = refl
   sum_first (t.abbr s w) v n n' q h = absurd h
+  sum_first _ v n n' q h = refl
 
   bare_first : (x : t.Ty) (v : Bool) (n n' : ℕ) (q : List Piece) → NotWord x → step m (read m) (fields v n) (flat_at (ty_pieces n' x q))
       ≡ ◌>>=◌ {B = (List t.Field × t.Last) × State} (read_all (read m) (ty v n ∷ the_mark mark.ParenClose ∷ []) (flat_at (ty_pieces n' x q))) (λ xs. Ok (([], t.bare xs.0.0), xs.1))
-  bare_first (t.un s) v n n' q h = refl
-  bare_first (t.unit_ty s) v n n' q h = refl
-  bare_first (t.tuple_ty s w a fs l) v n n' q h = refl
-  bare_first (t.sum s a b) v n n' q h = refl
-  bare_first (t.key s a) v n n' q h = refl
-  bare_first (t.nonce s es) v n n' q h = refl
   bare_first (t.abbr s w) v n n' q h = absurd h
+  bare_first _ v n n' q h = refl
 
   -- a type is read whatever follows
   abbrev TyRead : Bool → t.Ty → Type 0
@@ -400,22 +347,7 @@ module _ (m : Mode) (φ : Bool → Bool) (fits : Fits m φ) where
 
   level_first : (p : t.Proc) (v : Bool) (l n : ℕ) (q : List Piece) → IsProc v (in_seq n) p → step m (read m) (sproc v l) (flat_at (proc_pieces (in_seq n) p q)) ≡ level_rest v l (proc_pieces (in_seq n) p q)
   level_first (t.par s p p') v l n q h = absurd h
-  level_first (t.out s a b) v l n q h = refl
-  level_first (t.out_then s a b p) v l n q h = refl
-  level_first (t.inp s a w b p) v l n q h = refl
-  level_first (t.repeat s a w b p) v l n q h = refl
-  level_first (t.split s a w b x c p) v l n q h = refl
-  level_first (t.match s a w b e x c p) v l n q h = refl
-  level_first (t.case s a w b p x c p') v l n q h = refl
-  level_first (t.decrypt s a w b e p) v l n q h = refl
-  level_first (t.check s a e p) v l n q h = refl
-  level_first (t.begin s a p) v l n q h = refl
-  level_first (t.end s a p) v l n q h = refl
-  level_first (t.end_many s a p) v l n q h = refl
-  level_first (t.cast s a w b p) v l n q h = refl
-  level_first (t.new s w b p) v l n q h = refl
-  level_first (t.stop s) v l n q h = refl
-  level_first (t.group s p p') v l n q h = refl
+  level_first _ v l n q h = refl
 
   lift : (p : t.Proc) (v : Bool) (l : ℕ) (r : List Piece) → IsProc v (in_seq (l + 1)) p → SeqRead p → OutEnds (flat φ r) → ParEnds (flat φ r) → read m (sproc v l) (flat_at (proc_pieces (in_seq (l + 1)) p r)) ≡ Ok (bare_proc p, flat_at r)
   lift p v l r h rp oe pe = rw (read_is_step, level_first p v l (l + 1) r h, rp v (l + 1) r h oe, pe.by v l) refl

@@ -8,14 +8,14 @@ use Rattle.spi_lex.specs.declared.token.Token.{Token}
 use Rattle.spi_tree.specs.Pieces.{derivation_limit}
 use Rattle.spi_parse.specs.Tokens.{Tok, tok}
 use Rattle.spi_parse.specs.Rules.{arity_of, writes_effect}
-use Rattle.spi_parse.specs.Table.{deriv, delta_deriv, rule_move, Move}
+use Rattle.spi_parse.specs.Table.{deriv, delta, rule_move, Move}
 use Rattle.spi_parse.specs.Reading.{limited, read, step, go_on}
 use Rattle.spi_parse.proofs.Readers.{at}
 
 at_word : (v : Bool) (n : ℕ) (w : List ℕ) (e : ℕ) (u : Tok) (us : List Tok) (o : Option ℕ) (b : Bool) → u.kind ≡ K.Word w → arity_of v w ≡ o → writes_effect w ≡ b → n ≤ derivation_limit
     → go_on limited (read limited) (rule_move v n w o b) false [] (at e (u ∷ us)) ≡ step limited (read limited) (deriv v n) (at e (u ∷ us))
 at_word v n w e u us o b kind arity writes fits =
-    let move : delta_deriv v n u.kind ≡ rule_move v n w o b = ap (delta_deriv v n) kind ∙ ap (λ (x : Option ℕ). rule_move v n w x (writes_effect w)) arity ∙ ap (λ (x : Bool). rule_move v n w o x) writes in
+    let move : delta (deriv v n) u.kind ≡ rule_move v n w o b = ap (delta (deriv v n)) kind ∙ ap (λ (x : Option ℕ). rule_move v n w x (writes_effect w)) arity ∙ ap (λ (x : Bool). rule_move v n w o x) writes in
     let low : nat_lt derivation_limit n ≡ false = le-ltb derivation_limit n fits in
     sym (ap (λ (mv : Move (deriv v n) false). go_on limited (read limited) mv (nat_lt derivation_limit n) [] (at e (u ∷ us))) move
     ∙ ap (λ (d : Bool). go_on limited (read limited) (rule_move v n w o b) d [] (at e (u ∷ us))) low)

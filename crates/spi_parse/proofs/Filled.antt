@@ -145,12 +145,8 @@ abbrev mutual
   fill_msg (t.tuple s x y xs) a =
       let a1 = past a in let a2 = after_msg x a1 in let a3 = past a2 in let a4 = after_msg y a3 in let a5 = after_msgs xs a4 in let a6 = past a5 in
       t.tuple (between a a6) (fill_msg x a1) (fill_msg y a3) (fill_msgs xs a4)
-  fill_msg (t.inl s x) a =
-      let a1 = past a in let a2 = after_msg x a1 in
-      t.inl (between a a2) (fill_msg x a1)
-  fill_msg (t.inr s x) a =
-      let a1 = past a in let a2 = after_msg x a1 in
-      t.inr (between a a2) (fill_msg x a1)
+  fill_msg (t.inl s x) a = t.inl (between a (after_msg x (past a))) (fill_msg x (past a))
+  fill_msg (t.inr s x) a = t.inr (between a (after_msg x (past a))) (fill_msg x (past a))
   fill_msg (t.enc s x y) a =
       let a1 = past a in let a2 = after_msg x a1 in let a3 = past a2 in let a4 = after_msg y a3 in
       t.enc (between a a4) (fill_msg x a1) (fill_msg y a3)
@@ -168,15 +164,9 @@ abbrev mutual
       t.more_msgs (fill_msg x a1) (fill_msgs xs a2)
 
 abbrev pub fill_atom : t.Atom → Rest → t.Atom
-fill_atom (t.ends s x) a =
-    let a1 = past a in let a2 = after_msg x a1 in
-    t.ends (between a a2) (fill_msg x a1)
-fill_atom (t.checks s x) a =
-    let a1 = past a in let a2 = after_msg x a1 in
-    t.checks (between a a2) (fill_msg x a1)
-fill_atom (t.many s x) a =
-    let a1 = past a in let a2 = after_msg x a1 in
-    t.many (between a a2) (fill_msg x a1)
+fill_atom (t.ends s x) a = t.ends (between a (after_msg x (past a))) (fill_msg x (past a))
+fill_atom (t.checks s x) a = t.checks (between a (after_msg x (past a))) (fill_msg x (past a))
+fill_atom (t.many s x) a = t.many (between a (after_msg x (past a))) (fill_msg x (past a))
 
 abbrev pub fill_atoms : List t.Atom → Rest → List t.Atom
 fill_atoms [] a = []

@@ -23,6 +23,17 @@ tok_at k sp d = record { kind = k; span = sp; deep = d }
 abbrev m : Mode
 m = limited
 
+-- two symbols that are read alike at each first token, and at none, are read alike
+module _ (a b : Sym) (to : Out (Tree b) → Out (Tree a))
+    (none : (e : ℕ) → step m (read m) a (at e []) ≡ to (step m (read m) b (at e [])))
+    (some : (e : ℕ) (k : Kind) (sp : Span) (d : Bool) (ts : List Tok) → step m (read m) a (at e (tok_at k sp d ∷ ts)) ≡ to (step m (read m) b (at e (tok_at k sp d ∷ ts)))) where
+  alike_at : (e : ℕ) (ts : List Tok) → step m (read m) a (at e ts) ≡ to (step m (read m) b (at e ts))
+  alike_at e [] = none e
+  alike_at e (t ∷ ts) = some e t.kind t.span t.deep ts
+
+  alike : (s : State) → read m a s ≡ to (read m b s)
+  alike s = read_is_step m a s ∙ alike_at s.end s.rest ∙ ap to (sym (read_is_step m b s))
+
 -- an item of one part
 module _ {X Y E : Type 0} (g : Y → X) (go : State → Out (List X × E)) where
   abbrev after_one : Out Y → Out (List X × E)
@@ -41,52 +52,32 @@ module _ {X Y E : Type 0} (g : Y → X) (go : State → Out (List X × E)) where
 
 msgs_at : (v : Bool) (d' : Bool) (n : ℕ) (e : ℕ) (k : Kind) (sp : Span) (d : Bool) (ts : List Tok) → step m (read m) (msgs v d' n) (at e (tok_at k sp d ∷ ts)) ≡ next_list (step m (read m) (msgs_item v d' n) (at e (tok_at k sp d ∷ ts))) (read m (msgs v d' n))
 msgs_at v d' n e (K.Mark mark.Comma) sp d ts = one_part (λ x. x) (read m (msgs v d' n)) (read m (Sym.msg v d' n) (at sp.to ts))
-msgs_at v d' n e (K.Mark mark.ParenClose) sp d ts = refl
 msgs_at v d' n e _ sp d ts = refl
 
-msgs_state : (v : Bool) (d' : Bool) (n : ℕ) (e : ℕ) (ts : List Tok) → step m (read m) (msgs v d' n) (at e ts) ≡ next_list (step m (read m) (msgs_item v d' n) (at e ts)) (read m (msgs v d' n))
-msgs_state v d' n e [] = refl
-msgs_state v d' n e (t ∷ ts) = msgs_at v d' n e t.kind t.span t.deep ts
-
 pub msgs_law : (v : Bool) (d' : Bool) (n : ℕ) (s : State) → read limited (msgs v d' n) s ≡ next_list (read limited (msgs_item v d' n) s) (read limited (msgs v d' n))
-msgs_law v d' n s = read_is_step m (msgs v d' n) s ∙ msgs_state v d' n s.end s.rest ∙ ap (λ (r : Out (Item t.Msg (Unit {0}))). next_list r (read m (msgs v d' n))) (sym (read_is_step m (msgs_item v d' n) s))
+msgs_law v d' n s = alike (msgs v d' n) (msgs_item v d' n) (λ r. next_list r (read m (msgs v d' n))) (λ e. refl) (msgs_at v d' n) s
 
 atoms_at : (v : Bool) (d' : Bool) (n : ℕ) (e : ℕ) (k : Kind) (sp : Span) (d : Bool) (ts : List Tok) → step m (read m) (atoms v d' n) (at e (tok_at k sp d ∷ ts)) ≡ next_list (step m (read m) (atoms_item v d' n) (at e (tok_at k sp d ∷ ts))) (read m (atoms v d' n))
 atoms_at v d' n e (K.Mark mark.Comma) sp d ts = one_part (λ x. x) (read m (atoms v d' n)) (read m (Sym.atom v d' n) (at sp.to ts))
-atoms_at v d' n e (K.Mark mark.BracketClose) sp d ts = refl
 atoms_at v d' n e _ sp d ts = refl
 
-atoms_state : (v : Bool) (d' : Bool) (n : ℕ) (e : ℕ) (ts : List Tok) → step m (read m) (atoms v d' n) (at e ts) ≡ next_list (step m (read m) (atoms_item v d' n) (at e ts)) (read m (atoms v d' n))
-atoms_state v d' n e [] = refl
-atoms_state v d' n e (t ∷ ts) = atoms_at v d' n e t.kind t.span t.deep ts
-
 pub atoms_law : (v : Bool) (d' : Bool) (n : ℕ) (s : State) → read limited (atoms v d' n) s ≡ next_list (read limited (atoms_item v d' n) s) (read limited (atoms v d' n))
-atoms_law v d' n s = read_is_step m (atoms v d' n) s ∙ atoms_state v d' n s.end s.rest ∙ ap (λ (r : Out (Item t.Atom (Unit {0}))). next_list r (read m (atoms v d' n))) (sym (read_is_step m (atoms_item v d' n) s))
+atoms_law v d' n s = alike (atoms v d' n) (atoms_item v d' n) (λ r. next_list r (read m (atoms v d' n))) (λ e. refl) (atoms_at v d' n) s
 
 words_at : (e : ℕ) (k : Kind) (sp : Span) (d : Bool) (ts : List Tok) → step m (read m) words (at e (tok_at k sp d ∷ ts)) ≡ next_list (step m (read m) words_item (at e (tok_at k sp d ∷ ts))) (read m words)
 words_at e (K.Mark mark.Comma) sp d ts = one_part (λ x. x) (read m words) (read m the_word (at sp.to ts))
-words_at e (K.Mark mark.Semicolon) sp d ts = refl
 words_at e _ sp d ts = refl
 
-words_state : (e : ℕ) (ts : List Tok) → step m (read m) words (at e ts) ≡ next_list (step m (read m) words_item (at e ts)) (read m words)
-words_state e [] = refl
-words_state e (t ∷ ts) = words_at e t.kind t.span t.deep ts
-
 pub words_law : (s : State) → read limited words s ≡ next_list (read limited words_item s) (read limited words)
-words_law s = read_is_step m words s ∙ words_state s.end s.rest ∙ ap (λ (r : Out (Item SWord (Unit {0}))). next_list r (read m words)) (sym (read_is_step m words_item s))
+words_law s = alike words words_item (λ r. next_list r (read m words)) (λ e. refl) words_at s
 
 decls_at : (v : Bool) (e : ℕ) (k : Kind) (sp : Span) (d : Bool) (ts : List Tok) → step m (read m) (decls v) (at e (tok_at k sp d ∷ ts)) ≡ next_list (step m (read m) (decls_item v) (at e (tok_at k sp d ∷ ts))) (read m (decls v))
 decls_at v e (K.Reserved word.Free) sp d ts = one_part (free_from (sp ∷ [])) (read m (decls v)) (read m free_rest (at sp.to ts))
 decls_at v e (K.Reserved word.TypeWord) sp d ts = one_part (abbr_from (sp ∷ [])) (read m (decls v)) (read m (abbr_rest v) (at sp.to ts))
-decls_at v e (K.Reserved word.Process) sp d ts = refl
 decls_at v e _ sp d ts = refl
 
-decls_state : (v : Bool) (e : ℕ) (ts : List Tok) → step m (read m) (decls v) (at e ts) ≡ next_list (step m (read m) (decls_item v) (at e ts)) (read m (decls v))
-decls_state v e [] = refl
-decls_state v e (t ∷ ts) = decls_at v e t.kind t.span t.deep ts
-
 pub decls_law : (v : Bool) (s : State) → read limited (decls v) s ≡ next_list (read limited (decls_item v) s) (read limited (decls v))
-decls_law v s = read_is_step m (decls v) s ∙ decls_state v s.end s.rest ∙ ap (λ (r : Out (Item t.Declared (Unit {0}))). next_list r (read m (decls v))) (sym (read_is_step m (decls_item v) s))
+decls_law v s = alike (decls v) (decls_item v) (λ r. next_list r (read m (decls v))) (λ e. refl) (decls_at v) s
 
 step_word : (e : ℕ) (w : List ℕ) (sp : Span) (d : Bool) (ts : List Tok) (a b : Bool)
     → go_on {a = steps} m (read m) (cond a (eat (act_rest ∷ steps ∷ []) (λ ss to xs. (act_from ss xs.0 ∷ xs.1.0.0, xs.1.0.1))) (cond b (eat (talk_rest ∷ steps ∷ []) (λ ss to xs. (talk_from ss xs.0 ∷ xs.1.0.0, xs.1.0.1))) (skip ([], tt)))) false [] (at e (tok_at (K.Word w) sp d ∷ ts))
@@ -99,12 +90,8 @@ steps_at : (e : ℕ) (k : Kind) (sp : Span) (d : Bool) (ts : List Tok) → step 
 steps_at e (K.Word w) sp d ts = step_word e w sp d ts (is_act w) (is_talk w)
 steps_at e _ sp d ts = refl
 
-steps_state : (e : ℕ) (ts : List Tok) → step m (read m) steps (at e ts) ≡ next_list (step m (read m) steps_item (at e ts)) (read m steps)
-steps_state e [] = refl
-steps_state e (t ∷ ts) = steps_at e t.kind t.span t.deep ts
-
 pub steps_law : (s : State) → read limited steps s ≡ next_list (read limited steps_item s) (read limited steps)
-steps_law s = read_is_step m steps s ∙ steps_state s.end s.rest ∙ ap (λ (r : Out (Item t.Step (Unit {0}))). next_list r (read m steps)) (sym (read_is_step m steps_item s))
+steps_law s = alike steps steps_item (λ r. next_list r (read m steps)) (λ e. refl) steps_at s
 
 -- the fields of a tuple: a comma goes on
 abbrev after_rest : (v : Bool) (n : ℕ) → Out Bool → Out (Option (List t.Field × t.Last))
@@ -116,15 +103,10 @@ rest_at v n e (K.Mark mark.Comma) sp d ts = inner (read m (fields v n) (at sp.to
     inner : (o : Out (List t.Field × t.Last)) → ◌>>=◌ {B = Option (List t.Field × t.Last) × State} (◌>>=◌ {B = ((List t.Field × t.Last) × Unit {0}) × State} o (λ y. Ok ((y.0, tt), y.1))) (λ xs. Ok (Some xs.0.0, xs.1)) ≡ (o >>= λ z. Ok (Some z.0, z.1))
     inner (Err f) = refl
     inner (Ok z) = refl
-rest_at v n e (K.Mark mark.ParenClose) sp d ts = refl
 rest_at v n e _ sp d ts = refl
 
-rest_state : (v : Bool) (n e : ℕ) (ts : List Tok) → step m (read m) (fields_more v n) (at e ts) ≡ after_rest v n (step m (read m) fields_rest (at e ts))
-rest_state v n e [] = refl
-rest_state v n e (t ∷ ts) = rest_at v n e t.kind t.span t.deep ts
-
 rest_law : (v : Bool) (n : ℕ) (s : State) → read m (fields_more v n) s ≡ after_rest v n (read m fields_rest s)
-rest_law v n s = read_is_step m (fields_more v n) s ∙ rest_state v n s.end s.rest ∙ ap (after_rest v n) (sym (read_is_step m fields_rest s))
+rest_law v n s = alike (fields_more v n) fields_rest (after_rest v n) (λ e. refl) (rest_at v n) s
 
 may_passes : {X E : Type 0} (may d : Bool) (left : ℕ) (a : Out (List X × E)) (b : Out (Item X E)) (go : State → Out (List X × E)) → a ≡ next_list b go → may_pass m may d left a ≡ next_list (may_pass m may d left b) go
 may_passes true d left a b go h = refl
@@ -159,7 +141,6 @@ module _ (v : Bool) (n : ℕ) (w : SWord) where
 field_word_at : (v : Bool) (n e : ℕ) (text : List ℕ) (sp : Span) (k : Kind) (sp' : Span) (d : Bool) (ts : List Tok) →
     go_on m (read m) (delta_fields_word v n text k) false (sp ∷ []) (at e (tok_at k sp' d ∷ ts)) ≡ next_list (go_on m (read m) (delta_item_word v n text k) false (sp ∷ []) (at e (tok_at k sp' d ∷ ts))) (read m (fields v n))
 field_word_at v n e text sp (K.Mark mark.Colon) sp' d ts = (one_field v n (word_at text sp) (read m (Sym.ty v n) (at sp'.to ts)))
-field_word_at v n e text sp (K.Mark mark.ParenClose) sp' d ts = refl
 field_word_at v n e text sp _ sp' d ts = refl
 
 field_word : (v : Bool) (n e : ℕ) (text : List ℕ) (sp : Span) (ts : List Tok) →
@@ -175,18 +156,13 @@ fields_at : (v : Bool) (n e : ℕ) (k : Kind) (sp : Span) (d : Bool) (ts : List 
 fields_at v n e (K.Word text) sp d ts = may_passes (nat_lt message_limit n) d _ _ _ (read m (fields v n)) (field_word v n sp.to text sp ts)
 fields_at v n e k sp d ts = bare_last v n (read_all (read m) (Sym.ty v n ∷ Sym.the_mark mark.ParenClose ∷ []) (at e (tok_at k sp d ∷ ts)))
 
-fields_state : (v : Bool) (n e : ℕ) (ts : List Tok) → step m (read m) (fields v n) (at e ts) ≡ next_list (step m (read m) (fields_item v n) (at e ts)) (read m (fields v n))
-fields_state v n e [] = refl
-fields_state v n e (t ∷ ts) = fields_at v n e t.kind t.span t.deep ts
-
 pub fields_law : (v : Bool) (n : ℕ) (s : State) → read m (fields v n) s ≡ next_list (read m (fields_item v n) s) (read m (fields v n))
-fields_law v n s = read_is_step m (fields v n) s ∙ fields_state v n s.end s.rest ∙ ap (λ (r : Out (Item t.Field t.Last)). next_list r (read m (fields v n))) (sym (read_is_step m (fields_item v n) s))
+fields_law v n s = alike (fields v n) (fields_item v n) (λ r. next_list r (read m (fields v n))) (λ e. refl) (fields_at v n) s
 
 -- ---- each item takes a token
 
 msgs_moves : (v : Bool) (d' : Bool) (n : ℕ) (k : Kind) → Takes (delta (msgs_item v d' n) k)
 msgs_moves v d' n (K.Mark mark.Comma) = tt
-msgs_moves v d' n (K.Mark mark.ParenClose) = tt
 msgs_moves v d' n _ = tt
 
 pub msgs_take : (v : Bool) (d' : Bool) (n : ℕ) → TakesSome (msgs_item v d' n)
@@ -194,7 +170,6 @@ msgs_take v d' n = record { ends = refl; moves = msgs_moves v d' n }
 
 atoms_moves : (v : Bool) (d' : Bool) (n : ℕ) (k : Kind) → Takes (delta (atoms_item v d' n) k)
 atoms_moves v d' n (K.Mark mark.Comma) = tt
-atoms_moves v d' n (K.Mark mark.BracketClose) = tt
 atoms_moves v d' n _ = tt
 
 pub atoms_take : (v : Bool) (d' : Bool) (n : ℕ) → TakesSome (atoms_item v d' n)
@@ -202,7 +177,6 @@ atoms_take v d' n = record { ends = refl; moves = atoms_moves v d' n }
 
 words_moves : (k : Kind) → Takes (delta words_item k)
 words_moves (K.Mark mark.Comma) = tt
-words_moves (K.Mark mark.Semicolon) = tt
 words_moves _ = tt
 
 pub words_take : TakesSome words_item
@@ -210,18 +184,13 @@ words_take = record { ends = refl; moves = words_moves }
 
 decls_moves : (v : Bool) (k : Kind) → Takes (delta (decls_item v) k)
 decls_moves v (K.Reserved word.Free) = tt
-decls_moves v (K.Reserved word.TypeWord) = tt
-decls_moves v (K.Reserved word.Process) = tt
 decls_moves v _ = tt
 
 pub decls_take : (v : Bool) → TakesSome (decls_item v)
 decls_take v = record { ends = refl; moves = decls_moves v }
 
 ty_moves : (v : Bool) (n : ℕ) (k : Kind) → Base (delta (Sym.ty v n) k)
-ty_moves v n (K.Word w) = tt
 ty_moves v n (K.Reserved word.Un) = tt
-ty_moves v n (K.Reserved word.Key) = tt
-ty_moves v n (K.Reserved word.Nonce) = tt
 ty_moves v n (K.Mark mark.ParenOpen) = tt
 ty_moves v n _ = tt
 

@@ -13,7 +13,7 @@ use Rattle.spi_tree.specs.Pieces.{Piece, opens, cell, closes, kinds_in, a_token,
 use Rattle.spi_parse.specs.Bare.{bare_word, bare_msg, bare_msgs, bare_atom, bare_ty, bare_fields, bare_last, bare_proc, bare_decl, bare_step, bare_written, bare_deriv, bare_derivs, bare_opponent, bare_schedule, bare_derivation, bare_file}
 use Rattle.spi_parse.specs.Exact.{Spells}
 use Rattle.spi_parse.specs.Formed.{IsFile, whole_file}
-use Rattle.spi_parse.proofs.Filled.{Rest, starts, past, fill_word, after_msg, after_msgs, after_atom, after_atoms, after_effect, after_ty, after_fields, after_last, after_proc, after_words, after_decl, after_decls, after_step, after_steps, after_written, after_deriv, after_derivs, after_opponent, after_schedule, after_derivation, after_version, fill_msg, fill_msgs, fill_atom, fill_atoms, fill_effect, fill_ty, fill_fields, fill_last, fill_proc, fill_words, fill_decl, fill_decls, fill_step, fill_steps, fill_written, fill_deriv, fill_derivs, fill_opponent, fill_schedule, fill_derivation, fill_file}
+use Rattle.spi_parse.proofs.Filled.{Rest, starts, past, between, fill_word, after_msg, after_msgs, after_atom, after_atoms, after_effect, after_ty, after_fields, after_last, after_proc, after_words, after_decl, after_decls, after_step, after_steps, after_written, after_deriv, after_derivs, after_opponent, after_schedule, after_derivation, after_version, fill_msg, fill_msgs, fill_atom, fill_atoms, fill_effect, fill_ty, fill_fields, fill_last, fill_proc, fill_words, fill_decl, fill_decls, fill_step, fill_steps, fill_written, fill_deriv, fill_derivs, fill_opponent, fill_schedule, fill_derivation, fill_file}
 use Rattle.spi_parse.proofs.Unique.{same_tokens}
 
 spans : {f e : ℕ} (s : Span) → f ≡ s.from → e ≡ s.to → record { from = f; to = e } ≡ s
@@ -82,16 +82,18 @@ module _ (left : List Token) where
         let h1 = passed h in let h2 = one_msg x n _ _ h1 in let h3 = one_msgs xs n _ _ h2.1 in
         (rw (h2.0, h3.0) refl, h3.1)
 
+  -- a word and a message behind it
+  one_behind : {X : Type 0} (c : Span → t.Msg → X) (s : Span) {k : Kind} {deep : Bool} (x : t.Msg) (n : ℕ) (a : Rest) (r : List Piece)
+      → Spelled (opens s.from ∷ cell k deep ∷ msg_pieces n x (closes s.to ∷ r)) a
+      → (c (between a (after_msg (bare_msg x) (past a))) (fill_msg (bare_msg x) (past a)) ≡ c s x) × Spelled r (after_msg (bare_msg x) (past a))
+  one_behind c s x n a r h =
+      let o = opened h in let h1 = passed o.1 in let h2 = one_msg x n _ _ h1 in let z = closed h2.1 in
+      (rw (spans s o.0 z.0, h2.0) refl, z.1)
+
   pub one_atom : (x : t.Atom) (n : ℕ) (a : Rest) (r : List Piece) → Spelled (atom_pieces n x r) a → (fill_atom (bare_atom x) a ≡ x) × Spelled r (after_atom (bare_atom x) a)
-  one_atom (t.ends s x) n a r h =
-      let o = opened h in let h1 = passed o.1 in let h2 = one_msg x (n + 1) _ _ h1 in let z = closed h2.1 in
-      (rw (spans s o.0 z.0, h2.0) refl, z.1)
-  one_atom (t.checks s x) n a r h =
-      let o = opened h in let h1 = passed o.1 in let h2 = one_msg x (n + 1) _ _ h1 in let z = closed h2.1 in
-      (rw (spans s o.0 z.0, h2.0) refl, z.1)
-  one_atom (t.many s x) n a r h =
-      let o = opened h in let h1 = passed o.1 in let h2 = one_msg x (n + 1) _ _ h1 in let z = closed h2.1 in
-      (rw (spans s o.0 z.0, h2.0) refl, z.1)
+  one_atom (t.ends s x) n a r h = one_behind t.ends s x (n + 1) a r h
+  one_atom (t.checks s x) n a r h = one_behind t.checks s x (n + 1) a r h
+  one_atom (t.many s x) n a r h = one_behind t.many s x (n + 1) a r h
 
   pub one_atoms : (x : List t.Atom) (n : ℕ) (a : Rest) (r : List Piece) → Spelled (atoms_pieces n x r) a → (fill_atoms (map bare_atom x) a ≡ x) × Spelled r (after_atoms (map bare_atom x) a)
   one_atoms [] n a r h = (refl, h)

@@ -1,24 +1,24 @@
 -- What is read is spelled so.
-use Rattle.std.proofs.Common.{◌≡◌, ℕ, zero, suc, Bool, true, false, List, [], ◌∷◌, ◌++◌, Option, Some, None, Ok, Err, refl, sym, ap, subst, ◌∙◌, append_assoc, ◌⊎◌, inl, inr}
+use Rattle.std.proofs.Common.{◌≡◌, ℕ, zero, suc, Bool, true, false, List, [], ◌∷◌, ◌++◌, map, Option, Some, None, Ok, Err, refl, sym, ap, subst, ◌∙◌, append_assoc, ◌⊎◌, inl, inr}
 use Rattle.spi_text.specs.declared.lines.Span.{Span}
 use Rattle.spi_parse.specs.declared.fault.Fault.{Fault}
 use Rattle.spi_lex.specs.declared.token.Kind.{Kind}
+use Rattle.spi_lex.specs.declared.token.Token.{Token}
 use Rattle.spi_parse.specs.Tokens.{Tok, State}
 use Rattle.spi_parse.specs.Table.{Sym, Tree, Trees, Move, eat, look, may_look, fail, stay, skip, deep_here, delta, at_end}
 use Rattle.spi_parse.specs.Reading.{◌>>=◌, Out, Reader, limited, pass, may_pass, read_all, go_on, or_end, step, read_within, read}
 use Rattle.spi_tree.specs.Pieces.{Piece, opens, cell, closes, cells}
+use Rattle.spi_parse.specs.Exact.{Spells}
 use Rattle.spi_parse.proofs.Readers.{at, bind_ok, ok_is}
 use Rattle.spi_parse.proofs.Spell.{spell, spell_all, Formed, FormedAll}
 
--- The pieces lie on the tokens up to where these are left: the tokens are those of the pieces, each node and word goes from
--- the start of its first token to the end of its last, and no node is above a limit.
+-- a token without its flag
+abbrev pub untok : Tok → Token
+untok t = record { kind = t.kind; span = t.span }
+
+-- the pieces lie on the tokens up to where these are left
 abbrev pub Lies : List Tok → ℕ → List Piece → List Tok → Type 0
-Lies left e [] ts = ts ≡ left
-Lies left e (opens from ∷ ps) [] = ⊥
-Lies left e (opens from ∷ ps) (t ∷ ts) = (t.span.from ≡ from) × Lies left e ps (t ∷ ts)
-Lies left e (cell k deep ∷ ps) [] = ⊥
-Lies left e (cell k deep ∷ ps) (t ∷ ts) = (t.kind ≡ k) × (deep ≡ false) × Lies left t.span.to ps ts
-Lies left e (closes to ∷ ps) ts = (e ≡ to) × Lies left e ps ts
+Lies left e ps ts = Spells (map untok left) e ps (map untok ts)
 
 abbrev pub plain : List Tok → List (Kind × Bool)
 plain [] = []

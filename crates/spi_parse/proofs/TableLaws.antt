@@ -28,85 +28,21 @@ mark_case : (m found : Mark) (s : Span) (b : Bool) → eqb (mark_number found) (
 mark_case m found s false e = tt
 mark_case m found s true e = let same = same_mark found m (eqb-true _ _ e) in (0, λ to xs h. (tt, (0, 0, λ r. ap (λ (k : Mark). cell (K.Mark k) false ∷ r) (sym same))))
 
-mark_ok : (m : Mark) (k : Kind) (s : Span) → MoveOk (delta (the_mark m) k) false [] s.from (λ q. q) k s
-mark_ok m (K.Mark found) s = mark_case m found s (eqb (mark_number found) (mark_number m)) refl
-mark_ok m _ s = tt
-
 reserved_case : (w found : Reserved) (s : Span) (b : Bool) → eqb (reserved_number found) (reserved_number w) ≡ b → MoveOk {a = the_reserved w} {ate = false} (cond b (eat [] (λ ss to xs. tt)) fail) false [] s.from (λ q. q) (K.Reserved found) s
 reserved_case w found s false e = tt
 reserved_case w found s true e = let same = same_reserved found w (eqb-true _ _ e) in (0, λ to xs h. (tt, (0, 0, λ r. ap (λ (k : Reserved). cell (K.Reserved k) false ∷ r) (sym same))))
-
-reserved_ok : (w : Reserved) (k : Kind) (s : Span) → MoveOk (delta (the_reserved w) k) false [] s.from (λ q. q) k s
-reserved_ok w (K.Reserved found) s = reserved_case w found s (eqb (reserved_number found) (reserved_number w)) refl
-reserved_ok w _ s = tt
-
-word_ok : (k : Kind) (s : Span) → MoveOk (delta the_word k) false [] s.from (λ q. q) k s
-word_ok (K.Word w) s = (1, λ to xs h. (tt, (1, 0, λ r. refl)))
-word_ok _ s = tt
-
-number_ok : (k : Kind) (s : Span) → MoveOk (delta the_number k) false [] s.from (λ q. q) k s
-number_ok (K.Number i) s = (0, λ to xs h. (tt, (0, 0, λ r. refl)))
-number_ok _ s = tt
 
 two_case : (n : ℕ) (s : Span) (b : Bool) → (n == 2) ≡ b → MoveOk {a = the_two} {ate = false} (cond b (eat [] (λ ss to xs. tt)) fail) false [] s.from (λ q. q) (K.Number n) s
 two_case n s false e = tt
 two_case n s true e = let same = eqb-true n 2 e in (0, λ to xs h. (tt, (0, 0, λ r. ap (λ (i : ℕ). cell (K.Number i) false ∷ r) (sym same))))
 
-two_ok : (k : Kind) (s : Span) → MoveOk (delta the_two k) false [] s.from (λ q. q) k s
-two_ok (K.Number n) s = two_case n s (n == 2) refl
-two_ok _ s = tt
-
 paren_ok : (v d : Bool) (n : ℕ) (s : Span) (k' : Kind) (s' : Span) → MoveOk (delta_paren v d n k') false (s ∷ []) s.from (λ q. cell (K.Mark mark.ParenOpen) (nat_lt message_limit n) ∷ q) k' s'
 paren_ok v d n s (K.Mark mark.ParenClose) s' = (0, λ to xs h. (tt, (1, 1, λ r. refl)))
 paren_ok v d n s _ s' = λ to xs h. ((h.0, h.1.1.0, h.1.1.1.0), (1, 1, λ r. refl))
 
-msg_ok : (v : Bool) (d : Bool) (n : ℕ) (k : Kind) (s : Span) → MoveOk (delta (msg v d n) k) (nat_lt message_limit n) [] s.from (λ q. q) k s
-msg_ok v false n (K.Word w) s = (1, λ to xs h. (refl, (2, 1, λ r. refl)))
-msg_ok v true n (K.Word w) s = tt
-msg_ok v d n (K.Mark mark.ParenOpen) s = λ k' s'. paren_ok v d n s k' s'
-msg_ok v d n (K.Mark mark.BraceOpen) s = (0, λ to xs h. ((h.0, h.1.1.0), (1, 1, λ r. refl)))
-msg_ok v true n (K.Mark mark.NumberSign) s = (0, λ to xs h. (refl, (1, 1, λ r. refl)))
-msg_ok v false n (K.Mark mark.NumberSign) s = tt
-msg_ok v d n (K.Reserved word.Inl) s = (0, λ to xs h. (h.0, (1, 1, λ r. refl)))
-msg_ok v d n (K.Reserved word.Inr) s = (0, λ to xs h. (h.0, (1, 1, λ r. refl)))
-msg_ok true d n (K.Reserved word.Hash) s = (0, λ to xs h. ((refl, h.1.0), (1, 1, λ r. refl)))
-msg_ok false d n (K.Reserved word.Hash) s = tt
-msg_ok v d n _ s = tt
-
-msgs_item_ok : (v : Bool) (d : Bool) (n : ℕ) (k : Kind) (s : Span) → MoveOk (delta (msgs_item v d n) k) false [] s.from (λ q. q) k s
-msgs_item_ok v d n (K.Mark mark.Comma) s = (0, λ to xs h. (h.0, (0, 0, λ r. refl)))
-msgs_item_ok v d n (K.Mark mark.ParenClose) s = (0, λ to xs h. (tt, (0, 0, λ r. refl)))
-msgs_item_ok v d n _ s = tt
-
-msgs_ok : (v : Bool) (d : Bool) (n : ℕ) (k : Kind) (s : Span) → MoveOk (delta (msgs v d n) k) false [] s.from (λ q. q) k s
-msgs_ok v d n (K.Mark mark.Comma) s = (0, λ to xs h. ((h.0, h.1.0), (0, 0, λ r. refl)))
-msgs_ok v d n (K.Mark mark.ParenClose) s = (0, λ to xs h. (tt, (0, 0, λ r. refl)))
-msgs_ok v d n _ s = tt
-
-atom_ok : (v : Bool) (d : Bool) (n : ℕ) (k : Kind) (s : Span) → MoveOk (delta (atom v d n) k) (nat_lt message_limit n) [] s.from (λ q. q) k s
-atom_ok v d n (K.Reserved word.End) s = (0, λ to xs h. (h.0, (1, 1, λ r. refl)))
-atom_ok v d n (K.Reserved word.Check) s = (0, λ to xs h. (h.0, (1, 1, λ r. refl)))
-atom_ok true d n (K.Reserved word.Many) s = (0, λ to xs h. ((refl, h.0), (1, 1, λ r. refl)))
-atom_ok false d n (K.Reserved word.Many) s = tt
-atom_ok v d n _ s = tt
-
-atoms_item_ok : (v : Bool) (d : Bool) (n : ℕ) (k : Kind) (s : Span) → MoveOk (delta (atoms_item v d n) k) false [] s.from (λ q. q) k s
-atoms_item_ok v d n (K.Mark mark.Comma) s = (0, λ to xs h. (h.0, (0, 0, λ r. refl)))
-atoms_item_ok v d n (K.Mark mark.BracketClose) s = (0, λ to xs h. (tt, (0, 0, λ r. refl)))
-atoms_item_ok v d n _ s = tt
-
-atoms_ok : (v : Bool) (d : Bool) (n : ℕ) (k : Kind) (s : Span) → MoveOk (delta (atoms v d n) k) false [] s.from (λ q. q) k s
-atoms_ok v d n (K.Mark mark.Comma) s = (0, λ to xs h. ((h.0, h.1.0), (0, 0, λ r. refl)))
-atoms_ok v d n (K.Mark mark.BracketClose) s = (0, λ to xs h. (tt, (0, 0, λ r. refl)))
-atoms_ok v d n _ s = tt
-
 bracket_ok : (v d : Bool) (n : ℕ) (s : Span) (k' : Kind) (s' : Span) → MoveOk (delta_bracket v d n k') false (s ∷ []) s.from (λ q. cell (K.Mark mark.BracketOpen) false ∷ q) k' s'
 bracket_ok v d n s (K.Mark mark.BracketClose) s' = (0, λ to xs h. (tt, (0, 0, λ r. refl)))
 bracket_ok v d n s _ s' = λ to xs h. ((h.0, h.1.0), (0, 0, λ r. refl))
-
-effect_ok : (v : Bool) (d : Bool) (n : ℕ) (k : Kind) (s : Span) → MoveOk (delta (effect v d n) k) false [] s.from (λ q. q) k s
-effect_ok v d n (K.Mark mark.BracketOpen) s = λ k' s'. bracket_ok v d n s k' s'
-effect_ok v d n _ s = tt
 
 ty_word_ok : (v : Bool) (n : ℕ) (s : Span) (w : List ℕ) (s' : Span) (k'' : Kind) (s'' : Span) →
     MoveOk (delta_ty_word v n w k'') false (s ∷ s' ∷ []) s.from (λ q. cell (K.Mark mark.ParenOpen) (nat_lt message_limit n) ∷ word_front false (K.Word w) s' false q) k'' s''
@@ -119,14 +55,6 @@ ty_paren_ok : (v : Bool) (n : ℕ) (s : Span) (k' : Kind) (s' : Span) → MoveOk
 ty_paren_ok v n s (K.Mark mark.ParenClose) s' = (0, λ to xs h. (tt, (1, 1, λ r. refl)))
 ty_paren_ok v n s (K.Word w) s' = λ k'' s''. ty_word_ok v n s w s' k'' s''
 ty_paren_ok v n s _ s' = λ to xs h. ((h.0, h.1.1.0), (1, 1, λ r. refl))
-
-ty_ok : (v : Bool) (n : ℕ) (k : Kind) (s : Span) → MoveOk (delta (ty v n) k) (nat_lt message_limit n) [] s.from (λ q. q) k s
-ty_ok v n (K.Word w) s = (1, λ to xs h. (tt, (2, 1, λ r. refl)))
-ty_ok v n (K.Reserved word.Un) s = (0, λ to xs h. (tt, (1, 1, λ r. refl)))
-ty_ok v n (K.Reserved word.Key) s = (0, λ to xs h. (h.1.0, (1, 1, λ r. refl)))
-ty_ok v n (K.Reserved word.Nonce) s = (0, λ to xs h. (h.0, (1, 1, λ r. refl)))
-ty_ok v n (K.Mark mark.ParenOpen) s = λ k' s'. ty_paren_ok v n s k' s'
-ty_ok v n _ s = tt
 
 item_formed : (v : Bool) (w : SWord) (a : t.Ty) (b : Bool) → IsTy v a → IsFieldItem v (cond b (last (t.named w a)) (one (record { name = w; ty = a })))
 item_formed v w a true h = h
@@ -143,15 +71,6 @@ item_word_ok v n w s (K.Mark mark.Colon) s' = inl (0, λ to xs h. (item_formed v
 item_word_ok v n w s (K.Mark mark.ParenClose) s' = inr (0, λ to xs h. (tt, (0, 0, λ r. refl)))
 item_word_ok v n w s _ s' = inl tt
 
-fields_item_ok : (v : Bool) (n : ℕ) (k : Kind) (s : Span) → MoveOk (delta (fields_item v n) k) false [] s.from (λ q. q) k s
-fields_item_ok v n (K.Word w) s = λ k' s'. item_word_ok v n w s k' s'
-fields_item_ok v n _ s = λ to xs h. (h.0, (0, 0, λ r. refl))
-
-fields_rest_ok : (k : Kind) (s : Span) → MoveOk (delta fields_rest k) false [] s.from (λ q. q) k s
-fields_rest_ok (K.Mark mark.Comma) s = (0, λ to xs h. (tt, (0, 0, λ r. refl)))
-fields_rest_ok (K.Mark mark.ParenClose) s = (0, λ to xs h. (tt, (0, 0, λ r. refl)))
-fields_rest_ok _ s = tt
-
 field_formed : (v : Bool) (w : SWord) (a : t.Ty) (o : Option (List t.Field × t.Last)) → IsTy v a → AreMoreParts v o → AreParts v (with_field w a o)
 field_formed v w a None h k = (tt, h)
 field_formed v w a (Some x) h k = ((h, k.0), k.1)
@@ -167,163 +86,24 @@ fields_word_ok v n w s (K.Mark mark.Colon) s' = inl (0, λ to xs h. (field_forme
 fields_word_ok v n w s (K.Mark mark.ParenClose) s' = inr (0, λ to xs h. ((tt, tt), (0, 0, λ r. refl)))
 fields_word_ok v n w s _ s' = inl tt
 
-fields_ok : (v : Bool) (n : ℕ) (k : Kind) (s : Span) → MoveOk (delta (fields v n) k) false [] s.from (λ q. q) k s
-fields_ok v n (K.Word w) s = λ k' s'. fields_word_ok v n w s k' s'
-fields_ok v n _ s = λ to xs h. ((tt, h.0), (0, 0, λ r. refl))
-
-fields_more_ok : (v : Bool) (n : ℕ) (k : Kind) (s : Span) → MoveOk (delta (fields_more v n) k) false [] s.from (λ q. q) k s
-fields_more_ok v n (K.Mark mark.Comma) s = (0, λ to xs h. (h.0, (0, 0, λ r. refl)))
-fields_more_ok v n (K.Mark mark.ParenClose) s = (0, λ to xs h. (tt, (0, 0, λ r. refl)))
-fields_more_ok v n _ s = tt
-
-named_ok : (v : Bool) (k : Kind) (s : Span) → MoveOk (delta (named v) k) false [] s.from (λ q. q) k s
-named_ok v k s = λ to xs h. (h.1.1.0, (0, 0, λ r. refl))
-
-binder_ok : (v : Bool) (k : Kind) (s : Span) → MoveOk (delta (binder v) k) false [] s.from (λ q. q) k s
-binder_ok v (K.Mark mark.ParenOpen) s = (0, λ to xs h. (h.0, (0, 0, λ r. refl)))
-binder_ok v _ s = tt
-
-split_head_ok : (v : Bool) (k : Kind) (s : Span) → MoveOk (delta (split_head v) k) false [] s.from (λ q. q) k s
-split_head_ok v (K.Reserved word.Is) s = (0, λ to xs h. ((h.1.0, h.1.1.1.0), (0, 0, λ r. refl)))
-split_head_ok v _ s = tt
-
-match_head_ok : (v : Bool) (k : Kind) (s : Span) → MoveOk (delta (match_head v) k) false [] s.from (λ q. q) k s
-match_head_ok v (K.Reserved word.Is) s = (0, λ to xs h. ((h.1.0, h.1.1.1.0, h.1.1.1.1.1.0), (0, 0, λ r. refl)))
-match_head_ok v _ s = tt
-
-case_head_ok : (v : Bool) (w : Reserved) (k : Kind) (s : Span) → MoveOk (delta (case_head v w) k) false [] s.from (λ q. q) k s
-case_head_ok v w (K.Reserved word.Is) s = (0, λ to xs h. (h.1.0, (0, 0, λ r. refl)))
-case_head_ok v w _ s = tt
-
-decrypt_head_ok : (v : Bool) (k : Kind) (s : Span) → MoveOk (delta (decrypt_head v) k) false [] s.from (λ q. q) k s
-decrypt_head_ok v (K.Reserved word.Is) s = (0, λ to xs h. ((h.1.0, h.1.1.1.0), (0, 0, λ r. refl)))
-decrypt_head_ok v _ s = tt
-
-check_head_ok : (v : Bool) (k : Kind) (s : Span) → MoveOk (delta (check_head v) k) false [] s.from (λ q. q) k s
-check_head_ok v (K.Reserved word.Is) s = (0, λ to xs h. (h.0, (0, 0, λ r. refl)))
-check_head_ok v _ s = tt
-
-cast_head_ok : (v : Bool) (k : Kind) (s : Span) → MoveOk (delta (cast_head v) k) false [] s.from (λ q. q) k s
-cast_head_ok v (K.Reserved word.Is) s = (0, λ to xs h. (h.0, (0, 0, λ r. refl)))
-cast_head_ok v _ s = tt
-
 -- a sequence is a process of the level below
 pub seq_is_proc : (v : Bool) (n : ℕ) (p : t.Proc) → IsProc v (in_seq (n + 1)) p → IsProc v (at_level n) p
 seq_is_proc v n (t.par s p q) h = absurd h
-seq_is_proc v n (t.out s a b) h = h
-seq_is_proc v n (t.out_then s a b p) h = h
-seq_is_proc v n (t.inp s a w b p) h = h
-seq_is_proc v n (t.repeat s a w b p) h = h
-seq_is_proc v n (t.split s m w b x c p) h = h
-seq_is_proc v n (t.match s m w b n' x c p) h = h
-seq_is_proc v n (t.case s m w b p x c q) h = h
-seq_is_proc v n (t.decrypt s m w b n' p) h = h
-seq_is_proc v n (t.check s m n' p) h = h
-seq_is_proc v n (t.begin s a p) h = h
-seq_is_proc v n (t.end s a p) h = h
-seq_is_proc v n (t.end_many s a p) h = h
-seq_is_proc v n (t.cast s a w b p) h = h
-seq_is_proc v n (t.new s w b p) h = h
-seq_is_proc v n (t.stop s) h = h
-seq_is_proc v n (t.group s p q) h = h
+seq_is_proc v n _ h = h
 
 pub seq_as_proc : (v : Bool) (n : ℕ) (p : t.Proc) (r : List Piece) → IsProc v (in_seq (n + 1)) p → proc_pieces (at_level n) p r ≡ proc_pieces (in_seq (n + 1)) p r
 seq_as_proc v n (t.par s p q) r h = absurd h
-seq_as_proc v n (t.out s a b) r h = refl
-seq_as_proc v n (t.out_then s a b p) r h = refl
-seq_as_proc v n (t.inp s a w b p) r h = refl
-seq_as_proc v n (t.repeat s a w b p) r h = refl
-seq_as_proc v n (t.split s m w b x c p) r h = refl
-seq_as_proc v n (t.match s m w b n' x c p) r h = refl
-seq_as_proc v n (t.case s m w b p x c q) r h = refl
-seq_as_proc v n (t.decrypt s m w b n' p) r h = refl
-seq_as_proc v n (t.check s m n' p) r h = refl
-seq_as_proc v n (t.begin s a p) r h = refl
-seq_as_proc v n (t.end s a p) r h = refl
-seq_as_proc v n (t.end_many s a p) r h = refl
-seq_as_proc v n (t.cast s a w b p) r h = refl
-seq_as_proc v n (t.new s w b p) r h = refl
-seq_as_proc v n (t.stop s) r h = refl
-seq_as_proc v n (t.group s p q) r h = refl
+seq_as_proc v n _ r h = refl
 
 par_case : (v : Bool) (n : ℕ) (s : Span) (to : ℕ) (p : t.Proc) (o : Option t.Proc) → IsProc v (in_seq (n + 1)) p → Formed (par_tail v n) o
     → IsProc v (at_level n) (par_of (record { from = s.from; to = to }) p o) × IsSpelled (sproc v n) (seq v (n + 1) ∷ par_tail v n ∷ []) s.from (λ q. q) to (par_of (record { from = s.from; to = to }) p o) (p, (o, tt))
 par_case v n s to p None h k = (seq_is_proc v n p h, (0, 0, λ r. seq_as_proc v n p r h))
 par_case v n s to p (Some q) h k = ((h, k), (1, 1, λ r. refl))
 
-sproc_ok : (v : Bool) (n : ℕ) (k : Kind) (s : Span) → MoveOk (delta (sproc v n) k) false [] s.from (λ q. q) k s
-sproc_ok v n k s = λ to xs h. par_case v n s to xs.0 xs.1.0 h.0 h.1.0
-
 out_case : (v : Bool) (n : ℕ) (s : Span) (to : ℕ) (a b : t.Msg) (o : Option t.Proc) → IsMsg v false a → IsMsg v false b → Formed (out_tail v n) o
     → IsProc v (in_seq n) (out_of (record { from = s.from; to = to }) a b o) × IsSpelled (seq v n) (msg v false 1 ∷ msg v false 1 ∷ out_tail v n ∷ []) s.from (λ q. cell (K.Reserved word.Out) (deep_here (seq v n)) ∷ q) to (out_of (record { from = s.from; to = to }) a b o) (a, (b, (o, tt)))
 out_case v n s to a b None ha hb h = ((ha, hb), (1, 1, λ r. refl))
 out_case v n s to a b (Some p) ha hb h = ((ha, hb, h), (1, 1, λ r. refl))
-
-seq_ok : (v : Bool) (n : ℕ) (k : Kind) (s : Span) → MoveOk (delta (seq v n) k) (nat_lt process_limit n) [] s.from (λ q. q) k s
-seq_ok v n (K.Reserved word.Out) s = (0, λ to xs h. out_case v n s to xs.0 xs.1.0 xs.1.1.0 h.0 h.1.0 h.1.1.0)
-seq_ok v n (K.Reserved word.Inp) s = (0, λ to xs h. ((h.0, h.1.0, h.1.1.0), (1, 1, λ r. refl)))
-seq_ok v n (K.Reserved word.Repeat) s = (0, λ to xs h. ((h.1.0, h.1.1.0, h.1.1.1.0), (1, 1, λ r. refl)))
-seq_ok v n (K.Reserved word.Split) s = (0, λ to xs h. ((h.0, h.1.0.0, h.1.0.1, h.1.1.0), (1, 1, λ r. refl)))
-seq_ok v n (K.Reserved word.Match) s = (0, λ to xs h. ((h.0, h.1.0.0, h.1.0.1, h.1.0.2, h.1.1.0), (1, 1, λ r. refl)))
-seq_ok v n (K.Reserved word.Case) s = (0, λ to xs h. ((h.0, h.1.0, h.1.1.0, h.1.1.1.0, h.1.1.1.1.0), (1, 1, λ r. refl)))
-seq_ok v n (K.Reserved word.Decrypt) s = (0, λ to xs h. ((h.0, h.1.0.0, h.1.0.1, h.1.1.0), (1, 1, λ r. refl)))
-seq_ok v n (K.Reserved word.Check) s = (0, λ to xs h. ((h.0, h.1.0, h.1.1.0), (1, 1, λ r. refl)))
-seq_ok v n (K.Reserved word.Begin) s = (0, λ to xs h. ((h.0, h.1.1.0), (1, 1, λ r. refl)))
-seq_ok v n (K.Reserved word.End) s = (0, λ to xs h. ((h.0, h.1.1.0), (1, 1, λ r. refl)))
-seq_ok true n (K.Reserved word.EndMany) s = (0, λ to xs h. ((refl, h.0, h.1.1.0), (1, 1, λ r. refl)))
-seq_ok false n (K.Reserved word.EndMany) s = tt
-seq_ok v n (K.Reserved word.Cast) s = (0, λ to xs h. ((h.0, h.1.0, h.1.1.0), (1, 1, λ r. refl)))
-seq_ok v n (K.Reserved word.New) s = (0, λ to xs h. ((h.0, h.1.0), (1, 1, λ r. refl)))
-seq_ok v n (K.Reserved word.Stop) s = (0, λ to xs h. (tt, (1, 1, λ r. refl)))
-seq_ok v n (K.Mark mark.ParenOpen) s = (0, λ to xs h. ((h.0, h.1.1.0), (1, 1, λ r. refl)))
-seq_ok v n _ s = tt
-
-out_tail_ok : (v : Bool) (n : ℕ) (k : Kind) (s : Span) → MoveOk (delta (out_tail v n) k) false [] s.from (λ q. q) k s
-out_tail_ok v n (K.Mark mark.Semicolon) s = (0, λ to xs h. (h.0, (0, 0, λ r. refl)))
-out_tail_ok v n _ s = (tt, λ r. refl)
-
-par_tail_ok : (v : Bool) (n : ℕ) (k : Kind) (s : Span) → MoveOk (delta (par_tail v n) k) false [] s.from (λ q. q) k s
-par_tail_ok v n (K.Mark mark.Bar) s = (0, λ to xs h. (h.0, (0, 0, λ r. refl)))
-par_tail_ok v n _ s = (tt, λ r. refl)
-
-words_item_ok : (k : Kind) (s : Span) → MoveOk (delta words_item k) false [] s.from (λ q. q) k s
-words_item_ok (K.Mark mark.Comma) s = (0, λ to xs h. (tt, (0, 0, λ r. refl)))
-words_item_ok (K.Mark mark.Semicolon) s = (0, λ to xs h. (tt, (0, 0, λ r. refl)))
-words_item_ok _ s = tt
-
-words_ok : (k : Kind) (s : Span) → MoveOk (delta words k) false [] s.from (λ q. q) k s
-words_ok (K.Mark mark.Comma) s = (0, λ to xs h. (tt, (0, 0, λ r. refl)))
-words_ok (K.Mark mark.Semicolon) s = (0, λ to xs h. (tt, (0, 0, λ r. refl)))
-words_ok _ s = tt
-
-free_rest_ok : (k : Kind) (s : Span) → MoveOk (delta free_rest k) false [] s.from (λ q. q) k s
-free_rest_ok k s = λ to xs h. (tt, (0, 1, λ r. refl))
-
-abbr_rest_ok : (v : Bool) (k : Kind) (s : Span) → MoveOk (delta (abbr_rest v) k) false [] s.from (λ q. q) k s
-abbr_rest_ok v k s = λ to xs h. (h.1.1.0, (0, 1, λ r. refl))
-
-decl_ok : (v : Bool) (k : Kind) (s : Span) → MoveOk (delta (decl v) k) false [] s.from (λ q. q) k s
-decl_ok v (K.Reserved word.Free) s = (0, λ to xs h. (tt, (1, 0, λ r. refl)))
-decl_ok v (K.Reserved word.TypeWord) s = (0, λ to xs h. (h.0, (1, 0, λ r. refl)))
-decl_ok v _ s = tt
-
-decls_item_ok : (v : Bool) (k : Kind) (s : Span) → MoveOk (delta (decls_item v) k) false [] s.from (λ q. q) k s
-decls_item_ok v (K.Reserved word.Free) s = (0, λ to xs h. (tt, (1, 0, λ r. refl)))
-decls_item_ok v (K.Reserved word.TypeWord) s = (0, λ to xs h. (h.0, (1, 0, λ r. refl)))
-decls_item_ok v (K.Reserved word.Process) s = (0, λ to xs h. (tt, (0, 0, λ r. refl)))
-decls_item_ok v _ s = tt
-
-decls_ok : (v : Bool) (k : Kind) (s : Span) → MoveOk (delta (decls v) k) false [] s.from (λ q. q) k s
-decls_ok v (K.Reserved word.Free) s = (0, λ to xs h. ((tt, h.1.0), (1, 0, λ r. refl)))
-decls_ok v (K.Reserved word.TypeWord) s = (0, λ to xs h. ((h.0, h.1.0), (1, 0, λ r. refl)))
-decls_ok v (K.Reserved word.Process) s = (0, λ to xs h. (tt, (0, 0, λ r. refl)))
-decls_ok v _ s = tt
-
-act_rest_ok : (k : Kind) (s : Span) → MoveOk (delta act_rest k) false [] s.from (λ q. q) k s
-act_rest_ok k s = λ to xs h. (tt, (0, 1, λ r. refl))
-
-talk_rest_ok : (k : Kind) (s : Span) → MoveOk (delta talk_rest k) false [] s.from (λ q. q) k s
-talk_rest_ok k s = λ to xs h. (tt, (0, 1, λ r. refl))
 
 item_step_ok : (w : List ℕ) (s : Span) (a b : Bool) → is_act w ≡ a → is_talk w ≡ b
     → MoveOk {a = steps_item} {ate = false} (cond a (eat (act_rest ∷ []) (λ ss to xs. one (act_from ss xs.0))) (cond b (eat (talk_rest ∷ []) (λ ss to xs. one (talk_from ss xs.0))) (skip (last tt)))) false [] s.from (λ q. q) (K.Word w) s
@@ -331,19 +111,11 @@ item_step_ok w s true b e f = let same = bytes_eq-true w (codes "act") e in (0, 
 item_step_ok w s false true e f = let same = bytes_eq-true w (codes "talk") f in (0, λ to xs h. (tt, (1, 0, λ r. ap (λ (z : List ℕ). opens s.from ∷ cell (K.Word z) false ∷ spell talk_rest xs.0 r) (sym same))))
 item_step_ok w s false false e f = (tt, λ r. refl)
 
-steps_item_ok : (k : Kind) (s : Span) → MoveOk (delta steps_item k) false [] s.from (λ q. q) k s
-steps_item_ok (K.Word w) s = item_step_ok w s (is_act w) (is_talk w) refl refl
-steps_item_ok _ s = (tt, λ r. refl)
-
 more_steps_ok : (w : List ℕ) (s : Span) (a b : Bool) → is_act w ≡ a → is_talk w ≡ b
     → MoveOk {a = steps} {ate = false} (cond a (eat (act_rest ∷ steps ∷ []) (λ ss to xs. (act_from ss xs.0 ∷ xs.1.0.0, xs.1.0.1))) (cond b (eat (talk_rest ∷ steps ∷ []) (λ ss to xs. (talk_from ss xs.0 ∷ xs.1.0.0, xs.1.0.1))) (skip ([], tt)))) false [] s.from (λ q. q) (K.Word w) s
 more_steps_ok w s true b e f = let same = bytes_eq-true w (codes "act") e in (0, λ to xs h. (tt, (1, 0, λ r. ap (λ (z : List ℕ). opens s.from ∷ cell (K.Word z) false ∷ spell act_rest xs.0 (spell steps xs.1.0 r)) (sym same))))
 more_steps_ok w s false true e f = let same = bytes_eq-true w (codes "talk") f in (0, λ to xs h. (tt, (1, 0, λ r. ap (λ (z : List ℕ). opens s.from ∷ cell (K.Word z) false ∷ spell talk_rest xs.0 (spell steps xs.1.0 r)) (sym same))))
 more_steps_ok w s false false e f = (tt, λ r. refl)
-
-steps_ok : (k : Kind) (s : Span) → MoveOk (delta steps k) false [] s.from (λ q. q) k s
-steps_ok (K.Word w) s = more_steps_ok w s (is_act w) (is_talk w) refl refl
-steps_ok _ s = (tt, λ r. refl)
 
 rule_ok : (v : Bool) (n : ℕ) (w : List ℕ) (s : Span) (a : Option ℕ) (b : Bool) → arity_of v w ≡ a → writes_effect w ≡ b → MoveOk (rule_move v n w a b) (nat_lt derivation_limit n) [] s.from (λ q. q) (K.Word w) s
 rule_ok v n w s None b e f = tt
@@ -356,82 +128,109 @@ rule_ok v n w s (Some (suc zero)) true e f = (1, λ to xs h. ((e, f, h.0, (h.1.0
 rule_ok v n w s (Some zero) true e f = tt
 rule_ok v n w s (Some (suc (suc k))) true e f = tt
 
-deriv_ok : (v : Bool) (n : ℕ) (k : Kind) (s : Span) → MoveOk (delta (deriv v n) k) (nat_lt derivation_limit n) [] s.from (λ q. q) k s
-deriv_ok v n (K.Word w) s = rule_ok v n w s (arity_of v w) (writes_effect w) refl refl
-deriv_ok v n _ s = tt
-
-opponent_tail_ok : (v : Bool) (k : Kind) (s : Span) → MoveOk (delta (opponent_tail v) k) false [] s.from (λ q. q) k s
-opponent_tail_ok v (K.Reserved word.Opponent) s = (0, λ to xs h. (h.0, (0, 0, λ r. refl)))
-opponent_tail_ok v _ s = (tt, λ r. refl)
-
-schedule_tail_ok : (k : Kind) (s : Span) → MoveOk (delta schedule_tail k) false [] s.from (λ q. q) k s
-schedule_tail_ok (K.Reserved word.Schedule) s = (0, λ to xs h. (tt, (0, 0, λ r. refl)))
-schedule_tail_ok _ s = (tt, λ r. refl)
-
-derivation_tail_ok : (v : Bool) (k : Kind) (s : Span) → MoveOk (delta (derivation_tail v) k) false [] s.from (λ q. q) k s
-derivation_tail_ok v (K.Reserved word.Derivation) s = (0, λ to xs h. (h.0, (0, 0, λ r. refl)))
-derivation_tail_ok v _ s = (tt, λ r. refl)
-
-body_ok : (v : Bool) (k : Kind) (s : Span) → MoveOk (delta (body v) k) false [] s.from (λ q. q) k s
-body_ok v k s = λ to xs h. ((h.0, h.1.0, h.1.1.0, h.1.1.1.1.0), (0, 0, λ r. refl))
-
 file_case : (w : List ℕ) (s : Span) (b : Bool) → is_version_word w ≡ b
     → MoveOk {a = file} {ate = false} (cond b (eat (the_two ∷ the_mark mark.Semicolon ∷ body true ∷ []) (λ ss to xs. file_from 2 (over ss to) xs.1.1.0)) fail) false [] s.from (λ q. q) (K.Word w) s
 file_case w s false e = tt
 file_case w s true e = let same = bytes_eq-true w (codes "version") e in
     (0, λ to xs h. (record { version = inr refl; decls = h.1.1.0.0; process = h.1.1.0.1; opponent = h.1.1.0.2; derivation = h.1.1.0.3 }, (1, 1, λ r. ap (λ (z : List ℕ). opens s.from ∷ cell (K.Word z) false ∷ spell the_two tt (spell (the_mark mark.Semicolon) tt (spell (body true) xs.1.1.0 (closes to ∷ r)))) (sym same))))
 
-file_ok : (k : Kind) (s : Span) → MoveOk (delta file k) false [] s.from (λ q. q) k s
-file_ok (K.Word w) s = file_case w s (is_version_word w) refl
-file_ok _ s = λ to xs h. (record { version = inl refl; decls = h.0.0; process = h.0.1; opponent = h.0.2; derivation = h.0.3 }, (1, 1, λ r. refl))
-
 moves_ok : (a : Sym) (k : Kind) (s : Span) → MoveOk (delta a k) (deep_here a) [] s.from (λ q. q) k s
-moves_ok (the_mark m) = mark_ok m
-moves_ok (the_reserved w) = reserved_ok w
-moves_ok the_word = word_ok
-moves_ok the_number = number_ok
-moves_ok the_two = two_ok
-moves_ok (msg v d n) = msg_ok v d n
-moves_ok (msgs_item v d n) = msgs_item_ok v d n
-moves_ok (msgs v d n) = msgs_ok v d n
-moves_ok (atom v d n) = atom_ok v d n
-moves_ok (atoms_item v d n) = atoms_item_ok v d n
-moves_ok (atoms v d n) = atoms_ok v d n
-moves_ok (effect v d n) = effect_ok v d n
-moves_ok (ty v n) = ty_ok v n
-moves_ok (fields_item v n) = fields_item_ok v n
-moves_ok fields_rest = fields_rest_ok
-moves_ok (fields v n) = fields_ok v n
-moves_ok (fields_more v n) = fields_more_ok v n
-moves_ok (named v) = named_ok v
-moves_ok (binder v) = binder_ok v
-moves_ok (split_head v) = split_head_ok v
-moves_ok (match_head v) = match_head_ok v
-moves_ok (case_head v w) = case_head_ok v w
-moves_ok (decrypt_head v) = decrypt_head_ok v
-moves_ok (check_head v) = check_head_ok v
-moves_ok (cast_head v) = cast_head_ok v
-moves_ok (sproc v n) = sproc_ok v n
-moves_ok (seq v n) = seq_ok v n
-moves_ok (out_tail v n) = out_tail_ok v n
-moves_ok (par_tail v n) = par_tail_ok v n
-moves_ok words_item = words_item_ok
-moves_ok words = words_ok
-moves_ok free_rest = free_rest_ok
-moves_ok (abbr_rest v) = abbr_rest_ok v
-moves_ok (decl v) = decl_ok v
-moves_ok (decls_item v) = decls_item_ok v
-moves_ok (decls v) = decls_ok v
-moves_ok act_rest = act_rest_ok
-moves_ok talk_rest = talk_rest_ok
-moves_ok steps_item = steps_item_ok
-moves_ok steps = steps_ok
-moves_ok (deriv v n) = deriv_ok v n
-moves_ok (opponent_tail v) = opponent_tail_ok v
-moves_ok schedule_tail = schedule_tail_ok
-moves_ok (derivation_tail v) = derivation_tail_ok v
-moves_ok (body v) = body_ok v
-moves_ok file = file_ok
+moves_ok (the_mark m) (K.Mark found) s = mark_case m found s (eqb (mark_number found) (mark_number m)) refl
+moves_ok (the_reserved w) (K.Reserved found) s = reserved_case w found s (eqb (reserved_number found) (reserved_number w)) refl
+moves_ok the_word (K.Word w) s = (1, λ to xs h. (tt, (1, 0, λ r. refl)))
+moves_ok the_number (K.Number i) s = (0, λ to xs h. (tt, (0, 0, λ r. refl)))
+moves_ok the_two (K.Number n) s = two_case n s (n == 2) refl
+moves_ok (msg v false n) (K.Word w) s = (1, λ to xs h. (refl, (2, 1, λ r. refl)))
+moves_ok (msg v d n) (K.Mark mark.ParenOpen) s = λ k' s'. paren_ok v d n s k' s'
+moves_ok (msg v d n) (K.Mark mark.BraceOpen) s = (0, λ to xs h. ((h.0, h.1.1.0), (1, 1, λ r. refl)))
+moves_ok (msg v true n) (K.Mark mark.NumberSign) s = (0, λ to xs h. (refl, (1, 1, λ r. refl)))
+moves_ok (msg v d n) (K.Reserved word.Inl) s = (0, λ to xs h. (h.0, (1, 1, λ r. refl)))
+moves_ok (msg v d n) (K.Reserved word.Inr) s = (0, λ to xs h. (h.0, (1, 1, λ r. refl)))
+moves_ok (msg true d n) (K.Reserved word.Hash) s = (0, λ to xs h. ((refl, h.1.0), (1, 1, λ r. refl)))
+moves_ok (msgs_item v d n) (K.Mark mark.Comma) s = (0, λ to xs h. (h.0, (0, 0, λ r. refl)))
+moves_ok (msgs_item v d n) (K.Mark mark.ParenClose) s = (0, λ to xs h. (tt, (0, 0, λ r. refl)))
+moves_ok (msgs v d n) (K.Mark mark.Comma) s = (0, λ to xs h. ((h.0, h.1.0), (0, 0, λ r. refl)))
+moves_ok (msgs v d n) (K.Mark mark.ParenClose) s = (0, λ to xs h. (tt, (0, 0, λ r. refl)))
+moves_ok (atom v d n) (K.Reserved word.End) s = (0, λ to xs h. (h.0, (1, 1, λ r. refl)))
+moves_ok (atom v d n) (K.Reserved word.Check) s = (0, λ to xs h. (h.0, (1, 1, λ r. refl)))
+moves_ok (atom true d n) (K.Reserved word.Many) s = (0, λ to xs h. ((refl, h.0), (1, 1, λ r. refl)))
+moves_ok (atoms_item v d n) (K.Mark mark.Comma) s = (0, λ to xs h. (h.0, (0, 0, λ r. refl)))
+moves_ok (atoms_item v d n) (K.Mark mark.BracketClose) s = (0, λ to xs h. (tt, (0, 0, λ r. refl)))
+moves_ok (atoms v d n) (K.Mark mark.Comma) s = (0, λ to xs h. ((h.0, h.1.0), (0, 0, λ r. refl)))
+moves_ok (atoms v d n) (K.Mark mark.BracketClose) s = (0, λ to xs h. (tt, (0, 0, λ r. refl)))
+moves_ok (effect v d n) (K.Mark mark.BracketOpen) s = λ k' s'. bracket_ok v d n s k' s'
+moves_ok (ty v n) (K.Word w) s = (1, λ to xs h. (tt, (2, 1, λ r. refl)))
+moves_ok (ty v n) (K.Reserved word.Un) s = (0, λ to xs h. (tt, (1, 1, λ r. refl)))
+moves_ok (ty v n) (K.Reserved word.Key) s = (0, λ to xs h. (h.1.0, (1, 1, λ r. refl)))
+moves_ok (ty v n) (K.Reserved word.Nonce) s = (0, λ to xs h. (h.0, (1, 1, λ r. refl)))
+moves_ok (ty v n) (K.Mark mark.ParenOpen) s = λ k' s'. ty_paren_ok v n s k' s'
+moves_ok (fields_item v n) (K.Word w) s = λ k' s'. item_word_ok v n w s k' s'
+moves_ok (fields_item v n) _ s = λ to xs h. (h.0, (0, 0, λ r. refl))
+moves_ok fields_rest (K.Mark mark.Comma) s = (0, λ to xs h. (tt, (0, 0, λ r. refl)))
+moves_ok fields_rest (K.Mark mark.ParenClose) s = (0, λ to xs h. (tt, (0, 0, λ r. refl)))
+moves_ok (fields v n) (K.Word w) s = λ k' s'. fields_word_ok v n w s k' s'
+moves_ok (fields v n) _ s = λ to xs h. ((tt, h.0), (0, 0, λ r. refl))
+moves_ok (fields_more v n) (K.Mark mark.Comma) s = (0, λ to xs h. (h.0, (0, 0, λ r. refl)))
+moves_ok (fields_more v n) (K.Mark mark.ParenClose) s = (0, λ to xs h. (tt, (0, 0, λ r. refl)))
+moves_ok (named v) k s = λ to xs h. (h.1.1.0, (0, 0, λ r. refl))
+moves_ok (binder v) (K.Mark mark.ParenOpen) s = (0, λ to xs h. (h.0, (0, 0, λ r. refl)))
+moves_ok (split_head v) (K.Reserved word.Is) s = (0, λ to xs h. ((h.1.0, h.1.1.1.0), (0, 0, λ r. refl)))
+moves_ok (match_head v) (K.Reserved word.Is) s = (0, λ to xs h. ((h.1.0, h.1.1.1.0, h.1.1.1.1.1.0), (0, 0, λ r. refl)))
+moves_ok (case_head v w) (K.Reserved word.Is) s = (0, λ to xs h. (h.1.0, (0, 0, λ r. refl)))
+moves_ok (decrypt_head v) (K.Reserved word.Is) s = (0, λ to xs h. ((h.1.0, h.1.1.1.0), (0, 0, λ r. refl)))
+moves_ok (check_head v) (K.Reserved word.Is) s = (0, λ to xs h. (h.0, (0, 0, λ r. refl)))
+moves_ok (cast_head v) (K.Reserved word.Is) s = (0, λ to xs h. (h.0, (0, 0, λ r. refl)))
+moves_ok (sproc v n) k s = λ to xs h. par_case v n s to xs.0 xs.1.0 h.0 h.1.0
+moves_ok (seq v n) (K.Reserved word.Out) s = (0, λ to xs h. out_case v n s to xs.0 xs.1.0 xs.1.1.0 h.0 h.1.0 h.1.1.0)
+moves_ok (seq v n) (K.Reserved word.Inp) s = (0, λ to xs h. ((h.0, h.1.0, h.1.1.0), (1, 1, λ r. refl)))
+moves_ok (seq v n) (K.Reserved word.Repeat) s = (0, λ to xs h. ((h.1.0, h.1.1.0, h.1.1.1.0), (1, 1, λ r. refl)))
+moves_ok (seq v n) (K.Reserved word.Split) s = (0, λ to xs h. ((h.0, h.1.0.0, h.1.0.1, h.1.1.0), (1, 1, λ r. refl)))
+moves_ok (seq v n) (K.Reserved word.Match) s = (0, λ to xs h. ((h.0, h.1.0.0, h.1.0.1, h.1.0.2, h.1.1.0), (1, 1, λ r. refl)))
+moves_ok (seq v n) (K.Reserved word.Case) s = (0, λ to xs h. ((h.0, h.1.0, h.1.1.0, h.1.1.1.0, h.1.1.1.1.0), (1, 1, λ r. refl)))
+moves_ok (seq v n) (K.Reserved word.Decrypt) s = (0, λ to xs h. ((h.0, h.1.0.0, h.1.0.1, h.1.1.0), (1, 1, λ r. refl)))
+moves_ok (seq v n) (K.Reserved word.Check) s = (0, λ to xs h. ((h.0, h.1.0, h.1.1.0), (1, 1, λ r. refl)))
+moves_ok (seq v n) (K.Reserved word.Begin) s = (0, λ to xs h. ((h.0, h.1.1.0), (1, 1, λ r. refl)))
+moves_ok (seq v n) (K.Reserved word.End) s = (0, λ to xs h. ((h.0, h.1.1.0), (1, 1, λ r. refl)))
+moves_ok (seq true n) (K.Reserved word.EndMany) s = (0, λ to xs h. ((refl, h.0, h.1.1.0), (1, 1, λ r. refl)))
+moves_ok (seq v n) (K.Reserved word.Cast) s = (0, λ to xs h. ((h.0, h.1.0, h.1.1.0), (1, 1, λ r. refl)))
+moves_ok (seq v n) (K.Reserved word.New) s = (0, λ to xs h. ((h.0, h.1.0), (1, 1, λ r. refl)))
+moves_ok (seq v n) (K.Reserved word.Stop) s = (0, λ to xs h. (tt, (1, 1, λ r. refl)))
+moves_ok (seq v n) (K.Mark mark.ParenOpen) s = (0, λ to xs h. ((h.0, h.1.1.0), (1, 1, λ r. refl)))
+moves_ok (out_tail v n) (K.Mark mark.Semicolon) s = (0, λ to xs h. (h.0, (0, 0, λ r. refl)))
+moves_ok (out_tail v n) _ s = (tt, λ r. refl)
+moves_ok (par_tail v n) (K.Mark mark.Bar) s = (0, λ to xs h. (h.0, (0, 0, λ r. refl)))
+moves_ok (par_tail v n) _ s = (tt, λ r. refl)
+moves_ok words_item (K.Mark mark.Comma) s = (0, λ to xs h. (tt, (0, 0, λ r. refl)))
+moves_ok words_item (K.Mark mark.Semicolon) s = (0, λ to xs h. (tt, (0, 0, λ r. refl)))
+moves_ok words (K.Mark mark.Comma) s = (0, λ to xs h. (tt, (0, 0, λ r. refl)))
+moves_ok words (K.Mark mark.Semicolon) s = (0, λ to xs h. (tt, (0, 0, λ r. refl)))
+moves_ok free_rest k s = λ to xs h. (tt, (0, 1, λ r. refl))
+moves_ok (abbr_rest v) k s = λ to xs h. (h.1.1.0, (0, 1, λ r. refl))
+moves_ok (decl v) (K.Reserved word.Free) s = (0, λ to xs h. (tt, (1, 0, λ r. refl)))
+moves_ok (decl v) (K.Reserved word.TypeWord) s = (0, λ to xs h. (h.0, (1, 0, λ r. refl)))
+moves_ok (decls_item v) (K.Reserved word.Free) s = (0, λ to xs h. (tt, (1, 0, λ r. refl)))
+moves_ok (decls_item v) (K.Reserved word.TypeWord) s = (0, λ to xs h. (h.0, (1, 0, λ r. refl)))
+moves_ok (decls_item v) (K.Reserved word.Process) s = (0, λ to xs h. (tt, (0, 0, λ r. refl)))
+moves_ok (decls v) (K.Reserved word.Free) s = (0, λ to xs h. ((tt, h.1.0), (1, 0, λ r. refl)))
+moves_ok (decls v) (K.Reserved word.TypeWord) s = (0, λ to xs h. ((h.0, h.1.0), (1, 0, λ r. refl)))
+moves_ok (decls v) (K.Reserved word.Process) s = (0, λ to xs h. (tt, (0, 0, λ r. refl)))
+moves_ok act_rest k s = λ to xs h. (tt, (0, 1, λ r. refl))
+moves_ok talk_rest k s = λ to xs h. (tt, (0, 1, λ r. refl))
+moves_ok steps_item (K.Word w) s = item_step_ok w s (is_act w) (is_talk w) refl refl
+moves_ok steps_item _ s = (tt, λ r. refl)
+moves_ok steps (K.Word w) s = more_steps_ok w s (is_act w) (is_talk w) refl refl
+moves_ok steps _ s = (tt, λ r. refl)
+moves_ok (deriv v n) (K.Word w) s = rule_ok v n w s (arity_of v w) (writes_effect w) refl refl
+moves_ok (opponent_tail v) (K.Reserved word.Opponent) s = (0, λ to xs h. (h.0, (0, 0, λ r. refl)))
+moves_ok (opponent_tail v) _ s = (tt, λ r. refl)
+moves_ok schedule_tail (K.Reserved word.Schedule) s = (0, λ to xs h. (tt, (0, 0, λ r. refl)))
+moves_ok schedule_tail _ s = (tt, λ r. refl)
+moves_ok (derivation_tail v) (K.Reserved word.Derivation) s = (0, λ to xs h. (h.0, (0, 0, λ r. refl)))
+moves_ok (derivation_tail v) _ s = (tt, λ r. refl)
+moves_ok (body v) k s = λ to xs h. ((h.0, h.1.0, h.1.1.0, h.1.1.1.1.0), (0, 0, λ r. refl))
+moves_ok file (K.Word w) s = file_case w s (is_version_word w) refl
+moves_ok file _ s = λ to xs h. (record { version = inl refl; decls = h.0.0; process = h.0.1; opponent = h.0.2; derivation = h.0.3 }, (1, 1, λ r. refl))
+moves_ok _ _ s = tt
 
 ends_ok : (a : Sym) (x : Tree a) → at_end a ≡ Some x → Formed a x × ((r : List Piece) → spell a x r ≡ r)
 ends_ok (out_tail v n) None e = (tt, λ r. refl)

@@ -20,7 +20,7 @@ use Rattle.spi_parse.specs.Exact.{Spells, IsEnd, NoneGoesOn, IsSyntaxAt, IsDeepA
 use Rattle.spi_parse.specs.Faults.{fault_at}
 use Rattle.spi_parse.proofs.Readers.{at}
 use Rattle.spi_parse.proofs.Spell.{spell, Formed}
-use Rattle.spi_parse.proofs.Sound.{Lies}
+use Rattle.spi_parse.proofs.Sound.{untok, Lies}
 use Rattle.spi_parse.proofs.Viable.{AreSpare}
 use Rattle.spi_parse.proofs.Local.{left_of}
 use Rattle.spi_parse.proofs.Complete.{told_fits, out_ends_nil, par_ends_nil, msg_c, ty_c, decl_c, proc_c, file_c}
@@ -33,18 +33,12 @@ pub kinds_tok : (ts : List Token) → kinds (map tok ts) ≡ kinds_of ts
 kinds_tok [] = refl
 kinds_tok (t ∷ ts) = ap (λ (l : List Kind). t.kind ∷ l) (kinds_tok ts)
 
-same_tok : (a b : Token) → tok a ≡ tok b → a ≡ b
-same_tok a b e = ap (λ (x : Tok). let y : Token = record { kind = x.kind; span = x.span } in y) e
+untok_tok : (ts : List Token) → map untok (map tok ts) ≡ ts
+untok_tok [] = refl
+untok_tok (t ∷ ts) = ap (λ (l : List Token). t ∷ l) (untok_tok ts)
 
 same_toks : (a b : List Token) → map tok a ≡ map tok b → a ≡ b
-same_toks [] [] e = refl
-same_toks [] (y ∷ b) e = cc
-same_toks (x ∷ a) [] e = cc
-same_toks (x ∷ a) (y ∷ b) e =
-    let h : tok x ≡ tok y = cc in
-    let tail : map tok a ≡ map tok b = cc in
-    let p = same_tok x y h in
-    let q = same_toks a b tail in cc
+same_toks a b e = sym (untok_tok a) ∙ ap (map untok) e ∙ untok_tok b
 
 front_of : (l : List Token) (pre : List Tok) (r : List Token) → map tok l ≡ pre ++ map tok r → (p : List Token) × (l ≡ p ++ r) × (map tok p ≡ pre)
 front_of l [] r e = ([], same_toks l r e, refl)
@@ -56,12 +50,9 @@ front_of (t ∷ l) (x ∷ pre) r e =
     (t ∷ k.0, ap (λ (z : List Token). t ∷ z) k.1, cc (h, k.2))
 
 spells_of : (left : List Token) (e : ℕ) (ps : List Piece) (ts : List Token) → Lies (map tok left) e ps (map tok ts) → Spells left e ps ts
-spells_of left e [] ts h = same_toks ts left h
-spells_of left e (opens from ∷ ps) [] h = h
-spells_of left e (opens from ∷ ps) (t ∷ ts) h = (h.0, spells_of left e ps (t ∷ ts) h.1)
-spells_of left e (cell k deep ∷ ps) [] h = h
-spells_of left e (cell k deep ∷ ps) (t ∷ ts) h = (h.0, h.1, spells_of left t.span.to ps ts h.2)
-spells_of left e (closes to ∷ ps) ts h = (h.0, spells_of left e ps ts h.1)
+spells_of left e ps ts h =
+    subst (λ (l : List Token). Spells left e ps l) (untok_tok ts)
+    (subst (λ (l : List Token). Spells l e ps (map untok (map tok ts))) (untok_tok left) h)
 
 kinds_count : (ts : List Token) → length (kinds_of ts) ≡ length ts
 kinds_count ts = length-map ts (λ (t : Token). t.kind)

@@ -1,6 +1,7 @@
 pub mod Rules
 pub mod Formed
 pub mod Bare
+pub mod Forms
 pub mod Table
 pub mod Tokens
 pub mod Reading

@@ -11,7 +11,14 @@ use Rattle.spi_lex.specs.declared.token.Mark.TheVariants as mark
 use Rattle.spi_tree.specs.declared.tree.SWord.{SWord}
 use Rattle.spi_tree.specs.Trees as t
 use Rattle.spi_tree.specs.Pieces.{message_limit, process_limit, derivation_limit}
+use Rattle.spi_parse.specs.declared.forms.Form.{Form}
+use Rattle.spi_parse.specs.declared.forms.Form.TheVariants as forms
+use Rattle.spi_parse.specs.declared.forms.Talk.TheVariants as talks
+use Rattle.spi_parse.specs.declared.forms.Open.TheVariants as opens
+use Rattle.spi_parse.specs.declared.forms.Event.TheVariants as events
+use Rattle.spi_parse.specs.declared.forms.Plain.TheVariants as plains
 use Rattle.spi_parse.specs.Rules.{arity_of, writes_effect}
+use Rattle.spi_parse.specs.Forms.{form_of}
 
 -- an item of a list, or what ends the list
 pub data Item (X E : Type 0) : Type 0 where
@@ -262,24 +269,6 @@ is_reserved w (K.Reserved found) = reserved_number found == reserved_number w
 is_reserved w (K.Number n) = false
 is_reserved w (K.Mark m) = false
 
-abbrev pub delta_mark : (m : Mark) → Kind → Move (the_mark m) false
-delta_mark m k = if is_mark m k then eat [] (λ ss to xs. tt) else fail
-
-abbrev pub delta_reserved : (w : Reserved) → Kind → Move (the_reserved w) false
-delta_reserved w k = if is_reserved w k then eat [] (λ ss to xs. tt) else fail
-
-abbrev pub delta_word : Kind → Move the_word false
-delta_word (K.Word w) = eat [] (λ ss to xs. word_at w (first ss))
-delta_word _ = fail
-
-abbrev pub delta_number : Kind → Move the_number false
-delta_number (K.Number n) = eat [] (λ ss to xs. n)
-delta_number _ = fail
-
-abbrev pub delta_two : Kind → Move the_two false
-delta_two (K.Number n) = if n == 2 then eat [] (λ ss to xs. tt) else fail
-delta_two _ = fail
-
 -- behind the left parenthesis of a message
 abbrev pub delta_paren : (v d : Bool) (n : ℕ) → Kind → Move (msg v d n) true
 delta_paren v d n (K.Mark mark.ParenClose) = eat [] (λ ss to xs. t.unit (over ss to))
@@ -287,59 +276,10 @@ delta_paren v d n _ =
     stay (msg v d (n + 1) ∷ the_mark mark.Comma ∷ msg v d (n + 1) ∷ msgs v d (n + 1) ∷ []) tt
     (λ ss to xs. t.tuple (over ss to) xs.0 xs.1.1.0 (t.msgs_of_list xs.1.1.1.0.0))
 
-abbrev pub delta_msg : (v d : Bool) (n : ℕ) → Kind → Move (msg v d n) false
-delta_msg v d n (K.Word w) =
-    if d then fail else eat [] (λ ss to xs. t.name (over ss to) (word_at w (first ss)))
-delta_msg v d n (K.Mark mark.ParenOpen) = look (delta_paren v d n)
-delta_msg v d n (K.Mark mark.BraceOpen) =
-    eat (msg v d (n + 1) ∷ the_mark mark.BraceClose ∷ msg v d (n + 1) ∷ [])
-    (λ ss to xs. t.enc (over ss to) xs.0 xs.1.1.0)
-delta_msg v d n (K.Mark mark.NumberSign) =
-    if d then eat (the_number ∷ []) (λ ss to xs. t.num (over ss to) xs.0) else fail
-delta_msg v d n (K.Reserved word.Inl) = eat (msg v d (n + 1) ∷ []) (λ ss to xs. t.inl (over ss to) xs.0)
-delta_msg v d n (K.Reserved word.Inr) = eat (msg v d (n + 1) ∷ []) (λ ss to xs. t.inr (over ss to) xs.0)
-delta_msg v d n (K.Reserved word.Hash) =
-    if v then eat (the_mark mark.ParenOpen ∷ msg v d (n + 1) ∷ the_mark mark.ParenClose ∷ [])
-    (λ ss to xs. t.hash (over ss to) xs.1.0) else fail
-delta_msg v d n _ = fail
-
-abbrev pub delta_msgs_item : (v d : Bool) (n : ℕ) → Kind → Move (msgs_item v d n) false
-delta_msgs_item v d n (K.Mark mark.Comma) = eat (msg v d n ∷ []) (λ ss to xs. one xs.0)
-delta_msgs_item v d n (K.Mark mark.ParenClose) = eat [] (λ ss to xs. last tt)
-delta_msgs_item v d n _ = fail
-
-abbrev pub delta_msgs : (v d : Bool) (n : ℕ) → Kind → Move (msgs v d n) false
-delta_msgs v d n (K.Mark mark.Comma) =
-    eat (msg v d n ∷ msgs v d n ∷ []) (λ ss to xs. (xs.0 ∷ xs.1.0.0, xs.1.0.1))
-delta_msgs v d n (K.Mark mark.ParenClose) = eat [] (λ ss to xs. ([], tt))
-delta_msgs v d n _ = fail
-
-abbrev pub delta_atom : (v d : Bool) (n : ℕ) → Kind → Move (atom v d n) false
-delta_atom v d n (K.Reserved word.End) = eat (msg v d (n + 1) ∷ []) (λ ss to xs. t.ends (over ss to) xs.0)
-delta_atom v d n (K.Reserved word.Check) = eat (msg v d (n + 1) ∷ []) (λ ss to xs. t.checks (over ss to) xs.0)
-delta_atom v d n (K.Reserved word.Many) =
-    if v then eat (msg v d (n + 1) ∷ []) (λ ss to xs. t.many (over ss to) xs.0) else fail
-delta_atom v d n _ = fail
-
-abbrev pub delta_atoms_item : (v d : Bool) (n : ℕ) → Kind → Move (atoms_item v d n) false
-delta_atoms_item v d n (K.Mark mark.Comma) = eat (atom v d n ∷ []) (λ ss to xs. one xs.0)
-delta_atoms_item v d n (K.Mark mark.BracketClose) = eat [] (λ ss to xs. last tt)
-delta_atoms_item v d n _ = fail
-
-abbrev pub delta_atoms : (v d : Bool) (n : ℕ) → Kind → Move (atoms v d n) false
-delta_atoms v d n (K.Mark mark.Comma) =
-    eat (atom v d n ∷ atoms v d n ∷ []) (λ ss to xs. (xs.0 ∷ xs.1.0.0, xs.1.0.1))
-delta_atoms v d n (K.Mark mark.BracketClose) = eat [] (λ ss to xs. ([], tt))
-delta_atoms v d n _ = fail
-
 -- behind the bracket of an effect
 abbrev pub delta_bracket : (v d : Bool) (n : ℕ) → Kind → Move (effect v d n) true
 delta_bracket v d n (K.Mark mark.BracketClose) = eat [] (λ ss to xs. [])
 delta_bracket v d n _ = stay (atom v d n ∷ atoms v d n ∷ []) tt (λ ss to xs. xs.0 ∷ xs.1.0.0)
-
-abbrev pub delta_effect : (v d : Bool) (n : ℕ) → Kind → Move (effect v d n) false
-delta_effect v d n (K.Mark mark.BracketOpen) = look (delta_bracket v d n)
-delta_effect v d n _ = fail
 
 -- behind the left parenthesis of a type and a word
 abbrev pub delta_ty_word : (v : Bool) (n : ℕ) → List ℕ → Kind → Move (ty v n) true
@@ -360,17 +300,6 @@ delta_ty_paren v n _ =
     stay (ty v (n + 1) ∷ the_mark mark.Plus ∷ ty v (n + 1) ∷ the_mark mark.ParenClose ∷ []) tt
     (λ ss to xs. t.sum (over ss to) xs.0 xs.1.1.0)
 
-abbrev pub delta_ty : (v : Bool) (n : ℕ) → Kind → Move (ty v n) false
-delta_ty v n (K.Word w) = eat [] (λ ss to xs. t.abbr (over ss to) (word_at w (first ss)))
-delta_ty v n (K.Reserved word.Un) = eat [] (λ ss to xs. t.un (over ss to))
-delta_ty v n (K.Reserved word.Key) =
-    eat (the_mark mark.ParenOpen ∷ ty v (n + 1) ∷ the_mark mark.ParenClose ∷ [])
-    (λ ss to xs. t.key (over ss to) xs.1.0)
-delta_ty v n (K.Reserved word.Nonce) =
-    eat (effect v false (n + 1) ∷ []) (λ ss to xs. t.nonce (over ss to) xs.0)
-delta_ty v n (K.Mark mark.ParenOpen) = look (delta_ty_paren v n)
-delta_ty v n _ = fail
-
 -- behind a word among the parts of a tuple
 abbrev pub delta_item_word : (v : Bool) (n : ℕ) → List ℕ → Kind → Move (fields_item v n) true
 delta_item_word v n w (K.Mark mark.Colon) =
@@ -380,16 +309,6 @@ delta_item_word v n w (K.Mark mark.Colon) =
 delta_item_word v n w (K.Mark mark.ParenClose) =
     eat [] (λ ss to xs. last (t.bare (t.abbr (first ss) (word_at w (first ss)))))
 delta_item_word v n w _ = fail
-
-abbrev pub delta_fields_item : (v : Bool) (n : ℕ) → Kind → Move (fields_item v n) false
-delta_fields_item v n (K.Word w) = may_look (nat_lt message_limit n) (delta_item_word v n w)
-delta_fields_item v n _ = stay (ty v n ∷ the_mark mark.ParenClose ∷ []) tt (λ ss to xs. last (t.bare xs.0))
-
--- a comma, or the parenthesis
-abbrev pub delta_fields_rest : Kind → Move fields_rest false
-delta_fields_rest (K.Mark mark.Comma) = eat [] (λ ss to xs. false)
-delta_fields_rest (K.Mark mark.ParenClose) = eat [] (λ ss to xs. true)
-delta_fields_rest _ = fail
 
 abbrev pub with_field : SWord → t.Ty → Option (List t.Field × t.Last) → List t.Field × t.Last
 with_field w a None = ([], t.named w a)
@@ -402,168 +321,65 @@ delta_fields_word v n w (K.Mark mark.ParenClose) =
     eat [] (λ ss to xs. ([], t.bare (t.abbr (first ss) (word_at w (first ss)))))
 delta_fields_word v n w _ = fail
 
-abbrev pub delta_fields : (v : Bool) (n : ℕ) → Kind → Move (fields v n) false
-delta_fields v n (K.Word w) = may_look (nat_lt message_limit n) (delta_fields_word v n w)
-delta_fields v n _ = stay (ty v n ∷ the_mark mark.ParenClose ∷ []) tt (λ ss to xs. ([], t.bare xs.0))
-
-abbrev pub delta_fields_more : (v : Bool) (n : ℕ) → Kind → Move (fields_more v n) false
-delta_fields_more v n (K.Mark mark.Comma) = eat (fields v n ∷ []) (λ ss to xs. Some xs.0)
-delta_fields_more v n (K.Mark mark.ParenClose) = eat [] (λ ss to xs. None)
-delta_fields_more v n _ = fail
-
-abbrev pub delta_named : (v : Bool) → Kind → Move (named v) false
-delta_named v _ = stay (the_word ∷ the_mark mark.Colon ∷ ty v 1 ∷ []) tt (λ ss to xs. (xs.0, xs.1.1.0))
-
-abbrev pub delta_binder : (v : Bool) → Kind → Move (binder v) false
-delta_binder v (K.Mark mark.ParenOpen) =
-    eat (named v ∷ the_mark mark.ParenClose ∷ the_mark mark.Semicolon ∷ []) (λ ss to xs. xs.0)
-delta_binder v _ = fail
-
-abbrev pub delta_split_head : (v : Bool) → Kind → Move (split_head v) false
-delta_split_head v (K.Reserved word.Is) =
-    eat (the_mark mark.ParenOpen ∷ named v ∷ the_mark mark.Comma ∷ named v ∷ the_mark mark.ParenClose
-    ∷ the_mark mark.Semicolon ∷ []) (λ ss to xs. (xs.1.0.0, xs.1.0.1, xs.1.1.1.0.0, xs.1.1.1.0.1))
-delta_split_head v _ = fail
-
-abbrev pub delta_match_head : (v : Bool) → Kind → Move (match_head v) false
-delta_match_head v (K.Reserved word.Is) =
-    eat (the_mark mark.ParenOpen ∷ named v ∷ the_mark mark.Equals ∷ msg v false 1 ∷ the_mark mark.Comma
-    ∷ named v ∷ the_mark mark.ParenClose ∷ the_mark mark.Semicolon ∷ [])
-    (λ ss to xs. (xs.1.0.0, xs.1.0.1, xs.1.1.1.0, xs.1.1.1.1.1.0.0, xs.1.1.1.1.1.0.1))
-delta_match_head v _ = fail
-
-abbrev pub delta_case_head : (v : Bool) (w : Reserved) → Kind → Move (case_head v w) false
-delta_case_head v w (K.Reserved word.Is) = eat (the_reserved w ∷ binder v ∷ []) (λ ss to xs. xs.1.0)
-delta_case_head v w _ = fail
-
-abbrev pub delta_decrypt_head : (v : Bool) → Kind → Move (decrypt_head v) false
-delta_decrypt_head v (K.Reserved word.Is) =
-    eat (the_mark mark.BraceOpen ∷ named v ∷ the_mark mark.BraceClose ∷ msg v false 1
-    ∷ the_mark mark.Semicolon ∷ []) (λ ss to xs. (xs.1.0.0, xs.1.0.1, xs.1.1.1.0))
-delta_decrypt_head v _ = fail
-
-abbrev pub delta_check_head : (v : Bool) → Kind → Move (check_head v) false
-delta_check_head v (K.Reserved word.Is) =
-    eat (msg v false 1 ∷ the_mark mark.Semicolon ∷ []) (λ ss to xs. xs.0)
-delta_check_head v _ = fail
-
-abbrev pub delta_cast_head : (v : Bool) → Kind → Move (cast_head v) false
-delta_cast_head v (K.Reserved word.Is) = eat (binder v ∷ []) (λ ss to xs. xs.0)
-delta_cast_head v _ = fail
-
 abbrev pub par_of : Span → t.Proc → Option t.Proc → t.Proc
 par_of s p None = p
 par_of s p (Some q) = t.par s p q
-
-abbrev pub delta_sproc : (v : Bool) (n : ℕ) → Kind → Move (sproc v n) false
-delta_sproc v n _ = stay (seq v (n + 1) ∷ par_tail v n ∷ []) tt (λ ss to xs. par_of (over ss to) xs.0 xs.1.0)
 
 abbrev pub out_of : Span → t.Msg → t.Msg → Option t.Proc → t.Proc
 out_of s m n None = t.out s m n
 out_of s m n (Some p) = t.out_then s m n p
 
-abbrev pub delta_seq : (v : Bool) (n : ℕ) → Kind → Move (seq v n) false
-delta_seq v n (K.Reserved word.Out) =
+-- a form of a process behind its first token
+abbrev pub form_move : (v : Bool) (n : ℕ) → Form → Move (seq v n) false
+form_move v n (forms.Talk talks.Out) =
     eat (msg v false 1 ∷ msg v false 1 ∷ out_tail v n ∷ [])
     (λ ss to xs. out_of (over ss to) xs.0 xs.1.0 xs.1.1.0)
-delta_seq v n (K.Reserved word.Inp) =
+form_move v n (forms.Talk talks.Inp) =
     eat (msg v false 1 ∷ binder v ∷ seq v (n + 1) ∷ [])
     (λ ss to xs. t.inp (over ss to) xs.0 xs.1.0.0 xs.1.0.1 xs.1.1.0)
-delta_seq v n (K.Reserved word.Repeat) =
+form_move v n (forms.Talk talks.Repeat) =
     eat (the_reserved word.Inp ∷ msg v false 1 ∷ binder v ∷ seq v (n + 1) ∷ [])
     (λ ss to xs. t.repeat (over ss to) xs.1.0 xs.1.1.0.0 xs.1.1.0.1 xs.1.1.1.0)
-delta_seq v n (K.Reserved word.Split) =
+form_move v n (forms.Open opens.Split) =
     eat (msg v false 1 ∷ split_head v ∷ seq v (n + 1) ∷ [])
     (λ ss to xs. t.split (over ss to) xs.0 xs.1.0.0 xs.1.0.1 xs.1.0.2 xs.1.0.3 xs.1.1.0)
-delta_seq v n (K.Reserved word.Match) =
+form_move v n (forms.Open opens.Match) =
     eat (msg v false 1 ∷ match_head v ∷ seq v (n + 1) ∷ [])
     (λ ss to xs. t.match (over ss to) xs.0 xs.1.0.0 xs.1.0.1 xs.1.0.2 xs.1.0.3 xs.1.0.4 xs.1.1.0)
-delta_seq v n (K.Reserved word.Case) =
+form_move v n (forms.Open opens.Case) =
     eat (msg v false 1 ∷ case_head v word.Inl ∷ seq v (n + 1) ∷ case_head v word.Inr ∷ seq v (n + 1) ∷ [])
     (λ ss to xs. t.case (over ss to) xs.0 xs.1.0.0 xs.1.0.1 xs.1.1.0 xs.1.1.1.0.0 xs.1.1.1.0.1 xs.1.1.1.1.0)
-delta_seq v n (K.Reserved word.Decrypt) =
+form_move v n (forms.Open opens.Decrypt) =
     eat (msg v false 1 ∷ decrypt_head v ∷ seq v (n + 1) ∷ [])
     (λ ss to xs. t.decrypt (over ss to) xs.0 xs.1.0.0 xs.1.0.1 xs.1.0.2 xs.1.1.0)
-delta_seq v n (K.Reserved word.Check) =
+form_move v n (forms.Event events.Check) =
     eat (msg v false 1 ∷ check_head v ∷ seq v (n + 1) ∷ [])
     (λ ss to xs. t.check (over ss to) xs.0 xs.1.0 xs.1.1.0)
-delta_seq v n (K.Reserved word.Begin) =
+form_move v n (forms.Event events.Begin) =
     eat (msg v false 1 ∷ the_mark mark.Semicolon ∷ seq v (n + 1) ∷ [])
     (λ ss to xs. t.begin (over ss to) xs.0 xs.1.1.0)
-delta_seq v n (K.Reserved word.End) =
+form_move v n (forms.Event events.End) =
     eat (msg v false 1 ∷ the_mark mark.Semicolon ∷ seq v (n + 1) ∷ [])
     (λ ss to xs. t.end (over ss to) xs.0 xs.1.1.0)
-delta_seq v n (K.Reserved word.EndMany) =
-    if v then eat (msg v false 1 ∷ the_mark mark.Semicolon ∷ seq v (n + 1) ∷ [])
-    (λ ss to xs. t.end_many (over ss to) xs.0 xs.1.1.0) else fail
-delta_seq v n (K.Reserved word.Cast) =
+form_move v n (forms.Event events.EndMany) =
+    eat (msg v false 1 ∷ the_mark mark.Semicolon ∷ seq v (n + 1) ∷ [])
+    (λ ss to xs. t.end_many (over ss to) xs.0 xs.1.1.0)
+form_move v n (forms.Plain plains.Cast) =
     eat (msg v false 1 ∷ cast_head v ∷ seq v (n + 1) ∷ [])
     (λ ss to xs. t.cast (over ss to) xs.0 xs.1.0.0 xs.1.0.1 xs.1.1.0)
-delta_seq v n (K.Reserved word.New) =
+form_move v n (forms.Plain plains.New) =
     eat (binder v ∷ seq v (n + 1) ∷ []) (λ ss to xs. t.new (over ss to) xs.0.0 xs.0.1 xs.1.0)
-delta_seq v n (K.Reserved word.Stop) = eat [] (λ ss to xs. t.stop (over ss to))
-delta_seq v n (K.Mark mark.ParenOpen) =
+form_move v n (forms.Plain plains.Stop) = eat [] (λ ss to xs. t.stop (over ss to))
+form_move v n (forms.Plain plains.Group) =
     eat (seq v (n + 1) ∷ the_mark mark.Bar ∷ sproc v (n + 1) ∷ the_mark mark.ParenClose ∷ [])
     (λ ss to xs. t.group (over ss to) xs.0 xs.1.1.0)
-delta_seq v n _ = fail
-
-abbrev pub delta_out_tail : (v : Bool) (n : ℕ) → Kind → Move (out_tail v n) false
-delta_out_tail v n (K.Mark mark.Semicolon) = eat (seq v (n + 1) ∷ []) (λ ss to xs. Some xs.0)
-delta_out_tail v n _ = skip None
-
-abbrev pub delta_par_tail : (v : Bool) (n : ℕ) → Kind → Move (par_tail v n) false
-delta_par_tail v n (K.Mark mark.Bar) = eat (sproc v (n + 1) ∷ []) (λ ss to xs. Some xs.0)
-delta_par_tail v n _ = skip None
-
-abbrev pub delta_words_item : Kind → Move words_item false
-delta_words_item (K.Mark mark.Comma) = eat (the_word ∷ []) (λ ss to xs. one xs.0)
-delta_words_item (K.Mark mark.Semicolon) = eat [] (λ ss to xs. last tt)
-delta_words_item _ = fail
-
-abbrev pub delta_words : Kind → Move words false
-delta_words (K.Mark mark.Comma) = eat (the_word ∷ words ∷ []) (λ ss to xs. (xs.0 ∷ xs.1.0.0, xs.1.0.1))
-delta_words (K.Mark mark.Semicolon) = eat [] (λ ss to xs. ([], tt))
-delta_words _ = fail
-
-abbrev pub delta_free_rest : Kind → Move free_rest false
-delta_free_rest _ = stay (the_word ∷ words ∷ []) tt (λ ss to xs. (xs.0, xs.1.0.0, to))
-
-abbrev pub delta_abbr_rest : (v : Bool) → Kind → Move (abbr_rest v) false
-delta_abbr_rest v _ =
-    stay (the_word ∷ the_mark mark.Equals ∷ ty v 1 ∷ the_mark mark.Semicolon ∷ []) tt
-    (λ ss to xs. (xs.0, xs.1.1.0, to))
+form_move v n forms.NoForm = fail
 
 abbrev pub free_from : List Span → SWord × List SWord × ℕ → t.Declared
 free_from ss y = t.free (over ss y.2) y.0 y.1
 
 abbrev pub abbr_from : List Span → SWord × t.Ty × ℕ → t.Declared
 abbr_from ss y = t.abbreviated (over ss y.2) y.0 y.1
-
-abbrev pub delta_decl : (v : Bool) → Kind → Move (decl v) false
-delta_decl v (K.Reserved word.Free) = eat (free_rest ∷ []) (λ ss to xs. free_from ss xs.0)
-delta_decl v (K.Reserved word.TypeWord) = eat (abbr_rest v ∷ []) (λ ss to xs. abbr_from ss xs.0)
-delta_decl v _ = fail
-
-abbrev pub delta_decls_item : (v : Bool) → Kind → Move (decls_item v) false
-delta_decls_item v (K.Reserved word.Free) = eat (free_rest ∷ []) (λ ss to xs. one (free_from ss xs.0))
-delta_decls_item v (K.Reserved word.TypeWord) = eat (abbr_rest v ∷ []) (λ ss to xs. one (abbr_from ss xs.0))
-delta_decls_item v (K.Reserved word.Process) = eat [] (λ ss to xs. last tt)
-delta_decls_item v _ = fail
-
-abbrev pub delta_decls : (v : Bool) → Kind → Move (decls v) false
-delta_decls v (K.Reserved word.Free) =
-    eat (free_rest ∷ decls v ∷ []) (λ ss to xs. (free_from ss xs.0 ∷ xs.1.0.0, xs.1.0.1))
-delta_decls v (K.Reserved word.TypeWord) =
-    eat (abbr_rest v ∷ decls v ∷ []) (λ ss to xs. (abbr_from ss xs.0 ∷ xs.1.0.0, xs.1.0.1))
-delta_decls v (K.Reserved word.Process) = eat [] (λ ss to xs. ([], tt))
-delta_decls v _ = fail
-
-abbrev pub delta_act_rest : Kind → Move act_rest false
-delta_act_rest _ = stay (the_number ∷ the_mark mark.Semicolon ∷ []) tt (λ ss to xs. (xs.0, to))
-
-abbrev pub delta_talk_rest : Kind → Move talk_rest false
-delta_talk_rest _ =
-    stay (the_number ∷ the_number ∷ the_mark mark.Semicolon ∷ []) tt (λ ss to xs. (xs.0, xs.1.0, to))
 
 abbrev pub act_from : List Span → ℕ × ℕ → t.Step
 act_from ss y = t.act (over ss y.1) y.0
@@ -576,19 +392,6 @@ is_act w = bytes_eq w (codes "act")
 
 abbrev pub is_talk : List ℕ → Bool
 is_talk w = bytes_eq w (codes "talk")
-
-abbrev pub delta_steps_item : Kind → Move steps_item false
-delta_steps_item (K.Word w) =
-    if is_act w then eat (act_rest ∷ []) (λ ss to xs. one (act_from ss xs.0)) else
-    (if is_talk w then eat (talk_rest ∷ []) (λ ss to xs. one (talk_from ss xs.0)) else skip (last tt))
-delta_steps_item _ = skip (last tt)
-
-abbrev pub delta_steps : Kind → Move steps false
-delta_steps (K.Word w) =
-    if is_act w then eat (act_rest ∷ steps ∷ []) (λ ss to xs. (act_from ss xs.0 ∷ xs.1.0.0, xs.1.0.1)) else
-    (if is_talk w then eat (talk_rest ∷ steps ∷ []) (λ ss to xs. (talk_from ss xs.0 ∷ xs.1.0.0, xs.1.0.1))
-    else skip ([], tt))
-delta_steps _ = skip ([], tt)
 
 -- the rule of a word, by its premises and whether it writes its effect
 abbrev pub rule_move : (v : Bool) (n : ℕ) → List ℕ → Option ℕ → Bool → Move (deriv v n) false
@@ -612,32 +415,6 @@ rule_move v n w (Some (suc zero)) true =
 rule_move v n w (Some zero) true = fail
 rule_move v n w (Some (suc (suc k))) true = fail
 
-abbrev pub delta_deriv : (v : Bool) (n : ℕ) → Kind → Move (deriv v n) false
-delta_deriv v n (K.Word w) = rule_move v n w (arity_of v w) (writes_effect w)
-delta_deriv v n _ = fail
-
-abbrev pub delta_opponent_tail : (v : Bool) → Kind → Move (opponent_tail v) false
-delta_opponent_tail v (K.Reserved word.Opponent) = eat (sproc v 0 ∷ []) (λ ss to xs. Some xs.0)
-delta_opponent_tail v _ = skip None
-
-abbrev pub delta_schedule_tail : Kind → Move schedule_tail false
-delta_schedule_tail (K.Reserved word.Schedule) = eat (steps ∷ []) (λ ss to xs. Some xs.0.0)
-delta_schedule_tail _ = skip None
-
-abbrev pub delta_derivation_tail : (v : Bool) → Kind → Move (derivation_tail v) false
-delta_derivation_tail v (K.Reserved word.Derivation) = eat (deriv v 1 ∷ []) (λ ss to xs. Some xs.0)
-delta_derivation_tail v _ = skip None
-
-abbrev pub delta_body : (v : Bool) → Kind → Move (body v) false
-delta_body v _ = stay (decls v ∷ sproc v 0 ∷ opponent_tail v ∷ schedule_tail ∷ derivation_tail v ∷ []) tt
-    (λ ss to xs. record {
-      decls = xs.0.0;
-      process = xs.1.0;
-      opponent = xs.1.1.0;
-      schedule = xs.1.1.1.0;
-      derivation = xs.1.1.1.1.0;
-    })
-
 abbrev pub file_from : ℕ → Span → Body → t.File
 file_from v s b =
     record {
@@ -653,59 +430,133 @@ file_from v s b =
 abbrev pub is_version_word : List ℕ → Bool
 is_version_word w = bytes_eq w (codes "version")
 
-abbrev pub delta_file : Kind → Move file false
-delta_file (K.Word w) =
+-- the alternative that a token begins
+abbrev pub delta : (a : Sym) → Kind → Move a false
+delta (the_mark m) k = if is_mark m k then eat [] (λ ss to xs. tt) else fail
+delta (the_reserved w) k = if is_reserved w k then eat [] (λ ss to xs. tt) else fail
+delta the_word (K.Word w) = eat [] (λ ss to xs. word_at w (first ss))
+delta the_number (K.Number n) = eat [] (λ ss to xs. n)
+delta the_two (K.Number n) = if n == 2 then eat [] (λ ss to xs. tt) else fail
+delta (msg v d n) (K.Word w) =
+    if d then fail else eat [] (λ ss to xs. t.name (over ss to) (word_at w (first ss)))
+delta (msg v d n) (K.Mark mark.ParenOpen) = look (delta_paren v d n)
+delta (msg v d n) (K.Mark mark.BraceOpen) =
+    eat (msg v d (n + 1) ∷ the_mark mark.BraceClose ∷ msg v d (n + 1) ∷ [])
+    (λ ss to xs. t.enc (over ss to) xs.0 xs.1.1.0)
+delta (msg v d n) (K.Mark mark.NumberSign) =
+    if d then eat (the_number ∷ []) (λ ss to xs. t.num (over ss to) xs.0) else fail
+delta (msg v d n) (K.Reserved word.Inl) = eat (msg v d (n + 1) ∷ []) (λ ss to xs. t.inl (over ss to) xs.0)
+delta (msg v d n) (K.Reserved word.Inr) = eat (msg v d (n + 1) ∷ []) (λ ss to xs. t.inr (over ss to) xs.0)
+delta (msg v d n) (K.Reserved word.Hash) =
+    if v then eat (the_mark mark.ParenOpen ∷ msg v d (n + 1) ∷ the_mark mark.ParenClose ∷ [])
+    (λ ss to xs. t.hash (over ss to) xs.1.0) else fail
+delta (msgs_item v d n) (K.Mark mark.Comma) = eat (msg v d n ∷ []) (λ ss to xs. one xs.0)
+delta (msgs_item v d n) (K.Mark mark.ParenClose) = eat [] (λ ss to xs. last tt)
+delta (msgs v d n) (K.Mark mark.Comma) =
+    eat (msg v d n ∷ msgs v d n ∷ []) (λ ss to xs. (xs.0 ∷ xs.1.0.0, xs.1.0.1))
+delta (msgs v d n) (K.Mark mark.ParenClose) = eat [] (λ ss to xs. ([], tt))
+delta (atom v d n) (K.Reserved word.End) = eat (msg v d (n + 1) ∷ []) (λ ss to xs. t.ends (over ss to) xs.0)
+delta (atom v d n) (K.Reserved word.Check) =
+    eat (msg v d (n + 1) ∷ []) (λ ss to xs. t.checks (over ss to) xs.0)
+delta (atom v d n) (K.Reserved word.Many) =
+    if v then eat (msg v d (n + 1) ∷ []) (λ ss to xs. t.many (over ss to) xs.0) else fail
+delta (atoms_item v d n) (K.Mark mark.Comma) = eat (atom v d n ∷ []) (λ ss to xs. one xs.0)
+delta (atoms_item v d n) (K.Mark mark.BracketClose) = eat [] (λ ss to xs. last tt)
+delta (atoms v d n) (K.Mark mark.Comma) =
+    eat (atom v d n ∷ atoms v d n ∷ []) (λ ss to xs. (xs.0 ∷ xs.1.0.0, xs.1.0.1))
+delta (atoms v d n) (K.Mark mark.BracketClose) = eat [] (λ ss to xs. ([], tt))
+delta (effect v d n) (K.Mark mark.BracketOpen) = look (delta_bracket v d n)
+delta (ty v n) (K.Word w) = eat [] (λ ss to xs. t.abbr (over ss to) (word_at w (first ss)))
+delta (ty v n) (K.Reserved word.Un) = eat [] (λ ss to xs. t.un (over ss to))
+delta (ty v n) (K.Reserved word.Key) =
+    eat (the_mark mark.ParenOpen ∷ ty v (n + 1) ∷ the_mark mark.ParenClose ∷ [])
+    (λ ss to xs. t.key (over ss to) xs.1.0)
+delta (ty v n) (K.Reserved word.Nonce) =
+    eat (effect v false (n + 1) ∷ []) (λ ss to xs. t.nonce (over ss to) xs.0)
+delta (ty v n) (K.Mark mark.ParenOpen) = look (delta_ty_paren v n)
+delta (fields_item v n) (K.Word w) = may_look (nat_lt message_limit n) (delta_item_word v n w)
+delta (fields_item v n) _ = stay (ty v n ∷ the_mark mark.ParenClose ∷ []) tt (λ ss to xs. last (t.bare xs.0))
+-- a comma, or the parenthesis
+delta fields_rest (K.Mark mark.Comma) = eat [] (λ ss to xs. false)
+delta fields_rest (K.Mark mark.ParenClose) = eat [] (λ ss to xs. true)
+delta (fields v n) (K.Word w) = may_look (nat_lt message_limit n) (delta_fields_word v n w)
+delta (fields v n) _ = stay (ty v n ∷ the_mark mark.ParenClose ∷ []) tt (λ ss to xs. ([], t.bare xs.0))
+delta (fields_more v n) (K.Mark mark.Comma) = eat (fields v n ∷ []) (λ ss to xs. Some xs.0)
+delta (fields_more v n) (K.Mark mark.ParenClose) = eat [] (λ ss to xs. None)
+delta (named v) _ = stay (the_word ∷ the_mark mark.Colon ∷ ty v 1 ∷ []) tt (λ ss to xs. (xs.0, xs.1.1.0))
+delta (binder v) (K.Mark mark.ParenOpen) =
+    eat (named v ∷ the_mark mark.ParenClose ∷ the_mark mark.Semicolon ∷ []) (λ ss to xs. xs.0)
+delta (split_head v) (K.Reserved word.Is) =
+    eat (the_mark mark.ParenOpen ∷ named v ∷ the_mark mark.Comma ∷ named v ∷ the_mark mark.ParenClose
+    ∷ the_mark mark.Semicolon ∷ []) (λ ss to xs. (xs.1.0.0, xs.1.0.1, xs.1.1.1.0.0, xs.1.1.1.0.1))
+delta (match_head v) (K.Reserved word.Is) =
+    eat (the_mark mark.ParenOpen ∷ named v ∷ the_mark mark.Equals ∷ msg v false 1 ∷ the_mark mark.Comma
+    ∷ named v ∷ the_mark mark.ParenClose ∷ the_mark mark.Semicolon ∷ [])
+    (λ ss to xs. (xs.1.0.0, xs.1.0.1, xs.1.1.1.0, xs.1.1.1.1.1.0.0, xs.1.1.1.1.1.0.1))
+delta (case_head v w) (K.Reserved word.Is) = eat (the_reserved w ∷ binder v ∷ []) (λ ss to xs. xs.1.0)
+delta (decrypt_head v) (K.Reserved word.Is) =
+    eat (the_mark mark.BraceOpen ∷ named v ∷ the_mark mark.BraceClose ∷ msg v false 1
+    ∷ the_mark mark.Semicolon ∷ []) (λ ss to xs. (xs.1.0.0, xs.1.0.1, xs.1.1.1.0))
+delta (check_head v) (K.Reserved word.Is) =
+    eat (msg v false 1 ∷ the_mark mark.Semicolon ∷ []) (λ ss to xs. xs.0)
+delta (cast_head v) (K.Reserved word.Is) = eat (binder v ∷ []) (λ ss to xs. xs.0)
+delta (sproc v n) _ =
+    stay (seq v (n + 1) ∷ par_tail v n ∷ []) tt (λ ss to xs. par_of (over ss to) xs.0 xs.1.0)
+delta (seq v n) k = form_move v n (form_of v k)
+delta (out_tail v n) (K.Mark mark.Semicolon) = eat (seq v (n + 1) ∷ []) (λ ss to xs. Some xs.0)
+delta (out_tail v n) _ = skip None
+delta (par_tail v n) (K.Mark mark.Bar) = eat (sproc v (n + 1) ∷ []) (λ ss to xs. Some xs.0)
+delta (par_tail v n) _ = skip None
+delta words_item (K.Mark mark.Comma) = eat (the_word ∷ []) (λ ss to xs. one xs.0)
+delta words_item (K.Mark mark.Semicolon) = eat [] (λ ss to xs. last tt)
+delta words (K.Mark mark.Comma) = eat (the_word ∷ words ∷ []) (λ ss to xs. (xs.0 ∷ xs.1.0.0, xs.1.0.1))
+delta words (K.Mark mark.Semicolon) = eat [] (λ ss to xs. ([], tt))
+delta free_rest _ = stay (the_word ∷ words ∷ []) tt (λ ss to xs. (xs.0, xs.1.0.0, to))
+delta (abbr_rest v) _ =
+    stay (the_word ∷ the_mark mark.Equals ∷ ty v 1 ∷ the_mark mark.Semicolon ∷ []) tt
+    (λ ss to xs. (xs.0, xs.1.1.0, to))
+delta (decl v) (K.Reserved word.Free) = eat (free_rest ∷ []) (λ ss to xs. free_from ss xs.0)
+delta (decl v) (K.Reserved word.TypeWord) = eat (abbr_rest v ∷ []) (λ ss to xs. abbr_from ss xs.0)
+delta (decls_item v) (K.Reserved word.Free) = eat (free_rest ∷ []) (λ ss to xs. one (free_from ss xs.0))
+delta (decls_item v) (K.Reserved word.TypeWord) = eat (abbr_rest v ∷ []) (λ ss to xs. one (abbr_from ss xs.0))
+delta (decls_item v) (K.Reserved word.Process) = eat [] (λ ss to xs. last tt)
+delta (decls v) (K.Reserved word.Free) =
+    eat (free_rest ∷ decls v ∷ []) (λ ss to xs. (free_from ss xs.0 ∷ xs.1.0.0, xs.1.0.1))
+delta (decls v) (K.Reserved word.TypeWord) =
+    eat (abbr_rest v ∷ decls v ∷ []) (λ ss to xs. (abbr_from ss xs.0 ∷ xs.1.0.0, xs.1.0.1))
+delta (decls v) (K.Reserved word.Process) = eat [] (λ ss to xs. ([], tt))
+delta act_rest _ = stay (the_number ∷ the_mark mark.Semicolon ∷ []) tt (λ ss to xs. (xs.0, to))
+delta talk_rest _ =
+    stay (the_number ∷ the_number ∷ the_mark mark.Semicolon ∷ []) tt (λ ss to xs. (xs.0, xs.1.0, to))
+delta steps_item (K.Word w) =
+    if is_act w then eat (act_rest ∷ []) (λ ss to xs. one (act_from ss xs.0)) else
+    (if is_talk w then eat (talk_rest ∷ []) (λ ss to xs. one (talk_from ss xs.0)) else skip (last tt))
+delta steps_item _ = skip (last tt)
+delta steps (K.Word w) =
+    if is_act w then eat (act_rest ∷ steps ∷ []) (λ ss to xs. (act_from ss xs.0 ∷ xs.1.0.0, xs.1.0.1)) else
+    (if is_talk w then eat (talk_rest ∷ steps ∷ []) (λ ss to xs. (talk_from ss xs.0 ∷ xs.1.0.0, xs.1.0.1))
+    else skip ([], tt))
+delta steps _ = skip ([], tt)
+delta (deriv v n) (K.Word w) = rule_move v n w (arity_of v w) (writes_effect w)
+delta (opponent_tail v) (K.Reserved word.Opponent) = eat (sproc v 0 ∷ []) (λ ss to xs. Some xs.0)
+delta (opponent_tail v) _ = skip None
+delta schedule_tail (K.Reserved word.Schedule) = eat (steps ∷ []) (λ ss to xs. Some xs.0.0)
+delta schedule_tail _ = skip None
+delta (derivation_tail v) (K.Reserved word.Derivation) = eat (deriv v 1 ∷ []) (λ ss to xs. Some xs.0)
+delta (derivation_tail v) _ = skip None
+delta (body v) _ = stay (decls v ∷ sproc v 0 ∷ opponent_tail v ∷ schedule_tail ∷ derivation_tail v ∷ []) tt
+    (λ ss to xs. record {
+      decls = xs.0.0;
+      process = xs.1.0;
+      opponent = xs.1.1.0;
+      schedule = xs.1.1.1.0;
+      derivation = xs.1.1.1.1.0;
+    })
+delta file (K.Word w) =
     if is_version_word w then eat (the_two ∷ the_mark mark.Semicolon ∷ body true ∷ [])
     (λ ss to xs. file_from 2 (over ss to) xs.1.1.0) else fail
-delta_file _ = stay (body false ∷ []) tt (λ ss to xs. file_from 1 (over ss to) xs.0)
-
-abbrev pub delta : (a : Sym) → Kind → Move a false
-delta (the_mark m) = delta_mark m
-delta (the_reserved w) = delta_reserved w
-delta the_word = delta_word
-delta the_number = delta_number
-delta the_two = delta_two
-delta (msg v d n) = delta_msg v d n
-delta (msgs_item v d n) = delta_msgs_item v d n
-delta (msgs v d n) = delta_msgs v d n
-delta (atom v d n) = delta_atom v d n
-delta (atoms_item v d n) = delta_atoms_item v d n
-delta (atoms v d n) = delta_atoms v d n
-delta (effect v d n) = delta_effect v d n
-delta (ty v n) = delta_ty v n
-delta (fields_item v n) = delta_fields_item v n
-delta fields_rest = delta_fields_rest
-delta (fields v n) = delta_fields v n
-delta (fields_more v n) = delta_fields_more v n
-delta (named v) = delta_named v
-delta (binder v) = delta_binder v
-delta (split_head v) = delta_split_head v
-delta (match_head v) = delta_match_head v
-delta (case_head v w) = delta_case_head v w
-delta (decrypt_head v) = delta_decrypt_head v
-delta (check_head v) = delta_check_head v
-delta (cast_head v) = delta_cast_head v
-delta (sproc v n) = delta_sproc v n
-delta (seq v n) = delta_seq v n
-delta (out_tail v n) = delta_out_tail v n
-delta (par_tail v n) = delta_par_tail v n
-delta words_item = delta_words_item
-delta words = delta_words
-delta free_rest = delta_free_rest
-delta (abbr_rest v) = delta_abbr_rest v
-delta (decl v) = delta_decl v
-delta (decls_item v) = delta_decls_item v
-delta (decls v) = delta_decls v
-delta act_rest = delta_act_rest
-delta talk_rest = delta_talk_rest
-delta steps_item = delta_steps_item
-delta steps = delta_steps
-delta (deriv v n) = delta_deriv v n
-delta (opponent_tail v) = delta_opponent_tail v
-delta schedule_tail = delta_schedule_tail
-delta (derivation_tail v) = delta_derivation_tail v
-delta (body v) = delta_body v
-delta file = delta_file
+delta file _ = stay (body false ∷ []) tt (λ ss to xs. file_from 1 (over ss to) xs.0)
+delta _ _ = fail
 
 -- what stands for the symbol at the end of the tokens
 abbrev pub at_end : (a : Sym) → Option (Tree a)

@@ -16,20 +16,11 @@ use Rattle.spi_parse.proofs.Viable.{AreSpare}
 use Rattle.spi_parse.proofs.Complete.{flat, any_fits, told_fits, msg_c, ty_c, decl_c}
 use Rattle.spi_parse.proofs.ExactLaws as e
 use Rattle.spi_parse.proofs.Words.{made_fit}
+use Rattle.spi_parse.proofs.Unique.{all_false, flat_is}
 use Rattle.spi_grammar.specs.Exactly.{kinds, IsClean, StartsDeep, IsClosed, IsEven, IsLive}
 use Rattle.spi_parts.specs.Determined.{IsCutOnce, BeginsNoOther, AgreesOnDepth}
 use Rattle.spi_parts.proofs.Bridge.{kinds_cells, within_cells, deep_to, OfPieces, of_piece}
 use Rattle.spi_parts.proofs.Behind.{msg_behind, ty_behind, decl_behind}
-
-abbrev all_false : List Kind → List Tok
-all_false [] = []
-all_false (k ∷ ks) = record { kind = k; span = nowhere; deep = false } ∷ all_false ks
-
-flat_is : (ps : List Piece) → flat (λ d. false) ps ≡ all_false (kinds_in ps)
-flat_is [] = refl
-flat_is (opens from ∷ ps) = flat_is ps
-flat_is (cell k deep ∷ ps) = ap (λ (l : List Tok). record { kind = k; span = nowhere; deep = false } ∷ l) (flat_is ps)
-flat_is (closes to ∷ ps) = flat_is ps
 
 kinds_of_false : (ks : List Kind) → e.kinds (all_false ks) ≡ ks
 kinds_of_false [] = refl
@@ -49,26 +40,33 @@ kinds_in_append (opens from ∷ a) b = kinds_in_append a b
 kinds_in_append (cell k deep ∷ a) b = ap (λ (l : List Kind). k ∷ l) (kinds_in_append a b)
 kinds_in_append (closes to ∷ a) b = kinds_in_append a b
 
-module _ (a : Sym) (p : Tree a → List Piece → List Piece) (bare : Tree a → Tree a) (P : Tree a → Type 0)
-    (behind : (y : Tree a) (r : List Piece) → p y r ≡ p y [] ++ r)
-    (complete : (y : Tree a) → P y → (r : List Piece) → read any a (at 0 (flat (λ d. false) (p y r))) ≡ Ok (bare y, at 0 (flat (λ d. false) r))) where
-  tokens_behind : (y : Tree a) (r : List Piece) → kinds_in (p y r) ≡ kinds_in (p y []) ++ kinds_in r
-  tokens_behind y r = ap kinds_in (behind y r) ∙ kinds_in_append (p y []) r
+kinds_flat : (c : List Kind) → e.kinds (flat (λ d. false) (as_pieces c)) ≡ c
+kinds_flat c = ap e.kinds (flat_is (as_pieces c)) ∙ kinds_of_false (kinds_in (as_pieces c)) ∙ kinds_as c
 
-  -- parts with the same tokens, whatever is behind them, are one part up to spans, with the same behind it
-  pub one_split : (y z : Tree a) → P y → P z → (c d : List Kind) → kinds_in (p y []) ++ c ≡ kinds_in (p z []) ++ d → (bare y ≡ bare z) × (c ≡ d)
-  one_split y z hy hz c d same =
-      let all : kinds_in (p y (as_pieces c)) ≡ kinds_in (p z (as_pieces d)) =
-      tokens_behind y (as_pieces c) ∙ ap (λ (l : List Kind). kinds_in (p y []) ++ l) (kinds_as c) ∙ same ∙ sym (tokens_behind z (as_pieces d) ∙ ap (λ (l : List Kind). kinds_in (p z []) ++ l) (kinds_as d)) in
+module _ (a : Sym) (p : Tree a → List Piece → List Piece) (bare : Tree a → Tree a) (behind : (y : Tree a) (r : List Piece) → p y r ≡ p y [] ++ r) where
+  tokens_behind : (y : Tree a) (c : List Kind) → kinds_in (p y (as_pieces c)) ≡ kinds_in (p y []) ++ c
+  tokens_behind y c = ap kinds_in (behind y (as_pieces c)) ∙ kinds_in_append (p y []) (as_pieces c) ∙ ap (λ (l : List Kind). kinds_in (p y []) ++ l) (kinds_as c)
+
+  -- two parts with the same tokens, whatever is behind them, are one up to spans, with the same behind it, if each is read
+  pub one_split_at : (y z : Tree a) (c d : List Kind)
+      → read any a (at 0 (flat (λ d. false) (p y (as_pieces c)))) ≡ Ok (bare y, at 0 (flat (λ d. false) (as_pieces c)))
+      → read any a (at 0 (flat (λ d. false) (p z (as_pieces d)))) ≡ Ok (bare z, at 0 (flat (λ d. false) (as_pieces d)))
+      → kinds_in (p y []) ++ c ≡ kinds_in (p z []) ++ d → (bare y ≡ bare z) × (c ≡ d)
+  one_split_at y z c d hy hz same =
+      let all : kinds_in (p y (as_pieces c)) ≡ kinds_in (p z (as_pieces d)) = tokens_behind y c ∙ same ∙ sym (tokens_behind z d) in
       let lists : flat (λ d. false) (p y (as_pieces c)) ≡ flat (λ d. false) (p z (as_pieces d)) = flat_is (p y (as_pieces c)) ∙ ap all_false all ∙ sym (flat_is (p z (as_pieces d))) in
-      let answers = sym (complete y hy (as_pieces c)) ∙ ap (λ (l : List Tok). read any a (at 0 l)) lists ∙ complete z hz (as_pieces d) in
+      let answers = sym hy ∙ ap (λ (l : List Tok). read any a (at 0 l)) lists ∙ hz in
       let left : Tree a × State = (bare y, at 0 (flat (λ d. false) (as_pieces c))) in
       let right : Tree a × State = (bare z, at 0 (flat (λ d. false) (as_pieces d))) in
       let one : left ≡ right = ok_is {X = Tree a × State} left right answers in
-      (ap (λ (x : Tree a × State). x.0) one, sym (rest c) ∙ ap (λ (x : Tree a × State). e.kinds x.1.rest) one ∙ rest d)
-    where
-      rest : (c : List Kind) → e.kinds (flat (λ d. false) (as_pieces c)) ≡ c
-      rest c = ap e.kinds (flat_is (as_pieces c)) ∙ kinds_of_false (kinds_in (as_pieces c)) ∙ kinds_as c
+      (ap (λ (x : Tree a × State). x.0) one, sym (kinds_flat c) ∙ ap (λ (x : Tree a × State). e.kinds x.1.rest) one ∙ kinds_flat d)
+
+module _ (a : Sym) (p : Tree a → List Piece → List Piece) (bare : Tree a → Tree a) (P : Tree a → Type 0)
+    (behind : (y : Tree a) (r : List Piece) → p y r ≡ p y [] ++ r)
+    (complete : (y : Tree a) → P y → (r : List Piece) → read any a (at 0 (flat (λ d. false) (p y r))) ≡ Ok (bare y, at 0 (flat (λ d. false) r))) where
+  -- parts with the same tokens, whatever is behind them, are one part up to spans, with the same behind it
+  pub one_split : (y z : Tree a) → P y → P z → (c d : List Kind) → kinds_in (p y []) ++ c ≡ kinds_in (p z []) ++ d → (bare y ≡ bare z) × (c ≡ d)
+  one_split y z hy hz c d same = one_split_at a p bare behind y z c d (complete y hy (as_pieces c)) (complete z hz (as_pieces d)) same
 
   pub begins_no_other_by : BeginsNoOther (λ y. p y []) P
   begins_no_other_by y z k more hy hz e =
@@ -79,36 +77,6 @@ module _ (a : Sym) (p : Tree a → List Piece → List Piece) (bare : Tree a →
   closed_by b c lb lc k x g =
       begins_no_other_by lb.part lc.part k x lb.is lc.is
       (sym (kinds_cells (p lc.part [])) ∙ ap kinds lc.shows ∙ g ∙ ap (λ (l : List Kind). l ++ k ∷ x) (sym (ap kinds lb.shows) ∙ kinds_cells (p lb.part [])))
-
--- the same for two given parts, of which the second is read in front of what begins so
-pub one_split_at : (a : Sym) (p : Tree a → List Piece → List Piece) (bare : Tree a → Tree a) (behind : (y : Tree a) (r : List Piece) → p y r ≡ p y [] ++ r) (y z : Tree a) (c : List Kind) (d : List Kind)
-    → read any a (at 0 (flat (λ d. false) (p y (as_pieces c)))) ≡ Ok (bare y, at 0 (flat (λ d. false) (as_pieces c)))
-    → read any a (at 0 (flat (λ d. false) (p z (as_pieces d)))) ≡ Ok (bare z, at 0 (flat (λ d. false) (as_pieces d)))
-    → kinds_in (p y []) ++ c ≡ kinds_in (p z []) ++ d → c ≡ d
-one_split_at a p bare behind y z c d hy hz same =
-    let all : kinds_in (p y (as_pieces c)) ≡ kinds_in (p z (as_pieces d)) =
-    tokens y (as_pieces c) ∙ ap (λ (l : List Kind). kinds_in (p y []) ++ l) (kinds_as c) ∙ same ∙ sym (tokens z (as_pieces d) ∙ ap (λ (l : List Kind). kinds_in (p z []) ++ l) (kinds_as d)) in
-    let lists : flat (λ d. false) (p y (as_pieces c)) ≡ flat (λ d. false) (p z (as_pieces d)) = flat_is (p y (as_pieces c)) ∙ ap all_false all ∙ sym (flat_is (p z (as_pieces d))) in
-    let answers = sym hy ∙ ap (λ (l : List Tok). read any a (at 0 l)) lists ∙ hz in
-    let left : Tree a × State = (bare y, at 0 (flat (λ d. false) (as_pieces c))) in
-    let right : Tree a × State = (bare z, at 0 (flat (λ d. false) (as_pieces d))) in
-    let one : left ≡ right = ok_is {X = Tree a × State} left right answers in
-    sym (rest c) ∙ ap (λ (x : Tree a × State). e.kinds x.1.rest) one ∙ rest d
-  where
-    tokens : (y : Tree a) (r : List Piece) → kinds_in (p y r) ≡ kinds_in (p y []) ++ kinds_in r
-    tokens y r = ap kinds_in (behind y r) ∙ kinds_in_append (p y []) r
-
-    rest : (c : List Kind) → e.kinds (flat (λ d. false) (as_pieces c)) ≡ c
-    rest c = ap e.kinds (flat_is (as_pieces c)) ∙ kinds_of_false (kinds_in (as_pieces c)) ∙ kinds_as c
-
--- two parts with the same tokens are one up to spans
-pub same_bare : (a : Sym) (shown : Tree a → List Piece) (bare : Tree a → Tree a) (y z : Tree a)
-    → read any a (at 0 (flat (λ d. false) (shown y))) ≡ Ok (bare y, at 0 []) → read any a (at 0 (flat (λ d. false) (shown z))) ≡ Ok (bare z, at 0 [])
-    → kinds_in (shown y) ≡ kinds_in (shown z) → bare y ≡ bare z
-same_bare a shown bare y z hy hz e =
-    let lists : flat (λ d. false) (shown y) ≡ flat (λ d. false) (shown z) = flat_is (shown y) ∙ ap all_false e ∙ sym (flat_is (shown z)) in
-    let answers = sym hy ∙ ap (λ (l : List Tok). read any a (at 0 l)) lists ∙ hz in
-    ap (λ (x : Tree a × State). x.0) (ok_is {X = Tree a × State} (bare y, at 0 []) (bare z, at 0 []) answers)
 
 module _ (a : Sym) (bare : Tree a → Tree a) (P : Tree a → Type 0) (formed : (y : Tree a) → P y → Formed a y)
     (complete : (y : Tree a) → Formed a y → read told a (at 0 (e.told_by (spell a y []))) ≡ Ok (bare y, at 0 []))

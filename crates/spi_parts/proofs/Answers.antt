@@ -10,7 +10,8 @@ use Rattle.spi_parse.specs.Exact.{IsWithin, Stops, StartsDeep, IsSyntaxAt, IsDee
 use Rattle.spi_grammar.proofs.Cuts.{Cut, same, behind, before, cut, kinds_append}
 use Rattle.spi_grammar.specs.Exactly.{kinds}
 use Rattle.spi_parts.specs.Determined.{HasOneAnswer}
-use Rattle.spi_parts.proofs.Bridge.{kinds_cells, deep_from, spells_within}
+use Rattle.spi_parse.proofs.Spelled.{spelled_within}
+use Rattle.spi_parts.proofs.Bridge.{kinds_cells, deep_from}
 
 -- the tokens of a part that is deep at one of them
 tokens_deep : (ps : List Piece) (pre : List Kind) (k : Kind) → StartsDeep ps pre k → (c : List Kind) × (kinds_in ps ≡ pre ++ k ∷ c)
@@ -68,7 +69,7 @@ module _ {X : Type 0} (pieces : X → List Piece) (P : X → Type 0) where
 
   -- a part at the front excludes that there is none
   part_there : (x : X) (ts : List Token) (n : ℕ) → IsPartAt pieces P x ts n → IsNoPart pieces P (kinds_of ts) → ⊥
-  part_there x ts n r none = none x (kinds_of r.pre) (kinds_of r.rest) (ap kinds_of r.split ∙ kinds_both r.pre r.rest) r.part (spells_within r.rest 0 (pieces x) ts r.spells) r.tokens r.ends
+  part_there x ts n r none = none x (kinds_of r.pre) (kinds_of r.rest) (ap kinds_of r.split ∙ kinds_both r.pre r.rest) r.part (spelled_within r.rest 0 (pieces x) ts r.spells) r.tokens r.ends
     where
       kinds_both : (a b : List Token) → kinds_of (a ++ b) ≡ kinds_of a ++ kinds_of b
       kinds_both [] b = refl

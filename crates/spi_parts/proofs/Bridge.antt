@@ -6,6 +6,7 @@ use Rattle.spi_lex.specs.declared.token.Token.{Token}
 use Rattle.spi_lex.specs.Lexing.{kinds_of}
 use Rattle.spi_tree.specs.Pieces.{Piece, opens, cell, closes, cells, kinds_in}
 use Rattle.spi_parse.specs.Exact as x
+use Rattle.spi_parse.proofs.Spelled.{spelled_within}
 use Rattle.spi_grammar.specs.Exactly.{kinds, IsClean, Parts, Stops, IsEnd, StartsDeep, NoneDeep, IsSyntax, IsDeep, IsNone}
 use Rattle.spi_grammar.proofs.Cuts.{Cut, same, behind, before, cut}
 
@@ -30,14 +31,6 @@ within_cells [] h = tt
 within_cells (opens from ∷ ps) h = within_cells ps h
 within_cells (cell k deep ∷ ps) h = (h.0, within_cells ps h.1)
 within_cells (closes to ∷ ps) h = within_cells ps h
-
-pub spells_within : (left : List Token) (e : ℕ) (ps : List Piece) (ts : List Token) → x.Spells left e ps ts → x.IsWithin ps
-spells_within left e [] ts h = tt
-spells_within left e (opens from ∷ ps) [] h = absurd h
-spells_within left e (opens from ∷ ps) (t ∷ ts) h = spells_within left e ps (t ∷ ts) h.1
-spells_within left e (cell k deep ∷ ps) [] h = absurd h
-spells_within left e (cell k deep ∷ ps) (t ∷ ts) h = (h.1, spells_within left t.span.to ps ts h.2)
-spells_within left e (closes to ∷ ps) ts h = spells_within left e ps ts h.1
 
 pub deep_to : (ps : List Piece) (p : List Kind) (k : Kind) → StartsDeep (cells ps) p k → x.StartsDeep ps p k
 deep_to ps p k s = record { before = s.before; after = s.after; parts = s.parts; begins = sym (kinds_map s.before) ∙ s.begins }
@@ -157,6 +150,6 @@ module _ {X : Type 0} (pieces : X → List Piece) (P : X → Type 0) where
   -- a part that is read
   pub part_from : (y : X) (ts : List Token) (n : ℕ) (r : x.IsPartAt pieces P y ts n) → IsClean (cells (pieces y)) × IsEnd OfPieces (kinds (cells (pieces y))) (kinds_of r.rest)
   part_from y ts n r = (
-    clean_cells (pieces y) (spells_within r.rest 0 (pieces y) ts r.spells),
+    clean_cells (pieces y) (spelled_within r.rest 0 (pieces y) ts r.spells),
     subst (λ (l : List Kind). IsEnd OfPieces l (kinds_of r.rest)) (sym (kinds_cells (pieces y) ∙ r.tokens)) (end_from (kinds_of r.pre) (kinds_of r.rest) r.ends),
   )

@@ -21,7 +21,8 @@ use Rattle.spi_grammar.proofs.Cuts.{Cut, same, behind, before, cut}
 use Rattle.spi_parts.specs.Determined.{IsCutOnceAtEnds, AgreesOnDepth}
 use Rattle.spi_parts.proofs.Bridge.{kinds_cells, OfPieces, of_piece}
 use Rattle.spi_parts.proofs.Behind.{proc_behind}
-use Rattle.spi_parts.proofs.Alone.{even_by, agree_by, one_split_at, same_bare, as_pieces}
+use Rattle.spi_parse.proofs.Unique.{same_bare}
+use Rattle.spi_parts.proofs.Alone.{even_by, agree_by, one_split_at, as_pieces}
 
 abbrev pub IsBraceClose : Kind → Type 0
 IsBraceClose k = k ≡ K.Mark mark.BraceClose
@@ -41,9 +42,9 @@ module _ (v : Bool) where
       let brace : k ≡ K.Mark mark.BraceClose = (let f : mc.token ∷ [] ≡ k ∷ y = sym (ap kinds mc.cells) ∙ q in let j : mc.token ≡ k = cc in sym j ∙ mc.is) in
       let e : kinds_in (whole_process lb.part) ++ [] ≡ kinds_in (whole_process la.part) ++ K.Mark mark.BraceClose ∷ x =
       append-nil (kinds_in (whole_process lb.part)) ∙ sym (kinds_cells (whole_process lb.part)) ∙ ap kinds lb.shows ∙ p ∙ ap (λ (l : List Kind). l ++ k ∷ x) (sym (ap kinds la.shows) ∙ kinds_cells (whole_process la.part)) ∙ ap (λ (z : Kind). kinds_in (whole_process la.part) ++ z ∷ x) brace in
-      let one = one_split_at (sproc v 0) (λ y r. proc_pieces (at_level 0) y r) bare_proc (λ y r. proc_behind (at_level 0) y r) lb.part la.part [] (K.Mark mark.BraceClose ∷ x)
+      let one = (one_split_at (sproc v 0) (λ y r. proc_pieces (at_level 0) y r) bare_proc (λ y r. proc_behind (at_level 0) y r) lb.part la.part [] (K.Mark mark.BraceClose ∷ x)
       ((proc_c any (λ d. false) any_fits lb.part).1 v 0 [] lb.is.0 (out_ends_nil any (λ d. false) any_fits) (par_ends_nil any (λ d. false) any_fits))
-      ((proc_c any (λ d. false) any_fits la.part).1 v 0 (a_mark mark.BraceClose (as_pieces x)) la.is.0 (out_ends_brace (as_pieces x)) (par_ends_brace (as_pieces x))) e in
+      ((proc_c any (λ d. false) any_fits la.part).1 v 0 (a_mark mark.BraceClose (as_pieces x)) la.is.0 (out_ends_brace (as_pieces x)) (par_ends_brace (as_pieces x))) e).1 in
       cc
 
   pub processes_even : IsEven Processes

@@ -16,8 +16,8 @@ use Rattle.spi_parse.proofs.Complete.{told_fits, file_c}
 use Rattle.spi_parse.proofs.OneTree.{one_placed, kinds_spelled}
 use Rattle.spi_parse.proofs.Words.{file_ruled, file_made}
 use Rattle.spi_parse.proofs.Versions.{tokens_fit}
+use Rattle.spi_parse.proofs.Spelled.{spelled_within}
 use Rattle.spi_parts.specs.Determined.{AreOne, AgreesOnDepth}
-use Rattle.spi_parts.proofs.Bridge.{spells_within}
 use Rattle.spi_parts.proofs.Alone.{agree_by}
 use Rattle.spi_parts.proofs.Answers.{one_syntax, not_both, one_deep, no_syntax, no_deep}
 
@@ -28,7 +28,7 @@ files_agree = agree_by file bare_file IsFile file_ruled (λ f h. file_c told (λ
 module _ (ts : List Token) where
   tree_and_fault : (f : t.File) → IsFile f → (b : ParseFault) → Parses (λ (g : t.File). g) (Ok f) ts → Parses (λ (g : t.File). g) (Err b) ts → AreOne (Ok f) (Err b)
   tree_and_fault f pf (faults.Syntax j) ha hb = absurd (no_syntax whole_file IsFile f pf (kinds_of ts) (kinds_spelled 0 (whole_file f) ts ha.1) j hb)
-  tree_and_fault f pf (faults.TooDeep j) ha hb = absurd (no_deep whole_file IsFile f pf (kinds_of ts) (kinds_spelled 0 (whole_file f) ts ha.1) j (spells_within [] 0 (whole_file f) ts ha.1) hb)
+  tree_and_fault f pf (faults.TooDeep j) ha hb = absurd (no_deep whole_file IsFile f pf (kinds_of ts) (kinds_spelled 0 (whole_file f) ts ha.1) j (spelled_within [] 0 (whole_file f) ts ha.1) hb)
   tree_and_fault f pf faults.NoMemory ha hb = inr (inr refl)
 
 swapped : {V : Type 0} (a b : Result V ParseFault) → AreOne a b → AreOne b a

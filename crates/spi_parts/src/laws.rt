@@ -15,59 +15,29 @@ pub fn one_answer()
         → AreOne a b }
 {}
 
-/// Tokens have one answer of `type_at`, but for want of memory: one type with its spans and its end, or one fault.
-pub fn one_type_answer()
-    ensures { (later : Bool) → HasOneAnswer whole_type (IsWholeType later) }
+/// Tokens have one answer of `type_at`, `message_at`, `decl_at` and `process_at`, but for want of memory: one part with its
+/// spans and its end, or one fault.
+pub fn one_part_answer()
+    ensures { (later : Bool) → HasOneAnswer whole_type (IsWholeType later)
+        × HasOneAnswer whole_message (IsWholeMessage later)
+        × HasOneAnswer whole_decl (IsWholeDecl later)
+        × HasOneAnswer whole_process (IsWholeProcess later) }
 {}
 
-/// Tokens have one answer of `message_at`, but for want of memory: one message with its spans and its end, or one fault.
-pub fn one_message_answer()
-    ensures { (later : Bool) → HasOneAnswer whole_message (IsWholeMessage later) }
+/// A text is cut in one way into a type, a message or a declaration and what is behind it, and into a process and what is
+/// behind it, where the process goes on no further.
+pub fn one_part_in_front()
+    ensures { (later : Bool) → IsCutOnce bare_ty whole_type (IsWholeType later)
+        × IsCutOnce bare_msg whole_message (IsWholeMessage later)
+        × IsCutOnce bare_decl whole_decl (IsWholeDecl later)
+        × IsCutOnceAtEnds bare_proc whole_process (IsWholeProcess later) }
 {}
 
-/// Tokens have one answer of `decl_at`, but for want of memory: one declaration with its spans and its end, or one fault.
-pub fn one_declaration_answer()
-    ensures { (later : Bool) → HasOneAnswer whole_decl (IsWholeDecl later) }
-{}
-
-/// Tokens have one answer of `process_at`, but for want of memory: one process with its spans and its end, or one fault.
-pub fn one_process_answer()
-    ensures { (later : Bool) → HasOneAnswer whole_process (IsWholeProcess later) }
-{}
-
-/// A text is cut in one way into a type and what is behind it.
-pub fn one_type_in_front()
-    ensures { (later : Bool) → IsCutOnce bare_ty whole_type (IsWholeType later) }
-{}
-
-/// A text is cut in one way into a message and what is behind it.
-pub fn one_message_in_front()
-    ensures { (later : Bool) → IsCutOnce bare_msg whole_message (IsWholeMessage later) }
-{}
-
-/// A text is cut in one way into a declaration and what is behind it.
-pub fn one_declaration_in_front()
-    ensures { (later : Bool) → IsCutOnce bare_decl whole_decl (IsWholeDecl later) }
-{}
-
-/// A text is cut in one way into a process and what is behind it, where the process goes on no further.
-pub fn one_process_in_front()
-    ensures { (later : Bool) → IsCutOnceAtEnds bare_proc whole_process (IsWholeProcess later) }
-{}
-
-/// No type's tokens are a proper prefix of another's.
-pub fn no_type_begins_another()
-    ensures { (later : Bool) → BeginsNoOther whole_type (IsWholeType later) }
-{}
-
-/// No message's tokens are a proper prefix of another's.
-pub fn no_message_begins_another()
-    ensures { (later : Bool) → BeginsNoOther whole_message (IsWholeMessage later) }
-{}
-
-/// No declaration's tokens are a proper prefix of another's.
-pub fn no_declaration_begins_another()
-    ensures { (later : Bool) → BeginsNoOther whole_decl (IsWholeDecl later) }
+/// No type's tokens are a proper prefix of another's, no message's and no declaration's.
+pub fn no_part_begins_another()
+    ensures { (later : Bool) → BeginsNoOther whole_type (IsWholeType later)
+        × BeginsNoOther whole_message (IsWholeMessage later)
+        × BeginsNoOther whole_decl (IsWholeDecl later) }
 {}
 
 /// Where a file is within the nesting limits, no file that begins so has a node above one there. So the first such node of
@@ -76,22 +46,11 @@ pub fn files_agree_on_depth()
     ensures { AgreesOnDepth whole_file IsFile }
 {}
 
-/// Where a type is within the nesting limits, no type that begins so has a node above one there.
-pub fn types_agree_on_depth()
-    ensures { (later : Bool) → AgreesOnDepth whole_type (IsWholeType later) }
-{}
-
-/// Where a message is within the nesting limits, no message that begins so has a node above one there.
-pub fn messages_agree_on_depth()
-    ensures { (later : Bool) → AgreesOnDepth whole_message (IsWholeMessage later) }
-{}
-
-/// Where a declaration is within the nesting limits, no declaration that begins so has a node above one there.
-pub fn declarations_agree_on_depth()
-    ensures { (later : Bool) → AgreesOnDepth whole_decl (IsWholeDecl later) }
-{}
-
-/// Where a process is within the nesting limits, no process that begins so has a node above one there.
-pub fn processes_agree_on_depth()
-    ensures { (later : Bool) → AgreesOnDepth whole_process (IsWholeProcess later) }
+/// Where a type is within the nesting limits, no type that begins so has a node above one there; and so with messages,
+/// declarations and processes.
+pub fn parts_agree_on_depth()
+    ensures { (later : Bool) → AgreesOnDepth whole_type (IsWholeType later)
+        × AgreesOnDepth whole_message (IsWholeMessage later)
+        × AgreesOnDepth whole_decl (IsWholeDecl later)
+        × AgreesOnDepth whole_process (IsWholeProcess later) }
 {}

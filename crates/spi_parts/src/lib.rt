@@ -5,9 +5,6 @@
 mod laws;
 
 pub use laws::{
-    declarations_agree_on_depth, files_agree_on_depth, messages_agree_on_depth,
-    no_declaration_begins_another, no_message_begins_another, no_type_begins_another, one_answer,
-    one_declaration_answer, one_declaration_in_front, one_message_answer, one_message_in_front,
-    one_process_answer, one_process_in_front, one_type_answer, one_type_in_front,
-    processes_agree_on_depth, types_agree_on_depth,
+    files_agree_on_depth, no_part_begins_another, one_answer, one_part_answer, one_part_in_front,
+    parts_agree_on_depth,
 };
