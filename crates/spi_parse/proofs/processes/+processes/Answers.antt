@@ -31,6 +31,9 @@ read_group-parallel-requires t c =
     let k = seq_fits c.args.later (c.args.nesting + 1) _ _ c.in_ok-first.ensures in
     (omega arith, omega arith)
 
+pub sequence-returns-in_default : goal.sequence-returns-in_default
+sequence-returns-in_default t c = rw read_is_step (grind (arith, common_steps))
+
 pub sequence-returns : goal.sequence-returns
 sequence-returns t c =
     let first = form_is_first c.args.later c.args.nesting c.args.at.end c.args.at.rest.now c.first-item.result c.in-len1-up.len_at_least c.first-item.is in
