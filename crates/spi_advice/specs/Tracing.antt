@@ -8,7 +8,7 @@ use Rattle.spi_course.specs.Fit.{IsCourseOf}
 use Rattle.spi_course.specs.declared.course.Course.{Course}
 use Rattle.spi_commands.specs.Beside.{LacksOpponent}
 use Rattle.spi_commands.specs.Refusals.{layered, Refuses, IsLineOf}
-use Rattle.spi_commands.specs.Replaying.{IsJudged}
+use Rattle.spi_commands.specs.Replaying.{AreEventsJudged}
 use Rattle.spi_commands.specs.Replays.{LacksSchedule, IsOffended}
 use Rattle.spi_commands.specs.Spelled.{SpellsFile}
 use Rattle.spi_commands.specs.declared.status.Status.{Status}
@@ -16,7 +16,7 @@ use Rattle.spi_commands.specs.declared.status.Status.TheVariants.{Refused}
 
 -- the status where this step is refused behind these events, or none is: as `replay` has it
 abbrev pub EndsWith : Option StepFault → List Event → Status → Type 0
-EndsWith None events status = IsJudged events status
+EndsWith None events status = AreEventsJudged events status
 EndsWith (Some fault) events status = status ≡ Refused
 
 -- the course is the one of the file that the bytes spell, and the status tells how it ends

@@ -5,7 +5,7 @@ ghost use Rattle.spi_scope.specs.Files.{meant};
 ghost use Rattle.spi_course.specs.Fit.{IsUntold};
 ghost use Rattle.spi_commands.specs.Reading.{IsRead};
 ghost use Rattle.spi_commands.specs.Refusals.{IsLineOf, IsMissing, Refuses};
-ghost use Rattle.spi_commands.specs.Replaying.{IsJudged};
+ghost use Rattle.spi_commands.specs.Replaying.{AreEventsJudged};
 ghost use Rattle.spi_commands.specs.Beside.{HasOffence};
 ghost use Rattle.spi_advice.specs.Tracing.{Traces, EndsWith};
 
@@ -56,7 +56,7 @@ fn refused_with(line: Vec<u8>) -> Trace
 // Yes where the events are paid, and no elsewhere.
 fn judged(alloc: Global, happened: &[Event]) -> Result<Status, NoMemory>
     requires { length happened.now < 2 ^ 32 }
-    ensures { IfOk result (IsJudged (map event_of happened.now)) }
+    ensures { IfOk result (AreEventsJudged (map event_of happened.now)) }
 {
     paired_is_paid();
     let pairing = pair_up(alloc, happened)?;

@@ -188,8 +188,8 @@ abbrev pub Verdict : ℕ → Option ℕ → {ss : List Subject} {us : List RuleU
 Verdict i None j = AllPay j
 Verdict i (Some n) j = (d : ℕ) × (n ≡ i + d) × FirstUnpaid j d
 
-abbrev pub Told : List Subject → List RuleUse → List Effect → List Change → Type 0
-Told ss us es cs = (j : Judged ss us es) × ((i : ℕ) → Verdict i (first_unpaid i cs) j)
+abbrev pub ToldChanges : List Subject → List RuleUse → List Effect → List Change → Type 0
+ToldChanges ss us es cs = (j : Judged ss us es) × ((i : ℕ) → Verdict i (first_unpaid i cs) j)
 
 module _ {u : RuleUse} {s : Subject} {ps : List Subject} {us : List RuleUse} {es : List Effect} {e : Effect} (ss : List Subject) (rest : List Effect) (f : Fits u s ps) (j : Judged (ps ++ ss) us (es ++ rest)) (l : length es ≡ length ps) (g : Gives u s es e) where
   verdict_later : (i : ℕ) (o : Option ℕ) → Pays u s es → Verdict (suc i) o j → Verdict i o (judged_use f j l g)
@@ -200,9 +200,9 @@ module _ {u : RuleUse} {s : Subject} {ps : List Subject} {us : List RuleUse} {es
   verdict_next i true o d v = verdict_later i o (d.to refl) v
   verdict_next i false o d v = let q : i ≡ i + 0 = omega arith in (0, q, d.no refl)
 
-pub trace_judged : {ss : List Subject} {us : List RuleUse} {cs : List Change} → Trace ss us cs → Told ss us (spread ss (run cs)) cs
+pub trace_judged : {ss : List Subject} {us : List RuleUse} {cs : List Change} → Trace ss us cs → ToldChanges ss us (spread ss (run cs)) cs
 trace_judged trace_none = (judged_none, λ i. tt)
 trace_judged (trace_use {u} {s} {ps} {ss} {us} {cs} f t) =
     let w = stepped f ss (run cs) in
-    let r = subst (λ l. Told (ps ++ ss) us l cs) w.is (trace_judged t) in
-    subst (λ l. Told (s ∷ ss) (u ∷ us) l (change_of u s ∷ cs)) (sym w.goes) (judged_use f r.0 w.many w.gives, λ i. verdict_next ss w.rest f r.0 w.many w.gives i (pays (change_of u s) (run cs)) (first_unpaid (suc i) cs) w.pays_is (r.1 (suc i)))
+    let r = subst (λ l. ToldChanges (ps ++ ss) us l cs) w.is (trace_judged t) in
+    subst (λ l. ToldChanges (s ∷ ss) (u ∷ us) l (change_of u s ∷ cs)) (sym w.goes) (judged_use f r.0 w.many w.gives, λ i. verdict_next ss w.rest f r.0 w.many w.gives i (pays (change_of u s) (run cs)) (first_unpaid (suc i) cs) w.pays_is (r.1 (suc i)))

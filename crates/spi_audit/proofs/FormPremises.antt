@@ -12,11 +12,11 @@ use Rattle.spi_audit.specs.declared.asked.Asked.{Asked}
 use Rattle.spi_audit.specs.declared.asked.Asked.TheVariants as A
 use Rattle.spi_audit.specs.declared.asked.Binding.{Binding}
 use Rattle.spi_audit.specs.Fits.{of_process}
-use Rattle.spi_audit.specs.Asked.{Bound, bound_none, bound_one, bound_two, Located, IsAsked, IsBegun, Begins, begun_none, begun_next, AreOpen, open_processes}
+use Rattle.spi_audit.specs.Asked.{Bound, bound_none, bound_one, bound_two, Located, IsTypeAsked, IsBegun, Begins, begun_none, begun_next, AreOpen, open_processes}
 use Rattle.spi_message.proofs.Tested.{stands_kept}
 
 -- what is asked stays as the store grows
-pub asked_later : {s r : Store} {a : Asked} {m : Message} {t : Ty} → Keeps s r → IsAsked s a m t → IsAsked r a m t
+pub asked_later : {s r : Store} {a : Asked} {m : Message} {t : Ty} → Keeps s r → IsTypeAsked s a m t → IsTypeAsked r a m t
 asked_later k h = record { id = h.id; ty = h.ty; is = h.is; at = k.messages.at _ _ h.at; means = means_keeps k h.means }
 
 bound_later : {s r : Store} {b : Binding} {e : Env} → Keeps s r → Bound s b e → Bound r b e

@@ -1,6 +1,6 @@
 -- The rules that fit a form are its own.
 use Rattle.std.proofs.Common.{◌≡◌, refl, ℕ, List, ◌⊎◌, inl, inr, ⊎_elim, None}
-use Rattle.spi_term.specs.Term.{Message, Ty, Sends, Stops, Recvs, Serves, Splits, Selects, Decrypts, Checks, Begins, Ends, EndManys, Casts, Makes, Cases, Pars, Process, leaf, prefix, fork}
+use Rattle.spi_term.specs.Term.{Message, Ty, Sends, Stops, Recvs, Serves, Splits, Selects, Decrypts, Checks, Begins, Ends, EndManys, Casts, Freshes, Branches, Pars, Process, leaf, prefix, fork}
 use Rattle.spi_rules.specs.Environment.{Env}
 use Rattle.spi_rules.specs.declared.rule.Rule.{Rule}
 use Rattle.spi_rules.specs.declared.rule.Rule.TheVariants.{ProcStop, ProcOut, ProcIn, ProcRepeat, ProcSplit, ProcSplitUn, ProcMatch, ProcMatchUn, ProcCase, ProcCaseUn, ProcDecrypt, ProcDecryptUn, ProcCheck, ProcCheckUn, ProcBegin, ProcEnd, ProcEndMany, ProcCast, ProcCastUn, ProcNew, ProcPar}
@@ -87,18 +87,18 @@ cast_rules fits_cast_un = inr refl
 pub cast_other : (j : Numbered) (rule : Rule) (m : Message) (t : Ty) (body : ℕ) → (rule ≡ ProcCast → ⊥) → (rule ≡ ProcCastUn → ⊥) → AnswersPrefix j j rule (Casts m t) body None
 cast_other j rule m t body d h = record { at = λ ss e p s l ps f. ⊎_elim d h (cast_rules f) }
 
-fresh_rules : {rule : Rule} {env : Env} {t : Ty} {p : Process} {ps : List Subject} → Fits (plain rule) (of_process env (prefix (Makes t) p)) ps → rule ≡ ProcNew
+fresh_rules : {rule : Rule} {env : Env} {t : Ty} {p : Process} {ps : List Subject} → Fits (plain rule) (of_process env (prefix (Freshes t) p)) ps → rule ≡ ProcNew
 fresh_rules (fits_new g h) = refl
 
-pub fresh_other : (j : Numbered) (rule : Rule) (t : Ty) (body : ℕ) → (rule ≡ ProcNew → ⊥) → AnswersPrefix j j rule (Makes t) body None
+pub fresh_other : (j : Numbered) (rule : Rule) (t : Ty) (body : ℕ) → (rule ≡ ProcNew → ⊥) → AnswersPrefix j j rule (Freshes t) body None
 fresh_other j rule t body d = record { at = λ ss e p s l ps f. d (fresh_rules f) }
 
 -- forms with two
-branch_rules : {rule : Rule} {env : Env} {m : Message} {t u : Ty} {p q : Process} {ps : List Subject} → Fits (plain rule) (of_process env (fork (Cases m t u) p q)) ps → (rule ≡ ProcCase) ⊎ (rule ≡ ProcCaseUn)
+branch_rules : {rule : Rule} {env : Env} {m : Message} {t u : Ty} {p q : Process} {ps : List Subject} → Fits (plain rule) (of_process env (fork (Branches m t u) p q)) ps → (rule ≡ ProcCase) ⊎ (rule ≡ ProcCaseUn)
 branch_rules (fits_case g h) = inl refl
 branch_rules fits_case_un = inr refl
 
-pub branch_other : (j : Numbered) (rule : Rule) (m : Message) (t u : Ty) (first rest : ℕ) → (rule ≡ ProcCase → ⊥) → (rule ≡ ProcCaseUn → ⊥) → AnswersFork j j rule (Cases m t u) first rest None
+pub branch_other : (j : Numbered) (rule : Rule) (m : Message) (t u : Ty) (first rest : ℕ) → (rule ≡ ProcCase → ⊥) → (rule ≡ ProcCaseUn → ⊥) → AnswersFork j j rule (Branches m t u) first rest None
 branch_other j rule m t u first rest d h = record { at = λ ss e p q s l k ps f. ⊎_elim d h (branch_rules f) }
 
 par_rules : {rule : Rule} {env : Env} {p q : Process} {ps : List Subject} → Fits (plain rule) (of_process env (fork Pars p q)) ps → rule ≡ ProcPar

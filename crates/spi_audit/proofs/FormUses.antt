@@ -18,7 +18,7 @@ use Rattle.spi_audit.specs.declared.asked.Asked.{Asked}
 use Rattle.spi_audit.specs.declared.asked.Premises.{Premises}
 use Rattle.spi_audit.specs.declared.asked.Premises.TheVariants.{NoPremise, TwoPremises}
 use Rattle.spi_audit.specs.Fits.{Subject, of_message, of_process, plain, Fits, fits_stop, fits_out, fits_in, fits_repeat, fits_begin, fits_end, fits_end_many, fits_cast, fits_cast_un}
-use Rattle.spi_audit.specs.Asked.{Located, IsAsked, IsBegun, Begins, AreOpen, open_message, open_processes, begun_none, AnswersLeaf, AnswersPrefix, AnswersFork, TakesUntrusted, TakesLabel, TakesGood}
+use Rattle.spi_audit.specs.Asked.{Located, IsTypeAsked, IsBegun, Begins, AreOpen, open_message, open_processes, begun_none, AnswersLeaf, AnswersPrefix, AnswersFork, TakesUntrusted, TakesLabel, TakesGood}
 use Rattle.spi_message.specs.Tested.{IsTest}
 use Rattle.spi_audit.proofs.FormPremises.{is_begun, process_open}
 
@@ -99,27 +99,27 @@ pub stop_fits : (j : Numbered) (rule : Rule) → rule ≡ ProcStop → AnswersLe
 stop_fits j rule q =
     subst (λ r. AnswersLeaf j j r Stops (Some NoPremise)) (sym q) (record { at = λ ss e s. ([], fits_stop, open_processes begun_none) })
 
-pub send_fits : (j k : Numbered) (rule : Rule) {m n : Message} {a b : Asked} → rule ≡ ProcOut → IsAsked k.store a m un → IsAsked k.store b n un → AnswersLeaf j k rule (Sends m n) (Some (TwoPremises a b))
+pub send_fits : (j k : Numbered) (rule : Rule) {m n : Message} {a b : Asked} → rule ≡ ProcOut → IsTypeAsked k.store a m un → IsTypeAsked k.store b n un → AnswersLeaf j k rule (Sends m n) (Some (TwoPremises a b))
 send_fits j k rule {m} {n} {a} {b} q x y =
     subst (λ r. AnswersLeaf j k r (Sends m n) (Some (TwoPremises a b))) (sym q) (record { at = λ ss e s. (of_message e m un ∷ (of_message e n un ∷ []), fits_out, open_message x (open_message y (open_processes begun_none))) })
 
 -- forms under one name of an untrusted type
 module _ (j k : Numbered) where
-  under_un : (ss : List Shape) (e : Env) (p : Process) {body : ℕ} {m : Message} {t : Ty} {a b : Asked} → Stands j e → IsAsked k.store a m un → Begins j k body (λ e. t ∷ []) b → Located ss body (e ++ t ∷ []) (opened e p)
+  under_un : (ss : List Shape) (e : Env) (p : Process) {body : ℕ} {m : Message} {t : Ty} {a b : Asked} → Stands j e → IsTypeAsked k.store a m un → Begins j k body (λ e. t ∷ []) b → Located ss body (e ++ t ∷ []) (opened e p)
       → AreOpen k.store ss e (a ∷ (b ∷ [])) (of_message e m un ∷ (of_process (extended e t) (opened e p) ∷ []))
   under_un ss e p s x y l = open_message x (process_open (one j k ss e p s y l))
 
-  recv_un : {m : Message} {body : ℕ} {a b : Asked} → IsAsked k.store a m un → Begins j k body (λ e. un ∷ []) b → AnswersPrefix j k ProcIn (Recvs m un) body (Some (TwoPremises a b))
+  recv_un : {m : Message} {body : ℕ} {a b : Asked} → IsTypeAsked k.store a m un → Begins j k body (λ e. un ∷ []) b → AnswersPrefix j k ProcIn (Recvs m un) body (Some (TwoPremises a b))
   recv_un {m} x y = record {
     at = λ ss e p s l. (of_message e m un ∷ (of_process (extended e un) (opened e p) ∷ []), fits_in, under_un ss e p s x y l);
   }
 
-  serve_un : {m : Message} {body : ℕ} {a b : Asked} → IsAsked k.store a m un → Begins j k body (λ e. un ∷ []) b → AnswersPrefix j k ProcRepeat (Serves m un) body (Some (TwoPremises a b))
+  serve_un : {m : Message} {body : ℕ} {a b : Asked} → IsTypeAsked k.store a m un → Begins j k body (λ e. un ∷ []) b → AnswersPrefix j k ProcRepeat (Serves m un) body (Some (TwoPremises a b))
   serve_un {m} x y = record {
     at = λ ss e p s l. (of_message e m un ∷ (of_process (extended e un) (opened e p) ∷ []), fits_repeat, under_un ss e p s x y l);
   }
 
-  cast_un : {m : Message} {body : ℕ} {a b : Asked} → IsAsked k.store a m un → Begins j k body (λ e. un ∷ []) b → AnswersPrefix j k ProcCastUn (Casts m un) body (Some (TwoPremises a b))
+  cast_un : {m : Message} {body : ℕ} {a b : Asked} → IsTypeAsked k.store a m un → Begins j k body (λ e. un ∷ []) b → AnswersPrefix j k ProcCastUn (Casts m un) body (Some (TwoPremises a b))
   cast_un {m} x y = record {
     at = λ ss e p s l. (of_message e m un ∷ (of_process (extended e un) (opened e p) ∷ []), fits_cast_un, under_un ss e p s x y l);
   }

@@ -16,7 +16,7 @@ use Rattle.spi_audit.specs.declared.asked.Binding.TheVariants.{Nothing, OneName,
 use Rattle.spi_audit.specs.declared.asked.Asked.{Asked}
 use Rattle.spi_audit.specs.Fits.{Subject, of_process, Fits}
 use Rattle.spi_audit.specs.Audit.{MisfitAt, misfit_here, misfit_later}
-use Rattle.spi_audit.specs.Asked.{Bound, bound_none, bound_one, bound_two, IsAsked, AreAsked, asked_none, asked_next, AreBegun, begun_none, begun_next, AreOpen, open_message, open_processes}
+use Rattle.spi_audit.specs.Asked.{Bound, bound_none, bound_one, bound_two, IsTypeAsked, AreAsked, asked_none, asked_next, AreBegun, begun_none, begun_next, AreOpen, open_message, open_processes}
 use Rattle.spi_audit.specs.Changes.{Change, change_of}
 use Rattle.spi_audit.specs.Walking.{Trace, trace_none, trace_use, Led, led_none, led_use, Later, later_none, later_next, Opens, opens_message, opens_later, Misfits, Settles}
 use Rattle.spi_message.specs.Tested.{Turns}
@@ -43,7 +43,7 @@ bound_keeps k bound_none = bound_none
 bound_keeps k (bound_one m) = bound_one (means_keeps k m)
 bound_keeps k (bound_two m n) = bound_two (means_keeps k m) (means_keeps k n)
 
-pub asked_keeps : {s r : Store} {a : Asked} {m : Message} {t : Ty} → Keeps s r → IsAsked s a m t → IsAsked r a m t
+pub asked_keeps : {s r : Store} {a : Asked} {m : Message} {t : Ty} → Keeps s r → IsTypeAsked s a m t → IsTypeAsked r a m t
 asked_keeps {m = m} k w = record { id = w.id; ty = w.ty; is = w.is; at = k.messages.at w.id.place m w.at; means = means_keeps k w.means }
 
 take_less : {A : Type 0} (xs ys : List A) (n k : ℕ) → k ≤ n → take n xs ≡ take n ys → take k xs ≡ take k ys

@@ -22,7 +22,7 @@ use Rattle.spi_count.specs.declared.keys.Keys.{Keys}
 use Rattle.spi_audit.specs.declared.accounts.Account.{Account}
 use Rattle.spi_count.specs.Keeping.{with_keys, IsKeyed}
 use Rattle.spi_count.specs.Adding.{IsKey, SumOf}
-use Rattle.spi_audit.specs.Accounts.{HeldBy, outer, Marks, lasting_with, IsCut, LeavesOne, LeavesTwo}
+use Rattle.spi_audit.specs.Accounts.{HeldBy, outer, Marks, lasting_with, IsScopeCut, LeavesOne, LeavesTwo}
 use Rattle.spi_count.proofs.Summed.{numbers}
 use Rattle.spi_audit.proofs.Holding.{zero_or, in_count, count_in, inner_in, held_other, outer_true, outer_false, outer_from, outer_not, mentions_in, in_mentioned, free_at_below, cut_zero, positive}
 
@@ -206,7 +206,7 @@ module _ {s : Store} {keys : Keys} where
     mentioned : (y : ℕ) → 0 < count_of names y → mentions y es ≡ true
     mentioned y p = let (a, l, q, f) = h.names_of y p in in_mentioned y a es (count_in a es q) f
 
-  pub left_one : (k : ℕ) (old new : Account) (inside : Bool) (loose : ℕ) → loose ≡ count_of old.loose.counts k → IsCut s keys k old inside new → LeavesOne s keys k old (inside && nat_eq loose 0) new
+  pub left_one : (k : ℕ) (old new : Account) (inside : Bool) (loose : ℕ) → loose ≡ count_of old.loose.counts k → IsScopeCut s keys k old inside new → LeavesOne s keys k old (inside && nat_eq loose 0) new
   left_one k old new inside loose e c es h =
       let w = c (suc k) es (omega arith) h in (
         w.0,
@@ -218,7 +218,7 @@ module _ {s : Store} {keys : Keys} where
             (not_free inside (nat_eq loose 0) t)),
       )
 
-  pub left_two : (k : ℕ) (old new : Account) (inside : Bool) (x y z : ℕ) → z ≡ suc k → x ≡ count_of old.loose.counts k → y ≡ count_of old.loose.counts z → IsCut s keys k old inside new → LeavesTwo s keys k old ((inside && nat_eq x 0) && nat_eq y 0) new
+  pub left_two : (k : ℕ) (old new : Account) (inside : Bool) (x y z : ℕ) → z ≡ suc k → x ≡ count_of old.loose.counts k → y ≡ count_of old.loose.counts z → IsScopeCut s keys k old inside new → LeavesTwo s keys k old ((inside && nat_eq x 0) && nat_eq y 0) new
   left_two k old new inside x y z q e f c es h =
       let w = c (suc (suc k)) es (omega arith) h in
       let f' : y ≡ count_of old.loose.counts (suc k) = f ∙ ap (count_of old.loose.counts) q in (

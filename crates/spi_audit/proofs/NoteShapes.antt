@@ -1,6 +1,6 @@
 -- What is kept of the use that is asked of a process at a node.
 use Rattle.std.proofs.Common.{◌≡◌, ℕ, length, Result, Ok, Err, IfOk, sym, ap, ◌∙◌}
-use Rattle.spi_term.specs.Term.{Message, Ty, Leaf, Serves, Splits, Casts, Makes, Cases, Pars}
+use Rattle.spi_term.specs.Term.{Message, Ty, Leaf, Serves, Splits, Casts, Freshes, Branches, Pars}
 use Rattle.spi_term.specs.Spelling.{Shape, leaf_at, prefix_at, fork_at}
 use Rattle.spi_rules.specs.Environment.{Env}
 use Rattle.spi_rules.specs.declared.rule.Rule.{Rule}
@@ -10,7 +10,7 @@ use Rattle.spi_count.specs.declared.keys.Keys.{Keys}
 use Rattle.spi_audit.specs.declared.notes.Note.{Note}
 use Rattle.spi_audit.specs.declared.notes.Note.TheVariants as N
 use Rattle.spi_audit.specs.Changes.{one_left, two_left, served, chosen, made, cast_change, shape_change}
-use Rattle.spi_audit.specs.Notes.{NotedAs, NotesNode, noted_empty, noted_one, noted_two, noted_serve, noted_case, noted_both}
+use Rattle.spi_audit.specs.Notes.{NotedAs, NotesNode, noted_empty, noted_one, noted_two, noted_serve, noted_branch, noted_both}
 use Rattle.spi_audit.proofs.NoteChanges.{noted_as}
 
 module _ (old new : Numbered) (ks : Keys) (rule : Rule) (x : Shape) where
@@ -39,12 +39,12 @@ module _ (old new : Numbered) (ks : Keys) (rule : Rule) (x : Shape) where
     pub serves_noted : (n b : ℕ) (m : Message) (t : Ty) → x ≡ prefix_at n (Serves m t) b → NotesNode old new ks rule x (N.Serve k)
     serves_noted n b m t q = node_as (N.Serve k) (prefix_at n (Serves m t) b) q (λ e s. noted_as new.store ks (N.Serve k) (ap served (as_long e s)) noted_serve)
 
-    pub cases_noted : (n a b : ℕ) (m : Message) (t u : Ty) → x ≡ fork_at n (Cases m t u) a b → NotesNode old new ks rule x (N.Case k)
-    cases_noted n a b m t u q = node_as (N.Case k) (fork_at n (Cases m t u) a b) q (λ e s. noted_as new.store ks (N.Case k) (ap chosen (as_long e s)) noted_case)
+    pub cases_noted : (n a b : ℕ) (m : Message) (t u : Ty) → x ≡ fork_at n (Branches m t u) a b → NotesNode old new ks rule x (N.Case k)
+    cases_noted n a b m t u q = node_as (N.Case k) (fork_at n (Branches m t u) a b) q (λ e s. noted_as new.store ks (N.Case k) (ap chosen (as_long e s)) noted_branch)
 
     -- what a function of its own notes
-    pub makes_noted : {E : Type 0} (r : Result Note E) (n b : ℕ) (t : Ty) → x ≡ prefix_at n (Makes t) b → IfOk r (λ o. (keys : Keys) → NotedAs new.store keys (made k) o) → IfOk r (NotesNode old new ks rule x)
-    makes_noted (Ok o) n b t q h = node_as o (prefix_at n (Makes t) b) q (λ e s. noted_as new.store ks o (ap made (as_long e s)) (h ks))
+    pub makes_noted : {E : Type 0} (r : Result Note E) (n b : ℕ) (t : Ty) → x ≡ prefix_at n (Freshes t) b → IfOk r (λ o. (keys : Keys) → NotedAs new.store keys (made k) o) → IfOk r (NotesNode old new ks rule x)
+    makes_noted (Ok o) n b t q h = node_as o (prefix_at n (Freshes t) b) q (λ e s. noted_as new.store ks o (ap made (as_long e s)) (h ks))
     makes_noted (Err z) n b t q h = tt
 
     pub casts_noted : {E : Type 0} (r : Result Note E) (n b : ℕ) (m : Message) (t : Ty) → x ≡ prefix_at n (Casts m t) b → IfOk r (NotedAs new.store ks (cast_change rule k t)) → IfOk r (NotesNode old new ks rule x)

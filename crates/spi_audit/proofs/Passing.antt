@@ -8,9 +8,9 @@ use Rattle.spi_count.specs.declared.keys.Keys.{Keys}
 use Rattle.spi_audit.specs.declared.accounts.Account.{Account}
 use Rattle.spi_audit.specs.declared.notes.Note.{Note}
 use Rattle.spi_count.specs.Keeping.{IsKeyed}
-use Rattle.spi_audit.specs.Accounts.{Held, Holds, holds_none, holds_next}
+use Rattle.spi_audit.specs.Accounts.{Held, HoldsEffects, holds_none, holds_next}
 use Rattle.spi_audit.specs.Changes.{Change, before, after, pays, top, run, first_unpaid, AreScoped, scoped_none, scoped_next}
-use Rattle.spi_audit.specs.Notes.{NotedAs, AreNoted, are_noted_none, are_noted_next, ChangesAll, IsBefore, IsSmallNote, AreSmallNotes}
+use Rattle.spi_audit.specs.Notes.{NotedAs, AreNoted, are_noted_none, are_noted_next, ChangesAll, IsBeforeChange, IsSmallNote, AreSmallNotes}
 use Rattle.spi_audit.proofs.Turning.{holds_names, holds_top, holds_empty, some_held}
 
 pub record Passed (s : Store) (keys : Keys) (cs : List Change) (rest : List Note) (stack : List Account) (unpaid : Option ℕ) : Type 0 where
@@ -18,10 +18,10 @@ pub record Passed (s : Store) (keys : Keys) (cs : List Change) (rest : List Note
   pub back : List Change
   pub whole : cs ≡ front ++ back
   pub noted : AreNoted s keys front rest
-  pub holds : (ns : List ℕ) → AreScoped ns back → Holds s keys ns (reverse stack) (run back)
+  pub holds : (ns : List ℕ) → AreScoped ns back → HoldsEffects s keys ns (reverse stack) (run back)
   pub first : (ns : List ℕ) → AreScoped ns back → unpaid ≡ first_unpaid (length front) back
 
-scoped_empty : (s : Store) (keys : Keys) (ns : List ℕ) → AreScoped ns [] → Holds s keys ns [] []
+scoped_empty : (s : Store) (keys : Keys) (ns : List ℕ) → AreScoped ns [] → HoldsEffects s keys ns [] []
 scoped_empty s keys _ scoped_none = holds_none
 
 pub passed_start : (s : Store) (keys : Keys) (cs : List Change) (os : List Note) (stack : List Account) → stack ≡ [] → AreNoted s keys cs os → Passed s keys cs os stack None
@@ -30,7 +30,7 @@ passed_start s keys cs os stack e n = record {
   back = [];
   whole = sym (append-nil cs);
   noted = n;
-  holds = λ ns h. subst (λ l. Holds s keys ns (reverse l) []) (sym e) (scoped_empty s keys ns h);
+  holds = λ ns h. subst (λ l. HoldsEffects s keys ns (reverse l) []) (sym e) (scoped_empty s keys ns h);
   first = λ ns h. refl;
 }
 
@@ -76,7 +76,7 @@ passed_next {s} {keys} {cs} {all} {old} {unpaid} p rest o new b next e changes f
     last : Last s keys p.front rest o
     last = last_of rest o e p.noted
 
-    turned : (ns : List ℕ) → AreScoped ns (last.change ∷ p.back) → Holds s keys ns (reverse new) (after last.change (run p.back)) × (next ≡ first_unpaid (length last.others) (last.change ∷ p.back))
+    turned : (ns : List ℕ) → AreScoped ns (last.change ∷ p.back) → HoldsEffects s keys ns (reverse new) (after last.change (run p.back)) × (next ≡ first_unpaid (length last.others) (last.change ∷ p.back))
     turned ns (scoped_next ms sc q r) =
         let t = changes.at last.change ms (run p.back) last.is sc (p.holds (before last.change ++ ms) r) in
         (holds_names (sym q) t.0, next_first b (pays last.change (run p.back)) (length rest) (length last.others) (length p.front) 0 unpaid next p.back t.1 f (sym (noted_length last.noted)) (ap length last.all ∙ length_last last.others last.change) (p.first (before last.change ++ ms) r))
@@ -85,7 +85,7 @@ scoped_later : (front : List Change) {back : List Change} {ns : List ℕ} → Ar
 scoped_later [] {ns = ns} h = (ns, h)
 scoped_later (c ∷ front) (scoped_next ms sc e r) = scoped_later front r
 
-pub passed_before : {s : Store} {keys : Keys} {cs : List Change} {all : List Note} {old : List Account} {unpaid : Option ℕ} → IsKeyed s keys → Passed s keys cs all old unpaid → (n : ℕ) → AreScoped (n ∷ []) cs → (rest : List Note) (o : Note) → all ≡ rest ++ o ∷ [] → IsBefore s keys o old
+pub passed_before : {s : Store} {keys : Keys} {cs : List Change} {all : List Note} {old : List Account} {unpaid : Option ℕ} → IsKeyed s keys → Passed s keys cs all old unpaid → (n : ℕ) → AreScoped (n ∷ []) cs → (rest : List Note) (o : Note) → all ≡ rest ++ o ∷ [] → IsBeforeChange s keys o old
 passed_before {s} {keys} {cs} {all} {old} {unpaid} kd p n h rest o e = go r.0 r.1
   where
     last : Last s keys p.front rest o
@@ -94,7 +94,7 @@ passed_before {s} {keys} {cs} {all} {old} {unpaid} kd p n h rest o e = go r.0 r.
     r : (ms : List ℕ) × AreScoped ms (last.change ∷ p.back)
     r = scoped_later last.others (subst (λ xs. AreScoped (n ∷ []) xs) (p.whole ∙ (ap (λ xs. xs ++ p.back) last.all ∙ append_assoc last.others (last.change ∷ []) p.back)) h)
 
-    go : (ms : List ℕ) → AreScoped ms (last.change ∷ p.back) → IsBefore s keys o old
+    go : (ms : List ℕ) → AreScoped ms (last.change ∷ p.back) → IsBeforeChange s keys o old
     go ms (scoped_next ns sc q t) = record {
       keyed = kd;
       change = last.change;
@@ -115,13 +115,13 @@ module _ {s : Store} {keys : Keys} {cs : List Change} {all : List Note} {stack :
   back_is : cs ≡ p.back
   back_is = p.whole ∙ ap (λ xs. xs ++ p.back) here
 
-  held : Holds s keys (n ∷ []) (reverse stack) (run p.back)
+  held : HoldsEffects s keys (n ∷ []) (reverse stack) (run p.back)
   held = p.holds (n ∷ []) (subst (λ xs. AreScoped (n ∷ []) xs) back_is h)
 
   pub passed_root : (rest : List Account) (root : Account) → stack ≡ rest ++ root ∷ [] → Held s keys n root (top (run cs))
   passed_root rest root e = subst (λ xs. Held s keys n root (top (run xs))) (sym back_is) (go (holds_top stack rest root e held))
     where
-      go : {st : List Effect} → Holds s keys (n ∷ []) (root ∷ reverse rest) st → Held s keys n root (top st)
+      go : {st : List Effect} → HoldsEffects s keys (n ∷ []) (root ∷ reverse rest) st → Held s keys n root (top st)
       go (holds_next t r) = t
 
   pub passed_first : unpaid ≡ first_unpaid 0 cs

@@ -21,7 +21,7 @@ use Rattle.spi_message.specs.Tests.{is_un, is_unit}
 use Rattle.spi_audit.specs.declared.asked.Asked.TheVariants as A
 use Rattle.spi_audit.specs.declared.asked.Premises.TheVariants.{NoPremise, OnePremise, TwoPremises}
 use Rattle.spi_audit.specs.Fits.{Subject, of_message, plain, Fits, fits_unit, fits_unit_un, fits_pair_un, fits_inl, fits_inl_un, fits_inr, fits_inr_un, fits_enc_un, fits_name, fits_enc}
-use Rattle.spi_audit.specs.Asked.{IsAsked, asked_none, asked_next, AnsweredMessage, AnswersPart, IsSumOf, IsNoSum}
+use Rattle.spi_audit.specs.Asked.{IsTypeAsked, asked_none, asked_next, AnsweredMessage, AnswersPart, IsSumOf, IsNoSum}
 
 un_of : (u : Ty) → is_un u ≡ true → u ≡ un
 un_of un e = refl
@@ -39,7 +39,7 @@ unit_of (sum_ty t u) e f = absurd (cc)
 unit_of (key t) e f = absurd (cc)
 unit_of (nonce es) e f = absurd (cc)
 
-asked_as : (s : Store) (a : MsgId) (t : TyId) {m : Message} {u : Ty} → slice_get s.messages a.place ≡ Some m → Means s t.place u → IsAsked s (A.Message a t) m u
+asked_as : (s : Store) (a : MsgId) (t : TyId) {m : Message} {u : Ty} → slice_get s.messages a.place ≡ Some m → Means s t.place u → IsTypeAsked s (A.Message a t) m u
 asked_as s a t g m = record { id = a; ty = t; is = refl; at = g; means = m }
 
 module _ (j : Numbered) (t : TyId) (b : Bool) (told : (u : Ty) → Means j.store t.place u → b ≡ is_un u) where

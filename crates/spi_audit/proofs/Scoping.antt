@@ -90,11 +90,11 @@ abbrev pub Over : Subject → Type 0
 Over (of_message e m t) = ⊤
 Over (of_process e p) = EnvOver e × ProcessOver (length e) p
 
-abbrev pub AllOver : List Subject → Type 0
-AllOver [] = ⊤
-AllOver (s ∷ ss) = Over s × AllOver ss
+abbrev pub AreSubjectsOver : List Subject → Type 0
+AreSubjectsOver [] = ⊤
+AreSubjectsOver (s ∷ ss) = Over s × AreSubjectsOver ss
 
-all_over : (ps ss : List Subject) → AllOver ps → AllOver ss → AllOver (ps ++ ss)
+all_over : (ps ss : List Subject) → AreSubjectsOver ps → AreSubjectsOver ss → AreSubjectsOver (ps ++ ss)
 all_over [] ss h k = k
 all_over (p ∷ ps) ss h k = (h.0, all_over ps ss h.1 k)
 
@@ -166,7 +166,7 @@ both_more env t u ns = ap (λ n. n ∷ (length (extended env u) ∷ ns)) (length
 
 pub record InScope (c : Change) (s : Subject) (ps : List Subject) : Type 0 where
   pub scoped : IsScoped c
-  pub over : AllOver ps
+  pub over : AreSubjectsOver ps
   pub behind : (ns : List ℕ) → scopes ps ++ ns ≡ before c ++ ns
   pub here : (ss : List Subject) → scopes (s ∷ ss) ≡ own c ++ scopes ss
 
@@ -215,7 +215,7 @@ in_scope (fits_new {env = env} {t = t} {p = p} i g) o = record { scoped = tt; ov
 in_scope (fits_par {env = env} {p = p} {q = q}) o = record { scoped = tt; over = ((o.0, none (length env) p o.1.1), ((o.0, none (length env) q o.1.2), tt)); behind = λ ns. refl; here = λ ss. refl }
 in_scope (fits_sub g) o = record { scoped = good_below g; over = (o, tt); behind = λ ns. refl; here = λ ss. refl }
 
-pub trace_scoped : {ss : List Subject} {us : List RuleUse} {cs : List Change} → Trace ss us cs → AllOver ss → AreScoped (scopes ss) cs
+pub trace_scoped : {ss : List Subject} {us : List RuleUse} {cs : List Change} → Trace ss us cs → AreSubjectsOver ss → AreScoped (scopes ss) cs
 trace_scoped trace_none o = scoped_none
 trace_scoped (trace_use {u} {s} {ps} {ss} {us} {cs} f t) o =
     let w = in_scope f o.0 in

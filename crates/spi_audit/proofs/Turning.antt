@@ -20,9 +20,9 @@ use Rattle.spi_audit.specs.declared.accounts.Account.{Account}
 use Rattle.spi_audit.specs.declared.notes.Note.{Note}
 use Rattle.spi_audit.specs.declared.notes.Note.TheVariants as N
 use Rattle.spi_count.specs.Keeping.{IsKeyed, HasKey, HaveKeys}
-use Rattle.spi_audit.specs.Accounts.{Held, IsHeld, Holds, holds_next, LeavesOne, LeavesTwo, HoldsMore, HoldsLess}
+use Rattle.spi_audit.specs.Accounts.{Held, IsHeld, HoldsEffects, holds_next, LeavesOne, LeavesTwo, HoldsMore, HoldsLess}
 use Rattle.spi_audit.specs.Changes.{Change, served, chosen, summed, IsScoped, before, own, scope_in, after, pays, top}
-use Rattle.spi_audit.specs.Notes.{NotedAs, noted_nothing, noted_empty, noted_same, noted_one, noted_two, noted_serve, noted_case, noted_check, noted_begin, noted_end, noted_many, noted_cast, noted_make, noted_both, noted_taken, ChangesOne, ChangesAll, IsBefore, IsBeforeOne, IsUnaryNote, AtomVec}
+use Rattle.spi_audit.specs.Notes.{NotedAs, noted_nothing, noted_empty, noted_same, noted_one, noted_two, noted_serve, noted_branch, noted_check, noted_begin, noted_end, noted_many, noted_cast, noted_make, noted_both, noted_taken, ChangesOne, ChangesAll, IsBeforeChange, IsBeforeOne, IsUnaryNote, AtomVec}
 
 abbrev first_of : List ℕ → ℕ
 first_of [] = 0
@@ -54,7 +54,7 @@ pub case_one : (s : Store) (keys : Keys) (i : ℕ) (acc : Account) → ChangesOn
 case_one s keys i acc = record { at = at }
   where
     at : (c : Change) (n : ℕ) (es : Effect) → NotedAs s keys c (N.Case i) → IsScoped c → before c ≡ n ∷ [] → Held s keys n acc es → Held s keys (scope_in c) acc (top (after c (es ∷ []))) × (true ≡ pays c (es ∷ []))
-    at _ n es (noted_case {k}) w e h = absurd (cc)
+    at _ n es (noted_branch {k}) w e h = absurd (cc)
 
 pub both_one : (s : Store) (keys : Keys) (acc : Account) → ChangesOne s keys N.Both acc true acc
 both_one s keys acc = record { at = at }
@@ -87,8 +87,8 @@ AtomIn keys a old new = (s : Store) (b : Atom) (k : ℕ) → IsKeyed s keys → 
 abbrev pub AtomOut : Keys → AtomId → Account → Account → Type 0
 AtomOut keys a old new = (s : Store) (b : Atom) (k : ℕ) → IsKeyed s keys → SaysAtom s.messages a b → name_bound (message_of b) ≤ k → HoldsLess s keys k (b ∷ []) old new
 
-abbrev pub TypeIn : Store → Keys → TyId → Account → Account → Type 0
-TypeIn s keys t old new = (fs : Effect) (k : ℕ) → IsKeyed s keys → Means s t.place (nonce fs) → HaveKeys s keys fs → Below k fs → HoldsMore s keys k fs old new
+abbrev pub TypeTurns : Store → Keys → TyId → Account → Account → Type 0
+TypeTurns s keys t old new = (fs : Effect) (k : ℕ) → IsKeyed s keys → Means s t.place (nonce fs) → HaveKeys s keys fs → Below k fs → HoldsMore s keys k fs old new
 
 abbrev pub TypeOut : Store → Keys → TyId → Account → Account → Type 0
 TypeOut s keys t old new = (fs : Effect) (k : ℕ) → IsKeyed s keys → Means s t.place (nonce fs) → Below k fs → HoldsLess s keys k fs old new
@@ -119,7 +119,7 @@ many_changes s keys id old new kd more = record { at = at }
     at : (c : Change) (n : ℕ) (es : Effect) → NotedAs s keys c (N.EndMany id) → IsScoped c → before c ≡ n ∷ [] → Held s keys n old es → Held s keys (scope_in c) new (top (after c (es ∷ []))) × (true ≡ pays c (es ∷ []))
     at _ n es (noted_many {k} {m} g) w e h = (more s (many m) k kd (says_many g.at) (id.place, g) w es (named_held old k n e h), refl)
 
-pub cast_changes : (s : Store) (keys : Keys) (i : ℕ) (t : TyId) (old rest new : Account) (b : Bool) → IsKeyed s keys → LeavesOne s keys i old b rest → TypeIn s keys t rest new → ChangesOne s keys (N.Cast i t) old b new
+pub cast_changes : (s : Store) (keys : Keys) (i : ℕ) (t : TyId) (old rest new : Account) (b : Bool) → IsKeyed s keys → LeavesOne s keys i old b rest → TypeTurns s keys t rest new → ChangesOne s keys (N.Cast i t) old b new
 cast_changes s keys i t old rest new b kd l more = record { at = at }
   where
     at : (c : Change) (n : ℕ) (es : Effect) → NotedAs s keys c (N.Cast i t) → IsScoped c → before c ≡ n ∷ [] → Held s keys n old es → Held s keys (scope_in c) new (top (after c (es ∷ []))) × (b ≡ pays c (es ∷ []))
@@ -148,7 +148,7 @@ unary (noted_same {k}) i = record { names = k; before_is = refl; own_is = refl; 
 unary (noted_one {k}) i = record { names = suc k; before_is = refl; own_is = refl; after_is = λ es st. refl; pays_is = λ es st. refl }
 unary (noted_two {k}) i = record { names = suc (suc k); before_is = refl; own_is = refl; after_is = λ es st. refl; pays_is = λ es st. refl }
 unary (noted_serve {k}) i = record { names = suc k; before_is = refl; own_is = refl; after_is = λ es st. refl; pays_is = λ es st. refl }
-unary noted_case i = absurd i
+unary noted_branch i = absurd i
 unary (noted_check {k} g m) i = record { names = k; before_is = refl; own_is = refl; after_is = λ es st. refl; pays_is = λ es st. refl }
 unary (noted_begin {k} g) i = record { names = k; before_is = refl; own_is = refl; after_is = λ es st. refl; pays_is = λ es st. refl }
 unary (noted_end {k} g) i = record { names = k; before_is = refl; own_is = refl; after_is = λ es st. refl; pays_is = λ es st. refl }
@@ -159,19 +159,19 @@ unary noted_both i = absurd i
 unary (noted_taken {k} t g) i = record { names = k; before_is = refl; own_is = refl; after_is = λ es st. refl; pays_is = λ es st. refl }
 
 -- the stack grows at its end
-pub holds_push : {s : Store} {keys : Keys} (old new : List Account) (acc : Account) {n : ℕ} {ns : List ℕ} {es : Effect} {st : List Effect} → new ≡ old ++ acc ∷ [] → Held s keys n acc es → Holds s keys ns (reverse old) st → Holds s keys (n ∷ ns) (reverse new) (es ∷ st)
-holds_push {s} {keys} old new acc {n} {ns} {es} {st} e h t = subst (λ l. Holds s keys (n ∷ ns) l (es ∷ st)) (sym (ap reverse e ∙ reverse-append old (acc ∷ []))) (holds_next h t)
+pub holds_push : {s : Store} {keys : Keys} (old new : List Account) (acc : Account) {n : ℕ} {ns : List ℕ} {es : Effect} {st : List Effect} → new ≡ old ++ acc ∷ [] → Held s keys n acc es → HoldsEffects s keys ns (reverse old) st → HoldsEffects s keys (n ∷ ns) (reverse new) (es ∷ st)
+holds_push {s} {keys} old new acc {n} {ns} {es} {st} e h t = subst (λ l. HoldsEffects s keys (n ∷ ns) l (es ∷ st)) (sym (ap reverse e ∙ reverse-append old (acc ∷ []))) (holds_next h t)
 
-pub holds_top : {s : Store} {keys : Keys} (old rest : List Account) (acc : Account) {ns : List ℕ} {st : List Effect} → old ≡ rest ++ acc ∷ [] → Holds s keys ns (reverse old) st → Holds s keys ns (acc ∷ reverse rest) st
-holds_top {s} {keys} old rest acc {ns} {st} e t = subst (λ l. Holds s keys ns l st) (ap reverse e ∙ reverse-append rest (acc ∷ [])) t
+pub holds_top : {s : Store} {keys : Keys} (old rest : List Account) (acc : Account) {ns : List ℕ} {st : List Effect} → old ≡ rest ++ acc ∷ [] → HoldsEffects s keys ns (reverse old) st → HoldsEffects s keys ns (acc ∷ reverse rest) st
+holds_top {s} {keys} old rest acc {ns} {st} e t = subst (λ l. HoldsEffects s keys ns l st) (ap reverse e ∙ reverse-append rest (acc ∷ [])) t
 
-pub holds_empty : {s : Store} {keys : Keys} (old : List Account) {ns : List ℕ} {st : List Effect} → old ≡ [] → Holds s keys ns (reverse old) st → Holds s keys ns [] st
-holds_empty {s} {keys} old {ns} {st} e t = subst (λ l. Holds s keys ns (reverse l) st) e t
+pub holds_empty : {s : Store} {keys : Keys} (old : List Account) {ns : List ℕ} {st : List Effect} → old ≡ [] → HoldsEffects s keys ns (reverse old) st → HoldsEffects s keys ns [] st
+holds_empty {s} {keys} old {ns} {st} e t = subst (λ l. HoldsEffects s keys ns (reverse l) st) e t
 
-pub holds_names : {s : Store} {keys : Keys} {ns ms : List ℕ} {accs : List Account} {st : List Effect} → ns ≡ ms → Holds s keys ns accs st → Holds s keys ms accs st
-holds_names {s} {keys} {accs = accs} {st = st} e t = subst (λ ns. Holds s keys ns accs st) e t
+pub holds_names : {s : Store} {keys : Keys} {ns ms : List ℕ} {accs : List Account} {st : List Effect} → ns ≡ ms → HoldsEffects s keys ns accs st → HoldsEffects s keys ms accs st
+holds_names {s} {keys} {accs = accs} {st = st} e t = subst (λ ns. HoldsEffects s keys ns accs st) e t
 
-pub some_held : {s : Store} {keys : Keys} {n : ℕ} {ns : List ℕ} {st : List Effect} → Holds s keys (n ∷ ns) [] st → ⊥
+pub some_held : {s : Store} {keys : Keys} {n : ℕ} {ns : List ℕ} {st : List Effect} → HoldsEffects s keys (n ∷ ns) [] st → ⊥
 some_held t = elim t [ ]
 
 module _ {s : Store} {keys : Keys} {o : Note} (one : IsUnaryNote o) where
@@ -180,10 +180,10 @@ module _ {s : Store} {keys : Keys} {o : Note} (one : IsUnaryNote o) where
     at = λ c ns st w sc h. let u = unary w one in absurd (some_held (holds_names (ap (λ xs. xs ++ ns) u.before_is) (holds_empty old e h)));
   }
 
-  pub before_one : (old rest : List Account) (acc : Account) → old ≡ rest ++ acc ∷ [] → IsBefore s keys o old → IsBeforeOne s keys o acc
+  pub before_one : (old rest : List Account) (acc : Account) → old ≡ rest ++ acc ∷ [] → IsBeforeChange s keys o old → IsBeforeOne s keys o acc
   before_one old rest acc e b = go (holds_names (ap (λ xs. xs ++ b.scopes) (unary b.noted one).before_is) (holds_top old rest acc e b.holds))
     where
-      go : {st : List Effect} → Holds s keys ((unary b.noted one).names ∷ b.scopes) (acc ∷ reverse rest) st → IsBeforeOne s keys o acc
+      go : {st : List Effect} → HoldsEffects s keys ((unary b.noted one).names ∷ b.scopes) (acc ∷ reverse rest) st → IsBeforeOne s keys o acc
       go (holds_next {es = es} h t) = record {
         keyed = b.keyed;
         change = b.change;
@@ -200,22 +200,22 @@ module _ {s : Store} {keys : Keys} {o : Note} (one : IsUnaryNote o) where
     at = λ c ns st w sc h. go c ns st w sc (holds_names (ap (λ xs. xs ++ ns) (unary w one).before_is) (holds_top old rest acc e h));
   }
     where
-      go : (c : Change) (ns : List ℕ) (st : List Effect) (w : NotedAs s keys c o) → IsScoped c → Holds s keys ((unary w one).names ∷ ns) (acc ∷ reverse rest) st → Holds s keys (own c ++ ns) (reverse new) (after c st) × (b ≡ pays c st)
+      go : (c : Change) (ns : List ℕ) (st : List Effect) (w : NotedAs s keys c o) → IsScoped c → HoldsEffects s keys ((unary w one).names ∷ ns) (acc ∷ reverse rest) st → HoldsEffects s keys (own c ++ ns) (reverse new) (after c st) × (b ≡ pays c st)
       go c ns _ w sc (holds_next {es = es} {st = st} h t) =
           let u = unary w one in
           let r = one_change.at c u.names es w sc u.before_is h in
-          (subst (λ l. Holds s keys (own c ++ ns) (reverse new) l) (sym (u.after_is es st)) (holds_names (sym (ap (λ xs. xs ++ ns) u.own_is)) (holds_push rest new next f r.0 t)), r.1 ∙ sym (u.pays_is es st))
+          (subst (λ l. HoldsEffects s keys (own c ++ ns) (reverse new) l) (sym (u.after_is es st)) (holds_names (sym (ap (λ xs. xs ++ ns) u.own_is)) (holds_push rest new next f r.0 t)), r.1 ∙ sym (u.pays_is es st))
 
 pub changes_empty : (s : Store) (keys : Keys) (old new : List Account) (acc : Account) → new ≡ old ++ acc ∷ [] → ((n : ℕ) → Held s keys n acc []) → ChangesAll s keys N.Empty old true new
 changes_empty s keys old new acc e h = record { at = at }
   where
-    at : (c : Change) (ns : List ℕ) (st : List Effect) → NotedAs s keys c N.Empty → IsScoped c → Holds s keys (before c ++ ns) (reverse old) st → Holds s keys (own c ++ ns) (reverse new) (after c st) × (true ≡ pays c st)
+    at : (c : Change) (ns : List ℕ) (st : List Effect) → NotedAs s keys c N.Empty → IsScoped c → HoldsEffects s keys (before c ++ ns) (reverse old) st → HoldsEffects s keys (own c ++ ns) (reverse new) (after c st) × (true ≡ pays c st)
     at _ ns st (noted_empty {k}) w t = (holds_push old new acc e (h k) t, refl)
 
 pub changes_nothing : (s : Store) (keys : Keys) (old : List Account) → ChangesAll s keys N.Nothing old true old
 changes_nothing s keys old = record { at = at }
   where
-    at : (c : Change) (ns : List ℕ) (st : List Effect) → NotedAs s keys c N.Nothing → IsScoped c → Holds s keys (before c ++ ns) (reverse old) st → Holds s keys (own c ++ ns) (reverse old) (after c st) × (true ≡ pays c st)
+    at : (c : Change) (ns : List ℕ) (st : List Effect) → NotedAs s keys c N.Nothing → IsScoped c → HoldsEffects s keys (before c ++ ns) (reverse old) st → HoldsEffects s keys (own c ++ ns) (reverse old) (after c st) × (true ≡ pays c st)
     at _ ns st noted_nothing w t = (t, refl)
 
 -- two processes
@@ -230,50 +230,50 @@ module _ {s : Store} {keys : Keys} {o : Note} (two : (c : Change) → NotedAs s 
     at = λ c ns st w sc h. let u = two c w in absurd (go (holds_names (ap (λ xs. xs ++ ns) u.1) (holds_top old mid a e h)));
   }
     where
-      go : {n : ℕ} {ns : List ℕ} {st : List Effect} → Holds s keys (n ∷ (n ∷ ns)) (a ∷ reverse mid) st → ⊥
+      go : {n : ℕ} {ns : List ℕ} {st : List Effect} → HoldsEffects s keys (n ∷ (n ∷ ns)) (a ∷ reverse mid) st → ⊥
       go (holds_next h t) = some_held (holds_empty mid f t)
 
 pub both_two : {s : Store} {keys : Keys} (c : Change) → NotedAs s keys c N.Both → (n : ℕ) × (before c ≡ n ∷ (n ∷ []))
 both_two _ (noted_both {k}) = (k, refl)
 
-pub case_two : {s : Store} {keys : Keys} (i : ℕ) (c : Change) → NotedAs s keys c (N.Case i) → (n : ℕ) × (before c ≡ n ∷ (n ∷ []))
-case_two i _ noted_case = (suc i, refl)
+pub branch_two : {s : Store} {keys : Keys} (i : ℕ) (c : Change) → NotedAs s keys c (N.Case i) → (n : ℕ) × (before c ≡ n ∷ (n ∷ []))
+branch_two i _ noted_branch = (suc i, refl)
 
 pub both_changes : (s : Store) (keys : Keys) (old mid rest new : List Account) (a b sum : Account) → old ≡ mid ++ a ∷ [] → mid ≡ rest ++ b ∷ [] → new ≡ rest ++ sum ∷ [] → ((n : ℕ) (es fs : Effect) → Held s keys n a es → Held s keys n b fs → Held s keys n sum (es ++ fs)) → ChangesAll s keys N.Both old true new
 both_changes s keys old mid rest new a b sum e f g add = record { at = at }
   where
-    second : {k : ℕ} {ns : List ℕ} {es : Effect} {st : List Effect} → Held s keys k a es → Holds s keys (k ∷ ns) (b ∷ reverse rest) st → Holds s keys (k ∷ ns) (reverse new) (after (summed k) (es ∷ st))
+    second : {k : ℕ} {ns : List ℕ} {es : Effect} {st : List Effect} → Held s keys k a es → HoldsEffects s keys (k ∷ ns) (b ∷ reverse rest) st → HoldsEffects s keys (k ∷ ns) (reverse new) (after (summed k) (es ∷ st))
     second {k} {es = es} h (holds_next {es = fs} i t) = holds_push rest new sum g (add k es fs h i) t
 
-    first : {k : ℕ} {ns : List ℕ} {st : List Effect} → Holds s keys (k ∷ (k ∷ ns)) (a ∷ reverse mid) st → Holds s keys (k ∷ ns) (reverse new) (after (summed k) st)
+    first : {k : ℕ} {ns : List ℕ} {st : List Effect} → HoldsEffects s keys (k ∷ (k ∷ ns)) (a ∷ reverse mid) st → HoldsEffects s keys (k ∷ ns) (reverse new) (after (summed k) st)
     first (holds_next h t) = second h (holds_top mid rest b f t)
 
-    at : (c : Change) (ns : List ℕ) (st : List Effect) → NotedAs s keys c N.Both → IsScoped c → Holds s keys (before c ++ ns) (reverse old) st → Holds s keys (own c ++ ns) (reverse new) (after c st) × (true ≡ pays c st)
+    at : (c : Change) (ns : List ℕ) (st : List Effect) → NotedAs s keys c N.Both → IsScoped c → HoldsEffects s keys (before c ++ ns) (reverse old) st → HoldsEffects s keys (own c ++ ns) (reverse new) (after c st) × (true ≡ pays c st)
     at _ ns st (noted_both {k}) w t = (first (holds_top old mid a e t), refl)
 
 abbrev pub TwoSides : Store → Keys → ℕ → Account → Account → Bool → Account → Type 0
 TwoSides s keys i a b t most = (es fs : Effect) → Held s keys (suc i) a es → Held s keys (suc i) b fs → Held s keys i most (greater es fs) × (t ≡ not (mentions i es) && not (mentions i fs))
 
-pub case_changes : (s : Store) (keys : Keys) (i : ℕ) (old mid rest new : List Account) (a b most : Account) (pay : Bool) → old ≡ mid ++ a ∷ [] → mid ≡ rest ++ b ∷ [] → new ≡ rest ++ most ∷ [] → TwoSides s keys i a b pay most → ChangesAll s keys (N.Case i) old pay new
-case_changes s keys i old mid rest new a b most pay e f g sides = record { at = at }
+pub branch_changes : (s : Store) (keys : Keys) (i : ℕ) (old mid rest new : List Account) (a b most : Account) (pay : Bool) → old ≡ mid ++ a ∷ [] → mid ≡ rest ++ b ∷ [] → new ≡ rest ++ most ∷ [] → TwoSides s keys i a b pay most → ChangesAll s keys (N.Case i) old pay new
+branch_changes s keys i old mid rest new a b most pay e f g sides = record { at = at }
   where
-    second : {ns : List ℕ} {es : Effect} {st : List Effect} → Held s keys (suc i) a es → Holds s keys (suc i ∷ ns) (b ∷ reverse rest) st → Holds s keys (i ∷ ns) (reverse new) (after (chosen i) (es ∷ st)) × (pay ≡ pays (chosen i) (es ∷ st))
+    second : {ns : List ℕ} {es : Effect} {st : List Effect} → Held s keys (suc i) a es → HoldsEffects s keys (suc i ∷ ns) (b ∷ reverse rest) st → HoldsEffects s keys (i ∷ ns) (reverse new) (after (chosen i) (es ∷ st)) × (pay ≡ pays (chosen i) (es ∷ st))
     second {es = es} h (holds_next {es = fs} j t) = let r = sides es fs h j in (holds_push rest new most g r.0 t, r.1)
 
-    first : {ns : List ℕ} {st : List Effect} → Holds s keys (suc i ∷ (suc i ∷ ns)) (a ∷ reverse mid) st → Holds s keys (i ∷ ns) (reverse new) (after (chosen i) st) × (pay ≡ pays (chosen i) st)
+    first : {ns : List ℕ} {st : List Effect} → HoldsEffects s keys (suc i ∷ (suc i ∷ ns)) (a ∷ reverse mid) st → HoldsEffects s keys (i ∷ ns) (reverse new) (after (chosen i) st) × (pay ≡ pays (chosen i) st)
     first (holds_next h t) = second h (holds_top mid rest b f t)
 
-    at : (c : Change) (ns : List ℕ) (st : List Effect) → NotedAs s keys c (N.Case i) → IsScoped c → Holds s keys (before c ++ ns) (reverse old) st → Holds s keys (own c ++ ns) (reverse new) (after c st) × (pay ≡ pays c st)
-    at _ ns st noted_case w t = first (holds_top old mid a e t)
+    at : (c : Change) (ns : List ℕ) (st : List Effect) → NotedAs s keys c (N.Case i) → IsScoped c → HoldsEffects s keys (before c ++ ns) (reverse old) st → HoldsEffects s keys (own c ++ ns) (reverse new) (after c st) × (pay ≡ pays c st)
+    at _ ns st noted_branch w t = first (holds_top old mid a e t)
 
 -- both processes of a case are held before
-pub case_held : (s : Store) (keys : Keys) (i : ℕ) (old mid rest : List Account) (a b : Account) → old ≡ mid ++ a ∷ [] → mid ≡ rest ++ b ∷ [] → IsBefore s keys (N.Case i) old → IsHeld s keys a × IsHeld s keys b
-case_held s keys i old mid rest a b e f w = first (holds_names (ap (λ xs. xs ++ w.scopes) (case_two i w.change w.noted).1) (holds_top old mid a e w.holds))
+pub branch_held : (s : Store) (keys : Keys) (i : ℕ) (old mid rest : List Account) (a b : Account) → old ≡ mid ++ a ∷ [] → mid ≡ rest ++ b ∷ [] → IsBeforeChange s keys (N.Case i) old → IsHeld s keys a × IsHeld s keys b
+branch_held s keys i old mid rest a b e f w = first (holds_names (ap (λ xs. xs ++ w.scopes) (branch_two i w.change w.noted).1) (holds_top old mid a e w.holds))
   where
-    second : {n : ℕ} {ns : List ℕ} {st : List Effect} → Holds s keys (n ∷ ns) (b ∷ reverse rest) st → IsHeld s keys b
+    second : {n : ℕ} {ns : List ℕ} {st : List Effect} → HoldsEffects s keys (n ∷ ns) (b ∷ reverse rest) st → IsHeld s keys b
     second {n} (holds_next {es = fs} j t) = (w.keyed, n, fs, j)
 
-    first : {n : ℕ} {ns : List ℕ} {st : List Effect} → Holds s keys (n ∷ (n ∷ ns)) (a ∷ reverse mid) st → IsHeld s keys a × IsHeld s keys b
+    first : {n : ℕ} {ns : List ℕ} {st : List Effect} → HoldsEffects s keys (n ∷ (n ∷ ns)) (a ∷ reverse mid) st → IsHeld s keys a × IsHeld s keys b
     first {n} (holds_next {es = es} h t) = ((w.keyed, n, es, h), second (holds_top mid rest b f t))
 
 -- what is before a change holds its account

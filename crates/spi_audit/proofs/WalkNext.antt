@@ -2,7 +2,7 @@
 use Rattle.std.proofs.Common.{◌≡◌, refl, sym, ap, ◌∙◌, subst, ℕ, ◌<◌, ◌≤◌, List, [], ◌∷◌, ◌++◌, length, take, reverse, Option, Some, None, arith, length-append, length-take}
 use Rattle.std.specs.Prelude.{slice_get}
 use Rattle.std.proofs.lemmas.List.{take-append-le, take_all}
-use Rattle.spi_term.specs.Term.{Message, Effect, Ty, nonce, Prefix, Recvs, Serves, Splits, Selects, Decrypts, Checks, Begins, Ends, EndManys, Casts, Makes, Cases, Pars, Process, leaf, prefix, fork}
+use Rattle.spi_term.specs.Term.{Message, Effect, Ty, nonce, Prefix, Recvs, Serves, Splits, Selects, Decrypts, Checks, Begins, Ends, EndManys, Casts, Freshes, Branches, Pars, Process, leaf, prefix, fork}
 use Rattle.spi_term.specs.Spelling.{Shape}
 use Rattle.spi_term.specs.Arena.{scope_of}
 use Rattle.spi_rules.specs.Environment.{Env}
@@ -26,8 +26,8 @@ use Rattle.spi_audit.specs.declared.walking.Fit.{Fit}
 use Rattle.spi_audit.specs.Fits.{Subject, of_message, of_process}
 use Rattle.spi_audit.specs.Asked.{listed, Bound, Located}
 use Rattle.spi_audit.specs.Changes.{Change, change_of, prefix_change, form_change, use_change, scope_in, check_change, cast_change}
-use Rattle.spi_audit.specs.Notes.{NotedAs, noted_nothing, noted_empty, noted_same, noted_one, noted_two, noted_serve, noted_case, noted_check, noted_begin, noted_end, noted_many, noted_cast, noted_make, noted_both, noted_taken, IsSmallNote}
-use Rattle.spi_audit.specs.Walking.{Later, later_none, later_next, Opens, opens_message, opens_later, IsState, IsOpen, Settles, IsPlaced, FitsMessage, FitsMessageIn, FitsNode, FitsIn, StepsTo, FitsNext}
+use Rattle.spi_audit.specs.Notes.{NotedAs, noted_nothing, noted_empty, noted_same, noted_one, noted_two, noted_serve, noted_branch, noted_check, noted_begin, noted_end, noted_many, noted_cast, noted_make, noted_both, noted_taken, IsSmallNote}
+use Rattle.spi_audit.specs.Walking.{Later, later_none, later_next, Opens, opens_message, opens_later, IsWalkState, IsOpen, Settles, IsPlaced, FitsMessage, FitsMessageIn, FitsNode, UseFitsIn, StepsTo, FitsNext}
 use Rattle.spi_message.proofs.Tested.{stands_kept}
 use Rattle.spi_audit.proofs.Leading.{later_moved, opens_keeps, opens_asked, opens_open}
 use Rattle.spi_audit.proofs.WalkUses.{few_names, located_below}
@@ -52,13 +52,13 @@ prefix_scope r e (Begins m) = refl
 prefix_scope r e (Ends m) = refl
 prefix_scope r e (EndManys m) = refl
 prefix_scope r e (Casts m t) = cast_scope r (length e) t
-prefix_scope r e (Makes t) = refl
+prefix_scope r e (Freshes t) = refl
 
 form_scope : (r : Rule) (e : Env) (p : Process) → scope_in (form_change r e p) ≡ length e
 form_scope r e (leaf l) = refl
 form_scope r e (prefix s p) = prefix_scope r e s
 form_scope r e (fork Pars p q) = refl
-form_scope r e (fork (Cases m t u) p q) = refl
+form_scope r e (fork (Branches m t u) p q) = refl
 
 change_scope : (o : Option Effect) (r : Rule) (e : Env) (p : Process) → scope_in (use_change o r e p) ≡ length e
 change_scope (Some fs) r e p = refl
@@ -71,7 +71,7 @@ small_as noted_same h = tt
 small_as noted_one h = h
 small_as noted_two h = h
 small_as noted_serve h = h
-small_as noted_case h = h
+small_as noted_branch h = h
 small_as (noted_check a b) h = tt
 small_as (noted_begin a) h = tt
 small_as (noted_end a) h = tt
@@ -207,7 +207,7 @@ next_process old mid new ks ss u node scope names small turned same free kept r 
     base : new.free ≡ old.free
     base = kept.free ∙ free
 
-    go : (r : Option Fit) (e : Env) (others : List Asked) (p : Process) (ts : List Subject) → Stands mid e → old.free ≤ length e → length e ≤ 300000 → Later new.store ss old.free (length e) e others ts → FitsIn new.store ks ss e u (of_process e p) r → StepsTo new ks ss u others (of_process e p ∷ ts) r
+    go : (r : Option Fit) (e : Env) (others : List Asked) (p : Process) (ts : List Subject) → Stands mid e → old.free ≤ length e → length e ≤ 300000 → Later new.store ss old.free (length e) e others ts → UseFitsIn new.store ks ss e u (of_process e p) r → StepsTo new ks ss u others (of_process e p ∷ ts) r
     go None e others p ts s le few w h = h
     go (Some f) e others p ts s le few w h = (
       e,
@@ -221,7 +221,7 @@ next_process old mid new ks ss u node scope names small turned same free kept r 
     )
 
 -- something is asked while something is open
-pub state_some : (j : Numbered) (ss : List Shape) (asked : List Asked) (ts : List Subject) → asked ≡ [] → IsState j ss asked ts → 0 < length ts → ⊥
+pub state_some : (j : Numbered) (ss : List Shape) (asked : List Asked) (ts : List Subject) → asked ≡ [] → IsWalkState j ss asked ts → 0 < length ts → ⊥
 state_some j ss asked ts e w l = go (subst (λ qs. Opens j.store ss j.free w.env qs ts) (ap reverse e) w.opens) l
   where
     go : {ts : List Subject} → Opens j.store ss j.free w.env [] ts → 0 < length ts → ⊥

@@ -26,8 +26,8 @@ use Rattle.spi_audit.specs.Audit.{MisfitAt}
 use Rattle.spi_audit.specs.Asked.{bound_none, Located}
 use Rattle.spi_count.specs.Keeping.{with_keys, GrowsTo}
 use Rattle.spi_audit.specs.Changes.{Change, change_of}
-use Rattle.spi_audit.specs.Notes.{NotedAs, noted_nothing, noted_empty, noted_same, noted_one, noted_two, noted_serve, noted_case, noted_check, noted_begin, noted_end, noted_many, noted_cast, noted_make, noted_both, noted_taken, AreNoted, are_noted_none, are_noted_next, IsSmallNote, AreSmallNotes}
-use Rattle.spi_audit.specs.Walking.{Trace, Led, led_none, later_none, later_next, Opens, opens_later, IsState, IsLed, Misfits, Steps}
+use Rattle.spi_audit.specs.Notes.{NotedAs, noted_nothing, noted_empty, noted_same, noted_one, noted_two, noted_serve, noted_branch, noted_check, noted_begin, noted_end, noted_many, noted_cast, noted_make, noted_both, noted_taken, AreNoted, are_noted_none, are_noted_next, IsSmallNote, AreSmallNotes}
+use Rattle.spi_audit.specs.Walking.{Trace, Led, led_none, later_none, later_next, Opens, opens_later, IsWalkState, IsLed, Misfits, Steps}
 use Rattle.spi_count.proofs.Kept.{key_keeps, have_keys_keep}
 use Rattle.spi_audit.proofs.Leading.{led_next, led_misfit, led_trace}
 use Rattle.spi_audit.proofs.Fitted.{fits_arity}
@@ -49,7 +49,7 @@ module _ {s r : Store} {ks ls : Keys} (g : GrowsTo s ks r ls) where
   noted_keeps noted_one = noted_one
   noted_keeps noted_two = noted_two
   noted_keeps noted_serve = noted_serve
-  noted_keeps noted_case = noted_case
+  noted_keeps noted_branch = noted_branch
   noted_keeps (noted_check h m) = noted_check (key_kept h) (means_keeps g.store m)
   noted_keeps (noted_begin h) = noted_begin (g.store.messages.at _ _ h)
   noted_keeps (noted_end h) = noted_end (key_kept h)
@@ -155,16 +155,16 @@ module _ (j : Numbered) (ks : Keys) (ss : List Shape) (root : Subject) (rs : Lis
   pub at_use : IsUse u
   at_use = led_is_use j ks ss root (take i rs) u (drop (i + 1) rs) qs os led_at
 
-  pub at_state : (ts : List Subject) × IsState j ss qs ts × (0 < length ts)
+  pub at_state : (ts : List Subject) × IsWalkState j ss qs ts × (0 < length ts)
   at_state = (led_at.subjects, led_at.state, led_some j ks ss root (take i rs) u (drop (i + 1) rs) qs os led_at)
 
-  pub at_misfit : i ≤ length rs → ((ts : List Subject) → IsState j ss qs ts → Misfits u ts) → MisfitAt (root ∷ []) rs i
+  pub at_misfit : i ≤ length rs → ((ts : List Subject) → IsWalkState j ss qs ts → Misfits u ts) → MisfitAt (root ∷ []) rs i
   at_misfit h m =
       let w = led_stuck j ks ss root (take i rs) u (drop (i + 1) rs) qs os led_at (m led_at.subjects led_at.state) in
       let n : length (take i rs) ≡ i = omega (arith, length-take i rs, h) in
       subst (λ n. MisfitAt (root ∷ []) rs n) n (subst (λ us. MisfitAt (root ∷ []) us (length (take i rs))) (ap (λ vs. take i rs ++ vs) (sym at) ∙ take-append-drop i rs) w)
 
-  pub at_fit : (new : Numbered) (ls : Keys) (more : List Asked) (o : Note) (ps : List Note) → GrowsTo j.store ks new.store ls → ((ts : List Subject) → IsState j ss qs ts → Steps new ls ss u more ts o) → take i rs ++ u ∷ [] ≡ take (i + 1) rs → ps ≡ os ++ o ∷ [] → IsLed new ls ss root (take (i + 1) rs) (drop (i + 1) rs) more ps
+  pub at_fit : (new : Numbered) (ls : Keys) (more : List Asked) (o : Note) (ps : List Note) → GrowsTo j.store ks new.store ls → ((ts : List Subject) → IsWalkState j ss qs ts → Steps new ls ss u more ts o) → take i rs ++ u ∷ [] ≡ take (i + 1) rs → ps ≡ os ++ o ∷ [] → IsLed new ls ss root (take (i + 1) rs) (drop (i + 1) rs) more ps
   at_fit new ls more o ps g f e q =
       subst (λ ps. IsLed new ls ss root (take (i + 1) rs) (drop (i + 1) rs) more ps) (sym q)
       (subst (λ us. IsLed new ls ss root us (drop (i + 1) rs) more (os ++ o ∷ [])) e (led_more j ks ss root (take i rs) u (drop (i + 1) rs) qs os led_at new ls more o g (f led_at.subjects led_at.state)))

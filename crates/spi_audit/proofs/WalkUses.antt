@@ -2,7 +2,7 @@
 use Rattle.std.proofs.Common.{◌≡◌, refl, sym, ap, ◌∙◌, subst, ℕ, zero, suc, ◌+◌, ◌<◌, ◌≤◌, List, [], ◌∷◌, ◌++◌, length, drop, Option, Some, None}
 use Rattle.std.specs.Prelude.{slice_get}
 use Rattle.std.proofs.lemmas.List.{append-nil}
-use Rattle.spi_term.specs.Term.{Message, Effect, Ty, Fork, Cases, Pars, Process, leaf, prefix, fork, binds, fork_binds, process_size}
+use Rattle.spi_term.specs.Term.{Message, Effect, Ty, Fork, Branches, Pars, Process, leaf, prefix, fork, binds, fork_binds, process_size}
 use Rattle.spi_term.specs.Spelling.{Shape, leaf_at, prefix_at, fork_at, flat, numbered, name_message, under}
 use Rattle.spi_term.specs.Substitution.{leaf_map, prefix_map, fork_map}
 use Rattle.spi_term.specs.Arena.{scope_of}
@@ -57,7 +57,7 @@ pub record NodeOf (e : Env) (p : Process) (x : Shape) : Type 0 where
   pub scope : scope_of x ≡ length e
   pub change : (r : Rule) → shape_change r e x ≡ form_change r e p
 
-record Front (i : ℕ) (e : Env) (p : Process) (rest : List Shape) : Type 0 where
+record FrontOfWalk (i : ℕ) (e : Env) (p : Process) (rest : List Shape) : Type 0 where
   first : Shape
   others : List Shape
   are : flat i (length e) (numbered [] (length e) p) ++ rest ≡ first ∷ others
@@ -65,9 +65,9 @@ record Front (i : ℕ) (e : Env) (p : Process) (rest : List Shape) : Type 0 wher
 
 fork_change : (r : Rule) (e : Env) (f : Fork) (a b : ℕ) (p q : Process) → shape_change r e (fork_at (length e) (fork_map (name_message []) 0 f) a b) ≡ form_change r e (fork f p q)
 fork_change r e Pars a b p q = refl
-fork_change r e (Cases m t u) a b p q = refl
+fork_change r e (Branches m t u) a b p q = refl
 
-front_of : (i : ℕ) (e : Env) (p : Process) (rest : List Shape) → Front i e p rest
+front_of : (i : ℕ) (e : Env) (p : Process) (rest : List Shape) → FrontOfWalk i e p rest
 front_of i e (leaf l) rest = record {
   first = leaf_at (length e) (leaf_map (name_message []) 0 l);
   others = rest;
@@ -95,7 +95,7 @@ front_of i e (fork f p q) rest =
     }
 
 module _ {ss : List Shape} {i : ℕ} {e : Env} {p : Process} (l : Located ss i e p) where
-  front : Front i e p l.rest
+  front : FrontOfWalk i e p l.rest
   front = front_of i e p l.rest
 
   front_there : slice_get ss i ≡ Some front.first

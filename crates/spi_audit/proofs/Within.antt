@@ -22,13 +22,13 @@ use Rattle.spi_audit.specs.Accounts.{HeldBy, outer}
 use Rattle.spi_audit.proofs.Holding.{zero_or, count_in, below_none, last_free, bound_of, outer_true}
 
 -- what was taken out is counted in b no lower
-abbrev pub IsTaken : Sum → Sum → Sum → Type 0
-IsTaken a b rest = (kind : AtomKind) (q : ℕ) → (count_of (part kind rest) q ≡ count_of (part kind a) q) ⊎ ((count_of (part kind rest) q ≡ 0) × (count_of (part kind a) q ≤ count_of (part kind b) q))
+abbrev pub IsTakenOut : Sum → Sum → Sum → Type 0
+IsTakenOut a b rest = (kind : AtomKind) (q : ℕ) → (count_of (part kind rest) q ≡ count_of (part kind a) q) ⊎ ((count_of (part kind rest) q ≡ 0) × (count_of (part kind a) q ≤ count_of (part kind b) q))
 
-pub taken_start : (a b : Sum) → IsTaken a b a
+pub taken_start : (a b : Sum) → IsTakenOut a b a
 taken_start a b kind q = inl refl
 
-pub taken_next : (a b old new : Sum) (kind : AtomKind) (key n : ℕ) → IsTaken a b old → count_of (part kind old) key ≡ n → Puts kind old new key 0 → n ≤ count_of (part kind b) key → IsTaken a b new
+pub taken_next : (a b old new : Sum) (kind : AtomKind) (key n : ℕ) → IsTakenOut a b old → count_of (part kind old) key ≡ n → Puts kind old new key 0 → n ≤ count_of (part kind b) key → IsTakenOut a b new
 taken_next a b old new kind key n t e put le k q = ⊎_elim here (λ d. ⊎_elim (λ x. inl (ap (λ m. count_of m q) (put.others k d) ∙ x)) (λ x. inr (ap (λ m. count_of m q) (put.others k d) ∙ x.0, x.1)) (t k q)) (same_kind k kind)
   where
     at : (v : Bool) → eqb key q ≡ v → count_of (part kind new) q ≡ (if v then 0 else count_of (part kind old) q) → (count_of (part kind new) q ≡ count_of (part kind a) q) ⊎ ((count_of (part kind new) q ≡ 0) × (count_of (part kind a) q ≤ count_of (part kind b) q))
@@ -43,7 +43,7 @@ taken_next a b old new kind key n t e put le k q = ⊎_elim here (λ d. ⊎_elim
     here d = subst (λ k. (count_of (part k new) q ≡ count_of (part k a) q) ⊎ ((count_of (part k new) q ≡ 0) × (count_of (part k a) q ≤ count_of (part k b) q))) (sym d) (at (eqb key q) refl (put.here q))
 
 module _ {s : Store} {keys : Keys} (kd : IsKeyed s keys) {a b : Sum} {es fs : Effect} (h : SumOf s keys a es) (k : SumOf s keys b fs) where
-  pub taken_all : (rest : Sum) → IsTaken a b rest → ((kind : AtomKind) → IsNothing (part kind rest)) → true ≡ is_within es fs
+  pub taken_all : (rest : Sum) → IsTakenOut a b rest → ((kind : AtomKind) → IsNothing (part kind rest)) → true ≡ is_within es fs
   taken_all rest t z = sym (is_within_complete es fs (λ c. ⊎_elim (λ e. let r : count c es ≤ count c fs = omega (arith, e) in r) (λ p. here c p) (zero_or (count c es))))
     where
       here : (c : Atom) → 0 < count c es → count c es ≤ count c fs
@@ -53,7 +53,7 @@ module _ {s : Store} {keys : Keys} (kd : IsKeyed s keys) {a b : Sum} {es fs : Ef
           let x = h.counted c i g in let y = k.counted c i g in let n = z (kind_of c) q in
           ⊎_elim (λ e. absurd (omega (arith, e, x, n, p))) (λ e. let l = e.1 in omega (arith, l, x, y)) (t (kind_of c) q)
 
-  pub taken_more : (rest : Sum) (kind : AtomKind) (q n : ℕ) → IsTaken a b rest → 0 < n → count_of (part kind rest) q ≡ n → count_of (part kind b) q < n → false ≡ is_within es fs
+  pub taken_more : (rest : Sum) (kind : AtomKind) (q n : ℕ) → IsTakenOut a b rest → 0 < n → count_of (part kind rest) q ≡ n → count_of (part kind b) q < n → false ≡ is_within es fs
   taken_more rest kind q n t p e l = ⊎_elim (λ w. absurd (at kind (is_within_sound es fs w) t e l)) sym (cases_Bool (is_within es fs))
     where
       one : (c : Atom) (i : ℕ) → with_keys s keys i (message_of c) → q ≡ key_of (name_bound (message_of c)) i → count c es ≤ count c fs → count_of (part (kind_of c) rest) q ≡ count_of (part (kind_of c) a) q → count_of (part (kind_of c) rest) q ≡ n → count_of (part (kind_of c) b) q < n → ⊥
@@ -62,10 +62,10 @@ module _ {s : Store} {keys : Keys} (kd : IsKeyed s keys) {a b : Sum} {es fs : Ef
           let y : count_of (part (kind_of c) b) q ≡ count c fs = ap (count_of (part (kind_of c) b)) f ∙ k.counted c i g in
           omega (arith, x, y, w, t, e, l)
 
-      was : (kind : AtomKind) → IsTaken a b rest → count_of (part kind rest) q ≡ n → count_of (part kind rest) q ≡ count_of (part kind a) q
+      was : (kind : AtomKind) → IsTakenOut a b rest → count_of (part kind rest) q ≡ n → count_of (part kind rest) q ≡ count_of (part kind a) q
       was kind t e = ⊎_elim (λ x. x) (λ x. absurd (let z = x.0 in omega (arith, z, e, p))) (t kind q)
 
-      at : (kind : AtomKind) → ((c : Atom) → count c es ≤ count c fs) → IsTaken a b rest → count_of (part kind rest) q ≡ n → count_of (part kind b) q < n → ⊥
+      at : (kind : AtomKind) → ((c : Atom) → count c es ≤ count c fs) → IsTakenOut a b rest → count_of (part kind rest) q ≡ n → count_of (part kind b) q < n → ⊥
       at kind w t e l =
           let r = was kind t e in
           let (i, m, g, f) = h.kept kind q (let z : 0 < count_of (part kind a) q = omega (arith, r, e, p) in z) in

@@ -39,10 +39,10 @@ abbrev pub Held : Store → Keys → ℕ → Account → Effect → Type 0
 Held s keys n acc es = HeldBy s keys (outer n) acc.sum acc.loose.counts acc.lasting es
 
 -- effects where n names are in scope, one by one
-pub data Holds (s : Store) (keys : Keys) : List ℕ → List Account → List Effect → Type 0 where
-  holds_none : Holds s keys [] [] []
+pub data HoldsEffects (s : Store) (keys : Keys) : List ℕ → List Account → List Effect → Type 0 where
+  holds_none : HoldsEffects s keys [] [] []
   holds_next : {n : ℕ} {acc : Account} {es : Effect} {ns : List ℕ} {accs : List Account} {st : List Effect}
-      → Held s keys n acc es → Holds s keys ns accs st → Holds s keys (n ∷ ns) (acc ∷ accs) (es ∷ st)
+      → Held s keys n acc es → HoldsEffects s keys ns accs st → HoldsEffects s keys (n ∷ ns) (acc ∷ accs) (es ∷ st)
 
 -- whether each is a `many`, with one more of this kind
 abbrev pub lasting_with : Bool → AtomKind → Bool
@@ -62,8 +62,8 @@ Marks old new m =
     × ((y : ℕ) → count_of old y ≡ 0 → is_free y m ≡ false → count_of new y ≡ 0)
 
 -- names from k on have left, and whether none did
-abbrev pub IsCut : Store → Keys → ℕ → Account → Bool → Account → Type 0
-IsCut s keys k old b new =
+abbrev pub IsScopeCut : Store → Keys → ℕ → Account → Bool → Account → Type 0
+IsScopeCut s keys k old b new =
     (n : ℕ) (es : Effect) → k ≤ n → Held s keys n old es
     → Held s keys k new es
     × (b ≡ true → (a : Atom) → 0 < count a es → name_bound (message_of a) ≤ n → name_bound (message_of a) ≤ k)

@@ -44,7 +44,7 @@ pub record Located (ss : List Shape) (i : ℕ) (e : Env) (p : Process) : Type 0 
   pub is : drop i ss ≡ flat i (length e) (numbered [] (length e) p) ++ rest
 
 -- asked whether a message has a type
-pub record IsAsked (s : Store) (a : Asked) (m : Message) (t : Ty) : Type 0 where
+pub record IsTypeAsked (s : Store) (a : Asked) (m : Message) (t : Ty) : Type 0 where
   pub id : MsgId
   pub ty : TyId
   pub is : a ≡ A.Message id ty
@@ -71,7 +71,7 @@ pub record Begins (old new : Numbered) (node : ℕ) (types : Env → Env) (a : A
 -- messages alone
 pub data AreAsked (s : Store) (env : Env) : List Asked → List Subject → Type 0 where
   asked_none : AreAsked s env [] []
-  asked_next : {a : Asked} {m : Message} {t : Ty} {others : List Asked} {ps : List Subject} → IsAsked s a m t
+  asked_next : {a : Asked} {m : Message} {t : Ty} {others : List Asked} {ps : List Subject} → IsTypeAsked s a m t
       → AreAsked s env others ps → AreAsked s env (a ∷ others) (of_message env m t ∷ ps)
 
 -- processes alone
@@ -84,7 +84,7 @@ pub data AreBegun (s : Store) (ss : List Shape) (env : Env) : List Asked → Lis
 -- messages, and then processes
 pub data AreOpen (s : Store) (ss : List Shape) (env : Env) : List Asked → List Subject → Type 0 where
   open_message : {a : Asked} {m : Message} {t : Ty} {others : List Asked} {ps : List Subject}
-      → IsAsked s a m t → AreOpen s ss env others ps → AreOpen s ss env (a ∷ others) (of_message env m t ∷ ps)
+      → IsTypeAsked s a m t → AreOpen s ss env others ps → AreOpen s ss env (a ∷ others) (of_message env m t ∷ ps)
   open_processes : {others : List Asked} {ps : List Subject} → AreBegun s ss env others ps
       → AreOpen s ss env others ps
 
@@ -133,7 +133,7 @@ pub record AnswersNode (old new : Numbered) (u : RuleUse) (x : Shape) (r : Optio
 abbrev pub TakesUntrusted : Numbered → Numbered → Message → Ty → ℕ → Option Premises → Type 0
 TakesUntrusted old new m t body None = is_un t ≡ false
 TakesUntrusted old new m t body (Some p) =
-    (a b : Asked) × (p ≡ TwoPremises a b) × IsAsked new.store a m un × Begins old new body (λ e. t ∷ []) b
+    (a b : Asked) × (p ≡ TwoPremises a b) × IsTypeAsked new.store a m un × Begins old new body (λ e. t ∷ []) b
     × (is_un t ≡ true)
 
 -- a process behind a label
@@ -170,5 +170,5 @@ pub record IsNoKeyAt (j : Numbered) (m : Message) : Type 0 where
 abbrev pub TakesGood : Numbered → Numbered → Message → Ty → ℕ → Option Premises → Type 0
 TakesGood old new m t body None = (e : Env) → Stands old e → GoodTy [] e t → ⊥
 TakesGood old new m t body (Some p) =
-    (a b : Asked) × (p ≡ TwoPremises a b) × IsAsked new.store a m un × Begins old new body (λ e. t ∷ []) b
+    (a b : Asked) × (p ≡ TwoPremises a b) × IsTypeAsked new.store a m un × Begins old new body (λ e. t ∷ []) b
     × ((e : Env) → Stands old e → GoodTy [] e t)

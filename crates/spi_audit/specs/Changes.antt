@@ -1,7 +1,7 @@
 -- What uses do to the effects of processes: the effects that stand behind a use, of each process that is still open there,
 -- and where a use pays. Computed, for uses that fit.
 use Rattle.std.specs.Prelude.{◌≡◌, ℕ, suc, ◌≤◌, Bool, true, not, ◌&&◌, ◌||◌, List, [], ◌∷◌, ◌++◌, length, Option, Some, None, if◌then◌else◌, ⊤}
-use Rattle.spi_term.specs.Term.{Message, name, ends, checks, many, Effect, Ty, nonce, Prefix, Recvs, Serves, Splits, Selects, Decrypts, Checks, Begins, Ends, EndManys, Casts, Makes, Cases, Pars, Process, leaf, prefix, fork}
+use Rattle.spi_term.specs.Term.{Message, name, ends, checks, many, Effect, Ty, nonce, Prefix, Recvs, Serves, Splits, Selects, Decrypts, Checks, Begins, Ends, EndManys, Casts, Freshes, Branches, Pars, Process, leaf, prefix, fork}
 use Rattle.spi_term.specs.Spelling.{Shape, leaf_at, prefix_at, fork_at}
 use Rattle.spi_effect.specs.Made.{are_many, minus, greater, mentions, is_within}
 use Rattle.spi_count.specs.Sums.{name_bound, Below}
@@ -49,19 +49,19 @@ prefix_change r e (Begins m) = begun (length e) m
 prefix_change r e (Ends m) = ended (length e) m
 prefix_change r e (EndManys m) = ended_many (length e) m
 prefix_change r e (Casts m t) = cast_change r (length e) t
-prefix_change r e (Makes t) = made (length e)
+prefix_change r e (Freshes t) = made (length e)
 
 abbrev pub form_change : Rule → Env → Process → Change
 form_change r e (leaf l) = no_effect (length e)
 form_change r e (prefix s p) = prefix_change r e s
 form_change r e (fork Pars p q) = summed (length e)
-form_change r e (fork (Cases m t u) p q) = chosen (length e)
+form_change r e (fork (Branches m t u) p q) = chosen (length e)
 
 abbrev pub shape_change : Rule → Env → Shape → Change
 shape_change r e (leaf_at k l) = no_effect (length e)
 shape_change r e (prefix_at k s b) = prefix_change r e s
 shape_change r e (fork_at k Pars a b) = summed (length e)
-shape_change r e (fork_at k (Cases m t u) a b) = chosen (length e)
+shape_change r e (fork_at k (Branches m t u) a b) = chosen (length e)
 
 abbrev pub use_change : Option Effect → Rule → Env → Process → Change
 use_change (Some fs) r e p = subsumed_to (length e) fs

@@ -21,7 +21,7 @@ use Rattle.spi_audit.specs.declared.accounts.Account.{Account}
 use Rattle.spi_audit.specs.declared.notes.Note.{Note}
 use Rattle.spi_audit.specs.declared.notes.Note.TheVariants as N
 use Rattle.spi_count.specs.Keeping.{with_keys, HasKey, HaveKeys, IsKeyed, AreKept}
-use Rattle.spi_audit.specs.Accounts.{Held, Holds}
+use Rattle.spi_audit.specs.Accounts.{Held, HoldsEffects}
 use Rattle.spi_audit.specs.Changes.{Change, nothing_done, no_effect, same_effect, one_left, two_left, served, chosen, checked, begun, ended, ended_many, casted, made, summed, subsumed_to, shape_change, top, after, pays, before, own, scope_in, IsScoped, AreScoped}
 
 abbrev pub AtomVec : Type 0
@@ -35,7 +35,7 @@ pub data NotedAs (s : Store) (keys : Keys) : Change → Note → Type 0 where
   noted_one : {k : ℕ} → NotedAs s keys (one_left k) (N.LeaveOne k)
   noted_two : {k : ℕ} → NotedAs s keys (two_left k) (N.LeaveTwo k)
   noted_serve : {k : ℕ} → NotedAs s keys (served k) (N.Serve k)
-  noted_case : {k : ℕ} → NotedAs s keys (chosen k) (N.Case k)
+  noted_branch : {k : ℕ} → NotedAs s keys (chosen k) (N.Case k)
   noted_check : {k : ℕ} {m : Message} {fs : Effect} {id : MsgId} {t : TyId} → with_keys s keys id.place m
       → Means s t.place (nonce fs) → NotedAs s keys (checked k m fs) (N.Check id t)
   noted_begin : {k : ℕ} {m : Message} {id : MsgId} → slice_get s.messages id.place ≡ Some m
@@ -78,18 +78,18 @@ pub record ChangesOne (s : Store) (keys : Keys) (o : Note) (old : Account) (b : 
 pub record ChangesAll (s : Store) (keys : Keys) (o : Note) (old : List Account) (b : Bool)
     (new : List Account) : Type 0 where
   pub at : (c : Change) (ns : List ℕ) (st : List Effect) → NotedAs s keys c o → IsScoped c
-      → Holds s keys (before c ++ ns) (reverse old) st
-      → Holds s keys (own c ++ ns) (reverse new) (after c st) × (b ≡ pays c st)
+      → HoldsEffects s keys (before c ++ ns) (reverse old) st
+      → HoldsEffects s keys (own c ++ ns) (reverse new) (after c st) × (b ≡ pays c st)
 
 -- a change that is to be made, with what stands behind it
-pub record IsBefore (s : Store) (keys : Keys) (o : Note) (old : List Account) : Type 0 where
+pub record IsBeforeChange (s : Store) (keys : Keys) (o : Note) (old : List Account) : Type 0 where
   pub keyed : IsKeyed s keys
   pub change : Change
   pub scopes : List ℕ
   pub effects : List Effect
   pub noted : NotedAs s keys change o
   pub scoped : IsScoped change
-  pub holds : Holds s keys (before change ++ scopes) (reverse old) effects
+  pub holds : HoldsEffects s keys (before change ++ scopes) (reverse old) effects
 
 -- the same for the change of one account
 pub record IsBeforeOne (s : Store) (keys : Keys) (o : Note) (old : Account) : Type 0 where

@@ -21,7 +21,7 @@ use Rattle.spi_audit.specs.declared.walking.Fit.{Fit}
 use Rattle.spi_audit.specs.declared.walking.Walk.{Walk}
 use Rattle.spi_audit.specs.declared.walking.Walk.TheVariants as W
 use Rattle.spi_audit.specs.Audit.{MisfitAt}
-use Rattle.spi_audit.specs.Asked.{listed, Bound, Located, IsAsked, AreAsked, AreOpen}
+use Rattle.spi_audit.specs.Asked.{listed, Bound, Located, IsTypeAsked, AreAsked, AreOpen}
 use Rattle.spi_audit.specs.Changes.{Change, change_of}
 use Rattle.spi_audit.specs.Notes.{NotedAs, AreNoted, IsSmallNote, AreSmallNotes}
 
@@ -50,13 +50,13 @@ pub data Later (s : Store) (ss : List Shape) (base : ℕ) : ℕ → Env → List
 -- messages in env, and then processes
 pub data Opens (s : Store) (ss : List Shape) (base : ℕ) (env : Env) : List Asked → List Subject → Type 0 where
   opens_message : {a : Asked} {m : Message} {t : Ty} {others : List Asked} {ts : List Subject}
-      → IsAsked s a m t → Opens s ss base env others ts
+      → IsTypeAsked s a m t → Opens s ss base env others ts
       → Opens s ss base env (a ∷ others) (of_message env m t ∷ ts)
   opens_later : {others : List Asked} {ts : List Subject} → Later s ss base (length env) env others ts
       → Opens s ss base env others ts
 
 -- an environment that the judge stands for, and what is asked, the next at the end
-pub record IsState (j : Numbered) (ss : List Shape) (asked : List Asked) (ts : List Subject) : Type 0 where
+pub record IsWalkState (j : Numbered) (ss : List Shape) (asked : List Asked) (ts : List Subject) : Type 0 where
   pub env : Env
   pub stands : Stands j env
   pub enough : j.free ≤ length env
@@ -66,7 +66,7 @@ pub record IsState (j : Numbered) (ss : List Shape) (asked : List Asked) (ts : L
 pub record IsLed (j : Numbered) (ks : Keys) (ss : List Shape) (root : Subject) (us vs : List RuleUse)
     (asked : List Asked) (os : List Note) : Type 0 where
   pub subjects : List Subject
-  pub state : IsState j ss asked subjects
+  pub state : IsWalkState j ss asked subjects
   pub changes : List Change
   pub led : Led (root ∷ []) us changes subjects
   pub noted : AreNoted j.store ks changes os
@@ -84,9 +84,9 @@ pub record IsPlaced (j : Numbered) (ss : List Shape) (i : ℕ) : Type 0 where
   pub located : Located ss i env process
 
 -- a use that fits, with its premises and what is kept of it
-abbrev pub FitsIn : Store → Keys → List Shape → Env → RuleUse → Subject → Option Fit → Type 0
-FitsIn s ks ss e u t None = (ps : List Subject) → Fits u t ps → ⊥
-FitsIn s ks ss e u t (Some f) = (ps : List Subject) × Fits u t ps × AreOpen s ss e (listed f.premises) ps
+abbrev pub UseFitsIn : Store → Keys → List Shape → Env → RuleUse → Subject → Option Fit → Type 0
+UseFitsIn s ks ss e u t None = (ps : List Subject) → Fits u t ps → ⊥
+UseFitsIn s ks ss e u t (Some f) = (ps : List Subject) × Fits u t ps × AreOpen s ss e (listed f.premises) ps
     × NotedAs s ks (change_of u t) f.note
 
 abbrev pub FitsMessageIn : Store → Env → RuleUse → Message → Ty → Option Fit → Type 0
@@ -102,7 +102,7 @@ pub record FitsMessage (old new : Numbered) (u : RuleUse) (id : MsgId) (t : TyId
 pub record FitsNode (old new : Numbered) (ks : Keys) (ss : List Shape) (u : RuleUse) (i : ℕ)
     (r : Option Fit) : Type 0 where
   pub at : (e : Env) (p : Process) → Stands old e → Located ss i e p
-      → FitsIn new.store ks ss e u (of_process e p) r
+      → UseFitsIn new.store ks ss e u (of_process e p) r
 
 -- what is asked next, in some reading of the numbers
 pub record IsOpen (j : Numbered) (ss : List Shape) (next : Asked) : Type 0 where
@@ -133,7 +133,7 @@ Misfits u (t ∷ ts) = (ps : List Subject) → Fits u t ps → ⊥
 -- a use that fits is taken
 abbrev pub Steps : Numbered → Keys → List Shape → RuleUse → List Asked → List Subject → Note → Type 0
 Steps j ks ss u asked [] o = ⊥
-Steps j ks ss u asked (t ∷ ts) o = (ps : List Subject) × Fits u t ps × IsState j ss asked (ps ++ ts)
+Steps j ks ss u asked (t ∷ ts) o = (ps : List Subject) × Fits u t ps × IsWalkState j ss asked (ps ++ ts)
     × NotedAs j.store ks (change_of u t) o
 
 -- what the pass finds of all uses

@@ -13,7 +13,7 @@ ghost use Rattle.spi_count.specs.Sums.{name_bound, message_of, Below};
 ghost use Rattle.spi_count.specs.declared.keys.Keys.{Keys};
 ghost use Rattle.spi_count.specs.Keeping.{IsKeyed, HasKey, HaveKeys};
 ghost use Rattle.spi_count.specs.Adding.{IsKey, SumOf};
-ghost use Rattle.spi_audit.specs.Accounts.{Held, IsHeld, Marks, IsCut, lasting_with, LeavesOne, LeavesTwo, HoldsMore, HoldsLess};
+ghost use Rattle.spi_audit.specs.Accounts.{Held, IsHeld, Marks, IsScopeCut, lasting_with, LeavesOne, LeavesTwo, HoldsMore, HoldsLess};
 
 use crate::NoMemory;
 use spi_count::{AtomKind, Counts, Keys, Sum, add_atom, add_atoms, add_type, take_atom, take_type};
@@ -177,7 +177,7 @@ fn loosen(store: &Store, keys: &Keys, scope: u32, account: &mut Account) -> Resu
 fn cut(store: &Store, keys: &Keys, scope: u32, account: &mut Account) -> Result<bool, NoMemory>
     requires scope { scope ≤ 300000 }
     requires held { IsHeld store.now keys.now account.old }
-    ensures { IfOk result (λ b. IsCut store.now keys.now scope account.old b account.new) }
+    ensures { IfOk result (λ b. IsScopeCut store.now keys.now scope account.old b account.new) }
 {
     if account.sum.reaches((scope as u64 + 1) * 4_294_967_296) {
         loosen(store, keys, scope, account)?;
@@ -194,6 +194,7 @@ fn is_free_of(inside: bool, loose: u64) -> bool
     inside && loose == 0
 }
 
+/// Whether both hold.
 pub fn both(a: bool, b: bool) -> bool
     ensures { result ≡ (a && b) }
 {

@@ -7,7 +7,7 @@ ghost use Rattle.spi_count.specs.declared.keys.Keys.{Keys};
 ghost use Rattle.spi_count.specs.Keeping.{IsKeyed};
 ghost use Rattle.spi_audit.specs.Accounts.{Held, IsHeld};
 ghost use Rattle.spi_audit.specs.Changes.{Change, run, first_unpaid, AreScoped, top};
-ghost use Rattle.spi_audit.specs.Notes.{AreNoted, ChangesOne, ChangesAll, IsBefore, IsBeforeOne, IsSmallNote, IsUnaryNote, AreSmallNotes, IsRooted};
+ghost use Rattle.spi_audit.specs.Notes.{AreNoted, ChangesOne, ChangesAll, IsBeforeChange, IsBeforeOne, IsSmallNote, IsUnaryNote, AreSmallNotes, IsRooted};
 
 use crate::NoMemory;
 use crate::accounts::{
@@ -133,7 +133,7 @@ fn change_top(
     stack: &mut Vec<Account>,
 ) -> Result<bool, NoMemory>
     requires small { IsSmallNote note.now }
-    requires before { IsBefore store.now keys.now note.now stack.old.items }
+    requires before { IsBeforeChange store.now keys.now note.now stack.old.items }
     requires one { IsUnaryNote note.now }
     ensures { IfOk result (λ b. ChangesAll store.now keys.now note.now stack.old.items b stack.new.items) }
 {
@@ -199,14 +199,14 @@ fn both_sides(
     Ok(both(first, second))
 }
 
-fn change_case(
+fn change_branch(
     store: &Store,
     keys: &Keys,
     scope: u32,
     stack: &mut Vec<Account>,
 ) -> Result<bool, NoMemory>
     requires scope { scope ≤ 300000 }
-    requires before { IsBefore store.now keys.now (Note.Case scope) stack.old.items }
+    requires before { IsBeforeChange store.now keys.now (Note.Case scope) stack.old.items }
     ensures { IfOk result
         (λ b. ChangesAll store.now keys.now (Note.Case scope) stack.old.items b stack.new.items) }
 {
@@ -235,14 +235,14 @@ fn change(
     stack: &mut Vec<Account>,
 ) -> Result<bool, NoMemory>
     requires small { IsSmallNote note.now }
-    requires before { IsBefore store.now keys.now note.now stack.old.items }
+    requires before { IsBeforeChange store.now keys.now note.now stack.old.items }
     ensures { IfOk result (λ b. ChangesAll store.now keys.now note.now stack.old.items b stack.new.items) }
 {
     match note {
         Note::Nothing => Ok(true),
         Note::Empty => change_none(alloc, stack),
         Note::Both => change_both(stack),
-        Note::Case(scope) => change_case(store, keys, *scope, stack),
+        Note::Case(scope) => change_branch(store, keys, *scope, stack),
         _ => change_top(alloc, store, keys, note, stack),
     }
 }

@@ -296,7 +296,7 @@ fn branch_typed(
         < 2 ^ 32 }
     ensures answer { IfOk result
         (AnswersFork judge.old judge.new Rule.ProcCase
-        (Term.Cases (message whole.now) (type_of left.now) (type_of right.now)) on_left on_right) }
+        (Term.Branches (message whole.now) (type_of left.now) (type_of right.now)) on_left on_right) }
     ensures kept { IsKept judge.old judge.new }
 {
     if !is_good(alloc, judge, left)? {
@@ -324,7 +324,7 @@ fn branch_untrusted(
 ) -> Result<Option<Premises>, NoMemory>
     ensures answer { IfOk result
         (AnswersFork judge.old judge.new Rule.ProcCaseUn
-        (Term.Cases (message whole.now) (type_of left.now) (type_of right.now)) on_left on_right) }
+        (Term.Branches (message whole.now) (type_of left.now) (type_of right.now)) on_left on_right) }
     ensures kept { IsKept judge.old judge.new }
 {
     if !is_un_type(left) {
@@ -354,7 +354,7 @@ fn of_branch(
         < 2 ^ 32 }
     ensures answer { IfOk result
         (AnswersFork judge.old judge.new rule
-        (Term.Cases (message whole.now) (type_of left.now) (type_of right.now)) on_left on_right) }
+        (Term.Branches (message whole.now) (type_of left.now) (type_of right.now)) on_left on_right) }
     ensures kept { IsKept judge.old judge.new }
 {
     match rule {
@@ -623,7 +623,7 @@ fn of_cast(
 }
 
 #[tactic(auto, using(spi_message::proofs::Tested::kept_more, spi_message::proofs::Tested::kept_same))]
-fn new_good(
+fn fresh_good(
     alloc: Global,
     judge: &mut Judge,
     ty: &Ty,
@@ -631,7 +631,7 @@ fn new_good(
 ) -> Result<Option<Premises>, NoMemory>
     requires { length judge.old.types + ty_nodes (type_of ty.now) < 2 ^ 32 }
     ensures answer { IfOk result
-        (AnswersPrefix judge.old judge.new Rule.ProcNew (Term.Makes (type_of ty.now)) body) }
+        (AnswersPrefix judge.old judge.new Rule.ProcNew (Term.Freshes (type_of ty.now)) body) }
     ensures kept { IsKept judge.old judge.new }
 {
     if !is_fresh_type(ty) {
@@ -653,11 +653,11 @@ fn of_fresh(
     body: u32,
 ) -> Result<Option<Premises>, NoMemory>
     requires { length judge.old.types + ty_nodes (type_of ty.now) < 2 ^ 32 }
-    ensures answer { IfOk result (AnswersPrefix judge.old judge.new rule (Term.Makes (type_of ty.now)) body) }
+    ensures answer { IfOk result (AnswersPrefix judge.old judge.new rule (Term.Freshes (type_of ty.now)) body) }
     ensures kept { IsKept judge.old judge.new }
 {
     match rule {
-        Rule::ProcNew => new_good(alloc, judge, ty, body),
+        Rule::ProcNew => fresh_good(alloc, judge, ty, body),
         _ => Ok(None),
     }
 }

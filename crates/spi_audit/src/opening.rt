@@ -5,7 +5,7 @@ ghost use Rattle.spi_term.specs.Term as Term;
 ghost use Rattle.spi_term.specs.Substitution.{ty_put};
 ghost use Rattle.spi_term.specs.View.{message, ty as type_of};
 ghost use Rattle.spi_message.specs.Judging.{IsKept};
-ghost use Rattle.spi_audit.specs.Asked.{IsAsked, Begins};
+ghost use Rattle.spi_audit.specs.Asked.{IsTypeAsked, Begins};
 
 use crate::NoMemory;
 use crate::asked::{Asked, Binding};
@@ -16,7 +16,7 @@ use std::alloc::Global;
 /// Whether the message has the type.
 #[tactic(auto, using(spi_message::proofs::Tested::kept_more))]
 pub fn asked(alloc: Global, judge: &mut Judge, m: &Msg, t: &Ty) -> Result<Asked, NoMemory>
-    ensures at { IfOk result (λ a. IsAsked judge.new.store a (message m.now) (type_of t.now)) }
+    ensures at { IfOk result (λ a. IsTypeAsked judge.new.store a (message m.now) (type_of t.now)) }
     ensures kept { IsKept judge.old judge.new }
 {
     let id = judge.message(m)?;
@@ -26,7 +26,7 @@ pub fn asked(alloc: Global, judge: &mut Judge, m: &Msg, t: &Ty) -> Result<Asked,
 
 /// Whether the message has type `Un`.
 pub fn asked_untrusted(alloc: Global, judge: &mut Judge, m: &Msg) -> Result<Asked, NoMemory>
-    ensures at { IfOk result (λ a. IsAsked judge.new.store a (message m.now) Term.un) }
+    ensures at { IfOk result (λ a. IsTypeAsked judge.new.store a (message m.now) Term.un) }
     ensures kept { IsKept judge.old judge.new }
 {
     asked(alloc, judge, m, &Ty::Un)

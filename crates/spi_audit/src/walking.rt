@@ -11,7 +11,7 @@ ghost use Rattle.spi_audit.specs.Fits.{Subject, of_process, plain, subsumed};
 ghost use Rattle.spi_audit.specs.Asked.{Bound};
 ghost use Rattle.spi_count.specs.Keeping.{AreKept, GrowsTo};
 ghost use Rattle.spi_audit.specs.Notes.{IsSmallNote};
-ghost use Rattle.spi_audit.specs.Walking.{Settles, IsPlaced, FitsMessage, FitsNode, FitsNext, IsState, IsOpen, Misfits, Steps, IsWalked};
+ghost use Rattle.spi_audit.specs.Walking.{Settles, IsPlaced, FitsMessage, FitsNode, FitsNext, IsWalkState, IsOpen, Misfits, Steps, IsWalked};
 
 use crate::NoMemory;
 use crate::asked::{Asked, Binding, Premises, push_premises};
@@ -218,17 +218,17 @@ fn step(
     requires keys { AreKept judge.old.store keys.old }
     requires usage { IsUse (rule_use u.now) }
     requires state { (ts : List Subject)
-        × IsState judge.old (spelled process.now.names process.now.process) asked.old.items ts
+        × IsWalkState judge.old (spelled process.now.names process.now.process) asked.old.items ts
         × (0 < length ts) }
     ensures misfit { IfOk result
         (λ r. IfNone r
         ((ts : List Subject)
-        → IsState judge.old (spelled process.now.names process.now.process) asked.old.items ts
+        → IsWalkState judge.old (spelled process.now.names process.now.process) asked.old.items ts
         → Misfits (rule_use u.now) ts)) }
     ensures fit { IfOk result
         (λ r. IfSome r
         (λ o. (ts : List Subject)
-        → IsState judge.old (spelled process.now.names process.now.process) asked.old.items ts
+        → IsWalkState judge.old (spelled process.now.names process.now.process) asked.old.items ts
         → Steps judge.new keys.new (spelled process.now.names process.now.process) (rule_use u.now)
         asked.new.items ts o)) }
     ensures small { IfOk result (λ r. IfSome r IsSmallNote) }

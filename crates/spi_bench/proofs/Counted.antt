@@ -5,7 +5,7 @@ use Rattle.spi_term.specs.declared.term.Effect as D
 use Rattle.spi_term.specs.View.{effect}
 use Rattle.spi_term.specs.Term.{process_size}
 use Rattle.spi_term.specs.Term.{Message, bound, name, unit, pair, in_left, in_right, enc, hash, Atom, ends, checks, many, Effect}
-use Rattle.spi_bench.specs.Sums.{shared_name, place_of, same_place, times, at_place, IsPlace, shared_in, AddsAtoms}
+use Rattle.spi_bench.specs.Sums.{shared_name, place_of, same_place, times, at_place, IsSharedPlace, shared_in, AddsAtoms}
 use Rattle.spi_bench.specs.Sums.{nodes, blocked, atoms, placed, of_least, if_none, of_slot}
 use Rattle.spi_bench.specs.declared.slot.Slot.{Slot}
 use Rattle.spi_bench.specs.declared.sums.Sums.{Sums}
@@ -64,7 +64,7 @@ adds_more a b c es fs h g = record {
   atoms = g.atoms ∙ h.atoms;
   at = λ w p.
       let x = h.at w p in
-      let q = subst (λ n. IsPlace n w) (sym h.shared) p in
+      let q = subst (λ n. IsSharedPlace n w) (sym h.shared) p in
       let y = subst (λ n. at_place c w ≡ at_place b w + times b.free n w fs) h.shared (g.at w q) in
       let z = subst (λ k. at_place c w ≡ at_place b w + times k (shared_in a) w fs) h.free y in
       let s = times_append a.free (shared_in a) w es fs in omega arith;
@@ -79,7 +79,7 @@ takes_more a b c es fs h g = record {
   atoms = h.atoms ∙ g.atoms;
   at = λ w p.
       let x = g.at w p in
-      let q = subst (λ n. IsPlace n w) (sym g.shared) p in
+      let q = subst (λ n. IsSharedPlace n w) (sym g.shared) p in
       let y = subst (λ n. at_place a w ≡ at_place b w + times b.free n w es) g.shared (h.at w q) in
       let z = subst (λ k. at_place a w ≡ at_place b w + times k (shared_in c) w es) g.free y in
       let s = times_append c.free (shared_in c) w es fs in omega arith;
@@ -90,14 +90,14 @@ pub prefix_short : {A B : Type 0} (f : A → B) (xs : List A) (n : ℕ) → n < 
 prefix_short f xs n l =
     let a = length-map (take n xs) f in let b = length-map xs f in let c = length-take n xs in omega arith
 
-pub add_room : (a b : Sums) (es fs : Effect) → AddsAtoms a b es → length es + 1 ≤ length fs → ((w : Option ℕ) → IsPlace (shared_in a) w → at_place a w + length fs < 18446744073709551616) → (w : Option ℕ) → IsPlace (shared_in b) w → at_place b w + 1 < 18446744073709551616
+pub add_room : (a b : Sums) (es fs : Effect) → AddsAtoms a b es → length es + 1 ≤ length fs → ((w : Option ℕ) → IsSharedPlace (shared_in a) w → at_place a w + length fs < 18446744073709551616) → (w : Option ℕ) → IsSharedPlace (shared_in b) w → at_place b w + 1 < 18446744073709551616
 add_room a b es fs h l r w p =
-    let q = subst (λ n. IsPlace n w) h.shared p in
+    let q = subst (λ n. IsSharedPlace n w) h.shared p in
     let x = h.at w q in let y = r w q in let z = times_le a.free (shared_in a) w es in omega arith
 
-pub take_room : (a b : Sums) (es gs fs : Effect) (x : Atom) → (es ++ x ∷ []) ++ gs ≡ fs → AddsAtoms b a es → ((w : Option ℕ) → IsPlace (shared_in a) w → times a.free (shared_in a) w fs ≤ at_place a w) → (w : Option ℕ) → IsPlace (shared_in b) w → times b.free (shared_in b) w (x ∷ []) ≤ at_place b w
+pub take_room : (a b : Sums) (es gs fs : Effect) (x : Atom) → (es ++ x ∷ []) ++ gs ≡ fs → AddsAtoms b a es → ((w : Option ℕ) → IsSharedPlace (shared_in a) w → times a.free (shared_in a) w fs ≤ at_place a w) → (w : Option ℕ) → IsSharedPlace (shared_in b) w → times b.free (shared_in b) w (x ∷ []) ≤ at_place b w
 take_room a b es gs fs x e h r w p =
-    let q = subst (λ n. IsPlace n w) (sym h.shared) p in
+    let q = subst (λ n. IsSharedPlace n w) (sym h.shared) p in
     let y = subst (λ ys. times a.free (shared_in a) w ys ≤ at_place a w) (sym e) (r w q) in
     let z = subst (λ n. times a.free n w ((es ++ x ∷ []) ++ gs) ≤ at_place a w) h.shared y in
     let v = subst (λ k. times k (shared_in b) w ((es ++ x ∷ []) ++ gs) ≤ at_place a w) h.free z in

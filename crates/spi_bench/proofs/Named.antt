@@ -1,7 +1,7 @@
 -- A name as the index of a binder, and back.
 use Rattle.std.proofs.Common.{◌≡◌, refl, sym, subst, ℕ, suc, ◌+◌, ◌<◌, ◌≢◌, Bool, true, false, [], ◌∷◌, if◌then◌else◌, ◌==◌, arith, ap, ne_eqb, eq-eqb}
 use Rattle.std.proofs.lemmas.Bool.{eqb-false, eqb-true}
-use Rattle.spi_term.specs.Term.{Message, bound, name, unit, pair, in_left, in_right, enc, hash, ends, checks, many, Effect, Ty, un, unit_ty, pair_ty, sum_ty, key, nonce, Process, Leaf, Sends, Stops, Prefix, Recvs, Serves, Splits, Selects, Decrypts, Checks, Begins, Ends, EndManys, Casts, Makes, Fork, Cases, Pars, leaf, prefix, fork, binds, fork_binds}
+use Rattle.spi_term.specs.Term.{Message, bound, name, unit, pair, in_left, in_right, enc, hash, ends, checks, many, Effect, Ty, un, unit_ty, pair_ty, sum_ty, key, nonce, Process, Leaf, Sends, Stops, Prefix, Recvs, Serves, Splits, Selects, Decrypts, Checks, Begins, Ends, EndManys, Casts, Freshes, Fork, Branches, Pars, leaf, prefix, fork, binds, fork_binds}
 use Rattle.spi_term.specs.Substitution.{effect_map, ty_map, process_map, leaf_map, prefix_map, fork_map, put}
 use Rattle.spi_term.specs.Names.{OfLeaf, OfPrefix, OfFork, MessageOver, OfEffect, OfTy, OfProcess}
 use Rattle.spi_term.proofs.Terms.{binds_map, fork_binds_map}
@@ -38,10 +38,10 @@ module _ (P : ℕ → Message → Type 0) (f g : ℕ → Message → Message) (o
   undone_prefix d (Ends m) h = rw (ok d m h)
   undone_prefix d (EndManys m) h = rw (ok d m h)
   undone_prefix d (Casts m t) h = rw (ok d m h.0, undone_ty d t h.1)
-  undone_prefix d (Makes t) h = rw (undone_ty d t h)
+  undone_prefix d (Freshes t) h = rw (undone_ty d t h)
 
   undone_fork : (d : ℕ) (b : Fork) → OfFork P d b → fork_map g d (fork_map f d b) ≡ b
-  undone_fork d (Cases m t u) h = rw (ok d m h.0, undone_ty d t h.1, undone_ty d u h.2)
+  undone_fork d (Branches m t u) h = rw (ok d m h.0, undone_ty d t h.1, undone_ty d u h.2)
   undone_fork d Pars h = refl
 
   pub undone : (d : ℕ) (p : Process) → OfProcess P d p → process_map g d (process_map f d p) ≡ p
@@ -114,10 +114,10 @@ over_prefix k d (Begins m) h = over_indexed k d m h
 over_prefix k d (Ends m) h = over_indexed k d m h
 over_prefix k d (EndManys m) h = over_indexed k d m h
 over_prefix k d (Casts m t) h = (over_indexed k d m h.0, over_ty k d t h.1)
-over_prefix k d (Makes t) h = over_ty k d t h
+over_prefix k d (Freshes t) h = over_ty k d t h
 
 over_fork : (k d : ℕ) (b : Fork) → OfFork (MessageOver (suc k)) d b → OfFork (MessageOver k) (suc d) (fork_map (indexed k) d b)
-over_fork k d (Cases m t u) h = (over_indexed k d m h.0, over_ty k d t h.1, over_ty k d u h.2)
+over_fork k d (Branches m t u) h = (over_indexed k d m h.0, over_ty k d t h.1, over_ty k d u h.2)
 over_fork k d Pars h = tt
 
 suc_add : (k b : ℕ) → suc (k + b) ≡ suc k + b

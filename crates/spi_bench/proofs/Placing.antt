@@ -12,8 +12,8 @@ use Rattle.spi_rules.specs.Environment.{Env}
 use Rattle.spi_bench.specs.Parts.{named, with_part, without}
 use Rattle.std.proofs.lemmas.Option.{slice_get_within}
 use Rattle.spi_term.specs.declared.term.Effect as D
-use Rattle.spi_bench.specs.Slots.{SetsPart, sets_part, sets_none, SetsLast, sets_last, IsPadded, Puts, Drops, Stays}
-use Rattle.spi_bench.specs.Slots.{part_of, parts_of, StandsAt, AreNamed, IsPart, IsInferred, AreInferred}
+use Rattle.spi_bench.specs.Slots.{SetsPart, sets_part, sets_none, SetsLast, sets_last, IsPadded, PutsPart, Drops, Stays}
+use Rattle.spi_bench.specs.Slots.{part_of, parts_of, SlotStandsAt, AreNamed, IsPartOver, IsInferred, AreInferred}
 use Rattle.spi_bench.specs.declared.slot.Slot.{Slot}
 
 -- texts
@@ -147,12 +147,12 @@ becomes_at u (there {t} g) e = let q : t ≡ u = cc in (refl, sym (ap (λ (v : S
 
 -- the names after the slot with number i becomes x, where it is empty or named n, and no other is named n
 module _ (n : List ℕ) (i : ℕ) (ss : List (Option Slot)) (at to : List ℕ → Option ℕ) (x : Option Slot) (w : Option ℕ) (l : i < length ss) (h : AreNamed ss at) (o : Only n i ss) (old : (u : Slot) → slice_get ss i ≡ Some (Some u) → u.name ≡ n) (b : Becomes n i x w) (here : to n ≡ w) (others : (m : List ℕ) → n ≢ m → to m ≡ at m) where
-  stands_here : (j : ℕ) → w ≡ Some j → StandsAt (slice_set ss i x) j n
+  stands_here : (j : ℕ) → w ≡ Some j → SlotStandsAt (slice_set ss i x) j n
   stands_here j e = go b e
     where
-      go : {y : Option Slot} {v : Option ℕ} → Becomes n i y v → v ≡ Some j → StandsAt (slice_set ss i y) j n
+      go : {y : Option Slot} {v : Option ℕ} → Becomes n i y v → v ≡ Some j → SlotStandsAt (slice_set ss i y) j n
       go gone e = absurd (cc)
-      go (there {t} g) e = let q : i ≡ j = cc in subst (λ k. StandsAt (slice_set ss i (Some t)) k n) q (t, get_here ss i (Some t) l, g)
+      go (there {t} g) e = let q : i ≡ j = cc in subst (λ k. SlotStandsAt (slice_set ss i (Some t)) k n) q (t, get_here ss i (Some t) l, g)
 
   from_here : (j : ℕ) (m : List ℕ) (u : Slot) → slice_get (slice_set ss i x) j ≡ Some (Some u) → u.name ≡ m → j ≡ i → to m ≡ Some j
   from_here j m u e f q =
@@ -162,26 +162,26 @@ module _ (n : List ℕ) (i : ℕ) (ss : List (Option Slot)) (at to : List ℕ �
       let g : n ≡ m = sym r.1 ∙ f in
       subst (λ p. to p ≡ Some j) g (here ∙ r.0 ∙ ap Some (sym q))
 
-  to_there : (m : List ℕ) (j : ℕ) → n ≢ m → StandsAt ss j m → StandsAt (slice_set ss i x) j m
+  to_there : (m : List ℕ) (j : ℕ) → n ≢ m → SlotStandsAt ss j m → SlotStandsAt (slice_set ss i x) j m
   to_there m j d (u, e, f) =
       let q : j ≢ i = λ r. d (sym (old u (subst (λ k. slice_get ss k ≡ Some (Some u)) r e)) ∙ f) in
       (u, get_there ss i j x q ∙ e, f)
 
-  from_there : (m : List ℕ) (j : ℕ) → StandsAt (slice_set ss i x) j m → j ≢ i → StandsAt ss j m
+  from_there : (m : List ℕ) (j : ℕ) → SlotStandsAt (slice_set ss i x) j m → j ≢ i → SlotStandsAt ss j m
   from_there m j (u, e, f) q = (u, sym (get_there ss i j x q) ∙ e, f)
 
   pub named_after : AreNamed (slice_set ss i x) to
   named_after m j = (forth (told_text n m (bytes_eq n m) refl), back (told_place j i))
     where
-      forth : (n ≡ m) ⊎ ((n ≢ m) × (bytes_eq n m ≡ false)) → to m ≡ Some j → StandsAt (slice_set ss i x) j m
-      forth (inl q) e = subst (λ p. StandsAt (slice_set ss i x) j p) q (stands_here j (sym here ∙ ap to q ∙ e))
+      forth : (n ≡ m) ⊎ ((n ≢ m) × (bytes_eq n m ≡ false)) → to m ≡ Some j → SlotStandsAt (slice_set ss i x) j m
+      forth (inl q) e = subst (λ p. SlotStandsAt (slice_set ss i x) j p) q (stands_here j (sym here ∙ ap to q ∙ e))
       forth (inr d) e = to_there m j d.0 ((h m j).0 (sym (others m d.0) ∙ e))
 
-      same : (n ≡ m) ⊎ ((n ≢ m) × (bytes_eq n m ≡ false)) → j ≢ i → StandsAt ss j m → to m ≡ Some j
+      same : (n ≡ m) ⊎ ((n ≢ m) × (bytes_eq n m ≡ false)) → j ≢ i → SlotStandsAt ss j m → to m ≡ Some j
       same (inl q) d (u, e, f) = absurd (d (o j u e (f ∙ sym q)))
       same (inr p) d s = others m p.0 ∙ (h m j).1 s
 
-      back : (j ≡ i) ⊎ (j ≢ i) → StandsAt (slice_set ss i x) j m → to m ≡ Some j
+      back : (j ≡ i) ⊎ (j ≢ i) → SlotStandsAt (slice_set ss i x) j m → to m ≡ Some j
       back (inl q) (u, e, f) = from_here j m u e f q
       back (inr d) s = same (told_text n m (bytes_eq n m) refl) d (from_there m j s d)
 
@@ -200,8 +200,8 @@ inferred_padded : (env : Env) (count : ℕ) (ss : List (Option Slot)) → AreInf
 inferred_padded env count ss h j u e = h j u (get_padded ss j u e)
 
 -- a slot with a part and its least effect
-inferred_slot : (env : Env) (count : ℕ) (t : Slot) (p : Spelling) (least : Option D.Effect) → t.part ≡ p → t.least ≡ least → IsPart env count p least → IsInferred env count t
-inferred_slot env count t p least q m h = subst (λ o. IsPart env count t.part o) (sym m) (subst (λ x. IsPart env count x least) (sym q) h)
+inferred_slot : (env : Env) (count : ℕ) (t : Slot) (p : Spelling) (least : Option D.Effect) → t.part ≡ p → t.least ≡ least → IsPartOver env count p least → IsInferred env count t
+inferred_slot env count t p least q m h = subst (λ o. IsPartOver env count t.part o) (sym m) (subst (λ x. IsPartOver env count x least) (sym q) h)
 
 none_some : {A : Type 0} (u : Slot) (x : Option (Option Slot)) → x ≡ Some None → x ≡ Some (Some u) → A
 none_some u x e f = absurd (cc)
@@ -210,7 +210,7 @@ none_some u x e f = absurd (cc)
 abbrev At : Type 0
 At = List ℕ → Option ℕ
 
-pub puts_there : (n : List ℕ) (p : Spelling) (least : Option D.Effect) (i : ℕ) (r : Option Spelling) (old new : List (Option Slot)) (at : At) → AreNamed old at → at n ≡ Some i → SetsPart i p least r old new → Puts n p least r old new at
+pub puts_there : (n : List ℕ) (p : Spelling) (least : Option D.Effect) (i : ℕ) (r : Option Spelling) (old new : List (Option Slot)) (at : At) → AreNamed old at → at n ≡ Some i → SetsPart i p least r old new → PutsPart n p least r old new at
 puts_there n p least i _ old new at h e (sets_part {s} {t} g f q m w) =
     let (u, v, z) = (h n i).0 e in
     let a : s ≡ u = cc in
@@ -228,7 +228,7 @@ puts_there n p least i _ old new at h e (sets_none g) =
     let (u, v, z) = (h n i).0 e in
     none_some u (slice_get old i) g v
 
-pub puts_last : (n : List ℕ) (p : Spelling) (least : Option D.Effect) (old new : List (Option Slot)) (at to : At) → AreNamed old at → at n ≡ None → SetsLast n p least old new → to n ≡ Some (length old) → ((m : List ℕ) → n ≢ m → to m ≡ at m) → Puts n p least None old new to
+pub puts_last : (n : List ℕ) (p : Spelling) (least : Option D.Effect) (old new : List (Option Slot)) (at to : At) → AreNamed old at → at n ≡ None → SetsLast n p least old new → to n ≡ Some (length old) → ((m : List ℕ) → n ≢ m → to m ≡ at m) → PutsPart n p least None old new to
 puts_last n p least old new at to h e (sets_last {t} f q m w) here others =
     let o = no_name n old at h e in
     let l : length old < length (old ++ None ∷ []) = let a = length-append old (None ∷ []) in omega arith in
@@ -295,11 +295,11 @@ pub lookup_same : {S : Type 0} (m m' : HashMap (List ℕ) ℕ S) → m'.entries 
 lookup_same m m' e n = ap (λ es. lookup (bytes_eq n) es) e
 
 -- after a put that may have failed
-pub done_places : (n : List ℕ) (p : Spelling) (least : Option D.Effect) (old new : List (Option Slot)) (to : At) (r : Result (Option Spelling) Spelling) → IfOk r (λ x. Puts n p least x old new to) → OnErr r (Stays old new to) → AreNamed new to
+pub done_places : (n : List ℕ) (p : Spelling) (least : Option D.Effect) (old new : List (Option Slot)) (to : At) (r : Result (Option Spelling) Spelling) → IfOk r (λ x. PutsPart n p least x old new to) → OnErr r (Stays old new to) → AreNamed new to
 done_places n p least old new to (Ok x) a b = a.places
 done_places n p least old new to (Err x) a b = b.places
 
-pub done_inferred : (n : List ℕ) (p : Spelling) (least : Option D.Effect) (old new : List (Option Slot)) (to : At) (env : Env) (count : ℕ) (r : Result (Option Spelling) Spelling) → IfOk r (λ x. Puts n p least x old new to) → OnErr r (Stays old new to) → AreInferred env count old → IsPart env count p least → AreInferred env count new
+pub done_inferred : (n : List ℕ) (p : Spelling) (least : Option D.Effect) (old new : List (Option Slot)) (to : At) (env : Env) (count : ℕ) (r : Result (Option Spelling) Spelling) → IfOk r (λ x. PutsPart n p least x old new to) → OnErr r (Stays old new to) → AreInferred env count old → IsPartOver env count p least → AreInferred env count new
 done_inferred n p least old new to env count (Ok x) a b h k = a.inferred env count h k
 done_inferred n p least old new to env count (Err x) a b h k = b.inferred env count h
 

@@ -5,7 +5,7 @@ use Rattle.std.proofs.lemmas.List.Sums.{sum_by-set, sum_by_push, sum_by-le-sum_b
 use Rattle.spi_term.specs.Term.{Process, process_size, leaf, prefix, fork}
 use Rattle.spi_term.specs.View.{effect}
 use Rattle.spi_term.specs.declared.term.Effect as D
-use Rattle.spi_bench.specs.Sums.{Measure, nodes, blocked, atoms, placed, times, of_least, if_none, of_slot, total, counted, IsMeasure, shared_in, Adds, AreSums}
+use Rattle.spi_bench.specs.Sums.{Measure, nodes, blocked, atoms, placed, times, of_least, if_none, of_slot, total, counted, IsMeasure, shared_in, AddsSlot, AreSums}
 use Rattle.spi_bench.specs.Parts.{nodes_in}
 use Rattle.spi_bench.specs.Slots.{parts_of}
 use Rattle.spi_bench.specs.declared.slot.Slot.{Slot}
@@ -78,7 +78,7 @@ slot_within s ss i d before h l e m p =
     let z = ap f e in omega arith
 
 -- a slot is emptied, and filled
-pub sums_taken : (s t : Sums) (ss : List (Option Slot)) (i : ℕ) (d before : Option Slot) → AreSums s ss → i < length ss → before ≡ slice_index_or ss i d → Adds t s before → AreSums t (slice_set ss i None)
+pub sums_taken : (s t : Sums) (ss : List (Option Slot)) (i : ℕ) (d before : Option Slot) → AreSums s ss → i < length ss → before ≡ slice_index_or ss i d → AddsSlot t s before → AreSums t (slice_set ss i None)
 sums_taken s t ss i d before h l e a = record {
   each = λ m p.
       let q = subst (λ n. IsMeasure n m) (sym a.shared) p in
@@ -90,7 +90,7 @@ sums_taken s t ss i d before h l e a = record {
       let w = a.each m p in omega arith;
 }
 
-pub sums_added : (s t : Sums) (ss : List (Option Slot)) (i : ℕ) (d empty slot : Option Slot) → AreSums s ss → i < length ss → empty ≡ None → slice_index_or ss i d ≡ empty → Adds s t slot → AreSums t (slice_set ss i slot)
+pub sums_added : (s t : Sums) (ss : List (Option Slot)) (i : ℕ) (d empty slot : Option Slot) → AreSums s ss → i < length ss → empty ≡ None → slice_index_or ss i d ≡ empty → AddsSlot s t slot → AreSums t (slice_set ss i slot)
 sums_added s t ss i d empty slot h l n e a = record {
   each = λ m p.
       let q = subst (λ n. IsMeasure n m) a.shared p in

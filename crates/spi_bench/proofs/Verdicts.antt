@@ -224,17 +224,17 @@ parts_over env c (Some s ∷ ss) h _ in_first = (h 0 s refl).over
 parts_over env c (Some s ∷ ss) h p (in_later i) = parts_over env c ss (later (Some s) ss h) p i
 
 -- the verdict
-abbrev IsWhole : ℕ → List Ty → List (Option Slot) → Type 0
-IsWhole k ts ss = Derivable (untrusted k) (whole k ts (processes ss)) []
+abbrev GivesVerdict : ℕ → List Ty → List (Option Slot) → Type 0
+GivesVerdict k ts ss = Derivable (untrusted k) (whole k ts (processes ss)) []
 
-yes_if : (k : ℕ) (ts : List Ty) (ss : List (Option Slot)) → AreOver k ts → AreInferred (names_of k ts) (k + length ts) ss → AreShared (untrusted k) ts → HaveNoneTwice k (length ts) ss → IsWhole k ts ss
+yes_if : (k : ℕ) (ts : List Ty) (ss : List (Option Slot)) → AreOver k ts → AreInferred (names_of k ts) (k + length ts) ss → AreShared (untrusted k) ts → HaveNoneTwice k (length ts) ss → GivesVerdict k ts ss
 yes_if k ts ss o h g t =
     let l = least_kept (names_of k ts) (k + length ts) k (length ts) ss t.effects h in
     let z = sym (placed_total k (length ts) None ss) ∙ t.others in
     let w = counts_within k ts (sum_of (effects_of ss)) z (λ i b. let a = placed_total k (length ts) (Some i) ss in let c = t.once i b in omega arith) in
     (decided k ts (processes ss) o (parts_over (names_of k ts) (k + length ts) ss h)).1 (g, (effects_of ss, l, w))
 
-only_if : (k : ℕ) (ts : List Ty) (ss : List (Option Slot)) → AreOver k ts → AreInferred (names_of k ts) (k + length ts) ss → IsWhole k ts ss → AreShared (untrusted k) ts × HaveNoneTwice k (length ts) ss
+only_if : (k : ℕ) (ts : List Ty) (ss : List (Option Slot)) → AreOver k ts → AreInferred (names_of k ts) (k + length ts) ss → GivesVerdict k ts ss → AreShared (untrusted k) ts × HaveNoneTwice k (length ts) ss
 only_if k ts ss o h d =
     let (g, (ess, l, w)) = (decided k ts (processes ss) o (parts_over (names_of k ts) (k + length ts) ss h)).0 d in
     let env = names_of k ts in
@@ -250,7 +250,7 @@ only_if k ts ss o h d =
       },
     )
 
-pub verdict_is : (k : ℕ) (ts : List Ty) (ss : List (Option Slot)) → AreOver k ts → AreInferred (names_of k ts) (k + length ts) ss → IsWhole k ts ss ↔ (AreShared (untrusted k) ts × HaveNoneTwice k (length ts) ss)
+pub verdict_is : (k : ℕ) (ts : List Ty) (ss : List (Option Slot)) → AreOver k ts → AreInferred (names_of k ts) (k + length ts) ss → GivesVerdict k ts ss ↔ (AreShared (untrusted k) ts × HaveNoneTwice k (length ts) ss)
 verdict_is k ts ss o h = (only_if k ts ss o h, λ p. yes_if k ts ss o h p.0 p.1)
 
 -- of a bench

@@ -74,8 +74,8 @@ none_is_one env ps h = (to, from)
         n fs (record { over = h p i; has = e })
 
 -- the names from k on stand in none of these atoms
-abbrev Clear : ℕ → Effect → Type 0
-Clear k es = (x : ℕ) → k ≤ x → EffectAvoids x es
+abbrev AreNamesClear : ℕ → Effect → Type 0
+AreNamesClear k es = (x : ℕ) → k ≤ x → EffectAvoids x es
 
 turned : (c : Effect) (rs fs : Effect) → Within rs (c ++ fs) → Within rs (fs ++ c)
 turned c rs fs w = within_trans w (flip fs c)
@@ -98,13 +98,13 @@ whole_over k [] ps a h = together_over k ps (subst (λ n. PartsOver n ps) (no_mo
 whole_over k (t ∷ ts) ps a h = (a.0, over_bound k 0 (whole (suc k) ts ps) (whole_over (suc k) ts ps a.1 (parts_next k t ts ps h)))
 
 -- `new` of the next name
-abbrev Opened : Env → ℕ → Process → Type 0
-Opened env k q = process_put (name (length env)) (process_map (indexed k) 0 q) ≡ q
+abbrev OpensNext : Env → ℕ → Process → Type 0
+OpensNext env k q = process_put (name (length env)) (process_map (indexed k) 0 q) ≡ q
 
-opened : (env : Env) (k : ℕ) (q : Process) → k ≡ length env → ProcessOver (suc k) q → Opened env k q
+opened : (env : Env) (k : ℕ) (q : Process) → k ≡ length env → ProcessOver (suc k) q → OpensNext env k q
 opened env k q e o = subst (λ n. process_put (name n) (process_map (indexed k) 0 q) ≡ q) e (opened_back (suc k) k q o)
 
-new_pays : (env : Env) (k : ℕ) (t : Ty) (q : Process) (es rest : Effect) → k ≡ length env → Opened env k q → Pays [] (extended env t) q es → IsGenerative t → GoodTy [] env t → Within es (checks (name k) ∷ rest) → EffectAvoids k rest → Pays [] env (new_named k t q) rest
+new_pays : (env : Env) (k : ℕ) (t : Ty) (q : Process) (es rest : Effect) → k ≡ length env → OpensNext env k q → Pays [] (extended env t) q es → IsGenerative t → GoodTy [] env t → Within es (checks (name k) ∷ rest) → EffectAvoids k rest → Pays [] env (new_named k t q) rest
 new_pays env k t q es rest e o d i g w a =
     pays_new (subst (λ r. Pays [] (extended env t) r es) (sym o) d) i g (subst (λ n. Within es (checks (name n) ∷ rest)) e w) (subst (λ n. EffectAvoids n rest) e a) (within_refl rest)
 
@@ -115,7 +115,7 @@ record OfNew (env : Env) (k : ℕ) (t : Ty) (q : Process) (fs : Effect) : Type 0
   good : GoodTy [] env t
   within : Within es (checks (name k) ∷ fs)
 
-of_new : (env : Env) (k : ℕ) (t : Ty) (q : Process) (fs : Effect) → k ≡ length env → Opened env k q → Pays [] env (new_named k t q) fs → OfNew env k t q fs
+of_new : (env : Env) (k : ℕ) (t : Ty) (q : Process) (fs : Effect) → k ≡ length env → OpensNext env k q → Pays [] env (new_named k t q) fs → OfNew env k t q fs
 of_new env k t q fs e o (pays_new {es = es} {rest = rest} d i g v a w) = record {
   es = es;
   pays = subst (λ r. Pays [] (extended env t) r es) o d;
@@ -134,11 +134,11 @@ moved c s cs fs w = within_trans w (within_tally (λ a. omega (arith, tally_appe
 moved_back : (c : Atom) (s cs fs : Effect) → Within s (cs ++ c ∷ fs) → Within s ((c ∷ cs) ++ fs)
 moved_back c s cs fs w = within_trans w (within_tally (λ a. omega (arith, tally_append a (c ∷ cs) fs, tally_append a cs (c ∷ fs))))
 
-clear_next : (k : ℕ) (rest : Effect) → Clear k rest → Clear (suc k) (checks (name k) ∷ rest)
+clear_next : (k : ℕ) (rest : Effect) → AreNamesClear k rest → AreNamesClear (suc k) (checks (name k) ∷ rest)
 clear_next k rest c x le = (let n : k ≢ x = omega arith in n, c x (omega arith))
 
 -- where the parts pay with a `check` of each shared name and something more, the whole pays with that
-pub whole_pays : (env : Env) (k : ℕ) (ts : List Ty) (ps : List Process) (s rest : Effect) → k ≡ length env → AreOver k ts → PartsOver (k + length ts) ps → AreShared env ts → Clear k rest → Pays [] (env ++ ts) (together ps) s → Within s (each_check k ts ++ rest) → Pays [] env (whole k ts ps) rest
+pub whole_pays : (env : Env) (k : ℕ) (ts : List Ty) (ps : List Process) (s rest : Effect) → k ≡ length env → AreOver k ts → PartsOver (k + length ts) ps → AreShared env ts → AreNamesClear k rest → Pays [] (env ++ ts) (together ps) s → Within s (each_check k ts ++ rest) → Pays [] env (whole k ts ps) rest
 whole_pays env k [] ps s rest e a h g c d w = pays_more (subst (λ v. Pays [] v (together ps) s) (append-nil env) d) w
 whole_pays env k (t ∷ ts) ps s rest e a h g c d w =
     let h' = parts_next k t ts ps h in
@@ -173,13 +173,13 @@ parts_pay env k (t ∷ ts) ps fs e a h d =
     }
 
 -- the whole is derivable with nothing exactly where the parts pay with a `check` of each shared name
-abbrev pub Decided : Env → ℕ → List Ty → List Process → Type 0
-Decided env k ts ps = AreShared env ts × ((ess : List Effect) × AreLeast (env ++ ts) ps ess × Within (sum_of ess) (each_check k ts))
+abbrev pub IsDecidedByParts : Env → ℕ → List Ty → List Process → Type 0
+IsDecidedByParts env k ts ps = AreShared env ts × ((ess : List Effect) × AreLeast (env ++ ts) ps ess × Within (sum_of ess) (each_check k ts))
 
-no_rest : (k : ℕ) → Clear k []
+no_rest : (k : ℕ) → AreNamesClear k []
 no_rest k x le = tt
 
-from_parts : (env : Env) (k : ℕ) (ts : List Ty) (ps : List Process) → k ≡ length env → AreOver k ts → PartsOver (k + length ts) ps → Decided env k ts ps → Derivable env (whole k ts ps) []
+from_parts : (env : Env) (k : ℕ) (ts : List Ty) (ps : List Process) → k ≡ length env → AreOver k ts → PartsOver (k + length ts) ps → IsDecidedByParts env k ts ps → Derivable env (whole k ts ps) []
 from_parts env k ts ps e a h (g, (ess, l, w)) =
     let d = has_pays (together_is_least (env ++ ts) ps ess l).derivable.has in
     let p = whole_pays env k ts ps (sum_of ess) [] e a h g (no_rest k) d (subst (λ fs. Within (sum_of ess) fs) (sym (append-nil (each_check k ts))) w) in
@@ -189,7 +189,7 @@ from_parts env k ts ps e a h (g, (ess, l, w)) =
 both_length : (env : Env) (k : ℕ) (ts : List Ty) → k ≡ length env → k + length ts ≡ length (env ++ ts)
 both_length env k ts e = rw length-append (omega arith)
 
-to_parts : (env : Env) (k : ℕ) (ts : List Ty) (ps : List Process) → k ≡ length env → AreOver k ts → PartsOver (k + length ts) ps → Derivable env (whole k ts ps) [] → Decided env k ts ps
+to_parts : (env : Env) (k : ℕ) (ts : List Ty) (ps : List Process) → k ≡ length env → AreOver k ts → PartsOver (k + length ts) ps → Derivable env (whole k ts ps) [] → IsDecidedByParts env k ts ps
 to_parts env k ts ps e a h d =
     let p = parts_pay env k ts ps [] e a h (has_pays d.has) in
     (p.shared, ⊎_elim (λ r. paid_by p r.0 r.1) (λ r. blocked_by p r.0 r.1 r.2) (all_or_one (env ++ ts) ps over))
@@ -206,5 +206,5 @@ to_parts env k ts ps e a h d =
         let (fs, b, v) = pays_has d in
         absurd (n fs (record { over = over q i; has = b }))
 
-pub decided : (k : ℕ) (ts : List Ty) (ps : List Process) → AreOver k ts → PartsOver (k + length ts) ps → Derivable (untrusted k) (whole k ts ps) [] ↔ Decided (untrusted k) k ts ps
+pub decided : (k : ℕ) (ts : List Ty) (ps : List Process) → AreOver k ts → PartsOver (k + length ts) ps → Derivable (untrusted k) (whole k ts ps) [] ↔ IsDecidedByParts (untrusted k) k ts ps
 decided k ts ps a h = (to_parts (untrusted k) k ts ps (sym (length_untrusted k)) a h, from_parts (untrusted k) k ts ps (sym (length_untrusted k)) a h)

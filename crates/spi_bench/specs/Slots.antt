@@ -25,21 +25,21 @@ abbrev pub parts_of : List (Option Slot) → List Part
 parts_of ss = map part_of (kept ss)
 
 -- a slot with this name stands there
-abbrev pub StandsAt : List (Option Slot) → ℕ → List ℕ → Type 0
-StandsAt ss i n = (s : Slot) × (slice_get ss i ≡ Some (Some s)) × (s.name ≡ n)
+abbrev pub SlotStandsAt : List (Option Slot) → ℕ → List ℕ → Type 0
+SlotStandsAt ss i n = (s : Slot) × (slice_get ss i ≡ Some (Some s)) × (s.name ≡ n)
 
 -- each name is found exactly where its slot stands
 abbrev pub AreNamed : List (Option Slot) → (List ℕ → Option ℕ) → Type 0
-AreNamed ss at = (n : List ℕ) (i : ℕ) → (at n ≡ Some i) ↔ StandsAt ss i n
+AreNamed ss at = (n : List ℕ) (i : ℕ) → (at n ≡ Some i) ↔ SlotStandsAt ss i n
 
 -- the part is over so many names, and this is its least effect
-pub record IsPart (env : Env) (count : ℕ) (p : Spelling) (o : Option Declared.Effect) : Type 0 where
+pub record IsPartOver (env : Env) (count : ℕ) (p : Spelling) (o : Option Declared.Effect) : Type 0 where
   pub names : p.names ≡ count
   pub over : ProcessOver count p.process
   pub least : IsLeast env p.process o
 
 abbrev pub IsInferred : Env → ℕ → Slot → Type 0
-IsInferred env count s = IsPart env count s.part s.least
+IsInferred env count s = IsPartOver env count s.part s.least
 
 abbrev pub AreInferred : Env → ℕ → List (Option Slot) → Type 0
 AreInferred env count ss = (i : ℕ) (s : Slot) → slice_get ss i ≡ Some (Some s) → IsInferred env count s
@@ -74,12 +74,12 @@ pub data SetsLast (n : List ℕ) (p : Spelling) (least : Option Declared.Effect)
       → SetsLast n p least old new
 
 -- a put: the parts, the part that was there, the places of the names, and what is inferred
-pub record Puts (n : List ℕ) (p : Spelling) (least : Option Declared.Effect) (r : Option Spelling)
+pub record PutsPart (n : List ℕ) (p : Spelling) (least : Option Declared.Effect) (r : Option Spelling)
     (old new : List (Option Slot)) (to : List ℕ → Option ℕ) : Type 0 where
   pub places : AreNamed new to
   pub parts : parts_of new ≡ with_part n p (parts_of old)
   pub before : r ≡ named n (parts_of old)
-  pub inferred : (env : Env) (count : ℕ) → AreInferred env count old → IsPart env count p least
+  pub inferred : (env : Env) (count : ℕ) → AreInferred env count old → IsPartOver env count p least
       → AreInferred env count new
 
 -- a drop

@@ -79,15 +79,15 @@ counted s atoms = s.atoms
 counted s (placed w) = at_place s w
 
 -- n names are shared
-abbrev pub IsPlace : ℕ → Option ℕ → Type 0
-IsPlace n None = ⊤
-IsPlace n (Some i) = i < n
+abbrev pub IsSharedPlace : ℕ → Option ℕ → Type 0
+IsSharedPlace n None = ⊤
+IsSharedPlace n (Some i) = i < n
 
 abbrev pub IsMeasure : ℕ → Measure → Type 0
 IsMeasure n nodes = ⊤
 IsMeasure n blocked = ⊤
 IsMeasure n atoms = ⊤
-IsMeasure n (placed w) = IsPlace n w
+IsMeasure n (placed w) = IsSharedPlace n w
 
 abbrev pub shared_in : Sums → ℕ
 shared_in s = length s.checks.items
@@ -99,7 +99,7 @@ pub record AddsAtoms (old new : Sums) (es : Effect) : Type 0 where
   pub nodes : new.nodes ≡ old.nodes
   pub blocked : new.blocked ≡ old.blocked
   pub atoms : new.atoms ≡ old.atoms
-  pub at : (w : Option ℕ) → IsPlace (shared_in old) w
+  pub at : (w : Option ℕ) → IsSharedPlace (shared_in old) w
       → at_place new w ≡ at_place old w + times old.free (shared_in old) w es
 
 -- a count over slots and of one slot, with the names of these sums
@@ -113,7 +113,7 @@ abbrev pub times_in : Sums → Option ℕ → Effect → ℕ
 times_in s w es = times s.free (shared_in s) w es
 
 -- a slot is counted too
-pub record Adds (old new : Sums) (s : Option Slot) : Type 0 where
+pub record AddsSlot (old new : Sums) (s : Option Slot) : Type 0 where
   pub free : new.free ≡ old.free
   pub shared : shared_in new ≡ shared_in old
   pub each : (m : Measure) → IsMeasure (shared_in old) m

@@ -3,7 +3,7 @@ ghost use Rattle.std.specs.Prelude.{◌≡◌, ◌↔◌, ◌+◌, ◌<◌, ◌�
 ghost use Rattle.std.specs.Str.{bytes_eq};
 ghost use Rattle.indexmap.specs.IndexMap.{get, IsUnchanged, Updates};
 ghost use Rattle.spi_term.specs.Term.{process_size};
-ghost use Rattle.spi_bench.specs.Slots.{AreNamed, IsPadded, SetsPart, SetsLast, Puts, Drops, Stays};
+ghost use Rattle.spi_bench.specs.Slots.{AreNamed, IsPadded, SetsPart, SetsLast, PutsPart, Drops, Stays};
 ghost use Rattle.spi_bench.specs.Sums.{of_least, total_in, shared_in};
 ghost use Rattle.spi_bench.specs.Sums as S;
 
@@ -105,7 +105,7 @@ fn put_in(
         < 2 ^ 64 }
     requires atoms { total_in table.old.sums S.atoms table.old.slots.items + of_least length least < 2 ^ 64 }
     ensures ok { IfOk result
-        (λ r. Puts name.now part least r table.old.slots.items table.new.slots.items
+        (λ r. PutsPart name.now part least r table.old.slots.items table.new.slots.items
         (get bytes_eq places.new)) }
     ensures err { OnErr result (Stays table.old.slots.items table.new.slots.items (get bytes_eq places.new)) }
     ensures part { IfErr result (λ p. p ≡ part) }
@@ -135,7 +135,7 @@ pub fn put_fitting(
     requires nodes { total_in table.old.sums S.nodes table.old.slots.items + process_size part.process
         < 2 ^ 64 }
     ensures ok { IfOk result
-        (λ r. Puts name.now part least r table.old.slots.items table.new.slots.items
+        (λ r. PutsPart name.now part least r table.old.slots.items table.new.slots.items
         (get bytes_eq places.new)) }
     ensures err { OnErr result (Stays table.old.slots.items table.new.slots.items (get bytes_eq places.new)) }
     ensures part { IfErr result (λ p. p ≡ part) }

@@ -1,7 +1,7 @@
 // What is counted over the parts.
 ghost use Rattle.std.specs.Prelude.{◌≡◌, ◌↔◌, ◌+◌, ◌<◌, ◌≤◌, ◌^◌, ◌∷◌, ℕ, [], Option, length, IfOk, IsTrue};
 ghost use Rattle.spi_term.specs.View.{message, atom, effect};
-ghost use Rattle.spi_bench.specs.Sums.{shared_name, place_of, times_in, Measure, slot_in, at_place, counted, shared_in, IsPlace, IsMeasure, AddsAtoms, Adds, ArePaid};
+ghost use Rattle.spi_bench.specs.Sums.{shared_name, place_of, times_in, Measure, slot_in, at_place, counted, shared_in, IsSharedPlace, IsMeasure, AddsAtoms, AddsSlot, ArePaid};
 
 use crate::NoMemory;
 use crate::slot::Slot;
@@ -84,7 +84,7 @@ impl Sums {
     }
 
     fn add_atom(&mut self, a: &Atom)
-        requires { (w : Option ℕ) → IsPlace (shared_in self.old) w → at_place self.old w + 1 < 2 ^ 64 }
+        requires { (w : Option ℕ) → IsSharedPlace (shared_in self.old) w → at_place self.old w + 1 < 2 ^ 64 }
         ensures { AddsAtoms self.old self.new (atom a.now ∷ []) }
     {
         match place(self.free, self.checks.len(), a) {
@@ -94,7 +94,7 @@ impl Sums {
     }
 
     fn take_atom(&mut self, a: &Atom)
-        requires { (w : Option ℕ) → IsPlace (shared_in self.old) w
+        requires { (w : Option ℕ) → IsSharedPlace (shared_in self.old) w
             → times_in self.old w (atom a.now ∷ []) ≤ at_place self.old w }
         ensures { AddsAtoms self.new self.old (atom a.now ∷ []) }
     {
@@ -105,7 +105,7 @@ impl Sums {
     }
 
     fn add_atoms(&mut self, e: &Effect)
-        requires { (w : Option ℕ) → IsPlace (shared_in self.old) w
+        requires { (w : Option ℕ) → IsSharedPlace (shared_in self.old) w
             → at_place self.old w + length (effect e.now) < 2 ^ 64 }
         ensures { AddsAtoms self.old self.new (effect e.now) }
     {
@@ -115,7 +115,7 @@ impl Sums {
     }
 
     fn take_atoms(&mut self, e: &Effect)
-        requires { (w : Option ℕ) → IsPlace (shared_in self.old) w
+        requires { (w : Option ℕ) → IsSharedPlace (shared_in self.old) w
             → times_in self.old w (effect e.now) ≤ at_place self.old w }
         ensures { AddsAtoms self.new self.old (effect e.now) }
     {
@@ -128,9 +128,9 @@ impl Sums {
     pub fn add(&mut self, slot: &Option<Slot>)
         requires room { (m : Measure) → IsMeasure (shared_in self.old) m
             → counted self.old m + slot_in self.old m slot.now < 2 ^ 64 }
-        requires atoms { (w : Option ℕ) → IsPlace (shared_in self.old) w
+        requires atoms { (w : Option ℕ) → IsSharedPlace (shared_in self.old) w
             → at_place self.old w ≤ self.old.atoms }
-        ensures { Adds self.old self.new slot.now }
+        ensures { AddsSlot self.old self.new slot.now }
     {
         if let Some(slot) = slot {
             self.nodes += slot.part.len() as u64;
@@ -148,7 +148,7 @@ impl Sums {
     pub fn take(&mut self, slot: &Option<Slot>)
         requires { (m : Measure) → IsMeasure (shared_in self.old) m
             → slot_in self.old m slot.now ≤ counted self.old m }
-        ensures { Adds self.new self.old slot.now }
+        ensures { AddsSlot self.new self.old slot.now }
     {
         if let Some(slot) = slot {
             self.nodes -= slot.part.len() as u64;

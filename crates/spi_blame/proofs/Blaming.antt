@@ -12,9 +12,9 @@ use Rattle.spi_effect.proofs.Made.{same_sound, same_complete}
 use Rattle.spi_term.proofs.Counting.{same_ty_refl}
 use Rattle.spi_rules.specs.Environment.{Env}
 use Rattle.spi_rules.specs.Messages.{HasType, msg_name, msg_unit, msg_unit_un, msg_pair, msg_pair_un, msg_inl, msg_inl_un, msg_inr, msg_inr_un, msg_enc, msg_enc_un, msg_hash, msg_cast, IsLabel, label_name, label_unit, label_pair, label_inl, label_inr, label_enc, label_hash}
-use Rattle.spi_blame.specs.Blaming.{Question, typed, labelled, Holds, subject, IsKeyName, Asks, asks_name, asks_unit, asks_unit_un, asks_pair, asks_pair_un, asks_left, asks_left_un, asks_right, asks_right_un, asks_key, asks_enc, asks_hash, asks_label_name, asks_label_unit, asks_label_pair, asks_label_left, asks_label_right, asks_label_key, asks_label_enc, asks_label_hash, IsMisfit, EachHolds, HoldBefore, Blamed, itself, inside}
+use Rattle.spi_blame.specs.Blaming.{Question, typed, labelled, AnswersYes, subject, IsKeyName, Asks, asks_name, asks_unit, asks_unit_un, asks_pair, asks_pair_un, asks_left, asks_left_un, asks_right, asks_right_un, asks_key, asks_enc, asks_hash, asks_label_name, asks_label_unit, asks_label_pair, asks_label_left, asks_label_right, asks_label_key, asks_label_enc, asks_label_hash, IsMisfit, EachHolds, HoldBefore, Blamed, itself, inside}
 use Rattle.spi_blame.specs.Paths.{Reaches, reaches_itself, reaches_inside, IsLeftOf, turns_here, turns_further, ChildAt, child_first, child_second, child_left, child_right, child_body, child_key, child_hash, PartAt, part_whole, part_inside}
-use Rattle.spi_blame.specs.Reasons.{Fits, IsUnscoped, loose, unknown, Reason, mismatched, unscoped, Mismatch, has_other, never_has}
+use Rattle.spi_blame.specs.Reasons.{MayHaveType, IsUnscoped, loose, unknown, Reason, mismatched, unscoped, Mismatch, has_other, never_has}
 
 key_named : {env : Env} {x : ℕ} {t : Ty} → At env x (key t) → IsKeyName env (name x)
 key_named {env} {x} {t} a = record { number = x; payload = t; is = refl; has = a }
@@ -53,15 +53,15 @@ asks_one asks_label_hash asks_label_hash = refl
 pub each_none : (env : Env) → EachHolds env []
 each_none env i r a = elim a [ ]
 
-pub each_more : (env : Env) (q : Question) {qs : List Question} → Holds env q → EachHolds env qs → EachHolds env (q ∷ qs)
+pub each_more : (env : Env) (q : Question) {qs : List Question} → AnswersYes env q → EachHolds env qs → EachHolds env (q ∷ qs)
 each_more env q {qs} h f i r a = at a
   where
-    at : {i : ℕ} {r : Question} → At (q ∷ qs) i r → Holds env r
+    at : {i : ℕ} {r : Question} → At (q ∷ qs) i r → AnswersYes env r
     at at_first = h
     at (at_later {x = x} {i = i} b) = f i x b
 
 -- where those hold, it does
-pub asks_holds : {env : Env} {q : Question} {qs : List Question} → Asks env q qs → EachHolds env qs → Holds env q
+pub asks_holds : {env : Env} {q : Question} {qs : List Question} → Asks env q qs → EachHolds env qs → AnswersYes env q
 asks_holds (asks_name a s) h = msg_name a s
 asks_holds asks_unit h = msg_unit
 asks_holds asks_unit_un h = msg_unit_un
@@ -90,10 +90,10 @@ Down env q = (qs : List Question) × Asks env q qs × EachHolds env qs
 down_none : {env : Env} {q : Question} → Asks env q [] → Down env q
 down_none k = ([], k, each_none _)
 
-down_one : {env : Env} {q a : Question} → Asks env q (a ∷ []) → Holds env a → Down env q
+down_one : {env : Env} {q a : Question} → Asks env q (a ∷ []) → AnswersYes env a → Down env q
 down_one {a = a} k h = (a ∷ [], k, each_more _ a h (each_none _))
 
-down_two : {env : Env} {q a b : Question} → Asks env q (a ∷ b ∷ []) → Holds env a → Holds env b → Down env q
+down_two : {env : Env} {q a b : Question} → Asks env q (a ∷ b ∷ []) → AnswersYes env a → AnswersYes env b → Down env q
 down_two {a = a} {b} k h j = (a ∷ b ∷ [], k, each_more _ a h (each_more _ b j (each_none _)))
 
 -- a name of a Key type has that type
@@ -139,7 +139,7 @@ label_asks (label_enc h) = enc_asks h
     enc_asks (msg_cast i s) = elim i [ ]
 label_asks (label_hash h) = down_one asks_label_hash h
 
-pub holds_asks : {env : Env} (q : Question) → Holds env q → Down env q
+pub holds_asks : {env : Env} (q : Question) → AnswersYes env q → Down env q
 holds_asks (typed m t) h = typed_asks h
 holds_asks (labelled m) h = label_asks h
 
@@ -147,7 +147,7 @@ neither : (i j : ℕ) → (i < j → ⊥) → (j < i → ⊥) → i ≡ j
 neither i j f g = elim (cases_order i j) [ inl e ↦ e | inr r ↦ elim r [ inl l ↦ absurd (f l) | inr l ↦ absurd (g l) ] ]
 
 -- not both
-pub blamed_no : {env : Env} {q r : Question} {path : List ℕ} → Blamed env q path r → Holds env q → ⊥
+pub blamed_no : {env : Env} {q r : Question} {path : List ℕ} → Blamed env q path r → AnswersYes env q → ⊥
 blamed_no (itself {q} n) h = let (qs, k, each) = holds_asks q h in n qs k
 blamed_no {env} (inside {q} {r = r} {i = i} k a f b) h = let (qs, j, each) = holds_asks q h in blamed_no b (subst (λ l. EachHolds env l) (asks_one j k) each i r a)
 
@@ -168,13 +168,13 @@ blamed_unique {env} {r = s} {s = z} (inside {r = r} {qs = qs} {i = i} {path = p}
 
 -- one of them
 pub data Answer (env : Env) (q : Question) : Type 0 where
-  yes : Holds env q → Answer env q
+  yes : AnswersYes env q → Answer env q
   no : {path : List ℕ} {r : Question} → Blamed env q path r → Answer env q
 
-pub before_second : (env : Env) (a b : Question) → Holds env a → HoldBefore env (a ∷ b ∷ []) 1
+pub before_second : (env : Env) (a b : Question) → AnswersYes env a → HoldBefore env (a ∷ b ∷ []) 1
 before_second env a b h j r lt at = go at lt
   where
-    go : {j : ℕ} {r : Question} → At (a ∷ b ∷ []) j r → j < 1 → Holds env r
+    go : {j : ℕ} {r : Question} → At (a ∷ b ∷ []) j r → j < 1 → AnswersYes env r
     go at_first lt = h
     go (at_later i) lt = absurd (omega arith)
 
@@ -249,7 +249,7 @@ label_answer env x = ⊎_elim (λ h. none (asks_label_name h.1)) (λ n. no (itse
     unknown n (asks_label_name b) = n _ b
 
 -- a row is for a form that fits
-pub asks_fits : {env : Env} {m : Message} {t : Ty} {qs : List Question} → Asks env (typed m t) qs → Fits m t
+pub asks_fits : {env : Env} {m : Message} {t : Ty} {qs : List Question} → Asks env (typed m t) qs → MayHaveType m t
 asks_fits (asks_name a s) = tt
 asks_fits _ = tt
 
@@ -283,11 +283,11 @@ pub answer : (env : Env) (q : Question) → Answer env q
 answer env (typed m t) = answer_typed env m t
 answer env (labelled m) = answer_label env m
 
-pub blamed_where_no : {env : Env} {q : Question} → (Holds env q → ⊥) → (path : List ℕ) × (r : Question) × Blamed env q path r
+pub blamed_where_no : {env : Env} {q : Question} → (AnswersYes env q → ⊥) → (path : List ℕ) × (r : Question) × Blamed env q path r
 blamed_where_no {env} {q} n = elim (answer env q) [ yes h ↦ absurd (n h) | no {path} {r} b ↦ (path, r, b) ]
 
 -- what a question that holds comes down to holds
-pub reached_holds : {env : Env} {q s : Question} {o : List ℕ} → Reaches env q o s → Holds env q → Holds env s
+pub reached_holds : {env : Env} {q s : Question} {o : List ℕ} → Reaches env q o s → AnswersYes env q → AnswersYes env s
 reached_holds reaches_itself h = h
 reached_holds {env} (reaches_inside {q = q} {r = r} {i = i} k a d) h =
     let (rs, j, each) = holds_asks q h in reached_holds d (subst (λ l. EachHolds env l) (asks_one j k) each i r a)
@@ -301,7 +301,7 @@ pub blamed_misfit : {env : Env} {q r : Question} {path : List ℕ} → Blamed en
 blamed_misfit (itself n) = n
 blamed_misfit (inside k a f b) = blamed_misfit b
 
-pub blamed_before : {env : Env} {q r s : Question} {path o : List ℕ} → Blamed env q path r → Reaches env q o s → IsLeftOf o path → Holds env s
+pub blamed_before : {env : Env} {q r s : Question} {path o : List ℕ} → Blamed env q path r → Reaches env q o s → IsLeftOf o path → AnswersYes env s
 blamed_before (itself n) d l = elim l [ ]
 blamed_before (inside k a f b) reaches_itself l = elim l [ ]
 blamed_before {env} (inside {qs = qs} k a f b) (reaches_inside {r = w} {qs = rs} {i = j} k' a' d') (turns_here lt) =
@@ -310,7 +310,7 @@ blamed_before {env} {s = s} (inside {r = r} {qs = qs} {i = i} k a f b) (reaches_
     let e : w ≡ r = at_unique (subst (λ l. At l i w) (asks_one k' k) a') a in
     blamed_before b (subst (λ v. Reaches env v o s) e d') l
 
-pub first_blamed : {env : Env} {q r : Question} {path : List ℕ} → Reaches env q path r → IsMisfit env r → ((o : List ℕ) (s : Question) → Reaches env q o s → IsLeftOf o path → Holds env s) → Blamed env q path r
+pub first_blamed : {env : Env} {q r : Question} {path : List ℕ} → Reaches env q path r → IsMisfit env r → ((o : List ℕ) (s : Question) → Reaches env q o s → IsLeftOf o path → AnswersYes env s) → Blamed env q path r
 first_blamed reaches_itself n f = itself n
 first_blamed (reaches_inside {i = i} k a d) n f =
     inside k a (λ j w lt at. f (j ∷ []) w (reaches_inside k at reaches_itself) (turns_here lt))

@@ -5,7 +5,7 @@ use Rattle.spi_term.specs.Lists.{At, at_first, at_later}
 use Rattle.spi_term.proofs.Lists.{at_unique}
 use Rattle.spi_term.specs.Term.{Message, un}
 use Rattle.spi_rules.specs.Environment.{Env}
-use Rattle.spi_blame.specs.Blaming.{Question, typed, Holds, subject, IsKeyName, Asks, asks_pair, asks_pair_un, asks_left, asks_left_un, asks_right, asks_right_un, asks_key, asks_enc, asks_hash, asks_label_pair, asks_label_left, asks_label_right, asks_label_key, asks_label_enc, asks_label_hash, HoldBefore, Blamed, itself, inside}
+use Rattle.spi_blame.specs.Blaming.{Question, typed, AnswersYes, subject, IsKeyName, Asks, asks_pair, asks_pair_un, asks_left, asks_left_un, asks_right, asks_right_un, asks_key, asks_enc, asks_hash, asks_label_pair, asks_label_left, asks_label_right, asks_label_key, asks_label_enc, asks_label_hash, HoldBefore, Blamed, itself, inside}
 use Rattle.spi_blame.specs.Paths.{IsLeftOf, turns_here, turns_further, ChildAt, child_first, child_second, child_left, child_right, child_body, child_key, child_hash}
 use Rattle.spi_blame.specs.Mending.{asked_of, put_child, Swapped, swap_whole, swap_inside}
 use Rattle.spi_blame.proofs.Blaming.{no_key, key_typed, asks_one, blamed_no, child_asked}
@@ -24,15 +24,15 @@ put_named d child_first k = absurd (cc (k.is))
 put_named d _ k = absurd (cc (k.is))
 
 -- a mended key is no name of a Key type
-key_kept : {env : Env} {w r : Question} {p : List ℕ} {m n c d : Message} → Blamed env w p r → Holds env (asked_of r n) → w ≡ typed m un → Swapped c p n d → IsKeyName env d → ⊥
-key_kept {env} (itself x) h e (swap_whole {n = n}) k = no_key (subst (λ v. Holds env (asked_of v n)) e h) k
+key_kept : {env : Env} {w r : Question} {p : List ℕ} {m n c d : Message} → Blamed env w p r → AnswersYes env (asked_of r n) → w ≡ typed m un → Swapped c p n d → IsKeyName env d → ⊥
+key_kept {env} (itself x) h e (swap_whole {n = n}) k = no_key (subst (λ v. AnswersYes env (asked_of v n)) e h) k
 key_kept (inside k a f b) h e (swap_inside {d = y} d s) x = put_named y d x
 
 abbrev New : Env → Question → List Question → Message → ℕ → Question → Type 0
 New env q qs c i w = (rs : List Question) × Asks env (asked_of q (put_child (subject q) i c)) rs × At rs i (asked_of w c) × ((j : ℕ) (v : Question) → j < i → At rs j v → At qs j v)
 
-abbrev Step : Env → Question → List Question → Message → ℕ → Question → Type 0
-Step env q qs c i w = (Holds env w → ⊥) → ((m : Message) → w ≡ typed m un → IsKeyName env c → ⊥) → New env q qs c i w
+abbrev MendsByOne : Env → Question → List Question → Message → ℕ → Question → Type 0
+MendsByOne env q qs c i w = (AnswersYes env w → ⊥) → ((m : Message) → w ≡ typed m un → IsKeyName env c → ⊥) → New env q qs c i w
 
 none_case : (P : ℕ → Question → Type 0) {i : ℕ} {w : Question} → At [] i w → P i w
 none_case P x = elim x [ ]
@@ -56,23 +56,23 @@ before_one {a} {b} {c} j v lt at = go at lt
     go at_first lt = at_first
     go (at_later x) lt = absurd (omega arith)
 
-step : {env : Env} {q w : Question} {qs : List Question} {i : ℕ} (c : Message) → Asks env q qs → At qs i w → Step env q qs c i w
-step {env} {q} {w} {qs} c asks_pair a = two_case (Step env q qs c) a (λ h z. (_, asks_pair, at_first, before_none)) (λ h z. (_, asks_pair, at_later at_first, before_one))
-step {env} {q} {w} {qs} c asks_pair_un a = two_case (Step env q qs c) a (λ h z. (_, asks_pair_un, at_first, before_none)) (λ h z. (_, asks_pair_un, at_later at_first, before_one))
-step {env} {q} {w} {qs} c asks_left a = one_case (Step env q qs c) a (λ h z. (_, asks_left, at_first, before_none))
-step {env} {q} {w} {qs} c asks_left_un a = one_case (Step env q qs c) a (λ h z. (_, asks_left_un, at_first, before_none))
-step {env} {q} {w} {qs} c asks_right a = one_case (Step env q qs c) a (λ h z. (_, asks_right, at_first, before_none))
-step {env} {q} {w} {qs} c asks_right_un a = one_case (Step env q qs c) a (λ h z. (_, asks_right_un, at_first, before_none))
-step {env} {q} {w} {qs} c (asks_key b) a = two_case (Step env q qs c) a (λ h z. absurd (h (key_typed b))) (λ h z. (_, asks_key b, at_later at_first, before_one))
-step {env} {q} {w} {qs} c (asks_enc n) a = two_case (Step env q qs c) a (λ h z. (_, asks_enc (z _ refl), at_first, before_none)) (λ h z. (_, asks_enc n, at_later at_first, before_one))
-step {env} {q} {w} {qs} c asks_hash a = one_case (Step env q qs c) a (λ h z. (_, asks_hash, at_first, before_none))
-step {env} {q} {w} {qs} c asks_label_pair a = two_case (Step env q qs c) a (λ h z. (_, asks_label_pair, at_first, before_none)) (λ h z. (_, asks_label_pair, at_later at_first, before_one))
-step {env} {q} {w} {qs} c asks_label_left a = one_case (Step env q qs c) a (λ h z. (_, asks_label_left, at_first, before_none))
-step {env} {q} {w} {qs} c asks_label_right a = one_case (Step env q qs c) a (λ h z. (_, asks_label_right, at_first, before_none))
-step {env} {q} {w} {qs} c (asks_label_key b) a = two_case (Step env q qs c) a (λ h z. absurd (h (key_typed b))) (λ h z. (_, asks_label_key b, at_later at_first, before_one))
-step {env} {q} {w} {qs} c (asks_label_enc n) a = two_case (Step env q qs c) a (λ h z. (_, asks_label_enc (z _ refl), at_first, before_none)) (λ h z. (_, asks_label_enc n, at_later at_first, before_one))
-step {env} {q} {w} {qs} c asks_label_hash a = one_case (Step env q qs c) a (λ h z. (_, asks_label_hash, at_first, before_none))
-step {env} {q} {w} {qs} c _ a = none_case (Step env q qs c) a
+step : {env : Env} {q w : Question} {qs : List Question} {i : ℕ} (c : Message) → Asks env q qs → At qs i w → MendsByOne env q qs c i w
+step {env} {q} {w} {qs} c asks_pair a = two_case (MendsByOne env q qs c) a (λ h z. (_, asks_pair, at_first, before_none)) (λ h z. (_, asks_pair, at_later at_first, before_one))
+step {env} {q} {w} {qs} c asks_pair_un a = two_case (MendsByOne env q qs c) a (λ h z. (_, asks_pair_un, at_first, before_none)) (λ h z. (_, asks_pair_un, at_later at_first, before_one))
+step {env} {q} {w} {qs} c asks_left a = one_case (MendsByOne env q qs c) a (λ h z. (_, asks_left, at_first, before_none))
+step {env} {q} {w} {qs} c asks_left_un a = one_case (MendsByOne env q qs c) a (λ h z. (_, asks_left_un, at_first, before_none))
+step {env} {q} {w} {qs} c asks_right a = one_case (MendsByOne env q qs c) a (λ h z. (_, asks_right, at_first, before_none))
+step {env} {q} {w} {qs} c asks_right_un a = one_case (MendsByOne env q qs c) a (λ h z. (_, asks_right_un, at_first, before_none))
+step {env} {q} {w} {qs} c (asks_key b) a = two_case (MendsByOne env q qs c) a (λ h z. absurd (h (key_typed b))) (λ h z. (_, asks_key b, at_later at_first, before_one))
+step {env} {q} {w} {qs} c (asks_enc n) a = two_case (MendsByOne env q qs c) a (λ h z. (_, asks_enc (z _ refl), at_first, before_none)) (λ h z. (_, asks_enc n, at_later at_first, before_one))
+step {env} {q} {w} {qs} c asks_hash a = one_case (MendsByOne env q qs c) a (λ h z. (_, asks_hash, at_first, before_none))
+step {env} {q} {w} {qs} c asks_label_pair a = two_case (MendsByOne env q qs c) a (λ h z. (_, asks_label_pair, at_first, before_none)) (λ h z. (_, asks_label_pair, at_later at_first, before_one))
+step {env} {q} {w} {qs} c asks_label_left a = one_case (MendsByOne env q qs c) a (λ h z. (_, asks_label_left, at_first, before_none))
+step {env} {q} {w} {qs} c asks_label_right a = one_case (MendsByOne env q qs c) a (λ h z. (_, asks_label_right, at_first, before_none))
+step {env} {q} {w} {qs} c (asks_label_key b) a = two_case (MendsByOne env q qs c) a (λ h z. absurd (h (key_typed b))) (λ h z. (_, asks_label_key b, at_later at_first, before_one))
+step {env} {q} {w} {qs} c (asks_label_enc n) a = two_case (MendsByOne env q qs c) a (λ h z. (_, asks_label_enc (z _ refl), at_first, before_none)) (λ h z. (_, asks_label_enc n, at_later at_first, before_one))
+step {env} {q} {w} {qs} c asks_label_hash a = one_case (MendsByOne env q qs c) a (λ h z. (_, asks_label_hash, at_first, before_none))
+step {env} {q} {w} {qs} c _ a = none_case (MendsByOne env q qs c) a
 
 -- the new blame, if any, once it's known for the part
 further : {env : Env} {q s : Question} {qs rs : List Question} {i : ℕ} {p o : List ℕ} (w : Question) (c : Message) → HoldBefore env qs i → Asks env q rs → At rs i (asked_of w c) → ((j : ℕ) (v : Question) → j < i → At rs j v → At qs j v) → ((o : List ℕ) → Blamed env (asked_of w c) o s → IsLeftOf p o) → Blamed env q o s → IsLeftOf (i ∷ p) o
@@ -86,7 +86,7 @@ further {env} {s = s} {rs = rs} {i = i} {p = p} w c f k a g rec (inside {r = v} 
       | inr x ↦ elim x [ inl lt ↦ absurd (blamed_no b (f j v lt (g j v lt at))) | inr lt ↦ turns_here lt ]
     ]
 
-pub mended : {env : Env} {q r s : Question} {p o : List ℕ} {n m : Message} → Blamed env q p r → Holds env (asked_of r n) → Swapped (subject q) p n m → Blamed env (asked_of q m) o s → IsLeftOf p o
+pub mended : {env : Env} {q r s : Question} {p o : List ℕ} {n m : Message} → Blamed env q p r → AnswersYes env (asked_of r n) → Swapped (subject q) p n m → Blamed env (asked_of q m) o s → IsLeftOf p o
 mended (itself x) h swap_whole b = absurd (blamed_no b h)
 mended {env} {s = s} {n = n} (inside {q = q} {r = w} {i = i} {path = p} k a f b) h (swap_inside {c = c} {d = d} ch sw) b' =
     let e : c ≡ subject w = child_one ch (child_asked k a) in

@@ -9,8 +9,8 @@ use Rattle.spi_rules.specs.Environment.{Env}
 use Rattle.spi_term.specs.SameTy.{SameTy}
 use Rattle.spi_rules.specs.Messages.{HasType, msg_name, msg_cast, IsLabel}
 use Rattle.spi_term.specs.Substitution.{ty_put}
-use Rattle.spi_blame.specs.Blaming.{Question, typed, labelled, Holds, IsKeyName, Asks, asks_name, asks_label_name, asks_key, asks_label_key, IsMisfit, Blamed, itself, inside}
-use Rattle.spi_blame.specs.Told.{asked, Tells, IsKeyFor}
+use Rattle.spi_blame.specs.Blaming.{Question, typed, labelled, AnswersYes, IsKeyName, Asks, asks_name, asks_label_name, asks_key, asks_label_key, IsMisfit, Blamed, itself, inside}
+use Rattle.spi_blame.specs.Told.{asked, TellsBlame, IsKeyFor}
 use Rattle.spi_blame.proofs.Blaming.{asks_holds, each_none, each_more, before_second, key_typed}
 use Rattle.spi_blame.specs.declared.blame.Blame.{Blame}
 
@@ -20,24 +20,24 @@ told_itself {env} {q} {r} {path} n e f = subst (λ p. Blamed env q p r) (sym e) 
 moved : {env : Env} {q r s : Question} {p o : List ℕ} → Blamed env q p r → o ≡ p → s ≡ r → Blamed env q o s
 moved {env} {q} {r} {s} {p} {o} b e f = subst (λ v. Blamed env q o v) (sym f) (subst (λ l. Blamed env q l r) (sym e) b)
 
-pub first_told : {env : Env} {q a : Question} {qs : List Question} {o : Option Blame} {b : Blame} (d : Blame) → Asks env q (a ∷ qs) → Tells env a o → o ≡ Some b → reverse d.steps.items ≡ 0 ∷ reverse b.steps.items → d.part ≡ b.part → d.wanted ≡ b.wanted → Blamed env q (reverse d.steps.items) (asked d.part d.wanted)
+pub first_told : {env : Env} {q a : Question} {qs : List Question} {o : Option Blame} {b : Blame} (d : Blame) → Asks env q (a ∷ qs) → TellsBlame env a o → o ≡ Some b → reverse d.steps.items ≡ 0 ∷ reverse b.steps.items → d.part ≡ b.part → d.wanted ≡ b.wanted → Blamed env q (reverse d.steps.items) (asked d.part d.wanted)
 first_told {env} {q} {a} {o = o} {b = b} d k t is e f g =
-    let h : Blamed env a (reverse b.steps.items) (asked b.part b.wanted) = subst (λ v. Tells env a v) is t in
+    let h : Blamed env a (reverse b.steps.items) (asked b.part b.wanted) = subst (λ v. TellsBlame env a v) is t in
     moved (inside k at_first (λ j r lt a. absurd (omega arith)) h) e cc
 
-pub second_told : {env : Env} {q a b : Question} {o u : Option Blame} {x : Blame} (d : Blame) → Asks env q (a ∷ b ∷ []) → Tells env a o → Tells env b u → o ≡ None → u ≡ Some x → reverse d.steps.items ≡ 1 ∷ reverse x.steps.items → d.part ≡ x.part → d.wanted ≡ x.wanted → Blamed env q (reverse d.steps.items) (asked d.part d.wanted)
+pub second_told : {env : Env} {q a b : Question} {o u : Option Blame} {x : Blame} (d : Blame) → Asks env q (a ∷ b ∷ []) → TellsBlame env a o → TellsBlame env b u → o ≡ None → u ≡ Some x → reverse d.steps.items ≡ 1 ∷ reverse x.steps.items → d.part ≡ x.part → d.wanted ≡ x.wanted → Blamed env q (reverse d.steps.items) (asked d.part d.wanted)
 second_told {env} {q} {a} {b} {o} {u} {x} d k t v is is' e f g =
-    let h : Holds env a = subst (λ v. Tells env a v) is t in
-    let j : Blamed env b (reverse x.steps.items) (asked x.part x.wanted) = subst (λ v. Tells env b v) is' v in
+    let h : AnswersYes env a = subst (λ v. TellsBlame env a v) is t in
+    let j : Blamed env b (reverse x.steps.items) (asked x.part x.wanted) = subst (λ v. TellsBlame env b v) is' v in
     moved (inside k (at_later at_first) (before_second env a b h) j) e cc
 
-pub one_told : {env : Env} {q a : Question} {o : Option Blame} → Asks env q (a ∷ []) → Tells env a o → o ≡ None → Holds env q
-one_told {env} {q} {a} k t is = let h : Holds env a = subst (λ v. Tells env a v) is t in asks_holds k (each_more _ a h (each_none _))
+pub one_told : {env : Env} {q a : Question} {o : Option Blame} → Asks env q (a ∷ []) → TellsBlame env a o → o ≡ None → AnswersYes env q
+one_told {env} {q} {a} k t is = let h : AnswersYes env a = subst (λ v. TellsBlame env a v) is t in asks_holds k (each_more _ a h (each_none _))
 
-pub two_told : {env : Env} {q a b : Question} {o u : Option Blame} → Asks env q (a ∷ b ∷ []) → Tells env a o → Tells env b u → o ≡ None → u ≡ None → Holds env q
+pub two_told : {env : Env} {q a b : Question} {o u : Option Blame} → Asks env q (a ∷ b ∷ []) → TellsBlame env a o → TellsBlame env b u → o ≡ None → u ≡ None → AnswersYes env q
 two_told {env} {q} {a} {b} k t v is is' =
-    let h : Holds env a = subst (λ v. Tells env a v) is t in
-    let j : Holds env b = subst (λ v. Tells env b v) is' v in
+    let h : AnswersYes env a = subst (λ v. TellsBlame env a v) is t in
+    let j : AnswersYes env b = subst (λ v. TellsBlame env b v) is' v in
     asks_holds k (each_more _ a h (each_more _ b j (each_none _)))
 
 pub keyed : {env : Env} {x : ℕ} {s u : Ty} → slice_get env x ≡ Some s → s ≡ key u → IsKeyFor env (name x) u
@@ -60,7 +60,7 @@ pub label_for : {env : Env} {m n : Message} {t : Ty} → IsKeyFor env n t → As
 label_for {env} {m} {n} {t} k = subst (λ n. Asks env (labelled (enc m n)) (typed n (key t) ∷ typed m t ∷ [])) (sym k.1) (asks_label_key k.2)
 
 -- the key of such a name holds
-pub key_holds : {env : Env} {n : Message} {t : Ty} → IsKeyFor env n t → Holds env (typed n (key t))
+pub key_holds : {env : Env} {n : Message} {t : Ty} → IsKeyFor env n t → AnswersYes env (typed n (key t))
 key_holds {env} {n} {t} k = subst (λ n. HasType [] env n (key t)) (sym k.1) (key_typed k.2)
 
 pub weaker : {E : Type 0} (r : Result (Option Blame) E) {P Q : Option Blame → Type 0} → ((o : Option Blame) → P o → Q o) → IfOk r P → IfOk r Q
@@ -68,17 +68,17 @@ weaker (Ok o) f h = f o h
 weaker (Err e) f h = h
 
 -- an answer put together from those of one part, and of two. The questions are as the program has them, and equal to the row's
-pub one_ok : {E : Type 0} (env : Env) (q q' a a' : Question) (part : Option Blame) (r : Result (Option Blame) E) → q ≡ q' → a ≡ a' → Asks env q' (a' ∷ []) → Tells env a part → IfOk r (λ o. (env : Env) (q a : Question) → Asks env q (a ∷ []) → Tells env a part → Tells env q o) → IfOk r (λ o. Tells env q o)
-one_ok env q q' a a' part r e f k t h = weaker r (λ o g. subst (λ v. Tells env v o) (sym e) (g env q' a' k (subst (λ v. Tells env v part) f t))) h
+pub one_ok : {E : Type 0} (env : Env) (q q' a a' : Question) (part : Option Blame) (r : Result (Option Blame) E) → q ≡ q' → a ≡ a' → Asks env q' (a' ∷ []) → TellsBlame env a part → IfOk r (λ o. (env : Env) (q a : Question) → Asks env q (a ∷ []) → TellsBlame env a part → TellsBlame env q o) → IfOk r (λ o. TellsBlame env q o)
+one_ok env q q' a a' part r e f k t h = weaker r (λ o g. subst (λ v. TellsBlame env v o) (sym e) (g env q' a' k (subst (λ v. TellsBlame env v part) f t))) h
 
-pub two_ok : {E : Type 0} (env : Env) (q q' a a' b b' : Question) (first second : Option Blame) (r : Result (Option Blame) E) → q ≡ q' → a ≡ a' → b ≡ b' → Asks env q' (a' ∷ b' ∷ []) → Tells env a first → Tells env b second → IfOk r (λ o. (env : Env) (q a b : Question) → Asks env q (a ∷ b ∷ []) → Tells env a first → Tells env b second → Tells env q o) → IfOk r (λ o. Tells env q o)
-two_ok env q q' a a' b b' first second r e f g k t v h = weaker r (λ o w. subst (λ v. Tells env v o) (sym e) (w env q' a' b' k (subst (λ v. Tells env v first) f t) (subst (λ x. Tells env x second) g v))) h
+pub two_ok : {E : Type 0} (env : Env) (q q' a a' b b' : Question) (first second : Option Blame) (r : Result (Option Blame) E) → q ≡ q' → a ≡ a' → b ≡ b' → Asks env q' (a' ∷ b' ∷ []) → TellsBlame env a first → TellsBlame env b second → IfOk r (λ o. (env : Env) (q a b : Question) → Asks env q (a ∷ b ∷ []) → TellsBlame env a first → TellsBlame env b second → TellsBlame env q o) → IfOk r (λ o. TellsBlame env q o)
+two_ok env q q' a a' b b' first second r e f g k t v h = weaker r (λ o w. subst (λ v. TellsBlame env v o) (sym e) (w env q' a' b' k (subst (λ v. TellsBlame env v first) f t) (subst (λ x. TellsBlame env x second) g v))) h
 
 -- of the body of {M}N, where N is a name of a Key type
-pub keyed_ok : {E : Type 0} (env : Env) (q q' k a a' : Question) (part : Option Blame) (r : Result (Option Blame) E) → q ≡ q' → a ≡ a' → Asks env q' (k ∷ a' ∷ []) → Holds env k → Tells env a part → IfOk r (λ o. (env : Env) (q k a : Question) → Asks env q (k ∷ a ∷ []) → Holds env k → Tells env a part → Tells env q o) → IfOk r (λ o. Tells env q o)
-keyed_ok env q q' k a a' part r e f j h t w = weaker r (λ o g. subst (λ v. Tells env v o) (sym e) (g env q' k a' j h (subst (λ v. Tells env v part) f t))) w
+pub keyed_ok : {E : Type 0} (env : Env) (q q' k a a' : Question) (part : Option Blame) (r : Result (Option Blame) E) → q ≡ q' → a ≡ a' → Asks env q' (k ∷ a' ∷ []) → AnswersYes env k → TellsBlame env a part → IfOk r (λ o. (env : Env) (q k a : Question) → Asks env q (k ∷ a ∷ []) → AnswersYes env k → TellsBlame env a part → TellsBlame env q o) → IfOk r (λ o. TellsBlame env q o)
+keyed_ok env q q' k a a' part r e f j h t w = weaker r (λ o g. subst (λ v. TellsBlame env v o) (sym e) (g env q' k a' j h (subst (λ v. TellsBlame env v part) f t))) w
 
-pub itself_ok : {E : Type 0} (env : Env) (q : Question) (r : Result (Option Blame) E) → IsMisfit env q → IfOk r (λ o. (env : Env) → IsMisfit env q → Tells env q o) → IfOk r (λ o. Tells env q o)
+pub itself_ok : {E : Type 0} (env : Env) (q : Question) (r : Result (Option Blame) E) → IsMisfit env q → IfOk r (λ o. (env : Env) → IsMisfit env q → TellsBlame env q o) → IfOk r (λ o. TellsBlame env q o)
 itself_ok env q r n h = weaker r (λ o g. g env n) h
 
 -- names

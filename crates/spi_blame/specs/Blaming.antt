@@ -13,9 +13,9 @@ pub data Question : Type 0 where
   labelled : (part : Message) → Question
 
 -- the answer is yes
-abbrev pub Holds : Env → Question → Type 0
-Holds env (typed m t) = HasType [] env m t
-Holds env (labelled m) = IsLabel [] env m
+abbrev pub AnswersYes : Env → Question → Type 0
+AnswersYes env (typed m t) = HasType [] env m t
+AnswersYes env (labelled m) = IsLabel [] env m
 
 -- the message that is asked about
 abbrev pub subject : Question → Message
@@ -64,11 +64,11 @@ IsMisfit env q = (qs : List Question) → Asks env q qs → ⊥
 
 -- each answer is yes
 abbrev pub EachHolds : Env → List Question → Type 0
-EachHolds env qs = (i : ℕ) (r : Question) → At qs i r → Holds env r
+EachHolds env qs = (i : ℕ) (r : Question) → At qs i r → AnswersYes env r
 
 -- each answer before number i is yes
 abbrev pub HoldBefore : Env → List Question → ℕ → Type 0
-HoldBefore env qs i = (j : ℕ) (r : Question) → j < i → At qs j r → Holds env r
+HoldBefore env qs i = (j : ℕ) (r : Question) → j < i → At qs j r → AnswersYes env r
 
 -- Blamed env q path r: r is to blame for q's no. It stands at the end of the path, no rule is for it, and what is asked
 -- before it holds

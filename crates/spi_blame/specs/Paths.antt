@@ -1,6 +1,6 @@
 -- The blamed part by its place alone: the parts of a message by their paths, and which path is left of which.
 use Rattle.std.specs.Prelude.{ℕ, ◌<◌, List, [], ◌∷◌}
-use Rattle.spi_blame.specs.Blaming.{Question, Holds, Asks, IsMisfit}
+use Rattle.spi_blame.specs.Blaming.{Question, AnswersYes, Asks, IsMisfit}
 use Rattle.spi_rules.specs.Environment.{Env}
 use Rattle.spi_term.specs.Lists.{At}
 use Rattle.spi_term.specs.Term.{Message, pair, in_left, in_right, enc, hash}
@@ -20,7 +20,7 @@ pub data IsLeftOf : List ℕ → List ℕ → Type 0 where
 pub record IsFirstMisfit (env : Env) (q : Question) (path : List ℕ) (r : Question) : Type 0 where
   pub reached : Reaches env q path r
   pub misfit : IsMisfit env r
-  pub before : (o : List ℕ) (s : Question) → Reaches env q o s → IsLeftOf o path → Holds env s
+  pub before : (o : List ℕ) (s : Question) → Reaches env q o s → IsLeftOf o path → AnswersYes env s
 
 -- part number i of a message: of {M}N the key N is part 0, and M is part 1
 pub data ChildAt : Message → ℕ → Message → Type 0 where

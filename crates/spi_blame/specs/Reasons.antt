@@ -8,15 +8,15 @@ use Rattle.spi_term.specs.Term.{Message, bound, name, unit, pair, in_left, in_ri
 
 -- A message of this outermost form may have a type of this one: a name any, each other message Un, and (), (M, N), inl(M)
 -- and inr(M) those of their own forms
-abbrev pub Fits : Message → Ty → Type 0
-Fits (name x) t = ⊤
-Fits (bound i) t = ⊥
-Fits m un = ⊤
-Fits unit unit_ty = ⊤
-Fits (pair m n) (pair_ty t u) = ⊤
-Fits (in_left m) (sum_ty t u) = ⊤
-Fits (in_right m) (sum_ty t u) = ⊤
-Fits _ _ = ⊥
+abbrev pub MayHaveType : Message → Ty → Type 0
+MayHaveType (name x) t = ⊤
+MayHaveType (bound i) t = ⊥
+MayHaveType m un = ⊤
+MayHaveType unit unit_ty = ⊤
+MayHaveType (pair m n) (pair_ty t u) = ⊤
+MayHaveType (in_left m) (sum_ty t u) = ⊤
+MayHaveType (in_right m) (sum_ty t u) = ⊤
+MayHaveType _ _ = ⊥
 
 -- an index with no binder, or a name that is not in scope
 pub data IsUnscoped (env : Env) : Message → Type 0 where
@@ -26,7 +26,7 @@ pub data IsUnscoped (env : Env) : Message → Type 0 where
 -- a name has another type than the one that is asked, or no message of this form has such a type
 pub data Mismatch (env : Env) : Question → Type 0 where
   has_other : {x : ℕ} {s t : Ty} → At env x s → (SameTy s t → ⊥) → Mismatch env (typed (name x) t)
-  never_has : {m : Message} {t : Ty} → (Fits m t → ⊥) → Mismatch env (typed m t)
+  never_has : {m : Message} {t : Ty} → (MayHaveType m t → ⊥) → Mismatch env (typed m t)
 
 -- why no rule is for a question
 pub data Reason (env : Env) : Question → Type 0 where

@@ -1,6 +1,6 @@
 -- What the program's answer says.
 use Rattle.std.specs.Prelude.{◌≡◌, ℕ, reverse, Option, Some, None}
-use Rattle.spi_blame.specs.Blaming.{Question, typed, labelled, Holds, Blamed}
+use Rattle.spi_blame.specs.Blaming.{Question, typed, labelled, AnswersYes, Blamed}
 use Rattle.spi_blame.specs.declared.blame.Blame.{Blame}
 use Rattle.spi_rules.specs.Environment.{Env}
 use Rattle.spi_term.specs.Lists.{At}
@@ -16,9 +16,9 @@ asked m None = labelled (message m)
 asked m (Some t) = typed (message m) (ty t)
 
 -- nothing where the question holds, and else what is to blame
-abbrev pub Tells : Env → Question → Option Blame → Type 0
-Tells env q None = Holds env q
-Tells env q (Some b) = Blamed env q (reverse b.steps.items) (asked b.part b.wanted)
+abbrev pub TellsBlame : Env → Question → Option Blame → Type 0
+TellsBlame env q None = AnswersYes env q
+TellsBlame env q (Some b) = Blamed env q (reverse b.steps.items) (asked b.part b.wanted)
 
 -- the message is a name of type Key(t)
 abbrev pub IsKeyFor : Env → Message → Term.Ty → Type 0

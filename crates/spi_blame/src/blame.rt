@@ -5,8 +5,8 @@ ghost use Rattle.spi_term.specs.Term.{name, key, Ty as Sort};
 ghost use Rattle.spi_term.specs.View.{message, ty};
 ghost use Rattle.spi_rules.specs.Environment.{Env as Names};
 ghost use Rattle.spi_rules.specs.Messages.{HasType};
-ghost use Rattle.spi_blame.specs.Blaming.{Question, typed, labelled, Asks, IsMisfit, IsKeyName, Holds};
-ghost use Rattle.spi_blame.specs.Told.{Tells, IsKeyFor};
+ghost use Rattle.spi_blame.specs.Blaming.{Question, typed, labelled, Asks, IsMisfit, IsKeyName, AnswersYes};
+ghost use Rattle.spi_blame.specs.Told.{TellsBlame, IsKeyFor};
 
 use crate::NoMemory;
 use spi_rules::Env;
@@ -46,7 +46,7 @@ fn below(b: Blame, step: u32) -> Result<Blame, NoMemory>
 // What is to blame for the no of a message that asks one question, from the answer for it.
 fn of_one(part: Option<Blame>) -> Result<Option<Blame>, NoMemory>
     ensures { IfOk result (λ o. (env : Names) (q a : Question)
-        → Asks env q (a ∷ []) → Tells env a part → Tells env q o) }
+        → Asks env q (a ∷ []) → TellsBlame env a part → TellsBlame env q o) }
 {
     match part {
         None => Ok(None),
@@ -57,7 +57,7 @@ fn of_one(part: Option<Blame>) -> Result<Option<Blame>, NoMemory>
 // The same where it asks two.
 fn of_two(first: Option<Blame>, second: Option<Blame>) -> Result<Option<Blame>, NoMemory>
     ensures { IfOk result (λ o. (env : Names) (q a b : Question)
-        → Asks env q (a ∷ b ∷ []) → Tells env a first → Tells env b second → Tells env q o) }
+        → Asks env q (a ∷ b ∷ []) → TellsBlame env a first → TellsBlame env b second → TellsBlame env q o) }
 {
     match first {
         Some(d) => Ok(Some(below(d, 0)?)),
@@ -71,7 +71,7 @@ fn of_two(first: Option<Blame>, second: Option<Blame>) -> Result<Option<Blame>, 
 // The same of {M}N, where N has the type that its own question asks, from the answer for M.
 fn of_body(body: Option<Blame>) -> Result<Option<Blame>, NoMemory>
     ensures { IfOk result (λ o. (env : Names) (q k a : Question)
-        → Asks env q (k ∷ a ∷ []) → Holds env k → Tells env a body → Tells env q o) }
+        → Asks env q (k ∷ a ∷ []) → AnswersYes env k → TellsBlame env a body → TellsBlame env q o) }
 {
     of_two(None, body)
 }
@@ -79,7 +79,7 @@ fn of_body(body: Option<Blame>) -> Result<Option<Blame>, NoMemory>
 // The whole message: no rule is for it at this type.
 fn itself(alloc: Global, m: &Msg, t: &Ty) -> Result<Option<Blame>, NoMemory>
     ensures { IfOk result (λ o. (env : Names)
-        → IsMisfit env (typed (message m.now) (ty t.now)) → Tells env (typed (message m.now) (ty t.now)) o) }
+        → IsMisfit env (typed (message m.now) (ty t.now)) → TellsBlame env (typed (message m.now) (ty t.now)) o) }
 {
     Ok(Some(Blame {
         steps: Vec::new(alloc),
@@ -91,7 +91,7 @@ fn itself(alloc: Global, m: &Msg, t: &Ty) -> Result<Option<Blame>, NoMemory>
 // The whole message: no rule is for it as a label.
 fn no_label(alloc: Global, m: &Msg) -> Result<Option<Blame>, NoMemory>
     ensures { IfOk result (λ o. (env : Names)
-        → IsMisfit env (labelled (message m.now)) → Tells env (labelled (message m.now)) o) }
+        → IsMisfit env (labelled (message m.now)) → TellsBlame env (labelled (message m.now)) o) }
 {
     Ok(Some(Blame {
         steps: Vec::new(alloc),
@@ -138,7 +138,7 @@ fn has_type(env: &Env, x: u32, t: &Ty) -> bool
 /// The first part that lacks what typing asks of it, where the message is no label. `None` where it is one.
 #[cycle(lacks)]
 pub fn lacking_label(alloc: Global, env: &Env, m: &Msg) -> Result<Option<Blame>, NoMemory>
-    ensures { IfOk result (λ o. Tells env.now (labelled (message m.now)) o) }
+    ensures { IfOk result (λ o. TellsBlame env.now (labelled (message m.now)) o) }
 {
     match m {
         Msg::Name(x) => match env.get(*x) {
@@ -169,7 +169,7 @@ pub fn lacking_label(alloc: Global, env: &Env, m: &Msg) -> Result<Option<Blame>,
 /// The first part that lacks what typing asks of it, where the message lacks the type. `None` where it has the type.
 #[cycle(lacks)]
 pub fn lacking(alloc: Global, env: &Env, m: &Msg, t: &Ty) -> Result<Option<Blame>, NoMemory>
-    ensures { IfOk result (λ o. Tells env.now (typed (message m.now) (ty t.now)) o) }
+    ensures { IfOk result (λ o. TellsBlame env.now (typed (message m.now) (ty t.now)) o) }
 {
     match m {
         Msg::Name(x) => {

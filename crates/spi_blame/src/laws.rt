@@ -5,16 +5,16 @@ ghost use Rattle.spi_term.specs.Term.{Message, Ty};
 ghost use Rattle.spi_term.specs.Names.{MessageOver};
 ghost use Rattle.spi_rules.specs.Environment.{Env};
 ghost use Rattle.spi_rules.specs.Messages.{HasType, IsLabel};
-ghost use Rattle.spi_blame.specs.Blaming.{Question, typed, labelled, subject, Holds, Asks, EachHolds, Blamed, IsMisfit};
+ghost use Rattle.spi_blame.specs.Blaming.{Question, typed, labelled, subject, AnswersYes, Asks, EachHolds, Blamed, IsMisfit};
 ghost use Rattle.spi_blame.specs.Paths.{IsFirstMisfit, PartAt, IsLeftOf};
-ghost use Rattle.spi_blame.specs.Reasons.{Reason, Mismatch, Fits};
+ghost use Rattle.spi_blame.specs.Reasons.{Reason, Mismatch, MayHaveType};
 ghost use Rattle.spi_blame.specs.Mending.{asked_of, Swapped};
 
 /// What a question asks is what the typing rules ask: it holds exactly where it asks questions that each hold, and it asks
 /// one list of them.
 pub fn asks_are_the_rules()
     ensures rules { (env : Env) (q : Question)
-        → Holds env q ↔ ((qs : List Question) × Asks env q qs × EachHolds env qs) }
+        → AnswersYes env q ↔ ((qs : List Question) × Asks env q qs × EachHolds env qs) }
     ensures one { (env : Env) (q : Question) (qs rs : List Question)
         → Asks env q qs → Asks env q rs → qs ≡ rs }
 {}
@@ -45,7 +45,7 @@ pub fn blamed_is_first()
 /// that no message of this form has, in no environment.
 pub fn misfits_have_reasons()
     ensures reason { (env : Env) (q : Question) → IsMisfit env q ↔ Reason env q }
-    ensures never { (m : Message) (t : Ty) → (Fits m t → ⊥) → (env : Env) → HasType [] env m t → ⊥ }
+    ensures never { (m : Message) (t : Ty) → (MayHaveType m t → ⊥) → (env : Env) → HasType [] env m t → ⊥ }
 {}
 
 /// Where each name of the message is in scope, what is to blame is a name that has another type, or a message whose form
@@ -61,6 +61,6 @@ pub fn blamed_is_mismatch()
 /// to its right.
 pub fn mending_moves_right()
     ensures { (env : Env) (q r s : Question) (p o : List ℕ) (n m : Message)
-        → Blamed env q p r → Holds env (asked_of r n) → Swapped (subject q) p n m
+        → Blamed env q p r → AnswersYes env (asked_of r n) → Swapped (subject q) p n m
         → Blamed env (asked_of q m) o s → IsLeftOf p o }
 {}

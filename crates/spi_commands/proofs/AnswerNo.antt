@@ -5,7 +5,7 @@ use Rattle.spi_scope.specs.declared.file.File.{File}
 use Rattle.spi_scope.specs.Files.{meant, Marked, marked}
 use Rattle.spi_scope.specs.Places.{place_in}
 use Rattle.spi_scope.specs.Chains.{chain_at}
-use Rattle.spi_fault.specs.Faults.{Told, IsFault}
+use Rattle.spi_fault.specs.Faults.{ToldFault, IsFault}
 use Rattle.spi_report.specs.Fault.{fault_text}
 use Rattle.spi_commands.specs.declared.answer.Answer.{Answer}
 use Rattle.spi_commands.specs.declared.answer.Stop.{Stop}
@@ -27,7 +27,7 @@ names_of m i = reverse (chain_at m.scopes i)
 pub stands_within : (bytes : List ℕ) (f : File) (i : ℕ) → IsRead bytes f → (place_of (marked f) i).from ≤ length bytes
 stands_within bytes f i (tree, is, stands, marks) = subst (λ m. (place_of m i).from ≤ length bytes) (sym marks) (place_within bytes tree is i)
 
-pub no_line : (bytes output : List ℕ) (f : File) (fault : Told) → IsRead bytes f → IsFault (names_of (marked f)) f.process.names f.process.process fault → output ≡ fault_text bytes (place_of (marked f)) (names_of (marked f)) fault → IsNo bytes output
+pub no_line : (bytes output : List ℕ) (f : File) (fault : ToldFault) → IsRead bytes f → IsFault (names_of (marked f)) f.process.names f.process.process fault → output ≡ fault_text bytes (place_of (marked f)) (names_of (marked f)) fault → IsNo bytes output
 no_line bytes output f fault (tree, is, stands, marks) h e = (
   tree,
   meant f,
@@ -38,7 +38,7 @@ no_line bytes output f fault (tree, is, stands, marks) h e = (
   subst (λ m. output ≡ fault_text bytes (place_of m) (names_of m) fault) marks e,
 )
 
-pub rejects : (bytes : List ℕ) (f : File) (fault : Told) (result : Result Answer Stop) → IsRead bytes f → IsFault (names_of (marked f)) f.process.names f.process.process fault
+pub rejects : (bytes : List ℕ) (f : File) (fault : ToldFault) (result : Result Answer Stop) → IsRead bytes f → IsFault (names_of (marked f)) f.process.names f.process.process fault
     → IfOk result (λ a. (a.status ≡ No) × (a.output.items ≡ fault_text bytes (place_of (marked f)) (names_of (marked f)) fault)) → IfOk result (λ a. (a.status ≡ No) × IsNo bytes a.output.items)
 rejects bytes f fault (Ok a) r is h = (h.0, no_line bytes a.output.items f fault r is h.1)
 rejects bytes f fault (Err e) r is h = tt

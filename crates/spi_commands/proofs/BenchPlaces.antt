@@ -25,7 +25,7 @@ use Rattle.spi_edits.specs.Grammar.{edit_pieces, bench_pieces, placed, whole_ben
 use Rattle.spi_edits.proofs.EditRows.{edit_behind}
 use Rattle.spi_heading.proofs.Each.{each_behind}
 use Rattle.spi_workbench.specs.Reading.{behind_shared, file_with, heading_file}
-use Rattle.spi_workbench.specs.Answers.{edit_span, IsRefused, wrong_part, too_large, unknown, Refuses, too_many_shared, wrong_heading, too_many_edits, wrong_edit}
+use Rattle.spi_workbench.specs.Answers.{edit_span, IsEditRefused, wrong_part, too_large, unknown, RefusesEdits, too_many_shared, wrong_heading, too_many_edits, wrong_edit}
 use Rattle.spi_workbench.specs.declared.answer.Refusal.{Refusal}
 use Rattle.spi_report.specs.Names.{name_of}
 use Rattle.spi_commands.specs.Benching.{IsBenchOf, bench_number, bench_place, IsUnjudged, unjudged, RefusesBench}
@@ -219,12 +219,12 @@ module _ (bytes : List ℕ) (b : Bench) (is : IsBenchOf bytes b) where
 
   -- a fault of a bench stands in its bytes
   module _ (law : (tree : t.File) (fault : ScopeFault) → HasFirst tree fault → StartsAt tree (span_from fault)) where
-    edit_within : (before : List Edit) (e : Edit) (r : Refusal) → In e b.edits → IsRefused b before e r → bench_place r ≤ length bytes
+    edit_within : (before : List Edit) (e : Edit) (r : Refusal) → In e b.edits → IsEditRefused b before e r → bench_place r ≤ length bytes
     edit_within before e r i (wrong_part {s = s} {w = w} {p = p} {f = f} first) = fault_here law p (λ m j. edit_here (puts s w p) m i (part_in s w p m j)) f first
     edit_within before e r i (too_large {s = s} {w = w} {p = p} clean more) = edit_here (puts s w p) w.span.from i (in_later in_first)
     edit_within before e r i (unknown {s = s} {w = w} none) = edit_here (drops s w) w.span.from i (in_later in_first)
 
-    pub place_within : (r : Refusal) → Refuses b (length bytes) r → bench_place r ≤ length bytes
+    pub place_within : (r : Refusal) → RefusesEdits b (length bytes) r → bench_place r ≤ length bytes
     place_within r (too_many_shared {s = s} g) = in_shared s.name.span.from (in_each shared_pieces shared_behind b.shared s s.name.span.from (get_in b.shared 16 s g) (in_later in_first))
     place_within r (wrong_heading {f = f} few first) = fault_here law (t.stop (record { from = length bytes; to = length bytes })) at_end f first
       where
@@ -243,7 +243,7 @@ bench_within law (inl h) = unlexed_within h
 bench_within law (inr (inl h)) = unparsed_within h
 bench_within law (inr (inr (b, is, h))) = unjudged_within law b is h
 
-refused_named : (never : (tree : t.File) (fault : ScopeFault) → HasFirst tree fault → ¬ (fault ≡ scope.NoMemory)) → (b : Bench) (before : List Edit) (e : Edit) (r : Refusal) → IsRefused b before e r → IsSome (name_of (bench_number r))
+refused_named : (never : (tree : t.File) (fault : ScopeFault) → HasFirst tree fault → ¬ (fault ≡ scope.NoMemory)) → (b : Bench) (before : List Edit) (e : Edit) (r : Refusal) → IsEditRefused b before e r → IsSome (name_of (bench_number r))
 refused_named never b before e r (wrong_part {p = p} {f = f} first) = scope_named f (never (file_with b p) f first)
 refused_named never b before e r (too_large clean more) = refl
 refused_named never b before e r (unknown none) = refl
@@ -251,7 +251,7 @@ refused_named never b before e r (unknown none) = refl
 unjudged_named : {b : Bench} {end number : ℕ} {offset : Option ℕ} {shown : List ℕ} → ((tree : t.File) (fault : ScopeFault) → HasFirst tree fault → ¬ (fault ≡ scope.NoMemory)) → IsUnjudged b end number offset shown → IsSome (name_of number)
 unjudged_named {b} {end} never (unjudged {r = r} h) = go r h
   where
-    go : (r : Refusal) → Refuses b end r → IsSome (name_of (bench_number r))
+    go : (r : Refusal) → RefusesEdits b end r → IsSome (name_of (bench_number r))
     go r (too_many_shared g) = refl
     go r (wrong_heading {f = f} few first) = scope_named f (never (heading_file b end) f first)
     go r (too_many_edits stands g) = refl

@@ -16,12 +16,12 @@ use Rattle.spi_edits.specs.Edits.{Edit, Bench}
 use Rattle.spi_edits.specs.Grammar.{whole_bench, IsBench}
 use Rattle.spi_edits.proofs.OneBench.{one_spelled}
 use Rattle.spi_workbench.specs.Reading.{file_with, bench_after, parts_after}
-use Rattle.spi_workbench.specs.Answers.{EditStands, EditsStand, BenchStands, IsRefused, wrong_part, too_large, unknown, Refuses, too_many_shared, wrong_heading, too_many_edits, wrong_edit}
+use Rattle.spi_workbench.specs.Answers.{EditStands, EditsStand, BenchStands, IsEditRefused, wrong_part, too_large, unknown, RefusesEdits, too_many_shared, wrong_heading, too_many_edits, wrong_edit}
 use Rattle.spi_workbench.specs.declared.answer.Refusal.{Refusal}
 use Rattle.spi_commands.specs.declared.status.Status.{Status}
 use Rattle.spi_commands.specs.declared.status.Status.TheVariants.{Yes, No, Refused, ReadFault, WriteFault, NoMemory, Usage}
 use Rattle.spi_commands.specs.Spelled.{SpellsFile, IsDerivable}
-use Rattle.spi_commands.specs.Benching.{IsBenchOf, SpellsBench, IsUnjudged, unjudged, RefusesBench, HasVerdicts, EndsWithYes, BenchesTo, SpellsYes, SpellsNo, SpellsNoBench, IsWhole, IsChecked, IsBenchedOn}
+use Rattle.spi_commands.specs.Benching.{IsBenchOf, SpellsBench, IsUnjudged, unjudged, RefusesBench, HasVerdicts, EndsWithYes, BenchesTo, SpellsYes, SpellsNo, SpellsNoBench, IsWholeOf, IsChecked, IsBenchedOn}
 use Rattle.spi_commands.proofs.FileFacts.{OneFile}
 use Rattle.spi_commands.proofs.FileRefusals.{OneLexing, same_tokens, unlexed_never, unparsed_never}
 
@@ -29,7 +29,7 @@ use Rattle.spi_commands.proofs.FileRefusals.{OneLexing, same_tokens, unlexed_nev
 
 bench_once : OneLexing → (bytes : List ℕ) (b c : Bench) → IsBenchOf bytes b → IsBenchOf bytes c → b ≡ c
 bench_once lexing bytes b c h k =
-    one_spelled b c h.tokens h.spelled (subst (λ (ts : List Token). Rattle.spi_edits.specs.Reads.IsSpelled c ts) (same_tokens lexing bytes k.tokens h.tokens k.lexed h.lexed) k.spelled)
+    one_spelled b c h.tokens h.spelled (subst (λ (ts : List Token). Rattle.spi_edits.specs.Reads.IsBenchSpelled c ts) (same_tokens lexing bytes k.tokens h.tokens k.lexed h.lexed) k.spelled)
 
 -- ---- what stands isn't refused
 
@@ -45,7 +45,7 @@ none_never : {A : Type 0} (o : Option A) → IsSome o → o ≡ None → ⊥
 none_never None h e = cc
 none_never (Some x) h e = cc
 
-edit_never : (b : Bench) (before : List Edit) (e : Edit) (r : Refusal) → EditStands b before e → IsRefused b before e r → ⊥
+edit_never : (b : Bench) (before : List Edit) (e : Edit) (r : Refusal) → EditStands b before e → IsEditRefused b before e r → ⊥
 edit_never b before e r h (wrong_part {p = p} {f = f} first) = clean_never b p f h.0 first
 edit_never b before e r h (too_large clean more) = omega (arith, h.1, more)
 edit_never b before e r h (unknown {w = w} none) = none_never (named w.word (parts_after b [] before)) h none
@@ -55,7 +55,7 @@ stands_at : (b : Bench) (front before : List Edit) (e : Edit) (after : List Edit
 stands_at b front [] e after h = subst (λ (l : List Edit). EditStands b l e) (sym (append-nil front)) h.0
 stands_at b front (d ∷ before) e after h = subst (λ (l : List Edit). EditStands b l e) (append_assoc front (d ∷ []) before) (stands_at b (front ++ d ∷ []) before e after h.1)
 
-stands_never : (b : Bench) (end : ℕ) (r : Refusal) → BenchStands b end → Refuses b end r → ⊥
+stands_never : (b : Bench) (end : ℕ) (r : Refusal) → BenchStands b end → RefusesEdits b end r → ⊥
 stands_never b end r h (too_many_shared {s = s} g) = let l = get_within b.shared 16 s g in let few = h.heading.few in omega (arith, l, few)
 stands_never b end r h (wrong_heading {f = f} few first) = clean_never b _ f h.heading.clean first
 stands_never b end r h (too_many_edits {e = e} stands g) = let l = get_within b.edits 1000 e g in let few = h.few in omega (arith, l, few)
@@ -63,7 +63,7 @@ stands_never b end r h (wrong_edit before after {e = e} {r = f} stands few cut a
     edit_never b before e f (stands_at b [] before e after (subst (λ (l : List Edit). EditsStand b [] l) cut h.edits)) refused
 
 refused_never : OneLexing → (bytes : List ℕ) (b : Bench) → SpellsBench bytes b → {number : ℕ} {offset : Option ℕ} {shown : List ℕ} → (c : Bench) → IsBenchOf bytes c → IsUnjudged c (length bytes) number offset shown → ⊥
-refused_never lexing bytes b (is, stands) c other (unjudged {r = r} h) = stands_never b (length bytes) r stands (subst (λ (x : Bench). Refuses x (length bytes) r) (bench_once lexing bytes c b other is) h)
+refused_never lexing bytes b (is, stands) c other (unjudged {r = r} h) = stands_never b (length bytes) r stands (subst (λ (x : Bench). RefusesEdits x (length bytes) r) (bench_once lexing bytes c b other is) h)
 
 none_spelled : OneLexing → (bytes : List ℕ) (number : ℕ) (offset : Option ℕ) (shown : List ℕ) → RefusesBench bytes number offset shown → SpellsNoBench bytes
 none_spelled lexing bytes number offset shown (inl h) = λ b s. unlexed_never lexing h s.0.within s.0.tokens s.0.lexed
@@ -75,7 +75,7 @@ none_spelled lexing bytes number offset shown (inr (inr (c, is, h))) = λ b s. r
 derivable_is : (q : Benched) (n : ℕ) (p : Process) → n ≡ q.free → p ≡ whole q.free q.shared (map (λ part. part.part.process) q.parts) → IsYes q ↔ Derivable (untrusted n) p []
 derivable_is q n p e f = rw (e, f) (λ y. y, λ y. y)
 
-checked : OneFile → (q : Benched) (others : List ℕ) (file : Meant) → SpellsFile others file → IsWhole q file → IsChecked q others
+checked : OneFile → (q : Benched) (others : List ℕ) (file : Meant) → SpellsFile others file → IsWholeOf q file → IsChecked q others
 checked one q others file spells (names, process) =
     let same : IsYes q ↔ IsDerivable file = derivable_is q file.process.names file.process.process names process in
     let that : (g : Meant) → SpellsFile others g → g ≡ file = λ g s. one others g file s spells in

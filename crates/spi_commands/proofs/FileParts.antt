@@ -102,15 +102,15 @@ few_free tree clean =
     omega (arith, few, weighs ps, names_weigh [] [] tree.decls)
 
 -- each step has a token of its own
-abbrev Longer : ℕ → List Piece → Type 0
-Longer k r = k ≤ length (kinds_in r)
+abbrev StepsHaveTokens : ℕ → List Piece → Type 0
+StepsHaveTokens k r = k ≤ length (kinds_in r)
 
-longer_on : (k : ℕ) (a : Piece) (r : List Piece) → Longer k r → Longer k (a ∷ r)
+longer_on : (k : ℕ) (a : Piece) (r : List Piece) → StepsHaveTokens k r → StepsHaveTokens k (a ∷ r)
 longer_on k (opens from) r h = h
 longer_on k (cell kind deep) r h = omega (arith, h)
 longer_on k (closes to) r h = h
 
-steps_long : (xs : List t.Step) (r : List Piece) → Longer (length xs) (steps_pieces xs r)
+steps_long : (xs : List t.Step) (r : List Piece) → StepsHaveTokens (length xs) (steps_pieces xs r)
 steps_long [] r = omega arith
 steps_long (t.act s i ∷ xs) r = let more = steps_long xs r in omega (arith, more)
 steps_long (t.talk s i j ∷ xs) r = let more = steps_long xs r in omega (arith, more)
@@ -119,7 +119,7 @@ abbrev steps_of_tree : Option (List t.Step) → List t.Step
 steps_of_tree None = []
 steps_of_tree (Some xs) = xs
 
-schedule_long : (o : Option (List t.Step)) (r : List Piece) → Longer (length (steps_of_tree o)) (schedule_pieces o r)
+schedule_long : (o : Option (List t.Step)) (r : List Piece) → StepsHaveTokens (length (steps_of_tree o)) (schedule_pieces o r)
 schedule_long None r = omega arith
 schedule_long (Some xs) r = let more = steps_long xs r in omega (arith, more)
 
@@ -132,7 +132,7 @@ same_length (Some xs) steps h =
 few_steps : (bytes : List ℕ) (tree : t.File) (steps : List Step) → IsTreeOf bytes tree → schedule_in tree.schedule ≡ Some steps → length steps ≤ limit
 few_steps bytes tree steps is e =
     let n : ℕ = length (steps_of_tree tree.schedule) in
-    let long = Past.past_body {P = Longer n} (longer_on n) tree (schedule_long tree.schedule (derivation_pieces tree.derivation (ends tree.span []))) in
+    let long = Past.past_body {P = StepsHaveTokens n} (longer_on n) tree (schedule_long tree.schedule (derivation_pieces tree.derivation (ends tree.span []))) in
     let same : kinds_in (whole_file tree) ≡ kinds_of is.tokens = spells_kinds 0 (whole_file tree) is.tokens is.spelled in
     let each : length (kinds_of is.tokens) ≡ length is.tokens = kinds_long is.tokens in
     let most = tokens_within 0 (length bytes) is.tokens (lexed bytes is.tokens is.lexed).1 in

@@ -5,13 +5,13 @@ use Rattle.spi_lex.specs.declared.token.Token.{Token}
 use Rattle.spi_lex.specs.declared.fault.LexFault.{LexFault}
 use Rattle.spi_lex.specs.declared.fault.LexFault.TheVariants as faults
 use Rattle.spi_lex.specs.Lexing as L
-use Rattle.spi_lex.specs.Lexing.{Piece, Leads, here, past_gap, past_piece, Lexes, kinds_of}
+use Rattle.spi_lex.specs.Lexing.{LexPiece, Leads, here, past_gap, past_piece, Lexes, kinds_of}
 use Rattle.spi_lex.specs.Writing.{AreSpans, spans_of}
 use Rattle.spi_lex.proofs.Lexed.{lexed}
 use Rattle.spi_lex.specs.declared.token.Kind.{Kind}
 use Rattle.spi_text.specs.declared.lines.Span.{Span}
 use Rattle.spi_tree.specs.Trees as t
-use Rattle.spi_tree.specs.Pieces.{Piece as Part, opens, cell, closes, kinds_in}
+use Rattle.spi_tree.specs.Pieces.{LexPiece as Part, opens, cell, closes, kinds_in}
 use Rattle.spi_parse.specs.Formed.{IsFile, whole_file}
 use Rattle.spi_parse.specs.Exact.{Spells, IsWithin, Stops, IsSyntaxAt}
 use Rattle.spi_scope.specs.declared.fault.ScopeFault.{ScopeFault}
@@ -23,12 +23,12 @@ use Rattle.spi_term.specs.Lists.{In, in_first, in_later}
 use Rattle.spi_report.specs.Names.{name_of}
 use Rattle.spi_commands.specs.declared.reading.Unread.{Unread}
 use Rattle.spi_commands.specs.declared.reading.Unread.TheVariants as unread
-use Rattle.spi_commands.specs.Reading.{IsUnreadBy, Tells}
+use Rattle.spi_commands.specs.Reading.{IsUnreadBy, TellsRefusal}
 use Rattle.spi_commands.specs.Spelled.{limit, IsTreeOf, SpellsNone}
 use Rattle.spi_commands.specs.Refusals.{start_of, scope_number, IsUnlexed, IsUnparsed, IsUnscoped, Refuses, too_long, not_utf8, bad_char, bad_number, name_too_long, syntax, too_deep, out_of_scope}
 
 -- the way of lexemes goes through the bytes
-leads_within : {at to : ℕ} {text rest : List ℕ} {pieces : List Piece} → Leads at text pieces to rest → to + length rest ≡ at + length text
+leads_within : {at to : ℕ} {text rest : List ℕ} {pieces : List LexPiece} → Leads at text pieces to rest → to + length rest ≡ at + length text
 leads_within here = refl
 leads_within {at} {text = text} (past_gap n l g h) =
     let d : length (drop n text) ≡ length text - n = length-drop n text in
@@ -214,7 +214,7 @@ refused_none lexing placed never (inr (inl h)) = unparsed_none lexing h
 refused_none lexing placed never (inr (inr (tree, is, h))) = unscoped_none lexing placed never is h
 
 -- what a call tells of a refusal is one of these causes
-pub unread_as : (causes : ℕ → Option ℕ → List ℕ → Type 0) (number offset : ℕ) (shown : List ℕ) (u : Unread) → causes number (Some offset) shown → Tells number offset shown u → IsUnreadBy causes u
+pub unread_as : (causes : ℕ → Option ℕ → List ℕ → Type 0) (number offset : ℕ) (shown : List ℕ) (u : Unread) → causes number (Some offset) shown → TellsRefusal number offset shown u → IsUnreadBy causes u
 unread_as causes number offset shown (unread.Refused r) h t = rw (t.0, t.1, t.2) h
 unread_as causes number offset shown unread.NoMemory h t = tt
 

@@ -10,7 +10,7 @@ use Rattle.spi_scope.specs.First.{HasFirst}
 use Rattle.spi_scope.specs.FaultPlaces.{span_from}
 use Rattle.spi_commands.specs.declared.reading.Unread.{Unread}
 use Rattle.spi_commands.specs.declared.reading.Unread.TheVariants as unread
-use Rattle.spi_commands.specs.Reading.{IsUnread, Tells}
+use Rattle.spi_commands.specs.Reading.{IsUnread, TellsRefusal}
 use Rattle.spi_commands.specs.Spelled.{IsTreeOf}
 use Rattle.spi_commands.specs.Refusals.{Refuses, scope_number, scope_shown, out_of_scope}
 use Rattle.spi_commands.proofs.FileRefusals.{unread_as}
@@ -39,6 +39,6 @@ first_is_fault tree fault first e = never_wanting _ first.at (first.wrong ∙ ap
 
 -- the refusal of a fault of scopes is one of the bytes
 pub unscoped : (bytes : List ℕ) (tree : t.File) (fault : ScopeFault) (u : Unread) → IsTreeOf bytes tree → (fault ≡ scope.NoMemory) ⊎ HasFirst tree fault
-    → (fault ≡ scope.NoMemory → u ≡ unread.NoMemory) → Tells (scope_number fault) (span_from fault) (scope_shown fault) u → IsUnread bytes u
+    → (fault ≡ scope.NoMemory → u ≡ unread.NoMemory) → TellsRefusal (scope_number fault) (span_from fault) (scope_shown fault) u → IsUnread bytes u
 unscoped bytes tree fault u is (inl wanting) memory tells = rw (memory wanting) tt
 unscoped bytes tree fault u is (inr first) memory tells = unread_as (Refuses bytes) (scope_number fault) (span_from fault) (scope_shown fault) u (inr (inr (tree, is, out_of_scope first))) tells

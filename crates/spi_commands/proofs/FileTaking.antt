@@ -13,7 +13,7 @@ use Rattle.spi_commands.specs.declared.status.Status.TheVariants.{Yes, No, Refus
 use Rattle.spi_commands.specs.declared.text.Text.{Text}
 use Rattle.spi_commands.specs.declared.file.Given.{Given}
 use Rattle.spi_commands.specs.Spelled.{limit}
-use Rattle.spi_commands.specs.Reading.{GivesText, Gives}
+use Rattle.spi_commands.specs.Reading.{GivesText, GivesSpelled}
 use Rattle.spi_commands.specs.Answers.{Answers}
 use Rattle.spi_commands.specs.Refusals.{IsUnlexed, too_long, layered, IsLineOf, Refuses, IsRefusal}
 use Rattle.spi_commands.specs.Run.{TakesInput, IsAnswered}
@@ -55,7 +55,7 @@ text_long (Some bytes) (Ok a) long is = is bytes long
 text_long left (Err e) long is = tt
 
 -- what is answered on what is given of the bytes that were left
-pub answers_given : {E : Type 0} (W : List ℕ → Status → List ℕ → Type 0) (left : Option (List ℕ)) (given : Given) (result : Result Answer E) → IfSome left (λ bytes. Gives bytes given) → IfOk result (λ a. (bytes : List ℕ) → Gives bytes given → W bytes a.status a.output.items) → IfOk result (λ a. IfSome left (λ bytes. W bytes a.status a.output.items))
+pub answers_given : {E : Type 0} (W : List ℕ → Status → List ℕ → Type 0) (left : Option (List ℕ)) (given : Given) (result : Result Answer E) → IfSome left (λ bytes. GivesSpelled bytes given) → IfOk result (λ a. (bytes : List ℕ) → GivesSpelled bytes given → W bytes a.status a.output.items) → IfOk result (λ a. IfSome left (λ bytes. W bytes a.status a.output.items))
 answers_given W None given (Ok a) gives is = tt
 answers_given W (Some bytes) given (Ok a) gives is = is bytes gives
 answers_given W left given (Err e) gives is = tt

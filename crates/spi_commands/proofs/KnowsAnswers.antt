@@ -21,7 +21,7 @@ use Rattle.spi_commands.specs.Reading.{IsRead}
 use Rattle.spi_commands.specs.Refusals.{IsCause, IsLineOf, IsRefusal, Refuses}
 use Rattle.spi_commands.specs.Replays.{RefusesReplay, RunsThrough, talks_most}
 use Rattle.spi_commands.specs.Ran.{IsRan}
-use Rattle.spi_commands.specs.Knowing.{IsAsked, IsDecided, KnowsTo, RefusesKnows, no_name, too_much_sent}
+use Rattle.spi_commands.specs.Knowing.{IsKnowsAsked, IsDecided, KnowsTo, RefusesKnows, no_name, too_much_sent}
 use Rattle.spi_commands.specs.Run.{IsAnswered}
 use Rattle.spi_commands.proofs.AnswerLines.{line_map}
 
@@ -62,7 +62,7 @@ refusal_answered P (Err s) h = tt
 
 -- ---- the decision
 
-decided_to : (i : ℕ) (bytes : List ℕ) (f : File) (ms : List Message) (events : List Event) (run : RunsThrough (meant f) events) → IsAsked i bytes (meant f) events run → ms ≡ run.talks
+decided_to : (i : ℕ) (bytes : List ℕ) (f : File) (ms : List Message) (events : List Event) (run : RunsThrough (meant f) events) → IsKnowsAsked i bytes (meant f) events run → ms ≡ run.talks
     → (status : Status) (output : List ℕ) → IsDecided (meant f) ms i status output → KnowsTo i bytes status output
 decided_to i bytes f ms events run asked e Yes output (lines, k, certifies, text) =
     let same = ap (λ (l : List Message). names_up (meant f).process.names ++ l) e in (

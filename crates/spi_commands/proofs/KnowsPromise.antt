@@ -16,7 +16,7 @@ use Rattle.spi_commands.specs.Spelled.{SpellsFile, SpellsDerivable, SpellsNone}
 use Rattle.spi_commands.specs.Beside.{pool_of}
 use Rattle.spi_commands.specs.Replays.{places_most, RunsThrough, SpellsUnplayed, IsUnplayed, talks_most}
 use Rattle.spi_commands.specs.Certificate.{known_text}
-use Rattle.spi_commands.specs.Knowing.{sent, IsTooMuchSent, too_much_sent, IsNoName, no_name, RefusesKnows, IsAsked, SpellsKnown, SpellsUnknown, IsKnown, KnowsTo, SpellsMuchSent, SpellsNameless, MakesKey, IsKnownOn}
+use Rattle.spi_commands.specs.Knowing.{sent, IsTooMuchSent, too_much_sent, IsNoName, no_name, RefusesKnows, IsKnowsAsked, SpellsKnown, SpellsUnknown, IsKnown, KnowsTo, SpellsMuchSent, SpellsNameless, MakesKey, IsKnownOn}
 use Rattle.spi_commands.proofs.FileFacts.{OneFile, Safe, RefusedNone, holds_after}
 use Rattle.spi_commands.proofs.FileParts.{process_over_names, opponent_over_names}
 use Rattle.spi_commands.proofs.ScheduleFiles.{last_once, never_unplayed, talks_once, unreplayed}
@@ -48,7 +48,7 @@ module _ (one : OneFile) (i : ℕ) (bytes : List ℕ) where
   abbrev Why : Type 0
   Why = (SpellsNone bytes ⊎ SpellsUnplayed bytes) ⊎ (SpellsMuchSent bytes ⊎ SpellsNameless i bytes)
 
-  asked_never : (f : Meant) (es : List Event) (a : RunsThrough f es) → IsAsked i bytes f es a → Why → ⊥
+  asked_never : (f : Meant) (es : List Event) (a : RunsThrough f es) → IsKnowsAsked i bytes f es a → Why → ⊥
   asked_never f es a asked (inl (inl none)) = none f asked.spells
   asked_never f es a asked (inl (inr (g, spells, why))) = never_unplayed f es a (subst (λ (h : Meant). IsUnplayed h) (one bytes g f spells asked.spells) why)
   asked_never f es a asked (inr (inl (g, fs, b, spells, much))) =

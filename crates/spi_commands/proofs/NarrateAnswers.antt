@@ -6,7 +6,7 @@ use Rattle.spi_report.specs.declared.refusal.Refusal.{Refusal as Line}
 use Rattle.spi_report.specs.Refused.{refused_text}
 use Rattle.spi_scope.specs.StandsFor.{Meant}
 use Rattle.spi_narrate.specs.Narrations as n
-use Rattle.spi_narrate.specs.Reads.{IsSpelled}
+use Rattle.spi_narrate.specs.Reads.{IsNarrationSpelled}
 use Rattle.spi_narrator.specs.Answers.{IsTold}
 use Rattle.spi_commands.specs.declared.answer.Answer.{Answer}
 use Rattle.spi_commands.specs.declared.answer.Stop.{Stop}
@@ -40,5 +40,5 @@ refused_unlexed bytes line output status h e is =
     subst (λ (s : Status). NarratesTo bytes s output) (sym e) (subst (λ (o : List ℕ). NarratesTo bytes Refused o) (sym is) (line_map bytes line (IsUnlexed bytes) (RefusesNarrate bytes) (λ n o s m. inl m) h))
 
 -- a narration that is read
-pub narration_of_bytes : (bytes : List ℕ) (tokens : List Token) (x : n.Narration) → length bytes ≤ 16777216 → Lexes bytes (Ok tokens) → IsSpelled x tokens → IsNarrationOf bytes x
+pub narration_of_bytes : (bytes : List ℕ) (tokens : List Token) (x : n.Narration) → length bytes ≤ 16777216 → Lexes bytes (Ok tokens) → IsNarrationSpelled x tokens → IsNarrationOf bytes x
 narration_of_bytes bytes tokens x few h is = record { within = few; tokens = tokens; lexed = h; spelled = is }

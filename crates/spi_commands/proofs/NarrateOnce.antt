@@ -11,12 +11,12 @@ use Rattle.spi_scope.specs.StandsFor.{Meant}
 use Rattle.spi_narrate.specs.Narrations as n
 use Rattle.spi_narrate.specs.Grammar.{whole_narration, IsNarration}
 use Rattle.spi_narrate.specs.Faults.{items_of, IsFirstFault, IsFaultless}
-use Rattle.spi_narrate.specs.Reads.{IsSpelled}
+use Rattle.spi_narrate.specs.Reads.{IsNarrationSpelled}
 use Rattle.spi_narrate.specs.declared.fault.NarrateFault.{NarrateFault}
 use Rattle.spi_honest.specs.Roles.{IsTellable}
 use Rattle.spi_narrator.specs.declared.answer.Refusal.{Refusal}
-use Rattle.spi_narrator.specs.Answers.{IsTold, Refuses as RefusesTelling}
-use Rattle.spi_narrator.proofs.Reading.{ReadsBack}
+use Rattle.spi_narrator.specs.Answers.{IsTold, RefusesNarration as RefusesTelling}
+use Rattle.spi_narrator.proofs.Reading.{NarrationReadsBack}
 use Rattle.spi_commands.specs.Spelled.{SpellsFile}
 use Rattle.spi_commands.specs.Canonical.{IsPrint}
 use Rattle.spi_commands.specs.Refusals.{IsUnlexed, IsUnparsed, too_long, not_utf8, bad_char, bad_number, name_too_long, syntax, too_deep}
@@ -26,7 +26,7 @@ use Rattle.spi_commands.proofs.FileRefusals.{OneLexing, spells_kinds, spells_wit
 use Rattle.spi_commands.proofs.AnswerText.{long_of}
 
 abbrev pub OneNarration : Type 0
-OneNarration = (x y : n.Narration) (ts : List Token) → IsSpelled x ts → IsSpelled y ts → x ≡ y
+OneNarration = (x y : n.Narration) (ts : List Token) → IsNarrationSpelled x ts → IsNarrationSpelled y ts → x ≡ y
 
 abbrev pub NeverFaulty : Type 0
 NeverFaulty = (x : n.Narration) (f : NarrateFault) → IsFirstFault (items_of x) f → IsFaultless (items_of x) → ⊥
@@ -46,7 +46,7 @@ same_tokens one bytes ts us h k = let e : Ok ts ≡ Ok us = one bytes (Ok ts) (O
 
 pub one_narration_of : OneLexing → OneNarration → (bytes : List ℕ) (x y : n.Narration) → IsNarrationOf bytes x → IsNarrationOf bytes y → x ≡ y
 one_narration_of lexing one bytes x y a b =
-    one x y a.tokens a.spelled (subst (IsSpelled y) (same_tokens lexing bytes b.tokens a.tokens b.lexed a.lexed) b.spelled)
+    one x y a.tokens a.spelled (subst (IsNarrationSpelled y) (same_tokens lexing bytes b.tokens a.tokens b.lexed a.lexed) b.spelled)
 
 -- ---- bytes that are refused are those of no narration that is told
 
@@ -92,7 +92,7 @@ refused_untold lexing one faultless never bytes number offset shown (inr (inr (i
 
 -- ---- the text is read as the file
 
-pub told_reads_back : ((x : n.Narration) → IsFaultless (items_of x) → IsTellable x) → ReadsBack → (bytes : List ℕ) (x : n.Narration) (told : Meant) (text : List ℕ) → SpellsNarration bytes x → IsTold x told → IsPrint told text → SpellsFile text told
+pub told_reads_back : ((x : n.Narration) → IsFaultless (items_of x) → IsTellable x) → NarrationReadsBack → (bytes : List ℕ) (x : n.Narration) (told : Meant) (text : List ℕ) → SpellsNarration bytes x → IsTold x told → IsPrint told text → SpellsFile text told
 told_reads_back tellable reads bytes x told text (is, free) tells (canonical, short) =
     reads x told text is.spelled.0 (spells_within 0 (whole_narration x) is.tokens is.spelled.1)
     (subst AreKinds (sym (spells_kinds 0 (whole_narration x) is.tokens is.spelled.1)) (lexed bytes is.tokens is.lexed).0) (tellable x free) tells canonical short

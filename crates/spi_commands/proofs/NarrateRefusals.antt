@@ -20,7 +20,7 @@ use Rattle.spi_weave.specs.Starts.{StartBy}
 use Rattle.spi_weave.specs.Woven.{woven}
 use Rattle.spi_weave.proofs.Starting.{woven_starts, lines_of, fault_starts, channel_starts, line_from, line_starts}
 use Rattle.spi_narrator.specs.declared.answer.Refusal.{Refusal}
-use Rattle.spi_narrator.specs.Answers.{line_span, LineIn, Refuses as RefusesTelling, not_free, out_of_scope, not_ready, too_large}
+use Rattle.spi_narrator.specs.Answers.{line_span, LineIn, RefusesNarration as RefusesTelling, not_free, out_of_scope, not_ready, too_large}
 use Rattle.spi_commands.specs.Refusals.{IsTooMuch, too_much}
 use Rattle.spi_commands.specs.Narrating.{IsNarrationOf, IsFaulty, unknown_role, role_twice, narration_too_large, telling_number, telling_from, IsUntold, untold, RefusesNarrate}
 use Rattle.spi_commands.proofs.FileRefusals.{unlexed_named, unlexed_within, unparsed_named, unparsed_within, scope_named}

@@ -31,7 +31,7 @@ use Rattle.spi_commands.specs.Spelled.{limit}
 use Rattle.spi_commands.specs.Refusals.{IsLineOf, IsCause, IsMissing, IsTooMuch, IsRefusal}
 use Rattle.spi_commands.specs.Beside.{pool_of, HasOffence}
 use Rattle.spi_commands.specs.Playing.{IsPlayed, IsStopped, play_length, play_number, play_shown, play_places, ListsTo, IsPlayFault, play_fault, PlaysTo, LeavesPlayers, not_asked, asked_to_the_end, stopped}
-use Rattle.spi_commands.specs.Reading.{IsRead, Gives}
+use Rattle.spi_commands.specs.Reading.{IsRead, GivesSpelled}
 use Rattle.spi_commands.proofs.FileParts.{few_names}
 use Rattle.spi_commands.proofs.AnswerLines.{refuses_by, line_map, cause_is, much}
 
@@ -135,7 +135,7 @@ left_same most only players (Some bytes) = not_asked
 
 -- what holds of a play with these numbers
 pub left_given : (command : Option Command) (m most : ℕ) (o only : Option ℕ) (before after : List Seen) (left : Option (List ℕ)) (given : Given) (result : Result Answer Stop) → command ≡ Some (Play m o) → command ≡ Some (Play most only)
-    → IfSome left (λ bytes. Gives bytes given) → OnErr result ((bytes : List ℕ) → Gives bytes given → LeavesPlayers m o bytes before after) → IsErrOf result NoMemoryStop → IfSome left (λ bytes. LeavesPlayers most only bytes before after)
+    → IfSome left (λ bytes. GivesSpelled bytes given) → OnErr result ((bytes : List ℕ) → GivesSpelled bytes given → LeavesPlayers m o bytes before after) → IsErrOf result NoMemoryStop → IfSome left (λ bytes. LeavesPlayers most only bytes before after)
 left_given command m most o only before after None given result e f gives h err = tt
 left_given command m most o only before after (Some bytes) given (Ok a) e f gives h err = absurd (cc)
 left_given command m most o only before after (Some bytes) given (Err s) e f gives h err =

@@ -10,7 +10,7 @@ use Rattle.spi_replay.specs.Stepping.{Pooled, IsTaken}
 use Rattle.spi_play.specs.declared.player.Pick.{Pick}
 use Rattle.spi_play.specs.declared.player.Pick.TheVariants.{Take, Leave}
 use Rattle.spi_play.specs.Way.{Seen}
-use Rattle.spi_play.specs.Play.{Course, Seat, State, TurnOf, Goes, Does, Plays, start}
+use Rattle.spi_play.specs.Play.{Course, Seat, State, TurnOf, DoesReady, Does, Plays, start}
 use Rattle.spi_spell.specs.Joined.{HasLowPlaces}
 use Rattle.spi_commands.specs.Replays.{Replays, replays_none, replays_step}
 use Rattle.spi_commands.proofs.ScheduleSteps.{append_step}
@@ -53,7 +53,7 @@ record Came (most : ℕ) (first : Pooled) (done : Course) : Type 0 where
   talks : List Message
   replays : Replays first done.steps done.events talks done.pool
 
-went : (most k : ℕ) (first : Pooled) (old new : Course) → length old.steps < most → Goes old k new → Came most first old → Came most first new
+went : (most k : ℕ) (first : Pooled) (old new : Course) → length old.steps < most → DoesReady old k new → Came most first old → Came most first new
 went most k first old new less goes came =
     let long : length new.steps ≡ length old.steps + 1 = ap length goes.steps ∙ length-append old.steps (goes.step ∷ []) in
     record {

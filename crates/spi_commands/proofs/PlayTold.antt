@@ -8,23 +8,23 @@ use Rattle.spi_term.specs.Lists.{In, in_first, in_later}
 use Rattle.spi_run.specs.Reduction.{Configuration, Step, Event}
 use Rattle.spi_run.proofs.Once.{takes_once}
 use Rattle.spi_replay.specs.declared.fault.StepFault.TheVariants as refused
-use Rattle.spi_replay.specs.Stepping.{Pooled, IsTaken, Refuses, bound_by, largest, too_large, too_many}
+use Rattle.spi_replay.specs.Stepping.{Pooled, IsTaken, RefusesPoolStep, bound_by, largest, too_large, too_many}
 use Rattle.spi_term.specs.Spelling.{stopped}
 use Rattle.spi_play.specs.declared.player.Pick.{Pick}
 use Rattle.spi_play.specs.declared.player.Pick.TheVariants.{Take, Leave}
 use Rattle.spi_play.specs.declared.plays.Ended.{Ended}
 use Rattle.spi_play.specs.declared.plays.PlayFault.{PlayFault}
 use Rattle.spi_play.specs.declared.plays.PlayFault.TheVariants.{BadPick, RunMessageTooLarge, TooManyPlaces, NoMemory as OutOfMemory}
-use Rattle.spi_play.specs.Way.{Way, Seen, Script, First, Turn, Follows}
-use Rattle.spi_play.specs.Play.{Seat, State, Course, TurnOf, IsKth, CountsReady, Picks, Goes, Does, Turns, Plays, GoesOn, EndsBy, most_reached, no_players, none_ready, seats_from, start, after_take, after_leave}
-use Rattle.spi_play.specs.Outcome.{IsRefused, AskedTell}
+use Rattle.spi_play.specs.Way.{Way, Seen, Script, First, Turn, FollowsWay}
+use Rattle.spi_play.specs.Play.{Seat, State, Course, TurnOf, IsKth, CountsReady, Picks, DoesReady, Does, Turns, Plays, PlayGoesOn, EndsBy, most_reached, no_players, none_ready, seats_from, start, after_take, after_leave}
+use Rattle.spi_play.specs.Outcome.{IsPickRefused, AskedTell}
 use Rattle.spi_play.proofs.Steps.{counts_once, kth_once, taken_once}
 use Rattle.spi_commands.specs.Playing.{AskedTold}
 use Rattle.spi_commands.proofs.ScheduleSteps.{taken_never}
 
 -- ---- one player
 
-follows_same : (way : Option Way) (times ready : ℕ) (p q : Pick) (v w : Option Way) → IsSome way → Follows way times ready p v → Follows way times ready q w → (p ≡ q) × (v ≡ w)
+follows_same : (way : Option Way) (times ready : ℕ) (p q : Pick) (v w : Option Way) → IsSome way → FollowsWay way times ready p v → FollowsWay way times ready q w → (p ≡ q) × (v ≡ w)
 follows_same None times ready p q v w some a b = absurd (cc)
 follows_same (Some (Script [])) times ready p q v w some a b = (a.0 ∙ sym b.0, a.1 ∙ sym b.1)
 follows_same (Some (Script (k ∷ script))) times ready p q v w some a b = (a.0 ∙ sym b.0, a.1 ∙ sym b.1)
@@ -32,7 +32,7 @@ follows_same (Some First) times ready p q v w some a b = (a.0 ∙ sym b.0, a.1 �
 follows_same (Some Turn) times ready p q v w some a b = (a.0 ∙ sym b.0, a.1 ∙ sym b.1)
 
 -- who goes by a told way keeps telling it
-follows_tells : (way : Option Way) (times ready : ℕ) (p : Pick) (v : Option Way) → IsSome way → Follows way times ready p v → IsSome v
+follows_tells : (way : Option Way) (times ready : ℕ) (p : Pick) (v : Option Way) → IsSome way → FollowsWay way times ready p v → IsSome v
 follows_tells None times ready p v some a = absurd (cc)
 follows_tells (Some (Script [])) times ready p v some a = rw a.1
 follows_tells (Some (Script (k ∷ script))) times ready p v some a = rw a.1
@@ -62,7 +62,7 @@ state_same a b done seats next =
     let h : Option ℕ → State = λ x. record { course = b.course; seats = b.seats; next = x } in
     ap f done ∙ ap g seats ∙ ap h next
 
-goes_same : (old : Course) (k : ℕ) (m n : Course) → Goes old k m → Goes old k n → m ≡ n
+goes_same : (old : Course) (k : ℕ) (m n : Course) → DoesReady old k m → DoesReady old k n → m ≡ n
 goes_same old k m n first second =
     let step : second.step ≡ first.step = kth_once second.kth first.kth in
     let P : Step → Type 0 = λ s. IsTaken old.pool s second.event n.pool in
@@ -170,7 +170,7 @@ same_end before only most s (t ∷ ts) (u ∷ us) m n all told first second halt
     (subst (λ (x : State). Plays only most x us n) (sym same) second.2) halts stops
 
 -- a play that has ended doesn't go on
-ended_once : {c : Configuration} {next : Option ℕ} {taken most place ready : ℕ} {e : Ended} → EndsBy c next taken most e → GoesOn c next taken most place ready → ⊥
+ended_once : {c : Configuration} {next : Option ℕ} {taken most place ready : ℕ} {e : Ended} → EndsBy c next taken most e → PlayGoesOn c next taken most place ready → ⊥
 ended_once (most_reached h) goes = goes.more h
 ended_once (no_players m h) goes = let e : None ≡ Some _ = sym h ∙ goes.at in absurd (cc)
 ended_once (none_ready m h counts) goes = let e = counts_once counts goes.counts in let some = goes.some in omega (arith, e, some)
@@ -184,12 +184,12 @@ kth_inside {c} {ready} {k} {s} counts (ss, are, is) =
       | inr past ↦ absurd (cc)
     ]
 
-refused_never : (old new : Course) (place ready k : ℕ) (fault : PlayFault) → fault ≢ OutOfMemory → CountsReady old.pool.configuration ready → Goes old k new → IsRefused old.pool place ready k fault → ⊥
+refused_never : (old new : Course) (place ready k : ℕ) (fault : PlayFault) → fault ≢ OutOfMemory → CountsReady old.pool.configuration ready → DoesReady old k new → IsPickRefused old.pool place ready k fault → ⊥
 refused_never old new place ready k (BadPick p picked count) some counts goes (a, b, c, l) = let w = kth_inside counts goes.kth in omega (arith, l, w)
 refused_never old new place ready k (RunMessageTooLarge nodes) some counts goes r =
-    taken_never goes.taken (subst (λ (s : Step). Refuses old.pool.configuration old.pool.most s (refused.RunMessageTooLarge nodes)) (kth_once r.kth goes.kth) r.refuses)
+    taken_never goes.taken (subst (λ (s : Step). RefusesPoolStep old.pool.configuration old.pool.most s (refused.RunMessageTooLarge nodes)) (kth_once r.kth goes.kth) r.refuses)
 refused_never old new place ready k (TooManyPlaces places) some counts goes r =
-    taken_never goes.taken (subst (λ (s : Step). Refuses old.pool.configuration old.pool.most s (refused.TooManyPlaces places)) (kth_once r.kth goes.kth) r.refuses)
+    taken_never goes.taken (subst (λ (s : Step). RefusesPoolStep old.pool.configuration old.pool.most s (refused.TooManyPlaces places)) (kth_once r.kth goes.kth) r.refuses)
 refused_never old new place ready k OutOfMemory some counts goes r = some refl
 
 -- ---- a pick that was refused
@@ -201,10 +201,10 @@ pub record StopsAt (only : Option ℕ) (most : ℕ) (s : State) (fault : PlayFau
   pub picked : ℕ
   pub old : Seen
   pub new : Seen
-  pub goes_on : GoesOn s.course.pool.configuration s.next (length s.course.steps) most place ready
+  pub goes_on : PlayGoesOn s.course.pool.configuration s.next (length s.course.steps) most place ready
   pub was : slice_get (map (λ seat. seat.seen) s.seats) place ≡ Some old
   pub picks : Picks old ready (Take picked) new
-  pub refused : IsRefused s.course.pool place ready picked fault
+  pub refused : IsPickRefused s.course.pool place ready picked fault
 
 -- who was asked is the one whose turn it would be
 asked_is : (only : Option ℕ) (most : ℕ) (s : State) (fault : PlayFault) (stop : StopsAt only most s fault) (t : TurnOf) (new : State) → (turn : Turns only most s t new) → (turn.place ≡ stop.place) × (t.ready ≡ stop.ready) × (turn.asks.seat.seen ≡ stop.old)
@@ -230,20 +230,20 @@ stuck_told only most s fault stop some t new turn tells =
     stuck only most s fault stop some (subst (λ (x : Seen). IsSome x.way) (asked_is only most s fault stop t new turn).2 tells) t new turn
 
 -- it's refused in one way
-large_once : {c : Configuration} {most : ℕ} {s : Step} {nodes : ℕ} → Refuses c most s (refused.RunMessageTooLarge nodes) → (nodes ≡ stopped (largest (bound_by c s))) × (1000 < largest (bound_by c s))
+large_once : {c : Configuration} {most : ℕ} {s : Step} {nodes : ℕ} → RefusesPoolStep c most s (refused.RunMessageTooLarge nodes) → (nodes ≡ stopped (largest (bound_by c s))) × (1000 < largest (bound_by c s))
 large_once (too_large ready large) = (refl, large)
 
-many_once : {c : Configuration} {most : ℕ} {s : Step} {n k : ℕ} → Refuses c most s (refused.TooManyPlaces n) → Refuses c most s (refused.TooManyPlaces k) → n ≡ k
+many_once : {c : Configuration} {most : ℕ} {s : Step} {n k : ℕ} → RefusesPoolStep c most s (refused.TooManyPlaces n) → RefusesPoolStep c most s (refused.TooManyPlaces k) → n ≡ k
 many_once (too_many t small many) (too_many u low more) = ap (λ (c : Configuration). length c.places) (takes_once t u).1
 
-many_small : {c : Configuration} {most : ℕ} {s : Step} {n : ℕ} → Refuses c most s (refused.TooManyPlaces n) → largest (bound_by c s) ≤ 1000
+many_small : {c : Configuration} {most : ℕ} {s : Step} {n : ℕ} → RefusesPoolStep c most s (refused.TooManyPlaces n) → largest (bound_by c s) ≤ 1000
 many_small (too_many t small many) = small
 
 -- the same step is refused
 refuses_kth : (pool : Pooled) (k : ℕ) (P : Step → Type 0) (s t : Step) → IsKth pool.configuration k s → IsKth pool.configuration k t → P t → P s
 refuses_kth pool k P s t a b h = subst P (kth_once b a) h
 
-one_fault : (pool : Pooled) (place ready k : ℕ) (f g : PlayFault) → CountsReady pool.configuration ready → f ≢ OutOfMemory → g ≢ OutOfMemory → IsRefused pool place ready k f → IsRefused pool place ready k g → f ≡ g
+one_fault : (pool : Pooled) (place ready k : ℕ) (f g : PlayFault) → CountsReady pool.configuration ready → f ≢ OutOfMemory → g ≢ OutOfMemory → IsPickRefused pool place ready k f → IsPickRefused pool place ready k g → f ≡ g
 one_fault pool place ready k OutOfMemory g counts some other a b = absurd (some refl)
 one_fault pool place ready k f OutOfMemory counts some other a b = absurd (other refl)
 one_fault pool place ready k (BadPick p q r) (BadPick x y z) counts some other (a, b, c, l) (d, e, f, m) =
@@ -253,18 +253,18 @@ one_fault pool place ready k (BadPick p q r) (TooManyPlaces n) counts some other
 one_fault pool place ready k (RunMessageTooLarge n) (BadPick p q r) counts some other h (a, b, c, l) = let w = kth_inside counts h.kth in absurd (omega (arith, l, w))
 one_fault pool place ready k (TooManyPlaces n) (BadPick p q r) counts some other h (a, b, c, l) = let w = kth_inside counts h.kth in absurd (omega (arith, l, w))
 one_fault pool place ready k (RunMessageTooLarge n) (RunMessageTooLarge m) counts some other a b =
-    let there : Refuses pool.configuration pool.most a.step (refused.RunMessageTooLarge m) = refuses_kth pool k (λ s. Refuses pool.configuration pool.most s (refused.RunMessageTooLarge m)) a.step b.step a.kth b.kth b.refuses in
+    let there : RefusesPoolStep pool.configuration pool.most a.step (refused.RunMessageTooLarge m) = refuses_kth pool k (λ s. RefusesPoolStep pool.configuration pool.most s (refused.RunMessageTooLarge m)) a.step b.step a.kth b.kth b.refuses in
     ap RunMessageTooLarge ((large_once a.refuses).0 ∙ sym (large_once there).0)
 one_fault pool place ready k (TooManyPlaces n) (TooManyPlaces m) counts some other a b =
-    let there : Refuses pool.configuration pool.most a.step (refused.TooManyPlaces m) = refuses_kth pool k (λ s. Refuses pool.configuration pool.most s (refused.TooManyPlaces m)) a.step b.step a.kth b.kth b.refuses in
+    let there : RefusesPoolStep pool.configuration pool.most a.step (refused.TooManyPlaces m) = refuses_kth pool k (λ s. RefusesPoolStep pool.configuration pool.most s (refused.TooManyPlaces m)) a.step b.step a.kth b.kth b.refuses in
     ap TooManyPlaces (many_once a.refuses there)
 one_fault pool place ready k (RunMessageTooLarge n) (TooManyPlaces m) counts some other a b =
-    let there : Refuses pool.configuration pool.most a.step (refused.TooManyPlaces m) = refuses_kth pool k (λ s. Refuses pool.configuration pool.most s (refused.TooManyPlaces m)) a.step b.step a.kth b.kth b.refuses in
+    let there : RefusesPoolStep pool.configuration pool.most a.step (refused.TooManyPlaces m) = refuses_kth pool k (λ s. RefusesPoolStep pool.configuration pool.most s (refused.TooManyPlaces m)) a.step b.step a.kth b.kth b.refuses in
     let large = (large_once a.refuses).1 in
     let small = many_small there in
     absurd (omega (arith, large, small))
 one_fault pool place ready k (TooManyPlaces n) (RunMessageTooLarge m) counts some other a b =
-    let there : Refuses pool.configuration pool.most a.step (refused.RunMessageTooLarge m) = refuses_kth pool k (λ s. Refuses pool.configuration pool.most s (refused.RunMessageTooLarge m)) a.step b.step a.kth b.kth b.refuses in
+    let there : RefusesPoolStep pool.configuration pool.most a.step (refused.RunMessageTooLarge m) = refuses_kth pool k (λ s. RefusesPoolStep pool.configuration pool.most s (refused.RunMessageTooLarge m)) a.step b.step a.kth b.kth b.refuses in
     let large = (large_once there).1 in
     let small = many_small a.refuses in
     absurd (omega (arith, large, small))
@@ -280,9 +280,9 @@ same_fault only most s f g a b tells some other =
     let same : (Take b.picked ≡ Take a.picked) × (b.new ≡ a.new) = picks_same a.old a.ready (Take b.picked) (Take a.picked) b.new a.new tells picks a.picks in
     let h = same.0 in
     let picked : b.picked ≡ a.picked = cc in
-    let at : IsRefused s.course.pool a.place b.ready b.picked g = subst (λ (p : ℕ). IsRefused s.course.pool p b.ready b.picked g) place b.refused in
-    let so : IsRefused s.course.pool a.place a.ready b.picked g = subst (λ (r : ℕ). IsRefused s.course.pool a.place r b.picked g) ready at in
-    let there : IsRefused s.course.pool a.place a.ready a.picked g = subst (λ (k : ℕ). IsRefused s.course.pool a.place a.ready k g) picked so in
+    let at : IsPickRefused s.course.pool a.place b.ready b.picked g = subst (λ (p : ℕ). IsPickRefused s.course.pool p b.ready b.picked g) place b.refused in
+    let so : IsPickRefused s.course.pool a.place a.ready b.picked g = subst (λ (r : ℕ). IsPickRefused s.course.pool a.place r b.picked g) ready at in
+    let there : IsPickRefused s.course.pool a.place a.ready a.picked g = subst (λ (k : ℕ). IsPickRefused s.course.pool a.place a.ready k g) picked so in
     one_fault s.course.pool a.place a.ready a.picked f g a.goes_on.counts some other a.refused there
 
 -- ---- two plays of a pool

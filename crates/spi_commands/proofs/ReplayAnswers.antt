@@ -14,7 +14,7 @@ use Rattle.spi_commands.specs.Reading.{IsRead}
 use Rattle.spi_commands.specs.Refusals.{IsLineOf}
 use Rattle.spi_commands.specs.Replays.{RefusesReplay}
 use Rattle.spi_commands.specs.Ran.{IsRan}
-use Rattle.spi_commands.specs.Replaying.{ReplaysTo, IsJudged, IsReplayText}
+use Rattle.spi_commands.specs.Replaying.{ReplaysTo, AreEventsJudged, IsReplayText}
 use Rattle.spi_commands.specs.Run.{IsAnswered}
 
 -- an answer with this status
@@ -23,18 +23,18 @@ answered bytes a status e h = subst (λ s. ReplaysTo bytes s a.output.items) (sy
 
 -- a schedule that runs through
 pub judged : (bytes : List ℕ) (f : File) (replay : Replay) (result : Result Answer Stop) → IsRead bytes f → IsRan bytes (meant f) false (Through replay)
-    → IfOk result (λ a. IsJudged (map event_of replay.events.items) a.status × IsReplayText (meant f) (map event_of replay.events.items) a.output.items) → IfOk result (λ a. ReplaysTo bytes a.status a.output.items)
+    → IfOk result (λ a. AreEventsJudged (map event_of replay.events.items) a.status × IsReplayText (meant f) (map event_of replay.events.items) a.output.items) → IfOk result (λ a. ReplaysTo bytes a.status a.output.items)
 judged bytes f replay (Ok a) (tree, is, stands, marks) ran h = by h.0
   where
-    by : IsJudged (map event_of replay.events.items) a.status → ReplaysTo bytes a.status a.output.items
+    by : AreEventsJudged (map event_of replay.events.items) a.status → ReplaysTo bytes a.status a.output.items
     by (inl (s, paid)) = answered bytes a Yes s (meant f, map event_of replay.events.items, (tree, is, stands), ran.0, paid, h.1)
     by (inr (s, unpaid)) = answered bytes a No s (meant f, map event_of replay.events.items, (tree, is, stands), ran.0, unpaid, h.1)
 judged bytes f replay (Err s) r ran h = tt
 
-pub told : (events : List Event) (f : File) (result : Result Answer Stop) → IfOk result (λ a. IsJudged events a.status × IsReplayText (meant f) events a.output.items) → IfOk result (λ a. IsAnswered a.status × (a.status ≢ Usage))
+pub told : (events : List Event) (f : File) (result : Result Answer Stop) → IfOk result (λ a. AreEventsJudged events a.status × IsReplayText (meant f) events a.output.items) → IfOk result (λ a. IsAnswered a.status × (a.status ≢ Usage))
 told events f (Ok a) h = by h.0
   where
-    by : IsJudged events a.status → IsAnswered a.status × (a.status ≢ Usage)
+    by : AreEventsJudged events a.status → IsAnswered a.status × (a.status ≢ Usage)
     by (inl (s, paid)) = subst (λ (s : Status). IsAnswered s × (s ≢ Usage)) (sym s) (tt, λ e. absurd (cc))
     by (inr (s, unpaid)) = subst (λ (s : Status). IsAnswered s × (s ≢ Usage)) (sym s) (tt, λ e. absurd (cc))
 told events f (Err s) h = tt

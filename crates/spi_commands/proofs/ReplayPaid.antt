@@ -7,7 +7,7 @@ use Rattle.spi_run.specs.Reduction.{Event, begun, ended, ended_many}
 use Rattle.spi_trace.specs.Pairing.{IsPairing, EndsPaired, ManysPaired}
 use Rattle.spi_trace.specs.Laws.{PairedIsPaid, PairedIsPaidMany}
 use Rattle.spi_report.specs.Events.{is_unpaid, first_unpaid}
-use Rattle.spi_commands.specs.Replaying.{ArePaid}
+use Rattle.spi_commands.specs.Replaying.{AreEventsPaid}
 
 -- where none is found, each has a begin
 none_later : (b : Bool) (k : ℕ) (o : Option ℕ) → (if b then Some k else o) ≡ None → o ≡ None
@@ -32,8 +32,8 @@ found k j (ended m ∷ es) (Some o ∷ is) e h g = found (suc k) j es is e (λ i
 found k j (ended_many m ∷ es) (None ∷ is) e h g = g 0 m at_first at_first
 found k j (ended_many m ∷ es) (Some o ∷ is) e h g = found (suc k) j es is e (λ i n a b. h (suc i) n (at_later a) (at_later b)) (λ i n a b. g (suc i) n (at_later a) (at_later b))
 
-pub paid_by_none : (events : List Event) (is : List (Option ℕ)) → PairedIsPaid → PairedIsPaidMany → IsPairing events is → first_unpaid 0 events is ≡ None → ArePaid events
+pub paid_by_none : (events : List Event) (is : List (Option ℕ)) → PairedIsPaid → PairedIsPaidMany → IsPairing events is → first_unpaid 0 events is ≡ None → AreEventsPaid events
 paid_by_none events is ends manys p e = ((ends events is p).0 (λ i m a b. unpaid_end 0 a b e), (manys events is p).0 (λ i m a b. unpaid_many 0 a b e))
 
-pub unpaid_by_one : (j : ℕ) (events : List Event) (is : List (Option ℕ)) → PairedIsPaid → PairedIsPaidMany → IsPairing events is → first_unpaid 0 events is ≡ Some j → ArePaid events → ⊥
+pub unpaid_by_one : (j : ℕ) (events : List Event) (is : List (Option ℕ)) → PairedIsPaid → PairedIsPaidMany → IsPairing events is → first_unpaid 0 events is ≡ Some j → AreEventsPaid events → ⊥
 unpaid_by_one j events is ends manys p e paid = found 0 j events is e ((ends events is p).1 paid.0) ((manys events is p).1 paid.1)

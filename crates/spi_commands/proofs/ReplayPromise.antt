@@ -7,7 +7,7 @@ use Rattle.spi_commands.specs.declared.status.Status.{Status}
 use Rattle.spi_commands.specs.declared.status.Status.TheVariants.{Yes, No, Refused, ReadFault, WriteFault, NoMemory, Usage}
 use Rattle.spi_commands.specs.Spelled.{SpellsFile, SpellsDerivable, SpellsNone}
 use Rattle.spi_commands.specs.Replays.{RunsThrough, IsUnplayed, SpellsUnplayed}
-use Rattle.spi_commands.specs.Replaying.{ArePaid, SpellsPaid, SpellsUnpaid, ReplaysTo, IsReplayed}
+use Rattle.spi_commands.specs.Replaying.{AreEventsPaid, SpellsPaid, SpellsUnpaid, ReplaysTo, IsReplayed}
 use Rattle.spi_commands.proofs.FileFacts.{OneFile, Safe, RefusedNone, holds_after}
 use Rattle.spi_commands.proofs.FileParts.{process_over_names, opponent_over_names}
 use Rattle.spi_commands.proofs.ScheduleSteps.{runs_of}
@@ -15,10 +15,10 @@ use Rattle.spi_commands.proofs.ScheduleFiles.{never_unplayed, runs_once, unrepla
 
 module _ (one : OneFile) (bytes : List ℕ) where
   -- the events of the file that the bytes spell
-  never_both : (f g : Meant) (es fs : List Event) → SpellsFile bytes f → SpellsFile bytes g → RunsThrough f es → RunsThrough g fs → ArePaid es → ArePaid fs
+  never_both : (f g : Meant) (es fs : List Event) → SpellsFile bytes f → SpellsFile bytes g → RunsThrough f es → RunsThrough g fs → AreEventsPaid es → AreEventsPaid fs
   never_both f g es fs spells other a b paid =
       let same = runs_once g es fs (subst (λ (h : Meant). RunsThrough h es) (one bytes f g spells other) a) b in
-      subst (λ (l : List Event). ArePaid l) same paid
+      subst (λ (l : List Event). AreEventsPaid l) same paid
 
   paid_never : SpellsPaid bytes → SpellsUnpaid bytes → ⊥
   paid_never (f, es, spells, a, paid) (g, fs, other, b, unpaid) = unpaid (never_both f g es fs spells other a b paid)

@@ -10,9 +10,9 @@ use Rattle.spi_commands.specs.declared.status.Status.{Status}
 use Rattle.spi_commands.specs.declared.status.Status.TheVariants.{Yes, No, Refused, ReadFault, WriteFault, NoMemory, Usage}
 use Rattle.spi_commands.specs.declared.file.Given.{Given}
 use Rattle.spi_commands.specs.declared.text.Text.{Text}
-use Rattle.spi_commands.specs.Reading.{Gives, GivesText}
+use Rattle.spi_commands.specs.Reading.{GivesSpelled, GivesText}
 use Rattle.spi_play.specs.Way.{Seen}
-use Rattle.spi_commands.specs.Asked.{IsWithin}
+use Rattle.spi_commands.specs.Asked.{AreNumbersKnown}
 use Rattle.spi_commands.specs.Spelled.{IsManySafe}
 use Rattle.spi_commands.specs.Checking.{IsExact}
 use Rattle.spi_commands.specs.Commands.{AnswersTo, Promise}
@@ -55,20 +55,20 @@ module _ (asks : Option Command) (left : Option (List ℕ)) (before after : List
       by (Some bytes) ends = λ no_read no_write. completes (Wants asks bytes before after) old new status (λ e. no_read (read e)) (λ e. no_write (write e)) ends
 
   -- and keeps its promise
-  kept : Facts → (players : ℕ) → (¬ (status ≡ NoMemory) → IfSome asks (IsWithin players)) → (command : Command) → asks ≡ Some command → (bytes : List ℕ) → Ends (Wants asks bytes before after) old new status → IsUndisturbed r s t u status → Promise command bytes before after old new status
+  kept : Facts → (players : ℕ) → (¬ (status ≡ NoMemory) → IfSome asks (AreNumbersKnown players)) → (command : Command) → asks ≡ Some command → (bytes : List ℕ) → Ends (Wants asks bytes before after) old new status → IsUndisturbed r s t u status → Promise command bytes before after old new status
   kept facts players within command is bytes ends (no_read, no_write, memory) =
       let ends_so : Ends (Wants (Some command) bytes before after) old new status = subst (λ (o : Option Command). Ends (Wants o bytes before after) old new status) is ends in
       let done : Completes (Wants (Some command) bytes before after) old new status = completes (Wants (Some command) bytes before after) old new status (λ e. no_read (read e)) (λ e. no_write (write e)) ends_so in
-      elim done [ inl none ↦ absurd (memory none) | inr some ↦ promised facts players command (subst (λ (o : Option Command). IfSome o (IsWithin players)) is (within memory)) bytes before after old new some.0 status some.1 some.2 ]
+      elim done [ inl none ↦ absurd (memory none) | inr some ↦ promised facts players command (subst (λ (o : Option Command). IfSome o (AreNumbersKnown players)) is (within memory)) bytes before after old new some.0 status some.1 some.2 ]
 
-  pub promise : Facts → (players : ℕ) → (¬ (status ≡ NoMemory) → IfSome asks (IsWithin players)) → IfSome left (λ bytes. Ends (Wants asks bytes before after) old new status) → (command : Command) → asks ≡ Some command → IfSome left (λ bytes. IsUndisturbed r s t u status → Promise command bytes before after old new status)
+  pub promise : Facts → (players : ℕ) → (¬ (status ≡ NoMemory) → IfSome asks (AreNumbersKnown players)) → IfSome left (λ bytes. Ends (Wants asks bytes before after) old new status) → (command : Command) → asks ≡ Some command → IfSome left (λ bytes. IsUndisturbed r s t u status → Promise command bytes before after old new status)
   promise facts players within ends command is = by left ends
     where
       by : (left : Option (List ℕ)) → IfSome left (λ bytes. Ends (Wants asks bytes before after) old new status) → IfSome left (λ bytes. IsUndisturbed r s t u status → Promise command bytes before after old new status)
       by None ends = tt
       by (Some bytes) ends = kept facts players within command is bytes ends
 
-  pub headline : Facts → (players : ℕ) → (¬ (status ≡ NoMemory) → IfSome asks (IsWithin players)) → IfSome left (λ bytes. Ends (Wants asks bytes before after) old new status) → asks ≡ Some Check → IfSome left (λ bytes. ¬ Rose r s → ¬ Rose t u → ¬ (status ≡ NoMemory) → IsExact bytes old new status)
+  pub headline : Facts → (players : ℕ) → (¬ (status ≡ NoMemory) → IfSome asks (AreNumbersKnown players)) → IfSome left (λ bytes. Ends (Wants asks bytes before after) old new status) → asks ≡ Some Check → IfSome left (λ bytes. ¬ Rose r s → ¬ Rose t u → ¬ (status ≡ NoMemory) → IsExact bytes old new status)
   headline facts players within ends is = by left ends
     where
       by : (left : Option (List ℕ)) → IfSome left (λ bytes. Ends (Wants asks bytes before after) old new status) → IfSome left (λ bytes. ¬ Rose r s → ¬ Rose t u → ¬ (status ≡ NoMemory) → IsExact bytes old new status)
@@ -91,9 +91,9 @@ wants_by asks own before after (Some bytes) P (Ok a) is known h =
 wants_by asks own before after left P (Err e) is known h = tt
 
 -- what a command answers on what is given of the bytes that were left, and on their text
-pub wants_given : {E : Type 0} (asks : Option Command) (own : Command) (before after : List Seen) (left : Option (List ℕ)) (given : Given) (result : Result Answer E) → asks ≡ Some own → IfSome left (λ bytes. Gives bytes given)
-    → IfOk result (λ a. (bytes : List ℕ) → Gives bytes given → AnswersTo own bytes before after a.status a.output.items) → IfOk result (λ a. IfSome left (λ bytes. Wants asks bytes before after a.status a.output.items))
-wants_given asks own before after left given result is gives h = wants_by asks own before after left (λ bytes. Gives bytes given) result is gives h
+pub wants_given : {E : Type 0} (asks : Option Command) (own : Command) (before after : List Seen) (left : Option (List ℕ)) (given : Given) (result : Result Answer E) → asks ≡ Some own → IfSome left (λ bytes. GivesSpelled bytes given)
+    → IfOk result (λ a. (bytes : List ℕ) → GivesSpelled bytes given → AnswersTo own bytes before after a.status a.output.items) → IfOk result (λ a. IfSome left (λ bytes. Wants asks bytes before after a.status a.output.items))
+wants_given asks own before after left given result is gives h = wants_by asks own before after left (λ bytes. GivesSpelled bytes given) result is gives h
 
 pub wants_text : {E : Type 0} (asks : Option Command) (own : Command) (before after : List Seen) (left : Option (List ℕ)) (text : Text) (result : Result Answer E) → asks ≡ Some own → IfSome left (λ bytes. GivesText bytes text)
     → IfOk result (λ a. (bytes : List ℕ) → GivesText bytes text → AnswersTo own bytes before after a.status a.output.items) → IfOk result (λ a. IfSome left (λ bytes. Wants asks bytes before after a.status a.output.items))

@@ -10,11 +10,11 @@ use Rattle.spi_run.specs.declared.step.Event as declared
 use Rattle.spi_run.specs.View.{step as step_of, event as event_of}
 use Rattle.spi_term.specs.View.{message}
 use Rattle.spi_commands.specs.declared.schedule.Talks.{Talks}
-use Rattle.spi_run.specs.Reduction.{Configuration, Step, Event, Acts, acts_split, acts_match, acts_inl, acts_inr, acts_decrypt, acts_check, acts_begin, acts_end, acts_end_many, acts_cast, acts_new, acts_par, Takes, takes_act, takes_talk, Runs, runs_none, runs_silent, runs_event}
+use Rattle.spi_run.specs.Reduction.{Configuration, Step, Event, Acts, acts_split, acts_select, acts_inl, acts_inr, acts_decrypt, acts_check, acts_begin, acts_end, acts_end_many, acts_cast, acts_fresh, acts_par, Takes, takes_act, takes_talk, Runs, runs_none, runs_silent, runs_event}
 use Rattle.spi_run.proofs.Once.{takes_once}
 use Rattle.spi_replay.specs.declared.fault.StepFault.{StepFault}
 use Rattle.spi_replay.specs.declared.fault.StepFault.TheVariants.{NoMemory as OutOfMemory}
-use Rattle.spi_replay.specs.Stepping.{Pooled, FirstOutside, outside_here, outside_later, places_named, Refuses, no_place, not_ready, too_large, too_many, IsTaken}
+use Rattle.spi_replay.specs.Stepping.{Pooled, FirstOutside, outside_here, outside_later, places_named, RefusesPoolStep, no_place, not_ready, too_large, too_many, IsTaken}
 use Rattle.spi_commands.specs.Replays.{Replays, replays_none, replays_step, IsRefusedAt}
 use Rattle.spi_commands.specs.Ran.{AreTalks}
 
@@ -68,7 +68,7 @@ never_outside : {c d : Configuration} {s : Step} {e : Option Event} {k : ℕ} �
 never_outside (takes_act a x) o = one_inside (at_inside a) o
 never_outside (takes_talk a b x) o = two_inside (at_inside a) (at_inside b) o
 
-pub taken_never : {p q : Pooled} {s : Step} {e : Option Event} {f : StepFault} → IsTaken p s e q → Refuses p.configuration p.most s f → ⊥
+pub taken_never : {p q : Pooled} {s : Step} {e : Option Event} {f : StepFault} → IsTaken p s e q → RefusesPoolStep p.configuration p.most s f → ⊥
 taken_never t (no_place o) = never_outside t.takes o
 taken_never {q = q} {e = e} t (not_ready inside never) = never (e, q.configuration, t.takes)
 taken_never t (too_large ready large) = let small = t.small in omega (arith, small, large)
@@ -105,7 +105,7 @@ few_events (replays_step {e = Some event} t h) = let few = few_events h in omega
 -- each step uses one name more at most
 acts_names : {n k : ℕ} {p q : Process} {e : Option Event} {more : List Process} → Acts n p e k q more → k ≤ n + 1
 acts_names acts_split = omega arith
-acts_names (acts_match e) = omega arith
+acts_names (acts_select e) = omega arith
 acts_names acts_inl = omega arith
 acts_names acts_inr = omega arith
 acts_names (acts_decrypt e) = omega arith
@@ -114,7 +114,7 @@ acts_names acts_begin = omega arith
 acts_names acts_end = omega arith
 acts_names acts_end_many = omega arith
 acts_names acts_cast = omega arith
-acts_names acts_new = omega arith
+acts_names acts_fresh = omega arith
 acts_names acts_par = omega arith
 
 takes_names : {c d : Configuration} {s : Step} {e : Option Event} → Takes c s e d → d.names ≤ c.names + 1
@@ -197,7 +197,7 @@ pub came_all : (first now : Pooled) (i : ℕ) (steps : List program.Step) (event
 came_all first now i steps events talks keeps names h came same =
     (came.said, subst (λ (l : List Step). Replays first l (map event_of events) came.said now) (before_all i steps h) came.replays, came.kept, same)
 
-pub stops_at : (first now : Pooled) (i : ℕ) (steps : List program.Step) (events : List declared.Event) (talks : Talks) (keeps : Bool) (s d : program.Step) (fault : StepFault) → i < length steps → s ≡ get_or steps i d → Came first i steps events talks keeps now → (fault ≡ OutOfMemory) ⊎ Refuses now.configuration now.most (step_of s) fault → (fault ≡ OutOfMemory) ⊎ IsRefusedAt first (map step_of steps) i fault
+pub stops_at : (first now : Pooled) (i : ℕ) (steps : List program.Step) (events : List declared.Event) (talks : Talks) (keeps : Bool) (s d : program.Step) (fault : StepFault) → i < length steps → s ≡ get_or steps i d → Came first i steps events talks keeps now → (fault ≡ OutOfMemory) ⊎ RefusesPoolStep now.configuration now.most (step_of s) fault → (fault ≡ OutOfMemory) ⊎ IsRefusedAt first (map step_of steps) i fault
 stops_at first now i steps events talks keeps s d fault h is came (inl none) = inl none
 stops_at first now i steps events talks keeps s d fault h is came (inr refuses) = inr (record {
   early = before i steps;

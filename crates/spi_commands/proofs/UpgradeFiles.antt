@@ -7,13 +7,13 @@ use Rattle.spi_lex.specs.Writing.{IsKind}
 use Rattle.spi_tree.specs.Trees as t
 use Rattle.spi_term.specs.Spelling.{Spelling}
 use Rattle.spi_scope.specs.StandsFor.{Meant}
-use Rattle.spi_spell.proofs.Printable.{IsPart, IsOpponentPart, AreSteps, process_nodes, opponent_nodes, is_later, IsDerivationOf, IsPrintable}
+use Rattle.spi_spell.proofs.Printable.{IsPrintablePart, IsOpponentPart, AreSteps, process_nodes, opponent_nodes, is_later, IsDerivationOf, IsPrintable}
 use Rattle.spi_spell.proofs.Standing.{part_of, opponent_of}
 use Rattle.spi_commands.specs.Upgrading.{IsVersion2, AreRespelled, IsUpgrade}
 use Rattle.spi_commands.proofs.UpgradeVersions.{process_later, derivation_later, rules_later, derivation_kinds_later}
 use Rattle.spi_commands.proofs.UpgradeNames.{respelled_fit, as_many, respelled_distinct}
 
-part_later : (k : ℕ) (p : Spelling) → IsPart false k p → IsPart true k p
+part_later : (k : ℕ) (p : Spelling) → IsPrintablePart false k p → IsPrintablePart true k p
 part_later k p h = record { names = h.names; over = h.over; fits = process_later p.process h.fits; nests = h.nests }
 
 opponent_later : (k : ℕ) (o : Option Spelling) → IsOpponentPart false k o → IsOpponentPart true k o
@@ -36,7 +36,7 @@ from_first f g d h one v r =
     let new : is_later g ≡ true = ap (λ (n : ℕ). n == 2) v.version in
     let n : length g.names ≡ length f.names = as_many f.names r in
     let words : AllByRecursion (λ w. IsKind (words_of false) (kinds.Word w)) f.names = subst (λ (l : Bool). AllByRecursion (λ w. IsKind (words_of l) (kinds.Word w)) f.names) old h.words in
-    let process : IsPart false (length f.names) f.process = subst (λ (l : Bool). IsPart l (length f.names) f.process) old h.process in
+    let process : IsPrintablePart false (length f.names) f.process = subst (λ (l : Bool). IsPrintablePart l (length f.names) f.process) old h.process in
     let opponent : IsOpponentPart false (length f.names) f.opponent = subst (λ (l : Bool). IsOpponentPart l (length f.names) f.opponent) old h.opponent in
     let p : process_nodes g.process.process ≡ process_nodes f.process.process = ap (λ (s : Spelling). process_nodes s.process) v.process in
     let o : opponent_nodes g.opponent ≡ opponent_nodes f.opponent = ap opponent_nodes v.opponent in

@@ -13,11 +13,11 @@ use Rattle.spi_lex.specs.Writing.{IsKind}
 use Rattle.spi_tree.specs.Trees as t
 use Rattle.spi_tree.specs.Pieces.{Piece, msg_pieces, msgs_pieces, atom_pieces, atoms_pieces, effect_pieces, written_pieces, deriv_pieces, derivs_pieces, derivation_pieces, kinds_in}
 use Rattle.spi_tree.specs.Formed.{IsMsg, AreMsgs, IsAtom, AreAtoms, IsWritten, IsDeriv, AreDerivs, IsDerivation}
-use Rattle.spi_parse.specs.Formed.{HasRules, HaveRules, IsDerived}
+use Rattle.spi_parse.specs.Formed.{HasRules, HaveRules, IsFormedDerived}
 use Rattle.spi_parse.specs.Rules.{first_rules, later_rules, arity_by, arity_of}
 use Rattle.spi_rules.specs.declared.rule.Rule.{Rule}
 use Rattle.spi_rules.specs.Rule.{spelled, named}
-use Rattle.spi_term.specs.Term.{Message, bound, name, unit, pair, in_left, in_right, enc, hash, Atom, ends, checks, many, Effect, Ty, un, unit_ty, pair_ty, sum_ty, key, nonce, Leaf, Sends, Stops, Prefix, Recvs, Serves, Splits, Selects, Decrypts, Checks, Begins, Ends, EndManys, Casts, Makes, Fork, Cases, Pars, Process, leaf, prefix, fork}
+use Rattle.spi_term.specs.Term.{Message, bound, name, unit, pair, in_left, in_right, enc, hash, Atom, ends, checks, many, Effect, Ty, un, unit_ty, pair_ty, sum_ty, key, nonce, Leaf, Sends, Stops, Prefix, Recvs, Serves, Splits, Selects, Decrypts, Checks, Begins, Ends, EndManys, Casts, Freshes, Fork, Branches, Pars, Process, leaf, prefix, fork}
 use Rattle.spi_spell.proofs.Printable.{HasVersion, MessageFits, AtomFits, EffectFits, PartsFit, TyFits, LeafFits, PrefixFits, ForkFits, ProcessFits}
 use Rattle.spi_commands.specs.Upgrading.{IsNewWord}
 
@@ -71,10 +71,10 @@ prefix_later (Begins m) h = message_later m h
 prefix_later (Ends m) h = message_later m h
 prefix_later (EndManys m) h = (refl, message_later m h.1)
 prefix_later (Casts m a) h = (message_later m h.0, type_later a h.1)
-prefix_later (Makes a) h = type_later a h
+prefix_later (Freshes a) h = type_later a h
 
 fork_later : (f : Fork) → ForkFits false f → ForkFits true f
-fork_later (Cases m a b) h = (message_later m h.0, type_later a h.1, type_later b h.2)
+fork_later (Branches m a b) h = (message_later m h.0, type_later a h.1, type_later b h.2)
 fork_later Pars h = tt
 
 pub process_later : (p : Process) → ProcessFits false p → ProcessFits true p
@@ -141,7 +141,7 @@ mutual
   later_all_rules t.no_derivs h = tt
   later_all_rules (t.more_derivs d ds) h = (later_rules_of d h.0, later_all_rules ds h.1)
 
-pub rules_later : (d : Option t.Deriv) → IsDerived false d → IsDerived true d
+pub rules_later : (d : Option t.Deriv) → IsFormedDerived false d → IsFormedDerived true d
 rules_later None h = tt
 rules_later (Some d) h = later_rules_of d h
 
@@ -241,9 +241,9 @@ mutual
   derivs_old n t.no_derivs r f g h = h
   derivs_old n (t.more_derivs d ds) r f g h = deriv_old n d _ f.0 g.0 (derivs_old n ds r f.1 g.1 h)
 
-derivation_old : (d : Option t.Deriv) → IsDerivation false d → IsDerived false d → AreOld (derivation_pieces d [])
+derivation_old : (d : Option t.Deriv) → IsDerivation false d → IsFormedDerived false d → AreOld (derivation_pieces d [])
 derivation_old None f g = tt
 derivation_old (Some d) f g = (tt, deriv_old 1 d [] f g tt)
 
-pub derivation_kinds_later : (d : Option t.Deriv) → IsDerivation false d → IsDerived false d → AllByRecursion (IsKind version_1) (kinds_in (derivation_pieces d [])) → AllByRecursion (IsKind version_2) (kinds_in (derivation_pieces d []))
+pub derivation_kinds_later : (d : Option t.Deriv) → IsDerivation false d → IsFormedDerived false d → AllByRecursion (IsKind version_1) (kinds_in (derivation_pieces d [])) → AllByRecursion (IsKind version_2) (kinds_in (derivation_pieces d []))
 derivation_kinds_later d f g h = kinds_later (kinds_in (derivation_pieces d [])) (derivation_old d f g) h

@@ -14,7 +14,7 @@ use Rattle.spi_rules.specs.Derivations.{RuleUse, Proves}
 use Rattle.spi_rules.specs.Deriv.{rule_use, rule_uses, IsTree}
 use Rattle.spi_rules.specs.declared.deriv.Deriv.{Deriv}
 use Rattle.spi_fault.specs.declared.fault.Fault.{Fault}
-use Rattle.spi_fault.specs.Faults.{Told, told, IsUnpaid, TellsUnpaid}
+use Rattle.spi_fault.specs.Faults.{ToldFault, told, IsUnpaid, TellsUnpaid}
 use Rattle.spi_report.specs.Fault.{fault_text}
 use Rattle.spi_report.specs.Wrong.{wrong_text}
 use Rattle.spi_audit.specs.declared.audited.Audited.{Audited}
@@ -65,7 +65,7 @@ wrong_line bytes output f us i (tree, is, stands, marks) e w t =
     (tree, meant f, us, is, stands, e, inl (i, w, subst (λ m. output ≡ wrong_text bytes (use_of m i) i) marks t))
 
 -- the line of what is left unpaid
-unpaid_line : (bytes output : List ℕ) (f : File) (us : List RuleUse) (es : Effect) (fault : Told) → IsRead bytes f → uses_of f.derivation ≡ Some us → LeavesUnpaid (untrusted f.process.names) f.process.process us es → IsUnpaid (names_of (marked f)) es fault → output ≡ fault_text bytes (place_of (marked f)) (names_of (marked f)) fault → IsUnprovedLine bytes output
+unpaid_line : (bytes output : List ℕ) (f : File) (us : List RuleUse) (es : Effect) (fault : ToldFault) → IsRead bytes f → uses_of f.derivation ≡ Some us → LeavesUnpaid (untrusted f.process.names) f.process.process us es → IsUnpaid (names_of (marked f)) es fault → output ≡ fault_text bytes (place_of (marked f)) (names_of (marked f)) fault → IsUnprovedLine bytes output
 unpaid_line bytes output f us es fault (tree, is, stands, marks) e l u t =
     (tree, meant f, us, is, stands, e, inr (es, fault, l, subst (λ m. IsUnpaid (names_of m) es fault) marks u, subst (λ m. output ≡ fault_text bytes (place_of m) (names_of m) fault) marks t))
 

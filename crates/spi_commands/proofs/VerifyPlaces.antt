@@ -9,7 +9,7 @@ use Rattle.spi_lex.proofs.Lexed.{lexed}
 use Rattle.spi_tree.specs.Trees as t
 use Rattle.spi_tree.specs.Formed.{is_later}
 use Rattle.spi_tree.specs.Pieces.{Piece, opens, cell, closes, kinds_in, ends, deriv_pieces, derivs_pieces, derivation_pieces, file_pieces}
-use Rattle.spi_parse.specs.Formed.{IsFile, IsDerived, HasRules, HaveRules, number_of, is_written, whole_file}
+use Rattle.spi_parse.specs.Formed.{IsFile, IsFormedDerived, HasRules, HaveRules, number_of, is_written, whole_file}
 use Rattle.spi_parse.specs.Rules.{rules_of, arity_by, arity_of, writes_effect}
 use Rattle.spi_rules.specs.declared.rule.Rule.{Rule}
 use Rattle.spi_rules.specs.declared.rule.Rule.TheVariants.{ProcSub}
@@ -30,28 +30,28 @@ use Rattle.spi_commands.proofs.FilePlaces.{get_in, at_first, either}
 use Rattle.spi_commands.proofs.FileRefusals.{opens_within, tokens_within, spells_kinds}
 
 -- a use stands among the pieces of its derivation
-abbrev Stands : Piece → List Piece → Type 0
-Stands x r = In x r
+abbrev IsAmongPieces : Piece → List Piece → Type 0
+IsAmongPieces x r = In x r
 
-stands_on : (x : Piece) (a : Piece) (r : List Piece) → Stands x r → Stands x (a ∷ r)
+stands_on : (x : Piece) (a : Piece) (r : List Piece) → IsAmongPieces x r → IsAmongPieces x (a ∷ r)
 stands_on x a r i = in_later i
 
 mutual
   use_in : (n : ℕ) (d : t.Deriv) (s : Span) (r : List Piece) → In s (use_places d) → In (opens s.from) (deriv_pieces n d r)
   use_in n (t.rule u w es ds) s r i =
-      at_first i (λ j. in_later (in_later (in_later (Past.past_written {P = Stands (opens s.from)} (stands_on (opens s.from)) es _ (more_in (n + 1) ds s _ j)))))
+      at_first i (λ j. in_later (in_later (in_later (Past.past_written {P = IsAmongPieces (opens s.from)} (stands_on (opens s.from)) es _ (more_in (n + 1) ds s _ j)))))
 
   more_in : (n : ℕ) (ds : t.Derivs) (s : Span) (r : List Piece) → In s (all_use_places ds) → In (opens s.from) (derivs_pieces n ds r)
   more_in n t.no_derivs s r i = elim i [ ]
   more_in n (t.more_derivs d ds) s r i =
-      either (use_places d) (all_use_places ds) i (λ k. use_in n d s _ k) (λ k. Past.past_deriv {P = Stands (opens s.from)} (stands_on (opens s.from)) n d _ (more_in n ds s r k))
+      either (use_places d) (all_use_places ds) i (λ k. use_in n d s _ k) (λ k. Past.past_deriv {P = IsAmongPieces (opens s.from)} (stands_on (opens s.from)) n d _ (more_in n ds s r k))
 
 derivation_in_pieces : (o : Option t.Deriv) (s : Span) (r : List Piece) → In s (rule_places o) → In (opens s.from) (derivation_pieces o r)
 derivation_in_pieces None s r i = elim i [ ]
 derivation_in_pieces (Some d) s r i = in_later (use_in 1 d s r i)
 
 use_opens : (tree : t.File) (s : Span) → In s (rule_places tree.derivation) → In (opens s.from) (file_pieces tree [])
-use_opens tree s i = Past.past_parts {P = Stands (opens s.from)} (stands_on (opens s.from)) tree (derivation_in_pieces tree.derivation s _ i)
+use_opens tree s i = Past.past_parts {P = IsAmongPieces (opens s.from)} (stands_on (opens s.from)) tree (derivation_in_pieces tree.derivation s _ i)
 
 -- each use that is asked for stands in the bytes
 pub rule_within : (bytes : List ℕ) (tree : t.File) → IsTreeOf bytes tree → (i : ℕ) → (rule_at tree i).from ≤ length bytes
@@ -62,21 +62,21 @@ rule_within bytes tree is i = by (slice_get (rule_places tree.derivation) i) ref
     by (Some s) h = opens_within (length bytes) 0 0 s.from (whole_file tree) is.tokens is.spelled (lexed bytes is.tokens is.lexed).1 (use_opens tree s (get_in (rule_places tree.derivation) i s h))
 
 -- each use has a token of its own
-abbrev Longer : ℕ → List Piece → Type 0
-Longer k r = k ≤ length (kinds_in r)
+abbrev UsesHaveTokens : ℕ → List Piece → Type 0
+UsesHaveTokens k r = k ≤ length (kinds_in r)
 
-longer_on : (k : ℕ) (a : Piece) (r : List Piece) → Longer k r → Longer k (a ∷ r)
+longer_on : (k : ℕ) (a : Piece) (r : List Piece) → UsesHaveTokens k r → UsesHaveTokens k (a ∷ r)
 longer_on k (opens from) r h = h
 longer_on k (cell kind deep) r h = omega (arith, h)
 longer_on k (closes to) r h = h
 
 mutual
-  uses_long : (n k : ℕ) (d : t.Deriv) (r : List Piece) → Longer k r → Longer (length (uses_in d) + k) (deriv_pieces n d r)
+  uses_long : (n k : ℕ) (d : t.Deriv) (r : List Piece) → UsesHaveTokens k r → UsesHaveTokens (length (uses_in d) + k) (deriv_pieces n d r)
   uses_long n k (t.rule s w es ds) r h =
-      let more = Past.past_written {P = Longer (length (all_uses_in ds) + k)} (longer_on (length (all_uses_in ds) + k)) es (derivs_pieces (n + 1) ds (ends s r)) (all_long (n + 1) k ds (ends s r) h) in
+      let more = Past.past_written {P = UsesHaveTokens (length (all_uses_in ds) + k)} (longer_on (length (all_uses_in ds) + k)) es (derivs_pieces (n + 1) ds (ends s r)) (all_long (n + 1) k ds (ends s r) h) in
       omega (arith, more)
 
-  all_long : (n k : ℕ) (ds : t.Derivs) (r : List Piece) → Longer k r → Longer (length (all_uses_in ds) + k) (derivs_pieces n ds r)
+  all_long : (n k : ℕ) (ds : t.Derivs) (r : List Piece) → UsesHaveTokens k r → UsesHaveTokens (length (all_uses_in ds) + k) (derivs_pieces n ds r)
   all_long n k t.no_derivs r h = let e : k ≤ length (kinds_in r) = h in omega (arith, e)
   all_long n k (t.more_derivs d ds) r h =
       let more = uses_long n (length (all_uses_in ds) + k) d (derivs_pieces n ds r) (all_long n k ds r h) in
@@ -86,13 +86,13 @@ abbrev uses_of_tree : Option (List RuleUse) → List RuleUse
 uses_of_tree None = []
 uses_of_tree (Some us) = us
 
-derivation_long : (o : Option t.Deriv) (r : List Piece) → Longer (length (uses_of_tree (derivation_in o))) (derivation_pieces o r)
+derivation_long : (o : Option t.Deriv) (r : List Piece) → UsesHaveTokens (length (uses_of_tree (derivation_in o))) (derivation_pieces o r)
 derivation_long None r = omega arith
 derivation_long (Some d) r = let h = uses_long 1 0 d r (omega arith) in omega (arith, h)
 
 pub few_uses : (bytes : List ℕ) (tree : t.File) (us : List RuleUse) → IsTreeOf bytes tree → derivation_in tree.derivation ≡ Some us → length us ≤ limit
 few_uses bytes tree us is e =
-    let long = Past.past_parts {P = Longer (length (uses_of_tree (derivation_in tree.derivation)))} (longer_on (length (uses_of_tree (derivation_in tree.derivation)))) tree (derivation_long tree.derivation _) in
+    let long = Past.past_parts {P = UsesHaveTokens (length (uses_of_tree (derivation_in tree.derivation)))} (longer_on (length (uses_of_tree (derivation_in tree.derivation)))) tree (derivation_long tree.derivation _) in
     let same : kinds_in (whole_file tree) ≡ kinds_of is.tokens = spells_kinds 0 (whole_file tree) is.tokens is.spelled in
     let each : length (kinds_of is.tokens) ≡ length is.tokens = kinds_long is.tokens in
     let most = tokens_within 0 (length bytes) is.tokens (lexed bytes is.tokens is.lexed).1 in
@@ -141,7 +141,7 @@ mutual
 pub one_derivation : (tree : t.File) (us : List RuleUse) → IsFile tree → derivation_in tree.derivation ≡ Some us → IsTree us
 one_derivation tree us is e = by tree.derivation is.rules e
   where
-    by : (o : Option t.Deriv) → IsDerived (is_later tree) o → derivation_in o ≡ Some us → IsTree us
+    by : (o : Option t.Deriv) → IsFormedDerived (is_later tree) o → derivation_in o ≡ Some us → IsTree us
     by None h f = absurd (cc)
     by (Some d) h f =
         let same : uses_in d ≡ us = (let g : Some (uses_in d) ≡ Some us = f in cc) in

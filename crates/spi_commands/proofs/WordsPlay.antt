@@ -82,11 +82,11 @@ between s p = standing idle 1 (rows s) (pend p)
 abbrev amid : List Row → Which → Walk
 amid rs x = standing (option (id_of x)) 1 rs (Some (id_of x, []))
 
-abbrev Uses : Seen → Which → Text → Option Seen → Type 0
-Uses s x v None = use_fault false (rule x) (v ∷ []) (rows s) ≡ ArgumentConflict ∷ []
-Uses s x v (Some t) = (use_fault false (rule x) (v ∷ []) (rows s) ≡ []) × (used (rule x) (v ∷ []) (rows s) ≡ rows t)
+abbrev UsesSeat : Seen → Which → Text → Option Seen → Type 0
+UsesSeat s x v None = use_fault false (rule x) (v ∷ []) (rows s) ≡ ArgumentConflict ∷ []
+UsesSeat s x v (Some t) = (use_fault false (rule x) (v ∷ []) (rows s) ≡ []) × (used (rule x) (v ∷ []) (rows s) ≡ rows t)
 
-uses : (s : Seen) (x : Which) (v : Text) → Uses s x v (more s x v)
+uses : (s : Seen) (x : Which) (v : Text) → UsesSeat s x v (more s x v)
 uses none steps v = (refl, refl)
 uses none player v = (refl, refl)
 uses (one steps u) steps v = refl
@@ -102,7 +102,7 @@ abbrev Settles : Seen → Pending → Option Seen → Type 0
 Settles s p None = settle_fault rules false (hold (rows s) (pend p)) ≡ ArgumentConflict ∷ []
 Settles s p (Some t) = (settle_fault rules false (hold (rows s) (pend p)) ≡ []) × ((settled rules (hold (rows s) (pend p))).rows ≡ rows t)
 
-as_used : (s : Seen) (x : Which) (v : Text) (o : Option Seen) → Uses s x v o → Settles s (value x v) o
+as_used : (s : Seen) (x : Which) (v : Text) (o : Option Seen) → UsesSeat s x v o → Settles s (value x v) o
 as_used s steps v None h = h
 as_used s player v None h = h
 as_used s steps v (Some t) h = h
@@ -233,7 +233,7 @@ module _ (players : ℕ) where
       → after shape read (between s p) (joined_word x v ∷ rest) ≡ wants (then s p) (bare_word x ∷ v ∷ pieces rest) players
   joined_word_step rest next h s p x v = by (then s p) (settles s p)
     where
-      then_used : (t : Seen) (o : Option Seen) → Settles s p (Some t) → Uses t x v o → after shape read (between s p) (joined_word x v ∷ rest) ≡ wants o (pieces rest) players
+      then_used : (t : Seen) (o : Option Seen) → Settles s p (Some t) → UsesSeat t x v o → after shape read (between s p) (joined_word x v ∷ rest) ≡ wants o (pieces rest) players
       then_used t None e u = sym (stops shape read (between s p) (joined_word x v) rest ArgumentConflict [] (joined_turn (rows s) (pend p) x v ∙ ap₂ (λ k rs. or_else (or_else k (use_fault false (rule x) (v ∷ []) rs)) []) e.0 e.1 ∙ ap (λ k. or_else k []) u))
       then_used t (Some q) e u =
           goes shape read (between s p) (between q nothing) (joined_word x v) rest

@@ -9,7 +9,7 @@ use Rattle.clap.specs.Walk.{Rule, Text, answers_to}
 use Rattle.clap.specs.Simple.{Shape, label_of}
 use Rattle.spi_commands.specs.declared.asked.Command.{Command}
 use Rattle.spi_commands.specs.Number.{below, number, number_below}
-use Rattle.spi_commands.specs.Asked.{IsWithin, Numbered, asked, at_least, number_table, pieces, play_all, play_one, row_of, with_number, with_options, word_table}
+use Rattle.spi_commands.specs.Asked.{AreNumbersKnown, Numbered, asked, at_least, number_table, pieces, play_all, play_one, row_of, with_number, with_options, word_table}
 use Rattle.spi_commands.specs.Options.{words_of}
 use Rattle.spi_commands.proofs.WordsPlay.{built_shape}
 
@@ -80,18 +80,18 @@ pub number_within : (most : ℕ) (text : Text) → IfSome (number_below most tex
 number_within most text = below_within most (number text)
 
 -- the command keeps what is known of its number
-abbrev pub Keeps : ℕ → Numbered → Type 0
-Keeps players form = (n : ℕ) → form.least ≤ n → n ≤ form.most → IsWithin players (form.command n)
+abbrev pub KeepsNumber : ℕ → Numbered → Type 0
+KeepsNumber players form = (n : ℕ) → form.least ≤ n → n ≤ form.most → AreNumbersKnown players (form.command n)
 
-at_least_within : (players : ℕ) (form : Numbered) → Keeps players form → (o : Option ℕ) → IfSome o (λ n. n < form.most + 1) → IfSome (at_least form o) (IsWithin players)
+at_least_within : (players : ℕ) (form : Numbered) → KeepsNumber players form → (o : Option ℕ) → IfSome o (λ n. n < form.most + 1) → IfSome (at_least form o) (AreNumbersKnown players)
 at_least_within players form keeps None few = tt
 at_least_within players form keeps (Some n) few = by (nat_lt n form.least) refl
   where
-    by : (b : Bool) → nat_lt n form.least ≡ b → IfSome (cond b None (Some (form.command n))) (IsWithin players)
+    by : (b : Bool) → nat_lt n form.least ≡ b → IfSome (cond b None (Some (form.command n))) (AreNumbersKnown players)
     by true e = tt
     by false e = keeps n (grind (arith, nat_tests)) (omega (arith, few))
 
-with_number_within : (players : ℕ) (o : Option Numbered) → IfSome o (Keeps players) → (words : List Text) → IfSome (with_number o words) (IsWithin players)
+with_number_within : (players : ℕ) (o : Option Numbered) → IfSome o (KeepsNumber players) → (words : List Text) → IfSome (with_number o words) (AreNumbersKnown players)
 with_number_within players None k words = tt
 with_number_within players (Some form) k [] = tt
 with_number_within players (Some form) k (n ∷ []) = at_least_within players form k (number_below (form.most + 1) n) (number_within (form.most + 1) n)
@@ -99,26 +99,26 @@ with_number_within players (Some form) k (n ∷ m ∷ more) = tt
 
 -- ---- what is known of the commands that are asked for
 
-pub words_within : (players : ℕ) → Each (IsWithin players) word_table
+pub words_within : (players : ℕ) → Each (AreNumbersKnown players) word_table
 words_within players = search
 
-pub numbers_within : (players : ℕ) → Each (Keeps players) number_table
+pub numbers_within : (players : ℕ) → Each (KeepsNumber players) number_table
 numbers_within players = search
 
-play_one_within : (players : ℕ) (o p : Option ℕ) → IfSome o (λ n. n < 1001) → IfSome p (λ n. n < players) → IfSome (play_one o p) (IsWithin players)
+play_one_within : (players : ℕ) (o p : Option ℕ) → IfSome o (λ n. n < 1001) → IfSome p (λ n. n < players) → IfSome (play_one o p) (AreNumbersKnown players)
 play_one_within players None p few place = tt
 play_one_within players (Some n) None few place = tt
 play_one_within players (Some n) (Some m) few place = (omega (arith, few), λ x e. let same : m ≡ x = cc in subst (λ k. k < players) same place)
 
-play_all_within : (players : ℕ) (o : Option ℕ) → IfSome o (λ n. n < 1001) → IfSome (play_all o) (IsWithin players)
+play_all_within : (players : ℕ) (o : Option ℕ) → IfSome o (λ n. n < 1001) → IfSome (play_all o) (AreNumbersKnown players)
 play_all_within players None few = tt
 play_all_within players (Some n) few = (omega (arith, few), λ x e. absurd (true≢false (sym (ap is_some e))))
 
-chosen_within : (players : ℕ) (b : Bool) (o p : Option Command) → IfSome o (IsWithin players) → IfSome p (IsWithin players) → IfSome (cond b o p) (IsWithin players)
+chosen_within : (players : ℕ) (b : Bool) (o p : Option Command) → IfSome o (AreNumbersKnown players) → IfSome p (AreNumbersKnown players) → IfSome (cond b o p) (AreNumbersKnown players)
 chosen_within players true o p first second = first
 chosen_within players false o p first second = second
 
-options_within : (players : ℕ) (words : List Text) → IfSome (with_options words players) (IsWithin players)
+options_within : (players : ℕ) (words : List Text) → IfSome (with_options words players) (AreNumbersKnown players)
 options_within players [] = tt
 options_within players (a ∷ []) = tt
 options_within players (a ∷ n ∷ []) = chosen_within players (bytes_eq a (codes "--steps")) _ _ (play_all_within players (number_below 1001 n) (number_within 1001 n)) tt
@@ -128,9 +128,9 @@ options_within players (a ∷ n ∷ b ∷ m ∷ []) =
     (chosen_within players (bytes_eq a (codes "--player") && bytes_eq b (codes "--steps")) _ _ (play_one_within players (number_below 1001 m) (number_below players n) (number_within 1001 m) (number_within players n)) tt)
 options_within players (a ∷ n ∷ b ∷ m ∷ c ∷ more) = tt
 
-pub asked_within : (words : List Text) (players : ℕ) → IfSome (asked words players) (IsWithin players)
+pub asked_within : (words : List Text) (players : ℕ) → IfSome (asked words players) (AreNumbersKnown players)
 asked_within [] players = tt
-asked_within (word ∷ []) players = each_row (IsWithin players) word word_table (words_within players)
+asked_within (word ∷ []) players = each_row (AreNumbersKnown players) word word_table (words_within players)
 asked_within (word ∷ other ∷ more) players =
     chosen_within players (bytes_eq word (codes "play")) _ _ (options_within players (pieces (other ∷ more)))
-    (with_number_within players (row_of word number_table) (each_row (Keeps players) word number_table (numbers_within players)) (other ∷ more))
+    (with_number_within players (row_of word number_table) (each_row (KeepsNumber players) word number_table (numbers_within players)) (other ∷ more))

@@ -100,7 +100,7 @@ reads_input (Some (Load sessions)) = false
 reads_input command = true
 
 -- what is known of a command's numbers, where there are so many players
-abbrev pub IsWithin : ℕ → Command → Type 0
-IsWithin players (Play most only) = (most ≤ 1000) × ForSome only (λ place. place < players)
-IsWithin players (Load sessions) = (1 ≤ sessions) × (sessions ≤ 500)
-IsWithin players command = ⊤
+abbrev pub AreNumbersKnown : ℕ → Command → Type 0
+AreNumbersKnown players (Play most only) = (most ≤ 1000) × ForSome only (λ place. place < players)
+AreNumbersKnown players (Load sessions) = (1 ≤ sessions) × (sessions ≤ 500)
+AreNumbersKnown players command = ⊤

@@ -12,9 +12,9 @@ use Rattle.spi_bench.specs.Parts.{Benched, IsYes}
 use Rattle.spi_bench.specs.Whole.{whole}
 use Rattle.spi_edits.specs.Edits.{Edit, Bench}
 use Rattle.spi_edits.specs.Grammar.{whole_bench, IsBench}
-use Rattle.spi_edits.specs.Reads.{IsSpelled}
+use Rattle.spi_edits.specs.Reads.{IsBenchSpelled}
 use Rattle.spi_workbench.specs.Reading.{bench_after}
-use Rattle.spi_workbench.specs.Answers.{BenchStands, Refuses, AreVerdicts}
+use Rattle.spi_workbench.specs.Answers.{BenchStands, RefusesEdits, AreVerdicts}
 use Rattle.spi_workbench.specs.declared.answer.Refusal.{Refusal}
 use Rattle.spi_workbench.specs.declared.answer.Refusal.TheVariants.{TooManyShared, Scope, TooManyEdits}
 use Rattle.spi_workbench.specs.declared.answer.Refusal.TheVariants.{UnknownPart, BenchTooLarge}
@@ -33,7 +33,7 @@ pub record IsBenchOf (bytes : List ℕ) (b : Bench) : Type 0 where
   pub within : length bytes ≤ limit
   pub tokens : List Token
   pub lexed : Lexes bytes (Ok tokens)
-  pub spelled : IsSpelled b tokens
+  pub spelled : IsBenchSpelled b tokens
 
 -- and nothing of it is refused
 abbrev pub SpellsBench : List ℕ → Bench → Type 0
@@ -65,7 +65,7 @@ bench_shown (BenchTooLarge s n) = decimal n
 
 -- the bench, of so many bytes, has this first refusal
 pub data IsUnjudged (b : Bench) (end : ℕ) : ℕ → Option ℕ → List ℕ → Type 0 where
-  unjudged : {r : Refusal} → Refuses b end r
+  unjudged : {r : Refusal} → RefusesEdits b end r
       → IsUnjudged b end (bench_number r) (Some (bench_place r)) (bench_shown r)
 
 abbrev pub HasUnjudged : List ℕ → ℕ → Option ℕ → List ℕ → Type 0
@@ -104,8 +104,8 @@ BenchesTo bytes =
     (IsLineOf bytes (RefusesBench bytes))
 
 -- what is told of verdicts: a line for each, and the last as the status
-abbrev pub IsTold : Verdicts → Status → List ℕ → Type 0
-IsTold v =
+abbrev pub AreVerdictsTold : Verdicts → Status → List ℕ → Type 0
+AreVerdictsTold v =
     Answers
     (λ output. IsTrue v.last × (output ≡ verdicts_text 0 v.each.items))
     (λ output. (¬ IsTrue v.last) × (output ≡ verdicts_text 0 v.each.items)) never
@@ -123,8 +123,8 @@ abbrev pub SpellsNoBench : List ℕ → Type 0
 SpellsNoBench bytes = (b : Bench) → ¬ SpellsBench bytes b
 
 -- the file's process is the whole of these parts, over as many free names
-abbrev pub IsWhole : Benched → Meant → Type 0
-IsWhole q file =
+abbrev pub IsWholeOf : Benched → Meant → Type 0
+IsWholeOf q file =
     (file.process.names ≡ q.free)
     × (file.process.process ≡ whole q.free q.shared (map (λ part. part.part.process) q.parts))
 
@@ -145,5 +145,5 @@ pub record IsBenchedOn (bytes : List ℕ) (old new : Option (List ℕ)) (status 
   pub written : (b : Bench) → SpellsBench bytes b
       → (output : List ℕ) × HasVerdicts b output × Appends old new output
   pub checked : (b : Bench) → SpellsBench bytes b → (before after : List Edit) → b.edits ≡ before ++ after
-      → (others : List ℕ) (file : Meant) → SpellsFile others file → IsWhole (bench_after b before) file
+      → (others : List ℕ) (file : Meant) → SpellsFile others file → IsWholeOf (bench_after b before) file
       → IsChecked (bench_after b before) others

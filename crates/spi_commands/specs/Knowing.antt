@@ -51,7 +51,7 @@ RefusesKnows i bytes = layered (RefusesReplay bytes) (layered (HasMuchSent bytes
 -- ---- answers
 
 -- the bytes spell a file whose schedule runs through, with few nodes in the data of its talks, and uses the name
-pub record IsAsked (i : ℕ) (bytes : List ℕ) (file : Meant) (events : List Event)
+pub record IsKnowsAsked (i : ℕ) (bytes : List ℕ) (file : Meant) (events : List Event)
     (run : RunsThrough file events) : Type 0 where
   pub spells : SpellsFile bytes file
   pub few : nodes_in run.talks ≤ talks_most
@@ -60,19 +60,19 @@ pub record IsAsked (i : ℕ) (bytes : List ℕ) (file : Meant) (events : List Ev
 -- and the name is known from what was sent, or isn't
 abbrev pub SpellsKnown : ℕ → List ℕ → Type 0
 SpellsKnown i bytes =
-    (file : Meant) × (events : List Event) × (run : RunsThrough file events) × IsAsked i bytes file events run
+    (file : Meant) × (events : List Event) × (run : RunsThrough file events) × IsKnowsAsked i bytes file events run
     × Knows (sent file run) (name i)
 
 abbrev pub SpellsUnknown : ℕ → List ℕ → Type 0
 SpellsUnknown i bytes =
-    (file : Meant) × (events : List Event) × (run : RunsThrough file events) × IsAsked i bytes file events run
+    (file : Meant) × (events : List Event) × (run : RunsThrough file events) × IsKnowsAsked i bytes file events run
     × (¬ Knows (sent file run) (name i))
 
 -- the text is that of a certificate of the name
 abbrev pub IsKnown : ℕ → List ℕ → List ℕ → Type 0
 IsKnown i bytes output =
     (file : Meant) × (events : List Event) × (run : RunsThrough file events) × (lines : List CertLine)
-    × IsAsked i bytes file events run
+    × IsKnowsAsked i bytes file events run
     × Knows (sent file run) (name i) × Certifies (sent file run) lines (name i)
     × (output ≡ known_text file.names i lines)
 

@@ -14,12 +14,12 @@ use Rattle.spi_scope.specs.StandsFor.{Meant}
 use Rattle.spi_narrate.specs.Narrations.{Narration}
 use Rattle.spi_narrate.specs.Grammar.{whole_narration, IsNarration}
 use Rattle.spi_narrate.specs.Faults.{items_of, IsFirstFault, IsFaultless}
-use Rattle.spi_narrate.specs.Reads.{IsSpelled}
+use Rattle.spi_narrate.specs.Reads.{IsNarrationSpelled}
 use Rattle.spi_narrate.specs.declared.fault.NarrateFault.TheVariants as faults
 use Rattle.spi_honest.specs.Narrated.{Told, NarratesSmall, free_of, begins}
 use Rattle.spi_narrator.specs.declared.answer.Refusal.{Refusal}
 use Rattle.spi_narrator.specs.declared.answer.Refusal.TheVariants.{NotFree, Scope, NotReady, TooLarge}
-use Rattle.spi_narrator.specs.Answers.{IsTold, Refuses as RefusesTelling}
+use Rattle.spi_narrator.specs.Answers.{IsTold, RefusesNarration as RefusesTelling}
 use Rattle.spi_commands.specs.declared.status.Status.{Status}
 use Rattle.spi_commands.specs.declared.status.Status.TheVariants.{Yes, Refused}
 use Rattle.spi_commands.specs.Spelled.{limit, SpellsFile}
@@ -35,7 +35,7 @@ pub record IsNarrationOf (bytes : List ℕ) (x : Narration) : Type 0 where
   pub within : length bytes ≤ limit
   pub tokens : List Token
   pub lexed : Lexes bytes (Ok tokens)
-  pub spelled : IsSpelled x tokens
+  pub spelled : IsNarrationSpelled x tokens
 
 -- and nothing is wrong in it behind the grammar
 abbrev pub SpellsNarration : List ℕ → Narration → Type 0

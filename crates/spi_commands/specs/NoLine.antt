@@ -7,7 +7,7 @@ use Rattle.spi_scope.specs.Points.{all_names}
 use Rattle.spi_scope.specs.Marks.{places, scopes}
 use Rattle.spi_scope.specs.Places.{place_in}
 use Rattle.spi_scope.specs.Chains.{chain_at}
-use Rattle.spi_fault.specs.Faults.{Told, IsFault}
+use Rattle.spi_fault.specs.Faults.{ToldFault, IsFault}
 use Rattle.spi_report.specs.Fault.{fault_text}
 use Rattle.spi_commands.specs.declared.status.Status.{Status}
 use Rattle.spi_commands.specs.Spelled.{IsTreeOf, IsDerivable}
@@ -23,7 +23,7 @@ spelled_at tree i = reverse (chain_at (scopes (all_names [] tree.decls) tree.pro
 -- the text is the line of the fault of the process that the bytes spell
 abbrev pub IsNo : List ℕ → List ℕ → Type 0
 IsNo bytes output =
-    (tree : File) × (file : Meant) × (fault : Told) × IsTreeOf bytes tree × StandsFor tree file
+    (tree : File) × (file : Meant) × (fault : ToldFault) × IsTreeOf bytes tree × StandsFor tree file
     × IsFault (spelled_at tree) file.process.names file.process.process fault
     × (output ≡ fault_text bytes (place_at tree) (spelled_at tree) fault)
 

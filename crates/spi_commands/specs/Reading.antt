@@ -30,10 +30,10 @@ abbrev pub IsUnread : List ℕ → Unread → Type 0
 IsUnread bytes = IsUnreadBy (Refuses bytes)
 
 -- the refusal has this number, stands there, and shows this
-abbrev pub Tells : ℕ → ℕ → List ℕ → Unread → Type 0
-Tells number offset shown (Refused r) = (r.number ≡ number) × (r.offset ≡ Some offset)
+abbrev pub TellsRefusal : ℕ → ℕ → List ℕ → Unread → Type 0
+TellsRefusal number offset shown (Refused r) = (r.number ≡ number) × (r.offset ≡ Some offset)
     × (r.shown.items ≡ shown)
-Tells number offset shown NoMemory = ⊤
+TellsRefusal number offset shown NoMemory = ⊤
 
 -- the tokens are those of the bytes, and these are few
 abbrev pub IsText : Text → Type 0
@@ -53,6 +53,6 @@ IsGiven (GivenFile bytes file) = (length bytes.items ≤ limit) × IsRead bytes.
 IsGiven (RefusedFile line) = ⊤
 
 -- what is given is what these bytes spell
-abbrev pub Gives : List ℕ → Given → Type 0
-Gives bytes (GivenFile taken file) = bytes ≡ taken.items
-Gives bytes (RefusedFile line) = IsRefusal bytes line.items
+abbrev pub GivesSpelled : List ℕ → Given → Type 0
+GivesSpelled bytes (GivenFile taken file) = bytes ≡ taken.items
+GivesSpelled bytes (RefusedFile line) = IsRefusal bytes line.items

@@ -14,17 +14,17 @@ use Rattle.spi_commands.specs.Refusals.{IsLineOf}
 use Rattle.spi_commands.specs.Replays.{RunsThrough, SpellsUnplayed, RefusesReplay}
 
 -- each end and endmany of them is paid
-abbrev pub ArePaid : List Event → Type 0
-ArePaid events = Paid events × PaidMany events
+abbrev pub AreEventsPaid : List Event → Type 0
+AreEventsPaid events = Paid events × PaidMany events
 
 -- the bytes spell a file whose schedule runs through with events that are paid, or with events that aren't
 abbrev pub SpellsPaid : List ℕ → Type 0
 SpellsPaid bytes = (file : Meant) × (events : List Event) × SpellsFile bytes file × RunsThrough file events
-    × ArePaid events
+    × AreEventsPaid events
 
 abbrev pub SpellsUnpaid : List ℕ → Type 0
 SpellsUnpaid bytes = (file : Meant) × (events : List Event) × SpellsFile bytes file × RunsThrough file events
-    × (¬ ArePaid events)
+    × (¬ AreEventsPaid events)
 
 -- the text has the events, each end with the begin that pays for it
 abbrev pub IsReplayText : Meant → List Event → List ℕ → Type 0
@@ -32,18 +32,18 @@ IsReplayText file events output = (from : List (Option ℕ)) × IsPairing events
     × (output ≡ events_text file.names events from)
 
 -- the status tells whether the events are paid
-abbrev pub IsJudged : List Event → Status → Type 0
-IsJudged events status = ((status ≡ Yes) × ArePaid events) ⊎ ((status ≡ No) × (¬ ArePaid events))
+abbrev pub AreEventsJudged : List Event → Status → Type 0
+AreEventsJudged events status = ((status ≡ Yes) × AreEventsPaid events) ⊎ ((status ≡ No) × (¬ AreEventsPaid events))
 
 abbrev pub IsPaidReplay : List ℕ → List ℕ → Type 0
 IsPaidReplay bytes output =
-    (file : Meant) × (events : List Event) × SpellsFile bytes file × RunsThrough file events × ArePaid events
+    (file : Meant) × (events : List Event) × SpellsFile bytes file × RunsThrough file events × AreEventsPaid events
     × IsReplayText file events output
 
 abbrev pub IsUnpaidReplay : List ℕ → List ℕ → Type 0
 IsUnpaidReplay bytes output =
     (file : Meant) × (events : List Event) × SpellsFile bytes file × RunsThrough file events
-    × (¬ ArePaid events) × IsReplayText file events output
+    × (¬ AreEventsPaid events) × IsReplayText file events output
 
 -- yes, no, or a refusal
 abbrev pub ReplaysTo : List ℕ → Status → List ℕ → Type 0

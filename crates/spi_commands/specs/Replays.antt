@@ -11,7 +11,7 @@ use Rattle.spi_run.specs.Reduction.{Step, Event}
 use Rattle.spi_know.specs.Sent.{handed}
 use Rattle.spi_replay.specs.declared.fault.StepFault.{StepFault}
 use Rattle.spi_replay.specs.declared.fault.StepFault.TheVariants.{NoPlace, NotReady, RunMessageTooLarge, TooManyPlaces, NoMemory as OutOfMemory}
-use Rattle.spi_replay.specs.Stepping.{Pooled, Refuses as RefusesStep, IsTaken}
+use Rattle.spi_replay.specs.Stepping.{Pooled, RefusesPoolStep as RefusesStep, IsTaken}
 use Rattle.spi_scope.specs.Files.{step_places}
 use Rattle.spi_scope.specs.Places.{place_in}
 use Rattle.spi_scope.specs.StandsFor.{Meant, StandsFor}

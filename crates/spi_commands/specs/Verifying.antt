@@ -10,7 +10,7 @@ use Rattle.spi_scope.specs.StandsFor.{Meant, StandsFor}
 use Rattle.spi_scope.specs.Files.{rule_places}
 use Rattle.spi_scope.specs.Places.{place_in}
 use Rattle.spi_audit.specs.Audit.{IsWrongAt, LeavesUnpaid}
-use Rattle.spi_fault.specs.Faults.{Told, IsUnpaid}
+use Rattle.spi_fault.specs.Faults.{ToldFault, IsUnpaid}
 use Rattle.spi_report.specs.Fault.{fault_text}
 use Rattle.spi_report.specs.Wrong.{wrong_text}
 use Rattle.spi_commands.specs.declared.status.Status.{Status}
@@ -32,7 +32,7 @@ IsWrongLine bytes tree file d output =
 
 abbrev pub IsUnpaidLine : List ℕ → File → Meant → List RuleUse → List ℕ → Type 0
 IsUnpaidLine bytes tree file d output =
-    (es : Effect) × (fault : Told) × LeavesUnpaid (untrusted file.process.names) file.process.process d es
+    (es : Effect) × (fault : ToldFault) × LeavesUnpaid (untrusted file.process.names) file.process.process d es
     × IsUnpaid (spelled_at tree) es fault
     × (output ≡ fault_text bytes (place_at tree) (spelled_at tree) fault)
 

@@ -1,7 +1,7 @@
 // What the words of the command line ask for.
 ghost use Rattle.std.specs.Prelude.{◌≡◌, ◌<◌, ◌≤◌, ◌-◌, ◌^◌, ℕ, List, [], ◌∷◌, map, string_bytes, length, IfOk, IfSome, option_map};
 ghost use Rattle.clap.specs.Words.{subcommand_rows_of};
-ghost use Rattle.spi_commands.specs.Asked.{asked, IsWithin};
+ghost use Rattle.spi_commands.specs.Asked.{asked, AreNumbersKnown};
 ghost use Rattle.spi_commands.specs.Number.{digits, number_below};
 ghost use Rattle.spi_commands.specs.Options.{has_dashes, number_of as number_form, read, with_count, with_values};
 
@@ -131,7 +131,7 @@ pub fn asked_of(
     players: usize,
 ) -> Result<Option<Command>, AllocError>
     ensures value { IfOk result (λ r. r ≡ asked (map string_bytes words.now) players) }
-    ensures within { IfOk result (λ r. IfSome r (λ command. IsWithin players command)) }
+    ensures within { IfOk result (λ r. IfSome r (λ command. AreNumbersKnown players command)) }
 {
     if has_dashes_in(words) {
         return Ok(None);

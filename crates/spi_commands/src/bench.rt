@@ -6,9 +6,9 @@ ghost use Rattle.spi_lex.specs.Writing.{AreKinds, AreSpans, spans_of};
 ghost use Rattle.spi_edits.specs.Edits.{Bench};
 ghost use Rattle.spi_edits.specs.Views.{bench_of};
 ghost use Rattle.spi_workbench.specs.Answers.{IsJudged};
-ghost use Rattle.spi_commands.specs.Reading.{IsText, GivesText, IsUnreadBy, Tells};
+ghost use Rattle.spi_commands.specs.Reading.{IsText, GivesText, IsUnreadBy, TellsRefusal};
 ghost use Rattle.spi_commands.specs.Refusals.{IsLineOf};
-ghost use Rattle.spi_commands.specs.Benching.{IsBenchOf, IsTold, IsUnjudged, RefusesBench, BenchesTo};
+ghost use Rattle.spi_commands.specs.Benching.{IsBenchOf, AreVerdictsTold, IsUnjudged, RefusesBench, BenchesTo};
 ghost use Rattle.spi_commands.specs.Benching.{bench_number, bench_place, bench_shown};
 ghost use Rattle.spi_commands.specs.Benching.{verdict_text, verdicts_text};
 ghost use Rattle.spi_commands.specs.Run.{IsAnswered};
@@ -92,7 +92,7 @@ fn judged(alloc: Global, text: BenchText, end: u32) -> Result<Verdicts, Unread>
 
 /// The refusal of a bench.
 fn unjudged(alloc: Global, r: Unjudged) -> Unread
-    ensures { Tells (bench_number r) (bench_place r) (bench_shown r) result }
+    ensures { TellsRefusal (bench_number r) (bench_place r) (bench_shown r) result }
 {
     match r {
         Unjudged::TooManyShared { span, count } => shown_count(alloc, 122, span, count),
@@ -117,7 +117,7 @@ fn unbenched(alloc: Global, bytes: &[u8], r: &Refusal) -> Result<Answer, Stop>
 
 /// The answer with these verdicts. The last one is the status.
 fn told(alloc: Global, verdicts: &Verdicts) -> Result<Answer, Stop>
-    ensures ok { IfOk result (λ answer. IsTold verdicts.now answer.status answer.output.items) }
+    ensures ok { IfOk result (λ answer. AreVerdictsTold verdicts.now answer.status answer.output.items) }
     ensures err { OnErr result (result ≡ Err Stop.NoMemory) }
 {
     let output = verdict_lines(alloc, &verdicts.each)?;

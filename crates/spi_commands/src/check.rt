@@ -1,7 +1,7 @@
 // The command `check`.
 ghost use Rattle.std.specs.Prelude.{◌≡◌, ◌≢◌, ◌≤◌, ℕ, List, length, IfOk, OnErr, Err};
 ghost use Rattle.spi_commands.specs.Checking.{ChecksTo};
-ghost use Rattle.spi_commands.specs.Reading.{IsRead, IsGiven, Gives};
+ghost use Rattle.spi_commands.specs.Reading.{IsRead, IsGiven, GivesSpelled};
 ghost use Rattle.spi_commands.specs.Run.{IsAnswered};
 
 use crate::answer::{Answer, Stop, refused_with};
@@ -15,7 +15,7 @@ use std::alloc::Global;
 pub fn checks(alloc: Global, given: Given) -> Result<Answer, Stop>
     requires { IsGiven given }
     ensures ok { IfOk result
-        (λ answer. (bytes : List ℕ) → Gives bytes given → ChecksTo bytes answer.status answer.output.items) }
+        (λ answer. (bytes : List ℕ) → GivesSpelled bytes given → ChecksTo bytes answer.status answer.output.items) }
     ensures answered { IfOk result (λ answer. IsAnswered answer.status × (answer.status ≢ Status.Usage)) }
     ensures err { OnErr result (result ≡ Err Stop.NoMemory) }
 {

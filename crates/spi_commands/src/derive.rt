@@ -5,7 +5,7 @@ ghost use Rattle.spi_rules.specs.Deriv.{rule_uses};
 ghost use Rattle.spi_rules.specs.Derivations.{Derivable};
 ghost use Rattle.spi_deriv.specs.Canonical.{Canonical};
 ghost use Rattle.spi_commands.specs.Deriving.{DerivesTo};
-ghost use Rattle.spi_commands.specs.Reading.{IsRead, IsGiven, Gives};
+ghost use Rattle.spi_commands.specs.Reading.{IsRead, IsGiven, GivesSpelled};
 ghost use Rattle.spi_commands.specs.Run.{IsAnswered};
 
 use crate::answer::{Answer, Stop, refused_with, too_much};
@@ -22,7 +22,7 @@ use std::alloc::Global;
 pub fn derives(alloc: Global, given: Given) -> Result<Answer, Stop>
     requires { IsGiven given }
     ensures ok { IfOk result
-        (λ answer. (bytes : List ℕ) → Gives bytes given → DerivesTo bytes answer.status answer.output.items) }
+        (λ answer. (bytes : List ℕ) → GivesSpelled bytes given → DerivesTo bytes answer.status answer.output.items) }
     ensures answered { IfOk result (λ answer. IsAnswered answer.status × (answer.status ≢ Status.Usage)) }
     ensures err { OnErr result (result ≡ Err Stop.NoMemory) }
 {

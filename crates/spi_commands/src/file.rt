@@ -5,7 +5,7 @@ ghost use Rattle.spi_lex.specs.Lexing.{Lexes, kinds_of};
 ghost use Rattle.spi_lex.specs.Writing.{AreKinds, AreSpans, spans_of};
 ghost use Rattle.spi_commands.specs.Spelled.{limit};
 ghost use Rattle.spi_commands.specs.Refusals.{Refuses, IsRefusal};
-ghost use Rattle.spi_commands.specs.Reading.{IsGiven, Gives};
+ghost use Rattle.spi_commands.specs.Reading.{IsGiven, GivesSpelled};
 ghost use Rattle.spi_commands.specs.Run.{TakesInput};
 
 use crate::answer::{Stop, refusal_line};
@@ -29,7 +29,7 @@ pub enum Given {
 /// Takes the bytes that are left, and gives their file. `ReadFault` comes only where the source's count of faults rose.
 pub fn take_file<S: Source>(alloc: Global, source: &mut S) -> Result<Given, Stop>
     ensures given { IfOk result (λ given. IsGiven given) }
-    ensures gives { IfOk result (λ given. IfSome (S.left source.old) (λ bytes. Gives bytes given)) }
+    ensures gives { IfOk result (λ given. IfSome (S.left source.old) (λ bytes. GivesSpelled bytes given)) }
     ensures whole { OnOk result (TakesInput (S.left source.old) (S.left source.new)) }
     ensures read_fault { IsErrOf result Stop.ReadFault → Rose (S.faults source.old) (S.faults source.new) }
     ensures failed_reads { ¬ IsErrOf result Stop.ReadFault
@@ -50,7 +50,7 @@ fn file_of(alloc: Global, bytes: Vec<u8>, tokens: &[Token]) -> Result<Given, Sto
     requires kinds { AreKinds (kinds_of tokens.now) }
     requires spans { AreSpans 0 (spans_of tokens.now) (length bytes.items) }
     ensures given { IfOk result (λ given. IsGiven given) }
-    ensures gives { IfOk result (λ given. Gives bytes.items given) }
+    ensures gives { IfOk result (λ given. GivesSpelled bytes.items given) }
     ensures err { OnErr result (result ≡ Err Stop.NoMemory) }
 {
     match read_tokens(alloc, &bytes, tokens) {

@@ -7,7 +7,7 @@ ghost use Rattle.spi_know.specs.Sent.{names_up};
 ghost use Rattle.spi_report.specs.Names.{name_of};
 ghost use Rattle.spi_scope.specs.Files.{meant};
 ghost use Rattle.spi_commands.specs.declared.schedule.Ran.TheVariants.{Through};
-ghost use Rattle.spi_commands.specs.Reading.{IsRead, IsGiven, Gives};
+ghost use Rattle.spi_commands.specs.Reading.{IsRead, IsGiven, GivesSpelled};
 ghost use Rattle.spi_commands.specs.Refusals.{IsLineOf, IsCause};
 ghost use Rattle.spi_commands.specs.Ran.{IsRan};
 ghost use Rattle.spi_commands.specs.Knowing.{IsDecided, KnowsTo};
@@ -29,7 +29,7 @@ use std::alloc::Global;
 pub fn knows(alloc: Global, given: Given, name: u32) -> Result<Answer, Stop>
     requires { IsGiven given }
     ensures ok { IfOk result
-        (λ answer. (bytes : List ℕ) → Gives bytes given
+        (λ answer. (bytes : List ℕ) → GivesSpelled bytes given
         → KnowsTo name bytes answer.status answer.output.items) }
     ensures answered { IfOk result (λ answer. IsAnswered answer.status × (answer.status ≢ Status.Usage)) }
     ensures err { OnErr result (result ≡ Err Stop.NoMemory) }

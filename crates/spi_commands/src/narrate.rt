@@ -5,7 +5,7 @@ ghost use Rattle.spi_lex.specs.Writing.{AreKinds, AreSpans, spans_of};
 ghost use Rattle.spi_narrate.specs.Narrations.{Narration as Told};
 ghost use Rattle.spi_narrate.specs.Reads.{FailsNarration};
 ghost use Rattle.spi_narrate.specs.Views.{narration_of};
-ghost use Rattle.spi_narrator.specs.Answers.{IsTold, Refuses as RefusesTelling};
+ghost use Rattle.spi_narrator.specs.Answers.{IsTold, RefusesNarration as RefusesTelling};
 ghost use Rattle.spi_scope.specs.StandsFor.{Meant};
 ghost use Rattle.spi_commands.specs.Canonical.{IsPrint};
 ghost use Rattle.spi_commands.specs.Narrating.{

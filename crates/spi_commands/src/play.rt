@@ -7,7 +7,7 @@ ghost use Rattle.spi_play.specs.Way.{seen_of};
 ghost use Rattle.spi_report.specs.Names.{name_of};
 ghost use Rattle.spi_scope.specs.Files.{meant};
 ghost use Rattle.spi_commands.specs.Playing.{ListsTo, PlaysTo, LeavesPlayers, IsPlayFault};
-ghost use Rattle.spi_commands.specs.Reading.{IsRead, IsGiven, Gives};
+ghost use Rattle.spi_commands.specs.Reading.{IsRead, IsGiven, GivesSpelled};
 ghost use Rattle.spi_commands.specs.Refusals.{IsLineOf, IsCause};
 ghost use Rattle.spi_commands.specs.Run.{IsAnswered};
 
@@ -41,11 +41,11 @@ pub fn plays(
     requires given { IsGiven given }
     requires few { most ≤ 1000 }
     requires only { ForSome only (λ place. place < vec_len players.old) }
-    ensures ok { IfOk result (λ answer. (bytes : List ℕ) → Gives bytes given → PlaysTo most only bytes
+    ensures ok { IfOk result (λ answer. (bytes : List ℕ) → GivesSpelled bytes given → PlaysTo most only bytes
         (seen_of (λ b. times b) (λ b. way b) players.old.items)
         (seen_of (λ b. times b) (λ b. way b) players.new.items) answer.status answer.output.items) }
     ensures answered { IfOk result (λ answer. IsAnswered answer.status × (answer.status ≢ Status.Usage)) }
-    ensures left { OnErr result ((bytes : List ℕ) → Gives bytes given → LeavesPlayers most only bytes
+    ensures left { OnErr result ((bytes : List ℕ) → GivesSpelled bytes given → LeavesPlayers most only bytes
         (seen_of (λ b. times b) (λ b. way b) players.old.items)
         (seen_of (λ b. times b) (λ b. way b) players.new.items)) }
     ensures err { OnErr result (result ≡ Err Stop.NoMemory) }

@@ -1,7 +1,7 @@
 // The players of the program. They never leave.
 ghost use Rattle.std.specs.Prelude.{◌≡◌, ◌<◌, ◌%◌, ℕ, None, Some};
 ghost use Rattle.rand_pcg.specs.Pcg.{pcg32};
-ghost use Rattle.spi_play.specs.Way.{First, Turn, Follows, next_count};
+ghost use Rattle.spi_play.specs.Way.{First, Turn, FollowsWay, next_count};
 ghost use Rattle.spi_play.specs.declared.player.Pick.TheVariants.{Take};
 
 use rand_core::SeedableRng;
@@ -100,7 +100,7 @@ impl Player for Seeded {
     fn pick(&mut self, menu: &Menu) -> Pick
         requires { 0 < menu.now.ready }
         ensures times { self.new.asked ≡ next_count self.old.asked }
-        ensures way { Follows None self.old.asked menu.now.ready result None }
+        ensures way { FollowsWay None self.old.asked menu.now.ready result None }
         ensures word { (word : ℕ) × ((word, self.new.generator) ≡ pcg32 self.old.generator)
             × (result ≡ Take (word % menu.now.ready)) }
     {

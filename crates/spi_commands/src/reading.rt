@@ -9,7 +9,7 @@ ghost use Rattle.spi_scope.specs.Files.{meant};
 ghost use Rattle.spi_scope.specs.FaultPlaces.{span_from};
 ghost use Rattle.spi_commands.specs.Spelled.{IsTreeOf, SpellsFile};
 ghost use Rattle.spi_commands.specs.Refusals.{start_of, scope_number, scope_shown};
-ghost use Rattle.spi_commands.specs.Reading.{IsRead, IsUnread, Tells};
+ghost use Rattle.spi_commands.specs.Reading.{IsRead, IsUnread, TellsRefusal};
 ghost use Rattle.spi_commands.specs.declared.reading.Unread.TheVariants.{NoMemory};
 
 use crate::text::{unlexed, unspelled};
@@ -100,7 +100,7 @@ fn read_tree(alloc: Global, bytes: &[u8], tree: &Tree) -> Result<File, Unread>
 
 /// The refusal of a fault of scopes.
 pub fn out_of_scope(alloc: Global, fault: &ScopeFault) -> Unread
-    ensures tells { Tells (scope_number fault.now) (span_from fault.now) (scope_shown fault.now) result }
+    ensures tells { TellsRefusal (scope_number fault.now) (span_from fault.now) (scope_shown fault.now) result }
     ensures memory { fault.now ≡ ScopeFault.NoMemory → result ≡ Unread.NoMemory }
 {
     match fault {
@@ -118,7 +118,7 @@ pub fn out_of_scope(alloc: Global, fault: &ScopeFault) -> Unread
 
 /// A refusal that shows a word.
 pub fn shown_word(alloc: Global, number: u32, span: Span, word: &Text) -> Unread
-    ensures { Tells number span.from word.now result }
+    ensures { TellsRefusal number span.from word.now result }
 {
     match word.as_str().as_bytes().to_vec(alloc) {
         Ok(shown) => Unread::Refused(Refusal {
@@ -132,7 +132,7 @@ pub fn shown_word(alloc: Global, number: u32, span: Span, word: &Text) -> Unread
 
 /// A refusal that shows a count.
 pub fn shown_count(alloc: Global, number: u32, span: Span, count: u64) -> Unread
-    ensures { Tells number span.from (decimal count) result }
+    ensures { TellsRefusal number span.from (decimal count) result }
 {
     match format!(in alloc; "{count}") {
         Ok(shown) => Unread::Refused(Refusal {

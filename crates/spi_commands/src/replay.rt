@@ -3,8 +3,8 @@ ghost use Rattle.std.specs.Prelude.{◌≡◌, ◌≢◌, ◌<◌, ◌^◌, ◌�
 ghost use Rattle.spi_run.specs.View.{event as event_of};
 ghost use Rattle.spi_trace.specs.Pairing.{IsPairing};
 ghost use Rattle.spi_scope.specs.Files.{meant};
-ghost use Rattle.spi_commands.specs.Reading.{IsRead, IsGiven, Gives};
-ghost use Rattle.spi_commands.specs.Replaying.{ReplaysTo, IsJudged, IsReplayText};
+ghost use Rattle.spi_commands.specs.Reading.{IsRead, IsGiven, GivesSpelled};
+ghost use Rattle.spi_commands.specs.Replaying.{ReplaysTo, AreEventsJudged, IsReplayText};
 ghost use Rattle.spi_commands.specs.Run.{IsAnswered};
 
 use crate::answer::{Answer, Stop, refused_with};
@@ -21,7 +21,7 @@ use std::alloc::Global;
 pub fn replays(alloc: Global, given: Given) -> Result<Answer, Stop>
     requires { IsGiven given }
     ensures ok { IfOk result
-        (λ answer. (bytes : List ℕ) → Gives bytes given → ReplaysTo bytes answer.status answer.output.items) }
+        (λ answer. (bytes : List ℕ) → GivesSpelled bytes given → ReplaysTo bytes answer.status answer.output.items) }
     ensures answered { IfOk result (λ answer. IsAnswered answer.status × (answer.status ≢ Status.Usage)) }
     ensures err { OnErr result (result ≡ Err Stop.NoMemory) }
 {
@@ -49,7 +49,7 @@ fn replayed(alloc: Global, bytes: &[u8], file: &File) -> Result<Answer, Stop>
 fn judged(alloc: Global, file: &File, happened: &[Event]) -> Result<Answer, Stop>
     requires { length happened.now < 2 ^ 32 }
     ensures ok { IfOk result
-        (λ answer. IsJudged (map event_of happened.now) answer.status
+        (λ answer. AreEventsJudged (map event_of happened.now) answer.status
         × IsReplayText (meant file.now) (map event_of happened.now) answer.output.items) }
     ensures err { OnErr result (result ≡ Err Stop.NoMemory) }
 {
@@ -64,7 +64,7 @@ fn judged(alloc: Global, file: &File, happened: &[Event]) -> Result<Answer, Stop
 /// Yes where the pairing has a begin for each end and endmany, and no elsewhere.
 fn judgement(happened: &[Event], pairing: &Pairing) -> Status
     requires { IsPairing (map event_of happened.now) pairing.now.from.items }
-    ensures { IsJudged (map event_of happened.now) result }
+    ensures { AreEventsJudged (map event_of happened.now) result }
 {
     paired_is_paid();
     match first_unpaid(happened, &pairing.from) {

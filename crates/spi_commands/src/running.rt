@@ -4,7 +4,7 @@ ghost use Rattle.std.specs.Io.KnownBytes.{Appends};
 ghost use Rattle.spi_io.specs.Causes.{Rose, TakesUpTo};
 ghost use Rattle.spi_scope.specs.StandsFor.{Meant};
 ghost use Rattle.spi_play.specs.Way.{seen_of};
-ghost use Rattle.spi_commands.specs.Asked.{asked, is_play, reads_input, IsWithin};
+ghost use Rattle.spi_commands.specs.Asked.{asked, is_play, reads_input, AreNumbersKnown};
 ghost use Rattle.spi_commands.specs.Spelled.{limit, SpellsFile, SpellsNone, IsManySafe};
 ghost use Rattle.spi_commands.specs.Refusals.{Refuses};
 ghost use Rattle.spi_commands.specs.Checking.{IsExact};
@@ -165,7 +165,7 @@ fn run_for<S: Source, K: Sink>(
 ) -> Status
     ensures within { result ≢ Status.NoMemory
         → IfSome (asked (map string_bytes words.now) (vec_len players.old))
-        (λ command. IsWithin (vec_len players.old) command) }
+        (λ command. AreNumbersKnown (vec_len players.old) command) }
     ensures answer { IfSome (S.left source.old) (λ bytes.
         Ends (Wants (asked (map string_bytes words.now) (vec_len players.old)) bytes
         (seen_of (λ b. times b) (λ b. way b) players.old.items)
@@ -217,7 +217,7 @@ fn answer_to<S: Source>(
     source: &mut S,
     players: &mut Vec<Box<dyn Player>>,
 ) -> Result<Answer, Stop>
-    requires { IfSome command (λ command. IsWithin (vec_len players.old) command) }
+    requires { IfSome command (λ command. AreNumbersKnown (vec_len players.old) command) }
     ensures answer { IfOk result (λ answer. IfSome (S.left source.old) (λ bytes. Wants command bytes
         (seen_of (λ b. times b) (λ b. way b) players.old.items)
         (seen_of (λ b. times b) (λ b. way b) players.new.items)

@@ -8,7 +8,7 @@ ghost use Rattle.spi_run.specs.Reduction.{Event as Shown, Runs, Step as StepTerm
 ghost use Rattle.spi_run.specs.View.{step as step_of, event as event_of};
 ghost use Rattle.spi_know.specs.Numbered.{nodes_in};
 ghost use Rattle.spi_know.specs.Sent.{handed, handed_in};
-ghost use Rattle.spi_replay.specs.Stepping.{Pooled, Refuses, IsTaken, event_in};
+ghost use Rattle.spi_replay.specs.Stepping.{Pooled, RefusesPoolStep, IsTaken, event_in};
 ghost use Rattle.spi_scope.specs.Places.{place_in};
 ghost use Rattle.spi_scope.specs.Files.{meant};
 ghost use Rattle.spi_commands.specs.Reading.{IsRead};
@@ -194,7 +194,7 @@ fn take_step(
     ensures room { OnOk result (talks.new.nodes ≤ talks.old.nodes + 1000) }
     ensures err { IfErr result
         (λ fault. (fault ≡ StepFault.NoMemory)
-        ⊎ Refuses pool.old.configuration pool.old.most (step_of step) fault) }
+        ⊎ RefusesPoolStep pool.old.configuration pool.old.most (step_of step) fault) }
 {
     let datum = datum_of(pool, step, keeps)?;
     let event = pool.step(step)?;

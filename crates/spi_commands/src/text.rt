@@ -6,7 +6,7 @@ ghost use Rattle.spi_lex.specs.Lexing.{Lexes, kinds_of};
 ghost use Rattle.spi_lex.specs.Writing.{AreKinds, AreSpans, spans_of};
 ghost use Rattle.spi_commands.specs.Spelled.{limit};
 ghost use Rattle.spi_commands.specs.Refusals.{IsLineOf, IsUnlexed};
-ghost use Rattle.spi_commands.specs.Reading.{IsText, GivesText, IsUnreadBy, Tells};
+ghost use Rattle.spi_commands.specs.Reading.{IsText, GivesText, IsUnreadBy, TellsRefusal};
 ghost use Rattle.spi_commands.specs.Run.{TakesInput};
 
 use crate::answer::{Stop, refusal_line};
@@ -106,7 +106,7 @@ pub fn unlexed(alloc: Global, bytes: &[u8], fault: LexFault) -> Unread
 
 /// A refusal that shows nothing.
 pub fn unspelled(alloc: Global, number: u32, offset: u32) -> Unread
-    ensures { Tells number offset [] result }
+    ensures { TellsRefusal number offset [] result }
 {
     Unread::Refused(Refusal {
         number,

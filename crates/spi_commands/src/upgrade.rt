@@ -2,7 +2,7 @@
 ghost use Rattle.std.specs.Prelude.{◌≡◌, ◌≢◌, ◌≤◌, ◌⊎◌, ◌++◌, ℕ, List, length, codes, MatchOption, IfOk, OnErr, Err};
 ghost use Rattle.spi_scope.specs.Files.{meant};
 ghost use Rattle.spi_commands.specs.Upgrading.{IsNewWord, IsRespelled, AreRespelled, IsUpgrade, UpgradesTo};
-ghost use Rattle.spi_commands.specs.Reading.{IsRead, IsGiven, Gives};
+ghost use Rattle.spi_commands.specs.Reading.{IsRead, IsGiven, GivesSpelled};
 ghost use Rattle.spi_commands.specs.Run.{IsAnswered};
 
 use crate::NoMemory;
@@ -19,7 +19,7 @@ use std::alloc::Global;
 pub fn upgrades(alloc: Global, given: Given) -> Result<Answer, Stop>
     requires { IsGiven given }
     ensures ok { IfOk result
-        (λ answer. (bytes : List ℕ) → Gives bytes given
+        (λ answer. (bytes : List ℕ) → GivesSpelled bytes given
         → UpgradesTo bytes answer.status answer.output.items) }
     ensures answered { IfOk result (λ answer. IsAnswered answer.status × (answer.status ≢ Status.Usage)) }
     ensures err { OnErr result (result ≡ Err Stop.NoMemory) }

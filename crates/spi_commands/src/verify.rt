@@ -7,7 +7,7 @@ ghost use Rattle.spi_rules.specs.Environment.{untrusted};
 ghost use Rattle.spi_scope.specs.Files.{uses_of};
 ghost use Rattle.spi_audit.specs.Audit.{IsWrongAt, LeavesUnpaid};
 ghost use Rattle.spi_commands.specs.Verifying.{VerifiesTo, IsUnprovedLine};
-ghost use Rattle.spi_commands.specs.Reading.{IsRead, IsGiven, Gives};
+ghost use Rattle.spi_commands.specs.Reading.{IsRead, IsGiven, GivesSpelled};
 ghost use Rattle.spi_commands.specs.Run.{IsAnswered};
 
 use crate::answer::{Answer, Stop, made, missing, refused_with};
@@ -27,7 +27,7 @@ use std::alloc::Global;
 pub fn verifies(alloc: Global, given: Given) -> Result<Answer, Stop>
     requires { IsGiven given }
     ensures ok { IfOk result
-        (λ answer. (bytes : List ℕ) → Gives bytes given
+        (λ answer. (bytes : List ℕ) → GivesSpelled bytes given
         → VerifiesTo bytes answer.status answer.output.items) }
     ensures answered { IfOk result (λ answer. IsAnswered answer.status × (answer.status ≢ Status.Usage)) }
     ensures err { OnErr result (result ≡ Err Stop.NoMemory) }

@@ -148,31 +148,31 @@ pub read_there : {E : Type 0} (ms : List Message) (id : MsgId) → id.place < le
 read_there ms id h (Ok m) e = there ms id.place h ∙ ap Some (sym e)
 read_there ms id h (Err x) e = tt
 
-abbrev pub IsPart : List Message → MsgId → Message → Type 0
-IsPart ms a n = (message_size (message_at ms a) < message_size n) × (a.place < length ms)
+abbrev pub IsReadPart : List Message → MsgId → Message → Type 0
+IsReadPart ms a n = (message_size (message_at ms a) < message_size n) × (a.place < length ms)
 
-part_ok : (ms : List Message) (a : MsgId) (m n : Message) → slice_get ms a.place ≡ Some m → message_size m < message_size n → IsPart ms a n
+part_ok : (ms : List Message) (a : MsgId) (m n : Message) → slice_get ms a.place ≡ Some m → message_size m < message_size n → IsReadPart ms a n
 part_ok ms a m n g l = (let e : message_size (message_at ms a) ≡ message_size m = ap (λ o. message_size (or_unit o)) g in omega (arith, e, l), get_below ms a.place m g)
 
-pub pair_first : (ms : List Message) (a b : MsgId) (n : Message) → Says ms (P.Pair a b) n → IsPart ms a n
+pub pair_first : (ms : List Message) (a b : MsgId) (n : Message) → Says ms (P.Pair a b) n → IsReadPart ms a n
 pair_first ms a b _ (says_pair {m = m} {n = n} g h) = part_ok ms a m (pair m n) g (omega arith)
 
-pub pair_second : (ms : List Message) (a b : MsgId) (n : Message) → Says ms (P.Pair a b) n → IsPart ms b n
+pub pair_second : (ms : List Message) (a b : MsgId) (n : Message) → Says ms (P.Pair a b) n → IsReadPart ms b n
 pair_second ms a b _ (says_pair {m = m} {n = n} g h) = part_ok ms b n (pair m n) h (omega arith)
 
-pub enc_first : (ms : List Message) (a b : MsgId) (n : Message) → Says ms (P.Enc a b) n → IsPart ms a n
+pub enc_first : (ms : List Message) (a b : MsgId) (n : Message) → Says ms (P.Enc a b) n → IsReadPart ms a n
 enc_first ms a b _ (says_enc {m = m} {n = n} g h) = part_ok ms a m (enc m n) g (omega arith)
 
-pub enc_second : (ms : List Message) (a b : MsgId) (n : Message) → Says ms (P.Enc a b) n → IsPart ms b n
+pub enc_second : (ms : List Message) (a b : MsgId) (n : Message) → Says ms (P.Enc a b) n → IsReadPart ms b n
 enc_second ms a b _ (says_enc {m = m} {n = n} g h) = part_ok ms b n (enc m n) h (omega arith)
 
-pub left_part : (ms : List Message) (a : MsgId) (n : Message) → Says ms (P.Inl a) n → IsPart ms a n
+pub left_part : (ms : List Message) (a : MsgId) (n : Message) → Says ms (P.Inl a) n → IsReadPart ms a n
 left_part ms a _ (says_left {m = m} g) = part_ok ms a m (in_left m) g (omega arith)
 
-pub right_part : (ms : List Message) (a : MsgId) (n : Message) → Says ms (P.Inr a) n → IsPart ms a n
+pub right_part : (ms : List Message) (a : MsgId) (n : Message) → Says ms (P.Inr a) n → IsReadPart ms a n
 right_part ms a _ (says_right {m = m} g) = part_ok ms a m (in_right m) g (omega arith)
 
-pub hash_part : (ms : List Message) (a : MsgId) (n : Message) → Says ms (P.Hash a) n → IsPart ms a n
+pub hash_part : (ms : List Message) (a : MsgId) (n : Message) → Says ms (P.Hash a) n → IsReadPart ms a n
 hash_part ms a _ (says_hash {m = m} g) = part_ok ms a m (hash m) g (omega arith)
 
 -- the place of a key

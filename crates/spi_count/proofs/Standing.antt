@@ -11,7 +11,7 @@ use Rattle.spi_effect.specs.Made.{are_many, minus, greater, is_free, is_free_at,
 use Rattle.spi_effect.proofs.Laws.{AllMany_in, AllMany_of}
 use Rattle.spi_effect.proofs.Made.{minus_difference, greater_is, are_many_sound, are_many_complete, both_false}
 use Rattle.spi_count.specs.Counts.{count_of, IsNothing}
-use Rattle.spi_count.specs.Sums.{name_bound, key_of, kind_of, message_of, part, one_more, both_counts, Puts, Stands, AreNumbers, Below}
+use Rattle.spi_count.specs.Sums.{name_bound, key_of, kind_of, message_of, part, one_more, both_counts, Puts, StandsForEffect, AreNumbers, Below}
 use Rattle.spi_count.specs.declared.sum.AtomKind.{AtomKind}
 use Rattle.spi_count.specs.declared.sum.AtomKind.TheVariants.{End, Check, Many}
 use Rattle.spi_count.specs.declared.sum.Sum.{Sum}
@@ -84,7 +84,7 @@ module _ (At : ℕ → Message → Type 0) (numbers : AreNumbers At) where
       go true e = same (same_atom_true a b e)
       go false e = apart (same_kind (kind_of a) (kind_of b)) (λ f. true≢false (sym (same_atom_refl a) ∙ ap (same_atom a) f ∙ e))
 
-  pub stands_none : {s : Sum} → ((kind : AtomKind) → IsNothing (part kind s)) → Stands At s []
+  pub stands_none : {s : Sum} → ((kind : AtomKind) → IsNothing (part kind s)) → StandsForEffect At s []
   stands_none {s} h = record {
     counted = λ a i g. h (kind_of a) (key_of (name_bound (message_of a)) i) ∙ sym (none a);
     known = λ a n. absurd (let t = in_tally n in omega (arith, t));
@@ -101,7 +101,7 @@ module _ (At : ℕ → Message → Type 0) (numbers : AreNumbers At) where
   count_in : (a : Atom) (es : Effect) → 0 < count a es → In a es
   count_in a es h = tally_in a es ((count_tally a (tally a es)).0 h)
 
-  pub stands_same : {s : Sum} {es fs : Effect} → Stands At s es → ((a : Atom) → count a es ≡ count a fs) → Stands At s fs
+  pub stands_same : {s : Sum} {es fs : Effect} → StandsForEffect At s es → ((a : Atom) → count a es ≡ count a fs) → StandsForEffect At s fs
   stands_same {s} {es} {fs} h e = record {
     counted = λ a i g. h.counted a i g ∙ e a;
     known = λ a n. h.known a (count_in a es (let p = in_count a fs n in let q = e a in omega (arith, p, q)));
@@ -109,10 +109,10 @@ module _ (At : ℕ → Message → Type 0) (numbers : AreNumbers At) where
   }
 
   -- after one count is put, the counts are those of the new effect
-  stands_put : {old new : Sum} {es fs : Effect} (b : Atom) (j n : ℕ) → Stands At old es → At j (message_of b)
+  stands_put : {old new : Sum} {es fs : Effect} (b : Atom) (j n : ℕ) → StandsForEffect At old es → At j (message_of b)
       → Puts (kind_of b) old new (key_of (name_bound (message_of b)) j) n
       → ((a : Atom) → (if same_atom a b then n else count a es) ≡ count a fs)
-      → Stands At new fs
+      → StandsForEffect At new fs
   stands_put {old} {new} {es} {fs} b j n h gb p e = record {
     counted = λ a i g.
         put_at b j n gb p a i g
@@ -146,9 +146,9 @@ module _ (At : ℕ → Message → Type 0) (numbers : AreNumbers At) where
   more_is (many m) es = omega arith
 
   -- an atom more
-  pub stands_more : {old new : Sum} {es : Effect} (b : Atom) (j : ℕ) → Stands At old es → At j (message_of b)
+  pub stands_more : {old new : Sum} {es : Effect} (b : Atom) (j : ℕ) → StandsForEffect At old es → At j (message_of b)
       → Puts (kind_of b) old new (key_of (name_bound (message_of b)) j) (one_more (kind_of b) (count_of (part (kind_of b) old) (key_of (name_bound (message_of b)) j)))
-      → Stands At new (es ++ b ∷ [])
+      → StandsForEffect At new (es ++ b ∷ [])
   stands_more {old} {new} {es} b j h gb p =
       stands_put b j (one_more (kind_of b) (held old b j)) h gb p (λ a. go a (same_atom a b) refl (tally_append a es (b ∷ [])))
     where
@@ -169,9 +169,9 @@ module _ (At : ℕ → Message → Type 0) (numbers : AreNumbers At) where
   less_is : (b : Atom) (es : Effect) (a : Atom) → count a (minus es (b ∷ [])) ≡ count a es - (if same_atom a b then 1 else 0)
   less_is b es a = (minus_difference es (b ∷ [])).at a ∙ ap (λ n. count a es - n) (one_of a (same_atom a b))
 
-  pub stands_less : {old new : Sum} {es : Effect} (b : Atom) (j : ℕ) → Stands At old es → At j (message_of b)
+  pub stands_less : {old new : Sum} {es : Effect} (b : Atom) (j : ℕ) → StandsForEffect At old es → At j (message_of b)
       → Puts (kind_of b) old new (key_of (name_bound (message_of b)) j) (count_of (part (kind_of b) old) (key_of (name_bound (message_of b)) j) - 1)
-      → Stands At new (minus es (b ∷ []))
+      → StandsForEffect At new (minus es (b ∷ []))
   stands_less {old} {new} {es} b j h gb p =
       stands_put b j (held old b j - 1) h gb p (λ a. go a (same_atom a b) refl (less_is b es a))
     where
@@ -194,7 +194,7 @@ module _ (At : ℕ → Message → Type 0) (numbers : AreNumbers At) where
   zero_of n h = ⊎_elim (λ e. e) (λ p. absurd (h p)) (zero_or n)
 
   -- an atom without a number stands nowhere
-  pub stands_absent : {s : Sum} {es : Effect} (b : Atom) → Stands At s es → (In b es → ⊥) → Stands At s (minus es (b ∷ []))
+  pub stands_absent : {s : Sum} {es : Effect} (b : Atom) → StandsForEffect At s es → (In b es → ⊥) → StandsForEffect At s (minus es (b ∷ []))
   stands_absent {s} {es} b h none = stands_same h (λ a. go a (same_atom a b) refl (less_is b es a))
     where
       go : (a : Atom) (t : Bool) → same_atom a b ≡ t → count a (minus es (b ∷ [])) ≡ count a es - (if same_atom a b then 1 else 0) → count a es ≡ count a (minus es (b ∷ []))
@@ -207,7 +207,7 @@ module _ (At : ℕ → Message → Type 0) (numbers : AreNumbers At) where
           let z : count a es ≡ count a es - 0 = omega arith in
           z ∙ ap (λ t. count a es - (if t then 1 else 0)) (sym t) ∙ sym f
 
-  known_one : {s t : Sum} {es fs gs : Effect} → Stands At s es → Stands At t fs → ((a : Atom) → 0 < count a gs → (0 < count a es) ⊎ (0 < count a fs))
+  known_one : {s t : Sum} {es fs gs : Effect} → StandsForEffect At s es → StandsForEffect At t fs → ((a : Atom) → 0 < count a gs → (0 < count a es) ⊎ (0 < count a fs))
       → (a : Atom) → In a gs → (i : ℕ) × At i (message_of a)
   known_one {es = es} {fs} {gs} h k e a n =
       ⊎_elim (λ p. h.known a (count_in a es p)) (λ p. k.known a (count_in a fs p)) (e a (in_count a gs n))
@@ -233,9 +233,9 @@ module _ (At : ℕ → Message → Type 0) (numbers : AreNumbers At) where
   cut_positive a es fs h = both_positive (kind_of a) (count a es) (count a fs) (subst (λ n. 0 < n) (ap (cut a) (tally_append a es fs) ∙ sym (both_is a (tally a es) (tally a fs))) h)
 
   -- a sum
-  pub stands_joined : {s t u : Sum} {es fs : Effect} → Stands At s es → Stands At t fs
+  pub stands_joined : {s t u : Sum} {es fs : Effect} → StandsForEffect At s es → StandsForEffect At t fs
       → ((kind : AtomKind) (k : ℕ) → count_of (part kind u) k ≡ both_counts kind (count_of (part kind s) k) (count_of (part kind t) k))
-      → Stands At u (es ++ fs)
+      → StandsForEffect At u (es ++ fs)
   stands_joined {s} {t} {u} {es} {fs} h k e = record {
     counted = λ a i g.
         e (kind_of a) (key_of (name_bound (message_of a)) i)
@@ -250,9 +250,9 @@ module _ (At : ℕ → Message → Type 0) (numbers : AreNumbers At) where
   }
 
   -- the greater counts
-  pub stands_greatest : {s t u : Sum} {es fs : Effect} → Stands At s es → Stands At t fs
+  pub stands_greatest : {s t u : Sum} {es fs : Effect} → StandsForEffect At s es → StandsForEffect At t fs
       → ((kind : AtomKind) (k : ℕ) → count_of (part kind u) k ≡ max (count_of (part kind s) k) (count_of (part kind t) k))
-      → Stands At u (greater es fs)
+      → StandsForEffect At u (greater es fs)
   stands_greatest {s} {t} {u} {es} {fs} h k e = record {
     counted = λ a i g.
         e (kind_of a) (key_of (name_bound (message_of a)) i)
@@ -266,7 +266,7 @@ module _ (At : ℕ → Message → Type 0) (numbers : AreNumbers At) where
   }
 
   -- each atom is a `many`
-  nothing_once : {s : Sum} {es : Effect} → Stands At s es → IsNothing (part End s) → IsNothing (part Check s) → (a : Atom) → In a es → IsMany a
+  nothing_once : {s : Sum} {es : Effect} → StandsForEffect At s es → IsNothing (part End s) → IsNothing (part Check s) → (a : Atom) → In a es → IsMany a
   nothing_once h e c (ends m) n =
       let (i, g) = h.known (ends m) n in
       let p = in_count (ends m) _ n in let q = h.counted (ends m) i g in let r = e (key_of (name_bound m) i) in absurd (omega (arith, p, q, r))
@@ -275,10 +275,10 @@ module _ (At : ℕ → Message → Type 0) (numbers : AreNumbers At) where
       let p = in_count (checks m) _ n in let q = h.counted (checks m) i g in let r = c (key_of (name_bound m) i) in absurd (omega (arith, p, q, r))
   nothing_once h e c (many m) n = tt
 
-  pub stands_many : {s : Sum} {es : Effect} → Stands At s es → IsNothing (part End s) → IsNothing (part Check s) → are_many es ≡ true
+  pub stands_many : {s : Sum} {es : Effect} → StandsForEffect At s es → IsNothing (part End s) → IsNothing (part Check s) → are_many es ≡ true
   stands_many {es = es} h e c = are_many_complete es (AllMany_of es (nothing_once h e c))
 
-  pub many_stands : {s : Sum} {es : Effect} → Stands At s es → are_many es ≡ true → IsNothing (part End s) × IsNothing (part Check s)
+  pub many_stands : {s : Sum} {es : Effect} → StandsForEffect At s es → are_many es ≡ true → IsNothing (part End s) × IsNothing (part Check s)
   many_stands {s} {es} h m = ((λ k. zero_of _ (λ p. ends_none k p)), (λ k. zero_of _ (λ p. checks_none k p)))
     where
       all : AllMany es
@@ -314,7 +314,7 @@ module _ (At : ℕ → Message → Type 0) (numbers : AreNumbers At) where
   message_back Check m = refl
   message_back Many m = refl
 
-  pub kept_in : {s : Sum} {es : Effect} → Stands At s es → (kind : AtomKind) (k : ℕ) → 0 < count_of (part kind s) k
+  pub kept_in : {s : Sum} {es : Effect} → StandsForEffect At s es → (kind : AtomKind) (k : ℕ) → 0 < count_of (part kind s) k
       → (a : Atom) × In a es × ((i : ℕ) × At i (message_of a) × (k ≡ key_of (name_bound (message_of a)) i))
   kept_in {s} {es} h kind k p =
       let (i, m, g, e) = h.kept kind k p in
@@ -369,7 +369,7 @@ in_mentions x a [] n e = elim n [ ]
 in_mentions x a (b ∷ es) in_first e = or_left (is_free_at x a) (mentions x es) (free_at x a ∙ bound_is_free x (message_of a) e)
 in_mentions x a (b ∷ es) (in_later n) e = or_right (is_free_at x b) (mentions x es) (in_mentions x a es n e)
 
-module _ (At : ℕ → Message → Type 0) (numbers : AreNumbers At) {s : Sum} {es : Effect} (h : Stands At s es) (n : ℕ) where
+module _ (At : ℕ → Message → Type 0) (numbers : AreNumbers At) {s : Sum} {es : Effect} (h : StandsForEffect At s es) (n : ℕ) where
   -- no key from that of n + 1 on is counted: each name is below n
   pub unreached_below : ((kind : AtomKind) (k : ℕ) → 0 < count_of (part kind s) k → k < (n + 1) * 4294967296) → Below n es
   unreached_below f a i =

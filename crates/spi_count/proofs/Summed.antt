@@ -173,15 +173,15 @@ takes_more keys ids js a old mid new e p q = subst (λ js. TakesAll keys js old 
         subst (λ fs. SumOf s keys new (minus es fs)) (sym x.is) (subst (SumOf s keys new) (sym (minus_append es x.front (x.last ∷ []))) z)
 
 -- the effect of a type that the store lends
-abbrev pub IsQuiet : TyPart → Type 0
-IsQuiet P.Un = ⊤
-IsQuiet P.Unit = ⊤
-IsQuiet (P.Pair a b) = ⊤
-IsQuiet (P.Sum a b) = ⊤
-IsQuiet (P.Key a) = ⊤
-IsQuiet (P.Nonce ids) = ⊥
+abbrev pub HasNoEffect : TyPart → Type 0
+HasNoEffect P.Un = ⊤
+HasNoEffect P.Unit = ⊤
+HasNoEffect (P.Pair a b) = ⊤
+HasNoEffect (P.Sum a b) = ⊤
+HasNoEffect (P.Key a) = ⊤
+HasNoEffect (P.Nonce ids) = ⊥
 
-pub no_effect : {s : Store} (p : TyPart) (u : Ty) → IsQuiet p → SaysTy s p u → cast_effect_of u ≡ []
+pub no_effect : {s : Store} (p : TyPart) (u : Ty) → HasNoEffect p → SaysTy s p u → cast_effect_of u ≡ []
 no_effect _ _ q says_un = refl
 no_effect _ _ q says_unit = refl
 no_effect _ _ q (says_pair g h) = refl

@@ -6,7 +6,7 @@ use Rattle.spi_intern.specs.declared.store.Store.{Store}
 use Rattle.spi_intern.specs.declared.atoms.AtomId.{AtomId}
 use Rattle.spi_intern.specs.Table.{TellsAll}
 use Rattle.spi_intern.specs.Atoms.{SaysAtom}
-use Rattle.spi_count.specs.Sums.{name_bound, key_of, message_of, Stands}
+use Rattle.spi_count.specs.Sums.{name_bound, key_of, message_of, StandsForEffect}
 use Rattle.spi_count.specs.Keeping.{with_keys, IsKeyed, HasKey, HaveKeys}
 use Rattle.spi_count.specs.declared.keys.Keys.{Keys}
 use Rattle.spi_count.specs.declared.sum.AtomKind.{AtomKind}
@@ -15,7 +15,7 @@ use Rattle.spi_count.specs.declared.sum.Sum.{Sum}
 
 -- counts for an effect, by the numbers and keys
 abbrev pub SumOf : Store → Keys → Sum → Effect → Type 0
-SumOf s keys sum es = Stands (with_keys s keys) sum es
+SumOf s keys sum es = StandsForEffect (with_keys s keys) sum es
 
 -- an atom whose message has a key goes in
 abbrev pub AddsAtom : Keys → AtomId → Sum → Sum → Type 0

@@ -62,7 +62,7 @@ pub record Puts (kind : AtomKind) (old new : Sum) (key n : ℕ) : Type 0 where
   pub others : (k : AtomKind) → k ≢ kind → part k new ≡ part k old
 
 -- The counts are those of an effect, where At i m says that the message m has the number i.
-pub record Stands (At : ℕ → Message → Type 0) (s : Sum) (es : Effect) : Type 0 where
+pub record StandsForEffect (At : ℕ → Message → Type 0) (s : Sum) (es : Effect) : Type 0 where
   pub counted : (a : Atom) (i : ℕ) → At i (message_of a)
       → count_of (part (kind_of a) s) (key_of (name_bound (message_of a)) i) ≡ count a es
   pub known : (a : Atom) → In a es → (i : ℕ) × At i (message_of a)

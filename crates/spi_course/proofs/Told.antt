@@ -9,17 +9,17 @@ use Rattle.spi_replay.specs.Ready.{IsReadyTalk}
 use Rattle.spi_run.specs.declared.step.Step as program
 use Rattle.spi_run.specs.declared.step.Event as declared
 use Rattle.spi_run.specs.View.{step as step_of, event as event_of}
-use Rattle.spi_run.specs.Reduction.{Configuration, Step, act, talk, Event, Acts, acts_split, acts_match, acts_inl, acts_inr, acts_decrypt, acts_check, acts_begin, acts_end, acts_end_many, acts_cast, acts_new, acts_par, Takes, takes_act, takes_talk, Runs, runs_none, runs_silent, runs_event}
+use Rattle.spi_run.specs.Reduction.{Configuration, Step, act, talk, Event, Acts, acts_split, acts_select, acts_inl, acts_inr, acts_decrypt, acts_check, acts_begin, acts_end, acts_end_many, acts_cast, acts_fresh, acts_par, Takes, takes_act, takes_talk, Runs, runs_none, runs_silent, runs_event}
 use Rattle.spi_term.specs.Term.{Process}
 use Rattle.spi_term.specs.Spelling.{Spelling}
 use Rattle.spi_run.specs.Safety.{beside}
 use Rattle.spi_course.specs.Fit.{places_most, pool_of}
 use Rattle.spi_replay.specs.declared.fault.StepFault.{StepFault}
 use Rattle.spi_replay.specs.declared.fault.StepFault.TheVariants.{NoMemory as OutOfMemory}
-use Rattle.spi_replay.specs.Stepping.{Pooled, Refuses}
+use Rattle.spi_replay.specs.Stepping.{Pooled, RefusesPoolStep}
 use Rattle.spi_course.specs.declared.course.Taken.{Taken}
 use Rattle.spi_course.specs.declared.course.Course.{Course}
-use Rattle.spi_course.specs.Courses.{HandsOver, IsTold, Tells, tells_none, tells_step, steps_of, IsEnd, all_taken, one_refused, IsCourse}
+use Rattle.spi_course.specs.Courses.{HandsOver, IsStepTold, TellsSteps, tells_none, tells_step, steps_of, IsEndOfCourse, all_taken, one_refused, IsCourse}
 
 -- the pool at the start
 pub starts : (process opponent : Spelling) (p : Pooled) → p.configuration ≡ beside process.names process.process opponent.process → p.most ≡ places_most → p ≡ pool_of process opponent
@@ -35,13 +35,13 @@ hands c d (talk i j) e None t h = absurd (h (e, d, t))
 hands c d (talk i j) e (Some x) t h = (x, refl, h.1)
 
 -- the steps that are told are a run
-pub runs_of : {p q : Pooled} {n : ℕ} {ts : List Taken} {es : List Event} → Tells p n ts es q → Runs p.configuration (steps_of ts) es q.configuration
+pub runs_of : {p q : Pooled} {n : ℕ} {ts : List Taken} {es : List Event} → TellsSteps p n ts es q → Runs p.configuration (steps_of ts) es q.configuration
 runs_of tells_none = runs_none
 runs_of (tells_step {e = None} t h) = runs_silent t.takes.takes (runs_of h)
 runs_of (tells_step {e = Some event} t h) = runs_event t.takes.takes (runs_of h)
 
 -- there is at most one event for each step
-pub few_events : {p q : Pooled} {n : ℕ} {ts : List Taken} {es : List Event} → Tells p n ts es q → length es ≤ length ts
+pub few_events : {p q : Pooled} {n : ℕ} {ts : List Taken} {es : List Event} → TellsSteps p n ts es q → length es ≤ length ts
 few_events tells_none = omega arith
 few_events (tells_step {e = None} t h) = let few = few_events h in omega (arith, few)
 few_events (tells_step {e = Some event} t h) = let few = few_events h in omega (arith, few)
@@ -58,7 +58,7 @@ course_few {steps = steps} {c = c} is =
 -- each step uses one name more at most
 acts_names : {n k : ℕ} {p q : Process} {e : Option Event} {more : List Process} → Acts n p e k q more → k ≤ n + 1
 acts_names acts_split = omega arith
-acts_names (acts_match e) = omega arith
+acts_names (acts_select e) = omega arith
 acts_names acts_inl = omega arith
 acts_names acts_inr = omega arith
 acts_names (acts_decrypt e) = omega arith
@@ -67,7 +67,7 @@ acts_names acts_begin = omega arith
 acts_names acts_end = omega arith
 acts_names acts_end_many = omega arith
 acts_names acts_cast = omega arith
-acts_names acts_new = omega arith
+acts_names acts_fresh = omega arith
 acts_names acts_par = omega arith
 
 takes_names : {c d : Configuration} {s : Step} {e : Option Event} → Takes c s e d → d.names ≤ c.names + 1
@@ -75,15 +75,15 @@ takes_names (takes_act a x) = acts_names x
 takes_names (takes_talk a b x) = omega arith
 
 -- a step more
-append_told : {p q r : Pooled} {n m : ℕ} {ts : List Taken} {es : List Event} {t : Taken} {e : Option Event} → Tells p n ts es q → m ≡ n + length es → IsTold q m t e r
-    → Tells p n (ts ++ t ∷ []) (es ++ option_to_list e) r
+append_told : {p q r : Pooled} {n m : ℕ} {ts : List Taken} {es : List Event} {t : Taken} {e : Option Event} → TellsSteps p n ts es q → m ≡ n + length es → IsStepTold q m t e r
+    → TellsSteps p n (ts ++ t ∷ []) (es ++ option_to_list e) r
 append_told {p} {r = r} {n = n} {t = t} {e = e} tells_none same told =
-    let at : IsTold p n t e r = subst (λ k. IsTold p k t e r) (let same : _ ≡ n = omega (arith, same) in same) told in
-    subst (λ (l : List Event). Tells p n (t ∷ []) l r) (append-nil (option_to_list e)) (tells_step at tells_none)
+    let at : IsStepTold p n t e r = subst (λ k. IsStepTold p k t e r) (let same : _ ≡ n = omega (arith, same) in same) told in
+    subst (λ (l : List Event). TellsSteps p n (t ∷ []) l r) (append-nil (option_to_list e)) (tells_step at tells_none)
 append_told {p} {q} {r = r} {n = n} {m = m} {t = t} {e = e} (tells_step {q = mid} {t = one} {e = shown} {ts = ts} {es = es} told h) same next =
     let both = length-append (option_to_list shown) es in
     let count : m ≡ (n + length (option_to_list shown)) + length es = omega (arith, same, both) in
-    subst (λ (l : List Event). Tells p n (one ∷ (ts ++ t ∷ [])) l r) (sym (append_assoc (option_to_list shown) es (option_to_list e))) (tells_step told (append_told h count next))
+    subst (λ (l : List Event). TellsSteps p n (one ∷ (ts ++ t ∷ [])) l r) (sym (append_assoc (option_to_list shown) es (option_to_list e))) (tells_step told (append_told h count next))
 
 -- the first i steps of a schedule
 pub before : ℕ → List program.Step → List Step
@@ -112,19 +112,19 @@ steps_more (one ∷ ts) t = ap (λ (l : List Step). step_of one.step ∷ l) (ste
 -- how far a course has come
 pub record Came (first : Pooled) (i : ℕ) (steps : List program.Step) (taken : List Taken) (events : List declared.Event) (now : Pooled) : Type 0 where
   pub same : steps_of taken ≡ before i steps
-  pub tells : Tells first 0 taken (map event_of events) now
+  pub tells : TellsSteps first 0 taken (map event_of events) now
   pub names : now.configuration.names ≤ first.configuration.names + i
 
 pub came_none : (first : Pooled) (steps : List program.Step) (taken : List Taken) (events : List declared.Event) → taken ≡ [] → events ≡ [] → Came first 0 steps taken events first
 unfolding before
 came_none first steps taken events none nothing = record {
   same = ap steps_of none;
-  tells = subst₂ (λ (ts : List Taken) (es : List declared.Event). Tells first 0 ts (map event_of es) first) (sym none) (sym nothing) tells_none;
+  tells = subst₂ (λ (ts : List Taken) (es : List declared.Event). TellsSteps first 0 ts (map event_of es) first) (sym none) (sym nothing) tells_none;
   names = omega arith;
 }
 
 pub came_on : (first now next : Pooled) (i : ℕ) (steps : List program.Step) (taken more : List Taken) (events shown : List declared.Event) (one : Taken) (d : program.Step) → i < length steps → one.step ≡ get_or steps i d → Came first i steps taken events now
-    → more ≡ taken ++ one ∷ [] → (e : Option Event) × IsTold now (length events) one e next × (map event_of shown ≡ map event_of events ++ option_to_list e)
+    → more ≡ taken ++ one ∷ [] → (e : Option Event) × IsStepTold now (length events) one e next × (map event_of shown ≡ map event_of events ++ option_to_list e)
     → Came first (i + 1) steps more shown next
 came_on first now next i steps taken more events shown one d h is came added (e, told, noted) =
     let count : suc i ≡ i + 1 = omega arith in
@@ -136,7 +136,7 @@ came_on first now next i steps taken more events shown one d h is came added (e,
     let less = came.names in
     record {
       same = ap steps_of added ∙ here;
-      tells = subst₂ (λ (ts : List Taken) (es : List Event). Tells first 0 ts es next) (sym added) (sym noted) (append_told came.tells number told);
+      tells = subst₂ (λ (ts : List Taken) (es : List Event). TellsSteps first 0 ts es next) (sym added) (sym noted) (append_told came.tells number told);
       names = omega (arith, few, less);
     }
 
@@ -145,15 +145,15 @@ came_all first now i steps course h none came = record {
   late = [];
   split = sym (append-nil (steps_of course.taken.items) ∙ came.same ∙ before_all i steps h);
   told = came.tells;
-  end = subst (λ (f : Option StepFault). IsEnd now [] f) (sym none) all_taken;
+  end = subst (λ (f : Option StepFault). IsEndOfCourse now [] f) (sym none) all_taken;
 }
 
 pub stops_at : (first now next : Pooled) (i : ℕ) (steps : List program.Step) (events : List declared.Event) (course : Course) (s d : program.Step) (fault told : StepFault) → i < length steps → s ≡ get_or steps i d → course.refused ≡ Some told → (told ≡ fault) × (fault ≢ OutOfMemory)
-    → Came first i steps course.taken.items events now → (fault ≡ OutOfMemory) ⊎ (Refuses now.configuration now.most (step_of s) fault × (next ≡ now) × (course.events.items ≡ events)) → IsCourse first (map step_of steps) course next
+    → Came first i steps course.taken.items events now → (fault ≡ OutOfMemory) ⊎ (RefusesPoolStep now.configuration now.most (step_of s) fault × (next ≡ now) × (course.events.items ≡ events)) → IsCourse first (map step_of steps) course next
 stops_at first now next i steps events course s d fault told h is shown (same, some) came (inl none) = absurd (some none)
 stops_at first now next i steps events course s d fault told h is shown (same, some) came (inr (refuses, still, kept)) = record {
   late = step_of s ∷ map step_of (drop (suc i) steps);
   split = before_split i steps d h ∙ ap (λ (x : program.Step). before i steps ++ step_of x ∷ map step_of (drop (suc i) steps)) (sym is) ∙ ap (λ (l : List Step). l ++ step_of s ∷ map step_of (drop (suc i) steps)) (sym came.same);
-  told = subst₂ (λ (es : List declared.Event) (p : Pooled). Tells first 0 course.taken.items (map event_of es) p) (sym kept) (sym still) came.tells;
-  end = subst₂ (λ (f : Option StepFault) (p : Pooled). IsEnd p (step_of s ∷ map step_of (drop (suc i) steps)) f) (sym (shown ∙ ap (λ (f : StepFault). Some f) same)) (sym still) (one_refused refuses);
+  told = subst₂ (λ (es : List declared.Event) (p : Pooled). TellsSteps first 0 course.taken.items (map event_of es) p) (sym kept) (sym still) came.tells;
+  end = subst₂ (λ (f : Option StepFault) (p : Pooled). IsEndOfCourse p (step_of s ∷ map step_of (drop (suc i) steps)) f) (sym (shown ∙ ap (λ (f : StepFault). Some f) same)) (sym still) (one_refused refuses);
 }

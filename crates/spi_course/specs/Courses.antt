@@ -7,7 +7,7 @@ use Rattle.spi_run.specs.Knowledge.{shown}
 use Rattle.spi_run.specs.Reduction.{Configuration, Step, act, talk, Event}
 use Rattle.spi_run.specs.View.{step, event}
 use Rattle.spi_replay.specs.declared.fault.StepFault.{StepFault}
-use Rattle.spi_replay.specs.Stepping.{Pooled, IsTaken, Refuses}
+use Rattle.spi_replay.specs.Stepping.{Pooled, IsTaken, RefusesPoolStep}
 use Rattle.spi_course.specs.declared.course.Taken.{Taken}
 use Rattle.spi_course.specs.declared.course.Course.{Course}
 
@@ -27,7 +27,7 @@ grown n m = if nat_lt n m then Some n else None
 
 -- The step is taken with this event, behind n others. Told are what it hands over, the number of its event, the name that
 -- is new and the place that is new.
-pub record IsTold (p : Pooled) (n : ℕ) (t : Taken) (e : Option Event) (q : Pooled) : Type 0 where
+pub record IsStepTold (p : Pooled) (n : ℕ) (t : Taken) (e : Option Event) (q : Pooled) : Type 0 where
   pub takes : IsTaken p (step t.step) e q
   pub datum : HandsOver p.configuration (step t.step) t.datum
   pub event : t.event ≡ event_number n e
@@ -35,24 +35,24 @@ pub record IsTold (p : Pooled) (n : ℕ) (t : Taken) (e : Option Event) (q : Poo
   pub added : t.added ≡ grown (length p.configuration.places) (length q.configuration.places)
 
 -- the same of the steps one by one, with their events
-pub data Tells : Pooled → ℕ → List Taken → List Event → Pooled → Type 0 where
-  tells_none : {p : Pooled} {n : ℕ} → Tells p n [] [] p
+pub data TellsSteps : Pooled → ℕ → List Taken → List Event → Pooled → Type 0 where
+  tells_none : {p : Pooled} {n : ℕ} → TellsSteps p n [] [] p
   tells_step : {p q r : Pooled} {n : ℕ} {t : Taken} {e : Option Event} {ts : List Taken} {es : List Event}
-      → IsTold p n t e q → Tells q (n + length (option_to_list e)) ts es r
-      → Tells p n (t ∷ ts) (option_to_list e ++ es) r
+      → IsStepTold p n t e q → TellsSteps q (n + length (option_to_list e)) ts es r
+      → TellsSteps p n (t ∷ ts) (option_to_list e ++ es) r
 
 abbrev pub steps_of : List Taken → List Step
 steps_of ts = map (λ t. step t.step) ts
 
 -- why no more steps are told: none is left, or the next one is refused
-pub data IsEnd (q : Pooled) : List Step → Option StepFault → Type 0 where
-  all_taken : IsEnd q [] None
+pub data IsEndOfCourse (q : Pooled) : List Step → Option StepFault → Type 0 where
+  all_taken : IsEndOfCourse q [] None
   one_refused : {s : Step} {ss : List Step} {fault : StepFault}
-      → Refuses q.configuration q.most s fault → IsEnd q (s ∷ ss) (Some fault)
+      → RefusesPoolStep q.configuration q.most s fault → IsEndOfCourse q (s ∷ ss) (Some fault)
 
 -- the steps of the schedule up to the first that is refused, each told as it was taken
 pub record IsCourse (p : Pooled) (steps : List Step) (c : Course) (q : Pooled) : Type 0 where
   pub late : List Step
   pub split : steps ≡ steps_of c.taken.items ++ late
-  pub told : Tells p 0 c.taken.items (map event c.events.items) q
-  pub end : IsEnd q late c.refused
+  pub told : TellsSteps p 0 c.taken.items (map event c.events.items) q
+  pub end : IsEndOfCourse q late c.refused

@@ -3,8 +3,8 @@
 ghost use Rattle.std.specs.Prelude.{◌≡◌, ◌≢◌, ◌⊎◌, ◌+◌, ◌-◌, ◌^◌, ◌<◌, ◌++◌, length, map, option_to_list, Option, IfOk, IfErr, OnOk, OnErr, Err};
 ghost use Rattle.spi_run.specs.Reduction.{Event as Shown};
 ghost use Rattle.spi_run.specs.View.{step as step_of, event as event_of};
-ghost use Rattle.spi_replay.specs.Stepping.{Refuses, event_in};
-ghost use Rattle.spi_course.specs.Courses.{grown as grown_of, event_number, HandsOver, IsTold, IsCourse};
+ghost use Rattle.spi_replay.specs.Stepping.{RefusesPoolStep, event_in};
+ghost use Rattle.spi_course.specs.Courses.{grown as grown_of, event_number, HandsOver, IsStepTold, IsCourse};
 
 use crate::NoMemory;
 use spi_replay::{Pool, StepFault};
@@ -73,10 +73,10 @@ fn noted(events: &mut Vec<Event>, event: Option<Event>) -> Result<Option<usize>,
 fn take_one(pool: &mut Pool<'_>, events: &mut Vec<Event>, step: Step) -> Result<Taken, StepFault>
     requires { pool.old.configuration.names < 2 ^ 32 - 1 }
     ensures step { IfOk result (λ t. t.step ≡ step) }
-    ensures ok { IfOk result (λ t. (e : Option Shown) × IsTold pool.old (length events.old.items) t e pool.new
+    ensures ok { IfOk result (λ t. (e : Option Shown) × IsStepTold pool.old (length events.old.items) t e pool.new
         × (map event_of events.new.items ≡ map event_of events.old.items ++ option_to_list e)) }
     ensures err { IfErr result (λ fault. (fault ≡ StepFault.NoMemory)
-        ⊎ (Refuses pool.old.configuration pool.old.most (step_of step) fault
+        ⊎ (RefusesPoolStep pool.old.configuration pool.old.most (step_of step) fault
         × (pool.new ≡ pool.old) × (events.new.items ≡ events.old.items))) }
 {
     let names = pool.names();

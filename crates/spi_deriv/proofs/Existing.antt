@@ -27,15 +27,15 @@ split_typed (proc_split h d g a b) i = h
 split_typed (proc_split_un h d a b) i = absurd i
 split_typed (proc_sub d w g) i = absurd i
 
-pub match_typed : {e : Env} {m n : Message} {t u : Ty} {p : Process} {es : Effect} (d : HasEffect [] e (select m t n u p) es) → IsTyped d → HasType [] e m (pair_ty t u)
-match_typed (proc_match h k d g a) i = h
-match_typed (proc_match_un h k d a) i = absurd i
-match_typed (proc_sub d w g) i = absurd i
+pub select_typed : {e : Env} {m n : Message} {t u : Ty} {p : Process} {es : Effect} (d : HasEffect [] e (select m t n u p) es) → IsTyped d → HasType [] e m (pair_ty t u)
+select_typed (proc_match h k d g a) i = h
+select_typed (proc_match_un h k d a) i = absurd i
+select_typed (proc_sub d w g) i = absurd i
 
-pub case_typed : {e : Env} {m : Message} {t u : Ty} {p q : Process} {es : Effect} (d : HasEffect [] e (branch m t p u q) es) → IsTyped d → HasType [] e m (sum_ty t u)
-case_typed (proc_case h d f g k a b r) i = h
-case_typed (proc_case_un h d f a b r) i = absurd i
-case_typed (proc_sub d w g) i = absurd i
+pub branch_typed : {e : Env} {m : Message} {t u : Ty} {p q : Process} {es : Effect} (d : HasEffect [] e (branch m t p u q) es) → IsTyped d → HasType [] e m (sum_ty t u)
+branch_typed (proc_case h d f g k a b r) i = h
+branch_typed (proc_case_un h d f a b r) i = absurd i
+branch_typed (proc_sub d w g) i = absurd i
 
 decrypt_typed : {e : Env} {m n : Message} {t : Ty} {p : Process} {es : Effect} (d : HasEffect [] e (decrypt m t n p) es) → IsTyped d → HasType [] e n (key t)
 decrypt_typed (proc_decrypt h k d g a) i = k
@@ -50,11 +50,11 @@ check_typed (proc_sub d w g) i = absurd i
 no_split : {e : Env} {m : Message} {p : Process} → typed m e (pair_ty un un) ≡ false → HasNoTyped e (split m un un p)
 no_split q = λ es d i. false≢true (sym q ∙ typed_from (split_typed d i))
 
-no_match : {e : Env} {m n : Message} {p : Process} → typed m e (pair_ty un un) ≡ false → HasNoTyped e (select m un n un p)
-no_match q = λ es d i. false≢true (sym q ∙ typed_from (match_typed d i))
+no_select : {e : Env} {m n : Message} {p : Process} → typed m e (pair_ty un un) ≡ false → HasNoTyped e (select m un n un p)
+no_select q = λ es d i. false≢true (sym q ∙ typed_from (select_typed d i))
 
-no_case : {e : Env} {m : Message} {p q : Process} → typed m e (sum_ty un un) ≡ false → HasNoTyped e (branch m un p un q)
-no_case q = λ es d i. false≢true (sym q ∙ typed_from (case_typed d i))
+no_branch : {e : Env} {m : Message} {p q : Process} → typed m e (sum_ty un un) ≡ false → HasNoTyped e (branch m un p un q)
+no_branch q = λ es d i. false≢true (sym q ∙ typed_from (branch_typed d i))
 
 no_decrypt : {e : Env} {m n : Message} {p : Process} → HasType [] e n un → HasNoTyped e (decrypt m un n p)
 no_decrypt k = λ es d i. key_or_un (decrypt_typed d i) k
@@ -67,13 +67,13 @@ split_chosen : {e : Env} {m : Message} {p : Process} {es fs : Effect} (b : Bool)
 split_chosen {e} {m} {p} {es} true q h d c a b w = let k = typed_true m e (pair_ty un un) q in (es, proc_split k d (good_pair good_un good_un) a b, w, (every k, c))
 split_chosen {e} {m} {p} {es} false q h d c a b w = (es, proc_split_un h d a b, w, (no_split q, every h, c))
 
-match_chosen : {e : Env} {m n : Message} {p : Process} {es fs : Effect} (b : Bool) → typed m e (pair_ty un un) ≡ b → HasType [] e m un → HasType [] e n un → (d : HasEffect [] (extended e un) (opened e p) es) → IsCanonical d → EffectAvoids (length e) es → Within es fs → Chosen e (select m un n un p) fs
-match_chosen {e} {m} {n} {p} {es} true q h k d c a w = let l = typed_true m e (pair_ty un un) q in (es, proc_match l k d (good_pair good_un good_un) a, w, (every l, every k, c))
-match_chosen {e} {m} {n} {p} {es} false q h k d c a w = (es, proc_match_un h k d a, w, (no_match q, every h, every k, c))
+select_chosen : {e : Env} {m n : Message} {p : Process} {es fs : Effect} (b : Bool) → typed m e (pair_ty un un) ≡ b → HasType [] e m un → HasType [] e n un → (d : HasEffect [] (extended e un) (opened e p) es) → IsCanonical d → EffectAvoids (length e) es → Within es fs → Chosen e (select m un n un p) fs
+select_chosen {e} {m} {n} {p} {es} true q h k d c a w = let l = typed_true m e (pair_ty un un) q in (es, proc_match l k d (good_pair good_un good_un) a, w, (every l, every k, c))
+select_chosen {e} {m} {n} {p} {es} false q h k d c a w = (es, proc_match_un h k d a, w, (no_select q, every h, every k, c))
 
-case_chosen : {e : Env} {m : Message} {p q : Process} {es gs rs fs : Effect} (b : Bool) → typed m e (sum_ty un un) ≡ b → HasType [] e m un → (d : HasEffect [] (extended e un) (opened e p) es) → IsCanonical d → (f : HasEffect [] (extended e un) (opened e q) gs) → IsCanonical f → EffectAvoids (length e) es → EffectAvoids (length e) gs → IsGreater rs es gs → Within rs fs → Chosen e (branch m un p un q) fs
-case_chosen {e} {m} {p} {q} {es} {gs} {rs} true o h d c f k a b r w = let l = typed_true m e (sum_ty un un) o in (rs, proc_case l d f good_un good_un a b r, w, (every l, c, k))
-case_chosen {e} {m} {p} {q} {es} {gs} {rs} false o h d c f k a b r w = (rs, proc_case_un h d f a b r, w, (no_case o, every h, c, k))
+branch_chosen : {e : Env} {m : Message} {p q : Process} {es gs rs fs : Effect} (b : Bool) → typed m e (sum_ty un un) ≡ b → HasType [] e m un → (d : HasEffect [] (extended e un) (opened e p) es) → IsCanonical d → (f : HasEffect [] (extended e un) (opened e q) gs) → IsCanonical f → EffectAvoids (length e) es → EffectAvoids (length e) gs → IsGreater rs es gs → Within rs fs → Chosen e (branch m un p un q) fs
+branch_chosen {e} {m} {p} {q} {es} {gs} {rs} true o h d c f k a b r w = let l = typed_true m e (sum_ty un un) o in (rs, proc_case l d f good_un good_un a b r, w, (every l, c, k))
+branch_chosen {e} {m} {p} {q} {es} {gs} {rs} false o h d c f k a b r w = (rs, proc_case_un h d f a b r, w, (no_branch o, every h, c, k))
 
 pub chosen : {e : Env} {p : Process} {fs : Effect} → Pays [] e p fs → Chosen e p fs
 chosen pays_stop = ([], proc_stop, within_tally (λ a. omega arith), tt)
@@ -83,7 +83,7 @@ chosen {e} (pays_repeat h d m a w) = let (xs, f, v, c) = chosen d in (xs, proc_r
 chosen {e} (pays_split h d g a b w) = let (xs, f, v, c) = chosen d in (xs, proc_split h f g (OfEffect_within (Avoids (length e)) v a) (OfEffect_within (Avoids (suc (length e))) v b), within_trans v w, (every h, c))
 chosen {e} (pays_split_un {m = m} h d a b w) = let (xs, f, v, c) = chosen d in split_chosen (typed m e (pair_ty un un)) refl h f c (OfEffect_within (Avoids (length e)) v a) (OfEffect_within (Avoids (suc (length e))) v b) (within_trans v w)
 chosen {e} (pays_match h k d g a w) = let (xs, f, v, c) = chosen d in (xs, proc_match h k f g (OfEffect_within (Avoids (length e)) v a), within_trans v w, (every h, every k, c))
-chosen {e} (pays_match_un {m = m} h k d a w) = let (xs, f, v, c) = chosen d in match_chosen (typed m e (pair_ty un un)) refl h k f c (OfEffect_within (Avoids (length e)) v a) (within_trans v w)
+chosen {e} (pays_match_un {m = m} h k d a w) = let (xs, f, v, c) = chosen d in select_chosen (typed m e (pair_ty un un)) refl h k f c (OfEffect_within (Avoids (length e)) v a) (within_trans v w)
 chosen {e} (pays_case h d d' g k a b w z) =
     let (xs, f, v, c) = chosen d in
     let (ys, l, u, i) = chosen d' in
@@ -91,7 +91,7 @@ chosen {e} (pays_case h d d' g k a b w z) =
 chosen {e} (pays_case_un {m = m} h d d' a b w z) =
     let (xs, f, v, c) = chosen d in
     let (ys, l, u, i) = chosen d' in
-    case_chosen (typed m e (sum_ty un un)) refl h f c l i (OfEffect_within (Avoids (length e)) v a) (OfEffect_within (Avoids (length e)) u b) (greater_is xs ys) (greater_within (greater_is xs ys) (within_trans v w) (within_trans u z))
+    branch_chosen (typed m e (sum_ty un un)) refl h f c l i (OfEffect_within (Avoids (length e)) v a) (OfEffect_within (Avoids (length e)) u b) (greater_is xs ys) (greater_within (greater_is xs ys) (within_trans v w) (within_trans u z))
 chosen {e} (pays_decrypt h k d g a w) = let (xs, f, v, c) = chosen d in (xs, proc_decrypt h k f g (OfEffect_within (Avoids (length e)) v a), within_trans v w, (every h, every k, c))
 chosen {e} (pays_decrypt_un h k d a w) = let (xs, f, v, c) = chosen d in (xs, proc_decrypt_un h k f (OfEffect_within (Avoids (length e)) v a), within_trans v w, (no_decrypt k, every h, every k, c))
 chosen (pays_check {m = m} {gs = gs} {rest = rest} h i d z w) =

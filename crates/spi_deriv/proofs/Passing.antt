@@ -39,7 +39,7 @@ tasks_moved l f (tasks_next {k = k} {b = b} h g r) =
     tasks_next {k = k} (omega (arith, l, h)) (g ∙ ap (λ l. l ++ b) (f k h)) (tasks_moved (omega arith) (λ j i. f j (omega (arith, i, h))) r)
 
 -- the nodes before place i are passed
-pub record Passes (ss : List Shape) (all : List RuleUse) (i : ℕ) (now : List Ty) (bs : List (List Ty)) (us : List RuleUse) : Type 0 where
+pub record PassesNodes (ss : List Shape) (all : List RuleUse) (i : ℕ) (now : List Ty) (bs : List (List Ty)) (us : List RuleUse) : Type 0 where
   pub tasks : List Task
   pub are : AreTasks now (length now) tasks bs
   pub nodes : drop i ss ≡ nodes_of i tasks
@@ -48,7 +48,7 @@ pub record Passes (ss : List Shape) (all : List RuleUse) (i : ℕ) (now : List T
 whole : (e b : List Ty) → e ++ b ≡ take (length e) e ++ b
 whole e b = ap (λ l. l ++ b) (sym (take-length e))
 
-pub passes_start : (q : Process) (e : List Ty) → Passes (flat 0 (length e) q) (process_uses q e) 0 e ([] ∷ []) []
+pub passes_start : (q : Process) (e : List Ty) → PassesNodes (flat 0 (length e) q) (process_uses q e) 0 e ([] ∷ []) []
 passes_start q e = record {
   tasks = task q e ∷ [];
   are = tasks_next {k = length e} (omega arith) (sym (append-nil e) ∙ whole e []) tasks_none;
@@ -57,13 +57,13 @@ passes_start q e = record {
 }
 
 -- at the root, with so many names of type Un
-pub passes_from : (k n : ℕ) (p : Process) (t : Ty) (now : List Ty) (bs : List (List Ty)) (us : List RuleUse) → n ≡ k → t ≡ un → now ≡ replicate n t → bs ≡ [] ∷ [] → us ≡ [] → Passes (spelled k p) (process_uses (numbered [] k p) (untrusted k)) 0 now bs us
+pub passes_from : (k n : ℕ) (p : Process) (t : Ty) (now : List Ty) (bs : List (List Ty)) (us : List RuleUse) → n ≡ k → t ≡ un → now ≡ replicate n t → bs ≡ [] ∷ [] → us ≡ [] → PassesNodes (spelled k p) (process_uses (numbered [] k p) (untrusted k)) 0 now bs us
 passes_from k n p t now bs us h g e b u =
     let q = numbered [] k p in
     let all = process_uses q (untrusted k) in
     let f : now ≡ untrusted k = e ∙ ap (λ t. replicate n t) g ∙ ap (λ n. replicate n un) h in
-    let s = subst (λ m. Passes (flat 0 m q) all 0 (untrusted k) ([] ∷ []) []) (length_untrusted k) (passes_start q (untrusted k)) in
-    subst (λ us. Passes (spelled k p) all 0 now bs us) (sym u) (subst (λ bs. Passes (spelled k p) all 0 now bs []) (sym b) (subst (λ e. Passes (spelled k p) all 0 e ([] ∷ []) []) (sym f) s))
+    let s = subst (λ m. PassesNodes (flat 0 m q) all 0 (untrusted k) ([] ∷ []) []) (length_untrusted k) (passes_start q (untrusted k)) in
+    subst (λ us. PassesNodes (spelled k p) all 0 now bs us) (sym u) (subst (λ bs. PassesNodes (spelled k p) all 0 now bs []) (sym b) (subst (λ e. PassesNodes (spelled k p) all 0 e ([] ∷ []) []) (sym f) s))
 
 length_binding : (s : Prefix) → length (binding s) ≡ binds s
 length_binding (Recvs m t) = refl
@@ -78,7 +78,7 @@ nodes_at ts h = ap (λ i. nodes_of i ts) h
 
 module _ (ss : List Shape) (all : List RuleUse) (i : ℕ) (e : List Ty) (bs : List (List Ty)) (us : List RuleUse) (ts : List Task) (more : AreTasks e (length e) ts bs) where
   abbrev Next : Shape → Type 0
-  Next x = (scope_of x ≡ length e) × Passes ss all (i + 1) e (next x ++ bs) (us ++ node_uses e x)
+  Next x = (scope_of x ≡ length e) × PassesNodes ss all (i + 1) e (next x ++ bs) (us ++ node_uses e x)
 
   next_leaf : (l : Leaf) → drop (i + 1) ss ≡ nodes_of (i + 1) ts → us ++ (leaf_uses e l ++ uses_of ts) ≡ all → Next (leaf_at (length e) l)
   next_leaf l h u = (
@@ -155,7 +155,7 @@ module _ (ss : List Shape) (all : List RuleUse) (i : ℕ) (e : List Ty) (bs : Li
       subst Next (sym a) (next_fork f p q b u)
 
 -- one more node
-next_from : (ss : List Shape) (all : List RuleUse) (i : ℕ) (x : Shape) {now later : List Ty} {bs cs : List (List Ty)} {us vs : List RuleUse} (ts : List Task) → AreTasks now (length now) ts bs → x ∷ drop (i + 1) ss ≡ nodes_of i ts → us ++ uses_of ts ≡ all → ((b : List Ty) (rest : List (List Ty)) → bs ≡ b ∷ rest → IsPassed (scope_of x) x b rest now later cs us vs) → Passes ss all (i + 1) later cs vs
+next_from : (ss : List Shape) (all : List RuleUse) (i : ℕ) (x : Shape) {now later : List Ty} {bs cs : List (List Ty)} {us vs : List RuleUse} (ts : List Task) → AreTasks now (length now) ts bs → x ∷ drop (i + 1) ss ≡ nodes_of i ts → us ++ uses_of ts ≡ all → ((b : List Ty) (rest : List (List Ty)) → bs ≡ b ∷ rest → IsPassed (scope_of x) x b rest now later cs us vs) → PassesNodes ss all (i + 1) later cs vs
 next_from ss all i x [] tasks_none h u p = absurd (cc h)
 next_from ss all i x {now} {later} {cs = cs} {us = us} {vs = vs} (task q e ∷ ts) (tasks_next {k = k} {b = b} {bs = rest} l g r) h u p =
     let w = p b rest refl in
@@ -166,9 +166,9 @@ next_from ss all i x {now} {later} {cs = cs} {us = us} {vs = vs} (task q e ∷ t
     let z : scope_of x - length b ≡ k = omega (arith, d.0, n) in
     let t : later ≡ e = w.types ∙ ap (λ k. take k now ++ b) z ∙ sym g in
     let v = w.uses ∙ ap (λ l. us ++ node_uses l x) t in
-    subst (λ vs. Passes ss all (i + 1) later cs vs) (sym v) (subst (λ cs. Passes ss all (i + 1) later cs (us ++ node_uses e x)) (sym w.left) (subst (λ l. Passes ss all (i + 1) l (next x ++ rest) (us ++ node_uses e x)) (sym t) d.1))
+    subst (λ vs. PassesNodes ss all (i + 1) later cs vs) (sym v) (subst (λ cs. PassesNodes ss all (i + 1) later cs (us ++ node_uses e x)) (sym w.left) (subst (λ l. PassesNodes ss all (i + 1) l (next x ++ rest) (us ++ node_uses e x)) (sym t) d.1))
 
-pub passes_next : {ss : List Shape} {all : List RuleUse} {i : ℕ} {now later : List Ty} {bs cs : List (List Ty)} {us vs : List RuleUse} (x : Shape) (n : ℕ) → Passes ss all i now bs us → slice_get ss i ≡ Some x → n ≡ scope_of x → ((b : List Ty) (rest : List (List Ty)) → bs ≡ b ∷ rest → IsPassed n x b rest now later cs us vs) → Passes ss all (i + 1) later cs vs
+pub passes_next : {ss : List Shape} {all : List RuleUse} {i : ℕ} {now later : List Ty} {bs cs : List (List Ty)} {us vs : List RuleUse} (x : Shape) (n : ℕ) → PassesNodes ss all i now bs us → slice_get ss i ≡ Some x → n ≡ scope_of x → ((b : List Ty) (rest : List (List Ty)) → bs ≡ b ∷ rest → IsPassed n x b rest now later cs us vs) → PassesNodes ss all (i + 1) later cs vs
 passes_next {ss} {all} {i} {now} {later} {bs} {cs} {us} {vs} x n w at h p =
     let q : (b : List Ty) (rest : List (List Ty)) → bs ≡ b ∷ rest → IsPassed (scope_of x) x b rest now later cs us vs
     = λ b rest e. subst (λ n. IsPassed n x b rest now later cs us vs) h (p b rest e) in
@@ -181,6 +181,6 @@ none_left i (task (leaf l) e ∷ ts) h = absurd (cc h)
 none_left i (task (prefix s p) e ∷ ts) h = absurd (cc h)
 none_left i (task (fork f p q) e ∷ ts) h = absurd (cc h)
 
-pub passes_end : {ss : List Shape} {all : List RuleUse} {i : ℕ} {now : List Ty} {bs : List (List Ty)} {us : List RuleUse} → Passes ss all i now bs us → length ss ≤ i → us ≡ all
+pub passes_end : {ss : List Shape} {all : List RuleUse} {i : ℕ} {now : List Ty} {bs : List (List Ty)} {us : List RuleUse} → PassesNodes ss all i now bs us → length ss ≤ i → us ≡ all
 passes_end {ss} {all} {i} {us = us} w l =
     sym (append-nil us) ∙ ap (λ l. us ++ l) (sym (none_left i w.tasks (sym (drop_all i ss l) ∙ w.nodes))) ∙ w.uses

@@ -1,6 +1,6 @@
 -- The rule uses of each canonical typing of a process are those that its nodes give.
 use Rattle.std.proofs.Common.{◌≡◌, ℕ, List, [], ◌∷◌, ◌++◌, length, map, refl, sym, ap, ◌∙◌, subst, append-nil, append_assoc}
-use Rattle.spi_term.specs.Term.{Message, name, Effect, Ty, un, pair_ty, nonce, Leaf, Sends, Stops, Prefix, Recvs, Serves, Splits, Selects, Decrypts, Checks, Begins, Ends, EndManys, Casts, Makes, Fork, Cases, Pars, Process, leaf, prefix, fork, binds, fork_binds}
+use Rattle.spi_term.specs.Term.{Message, name, Effect, Ty, un, pair_ty, nonce, Leaf, Sends, Stops, Prefix, Recvs, Serves, Splits, Selects, Decrypts, Checks, Begins, Ends, EndManys, Casts, Freshes, Fork, Branches, Pars, Process, leaf, prefix, fork, binds, fork_binds}
 use Rattle.spi_term.specs.Substitution.{put, ty_put}
 use Rattle.spi_term.specs.Spelling.{numbered}
 use Rattle.spi_rules.specs.Environment.{Env, untrusted}
@@ -12,7 +12,7 @@ use Rattle.spi_rules.specs.declared.rule.Rule.TheVariants.{MsgName, ProcOut, Pro
 use Rattle.spi_message.specs.Forms.{is_nonce, enter, more, on_first, on_rest}
 use Rattle.spi_message.proofs.Opened.{numbered_prefix, numbered_fork, numbered_leaf}
 use Rattle.spi_deriv.specs.Canonical.{Canonical, IsCanonical}
-use Rattle.spi_deriv.specs.Uses.{message_uses, split_uses, select_uses, decrypt_uses, check_uses, case_uses, leaf_uses, prefix_uses, fork_uses, binding, process_uses}
+use Rattle.spi_deriv.specs.Uses.{message_uses, split_uses, select_uses, decrypt_uses, check_uses, branch_uses, leaf_uses, prefix_uses, fork_uses, binding, process_uses}
 use Rattle.spi_deriv.proofs.Heads.{bare, bare_map, Alike, alike_more}
 use Rattle.spi_deriv.proofs.Written.{un_no_key, un_no_nonce, un_no_pair, un_no_sum, pair_is_pair, sum_is_sum, key_is_key, nonce_is_nonce, uses_are}
 
@@ -78,9 +78,9 @@ spelled_are {e} f a (proc_match {m = m} {n = n} {t = t} {u = u} {p = p} h k d g 
 spelled_are {e} f a (proc_match_un {m = m} {n = n} {p = p} h k d x) c =
     at_two e (Selects m un n un) p f (type_uses h) (message_uses m f un) (type_uses k) (message_uses n f un) ProcMatchUn (effect_uses d) (ap (λ b. select_uses b f m un n un) (sym (un_no_pair f a h (λ l. c.0 _ (proc_match l k d (good_pair good_un good_un) x) tt)))) (uses_are f a h) (uses_are f a k) (select_body e f a n un p (effect_uses d) (λ f b. spelled_are f b d c.3))
 spelled_are {e} f a (proc_case {m = m} {t = t} {u = u} {p = p} {q = q} h d d' g k x y r) c =
-    at_fork e (Cases m t u) p q f (uses ProcCase (type_uses h)) (effect_uses d) (effect_uses d') (ap (uses ProcCase) (uses_are f a h) ∙ ap (λ b. case_uses b f m t u) (sym (sum_is_sum f a h))) (spelled_are (f ++ t ∷ []) (alike_more f e (t ∷ []) (t ∷ []) a refl) d c.1) (spelled_are (f ++ u ∷ []) (alike_more f e (u ∷ []) (u ∷ []) a refl) d' c.2)
+    at_fork e (Branches m t u) p q f (uses ProcCase (type_uses h)) (effect_uses d) (effect_uses d') (ap (uses ProcCase) (uses_are f a h) ∙ ap (λ b. branch_uses b f m t u) (sym (sum_is_sum f a h))) (spelled_are (f ++ t ∷ []) (alike_more f e (t ∷ []) (t ∷ []) a refl) d c.1) (spelled_are (f ++ u ∷ []) (alike_more f e (u ∷ []) (u ∷ []) a refl) d' c.2)
 spelled_are {e} f a (proc_case_un {m = m} {p = p} {q = q} h d d' x y r) c =
-    at_fork e (Cases m un un) p q f (uses ProcCaseUn (type_uses h)) (effect_uses d) (effect_uses d') (ap (uses ProcCaseUn) (uses_are f a h) ∙ ap (λ b. case_uses b f m un un) (sym (un_no_sum f a h (λ l. c.0 _ (proc_case l d d' good_un good_un x y r) tt)))) (spelled_are (f ++ un ∷ []) (alike_more f e (un ∷ []) (un ∷ []) a refl) d c.2) (spelled_are (f ++ un ∷ []) (alike_more f e (un ∷ []) (un ∷ []) a refl) d' c.3)
+    at_fork e (Branches m un un) p q f (uses ProcCaseUn (type_uses h)) (effect_uses d) (effect_uses d') (ap (uses ProcCaseUn) (uses_are f a h) ∙ ap (λ b. branch_uses b f m un un) (sym (un_no_sum f a h (λ l. c.0 _ (proc_case l d d' good_un good_un x y r) tt)))) (spelled_are (f ++ un ∷ []) (alike_more f e (un ∷ []) (un ∷ []) a refl) d c.2) (spelled_are (f ++ un ∷ []) (alike_more f e (un ∷ []) (un ∷ []) a refl) d' c.3)
 spelled_are {e} f a (proc_decrypt {m = m} {n = n} {t = t} {p = p} h k d g x) c =
     let w = key_is_key f a k in
     at_two e (Decrypts m t n) p f (type_uses h) (message_uses m f un) (type_uses k) (uses MsgName []) ProcDecrypt (effect_uses d) (ap (λ o. decrypt_uses o f m n) (sym w.0.1)) (uses_are f a h) w.1 (spelled_are (f ++ t ∷ []) (alike_more f e (t ∷ []) (t ∷ []) a refl) d c.2)
@@ -98,7 +98,7 @@ spelled_are {e} f a (proc_cast {m = m} {p = p} {fs = fs} h d g x r) c =
     at_prefix e (Casts m (nonce fs)) p f (uses ProcCast (type_uses h)) (effect_uses d) (ap (uses ProcCast) (uses_are f a h)) (spelled_are (f ++ nonce fs ∷ []) (alike_more f e (nonce fs ∷ []) (nonce fs ∷ []) a refl) d c.1)
 spelled_are {e} f a (proc_cast_un {m = m} {p = p} h d x) c =
     at_prefix e (Casts m un) p f (uses ProcCastUn (type_uses h)) (effect_uses d) (ap (uses ProcCastUn) (uses_are f a h)) (spelled_are (f ++ un ∷ []) (alike_more f e (un ∷ []) (un ∷ []) a refl) d c.1)
-spelled_are {e} f a (proc_new {t = t} {p = p} d i g r x) c = at_prefix e (Makes t) p f _ (effect_uses d) refl (spelled_are (f ++ t ∷ []) (alike_more f e (t ∷ []) (t ∷ []) a refl) d c)
+spelled_are {e} f a (proc_new {t = t} {p = p} d i g r x) c = at_prefix e (Freshes t) p f _ (effect_uses d) refl (spelled_are (f ++ t ∷ []) (alike_more f e (t ∷ []) (t ∷ []) a refl) d c)
 spelled_are {e} f a (proc_par {p = p} {q = q} d d' r) c =
     at_fork e Pars p q f _ (effect_uses d) (effect_uses d') refl (no_more e p f (effect_uses d) (spelled_are f a d c.0)) (no_more e q f (effect_uses d') (spelled_are f a d' c.1))
 spelled_are f a (proc_sub d w g) c = absurd c

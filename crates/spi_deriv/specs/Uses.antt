@@ -1,7 +1,7 @@
 -- The rule uses of a canonical derivation, computed form by form. Of a type the head alone matters, so the types of the
 -- names in scope stand here as they are written, and what is opened in them doesn't matter.
 use Rattle.std.specs.Prelude.{Bool, true, false, List, [], ◌∷◌, ◌++◌, Option, Some, None, slice_get}
-use Rattle.spi_term.specs.Term.{Message, bound, name, unit, pair, in_left, in_right, enc, hash, Ty, un, unit_ty, pair_ty, sum_ty, nonce, Leaf, Sends, Stops, Prefix, Recvs, Serves, Splits, Selects, Decrypts, Checks, Begins, Ends, EndManys, Casts, Makes, Fork, Cases, Pars, Process, leaf, prefix, fork}
+use Rattle.spi_term.specs.Term.{Message, bound, name, unit, pair, in_left, in_right, enc, hash, Ty, un, unit_ty, pair_ty, sum_ty, nonce, Leaf, Sends, Stops, Prefix, Recvs, Serves, Splits, Selects, Decrypts, Checks, Begins, Ends, EndManys, Casts, Freshes, Fork, Branches, Pars, Process, leaf, prefix, fork}
 use Rattle.spi_rules.specs.Derivations.{RuleUse, uses}
 use Rattle.spi_rules.specs.declared.rule.Rule.{Rule}
 use Rattle.spi_rules.specs.declared.rule.Rule.TheVariants.{MsgName, MsgUnit, MsgUnitUn, MsgPair, MsgPairUn, MsgInl, MsgInlUn, MsgInr, MsgInrUn, MsgEnc, MsgEncUn, MsgHash, ProcStop, ProcOut, ProcIn, ProcRepeat, ProcSplit, ProcSplitUn, ProcMatch, ProcMatchUn, ProcCase, ProcCaseUn, ProcDecrypt, ProcDecryptUn, ProcCheck, ProcCheckUn, ProcBegin, ProcEnd, ProcEndMany, ProcCast, ProcCastUn, ProcNew, ProcPar}
@@ -89,9 +89,9 @@ abbrev pub cast_rule : Ty → Rule
 cast_rule (nonce es) = ProcCast
 cast_rule _ = ProcCastUn
 
-abbrev pub case_uses : Bool → List Ty → Message → Ty → Ty → List RuleUse
-case_uses true e m t u = uses ProcCase (message_uses m e (sum_ty t u))
-case_uses false e m t u = uses ProcCaseUn (message_uses m e un)
+abbrev pub branch_uses : Bool → List Ty → Message → Ty → Ty → List RuleUse
+branch_uses true e m t u = uses ProcCase (message_uses m e (sum_ty t u))
+branch_uses false e m t u = uses ProcCaseUn (message_uses m e un)
 
 abbrev pub leaf_uses : List Ty → Leaf → List RuleUse
 leaf_uses e (Sends m n) = uses ProcOut (two_uses e m un n un)
@@ -108,10 +108,10 @@ prefix_uses e (Begins m) = uses ProcBegin []
 prefix_uses e (Ends m) = uses ProcEnd []
 prefix_uses e (EndManys m) = uses ProcEndMany []
 prefix_uses e (Casts m t) = uses (cast_rule t) (message_uses m e un)
-prefix_uses e (Makes t) = uses ProcNew []
+prefix_uses e (Freshes t) = uses ProcNew []
 
 abbrev pub fork_uses : List Ty → Fork → List RuleUse
-fork_uses e (Cases m t u) = case_uses (is_sum e m) e m t u
+fork_uses e (Branches m t u) = branch_uses (is_sum e m) e m t u
 fork_uses e Pars = uses ProcPar []
 
 -- the types of the names that a form binds, as they are written
@@ -126,7 +126,7 @@ binding (Begins m) = []
 binding (Ends m) = []
 binding (EndManys m) = []
 binding (Casts m t) = t ∷ []
-binding (Makes t) = t ∷ []
+binding (Freshes t) = t ∷ []
 
 -- of a process whose bound names are numbers, in preorder
 abbrev pub process_uses : Process → List Ty → List RuleUse

@@ -7,7 +7,7 @@ ghost use Rattle.spi_message.specs.Forms.{is_nonce};
 ghost use Rattle.spi_message.specs.Tests.{key_of, nonce_of};
 ghost use Rattle.spi_rules.specs.Deriv.{rule_use};
 ghost use Rattle.spi_deriv.specs.Agenda.{types_of, node_uses};
-ghost use Rattle.spi_deriv.specs.Uses.{is_pair, is_sum, split_uses, select_uses, decrypt_uses, check_uses, cast_rule, case_uses};
+ghost use Rattle.spi_deriv.specs.Uses.{is_pair, is_sum, split_uses, select_uses, decrypt_uses, check_uses, cast_rule, branch_uses};
 
 use crate::NoMemory;
 use crate::messages::{push_at_pair, push_at_sum, push_both, push_message, push_one, push_rule};
@@ -65,7 +65,7 @@ fn push_select(
     }
 }
 
-fn push_case(
+fn push_branch(
     whole: &Msg,
     left: &Ty,
     right: &Ty,
@@ -74,7 +74,7 @@ fn push_case(
 ) -> Result<(), NoMemory>
     ensures { OnOk result
         (map rule_use out.new.items ≡ map rule_use out.old.items
-        ++ case_uses (is_sum (types_of types.now) (message whole.now)) (types_of types.now)
+        ++ branch_uses (is_sum (types_of types.now) (message whole.now)) (types_of types.now)
         (message whole.now) (type_of left.now) (type_of right.now)) }
 {
     if is_sum(types, whole) {
@@ -184,7 +184,7 @@ pub fn push_uses(node: &Node, types: &[&Ty], out: &mut Vec<RuleUse>) -> Result<(
             left,
             right,
             ..
-        } => push_case(whole, left, right, types, out),
+        } => push_branch(whole, left, right, types, out),
         Form::Decrypt { whole, key, .. } => push_decrypt(whole, key, types, out),
         Form::Check { whole, nonce, .. } => push_check(whole, nonce, types, out),
         Form::Begin { .. } => push_rule(Rule::ProcBegin, out),

@@ -13,16 +13,16 @@ use Rattle.spi_parse.specs.declared.fault.ParseFault.{ParseFault}
 use Rattle.spi_parse.specs.declared.fault.ParseFault.TheVariants as faults
 use Rattle.spi_parse.specs.Exact as exact
 use Rattle.spi_parse.specs.Formed.{whole_process, IsWholeProcess}
-use Rattle.spi_grammar.specs.Exactly.{kinds, IsGood, IsEnd, One}
+use Rattle.spi_grammar.specs.Exactly.{kinds, IsGoodKind, IsEnd, One}
 use Rattle.spi_grammar.proofs.Answers.{first_refuses, second_refuses, one_good}
 use Rattle.spi_grammar.proofs.Good.{IsSome}
 use Rattle.spi_parts.proofs.Behind.{proc_behind}
 use Rattle.spi_parts.proofs.Bridge.{kinds_cells, OfPieces, of_piece, part_from}
 use Rattle.spi_parts.proofs.Processes.{Processes, IsBraceClose, processes_apart, processes_even}
 use Rattle.spi_heading.specs.Taking.{IsThere, Takes}
-use Rattle.spi_heading.proofs.Standing.{Stands, IsSolid, proc_solid, stands_both, stands_kinds, stands_length, behind_part}
+use Rattle.spi_heading.proofs.Standing.{AreTokensOf, IsSolid, proc_solid, stands_both, stands_kinds, stands_length, behind_part}
 use Rattle.spi_heading.proofs.Failing.{FailsAt, memory, fault, tells_at, ReadAt, IsToldBy, fails_to}
-use Rattle.spi_heading.proofs.Symbols.{Sym, token, name, braced, closing, the_mark, the_word, put, drop_, Item}
+use Rattle.spi_heading.proofs.Symbols.{Sym, token, name, braced, closing, the_mark, the_word, put, drop_, SymbolItem}
 use Rattle.spi_heading.proofs.Versions.{Cells}
 use Rattle.spi_heading.proofs.Rows.{Values, Row, row_into, row_behind, ItemAt}
 use Rattle.spi_heading.proofs.Calls.{part_stands, took}
@@ -91,7 +91,7 @@ module _ (v : Bool) where
       go (puts s w p) is e = record { first = put_word; row = put_row; told = put_told; is = subst (Row v put_row) e (put_is s w p is); begins = (_, ap kinds (sym e)) }
       go (drops s w) is e = record { first = drop_word; row = drop_row; told = drop_told; is = subst (Row v drop_row) e (drop_is s w is); begins = (_, ap kinds (sym e)) }
 
-  pub edits_good : IsGood Edits
+  pub edits_good : IsGoodKind Edits
   edits_good = forms_good v Edits edit_form (let r = put_told.starts in (r.0, put_told.into r.0 r.1))
 
   -- what an edit begins with
@@ -115,12 +115,12 @@ module _ (v : Bool) where
     abbrev ProcessAt : t.Proc → ℕ → Type 0
     ProcessAt p j = (n : ℕ) × (j ≡ i + n) × exact.IsPartAt whole_process (IsWholeProcess v) p (drop i ts) n
 
-    pub process_fails : (f : ParseFault) → FailsAt (Processes v) ts i f → FailsAt (Item v braced) ts i f
+    pub process_fails : (f : ParseFault) → FailsAt (Processes v) ts i f → FailsAt (SymbolItem v braced) ts i f
     process_fails f (memory e) = memory e
     process_fails f (fault d n t r) = fault d n t (first_refuses (Processes v) (One IsBraceClose) (processes_apart v) (one_good IsBraceClose (K.Mark mark.BraceClose) refl).live d (kinds_of (drop i ts)) n r)
 
-    process_stands : (p : t.Proc) (j : ℕ) → i ≤ length ts → ProcessAt p j → Stands ts i (whole_process p) j
-    process_stands p j w r = subst (λ (k : ℕ). Stands ts i (whole_process p) k) (sym r.1) (part_stands whole_process (IsWholeProcess v) p ts i r.0 w (proc_solid p 0 []).0 r.2)
+    process_stands : (p : t.Proc) (j : ℕ) → i ≤ length ts → ProcessAt p j → AreTokensOf ts i (whole_process p) j
+    process_stands p j w r = subst (λ (k : ℕ). AreTokensOf ts i (whole_process p) k) (sym r.1) (part_stands whole_process (IsWholeProcess v) p ts i r.0 w (proc_solid p 0 []).0 r.2)
 
     process_read : (p : t.Proc) (j : ℕ) → i ≤ length ts → ProcessAt p j → ReadAt (Processes v) ts i j
     process_read p j w r =
@@ -139,7 +139,7 @@ module _ (v : Bool) where
           place = stands_length ts ps i j stands ∙ ap (λ (l : List Kind). i + length l) (sym (kinds_cells ps));
         }
 
-    pub brace_fails : (p : t.Proc) (j : ℕ) → i ≤ length ts → ProcessAt p j → (f : ParseFault) → FailsAt (One IsBraceClose) ts j f → FailsAt (Item v braced) ts i f
+    pub brace_fails : (p : t.Proc) (j : ℕ) → i ≤ length ts → ProcessAt p j → (f : ParseFault) → FailsAt (One IsBraceClose) ts j f → FailsAt (SymbolItem v braced) ts i f
     brace_fails p j w r f (memory e) = memory e
     brace_fails p j w r f (fault d n t g) =
         let h = process_read p j w r in
@@ -150,7 +150,7 @@ module _ (v : Bool) where
     pub braced_read : (p : t.Proc) (j k : ℕ) → i ≤ length ts → ProcessAt p j → Takes (K.Mark mark.BraceClose) (Ok k) ts j → ItemAt v ts i braced p k
     braced_read p j k w r h = record {
       is = r.2.part.0;
-      stands = subst (λ (l : List Piece). Stands ts i l k) (sym (proc_behind (at_level 0) p (a_mark mark.BraceClose [])))
+      stands = subst (λ (l : List Piece). AreTokensOf ts i l k) (sym (proc_behind (at_level 0) p (a_mark mark.BraceClose [])))
           (stands_both ts (whole_process p) (a_mark mark.BraceClose []) i j k (process_stands p j w r) (took v ts j k (the_mark mark.BraceClose) h).stands);
     }
 

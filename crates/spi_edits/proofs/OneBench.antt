@@ -29,7 +29,7 @@ use Rattle.spi_heading.proofs.Each.{each_behind}
 use Rattle.spi_heading.proofs.Names.{shared_behind}
 use Rattle.spi_edits.specs.Edits.{Edit, puts, drops, Bench}
 use Rattle.spi_edits.specs.Grammar.{edit_pieces, IsEdit, bench_pieces, placed, whole_bench, is_later}
-use Rattle.spi_edits.specs.Reads.{IsSpelled}
+use Rattle.spi_edits.specs.Reads.{IsBenchSpelled}
 use Rattle.spi_edits.proofs.EditRows.{edit_behind}
 
 abbrev span_of : ℕ → ℕ → Span
@@ -355,7 +355,7 @@ same_bench b c = made b.span c.span b.version c.version b.decls c.decls b.shared
     made : (i j : Span) (v w : ℕ) (ds es : List t.Declared) (ss us : List h.Shared) (xs ys : List Edit) → i ≡ j → v ≡ w → ds ≡ es → ss ≡ us → xs ≡ ys → bench_made i v ds ss xs ≡ bench_made j w es us ys
     made i j v w ds es ss us xs ys p q r m n = rw (p, q, r, m, n) refl
 
-pub one_spelled : (b c : Bench) (ts : List Token) → IsSpelled b ts → IsSpelled c ts → b ≡ c
+pub one_spelled : (b c : Bench) (ts : List Token) → IsBenchSpelled b ts → IsBenchSpelled c ts → b ≡ c
 one_spelled b c ts (hb, sb) (hc, sc) =
     let v : Bool = is_later b in
     let fit : AreWordsFit v (kinds_of ts) = subst (AreWordsFit v) (kinds_spelled 0 (whole_bench b) ts sb) hb.words in

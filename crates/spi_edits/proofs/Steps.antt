@@ -17,7 +17,7 @@ use Rattle.spi_heading.specs.Spans.{span_over}
 use Rattle.spi_heading.specs.Taking.{ReadsVersion}
 use Rattle.spi_heading.specs.Each.{each_pieces, FailsWhole}
 use Rattle.spi_heading.specs.Grammar.{shared_pieces, IsShared}
-use Rattle.spi_heading.proofs.Standing.{Stands, stands_both, spelled, within_one, IsSolid, decl_solid}
+use Rattle.spi_heading.proofs.Standing.{AreTokensOf, stands_both, spelled, within_one, IsSolid, decl_solid}
 use Rattle.spi_heading.proofs.Rows.{fits_at}
 use Rattle.spi_heading.proofs.Each.{Along}
 use Rattle.spi_heading.proofs.Names.{shared_behind, shared_solid}
@@ -25,13 +25,13 @@ use Rattle.spi_heading.proofs.Wholes.{WholeFails, whole_fails}
 use Rattle.spi_heading.proofs.Versions.{version_row_at, version_fits, version_known}
 use Rattle.spi_edits.specs.Edits.{Edit, Bench}
 use Rattle.spi_edits.specs.Grammar.{edit_pieces, IsEdit, bench_pieces, placed, whole_bench, IsBench}
-use Rattle.spi_edits.specs.Reads.{IsSpelled, ParsesBench}
+use Rattle.spi_edits.specs.Reads.{IsBenchSpelled, ParsesBench}
 use Rattle.spi_edits.specs.Spans.{span_of_all}
 use Rattle.spi_edits.proofs.EditRows.{edit_behind, edit_solid}
 use Rattle.spi_edits.proofs.Whole.{body_pieces, Benches, of_version, version_are, later_pieces, first_pieces}
 
 body_stands : (v : Bool) (ts : List Token) (ds : List t.Declared) (ss : List h.Shared) (es : List Edit) (i j k l : ℕ) → Along decl_pieces decl_behind (IsDeclared v) ts i ds j → Along shared_pieces shared_behind (IsShared v) ts j ss k
-    → Along edit_pieces edit_behind (IsEdit v) ts k es l → Stands ts i (body_pieces ds ss es) l
+    → Along edit_pieces edit_behind (IsEdit v) ts k es l → AreTokensOf ts i (body_pieces ds ss es) l
 body_stands v ts ds ss es i j k l a b c =
     stands_both ts (each_pieces decl_pieces ds []) (each_pieces shared_pieces ss [] ++ each_pieces edit_pieces es []) i j l a.stands (stands_both ts (each_pieces shared_pieces ss []) (each_pieces edit_pieces es []) j k l b.stands c.stands)
 
@@ -56,7 +56,7 @@ bench_start : (v : ℕ) (s : Span) (ds : List t.Declared) (ss : List h.Shared) (
 bench_start v s ds ss es (inl e) = subst (λ (i : ℕ). NoneOrSolid (bench_pieces (of_version i s ds ss es))) (sym e) (decls_start ds ss es)
 bench_start v s ds ss es (inr e) = subst (λ (i : ℕ). NoneOrSolid (bench_pieces (of_version i s ds ss es))) (sym e) (inr tt)
 
-solid_within : (ts : List Token) (ps : List Piece) (i j : ℕ) → IsSolid ps → Stands ts i ps j → i < length ts
+solid_within : (ts : List Token) (ps : List Piece) (i j : ℕ) → IsSolid ps → AreTokensOf ts i ps j → i < length ts
 solid_within ts [] i j s h = absurd s
 solid_within ts (opens from ∷ ps) i j s h = h.0
 solid_within ts (cell k deep ∷ ps) i j s h = within_one ts i h.0 h.1 h.2
@@ -64,7 +64,7 @@ solid_within ts (closes to ∷ ps) i j s h = absurd s
 
 -- ---- all of it, up to the end
 
-placed_stands : (ts : List Token) (s : Span) → s ≡ span_over ts 0 (length ts) → (ps : List Piece) → IsSolid ps → Stands ts 0 ps (length ts) → Stands ts 0 (placed s ps) (length ts)
+placed_stands : (ts : List Token) (s : Span) → s ≡ span_over ts 0 (length ts) → (ps : List Piece) → IsSolid ps → AreTokensOf ts 0 ps (length ts) → AreTokensOf ts 0 (placed s ps) (length ts)
 placed_stands ts s spans [] solid h = absurd solid
 placed_stands ts s spans (p ∷ ps) solid h = (
   solid_within ts (p ∷ ps) 0 (length ts) solid h,
@@ -83,29 +83,29 @@ spans_none (t ∷ ts) e = absurd (omega (arith, e))
 module _ (ts : List Token) (s : Span) (spans : s ≡ span_of_all ts) where
   -- the place, and the whole as it is spelled
   abbrev IsPlaced : Bench → Type 0
-  IsPlaced x = (bench_pieces x ≡ [] → s ≡ nowhere) × Stands ts 0 (placed s (bench_pieces x)) (length ts)
+  IsPlaced x = (bench_pieces x ≡ [] → s ≡ nowhere) × AreTokensOf ts 0 (placed s (bench_pieces x)) (length ts)
 
-  bench_placed : (x : Bench) → NoneOrSolid (bench_pieces x) → Stands ts 0 (bench_pieces x) (length ts) → IsPlaced x
+  bench_placed : (x : Bench) → NoneOrSolid (bench_pieces x) → AreTokensOf ts 0 (bench_pieces x) (length ts) → IsPlaced x
   bench_placed x (inl e) h =
-      let none : 0 ≡ length ts = subst (λ (l : List Piece). Stands ts 0 l (length ts)) e h in
-      (λ f. spans ∙ (spans_none ts none).1, subst (λ (l : List Piece). Stands ts 0 (placed s l) (length ts)) (sym e) none)
+      let none : 0 ≡ length ts = subst (λ (l : List Piece). AreTokensOf ts 0 l (length ts)) e h in
+      (λ f. spans ∙ (spans_none ts none).1, subst (λ (l : List Piece). AreTokensOf ts 0 (placed s l) (length ts)) (sym e) none)
   bench_placed x (inr solid) h = (
     λ f. absurd (subst (λ (l : List Piece). IsSolid l) f solid),
     placed_stands ts s (spans ∙ spans_some ts (solid_within ts (bench_pieces x) 0 (length ts) solid h)) (bench_pieces x) solid h,
   )
 
-  whole_stands : (ds : List t.Declared) (ss : List h.Shared) (es : List Edit) (r : ℕ × ℕ) → ReadsVersion (Ok r) ts → Stands ts r.1 (body_pieces ds ss es) (length ts) → Stands ts 0 (bench_pieces (of_version r.0 s ds ss es)) (length ts)
+  whole_stands : (ds : List t.Declared) (ss : List h.Shared) (es : List Edit) (r : ℕ × ℕ) → ReadsVersion (Ok r) ts → AreTokensOf ts r.1 (body_pieces ds ss es) (length ts) → AreTokensOf ts 0 (bench_pieces (of_version r.0 s ds ss es)) (length ts)
   whole_stands ds ss es r (inl h) body =
-      subst (λ (n : ℕ). Stands ts 0 (bench_pieces (of_version n s ds ss es)) (length ts)) (sym h.0)
-      (subst (λ (l : List Piece). Stands ts 0 l (length ts)) (sym (later_pieces s ds ss es))
-      (stands_both ts version_are (body_pieces ds ss es) 0 3 (length ts) (version_row_at false ts h.2 h.3 h.4).stands (subst (λ (n : ℕ). Stands ts n (body_pieces ds ss es) (length ts)) h.1 body)))
+      subst (λ (n : ℕ). AreTokensOf ts 0 (bench_pieces (of_version n s ds ss es)) (length ts)) (sym h.0)
+      (subst (λ (l : List Piece). AreTokensOf ts 0 l (length ts)) (sym (later_pieces s ds ss es))
+      (stands_both ts version_are (body_pieces ds ss es) 0 3 (length ts) (version_row_at false ts h.2 h.3 h.4).stands (subst (λ (n : ℕ). AreTokensOf ts n (body_pieces ds ss es) (length ts)) h.1 body)))
   whole_stands ds ss es r (inr h) body =
-      subst (λ (n : ℕ). Stands ts 0 (bench_pieces (of_version n s ds ss es)) (length ts)) (sym h.0)
-      (subst (λ (l : List Piece). Stands ts 0 l (length ts)) (sym (first_pieces s ds ss es)) (subst (λ (n : ℕ). Stands ts n (body_pieces ds ss es) (length ts)) h.1 body))
+      subst (λ (n : ℕ). AreTokensOf ts 0 (bench_pieces (of_version n s ds ss es)) (length ts)) (sym h.0)
+      (subst (λ (l : List Piece). AreTokensOf ts 0 l (length ts)) (sym (first_pieces s ds ss es)) (subst (λ (n : ℕ). AreTokensOf ts n (body_pieces ds ss es) (length ts)) h.1 body))
 
   pub bench_read : (fit : AreWordsFit (is_version_2 (kinds_of ts)) (kinds_of ts)) (r : ℕ × ℕ) (vr : ReadsVersion (Ok r) ts) (ds : List t.Declared) (ss : List h.Shared) (es : List Edit) (j k : ℕ)
       → Along decl_pieces decl_behind (IsDeclared (r.0 == 2)) ts r.1 ds j → Along shared_pieces shared_behind (IsShared (r.0 == 2)) ts j ss k → Along edit_pieces edit_behind (IsEdit (r.0 == 2)) ts k es (length ts)
-      → IsSpelled (of_version r.0 s ds ss es) ts
+      → IsBenchSpelled (of_version r.0 s ds ss es) ts
   bench_read fit r vr ds ss es j k a b c = (
     record {
       version = version_known ts r vr;

@@ -8,10 +8,10 @@ use Rattle.spi_edits.specs.Edits.{Bench}
 use Rattle.spi_edits.specs.Grammar.{whole_bench, IsBench}
 
 -- the tokens are those of this bench, which is formed and within the limits, with their spans
-abbrev pub IsSpelled : Bench → List Token → Type 0
-IsSpelled b ts = IsBench b × Spells [] 0 (whole_bench b) ts
+abbrev pub IsBenchSpelled : Bench → List Token → Type 0
+IsBenchSpelled b ts = IsBench b × Spells [] 0 (whole_bench b) ts
 
 -- the bench of all the tokens, or the fault
 abbrev pub ParsesBench : {V : Type 0} → (V → Bench) → Result V ParseFault → List Token → Type 0
-ParsesBench view (Ok b) ts = IsSpelled (view b) ts
+ParsesBench view (Ok b) ts = IsBenchSpelled (view b) ts
 ParsesBench view (Err f) ts = FailsWhole whole_bench IsBench f ts

@@ -7,7 +7,7 @@ use Rattle.std.specs.Prelude.{slice_get, slice_index}
 use Rattle.std.specs.List.Sorted.{IsPermutation}
 use Rattle.spi_term.specs.Term.{Atom, ends, checks, many, atom_discrete, Effect}
 use Rattle.spi_term.specs.Counts.{tally, cut, count}
-use Rattle.spi_term.specs.Looking.{IsPlace, IsTally}
+use Rattle.spi_term.specs.Looking.{IsFirstPlace, IsTally}
 use Rattle.spi_term.proofs.Counting.{tally_in}
 use Rattle.spi_term.proofs.Lookup.{place_unique, one_element, tally_push_other, tally_push_same}
 use Rattle.spi_term.proofs.Chunks.{in_permutation, place_exists}
@@ -37,7 +37,7 @@ lowered_same (many m) j left n k w e = e
 pub owed_more : {sorted es fs : Effect} {y : Atom} {before after : List ℕ} {out : Bool} → length before ≡ length sorted → IsOwed sorted es fs before → IsMet sorted y before after out → IsOwed sorted (es ++ y ∷ []) fs after
 owed_more {sorted} {es} {fs} {y} {before} {after} n o r = record { at = λ a i p. go r.place r.is_place r.is a i p }
   where
-    go : (q : Option ℕ) → IsPlace y sorted q → after ≡ lowered y q before → (a : Atom) (i : ℕ) → IsPlace a sorted (Some i) → slice_index after i ≡ owed a (tally a (es ++ y ∷ [])) (tally a fs)
+    go : (q : Option ℕ) → IsFirstPlace y sorted q → after ≡ lowered y q before → (a : Atom) (i : ℕ) → IsFirstPlace a sorted (Some i) → slice_index after i ≡ owed a (tally a (es ++ y ∷ [])) (tally a fs)
     go None q e a i p =
         let d : a ≢ y = λ s. q i (p.0 ∙ ap Some s) in
         ap (λ c. slice_index c i) e ∙ o.at a i p ∙ ap (λ k. owed a k (tally a fs)) (sym (tally_push_other a y es d))
@@ -56,7 +56,7 @@ owed_more {sorted} {es} {fs} {y} {before} {after} n o r = record { at = λ a i p
 
         there : i ≢ j → slice_index after i ≡ owed a (tally a (es ++ y ∷ [])) (tally a fs)
         there d =
-            let other : a ≢ y = λ s. d (place_unique a sorted i j p (subst (λ z. IsPlace z sorted (Some j)) (sym s) q)) in
+            let other : a ≢ y = λ s. d (place_unique a sorted i j p (subst (λ z. IsFirstPlace z sorted (Some j)) (sym s) q)) in
             ap (λ c. slice_index c i) e ∙ lowered_other y j i before d ∙ o.at a i p ∙ ap (λ k. owed a k (tally a fs)) (sym (tally_push_other a y es other))
 
 -- an atom with no place stands in no list of the same atoms
@@ -65,7 +65,7 @@ none_owed (ends m) n k e = omega arith
 none_owed (checks m) n k e = omega arith
 none_owed (many m) n k e = e
 
-no_place : (sorted fs : Effect) (y : Atom) → IsPermutation fs sorted → IsPlace y sorted None → tally y fs ≡ 0
+no_place : (sorted fs : Effect) (y : Atom) → IsPermutation fs sorted → IsFirstPlace y sorted None → tally y fs ≡ 0
 no_place sorted fs y p q = ⊎_elim
     (λ (h : tally y fs < 1). omega arith)
     (λ (h : 1 ≤ tally y fs). let (i, r) = place_exists y sorted (in_permutation y fs sorted p (tally_in y fs h)) in absurd (q i r.0))
@@ -74,7 +74,7 @@ no_place sorted fs y p q = ⊎_elim
 pub met_answer : {sorted es fs : Effect} {y : Atom} {before after : List ℕ} {out : Bool} → IsPermutation fs sorted → IsOwed sorted es fs before → IsMet sorted y before after out → out ≡ nat_lt 0 (owed y (tally y es) (tally y fs))
 met_answer {sorted} {es} {fs} {y} {before} {after} {out} p o r = r.answer ∙ go r.place r.is_place
   where
-    go : (q : Option ℕ) → IsPlace y sorted q → is_owed q before ≡ nat_lt 0 (owed y (tally y es) (tally y fs))
+    go : (q : Option ℕ) → IsFirstPlace y sorted q → is_owed q before ≡ nat_lt 0 (owed y (tally y es) (tally y fs))
     go None q = ap (nat_lt 0) (sym (none_owed y (tally y es) (tally y fs) (no_place sorted fs y p q)))
     go (Some j) q = ap (nat_lt 0) (o.at y j q)
 

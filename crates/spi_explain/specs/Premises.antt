@@ -1,11 +1,11 @@
 -- What the typing rules for a process's form ask of its messages.
 use Rattle.std.specs.Prelude.{List, [], ◌∷◌}
 use Rattle.spi_blame.specs.Blaming.{Question, typed, labelled}
-use Rattle.spi_blame.specs.Told.{asked, Tells}
+use Rattle.spi_blame.specs.Told.{asked, TellsBlame}
 use Rattle.spi_explain.specs.declared.blaming.Answer.{Answer}
 use Rattle.spi_rules.specs.Environment.{Env}
 use Rattle.spi_term.specs.Spelling.{Shape, leaf_at, prefix_at, fork_at}
-use Rattle.spi_term.specs.Term.{un, pair_ty, sum_ty, key, Leaf, Sends, Stops, Prefix, Recvs, Serves, Splits, Selects, Decrypts, Checks, Begins, Ends, EndManys, Casts, Makes, Fork, Cases, Pars, Process, leaf, prefix, fork}
+use Rattle.spi_term.specs.Term.{un, pair_ty, sum_ty, key, Leaf, Sends, Stops, Prefix, Recvs, Serves, Splits, Selects, Decrypts, Checks, Begins, Ends, EndManys, Casts, Freshes, Fork, Branches, Pars, Process, leaf, prefix, fork}
 
 abbrev pub leaf_premises : Leaf → List Question
 leaf_premises (Sends m n) = typed m un ∷ typed n un ∷ []
@@ -24,10 +24,10 @@ prefix_premises (Begins m) = labelled m ∷ []
 prefix_premises (Ends m) = labelled m ∷ []
 prefix_premises (EndManys m) = labelled m ∷ []
 prefix_premises (Casts m t) = typed m un ∷ []
-prefix_premises (Makes t) = []
+prefix_premises (Freshes t) = []
 
 abbrev pub fork_premises : Fork → List Question
-fork_premises (Cases m t u) = typed m (sum_ty t u) ∷ typed m un ∷ []
+fork_premises (Branches m t u) = typed m (sum_ty t u) ∷ typed m un ∷ []
 fork_premises Pars = []
 
 -- the questions that the rules for the process's form ask of its messages
@@ -45,5 +45,5 @@ premises_at (fork_at k f a r) = fork_premises f
 pub data AreAnswered (env : Env) : List Question → List Answer → Type 0 where
   answered_none : AreAnswered env [] []
   answered_next : {a : Answer} {qs : List Question} {rs : List Answer}
-      → Tells env (asked a.message a.wanted) a.blame → AreAnswered env qs rs
+      → TellsBlame env (asked a.message a.wanted) a.blame → AreAnswered env qs rs
       → AreAnswered env (asked a.message a.wanted ∷ qs) (a ∷ rs)

@@ -3,7 +3,7 @@
 ghost use Rattle.std.specs.Prelude.{◌≡◌, ◌≤◌, ℕ, length, reverse, IfOk};
 ghost use Rattle.spi_explain.specs.Findings.{line_of, AreOrigins};
 ghost use Rattle.spi_fault.specs.Faults.{Explains};
-ghost use Rattle.spi_infer.specs.Inferring.{Answers};
+ghost use Rattle.spi_infer.specs.Inferring.{AnswersOver};
 ghost use Rattle.spi_origin.specs.Listing.{AreAll};
 ghost use Rattle.spi_origin.specs.Origins.{IsOriginIn};
 ghost use Rattle.spi_rules.specs.Blocking.{Blocks};

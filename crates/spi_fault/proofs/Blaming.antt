@@ -23,8 +23,8 @@ use Rattle.spi_fault.specs.declared.fault.Fault.{Fault}
 use Rattle.spi_fault.specs.declared.fault.Reason.{Reason}
 use Rattle.spi_fault.specs.declared.fault.Reason.TheVariants.{Unpaid}
 use Rattle.spi_fault.specs.declared.least.Kind.TheVariants as K
-use Rattle.spi_fault.specs.Faults.{thing, FirstBlocks, FailsFirst, IsLeastText, IsFault, unpaid, fails as fails_at, IsUnpaid, unpaid_at_root, TellsUnpaid, Told, told, Explains}
-use Rattle.spi_fault.specs.Trying.{check, IsOf, Asked, Tells, TellsAtom, IsBlamed}
+use Rattle.spi_fault.specs.Faults.{thing, FirstBlocks, FailsFirst, IsLeastText, IsFault, unpaid, fails as fails_at, IsUnpaid, unpaid_at_root, TellsUnpaid, ToldFault, told, Explains}
+use Rattle.spi_fault.specs.Trying.{check, IsOf, Asked, TellsFailure, TellsAtom, IsBlamed}
 use Rattle.spi_fault.proofs.Passed.{all_pass}
 use Rattle.spi_fault.proofs.Heads.{asked, checks_at}
 use Rattle.spi_fault.proofs.Texts.{get_within}
@@ -113,7 +113,7 @@ atom_unpaid s es f (place, (a, shown, least)) =
     subst (λ t. IsUnpaid s es (record { reason = Unpaid; node = 0; scope_of = 0; shown = t })) (sym shown) (unpaid_at_root all)
 
 -- the fault of the least effect is that of the process
-least_fault : (s : ℕ → List (List ℕ)) (k : ℕ) (p : Process) (es : Effect) (t : Told) → Least (untrusted k) p es → IsUnpaid s es t → IsFault s k p t
+least_fault : (s : ℕ → List (List ℕ)) (k : ℕ) (p : Process) (es : Effect) (t : ToldFault) → Least (untrusted k) p es → IsUnpaid s es t → IsFault s k p t
 least_fault s k p es t l (unpaid_at_root least) = unpaid l least
 
 pub left_over : {E : Type 0} (s : ℕ → List (List ℕ)) (k : ℕ) (p : Process) (es : Effect) (result : Result (Option Fault) E) → Least (untrusted k) p es → IfOk result (TellsUnpaid s es) → IfOk result (Explains s k p)
@@ -151,7 +151,7 @@ module _ (k : ℕ) (p : Process) (id : ℕ) (env : Env) (checks' : List Declared
   pub can_ask : (i : ℕ) (c : Declared.Check) → i < length checks' → c ≡ get_or checks' i c → Given → (q : Process) × Node q × BlocksAt env q × Asked env q (check c)
   can_ask i c l at (q, n, b, is) = (q, n, b, asked env q (check c) (subst (λ cs. In (check c) cs) is (in_checks i c l at)))
 
-  pub blamed : (s : ℕ → List (List ℕ)) (i : ℕ) (c : Declared.Check) (f : Found) (r : Reason) → i < length checks' → c ≡ get_or checks' i c → Given → PassedTo i → ((q : Process) → Node q → Tells s id env q (check c) (Some f)) → r ≡ reason_of (check c)
+  pub blamed : (s : ℕ → List (List ℕ)) (i : ℕ) (c : Declared.Check) (f : Found) (r : Reason) → i < length checks' → c ≡ get_or checks' i c → Given → PassedTo i → ((q : Process) → Node q → TellsFailure s id env q (check c) (Some f)) → r ≡ reason_of (check c)
       → (q : Process) → Node q → IsBlamed s id env q (Some (record { reason = r; node = id; scope_of = f.scope_of; shown = f.shown }))
   blamed s i c f r l at given before tells reason q n =
       let t = tells q n in (
@@ -180,7 +180,7 @@ pub given_here : (k id : ℕ) (p : Process) (e : Env) (x : Shape) (cs : List Dec
 given_here k id p e x cs first at there is = (at.0, at.1, blocks_here k first at.1, is ∙ checks_at k p id e at.0 x at.1 there)
 
 -- a process with a fault is not derivable with the empty effect
-no_fault : (s : ℕ → List (List ℕ)) (k : ℕ) (p : Process) (t : Told) → IsFault s k p t → Derivable (untrusted k) p [] → ⊥
+no_fault : (s : ℕ → List (List ℕ)) (k : ℕ) (p : Process) (t : ToldFault) → IsFault s k p t → Derivable (untrusted k) p [] → ⊥
 no_fault s k p _ (unpaid l least) d = in_none (within_in (l.least [] d) least.is)
 no_fault s k p _ (fails_at first at c shows) d = (blocked (untrusted k) p d.over).1 (_, first.blocks) [] d
 

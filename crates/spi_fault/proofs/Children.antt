@@ -13,7 +13,7 @@ use Rattle.spi_infer.proofs.Nodes.{reached_of}
 use Rattle.spi_infer.proofs.Located.{over_reached}
 use Rattle.spi_infer.proofs.Descending.{one_node}
 use Rattle.spi_infer.proofs.Deriving.{least_or_none}
-use Rattle.spi_fault.specs.Passing.{Follows}
+use Rattle.spi_fault.specs.Passing.{HasLeastBehind}
 
 pub child_over : {env env' : Env} {p p' : Process} {i : ℕ} → ProcessOver (length env) p → Child env p i env' p' → ProcessOver (length env') p'
 child_over over c = over_reached (reached_of (node_below c node_root)) over
@@ -34,12 +34,12 @@ least_at : {e f : Env} {q r : Process} {es : Effect} → e ≡ f → q ≡ r →
 least_at {e} {f} {q} {r} {es} a b l = subst (λ q. Least f q es) b (subst (λ e. Least e q es) a l)
 
 -- and so its least effect is, up to counts
-pub follows_within : {env : Env} {p : Process} {i : ℕ} {es fs : Effect} → Follows env p i es → Follows env p i fs → Within es fs
+pub follows_within : {env : Env} {p : Process} {i : ℕ} {es fs : Effect} → HasLeastBehind env p i es → HasLeastBehind env p i fs → Within es fs
 follows_within f g =
     let same = one_child g.child f.child in
     f.least.least _ (least_at same.0 same.1 g.least).derivable
 
-pub follows_in : {env : Env} {p : Process} {i : ℕ} {es fs : Effect} {a : Atom} → Follows env p i es → Follows env p i fs → In a es → In a fs
+pub follows_in : {env : Env} {p : Process} {i : ℕ} {es fs : Effect} {a : Atom} → HasLeastBehind env p i es → HasLeastBehind env p i fs → In a es → In a fs
 follows_in f g i = within_in (follows_within f g) i
 
 -- the same where something is taken off both

@@ -20,7 +20,7 @@ use Rattle.spi_message.specs.Forms.{is_nonce}
 use Rattle.spi_message.proofs.Tested.{nonce_there as nonce_type_of}
 use Rattle.spi_message.proofs.Deciding.{is_un_true, is_un_from, typed_true, typed_from, labelled_true, labelled_from, good_true, good_from}
 use Rattle.spi_fault.specs.Checks as C
-use Rattle.spi_fault.specs.Passing.{IsCastable, Follows, HasBound, Passes, Spoils, not_many, escapes, unchecked}
+use Rattle.spi_fault.specs.Passing.{IsCastable, HasLeastBehind, HasBoundName, Passes, Spoils, not_many, escapes, unchecked}
 use Rattle.spi_fault.specs.Trying.{Asked}
 use Rattle.spi_fault.proofs.Children.{has_least, follows_in, follows_within, less_in}
 use Rattle.spi_fault.proofs.Passed.{many_when, stays_out, made_out}
@@ -150,30 +150,30 @@ out_or n (suc k) es = step (avoids_or (n + k) es) (out_or n k es)
     step (inl a) (inr f) = inr (λ o. f (λ x low high. o x low (let z : x < n + suc k = omega (arith, high) in z)))
     step (inl a) (inl o) = inl (out_at n k es a o)
 
-pub spoils_served : {env : Env} {p : Process} {i : ℕ} {es : Effect} {a : Atom} → Follows env p i es → Spoils env p (C.served i) a → In a es × (IsMany a → ⊥)
+pub spoils_served : {env : Env} {p : Process} {i : ℕ} {es : Effect} {a : Atom} → HasLeastBehind env p i es → Spoils env p (C.served i) a → In a es × (IsMany a → ⊥)
 spoils_served f (not_many g i b) = (follows_in g f i, b)
 
-pub spoils_stays : {env : Env} {p : Process} {k i : ℕ} {es : Effect} {a : Atom} → Follows env p i es → Spoils env p (C.stays k i) a → In a es × HasBound (length env) k a
+pub spoils_stays : {env : Env} {p : Process} {k i : ℕ} {es : Effect} {a : Atom} → HasLeastBehind env p i es → Spoils env p (C.stays k i) a → In a es × HasBoundName (length env) k a
 spoils_stays f (escapes g i b) = (follows_in g f i, b)
 
-pub spoils_made : {env : Env} {p : Process} {i : ℕ} {es ds : Effect} {a : Atom} → Follows env p i es → IsDifference ds es (checks (name (length env)) ∷ []) → Spoils env p (C.made i) a → In a ds × HasBound (length env) 1 a
+pub spoils_made : {env : Env} {p : Process} {i : ℕ} {es ds : Effect} {a : Atom} → HasLeastBehind env p i es → IsDifference ds es (checks (name (length env)) ∷ []) → Spoils env p (C.made i) a → In a ds × HasBoundName (length env) 1 a
 spoils_made f d (unchecked g c i b) = (less_in c d (follows_within g f) i, b)
 
-served_or : {env : Env} {p : Process} {i : ℕ} (es : Effect) → Follows env p i es → Decided (Passes env p (C.served i))
+served_or : {env : Env} {p : Process} {i : ℕ} (es : Effect) → HasLeastBehind env p i es → Decided (Passes env p (C.served i))
 served_or {env} {p} {i} es f =
     ⊎_elim (λ (h : are_many es ≡ true). inl (λ a s. let z = spoils_served f s in z.1 (AllMany_in z.0 (are_many_sound es h)))) (λ (h : are_many es ≡ false). inr (λ pass. false≢true (sym h ∙ are_many_complete es (many_when es (λ a i g. pass a (not_many f i g)))))) (cases_Bool (are_many es))
 
-free_of : {es : Effect} {a : Atom} (n k : ℕ) → In a es → HasBound n k a → Out n k es → ⊥
+free_of : {es : Effect} {a : Atom} (n k : ℕ) → In a es → HasBoundName n k a → Out n k es → ⊥
 free_of n k i b o = b.3 (OfEffect_in (Avoids b.0) i (o b.0 b.1 b.2))
 
-stays_or : {env : Env} {p : Process} {i : ℕ} (k : ℕ) (es : Effect) → Follows env p i es → Decided (Passes env p (C.stays k i))
+stays_or : {env : Env} {p : Process} {i : ℕ} (k : ℕ) (es : Effect) → HasLeastBehind env p i es → Decided (Passes env p (C.stays k i))
 stays_or {env} {p} {i} k es f = step (out_or (length env) k es)
   where
     step : Decided (Out (length env) k es) → Decided (Passes env p (C.stays k i))
     step (inl o) = inl (λ a s. let z = spoils_stays f s in free_of (length env) k z.0 z.1 o)
     step (inr g) = inr (λ pass. g (λ x low high. stays_out f pass x low high))
 
-made_or : {env : Env} {p : Process} {i : ℕ} (es : Effect) → Follows env p i es → Decided (Passes env p (C.made i))
+made_or : {env : Env} {p : Process} {i : ℕ} (es : Effect) → HasLeastBehind env p i es → Decided (Passes env p (C.made i))
 made_or {env} {p} {i} es f = step (out_or (length env) 1 ds)
   where
     ds : Effect
@@ -187,7 +187,7 @@ made_or {env} {p} {i} es f = step (out_or (length env) 1 ds)
     step (inr g) = inr (λ pass. g (λ x low high. made_out f off pass x low high))
 
 module _ (env : Env) (p : Process) (over : ProcessOver (length env) p) (kids : (i : ℕ) (e : Env) (q : Process) → Child env p i e q → HasSome e q) where
-  pub follows : (i : ℕ) → ((e : Env) × (q : Process) × Child env p i e q) → (es : Effect) × Follows env p i es
+  pub follows : (i : ℕ) → ((e : Env) × (q : Process) × Child env p i e q) → (es : Effect) × HasLeastBehind env p i es
   follows i (e, q, c) = let l = has_least over c (kids i e q c) in (l.0, record { inner = e; process = q; child = c; least = l.1 })
 
   pub decided : (c : C.Check) → Asked env p c → Decided (Passes env p c)

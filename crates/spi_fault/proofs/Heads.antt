@@ -2,7 +2,7 @@
 use Rattle.std.proofs.Common.{◌≡◌, sym, ap, ◌∙◌, ℕ, suc, ◌+◌, ◌-◌, ◌<◌, ◌≤◌, ◌^◌, List, [], ◌∷◌, ◌++◌, drop, length, Some, arith}
 use Rattle.std.specs.Prelude.{slice_get, ⊤}
 use Rattle.spi_term.specs.Lists.{In, in_first, in_later}
-use Rattle.spi_term.specs.Term.{Ty, pair_ty, Sends, Stops, Prefix, Recvs, Serves, Splits, Selects, Decrypts, Checks, Begins, Ends, EndManys, Casts, Makes, Cases, Pars, Process, leaf, prefix, fork, fork_binds, process_size}
+use Rattle.spi_term.specs.Term.{Ty, pair_ty, Sends, Stops, Prefix, Recvs, Serves, Splits, Selects, Decrypts, Checks, Begins, Ends, EndManys, Casts, Freshes, Branches, Pars, Process, leaf, prefix, fork, fork_binds, process_size}
 use Rattle.spi_term.specs.Spelling.{Shape, leaf_at, prefix_at, fork_at, flat, numbered, spelled, IsSmall, HasSmallParts, ty_nodes}
 use Rattle.spi_term.specs.Arena.{scope_of}
 use Rattle.spi_term.proofs.Numbers.{size_numbered, small_node}
@@ -15,7 +15,7 @@ use Rattle.spi_infer.proofs.Scanning.{drop_at_get}
 use Rattle.spi_infer.proofs.Located.{located}
 use Rattle.spi_infer.proofs.Descending.{length_untrusted}
 use Rattle.spi_fault.specs.Checks.{Check, prefix_checks, fork_checks, checks, shape_checks}
-use Rattle.spi_fault.specs.Trying.{Asked, Fits}
+use Rattle.spi_fault.specs.Trying.{Asked, CanBeCounted}
 
 -- the shape of a node with n names in scope
 abbrev Shapes : ℕ → ℕ → Process → Shape → Type 0
@@ -80,13 +80,13 @@ asked_prefix env (Begins m) p = (tt, tt)
 asked_prefix env (Ends m) p = (tt, tt)
 asked_prefix env (EndManys m) p = (tt, tt)
 asked_prefix env (Casts m t) p = (tt, (tt, (tt, ((_, _, child_cast), tt))))
-asked_prefix env (Makes t) p = (tt, (tt, ((_, _, child_fresh), tt)))
+asked_prefix env (Freshes t) p = (tt, (tt, ((_, _, child_fresh), tt)))
 
 asked_all : (env : Env) (q : Process) → Each (Asked env q) (checks q)
 asked_all env (leaf (Sends m n)) = (tt, (tt, tt))
 asked_all env (leaf Stops) = tt
 asked_all env (prefix s p) = asked_prefix env s p
-asked_all env (fork (Cases m t u) p q) = (tt, (tt, (tt, ((_, _, child_left), ((_, _, child_right), tt)))))
+asked_all env (fork (Branches m t u) p q) = (tt, (tt, (tt, ((_, _, child_left), ((_, _, child_right), tt)))))
 asked_all env (fork Pars p q) = tt
 
 pub asked : (env : Env) (q : Process) (c : Check) → In c (checks q) → Asked env q c
@@ -102,7 +102,7 @@ two : 2 ≤ 2
 two = omega arith
 
 module _ (n : ℕ) (l : n ≤ 300000) where
-  fits_prefix : (k b : ℕ) (s : Prefix) → HasSmallParts (prefix_at k s b) → Each (Fits n) (prefix_checks s)
+  fits_prefix : (k b : ℕ) (s : Prefix) → HasSmallParts (prefix_at k s b) → Each (CanBeCounted n) (prefix_checks s)
   fits_prefix k b (Recvs m t) h = (tt, (tt, (one, tt)))
   fits_prefix k b (Serves m t) h = (tt, (tt, (tt, (one, tt))))
   fits_prefix k b (Splits m t u) h = (few n (pair_ty t u) l (omega (arith, h.1, h.2)), (tt, (two, tt)))
@@ -113,20 +113,20 @@ module _ (n : ℕ) (l : n ≤ 300000) where
   fits_prefix k b (Ends m) h = (tt, tt)
   fits_prefix k b (EndManys m) h = (tt, tt)
   fits_prefix k b (Casts m t) h = (tt, (few n t l (omega (arith, h.1)), (tt, (one, tt))))
-  fits_prefix k b (Makes t) h = (tt, (few n t l (omega (arith, h)), (tt, tt)))
+  fits_prefix k b (Freshes t) h = (tt, (few n t l (omega (arith, h)), (tt, tt)))
 
-  fits_shape : (id : ℕ) (x : Shape) → HasSmallParts x → Each (Fits n) (shape_checks id x)
+  fits_shape : (id : ℕ) (x : Shape) → HasSmallParts x → Each (CanBeCounted n) (shape_checks id x)
   fits_shape id (leaf_at k (Sends m r)) h = (tt, (tt, tt))
   fits_shape id (leaf_at k Stops) h = tt
   fits_shape id (prefix_at k s b) h = fits_prefix k b s h
-  fits_shape id (fork_at k (Cases m t u) a r) h = (few n t l (omega (arith, h.1)), (few n u l (omega (arith, h.2)), (tt, (one, (one, tt)))))
+  fits_shape id (fork_at k (Branches m t u) a r) h = (few n t l (omega (arith, h.1)), (few n u l (omega (arith, h.2)), (tt, (one, (one, tt)))))
   fits_shape id (fork_at k Pars a r) h = tt
 
-pub fits_at : (k : ℕ) (p : Process) (id : ℕ) (e : Env) (q : Process) (x : Shape) → IsSmall k p → NodeOf (untrusted k) p id e q → slice_get (spelled k p) id ≡ Some x → (c : Check) → In c (shape_checks id x) → Fits (length e) c
+pub fits_at : (k : ℕ) (p : Process) (id : ℕ) (e : Env) (q : Process) (x : Shape) → IsSmall k p → NodeOf (untrusted k) p id e q → slice_get (spelled k p) id ≡ Some x → (c : Check) → In c (shape_checks id x) → CanBeCounted (length e) c
 fits_at k p id e q x small node at =
     let m = small_node k p id x small at in
     let l : length e ≤ 300000 = omega (arith, m.1, scope_at k p id e q x node at) in
-    each_in (Fits (length e)) (shape_checks id x) (fits_shape (length e) l id x m.0)
+    each_in (CanBeCounted (length e)) (shape_checks id x) (fits_shape (length e) l id x m.0)
 
 pub few_at : (k : ℕ) (p : Process) (id : ℕ) (e : Env) (q : Process) (x : Shape) → IsSmall k p → NodeOf (untrusted k) p id e q → slice_get (spelled k p) id ≡ Some x → length e ≤ 300000
 few_at k p id e q x small node at = omega (arith, (small_node k p id x small at).1, scope_at k p id e q x node at)

@@ -4,7 +4,7 @@ use Rattle.std.proofs.lemmas.Bool.{cases_Bool, false≢true}
 use Rattle.spi_term.specs.Lists.{In, in_first, in_later}
 use Rattle.spi_term.specs.Names.{OfAtom, Avoids, EffectAvoids, ProcessOver}
 use Rattle.spi_term.specs.Substitution.{ty_put, process_put, process_put_two}
-use Rattle.spi_term.specs.Term.{Message, name, Atom, ends, checks, many, Effect, Ty, un, unit_ty, pair_ty, sum_ty, key, nonce, Sends, Stops, Recvs, Serves, Splits, Selects, Decrypts, Checks, Begins, Ends, EndManys, Casts, Makes, Cases, Pars, Process, leaf, prefix, fork, recv, serve, split, select, branch, decrypt, check, begin, end, end_many, cast, fresh, par, process_size}
+use Rattle.spi_term.specs.Term.{Message, name, Atom, ends, checks, many, Effect, Ty, un, unit_ty, pair_ty, sum_ty, key, nonce, Sends, Stops, Recvs, Serves, Splits, Selects, Decrypts, Checks, Begins, Ends, EndManys, Casts, Freshes, Branches, Pars, Process, leaf, prefix, fork, recv, serve, split, select, branch, decrypt, check, begin, end, end_many, cast, fresh, par, process_size}
 use Rattle.spi_term.specs.Tests.{is_free}
 use Rattle.spi_term.proofs.Freeness.{avoids_sound, avoids_complete}
 use Rattle.spi_effect.specs.Effect.{IsMany, AllMany, IsDifference}
@@ -16,7 +16,7 @@ use Rattle.spi_rules.specs.Messages.{HasType}
 use Rattle.spi_rules.specs.Processes.{HasEffect, IsNonce, proc_stop, proc_out, proc_in, proc_repeat, proc_split, proc_split_un, proc_match, proc_match_un, proc_case, proc_case_un, proc_decrypt, proc_decrypt_un, proc_check, proc_check_un, proc_begin, proc_end, proc_end_many, proc_cast, proc_cast_un, proc_new, proc_par}
 use Rattle.spi_rules.specs.Blocking.{Child, child_recv, child_serve, child_split, child_select, child_left, child_right, child_decrypt, child_check, child_begin, child_end, child_end_many, child_cast, child_fresh, child_first, child_rest, HasSome}
 use Rattle.spi_fault.specs.Checks as C
-use Rattle.spi_fault.specs.Passing.{Follows, HasBound, Passes, not_many, escapes, unchecked}
+use Rattle.spi_fault.specs.Passing.{HasLeastBehind, HasBoundName, Passes, not_many, escapes, unchecked}
 use Rattle.spi_fault.proofs.Children.{has_least}
 
 -- what no atom is kept from
@@ -41,14 +41,14 @@ pub many_when : (es : Effect) → ((a : Atom) → In a es → (IsMany a → ⊥)
 many_when es h = AllMany_of es (λ a i. many_atom a (h a i))
 
 -- names that stay out of an effect
-pub bound_at : (n k x : ℕ) (a : Atom) → n ≤ x → x < n + k → (OfAtom (Avoids x) a → ⊥) → HasBound n k a
+pub bound_at : (n k x : ℕ) (a : Atom) → n ≤ x → x < n + k → (OfAtom (Avoids x) a → ⊥) → HasBoundName n k a
 bound_at n k x a low high f = (x, low, high, f)
 
-pub stays_out : {env : Env} {p : Process} {k at : ℕ} {es : Effect} → Follows env p at es → Passes env p (C.stays k at) → (x : ℕ) → length env ≤ x → x < length env + k → EffectAvoids x es
+pub stays_out : {env : Env} {p : Process} {k at : ℕ} {es : Effect} → HasLeastBehind env p at es → Passes env p (C.stays k at) → (x : ℕ) → length env ≤ x → x < length env + k → EffectAvoids x es
 stays_out {env = env} {k = k} {es = es} f s x low high = avoids_when x es (λ a i g. s a (escapes f i (bound_at (length env) k x a low high g)))
 
 -- the name that is made stays out of what is left of an effect
-pub made_out : {env : Env} {p : Process} {at : ℕ} {es ds : Effect} → Follows env p at es → IsDifference ds es (checks (name (length env)) ∷ []) → Passes env p (C.made at) → (x : ℕ) → length env ≤ x → x < length env + 1 → EffectAvoids x ds
+pub made_out : {env : Env} {p : Process} {at : ℕ} {es ds : Effect} → HasLeastBehind env p at es → IsDifference ds es (checks (name (length env)) ∷ []) → Passes env p (C.made at) → (x : ℕ) → length env ≤ x → x < length env + 1 → EffectAvoids x ds
 made_out {env = env} {ds = ds} f d s x low high = avoids_when x ds (λ a i g. s a (unchecked f d i (bound_at (length env) 1 x a low high g)))
 
 abbrev pub Inner : Env → Process → Type 0
@@ -71,7 +71,7 @@ module _ (env : Env) where
   some_recv m t p over kids h =
       let k : Child env (recv m t p) 1 (extended env t) (process_put (name n) p) = child_recv in
       let l = has_least over k (kids 1 _ _ k) in
-      let f : Follows env (recv m t p) 1 l.0 = record { inner = extended env t; process = process_put (name n) p; child = k; least = l.1 } in
+      let f : HasLeastBehind env (recv m t p) 1 l.0 = record { inner = extended env t; process = process_put (name n) p; child = k; least = l.1 } in
       let c = h (C.channel m) in_first in
       let u = h (C.untrusted t) (in_later in_first) in
       let a = stays_out f (h (C.stays 1 1) (in_later (in_later in_first))) n at_once next in
@@ -81,7 +81,7 @@ module _ (env : Env) where
   some_serve m t p over kids h =
       let k : Child env (serve m t p) 1 (extended env t) (process_put (name n) p) = child_serve in
       let l = has_least over k (kids 1 _ _ k) in
-      let f : Follows env (serve m t p) 1 l.0 = record { inner = extended env t; process = process_put (name n) p; child = k; least = l.1 } in
+      let f : HasLeastBehind env (serve m t p) 1 l.0 = record { inner = extended env t; process = process_put (name n) p; child = k; least = l.1 } in
       let c = h (C.channel m) in_first in
       let u = h (C.untrusted t) (in_later in_first) in
       let s = h (C.served 1) (in_later (in_later in_first)) in
@@ -94,7 +94,7 @@ module _ (env : Env) where
       let q = process_put_two (name n) (name (suc n)) p in
       let k : Child env (split m t u p) 1 (extended (extended env t) (ty_put (name n) u)) (process_put_two (name n) (name (suc n)) p) = child_split in
       let l = has_least over k (kids 1 _ _ k) in
-      let f : Follows env (split m t u p) 1 l.0 = record { inner = extended (extended env t) (ty_put (name n) u); process = q; child = k; least = l.1 } in
+      let f : HasLeastBehind env (split m t u p) 1 l.0 = record { inner = extended (extended env t) (ty_put (name n) u); process = q; child = k; least = l.1 } in
       let g = h (C.good (pair_ty t u)) in_first in
       let s = h (C.stays 2 1) (in_later (in_later in_first)) in
       let a = stays_out f s n at_once (let z : n < n + 2 = omega arith in z) in
@@ -108,7 +108,7 @@ module _ (env : Env) where
       let q = process_put (name n) p in
       let k : Child env (select m t r u p) 1 (extended env (ty_put r u)) (process_put (name n) p) = child_select in
       let l = has_least over k (kids 1 _ _ k) in
-      let f : Follows env (select m t r u p) 1 l.0 = record { inner = extended env (ty_put r u); process = q; child = k; least = l.1 } in
+      let f : HasLeastBehind env (select m t r u p) 1 l.0 = record { inner = extended env (ty_put r u); process = q; child = k; least = l.1 } in
       let g = h (C.good (pair_ty t u)) in_first in
       let e = h (C.first r t) (in_later (in_later in_first)) in
       let a = stays_out f (h (C.stays 1 1) (in_later (in_later (in_later in_first)))) n at_once next in
@@ -124,8 +124,8 @@ module _ (env : Env) where
       let j : Child env (branch m t p u q) (suc (process_size p)) (extended env u) q' = child_right in
       let l = has_least over k (kids 1 _ _ k) in
       let r = has_least over j (kids (suc (process_size p)) _ _ j) in
-      let f : Follows env (branch m t p u q) 1 l.0 = record { inner = extended env t; process = p'; child = k; least = l.1 } in
-      let g : Follows env (branch m t p u q) (suc (process_size p)) r.0 = record { inner = extended env u; process = q'; child = j; least = r.1 } in
+      let f : HasLeastBehind env (branch m t p u q) 1 l.0 = record { inner = extended env t; process = p'; child = k; least = l.1 } in
+      let g : HasLeastBehind env (branch m t p u q) (suc (process_size p)) r.0 = record { inner = extended env u; process = q'; child = j; least = r.1 } in
       let a = stays_out f (h (C.stays 1 1) (in_later (in_later (in_later in_first)))) n at_once next in
       let b = stays_out g (h (C.stays 1 (suc (process_size p))) (in_later (in_later (in_later (in_later in_first))))) n at_once next in
       let most = greater_is l.0 r.0 in
@@ -138,7 +138,7 @@ module _ (env : Env) where
       let q = process_put (name n) p in
       let k : Child env (decrypt m t r p) 1 (extended env t) (process_put (name n) p) = child_decrypt in
       let l = has_least over k (kids 1 _ _ k) in
-      let f : Follows env (decrypt m t r p) 1 l.0 = record { inner = extended env t; process = q; child = k; least = l.1 } in
+      let f : HasLeastBehind env (decrypt m t r p) 1 l.0 = record { inner = extended env t; process = q; child = k; least = l.1 } in
       let g = h (C.good t) in_first in
       let s = h (C.sealed m) (in_later in_first) in
       let a = stays_out f (h (C.stays 1 1) (in_later (in_later (in_later in_first)))) n at_once next in
@@ -173,7 +173,7 @@ module _ (env : Env) where
   some_cast m un p over kids h =
       let k : Child env (cast m un p) 1 (extended env un) (process_put (name n) p) = child_cast in
       let l = has_least over k (kids 1 _ _ k) in
-      let f : Follows env (cast m un p) 1 l.0 = record { inner = extended env un; process = process_put (name n) p; child = k; least = l.1 } in
+      let f : HasLeastBehind env (cast m un p) 1 l.0 = record { inner = extended env un; process = process_put (name n) p; child = k; least = l.1 } in
       let a = stays_out f (h (C.stays 1 1) (in_later (in_later (in_later in_first)))) n at_once next in
       (l.0, proc_cast_un (h (C.sealed m) (in_later (in_later in_first))) l.1.derivable.has a)
   some_cast m unit_ty p over kids h = absurd (h (C.castable unit_ty) in_first)
@@ -183,7 +183,7 @@ module _ (env : Env) where
   some_cast m (nonce fs) p over kids h =
       let k : Child env (cast m (nonce fs) p) 1 (extended env (nonce fs)) (process_put (name n) p) = child_cast in
       let l = has_least over k (kids 1 _ _ k) in
-      let f : Follows env (cast m (nonce fs) p) 1 l.0 = record { inner = extended env (nonce fs); process = process_put (name n) p; child = k; least = l.1 } in
+      let f : HasLeastBehind env (cast m (nonce fs) p) 1 l.0 = record { inner = extended env (nonce fs); process = process_put (name n) p; child = k; least = l.1 } in
       let a = stays_out f (h (C.stays 1 1) (in_later (in_later (in_later in_first)))) n at_once next in
       (l.0 ++ fs, proc_cast (h (C.sealed m) (in_later (in_later in_first))) l.1.derivable.has (h (C.good (nonce fs)) (in_later in_first)) a (sum_append l.0 fs))
 
@@ -191,7 +191,7 @@ module _ (env : Env) where
   some_fresh t p over kids h =
       let k : Child env (fresh t p) 1 (extended env t) (process_put (name n) p) = child_fresh in
       let l = has_least over k (kids 1 _ _ k) in
-      let f : Follows env (fresh t p) 1 l.0 = record { inner = extended env t; process = process_put (name n) p; child = k; least = l.1 } in
+      let f : HasLeastBehind env (fresh t p) 1 l.0 = record { inner = extended env t; process = process_put (name n) p; child = k; least = l.1 } in
       let made = h (C.made 1) (in_later (in_later in_first)) in
       let off = minus_difference l.0 (checks (name n) ∷ []) in
       let a = made_out f off made n at_once next in
@@ -216,6 +216,6 @@ all_pass env (prefix (Begins m) p) over kids h = some_begin env m p kids h
 all_pass env (prefix (Ends m) p) over kids h = some_end env m p kids h
 all_pass env (prefix (EndManys m) p) over kids h = some_end_many env m p kids h
 all_pass env (prefix (Casts m t) p) over kids h = some_cast env m t p over kids h
-all_pass env (prefix (Makes t) p) over kids h = some_fresh env t p over kids h
-all_pass env (fork (Cases m t u) p q) over kids h = some_branch env m t p u q over kids h
+all_pass env (prefix (Freshes t) p) over kids h = some_fresh env t p over kids h
+all_pass env (fork (Branches m t u) p q) over kids h = some_branch env m t p u q over kids h
 all_pass env (fork Pars p q) over kids h = some_par env p q kids

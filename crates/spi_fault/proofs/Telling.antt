@@ -19,9 +19,9 @@ use Rattle.spi_fault.specs.declared.deciding.Found.{Found}
 use Rattle.spi_fault.specs.declared.least.Kind.TheVariants as K
 use Rattle.spi_fault.specs.Checks as C
 use Rattle.spi_fault.specs.Checks.{Check, process_of}
-use Rattle.spi_fault.specs.Passing.{Follows, Passes, Spoils, not_many, escapes, unchecked}
+use Rattle.spi_fault.specs.Passing.{HasLeastBehind, Passes, Spoils, not_many, escapes, unchecked}
 use Rattle.spi_fault.specs.Faults.{Thing, IsLeastText, Shows, shows_subject, shows_atom, subject}
-use Rattle.spi_fault.specs.Trying.{IsOf, Asked, Tells, TellsAtom}
+use Rattle.spi_fault.specs.Trying.{IsOf, Asked, TellsFailure, TellsAtom}
 use Rattle.spi_fault.proofs.Decided.{spoils_served, spoils_stays, spoils_made}
 
 -- nodes
@@ -36,13 +36,13 @@ node_more {j = j} node_root c = at_index (let z : j + 0 ≡ 0 + j = omega arith 
 node_more {j = j} (node_below {i = i} {j = m} d n) c = at_index (let z : i + (m + j) ≡ (i + m) + j = omega arith in z) (node_below d (node_more n c))
 
 -- a process that stands in a node's process
-abbrev pub Stands : Env → Process → ℕ → Type 0
-Stands e q i = (e' : Env) × (r : Process) × Child e q i e' r
+abbrev pub StandsInNode : Env → Process → ℕ → Type 0
+StandsInNode e q i = (e' : Env) × (r : Process) × Child e q i e' r
 
-pub fits_more : (k : ℕ) {p q : Process} {e : Env} {id i : ℕ} → IsSmall k p → NodeOf (untrusted k) p id e q → Stands e q i → id + i < 2 ^ 32
+pub fits_more : (k : ℕ) {p q : Process} {e : Env} {id i : ℕ} → IsSmall k p → NodeOf (untrusted k) p id e q → StandsInNode e q i → id + i < 2 ^ 32
 fits_more k small n c = omega (arith, node_within (node_more n c.2), small.few_nodes)
 
-pub some_more : (k : ℕ) {p q : Process} {e : Env} {id i : ℕ} → NodeOf (untrusted k) p id e q → BlocksAt e q → Stands e q i → (f : Env) × (r : Process) × NodeOf (untrusted k) p (id + i) f r × HasSome f r
+pub some_more : (k : ℕ) {p q : Process} {e : Env} {id i : ℕ} → NodeOf (untrusted k) p id e q → BlocksAt e q → StandsInNode e q i → (f : Env) × (r : Process) × NodeOf (untrusted k) p (id + i) f r × HasSome f r
 some_more k n b c = (c.0, c.1, node_more n c.2, b.children _ c.0 c.1 c.2)
 
 pub over_node : (k : ℕ) {p q : Process} {i : ℕ} {e : Env} → ProcessOver k p → NodeOf (untrusted k) p i e q → ProcessOver (length e) q
@@ -75,7 +75,7 @@ told_less s k p node x f d (Err y) at off h = tt
 
 -- a check of effects: the atoms of this kind are those for which it fails
 module _ (s : ℕ → List (List ℕ)) (id at : ℕ) (env : Env) (q : Process) (c : Check) (es : Effect) (P : Atom → Type 0) (is : process_of c ≡ Some at) (pass_is : Passes env q c → (a : Atom) → Spoils env q c a → ⊥) (pass_of : ((a : Atom) → Spoils env q c a → ⊥) → Passes env q c) (to : (a : Atom) → In a es → P a → Spoils env q c a) (from : (a : Atom) → Spoils env q c a → In a es × P a) where
-  outcome : (r : Option Found) → TellsAtom s (id + at) P es r → Tells s id env q c r
+  outcome : (r : Option Found) → TellsAtom s (id + at) P es r → TellsFailure s id env q c r
   outcome None h = pass_of (λ a z. let w = from a z in h a w.0 w.1)
   outcome (Some f) (place, (a, shown, least)) =
       let all : IsLeastText (s (id + at)) (Spoils env q c) a
@@ -87,29 +87,29 @@ module _ (s : ℕ → List (List ℕ)) (id at : ℕ) (env : Env) (q : Process) (
 -- the three of them
 module _ (s : ℕ → List (List ℕ)) (k : ℕ) (p : Process) (id : ℕ) (env : Env) (q : Process) (n : NodeOf (untrusted k) p id env q) where
   abbrev pub TellsHere : Check → Option Found → Type 0
-  TellsHere c r = (q : Process) → NodeOf (untrusted k) p id env q → Tells s id env q c r
+  TellsHere c r = (q : Process) → NodeOf (untrusted k) p id env q → TellsFailure s id env q c r
 
-  here : (c : Check) (r : Option Found) → Tells s id env q c r → TellsHere c r
-  here c r h = λ q' m. subst (λ q. Tells s id env q c r) (one_node n m).1 h
+  here : (c : Check) (r : Option Found) → TellsFailure s id env q c r → TellsHere c r
+  here c r h = λ q' m. subst (λ q. TellsFailure s id env q c r) (one_node n m).1 h
 
   pub told_served : {E : Type 0} (i : ℕ) (result : Result (Option Found) E) → Asked env q (C.served i) → IfOk result (TellsLeast s k p (id + i) (IsOf K.NotMany)) → IfOk result (TellsHere (C.served i))
   told_served i (Ok r) (e, w, c) h =
       let l = h e w (node_more n c) in
-      let f : Follows env q i l.0 = record { inner = e; process = w; child = c; least = l.1 } in
+      let f : HasLeastBehind env q i l.0 = record { inner = e; process = w; child = c; least = l.1 } in
       here (C.served i) r (outcome s id i env q (C.served i) l.0 (IsOf K.NotMany) refl (λ g. g) (λ g. g) (λ a x y. not_many f x y) (λ a z. spoils_served f z) r l.2)
   told_served i (Err x) a h = tt
 
   pub told_stays : {E : Type 0} (m i : ℕ) (result : Result (Option Found) E) → Asked env q (C.stays m i) → IfOk result (TellsLeast s k p (id + i) (IsOf (K.Naming (length env) m))) → IfOk result (TellsHere (C.stays m i))
   told_stays m i (Ok r) (e, w, c) h =
       let l = h e w (node_more n c) in
-      let f : Follows env q i l.0 = record { inner = e; process = w; child = c; least = l.1 } in
+      let f : HasLeastBehind env q i l.0 = record { inner = e; process = w; child = c; least = l.1 } in
       here (C.stays m i) r (outcome s id i env q (C.stays m i) l.0 (IsOf (K.Naming (length env) m)) refl (λ g. g) (λ g. g) (λ a x y. escapes f x y) (λ a z. spoils_stays f z) r l.2)
   told_stays m i (Err x) a h = tt
 
   pub told_made : {E : Type 0} (i : ℕ) (result : Result (Option Found) E) → Asked env q (C.made i) → IfOk result (TellsLess s k p (id + i) (length env)) → IfOk result (TellsHere (C.made i))
   told_made i (Ok r) (e, w, c) h =
       let l = h e w (node_more n c) in
-      let f : Follows env q i l.0 = record { inner = e; process = w; child = c; least = l.2 } in
+      let f : HasLeastBehind env q i l.0 = record { inner = e; process = w; child = c; least = l.2 } in
       here (C.made i) r (outcome s id i env q (C.made i) l.1 (IsOf (K.Naming (length env) 1)) refl (λ g. g) (λ g. g) (λ a x y. unchecked f l.3 x y) (λ a z. spoils_made f l.3 z) r l.4)
   told_made i (Err x) a h = tt
 

@@ -1,6 +1,6 @@
 -- What is asked of a node, form by form, and the reason that each check gives where it fails.
 use Rattle.std.specs.Prelude.{ℕ, suc, ◌-◌, List, [], ◌∷◌, Option, Some, None}
-use Rattle.spi_term.specs.Term.{Message, Ty, pair_ty, sum_ty, Leaf, Sends, Stops, Prefix, Recvs, Serves, Splits, Selects, Decrypts, Checks, Begins, Ends, EndManys, Casts, Makes, Fork, Cases, Pars, Process, leaf, prefix, fork, process_size}
+use Rattle.spi_term.specs.Term.{Message, Ty, pair_ty, sum_ty, Leaf, Sends, Stops, Prefix, Recvs, Serves, Splits, Selects, Decrypts, Checks, Begins, Ends, EndManys, Casts, Freshes, Fork, Branches, Pars, Process, leaf, prefix, fork, process_size}
 use Rattle.spi_term.specs.Spelling.{Shape, leaf_at, prefix_at, fork_at}
 use Rattle.spi_fault.specs.declared.fault.Reason.{Reason}
 use Rattle.spi_fault.specs.declared.fault.Reason.TheVariants.{ChannelNotUn, DatumNotUn, BadType, WrongScrutinee, WrongKey, NotANonce, NotALabel, NotGenerative, BodyHasEffect, EffectEscapes, WrongFirst, BadCast}
@@ -43,11 +43,11 @@ prefix_checks (Begins m) = label m ∷ []
 prefix_checks (Ends m) = label m ∷ []
 prefix_checks (EndManys m) = label m ∷ []
 prefix_checks (Casts m t) = castable t ∷ good t ∷ sealed m ∷ stays 1 1 ∷ []
-prefix_checks (Makes t) = generative t ∷ good t ∷ made 1 ∷ []
+prefix_checks (Freshes t) = generative t ∷ good t ∷ made 1 ∷ []
 
 -- the second process has so many nodes before it
 abbrev pub fork_checks : Fork → ℕ → List Check
-fork_checks (Cases m t u) rest =
+fork_checks (Branches m t u) rest =
     good t ∷ good u ∷ scrutinee m (sum_ty t u) t u ∷ stays 1 1 ∷ stays 1 rest ∷ []
 fork_checks Pars rest = []
 

@@ -32,13 +32,13 @@ thing (Some (S.Message m)) = the_message (View.message m)
 thing (Some (S.Atom a)) = the_atom (View.atom a)
 
 -- a fault, with the node in whose scope the shown term is read
-pub record Told : Type 0 where
+pub record ToldFault : Type 0 where
   pub reason : Reason
   pub node : ℕ
   pub scope_of : ℕ
   pub shown : Thing
 
-abbrev pub told : Fault → Told
+abbrev pub told : Fault → ToldFault
 told f = record { reason = f.reason; node = f.node; scope_of = f.scope_of; shown = thing f.shown }
 
 -- Of the atoms of this kind, one whose report form is least by its bytes, where names are spelled so.
@@ -89,7 +89,7 @@ pub record FirstBlocks (env : Env) (p : Process) (i : ℕ) : Type 0 where
 
 -- The fault of a process over k untrusted names. Where it has a least effect, this isn't empty, and an atom of it is shown
 -- at the root. Else the first of the checks of the first blocking node that fails is the reason.
-pub data IsFault (spelled : ℕ → List (List ℕ)) (k : ℕ) (p : Process) : Told → Type 0 where
+pub data IsFault (spelled : ℕ → List (List ℕ)) (k : ℕ) (p : Process) : ToldFault → Type 0 where
   unpaid : {es : Effect} {a : Atom}
       → Least (untrusted k) p es → IsLeastText (spelled 0) (λ b. In b es) a
       → IsFault spelled k p (record { reason = Unpaid; node = 0; scope_of = 0; shown = the_atom a })
@@ -99,7 +99,7 @@ pub data IsFault (spelled : ℕ → List (List ℕ)) (k : ℕ) (p : Process) : T
       → IsFault spelled k p (record { reason = reason_of c; node = n; scope_of = s; shown = shown })
 
 -- the fault of an effect of the whole process that isn't empty: an atom of it is shown at the root
-pub data IsUnpaid (spelled : ℕ → List (List ℕ)) (es : Effect) : Told → Type 0 where
+pub data IsUnpaid (spelled : ℕ → List (List ℕ)) (es : Effect) : ToldFault → Type 0 where
   unpaid_at_root : {a : Atom}
       → IsLeastText (spelled 0) (λ b. In b es) a
       → IsUnpaid spelled es (record { reason = Unpaid; node = 0; scope_of = 0; shown = the_atom a })

@@ -6,8 +6,8 @@ use Rattle.spi_fault.specs.Checks as C
 use Rattle.spi_fault.specs.Trying.{check}
 
 -- this check, unless memory runs out
-abbrev pub Gives : {E : Type 0} → Result Declared.Check E → C.Check → Type 0
-Gives r c = IfOk r (λ x. check x ≡ c)
+abbrev pub GivesCheck : {E : Type 0} → Result Declared.Check E → C.Check → Type 0
+GivesCheck r c = IfOk r (λ x. check x ≡ c)
 
 -- these checks, unless memory runs out
 abbrev pub GivesAll : {E : Type 0} → Result (Vec Declared.Check) E → List C.Check → Type 0

@@ -22,25 +22,25 @@ IsCastable (key t) = ⊥
 IsCastable (nonce es) = ⊤
 
 -- the least effect of the process that stands in this node, behind so many nodes
-pub record Follows (env : Env) (p : Process) (at : ℕ) (es : Effect) : Type 0 where
+pub record HasLeastBehind (env : Env) (p : Process) (at : ℕ) (es : Effect) : Type 0 where
   pub inner : Env
   pub process : Process
   pub child : Child env p at inner process
   pub least : Least inner process es
 
 -- one of so many names from n on is free in the atom
-abbrev pub HasBound : ℕ → ℕ → Atom → Type 0
-HasBound n k a = (x : ℕ) × (n ≤ x) × (x < n + k) × (OfAtom (Avoids x) a → ⊥)
+abbrev pub HasBoundName : ℕ → ℕ → Atom → Type 0
+HasBoundName n k a = (x : ℕ) × (n ≤ x) × (x < n + k) × (OfAtom (Avoids x) a → ⊥)
 
 -- an atom for which a check of effects fails
 pub data Spoils (env : Env) (p : Process) : Check → Atom → Type 0 where
   not_many : {at : ℕ} {es : Effect} {a : Atom}
-      → Follows env p at es → In a es → (IsMany a → ⊥) → Spoils env p (served at) a
+      → HasLeastBehind env p at es → In a es → (IsMany a → ⊥) → Spoils env p (served at) a
   escapes : {k at : ℕ} {es : Effect} {a : Atom}
-      → Follows env p at es → In a es → HasBound (length env) k a → Spoils env p (stays k at) a
+      → HasLeastBehind env p at es → In a es → HasBoundName (length env) k a → Spoils env p (stays k at) a
   unchecked : {at : ℕ} {es ds : Effect} {a : Atom}
-      → Follows env p at es → IsDifference ds es (checks (name (length env)) ∷ []) → In a ds
-      → HasBound (length env) 1 a
+      → HasLeastBehind env p at es → IsDifference ds es (checks (name (length env)) ∷ []) → In a ds
+      → HasBoundName (length env) 1 a
       → Spoils env p (made at) a
 
 -- Where a typed rule and its Un form have different premises on a message, one of the two holds, with what it asks of

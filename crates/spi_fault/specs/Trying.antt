@@ -19,7 +19,7 @@ use Rattle.spi_fault.specs.declared.least.Kind.TheVariants as K
 use Rattle.spi_fault.specs.declared.deciding.Found.{Found}
 use Rattle.spi_fault.specs.declared.fault.Fault.{Fault}
 use Rattle.spi_fault.specs.Checks as C
-use Rattle.spi_fault.specs.Passing.{HasBound, Passes}
+use Rattle.spi_fault.specs.Passing.{HasBoundName, Passes}
 use Rattle.spi_fault.specs.Faults.{the_atom, thing, IsLeastText, Shows, FailsFirst}
 
 -- the check that a value of the program means
@@ -44,7 +44,7 @@ check (D.Made i) = C.made i
 abbrev pub IsOf : Kind → Atom → Type 0
 IsOf K.Any a = ⊤
 IsOf K.NotMany a = IsMany a → ⊥
-IsOf (K.Naming n k) a = HasBound n k a
+IsOf (K.Naming n k) a = HasBoundName n k a
 
 -- the place and the text of an atom of the list that is of this kind and whose text is least, and none where no atom is of it
 abbrev pub IsBest : List (List ℕ) → (Atom → Type 0) → List Atom → Option (ℕ × Vec ℕ) → Type 0
@@ -95,27 +95,27 @@ Asked env p (C.stays k i) = (e : Env) × (q : Process) × Child env p i e q
 Asked env p (C.made i) = (e : Env) × (q : Process) × Child env p i e q
 
 -- the nodes of a type that is asked about can be counted, where n names are in scope, and so can the names that a form binds
-abbrev pub Fits : ℕ → C.Check → Type 0
-Fits n (C.channel m) = ⊤
-Fits n (C.datum m) = ⊤
-Fits n (C.untrusted t) = ⊤
-Fits n (C.good t) = n + ty_nodes t < 2 ^ 32
-Fits n (C.scrutinee m s t u) = ⊤
-Fits n (C.sealed m) = ⊤
-Fits n (C.first m t) = ⊤
-Fits n (C.key_of m t) = ⊤
-Fits n (C.nonce_of m) = ⊤
-Fits n (C.label m) = ⊤
-Fits n (C.generative t) = ⊤
-Fits n (C.castable t) = ⊤
-Fits n (C.served i) = ⊤
-Fits n (C.stays k i) = k ≤ 2
-Fits n (C.made i) = ⊤
+abbrev pub CanBeCounted : ℕ → C.Check → Type 0
+CanBeCounted n (C.channel m) = ⊤
+CanBeCounted n (C.datum m) = ⊤
+CanBeCounted n (C.untrusted t) = ⊤
+CanBeCounted n (C.good t) = n + ty_nodes t < 2 ^ 32
+CanBeCounted n (C.scrutinee m s t u) = ⊤
+CanBeCounted n (C.sealed m) = ⊤
+CanBeCounted n (C.first m t) = ⊤
+CanBeCounted n (C.key_of m t) = ⊤
+CanBeCounted n (C.nonce_of m) = ⊤
+CanBeCounted n (C.label m) = ⊤
+CanBeCounted n (C.generative t) = ⊤
+CanBeCounted n (C.castable t) = ⊤
+CanBeCounted n (C.served i) = ⊤
+CanBeCounted n (C.stays k i) = k ≤ 2
+CanBeCounted n (C.made i) = ⊤
 
 -- the check passes, or it fails and this is shown
-abbrev pub Tells : (ℕ → List (List ℕ)) → ℕ → Env → Process → C.Check → Option Found → Type 0
-Tells spelled n env p c None = Passes env p c
-Tells spelled n env p c (Some f) = (Passes env p c → ⊥) × Shows spelled n env p c f.scope_of (thing f.shown)
+abbrev pub TellsFailure : (ℕ → List (List ℕ)) → ℕ → Env → Process → C.Check → Option Found → Type 0
+TellsFailure spelled n env p c None = Passes env p c
+TellsFailure spelled n env p c (Some f) = (Passes env p c → ⊥) × Shows spelled n env p c f.scope_of (thing f.shown)
 
 -- no atom of the effect is of the kind, or this one is shown, in the scope of node s
 abbrev pub TellsAtom : (ℕ → List (List ℕ)) → ℕ → (Atom → Type 0) → Effect → Option Found → Type 0

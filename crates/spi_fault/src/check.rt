@@ -1,12 +1,12 @@
 // What is asked of a node, form by form.
 ghost use Rattle.std.specs.Prelude.{◌≡◌, List, Ok, [], ◌∷◌, ◌++◌, IfOk};
 ghost use Rattle.spi_term.specs.Term as Term;
-ghost use Rattle.spi_term.specs.Term.{Splits, Selects, Decrypts, Casts, Cases};
+ghost use Rattle.spi_term.specs.Term.{Splits, Selects, Decrypts, Casts, Branches};
 ghost use Rattle.spi_term.specs.View.{message, ty as type_of, shape_of};
 ghost use Rattle.spi_fault.specs.Checks as Checks;
 ghost use Rattle.spi_fault.specs.Checks.{prefix_checks, fork_checks, shape_checks, reason_of};
 ghost use Rattle.spi_fault.specs.Trying.{check as check_of};
-ghost use Rattle.spi_fault.specs.Giving.{Gives, GivesAll};
+ghost use Rattle.spi_fault.specs.Giving.{GivesCheck, GivesAll};
 
 use crate::{NoMemory, Reason};
 use spi_message::{pair_type, sum_type};
@@ -77,25 +77,25 @@ impl Check {
 }
 
 fn channel(alloc: Global, m: &Msg) -> Result<Check, NoMemory>
-    ensures { Gives result (Checks.channel (message m.now)) }
+    ensures { GivesCheck result (Checks.channel (message m.now)) }
 {
     Ok(Check::Channel(m.copy(alloc)?))
 }
 
 fn datum(alloc: Global, m: &Msg) -> Result<Check, NoMemory>
-    ensures { Gives result (Checks.datum (message m.now)) }
+    ensures { GivesCheck result (Checks.datum (message m.now)) }
 {
     Ok(Check::Datum(m.copy(alloc)?))
 }
 
 fn untrusted(alloc: Global, t: &Ty) -> Result<Check, NoMemory>
-    ensures { Gives result (Checks.untrusted (type_of t.now)) }
+    ensures { GivesCheck result (Checks.untrusted (type_of t.now)) }
 {
     Ok(Check::Untrusted(t.copy(alloc)?))
 }
 
 fn good(t: Result<Ty, NoMemory>) -> Result<Check, NoMemory>
-    ensures { (u : Term.Ty) → IfOk t (λ t. type_of t ≡ u) → Gives result (Checks.good u) }
+    ensures { (u : Term.Ty) → IfOk t (λ t. type_of t ≡ u) → GivesCheck result (Checks.good u) }
 {
     Ok(Check::Good(t?))
 }
@@ -108,7 +108,7 @@ fn scrutinee(
     second: &Ty,
 ) -> Result<Check, NoMemory>
     ensures { (w : Term.Ty) → IfOk whole (λ t. type_of t ≡ w)
-        → Gives result (Checks.scrutinee (message m.now) w (type_of first.now) (type_of second.now)) }
+        → GivesCheck result (Checks.scrutinee (message m.now) w (type_of first.now) (type_of second.now)) }
 {
     let whole = whole?;
     let m = m.copy(alloc)?;
@@ -117,45 +117,45 @@ fn scrutinee(
 }
 
 fn sealed(alloc: Global, m: &Msg) -> Result<Check, NoMemory>
-    ensures { Gives result (Checks.sealed (message m.now)) }
+    ensures { GivesCheck result (Checks.sealed (message m.now)) }
 {
     Ok(Check::Sealed(m.copy(alloc)?))
 }
 
 fn first_of(alloc: Global, m: &Msg, t: &Ty) -> Result<Check, NoMemory>
-    ensures { Gives result (Checks.first (message m.now) (type_of t.now)) }
+    ensures { GivesCheck result (Checks.first (message m.now) (type_of t.now)) }
 {
     let m = m.copy(alloc)?;
     Ok(Check::First(m, t.copy(alloc)?))
 }
 
 fn key_of(alloc: Global, m: &Msg, t: &Ty) -> Result<Check, NoMemory>
-    ensures { Gives result (Checks.key_of (message m.now) (type_of t.now)) }
+    ensures { GivesCheck result (Checks.key_of (message m.now) (type_of t.now)) }
 {
     let m = m.copy(alloc)?;
     Ok(Check::KeyOf(m, t.copy(alloc)?))
 }
 
 fn nonce_of(alloc: Global, m: &Msg) -> Result<Check, NoMemory>
-    ensures { Gives result (Checks.nonce_of (message m.now)) }
+    ensures { GivesCheck result (Checks.nonce_of (message m.now)) }
 {
     Ok(Check::NonceOf(m.copy(alloc)?))
 }
 
 fn label(alloc: Global, m: &Msg) -> Result<Check, NoMemory>
-    ensures { Gives result (Checks.label (message m.now)) }
+    ensures { GivesCheck result (Checks.label (message m.now)) }
 {
     Ok(Check::Label(m.copy(alloc)?))
 }
 
 fn generative(alloc: Global, t: &Ty) -> Result<Check, NoMemory>
-    ensures { Gives result (Checks.generative (type_of t.now)) }
+    ensures { GivesCheck result (Checks.generative (type_of t.now)) }
 {
     Ok(Check::Generative(t.copy(alloc)?))
 }
 
 fn castable(alloc: Global, t: &Ty) -> Result<Check, NoMemory>
-    ensures { Gives result (Checks.castable (type_of t.now)) }
+    ensures { GivesCheck result (Checks.castable (type_of t.now)) }
 {
     Ok(Check::Castable(t.copy(alloc)?))
 }
@@ -165,7 +165,7 @@ fn and(
     checks: Result<Vec<Check>, NoMemory>,
     check: Result<Check, NoMemory>,
 ) -> Result<Vec<Check>, NoMemory>
-    ensures { (cs : List Checks.Check) (c : Checks.Check) → GivesAll checks cs → Gives check c
+    ensures { (cs : List Checks.Check) (c : Checks.Check) → GivesAll checks cs → GivesCheck check c
         → GivesAll result (cs ++ c ∷ []) }
 {
     let mut checks = checks?;
@@ -174,7 +174,7 @@ fn and(
 }
 
 fn one(alloc: Global, a: Result<Check, NoMemory>) -> Result<Vec<Check>, NoMemory>
-    ensures { (p : Checks.Check) → Gives a p → GivesAll result (p ∷ []) }
+    ensures { (p : Checks.Check) → GivesCheck a p → GivesAll result (p ∷ []) }
 {
     and(Ok(Vec::new(alloc)), a)
 }
@@ -184,7 +184,7 @@ fn two(
     a: Result<Check, NoMemory>,
     b: Result<Check, NoMemory>,
 ) -> Result<Vec<Check>, NoMemory>
-    ensures { (p q : Checks.Check) → Gives a p → Gives b q → GivesAll result (p ∷ q ∷ []) }
+    ensures { (p q : Checks.Check) → GivesCheck a p → GivesCheck b q → GivesAll result (p ∷ q ∷ []) }
 {
     and(one(alloc, a), b)
 }
@@ -195,7 +195,7 @@ fn three(
     b: Result<Check, NoMemory>,
     c: Result<Check, NoMemory>,
 ) -> Result<Vec<Check>, NoMemory>
-    ensures { (p q r : Checks.Check) → Gives a p → Gives b q → Gives c r → GivesAll result (p ∷ q ∷ r ∷ []) }
+    ensures { (p q r : Checks.Check) → GivesCheck a p → GivesCheck b q → GivesCheck c r → GivesAll result (p ∷ q ∷ r ∷ []) }
 {
     and(two(alloc, a, b), c)
 }
@@ -207,7 +207,7 @@ fn four(
     c: Result<Check, NoMemory>,
     d: Result<Check, NoMemory>,
 ) -> Result<Vec<Check>, NoMemory>
-    ensures { (p q r s : Checks.Check) → Gives a p → Gives b q → Gives c r → Gives d s
+    ensures { (p q r s : Checks.Check) → GivesCheck a p → GivesCheck b q → GivesCheck c r → GivesCheck d s
         → GivesAll result (p ∷ q ∷ r ∷ s ∷ []) }
 {
     and(three(alloc, a, b, c), d)
@@ -221,7 +221,7 @@ fn five(
     d: Result<Check, NoMemory>,
     e: Result<Check, NoMemory>,
 ) -> Result<Vec<Check>, NoMemory>
-    ensures { (p q r s t : Checks.Check) → Gives a p → Gives b q → Gives c r → Gives d s → Gives e t
+    ensures { (p q r s t : Checks.Check) → GivesCheck a p → GivesCheck b q → GivesCheck c r → GivesCheck d s → GivesCheck e t
         → GivesAll result (p ∷ q ∷ r ∷ s ∷ t ∷ []) }
 {
     and(four(alloc, a, b, c, d), e)
@@ -259,7 +259,7 @@ fn branch_checks(
     right: &Ty,
     rest: u32,
 ) -> Result<Vec<Check>, NoMemory>
-    ensures { GivesAll result (fork_checks (Cases (message whole.now) (type_of left.now)
+    ensures { GivesAll result (fork_checks (Branches (message whole.now) (type_of left.now)
         (type_of right.now)) rest) }
 {
     let on_left = good(left.copy(alloc));

@@ -14,7 +14,7 @@ ghost use Rattle.spi_scope.specs.Chains.{chain_at};
 ghost use Rattle.spi_fault.specs.Passing.{IsCastable, Passes};
 ghost use Rattle.spi_fault.specs.Checks.{process_of};
 ghost use Rattle.spi_fault.specs.Faults.{the_message, subject, thing};
-ghost use Rattle.spi_fault.specs.Trying.{check as check_of, IsOf, CanBe, Asked, Fits, Tells, TellsAtom};
+ghost use Rattle.spi_fault.specs.Trying.{check as check_of, IsOf, CanBe, Asked, CanBeCounted, TellsFailure, TellsAtom};
 
 use crate::check::Check;
 use crate::least::{Kind, least_text};
@@ -140,7 +140,7 @@ fn is_nonce(alloc: Global, env: &Env, m: &Msg) -> Result<bool, NoMemory>
 
 // Whether a check passes that asks about no effect.
 fn holds(alloc: Global, env: &Env, check: &Check) -> Result<bool, NoMemory>
-    requires { Fits (length env.now) (check_of check.now) }
+    requires { CanBeCounted (length env.now) (check_of check.now) }
     ensures { IfOk result
         (λ b. process_of (check_of check.now) ≡ None → (p : Term.Process)
         → IsTrue b ↔ Passes env.now p (check_of check.now)) }
@@ -197,10 +197,10 @@ fn subject(alloc: Global, check: &Check) -> Result<Option<Shown>, NoMemory>
 
 // What is shown where a check fails that asks about no effect.
 fn failing_here(alloc: Global, id: u32, env: &Env, check: &Check) -> Result<Option<Found>, NoMemory>
-    requires { Fits (length env.now) (check_of check.now) }
+    requires { CanBeCounted (length env.now) (check_of check.now) }
     ensures { IfOk result
         (λ r. process_of (check_of check.now) ≡ None → (spelled : ℕ → List (List ℕ)) (q : Term.Process)
-        → Tells spelled id env.now q (check_of check.now) r) }
+        → TellsFailure spelled id env.now q (check_of check.now) r) }
 {
     if holds(alloc, env, check)? {
         return Ok(None);
@@ -294,7 +294,7 @@ pub fn failing(
     env: &Env,
     check: &Check,
 ) -> Result<Option<Found>, NoMemory>
-    requires fits { Fits (length env.now) (check_of check.now) }
+    requires fits { CanBeCounted (length env.now) (check_of check.now) }
     requires few { length env.now ≤ 300000 }
     requires node { (q : Term.Process)
         × NodeOf (untrusted file.now.process.names) file.now.process.process id env.now q × BlocksAt env.now q
@@ -302,7 +302,7 @@ pub fn failing(
     ensures { IfOk result
         (λ r. (q : Term.Process)
         → NodeOf (untrusted file.now.process.names) file.now.process.process id env.now q
-        → Tells (λ i. reverse (chain_at file.now.marks.scopes i)) id env.now q (check_of check.now) r) }
+        → TellsFailure (λ i. reverse (chain_at file.now.marks.scopes i)) id env.now q (check_of check.now) r) }
 {
     let _ = file.process.len();
     let n = env.len();

@@ -8,11 +8,11 @@ ghost use Rattle.spi_rules.specs.Derivations.{Derivable};
 ghost use Rattle.spi_rules.specs.Least.{Least};
 ghost use Rattle.spi_rules.specs.Blocking.{NodeOf, BlocksAt};
 ghost use Rattle.spi_scope.specs.Chains.{chain_at};
-ghost use Rattle.spi_infer.specs.Inferring.{Answers};
+ghost use Rattle.spi_infer.specs.Inferring.{AnswersOver};
 ghost use Rattle.spi_fault.specs.Checks as Checks;
 ghost use Rattle.spi_fault.specs.Checks.{checks as checks_in};
 ghost use Rattle.spi_fault.specs.Faults.{FirstBlocks, IsFault, TellsUnpaid, Explains, told};
-ghost use Rattle.spi_fault.specs.Trying.{check as check_of, Fits, IsBlamed};
+ghost use Rattle.spi_fault.specs.Trying.{check as check_of, CanBeCounted, IsBlamed};
 
 use crate::check::{Check, checks_of};
 use crate::deciding::{failing, shown_atom};
@@ -60,7 +60,7 @@ fn first_failing(
     checks: &[Check],
 ) -> Result<Option<Fault>, NoMemory>
     requires few { length env.now ≤ 300000 }
-    requires fits { (c : Checks.Check) → In c (map check_of checks.now) → Fits (length env.now) c }
+    requires fits { (c : Checks.Check) → In c (map check_of checks.now) → CanBeCounted (length env.now) c }
     requires node { (q : Term.Process)
         × NodeOf (untrusted file.now.process.names) file.now.process.process node env.now q
         × BlocksAt env.now q × (map check_of checks.now ≡ checks_in q) }
@@ -106,7 +106,7 @@ fn blocked(alloc: Global, file: &File, node: u32) -> Result<Fault, NoMemory>
 /// in their order, and the first that fails is the reason; else the reason is `Unpaid` at the root. Of several atoms the
 /// one is shown whose report form is least by its bytes, with names as the file spells them.
 pub fn explain(alloc: Global, file: &File, inferred: &Inferred) -> Result<Option<Fault>, NoMemory>
-    requires { Answers file.now.process.names file.now.process.process inferred.now }
+    requires { AnswersOver file.now.process.names file.now.process.process inferred.now }
     ensures explained { IfOk result
         (Explains (λ i. reverse (chain_at file.now.marks.scopes i)) file.now.process.names
         file.now.process.process) }

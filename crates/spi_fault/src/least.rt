@@ -4,7 +4,7 @@ ghost use Rattle.spi_term.specs.Term.{Effect};
 ghost use Rattle.spi_term.specs.Names.{OfAtom, Avoids};
 ghost use Rattle.spi_term.specs.View.{atom};
 ghost use Rattle.spi_effect.specs.Effect.{IsMany};
-ghost use Rattle.spi_fault.specs.Passing.{HasBound};
+ghost use Rattle.spi_fault.specs.Passing.{HasBoundName};
 ghost use Rattle.spi_fault.specs.Trying.{IsOf, IsBest, IsBetter, CanBe, IsPlaceOfLeast, place_in};
 
 use crate::NoMemory;
@@ -47,7 +47,7 @@ fn is_free_in(x: u32, a: &Atom) -> bool
 
 fn has_bound(from: u32, names: u32, a: &Atom) -> bool
     requires { from + names < 2 ^ 32 }
-    ensures { IsTrue result ↔ HasBound from names (atom a.now) }
+    ensures { IsTrue result ↔ HasBoundName from names (atom a.now) }
 {
     for x in from..from + names {
         if is_free_in(x, a) {

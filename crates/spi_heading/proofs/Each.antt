@@ -8,17 +8,17 @@ use Rattle.spi_tree.specs.Pieces.{Piece, opens, cell, closes}
 use Rattle.spi_tree.specs.Formed.{AreWordsFit}
 use Rattle.spi_parse.specs.declared.fault.ParseFault.{ParseFault}
 use Rattle.spi_parse.specs.Exact as exact
-use Rattle.spi_grammar.specs.Exactly.{IsGood}
+use Rattle.spi_grammar.specs.Exactly.{IsGoodKind}
 use Rattle.spi_parts.proofs.Bridge.{OfPieces, of_piece}
 use Rattle.spi_heading.specs.Spans.{end_before}
 use Rattle.spi_heading.specs.Each.{each_pieces, IsWhole, EachAt, ReadsEach}
-use Rattle.spi_heading.proofs.Standing.{Stands, stands_both, stands_within, stands_length, spelled, standing, IsSolid, solid}
+use Rattle.spi_heading.proofs.Standing.{AreTokensOf, stands_both, stands_within, stands_length, spelled, standing, IsSolid, solid}
 use Rattle.spi_heading.proofs.Failing.{ReadAt, fails_from, fails_to}
 use Rattle.spi_heading.proofs.Calls.{part_stands}
 use Rattle.spi_heading.proofs.Rows.{fits_at, stands_read}
 
 -- where pieces are cut
-pub stands_cut : (ts : List Token) (ps qs : List Piece) (i k : ℕ) → Stands ts i (ps ++ qs) k → (j : ℕ) × Stands ts i ps j × Stands ts j qs k
+pub stands_cut : (ts : List Token) (ps qs : List Piece) (i k : ℕ) → AreTokensOf ts i (ps ++ qs) k → (j : ℕ) × AreTokensOf ts i ps j × AreTokensOf ts j qs k
 stands_cut ts [] qs i k h = (i, refl, h)
 stands_cut ts (opens from ∷ ps) qs i k h = let c = stands_cut ts ps qs i k h.2 in (c.0, (h.0, h.1, c.1), c.2)
 stands_cut ts (cell x deep ∷ ps) qs i k h = let c = stands_cut ts ps qs (suc i) k h.5 in (c.0, (h.0, h.1, h.2, h.3, h.4, c.1), c.2)
@@ -46,21 +46,21 @@ module _ {X : Type 0} (piece : X → List Piece → List Piece) (behind : (x : X
     pub record Along (i : ℕ) (xs : List X) (j : ℕ) : Type 0 where
       pub are : AllByRecursion Is xs
       pub within : j ≤ length ts
-      pub stands : Stands ts i (each_pieces piece xs []) j
+      pub stands : AreTokensOf ts i (each_pieces piece xs []) j
 
     pub along_start : (i : ℕ) → i ≤ length ts → Along i [] i
     along_start i w = record { are = tt; within = w; stands = refl }
 
-    pub along_more : (i j k : ℕ) (xs : List X) (x : X) → Along i xs j → Is x → Stands ts j (piece x []) k → Along i (xs ++ x ∷ []) k
+    pub along_more : (i j k : ℕ) (xs : List X) (x : X) → Along i xs j → Is x → AreTokensOf ts j (piece x []) k → Along i (xs ++ x ∷ []) k
     along_more i j k xs x a h s = record {
       are = all_more Is xs x a.are h;
       within = stands_within ts (piece x []) j k a.within s;
-      stands = subst (λ (l : List Piece). Stands ts i l k) (sym (each_more xs x)) (stands_both ts (each_pieces piece xs []) (piece x []) i j k a.stands s);
+      stands = subst (λ (l : List Piece). AreTokensOf ts i l k) (sym (each_more xs x)) (stands_both ts (each_pieces piece xs []) (piece x []) i j k a.stands s);
     }
 
-    pub along_rest : (i k : ℕ) (x : X) (xs : List X) → Along i (x ∷ xs) k → (j : ℕ) × Is x × Stands ts i (piece x []) j × Along j xs k
+    pub along_rest : (i k : ℕ) (x : X) (xs : List X) → Along i (x ∷ xs) k → (j : ℕ) × Is x × AreTokensOf ts i (piece x []) j × Along j xs k
     along_rest i k x xs a =
-        let c = stands_cut ts (piece x []) (each_pieces piece xs []) i k (subst (λ (l : List Piece). Stands ts i l k) (behind x (each_pieces piece xs [])) a.stands) in
+        let c = stands_cut ts (piece x []) (each_pieces piece xs []) i k (subst (λ (l : List Piece). AreTokensOf ts i l k) (behind x (each_pieces piece xs [])) a.stands) in
         (c.0, a.are.0, c.1, record { are = a.are.1; within = a.within; stands = c.2 })
 
     module _ (solids : (x : X) (r : List Piece) → IsSolid (piece x r)) where
@@ -75,7 +75,7 @@ module _ {X : Type 0} (piece : X → List Piece → List Piece) (behind : (x : X
       each_along i j xs w a = record { are = a.are; within = a.within; stands = standing ts (each_pieces piece xs []) i j w a.within (free xs (drop j ts) 0 (end_before ts i) (drop i ts) a.spells) }
 
   -- one of them as a part that is read
-  pub one_read : (v : Bool) (Is : X → Type 0) → IsGood (OfPieces (λ x. piece x []) (IsWhole v piece Is)) → (ts : List Token) (i j : ℕ) (x : X) → AreWordsFit v (kinds_of ts) → Is x → Stands ts i (piece x []) j
+  pub one_read : (v : Bool) (Is : X → Type 0) → IsGoodKind (OfPieces (λ x. piece x []) (IsWhole v piece Is)) → (ts : List Token) (i j : ℕ) (x : X) → AreWordsFit v (kinds_of ts) → Is x → AreTokensOf ts i (piece x []) j
       → ReadAt (OfPieces (λ x. piece x []) (IsWhole v piece Is)) ts i j
   one_read v Is good ts i j x fit h s =
       stands_read (OfPieces (λ x. piece x []) (IsWhole v piece Is)) good ts (piece x []) i j (of_piece (λ x. piece x []) (IsWhole v piece Is) x (h, fits_at v ts (piece x []) i j fit s)) s
@@ -98,13 +98,13 @@ module _ {X : Type 0} (piece : X → List Piece → List Piece) (behind : (x : X
     )
 
     pub each_step : (xs : List X) (j k : ℕ) (x : X) → Along Is ts start xs j → (r : (n : ℕ) × (k ≡ j + n) × exact.IsPartAt (λ x. piece x []) Part x (drop j ts) n) → Along Is ts start (xs ++ x ∷ []) k
-    each_step xs j k x a r = along_more Is ts start j k xs x a r.2.part.0 (subst (λ (m : ℕ). Stands ts j (piece x []) m) (sym r.1) (part_stands (λ x. piece x []) Part x ts j r.0 a.within (solids x []) r.2))
+    each_step xs j k x a r = along_more Is ts start j k xs x a r.2.part.0 (subst (λ (m : ℕ). AreTokensOf ts j (piece x []) m) (sym r.1) (part_stands (λ x. piece x []) Part x ts j r.0 a.within (solids x []) r.2))
 
-  solid_rises : (ts : List Token) (ps : List Piece) (i j : ℕ) → IsSolid ps → Stands ts i ps j → i < j
+  solid_rises : (ts : List Token) (ps : List Piece) (i j : ℕ) → IsSolid ps → AreTokensOf ts i ps j → i < j
   solid_rises ts [] i j s h = absurd s
   solid_rises ts (opens from ∷ ps) i j s h = solid_rises ts ps i j s h.2
   solid_rises ts (cell k deep ∷ ps) i j s h = let l = stands_length ts ps (suc i) j h.5 in omega arith
   solid_rises ts (closes to ∷ ps) i j s h = absurd s
 
   pub each_rises : (solids : (x : X) (r : List Piece) → IsSolid (piece x r)) (P : X → Type 0) (ts : List Token) (x : X) (j k : ℕ) → j ≤ length ts → (r : (n : ℕ) × (k ≡ j + n) × exact.IsPartAt (λ x. piece x []) P x (drop j ts) n) → j < k
-  each_rises solids P ts x j k w r = solid_rises ts (piece x []) j k (solids x []) (subst (λ (m : ℕ). Stands ts j (piece x []) m) (sym r.1) (part_stands (λ x. piece x []) P x ts j r.0 w (solids x []) r.2))
+  each_rises solids P ts x j k w r = solid_rises ts (piece x []) j k (solids x []) (subst (λ (m : ℕ). AreTokensOf ts j (piece x []) m) (sym r.1) (part_stands (λ x. piece x []) P x ts j r.0 w (solids x []) r.2))

@@ -7,7 +7,7 @@ use Rattle.spi_tree.specs.Pieces.{Piece}
 use Rattle.spi_parse.specs.declared.fault.ParseFault.{ParseFault}
 use Rattle.spi_parse.specs.declared.fault.ParseFault.TheVariants as faults
 use Rattle.spi_parse.specs.Exact as exact
-use Rattle.spi_grammar.specs.Exactly.{kinds, IsSame, IsGood, Then, Either, One, Fault, at_syntax, at_deep, Refuses, Reads}
+use Rattle.spi_grammar.specs.Exactly.{kinds, IsSame, IsGoodKind, Then, Either, One, Fault, at_syntax, at_deep, RefusesText, ReadsPart}
 use Rattle.spi_grammar.proofs.Sequence.{apart_closed}
 use Rattle.spi_grammar.proofs.Answers.{same_refuses, first_refuses, second_refuses, one_refuses}
 use Rattle.spi_grammar.proofs.Good.{this_refuses}
@@ -16,26 +16,26 @@ use Rattle.spi_heading.proofs.Standing.{found, unfound}
 use Rattle.spi_parts.proofs.Bridge.{OfPieces, syntax_from, deep_at_from, none_from, syntax_to, deep_at_to, none_to}
 
 -- the fault that is told so
-abbrev pub Tells : ParseFault → Fault → ℕ → Type 0
-Tells (faults.Syntax i) at_syntax n = i ≡ n
-Tells (faults.Syntax i) at_deep n = ⊥
-Tells (faults.TooDeep i) at_syntax n = ⊥
-Tells (faults.TooDeep i) at_deep n = i ≡ n
-Tells faults.NoMemory d n = ⊥
+abbrev pub TellsFault : ParseFault → Fault → ℕ → Type 0
+TellsFault (faults.Syntax i) at_syntax n = i ≡ n
+TellsFault (faults.Syntax i) at_deep n = ⊥
+TellsFault (faults.TooDeep i) at_syntax n = ⊥
+TellsFault (faults.TooDeep i) at_deep n = i ≡ n
+TellsFault faults.NoMemory d n = ⊥
 
 -- no part of the kind begins at token i, for this fault, or memory ran out
 pub data FailsAt (L : List (Kind × Bool) → Type 0) (ts : List Token) (i : ℕ) (f : ParseFault) : Type 0 where
   memory : f ≡ faults.NoMemory → FailsAt L ts i f
-  fault : (d : Fault) (n : ℕ) → Tells f d (i + n) → Refuses d L (kinds_of (drop i ts)) n → FailsAt L ts i f
+  fault : (d : Fault) (n : ℕ) → TellsFault f d (i + n) → RefusesText d L (kinds_of (drop i ts)) n → FailsAt L ts i f
 
 -- a part of the kind stands from token i to token j
 pub record ReadAt (L : List (Kind × Bool) → Type 0) (ts : List Token) (i j : ℕ) : Type 0 where
   pub cells : List (Kind × Bool)
-  pub reads : Reads L (kinds_of (drop i ts)) cells (kinds_of (drop j ts))
+  pub reads : ReadsPart L (kinds_of (drop i ts)) cells (kinds_of (drop j ts))
   pub place : j ≡ i + length (kinds cells)
 
-pub tells_at : (f : ParseFault) (d : Fault) (n m : ℕ) → n ≡ m → Tells f d n → Tells f d m
-tells_at f d n m e h = subst (λ (i : ℕ). Tells f d i) e h
+pub tells_at : (f : ParseFault) (d : Fault) (n m : ℕ) → n ≡ m → TellsFault f d n → TellsFault f d m
+tells_at f d n m e h = subst (λ (i : ℕ). TellsFault f d i) e h
 
 module _ (L M : List (Kind × Bool) → Type 0) (ts : List Token) where
   pub same_fail : IsSame L M → (i : ℕ) (f : ParseFault) → FailsAt L ts i f → FailsAt M ts i f
@@ -43,11 +43,11 @@ module _ (L M : List (Kind × Bool) → Type 0) (ts : List Token) where
   same_fail s i f (fault d n t r) = fault d n t (same_refuses L M s d (kinds_of (drop i ts)) n r)
 
   -- the first fails, or the second behind it
-  pub first_fail : IsGood L → IsGood M → (i : ℕ) (f : ParseFault) → FailsAt L ts i f → FailsAt (Then L M) ts i f
+  pub first_fail : IsGoodKind L → IsGoodKind M → (i : ℕ) (f : ParseFault) → FailsAt L ts i f → FailsAt (Then L M) ts i f
   first_fail l m i f (memory e) = memory e
   first_fail l m i f (fault d n t r) = fault d n t (first_refuses L M (apart_closed L M l.closed) m.live d (kinds_of (drop i ts)) n r)
 
-  pub second_fail : IsGood L → (i j : ℕ) → ReadAt L ts i j → (f : ParseFault) → FailsAt M ts j f → FailsAt (Then L M) ts i f
+  pub second_fail : IsGoodKind L → (i j : ℕ) → ReadAt L ts i j → (f : ParseFault) → FailsAt M ts j f → FailsAt (Then L M) ts i f
   second_fail l i j h f (memory e) = memory e
   second_fail l i j h f (fault d n t r) =
       let p = h.place in
@@ -81,7 +81,7 @@ told_fail k L M told ts i there f (fault d n t r) =
     let l = found ts i there.0 there.1 in
     let is : kinds_of (drop i ts) ≡ k ∷ kinds_of l.0 = ap kinds_of l.1 ∙ ap (λ (x : Kind). x ∷ kinds_of l.0) there.2 in
     fault d n t (same_refuses (Either L (Rest M k)) M (told_same k L M told) d (kinds_of (drop i ts)) n
-    (subst (λ (l : List Kind). Refuses d (Either L (Rest M k)) l n) (sym is) (this_refuses L (Rest M k) k (kinds_of l.0) told.starts (λ b h x e. h.1 x e) d n (subst (λ (l : List Kind). Refuses d L l n) is r))))
+    (subst (λ (l : List Kind). RefusesText d (Either L (Rest M k)) l n) (sym is) (this_refuses L (Rest M k) k (kinds_of l.0) told.starts (λ b h x e. h.1 x e) d n (subst (λ (l : List Kind). RefusesText d L l n) is r))))
 
 -- none of these tokens stands there
 pub one_fail : (C : Kind → Type 0) → ((k : Kind) × C k) → (ts : List Token) (i : ℕ) → ((k : Kind) → C k → IsThere ts i k → ⊥) → FailsAt (One C) ts i (faults.Syntax i)
@@ -102,7 +102,7 @@ module _ {V X : Type 0} (view : V → X) (pieces : X → List Piece) (P : X → 
   fails_from (faults.TooDeep k) r = let s = deep_at_from pieces P here r.0 r.2 in fault at_deep r.0 r.1 (record { fails = record { pre = s.0; token = s.1; rest = s.2; split = s.3; place = s.4; is = s.5 }; none = none_from pieces P here r.3 })
   fails_from faults.NoMemory r = memory refl
 
-  fails_as : (f : ParseFault) (d : Fault) (n : ℕ) → Tells f d (i + n) → Refuses d (OfPieces pieces P) here n → exact.Reads view pieces P (Err f) ts i
+  fails_as : (f : ParseFault) (d : Fault) (n : ℕ) → TellsFault f d (i + n) → RefusesText d (OfPieces pieces P) here n → exact.Reads view pieces P (Err f) ts i
   fails_as (faults.Syntax k) at_syntax n t r = let s = r.fails in (n, t, subst (λ (j : ℕ). exact.IsSyntaxAt pieces P here j) s.place (syntax_to pieces P here s.pre s.rest s.split s.is), none_to pieces P here r.none)
   fails_as (faults.Syntax k) at_deep n t r = absurd t
   fails_as (faults.TooDeep k) at_syntax n t r = absurd t

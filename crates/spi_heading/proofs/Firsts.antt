@@ -8,7 +8,7 @@ use Rattle.spi_tree.specs.Trees as t
 use Rattle.spi_tree.specs.Pieces.{cells}
 use Rattle.spi_parse.specs.Bare.{nowhere}
 use Rattle.spi_parse.specs.Formed.{whole_decl, IsWholeDecl}
-use Rattle.spi_grammar.specs.Exactly.{kinds, IsGood}
+use Rattle.spi_grammar.specs.Exactly.{kinds, IsGoodKind}
 use Rattle.spi_grammar.proofs.Good.{IsSome}
 use Rattle.spi_parts.proofs.Bridge.{of_piece}
 use Rattle.spi_parts.proofs.Alone.{Decls, declarations_closed, declarations_even}
@@ -36,7 +36,7 @@ module _ (v : Bool) where
   pub decls_some : IsSome (Decls v)
   decls_some a p e = let f = decl_first p.part in let g : f.0 ∷ f.1 ≡ [] = sym f.2 ∙ ap kinds p.shows ∙ e in cc
 
-  pub decls_good : IsGood (Decls v)
+  pub decls_good : IsGoodKind (Decls v)
   decls_good =
       let name : SWord = record { word = spelling shared; span = nowhere } in
       let d : t.Declared = t.free nowhere name [] in
@@ -50,7 +50,7 @@ module _ (v : Bool) where
   pub shareds_some : IsSome (Shareds v)
   shareds_some a p e = let g : kinds (cells (whole_shared p.part)) ≡ [] = ap kinds p.shows ∙ e in cc
 
-  pub shareds_good : IsGood (Shareds v)
+  pub shareds_good : IsGoodKind (Shareds v)
   shareds_good =
       let s = rows_same (shared_are v) in
       let g = row_good v shared_row in

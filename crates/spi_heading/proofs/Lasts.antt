@@ -6,7 +6,7 @@ use Rattle.spi_lex.specs.Lexing.{kinds_of}
 use Rattle.spi_tree.specs.Pieces.{Piece}
 use Rattle.spi_tree.specs.Formed.{AreWordsFit}
 use Rattle.spi_parse.specs.declared.fault.ParseFault.{ParseFault}
-use Rattle.spi_grammar.specs.Exactly.{kinds, IsGood, Many, Nothing}
+use Rattle.spi_grammar.specs.Exactly.{kinds, IsGoodKind, Many, Nothing}
 use Rattle.spi_grammar.proofs.Good.{IsSome}
 use Rattle.spi_parts.proofs.Bridge.{OfPieces}
 use Rattle.spi_heading.specs.Each.{IsWhole, ReadsEach}
@@ -26,7 +26,7 @@ module _ {X : Type 0} (piece : X → List Piece → List Piece) (behind : (x : X
   abbrev Parts : List (Kind × Bool) → Type 0
   Parts = OfPieces (λ x. piece x []) (IsWhole v piece Is)
 
-  pub last_answer : IsGood Parts → IsSome Parts → (Whole : List (Kind × Bool) → Type 0) (ts : List Token) → AreWordsFit v (kinds_of ts) → (i : ℕ) → i ≤ length ts → Rest Whole (Many Parts Nothing) ts i → (f : ParseFault)
+  pub last_answer : IsGoodKind Parts → IsSome Parts → (Whole : List (Kind × Bool) → Type 0) (ts : List Token) → AreWordsFit v (kinds_of ts) → (i : ℕ) → i ≤ length ts → Rest Whole (Many Parts Nothing) ts i → (f : ParseFault)
       → ReadsEach (λ (xs : List X). xs) piece v Is (λ ts i. i < length ts) (Err f) ts i → WholeFails Whole ts f
   last_answer good some Whole ts fit i within r f e =
       let o = one_there ts e.1 e.3 in

@@ -8,7 +8,7 @@ use Rattle.spi_tree.specs.Pieces.{Piece, cells, kinds_in}
 use Rattle.spi_tree.specs.Formed.{AreWordsFit}
 use Rattle.spi_parse.specs.declared.fault.ParseFault.{ParseFault}
 use Rattle.spi_parse.proofs.Words.{fits_append, fits_front, fits_drop}
-use Rattle.spi_grammar.specs.Exactly.{kinds, IsGood, Times, Many, Nothing, Refuses}
+use Rattle.spi_grammar.specs.Exactly.{kinds, IsGoodKind, Times, Many, Nothing, RefusesText}
 use Rattle.spi_grammar.proofs.Good.{IsSome, Differ, part_refuses, further_refuses, last_refuses}
 use Rattle.spi_parts.proofs.Alone.{kinds_in_append}
 use Rattle.spi_parts.proofs.Bridge.{OfPieces, of_piece}
@@ -28,7 +28,7 @@ both_cells ps qs c d e f = cells_append ps qs ∙ ap (λ (l : List (Kind × Bool
 
 -- ---- the faults of any number of parts in front of others
 
-module _ (L M : List (Kind × Bool) → Type 0) (some_l : IsSome L) (some_m : IsSome M) (differ : Differ L M) (l : IsGood L) (m : IsGood M) (ts : List Token) where
+module _ (L M : List (Kind × Bool) → Type 0) (some_l : IsSome L) (some_m : IsSome M) (differ : Differ L M) (l : IsGoodKind L) (m : IsGoodKind M) (ts : List Token) where
   kinds_there : (i : ℕ) (k : Kind) (there : IsThere ts i k) → (rest : List Kind) × (kinds_of (drop i ts) ≡ k ∷ rest)
   kinds_there i k there = let f = found ts i there.0 there.1 in (kinds_of f.0, ap kinds_of f.1 ∙ ap (λ (x : Kind). x ∷ kinds_of f.0) there.2)
 
@@ -36,7 +36,7 @@ module _ (L M : List (Kind × Bool) → Type 0) (some_l : IsSome L) (some_m : Is
   part_fail i k there starts f (memory e) = memory e
   part_fail i k there starts f (fault d n t r) =
       let g = kinds_there i k there in
-      fault d n t (subst (λ (x : List Kind). Refuses d (Many L M) x n) (sym g.1) (part_refuses L M some_l some_m differ l m k g.0 starts d n (subst (λ (x : List Kind). Refuses d L x n) g.1 r)))
+      fault d n t (subst (λ (x : List Kind). RefusesText d (Many L M) x n) (sym g.1) (part_refuses L M some_l some_m differ l m k g.0 starts d n (subst (λ (x : List Kind). RefusesText d L x n) g.1 r)))
 
   pub more_fail : (i j : ℕ) (k : Kind) → IsThere ts i k → ReadAt L ts i j → (f : ParseFault) → FailsAt (Many L M) ts j f → FailsAt (Many L M) ts i f
   more_fail i j k there h f (memory e) = memory e
@@ -44,7 +44,7 @@ module _ (L M : List (Kind × Bool) → Type 0) (some_l : IsSome L) (some_m : Is
       let g = kinds_there i k there in
       let p = h.place in
       fault d (length (kinds h.cells) + n) (tells_at f d (j + n) (i + (length (kinds h.cells) + n)) (omega arith) t)
-      (subst (λ (x : List Kind). Refuses d (Many L M) x (length (kinds h.cells) + n)) (sym g.1)
+      (subst (λ (x : List Kind). RefusesText d (Many L M) x (length (kinds h.cells) + n)) (sym g.1)
       (further_refuses L M some_l some_m differ l m k g.0 h.cells (kinds_of (drop j ts)) (record { is = h.reads.is; clean = h.reads.clean; split = sym g.1 ∙ h.reads.split; ends = h.reads.ends }) d n r))
 
   pub last_fail : (i : ℕ) → ((a : List (Kind × Bool)) → L a → (k : Kind) (x : List Kind) → kinds a ≡ k ∷ x → IsThere ts i k → ⊥) → (f : ParseFault) → FailsAt M ts i f → FailsAt (Many L M) ts i f

@@ -9,11 +9,11 @@ use Rattle.spi_tree.specs.Pieces.{Piece, cells, kinds_in}
 use Rattle.spi_tree.specs.Formed.{AreWordsFit}
 use Rattle.spi_parse.specs.declared.fault.ParseFault.{ParseFault}
 use Rattle.spi_parse.specs.Exact as exact
-use Rattle.spi_grammar.specs.Exactly.{kinds, IsClosed}
+use Rattle.spi_grammar.specs.Exactly.{kinds, IsPrefixFree}
 use Rattle.spi_parts.proofs.Bridge.{OfPieces}
 use Rattle.spi_heading.specs.Spans.{start_of, span_over}
 use Rattle.spi_heading.specs.Taking.{IsThere}
-use Rattle.spi_heading.proofs.Standing.{Stands, IsSolid}
+use Rattle.spi_heading.proofs.Standing.{AreTokensOf, IsSolid}
 use Rattle.spi_heading.proofs.Failing.{FailsAt, IsToldBy, told_fail, fails_to}
 use Rattle.spi_heading.proofs.Symbols.{Sym, token, opening, Tok, kind_of}
 use Rattle.spi_heading.proofs.Rows.{Values, AreItems, Row, row_good, row_pieces, row_from, RowAt, RowFails, fits_at}
@@ -59,9 +59,9 @@ module _ (v : Bool) {X : Type 0} (pieces : X → List Piece) (Is : X → Type 0)
   node_fails view k row told ts i there f (Ok x) is h = absurd is
   node_fails view k row told ts i there f (Err e) is h = fails_to view pieces IsFormed ts i e (subst (λ (g : ParseFault). FailsAt (OfPieces pieces IsFormed) ts i g) (sym is) (told_fail k (Row v row) (OfPieces pieces IsFormed) told ts i there f h.by))
 
-  pub node_reads : ((x : X) → IsSolid (pieces x)) → IsClosed (OfPieces pieces IsFormed) → (ts : List Token) (i : ℕ) → AreWordsFit v (kinds_of ts) → (x : Span → X) (s : Span) (j : ℕ) → s ≡ span_over ts i j → Is (x (span_over ts i j)) → (row : List Sym) (xs : Values row)
+  pub node_reads : ((x : X) → IsSolid (pieces x)) → IsPrefixFree (OfPieces pieces IsFormed) → (ts : List Token) (i : ℕ) → AreWordsFit v (kinds_of ts) → (x : Span → X) (s : Span) (j : ℕ) → s ≡ span_over ts i j → Is (x (span_over ts i j)) → (row : List Sym) (xs : Values row)
       → pieces (x (span_over ts i j)) ≡ row_pieces row xs [] → RowAt v ts i row xs j → (m : ℕ) × (j ≡ i + m) × exact.IsPartAt pieces IsFormed (x s) (drop i ts) m
   node_reads solid no_more ts i fit x s j spans formed row xs are r =
       let y = x (span_over ts i j) in
-      let stands = subst (λ (l : List Piece). Stands ts i l j) (sym are) r.stands in
+      let stands = subst (λ (l : List Piece). AreTokensOf ts i l j) (sym are) r.stands in
       subst (λ (z : Span). (m : ℕ) × (j ≡ i + m) × exact.IsPartAt pieces IsFormed (x z) (drop i ts) m) (sym spans) (part_at pieces IsFormed y ts i j (formed, fits_at v ts (pieces y) i j fit stands) (solid y) no_more stands)

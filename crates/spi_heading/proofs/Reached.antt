@@ -11,7 +11,7 @@ use Rattle.spi_parse.specs.Exact as exact
 use Rattle.spi_heading.specs.Spans.{start_of, end_before}
 use Rattle.spi_heading.specs.Taking.{Takes, TakesWord}
 use Rattle.spi_heading.proofs.Failing.{FailsAt, fails_from}
-use Rattle.spi_heading.proofs.Symbols.{Sym, Tok, kind_of, Value, Item, token, name, message, ty, opening, closing}
+use Rattle.spi_heading.proofs.Symbols.{Sym, Tok, kind_of, Value, SymbolItem, token, name, message, ty, opening, closing}
 use Rattle.spi_heading.proofs.Rows.{Values, ItemAt, RowAt, RowFails, join, row_end, row_more, rows_more, fails_first, fails_behind, rows_first, rows_behind, opened, closed}
 use Rattle.spi_heading.proofs.Calls.{took, untaken, took_word, untaken_word, read_message, read_type}
 
@@ -72,7 +72,7 @@ then_closing {v = v} {ts = ts} {j = j} r = then_item r (end_before ts j) j (clos
 
 -- ---- what is left does not stand there
 
-pub no_item : {v : Bool} {ts : List Token} {i j : ℕ} {row left : List Sym} {s : Sym} {put : Values (s ∷ left) → Values row} → Reached v ts i row (s ∷ left) put j → (f : ParseFault) → FailsAt (Item v s) ts j f → RowFails v ts i row f
+pub no_item : {v : Bool} {ts : List Token} {i j : ℕ} {row left : List Sym} {s : Sym} {put : Values (s ∷ left) → Values row} → Reached v ts i row (s ∷ left) put j → (f : ParseFault) → FailsAt (SymbolItem v s) ts j f → RowFails v ts i row f
 no_item {v = v} {ts = ts} {j = j} {left = left} {s = s} r f h = r.fails f (fails_first v ts j s left f h)
 
 pub no_row : {v : Bool} {ts : List Token} {i j : ℕ} {row : List Sym} (more left : List Sym) {put : Values (more ++ left) → Values row} → Reached v ts i row (more ++ left) put j → (f : ParseFault) → RowFails v ts j more f → RowFails v ts i row f

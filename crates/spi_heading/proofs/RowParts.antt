@@ -10,7 +10,7 @@ use Rattle.spi_parse.specs.declared.fault.ParseFault.{ParseFault}
 use Rattle.spi_parse.specs.Exact as exact
 use Rattle.spi_grammar.specs.Exactly.{IsSame}
 use Rattle.spi_parts.proofs.Bridge.{OfPieces}
-use Rattle.spi_heading.proofs.Standing.{Stands, IsSolid}
+use Rattle.spi_heading.proofs.Standing.{AreTokensOf, IsSolid}
 use Rattle.spi_heading.proofs.Failing.{FailsAt, same_fail, fails_from, fails_to}
 use Rattle.spi_heading.proofs.Symbols.{Sym}
 use Rattle.spi_heading.proofs.Rows.{Values, join, AreItems, Row, row_good, row_pieces, row_into, row_from, RowAt, RowFails, row_fits}
@@ -51,12 +51,12 @@ module _ {v : Bool} {X : Type 0} {pieces : X → List Piece} {P : X → Type 0} 
     pub part_reads : AreWordsFit v (kinds_of ts) → (x : X) (j : ℕ) → RowAt v ts i row (values x) j → (n : ℕ) × (j ≡ i + n) × exact.IsPartAt pieces P x (drop i ts) n
     part_reads fit x j r =
         part_at pieces P x ts i j (is.known x r.are (row_fits v ts i j row (values x) fit r)) (is.solid x) (same_closed (Row v row) (OfPieces pieces P) rows_same (row_good v row).closed)
-        (subst (λ (l : List Piece). Stands ts i l j) (sym (is.pieces_of x)) r.stands)
+        (subst (λ (l : List Piece). AreTokensOf ts i l j) (sym (is.pieces_of x)) r.stands)
 
     pub part_row : (x : X) (j : ℕ) → i ≤ length ts → (r : (n : ℕ) × (j ≡ i + n) × exact.IsPartAt pieces P x (drop i ts) n) → RowAt v ts i row (values x) j
     part_row x j w r = record {
       are = is.are x r.2.part;
-      stands = subst (λ (l : List Piece). Stands ts i l j) (is.pieces_of x) (subst (λ (k : ℕ). Stands ts i (pieces x) k) (sym r.1) (part_stands pieces P x ts i r.0 w (is.solid x) r.2));
+      stands = subst (λ (l : List Piece). AreTokensOf ts i l j) (is.pieces_of x) (subst (λ (k : ℕ). AreTokensOf ts i (pieces x) k) (sym r.1) (part_stands pieces P x ts i r.0 w (is.solid x) r.2));
     }
 
 -- ---- such a part in a row that is read

@@ -8,15 +8,15 @@ use Rattle.spi_tree.specs.Formed.{AreWordsFit}
 use Rattle.spi_parse.specs.declared.fault.ParseFault.{ParseFault}
 use Rattle.spi_parse.proofs.Words.{fits_append, fits_front, fits_drop}
 use Rattle.spi_parse.proofs.Wholes.{fits_from}
-use Rattle.spi_grammar.specs.Exactly.{IsGood, IsSame, Then, Nothing}
+use Rattle.spi_grammar.specs.Exactly.{IsGoodKind, IsSame, Then, Nothing}
 use Rattle.spi_grammar.proofs.Answers.{good_both}
 use Rattle.spi_grammar.proofs.Good.{end_closed}
 use Rattle.spi_parts.proofs.Alone.{kinds_in_append}
 use Rattle.spi_parts.proofs.Bridge.{kinds_cells}
-use Rattle.spi_heading.proofs.Standing.{Stands, stands_both, stands_kinds, stands_clean, stands_length}
+use Rattle.spi_heading.proofs.Standing.{AreTokensOf, stands_both, stands_kinds, stands_clean, stands_length}
 use Rattle.spi_heading.specs.Spans.{start_of, end_before}
 use Rattle.spi_heading.proofs.Failing.{FailsAt, ReadAt, first_fail, second_fail, same_fail}
-use Rattle.spi_heading.proofs.Symbols.{cells_append, Sym, opening, closing, Value, item_pieces, IsItem, item_behind, Item, item_good, item_into, item_from, nothing_good}
+use Rattle.spi_heading.proofs.Symbols.{cells_append, Sym, opening, closing, Value, item_pieces, IsItem, item_behind, SymbolItem, item_good, item_into, item_from, nothing_good}
 
 abbrev pub Values : List Sym → Type 0
 Values [] = Unit {0}
@@ -32,11 +32,11 @@ AreItems v (s ∷ ss) xs = IsItem v s xs.0 × AreItems v ss xs.1
 
 abbrev pub Row : Bool → List Sym → List (Kind × Bool) → Type 0
 Row v [] = Nothing
-Row v (s ∷ ss) = Then (Item v s) (Row v ss)
+Row v (s ∷ ss) = Then (SymbolItem v s) (Row v ss)
 
-pub row_good : (v : Bool) (ss : List Sym) → IsGood (Row v ss)
+pub row_good : (v : Bool) (ss : List Sym) → IsGoodKind (Row v ss)
 row_good v [] = nothing_good
-row_good v (s ∷ ss) = good_both (Item v s) (Row v ss) (item_good v s) (row_good v ss)
+row_good v (s ∷ ss) = good_both (SymbolItem v s) (Row v ss) (item_good v s) (row_good v ss)
 
 row_cells : (s : Sym) (ss : List Sym) (x : Value s) (xs : Values ss) → cells (row_pieces (s ∷ ss) (x, xs) []) ≡ cells (item_pieces s x []) ++ cells (row_pieces ss xs [])
 row_cells s ss x xs = ap cells (item_behind s x (row_pieces ss xs [])) ∙ cells_append (item_pieces s x []) (row_pieces ss xs [])
@@ -81,11 +81,11 @@ row_from v (s ∷ ss) cs h =
 -- the values stand from token i up to token j
 pub record ItemAt (v : Bool) (ts : List Token) (i : ℕ) (s : Sym) (x : Value s) (j : ℕ) : Type 0 where
   pub is : IsItem v s x
-  pub stands : Stands ts i (item_pieces s x []) j
+  pub stands : AreTokensOf ts i (item_pieces s x []) j
 
 pub record RowAt (v : Bool) (ts : List Token) (i : ℕ) (ss : List Sym) (xs : Values ss) (j : ℕ) : Type 0 where
   pub are : AreItems v ss xs
-  pub stands : Stands ts i (row_pieces ss xs []) j
+  pub stands : AreTokensOf ts i (row_pieces ss xs []) j
 
 -- no row stands there, for this fault
 pub record RowFails (v : Bool) (ts : List Token) (i : ℕ) (ss : List Sym) (f : ParseFault) : Type 0 where
@@ -97,17 +97,17 @@ row_end v ts i = record { are = tt; stands = refl }
 pub row_more : (v : Bool) (ts : List Token) (i j k : ℕ) (s : Sym) (ss : List Sym) (x : Value s) (xs : Values ss) → ItemAt v ts i s x j → RowAt v ts j ss xs k → RowAt v ts i (s ∷ ss) (x, xs) k
 row_more v ts i j k s ss x xs h g = record {
   are = (h.is, g.are);
-  stands = subst (λ (l : List Piece). Stands ts i l k) (sym (item_behind s x (row_pieces ss xs []))) (stands_both ts (item_pieces s x []) (row_pieces ss xs []) i j k h.stands g.stands);
+  stands = subst (λ (l : List Piece). AreTokensOf ts i l k) (sym (item_behind s x (row_pieces ss xs []))) (stands_both ts (item_pieces s x []) (row_pieces ss xs []) i j k h.stands g.stands);
 }
 
 -- words of the text fit where it stands
-pub fits_at : (v : Bool) (ts : List Token) (ps : List Piece) (i j : ℕ) → AreWordsFit v (kinds_of ts) → Stands ts i ps j → AreWordsFit v (kinds_in ps)
+pub fits_at : (v : Bool) (ts : List Token) (ps : List Piece) (i j : ℕ) → AreWordsFit v (kinds_of ts) → AreTokensOf ts i ps j → AreWordsFit v (kinds_in ps)
 fits_at v ts ps i j fit h = fits_front v (kinds_in ps) (kinds_of (drop j ts)) (subst (AreWordsFit v) (stands_kinds ts ps i j h) (fits_from v i ts fit))
 
 pub row_fits : (v : Bool) (ts : List Token) (i j : ℕ) (ss : List Sym) (xs : Values ss) → AreWordsFit v (kinds_of ts) → RowAt v ts i ss xs j → AreWordsFit v (kinds_in (row_pieces ss xs []))
 row_fits v ts i j ss xs fit h = fits_at v ts (row_pieces ss xs []) i j fit h.stands
 
-pub stands_read : (L : List (Kind × Bool) → Type 0) → IsGood L → (ts : List Token) (ps : List Piece) (i j : ℕ) → L (cells ps) → Stands ts i ps j → ReadAt L ts i j
+pub stands_read : (L : List (Kind × Bool) → Type 0) → IsGoodKind L → (ts : List Token) (ps : List Piece) (i j : ℕ) → L (cells ps) → AreTokensOf ts i ps j → ReadAt L ts i j
 stands_read L good ts ps i j is h = record {
   cells = cells ps;
   reads = record {
@@ -119,14 +119,14 @@ stands_read L good ts ps i j is h = record {
   place = stands_length ts ps i j h ∙ ap (λ (l : List Kind). i + length l) (sym (kinds_cells ps));
 }
 
-item_read : (v : Bool) (ts : List Token) (i j : ℕ) (s : Sym) (x : Value s) → AreWordsFit v (kinds_of ts) → ItemAt v ts i s x j → ReadAt (Item v s) ts i j
-item_read v ts i j s x fit h = stands_read (Item v s) (item_good v s) ts (item_pieces s x []) i j (item_into v s x h.is (fits_at v ts (item_pieces s x []) i j fit h.stands)) h.stands
+item_read : (v : Bool) (ts : List Token) (i j : ℕ) (s : Sym) (x : Value s) → AreWordsFit v (kinds_of ts) → ItemAt v ts i s x j → ReadAt (SymbolItem v s) ts i j
+item_read v ts i j s x fit h = stands_read (SymbolItem v s) (item_good v s) ts (item_pieces s x []) i j (item_into v s x h.is (fits_at v ts (item_pieces s x []) i j fit h.stands)) h.stands
 
-pub fails_first : (v : Bool) (ts : List Token) (i : ℕ) (s : Sym) (ss : List Sym) (f : ParseFault) → FailsAt (Item v s) ts i f → RowFails v ts i (s ∷ ss) f
-fails_first v ts i s ss f h = record { by = first_fail (Item v s) (Row v ss) ts (item_good v s) (row_good v ss) i f h }
+pub fails_first : (v : Bool) (ts : List Token) (i : ℕ) (s : Sym) (ss : List Sym) (f : ParseFault) → FailsAt (SymbolItem v s) ts i f → RowFails v ts i (s ∷ ss) f
+fails_first v ts i s ss f h = record { by = first_fail (SymbolItem v s) (Row v ss) ts (item_good v s) (row_good v ss) i f h }
 
 pub fails_behind : (v : Bool) (ts : List Token) (i j : ℕ) (s : Sym) (ss : List Sym) (x : Value s) (f : ParseFault) → AreWordsFit v (kinds_of ts) → ItemAt v ts i s x j → RowFails v ts j ss f → RowFails v ts i (s ∷ ss) f
-fails_behind v ts i j s ss x f fit h g = record { by = second_fail (Item v s) (Row v ss) ts (item_good v s) i j (item_read v ts i j s x fit h) f g.by }
+fails_behind v ts i j s ss x f fit h g = record { by = second_fail (SymbolItem v s) (Row v ss) ts (item_good v s) i j (item_read v ts i j s x fit h) f g.by }
 
 -- a node begins where the row fails
 pub fails_opening : (v : Bool) (ts : List Token) (i : ℕ) (ss : List Sym) (f : ParseFault) → RowFails v ts i ss f → RowFails v ts i (opening ∷ ss) f
@@ -189,7 +189,7 @@ rows_behind v ts i j ss more xs f fit h g = record {
 pub rows_more : (v : Bool) (ts : List Token) (i j k : ℕ) (ss more : List Sym) (xs : Values ss) (ys : Values more) → RowAt v ts i ss xs j → RowAt v ts j more ys k → RowAt v ts i (ss ++ more) (join ss more xs ys) k
 rows_more v ts i j k ss more xs ys h g = record {
   are = are ss xs h.are;
-  stands = subst (λ (l : List Piece). Stands ts i l k) (sym (pieces ss xs)) (stands_both ts (row_pieces ss xs []) (row_pieces more ys []) i j k h.stands g.stands);
+  stands = subst (λ (l : List Piece). AreTokensOf ts i l k) (sym (pieces ss xs)) (stands_both ts (row_pieces ss xs []) (row_pieces more ys []) i j k h.stands g.stands);
 }
   where
     are : (ss : List Sym) (xs : Values ss) → AreItems v ss xs → AreItems v (ss ++ more) (join ss more xs ys)

@@ -7,15 +7,15 @@ use Rattle.spi_lex.specs.Lexing.{kinds_of}
 use Rattle.spi_tree.specs.Trees as t
 use Rattle.spi_tree.specs.Pieces.{Piece, opens, cell, closes, cells, kinds_in, in_seq, at_level, msg_pieces, ty_pieces, decl_pieces, proc_pieces}
 use Rattle.spi_parse.specs.Exact.{Spells}
-use Rattle.spi_grammar.specs.Exactly.{IsClean}
+use Rattle.spi_grammar.specs.Exactly.{IsWithinLimits}
 use Rattle.spi_heading.specs.Spans.{start_of, end_before, first_from, first_to}
 
 -- the pieces are those of the tokens from number i up to number j, and no node is above a limit
-abbrev pub Stands : List Token → ℕ → List Piece → ℕ → Type 0
-Stands ts i [] j = i ≡ j
-Stands ts i (opens from ∷ ps) j = (i < length ts) × (start_of ts i ≡ from) × Stands ts i ps j
-Stands ts i (cell k deep ∷ ps) j = (t : Token) × (more : List Token) × (drop i ts ≡ t ∷ more) × (t.kind ≡ k) × (deep ≡ false) × Stands ts (suc i) ps j
-Stands ts i (closes to ∷ ps) j = (end_before ts i ≡ to) × Stands ts i ps j
+abbrev pub AreTokensOf : List Token → ℕ → List Piece → ℕ → Type 0
+AreTokensOf ts i [] j = i ≡ j
+AreTokensOf ts i (opens from ∷ ps) j = (i < length ts) × (start_of ts i ≡ from) × AreTokensOf ts i ps j
+AreTokensOf ts i (cell k deep ∷ ps) j = (t : Token) × (more : List Token) × (drop i ts ≡ t ∷ more) × (t.kind ≡ k) × (deep ≡ false) × AreTokensOf ts (suc i) ps j
+AreTokensOf ts i (closes to ∷ ps) j = (end_before ts i ≡ to) × AreTokensOf ts i ps j
 
 -- ---- the tokens from a number on
 
@@ -74,13 +74,13 @@ same_place ts i j v w e = let a = ap length e in let b = length-drop i ts in let
 
 -- ---- pieces behind others, and what they say of the tokens
 
-pub stands_both : (ts : List Token) (ps qs : List Piece) (i j k : ℕ) → Stands ts i ps j → Stands ts j qs k → Stands ts i (ps ++ qs) k
-stands_both ts [] qs i j k h g = subst (λ (n : ℕ). Stands ts n qs k) (sym h) g
+pub stands_both : (ts : List Token) (ps qs : List Piece) (i j k : ℕ) → AreTokensOf ts i ps j → AreTokensOf ts j qs k → AreTokensOf ts i (ps ++ qs) k
+stands_both ts [] qs i j k h g = subst (λ (n : ℕ). AreTokensOf ts n qs k) (sym h) g
 stands_both ts (opens from ∷ ps) qs i j k h g = (h.0, h.1, stands_both ts ps qs i j k h.2 g)
 stands_both ts (cell x deep ∷ ps) qs i j k h g = (h.0, h.1, h.2, h.3, h.4, stands_both ts ps qs (suc i) j k h.5 g)
 stands_both ts (closes to ∷ ps) qs i j k h g = (h.0, stands_both ts ps qs i j k h.1 g)
 
-pub stands_kinds : (ts : List Token) (ps : List Piece) (i j : ℕ) → Stands ts i ps j → kinds_of (drop i ts) ≡ kinds_in ps ++ kinds_of (drop j ts)
+pub stands_kinds : (ts : List Token) (ps : List Piece) (i j : ℕ) → AreTokensOf ts i ps j → kinds_of (drop i ts) ≡ kinds_in ps ++ kinds_of (drop j ts)
 stands_kinds ts [] i j h = ap (λ (n : ℕ). kinds_of (drop n ts)) h
 stands_kinds ts (opens from ∷ ps) i j h = stands_kinds ts ps i j h.2
 stands_kinds ts (cell x deep ∷ ps) i j h =
@@ -89,19 +89,19 @@ stands_kinds ts (cell x deep ∷ ps) i j h =
     front ∙ ap (λ (k : Kind). k ∷ kinds_of h.1) h.3 ∙ ap (λ (l : List Kind). x ∷ l) rest
 stands_kinds ts (closes to ∷ ps) i j h = stands_kinds ts ps i j h.1
 
-pub stands_clean : (ts : List Token) (ps : List Piece) (i j : ℕ) → Stands ts i ps j → IsClean (cells ps)
+pub stands_clean : (ts : List Token) (ps : List Piece) (i j : ℕ) → AreTokensOf ts i ps j → IsWithinLimits (cells ps)
 stands_clean ts [] i j h = tt
 stands_clean ts (opens from ∷ ps) i j h = stands_clean ts ps i j h.2
 stands_clean ts (cell x deep ∷ ps) i j h = (h.4, stands_clean ts ps (suc i) j h.5)
 stands_clean ts (closes to ∷ ps) i j h = stands_clean ts ps i j h.1
 
-pub stands_length : (ts : List Token) (ps : List Piece) (i j : ℕ) → Stands ts i ps j → j ≡ i + length (kinds_in ps)
+pub stands_length : (ts : List Token) (ps : List Piece) (i j : ℕ) → AreTokensOf ts i ps j → j ≡ i + length (kinds_in ps)
 stands_length ts [] i j h = omega (arith, h)
 stands_length ts (opens from ∷ ps) i j h = stands_length ts ps i j h.2
 stands_length ts (cell x deep ∷ ps) i j h = let e = stands_length ts ps (suc i) j h.5 in omega arith
 stands_length ts (closes to ∷ ps) i j h = stands_length ts ps i j h.1
 
-pub stands_within : (ts : List Token) (ps : List Piece) (i j : ℕ) → i ≤ length ts → Stands ts i ps j → j ≤ length ts
+pub stands_within : (ts : List Token) (ps : List Piece) (i j : ℕ) → i ≤ length ts → AreTokensOf ts i ps j → j ≤ length ts
 stands_within ts [] i j w h = omega (arith, h)
 stands_within ts (opens from ∷ ps) i j w h = stands_within ts ps i j w h.2
 stands_within ts (cell x deep ∷ ps) i j w h = let l = within_one ts i h.0 h.1 h.2 in stands_within ts ps (suc i) j (omega arith) h.5
@@ -109,7 +109,7 @@ stands_within ts (closes to ∷ ps) i j w h = stands_within ts ps i j w h.1
 
 -- ---- to and from the public words
 
-pub spelled : (ts : List Token) (ps : List Piece) (i j : ℕ) → Stands ts i ps j → Spells (drop j ts) (end_before ts i) ps (drop i ts)
+pub spelled : (ts : List Token) (ps : List Piece) (i j : ℕ) → AreTokensOf ts i ps j → Spells (drop j ts) (end_before ts i) ps (drop i ts)
 spelled ts [] i j h = ap (λ (n : ℕ). drop n ts) h
 spelled ts (opens from ∷ ps) i j h =
     let f = one_there ts i h.0 in
@@ -120,7 +120,7 @@ spelled ts (cell x deep ∷ ps) i j h =
     (h.3, h.4, subst (λ (e : ℕ). Spells (drop j ts) e ps h.1) (ap first_to h.2) (subst (λ (l : List Token). Spells (drop j ts) (end_before ts (suc i)) ps l) (behind_one ts i h.0 h.1 h.2) (spelled ts ps (suc i) j h.5)))
 spelled ts (closes to ∷ ps) i j h = (h.0, spelled ts ps i j h.1)
 
-stands_on : (ts : List Token) (ps : List Piece) (i j : ℕ) (l : List Token) (e : ℕ) → i ≤ length ts → j ≤ length ts → drop i ts ≡ l → end_before ts i ≡ e → Spells (drop j ts) e ps l → Stands ts i ps j
+stands_on : (ts : List Token) (ps : List Piece) (i j : ℕ) (l : List Token) (e : ℕ) → i ≤ length ts → j ≤ length ts → drop i ts ≡ l → end_before ts i ≡ e → Spells (drop j ts) e ps l → AreTokensOf ts i ps j
 stands_on ts [] i j l e v w at before h = same_place ts i j v w (at ∙ h)
 stands_on ts (opens from ∷ ps) i j [] e v w at before h = absurd h
 stands_on ts (opens from ∷ ps) i j (t ∷ l) e v w at before h = (within_one ts i t l at, ap first_from at ∙ h.0, stands_on ts ps i j (t ∷ l) e v w at before h.1)
@@ -130,7 +130,7 @@ stands_on ts (cell x deep ∷ ps) i j (t ∷ l) e v w at before h =
     (t, l, at, h.0, h.1, stands_on ts ps (suc i) j l t.span.to (omega arith) w (behind_one ts i t l at) (ap first_to at) h.2)
 stands_on ts (closes to ∷ ps) i j l e v w at before h = (before ∙ h.0, stands_on ts ps i j l e v w at before h.1)
 
-pub standing : (ts : List Token) (ps : List Piece) (i j : ℕ) → i ≤ length ts → j ≤ length ts → Spells (drop j ts) (end_before ts i) ps (drop i ts) → Stands ts i ps j
+pub standing : (ts : List Token) (ps : List Piece) (i j : ℕ) → i ≤ length ts → j ≤ length ts → Spells (drop j ts) (end_before ts i) ps (drop i ts) → AreTokensOf ts i ps j
 standing ts ps i j v w h = stands_on ts ps i j (drop i ts) (end_before ts i) v w refl refl h
 
 -- ---- where the token before a part ends does not matter to it

@@ -14,7 +14,7 @@ use Rattle.spi_tree.specs.Formed.{IsWordFit, AreWordsFit, IsMsg, IsTy, IsProc}
 use Rattle.spi_parse.specs.Bare.{nowhere}
 use Rattle.spi_parse.specs.Formed.{whole_type, whole_message, whole_process, IsWholeType, IsWholeMessage, IsWholeProcess}
 use Rattle.spi_parse.proofs.Words.{fit_any, fits_append, fits_front}
-use Rattle.spi_grammar.specs.Exactly.{kinds, IsClosed, IsEven, IsGood, Then, Nothing, One}
+use Rattle.spi_grammar.specs.Exactly.{kinds, IsPrefixFree, IsEven, IsGoodKind, Then, Nothing, One}
 use Rattle.spi_grammar.proofs.Answers.{one_good}
 use Rattle.spi_parts.proofs.Bridge.{of_piece}
 use Rattle.spi_parts.proofs.Behind.{msg_behind, ty_behind, proc_behind}
@@ -79,13 +79,13 @@ tok_fits v (the_word a) = asked_fits v a
 tok_fits v the_two = tt
 
 -- a word of the version
-abbrev pub IsName : Bool → Kind → Type 0
-IsName v (K.Word name) = IsWordFit v (K.Word name)
-IsName v (K.Reserved w) = ⊥
-IsName v (K.Number n) = ⊥
-IsName v (K.Mark m) = ⊥
+abbrev pub IsNameKind : Bool → Kind → Type 0
+IsNameKind v (K.Word name) = IsWordFit v (K.Word name)
+IsNameKind v (K.Reserved w) = ⊥
+IsNameKind v (K.Number n) = ⊥
+IsNameKind v (K.Mark m) = ⊥
 
-pub name_token : (v : Bool) (k : Kind) → IsName v k → (name : List ℕ) × (k ≡ K.Word name) × IsWordFit v k
+pub name_token : (v : Bool) (k : Kind) → IsNameKind v k → (name : List ℕ) × (k ≡ K.Word name) × IsWordFit v k
 name_token v (K.Word name) h = (name, refl, h)
 name_token v (K.Reserved w) h = absurd h
 name_token v (K.Number n) h = absurd h
@@ -147,10 +147,10 @@ item_behind closing n r = refl
 
 -- ---- their kinds
 
-pub nothing_good : IsGood (Nothing {K = Kind})
+pub nothing_good : IsGoodKind (Nothing {K = Kind})
 nothing_good = record { live = ([], refl); closed = closed; even = even }
   where
-    closed : IsClosed (Nothing {K = Kind})
+    closed : IsPrefixFree (Nothing {K = Kind})
     closed a b la lb k x e =
         let left : kinds b ≡ [] = ap kinds lb in
         let right : kinds a ≡ [] = ap kinds la in
@@ -165,18 +165,18 @@ nothing_good = record { live = ([], refl); closed = closed; even = even }
         none (c ∷ before) after g = cc
 
 module _ (v : Bool) where
-  abbrev pub Item : Sym → List (Kind × Bool) → Type 0
-  Item (token x) = One (λ k. k ≡ kind_of x)
-  Item name = One (IsName v)
-  Item message = Messages v
-  Item ty = Types v
-  Item braced = Then (Processes v) (One IsBraceClose)
-  Item opening = Nothing
-  Item closing = Nothing
+  abbrev pub SymbolItem : Sym → List (Kind × Bool) → Type 0
+  SymbolItem (token x) = One (λ k. k ≡ kind_of x)
+  SymbolItem name = One (IsNameKind v)
+  SymbolItem message = Messages v
+  SymbolItem ty = Types v
+  SymbolItem braced = Then (Processes v) (One IsBraceClose)
+  SymbolItem opening = Nothing
+  SymbolItem closing = Nothing
 
-  pub item_good : (s : Sym) → IsGood (Item s)
+  pub item_good : (s : Sym) → IsGoodKind (SymbolItem s)
   item_good (token x) = one_good (λ k. k ≡ kind_of x) (kind_of x) refl
-  item_good name = one_good (IsName v) (K.Word (spelling shared)) (asked_fits v shared)
+  item_good name = one_good (IsNameKind v) (K.Word (spelling shared)) (asked_fits v shared)
   item_good message = record { live = messages_live v; closed = messages_closed v; even = messages_even v }
   item_good ty = record { live = types_live v; closed = types_closed v; even = types_even v }
   item_good braced = braced_good v
@@ -190,7 +190,7 @@ module _ (v : Bool) where
   braced_kinds p = ap kinds_in (proc_behind (at_level 0) p (a_mark mark.BraceClose [])) ∙ kinds_in_append (whole_process p) (a_mark mark.BraceClose [])
 
   -- the cells of a value are of the kind
-  pub item_into : (s : Sym) (x : Value s) → IsItem v s x → AreWordsFit v (kinds_in (item_pieces s x [])) → Item s (cells (item_pieces s x []))
+  pub item_into : (s : Sym) (x : Value s) → IsItem v s x → AreWordsFit v (kinds_in (item_pieces s x [])) → SymbolItem s (cells (item_pieces s x []))
   item_into (token x) y h fit = record { token = kind_of x; is = refl; cells = refl }
   item_into name w h fit = record { token = K.Word w.word; is = fit.0; cells = refl }
   item_into message m h fit = of_piece whole_message (IsWholeMessage v) m (h, fit)
@@ -212,7 +212,7 @@ module _ (v : Bool) where
     pub fit : AreWordsFit v (kinds_in (item_pieces s value []))
     pub shows : cells (item_pieces s value []) ≡ cs
 
-  pub item_from : (s : Sym) (cs : List (Kind × Bool)) → Item s cs → FromItem s cs
+  pub item_from : (s : Sym) (cs : List (Kind × Bool)) → SymbolItem s cs → FromItem s cs
   item_from (token x) cs h = record { value = tt; is = tt; fit = (tok_fits v x, tt); shows = sym (h.cells ∙ ap (λ (k : Kind). (k, false) ∷ []) h.is) }
   item_from name cs h =
       let n = name_token v h.token h.is in

@@ -1,7 +1,7 @@
 -- Kinds whose parts are rows, each told by its first token, are good.
 use Rattle.std.proofs.Common.{◌≡◌, Bool, List, [], ◌∷◌, ◌++◌, sym, ap, ◌∙◌, ◌⊎◌, inl, inr}
 use Rattle.spi_lex.specs.declared.token.Kind.{Kind}
-use Rattle.spi_grammar.specs.Exactly.{kinds, IsLive, IsClosed, IsEven, IsGood}
+use Rattle.spi_grammar.specs.Exactly.{kinds, IsLive, IsPrefixFree, IsEven, IsGoodKind}
 use Rattle.spi_grammar.proofs.Cuts.{deep_begins}
 use Rattle.spi_heading.proofs.Failing.{IsToldBy}
 use Rattle.spi_heading.proofs.Symbols.{Sym}
@@ -24,7 +24,7 @@ module _ (v : Bool) (M : List (Kind × Bool) → Type 0) (forms : (a : List (Kin
       go (inl h) = h
       go (inr never) = absurd (never x e)
 
-  forms_closed : IsClosed M
+  forms_closed : IsPrefixFree M
   forms_closed a b ma mb k x e =
       let f = forms a ma in
       let longer : kinds b ≡ f.first ∷ (f.begins.0 ++ k ∷ x) = e ∙ ap (λ (l : List Kind). l ++ k ∷ x) f.begins.1 in
@@ -41,5 +41,5 @@ module _ (v : Bool) (M : List (Kind × Bool) → Type 0) (forms : (a : List (Kin
       head [] h y e c g = let j : h ≡ k = cc in (c, g ∙ ap (λ (w : Kind). w ∷ c) (sym j))
       head (q ∷ p) h y e c g = let j : h ≡ q = cc in (p ++ k ∷ c, g ∙ ap (λ (w : Kind). w ∷ (p ++ k ∷ c)) (sym j))
 
-  pub forms_good : IsLive M → IsGood M
+  pub forms_good : IsLive M → IsGoodKind M
   forms_good live = record { live = live; closed = forms_closed; even = forms_even }

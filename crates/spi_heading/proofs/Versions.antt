@@ -12,7 +12,7 @@ use Rattle.spi_parse.specs.declared.fault.ParseFault.{ParseFault}
 use Rattle.spi_parse.specs.declared.fault.ParseFault.TheVariants as faults
 use Rattle.spi_grammar.specs.Exactly.{kinds, IsLive, IsSame, Either, Then}
 use Rattle.spi_grammar.proofs.Cuts.{kinds_append}
-use Rattle.spi_grammar.proofs.Along.{Leads, either_this, either_other}
+use Rattle.spi_grammar.proofs.Along.{LeadsAlong, either_this, either_other}
 use Rattle.spi_heading.specs.Taking.{IsThere, version_word, ReadsVersion}
 use Rattle.spi_heading.proofs.Standing.{found, behind_one}
 use Rattle.spi_heading.proofs.Symbols.{Sym, token, the_mark, the_word, the_two, version}
@@ -90,8 +90,8 @@ module _ (Whole : Cells → Type 0) (Body : Bool → Cells → Type 0) (same : I
       let x = kinds_at ts 0 version_word a in
       let r = rest_start Whole (Either (Later Body) (Body false)) ts same in
       record {
-        by = subst (λ (l : List Kind). Leads Whole (Later Body) (kinds_of ts) 0 l) (sym x.1)
-            (either_this Whole (Later Body) (Body false) (kinds_of ts) 0 version_word (kinds_of x.0) (subst (λ (l : List Kind). Leads Whole (Either (Later Body) (Body false)) (kinds_of ts) 0 l) x.1 r.by) (λ b lb y e. never b lb y e));
+        by = subst (λ (l : List Kind). LeadsAlong Whole (Later Body) (kinds_of ts) 0 l) (sym x.1)
+            (either_this Whole (Later Body) (Body false) (kinds_of ts) 0 version_word (kinds_of x.0) (subst (λ (l : List Kind). LeadsAlong Whole (Either (Later Body) (Body false)) (kinds_of ts) 0 l) x.1 r.by) (λ b lb y e. never b lb y e));
       }
 
   pub after_version : (ts : List Token) → AreWordsFit (is_version_2 (kinds_of ts)) (kinds_of ts) → (r : ℕ × ℕ) → ReadsVersion (Ok r) ts → Rest Whole (Body (r.0 == 2)) ts r.1

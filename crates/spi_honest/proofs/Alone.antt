@@ -8,7 +8,7 @@ use Rattle.spi_tree.specs.Trees as t
 use Rattle.spi_narrate.specs.Narrations as n
 use Rattle.spi_term.specs.Term.{Message, name, Ty, Process, split, select, decrypt, check, begin, end, end_many, cast, fresh}
 use Rattle.spi_term.specs.Substitution.{process_put, process_put_two}
-use Rattle.spi_run.specs.Reduction.{Event, begun, ended, ended_many, Acts, acts_split, acts_match, acts_decrypt, acts_check, acts_begin, acts_end, acts_end_many, acts_cast, acts_new}
+use Rattle.spi_run.specs.Reduction.{Event, begun, ended, ended_many, Acts, acts_split, acts_select, acts_decrypt, acts_check, acts_begin, acts_end, acts_end_many, acts_cast, acts_fresh}
 use Rattle.spi_replay.specs.Holding.{IsClosed}
 use Rattle.spi_replay.specs.Stepping.{largest, bound_here}
 use Rattle.spi_scope.specs.Scope.{Word}
@@ -89,7 +89,7 @@ does_acts s (n.split z m x t y u) rest g r c h (does_split {a = a} {b = b} v) =
     })
 does_acts s (n.match z m x t l y u) rest g r c h (does_match {a = a} {b = b} v q) =
     let w = subst IsClosed v (valued_closed (word_in g) c m) in
-    alone_at (h.3 ∙ ap (λ z. select z h.0 (value g l) h.1 h.2) v) (binds_one y b h.2 c w.1 (acts_match q) h.4 refl)
+    alone_at (h.3 ∙ ap (λ z. select z h.0 (value g l) h.1 h.2) v) (binds_one y b h.2 c w.1 (acts_select q) h.4 refl)
 does_acts s (n.decrypt z m x t l) rest g r c h (does_decrypt {a = a} {b = b} v q) =
     let w = subst IsClosed v (valued_closed (word_in g) c m) in
     alone_at (h.2 ∙ ap (λ z. decrypt z h.0 (value g l) h.1) v) (binds_one x a h.1 c w.0 (acts_decrypt q) h.3 refl)
@@ -98,7 +98,7 @@ does_acts s (n.begin z m) rest g r c h does_begin = alone_at h.1 (record { now =
 does_acts s (n.end z m) rest g r c h does_end = alone_at h.1 (record { now = h.0; acts = acts_end; holds = h.2; closed = c; size = refl })
 does_acts s (n.end_many z m) rest g r c h does_end_many = alone_at h.1 (record { now = h.0; acts = acts_end_many; holds = h.2; closed = c; size = refl })
 does_acts s (n.cast z m x t) rest g r c h does_cast = alone_at h.2 (binds_one x (value g m) h.1 c (valued_closed (word_in g) c m) acts_cast h.3 refl)
-does_acts {k} s (n.new z x t) rest g r c h does_new = alone_at h.2 (binds_one x (name k) h.1 c tt acts_new h.3 refl)
+does_acts {k} s (n.new z x t) rest g r c h does_new = alone_at h.2 (binds_one x (name k) h.1 c tt acts_fresh h.3 refl)
 
 -- and the other way
 pub record DoesSome (k : ℕ) (g : Map) (f : n.Prefix) (e : Option Event) (k' : ℕ) : Type 0 where
@@ -109,7 +109,7 @@ split_does : {k k' : ℕ} {e : Option Event} {g : Map} {now : Process} {ps : Lis
 split_does v q acts_split = record { more = _; does = does_split q }
 
 match_does : {k k' : ℕ} {e : Option Event} {g : Map} {now : Process} {ps : List Process} {z : Span} {m l : t.Msg} {x y : SWord} {b c : t.Ty} (v w : Message) {t u : Ty} {p : Process} → value g m ≡ v → value g l ≡ w → Acts k (select v t w u p) e k' now ps → DoesSome k g (n.match z m x b l y c) e k'
-match_does v w q r (acts_match f) = record { more = _; does = does_match q (f ∙ sym r) }
+match_does v w q r (acts_select f) = record { more = _; does = does_match q (f ∙ sym r) }
 
 decrypt_does : {k k' : ℕ} {e : Option Event} {g : Map} {now : Process} {ps : List Process} {z : Span} {m l : t.Msg} {x : SWord} {b : t.Ty} (v w : Message) {t : Ty} {p : Process} → value g m ≡ v → value g l ≡ w → Acts k (decrypt v t w p) e k' now ps → DoesSome k g (n.decrypt z m x b l) e k'
 decrypt_does v w q r (acts_decrypt f) = record { more = _; does = does_decrypt q (f ∙ sym r) }
@@ -133,7 +133,7 @@ cast_does : {k k' : ℕ} {e : Option Event} {g : Map} {z : Span} {m : t.Msg} {x 
 cast_does v acts_cast = record { more = _; does = does_cast }
 
 new_does : {k k' : ℕ} {e : Option Event} {g : Map} {z : Span} {x : SWord} {b : t.Ty} {t : Ty} {p : Process} {now : Process} {ps : List Process} → Acts k (fresh t p) e k' now ps → DoesSome k g (n.new z x b) e k'
-new_does acts_new = record { more = _; does = does_new }
+new_does acts_fresh = record { more = _; does = does_new }
 
 acts_as : {k k' : ℕ} {e : Option Event} {r r' now : Process} {ps : List Process} → r ≡ r' → Acts k r e k' now ps → Acts k r' e k' now ps
 acts_as {k} {k'} {e} {now = now} {ps = ps} q a = subst (λ z. Acts k z e k' now ps) q a

@@ -16,7 +16,7 @@ use Rattle.spi_honest.specs.declared.honest.Honest.{Honest}
 use Rattle.spi_honest.specs.declared.stage.Stage.{Stage}
 use Rattle.spi_honest.specs.Reading.{Map}
 use Rattle.spi_honest.specs.Narrated.{NarratesSmall, free_of, begins}
-use Rattle.spi_honest.specs.Standing.{Stands, Stopped, left}
+use Rattle.spi_honest.specs.Standing.{StandRoles, StoppedRoles, left}
 use Rattle.spi_honest.specs.Honest.{IsHonest}
 use Rattle.spi_honest.specs.Progress.{Progress}
 use Rattle.spi_honest.specs.Stages.{ToldTo, steps_in, events_in}
@@ -30,7 +30,7 @@ at_place place i (q ∷ qs) =
     (λ d. ⊎_elim (λ f. inl (f.0, in_later f.1, f.2)) (λ g. inr (λ r m e. ⊎_elim (λ z. d (ap (λ v. place v.word) (sym z) ∙ e)) (λ a. g r a e) (in_cases m))) (at_place place i qs))
     (cases_eq (place q.word) i)
 
-pub all_stop : {roles : List SWord} {place : Word → ℕ} {has : Word → Map} {ps : List Process} → Stands roles place (left []) has Stopped ps → (i : ℕ) (p : Process) → At ps i p → p ≡ stop
+pub all_stop : {roles : List SWord} {place : Word → ℕ} {has : Word → Map} {ps : List Process} → StandRoles roles place (left []) has StoppedRoles ps → (i : ℕ) (p : Process) → At ps i p → p ≡ stop
 all_stop {roles} {place} {ps = ps} h i p a =
     ⊎_elim (λ f. let s = h.there f.0 f.1 in at_unique a (subst (λ k. At ps k s.process) f.2 s.there) ∙ s.holds) (λ d. h.others i p a d) (at_place place i roles)
 

@@ -17,11 +17,11 @@ use Rattle.spi_honest.specs.declared.fault.HonestFault.{HonestFault}
 use Rattle.spi_honest.specs.declared.fault.HonestFault.TheVariants.{LineNotReady, NarratedTooLarge, NoMemory}
 use Rattle.spi_honest.specs.Narrated.{free_of}
 use Rattle.spi_honest.specs.Schedule.{moved}
-use Rattle.spi_honest.specs.Roles.{AreDistinct, IsRole, IsTellable}
+use Rattle.spi_honest.specs.Roles.{AreRolesDistinct, IsRole, IsTellable}
 use Rattle.spi_honest.specs.Standing.{AreApart, Locates}
-use Rattle.spi_honest.specs.Honest.{IsNotReady, IsTooLarge, HasFault}
+use Rattle.spi_honest.specs.Honest.{IsNotReady, IsTooLarge, HasHonestFault}
 use Rattle.spi_honest.specs.Progress.{Progress}
-use Rattle.spi_honest.specs.Stages.{TookStep, IsRoomy, IsRefused, IsRoleAt, ToldTo, steps_in, events_in, IsPassAt, IsParted, PutsAt, TakesAt}
+use Rattle.spi_honest.specs.Stages.{TookStep, IsRoomy, IsStepRefused, IsRoleAt, ToldTo, steps_in, events_in, IsPassAt, IsParted, PutsAt, TakesAt}
 use Rattle.spi_rules.proofs.Typing.{at_below}
 use Rattle.spi_honest.proofs.Places.{at_set, at_set_other}
 use Rattle.spi_honest.proofs.Settled.{apart_of, distinct_at}
@@ -31,7 +31,7 @@ use Rattle.spi_honest.proofs.Passing.{can_part, parted_is, parted_now, meets_fre
 use Rattle.spi_honest.proofs.Playing.{told_here, told_then, before_few, wrong_here, role_at, place_read}
 
 -- the place of one role is another
-pub located_set : {roles : List SWord} {place : Word → ℕ} {is : List ℕ} {w : Word} (j k : ℕ) → AreDistinct roles → Locates roles place is → IsRoleAt roles w j → Locates roles (moved w k place) (slice_set is j k)
+pub located_set : {roles : List SWord} {place : Word → ℕ} {is : List ℕ} {w : Word} (j k : ℕ) → AreRolesDistinct roles → Locates roles place is → IsRoleAt roles w j → Locates roles (moved w k place) (slice_set is j k)
 located_set {roles} {place} {is} {w} j k d h r = record {
   many = length-set is j k ∙ h.many;
   each = λ i q e. ⊎_elim (same i q e) (other i q e) (cases_eq j i);
@@ -155,7 +155,7 @@ module _ (x : n.Narration) (file : Meant) (at j k i out : ℕ) (old : Stage) (ok
     subst (λ c. TakesAt (name i) c.places inp) (sym old_is) (subst (λ z. TakesAt (name i) places_now z) (sym inp_is) (free_inp parted.line.span parted.line.from parted.line.to parted.line.channel parted.line.datum parted.line.name apart from_is to_is i parted.line.number parted.told b)),
   )
 
-  pub apart_bad : (Met → ⊥) → (LineNotReady at ≡ NoMemory) ⊎ HasFault x (LineNotReady at)
+  pub apart_bad : (Met → ⊥) → (LineNotReady at ≡ NoMemory) ⊎ HasHonestFault x (LineNotReady at)
   apart_bad d =
       inr (wrong_here x file at (n.pass parted.line.span parted.line.from parted.line.to parted.line.channel parted.line.datum parted.line.name) parted.line.here at (IsNotReady (free_of x)) refl parted.told
       (pass_not_ready parted.line.span parted.line.from parted.line.to parted.line.channel parted.line.datum parted.line.name apart from_is to_is i parted.line.number parted.told (λ b. d (are_met b))))
@@ -197,7 +197,7 @@ module _ (x : n.Narration) (file : Meant) (at j k i out : ℕ) (old : Stage) (ok
     bound_is : largest (bound_by old.pool.configuration (talk out inp)) ≡ largest (bound_by (at_places parted.pool.configuration.names places_now) (talk (parted.told.place parted.line.from.word) (place_now parted.line.to.word)))
     bound_is = λ z. largest (bound_by (old_is z) (its_talk z))
 
-    meet_refused : (f : HonestFault) → IsRefused old.pool (talk out inp) at f → HasFault x f
+    meet_refused : (f : HonestFault) → IsStepRefused old.pool (talk out inp) at f → HasHonestFault x f
     meet_refused (LineNotReady m) r = absurd (r.1 (_, _, talk_takes))
     meet_refused (NarratedTooLarge m nodes) r =
         let s = pass_size parted.line.span parted.line.from parted.line.to parted.line.channel parted.line.datum parted.line.name apart from_is to_is i parted.line.number parted.told both in
@@ -205,5 +205,5 @@ module _ (x : n.Narration) (file : Meant) (at j k i out : ℕ) (old : Stage) (ok
         (record { more = _; event = None; then = _; tells = pass_tells parted.line.span parted.line.from parted.line.to parted.line.channel parted.line.datum parted.line.name apart from_is to_is i parted.line.number parted.told both; large = omega (arith, s, bound_is, r.2); count = r.3 ∙ ap stopped (bound_is ∙ s) })
     meet_refused NoMemory r = r
 
-    pub meet_bad : (f : HonestFault) → (f ≡ NoMemory) ⊎ IsRefused old.pool (talk out inp) at f → (f ≡ NoMemory) ⊎ HasFault x f
+    pub meet_bad : (f : HonestFault) → (f ≡ NoMemory) ⊎ IsStepRefused old.pool (talk out inp) at f → (f ≡ NoMemory) ⊎ HasHonestFault x f
     meet_bad f r = ⊎_elim (λ e. inl e) (λ r. inr (meet_refused f r)) r

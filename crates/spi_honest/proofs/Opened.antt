@@ -7,7 +7,7 @@ use Rattle.spi_term.specs.Lists.{At, at_first, at_later}
 use Rattle.spi_term.proofs.Lists.{at_get}
 use Rattle.spi_term.specs.Term.{name, Process}
 use Rattle.spi_term.specs.Substitution.{process_put}
-use Rattle.spi_run.specs.Reduction.{Step, act, Event, Acts, acts_new, acts_par, Takes, takes_act}
+use Rattle.spi_run.specs.Reduction.{Step, act, Event, Acts, acts_fresh, acts_par, Takes, takes_act}
 use Rattle.spi_run.proofs.Once.{takes_once}
 use Rattle.spi_replay.specs.Stepping.{Pooled, IsTaken, largest, bound_here, by_place, bound_by}
 use Rattle.spi_scope.specs.Scope.{Names}
@@ -18,7 +18,7 @@ use Rattle.spi_honest.specs.Narrated.{at, free_of, with_shared, begins}
 use Rattle.spi_honest.specs.Schedule.{role_steps}
 use Rattle.spi_honest.specs.Holds.{Holds}
 use Rattle.spi_honest.specs.Honest.{Replays, opening}
-use Rattle.spi_honest.specs.Progress.{place_number, beside_stop, steps_behind, Shares, Each, each_none, each_role, Spreads}
+use Rattle.spi_honest.specs.Progress.{place_number, beside_stop, steps_behind, Shares, Each, each_none, each_role, SpreadsRoles}
 use Rattle.spi_honest.proofs.Held.{holds_one}
 use Rattle.spi_honest.proofs.Meant.{names_closed}
 use Rattle.spi_rules.proofs.Typing.{at_last}
@@ -42,7 +42,7 @@ module _ {x : n.Narration} {file : Meant} {before rest : List Shared} {pool : Po
   share_takes : Takes pool.configuration (act 0) None (at_places (suc pool.configuration.names) (beside_stop (shared_now ∷ [])))
   share_takes =
       subst (λ ps. Takes (at_places pool.configuration.names ps) (act 0) None (at_places (suc pool.configuration.names) (beside_stop (shared_now ∷ [])))) (sym h.places)
-      (takes_act at_first (subst (λ z. Acts pool.configuration.names z None (suc pool.configuration.names) shared_now []) (sym h.holds.2) acts_new))
+      (takes_act at_first (subst (λ z. Acts pool.configuration.names z None (suc pool.configuration.names) shared_now []) (sym h.holds.2) acts_fresh))
 
   share_small : largest (bound_by pool.configuration (act 0)) ≡ 1
   share_small = ap (λ ps. largest (by_place (bound_here pool.configuration.names) (slice_get ps 0))) h.places ∙ ap (λ z. largest (bound_here pool.configuration.names z)) h.holds.2
@@ -99,7 +99,7 @@ each_more r p each_none g = each_role g each_none
 each_more r p (each_role h e) g = each_role h (each_more r p e g)
 
 -- the act of a composition of roles
-module _ {x : n.Narration} {file : Meant} {before rest : List SWord} {r q : SWord} {pool : Pooled} {steps : List Step} (h : Spreads x file before r (q ∷ rest) pool steps) where
+module _ {x : n.Narration} {file : Meant} {before rest : List SWord} {r q : SWord} {pool : Pooled} {steps : List Step} (h : SpreadsRoles x file before r (q ∷ rest) pool steps) where
   abbrev pub spread_place : ℕ
   spread_place = place_number (length before)
 
@@ -140,7 +140,7 @@ module _ {x : n.Narration} {file : Meant} {before rest : List SWord} {r q : SWor
   pub can_spread : length before ≤ 8 → IsTaken pool (act spread_place) None (record { configuration = at_places pool.configuration.names spread_now; most = pool.most })
   can_spread few = record { takes = spread_takes; small = let b = ap largest spread_small in omega (arith, b); few = let m = spread_many in omega (arith, m, h.most, few); most = refl }
 
-  pub spread_more : {e : Option Event} {new : Pooled} → IsTaken pool (act spread_place) e new → (e ≡ None) × Spreads x file (before ++ r ∷ []) q rest new (steps ++ act spread_place ∷ [])
+  pub spread_more : {e : Option Event} {new : Pooled} → IsTaken pool (act spread_place) e new → (e ≡ None) × SpreadsRoles x file (before ++ r ∷ []) q rest new (steps ++ act spread_place ∷ [])
   spread_more {e} {new} t =
       let u = takes_once t.takes spread_takes in
       let z = length-append before (r ∷ []) in

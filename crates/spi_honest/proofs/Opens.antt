@@ -14,7 +14,7 @@ use Rattle.spi_weave.specs.Woven.{woven}
 use Rattle.spi_honest.specs.declared.stage.Stage.{Stage}
 use Rattle.spi_honest.specs.Roles.{IsTellable}
 use Rattle.spi_honest.specs.Honest.{opening}
-use Rattle.spi_honest.specs.Progress.{Progress, place_number, ArePlaces, Shares, Spreads}
+use Rattle.spi_honest.specs.Progress.{Progress, place_number, AreRolePlaces, Shares, SpreadsRoles}
 use Rattle.spi_honest.specs.Stages.{TookStep, SharesTo, SpreadsTo, ToldTo, steps_in, events_in}
 use Rattle.spi_honest.proofs.Settled.{share_first, spread_first, settled}
 use Rattle.spi_honest.proofs.Opened.{can_share, share_more, can_spread, spread_more}
@@ -77,8 +77,8 @@ module _ (x : n.Narration) (file : Meant) (i : ℕ) (old : Stage) (h : SpreadsTo
   next : (q : SWord) × (slice_get x.roles (suc i) ≡ Some q)
   next = get_some x.roles (suc i) below
 
-  spreads : Spreads x file (take i x.roles) h.role (next.0 ∷ drop (suc (suc i)) x.roles) old.pool (steps_in old)
-  spreads = subst (λ rs. Spreads x file (take i x.roles) h.role rs old.pool (steps_in old)) (dropped x.roles (suc i) next.1) h.spreads
+  spreads : SpreadsRoles x file (take i x.roles) h.role (next.0 ∷ drop (suc (suc i)) x.roles) old.pool (steps_in old)
+  spreads = subst (λ rs. SpreadsRoles x file (take i x.roles) h.role rs old.pool (steps_in old)) (dropped x.roles (suc i) next.1) h.spreads
 
   many : length (take i x.roles) ≡ i
   many = taken_length x.roles i (omega (arith, below))
@@ -96,8 +96,8 @@ module _ (x : n.Narration) (file : Meant) (i : ℕ) (old : Stage) (h : SpreadsTo
         role = next.0;
         here = next.1;
         spreads =
-            subst (λ rs. Spreads x file rs next.0 (drop (suc (suc i)) x.roles) new.pool (steps_in new)) (sym (taken x.roles i h.here))
-            (subst (λ ss. Spreads x file (take i x.roles ++ h.role ∷ []) next.0 (drop (suc (suc i)) x.roles) new.pool ss) (ap (λ z. steps_in old ++ act z ∷ []) place_is ∙ sym t.steps) m.1);
+            subst (λ rs. SpreadsRoles x file rs next.0 (drop (suc (suc i)) x.roles) new.pool (steps_in new)) (sym (taken x.roles i h.here))
+            (subst (λ ss. SpreadsRoles x file (take i x.roles ++ h.role ∷ []) next.0 (drop (suc (suc i)) x.roles) new.pool ss) (ap (λ z. steps_in old ++ act z ∷ []) place_is ∙ sym t.steps) m.1);
         quiet = t.events ∙ (λ z. h.quiet z ++ option_to_list (m.0 z));
       })
 
@@ -107,13 +107,13 @@ shares_spread x file i st r rs ok e f h =
     record {
       role = r;
       here = ap (λ l. slice_get l 0) e;
-      spreads = subst (λ qs. Spreads x file [] r qs st.pool (steps_in st)) (sym (ap (λ l. drop 1 l) e)) s;
+      spreads = subst (λ qs. SpreadsRoles x file [] r qs st.pool (steps_in st)) (sym (ap (λ l. drop 1 l) e)) s;
       quiet = h.quiet;
     }
 
-pub spread_told : (x : n.Narration) (file : Meant) (i : ℕ) (st now : Stage) → IsTellable x → length x.roles ≤ suc i → SpreadsTo x file i st → ArePlaces (length x.roles) now.places.items → now.pool ≡ st.pool → now.steps ≡ st.steps → now.events ≡ st.events → ToldTo x file 0 now
+pub spread_told : (x : n.Narration) (file : Meant) (i : ℕ) (st now : Stage) → IsTellable x → length x.roles ≤ suc i → SpreadsTo x file i st → AreRolePlaces (length x.roles) now.places.items → now.pool ≡ st.pool → now.steps ≡ st.steps → now.events ≡ st.events → ToldTo x file 0 now
 spread_told x file i st now ok f h a b c d =
     subst (λ p. Progress x file [] x.lines p (steps_in now) (events_in now) now.places.items) (sym b)
     (subst (λ ss. Progress x file [] x.lines st.pool ss (events_in now) now.places.items) (sym (ap (λ v. map step v.items) c))
     (subst (λ es. Progress x file [] x.lines st.pool (steps_in st) es now.places.items) (sym (ap (λ v. map event v.items) d ∙ h.quiet))
-    (settled now.places.items ok a (subst (λ rs. Spreads x file (take i x.roles) h.role rs st.pool (steps_in st)) (all_dropped x.roles (suc i) f) h.spreads))))
+    (settled now.places.items ok a (subst (λ rs. SpreadsRoles x file (take i x.roles) h.role rs st.pool (steps_in st)) (all_dropped x.roles (suc i) f) h.spreads))))

@@ -15,10 +15,10 @@ use Rattle.spi_replay.specs.Ready.{PutsOut, puts_out, TakesIn, takes_once as tak
 use Rattle.spi_scope.specs.Scope.{Word, Names, number_of}
 use Rattle.spi_scope.specs.StandsFor.{Meant}
 use Rattle.spi_honest.specs.Reading.{Map, at_word, or_unit, word_in, value}
-use Rattle.spi_honest.specs.Narrated.{at, giving, Told, IsFree, Tells, tells_pass, shown, free_of}
+use Rattle.spi_honest.specs.Narrated.{at, giving, Told, IsFree, TellsLine, tells_pass, shown, free_of}
 use Rattle.spi_honest.specs.Schedule.{moved, line_steps}
 use Rattle.spi_honest.specs.Roles.{IsRole}
-use Rattle.spi_honest.specs.Standing.{AreApart, Stands, Stopped, StoppedBut, Locates, left}
+use Rattle.spi_honest.specs.Standing.{AreApart, StandRoles, StoppedRoles, StoppedBut, Locates, left}
 use Rattle.spi_honest.specs.Progress.{Progress}
 use Rattle.spi_honest.proofs.Steps.{at_places, mid, parted, parts_takes, parts_bound, parts_stand, parts_out, parts_none, parts_length, receives, talk_takes, talk_bound, talk_stands, talk_length, received_now}
 use Rattle.spi_honest.proofs.Alone.{valued_closed}
@@ -48,7 +48,7 @@ two_order : {xs : List Step} (ys : List Step) (s r : Step) {zs ws : List Step} �
 two_order ys s r {ws = ws} e f = e ∙ ap (λ z. ys ++ (s ∷ r ∷ z)) f ∙ sym (append_assoc ys (s ∷ []) (r ∷ ws)) ∙ sym (append_assoc (ys ++ s ∷ []) (r ∷ []) ws)
 
 -- a process at a place puts out, or takes in, on a channel
-pub record Puts (m : Message) (ps : List Process) (i : ℕ) : Type 0 where
+pub record PutsOrTakes (m : Message) (ps : List Process) (i : ℕ) : Type 0 where
   pub process : Process
   pub there : At ps i process
   pub puts : PutsOut m process
@@ -91,7 +91,7 @@ module _ {x : n.Narration} {file : Meant} {before rest : List n.Line} {pool : Po
   pub out_there : At parted_now out_place (send its_channel its_datum)
   out_there = parts_out once s from to c m w rest kf h.stands
 
-  pub stand_mid : Stands x.roles place_then (mid to s c w rest) h.told.has (StoppedBut out_place) parted_now
+  pub stand_mid : StandRoles x.roles place_then (mid to s c w rest) h.told.has (StoppedBut out_place) parted_now
   stand_mid = parts_stand once s from to c m w rest kf h.stands
 
   pub none_mid : (r : SWord) → In r x.roles → place_then r.word ≡ out_place → ⊥
@@ -114,7 +114,7 @@ module _ {x : n.Narration} {file : Meant} {before rest : List n.Line} {pool : Po
   pub free_inp : BothFree → (p : Process) × At parted_now (place_then to.word) p × TakesIn (name i) p
   free_inp b = (_, inp_there.2, subst (λ z. TakesIn z (recv (word_in (h.told.has to.word) c.word) inp_there.0 inp_there.1)) b.1 takes_in_once)
 
-  pub pass_not_ready : (BothFree → ⊥) → (more : Map) (e : Option Event) (p : Told) → Tells (free_of x) h.told (n.pass s from to c m w) more e p → ⊥
+  pub pass_not_ready : (BothFree → ⊥) → (more : Map) (e : Option Event) (p : Told) → TellsLine (free_of x) h.told (n.pass s from to c m w) more e p → ⊥
   pass_not_ready never more e p (tells_pass f g) = never (free_is i free f, free_is i free g)
 
   module _ (both : BothFree) where
@@ -130,13 +130,13 @@ module _ {x : n.Narration} {file : Meant} {before rest : List n.Line} {pool : Po
     abbrev pub told_now : Told
     told_now = record { names = h.told.names; has = giving to.word bound_now h.told.has }
 
-    pub pass_tells : Tells (free_of x) h.told (n.pass s from to c m w) bound_now None told_now
+    pub pass_tells : TellsLine (free_of x) h.told (n.pass s from to c m w) bound_now None told_now
     pass_tells = tells_pass (is_free i free both.0) (is_free i free both.1)
 
     pub pass_size : largest (bound_by (at_places k parted_now) (talk out_place (place_then to.word))) ≡ largest (shown bound_now None)
     pass_size = ap largest (talk_bound once s to c w rest kt out_place its_channel its_datum stand_mid out_there none_mid (valued_closed (word_in (h.told.has from.word)) (h.stands.closed from.word) m) k)
 
-    pass_stands : Stands x.roles place_then (left rest) (giving to.word bound_now h.told.has) Stopped now
+    pass_stands : StandRoles x.roles place_then (left rest) (giving to.word bound_now h.told.has) StoppedRoles now
     pass_stands = talk_stands once s to c w rest kt out_place its_channel its_datum stand_mid out_there none_mid (valued_closed (word_in (h.told.has from.word)) (h.stands.closed from.word) m)
 
     pub now_many : length now ≡ suc (length places)
@@ -162,7 +162,7 @@ module _ {x : n.Narration} {file : Meant} {before rest : List n.Line} {pool : Po
           narrates = subst (λ es. Rattle.spi_honest.specs.Narrated.NarratesSmall (free_of x) (Rattle.spi_honest.specs.Narrated.begins x) (before ++ n.pass s from to c m w ∷ []) es told_now) (append-nil events ∙ sym none) told;
           replays = replays_more (replays_more h.replays t) t';
           names = ks ∙ h.names;
-          stands = subst (λ qs. Stands x.roles place_then (left rest) (giving to.word bound_now h.told.has) Stopped qs) (sym ps) pass_stands;
+          stands = subst (λ qs. StandRoles x.roles place_then (left rest) (giving to.word bound_now h.told.has) StoppedRoles qs) (sym ps) pass_stands;
           located = loc;
           order = two_order steps (act out_place) (talk out_place (place_then to.word)) h.order (ap (λ z. line_steps place_then z rest) (sym many));
           few = omega (arith, many, h.few, z);

@@ -15,9 +15,9 @@ use Rattle.spi_honest.specs.declared.fault.HonestFault.TheVariants.{LineNotReady
 use Rattle.spi_honest.specs.Narrated.{Told, free_of}
 use Rattle.spi_honest.specs.Roles.{IsRole, IsTellable}
 use Rattle.spi_honest.specs.Standing.{AreApart, Locates}
-use Rattle.spi_honest.specs.Honest.{IsWrongAt, IsNotReady, IsTooLarge, HasFault}
+use Rattle.spi_honest.specs.Honest.{IsWrongAt, IsNotReady, IsTooLarge, HasHonestFault}
 use Rattle.spi_honest.specs.Progress.{Progress}
-use Rattle.spi_honest.specs.Stages.{TookStep, IsRoomy, IsRefused, IsRoleAt, ToldTo, steps_in, events_in, IsLocalAt}
+use Rattle.spi_honest.specs.Stages.{TookStep, IsRoomy, IsStepRefused, IsRoleAt, ToldTo, steps_in, events_in, IsLocalAt}
 use Rattle.spi_rules.proofs.Typing.{at_below}
 use Rattle.spi_honest.proofs.Settled.{apart_of, at_in}
 use Rattle.spi_honest.proofs.Telling.{LocalTold, local_told, local_not_ready, local_progress}
@@ -116,7 +116,7 @@ module _ (x : n.Narration) (file : Meant) (at j : ℕ) (old : Stage) (ok : IsTel
   bound_is : largest (bound_by old.pool.configuration (act p)) ≡ largest (bound_by old.pool.configuration (act (h.place line.who.word)))
   bound_is = ap (λ s. largest (bound_by old.pool.configuration s)) its_step
 
-  local_refused : (f : HonestFault) → IsRefused old.pool (act p) at f → HasFault x f
+  local_refused : (f : HonestFault) → IsStepRefused old.pool (act p) at f → HasHonestFault x f
   local_refused (LineNotReady m) r =
       wrong_here x file at (n.local line.span line.who line.prefix) line.here m (IsNotReady (free_of x)) r.0 h
       (local_not_ready line.span line.who line.prefix once k h (λ e d t. r.1 (e, d, subst (λ s. Takes old.pool.configuration s e d) (sym its_step) t)))
@@ -126,5 +126,5 @@ module _ (x : n.Narration) (file : Meant) (at j : ℕ) (old : Stage) (ok : IsTel
       (record { more = a.more; event = _; then = a.then; tells = a.tells; large = omega (arith, a.size, bound_is, r.2); count = r.3 ∙ ap Rattle.spi_term.specs.Spelling.stopped (bound_is ∙ a.size) })
   local_refused NoMemory r = r
 
-  pub local_bad : (f : HonestFault) → (f ≡ NoMemory) ⊎ IsRefused old.pool (act p) at f → (f ≡ NoMemory) ⊎ HasFault x f
+  pub local_bad : (f : HonestFault) → (f ≡ NoMemory) ⊎ IsStepRefused old.pool (act p) at f → (f ≡ NoMemory) ⊎ HasHonestFault x f
   local_bad f r = ⊎_elim (λ e. inl e) (λ r. inr (local_refused f r)) r

@@ -17,10 +17,10 @@ use Rattle.spi_honest.specs.Reading.{word_in, numbered}
 use Rattle.spi_honest.specs.Narrated.{narrates_none, free_of, with_shared, begins}
 use Rattle.spi_honest.specs.Schedule.{line_steps, role_steps, places_from, places_of, others}
 use Rattle.spi_honest.specs.Holds.{Holds}
-use Rattle.spi_honest.specs.Roles.{AreDistinct, IsTellable}
-use Rattle.spi_honest.specs.Standing.{AreApart, Stands, Stopped, Locates, left}
+use Rattle.spi_honest.specs.Roles.{AreRolesDistinct, IsTellable}
+use Rattle.spi_honest.specs.Standing.{AreApart, StandRoles, StoppedRoles, Locates, left}
 use Rattle.spi_honest.specs.Honest.{replays_none, opening}
-use Rattle.spi_honest.specs.Progress.{Progress, place_number, beside_stop, steps_behind, Shares, Each, each_none, each_role, Spreads, ArePlaces}
+use Rattle.spi_honest.specs.Progress.{Progress, place_number, beside_stop, steps_behind, Shares, Each, each_none, each_role, SpreadsRoles, AreRolePlaces}
 use Rattle.spi_honest.proofs.Meant.{holds_meaning, names_closed}
 use Rattle.spi_honest.proofs.Standing.{chosen, not_chosen}
 use Rattle.spi_honest.proofs.Opened.{place_at, each_length, each_more}
@@ -52,7 +52,7 @@ share_first {x} {file} {pool} h few e = subst (λ p. Shares x file [] x.shared p
   most = refl;
 })
 
-pub spread_first : {x : n.Narration} {file : Meant} {before : List Rattle.spi_heading.specs.Headings.Shared} {pool : Pooled} {steps : List Step} (r : SWord) (rs : List SWord) → x.roles ≡ r ∷ rs → length x.shared ≤ 16 → Shares x file before [] pool steps → Spreads x file [] r rs pool steps
+pub spread_first : {x : n.Narration} {file : Meant} {before : List Rattle.spi_heading.specs.Headings.Shared} {pool : Pooled} {steps : List Step} (r : SWord) (rs : List SWord) → x.roles ≡ r ∷ rs → length x.shared ≤ 16 → Shares x file before [] pool steps → SpreadsRoles x file [] r rs pool steps
 spread_first {x} {file} {before} {pool} {steps} r rs e few h =
     let c : x.shared ≡ before = h.cut ∙ append-nil before in
     record {
@@ -72,12 +72,12 @@ spread_first {x} {file} {before} {pool} {steps} r rs e few h =
       most = h.most;
     }
 
-placed_from : (k : ℕ) (rs : List SWord) {j : ℕ} {r : SWord} → AreDistinct rs → At rs j r → places_from k rs r.word ≡ k + j
+placed_from : (k : ℕ) (rs : List SWord) {j : ℕ} {r : SWord} → AreRolesDistinct rs → At rs j r → places_from k rs r.word ≡ k + j
 placed_from k [] d h = elim h [ ]
 placed_from k (q ∷ qs) {r = r} d at_first = chosen k (places_from (suc k) qs r.word) r.word r.word refl ∙ (let z : k ≡ k + 0 = omega arith in z)
 placed_from k (q ∷ qs) {j = suc j} {r = r} d (at_later h) = not_chosen k (places_from (suc k) qs r.word) q.word r.word (d.0 r (at_in h)) ∙ placed_from (suc k) qs d.1 h ∙ (let z : suc k + j ≡ k + suc j = omega arith in z)
 
-pub placed : (rs : List SWord) {j : ℕ} {r : SWord} → AreDistinct rs → At rs j r → places_of rs r.word ≡ place_number j
+pub placed : (rs : List SWord) {j : ℕ} {r : SWord} → AreRolesDistinct rs → At rs j r → places_of rs r.word ≡ place_number j
 placed [] d h = elim h [ ]
 placed (q ∷ qs) {r = r} d at_first = chosen 0 (places_from 2 qs r.word) r.word r.word refl
 placed (q ∷ qs) {j = suc j} {r = r} d (at_later h) = not_chosen 0 (places_from 2 qs r.word) q.word r.word (d.0 r (at_in h)) ∙ placed_from 2 qs d.1 h ∙ (let z : 2 + j ≡ suc (suc j) = omega arith in z)
@@ -89,14 +89,14 @@ number_one (suc i) zero e = absurd (omega (arith, e))
 number_one (suc i) (suc j) e = omega (arith, e)
 
 -- roles with one word are one
-pub distinct_at : (rs : List SWord) (i j : ℕ) {r q : SWord} → AreDistinct rs → At rs i r → At rs j q → r.word ≡ q.word → i ≡ j
+pub distinct_at : (rs : List SWord) (i j : ℕ) {r q : SWord} → AreRolesDistinct rs → At rs i r → At rs j q → r.word ≡ q.word → i ≡ j
 distinct_at [] i j d a b e = elim a [ ]
 distinct_at (x ∷ xs) zero zero d a b e = refl
 distinct_at (x ∷ xs) zero (suc j) d at_first (at_later b) e = absurd (d.0 _ (at_in b) e)
 distinct_at (x ∷ xs) (suc i) zero d (at_later a) at_first e = absurd (d.0 _ (at_in a) (sym e))
 distinct_at (x ∷ xs) (suc i) (suc j) d (at_later a) (at_later b) e = ap suc (distinct_at xs i j d.1 a b e)
 
-pub apart_of : (rs : List SWord) → AreDistinct rs → AreApart rs
+pub apart_of : (rs : List SWord) → AreRolesDistinct rs → AreApart rs
 apart_of rs d = record { once = λ r q i j e. let a = in_at i in let b = in_at j in at_unique a.1 (subst (λ k. At rs k q) (sym (distinct_at rs a.0 b.0 d a.1 b.1 e)) b.1) }
 
 pub record EachAt (x : n.Narration) (zs : List Process) (j : ℕ) (r : SWord) : Type 0 where
@@ -115,14 +115,14 @@ each_role_at (each_role {r = r} h e) at_first = (r, at_first)
 each_role_at (each_role h e) (at_later a) = let b = each_role_at e a in (b.0, at_later b.1)
 
 -- a place has a role's process, or it is the opponent's
-idle_at : (x : n.Narration) (rs : List SWord) (zs : List Process) → Each x rs zs → AreDistinct rs → (i : ℕ) (p : Process) → At (beside_stop zs) i p → ((r : SWord) → In r rs → places_of rs r.word ≡ i → ⊥) → p ≡ stop
+idle_at : (x : n.Narration) (rs : List SWord) (zs : List Process) → Each x rs zs → AreRolesDistinct rs → (i : ℕ) (p : Process) → At (beside_stop zs) i p → ((r : SWord) → In r rs → places_of rs r.word ≡ i → ⊥) → p ≡ stop
 idle_at x rs [] e d zero p at_first away = refl
 idle_at x rs [] e d (suc i) p (at_later a) away = elim a [ ]
 idle_at x rs (z ∷ zs) e d zero p at_first away = let b = each_role_at {j = 0} e at_first in absurd (away b.0 (at_in b.1) (placed rs d b.1))
 idle_at x rs (z ∷ zs) e d (suc zero) p (at_later at_first) away = refl
 idle_at x rs (z ∷ zs) e d (suc (suc i)) p (at_later (at_later a)) away = let b = each_role_at e (at_later a) in absurd (away b.0 (at_in b.1) (placed rs d b.1))
 
-each_stands : {x : n.Narration} (rs : List SWord) (zs : List Process) → Each x rs zs → AreDistinct rs → Stands rs (places_of rs) (left x.lines) (begins x).has Stopped (beside_stop zs)
+each_stands : {x : n.Narration} (rs : List SWord) (zs : List Process) → Each x rs zs → AreRolesDistinct rs → StandRoles rs (places_of rs) (left x.lines) (begins x).has StoppedRoles (beside_stop zs)
 each_stands {x} rs zs e d = record {
   closed = λ w. names_closed (with_shared (free_of x) x.shared);
   there = λ r i. let a = in_at i in let b = each_at e a.1 in record { process = b.process; there = subst (λ k. At (beside_stop zs) k b.process) (sym (placed rs d a.1)) (place_at a.0 b.there); holds = b.holds };
@@ -130,7 +130,7 @@ each_stands {x} rs zs e d = record {
   others = idle_at x rs zs e d;
 }
 
-pub located : (rs : List SWord) (is : List ℕ) → AreDistinct rs → ArePlaces (length rs) is → Locates rs (places_of rs) is
+pub located : (rs : List SWord) (is : List ℕ) → AreRolesDistinct rs → AreRolePlaces (length rs) is → Locates rs (places_of rs) is
 located rs is d h = record {
   many = h.many;
   each = λ j r e. let a = get_at rs j e in h.each j (at_below a) ∙ ap Some (sym (placed rs d a));
@@ -140,11 +140,11 @@ others_many : (rs : List SWord) {r : SWord} → In r rs → length rs ≡ suc (l
 others_many [] i = elim i [ ]
 others_many (q ∷ qs) i = refl
 
-pub settled : {x : n.Narration} {file : Meant} {before : List SWord} {r : SWord} {pool : Pooled} {steps : List Step} (is : List ℕ) → IsTellable x → ArePlaces (length x.roles) is → Spreads x file before r [] pool steps → Progress x file [] x.lines pool steps [] is
+pub settled : {x : n.Narration} {file : Meant} {before : List SWord} {r : SWord} {pool : Pooled} {steps : List Step} (is : List ℕ) → IsTellable x → AreRolePlaces (length x.roles) is → SpreadsRoles x file before r [] pool steps → Progress x file [] x.lines pool steps [] is
 settled {x} {file} {before} {r} {pool} {steps} is ok h s =
     let e : Each x (before ++ r ∷ []) (s.apart ++ s.last ∷ []) = each_more r s.last s.each s.holds in
-    let stands : Stands x.roles (places_of x.roles) (left x.lines) (begins x).has Stopped pool.configuration.places =
-    subst (λ ps. Stands x.roles (places_of x.roles) (left x.lines) (begins x).has Stopped ps) (sym s.places)
+    let stands : StandRoles x.roles (places_of x.roles) (left x.lines) (begins x).has StoppedRoles pool.configuration.places =
+    subst (λ ps. StandRoles x.roles (places_of x.roles) (left x.lines) (begins x).has StoppedRoles ps) (sym s.places)
     (each_stands x.roles (s.apart ++ s.last ∷ []) (subst (λ rs. Each x rs (s.apart ++ s.last ∷ [])) (sym s.cut) e) ok.distinct) in
     let many : length pool.configuration.places ≡ suc (length x.roles) =
     ap length s.places ∙ beside_many s.apart s.last ∙ ap suc (each_length (subst (λ rs. Each x rs (s.apart ++ s.last ∷ [])) (sym s.cut) e)) in

@@ -9,7 +9,7 @@ use Rattle.spi_run.specs.Reduction.{Configuration, Step, Event, Takes, takes_act
 use Rattle.spi_run.proofs.Once.{takes_once}
 use Rattle.spi_replay.specs.declared.fault.StepFault.{StepFault}
 use Rattle.spi_replay.specs.declared.fault.StepFault.TheVariants as faults
-use Rattle.spi_replay.specs.Stepping.{Pooled, IsTaken, places_named, FirstOutside, outside_here, outside_later, Refuses, no_place, not_ready, too_large, too_many}
+use Rattle.spi_replay.specs.Stepping.{Pooled, IsTaken, places_named, FirstOutside, outside_here, outside_later, RefusesPoolStep, no_place, not_ready, too_large, too_many}
 use Rattle.spi_honest.specs.Stages.{IsRoomy}
 use Rattle.spi_rules.proofs.Typing.{at_below}
 
@@ -25,31 +25,31 @@ outside (outside_later l o) = let (j, m, h) = outside o in (j, in_later m, h)
 inside_out : {n : ℕ} {is : List ℕ} {i : ℕ} → ((j : ℕ) → In j is → j < n) → FirstOutside n is i → ⊥
 inside_out h o = let (j, m, l) = outside o in let b = h j m in omega (arith, b, l)
 
-taken_refuses : {p new : Pooled} {s : Step} {e : Option Event} {f : StepFault} → IsTaken p s e new → Refuses p.configuration p.most s f → ⊥
+taken_refuses : {p new : Pooled} {s : Step} {e : Option Event} {f : StepFault} → IsTaken p s e new → RefusesPoolStep p.configuration p.most s f → ⊥
 taken_refuses t (no_place o) = inside_out (takes_inside t.takes) o
 taken_refuses t (not_ready h g) = g (_, _, t.takes)
 taken_refuses t (too_large r l) = omega (arith, t.small, l)
 taken_refuses t (too_many h s l) = let u = takes_once h t.takes in let z = ap (λ d. length d.places) u.1 in omega (arith, z, t.few, l)
 
-pub taken_fault : {p new : Pooled} {s : Step} {e : Option Event} {f : StepFault} → IsTaken p s e new → (f ≡ faults.NoMemory → ⊥) → (f ≡ faults.NoMemory) ⊎ Refuses p.configuration p.most s f → ⊥
+pub taken_fault : {p new : Pooled} {s : Step} {e : Option Event} {f : StepFault} → IsTaken p s e new → (f ≡ faults.NoMemory → ⊥) → (f ≡ faults.NoMemory) ⊎ RefusesPoolStep p.configuration p.most s f → ⊥
 taken_fault t d h = ⊎_elim d (λ r. taken_refuses t r) h
 
-place_refuses : {p : Pooled} {s : Step} {f : StepFault} (i : ℕ) → IsRoomy p s → f ≡ faults.NoPlace i → Refuses p.configuration p.most s f → ⊥
+place_refuses : {p : Pooled} {s : Step} {f : StepFault} (i : ℕ) → IsRoomy p s → f ≡ faults.NoPlace i → RefusesPoolStep p.configuration p.most s f → ⊥
 place_refuses i h e (no_place o) = inside_out h.inside o
 place_refuses i h e (not_ready a b) = absurd cc
 place_refuses i h e (too_large a b) = absurd cc
 place_refuses i h e (too_many a b c) = absurd cc
 
-many_refuses : {p : Pooled} {s : Step} {f : StepFault} (i : ℕ) → IsRoomy p s → f ≡ faults.TooManyPlaces i → Refuses p.configuration p.most s f → ⊥
+many_refuses : {p : Pooled} {s : Step} {f : StepFault} (i : ℕ) → IsRoomy p s → f ≡ faults.TooManyPlaces i → RefusesPoolStep p.configuration p.most s f → ⊥
 many_refuses i h e (no_place o) = absurd cc
 many_refuses i h e (not_ready a b) = absurd cc
 many_refuses i h e (too_large a b) = absurd cc
 many_refuses i h e (too_many t s l) = let b = h.room _ _ t in omega (arith, b, l)
 
-pub place_fault : {p : Pooled} {s : Step} {f : StepFault} (i : ℕ) → IsRoomy p s → f ≡ faults.NoPlace i → (f ≡ faults.NoMemory) ⊎ Refuses p.configuration p.most s f → ⊥
+pub place_fault : {p : Pooled} {s : Step} {f : StepFault} (i : ℕ) → IsRoomy p s → f ≡ faults.NoPlace i → (f ≡ faults.NoMemory) ⊎ RefusesPoolStep p.configuration p.most s f → ⊥
 place_fault i h e g = ⊎_elim (λ z. absurd cc) (λ r. place_refuses i h e r) g
 
-pub many_fault : {p : Pooled} {s : Step} {f : StepFault} (i : ℕ) → IsRoomy p s → f ≡ faults.TooManyPlaces i → (f ≡ faults.NoMemory) ⊎ Refuses p.configuration p.most s f → ⊥
+pub many_fault : {p : Pooled} {s : Step} {f : StepFault} (i : ℕ) → IsRoomy p s → f ≡ faults.TooManyPlaces i → (f ≡ faults.NoMemory) ⊎ RefusesPoolStep p.configuration p.most s f → ⊥
 many_fault i h e g = ⊎_elim (λ z. absurd cc) (λ r. many_refuses i h e r) g
 
 -- a test finds an element

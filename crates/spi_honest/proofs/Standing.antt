@@ -16,7 +16,7 @@ use Rattle.spi_honest.specs.Narrated.{giving}
 use Rattle.spi_honest.specs.Schedule.{moved}
 use Rattle.spi_honest.specs.Holds.{Holds, AreClosed}
 use Rattle.spi_honest.specs.Roles.{IsRole}
-use Rattle.spi_honest.specs.Standing.{AreApart, Stood, Stands, Stopped, StoppedBut}
+use Rattle.spi_honest.specs.Standing.{AreApart, StoodRole, StandRoles, StoppedRoles, StoppedBut}
 use Rattle.spi_rules.proofs.Typing.{at_below, at_more, at_last, at_cases}
 use Rattle.spi_honest.proofs.Places.{at_set, at_set_other, set_other}
 
@@ -50,7 +50,7 @@ module _ {roles : List SWord} {place : Word → ℕ} {tree : SWord → t.Proc} {
   -- a role goes on where it stands, with more
   pub goes_on : {Idle : ℕ → Process → Type 0} {ps : List Process} (now : Process) (more : Map) → AreClosed (word_in (more ++ has w))
       → ((q : SWord) → In q roles → q.word ≡ w → Holds (tree' q) [] (word_in (more ++ has w)) now)
-      → Stands roles place tree has Idle ps → Stands roles place tree' (giving w more has) Idle (slice_set ps (place w) now)
+      → StandRoles roles place tree has Idle ps → StandRoles roles place tree' (giving w more has) Idle (slice_set ps (place w) now)
   goes_on {Idle} {ps} now more c own h = record {
     closed = λ v. by_words w v (λ e. subst (λ g. AreClosed (word_in g)) (sym (given_own w more has v e)) c) (λ d. subst (λ g. AreClosed (word_in g)) (sym (given_other w more has v d)) (h.closed v));
     there = λ r i. by_words w r.word (mine r i) (other r i);
@@ -58,7 +58,7 @@ module _ {roles : List SWord} {place : Word → ℕ} {tree : SWord → t.Proc} {
     others = λ i p a no. h.others i p (set_other ps (place w) i now (λ e. no k.role k.is (ap place k.word ∙ e)) a) no;
   }
     where
-      mine : (r : SWord) → In r roles → w ≡ r.word → Stood place tree' (giving w more has) (slice_set ps (place w) now) r
+      mine : (r : SWord) → In r roles → w ≡ r.word → StoodRole place tree' (giving w more has) (slice_set ps (place w) now) r
       mine r i e =
           let s = h.there r i in
           let f : place r.word ≡ place w = ap place (sym e) in
@@ -68,7 +68,7 @@ module _ {roles : List SWord} {place : Word → ℕ} {tree : SWord → t.Proc} {
             holds = subst (λ g. Holds (tree' r) [] (word_in g) now) (sym (given_own w more has r.word e)) (own r i (sym e));
           }
 
-      other : (r : SWord) → In r roles → (w ≡ r.word → ⊥) → Stood place tree' (giving w more has) (slice_set ps (place w) now) r
+      other : (r : SWord) → In r roles → (w ≡ r.word → ⊥) → StoodRole place tree' (giving w more has) (slice_set ps (place w) now) r
       other r i d =
           let s = h.there r i in
           record {
@@ -79,7 +79,7 @@ module _ {roles : List SWord} {place : Word → ℕ} {tree : SWord → t.Proc} {
 
   -- a role's process comes apart, and its further process is appended
   pub forks : {ps : List Process} (left right : Process) → ((q : SWord) → In q roles → q.word ≡ w → Holds (tree' q) [] (word_in (has w)) right)
-      → Stands roles place tree has Stopped ps → Stands roles (moved w (length ps) place) tree' has (StoppedBut (place w)) (slice_set ps (place w) left ++ right ∷ [])
+      → StandRoles roles place tree has StoppedRoles ps → StandRoles roles (moved w (length ps) place) tree' has (StoppedBut (place w)) (slice_set ps (place w) left ++ right ∷ [])
   forks {ps} left right own h = record {
     closed = h.closed;
     there = λ r i. by_words w r.word (mine r i) (other r i);
@@ -96,14 +96,14 @@ module _ {roles : List SWord} {place : Word → ℕ} {tree : SWord → t.Proc} {
       behind : At (slice_set ps (place w) left ++ right ∷ []) (length ps) right
       behind = subst (λ n. At (slice_set ps (place w) left ++ right ∷ []) n right) (length-set ps (place w) left) (at_last (slice_set ps (place w) left) right)
 
-      mine : (r : SWord) → In r roles → w ≡ r.word → Stood (moved w (length ps) place) tree' has (slice_set ps (place w) left ++ right ∷ []) r
+      mine : (r : SWord) → In r roles → w ≡ r.word → StoodRole (moved w (length ps) place) tree' has (slice_set ps (place w) left ++ right ∷ []) r
       mine r i e = record {
         process = right;
         there = subst (λ n. At (slice_set ps (place w) left ++ right ∷ []) n right) (sym (moved_own w (length ps) place r.word e)) behind;
         holds = subst (λ v. Holds (tree' r) [] (word_in (has v)) right) e (own r i (sym e));
       }
 
-      other : (r : SWord) → In r roles → (w ≡ r.word → ⊥) → Stood (moved w (length ps) place) tree' has (slice_set ps (place w) left ++ right ∷ []) r
+      other : (r : SWord) → In r roles → (w ≡ r.word → ⊥) → StoodRole (moved w (length ps) place) tree' has (slice_set ps (place w) left ++ right ∷ []) r
       other r i d =
           let s = h.there r i in
           record {
@@ -118,7 +118,7 @@ module _ {roles : List SWord} {place : Word → ℕ} {tree : SWord → t.Proc} {
 
 -- what stood apart stops
 pub stops : {roles : List SWord} {place : Word → ℕ} {tree : SWord → t.Proc} {has : Word → Map} {ps : List Process} (i : ℕ) {x : Process} → At ps i x → ((r : SWord) → In r roles → place r.word ≡ i → ⊥)
-    → Stands roles place tree has (StoppedBut i) ps → Stands roles place tree has Stopped (slice_set ps i stop)
+    → StandRoles roles place tree has (StoppedBut i) ps → StandRoles roles place tree has StoppedRoles (slice_set ps i stop)
 stops {roles} {place} {tree} {has} {ps} i x none h = record {
   closed = h.closed;
   there = λ r j. let s = h.there r j in record { process = s.process; there = at_set_other i stop (λ e. none r j (sym e)) s.there; holds = s.holds };

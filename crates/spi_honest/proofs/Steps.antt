@@ -21,7 +21,7 @@ use Rattle.spi_honest.specs.Narrated.{at, giving, Does, shown}
 use Rattle.spi_honest.specs.Schedule.{moved}
 use Rattle.spi_honest.specs.Holds.{Holds}
 use Rattle.spi_honest.specs.Roles.{IsRole}
-use Rattle.spi_honest.specs.Standing.{AreApart, Stood, Stands, Stopped, StoppedBut, left}
+use Rattle.spi_honest.specs.Standing.{AreApart, StoodRole, StandRoles, StoppedRoles, StoppedBut, left}
 use Rattle.spi_honest.proofs.Held.{holds_one}
 use Rattle.spi_rules.proofs.Typing.{at_below, at_more}
 use Rattle.spi_honest.proofs.Places.{at_set}
@@ -40,8 +40,8 @@ at_places k ps = record { names = k; places = ps }
 bound_at : (k : ℕ) (ps : List Process) (i : ℕ) {p : Process} → At ps i p → bound_by (at_places k ps) (act i) ≡ bound_here k p
 bound_at k ps i a = ap (by_place (bound_here k)) (at_get a)
 
-module _ {roles : List SWord} {place : Word → ℕ} {has : Word → Map} {ps : List Process} (once : AreApart roles) (s : Span) (who : SWord) (f : n.Prefix) (ls : List n.Line) (k : IsRole roles who.word) (h : Stands roles place (left (n.local s who f ∷ ls)) has Stopped ps) where
-  mine : Stood place (left (n.local s who f ∷ ls)) has ps k.role
+module _ {roles : List SWord} {place : Word → ℕ} {has : Word → Map} {ps : List Process} (once : AreApart roles) (s : Span) (who : SWord) (f : n.Prefix) (ls : List n.Line) (k : IsRole roles who.word) (h : StandRoles roles place (left (n.local s who f ∷ ls)) has StoppedRoles ps) where
+  mine : StoodRole place (left (n.local s who f ∷ ls)) has ps k.role
   mine = h.there k.role k.is
 
   mine_there : At ps (place who.word) mine.process
@@ -57,7 +57,7 @@ module _ {roles : List SWord} {place : Word → ℕ} {has : Word → Map} {ps : 
   pub record LocalTakes (n : ℕ) (more : Map) (e : Option Event) (n' : ℕ) : Type 0 where
     pub now : Process
     pub takes : Takes (at_places n ps) (act (place who.word)) e (at_places n' (slice_set ps (place who.word) now ++ []))
-    pub stands : Stands roles place (left ls) (giving who.word more has) Stopped (slice_set ps (place who.word) now)
+    pub stands : StandRoles roles place (left ls) (giving who.word more has) StoppedRoles (slice_set ps (place who.word) now)
     pub size : largest (bound_by (at_places n ps) (act (place who.word))) ≡ largest (shown more e)
 
   pub local_takes : {n n' : ℕ} {more : Map} {e : Option Event} → Does n (has who.word) f more e n' → LocalTakes n more e n'
@@ -80,14 +80,14 @@ module _ {roles : List SWord} {place : Word → ℕ} {has : Word → Map} {ps : 
 abbrev pub mid : SWord → Span → SWord → SWord → List n.Line → SWord → t.Proc
 mid to s c x ls q = received (is_word to q) s c x (role_process q ls)
 
-none_moved : {roles : List SWord} {place : Word → ℕ} {tree : SWord → t.Proc} {has : Word → Map} {ps : List Process} (w : Word) (k : IsRole roles w) → Stands roles place tree has Stopped ps → (r : SWord) → In r roles → moved w (length ps) place r.word ≡ place w → ⊥
+none_moved : {roles : List SWord} {place : Word → ℕ} {tree : SWord → t.Proc} {has : Word → Map} {ps : List Process} (w : Word) (k : IsRole roles w) → StandRoles roles place tree has StoppedRoles ps → (r : SWord) → In r roles → moved w (length ps) place r.word ≡ place w → ⊥
 none_moved {roles} {place} {ps = ps} w k h r i e =
     by_words w r.word
     (λ u. let b = at_below (subst (λ v. At ps (place v) (h.there k.role k.is).process) k.word (h.there k.role k.is).there) in let g = sym (moved_own w (length ps) place r.word u) ∙ e in omega (arith, b, g))
     (λ d. d (sym k.word ∙ ap (λ q. q.word) (h.apart k.role r k.is i (ap place k.word ∙ sym e ∙ moved_other w (length ps) place r.word d))))
 
-module _ {roles : List SWord} {place : Word → ℕ} {has : Word → Map} {ps : List Process} (once : AreApart roles) (s : Span) (from to c : SWord) (m : t.Msg) (x : SWord) (ls : List n.Line) (k : IsRole roles from.word) (h : Stands roles place (left (n.pass s from to c m x ∷ ls)) has Stopped ps) where
-  pub sender : Stood place (left (n.pass s from to c m x ∷ ls)) has ps k.role
+module _ {roles : List SWord} {place : Word → ℕ} {has : Word → Map} {ps : List Process} (once : AreApart roles) (s : Span) (from to c : SWord) (m : t.Msg) (x : SWord) (ls : List n.Line) (k : IsRole roles from.word) (h : StandRoles roles place (left (n.pass s from to c m x ∷ ls)) has StoppedRoles ps) where
+  pub sender : StoodRole place (left (n.pass s from to c m x ∷ ls)) has ps k.role
   sender = h.there k.role k.is
 
   abbrev pub channel : Message
@@ -117,7 +117,7 @@ module _ {roles : List SWord} {place : Word → ℕ} {has : Word → Map} {ps : 
   pub parts_bound : (n : ℕ) → bound_by (at_places n ps) (act (place from.word)) ≡ []
   parts_bound n = bound_at n ps (place from.word) sender_there ∙ ap (bound_here n) sender_holds.1
 
-  pub parts_stand : Stands roles (moved from.word (length ps) place) (mid to s c x ls) has (StoppedBut (place from.word)) parted
+  pub parts_stand : StandRoles roles (moved from.word (length ps) place) (mid to s c x ls) has (StoppedBut (place from.word)) parted
   parts_stand = forks once from.word k (mid to s c x ls) (λ q i v. sym (ap (λ b. sent b s c m (mid to s c x ls q)) (other_word from q (λ u. v (sym u))))) (send channel datum) sender_holds.0 (λ q i v. subst (λ r. Holds (mid to s c x ls r) [] (word_in (has from.word)) sender_holds.0) (once.once k.role q k.is i (k.word ∙ sym v)) sender_holds.2) h
 
   pub parts_out : At parted (place from.word) (send channel datum)
@@ -130,8 +130,8 @@ module _ {roles : List SWord} {place : Word → ℕ} {has : Word → Map} {ps : 
   parts_length = let e = length-set ps (place from.word) (send channel datum) in let g = Rattle.std.proofs.Common.length-append (slice_set ps (place from.word) (send channel datum)) (sender_holds.0 ∷ []) in omega (arith, e, g)
 
 -- the talk
-module _ {roles : List SWord} {place : Word → ℕ} {has : Word → Map} {ps : List Process} (once : AreApart roles) (s : Span) (to c x : SWord) (ls : List n.Line) (k : IsRole roles to.word) (i : ℕ) (channel datum : Message) (h : Stands roles place (mid to s c x ls) has (StoppedBut i) ps) (out : At ps i (send channel datum)) (none : (r : SWord) → In r roles → place r.word ≡ i → ⊥) (closed : Rattle.spi_replay.specs.Holding.IsClosed datum) where
-  pub receiver : Stood place (mid to s c x ls) has ps k.role
+module _ {roles : List SWord} {place : Word → ℕ} {has : Word → Map} {ps : List Process} (once : AreApart roles) (s : Span) (to c x : SWord) (ls : List n.Line) (k : IsRole roles to.word) (i : ℕ) (channel datum : Message) (h : StandRoles roles place (mid to s c x ls) has (StoppedBut i) ps) (out : At ps i (send channel datum)) (none : (r : SWord) → In r roles → place r.word ≡ i → ⊥) (closed : Rattle.spi_replay.specs.Holding.IsClosed datum) where
+  pub receiver : StoodRole place (mid to s c x ls) has ps k.role
   receiver = h.there k.role k.is
 
   pub receiver_there : At ps (place to.word) receiver.process
@@ -161,7 +161,7 @@ module _ {roles : List SWord} {place : Word → ℕ} {has : Word → Map} {ps : 
       subst (λ r. Holds (role_process r ls) [] (word_in (at x datum ∷ has to.word)) received_now) (once.once k.role q k.is j (k.word ∙ sym v))
       (subst (λ g. Holds (role_process k.role ls) [] g received_now) (given_one x datum (has to.word)) (holds_one (role_process k.role ls) datum x.word (word_in (has to.word)) receiver_holds.1 (h.closed to.word) receiver_holds.3))
 
-  pub talk_stands : Stands roles place (left ls) (giving to.word (at x datum ∷ []) has) Stopped (slice_set (slice_set ps i stop) (place to.word) received_now)
+  pub talk_stands : StandRoles roles place (left ls) (giving to.word (at x datum ∷ []) has) StoppedRoles (slice_set (slice_set ps i stop) (place to.word) received_now)
   talk_stands =
       goes_on once to.word k (left ls) (λ q j v. sym (ap (λ b. received b s c x (role_process q ls)) (other_word to q (λ u. v (sym u))))) received_now (at x datum ∷ []) (one_closed x datum (has to.word) closed (h.closed to.word)) talk_own (stops i out none h)
 

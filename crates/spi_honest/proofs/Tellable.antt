@@ -3,13 +3,13 @@ use Rattle.std.proofs.Common.{◌≡◌, ℕ, ◌+◌, ◌<◌, ◌≤◌, List,
 use Rattle.spi_tree.specs.declared.tree.SWord.{SWord}
 use Rattle.spi_heading.specs.Headings.{Shared}
 use Rattle.spi_narrate.specs.Narrations as n
-use Rattle.spi_narrate.specs.Faults.{Item, IsAmong, shared_items, role_items, line_items, items_of, IsFaultless}
+use Rattle.spi_narrate.specs.Faults.{FaultItem, IsAmong, shared_items, role_items, line_items, items_of, IsFaultless}
 use Rattle.spi_term.specs.Lists.{In, in_first, in_later}
 use Rattle.spi_term.proofs.Lists.{in_cases}
-use Rattle.spi_honest.specs.Roles.{IsRole, HaveRoles, AreDistinct, IsTellable}
+use Rattle.spi_honest.specs.Roles.{IsRole, HaveRoles, AreRolesDistinct, IsTellable}
 use Rattle.spi_honest.proofs.Standing.{by_words}
 
-parts : (xs ys : List Item) → IsFaultless (xs ++ ys) → IsFaultless xs × IsFaultless ys
+parts : (xs ys : List FaultItem) → IsFaultless (xs ++ ys) → IsFaultless xs × IsFaultless ys
 parts [] ys h = (tt, h)
 parts (x ∷ xs) ys h = let i = parts xs ys h.1 in ((h.0, i.0), i.1)
 
@@ -42,7 +42,7 @@ new_words i all before [] h q m a = elim m [ ]
 new_words i all before (w ∷ ws) h q m a =
     ⊎_elim (λ e. h.0 (subst (IsAmong before) e a)) (λ k. new_words (i + 1) all (before ++ w ∷ []) ws h.1.1 q k (among_more before w q a)) (in_cases m)
 
-distinct : (i all : ℕ) (before ws : List SWord) → IsFaultless (role_items i all before ws) → AreDistinct ws
+distinct : (i all : ℕ) (before ws : List SWord) → IsFaultless (role_items i all before ws) → AreRolesDistinct ws
 distinct i all before [] h = tt
 distinct i all before (w ∷ ws) h =
     ((λ q m e. new_words (i + 1) all (before ++ w ∷ []) ws h.1.1 q m (among_last before w q e)), distinct (i + 1) all (before ++ w ∷ []) ws h.1.1)

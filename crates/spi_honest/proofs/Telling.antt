@@ -11,10 +11,10 @@ use Rattle.spi_replay.proofs.Taken.{takes_names, runs_more}
 use Rattle.spi_scope.specs.Scope.{Names}
 use Rattle.spi_scope.specs.StandsFor.{Meant}
 use Rattle.spi_honest.specs.Reading.{Map}
-use Rattle.spi_honest.specs.Narrated.{giving, Told, Does, Tells, tells_local, Narrates, narrates_none, narrates_line, AreSmall, NarratesSmall, shown, free_of}
+use Rattle.spi_honest.specs.Narrated.{giving, Told, Does, TellsLine, tells_local, Narrates, narrates_none, narrates_line, AreLinesSmall, NarratesSmall, shown, free_of}
 use Rattle.spi_honest.specs.Schedule.{line_steps}
 use Rattle.spi_honest.specs.Roles.{IsRole}
-use Rattle.spi_honest.specs.Standing.{AreApart, Stands, Stopped, left}
+use Rattle.spi_honest.specs.Standing.{AreApart, StandRoles, StoppedRoles, left}
 use Rattle.spi_honest.specs.Honest.{Replays, replays_none, replays_step}
 use Rattle.spi_honest.specs.Progress.{Progress}
 use Rattle.spi_honest.proofs.Steps.{LocalTakes, local_takes, local_back}
@@ -23,7 +23,7 @@ use Rattle.spi_honest.proofs.Steps.{LocalTakes, local_takes, local_back}
 small_as : {free : Names} {o p : Told} {ls : List n.Line} {es fs : List Event} → es ≡ fs → NarratesSmall free o ls es p → NarratesSmall free o ls fs p
 small_as {free} {o} {p} {ls} e h = subst (λ es. NarratesSmall free o ls es p) e h
 
-pub narrates_more : {free : Names} {o p q : Told} {ls : List n.Line} {l : n.Line} {es : List Event} {more : Map} {e : Option Event} (h : Narrates free o ls es p) → AreSmall h → Tells free p l more e q → largest (shown more e) ≤ message_most → NarratesSmall free o (ls ++ l ∷ []) (es ++ option_to_list e) q
+pub narrates_more : {free : Names} {o p q : Told} {ls : List n.Line} {l : n.Line} {es : List Event} {more : Map} {e : Option Event} (h : Narrates free o ls es p) → AreLinesSmall h → TellsLine free p l more e q → largest (shown more e) ≤ message_most → NarratesSmall free o (ls ++ l ∷ []) (es ++ option_to_list e) q
 narrates_more {e = e} narrates_none s t g = small_as (append-nil (option_to_list e)) (record { narrates = narrates_line t narrates_none; small = (g, tt) })
 narrates_more {e = e} (narrates_line {e = e'} {es = es} t' r) s t g =
     let h = narrates_more r s.1 t g in
@@ -46,18 +46,18 @@ module _ {x : n.Narration} {file : Meant} {before rest : List n.Line} {pool : Po
   local_done : {k' : ℕ} {more : Map} {e : Option Event} → Does h.told.names (h.told.has who.word) f more e k' → LocalTakes once s who f rest k h.stands pool.configuration.names more e k'
   local_done {k'} {more} {e} d = local_takes once s who f rest k h.stands (subst (λ z. Does z (h.told.has who.word) f more e k') (sym h.names) d)
 
-  pub local_not_ready : ((e : Option Event) → (d : Configuration) → Takes pool.configuration (act (h.place who.word)) e d → ⊥) → (more : Map) (e : Option Event) (p : Told) → Tells (free_of x) h.told (n.local s who f) more e p → ⊥
+  pub local_not_ready : ((e : Option Event) → (d : Configuration) → Takes pool.configuration (act (h.place who.word)) e d → ⊥) → (more : Map) (e : Option Event) (p : Told) → TellsLine (free_of x) h.told (n.local s who f) more e p → ⊥
   local_not_ready never more e p (tells_local d) = never e _ (local_done d).takes
 
   pub record LocalTold (e : Option Event) (d : Configuration) : Type 0 where
     pub more : Map
     pub then : Told
-    pub tells : Tells (free_of x) h.told (n.local s who f) more e then
+    pub tells : TellsLine (free_of x) h.told (n.local s who f) more e then
     pub size : largest (bound_by pool.configuration (act (h.place who.word))) ≡ largest (shown more e)
     pub names : d.names ≡ then.names
     pub few_names : d.names ≤ suc pool.configuration.names
     pub many : length d.places ≡ length pool.configuration.places
-    pub stands : Stands x.roles h.place (left rest) then.has Stopped d.places
+    pub stands : StandRoles x.roles h.place (left rest) then.has StoppedRoles d.places
 
   pub local_told : {e : Option Event} {d : Configuration} → Takes pool.configuration (act (h.place who.word)) e d → LocalTold e d
   local_told {e} {d} t =
@@ -74,7 +74,7 @@ module _ {x : n.Narration} {file : Meant} {before rest : List n.Line} {pool : Po
         names = refl;
         few_names = let few = takes_names t in omega (arith, few);
         many = ap length places ∙ length-set pool.configuration.places (h.place who.word) a.now;
-        stands = subst (λ ps. Stands x.roles h.place (left rest) (giving who.word b.more h.told.has) Stopped ps) (sym places) a.stands;
+        stands = subst (λ ps. StandRoles x.roles h.place (left rest) (giving who.word b.more h.told.has) StoppedRoles ps) (sym places) a.stands;
       }
 
   pub local_progress : {e : Option Event} {new : Pooled} → IsTaken pool (act (h.place who.word)) e new → Progress x file (before ++ n.local s who f ∷ []) rest new (steps ++ act (h.place who.word) ∷ []) (events ++ option_to_list e) is

@@ -8,10 +8,10 @@ use Rattle.spi_honest.specs.declared.free.FreeNames.{FreeNames}
 use Rattle.spi_honest.specs.Narrated.{free_of}
 
 -- each spelling has the number of the innermost name
-pub record Numbers (table : FreeNames) (names : Names) : Type 0 where
+pub record NumbersSpellings (table : FreeNames) (names : Names) : Type 0 where
   pub count : table.count ≡ length names
   pub finds : (w : Word) → get_by (λ k. bytes_eq w k.now) table.numbers ≡ number_of names w
 
 -- the table of a narration's free names
 abbrev pub NumbersFree : FreeNames → n.Narration → Type 0
-NumbersFree table x = Numbers table (free_of x)
+NumbersFree table x = NumbersSpellings table (free_of x)

@@ -14,7 +14,7 @@ use Rattle.spi_honest.specs.declared.honest.Honest.{Honest}
 use Rattle.spi_honest.specs.declared.fault.HonestFault.{HonestFault}
 use Rattle.spi_honest.specs.declared.fault.HonestFault.TheVariants.{LineNotReady, NarratedTooLarge, NoMemory}
 use Rattle.spi_honest.specs.Reading.{Map}
-use Rattle.spi_honest.specs.Narrated.{Told, Tells, NarratesSmall, shown, free_of, begins}
+use Rattle.spi_honest.specs.Narrated.{Told, TellsLine, NarratesSmall, shown, free_of, begins}
 use Rattle.spi_honest.specs.Schedule.{honest_steps}
 
 -- the steps are taken one by one, each within the limits of a replay, with these events
@@ -53,19 +53,19 @@ pub record IsWrongAt (x : n.Narration) (line : ℕ) (IsWrong : Told → n.Line �
 
 -- the line has no value
 abbrev pub IsNotReady : Names → Told → n.Line → Type 0
-IsNotReady free o l = (more : Map) (e : Option Event) (p : Told) → Tells free o l more e p → ⊥
+IsNotReady free o l = (more : Map) (e : Option Event) (p : Told) → TellsLine free o l more e p → ⊥
 
 -- the largest message that it binds or reports has so many nodes, more than 1,000
 pub record IsTooLarge (free : Names) (nodes : ℕ) (o : Told) (l : n.Line) : Type 0 where
   pub more : Map
   pub event : Option Event
   pub then : Told
-  pub tells : Tells free o l more event then
+  pub tells : TellsLine free o l more event then
   pub large : message_most < largest (shown more event)
   pub count : nodes ≡ stopped (largest (shown more event))
 
 -- why there is no honest schedule
-abbrev pub HasFault : n.Narration → HonestFault → Type 0
-HasFault x (LineNotReady line) = IsWrongAt x line (IsNotReady (free_of x))
-HasFault x (NarratedTooLarge line nodes) = IsWrongAt x line (IsTooLarge (free_of x) nodes)
-HasFault x NoMemory = ⊥
+abbrev pub HasHonestFault : n.Narration → HonestFault → Type 0
+HasHonestFault x (LineNotReady line) = IsWrongAt x line (IsNotReady (free_of x))
+HasHonestFault x (NarratedTooLarge line nodes) = IsWrongAt x line (IsTooLarge (free_of x) nodes)
+HasHonestFault x NoMemory = ⊥

@@ -11,9 +11,9 @@ use Rattle.spi_run.specs.Reduction.{Event, begun, ended, ended_many}
 use Rattle.spi_replay.specs.Stepping.{largest, message_most}
 use Rattle.spi_scope.specs.Scope.{Word, Names, number_of}
 use Rattle.spi_scope.specs.Points.{all_names}
-use Rattle.spi_honest.specs.Reading.{Given, Map, at_word, value, numbered}
+use Rattle.spi_honest.specs.Reading.{GivenMessage, Map, at_word, value, numbered}
 
-abbrev pub at : SWord → Message → Given
+abbrev pub at : SWord → Message → GivenMessage
 at x m = record { word = x.word; message = m }
 
 -- What a role that has g does by itself where k names are used: what it binds, the latest first, its event, and how many
@@ -50,13 +50,13 @@ pub record IsFree (free : Names) (g : Map) (w : Word) : Type 0 where
 
 -- one line: what it binds, its event, and what there is then. A message goes from the sender to the receiver where both
 -- have the free name at the word after `on`
-pub data Tells (free : Names) (o : Told) : n.Line → Map → Option Event → Told → Type 0 where
+pub data TellsLine (free : Names) (o : Told) : n.Line → Map → Option Event → Told → Type 0 where
   tells_local : {s : Span} {r : SWord} {f : n.Prefix} {more : Map} {e : Option Event} {k : ℕ}
       → Does o.names (o.has r.word) f more e k
-      → Tells free o (n.local s r f) more e (record { names = k; has = giving r.word more o.has })
+      → TellsLine free o (n.local s r f) more e (record { names = k; has = giving r.word more o.has })
   tells_pass : {s : Span} {from to c x : SWord} {m : Msg}
       → IsFree free (o.has from.word) c.word → IsFree free (o.has to.word) c.word
-      → Tells free o (n.pass s from to c m x) (at x (value (o.has from.word) m) ∷ []) None
+      → TellsLine free o (n.pass s from to c m x) (at x (value (o.has from.word) m) ∷ []) None
       (record { names = o.names; has = giving to.word (at x (value (o.has from.word) m) ∷ []) o.has })
 
 -- lines in order, with their events
@@ -64,7 +64,7 @@ pub data Narrates (free : Names) : Told → List n.Line → List Event → Told 
   narrates_none : {o : Told} → Narrates free o [] [] o
   narrates_line : {o p q : Told} {l : n.Line} {ls : List n.Line} {more : Map} {e : Option Event}
       {es : List Event}
-      → Tells free o l more e p → Narrates free p ls es q
+      → TellsLine free o l more e p → Narrates free p ls es q
       → Narrates free o (l ∷ ls) (option_to_list e ++ es) q
 
 -- the messages that a line binds or reports
@@ -77,15 +77,15 @@ abbrev pub shown : Map → Option Event → List Message
 shown more e = map (λ x. x.message) more ++ map label (option_to_list e)
 
 -- lines in order, none of whose messages has more than 1,000 nodes
-abbrev pub AreSmall : {free : Names} {o p : Told} {ls : List n.Line} {es : List Event}
+abbrev pub AreLinesSmall : {free : Names} {o p : Told} {ls : List n.Line} {es : List Event}
     → Narrates free o ls es p → Type 0
-AreSmall narrates_none = ⊤
-AreSmall (narrates_line {more = more} {e = e} t r) = (largest (shown more e) ≤ message_most) × AreSmall r
+AreLinesSmall narrates_none = ⊤
+AreLinesSmall (narrates_line {more = more} {e = e} t r) = (largest (shown more e) ≤ message_most) × AreLinesSmall r
 
 pub record NarratesSmall (free : Names) (o : Told) (ls : List n.Line) (es : List Event) (p : Told) : Type 0
   where
     pub narrates : Narrates free o ls es p
-    pub small : AreSmall narrates
+    pub small : AreLinesSmall narrates
 
 -- the free names, and with them the shared names, the innermost first
 abbrev pub free_of : n.Narration → Names

@@ -14,7 +14,7 @@ use Rattle.spi_honest.specs.Schedule.{line_steps, shared_steps, role_steps, plac
 use Rattle.spi_honest.specs.Honest.{Replays, opening}
 use Rattle.spi_honest.specs.Reading.{word_in, numbered}
 use Rattle.spi_honest.specs.Holds.{Holds}
-use Rattle.spi_honest.specs.Standing.{Stands, Stopped, Locates, left}
+use Rattle.spi_honest.specs.Standing.{StandRoles, StoppedRoles, Locates, left}
 
 -- these lines were told, and the rest is left
 pub record Progress (x : n.Narration) (file : Meant) (before rest : List n.Line) (pool : Pooled)
@@ -25,7 +25,7 @@ pub record Progress (x : n.Narration) (file : Meant) (before rest : List n.Line)
   pub narrates : NarratesSmall (free_of x) (begins x) before events told
   pub replays : Replays (opening file) steps events pool
   pub names : pool.configuration.names ≡ told.names
-  pub stands : Stands x.roles place (left rest) told.has Stopped pool.configuration.places
+  pub stands : StandRoles x.roles place (left rest) told.has StoppedRoles pool.configuration.places
   pub located : Locates x.roles place is
   pub order : honest_steps x ≡ steps ++ line_steps place (length pool.configuration.places) rest
   pub few : length pool.configuration.places ≤ 9 + length before
@@ -68,7 +68,7 @@ pub data Each (x : n.Narration) : List SWord → List Process → Type 0 where
       → Each x (r ∷ rs) (p ∷ ps)
 
 -- these roles were taken apart, and the last place has this one with the rest
-pub record Spreads (x : n.Narration) (file : Meant) (before : List SWord) (role : SWord) (rest : List SWord)
+pub record SpreadsRoles (x : n.Narration) (file : Meant) (before : List SWord) (role : SWord) (rest : List SWord)
     (pool : Pooled) (steps : List Step) : Type 0 where
   pub cut : x.roles ≡ before ++ role ∷ rest
   pub apart : List Process
@@ -84,6 +84,6 @@ pub record Spreads (x : n.Narration) (file : Meant) (before : List SWord) (role 
   pub most : pool.most ≡ 5000
 
 -- the places of the roles by their numbers
-pub record ArePlaces (count : ℕ) (is : List ℕ) : Type 0 where
+pub record AreRolePlaces (count : ℕ) (is : List ℕ) : Type 0 where
   pub many : length is ≡ count
   pub each : (j : ℕ) → j < count → slice_get is j ≡ Some (place_number j)

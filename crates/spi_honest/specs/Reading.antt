@@ -7,13 +7,13 @@ use Rattle.spi_scope.specs.Scope.{Word, Names}
 use Rattle.spi_scope.specs.Meaning.{nested}
 
 -- a message at a spelling
-pub record Given : Type 0 where
+pub record GivenMessage : Type 0 where
   pub word : Word
   pub message : Message
 
 -- a finite map from spellings to messages, the latest first
 abbrev pub Map : Type 0
-Map = List Given
+Map = List GivenMessage
 
 -- the message at a spelling is the latest that was given there
 abbrev pub at_word : Map → Word → Option Message

@@ -9,9 +9,9 @@ use Rattle.spi_weave.specs.Woven.{woven}
 use Rattle.spi_honest.specs.Narrated.{free_of}
 
 -- no word is that of two roles
-abbrev pub AreDistinct : List SWord → Type 0
-AreDistinct [] = ⊤
-AreDistinct (r ∷ rs) = ((q : SWord) → In q rs → r.word ≢ q.word) × AreDistinct rs
+abbrev pub AreRolesDistinct : List SWord → Type 0
+AreRolesDistinct [] = ⊤
+AreRolesDistinct (r ∷ rs) = ((q : SWord) → In q rs → r.word ≢ q.word) × AreRolesDistinct rs
 
 -- a role, by its word
 pub record IsRole (roles : List SWord) (w : Word) : Type 0 where
@@ -31,7 +31,7 @@ HaveRoles roles (l ∷ ls) = HasRoles roles l × HaveRoles roles ls
 -- no role is unknown, none is declared twice, and the limits of narrations are kept
 pub record IsTellable (x : n.Narration) : Type 0 where
   pub known : HaveRoles x.roles x.lines
-  pub distinct : AreDistinct x.roles
+  pub distinct : AreRolesDistinct x.roles
   pub shared : length x.shared ≤ 16
   pub roles : length x.roles ≤ 8
   pub lines : length x.lines ≤ 200

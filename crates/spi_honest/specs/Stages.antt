@@ -16,7 +16,7 @@ use Rattle.spi_scope.specs.StandsFor.{Meant}
 use Rattle.spi_honest.specs.Narrated.{free_of}
 use Rattle.spi_honest.specs.Schedule.{moved}
 use Rattle.spi_honest.specs.Standing.{Locates}
-use Rattle.spi_honest.specs.Progress.{Progress, Shares, Spreads}
+use Rattle.spi_honest.specs.Progress.{Progress, Shares, SpreadsRoles}
 use Rattle.spi_honest.specs.declared.stage.Stage.{Stage}
 use Rattle.spi_honest.specs.declared.fault.HonestFault.{HonestFault}
 use Rattle.spi_honest.specs.declared.fault.HonestFault.TheVariants.{LineNotReady, NarratedTooLarge, NoMemory}
@@ -36,12 +36,12 @@ pub record IsRoomy (p : Pooled) (s : Step) : Type 0 where
   pub room : (e : Option Event) (d : Configuration) → Takes p.configuration s e d → length d.places ≤ p.most
 
 -- the step of this line isn't ready, or a message of it is too large
-abbrev pub IsRefused : Pooled → Step → ℕ → HonestFault → Type 0
-IsRefused p s line (LineNotReady k) = (k ≡ line) × (IsReady p.configuration s → ⊥)
-IsRefused p s line (NarratedTooLarge k nodes) =
+abbrev pub IsStepRefused : Pooled → Step → ℕ → HonestFault → Type 0
+IsStepRefused p s line (LineNotReady k) = (k ≡ line) × (IsReady p.configuration s → ⊥)
+IsStepRefused p s line (NarratedTooLarge k nodes) =
     (k ≡ line) × IsReady p.configuration s × (message_most < largest (bound_by p.configuration s))
     × (nodes ≡ stopped (largest (bound_by p.configuration s)))
-IsRefused p s line NoMemory = ⊥
+IsStepRefused p s line NoMemory = ⊥
 
 -- the process at a place puts out, or takes in, on this channel
 abbrev pub PutsAt : Message → List Process → ℕ → Type 0
@@ -68,7 +68,7 @@ pub record SharesTo (x : n.Narration) (file : Meant) (i : ℕ) (st : Stage) : Ty
 pub record SpreadsTo (x : n.Narration) (file : Meant) (i : ℕ) (st : Stage) : Type 0 where
   pub role : SWord
   pub here : slice_get x.roles i ≡ Some role
-  pub spreads : Spreads x file (take i x.roles) role (drop (suc i) x.roles) st.pool (steps_in st)
+  pub spreads : SpreadsRoles x file (take i x.roles) role (drop (suc i) x.roles) st.pool (steps_in st)
   pub quiet : events_in st ≡ []
 
 abbrev pub ToldTo : n.Narration → Meant → ℕ → Stage → Type 0

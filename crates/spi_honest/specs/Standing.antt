@@ -15,23 +15,23 @@ pub record AreApart (roles : List SWord) : Type 0 where
   pub once : (r q : SWord) → In r roles → In q roles → r.word ≡ q.word → r ≡ q
 
 -- what is left of a role's process, at its place
-pub record Stood (place : Word → ℕ) (tree : SWord → t.Proc) (has : Word → Map) (ps : List Process)
+pub record StoodRole (place : Word → ℕ) (tree : SWord → t.Proc) (has : Word → Map) (ps : List Process)
     (r : SWord) : Type 0 where
   pub process : Process
   pub there : At ps (place r.word) process
   pub holds : Holds (tree r) [] (word_in (has r.word)) process
 
-pub record Stands (roles : List SWord) (place : Word → ℕ) (tree : SWord → t.Proc) (has : Word → Map)
+pub record StandRoles (roles : List SWord) (place : Word → ℕ) (tree : SWord → t.Proc) (has : Word → Map)
     (Idle : ℕ → Process → Type 0) (ps : List Process) : Type 0 where
   pub closed : (w : Word) → AreClosed (word_in (has w))
-  pub there : (r : SWord) → In r roles → Stood place tree has ps r
+  pub there : (r : SWord) → In r roles → StoodRole place tree has ps r
   pub apart : (r q : SWord) → In r roles → In q roles → place r.word ≡ place q.word → r ≡ q
   pub others : (i : ℕ) (p : Process) → At ps i p → ((r : SWord) → In r roles → place r.word ≡ i → ⊥)
       → Idle i p
 
 -- every place without a role is `stop`, and every one but this
-abbrev pub Stopped : ℕ → Process → Type 0
-Stopped i p = p ≡ stop
+abbrev pub StoppedRoles : ℕ → Process → Type 0
+StoppedRoles i p = p ≡ stop
 
 abbrev pub StoppedBut : ℕ → ℕ → Process → Type 0
 StoppedBut k i p = (k ≡ i → ⊥) → p ≡ stop

@@ -4,7 +4,7 @@ ghost use Rattle.std.specs.Prelude.{◌≡◌, ◌∷◌, [], ℕ, map, Some, If
 ghost use Rattle.spi_tree.specs.Views.{decl_of};
 ghost use Rattle.spi_scope.specs.Scope.{Names, number_of};
 ghost use Rattle.spi_scope.specs.Points.{with_free, names_behind, all_names};
-ghost use Rattle.spi_honest.specs.Free.{Numbers};
+ghost use Rattle.spi_honest.specs.Free.{NumbersSpellings};
 
 use crate::NoMemory;
 use indexmap::IndexMap;
@@ -26,7 +26,7 @@ impl Drop for FreeNames<'_> {
 /// One more name. There is no room for 2 ^ 32 names, and so many don't come: each has a token of its own.
 fn bind<'n>(names: &mut FreeNames<'n>, word: &'n SWord) -> Result<(), NoMemory>
     ensures { OnOk result
-        ((xs : Names) → Numbers names.old xs → Numbers names.new (word.entry.now.word ∷ xs)) }
+        ((xs : Names) → NumbersSpellings names.old xs → NumbersSpellings names.new (word.entry.now.word ∷ xs)) }
 {
     if names.count == u32::MAX {
         return Err(AllocError);
@@ -39,7 +39,7 @@ fn bind<'n>(names: &mut FreeNames<'n>, word: &'n SWord) -> Result<(), NoMemory>
 /// More names, in order.
 fn bind_all<'n>(names: &mut FreeNames<'n>, words: &'n [SWord]) -> Result<(), NoMemory>
     ensures { OnOk result
-        ((xs : Names) → Numbers names.old xs → Numbers names.new (with_free xs words.entry.now)) }
+        ((xs : Names) → NumbersSpellings names.old xs → NumbersSpellings names.new (with_free xs words.entry.now)) }
 {
     for word in words {
         bind(names, word)?;
@@ -50,8 +50,8 @@ fn bind_all<'n>(names: &mut FreeNames<'n>, words: &'n [SWord]) -> Result<(), NoM
 /// The names that a declaration brings.
 fn bind_declared<'n>(names: &mut FreeNames<'n>, decl: &'n Decl) -> Result<(), NoMemory>
     ensures { OnOk result
-        ((xs : Names) → Numbers names.old xs
-        → Numbers names.new (names_behind xs (decl_of decl.entry.now))) }
+        ((xs : Names) → NumbersSpellings names.old xs
+        → NumbersSpellings names.new (names_behind xs (decl_of decl.entry.now))) }
 {
     match decl {
         Decl::Free { first, more, .. } => {
@@ -65,7 +65,7 @@ fn bind_declared<'n>(names: &mut FreeNames<'n>, decl: &'n Decl) -> Result<(), No
 impl<'n> FreeNames<'n> {
     /// The free names of the declarations. The time is that of the declarations.
     pub fn of(alloc: Global, decls: &'n [Decl]) -> Result<Self, NoMemory>
-        ensures { IfOk result (λ names. Numbers names (all_names [] (map decl_of decls.entry.now))) }
+        ensures { IfOk result (λ names. NumbersSpellings names (all_names [] (map decl_of decls.entry.now))) }
     {
         let mut names = FreeNames {
             numbers: IndexMap::new(alloc),
@@ -79,7 +79,7 @@ impl<'n> FreeNames<'n> {
 
     /// The number of the name that is spelled so.
     pub fn number(&self, word: &SWord) -> Option<u32>
-        ensures { (xs : Names) → Numbers self.now xs → result ≡ number_of xs word.now.word }
+        ensures { (xs : Names) → NumbersSpellings self.now xs → result ≡ number_of xs word.now.word }
     {
         self.numbers.get(&word.word.as_str()).copied()
     }
@@ -87,8 +87,8 @@ impl<'n> FreeNames<'n> {
 
 /// The number of a word that is a free name.
 pub fn name_number(names: &FreeNames<'_>, word: &SWord) -> u32
-    requires { (xs : Names) × (i : ℕ) × Numbers names.now xs × (number_of xs word.now.word ≡ Some i) }
-    ensures { (xs : Names) → Numbers names.now xs → number_of xs word.now.word ≡ Some result }
+    requires { (xs : Names) × (i : ℕ) × NumbersSpellings names.now xs × (number_of xs word.now.word ≡ Some i) }
+    ensures { (xs : Names) → NumbersSpellings names.now xs → number_of xs word.now.word ≡ Some result }
 {
     match names.number(word) {
         Some(number) => number,

@@ -5,7 +5,7 @@ ghost use Rattle.spi_scope.specs.Files.{meant};
 ghost use Rattle.spi_narrate.specs.Views.{narration_of};
 ghost use Rattle.spi_honest.specs.Free.{NumbersFree};
 ghost use Rattle.spi_honest.specs.Roles.{IsTellable, NamesChannels};
-ghost use Rattle.spi_honest.specs.Honest.{HasFault};
+ghost use Rattle.spi_honest.specs.Honest.{HasHonestFault};
 ghost use Rattle.spi_honest.specs.Stages.{ToldTo, IsLocalAt, IsPassAt, IsParted};
 
 use crate::NoMemory;
@@ -29,7 +29,7 @@ fn local(
     requires line { IsLocalAt (narration_of n.now) at role }
     requires told { ToldTo (narration_of n.now) (meant file.now) at stage.old }
     ensures told { OnOk result (ToldTo (narration_of n.now) (meant file.now) (at + 1) stage.new) }
-    ensures fault { IfErr result (λ e. (e ≡ HonestFault.NoMemory) ⊎ HasFault (narration_of n.now) e) }
+    ensures fault { IfErr result (λ e. (e ≡ HonestFault.NoMemory) ⊎ HasHonestFault (narration_of n.now) e) }
 {
     let place = stage.places[role];
     attempt(stage, Step::Act(place), at as u32)
@@ -72,7 +72,7 @@ fn meet(
     requires tellable { IsTellable (narration_of n.now) }
     requires parted { IsParted (narration_of n.now) (meant file.now) at from to channel out stage.old }
     ensures told { OnOk result (ToldTo (narration_of n.now) (meant file.now) (at + 1) stage.new) }
-    ensures fault { IfErr result (λ e. (e ≡ HonestFault.NoMemory) ⊎ HasFault (narration_of n.now) e) }
+    ensures fault { IfErr result (λ e. (e ≡ HonestFault.NoMemory) ⊎ HasHonestFault (narration_of n.now) e) }
 {
     let inp = stage.places[to];
     if !meets(&stage.pool, channel, out, inp) {
@@ -95,7 +95,7 @@ pub fn tell(
     requires at { at < length n.now.lines.items }
     requires told { ToldTo (narration_of n.now) (meant file.now) at stage.old }
     ensures told { OnOk result (ToldTo (narration_of n.now) (meant file.now) (at + 1) stage.new) }
-    ensures fault { IfErr result (λ e. (e ≡ HonestFault.NoMemory) ⊎ HasFault (narration_of n.now) e) }
+    ensures fault { IfErr result (λ e. (e ≡ HonestFault.NoMemory) ⊎ HasHonestFault (narration_of n.now) e) }
 {
     match &n.lines[at] {
         Line::Local { role, .. } => {

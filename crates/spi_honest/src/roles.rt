@@ -2,7 +2,7 @@
 
 ghost use Rattle.std.specs.Prelude.{◌≡◌, ◌∷◌, ◌<◌, ◌^◌, IfOk};
 ghost use Rattle.spi_honest.specs.Roles.{IsRole};
-ghost use Rattle.spi_honest.specs.Progress.{place_number, ArePlaces};
+ghost use Rattle.spi_honest.specs.Progress.{place_number, AreRolePlaces};
 ghost use Rattle.spi_honest.specs.Stages.{IsRoleAt};
 
 use crate::NoMemory;
@@ -33,7 +33,7 @@ pub fn first_place(i: usize) -> u32
 /// The places of so many roles.
 pub fn first_places(alloc: Global, count: usize) -> Result<Vec<u32>, NoMemory>
     requires { count < 2 ^ 16 }
-    ensures { IfOk result (λ is. ArePlaces count is.items) }
+    ensures { IfOk result (λ is. AreRolePlaces count is.items) }
 {
     let mut places = Vec::new(alloc);
     for i in 0..count {

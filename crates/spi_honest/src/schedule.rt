@@ -4,7 +4,7 @@ ghost use Rattle.std.specs.Prelude.{◌≡◌, ◌⊎◌, IfOk, IfErr};
 ghost use Rattle.spi_scope.specs.Files.{meant};
 ghost use Rattle.spi_narrate.specs.Views.{narration_of};
 ghost use Rattle.spi_honest.specs.Roles.{IsTellable, NamesChannels, WeavesTo};
-ghost use Rattle.spi_honest.specs.Honest.{IsHonest, HasFault};
+ghost use Rattle.spi_honest.specs.Honest.{IsHonest, HasHonestFault};
 
 use crate::fault::HonestFault;
 use crate::free::FreeNames;
@@ -25,7 +25,7 @@ pub fn schedule_of(alloc: Global, n: &Narration, file: &File) -> Result<Honest, 
     requires channels { NamesChannels (narration_of n.now) }
     requires file { WeavesTo (narration_of n.now) (meant file.now) }
     ensures honest { IfOk result (λ h. IsHonest (narration_of n.now) (meant file.now) h) }
-    ensures fault { IfErr result (λ e. (e ≡ HonestFault.NoMemory) ⊎ HasFault (narration_of n.now) e) }
+    ensures fault { IfErr result (λ e. (e ≡ HonestFault.NoMemory) ⊎ HasHonestFault (narration_of n.now) e) }
 {
     let Ok(names) = FreeNames::of(alloc, &n.decls) else {
         return Err(HonestFault::NoMemory);

@@ -5,8 +5,8 @@ ghost use Rattle.spi_term.specs.Lists.{In};
 ghost use Rattle.spi_term.specs.Term.{name};
 ghost use Rattle.spi_run.specs.Reduction.{Event as Shown};
 ghost use Rattle.spi_run.specs.View.{step as step_of, event as event_of};
-ghost use Rattle.spi_replay.specs.Stepping.{Pooled, IsTaken, Refuses, event_in};
-ghost use Rattle.spi_honest.specs.Stages.{TookStep, IsRoomy, IsRefused, PutsAt, TakesAt};
+ghost use Rattle.spi_replay.specs.Stepping.{Pooled, IsTaken, RefusesPoolStep, event_in};
+ghost use Rattle.spi_honest.specs.Stages.{TookStep, IsRoomy, IsStepRefused, PutsAt, TakesAt};
 
 use crate::NoMemory;
 use crate::fault::HonestFault;
@@ -71,7 +71,7 @@ pub fn take(stage: &mut Stage<'_>, step: Step) -> Result<(), StepFault>
     ensures taken { OnOk result (TookStep stage.old stage.new (step_of step)) }
     ensures refused { IfErr result
         (λ f. (f ≡ StepFault.NoMemory)
-        ⊎ Refuses stage.old.pool.configuration stage.old.pool.most (step_of step) f) }
+        ⊎ RefusesPoolStep stage.old.pool.configuration stage.old.pool.most (step_of step) f) }
 {
     match stage.pool.step(step) {
         Ok(event) => {
@@ -104,7 +104,7 @@ pub fn attempt(stage: &mut Stage<'_>, step: Step, line: u32) -> Result<(), Hones
     requires roomy { IsRoomy stage.old.pool (step_of step) }
     ensures taken { OnOk result (TookStep stage.old stage.new (step_of step)) }
     ensures refused { IfErr result
-        (λ f. (f ≡ HonestFault.NoMemory) ⊎ IsRefused stage.old.pool (step_of step) line f) }
+        (λ f. (f ≡ HonestFault.NoMemory) ⊎ IsStepRefused stage.old.pool (step_of step) line f) }
 {
     match take(stage, step) {
         Ok(()) => Ok(()),

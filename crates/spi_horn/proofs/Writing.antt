@@ -8,9 +8,9 @@ use Rattle.spi_horn.specs.declared.rules.Why.{Why}
 use Rattle.spi_horn.specs.declared.rules.Why.TheVariants.{Start, ByRule}
 use Rattle.spi_horn.specs.declared.tracing.Line.{Line}
 use Rattle.spi_horn.specs.declared.tracing.Ground.{Ground}
-use Rattle.spi_horn.specs.Leading.{StandsAt, IsReason, IsOrder}
-use Rattle.spi_horn.specs.Needs.{IsMarked, IsSpread, SaysWhy, IsWritten}
-use Rattle.spi_horn.specs.Lines.{SaysBefore, Holds, Names, Proves}
+use Rattle.spi_horn.specs.Leading.{IsPlacedAt, IsReason, IsOrder}
+use Rattle.spi_horn.specs.Needs.{IsMarked, IsSpread, SaysWhy, AreMarkedWritten}
+use Rattle.spi_horn.specs.Lines.{SaysBefore, HoldsOfLine, NamesLine, ProvesTarget}
 use Rattle.spi_horn.proofs.Lookups.{get_append, get_end, get_cases, get_some}
 use Rattle.spi_horn.proofs.Trying.{same_or_less}
 use Rattle.spi_horn.proofs.Spreading.{one_place, use_before}
@@ -20,7 +20,7 @@ says_kept rules places line_at l (Start j) g e = e
 says_kept rules places line_at l (ByRule k) g (a, b, e, f, h) =
     (a, b, e, λ r s i j. get_append line_at (l ∷ []) s a (f r s i j), λ r s i j. get_append line_at (l ∷ []) s b (h r s i j))
 
-pub written_none : (rules : List Rule) (order : List Reached) (places : List (Option ℕ)) (marks : List Bool) (lines : List Line) (line_at : List ℕ) → lines ≡ [] → line_at ≡ [] → IsWritten rules order places marks 0 lines line_at
+pub written_none : (rules : List Rule) (order : List Reached) (places : List (Option ℕ)) (marks : List Bool) (lines : List Line) (line_at : List ℕ) → lines ≡ [] → line_at ≡ [] → AreMarkedWritten rules order places marks 0 lines line_at
 written_none rules order places marks lines line_at e f =
     let gone : (s l : ℕ) → slice_get line_at s ≡ Some l → ⊥ = λ s l h. let i : slice_get [] s ≡ Some l = ap (λ x. slice_get x s) (sym f) ∙ h in cc in
     record {
@@ -47,13 +47,13 @@ up_more marks lines line_at below up s u l m lt i f g = ⊎_elim
     (get_cases line_at (length lines) s l f)
 
 -- the next place has no line
-pub written_skip : (rules : List Rule) (order : List Reached) (places : List (Option ℕ)) (marks : List Bool) (t : ℕ) (lines : List Line) (line_at line_at' : List ℕ) → line_at' ≡ line_at ++ length lines ∷ [] → (IsMarked marks t → ⊥) → IsWritten rules order places marks t lines line_at → IsWritten rules order places marks (t + 1) lines line_at'
+pub written_skip : (rules : List Rule) (order : List Reached) (places : List (Option ℕ)) (marks : List Bool) (t : ℕ) (lines : List Line) (line_at line_at' : List ℕ) → line_at' ≡ line_at ++ length lines ∷ [] → (IsMarked marks t → ⊥) → AreMarkedWritten rules order places marks t lines line_at → AreMarkedWritten rules order places marks (t + 1) lines line_at'
 written_skip rules order places marks t lines line_at line_at' same none w =
     let l0 = length lines in
     let count = w.count in
     let len = length_push line_at l0 in
     let few = w.few in
-    let at : IsWritten rules order places marks (t + 1) lines (line_at ++ l0 ∷ []) = record {
+    let at : AreMarkedWritten rules order places marks (t + 1) lines (line_at ++ l0 ∷ []) = record {
       count = omega (arith, len, count);
       few = omega (arith, few);
       within = λ s l e. ⊎_elim (λ (a, b). omega (arith, b)) (λ a. w.within s l a) (get_cases line_at l0 s l e);
@@ -65,10 +65,10 @@ written_skip rules order places marks t lines line_at line_at' same none w =
       from = λ l y e. let (s, m, f) = w.from l y e in (s, m, get_append line_at (l0 ∷ []) s l f);
       up = up_more marks lines line_at w.below w.up;
     } in
-    subst (λ x. IsWritten rules order places marks (t + 1) lines x) (sym same) at
+    subst (λ x. AreMarkedWritten rules order places marks (t + 1) lines x) (sym same) at
 
 -- or it has the next line
-pub written_more : (rules : List Rule) (order : List Reached) (places : List (Option ℕ)) (marks : List Bool) (t : ℕ) (lines lines' : List Line) (line_at line_at' : List ℕ) (x : Reached) (y : Line) → line_at' ≡ line_at ++ length lines ∷ [] → lines' ≡ lines ++ y ∷ [] → IsMarked marks t → slice_get order t ≡ Some x → y.number ≡ x.number → SaysWhy rules places line_at' x.why y.ground → IsWritten rules order places marks t lines line_at → IsWritten rules order places marks (t + 1) lines' line_at'
+pub written_more : (rules : List Rule) (order : List Reached) (places : List (Option ℕ)) (marks : List Bool) (t : ℕ) (lines lines' : List Line) (line_at line_at' : List ℕ) (x : Reached) (y : Line) → line_at' ≡ line_at ++ length lines ∷ [] → lines' ≡ lines ++ y ∷ [] → IsMarked marks t → slice_get order t ≡ Some x → y.number ≡ x.number → SaysWhy rules places line_at' x.why y.ground → AreMarkedWritten rules order places marks t lines line_at → AreMarkedWritten rules order places marks (t + 1) lines' line_at'
 written_more rules order places marks t lines lines' line_at line_at' x y same new mt ox num says w =
     let l0 = length lines in
     let count = w.count in
@@ -76,7 +76,7 @@ written_more rules order places marks t lines lines' line_at line_at' x y same n
     let more = length_push lines y in
     let few = w.few in
     let says' : SaysWhy rules places (line_at ++ l0 ∷ []) x.why y.ground = subst (λ z. SaysWhy rules places z x.why y.ground) same says in
-    let at : IsWritten rules order places marks (t + 1) (lines ++ y ∷ []) (line_at ++ l0 ∷ []) = record {
+    let at : AreMarkedWritten rules order places marks (t + 1) (lines ++ y ∷ []) (line_at ++ l0 ∷ []) = record {
       count = omega (arith, len, count);
       few = omega (arith, few, more);
       within = λ s l e. ⊎_elim (λ (a, b). omega (arith, b, more)) (λ a. let v = w.within s l a in omega (arith, v, more)) (get_cases line_at l0 s l e);
@@ -94,8 +94,8 @@ written_more rules order places marks t lines lines' line_at line_at' x y same n
           (get_cases lines y l v e);
       up = up_more marks lines line_at w.below w.up;
     } in
-    let P : List Line → Type 0 = λ z. IsWritten rules order places marks (t + 1) z line_at' in
-    subst P (sym new) (subst (λ z. IsWritten rules order places marks (t + 1) (lines ++ y ∷ []) z) (sym same) at)
+    let P : List Line → Type 0 = λ z. AreMarkedWritten rules order places marks (t + 1) z line_at' in
+    subst P (sym new) (subst (λ z. AreMarkedWritten rules order places marks (t + 1) (lines ++ y ∷ []) z) (sym same) at)
 
 -- what is written of marks that go to premises leads to the goal's number
 record Written (rules : List Rule) (start : List ℕ) (order : List Reached) (places : List (Option ℕ)) (goal : ℕ) (marks : List Bool) (lines : List Line) (line_at : List ℕ) : Type 0 where
@@ -103,27 +103,27 @@ record Written (rules : List Rule) (start : List ℕ) (order : List Reached) (pl
   spread : IsSpread rules order places goal 0 marks
   count : length marks ≡ goal + 1
   long : goal < length order
-  written : IsWritten rules order places marks (length marks) lines line_at
+  written : AreMarkedWritten rules order places marks (length marks) lines line_at
 
-premise_says : {rules : List Rule} {start : List ℕ} {order : List Reached} {places : List (Option ℕ)} {goal : ℕ} {marks : List Bool} {lines : List Line} {line_at : List ℕ} (n u s a l : ℕ) → Written rules start order places goal marks lines line_at → StandsAt places n u → u < s → IsMarked marks u → slice_get line_at u ≡ Some a → slice_get line_at s ≡ Some l → SaysBefore lines l a n
+premise_says : {rules : List Rule} {start : List ℕ} {order : List Reached} {places : List (Option ℕ)} {goal : ℕ} {marks : List Bool} {lines : List Line} {line_at : List ℕ} (n u s a l : ℕ) → Written rules start order places goal marks lines line_at → IsPlacedAt places n u → u < s → IsMarked marks u → slice_get line_at u ≡ Some a → slice_get line_at s ≡ Some l → SaysBefore lines l a n
 premise_says n u s a l w st lt m at at' =
     let (x, e, f) = w.ordered.placed n u st in
     let (y, g, h, i) = w.written.marked u a at m x e in
     (y, w.written.up u s a l lt m at at', g, h ∙ f)
 
-holds : {rules : List Rule} {start : List ℕ} {order : List Reached} {places : List (Option ℕ)} {goal : ℕ} {marks : List Bool} {lines : List Line} {line_at : List ℕ} (l s : ℕ) (x : Reached) (w : Why) (g : Ground) → Written rules start order places goal marks lines line_at → slice_get order s ≡ Some x → x.why ≡ w → IsMarked marks s → slice_get line_at s ≡ Some l → IsReason rules start places s x.number w → SaysWhy rules places line_at w g → Holds rules start lines l x.number g
-holds {rules} {start} {order} {places} {goal} {marks} {lines} {line_at} l s x (Start j) g w e q m at is says = subst (λ z. Holds rules start lines l x.number z) (sym says) is
+holds : {rules : List Rule} {start : List ℕ} {order : List Reached} {places : List (Option ℕ)} {goal : ℕ} {marks : List Bool} {lines : List Line} {line_at : List ℕ} (l s : ℕ) (x : Reached) (w : Why) (g : Ground) → Written rules start order places goal marks lines line_at → slice_get order s ≡ Some x → x.why ≡ w → IsMarked marks s → slice_get line_at s ≡ Some l → IsReason rules start places s x.number w → SaysWhy rules places line_at w g → HoldsOfLine rules start lines l x.number g
+holds {rules} {start} {order} {places} {goal} {marks} {lines} {line_at} l s x (Start j) g w e q m at is says = subst (λ z. HoldsOfLine rules start lines l x.number z) (sym says) is
 holds {rules} {start} {order} {places} {goal} {marks} {lines} {line_at} l s x (ByRule k) g w e q m at (r, f, gives, (u, lu, su), (v, lv, sv)) (a, b, eg, fa, fb) =
     let mu = w.spread.closed u s (omega arith) m (x, k, r, e, q, f, inl su) in
     let mv = w.spread.closed v s (omega arith) m (x, k, r, e, q, f, inr sv) in
-    let P : Ground → Type 0 = λ z. Holds rules start lines l x.number z in
+    let P : Ground → Type 0 = λ z. HoldsOfLine rules start lines l x.number z in
     subst P (sym eg) (
       r,
       f,
       gives,
       premise_says r.first u s a l w su lu mu (fa r u f su) at,
       premise_says r.second v s b l w sv lv mv (fb r v f sv) at,
-      λ same. let sv' : StandsAt places r.first v = ap (slice_get places) same ∙ sv in
+      λ same. let sv' : IsPlacedAt places r.first v = ap (slice_get places) same ∙ sv in
           let uv = one_place places r.first u v su sv' in
           let p : Some a ≡ Some b = sym (fa r u f su) ∙ (ap (slice_get line_at) uv ∙ fb r v f sv) in cc,
     )
@@ -144,18 +144,18 @@ last_line {goal = goal} {marks = marks} {lines = lines} {line_at = line_at} l w 
     (same_or_less (suc l) (length lines) below)
 
 -- a line that is a premise's is named
-names_use : (rules : List Rule) (places : List (Option ℕ)) (line_at : List ℕ) (w : Why) (g : Ground) (k s l : ℕ) (r : Rule) → w ≡ ByRule k → slice_get rules k ≡ Some r → StandsAt places r.first s ⊎ StandsAt places r.second s → slice_get line_at s ≡ Some l → SaysWhy rules places line_at w g → Names g l
+names_use : (rules : List Rule) (places : List (Option ℕ)) (line_at : List ℕ) (w : Why) (g : Ground) (k s l : ℕ) (r : Rule) → w ≡ ByRule k → slice_get rules k ≡ Some r → IsPlacedAt places r.first s ⊎ IsPlacedAt places r.second s → slice_get line_at s ≡ Some l → SaysWhy rules places line_at w g → NamesLine g l
 names_use rules places line_at (Start j) g k s l r e f st at says = cc
 names_use rules places line_at (ByRule k') g k s l r e f st at (a, b, eg, fa, fb) =
     let kk : k ≡ k' = cc in
     let f' : slice_get rules k' ≡ Some r = ap (slice_get rules) (sym kk) ∙ f in
-    let P : Ground → Type 0 = λ z. Names z l in
+    let P : Ground → Type 0 = λ z. NamesLine z l in
     subst P (sym eg) (⊎_elim
     (λ x. let p : Some a ≡ Some l = sym (fa r s f' x) ∙ at in let q : a ≡ l = cc in inl q)
     (λ x. let p : Some b ≡ Some l = sym (fb r s f' x) ∙ at in let q : b ≡ l = cc in inr q)
     st)
 
-pub proves : (rules : List Rule) (start : List ℕ) (order : List Reached) (places : List (Option ℕ)) (goal target : ℕ) (marks : List Bool) (lines : List Line) (line_at : List ℕ) → IsOrder rules start order places → IsSpread rules order places goal 0 marks → length marks ≡ goal + 1 → IsWritten rules order places marks (length marks) lines line_at → StandsAt places target goal → Proves rules start lines target
+pub proves : (rules : List Rule) (start : List ℕ) (order : List Reached) (places : List (Option ℕ)) (goal target : ℕ) (marks : List Bool) (lines : List Line) (line_at : List ℕ) → IsOrder rules start order places → IsSpread rules order places goal 0 marks → length marks ≡ goal + 1 → AreMarkedWritten rules order places marks (length marks) lines line_at → IsPlacedAt places target goal → ProvesTarget rules start lines target
 proves rules start order places goal target marks lines line_at o sp count wr st =
     let (xg, eg, ng) = o.placed target goal st in
     let long = slice_get_within order goal xg eg in
@@ -171,8 +171,8 @@ proves rules start order places goal target marks lines line_at o sp count wr st
           let (y', e', num, says) = wr.marked s l at m x ox in
           let p : Some y' ≡ Some y = sym e' ∙ e in
           let q : y' ≡ y = cc in
-          let P : Line → Type 0 = λ z. Holds rules start lines l z.number z.ground in
-          let Q : ℕ → Type 0 = λ n. Holds rules start lines l n y'.ground in
+          let P : Line → Type 0 = λ z. HoldsOfLine rules start lines l z.number z.ground in
+          let Q : ℕ → Type 0 = λ n. HoldsOfLine rules start lines l n y'.ground in
           subst P q (subst Q (sym num) (holds l s x x.why y'.ground w ox refl m at (o.reasons s x ox) says));
       last = let (y, e, num, says) = wr.marked goal lg atg sp.target xg eg in (lg, y, lastg, e, num ∙ ng);
       used = λ l lt.

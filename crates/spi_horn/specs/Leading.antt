@@ -6,8 +6,8 @@ use Rattle.spi_horn.specs.declared.rules.Why.{Why}
 use Rattle.spi_horn.specs.declared.rules.Why.TheVariants.{Start, ByRule}
 
 -- the rules speak of numbers below n, and so does the start
-abbrev pub IsWithin : ℕ → List Rule → Type 0
-IsWithin n rules = (k : ℕ) (r : Rule) → slice_get rules k ≡ Some r
+abbrev pub SpeaksBelow : ℕ → List Rule → Type 0
+SpeaksBelow n rules = (k : ℕ) (r : Rule) → slice_get rules k ≡ Some r
     → (r.first < n) × (r.second < n) × (r.gives < n)
 
 abbrev pub StartsWithin : ℕ → List ℕ → Type 0
@@ -20,14 +20,14 @@ pub data Derived (rules : List Rule) (start : List ℕ) : ℕ → Type 0 where
       → Derived rules start r.first → Derived rules start r.second → Derived rules start r.gives
 
 -- the number n has the place t; it has a place; it has one before t
-abbrev pub StandsAt : List (Option ℕ) → ℕ → ℕ → Type 0
-StandsAt places n t = slice_get places n ≡ Some (Some t)
+abbrev pub IsPlacedAt : List (Option ℕ) → ℕ → ℕ → Type 0
+IsPlacedAt places n t = slice_get places n ≡ Some (Some t)
 
-abbrev pub Stands : List (Option ℕ) → ℕ → Type 0
-Stands places n = (t : ℕ) × StandsAt places n t
+abbrev pub HasSomePlace : List (Option ℕ) → ℕ → Type 0
+HasSomePlace places n = (t : ℕ) × IsPlacedAt places n t
 
 abbrev pub StandsBefore : List (Option ℕ) → ℕ → ℕ → Type 0
-StandsBefore places t n = (s : ℕ) × (s < t) × StandsAt places n s
+StandsBefore places t n = (s : ℕ) × (s < t) × IsPlacedAt places n s
 
 -- why n may have the place t
 abbrev pub IsReason : List Rule → List ℕ → List (Option ℕ) → ℕ → ℕ → Why → Type 0
@@ -39,14 +39,14 @@ IsReason rules start places t n (ByRule k) =
 -- numbers in an order, each once, with its place and with a reason that looks back
 pub record IsOrder (rules : List Rule) (start : List ℕ) (order : List Reached)
     (places : List (Option ℕ)) : Type 0 where
-  pub placed : (n t : ℕ) → StandsAt places n t → (x : Reached) × (slice_get order t ≡ Some x) × (x.number ≡ n)
-  pub stands : (t : ℕ) (x : Reached) → slice_get order t ≡ Some x → StandsAt places x.number t
+  pub placed : (n t : ℕ) → IsPlacedAt places n t → (x : Reached) × (slice_get order t ≡ Some x) × (x.number ≡ n)
+  pub stands : (t : ℕ) (x : Reached) → slice_get order t ≡ Some x → IsPlacedAt places x.number t
   pub reasons : (t : ℕ) (x : Reached) → slice_get order t ≡ Some x
       → IsReason rules start places t x.number x.why
 
 -- exactly what the rules lead to has a place: the start has, no rule adds another, and what has one is derived
-pub record IsLeast (rules : List Rule) (start : List ℕ) (places : List (Option ℕ)) : Type 0 where
-  pub started : (j n : ℕ) → slice_get start j ≡ Some n → Stands places n
-  pub closed : (k : ℕ) (r : Rule) → slice_get rules k ≡ Some r → Stands places r.first
-      → Stands places r.second → Stands places r.gives
-  pub derived : (n : ℕ) → Stands places n → Derived rules start n
+pub record IsLeastModel (rules : List Rule) (start : List ℕ) (places : List (Option ℕ)) : Type 0 where
+  pub started : (j n : ℕ) → slice_get start j ≡ Some n → HasSomePlace places n
+  pub closed : (k : ℕ) (r : Rule) → slice_get rules k ≡ Some r → HasSomePlace places r.first
+      → HasSomePlace places r.second → HasSomePlace places r.gives
+  pub derived : (n : ℕ) → HasSomePlace places n → Derived rules start n

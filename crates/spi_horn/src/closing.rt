@@ -1,9 +1,9 @@
 // The numbers that rules lead to, in the order in which they are found.
 
 ghost use Rattle.std.specs.Prelude.{◌≡◌, ◌<◌, ◌≤◌, ℕ, List, [], None, false, IsTrue, IfOk, OnOk, ◌↔◌, length, map, replicate, slice_get, Some};
-ghost use Rattle.spi_horn.specs.Leading.{IsWithin, StartsWithin, Stands, IsOrder, IsLeast};
-ghost use Rattle.spi_horn.specs.Finding.{Adds, Tries, IsGood, Keeps};
-ghost use Rattle.spi_horn.specs.Waits.{numbers, Waits};
+ghost use Rattle.spi_horn.specs.Leading.{SpeaksBelow, StartsWithin, HasSomePlace, IsOrder, IsLeastModel};
+ghost use Rattle.spi_horn.specs.Finding.{AddsNumber, Tries, IsLookedThrough, KeepsPlaces};
+ghost use Rattle.spi_horn.specs.Waits.{numbers, RulesWait};
 
 use crate::NoMemory;
 use crate::rules::{Reached, Rule, Why};
@@ -19,7 +19,7 @@ pub struct Closure {
 
 fn is_found(closure: &Closure, n: usize) -> bool
     requires { n < length closure.now.places.items }
-    ensures found { IsTrue result ↔ Stands closure.now.places.items n }
+    ensures found { IsTrue result ↔ HasSomePlace closure.now.places.items n }
     ensures not { result ≡ false → slice_get closure.now.places.items n ≡ Some None }
 {
     closure.places[n].is_some()
@@ -28,7 +28,7 @@ fn is_found(closure: &Closure, n: usize) -> bool
 fn add(closure: &mut Closure, n: usize, why: Why) -> Result<(), NoMemory>
     requires { n < length closure.old.places.items }
     ensures { OnOk result
-        (Adds n why closure.old.order.items closure.old.places.items closure.new.order.items
+        (AddsNumber n why closure.old.order.items closure.old.places.items closure.new.order.items
         closure.new.places.items) }
 {
     if !is_found(closure, n) {
@@ -55,13 +55,13 @@ fn try_rule(closure: &mut Closure, rule: Rule, k: usize) -> Result<(), NoMemory>
 
 // Tries each of the rules that wait there.
 fn fire(rules: &[Rule], waiting: &Waiting, closure: &mut Closure) -> Result<(), NoMemory>
-    requires rules { IsWithin (length closure.old.places.items) rules.now }
+    requires rules { SpeaksBelow (length closure.old.places.items) rules.now }
     requires tried { StartsWithin (length rules.now) (numbers waiting.now) }
     ensures good { OnOk result
         ((start : List ℕ) (c : ℕ)
-        → IsGood rules.now start closure.old.order.items closure.old.places.items c (numbers waiting.now) 0
-        → IsGood rules.now start closure.new.order.items closure.new.places.items c [] 0) }
-    ensures keeps { OnOk result (Keeps closure.old.places.items closure.new.places.items) }
+        → IsLookedThrough rules.now start closure.old.order.items closure.old.places.items c (numbers waiting.now) 0
+        → IsLookedThrough rules.now start closure.new.order.items closure.new.places.items c [] 0) }
+    ensures keeps { OnOk result (KeepsPlaces closure.old.places.items closure.new.places.items) }
 {
     for k in &waiting.rules {
         let rule = rules[*k];
@@ -76,9 +76,9 @@ fn start_all(start: &[usize], closure: &mut Closure) -> Result<(), NoMemory>
     requires places { closure.old.places.items ≡ replicate (length closure.old.places.items) None }
     ensures good { OnOk result
         ((rules : List Rule)
-        → IsGood rules start.now closure.new.order.items closure.new.places.items 0 [] 0) }
+        → IsLookedThrough rules start.now closure.new.order.items closure.new.places.items 0 [] 0) }
     ensures started { OnOk result
-        ((j n : ℕ) → slice_get start.now j ≡ Some n → Stands closure.new.places.items n) }
+        ((j n : ℕ) → slice_get start.now j ≡ Some n → HasSomePlace closure.new.places.items n) }
     ensures count { OnOk result (length closure.new.places.items ≡ length closure.old.places.items) }
 {
     for (j, n) in start.iter().enumerate() {
@@ -89,16 +89,16 @@ fn start_all(start: &[usize], closure: &mut Closure) -> Result<(), NoMemory>
 
 // Goes along the order, which grows by what the rules that wait for its numbers give.
 fn reach_all(rules: &[Rule], lists: &[Waiting], closure: &mut Closure) -> Result<(), NoMemory>
-    requires rules { IsWithin (length closure.old.places.items) rules.now }
-    requires waits { Waits rules.now (length rules.now) (map numbers lists.now) }
+    requires rules { SpeaksBelow (length closure.old.places.items) rules.now }
+    requires waits { RulesWait rules.now (length rules.now) (map numbers lists.now) }
     requires same { length lists.now ≡ length closure.old.places.items }
     requires begun { (start : List ℕ)
-        × IsGood rules.now start closure.old.order.items closure.old.places.items 0 [] 0 }
+        × IsLookedThrough rules.now start closure.old.order.items closure.old.places.items 0 [] 0 }
     ensures good { OnOk result
-        ((start : List ℕ) → IsGood rules.now start closure.old.order.items closure.old.places.items 0 [] 0
-        → IsGood rules.now start closure.new.order.items closure.new.places.items
+        ((start : List ℕ) → IsLookedThrough rules.now start closure.old.order.items closure.old.places.items 0 [] 0
+        → IsLookedThrough rules.now start closure.new.order.items closure.new.places.items
         (length closure.new.order.items) [] 0) }
-    ensures keeps { OnOk result (Keeps closure.old.places.items closure.new.places.items) }
+    ensures keeps { OnOk result (KeepsPlaces closure.old.places.items closure.new.places.items) }
 {
     let mut cursor = 0;
     while cursor < closure.order.len() {
@@ -118,9 +118,9 @@ pub fn close(
     start: &[usize],
     count: usize,
 ) -> Result<Closure, NoMemory>
-    requires rules { IsWithin count rules.now }
+    requires rules { SpeaksBelow count rules.now }
     requires start { StartsWithin count start.now }
-    ensures least { IfOk result (λ closure. IsLeast rules.now start.now closure.places.items) }
+    ensures least { IfOk result (λ closure. IsLeastModel rules.now start.now closure.places.items) }
     ensures order { IfOk result
         (λ closure. IsOrder rules.now start.now closure.order.items closure.places.items) }
     ensures count { IfOk result (λ closure. length closure.places.items ≡ count) }

@@ -1,9 +1,9 @@
 // What of an order a number needs, as lines.
 
 ghost use Rattle.std.specs.Prelude.{◌≡◌, ◌<◌, ◌≤◌, ◌+◌, ℕ, suc, List, [], Some, true, false, IfOk, OnOk, length, replicate, slice_get, slice_set};
-ghost use Rattle.spi_horn.specs.Leading.{StandsAt, StandsBefore, IsReason, IsOrder};
-ghost use Rattle.spi_horn.specs.Needs.{IsMarked, Marks, Spreads, IsSpread, SaysWhy, SaysAt, IsWritten};
-ghost use Rattle.spi_horn.specs.Lines.{Proves};
+ghost use Rattle.spi_horn.specs.Leading.{IsPlacedAt, StandsBefore, IsReason, IsOrder};
+ghost use Rattle.spi_horn.specs.Needs.{IsMarked, MarksPlace, SpreadsMarks, IsSpread, SaysWhy, SaysAt, AreMarkedWritten};
+ghost use Rattle.spi_horn.specs.Lines.{ProvesTarget};
 
 use crate::NoMemory;
 use crate::closing::Closure;
@@ -27,7 +27,7 @@ pub struct Line {
 
 fn mark(closure: &Closure, marks: &mut [bool], n: usize)
     requires { StandsBefore closure.now.places.items (length marks.old) n }
-    ensures { Marks closure.now.places.items n marks.old marks.new }
+    ensures { MarksPlace closure.now.places.items n marks.old marks.new }
 {
     if let Some(place) = closure.places[n] {
         marks[place] = true;
@@ -40,7 +40,7 @@ fn spread(rules: &[Rule], closure: &Closure, marks: &mut [bool], t: usize)
     requires short { length marks.old ≤ length closure.now.order.items }
     requires order { (start : List ℕ)
         × IsOrder rules.now start closure.now.order.items closure.now.places.items }
-    ensures { Spreads rules.now closure.now.order.items closure.now.places.items t marks.old marks.new }
+    ensures { SpreadsMarks rules.now closure.now.order.items closure.now.places.items t marks.old marks.new }
 {
     if marks[t] {
         match closure.order[t].why {
@@ -72,7 +72,7 @@ fn spread_all(rules: &[Rule], closure: &Closure, marks: &mut [bool])
 
 fn line_of(closure: &Closure, line_at: &[usize], n: usize) -> usize
     requires { StandsBefore closure.now.places.items (length line_at.now) n }
-    ensures { (s : ℕ) → StandsAt closure.now.places.items n s → slice_get line_at.now s ≡ Some result }
+    ensures { (s : ℕ) → IsPlacedAt closure.now.places.items n s → slice_get line_at.now s ≡ Some result }
 {
     match closure.places[n] {
         Some(place) => line_at[place],
@@ -125,10 +125,10 @@ fn write_at(
     requires short { length marks.now ≤ length closure.now.order.items }
     requires order { (start : List ℕ)
         × IsOrder rules.now start closure.now.order.items closure.now.places.items }
-    requires written { IsWritten rules.now closure.now.order.items closure.now.places.items marks.now t
+    requires written { AreMarkedWritten rules.now closure.now.order.items closure.now.places.items marks.now t
         lines.old.items line_at.old.items }
     ensures { OnOk result
-        (IsWritten rules.now closure.now.order.items closure.now.places.items marks.now (t + 1)
+        (AreMarkedWritten rules.now closure.now.order.items closure.now.places.items marks.now (t + 1)
         lines.new.items line_at.new.items) }
 {
     line_at.push(lines.len())?;
@@ -151,7 +151,7 @@ fn write(
         × IsOrder rules.now start closure.now.order.items closure.now.places.items }
     ensures written { IfOk result
         (λ lines. (line_at : List ℕ)
-        × IsWritten rules.now closure.now.order.items closure.now.places.items marks.now (length marks.now)
+        × AreMarkedWritten rules.now closure.now.order.items closure.now.places.items marks.now (length marks.now)
         lines.items line_at) }
     ensures few { IfOk result (λ lines. length lines.items ≤ length marks.now) }
 {
@@ -197,7 +197,7 @@ pub fn trace(
     ensures proves { IfOk result
         (λ lines. (start : List ℕ) (target : ℕ)
         → IsOrder rules.now start closure.now.order.items closure.now.places.items
-        → StandsAt closure.now.places.items target place → Proves rules.now start lines.items target) }
+        → IsPlacedAt closure.now.places.items target place → ProvesTarget rules.now start lines.items target) }
     ensures few { IfOk result (λ lines. length lines.items ≤ place + 1) }
 {
     let marks = needed(alloc, rules, closure, place)?;

@@ -1,8 +1,8 @@
 // For each number the rules that wait for it.
 
 ghost use Rattle.std.specs.Prelude.{◌≡◌, ◌<◌, [], IfOk, OnOk, length, map, replicate};
-ghost use Rattle.spi_horn.specs.Leading.{IsWithin};
-ghost use Rattle.spi_horn.specs.Waits.{numbers, Puts, Waits};
+ghost use Rattle.spi_horn.specs.Leading.{SpeaksBelow};
+ghost use Rattle.spi_horn.specs.Waits.{numbers, PutsWait, RulesWait};
 
 use crate::NoMemory;
 use crate::rules::Rule;
@@ -28,16 +28,16 @@ fn empty(alloc: Global, count: usize) -> Result<Vec<Waiting>, NoMemory>
 
 fn put(lists: &mut [Waiting], p: usize, k: usize) -> Result<(), NoMemory>
     requires { p < length lists.old }
-    ensures { OnOk result (Puts p k (map numbers lists.old) (map numbers lists.new)) }
+    ensures { OnOk result (PutsWait p k (map numbers lists.old) (map numbers lists.new)) }
 {
     lists[p].rules.push(k)?;
     Ok(())
 }
 
 fn put_all(lists: &mut [Waiting], rules: &[Rule]) -> Result<(), NoMemory>
-    requires rules { IsWithin (length lists.old) rules.now }
+    requires rules { SpeaksBelow (length lists.old) rules.now }
     requires none { map numbers lists.old ≡ replicate (length lists.old) [] }
-    ensures { OnOk result (Waits rules.now (length rules.now) (map numbers lists.new)) }
+    ensures { OnOk result (RulesWait rules.now (length rules.now) (map numbers lists.new)) }
 {
     for (k, rule) in rules.iter().enumerate() {
         put(lists, rule.first, k)?;
@@ -48,8 +48,8 @@ fn put_all(lists: &mut [Waiting], rules: &[Rule]) -> Result<(), NoMemory>
 
 /// For each number below `count` the rules with this premise.
 pub fn wait_all(alloc: Global, rules: &[Rule], count: usize) -> Result<Vec<Waiting>, NoMemory>
-    requires { IsWithin count rules.now }
-    ensures waits { IfOk result (λ lists. Waits rules.now (length rules.now) (map numbers lists.items)) }
+    requires { SpeaksBelow count rules.now }
+    ensures waits { IfOk result (λ lists. RulesWait rules.now (length rules.now) (map numbers lists.items)) }
     ensures count { IfOk result (λ lists. length lists.items ≡ count) }
 {
     let mut lists = empty(alloc, count)?;

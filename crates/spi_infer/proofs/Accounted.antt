@@ -13,23 +13,23 @@ use Rattle.spi_count.proofs.Standing.{stands_none}
 use Rattle.spi_count.specs.declared.keys.Keys.{Keys}
 use Rattle.spi_infer.specs.declared.own.OwnNote.{OwnNote}
 use Rattle.spi_count.specs.Keeping.{with_keys, IsKeyed}
-use Rattle.spi_infer.specs.Own.{StandsFor, TopsStand}
+use Rattle.spi_infer.specs.Own.{CountsFor, TopsStand}
 use Rattle.spi_infer.specs.Forms.{keep}
 use Rattle.spi_infer.specs.Passes.{Note, act_by, stuck_top_by, stuck_two_by, after_shape, both_shape}
-use Rattle.spi_infer.specs.Accounts.{BelowIn, MayBelowIn, Behind, AfterForm, BothForm, Tops, IsBefore}
+use Rattle.spi_infer.specs.Accounts.{BelowIn, MayBelowIn, Behind, AfterForm, BothForm, Tops, IsBeforeNode}
 use Rattle.spi_count.proofs.Summed.{numbers}
 
-pub tops_push : (At : ℕ → Message → Type 0) (os ns : List (Option Sum)) (o : Option Sum) (e : Option Effect) (st : List (Option Effect)) → ns ≡ os ++ o ∷ [] → StandsFor At o e → TopsStand At (reverse os) st → TopsStand At (reverse ns) (e ∷ st)
+pub tops_push : (At : ℕ → Message → Type 0) (os ns : List (Option Sum)) (o : Option Sum) (e : Option Effect) (st : List (Option Effect)) → ns ≡ os ++ o ∷ [] → CountsFor At o e → TopsStand At (reverse os) st → TopsStand At (reverse ns) (e ∷ st)
 tops_push At os ns o e st n h t = subst (λ l. TopsStand At l (e ∷ st)) (sym (ap reverse n ∙ reverse-append os (o ∷ []))) (h, t)
 
 pub tops_top : (At : ℕ → Message → Type 0) (os rest : List (Option Sum)) (o : Option Sum) (st : List (Option Effect)) → os ≡ rest ++ o ∷ [] → TopsStand At (reverse os) st → TopsStand At (o ∷ reverse rest) st
 tops_top At os rest o st n t = subst (λ l. TopsStand At l st) (ap reverse n ∙ reverse-append rest (o ∷ [])) t
 
-pub nothing_stands : (s : Store) (keys : Keys) (sum : Sum) (fine : Bool) → IsKeyed s keys → ((kind : AtomKind) → IsNothing (part kind sum)) → fine ≡ true → StandsFor (with_keys s keys) (Some sum) (keep fine (Some []))
+pub nothing_stands : (s : Store) (keys : Keys) (sum : Sum) (fine : Bool) → IsKeyed s keys → ((kind : AtomKind) → IsNothing (part kind sum)) → fine ≡ true → CountsFor (with_keys s keys) (Some sum) (keep fine (Some []))
 nothing_stands s keys sum true k h e = stands_none (with_keys s keys) (numbers k) h
 nothing_stands s keys sum false k h e = absurd (cc)
 
-pub none_is_none : (At : ℕ → Message → Type 0) (r : Option Sum) (o : Option Effect) → StandsFor At r o → is_none r ≡ is_none o
+pub none_is_none : (At : ℕ → Message → Type 0) (r : Option Sum) (o : Option Effect) → CountsFor At r o → is_none r ≡ is_none o
 none_is_none At None None t = refl
 none_is_none At None (Some es) t = absurd t
 none_is_none At (Some s) None t = absurd t
@@ -42,7 +42,7 @@ none_told (Some s) true e = absurd (cc)
 none_told (Some s) false e = refl
 
 pub two_stuck : (s : Store) (keys : Keys) (x : Shape) (fine : Bool) (a b : Sum) (next : Option Sum) (e f : Option Effect) → fine ≡ true → IsKeyed s keys → BothForm x a b next
-    → StandsFor (with_keys s keys) (Some a) e → StandsFor (with_keys s keys) (Some b) f → MayBelowIn x e → MayBelowIn x f → is_none next ≡ stuck_two_by (both_shape x) fine e f
+    → CountsFor (with_keys s keys) (Some a) e → CountsFor (with_keys s keys) (Some b) f → MayBelowIn x e → MayBelowIn x f → is_none next ≡ stuck_two_by (both_shape x) fine e f
 two_stuck s keys x false a b next e f q k h t u v w = absurd (cc)
 two_stuck s keys x true a b next None f q k h t u v w = absurd t
 two_stuck s keys x true a b next (Some es) None q k h t u v w = absurd u
@@ -54,7 +54,7 @@ behind_top (prefix_at k p j) es st b = b
 behind_top (fork_at k f a r) es [] b = b
 behind_top (fork_at k f a r) es (o ∷ st) b = b.0
 
-keep_stands : (At : ℕ → Message → Type 0) (r : Option Sum) (b : Bool) (o : Option Effect) → b ≡ true → StandsFor At r o → StandsFor At r (keep b o)
+keep_stands : (At : ℕ → Message → Type 0) (r : Option Sum) (b : Bool) (o : Option Effect) → b ≡ true → CountsFor At r o → CountsFor At r (keep b o)
 keep_stands At r true o e t = t
 keep_stands At r false o e t = absurd (cc)
 
@@ -62,7 +62,7 @@ keep_none : (b : Bool) (o : Option Effect) → b ≡ true → is_none o ≡ is_n
 keep_none true o e = refl
 keep_none false o e = absurd (cc)
 
-module _ (s : Store) (keys : Keys) (x : Shape) (o : OwnNote) (os rest : List (Option Sum)) (n : Note) (st : List (Option Effect)) (b : IsBefore s keys x o os n st) (fine : o.fine ≡ true) (sum : Sum) (next : Option Sum) (pop : os ≡ rest ++ Some sum ∷ []) (h : AfterForm s keys x o.own sum next) where
+module _ (s : Store) (keys : Keys) (x : Shape) (o : OwnNote) (os rest : List (Option Sum)) (n : Note) (st : List (Option Effect)) (b : IsBeforeNode s keys x o os n st) (fine : o.fine ≡ true) (sum : Sum) (next : Option Sum) (pop : os ≡ rest ++ Some sum ∷ []) (h : AfterForm s keys x o.own sum next) where
   n_fine : n.fine ≡ true
   n_fine = sym b.noted.0 ∙ fine
 

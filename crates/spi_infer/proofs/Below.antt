@@ -1,6 +1,6 @@
 -- The names of an effect are those in scope.
 use Rattle.std.proofs.Common.{◌≡◌, refl, ap, ◌∙◌, subst, ℕ, suc, ◌+◌, ◌≤◌, Bool, true, false, ◌||◌, [], ◌∷◌, ◌++◌, length, Option, Some, None, arith, length-append}
-use Rattle.spi_term.specs.Term.{Message, name, ends, checks, many, Effect, Ty, un, unit_ty, pair_ty, sum_ty, key, nonce, Prefix, Recvs, Serves, Splits, Selects, Decrypts, Checks, Begins, Ends, EndManys, Casts, Makes, Fork, Cases, Pars, Process, leaf, prefix, fork, binds, fork_binds}
+use Rattle.spi_term.specs.Term.{Message, name, ends, checks, many, Effect, Ty, un, unit_ty, pair_ty, sum_ty, key, nonce, Prefix, Recvs, Serves, Splits, Selects, Decrypts, Checks, Begins, Ends, EndManys, Casts, Freshes, Fork, Branches, Pars, Process, leaf, prefix, fork, binds, fork_binds}
 use Rattle.spi_term.specs.Names.{MessageOver, OfTy, OfPrefix}
 use Rattle.spi_term.specs.Arena.{InScope}
 use Rattle.spi_effect.specs.Made.{are_many, minus, greater, mentions}
@@ -62,13 +62,13 @@ below_after k paid (Begins m) es fs o h e = below_same e (below_minus es (ends m
 below_after k paid (Ends m) es fs o h e = below_same e (below_joined es (ends m ∷ []) (below_zero es h) (below_one (ends m) (bound_over k 0 m o)))
 below_after k paid (EndManys m) es fs o h e = below_same e (below_joined es (many m ∷ []) (below_zero es h) (below_one (many m) (bound_over k 0 m o)))
 below_after k paid (Casts m t) es fs o h e = below_unless k es (es ++ cast_effect_of t) fs h (λ x. below_joined es (cast_effect_of t) x (below_cast k t o.1)) e
-below_after k paid (Makes t) es fs o h e =
+below_after k paid (Freshes t) es fs o h e =
     let ds = minus es (checks (name k) ∷ []) in
     below_unless k ds ds fs (below_minus es (checks (name k) ∷ []) h) (λ x. x) e
 
 pub below_both : (k : ℕ) (f : Fork) (es fs gs : Effect) → Below (k + fork_binds f) es → Below (k + fork_binds f) fs → both k f es fs ≡ Some gs → Below k gs
 below_both k Pars es fs gs h j e = below_same e (below_joined es fs (below_zero es h) (below_zero fs j))
-below_both k (Cases m t u) es fs gs h j e =
+below_both k (Branches m t u) es fs gs h j e =
     let x = unless_no (mentions k es || mentions k fs) (greater es fs) gs e in
     let y = or_false (mentions k es) (mentions k fs) x.0 in
     subst (Below k) x.1 (below_joined es (minus fs es) (below_bound k es (next k es h) y.0) (below_minus fs es (below_bound k fs (next k fs j) y.1)))

@@ -14,7 +14,7 @@ use Rattle.spi_message.proofs.Standing.{stand_push, stand_length}
 use Rattle.spi_infer.specs.Passes.{Wait, wait, settled, IsCalm}
 use Rattle.spi_message.specs.Tested.{Turns}
 use Rattle.spi_infer.specs.Walking.{IsAbove}
-use Rattle.spi_infer.specs.Waiting.{Reaches}
+use Rattle.spi_infer.specs.Waiting.{ReachesUpTo}
 use Rattle.spi_message.proofs.Tested.{stands_kept}
 use Rattle.spi_infer.proofs.Scanning.{calm_settled, due_settled}
 use Rattle.spi_message.proofs.Cut.{same_store}
@@ -93,11 +93,11 @@ kept_cut a j k h t q f = record {
 }
 
 -- back to a node's scope
-pub reaches_calm : (base i k : ℕ) (ws : List Wait) → IsCalm i ws → Reaches base i k ws → base ≤ k
+pub reaches_calm : (base i k : ℕ) (ws : List Wait) → IsCalm i ws → ReachesUpTo base i k ws → base ≤ k
 reaches_calm base i k [] c h = h
 reaches_calm base i k (wait r u ∷ ws) c h = subst (λ b. base ≤ (if b then k - 1 else k)) c h
 
-pub reaches_due : (base i k : ℕ) (u : Ty) (ws : List Wait) → Reaches base i k (wait i u ∷ ws) → base ≤ k - 1
+pub reaches_due : (base i k : ℕ) (u : Ty) (ws : List Wait) → ReachesUpTo base i k (wait i u ∷ ws) → base ≤ k - 1
 reaches_due base i k u ws h = subst (λ b. base ≤ (if b then k - 1 else k)) (eq-eqb i i refl) h
 
 pub turns_calm : (j k : Numbered) (i n : ℕ) (ws : List Wait) → IsCalm i ws → Turns j k (λ e. take n e) → Turns j k (λ e. settled i n e ws)
@@ -116,7 +116,7 @@ pub few_bind : {A E : Type 0} (k l : Numbered) (i : TyId) (r : Result A E) → O
 few_bind k l i (Ok x) g h = omega (arith, ap length g, length-append k.types (i ∷ []))
 few_bind k l i (Err x) g h = tt
 
-pub reaches_less : (a b i k : ℕ) (ws : List Wait) → b ≤ a → Reaches a i k ws → Reaches b i k ws
+pub reaches_less : (a b i k : ℕ) (ws : List Wait) → b ≤ a → ReachesUpTo a i k ws → ReachesUpTo b i k ws
 reaches_less a b i k [] l h = omega arith
 reaches_less a b i k (wait r u ∷ ws) l h = go (if eqb r i then k - 1 else k) h
   where

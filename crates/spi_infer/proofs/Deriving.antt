@@ -13,7 +13,7 @@ use Rattle.spi_message.specs.Forms.{enter, more, on_first, on_rest}
 use Rattle.spi_infer.specs.Forms.{prefix_ok, fork_ok, paid_by, by_effect, by_effects, after, both, effect_of}
 use Rattle.spi_message.proofs.Opened.{numbered_prefix, numbered_fork}
 use Rattle.spi_infer.proofs.Least.{sound, keep_some, after_some, both_some}
-use Rattle.spi_infer.proofs.Reach.{Reaches, reach_root, reach_prefix, reach_first, reach_rest}
+use Rattle.spi_infer.proofs.Reach.{ReachesNode, reach_root, reach_prefix, reach_first, reach_rest}
 use Rattle.spi_infer.proofs.Blocked.{Found, none_blocks, one_blocks, found, has_none}
 use Rattle.spi_infer.proofs.Nodes.{first_blocks, reached_of}
 
@@ -41,7 +41,7 @@ in_fork e f p q c =
     let b = both_some g o o' c.0 a.1 in
     ((b.0, b.2), (b.1, b.3))
 
-in_node : {e e' : Env} {p p' : Process} {i : ℕ} → Reaches e p i e' p' → IsComputed e p → IsComputed e' p'
+in_node : {e e' : Env} {p p' : Process} {i : ℕ} → ReachesNode e p i e' p' → IsComputed e p → IsComputed e' p'
 in_node reach_root c = c
 in_node {e = e} (reach_prefix {s = s} {p = p} r) c = in_node r (in_prefix e s p c)
 in_node {e = e} (reach_first {f = f} {p = p} {q = q} r) c = in_node r (in_fork e f p q c).0

@@ -12,7 +12,7 @@ use Rattle.spi_message.specs.Forms.{enter, more, on_first, on_rest}
 use Rattle.spi_infer.specs.Inferring.{IsReached}
 use Rattle.spi_infer.specs.Reaching.{Descends}
 use Rattle.spi_message.proofs.Opened.{numbered_leaf, numbered_prefix, numbered_fork, size_enter}
-use Rattle.spi_infer.proofs.Reach.{Reaches, reach_root, reach_prefix, reach_first, reach_rest}
+use Rattle.spi_infer.proofs.Reach.{ReachesNode, reach_root, reach_prefix, reach_first, reach_rest}
 use Rattle.spi_infer.proofs.Blocked.{reach_within}
 use Rattle.spi_infer.proofs.Nodes.{node_of, reached_of}
 use Rattle.spi_infer.proofs.Scanning.{drop_at_get}
@@ -21,7 +21,7 @@ use Rattle.spi_infer.proofs.Located.{located}
 -- node i is on the way to `node`
 pub record Toward (env : Env) (p : Process) (node i : ℕ) (e : Env) : Type 0 where
   pub process : Process
-  pub reached : Reaches env p i e process
+  pub reached : ReachesNode env p i e process
   pub from : i ≤ node
   pub before : node < i + process_size process
 
@@ -33,10 +33,10 @@ pub record Nearer (env : Env) (p : Process) (node i j : ℕ) (e : Env) : Type 0 
 pub toward_root : (env : Env) (p : Process) (node : ℕ) → node < process_size p → Toward env p node 0 env
 toward_root env p node l = record { process = p; reached = reach_root; from = omega arith; before = omega (arith, l) }
 
-at_place : {e e' : Env} {p q : Process} {i j : ℕ} → i ≡ j → Reaches e p i e' q → Reaches e p j e' q
-at_place {e} {e'} {p} {q} h r = subst (λ n. Reaches e p n e' q) h r
+at_place : {e e' : Env} {p q : Process} {i j : ℕ} → i ≡ j → ReachesNode e p i e' q → ReachesNode e p j e' q
+at_place {e} {e'} {p} {q} h r = subst (λ n. ReachesNode e p n e' q) h r
 
-reach_then : {e e' e'' : Env} {p p' p'' : Process} {i j : ℕ} → Reaches e p i e' p' → Reaches e' p' j e'' p'' → Reaches e p (i + j) e'' p''
+reach_then : {e e' e'' : Env} {p p' p'' : Process} {i j : ℕ} → ReachesNode e p i e' p' → ReachesNode e' p' j e'' p'' → ReachesNode e p (i + j) e'' p''
 reach_then {j = j} reach_root s = at_place (let z : j ≡ 0 + j = omega arith in z) s
 reach_then {j = j} (reach_prefix {s = f} {i = i} r) s = at_place (let z : suc (i + j) ≡ suc i + j = omega arith in z) (reach_prefix {s = f} (reach_then r s))
 reach_then {j = j} (reach_first {f = f} {i = i} r) s = at_place (let z : suc (i + j) ≡ suc i + j = omega arith in z) (reach_first {f = f} (reach_then r s))
@@ -47,12 +47,12 @@ head_is : {A : Type 0} {x y : A} {xs ys : List A} → x ∷ xs ≡ y ∷ ys → 
 head_is e = cc
 
 module _ (k : ℕ) (p : Process) (env : Env) (names : k ≡ length env) (node i : ℕ) (e : Env) (x : Shape) (at : slice_get (spelled k p) i ≡ Some x) where
-  first_is : {q : Process} → Reaches env p i e q → (rest : List Shape) × (x ∷ drop (i + 1) (spelled k p) ≡ flat (0 + i) (length e) (numbered [] (length e) q) ++ rest)
+  first_is : {q : Process} → ReachesNode env p i e q → (rest : List Shape) × (x ∷ drop (i + 1) (spelled k p) ≡ flat (0 + i) (length e) (numbered [] (length e) q) ++ rest)
   first_is {q} r =
       let w = located 0 r in
       (w.rest, sym (drop_at_get (spelled k p) i x at) ∙ ap (λ k. drop i (spelled k p)) names ∙ w.shapes)
 
-  scope_at : (q : Process) → Reaches env p i e q → scope_of x ≡ length e
+  scope_at : (q : Process) → ReachesNode env p i e q → scope_of x ≡ length e
   scope_at (leaf l) r =
       let w = first_is r in
       ap scope_of (head_is (w.1 ∙ ap (λ t. flat (0 + i) (length e) t ++ w.0) (numbered_leaf (length e) l)))
@@ -73,7 +73,7 @@ module _ (k : ℕ) (p : Process) (env : Env) (names : k ≡ length env) (node i 
     nearer_leaf : (l : Leaf) → node < i + process_size (leaf l) → Next
     nearer_leaf l b = absurd (omega (arith, b))
 
-    nearer_prefix : (s : Prefix) (q : Process) → Reaches env p i e (prefix s q) → node < i + process_size (prefix s q) → Descends (prefix_at (length e) s (suc (0 + i))) node e j e' → Next
+    nearer_prefix : (s : Prefix) (q : Process) → ReachesNode env p i e (prefix s q) → node < i + process_size (prefix s q) → Descends (prefix_at (length e) s (suc (0 + i))) node e j e' → Next
     nearer_prefix s q r b d =
         let z : i + 1 ≡ j = omega (arith, d.0) in
         let n = size_enter (binds s) (length e) q in
@@ -81,13 +81,13 @@ module _ (k : ℕ) (p : Process) (env : Env) (names : k ≡ length env) (node i 
           later = omega (arith, d.0);
           toward = record {
             process = enter (binds s) (length e) q;
-            reached = subst (λ e'. Reaches env p j e' (enter (binds s) (length e) q)) (sym d.1) (at_place z (reach_then r (at_place (let o : suc 0 ≡ 1 = omega arith in o) (reach_prefix {s = s} reach_root))));
+            reached = subst (λ e'. ReachesNode env p j e' (enter (binds s) (length e) q)) (sym d.1) (at_place z (reach_then r (at_place (let o : suc 0 ≡ 1 = omega arith in o) (reach_prefix {s = s} reach_root))));
             from = omega (arith, d.0);
             before = omega (arith, d.0, b, n);
           };
         }
 
-    nearer_fork : (f : Fork) (q q' : Process) (r : ℕ) → r ≡ suc (0 + i) + process_size q → Reaches env p i e (fork f q q') → node < i + process_size (fork f q q') → Descends (fork_at (length e) f (suc (0 + i)) r) node e j e' → Next
+    nearer_fork : (f : Fork) (q q' : Process) (r : ℕ) → r ≡ suc (0 + i) + process_size q → ReachesNode env p i e (fork f q q') → node < i + process_size (fork f q q') → Descends (fork_at (length e) f (suc (0 + i)) r) node e j e' → Next
     nearer_fork f q q' r n w b d = ⊎_elim here there (cases_lt node r)
       where
         here : node < r → Next
@@ -99,7 +99,7 @@ module _ (k : ℕ) (p : Process) (env : Env) (names : k ≡ length env) (node i 
               later = omega (arith, g.0);
               toward = record {
                 process = enter (fork_binds f) (length e) q;
-                reached = subst (λ e'. Reaches env p j e' (enter (fork_binds f) (length e) q)) (sym g.1) (at_place z (reach_then w (reach_first {f = f} {q = q'} reach_root)));
+                reached = subst (λ e'. ReachesNode env p j e' (enter (fork_binds f) (length e) q)) (sym g.1) (at_place z (reach_then w (reach_first {f = f} {q = q'} reach_root)));
                 from = omega (arith, g.0);
                 before = omega (arith, g.0, l, n, m);
               };
@@ -115,13 +115,13 @@ module _ (k : ℕ) (p : Process) (env : Env) (names : k ≡ length env) (node i 
               later = omega (arith, g.0, n);
               toward = record {
                 process = enter (fork_binds f) (length e) q';
-                reached = subst (λ e'. Reaches env p j e' (enter (fork_binds f) (length e) q')) (sym g.1) (at_place z (reach_then w (reach_rest {f = f} {p = q} reach_root o)));
+                reached = subst (λ e'. ReachesNode env p j e' (enter (fork_binds f) (length e) q')) (sym g.1) (at_place z (reach_then w (reach_rest {f = f} {p = q} reach_root o)));
                 from = omega (arith, g.0, l);
                 before = omega (arith, g.0, n, b, m);
               };
             }
 
-    nearer_by : (q : Process) → Reaches env p i e q → node < i + process_size q → Descends x node e j e' → Next
+    nearer_by : (q : Process) → ReachesNode env p i e q → node < i + process_size q → Descends x node e j e' → Next
     nearer_by (leaf l) r b d = nearer_leaf l b
     nearer_by (prefix s q) r b d =
         let w = first_is r in
@@ -150,7 +150,7 @@ toward_end k p node i e t l =
 
 -- each node is reached
 abbrev pub IsNode : Env → Process → ℕ → Type 0
-IsNode e p i = (e' : Env) × (q : Process) × Reaches e p i e' q
+IsNode e p i = (e' : Env) × (q : Process) × ReachesNode e p i e' q
 
 reached_fork : (e : Env) (f : Fork) (p q : Process) (i : ℕ) → i < process_size p + process_size q → ((j : ℕ) → j < process_size p → IsNode (e ++ on_first f) (enter (fork_binds f) (length e) p) j)
     → ((j : ℕ) → j < process_size q → IsNode (e ++ on_rest f) (enter (fork_binds f) (length e) q) j) → IsNode e (fork f p q) (suc i)
@@ -181,7 +181,7 @@ each_reached : (p : Process) (e : Env) (i : ℕ) → i < process_size p → IsNo
 each_reached p e i l = reached_by (process_size p) p e i (omega arith) l
 
 -- and at one environment and process only
-reached_one : {e e1 e2 : Env} {p q1 q2 : Process} {i j : ℕ} → Reaches e p i e1 q1 → Reaches e p j e2 q2 → i ≡ j → (e1 ≡ e2) × (q1 ≡ q2)
+reached_one : {e e1 e2 : Env} {p q1 q2 : Process} {i j : ℕ} → ReachesNode e p i e1 q1 → ReachesNode e p j e2 q2 → i ≡ j → (e1 ≡ e2) × (q1 ≡ q2)
 reached_one reach_root reach_root h = (refl, refl)
 reached_one reach_root (reach_prefix s) h = absurd (omega (arith, h))
 reached_one reach_root (reach_first s) h = absurd (omega (arith, h))

@@ -8,7 +8,7 @@ use Rattle.spi_intern.specs.declared.store.Store.{Store}
 use Rattle.spi_count.specs.declared.sum.Sum.{Sum}
 use Rattle.spi_infer.specs.declared.own.Noted.{Noted}
 use Rattle.spi_count.specs.Keeping.{with_keys}
-use Rattle.spi_infer.specs.Own.{StandsFor}
+use Rattle.spi_infer.specs.Own.{CountsFor}
 use Rattle.spi_infer.specs.Forms.{effect_of}
 use Rattle.spi_infer.specs.Passes.{scan, run, first_stuck}
 use Rattle.spi_infer.specs.Accounts.{Tops, IsNoted}
@@ -33,7 +33,7 @@ module _ (s : Store) (noted : Noted) (k : ℕ) (p : Process) (env : Env) (h : Is
   stack_is =
       subst (Tops s noted.keys items) (ap (λ i. run (drop i (spelled k p)) (drop i (scan 0 env [] (spelled k p)))) z ∙ node_runs.is) t
 
-  pub ends_with : (rest : List (Option Sum)) (o : Option Sum) → items ≡ rest ++ o ∷ [] → StandsFor (with_keys s noted.keys) o (effect_of (numbered [] (length e) q) e)
+  pub ends_with : (rest : List (Option Sum)) (o : Option Sum) → items ≡ rest ++ o ∷ [] → CountsFor (with_keys s noted.keys) o (effect_of (numbered [] (length e) q) e)
   ends_with rest o f =
       (tops_top (with_keys s noted.keys) items rest o (effect_of (numbered [] (length e) q) e ∷ node_runs.others) f stack_is).0
 

@@ -14,7 +14,7 @@ use Rattle.spi_intern.specs.declared.atoms.AtomId.TheVariants as A
 use Rattle.spi_intern.specs.Atoms.{says_end, says_check, says_many}
 use Rattle.spi_intern.specs.Meaning.{Means}
 use Rattle.spi_count.specs.Counts.{count_of, IsNothing}
-use Rattle.spi_count.specs.Sums.{name_bound, message_of, part, both_counts, Stands}
+use Rattle.spi_count.specs.Sums.{name_bound, message_of, part, both_counts, StandsForEffect}
 use Rattle.spi_count.specs.declared.sum.AtomKind.{AtomKind}
 use Rattle.spi_count.specs.declared.sum.AtomKind.TheVariants as K
 use Rattle.spi_count.specs.declared.sum.Sum.{Sum}
@@ -23,7 +23,7 @@ use Rattle.spi_count.specs.declared.keys.Keys.{Keys}
 use Rattle.spi_infer.specs.declared.own.Own.{Own}
 use Rattle.spi_infer.specs.declared.own.Own.TheVariants.{Label}
 use Rattle.spi_count.specs.Keeping.{with_keys, IsKeyed}
-use Rattle.spi_infer.specs.Own.{StandsFor}
+use Rattle.spi_infer.specs.Own.{CountsFor}
 use Rattle.spi_infer.specs.Forms.{unless, keep}
 use Rattle.spi_message.specs.Forms.{cast_effect_of}
 use Rattle.spi_count.specs.Adding.{SumOf, TakesAtom, AddsAtom}
@@ -32,23 +32,23 @@ use Rattle.spi_count.proofs.Summed.{numbers}
 use Rattle.spi_count.proofs.Below.{in_minus, below_more}
 
 -- counts for an effect that stands where a test says so
-pub kept_unless : (At : ℕ → Message → Type 0) (sum : Sum) (b : Bool) (es : Effect) → b ≡ false → Stands At sum es → StandsFor At (Some sum) (unless b es)
+pub kept_unless : (At : ℕ → Message → Type 0) (sum : Sum) (b : Bool) (es : Effect) → b ≡ false → StandsForEffect At sum es → CountsFor At (Some sum) (unless b es)
 kept_unless At sum true es e t = absurd (cc)
 kept_unless At sum false es e t = t
 
-pub gone_unless : (At : ℕ → Message → Type 0) (b : Bool) (es : Effect) → b ≡ true → StandsFor At None (unless b es)
+pub gone_unless : (At : ℕ → Message → Type 0) (b : Bool) (es : Effect) → b ≡ true → CountsFor At None (unless b es)
 gone_unless At true es e = tt
 gone_unless At false es e = absurd (cc)
 
-pub unless_some : (At : ℕ → Message → Type 0) (sum : Sum) (b : Bool) (es : Effect) → StandsFor At (Some sum) (unless b es) → (b ≡ false) × Stands At sum es
+pub unless_some : (At : ℕ → Message → Type 0) (sum : Sum) (b : Bool) (es : Effect) → CountsFor At (Some sum) (unless b es) → (b ≡ false) × StandsForEffect At sum es
 unless_some At sum true es t = absurd t
 unless_some At sum false es t = (refl, t)
 
-kept_keep : (At : ℕ → Message → Type 0) (r : Option Sum) (b : Bool) (o : Option Effect) → b ≡ true → StandsFor At r o → StandsFor At r (keep b o)
+kept_keep : (At : ℕ → Message → Type 0) (r : Option Sum) (b : Bool) (o : Option Effect) → b ≡ true → CountsFor At r o → CountsFor At r (keep b o)
 kept_keep At r true o e t = t
 kept_keep At r false o e t = absurd (cc)
 
-gone_keep : (At : ℕ → Message → Type 0) (b : Bool) (o : Option Effect) → (b ≡ true → ⊥) → StandsFor At None (keep b o)
+gone_keep : (At : ℕ → Message → Type 0) (b : Bool) (o : Option Effect) → (b ≡ true → ⊥) → CountsFor At None (keep b o)
 gone_keep At true o e = absurd (e refl)
 gone_keep At false o e = tt
 
@@ -113,9 +113,9 @@ check_some s keys id t sum mid new p q m None es kd w f st = absurd f
 check_some s keys id t sum mid new p q m (Some fs) es kd w f st =
     q s (checks m) (minus es fs) kd (says_check w.at) (id.place, w) (p (nonce fs) es kd f st)
 
-pub case_both : (k : ℕ) (a b a' b' c : Sum) → AfterOne k a (Some a') → AfterOne k b (Some b')
+pub branch_both : (k : ℕ) (a b a' b' c : Sum) → AfterOne k a (Some a') → AfterOne k b (Some b')
     → ((kind : AtomKind) (q : ℕ) → count_of (part kind c) q ≡ max (count_of (part kind a') q) (count_of (part kind b') q)) → BothCase k a b (Some c)
-case_both k a b a' b' c h j g s keys es fs kd t u x y =
+branch_both k a b a' b' c h j g s keys es fs kd t u x y =
     let (e, v) = unless_some (with_keys s keys) a' (mentions k es) es (h s keys es kd t x) in
     let (f, w) = unless_some (with_keys s keys) b' (mentions k fs) fs (j s keys fs kd u y) in
     kept_unless (with_keys s keys) c (mentions k es || mentions k fs) (greater es fs) (both_false e f) (stands_greatest (with_keys s keys) (numbers kd) v w g)

@@ -10,7 +10,7 @@ use Rattle.spi_message.specs.Judging.{Numbered, Stands}
 use Rattle.spi_message.proofs.Standing.{stand_length}
 use Rattle.spi_infer.specs.declared.own.Noted.{Noted}
 use Rattle.spi_count.specs.Keeping.{with_keys, AreKept}
-use Rattle.spi_infer.specs.Own.{AreNoted}
+use Rattle.spi_infer.specs.Own.{AreFormsNoted}
 use Rattle.spi_infer.specs.Passes.{scan}
 use Rattle.spi_infer.specs.Accounts.{IsNoted}
 use Rattle.spi_infer.proofs.Nodes.{reached_of}
@@ -18,7 +18,7 @@ use Rattle.spi_infer.proofs.Located.{over_reached}
 
 -- what the forward pass keeps over a judge is what the backward pass wants, in each environment that the judge stood for
 pub noted_in : (j : Numbered) (s r : Store) (noted : Noted) (k : ℕ) (p : Process) (env : Env) → length j.types ≡ k → Stands j env → s ≡ r → AreKept r noted.keys
-    → AreNoted r (with_keys r noted.keys) (spelled k p) (scan 0 env [] (spelled k p)) noted.notes.items → IsNoted s noted k p env
+    → AreFormsNoted r (with_keys r noted.keys) (spelled k p) (scan 0 env [] (spelled k p)) noted.notes.items → IsNoted s noted k p env
 noted_in j s r noted k p env n h e keys notes =
     subst (λ s. IsNoted s noted k p env) (sym e) (record { names = sym n ∙ stand_length h; keyed = keys; each = notes })
 

@@ -6,7 +6,7 @@ use Rattle.spi_term.specs.declared.term.Ty.{Ty}
 use Rattle.spi_term.specs.declared.term.Form.{Form}
 use Rattle.spi_term.specs.declared.term.Form.TheVariants as F
 use Rattle.spi_term.specs.View.{form_of}
-use Rattle.spi_term.specs.Term.{Message, name, Effect, nonce, Prefix, Recvs, Serves, Splits, Selects, Decrypts, Checks, Begins, Ends, EndManys, Casts, Makes}
+use Rattle.spi_term.specs.Term.{Message, name, Effect, nonce, Prefix, Recvs, Serves, Splits, Selects, Decrypts, Checks, Begins, Ends, EndManys, Casts, Freshes}
 use Rattle.spi_term.specs.Spelling.{Shape, leaf_at, prefix_at, fork_at}
 use Rattle.spi_rules.specs.Environment.{Env}
 use Rattle.spi_intern.specs.Meaning.{Means, Keeps}
@@ -19,7 +19,7 @@ use Rattle.spi_count.specs.declared.keys.Keys.{Keys}
 use Rattle.spi_infer.specs.declared.own.Own.{Own}
 use Rattle.spi_infer.specs.declared.own.OwnNote.{OwnNote}
 use Rattle.spi_message.specs.Forms.{cast_effect_of}
-use Rattle.spi_infer.specs.Own.{PaidFits, FormFits, Fits, NotedAs, AreNoted, noted_none, noted_next}
+use Rattle.spi_infer.specs.Own.{PaidFits, FormFits, IsOwnOf, FormNotedAs, AreFormsNoted, noted_none, noted_next}
 use Rattle.spi_count.specs.Keeping.{with_keys, GrowsTo, HaveKeys}
 use Rattle.spi_infer.specs.Passes.{Note, note_of}
 use Rattle.spi_infer.specs.Walking.{FitsIn}
@@ -44,21 +44,21 @@ module _ {s r : Store} {ks ls : Keys} (g : GrowsTo s ks r ls) where
   form_keeps k (Ends m) paid own h = (h.0, h.1, key_keeps {s = s} {r = r} {ks = ks} {ls = ls} g h.2)
   form_keeps k (EndManys m) paid own h = (h.0, h.1, key_keeps {s = s} {r = r} {ks = ks} {ls = ls} g h.2)
   form_keeps k (Casts m t) paid own h = (h.0, h.1, means_keeps g.store h.2, have_keys_keep {s = s} {r = r} {ks = ks} {ls = ls} (cast_effect_of t) g h.3)
-  form_keeps k (Makes t) paid own h = (h.0, h.1, g.store.messages.at h.0.place (name k) h.2)
+  form_keeps k (Freshes t) paid own h = (h.0, h.1, g.store.messages.at h.0.place (name k) h.2)
 
-  fits_keep : (x : Shape) (paid : Option Effect) (own : Own) → Fits s (with_keys s ks) x paid own → Fits r (with_keys r ls) x paid own
+  fits_keep : (x : Shape) (paid : Option Effect) (own : Own) → IsOwnOf s (with_keys s ks) x paid own → IsOwnOf r (with_keys r ls) x paid own
   fits_keep (leaf_at k l) paid own h = tt
   fits_keep (prefix_at k p b) paid own h = form_keeps k p paid own h
   fits_keep (fork_at k f a b) paid own h = tt
 
-  pub noted_keeps : (x : Shape) (n : Note) (o : OwnNote) → NotedAs s (with_keys s ks) x n o → NotedAs r (with_keys r ls) x n o
+  pub noted_keeps : (x : Shape) (n : Note) (o : OwnNote) → FormNotedAs s (with_keys s ks) x n o → FormNotedAs r (with_keys r ls) x n o
   noted_keeps x n o h = (h.0, λ f. fits_keep x n.paid o.own (h.1 f))
 
-  pub are_noted_keep : {ss : List Shape} {ns : List Note} {os : List OwnNote} → AreNoted s (with_keys s ks) ss ns os → AreNoted r (with_keys r ls) ss ns os
+  pub are_noted_keep : {ss : List Shape} {ns : List Note} {os : List OwnNote} → AreFormsNoted s (with_keys s ks) ss ns os → AreFormsNoted r (with_keys r ls) ss ns os
   are_noted_keep noted_none = noted_none
   are_noted_keep (noted_next {x = x} {n = n} {o = o} h t) = noted_next (noted_keeps x n o h) (are_noted_keep t)
 
-pub noted_push : {s : Store} {At : ℕ → Message → Type 0} (x : Shape) (n : Note) (o : OwnNote) {ss : List Shape} {ns : List Note} {os : List OwnNote} → AreNoted s At ss ns os → NotedAs s At x n o → AreNoted s At (ss ++ x ∷ []) (ns ++ n ∷ []) (os ++ o ∷ [])
+pub noted_push : {s : Store} {At : ℕ → Message → Type 0} (x : Shape) (n : Note) (o : OwnNote) {ss : List Shape} {ns : List Note} {os : List OwnNote} → AreFormsNoted s At ss ns os → FormNotedAs s At x n o → AreFormsNoted s At (ss ++ x ∷ []) (ns ++ n ∷ []) (os ++ o ∷ [])
 noted_push x n o noted_none h = noted_next h noted_none
 noted_push x n o (noted_next g t) h = noted_next g (noted_push x n o t h)
 
@@ -82,18 +82,18 @@ IsQuietForm (Begins m) = ⊥
 IsQuietForm (Ends m) = ⊥
 IsQuietForm (EndManys m) = ⊥
 IsQuietForm (Casts m t) = ⊥
-IsQuietForm (Makes t) = ⊥
+IsQuietForm (Freshes t) = ⊥
 
-abbrev pub IsQuiet : Shape → Type 0
-IsQuiet (leaf_at k l) = ⊤
-IsQuiet (prefix_at k p b) = IsQuietForm p
-IsQuiet (fork_at k f a r) = ⊤
+abbrev pub IsQuietShape : Shape → Type 0
+IsQuietShape (leaf_at k l) = ⊤
+IsQuietShape (prefix_at k p b) = IsQuietForm p
+IsQuietShape (fork_at k f a r) = ⊤
 
 -- a form that is none of the six that keep something
 pub quiet_rest : (k : ℕ) (f : Form)
     → ((m n : Msg) (b : ℕ) → f ≡ F.Check m n b → ⊥) → ((m : Msg) (b : ℕ) → f ≡ F.Begin m b → ⊥) → ((m : Msg) (b : ℕ) → f ≡ F.End m b → ⊥)
     → ((m : Msg) (b : ℕ) → f ≡ F.EndMany m b → ⊥) → ((m : Msg) (t : Ty) (b : ℕ) → f ≡ F.Cast m t b → ⊥) → ((t : Ty) (b : ℕ) → f ≡ F.Fresh t b → ⊥)
-    → IsQuiet (form_of k f)
+    → IsQuietShape (form_of k f)
 quiet_rest k (F.Send a b) h i j l o p = tt
 quiet_rest k (F.Recv m t b) h i j l o p = tt
 quiet_rest k (F.Serve m t b) h i j l o p = tt
@@ -121,17 +121,17 @@ quiet_form s At k (Begins m) paid own h = absurd h
 quiet_form s At k (Ends m) paid own h = absurd h
 quiet_form s At k (EndManys m) paid own h = absurd h
 quiet_form s At k (Casts m t) paid own h = absurd h
-quiet_form s At k (Makes t) paid own h = absurd h
+quiet_form s At k (Freshes t) paid own h = absurd h
 
-quiet_shape : (s : Store) (At : ℕ → Message → Type 0) (x : Shape) (paid : Option Effect) (own : Own) → IsQuiet x → Fits s At x paid own
+quiet_shape : (s : Store) (At : ℕ → Message → Type 0) (x : Shape) (paid : Option Effect) (own : Own) → IsQuietShape x → IsOwnOf s At x paid own
 quiet_shape s At (leaf_at k l) paid own h = tt
 quiet_shape s At (prefix_at k p b) paid own h = quiet_form s At k p paid own h
 quiet_shape s At (fork_at k f a r) paid own h = tt
 
-pub quiet_fits : (j k : Numbered) (ks : Keys) (x : Shape) (own : Own) → IsQuiet x → FitsIn j k ks x own
+pub quiet_fits : (j k : Numbered) (ks : Keys) (x : Shape) (own : Own) → IsQuietShape x → FitsIn j k ks x own
 quiet_fits j k ks x own h = record { at = λ e s. quiet_shape k.store (with_keys k.store ks) x (note_of e x).paid own h }
 
 -- the others
-pub fits_at : {E : Type 0} (j k : Numbered) (ks : Keys) (x : Shape) {y : Shape} → x ≡ y → (r : Result Own E) {P : Own → Type 0} → IfOk r P → ((own : Own) → P own → (e : Env) → Stands j e → Fits k.store (with_keys k.store ks) y (note_of e y).paid own) → IfOk r (FitsIn j k ks x)
+pub fits_at : {E : Type 0} (j k : Numbered) (ks : Keys) (x : Shape) {y : Shape} → x ≡ y → (r : Result Own E) {P : Own → Type 0} → IfOk r P → ((own : Own) → P own → (e : Env) → Stands j e → IsOwnOf k.store (with_keys k.store ks) y (note_of e y).paid own) → IfOk r (FitsIn j k ks x)
 fits_at j k ks x {y = y} q (Ok own) h f = subst (λ x. FitsIn j k ks x own) (sym q) (record { at = f own h })
 fits_at j k ks x q (Err e) h f = tt

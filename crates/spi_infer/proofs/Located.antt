@@ -12,7 +12,7 @@ use Rattle.spi_infer.specs.Forms.{effect_of}
 use Rattle.spi_infer.specs.Passes.{Note, scan, run}
 use Rattle.spi_message.proofs.Opened.{length_more, length_first, length_rest, numbered_prefix, numbered_fork, size_enter}
 use Rattle.spi_infer.proofs.Passes.{notes, scan_flat, run_flat}
-use Rattle.spi_infer.proofs.Reach.{Reaches, reach_root, reach_prefix, reach_first, reach_rest}
+use Rattle.spi_infer.proofs.Reach.{ReachesNode, reach_root, reach_prefix, reach_first, reach_rest}
 use Rattle.spi_infer.proofs.Blocked.{reach_within}
 
 -- lists
@@ -41,13 +41,13 @@ drop_right (x ∷ xs) ys i zero h = absurd (omega (arith, h))
 drop_right (x ∷ xs) ys i (suc j) h = drop_right xs ys i j (omega (arith, h))
 
 -- the nodes of a process, from place `at` on, and its notes, from node i on begin with those of the process of node i
-pub record StandsAt (at : ℕ) (e : Env) (p : Process) (i : ℕ) (e' : Env) (q : Process) : Type 0 where
+pub record StandsAtNode (at : ℕ) (e : Env) (p : Process) (i : ℕ) (e' : Env) (q : Process) : Type 0 where
   pub rest : List Shape
   pub behind : List Note
   pub shapes : drop i (flat at (length e) (numbered [] (length e) p)) ≡ flat (at + i) (length e') (numbered [] (length e') q) ++ rest
   pub seen : drop i (notes (numbered [] (length e) p) e) ≡ notes (numbered [] (length e') q) e' ++ behind
 
-pub located : {e e' : Env} {p q : Process} {i : ℕ} (at : ℕ) → Reaches e p i e' q → StandsAt at e p i e' q
+pub located : {e e' : Env} {p q : Process} {i : ℕ} (at : ℕ) → ReachesNode e p i e' q → StandsAtNode at e p i e' q
 located {e = e} {p = p} at reach_root =
     let tree = numbered [] (length e) p in
     let z : at ≡ at + 0 = omega arith in
@@ -152,7 +152,7 @@ pub record RunsTo (k : ℕ) (p : Process) (env : Env) (i : ℕ) (e : Env) (q : P
   pub others : List (Option Effect)
   pub is : run (drop i (spelled k p)) (drop i (scan 0 env [] (spelled k p))) ≡ effect_of (numbered [] (length e) q) e ∷ others
 
-runs_at : {env e : Env} {p q : Process} {i : ℕ} → Reaches env p i e q → RunsTo (length env) p env i e q
+runs_at : {env e : Env} {p q : Process} {i : ℕ} → ReachesNode env p i e q → RunsTo (length env) p env i e q
 runs_at {env = env} {e = e} {p = p} {q = q} {i = i} r =
     let w = located 0 r in
     let tree = numbered [] (length e) q in
@@ -165,7 +165,7 @@ runs_at {env = env} {e = e} {p = p} {q = q} {i = i} r =
           ∙ run_flat tree e (0 + i) (length e) w.rest w.behind refl;
     }
 
-pub runs_to : {env e : Env} {p q : Process} {i : ℕ} (k : ℕ) → k ≡ length env → Reaches env p i e q → RunsTo k p env i e q
+pub runs_to : {env e : Env} {p q : Process} {i : ℕ} (k : ℕ) → k ≡ length env → ReachesNode env p i e q → RunsTo k p env i e q
 runs_to {env = env} {e = e} {p = p} {q = q} {i = i} k n r =
     subst (λ k. RunsTo k p env i e q) (sym n) (runs_at r)
 
@@ -182,7 +182,7 @@ over_inside e g b p n o =
     let z : 0 + b ≡ b = omega arith in
     over_enter b (length e) (length (e ++ g)) p (omega (arith, m, n)) (over_more_process (length e) (length (e ++ g)) (omega (arith, m)) b p (subst (λ j. OfProcess (MessageOver (length e)) j p) z o))
 
-pub over_reached : {e e' : Env} {p q : Process} {i : ℕ} → Reaches e p i e' q → ProcessOver (length e) p → ProcessOver (length e') q
+pub over_reached : {e e' : Env} {p q : Process} {i : ℕ} → ReachesNode e p i e' q → ProcessOver (length e) p → ProcessOver (length e') q
 over_reached reach_root o = o
 over_reached {e = e} (reach_prefix {s = s} {p = p} r) o = over_reached r (over_inside e (more e s) (binds s) p (length_more e s) o.1)
 over_reached {e = e} (reach_first {f = f} {p = p} r) o = over_reached r (over_inside e (on_first f) (fork_binds f) p (length_first f) o.1)

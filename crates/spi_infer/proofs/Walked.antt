@@ -3,7 +3,7 @@ use Rattle.std.proofs.Common.{◌≡◌, refl, sym, ap, ◌∙◌, subst, ℕ, z
 use Rattle.std.specs.Prelude.{⊤, slice_get, if◌then◌else◌}
 use Rattle.std.proofs.lemmas.List.{drop_all}
 use Rattle.std.proofs.lemmas.Option.{slice_get_within}
-use Rattle.spi_term.specs.Term.{Message, Effect, Prefix, Recvs, Serves, Splits, Selects, Decrypts, Checks, Begins, Ends, EndManys, Casts, Makes, Process, leaf, prefix, fork, binds, fork_binds, process_size}
+use Rattle.spi_term.specs.Term.{Message, Effect, Prefix, Recvs, Serves, Splits, Selects, Decrypts, Checks, Begins, Ends, EndManys, Casts, Freshes, Process, leaf, prefix, fork, binds, fork_binds, process_size}
 use Rattle.spi_term.specs.Names.{ProcessOver}
 use Rattle.spi_term.specs.Spelling.{Shape, leaf_at, prefix_at, fork_at, flat, numbered, spelled}
 use Rattle.spi_term.specs.Arena.{InScope}
@@ -20,11 +20,11 @@ use Rattle.spi_infer.specs.declared.own.Own.TheVariants.{Checked, Cast}
 use Rattle.spi_infer.specs.declared.own.OwnNote.{OwnNote}
 use Rattle.spi_infer.specs.declared.own.Noted.{Noted}
 use Rattle.spi_count.specs.Keeping.{with_keys}
-use Rattle.spi_infer.specs.Own.{PaidFits, Fits, FormFits, NotedAs, AreNoted, noted_none, noted_next}
+use Rattle.spi_infer.specs.Own.{PaidFits, IsOwnOf, FormFits, FormNotedAs, AreFormsNoted, noted_none, noted_next}
 use Rattle.spi_message.specs.Forms.{more, on_first, on_rest}
 use Rattle.spi_infer.specs.Forms.{effect_of}
 use Rattle.spi_infer.specs.Passes.{Note, scan, run, act, is_stuck, first_stuck}
-use Rattle.spi_infer.specs.Accounts.{BelowIn, MayBelowIn, TopBelowIn, BothBelowIn, Behind, CheckGiven, CastGiven, OwnGiven, NoteGiven, Tops, IsBefore, IsNoted}
+use Rattle.spi_infer.specs.Accounts.{BelowIn, MayBelowIn, TopBelowIn, BothBelowIn, Behind, CheckGiven, CastGiven, OwnGiven, NoteGiven, Tops, IsBeforeNode, IsNoted}
 use Rattle.spi_message.proofs.Opened.{length_more, length_first, length_rest}
 use Rattle.spi_infer.proofs.Passes.{notes, run_flat}
 use Rattle.spi_infer.proofs.Below.{below_effect}
@@ -94,9 +94,9 @@ drop_at (y ∷ xs) (suc i) x e =
 record NoteAt (s : Store) (At : ℕ → Message → Type 0) (ns : List Note) (i : ℕ) (x : Shape) (o : OwnNote) : Type 0 where
   pub note : Note
   pub is : drop i ns ≡ note ∷ drop (i + 1) ns
-  pub noted : NotedAs s At x note o
+  pub noted : FormNotedAs s At x note o
 
-noted_at : {s : Store} (At : ℕ → Message → Type 0) (ss : List Shape) (ns : List Note) (os : List OwnNote) → AreNoted s At ss ns os → (i : ℕ) (x : Shape) (o : OwnNote) → slice_get ss i ≡ Some x → o ≡ get_or os i o → NoteAt s At ns i x o
+noted_at : {s : Store} (At : ℕ → Message → Type 0) (ss : List Shape) (ns : List Note) (os : List OwnNote) → AreFormsNoted s At ss ns os → (i : ℕ) (x : Shape) (o : OwnNote) → slice_get ss i ≡ Some x → o ≡ get_or os i o → NoteAt s At ns i x o
 noted_at At _ _ _ noted_none i x o g e = absurd (cc)
 noted_at {s} At _ _ _ (noted_next {x = y} {n = n} {o = p} {ns = ns} h t) zero x o g e =
     let f : y ≡ x = cc in
@@ -104,14 +104,14 @@ noted_at {s} At _ _ _ (noted_next {x = y} {n = n} {o = p} {ns = ns} h t) zero x 
     record {
       note = n;
       is = ap (λ m. n ∷ drop m (n ∷ ns)) (sym z);
-      noted = subst (λ x. NotedAs s At x n o) f (subst (NotedAs s At y n) (sym e) h);
+      noted = subst (λ x. FormNotedAs s At x n o) f (subst (FormNotedAs s At y n) (sym e) h);
     }
 noted_at At _ _ _ (noted_next {n = n} {ss = ss} {ns = ns} {os = os} h t) (suc i) x o g e =
     let r = noted_at At ss ns os t i x o g e in
     let z : suc (i + 1) ≡ suc i + 1 = omega arith in
     record { note = r.note; is = r.is ∙ ap (λ m. r.note ∷ drop m (n ∷ ns)) z; noted = r.noted }
 
-pub noted_length : {s : Store} {At : ℕ → Message → Type 0} {ss : List Shape} {ns : List Note} {os : List OwnNote} → AreNoted s At ss ns os → length os ≡ length ss
+pub noted_length : {s : Store} {At : ℕ → Message → Type 0} {ss : List Shape} {ns : List Note} {os : List OwnNote} → AreFormsNoted s At ss ns os → length os ≡ length ss
 noted_length noted_none = refl
 noted_length (noted_next h t) = ap suc (noted_length t)
 
@@ -138,9 +138,9 @@ form_given s keys k (Begins m) paid own f b = tt
 form_given s keys k (Ends m) paid own f b = tt
 form_given s keys k (EndManys m) paid own f b = tt
 form_given s keys k (Casts m t) paid own f b = cast_given s own f.0 0 f.1 (slice_get_within s.types f.0.place f.2.kind f.2.at)
-form_given s keys k (Makes t) paid own f b = tt
+form_given s keys k (Freshes t) paid own f b = tt
 
-fits_given : (s : Store) (keys : Keys) (x : Shape) (paid : Option Effect) (own : Own) → Fits s (with_keys s keys) x paid own → OwnGiven s x own
+fits_given : (s : Store) (keys : Keys) (x : Shape) (paid : Option Effect) (own : Own) → IsOwnOf s (with_keys s keys) x paid own → OwnGiven s x own
 fits_given s keys (leaf_at k l) paid own f = tt
 fits_given s keys (prefix_at k p b) paid own f = form_given s keys k p paid own f b
 fits_given s keys (fork_at k g a r) paid own f = tt
@@ -186,7 +186,7 @@ module _ (s : Store) (noted : Noted) (k : ℕ) (p : Process) (env : Env) (h : Is
         let b = behind_drop i ss ns (all_behind k p env h.names over) in
         (subst (AllBehind (x ∷ drop id ss)) at_note (subst (λ l. AllBehind l (drop i ns)) at_node b)).0
 
-    pub before : (old : List (Option Sum)) → Tops s noted.keys old st → IsBefore s noted.keys x o old note_here st
+    pub before : (old : List (Option Sum)) → Tops s noted.keys old st → IsBeforeNode s noted.keys x o old note_here st
     before old t = record { keyed = record { once = once; keyed = h.keyed }; noted = unfold note_here in here.noted; behind = behind; tops = t }
 
     pub acted : act x note_here st ≡ run (drop i ss) (drop i ns)

@@ -3,10 +3,10 @@ use Rattle.std.proofs.Common.{◌≡◌, ℕ, zero, suc, ◌+◌, ◌-◌, ◌�
 use Rattle.std.specs.Prelude.{slice_get, if◌then◌else◌}
 use Rattle.std.proofs.lemmas.Bool.{eqb-true}
 use Rattle.std.proofs.lemmas.List.{take_all, drop_all}
-use Rattle.spi_term.specs.Term.{Pars, Cases, Process, leaf, prefix, fork, binds, fork_binds, process_size}
+use Rattle.spi_term.specs.Term.{Pars, Branches, Process, leaf, prefix, fork, binds, fork_binds, process_size}
 use Rattle.spi_term.specs.Names.{ProcessOver}
 use Rattle.spi_term.specs.Spelling.{Shape, leaf_at, prefix_at, fork_at, flat, numbered, spelled}
-use Rattle.spi_term.specs.Arena.{Item, Reads, no_node, leaf_on, prefix_on, fork_on, scope_of, scope_at, parts_of, HasParts}
+use Rattle.spi_term.specs.Arena.{ScopedProcess, ReadsProcesses, no_node, leaf_on, prefix_on, fork_on, scope_of, scope_at, parts_of, PartsStand}
 use Rattle.spi_term.proofs.Rows.{arena_reads}
 use Rattle.spi_term.proofs.Numbers.{spelled_arena}
 use Rattle.spi_term.proofs.Places.{of_order}
@@ -14,12 +14,12 @@ use Rattle.spi_rules.specs.Environment.{Env}
 use Rattle.spi_message.specs.Judging.{Numbered, Stands}
 use Rattle.spi_count.specs.declared.keys.Keys.{Keys}
 use Rattle.spi_infer.specs.declared.own.OwnNote.{OwnNote}
-use Rattle.spi_infer.specs.Own.{AreNoted, noted_none}
+use Rattle.spi_infer.specs.Own.{AreFormsNoted, noted_none}
 use Rattle.spi_count.specs.Keeping.{with_keys, GrowsTo}
 use Rattle.spi_infer.specs.Passes.{note_of, Wait, wait, settled, entered, waiting, left_waiting, scan}
 use Rattle.spi_infer.specs.declared.waiting.Pending.{Pending}
-use Rattle.spi_infer.specs.Waiting.{Queued, waiting_none, Reaches, AreLater}
-use Rattle.spi_infer.specs.Walking.{Walked, IsPassed}
+use Rattle.spi_infer.specs.Waiting.{Queued, waiting_none, ReachesUpTo, AreLater}
+use Rattle.spi_infer.specs.Walking.{Walked, IsNodePassed}
 use Rattle.spi_infer.proofs.Kept.{are_noted_keep, noted_push}
 use Rattle.spi_infer.proofs.Scanning.{drop_at_get, scan_more}
 
@@ -48,29 +48,29 @@ scope_at_get (y ∷ ss) zero x e = let f : y ≡ x = cc in ap (λ y. Some (scope
 scope_at_get (y ∷ ss) (suc i) x e = scope_at_get ss i x e
 
 -- the parts of a form stand where it says
-reads_drop : (n j : ℕ) (ss : List Shape) (st : List Item) → Reads j ss st → (st' : List Item) × Reads (j + n) (drop n ss) st'
-reads_drop zero j ss st r = let e : j ≡ j + 0 = omega arith in (st, subst (λ j. Reads j ss st) e r)
+reads_drop : (n j : ℕ) (ss : List Shape) (st : List ScopedProcess) → ReadsProcesses j ss st → (st' : List ScopedProcess) × ReadsProcesses (j + n) (drop n ss) st'
+reads_drop zero j ss st r = let e : j ≡ j + 0 = omega arith in (st, subst (λ j. ReadsProcesses j ss st) e r)
 reads_drop (suc n) j [] st r = ([], no_node)
 reads_drop (suc n) j (_ ∷ ss) _ (leaf_on {st = st} h r) =
     let w = reads_drop n (suc j) ss st r in
     let e : suc j + n ≡ j + suc n = omega arith in
-    (w.0, subst (λ j. Reads j (drop n ss) w.0) e w.1)
+    (w.0, subst (λ j. ReadsProcesses j (drop n ss) w.0) e w.1)
 reads_drop (suc n) j (_ ∷ ss) _ (prefix_on h a r) =
     let w = reads_drop n (suc j) ss _ r in
     let e : suc j + n ≡ j + suc n = omega arith in
-    (w.0, subst (λ j. Reads j (drop n ss) w.0) e w.1)
+    (w.0, subst (λ j. ReadsProcesses j (drop n ss) w.0) e w.1)
 reads_drop (suc n) j (_ ∷ ss) _ (fork_on h a b r) =
     let w = reads_drop n (suc j) ss _ r in
     let e : suc j + n ≡ j + suc n = omega arith in
-    (w.0, subst (λ j. Reads j (drop n ss) w.0) e w.1)
+    (w.0, subst (λ j. ReadsProcesses j (drop n ss) w.0) e w.1)
 
-pub parts_at : (k : ℕ) (p : Process) (i : ℕ) (x : Shape) → ProcessOver k p → slice_get (spelled k p) i ≡ Some x → HasParts (spelled k p) i (scope_of x) (parts_of x)
+pub parts_at : (k : ℕ) (p : Process) (i : ℕ) (x : Shape) → ProcessOver k p → slice_get (spelled k p) i ≡ Some x → PartsStand (spelled k p) i (scope_of x) (parts_of x)
 parts_at k p i x o e =
     let ss = spelled k p in
     let a = spelled_arena k p ss (o, refl) in
     let w = reads_drop i 0 ss _ (arena_reads k ss a.0 a.1 a.2) in
     let z : 0 + i ≡ i = omega arith in
-    (of_order ss (drop (i + 1) ss) i x (drop_at_get ss i x e) (w.0, subst (λ j. Reads j (drop i ss) w.0) z w.1)).1
+    (of_order ss (drop (i + 1) ss) i x (drop_at_get ss i x e) (w.0, subst (λ j. ReadsProcesses j (drop i ss) w.0) z w.1)).1
 
 -- types that wait
 later_left : (ss : List Shape) (base i : ℕ) (ws : List Wait) → AreLater ss base ws → AreLater ss base (left_waiting i ws)
@@ -81,13 +81,13 @@ later_left ss base i (wait r u ∷ ws) h = go (eqb r i)
     go true = h.1
     go false = h
 
-pub later_next : (ss : List Shape) (base i : ℕ) (x : Shape) (ws : List Wait) → AreLater ss base ws → base ≤ scope_of x → HasParts ss i (scope_of x) (parts_of x) → AreLater ss base (waiting (left_waiting i ws) x)
+pub later_next : (ss : List Shape) (base i : ℕ) (x : Shape) (ws : List Wait) → AreLater ss base ws → base ≤ scope_of x → PartsStand ss i (scope_of x) (parts_of x) → AreLater ss base (waiting (left_waiting i ws) x)
 later_next ss base i (leaf_at k l) ws h b p = later_left ss base i ws h
 later_next ss base i (prefix_at k s j) ws h b p = later_left ss base i ws h
 later_next ss base i (fork_at k Pars a r) ws h b p = later_left ss base i ws h
-later_next ss base i (fork_at k (Cases m t u) a r) ws h b p = ((k + 1, p.3, omega arith), later_left ss base i ws h)
+later_next ss base i (fork_at k (Branches m t u) a r) ws h b p = ((k + 1, p.3, omega arith), later_left ss base i ws h)
 
-pub later_reaches : (ss : List Shape) (base i k : ℕ) (x : Shape) (ws : List Wait) → AreLater ss base ws → slice_get ss i ≡ Some x → scope_of x ≡ k → base ≤ k → Reaches base i k ws
+pub later_reaches : (ss : List Shape) (base i k : ℕ) (x : Shape) (ws : List Wait) → AreLater ss base ws → slice_get ss i ≡ Some x → scope_of x ≡ k → base ≤ k → ReachesUpTo base i k ws
 later_reaches ss base i k x [] h e q l = l
 later_reaches ss base i k x (wait r u ∷ ws) h e q l = go (eqb r i) refl
   where
@@ -110,7 +110,7 @@ walked_start ss e j ks ps os s p q = record {
   queued = subst (λ ps. Queued j.store ps []) (sym p) waiting_none;
   later = tt;
   notes = [];
-  noted = subst (λ os. AreNoted j.store (with_keys j.store ks) [] [] os) (sym q) noted_none;
+  noted = subst (λ os. AreFormsNoted j.store (with_keys j.store ks) [] [] os) (sym q) noted_none;
   rest = refl;
 }
 
@@ -121,7 +121,7 @@ take_at_get (y ∷ ss) (suc i) x e =
     let n : suc (i + 1) ≡ suc i + 1 = omega arith in
     ap (λ l. y ∷ l) (take_at_get ss i x e) ∙ ap (λ n. take n (y ∷ ss)) n
 
-pub walked_next : {ss : List Shape} {start : Env} {i : ℕ} {j k : Numbered} {ks ls : Keys} {ps : List Pending} {os : List OwnNote} (n : ℕ) (x : Shape) (qs : List Pending) (o : OwnNote) (rs : List OwnNote) → Walked ss start i j ks ps os → slice_get ss i ≡ Some x → scope_of x ≡ n → length start ≤ scope_of x → HasParts ss i (scope_of x) (parts_of x) → ((ws : List Wait) → Queued j.store ps ws → IsPassed j k ls i n x ws o) → GrowsTo j.store ks k.store ls → ((ws : List Wait) → Queued j.store ps ws → Queued k.store qs (waiting (left_waiting i ws) x)) → rs ≡ os ++ o ∷ [] → Walked ss start (i + 1) k ls qs rs
+pub walked_next : {ss : List Shape} {start : Env} {i : ℕ} {j k : Numbered} {ks ls : Keys} {ps : List Pending} {os : List OwnNote} (n : ℕ) (x : Shape) (qs : List Pending) (o : OwnNote) (rs : List OwnNote) → Walked ss start i j ks ps os → slice_get ss i ≡ Some x → scope_of x ≡ n → length start ≤ scope_of x → PartsStand ss i (scope_of x) (parts_of x) → ((ws : List Wait) → Queued j.store ps ws → IsNodePassed j k ls i n x ws o) → GrowsTo j.store ks k.store ls → ((ws : List Wait) → Queued j.store ps ws → Queued k.store qs (waiting (left_waiting i ws) x)) → rs ≡ os ++ o ∷ [] → Walked ss start (i + 1) k ls qs rs
 walked_next {ss} {start} {i} {j} {k} {ks} {ls} {ps} {os} n x qs o rs w e q b f pass g v r =
     let cut = settled i n w.env w.waits in
     let p = pass w.waits w.queued in
@@ -133,12 +133,12 @@ walked_next {ss} {start} {i} {j} {k} {ks} {ls} {ps} {os} n x qs o rs w e q b f p
       queued = v w.waits w.queued;
       later = later_next ss (length start) i x w.waits w.later b f;
       notes = w.notes ++ note_of cut x ∷ [];
-      noted = subst (λ rs. AreNoted k.store (with_keys k.store ls) (take (i + 1) ss) (w.notes ++ note_of cut x ∷ []) rs) (sym r) (subst (λ l. AreNoted k.store (with_keys k.store ls) l (w.notes ++ note_of cut x ∷ []) (os ++ o ∷ [])) (take_at_get ss i x e) more);
+      noted = subst (λ rs. AreFormsNoted k.store (with_keys k.store ls) (take (i + 1) ss) (w.notes ++ note_of cut x ∷ []) rs) (sym r) (subst (λ l. AreFormsNoted k.store (with_keys k.store ls) l (w.notes ++ note_of cut x ∷ []) (os ++ o ∷ [])) (take_at_get ss i x e) more);
       rest = scan_more w.notes w.env cut (entered cut x) w.waits (waiting (left_waiting i w.waits) x) ss i x (note_of cut x) e (ap (λ n. settled i n w.env w.waits) (sym q)) refl refl refl ∙ w.rest;
     }
 
-pub walked_end : {ss : List Shape} {start : Env} {i : ℕ} {j : Numbered} {ks : Keys} {ps : List Pending} {os : List OwnNote} → Walked ss start i j ks ps os → length ss ≤ i → AreNoted j.store (with_keys j.store ks) ss (scan 0 start [] ss) os
+pub walked_end : {ss : List Shape} {start : Env} {i : ℕ} {j : Numbered} {ks : Keys} {ps : List Pending} {os : List OwnNote} → Walked ss start i j ks ps os → length ss ≤ i → AreFormsNoted j.store (with_keys j.store ks) ss (scan 0 start [] ss) os
 walked_end {ss} {start} {i} {j} {ks} {ps} {os} w h =
     let At = with_keys j.store ks in
     let n : w.notes ≡ scan 0 start [] ss = sym (append-nil w.notes) ∙ ap (λ l. w.notes ++ scan i w.env w.waits l) (sym (drop_all i ss h)) ∙ w.rest in
-    subst (λ ns. AreNoted j.store At ss ns os) n (subst (λ l. AreNoted j.store At l w.notes os) (take_all i ss h) w.noted)
+    subst (λ ns. AreFormsNoted j.store At ss ns os) n (subst (λ l. AreFormsNoted j.store At l w.notes os) (take_all i ss h) w.noted)

@@ -3,7 +3,7 @@ use Rattle.std.specs.Prelude.{◌≡◌, ℕ, suc, ◌+◌, ◌<◌, ◌||◌, l
 use Rattle.spi_term.specs.declared.term.Effect as Declared
 use Rattle.spi_term.specs.View as View
 use Rattle.spi_term.specs.Counts.{SameEffect}
-use Rattle.spi_term.specs.Term.{Message, name, ends, checks, many, Effect, Ty, Prefix, Recvs, Serves, Splits, Selects, Decrypts, Checks, Begins, Ends, EndManys, Casts, Makes, Process, binds, fork_binds}
+use Rattle.spi_term.specs.Term.{Message, name, ends, checks, many, Effect, Ty, Prefix, Recvs, Serves, Splits, Selects, Decrypts, Checks, Begins, Ends, EndManys, Casts, Freshes, Process, binds, fork_binds}
 use Rattle.spi_term.specs.Spelling.{Shape, leaf_at, prefix_at, fork_at, spelled}
 use Rattle.spi_rules.specs.Environment.{Env}
 use Rattle.spi_intern.specs.declared.store.Store.{Store}
@@ -19,7 +19,7 @@ use Rattle.spi_infer.specs.declared.own.Own.TheVariants.{Label, Checked, Cast, M
 use Rattle.spi_infer.specs.declared.own.OwnNote.{OwnNote}
 use Rattle.spi_infer.specs.declared.own.Noted.{Noted}
 use Rattle.spi_count.specs.Keeping.{with_keys, IsKeyed, HaveKeys, AreKept}
-use Rattle.spi_infer.specs.Own.{PaidFits, Fits, StandsFor, NotedAs, AreNoted, TopsStand}
+use Rattle.spi_infer.specs.Own.{PaidFits, IsOwnOf, CountsFor, FormNotedAs, AreFormsNoted, TopsStand}
 use Rattle.spi_message.specs.Forms.{cast_effect_of}
 use Rattle.spi_infer.specs.Forms.{unless, keep, checked}
 use Rattle.spi_infer.specs.Passes.{Note, scan, after_shape, both_shape}
@@ -29,34 +29,34 @@ use Rattle.spi_count.specs.Adding.{SumOf}
 abbrev pub AfterOne : ℕ → Sum → Option Sum → Type 0
 AfterOne k sum r =
     (s : Store) (keys : Keys) (es : Effect) → IsKeyed s keys → SumOf s keys sum es → Below (k + 1) es
-    → StandsFor (with_keys s keys) r (unless (mentions k es) es)
+    → CountsFor (with_keys s keys) r (unless (mentions k es) es)
 
 abbrev pub AfterTwo : ℕ → Sum → Option Sum → Type 0
 AfterTwo k sum r =
     (s : Store) (keys : Keys) (es : Effect) → IsKeyed s keys → SumOf s keys sum es → Below (k + 2) es
-    → StandsFor (with_keys s keys) r (unless (mentions k es || mentions (suc k) es) es)
+    → CountsFor (with_keys s keys) r (unless (mentions k es || mentions (suc k) es) es)
 
 abbrev pub AfterServe : ℕ → Sum → Option Sum → Type 0
 AfterServe k sum r =
     (s : Store) (keys : Keys) (es : Effect) → IsKeyed s keys → SumOf s keys sum es → Below (k + 1) es
-    → StandsFor (with_keys s keys) r (keep (are_many es) (unless (mentions k es) es))
+    → CountsFor (with_keys s keys) r (keep (are_many es) (unless (mentions k es) es))
 
 abbrev pub AfterMake : ℕ → Store → Keys → Sum → Option Sum → Type 0
 AfterMake k s keys sum r =
     (es : Effect) → IsKeyed s keys → SumOf s keys sum es → Below (k + 1) es
-    → StandsFor (with_keys s keys) r
+    → CountsFor (with_keys s keys) r
     (unless (mentions k (minus es (checks (name k) ∷ []))) (minus es (checks (name k) ∷ [])))
 
 abbrev pub AfterCast : ℕ → Store → Keys → TyId → Sum → Option Sum → Type 0
 AfterCast k s keys t sum r =
     (u : Ty) (es : Effect) → IsKeyed s keys → Means s t.place u → HaveKeys s keys (cast_effect_of u)
     → SumOf s keys sum es → Below (k + 1) es
-    → StandsFor (with_keys s keys) r (unless (mentions k es) (es ++ cast_effect_of u))
+    → CountsFor (with_keys s keys) r (unless (mentions k es) (es ++ cast_effect_of u))
 
 abbrev pub AfterCheck : Store → Keys → MsgId → Option TyId → Sum → Option Sum → Type 0
 AfterCheck s keys id t sum r =
     (m : Message) (paid : Option Effect) (es : Effect) → IsKeyed s keys → with_keys s keys id.place m
-    → PaidFits s t paid → SumOf s keys sum es → StandsFor (with_keys s keys) r (checked paid m es)
+    → PaidFits s t paid → SumOf s keys sum es → CountsFor (with_keys s keys) r (checked paid m es)
 
 -- the type of a nonce is one of the store
 abbrev pub MayBeType : Store → Option TyId → Type 0
@@ -71,20 +71,20 @@ BelowIn (fork_at k f a r) es = Below (k + fork_binds f) es
 
 abbrev pub AfterForm : Store → Keys → Shape → Own → Sum → Option Sum → Type 0
 AfterForm s keys x own sum r =
-    (paid : Option Effect) (es : Effect) → IsKeyed s keys → Fits s (with_keys s keys) x paid own
-    → SumOf s keys sum es → BelowIn x es → StandsFor (with_keys s keys) r (after_shape x paid es)
+    (paid : Option Effect) (es : Effect) → IsKeyed s keys → IsOwnOf s (with_keys s keys) x paid own
+    → SumOf s keys sum es → BelowIn x es → CountsFor (with_keys s keys) r (after_shape x paid es)
 
 -- what a form with two processes does to theirs
 abbrev pub BothForm : Shape → Sum → Sum → Option Sum → Type 0
 BothForm x a b r =
     (s : Store) (keys : Keys) (es fs : Effect) → IsKeyed s keys → SumOf s keys a es → SumOf s keys b fs
-    → BelowIn x es → BelowIn x fs → StandsFor (with_keys s keys) r (both_shape x es fs)
+    → BelowIn x es → BelowIn x fs → CountsFor (with_keys s keys) r (both_shape x es fs)
 
 abbrev pub BothCase : ℕ → Sum → Sum → Option Sum → Type 0
 BothCase k a b r =
     (s : Store) (keys : Keys) (es fs : Effect) → IsKeyed s keys → SumOf s keys a es → SumOf s keys b fs
     → Below (k + 1) es → Below (k + 1) fs
-    → StandsFor (with_keys s keys) r (unless (mentions k es || mentions k fs) (greater es fs))
+    → CountsFor (with_keys s keys) r (unless (mentions k es || mentions k fs) (greater es fs))
 
 -- by what is kept of the form
 abbrev pub OwnCheck : Store → Keys → Own → Sum → Option Sum → Type 0
@@ -101,19 +101,19 @@ abbrev pub OwnBegin : Keys → Own → Sum → Option Sum → Type 0
 OwnBegin keys own sum r =
     (s : Store) (id : MsgId) (m : Message) (es : Effect) → own ≡ Label id → IsKeyed s keys
     → slice_get s.messages id.place ≡ Some m → SumOf s keys sum es
-    → StandsFor (with_keys s keys) r (Some (minus es (ends m ∷ (many m ∷ []))))
+    → CountsFor (with_keys s keys) r (Some (minus es (ends m ∷ (many m ∷ []))))
 
 abbrev pub OwnEnd : Keys → Own → Sum → Option Sum → Type 0
 OwnEnd keys own sum r =
     (s : Store) (id : MsgId) (m : Message) (es : Effect) → own ≡ Label id → IsKeyed s keys
     → with_keys s keys id.place m → SumOf s keys sum es
-    → StandsFor (with_keys s keys) r (Some (es ++ ends m ∷ []))
+    → CountsFor (with_keys s keys) r (Some (es ++ ends m ∷ []))
 
 abbrev pub OwnMany : Keys → Own → Sum → Option Sum → Type 0
 OwnMany keys own sum r =
     (s : Store) (id : MsgId) (m : Message) (es : Effect) → own ≡ Label id → IsKeyed s keys
     → with_keys s keys id.place m → SumOf s keys sum es
-    → StandsFor (with_keys s keys) r (Some (es ++ many m ∷ []))
+    → CountsFor (with_keys s keys) r (Some (es ++ many m ∷ []))
 
 -- the types that are kept are of the store
 abbrev pub CheckGiven : Store → Own → Type 0
@@ -133,7 +133,7 @@ FormGiven s (Begins m) own = ⊤
 FormGiven s (Ends m) own = ⊤
 FormGiven s (EndManys m) own = ⊤
 FormGiven s (Casts m t) own = CastGiven s own
-FormGiven s (Makes t) own = ⊤
+FormGiven s (Freshes t) own = ⊤
 
 abbrev pub OwnGiven : Store → Shape → Own → Type 0
 OwnGiven s (leaf_at k l) own = ⊤
@@ -164,10 +164,10 @@ abbrev pub Tops : Store → Keys → List (Option Sum) → List (Option Effect) 
 Tops s keys os st = TopsStand (with_keys s keys) (reverse os) st
 
 -- before a node is acted on
-pub record IsBefore (s : Store) (keys : Keys) (x : Shape) (o : OwnNote) (os : List (Option Sum)) (n : Note)
+pub record IsBeforeNode (s : Store) (keys : Keys) (x : Shape) (o : OwnNote) (os : List (Option Sum)) (n : Note)
     (st : List (Option Effect)) : Type 0 where
   pub keyed : IsKeyed s keys
-  pub noted : NotedAs s (with_keys s keys) x n o
+  pub noted : FormNotedAs s (with_keys s keys) x n o
   pub behind : Behind x st
   pub tops : Tops s keys os st
 
@@ -179,7 +179,7 @@ NoteGiven s x o = o.fine ≡ true → OwnGiven s x o.own
 pub record IsNoted (s : Store) (noted : Noted) (k : ℕ) (p : Process) (env : Env) : Type 0 where
   pub names : k ≡ length env
   pub keyed : AreKept s noted.keys
-  pub each : AreNoted s (with_keys s noted.keys) (spelled k p) (scan 0 env [] (spelled k p)) noted.notes.items
+  pub each : AreFormsNoted s (with_keys s noted.keys) (spelled k p) (scan 0 env [] (spelled k p)) noted.notes.items
 
 -- an effect with these counts, where there is one
 abbrev pub IsReadAs : Option Declared.Effect → Option Effect → Type 0

@@ -1,13 +1,13 @@
 -- What the passes keep of a node by numbers, and what that stands for.
 use Rattle.std.specs.Prelude.{◌≡◌, ℕ, List, [], ◌∷◌, Option, Some, None, true, slice_get, ⊤}
-use Rattle.spi_term.specs.Term.{Message, name, Atom, Effect, nonce, Prefix, Recvs, Serves, Splits, Selects, Decrypts, Checks, Begins, Ends, EndManys, Casts, Makes}
+use Rattle.spi_term.specs.Term.{Message, name, Atom, Effect, nonce, Prefix, Recvs, Serves, Splits, Selects, Decrypts, Checks, Begins, Ends, EndManys, Casts, Freshes}
 use Rattle.spi_term.specs.Lists.{In}
 use Rattle.spi_term.specs.Spelling.{Shape, leaf_at, prefix_at, fork_at}
 use Rattle.spi_intern.specs.declared.store.Store.{Store}
 use Rattle.spi_intern.specs.declared.messages.MsgId.{MsgId}
 use Rattle.spi_intern.specs.declared.types.TyId.{TyId}
 use Rattle.spi_intern.specs.Meaning.{Means}
-use Rattle.spi_count.specs.Sums.{message_of, Stands}
+use Rattle.spi_count.specs.Sums.{message_of, StandsForEffect}
 use Rattle.spi_count.specs.declared.sum.Sum.{Sum}
 use Rattle.spi_infer.specs.declared.own.Own.{Own}
 use Rattle.spi_infer.specs.declared.own.Own.TheVariants.{Label, Checked, Cast, Made}
@@ -37,33 +37,33 @@ FormFits s At k (Ends m) paid own = (id : MsgId) × (own ≡ Label id) × At id.
 FormFits s At k (EndManys m) paid own = (id : MsgId) × (own ≡ Label id) × At id.place m
 FormFits s At k (Casts m t) paid own = (id : TyId) × (own ≡ Cast id) × Means s id.place t
     × ((a : Atom) → In a (cast_effect_of t) → (i : ℕ) × At i (message_of a))
-FormFits s At k (Makes t) paid own = (id : MsgId) × (own ≡ Made id)
+FormFits s At k (Freshes t) paid own = (id : MsgId) × (own ≡ Made id)
     × (slice_get s.messages id.place ≡ Some (name k))
 
-abbrev pub Fits : Store → (ℕ → Message → Type 0) → Shape → Option Effect → Own → Type 0
-Fits s At (leaf_at k l) paid own = ⊤
-Fits s At (prefix_at k p b) paid own = FormFits s At k p paid own
-Fits s At (fork_at k f a r) paid own = ⊤
+abbrev pub IsOwnOf : Store → (ℕ → Message → Type 0) → Shape → Option Effect → Own → Type 0
+IsOwnOf s At (leaf_at k l) paid own = ⊤
+IsOwnOf s At (prefix_at k p b) paid own = FormFits s At k p paid own
+IsOwnOf s At (fork_at k f a r) paid own = ⊤
 
 -- counts for an effect, where there is one
-abbrev pub StandsFor : (ℕ → Message → Type 0) → Option Sum → Option Effect → Type 0
-StandsFor At None None = ⊤
-StandsFor At None (Some es) = ⊥
-StandsFor At (Some s) None = ⊥
-StandsFor At (Some s) (Some es) = Stands At s es
+abbrev pub CountsFor : (ℕ → Message → Type 0) → Option Sum → Option Effect → Type 0
+CountsFor At None None = ⊤
+CountsFor At None (Some es) = ⊥
+CountsFor At (Some s) None = ⊥
+CountsFor At (Some s) (Some es) = StandsForEffect At s es
 
 -- What is kept of a node: whether the form's own premises hold, and where they do what it adds and takes off.
-abbrev pub NotedAs : Store → (ℕ → Message → Type 0) → Shape → Note → OwnNote → Type 0
-NotedAs s At x n o = (o.fine ≡ n.fine) × (n.fine ≡ true → Fits s At x n.paid o.own)
+abbrev pub FormNotedAs : Store → (ℕ → Message → Type 0) → Shape → Note → OwnNote → Type 0
+FormNotedAs s At x n o = (o.fine ≡ n.fine) × (n.fine ≡ true → IsOwnOf s At x n.paid o.own)
 
-pub data AreNoted (s : Store) (At : ℕ → Message → Type 0) : List Shape → List Note → List OwnNote
+pub data AreFormsNoted (s : Store) (At : ℕ → Message → Type 0) : List Shape → List Note → List OwnNote
     → Type 0 where
-  noted_none : AreNoted s At [] [] []
+  noted_none : AreFormsNoted s At [] [] []
   noted_next : {x : Shape} {n : Note} {o : OwnNote} {ss : List Shape} {ns : List Note} {os : List OwnNote}
-      → NotedAs s At x n o → AreNoted s At ss ns os → AreNoted s At (x ∷ ss) (n ∷ ns) (o ∷ os)
+      → FormNotedAs s At x n o → AreFormsNoted s At ss ns os → AreFormsNoted s At (x ∷ ss) (n ∷ ns) (o ∷ os)
 
 -- a stack that grows at its end, read from its top
 abbrev pub TopsStand : (ℕ → Message → Type 0) → List (Option Sum) → List (Option Effect) → Type 0
 TopsStand At [] st = st ≡ []
 TopsStand At (o ∷ os) [] = ⊥
-TopsStand At (o ∷ os) (e ∷ st) = StandsFor At o e × TopsStand At os st
+TopsStand At (o ∷ os) (e ∷ st) = CountsFor At o e × TopsStand At os st

@@ -31,14 +31,14 @@ IsNotDue i [] = ⊤
 IsNotDue i (p ∷ ps) = eqb p.at i ≡ false
 
 -- the names in scope at place i, of which there are k, begin with those up to base
-abbrev pub Reaches : ℕ → ℕ → ℕ → List Wait → Type 0
-Reaches base i k [] = base ≤ k
-Reaches base i k (wait r u ∷ ws) = base ≤ (if eqb r i then k - 1 else k)
+abbrev pub ReachesUpTo : ℕ → ℕ → ℕ → List Wait → Type 0
+ReachesUpTo base i k [] = base ≤ k
+ReachesUpTo base i k (wait r u ∷ ws) = base ≤ (if eqb r i then k - 1 else k)
 
 pub record CanReach (base i k : ℕ) (s : Store) (ps : List Pending) : Type 0 where
   pub waits : List Wait
   pub queued : Queued s ps waits
-  pub reaches : Reaches base i k waits
+  pub reaches : ReachesUpTo base i k waits
 
 -- each type that waits is for a place with one more name than base at least
 abbrev pub AreLater : List Shape → ℕ → List Wait → Type 0

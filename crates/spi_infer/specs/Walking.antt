@@ -10,7 +10,7 @@ use Rattle.spi_count.specs.declared.keys.Keys.{Keys}
 use Rattle.spi_infer.specs.declared.own.Own.{Own}
 use Rattle.spi_infer.specs.declared.own.OwnNote.{OwnNote}
 use Rattle.spi_infer.specs.declared.waiting.Pending.{Pending}
-use Rattle.spi_infer.specs.Own.{AreNoted, Fits, NotedAs}
+use Rattle.spi_infer.specs.Own.{AreFormsNoted, IsOwnOf, FormNotedAs}
 use Rattle.spi_count.specs.Keeping.{with_keys}
 use Rattle.spi_infer.specs.Waiting.{Queued, AreLater}
 use Rattle.spi_infer.specs.Passes.{Note, note_of, Wait, settled, entered, scan}
@@ -24,10 +24,10 @@ pub record IsAbove (old new : Numbered) : Type 0 where
 
 -- what is kept of a form fits it in each environment that the judge stood for
 pub record FitsIn (old new : Numbered) (ks : Keys) (x : Shape) (own : Own) : Type 0 where
-  pub at : (e : Env) → Stands old e → Fits new.store (with_keys new.store ks) x (note_of e x).paid own
+  pub at : (e : Env) → Stands old e → IsOwnOf new.store (with_keys new.store ks) x (note_of e x).paid own
 
 pub record NotesIn (old new : Numbered) (ks : Keys) (x : Shape) (o : OwnNote) : Type 0 where
-  pub at : (e : Env) → Stands old e → NotedAs new.store (with_keys new.store ks) x (note_of e x) o
+  pub at : (e : Env) → Stands old e → FormNotedAs new.store (with_keys new.store ks) x (note_of e x) o
 
 -- the nodes before place i are noted, and the rest is to be noted in an environment that the judge stands for
 pub record Walked (ss : List Shape) (start : Env) (i : ℕ) (j : Numbered) (ks : Keys) (ps : List Pending)
@@ -38,13 +38,13 @@ pub record Walked (ss : List Shape) (start : Env) (i : ℕ) (j : Numbered) (ks :
   pub queued : Queued j.store ps waits
   pub later : AreLater ss (length start) waits
   pub notes : List Note
-  pub noted : AreNoted j.store (with_keys j.store ks) (take i ss) notes os
+  pub noted : AreFormsNoted j.store (with_keys j.store ks) (take i ss) notes os
   pub rest : notes ++ scan i env waits (drop i ss) ≡ scan 0 start [] ss
 
 -- What happens at a node in place i with k names in scope: it is noted in the environment that is settled there, and the
 -- judge stands for the one that is entered.
-pub record IsPassed (old new : Numbered) (ks : Keys) (i k : ℕ) (x : Shape) (ws : List Wait)
+pub record IsNodePassed (old new : Numbered) (ks : Keys) (i k : ℕ) (x : Shape) (ws : List Wait)
     (o : OwnNote) : Type 0 where
   pub noted : (e : Env) → Stands old e
-      → NotedAs new.store (with_keys new.store ks) x (note_of (settled i k e ws) x) o
+      → FormNotedAs new.store (with_keys new.store ks) x (note_of (settled i k e ws) x) o
   pub enters : (e : Env) → Stands old e → Stands new (entered (settled i k e ws) x)

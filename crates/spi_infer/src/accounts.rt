@@ -10,10 +10,10 @@ ghost use Rattle.spi_intern.specs.declared.store.Store.{Store};
 ghost use Rattle.spi_intern.specs.Meaning.{NoneTwice};
 ghost use Rattle.spi_count.specs.declared.keys.Keys.{Keys};
 ghost use Rattle.spi_count.specs.Keeping.{with_keys, IsKeyed};
-ghost use Rattle.spi_infer.specs.Own.{StandsFor};
+ghost use Rattle.spi_infer.specs.Own.{CountsFor};
 ghost use Rattle.spi_infer.specs.Forms.{by_effects, keep, effect_of};
 ghost use Rattle.spi_infer.specs.Passes.{Note, scan, act, act_by, act_both, stuck_top_by, stuck_both, stuck_two_by, is_stuck, first_stuck, after_shape, both_shape};
-ghost use Rattle.spi_infer.specs.Accounts.{Tops, MayBelowIn, BothBelowIn, IsBefore, NoteGiven, IsNoted};
+ghost use Rattle.spi_infer.specs.Accounts.{Tops, MayBelowIn, BothBelowIn, IsBeforeNode, NoteGiven, IsNoted};
 
 use crate::own::{Noted, OwnNote};
 use crate::sums::{after_form, both_form};
@@ -22,6 +22,7 @@ use spi_intern::Store;
 use spi_term::{Form, Node, Process};
 use std::alloc::Global;
 
+/// One node with no process in it. Whether it has no effect.
 pub fn act_on_none(
     alloc: Global,
     fine: bool,
@@ -41,6 +42,8 @@ pub fn act_on_none(
     }
 }
 
+/// One node with one process in it, whose effect is on top of the stack. Whether it has none where its
+/// process has one.
 pub fn act_on_one(
     store: &Store,
     keys: &Keys,
@@ -52,12 +55,12 @@ pub fn act_on_one(
     requires own { NoteGiven store.now (shape_of node.now) note.now }
     ensures stack { OnOk result
         ((n : Note) (st : List (Option Effect))
-        → IsBefore store.now keys.now (shape_of node.now) note.now stack.old.items n st
+        → IsBeforeNode store.now keys.now (shape_of node.now) note.now stack.old.items n st
         → Tops store.now keys.now stack.new.items
         (act_by (after_shape (shape_of node.now) n.paid) n.fine st)) }
     ensures stuck { IfOk result
         (λ b. (n : Note) (st : List (Option Effect))
-        → IsBefore store.now keys.now (shape_of node.now) note.now stack.old.items n st
+        → IsBeforeNode store.now keys.now (shape_of node.now) note.now stack.old.items n st
         → b ≡ stuck_top_by (after_shape (shape_of node.now) n.paid) n.fine st) }
 {
     match stack.pop() {
@@ -79,6 +82,7 @@ pub fn act_on_one(
     }
 }
 
+/// The effect of a node from those of its two processes, and whether it has none where both have one.
 pub fn both_of(
     node: &Node,
     fine: bool,
@@ -88,12 +92,12 @@ pub fn both_of(
     requires { scope_of (shape_of node.now) ≤ 300000 }
     ensures effect { IfOk result
         (λ r. (s : Store) (keys : Keys) (e f : Option Effect) → IsKeyed s keys
-        → StandsFor (with_keys s keys) a e → StandsFor (with_keys s keys) b f
+        → CountsFor (with_keys s keys) a e → CountsFor (with_keys s keys) b f
         → MayBelowIn (shape_of node.now) e → MayBelowIn (shape_of node.now) f
-        → StandsFor (with_keys s keys) r.0 (keep fine (by_effects (both_shape (shape_of node.now)) e f))) }
+        → CountsFor (with_keys s keys) r.0 (keep fine (by_effects (both_shape (shape_of node.now)) e f))) }
     ensures stuck { IfOk result
         (λ r. (s : Store) (keys : Keys) (e f : Option Effect) → IsKeyed s keys
-        → StandsFor (with_keys s keys) a e → StandsFor (with_keys s keys) b f
+        → CountsFor (with_keys s keys) a e → CountsFor (with_keys s keys) b f
         → MayBelowIn (shape_of node.now) e → MayBelowIn (shape_of node.now) f
         → r.1 ≡ stuck_two_by (both_shape (shape_of node.now)) fine e f) }
 {
@@ -113,6 +117,8 @@ pub fn both_of(
     }
 }
 
+/// One node with two processes in it, whose effects are on top of the stack. Whether it has none where both
+/// have one.
 pub fn act_on_two(node: &Node, fine: bool, stack: &mut Vec<Option<Sum>>) -> Result<bool, NoMemory>
     requires { scope_of (shape_of node.now) ≤ 300000 }
     ensures stack { OnOk result
@@ -137,7 +143,7 @@ pub fn act_on_two(node: &Node, fine: bool, stack: &mut Vec<Option<Sum>>) -> Resu
     }
 }
 
-// One node of the backward pass. Whether it has no effect where each process in it has one.
+/// One node of the backward pass. Whether it has no effect where each process in it has one.
 pub fn act_on(
     alloc: Global,
     store: &Store,
@@ -150,11 +156,11 @@ pub fn act_on(
     requires own { NoteGiven store.now (shape_of node.now) note.now }
     ensures stack { OnOk result
         ((n : Note) (st : List (Option Effect))
-        → IsBefore store.now keys.now (shape_of node.now) note.now stack.old.items n st
+        → IsBeforeNode store.now keys.now (shape_of node.now) note.now stack.old.items n st
         → Tops store.now keys.now stack.new.items (act (shape_of node.now) n st)) }
     ensures stuck { IfOk result
         (λ b. (n : Note) (st : List (Option Effect))
-        → IsBefore store.now keys.now (shape_of node.now) note.now stack.old.items n st
+        → IsBeforeNode store.now keys.now (shape_of node.now) note.now stack.old.items n st
         → b ≡ is_stuck (shape_of node.now) n st) }
 {
     match &node.form {
@@ -181,7 +187,7 @@ pub fn account(
         (λ r. (env e : Env) (q : ProcessTerm)
         → IsNoted store.now noted.now process.now.names process.now.process env
         → NodeOf env process.now.process from e q
-        → StandsFor (with_keys store.now noted.now.keys) r.0 (effect_of (numbered [] (length e) q) e)) }
+        → CountsFor (with_keys store.now noted.now.keys) r.0 (effect_of (numbered [] (length e) q) e)) }
     ensures stuck { IfOk result
         (λ r. (env : Env) → IsNoted store.now noted.now process.now.names process.now.process env
         → r.1 ≡ first_stuck from (drop from (spelled process.now.names process.now.process))

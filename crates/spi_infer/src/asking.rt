@@ -1,7 +1,7 @@
 // What each form asks for itself, asked of a judge.
 ghost use Rattle.std.specs.Prelude.{◌≡◌, ◌+◌, ◌^◌, ◌<◌, ◌≤◌, ◌&&◌, ◌||◌, IfOk, length};
 ghost use Rattle.spi_term.specs.Term as Term;
-ghost use Rattle.spi_term.specs.Term.{Cases, Splits, Selects, Decrypts, un, key};
+ghost use Rattle.spi_term.specs.Term.{Branches, Splits, Selects, Decrypts, un, key};
 ghost use Rattle.spi_term.specs.Spelling.{HasSmallParts, ty_nodes};
 ghost use Rattle.spi_term.specs.View.{message, ty as type_of, shape_of};
 ghost use Rattle.spi_message.specs.Asking.{IsEnvironment};
@@ -250,7 +250,7 @@ fn are_good(alloc: Global, judge: &mut Judge, left: &Ty, right: &Ty) -> Result<b
 
 // What a case asks where the sum has its type.
 #[tactic(auto, using(spi_message::proofs::Tested::kept_more))]
-fn is_case_typed(
+fn is_branch_typed(
     alloc: Global,
     judge: &mut Judge,
     m: &Msg,
@@ -275,7 +275,7 @@ fn is_case_typed(
 }
 
 #[tactic(auto, using(spi_message::proofs::Tested::kept_more))]
-fn is_case_ok(
+fn is_branch_ok(
     alloc: Global,
     judge: &mut Judge,
     m: &Msg,
@@ -285,11 +285,11 @@ fn is_case_ok(
     requires { length judge.old.types + (ty_nodes (type_of left.now) + ty_nodes (type_of right.now))
         < 2 ^ 32 }
     ensures answer { IfOk result
-        (IsTest judge.old (λ e. fork_ok e (Cases (message m.now) (type_of left.now) (type_of right.now)))) }
+        (IsTest judge.old (λ e. fork_ok e (Branches (message m.now) (type_of left.now) (type_of right.now)))) }
     ensures kept { IsKept judge.old judge.new }
 {
     let both = sum_type(alloc, left, right)?;
-    let typed = is_case_typed(alloc, judge, m, &both, left, right)?;
+    let typed = is_branch_typed(alloc, judge, m, &both, left, right)?;
     if typed {
         Ok(true)
     } else {
@@ -353,7 +353,7 @@ fn is_cast_ok(alloc: Global, judge: &mut Judge, m: &Msg, t: &Ty) -> Result<bool,
     }
 }
 
-fn is_new_ok(alloc: Global, judge: &mut Judge, t: &Ty) -> Result<bool, NoMemory>
+fn is_fresh_ok(alloc: Global, judge: &mut Judge, t: &Ty) -> Result<bool, NoMemory>
     requires { length judge.old.types + ty_nodes (type_of t.now) < 2 ^ 32 }
     ensures answer { IfOk result
         (IsTest judge.old (λ e. is_fresh (type_of t.now) && good e (type_of t.now))) }
@@ -396,14 +396,14 @@ pub fn is_form_ok(alloc: Global, judge: &mut Judge, node: &Node) -> Result<bool,
             left,
             right,
             ..
-        } => is_case_ok(alloc, judge, whole, left, right),
+        } => is_branch_ok(alloc, judge, whole, left, right),
         Form::Decrypt { whole, ty, key, .. } => is_decrypt_ok(alloc, judge, whole, ty, key),
         Form::Check { whole, nonce, .. } => is_check_ok(alloc, judge, whole, nonce),
         Form::Begin { label, .. } => is_labelled(alloc, judge, label),
         Form::End { label, .. } => is_labelled(alloc, judge, label),
         Form::EndMany { label, .. } => is_labelled(alloc, judge, label),
         Form::Cast { whole, ty, .. } => is_cast_ok(alloc, judge, whole, ty),
-        Form::Fresh { ty, .. } => is_new_ok(alloc, judge, ty),
+        Form::Fresh { ty, .. } => is_fresh_ok(alloc, judge, ty),
         Form::Par { .. } => Ok(true),
         Form::Stop => Ok(true),
     }

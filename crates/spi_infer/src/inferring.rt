@@ -6,10 +6,10 @@ ghost use Rattle.spi_rules.specs.Environment.{Env};
 ghost use Rattle.spi_rules.specs.Blocking.{NodeOf};
 ghost use Rattle.spi_message.specs.Judging.{IsKept, Stands};
 ghost use Rattle.spi_count.specs.Keeping.{with_keys, IsKeyed};
-ghost use Rattle.spi_infer.specs.Own.{StandsFor};
+ghost use Rattle.spi_infer.specs.Own.{CountsFor};
 ghost use Rattle.spi_infer.specs.Passes.{scan, first_stuck};
 ghost use Rattle.spi_infer.specs.Accounts.{IsReadAs};
-ghost use Rattle.spi_infer.specs.Inferring.{IsLeast, AnswersIn, Answers, IsLeastAt};
+ghost use Rattle.spi_infer.specs.Inferring.{IsLeast, AnswersIn, AnswersOver, IsLeastAt};
 
 use crate::accounts::account;
 use crate::noting::own_notes;
@@ -31,9 +31,9 @@ fn read_back(
     sum: Option<Sum>,
 ) -> Result<Option<Effect>, NoMemory>
     requires { (es : Option EffectTerm) × IsKeyed store.now keys.now
-        × StandsFor (with_keys store.now keys.now) sum es }
+        × CountsFor (with_keys store.now keys.now) sum es }
     ensures { IfOk result
-        (λ r. (es : Option EffectTerm) → StandsFor (with_keys store.now keys.now) sum es → IsReadAs r es) }
+        (λ r. (es : Option EffectTerm) → CountsFor (with_keys store.now keys.now) sum es → IsReadAs r es) }
 {
     match sum {
         None => Ok(None),
@@ -112,7 +112,7 @@ fn infer_over<L: Ledger>(
     requires name { blank.name ≡ L.name }
     requires parts { blank.parts ≡ L.parts }
     requires some { 0 < blank.parts }
-    ensures { IfOk result (Answers process.now.names process.now.process) }
+    ensures { IfOk result (AnswersOver process.now.names process.now.process) }
 {
     let _ = process.len();
     let mut steps = Steps::<L>::new(blank);
@@ -143,7 +143,7 @@ fn effect_over<L: Ledger>(
 /// The least effect of the process over its untrusted names, or its first node in preorder that blocks, where no effect
 /// is derivable.
 pub fn infer(alloc: Global, process: &Process) -> Result<Inferred, NoMemory>
-    ensures { IfOk result (Answers process.now.names process.now.process) }
+    ensures { IfOk result (AnswersOver process.now.names process.now.process) }
 {
     infer_over::<Brand>(alloc, process, Blank::new(1))
 }

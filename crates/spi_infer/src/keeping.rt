@@ -76,10 +76,10 @@ fn begin_own(judge: &mut Judge, keys: &mut Keys, m: &Msg) -> Result<Own, NoMemor
 }
 
 // What a new name takes off, by its number.
-fn new_own(judge: &mut Judge, keys: &mut Keys, scope: u32) -> Result<Own, NoMemory>
+fn fresh_own(judge: &mut Judge, keys: &mut Keys, scope: u32) -> Result<Own, NoMemory>
     requires { AreKept judge.old.store keys.old }
     ensures fits { IfOk result
-        (FormFits judge.new.store (with_keys judge.new.store keys.new) scope (Term.Makes Term.un) None) }
+        (FormFits judge.new.store (with_keys judge.new.store keys.new) scope (Term.Freshes Term.un) None) }
     ensures grows { OnOk result (GrowsTo judge.old.store keys.old judge.new.store keys.new) }
     ensures kept { IsKept judge.old judge.new }
 {
@@ -119,7 +119,7 @@ fn own_of(alloc: Global, judge: &mut Judge, keys: &mut Keys, node: &Node) -> Res
         Form::End { label, .. } => end_own(judge, keys, label),
         Form::EndMany { label, .. } => end_own(judge, keys, label),
         Form::Cast { ty, .. } => cast_own(alloc, judge, keys, ty),
-        Form::Fresh { .. } => new_own(judge, keys, node.scope),
+        Form::Fresh { .. } => fresh_own(judge, keys, node.scope),
         _ => Ok(Own::Nothing),
     }
 }

@@ -6,11 +6,11 @@ ghost use Rattle.spi_term.specs.View.{shape_of};
 ghost use Rattle.spi_rules.specs.Environment.{Env};
 ghost use Rattle.spi_message.specs.Asking.{IsEnvironment};
 ghost use Rattle.spi_message.specs.Judging.{Numbered, IsJudge, IsKept, Stands};
-ghost use Rattle.spi_infer.specs.Own.{AreNoted};
+ghost use Rattle.spi_infer.specs.Own.{AreFormsNoted};
 ghost use Rattle.spi_count.specs.Keeping.{with_keys, AreKept, GrowsTo};
 ghost use Rattle.spi_infer.specs.Passes.{Wait, left_waiting, waiting, scan};
 ghost use Rattle.spi_infer.specs.Waiting.{Queued, CanReach};
-ghost use Rattle.spi_infer.specs.Walking.{IsAbove, IsPassed};
+ghost use Rattle.spi_infer.specs.Walking.{IsAbove, IsNodePassed};
 
 use crate::binding::{enter, settle};
 use crate::keeping::own_note;
@@ -40,7 +40,7 @@ fn visit(
     requires names { IsEnvironment judge.old.store judge.old.types }
     ensures note { IfOk result
         (λ o. (ws : List Wait) → Queued judge.old.store pending.old.items ws
-        → IsPassed judge.old judge.new keys.new id node.now.scope (shape_of node.now) ws o) }
+        → IsNodePassed judge.old judge.new keys.new id node.now.scope (shape_of node.now) ws o) }
     ensures rest { OnOk result
         ((ws : List Wait) → Queued judge.old.store pending.old.items ws
         → Queued judge.new.store pending.new.items (waiting (left_waiting id ws) (shape_of node.now))) }
@@ -67,7 +67,7 @@ fn walk<L: Ledger>(
     requires names { length judge.old.types ≡ process.now.names }
     ensures notes { IfOk result
         (λ n. (e : Env) → Stands judge.old e
-        → AreNoted judge.new.store (with_keys judge.new.store n.keys)
+        → AreFormsNoted judge.new.store (with_keys judge.new.store n.keys)
         (spelled process.now.names process.now.process)
         (scan 0 e [] (spelled process.now.names process.now.process)) n.notes.items) }
     ensures keys { IfOk result (λ n. AreKept judge.new.store n.keys) }
@@ -100,7 +100,7 @@ pub fn own_notes<L: Ledger>(
     requires names { length judge.old.types ≡ process.now.names }
     ensures notes { IfOk result
         (λ n. (e : Env) → Stands judge.old e
-        → AreNoted judge.new.store (with_keys judge.new.store n.keys)
+        → AreFormsNoted judge.new.store (with_keys judge.new.store n.keys)
         (spelled process.now.names process.now.process)
         (scan 0 e [] (spelled process.now.names process.now.process)) n.notes.items) }
     ensures keys { IfOk result (λ n. AreKept judge.new.store n.keys) }

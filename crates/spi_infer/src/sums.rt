@@ -12,7 +12,7 @@ use spi_intern::{AtomId, MsgId, Store, TyId};
 use spi_term::{Form, Node};
 use std::alloc::Global;
 
-// The effect under a form that binds the name `scope`, or that and the next one.
+/// The effect under a form that binds the name `scope`, or that and the next one.
 pub fn after_binder(scope: u32, sum: Sum) -> Option<Sum>
     requires { scope ≤ 300000 }
     ensures one { AfterOne scope sum result }
@@ -25,6 +25,7 @@ pub fn after_binder(scope: u32, sum: Sum) -> Option<Sum>
     }
 }
 
+/// The effect of `repeat inp M (x: Un); P` from that of P: each atom is a `many`, and x stands in none.
 pub fn after_serve(scope: u32, sum: Sum) -> Option<Sum>
     requires { scope ≤ 300000 }
     ensures { AfterServe scope sum result }
@@ -36,7 +37,8 @@ pub fn after_serve(scope: u32, sum: Sum) -> Option<Sum>
     }
 }
 
-pub fn after_new(scope: u32, keys: &Keys, name: MsgId, sum: Sum) -> Option<Sum>
+/// The effect of `new (x: T); P` from that of P: one `check x` is taken out, and then x stands in no atom.
+pub fn after_fresh(scope: u32, keys: &Keys, name: MsgId, sum: Sum) -> Option<Sum>
     requires { scope ≤ 300000 }
     ensures { (s : Store) → slice_get s.messages name.place ≡ Some (Term.name scope)
         → AfterMake scope s keys.now sum result }
@@ -46,6 +48,7 @@ pub fn after_new(scope: u32, keys: &Keys, name: MsgId, sum: Sum) -> Option<Sum>
     after_binder(scope, rest)
 }
 
+/// The effect of `cast M is (x: Nonce fs); P` from that of P: x stands in no atom, and fs comes to it.
 pub fn after_cast(
     scope: u32,
     store: &Store,
@@ -67,6 +70,8 @@ pub fn after_cast(
     }
 }
 
+/// The effect of `check M is N; P` from that of P: what the nonce pays for is taken out, and `check M` comes
+/// to it.
 pub fn after_check(
     store: &Store,
     keys: &Keys,
@@ -88,7 +93,9 @@ pub fn after_check(
     }
 }
 
-pub fn after_case(scope: u32, a: Sum, b: Sum) -> Result<Option<Sum>, NoMemory>
+/// The effect of `case M is inl (x: T); P is inr (y: U); Q` from those of P and Q: the greater counts, where
+/// x and y stand in no atom.
+pub fn after_branch(scope: u32, a: Sum, b: Sum) -> Result<Option<Sum>, NoMemory>
     requires { scope ≤ 300000 }
     ensures { IfOk result (BothCase scope a b) }
 {
@@ -104,7 +111,7 @@ pub fn after_case(scope: u32, a: Sum, b: Sum) -> Result<Option<Sum>, NoMemory>
     }
 }
 
-// What is checked, and what the check pays for.
+/// What is checked, and what the check pays for.
 pub fn checked(store: &Store, keys: &Keys, own: Own, sum: Sum) -> Result<Option<Sum>, NoMemory>
     requires { CheckGiven store.now own }
     ensures { IfOk result (OwnCheck store.now keys.now own sum) }
@@ -115,6 +122,7 @@ pub fn checked(store: &Store, keys: &Keys, own: Own, sum: Sum) -> Result<Option<
     }
 }
 
+/// The effect of a `cast` from that of its process.
 pub fn cast(
     scope: u32,
     store: &Store,
@@ -132,17 +140,18 @@ pub fn cast(
     }
 }
 
+/// The effect of a `new` from that of its process.
 pub fn made(scope: u32, keys: &Keys, own: Own, sum: Sum) -> Option<Sum>
     requires { scope ≤ 300000 }
     ensures { OwnMake scope keys.now own sum result }
 {
     match own.made() {
         None => None,
-        Some(name) => after_new(scope, keys, name, sum),
+        Some(name) => after_fresh(scope, keys, name, sum),
     }
 }
 
-// A `begin` pays for the ends of its label.
+/// A `begin` pays for the ends of its label.
 pub fn begun(keys: &Keys, own: Own, sum: Sum) -> Option<Sum>
     ensures { OwnBegin keys.now own sum result }
 {
@@ -157,6 +166,7 @@ pub fn begun(keys: &Keys, own: Own, sum: Sum) -> Option<Sum>
     }
 }
 
+/// An `end` asks for a begin of its label.
 pub fn ended(keys: &Keys, own: Own, sum: Sum) -> Result<Option<Sum>, NoMemory>
     ensures { IfOk result (OwnEnd keys.now own sum) }
 {
@@ -170,6 +180,7 @@ pub fn ended(keys: &Keys, own: Own, sum: Sum) -> Result<Option<Sum>, NoMemory>
     }
 }
 
+/// An `endmany` asks for a begin of its label, which pays for any number of them.
 pub fn ended_many(keys: &Keys, own: Own, sum: Sum) -> Result<Option<Sum>, NoMemory>
     ensures { IfOk result (OwnMany keys.now own sum) }
 {
@@ -183,7 +194,7 @@ pub fn ended_many(keys: &Keys, own: Own, sum: Sum) -> Result<Option<Sum>, NoMemo
     }
 }
 
-// The effect of a form from that of its process.
+/// The effect of a form from that of its process.
 pub fn after_form(
     store: &Store,
     keys: &Keys,
@@ -212,14 +223,14 @@ pub fn after_form(
     }
 }
 
-// The effect of a form from those of its two processes.
+/// The effect of a form from those of its two processes.
 pub fn both_form(node: &Node, a: Sum, b: Sum) -> Result<Option<Sum>, NoMemory>
     requires { scope_of (shape_of node.now) ≤ 300000 }
     ensures { IfOk result (BothForm (shape_of node.now) a b) }
 {
     match &node.form {
         Form::Par { .. } => Ok(Some(Sum::joined(a, b)?)),
-        Form::Branch { .. } => after_case(node.scope, a, b),
+        Form::Branch { .. } => after_branch(node.scope, a, b),
         _ => Ok(None),
     }
 }

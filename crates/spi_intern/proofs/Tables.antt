@@ -57,7 +57,7 @@ pub record Laws {P M : Type 0} (Says : List M → P → M → Type 0) (said : Li
   pub alike : (ms : List M) (p q : P) (m : M) → AllDiffer ms → Says ms p m → Says ms q m → eq p q ≡ true
 
 -- a node that is put: the nodes before and after, and the values before
-pub record Puts {P M : Type 0} (Says : List M → P → M → Type 0) (said : List M → P → M) (eq : P → P → Bool) (ps qs : List P) (ms : List M) (p : P) : Type 0 where
+pub record PutsNode {P M : Type 0} (Says : List M → P → M → Type 0) (said : List M → P → M) (eq : P → P → Bool) (ps qs : List P) (ms : List M) (p : P) : Type 0 where
   pub view : told said ps ≡ ms
   pub table : IsTable Says ps (told said ps)
   pub says : Says ms p (said ms p)
@@ -113,21 +113,21 @@ module _ {P M : Type 0} (Says : List M → P → M → Type 0) (said : List M �
           let w : IsTable Says (ps ++ p ∷ []) (told said ps ++ said (told said ps) p ∷ []) = record { tells = tells_push (tells_map (λ q m t. laws.kept _ _ q m k t) h.tells) (laws.kept _ _ _ _ k s); distinct = d } in
           subst (λ b. IsTable Says (if b then ps else ps ++ p ∷ []) (told said (if b then ps else ps ++ p ∷ []))) (sym e) (subst (IsTable Says (ps ++ p ∷ [])) (sym (told_push ps p)) w)
 
-  says_here : (ps qs : List P) (ms : List M) (p : P) → Puts Says said eq ps qs ms p → Says (told said ps) p (said (told said ps) p)
+  says_here : (ps qs : List P) (ms : List M) (p : P) → PutsNode Says said eq ps qs ms p → Says (told said ps) p (said (told said ps) p)
   says_here ps qs ms p h = subst (λ xs. Says xs p (said xs p)) (sym h.view) h.says
 
-  pub put_grows : (ps qs : List P) (ms : List M) (p : P) → Puts Says said eq ps qs ms p → told said qs ≡ with_value same ms (said ms p)
+  pub put_grows : (ps qs : List P) (ms : List M) (p : P) → PutsNode Says said eq ps qs ms p → told said qs ≡ with_value same ms (said ms p)
   put_grows ps qs ms p h =
       ap (told said) h.keys ∙ told_insert ps p h.table (says_here ps qs ms p h) ∙ ap (λ xs. with_value same xs (said xs p)) h.view
 
-  pub put_table : (ps qs : List P) (ms : List M) (p : P) → Puts Says said eq ps qs ms p → IsTable Says qs (told said qs)
+  pub put_table : (ps qs : List P) (ms : List M) (p : P) → PutsNode Says said eq ps qs ms p → IsTable Says qs (told said qs)
   put_table ps qs ms p h =
       subst (λ xs. IsTable Says xs (told said xs)) (sym h.keys) (table_insert ps p h.table (says_here ps qs ms p h))
 
-  pub put_keeps : (ps qs : List P) (ms : List M) (p : P) → Puts Says said eq ps qs ms p → KeepsAll ms (told said qs)
+  pub put_keeps : (ps qs : List P) (ms : List M) (p : P) → PutsNode Says said eq ps qs ms p → KeepsAll ms (told said qs)
   put_keeps ps qs ms p h = subst (KeepsAll ms) (sym (put_grows ps qs ms p h)) (keeps_with same ms (said ms p))
 
-  pub put_at : (ps qs : List P) (ms : List M) (p : P) → Puts Says said eq ps qs ms p → (i : ℕ) (q : P) → slice_get qs i ≡ Some q → eq p q ≡ true → slice_get (told said qs) i ≡ Some (said ms p)
+  pub put_at : (ps qs : List P) (ms : List M) (p : P) → PutsNode Says said eq ps qs ms p → (i : ℕ) (q : P) → slice_get qs i ≡ Some q → eq p q ≡ true → slice_get (told said qs) i ≡ Some (said ms p)
   put_at ps qs ms p h i q at e =
       let w = tells_at (put_table ps qs ms p h).tells i q at in
       let s : Says (told said qs) q (said ms p) = laws.respects _ p q _ e (laws.kept _ _ _ _ (put_keeps ps qs ms p h) h.says) in

@@ -74,7 +74,7 @@ pub record TypeAmong (gs : List Given) (u : Ty) : Type 0 where
   pub part : TypeIn given u
 
 -- the numbers below n count what has P, where what is Same counts as one: each number is that of such a thing, each such thing has a number, and two numbers are equal just where the things are the same
-pub record Counts {A : Type 0} (n : ℕ) (IsAt : ℕ → A → Type 0) (P : A → Type 0) (Same : A → A → Type 0) : Type
+pub record NumbersCount {A : Type 0} (n : ℕ) (IsAt : ℕ → A → Type 0) (P : A → Type 0) (Same : A → A → Type 0) : Type
     0 where
   pub each : (i : ℕ) → i < n → (a : A) × P a × IsAt i a
   pub all : (a : A) → P a → (i : ℕ) × (i < n) × IsAt i a
@@ -82,9 +82,9 @@ pub record Counts {A : Type 0} (n : ℕ) (IsAt : ℕ → A → Type 0) (P : A �
 
 -- the store's messages and types are those among the given terms and their parts
 pub record CountsParts (gs : List Given) (s : Store) : Type 0 where
-  pub messages : Counts (length s.messages) (λ i x. slice_get s.messages i ≡ Some x) (MessageAmong gs)
+  pub messages : NumbersCount (length s.messages) (λ i x. slice_get s.messages i ≡ Some x) (MessageAmong gs)
       (λ x y. x ≡ y)
-  pub types : Counts (length s.types) (Means s) (TypeAmong gs) SameTy
+  pub types : NumbersCount (length s.types) (Means s) (TypeAmong gs) SameTy
 
 -- numbers below n for all that has P, where what is Same has one: each such thing has a number, and two numbers are equal just
 -- where the things are the same

@@ -9,7 +9,7 @@ use Rattle.spi_horn.specs.declared.tracing.Line.{Line}
 use Rattle.spi_horn.specs.declared.tracing.Ground.{Ground}
 use Rattle.spi_horn.specs.declared.tracing.Ground.TheVariants.{Start, ByRule}
 use Rattle.spi_horn.specs.Leading.{StartsWithin}
-use Rattle.spi_horn.specs.Lines.{SaysBefore, Holds, Names, Proves}
+use Rattle.spi_horn.specs.Lines.{SaysBefore, HoldsOfLine, NamesLine, ProvesTarget}
 use Rattle.spi_intern.proofs.Lists.{some_one, get_push, get_below, below_get}
 use Rattle.spi_intern.proofs.Tables.{tells_at}
 use Rattle.spi_know.specs.declared.cert.CertLine.{CertLine}
@@ -17,12 +17,12 @@ use Rattle.spi_know.specs.declared.cert.By.{By}
 use Rattle.spi_know.specs.declared.clauses.Way.{Way}
 use Rattle.spi_know.specs.declared.clauses.Way.TheVariants.{MakePair, First, Second, MakeInl, MakeInr, TakeInl, TakeInr, MakeEnc, Open, MakeHash}
 use Rattle.spi_know.specs.Cert.{said, Follows, Certifies, Uses, AllUsed}
-use Rattle.spi_know.specs.Numbered.{Numbers, Suits, AreClauses, Starts}
+use Rattle.spi_know.specs.Numbered.{HasNumber, Suits, AreClauses, StartsWith}
 use Rattle.spi_know.proofs.Clausal.{clauses_within}
-use Rattle.spi_know.specs.Spelled.{named_by, IsSmall, SaysBy, IsLineOf, AreLines, AreSmall}
+use Rattle.spi_know.specs.Spelled.{named_by, IsSmall, SaysBy, IsCertLineOf, AreLines, CanBeSpelled}
 
 -- a clause, by the lines of its premises
-follows_by : (ms sent before : List Message) (r : Rule) (w : Way) (a b : ℕ) (m : Message) → Suits ms r w → ((n : Message) → Numbers ms r.first n → slice_get before a ≡ Some n) → ((n : Message) → Numbers ms r.second n → slice_get before b ≡ Some n) → Numbers ms r.gives m → Follows sent before (named_by w a b) m
+follows_by : (ms sent before : List Message) (r : Rule) (w : Way) (a b : ℕ) (m : Message) → Suits ms r w → ((n : Message) → HasNumber ms r.first n → slice_get before a ≡ Some n) → ((n : Message) → HasNumber ms r.second n → slice_get before b ≡ Some n) → HasNumber ms r.gives m → Follows sent before (named_by w a b) m
 follows_by ms sent before r MakePair a b m (x, y, (e, f, h)) p q g = (x, y, some_one (sym g ∙ h), p x e, q y f)
 follows_by ms sent before r First a b m (x, y, (e, h, s)) p q g = let v : x ≡ m = some_one (sym h ∙ g) in (y, p (pair m y) (e ∙ ap (λ z. Some (pair z y)) v))
 follows_by ms sent before r Second a b m (x, y, (e, h, s)) p q g = let v : y ≡ m = some_one (sym h ∙ g) in (x, p (pair x m) (e ∙ ap (λ z. Some (pair x z)) v))
@@ -58,27 +58,27 @@ taken_line (x ∷ xs) (suc k) (suc i) c lt e = taken_line xs k i c (omega (arith
 same_place : {A B : Type 0} (xs : List A) (ys : List B) (i : ℕ) (x : A) → length xs ≤ length ys → slice_get xs i ≡ Some x → (y : B) × (slice_get ys i ≡ Some y)
 same_place xs ys i x le e = let lt = get_below xs i x e in below_get ys i (omega (arith, le, lt))
 
-module _ (ms from : List Message) (rules : List Rule) (ways : List Way) (start : List ℕ) (lines : List Line) (cert : List CertLine) (target : ℕ) (m : Message) (n : ℕ) (cl : AreClauses ms n rules ways) (st : Starts ms from start) (pr : Proves rules start lines target) (ar : AreLines ms (length from) ways lines (length lines) cert) (at : Numbers ms target m) where
+module _ (ms from : List Message) (rules : List Rule) (ways : List Way) (start : List ℕ) (lines : List Line) (cert : List CertLine) (target : ℕ) (m : Message) (n : ℕ) (cl : AreClauses ms n rules ways) (st : StartsWith ms from start) (pr : ProvesTarget rules start lines target) (ar : AreLines ms (length from) ways lines (length lines) cert) (at : HasNumber ms target m) where
   -- the line with this index
-  line_of : (i : ℕ) (l : Line) → slice_get lines i ≡ Some l → (c : CertLine) × (slice_get cert i ≡ Some c) × IsLineOf ms (length from) ways l c
+  line_of : (i : ℕ) (l : Line) → slice_get lines i ≡ Some l → (c : CertLine) × (slice_get cert i ≡ Some c) × IsCertLineOf ms (length from) ways l c
   line_of i l e =
       let count = ar.count in
       let (c, f) = same_place lines cert i l (omega (arith, count)) e in
       (c, f, ar.each i l c e f)
 
-  of_line : (i : ℕ) (c : CertLine) → slice_get cert i ≡ Some c → (l : Line) × (slice_get lines i ≡ Some l) × IsLineOf ms (length from) ways l c
+  of_line : (i : ℕ) (c : CertLine) → slice_get cert i ≡ Some c → (l : Line) × (slice_get lines i ≡ Some l) × IsCertLineOf ms (length from) ways l c
   of_line i c e =
       let count = ar.count in
       let (l, f) = same_place cert lines i c (omega (arith, count)) e in
       (l, f, ar.each i l c f e)
 
-  premise_said : (i a x : ℕ) → SaysBefore lines i a x → (v : Message) → Numbers ms x v → slice_get (map said (take i cert)) a ≡ Some v
+  premise_said : (i a x : ℕ) → SaysBefore lines i a x → (v : Message) → HasNumber ms x v → slice_get (map said (take i cert)) a ≡ Some v
   premise_said i a x (l, lt, e, same) v f =
       let (c, g, (h, b)) = line_of a l e in
       let q : said c ≡ v = some_one (sym h ∙ (ap (slice_get ms) same ∙ f)) in
       taken_line cert i a c lt g ∙ ap (λ z. Some z) q
 
-  follows_ground : (i x : ℕ) (g : Ground) (b : By) (v : Message) → Numbers ms x v → Holds rules start lines i x g → SaysBy (length from) ways g b → Follows from (map said (take i cert)) b v
+  follows_ground : (i x : ℕ) (g : Ground) (b : By) (v : Message) → HasNumber ms x v → HoldsOfLine rules start lines i x g → SaysBy (length from) ways g b → Follows from (map said (take i cert)) b v
   follows_ground i x (Start j) b v f h s = ⊎_elim
       (λ (lt, e).
       let (y, k) = below_get from j lt in
@@ -100,7 +100,7 @@ module _ (ms from : List Message) (rules : List Rule) (ways : List Way) (start :
       subst (λ c. Follows from (map said (take i cert)) c v) (sym bw)
       (follows_by ms from (map said (take i cert)) r w p q v suits (premise_said i p r.first first) (premise_said i q r.second second) (ap (slice_get ms) g ∙ f))
 
-  uses_ground : (i x k : ℕ) (g : Ground) (b : By) → Holds rules start lines i x g → SaysBy (length from) ways g b → Names g k → Uses b k
+  uses_ground : (i x k : ℕ) (g : Ground) (b : By) → HoldsOfLine rules start lines i x g → SaysBy (length from) ways g b → NamesLine g k → Uses b k
   uses_ground i x k (Start j) b h s u = absurd u
   uses_ground i x k (ByRule j p q) b (r, e, g, first, second, same) (w, wk, bw) u =
       let (w', wk', su) = tells_at cl.suit j r e in
@@ -133,7 +133,7 @@ lines_none ms n ways lines cert e = record {
   each = λ j l c f g. let h : slice_get [] j ≡ Some c = ap (λ x. slice_get x j) (sym e) ∙ g in cc;
 }
 
-pub lines_step : (ms : List Message) (n : ℕ) (ways : List Way) (lines : List Line) (i : ℕ) (cert cert' : List CertLine) (l : Line) (c : CertLine) → slice_get lines i ≡ Some l → cert' ≡ cert ++ c ∷ [] → IsLineOf ms n ways l c → AreLines ms n ways lines i cert → AreLines ms n ways lines (i + 1) cert'
+pub lines_step : (ms : List Message) (n : ℕ) (ways : List Way) (lines : List Line) (i : ℕ) (cert cert' : List CertLine) (l : Line) (c : CertLine) → slice_get lines i ≡ Some l → cert' ≡ cert ++ c ∷ [] → IsCertLineOf ms n ways l c → AreLines ms n ways lines i cert → AreLines ms n ways lines (i + 1) cert'
 lines_step ms n ways lines i cert cert' l c e f is a =
     let count = a.count in
     let push : length (cert ++ c ∷ []) ≡ length cert + 1 = length_push cert c in
@@ -144,24 +144,24 @@ lines_step ms n ways lines i cert cert' l c e f is a =
           (λ p. a.each j k d g p)
           (λ (p, q).
           let w : k ≡ l = some_one (sym g ∙ (ap (slice_get lines) (p ∙ count) ∙ e)) in
-          let P : Line → Type 0 = λ x. IsLineOf ms n ways x d in
-          let Q : CertLine → Type 0 = λ x. IsLineOf ms n ways l x in
+          let P : Line → Type 0 = λ x. IsCertLineOf ms n ways x d in
+          let Q : CertLine → Type 0 = λ x. IsCertLineOf ms n ways l x in
           subst P (sym w) (subst Q (sym q) is))
           (get_push cert c j d (ap (λ x. slice_get x j) (sym f) ∙ h));
     }
 
 -- lines that hold can be spelled
-small_ground : (ms : List Message) (rules : List Rule) (ways : List Way) (start : List ℕ) (lines : List Line) (n i x : ℕ) (g : Ground) → AreClauses ms n rules ways → Holds rules start lines i x g → i < 2 ^ 32 → IsSmall ways g
+small_ground : (ms : List Message) (rules : List Rule) (ways : List Way) (start : List ℕ) (lines : List Line) (n i x : ℕ) (g : Ground) → AreClauses ms n rules ways → HoldsOfLine rules start lines i x g → i < 2 ^ 32 → IsSmall ways g
 small_ground ms rules ways start lines n i x (Start j) cl h lt = tt
 small_ground ms rules ways start lines n i x (ByRule k a b) cl (r, e, g, (la, p, ea, na), (lb, q, eb, nb), same) lt =
     let (w, f, s) = tells_at cl.suit k r e in (get_below ways k w f, omega (arith, p, lt), omega (arith, q, lt))
 
-number_within : (ms : List Message) (rules : List Rule) (ways : List Way) (start : List ℕ) (lines : List Line) (n i x : ℕ) (g : Ground) → AreClauses ms n rules ways → StartsWithin (length ms) start → Holds rules start lines i x g → x < length ms
+number_within : (ms : List Message) (rules : List Rule) (ways : List Way) (start : List ℕ) (lines : List Line) (n i x : ℕ) (g : Ground) → AreClauses ms n rules ways → StartsWithin (length ms) start → HoldsOfLine rules start lines i x g → x < length ms
 number_within ms rules ways start lines n i x (Start j) cl sw h = sw j x h
 number_within ms rules ways start lines n i x (ByRule k a b) cl sw (r, e, g, first, second, same) =
     let (p, q, lt) = clauses_within ms n rules ways cl k r e in subst (λ y. y < length ms) g lt
 
-pub small_lines : (ms : List Message) (rules : List Rule) (ways : List Way) (start : List ℕ) (lines : List Line) (n target : ℕ) → AreClauses ms n rules ways → StartsWithin (length ms) start → Proves rules start lines target → length lines < 2 ^ 32 + 1 → AreSmall (length ms) ways lines
+pub small_lines : (ms : List Message) (rules : List Rule) (ways : List Way) (start : List ℕ) (lines : List Line) (n target : ℕ) → AreClauses ms n rules ways → StartsWithin (length ms) start → ProvesTarget rules start lines target → length lines < 2 ^ 32 + 1 → CanBeSpelled (length ms) ways lines
 small_lines ms rules ways start lines n target cl sw pr few i l e =
     let lt = get_below lines i l e in
     let h = pr.each i l e in (

@@ -3,7 +3,7 @@ use Rattle.std.proofs.Common.{◌≡◌, refl, sym, subst, ◌∙◌, ℕ, zero,
 use Rattle.spi_term.specs.Term as Term
 use Rattle.spi_term.specs.Term.{Message, bound, name, pair, in_left, in_right, enc, hash}
 use Rattle.spi_horn.specs.declared.rules.Rule.{Rule}
-use Rattle.spi_horn.specs.Leading.{IsWithin}
+use Rattle.spi_horn.specs.Leading.{SpeaksBelow}
 use Rattle.spi_intern.specs.Table.{TellsAll, tells_none, tells_next}
 use Rattle.spi_intern.specs.Messages.{Says, says_bound, says_name, says_unit, says_pair, says_left, says_right, says_enc, says_hash}
 use Rattle.spi_intern.specs.declared.messages.MsgPart.{MsgPart}
@@ -11,14 +11,14 @@ use Rattle.spi_intern.proofs.Lists.{some_one, get_append, get_below}
 use Rattle.spi_intern.proofs.Tables.{tells_at}
 use Rattle.spi_know.specs.declared.clauses.Way.{Way}
 use Rattle.spi_know.specs.declared.clauses.Way.TheVariants.{MakePair, First, Second, MakeInl, MakeInr, TakeInl, TakeInr, MakeEnc, Open, MakeHash}
-use Rattle.spi_know.specs.Numbered.{rule, rules_of, ways_of, Numbers, Suits, HasRule, HasClauses, AreClauses}
+use Rattle.spi_know.specs.Numbered.{rule, rules_of, ways_of, HasNumber, Suits, HasRule, HasClauses, AreClauses}
 
 tells_append : {P M : Type 0} {S : P → M → Type 0} {ps qs : List P} {ms ns : List M} → TellsAll S ps ms → TellsAll S qs ns → TellsAll S (ps ++ qs) (ms ++ ns)
 tells_append tells_none t = t
 tells_append (tells_next s r) t = tells_next s (tells_append r t)
 
 -- the clauses at one message suit it
-suits_of : (ms : List Message) (j : ℕ) (p : MsgPart) (m : Message) → Numbers ms j m → Says ms p m → TellsAll (Suits ms) (rules_of j p) (ways_of p)
+suits_of : (ms : List Message) (j : ℕ) (p : MsgPart) (m : Message) → HasNumber ms j m → Says ms p m → TellsAll (Suits ms) (rules_of j p) (ways_of p)
 suits_of ms j p m at says_bound = tells_none
 suits_of ms j p m at says_name = tells_none
 suits_of ms j p m at says_unit = tells_none
@@ -73,11 +73,11 @@ clauses_none ms rules ways e f =
       all = λ j m lt h. absurd (omega (arith, lt));
     }
 
-pub clauses_step : (ms : List Message) (n : ℕ) (rules rules' : List Rule) (ways ways' : List Way) (p : MsgPart) (m : Message) → Numbers ms n m → Says ms p m → rules' ≡ rules ++ rules_of n p → ways' ≡ ways ++ ways_of p → AreClauses ms n rules ways → AreClauses ms (n + 1) rules' ways'
+pub clauses_step : (ms : List Message) (n : ℕ) (rules rules' : List Rule) (ways ways' : List Way) (p : MsgPart) (m : Message) → HasNumber ms n m → Says ms p m → rules' ≡ rules ++ rules_of n p → ways' ≡ ways ++ ways_of p → AreClauses ms n rules ways → AreClauses ms (n + 1) rules' ways'
 clauses_step ms n rules rules' ways ways' p m at s e f c =
     let P : List Rule → Type 0 = λ x. TellsAll (Suits ms) x ways' in
     let Q : List Way → Type 0 = λ x. TellsAll (Suits ms) (rules ++ rules_of n p) x in
-    let H : ℕ → Type 0 = λ j. (v : Message) → Numbers ms j v → HasClauses ms rules' j v in
+    let H : ℕ → Type 0 = λ j. (v : Message) → HasNumber ms j v → HasClauses ms rules' j v in
     let R : List Rule → Type 0 = λ x. HasClauses ms x n m in
     let here : HasClauses ms rules' n m = subst R (sym e) (clauses_here ms rules n p m s) in
     let all : (j : ℕ) → j < n + 1 → H j = below_more H n
@@ -88,10 +88,10 @@ clauses_step ms n rules rules' ways ways' p m at s e f c =
       all = λ j v lt h. all j lt v h;
     }
 
-two_within : (ms : List Message) (r : Rule) (a b c : Message) → Numbers ms r.first a × Numbers ms r.second b × Numbers ms r.gives c → (r.first < length ms) × (r.second < length ms) × (r.gives < length ms)
+two_within : (ms : List Message) (r : Rule) (a b c : Message) → HasNumber ms r.first a × HasNumber ms r.second b × HasNumber ms r.gives c → (r.first < length ms) × (r.second < length ms) × (r.gives < length ms)
 two_within ms r a b c (e, f, g) = (get_below ms r.first a e, get_below ms r.second b f, get_below ms r.gives c g)
 
-one_within : (ms : List Message) (r : Rule) (a b : Message) → Numbers ms r.first a × Numbers ms r.gives b × (r.second ≡ r.first) → (r.first < length ms) × (r.second < length ms) × (r.gives < length ms)
+one_within : (ms : List Message) (r : Rule) (a b : Message) → HasNumber ms r.first a × HasNumber ms r.gives b × (r.second ≡ r.first) → (r.first < length ms) × (r.second < length ms) × (r.gives < length ms)
 one_within ms r a b (e, f, g) = let h = get_below ms r.first a e in (h, omega (arith, h, g), get_below ms r.gives b f)
 
 suits_within : (ms : List Message) (r : Rule) (w : Way) → Suits ms r w → (r.first < length ms) × (r.second < length ms) × (r.gives < length ms)
@@ -107,5 +107,5 @@ suits_within ms r Open (a, b, h) = two_within ms r (enc a b) b a h
 suits_within ms r MakeHash (a, h) = one_within ms r a (hash a) h
 
 -- rules of clauses are rules over the numbers
-pub clauses_within : (ms : List Message) (n : ℕ) (rules : List Rule) (ways : List Way) → AreClauses ms n rules ways → IsWithin (length ms) rules
+pub clauses_within : (ms : List Message) (n : ℕ) (rules : List Rule) (ways : List Way) → AreClauses ms n rules ways → SpeaksBelow (length ms) rules
 clauses_within ms n rules ways c k r e = let (w, f, s) = tells_at c.suit k r e in suits_within ms r w s

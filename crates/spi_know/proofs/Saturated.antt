@@ -4,24 +4,24 @@ use Rattle.spi_term.specs.Lists.{In}
 use Rattle.spi_term.specs.Term.{Message, pair, in_left, in_right, enc, hash}
 use Rattle.spi_run.specs.Knowledge.{Knows}
 use Rattle.spi_horn.specs.declared.rules.Rule.{Rule}
-use Rattle.spi_horn.specs.Leading.{Stands, IsLeast}
+use Rattle.spi_horn.specs.Leading.{HasSomePlace, IsLeastModel}
 use Rattle.spi_intern.specs.Table.{AllDiffer}
 use Rattle.spi_intern.proofs.Lists.{get_below, below_get}
 use Rattle.spi_know.specs.declared.clauses.Way.{Way}
-use Rattle.spi_know.specs.Numbered.{rule, Numbers, AreClauses, Starts}
-use Rattle.spi_know.specs.Reached.{HasParts, IsSaturated}
+use Rattle.spi_know.specs.Numbered.{rule, HasNumber, AreClauses, StartsWith}
+use Rattle.spi_know.specs.Reached.{HaveTheirParts, IsSaturated}
 use Rattle.spi_know.proofs.Local.{known_local}
 use Rattle.spi_know.proofs.Certs.{in_get}
 
 -- the message has a number; and one with a place
 abbrev pub All : List Message → Message → Type 0
-All ms m = (i : ℕ) × Numbers ms i m
+All ms m = (i : ℕ) × HasNumber ms i m
 
 abbrev pub Found : List Message → List (Option ℕ) → Message → Type 0
-Found ms places m = (i : ℕ) × Numbers ms i m × Stands places i
+Found ms places m = (i : ℕ) × HasNumber ms i m × HasSomePlace places i
 
-module _ (ms sent : List Message) (rules : List Rule) (ways : List Way) (start : List ℕ) (places : List (Option ℕ)) (d : AllDiffer ms) (c : AreClauses ms (length ms) rules ways) (s : Starts ms sent start) (l : IsLeast rules start places) where
-  all_parts : HasParts (All ms)
+module _ (ms sent : List Message) (rules : List Rule) (ways : List Way) (start : List ℕ) (places : List (Option ℕ)) (d : AllDiffer ms) (c : AreClauses ms (length ms) rules ways) (s : StartsWith ms sent start) (l : IsLeastModel rules start places) where
+  all_parts : HaveTheirParts (All ms)
   all_parts = record {
     pairs = λ {m} {n} (j, e). let (i, k, x, y, r, t, u) = c.all j (pair m n) (get_below ms j (pair m n) e) e in ((i, x), (k, y));
     lefts = λ {m} (j, e). let (i, x, r, t) = c.all j (in_left m) (get_below ms j (in_left m) e) e in (i, x);
@@ -31,8 +31,8 @@ module _ (ms sent : List Message) (rules : List Rule) (ways : List Way) (start :
   }
 
   -- one message has one number
-  moved : (m : Message) (i j : ℕ) → Numbers ms i m → Numbers ms j m → Stands places i → Stands places j
-  moved m i j e f h = subst (λ x. Stands places x) (d.one i j m e f) h
+  moved : (m : Message) (i j : ℕ) → HasNumber ms i m → HasNumber ms j m → HasSomePlace places i → HasSomePlace places j
+  moved m i j e f h = subst (λ x. HasSomePlace places x) (d.one i j m e f) h
 
   unit_start : (i : ℕ) × (slice_get start (length sent) ≡ Some i)
   unit_start = let n = s.count in below_get start (length sent) (omega (arith, n))
@@ -65,9 +65,9 @@ module _ (ms sent : List Message) (rules : List Rule) (ways : List Way) (start :
   sent_found : (m : Message) → In m sent → Found ms places m
   sent_found m i = let (j, e) = in_get i in let (x, f, g) = s.sent_at j m e in (x, g, l.started j x f)
 
-  pub known_stands : (target : ℕ) (m : Message) → Numbers ms target m → Knows sent m → Stands places target
+  pub known_stands : (target : ℕ) (m : Message) → HasNumber ms target m → Knows sent m → HasSomePlace places target
   known_stands target m e k =
       let (i, f, h) = known_local all_parts saturated sent_found (λ n (x, b, t). (x, b)) (target, e) k in moved m i target f e h
 
-  pub unknown : (target : ℕ) (m : Message) → Numbers ms target m → slice_get places target ≡ Some None → Knows sent m → ⊥
+  pub unknown : (target : ℕ) (m : Message) → HasNumber ms target m → slice_get places target ≡ Some None → Knows sent m → ⊥
   unknown target m e none k = let (t, f) = known_stands target m e k in let p : Some None ≡ Some (Some t) = sym none ∙ f in cc

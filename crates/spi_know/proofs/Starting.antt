@@ -10,21 +10,21 @@ use Rattle.spi_term.specs.declared.term.Msg.{Msg}
 use Rattle.spi_horn.specs.Leading.{StartsWithin}
 use Rattle.spi_intern.specs.Table.{KeepsAll}
 use Rattle.spi_intern.proofs.Lists.{some_one, get_append, get_below, below_get}
-use Rattle.spi_know.specs.Numbered.{Numbers, AreNumbers, Starts, nodes_in}
+use Rattle.spi_know.specs.Numbered.{HasNumber, AreFirstNumbers, StartsWith, nodes_in}
 
 pub get_end : {A : Type 0} (xs : List A) (y : A) → slice_get (xs ++ y ∷ []) (length xs) ≡ Some y
 get_end [] y = refl
 get_end (x ∷ xs) y = get_end xs y
 
-pub numbers_none : (ms sent : List Message) (numbers : List ℕ) → numbers ≡ [] → AreNumbers ms sent 0 numbers
+pub numbers_none : (ms sent : List Message) (numbers : List ℕ) → numbers ≡ [] → AreFirstNumbers ms sent 0 numbers
 numbers_none ms sent numbers e = record { count = ap length e; at = λ j m lt f. absurd (omega (arith, lt)) }
 
-pub numbers_kept : (ms ms' sent : List Message) (n : ℕ) (numbers : List ℕ) → KeepsAll ms ms' → AreNumbers ms sent n numbers → AreNumbers ms' sent n numbers
+pub numbers_kept : (ms ms' sent : List Message) (n : ℕ) (numbers : List ℕ) → KeepsAll ms ms' → AreFirstNumbers ms sent n numbers → AreFirstNumbers ms' sent n numbers
 numbers_kept ms ms' sent n numbers k a = record { count = a.count; at = λ j m lt e. let (i, f, g) = a.at j m lt e in (i, f, k.at i m g) }
 
-pub numbers_step : (ms ms' sent : List Message) (n id : ℕ) (numbers numbers' : List ℕ) (m : Message) → KeepsAll ms ms' → numbers' ≡ numbers ++ id ∷ [] → Numbers ms' id m → slice_get sent n ≡ Some m → AreNumbers ms sent n numbers → AreNumbers ms' sent (n + 1) numbers'
+pub numbers_step : (ms ms' sent : List Message) (n id : ℕ) (numbers numbers' : List ℕ) (m : Message) → KeepsAll ms ms' → numbers' ≡ numbers ++ id ∷ [] → HasNumber ms' id m → slice_get sent n ≡ Some m → AreFirstNumbers ms sent n numbers → AreFirstNumbers ms' sent (n + 1) numbers'
 numbers_step ms ms' sent n id numbers numbers' m k e at is a =
-    let P : ℕ → Type 0 = λ j. (x : Message) → slice_get sent j ≡ Some x → (i : ℕ) × (slice_get numbers' j ≡ Some i) × Numbers ms' i x in
+    let P : ℕ → Type 0 = λ j. (x : Message) → slice_get sent j ≡ Some x → (i : ℕ) × (slice_get numbers' j ≡ Some i) × HasNumber ms' i x in
     let count = a.count in
     let push = length_push numbers id in
     let len : length numbers' ≡ length (numbers ++ id ∷ []) = ap length e in
@@ -47,7 +47,7 @@ length_from [] = refl
 length_from (x ∷ xs) = ap suc (length_from xs)
 
 -- and then that of unit
-pub starts_all : (ms ms' sent : List Message) (n unit : ℕ) (numbers numbers' : List ℕ) → n ≡ length sent → KeepsAll ms ms' → numbers' ≡ numbers ++ unit ∷ [] → Numbers ms' unit Term.unit → AreNumbers ms sent n numbers → Starts ms' sent numbers'
+pub starts_all : (ms ms' sent : List Message) (n unit : ℕ) (numbers numbers' : List ℕ) → n ≡ length sent → KeepsAll ms ms' → numbers' ≡ numbers ++ unit ∷ [] → HasNumber ms' unit Term.unit → AreFirstNumbers ms sent n numbers → StartsWith ms' sent numbers'
 starts_all ms ms' sent n unit numbers numbers' is k e at a =
     let count = a.count in
     let push = length_push numbers unit in
@@ -60,10 +60,10 @@ starts_all ms ms' sent n unit numbers numbers' is k e at a =
           let lt = get_below sent j m f in
           let (i, g, h) = a.at j m (omega (arith, lt, is)) f in
           (i, ap (λ l. slice_get l j) e ∙ get_append numbers (unit ∷ []) j i g, k.at i m h);
-      unit_at = λ i f. let q : unit ≡ i = some_one (sym last ∙ f) in subst (λ x. Numbers ms' x Term.unit) q at;
+      unit_at = λ i f. let q : unit ≡ i = some_one (sym last ∙ f) in subst (λ x. HasNumber ms' x Term.unit) q at;
     }
 
-pub starts_kept : (ms ms' sent : List Message) (start : List ℕ) → KeepsAll ms ms' → Starts ms sent start → Starts ms' sent start
+pub starts_kept : (ms ms' sent : List Message) (start : List ℕ) → KeepsAll ms ms' → StartsWith ms sent start → StartsWith ms' sent start
 starts_kept ms ms' sent start k s = record {
   count = s.count;
   sent_at = λ j m e. let (i, f, g) = s.sent_at j m e in (i, f, k.at i m g);
@@ -75,7 +75,7 @@ below_or a zero = inr (omega arith)
 below_or zero (suc b) = inl (omega arith)
 below_or (suc a) (suc b) = ⊎_elim (λ lt. inl (omega (arith, lt))) (λ le. inr (omega (arith, le))) (below_or a b)
 
-pub starts_within : (ms sent : List Message) (start : List ℕ) → Starts ms sent start → StartsWithin (length ms) start
+pub starts_within : (ms sent : List Message) (start : List ℕ) → StartsWith ms sent start → StartsWithin (length ms) start
 starts_within ms sent start s j x e =
     let count = s.count in
     let lt = get_below start j x e in
@@ -84,7 +84,7 @@ starts_within ms sent start s j x e =
     let (m, f) = below_get sent j less in
     let (i, g, h) = s.sent_at j m f in
     let q : i ≡ x = some_one (sym g ∙ e) in
-    get_below ms x m (subst (λ y. Numbers ms y m) q h))
+    get_below ms x m (subst (λ y. HasNumber ms y m) q h))
     (λ le.
     let w : length sent ≡ j = omega (arith, count, lt, le) in
     get_below ms x Term.unit (s.unit_at x (ap (slice_get start) w ∙ e)))

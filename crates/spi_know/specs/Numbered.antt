@@ -34,15 +34,15 @@ ways_of (P.Name x) = []
 ways_of P.Unit = []
 
 -- the number i is that of m
-abbrev pub Numbers : List Message → ℕ → Message → Type 0
-Numbers ms i m = slice_get ms i ≡ Some m
+abbrev pub HasNumber : List Message → ℕ → Message → Type 0
+HasNumber ms i m = slice_get ms i ≡ Some m
 
 -- two numbers, a rule that gives the first from the second twice
 abbrev pub FromOne : List Message → Rule → Message → Message → Type 0
-FromOne ms r a b = Numbers ms r.first a × Numbers ms r.gives b × (r.second ≡ r.first)
+FromOne ms r a b = HasNumber ms r.first a × HasNumber ms r.gives b × (r.second ≡ r.first)
 
 abbrev pub FromTwo : List Message → Rule → Message → Message → Message → Type 0
-FromTwo ms r a b c = Numbers ms r.first a × Numbers ms r.second b × Numbers ms r.gives c
+FromTwo ms r a b c = HasNumber ms r.first a × HasNumber ms r.second b × HasNumber ms r.gives c
 
 -- the rule is an instance of the clause
 abbrev pub Suits : List Message → Rule → Way → Type 0
@@ -62,32 +62,32 @@ HasRule rules a b c = (k : ℕ) × (slice_get rules k ≡ Some (rule a b c))
 
 -- the rules have each clause that makes m, which has the number j, or takes it apart
 abbrev pub HasClauses : List Message → List Rule → ℕ → Message → Type 0
-HasClauses ms rules j (pair a b) = (i : ℕ) × (k : ℕ) × Numbers ms i a × Numbers ms k b × HasRule rules i k j
+HasClauses ms rules j (pair a b) = (i : ℕ) × (k : ℕ) × HasNumber ms i a × HasNumber ms k b × HasRule rules i k j
     × HasRule rules j j i × HasRule rules j j k
-HasClauses ms rules j (in_left a) = (i : ℕ) × Numbers ms i a × HasRule rules i i j × HasRule rules j j i
-HasClauses ms rules j (in_right a) = (i : ℕ) × Numbers ms i a × HasRule rules i i j × HasRule rules j j i
-HasClauses ms rules j (enc a b) = (i : ℕ) × (k : ℕ) × Numbers ms i a × Numbers ms k b × HasRule rules i k j
+HasClauses ms rules j (in_left a) = (i : ℕ) × HasNumber ms i a × HasRule rules i i j × HasRule rules j j i
+HasClauses ms rules j (in_right a) = (i : ℕ) × HasNumber ms i a × HasRule rules i i j × HasRule rules j j i
+HasClauses ms rules j (enc a b) = (i : ℕ) × (k : ℕ) × HasNumber ms i a × HasNumber ms k b × HasRule rules i k j
     × HasRule rules j k i
-HasClauses ms rules j (hash a) = (i : ℕ) × Numbers ms i a × HasRule rules i i j
+HasClauses ms rules j (hash a) = (i : ℕ) × HasNumber ms i a × HasRule rules i i j
 HasClauses ms rules j m = ⊤
 
 -- the rules are the clauses at the messages with numbers below n
 pub record AreClauses (ms : List Message) (n : ℕ) (rules : List Rule) (ways : List Way) : Type 0 where
   pub suit : TellsAll (Suits ms) rules ways
-  pub all : (j : ℕ) (m : Message) → j < n → Numbers ms j m → HasClauses ms rules j m
+  pub all : (j : ℕ) (m : Message) → j < n → HasNumber ms j m → HasClauses ms rules j m
 
 -- the first n messages have these numbers in turn
-pub record AreNumbers (ms sent : List Message) (n : ℕ) (numbers : List ℕ) : Type 0 where
+pub record AreFirstNumbers (ms sent : List Message) (n : ℕ) (numbers : List ℕ) : Type 0 where
   pub count : length numbers ≡ n
   pub at : (j : ℕ) (m : Message) → j < n → slice_get sent j ≡ Some m
-      → (i : ℕ) × (slice_get numbers j ≡ Some i) × Numbers ms i m
+      → (i : ℕ) × (slice_get numbers j ≡ Some i) × HasNumber ms i m
 
 -- the start has the numbers of the messages sent in turn, and then that of unit
-pub record Starts (ms sent : List Message) (start : List ℕ) : Type 0 where
+pub record StartsWith (ms sent : List Message) (start : List ℕ) : Type 0 where
   pub count : length start ≡ length sent + 1
   pub sent_at : (j : ℕ) (m : Message) → slice_get sent j ≡ Some m
-      → (i : ℕ) × (slice_get start j ≡ Some i) × Numbers ms i m
-  pub unit_at : (i : ℕ) → slice_get start (length sent) ≡ Some i → Numbers ms i Term.unit
+      → (i : ℕ) × (slice_get start j ≡ Some i) × HasNumber ms i m
+  pub unit_at : (i : ℕ) → slice_get start (length sent) ≡ Some i → HasNumber ms i Term.unit
 
 -- how many nodes messages have
 abbrev pub nodes_in : List Message → ℕ

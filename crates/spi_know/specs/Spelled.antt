@@ -10,7 +10,7 @@ use Rattle.spi_know.specs.declared.cert.By.TheVariants as B
 use Rattle.spi_know.specs.declared.clauses.Way.{Way}
 use Rattle.spi_know.specs.declared.clauses.Way.TheVariants.{MakePair, First, Second, MakeInl, MakeInr, TakeInl, TakeInr, MakeEnc, Open, MakeHash}
 use Rattle.spi_know.specs.Cert.{said}
-use Rattle.spi_know.specs.Numbered.{Numbers}
+use Rattle.spi_know.specs.Numbered.{HasNumber}
 
 -- the clause, with the lines of its premises
 abbrev pub named_by : Way → ℕ → ℕ → By
@@ -35,17 +35,17 @@ abbrev pub SaysBy : ℕ → List Way → Ground → By → Type 0
 SaysBy n ways (Start j) b = ((j < n) × (b ≡ B.Sent j)) ⊎ ((n ≤ j) × (b ≡ B.MakeUnit))
 SaysBy n ways (ByRule k i j) b = (w : Way) × (slice_get ways k ≡ Some w) × (b ≡ named_by w i j)
 
-abbrev pub IsLineOf : List Message → ℕ → List Way → Line → CertLine → Type 0
-IsLineOf ms n ways l c = Numbers ms l.number (said c) × SaysBy n ways l.ground c.by
+abbrev pub IsCertLineOf : List Message → ℕ → List Way → Line → CertLine → Type 0
+IsCertLineOf ms n ways l c = HasNumber ms l.number (said c) × SaysBy n ways l.ground c.by
 
 -- the first i lines, in their order
 pub record AreLines (ms : List Message) (n : ℕ) (ways : List Way) (lines : List Line) (i : ℕ)
     (cert : List CertLine) : Type 0 where
   pub count : length cert ≡ i
   pub each : (j : ℕ) (l : Line) (c : CertLine) → slice_get lines j ≡ Some l → slice_get cert j ≡ Some c
-      → IsLineOf ms n ways l c
+      → IsCertLineOf ms n ways l c
 
 -- each line can be spelled
-abbrev pub AreSmall : ℕ → List Way → List Line → Type 0
-AreSmall n ways lines = (i : ℕ) (l : Line) → slice_get lines i ≡ Some l
+abbrev pub CanBeSpelled : ℕ → List Way → List Line → Type 0
+CanBeSpelled n ways lines = (i : ℕ) (l : Line) → slice_get lines i ≡ Some l
     → (l.number < n) × IsSmall ways l.ground

@@ -3,9 +3,9 @@
 ghost use Rattle.std.specs.Prelude.{◌≡◌, ◌+◌, ◌<◌, ◌≤◌, ◌^◌, ◌-◌, ℕ, List, [], IfOk, OnOk, length, map};
 ghost use Rattle.spi_term.specs.Term.{Message, message_size};
 ghost use Rattle.spi_term.specs.View.{message};
-ghost use Rattle.spi_horn.specs.Leading.{IsOrder, StandsAt, StartsWithin};
+ghost use Rattle.spi_horn.specs.Leading.{IsOrder, IsPlacedAt, StartsWithin};
 ghost use Rattle.spi_know.specs.Cert.{Certifies, AllUsed};
-ghost use Rattle.spi_know.specs.Numbered.{Numbers, AreClauses, AreNumbers, Starts, nodes_in};
+ghost use Rattle.spi_know.specs.Numbered.{HasNumber, AreClauses, AreFirstNumbers, StartsWith, nodes_in};
 ghost use Rattle.spi_know.specs.Knowledge.{Decides};
 
 use crate::NoMemory;
@@ -36,7 +36,7 @@ impl Drop for Knowledge {
 fn number_sent(alloc: Global, store: &mut Store, sent: &[Msg]) -> Result<Vec<usize>, NoMemory>
     requires { store.old.messages ≡ [] }
     ensures numbers { IfOk result
-        (λ start. AreNumbers store.new.messages (map message sent.now) (length sent.now) start.items) }
+        (λ start. AreFirstNumbers store.new.messages (map message sent.now) (length sent.now) start.items) }
     ensures few { OnOk result (length store.new.messages ≤ nodes_in (map message sent.now)) }
 {
     let mut start = Vec::new(alloc);
@@ -50,7 +50,7 @@ fn number_sent(alloc: Global, store: &mut Store, sent: &[Msg]) -> Result<Vec<usi
 // The numbers of the messages sent, and then that of unit.
 fn number_all(alloc: Global, store: &mut Store, sent: &[Msg]) -> Result<Vec<usize>, NoMemory>
     requires { store.old.messages ≡ [] }
-    ensures starts { IfOk result (λ start. Starts store.new.messages (map message sent.now) start.items) }
+    ensures starts { IfOk result (λ start. StartsWith store.new.messages (map message sent.now) start.items) }
     ensures few { OnOk result (length store.new.messages ≤ nodes_in (map message sent.now) + 1) }
 {
     let mut start = number_sent(alloc, store, sent)?;
@@ -78,8 +78,8 @@ fn certify(
     ensures { IfOk result
         (λ cert. (start : List ℕ) (from : List Message) (target : ℕ) (m : Message)
         → IsOrder rules.now start closure.now.order.items closure.now.places.items
-        → Starts store.now.messages from start → length from ≡ sent
-        → StandsAt closure.now.places.items target place → Numbers store.now.messages target m
+        → StartsWith store.now.messages from start → length from ≡ sent
+        → IsPlacedAt closure.now.places.items target place → HasNumber store.now.messages target m
         → Certifies from cert.items m × AllUsed cert.items) }
 {
     let lines = trace(alloc, rules, closure, place)?;
@@ -102,8 +102,8 @@ fn decide_by(
     requires target { target < length store.now.messages }
     requires few { length store.now.messages < 2 ^ 32 }
     ensures { IfOk result
-        (λ k. (from : List Message) (m : Message) → Starts store.now.messages from start.now
-        → length from ≡ sent → Numbers store.now.messages target m → Decides from m k) }
+        (λ k. (from : List Message) (m : Message) → StartsWith store.now.messages from start.now
+        → length from ≡ sent → HasNumber store.now.messages target m → Decides from m k) }
 {
     let count = store.message_count();
     let closure = close(alloc, rules, start, count)?;
@@ -128,8 +128,8 @@ fn decide_numbers(
     requires target { target < length store.now.messages }
     requires few { length store.now.messages < 2 ^ 32 }
     ensures { IfOk result
-        (λ k. (from : List Message) (m : Message) → Starts store.now.messages from start.now
-        → length from ≡ sent → Numbers store.now.messages target m → Decides from m k) }
+        (λ k. (from : List Message) (m : Message) → StartsWith store.now.messages from start.now
+        → length from ≡ sent → HasNumber store.now.messages target m → Decides from m k) }
 {
     let clauses = clauses_of(alloc, store)?;
     let knowledge = decide_by(

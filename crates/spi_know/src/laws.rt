@@ -4,7 +4,7 @@ ghost use Rattle.std.specs.Prelude.{◌↔◌, List};
 ghost use Rattle.spi_term.specs.Term.{Message};
 ghost use Rattle.spi_term.specs.Lists.{In};
 ghost use Rattle.spi_run.specs.Knowledge.{Knows};
-ghost use Rattle.spi_know.specs.Reached.{MadeOf, Reached, Made, IsClosed, Among, HasParts, IsSaturated};
+ghost use Rattle.spi_know.specs.Reached.{MadeOf, Reached, Made, IsTakenApart, Among, HaveTheirParts, IsSaturated};
 ghost use Rattle.spi_know.specs.Cert.{Certifies};
 ghost use Rattle.spi_know.specs.declared.cert.CertLine.{CertLine};
 
@@ -19,22 +19,22 @@ pub fn known_is_made_of_reached()
 /// message is made of that list, and each reached message stands in it.
 pub fn closed_has_all()
     ensures known { (sent parts : List Message) (m : Message) → ((n : Message) → In n sent → In n parts)
-        → IsClosed (Among parts) → Knows sent m → MadeOf (Among parts) m }
+        → IsTakenApart (Among parts) → Knows sent m → MadeOf (Among parts) m }
     ensures reached { (sent parts : List Message) (m : Message) → ((n : Message) → In n sent → In n parts)
-        → IsClosed (Among parts) → Reached sent m → In m parts }
+        → IsTakenApart (Among parts) → Reached sent m → In m parts }
 {}
 
 /// And where such a list holds reached messages alone, it decides knowledge.
 pub fn reached_is_least()
     ensures { (sent parts : List Message) (m : Message) → ((n : Message) → In n sent → In n parts)
-        → ((n : Message) → In n parts → Knows sent n) → IsClosed (Among parts)
+        → ((n : Message) → In n parts → Knows sent n) → IsTakenApart (Among parts)
         → Knows sent m ↔ MadeOf (Among parts) m }
 {}
 
 /// A list of messages with all their parts: those of them that are known are found within the list,
 /// by the clauses of knowledge until none adds another.
 pub fn knowledge_is_local()
-    ensures { (sent all known : List Message) (m : Message) → HasParts (Among all)
+    ensures { (sent all known : List Message) (m : Message) → HaveTheirParts (Among all)
         → IsSaturated (Among all) (Among known) → ((n : Message) → In n sent → In n known)
         → ((n : Message) → In n known → In n all) → ((n : Message) → In n known → Knows sent n) → In m all
         → Knows sent m ↔ In m known }

@@ -1,7 +1,7 @@
 // Lines of certificates, for lines over the numbers of a store.
 
 ghost use Rattle.std.specs.Prelude.{◌≡◌, ◌<◌, IfOk, length};
-ghost use Rattle.spi_know.specs.Spelled.{named_by as named_by_of, IsSmall, SaysBy, IsLineOf, AreLines, AreSmall};
+ghost use Rattle.spi_know.specs.Spelled.{named_by as named_by_of, IsSmall, SaysBy, IsCertLineOf, AreLines, CanBeSpelled};
 
 use crate::NoMemory;
 use crate::cert::{By, CertLine};
@@ -52,7 +52,7 @@ fn cert_line(
 ) -> Result<CertLine, NoMemory>
     requires number { line.number < length store.now.messages }
     requires small { IsSmall ways.now line.ground }
-    ensures { IfOk result (IsLineOf store.now.messages sent ways.now line) }
+    ensures { IfOk result (IsCertLineOf store.now.messages sent ways.now line) }
 {
     let by = by_of(sent, ways, line.ground);
     let message = message_of(alloc, store, MsgId::at(line.number))?;
@@ -67,7 +67,7 @@ pub fn spell(
     ways: &[Way],
     lines: &[Line],
 ) -> Result<Vec<CertLine>, NoMemory>
-    requires { AreSmall (length store.now.messages) ways.now lines.now }
+    requires { CanBeSpelled (length store.now.messages) ways.now lines.now }
     ensures { IfOk result
         (λ cert. AreLines store.now.messages sent ways.now lines.now (length lines.now) cert.items) }
 {

@@ -10,7 +10,7 @@ use Rattle.std.specs.Str.{encode_utf8_all, all_scalars, IsUtf8, IsCharBoundary}
 use Rattle.unicode_ident.proofs.IdentLemmas.{is_xid_start-ascii, is_xid_continue-ascii}
 use lib.Utf8.{scalar}
 use Rattle.spi_lex.specs.declared.scan.Shape.TheVariants as shapes
-use Rattle.spi_lex.specs.Front.{is_plain, is_letter, StopsPlain, IsPlainEnd, Passes, Continues, IsFront}
+use Rattle.spi_lex.specs.Front.{is_plain, is_letter, StopsPlain, IsPlainEnd, PassesNameCharacters, Continues, IsFront}
 use Rattle.spi_lex.proofs.Fronts.{passes_none, stops_at_end, stops_at_char, name_front}
 
 in_range : (low high b : ℕ) → high < 128 → is_in_range low high b ≡ true → b < 128
@@ -29,25 +29,25 @@ plain_ascii b h = elim (or_cases (is_ascii_alphanumeric b) (b == 95) h) [
 ]
 
 -- they pass
-pub plain_passes : (text : List ℕ) → Passes text (drop (prefix_len is_plain text) text)
+pub plain_passes : (text : List ℕ) → PassesNameCharacters text (drop (prefix_len is_plain text) text)
 plain_passes [] = passes_none []
 plain_passes (b ∷ bs) = elim (cases_Bool (is_plain b)) [
   | inl is ↦
-      let h : Passes bs (drop (prefix_len is_plain bs) bs) = plain_passes bs in
+      let h : PassesNameCharacters bs (drop (prefix_len is_plain bs) bs) = plain_passes bs in
       let rest : List ℕ = drop (prefix_len is_plain bs) bs in
       let ascii = plain_ascii b is in
       let one_more : suc (prefix_len is_plain bs) ≡ 1 + prefix_len is_plain bs = omega arith in
-      let all : Passes (b ∷ bs) rest = record {
+      let all : PassesNameCharacters (b ∷ bs) rest = record {
         name = b ∷ h.name;
         continue = (is_xid_continue-ascii b ascii ∙ is, h.continue);
         scalars = and_from (scalar b) (all_scalars h.name) (agree_below_at scalar (λ c. true) 128 b refl ascii) h.scalars;
         text_is = ap (λ (cs : List ℕ). b ∷ cs) h.text_is
             ∙ ap (λ (cs : List ℕ). (cs ++ encode_utf8_all h.name) ++ rest) (sym (encode_ascii b ascii));
       } in
-      subst (λ (n : ℕ). Passes (b ∷ bs) (drop n (b ∷ bs)))
+      subst (λ (n : ℕ). PassesNameCharacters (b ∷ bs) (drop n (b ∷ bs)))
       (one_more ∙ sym (cond-true (is_plain b) (1 + prefix_len is_plain bs) 0 is)) all
   | inr isnt ↦
-      subst (λ (n : ℕ). Passes (b ∷ bs) (drop n (b ∷ bs)))
+      subst (λ (n : ℕ). PassesNameCharacters (b ∷ bs) (drop n (b ∷ bs)))
       (sym (cond-false (is_plain b) (1 + prefix_len is_plain bs) 0 isnt)) (passes_none (b ∷ bs))
 ]
 
@@ -81,7 +81,7 @@ plain_stops (c ∷ cs) b bs e = elim (cases_Bool (is_plain c)) [
 ]
 
 -- so a name ends there
-pub plain_ends : (text rest : List ℕ) → Passes text rest → StopsPlain rest → IsPlainEnd rest → Continues text rest
+pub plain_ends : (text rest : List ℕ) → PassesNameCharacters text rest → StopsPlain rest → IsPlainEnd rest → Continues text rest
 plain_ends text [] h s n = stops_at_end text [] h refl
 plain_ends text (b ∷ bs) h s n =
     let ascii = n b bs refl in

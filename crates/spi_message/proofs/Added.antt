@@ -24,7 +24,7 @@ use Rattle.spi_intern.specs.declared.store.Store.{Store}
 use Rattle.spi_intern.proofs.Grown.{has_kept}
 use Rattle.spi_intern.proofs.Meanings.{means_keeps}
 use Rattle.spi_intern.proofs.Adding.{adds_none, adds_more, adds_as, types_none, adds_atom, adds_no_atom}
-use Rattle.spi_message.specs.Filling.{value_of, or_bound, fill, values_of, atom_at, message_in, AreBelow, IsDepth, FillsMessage, FillsAtoms, FillsTy}
+use Rattle.spi_message.specs.Filling.{value_of, or_bound, fill, values_of, atom_at, message_in, AreIdsBelow, IsDepth, FillsMessage, FillsAtoms, FillsTy}
 use Rattle.spi_message.specs.Giving.{HasParts}
 use Rattle.spi_message.specs.Added.{AllHaveParts, MessageIsAdded, AtomsAreAdded, TypeIsAdded}
 use Rattle.spi_message.proofs.Fills.{TwoOf, OneOf, at_message, message_there, message_keeps, values_keep, two_values, values_at, value_mapped, value_in, fills_value}
@@ -35,7 +35,7 @@ use Rattle.spi_message.proofs.FillsTypes.{TwoTys, OneTy, NonceTy, means_as}
 pub parts_keep : {ms ns : List Message} {m : Message} → KeepsAll ms ns → HasParts ms m → HasParts ns m
 parts_keep k h = record { each = λ x p. has_kept k (h.each x p) }
 
-pub all_parts_keep : {ms ns : List Message} {vs : List MsgId} → KeepsAll ms ns → AreBelow vs (length ms) → AllHaveParts ms (values_of ms vs) → AllHaveParts ns (values_of ns vs)
+pub all_parts_keep : {ms ns : List Message} {vs : List MsgId} → KeepsAll ms ns → AreIdsBelow vs (length ms) → AllHaveParts ms (values_of ms vs) → AllHaveParts ns (values_of ns vs)
 all_parts_keep {ms} {ns} {vs} k b h = subst (AllHaveParts ns) (sym (values_keep vs k b)) record { at = λ i v e. parts_keep k (h.at i v e) }
 
 types_more : {s q r : Store} {T U : Ty → Type 0} → AddsTypes s q T → Keeps q r → AddsTypes q r U → AddsTypes s r (λ u. T u ⊎ U u)
@@ -129,11 +129,11 @@ adds_one {a = a} f j g l o = record {
     to x (inr e) = subst (λ y. PartOf y (f a)) (sym e) whole
 
 -- a part that is filled over a store that has grown
-later_added : {s p q : Store} {vs : List MsgId} {depth : ℕ} {b : MsgId} → Keeps s p → AreBelow vs (length s.messages) → b.place < length s.messages → MessageIsAdded p q vs depth b → (d : ℕ) → IsDepth d depth → AllHaveParts s.messages (values_of s.messages vs) → Adds p q (a_message (fill (values_of s.messages vs) d (message_at s.messages b)))
+later_added : {s p q : Store} {vs : List MsgId} {depth : ℕ} {b : MsgId} → Keeps s p → AreIdsBelow vs (length s.messages) → b.place < length s.messages → MessageIsAdded p q vs depth b → (d : ℕ) → IsDepth d depth → AllHaveParts s.messages (values_of s.messages vs) → Adds p q (a_message (fill (values_of s.messages vs) d (message_at s.messages b)))
 later_added {s} {p} {q} {vs} {b = b} k v w g d e h =
     subst (λ m. Adds p q (a_message m)) (λ i. fill (values_keep vs k.messages v i) d (message_keeps b k.messages w i)) (g.at d e (all_parts_keep k.messages v h))
 
-pub added_two : {E : Type 0} {s p q : Store} (r : Store) {c : Message → Message → Message} {part : MsgId → MsgId → MsgPart} {vs : List MsgId} {depth : ℕ} {m a b x y : MsgId} → Joins c part → TwoOf s.messages m a b c → Keeps s p → AreBelow vs (length s.messages) → FillsMessage s.messages p.messages vs depth a x → MessageIsAdded s p vs depth a → Keeps p q → FillsMessage p.messages q.messages vs depth b y → MessageIsAdded p q vs depth b → Keeps q r → (o : Result MsgId E) → OnOk o ((n : Message) → Says q.messages (part x y) n → Adds q r (over_messages n)) → OnOk o (MessageIsAdded s r vs depth m)
+pub added_two : {E : Type 0} {s p q : Store} (r : Store) {c : Message → Message → Message} {part : MsgId → MsgId → MsgPart} {vs : List MsgId} {depth : ℕ} {m a b x y : MsgId} → Joins c part → TwoOf s.messages m a b c → Keeps s p → AreIdsBelow vs (length s.messages) → FillsMessage s.messages p.messages vs depth a x → MessageIsAdded s p vs depth a → Keeps p q → FillsMessage p.messages q.messages vs depth b y → MessageIsAdded p q vs depth b → Keeps q r → (o : Result MsgId E) → OnOk o ((n : Message) → Says q.messages (part x y) n → Adds q r (over_messages n)) → OnOk o (MessageIsAdded s r vs depth m)
 added_two {s = s} r {c = c} {vs = vs} {x = x} {y = y} i t k v f fa l g ga w (Ok id) h = record {
   at = λ d e b.
       let z = two_values k.messages v t.second f l.messages g d e in
@@ -166,7 +166,7 @@ added_bound {s} {vs} {i = i} l e f =
     added_leaf (bound i) l e (λ d w. ap (or_bound i) (value_mapped s.messages vs d i ∙ ap (option_map (message_at s.messages)) (sym (f d w)))) (λ y p. p)
 
 -- a value, which has its parts
-pub added_value : {s : Store} {vs : List MsgId} {depth i : ℕ} {m v : MsgId} → message_at s.messages m ≡ bound i → AreBelow vs (length s.messages) → ((d : ℕ) → IsDepth d depth → Some v ≡ value_of vs d i) → MessageIsAdded s s vs depth m
+pub added_value : {s : Store} {vs : List MsgId} {depth i : ℕ} {m v : MsgId} → message_at s.messages m ≡ bound i → AreIdsBelow vs (length s.messages) → ((d : ℕ) → IsDepth d depth → Some v ≡ value_of vs d i) → MessageIsAdded s s vs depth m
 added_value {s} {vs} {i = i} {m = m} {v = v} e b f = record {
   at = λ d w h.
       let k = value_in vs d i v (sym (f d w)) in
@@ -192,7 +192,7 @@ effect_push : (f : Message → Message) (g : AtomId → Atom) (xs : List AtomId)
 effect_push f g [] x = refl
 effect_push f g (y ∷ xs) x = ap (λ zs. atom_map f (g y) ∷ zs) (effect_push f g xs x)
 
-pub next_atom_added : {s p q : Store} {vs : List MsgId} {depth : ℕ} {xs ys : List AtomId} (a : AtomId) → Keeps s p → AreBelow vs (length s.messages) → (message_in a).place < length s.messages → AtomsAreAdded s p vs depth xs → Keeps p q → MessageIsAdded p q vs depth (message_in a) → ys ≡ xs ++ a ∷ [] → AtomsAreAdded s q vs depth ys
+pub next_atom_added : {s p q : Store} {vs : List MsgId} {depth : ℕ} {xs ys : List AtomId} (a : AtomId) → Keeps s p → AreIdsBelow vs (length s.messages) → (message_in a).place < length s.messages → AtomsAreAdded s p vs depth xs → Keeps p q → MessageIsAdded p q vs depth (message_in a) → ys ≡ xs ++ a ∷ [] → AtomsAreAdded s q vs depth ys
 next_atom_added {s} {p} {q} {vs} {depth} {xs} {ys} a k v w f l g e = subst (AtomsAreAdded s q vs depth) (sym e) record {
   messages = λ d i h.
       let fs = fill (values_of s.messages vs) d in
@@ -313,14 +313,14 @@ adds_nonce_ty {s} {q} {r} {es} {fs} h f g l o = record {
     only : (i : ℕ) → i < length r.types → (i < length s.types) ⊎ ((v : Ty) × TyPartOf v (nonce fs) × Means r i v)
     only i k = ⊎_elim inl (λ w. inr (nonce fs, whole_ty, ⊎_elim (λ c. absurd c) (λ e. means_as (same_nonce h) (subst (Means r i) e w.2)) w.1)) (types.only i k)
 
-later_type : {s p q : Store} {vs : List MsgId} {depth : ℕ} {b : TyId} {w : Ty} → Keeps s p → AreBelow vs (length s.messages) → TypeIsAdded p q vs depth b → (d : ℕ) → IsDepth d depth → Means s b.place w → AllHaveParts s.messages (values_of s.messages vs) → Adds p q (a_type (ty_map (fill (values_of s.messages vs)) d w))
+later_type : {s p q : Store} {vs : List MsgId} {depth : ℕ} {b : TyId} {w : Ty} → Keeps s p → AreIdsBelow vs (length s.messages) → TypeIsAdded p q vs depth b → (d : ℕ) → IsDepth d depth → Means s b.place w → AllHaveParts s.messages (values_of s.messages vs) → Adds p q (a_type (ty_map (fill (values_of s.messages vs)) d w))
 later_type {s} {p} {q} {vs} {w = w} k v g d e m h =
     subst (λ us. Adds p q (a_type (ty_map (fill us) d w))) (values_keep vs k.messages v) (g.at d w e (means_keeps k m) (all_parts_keep k.messages v h))
 
-later_means : {s p q : Store} {vs : List MsgId} {depth : ℕ} {b y : TyId} {w : Ty} → Keeps s p → AreBelow vs (length s.messages) → FillsTy p q vs depth b y → (d : ℕ) → IsDepth d depth → Means s b.place w → Means q y.place (ty_map (fill (values_of s.messages vs)) d w)
+later_means : {s p q : Store} {vs : List MsgId} {depth : ℕ} {b y : TyId} {w : Ty} → Keeps s p → AreIdsBelow vs (length s.messages) → FillsTy p q vs depth b y → (d : ℕ) → IsDepth d depth → Means s b.place w → Means q y.place (ty_map (fill (values_of s.messages vs)) d w)
 later_means {s} {q = q} {vs = vs} {y = y} {w = w} k v g d h m = subst (λ us. Means q y.place (ty_map (fill us) d w)) (values_keep vs k.messages v) (g.at d w h (means_keeps k m))
 
-pub added_pair_ty : {E : Type 0} {s p q : Store} (r : Store) {vs : List MsgId} {depth deep : ℕ} {t a b x y : TyId} → TwoTys s t a b pair_ty → Keeps s p → AreBelow vs (length s.messages) → FillsTy s p vs depth a x → TypeIsAdded s p vs depth a → ((d : ℕ) → IsDepth d depth → IsDepth (suc d) deep) → Keeps p q → FillsTy p q vs deep b y → TypeIsAdded p q vs deep b → Keeps q r → (o : Result TyId E) → OnOk o ((v w : Ty) → Means q x.place v → Means q y.place w → Adds q r (over_types (pair_ty v w))) → OnOk o (TypeIsAdded s r vs depth t)
+pub added_pair_ty : {E : Type 0} {s p q : Store} (r : Store) {vs : List MsgId} {depth deep : ℕ} {t a b x y : TyId} → TwoTys s t a b pair_ty → Keeps s p → AreIdsBelow vs (length s.messages) → FillsTy s p vs depth a x → TypeIsAdded s p vs depth a → ((d : ℕ) → IsDepth d depth → IsDepth (suc d) deep) → Keeps p q → FillsTy p q vs deep b y → TypeIsAdded p q vs deep b → Keeps q r → (o : Result TyId E) → OnOk o ((v w : Ty) → Means q x.place v → Means q y.place w → Adds q r (over_types (pair_ty v w))) → OnOk o (TypeIsAdded s r vs depth t)
 added_pair_ty {s = s} r {vs = vs} t k v f fa n l g ga j (Ok id) h = record {
   at = λ d u e m c.
       let z = t.at u m in
@@ -328,7 +328,7 @@ added_pair_ty {s = s} r {vs = vs} t k v f fa n l g ga j (Ok id) h = record {
 }
 added_pair_ty r t k v f fa n l g ga j (Err e) h = tt
 
-pub added_sum_ty : {E : Type 0} {s p q : Store} (r : Store) {vs : List MsgId} {depth : ℕ} {t a b x y : TyId} → TwoTys s t a b sum_ty → Keeps s p → AreBelow vs (length s.messages) → FillsTy s p vs depth a x → TypeIsAdded s p vs depth a → Keeps p q → FillsTy p q vs depth b y → TypeIsAdded p q vs depth b → Keeps q r → (o : Result TyId E) → OnOk o ((v w : Ty) → Means q x.place v → Means q y.place w → Adds q r (over_types (sum_ty v w))) → OnOk o (TypeIsAdded s r vs depth t)
+pub added_sum_ty : {E : Type 0} {s p q : Store} (r : Store) {vs : List MsgId} {depth : ℕ} {t a b x y : TyId} → TwoTys s t a b sum_ty → Keeps s p → AreIdsBelow vs (length s.messages) → FillsTy s p vs depth a x → TypeIsAdded s p vs depth a → Keeps p q → FillsTy p q vs depth b y → TypeIsAdded p q vs depth b → Keeps q r → (o : Result TyId E) → OnOk o ((v w : Ty) → Means q x.place v → Means q y.place w → Adds q r (over_types (sum_ty v w))) → OnOk o (TypeIsAdded s r vs depth t)
 added_sum_ty {s = s} r {vs = vs} t k v f fa l g ga j (Ok id) h = record {
   at = λ d u e m c.
       let z = t.at u m in

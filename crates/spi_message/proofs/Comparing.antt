@@ -14,7 +14,7 @@ use Rattle.spi_intern.specs.declared.store.Store.{Store}
 use Rattle.spi_intern.proofs.Lists.{get_push}
 use Rattle.spi_intern.proofs.Meanings.{means_keeps}
 use Rattle.spi_message.specs.Judging.{StandFor}
-use Rattle.spi_message.specs.Filling.{fill, filled, AllStay, values_of, AreBelow}
+use Rattle.spi_message.specs.Filling.{fill, filled, AllStay, values_of, AreIdsBelow}
 use Rattle.spi_message.specs.Asking.{IsTyped, IsPayload}
 use Rattle.spi_message.specs.Tests.{key_of}
 use Rattle.spi_message.specs.Giving.{HasParts, GivesOnly, Opening, itself, of_first as opens_first, of_second as opens_second, of_left as opens_left, of_right as opens_right, Compared, with_un, with_type, with_payload}
@@ -89,7 +89,7 @@ key_in_env e _ t h = absurd cc
 
 -- ---- over a store that has grown
 
-pub later_typing : {s p r : Store} {env : List TyId} {d : MsgId} {y : TyId} {vs ws : List MsgId} → Keeps s p → d.place < length s.messages → AreBelow vs (length s.messages) → ws ≡ vs → TypingGives p r env (message_at p.messages d) y ws → (e : Env) (u : Ty) → StandFor s env e → Means s y.place u → AllStay (values_of s.messages vs) → AllHaveParts s.messages (values_of s.messages vs) → HasParts s.messages (message_at s.messages d) → GivesOnly (Compared e (message_at s.messages d) (filled (values_of s.messages vs) u)) p r
+pub later_typing : {s p r : Store} {env : List TyId} {d : MsgId} {y : TyId} {vs ws : List MsgId} → Keeps s p → d.place < length s.messages → AreIdsBelow vs (length s.messages) → ws ≡ vs → TypingGives p r env (message_at p.messages d) y ws → (e : Env) (u : Ty) → StandFor s env e → Means s y.place u → AllStay (values_of s.messages vs) → AllHaveParts s.messages (values_of s.messages vs) → HasParts s.messages (message_at s.messages d) → GivesOnly (Compared e (message_at s.messages d) (filled (values_of s.messages vs) u)) p r
 later_typing {s} {p} {r} {env} {d} {y} {vs} {ws} k w b q g e u st m stay hp hn =
     let f : TypingGives p r env (message_at p.messages d) y vs = subst (TypingGives p r env (message_at p.messages d) y) q g in
     let em : message_at p.messages d ≡ message_at s.messages d = message_keeps d k.messages w in
@@ -152,7 +152,7 @@ first_typing {s} {r} {n = n} {vs = vs} w p h = record {
 }
 
 -- both parts of a pair at Un
-pub both_typing : {s p r : Store} {env : List TyId} (a d : MsgId) {t : TyId} {vs ws : List MsgId} → TypingGives s p env (message_at s.messages a) t vs → Keeps s p → d.place < length s.messages → AreBelow vs (length s.messages) → ws ≡ vs → TypingGives p r env (message_at p.messages d) t ws → TypingGives s r env (pair (message_at s.messages a) (message_at s.messages d)) t vs
+pub both_typing : {s p r : Store} {env : List TyId} (a d : MsgId) {t : TyId} {vs ws : List MsgId} → TypingGives s p env (message_at s.messages a) t vs → Keeps s p → d.place < length s.messages → AreIdsBelow vs (length s.messages) → ws ≡ vs → TypingGives p r env (message_at p.messages d) t ws → TypingGives s r env (pair (message_at s.messages a) (message_at s.messages d)) t vs
 both_typing a d f k w b q g = record {
   at = λ e u st m stay hp hn.
       gives_more (gives_as (λ g. compared_part (of_first whole)) (f.at e u st m stay hp (parts_of_part (of_first whole) hn))) (gives_as (λ g. compared_part (of_second whole)) (later_typing k w b q g e u st m stay hp (parts_of_part (of_second whole) hn)));
@@ -164,7 +164,7 @@ parts_push {ms} {us} {n} h p = record {
 }
 
 -- both parts of a pair at a pair type
-pub pair_typing : {s p r : Store} {env : List TyId} {a d : MsgId} {t x y : TyId} {vs ws : List MsgId} {c : Bool} → TwoTys s t x y pair_ty → IsTyped s env (message_at s.messages a) x vs c → c ≡ true → TypingGives s p env (message_at s.messages a) x vs → Keeps s p → a.place < length s.messages → d.place < length s.messages → AreBelow vs (length s.messages) → ws ≡ vs ++ a ∷ [] → TypingGives p r env (message_at p.messages d) y ws → TypingGives s r env (pair (message_at s.messages a) (message_at s.messages d)) t vs
+pub pair_typing : {s p r : Store} {env : List TyId} {a d : MsgId} {t x y : TyId} {vs ws : List MsgId} {c : Bool} → TwoTys s t x y pair_ty → IsTyped s env (message_at s.messages a) x vs c → c ≡ true → TypingGives s p env (message_at s.messages a) x vs → Keeps s p → a.place < length s.messages → d.place < length s.messages → AreIdsBelow vs (length s.messages) → ws ≡ vs ++ a ∷ [] → TypingGives p r env (message_at p.messages d) y ws → TypingGives s r env (pair (message_at s.messages a) (message_at s.messages d)) t vs
 pair_typing {s} {p} {r} {a = a} {d = d} {vs = vs} t h q fa k l j v w g = record {
   at = λ e u st m stay hp hn.
       let us = values_of s.messages vs in

@@ -19,7 +19,7 @@ use Rattle.spi_intern.proofs.Adding.{adds_as}
 use Rattle.spi_message.specs.declared.answers.Asked.{Asked}
 use Rattle.spi_message.specs.declared.answers.Asked.TheVariants.{Typed, Labelled, Good}
 use Rattle.spi_message.specs.Judging.{StandFor}
-use Rattle.spi_message.specs.Filling.{fill, filled, AllStay, values_of, atom_at, message_in, AreBelow, FillsMessage, FillsTy}
+use Rattle.spi_message.specs.Filling.{fill, filled, AllStay, values_of, atom_at, message_in, AreIdsBelow, FillsMessage, FillsTy}
 use Rattle.spi_message.specs.Giving.{HasParts, GivesOnly, Compared, with_un, Tested, the_message, its_typing, Examined, the_name, its_type, in_first, in_second, in_left, in_right, in_payload, of_atom}
 use Rattle.spi_message.specs.Added.{AllHaveParts, MessageIsAdded, TypeIsAdded, TypingGives, LabelGives, AtomGives, AtomsGive, GoodGives, AnswerGives}
 use Rattle.spi_message.proofs.Fills.{at_message, message_keeps, values_keep, all_below_keeps}
@@ -64,7 +64,7 @@ in_got [] i d h = absurd (omega arith)
 in_got (x ∷ xs) zero d h = first_of
 in_got (x ∷ xs) (suc i) d h = later_of (in_got xs i d (omega arith))
 
-pub next_atom : {s p r : Store} {env : List TyId} {ids : List AtomId} (a : AtomId) {vs : List MsgId} → AtomsGive s p env ids vs → Keeps s p → AreBelow vs (length s.messages) → (message_in a).place < length s.messages → In a ids → AtomGives p r env a vs → AtomsGive s r env ids vs
+pub next_atom : {s p r : Store} {env : List TyId} {ids : List AtomId} (a : AtomId) {vs : List MsgId} → AtomsGive s p env ids vs → Keeps s p → AreIdsBelow vs (length s.messages) → (message_in a).place < length s.messages → In a ids → AtomGives p r env a vs → AtomsGive s r env ids vs
 next_atom {s} {p} {r} {ids = ids} a {vs} f k v w i g = record {
   at = λ e st hp.
       let fs = fill (values_of s.messages vs) 0 in
@@ -103,13 +103,13 @@ payload_examined {s} {r} {vs = vs} w h = record {
 }
 
 -- over a store that has grown
-later_examined : {s p r : Store} {env ns : List TyId} {y : TyId} {vs ws : List MsgId} → Keeps s p → AreBelow vs (length s.messages) → ns ≡ env → ws ≡ vs → GoodGives p r ns y ws → (e : Env) (u : Ty) → StandFor s env e → Means s y.place u → AllStay (values_of s.messages vs) → AllHaveParts s.messages (values_of s.messages vs) → GivesOnly (Examined e (filled (values_of s.messages vs) u)) p r
+later_examined : {s p r : Store} {env ns : List TyId} {y : TyId} {vs ws : List MsgId} → Keeps s p → AreIdsBelow vs (length s.messages) → ns ≡ env → ws ≡ vs → GoodGives p r ns y ws → (e : Env) (u : Ty) → StandFor s env e → Means s y.place u → AllStay (values_of s.messages vs) → AllHaveParts s.messages (values_of s.messages vs) → GivesOnly (Examined e (filled (values_of s.messages vs) u)) p r
 later_examined {s} {p} {r} {vs = vs} {ws = ws} k v a b g e u st m stay hp =
     let vals : values_of p.messages ws ≡ values_of s.messages vs = ap (values_of p.messages) b ∙ values_keep vs k.messages v in
     let parts : AllHaveParts p.messages (values_of p.messages vs) = all_parts_keep k.messages v hp in
     subst (λ us. GivesOnly (Examined e (filled us u)) p r) vals (g.at e u (subst (λ is. StandFor p is e) (sym a) (stand_keeps k st)) (means_keeps k m) (subst AllStay (sym vals) stay) (subst (λ us. AllHaveParts p.messages (values_of p.messages us)) (sym b) parts))
 
-pub sum_examined : {s p r : Store} {env ns : List TyId} {t x y : TyId} {vs ws : List MsgId} → TwoTys s t x y sum_ty → GoodGives s p env x vs → Keeps s p → AreBelow vs (length s.messages) → ns ≡ env → ws ≡ vs → GoodGives p r ns y ws → GoodGives s r env t vs
+pub sum_examined : {s p r : Store} {env ns : List TyId} {t x y : TyId} {vs ws : List MsgId} → TwoTys s t x y sum_ty → GoodGives s p env x vs → Keeps s p → AreIdsBelow vs (length s.messages) → ns ≡ env → ws ≡ vs → GoodGives p r ns y ws → GoodGives s r env t vs
 sum_examined {s} {r = r} {vs = vs} w h k v a b g = record {
   at = λ e u st m stay hp.
       let z = w.at u m in
@@ -141,15 +141,15 @@ name_added x a = record { messages = adds_as (λ y e. subst (λ z. PartOf z (nam
 
 -- The first type is good, the store has grown by what was asked, by the name and by the first type, and then the
 -- second type is asked for with one more name and one more value.
-pub pair_examined : {s p q r o : Store} {env ns : List TyId} {t x y i : TyId} (m : MsgId) {vs ws : List MsgId} → TwoTys s t x y pair_ty → GoodGives s p env x vs → Keeps s p → AreBelow vs (length s.messages) → Keeps p q → slice_get q.messages m.place ≡ Some (name (length env)) → Adds p q (over_messages (name (length env))) → Keeps q r → FillsTy q r vs 0 x i → TypeIsAdded q r vs 0 x → ns ≡ env ++ i ∷ [] → ws ≡ vs ++ m ∷ [] → GoodGives r o ns y ws → GoodGives s o env t vs
+pub pair_examined : {s p q r o : Store} {env ns : List TyId} {t x y i : TyId} (m : MsgId) {vs ws : List MsgId} → TwoTys s t x y pair_ty → GoodGives s p env x vs → Keeps s p → AreIdsBelow vs (length s.messages) → Keeps p q → slice_get q.messages m.place ≡ Some (name (length env)) → Adds p q (over_messages (name (length env))) → Keeps q r → FillsTy q r vs 0 x i → TypeIsAdded q r vs 0 x → ns ≡ env ++ i ∷ [] → ws ≡ vs ++ m ∷ [] → GoodGives r o ns y ws → GoodGives s o env t vs
 pair_examined {s} {p} {q} {r} {o} {env} {ns} {x = x} {y = y} {i = i} m {vs} {ws} t h k v l at an j f fa a b g = record {
   at = λ e u st mu stay hp.
       let us = values_of s.messages vs in
       let z = t.at u mu in
       let v1 = filled us z.0 in
       let v2 = ty_map (fill us) 1 z.1 in
-      let below_p : AreBelow vs (length p.messages) = all_below_keeps k.messages v in
-      let below_q : AreBelow vs (length q.messages) = all_below_keeps l.messages below_p in
+      let below_p : AreIdsBelow vs (length p.messages) = all_below_keeps k.messages v in
+      let below_q : AreIdsBelow vs (length q.messages) = all_below_keeps l.messages below_p in
       let us_q : values_of q.messages vs ≡ us = values_keep vs l.messages below_p ∙ values_keep vs k.messages v in
       let us_r : values_of r.messages vs ≡ us = values_keep vs j.messages below_q ∙ us_q in
       let hq : AllHaveParts q.messages (values_of q.messages vs) = all_parts_keep l.messages below_p (all_parts_keep k.messages v hp) in

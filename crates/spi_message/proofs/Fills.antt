@@ -9,7 +9,7 @@ use Rattle.spi_intern.specs.declared.messages.MsgId.{MsgId}
 use Rattle.spi_intern.specs.declared.messages.MsgPart.{MsgPart}
 use Rattle.spi_intern.specs.declared.messages.MsgPart.TheVariants.{Bound, Name, Unit as NoParts, Pair, Inl, Inr, Enc, Hash}
 use Rattle.spi_intern.proofs.Lists.{below_get, get_below}
-use Rattle.spi_message.specs.Filling.{last_but, value_of, or_bound, fill, values_of, AreBelow, IsDepth, FillsMessage}
+use Rattle.spi_message.specs.Filling.{last_but, value_of, or_bound, fill, values_of, AreIdsBelow, IsDepth, FillsMessage}
 
 pub at_message : (ms : List Message) (id : MsgId) {m : Message} → slice_get ms id.place ≡ Some m → message_at ms id ≡ m
 at_message ms id e = ap or_unit e
@@ -27,20 +27,20 @@ pub size_keeps : {ms ns : List Message} (id : MsgId) → KeepsAll ms ns → id.p
 size_keeps id k h = ap message_size (message_keeps id k h)
 
 -- lists of numbers
-head_below : (id : MsgId) (ids : List MsgId) (n : ℕ) → AreBelow (id ∷ ids) n → id.place < n
+head_below : (id : MsgId) (ids : List MsgId) (n : ℕ) → AreIdsBelow (id ∷ ids) n → id.place < n
 head_below id ids n h = h.at 0 id refl
 
-tail_below : (id : MsgId) (ids : List MsgId) (n : ℕ) → AreBelow (id ∷ ids) n → AreBelow ids n
+tail_below : (id : MsgId) (ids : List MsgId) (n : ℕ) → AreIdsBelow (id ∷ ids) n → AreIdsBelow ids n
 tail_below id ids n h = record { at = λ i j e. h.at (suc i) j e }
 
-pub all_below_keeps : {ms ns : List Message} {ids : List MsgId} → KeepsAll ms ns → AreBelow ids (length ms) → AreBelow ids (length ns)
+pub all_below_keeps : {ms ns : List Message} {ids : List MsgId} → KeepsAll ms ns → AreIdsBelow ids (length ms) → AreIdsBelow ids (length ns)
 all_below_keeps k h = record { at = λ i id e. below_keeps id k (h.at i id e) }
 
-pub values_keep : {ms ns : List Message} (ids : List MsgId) → KeepsAll ms ns → AreBelow ids (length ms) → values_of ns ids ≡ values_of ms ids
+pub values_keep : {ms ns : List Message} (ids : List MsgId) → KeepsAll ms ns → AreIdsBelow ids (length ms) → values_of ns ids ≡ values_of ms ids
 values_keep [] k h = refl
 values_keep {ms} {ns} (id ∷ ids) k h = λ i. message_keeps id k (head_below id ids (length ms) h) i ∷ values_keep ids k (tail_below id ids (length ms) h) i
 
-pub none_below : (n : ℕ) → AreBelow [] n
+pub none_below : (n : ℕ) → AreIdsBelow [] n
 none_below n = record { at = λ i id e. absurd cc }
 
 -- a message with two parts, and with one
@@ -154,16 +154,16 @@ pub fills_unit : {ms : List Message} {vs : List MsgId} {depth : ℕ} {m : MsgId}
 fills_unit {ms} {vs} h e = fills_same h (λ d. ap (fill (values_of ms vs) d) e ∙ sym e)
 
 -- the parts of a message with values for its indices
-pub two_values : {ls ms ns : List Message} {vs : List MsgId} {depth : ℕ} {a b x y : MsgId} → KeepsAll ls ms → AreBelow vs (length ls) → b.place < length ls → FillsMessage ls ms vs depth a x → KeepsAll ms ns → FillsMessage ms ns vs depth b y → (d : ℕ) → IsDepth d depth → (slice_get ns x.place ≡ Some (fill (values_of ls vs) d (message_at ls a))) × (slice_get ns y.place ≡ Some (fill (values_of ls vs) d (message_at ls b)))
+pub two_values : {ls ms ns : List Message} {vs : List MsgId} {depth : ℕ} {a b x y : MsgId} → KeepsAll ls ms → AreIdsBelow vs (length ls) → b.place < length ls → FillsMessage ls ms vs depth a x → KeepsAll ms ns → FillsMessage ms ns vs depth b y → (d : ℕ) → IsDepth d depth → (slice_get ns x.place ≡ Some (fill (values_of ls vs) d (message_at ls a))) × (slice_get ns y.place ≡ Some (fill (values_of ls vs) d (message_at ls b)))
 two_values {vs = vs} {b = b} k v w f l g d e =
     (l.at _ _ (f.at d e), g.at d e ∙ (λ i. Some (fill (values_keep vs k v i) d (message_keeps b k w i))))
 
-pub fills_pair : {E : Type 0} {ls ms ns : List Message} (os : List Message) {vs : List MsgId} {depth : ℕ} {m a b x y : MsgId} → TwoOf ls m a b pair → KeepsAll ls ms → AreBelow vs (length ls) → FillsMessage ls ms vs depth a x → KeepsAll ms ns → FillsMessage ms ns vs depth b y → (r : Result MsgId E) → IfOk r (λ id. (n : Message) → Says ns (Pair x y) n → slice_get os id.place ≡ Some n) → IfOk r (FillsMessage ls os vs depth m)
+pub fills_pair : {E : Type 0} {ls ms ns : List Message} (os : List Message) {vs : List MsgId} {depth : ℕ} {m a b x y : MsgId} → TwoOf ls m a b pair → KeepsAll ls ms → AreIdsBelow vs (length ls) → FillsMessage ls ms vs depth a x → KeepsAll ms ns → FillsMessage ms ns vs depth b y → (r : Result MsgId E) → IfOk r (λ id. (n : Message) → Says ns (Pair x y) n → slice_get os id.place ≡ Some n) → IfOk r (FillsMessage ls os vs depth m)
 fills_pair {ls = ls} os {vs = vs} t k v f l g (Ok id) at =
     record { at = λ d e. let w = two_values k v t.second f l g d e in at _ (says_pair w.0 w.1) ∙ ap (λ n. Some (fill (values_of ls vs) d n)) (sym t.is) }
 fills_pair os t k v f l g (Err e) at = tt
 
-pub fills_enc : {E : Type 0} {ls ms ns : List Message} (os : List Message) {vs : List MsgId} {depth : ℕ} {m a b x y : MsgId} → TwoOf ls m a b enc → KeepsAll ls ms → AreBelow vs (length ls) → FillsMessage ls ms vs depth a x → KeepsAll ms ns → FillsMessage ms ns vs depth b y → (r : Result MsgId E) → IfOk r (λ id. (n : Message) → Says ns (Enc x y) n → slice_get os id.place ≡ Some n) → IfOk r (FillsMessage ls os vs depth m)
+pub fills_enc : {E : Type 0} {ls ms ns : List Message} (os : List Message) {vs : List MsgId} {depth : ℕ} {m a b x y : MsgId} → TwoOf ls m a b enc → KeepsAll ls ms → AreIdsBelow vs (length ls) → FillsMessage ls ms vs depth a x → KeepsAll ms ns → FillsMessage ms ns vs depth b y → (r : Result MsgId E) → IfOk r (λ id. (n : Message) → Says ns (Enc x y) n → slice_get os id.place ≡ Some n) → IfOk r (FillsMessage ls os vs depth m)
 fills_enc {ls = ls} os {vs = vs} t k v f l g (Ok id) at =
     record { at = λ d e. let w = two_values k v t.second f l g d e in at _ (says_enc w.0 w.1) ∙ ap (λ n. Some (fill (values_of ls vs) d n)) (sym t.is) }
 fills_enc os t k v f l g (Err e) at = tt
@@ -219,7 +219,7 @@ value_in ids d i v = by (nat_lt i d)
     by true e = absurd cc
     by false e = last_in ids (i - d) v e
 
-pub fills_value : {ms : List Message} {vs : List MsgId} {depth i : ℕ} {m v : MsgId} → message_at ms m ≡ bound i → AreBelow vs (length ms) → ((d : ℕ) → IsDepth d depth → Some v ≡ value_of vs d i) → FillsMessage ms ms vs depth m v
+pub fills_value : {ms : List Message} {vs : List MsgId} {depth i : ℕ} {m v : MsgId} → message_at ms m ≡ bound i → AreIdsBelow vs (length ms) → ((d : ℕ) → IsDepth d depth → Some v ≡ value_of vs d i) → FillsMessage ms ms vs depth m v
 fills_value {ms} {vs} {depth} {i} {m} {v} b h f = record {
   at = λ d e.
       let w = value_in vs d i v (sym (f d e)) in

@@ -23,7 +23,7 @@ use Rattle.spi_intern.specs.declared.store.TyPart.TheVariants as Part
 use Rattle.spi_intern.proofs.Lists.{get_below}
 use Rattle.spi_intern.proofs.Tables.{tells_map, tells_push}
 use Rattle.spi_intern.proofs.Meanings.{means_keeps}
-use Rattle.spi_message.specs.Filling.{fill, values_of, atom_at, message_in, AreBelow, AtomsAreBelow, IsDepth, FillsMessage, FillsAtom, FillsAtoms, FillsTy, kind_size, ty_size}
+use Rattle.spi_message.specs.Filling.{fill, values_of, atom_at, message_in, AreIdsBelow, AtomsAreBelow, IsDepth, FillsMessage, FillsAtom, FillsAtoms, FillsTy, kind_size, ty_size}
 use Rattle.spi_message.proofs.Fills.{at_message, message_keeps, below_keeps, values_keep}
 use denote.Ref.{Bor}
 
@@ -58,7 +58,7 @@ atom_at_keeps (End m) k h = ap ends (message_keeps m k h)
 atom_at_keeps (Check m) k h = ap checks (message_keeps m k h)
 atom_at_keeps (Many m) k h = ap many (message_keeps m k h)
 
-pub atoms_next : {ls ms ns : List Message} {vs : List MsgId} {depth : ℕ} {xs ys zs rs : List AtomId} {a r : AtomId} → KeepsAll ls ms → AreBelow vs (length ls) → (message_in a).place < length ls → FillsAtoms ls ms vs depth xs rs → KeepsAll ms ns → FillsAtom ms ns vs depth a r → ys ≡ xs ++ a ∷ [] → zs ≡ rs ++ r ∷ [] → FillsAtoms ls ns vs depth ys zs
+pub atoms_next : {ls ms ns : List Message} {vs : List MsgId} {depth : ℕ} {xs ys zs rs : List AtomId} {a r : AtomId} → KeepsAll ls ms → AreIdsBelow vs (length ls) → (message_in a).place < length ls → FillsAtoms ls ms vs depth xs rs → KeepsAll ms ns → FillsAtom ms ns vs depth a r → ys ≡ xs ++ a ∷ [] → zs ≡ rs ++ r ∷ [] → FillsAtoms ls ns vs depth ys zs
 atoms_next {ls} {ms} {ns} {vs} {xs = xs} {ys = ys} {rs = rs} {a = a} {r = r} k v w f l g p q = record {
   at = λ d h.
       let one : SaysAtom ns r (atom_map (fill (values_of ls vs) d) (atom_at ls a)) = subst (λ b. SaysAtom ns r b) (λ i. atom_map (fill (values_keep vs k v i) d) (atom_at_keeps a k w i)) (g.at d h) in
@@ -208,10 +208,10 @@ fills_un {s} {vs} {t = t} f = record { at = λ d u h m. subst (λ w. Means s t.p
 pub fills_unit_ty : {s : Store} {vs : List MsgId} {depth : ℕ} {t : TyId} → ((u : Ty) → Means s t.place u → u ≡ unit_ty) → FillsTy s s vs depth t t
 fills_unit_ty {s} {vs} {t = t} f = record { at = λ d u h m. subst (λ w. Means s t.place (ty_map (fill (values_of s.messages vs)) d w)) (sym (f u m)) (subst (Means s t.place) (f u m) m) }
 
-later_fill : {s p q : Store} {vs : List MsgId} {depth : ℕ} {b y : TyId} {w : Ty} → Keeps s p → AreBelow vs (length s.messages) → FillsTy p q vs depth b y → (d : ℕ) → IsDepth d depth → Means s b.place w → Means q y.place (ty_map (fill (values_of s.messages vs)) d w)
+later_fill : {s p q : Store} {vs : List MsgId} {depth : ℕ} {b y : TyId} {w : Ty} → Keeps s p → AreIdsBelow vs (length s.messages) → FillsTy p q vs depth b y → (d : ℕ) → IsDepth d depth → Means s b.place w → Means q y.place (ty_map (fill (values_of s.messages vs)) d w)
 later_fill {s} {q = q} {vs = vs} {y = y} {w = w} k v g d h m = subst (λ us. Means q y.place (ty_map (fill us) d w)) (values_keep vs k.messages v) (g.at d w h (means_keeps k m))
 
-pub fills_pair_ty : {E : Type 0} {s p q : Store} (r : Store) {vs : List MsgId} {depth deep : ℕ} {t a b x y : TyId} → TwoTys s t a b pair_ty → Keeps s p → AreBelow vs (length s.messages) → FillsTy s p vs depth a x → ((d : ℕ) → IsDepth d depth → IsDepth (suc d) deep) → Keeps p q → FillsTy p q vs deep b y → (o : Result TyId E) → IfOk o (λ id. (v w : Ty) → Means q x.place v → Means q y.place w → Means r id.place (pair_ty v w)) → IfOk o (FillsTy s r vs depth t)
+pub fills_pair_ty : {E : Type 0} {s p q : Store} (r : Store) {vs : List MsgId} {depth deep : ℕ} {t a b x y : TyId} → TwoTys s t a b pair_ty → Keeps s p → AreIdsBelow vs (length s.messages) → FillsTy s p vs depth a x → ((d : ℕ) → IsDepth d depth → IsDepth (suc d) deep) → Keeps p q → FillsTy p q vs deep b y → (o : Result TyId E) → IfOk o (λ id. (v w : Ty) → Means q x.place v → Means q y.place w → Means r id.place (pair_ty v w)) → IfOk o (FillsTy s r vs depth t)
 fills_pair_ty {s = s} r {vs = vs} t k v f n l g (Ok id) at = record {
   at = λ d u h m.
       let z = t.at u m in
@@ -219,7 +219,7 @@ fills_pair_ty {s = s} r {vs = vs} t k v f n l g (Ok id) at = record {
 }
 fills_pair_ty r t k v f n l g (Err e) at = tt
 
-pub fills_sum_ty : {E : Type 0} {s p q : Store} (r : Store) {vs : List MsgId} {depth : ℕ} {t a b x y : TyId} → TwoTys s t a b sum_ty → Keeps s p → AreBelow vs (length s.messages) → FillsTy s p vs depth a x → Keeps p q → FillsTy p q vs depth b y → (o : Result TyId E) → IfOk o (λ id. (v w : Ty) → Means q x.place v → Means q y.place w → Means r id.place (sum_ty v w)) → IfOk o (FillsTy s r vs depth t)
+pub fills_sum_ty : {E : Type 0} {s p q : Store} (r : Store) {vs : List MsgId} {depth : ℕ} {t a b x y : TyId} → TwoTys s t a b sum_ty → Keeps s p → AreIdsBelow vs (length s.messages) → FillsTy s p vs depth a x → Keeps p q → FillsTy p q vs depth b y → (o : Result TyId E) → IfOk o (λ id. (v w : Ty) → Means q x.place v → Means q y.place w → Means r id.place (sum_ty v w)) → IfOk o (FillsTy s r vs depth t)
 fills_sum_ty {s = s} r {vs = vs} t k v f l g (Ok id) at = record {
   at = λ d u h m.
       let z = t.at u m in

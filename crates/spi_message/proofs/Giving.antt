@@ -17,7 +17,7 @@ use Rattle.spi_intern.proofs.Grown.{has_kept}
 use Rattle.spi_intern.proofs.Counted.{counted, counted_at_least}
 use Rattle.spi_message.specs.Filling.{values_of}
 use Rattle.spi_message.specs.Judging.{Numbered}
-use Rattle.spi_message.specs.Giving.{HasParts, Grows, grows_none, grows_next, GivesOnly, Compared, with_un, with_type, with_payload, Tested, the_message, its_typing, Examined, the_name, its_type, in_first as from_first, in_second, in_left, in_right, in_payload, of_atom, IsWhole, whole_message, whole_type, AreWhole, HasGiven, HasGivenAtLeast}
+use Rattle.spi_message.specs.Giving.{HasParts, GrowsBy, grows_none, grows_next, GivesOnly, Compared, with_un, with_type, with_payload, Tested, the_message, its_typing, Examined, the_name, its_type, in_first as from_first, in_second, in_left, in_right, in_payload, of_atom, IsWhole, whole_message, whole_type, AreWhole, HasGiven, HasGivenAtLeast}
 use Rattle.spi_message.specs.Added.{TypeIsAdded}
 use Rattle.spi_message.proofs.Fills.{at_message}
 use Rattle.spi_message.proofs.Typings.{filled_one}
@@ -33,11 +33,11 @@ in_before : {A : Type 0} {x : A} {xs : List A} (ys : List A) → In x xs → In 
 in_before ys first_of = first_of
 in_before ys (later_of h) = later_of (in_before ys h)
 
-pub grows_keeps : {s r : Store} {gs : List Given} → Grows s gs r → Keeps s r
+pub grows_keeps : {s r : Store} {gs : List Given} → GrowsBy s gs r → Keeps s r
 grows_keeps {s} grows_none = terms_same s
 grows_keeps (grows_next w k a) = terms_more (grows_keeps w) k
 
-grows_more : {s q r : Store} {gs hs : List Given} → Grows s gs q → Grows q hs r → Grows s (hs ++ gs) r
+grows_more : {s q r : Store} {gs hs : List Given} → GrowsBy s gs q → GrowsBy q hs r → GrowsBy s (hs ++ gs) r
 grows_more w grows_none = w
 grows_more w (grows_next z k a) = grows_next (grows_more w z) k a
 
@@ -142,21 +142,21 @@ judged_counted gs s w d = counted gs s w.gave d
 pub least_counted : (gs : List Given) (s : Store) → HasGivenAtLeast gs s → NoneTwice s → CountsPartsAtLeast gs s
 least_counted gs s w d = counted_at_least gs s w.gave d
 
-gave_more : {gs : List Given} {s : Store} {hs : List Given} {r : Store} → Gave gs s → Grows s hs r → Gave (hs ++ gs) r
+gave_more : {gs : List Given} {s : Store} {hs : List Given} {r : Store} → Gave gs s → GrowsBy s hs r → Gave (hs ++ gs) r
 gave_more w grows_none = w
 gave_more w (grows_next z k a) = gave_next (gave_more w z) k a
 
-least_more : {gs : List Given} {s : Store} {hs : List Given} {r : Store} → GaveAtLeast gs s → Grows s hs r → GaveAtLeast (hs ++ gs) r
+least_more : {gs : List Given} {s : Store} {hs : List Given} {r : Store} → GaveAtLeast gs s → GrowsBy s hs r → GaveAtLeast (hs ++ gs) r
 least_more w grows_none = w
 least_more w (grows_next z k a) = gave_also (least_more w z) k a
 
 whole_more : {gs : List Given} (hs : List Given) → AreWhole hs → AreWhole gs → AreWhole (hs ++ gs)
 whole_more {gs} hs z w = record { each = λ g i. ⊎_elim (λ a. z.each g a) (λ a. w.each g a) (in_either hs gs i) }
 
-pub judged_next : (gs hs : List Given) (s r : Store) → HasGiven gs s → Grows s hs r → AreWhole hs → HasGiven (hs ++ gs) r
+pub judged_next : (gs hs : List Given) (s r : Store) → HasGiven gs s → GrowsBy s hs r → AreWhole hs → HasGiven (hs ++ gs) r
 judged_next gs hs s r w z h = record { gave = gave_more w.gave z; whole = whole_more hs h w.whole }
 
-pub least_next : (gs hs : List Given) (s r : Store) → HasGivenAtLeast gs s → Grows s hs r → AreWhole hs → HasGivenAtLeast (hs ++ gs) r
+pub least_next : (gs hs : List Given) (s r : Store) → HasGivenAtLeast gs s → GrowsBy s hs r → AreWhole hs → HasGivenAtLeast (hs ++ gs) r
 least_next gs hs s r w z h = record { gave = least_more w.gave z; whole = whole_more hs h w.whole }
 
 pub first_given : {s r : Store} {t : Ty} → s.messages ≡ [] → s.types ≡ [] → Keeps s r → Adds s r (a_type t) → HasGiven (a_type t ∷ []) r

@@ -21,7 +21,7 @@ use Rattle.spi_intern.specs.declared.store.Store.{Store}
 use Rattle.spi_intern.proofs.Lists.{truths, get_below}
 use Rattle.spi_intern.proofs.Meanings.{means_keeps}
 use Rattle.spi_message.specs.Judging.{StandFor}
-use Rattle.spi_message.specs.Filling.{fill, filled, AllStay, values_of, atom_at, message_in, AreBelow, AtomsAreBelow, FillsMessage, FillsTy, kind_size}
+use Rattle.spi_message.specs.Filling.{fill, filled, AllStay, values_of, atom_at, message_in, AreIdsBelow, AtomsAreBelow, FillsMessage, FillsTy, kind_size}
 use Rattle.spi_message.specs.Asking.{IsEnvironment, IsTyped, IsLabelled, IsGoodAtom, IsAskedAtoms, AreGood, IsAskedGood, IsGood}
 use Rattle.spi_message.specs.Tests.{typed, labelled, good_atom, good_effect, good}
 use Rattle.spi_message.proofs.Deciding.{good_effect_true, good_effect_from, good-pair, good_of_sum}
@@ -83,12 +83,12 @@ drop_all (x ∷ xs) zero h = absurd (omega arith)
 drop_all (x ∷ xs) (suc i) h = drop_all xs i (omega arith)
 
 -- an answer on an atom, over a store that has grown
-good_later : {s r : Store} {env : List TyId} {a : AtomId} {vs : List MsgId} {b : Bool} → Keeps s r → (message_in a).place < length s.messages → AreBelow vs (length s.messages) → IsGoodAtom r env a vs b → IsGoodAtom s env a vs b
+good_later : {s r : Store} {env : List TyId} {a : AtomId} {vs : List MsgId} {b : Bool} → Keeps s r → (message_in a).place < length s.messages → AreIdsBelow vs (length s.messages) → IsGoodAtom r env a vs b → IsGoodAtom s env a vs b
 good_later {a = a} {vs = vs} k l v h = record {
   at = λ e st. h.at e (stand_keeps k st) ∙ (λ i. good_atom (atom_map (fill (values_keep vs k.messages v i) 0) (atom_at_keeps a k.messages l i)) e);
 }
 
-pub same_next : {s r : Store} {env : List TyId} {ids rest more : List AtomId} {a : AtomId} {vs : List MsgId} {b : Bool} → SameFrom s env ids rest vs → rest ≡ a ∷ more → Keeps s r → (message_in a).place < length s.messages → AreBelow vs (length s.messages) → IsGoodAtom r env a vs b → b ≡ true → SameFrom s env ids more vs
+pub same_next : {s r : Store} {env : List TyId} {ids rest more : List AtomId} {a : AtomId} {vs : List MsgId} {b : Bool} → SameFrom s env ids rest vs → rest ≡ a ∷ more → Keeps s r → (message_in a).place < length s.messages → AreIdsBelow vs (length s.messages) → IsGoodAtom r env a vs b → b ≡ true → SameFrom s env ids more vs
 same_next {s} {more = more} {a = a} {vs = vs} h q k l v g w = record {
   at = λ e st.
       let f = λ (xs : List AtomId). effect_map (fill (values_of s.messages vs) 0) (map (atom_at s.messages) xs) in
@@ -96,7 +96,7 @@ same_next {s} {more = more} {a = a} {vs = vs} h q k l v g w = record {
       h.at e st ∙ ap (λ xs. good_effect (f xs) e) q ∙ ap (λ c. c && good_effect (f more) e) z;
 }
 
-pub same_stop : {s r : Store} {env : List TyId} {ids rest more : List AtomId} {a : AtomId} {vs : List MsgId} {b : Bool} → SameFrom s env ids rest vs → rest ≡ a ∷ more → Keeps s r → (message_in a).place < length s.messages → AreBelow vs (length s.messages) → IsGoodAtom r env a vs b → b ≡ false → AreGood s env ids vs false
+pub same_stop : {s r : Store} {env : List TyId} {ids rest more : List AtomId} {a : AtomId} {vs : List MsgId} {b : Bool} → SameFrom s env ids rest vs → rest ≡ a ∷ more → Keeps s r → (message_in a).place < length s.messages → AreIdsBelow vs (length s.messages) → IsGoodAtom r env a vs b → b ≡ false → AreGood s env ids vs false
 same_stop {s} {more = more} {a = a} {vs = vs} h q k l v g w = record {
   at = λ e st.
       let f = λ (xs : List AtomId). effect_map (fill (values_of s.messages vs) 0) (map (atom_at s.messages) xs) in
@@ -132,12 +132,12 @@ nonce_good {s = s} {ids = ids} {js = js} {env = env} {ns = ns} {vs = vs} t p q r
 }
 nonce_good t p q r (Err x) h = tt
 
-later_good : {s r : Store} {env ns : List TyId} {t : TyId} {vs ws : List MsgId} {c : Bool} → Keeps s r → AreBelow vs (length s.messages) → ns ≡ env → ws ≡ vs → IsGood r ns t ws c → (e : Env) (u : Ty) → StandFor s env e → Means s t.place u → AllStay (values_of s.messages vs) → c ≡ good e (filled (values_of s.messages vs) u)
+later_good : {s r : Store} {env ns : List TyId} {t : TyId} {vs ws : List MsgId} {c : Bool} → Keeps s r → AreIdsBelow vs (length s.messages) → ns ≡ env → ws ≡ vs → IsGood r ns t ws c → (e : Env) (u : Ty) → StandFor s env e → Means s t.place u → AllStay (values_of s.messages vs) → c ≡ good e (filled (values_of s.messages vs) u)
 later_good {s} {r} {vs = vs} {ws = ws} k v p q h e u st m a =
     let vals : values_of r.messages ws ≡ values_of s.messages vs = ap (values_of r.messages) q ∙ values_keep vs k.messages v in
     h.at e u (subst (λ is. StandFor r is e) (sym p) (stand_keeps k st)) (means_keeps k m) (subst AllStay (sym vals) a) ∙ ap (λ us. good e (filled us u)) vals
 
-pub sum_good : {E : Type 0} {s r : Store} {env ns : List TyId} {t x y : TyId} {vs ws : List MsgId} {c : Bool} → TwoTys s t x y sum_ty → IsGood s env x vs c → c ≡ true → Keeps s r → AreBelow vs (length s.messages) → ns ≡ env → ws ≡ vs → (o : Result Bool E) → IfOk o (IsGood r ns y ws) → IfOk o (IsGood s env t vs)
+pub sum_good : {E : Type 0} {s r : Store} {env ns : List TyId} {t x y : TyId} {vs ws : List MsgId} {c : Bool} → TwoTys s t x y sum_ty → IsGood s env x vs c → c ≡ true → Keeps s r → AreIdsBelow vs (length s.messages) → ns ≡ env → ws ≡ vs → (o : Result Bool E) → IfOk o (IsGood r ns y ws) → IfOk o (IsGood s env t vs)
 sum_good {s = s} {vs = vs} t h q k v p j (Ok b) g = record {
   at = λ e u st m w.
       let us = values_of s.messages vs in
@@ -172,7 +172,7 @@ name_stays x n d = refl
 
 -- The first type is good, the store has grown by what was asked, by the name and by the first type, and then the
 -- second type is asked for with one more name and one more value.
-pub pair_good : {E : Type 0} {s p q r : Store} {env ns : List TyId} {t x y o : TyId} (m : MsgId) {vs ws : List MsgId} {c : Bool} → TwoTys s t x y pair_ty → IsGood s env x vs c → c ≡ true → Keeps s p → AreBelow vs (length s.messages) → Keeps p q → slice_get q.messages m.place ≡ Some (name (length env)) → Keeps q r → FillsTy q r vs 0 x o → ns ≡ env ++ o ∷ [] → ws ≡ vs ++ m ∷ [] → (z : Result Bool E) → IfOk z (IsGood r ns y ws) → IfOk z (IsGood s env t vs)
+pub pair_good : {E : Type 0} {s p q r : Store} {env ns : List TyId} {t x y o : TyId} (m : MsgId) {vs ws : List MsgId} {c : Bool} → TwoTys s t x y pair_ty → IsGood s env x vs c → c ≡ true → Keeps s p → AreIdsBelow vs (length s.messages) → Keeps p q → slice_get q.messages m.place ≡ Some (name (length env)) → Keeps q r → FillsTy q r vs 0 x o → ns ≡ env ++ o ∷ [] → ws ≡ vs ++ m ∷ [] → (z : Result Bool E) → IfOk z (IsGood r ns y ws) → IfOk z (IsGood s env t vs)
 pair_good {s = s} {p = p} {q = q} {r = r} {env = env} {ns = ns} {x = x} {y = y} {o = o} m {vs = vs} {ws = ws} t h w k v l at j f a b (Ok d) g = record {
   at = λ e u st mu stay.
       let us = values_of s.messages vs in
@@ -180,7 +180,7 @@ pair_good {s = s} {p = p} {q = q} {r = r} {env = env} {ns = ns} {x = x} {y = y} 
       let v1 = filled us z.0 in
       let v2 = ty_map (fill us) 1 z.1 in
       let good_one : good e v1 ≡ true = sym (h.at e z.0 st z.3 stay) ∙ w in
-      let below_q : AreBelow vs (length q.messages) = all_below_keeps l.messages (all_below_keeps k.messages v) in
+      let below_q : AreIdsBelow vs (length q.messages) = all_below_keeps l.messages (all_below_keeps k.messages v) in
       let us_q : values_of q.messages vs ≡ us = values_keep vs l.messages (all_below_keeps k.messages v) ∙ values_keep vs k.messages v in
       let us_r : values_of r.messages vs ≡ us = values_keep vs j.messages below_q ∙ us_q in
       let means_o : Means r o.place v1 = subst (λ ns. Means r o.place (filled ns z.0)) us_q (f.at 0 z.0 (omega arith) (means_keeps l (means_keeps k z.3))) in
@@ -205,7 +205,7 @@ pub asked_good_later : {s r : Store} {env ns : List TyId} {t x : TyId} {vs ws : 
 asked_good_later {r = r} {x = x} k h g l p q = record {
   names = subst (IsEnvironment r) (sym p) (environment_keeps k h.names);
   given = given_keeps k g;
-  values = subst (λ us. AreBelow us (length r.messages)) (sym q) (all_below_keeps k.messages h.values);
+  values = subst (λ us. AreIdsBelow us (length r.messages)) (sym q) (all_below_keeps k.messages h.values);
   few = let f = h.few in let e = size_of_kept x k g in let n = ap length p in omega arith;
 }
 
@@ -227,5 +227,5 @@ pub asked_atoms : {s : Store} {env ns : List TyId} {ids js : List AtomId} {t : T
 asked_atoms {s} h a p q r = record {
   names = subst (IsEnvironment s) (sym q) h.names;
   atoms = subst (λ is. AtomsAreBelow is (length s.messages)) (sym p) a;
-  values = subst (λ us. AreBelow us (length s.messages)) (sym r) h.values;
+  values = subst (λ us. AreIdsBelow us (length s.messages)) (sym r) h.values;
 }

@@ -17,7 +17,7 @@ use Rattle.spi_intern.specs.declared.messages.MsgId.{MsgId}
 use Rattle.spi_intern.specs.declared.types.TyId.{TyId}
 use Rattle.spi_intern.specs.declared.store.Store.{Store}
 use Rattle.spi_message.specs.Judging.{Numbered, StandFor, stand_none, Stands, IsGivenSmall, IsKept, IsJudge}
-use Rattle.spi_message.specs.Filling.{FillsTy, AreBelow, ty_size}
+use Rattle.spi_message.specs.Filling.{FillsTy, AreIdsBelow, ty_size}
 use Rattle.spi_message.specs.Asking.{IsEnvironment, IsTyped, IsLabelled, IsGood, IsAskedGood}
 use Rattle.spi_message.specs.Tests.{typed, labelled, good}
 use Rattle.spi_message.proofs.Deciding.{typed_true, typed_from, labelled_true, labelled_from, good_true, good_from}
@@ -133,7 +133,7 @@ pub small_asked : {s : Store} {ids : List TyId} {t : TyId} {vs : List MsgId} →
 small_asked {s} {t = t} h g q = record {
   names = h;
   given = record { type = g.type; means = g.means };
-  values = subst (λ us. AreBelow us (length s.messages)) (sym q) (none_below (length s.messages));
+  values = subst (λ us. AreIdsBelow us (length s.messages)) (sym q) (none_below (length s.messages));
   few = let e = means_size s t g.means in let w = size_within g.type in let l = g.few in omega arith;
 }
 

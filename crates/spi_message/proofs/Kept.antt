@@ -16,7 +16,7 @@ use Rattle.spi_message.specs.declared.answers.Asked.TheVariants.{Typed, Labelled
 use Rattle.spi_message.specs.declared.answers.Question.{Question}
 use Rattle.spi_message.specs.Judging.{StandFor}
 use Rattle.spi_message.specs.Asking.{IsEnvironment}
-use Rattle.spi_message.specs.Answered.{Entries, question, Tells, CanAsk, IsAnswer, AreAnswers, Holds, EndsWithin, IsInside}
+use Rattle.spi_message.specs.Answered.{Entries, question, Tells, CanAsk, IsAnswer, AreAnswers, IsKeptAnswer, EndsWithin, IsInside}
 use Rattle.spi_message.proofs.Earlier.{message_back, means_back, stand_back}
 use Rattle.spi_message.proofs.Fills.{below_keeps}
 use Rattle.spi_message.proofs.Judges.{judge_keeps, judge_bound, judge_unbound}
@@ -118,7 +118,7 @@ one_more {s} {r} {ids} {fs = fs} n a b k w p v e c t ks =
     subst (λ is. AreAnswers r is fs) (sym p) (answers_push n a b v e (can_keeps k n a d) (tells_keeps k w.stands n a b d t) (answers_keep k w.stands ks))
 
 -- the answer that is found
-pub answer_held : {s : Store} {ids : List TyId} {es : Entries} (n : ℕ) (a : Asked) (b : Bool) → n ≡ length ids → AreAnswers s ids es → Holds es (question n a) b → Tells s ids a b
+pub answer_held : {s : Store} {ids : List TyId} {es : Entries} (n : ℕ) (a : Asked) (b : Bool) → n ≡ length ids → AreAnswers s ids es → IsKeptAnswer es (question n a) b → Tells s ids a b
 answer_held {s} {ids} n a b v ks h = subst (λ is. Tells s is a b) (take_all n ids (omega arith)) (ks.each h.place (question n a) b h.at).tells
 
 -- what holds of every judge goes on to hold

@@ -14,7 +14,7 @@ use Rattle.spi_message.specs.declared.answers.Asked.TheVariants.{Typed, Labelled
 use Rattle.spi_message.specs.declared.answers.Question.{Question}
 use Rattle.spi_message.specs.contracts.answers.AskedPartialEq.TheImpl.{eq-value as eq_of_asked}
 use Rattle.spi_message.specs.contracts.answers.QuestionPartialEq.TheImpl.{eq-value as eq_of_questions}
-use Rattle.spi_message.specs.Answered.{Entries, Holds, IsNew}
+use Rattle.spi_message.specs.Answered.{Entries, IsKeptAnswer, IsNew}
 
 abbrev asked_eq : Asked → Asked → Bool
 asked_eq = eq_of_asked.it
@@ -70,7 +70,7 @@ passed test (x ∷ es) (suc i) q b h t e = passed test es i q b h t (rest (test 
     rest false e = e
 
 -- what a look-up finds
-pub got_some : (es : Entries) (q : Question) (o : Option Bool) → o ≡ lookup (question_eq q) es → IfSome o (Holds es q)
+pub got_some : (es : Entries) (q : Question) (o : Option Bool) → o ≡ lookup (question_eq q) es → IfSome o (IsKeptAnswer es q)
 got_some es q None h = tt
 got_some es q (Some b) h =
     let w = place_from_lookup (question_eq q) es b (sym h) in

@@ -2,7 +2,7 @@
 use Rattle.std.proofs.Common.{◌≡◌, ℕ, zero, suc, ◌+◌, ◌-◌, ◌<◌, ◌≤◌, Bool, true, false, List, [], ◌∷◌, ◌++◌, length, Some, refl, sym, ap, ◌∙◌, arith, ⊎_elim, eq-eqb, length-append}
 use Rattle.std.specs.Prelude.{slice_get, if◌then◌else◌, nat_lt, ⊤}
 use Rattle.std.proofs.lemmas.Bool.{cases_lt, cases_eq, lt-ltb, le-ltb, ne_eqb}
-use Rattle.spi_term.specs.Term.{Message, bound, name, unit, pair, in_left, in_right, enc, hash, Leaf, Prefix, Recvs, Serves, Splits, Selects, Decrypts, Checks, Begins, Ends, EndManys, Casts, Makes, Fork, Cases, Pars, Process, leaf, prefix, fork, binds, fork_binds, process_size}
+use Rattle.spi_term.specs.Term.{Message, bound, name, unit, pair, in_left, in_right, enc, hash, Leaf, Prefix, Recvs, Serves, Splits, Selects, Decrypts, Checks, Begins, Ends, EndManys, Casts, Freshes, Fork, Branches, Pars, Process, leaf, prefix, fork, binds, fork_binds, process_size}
 use Rattle.spi_term.specs.Substitution.{process_map, leaf_map, prefix_map, fork_map, put}
 use Rattle.spi_term.specs.Spelling.{under, named, name_message, numbered}
 use Rattle.spi_term.proofs.Terms.{binds_map, fork_binds_map}
@@ -148,7 +148,7 @@ length_more e (Splits m t u) = refl
 length_more e (Begins m) = refl
 length_more e (Ends m) = refl
 length_more e (EndManys m) = refl
-length_more e (Makes t) = refl
+length_more e (Freshes t) = refl
 
 -- a form with one process, its binders opened with the next numbers
 pub numbered_prefix : (e : Env) (s : Prefix) (p : Process) → numbered [] (length e) (prefix s p) ≡ prefix s (numbered [] (length (e ++ more e s)) (enter (binds s) (length e) p))
@@ -161,11 +161,11 @@ numbered_prefix e s p =
 
 pub length_first : (f : Fork) → length (on_first f) ≡ fork_binds f
 length_first Pars = refl
-length_first (Cases m t u) = refl
+length_first (Branches m t u) = refl
 
 pub length_rest : (f : Fork) → length (on_rest f) ≡ fork_binds f
 length_rest Pars = refl
-length_rest (Cases m t u) = refl
+length_rest (Branches m t u) = refl
 
 numbered_child : (e g : Env) (b : ℕ) (p : Process) → length g ≡ b → numbered (under b (length e) []) (length e + b) p ≡ numbered [] (length (e ++ g)) (enter b (length e) p)
 numbered_child e g b p h =

@@ -23,7 +23,7 @@ use Rattle.spi_intern.proofs.Lists.{truths}
 use Rattle.spi_intern.proofs.Meanings.{means_keeps}
 use Rattle.spi_intern.proofs.Telling.{types_tell}
 use Rattle.spi_message.specs.Judging.{StandFor}
-use Rattle.spi_message.specs.Filling.{fill, filled, AllStay, values_of, AreBelow, FillsTy}
+use Rattle.spi_message.specs.Filling.{fill, filled, AllStay, values_of, AreIdsBelow, FillsTy}
 use Rattle.spi_message.specs.Asking.{IsEnvironment, IsAsked, IsTyped, IsLabelled, IsKeyFor, IsNoKey, IsPayload, IsNoPayload}
 use Rattle.spi_message.specs.Tests.{is_un, is_unit, as_name, as_pair, as_left, as_right, key_in, key_of, by_key, typed, labelled}
 use Rattle.spi_message.proofs.Deciding.{and_false, key_alone}
@@ -212,7 +212,7 @@ right_sum {s = s} env a vs t (Ok b) h = record {
 right_sum env a vs t (Err x) h = tt
 
 -- an answer over a store that has grown
-pub later_typed : {s r : Store} {env : List TyId} {b : MsgId} {t : TyId} {vs ws : List MsgId} {c : Bool} → Keeps s r → b.place < length s.messages → AreBelow vs (length s.messages) → ws ≡ vs → IsTyped r env (message_at r.messages b) t ws c → IsTyped s env (message_at s.messages b) t vs c
+pub later_typed : {s r : Store} {env : List TyId} {b : MsgId} {t : TyId} {vs ws : List MsgId} {c : Bool} → Keeps s r → b.place < length s.messages → AreIdsBelow vs (length s.messages) → ws ≡ vs → IsTyped r env (message_at r.messages b) t ws c → IsTyped s env (message_at s.messages b) t vs c
 later_typed {s} {r} {env} {b} {t} {vs} {ws} {c} k l v q h =
     let vals : values_of r.messages ws ≡ values_of s.messages vs = ap (values_of r.messages) q ∙ values_keep vs k.messages v in
     record { at = λ e u st m a. h.at e u (stand_keeps k st) (means_keeps k m) (subst AllStay (sym vals) a) ∙ (λ i. typed (message_keeps b k.messages l i) e (filled (vals i) u)) }
@@ -221,7 +221,7 @@ pub later_labelled : {s r : Store} {env : List TyId} {b : MsgId} {c : Bool} → 
 later_labelled {b = b} k l h = record { at = λ e st. h.at e (stand_keeps k st) ∙ ap (λ n. labelled n e) (message_keeps b k.messages l) }
 
 -- a pair at Un
-pub pair_un : {E : Type 0} {s r : Store} {env : List TyId} (x y : MsgId) {t : TyId} {vs ws : List MsgId} {c : Bool} → ((u : Ty) → Means s t.place u → u ≡ un) → IsTyped s env (message_at s.messages x) t vs c → c ≡ true → Keeps s r → y.place < length s.messages → AreBelow vs (length s.messages) → ws ≡ vs → (o : Result Bool E) → IfOk o (IsTyped r env (message_at r.messages y) t ws) → IfOk o (IsTyped s env (pair (message_at s.messages x) (message_at s.messages y)) t vs)
+pub pair_un : {E : Type 0} {s r : Store} {env : List TyId} (x y : MsgId) {t : TyId} {vs ws : List MsgId} {c : Bool} → ((u : Ty) → Means s t.place u → u ≡ un) → IsTyped s env (message_at s.messages x) t vs c → c ≡ true → Keeps s r → y.place < length s.messages → AreIdsBelow vs (length s.messages) → ws ≡ vs → (o : Result Bool E) → IfOk o (IsTyped r env (message_at r.messages y) t ws) → IfOk o (IsTyped s env (pair (message_at s.messages x) (message_at s.messages y)) t vs)
 pair_un {s = s} x y {t = t} {vs = vs} f h q k l v p (Ok b) g = record {
   at = λ e u st m w.
       let us = values_of s.messages vs in
@@ -260,8 +260,8 @@ below_push [] x n f h (suc i) id e = absurd cc
 below_push (v ∷ vs) x n f h zero id e = f zero id e
 below_push (v ∷ vs) x n f h (suc i) id e = below_push vs x n (λ j. f (suc j)) h i id e
 
-pub below_more : {vs ws : List MsgId} {x : MsgId} {n : ℕ} → AreBelow vs n → x.place < n → ws ≡ vs ++ x ∷ [] → AreBelow ws n
-below_more {vs} {x = x} {n = n} h l q = subst (λ us. AreBelow us n) (sym q) record { at = below_push vs x n h.at l }
+pub below_more : {vs ws : List MsgId} {x : MsgId} {n : ℕ} → AreIdsBelow vs n → x.place < n → ws ≡ vs ++ x ∷ [] → AreIdsBelow ws n
+below_more {vs} {x = x} {n = n} h l q = subst (λ us. AreIdsBelow us n) (sym q) record { at = below_push vs x n h.at l }
 
 -- the values with one more, which has a type
 pub stay_typed : {s : Store} {env : List TyId} (a : MsgId) {x : TyId} {vs : List MsgId} {c : Bool} → IsTyped s env (message_at s.messages a) x vs c → c ≡ true → (e : Env) (v : Ty) → StandFor s env e → Means s x.place v → AllStay (values_of s.messages vs) → AllStay (values_of s.messages (vs ++ a ∷ []))
@@ -270,7 +270,7 @@ stay_typed {s} a {vs = vs} h q e v st m w =
     let n = message_at s.messages a in
     subst AllStay (sym (values_push s.messages vs a)) (stay_push us n w (typed_stays e n (filled us v) (sym (h.at e v st m w) ∙ q)))
 
-pub pair_pair : {s r : Store} {env : List TyId} {a d : MsgId} {t x y : TyId} {vs ws : List MsgId} {c b : Bool} → TwoTys s t x y pair_ty → IsTyped s env (message_at s.messages a) x vs c → c ≡ true → Keeps s r → a.place < length s.messages → d.place < length s.messages → AreBelow vs (length s.messages) → ws ≡ vs ++ a ∷ [] → IsTyped r env (message_at r.messages d) y ws b → IsTyped s env (pair (message_at s.messages a) (message_at s.messages d)) t vs b
+pub pair_pair : {s r : Store} {env : List TyId} {a d : MsgId} {t x y : TyId} {vs ws : List MsgId} {c b : Bool} → TwoTys s t x y pair_ty → IsTyped s env (message_at s.messages a) x vs c → c ≡ true → Keeps s r → a.place < length s.messages → d.place < length s.messages → AreIdsBelow vs (length s.messages) → ws ≡ vs ++ a ∷ [] → IsTyped r env (message_at r.messages d) y ws b → IsTyped s env (pair (message_at s.messages a) (message_at s.messages d)) t vs b
 pair_pair {s} {a = a} {d = d} {vs = vs} {ws = ws} t h q k l j v p g = record {
   at = λ e u st m w.
       let us = values_of s.messages vs in
@@ -356,13 +356,13 @@ pub asked_part : {s : Store} {env : List TyId} {t x : TyId} {vs : List MsgId} �
 asked_part h g = record { names = h.names; given = g; values = h.values }
 
 pub asked_later : {s r : Store} {env : List TyId} {t : TyId} {vs ws : List MsgId} → Keeps s r → IsAsked s env t vs → ws ≡ vs → IsAsked r env t ws
-asked_later {r = r} k h q = record { names = environment_keeps k h.names; given = given_keeps k h.given; values = subst (λ us. AreBelow us (length r.messages)) (sym q) (all_below_keeps k.messages h.values) }
+asked_later {r = r} k h q = record { names = environment_keeps k h.names; given = given_keeps k h.given; values = subst (λ us. AreIdsBelow us (length r.messages)) (sym q) (all_below_keeps k.messages h.values) }
 
 pub asked_under : {s r : Store} {env : List TyId} {t y : TyId} {a : MsgId} {vs us ws : List MsgId} → Keeps s r → IsAsked s env t vs → IsGiven s y.place → a.place < length s.messages → us ≡ vs → ws ≡ us ++ a ∷ [] → IsAsked r env y ws
 asked_under {a = a} k h g l q p = record { names = environment_keeps k h.names; given = given_keeps k g; values = below_more (all_below_keeps k.messages h.values) (below_keeps a k.messages l) (p ∙ ap (λ us. us ++ a ∷ []) q) }
 
 pub asked_alone : {s : Store} {env : List TyId} {t : TyId} {vs : List MsgId} → IsEnvironment s env → IsGiven s t.place → vs ≡ [] → IsAsked s env t vs
-asked_alone {s} h g q = record { names = h; given = g; values = subst (λ us. AreBelow us (length s.messages)) (sym q) (none_below (length s.messages)) }
+asked_alone {s} h g q = record { names = h; given = g; values = subst (λ us. AreIdsBelow us (length s.messages)) (sym q) (none_below (length s.messages)) }
 
 pub payload_is_given : {s : Store} {env : List TyId} {n : Message} {p : TyId} → IsEnvironment s env → IsPayload s env n p → IsGiven s p.place
 payload_is_given h w = let z = w.at h.env h.stands in record { type = z.0; means = z.2 }

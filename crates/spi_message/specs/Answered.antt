@@ -48,13 +48,13 @@ pub record AreAnswers (s : Store) (ids : List TyId) (es : Entries) : Type 0 wher
       → slice_get es j ≡ Some (r, c) → q.names ≤ r.names
 
 -- b is kept as the answer to q
-pub record Holds (es : Entries) (q : Question) (b : Bool) : Type 0 where
+pub record IsKeptAnswer (es : Entries) (q : Question) (b : Bool) : Type 0 where
   pub place : ℕ
   pub at : slice_get es place ≡ Some (q, b)
 
 -- no answer to q is kept
 pub record IsNew (es : Entries) (q : Question) : Type 0 where
-  pub none : (b : Bool) → Holds es q b → ⊥
+  pub none : (b : Bool) → IsKeptAnswer es q b → ⊥
 
 -- the last answer, if any, was given where at most so many names were in scope
 pub record EndsWithin (es : Entries) (names : ℕ) : Type 0 where

@@ -11,7 +11,7 @@ use Rattle.spi_intern.specs.Given.{IsGiven}
 use Rattle.spi_intern.specs.Typed.{kind_at}
 use Rattle.spi_intern.specs.Meaning.{Means}
 use Rattle.spi_message.specs.Judging.{StandFor}
-use Rattle.spi_message.specs.Filling.{AllStay, AreBelow, AtomsAreBelow, values_of, atom_at, fill, filled, kind_size}
+use Rattle.spi_message.specs.Filling.{AllStay, AreIdsBelow, AtomsAreBelow, values_of, atom_at, fill, filled, kind_size}
 use Rattle.spi_message.specs.Tests.{typed, labelled, good_atom, good_effect, good, key_in, key_of}
 
 -- the numbers stand for some environment
@@ -23,7 +23,7 @@ pub record IsEnvironment (s : Store) (ids : List TyId) : Type 0 where
 pub record IsAsked (s : Store) (env : List TyId) (t : TyId) (vs : List MsgId) : Type 0 where
   pub names : IsEnvironment s env
   pub given : IsGiven s t.place
-  pub values : AreBelow vs (length s.messages)
+  pub values : AreIdsBelow vs (length s.messages)
 
 -- the message has the type
 pub record IsTyped (s : Store) (env : List TyId) (n : Message) (t : TyId) (vs : List MsgId) (b : Bool) : Type
@@ -58,7 +58,7 @@ pub record IsGoodAtom (s : Store) (env : List TyId) (a : AtomId) (vs : List MsgI
 pub record IsAskedAtoms (s : Store) (env : List TyId) (ids : List AtomId) (vs : List MsgId) : Type 0 where
   pub names : IsEnvironment s env
   pub atoms : AtomsAreBelow ids (length s.messages)
-  pub values : AreBelow vs (length s.messages)
+  pub values : AreIdsBelow vs (length s.messages)
 
 pub record AreGood (s : Store) (env : List TyId) (ids : List AtomId) (vs : List MsgId) (b : Bool) : Type 0
   where
@@ -69,7 +69,7 @@ pub record AreGood (s : Store) (env : List TyId) (ids : List AtomId) (vs : List 
 pub record IsAskedGood (s : Store) (env : List TyId) (t : TyId) (vs : List MsgId) : Type 0 where
   pub names : IsEnvironment s env
   pub given : IsGiven s t.place
-  pub values : AreBelow vs (length s.messages)
+  pub values : AreIdsBelow vs (length s.messages)
   pub few : length env + kind_size (kind_at s.types t) < 2 ^ 32
 
 pub record IsGood (s : Store) (env : List TyId) (t : TyId) (vs : List MsgId) (b : Bool) : Type 0 where

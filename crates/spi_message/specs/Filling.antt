@@ -49,7 +49,7 @@ abbrev pub values_of : List Message → List MsgId → List Message
 values_of ms ids = map (message_at ms) ids
 
 -- the numbers are below n
-pub record AreBelow (ids : List MsgId) (n : ℕ) : Type 0 where
+pub record AreIdsBelow (ids : List MsgId) (n : ℕ) : Type 0 where
   pub at : (i : ℕ) (id : MsgId) → slice_get ids i ≡ Some id → id.place < n
 
 abbrev pub atom_at : List Message → AtomId → Atom

@@ -1,6 +1,6 @@
 -- Forms as they are entered: the types that a form binds, and its processes with their binders opened.
 use Rattle.std.specs.Prelude.{ℕ, zero, suc, Bool, true, false, [], ◌∷◌, length, Option, Some, None}
-use Rattle.spi_term.specs.Term.{name, Effect, Ty, nonce, Prefix, Recvs, Serves, Splits, Selects, Decrypts, Checks, Begins, Ends, EndManys, Casts, Makes, Fork, Cases, Pars, Process}
+use Rattle.spi_term.specs.Term.{name, Effect, Ty, nonce, Prefix, Recvs, Serves, Splits, Selects, Decrypts, Checks, Begins, Ends, EndManys, Casts, Freshes, Fork, Branches, Pars, Process}
 use Rattle.spi_term.specs.Substitution.{process_map, put, ty_put}
 use Rattle.spi_rules.specs.Environment.{Env}
 
@@ -21,15 +21,15 @@ more e (Begins m) = []
 more e (Ends m) = []
 more e (EndManys m) = []
 more e (Casts m t) = t ∷ []
-more e (Makes t) = t ∷ []
+more e (Freshes t) = t ∷ []
 
 abbrev pub on_first : Fork → Env
 on_first Pars = []
-on_first (Cases m t u) = t ∷ []
+on_first (Branches m t u) = t ∷ []
 
 abbrev pub on_rest : Fork → Env
 on_rest Pars = []
-on_rest (Cases m t u) = u ∷ []
+on_rest (Branches m t u) = u ∷ []
 
 -- the effect of a type that is cast to
 abbrev pub cast_effect_of : Ty → Effect

@@ -14,16 +14,16 @@ pub record HasParts (ms : List Message) (m : Message) : Type 0 where
   pub each : (x : Message) → PartOf x m → Has ms x
 
 -- the store grew from s as each of these terms, the last first, was given a number
-pub data Grows (s : Store) : List Given → Store → Type 0 where
-  grows_none : Grows s [] s
-  grows_next : {gs : List Given} {g : Given} {q r : Store} → Grows s gs q → Keeps q r → Adds q r g
-      → Grows s (g ∷ gs) r
+pub data GrowsBy (s : Store) : List Given → Store → Type 0 where
+  grows_none : GrowsBy s [] s
+  grows_next : {gs : List Given} {g : Given} {q r : Store} → GrowsBy s gs q → Keeps q r → Adds q r g
+      → GrowsBy s (g ∷ gs) r
 
 -- the store grew from s to r as terms with P were given numbers, and no others
 pub record GivesOnly (P : Given → Type 0) (s r : Store) : Type 0 where
   pub given : List Given
   pub each : (g : Given) → In g given → P g
-  pub grows : Grows s given r
+  pub grows : GrowsBy s given r
 
 -- v is the type, or stands in it as the type of a part: the binder of a pair stands for a part of the message
 pub data Opening (n : Message) (v : Ty) : Ty → Type 0 where

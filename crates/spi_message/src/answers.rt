@@ -1,7 +1,7 @@
 // What a judge has answered, for each environment that it goes back to.
 
 ghost use Rattle.std.specs.Prelude.{◌≡◌, ◌++◌, ◌∷◌, ◌<◌, [], length, true, false, IfSome, IfNone, OnOk, OnErr};
-ghost use Rattle.spi_message.specs.Answered.{Entries, question, Holds, IsNew, EndsWithin};
+ghost use Rattle.spi_message.specs.Answered.{Entries, question, IsKeptAnswer, IsNew, EndsWithin};
 
 use crate::NoMemory;
 use indexmap::IndexMap;
@@ -41,7 +41,7 @@ impl Answers {
 
     /// The answer that is kept.
     pub fn get(&self, names: usize, asked: Asked) -> Option<bool>
-        ensures some { IfSome result (Holds self.now.given.entries (question names asked)) }
+        ensures some { IfSome result (IsKeptAnswer self.now.given.entries (question names asked)) }
         ensures none { IfNone result (IsNew self.now.given.entries (question names asked)) }
     {
         self.given.get(&Question { names, asked }).copied()

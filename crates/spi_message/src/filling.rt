@@ -3,7 +3,7 @@
 ghost use Rattle.std.specs.Prelude.{◌≡◌, ℕ, suc, ◌≤◌, ◌<◌, ◌^◌, IfOk, OnOk, length};
 ghost use Rattle.spi_intern.specs.Given.{IsGiven};
 ghost use Rattle.spi_intern.specs.Meaning.{Keeps};
-ghost use Rattle.spi_message.specs.Filling.{value_of, message_in, AreBelow, AtomsAreBelow, IsDepth, FillsMessage, FillsAtom, FillsAtoms, FillsTy};
+ghost use Rattle.spi_message.specs.Filling.{value_of, message_in, AreIdsBelow, AtomsAreBelow, IsDepth, FillsMessage, FillsAtom, FillsAtoms, FillsTy};
 ghost use Rattle.spi_message.specs.Added.{MessageIsAdded, AtomsAreAdded, TypeIsAdded};
 
 use crate::NoMemory;
@@ -48,7 +48,7 @@ pub fn filled_message(
 ) -> Result<MsgId, NoMemory>
     requires depth { depth ≤ 2 ^ 32 }
     requires message { m.place < length store.old.messages }
-    requires values { AreBelow values.now (length store.old.messages) }
+    requires values { AreIdsBelow values.now (length store.old.messages) }
     ensures at { IfOk result (FillsMessage store.old.messages store.new.messages values.now depth m) }
     ensures adds { OnOk result (MessageIsAdded store.old store.new values.now depth m) }
     ensures kept { Keeps store.old store.new }
@@ -104,7 +104,7 @@ fn filled_atom(
 ) -> Result<AtomId, NoMemory>
     requires depth { depth ≤ 2 ^ 32 }
     requires message { (message_in a).place < length store.old.messages }
-    requires values { AreBelow values.now (length store.old.messages) }
+    requires values { AreIdsBelow values.now (length store.old.messages) }
     ensures at { IfOk result (FillsAtom store.old.messages store.new.messages values.now depth a) }
     ensures adds { OnOk result (MessageIsAdded store.old store.new values.now depth (message_in a)) }
     ensures kept { Keeps store.old store.new }
@@ -126,7 +126,7 @@ fn filled_atoms(
 ) -> Result<Vec<AtomId>, NoMemory>
     requires depth { depth ≤ 2 ^ 32 }
     requires atoms { AtomsAreBelow atoms.now (length store.old.messages) }
-    requires values { AreBelow values.now (length store.old.messages) }
+    requires values { AreIdsBelow values.now (length store.old.messages) }
     ensures at { IfOk result
         (λ rs. FillsAtoms store.old.messages store.new.messages values.now depth atoms.now rs.items) }
     ensures adds { OnOk result (AtomsAreAdded store.old store.new values.now depth atoms.now) }
@@ -150,7 +150,7 @@ pub fn filled_type(
 ) -> Result<TyId, NoMemory>
     requires depth { depth ≤ 2 ^ 32 }
     requires ty { IsGiven store.old t.place }
-    requires values { AreBelow values.now (length store.old.messages) }
+    requires values { AreIdsBelow values.now (length store.old.messages) }
     ensures at { IfOk result (FillsTy store.old store.new values.now depth t) }
     ensures adds { OnOk result (TypeIsAdded store.old store.new values.now depth t) }
     ensures kept { Keeps store.old store.new }

@@ -2,7 +2,7 @@
 
 ghost use Rattle.std.specs.Prelude.{◌≡◌, ◌<◌, length, IfOk, OnOk};
 ghost use Rattle.spi_intern.specs.Meaning.{Keeps};
-ghost use Rattle.spi_message.specs.Filling.{message_in, AreBelow};
+ghost use Rattle.spi_message.specs.Filling.{message_in, AreIdsBelow};
 ghost use Rattle.spi_message.specs.Added.{AtomGives, AtomsGive, GoodGives};
 ghost use Rattle.spi_message.specs.Asking.{IsEnvironment, IsGoodAtom, IsAskedAtoms, AreGood, IsAskedGood, IsGood};
 
@@ -22,7 +22,7 @@ fn is_good_atom(
 ) -> Result<bool, NoMemory>
     requires atom { (message_in a).place < length store.old.messages }
     requires names { IsEnvironment store.old env.now }
-    requires values { AreBelow values.now (length store.old.messages) }
+    requires values { AreIdsBelow values.now (length store.old.messages) }
     ensures answer { IfOk result (IsGoodAtom store.old env.now a values.now) }
     ensures adds { OnOk result (AtomGives store.old store.new env.now a values.now) }
     ensures kept { Keeps store.old store.new }

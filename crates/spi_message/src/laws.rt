@@ -6,7 +6,7 @@ ghost use Rattle.spi_rules.specs.Environment.{Env};
 ghost use Rattle.spi_intern.specs.declared.store.Store.{Store};
 ghost use Rattle.spi_intern.specs.Growing.{Given, Has, MessageAmong, CountsParts, CountsPartsAtLeast};
 ghost use Rattle.spi_intern.specs.Meaning.{NoneTwice};
-ghost use Rattle.spi_message.specs.Giving.{HasParts, Grows, Compared, Examined, IsWhole, AreWhole, HasGiven, HasGivenAtLeast};
+ghost use Rattle.spi_message.specs.Giving.{HasParts, GrowsBy, Compared, Examined, IsWhole, AreWhole, HasGiven, HasGivenAtLeast};
 
 /// A judge whose calls each answered `Ok` has one number for each different message and each different type among the
 /// terms for which a call gave a number, those that its calls made included, and their parts, and no other. This goes on to
@@ -16,7 +16,7 @@ pub fn judged_parts_are_counted()
     ensures parts { (gs : List Given) (s : Store) (n : Message) → HasGiven gs s → Has s.messages n
         → HasParts s.messages n }
     ensures counted { (gs : List Given) (s : Store) → HasGiven gs s → NoneTwice s → CountsParts gs s }
-    ensures next { (gs hs : List Given) (s r : Store) → HasGiven gs s → Grows s hs r → AreWhole hs
+    ensures next { (gs hs : List Given) (s r : Store) → HasGiven gs s → GrowsBy s hs r → AreWhole hs
         → HasGiven (hs ++ gs) r }
     ensures typing { (env : Env) (n : Message) (u : Ty) (g : Given) → Compared env n u g → IsWhole g }
     ensures good { (env : Env) (u : Ty) (g : Given) → Examined env u g → IsWhole g }
@@ -29,6 +29,6 @@ pub fn judged_parts_are_counted_at_least()
         → HasParts s.messages n }
     ensures counted { (gs : List Given) (s : Store) → HasGivenAtLeast gs s → NoneTwice s
         → CountsPartsAtLeast gs s }
-    ensures next { (gs hs : List Given) (s r : Store) → HasGivenAtLeast gs s → Grows s hs r → AreWhole hs
+    ensures next { (gs hs : List Given) (s r : Store) → HasGivenAtLeast gs s → GrowsBy s hs r → AreWhole hs
         → HasGivenAtLeast (hs ++ gs) r }
 {}

@@ -5,7 +5,7 @@ ghost use Rattle.std.specs.Prelude.{◌≡◌, ◌<◌, IfOk, OnOk, IfSome, IfNo
 ghost use Rattle.spi_term.specs.Term.{name, pair, in_left, in_right, enc};
 ghost use Rattle.spi_intern.specs.Messages.{message_at};
 ghost use Rattle.spi_intern.specs.Meaning.{Keeps};
-ghost use Rattle.spi_message.specs.Filling.{AreBelow};
+ghost use Rattle.spi_message.specs.Filling.{AreIdsBelow};
 ghost use Rattle.spi_message.specs.Added.{TypingGives, LabelGives};
 ghost use Rattle.spi_message.specs.Asking.{IsEnvironment, IsAsked, IsTyped, IsLabelled, IsPayload, IsNoPayload};
 

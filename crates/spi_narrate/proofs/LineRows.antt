@@ -15,7 +15,7 @@ use Rattle.spi_parse.specs.declared.fault.ParseFault.{ParseFault}
 use Rattle.spi_parse.specs.declared.fault.ParseFault.TheVariants as faults
 use Rattle.spi_parse.specs.Exact as exact
 use Rattle.spi_parse.proofs.Words.{fits_append, fits_front, fits_drop}
-use Rattle.spi_grammar.specs.Exactly.{kinds, IsGood, IsSame, IsLive, Then, Either}
+use Rattle.spi_grammar.specs.Exactly.{kinds, IsGoodKind, IsSame, IsLive, Then, Either}
 use Rattle.spi_grammar.proofs.Cuts.{kinds_append}
 use Rattle.spi_grammar.proofs.Answers.{good_both}
 use Rattle.spi_grammar.proofs.Good.{IsSome, Differ, good_either}
@@ -23,7 +23,7 @@ use Rattle.spi_parts.proofs.Alone.{kinds_in_append}
 use Rattle.spi_parts.proofs.Bridge.{OfPieces, of_piece}
 use Rattle.spi_heading.specs.Spans.{start_of, end_before}
 use Rattle.spi_heading.specs.Taking.{IsThere, Takes, TakesWord}
-use Rattle.spi_heading.proofs.Standing.{Stands, IsSolid, stands_both}
+use Rattle.spi_heading.proofs.Standing.{AreTokensOf, IsSolid, stands_both}
 use Rattle.spi_heading.proofs.Failing.{FailsAt, IsToldBy, told_fail, same_fail, first_fail, second_fail, fails_to}
 use Rattle.spi_heading.proofs.Symbols.{cells_append, Sym, token, name, message, opening, closing, the_mark, the_word, to, on, as_}
 use Rattle.spi_heading.proofs.Rows.{Values, Row, row_good, row_pieces, row_into, row_from, row_behind, row_read, RowAt, RowFails, row_end, row_more, opened, closed, fits_at, stands_read}
@@ -146,17 +146,17 @@ module _ (v : Bool) where
 
   -- ---- the kind is good
 
-  same_good : (L M : Cells → Type 0) → IsSame L M → IsGood L → IsGood M
+  same_good : (L M : Cells → Type 0) → IsSame L M → IsGoodKind L → IsGoodKind M
   same_good L M s g = record {
     live = (g.live.0, s.there g.live.0 g.live.1);
     closed = λ a b ma mb k x e. g.closed a b (s.back a ma) (s.back b mb) k x e;
     even = λ a b ma mb within p k x e d. g.even a b (s.back a ma) (s.back b mb) within p k x e d;
   }
 
-  tail_good : IsGood Tail
+  tail_good : IsGoodKind Tail
   tail_good = good_both (Prefixes v) (Row v tail_row) (prefixes_good v) (row_good v tail_row)
 
-  local_good : IsGood LocalRest
+  local_good : IsGoodKind LocalRest
   local_good = good_both (Row v colon_row) Tail (row_good v colon_row) tail_good
 
   -- what a rest of a line begins with
@@ -185,17 +185,17 @@ module _ (v : Bool) where
   rests_differ : Differ LocalRest (Row v pass_row)
   rests_differ a b la lb k x y e f = let g : K.Mark mark.Colon ≡ K.Word (codes "to") = sym (local_first a la k x e) ∙ pass_first b lb k y f in cc
 
-  rest_good : IsGood LineRest
+  rest_good : IsGoodKind LineRest
   rest_good = good_either LocalRest (Row v pass_row) rests_differ local_some pass_some local_good (row_good v pass_row)
 
   rest_some : IsSome LineRest
   rest_some a (inl h) e = local_some a h e
   rest_some a (inr h) e = pass_some a h e
 
-  kind_good : IsGood LineKind
+  kind_good : IsGoodKind LineKind
   kind_good = good_both (Row v head_row) LineRest (row_good v head_row) rest_good
 
-  pub lines_good : IsGood Lines
+  pub lines_good : IsGoodKind Lines
   lines_good = same_good LineKind Lines line_same kind_good
 
   local_told : IsToldBy (K.Mark mark.Colon) LocalRest LineRest
@@ -233,7 +233,7 @@ module _ (v : Bool) where
     pub head_fails : (f : ParseFault) → RowFails v ts i head_row f → FailsAt Lines ts i f
     head_fails f h = same_fail LineKind Lines ts line_same i f (first_fail (Row v head_row) LineRest ts (row_good v head_row) rest_good i f h.by)
 
-    line_reads : (x : n.Line) (m : ℕ) → IsLine v x → Stands ts i (whole_line x) m → (o : ℕ) × (m ≡ i + o) × exact.IsPartAt whole_line (IsWholeLine v) x (drop i ts) o
+    line_reads : (x : n.Line) (m : ℕ) → IsLine v x → AreTokensOf ts i (whole_line x) m → (o : ℕ) × (m ≡ i + o) × exact.IsPartAt whole_line (IsWholeLine v) x (drop i ts) o
     line_reads x m formed stands = part_at whole_line (IsWholeLine v) x ts i m (formed, fits_at v ts (whole_line x) i m fit stands) (line_solid x []) lines_good.closed stands
 
     module _ (j from : ℕ) (w : SWord) (head : RowAt v ts i head_row (head_values from w) j) where
@@ -258,14 +258,14 @@ module _ (v : Bool) where
         pub prefix_fails : (f : ParseFault) → FailsAt (Prefixes v) ts k f → FailsAt Lines ts i f
         prefix_fails f h = tail_fails f (first_fail (Prefixes v) (Row v tail_row) ts (prefixes_good v) (row_good v tail_row) k f h)
 
-        module _ (l : ℕ) (x : n.Prefix) (formed : IsPrefix v x) (stands : Stands ts k (whole_prefix x) l) where
+        module _ (l : ℕ) (x : n.Prefix) (formed : IsPrefix v x) (stands : AreTokensOf ts k (whole_prefix x) l) where
           pub end_fails : (f : ParseFault) → RowFails v ts l tail_row f → FailsAt Lines ts i f
           end_fails f h = tail_fails f (second_fail (Prefixes v) (Row v tail_row) ts (prefixes_good v) k l
               (stands_read (Prefixes v) (prefixes_good v) ts (whole_prefix x) k l (of_piece whole_prefix (IsWholePrefix v) x (formed, fits_at v ts (whole_prefix x) k l fit stands)) stands) f h.by)
 
           pub local_reads : (m end : ℕ) → RowAt v ts l tail_row (tail_values end) m → (o : ℕ) × (m ≡ i + o) × exact.IsPartAt whole_line (IsWholeLine v) (n.local (record { from = from; to = end }) w x) (drop i ts) o
           local_reads m end tail = line_reads (n.local (record { from = from; to = end }) w x) m formed
-              (subst (λ (q : List Piece). Stands ts i q m) (sym (local_are (record { from = from; to = end }) w x))
+              (subst (λ (q : List Piece). AreTokensOf ts i q m) (sym (local_are (record { from = from; to = end }) w x))
               (stands_both ts (row_pieces head_row (head_values from w) []) (row_pieces colon_row (tt, tt) [] ++ (whole_prefix x ++ row_pieces tail_row (tail_values end) [])) i j m head.stands
               (stands_both ts (row_pieces colon_row (tt, tt) []) (whole_prefix x ++ row_pieces tail_row (tail_values end) []) j k m colon.stands
               (stands_both ts (whole_prefix x) (row_pieces tail_row (tail_values end) []) k l m stands tail.stands))))

@@ -14,7 +14,7 @@ use Rattle.spi_tree.specs.Pieces.{Piece, decl_pieces}
 use Rattle.spi_tree.specs.Formed.{AreWordsFit, IsDeclared}
 use Rattle.spi_parse.specs.declared.fault.ParseFault.{ParseFault}
 use Rattle.spi_parse.specs.Formed.{whole_decl, whole_type, whole_message, IsWholeDecl, IsWholeType, IsWholeMessage}
-use Rattle.spi_grammar.specs.Exactly.{IsClosed}
+use Rattle.spi_grammar.specs.Exactly.{IsPrefixFree}
 use Rattle.spi_parts.specs.Determined.{AreOne, HasOneAnswer}
 use Rattle.spi_parts.proofs.Alone.{types_closed, messages_closed, declarations_closed}
 use Rattle.spi_parts.proofs.Bridge.{OfPieces}
@@ -22,7 +22,7 @@ use Rattle.spi_parts.proofs.Placed.{types_answer, messages_answer, declarations_
 use Rattle.spi_heading.specs.Headings as h
 use Rattle.spi_heading.specs.Each.{each_pieces}
 use Rattle.spi_heading.specs.Grammar.{shared_pieces, IsShared}
-use Rattle.spi_heading.proofs.Standing.{Stands, IsSolid, msg_solid, ty_solid, decl_solid}
+use Rattle.spi_heading.proofs.Standing.{AreTokensOf, IsSolid, msg_solid, ty_solid, decl_solid}
 use Rattle.spi_heading.proofs.Symbols.{Sym, token, name, message, ty, braced, opening, closing, Value, item_pieces, IsItem, item_behind}
 use Rattle.spi_heading.proofs.Rows.{Values, row_pieces, AreItems, fits_at}
 use Rattle.spi_heading.proofs.Calls.{part_at}
@@ -74,8 +74,8 @@ module _ (v : Bool) (ts : List Token) (fit : AreWordsFit v (kinds_of ts)) where
   ArePlain (s ∷ ss) = IsPlain s × ArePlain ss
 
   -- a part that has one answer
-  part_once : {X : Type 0} (pieces : X → List Piece) (P : X → Type 0) → HasOneAnswer pieces P → IsClosed (OfPieces pieces P) → (i j k : ℕ) (x y : X) → P x → P y → IsSolid (pieces x) → IsSolid (pieces y)
-      → Stands ts i (pieces x) j → Stands ts i (pieces y) k → (x ≡ y) × (j ≡ k)
+  part_once : {X : Type 0} (pieces : X → List Piece) (P : X → Type 0) → HasOneAnswer pieces P → IsPrefixFree (OfPieces pieces P) → (i j k : ℕ) (x y : X) → P x → P y → IsSolid (pieces x) → IsSolid (pieces y)
+      → AreTokensOf ts i (pieces x) j → AreTokensOf ts i (pieces y) k → (x ≡ y) × (j ≡ k)
   part_once {X} pieces P one closed i j k x y p q s u a b =
       go (one (Ok (x, j)) (Ok (y, k)) ts i (part_at pieces P x ts i j p s closed a) (part_at pieces P y ts i k q u closed b))
     where
@@ -84,7 +84,7 @@ module _ (v : Bool) (ts : List Token) (fit : AreWordsFit v (kinds_of ts)) where
       go (inr (inl e)) = absurd cc
       go (inr (inr e)) = absurd cc
 
-  item_once : (s : Sym) (i j k : ℕ) (x y : Value s) → IsPlain s → IsItem v s x → IsItem v s y → Stands ts i (item_pieces s x []) j → Stands ts i (item_pieces s y []) k → (x ≡ y) × (j ≡ k)
+  item_once : (s : Sym) (i j k : ℕ) (x y : Value s) → IsPlain s → IsItem v s x → IsItem v s y → AreTokensOf ts i (item_pieces s x []) j → AreTokensOf ts i (item_pieces s y []) k → (x ≡ y) × (j ≡ k)
   item_once (token w) i j k x y p a b f g = (refl, sym f.5 ∙ g.5)
   item_once name i j k x y p a b f g =
       let e : K.Word x.word ≡ K.Word y.word = one_kind i f.2.0 g.2.0 f.2.1 g.2.1 (K.Word x.word) (K.Word y.word) f.2.2 g.2.2 f.2.3 g.2.3 in
@@ -98,20 +98,20 @@ module _ (v : Bool) (ts : List Token) (fit : AreWordsFit v (kinds_of ts)) where
   item_once opening i j k x y p a b f g = (sym f.1 ∙ g.1, sym f.2 ∙ g.2)
   item_once closing i j k x y p a b f g = (sym f.0 ∙ g.0, sym f.1 ∙ g.1)
 
-  pub row_once : (ss : List Sym) (i j k : ℕ) (xs ys : Values ss) → ArePlain ss → AreItems v ss xs → AreItems v ss ys → Stands ts i (row_pieces ss xs []) j → Stands ts i (row_pieces ss ys []) k → (xs ≡ ys) × (j ≡ k)
+  pub row_once : (ss : List Sym) (i j k : ℕ) (xs ys : Values ss) → ArePlain ss → AreItems v ss xs → AreItems v ss ys → AreTokensOf ts i (row_pieces ss xs []) j → AreTokensOf ts i (row_pieces ss ys []) k → (xs ≡ ys) × (j ≡ k)
   row_once [] i j k xs ys p a b f g = (refl, sym f ∙ g)
   row_once (s ∷ ss) i j k xs ys p a b f g =
-      let c = stands_cut ts (item_pieces s xs.0 []) (row_pieces ss xs.1 []) i j (subst (λ (l : List Piece). Stands ts i l j) (item_behind s xs.0 (row_pieces ss xs.1 [])) f) in
-      let d = stands_cut ts (item_pieces s ys.0 []) (row_pieces ss ys.1 []) i k (subst (λ (l : List Piece). Stands ts i l k) (item_behind s ys.0 (row_pieces ss ys.1 [])) g) in
+      let c = stands_cut ts (item_pieces s xs.0 []) (row_pieces ss xs.1 []) i j (subst (λ (l : List Piece). AreTokensOf ts i l j) (item_behind s xs.0 (row_pieces ss xs.1 [])) f) in
+      let d = stands_cut ts (item_pieces s ys.0 []) (row_pieces ss ys.1 []) i k (subst (λ (l : List Piece). AreTokensOf ts i l k) (item_behind s ys.0 (row_pieces ss ys.1 [])) g) in
       let one = item_once s i c.0 d.0 xs.0 ys.0 p.0 a.0 b.0 c.1 d.1 in
-      let rest = row_once ss c.0 j k xs.1 ys.1 p.1 a.1 b.1 c.2 (subst (λ (m : ℕ). Stands ts m (row_pieces ss ys.1 []) k) (sym one.1) d.2) in
+      let rest = row_once ss c.0 j k xs.1 ys.1 p.1 a.1 b.1 c.2 (subst (λ (m : ℕ). AreTokensOf ts m (row_pieces ss ys.1 []) k) (sym one.1) d.2) in
       let first : (z : Value s) → Values (s ∷ ss) = λ z. (z, xs.1) in
       let second : (z : Values ss) → Values (s ∷ ss) = λ z. (ys.0, z) in
       (ap first one.0 ∙ ap second rest.0, rest.1)
 
   -- ---- what a role does by itself
 
-  first_stands : (x : n.Prefix) (i j : ℕ) → Stands ts i (whole_prefix x) j → (a : Token) × (more : List Token) × (drop i ts ≡ a ∷ more) × (a.kind ≡ K.Reserved (first_word x))
+  first_stands : (x : n.Prefix) (i j : ℕ) → AreTokensOf ts i (whole_prefix x) j → (a : Token) × (more : List Token) × (drop i ts ≡ a ∷ more) × (a.kind ≡ K.Reserved (first_word x))
   first_stands (n.split s m x a y b) i j f = (f.2.0, f.2.1, f.2.2, f.2.3)
   first_stands (n.match s m x a k y b) i j f = (f.2.0, f.2.1, f.2.2, f.2.3)
   first_stands (n.decrypt s m x a k) i j f = (f.2.0, f.2.1, f.2.2, f.2.3)
@@ -122,7 +122,7 @@ module _ (v : Bool) (ts : List Token) (fit : AreWordsFit v (kinds_of ts)) where
   first_stands (n.cast s m x a) i j f = (f.2.0, f.2.1, f.2.2, f.2.3)
   first_stands (n.new s x a) i j f = (f.2.0, f.2.1, f.2.2, f.2.3)
 
-  form_once : (i j k : ℕ) (x y : n.Prefix) → first_word x ≡ first_word y → IsPrefix v x → IsPrefix v y → Stands ts i (whole_prefix x) j → Stands ts i (whole_prefix y) k → (x ≡ y) × (j ≡ k)
+  form_once : (i j k : ℕ) (x y : n.Prefix) → first_word x ≡ first_word y → IsPrefix v x → IsPrefix v y → AreTokensOf ts i (whole_prefix x) j → AreTokensOf ts i (whole_prefix y) k → (x ≡ y) × (j ≡ k)
   form_once i j k (n.split s m x a y b) (n.split s' m' x' a' y' b') e p q f g =
       let r = row_once split_row i j k (s.from, (tt, (m, (tt, (tt, (x, (tt, (a, (tt, (y, (tt, (b, (tt, (s.to, tt)))))))))))))) (s'.from, (tt, (m', (tt, (tt, (x', (tt, (a', (tt, (y', (tt, (b', (tt, (s'.to, tt))))))))))))))
       (tt, (tt, (tt, (tt, (tt, (tt, (tt, (tt, (tt, (tt, (tt, (tt, (tt, (tt, tt)))))))))))))) (tt, (tt, (p.0, (tt, (tt, (tt, (tt, (p.1, (tt, (tt, (tt, (p.2, (tt, (tt, tt)))))))))))))) (tt, (tt, (q.0, (tt, (tt, (tt, (tt, (q.1, (tt, (tt, (tt, (q.2, (tt, (tt, tt)))))))))))))) f g in
@@ -157,7 +157,7 @@ module _ (v : Bool) (ts : List Token) (fit : AreWordsFit v (kinds_of ts)) where
       (ap (λ (z : Values new_row). n.new (record { from = z.0; to = z.1.1.1.1.1.1.1.0 }) z.1.1.1.0 z.1.1.1.1.1.0) r.0, r.1)
   form_once i j k x y e p q f g = absurd cc
 
-  prefix_once : (i j k : ℕ) (x y : n.Prefix) → IsPrefix v x → IsPrefix v y → Stands ts i (whole_prefix x) j → Stands ts i (whole_prefix y) k → (x ≡ y) × (j ≡ k)
+  prefix_once : (i j k : ℕ) (x y : n.Prefix) → IsPrefix v x → IsPrefix v y → AreTokensOf ts i (whole_prefix x) j → AreTokensOf ts i (whole_prefix y) k → (x ≡ y) × (j ≡ k)
   prefix_once i j k x y p q f g =
       let a = first_stands x i j f in
       let b = first_stands y i k g in
@@ -170,18 +170,18 @@ module _ (v : Bool) (ts : List Token) (fit : AreWordsFit v (kinds_of ts)) where
   abbrev rest_pieces : n.Prefix → ℕ → List Piece
   rest_pieces x to = whole_prefix x ++ row_pieces tail_row (tail_values to) []
 
-  local_once : (i j k : ℕ) (s s' : Span) (w w' : SWord) (x x' : n.Prefix) → IsPrefix v x → IsPrefix v x' → Stands ts i (whole_line (n.local s w x)) j → Stands ts i (whole_line (n.local s' w' x')) k → (n.local s w x ≡ n.local s' w' x') × (j ≡ k)
+  local_once : (i j k : ℕ) (s s' : Span) (w w' : SWord) (x x' : n.Prefix) → IsPrefix v x → IsPrefix v x' → AreTokensOf ts i (whole_line (n.local s w x)) j → AreTokensOf ts i (whole_line (n.local s' w' x')) k → (n.local s w x ≡ n.local s' w' x') × (j ≡ k)
   local_once i j k s s' w w' x x' p q f g =
-      let c = stands_cut ts (row_pieces head_row (head_values s.from w) []) (row_pieces colon_row (tt, tt) [] ++ rest_pieces x s.to) i j (subst (λ (l : List Piece). Stands ts i l j) (local_are s w x) f) in
-      let d = stands_cut ts (row_pieces head_row (head_values s'.from w') []) (row_pieces colon_row (tt, tt) [] ++ rest_pieces x' s'.to) i k (subst (λ (l : List Piece). Stands ts i l k) (local_are s' w' x') g) in
+      let c = stands_cut ts (row_pieces head_row (head_values s.from w) []) (row_pieces colon_row (tt, tt) [] ++ rest_pieces x s.to) i j (subst (λ (l : List Piece). AreTokensOf ts i l j) (local_are s w x) f) in
+      let d = stands_cut ts (row_pieces head_row (head_values s'.from w') []) (row_pieces colon_row (tt, tt) [] ++ rest_pieces x' s'.to) i k (subst (λ (l : List Piece). AreTokensOf ts i l k) (local_are s' w' x') g) in
       let head = row_once head_row i c.0 d.0 (head_values s.from w) (head_values s'.from w') (tt, (tt, tt)) (tt, (tt, tt)) (tt, (tt, tt)) c.1 d.1 in
       let c2 = stands_cut ts (row_pieces colon_row (tt, tt) []) (rest_pieces x s.to) c.0 j c.2 in
-      let d2 = stands_cut ts (row_pieces colon_row (tt, tt) []) (rest_pieces x' s'.to) c.0 k (subst (λ (m : ℕ). Stands ts m (row_pieces colon_row (tt, tt) [] ++ rest_pieces x' s'.to) k) (sym head.1) d.2) in
+      let d2 = stands_cut ts (row_pieces colon_row (tt, tt) []) (rest_pieces x' s'.to) c.0 k (subst (λ (m : ℕ). AreTokensOf ts m (row_pieces colon_row (tt, tt) [] ++ rest_pieces x' s'.to) k) (sym head.1) d.2) in
       let colon = row_once colon_row c.0 c2.0 d2.0 (tt, tt) (tt, tt) (tt, tt) (tt, tt) (tt, tt) c2.1 d2.1 in
       let c3 = stands_cut ts (whole_prefix x) (row_pieces tail_row (tail_values s.to) []) c2.0 j c2.2 in
-      let d3 = stands_cut ts (whole_prefix x') (row_pieces tail_row (tail_values s'.to) []) c2.0 k (subst (λ (m : ℕ). Stands ts m (rest_pieces x' s'.to) k) (sym colon.1) d2.2) in
+      let d3 = stands_cut ts (whole_prefix x') (row_pieces tail_row (tail_values s'.to) []) c2.0 k (subst (λ (m : ℕ). AreTokensOf ts m (rest_pieces x' s'.to) k) (sym colon.1) d2.2) in
       let form = prefix_once c2.0 c3.0 d3.0 x x' p q c3.1 d3.1 in
-      let tail = row_once tail_row c3.0 j k (tail_values s.to) (tail_values s'.to) (tt, (tt, tt)) (tt, (tt, tt)) (tt, (tt, tt)) c3.2 (subst (λ (m : ℕ). Stands ts m (row_pieces tail_row (tail_values s'.to) []) k) (sym form.1) d3.2) in
+      let tail = row_once tail_row c3.0 j k (tail_values s.to) (tail_values s'.to) (tt, (tt, tt)) (tt, (tt, tt)) (tt, (tt, tt)) c3.2 (subst (λ (m : ℕ). AreTokensOf ts m (row_pieces tail_row (tail_values s'.to) []) k) (sym form.1) d3.2) in
       let one : (z : Values head_row) → n.Line = λ z. n.local (record { from = z.0; to = s.to }) z.1.0 x in
       let two : (z : n.Prefix) → n.Line = λ z. n.local (record { from = s'.from; to = s.to }) w' z in
       let three : (z : Values tail_row) → n.Line = λ z. n.local (record { from = s'.from; to = z.1.0 }) w' x' in
@@ -193,7 +193,7 @@ module _ (v : Bool) (ts : List Token) (fit : AreWordsFit v (kinds_of ts)) where
   abbrev whole_values : Span → SWord → SWord → SWord → t.Msg → SWord → Values whole_row
   whole_values s a b c m x = (s.from, (a, pass_values b c m x s.to))
 
-  pub line_once : (x y : n.Line) (i j k : ℕ) → IsLine v x → IsLine v y → Stands ts i (whole_line x) j → Stands ts i (whole_line y) k → (x ≡ y) × (j ≡ k)
+  pub line_once : (x y : n.Line) (i j k : ℕ) → IsLine v x → IsLine v y → AreTokensOf ts i (whole_line x) j → AreTokensOf ts i (whole_line y) k → (x ≡ y) × (j ≡ k)
   line_once (n.local s w x) (n.local s' w' x') i j k p q f g = local_once i j k s s' w w' x x' p q f g
   line_once (n.pass s a b c m x) (n.pass s' a' b' c' m' x') i j k p q f g =
       let r = row_once whole_row i j k (whole_values s a b c m x) (whole_values s' a' b' c' m' x') (tt, (tt, (tt, (tt, (tt, (tt, (tt, (tt, (tt, (tt, (tt, (tt, tt))))))))))))
@@ -210,16 +210,16 @@ module _ (v : Bool) (ts : List Token) (fit : AreWordsFit v (kinds_of ts)) where
 
   -- ---- declarations, shared names and roles
 
-  pub decl_once : (x y : t.Declared) (i j k : ℕ) → IsDeclared v x → IsDeclared v y → Stands ts i (decl_pieces x []) j → Stands ts i (decl_pieces y []) k → (x ≡ y) × (j ≡ k)
+  pub decl_once : (x y : t.Declared) (i j k : ℕ) → IsDeclared v x → IsDeclared v y → AreTokensOf ts i (decl_pieces x []) j → AreTokensOf ts i (decl_pieces y []) k → (x ≡ y) × (j ≡ k)
   decl_once x y i j k p q f g =
       part_once whole_decl (IsWholeDecl v) (declarations_answer v) (declarations_closed v) i j k x y (p, fits_at v ts (whole_decl x) i j fit f) (q, fits_at v ts (whole_decl y) i k fit g) (decl_solid x []) (decl_solid y []) f g
 
-  pub shared_once : (x y : h.Shared) (i j k : ℕ) → IsShared v x → IsShared v y → Stands ts i (shared_pieces x []) j → Stands ts i (shared_pieces y []) k → (x ≡ y) × (j ≡ k)
+  pub shared_once : (x y : h.Shared) (i j k : ℕ) → IsShared v x → IsShared v y → AreTokensOf ts i (shared_pieces x []) j → AreTokensOf ts i (shared_pieces y []) k → (x ≡ y) × (j ≡ k)
   shared_once x y i j k p q f g =
       let r = row_once shared_row i j k (shared_values x) (shared_values y) (tt, (tt, (tt, (tt, (tt, (tt, (tt, tt))))))) (tt, (tt, (tt, (tt, (p, (tt, (tt, tt))))))) (tt, (tt, (tt, (tt, (q, (tt, (tt, tt))))))) f g in
       (ap (λ (z : Values shared_row). record { span = record { from = z.0; to = z.1.1.1.1.1.1.0 }; name = z.1.1.0; ty = z.1.1.1.1.0 }) r.0, r.1)
 
-  pub comma_once : (x y : SWord) (i j k : ℕ) → Unit {0} → Unit {0} → Stands ts i (comma_pieces x []) j → Stands ts i (comma_pieces y []) k → (x ≡ y) × (j ≡ k)
+  pub comma_once : (x y : SWord) (i j k : ℕ) → Unit {0} → Unit {0} → AreTokensOf ts i (comma_pieces x []) j → AreTokensOf ts i (comma_pieces y []) k → (x ≡ y) × (j ≡ k)
   comma_once x y i j k p q f g =
       let r = row_once comma_row i j k (tt, (x, tt)) (tt, (y, tt)) (tt, (tt, tt)) (tt, (tt, tt)) (tt, (tt, tt)) f g in
       (ap (λ (z : Values comma_row). z.1.0) r.0, r.1)
@@ -227,12 +227,12 @@ module _ (v : Bool) (ts : List Token) (fit : AreWordsFit v (kinds_of ts)) where
   -- ---- any number of parts, up to a token with which none begins
 
   module _ {X : Type 0} (piece : X → List Piece → List Piece) (behind : (x : X) (r : List Piece) → piece x r ≡ piece x [] ++ r) (Is : X → Type 0) (Begins : ℕ → Type 0)
-      (starts : (x : X) (i j : ℕ) → Stands ts i (piece x []) j → Begins i)
-      (once : (x y : X) (i j k : ℕ) → Is x → Is y → Stands ts i (piece x []) j → Stands ts i (piece y []) k → (x ≡ y) × (j ≡ k)) where
-    cut : (x : X) (xs : List X) (i j : ℕ) → Stands ts i (each_pieces piece (x ∷ xs) []) j → (m : ℕ) × Stands ts i (piece x []) m × Stands ts m (each_pieces piece xs []) j
-    cut x xs i j f = stands_cut ts (piece x []) (each_pieces piece xs []) i j (subst (λ (l : List Piece). Stands ts i l j) (behind x (each_pieces piece xs [])) f)
+      (starts : (x : X) (i j : ℕ) → AreTokensOf ts i (piece x []) j → Begins i)
+      (once : (x y : X) (i j k : ℕ) → Is x → Is y → AreTokensOf ts i (piece x []) j → AreTokensOf ts i (piece y []) k → (x ≡ y) × (j ≡ k)) where
+    cut : (x : X) (xs : List X) (i j : ℕ) → AreTokensOf ts i (each_pieces piece (x ∷ xs) []) j → (m : ℕ) × AreTokensOf ts i (piece x []) m × AreTokensOf ts m (each_pieces piece xs []) j
+    cut x xs i j f = stands_cut ts (piece x []) (each_pieces piece xs []) i j (subst (λ (l : List Piece). AreTokensOf ts i l j) (behind x (each_pieces piece xs [])) f)
 
-    pub each_once : (xs ys : List X) (i j k : ℕ) → AllByRecursion Is xs → AllByRecursion Is ys → Stands ts i (each_pieces piece xs []) j → Stands ts i (each_pieces piece ys []) k → (Begins j → ⊥) → (Begins k → ⊥) → (xs ≡ ys) × (j ≡ k)
+    pub each_once : (xs ys : List X) (i j k : ℕ) → AllByRecursion Is xs → AllByRecursion Is ys → AreTokensOf ts i (each_pieces piece xs []) j → AreTokensOf ts i (each_pieces piece ys []) k → (Begins j → ⊥) → (Begins k → ⊥) → (xs ≡ ys) × (j ≡ k)
     each_once [] [] i j k p q f g a b = (refl, sym f ∙ g)
     each_once [] (y ∷ ys) i j k p q f g a b = let c = cut y ys i k g in absurd (a (subst Begins f (starts y i c.0 c.1)))
     each_once (x ∷ xs) [] i j k p q f g a b = let c = cut x xs i j f in absurd (b (subst Begins g (starts x i c.0 c.1)))
@@ -240,5 +240,5 @@ module _ (v : Bool) (ts : List Token) (fit : AreWordsFit v (kinds_of ts)) where
         let c = cut x xs i j f in
         let d = cut y ys i k g in
         let one = once x y i c.0 d.0 p.0 q.0 c.1 d.1 in
-        let rest = each_once xs ys c.0 j k p.1 q.1 c.2 (subst (λ (m : ℕ). Stands ts m (each_pieces piece ys []) k) (sym one.1) d.2) a b in
+        let rest = each_once xs ys c.0 j k p.1 q.1 c.2 (subst (λ (m : ℕ). AreTokensOf ts m (each_pieces piece ys []) k) (sym one.1) d.2) a b in
         (ap (λ (z : X). z ∷ xs) one.0 ∙ ap (λ (l : List X). y ∷ l) rest.0, rest.1)

@@ -14,14 +14,14 @@ use Rattle.spi_tree.specs.Pieces.{Piece, cells}
 use Rattle.spi_tree.specs.Formed.{AreWordsFit}
 use Rattle.spi_parse.specs.Formed.{whole_message, IsWholeMessage}
 use Rattle.spi_parse.specs.Exact as exact
-use Rattle.spi_grammar.specs.Exactly.{kinds, IsGood}
+use Rattle.spi_grammar.specs.Exactly.{kinds, IsGoodKind}
 use Rattle.spi_parts.proofs.Bridge.{OfPieces}
 use Rattle.spi_heading.specs.Spans.{start_of, end_before, span_over}
 use Rattle.spi_heading.specs.Taking.{IsThere}
 use Rattle.spi_heading.proofs.Failing.{IsToldBy, fails_to}
 use Rattle.spi_heading.proofs.Symbols.{Sym, token, name, message, ty, closing, the_mark, the_reserved}
 use Rattle.spi_heading.proofs.Rows.{Values, Row, row_pieces, row_into, row_behind, RowAt}
-use Rattle.spi_heading.proofs.Standing.{Stands, IsSolid}
+use Rattle.spi_heading.proofs.Standing.{AreTokensOf, IsSolid}
 use Rattle.spi_heading.proofs.Calls.{part_stands, there_within}
 use Rattle.spi_heading.proofs.Reached.{ended, then_message, then_closing}
 use Rattle.spi_heading.proofs.Nodes.{node_row, node_starts, node_told, begun_node, node_reads}
@@ -186,7 +186,7 @@ module _ (v : Bool) where
       go (n.cast s m x a) is e = record { first = K.Reserved word.Cast; row = cast_row; told = cast_told; is = subst (Row v cast_row) e (cast_is s m x a is); begins = (_, ap kinds (sym e)) }
       go (n.new s x a) is e = record { first = K.Reserved word.New; row = new_row; told = new_told; is = subst (Row v new_row) e (new_is s x a is); begins = (_, ap kinds (sym e)) }
 
-  pub prefixes_good : IsGood Prefixes
+  pub prefixes_good : IsGoodKind Prefixes
   prefixes_good = forms_good v Prefixes prefix_form (let r = node_starts v (the_reserved word.Begin) label_rest in (r.0, begin_told.into r.0 r.1))
 
   pub prefix_solid : (x : n.Prefix) (r : List Piece) → IsSolid (prefix_pieces x r)
@@ -240,8 +240,8 @@ module _ (v : Bool) where
         (ended (then_closing (then_message (begun_node v ts i fit (the_reserved w) label_rest there) m j (there_within ts i (K.Reserved w) there) h)))
 
 -- a prefix that is read, where it stands
-pub prefix_stands : (v : Bool) (ts : List Token) (i : ℕ) (x : n.Prefix) (j : ℕ) → i ≤ length ts → (r : (m : ℕ) × (j ≡ i + m) × exact.IsPartAt whole_prefix (IsWholePrefix v) x (drop i ts) m) → Stands ts i (whole_prefix x) j
-prefix_stands v ts i x j w r = subst (λ (k : ℕ). Stands ts i (whole_prefix x) k) (sym r.1) (part_stands whole_prefix (IsWholePrefix v) x ts i r.0 w (prefix_solid v x []) r.2)
+pub prefix_stands : (v : Bool) (ts : List Token) (i : ℕ) (x : n.Prefix) (j : ℕ) → i ≤ length ts → (r : (m : ℕ) × (j ≡ i + m) × exact.IsPartAt whole_prefix (IsWholePrefix v) x (drop i ts) m) → AreTokensOf ts i (whole_prefix x) j
+prefix_stands v ts i x j w r = subst (λ (k : ℕ). AreTokensOf ts i (whole_prefix x) k) (sym r.1) (part_stands whole_prefix (IsWholePrefix v) x ts i r.0 w (prefix_solid v x []) r.2)
 
 -- ---- where none begins
 

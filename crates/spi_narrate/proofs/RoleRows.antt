@@ -13,7 +13,7 @@ use Rattle.spi_tree.specs.Formed.{AreWordsFit}
 use Rattle.spi_parse.specs.declared.fault.ParseFault.{ParseFault}
 use Rattle.spi_parse.specs.Exact as exact
 use Rattle.spi_parse.proofs.Words.{fits_front, fits_drop}
-use Rattle.spi_grammar.specs.Exactly.{kinds, IsGood, IsSame, Then, Many}
+use Rattle.spi_grammar.specs.Exactly.{kinds, IsGoodKind, IsSame, Then, Many}
 use Rattle.spi_grammar.proofs.Cuts.{kinds_append}
 use Rattle.spi_grammar.proofs.Answers.{good_both}
 use Rattle.spi_grammar.proofs.Good.{IsSome, Differ, good_many}
@@ -21,7 +21,7 @@ use Rattle.spi_parts.proofs.Alone.{kinds_in_append}
 use Rattle.spi_parts.proofs.Bridge.{OfPieces}
 use Rattle.spi_heading.specs.Taking.{IsThere, Takes, TakesWord}
 use Rattle.spi_heading.specs.Each.{each_pieces, IsWhole}
-use Rattle.spi_heading.proofs.Standing.{Stands, IsSolid, stands_both}
+use Rattle.spi_heading.proofs.Standing.{AreTokensOf, IsSolid, stands_both}
 use Rattle.spi_heading.proofs.Failing.{FailsAt, same_fail, first_fail, second_fail, fails_to}
 use Rattle.spi_heading.proofs.Symbols.{cells_append, Sym, token, name, the_mark, the_word, roles}
 use Rattle.spi_heading.proofs.Versions.{Cells}
@@ -73,7 +73,7 @@ module _ (v : Bool) where
       back : (cs : Cells) → Commas cs → Row v comma_row cs
       back cs p = subst (Row v comma_row) p.shows (row_into v comma_row (tt, (p.part, tt)) (tt, (tt, tt)) p.is.1)
 
-  pub commas_good : IsGood Commas
+  pub commas_good : IsGoodKind Commas
   commas_good = record {
     live = ((row_good v comma_row).live.0, comma_same.there (row_good v comma_row).live.0 (row_good v comma_row).live.1);
     closed = λ a b ma mb k x e. (row_good v comma_row).closed a b (comma_same.back a ma) (comma_same.back b mb) k x e;
@@ -99,7 +99,7 @@ module _ (v : Bool) where
   differ : Differ Commas (Row v semicolon_row)
   differ a b la lb k x y e f = let g : K.Mark mark.Comma ≡ K.Mark mark.Semicolon = sym (comma_first a la k x e) ∙ semi_first b lb k y f in cc
 
-  more_good : IsGood MoreRoles
+  more_good : IsGoodKind MoreRoles
   more_good = good_many Commas (Row v semicolon_row) commas_some semi_some differ commas_good (row_good v semicolon_row)
 
   -- ---- roles
@@ -146,7 +146,7 @@ module _ (v : Bool) where
   pub roles_same : IsSame RolesKind Roles
   roles_same = record { there = roles_from; back = λ cs p. roles_into cs p.part p.is.0 p.is.1 p.shows }
 
-  pub roles_good : IsGood Roles
+  pub roles_good : IsGoodKind Roles
   roles_good =
       let g = good_both (Row v roles_head) MoreRoles (row_good v roles_head) more_good in
       record {
@@ -202,8 +202,8 @@ module _ (v : Bool) where
 
           pub roles_read : (l : ℕ) → RowAt v ts k semicolon_row (tt, tt) l → (o : ℕ) × (l ≡ i + o) × exact.IsPartAt whole_roles (AreWholeRoles v) (w ∷ ws) (drop i ts) o
           roles_read l last =
-              let stands : Stands ts i (whole_roles (w ∷ ws)) l =
-              subst (λ (q : List Piece). Stands ts i q l) (sym (roles_are w ws))
+              let stands : AreTokensOf ts i (whole_roles (w ∷ ws)) l =
+              subst (λ (q : List Piece). AreTokensOf ts i q l) (sym (roles_are w ws))
               (stands_both ts (row_pieces roles_head (tt, (w, tt)) []) (each_pieces comma_pieces ws [] ++ row_pieces semicolon_row (tt, tt) []) i j l head.stands
               (stands_both ts (each_pieces comma_pieces ws []) (row_pieces semicolon_row (tt, tt) []) j k l along.stands last.stands)) in
               part_at whole_roles (AreWholeRoles v) (w ∷ ws) ts i l ((w, ws, refl), fits_at v ts (whole_roles (w ∷ ws)) i l fit stands) tt roles_good.closed stands

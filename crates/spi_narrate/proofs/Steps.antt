@@ -18,7 +18,7 @@ use Rattle.spi_heading.specs.Spans.{span_over}
 use Rattle.spi_heading.specs.Taking.{ReadsVersion}
 use Rattle.spi_heading.specs.Each.{each_pieces, ReadsEach, FailsWhole}
 use Rattle.spi_heading.specs.Grammar.{shared_pieces, IsShared}
-use Rattle.spi_heading.proofs.Standing.{Stands, stands_both, spelled, within_one}
+use Rattle.spi_heading.proofs.Standing.{AreTokensOf, stands_both, spelled, within_one}
 use Rattle.spi_heading.proofs.Failing.{FailsAt}
 use Rattle.spi_heading.proofs.Rows.{fits_at, stands_read}
 use Rattle.spi_heading.proofs.Calls.{part_stands, part_within}
@@ -27,7 +27,7 @@ use Rattle.spi_heading.proofs.Names.{shared_behind}
 use Rattle.spi_heading.proofs.Wholes.{WholeFails, Rest, rest_next, rest_fails, whole_fails}
 use Rattle.spi_narrate.specs.Narrations as n
 use Rattle.spi_narrate.specs.Grammar.{line_pieces, IsLine, whole_roles, AreWholeRoles, HasRole, whole_narration, IsNarration}
-use Rattle.spi_narrate.specs.Reads.{IsSpelled, ParsesNarration}
+use Rattle.spi_narrate.specs.Reads.{IsNarrationSpelled, ParsesNarration}
 use Rattle.spi_heading.proofs.Lasts.{last_answer}
 use Rattle.spi_narrate.proofs.LineRows.{lines_good, line_behind, line_solids}
 use Rattle.spi_narrate.proofs.RoleRows.{Roles, roles_good}
@@ -38,9 +38,9 @@ use Rattle.spi_narrate.proofs.Whole.{body_pieces, body_are, LinesOn, RolesOn, Na
 
 -- roles that are read stand there, and end within the text
 pub roles_read : (v : Bool) (ts : List Token) (w : SWord) (ws : List SWord) (i j : ℕ) → i ≤ length ts → (r : (m : ℕ) × (j ≡ i + m) × exact.IsPartAt whole_roles (AreWholeRoles v) (w ∷ ws) (drop i ts) m)
-    → Stands ts i (whole_roles (w ∷ ws)) j × (j ≤ length ts)
+    → AreTokensOf ts i (whole_roles (w ∷ ws)) j × (j ≤ length ts)
 roles_read v ts w ws i j within r = (
-  subst (λ (m : ℕ). Stands ts i (whole_roles (w ∷ ws)) m) (sym r.1) (part_stands whole_roles (AreWholeRoles v) (w ∷ ws) ts i r.0 within tt r.2),
+  subst (λ (m : ℕ). AreTokensOf ts i (whole_roles (w ∷ ws)) m) (sym r.1) (part_stands whole_roles (AreWholeRoles v) (w ∷ ws) ts i r.0 within tt r.2),
   part_within whole_roles (AreWholeRoles v) (w ∷ ws) ts i j within r,
 )
 
@@ -48,17 +48,17 @@ module _ (v : Bool) (ts : List Token) (fit : AreWordsFit v (kinds_of ts)) where
   pub roles_fault : (i : ℕ) → Rest Narrations (RolesOn v) ts i → (f : ParseFault) → FailsAt (Roles v) ts i f → WholeFails Narrations ts f
   roles_fault i r f e = rest_fails Narrations (Roles v) (LinesOn v) ts i f r (roles_good v) (lines_live v) e
 
-  after_roles : (ws : List SWord) (i j : ℕ) → HasRole ws → Stands ts i (whole_roles ws) j → Rest Narrations (RolesOn v) ts i → Rest Narrations (LinesOn v) ts j
+  after_roles : (ws : List SWord) (i j : ℕ) → HasRole ws → AreTokensOf ts i (whole_roles ws) j → Rest Narrations (RolesOn v) ts i → Rest Narrations (LinesOn v) ts j
   after_roles ws i j has stands r =
       rest_next Narrations (Roles v) (LinesOn v) ts i j r (roles_good v) (stands_read (Roles v) (roles_good v) ts (whole_roles ws) i j (of_piece whole_roles (AreWholeRoles v) ws (has, fits_at v ts (whole_roles ws) i j fit stands)) stands)
 
   -- roles that are read, and lines that are not
-  pub lines_answer : (w : SWord) (ws : List SWord) (i j : ℕ) → j ≤ length ts → Stands ts i (whole_roles (w ∷ ws)) j → Rest Narrations (RolesOn v) ts i → (f : ParseFault)
+  pub lines_answer : (w : SWord) (ws : List SWord) (i j : ℕ) → j ≤ length ts → AreTokensOf ts i (whole_roles (w ∷ ws)) j → Rest Narrations (RolesOn v) ts i → (f : ParseFault)
       → ReadsEach (λ (ls : List n.Line). ls) line_pieces v (IsLine v) (λ ts i. i < length ts) (Err f) ts j → WholeFails Narrations ts f
   lines_answer w ws i j within stands r f e = last_answer line_pieces line_behind line_solids v (IsLine v) (lines_good v) (lines_some v) Narrations ts fit j within (after_roles (w ∷ ws) i j (w, ws, refl) stands r) f e
 
   body_stands : (ds : List t.Declared) (ss : List h.Shared) (ws : List SWord) (ls : List n.Line) (i j k l m : ℕ) → Along decl_pieces decl_behind (IsDeclared v) ts i ds j → Along shared_pieces shared_behind (IsShared v) ts j ss k
-      → Stands ts k (whole_roles ws) l → Along line_pieces line_behind (IsLine v) ts l ls m → Stands ts i (body_pieces ds ss ws ls) m
+      → AreTokensOf ts k (whole_roles ws) l → Along line_pieces line_behind (IsLine v) ts l ls m → AreTokensOf ts i (body_pieces ds ss ws ls) m
   body_stands ds ss ws ls i j k l m a b c d =
       stands_both ts (each_pieces decl_pieces ds []) (each_pieces shared_pieces ss [] ++ (whole_roles ws ++ each_pieces line_pieces ls [])) i j m a.stands
       (stands_both ts (each_pieces shared_pieces ss []) (whole_roles ws ++ each_pieces line_pieces ls []) j k m b.stands
@@ -66,32 +66,32 @@ module _ (v : Bool) (ts : List Token) (fit : AreWordsFit v (kinds_of ts)) where
 
 -- all of it, up to the end
 module _ (ts : List Token) (some : 0 < length ts) (s : Span) (spans : s ≡ span_over ts 0 (length ts)) where
-  closes_at : (ps : List Piece) (i : ℕ) → Stands ts i ps (length ts) → Stands ts i (ps ++ closes s.to ∷ []) (length ts)
+  closes_at : (ps : List Piece) (i : ℕ) → AreTokensOf ts i ps (length ts) → AreTokensOf ts i (ps ++ closes s.to ∷ []) (length ts)
   closes_at ps i h = stands_both ts ps (closes s.to ∷ []) i (length ts) (length ts) h (ap (λ (x : Span). x.to) (sym spans), refl)
 
-  spell : (x : n.Narration) → Stands ts 0 (whole_narration x) (length ts) → exact.Spells [] 0 (whole_narration x) ts
+  spell : (x : n.Narration) → AreTokensOf ts 0 (whole_narration x) (length ts) → exact.Spells [] 0 (whole_narration x) ts
   spell x h = subst (λ (l : List Token). exact.Spells l 0 (whole_narration x) ts) (drop-length ts) (spelled ts (whole_narration x) 0 (length ts) h)
 
-  whole_stands : (ds : List t.Declared) (ss : List h.Shared) (ws : List SWord) (ls : List n.Line) (r : ℕ × ℕ) → ReadsVersion (Ok r) ts → Stands ts r.1 (body_pieces ds ss ws ls ++ closes s.to ∷ []) (length ts)
-      → Stands ts 0 (whole_narration (record { span = s; version = r.0; decls = ds; shared = ss; roles = ws; lines = ls })) (length ts)
+  whole_stands : (ds : List t.Declared) (ss : List h.Shared) (ws : List SWord) (ls : List n.Line) (r : ℕ × ℕ) → ReadsVersion (Ok r) ts → AreTokensOf ts r.1 (body_pieces ds ss ws ls ++ closes s.to ∷ []) (length ts)
+      → AreTokensOf ts 0 (whole_narration (record { span = s; version = r.0; decls = ds; shared = ss; roles = ws; lines = ls })) (length ts)
   whole_stands ds ss ws ls r (inl h) body =
-      subst (λ (n : ℕ). Stands ts 0 (whole_narration (record { span = s; version = n; decls = ds; shared = ss; roles = ws; lines = ls })) (length ts)) (sym h.0) (
+      subst (λ (n : ℕ). AreTokensOf ts 0 (whole_narration (record { span = s; version = n; decls = ds; shared = ss; roles = ws; lines = ls })) (length ts)) (sym h.0) (
         some,
         ap (λ (y : Span). y.from) (sym spans),
-        subst (λ (l : List Piece). Stands ts 0 (version_are ++ l) (length ts)) (sym (body_are ds ss ws ls (closes s.to ∷ [])))
-            (stands_both ts version_are (body_pieces ds ss ws ls ++ closes s.to ∷ []) 0 3 (length ts) (version_row_at false ts h.2 h.3 h.4).stands (subst (λ (n : ℕ). Stands ts n (body_pieces ds ss ws ls ++ closes s.to ∷ []) (length ts)) h.1 body)),
+        subst (λ (l : List Piece). AreTokensOf ts 0 (version_are ++ l) (length ts)) (sym (body_are ds ss ws ls (closes s.to ∷ [])))
+            (stands_both ts version_are (body_pieces ds ss ws ls ++ closes s.to ∷ []) 0 3 (length ts) (version_row_at false ts h.2 h.3 h.4).stands (subst (λ (n : ℕ). AreTokensOf ts n (body_pieces ds ss ws ls ++ closes s.to ∷ []) (length ts)) h.1 body)),
       )
   whole_stands ds ss ws ls r (inr h) body =
-      subst (λ (n : ℕ). Stands ts 0 (whole_narration (record { span = s; version = n; decls = ds; shared = ss; roles = ws; lines = ls })) (length ts)) (sym h.0) (
+      subst (λ (n : ℕ). AreTokensOf ts 0 (whole_narration (record { span = s; version = n; decls = ds; shared = ss; roles = ws; lines = ls })) (length ts)) (sym h.0) (
         some,
         ap (λ (y : Span). y.from) (sym spans),
-        subst (λ (l : List Piece). Stands ts 0 l (length ts)) (sym (body_are ds ss ws ls (closes s.to ∷ [])))
-            (subst (λ (n : ℕ). Stands ts n (body_pieces ds ss ws ls ++ closes s.to ∷ []) (length ts)) h.1 body),
+        subst (λ (l : List Piece). AreTokensOf ts 0 l (length ts)) (sym (body_are ds ss ws ls (closes s.to ∷ [])))
+            (subst (λ (n : ℕ). AreTokensOf ts n (body_pieces ds ss ws ls ++ closes s.to ∷ []) (length ts)) h.1 body),
       )
 
   pub narration_read : (fit : AreWordsFit (is_version_2 (kinds_of ts)) (kinds_of ts)) (r : ℕ × ℕ) (vr : ReadsVersion (Ok r) ts) (ds : List t.Declared) (ss : List h.Shared) (w : SWord) (ws : List SWord) (ls : List n.Line) (j k l : ℕ)
-      → Along decl_pieces decl_behind (IsDeclared (r.0 == 2)) ts r.1 ds j → Along shared_pieces shared_behind (IsShared (r.0 == 2)) ts j ss k → Stands ts k (whole_roles (w ∷ ws)) l → Along line_pieces line_behind (IsLine (r.0 == 2)) ts l ls (length ts)
-      → IsSpelled (record { span = s; version = r.0; decls = ds; shared = ss; roles = w ∷ ws; lines = ls }) ts
+      → Along decl_pieces decl_behind (IsDeclared (r.0 == 2)) ts r.1 ds j → Along shared_pieces shared_behind (IsShared (r.0 == 2)) ts j ss k → AreTokensOf ts k (whole_roles (w ∷ ws)) l → Along line_pieces line_behind (IsLine (r.0 == 2)) ts l ls (length ts)
+      → IsNarrationSpelled (record { span = s; version = r.0; decls = ds; shared = ss; roles = w ∷ ws; lines = ls }) ts
   narration_read fit r vr ds ss w ws ls j k l a b c d = (
     record {
       version = version_known ts r vr;
@@ -107,10 +107,10 @@ module _ (ts : List Token) (some : 0 < length ts) (s : Span) (spans : s ≡ span
       x : n.Narration
       x = record { span = s; version = r.0; decls = ds; shared = ss; roles = w ∷ ws; lines = ls }
 
-      body : Stands ts r.1 (body_pieces ds ss (w ∷ ws) ls ++ closes s.to ∷ []) (length ts)
+      body : AreTokensOf ts r.1 (body_pieces ds ss (w ∷ ws) ls ++ closes s.to ∷ []) (length ts)
       body = closes_at (body_pieces ds ss (w ∷ ws) ls) r.1 (body_stands (r.0 == 2) ts (version_fits ts fit r vr) ds ss (w ∷ ws) ls r.1 j k l (length ts) a b c d)
 
-      stands : Stands ts 0 (whole_narration x) (length ts)
+      stands : AreTokensOf ts 0 (whole_narration x) (length ts)
       stands = whole_stands ds ss (w ∷ ws) ls r vr body
 
 -- ---- the answers of the call
@@ -119,5 +119,5 @@ pub parse_fails : {V : Type 0} (view : V → n.Narration) (ts : List Token) (f :
 parse_fails view ts f (Ok x) is h = absurd is
 parse_fails view ts f (Err e) is h = subst (λ (g : ParseFault). FailsWhole whole_narration IsNarration g ts) (sym is) (whole_fails whole_narration IsNarration ts f h)
 
-pub roles_some : (ts : List Token) (w : SWord) (ws : List SWord) (i j : ℕ) → Stands ts i (whole_roles (w ∷ ws)) j → 0 < length ts
+pub roles_some : (ts : List Token) (w : SWord) (ws : List SWord) (i j : ℕ) → AreTokensOf ts i (whole_roles (w ∷ ws)) j → 0 < length ts
 roles_some ts w ws i j h = let b = within_one ts i h.0 h.1 h.2 in omega arith

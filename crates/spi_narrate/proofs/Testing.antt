@@ -12,46 +12,46 @@ use Rattle.spi_heading.specs.Views.{shared_of}
 use Rattle.spi_narrate.specs.Narrations as n
 use Rattle.spi_narrate.specs.declared.fault.NarrateFault.{NarrateFault}
 use Rattle.spi_narrate.specs.declared.fault.NarrateFault.TheVariants as faults
-use Rattle.spi_narrate.specs.Faults.{Item, declares, speaks, counts, IsAmong, HasFault, fault_of, shared_items, role_items, line_items, items_of, IsFirstFault, IsFaultless}
+use Rattle.spi_narrate.specs.Faults.{FaultItem, declares, speaks, counts, IsAmong, HasFault, fault_of, shared_items, role_items, line_items, items_of, IsFirstFault, IsFaultless}
 use Rattle.spi_narrate.specs.declared.tree.Narration.{Narration}
 use Rattle.spi_narrate.specs.Views.{line_of, narration_of}
-use Rattle.spi_narrate.specs.Reads.{IsSpelled, IsTested, FailsNarration, ReadsNarration}
+use Rattle.spi_narrate.specs.Reads.{IsNarrationSpelled, IsTested, FailsNarration, ReadsNarration}
 
 -- ---- items behind others
 
-pub first_front : (xs ys : List Item) (f : NarrateFault) → IsFirstFault xs f → IsFirstFault (xs ++ ys) f
+pub first_front : (xs ys : List FaultItem) (f : NarrateFault) → IsFirstFault xs f → IsFirstFault (xs ++ ys) f
 first_front [] ys f h = absurd h
 first_front (x ∷ xs) ys f (inl h) = inl h
 first_front (x ∷ xs) ys f (inr h) = inr (h.0, first_front xs ys f h.1)
 
-pub first_behind : (xs ys : List Item) (f : NarrateFault) → IsFaultless xs → IsFirstFault ys f → IsFirstFault (xs ++ ys) f
+pub first_behind : (xs ys : List FaultItem) (f : NarrateFault) → IsFaultless xs → IsFirstFault ys f → IsFirstFault (xs ++ ys) f
 first_behind [] ys f h g = g
 first_behind (x ∷ xs) ys f h g = inr (h.0, first_behind xs ys f h.1 g)
 
-pub both_faultless : (xs ys : List Item) → IsFaultless xs → IsFaultless ys → IsFaultless (xs ++ ys)
+pub both_faultless : (xs ys : List FaultItem) → IsFaultless xs → IsFaultless ys → IsFaultless (xs ++ ys)
 both_faultless [] ys h g = g
 both_faultless (x ∷ xs) ys h g = (h.0, both_faultless xs ys h.1 g)
 
 -- memory ran out, or this is the first fault
-abbrev pub IsFailed : NarrateFault → List Item → Type 0
+abbrev pub IsFailed : NarrateFault → List FaultItem → Type 0
 IsFailed f xs = (f ≡ faults.NoMemory) ⊎ IsFirstFault xs f
 
 -- a fault of the items in front, or of those behind faultless ones
-pub tested_front : {V : Type 0} (r : Result V NarrateFault) (f : NarrateFault) (xs ys : List Item) → IsErrAnd r (λ e. e ≡ f) → IsFailed f xs → IsTested r (xs ++ ys)
+pub tested_front : {V : Type 0} (r : Result V NarrateFault) (f : NarrateFault) (xs ys : List FaultItem) → IsErrAnd r (λ e. e ≡ f) → IsFailed f xs → IsTested r (xs ++ ys)
 tested_front (Ok x) f xs ys is h = absurd is
 tested_front (Err e) f xs ys is (inl none) = inl (is ∙ none)
 tested_front (Err e) f xs ys is (inr h) = inr (subst (IsFirstFault (xs ++ ys)) (sym is) (first_front xs ys f h))
 
-pub tested_behind : {V : Type 0} (r : Result V NarrateFault) (xs ys : List Item) → IsFaultless xs → IsTested r ys → IsTested r (xs ++ ys)
+pub tested_behind : {V : Type 0} (r : Result V NarrateFault) (xs ys : List FaultItem) → IsFaultless xs → IsTested r ys → IsTested r (xs ++ ys)
 tested_behind (Ok x) xs ys h g = both_faultless xs ys h g
 tested_behind (Err e) xs ys h (inl none) = inl none
 tested_behind (Err e) xs ys h (inr g) = inr (first_behind xs ys e h g)
 
 -- one item
-pub one_faultless : (x : Item) → (HasFault x → ⊥) → IsFaultless (x ∷ [])
+pub one_faultless : (x : FaultItem) → (HasFault x → ⊥) → IsFaultless (x ∷ [])
 one_faultless x h = (h, tt)
 
-pub one_fault : (x : Item) (f : NarrateFault) → HasFault x → f ≡ fault_of x → IsFirstFault (x ∷ []) f
+pub one_fault : (x : FaultItem) (f : NarrateFault) → HasFault x → f ≡ fault_of x → IsFirstFault (x ∷ []) f
 one_fault x f h e = inl (h, e)
 
 -- ---- lists by their items
@@ -134,16 +134,16 @@ roles_both k all before [] more =
     ap (λ (i : ℕ). role_items i all before more) e ∙ ap (λ (l : List SWord). role_items (k + 0) all l more) (sym (append-nil before))
 roles_both k all before (w ∷ ws) more =
     let e : k + 1 + length ws ≡ k + suc (length ws) = omega arith in
-    ap (λ (l : List Item). declares before w ∷ counts k 8 all w.span ∷ l)
+    ap (λ (l : List FaultItem). declares before w ∷ counts k 8 all w.span ∷ l)
     (roles_both (k + 1) all (before ++ w ∷ []) ws more
-    ∙ ap (λ (l : List Item). role_items (k + 1) all (before ++ w ∷ []) ws ++ l)
+    ∙ ap (λ (l : List FaultItem). role_items (k + 1) all (before ++ w ∷ []) ws ++ l)
     (ap (λ (i : ℕ). role_items i all ((before ++ w ∷ []) ++ ws) more) e ∙ ap (λ (l : List SWord). role_items (k + suc (length ws)) all l more) (append_assoc before (w ∷ []) ws)))
 
 abbrev pub AreNewRoles : ℕ → SWord → List SWord → Type 0
 AreNewRoles all first ws = IsFaultless (role_items 1 all (first ∷ []) ws)
 
 -- the role with a number behind the first
-abbrev pub role_behind : ℕ → SWord → List SWord → SWord → List Item
+abbrev pub role_behind : ℕ → SWord → List SWord → SWord → List FaultItem
 role_behind all first before w = role_items (length (first ∷ before)) all (first ∷ before) (w ∷ [])
 
 role_at : (all : ℕ) (first : SWord) (more : List SWord) (i : ℕ) (w : SWord) (after : List SWord) → i < length more → role_items 1 all (first ∷ []) (take i more ++ w ∷ after) ≡ role_items 1 all (first ∷ []) (take i more) ++ role_items (length (first ∷ take i more)) all (first ∷ take i more) (w ∷ after)
@@ -187,9 +187,9 @@ lines_both k all roles (l ∷ ls) ms =
     let e : k + 1 + length ls ≡ k + suc (length ls) = omega arith in
     let one = line_items k all roles (l ∷ []) in
     line_then k all roles l (ls ++ ms)
-    ∙ ap (λ (r : List Item). one ++ r) (lines_both (k + 1) all roles ls ms ∙ ap (λ (i : ℕ). line_items (k + 1) all roles ls ++ line_items i all roles ms) e)
+    ∙ ap (λ (r : List FaultItem). one ++ r) (lines_both (k + 1) all roles ls ms ∙ ap (λ (i : ℕ). line_items (k + 1) all roles ls ++ line_items i all roles ms) e)
     ∙ sym (append_assoc one (line_items (k + 1) all roles ls) (line_items (k + suc (length ls)) all roles ms))
-    ∙ ap (λ (r : List Item). r ++ line_items (k + suc (length ls)) all roles ms) (sym (line_then k all roles l ls))
+    ∙ ap (λ (r : List FaultItem). r ++ line_items (k + suc (length ls)) all roles ms) (sym (line_then k all roles l ls))
 
 taken_length : {A : Type 0} (xs : List A) (i : ℕ) → i < length xs → length (take i xs) ≡ i
 taken_length xs i l = length-take-le i xs (omega (arith, l))
@@ -220,14 +220,14 @@ lines_fault f r fault all roles xs i x e l h is g =
 
 -- ---- one fault at most
 
-pub fault_once : (xs : List Item) (f g : NarrateFault) → IsFirstFault xs f → IsFirstFault xs g → f ≡ g
+pub fault_once : (xs : List FaultItem) (f g : NarrateFault) → IsFirstFault xs f → IsFirstFault xs g → f ≡ g
 fault_once [] f g a b = absurd a
 fault_once (x ∷ xs) f g (inl a) (inl b) = a.1 ∙ sym b.1
 fault_once (x ∷ xs) f g (inl a) (inr b) = absurd (b.0 a.0)
 fault_once (x ∷ xs) f g (inr a) (inl b) = absurd (a.0 b.0)
 fault_once (x ∷ xs) f g (inr a) (inr b) = fault_once xs f g a.1 b.1
 
-pub fault_never : (xs : List Item) (f : NarrateFault) → IsFirstFault xs f → IsFaultless xs → ⊥
+pub fault_never : (xs : List FaultItem) (f : NarrateFault) → IsFirstFault xs f → IsFaultless xs → ⊥
 fault_never [] f a b = a
 fault_never (x ∷ xs) f (inl a) b = b.0 a.0
 fault_never (x ∷ xs) f (inr a) b = fault_never xs f a.1 b.1
@@ -240,7 +240,7 @@ pub whole : {V : Type 0} (r : Result V NarrateFault) (x : Narration)
     → IsTested r (items_of (narration_of x))
 whole r x h =
     let roles = x.first ∷ x.more.items in
-    let behind : ℕ → List Item = λ k. role_items 0 (length roles) [] roles ++ line_items 0 k roles (map line_of x.lines.items) in
+    let behind : ℕ → List FaultItem = λ k. role_items 0 (length roles) [] roles ++ line_items 0 k roles (map line_of x.lines.items) in
     subst (λ (k : ℕ). IsTested r (shared_items 0 k (map shared_of x.shared.items) ++ behind (length (map line_of x.lines.items)))) (sym (map_length shared_of x.shared.items))
     (subst (λ (k : ℕ). IsTested r (shared_items 0 (length x.shared.items) (map shared_of x.shared.items) ++ behind k)) (sym (map_length line_of x.lines.items)) h)
 
@@ -253,14 +253,14 @@ IsOfReading (faults.RoleTwice s w) = ⊥
 IsOfReading (faults.NarrationTooLarge s count) = ⊥
 IsOfReading faults.NoMemory = ⊥
 
-never_of_reading : (xs : List Item) (f : NarrateFault) → IsOfReading f → IsFirstFault xs f → ⊥
+never_of_reading : (xs : List FaultItem) (f : NarrateFault) → IsOfReading f → IsFirstFault xs f → ⊥
 never_of_reading [] f is h = h
 never_of_reading (declares before w ∷ xs) f is (inl h) = subst IsOfReading h.1 is
 never_of_reading (speaks roles w ∷ xs) f is (inl h) = subst IsOfReading h.1 is
 never_of_reading (counts i limit all s ∷ xs) f is (inl h) = subst IsOfReading h.1 is
 never_of_reading (x ∷ xs) f is (inr h) = never_of_reading xs f is h.1
 
-fails_of : (x : n.Narration) (f : NarrateFault) (ts : List Token) → IsSpelled x ts → IsFailed f (items_of x) → FailsNarration f ts
+fails_of : (x : n.Narration) (f : NarrateFault) (ts : List Token) → IsNarrationSpelled x ts → IsFailed f (items_of x) → FailsNarration f ts
 fails_of x (faults.Syntax token) ts is (inl e) = absurd cc
 fails_of x (faults.Syntax token) ts is (inr h) = absurd (never_of_reading (items_of x) (faults.Syntax token) tt h)
 fails_of x (faults.TooDeep token) ts is (inl e) = absurd cc
@@ -273,6 +273,6 @@ fails_of x (faults.NarrationTooLarge s count) ts is (inl e) = absurd cc
 fails_of x (faults.NarrationTooLarge s count) ts is (inr h) = (x, is, h)
 fails_of x faults.NoMemory ts is h = tt
 
-pub test_fails : {V : Type 0} (view : V → n.Narration) (r : Result V NarrateFault) (f : NarrateFault) (x : n.Narration) (ts : List Token) → IsErrAnd r (λ e. e ≡ f) → IsSpelled x ts → IsFailed f (items_of x) → ReadsNarration view r ts
+pub test_fails : {V : Type 0} (view : V → n.Narration) (r : Result V NarrateFault) (f : NarrateFault) (x : n.Narration) (ts : List Token) → IsErrAnd r (λ e. e ≡ f) → IsNarrationSpelled x ts → IsFailed f (items_of x) → ReadsNarration view r ts
 test_fails view (Ok v) f x ts is spelled h = absurd is
 test_fails view (Err e) f x ts is spelled h = subst (λ (g : NarrateFault). FailsNarration g ts) (sym is) (fails_of x f ts spelled h)

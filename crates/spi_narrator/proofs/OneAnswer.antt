@@ -13,11 +13,11 @@ use Rattle.spi_tree.specs.Trees as t
 use Rattle.spi_narrate.specs.Narrations as n
 use Rattle.spi_weave.specs.Woven.{woven}
 use Rattle.spi_honest.specs.Reading.{Map, value}
-use Rattle.spi_honest.specs.Narrated.{Told, Does, does_split, does_match, does_decrypt, does_check, does_begin, does_end, does_end_many, does_cast, does_new, Tells, tells_local, tells_pass, giving, Narrates, narrates_none, narrates_line, AreSmall, NarratesSmall, shown, free_of, at}
+use Rattle.spi_honest.specs.Narrated.{Told, Does, does_split, does_match, does_decrypt, does_check, does_begin, does_end, does_end_many, does_cast, does_new, TellsLine, tells_local, tells_pass, giving, Narrates, narrates_none, narrates_line, AreLinesSmall, NarratesSmall, shown, free_of, at}
 use Rattle.spi_honest.specs.Roles.{HasChannel, HaveChannels}
 use Rattle.spi_honest.specs.Honest.{IsWrongAt, IsNotReady, IsTooLarge}
 use Rattle.spi_narrator.specs.declared.answer.Refusal.{Refusal}
-use Rattle.spi_narrator.specs.Answers.{Refuses, not_free, out_of_scope, not_ready, too_large, IsTold}
+use Rattle.spi_narrator.specs.Answers.{RefusesNarration, not_free, out_of_scope, not_ready, too_large, IsTold}
 
 -- ---- a line is told in one way
 
@@ -48,7 +48,7 @@ module _ (free : Names) where
       (more ≡ at x (value (o.has from.word) m) ∷ []) × (e ≡ None)
       × (p ≡ record { names = o.names; has = giving to.word (at x (value (o.has from.word) m) ∷ []) o.has })
 
-  facts : {o : Told} {l : n.Line} {more : Map} {e : Option Event} {p : Told} → Tells free o l more e p → Facts o l more e p
+  facts : {o : Told} {l : n.Line} {more : Map} {e : Option Event} {p : Told} → TellsLine free o l more e p → Facts o l more e p
   facts (tells_local {k = k} a) = (k, a, refl)
   facts (tells_pass a b) = (refl, refl, refl)
 
@@ -60,7 +60,7 @@ module _ (free : Names) where
       (same.0, same.1, u ∙ ap one same.0 ∙ ap two same.2 ∙ sym v)
   once o (n.pass s from to c m x) more other e d p q (a, b, u) (f, g, v) = (a ∙ sym f, b ∙ sym g, u ∙ sym v)
 
-  tells_once : {o p q : Told} {l : n.Line} {more other : Map} {e d : Option Event} → Tells free o l more e p → Tells free o l other d q → (more ≡ other) × (e ≡ d) × (p ≡ q)
+  tells_once : {o p q : Told} {l : n.Line} {more other : Map} {e d : Option Event} → TellsLine free o l more e p → TellsLine free o l other d q → (more ≡ other) × (e ≡ d) × (p ≡ q)
   tells_once {o} {p} {q} {l} {more} {other} {e} {d} a b = once o l more other e d p q (facts a) (facts b)
 
   -- a line and those behind it
@@ -68,7 +68,7 @@ module _ (free : Names) where
     pub more : Map
     pub event : Option Event
     pub then : Told
-    pub tells : Tells free o l more event then
+    pub tells : TellsLine free o l more event then
     pub few : largest (shown more event) ≤ message_most
     pub events : List Event
     pub rest : NarratesSmall free then ls events q
@@ -76,7 +76,7 @@ module _ (free : Names) where
   line_then : {o q : Told} {l : n.Line} {ls : List n.Line} {fs : List Event} → NarratesSmall free o (l ∷ ls) fs q → LineThen o l ls q
   line_then {o} {q = q} {l = l} {ls = ls} {fs = fs} b = go b.narrates b.small
     where
-      go : {gs : List Event} → (a : Narrates free o (l ∷ ls) gs q) → AreSmall a → LineThen o l ls q
+      go : {gs : List Event} → (a : Narrates free o (l ∷ ls) gs q) → AreLinesSmall a → LineThen o l ls q
       go (narrates_line {p = p} {more = more} {e = e} {es = es} t r) h = record { more = more; event = e; then = p; tells = t; few = h.0; events = es; rest = record { narrates = r; small = h.1 } }
 
   -- lines in front are told in one way, and the next one then too
@@ -93,11 +93,11 @@ module _ (free : Names) where
   channel_at [] after here h = h.0
   channel_at (l ∷ before) after here h = channel_at before after here h.1
 
-abbrev pub NeverBoth : Type 0
-NeverBoth = (tree : t.File) (file : Meant) (fault : ScopeFault) → StandsFor tree file → HasFirst tree fault → ⊥
+abbrev pub NarrationNeverBoth : Type 0
+NarrationNeverBoth = (tree : t.File) (file : Meant) (fault : ScopeFault) → StandsFor tree file → HasFirst tree fault → ⊥
 
-abbrev pub OneMeant : Type 0
-OneMeant = (tree : t.File) (file other : Meant) → StandsFor tree file → StandsFor tree other → file ≡ other
+abbrev pub OneNarrationMeant : Type 0
+OneNarrationMeant = (tree : t.File) (file other : Meant) → StandsFor tree file → StandsFor tree other → file ≡ other
 
 unready : (x : n.Narration) (told : Meant) (i : ℕ) → IsTold x told → IsWrongAt x i (IsNotReady (free_of x)) → ⊥
 unready x told i is w =
@@ -113,7 +113,7 @@ too_big x told i nodes is w =
     let small = next.few in
     absurd (omega (arith, size, large, small))
 
-pub told_never : NeverBoth → (x : n.Narration) (told : Meant) (r : Refusal) → IsTold x told → Refuses x r → ⊥
+pub told_never : NarrationNeverBoth → (x : n.Narration) (told : Meant) (r : Refusal) → IsTold x told → RefusesNarration x r → ⊥
 told_never never x told r is (not_free f) =
     let channel = channel_at (free_of x) f.before f.after _ (subst (HaveChannels (free_of x)) f.cut is.channels) in
     f.strange channel.0 channel.1
@@ -121,7 +121,7 @@ told_never never x told r is (out_of_scope h first) = never (woven x) is.file _ 
 told_never never x told r is (not_ready {i = i} h stands f l) = unready x told i is f
 told_never never x told r is (too_large {i = i} {nodes = nodes} h stands f l) = too_big x told i nodes is f
 
-pub told_once : OneMeant → (x : n.Narration) (told other : Meant) → IsTold x told → IsTold x other → told ≡ other
+pub told_once : OneNarrationMeant → (x : n.Narration) (told other : Meant) → IsTold x told → IsTold x other → told ≡ other
 told_once one x told other a b =
     let file = one (woven x) a.file b.file a.stands b.stands in
     let steps = a.is.order ∙ sym b.is.order in

@@ -30,17 +30,17 @@ use Rattle.spi_narrator.specs.Answers.{IsTold}
 -- ---- the steps are few, and their places are low
 
 -- each place that a role has is below this
-abbrev AreBelow : ℕ → (Word → ℕ) → Type 0
-AreBelow b place = (w : Word) → place w < b
+abbrev ArePlacesBelow : ℕ → (Word → ℕ) → Type 0
+ArePlacesBelow b place = (w : Word) → place w < b
 
-below_moved : (b : ℕ) (r : Word) (i : ℕ) (place : Word → ℕ) → i < b → AreBelow b place → AreBelow b (moved r i place)
+below_moved : (b : ℕ) (r : Word) (i : ℕ) (place : Word → ℕ) → i < b → ArePlacesBelow b place → ArePlacesBelow b (moved r i place)
 below_moved b r i place u h w = chosen (bytes_eq r w)
   where
     chosen : (c : Bool) → (if c then i else place w) < b
     chosen true = u
     chosen false = h w
 
-low_lines : (place : Word → ℕ) (k : ℕ) (ls : List n.Line) (b : ℕ) → b < 4294967296 → AreBelow b place → k + length ls < b → AllByRecursion HasLowPlaces (line_steps place k ls)
+low_lines : (place : Word → ℕ) (k : ℕ) (ls : List n.Line) (b : ℕ) → b < 4294967296 → ArePlacesBelow b place → k + length ls < b → AllByRecursion HasLowPlaces (line_steps place k ls)
 low_lines place k [] b u h v = tt
 low_lines place k (n.local s r f ∷ ls) b u h v = (low (place r.word) (h r.word), low_lines place k ls b u h (omega (arith, v)))
   where
@@ -83,11 +83,11 @@ chosen_below : (c : Bool) (i j b : ℕ) → i < b → j < b → (if c then i els
 chosen_below true i j b u v = u
 chosen_below false i j b u v = v
 
-below_from : (k : ℕ) (rs : List SWord) (b : ℕ) → k + length rs < b → AreBelow b (places_from k rs)
+below_from : (k : ℕ) (rs : List SWord) (b : ℕ) → k + length rs < b → ArePlacesBelow b (places_from k rs)
 below_from k [] b u w = omega (arith, u)
 below_from k (r ∷ rs) b u w = chosen_below (bytes_eq r.word w) k (places_from (suc k) rs w) b (omega (arith, u)) (below_from (suc k) rs b (omega (arith, u)) w)
 
-below_of : (rs : List SWord) (b : ℕ) → 2 + length rs < b → AreBelow b (places_of rs)
+below_of : (rs : List SWord) (b : ℕ) → 2 + length rs < b → ArePlacesBelow b (places_of rs)
 below_of [] b u w = omega (arith, u)
 below_of (r ∷ rs) b u w = chosen (bytes_eq r.word w)
   where
@@ -150,10 +150,10 @@ scheduled f steps d is few low = record {
   };
 }
 
-abbrev pub ReadsBack : Type 0
-ReadsBack = (x : n.Narration) (told : Meant) (text : List ℕ) → IsNarration x → IsWithin (whole_narration x) → AreKinds (kinds_in (whole_narration x)) → IsTellable x → IsTold x told → IsCanonicalText told text → length text ≤ limit → SpellsFile text told
+abbrev pub NarrationReadsBack : Type 0
+NarrationReadsBack = (x : n.Narration) (told : Meant) (text : List ℕ) → IsNarration x → IsWithin (whole_narration x) → AreKinds (kinds_in (whole_narration x)) → IsTellable x → IsTold x told → IsCanonicalText told text → length text ≤ limit → SpellsFile text told
 
-pub reads_back : ReadsBack
+pub reads_back : NarrationReadsBack
 reads_back x told text formed within are tellable is canonical short =
     let wove = woven_formed x formed within are tellable.shared tellable.roles tellable.lines in
     let file = printable (woven x) is.file wove.0 wove.1 (tree_fit (woven x) wove.2) is.stands in

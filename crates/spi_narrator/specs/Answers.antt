@@ -16,7 +16,7 @@ use Rattle.spi_honest.specs.declared.honest.Honest.{Honest}
 use Rattle.spi_honest.specs.declared.fault.HonestFault.TheVariants.{LineNotReady, NarratedTooLarge}
 use Rattle.spi_honest.specs.Narrated.{free_of}
 use Rattle.spi_honest.specs.Roles.{HaveChannels}
-use Rattle.spi_honest.specs.Honest.{IsHonest, HasFault}
+use Rattle.spi_honest.specs.Honest.{IsHonest, HasHonestFault}
 use Rattle.spi_narrator.specs.declared.answer.Refusal.{Refusal}
 use Rattle.spi_narrator.specs.declared.answer.Refusal.TheVariants.{NotFree, Scope, NotReady, TooLarge}
 use Rattle.spi_narrator.specs.declared.answer.Answer.{Answer}
@@ -44,15 +44,15 @@ pub record IsFirstNotFree (free : Names) (lines : List n.Line) (w : SWord) : Typ
   pub strange : (i : ℕ) → number_of free w.word ≡ Some i → ⊥
 
 -- the first refusal, in this order
-pub data Refuses (x : n.Narration) : Refusal → Type 0 where
-  not_free : {w : SWord} → IsFirstNotFree (free_of x) x.lines w → Refuses x (NotFree w.span w.word)
+pub data RefusesNarration (x : n.Narration) : Refusal → Type 0 where
+  not_free : {w : SWord} → IsFirstNotFree (free_of x) x.lines w → RefusesNarration x (NotFree w.span w.word)
   out_of_scope : {f : ScopeFault} → HaveChannels (free_of x) x.lines → HasFirst (woven x) f
-      → Refuses x (Scope f)
+      → RefusesNarration x (Scope f)
   not_ready : {i : ℕ} {s : Span} {file : Meant} → HaveChannels (free_of x) x.lines → StandsFor (woven x) file
-      → HasFault x (LineNotReady i) → LineIn x.lines i s → Refuses x (NotReady s)
+      → HasHonestFault x (LineNotReady i) → LineIn x.lines i s → RefusesNarration x (NotReady s)
   too_large : {i nodes : ℕ} {s : Span} {file : Meant} → HaveChannels (free_of x) x.lines
       → StandsFor (woven x) file
-      → HasFault x (NarratedTooLarge i nodes) → LineIn x.lines i s → Refuses x (TooLarge s nodes)
+      → HasHonestFault x (NarratedTooLarge i nodes) → LineIn x.lines i s → RefusesNarration x (TooLarge s nodes)
 
 -- the file is the one that the narration is woven into, with an honest schedule
 pub record IsTold (x : n.Narration) (told : Meant) : Type 0 where
@@ -64,6 +64,6 @@ pub record IsTold (x : n.Narration) (told : Meant) : Type 0 where
   pub same : told ≡ with_schedule file (map step honest.steps.items)
 
 -- what the narration answers
-abbrev pub IsAnswer : n.Narration → Answer → Type 0
-IsAnswer x (Told f) = IsTold x (meant f)
-IsAnswer x (Refused r) = Refuses x r
+abbrev pub IsNarrationAnswer : n.Narration → Answer → Type 0
+IsNarrationAnswer x (Told f) = IsTold x (meant f)
+IsNarrationAnswer x (Refused r) = RefusesNarration x r

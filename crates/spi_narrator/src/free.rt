@@ -3,7 +3,7 @@
 ghost use Rattle.std.specs.Prelude.{map, MatchOption};
 ghost use Rattle.spi_scope.specs.Scope.{Names};
 ghost use Rattle.spi_narrate.specs.Views.{line_of};
-ghost use Rattle.spi_honest.specs.Free.{Numbers};
+ghost use Rattle.spi_honest.specs.Free.{NumbersSpellings};
 ghost use Rattle.spi_honest.specs.Roles.{HasChannel, HaveChannels};
 ghost use Rattle.spi_narrator.specs.Answers.{IsFirstNotFree};
 ghost use Rattle.spi_narrator.specs.Free.{IsStrange};
@@ -14,7 +14,7 @@ use spi_tree::SWord;
 
 /// The word after `on`, where it isn't a free name.
 fn strange<'n>(names: &FreeNames<'_>, line: &'n Line) -> Option<&'n SWord>
-    ensures { (free : Names) → Numbers names.now free
+    ensures { (free : Names) → NumbersSpellings names.now free
         → MatchOption result (HasChannel free (line_of line.now))
         (λ w. IsStrange free (line_of line.now) w.now) }
 {
@@ -29,7 +29,7 @@ fn strange<'n>(names: &FreeNames<'_>, line: &'n Line) -> Option<&'n SWord>
 
 /// The first word after `on` that isn't a free name. The time is that of the lines.
 pub fn first_not_free<'n>(names: &FreeNames<'_>, lines: &'n [Line]) -> Option<&'n SWord>
-    ensures { (free : Names) → Numbers names.now free
+    ensures { (free : Names) → NumbersSpellings names.now free
         → MatchOption result (HaveChannels free (map line_of lines.now))
         (λ w. IsFirstNotFree free (map line_of lines.now) w.now) }
 {

@@ -11,7 +11,7 @@ ghost use Rattle.spi_narrate.specs.Narrations.{Narration};
 ghost use Rattle.spi_narrate.specs.Grammar.{IsNarration, whole_narration};
 ghost use Rattle.spi_honest.specs.Roles.{IsTellable};
 ghost use Rattle.spi_narrator.specs.declared.answer.Refusal.{Refusal};
-ghost use Rattle.spi_narrator.specs.Answers.{IsTold, Refuses};
+ghost use Rattle.spi_narrator.specs.Answers.{IsTold, RefusesNarration};
 
 use spi_scope::one_or_other;
 
@@ -24,7 +24,7 @@ pub fn told_files_read_back()
 
 /// A narration that is told isn't refused, and one file tells it.
 pub fn one_telling()
-    ensures never_both { (x : Narration) (told : Meant) (r : Refusal) → IsTold x told → Refuses x r
+    ensures never_both { (x : Narration) (told : Meant) (r : Refusal) → IsTold x told → RefusesNarration x r
         → ⊥ }
     ensures one { (x : Narration) (told other : Meant) → IsTold x told → IsTold x other
         → told ≡ other }

@@ -7,7 +7,7 @@ ghost use Rattle.spi_narrate.specs.Views.{line_of, narration_of};
 ghost use Rattle.spi_weave.specs.Woven.{woven};
 ghost use Rattle.spi_honest.specs.Narrated.{free_of};
 ghost use Rattle.spi_honest.specs.Roles.{IsTellable, HaveChannels};
-ghost use Rattle.spi_narrator.specs.Answers.{IsAnswer, LineIn};
+ghost use Rattle.spi_narrator.specs.Answers.{IsNarrationAnswer, LineIn};
 
 use crate::NoMemory;
 use crate::answer::{Answer, Refusal};
@@ -36,7 +36,7 @@ fn scheduled(alloc: Global, n: &Narration, file: File) -> Result<Answer, NoMemor
     requires tellable { IsTellable (narration_of n.now) }
     requires channels { HaveChannels (free_of (narration_of n.now)) (narration_of n.now).lines }
     requires file { StandsFor (woven (narration_of n.now)) (meant file) }
-    ensures { IfOk result (IsAnswer (narration_of n.now)) }
+    ensures { IfOk result (IsNarrationAnswer (narration_of n.now)) }
 {
     match schedule_of(alloc, n, &file) {
         Ok(mut honest) => {
@@ -67,7 +67,7 @@ fn is_out_of_memory(fault: &ScopeFault) -> bool
 /// once, and it keeps the limits of narrations. Its only error is NoMemory.
 pub fn tell(alloc: Global, n: &Narration) -> Result<Answer, NoMemory>
     requires { IsTellable (narration_of n.now) }
-    ensures { IfOk result (IsAnswer (narration_of n.now)) }
+    ensures { IfOk result (IsNarrationAnswer (narration_of n.now)) }
 {
     let names = FreeNames::of(alloc, &n.decls)?;
     if let Some(word) = first_not_free(&names, &n.lines) {

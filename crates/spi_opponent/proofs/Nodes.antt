@@ -1,7 +1,7 @@
 -- A process is an opponent exactly where each of its nodes is allowed.
 use Rattle.std.proofs.Common.{◌≡◌, ℕ, zero, suc, ◌<◌, List, [], ◌∷◌, ◌++◌, length, subst, refl, arith}
 use Rattle.std.specs.Prelude.{slice_get, Some, ⊤}
-use Rattle.spi_term.specs.Term.{Message, Ty, un, Sends, Stops, Recvs, Serves, Splits, Selects, Decrypts, Checks, Begins, Ends, EndManys, Casts, Makes, Cases, Pars, Process, leaf, prefix, fork}
+use Rattle.spi_term.specs.Term.{Message, Ty, un, Sends, Stops, Recvs, Serves, Splits, Selects, Decrypts, Checks, Begins, Ends, EndManys, Casts, Freshes, Branches, Pars, Process, leaf, prefix, fork}
 use Rattle.spi_term.specs.Substitution.{ty_map}
 use Rattle.spi_term.specs.Spelling.{Shape, flat, numbered}
 use Rattle.spi_run.specs.Opponent.{IsUn, IsOpponent}
@@ -38,14 +38,14 @@ allowed_of (prefix (Recvs m t) p) names i k h = (un_kept _ 0 t h.0, allowed_of p
 allowed_of (prefix (Serves m t) p) names i k h = (un_kept _ 0 t h.0, allowed_of p _ _ _ h.1)
 allowed_of (prefix (Decrypts m t n) p) names i k h = (un_kept _ 0 t h.0, allowed_of p _ _ _ h.1)
 allowed_of (prefix (Casts m t) p) names i k h = (un_kept _ 0 t h.0, allowed_of p _ _ _ h.1)
-allowed_of (prefix (Makes t) p) names i k h = (un_kept _ 0 t h.0, allowed_of p _ _ _ h.1)
+allowed_of (prefix (Freshes t) p) names i k h = (un_kept _ 0 t h.0, allowed_of p _ _ _ h.1)
 allowed_of (prefix (Splits m t u) p) names i k h = ((un_kept _ 0 t h.0, un_kept _ 1 u h.1), allowed_of p _ _ _ h.2)
 allowed_of (prefix (Selects m t n u) p) names i k h = ((un_kept _ 0 t h.0, un_kept _ 1 u h.1), allowed_of p _ _ _ h.2)
 allowed_of (prefix (Checks m n) p) names i k h = (tt, allowed_of p _ _ _ h)
 allowed_of (prefix (Begins m) p) names i k h = absurd h
 allowed_of (prefix (Ends m) p) names i k h = absurd h
 allowed_of (prefix (EndManys m) p) names i k h = absurd h
-allowed_of (fork (Cases m t u) p q) names i k h = ((un_kept _ 0 t h.0, un_kept _ 0 u h.2), all_both _ _ (allowed_of p _ _ _ h.1) (allowed_of q _ _ _ h.3))
+allowed_of (fork (Branches m t u) p q) names i k h = ((un_kept _ 0 t h.0, un_kept _ 0 u h.2), all_both _ _ (allowed_of p _ _ _ h.1) (allowed_of q _ _ _ h.3))
 allowed_of (fork Pars p q) names i k h = (tt, all_both _ _ (allowed_of p _ _ _ h.0) (allowed_of q _ _ _ h.1))
 
 pub opponent_of : (p : Process) (names : List ℕ) (i k : ℕ) → AllAllowed (flat i k (numbered names k p)) → IsOpponent p
@@ -55,14 +55,14 @@ opponent_of (prefix (Recvs m t) p) names i k h = (un_was _ 0 t h.0, opponent_of 
 opponent_of (prefix (Serves m t) p) names i k h = (un_was _ 0 t h.0, opponent_of p _ _ _ h.1)
 opponent_of (prefix (Decrypts m t n) p) names i k h = (un_was _ 0 t h.0, opponent_of p _ _ _ h.1)
 opponent_of (prefix (Casts m t) p) names i k h = (un_was _ 0 t h.0, opponent_of p _ _ _ h.1)
-opponent_of (prefix (Makes t) p) names i k h = (un_was _ 0 t h.0, opponent_of p _ _ _ h.1)
+opponent_of (prefix (Freshes t) p) names i k h = (un_was _ 0 t h.0, opponent_of p _ _ _ h.1)
 opponent_of (prefix (Splits m t u) p) names i k h = (un_was _ 0 t h.0.0, un_was _ 1 u h.0.1, opponent_of p _ _ _ h.1)
 opponent_of (prefix (Selects m t n u) p) names i k h = (un_was _ 0 t h.0.0, un_was _ 1 u h.0.1, opponent_of p _ _ _ h.1)
 opponent_of (prefix (Checks m n) p) names i k h = opponent_of p _ _ _ h.1
 opponent_of (prefix (Begins m) p) names i k h = absurd h.0
 opponent_of (prefix (Ends m) p) names i k h = absurd h.0
 opponent_of (prefix (EndManys m) p) names i k h = absurd h.0
-opponent_of (fork (Cases m t u) p q) names i k h = (un_was _ 0 t h.0.0, opponent_of p _ _ _ (all_front _ _ h.1), un_was _ 0 u h.0.1, opponent_of q _ _ _ (all_back _ _ h.1))
+opponent_of (fork (Branches m t u) p q) names i k h = (un_was _ 0 t h.0.0, opponent_of p _ _ _ (all_front _ _ h.1), un_was _ 0 u h.0.1, opponent_of q _ _ _ (all_back _ _ h.1))
 opponent_of (fork Pars p q) names i k h = (opponent_of p _ _ _ (all_front _ _ h.1), opponent_of q _ _ _ (all_back _ _ h.1))
 
 -- the nodes by their numbers

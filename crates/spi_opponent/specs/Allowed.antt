@@ -1,6 +1,6 @@
 -- The nodes that an opponent may have.
 use Rattle.std.specs.Prelude.{◌≡◌, ℕ, ◌<◌, Some, slice_get, List, ⊤}
-use Rattle.spi_term.specs.Term.{Prefix, Recvs, Serves, Splits, Selects, Decrypts, Checks, Begins, Ends, EndManys, Casts, Makes, Fork, Cases, Pars}
+use Rattle.spi_term.specs.Term.{Prefix, Recvs, Serves, Splits, Selects, Decrypts, Checks, Begins, Ends, EndManys, Casts, Freshes, Fork, Branches, Pars}
 use Rattle.spi_term.specs.Spelling.{Shape, leaf_at, prefix_at, fork_at}
 use Rattle.spi_run.specs.Opponent.{IsUn}
 
@@ -16,10 +16,10 @@ PrefixAllowed (Begins m) = ⊥
 PrefixAllowed (Ends m) = ⊥
 PrefixAllowed (EndManys m) = ⊥
 PrefixAllowed (Casts m t) = IsUn t
-PrefixAllowed (Makes t) = IsUn t
+PrefixAllowed (Freshes t) = IsUn t
 
 abbrev pub ForkAllowed : Fork → Type 0
-ForkAllowed (Cases m t u) = IsUn t × IsUn u
+ForkAllowed (Branches m t u) = IsUn t × IsUn u
 ForkAllowed Pars = ⊤
 
 abbrev pub Allowed : Shape → Type 0

@@ -2,7 +2,7 @@
 use Rattle.std.proofs.Common.{◌≡◌, refl, ap, ◌∙◌, ℕ, Bool, true, false, not, [], length, Some}
 use Rattle.spi_infer.proofs.Blocked.{has_none, has_effect, root_yes, root_no, fork_yes, fork_no}
 use Rattle.spi_infer.proofs.Nodes.{node_of, reached_of, blocks_of, stops_of}
-use Rattle.spi_infer.proofs.Reach.{Reaches, reach_root, reach_prefix, reach_first, reach_rest, Stops}
+use Rattle.spi_infer.proofs.Reach.{ReachesNode, reach_root, reach_prefix, reach_first, reach_rest, StopsPaying}
 use Rattle.spi_infer.specs.Forms.{leaf_ok, keep, effect_of}
 use Rattle.spi_message.proofs.Opened.{numbered_leaf}
 use Rattle.spi_origin.proofs.Chosen.{computed_of, own, Chosen, chosen_here, chosen_prefix, chosen_first, chosen_rest}
@@ -14,7 +14,7 @@ use Rattle.spi_term.specs.Term.{Leaf, Process, leaf, prefix, fork}
 leaf_effect : (e : Env) (l : Leaf) (b : Bool) → leaf_ok e l ≡ b → computed_of e (leaf l) ≡ keep b (Some [])
 leaf_effect e l b h = ap (λ q. effect_of q e) (numbered_leaf (length e) l) ∙ ap (λ b. keep b (Some [])) h
 
-own_stops : (e : Env) (p : Process) → own all_blocking e p ≡ true → Stops e p
+own_stops : (e : Env) (p : Process) → own all_blocking e p ≡ true → StopsPaying e p
 own_stops e (leaf l) h = has_none e (leaf l) (leaf_effect e l false (not_true (leaf_ok e l) h))
   where
     not_true : (b : Bool) → not b ≡ true → b ≡ false
@@ -27,7 +27,7 @@ by_false : (b : Bool) → (b ≡ false → ⊥) → b ≡ true
 by_false true f = refl
 by_false false f = absurd (f refl)
 
-stops_own : (e : Env) (p : Process) → Stops e p → own all_blocking e p ≡ true
+stops_own : (e : Env) (p : Process) → StopsPaying e p → own all_blocking e p ≡ true
 stops_own e (leaf l) h = by (leaf_ok e l) refl
   where
     by : (b : Bool) → leaf_ok e l ≡ b → not (leaf_ok e l) ≡ true
@@ -37,7 +37,7 @@ stops_own e (prefix s p) h = by_false _ (λ f. root_no e s p _ refl f h)
 stops_own e (fork f p q) h = by_false _ (λ g. fork_no e f p q _ _ refl refl g h)
 
 pub data StopsAt (e : Env) (p : Process) (i : ℕ) : Type 0 where
-  stops_at : {e' : Env} {p' : Process} → Reaches e p i e' p' → Stops e' p' → StopsAt e p i
+  stops_at : {e' : Env} {p' : Process} → ReachesNode e p i e' p' → StopsPaying e' p' → StopsAt e p i
 
 chosen_stops : {e : Env} {p : Process} {i : ℕ} → Chosen all_blocking e p i → StopsAt e p i
 chosen_stops {p = p} (chosen_here {e = e} k o) = stops_at reach_root (own_stops e p o)
@@ -45,7 +45,7 @@ chosen_stops (chosen_prefix {s = s} k c) = elim (chosen_stops c) [ stops_at r b 
 chosen_stops (chosen_first {f = f} k c) = elim (chosen_stops c) [ stops_at r b ↦ stops_at (reach_first {f = f} r) b ]
 chosen_stops (chosen_rest {f = f} k c h) = elim (chosen_stops c) [ stops_at r b ↦ stops_at (reach_rest {f = f} r h) b ]
 
-reached_chosen : {e e' : Env} {p p' : Process} {i : ℕ} → Reaches e p i e' p' → Stops e' p' → Chosen all_blocking e p i
+reached_chosen : {e e' : Env} {p p' : Process} {i : ℕ} → ReachesNode e p i e' p' → StopsPaying e' p' → Chosen all_blocking e p i
 reached_chosen {e = e} {p = p} reach_root b = chosen_here refl (stops_own e p b)
 reached_chosen (reach_prefix r) b = chosen_prefix refl (reached_chosen r b)
 reached_chosen (reach_first r) b = chosen_first refl (reached_chosen r b)

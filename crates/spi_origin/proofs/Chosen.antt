@@ -27,14 +27,14 @@ own w e (fork f p q) =
     let x = fork_at (length e) f 1 1 in
     picks w x (note_of e x) (computed_of (e ++ on_first f) (enter (fork_binds f) (length e) p) ∷ (computed_of (e ++ on_rest f) (enter (fork_binds f) (length e) q) ∷ []))
 
-abbrev pub Keeps : Aim → Env → Process → Type 0
-Keeps w e p = keeps w (computed_of e p) ≡ true
+abbrev pub KeepsAim : Aim → Env → Process → Type 0
+KeepsAim w e p = keeps w (computed_of e p) ≡ true
 
 pub data Chosen (w : Aim) : Env → Process → ℕ → Type 0 where
-  chosen_here : {e : Env} {p : Process} → Keeps w e p → own w e p ≡ true → Chosen w e p 0
-  chosen_prefix : {e : Env} {s : Prefix} {p : Process} {i : ℕ} → Keeps w e (prefix s p) → Chosen w (e ++ more e s) (enter (binds s) (length e) p) i → Chosen w e (prefix s p) (suc i)
-  chosen_first : {e : Env} {f : Fork} {p q : Process} {i : ℕ} → Keeps w e (fork f p q) → Chosen w (e ++ on_first f) (enter (fork_binds f) (length e) p) i → Chosen w e (fork f p q) (suc i)
-  chosen_rest : {e : Env} {f : Fork} {p q : Process} {i j : ℕ} → Keeps w e (fork f p q) → Chosen w (e ++ on_rest f) (enter (fork_binds f) (length e) q) i → j ≡ process_size p + i → Chosen w e (fork f p q) (suc j)
+  chosen_here : {e : Env} {p : Process} → KeepsAim w e p → own w e p ≡ true → Chosen w e p 0
+  chosen_prefix : {e : Env} {s : Prefix} {p : Process} {i : ℕ} → KeepsAim w e (prefix s p) → Chosen w (e ++ more e s) (enter (binds s) (length e) p) i → Chosen w e (prefix s p) (suc i)
+  chosen_first : {e : Env} {f : Fork} {p q : Process} {i : ℕ} → KeepsAim w e (fork f p q) → Chosen w (e ++ on_first f) (enter (fork_binds f) (length e) p) i → Chosen w e (fork f p q) (suc i)
+  chosen_rest : {e : Env} {f : Fork} {p q : Process} {i j : ℕ} → KeepsAim w e (fork f p q) → Chosen w (e ++ on_rest f) (enter (fork_binds f) (length e) q) i → j ≡ process_size p + i → Chosen w e (fork f p q) (suc j)
 
 -- lists with a node
 in_with : (a b : Bool) (i j : ℕ) (l : List ℕ) → In j (with_node a b i l) → (a ≡ true) × (((b ≡ true) × (j ≡ i)) ⊎ In j l)
@@ -70,11 +70,11 @@ fork_place all_blocking k a r b q f n st = refl
 fork_place (all_origins x) k a r b q f n st = refl
 
 -- the nodes of a list, counted from its first
-abbrev pub Below : Aim → Env → Process → ℕ → ℕ → Type 0
-Below w e p i j = (m : ℕ) × (j ≡ i + m) × Chosen w e p m
+abbrev pub IsBelowAim : Aim → Env → Process → ℕ → ℕ → Type 0
+IsBelowAim w e p i j = (m : ℕ) × (j ≡ i + m) × Chosen w e p m
 
 abbrev pub Listed : Aim → Env → Process → ℕ → List ℕ → Type 0
-Listed w e p i l = (j : ℕ) → In j l ↔ Below w e p i j
+Listed w e p i l = (j : ℕ) → In j l ↔ IsBelowAim w e p i j
 
 listed_as : {w : Aim} {e : Env} {p : Process} (i : ℕ) {l l' : List ℕ} → l ≡ l' → Listed w e p i l' → Listed w e p i l
 listed_as {w} {e} {p} i f h = subst (Listed w e p i) (sym f) h
@@ -82,7 +82,7 @@ listed_as {w} {e} {p} i f h = subst (Listed w e p i) (sym f) h
 leaf_listed : (w : Aim) (e : Env) (l : Leaf) (i : ℕ) → Listed w e (leaf l) i (with_node (keeps w (computed_of e (leaf l))) (own w e (leaf l)) i [])
 leaf_listed w e l i j = (to, from)
   where
-    to : In j (with_node (keeps w (computed_of e (leaf l))) (own w e (leaf l)) i []) → Below w e (leaf l) i j
+    to : In j (with_node (keeps w (computed_of e (leaf l))) (own w e (leaf l)) i []) → IsBelowAim w e (leaf l) i j
     to h =
         let r = in_with (keeps w (computed_of e (leaf l))) (own w e (leaf l)) i j [] h in
         ⊎_elim (λ b. (0, omega (arith, b.1), chosen_here r.0 b.0)) (λ k. elim k [ ]) r.1
@@ -92,13 +92,13 @@ leaf_listed w e l i j = (to, from)
         let z : i ≡ j = omega (arith, f) in
         subst (λ j. In j (with_node (keeps w (computed_of e (leaf l))) (own w e (leaf l)) i [])) z (with_here (keeps w (computed_of e (leaf l))) (own w e (leaf l)) i [] k b)
 
-    from : Below w e (leaf l) i j → In j (with_node (keeps w (computed_of e (leaf l))) (own w e (leaf l)) i [])
+    from : IsBelowAim w e (leaf l) i j → In j (with_node (keeps w (computed_of e (leaf l))) (own w e (leaf l)) i [])
     from h = at h.0 h.1 h.2
 
 prefix_listed : (w : Aim) (e : Env) (s : Prefix) (p : Process) (i : ℕ) (inner : List ℕ) → Listed w (e ++ more e s) (enter (binds s) (length e) p) (suc i) inner → Listed w e (prefix s p) i (with_node (keeps w (computed_of e (prefix s p))) (own w e (prefix s p)) i inner)
 prefix_listed w e s p i inner below j = (to, λ h. at h.0 h.1 h.2)
   where
-    to : In j (with_node (keeps w (computed_of e (prefix s p))) (own w e (prefix s p)) i inner) → Below w e (prefix s p) i j
+    to : In j (with_node (keeps w (computed_of e (prefix s p))) (own w e (prefix s p)) i inner) → IsBelowAim w e (prefix s p) i j
     to h =
         let r = in_with (keeps w (computed_of e (prefix s p))) (own w e (prefix s p)) i j inner h in
         ⊎_elim (λ b. (0, omega (arith, b.1), chosen_here r.0 b.0)) (λ k. let c = (below j).0 k in (suc c.0, omega (arith, c.1), chosen_prefix r.0 c.2)) r.1
@@ -117,7 +117,7 @@ fork_listed : (w : Aim) (e : Env) (f : Fork) (p q : Process) (i r : ℕ) (a b : 
     → Listed w e (fork f p q) i (with_node (keeps w (computed_of e (fork f p q))) (own w e (fork f p q)) i (a ++ b))
 fork_listed w e f p q i r a b n first rest j = (to, λ h. at h.0 h.1 h.2)
   where
-    to : In j (forked w e f p q i (a ++ b)) → Below w e (fork f p q) i j
+    to : In j (forked w e f p q i (a ++ b)) → IsBelowAim w e (fork f p q) i j
     to h =
         let s = in_with (keeps w (computed_of e (fork f p q))) (own w e (fork f p q)) i j (a ++ b) h in
         ⊎_elim (λ b. (0, omega (arith, b.1), chosen_here s.0 b.0)) (λ k. ⊎_elim (λ k. let c = (first j).0 k in (suc c.0, omega (arith, c.1), chosen_first s.0 c.2)) (λ k. let c = (rest j).0 k in (suc (process_size p + c.0), omega (arith, c.1, n), chosen_rest s.0 c.2 refl)) (in_append a k)) s.1

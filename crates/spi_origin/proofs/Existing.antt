@@ -8,7 +8,7 @@ use Rattle.spi_message.proofs.Opened.{numbered_leaf, numbered_prefix, numbered_f
 use Rattle.spi_message.specs.Forms.{enter, more, on_first, on_rest, cast_effect_of}
 use Rattle.std.specs.Prelude.{nat_lt}
 use Rattle.std.proofs.lemmas.Bool.{ltb-true, ltb-false, lt-ltb}
-use Rattle.spi_origin.proofs.Chosen.{computed_of, Keeps, Chosen, chosen_here, chosen_prefix, chosen_first, chosen_rest}
+use Rattle.spi_origin.proofs.Chosen.{computed_of, KeepsAim, Chosen, chosen_here, chosen_prefix, chosen_first, chosen_rest}
 use Rattle.spi_origin.proofs.OriginNodes.{some_in, in_some, left_kept, chosen_origin}
 use Rattle.spi_origin.specs.Gathering.{all_origins, has_left, adds_by}
 use Rattle.spi_origin.specs.Origins.{IsLeft, IsOrigin, origin_here, origin_below}
@@ -17,7 +17,7 @@ use Rattle.spi_term.proofs.Counting.{same_atom_refl}
 use Rattle.spi_term.proofs.Lists.{in_append, in_cases}
 use Rattle.spi_term.specs.Counts.{count}
 use Rattle.spi_term.specs.Lists.{In}
-use Rattle.spi_term.specs.Term.{Message, name, Atom, ends, checks, many, same_atom, Effect, Prefix, Recvs, Serves, Splits, Selects, Decrypts, Checks, Begins, Ends, EndManys, Casts, Makes, Fork, Cases, Pars, Process, leaf, prefix, fork, binds, fork_binds, process_size}
+use Rattle.spi_term.specs.Term.{Message, name, Atom, ends, checks, many, same_atom, Effect, Prefix, Recvs, Serves, Splits, Selects, Decrypts, Checks, Begins, Ends, EndManys, Casts, Freshes, Fork, Branches, Pars, Process, leaf, prefix, fork, binds, fork_binds, process_size}
 
 in_minus : (a : Atom) (fs gs : Effect) → In a (minus fs gs) → In a fs
 in_minus a fs gs i =
@@ -64,11 +64,11 @@ in_after a k paid (Ends m) fs es e i = one_more a (ends m) fs (some_is a (fs ++ 
 in_after a k paid (EndManys m) fs es e i = one_more a (many m) fs (some_is a (fs ++ many m ∷ []) es e i)
 in_after a k paid (Casts m t) fs es e i =
     ⊎_elim (λ j. inr j) (λ j. inl (lt-ltb 0 (count a (cast_effect_of t)) (in_some a (cast_effect_of t) j))) (in_append fs (in_unless a (mentions k fs) (fs ++ cast_effect_of t) es e i))
-in_after a k paid (Makes t) fs es e i = inr (in_minus a fs (checks (name k) ∷ []) (in_unless a (mentions k (minus fs (checks (name k) ∷ []))) (minus fs (checks (name k) ∷ [])) es e i))
+in_after a k paid (Freshes t) fs es e i = inr (in_minus a fs (checks (name k) ∷ []) (in_unless a (mentions k (minus fs (checks (name k) ∷ []))) (minus fs (checks (name k) ∷ [])) es e i))
 
 in_both : (a : Atom) (k : ℕ) (f : Fork) (fs gs es : Effect) → both k f fs gs ≡ Some es → In a es → In a fs ⊎ In a gs
 in_both a k Pars fs gs es e i = in_append fs (some_is a (fs ++ gs) es e i)
-in_both a k (Cases m t u) fs gs es e i = in_greater a fs gs (in_unless a (mentions k fs || mentions k gs) (greater fs gs) es e i)
+in_both a k (Branches m t u) fs gs es e i = in_greater a fs gs (in_unless a (mentions k fs || mentions k gs) (greater fs gs) es e i)
 
 has_some : (a : Atom) (o : Option Effect) → has_left a o ≡ true → (es : Effect) × (o ≡ Some es) × In a es
 has_some a None h = absurd (cc h)
@@ -86,7 +86,7 @@ none_left a false o e h = let w : false ≡ true = sym (ap (has_left a) e) ∙ h
 abbrev Some_in : Atom → Env → Process → Type 0
 Some_in a e p = (i : ℕ) × Chosen (all_origins a) e p i
 
-exists_by : (n : ℕ) (a : Atom) (p : Process) (e : Env) → process_size p ≤ n → Keeps (all_origins a) e p → Some_in a e p
+exists_by : (n : ℕ) (a : Atom) (p : Process) (e : Env) → process_size p ≤ n → KeepsAim (all_origins a) e p → Some_in a e p
 exists_by zero a (leaf l) e h k = absurd (omega arith)
 exists_by zero a (prefix s p) e h k = absurd (omega arith)
 exists_by zero a (fork f p q) e h k = absurd (omega arith)

@@ -3,7 +3,7 @@ use Rattle.std.proofs.Common.{◌≡◌, refl, sym, ap, ◌∙◌, subst, ℕ, s
 use Rattle.spi_infer.proofs.Located.{located, scan_is}
 use Rattle.spi_infer.proofs.Nodes.{reached_of}
 use Rattle.spi_infer.proofs.Passes.{notes, run_flat}
-use Rattle.spi_infer.proofs.Reach.{Reaches}
+use Rattle.spi_infer.proofs.Reach.{ReachesNode}
 use Rattle.spi_infer.specs.Forms.{effect_of}
 use Rattle.spi_infer.specs.Passes.{Note, note_of, act, run, scan}
 use Rattle.spi_message.proofs.Opened.{length_more, length_first, length_rest}
@@ -78,7 +78,7 @@ pub record GathersTo (w : Aim) (k : ℕ) (p : Process) (env : Env) (i : ℕ) (e 
   pub others : List (List ℕ)
   pub is : gather w i (drop i (spelled k p)) (drop i (scan 0 env [] (spelled k p))) ≡ picked w (numbered [] (length e) q) e i ∷ others
 
-gathers_at : (w : Aim) {env e : Env} {p q : Process} {i : ℕ} → Reaches env p i e q → GathersTo w (length env) p env i e q
+gathers_at : (w : Aim) {env e : Env} {p q : Process} {i : ℕ} → ReachesNode env p i e q → GathersTo w (length env) p env i e q
 gathers_at w {env} {e} {p} {q} {i} r =
     let s = located 0 r in
     let tree = numbered [] (length e) q in

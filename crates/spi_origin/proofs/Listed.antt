@@ -9,7 +9,7 @@ use Rattle.spi_origin.specs.Origins.{IsOrigin, IsOriginIn}
 use Rattle.spi_count.specs.Keeping.{with_keys, GrowsTo}
 use Rattle.spi_infer.proofs.Kept.{are_noted_keep}
 use Rattle.spi_infer.specs.Accounts.{IsNoted}
-use Rattle.spi_infer.specs.Own.{AreNoted}
+use Rattle.spi_infer.specs.Own.{AreFormsNoted}
 use Rattle.spi_infer.specs.Passes.{scan}
 use Rattle.spi_infer.specs.declared.own.Noted.{Noted}
 use Rattle.spi_intern.specs.declared.store.Store.{Store}
@@ -47,7 +47,7 @@ pub noted_grows : (s r : Store) (noted new : Noted) (k : ℕ) (p : Process) (env
 noted_grows s r noted new k p env f g h = record {
   names = h.names;
   keyed = g.are;
-  each = subst (AreNoted r (with_keys r new.keys) (spelled k p) (scan 0 env [] (spelled k p))) (sym f) (are_noted_keep g h.each);
+  each = subst (AreFormsNoted r (with_keys r new.keys) (spelled k p) (scan 0 env [] (spelled k p))) (sym f) (are_noted_keep g h.each);
 }
 
 pub if_ok : {X E : Type 0} (r : Result X E) {P Q : X → Type 0} → ((x : X) → P x → Q x) → IfOk r P → IfOk r Q

@@ -2,13 +2,13 @@
 use Rattle.std.proofs.Common.{◌≡◌, refl, sym, ap, ◌∙◌, subst, ℕ, zero, suc, ◌-◌, Bool, false, List, [], ◌∷◌, ◌++◌, length, reverse, take, drop, Some, None, arith, append_assoc, length-append}
 use Rattle.std.proofs.lemmas.List.{reverse-append, reverse-reverse, length-reverse}
 use Rattle.std.specs.Prelude.{slice_get}
-use Rattle.spi_origin.specs.Gathering.{with_node, at_top, two_as_one, AreMarked, marked_none, marked_next, Marked}
+use Rattle.spi_origin.specs.Gathering.{with_node, at_top, two_as_one, AreMarked, marked_none, marked_next, MarkedStacks}
 
 snoc : (xs ys : List ℕ) (x : ℕ) → ys ≡ xs ++ x ∷ [] → reverse ys ≡ x ∷ reverse xs
 snoc xs ys x e = ap reverse e ∙ reverse-append xs (x ∷ [])
 
 -- one list more
-pub marked_empty : (marks new found : List ℕ) (ls : List (List ℕ)) (end : ℕ) → new ≡ marks ++ end ∷ [] → length found ≡ end → Marked marks found ls → Marked new found ([] ∷ ls)
+pub marked_empty : (marks new found : List ℕ) (ls : List (List ℕ)) (end : ℕ) → new ≡ marks ++ end ∷ [] → length found ≡ end → MarkedStacks marks found ls → MarkedStacks new found ([] ∷ ls)
 marked_empty marks new found ls end e l h =
     subst (λ ms. AreMarked ms (reverse found) ([] ∷ ls)) (sym (snoc marks new end e)) (marked_next {l = []} (length-reverse found ∙ l) h)
 
@@ -78,7 +78,7 @@ cut_top (marked_next {m = n} {l = l} {fs = fs} {ms = ns} {ls = ls} h t) m ms G e
     let k : n ≡ m = cc e in
     subst (λ G. AreMarked (n ∷ ns) G ([] ∷ ls)) (sym (f l fs refl (h ∙ k))) (marked_next {l = []} h t)
 
-pub marked_cut : (marks found cut : List ℕ) (ls : List (List ℕ)) (m : ℕ) → slice_get marks (length marks - 1) ≡ Some m → cut ≡ take m found → Marked marks found ls → Marked marks cut (at_top (λ l. []) ls)
+pub marked_cut : (marks found cut : List ℕ) (ls : List (List ℕ)) (m : ℕ) → slice_get marks (length marks - 1) ≡ Some m → cut ≡ take m found → MarkedStacks marks found ls → MarkedStacks marks cut (at_top (λ l. []) ls)
 marked_cut marks found cut ls m e f h = cut_top h m (drop 1 (reverse marks)) (reverse cut) (last_first marks m e) same
   where
     same : (l fs : List ℕ) → reverse found ≡ l ++ fs → length fs ≡ m → reverse cut ≡ fs
@@ -91,31 +91,31 @@ none_top : {M F : List ℕ} {ls : List (List ℕ)} (f : List ℕ → List ℕ) �
 none_top f marked_none e = marked_none
 none_top f (marked_next h t) e = absurd (cc e)
 
-pub marked_none_cut : (marks found : List ℕ) (ls : List (List ℕ)) → slice_get marks (length marks - 1) ≡ None → Marked marks found ls → Marked marks found (at_top (λ l. []) ls)
+pub marked_none_cut : (marks found : List ℕ) (ls : List (List ℕ)) → slice_get marks (length marks - 1) ≡ None → MarkedStacks marks found ls → MarkedStacks marks found (at_top (λ l. []) ls)
 marked_none_cut marks found ls e h = none_top (λ l. []) h (last_none marks e)
 
 push_top : {M F : List ℕ} {ls : List (List ℕ)} (i : ℕ) → AreMarked M F ls → AreMarked M (i ∷ F) (at_top (λ l. i ∷ l) ls)
 push_top i marked_none = marked_none
 push_top i (marked_next {l = l} h t) = marked_next {l = i ∷ l} h t
 
-pub marked_push : (marks found new : List ℕ) (ls : List (List ℕ)) (i : ℕ) → new ≡ found ++ i ∷ [] → Marked marks found ls → Marked marks new (at_top (λ l. i ∷ l) ls)
+pub marked_push : (marks found new : List ℕ) (ls : List (List ℕ)) (i : ℕ) → new ≡ found ++ i ∷ [] → MarkedStacks marks found ls → MarkedStacks marks new (at_top (λ l. i ∷ l) ls)
 marked_push marks found new ls i e h =
     subst (λ fs. AreMarked (reverse marks) fs (at_top (λ l. i ∷ l) ls)) (sym (snoc found new i e)) (push_top i h)
 
-pub marked_same : (marks found : List ℕ) (ls : List (List ℕ)) → Marked marks found ls → Marked marks found (at_top (λ l. l) ls)
+pub marked_same : (marks found : List ℕ) (ls : List (List ℕ)) → MarkedStacks marks found ls → MarkedStacks marks found (at_top (λ l. l) ls)
 marked_same marks found [] h = h
 marked_same marks found (l ∷ ls) h = h
 
 -- by whether it is kept, and whether the node is one
-pub marked_as : (marks found : List ℕ) (ls : List (List ℕ)) (kept picked a b : Bool) (i : ℕ) → kept ≡ a → picked ≡ b → Marked marks found (at_top (with_node a b i) ls) → Marked marks found (at_top (with_node kept picked i) ls)
+pub marked_as : (marks found : List ℕ) (ls : List (List ℕ)) (kept picked a b : Bool) (i : ℕ) → kept ≡ a → picked ≡ b → MarkedStacks marks found (at_top (with_node a b i) ls) → MarkedStacks marks found (at_top (with_node kept picked i) ls)
 marked_as marks found ls kept picked a b i e f h =
-    subst (λ p. Marked marks found (at_top (with_node kept p i) ls)) (sym f) (subst (λ k. Marked marks found (at_top (with_node k b i) ls)) (sym e) h)
+    subst (λ p. MarkedStacks marks found (at_top (with_node kept p i) ls)) (sym f) (subst (λ k. MarkedStacks marks found (at_top (with_node k b i) ls)) (sym e) h)
 
-pub marked_not : (marks found : List ℕ) (ls : List (List ℕ)) (kept picked : Bool) (i : ℕ) → kept ≡ false → Marked marks found (at_top (λ l. []) ls) → Marked marks found (at_top (with_node kept picked i) ls)
-marked_not marks found ls kept picked i e h = subst (λ k. Marked marks found (at_top (with_node k picked i) ls)) (sym e) h
+pub marked_not : (marks found : List ℕ) (ls : List (List ℕ)) (kept picked : Bool) (i : ℕ) → kept ≡ false → MarkedStacks marks found (at_top (λ l. []) ls) → MarkedStacks marks found (at_top (with_node kept picked i) ls)
+marked_not marks found ls kept picked i e h = subst (λ k. MarkedStacks marks found (at_top (with_node k picked i) ls)) (sym e) h
 
 -- the first list
-pub marked_fork : (old new found : List ℕ) (ls : List (List ℕ)) (n : ℕ) → n ≡ length old → new ≡ take (n - 1) old → Marked old found ls → Marked new found (two_as_one ls)
+pub marked_fork : (old new found : List ℕ) (ls : List (List ℕ)) (n : ℕ) → n ≡ length old → new ≡ take (n - 1) old → MarkedStacks old found ls → MarkedStacks new found (two_as_one ls)
 marked_fork old new found ls n l e h = two_joined (reverse new) h (popped old new n l e)
 
 head_list : {M F : List ℕ} {ls : List (List ℕ)} → AreMarked M F ls → (l : List ℕ) (rest : List (List ℕ)) (m : ℕ) (ms : List ℕ) → ls ≡ l ∷ rest → M ≡ m ∷ ms → take (length F - m) F ≡ l
@@ -129,9 +129,9 @@ none_listed : {M F : List ℕ} {ls : List (List ℕ)} → AreMarked M F ls → (
 none_listed marked_none l rest e f = cc e
 none_listed (marked_next h t) l rest e f = cc f
 
-pub first_listed : (marks found back out l : List ℕ) (ls : List (List ℕ)) (m n : ℕ) → slice_get marks (length marks - 1) ≡ Some m → back ≡ reverse found → n ≡ length found - m → out ≡ take n back → Marked marks found (l ∷ ls) → out ≡ l
+pub first_listed : (marks found back out l : List ℕ) (ls : List (List ℕ)) (m n : ℕ) → slice_get marks (length marks - 1) ≡ Some m → back ≡ reverse found → n ≡ length found - m → out ≡ take n back → MarkedStacks marks found (l ∷ ls) → out ≡ l
 first_listed marks found back out l ls m n e b k t h =
     t ∙ ap (take n) b ∙ ap (λ n. take n (reverse found)) (k ∙ ap (λ k. k - m) (sym (length-reverse found))) ∙ head_list h l ls m (drop 1 (reverse marks)) refl (last_first marks m e)
 
-pub none_first : (marks found l : List ℕ) (ls : List (List ℕ)) → slice_get marks (length marks - 1) ≡ None → Marked marks found (l ∷ ls) → ⊥
+pub none_first : (marks found l : List ℕ) (ls : List (List ℕ)) → slice_get marks (length marks - 1) ≡ None → MarkedStacks marks found (l ∷ ls) → ⊥
 none_first marks found l ls e h = none_listed h l ls refl (last_none marks e)

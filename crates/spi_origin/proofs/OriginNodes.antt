@@ -9,9 +9,9 @@ use Rattle.spi_infer.proofs.Reach.{reach_root, reach_prefix, reach_first, reach_
 use Rattle.spi_infer.specs.Forms.{paid_by}
 use Rattle.spi_message.specs.Forms.{cast_effect_of}
 use Rattle.spi_message.specs.Tests.{nonce_in, nonce_of}
-use Rattle.spi_origin.proofs.Chosen.{computed_of, own, Keeps, Chosen, chosen_here, chosen_prefix, chosen_first, chosen_rest}
+use Rattle.spi_origin.proofs.Chosen.{computed_of, own, KeepsAim, Chosen, chosen_here, chosen_prefix, chosen_first, chosen_rest}
 use Rattle.spi_origin.specs.Gathering.{all_origins, has_left, adds_by}
-use Rattle.spi_origin.specs.Origins.{Adds, adds_check, adds_end, adds_end_many, adds_cast, IsLeft, IsOrigin, origin_here, origin_below}
+use Rattle.spi_origin.specs.Origins.{AddsToEffect, adds_check, adds_end, adds_end_many, adds_cast, IsLeft, IsOrigin, origin_here, origin_below}
 use Rattle.spi_rules.proofs.Least.{least_of}
 use Rattle.spi_rules.proofs.Paying.{has_pays}
 use Rattle.spi_rules.specs.Blocking.{Child, child_recv, child_serve, child_split, child_select, child_left, child_right, child_decrypt, child_check, child_begin, child_end, child_end_many, child_cast, child_fresh, child_first, child_rest}
@@ -23,7 +23,7 @@ use Rattle.spi_term.specs.Counts.{count, tally}
 use Rattle.spi_term.specs.Lists.{In}
 use Rattle.spi_term.specs.Names.{ProcessOver}
 use Rattle.spi_term.specs.Substitution.{ty_put}
-use Rattle.spi_term.specs.Term.{Message, bound, name, unit, pair, in_left, in_right, enc, hash, Atom, ends, checks, many, same_atom, Effect, Ty, un, unit_ty, pair_ty, sum_ty, key, nonce, Prefix, Recvs, Serves, Splits, Selects, Decrypts, Checks, Begins, Ends, EndManys, Casts, Makes, Cases, Pars, Process, leaf, prefix, fork, process_size}
+use Rattle.spi_term.specs.Term.{Message, bound, name, unit, pair, in_left, in_right, enc, hash, Atom, ends, checks, many, same_atom, Effect, Ty, un, unit_ty, pair_ty, sum_ty, key, nonce, Prefix, Recvs, Serves, Splits, Selects, Decrypts, Checks, Begins, Ends, EndManys, Casts, Freshes, Branches, Pars, Process, leaf, prefix, fork, process_size}
 
 pub some_in : (a : Atom) (es : Effect) → 0 < count a es → In a es
 some_in a es h = tally_in a es ((count_tally a (tally a es)).0 (omega (arith, h)))
@@ -36,7 +36,7 @@ left_as : (a : Atom) (e : Env) (p : Process) (o : Option Effect) → ProcessOver
 left_as a e p None over f h = absurd (cc h)
 left_as a e p (Some es) over f h = record { effect = es; least = least_of over (sound f); some = ltb-true 0 (count a es) h }
 
-pub kept_left : (a : Atom) (e : Env) (p : Process) → ProcessOver (length e) p → Keeps (all_origins a) e p → IsLeft a e p
+pub kept_left : (a : Atom) (e : Env) (p : Process) → ProcessOver (length e) p → KeepsAim (all_origins a) e p → IsLeft a e p
 kept_left a e p over h = left_as a e p (computed_of e p) over refl h
 
 left_has : (a : Atom) (e : Env) (p : Process) (o : Option Effect) → computed_of e p ≡ o → IsLeft a e p → has_left a o ≡ true
@@ -45,7 +45,7 @@ left_has a e p (Some es) f l =
     let w = l.least.least es (record { over = l.least.derivable.over; has = (sound f).has }) in
     lt-ltb 0 (count a es) (let z = w.at a in omega (arith, z, l.some))
 
-pub left_kept : (a : Atom) (e : Env) (p : Process) → IsLeft a e p → Keeps (all_origins a) e p
+pub left_kept : (a : Atom) (e : Env) (p : Process) → IsLeft a e p → KeepsAim (all_origins a) e p
 left_kept a e p l = left_has a e p (computed_of e p) refl l
 
 -- what a form adds
@@ -73,10 +73,10 @@ nonce_is : {e : Env} {n : Message} {fs : Effect} → IsNonce [] e n fs → is_so
 nonce_is (nonce_name a) = ap (λ o. is_some (nonce_in o)) (at_get a)
 nonce_is (nonce_cast i) = elim i [ ]
 
-adds_same : {e : Env} {p : Process} {a b : Atom} → a ≡ b → Adds e p b → Adds e p a
-adds_same {e} {p} f h = subst (Adds e p) (sym f) h
+adds_same : {e : Env} {p : Process} {a b : Atom} → a ≡ b → AddsToEffect e p b → AddsToEffect e p a
+adds_same {e} {p} f h = subst (AddsToEffect e p) (sym f) h
 
-cast_adds : (e : Env) (m : Message) (t : Ty) (p : Process) (a : Atom) → In a (cast_effect_of t) → Adds e (prefix (Casts m t) p) a
+cast_adds : (e : Env) (m : Message) (t : Ty) (p : Process) (a : Atom) → In a (cast_effect_of t) → AddsToEffect e (prefix (Casts m t) p) a
 cast_adds e m un p a i = elim i [ ]
 cast_adds e m unit_ty p a i = elim i [ ]
 cast_adds e m (pair_ty t u) p a i = elim i [ ]
@@ -84,7 +84,7 @@ cast_adds e m (sum_ty t u) p a i = elim i [ ]
 cast_adds e m (key t) p a i = elim i [ ]
 cast_adds e m (nonce es) p a i = adds_cast i
 
-by_adds : (e : Env) (s : Prefix) (p : Process) (a : Atom) → adds_by a s (paid_by e s) ≡ true → Adds e (prefix s p) a
+by_adds : (e : Env) (s : Prefix) (p : Process) (a : Atom) → adds_by a s (paid_by e s) ≡ true → AddsToEffect e (prefix s p) a
 by_adds e (Recvs m t) p a h = absurd (cc h)
 by_adds e (Serves m t) p a h = absurd (cc h)
 by_adds e (Splits m t u) p a h = absurd (cc h)
@@ -98,14 +98,14 @@ by_adds e (Begins m) p a h = absurd (cc h)
 by_adds e (Ends m) p a h = adds_same (same_atom_true a (ends m) h) adds_end
 by_adds e (EndManys m) p a h = adds_same (same_atom_true a (many m) h) adds_end_many
 by_adds e (Casts m t) p a h = cast_adds e m t p a (some_in a (cast_effect_of t) (ltb-true 0 (count a (cast_effect_of t)) h))
-by_adds e (Makes t) p a h = absurd (cc h)
+by_adds e (Freshes t) p a h = absurd (cc h)
 
-own_adds : (a : Atom) (e : Env) (p : Process) → own (all_origins a) e p ≡ true → Adds e p a
+own_adds : (a : Atom) (e : Env) (p : Process) → own (all_origins a) e p ≡ true → AddsToEffect e p a
 own_adds a e (leaf l) h = absurd (cc h)
 own_adds a e (prefix s p) h = by_adds e s p a h
 own_adds a e (fork f p q) h = absurd (cc h)
 
-adds_own : (a : Atom) (e : Env) (p : Process) → Adds e p a → own (all_origins a) e p ≡ true
+adds_own : (a : Atom) (e : Env) (p : Process) → AddsToEffect e p a → own (all_origins a) e p ≡ true
 adds_own _ e _ (adds_check {m = m} {n = n} i) = and_from (is_some (nonce_of e n)) (same_atom (checks m) (checks m)) (nonce_is i) (same_atom_refl (checks m))
 adds_own _ e _ (adds_end {m = m}) = same_atom_refl (ends m)
 adds_own _ e _ (adds_end_many {m = m}) = same_atom_refl (many m)
@@ -141,20 +141,20 @@ module _ (a : Atom) where
   one_more : (j : ℕ) → suc j ≡ 1 + j
   one_more j = omega arith
 
-  chosen_below : {e e1 : Env} {p p1 : Process} {i j : ℕ} → Child e p i e1 p1 → Keeps (all_origins a) e p → Is e1 p1 j → Is e p (i + j)
+  chosen_below : {e e1 : Env} {p p1 : Process} {i j : ℕ} → Child e p i e1 p1 → KeepsAim (all_origins a) e p → Is e1 p1 j → Is e p (i + j)
   chosen_below {j = j} (child_recv {m = m} {t = t}) k c = at_number (one_more j) (chosen_prefix {s = Recvs m t} k c)
   chosen_below {j = j} (child_serve {m = m} {t = t}) k c = at_number (one_more j) (chosen_prefix {s = Serves m t} k c)
   chosen_below {e = e} {j = j} (child_split {m = m} {t = t} {u = u}) k c = at_number (one_more j) (chosen_prefix {s = Splits m t u} k (at_env (sym (two_more e t (ty_put (name (length e)) u))) c))
   chosen_below {j = j} (child_select {m = m} {n = n} {t = t} {u = u}) k c = at_number (one_more j) (chosen_prefix {s = Selects m t n u} k c)
-  chosen_below {j = j} (child_left {m = m} {t = t} {u = u}) k c = at_number (one_more j) (chosen_first {f = Cases m t u} k c)
-  chosen_below {j = j} (child_right {m = m} {t = t} {u = u} {p = p}) k c = at_number (let h : suc (process_size p + j) ≡ suc (process_size p) + j = omega arith in h) (chosen_rest {f = Cases m t u} k c refl)
+  chosen_below {j = j} (child_left {m = m} {t = t} {u = u}) k c = at_number (one_more j) (chosen_first {f = Branches m t u} k c)
+  chosen_below {j = j} (child_right {m = m} {t = t} {u = u} {p = p}) k c = at_number (let h : suc (process_size p + j) ≡ suc (process_size p) + j = omega arith in h) (chosen_rest {f = Branches m t u} k c refl)
   chosen_below {j = j} (child_decrypt {m = m} {n = n} {t = t}) k c = at_number (one_more j) (chosen_prefix {s = Decrypts m t n} k c)
   chosen_below {e = e} {j = j} (child_check {m = m} {n = n}) k c = at_number (one_more j) (chosen_prefix {s = Checks m n} k (at_env (sym (append-nil e)) c))
   chosen_below {e = e} {j = j} (child_begin {m = m}) k c = at_number (one_more j) (chosen_prefix {s = Begins m} k (at_env (sym (append-nil e)) c))
   chosen_below {e = e} {j = j} (child_end {m = m}) k c = at_number (one_more j) (chosen_prefix {s = Ends m} k (at_env (sym (append-nil e)) c))
   chosen_below {e = e} {j = j} (child_end_many {m = m}) k c = at_number (one_more j) (chosen_prefix {s = EndManys m} k (at_env (sym (append-nil e)) c))
   chosen_below {j = j} (child_cast {m = m} {t = t}) k c = at_number (one_more j) (chosen_prefix {s = Casts m t} k c)
-  chosen_below {j = j} (child_fresh {t = t}) k c = at_number (one_more j) (chosen_prefix {s = Makes t} k c)
+  chosen_below {j = j} (child_fresh {t = t}) k c = at_number (one_more j) (chosen_prefix {s = Freshes t} k c)
   chosen_below {e = e} {j = j} child_first k c = at_number (one_more j) (chosen_first {f = Pars} k (at_env (sym (append-nil e)) c))
   chosen_below {e = e} {j = j} (child_rest {p = p}) k c = at_number (let h : suc (process_size p + j) ≡ suc (process_size p) + j = omega arith in h) (chosen_rest {f = Pars} k (at_env (sym (append-nil e)) c) refl)
 

@@ -3,7 +3,7 @@ use Rattle.std.proofs.Common.{◌≡◌, refl, sym, ap, ◌∙◌, subst, ℕ, B
 use Rattle.std.specs.Prelude.{is_some, ◌&&◌}
 use Rattle.spi_count.specs.Keeping.{with_keys}
 use Rattle.spi_count.specs.declared.keys.Keys.{Keys}
-use Rattle.spi_infer.specs.Own.{PaidFits, Fits}
+use Rattle.spi_infer.specs.Own.{PaidFits, IsOwnOf}
 use Rattle.spi_infer.specs.declared.own.Own.{Own}
 use Rattle.spi_infer.specs.declared.own.Own.TheVariants.{Checked}
 use Rattle.spi_intern.specs.declared.messages.MsgId.{MsgId}
@@ -19,9 +19,9 @@ paid_some s None (Some es) h = absurd h
 paid_some s (Some t) None h = absurd h
 paid_some s (Some t) (Some es) h = refl
 
-module _ (s : Store) (keys : Keys) (k : ℕ) (m n : Message) (b : ℕ) (x : Shape) (x_is : x ≡ prefix_at k (Checks m n) b) (paid : Option Effect) (own : Own) (a : Atom) (p : Bool) (is : (i : MsgId) (t : Option TyId) → own ≡ Checked i t → p ≡ is_some t) (h : Fits s (with_keys s keys) x paid own) where
-  fits : Fits s (with_keys s keys) (prefix_at k (Checks m n) b) paid own
-  fits = subst (λ x. Fits s (with_keys s keys) x paid own) x_is h
+module _ (s : Store) (keys : Keys) (k : ℕ) (m n : Message) (b : ℕ) (x : Shape) (x_is : x ≡ prefix_at k (Checks m n) b) (paid : Option Effect) (own : Own) (a : Atom) (p : Bool) (is : (i : MsgId) (t : Option TyId) → own ≡ Checked i t → p ≡ is_some t) (h : IsOwnOf s (with_keys s keys) x paid own) where
+  fits : IsOwnOf s (with_keys s keys) (prefix_at k (Checks m n) b) paid own
+  fits = subst (λ x. IsOwnOf s (with_keys s keys) x paid own) x_is h
 
   paid_is : p ≡ is_some paid
   paid_is = is fits.0 fits.1 fits.2 ∙ paid_some s fits.1 paid fits.4

@@ -9,7 +9,7 @@ use Rattle.spi_infer.specs.declared.own.Noted.{Noted}
 use Rattle.spi_infer.specs.declared.own.OwnNote.{OwnNote}
 use Rattle.spi_intern.specs.Meaning.{NoneTwice}
 use Rattle.spi_intern.specs.declared.store.Store.{Store}
-use Rattle.spi_origin.specs.Gathering.{Aim, keeps, picks, with_node, at_top, joined, top, gather, Marked, AreMarked, marked_none}
+use Rattle.spi_origin.specs.Gathering.{Aim, keeps, picks, with_node, at_top, joined, top, gather, MarkedStacks, AreMarked, marked_none}
 use Rattle.spi_rules.specs.Environment.{Env}
 use Rattle.spi_term.specs.Names.{ProcessOver}
 use Rattle.spi_term.specs.Spelling.{Shape, spelled}
@@ -21,9 +21,9 @@ with_same true picked a b i ls e f =
 with_same false picked a b i [] e f = refl
 with_same false picked a b i (l ∷ ls) e f = ap (λ k. with_node k b i l ∷ ls) e
 
-pub starts_marked : (w : Aim) (ss : List Shape) (ns : List Note) (n : ℕ) (marks found : List ℕ) → length ss ≤ n → marks ≡ [] → found ≡ [] → Marked marks found (gather w n (drop n ss) ns)
+pub starts_marked : (w : Aim) (ss : List Shape) (ns : List Note) (n : ℕ) (marks found : List ℕ) → length ss ≤ n → marks ≡ [] → found ≡ [] → MarkedStacks marks found (gather w n (drop n ss) ns)
 starts_marked w ss ns n marks found l e f =
-    subst (λ ls. Marked marks found ls) (sym (ap (λ ss. gather w n ss ns) (drop_all n ss l))) (subst (λ ms. AreMarked ms (reverse found) []) (sym (ap reverse e)) marked_none)
+    subst (λ ls. MarkedStacks marks found ls) (sym (ap (λ ss. gather w n ss ns) (drop_all n ss l))) (subst (λ ms. AreMarked ms (reverse found) []) (sym (ap reverse e)) marked_none)
 
 module _ (s : Store) (noted : Noted) (k : ℕ) (p : Process) (env : Env) (h : IsNoted s noted k p env) (i : ℕ) (x : Shape) (g : slice_get (spelled k p) i ≡ Some x) (o : OwnNote) (ix : o ≡ get_or noted.notes.items i o) (once : NoneTwice s) (over : ProcessOver k p) (id : ℕ) (z : id ≡ i + 1) (w : Aim) where
   abbrev ss : List Shape
@@ -45,6 +45,6 @@ module _ (s : Store) (noted : Noted) (k : ℕ) (p : Process) (env : Env) (h : Is
       ∙ ap (gather w i (x ∷ drop id ss)) (at_note s noted k p env h i x g o ix once over id z)
       ∙ ap (λ j. at_top (with_node (keeps w (top (act x note st))) (picks w x note st) i) (joined x (gather w j (drop id ss) (drop id ns)))) n
 
-  pub stepped : (kept picked : Bool) (marks found : List ℕ) → kept ≡ keeps w (top (act x note st)) → (kept ≡ true → picked ≡ picks w x note st) → Marked marks found (at_top (with_node kept picked i) (joined x (gather w id (drop id ss) (drop id ns)))) → Marked marks found (gather w i (drop i ss) (drop i ns))
+  pub stepped : (kept picked : Bool) (marks found : List ℕ) → kept ≡ keeps w (top (act x note st)) → (kept ≡ true → picked ≡ picks w x note st) → MarkedStacks marks found (at_top (with_node kept picked i) (joined x (gather w id (drop id ss) (drop id ns)))) → MarkedStacks marks found (gather w i (drop i ss) (drop i ns))
   stepped kept picked marks found e f m =
-      subst (Marked marks found) (with_same kept picked (keeps w (top (act x note st))) (picks w x note st) i (joined x (gather w id (drop id ss) (drop id ns))) e f ∙ sym gather_is) m
+      subst (MarkedStacks marks found) (with_same kept picked (keeps w (top (act x note st))) (picks w x note st) i (joined x (gather w id (drop id ss) (drop id ns))) e f ∙ sym gather_is) m

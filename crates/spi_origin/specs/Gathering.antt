@@ -13,7 +13,7 @@ use Rattle.spi_origin.specs.declared.gathering.Aim as Declared
 use Rattle.spi_origin.specs.declared.gathering.Aim.TheVariants as D
 use Rattle.spi_term.specs.Counts.{count}
 use Rattle.spi_term.specs.Spelling.{Shape, leaf_at, prefix_at, fork_at}
-use Rattle.spi_term.specs.Term.{Atom, ends, checks, many, same_atom, Effect, Prefix, Recvs, Serves, Splits, Selects, Decrypts, Checks, Begins, Ends, EndManys, Casts, Makes, Process, leaf, prefix, fork, process_size}
+use Rattle.spi_term.specs.Term.{Atom, ends, checks, many, same_atom, Effect, Prefix, Recvs, Serves, Splits, Selects, Decrypts, Checks, Begins, Ends, EndManys, Casts, Freshes, Process, leaf, prefix, fork, process_size}
 use Rattle.spi_term.specs.View.{atom}
 
 -- which nodes are gathered: those that block, or the origins of an atom
@@ -53,7 +53,7 @@ adds_by a (Begins m) paid = false
 adds_by a (Ends m) paid = same_atom a (ends m)
 adds_by a (EndManys m) paid = same_atom a (many m)
 adds_by a (Casts m t) paid = nat_lt 0 (count a (cast_effect_of t))
-adds_by a (Makes t) paid = false
+adds_by a (Freshes t) paid = false
 
 abbrev pub adds_at : Atom → Shape → Option Effect → Bool
 adds_at a (leaf_at k l) paid = false
@@ -107,8 +107,8 @@ pub data AreMarked : List ℕ → List ℕ → List (List ℕ) → Type 0 where
       → length fs ≡ m → AreMarked ms fs ls → AreMarked (m ∷ ms) (l ++ fs) (l ∷ ls)
 
 -- stacks that grow at their ends
-abbrev pub Marked : List ℕ → List ℕ → List (List ℕ) → Type 0
-Marked marks found ls = AreMarked (reverse marks) (reverse found) ls
+abbrev pub MarkedStacks : List ℕ → List ℕ → List (List ℕ) → Type 0
+MarkedStacks marks found ls = AreMarked (reverse marks) (reverse found) ls
 
 -- what is gathered in a process whose bound names are numbers and whose first node is number i
 abbrev pub picked : Aim → Process → Env → ℕ → List ℕ

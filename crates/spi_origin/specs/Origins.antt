@@ -9,13 +9,13 @@ use Rattle.spi_term.specs.Lists.{In}
 use Rattle.spi_term.specs.Term.{Message, Atom, ends, checks, many, Effect, nonce, Process, check, end, end_many, cast}
 
 -- the rule for the process's form adds the atom to the effect of what follows
-pub data Adds (env : Env) : Process → Atom → Type 0 where
+pub data AddsToEffect (env : Env) : Process → Atom → Type 0 where
   adds_check : {m n : Message} {p : Process} {fs : Effect} → IsNonce [] env n fs
-      → Adds env (check m n p) (checks m)
-  adds_end : {m : Message} {p : Process} → Adds env (end m p) (ends m)
-  adds_end_many : {m : Message} {p : Process} → Adds env (end_many m p) (many m)
+      → AddsToEffect env (check m n p) (checks m)
+  adds_end : {m : Message} {p : Process} → AddsToEffect env (end m p) (ends m)
+  adds_end_many : {m : Message} {p : Process} → AddsToEffect env (end_many m p) (many m)
   adds_cast : {a : Atom} {m : Message} {p : Process} {fs : Effect} → In a fs
-      → Adds env (cast m (nonce fs) p) a
+      → AddsToEffect env (cast m (nonce fs) p) a
 
 -- the atom stands in the least effect of the process
 pub record IsLeft (a : Atom) (env : Env) (p : Process) : Type 0 where
@@ -26,7 +26,7 @@ pub record IsLeft (a : Atom) (env : Env) (p : Process) : Type 0 where
 -- IsOrigin a env p i: node i of p puts a in the least effect of p. The rule for the node's form adds it, and it is left in
 -- the least effect of the node's process and of each process that the node stands in, up to p
 pub data IsOrigin (a : Atom) : Env → Process → ℕ → Type 0 where
-  origin_here : {env : Env} {p : Process} → IsLeft a env p → Adds env p a → IsOrigin a env p 0
+  origin_here : {env : Env} {p : Process} → IsLeft a env p → AddsToEffect env p a → IsOrigin a env p 0
   origin_below : {env env' : Env} {p p' : Process} {i j : ℕ}
       → IsLeft a env p → Child env p i env' p' → IsOrigin a env' p' j → IsOrigin a env p (i + j)
 

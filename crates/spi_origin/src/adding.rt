@@ -4,7 +4,7 @@ ghost use Rattle.std.specs.Prelude.{◌≡◌, ◌<◌, ℕ, Option, IsTrue, ◌
 ghost use Rattle.spi_count.specs.Keeping.{with_keys, IsKeyed};
 ghost use Rattle.spi_count.specs.Sums.{kind_of, message_of, name_bound, key_of};
 ghost use Rattle.spi_count.specs.declared.keys.Keys as Declared;
-ghost use Rattle.spi_infer.specs.Own.{Fits, StandsFor};
+ghost use Rattle.spi_infer.specs.Own.{IsOwnOf, CountsFor};
 ghost use Rattle.spi_intern.specs.declared.messages.MsgId as Ids;
 ghost use Rattle.spi_intern.specs.declared.store.Store.{Store};
 ghost use Rattle.spi_intern.specs.declared.types.TyId as Types;
@@ -76,7 +76,7 @@ fn is_paid(own: Own) -> bool
 /// Whether the rule for the node's form adds the atom, where what is kept of the node fits.
 pub fn adds(a: &Atom, node: &Node, own: Own) -> bool
     ensures { (s : Store) (keys : Declared.Keys) (paid : Option Term.Effect)
-        → Fits s (with_keys s keys) (shape_of node.now) paid own
+        → IsOwnOf s (with_keys s keys) (shape_of node.now) paid own
         → result ≡ adds_at (atom a.now) (shape_of node.now) paid }
 {
     match &node.form {
@@ -102,7 +102,7 @@ fn kind(a: &Atom) -> AtomKind
 pub fn is_left(a: &Atom, key: u64, effect: &Option<Sum>) -> bool
     ensures { (s : Store) (keys : Declared.Keys) (i : ℕ) (o : Option Term.Effect)
         → with_keys s keys i (message_of (atom a.now))
-        → key ≡ key_of (name_bound (message_of (atom a.now))) i → StandsFor (with_keys s keys) effect.now o
+        → key ≡ key_of (name_bound (message_of (atom a.now))) i → CountsFor (with_keys s keys) effect.now o
         → result ≡ has_left (atom a.now) o }
 {
     match effect {

@@ -4,11 +4,11 @@ ghost use Rattle.std.specs.Prelude.{◌≡◌, ◌<◌, ◌+◌, ℕ, List, Opti
 ghost use Rattle.spi_count.specs.Keeping.{with_keys, IsKeyed};
 ghost use Rattle.spi_count.specs.declared.keys.Keys as Keys;
 ghost use Rattle.spi_infer.specs.Accounts.{IsNoted, Tops};
-ghost use Rattle.spi_infer.specs.Own.{NotedAs};
+ghost use Rattle.spi_infer.specs.Own.{FormNotedAs};
 ghost use Rattle.spi_infer.specs.Passes.{Note, act, is_stuck};
 ghost use Rattle.spi_intern.specs.Meaning.{NoneTwice};
 ghost use Rattle.spi_intern.specs.declared.store.Store as Stores;
-ghost use Rattle.spi_origin.specs.Gathering.{aim_of, HasAimKey, keeps, picks, joined, at_top, with_node, top, picked, Marked};
+ghost use Rattle.spi_origin.specs.Gathering.{aim_of, HasAimKey, keeps, picks, joined, at_top, with_node, top, picked, MarkedStacks};
 ghost use Rattle.spi_rules.specs.Blocking.{NodeOf};
 ghost use Rattle.spi_rules.specs.Environment as Rules;
 ghost use Rattle.spi_term.specs.Spelling.{numbered};
@@ -57,7 +57,7 @@ fn is_kept(aim: &Aim, stack: &[Option<Sum>]) -> bool
 // The node is itself one of those, where what is gathered in its process is kept. `stuck`: the node blocks.
 fn is_picked(aim: &Aim, node: &Node, note: &OwnNote, stuck: bool) -> bool
     ensures { (s : Stores.Store) (keys : Keys.Keys) (n : Note) (st : List (Option Term.Effect))
-        → NotedAs s (with_keys s keys) (shape_of node.now) n note.now
+        → FormNotedAs s (with_keys s keys) (shape_of node.now) n note.now
         → stuck ≡ is_stuck (shape_of node.now) n st
         → keeps (aim_of aim.now) (top (act (shape_of node.now) n st)) ≡ true
         → result ≡ picks (aim_of aim.now) (shape_of node.now) n st }
@@ -71,7 +71,7 @@ fn is_picked(aim: &Aim, node: &Node, note: &OwnNote, stuck: bool) -> bool
 // The lists of the node's processes become one. There are `end` numbers in all.
 fn join(node: &Node, marks: &mut Vec<usize>, end: usize) -> Result<(), NoMemory>
     ensures { OnOk result ((found : List ℕ) (ls : List (List ℕ)) → length found ≡ end
-        → Marked marks.old.items found ls → Marked marks.new.items found (joined (shape_of node.now) ls)) }
+        → MarkedStacks marks.old.items found ls → MarkedStacks marks.new.items found (joined (shape_of node.now) ls)) }
 {
     match &node.form {
         Form::Send { .. } => marks.push(end)?,
@@ -95,8 +95,8 @@ fn add_node(
     kept: bool,
     picked: bool,
 ) -> Result<(), NoMemory>
-    ensures { OnOk result ((ls : List (List ℕ)) → Marked marks.now found.old.items ls
-        → Marked marks.now found.new.items (at_top (with_node kept picked id) ls)) }
+    ensures { OnOk result ((ls : List (List ℕ)) → MarkedStacks marks.now found.old.items ls
+        → MarkedStacks marks.now found.new.items (at_top (with_node kept picked id) ls)) }
 {
     if !kept {
         if let Some(mark) = marks.last() {
@@ -112,7 +112,7 @@ fn add_node(
 
 // The list of the process that begins first.
 fn first_list(found: Vec<u32>, marks: &[usize]) -> Vec<u32>
-    ensures { (l : List ℕ) (ls : List (List ℕ)) → Marked marks.now found.items (l ∷ ls) → result.items ≡ l }
+    ensures { (l : List ℕ) (ls : List (List ℕ)) → MarkedStacks marks.now found.items (l ∷ ls) → result.items ≡ l }
 {
     let mark = match marks.last() {
         Some(mark) => *mark,

@@ -10,7 +10,7 @@ use Rattle.spi_lex.specs.declared.token.Mark.TheVariants as mark
 use Rattle.spi_tree.specs.declared.tree.SWord.{SWord}
 use Rattle.spi_tree.specs.Trees as t
 use Rattle.spi_tree.specs.Pieces.{Piece, opens, cell, closes, a_mark, a_reserved, a_number, a_word, ends, message_limit, process_limit, derivation_limit, msg_pieces, msgs_pieces, atom_pieces, atoms_pieces, effect_pieces, ty_pieces, fields_pieces, last_pieces, named_pieces, binder_pieces, in_seq, at_level, proc_pieces, words_pieces, decl_pieces, decls_pieces, steps_pieces, deriv_pieces, opponent_pieces, schedule_pieces, derivation_pieces, file_pieces}
-use Rattle.spi_tree.specs.Formed.{IsMsg, AreMsgs, IsAtom, AreAtoms, IsTy, AreFields, IsLast, IsProc, IsDeclared, AreDeclared, IsOpponent}
+use Rattle.spi_tree.specs.Formed.{IsMsg, AreMsgs, IsAtom, AreAtoms, IsTy, AreFields, IsLast, IsProc, IsDeclared, AreDeclared, IsFormedOpponent}
 use Rattle.spi_parse.specs.Rules.{arity_of, writes_effect}
 use Rattle.spi_parse.specs.Bare.{nowhere, bare_word, bare_msg, bare_msgs, bare_atom, bare_ty, bare_fields, bare_last, bare_proc, bare_decl, bare_step, bare_deriv, bare_opponent, bare_schedule, bare_derivation, bare_file}
 use Rattle.spi_parse.specs.Tokens.{Tok, State}
@@ -28,14 +28,14 @@ flat φ (cell k deep ∷ ps) = record { kind = k; span = nowhere; deep = φ deep
 flat φ (closes to ∷ ps) = flat φ ps
 
 -- a mode that goes on past every token with these flags
-pub record Fits (m : Mode) (φ : Bool → Bool) : Type 1 where
+pub record FitsMode (m : Mode) (φ : Bool → Bool) : Type 1 where
   pub passes : {X : Type 0} (d : Bool) (n : ℕ) (go : Out X) → pass m d (φ d) n go ≡ go
   pub mays : {X : Type 0} (d : Bool) (n : ℕ) (go : Out X) → may_pass m d (φ d) n go ≡ go
   pub may_nots : {X : Type 0} (d : Bool) (n : ℕ) (go : Out X) → may_pass m d (φ false) n go ≡ go
   pub leads : {X : Type 0} (d l : Bool) (n : ℕ) (go : Out X) → may_lead m d (φ d) l n go ≡ go
   pub leads_on : {X : Type 0} (d : Bool) (n : ℕ) (go : Out X) → may_lead m d (φ false) d n go ≡ go
 
-module _ (m : Mode) (φ : Bool → Bool) (fits : Fits m φ) where
+module _ (m : Mode) (φ : Bool → Bool) (fits : FitsMode m φ) where
   abbrev pub flat_at : List Piece → State
   flat_at ps = at 0 (flat φ ps)
 
@@ -556,7 +556,7 @@ module _ (m : Mode) (φ : Bool → Bool) (fits : Fits m φ) where
   par_ends_schedule None (Some d) to = par_ends_word word.Derivation (deriv_pieces 1 d (closes to ∷ []))
   par_ends_schedule (Some xs) d to = par_ends_word word.Schedule (steps_pieces xs (derivation_pieces d (closes to ∷ [])))
 
-  opponent_c : (o : Option t.Proc) (x : Option (List t.Step)) (d : Option t.Deriv) (v : Bool) (to : ℕ) → IsOpponent v o → read m (opponent_tail v) (flat_at (opponent_pieces o (behind_opponent x d to))) ≡ Ok (bare_opponent o, flat_at (behind_opponent x d to))
+  opponent_c : (o : Option t.Proc) (x : Option (List t.Step)) (d : Option t.Deriv) (v : Bool) (to : ℕ) → IsFormedOpponent v o → read m (opponent_tail v) (flat_at (opponent_pieces o (behind_opponent x d to))) ≡ Ok (bare_opponent o, flat_at (behind_opponent x d to))
   opponent_c None None None v to h = rw read_is_step refl
   opponent_c None None (Some d) v to h = rw read_is_step refl
   opponent_c None (Some xs) d v to h = rw read_is_step refl
@@ -626,7 +626,7 @@ module _ (m : Mode) (φ : Bool → Bool) (fits : Fits m φ) where
   file_c f h = by_version f.version f.span (record { decls = f.decls; process = f.process; opponent = f.opponent; schedule = f.schedule; derivation = f.derivation }) h.version (h.decls, h.process, h.opponent, h.derivation)
 
 -- the two modes
-pub told_fits : Fits told (λ d. d)
+pub told_fits : FitsMode told (λ d. d)
 told_fits = record {
   passes = λ d n go. passes d n go;
   mays = λ d n go. mays d n go;
@@ -657,7 +657,7 @@ told_fits = record {
     leads_on true n go = refl
     leads_on false n go = refl
 
-pub any_fits : Fits any (λ d. false)
+pub any_fits : FitsMode any (λ d. false)
 any_fits = record {
   passes = λ d n go. refl;
   mays = λ d n go. refl;

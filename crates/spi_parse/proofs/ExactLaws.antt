@@ -18,7 +18,7 @@ use Rattle.spi_parse.proofs.LiveLaws.{table_live}
 use Rattle.spi_parse.proofs.FlagLaws.{table_flags}
 use Rattle.spi_parse.proofs.Viable.{AreSpare, is_viable}
 use Rattle.spi_parse.proofs.Complete.{flat}
-use Rattle.spi_parse.proofs.Local.{NoFlag, Shared, Clean, Follows, follows, beyond_shared, left_of, read_within_left}
+use Rattle.spi_parse.proofs.Local.{NoFlag, Shared, CleanBefore, ReadsAlike, follows, beyond_shared, left_of, read_within_left}
 
 -- ---- lists
 
@@ -91,7 +91,7 @@ long_enough cs k ts rest e =
     let same = ap length e ∙ length-append (firsts cs) (k ∷ rest) in
     omega arith
 
-not_clean : (cs : List (Kind × Bool)) (k : Kind) (c : List (Kind × Bool)) (ts : List Tok) (rest : List Kind) (m : ℕ) → kinds ts ≡ firsts cs ++ k ∷ rest → m ≡ suc (length rest) → Clean m ts (as_toks (cs ++ (k, true) ∷ c)) → ⊥
+not_clean : (cs : List (Kind × Bool)) (k : Kind) (c : List (Kind × Bool)) (ts : List Tok) (rest : List Kind) (m : ℕ) → kinds ts ≡ firsts cs ++ k ∷ rest → m ≡ suc (length rest) → CleanBefore m ts (as_toks (cs ++ (k, true) ∷ c)) → ⊥
 not_clean [] k c [] rest m e n clean = cc
 not_clean [] k c (t ∷ ts) rest m e n clean =
     let long = long_enough [] k (t ∷ ts) rest e in
@@ -157,14 +157,14 @@ module _ (a : Sym) (bare : Tree a → Tree a) (P : Tree a → Type 0) (formed : 
   whole x = spell a x []
 
   -- how a part's tokens bear on the answer
-  compared : (e : ℕ) (most : e ≤ 1) (m : ℕ) (x : Tree a) → P x → Shared e m ts (as_toks (cells (whole x))) → Follows e m ts (told_by (whole x)) (read limited a (at 0 ts)) []
+  compared : (e : ℕ) (most : e ≤ 1) (m : ℕ) (x : Tree a) → P x → Shared e m ts (as_toks (cells (whole x))) → ReadsAlike e m ts (told_by (whole x)) (read limited a (at 0 ts)) []
   compared e most m x h sh =
       follows table_flags e most m a (at 0 ts) (at 0 (told_by (whole x))) (bare x, at 0 []) (subst (λ (us : List Tok). Shared e m ts us) (sym (flat_is (whole x))) sh) (complete x (formed x h))
 
-  clean_cells : (m : ℕ) (x : Tree a) → Clean m ts (told_by (whole x)) → Clean m ts (as_toks (cells (whole x)))
-  clean_cells m x c = subst (λ (us : List Tok). Clean m ts us) (flat_is (whole x)) c
+  clean_cells : (m : ℕ) (x : Tree a) → CleanBefore m ts (told_by (whole x)) → CleanBefore m ts (as_toks (cells (whole x)))
+  clean_cells m x c = subst (λ (us : List Tok). CleanBefore m ts us) (flat_is (whole x)) c
 
-  fault_clean : (e n m : ℕ) (d : Fault) (us : List Tok) → (d ≡ Syntax n) ⊎ (d ≡ TooDeep n) → n < m → Follows {X = Tree a} e m ts us (Err d) [] → Clean m ts us
+  fault_clean : (e n m : ℕ) (d : Fault) (us : List Tok) → (d ≡ Syntax n) ⊎ (d ≡ TooDeep n) → n < m → ReadsAlike {X = Tree a} e m ts us (Err d) [] → CleanBefore m ts us
   fault_clean e n m (Syntax k) us w lt f = f.1
   fault_clean e n m (TooDeep k) us w lt (inl f) = f.1
   fault_clean e n m (TooDeep k) us (inl w) lt (inr f) = absurd cc
@@ -178,8 +178,8 @@ module _ (a : Sym) (bare : Tree a → Tree a) (P : Tree a → Type 0) (formed : 
       let len = ap length split ∙ length-append pre (k ∷ rest) in
       let all = kinds_length ts in
       let sh : Shared 0 m ts (as_toks (cells (whole x))) = subst (λ (cs : List (Kind × Bool)). Shared 0 m ts (as_toks cs)) (sym deep.parts) (shared_at 0 deep.before k true deep.after ts rest m parts refl) in
-      let answer : Follows {X = Tree a} 0 m ts (told_by (whole x)) (Err d) [] = subst (λ (o : Out (Tree a)). Follows 0 m ts (told_by (whole x)) o []) e (compared 0 (omega arith) m x h sh) in
-      not_clean deep.before k deep.after ts rest m parts refl (subst (λ (cs : List (Kind × Bool)). Clean m ts (as_toks cs)) deep.parts (clean_cells m x (fault_clean 0 n m d (told_by (whole x)) w (omega arith) answer)))
+      let answer : ReadsAlike {X = Tree a} 0 m ts (told_by (whole x)) (Err d) [] = subst (λ (o : Out (Tree a)). ReadsAlike 0 m ts (told_by (whole x)) o []) e (compared 0 (omega arith) m x h sh) in
+      not_clean deep.before k deep.after ts rest m parts refl (subst (λ (cs : List (Kind × Bool)). CleanBefore m ts (as_toks cs)) deep.parts (clean_cells m x (fault_clean 0 n m d (told_by (whole x)) w (omega arith) answer)))
 
   -- what a part with more tokens says of the answer
   goes_on_shared : (x : Tree a) (pre : List Kind) (k : Kind) (c rest : List Kind) (m : ℕ) → kinds ts ≡ pre ++ k ∷ rest → kinds_in (whole x) ≡ pre ++ k ∷ c → m ≡ suc (length rest) → Shared 0 m ts (as_toks (cells (whole x)))
@@ -191,10 +191,10 @@ module _ (a : Sym) (bare : Tree a → Tree a) (P : Tree a → Type 0) (formed : 
   stop : (n : ℕ) (pre : List Kind) (rest : List Kind) → read limited a (at 0 ts) ≡ Err (Syntax n) → length rest ≡ n → kinds ts ≡ pre ++ rest → Stops whole P pre rest
   stop n pre [] e len split = λ x h same.
       let all : kinds ts ≡ firsts (cells (whole x)) = split ∙ append-nil pre ∙ sym same ∙ kinds_in_cells (whole x) in
-      let answer : Follows {X = Tree a} 0 0 ts (told_by (whole x)) (Err (Syntax n)) [] = subst (λ (o : Out (Tree a)). Follows 0 0 ts (told_by (whole x)) o []) e (compared 0 (omega arith) 0 x h (shared_all (cells (whole x)) ts all)) in
+      let answer : ReadsAlike {X = Tree a} 0 0 ts (told_by (whole x)) (Err (Syntax n)) [] = subst (λ (o : Out (Tree a)). ReadsAlike 0 0 ts (told_by (whole x)) o []) e (compared 0 (omega arith) 0 x h (shared_all (cells (whole x)) ts all)) in
       let bad = answer.0 in absurd (omega arith)
   stop n pre (k ∷ rest) e len split = λ x h c same.
-      let answer : Follows {X = Tree a} 0 n ts (told_by (whole x)) (Err (Syntax n)) [] = subst (λ (o : Out (Tree a)). Follows 0 n ts (told_by (whole x)) o []) e (compared 0 (omega arith) n x h (goes_on_shared x pre k c rest n split same (sym len))) in
+      let answer : ReadsAlike {X = Tree a} 0 n ts (told_by (whole x)) (Err (Syntax n)) [] = subst (λ (o : Out (Tree a)). ReadsAlike 0 n ts (told_by (whole x)) o []) e (compared 0 (omega arith) n x h (goes_on_shared x pre k c rest n split same (sym len))) in
       let bad = answer.0 in absurd (omega arith)
 
   pub exact_syntax : (n : ℕ) → read limited a (at 0 ts) ≡ Err (Syntax n) → IsSyntaxAt whole P (kinds ts) (length ts - n)
@@ -220,9 +220,9 @@ module _ (a : Sym) (bare : Tree a → Tree a) (P : Tree a → Type 0) (formed : 
   -- a part whose tokens begin with one at which a node is too deep
   every_deep : (n : ℕ) (pre : List Kind) (k : Kind) (rest : List Kind) → read limited a (at 0 ts) ≡ Err (TooDeep n) → suc (length rest) ≡ n → kinds ts ≡ pre ++ k ∷ rest → (x : Tree a) → P x → (c : List Kind) → kinds_in (whole x) ≡ pre ++ k ∷ c → IsWithin (whole x) → ⊥
   every_deep n pre k rest e len split x h c same within =
-      go (subst (λ (o : Out (Tree a)). Follows 0 n ts (told_by (whole x)) o []) e (compared 0 (omega arith) n x h (goes_on_shared x pre k c rest n split same (sym len))))
+      go (subst (λ (o : Out (Tree a)). ReadsAlike 0 n ts (told_by (whole x)) o []) e (compared 0 (omega arith) n x h (goes_on_shared x pre k c rest n split same (sym len))))
     where
-      go : Follows {X = Tree a} 0 n ts (told_by (whole x)) (Err (TooDeep n)) [] → ⊥
+      go : ReadsAlike {X = Tree a} 0 n ts (told_by (whole x)) (Err (TooDeep n)) [] → ⊥
       go (inl f) = let g = f.0 in omega arith
       go (inr f) = f.1 (no_flag (whole x) within)
 
@@ -254,7 +254,7 @@ module _ (a : Sym) (bare : Tree a → Tree a) (P : Tree a → Type 0) (formed : 
   no_part_syntax n e x pre rest split h within same ends =
       let m = length rest in
       let cut : kinds ts ≡ firsts (cells (whole x)) ++ rest = split ∙ ap (λ (l : List Kind). l ++ rest) (sym same ∙ kinds_in_cells (whole x)) in
-      let answer : Follows {X = Tree a} 1 m ts (told_by (whole x)) (Err (Syntax n)) [] = subst (λ (o : Out (Tree a)). Follows 1 m ts (told_by (whole x)) o []) e (compared 1 (omega arith) m x h (shared_front (cells (whole x)) ts rest m cut refl)) in
+      let answer : ReadsAlike {X = Tree a} 1 m ts (told_by (whole x)) (Err (Syntax n)) [] = subst (λ (o : Out (Tree a)). ReadsAlike 1 m ts (told_by (whole x)) o []) e (compared 1 (omega arith) m x h (shared_front (cells (whole x)) ts rest m cut refl)) in
       let s = exact_syntax n e in
       let len = ap length split ∙ length-append pre rest in
       let all = kinds_length ts in
@@ -271,7 +271,7 @@ module _ (a : Sym) (bare : Tree a → Tree a) (P : Tree a → Type 0) (formed : 
   no_part_deep : (n : ℕ) → read limited a (at 0 ts) ≡ Err (TooDeep n) → IsNoPart whole P (kinds ts)
   no_part_deep n e x pre rest split h within same ends =
       let cut : kinds ts ≡ firsts (cells (whole x)) ++ rest = split ∙ ap (λ (l : List Kind). l ++ rest) (sym same ∙ kinds_in_cells (whole x)) in
-      go (subst (λ (o : Out (Tree a)). Follows 1 (length rest) ts (told_by (whole x)) o []) e (compared 1 (omega arith) (length rest) x h (shared_front (cells (whole x)) ts rest (length rest) cut refl)))
+      go (subst (λ (o : Out (Tree a)). ReadsAlike 1 (length rest) ts (told_by (whole x)) o []) e (compared 1 (omega arith) (length rest) x h (shared_front (cells (whole x)) ts rest (length rest) cut refl)))
     where
       clash : (k : Kind) (r : List Kind) → rest ≡ k ∷ r → (more : List Kind) {later : List Kind} → later ≡ pre ++ k ∷ more → (y : Tree a) → P y → (c : List Kind) → kinds_in (whole y) ≡ later ++ c → ⊥
       clash k r is more longer y p c b =
@@ -285,7 +285,7 @@ module _ (a : Sym) (bare : Tree a → Tree a) (P : Tree a → Type 0) (formed : 
           firsts_on [] c = refl
           firsts_on (y ∷ b) c = ap (λ (l : List Kind). y.0 ∷ l) (firsts_on b c)
 
-      go : Follows {X = Tree a} 1 (length rest) ts (told_by (whole x)) (Err (TooDeep n)) [] → ⊥
+      go : ReadsAlike {X = Tree a} 1 (length rest) ts (told_by (whole x)) (Err (TooDeep n)) [] → ⊥
       go (inl f) =
           let s = exact_deep n e in
           let len = ap length split ∙ length-append pre rest in
@@ -316,7 +316,7 @@ module _ (a : Sym) (bare : Tree a → Tree a) (P : Tree a → Type 0) (formed : 
       let m = suc (length rest) in
       let parts : kinds ts ≡ kinds pre ++ t.kind ∷ kinds rest = ap kinds split ∙ kinds_append pre (t ∷ rest) in
       let len = kinds_length rest in
-      let answer : Follows {X = Tree a} 0 m ts (told_by (whole y)) (Ok (x, at e (t ∷ rest))) [] = subst (λ (o : Out (Tree a)). Follows 0 m ts (told_by (whole y)) o []) is (compared 0 (omega arith) m y h (goes_on_shared y (kinds pre) t.kind c (kinds rest) m parts same (ap suc (sym len)))) in
+      let answer : ReadsAlike {X = Tree a} 0 m ts (told_by (whole y)) (Ok (x, at e (t ∷ rest))) [] = subst (λ (o : Out (Tree a)). ReadsAlike 0 m ts (told_by (whole y)) o []) is (compared 0 (omega arith) m y h (goes_on_shared y (kinds pre) t.kind c (kinds rest) m parts same (ap suc (sym len)))) in
       let bad = answer.0 in absurd (omega arith)
 
   pub exact_ok : (x : Tree a) (s : State) → read limited a (at 0 ts) ≡ Ok (x, s) → IsRead x s
@@ -333,7 +333,7 @@ module _ (a : Sym) (bare : Tree a → Tree a) (P : Tree a → Type 0) (formed : 
         ends = ends_here x s.end l.pre s.rest e l.split;
       }
 
-  clean_end : (m : ℕ) (rs : List Tok) → Clean m rs []
+  clean_end : (m : ℕ) (rs : List Tok) → CleanBefore m rs []
   clean_end m [] = tt
   clean_end m (r ∷ rs) = tt
 
@@ -343,5 +343,5 @@ module _ (a : Sym) (bare : Tree a → Tree a) (P : Tree a → Type 0) (formed : 
       let m = suc (length rest) in
       let parts : kinds ts ≡ firsts deep.before ++ k ∷ rest = split ∙ ap (λ (l : List Kind). l ++ k ∷ rest) (sym deep.begins) in
       let sh : Shared 0 m ts (as_toks (cells (whole y))) = subst (λ (cs : List (Kind × Bool)). Shared 0 m ts (as_toks cs)) (sym deep.parts) (shared_at 0 deep.before k true deep.after ts rest m parts refl) in
-      let answer : Follows {X = Tree a} 0 m ts (told_by (whole y)) (Ok (x, s)) [] = subst (λ (o : Out (Tree a)). Follows 0 m ts (told_by (whole y)) o []) e (compared 0 (omega arith) m y h sh) in
-      not_clean deep.before k deep.after ts rest m parts refl (subst (λ (cs : List (Kind × Bool)). Clean m ts (as_toks cs)) deep.parts (clean_cells m y (answer.1 (clean_end m s.rest))))
+      let answer : ReadsAlike {X = Tree a} 0 m ts (told_by (whole y)) (Ok (x, s)) [] = subst (λ (o : Out (Tree a)). ReadsAlike 0 m ts (told_by (whole y)) o []) e (compared 0 (omega arith) m y h sh) in
+      not_clean deep.before k deep.after ts rest m parts refl (subst (λ (cs : List (Kind × Bool)). CleanBefore m ts (as_toks cs)) deep.parts (clean_cells m y (answer.1 (clean_end m s.rest))))

@@ -1,11 +1,11 @@
 -- A node above its limit is seen at its first token, and what may be absent begins with a token that it eats.
-use Rattle.std.proofs.Common.{◌≡◌, ℕ, zero, suc, Bool, true, false, cond, List, [], ◌∷◌, Option, Some, None, refl}
+use Rattle.std.proofs.Common.{◌≡◌, ℕ, zero, suc, Bool, true, false, cond, List, Option, Some, None, refl}
 use Rattle.spi_lex.specs.declared.token.Kind.{Kind}
 use Rattle.spi_lex.specs.declared.token.Kind.TheVariants as K
 use Rattle.spi_lex.specs.declared.token.Reserved.TheVariants as word
 use Rattle.spi_lex.specs.declared.token.Mark.TheVariants as mark
 use Rattle.spi_parse.specs.Rules.{arity_of, writes_effect}
-use Rattle.spi_parse.specs.Table.{one, last, Sym, msg, atom, ty, seq, out_tail, par_tail, act_rest, talk_rest, steps_item, steps, deriv, opponent_tail, schedule_tail, derivation_tail, Tree, Build, eat, skip, deep_here, delta, at_end, is_act, is_talk, act_from, talk_from, rule_move}
+use Rattle.spi_parse.specs.Table.{Sym, msg, atom, ty, seq, out_tail, par_tail, steps_item, steps, deriv, opponent_tail, schedule_tail, derivation_tail, Tree, Build, eat, skip, deep_here, delta, at_end, is_act, is_talk, rule_move}
 use Rattle.spi_parse.proofs.Local.{Flags, Opens, TableFlags}
 
 rule_flags : (v : Bool) (n : ℕ) (w : List ℕ) (a : Option ℕ) (b : Bool) → Flags (rule_move v n w a b)

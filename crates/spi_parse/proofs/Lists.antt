@@ -12,9 +12,9 @@ use Rattle.spi_tree.specs.Trees as t
 use Rattle.spi_tree.specs.Pieces.{message_limit}
 use Rattle.spi_parse.specs.declared.fault.Fault.TheVariants.{Syntax}
 use Rattle.spi_parse.specs.Tokens.{Tok, State}
-use Rattle.spi_parse.specs.Table.{Item, one, last, Sym, the_word, msgs_item, msgs, atoms_item, atoms, fields_item, fields_rest, fields, fields_more, words_item, words, free_rest, abbr_rest, decls_item, decls, act_rest, talk_rest, steps_item, steps, Tree, eat, skip, with_field, free_from, abbr_from, act_from, talk_from, is_act, is_talk, word_at, delta, delta_fields_word, delta_item_word}
+use Rattle.spi_parse.specs.Table.{ListItem, one, last, Sym, the_word, msgs_item, msgs, atoms_item, atoms, fields_item, fields_rest, fields, fields_more, words_item, words, free_rest, abbr_rest, decls_item, decls, act_rest, talk_rest, steps_item, steps, Tree, eat, skip, with_field, free_from, abbr_from, act_from, talk_from, is_act, is_talk, word_at, delta, delta_fields_word, delta_item_word}
 use Rattle.spi_parse.specs.Reading.{◌>>=◌, Out, Mode, limited, pass, may_pass, with_next, go_on, read_all, step, read, next_list}
-use Rattle.spi_parse.proofs.Readers.{at, read_is_step, Base, Takes, Eats, TakesSome, no_longer, bind_ok, ok_is, all_no_longer}
+use Rattle.spi_parse.proofs.Readers.{at, read_is_step, Base, TakesToken, Eats, TakesSome, no_longer, bind_ok, ok_is, all_no_longer}
 
 abbrev tok_at : Kind → Span → Bool → Tok
 tok_at k sp d = record { kind = k; span = sp; deep = d }
@@ -39,8 +39,8 @@ module _ {X Y E : Type 0} (g : Y → X) (go : State → Out (List X × E)) where
   abbrev after_one : Out Y → Out (List X × E)
   after_one r = ◌>>=◌ {A = (Y × ((List X × E) × Unit {0})) × State} {B = (List X × E) × State} (r >>= λ x. ◌>>=◌ {B = (Y × ((List X × E) × Unit {0})) × State} (◌>>=◌ {B = ((List X × E) × Unit {0}) × State} (go x.1) (λ y. Ok ((y.0, tt), y.1))) (λ ys. Ok ((x.0, ys.0), ys.1))) (λ xs. Ok ((g xs.0.0 ∷ xs.0.1.0.0, xs.0.1.0.1), xs.1))
 
-  abbrev just_one : Out Y → Out (Item X E)
-  just_one r = ◌>>=◌ {A = (Y × Unit {0}) × State} {B = Item X E × State} (r >>= λ x. Ok ((x.0, tt), x.1)) (λ xs. Ok (one (g xs.0.0), xs.1))
+  abbrev just_one : Out Y → Out (ListItem X E)
+  just_one r = ◌>>=◌ {A = (Y × Unit {0}) × State} {B = ListItem X E × State} (r >>= λ x. Ok ((x.0, tt), x.1)) (λ xs. Ok (one (g xs.0.0), xs.1))
 
   one_part : (r : Out Y) → after_one r ≡ next_list (just_one r) go
   one_part (Err f) = refl
@@ -108,7 +108,7 @@ rest_at v n e _ sp d ts = refl
 rest_law : (v : Bool) (n : ℕ) (s : State) → read m (fields_more v n) s ≡ after_rest v n (read m fields_rest s)
 rest_law v n s = alike (fields_more v n) fields_rest (after_rest v n) (λ e. refl) (rest_at v n) s
 
-may_passes : {X E : Type 0} (may d : Bool) (left : ℕ) (a : Out (List X × E)) (b : Out (Item X E)) (go : State → Out (List X × E)) → a ≡ next_list b go → may_pass m may d left a ≡ next_list (may_pass m may d left b) go
+may_passes : {X E : Type 0} (may d : Bool) (left : ℕ) (a : Out (List X × E)) (b : Out (ListItem X E)) (go : State → Out (List X × E)) → a ≡ next_list b go → may_pass m may d left a ≡ next_list (may_pass m may d left b) go
 may_passes true d left a b go h = refl
 may_passes false d left a b go h = h
 
@@ -116,8 +116,8 @@ module _ (v : Bool) (n : ℕ) (w : SWord) where
   abbrev more_after : Out t.Ty → Out (List t.Field × t.Last)
   more_after r = ◌>>=◌ {A = (t.Ty × (Option (List t.Field × t.Last) × Unit {0})) × State} {B = (List t.Field × t.Last) × State} (r >>= λ x. ◌>>=◌ {B = (t.Ty × (Option (List t.Field × t.Last) × Unit {0})) × State} (◌>>=◌ {B = (Option (List t.Field × t.Last) × Unit {0}) × State} (read m (fields_more v n) x.1) (λ y. Ok ((y.0, tt), y.1))) (λ ys. Ok ((x.0, ys.0), ys.1))) (λ xs. Ok (with_field w xs.0.0 xs.0.1.0, xs.1))
 
-  abbrev rest_after : Out t.Ty → Out (Item t.Field t.Last)
-  rest_after r = ◌>>=◌ {A = (t.Ty × (Bool × Unit {0})) × State} {B = Item t.Field t.Last × State} (r >>= λ x. ◌>>=◌ {B = (t.Ty × (Bool × Unit {0})) × State} (◌>>=◌ {B = (Bool × Unit {0}) × State} (read m fields_rest x.1) (λ y. Ok ((y.0, tt), y.1))) (λ ys. Ok ((x.0, ys.0), ys.1))) (λ xs. Ok (cond xs.0.1.0 (last (t.named w xs.0.0)) (one (record { name = w; ty = xs.0.0 })), xs.1))
+  abbrev rest_after : Out t.Ty → Out (ListItem t.Field t.Last)
+  rest_after r = ◌>>=◌ {A = (t.Ty × (Bool × Unit {0})) × State} {B = ListItem t.Field t.Last × State} (r >>= λ x. ◌>>=◌ {B = (t.Ty × (Bool × Unit {0})) × State} (◌>>=◌ {B = (Bool × Unit {0}) × State} (read m fields_rest x.1) (λ y. Ok ((y.0, tt), y.1))) (λ ys. Ok ((x.0, ys.0), ys.1))) (λ xs. Ok (cond xs.0.1.0 (last (t.named w xs.0.0)) (one (record { name = w; ty = xs.0.0 })), xs.1))
 
   one_field : (r : Out t.Ty) → more_after r ≡ next_list (rest_after r) (read m (fields v n))
   one_field (Err f) = refl
@@ -133,7 +133,7 @@ module _ (v : Bool) (n : ℕ) (w : SWord) where
       split true s = refl
       split false s = deepest s (read m (fields v n) s)
 
-      inner : (o : Out Bool) → ◌>>=◌ {A = (t.Ty × (Option (List t.Field × t.Last) × Unit {0})) × State} {B = (List t.Field × t.Last) × State} (◌>>=◌ {B = (t.Ty × (Option (List t.Field × t.Last) × Unit {0})) × State} (◌>>=◌ {B = (Option (List t.Field × t.Last) × Unit {0}) × State} (after_rest v n o) (λ y. Ok ((y.0, tt), y.1))) (λ ys. Ok ((x.0, ys.0), ys.1))) (λ xs. Ok (with_field w xs.0.0 xs.0.1.0, xs.1)) ≡ next_list (◌>>=◌ {A = (t.Ty × (Bool × Unit {0})) × State} {B = Item t.Field t.Last × State} (◌>>=◌ {B = (t.Ty × (Bool × Unit {0})) × State} (◌>>=◌ {B = (Bool × Unit {0}) × State} o (λ y. Ok ((y.0, tt), y.1))) (λ ys. Ok ((x.0, ys.0), ys.1))) (λ xs. Ok (cond xs.0.1.0 (last (t.named w xs.0.0)) (one (record { name = w; ty = xs.0.0 })), xs.1))) (read m (fields v n))
+      inner : (o : Out Bool) → ◌>>=◌ {A = (t.Ty × (Option (List t.Field × t.Last) × Unit {0})) × State} {B = (List t.Field × t.Last) × State} (◌>>=◌ {B = (t.Ty × (Option (List t.Field × t.Last) × Unit {0})) × State} (◌>>=◌ {B = (Option (List t.Field × t.Last) × Unit {0}) × State} (after_rest v n o) (λ y. Ok ((y.0, tt), y.1))) (λ ys. Ok ((x.0, ys.0), ys.1))) (λ xs. Ok (with_field w xs.0.0 xs.0.1.0, xs.1)) ≡ next_list (◌>>=◌ {A = (t.Ty × (Bool × Unit {0})) × State} {B = ListItem t.Field t.Last × State} (◌>>=◌ {B = (t.Ty × (Bool × Unit {0})) × State} (◌>>=◌ {B = (Bool × Unit {0}) × State} o (λ y. Ok ((y.0, tt), y.1))) (λ ys. Ok ((x.0, ys.0), ys.1))) (λ xs. Ok (cond xs.0.1.0 (last (t.named w xs.0.0)) (one (record { name = w; ty = xs.0.0 })), xs.1))) (read m (fields v n))
       inner (Err f) = refl
       inner (Ok y) = split y.0 y.1
 
@@ -161,28 +161,28 @@ fields_law v n s = alike (fields v n) (fields_item v n) (λ r. next_list r (read
 
 -- ---- each item takes a token
 
-msgs_moves : (v : Bool) (d' : Bool) (n : ℕ) (k : Kind) → Takes (delta (msgs_item v d' n) k)
+msgs_moves : (v : Bool) (d' : Bool) (n : ℕ) (k : Kind) → TakesToken (delta (msgs_item v d' n) k)
 msgs_moves v d' n (K.Mark mark.Comma) = tt
 msgs_moves v d' n _ = tt
 
 pub msgs_take : (v : Bool) (d' : Bool) (n : ℕ) → TakesSome (msgs_item v d' n)
 msgs_take v d' n = record { ends = refl; moves = msgs_moves v d' n }
 
-atoms_moves : (v : Bool) (d' : Bool) (n : ℕ) (k : Kind) → Takes (delta (atoms_item v d' n) k)
+atoms_moves : (v : Bool) (d' : Bool) (n : ℕ) (k : Kind) → TakesToken (delta (atoms_item v d' n) k)
 atoms_moves v d' n (K.Mark mark.Comma) = tt
 atoms_moves v d' n _ = tt
 
 pub atoms_take : (v : Bool) (d' : Bool) (n : ℕ) → TakesSome (atoms_item v d' n)
 atoms_take v d' n = record { ends = refl; moves = atoms_moves v d' n }
 
-words_moves : (k : Kind) → Takes (delta words_item k)
+words_moves : (k : Kind) → TakesToken (delta words_item k)
 words_moves (K.Mark mark.Comma) = tt
 words_moves _ = tt
 
 pub words_take : TakesSome words_item
 words_take = record { ends = refl; moves = words_moves }
 
-decls_moves : (v : Bool) (k : Kind) → Takes (delta (decls_item v) k)
+decls_moves : (v : Bool) (k : Kind) → TakesToken (delta (decls_item v) k)
 decls_moves v (K.Reserved word.Free) = tt
 decls_moves v _ = tt
 
@@ -197,7 +197,7 @@ ty_moves v n _ = tt
 pub ty_eats : (v : Bool) (n : ℕ) → Eats (Sym.ty v n)
 ty_eats v n = record { ends = refl; moves = ty_moves v n }
 
-fields_moves : (v : Bool) (n : ℕ) (k : Kind) → Takes (delta (fields_item v n) k)
+fields_moves : (v : Bool) (n : ℕ) (k : Kind) → TakesToken (delta (fields_item v n) k)
 fields_moves v n (K.Word w) = tt
 fields_moves v n _ = ty_eats v n
 
@@ -205,24 +205,24 @@ pub fields_take : (v : Bool) (n : ℕ) → TakesSome (fields_item v n)
 fields_take v n = record { ends = refl; moves = fields_moves v n }
 
 -- a step takes a token, where there is one
-abbrev is_one : {X E : Type 0} → Item X E → Bool
+abbrev is_one : {X E : Type 0} → ListItem X E → Bool
 is_one (one x) = true
 is_one (last e) = false
 
-not_one : {X E : Type 0} (e : E) (y : X) (s s' : State) → ◌≡◌ {A = Out (Item X E)} (Ok (last e, s)) (Ok (one y, s')) → ⊥
-not_one {X} {E} e y s s' h = let k : false ≡ true = ap (λ (z : Item X E × State). is_one z.0) (ok_is (last e, s) (one y, s') h) in cc
+not_one : {X E : Type 0} (e : E) (y : X) (s s' : State) → ◌≡◌ {A = Out (ListItem X E)} (Ok (last e, s)) (Ok (one y, s')) → ⊥
+not_one {X} {E} e y s s' h = let k : false ≡ true = ap (λ (z : ListItem X E × State). is_one z.0) (ok_is (last e, s) (one y, s') h) in cc
 
 step_taken : (w : List ℕ) (e : ℕ) (sp : Span) (d : Bool) (ts : List Tok) (a b : Bool) (y : t.Step) (s : State)
     → go_on {a = steps_item} m (read m) (cond a (eat (act_rest ∷ []) (λ ss to xs. one (act_from ss xs.0))) (cond b (eat (talk_rest ∷ []) (λ ss to xs. one (talk_from ss xs.0))) (skip (last tt)))) false [] (at e (tok_at (K.Word w) sp d ∷ ts)) ≡ Ok (one y, s)
     → length s.rest ≤ length ts
 step_taken w e sp d ts true b y s h =
     let p = bind_ok (read_all (read m) (act_rest ∷ []) (at sp.to ts)) (λ xs. Ok (one (act_from (sp ∷ []) xs.0.0), xs.1)) (one y, s) h in
-    let k = ap (λ (z : Item t.Step (Unit {0}) × State). length z.1.rest) (ok_is (one (act_from (sp ∷ []) p.0.0.0), p.0.1) (one y, s) p.2) in
+    let k = ap (λ (z : ListItem t.Step (Unit {0}) × State). length z.1.rest) (ok_is (one (act_from (sp ∷ []) p.0.0.0), p.0.1) (one y, s) p.2) in
     let l = all_no_longer (read m) (no_longer m) (act_rest ∷ []) (at sp.to ts) p.0 p.1 in
     omega arith
 step_taken w e sp d ts false true y s h =
     let p = bind_ok (read_all (read m) (talk_rest ∷ []) (at sp.to ts)) (λ xs. Ok (one (talk_from (sp ∷ []) xs.0.0), xs.1)) (one y, s) h in
-    let k = ap (λ (z : Item t.Step (Unit {0}) × State). length z.1.rest) (ok_is (one (talk_from (sp ∷ []) p.0.0.0), p.0.1) (one y, s) p.2) in
+    let k = ap (λ (z : ListItem t.Step (Unit {0}) × State). length z.1.rest) (ok_is (one (talk_from (sp ∷ []) p.0.0.0), p.0.1) (one y, s) p.2) in
     let l = all_no_longer (read m) (no_longer m) (talk_rest ∷ []) (at sp.to ts) p.0 p.1 in
     omega arith
 step_taken w e sp d ts false false y s h = absurd (not_one tt y (at e (tok_at (K.Word w) sp d ∷ ts)) s h)

@@ -1,31 +1,29 @@
 -- Each look of the table leads somewhere, and each symbol has a tree.
-use Rattle.std.proofs.Common.{ℕ, zero, suc, Bool, true, false, cond, eqb, ◌==◌, List, [], ◌∷◌, Option, Some, None, codes, refl, inl, lit≤}
+use Rattle.std.proofs.Common.{ℕ, zero, suc, Bool, true, false, cond, ◌==◌, List, [], ◌∷◌, Option, Some, None, codes, refl, inl, lit≤}
 use Rattle.spi_text.specs.declared.lines.Span.{Span}
 use Rattle.spi_lex.specs.declared.token.Kind.{Kind}
 use Rattle.spi_lex.specs.declared.token.Kind.TheVariants as K
-use Rattle.spi_lex.specs.declared.token.Reserved.{Reserved}
 use Rattle.spi_lex.specs.declared.token.Reserved.TheVariants as word
-use Rattle.spi_lex.specs.declared.token.Mark.{Mark}
 use Rattle.spi_lex.specs.declared.token.Mark.TheVariants as mark
 use Rattle.spi_tree.specs.declared.tree.SWord.{SWord}
 use Rattle.spi_tree.specs.Trees as t
 use Rattle.spi_tree.specs.Pieces.{Piece, cell, cells}
 use Rattle.spi_tree.specs.Formed.{IsWordFit}
 use Rattle.spi_parse.specs.Rules.{arity_of, writes_effect}
-use Rattle.spi_parse.specs.Table.{one, last, Sym, the_mark, the_reserved, the_word, the_number, the_two, msg, msgs_item, msgs, atom, atoms_item, atoms, effect, ty, fields_item, fields_rest, fields, fields_more, named, binder, split_head, match_head, case_head, decrypt_head, check_head, cast_head, sproc, seq, out_tail, par_tail, words_item, words, free_rest, abbr_rest, decl, decls_item, decls, act_rest, talk_rest, steps_item, steps, deriv, opponent_tail, schedule_tail, derivation_tail, body, file, Tree, Build, eat, skip, fail, deep_here, delta, mark_number, reserved_number, act_from, talk_from, file_from, over, is_mark, is_reserved, is_act, is_talk, is_version_word, rule_move, delta_paren, delta_bracket, delta_ty_paren, delta_ty_word, delta_item_word, delta_fields_word}
+use Rattle.spi_parse.specs.Table.{last, Sym, the_mark, the_reserved, the_word, the_number, the_two, msg, msgs_item, msgs, atom, atoms_item, atoms, effect, ty, fields_item, fields_rest, fields, fields_more, named, binder, split_head, match_head, case_head, decrypt_head, check_head, cast_head, sproc, seq, out_tail, par_tail, words_item, words, free_rest, abbr_rest, decl, decls_item, decls, act_rest, talk_rest, steps_item, steps, deriv, opponent_tail, schedule_tail, derivation_tail, body, file, Tree, Build, eat, skip, fail, deep_here, delta, file_from, is_mark, is_reserved, is_act, is_talk, is_version_word, rule_move, delta_paren, delta_bracket, delta_ty_paren, delta_ty_word, delta_item_word, delta_fields_word}
 use Rattle.spi_parse.specs.Bare.{nowhere}
 use Rattle.spi_parse.proofs.Spell.{spell, Formed}
-use Rattle.spi_parse.proofs.Sound.{Front}
+use Rattle.spi_parse.proofs.Sound.{FrontOfMove}
 use Rattle.spi_parse.proofs.Viable.{Live, AreSpare, TableLive}
 use Rattle.spi_lex.proofs.Writing.{letters_identifier}
 
 -- a move by a test is live where it looks no further
-eats_live : (a : Sym) (l : List Sym) (b : Build a l) (c deep : Bool) (ss : List Span) (from : ℕ) (fr : Front) (k : Kind) (s : Span) → Live {a = a} {ate = false} (cond c (eat l b) fail) deep ss from fr k s
+eats_live : (a : Sym) (l : List Sym) (b : Build a l) (c deep : Bool) (ss : List Span) (from : ℕ) (fr : FrontOfMove) (k : Kind) (s : Span) → Live {a = a} {ate = false} (cond c (eat l b) fail) deep ss from fr k s
 eats_live a l b true deep ss from fr k s = tt
 eats_live a l b false deep ss from fr k s = tt
 
 -- so is one by two tests, the second behind the first
-skips_live : (a : Sym) (l l' : List Sym) (b : Build a l) (b' : Build a l') (x : Tree a) (c c' deep : Bool) (ss : List Span) (from : ℕ) (fr : Front) (k : Kind) (s : Span) → Live {a = a} {ate = false} (cond c (eat l b) (cond c' (eat l' b') (skip x))) deep ss from fr k s
+skips_live : (a : Sym) (l l' : List Sym) (b : Build a l) (b' : Build a l') (x : Tree a) (c c' deep : Bool) (ss : List Span) (from : ℕ) (fr : FrontOfMove) (k : Kind) (s : Span) → Live {a = a} {ate = false} (cond c (eat l b) (cond c' (eat l' b') (skip x))) deep ss from fr k s
 skips_live a l l' b b' x true c' deep ss from fr k s = tt
 skips_live a l l' b b' x false true deep ss from fr k s = tt
 skips_live a l l' b b' x false false deep ss from fr k s = tt
@@ -46,15 +44,15 @@ version_fit = (letters_identifier (codes "version") refl (lit≤ tt), lit≤ tt,
 leaf_fit : IsWordFit true (K.Word (codes "ProcStop"))
 leaf_fit = (letters_identifier (codes "ProcStop") refl (lit≤ tt), lit≤ tt, refl)
 
-paren_live : (v d : Bool) (n : ℕ) (ss : List Span) (from : ℕ) (fr : Front) (k : Kind) (s : Span) → Live (delta_paren v d n k) false ss from fr k s
+paren_live : (v d : Bool) (n : ℕ) (ss : List Span) (from : ℕ) (fr : FrontOfMove) (k : Kind) (s : Span) → Live (delta_paren v d n k) false ss from fr k s
 paren_live v d n ss from fr (K.Mark mark.ParenClose) s = tt
 paren_live v d n ss from fr _ s = tt
 
-bracket_live : (v d : Bool) (n : ℕ) (ss : List Span) (from : ℕ) (fr : Front) (k : Kind) (s : Span) → Live (delta_bracket v d n k) false ss from fr k s
+bracket_live : (v d : Bool) (n : ℕ) (ss : List Span) (from : ℕ) (fr : FrontOfMove) (k : Kind) (s : Span) → Live (delta_bracket v d n k) false ss from fr k s
 bracket_live v d n ss from fr (K.Mark mark.BracketClose) s = tt
 bracket_live v d n ss from fr _ s = tt
 
-ty_word_live : (v : Bool) (n : ℕ) (w : List ℕ) (ss : List Span) (from : ℕ) (fr : Front) (k : Kind) (s : Span) → Live (delta_ty_word v n w k) false ss from fr k s
+ty_word_live : (v : Bool) (n : ℕ) (w : List ℕ) (ss : List Span) (from : ℕ) (fr : FrontOfMove) (k : Kind) (s : Span) → Live (delta_ty_word v n w k) false ss from fr k s
 ty_word_live v n w ss from fr (K.Mark mark.Colon) s = tt
 ty_word_live v n w ss from fr _ s = tt
 
@@ -63,11 +61,11 @@ ty_paren_live v n s (K.Mark mark.ParenClose) s' = tt
 ty_paren_live v n s (K.Word w) s' = ((K.Mark mark.Plus, tt, tt, λ s''. (0, λ to xs h. ((tt, h.0), (1, 1, λ r. refl)))), λ k'' s'' fr'. ty_word_live v n w _ _ fr' k'' s'')
 ty_paren_live v n s _ s' = tt
 
-item_word_live : (v : Bool) (n : ℕ) (w : List ℕ) (ss : List Span) (from : ℕ) (fr : Front) (k : Kind) (s : Span) → Live (delta_item_word v n w k) false ss from fr k s
+item_word_live : (v : Bool) (n : ℕ) (w : List ℕ) (ss : List Span) (from : ℕ) (fr : FrontOfMove) (k : Kind) (s : Span) → Live (delta_item_word v n w k) false ss from fr k s
 item_word_live v n w ss from fr (K.Mark mark.Colon) s = tt
 item_word_live v n w ss from fr _ s = tt
 
-fields_word_live : (v : Bool) (n : ℕ) (w : List ℕ) (ss : List Span) (from : ℕ) (fr : Front) (k : Kind) (s : Span) → Live (delta_fields_word v n w k) false ss from fr k s
+fields_word_live : (v : Bool) (n : ℕ) (w : List ℕ) (ss : List Span) (from : ℕ) (fr : FrontOfMove) (k : Kind) (s : Span) → Live (delta_fields_word v n w k) false ss from fr k s
 fields_word_live v n w ss from fr (K.Mark mark.Colon) s = tt
 fields_word_live v n w ss from fr _ s = tt
 

@@ -122,13 +122,13 @@ no_longer m = record { by = λ a s x h. (within_no_longer m (4 * length s.rest +
 
 -- what holds of the tokens that are left, and of each end of them, holds of those left behind what was read
 module _ (P : List Tok → Type 0) (tail : (t : Tok) (ts : List Tok) → P (t ∷ ts) → P ts) where
-  pub record Keeps (rd : Reader) : Type 0 where
+  pub record KeepsState (rd : Reader) : Type 0 where
     pub by : (a : Sym) (s : State) (x : Tree a × State) → rd a s ≡ Ok x → P s.rest → P x.1.rest
 
   kept : {X : Type 0} (y x : X × State) → done y ≡ done x → P y.1.rest → P x.1.rest
   kept {X = X} y x e p = subst (λ (z : X × State). P z.1.rest) (ok_is y x e) p
 
-  module _ (rd : Reader) (keep : Keeps rd) where
+  module _ (rd : Reader) (keep : KeepsState rd) where
     pub all_keep : (l : List Sym) (s : State) (x : Trees l × State) → read_all rd l s ≡ Ok x → P s.rest → P x.1.rest
     all_keep [] s x e p = kept (tt, s) x e p
     all_keep (a ∷ l) s x e p =
@@ -171,7 +171,7 @@ module _ (P : List Tok → Type 0) (tail : (t : Tok) (ts : List Tok) → P (t �
         at_ends (Some y) k = kept {X = Tree a} (y, at e []) x k p
     step_keeps m a e (t ∷ ts) x h p = moves_keep m (delta a t.kind) (deep_here a) [] e (t ∷ ts) x h p
 
-  pub within_keeps : (m : Mode) (n : ℕ) → Keeps (read_within m n)
+  pub within_keeps : (m : Mode) (n : ℕ) → KeepsState (read_within m n)
   unfolding read_within
   within_keeps m zero = record { by = λ a s x h p. absurd cc }
   within_keeps m (suc n) = record { by = λ a s x h p. step_keeps (read_within m n) (within_keeps m n) m a s.end s.rest x h p }
@@ -339,17 +339,17 @@ abbrev pub EatsFirst : List Sym → Type 0
 EatsFirst [] = ⊥
 EatsFirst (b ∷ l) = Eats b
 
-abbrev pub Takes : {a : Sym} → Move a false → Type 0
-Takes (eat l b) = Unit {0}
-Takes (look f) = Unit {0}
-Takes fail = Unit {0}
-Takes (stay l low b) = EatsFirst l
-Takes (may_look d f) = Unit {0}
-Takes (skip x) = ⊥
+abbrev pub TakesToken : {a : Sym} → Move a false → Type 0
+TakesToken (eat l b) = Unit {0}
+TakesToken (look f) = Unit {0}
+TakesToken fail = Unit {0}
+TakesToken (stay l low b) = EatsFirst l
+TakesToken (may_look d f) = Unit {0}
+TakesToken (skip x) = ⊥
 
 pub record TakesSome (a : Sym) : Type 0 where
   pub ends : at_end a ≡ None
-  pub moves : (k : Kind) → Takes (delta a k)
+  pub moves : (k : Kind) → TakesToken (delta a k)
 
 none_ends : {X : Type 0} (o : Option X) (s : State) (x : X × State) → o ≡ None → or_end o s ≡ Ok x → ⊥
 none_ends None s x n e = cc
@@ -386,7 +386,7 @@ module _ (m : Mode) where
   pub eats_some : (a : Sym) (s : State) (x : Tree a × State) → Eats a → read m a s ≡ Ok x → length x.1.rest < length s.rest
   eats_some a s x eats h = eats_at a s.end s.rest x eats (sym (read_is_step m a s) ∙ h)
 
-  moves_take : {a : Sym} (mv : Move a false) (deep : Bool) (ss : List Span) (e : ℕ) (t : Tok) (ts : List Tok) (x : Tree a × State) → Takes mv → go_on m (read m) mv deep ss (at e (t ∷ ts)) ≡ Ok x → length x.1.rest ≤ length ts
+  moves_take : {a : Sym} (mv : Move a false) (deep : Bool) (ss : List Span) (e : ℕ) (t : Tok) (ts : List Tok) (x : Tree a × State) → TakesToken mv → go_on m (read m) mv deep ss (at e (t ∷ ts)) ≡ Ok x → length x.1.rest ≤ length ts
   moves_take fail deep ss e t ts x takes h = moves_shorter fail deep ss e t ts x tt h
   moves_take (stay [] low b) deep ss e t ts x takes h = absurd takes
   moves_take {a = a} (stay (c ∷ l) low b) deep ss e t ts x takes h =

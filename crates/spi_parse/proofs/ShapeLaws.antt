@@ -1,7 +1,7 @@
 -- The shape of a rule is that of its word.
 use Rattle.std.proofs.Common.{◌≡◌, ℕ, Bool, true, false, not, ◌&&◌, List, None, refl, sym, ap, subst, ◌∙◌}
 use Rattle.spi_rules.specs.declared.rule.Rule.{Rule}
-use Rattle.spi_rules.specs.declared.rule.Rule.TheVariants.{MsgName, MsgUnit, MsgUnitUn, MsgPair, MsgPairUn, MsgInl, MsgInlUn, MsgInr, MsgInrUn, MsgEnc, MsgEncUn, MsgHash, ProcStop, ProcOut, ProcIn, ProcRepeat, ProcSplit, ProcSplitUn, ProcMatch, ProcMatchUn, ProcCase, ProcCaseUn, ProcDecrypt, ProcDecryptUn, ProcCheck, ProcCheckUn, ProcBegin, ProcEnd, ProcEndMany, ProcCast, ProcCastUn, ProcNew, ProcPar, ProcSub}
+use Rattle.spi_rules.specs.declared.rule.Rule.TheVariants.{MsgName, MsgHash, ProcEndMany}
 use Rattle.spi_rules.specs.Rule.{arity, spelled}
 use Rattle.spi_parse.specs.Rules.{arity_of, writes_effect, is_late}
 use Rattle.spi_parse.specs.Shapes.{is_sub, by_arity, IsShape}

@@ -55,32 +55,32 @@ lays_cell e deep ps t ts d = record { pre = t ∷ []; split = refl; cells_are = 
 pub lays_close : (e : ℕ) (ps : List Piece) (ts : List Tok) → Lays e (closes e ∷ ps) ts e ps ts
 lays_close e ps ts = record { pre = []; split = refl; cells_are = refl; lies = λ left h. (refl, h) }
 
-abbrev pub Front : Type 0
-Front = List Piece → List Piece
+abbrev pub FrontOfMove : Type 0
+FrontOfMove = List Piece → List Piece
 
 -- so many nodes and words begin at a token, or end with one
-abbrev pub opened : ℕ → ℕ → Front
+abbrev pub opened : ℕ → ℕ → FrontOfMove
 opened zero from q = q
 opened (suc k) from q = opens from ∷ opened k from q
 
-abbrev pub closed : ℕ → ℕ → Front
+abbrev pub closed : ℕ → ℕ → FrontOfMove
 closed zero to q = q
 closed (suc k) to q = closes to ∷ closed k to q
 
 -- a word that is eaten, alone or as a node
-abbrev pub word_front : Bool → Kind → Span → Bool → Front
+abbrev pub word_front : Bool → Kind → Span → Bool → FrontOfMove
 word_front false k s b q = opens s.from ∷ cell k b ∷ closes s.to ∷ q
 word_front true k s b q = opens s.from ∷ opens s.from ∷ cell k b ∷ closes s.to ∷ closes s.to ∷ q
 
 -- how the tree that a move builds is spelled: by its parts behind what was eaten, and whether a node begins or ends with it
-abbrev pub IsSpelled : (a : Sym) (l : List Sym) → ℕ → Front → ℕ → Tree a → Trees l → Type 0
-IsSpelled a l from fr to x xs = (o : ℕ) × (c : ℕ) × ((r : List Piece) → spell a x r ≡ opened o from (fr (spell_all l xs (closed c to r))))
+abbrev pub IsMoveSpelled : (a : Sym) (l : List Sym) → ℕ → FrontOfMove → ℕ → Tree a → Trees l → Type 0
+IsMoveSpelled a l from fr to x xs = (o : ℕ) × (c : ℕ) × ((r : List Piece) → spell a x r ≡ opened o from (fr (spell_all l xs (closed c to r))))
 
-abbrev pub Builds : (a : Sym) (l : List Sym) → ℕ → Front → (ℕ → Trees l → Tree a) → Type 0
-Builds a l from fr b = (to : ℕ) (xs : Trees l) → FormedAll l xs → Formed a (b to xs) × IsSpelled a l from fr to (b to xs) xs
+abbrev pub Builds : (a : Sym) (l : List Sym) → ℕ → FrontOfMove → (ℕ → Trees l → Tree a) → Type 0
+Builds a l from fr b = (to : ℕ) (xs : Trees l) → FormedAll l xs → Formed a (b to xs) × IsMoveSpelled a l from fr to (b to xs) xs
 
 -- from is where the first token begins, fr what was eaten, and k and s are of the token to come
-abbrev pub MoveOk : {a : Sym} {ate : Bool} → Move a ate → Bool → List Span → ℕ → Front → Kind → Span → Type 0
+abbrev pub MoveOk : {a : Sym} {ate : Bool} → Move a ate → Bool → List Span → ℕ → FrontOfMove → Kind → Span → Type 0
 MoveOk {a = a} (eat l b) deep ss from fr k s = (w : ℕ) × Builds a l from (λ q. fr (cell k deep ∷ closed w s.to q)) (b (ss ++ s ∷ []))
 MoveOk (look f) deep ss from fr k s = (k' : Kind) (s' : Span) → MoveOk (f k') false (ss ++ s ∷ []) from (λ q. fr (cell k deep ∷ q)) k' s'
 MoveOk fail deep ss from fr k s = Unit {0}
@@ -98,11 +98,11 @@ pub record IsSound (rd : Reader) : Type 0 where
   pub by : (a : Sym) (s : State) (x : Tree a × State) → rd a s ≡ Ok x → Formed a x.0 × ((r : List Piece) → Lays s.end (spell a x.0 r) s.rest x.1.end r x.1.rest)
 
 -- what was eaten lies on the tokens so far, and nodes may begin where they begin
-pub record Eaten (e0 : ℕ) (ts0 : List Tok) (from : ℕ) (fr : Front) (e : ℕ) (ts : List Tok) : Type 0 where
+pub record Eaten (e0 : ℕ) (ts0 : List Tok) (from : ℕ) (fr : FrontOfMove) (e : ℕ) (ts : List Tok) : Type 0 where
   pub lays : (q : List Piece) → Lays e0 (fr q) ts0 e q ts
   pub starts : (left : List Tok) (ps : List Piece) → Lies left e0 ps ts0 → Lies left e0 (opens from ∷ ps) ts0
 
-pub eaten_more : (e0 : ℕ) (ts0 : List Tok) (from : ℕ) (fr more : Front) (e e' : ℕ) (ts ts' : List Tok) → Eaten e0 ts0 from fr e ts → ((q : List Piece) → Lays e (more q) ts e' q ts') → Eaten e0 ts0 from (λ q. fr (more q)) e' ts'
+pub eaten_more : (e0 : ℕ) (ts0 : List Tok) (from : ℕ) (fr more : FrontOfMove) (e e' : ℕ) (ts ts' : List Tok) → Eaten e0 ts0 from fr e ts → ((q : List Piece) → Lays e (more q) ts e' q ts') → Eaten e0 ts0 from (λ q. fr (more q)) e' ts'
 eaten_more e0 ts0 from fr more e e' ts ts' a b = record {
   lays = λ q. lays_on _ _ _ _ _ _ _ _ _ (a.lays (more q)) (b q);
   starts = a.starts;
@@ -120,7 +120,7 @@ starts_more : (left : List Tok) (o : ℕ) (e0 : ℕ) (ts0 : List Tok) (from : �
 starts_more left zero e0 ts0 from ps go h = h
 starts_more left (suc o) e0 ts0 from ps go h = go (opened o from ps) (starts_more left o e0 ts0 from ps go h)
 
-pub eaten_opened : (o : ℕ) (e0 : ℕ) (ts0 : List Tok) (from : ℕ) (fr : Front) (e : ℕ) (ts : List Tok) → Eaten e0 ts0 from fr e ts → (q : List Piece) → Lays e0 (opened o from (fr q)) ts0 e q ts
+pub eaten_opened : (o : ℕ) (e0 : ℕ) (ts0 : List Tok) (from : ℕ) (fr : FrontOfMove) (e : ℕ) (ts : List Tok) → Eaten e0 ts0 from fr e ts → (q : List Piece) → Lays e0 (opened o from (fr q)) ts0 e q ts
 eaten_opened o e0 ts0 from fr e ts a q =
     let l = a.lays q in
     record { pre = l.pre; split = l.split; cells_are = cells_opened o from (fr q) ∙ l.cells_are; lies = λ left h. starts_more left o e0 ts0 from (fr q) (a.starts left) (l.lies left h) }
@@ -163,7 +163,7 @@ module _ (rd : Reader) (sound : IsSound rd) where
       ((one.0, two.0), λ r. lays_on _ _ _ _ _ _ _ _ _ (one.1 (spell_all l q.0.0 r)) (two.1 r))
 
   -- the parts that follow what was eaten
-  built : (a : Sym) (l : List Sym) (from : ℕ) (fr : Front) (b : ℕ → Trees l → Tree a) (e0 : ℕ) (ts0 : List Tok) (e : ℕ) (ts : List Tok) (x : Tree a × State) → Builds a l from fr b → Eaten e0 ts0 from fr e ts
+  built : (a : Sym) (l : List Sym) (from : ℕ) (fr : FrontOfMove) (b : ℕ → Trees l → Tree a) (e0 : ℕ) (ts0 : List Tok) (e : ℕ) (ts : List Tok) (x : Tree a × State) → Builds a l from fr b → Eaten e0 ts0 from fr e ts
       → ◌>>=◌ {B = Tree a × State} (read_all rd l (at e ts)) (λ xs. Ok (b xs.1.end xs.0, xs.1)) ≡ Ok x → Formed a x.0 × ((r : List Piece) → Lays e0 (spell a x.0 r) ts0 x.1.end r x.1.rest)
   built a l from fr b e0 ts0 e ts x ok eaten h =
       let p = bind_ok (read_all rd l (at e ts)) (λ xs. Ok (b xs.1.end xs.0, xs.1)) x h in
@@ -173,7 +173,7 @@ module _ (rd : Reader) (sound : IsSound rd) where
       subst (λ (z : Tree a × State). Formed a z.0 × ((r : List Piece) → Lays e0 (spell a z.0 r) ts0 z.1.end r z.1.rest)) (ok_is made x p.2)
       (how.0, λ r. rw (how.1.2 r) (lays_on _ _ _ _ _ _ _ _ _ (eaten_opened how.1.0 e0 ts0 from fr e ts eaten (spell_all l p.0.0 (closed how.1.1 p.0.1.end r))) (lays_on _ _ _ _ _ _ _ _ _ (parts.1 (closed how.1.1 p.0.1.end r)) (lays_closed how.1.1 p.0.1.end r p.0.1.rest))))
 
-  moves_sound : {a : Sym} {ate : Bool} (mv : Move a ate) (deep : Bool) (ss : List Span) (from : ℕ) (fr : Front) (e0 : ℕ) (ts0 : List Tok) (e : ℕ) (t : Tok) (ts : List Tok) (x : Tree a × State)
+  moves_sound : {a : Sym} {ate : Bool} (mv : Move a ate) (deep : Bool) (ss : List Span) (from : ℕ) (fr : FrontOfMove) (e0 : ℕ) (ts0 : List Tok) (e : ℕ) (t : Tok) (ts : List Tok) (x : Tree a × State)
       → MoveOk mv deep ss from fr t.kind t.span → Eaten e0 ts0 from fr e (t ∷ ts) → go_on limited rd mv deep ss (at e (t ∷ ts)) ≡ Ok x → Formed a x.0 × ((r : List Piece) → Lays e0 (spell a x.0 r) ts0 x.1.end r x.1.rest)
   moves_sound fail deep ss from fr e0 ts0 e t ts x ok eaten h = absurd cc
   moves_sound {a = a} (eat l b) deep ss from fr e0 ts0 e t ts x ok eaten h =

@@ -5,20 +5,20 @@ use Rattle.spi_lex.specs.declared.token.Mark.TheVariants as mark
 use Rattle.spi_tree.specs.declared.tree.SWord.{SWord}
 use Rattle.spi_tree.specs.Trees as t
 use Rattle.spi_tree.specs.Pieces.{Piece, closes, a_mark, a_reserved, a_number, a_word, msg_pieces, msgs_pieces, atom_pieces, atoms_pieces, effect_pieces, ty_pieces, fields_pieces, last_pieces, named_pieces, binder_pieces, Place, in_seq, at_level, proc_pieces, words_pieces, decl_pieces, decls_pieces, step_pieces, steps_pieces, deriv_pieces, opponent_pieces, schedule_pieces, derivation_pieces, file_pieces}
-use Rattle.spi_tree.specs.Formed.{IsMsg, AreMsgs, IsAtom, AreAtoms, IsTy, AreFields, IsLast, IsProc, IsDeclared, AreDeclared, IsWritten, IsOpponent, is_later}
-use Rattle.spi_parse.specs.Table.{Item, one, last, Body, Sym, the_mark, the_reserved, the_word, the_number, the_two, msg, msgs_item, msgs, atom, atoms_item, atoms, effect, ty, fields_item, fields_rest, fields, fields_more, named, binder, split_head, match_head, case_head, decrypt_head, check_head, cast_head, sproc, seq, out_tail, par_tail, words_item, words, free_rest, abbr_rest, decl, decls_item, decls, act_rest, talk_rest, steps_item, steps, deriv, opponent_tail, schedule_tail, derivation_tail, body, file, Tree, Trees}
+use Rattle.spi_tree.specs.Formed.{IsMsg, AreMsgs, IsAtom, AreAtoms, IsTy, AreFields, IsLast, IsProc, IsDeclared, AreDeclared, IsWritten, IsFormedOpponent, is_later}
+use Rattle.spi_parse.specs.Table.{ListItem, one, last, Body, Sym, the_mark, the_reserved, the_word, the_number, the_two, msg, msgs_item, msgs, atom, atoms_item, atoms, effect, ty, fields_item, fields_rest, fields, fields_more, named, binder, split_head, match_head, case_head, decrypt_head, check_head, cast_head, sproc, seq, out_tail, par_tail, words_item, words, free_rest, abbr_rest, decl, decls_item, decls, act_rest, talk_rest, steps_item, steps, deriv, opponent_tail, schedule_tail, derivation_tail, body, file, Tree, Trees}
 use Rattle.spi_parse.specs.Rules.{arity_of, writes_effect}
 use Rattle.spi_parse.specs.Formed.{number_of, is_written}
 
-abbrev pub item_msg : ℕ → Item t.Msg (Unit {0}) → List Piece → List Piece
+abbrev pub item_msg : ℕ → ListItem t.Msg (Unit {0}) → List Piece → List Piece
 item_msg n (one m) r = a_mark mark.Comma (msg_pieces n m r)
 item_msg n (last e) r = a_mark mark.ParenClose r
 
-abbrev pub item_atom : ℕ → Item t.Atom (Unit {0}) → List Piece → List Piece
+abbrev pub item_atom : ℕ → ListItem t.Atom (Unit {0}) → List Piece → List Piece
 item_atom n (one m) r = a_mark mark.Comma (atom_pieces n m r)
 item_atom n (last e) r = a_mark mark.BracketClose r
 
-abbrev pub item_field : ℕ → Item t.Field t.Last → List Piece → List Piece
+abbrev pub item_field : ℕ → ListItem t.Field t.Last → List Piece → List Piece
 item_field n (one f) r = a_word false f.name (a_mark mark.Colon (ty_pieces n f.ty (a_mark mark.Comma r)))
 item_field n (last l) r = last_pieces n l (a_mark mark.ParenClose r)
 
@@ -41,15 +41,15 @@ abbrev pub par_rest : ℕ → Option t.Proc → List Piece → List Piece
 par_rest n None r = r
 par_rest n (Some p) r = a_mark mark.Bar (proc_pieces (at_level (n + 1)) p r)
 
-abbrev pub item_word : Item SWord (Unit {0}) → List Piece → List Piece
+abbrev pub item_word : ListItem SWord (Unit {0}) → List Piece → List Piece
 item_word (one w) r = a_mark mark.Comma (a_word false w r)
 item_word (last e) r = a_mark mark.Semicolon r
 
-abbrev pub item_decl : Item t.Declared (Unit {0}) → List Piece → List Piece
+abbrev pub item_decl : ListItem t.Declared (Unit {0}) → List Piece → List Piece
 item_decl (one d) r = decl_pieces d r
 item_decl (last e) r = a_reserved word.Process r
 
-abbrev pub item_step : Item t.Step (Unit {0}) → List Piece → List Piece
+abbrev pub item_step : ListItem t.Step (Unit {0}) → List Piece → List Piece
 item_step (one x) r = step_pieces x r
 item_step (last e) r = r
 
@@ -126,22 +126,22 @@ pub record IsRuledFile (f : t.File) : Type 0 where
   pub version : (f.version ≡ 1) ⊎ (f.version ≡ 2)
   pub decls : AreDeclared (is_later f) f.decls
   pub process : IsProc (is_later f) (at_level 0) f.process
-  pub opponent : IsOpponent (is_later f) f.opponent
+  pub opponent : IsFormedOpponent (is_later f) f.opponent
   pub derivation : IsDerivation (is_later f) f.derivation
 
 abbrev pub IsRest : Bool → Place → Option t.Proc → Type 0
 IsRest v a None = Unit {0}
 IsRest v a (Some p) = IsProc v a p
 
-abbrev pub IsMsgItem : Bool → Bool → Item t.Msg (Unit {0}) → Type 0
+abbrev pub IsMsgItem : Bool → Bool → ListItem t.Msg (Unit {0}) → Type 0
 IsMsgItem v d (one m) = IsMsg v d m
 IsMsgItem v d (last e) = Unit {0}
 
-abbrev pub IsAtomItem : Bool → Bool → Item t.Atom (Unit {0}) → Type 0
+abbrev pub IsAtomItem : Bool → Bool → ListItem t.Atom (Unit {0}) → Type 0
 IsAtomItem v d (one e) = IsAtom v d e
 IsAtomItem v d (last x) = Unit {0}
 
-abbrev pub IsFieldItem : Bool → Item t.Field t.Last → Type 0
+abbrev pub IsFieldItem : Bool → ListItem t.Field t.Last → Type 0
 IsFieldItem v (one f) = IsTy v f.ty
 IsFieldItem v (last l) = IsLast v l
 
@@ -152,12 +152,12 @@ abbrev pub AreMoreParts : Bool → Option (List t.Field × t.Last) → Type 0
 AreMoreParts v None = Unit {0}
 AreMoreParts v (Some x) = AreParts v x
 
-abbrev pub IsDeclItem : Bool → Item t.Declared (Unit {0}) → Type 0
+abbrev pub IsDeclItem : Bool → ListItem t.Declared (Unit {0}) → Type 0
 IsDeclItem v (one d) = IsDeclared v d
 IsDeclItem v (last e) = Unit {0}
 
 abbrev pub IsBody : Bool → Body → Type 0
-IsBody v b = AreDeclared v b.decls × IsProc v (at_level 0) b.process × IsOpponent v b.opponent × IsDerivation v b.derivation
+IsBody v b = AreDeclared v b.decls × IsProc v (at_level 0) b.process × IsFormedOpponent v b.opponent × IsDerivation v b.derivation
 
 abbrev pub Formed : (a : Sym) → Tree a → Type 0
 Formed (msg v d n) x = IsMsg v d x
@@ -188,7 +188,7 @@ Formed (decl v) x = IsDeclared v x
 Formed (decls_item v) x = IsDeclItem v x
 Formed (decls v) x = AreDeclared v x.0
 Formed (deriv v n) x = IsRuled v x
-Formed (opponent_tail v) x = IsOpponent v x
+Formed (opponent_tail v) x = IsFormedOpponent v x
 Formed (derivation_tail v) x = IsDerivation v x
 Formed (body v) x = IsBody v x
 Formed file x = IsRuledFile x

@@ -13,12 +13,12 @@ use Rattle.spi_lex.specs.declared.token.Mark.{Mark}
 use Rattle.spi_lex.specs.declared.token.Mark.TheVariants as mark
 use Rattle.spi_tree.specs.declared.tree.SWord.{SWord}
 use Rattle.spi_tree.specs.Trees as t
-use Rattle.spi_tree.specs.Pieces.{Piece, opens, cell, closes, message_limit, process_limit, derivation_limit, in_seq, at_level, proc_pieces, steps_pieces}
+use Rattle.spi_tree.specs.Pieces.{Piece, opens, cell, closes, message_limit, derivation_limit, in_seq, at_level, proc_pieces, steps_pieces}
 use Rattle.spi_tree.specs.Formed.{IsMsg, IsTy, IsProc}
 use Rattle.spi_parse.specs.Rules.{arity_of, writes_effect}
 use Rattle.spi_parse.specs.Table.{one, last, Sym, the_mark, the_reserved, the_word, the_number, the_two, msg, msgs_item, msgs, atom, atoms_item, atoms, effect, ty, fields_item, fields_rest, fields, fields_more, named, binder, split_head, match_head, case_head, decrypt_head, check_head, cast_head, sproc, seq, out_tail, par_tail, words_item, words, free_rest, abbr_rest, decl, decls_item, decls, act_rest, talk_rest, steps_item, steps, deriv, opponent_tail, schedule_tail, derivation_tail, body, file, Tree, eat, skip, fail, deep_here, delta, at_end, mark_number, reserved_number, over, word_at, with_field, par_of, out_of, act_from, talk_from, file_from, is_act, is_talk, is_version_word, rule_move, delta_paren, delta_bracket, delta_ty_paren, delta_ty_word, delta_item_word, delta_fields_word}
 use Rattle.spi_parse.proofs.Spell.{spell, IsFieldItem, AreParts, AreMoreParts, Formed}
-use Rattle.spi_parse.proofs.Sound.{IsSpelled, word_front, MoveOk, TableOk}
+use Rattle.spi_parse.proofs.Sound.{IsMoveSpelled, word_front, MoveOk, TableOk}
 use Rattle.spi_parse.proofs.Numbers.{same_mark, same_reserved}
 
 bytes_eq-true : (xs ys : List ℕ) → bytes_eq xs ys ≡ true → xs ≡ ys
@@ -96,12 +96,12 @@ seq_as_proc v n (t.par s p q) r h = absurd h
 seq_as_proc v n _ r h = refl
 
 par_case : (v : Bool) (n : ℕ) (s : Span) (to : ℕ) (p : t.Proc) (o : Option t.Proc) → IsProc v (in_seq (n + 1)) p → Formed (par_tail v n) o
-    → IsProc v (at_level n) (par_of (record { from = s.from; to = to }) p o) × IsSpelled (sproc v n) (seq v (n + 1) ∷ par_tail v n ∷ []) s.from (λ q. q) to (par_of (record { from = s.from; to = to }) p o) (p, (o, tt))
+    → IsProc v (at_level n) (par_of (record { from = s.from; to = to }) p o) × IsMoveSpelled (sproc v n) (seq v (n + 1) ∷ par_tail v n ∷ []) s.from (λ q. q) to (par_of (record { from = s.from; to = to }) p o) (p, (o, tt))
 par_case v n s to p None h k = (seq_is_proc v n p h, (0, 0, λ r. seq_as_proc v n p r h))
 par_case v n s to p (Some q) h k = ((h, k), (1, 1, λ r. refl))
 
 out_case : (v : Bool) (n : ℕ) (s : Span) (to : ℕ) (a b : t.Msg) (o : Option t.Proc) → IsMsg v false a → IsMsg v false b → Formed (out_tail v n) o
-    → IsProc v (in_seq n) (out_of (record { from = s.from; to = to }) a b o) × IsSpelled (seq v n) (msg v false 1 ∷ msg v false 1 ∷ out_tail v n ∷ []) s.from (λ q. cell (K.Reserved word.Out) (deep_here (seq v n)) ∷ q) to (out_of (record { from = s.from; to = to }) a b o) (a, (b, (o, tt)))
+    → IsProc v (in_seq n) (out_of (record { from = s.from; to = to }) a b o) × IsMoveSpelled (seq v n) (msg v false 1 ∷ msg v false 1 ∷ out_tail v n ∷ []) s.from (λ q. cell (K.Reserved word.Out) (deep_here (seq v n)) ∷ q) to (out_of (record { from = s.from; to = to }) a b o) (a, (b, (o, tt)))
 out_case v n s to a b None ha hb h = ((ha, hb), (1, 1, λ r. refl))
 out_case v n s to a b (Some p) ha hb h = ((ha, hb, h), (1, 1, λ r. refl))
 

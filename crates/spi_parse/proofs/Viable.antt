@@ -11,7 +11,7 @@ use Rattle.spi_parse.specs.Reading.{◌>>=◌, Out, Reader, limited, pass, may_p
 use Rattle.spi_tree.specs.Pieces.{Piece, cell, cells}
 use Rattle.spi_parse.proofs.Readers.{at}
 use Rattle.spi_parse.proofs.Spell.{spell, spell_all, Formed, FormedAll}
-use Rattle.spi_parse.proofs.Sound.{plain, Front, closed, word_front, Builds, MoveOk, TableOk, IsSound, Eaten, lays_here, lays_cell, lays_token, lays_word, cells_opened, cells_closed, eaten_more, within_sound}
+use Rattle.spi_parse.proofs.Sound.{plain, FrontOfMove, closed, word_front, Builds, MoveOk, TableOk, IsSound, Eaten, lays_here, lays_cell, lays_token, lays_word, cells_opened, cells_closed, eaten_more, within_sound}
 use Rattle.spi_tree.specs.Formed.{IsWordFit}
 
 -- the words among tokens that aren't given are Words in both versions
@@ -21,16 +21,16 @@ AreSpare (c ∷ cs) = IsWordFit true c.0 × AreSpare cs
 
 -- The fault's token stands behind tokens that are those of the cells, and a token that is too deep is so among them. The
 -- cells behind it are spare where those behind the tree are.
-abbrev pub Reaches : List Tok → Fault → List (Kind × Bool) → Type 0 → Type 0
-Reaches ts (Syntax n) cs q = (pre : List Tok) × (r : List Tok) × (c : List (Kind × Bool)) × (ts ≡ pre ++ r) × (length r ≡ n) × (cs ≡ plain pre ++ c) × (q → AreSpare c)
-Reaches ts (TooDeep n) cs q = (pre : List Tok) × (t : Tok) × (r : List Tok) × (c : List (Kind × Bool)) × (ts ≡ pre ++ t ∷ r) × (suc (length r) ≡ n) × (cs ≡ plain pre ++ (t.kind, true) ∷ c) × (q → AreSpare c)
+abbrev pub ReachesFault : List Tok → Fault → List (Kind × Bool) → Type 0 → Type 0
+ReachesFault ts (Syntax n) cs q = (pre : List Tok) × (r : List Tok) × (c : List (Kind × Bool)) × (ts ≡ pre ++ r) × (length r ≡ n) × (cs ≡ plain pre ++ c) × (q → AreSpare c)
+ReachesFault ts (TooDeep n) cs q = (pre : List Tok) × (t : Tok) × (r : List Tok) × (c : List (Kind × Bool)) × (ts ≡ pre ++ t ∷ r) × (suc (length r) ≡ n) × (cs ≡ plain pre ++ (t.kind, true) ∷ c) × (q → AreSpare c)
 
 plain_on : (a b : List Tok) (c : List (Kind × Bool)) → plain (a ++ b) ++ c ≡ plain a ++ (plain b ++ c)
 plain_on [] b c = refl
 plain_on (t ∷ a) b c = ap (λ (l : List (Kind × Bool)). (t.kind, false) ∷ l) (plain_on a b c)
 
 -- behind more tokens
-later : (pre ts ts' : List Tok) (d : Fault) (cs cs' : List (Kind × Bool)) (q q' : Type 0) → ts ≡ pre ++ ts' → cs ≡ plain pre ++ cs' → (q → q') → Reaches ts' d cs' q' → Reaches ts d cs q
+later : (pre ts ts' : List Tok) (d : Fault) (cs cs' : List (Kind × Bool)) (q q' : Type 0) → ts ≡ pre ++ ts' → cs ≡ plain pre ++ cs' → (q → q') → ReachesFault ts' d cs' q' → ReachesFault ts d cs q
 later pre ts ts' (Syntax n) cs cs' q q' e k f r =
     (pre ++ r.0, r.1, r.2, e ∙ ap (λ (l : List Tok). pre ++ l) r.3 ∙ sym (append_assoc pre r.0 r.1), r.4, k ∙ ap (λ (l : List (Kind × Bool)). plain pre ++ l) r.5 ∙ sym (plain_on pre r.0 r.2), λ h. r.6 (f h))
 later pre ts ts' (TooDeep n) cs cs' q q' e k f r =
@@ -41,26 +41,26 @@ spare_as : (cs cs' : List (Kind × Bool)) → cs ≡ cs' → AreSpare cs → Are
 spare_as cs cs' e h = subst AreSpare e h
 
 pub record Viable (rd : Reader) : Type 0 where
-  pub by : (a : Sym) (s : State) (d : Fault) → rd a s ≡ Err d → (x : Tree a) × Formed a x × ((q : List Piece) → Reaches s.rest d (cells (spell a x q)) (AreSpare (cells q)))
+  pub by : (a : Sym) (s : State) (d : Fault) → rd a s ≡ Err d → (x : Tree a) × Formed a x × ((q : List Piece) → ReachesFault s.rest d (cells (spell a x q)) (AreSpare (cells q)))
 
 -- whether more is eaten by some token, so that a tree is built
-abbrev pub Grows : {a : Sym} {ate : Bool} → Move a ate → Type 0
-Grows (eat l b) = Unit {0}
-Grows (look f) = (k : Kind) × IsWordFit true k × Grows (f k)
-Grows fail = ⊥
-Grows (stay l low b) = Unit {0}
-Grows (may_look d f) = (k : Kind) × IsWordFit true k × Grows (f k)
-Grows (skip x) = Unit {0}
+abbrev pub EatsMore : {a : Sym} {ate : Bool} → Move a ate → Type 0
+EatsMore (eat l b) = Unit {0}
+EatsMore (look f) = (k : Kind) × IsWordFit true k × EatsMore (f k)
+EatsMore fail = ⊥
+EatsMore (stay l low b) = Unit {0}
+EatsMore (may_look d f) = (k : Kind) × IsWordFit true k × EatsMore (f k)
+EatsMore (skip x) = Unit {0}
 
 -- a look leads somewhere, and one that may be too deep leads to a node that is
-abbrev pub Live : {a : Sym} {ate : Bool} → Move a ate → Bool → List Span → ℕ → Front → Kind → Span → Type 0
+abbrev pub Live : {a : Sym} {ate : Bool} → Move a ate → Bool → List Span → ℕ → FrontOfMove → Kind → Span → Type 0
 Live (eat l b) deep ss from fr k s = Unit {0}
-Live (look f) deep ss from fr k s = ((k' : Kind) × IsWordFit true k' × Grows (f k')) × ((k' : Kind) (s' : Span) → Live (f k') false (ss ++ s ∷ []) from (λ q. fr (cell k deep ∷ q)) k' s')
+Live (look f) deep ss from fr k s = ((k' : Kind) × IsWordFit true k' × EatsMore (f k')) × ((k' : Kind) (s' : Span) → Live (f k') false (ss ++ s ∷ []) from (λ q. fr (cell k deep ∷ q)) k' s')
 Live fail deep ss from fr k s = Unit {0}
 Live (stay l low b) deep ss from fr k s = Unit {0}
 Live (may_look d f) deep ss from fr k s =
-    ((k' : Kind) × IsWordFit true k' × Grows (f k') × ((s' : Span) → MoveOk (f k') false (ss ++ s ∷ []) from (λ q. fr (word_front true k s d q)) k' s'))
-    × ((k' : Kind) (s' : Span) (fr' : Front) → Live (f k') false (ss ++ s ∷ []) from fr' k' s')
+    ((k' : Kind) × IsWordFit true k' × EatsMore (f k') × ((s' : Span) → MoveOk (f k') false (ss ++ s ∷ []) from (λ q. fr (word_front true k s d q)) k' s'))
+    × ((k' : Kind) (s' : Span) (fr' : FrontOfMove) → Live (f k') false (ss ++ s ∷ []) from fr' k' s')
 Live (skip x) deep ss from fr k s = Unit {0}
 
 pub record TableLive : Type 0 where
@@ -70,7 +70,7 @@ pub record TableLive : Type 0 where
   pub spare : (a : Sym) (q : List Piece) → AreSpare (cells q) → AreSpare (cells (spell a (some a) q))
 
 -- a tree that begins with what was eaten
-abbrev Extends : (a : Sym) → Front → Type 0
+abbrev Extends : (a : Sym) → FrontOfMove → Type 0
 Extends a fr = (x : Tree a) × Formed a x × ((q : List Piece) → (ps : List Piece) × (cells (spell a x q) ≡ cells (fr ps)) × (AreSpare (cells q) → AreSpare (cells ps)))
 
 module _ (live : TableLive) where
@@ -88,7 +88,7 @@ module _ (live : TableLive) where
   somes_spare [] q h = h
   somes_spare (a ∷ l) q h = live.spare a (spell_all l (somes l) q) (somes_spare l q h)
 
-  built_by : (a : Sym) (l : List Sym) (from : ℕ) (fr : Front) (b : ℕ → Trees l → Tree a) → Builds a l from fr b → Extends a fr
+  built_by : (a : Sym) (l : List Sym) (from : ℕ) (fr : FrontOfMove) (b : ℕ → Trees l → Tree a) → Builds a l from fr b → Extends a fr
   built_by a l from fr b ok =
       let how = ok 0 (somes l) (somes_formed l) in (
         b 0 (somes l),
@@ -101,7 +101,7 @@ module _ (live : TableLive) where
       )
 
   -- what was eaten and a token more
-  longer : (a : Sym) (fr : Front) (more : Front) → ((q : List Piece) → AreSpare (cells q) → AreSpare (cells (more q))) → Extends a (λ q. fr (more q)) → Extends a fr
+  longer : (a : Sym) (fr : FrontOfMove) (more : FrontOfMove) → ((q : List Piece) → AreSpare (cells q) → AreSpare (cells (more q))) → Extends a (λ q. fr (more q)) → Extends a fr
   longer a fr more spare x = (x.0, x.1, λ q. let y = x.2 q in (more y.0, y.1, λ h. spare y.0 (y.2 h)))
 
   spare_closed : (w to : ℕ) (q : List Piece) → AreSpare (cells q) → AreSpare (cells (closed w to q))
@@ -115,7 +115,7 @@ module _ (live : TableLive) where
   spare_word true k s b q fit h = (fit, h)
 
   -- some tree, at a token that the move eats
-  grows : {a : Sym} {ate : Bool} (mv : Move a ate) (deep : Bool) (ss : List Span) (from : ℕ) (fr : Front) (k : Kind) (s : Span) → IsWordFit true k → Grows mv → MoveOk mv deep ss from fr k s → Extends a fr
+  grows : {a : Sym} {ate : Bool} (mv : Move a ate) (deep : Bool) (ss : List Span) (from : ℕ) (fr : FrontOfMove) (k : Kind) (s : Span) → IsWordFit true k → EatsMore mv → MoveOk mv deep ss from fr k s → Extends a fr
   grows {a = a} (eat l b) deep ss from fr k s fit g ok =
       longer a fr (λ q. cell k deep ∷ closed ok.0 s.to q) (λ q h. spare_token ok.0 s.to k deep q fit h) (built_by a l from (λ q. fr (cell k deep ∷ closed ok.0 s.to q)) (b (ss ++ s ∷ [])) ok.1)
   grows {a = a} (look f) deep ss from fr k s fit g ok =
@@ -129,28 +129,28 @@ module _ (live : TableLive) where
   grows {a = a} (skip y) deep ss from fr k s fit g ok = (y, ok.0, λ q. (q, ap cells (ok.1 q), λ h. h))
 
   -- where a token is eaten that is too deep
-  deep_at : (a : Sym) (e0 : ℕ) (ts0 : List Tok) (from : ℕ) (fr : Front) (e : ℕ) (t : Tok) (ts : List Tok) → Eaten e0 ts0 from fr e (t ∷ ts)
+  deep_at : (a : Sym) (e0 : ℕ) (ts0 : List Tok) (from : ℕ) (fr : FrontOfMove) (e : ℕ) (t : Tok) (ts : List Tok) → Eaten e0 ts0 from fr e (t ∷ ts)
       → (x : Tree a) × Formed a x × ((q : List Piece) → (ps : List Piece) × (c : List (Kind × Bool)) × (cells (spell a x q) ≡ cells (fr ps)) × (cells ps ≡ (t.kind, true) ∷ c) × (AreSpare (cells q) → AreSpare c))
-      → (x : Tree a) × Formed a x × ((q : List Piece) → Reaches ts0 (TooDeep (suc (length ts))) (cells (spell a x q)) (AreSpare (cells q)))
+      → (x : Tree a) × Formed a x × ((q : List Piece) → ReachesFault ts0 (TooDeep (suc (length ts))) (cells (spell a x q)) (AreSpare (cells q)))
   deep_at a e0 ts0 from fr e t ts eaten x =
       (x.0, x.1, λ q. let y = x.2 q in let l = eaten.lays y.0 in (l.pre, t, ts, y.1, l.split, refl, y.2 ∙ l.cells_are ∙ ap (λ (c : List (Kind × Bool)). plain l.pre ++ c) y.3, y.4))
 
   -- where no token fits
-  stuck_at : (a : Sym) (e0 : ℕ) (ts0 : List Tok) (from : ℕ) (fr : Front) (e : ℕ) (ts : List Tok) → Eaten e0 ts0 from fr e ts → Extends a fr
-      → (x : Tree a) × Formed a x × ((q : List Piece) → Reaches ts0 (Syntax (length ts)) (cells (spell a x q)) (AreSpare (cells q)))
+  stuck_at : (a : Sym) (e0 : ℕ) (ts0 : List Tok) (from : ℕ) (fr : FrontOfMove) (e : ℕ) (ts : List Tok) → Eaten e0 ts0 from fr e ts → Extends a fr
+      → (x : Tree a) × Formed a x × ((q : List Piece) → ReachesFault ts0 (Syntax (length ts)) (cells (spell a x q)) (AreSpare (cells q)))
   stuck_at a e0 ts0 from fr e ts eaten x =
       (x.0, x.1, λ q. let y = x.2 q in let l = eaten.lays y.0 in (l.pre, ts, cells y.0, l.split, refl, y.1 ∙ l.cells_are, y.2))
 
   module _ (rd : Reader) (sound : IsSound rd) (viable : Viable rd) where
-    eased : (ts : List Tok) (d : Fault) (cs : List (Kind × Bool)) (q q' : Type 0) → (q → q') → Reaches ts d cs q' → Reaches ts d cs q
+    eased : (ts : List Tok) (d : Fault) (cs : List (Kind × Bool)) (q q' : Type 0) → (q → q') → ReachesFault ts d cs q' → ReachesFault ts d cs q
     eased ts (Syntax n) cs q q' f r = (r.0, r.1, r.2, r.3, r.4, r.5, λ h. r.6 (f h))
     eased ts (TooDeep n) cs q q' f r = (r.0, r.1, r.2, r.3, r.4, r.5, r.6, λ h. r.7 (f h))
 
-    all_viable : (l : List Sym) (s : State) (d : Fault) → read_all rd l s ≡ Err d → (xs : Trees l) × FormedAll l xs × ((q : List Piece) → Reaches s.rest d (cells (spell_all l xs q)) (AreSpare (cells q)))
+    all_viable : (l : List Sym) (s : State) (d : Fault) → read_all rd l s ≡ Err d → (xs : Trees l) × FormedAll l xs × ((q : List Piece) → ReachesFault s.rest d (cells (spell_all l xs q)) (AreSpare (cells q)))
     all_viable [] s d h = absurd cc
     all_viable (a ∷ l) s d h = first (λ s' k. all_viable l s' d k) (rd a s) refl h
       where
-        rest : (x : Tree a × State) → rd a s ≡ Ok x → (xs : Trees l) × FormedAll l xs × ((q : List Piece) → Reaches x.1.rest d (cells (spell_all l xs q)) (AreSpare (cells q))) → (xs : Trees (a ∷ l)) × FormedAll (a ∷ l) xs × ((q : List Piece) → Reaches s.rest d (cells (spell_all (a ∷ l) xs q)) (AreSpare (cells q)))
+        rest : (x : Tree a × State) → rd a s ≡ Ok x → (xs : Trees l) × FormedAll l xs × ((q : List Piece) → ReachesFault x.1.rest d (cells (spell_all l xs q)) (AreSpare (cells q))) → (xs : Trees (a ∷ l)) × FormedAll (a ∷ l) xs × ((q : List Piece) → ReachesFault s.rest d (cells (spell_all (a ∷ l) xs q)) (AreSpare (cells q)))
         rest x e r =
             let one = sound.by a s x e in
             ((x.0, r.0), (one.0, r.1), λ q. let lay = one.1 (spell_all l r.0 q) in later lay.pre s.rest x.1.rest d (cells (spell a x.0 (spell_all l r.0 q))) (cells (spell_all l r.0 q)) (AreSpare (cells q)) (AreSpare (cells q)) lay.split lay.cells_are (λ h. h) (r.2 q))
@@ -159,16 +159,16 @@ module _ (live : TableLive) where
         second (Ok y) x k = absurd cc
         second (Err d') x k = cc
 
-        first : ((s' : State) → read_all rd l s' ≡ Err d → (xs : Trees l) × FormedAll l xs × ((q : List Piece) → Reaches s'.rest d (cells (spell_all l xs q)) (AreSpare (cells q)))) → (o : Out (Tree a)) → rd a s ≡ o → ◌>>=◌ {B = Trees (a ∷ l) × State} o (λ x. read_all rd l x.1 >>= λ ys. Ok ((x.0, ys.0), ys.1)) ≡ Err d
-            → (xs : Trees (a ∷ l)) × FormedAll (a ∷ l) xs × ((q : List Piece) → Reaches s.rest d (cells (spell_all (a ∷ l) xs q)) (AreSpare (cells q)))
+        first : ((s' : State) → read_all rd l s' ≡ Err d → (xs : Trees l) × FormedAll l xs × ((q : List Piece) → ReachesFault s'.rest d (cells (spell_all l xs q)) (AreSpare (cells q)))) → (o : Out (Tree a)) → rd a s ≡ o → ◌>>=◌ {B = Trees (a ∷ l) × State} o (λ x. read_all rd l x.1 >>= λ ys. Ok ((x.0, ys.0), ys.1)) ≡ Err d
+            → (xs : Trees (a ∷ l)) × FormedAll (a ∷ l) xs × ((q : List Piece) → ReachesFault s.rest d (cells (spell_all (a ∷ l) xs q)) (AreSpare (cells q)))
         first ih (Err d') e k =
             let same : d' ≡ d = cc in
             let v = viable.by a s d (e ∙ ap (λ (z : Fault). Err z) same) in
             ((v.0, somes l), (v.1, somes_formed l), λ q. eased s.rest d _ _ _ (somes_spare l q) (v.2 (spell_all l (somes l) q)))
         first ih (Ok x) e k = rest x e (ih x.1 (second (read_all rd l x.1) x k))
 
-    parts_viable : (a : Sym) (l : List Sym) (from : ℕ) (fr : Front) (b : ℕ → Trees l → Tree a) (e0 : ℕ) (ts0 : List Tok) (e : ℕ) (ts : List Tok) (d : Fault) → Builds a l from fr b → Eaten e0 ts0 from fr e ts
-        → ◌>>=◌ {B = Tree a × State} (read_all rd l (at e ts)) (λ xs. Ok (b xs.1.end xs.0, xs.1)) ≡ Err d → (x : Tree a) × Formed a x × ((q : List Piece) → Reaches ts0 d (cells (spell a x q)) (AreSpare (cells q)))
+    parts_viable : (a : Sym) (l : List Sym) (from : ℕ) (fr : FrontOfMove) (b : ℕ → Trees l → Tree a) (e0 : ℕ) (ts0 : List Tok) (e : ℕ) (ts : List Tok) (d : Fault) → Builds a l from fr b → Eaten e0 ts0 from fr e ts
+        → ◌>>=◌ {B = Tree a × State} (read_all rd l (at e ts)) (λ xs. Ok (b xs.1.end xs.0, xs.1)) ≡ Err d → (x : Tree a) × Formed a x × ((q : List Piece) → ReachesFault ts0 d (cells (spell a x q)) (AreSpare (cells q)))
     parts_viable a l from fr b e0 ts0 e ts d ok eaten h =
         let v = all_viable l (at e ts) d (only (read_all rd l (at e ts)) h) in
         let how = ok 0 v.0 v.1 in (
@@ -194,7 +194,7 @@ module _ (live : TableLive) where
     may_pass_err false f n go d h = inr (refl, h)
 
     abbrev Found : Sym → List Tok → Fault → Type 0
-    Found a ts0 d = (x : Tree a) × Formed a x × ((q : List Piece) → Reaches ts0 d (cells (spell a x q)) (AreSpare (cells q)))
+    Found a ts0 d = (x : Tree a) × Formed a x × ((q : List Piece) → ReachesFault ts0 d (cells (spell a x q)) (AreSpare (cells q)))
 
     as_fault : (a : Sym) (ts0 : List Tok) (d d' : Fault) → d ≡ d' → Found a ts0 d → Found a ts0 d'
     as_fault a ts0 d d' e f = subst (λ (z : Fault). Found a ts0 z) e f
@@ -204,7 +204,7 @@ module _ (live : TableLive) where
     deep_token w to t y b z q h = (cells (closed w to y), ap (λ (d : Bool). (t.kind, d) ∷ cells (closed w to y)) z, λ k. spare_closed w to y (h k))
 
     -- a word alone has the cells of one that is a node
-    plainer : (a : Sym) (fr : Front) (e0 : ℕ) (ts0 : List Tok) (from : ℕ) (e : ℕ) (t : Tok) (us : List Tok) (may : Bool) → may ≡ false → Eaten e0 ts0 from fr e (t ∷ us) → Extends a (λ q. fr (word_front true t.kind t.span may q)) → Extends a (λ q. fr (word_front false t.kind t.span false q))
+    plainer : (a : Sym) (fr : FrontOfMove) (e0 : ℕ) (ts0 : List Tok) (from : ℕ) (e : ℕ) (t : Tok) (us : List Tok) (may : Bool) → may ≡ false → Eaten e0 ts0 from fr e (t ∷ us) → Extends a (λ q. fr (word_front true t.kind t.span may q)) → Extends a (λ q. fr (word_front false t.kind t.span false q))
     plainer a fr e0 ts0 from e t us may z eaten x = (x.0, x.1, λ q. let y = x.2 q in (y.0, y.1 ∙ alike y.0, y.2))
       where
         alike : (q : List Piece) → cells (fr (word_front true t.kind t.span may q)) ≡ cells (fr (word_front false t.kind t.span false q))
@@ -214,21 +214,21 @@ module _ (live : TableLive) where
             let same : l.pre ≡ k.pre = append_cancel_right l.pre k.pre (t ∷ us) (sym l.split ∙ k.split) in
             l.cells_are ∙ ap (λ (p : List Tok). plain p ++ (t.kind, may) ∷ cells q) same ∙ ap (λ (b : Bool). plain k.pre ++ (t.kind, b) ∷ cells q) z ∙ sym k.cells_are
 
-    abbrev Witness : {a : Sym} → Bool → (Kind → Move a true) → List Span → ℕ → Front → Tok → Type 0
-    Witness may f ss from fr t = (k' : Kind) × IsWordFit true k' × Grows (f k') × ((s' : Span) → MoveOk (f k') false (ss ++ t.span ∷ []) from (λ q. fr (word_front true t.kind t.span may q)) k' s')
+    abbrev Witness : {a : Sym} → Bool → (Kind → Move a true) → List Span → ℕ → FrontOfMove → Tok → Type 0
+    Witness may f ss from fr t = (k' : Kind) × IsWordFit true k' × EatsMore (f k') × ((s' : Span) → MoveOk (f k') false (ss ++ t.span ∷ []) from (λ q. fr (word_front true t.kind t.span may q)) k' s')
 
-    may_grown : {a : Sym} (may : Bool) (f : Kind → Move a true) (ss : List Span) (from : ℕ) (fr : Front) (t : Tok) → Witness may f ss from fr t → Extends a (λ q. fr (word_front true t.kind t.span may q))
+    may_grown : {a : Sym} (may : Bool) (f : Kind → Move a true) (ss : List Span) (from : ℕ) (fr : FrontOfMove) (t : Tok) → Witness may f ss from fr t → Extends a (λ q. fr (word_front true t.kind t.span may q))
     may_grown may f ss from fr t w = grows (f w.0) false (ss ++ t.span ∷ []) from (λ q. fr (word_front true t.kind t.span may q)) w.0 t.span w.1 w.2 (w.3 t.span)
 
-    may_laid : (from : ℕ) (fr : Front) (e0 : ℕ) (ts0 : List Tok) (e : ℕ) (t : Tok) (us : List Tok) (node b : Bool) → b ≡ false → Eaten e0 ts0 from fr e (t ∷ us) → Eaten e0 ts0 from (λ q. fr (word_front node t.kind t.span b q)) t.span.to us
+    may_laid : (from : ℕ) (fr : FrontOfMove) (e0 : ℕ) (ts0 : List Tok) (e : ℕ) (t : Tok) (us : List Tok) (node b : Bool) → b ≡ false → Eaten e0 ts0 from fr e (t ∷ us) → Eaten e0 ts0 from (λ q. fr (word_front node t.kind t.span b q)) t.span.to us
     may_laid from fr e0 ts0 e t us node b z eaten = eaten_more e0 ts0 from fr (word_front node t.kind t.span b) e t.span.to (t ∷ us) us eaten (λ q. lays_word node e b q t us z)
 
-    may_deep : {a : Sym} (may : Bool) (f : Kind → Move a true) (ss : List Span) (from : ℕ) (fr : Front) (e0 : ℕ) (ts0 : List Tok) (e : ℕ) (t : Tok) (us : List Tok) → Witness may f ss from fr t → Eaten e0 ts0 from fr e (t ∷ us) → may ≡ true → Found a ts0 (TooDeep (suc (length us)))
+    may_deep : {a : Sym} (may : Bool) (f : Kind → Move a true) (ss : List Span) (from : ℕ) (fr : FrontOfMove) (e0 : ℕ) (ts0 : List Tok) (e : ℕ) (t : Tok) (us : List Tok) → Witness may f ss from fr t → Eaten e0 ts0 from fr e (t ∷ us) → may ≡ true → Found a ts0 (TooDeep (suc (length us)))
     may_deep {a = a} may f ss from fr e0 ts0 e t us w eaten z =
         let x = may_grown may f ss from fr t w in
         deep_at a e0 ts0 from fr e t us eaten (x.0, x.1, λ q. let y = x.2 q in (word_front true t.kind t.span may y.0, cells y.0, y.1, ap (λ (b : Bool). (t.kind, b) ∷ cells y.0) z, y.2))
 
-    moves_viable : {a : Sym} {ate : Bool} (mv : Move a ate) (deep : Bool) (ss : List Span) (from : ℕ) (fr : Front) (e0 : ℕ) (ts0 : List Tok) (e : ℕ) (t : Tok) (ts : List Tok) (d : Fault)
+    moves_viable : {a : Sym} {ate : Bool} (mv : Move a ate) (deep : Bool) (ss : List Span) (from : ℕ) (fr : FrontOfMove) (e0 : ℕ) (ts0 : List Tok) (e : ℕ) (t : Tok) (ts : List Tok) (d : Fault)
         → MoveOk mv deep ss from fr t.kind t.span → Live mv deep ss from fr t.kind t.span → Eaten e0 ts0 from fr e (t ∷ ts) → Extends a fr → go_on limited rd mv deep ss (at e (t ∷ ts)) ≡ Err d → Found a ts0 d
     moves_viable {a = a} fail deep ss from fr e0 ts0 e t ts d ok lv eaten fall h = let same : Syntax (suc (length ts)) ≡ d = cc in as_fault a ts0 _ d same (stuck_at a e0 ts0 from fr e (t ∷ ts) eaten fall)
     moves_viable {a = a} (skip y) deep ss from fr e0 ts0 e t ts d ok lv eaten fall h = absurd cc
@@ -266,7 +266,7 @@ module _ (live : TableLive) where
         ]
 
     step_viable : (table : TableOk) (a : Sym) (e : ℕ) (ts : List Tok) (d : Fault) → step limited rd a (at e ts) ≡ Err d → Found a ts d
-    step_viable table a e [] d h = (live.some a, live.formed a, λ q. subst (λ (z : Fault). Reaches [] z (cells (spell a (live.some a) q)) (AreSpare (cells q))) (none (at_end a) h) ([], [], cells (spell a (live.some a) q), refl, refl, refl, live.spare a q))
+    step_viable table a e [] d h = (live.some a, live.formed a, λ q. subst (λ (z : Fault). ReachesFault [] z (cells (spell a (live.some a) q)) (AreSpare (cells q))) (none (at_end a) h) ([], [], cells (spell a (live.some a) q), refl, refl, refl, live.spare a q))
       where
         none : (o : Option (Tree a)) → or_end o (at e []) ≡ Err d → Syntax 0 ≡ d
         none None k = cc
@@ -277,7 +277,7 @@ module _ (live : TableLive) where
 
   within_viable : TableOk → (n : ℕ) → Viable (read_within limited n)
   unfolding read_within
-  within_viable table zero = record { by = λ a s d h. (live.some a, live.formed a, λ q. subst (λ (z : Fault). Reaches s.rest z (cells (spell a (live.some a) q)) (AreSpare (cells q))) (none s d h) ([], s.rest, cells (spell a (live.some a) q), refl, refl, refl, live.spare a q)) }
+  within_viable table zero = record { by = λ a s d h. (live.some a, live.formed a, λ q. subst (λ (z : Fault). ReachesFault s.rest z (cells (spell a (live.some a) q)) (AreSpare (cells q))) (none s d h) ([], s.rest, cells (spell a (live.some a) q), refl, refl, refl, live.spare a q)) }
     where
       none : {X : Type 0} (s : State) (d : Fault) → ◌≡◌ {A = Out X} (Err (Syntax (length s.rest))) (Err d) → Syntax (length s.rest) ≡ d
       none s d k = cc

@@ -5,7 +5,7 @@ use Rattle.spi_lex.specs.declared.token.Kind.{Kind}
 use Rattle.spi_lex.specs.declared.token.Token.{Token}
 use Rattle.spi_lex.specs.Lexing.{kinds_of, is_version_2}
 use Rattle.spi_tree.specs.Trees as t
-use Rattle.spi_tree.specs.Pieces.{Piece, opens, cell, closes, kinds_in, at_level}
+use Rattle.spi_tree.specs.Pieces.{Piece, kinds_in, at_level}
 use Rattle.spi_tree.specs.Formed.{AreWordsFit, IsMsg, IsTy, IsDeclared, IsProc}
 use Rattle.spi_parse.specs.declared.fault.Fault.{Fault}
 use Rattle.spi_parse.specs.declared.fault.Fault.TheVariants.{Syntax, TooDeep}

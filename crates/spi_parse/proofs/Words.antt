@@ -11,7 +11,7 @@ use Rattle.spi_lex.specs.Lexing.{is_version_2}
 use Rattle.spi_tree.specs.Trees as t
 use Rattle.spi_tree.specs.Pieces.{Piece, kinds_in, decls_pieces, a_reserved, file_pieces, proc_pieces, at_level, version_pieces, opponent_pieces, schedule_pieces, derivation_pieces, ends}
 use Rattle.spi_tree.specs.Formed.{IsWordFit, AreWordsFit, is_later, IsDeriv, AreDerivs, IsDerivation}
-use Rattle.spi_parse.specs.Formed.{HasRules, HaveRules, IsDerived, IsFile}
+use Rattle.spi_parse.specs.Formed.{HasRules, HaveRules, IsFormedDerived, IsFile}
 use Rattle.spi_parse.proofs.Spell as s
 use Rattle.spi_parse.proofs.Viable.{AreSpare}
 use Rattle.spi_parse.proofs.ExactLaws.{firsts}
@@ -122,11 +122,11 @@ mutual
   formed_rules v t.no_derivs h k = tt
   formed_rules v (t.more_derivs d ds) h k = (formed_ruled v d h.0 k.0, formed_rules v ds h.1 k.1)
 
-derived : (v : Bool) (d : Option t.Deriv) → s.IsDerivation v d → IsDerivation v d × IsDerived v d
+derived : (v : Bool) (d : Option t.Deriv) → s.IsDerivation v d → IsDerivation v d × IsFormedDerived v d
 derived v None h = (tt, tt)
 derived v (Some d) h = ruled_formed v d h
 
-underived : (v : Bool) (d : Option t.Deriv) → IsDerivation v d → IsDerived v d → s.IsDerivation v d
+underived : (v : Bool) (d : Option t.Deriv) → IsDerivation v d → IsFormedDerived v d → s.IsDerivation v d
 underived v None h k = tt
 underived v (Some d) h k = formed_ruled v d h k
 

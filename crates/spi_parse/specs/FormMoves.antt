@@ -1,5 +1,5 @@
 -- A process is read by its form.
-use Rattle.std.specs.Prelude.{ℕ, Bool, false, nat_lt, [], Err}
+use Rattle.std.specs.Prelude.{ℕ, Bool, nat_lt, [], Err}
 use Rattle.spi_tree.specs.Trees as t
 use Rattle.spi_tree.specs.Pieces.{process_limit}
 use Rattle.spi_parse.specs.declared.forms.Form.{Form}

@@ -23,14 +23,14 @@ abbrev mutual
   HaveRules later t.no_derivs = Unit {0}
   HaveRules later (t.more_derivs d ds) = HasRules later d × HaveRules later ds
 
-abbrev pub IsDerived : Bool → Option t.Deriv → Type 0
-IsDerived later None = Unit {0}
-IsDerived later (Some d) = HasRules later d
+abbrev pub IsFormedDerived : Bool → Option t.Deriv → Type 0
+IsFormedDerived later None = Unit {0}
+IsFormedDerived later (Some d) = HasRules later d
 
 -- a formed file
 pub record IsFile (f : t.File) : Type 0 where
   pub formed : IsFormed f
-  pub rules : IsDerived (is_later f) f.derivation
+  pub rules : IsFormedDerived (is_later f) f.derivation
 
 abbrev pub whole_file : t.File → List Piece
 whole_file f = file_pieces f []

@@ -17,13 +17,13 @@ use Rattle.spi_parse.specs.declared.forms.Event.TheVariants as events
 use Rattle.spi_parse.specs.declared.forms.Plain.TheVariants as plains
 use Rattle.spi_parse.specs.declared.fault.Fault.TheVariants.{Syntax}
 use Rattle.spi_parse.specs.Tokens.{State, tok}
-use Rattle.spi_parse.specs.Table.{Item, one, last, Sym, the_mark, msg, msgs, atom, atoms, effect, ty, seq, Tree, Build, Move, eat, stay, over, delta, delta_ty_word, form_move}
+use Rattle.spi_parse.specs.Table.{ListItem, one, last, Sym, the_mark, msg, msgs, atom, atoms, effect, ty, seq, Tree, Build, Move, eat, stay, over, delta, delta_ty_word, form_move}
 use Rattle.spi_parse.specs.Reading.{◌>>=◌, Out, read, limited, read_all}
 
 abbrev pub state_of : Cursor → State
 state_of c = record { end = c.end; rest = map tok c.rest.now }
 
-abbrev pub field_item : FieldOrLast → Item t.Field t.Last
+abbrev pub field_item : FieldOrLast → ListItem t.Field t.Last
 field_item (items.Field f) = one (field_of f)
 field_item (items.Last l) = last (last_of l)
 

@@ -7,7 +7,7 @@ use Rattle.spi_parse.specs.declared.fault.Fault.TheVariants.{Syntax, TooDeep}
 use Rattle.spi_parse.specs.declared.fault.Stop.{Stop}
 use Rattle.spi_parse.specs.declared.fault.Stop.TheVariants as stops
 use Rattle.spi_parse.specs.Tokens.{Tok, State}
-use Rattle.spi_parse.specs.Table.{Item, one, last, Sym, Tree, Trees, Move, eat, stay, skip, look, may_look, fail, deep_here, delta, at_end}
+use Rattle.spi_parse.specs.Table.{ListItem, one, last, Sym, Tree, Trees, Move, eat, stay, skip, look, may_look, fail, deep_here, delta, at_end}
 
 infixl 10 ◌>>=◌
 abbrev pub ◌>>=◌ : {A B : Type 0} → Result A Fault → (A → Result B Fault) → Result B Fault
@@ -119,7 +119,7 @@ unfoldable pub read : Mode → Reader
 read m a s = read_within m (4 * length s.rest + 4) a s
 
 -- a list read item by item
-abbrev pub next_list : {X E : Type 0} → Out (Item X E) → (State → Out (List X × E)) → Out (List X × E)
+abbrev pub next_list : {X E : Type 0} → Out (ListItem X E) → (State → Out (List X × E)) → Out (List X × E)
 next_list r go = do
   x ← r
   elim (x.0) [ one y ↦ (go x.1 >>= λ z. Ok ((y ∷ z.0.0, z.0.1), z.1)) | last e ↦ Ok (([], e), x.1) ]
@@ -131,6 +131,6 @@ front f r = do
   Ok ((f ++ z.0.0, z.0.1), z.1)
 
 -- an item of a list that ends with nothing more
-abbrev pub item_of : {A X E : Type 0} → (A → X) → E → Option A → Item X E
+abbrev pub item_of : {A X E : Type 0} → (A → X) → E → Option A → ListItem X E
 item_of view e None = last e
 item_of view e (Some x) = one (view x)

@@ -1,7 +1,7 @@
 -- What stands behind the word of a rule.
 use Rattle.std.specs.Prelude.{◌≡◌, ℕ, ◌==◌, Bool, true, false, Option, Some, None, if◌then◌else◌}
 use Rattle.spi_rules.specs.declared.rule.Rule.{Rule}
-use Rattle.spi_rules.specs.declared.rule.Rule.TheVariants.{MsgName, MsgUnit, MsgUnitUn, MsgPair, MsgPairUn, MsgInl, MsgInlUn, MsgInr, MsgInrUn, MsgEnc, MsgEncUn, MsgHash, ProcStop, ProcOut, ProcIn, ProcRepeat, ProcSplit, ProcSplitUn, ProcMatch, ProcMatchUn, ProcCase, ProcCaseUn, ProcDecrypt, ProcDecryptUn, ProcCheck, ProcCheckUn, ProcBegin, ProcEnd, ProcEndMany, ProcCast, ProcCastUn, ProcNew, ProcPar, ProcSub}
+use Rattle.spi_rules.specs.declared.rule.Rule.TheVariants.{ProcSub}
 use Rattle.spi_parse.specs.declared.derivations.Shape.{Shape}
 use Rattle.spi_parse.specs.declared.derivations.Shape.TheVariants.{NoRule, Leaf, One, Two, Three, Sub}
 

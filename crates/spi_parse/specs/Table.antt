@@ -21,9 +21,9 @@ use Rattle.spi_parse.specs.Rules.{arity_of, writes_effect}
 use Rattle.spi_parse.specs.Forms.{form_of}
 
 -- an item of a list, or what ends the list
-pub data Item (X E : Type 0) : Type 0 where
-  one : X → Item X E
-  last : E → Item X E
+pub data ListItem (X E : Type 0) : Type 0 where
+  one : X → ListItem X E
+  last : E → ListItem X E
 
 -- the parts of a file behind its version
 pub record Body : Type 0 where
@@ -99,14 +99,14 @@ Tree the_word = SWord
 Tree the_number = ℕ
 Tree the_two = Unit {0}
 Tree (msg v d n) = t.Msg
-Tree (msgs_item v d n) = Item t.Msg (Unit {0})
+Tree (msgs_item v d n) = ListItem t.Msg (Unit {0})
 Tree (msgs v d n) = List t.Msg × Unit {0}
 Tree (atom v d n) = t.Atom
-Tree (atoms_item v d n) = Item t.Atom (Unit {0})
+Tree (atoms_item v d n) = ListItem t.Atom (Unit {0})
 Tree (atoms v d n) = List t.Atom × Unit {0}
 Tree (effect v d n) = List t.Atom
 Tree (ty v n) = t.Ty
-Tree (fields_item v n) = Item t.Field t.Last
+Tree (fields_item v n) = ListItem t.Field t.Last
 Tree fields_rest = Bool
 Tree (fields v n) = List t.Field × t.Last
 Tree (fields_more v n) = Option (List t.Field × t.Last)
@@ -122,16 +122,16 @@ Tree (sproc v n) = t.Proc
 Tree (seq v n) = t.Proc
 Tree (out_tail v n) = Option t.Proc
 Tree (par_tail v n) = Option t.Proc
-Tree words_item = Item SWord (Unit {0})
+Tree words_item = ListItem SWord (Unit {0})
 Tree words = List SWord × Unit {0}
 Tree free_rest = SWord × List SWord × ℕ
 Tree (abbr_rest v) = SWord × t.Ty × ℕ
 Tree (decl v) = t.Declared
-Tree (decls_item v) = Item t.Declared (Unit {0})
+Tree (decls_item v) = ListItem t.Declared (Unit {0})
 Tree (decls v) = List t.Declared × Unit {0}
 Tree act_rest = ℕ × ℕ
 Tree talk_rest = ℕ × ℕ × ℕ
-Tree steps_item = Item t.Step (Unit {0})
+Tree steps_item = ListItem t.Step (Unit {0})
 Tree steps = List t.Step × Unit {0}
 Tree (deriv v n) = t.Deriv
 Tree (opponent_tail v) = Option t.Proc

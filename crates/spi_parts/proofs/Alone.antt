@@ -17,7 +17,7 @@ use Rattle.spi_parse.proofs.Complete.{flat, any_fits, told_fits, msg_c, ty_c, de
 use Rattle.spi_parse.proofs.ExactLaws as e
 use Rattle.spi_parse.proofs.Words.{made_fit}
 use Rattle.spi_parse.proofs.Unique.{all_false, flat_is}
-use Rattle.spi_grammar.specs.Exactly.{kinds, IsClean, StartsDeep, IsClosed, IsEven, IsLive}
+use Rattle.spi_grammar.specs.Exactly.{kinds, IsWithinLimits, StartsDeep, IsPrefixFree, IsEven, IsLive}
 use Rattle.spi_parts.specs.Determined.{IsCutOnce, BeginsNoOther, AgreesOnDepth}
 use Rattle.spi_parts.proofs.Bridge.{kinds_cells, within_cells, deep_to, OfPieces, of_piece}
 use Rattle.spi_parts.proofs.Behind.{msg_behind, ty_behind, decl_behind}
@@ -73,7 +73,7 @@ module _ (a : Sym) (p : Tree a → List Piece → List Piece) (bare : Tree a →
       let one = (one_split z y hz hy [] (k ∷ more) (append-nil (kinds_in (p z [])) ∙ e)).1 in
       cc
 
-  pub closed_by : IsClosed (OfPieces (λ y. p y []) P)
+  pub closed_by : IsPrefixFree (OfPieces (λ y. p y []) P)
   closed_by b c lb lc k x g =
       begins_no_other_by lb.part lc.part k x lb.is lc.is
       (sym (kinds_cells (p lc.part [])) ∙ ap kinds lc.shows ∙ g ∙ ap (λ (l : List Kind). l ++ k ∷ x) (sym (ap kinds lb.shows) ∙ kinds_cells (p lb.part [])))
@@ -109,7 +109,7 @@ module _ (a : Sym) (bare : Tree a → Tree a) (P : Tree a → Type 0) (formed : 
 
   pub even_by : IsEven (OfPieces shown P)
   even_by b c lb lc within p k x g s =
-      agree_by lb.part lc.part lb.is lc.is (within_cells (shown lb.part) (subst (λ (l : List (Kind × Bool)). IsClean l) (sym lb.shows) within)) p k x
+      agree_by lb.part lc.part lb.is lc.is (within_cells (shown lb.part) (subst (λ (l : List (Kind × Bool)). IsWithinLimits l) (sym lb.shows) within)) p k x
       (sym (kinds_cells (shown lb.part)) ∙ ap kinds lb.shows ∙ g) (deep_to (shown lc.part) p k (subst (λ (l : List (Kind × Bool)). StartsDeep l p k) (sym lc.shows) s))
 
 module _ (v : Bool) where
@@ -122,13 +122,13 @@ module _ (v : Bool) where
   abbrev pub Decls : List (Kind × Bool) → Type 0
   Decls = OfPieces whole_decl (IsWholeDecl v)
 
-  pub types_closed : IsClosed Types
+  pub types_closed : IsPrefixFree Types
   types_closed = closed_by (ty v 1) (λ y r. ty_pieces 1 y r) bare_ty (IsWholeType v) (λ y r. ty_behind 1 y r) (λ y h r. ty_c any (λ d. false) any_fits y v 1 r h.0)
 
-  pub messages_closed : IsClosed Messages
+  pub messages_closed : IsPrefixFree Messages
   messages_closed = closed_by (msg v false 1) (λ y r. msg_pieces 1 y r) bare_msg (IsWholeMessage v) (λ y r. msg_behind 1 y r) (λ y h r. msg_c any (λ d. false) any_fits y v false 1 r h.0)
 
-  pub declarations_closed : IsClosed Decls
+  pub declarations_closed : IsPrefixFree Decls
   declarations_closed = closed_by (decl v) (λ y r. decl_pieces y r) bare_decl (IsWholeDecl v) (λ y r. decl_behind y r) (λ y h r. decl_c any (λ d. false) any_fits y v r h.0)
 
   pub types_begin_no_other : BeginsNoOther whole_type (IsWholeType v)

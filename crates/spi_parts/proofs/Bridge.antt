@@ -7,7 +7,7 @@ use Rattle.spi_lex.specs.Lexing.{kinds_of}
 use Rattle.spi_tree.specs.Pieces.{Piece, opens, cell, closes, cells, kinds_in}
 use Rattle.spi_parse.specs.Exact as x
 use Rattle.spi_parse.proofs.Spelled.{spelled_within}
-use Rattle.spi_grammar.specs.Exactly.{kinds, IsClean, Parts, Stops, IsEnd, StartsDeep, NoneDeep, IsSyntax, IsDeep, IsNone}
+use Rattle.spi_grammar.specs.Exactly.{kinds, IsWithinLimits, PartKind, Stops, IsEnd, StartsDeep, NoneDeep, IsSyntax, IsDeep, IsNone}
 use Rattle.spi_grammar.proofs.Cuts.{Cut, same, behind, before, cut}
 
 pub kinds_cells : (ps : List Piece) → kinds (cells ps) ≡ kinds_in ps
@@ -20,13 +20,13 @@ kinds_map : (cs : List (Kind × Bool)) → kinds cs ≡ map (λ c. c.0) cs
 kinds_map [] = refl
 kinds_map (c ∷ cs) = ap (λ (l : List Kind). c.0 ∷ l) (kinds_map cs)
 
-pub clean_cells : (ps : List Piece) → x.IsWithin ps → IsClean (cells ps)
+pub clean_cells : (ps : List Piece) → x.IsWithin ps → IsWithinLimits (cells ps)
 clean_cells [] h = tt
 clean_cells (opens from ∷ ps) h = clean_cells ps h
 clean_cells (cell k deep ∷ ps) h = (h.0, clean_cells ps h.1)
 clean_cells (closes to ∷ ps) h = clean_cells ps h
 
-pub within_cells : (ps : List Piece) → IsClean (cells ps) → x.IsWithin ps
+pub within_cells : (ps : List Piece) → IsWithinLimits (cells ps) → x.IsWithin ps
 within_cells [] h = tt
 within_cells (opens from ∷ ps) h = within_cells ps h
 within_cells (cell k deep ∷ ps) h = (h.0, within_cells ps h.1)
@@ -49,7 +49,7 @@ front_lt pre rest p k r e lt = go (cut pre rest p (k ∷ r) e)
 module _ {X : Type 0} (pieces : X → List Piece) (P : X → Type 0) where
   -- the kind of these parts
   abbrev pub OfPieces : List (Kind × Bool) → Type 0
-  OfPieces = Parts (λ (y : X). cells (pieces y)) P
+  OfPieces = PartKind (λ (y : X). cells (pieces y)) P
 
   pub of_piece : (y : X) → P y → OfPieces (cells (pieces y))
   of_piece y p = record { part = y; is = p; shows = refl }
@@ -103,12 +103,12 @@ module _ {X : Type 0} (pieces : X → List Piece) (P : X → Type 0) where
       is = of_piece s.part.0 s.part.1;
       deep = deep_from (pieces s.part.0) s.pre s.token s.part.2;
       first = first_from ks i s.pre (s.token ∷ s.rest) s.split s.place s.first;
-      every = λ a la c e within. s.every la.part la.is c (tokens_of_part a la ∙ e) (within_cells (pieces la.part) (subst (λ (l : List (Kind × Bool)). IsClean l) (sym la.shows) within));
+      every = λ a la c e within. s.every la.part la.is c (tokens_of_part a la ∙ e) (within_cells (pieces la.part) (subst (λ (l : List (Kind × Bool)). IsWithinLimits l) (sym la.shows) within));
     },
   )
 
   pub none_from : (ks : List Kind) → x.IsNoPart pieces P ks → IsNone OfPieces ks
-  none_from ks h a la within rest e ends = h la.part (kinds a) rest e la.is (within_cells (pieces la.part) (subst (λ (l : List (Kind × Bool)). IsClean l) (sym la.shows) within)) (tokens_of_part a la) (end_to (kinds a) rest ends)
+  none_from ks h a la within rest e ends = h la.part (kinds a) rest e la.is (within_cells (pieces la.part) (subst (λ (l : List (Kind × Bool)). IsWithinLimits l) (sym la.shows) within)) (tokens_of_part a la) (end_to (kinds a) rest ends)
 
   -- ---- to the answers on tokens
 
@@ -148,7 +148,7 @@ module _ {X : Type 0} (pieces : X → List Piece) (P : X → Type 0) where
       (subst (λ (l : List Kind). IsEnd OfPieces l rest) (sym are ∙ sym (kinds_cells (pieces y))) (end_from pre rest ends))
 
   -- a part that is read
-  pub part_from : (y : X) (ts : List Token) (n : ℕ) (r : x.IsPartAt pieces P y ts n) → IsClean (cells (pieces y)) × IsEnd OfPieces (kinds (cells (pieces y))) (kinds_of r.rest)
+  pub part_from : (y : X) (ts : List Token) (n : ℕ) (r : x.IsPartAt pieces P y ts n) → IsWithinLimits (cells (pieces y)) × IsEnd OfPieces (kinds (cells (pieces y))) (kinds_of r.rest)
   part_from y ts n r = (
     clean_cells (pieces y) (spelled_within r.rest 0 (pieces y) ts r.spells),
     subst (λ (l : List Kind). IsEnd OfPieces l (kinds_of r.rest)) (sym (kinds_cells (pieces y) ∙ r.tokens)) (end_from (kinds_of r.pre) (kinds_of r.rest) r.ends),

@@ -13,7 +13,7 @@ use Rattle.spi_parse.specs.Formed.{whole_process, IsWholeProcess}
 use Rattle.spi_parse.proofs.Readers.{at, read_is_step}
 use Rattle.spi_parse.proofs.Complete.{flat, any_fits, told_fits, proc_c, OutEnds, ParEnds, out_ends_nil, par_ends_nil}
 use Rattle.spi_parse.proofs.Words.{made_fit}
-use Rattle.spi_grammar.specs.Exactly.{kinds, Apart, IsEven, IsLive, Then, One, IsGood}
+use Rattle.spi_grammar.specs.Exactly.{kinds, Apart, IsEven, IsLive, Then, One, IsGoodKind}
 use Rattle.spi_grammar.proofs.Answers.{one_good}
 use Rattle.spi_grammar.proofs.Good.{IsSome, good_apart}
 use Rattle.spi_parse.specs.Exact.{IsEnd}
@@ -73,5 +73,5 @@ module _ (v : Bool) where
   brace_some a h e = let f : h.token ∷ [] ≡ [] = sym (ap kinds h.cells) ∙ e in cc
 
   -- a process and the right brace behind it
-  pub braced_good : IsGood (Then Processes (One IsBraceClose))
+  pub braced_good : IsGoodKind (Then Processes (One IsBraceClose))
   braced_good = good_apart Processes (One IsBraceClose) processes_apart brace_some processes_live processes_even (one_good IsBraceClose (K.Mark mark.BraceClose) refl)

@@ -8,7 +8,7 @@ use Rattle.spi_play.specs.declared.player.Pick.{Pick}
 use Rattle.spi_play.specs.declared.player.Pick.TheVariants.{Take, Leave}
 use Rattle.spi_play.specs.Way.{Seen}
 use Rattle.spi_play.specs.Play.{Seat, State, Course, TurnOf, Picks, Asks, Does, Turns, Plays, seats_from, start}
-use Rattle.spi_play.specs.Fitting.{turns_of, Fits, EndInLeave, AreInOrder, TurnsFit}
+use Rattle.spi_play.specs.Fitting.{turns_of, FitsTurns, EndInLeave, AreInOrder, TurnsFit}
 
 nothing_in : {A : Type 0} {x : A} → In x [] → ⊥
 nothing_in i = elim i [ ]
@@ -174,7 +174,7 @@ turns_other who turn turns ne =
 
 -- a player has these turns
 abbrev EachBy : Seat → List TurnOf → List Seat → Type 0
-EachBy s ts left = (new : Seen) × Fits s.seen ts new × (In (record { who = s.who; seen = new }) left ⊎ EndInLeave ts)
+EachBy s ts left = (new : Seen) × FitsTurns s.seen ts new × (In (record { who = s.who; seen = new }) left ⊎ EndInLeave ts)
 
 leave_more : (turn : TurnOf) (ts : List TurnOf) → EndInLeave ts → EndInLeave (turn ∷ ts)
 leave_more turn [] h = absurd h
@@ -226,15 +226,15 @@ each_player only most old (turn ∷ turns) last o plays s i =
 
 -- a player that is in the list was in it before
 abbrev CameBy : List Seat → Seat → List TurnOf → Type 0
-CameBy old s turns = (old_seat : Seat) × In old_seat old × (old_seat.who ≡ s.who) × Fits old_seat.seen (turns_of s.who turns) s.seen
+CameBy old s turns = (old_seat : Seat) × In old_seat old × (old_seat.who ≡ s.who) × FitsTurns old_seat.seen (turns_of s.who turns) s.seen
 
-came_so : (old : List Seat) (turn : TurnOf) (turns : List TurnOf) (s t x : Seat) (new : Seen) → turn.who ≡ x.who → Picks x.seen turn.ready turn.pick new → t.who ≡ s.who → Fits t.seen (turns_of s.who turns) s.seen → Source t x (record { who = x.who; seen = new }) old turn → CameBy old s (turn ∷ turns)
+came_so : (old : List Seat) (turn : TurnOf) (turns : List TurnOf) (s t x : Seat) (new : Seen) → turn.who ≡ x.who → Picks x.seen turn.ready turn.pick new → t.who ≡ s.who → FitsTurns t.seen (turns_of s.who turns) s.seen → Source t x (record { who = x.who; seen = new }) old turn → CameBy old s (turn ∷ turns)
 came_so old turn turns s t x new who picks same fits (from_elsewhere ne i) =
-    let P : List TurnOf → Type 0 = λ ts. Fits t.seen ts s.seen in
+    let P : List TurnOf → Type 0 = λ ts. FitsTurns t.seen ts s.seen in
     (t, i, same, subst P (sym (turns_other s.who turn turns (λ e. ne (e ∙ sym same)))) fits)
 came_so old turn turns s t x new who picks same fits (from_here is i) =
-    let P : List TurnOf → Type 0 = λ ts. Fits x.seen ts s.seen in
-    let Q : Seat → Type 0 = λ y. Fits y.seen (turns_of s.who turns) s.seen in
+    let P : List TurnOf → Type 0 = λ ts. FitsTurns x.seen ts s.seen in
+    let Q : Seat → Type 0 = λ y. FitsTurns y.seen (turns_of s.who turns) s.seen in
     let whose : x.who ≡ s.who = sym (ap (λ (y : Seat). y.who) is) ∙ same in
     (x, i, whose, subst P (sym (turns_here s.who turn turns (who ∙ whose))) (new, picks, subst Q is fits))
 

@@ -7,17 +7,17 @@ use Rattle.spi_replay.proofs.Taken.{runs_more}
 use Rattle.spi_play.specs.declared.player.Pick.{Pick}
 use Rattle.spi_play.specs.declared.player.Pick.TheVariants.{Take, Leave}
 use Rattle.spi_play.specs.Way.{Seen}
-use Rattle.spi_play.specs.Play.{Seat, State, Course, TurnOf, Goes, Does, Plays, start}
+use Rattle.spi_play.specs.Play.{Seat, State, Course, TurnOf, DoesReady, Does, Plays, start}
 
 -- what was done between two points of a play
-record Ran (old new : Course) : Type 0 where
+record RanBetween (old new : Course) : Type 0 where
   steps : List Step
   events : List Event
   runs : Runs old.pool.configuration steps events new.pool.configuration
   steps_are : new.steps ≡ old.steps ++ steps
   events_are : new.events ≡ old.events ++ events
 
-ran_none : (old : Course) → Ran old old
+ran_none : (old : Course) → RanBetween old old
 ran_none old = record {
   steps = [];
   events = [];
@@ -26,7 +26,7 @@ ran_none old = record {
   events_are = sym (append-nil old.events);
 }
 
-ran_more : (old mid new : Course) (k : ℕ) → Goes old k mid → Ran mid new → Ran old new
+ran_more : (old mid new : Course) (k : ℕ) → DoesReady old k mid → RanBetween mid new → RanBetween old new
 ran_more old mid new k goes ran = record {
   steps = goes.step ∷ ran.steps;
   events = option_to_list goes.event ++ ran.events;
@@ -35,12 +35,12 @@ ran_more old mid new k goes ran = record {
   events_are = ran.events_are ∙ ap (λ x. x ++ ran.events) goes.events ∙ append_assoc old.events (option_to_list goes.event) ran.events;
 }
 
-ran_turn : (only : Option ℕ) (place : ℕ) (pick : Pick) (old mid new : Course) (seats after : List Seat) (next : Option ℕ) → Does only place pick old mid seats after next → Ran mid new → Ran old new
+ran_turn : (only : Option ℕ) (place : ℕ) (pick : Pick) (old mid new : Course) (seats after : List Seat) (next : Option ℕ) → Does only place pick old mid seats after next → RanBetween mid new → RanBetween old new
 ran_turn only place (Take k) old mid new seats after next does ran = ran_more old mid new k does.0 ran
-ran_turn only place Leave old mid new seats after next does ran = let P : Course → Type 0 = λ c. Ran c new in subst P does.0 ran
+ran_turn only place Leave old mid new seats after next does ran = let P : Course → Type 0 = λ c. RanBetween c new in subst P does.0 ran
 
-ran_all : (only : Option ℕ) (most : ℕ) (old : State) (turns : List TurnOf) (last : State) → Plays only most old turns last → Ran old.course last.course
-ran_all only most old [] last is = let P : State → Type 0 = λ s. Ran old.course s.course in subst P (sym is) (ran_none old.course)
+ran_all : (only : Option ℕ) (most : ℕ) (old : State) (turns : List TurnOf) (last : State) → Plays only most old turns last → RanBetween old.course last.course
+ran_all only most old [] last is = let P : State → Type 0 = λ s. RanBetween old.course s.course in subst P (sym is) (ran_none old.course)
 ran_all only most old (turn ∷ turns) last plays =
     let t = plays.1 in
     ran_turn only t.place turn.pick old.course plays.0.course last.course t.seats plays.0.seats plays.0.next t.does (ran_all only most plays.0 turns last plays.2)

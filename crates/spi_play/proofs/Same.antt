@@ -12,14 +12,14 @@ use Rattle.spi_play.specs.declared.player.Pick.TheVariants.{Take, Leave}
 use Rattle.spi_play.specs.declared.plays.Ended.{Ended}
 use Rattle.spi_play.specs.declared.plays.Played.{Played}
 use Rattle.spi_play.specs.declared.plays.PlayFault.{PlayFault}
-use Rattle.spi_play.specs.Way.{Way, Seen, Script, First, Turn, Follows}
-use Rattle.spi_play.specs.Play.{Seat, State, Course, TurnOf, Picks, Goes, Does, Turns, Plays, GoesOn, EndsBy, most_reached, no_players, none_ready, seats_from, start, after_take, after_leave}
+use Rattle.spi_play.specs.Way.{Way, Seen, Script, First, Turn, FollowsWay}
+use Rattle.spi_play.specs.Play.{Seat, State, Course, TurnOf, Picks, DoesReady, Does, Turns, Plays, PlayGoesOn, EndsBy, most_reached, no_players, none_ready, seats_from, start, after_take, after_leave}
 use Rattle.spi_play.specs.Outcome.{course, EndsAt, AskedTell, OnlyPlay}
 use Rattle.spi_play.proofs.Standing.{seats_seen}
 use Rattle.spi_replay.proofs.Taken.{taken_once}
 use Rattle.spi_play.proofs.Steps.{counts_once, kth_once}
 
-pub follows_same : (way : Option Way) (times ready : ℕ) (p q : Pick) (v w : Option Way) → IsSome way → Follows way times ready p v → Follows way times ready q w → (p ≡ q) × (v ≡ w)
+pub follows_same : (way : Option Way) (times ready : ℕ) (p q : Pick) (v w : Option Way) → IsSome way → FollowsWay way times ready p v → FollowsWay way times ready q w → (p ≡ q) × (v ≡ w)
 follows_same None times ready p q v w some a b = absurd (cc)
 follows_same (Some (Script [])) times ready p q v w some a b = (a.0 ∙ sym b.0, a.1 ∙ sym b.1)
 follows_same (Some (Script (k ∷ script))) times ready p q v w some a b = (a.0 ∙ sym b.0, a.1 ∙ sym b.1)
@@ -27,7 +27,7 @@ follows_same (Some First) times ready p q v w some a b = (a.0 ∙ sym b.0, a.1 �
 follows_same (Some Turn) times ready p q v w some a b = (a.0 ∙ sym b.0, a.1 ∙ sym b.1)
 
 -- who goes by a told way keeps telling it
-pub follows_tells : (way : Option Way) (times ready : ℕ) (p : Pick) (v : Option Way) → IsSome way → Follows way times ready p v → IsSome v
+pub follows_tells : (way : Option Way) (times ready : ℕ) (p : Pick) (v : Option Way) → IsSome way → FollowsWay way times ready p v → IsSome v
 follows_tells None times ready p v some a = absurd (cc)
 follows_tells (Some (Script [])) times ready p v some a = rw a.1
 follows_tells (Some (Script (k ∷ script))) times ready p v some a = rw a.1
@@ -48,7 +48,7 @@ picks_same old ready p q a b tells first second =
     let same : (p ≡ q) × (a.way ≡ b.way) = follows_same old.way old.times ready p q a.way b.way tells first.way second.way in
     (same.0, seen_same a b (first.times ∙ sym second.times) same.1)
 
-pub goes_same : (old : Course) (k : ℕ) (m n : Course) → Goes old k m → Goes old k n → m ≡ n
+pub goes_same : (old : Course) (k : ℕ) (m n : Course) → DoesReady old k m → DoesReady old k n → m ≡ n
 goes_same old k m n first second =
     let step : second.step ≡ first.step = kth_once second.kth first.kth in
     let P : Step → Type 0 = λ s. IsTaken old.pool s second.event n.pool in
@@ -68,8 +68,8 @@ does_same only old place Leave seats m n first second =
     state_same m n (first.0 ∙ sym second.0) after
     (first.2 ∙ ap (λ (xs : List Seat). after_leave only place (length xs)) after ∙ sym second.2)
 
-abbrev Tells : Seat → Type 0
-Tells seat = IsSome seat.seen.way
+abbrev TellsSeat : Seat → Type 0
+TellsSeat seat = IsSome seat.seen.way
 
 pub all_at : {X : Type 0} (P : X → Type 0) (xs : List X) (i : ℕ) (x : X) → All P xs → slice_get xs i ≡ Some x → P x
 all_at P xs i x all is =
@@ -80,17 +80,17 @@ all_at P xs i x all is =
 
 -- who is asked next tells its way, and so in each turn that comes: where all may be asked all tell theirs
 abbrev NextTells : State → Type 0
-NextTells s = (place : ℕ) (seat : Seat) → s.next ≡ Some place → slice_get s.seats place ≡ Some seat → Tells seat
+NextTells s = (place : ℕ) (seat : Seat) → s.next ≡ Some place → slice_get s.seats place ≡ Some seat → TellsSeat seat
 
 abbrev AskedTellOn : Option ℕ → State → Type 0
-AskedTellOn None s = All Tells s.seats
+AskedTellOn None s = All TellsSeat s.seats
 AskedTellOn (Some only) s = NextTells s
 
 next_tells : (only : Option ℕ) (s : State) → AskedTellOn only s → NextTells s
-next_tells None s tell = λ place seat next there. all_at Tells s.seats place seat tell there
+next_tells None s tell = λ place seat next there. all_at TellsSeat s.seats place seat tell there
 next_tells (Some only) s tell = tell
 
-asked_now : (only : Option ℕ) {most : ℕ} {t : TurnOf} {m : State} (old : State) → AskedTellOn only old → (first : Turns only most old t m) → Tells first.asks.seat
+asked_now : (only : Option ℕ) {most : ℕ} {t : TurnOf} {m : State} (old : State) → AskedTellOn only old → (first : Turns only most old t m) → TellsSeat first.asks.seat
 asked_now only old tell first = next_tells only old tell first.place first.asks.seat first.goes_on.at first.asks.was
 
 -- where who is asked tells its way, a turn has one outcome
@@ -115,20 +115,20 @@ turns_same only most old t u m n first tell second =
     let F : List Seat → Type 0 = λ s. Does only first.place t.pick old.course n.course s n.seats n.next in
     does_same only old first.place t.pick first.seats m n first.does (subst F seats (subst E same.0 (subst D place second.does)))
 
-tells_after : (place : ℕ) (p : Pick) (old new : Course) (seats after : List Seat) (next : Option ℕ) → All Tells seats → Does None place p old new seats after next → All Tells after
-tells_after place (Take k) old new seats after next tell does = let P : List Seat → Type 0 = λ s. All Tells s in subst P (sym does.1) tell
+tells_after : (place : ℕ) (p : Pick) (old new : Course) (seats after : List Seat) (next : Option ℕ) → All TellsSeat seats → Does None place p old new seats after next → All TellsSeat after
+tells_after place (Take k) old new seats after next tell does = let P : List Seat → Type 0 = λ s. All TellsSeat s in subst P (sym does.1) tell
 tells_after place Leave old new seats after next tell does =
-    let P : List Seat → Type 0 = λ s. All Tells s in
-    subst P (sym does.1) (All-append Tells (take place seats) (drop (suc place) seats) (All-take Tells place seats tell) (All-drop Tells (suc place) seats tell))
+    let P : List Seat → Type 0 = λ s. All TellsSeat s in
+    subst P (sym does.1) (All-append TellsSeat (take place seats) (drop (suc place) seats) (All-take TellsSeat place seats tell) (All-drop TellsSeat (suc place) seats tell))
 
 -- the one player that may be asked is the one that was asked, as long as it stays
-alone_after : (only place : ℕ) (p : Pick) (old new : Course) (seats after : List Seat) (next : Option ℕ) (seat : Seat) → slice_get seats place ≡ Some seat → Tells seat → Does (Some only) place p old new seats after next → (i : ℕ) (other : Seat) → next ≡ Some i → slice_get after i ≡ Some other → Tells other
+alone_after : (only place : ℕ) (p : Pick) (old new : Course) (seats after : List Seat) (next : Option ℕ) (seat : Seat) → slice_get seats place ≡ Some seat → TellsSeat seat → Does (Some only) place p old new seats after next → (i : ℕ) (other : Seat) → next ≡ Some i → slice_get after i ≡ Some other → TellsSeat other
 alone_after only place (Take k) old new seats after next seat was tells does i other asks there =
     let e : Some place ≡ Some i = sym does.2 ∙ asks in
     let f : place ≡ i = cc in
     let g : Some other ≡ Some seat = sym there ∙ ap (λ (xs : List Seat). slice_get xs i) does.1 ∙ ap (slice_get seats) (sym f) ∙ was in
     let h : other ≡ seat = cc in
-    let P : Seat → Type 0 = λ s. Tells s in
+    let P : Seat → Type 0 = λ s. TellsSeat s in
     subst P (sym h) tells
 alone_after only place Leave old new seats after next seat was tells does i other asks there = let e : None ≡ Some i = sym does.2 ∙ asks in absurd (cc)
 
@@ -147,8 +147,8 @@ tells_kept : (only : Option ℕ) (most : ℕ) (old : State) (t : TurnOf) (new : 
 tells_kept None most old t new tell turn =
     let a = turn.asks in
     let tells : IsSome a.new.way = asked_tells None most old t new (next_tells None old tell) turn in
-    let P : List Seat → Type 0 = λ s. All Tells s in
-    let seats : All Tells turn.seats = subst P (sym a.others) (All-set Tells old.seats turn.place (record { who = a.seat.who; seen = a.new }) tells tell) in
+    let P : List Seat → Type 0 = λ s. All TellsSeat s in
+    let seats : All TellsSeat turn.seats = subst P (sym a.others) (All-set TellsSeat old.seats turn.place (record { who = a.seat.who; seen = a.new }) tells tell) in
     tells_after turn.place t.pick old.course new.course turn.seats new.seats new.next seats turn.does
 tells_kept (Some only) most old t new tell turn =
     let a = turn.asks in
@@ -158,7 +158,7 @@ tells_kept (Some only) most old t new tell turn =
     alone_after only turn.place t.pick old.course new.course turn.seats new.seats new.next x there tells turn.does
 
 -- a play that has ended doesn't go on
-ended_once : {c : Configuration} {next : Option ℕ} {taken most place ready : ℕ} {e : Ended} → EndsBy c next taken most e → GoesOn c next taken most place ready → ⊥
+ended_once : {c : Configuration} {next : Option ℕ} {taken most place ready : ℕ} {e : Ended} → EndsBy c next taken most e → PlayGoesOn c next taken most place ready → ⊥
 ended_once (most_reached h) goes = goes.more h
 ended_once (no_players m h) goes = let e : None ≡ Some _ = sym h ∙ goes.at in absurd (cc)
 ended_once (none_ready m h counts) goes = let e = counts_once counts goes.counts in let some = goes.some in omega (arith, e, some)
@@ -180,7 +180,7 @@ plays_same only most old (t ∷ ts) (u ∷ us) m n e f tell first first_end seco
     let P : State → Type 0 = λ s. Plays only most s us n in
     plays_same only most first.0 ts us m n e f (tells_kept only most old t first.0 tell first.1) first.2 first_end (subst P (sym same) second.2) second_end
 
-seats_tell : (i : ℕ) (players : List Seen) → All (λ (player : Seen). IsSome player.way) players → All Tells (seats_from i players)
+seats_tell : (i : ℕ) (players : List Seen) → All (λ (player : Seen). IsSome player.way) players → All TellsSeat (seats_from i players)
 seats_tell i players tell k d within =
     let f : Seat → Seen = λ seat. seat.seen in
     let seats : List Seat = seats_from i players in

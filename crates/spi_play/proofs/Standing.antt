@@ -11,10 +11,10 @@ use Rattle.spi_play.specs.declared.player.Pick.TheVariants.{Take, Leave}
 use Rattle.spi_play.specs.declared.plays.PlayFault.{PlayFault}
 use Rattle.spi_play.specs.declared.plays.Ended.{Ended}
 use Rattle.spi_play.specs.Way.{Way, Seen, seen_of}
-use Rattle.spi_play.specs.Play.{Seat, State, Course, TurnOf, Picks, seats_from, first_place, after_take, after_leave, start, GoesOn, EndsBy, Asks, Does, Turns, Plays}
+use Rattle.spi_play.specs.Play.{Seat, State, Course, TurnOf, Picks, seats_from, first_place, after_take, after_leave, start, PlayGoesOn, EndsBy, Asks, Does, Turns, Plays}
 use Rattle.spi_run.specs.declared.step.Step as steps
 use Rattle.spi_run.specs.declared.step.Event as events
-use Rattle.spi_play.specs.Outcome.{course, AsksAt, Stands, EndsAt, RefusedAt}
+use Rattle.spi_play.specs.Outcome.{course, AsksAt, PlayStands, EndsAt, RefusedAt}
 use Rattle.spi_play.specs.Turning.{Turned, TurnRefused}
 use Rattle.spi_play.proofs.Seats.{map-remove}
 
@@ -32,13 +32,13 @@ from_option_map f None y e = absurd (cc)
 from_option_map f (Some x) y e = (x, refl, cc)
 
 -- the seats after the player at this place was asked
-record Asked (old : List Seat) (place ready : ℕ) (pick : Pick) (players : List Seen) : Type 0 where
+record AskedOnce (old : List Seat) (place ready : ℕ) (pick : Pick) (players : List Seen) : Type 0 where
   who : ℕ
   seats : List Seat
   asks : Asks old place (record { who = who; ready = ready; pick = pick }) seats
   seen : map (λ (seat : Seat). seat.seen) seats ≡ players
 
-asked : (seats : List Seat) (place ready : ℕ) (pick : Pick) (before players : List Seen) → map (λ (seat : Seat). seat.seen) seats ≡ before → AsksAt before place ready pick players → Asked seats place ready pick players
+asked : (seats : List Seat) (place ready : ℕ) (pick : Pick) (before players : List Seen) → map (λ (seat : Seat). seat.seen) seats ≡ before → AsksAt before place ready pick players → AskedOnce seats place ready pick players
 asked seats place ready pick before players seen asks =
     let f : Seat → Seen = λ seat. seat.seen in
     let found : (seat : Seat) × (slice_get seats place ≡ Some seat) × (seat.seen ≡ asks.old) =
@@ -84,9 +84,9 @@ done_so only place Leave old new seats players after next seen does =
       seen = kept;
     }
 
-pub stands_turn : (only : Option ℕ) (most : ℕ) (first : State) (old new : Course) (before after : List Seen) (next next' : Option ℕ) (place ready : ℕ) → Stands only most first old before next → GoesOn old.pool.configuration next (length old.steps) most place ready → Turned only place ready old new before after next' → Stands only most first new after next'
+pub stands_turn : (only : Option ℕ) (most : ℕ) (first : State) (old new : Course) (before after : List Seen) (next next' : Option ℕ) (place ready : ℕ) → PlayStands only most first old before next → PlayGoesOn old.pool.configuration next (length old.steps) most place ready → Turned only place ready old new before after next' → PlayStands only most first new after next'
 stands_turn only most first old new before after next next' place ready stands goes turned =
-    let a : Asked stands.seats place ready turned.pick turned.players = asked stands.seats place ready turned.pick before turned.players stands.seen turned.asks in
+    let a : AskedOnce stands.seats place ready turned.pick turned.players = asked stands.seats place ready turned.pick before turned.players stands.seen turned.asks in
     let d : Done only place turned.pick old new a.seats after next' = done_so only place turned.pick old new a.seats turned.players after next' a.seen turned.does in
     let turn : TurnOf = record { who = a.who; ready = ready; pick = turned.pick } in
     let here : State = record { course = old; seats = stands.seats; next = next } in
@@ -99,13 +99,13 @@ stands_turn only most first old new before after next next' place ready stands g
     }
 
 -- a play over players of any kind stands at its start
-pub play_first : {B : Type 0} (times : B → ℕ) (way : B → Option Way) (players : List B) (only : Option ℕ) (most : ℕ) (pool : Pooled) (done : Course) (n : ℕ) (next : Option ℕ) → n ≡ length players → next ≡ first_place only n → done ≡ record { pool = pool; steps = []; events = [] } → Stands only most (start pool (seen_of times way players) only) done (seen_of times way players) next
+pub play_first : {B : Type 0} (times : B → ℕ) (way : B → Option Way) (players : List B) (only : Option ℕ) (most : ℕ) (pool : Pooled) (done : Course) (n : ℕ) (next : Option ℕ) → n ≡ length players → next ≡ first_place only n → done ≡ record { pool = pool; steps = []; events = [] } → PlayStands only most (start pool (seen_of times way players) only) done (seen_of times way players) next
 play_first {B} times way players only most pool done n next count first nothing =
     let see : B → Seen = λ b. record { times = times b; way = way b } in
     let same : n ≡ length (map see players) = count ∙ sym (length-map players see) in
-    let P : Course → Option ℕ → Type 0 = λ c o. Stands only most (start pool (map see players) only) c (map see players) o in
+    let P : Course → Option ℕ → Type 0 = λ c o. PlayStands only most (start pool (map see players) only) c (map see players) o in
     let Q : Course → Type 0 = λ c. P c (first_place only (length (map see players))) in
-    let here : Stands only most (start pool (map see players) only) (record { pool = pool; steps = []; events = [] }) (map see players) (first_place only (length (map see players))) = record {
+    let here : PlayStands only most (start pool (map see players) only) (record { pool = pool; steps = []; events = [] }) (map see players) (first_place only (length (map see players))) = record {
       turns = [];
       seats = seats_from 0 (map see players);
       plays = refl;
@@ -132,10 +132,10 @@ turned_leave {B} times way before players left only place ready n done next asks
     }
 
 -- what is said by a number of steps, said by the steps
-pub taken_so : (c : Configuration) (next : Option ℕ) (n m most place ready : ℕ) → n ≡ m → GoesOn c next n most place ready → GoesOn c next m most place ready
-taken_so c next n m most place ready e goes = let P : ℕ → Type 0 = λ x. GoesOn c next x most place ready in subst P e goes
+pub taken_so : (c : Configuration) (next : Option ℕ) (n m most place ready : ℕ) → n ≡ m → PlayGoesOn c next n most place ready → PlayGoesOn c next m most place ready
+taken_so c next n m most place ready e goes = let P : ℕ → Type 0 = λ x. PlayGoesOn c next x most place ready in subst P e goes
 
-pub ends_so : (only : Option ℕ) (most : ℕ) (first : State) (done : Course) (players : List Seen) (next : Option ℕ) (n : ℕ) (ended : Ended) → Stands only most first done players next → n ≡ length done.steps → EndsBy done.pool.configuration next n most ended → EndsAt only most first done players ended
+pub ends_so : (only : Option ℕ) (most : ℕ) (first : State) (done : Course) (players : List Seen) (next : Option ℕ) (n : ℕ) (ended : Ended) → PlayStands only most first done players next → n ≡ length done.steps → EndsBy done.pool.configuration next n most ended → EndsAt only most first done players ended
 ends_so only most first done players next n ended stands e end = record {
   next = next;
   stands = stands;
@@ -143,7 +143,7 @@ ends_so only most first done players next n ended stands e end = record {
 }
 
 -- the pick of the player that was asked next is refused
-pub refused_so : (only : Option ℕ) (most : ℕ) (first : State) (done : Course) (before players : List Seen) (next : Option ℕ) (n place ready : ℕ) (pool : Pooled) (fault : PlayFault) → Stands only most first done before next → n ≡ length done.steps → GoesOn done.pool.configuration next n most place ready → pool ≡ done.pool → TurnRefused done.pool place ready before players fault → RefusedAt only most first pool players fault
+pub refused_so : (only : Option ℕ) (most : ℕ) (first : State) (done : Course) (before players : List Seen) (next : Option ℕ) (n place ready : ℕ) (pool : Pooled) (fault : PlayFault) → PlayStands only most first done before next → n ≡ length done.steps → PlayGoesOn done.pool.configuration next n most place ready → pool ≡ done.pool → TurnRefused done.pool place ready before players fault → RefusedAt only most first pool players fault
 refused_so only most first done before players next n place ready pool fault stands e goes same refused =
     let P : Pooled → Type 0 = λ p. RefusedAt only most first p players fault in
     subst P (sym same) (record {

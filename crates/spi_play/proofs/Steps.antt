@@ -8,13 +8,13 @@ use Rattle.spi_run.specs.declared.step.Step as steps
 use Rattle.spi_replay.specs.declared.fault.StepFault.{StepFault}
 use Rattle.spi_replay.specs.declared.fault.StepFault.TheVariants as refused
 use Rattle.spi_replay.specs.Ready.{AreReady, IsReady}
-use Rattle.spi_replay.specs.Stepping.{Pooled, Refuses, no_place, not_ready, too_large, too_many}
+use Rattle.spi_replay.specs.Stepping.{Pooled, RefusesPoolStep, no_place, not_ready, too_large, too_many}
 use Rattle.spi_replay.proofs.Listed.{one_order}
 use Rattle.spi_replay.proofs.Taken.{takes_inside}
 use Rattle.spi_play.specs.declared.plays.PlayFault.{PlayFault}
 use Rattle.spi_play.specs.declared.plays.PlayFault.TheVariants.{RunMessageTooLarge, TooManyPlaces, NoMemory}
 use Rattle.spi_play.specs.Play.{CountsReady, IsKth}
-use Rattle.spi_play.specs.Outcome.{IsRefused}
+use Rattle.spi_play.specs.Outcome.{IsPickRefused}
 use Rattle.spi_play.specs.Turning.{IsFaultOf, IsLate}
 
 -- a configuration has one number of ready steps, and one of each number
@@ -45,30 +45,30 @@ pub kth_ready : {c : Configuration} {k : ℕ} {s : Step} → IsKth c k s → IsR
 kth_ready {k = k} a = (a.1.ready _).0 (get_in a.0 k a.2)
 
 -- a ready step is refused by its size or the places alone
-pub late : {c : Configuration} {most : ℕ} {s : Step} {fault : StepFault} → IsReady c s → Refuses c most s fault → IsLate fault
+pub late : {c : Configuration} {most : ℕ} {s : Step} {fault : StepFault} → IsReady c s → RefusesPoolStep c most s fault → IsLate fault
 late ready (no_place o) = absurd (takes_inside ready.2 o)
 late ready (not_ready h never) = absurd (never ready)
 late ready (too_large r h) = (RunMessageTooLarge _, refl)
 late ready (too_many t h m) = (TooManyPlaces _, refl)
 
-pub step_late : {c : Configuration} {k most : ℕ} {s : Step} (fault : StepFault) → IsKth c k s → (fault ≡ refused.NoMemory) ⊎ Refuses c most s fault → IsLate fault
+pub step_late : {c : Configuration} {k most : ℕ} {s : Step} (fault : StepFault) → IsKth c k s → (fault ≡ refused.NoMemory) ⊎ RefusesPoolStep c most s fault → IsLate fault
 step_late fault kth why =
     ⊎_elim (λ e. let P : StepFault → Type 0 = λ f. IsLate f in subst P (sym e) (NoMemory, refl)) (λ r. late (kth_ready kth) r) why
 
-refused_by : (pool : Pooled) (place ready k : ℕ) (s : Step) (fault : StepFault) (other : PlayFault) → IsKth pool.configuration k s → Refuses pool.configuration pool.most s fault → IsFaultOf fault other → IsRefused pool place ready k other
+refused_by : (pool : Pooled) (place ready k : ℕ) (s : Step) (fault : StepFault) (other : PlayFault) → IsKth pool.configuration k s → RefusesPoolStep pool.configuration pool.most s fault → IsFaultOf fault other → IsPickRefused pool place ready k other
 refused_by pool place ready k s (refused.NoPlace p) other kth why is = absurd is
 refused_by pool place ready k s (refused.NotReady p) other kth why is = absurd is
 refused_by pool place ready k s (refused.RunMessageTooLarge nodes) other kth why is =
-    let P : PlayFault → Type 0 = λ f. IsRefused pool place ready k f in
+    let P : PlayFault → Type 0 = λ f. IsPickRefused pool place ready k f in
     subst P (sym is) (record { step = s; kth = kth; refuses = why })
 refused_by pool place ready k s (refused.TooManyPlaces places) other kth why is =
-    let P : PlayFault → Type 0 = λ f. IsRefused pool place ready k f in
+    let P : PlayFault → Type 0 = λ f. IsPickRefused pool place ready k f in
     subst P (sym is) (record { step = s; kth = kth; refuses = why })
 refused_by pool place ready k s refused.NoMemory other kth why is = elim why [ ]
 
 -- a step is refused so
-pub step_refused : (pool : Pooled) (place ready k : ℕ) (s : Step) (fault : StepFault) (other : PlayFault) → k < ready → IsKth pool.configuration k s → (fault ≡ refused.NoMemory) ⊎ Refuses pool.configuration pool.most s fault → IsFaultOf fault other → IsRefused pool place ready k other
+pub step_refused : (pool : Pooled) (place ready k : ℕ) (s : Step) (fault : StepFault) (other : PlayFault) → k < ready → IsKth pool.configuration k s → (fault ≡ refused.NoMemory) ⊎ RefusesPoolStep pool.configuration pool.most s fault → IsFaultOf fault other → IsPickRefused pool place ready k other
 step_refused pool place ready k s fault other within kth why is =
-    let P : PlayFault → Type 0 = λ f. IsRefused pool place ready k f in
+    let P : PlayFault → Type 0 = λ f. IsPickRefused pool place ready k f in
     let Q : StepFault → Type 0 = λ f. IsFaultOf f other in
     ⊎_elim (λ e. subst P (sym (subst Q e is)) within) (λ r. refused_by pool place ready k s fault other kth r is) why

@@ -11,9 +11,9 @@ turns_of who [] = []
 turns_of who (turn ∷ turns) = if turn.who == who then (turn ∷ turns_of who turns) else turns_of who turns
 
 -- A player that is seen so has these turns: in each it was asked once more, and answered by its way where it told one.
-abbrev pub Fits : Seen → List TurnOf → Seen → Type 0
-Fits old [] new = new ≡ old
-Fits old (turn ∷ turns) new = (mid : Seen) × Picks old turn.ready turn.pick mid × Fits mid turns new
+abbrev pub FitsTurns : Seen → List TurnOf → Seen → Type 0
+FitsTurns old [] new = new ≡ old
+FitsTurns old (turn ∷ turns) new = (mid : Seen) × Picks old turn.ready turn.pick mid × FitsTurns mid turns new
 
 -- the last of the turns is a Leave
 abbrev pub EndInLeave : List TurnOf → Type 0
@@ -30,8 +30,8 @@ AreInOrder (seat ∷ seats) = ((other : Seat) → In other seats → seat.who < 
 -- left in the last of them, and nobody else is in the list.
 pub record TurnsFit (players : List Seen) (turns : List TurnOf) (left : List Seat) : Type 0 where
   pub each : (who : ℕ) (old : Seen) → At players who old
-      → (new : Seen) × Fits old (turns_of who turns) new
+      → (new : Seen) × FitsTurns old (turns_of who turns) new
       × (In (record { who = who; seen = new }) left ⊎ EndInLeave (turns_of who turns))
   pub stays : (seat : Seat) → In seat left
-      → (old : Seen) × At players seat.who old × Fits old (turns_of seat.who turns) seat.seen
+      → (old : Seen) × At players seat.who old × FitsTurns old (turns_of seat.who turns) seat.seen
   pub ordered : AreInOrder left

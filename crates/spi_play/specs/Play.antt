@@ -8,7 +8,7 @@ use Rattle.spi_play.specs.declared.player.Pick.{Pick}
 use Rattle.spi_play.specs.declared.player.Pick.TheVariants.{Take, Leave}
 use Rattle.spi_play.specs.declared.plays.Ended.{Ended}
 use Rattle.spi_play.specs.declared.plays.Ended.TheVariants.{MostReached, NoPlayers, NoneReady}
-use Rattle.spi_play.specs.Way.{Seen, Follows, next_count}
+use Rattle.spi_play.specs.Way.{Seen, FollowsWay, next_count}
 
 -- the number of ready steps
 abbrev pub CountsReady : Configuration → ℕ → Type 0
@@ -79,7 +79,7 @@ pub data EndsBy (c : Configuration) (next : Option ℕ) (taken most : ℕ) : End
       → EndsBy c next taken most NoneReady
 
 -- none of them holds: the player at this place is asked, and so many steps are ready
-pub record GoesOn (c : Configuration) (next : Option ℕ) (taken most place ready : ℕ) : Type 0 where
+pub record PlayGoesOn (c : Configuration) (next : Option ℕ) (taken most place ready : ℕ) : Type 0 where
   pub more : taken ≢ most
   pub at : next ≡ Some place
   pub counts : CountsReady c ready
@@ -88,7 +88,7 @@ pub record GoesOn (c : Configuration) (next : Option ℕ) (taken most place read
 -- a player that is asked where so many steps are ready answers so, and this is seen of it after
 pub record Picks (old : Seen) (ready : ℕ) (pick : Pick) (new : Seen) : Type 0 where
   pub times : new.times ≡ next_count old.times
-  pub way : Follows old.way old.times ready pick new.way
+  pub way : FollowsWay old.way old.times ready pick new.way
 
 -- the player at this place of the list has this turn, and these are the seats after
 pub record Asks (seats : List Seat) (place : ℕ) (turn : TurnOf) (after : List Seat) : Type 0 where
@@ -100,7 +100,7 @@ pub record Asks (seats : List Seat) (place : ℕ) (turn : TurnOf) (after : List 
   pub others : after ≡ slice_set seats place (record { who = seat.who; seen = new })
 
 -- the ready step with this number is done
-pub record Goes (old : Course) (k : ℕ) (new : Course) : Type 0 where
+pub record DoesReady (old : Course) (k : ℕ) (new : Course) : Type 0 where
   pub step : Step
   pub event : Option Event
   pub kth : IsKth old.pool.configuration k step
@@ -111,7 +111,7 @@ pub record Goes (old : Course) (k : ℕ) (new : Course) : Type 0 where
 -- What an answer of the player at this place does: to what was done, to the list of players, in whatever form they are
 -- seen, and to the cursor.
 abbrev pub Does : {A : Type 0} → Option ℕ → ℕ → Pick → Course → Course → List A → List A → Option ℕ → Type 0
-Does only place (Take k) old new players after next = Goes old k new × (after ≡ players)
+Does only place (Take k) old new players after next = DoesReady old k new × (after ≡ players)
     × (next ≡ after_take only place (length after))
 Does only place Leave old new players after next = (new ≡ old) × (after ≡ remove players place)
     × (next ≡ after_leave only place (length after))
@@ -120,7 +120,7 @@ Does only place Leave old new players after next = (new ≡ old) × (after ≡ r
 pub record Turns (only : Option ℕ) (most : ℕ) (old : State) (turn : TurnOf) (new : State) : Type 0 where
   pub place : ℕ
   pub seats : List Seat
-  pub goes_on : GoesOn old.course.pool.configuration old.next (length old.course.steps) most place turn.ready
+  pub goes_on : PlayGoesOn old.course.pool.configuration old.next (length old.course.steps) most place turn.ready
   pub asks : Asks old.seats place turn seats
   pub does : Does only place turn.pick old.course new.course seats new.seats new.next
 

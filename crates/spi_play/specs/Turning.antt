@@ -11,12 +11,12 @@ use Rattle.spi_play.specs.declared.plays.PlayFault.TheVariants.{RunMessageTooLar
 use Rattle.spi_play.specs.declared.turns.Ahead.{Ahead}
 use Rattle.spi_play.specs.declared.turns.Ahead.TheVariants.{Asks, Ends}
 use Rattle.spi_play.specs.Way.{Seen}
-use Rattle.spi_play.specs.Play.{Course, EndsBy, GoesOn, Does}
-use Rattle.spi_play.specs.Outcome.{AsksAt, IsRefused}
+use Rattle.spi_play.specs.Play.{Course, EndsBy, PlayGoesOn, Does}
+use Rattle.spi_play.specs.Outcome.{AsksAt, IsPickRefused}
 
 -- what comes next in a play
 abbrev pub LiesAhead : Configuration → Option ℕ → ℕ → ℕ → Ahead → Type 0
-LiesAhead c next taken most (Asks place ready) = GoesOn c next taken most place ready
+LiesAhead c next taken most (Asks place ready) = PlayGoesOn c next taken most place ready
 LiesAhead c next taken most (Ends ended) = EndsBy c next taken most ended
 
 -- what a step that is ready is refused for
@@ -43,4 +43,4 @@ pub record TurnRefused (pool : Pooled) (place ready : ℕ) (before after : List 
     0 where
   pub picked : ℕ
   pub asks : AsksAt before place ready (Take picked) after
-  pub refused : IsRefused pool place ready picked fault
+  pub refused : IsPickRefused pool place ready picked fault

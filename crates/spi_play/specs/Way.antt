@@ -24,9 +24,9 @@ abbrev pub next_count : ℕ → ℕ
 next_count n = min (n + 1) (2 ^ 64 - 1)
 
 -- A player of this way, asked so often before, gives this answer where so many steps are ready, and is of that way after.
-abbrev pub Follows : Option Way → ℕ → ℕ → Pick → Option Way → Type 0
-Follows None times ready pick after = ⊤
-Follows (Some (Script [])) times ready pick after = (pick ≡ Leave) × (after ≡ Some (Script []))
-Follows (Some (Script (k ∷ script))) times ready pick after = (pick ≡ Take k) × (after ≡ Some (Script script))
-Follows (Some First) times ready pick after = (pick ≡ Take 0) × (after ≡ Some First)
-Follows (Some Turn) times ready pick after = (pick ≡ Take (times % ready)) × (after ≡ Some Turn)
+abbrev pub FollowsWay : Option Way → ℕ → ℕ → Pick → Option Way → Type 0
+FollowsWay None times ready pick after = ⊤
+FollowsWay (Some (Script [])) times ready pick after = (pick ≡ Leave) × (after ≡ Some (Script []))
+FollowsWay (Some (Script (k ∷ script))) times ready pick after = (pick ≡ Take k) × (after ≡ Some (Script script))
+FollowsWay (Some First) times ready pick after = (pick ≡ Take 0) × (after ≡ Some First)
+FollowsWay (Some Turn) times ready pick after = (pick ≡ Take (times % ready)) × (after ≡ Some Turn)

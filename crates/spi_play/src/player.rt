@@ -1,6 +1,6 @@
 // Who picks the steps of a play.
 ghost use Rattle.std.specs.Prelude.{◌≡◌, ℕ, ◌<◌, Option};
-ghost use Rattle.spi_play.specs.Way.{Way, Follows, next_count};
+ghost use Rattle.spi_play.specs.Way.{Way, FollowsWay, next_count};
 
 /// What a player is shown.
 #[derive(Clone, Copy)]
@@ -34,7 +34,7 @@ pub trait Player: Drop {
     fn pick(&mut self, menu: &Menu) -> Pick
         requires { 0 < menu.now.ready }
         ensures times { times self.new ≡ next_count (times self.old) }
-        ensures way { Follows (way self.old) (times self.old) menu.now.ready result (way self.new) };
+        ensures way { FollowsWay (way self.old) (times self.old) menu.now.ready result (way self.new) };
 
     /// How often it was asked.
     fn asked(&self) -> u64

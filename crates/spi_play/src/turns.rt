@@ -5,8 +5,8 @@ ghost use Rattle.std.specs.Option.{ForSome, option_to_list};
 ghost use Rattle.spi_run.specs.View.{step as step_of, event as event_of};
 ghost use Rattle.spi_replay.specs.Stepping.{event_in};
 ghost use Rattle.spi_play.specs.Way.{seen_of};
-ghost use Rattle.spi_play.specs.Play.{CountsReady, Picks, Goes};
-ghost use Rattle.spi_play.specs.Outcome.{course, AsksAt, IsRefused};
+ghost use Rattle.spi_play.specs.Play.{CountsReady, Picks, DoesReady};
+ghost use Rattle.spi_play.specs.Outcome.{course, AsksAt, IsPickRefused};
 ghost use Rattle.spi_play.specs.Turning.{LiesAhead, IsFaultOf, IsLate, Turned, TurnRefused};
 
 use crate::cursor::{place_after_leave, place_after_take};
@@ -102,11 +102,11 @@ fn take(
     requires ready { CountsReady pool.old.configuration ready }
     requires names { pool.old.configuration.names < 2 ^ 32 - 1 }
     ensures goes { OnOk result
-        (Goes (course pool.old steps.old.items events.old.items) k
+        (DoesReady (course pool.old steps.old.items events.old.items) k
         (course pool.new steps.new.items events.new.items)) }
     ensures len { OnOk result (vec_len steps.new ≡ vec_len steps.old + 1) }
     ensures same { OnErr result (pool.new ≡ pool.old) }
-    ensures refused { IfErr result (λ fault. IsRefused pool.old place ready k fault) }
+    ensures refused { IfErr result (λ fault. IsPickRefused pool.old place ready k fault) }
 {
     if k >= ready {
         return Err(PlayFault::BadPick {

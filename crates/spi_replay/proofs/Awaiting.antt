@@ -42,7 +42,7 @@ take_of v = None
 size_of : (ms : List Message) (i : MsgId) {m : Message} → Numbers ms i m → message_size (message_at ms i) ≡ message_size m
 size_of ms i a = ap message_size (at_message ms i a)
 
-pub record Told (ms : List Message) (w : Wait) (v : Move) : Type 0 where
+pub record ToldWait (ms : List Message) (w : Wait) (v : Move) : Type 0 where
   pub acts : wait_acts w ≡ acts_alone v
   pub appends : wait_appends w ≡ appended v
   pub within : wait_within (length ms) w
@@ -50,7 +50,7 @@ pub record Told (ms : List Message) (w : Wait) (v : Move) : Type 0 where
   pub put : Channel ms (out_channel w) (put_of v)
   pub take : Channel ms (in_channel w) (take_of v)
 
-pub waits_tell : {ms : List Message} {w : Wait} {v : Move} → Waits ms w v → Told ms w v
+pub waits_tell : {ms : List Message} {w : Wait} {v : Move} → Waits ms w v → ToldWait ms w v
 unfolding put_of take_of
 waits_tell w_stays = record { acts = refl; appends = refl; within = tt; largest = λ n. refl; put = no_channel; take = no_channel }
 waits_tell (w_puts a b) = record { acts = refl; appends = refl; within = tt; largest = λ n. refl; put = a_channel a; take = no_channel }

@@ -19,7 +19,7 @@ use Rattle.spi_replay.specs.Standing.{IsPlace}
 use Rattle.spi_replay.specs.Pools.{pooled, IsState}
 use Rattle.spi_replay.specs.Indexed.{out_channel, in_channel, is_on, places_on, waits_of}
 use Rattle.spi_replay.specs.Listing.{puts_on, takes_on, is_channel}
-use Rattle.spi_replay.specs.Ready.{PutsOut, puts_out, TakesIn, takes_once, takes_again, AreAscending, ArePlaces}
+use Rattle.spi_replay.specs.Ready.{PutsOut, puts_out, TakesIn, takes_once, takes_again, AreAscending, AreReadyPlaces}
 use Rattle.spi_intern.proofs.Sized.{at_message, message_there}
 use Rattle.spi_replay.proofs.Chosen.{chosen, InChosen, in_chosen, chosen_in}
 use Rattle.spi_replay.proofs.Awaiting.{Channel, no_channel, a_channel}
@@ -187,24 +187,24 @@ module _ (s : State) (h : IsState s) (differ : AllDiffer s.store.messages) (id :
         let z : 0 + i ≡ i = omega arith in
         subst (λ n. In n (places_on f id.place 0 (waits_of s.index.places.items))) z (places_in f id.place 0 i (waits_of s.index.places.items) (w.0).wait (get_map (λ (p : Place). p.wait) s.index.places.items i w.1) t)
 
-    all_there : (js : List ℕ) → js ≡ places_on f id.place 0 (waits_of s.index.places.items) → ArePlaces P (pooled s).configuration.places js
-    all_there js e = subst (ArePlaces P (pooled s).configuration.places) (sym e) (record { each = λ i. (there_then i, then_there i); ascending = ascending f id.place 0 (waits_of s.index.places.items) })
+    all_there : (js : List ℕ) → js ≡ places_on f id.place 0 (waits_of s.index.places.items) → AreReadyPlaces P (pooled s).configuration.places js
+    all_there js e = subst (AreReadyPlaces P (pooled s).configuration.places) (sym e) (record { each = λ i. (there_then i, then_there i); ascending = ascending f id.place 0 (waits_of s.index.places.items) })
 
-  pub outs_are : (js : List ℕ) → js ≡ places_on out_channel id.place 0 (waits_of s.index.places.items) → ArePlaces (PutsOut m) (pooled s).configuration.places js
+  pub outs_are : (js : List ℕ) → js ≡ places_on out_channel id.place 0 (waits_of s.index.places.items) → AreReadyPlaces (PutsOut m) (pooled s).configuration.places js
   outs_are js e = all_there (PutsOut m) out_channel puts_on (λ p k. puts_told p k) (λ q k. puts_some k) (some_puts m) js e
 
-  pub ins_are : (js : List ℕ) → js ≡ places_on in_channel id.place 0 (waits_of s.index.places.items) → ArePlaces (TakesIn m) (pooled s).configuration.places js
+  pub ins_are : (js : List ℕ) → js ≡ places_on in_channel id.place 0 (waits_of s.index.places.items) → AreReadyPlaces (TakesIn m) (pooled s).configuration.places js
   ins_are js e = all_there (TakesIn m) in_channel takes_on (λ p k. takes_told p k) (λ q k. takes_some k) (some_takes m) js e
 
 -- where no place waits on it
-no_place : (P : Process → Type 0) (qs : List Process) → ((i : ℕ) (q : Process) → slice_get qs i ≡ Some q → P q → ⊥) → ArePlaces P qs []
+no_place : (P : Process → Type 0) (qs : List Process) → ((i : ℕ) (q : Process) → slice_get qs i ≡ Some q → P q → ⊥) → AreReadyPlaces P qs []
 no_place P qs f = record { each = λ i. ((λ h. absurd (none h)), (λ k. absurd (f i k.0 (at_get k.1) k.2))); ascending = tt }
   where
     none : {i : ℕ} → In i [] → ⊥
     none h = elim h [ ]
 
-pub no_outs : (m : Message) (qs : List Process) → ((i : ℕ) (q : Process) → slice_get qs i ≡ Some q → PutsOut m q ⊎ TakesIn m q → ⊥) → ArePlaces (PutsOut m) qs []
+pub no_outs : (m : Message) (qs : List Process) → ((i : ℕ) (q : Process) → slice_get qs i ≡ Some q → PutsOut m q ⊎ TakesIn m q → ⊥) → AreReadyPlaces (PutsOut m) qs []
 no_outs m qs f = no_place (PutsOut m) qs (λ i q e p. f i q e (inl p))
 
-pub no_ins : (m : Message) (qs : List Process) → ((i : ℕ) (q : Process) → slice_get qs i ≡ Some q → PutsOut m q ⊎ TakesIn m q → ⊥) → ArePlaces (TakesIn m) qs []
+pub no_ins : (m : Message) (qs : List Process) → ((i : ℕ) (q : Process) → slice_get qs i ≡ Some q → PutsOut m q ⊎ TakesIn m q → ⊥) → AreReadyPlaces (TakesIn m) qs []
 no_ins m qs f = no_place (TakesIn m) qs (λ i q e p. f i q e (inr p))

@@ -19,8 +19,8 @@ use Rattle.spi_replay.specs.Holding.{value, chain, held_at, place_process, IsClo
 use Rattle.spi_replay.specs.Waiting.{met_if, met_with, met_by}
 use Rattle.spi_replay.specs.Moves.{event_of, Move, stays, puts, takes, takes_again, move_of, bound_in, appended, acts_alone, Numbers, Waits, w_puts, w_takes, w_takes_again, w_binds_one, w_binds_two, w_goes_on, w_shows, w_makes, w_forks}
 use Rattle.spi_replay.specs.Standing.{Enters, IsPlace, Binds, StandsAt}
-use Rattle.spi_replay.proofs.Subtrees.{Follows, node_at}
-use Rattle.spi_replay.proofs.Forms.{IsQuiet, IsStill, Leads, Moves, moves_stays, moves_puts, moves_takes, moves_takes_again, moves_one, moves_two, moves_on, moves_shows, moves_makes, moves_forks, node_moves, done_moves}
+use Rattle.spi_replay.proofs.Subtrees.{FollowsNode, node_at}
+use Rattle.spi_replay.proofs.Forms.{IsQuiet, IsStill, LeadsByOne, Moves, moves_stays, moves_puts, moves_takes, moves_takes_again, moves_one, moves_two, moves_on, moves_shows, moves_makes, moves_forks, node_moves, done_moves}
 use Rattle.spi_replay.proofs.Chains.{chain_is, chain_kept}
 use Rattle.spi_replay.proofs.Awaiting.{waits_kept}
 
@@ -90,7 +90,7 @@ pub record Outcome (n : ℕ) (p : Process) (v : Move) : Type 0 where
   pub names : ℕ
   pub now : Process
   pub more : List Process
-  pub leads : Leads n p event names now more (bound_in n v)
+  pub leads : LeadsByOne n p event names now more (bound_in n v)
   pub count : length more ≡ appended v
 
 pub outcome_of : {k : ℕ} {ss : List Shape} {vs : List Message} {p : Process} {v : Move} (n : ℕ) → acts_alone v ≡ true → Moves k ss vs p v → Outcome n p v
@@ -107,17 +107,17 @@ outcome_of n e (moves_forks q l f g) = record { event = _; names = _; now = _; m
 
 -- by each wait
 module _ {ms : List Message} {ls : List Link} (p : Place) (h : Acting ms ls p) (over : ProcessOver p.source.now.names p.source.now.process) where
-  binds_at : {i : ℕ} (more : List Message) → AllClosed (more ++ h.values) → Follows (shapes_in p) i (p.source.now.names + length (more ++ h.values)) → Binds ms ls p.source.now i p.last h.values more
+  binds_at : {i : ℕ} (more : List Message) → AllClosed (more ++ h.values) → FollowsNode (shapes_in p) i (p.source.now.names + length (more ++ h.values)) → Binds ms ls p.source.now i p.last h.values more
   binds_at more c f = record { over = over; linked = h.linked; closed = c; shape = f.shape; there = f.there; scope = f.scope }
 
-  enters_at : {i : ℕ} → Follows (shapes_in p) i (p.source.now.names + length h.values) → Enters ms ls p.source.now i p.last h.values
+  enters_at : {i : ℕ} → FollowsNode (shapes_in p) i (p.source.now.names + length h.values) → Enters ms ls p.source.now i p.last h.values
   enters_at f = record { over = over; linked = h.linked; closed = h.closed; shape = f.shape; there = f.there; scope = f.scope }
 
 pub record ActsOne (ms : List Message) (ls : List Link) (p : Place) (id : MsgId) (i : ℕ) : Type 0 where
   pub values : List Message
   pub message : Message
   pub number : Numbers ms id message
-  pub leads : (n : ℕ) → Leads n (place_process ms ls p) None n (held_at p.source.now.names (message ∷ values) (shapes_in p) i) [] (message ∷ [])
+  pub leads : (n : ℕ) → LeadsByOne n (place_process ms ls p) None n (held_at p.source.now.names (message ∷ values) (shapes_in p) i) [] (message ∷ [])
   pub binds : Binds ms ls p.source.now i p.last values (message ∷ [])
 
 pub record ActsTwo (ms : List Message) (ls : List Link) (p : Place) (id j : MsgId) (i : ℕ) : Type 0 where
@@ -126,29 +126,29 @@ pub record ActsTwo (ms : List Message) (ls : List Link) (p : Place) (id j : MsgI
   pub other : Message
   pub number : Numbers ms id message
   pub other_number : Numbers ms j other
-  pub leads : (n : ℕ) → Leads n (place_process ms ls p) None n (held_at p.source.now.names (other ∷ (message ∷ values)) (shapes_in p) i) [] (message ∷ (other ∷ []))
+  pub leads : (n : ℕ) → LeadsByOne n (place_process ms ls p) None n (held_at p.source.now.names (other ∷ (message ∷ values)) (shapes_in p) i) [] (message ∷ (other ∷ []))
   pub binds : Binds ms ls p.source.now i p.last values (other ∷ (message ∷ []))
 
 pub record ActsOn (ms : List Message) (ls : List Link) (p : Place) (i : ℕ) : Type 0 where
   pub values : List Message
-  pub leads : (n : ℕ) → Leads n (place_process ms ls p) None n (held_at p.source.now.names values (shapes_in p) i) [] []
+  pub leads : (n : ℕ) → LeadsByOne n (place_process ms ls p) None n (held_at p.source.now.names values (shapes_in p) i) [] []
   pub enters : Enters ms ls p.source.now i p.last values
 
 pub record ActsShowing (ms : List Message) (ls : List Link) (p : Place) (k : Kind) (id : MsgId) (i : ℕ) : Type 0 where
   pub values : List Message
   pub message : Message
   pub number : Numbers ms id message
-  pub leads : (n : ℕ) → Leads n (place_process ms ls p) (Some (event_of k message)) n (held_at p.source.now.names values (shapes_in p) i) [] (message ∷ [])
+  pub leads : (n : ℕ) → LeadsByOne n (place_process ms ls p) (Some (event_of k message)) n (held_at p.source.now.names values (shapes_in p) i) [] (message ∷ [])
   pub enters : Enters ms ls p.source.now i p.last values
 
 pub record ActsMaking (ms : List Message) (ls : List Link) (p : Place) (i : ℕ) : Type 0 where
   pub values : List Message
-  pub leads : (n : ℕ) → Leads n (place_process ms ls p) None (suc n) (held_at p.source.now.names (name n ∷ values) (shapes_in p) i) [] (name n ∷ [])
+  pub leads : (n : ℕ) → LeadsByOne n (place_process ms ls p) None (suc n) (held_at p.source.now.names (name n ∷ values) (shapes_in p) i) [] (name n ∷ [])
   pub binds : (n : ℕ) → Binds ms ls p.source.now i p.last values (name n ∷ [])
 
 pub record ActsForking (ms : List Message) (ls : List Link) (p : Place) (i j : ℕ) : Type 0 where
   pub values : List Message
-  pub leads : (n : ℕ) → Leads n (place_process ms ls p) None n (held_at p.source.now.names values (shapes_in p) i) (held_at p.source.now.names values (shapes_in p) j ∷ []) []
+  pub leads : (n : ℕ) → LeadsByOne n (place_process ms ls p) None n (held_at p.source.now.names values (shapes_in p) i) (held_at p.source.now.names values (shapes_in p) j ∷ []) []
   pub enters : Enters ms ls p.source.now i p.last values
   pub rest : Enters ms ls p.source.now j p.last values
 
@@ -165,7 +165,7 @@ module _ {ms : List Message} {ls : List Link} (p : Place) (h : Acting ms ls p) (
   showing_from : {k : Kind} {id : MsgId} {i : ℕ} {v : Move} → Waits ms (W.Shows k id i) v → Moves p.source.now.names (shapes_in p) h.values (place_process ms ls p) v → ActsShowing ms ls p k id i
   showing_from (w_shows {m = m} a) (moves_shows q l f) = record { values = h.values; message = m; number = a; leads = l; enters = enters_at p h over f }
 
-  making_from : {i : ℕ} {v : Move} → Waits ms (W.Makes i) v → Moves p.source.now.names (shapes_in p) h.values (place_process ms ls p) v → ActsMaking ms ls p i
+  making_from : {i : ℕ} {v : Move} → Waits ms (W.Freshes i) v → Moves p.source.now.names (shapes_in p) h.values (place_process ms ls p) v → ActsMaking ms ls p i
   making_from w_makes (moves_makes q l f) = record { values = h.values; leads = l; binds = λ n. binds_at p h over (name n ∷ []) (tt, h.closed) (f n) }
 
   forking_from : {i j : ℕ} {v : Move} → Waits ms (W.Forks i j) v → Moves p.source.now.names (shapes_in p) h.values (place_process ms ls p) v → ActsForking ms ls p i j
@@ -187,7 +187,7 @@ module _ {ms : List Message} {ls : List Link} (p : Place) (h : IsPlace ms ls p) 
   pub acts_showing : {k : Kind} {id : MsgId} {i : ℕ} → p.wait ≡ W.Shows k id i → ActsShowing ms ls p k id i
   acts_showing e = let a = acting p h in showing_from p a h.enters.over (wait_is e a.waits) a.moves
 
-  pub acts_making : {i : ℕ} → p.wait ≡ W.Makes i → ActsMaking ms ls p i
+  pub acts_making : {i : ℕ} → p.wait ≡ W.Freshes i → ActsMaking ms ls p i
   acts_making e = let a = acting p h in making_from p a h.enters.over (wait_is e a.waits) a.moves
 
   pub acts_forking : {i j : ℕ} → p.wait ≡ W.Forks i j → ActsForking ms ls p i j

@@ -18,7 +18,7 @@ use Rattle.spi_replay.specs.declared.fault.StepFault.TheVariants.{NotReady}
 use Rattle.spi_replay.specs.Holding.{place_process}
 use Rattle.spi_replay.specs.Ready.{IsReady}
 use Rattle.spi_replay.specs.Standing.{ArePlaces, processes}
-use Rattle.spi_replay.specs.Stepping.{Refuses, no_place, not_ready, too_large, too_many}
+use Rattle.spi_replay.specs.Stepping.{RefusesPoolStep, no_place, not_ready, too_large, too_many}
 use Rattle.spi_replay.specs.Waiting.{met_by}
 use Rattle.spi_replay.specs.Pools.{configuration_of}
 use Rattle.spi_replay.proofs.Does.{meets_of}
@@ -32,7 +32,7 @@ out_inside ms ls ps {i = i} {j = j} (takes_talk {p = p} {q = q} a b t) =
     (omega (arith, x, l), omega (arith, y, l))
 
 -- a step that is refused since it isn't ready isn't
-refused_apart : {c : Configuration} {most : ℕ} {s : Step} {f : StepFault} (k : ℕ) → f ≡ NotReady k → Refuses c most s f → IsReady c s → ⊥
+refused_apart : {c : Configuration} {most : ℕ} {s : Step} {f : StepFault} (k : ℕ) → f ≡ NotReady k → RefusesPoolStep c most s f → IsReady c s → ⊥
 refused_apart k e (no_place o) = absurd cc
 refused_apart k e (not_ready f g) = g
 refused_apart k e (too_large r l) = absurd cc

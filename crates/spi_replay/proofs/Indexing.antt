@@ -147,13 +147,13 @@ rises_along is r i j h l = by (cases_order i j)
     by (inr (inr s)) = absurd (omega arith)
 
 -- what a search finds, and what it says where it finds nothing
-pub record IsCut (n a b : ℕ) (is : List ℕ) : Type 0 where
+pub record IsCutAt (n a b : ℕ) (is : List ℕ) : Type 0 where
   pub before : a ≤ length is
   pub after : b ≤ length is
   pub below : take a is ≡ filter (λ j. nat_lt j n) is
   pub above : drop b is ≡ filter (λ j. nat_lt n j) is
 
-pub cut_found : (n i : ℕ) (is : List ℕ) → Rises 0 is → i < length is → get_or is i 0 ≡ n → IsCut n i (i + 1) is
+pub cut_found : (n i : ℕ) (is : List ℕ) → Rises 0 is → i < length is → get_or is i 0 ≡ n → IsCutAt n i (i + 1) is
 cut_found n i is r l e = record {
   before = omega arith;
   after = omega arith;
@@ -171,7 +171,7 @@ cut_found n i is r l e = record {
     not_more j m k (inr (inl s)) = absurd (omega arith)
     not_more j m k (inr (inr s)) = let t = rises_less 0 j i is r s l in omega arith
 
-pub cut_missing : (n i : ℕ) (is : List ℕ) → i ≤ length is → ((j : ℕ) → j < i → get_or is j 0 < n) → ((j : ℕ) → i ≤ j → j < length is → n < get_or is j 0) → IsCut n i i is
+pub cut_missing : (n i : ℕ) (is : List ℕ) → i ≤ length is → ((j : ℕ) → j < i → get_or is j 0 < n) → ((j : ℕ) → i ≤ j → j < length is → n < get_or is j 0) → IsCutAt n i i is
 cut_missing n i is l g h = record {
   before = l;
   after = l;
@@ -179,12 +179,12 @@ cut_missing n i is l g h = record {
   above = filter_drop n i is (λ j k m. let s = g j k in omega arith) h;
 }
 
-pub cut_ok : (n i : ℕ) (is : List ℕ) (r : Result ℕ ℕ) → r ≡ Ok i → Rises 0 is → IsBinarySearchResult (λ y. nat_cmp y n) is r → IsCut n i (i + 1) is
+pub cut_ok : (n i : ℕ) (is : List ℕ) (r : Result ℕ ℕ) → r ≡ Ok i → Rises 0 is → IsBinarySearchResult (λ y. nat_cmp y n) is r → IsCutAt n i (i + 1) is
 cut_ok n i is r e h p =
     let m = searched is n (Ok i) (subst (λ (x : Result ℕ ℕ). IsBinarySearchResult (λ y. nat_cmp y n) is x) e p) (rises_along is h) in
     cut_found n i is h m.0 m.1
 
-pub cut_err : (n i : ℕ) (is : List ℕ) (r : Result ℕ ℕ) → r ≡ Err i → Rises 0 is → IsBinarySearchResult (λ y. nat_cmp y n) is r → IsCut n i i is
+pub cut_err : (n i : ℕ) (is : List ℕ) (r : Result ℕ ℕ) → r ≡ Err i → Rises 0 is → IsBinarySearchResult (λ y. nat_cmp y n) is r → IsCutAt n i i is
 cut_err n i is r e h p =
     let m = searched is n (Err i) (subst (λ (x : Result ℕ ℕ). IsBinarySearchResult (λ y. nat_cmp y n) is x) e p) (rises_along is h) in
     cut_missing n i is m.0 m.1 m.2

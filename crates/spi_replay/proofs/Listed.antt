@@ -5,7 +5,7 @@ use Rattle.spi_term.specs.Lists.{In, in_first, in_later}
 use Rattle.spi_term.proofs.Lists.{get_at, at_get, in_cases, in_append}
 use Rattle.spi_term.specs.Term.{Message, pair, in_left, in_right, enc, same_message, Process, send, recv, serve, split, select, branch, decrypt, check, begin, end, end_many, cast, fresh, par}
 use Rattle.spi_intern.proofs.MessageLaws.{same_true, same_self}
-use Rattle.spi_run.specs.Reduction.{Configuration, Step, act, talk, Event, Acts, acts_split, acts_match, acts_inl, acts_inr, acts_decrypt, acts_check, acts_begin, acts_end, acts_end_many, acts_cast, acts_new, acts_par, Talks, talks_once, talks_again, Takes, takes_act, takes_talk}
+use Rattle.spi_run.specs.Reduction.{Configuration, Step, act, talk, Event, Acts, acts_split, acts_select, acts_inl, acts_inr, acts_decrypt, acts_check, acts_begin, acts_end, acts_end_many, acts_cast, acts_fresh, acts_par, Talks, talks_once, talks_again, Takes, takes_act, takes_talk}
 use Rattle.spi_replay.specs.Ready.{IsReady, first_place, Before, before_place, before_input, AreOrdered, AreReady}
 use Rattle.spi_replay.proofs.Chosen.{chosen, InChosen, in_chosen, chosen_in}
 use Rattle.spi_replay.specs.Listing.{acts_now, puts_on, takes_on, is_channel, talks_to, talks_of, steps_at, steps_from, ready_steps}
@@ -52,7 +52,7 @@ same_of {a} {b} e = ap (same_message a) (sym e) ∙ same_self a
 
 pub acts_true : {n n' : ℕ} {p q : Process} {e : Option Event} {more : List Process} → Acts n p e n' q more → acts_now p ≡ true
 acts_true acts_split = refl
-acts_true (acts_match e) = same_of e
+acts_true (acts_select e) = same_of e
 acts_true acts_inl = refl
 acts_true acts_inr = refl
 acts_true (acts_decrypt e) = same_of e
@@ -61,7 +61,7 @@ acts_true acts_begin = refl
 acts_true acts_end = refl
 acts_true acts_end_many = refl
 acts_true acts_cast = refl
-acts_true acts_new = refl
+acts_true acts_fresh = refl
 acts_true acts_par = refl
 
 pub record Acted (n : ℕ) (p : Process) : Type 0 where
@@ -76,7 +76,7 @@ acted {n' = n'} {q = q} {e = e} {more = more} a = record { event = e; names = n'
 
 pub true_acts : (n : ℕ) (p : Process) → acts_now p ≡ true → Acted n p
 true_acts n (split (pair a b) t u p) e = acted acts_split
-true_acts n (select (pair a b) t c u p) e = acted (acts_match (same_true a c e))
+true_acts n (select (pair a b) t c u p) e = acted (acts_select (same_true a c e))
 true_acts n (branch (in_left a) t p u q) e = acted acts_inl
 true_acts n (branch (in_right a) t p u q) e = acted acts_inr
 true_acts n (decrypt (enc a k) t j p) e = acted (acts_decrypt (same_true k j e))
@@ -85,7 +85,7 @@ true_acts n (begin a p) e = acted acts_begin
 true_acts n (end a p) e = acted acts_end
 true_acts n (end_many a p) e = acted acts_end_many
 true_acts n (cast a t p) e = acted acts_cast
-true_acts n (fresh t p) e = acted acts_new
+true_acts n (fresh t p) e = acted acts_fresh
 true_acts n (par p q) e = acted acts_par
 true_acts n p e = absurd (true≢false (sym e))
 
@@ -190,13 +190,13 @@ is_ready : (c : Configuration) (i : ℕ) (p : Process) (s : Step) → slice_get 
 is_ready c i p _ e (an_act a) = let w = true_acts c.names p a in (w.event, _, takes_act (get_at c.places i e) w.acts)
 is_ready c i p _ e (a_talk {c = m} {j = j} {q = q} a f g t) = let w = true_talks m p q f t in (None, _, takes_talk (get_at c.places i e) (get_at c.places j g) w.talks)
 
-record Begins (c : Configuration) (s : Step) : Type 0 where
+record BeginsStep (c : Configuration) (s : Step) : Type 0 where
   pub place : ℕ
   pub process : Process
   pub there : slice_get c.places place ≡ Some process
   pub step : StepAt c.places place process s
 
-begins : {c d : Configuration} {s : Step} {e : Option Event} → Takes c s e d → Begins c s
+begins : {c d : Configuration} {s : Step} {e : Option Event} → Takes c s e d → BeginsStep c s
 begins (takes_act {i = i} {p = p} a b) = record { place = i; process = p; there = at_get a; step = an_act (acts_true b) }
 begins (takes_talk {i = i} {p = p} a b t) = let w = talks_true t in record { place = i; process = p; there = at_get a; step = a_talk w.quiet w.puts (at_get b) w.takes }
 

@@ -2,7 +2,7 @@
 use Rattle.std.proofs.Common.{◌≡◌, ℕ, suc, ◌+◌, ◌-◌, ◌<◌, ◌≤◌, Bool, true, false, List, [], ◌∷◌, length, refl, sym, ap, ◌∙◌, subst, arith, ⊎_elim, eq-eqb}
 use Rattle.std.specs.Prelude.{if◌then◌else◌}
 use Rattle.std.proofs.lemmas.Bool.{cases_lt, cases_eq, ne_eqb}
-use Rattle.spi_term.specs.Term.{Message, bound, name, unit, pair, in_left, in_right, enc, hash, ends, checks, many, Effect, Ty, un, unit_ty, pair_ty, sum_ty, key, nonce, Leaf, Sends, Stops, Prefix, Recvs, Serves, Splits, Selects, Decrypts, Checks, Begins, Ends, EndManys, Casts, Makes, Fork, Cases, Pars, Process, leaf, prefix, fork, binds, fork_binds}
+use Rattle.spi_term.specs.Term.{Message, bound, name, unit, pair, in_left, in_right, enc, hash, ends, checks, many, Effect, Ty, un, unit_ty, pair_ty, sum_ty, key, nonce, Leaf, Sends, Stops, Prefix, Recvs, Serves, Splits, Selects, Decrypts, Checks, Begins, Ends, EndManys, Casts, Freshes, Fork, Branches, Pars, Process, leaf, prefix, fork, binds, fork_binds}
 use Rattle.spi_term.specs.Substitution.{effect_map, ty_map, leaf_map, prefix_map, fork_map, process_map, process_put, process_put_two, put, replace}
 use Rattle.spi_term.specs.Names.{MessageOver, OfEffect, OfTy, OfLeaf, OfPrefix, OfFork, ProcessOver}
 use Rattle.spi_term.specs.Spelling.{index_message, indexed, numbered, flat}
@@ -49,10 +49,10 @@ module _ (f g h : ℕ → Message → Message) (P : ℕ → Message → Type 0) 
   outer_prefix d c e (Ends m) p = rw (ok d c e m p)
   outer_prefix d c e (EndManys m) p = rw (ok d c e m p)
   outer_prefix d c e (Casts m t) p = rw (ok d c e m p.0, outer_ty d c e t p.1)
-  outer_prefix d c e (Makes t) p = rw (outer_ty d c e t p)
+  outer_prefix d c e (Freshes t) p = rw (outer_ty d c e t p)
 
   outer_fork : (d c : ℕ) → d ≡ c + x → (b : Fork) → OfFork P c b → fork_map f d (fork_map g c b) ≡ fork_map h c b
-  outer_fork d c e (Cases m t u) p = rw (ok d c e m p.0, outer_ty d c e t p.1, outer_ty d c e u p.2)
+  outer_fork d c e (Branches m t u) p = rw (ok d c e m p.0, outer_ty d c e t p.1, outer_ty d c e u p.2)
   outer_fork d c e Pars p = refl
 
 -- closed messages

@@ -10,7 +10,7 @@ use Rattle.spi_replay.specs.declared.places.Place.{Place}
 use Rattle.spi_replay.specs.declared.running.State.{State}
 use Rattle.spi_replay.specs.Standing.{StandsAt, ArePlaces}
 use Rattle.spi_replay.specs.Pools.{pooled, IsState}
-use Rattle.spi_replay.specs.Started.{HasFirst}
+use Rattle.spi_replay.specs.Started.{HasFirstPlace}
 use Rattle.spi_replay.proofs.Does.{stands_kept}
 use Rattle.spi_replay.proofs.Takings.{same_links}
 use Rattle.spi_replay.proofs.Stepped.{start_pool, two_places}
@@ -20,7 +20,7 @@ on_ok (Ok x) f h = f h
 on_ok (Err e) f h = tt
 
 -- two places were added, at the first nodes of a and b
-module _ {s t u : State} (a b : Spelling) (g : HasFirst a s t) (h : HasFirst b t u) (empty : s.index.places.items ≡ []) where
+module _ {s t u : State} (a b : Spelling) (g : HasFirstPlace a s t) (h : HasFirstPlace b t u) (empty : s.index.places.items ≡ []) where
   both : u.index.places.items ≡ g.first ∷ (h.first ∷ [])
   both = h.added ∙ ap (λ (xs : List Place). xs ++ h.first ∷ []) (g.added ∙ ap (λ (xs : List Place). xs ++ g.first ∷ []) empty)
 

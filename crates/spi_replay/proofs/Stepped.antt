@@ -14,7 +14,7 @@ use Rattle.spi_run.specs.Reduction.{Configuration, act, talk, Event, Acts, Talks
 use Rattle.spi_run.specs.Safety.{beside}
 use Rattle.spi_run.proofs.Once.{takes_once}
 use Rattle.spi_replay.specs.Ready.{IsReady}
-use Rattle.spi_replay.specs.Stepping.{FirstOutside, outside_here, outside_later, bound_here, by_place, handed_over, bound_by, largest, message_most, Refuses, no_place, not_ready, too_large, too_many, event_in, IsTaken}
+use Rattle.spi_replay.specs.Stepping.{FirstOutside, outside_here, outside_later, bound_here, by_place, handed_over, bound_by, largest, message_most, RefusesPoolStep, no_place, not_ready, too_large, too_many, event_in, IsTaken}
 use Rattle.spi_replay.specs.declared.fault.StepFault.TheVariants.{NoPlace, NotReady, RunMessageTooLarge, TooManyPlaces}
 use Rattle.spi_replay.specs.declared.names.Link.{Link}
 use Rattle.spi_replay.specs.declared.places.Place.{Place}
@@ -146,32 +146,32 @@ module _ (ms : List Message) (ls : List Link) (ps : List Place) (n most i : ℕ)
       none : {x : Option Event} {d : Configuration} → Takes (configuration_of ms ls ps n) (act i) x d → ⊥
       none (takes_act b c) = still (at_unique b there) c
 
-  pub refuse_still : IsPlace ms ls p → wait_acts p.wait ≡ false → Refuses (configuration_of ms ls ps n) most (act i) (NotReady i)
+  pub refuse_still : IsPlace ms ls p → wait_acts p.wait ≡ false → RefusesPoolStep (configuration_of ms ls ps n) most (act i) (NotReady i)
   refuse_still h e = not_ready outside_no (act_outside_none h e)
 
-  pub refuse_large : IsPlace ms ls p → wait_acts p.wait ≡ true → message_most < wait_largest ms p.wait → Refuses (configuration_of ms ls ps n) most (act i) (RunMessageTooLarge (wait_largest ms p.wait))
+  pub refuse_large : IsPlace ms ls p → wait_acts p.wait ≡ true → message_most < wait_largest ms p.wait → RefusesPoolStep (configuration_of ms ls ps n) most (act i) (RunMessageTooLarge (wait_largest ms p.wait))
   refuse_large h e l =
       let f = act_largest h e in
-      subst (λ z. Refuses (configuration_of ms ls ps n) most (act i) (RunMessageTooLarge z)) (sym f) (too_large (act_ready h e) (omega (arith, f)))
+      subst (λ z. RefusesPoolStep (configuration_of ms ls ps n) most (act i) (RunMessageTooLarge z)) (sym f) (too_large (act_ready h e) (omega (arith, f)))
 
   pub act_small : IsPlace ms ls p → wait_acts p.wait ≡ true → wait_largest ms p.wait ≤ message_most → largest (bound_by (configuration_of ms ls ps n) (act i)) ≤ message_most
   act_small h e l = omega (arith, act_largest h e)
 
-  pub refuse_many : IsPlace ms ls p → wait_acts p.wait ≡ true → wait_largest ms p.wait ≤ message_most → most < length ps + wait_appends p.wait → Refuses (configuration_of ms ls ps n) most (act i) (TooManyPlaces (length ps + wait_appends p.wait))
+  pub refuse_many : IsPlace ms ls p → wait_acts p.wait ≡ true → wait_largest ms p.wait ≤ message_most → most < length ps + wait_appends p.wait → RefusesPoolStep (configuration_of ms ls ps n) most (act i) (TooManyPlaces (length ps + wait_appends p.wait))
   refuse_many h e l m =
       let a = acting p h in
       let o = outcome_at h e in
       let ts = slice_set (processes ms ls ps) i o.now ++ o.more in
       let c : length ts ≡ length ps + wait_appends p.wait = omega (arith, length-append (slice_set (processes ms ls ps) i o.now) o.more, length-set (processes ms ls ps) i o.now, length-map ps (place_process ms ls), o.count, (waits_tell a.waits).appends) in
-      subst (λ z. Refuses (configuration_of ms ls ps n) most (act i) (TooManyPlaces z)) c (too_many (takes_act there o.leads.acts) (act_small h e l) (omega (arith, c)))
+      subst (λ z. RefusesPoolStep (configuration_of ms ls ps n) most (act i) (TooManyPlaces z)) c (too_many (takes_act there o.leads.acts) (act_small h e l) (omega (arith, c)))
 
-pub refuse_large_by : (ms : List Message) (ls : List Link) (ps : List Place) (n most i : ℕ) {p : Place} (z : ℕ) → slice_get ps i ≡ Some p → IsPlace ms ls p → wait_acts p.wait ≡ true → z ≡ wait_largest ms p.wait → message_most < z → Refuses (configuration_of ms ls ps n) most (act i) (RunMessageTooLarge z)
-refuse_large_by ms ls ps n most i z at h e f l = subst (λ x. Refuses (configuration_of ms ls ps n) most (act i) (RunMessageTooLarge x)) (sym f) (refuse_large ms ls ps n most i at h e (omega (arith, f)))
+pub refuse_large_by : (ms : List Message) (ls : List Link) (ps : List Place) (n most i : ℕ) {p : Place} (z : ℕ) → slice_get ps i ≡ Some p → IsPlace ms ls p → wait_acts p.wait ≡ true → z ≡ wait_largest ms p.wait → message_most < z → RefusesPoolStep (configuration_of ms ls ps n) most (act i) (RunMessageTooLarge z)
+refuse_large_by ms ls ps n most i z at h e f l = subst (λ x. RefusesPoolStep (configuration_of ms ls ps n) most (act i) (RunMessageTooLarge x)) (sym f) (refuse_large ms ls ps n most i at h e (omega (arith, f)))
 
-pub refuse_many_by : (ms : List Message) (ls : List Link) (ps : List Place) (n most i : ℕ) {p : Place} (z : ℕ) → slice_get ps i ≡ Some p → IsPlace ms ls p → wait_acts p.wait ≡ true → wait_largest ms p.wait ≤ message_most → z ≡ length ps + wait_appends p.wait → most < z → Refuses (configuration_of ms ls ps n) most (act i) (TooManyPlaces z)
-refuse_many_by ms ls ps n most i z at h e s f l = subst (λ x. Refuses (configuration_of ms ls ps n) most (act i) (TooManyPlaces x)) (sym f) (refuse_many ms ls ps n most i at h e s (omega (arith, f)))
+pub refuse_many_by : (ms : List Message) (ls : List Link) (ps : List Place) (n most i : ℕ) {p : Place} (z : ℕ) → slice_get ps i ≡ Some p → IsPlace ms ls p → wait_acts p.wait ≡ true → wait_largest ms p.wait ≤ message_most → z ≡ length ps + wait_appends p.wait → most < z → RefusesPoolStep (configuration_of ms ls ps n) most (act i) (TooManyPlaces z)
+refuse_many_by ms ls ps n most i z at h e s f l = subst (λ x. RefusesPoolStep (configuration_of ms ls ps n) most (act i) (TooManyPlaces x)) (sym f) (refuse_many ms ls ps n most i at h e s (omega (arith, f)))
 
-pub refuse_place : (ms : List Message) (ls : List Link) (ps : List Place) (n most i : ℕ) → length ps ≤ i → Refuses (configuration_of ms ls ps n) most (act i) (NoPlace i)
+pub refuse_place : (ms : List Message) (ls : List Link) (ps : List Place) (n most i : ℕ) → length ps ≤ i → RefusesPoolStep (configuration_of ms ls ps n) most (act i) (NoPlace i)
 refuse_place ms ls ps n most i h = no_place (outside_here (omega (arith, length-map ps (place_process ms ls))))
 
 pub act_taken : {ms ns : List Message} {ls ks : List Link} {ps : List Place} (n most i : ℕ) (p : Place) (t : Taken) → KeepsAll ms ns → KeepsAll ls ks → ArePlaces ms ls ps → slice_get ps i ≡ Some p → wait_acts p.wait ≡ true → wait_largest ms p.wait ≤ message_most → length ps + wait_appends p.wait ≤ most → TakenBy ms ls ns ks n p t → IsTaken (pool_of ms ls ps n most) (act i) (event_in t.event) (pool_of ns ks (moved ps i t.now t.more) t.names most)
@@ -214,15 +214,15 @@ two_inside h g (outside_here l) = omega arith
 two_inside h g (outside_later l (outside_here l')) = omega arith
 two_inside h g (outside_later l (outside_later l' o)) = elim o [ ]
 
-pub refuse_out : (ms : List Message) (ls : List Link) (ps : List Place) (n most i j : ℕ) → length ps ≤ i → Refuses (configuration_of ms ls ps n) most (talk i j) (NoPlace i)
+pub refuse_out : (ms : List Message) (ls : List Link) (ps : List Place) (n most i j : ℕ) → length ps ≤ i → RefusesPoolStep (configuration_of ms ls ps n) most (talk i j) (NoPlace i)
 refuse_out ms ls ps n most i j h = no_place (outside_here (omega (arith, length-map ps (place_process ms ls))))
 
-pub refuse_inp : (ms : List Message) (ls : List Link) (ps : List Place) (n most i j : ℕ) → i < length ps → length ps ≤ j → Refuses (configuration_of ms ls ps n) most (talk i j) (NoPlace j)
+pub refuse_inp : (ms : List Message) (ls : List Link) (ps : List Place) (n most i j : ℕ) → i < length ps → length ps ≤ j → RefusesPoolStep (configuration_of ms ls ps n) most (talk i j) (NoPlace j)
 refuse_inp ms ls ps n most i j g h =
     no_place (outside_later (omega (arith, length-map ps (place_process ms ls), g)) (outside_here (omega (arith, length-map ps (place_process ms ls), h))))
 
 module _ (ms : List Message) (ls : List Link) (ps : List Place) (n most i j : ℕ) {p q : Place} (at : slice_get ps i ≡ Some p) (at' : slice_get ps j ≡ Some q) (h : ArePlaces ms ls ps) where
-  pub refuse_apart : AllDiffer ms → met_by p.wait q.wait ≡ None → Refuses (configuration_of ms ls ps n) most (talk i j) (NotReady i)
+  pub refuse_apart : AllDiffer ms → met_by p.wait q.wait ≡ None → RefusesPoolStep (configuration_of ms ls ps n) most (talk i j) (NotReady i)
   refuse_apart d e = not_ready (λ k o. two_inside (inside ms ls ps n most i at) (inside ms ls ps n most j at') o) (λ r. none r.2)
     where
       apart : {x y r : Process} {more : List Process} → x ≡ place_process ms ls p → y ≡ place_process ms ls q → Talks x y r more → ⊥
@@ -251,8 +251,8 @@ module _ (ms : List Message) (ls : List Link) (ps : List Place) (n most i j : �
         let l : largest (meet.datum ∷ []) ≡ message_size meet.datum = omega arith in
         ap stopped (s ∙ sym l ∙ ap largest (sym b))
 
-    pub refuse_talk_large : message_most < stopped (message_size (message_at ms m.datum)) → Refuses (configuration_of ms ls ps n) most (talk i j) (RunMessageTooLarge (stopped (message_size (message_at ms m.datum))))
-    refuse_talk_large l = subst (λ z. Refuses (configuration_of ms ls ps n) most (talk i j) (RunMessageTooLarge z)) (sym talk_largest) (too_large (None, _, talk_takes) (omega (arith, talk_largest)))
+    pub refuse_talk_large : message_most < stopped (message_size (message_at ms m.datum)) → RefusesPoolStep (configuration_of ms ls ps n) most (talk i j) (RunMessageTooLarge (stopped (message_size (message_at ms m.datum))))
+    refuse_talk_large l = subst (λ z. RefusesPoolStep (configuration_of ms ls ps n) most (talk i j) (RunMessageTooLarge z)) (sym talk_largest) (too_large (None, _, talk_takes) (omega (arith, talk_largest)))
 
     pub talk_small : stopped (message_size (message_at ms m.datum)) ≤ message_most → largest (bound_by (configuration_of ms ls ps n) (talk i j)) ≤ message_most
     talk_small l = omega (arith, talk_largest)
@@ -268,8 +268,8 @@ module _ (ms : List Message) (ls : List Link) (ps : List Place) (n most i j : �
     talk_many =
         omega (arith, length-append (slice_set (slice_set (processes ms ls ps) i stop) j result) extra, length-set (slice_set (processes ms ls ps) i stop) j result, length-set (processes ms ls ps) i stop, length-map ps (place_process ms ls), extra_many)
 
-    pub refuse_talk_many : stopped (message_size (message_at ms m.datum)) ≤ message_most → most < length ps + again_appends m.again → Refuses (configuration_of ms ls ps n) most (talk i j) (TooManyPlaces (length ps + again_appends m.again))
-    refuse_talk_many s l = subst (λ z. Refuses (configuration_of ms ls ps n) most (talk i j) (TooManyPlaces z)) talk_many (too_many talk_takes (talk_small s) (omega (arith, talk_many)))
+    pub refuse_talk_many : stopped (message_size (message_at ms m.datum)) ≤ message_most → most < length ps + again_appends m.again → RefusesPoolStep (configuration_of ms ls ps n) most (talk i j) (TooManyPlaces (length ps + again_appends m.again))
+    refuse_talk_many s l = subst (λ z. RefusesPoolStep (configuration_of ms ls ps n) most (talk i j) (TooManyPlaces z)) talk_many (too_many talk_takes (talk_small s) (omega (arith, talk_many)))
 
     places_then : {ns : List Message} {ks : List Link} (now : Place) → KeepsAll ms ns → KeepsAll ls ks → place_process ns ks now ≡ held_at q.source.now.names (meet.datum ∷ meet.values) (spelled q.source.now.names q.source.now.process) m.body → slice_set (slice_set (processes ms ls ps) i stop) j result ++ extra ≡ processes ns ks (settled ps i p j now m.again)
     places_then {ns} {ks} now k l f = by m.again
@@ -328,11 +328,11 @@ root_enters sp h =
 pub root_can : {ms : List Message} {ls : List Link} (sp : Spelling) → ProcessOver sp.names sp.process → CanEnter ms ls sp 0 0
 root_can sp h = record { values = []; enters = root_enters sp h }
 
-pub refuse_talk_large_by : (ms : List Message) (ls : List Link) (ps : List Place) (n most i j : ℕ) {p q : Place} (m : Meeting) (z : ℕ) → slice_get ps i ≡ Some p → slice_get ps j ≡ Some q → ArePlaces ms ls ps → met_by p.wait q.wait ≡ Some m → z ≡ stopped (message_size (message_at ms m.datum)) → message_most < z → Refuses (configuration_of ms ls ps n) most (talk i j) (RunMessageTooLarge z)
-refuse_talk_large_by ms ls ps n most i j m z at at' h e f l = subst (λ x. Refuses (configuration_of ms ls ps n) most (talk i j) (RunMessageTooLarge x)) (sym f) (refuse_talk_large ms ls ps n most i j at at' h m e (omega (arith, f)))
+pub refuse_talk_large_by : (ms : List Message) (ls : List Link) (ps : List Place) (n most i j : ℕ) {p q : Place} (m : Meeting) (z : ℕ) → slice_get ps i ≡ Some p → slice_get ps j ≡ Some q → ArePlaces ms ls ps → met_by p.wait q.wait ≡ Some m → z ≡ stopped (message_size (message_at ms m.datum)) → message_most < z → RefusesPoolStep (configuration_of ms ls ps n) most (talk i j) (RunMessageTooLarge z)
+refuse_talk_large_by ms ls ps n most i j m z at at' h e f l = subst (λ x. RefusesPoolStep (configuration_of ms ls ps n) most (talk i j) (RunMessageTooLarge x)) (sym f) (refuse_talk_large ms ls ps n most i j at at' h m e (omega (arith, f)))
 
-pub refuse_talk_many_by : (ms : List Message) (ls : List Link) (ps : List Place) (n most i j : ℕ) {p q : Place} (m : Meeting) (z : ℕ) → slice_get ps i ≡ Some p → slice_get ps j ≡ Some q → ArePlaces ms ls ps → met_by p.wait q.wait ≡ Some m → stopped (message_size (message_at ms m.datum)) ≤ message_most → z ≡ length ps + again_appends m.again → most < z → Refuses (configuration_of ms ls ps n) most (talk i j) (TooManyPlaces z)
-refuse_talk_many_by ms ls ps n most i j m z at at' h e s f l = subst (λ x. Refuses (configuration_of ms ls ps n) most (talk i j) (TooManyPlaces x)) (sym f) (refuse_talk_many ms ls ps n most i j at at' h m e s (omega (arith, f)))
+pub refuse_talk_many_by : (ms : List Message) (ls : List Link) (ps : List Place) (n most i j : ℕ) {p q : Place} (m : Meeting) (z : ℕ) → slice_get ps i ≡ Some p → slice_get ps j ≡ Some q → ArePlaces ms ls ps → met_by p.wait q.wait ≡ Some m → stopped (message_size (message_at ms m.datum)) ≤ message_most → z ≡ length ps + again_appends m.again → most < z → RefusesPoolStep (configuration_of ms ls ps n) most (talk i j) (TooManyPlaces z)
+refuse_talk_many_by ms ls ps n most i j m z at at' h e s f l = subst (λ x. RefusesPoolStep (configuration_of ms ls ps n) most (talk i j) (TooManyPlaces x)) (sym f) (refuse_talk_many ms ls ps n most i j at at' h m e s (omega (arith, f)))
 
 -- the datum has a number
 pub datum_below : {ms : List Message} {ls : List Link} {ps : List Place} (i j : ℕ) {p q : Place} (m : Meeting) → slice_get ps i ≡ Some p → slice_get ps j ≡ Some q → ArePlaces ms ls ps → met_by p.wait q.wait ≡ Some m → m.datum.place < length ms

@@ -3,7 +3,7 @@ use Rattle.std.proofs.Common.{◌≡◌, ℕ, zero, suc, ◌+◌, List, [], ◌�
 use Rattle.spi_term.specs.Term.{Leaf, Prefix, Fork, Process, leaf, prefix, fork, binds, fork_binds, process_size}
 use Rattle.spi_term.specs.Names.{MessageOver, OfLeaf, OfPrefix, OfFork, ProcessOver}
 use Rattle.spi_term.specs.Spelling.{Shape, leaf_at, prefix_at, fork_at, numbered, spelled, on_one, on_two, built, first_of_all}
-use Rattle.spi_term.specs.Arena.{InScope, Item, item, Reads, no_node, leaf_on, prefix_on, fork_on, IsArena, scope_of}
+use Rattle.spi_term.specs.Arena.{InScope, ScopedProcess, item, ReadsProcesses, no_node, leaf_on, prefix_on, fork_on, IsArena, scope_of}
 use Rattle.spi_term.proofs.Rows.{reads_rest, reads_sound, arena_reads, arena_readable}
 use Rattle.spi_term.proofs.Numbers.{numbered_in_scope}
 use Rattle.spi_replay.specs.Holding.{subtree}
@@ -25,11 +25,11 @@ next_drop [] (suc i) x r e = absurd cc
 next_drop (y ∷ ss) zero x r e = cc
 next_drop (y ∷ ss) (suc i) x r e = next_drop ss i x r e
 
-abbrev trees : List Item → List Process
+abbrev trees : List ScopedProcess → List Process
 trees [] = []
 trees (item k q ∷ st) = q ∷ trees st
 
-built_reads : {i : ℕ} {ss : List Shape} {st : List Item} → Reads i ss st → built ss ≡ trees st
+built_reads : {i : ℕ} {ss : List Shape} {st : List ScopedProcess} → ReadsProcesses i ss st → built ss ≡ trees st
 built_reads no_node = refl
 built_reads (leaf_on {l = l} h r) = ap (λ x. leaf l ∷ x) (built_reads r)
 built_reads (prefix_on {s = s} h e r) = ap (on_one s) (built_reads r)
@@ -42,13 +42,13 @@ record Heads (ss : List Shape) (s : ℕ) : Type 0 where
   pub is : ss ≡ shape ∷ rest
   pub scope : scope_of shape ≡ s
 
-heads : {i s : ℕ} {p : Process} {ss : List Shape} {st : List Item} → Reads i ss (item s p ∷ st) → Heads ss s
+heads : {i s : ℕ} {p : Process} {ss : List Shape} {st : List ScopedProcess} → ReadsProcesses i ss (item s p ∷ st) → Heads ss s
 heads (leaf_on {k = k} {l = l} {ss = ss} h r) = record { shape = leaf_at k l; rest = ss; is = refl; scope = refl }
 heads (prefix_on {k = k} {b = b} {s = s} {ss = ss} h e r) = record { shape = prefix_at k s b; rest = ss; is = refl; scope = refl }
 heads (fork_on {k = k} {a = a} {r = r'} {f = f} {ss = ss} h e g r) = record { shape = fork_at k f a r'; rest = ss; is = refl; scope = refl }
 
 -- a node with s names in scope
-pub record Follows (ss : List Shape) (i s : ℕ) : Type 0 where
+pub record FollowsNode (ss : List Shape) (i s : ℕ) : Type 0 where
   pub shape : Shape
   pub there : slice_get ss i ≡ Some shape
   pub scope : scope_of shape ≡ s
@@ -57,13 +57,13 @@ pub record Follows (ss : List Shape) (i s : ℕ) : Type 0 where
 -- the process at a node by its form
 pub data IsNode (ss : List Shape) (i : ℕ) : Shape → Type 0 where
   node_leaf : {s : ℕ} {l : Leaf} → OfLeaf (MessageOver s) 0 l → subtree ss i ≡ leaf l → IsNode ss i (leaf_at s l)
-  node_prefix : {s b : ℕ} {t : Prefix} → OfPrefix (MessageOver s) 0 t → subtree ss i ≡ prefix t (subtree ss b) → Follows ss b (s + binds t) → IsNode ss i (prefix_at s t b)
-  node_fork : {s a r : ℕ} {f : Fork} → OfFork (MessageOver s) 0 f → subtree ss i ≡ fork f (subtree ss a) (subtree ss r) → Follows ss a (s + fork_binds f) → Follows ss r (s + fork_binds f) → IsNode ss i (fork_at s f a r)
+  node_prefix : {s b : ℕ} {t : Prefix} → OfPrefix (MessageOver s) 0 t → subtree ss i ≡ prefix t (subtree ss b) → FollowsNode ss b (s + binds t) → IsNode ss i (prefix_at s t b)
+  node_fork : {s a r : ℕ} {f : Fork} → OfFork (MessageOver s) 0 f → subtree ss i ≡ fork f (subtree ss a) (subtree ss r) → FollowsNode ss a (s + fork_binds f) → FollowsNode ss r (s + fork_binds f) → IsNode ss i (fork_at s f a r)
 
-tree_at : (ss : List Shape) (i s : ℕ) (p : Process) (st : List Item) → Reads i (drop i ss) (item s p ∷ st) → subtree ss i ≡ p
+tree_at : (ss : List Shape) (i s : ℕ) (p : Process) (st : List ScopedProcess) → ReadsProcesses i (drop i ss) (item s p ∷ st) → subtree ss i ≡ p
 tree_at ss i s p st r = ap first_of_all (built_reads r)
 
-follows : (ss : List Shape) (i s : ℕ) (p : Process) (st : List Item) → Reads i (drop i ss) (item s p ∷ st) → Follows ss i s
+follows : (ss : List Shape) (i s : ℕ) (p : Process) (st : List ScopedProcess) → ReadsProcesses i (drop i ss) (item s p ∷ st) → FollowsNode ss i s
 follows ss i s p st r =
     let h = heads r in
     record {
@@ -73,10 +73,10 @@ follows ss i s p st r =
       within = subst (InScope s) (sym (tree_at ss i s p st r)) (reads_sound r).0.0;
     }
 
-read_at : {i j : ℕ} {ss ss' : List Shape} {st : List Item} → i ≡ j → ss ≡ ss' → Reads i ss st → Reads j ss' st
-read_at {i} {j} {ss} {ss'} {st} e f r = subst (λ n. Reads n ss' st) e (subst (λ l. Reads i l st) f r)
+read_at : {i j : ℕ} {ss ss' : List Shape} {st : List ScopedProcess} → i ≡ j → ss ≡ ss' → ReadsProcesses i ss st → ReadsProcesses j ss' st
+read_at {i} {j} {ss} {ss'} {st} e f r = subst (λ n. ReadsProcesses n ss' st) e (subst (λ l. ReadsProcesses i l st) f r)
 
-node_from : (ss : List Shape) (i : ℕ) (x : Shape) (rest : List Shape) (st : List Item) → drop i ss ≡ x ∷ rest → Reads i (x ∷ rest) st → IsNode ss i x
+node_from : (ss : List Shape) (i : ℕ) (x : Shape) (rest : List Shape) (st : List ScopedProcess) → drop i ss ≡ x ∷ rest → ReadsProcesses i (x ∷ rest) st → IsNode ss i x
 node_from ss i _ rest _ d (leaf_on {k = k} {l = l} h r) = node_leaf h (ap (λ x. first_of_all (built x)) d)
 node_from ss i _ rest _ d (prefix_on {k = k} {b = b} {s = s} {p = p} {st = st} h e r) =
     let n = next_drop ss i (prefix_at k s b) rest d in
@@ -110,7 +110,7 @@ root_tree k p h =
     let a = spelled_arena k p h in
     tree_at (spelled k p) 0 k (numbered [] k p) [] (arena_reads k (spelled k p) (numbered [] k p) a.1 refl)
 
-pub root_follows : (k : ℕ) (p : Process) → ProcessOver k p → Follows (spelled k p) 0 k
+pub root_follows : (k : ℕ) (p : Process) → ProcessOver k p → FollowsNode (spelled k p) 0 k
 unfolding spelled_arena
 root_follows k p h =
     let a = spelled_arena k p h in

@@ -3,10 +3,10 @@ use Rattle.std.proofs.Common.{◌≡◌, ℕ, ◌+◌, ◌<◌, ◌≤◌, List,
 use Rattle.std.specs.Option.{option_to_list}
 use Rattle.spi_term.specs.Term.{Process}
 use Rattle.spi_term.specs.Lists.{At, at_first, at_later}
-use Rattle.spi_run.specs.Reduction.{Configuration, Step, Event, Acts, acts_split, acts_match, acts_inl, acts_inr, acts_decrypt, acts_check, acts_begin, acts_end, acts_end_many, acts_cast, acts_new, acts_par, Takes, takes_act, takes_talk, Runs, runs_silent, runs_event}
+use Rattle.spi_run.specs.Reduction.{Configuration, Step, Event, Acts, acts_split, acts_select, acts_inl, acts_inr, acts_decrypt, acts_check, acts_begin, acts_end, acts_end_many, acts_cast, acts_fresh, acts_par, Takes, takes_act, takes_talk, Runs, runs_silent, runs_event}
 use Rattle.spi_run.proofs.Once.{takes_once}
 use Rattle.spi_replay.specs.declared.fault.StepFault.{StepFault}
-use Rattle.spi_replay.specs.Stepping.{Pooled, IsTaken, Refuses, no_place, not_ready, too_large, too_many, FirstOutside, outside_here, outside_later, places_named}
+use Rattle.spi_replay.specs.Stepping.{Pooled, IsTaken, RefusesPoolStep, no_place, not_ready, too_large, too_many, FirstOutside, outside_here, outside_later, places_named}
 
 pooled_same : (m n : Pooled) → m.configuration ≡ n.configuration → m.most ≡ n.most → m ≡ n
 pooled_same m n e f = λ i. record { configuration = e i; most = f i }
@@ -35,7 +35,7 @@ takes_inside (takes_act a x) o = one_outside (at_within a) o
 takes_inside (takes_talk a b t) o = none_outside (at_within a) (at_within b) o
 
 -- a step that is taken isn't refused
-pub taken_never : {old new : Pooled} {s : Step} {e : Option Event} {f : StepFault} → IsTaken old s e new → Refuses old.configuration old.most s f → ⊥
+pub taken_never : {old new : Pooled} {s : Step} {e : Option Event} {f : StepFault} → IsTaken old s e new → RefusesPoolStep old.configuration old.most s f → ⊥
 taken_never t (no_place o) = takes_inside t.takes o
 taken_never {new = new} {e = e} t (not_ready inside never) = never (e, new.configuration, t.takes)
 taken_never t (too_large ready large) = let small = t.small in omega (arith, small, large)
@@ -48,7 +48,7 @@ taken_never {new = new} t (too_many {d = d} takes small many) =
 -- it uses at most one more name
 acts_names : {n n' : ℕ} {p p' : Process} {e : Option Event} {more : List Process} → Acts n p e n' p' more → n' ≤ n + 1
 acts_names acts_split = omega arith
-acts_names (acts_match e) = omega arith
+acts_names (acts_select e) = omega arith
 acts_names acts_inl = omega arith
 acts_names acts_inr = omega arith
 acts_names (acts_decrypt e) = omega arith
@@ -57,7 +57,7 @@ acts_names acts_begin = omega arith
 acts_names acts_end = omega arith
 acts_names acts_end_many = omega arith
 acts_names acts_cast = omega arith
-acts_names acts_new = omega arith
+acts_names acts_fresh = omega arith
 acts_names acts_par = omega arith
 
 pub takes_names : {c d : Configuration} {s : Step} {e : Option Event} → Takes c s e d → d.names ≤ c.names + 1

@@ -20,8 +20,8 @@ use Rattle.spi_replay.specs.declared.places.Place.{Place}
 use Rattle.spi_replay.specs.declared.waits.Wait.{Wait}
 use Rattle.spi_replay.specs.declared.waits.Wait.TheVariants as W
 use Rattle.spi_replay.specs.Holding.{value, chain, held_at}
-use Rattle.spi_replay.specs.Waiting.{split_wait, select_wait, decrypt_wait, case_wait, check_wait}
-use Rattle.spi_replay.specs.Moves.{Move, stays, puts, split_move, select_move, decrypt_move, case_move, check_move, move_of, Numbers, Waits, w_stays, w_puts, w_binds_one, w_binds_two, w_goes_on}
+use Rattle.spi_replay.specs.Waiting.{split_wait, select_wait, decrypt_wait, branch_wait, check_wait}
+use Rattle.spi_replay.specs.Moves.{Move, stays, puts, split_move, select_move, decrypt_move, branch_move, check_move, move_of, Numbers, Waits, w_stays, w_puts, w_binds_one, w_binds_two, w_goes_on}
 use Rattle.spi_replay.specs.Standing.{InScopeOf, HasNames, IsInstance, WaitsFor, AreBelow, Enters, CanEnter, StandsAt, HasEntered}
 use Rattle.spi_replay.proofs.Subtrees.{IsNode, node_leaf, node_prefix, node_fork, node_at}
 use Rattle.spi_replay.proofs.Chains.{chain_is, chain_kept, stand_kept}
@@ -78,15 +78,15 @@ decrypt_waits j i d h (says_right a) = w_stays
 decrypt_waits j {n} i d h (says_enc {b = y} {n = k} a b) = if_waits (y.place == j.place) (same_message k n) (same_by y j d b h) (w_binds_one a)
 decrypt_waits j i d h (says_hash a) = w_stays
 
-pub case_waits : {ms : List Message} {p : MsgPart} {m : Message} (i j : ℕ) → Says ms p m → Waits ms (case_wait p i j) (case_move m i j)
-case_waits i j says_bound = w_stays
-case_waits i j says_name = w_stays
-case_waits i j says_unit = w_stays
-case_waits i j (says_pair a b) = w_stays
-case_waits i j (says_left a) = w_binds_one a
-case_waits i j (says_right a) = w_binds_one a
-case_waits i j (says_enc a b) = w_stays
-case_waits i j (says_hash a) = w_stays
+pub branch_waits : {ms : List Message} {p : MsgPart} {m : Message} (i j : ℕ) → Says ms p m → Waits ms (branch_wait p i j) (branch_move m i j)
+branch_waits i j says_bound = w_stays
+branch_waits i j says_name = w_stays
+branch_waits i j says_unit = w_stays
+branch_waits i j (says_pair a b) = w_stays
+branch_waits i j (says_left a) = w_binds_one a
+branch_waits i j (says_right a) = w_binds_one a
+branch_waits i j (says_enc a b) = w_stays
+branch_waits i j (says_hash a) = w_stays
 
 -- a number that a call gave
 pub given_below : {old new : List Message} {ls : List Link} {sc : Scope} {m : Message} {id : MsgId} → HasNames old ls sc → IsInstance old new ls sc m id → id.place < length new
@@ -104,8 +104,8 @@ puts_for x y = record { at = λ vs h. w_puts (x.at vs h) (y.at vs h) }
 pub split_for : {old new : List Message} {ls : List Link} {sc : Scope} {m : Message} {id : MsgId} (p : MsgPart) (i : ℕ) (w : Wait) → IsInstance old new ls sc m id → ((n : Message) → Numbers new id n → Says new p n) → w ≡ split_wait p i → WaitsFor old new ls sc (λ f. split_move (replace f m) i) w
 split_for {new = new} {sc = sc} {m = m} p i w x s e = record { at = λ vs h. subst (λ v. Waits new v (split_move (replace (value sc.free vs) m) i)) (sym e) (split_waits i (s _ (x.at vs h))) }
 
-pub case_for : {old new : List Message} {ls : List Link} {sc : Scope} {m : Message} {id : MsgId} (p : MsgPart) (i j : ℕ) (w : Wait) → IsInstance old new ls sc m id → ((n : Message) → Numbers new id n → Says new p n) → w ≡ case_wait p i j → WaitsFor old new ls sc (λ f. case_move (replace f m) i j) w
-case_for {new = new} {sc = sc} {m = m} p i j w x s e = record { at = λ vs h. subst (λ v. Waits new v (case_move (replace (value sc.free vs) m) i j)) (sym e) (case_waits i j (s _ (x.at vs h))) }
+pub branch_for : {old new : List Message} {ls : List Link} {sc : Scope} {m : Message} {id : MsgId} (p : MsgPart) (i j : ℕ) (w : Wait) → IsInstance old new ls sc m id → ((n : Message) → Numbers new id n → Says new p n) → w ≡ branch_wait p i j → WaitsFor old new ls sc (λ f. branch_move (replace f m) i j) w
+branch_for {new = new} {sc = sc} {m = m} p i j w x s e = record { at = λ vs h. subst (λ v. Waits new v (branch_move (replace (value sc.free vs) m) i j)) (sym e) (branch_waits i j (s _ (x.at vs h))) }
 
 pub select_for : {old new : List Message} {ls : List Link} {sc : Scope} {m n : Message} {id j : MsgId} (p : MsgPart) (i : ℕ) (w : Wait) → AllDiffer new → IsInstance old new ls sc m id → IsInstance old new ls sc n j → ((n : Message) → Numbers new id n → Says new p n) → w ≡ select_wait p j i → WaitsFor old new ls sc (λ f. select_move (replace f m) (replace f n) i) w
 select_for {new = new} {sc = sc} {m = m} {n = n} {id = id} {j = j} p i w d x y s e = record { at = λ vs h. subst (λ v. Waits new v (select_move (replace (value sc.free vs) m) (replace (value sc.free vs) n) i)) (sym e) (select_waits j i d (y.at vs h) (s _ (x.at vs h))) }

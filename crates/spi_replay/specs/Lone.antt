@@ -6,8 +6,8 @@ use Rattle.spi_replay.specs.declared.waits.Lone.{Lone}
 use Rattle.spi_replay.specs.declared.waits.Lone.TheVariants.{Takes, TakesAgain, BindsOne, Shows, Splits, Branches}
 use Rattle.spi_replay.specs.declared.waits.Wait.{Wait}
 use Rattle.spi_replay.specs.declared.waits.Wait.TheVariants as W
-use Rattle.spi_replay.specs.Waiting.{split_wait, case_wait}
-use Rattle.spi_replay.specs.Moves.{Move, takes, takes_again, binds_one, shows, split_move, case_move}
+use Rattle.spi_replay.specs.Waiting.{split_wait, branch_wait}
+use Rattle.spi_replay.specs.Moves.{Move, takes, takes_again, binds_one, shows, split_move, branch_move}
 
 -- by the number of the message and its parts
 abbrev pub lone_wait : Lone → MsgId → MsgPart → Wait
@@ -16,7 +16,7 @@ lone_wait (TakesAgain i) n p = W.TakesAgain n i
 lone_wait (BindsOne i) n p = W.BindsOne n i
 lone_wait (Shows k i) n p = W.Shows k n i
 lone_wait (Splits i) n p = split_wait p i
-lone_wait (Branches i j) n p = case_wait p i j
+lone_wait (Branches i j) n p = branch_wait p i j
 
 -- by the message
 abbrev pub lone_move : Lone → Message → Move
@@ -25,4 +25,4 @@ lone_move (TakesAgain i) m = takes_again m i
 lone_move (BindsOne i) m = binds_one m i
 lone_move (Shows k i) m = shows k m i
 lone_move (Splits i) m = split_move m i
-lone_move (Branches i j) m = case_move m i j
+lone_move (Branches i j) m = branch_move m i j

@@ -1,6 +1,6 @@
 -- What a node waits for, with messages for the names in scope, and what follows.
 use Rattle.std.specs.Prelude.{◌≡◌, ℕ, Bool, true, false, if◌then◌else◌, List, [], ◌∷◌, Some, slice_get}
-use Rattle.spi_term.specs.Term.{Message, name, pair, in_left, in_right, enc, same_message, Sends, Stops, Recvs, Serves, Splits, Selects, Decrypts, Checks, Begins, Ends, EndManys, Casts, Makes, Cases, Pars}
+use Rattle.spi_term.specs.Term.{Message, name, pair, in_left, in_right, enc, same_message, Sends, Stops, Recvs, Serves, Splits, Selects, Decrypts, Checks, Begins, Ends, EndManys, Casts, Freshes, Branches, Pars}
 use Rattle.spi_term.specs.Substitution.{replace}
 use Rattle.spi_term.specs.Spelling.{Shape, leaf_at, prefix_at, fork_at}
 use Rattle.spi_run.specs.Reduction.{Event, begun, ended, ended_many}
@@ -40,10 +40,10 @@ abbrev pub decrypt_move : Message → Message → ℕ → Move
 decrypt_move (enc a k) n i = if same_message k n then binds_one a i else stays
 decrypt_move m n i = stays
 
-abbrev pub case_move : Message → ℕ → ℕ → Move
-case_move (in_left a) i j = binds_one a i
-case_move (in_right a) i j = binds_one a j
-case_move m i j = stays
+abbrev pub branch_move : Message → ℕ → ℕ → Move
+branch_move (in_left a) i j = binds_one a i
+branch_move (in_right a) i j = binds_one a j
+branch_move m i j = stays
 
 abbrev pub check_move : Message → Message → ℕ → Move
 check_move m n i = if same_message m n then goes_on i else stays
@@ -61,8 +61,8 @@ move_of f (prefix_at s (Begins m) i) = shows Begin (replace f m) i
 move_of f (prefix_at s (Ends m) i) = shows End (replace f m) i
 move_of f (prefix_at s (EndManys m) i) = shows EndMany (replace f m) i
 move_of f (prefix_at s (Casts m t) i) = binds_one (replace f m) i
-move_of f (prefix_at s (Makes t) i) = makes i
-move_of f (fork_at s (Cases m t u) i j) = case_move (replace f m) i j
+move_of f (prefix_at s (Freshes t) i) = makes i
+move_of f (fork_at s (Branches m t u) i j) = branch_move (replace f m) i j
 move_of f (fork_at s Pars i j) = forks i j
 
 -- the number is that of the message
@@ -82,7 +82,7 @@ pub data Waits (ms : List Message) : Wait → Move → Type 0 where
   w_goes_on : {b : ℕ} → Waits ms (W.GoesOn b) (goes_on b)
   w_shows : {k : Kind} {i : MsgId} {m : Message} {b : ℕ} → Numbers ms i m
       → Waits ms (W.Shows k i b) (shows k m b)
-  w_makes : {b : ℕ} → Waits ms (W.Makes b) (makes b)
+  w_makes : {b : ℕ} → Waits ms (W.Freshes b) (makes b)
   w_forks : {a b : ℕ} → Waits ms (W.Forks a b) (forks a b)
 
 -- what is bound to a name or shown, where n names are used

@@ -51,6 +51,6 @@ AreAscending [] = ⊤
 AreAscending (i ∷ is) = ((j : ℕ) → In j is → i < j) × AreAscending is
 
 -- the places whose processes are such, ascending
-pub record ArePlaces (P : Process → Type 0) (ps : List Process) (is : List ℕ) : Type 0 where
+pub record AreReadyPlaces (P : Process → Type 0) (ps : List Process) (is : List ℕ) : Type 0 where
   pub each : (i : ℕ) → In i is ↔ ((p : Process) × At ps i p × P p)
   pub ascending : AreAscending is

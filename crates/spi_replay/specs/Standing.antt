@@ -90,7 +90,7 @@ abbrev pub processes : List Message → List Link → List Place → List Proces
 processes ms ls ps = map (place_process ms ls) ps
 
 -- stores and links grow at their ends
-pub record Grows (ms : List Message) (ls : List Link) (ms' : List Message) (ls' : List Link) : Type 0 where
+pub record GrowAtEnds (ms : List Message) (ls : List Link) (ms' : List Message) (ls' : List Link) : Type 0 where
   pub messages : KeepsAll ms ms'
   pub links : KeepsAll ls ls'
 

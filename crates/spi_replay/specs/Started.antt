@@ -7,7 +7,7 @@ use Rattle.spi_replay.specs.declared.running.State.{State}
 use Rattle.spi_replay.specs.Standing.{StandsAt}
 
 -- one place more, which stands at the first node of a process
-pub record HasFirst (sp : Spelling) (old new : State) : Type 0 where
+pub record HasFirstPlace (sp : Spelling) (old new : State) : Type 0 where
   pub first : Place
   pub stands : StandsAt new.store.messages new.links.items sp 0 [] first
   pub added : new.index.places.items ≡ old.index.places.items ++ first ∷ []

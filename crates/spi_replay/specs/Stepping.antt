@@ -61,15 +61,15 @@ abbrev pub message_most : ℕ
 message_most = 1000
 
 -- why a step is refused, in this order
-pub data Refuses (c : Configuration) (most : ℕ) (s : Step) : StepFault → Type 0 where
-  no_place : {i : ℕ} → FirstOutside (length c.places) (places_named s) i → Refuses c most s (NoPlace i)
+pub data RefusesPoolStep (c : Configuration) (most : ℕ) (s : Step) : StepFault → Type 0 where
+  no_place : {i : ℕ} → FirstOutside (length c.places) (places_named s) i → RefusesPoolStep c most s (NoPlace i)
   not_ready : ((i : ℕ) → FirstOutside (length c.places) (places_named s) i → ⊥) → (IsReady c s → ⊥)
-      → Refuses c most s (NotReady (first_place s))
+      → RefusesPoolStep c most s (NotReady (first_place s))
   too_large : IsReady c s → message_most < largest (bound_by c s)
-      → Refuses c most s (RunMessageTooLarge (stopped (largest (bound_by c s))))
+      → RefusesPoolStep c most s (RunMessageTooLarge (stopped (largest (bound_by c s))))
   too_many : {e : Option Event} {d : Configuration} → Takes c s e d → largest (bound_by c s) ≤ message_most
       → most < length d.places
-      → Refuses c most s (TooManyPlaces (length d.places))
+      → RefusesPoolStep c most s (TooManyPlaces (length d.places))
 
 -- the event of a step, where it has one
 abbrev pub event_in : Option declared.Event → Option Event

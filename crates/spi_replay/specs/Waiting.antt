@@ -8,7 +8,7 @@ use Rattle.spi_intern.specs.declared.messages.MsgId.{MsgId}
 use Rattle.spi_intern.specs.declared.messages.MsgPart.{MsgPart}
 use Rattle.spi_intern.specs.declared.messages.MsgPart.TheVariants.{Pair, Inl, Inr, Enc}
 use Rattle.spi_replay.specs.declared.waits.Wait.{Wait}
-use Rattle.spi_replay.specs.declared.waits.Wait.TheVariants.{Stays, Puts, Takes, TakesAgain, BindsOne, BindsTwo, GoesOn, Shows, Makes, Forks}
+use Rattle.spi_replay.specs.declared.waits.Wait.TheVariants.{Stays, Puts, Takes, TakesAgain, BindsOne, BindsTwo, GoesOn, Shows, Freshes, Forks}
 
 abbrev pub split_wait : MsgPart → ℕ → Wait
 split_wait (Pair a b) i = BindsTwo a b i
@@ -22,10 +22,10 @@ abbrev pub decrypt_wait : MsgPart → MsgId → ℕ → Wait
 decrypt_wait (Enc a k) n i = if k.place == n.place then BindsOne a i else Stays
 decrypt_wait p n i = Stays
 
-abbrev pub case_wait : MsgPart → ℕ → ℕ → Wait
-case_wait (Inl a) i j = BindsOne a i
-case_wait (Inr a) i j = BindsOne a j
-case_wait p i j = Stays
+abbrev pub branch_wait : MsgPart → ℕ → ℕ → Wait
+branch_wait (Inl a) i j = BindsOne a i
+branch_wait (Inr a) i j = BindsOne a j
+branch_wait p i j = Stays
 
 abbrev pub check_wait : MsgId → MsgId → ℕ → Wait
 check_wait m n i = if m.place == n.place then GoesOn i else Stays
@@ -55,7 +55,7 @@ wait_largest ms (BindsOne i b) = stopped (message_size (message_at ms i))
 wait_largest ms (BindsTwo i j b) =
     max (stopped (message_size (message_at ms i))) (stopped (message_size (message_at ms j)))
 wait_largest ms (Shows k i b) = stopped (message_size (message_at ms i))
-wait_largest ms (Makes b) = 1
+wait_largest ms (Freshes b) = 1
 wait_largest ms w = 0
 
 -- an output and an input on one channel

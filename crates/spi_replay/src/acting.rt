@@ -143,7 +143,7 @@ fn take_making<'p>(
     body: u32,
 ) -> Result<Taken<'p>, NoMemory>
     requires is { IsPlace store.old.messages links.old.items place.now }
-    requires waits { place.now.wait ≡ Wait.Makes body }
+    requires waits { place.now.wait ≡ Wait.Freshes body }
     requires names { names < 2 ^ 32 - 1 }
     ensures taken { IfOk result
         (TakenBy store.old.messages links.old.items store.new.messages links.new.items names place.now) }
@@ -214,7 +214,7 @@ pub fn take<'p>(
         Wait::Shows(kind, label, body) => take_showing(
             alloc, store, links, place, names, kind, label, body,
         ),
-        Wait::Makes(body) => take_making(store, links, place, names, body),
+        Wait::Freshes(body) => take_making(store, links, place, names, body),
         Wait::Forks(first, rest) => take_forking(store, links, place, names, first, rest),
     }
 }

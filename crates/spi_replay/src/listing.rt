@@ -6,7 +6,7 @@ ghost use Rattle.spi_term.specs.View.{message};
 ghost use Rattle.spi_intern.specs.Messages.{message_at};
 ghost use Rattle.spi_run.specs.Reduction.{Step as StepTerm};
 ghost use Rattle.spi_run.specs.View.{step as step_of};
-ghost use Rattle.spi_replay.specs.Ready.{AreReady, count_at, ArePlaces, PutsOut, TakesIn};
+ghost use Rattle.spi_replay.specs.Ready.{AreReady, count_at, AreReadyPlaces, PutsOut, TakesIn};
 ghost use Rattle.spi_replay.specs.Indexed.{out_channel, in_channel};
 ghost use Rattle.spi_replay.specs.Listing.{steps_begun};
 ghost use Rattle.spi_replay.specs.Pools.{pooled, IsState};
@@ -166,7 +166,7 @@ fn waited_on(state: &State<'_>, channel: &Msg) -> Option<MsgId>
 /// The ascending places that put out on a channel.
 pub fn outs_on<'s>(state: &'s State<'_>, channel: &Msg) -> &'s [u32]
     requires { IsState state.now }
-    ensures { ArePlaces (PutsOut (message channel.now)) (pooled state.now).configuration.places result.now }
+    ensures { AreReadyPlaces (PutsOut (message channel.now)) (pooled state.now).configuration.places result.now }
 {
     // The count is asked for what its answer says: no message has two numbers.
     let _ = state.store.distinct();
@@ -179,7 +179,7 @@ pub fn outs_on<'s>(state: &'s State<'_>, channel: &Msg) -> &'s [u32]
 /// The ascending places that take in on a channel.
 pub fn ins_on<'s>(state: &'s State<'_>, channel: &Msg) -> &'s [u32]
     requires { IsState state.now }
-    ensures { ArePlaces (TakesIn (message channel.now)) (pooled state.now).configuration.places result.now }
+    ensures { AreReadyPlaces (TakesIn (message channel.now)) (pooled state.now).configuration.places result.now }
 {
     // The count is asked for what its answer says: no message has two numbers.
     let _ = state.store.distinct();

@@ -168,7 +168,7 @@ fn wait_at(store: &mut Store, links: &[Link], scope: Scope, node: &Node) -> Resu
             whole,
             Lone::BindsOne(*body),
         ),
-        Form::Fresh { body, .. } => Ok(Wait::Makes(*body)),
+        Form::Fresh { body, .. } => Ok(Wait::Freshes(*body)),
         Form::Par { first, rest } => Ok(Wait::Forks(*first, *rest)),
         Form::Stop => Ok(Wait::Stays),
     }

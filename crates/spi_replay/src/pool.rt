@@ -6,8 +6,8 @@ ghost use Rattle.spi_run.specs.Reduction.{Step as StepTerm};
 ghost use Rattle.spi_run.specs.Knowledge.{shown};
 ghost use Rattle.spi_run.specs.Safety.{beside};
 ghost use Rattle.spi_run.specs.View.{step as step_of};
-ghost use Rattle.spi_replay.specs.Ready.{AreReady, IsReadyTalk, count_at, ArePlaces, PutsOut, TakesIn};
-ghost use Rattle.spi_replay.specs.Stepping.{Refuses, IsTaken, event_in};
+ghost use Rattle.spi_replay.specs.Ready.{AreReady, IsReadyTalk, count_at, AreReadyPlaces, PutsOut, TakesIn};
+ghost use Rattle.spi_replay.specs.Stepping.{RefusesPoolStep, IsTaken, event_in};
 
 use crate::NoMemory;
 use crate::fault::StepFault;
@@ -72,7 +72,7 @@ impl<'p> Pool<'p> {
         requires { self.old.configuration.names < 2 ^ 32 - 1 }
         ensures ok { IfOk result (λ e. IsTaken self.old (step_of step) (event_in e) self.new) }
         ensures refused { IfErr result
-            (λ f. (f ≡ StepFault.NoMemory) ⊎ Refuses self.old.configuration self.old.most (step_of step) f) }
+            (λ f. (f ≡ StepFault.NoMemory) ⊎ RefusesPoolStep self.old.configuration self.old.most (step_of step) f) }
         ensures unchanged { OnErr result (self.new ≡ self.old) }
     {
         match step {
@@ -137,14 +137,14 @@ impl<'p> Pool<'p> {
 
     /// The ascending places that hold an output on this channel.
     pub fn outs_on(&self, channel: &Msg) -> &[u32]
-        ensures { ArePlaces (PutsOut (message channel.now)) self.now.configuration.places result.now }
+        ensures { AreReadyPlaces (PutsOut (message channel.now)) self.now.configuration.places result.now }
     {
         outs_on(&self.state, channel)
     }
 
     /// The ascending places that hold an input or a replicated input on this channel.
     pub fn ins_on(&self, channel: &Msg) -> &[u32]
-        ensures { ArePlaces (TakesIn (message channel.now)) self.now.configuration.places result.now }
+        ensures { AreReadyPlaces (TakesIn (message channel.now)) self.now.configuration.places result.now }
     {
         ins_on(&self.state, channel)
     }

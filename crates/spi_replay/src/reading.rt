@@ -47,7 +47,7 @@ pub fn largest_of(store: &Store, wait: Wait) -> u64
         Wait::BindsTwo(first, second, _) => nodes_of(store, first).max(nodes_of(store, second)),
         Wait::GoesOn(_) => 0,
         Wait::Shows(_, label, _) => nodes_of(store, label),
-        Wait::Makes(_) => 1,
+        Wait::Freshes(_) => 1,
         Wait::Forks(_, _) => 0,
     }
 }

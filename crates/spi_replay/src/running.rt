@@ -4,8 +4,8 @@ ghost use Rattle.std.specs.Prelude.{◌≡◌, ◌+◌, ◌-◌, ◌^◌, ◌<�
 ghost use Rattle.spi_term.specs.Names.{ProcessOver};
 ghost use Rattle.spi_run.specs.Reduction.{act, talk};
 ghost use Rattle.spi_run.specs.Safety.{beside};
-ghost use Rattle.spi_replay.specs.Stepping.{Refuses, IsTaken, event_in};
-ghost use Rattle.spi_replay.specs.Started.{HasFirst};
+ghost use Rattle.spi_replay.specs.Stepping.{RefusesPoolStep, IsTaken, event_in};
+ghost use Rattle.spi_replay.specs.Started.{HasFirstPlace};
 ghost use Rattle.spi_replay.specs.Pools.{pooled, IsState, MayAct, MayTalk, again_appends};
 
 use crate::NoMemory;
@@ -51,7 +51,7 @@ impl Drop for State<'_> {
 fn push_first<'p>(state: &mut State<'p>, source: &'p Process) -> Result<(), NoMemory>
     requires { length state.old.index.places.items < 2 ^ 32 - 1 }
     ensures over { ProcessOver source.now.names source.now.process }
-    ensures pushed { OnOk result (HasFirst source.now state.old state.new) }
+    ensures pushed { OnOk result (HasFirstPlace source.now state.old state.new) }
 {
     // The nodes are asked for what their answer says: each name is one of those in scope.
     let _ = source.len();
@@ -94,7 +94,7 @@ pub fn start<'p>(
 fn may_act(state: &State<'_>, place: u32) -> Result<(), StepFault>
     requires { IsState state.now }
     ensures may { OnOk result (MayAct state.now place) }
-    ensures refused { IfErr result (Refuses (pooled state.now).configuration state.now.most (act place)) }
+    ensures refused { IfErr result (RefusesPoolStep (pooled state.now).configuration state.now.most (act place)) }
 {
     if place as usize >= state.index.len() {
         return Err(StepFault::NoPlace { place });
@@ -149,7 +149,7 @@ pub fn step_act(state: &mut State<'_>, place: u32) -> Result<Option<Event>, Step
         (λ e. IsTaken (pooled state.old) (act place) (event_in e) (pooled state.new)) }
     ensures refused { IfErr result
         (λ f. (f ≡ StepFault.NoMemory)
-        ⊎ Refuses (pooled state.old).configuration state.old.most (act place) f) }
+        ⊎ RefusesPoolStep (pooled state.old).configuration state.old.most (act place) f) }
     ensures unchanged { OnErr result (pooled state.new ≡ pooled state.old) }
     ensures is { IsState state.new }
 {
@@ -166,7 +166,7 @@ pub fn step_act(state: &mut State<'_>, place: u32) -> Result<Option<Event>, Step
 fn may_talk(state: &State<'_>, out: u32, inp: u32) -> Result<Meeting, StepFault>
     requires { IsState state.now }
     ensures may { IfOk result (MayTalk state.now out inp) }
-    ensures refused { IfErr result (Refuses (pooled state.now).configuration state.now.most (talk out inp)) }
+    ensures refused { IfErr result (RefusesPoolStep (pooled state.now).configuration state.now.most (talk out inp)) }
 {
     if out as usize >= state.index.len() {
         return Err(StepFault::NoPlace { place: out });
@@ -225,7 +225,7 @@ pub fn step_talk(state: &mut State<'_>, out: u32, inp: u32) -> Result<Option<Eve
         (λ e. IsTaken (pooled state.old) (talk out inp) (event_in e) (pooled state.new)) }
     ensures refused { IfErr result
         (λ f. (f ≡ StepFault.NoMemory)
-        ⊎ Refuses (pooled state.old).configuration state.old.most (talk out inp) f) }
+        ⊎ RefusesPoolStep (pooled state.old).configuration state.old.most (talk out inp) f) }
     ensures unchanged { OnErr result (pooled state.new ≡ pooled state.old) }
     ensures is { IsState state.new }
 {

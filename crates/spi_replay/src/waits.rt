@@ -2,7 +2,7 @@
 
 ghost use Rattle.std.specs.Prelude.{◌≡◌, ◌==◌, if◌then◌else◌};
 ghost use Rattle.spi_replay.specs.Lone.{lone_wait as lone_wait_of};
-ghost use Rattle.spi_replay.specs.Waiting.{split_wait as split_wait_of, select_wait as select_wait_of, decrypt_wait as decrypt_wait_of, case_wait as case_wait_of, check_wait as check_wait_of, wait_acts, wait_appends, met_if, met_by};
+ghost use Rattle.spi_replay.specs.Waiting.{split_wait as split_wait_of, select_wait as select_wait_of, decrypt_wait as decrypt_wait_of, branch_wait as branch_wait_of, check_wait as check_wait_of, wait_acts, wait_appends, met_if, met_by};
 
 use spi_intern::{MsgId, MsgPart};
 
@@ -34,7 +34,7 @@ pub enum Wait {
     /// Acts, and shows an event with a label.
     Shows(Kind, MsgId, u32),
     /// Acts, and binds a name to the next new one.
-    Makes(u32),
+    Freshes(u32),
     /// Acts, and becomes two places.
     Forks(u32, u32),
 }
@@ -66,7 +66,7 @@ pub fn lone_wait(lone: Lone, id: MsgId, whole: MsgPart) -> Wait
         Lone::BindsOne(body) => Wait::BindsOne(id, body),
         Lone::Shows(kind, body) => Wait::Shows(kind, id, body),
         Lone::Splits(body) => split_wait(whole, body),
-        Lone::Branches(on_left, on_right) => case_wait(whole, on_left, on_right),
+        Lone::Branches(on_left, on_right) => branch_wait(whole, on_left, on_right),
     }
 }
 
@@ -112,8 +112,8 @@ pub fn decrypt_wait(whole: MsgPart, key: MsgId, body: u32) -> Wait
 }
 
 /// What a `case` of a message waits for.
-pub fn case_wait(whole: MsgPart, on_left: u32, on_right: u32) -> Wait
-    ensures { result ≡ case_wait_of whole on_left on_right }
+pub fn branch_wait(whole: MsgPart, on_left: u32, on_right: u32) -> Wait
+    ensures { result ≡ branch_wait_of whole on_left on_right }
 {
     match whole {
         MsgPart::Inl(inner) => Wait::BindsOne(inner, on_left),
@@ -142,7 +142,7 @@ pub fn is_act(wait: Wait) -> bool
         Wait::BindsTwo(_, _, _) => true,
         Wait::GoesOn(_) => true,
         Wait::Shows(_, _, _) => true,
-        Wait::Makes(_) => true,
+        Wait::Freshes(_) => true,
         Wait::Forks(_, _) => true,
     }
 }
@@ -160,7 +160,7 @@ pub fn appended_by(wait: Wait) -> u32
         Wait::BindsTwo(_, _, _) => 0,
         Wait::GoesOn(_) => 0,
         Wait::Shows(_, _, _) => 0,
-        Wait::Makes(_) => 0,
+        Wait::Freshes(_) => 0,
         Wait::Forks(_, _) => 1,
     }
 }

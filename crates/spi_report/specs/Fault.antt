@@ -4,7 +4,7 @@ use Rattle.std.specs.Fmt.{decimal}
 use Rattle.spi_text.specs.declared.lines.Span.{Span}
 use Rattle.spi_fault.specs.declared.fault.Reason.{Reason}
 use Rattle.spi_fault.specs.declared.fault.Reason.TheVariants.{ChannelNotUn, DatumNotUn, BadType, WrongScrutinee, WrongKey, NotANonce, NotALabel, NotGenerative, BodyHasEffect, EffectEscapes, Unpaid, WrongFirst, BadCast}
-use Rattle.spi_fault.specs.Faults.{Thing, nothing, the_message, the_atom, Told}
+use Rattle.spi_fault.specs.Faults.{Thing, nothing, the_message, the_atom, ToldFault}
 use Rattle.spi_show.specs.Report.{message_text, atom_text}
 use Rattle.spi_report.specs.Refused.{place_text}
 
@@ -45,7 +45,7 @@ thing_text names (the_message m) = codes ": " ++ message_text names m
 thing_text names (the_atom a) = codes ": " ++ atom_text names a
 
 -- `no: N Name at L:C: shown` and a LF, where the nodes stand at these places and have these names in scope
-abbrev pub fault_text : List ℕ → (ℕ → Span) → (ℕ → List (List ℕ)) → Told → List ℕ
+abbrev pub fault_text : List ℕ → (ℕ → Span) → (ℕ → List (List ℕ)) → ToldFault → List ℕ
 fault_text bytes place spelled f =
     codes "no: " ++ decimal (number_of f.reason) ++ codes " " ++ reason_text f.reason
     ++ place_text bytes (Some (place f.node).from) ++ thing_text (spelled f.scope_of) f.shown ++ codes "\n"

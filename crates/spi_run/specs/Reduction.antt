@@ -22,7 +22,7 @@ pub data Event : Type 0 where
 pub data Acts (n : ℕ) : Process → Option Event → ℕ → Process → List Process → Type 0 where
   acts_split : {a b : Message} {t u : Ty} {p : Process}
       → Acts n (split (pair a b) t u p) None n (process_put_two a b p) []
-  acts_match : {a b c : Message} {t u : Ty} {p : Process}
+  acts_select : {a b c : Message} {t u : Ty} {p : Process}
       → a ≡ c → Acts n (select (pair a b) t c u p) None n (process_put b p) []
   acts_inl : {a : Message} {t u : Ty} {p q : Process}
       → Acts n (branch (in_left a) t p u q) None n (process_put a p) []
@@ -35,7 +35,7 @@ pub data Acts (n : ℕ) : Process → Option Event → ℕ → Process → List 
   acts_end : {a : Message} {p : Process} → Acts n (end a p) (Some (ended a)) n p []
   acts_end_many : {a : Message} {p : Process} → Acts n (end_many a p) (Some (ended_many a)) n p []
   acts_cast : {a : Message} {t : Ty} {p : Process} → Acts n (cast a t p) None n (process_put a p) []
-  acts_new : {t : Ty} {p : Process} → Acts n (fresh t p) None (suc n) (process_put (name n) p) []
+  acts_fresh : {t : Ty} {p : Process} → Acts n (fresh t p) None (suc n) (process_put (name n) p) []
   acts_par : {p q : Process} → Acts n (par p q) None n p (q ∷ [])
 
 -- an output and an input: what the input's place holds then, and what is appended

@@ -94,17 +94,17 @@ names_weigh ts xs (t.free s w ws ∷ ds) = omega (arith, free_weighs xs (w ∷ w
 names_weigh ts xs (t.abbreviated s w a ∷ ds) = omega (arith, names_weigh (types_behind ts xs (t.abbreviated s w a)) xs ds)
 
 -- the tests of sizes
-abbrev pub Passes : Points → Type 0
-Passes none = Unit {0}
-Passes (one (uses_name xs w)) = Unit {0}
-Passes (one (uses_type ts w)) = Unit {0}
-Passes (one (declares_name xs w)) = Unit {0}
-Passes (one (declares_type ts w)) = Unit {0}
-Passes (one (ends_message n s)) = n ≤ 200
-Passes (one (ends_type n s)) = n ≤ 1000
-Passes (one (adds n s)) = Unit {0}
-Passes (one (starts_step i n s)) = Unit {0}
-Passes (ps ⨾ qs) = Passes ps × Passes qs
+abbrev pub PassesTests : Points → Type 0
+PassesTests none = Unit {0}
+PassesTests (one (uses_name xs w)) = Unit {0}
+PassesTests (one (uses_type ts w)) = Unit {0}
+PassesTests (one (declares_name xs w)) = Unit {0}
+PassesTests (one (declares_type ts w)) = Unit {0}
+PassesTests (one (ends_message n s)) = n ≤ 200
+PassesTests (one (ends_type n s)) = n ≤ 1000
+PassesTests (one (adds n s)) = Unit {0}
+PassesTests (one (starts_step i n s)) = Unit {0}
+PassesTests (ps ⨾ qs) = PassesTests ps × PassesTests qs
 
 -- what is passed at a limit is within it
 pub passed_limit : (c d limit n : ℕ) (f : ScopeFault) → unless (if nat_lt limit n then Some f else None) c ≡ Ok d → n ≤ limit
@@ -115,7 +115,7 @@ passed_limit c d limit n f e = ⊎_elim large (λ h. h) (cases_lt limit n)
         let g : Err f ≡ Ok d = sym (ap (λ b. unless (if b then Some f else None) c) (lt-ltb limit n h)) ∙ e in
         absurd (cc)
 
-pub passed : (ps : Points) (c d : ℕ) → run ps c ≡ Ok d → Passes ps
+pub passed : (ps : Points) (c d : ℕ) → run ps c ≡ Ok d → PassesTests ps
 passed none c d e = tt
 passed (one (uses_name xs w)) c d e = tt
 passed (one (uses_type ts w)) c d e = tt
@@ -127,43 +127,43 @@ passed (one (adds n s)) c d e = tt
 passed (one (starts_step i n s)) c d e = tt
 passed (ps ⨾ qs) c d e = by (run ps c) (λ m. passed ps c m) (λ m. passed qs m d) e
   where
-    by : (r : Ran) → ((m : ℕ) → r ≡ Ok m → Passes ps) → ((m : ℕ) → run qs m ≡ Ok d → Passes qs) → after r (run qs) ≡ Ok d → Passes ps × Passes qs
+    by : (r : Ran) → ((m : ℕ) → r ≡ Ok m → PassesTests ps) → ((m : ℕ) → run qs m ≡ Ok d → PassesTests qs) → after r (run qs) ≡ Ok d → PassesTests ps × PassesTests qs
     by (Ok m) f g h = (f m refl, g m h)
     by (Err x) f g h = absurd (cc)
 
-few_message : (k : ℕ) (xs : Names) (m : t.Msg) → Passes (part xs m) → HasFewMessage (message_in k xs m)
+few_message : (k : ℕ) (xs : Names) (m : t.Msg) → PassesTests (part xs m) → HasFewMessage (message_in k xs m)
 unfolding part
 few_message k xs m h = omega (arith, h.0.1, message_sized k xs m)
 
-few_type : (k : ℕ) (ts : Abbreviations) (xs : Names) (a : t.Ty) → Passes (whole_type ts xs a) → HasFewTy (type_in k ts xs a)
+few_type : (k : ℕ) (ts : Abbreviations) (xs : Names) (a : t.Ty) → PassesTests (whole_type ts xs a) → HasFewTy (type_in k ts xs a)
 unfolding whole_type
 few_type k ts xs a h = omega (arith, h.0.1, type_sized k ts xs a)
 
-few_in_message_head : (k : ℕ) (xs : Names) (s : Span) (m : t.Msg) → Passes (message_head xs s m) → HasFewMessage (message_in k xs m)
+few_in_message_head : (k : ℕ) (xs : Names) (s : Span) (m : t.Msg) → PassesTests (message_head xs s m) → HasFewMessage (message_in k xs m)
 unfolding message_head
 few_in_message_head k xs s m h = few_message k xs m h.1
 
-few_in_messages_head : (k : ℕ) (xs : Names) (s : Span) (m n : t.Msg) → Passes (messages_head xs s m n) → HasFewMessage (message_in k xs m) × HasFewMessage (message_in k xs n)
+few_in_messages_head : (k : ℕ) (xs : Names) (s : Span) (m n : t.Msg) → PassesTests (messages_head xs s m n) → HasFewMessage (message_in k xs m) × HasFewMessage (message_in k xs n)
 unfolding messages_head
 few_in_messages_head k xs s m n h = (few_message k xs m h.1.0, few_message k xs n h.1.1)
 
-few_in_typed_head : (k : ℕ) (ts : Abbreviations) (xs : Names) (s : Span) (m : t.Msg) (a : t.Ty) → Passes (typed_head ts xs s m a) → HasFewMessage (message_in k xs m) × HasFewTy (type_in k ts xs a)
+few_in_typed_head : (k : ℕ) (ts : Abbreviations) (xs : Names) (s : Span) (m : t.Msg) (a : t.Ty) → PassesTests (typed_head ts xs s m a) → HasFewMessage (message_in k xs m) × HasFewTy (type_in k ts xs a)
 unfolding typed_head
 few_in_typed_head k ts xs s m a h = (few_message k xs m h.1.0, few_type k ts xs a h.1.1)
 
-few_in_new_head : (k : ℕ) (ts : Abbreviations) (xs : Names) (s : Span) (a : t.Ty) → Passes (new_head ts xs s a) → HasFewTy (type_in k ts xs a)
+few_in_new_head : (k : ℕ) (ts : Abbreviations) (xs : Names) (s : Span) (a : t.Ty) → PassesTests (new_head ts xs s a) → HasFewTy (type_in k ts xs a)
 unfolding new_head
 few_in_new_head k ts xs s a h = few_type k ts xs a h.1
 
-few_in_tested_head : (k : ℕ) (ts : Abbreviations) (xs : Names) (s : Span) (m : t.Msg) (a : t.Ty) (n : t.Msg) → Passes (tested_head ts xs s m a n) → HasFewMessage (message_in k xs m) × HasFewTy (type_in k ts xs a) × HasFewMessage (message_in k xs n)
+few_in_tested_head : (k : ℕ) (ts : Abbreviations) (xs : Names) (s : Span) (m : t.Msg) (a : t.Ty) (n : t.Msg) → PassesTests (tested_head ts xs s m a n) → HasFewMessage (message_in k xs m) × HasFewTy (type_in k ts xs a) × HasFewMessage (message_in k xs n)
 unfolding tested_head
 few_in_tested_head k ts xs s m a n h = (few_message k xs m h.1.0, few_type k ts xs a h.1.1.0, few_message k xs n h.1.1.1)
 
-few_in_split_head : (k : ℕ) (ts : Abbreviations) (xs : Names) (s : Span) (m : t.Msg) (x : SWord) (a c : t.Ty) → Passes (split_head ts xs s m x a c) → HasFewMessage (message_in k xs m) × HasFewTy (type_in k ts xs a) × HasFewTy (type_in k ts (x.word ∷ xs) c)
+few_in_split_head : (k : ℕ) (ts : Abbreviations) (xs : Names) (s : Span) (m : t.Msg) (x : SWord) (a c : t.Ty) → PassesTests (split_head ts xs s m x a c) → HasFewMessage (message_in k xs m) × HasFewTy (type_in k ts xs a) × HasFewTy (type_in k ts (x.word ∷ xs) c)
 unfolding split_head
 few_in_split_head k ts xs s m x a c h = (few_message k xs m h.1.0, few_type k ts xs a h.1.1.0, few_type k ts (x.word ∷ xs) c h.1.1.1)
 
-few_in_match_head : (k : ℕ) (ts : Abbreviations) (xs : Names) (s : Span) (m : t.Msg) (x : SWord) (a : t.Ty) (n : t.Msg) (c : t.Ty) → Passes (match_head ts xs s m x a n c) → HasFewMessage (message_in k xs m) × HasFewTy (type_in k ts xs a) × HasFewMessage (message_in k xs n) × HasFewTy (type_in k ts (x.word ∷ xs) c)
+few_in_match_head : (k : ℕ) (ts : Abbreviations) (xs : Names) (s : Span) (m : t.Msg) (x : SWord) (a : t.Ty) (n : t.Msg) (c : t.Ty) → PassesTests (match_head ts xs s m x a n c) → HasFewMessage (message_in k xs m) × HasFewTy (type_in k ts xs a) × HasFewMessage (message_in k xs n) × HasFewTy (type_in k ts (x.word ∷ xs) c)
 unfolding match_head
 few_in_match_head k ts xs s m x a n c h = let r = few_in_tested_head k ts xs s m a n h.0 in (r.0, r.1, r.2, few_type k ts (x.word ∷ xs) c h.1)
 
@@ -171,7 +171,7 @@ both_small : (a b : List Shape) → HaveSmallParts a → HaveSmallParts b → Ha
 both_small [] b h g = g
 both_small (x ∷ a) b h g = (h.0, both_small a b h.1 g)
 
-pub process_small : (b : ℕ → ℕ) (ts : Abbreviations) (xs : Names) (p : t.Proc) (i k : ℕ) → Passes (process_points ts xs p) → HaveSmallParts (flat i k (process_in b ts xs p))
+pub process_small : (b : ℕ → ℕ) (ts : Abbreviations) (xs : Names) (p : t.Proc) (i k : ℕ) → PassesTests (process_points ts xs p) → HaveSmallParts (flat i k (process_in b ts xs p))
 process_small b ts xs (t.par s p q) i k h = (tt, both_small _ _ (process_small b ts xs p _ _ h.0) (process_small b ts xs q _ _ h.1.1))
 process_small b ts xs (t.group s p q) i k h = (tt, both_small _ _ (process_small b ts xs p _ _ h.0) (process_small b ts xs q _ _ h.1.1))
 process_small b ts xs (t.out s m n) i k h = (few_in_messages_head _ xs s m n h, tt)

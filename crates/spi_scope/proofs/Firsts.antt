@@ -4,7 +4,7 @@ use Rattle.std.specs.Prelude.{◌⊎◌, Option, Some, None, Ok, Err}
 use Rattle.spi_scope.specs.declared.fault.ScopeFault.{ScopeFault}
 use Rattle.spi_scope.specs.Points.{Point, Points, none, one, ◌⨾◌, in_order, fault_at, added}
 use Rattle.spi_scope.specs.First.{count, Clean, IsFirst}
-use Rattle.spi_scope.specs.Gives.{Ran, after, unless, run, Fails}
+use Rattle.spi_scope.specs.Gives.{Ran, after, unless, run, FailsWith}
 use Rattle.spi_scope.specs.declared.fault.ScopeFault.TheVariants.{NoMemory}
 
 abbrev pub run_list : List Point → ℕ → Ran
@@ -128,5 +128,5 @@ pub one_first : (ps : List Point) (f g : ScopeFault) → IsFirst ps f → IsFirs
 one_first ps f g r s = let e = sym (first_run ps f r) ∙ first_run ps g s in cc
 
 -- what was run into is the first fault, unless memory ran out
-pub faulted : (e : ScopeFault) (ps : Points) → Fails e (run ps 0) → (e ≡ NoMemory) ⊎ IsFirst (in_order ps) e
+pub faulted : (e : ScopeFault) (ps : Points) → FailsWith e (run ps 0) → (e ≡ NoMemory) ⊎ IsFirst (in_order ps) e
 faulted e ps h = ⊎_elim (λ m. inl m) (λ f. inr (is_first ps e f)) h

@@ -4,17 +4,17 @@ use Rattle.std.specs.Prelude.{Option, Some, None, IfSome, if◌then◌else◌}
 use Rattle.std.specs.Str.{bytes_eq}
 use Rattle.std.proofs.lemmas.Bool.{cases_lt, lt-ltb, le-ltb}
 use Rattle.spi_tree.specs.Trees as t
-use Rattle.spi_term.specs.Term.{Message, bound, name, unit, pair, in_left, in_right, enc, hash, ends, checks, many, Effect, Ty, un, unit_ty, pair_ty, sum_ty, key, nonce, Sends, Prefix, Recvs, Serves, Splits, Selects, Decrypts, Checks, Begins, Ends, EndManys, Casts, Makes, Fork, Cases, Pars, Process, leaf, prefix, fork}
+use Rattle.spi_term.specs.Term.{Message, bound, name, unit, pair, in_left, in_right, enc, hash, ends, checks, many, Effect, Ty, un, unit_ty, pair_ty, sum_ty, key, nonce, Sends, Prefix, Recvs, Serves, Splits, Selects, Decrypts, Checks, Begins, Ends, EndManys, Casts, Freshes, Fork, Branches, Pars, Process, leaf, prefix, fork}
 use Rattle.spi_term.specs.Substitution.{effect_map, ty_map, leaf_map}
 use Rattle.spi_term.specs.Names.{MessageOver, OfAtom, OfEffect, OfTy, TyOver, ProcessOver}
-use Rattle.spi_term.specs.Spelling.{index_message, indexed, flat, numbered, Spells}
+use Rattle.spi_term.specs.Spelling.{index_message, indexed, flat, numbered, SpellsProcess}
 use Rattle.spi_term.specs.Arena.{InScope}
 use Rattle.spi_term.proofs.Numbers.{number_index, over_indexed}
 use Rattle.spi_term.proofs.Terms.{over_more_ty, loose_ty}
 use Rattle.spi_scope.specs.Scope.{Word, Names, number_of, Abbreviation, Abbreviations, type_of}
 use Rattle.spi_scope.specs.Meaning.{named, nested, message_in, messages_in, atom_in, effect_in, known, nested_types, behind, type_in, fields_in, last_in, process_in, process_over}
 use Rattle.spi_scope.specs.Points.{with_free, all_names, all_types}
-use Rattle.spi_scope.specs.Over.{AreOver}
+use Rattle.spi_scope.specs.Over.{AreAbbreviationsOver}
 use Rattle.spi_tree.specs.declared.tree.SWord.{SWord}
 use Rattle.spi_scope.proofs.Tables.{number_below}
 
@@ -30,7 +30,7 @@ named_low k s x h = if_yes (name x) (bound (s - suc x)) (lt-ltb x k h)
 named_high : (k s x : ℕ) → k ≤ x → named k s (Some x) ≡ bound (s - suc x)
 named_high k s x h = if_no (name x) (bound (s - suc x)) (le-ltb x k h)
 
-known_over : (n : ℕ) (ts : Abbreviations) → AreOver n ts → (w : Word) → TyOver n (known (type_of ts w))
+known_over : (n : ℕ) (ts : Abbreviations) → AreAbbreviationsOver n ts → (w : Word) → TyOver n (known (type_of ts w))
 known_over n [] h w = tt
 known_over n (u ∷ ts) h w = by (bytes_eq w u.word) (known_over n ts h.1 w)
   where
@@ -80,7 +80,7 @@ over_effect : (s d : ℕ) (xs : Names) → length xs ≡ s + d → (es : List t.
 over_effect s d xs e [] = tt
 over_effect s d xs e (a ∷ es) = (over_atom s d xs e a, over_effect s d xs e es)
 
-module _ (n : ℕ) (ts : Abbreviations) (over : AreOver n ts) (s : ℕ) (few : n ≤ s) where
+module _ (n : ℕ) (ts : Abbreviations) (over : AreAbbreviationsOver n ts) (s : ℕ) (few : n ≤ s) where
   over_known : (d : ℕ) (w : Word) → OfTy (MessageOver s) d (known (type_of ts w))
   over_known d w = let a = known (type_of ts w) in loose_ty s 0 d (omega arith) a (over_more_ty n s few 0 a (known_over n ts over w))
 
@@ -103,7 +103,7 @@ module _ (n : ℕ) (ts : Abbreviations) (over : AreOver n ts) (s : ℕ) (few : n
     over_last d xs e (t.named w a) = over_type d xs e a
 
 -- what a form holds is in scope
-module _ (n : ℕ) (ts : Abbreviations) (over : AreOver n ts) (s : ℕ) (few : n ≤ s) (xs : Names) (e : s ≡ length xs) where
+module _ (n : ℕ) (ts : Abbreviations) (over : AreAbbreviationsOver n ts) (s : ℕ) (few : n ≤ s) (xs : Names) (e : s ≡ length xs) where
   at_message : (m : t.Msg) → MessageOver s 0 (message_in (length xs) xs m)
   at_message m = subst (λ (k : ℕ). MessageOver s 0 (message_in k xs m)) e (over_message s 0 xs (omega (arith, e)) m)
 
@@ -113,7 +113,7 @@ module _ (n : ℕ) (ts : Abbreviations) (over : AreOver n ts) (s : ℕ) (few : n
   under_one : (x : Word) (a : t.Ty) → OfTy (MessageOver s) 1 (type_in (length xs) ts (x ∷ xs) a)
   under_one x a = subst (λ (k : ℕ). OfTy (MessageOver s) 1 (type_in k ts (x ∷ xs) a)) e (over_type n ts over s few 1 (x ∷ xs) (omega (arith, e)) a)
 
-in_scope : (n : ℕ) (ts : Abbreviations) → AreOver n ts → (s : ℕ) → n ≤ s → (xs : Names) → s ≡ length xs → (p : t.Proc) → InScope s (process_in (λ i. i) ts xs p)
+in_scope : (n : ℕ) (ts : Abbreviations) → AreAbbreviationsOver n ts → (s : ℕ) → n ≤ s → (xs : Names) → s ≡ length xs → (p : t.Proc) → InScope s (process_in (λ i. i) ts xs p)
 in_scope n ts o s f xs e (t.par _ p q) = (tt, (in_scope n ts o (s + 0) (omega arith) xs (omega arith) p, in_scope n ts o (s + 0) (omega arith) xs (omega arith) q))
 in_scope n ts o s f xs e (t.group _ p q) = (tt, (in_scope n ts o (s + 0) (omega arith) xs (omega arith) p, in_scope n ts o (s + 0) (omega arith) xs (omega arith) q))
 in_scope n ts o s f xs e (t.out _ a b) = (at_message n ts o s f xs e a, at_message n ts o s f xs e b)
@@ -138,11 +138,11 @@ in_scope n ts o s f xs e (t.new _ x a p) = (at_type n ts o s f xs e a, in_scope 
 in_scope n ts o s f xs e (t.stop _) = tt
 
 -- abbreviations are over the free names
-more_over : (n m : ℕ) → n ≤ m → (ts : Abbreviations) → AreOver n ts → AreOver m ts
+more_over : (n m : ℕ) → n ≤ m → (ts : Abbreviations) → AreAbbreviationsOver n ts → AreAbbreviationsOver m ts
 more_over n m h [] o = tt
 more_over n m h (u ∷ ts) o = (over_more_ty n m h 0 u.stands_for o.0, more_over n m h ts o.1)
 
-over_push : (n : ℕ) (ts : Abbreviations) (u : Abbreviation) → AreOver n ts → TyOver n u.stands_for → AreOver n (ts ++ u ∷ [])
+over_push : (n : ℕ) (ts : Abbreviations) (u : Abbreviation) → AreAbbreviationsOver n ts → TyOver n u.stands_for → AreAbbreviationsOver n (ts ++ u ∷ [])
 over_push n [] u h f = (f, tt)
 over_push n (v ∷ ts) u h f = (h.0, over_push n ts u h.1 f)
 
@@ -150,7 +150,7 @@ free_more : (xs : Names) (ws : List SWord) → length xs ≤ length (with_free x
 free_more xs [] = omega arith
 free_more xs (w ∷ ws) = omega (arith, free_more (w.word ∷ xs) ws)
 
-pub all_over : (ts : Abbreviations) (xs : Names) (ds : List t.Declared) → AreOver (length xs) ts → AreOver (length (all_names xs ds)) (all_types ts xs ds)
+pub all_over : (ts : Abbreviations) (xs : Names) (ds : List t.Declared) → AreAbbreviationsOver (length xs) ts → AreAbbreviationsOver (length (all_names xs ds)) (all_types ts xs ds)
 all_over ts xs [] o = o
 all_over ts xs (t.free _ w ws ∷ ds) o =
     all_over ts (with_free xs (w ∷ ws)) ds (more_over (length xs) (length (with_free xs (w ∷ ws))) (free_more xs (w ∷ ws)) ts o)
@@ -245,7 +245,7 @@ module _ (k s : ℕ) (few : k ≤ s) where
   still_ty d j (key a) h = ap key (still_ty d j a h)
   still_ty d j (nonce es) h = ap nonce (still_effect d j es h)
 
-  module _ (ts : Abbreviations) (over : AreOver k ts) where
+  module _ (ts : Abbreviations) (over : AreAbbreviationsOver k ts) where
     mutual
       index_type : (d : ℕ) (xs : Names) → length xs ≡ s + d → (a : t.Ty) → ty_map (index_message k s) d (type_in s ts xs a) ≡ type_in k ts xs a
       index_type d xs e (t.un _) = refl
@@ -269,7 +269,7 @@ module _ (k s : ℕ) (few : k ≤ s) where
       index_last d xs e (t.named w a) = index_type d xs e a
 
 -- the same of what a form holds
-module _ (k s : ℕ) (few : k ≤ s) (ts : Abbreviations) (over : AreOver k ts) (xs : Names) (e : s ≡ length xs) where
+module _ (k s : ℕ) (few : k ≤ s) (ts : Abbreviations) (over : AreAbbreviationsOver k ts) (xs : Names) (e : s ≡ length xs) where
   one_message : (m : t.Msg) → index_message k s 0 (message_in (length xs) xs m) ≡ message_in k xs m
   one_message m = ap (λ (i : ℕ). index_message k s 0 (message_in i xs m)) (sym e) ∙ index_in k s few 0 xs (omega (arith, e)) m
 
@@ -297,7 +297,7 @@ two f f' p p' q q' e g h = ap (λ r. fork r p q) e ∙ ap (λ r. fork f' r q) g 
 after : (s s' : Prefix) (p p' : Process) → s ≡ s' → p ≡ p' → prefix s p ≡ prefix s' p'
 after s s' p p' g h = ap (λ r. prefix r p) g ∙ ap (prefix s') h
 
-index_process : (k s : ℕ) → k ≤ s → (ts : Abbreviations) → AreOver k ts → (xs : Names) → s ≡ length xs → (p : t.Proc) → indexed k s (process_in (λ i. i) ts xs p) ≡ process_in (λ i. k) ts xs p
+index_process : (k s : ℕ) → k ≤ s → (ts : Abbreviations) → AreAbbreviationsOver k ts → (xs : Names) → s ≡ length xs → (p : t.Proc) → indexed k s (process_in (λ i. i) ts xs p) ≡ process_in (λ i. k) ts xs p
 index_process k s f ts o xs e (t.par _ p q) = two Pars Pars _ _ _ _ refl (index_process k (s + 0) (omega arith) ts o xs (omega arith) p) (index_process k (s + 0) (omega arith) ts o xs (omega arith) q)
 index_process k s f ts o xs e (t.group _ p q) = two Pars Pars _ _ _ _ refl (index_process k (s + 0) (omega arith) ts o xs (omega arith) p) (index_process k (s + 0) (omega arith) ts o xs (omega arith) q)
 index_process k s f ts o xs e (t.out _ a b) = ap leaf (one_send k s f ts o xs e a b)
@@ -314,7 +314,7 @@ index_process k s f ts o xs e (t.match _ m x a b y c p) =
     after _ _ _ _ (four_parts k s f ts o xs e _ _ _ _ _ _ _ _ (one_message k s f ts o xs e m) (one_type k s f ts o xs e a) (one_message k s f ts o xs e b) (inner_type k s f ts o xs e x.word c))
     (index_process k (s + 1) (omega arith) ts o (y.word ∷ xs) (omega arith) p)
 index_process k s f ts o xs e (t.case _ m x a p y c q) =
-    two _ _ _ _ _ _ (three_parts k s f ts o xs e Cases _ _ _ _ _ _ (one_message k s f ts o xs e m) (one_type k s f ts o xs e a) (one_type k s f ts o xs e c))
+    two _ _ _ _ _ _ (three_parts k s f ts o xs e Branches _ _ _ _ _ _ (one_message k s f ts o xs e m) (one_type k s f ts o xs e a) (one_type k s f ts o xs e c))
     (index_process k (s + 1) (omega arith) ts o (x.word ∷ xs) (omega arith) p) (index_process k (s + 1) (omega arith) ts o (y.word ∷ xs) (omega arith) q)
 index_process k s f ts o xs e (t.decrypt _ m x a b p) =
     after _ _ _ _ (three_parts k s f ts o xs e Decrypts _ _ _ _ _ _ (one_message k s f ts o xs e m) (one_type k s f ts o xs e a) (one_message k s f ts o xs e b))
@@ -326,11 +326,11 @@ index_process k s f ts o xs e (t.end _ a p) = after _ _ _ _ (ap Ends (one_messag
 index_process k s f ts o xs e (t.end_many _ a p) = after _ _ _ _ (ap EndManys (one_message k s f ts o xs e a)) (index_process k (s + 0) (omega arith) ts o xs (omega arith) p)
 index_process k s f ts o xs e (t.cast _ m x a p) =
     after _ _ _ _ (two_parts k s f ts o xs e Casts _ _ _ _ (one_message k s f ts o xs e m) (one_type k s f ts o xs e a)) (index_process k (s + 1) (omega arith) ts o (x.word ∷ xs) (omega arith) p)
-index_process k s f ts o xs e (t.new _ x a p) = after _ _ _ _ (ap Makes (one_type k s f ts o xs e a)) (index_process k (s + 1) (omega arith) ts o (x.word ∷ xs) (omega arith) p)
+index_process k s f ts o xs e (t.new _ x a p) = after _ _ _ _ (ap Freshes (one_type k s f ts o xs e a)) (index_process k (s + 1) (omega arith) ts o (x.word ∷ xs) (omega arith) p)
 index_process k s f ts o xs e (t.stop _) = refl
 
 -- the nodes of a process over the names in scope spell it
-pub nodes_spell : (ts : Abbreviations) (xs : Names) → AreOver (length xs) ts → (p : t.Proc) → Spells (length xs) (process_over (length xs) ts xs p) (flat 0 (length xs) (process_in (λ i. i) ts xs p))
+pub nodes_spell : (ts : Abbreviations) (xs : Names) → AreAbbreviationsOver (length xs) ts → (p : t.Proc) → SpellsProcess (length xs) (process_over (length xs) ts xs p) (flat 0 (length xs) (process_in (λ i. i) ts xs p))
 nodes_spell ts xs o p =
     let k : ℕ = length xs in
     let q : Process = process_in (λ i. i) ts xs p in

@@ -17,7 +17,7 @@ use Rattle.spi_scope.specs.declared.fault.ScopeFault.TheVariants.{UnknownType, T
 use Rattle.spi_scope.specs.Scope.{Word, Abbreviations, type_of}
 use Rattle.spi_scope.specs.Meaning.{nested, nested_types}
 use Rattle.spi_scope.specs.Points.{one, uses_type, declares_type}
-use Rattle.spi_scope.specs.Gives.{Ran, after, Fails, run}
+use Rattle.spi_scope.specs.Gives.{Ran, after, FailsWith, run}
 use Rattle.spi_scope.specs.State.{abbreviation}
 
 nested_last : (a : Message) (ms : List Message) (m n : Message) → nested a (ms ++ m ∷ n ∷ []) ≡ nested a (ms ++ pair m n ∷ [])
@@ -73,8 +73,8 @@ new_type ts w c e = rw (e, add-zero) refl
 pub type_again : (ts : Abbreviations) (w : SWord) (c : ℕ) (k : Ty) → type_of ts w.word ≡ Some k → run (one (declares_type ts w)) c ≡ Err (TypeTwice w.span w.word)
 type_again ts w c k e = rw e refl
 
-pub fails_behind : (e : ScopeFault) (r : Ran) (c : ℕ) (go : ℕ → Ran) → r ≡ Ok c → Fails e (go c) → Fails e (after r go)
-fails_behind e r c go h f = subst (λ (x : Ran). Fails e (after x go)) (sym h) f
+pub fails_behind : (e : ScopeFault) (r : Ran) (c : ℕ) (go : ℕ → Ran) → r ≡ Ok c → FailsWith e (go c) → FailsWith e (after r go)
+fails_behind e r c go h f = subst (λ (x : Ran). FailsWith e (after x go)) (sym h) f
 
 pub map_set : {A B : Type 0} (f : A → B) (xs : List A) (i : ℕ) (y : A) → map f (slice_set xs i y) ≡ slice_set (map f xs) i (f y)
 map_set f [] i y = refl

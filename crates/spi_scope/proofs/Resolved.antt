@@ -7,11 +7,11 @@ use Rattle.spi_scope.specs.declared.fault.ScopeFault.TheVariants.{NoMemory}
 use Rattle.spi_scope.specs.Scope.{Names, Abbreviations}
 use Rattle.spi_scope.specs.Points.{decls_points, body_points, file_points, all_names, all_types}
 use Rattle.spi_scope.specs.First.{IsClean, HasFirst}
-use Rattle.spi_scope.specs.Gives.{Ran, after, Fails, run}
+use Rattle.spi_scope.specs.Gives.{Ran, after, FailsWith, run}
 use Rattle.spi_scope.proofs.Firsts.{faulted, is_clean}
 
 module _ (tree : t.File) where
-  pub declared_fails : (e : ScopeFault) → Fails e (run (decls_points [] [] tree.decls) 0) → (e ≡ NoMemory) ⊎ HasFirst tree e
+  pub declared_fails : (e : ScopeFault) → FailsWith e (run (decls_points [] [] tree.decls) 0) → (e ≡ NoMemory) ⊎ HasFirst tree e
   declared_fails e h =
       let body : ℕ → Ran = run (body_points (all_types [] [] tree.decls) (all_names [] tree.decls) tree) in
       faulted e (file_points tree) (⊎_elim (λ m. inl m) (λ f. inr (ap (λ (r : Ran). after r body) f)) h)
@@ -25,5 +25,5 @@ module _ (tree : t.File) where
     pub resolved_clean : (d : ℕ) → run (body_points ts xs tree) c ≡ Ok d → IsClean tree
     resolved_clean d h = (is_clean (file_points tree) d (whole (Ok d) h)).0
 
-    pub resolved_fails : (g : ScopeFault) → Fails g (run (body_points ts xs tree) c) → (g ≡ NoMemory) ⊎ HasFirst tree g
+    pub resolved_fails : (g : ScopeFault) → FailsWith g (run (body_points ts xs tree) c) → (g ≡ NoMemory) ⊎ HasFirst tree g
     resolved_fails g h = faulted g (file_points tree) (⊎_elim (λ m. inl m) (λ k. inr (whole (Err g) k)) h)

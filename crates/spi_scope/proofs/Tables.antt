@@ -11,7 +11,7 @@ use Rattle.indexmap.specs.IndexMap.{IndexMap, get_by, UpdatesBy}
 use denote.Ref.{Bor}
 use Rattle.spi_scope.specs.Scope.{Word, Names, number_of, outer}
 use Rattle.spi_scope.specs.declared.names.Held.{Held}
-use Rattle.spi_scope.specs.Table.{spellings, Hide, Keeps, Begin, top, IsPushed, IsPopped}
+use Rattle.spi_scope.specs.Table.{spellings, Hide, KeepsTable, Begin, top, IsPushed, IsPopped}
 
 pub reverse_push : (es : List Held) (e : Held) → reverse (es ++ e ∷ []) ≡ e ∷ reverse es
 reverse_push es e = reverse-append es (e ∷ [])
@@ -22,7 +22,7 @@ many_names es = length-map (reverse es) (λ e. e.word.now) ∙ length-reverse es
 abbrev pub Changes : {S : Type 0} → IndexMap (Bor (List ℕ)) ℕ S → IndexMap (Bor (List ℕ)) ℕ S → Word → Option ℕ → Type 0
 Changes m n x v = UpdatesBy (λ x y. bytes_eq x.now y.now) (λ k. bytes_eq x k.now) m n v
 
-pub entered : {S : Type 0} (m n : IndexMap (Bor (List ℕ)) ℕ S) (es : List Held) (e : Held) (number : ℕ) → Keeps m es → Changes m n e.word.now (Some number) → e.before ≡ number_of (spellings (reverse es)) e.word.now → number ≡ length es → length es + 1 < 2 ^ 32 → Keeps n (es ++ e ∷ [])
+pub entered : {S : Type 0} (m n : IndexMap (Bor (List ℕ)) ℕ S) (es : List Held) (e : Held) (number : ℕ) → KeepsTable m es → Changes m n e.word.now (Some number) → e.before ≡ number_of (spellings (reverse es)) e.word.now → number ≡ length es → length es + 1 < 2 ^ 32 → KeepsTable n (es ++ e ∷ [])
 entered m n es e number k u h p few = record {
   finds = λ w.
       hash_map_updates_str e.word.now m n (Some number) u w
@@ -33,10 +33,10 @@ entered m n es e number k u h p few = record {
   few = omega (arith, length-append es (e ∷ []));
 }
 
-pub hidden_is : {S : Type 0} (m : IndexMap (Bor (List ℕ)) ℕ S) (es : List Held) (e : Held) → Keeps m (es ++ e ∷ []) → e.before ≡ number_of (spellings (reverse es)) e.word.now
+pub hidden_is : {S : Type 0} (m : IndexMap (Bor (List ℕ)) ℕ S) (es : List Held) (e : Held) → KeepsTable m (es ++ e ∷ []) → e.before ≡ number_of (spellings (reverse es)) e.word.now
 hidden_is m es e k = (subst Hide (reverse_push es e) k.hide).0
 
-pub left : {S : Type 0} (m n : IndexMap (Bor (List ℕ)) ℕ S) (es : List Held) (e : Held) → Keeps m (es ++ e ∷ []) → Changes m n e.word.now e.before → Keeps n es
+pub left : {S : Type 0} (m n : IndexMap (Bor (List ℕ)) ℕ S) (es : List Held) (e : Held) → KeepsTable m (es ++ e ∷ []) → Changes m n e.word.now e.before → KeepsTable n es
 left m n es e k u = record {
   finds = λ w. hash_map_updates_str e.word.now m n e.before u w ∙ ap (λ a. cond (bytes_eq e.word.now w) e.before a) (before w) ∙ shown w (bytes_eq e.word.now w) refl;
   hide = (subst Hide (reverse_push es e) k.hide).1;
@@ -52,7 +52,7 @@ left m n es e k u = record {
         rw q (hidden_is m es e k ∙ ap (number_of (spellings (reverse es))) same)
     shown w false q = rw q refl
 
-pub present : {S : Type 0} (m : IndexMap (Bor (List ℕ)) ℕ S) (es : List Held) (e : Held) → Keeps m (es ++ e ∷ []) → get_by (λ k. bytes_eq e.word.now k.now) m ≡ None → ⊥
+pub present : {S : Type 0} (m : IndexMap (Bor (List ℕ)) ℕ S) (es : List Held) (e : Held) → KeepsTable m (es ++ e ∷ []) → get_by (λ k. bytes_eq e.word.now k.now) m ≡ None → ⊥
 present m es e k q =
     let same : bytes_eq e.word.now e.word.now ≡ true = (bytes_eq-Decides e.word.now e.word.now).1 refl in
     let f : Some (length (spellings (reverse es))) ≡ None =

@@ -5,7 +5,7 @@ use Rattle.spi_scope.specs.declared.trail.Spelled.{Spelled}
 use Rattle.std.proofs.lemmas.List.{length-append, length-map, map_push, drop_more}
 use Rattle.spi_scope.specs.Scope.{Names}
 use Rattle.spi_scope.specs.declared.trail.Link.{Link}
-use Rattle.spi_scope.specs.Chains.{Pair, link, spelled, chain_at, longer, chains, LeadBack, all_at, AreBelow, found}
+use Rattle.spi_scope.specs.Chains.{Pair, link, spelled, chain_at, longer, chains, LeadBack, all_at, AreNumbersBelow, found}
 
 longer_push : (cs : List Names) (ls : List Pair) (l : Pair) → longer cs (ls ++ l ∷ []) ≡ longer cs ls ++ (l.word ∷ chain_at (longer cs ls) l.outer) ∷ []
 longer_push cs [] l = refl
@@ -32,11 +32,11 @@ lead_push ls new l e h k =
     subst (λ x. LeadBack 1 (map link x)) (sym e)
     (subst (LeadBack 1) (sym (map_push link ls l)) (lead_more 1 (map link ls) (link l) h (omega (arith, length_chains ls, length-map ls link))))
 
-pub below_more : (n m : ℕ) (is : List ℕ) → n ≤ m → AreBelow n is → AreBelow m is
+pub below_more : (n m : ℕ) (is : List ℕ) → n ≤ m → AreNumbersBelow n is → AreNumbersBelow m is
 below_more n m [] h b = tt
 below_more n m (i ∷ is) h b = (omega arith, below_more n m is h b.1)
 
-pub below_push : (n : ℕ) (is : List ℕ) (i : ℕ) → AreBelow n is → i < n → AreBelow n (is ++ i ∷ [])
+pub below_push : (n : ℕ) (is : List ℕ) (i : ℕ) → AreNumbersBelow n is → i < n → AreNumbersBelow n (is ++ i ∷ [])
 below_push n [] i b h = (h, tt)
 below_push n (j ∷ is) i b h = (b.0, below_push n is i b.1 h)
 
@@ -45,7 +45,7 @@ get_before [] ds i h = absurd (omega arith)
 get_before (c ∷ cs) ds zero h = refl
 get_before (c ∷ cs) ds (suc i) h = get_before cs ds i (omega arith)
 
-pub all_before : (cs ds : List Names) (is : List ℕ) → AreBelow (length cs) is → all_at (cs ++ ds) is ≡ all_at cs is
+pub all_before : (cs ds : List Names) (is : List ℕ) → AreNumbersBelow (length cs) is → all_at (cs ++ ds) is ≡ all_at cs is
 all_before cs ds [] b = refl
 all_before cs ds (i ∷ is) b = ap (λ x. found x ∷ all_at (cs ++ ds) is) (get_before cs ds i b.0) ∙ ap (λ l. chain_at cs i ∷ l) (all_before cs ds is b.1)
 
@@ -96,7 +96,7 @@ chain_step xs at i x e h q b =
 pub chain_none : (xs : List Spelled) → chain_at (chains (map spelled xs)) 0 ≡ []
 chain_none xs = ap found (longer_keeps ([] ∷ []) (map spelled xs) 0 (omega arith))
 
-pub below_or : (n : ℕ) (is : List ℕ) (j d : ℕ) → AreBelow n is → j < length is → get_or is j d < n
+pub below_or : (n : ℕ) (is : List ℕ) (j d : ℕ) → AreNumbersBelow n is → j < length is → get_or is j d < n
 below_or n [] j d b h = absurd (omega arith)
 below_or n (k ∷ is) zero d b h = b.0
 below_or n (k ∷ is) (suc j) d b h = below_or n is j d b.1 (omega arith)

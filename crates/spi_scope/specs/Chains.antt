@@ -51,6 +51,6 @@ LeadBack n (l ∷ ls) = (l.outer < n) × LeadBack (n + 1) ls
 abbrev pub all_at : List Names → List ℕ → List Names
 all_at cs is = map (chain_at cs) is
 
-abbrev pub AreBelow : ℕ → List ℕ → Type 0
-AreBelow n [] = ⊤
-AreBelow n (i ∷ is) = (i < n) × AreBelow n is
+abbrev pub AreNumbersBelow : ℕ → List ℕ → Type 0
+AreNumbersBelow n [] = ⊤
+AreNumbersBelow n (i ∷ is) = (i < n) × AreNumbersBelow n is

@@ -22,21 +22,21 @@ run (one p) c = unless (fault_at c p) (c + added p)
 run (ps ⨾ qs) c = after (run ps c) (run qs)
 
 -- a fault is the one that was run into, and out of memory may come at any time
-abbrev pub Fails : {X : Type 0} → ScopeFault → Result X ScopeFault → Type 0
-Fails e ran = (e ≡ faults.NoMemory) ⊎ (ran ≡ Err e)
+abbrev pub FailsWith : {X : Type 0} → ScopeFault → Result X ScopeFault → Type 0
+FailsWith e ran = (e ≡ faults.NoMemory) ⊎ (ran ≡ Err e)
 
 -- what a function returned, seen by view, is what these points lead to and what is meant
-abbrev pub Gives : {X Y : Type 0} → (X → Y) → Result X ScopeFault → Ran → ℕ → Y → Type 0
-Gives view (Ok x) ran c meant = (ran ≡ Ok c) × (view x ≡ meant)
-Gives view (Err e) ran c meant = Fails e ran
+abbrev pub GivesMeant : {X Y : Type 0} → (X → Y) → Result X ScopeFault → Ran → ℕ → Y → Type 0
+GivesMeant view (Ok x) ran c meant = (ran ≡ Ok c) × (view x ≡ meant)
+GivesMeant view (Err e) ran c meant = FailsWith e ran
 
 -- the same of a function that returns nothing
 abbrev pub Goes : Result (Unit {0}) ScopeFault → Ran → ℕ → Type 0
 Goes (Ok x) ran c = ran ≡ Ok c
-Goes (Err e) ran c = Fails e ran
+Goes (Err e) ran c = FailsWith e ran
 
 -- the same of a term with its nodes counted on: the term is left out where there are more than 1,000
-abbrev pub Counts : {X Y : Type 0} → (X → Y) → (Y → ℕ) → Result (X × ℕ) ScopeFault → Ran → ℕ → ℕ → Y → Type 0
-Counts view nodes (Ok x) ran c spent meant = (ran ≡ Ok c) × (x.1 ≡ stopped (spent + nodes meant))
+abbrev pub CountsOn : {X Y : Type 0} → (X → Y) → (Y → ℕ) → Result (X × ℕ) ScopeFault → Ran → ℕ → ℕ → Y → Type 0
+CountsOn view nodes (Ok x) ran c spent meant = (ran ≡ Ok c) × (x.1 ≡ stopped (spent + nodes meant))
     × (x.1 ≤ 1000 → view x.0 ≡ meant)
-Counts view nodes (Err e) ran c spent meant = Fails e ran
+CountsOn view nodes (Err e) ran c spent meant = FailsWith e ran

@@ -3,6 +3,6 @@ use Rattle.std.specs.Prelude.{ℕ, [], ◌∷◌, ⊤}
 use Rattle.spi_term.specs.Names.{TyOver}
 use Rattle.spi_scope.specs.Scope.{Abbreviations}
 
-abbrev pub AreOver : ℕ → Abbreviations → Type 0
-AreOver n [] = ⊤
-AreOver n (u ∷ ts) = TyOver n u.stands_for × AreOver n ts
+abbrev pub AreAbbreviationsOver : ℕ → Abbreviations → Type 0
+AreAbbreviationsOver n [] = ⊤
+AreAbbreviationsOver n (u ∷ ts) = TyOver n u.stands_for × AreAbbreviationsOver n ts

@@ -17,12 +17,12 @@ use Rattle.spi_scope.specs.Meaning.{behind}
 use Rattle.spi_scope.specs.Parts.{numbered_message}
 use Rattle.spi_scope.specs.Points.{Point, uses_name, uses_type, declares_name, declares_type, ends_message, ends_type, adds, starts_step, msg_nodes, type_nodes, msg_span, ty_span, names_behind, types_behind, all_names, all_types}
 
-pub data Item : Type 0 where
-  token : Kind → Item
-  point : Point → Item
+pub data ScanItem : Type 0 where
+  token : Kind → ScanItem
+  point : Point → ScanItem
 
 abbrev pub Scan : Type 0
-Scan = List Item
+Scan = List ScanItem
 
 abbrev pub kinds_in_scan : Scan → List Kind
 kinds_in_scan [] = []

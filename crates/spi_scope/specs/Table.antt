@@ -38,7 +38,7 @@ abbrev pub Hide : List Held → Type 0
 Hide [] = ⊤
 Hide (e ∷ es) = (e.before ≡ number_of (spellings es) e.word.now) × Hide es
 
-pub record Keeps {S : Type 0} (m : IndexMap (Bor (List ℕ)) ℕ S) (es : List Held) : Type 0 where
+pub record KeepsTable {S : Type 0} (m : IndexMap (Bor (List ℕ)) ℕ S) (es : List Held) : Type 0 where
   pub finds : (w : Word) → get_by (λ k. bytes_eq w k.now) m ≡ number_of (spellings (reverse es)) w
   pub hide : Hide (reverse es)
   pub few : length es < 2 ^ 32

@@ -9,8 +9,8 @@ ghost use Rattle.spi_term.specs.View.{message, atom};
 ghost use Rattle.spi_rules.specs.Deriv.{written, rule_use};
 ghost use Rattle.spi_scope.specs.Parts.{numbered_message, numbered_messages, numbered_atom, numbered_effect, rule_named, uses_in, all_uses_in, use_places, all_use_places};
 ghost use Rattle.spi_scope.specs.Points.{msg_span, numbered_points, numbered_atom_points, numbered_atoms_points, written_points, deriv_points, derivs_points};
-ghost use Rattle.spi_scope.specs.Gives.{Gives, Goes, run};
-ghost use Rattle.spi_scope.specs.Leads.{Leads};
+ghost use Rattle.spi_scope.specs.Gives.{GivesMeant, Goes, run};
+ghost use Rattle.spi_scope.specs.Leads.{LeadsTo};
 ghost use Rattle.spi_scope.specs.State.{row_nodes};
 
 use crate::NoMemory;
@@ -99,7 +99,7 @@ fn read_all_numbered(alloc: Global, spent: u64, ms: &[SMsg]) -> Result<(Vec<Msg>
 
 /// The message of an atom: of 200 nodes at most.
 fn read_small(alloc: Global, count: u64, m: &SMsg) -> Result<Msg, ScopeFault>
-    ensures { Gives message result (run (numbered_points (msg_of m.now)) count) count
+    ensures { GivesMeant message result (run (numbered_points (msg_of m.now)) count) count
         (numbered_message (msg_of m.now)) }
 {
     let span = message_place(m);
@@ -111,7 +111,7 @@ fn read_small(alloc: Global, count: u64, m: &SMsg) -> Result<Msg, ScopeFault>
 }
 
 fn read_atom(alloc: Global, count: u64, a: &SAtom) -> Result<Atom, ScopeFault>
-    ensures { Gives atom result (run (numbered_atom_points (atom_of a.now)) count) count
+    ensures { GivesMeant atom result (run (numbered_atom_points (atom_of a.now)) count) count
         (numbered_atom (atom_of a.now)) }
 {
     match a {
@@ -122,7 +122,7 @@ fn read_atom(alloc: Global, count: u64, a: &SAtom) -> Result<Atom, ScopeFault>
 }
 
 fn read_atoms(alloc: Global, count: u64, es: &[SAtom]) -> Result<Vec<Atom>, ScopeFault>
-    ensures { Gives (λ v. map atom v.items) result (run (numbered_atoms_points (map atom_of es.now)) count)
+    ensures { GivesMeant (λ v. map atom v.items) result (run (numbered_atoms_points (map atom_of es.now)) count)
         count (map numbered_atom (map atom_of es.now)) }
 {
     let mut read = Vec::new(alloc);
@@ -139,7 +139,7 @@ fn read_written(
     count: u64,
     effect: &Option<Vec<SAtom>>,
 ) -> Result<Option<Effect>, ScopeFault>
-    ensures { Gives written result (run (written_points (effect_of effect.now)) count) count
+    ensures { GivesMeant written result (run (written_points (effect_of effect.now)) count) count
         (numbered_effect (effect_of effect.now)) }
 {
     match effect {

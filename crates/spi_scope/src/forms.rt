@@ -2,13 +2,13 @@
 
 ghost use Rattle.std.specs.Prelude.{◌≡◌, suc, ◌+◌, ◌≤◌, [], ◌∷◌, ◌++◌, map, length, OnOk};
 ghost use Rattle.spi_tree.specs.Views.{msg_of, ty_of};
-ghost use Rattle.spi_term.specs.Term.{Recvs, Serves, Splits, Selects, Decrypts, Checks, Begins, Ends, EndManys, Casts, Makes};
+ghost use Rattle.spi_term.specs.Term.{Recvs, Serves, Splits, Selects, Decrypts, Checks, Begins, Ends, EndManys, Casts, Freshes};
 ghost use Rattle.spi_term.specs.Spelling.{prefix_at};
 ghost use Rattle.spi_term.specs.View.{shape_of};
 ghost use Rattle.spi_scope.specs.Meaning.{message_in, type_in};
 ghost use Rattle.spi_scope.specs.Points.{message_head, messages_head, typed_head, new_head, tested_head, split_head, match_head};
 ghost use Rattle.spi_scope.specs.Gives.{run};
-ghost use Rattle.spi_scope.specs.Leads.{Leads};
+ghost use Rattle.spi_scope.specs.Leads.{LeadsTo};
 ghost use Rattle.spi_scope.specs.State.{abbreviations};
 
 use crate::arena::{Arena, here, push};
@@ -33,7 +33,7 @@ pub fn receive<'t>(
     ty: &'t STy,
 ) -> Result<(), ScopeFault>
     requires few { scope.old.count ≤ 100000 }
-    ensures gives { Leads result
+    ensures gives { LeadsTo result
         (run (typed_head (abbreviations scope.old.types) scope.old.held.names span (msg_of channel.now)
         (ty_of ty.entry.now)) scope.old.count) scope.new.count }
     ensures nodes { OnOk result
@@ -65,7 +65,7 @@ pub fn serve<'t>(
     ty: &'t STy,
 ) -> Result<(), ScopeFault>
     requires few { scope.old.count ≤ 100000 }
-    ensures gives { Leads result
+    ensures gives { LeadsTo result
         (run (typed_head (abbreviations scope.old.types) scope.old.held.names span (msg_of channel.now)
         (ty_of ty.entry.now)) scope.old.count) scope.new.count }
     ensures nodes { OnOk result
@@ -100,7 +100,7 @@ pub fn split<'t>(
     right: &'t STy,
 ) -> Result<(), ScopeFault>
     requires few { scope.old.count ≤ 100000 }
-    ensures gives { Leads result
+    ensures gives { LeadsTo result
         (run (split_head (abbreviations scope.old.types) scope.old.held.names span (msg_of whole.now)
         name.entry.now (ty_of left.entry.now) (ty_of right.entry.now)) scope.old.count) scope.new.count }
     ensures nodes { OnOk result
@@ -153,7 +153,7 @@ pub fn select<'t>(
     right: &'t STy,
 ) -> Result<(), ScopeFault>
     requires few { scope.old.count ≤ 100000 }
-    ensures gives { Leads result
+    ensures gives { LeadsTo result
         (run (match_head (abbreviations scope.old.types) scope.old.held.names span (msg_of whole.now)
         name.entry.now (ty_of left.entry.now) (msg_of equal.now) (ty_of right.entry.now)) scope.old.count)
         scope.new.count }
@@ -204,7 +204,7 @@ pub fn decrypt<'t>(
     key: &SMsg,
 ) -> Result<(), ScopeFault>
     requires few { scope.old.count ≤ 100000 }
-    ensures gives { Leads result
+    ensures gives { LeadsTo result
         (run (tested_head (abbreviations scope.old.types) scope.old.held.names span (msg_of whole.now)
         (ty_of ty.entry.now) (msg_of key.now)) scope.old.count) scope.new.count }
     ensures nodes { OnOk result
@@ -249,7 +249,7 @@ pub fn check(
     nonce: &SMsg,
 ) -> Result<(), ScopeFault>
     requires few { scope.old.count ≤ 100000 }
-    ensures gives { Leads result
+    ensures gives { LeadsTo result
         (run (messages_head scope.old.held.names span (msg_of whole.now) (msg_of nonce.now)) scope.old.count)
         scope.new.count }
     ensures nodes { OnOk result
@@ -280,7 +280,7 @@ pub fn begin(
     label: &SMsg,
 ) -> Result<(), ScopeFault>
     requires few { scope.old.count ≤ 100000 }
-    ensures gives { Leads result
+    ensures gives { LeadsTo result
         (run (message_head scope.old.held.names span (msg_of label.now)) scope.old.count) scope.new.count }
     ensures nodes { OnOk result
         (map shape_of arena.new.nodes.items ≡ map shape_of arena.old.nodes.items
@@ -309,7 +309,7 @@ pub fn end(
     label: &SMsg,
 ) -> Result<(), ScopeFault>
     requires few { scope.old.count ≤ 100000 }
-    ensures gives { Leads result
+    ensures gives { LeadsTo result
         (run (message_head scope.old.held.names span (msg_of label.now)) scope.old.count) scope.new.count }
     ensures nodes { OnOk result
         (map shape_of arena.new.nodes.items ≡ map shape_of arena.old.nodes.items
@@ -338,7 +338,7 @@ pub fn end_many(
     label: &SMsg,
 ) -> Result<(), ScopeFault>
     requires few { scope.old.count ≤ 100000 }
-    ensures gives { Leads result
+    ensures gives { LeadsTo result
         (run (message_head scope.old.held.names span (msg_of label.now)) scope.old.count) scope.new.count }
     ensures nodes { OnOk result
         (map shape_of arena.new.nodes.items ≡ map shape_of arena.old.nodes.items
@@ -368,7 +368,7 @@ pub fn cast<'t>(
     ty: &'t STy,
 ) -> Result<(), ScopeFault>
     requires few { scope.old.count ≤ 100000 }
-    ensures gives { Leads result
+    ensures gives { LeadsTo result
         (run (typed_head (abbreviations scope.old.types) scope.old.held.names span (msg_of whole.now)
         (ty_of ty.entry.now)) scope.old.count) scope.new.count }
     ensures nodes { OnOk result
@@ -400,13 +400,13 @@ pub fn fresh<'t>(
     ty: &'t STy,
 ) -> Result<(), ScopeFault>
     requires few { scope.old.count ≤ 100000 }
-    ensures gives { Leads result
+    ensures gives { LeadsTo result
         (run (new_head (abbreviations scope.old.types) scope.old.held.names span (ty_of ty.entry.now))
         scope.old.count) scope.new.count }
     ensures nodes { OnOk result
         (map shape_of arena.new.nodes.items ≡ map shape_of arena.old.nodes.items
         ++ prefix_at (length scope.old.held.names)
-        (Makes (type_in (length scope.old.held.names) (abbreviations scope.old.types) scope.old.held.names
+        (Freshes (type_in (length scope.old.held.names) (abbreviations scope.old.types) scope.old.held.names
         (ty_of ty.entry.now))) (suc (length arena.old.nodes.items)) ∷ []) }
     ensures len { OnOk result (length arena.new.nodes.items ≡ length arena.old.nodes.items + 1) }
     ensures places { OnOk result (arena.new.places.items ≡ arena.old.places.items ++ span ∷ []) }

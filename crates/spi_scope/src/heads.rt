@@ -6,8 +6,8 @@ ghost use Rattle.spi_term.specs.Spelling.{ty_nodes};
 ghost use Rattle.spi_term.specs.View.{message, ty};
 ghost use Rattle.spi_scope.specs.Meaning.{message_in, type_in};
 ghost use Rattle.spi_scope.specs.Points.{one, adds, part, ty_span, type_nodes, bounded_type, whole_type, message_head, messages_head, typed_head, tested_head};
-ghost use Rattle.spi_scope.specs.Gives.{Gives, Goes, run};
-ghost use Rattle.spi_scope.specs.Leads.{Leads};
+ghost use Rattle.spi_scope.specs.Gives.{GivesMeant, Goes, run};
+ghost use Rattle.spi_scope.specs.Leads.{LeadsTo};
 ghost use Rattle.spi_scope.specs.State.{abbreviations};
 
 use crate::fault::ScopeFault;
@@ -39,7 +39,7 @@ pub fn add(scope: &mut Scope, nodes: u64, span: Span) -> Result<(), ScopeFault>
 #[tactic(auto, unfolding(crate::specs::Points::part))]
 pub fn read_part(alloc: Global, scope: &mut Scope, base: u32, m: &SMsg) -> Result<Msg, ScopeFault>
     requires few { scope.old.count ≤ 100000 }
-    ensures gives { Gives message result (run (part scope.old.held.names (msg_of m.now)) scope.old.count)
+    ensures gives { GivesMeant message result (run (part scope.old.held.names (msg_of m.now)) scope.old.count)
         scope.new.count (message_in base scope.old.held.names (msg_of m.now)) }
     ensures held { OnOk result (scope.new.held ≡ scope.old.held) }
     ensures types { OnOk result (scope.new.types ≡ scope.old.types) }
@@ -75,7 +75,7 @@ fn read_bounded<'t>(
     span: Span,
 ) -> Result<(Ty, u64), ScopeFault>
     requires { span ≡ ty_span (ty_of t.now) }
-    ensures gives { Gives (λ x. ty x.0) result
+    ensures gives { GivesMeant (λ x. ty x.0) result
         (run (bounded_type (abbreviations scope.old.types) scope.old.held.names (ty_of t.entry.now))
         scope.old.count) scope.old.count
         (type_in base (abbreviations scope.old.types) scope.old.held.names (ty_of t.entry.now)) }
@@ -100,7 +100,7 @@ pub fn read_annotation<'t>(
     t: &'t STy,
 ) -> Result<(Ty, u64), ScopeFault>
     requires few { scope.old.count ≤ 100000 }
-    ensures gives { Gives (λ x. ty x.0) result
+    ensures gives { GivesMeant (λ x. ty x.0) result
         (run (whole_type (abbreviations scope.old.types) scope.old.held.names (ty_of t.entry.now))
         scope.old.count) scope.new.count
         (type_in base (abbreviations scope.old.types) scope.old.held.names (ty_of t.entry.now)) }
@@ -125,7 +125,7 @@ pub fn read_message_head(
     m: &SMsg,
 ) -> Result<Msg, ScopeFault>
     requires few { scope.old.count ≤ 100000 }
-    ensures gives { Gives message result
+    ensures gives { GivesMeant message result
         (run (message_head scope.old.held.names span (msg_of m.now)) scope.old.count) scope.new.count
         (message_in base scope.old.held.names (msg_of m.now)) }
     ensures held { OnOk result (scope.new.held ≡ scope.old.held) }
@@ -147,7 +147,7 @@ pub fn read_messages_head(
     n: &SMsg,
 ) -> Result<(Msg, Msg), ScopeFault>
     requires few { scope.old.count ≤ 100000 }
-    ensures gives { Leads result
+    ensures gives { LeadsTo result
         (run (messages_head scope.old.held.names span (msg_of m.now) (msg_of n.now)) scope.old.count)
         scope.new.count }
     ensures read { IfOk result
@@ -174,7 +174,7 @@ pub fn read_typed_head<'t>(
     a: &'t STy,
 ) -> Result<(Msg, Ty), ScopeFault>
     requires few { scope.old.count ≤ 100000 }
-    ensures gives { Leads result
+    ensures gives { LeadsTo result
         (run (typed_head (abbreviations scope.old.types) scope.old.held.names span (msg_of m.now)
         (ty_of a.entry.now)) scope.old.count) scope.new.count }
     ensures read { IfOk result
@@ -202,7 +202,7 @@ pub fn read_tested_head<'t>(
     n: &SMsg,
 ) -> Result<(Msg, Ty, Msg), ScopeFault>
     requires few { scope.old.count ≤ 100000 }
-    ensures gives { Leads result
+    ensures gives { LeadsTo result
         (run (tested_head (abbreviations scope.old.types) scope.old.held.names span (msg_of m.now)
         (ty_of a.entry.now) (msg_of n.now)) scope.old.count) scope.new.count }
     ensures read { IfOk result
@@ -229,7 +229,7 @@ pub fn read_under<'t>(
     a: &'t STy,
 ) -> Result<Ty, ScopeFault>
     requires few { scope.old.count ≤ 100000 }
-    ensures gives { Gives ty result
+    ensures gives { GivesMeant ty result
         (run (whole_type (abbreviations scope.old.types) (name.entry.now.word ∷ scope.old.held.names)
         (ty_of a.entry.now)) scope.old.count) scope.new.count
         (type_in base (abbreviations scope.old.types) (name.entry.now.word ∷ scope.old.held.names)

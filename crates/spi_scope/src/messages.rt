@@ -9,7 +9,7 @@ ghost use Rattle.spi_scope.specs.declared.fault.ScopeFault.TheVariants.{NoMemory
 ghost use Rattle.spi_scope.specs.Scope.{number_of};
 ghost use Rattle.spi_scope.specs.Meaning.{named, nested, message_in, messages_in};
 ghost use Rattle.spi_scope.specs.Points.{one, uses_name, message_points, messages_points};
-ghost use Rattle.spi_scope.specs.Gives.{Counts, run};
+ghost use Rattle.spi_scope.specs.Gives.{CountsOn, run};
 ghost use Rattle.spi_scope.specs.State.{row_nodes};
 
 use crate::fault::ScopeFault;
@@ -39,7 +39,7 @@ fn read_name(
     spent: u64,
     word: &SWord,
 ) -> Result<(Msg, u64), ScopeFault>
-    ensures { Counts message message_size result
+    ensures { CountsOn message message_size result
         (run (one (uses_name scope.now.held.names word.now)) scope.now.count) scope.now.count spent
         (named base (length scope.now.held.names) (number_of scope.now.held.names word.now.word)) }
 {
@@ -115,7 +115,7 @@ pub fn read_message(
     spent: u64,
     m: &SMsg,
 ) -> Result<(Msg, u64), ScopeFault>
-    ensures { Counts message message_size result
+    ensures { CountsOn message message_size result
         (run (message_points scope.now.held.names (msg_of m.now)) scope.now.count) scope.now.count spent
         (message_in base scope.now.held.names (msg_of m.now)) }
 {
@@ -174,7 +174,7 @@ fn read_messages(
     spent: u64,
     ms: &[SMsg],
 ) -> Result<(Vec<Msg>, u64), ScopeFault>
-    ensures { Counts (λ v. map message v.items) row_nodes result
+    ensures { CountsOn (λ v. map message v.items) row_nodes result
         (run (messages_points scope.now.held.names (msgs_of_list (map msg_of ms.now))) scope.now.count)
         scope.now.count spent (messages_in base scope.now.held.names (msgs_of_list (map msg_of ms.now))) }
 {

@@ -2,7 +2,7 @@
 
 ghost use Rattle.std.specs.Prelude.{◌≡◌, ◌+◌, ◌-◌, ◌^◌, ◌<◌, drop, [], ◌∷◌, reverse, length, IfOk, OnOk, OnErr, IfSome};
 ghost use Rattle.spi_scope.specs.Scope.{number_of, outer};
-ghost use Rattle.spi_scope.specs.Table.{Keeps, IsPushed, IsPopped, top, with_names, noting};
+ghost use Rattle.spi_scope.specs.Table.{KeepsTable, IsPushed, IsPopped, top, with_names, noting};
 
 use crate::NoMemory;
 use crate::trail::{Scopes, Trail};
@@ -36,9 +36,9 @@ fn enter<'t>(
     word: &'t str,
     chain: u32,
 ) -> Result<(), NoMemory>
-    requires keeps { Keeps innermost.old hidden.old.items }
+    requires keeps { KeepsTable innermost.old hidden.old.items }
     requires room { length hidden.old.items + 1 < 2 ^ 32 }
-    ensures keeps { Keeps innermost.new hidden.new.items }
+    ensures keeps { KeepsTable innermost.new hidden.new.items }
     ensures ok { OnOk result (IsPushed hidden.old.items hidden.new.items word.now chain) }
     ensures err { OnErr result (hidden.new.items ≡ hidden.old.items) }
 {
@@ -60,9 +60,9 @@ fn enter<'t>(
 
 /// The innermost name goes out of scope.
 fn leave<'t>(innermost: &mut IndexMap<&'t str, u32>, hidden: &mut Vec<Held<'t>>)
-    requires keeps { Keeps innermost.old hidden.old.items }
+    requires keeps { KeepsTable innermost.old hidden.old.items }
     requires some { 0 < length hidden.old.items }
-    ensures keeps { Keeps innermost.new hidden.new.items }
+    ensures keeps { KeepsTable innermost.new hidden.new.items }
     ensures out { IsPopped hidden.old.items hidden.new.items }
 {
     if let Some(Held { word, before, .. }) = hidden.pop() {
@@ -98,7 +98,7 @@ impl Drop for Names<'_> {
 
 impl<'t> Model for Names<'t> {
     ghost use Rattle.std.specs.Prelude.{reverse};
-    ghost use Rattle.spi_scope.specs.Table.{Naming, coded_naming, Keeps, Begin, spellings};
+    ghost use Rattle.spi_scope.specs.Table.{Naming, coded_naming, KeepsTable, Begin, spellings};
 
     ghost Value = { Naming };
 
@@ -106,7 +106,7 @@ impl<'t> Model for Names<'t> {
 
     ghost view = { λ s. record { names = spellings (reverse s.hidden.items); noted = s.trail.noted } };
 
-    ghost invariant = { λ s. Keeps s.innermost s.hidden.items × Begin s.trail.chains (reverse s.hidden.items) };
+    ghost invariant = { λ s. KeepsTable s.innermost s.hidden.items × Begin s.trail.chains (reverse s.hidden.items) };
 }
 
 impl<'t> Names<'t> {

@@ -15,9 +15,9 @@ ghost use Rattle.spi_scope.specs.First.{HasFirst};
 ghost use Rattle.spi_scope.specs.StandsFor.{Meant, StandsFor, over_free, opponent_over, schedule_in, derivation_in};
 ghost use Rattle.spi_scope.specs.Files.{meant, steps_in, uses_of, marked, marks_of, opponent_places, step_places, rule_places};
 ghost use Rattle.spi_scope.specs.Gives.{run};
-ghost use Rattle.spi_scope.specs.Leads.{Leads};
+ghost use Rattle.spi_scope.specs.Leads.{LeadsTo};
 ghost use Rattle.spi_scope.specs.State.{abbreviations};
-ghost use Rattle.spi_scope.specs.Over.{AreOver};
+ghost use Rattle.spi_scope.specs.Over.{AreAbbreviationsOver};
 
 use crate::arena::{Arena, put};
 use crate::declarations::declare_all;
@@ -43,7 +43,7 @@ fn laid_out(scope: &Scope, count: u64, nodes: Vec<Node>, p: &SProc) -> Process
         count ≡ Ok scope.now.count }
     requires few { scope.now.count ≤ 100000 }
     requires names { length scope.now.held.names ≤ 100000 }
-    requires over { AreOver (length scope.now.held.names) (abbreviations scope.now.types) }
+    requires over { AreAbbreviationsOver (length scope.now.held.names) (abbreviations scope.now.types) }
     requires nodes { map shape_of nodes.items
         ≡ flat 0 (length scope.now.held.names)
         (process_in (λ s. s) (abbreviations scope.now.types) scope.now.held.names (proc_of p.now)) }
@@ -63,8 +63,8 @@ fn read_part<'t>(
 ) -> Result<(Process, Vec<Span>), ScopeFault>
     requires few { scope.old.count ≤ 100000 }
     requires names { length scope.old.held.names ≤ 100000 }
-    requires over { AreOver (length scope.old.held.names) (abbreviations scope.old.types) }
-    ensures gives { Leads result
+    requires over { AreAbbreviationsOver (length scope.old.held.names) (abbreviations scope.old.types) }
+    ensures gives { LeadsTo result
         (run (process_points (abbreviations scope.old.types) scope.old.held.names (proc_of p.entry.now))
         scope.old.count) scope.new.count }
     ensures process { IfOk result
@@ -95,8 +95,8 @@ fn read_opponent<'t>(
 ) -> Result<(Option<Process>, Vec<Span>), ScopeFault>
     requires few { scope.old.count ≤ 100000 }
     requires names { length scope.old.held.names ≤ 100000 }
-    requires over { AreOver (length scope.old.held.names) (abbreviations scope.old.types) }
-    ensures gives { Leads result
+    requires over { AreAbbreviationsOver (length scope.old.held.names) (abbreviations scope.old.types) }
+    ensures gives { LeadsTo result
         (run (opponent_points (abbreviations scope.old.types) scope.old.held.names
         (opponent_of opponent.entry.now)) scope.old.count) scope.new.count }
     ensures process { IfOk result
@@ -120,7 +120,7 @@ fn read_schedule(
     count: u64,
     schedule: &Option<Vec<SStep>>,
 ) -> Result<(Option<Vec<Step>>, Vec<Span>), ScopeFault>
-    ensures gives { Leads result (run (schedule_points (schedule_of schedule.now)) count) count }
+    ensures gives { LeadsTo result (run (schedule_points (schedule_of schedule.now)) count) count }
     ensures steps { IfOk result (λ x. steps_in x.0 ≡ schedule_in (schedule_of schedule.now)) }
     ensures places { IfOk result (λ x. x.1.items ≡ step_places (schedule_of schedule.now)) }
 {
@@ -139,7 +139,7 @@ fn read_proof(
     count: u64,
     derivation: &Option<SDeriv>,
 ) -> Result<(Option<Deriv>, Vec<Span>), ScopeFault>
-    ensures gives { Leads result (run (derivation_points (derivation_of derivation.now)) count) count }
+    ensures gives { LeadsTo result (run (derivation_points (derivation_of derivation.now)) count) count }
     ensures uses { IfOk result (λ x. uses_of x.0 ≡ derivation_in (derivation_of derivation.now)) }
     ensures places { IfOk result (λ x. x.1.items ≡ rule_places (derivation_of derivation.now)) }
 {
@@ -166,8 +166,8 @@ fn read_rest<'t>(
 ) -> Result<(), ScopeFault>
     requires few { scope.old.count ≤ 100000 }
     requires names { length scope.old.held.names ≤ 100000 }
-    requires over { AreOver (length scope.old.held.names) (abbreviations scope.old.types) }
-    ensures gives { Leads result
+    requires over { AreAbbreviationsOver (length scope.old.held.names) (abbreviations scope.old.types) }
+    ensures gives { LeadsTo result
         (run (opponent_points (abbreviations scope.old.types) scope.old.held.names
         (opponent_of tree.entry.now.opponent) ⨾ schedule_points (schedule_of tree.entry.now.schedule)
         ⨾ derivation_points (derivation_of tree.entry.now.derivation)) scope.old.count) scope.new.count }
@@ -207,9 +207,9 @@ fn read_rest<'t>(
 fn read_body<'t>(alloc: Global, scope: &mut Scope<'t>, tree: &'t Tree) -> Result<File, ScopeFault>
     requires few { scope.old.count ≤ 100000 }
     requires names { length scope.old.held.names ≤ 100000 }
-    requires over { AreOver (length scope.old.held.names) (abbreviations scope.old.types) }
+    requires over { AreAbbreviationsOver (length scope.old.held.names) (abbreviations scope.old.types) }
     requires noted { scope.old.held.noted ≡ [] }
-    ensures gives { Leads result
+    ensures gives { LeadsTo result
         (run (body_points (abbreviations scope.old.types) scope.old.held.names (file_of tree.entry.now))
         scope.old.count) scope.new.count }
     ensures version { IfOk result (λ f. f.version ≡ tree.entry.now.version) }

@@ -6,7 +6,7 @@ ghost use Rattle.spi_run.specs.View.{step};
 ghost use Rattle.spi_scope.specs.Parts.{step_in, step_span};
 ghost use Rattle.spi_scope.specs.Points.{steps_points};
 ghost use Rattle.spi_scope.specs.Gives.{run};
-ghost use Rattle.spi_scope.specs.Leads.{Leads};
+ghost use Rattle.spi_scope.specs.Leads.{LeadsTo};
 
 use crate::fault::ScopeFault;
 use spi_run::Step;
@@ -38,7 +38,7 @@ pub fn read_steps(
     count: u64,
     steps: &[SStep],
 ) -> Result<(Vec<Step>, Vec<Span>), ScopeFault>
-    ensures gives { Leads result (run (steps_points 1 (length steps.now) (map step_of steps.now)) count)
+    ensures gives { LeadsTo result (run (steps_points 1 (length steps.now) (map step_of steps.now)) count)
         count }
     ensures steps { IfOk result (λ x. map step x.0.items ≡ map step_in (map step_of steps.now)) }
     ensures places { IfOk result (λ x. x.1.items ≡ map step_span (map step_of steps.now)) }

@@ -36,7 +36,7 @@ impl Drop for Trail<'_> {
 
 impl<'t> Model for Trail<'t> {
     ghost use Rattle.std.specs.Prelude.{◌+◌, ◌<◌, ◌^◌, [], ◌∷◌, map, length};
-    ghost use Rattle.spi_scope.specs.Chains.{Chained, coded_chained, link, chains, all_at, AreBelow, LeadBack};
+    ghost use Rattle.spi_scope.specs.Chains.{Chained, coded_chained, link, chains, all_at, AreNumbersBelow, LeadBack};
 
     ghost Value = { Chained };
 
@@ -44,7 +44,7 @@ impl<'t> Model for Trail<'t> {
 
     ghost view = { λ s. let cs = chains (map link s.links.items) in record { chains = cs; noted = all_at cs s.noted.items } };
 
-    ghost invariant = { λ s. LeadBack 1 (map link s.links.items) × AreBelow (length s.links.items + 1) s.noted.items
+    ghost invariant = { λ s. LeadBack 1 (map link s.links.items) × AreNumbersBelow (length s.links.items + 1) s.noted.items
         × (length s.links.items < 2 ^ 32) };
 }
 
@@ -123,7 +123,7 @@ impl Model for Scopes {
     ghost use Rattle.std.specs.Coded.{coded_list};
     ghost use Rattle.spi_scope.specs.Scope.{Names};
     ghost use Rattle.spi_scope.specs.Table.{coded_names};
-    ghost use Rattle.spi_scope.specs.Chains.{spelled, chains, all_at, AreBelow, LeadBack};
+    ghost use Rattle.spi_scope.specs.Chains.{spelled, chains, all_at, AreNumbersBelow, LeadBack};
 
     ghost Value = { List Names };
 
@@ -131,7 +131,7 @@ impl Model for Scopes {
 
     ghost view = { λ s. all_at (chains (map spelled s.links.items)) s.noted.items };
 
-    ghost invariant = { λ s. LeadBack 1 (map spelled s.links.items) × AreBelow (length s.links.items + 1) s.noted.items };
+    ghost invariant = { λ s. LeadBack 1 (map spelled s.links.items) × AreNumbersBelow (length s.links.items + 1) s.noted.items };
 }
 
 impl Scopes {

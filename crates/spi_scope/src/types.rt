@@ -9,7 +9,7 @@ ghost use Rattle.spi_term.specs.View.{message, atom, ty};
 ghost use Rattle.spi_scope.specs.Scope.{type_of};
 ghost use Rattle.spi_scope.specs.Meaning.{message_in, atom_in, effect_in, type_in, fields_in, last_in, behind, nested_types, known};
 ghost use Rattle.spi_scope.specs.Points.{msg_span, msg_nodes, one, uses_type, whole_message, atom_points, atoms_points, type_points, fields_points, last_points};
-ghost use Rattle.spi_scope.specs.Gives.{Gives, Counts, run};
+ghost use Rattle.spi_scope.specs.Gives.{GivesMeant, CountsOn, run};
 ghost use Rattle.spi_scope.specs.State.{abbreviations, type_row_nodes};
 ghost use Rattle.spi_scope.specs.Table.{with_names};
 
@@ -46,7 +46,7 @@ pub fn read_whole(
     span: Span,
 ) -> Result<(Msg, u64), ScopeFault>
     requires { span ≡ msg_span (msg_of m.now) }
-    ensures gives { Gives (λ x. message x.0) result
+    ensures gives { GivesMeant (λ x. message x.0) result
         (run (whole_message scope.now.held.names (msg_of m.now)) scope.now.count) scope.now.count
         (message_in base scope.now.held.names (msg_of m.now)) }
     ensures nodes { IfOk result
@@ -62,7 +62,7 @@ pub fn read_whole(
 
 /// An atom, with the nodes of its message.
 fn read_atom(alloc: Global, scope: &Scope, base: u32, a: &SAtom) -> Result<(Atom, u64), ScopeFault>
-    ensures gives { Gives (λ x. atom x.0) result
+    ensures gives { GivesMeant (λ x. atom x.0) result
         (run (atom_points scope.now.held.names (atom_of a.now)) scope.now.count) scope.now.count
         (atom_in base scope.now.held.names (atom_of a.now)) }
     ensures nodes { IfOk result
@@ -92,7 +92,7 @@ fn read_atoms(
     spent: u64,
     es: &[SAtom],
 ) -> Result<(Vec<Atom>, u64), ScopeFault>
-    ensures gives { Gives (λ x. map atom x.0.items) result
+    ensures gives { GivesMeant (λ x. map atom x.0.items) result
         (run (atoms_points scope.now.held.names (map atom_of es.now)) scope.now.count) scope.now.count
         (effect_in base scope.now.held.names (map atom_of es.now)) }
     ensures nodes { IfOk result
@@ -116,7 +116,7 @@ fn read_abbreviation(
     spent: u64,
     word: &SWord,
 ) -> Result<(Ty, u64), ScopeFault>
-    ensures { Counts ty ty_nodes result
+    ensures { CountsOn ty ty_nodes result
         (run (one (uses_type (abbreviations scope.now.types) word.now)) scope.now.count) scope.now.count spent
         (known (type_of (abbreviations scope.now.types) word.now.word)) }
 {
@@ -180,7 +180,7 @@ pub fn read_type<'t>(
     spent: u64,
     t: &'t STy,
 ) -> Result<(Ty, u64), ScopeFault>
-    ensures gives { Counts ty ty_nodes result
+    ensures gives { CountsOn ty ty_nodes result
         (run (type_points (abbreviations scope.old.types) scope.old.held.names (ty_of t.entry.now))
         scope.old.count) scope.old.count spent
         (type_in base (abbreviations scope.old.types) scope.old.held.names (ty_of t.entry.now)) }
@@ -233,7 +233,7 @@ fn read_fields<'t>(
     spent: u64,
     fs: &'t [SField],
 ) -> Result<(Vec<Ty>, u64), ScopeFault>
-    ensures gives { Counts (λ v. map ty v.items) type_row_nodes result
+    ensures gives { CountsOn (λ v. map ty v.items) type_row_nodes result
         (run (fields_points (abbreviations scope.old.types) scope.old.held.names
         (fields_of_list (map field_of fs.entry.now))) scope.old.count) scope.old.count spent
         (fields_in base (abbreviations scope.old.types) scope.old.held.names
@@ -264,7 +264,7 @@ fn read_last<'t>(
     spent: u64,
     end: &'t Last,
 ) -> Result<(Ty, u64), ScopeFault>
-    ensures gives { Counts ty ty_nodes result
+    ensures gives { CountsOn ty ty_nodes result
         (run (last_points (abbreviations scope.old.types) scope.old.held.names (last_of end.entry.now))
         scope.old.count) scope.old.count spent
         (last_in base (abbreviations scope.old.types) scope.old.held.names (last_of end.entry.now)) }

@@ -2,7 +2,7 @@
 use Rattle.std.proofs.Common.{◌≡◌, ℕ, suc, ◌+◌, ◌-◌, ◌<◌, ◌≤◌, List, [], ◌∷◌, ◌++◌, refl, ap, ◌∙◌, subst, arith, ⊎_elim}
 use Rattle.std.specs.Prelude.{codes, if◌then◌else◌}
 use Rattle.std.proofs.lemmas.Bool.{cases_lt}
-use Rattle.spi_term.specs.Term.{Message, bound, name, unit, pair, in_left, in_right, enc, hash, Atom, ends, checks, many, Effect, Ty, un, unit_ty, pair_ty, sum_ty, key, nonce, Leaf, Sends, Stops, Prefix, Recvs, Serves, Splits, Selects, Decrypts, Checks, Begins, Ends, EndManys, Casts, Makes, Cases, Pars, Process, leaf, prefix, fork, binds}
+use Rattle.spi_term.specs.Term.{Message, bound, name, unit, pair, in_left, in_right, enc, hash, Atom, ends, checks, many, Effect, Ty, un, unit_ty, pair_ty, sum_ty, key, nonce, Leaf, Sends, Stops, Prefix, Recvs, Serves, Splits, Selects, Decrypts, Checks, Begins, Ends, EndManys, Casts, Freshes, Branches, Pars, Process, leaf, prefix, fork, binds}
 use Rattle.spi_term.specs.Substitution.{atom_map, effect_map, ty_map, leaf_map, prefix_map}
 use Rattle.spi_term.specs.Names.{MessageOver, OfAtom, OfEffect, OfTy, OfLeaf, OfPrefix, OfProcess, ProcessOver}
 use Rattle.spi_term.specs.Spelling.{under, name_message, numbered}
@@ -147,7 +147,7 @@ module _ (spell : ℕ → List ℕ) (k n s : ℕ) (e : s ≡ k + n) where
       let x = said m o.0 in
       let y = typed t o.1 in
       λ i. codes "cast " ++ (x i ++ (codes " is (" ++ (typed_text spell s (y i) ++ codes "); ")))
-  same_prefix (Makes t) o = ap (λ l. codes "new (" ++ (typed_text spell s l ++ codes "); ")) (typed t o)
+  same_prefix (Freshes t) o = ap (λ l. codes "new (" ++ (typed_text spell s l ++ codes "); ")) (typed t o)
 
 same_output : (names : List ℕ) (k : ℕ) (p : Process) → is_output (numbered names k p) ≡ is_output p
 same_output names k (leaf (Sends a b)) = refl
@@ -165,7 +165,7 @@ same_process spell k n s e (prefix t p) h at =
     let b = ap (λ l. process_text spell sequel (s + m) (numbered l (s + m) p)) (under_more k n s m e) in
     let y = a ∙ b ∙ same_process spell k (n + m) (s + m) (omega arith) p h.1 sequel in
     λ i. x i ++ y i
-same_process spell k n s e (fork (Cases m t u) p q) h at =
+same_process spell k n s e (fork (Branches m t u) p q) h at =
     let x = said spell k n s e m h.0.0 in
     let y = typed spell k n s e t h.0.1 in
     let z = typed spell k n s e u h.0.2 in

@@ -2,13 +2,13 @@
 use Rattle.std.proofs.Common.{◌≡◌, ℕ, zero, suc, ◌+◌, ◌-◌, ◌*◌, ◌<◌, ◌≤◌, Bool, true, false, List, [], ◌∷◌, ◌++◌, length, map, reverse, drop, Option, Some, None, refl, sym, ap, ◌∙◌, subst, arith, append_assoc, append-nil}
 use Rattle.std.specs.Prelude.{codes, slice_get, if◌then◌else◌}
 use Rattle.std.proofs.lemmas.List.{map-append, reverse-append, length-append, length-map, length-reverse}
-use Rattle.spi_term.specs.Term.{Leaf, Sends, Stops, Prefix, Fork, Cases, Pars, Process, leaf, prefix, fork, binds, fork_binds, process_size}
+use Rattle.spi_term.specs.Term.{Leaf, Sends, Stops, Prefix, Fork, Branches, Pars, Process, leaf, prefix, fork, binds, fork_binds, process_size}
 use Rattle.spi_term.specs.Spelling.{Shape, leaf_at, prefix_at, fork_at, flat, numbered, spelled}
 use Rattle.spi_term.proofs.Numbers.{length_spelled}
 use Rattle.spi_show.specs.Terms.{message_text, type_text}
 use Rattle.spi_show.specs.Processes.{leaf_text, prefix_text, left_text, right_text, Standing, alone, sequel, is_output, process_text}
 use Rattle.spi_show.specs.declared.pieces.Piece as D
-use Rattle.spi_show.specs.Pieces.{Piece, words, process, piece, tops, output_in, parts_of, pieces_at, first_text, first_pieces, node_after, piece_text, piece_parts, piece_after, IsPut}
+use Rattle.spi_show.specs.Pieces.{ShownPiece, words, process, piece, tops, output_in, parts_of, pieces_at, first_text, first_pieces, node_after, piece_text, piece_parts, piece_after, IsPut}
 
 -- a process that is to come, with so many names in scope
 pub data Task : Type 0 where
@@ -20,19 +20,19 @@ nodes_of i [] = []
 nodes_of i (task q n ∷ ts) = flat i n q ++ nodes_of (i + process_size q) ts
 
 -- what the pieces say, where these processes come in their places
-abbrev pub rest_text : (ℕ → List ℕ) → List Piece → List Task → List ℕ
+abbrev pub rest_text : (ℕ → List ℕ) → List ShownPiece → List Task → List ℕ
 rest_text spell [] ts = []
 rest_text spell (words w ∷ ps) ts = w ++ rest_text spell ps ts
 rest_text spell (process at ∷ ps) [] = rest_text spell ps []
 rest_text spell (process at ∷ ps) (task q n ∷ ts) = process_text spell at n q ++ rest_text spell ps ts
 
 -- the nodes before place i are written
-pub record Goes (spell : ℕ → List ℕ) (ss : List Shape) (all : List ℕ) (i : ℕ) (ps : List Piece) (out : List ℕ) : Type 0 where
+pub record GoesThrough (spell : ℕ → List ℕ) (ss : List Shape) (all : List ℕ) (i : ℕ) (ps : List ShownPiece) (out : List ℕ) : Type 0 where
   pub tasks : List Task
   pub nodes : drop i ss ≡ nodes_of i tasks
   pub text : out ++ rest_text spell ps tasks ≡ all
 
-pub goes_start : (spell : ℕ → List ℕ) (k : ℕ) (q : Process) (out : List ℕ) → Goes spell (flat 0 k q) (out ++ process_text spell alone k q) 0 (process alone ∷ []) out
+pub goes_start : (spell : ℕ → List ℕ) (k : ℕ) (q : Process) (out : List ℕ) → GoesThrough spell (flat 0 k q) (out ++ process_text spell alone k q) 0 (process alone ∷ []) out
 goes_start spell k q out = record {
   tasks = task q k ∷ [];
   nodes = sym (append-nil (flat 0 k q));
@@ -75,9 +75,9 @@ four out a b c d r =
     append_assoc out a (b ++ (c ++ (d ++ r)))
     ∙ ap (λ l. out ++ l) (sym (append_assoc a (b ++ (c ++ d)) r ∙ ap (λ l. a ++ l) (append_assoc b (c ++ d) r ∙ ap (λ l. b ++ l) (append_assoc c d r))))
 
-module _ (spell : ℕ → List ℕ) (ss : List Shape) (all : List ℕ) (i : ℕ) (n : ℕ) (ts : List Task) (ps : List Piece) (out : List ℕ) where
+module _ (spell : ℕ → List ℕ) (ss : List Shape) (all : List ℕ) (i : ℕ) (n : ℕ) (ts : List Task) (ps : List ShownPiece) (out : List ℕ) where
   abbrev Next : Standing → Bool → Option Shape → Type 0
-  Next at output o = Goes spell ss all (node_after i o) (first_pieces spell at output o ++ ps) (out ++ first_text spell at output o)
+  Next at output o = GoesThrough spell ss all (node_after i o) (first_pieces spell at output o ++ ps) (out ++ first_text spell at output o)
 
   abbrev rest : List ℕ
   rest = rest_text spell ps ts
@@ -140,9 +140,9 @@ module _ (spell : ℕ → List ℕ) (ss : List Shape) (all : List ℕ) (i : ℕ)
   }
 
   next_cases : (f : Fork) (p q : Process) (at : Standing) (o : Bool) → o ≡ is_output p → drop i ss ≡ nodes_of i (task (fork f p q) n ∷ ts) → out ++ (text_of at (fork f p q) ++ rest) ≡ all → Next at o (Some (fork_at n f (suc i) (suc i + process_size p)))
-  next_cases (Cases m t u) p q at o w h g = record {
+  next_cases (Branches m t u) p q at o w h g = record {
     tasks = task p (n + 1) ∷ (task q (n + 1) ∷ ts);
-    nodes = fork_nodes (Cases m t u) p q (n + 1) refl h;
+    nodes = fork_nodes (Branches m t u) p q (n + 1) refl h;
     text =
         four out (left_text spell n (message_text spell n m) (type_text spell n t)) (process_text spell sequel (n + 1) p) (right_text spell n (type_text spell n u)) (process_text spell sequel (n + 1) q) rest
         ∙ g;
@@ -173,7 +173,7 @@ module _ (spell : ℕ → List ℕ) (ss : List Shape) (all : List ℕ) (i : ℕ)
       subst (Next at o) (sym (ap first_of h)) (next_fork f p q at h g)
 
 -- a process is begun
-next_process : (spell : ℕ → List ℕ) (ss : List Shape) (all : List ℕ) (i : ℕ) (at : Standing) (ps : List Piece) (out : List ℕ) (ts : List Task) → drop i ss ≡ nodes_of i ts → out ++ rest_text spell (process at ∷ ps) ts ≡ all → Next spell ss all i 0 [] ps out at (output_in (slice_get ss (i + 1))) (first_of (drop i ss))
+next_process : (spell : ℕ → List ℕ) (ss : List Shape) (all : List ℕ) (i : ℕ) (at : Standing) (ps : List ShownPiece) (out : List ℕ) (ts : List Task) → drop i ss ≡ nodes_of i ts → out ++ rest_text spell (process at ∷ ps) ts ≡ all → Next spell ss all i 0 [] ps out at (output_in (slice_get ss (i + 1))) (first_of (drop i ss))
 next_process spell ss all i at ps out [] h g =
     let o = output_in (slice_get ss (i + 1)) in
     subst (Next spell ss all i 0 [] ps out at o) (sym (ap first_of h)) (record {
@@ -183,15 +183,15 @@ next_process spell ss all i at ps out [] h g =
     })
 next_process spell ss all i at ps out (task q n ∷ ts) h g = next_by spell ss all i n ts ps out q at h g
 
-pub goes_next : {spell : ℕ → List ℕ} {ss : List Shape} {all : List ℕ} {i j : ℕ} {rest after : List Piece} {old new : List ℕ} (x : Piece) → Goes spell ss all i (x ∷ rest) old → IsPut spell ss i j x old new rest after → Goes spell ss all j after new
+pub goes_next : {spell : ℕ → List ℕ} {ss : List Shape} {all : List ℕ} {i j : ℕ} {rest after : List ShownPiece} {old new : List ℕ} (x : ShownPiece) → GoesThrough spell ss all i (x ∷ rest) old → IsPut spell ss i j x old new rest after → GoesThrough spell ss all j after new
 goes_next {spell} {ss} {all} {i} {j} {rest} {after} {old} {new} x g p =
-    let moved : Goes spell ss all (piece_after ss i x) (piece_parts spell ss i x ++ rest) (old ++ piece_text spell ss i x) = by x g in
-    subst (λ j. Goes spell ss all j after new) (sym p.node) (subst (λ l. Goes spell ss all (piece_after ss i x) l new) (sym p.left) (subst (λ l. Goes spell ss all (piece_after ss i x) (piece_parts spell ss i x ++ rest) l) (sym p.text) moved))
+    let moved : GoesThrough spell ss all (piece_after ss i x) (piece_parts spell ss i x ++ rest) (old ++ piece_text spell ss i x) = by x g in
+    subst (λ j. GoesThrough spell ss all j after new) (sym p.node) (subst (λ l. GoesThrough spell ss all (piece_after ss i x) l new) (sym p.left) (subst (λ l. GoesThrough spell ss all (piece_after ss i x) (piece_parts spell ss i x ++ rest) l) (sym p.text) moved))
   where
-    by : (x : Piece) → Goes spell ss all i (x ∷ rest) old → Goes spell ss all (piece_after ss i x) (piece_parts spell ss i x ++ rest) (old ++ piece_text spell ss i x)
+    by : (x : ShownPiece) → GoesThrough spell ss all i (x ∷ rest) old → GoesThrough spell ss all (piece_after ss i x) (piece_parts spell ss i x ++ rest) (old ++ piece_text spell ss i x)
     by (words w) g = record { tasks = g.tasks; nodes = g.nodes; text = append_assoc old w (rest_text spell rest g.tasks) ∙ g.text }
     by (process at) g =
-        subst (λ o. Goes spell ss all (node_after i o) (first_pieces spell at (output_in (slice_get ss (i + 1))) o ++ rest) (old ++ first_text spell at (output_in (slice_get ss (i + 1))) o)) (sym (get_first ss i)) (next_process spell ss all i at rest old g.tasks g.nodes g.text)
+        subst (λ o. GoesThrough spell ss all (node_after i o) (first_pieces spell at (output_in (slice_get ss (i + 1))) o ++ rest) (old ++ first_text spell at (output_in (slice_get ss (i + 1))) o)) (sym (get_first ss i)) (next_process spell ss all i at rest old g.tasks g.nodes g.text)
 
 -- each node brings four pieces at most
 few_parts : (at : Standing) (output : Bool) → length (parts_of at output) ≤ 4
@@ -202,7 +202,7 @@ few_parts sequel false = omega arith
 few_pieces : (spell : ℕ → List ℕ) (at : Standing) (output : Bool) (x : Shape) → length (pieces_at spell at output x) ≤ 4
 few_pieces spell at output (leaf_at n l) = omega arith
 few_pieces spell at output (prefix_at n s b) = omega arith
-few_pieces spell at output (fork_at n (Cases m t u) a r) = omega arith
+few_pieces spell at output (fork_at n (Branches m t u) a r) = omega arith
 few_pieces spell at output (fork_at n Pars a r) = few_parts at output
 
 within : (ss : List Shape) (i : ℕ) (x : Shape) → slice_get ss i ≡ Some x → i < length ss
@@ -210,7 +210,7 @@ within [] i x h = absurd (cc h)
 within (y ∷ ss) zero x h = omega arith
 within (y ∷ ss) (suc i) x h = omega (arith, within ss i x h)
 
-pub fewer : {spell : ℕ → List ℕ} {ss : List Shape} {i j : ℕ} {rest after : List Piece} {old new : List ℕ} (x : Piece) → IsPut spell ss i j x old new rest after → length after + 4 * (length ss - j) ≤ length rest + 4 * (length ss - i)
+pub fewer : {spell : ℕ → List ℕ} {ss : List Shape} {i j : ℕ} {rest after : List ShownPiece} {old new : List ℕ} (x : ShownPiece) → IsPut spell ss i j x old new rest after → length after + 4 * (length ss - j) ≤ length rest + 4 * (length ss - i)
 fewer {spell} {ss} {i} {j} {rest} {after} x p =
     omega (arith, ap length p.left, ap (λ j. length ss - j) p.node, length-append (piece_parts spell ss i x) rest, by x)
   where
@@ -218,7 +218,7 @@ fewer {spell} {ss} {i} {j} {rest} {after} x p =
     from at output None w = omega arith
     from at output (Some x) w = omega (arith, w x refl, few_pieces spell at output x)
 
-    by : (x : Piece) → length (piece_parts spell ss i x) + 4 * (length ss - piece_after ss i x) ≤ 4 * (length ss - i)
+    by : (x : ShownPiece) → length (piece_parts spell ss i x) + 4 * (length ss - piece_after ss i x) ≤ 4 * (length ss - i)
     by (words w) = omega arith
     by (process at) = from at (output_in (slice_get ss (i + 1))) (slice_get ss i) (within ss i)
 
@@ -229,16 +229,16 @@ tops_last ps x = ap reverse (map-append piece ps (x ∷ [])) ∙ reverse-append 
 length_tops : (ps : List D.Piece) → length (tops ps) ≡ length ps
 length_tops ps = length-reverse (map piece ps) ∙ length-map ps piece
 
-pub goes_popped : {spell : ℕ → List ℕ} {ss : List Shape} {all : List ℕ} {i j : ℕ} {old new : List ℕ} (x : D.Piece) (ps qs rs : List D.Piece) → ps ≡ qs ++ x ∷ [] → Goes spell ss all i (tops ps) old → IsPut spell ss i j (piece x) old new (tops qs) (tops rs) → Goes spell ss all j (tops rs) new
+pub goes_popped : {spell : ℕ → List ℕ} {ss : List Shape} {all : List ℕ} {i j : ℕ} {old new : List ℕ} (x : D.Piece) (ps qs rs : List D.Piece) → ps ≡ qs ++ x ∷ [] → GoesThrough spell ss all i (tops ps) old → IsPut spell ss i j (piece x) old new (tops qs) (tops rs) → GoesThrough spell ss all j (tops rs) new
 goes_popped {spell} {ss} {all} {i} {old = old} x ps qs rs h g p =
-    goes_next (piece x) (subst (λ l. Goes spell ss all i l old) (ap tops h ∙ tops_last qs x) g) p
+    goes_next (piece x) (subst (λ l. GoesThrough spell ss all i l old) (ap tops h ∙ tops_last qs x) g) p
 
 pub goes_smaller : {spell : ℕ → List ℕ} {ss : List Shape} {i j : ℕ} {old new : List ℕ} (x : D.Piece) (ps qs rs : List D.Piece) → ps ≡ qs ++ x ∷ [] → IsPut spell ss i j (piece x) old new (tops qs) (tops rs) → length rs + 4 * (length ss - j) < length ps + 4 * (length ss - i)
 goes_smaller x ps qs rs h p = omega (arith, fewer (piece x) p, length_tops qs, length_tops rs, ap length h, length-append qs (x ∷ []))
 
-pub goes_from : (spell : ℕ → List ℕ) (k : ℕ) (p : Process) (out : List ℕ) (ps : List D.Piece) (x : D.Piece) → piece x ≡ process alone → ps ≡ x ∷ [] → Goes spell (spelled k p) (out ++ process_text spell alone k (numbered [] k p)) 0 (tops ps) out
+pub goes_from : (spell : ℕ → List ℕ) (k : ℕ) (p : Process) (out : List ℕ) (ps : List D.Piece) (x : D.Piece) → piece x ≡ process alone → ps ≡ x ∷ [] → GoesThrough spell (spelled k p) (out ++ process_text spell alone k (numbered [] k p)) 0 (tops ps) out
 goes_from spell k p out ps x e h =
-    subst (λ l. Goes spell (spelled k p) (out ++ process_text spell alone k (numbered [] k p)) 0 l out) (sym (ap tops h ∙ ap (λ y. y ∷ []) e)) (goes_start spell k (numbered [] k p) out)
+    subst (λ l. GoesThrough spell (spelled k p) (out ++ process_text spell alone k (numbered [] k p)) 0 l out) (sym (ap tops h ∙ ap (λ y. y ∷ []) e)) (goes_start spell k (numbered [] k p) out)
 
 -- behind the last node there is none
 none_past : (ss : List Shape) (i : ℕ) → length ss ≤ i → slice_get ss i ≡ None
@@ -250,7 +250,7 @@ pub no_node_past : (k : ℕ) (p : Process) (i : ℕ) → process_size p ≤ i �
 no_node_past k p i l = none_past (spelled k p) i (omega (arith, length_spelled k p))
 
 -- none is left
-pub none_put : {spell : ℕ → List ℕ} {ss : List Shape} {i : ℕ} {out : List ℕ} {rest : List Piece} (at : Standing) → slice_get ss i ≡ None → IsPut spell ss i i (process at) out out rest rest
+pub none_put : {spell : ℕ → List ℕ} {ss : List Shape} {i : ℕ} {out : List ℕ} {rest : List ShownPiece} (at : Standing) → slice_get ss i ≡ None → IsPut spell ss i i (process at) out out rest rest
 none_put {spell} {ss} {i} {out} {rest} at e =
     let c = output_in (slice_get ss (i + 1)) in
     record {

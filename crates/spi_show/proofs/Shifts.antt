@@ -12,7 +12,7 @@ use Rattle.std.proofs.lemmas.List.{append_cancel_left, take_more, length-take-le
 use Rattle.std.proofs.lemmas.List.Elements.{Contains-append_left, Contains-push, Contains-push_cases}
 use Rattle.std.proofs.lemmas.List.Sorted.{Contains-permutation, IsPermutation-sym, length_permutation}
 use Rattle.spi_show.specs.Spelled.{IsApart, IsShift, IsNumbered, IsLeastBehind}
-use Rattle.spi_show.specs.Shifts.{IsDecimal, IsNumber, with_number, IsTaken, AreNumbers, IsSwept, IsLeastBeside}
+use Rattle.spi_show.specs.Shifts.{IsDecimal, IsNumber, with_number, IsNumberTaken, AreWordNumbers, IsSwept, IsLeastBeside}
 
 -- a number by its digits
 pub no_digits : {E : Type 0} (ds : List ℕ) (e : E) (r : Result ℕ E) → r ≡ Err e → ParsesUnsigned 128 10 ds r → IsDecimal ds None
@@ -63,30 +63,30 @@ get_at [] i x e l = absurd (omega arith)
 get_at (y ∷ xs) zero x e l = ap Some (sym e)
 get_at (y ∷ xs) (suc i) x e l = get_at xs i x e (omega arith)
 
-pub numbers_next : (prefix : List ℕ) (words : List (List ℕ)) (i : ℕ) (old new : List ℕ) (w : List ℕ) (o : Option ℕ) → AreNumbers prefix words i old → w ≡ get_or words i w → i < length words → IsNumber prefix w o → new ≡ with_number old o → AreNumbers prefix words (i + 1) new
-numbers_next prefix words i old new w o a e l d f = subst (AreNumbers prefix words (i + 1)) (sym f) (by o d)
+pub numbers_next : (prefix : List ℕ) (words : List (List ℕ)) (i : ℕ) (old new : List ℕ) (w : List ℕ) (o : Option ℕ) → AreWordNumbers prefix words i old → w ≡ get_or words i w → i < length words → IsNumber prefix w o → new ≡ with_number old o → AreWordNumbers prefix words (i + 1) new
+numbers_next prefix words i old new w o a e l d f = subst (AreWordNumbers prefix words (i + 1)) (sym f) (by o d)
   where
     at : slice_get words i ≡ Some w
     at = get_at words i w e l
 
-    more : (n : ℕ) → IsTaken prefix words i n → IsTaken prefix words (i + 1) n
+    more : (n : ℕ) → IsNumberTaken prefix words i n → IsNumberTaken prefix words (i + 1) n
     more n t = (t.0, omega (arith, t.1), t.2)
 
     -- the word at i, or one before it
-    last : (n : ℕ) → IsTaken prefix words (i + 1) n → (IsTaken prefix words i n) ⊎ (w ≡ prefix ++ decimal n)
+    last : (n : ℕ) → IsNumberTaken prefix words (i + 1) n → (IsNumberTaken prefix words i n) ⊎ (w ≡ prefix ++ decimal n)
     last n t = ⊎_elim (λ (h : t.0 < i). inl (t.0, h, t.2)) (λ (h : i ≤ t.0). let z : t.0 ≡ i = omega (arith, t.1) in let q : Some w ≡ Some (prefix ++ decimal n) = sym at ∙ ap (slice_get words) (sym z) ∙ t.2 in inr (unsome q)) (cases_lt t.0 i)
       where
         unsome : {x y : List ℕ} → Some x ≡ Some y → x ≡ y
         unsome q = cc
 
-    by : (o : Option ℕ) → IsNumber prefix w o → AreNumbers prefix words (i + 1) (with_number old o)
+    by : (o : Option ℕ) → IsNumber prefix w o → AreWordNumbers prefix words (i + 1) (with_number old o)
     by None d = record {
       told = λ n l. (λ c. more n ((a.told n l).0 c), λ t. ⊎_elim (λ s. (a.told n l).1 s) (λ q. absurd (cc ((d n l).1 q))) (last n t));
       few = omega (arith, a.few);
     }
     by (Some m) d = record {
       told = λ n l. (
-        λ c. ⊎_elim (λ s. more n ((a.told n l).0 s)) (λ (q : m ≡ n). let g : IsTaken prefix words (i + 1) n = (i, omega arith, at ∙ ap Some ((d n l).0 (ap Some q))) in g) (Contains-push_cases old m n c),
+        λ c. ⊎_elim (λ s. more n ((a.told n l).0 s)) (λ (q : m ≡ n). let g : IsNumberTaken prefix words (i + 1) n = (i, omega arith, at ∙ ap Some ((d n l).0 (ap Some q))) in g) (Contains-push_cases old m n c),
         λ t. ⊎_elim (λ s. Contains-append_left old (m ∷ []) n ((a.told n l).1 s)) (λ q. let g : m ≡ n = cc ((d n l).1 q) in subst (λ y. Contains (old ++ y ∷ []) n) (sym g) (Contains-push old n)) (last n t),
       );
       few = omega (arith, a.few, length-append old (m ∷ []));
@@ -172,7 +172,7 @@ beside_else ns i s t up w l h e =
     subst (IsLeastBeside ns (i + 1)) (sym e) (beside_kept ns i m up (get_any ns i 0 m l) l s w h)
 
 -- the numbers of all words, sorted
-module _ (prefix : List ℕ) (words : List (List ℕ)) (ns sorted : List ℕ) (few : length ns < 2 ^ 64) (a : AreNumbers prefix words (length words) ns) (p : IsPermutation ns sorted) where
+module _ (prefix : List ℕ) (words : List (List ℕ)) (ns sorted : List ℕ) (few : length ns < 2 ^ 64) (a : AreWordNumbers prefix words (length words) ns) (p : IsPermutation ns sorted) where
   all : (n : ℕ) → Contains (take (length sorted) sorted) n → Contains ns n
   all n c = Contains-permutation sorted ns n (IsPermutation-sym ns sorted p) (subst (λ l. Contains l n) (take-length sorted) c)
 
@@ -200,7 +200,7 @@ module _ (prefix : List ℕ) (words : List (List ℕ)) (ns sorted : List ℕ) (f
     least = λ n l. has n (omega (arith, w.small, length_permutation ns sorted p, few)) (w.least n l);
   }
 
-pub shifted : (free : List (List ℕ)) (ns sorted : List ℕ) (s : ℕ) → length ns < 2 ^ 64 → AreNumbers (codes "v") free (length free) ns → IsPermutation ns sorted → IsSwept sorted (length sorted) s → IsShift free s
+pub shifted : (free : List (List ℕ)) (ns sorted : List ℕ) (s : ℕ) → length ns < 2 ^ 64 → AreWordNumbers (codes "v") free (length free) ns → IsPermutation ns sorted → IsSwept sorted (length sorted) s → IsShift free s
 shifted free ns sorted s few a p w = record { apart = apart; least = least }
   where
     small : s < 2 ^ 100

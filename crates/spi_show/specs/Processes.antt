@@ -1,7 +1,7 @@
 -- The canonical text of a process, where a name with number i is spelled `spell i` and n names are in scope. A binder's
 -- number is the number of names in scope where it stands.
 use Rattle.std.specs.Prelude.{ℕ, suc, ◌+◌, Bool, true, false, if◌then◌else◌, List, ◌++◌, codes}
-use Rattle.spi_term.specs.Term.{Leaf, Sends, Stops, Prefix, Recvs, Serves, Splits, Selects, Decrypts, Checks, Begins, Ends, EndManys, Casts, Makes, Cases, Pars, Process, leaf, prefix, fork, binds}
+use Rattle.spi_term.specs.Term.{Leaf, Sends, Stops, Prefix, Recvs, Serves, Splits, Selects, Decrypts, Checks, Begins, Ends, EndManys, Casts, Freshes, Branches, Pars, Process, leaf, prefix, fork, binds}
 use Rattle.spi_show.specs.Terms.{message_text, type_text, typed_text}
 
 abbrev pub leaf_text : (ℕ → List ℕ) → ℕ → Leaf → List ℕ
@@ -37,7 +37,7 @@ prefix_text spell n (Casts m t) =
     codes "cast "
     ++ (message_text spell n m
     ++ (codes " is (" ++ (typed_text spell n (type_text spell n t) ++ codes "); ")))
-prefix_text spell n (Makes t) = codes "new (" ++ (typed_text spell n (type_text spell n t) ++ codes "); ")
+prefix_text spell n (Freshes t) = codes "new (" ++ (typed_text spell n (type_text spell n t) ++ codes "); ")
 
 -- a `case` up to its first process, and between its processes
 abbrev pub left_text : (ℕ → List ℕ) → ℕ → List ℕ → List ℕ → List ℕ
@@ -62,7 +62,7 @@ is_output (fork f p q) = false
 abbrev pub process_text : (ℕ → List ℕ) → Standing → ℕ → Process → List ℕ
 process_text spell at n (leaf l) = leaf_text spell n l
 process_text spell at n (prefix s p) = prefix_text spell n s ++ process_text spell sequel (n + binds s) p
-process_text spell at n (fork (Cases m t u) p q) =
+process_text spell at n (fork (Branches m t u) p q) =
     left_text spell n (message_text spell n m) (type_text spell n t) ++ (process_text spell sequel (n + 1) p
     ++ (right_text spell n (type_text spell n u) ++ process_text spell sequel (n + 1) q))
 process_text spell alone n (fork Pars p q) =

@@ -16,12 +16,12 @@ with_number ns None = ns
 with_number ns (Some n) = ns ++ n ∷ []
 
 -- one of the first i words has the number n
-abbrev pub IsTaken : List ℕ → List (List ℕ) → ℕ → ℕ → Type 0
-IsTaken prefix words i n = (x : ℕ) × (x < i) × (slice_get words x ≡ Some (prefix ++ decimal n))
+abbrev pub IsNumberTaken : List ℕ → List (List ℕ) → ℕ → ℕ → Type 0
+IsNumberTaken prefix words i n = (x : ℕ) × (x < i) × (slice_get words x ≡ Some (prefix ++ decimal n))
 
 -- the numbers of the first i words
-pub record AreNumbers (prefix : List ℕ) (words : List (List ℕ)) (i : ℕ) (ns : List ℕ) : Type 0 where
-  pub told : (n : ℕ) → n < 2 ^ 128 → (Contains ns n ↔ IsTaken prefix words i n)
+pub record AreWordNumbers (prefix : List ℕ) (words : List (List ℕ)) (i : ℕ) (ns : List ℕ) : Type 0 where
+  pub told : (n : ℕ) → n < 2 ^ 128 → (Contains ns n ↔ IsNumberTaken prefix words i n)
   pub few : length ns ≤ i
 
 -- none of the first i numbers is one of 100,000 from s on, and s is the least such number

@@ -1,7 +1,7 @@
 // The text of a node up to the first process in it.
 
 ghost use Rattle.std.specs.Prelude.{◌≡◌, suc, ◌+◌, ◌<◌, ◌≤◌, ◌^◌, ◌++◌, codes, OnOk};
-ghost use Rattle.spi_term.specs.Term.{Sends, Splits, Selects, Decrypts, Checks, Makes};
+ghost use Rattle.spi_term.specs.Term.{Sends, Splits, Selects, Decrypts, Checks, Freshes};
 ghost use Rattle.spi_term.specs.Spelling.{ty_nodes, HasSmallParts};
 ghost use Rattle.spi_term.specs.View.{message, ty as type_of, shape_of};
 ghost use Rattle.spi_show.specs.Spells.{spelling};
@@ -194,7 +194,7 @@ fn put_label(
 fn put_new(alloc: Global, spell: &Spell, n: u32, t: &Ty, out: &mut Vec<u8>) -> Result<(), NoMemory>
     requires { n + ty_nodes (type_of t.now) < 2 ^ 32 }
     ensures { OnOk result
-        (out.new.items ≡ out.old.items ++ prefix_text (spelling spell.now) n (Makes (type_of t.now))) }
+        (out.new.items ≡ out.old.items ++ prefix_text (spelling spell.now) n (Freshes (type_of t.now))) }
 {
     out.extend_from_slice(b"new (")?;
     put_typed(alloc, spell, n, t, out)?;

@@ -4,7 +4,7 @@ ghost use Rattle.std.specs.Prelude.{◌≡◌, ◌≢◌, List, ℕ, ◌++◌, �
 ghost use Rattle.std.specs.Fmt.{decimal};
 ghost use Rattle.std.specs.List.Sorted.{IsNonDecreasing};
 ghost use Rattle.spi_show.specs.Spelled.{IsShift, IsLeastBehind};
-ghost use Rattle.spi_show.specs.Shifts.{IsDecimal, IsNumber, with_number, AreNumbers, IsSwept, IsLeastBeside};
+ghost use Rattle.spi_show.specs.Shifts.{IsDecimal, IsNumber, with_number, AreWordNumbers, IsSwept, IsLeastBeside};
 
 use crate::NoMemory;
 use crate::spell::Shift;
@@ -66,7 +66,7 @@ fn keep(number: Option<u128>, numbers: &mut Vec<u128>) -> Result<(), NoMemory>
 
 // The numbers that these words have behind the prefix.
 fn numbers_in(alloc: Global, words: &[Text], prefix: &str) -> Result<Vec<u128>, NoMemory>
-    ensures { IfOk result (λ v. AreNumbers prefix.now words.now (length words.now) v.items) }
+    ensures { IfOk result (λ v. AreWordNumbers prefix.now words.now (length words.now) v.items) }
 {
     let mut numbers = Vec::new(alloc);
     for word in words {

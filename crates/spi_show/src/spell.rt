@@ -28,6 +28,7 @@ impl Model for Shift {
 }
 
 impl Shift {
+    /// The shift by so many numbers.
     pub fn of(by: u128) -> Shift
         requires { by < 2 ^ 100 }
         ensures { result ≡ by }

@@ -1,4 +1,4 @@
--- Cases that such proofs go wrong at, each a lemma of its own.
+-- Branches that such proofs go wrong at, each a lemma of its own.
 use Rattle.std.proofs.Common.{◌≡◌, ℕ, Bool, true, false, [], ◌∷◌, ◌++◌, ◌+◌, ◌≤◌, List, length, refl, arith}
 use Rattle.spi_term.specs.Lists.{In}
 use Rattle.spi_term.specs.Term.{Message, name, pair, Effect, checks, many, Atom}

@@ -14,7 +14,7 @@ use Rattle.spi_scope.specs.Parts.{step_in}
 use Rattle.spi_scope.specs.Points.{Point, ends_message, one, added, in_order, steps_points, schedule_points, numbered_atom_points, numbered_atoms_points, written_points, deriv_points, derivs_points, derivation_points}
 use Rattle.spi_scope.specs.First.{Clean}
 use Rattle.spi_scope.specs.StandsFor.{schedule_in}
-use Rattle.spi_scope.proofs.Counting.{Passes}
+use Rattle.spi_scope.proofs.Counting.{PassesTests}
 use Rattle.spi_spell.specs.Joined.{HasLowPlaces}
 use Rattle.spi_spell.proofs.Printable.{AreSteps}
 use Rattle.spi_spell.proofs.Declared.{AreNew}
@@ -44,28 +44,28 @@ clean_both (p ∷ ps) qs c h k = (h.0, clean_both ps qs (c + added p) h.1 k)
 small_clean : (n c : ℕ) (s : Span) → n ≤ 200 → Clean c (in_order (one (ends_message n s)))
 small_clean n c s h = (cond-false _ _ None (le-ltb 200 n h), tt)
 
-atom_clean : (e : t.Atom) → Passes (numbered_atom_points e) → (c : ℕ) → Clean c (in_order (numbered_atom_points e))
+atom_clean : (e : t.Atom) → PassesTests (numbered_atom_points e) → (c : ℕ) → Clean c (in_order (numbered_atom_points e))
 atom_clean (t.ends s m) h c = small_clean _ c _ h
 atom_clean (t.checks s m) h c = small_clean _ c _ h
 atom_clean (t.many s m) h c = small_clean _ c _ h
 
-atoms_clean : (es : List t.Atom) → Passes (numbered_atoms_points es) → (c : ℕ) → Clean c (in_order (numbered_atoms_points es))
+atoms_clean : (es : List t.Atom) → PassesTests (numbered_atoms_points es) → (c : ℕ) → Clean c (in_order (numbered_atoms_points es))
 atoms_clean [] h c = tt
 atoms_clean (e ∷ es) h c = clean_both (in_order (numbered_atom_points e)) (in_order (numbered_atoms_points es)) c (atom_clean e h.0 c) (atoms_clean es h.1)
 
-written_clean : (es : Option (List t.Atom)) → Passes (written_points es) → (c : ℕ) → Clean c (in_order (written_points es))
+written_clean : (es : Option (List t.Atom)) → PassesTests (written_points es) → (c : ℕ) → Clean c (in_order (written_points es))
 written_clean None h c = tt
 written_clean (Some es) h c = atoms_clean es h c
 
 mutual
-  deriv_clean : (d : t.Deriv) → Passes (deriv_points d) → (c : ℕ) → Clean c (in_order (deriv_points d))
+  deriv_clean : (d : t.Deriv) → PassesTests (deriv_points d) → (c : ℕ) → Clean c (in_order (deriv_points d))
   deriv_clean (t.rule s w es ds) h c = clean_both (in_order (written_points es)) (in_order (derivs_points ds)) c (written_clean es h.0 c) (derivs_clean ds h.1)
 
-  derivs_clean : (ds : t.Derivs) → Passes (derivs_points ds) → (c : ℕ) → Clean c (in_order (derivs_points ds))
+  derivs_clean : (ds : t.Derivs) → PassesTests (derivs_points ds) → (c : ℕ) → Clean c (in_order (derivs_points ds))
   derivs_clean t.no_derivs h c = tt
   derivs_clean (t.more_derivs d ds) h c = clean_both (in_order (deriv_points d)) (in_order (derivs_points ds)) c (deriv_clean d h.0 c) (derivs_clean ds h.1)
 
-pub derivation_clean : (d : Option t.Deriv) → Passes (derivation_points d) → Clean 0 (in_order (derivation_points d))
+pub derivation_clean : (d : Option t.Deriv) → PassesTests (derivation_points d) → Clean 0 (in_order (derivation_points d))
 derivation_clean None h = tt
 derivation_clean (Some d) h = deriv_clean d h 0
 

@@ -29,62 +29,62 @@ AreClear (one p) = IsClear p
 AreClear (ps ⨾ qs) = AreClear ps × AreClear qs
 
 -- nothing is wrong at the points, and they add n
-pub record Adds (n : ℕ) (ps : Points) : Type 0 where
+pub record AddsPoints (n : ℕ) (ps : Points) : Type 0 where
   pub clear : AreClear ps
   pub weighs : weight ps ≡ n
 
-pub next : {m n : ℕ} {ps qs : Points} → Adds m ps → Adds n qs → Adds (m + n) (ps ⨾ qs)
+pub next : {m n : ℕ} {ps qs : Points} → AddsPoints m ps → AddsPoints n qs → AddsPoints (m + n) (ps ⨾ qs)
 next f g = record { clear = (f.clear, g.clear); weighs = omega (arith, f.weighs, g.weighs) }
 
-pub regrouped : {n : ℕ} {ps qs rs : Points} → Adds n (ps ⨾ (qs ⨾ rs)) → Adds n ((ps ⨾ qs) ⨾ rs)
+pub regrouped : {n : ℕ} {ps qs rs : Points} → AddsPoints n (ps ⨾ (qs ⨾ rs)) → AddsPoints n ((ps ⨾ qs) ⨾ rs)
 regrouped f = record { clear = ((f.clear.0, f.clear.1.0), f.clear.1.1); weighs = omega (arith, f.weighs) }
 
-pub in_all : {m n : ℕ} {ps : Points} → m ≡ n → Adds m ps → Adds n ps
+pub in_all : {m n : ℕ} {ps : Points} → m ≡ n → AddsPoints m ps → AddsPoints n ps
 in_all e f = record { clear = f.clear; weighs = f.weighs ∙ e }
 
-pub no_point : Adds 0 none
+pub no_point : AddsPoints 0 none
 no_point = record { clear = tt; weighs = refl }
 
-pub counted : (n : ℕ) (s : Span) → Adds n (one (adds n s))
+pub counted : (n : ℕ) (s : Span) → AddsPoints n (one (adds n s))
 counted n s = record { clear = tt; weighs = refl }
 
 -- ---- the parts of a form, and what stands before its processes
 
-pub message_adds : (n : ℕ) (xs : Names) (m : t.Msg) → Adds 0 (message_points xs m) → msg_nodes xs m ≡ n → n ≤ 200 → Adds n (part xs m)
+pub message_adds : (n : ℕ) (xs : Names) (m : t.Msg) → AddsPoints 0 (message_points xs m) → msg_nodes xs m ≡ n → n ≤ 200 → AddsPoints n (part xs m)
 unfolding part
 message_adds n xs m f same low = record { clear = ((f.clear, omega (arith, same, low)), tt); weighs = omega (arith, f.weighs, same) }
 
-pub type_adds : (n : ℕ) (ts : Abbreviations) (xs : Names) (a : t.Ty) → Adds 0 (type_points ts xs a) → type_nodes ts xs a ≡ n → n ≤ 1000 → Adds n (whole_type ts xs a)
+pub type_adds : (n : ℕ) (ts : Abbreviations) (xs : Names) (a : t.Ty) → AddsPoints 0 (type_points ts xs a) → type_nodes ts xs a ≡ n → n ≤ 1000 → AddsPoints n (whole_type ts xs a)
 unfolding whole_type
 type_adds n ts xs a f same low = record { clear = ((f.clear, omega (arith, same, low)), tt); weighs = omega (arith, f.weighs, same) }
 
-module _ (xs : Names) (s : Span) {i : ℕ} (m : t.Msg) (f : Adds i (part xs m)) where
-  pub message_head_adds : Adds (1 + i) (message_head xs s m)
+module _ (xs : Names) (s : Span) {i : ℕ} (m : t.Msg) (f : AddsPoints i (part xs m)) where
+  pub message_head_adds : AddsPoints (1 + i) (message_head xs s m)
   unfolding message_head
   message_head_adds = next (counted 1 s) f
 
-  pub messages_head_adds : {j : ℕ} (n : t.Msg) → Adds j (part xs n) → Adds (1 + (i + j)) (messages_head xs s m n)
+  pub messages_head_adds : {j : ℕ} (n : t.Msg) → AddsPoints j (part xs n) → AddsPoints (1 + (i + j)) (messages_head xs s m n)
   unfolding messages_head
   messages_head_adds n g = next (counted 1 s) (next f g)
 
-  pub typed_head_adds : (ts : Abbreviations) {j : ℕ} (a : t.Ty) → Adds j (whole_type ts xs a) → Adds (1 + (i + j)) (typed_head ts xs s m a)
+  pub typed_head_adds : (ts : Abbreviations) {j : ℕ} (a : t.Ty) → AddsPoints j (whole_type ts xs a) → AddsPoints (1 + (i + j)) (typed_head ts xs s m a)
   unfolding typed_head
   typed_head_adds ts a g = next (counted 1 s) (next f g)
 
-  pub tested_head_adds : (ts : Abbreviations) {j l : ℕ} (a : t.Ty) (n : t.Msg) → Adds j (whole_type ts xs a) → Adds l (part xs n) → Adds (1 + (i + (j + l))) (tested_head ts xs s m a n)
+  pub tested_head_adds : (ts : Abbreviations) {j l : ℕ} (a : t.Ty) (n : t.Msg) → AddsPoints j (whole_type ts xs a) → AddsPoints l (part xs n) → AddsPoints (1 + (i + (j + l))) (tested_head ts xs s m a n)
   unfolding tested_head
   tested_head_adds ts a n g h = next (counted 1 s) (next f (next g h))
 
-  pub split_head_adds : (ts : Abbreviations) {j l : ℕ} (x : SWord) (a c : t.Ty) → Adds j (whole_type ts xs a) → Adds l (whole_type ts (x.word ∷ xs) c) → Adds (1 + (i + (j + l))) (split_head ts xs s m x a c)
+  pub split_head_adds : (ts : Abbreviations) {j l : ℕ} (x : SWord) (a c : t.Ty) → AddsPoints j (whole_type ts xs a) → AddsPoints l (whole_type ts (x.word ∷ xs) c) → AddsPoints (1 + (i + (j + l))) (split_head ts xs s m x a c)
   unfolding split_head
   split_head_adds ts x a c g h = next (counted 1 s) (next f (next g h))
 
-  pub match_head_adds : (ts : Abbreviations) {j l e : ℕ} (x : SWord) (a : t.Ty) (n : t.Msg) (c : t.Ty) → Adds j (whole_type ts xs a) → Adds l (part xs n) → Adds e (whole_type ts (x.word ∷ xs) c)
-      → Adds (1 + (i + (j + (l + e)))) (match_head ts xs s m x a n c)
+  pub match_head_adds : (ts : Abbreviations) {j l e : ℕ} (x : SWord) (a : t.Ty) (n : t.Msg) (c : t.Ty) → AddsPoints j (whole_type ts xs a) → AddsPoints l (part xs n) → AddsPoints e (whole_type ts (x.word ∷ xs) c)
+      → AddsPoints (1 + (i + (j + (l + e)))) (match_head ts xs s m x a n c)
   unfolding match_head
   match_head_adds ts x a n c g h k = in_all (omega arith) (next (tested_head_adds ts a n g h) k)
 
-pub new_head_adds : (ts : Abbreviations) (xs : Names) (s : Span) {i : ℕ} (a : t.Ty) → Adds i (whole_type ts xs a) → Adds (1 + i) (new_head ts xs s a)
+pub new_head_adds : (ts : Abbreviations) (xs : Names) (s : Span) {i : ℕ} (a : t.Ty) → AddsPoints i (whole_type ts xs a) → AddsPoints (1 + i) (new_head ts xs s a)
 unfolding new_head
 new_head_adds ts xs s a f = next (counted 1 s) f
 
@@ -108,6 +108,6 @@ all_run (ps ⨾ qs) c h low =
     ap (λ r. after r (run qs)) (all_run ps c h.0 (omega (arith, low))) ∙ all_run qs (c + weight ps) h.1 (omega (arith, low)) ∙ ap (λ (d : ℕ). Ok d) sums
 
 -- points that add little enough are clean
-pub clear_clean : (ps : Points) (n : ℕ) → Adds n ps → n ≤ 100000 → Clean 0 (in_order ps)
+pub clear_clean : (ps : Points) (n : ℕ) → AddsPoints n ps → n ≤ 100000 → Clean 0 (in_order ps)
 clear_clean ps n h low =
     (clean_from (in_order ps) 0 (0 + weight ps) (sym (run_in_order ps 0) ∙ all_run ps 0 h.clear (omega (arith, h.weighs, low)))).0

@@ -1,6 +1,6 @@
 -- A message has a node, and a form counts at least the names that it binds.
 use Rattle.std.proofs.Common.{◌≤◌, arith}
-use Rattle.spi_term.specs.Term.{Message, bound, name, unit, pair, in_left, in_right, enc, hash, Prefix, Recvs, Serves, Splits, Selects, Decrypts, Checks, Begins, Ends, EndManys, Casts, Makes, binds, message_size}
+use Rattle.spi_term.specs.Term.{Message, bound, name, unit, pair, in_left, in_right, enc, hash, Prefix, Recvs, Serves, Splits, Selects, Decrypts, Checks, Begins, Ends, EndManys, Casts, Freshes, binds, message_size}
 use Rattle.spi_spell.proofs.Printable.{prefix_nodes}
 
 pub some_size : (m : Message) → 1 ≤ message_size m
@@ -25,4 +25,4 @@ binds_few (Begins m) = omega arith
 binds_few (Ends m) = omega arith
 binds_few (EndManys m) = omega arith
 binds_few (Casts m a) = omega arith
-binds_few (Makes a) = omega arith
+binds_few (Freshes a) = omega arith

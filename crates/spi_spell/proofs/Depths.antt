@@ -9,7 +9,7 @@ use Rattle.spi_tree.specs.Pieces.{Piece, opens, cell, closes, a_mark, a_number, 
 use Rattle.spi_parse.specs.Exact.{IsWithin}
 use Rattle.spi_parse.specs.Formed.{whole_file}
 use Rattle.spi_parse.specs.Bare.{nowhere}
-use Rattle.spi_term.specs.Term.{Message, bound, name, unit, pair, in_left, in_right, enc, hash, Atom, ends, checks, many, Effect, Ty, un, unit_ty, pair_ty, sum_ty, key, nonce, Leaf, Sends, Stops, Prefix, Recvs, Serves, Splits, Selects, Decrypts, Checks, Begins, Ends, EndManys, Casts, Makes, Cases, Pars, Process, leaf, prefix, fork, binds, message_size}
+use Rattle.spi_term.specs.Term.{Message, bound, name, unit, pair, in_left, in_right, enc, hash, Atom, ends, checks, many, Effect, Ty, un, unit_ty, pair_ty, sum_ty, key, nonce, Leaf, Sends, Stops, Prefix, Recvs, Serves, Splits, Selects, Decrypts, Checks, Begins, Ends, EndManys, Casts, Freshes, Branches, Pars, Process, leaf, prefix, fork, binds, message_size}
 use Rattle.spi_term.specs.Spelling.{Spelling, atom_nodes, effect_nodes, ty_nodes}
 use Rattle.spi_run.specs.Reduction.{Step, act, talk}
 use Rattle.spi_scope.specs.Parts.{numbered_atom, numbered_effect}
@@ -19,9 +19,9 @@ use Rattle.spi_scope.specs.StandsFor.{Meant}
 use Rattle.spi_show.specs.Spelled.{name_text}
 use Rattle.spi_show.specs.Processes.{Standing, alone, sequel}
 use Rattle.spi_tree.proofs.Same.{same_effect}
-use Rattle.spi_spell.proofs.Shallow.{AreSmall, small}
+use Rattle.spi_spell.proofs.Shallow.{ArePointsSmall, small}
 use Rattle.spi_spell.proofs.Printed.{twice, word, spelled_name, numbered_name, message_tree, second_tree, rest_trees, atom_tree, atom_trees, type_tree, field_trees, last_tree, leaf_tree, prefix_tree, process_tree, free_trees, part_tree, opponent_tree, step_tree, schedule_tree, written_tree, deriv_tree, deriv_trees, derivation_tree, file_tree}
-use Rattle.spi_spell.proofs.Printable.{MessageFits, TyFits, LeafFits, PrefixFits, ForkFits, ProcessFits, Nests, IsPart, IsOpponentPart, is_later, IsPrintable}
+use Rattle.spi_spell.proofs.Printable.{MessageFits, TyFits, LeafFits, PrefixFits, ForkFits, ProcessFits, Nests, IsPrintablePart, IsOpponentPart, is_later, IsPrintable}
 
 -- the first token of a message, a type or an atom, and of a process
 shallow : (k : ℕ) → k ≤ 1000 → nat_lt message_limit k ≡ false
@@ -136,9 +136,9 @@ module _ (later : Bool) (spell : ℕ → List ℕ) where
   prefix_within a n (Ends m) p r low f go h = (low_place a low, part_message n m _ f (refl, go _ h))
   prefix_within a n (EndManys m) p r low f go h = (low_place a low, part_message n m _ f.1 (refl, go _ h))
   prefix_within a n (Casts m t) p r low f go h = (low_place a low, part_message n m _ f.0 (refl, binder_within n t _ f.1 (go _ h)))
-  prefix_within a n (Makes t) p r low f go h = (low_place a low, binder_within n t _ f (go _ h))
+  prefix_within a n (Freshes t) p r low f go h = (low_place a low, binder_within n t _ f (go _ h))
 
-  case_within : (a : Place) (n : ℕ) (m : Message) (x y : Ty) (p q : t.Proc) (r : List Piece) → nesting_of a ≤ process_limit → ForkFits later (Cases m x y) → GoesOn (below a) p → GoesOn (below a) q → IsWithin r
+  case_within : (a : Place) (n : ℕ) (m : Message) (x y : Ty) (p q : t.Proc) (r : List Piece) → nesting_of a ≤ process_limit → ForkFits later (Branches m x y) → GoesOn (below a) p → GoesOn (below a) q → IsWithin r
       → IsWithin (proc_pieces a (t.case nowhere (message_tree (spelled_name spell) n m) (word (spell n)) (type_tree spell n x) p (word (spell n)) (type_tree spell n y) q) r)
   case_within a n m x y p q r low f go on h =
       (low_place a low, part_message n m _ f.0 (refl, (refl, binder_within n x _ f.1 (go _ (refl, (refl, binder_within n y _ f.2 (on _ h)))))))
@@ -151,7 +151,7 @@ module _ (later : Bool) (spell : ℕ → List ℕ) where
   process_within at k n (leaf l) f low r h = leaf_within (place_of at k) n l r low f h
   process_within at k n (prefix s p) f low r h =
       prefix_within (place_of at k) n s (process_tree spell sequel (n + binds s) p) r low.0 f.0 (process_within sequel (nesting_of (place_of at k) + 1) (n + binds s) p f.1 low.1) h
-  process_within at k n (fork (Cases m t u) p q) f low r h =
+  process_within at k n (fork (Branches m t u) p q) f low r h =
       case_within (place_of at k) n m t u (process_tree spell sequel (n + 1) p) (process_tree spell sequel (n + 1) q) r low.0 f.0
       (process_within sequel (nesting_of (place_of at k) + 1) (n + 1) p f.1 low.1) (process_within sequel (nesting_of (place_of at k) + 1) (n + 1) q f.2 low.2) h
   process_within alone k n (fork Pars p q) f low r h = process_within sequel (k + 1) n p f.1 low.0 _ (refl, process_within alone (k + 1) n q f.2 low.1 _ h)
@@ -164,7 +164,7 @@ module _ (later : Bool) (spell : ℕ → List ℕ) where
   process_within sequel k n (fork Pars (fork g p o) q) f low r h =
       (low_place (in_seq k) low.0, process_within sequel (k + 1) n (fork g p o) f.1 low.1.0 _ (refl, process_within alone (k + 1) n q f.2 low.1.1 _ (refl, h)))
 
-  part_within : (i : ℕ) (p : Spelling) → IsPart later i p → GoesOn (at_level 0) (part_tree spell p)
+  part_within : (i : ℕ) (p : Spelling) → IsPrintablePart later i p → GoesOn (at_level 0) (part_tree spell p)
   part_within i p h = process_within alone 0 p.names p.process h.fits h.nests
 
   opponent_within : (i : ℕ) (o : Option Spelling) (r : List Piece) → IsOpponentPart later i o → IsWithin r → IsWithin (opponent_pieces (opponent_tree spell o) r)
@@ -179,13 +179,13 @@ number_within i k r low h = (shallow k low, (refl, h))
 abbrev AreLowAtoms : Effect → Type 0
 AreLowAtoms es = AreLow numbered_name number_within 0 es
 
-low_atoms : (es : List t.Atom) → AreSmall (numbered_atoms_points es) → AreLowAtoms (map numbered_atom es)
+low_atoms : (es : List t.Atom) → ArePointsSmall (numbered_atoms_points es) → AreLowAtoms (map numbered_atom es)
 low_atoms [] f = tt
 low_atoms (t.ends s m ∷ es) f = (let few = f.0 in omega arith, low_atoms es f.1)
 low_atoms (t.checks s m ∷ es) f = (let few = f.0 in omega arith, low_atoms es f.1)
 low_atoms (t.many s m ∷ es) f = (let few = f.0 in omega arith, low_atoms es f.1)
 
-written_within : (o : Option (List t.Atom)) (r : List Piece) → AreSmall (written_points o) → IsWithin r → IsWithin (written_pieces (written_tree (numbered_effect o)) r)
+written_within : (o : Option (List t.Atom)) (r : List Piece) → ArePointsSmall (written_points o) → IsWithin r → IsWithin (written_pieces (written_tree (numbered_effect o)) r)
 written_within None r f h = h
 written_within (Some es) r f h = effect_within numbered_name number_within (map numbered_atom es) 0 0 r (low_atoms es f) h
 
@@ -200,12 +200,12 @@ behind_written None r h = h
 behind_written (Some es) r h = same_effect (λ x y. IsWithin x → IsWithin r) (behind_piece r) 0 es {x = r} {y = r} (λ k. k) h
 
 mutual
-  deriv_within : (d : t.Deriv) (n : ℕ) (r : List Piece) → IsWithin (deriv_pieces n d r) → AreSmall (deriv_points d) → IsWithin r × ((q : List Piece) → IsWithin q → IsWithin (deriv_pieces n (deriv_tree d) q))
+  deriv_within : (d : t.Deriv) (n : ℕ) (r : List Piece) → IsWithin (deriv_pieces n d r) → ArePointsSmall (deriv_points d) → IsWithin r × ((q : List Piece) → IsWithin q → IsWithin (deriv_pieces n (deriv_tree d) q))
   deriv_within (t.rule s w es ds) n r h f =
       let on = derivs_within ds (n + 1) (closes s.to ∷ r) (behind_written es _ h.1) f.1 in
       (on.0, λ q k. (h.0, written_within es _ f.0 (on.1 _ k)))
 
-  derivs_within : (ds : t.Derivs) (n : ℕ) (r : List Piece) → IsWithin (derivs_pieces n ds r) → AreSmall (derivs_points ds) → IsWithin r × ((q : List Piece) → IsWithin q → IsWithin (derivs_pieces n (deriv_trees ds) q))
+  derivs_within : (ds : t.Derivs) (n : ℕ) (r : List Piece) → IsWithin (derivs_pieces n ds r) → ArePointsSmall (derivs_points ds) → IsWithin r × ((q : List Piece) → IsWithin q → IsWithin (derivs_pieces n (deriv_trees ds) q))
   derivs_within t.no_derivs n r h f = (h, λ q k. k)
   derivs_within (t.more_derivs d ds) n r h f =
       let one = deriv_within d n (derivs_pieces n ds r) h f.0 in

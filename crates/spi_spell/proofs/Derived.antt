@@ -24,24 +24,24 @@ use Rattle.spi_rules.proofs.Named.{rules, each_named}
 use Rattle.spi_scope.specs.Parts.{uses_in, all_uses_in}
 use Rattle.spi_scope.specs.Points.{Point, in_order, deriv_points, derivs_points}
 use Rattle.spi_scope.proofs.Rules.{rule_found}
-use Rattle.spi_spell.proofs.Reading.{Reads}
+use Rattle.spi_spell.proofs.Reading.{ReadsTree}
 
 -- the tokens of rule uses that write no effect
 abbrev pub rule_words : List RuleUse → List Kind
 rule_words us = map (λ (u : RuleUse). kinds.Word (spelled u.rule)) us
 
 -- no use writes an effect
-abbrev pub ArePlain : List RuleUse → Type 0
-ArePlain [] = Unit {0}
-ArePlain (u ∷ us) = (u.taken ≡ None) × ArePlain us
+abbrev pub WriteNoEffect : List RuleUse → Type 0
+WriteNoEffect [] = Unit {0}
+WriteNoEffect (u ∷ us) = (u.taken ≡ None) × WriteNoEffect us
 
-plain_join : (us vs : List RuleUse) → ArePlain us → ArePlain vs → ArePlain (us ++ vs)
+plain_join : (us vs : List RuleUse) → WriteNoEffect us → WriteNoEffect vs → WriteNoEffect (us ++ vs)
 plain_join [] vs h k = k
 plain_join (u ∷ us) vs h k = (h.0, plain_join us vs h.1 k)
 
 -- a tree that follows its rules and has no point
-abbrev pub IsTree : Bool → t.Deriv → Type 0
-IsTree later d = IsRuled later d × (in_order (deriv_points d) ≡ [])
+abbrev pub FollowsRules : Bool → t.Deriv → Type 0
+FollowsRules later d = IsRuled later d × (in_order (deriv_points d) ≡ [])
 
 -- k such trees
 abbrev pub AreTrees : Bool → ℕ → t.Derivs → Type 0
@@ -49,12 +49,12 @@ AreTrees later k ds = AreRuled later ds × (in_order (derivs_points ds) ≡ []) 
 
 -- the uses are one tree, and k trees, wherever their tokens stand
 pub record Derives (later : Bool) (n : ℕ) (us : List RuleUse) : Type 0 where
-  pub plain : ArePlain us
-  pub read : (e : ℕ) (ts : List Token) (ks : List Kind) → kinds_of ts ≡ rule_words us ++ ks → Reads (IsTree later) uses_in (deriv_pieces n) us e ts ks
+  pub plain : WriteNoEffect us
+  pub read : (e : ℕ) (ts : List Token) (ks : List Kind) → kinds_of ts ≡ rule_words us ++ ks → ReadsTree (FollowsRules later) uses_in (deriv_pieces n) us e ts ks
 
 pub record DeriveAll (later : Bool) (n k : ℕ) (us : List RuleUse) : Type 0 where
-  pub plain : ArePlain us
-  pub read : (e : ℕ) (ts : List Token) (ks : List Kind) → kinds_of ts ≡ rule_words us ++ ks → Reads (AreTrees later k) all_uses_in (derivs_pieces n) us e ts ks
+  pub plain : WriteNoEffect us
+  pub read : (e : ℕ) (ts : List Token) (ks : List Kind) → kinds_of ts ≡ rule_words us ++ ks → ReadsTree (AreTrees later k) all_uses_in (derivs_pieces n) us e ts ks
 
 pub no_premise : (later : Bool) (n : ℕ) → DeriveAll later n 0 []
 no_premise later n = record {
@@ -119,7 +119,7 @@ rule {later = later} {n = n} {us = us} r plain early low ds = record {
   read = go;
 }
   where
-    go : (e : ℕ) (ts : List Token) (ks : List Kind) → kinds_of ts ≡ rule_words (uses r us) ++ ks → Reads (IsTree later) uses_in (deriv_pieces n) (uses r us) e ts ks
+    go : (e : ℕ) (ts : List Token) (ks : List Kind) → kinds_of ts ≡ rule_words (uses r us) ++ ks → ReadsTree (FollowsRules later) uses_in (deriv_pieces n) (uses r us) e ts ks
     go e [] ks is = absurd cc
     go e (token ∷ ts) ks is =
         let kind : token.kind ≡ kinds.Word (spelled r) = cc in

@@ -10,8 +10,8 @@ use Rattle.std.specs.List.{AllByRecursion}
 use Rattle.std.specs.Str.{NonePass}
 use Rattle.unicode_ident.specs.Ident.{is_xid_continue}
 use Rattle.unicode_ident.proofs.IdentLemmas.{is_xid_start-ascii, is_xid_continue-ascii}
-use Rattle.spi_lex.specs.Lexeme.{starts_name, IsIdentifier, IsGap, Spells, IsPart, IsLongest}
-use Rattle.spi_lex.specs.Lexing.{Piece, Leads, here, past_gap, past_piece}
+use Rattle.spi_lex.specs.Lexeme.{starts_name, IsIdentifier, IsGap, SpellsLexeme, IsPart, IsLongest}
+use Rattle.spi_lex.specs.Lexing.{LexPiece, Leads, here, past_gap, past_piece}
 use Rattle.spi_lex.proofs.Parts.{blank, comment, digits, sign, name, part_of}
 
 -- a test that 10 doesn't pass tells a character from 10
@@ -71,20 +71,20 @@ longest_on text more n l part =
       ];
     }
 
-pub leads_on : {at to : ℕ} {text rest : List ℕ} {ps : List Piece} (more : List ℕ) → Leads at text ps to rest → rest ≡ [] → Leads at (text ++ 10 ∷ more) ps to (10 ∷ more)
+pub leads_on : {at to : ℕ} {text rest : List ℕ} {ps : List LexPiece} (more : List ℕ) → Leads at text ps to rest → rest ≡ [] → Leads at (text ++ 10 ∷ more) ps to (10 ∷ more)
 leads_on {at = at} more here e = subst (λ (bs : List ℕ). Leads at (bs ++ 10 ∷ more) [] at (10 ∷ more)) (sym e) here
 leads_on {at = at} {to = to} {text = text} {ps = ps} more (past_gap n l g h) e =
     past_gap n (longest_on text more n l (inl g)) (subst IsGap (sym (take-append-le n text (10 ∷ more) l.within)) g)
     (subst (λ (bs : List ℕ). Leads (at + n) bs ps to (10 ∷ more)) (sym (drop-append-le n text (10 ∷ more) l.within)) (leads_on more h e))
 leads_on {at = at} {to = to} {text = text} more (past_piece {pieces = ps} n lexeme l s a h) e =
-    past_piece n lexeme (longest_on text more n l (inr (lexeme, s))) (subst (Spells lexeme) (sym (take-append-le n text (10 ∷ more) l.within)) s) a
+    past_piece n lexeme (longest_on text more n l (inr (lexeme, s))) (subst (SpellsLexeme lexeme) (sym (take-append-le n text (10 ∷ more) l.within)) s) a
     (subst (λ (bs : List ℕ). Leads (at + n) bs ps to (10 ∷ more)) (sym (drop-append-le n text (10 ∷ more) l.within)) (leads_on more h e))
 
 -- the same text k bytes further on
-abbrev pub moved : ℕ → Piece → Piece
+abbrev pub moved : ℕ → LexPiece → LexPiece
 moved k p = record { lexeme = p.lexeme; from = k + p.from; to = k + p.to }
 
-pub leads_moved : {at to : ℕ} {text rest : List ℕ} {ps : List Piece} (k : ℕ) → Leads at text ps to rest → Leads (k + at) text (map (moved k) ps) (k + to) rest
+pub leads_moved : {at to : ℕ} {text rest : List ℕ} {ps : List LexPiece} (k : ℕ) → Leads at text ps to rest → Leads (k + at) text (map (moved k) ps) (k + to) rest
 leads_moved k here = here
 leads_moved {at = at} {to = to} {text = text} {rest = rest} {ps = ps} k (past_gap n l g h) =
     past_gap n l g (subst (λ (i : ℕ). Leads i (drop n text) (map (moved k) ps) (k + to) rest) (sym (add_assoc k at n)) (leads_moved k h))

@@ -11,7 +11,7 @@ use Rattle.spi_term.specs.Term.{Message, bound, name, Ty}
 use Rattle.spi_scope.specs.Scope.{Word, Names, number_of, Abbreviation, Abbreviations, type_of}
 use Rattle.spi_scope.specs.Meaning.{named, nested, message_in, messages_in, atom_in, effect_in, known, nested_types, behind, type_in, fields_in, last_in, process_in}
 use Rattle.spi_scope.specs.Points.{whole_message, atom_points, atoms_points, type_points, fields_points, last_points, whole_type, part, message_head, messages_head, typed_head, new_head, tested_head, split_head, match_head, process_points, decls_points, with_free, all_types}
-use Rattle.spi_scope.proofs.Counting.{Passes}
+use Rattle.spi_scope.proofs.Counting.{PassesTests}
 use Rattle.spi_scope.proofs.Sizes.{message_sized, type_sized}
 use Rattle.spi_spell.proofs.Printable.{HasVersion, MessageFits, AtomFits, EffectFits, PartsFit, TyFits, ProcessFits}
 
@@ -57,21 +57,21 @@ module _ (later : Bool) (k : ℕ) where
       row_version first t.no_msgs f h = f
       row_version first (t.more_msgs m ms) f h = (f, row_version (message_in k xs m) ms (message_version m h.0) h.1)
 
-    whole_fits : (m : t.Msg) → IsMsg later false m → Passes (whole_message xs m) → MessageFits later (message_in k xs m)
+    whole_fits : (m : t.Msg) → IsMsg later false m → PassesTests (whole_message xs m) → MessageFits later (message_in k xs m)
     whole_fits m h p = (omega (arith, p.1, message_sized k xs m), message_version m h)
 
-    atom_fits : (e : t.Atom) → IsAtom later false e → Passes (atom_points xs e) → AtomFits later (atom_in k xs e)
+    atom_fits : (e : t.Atom) → IsAtom later false e → PassesTests (atom_points xs e) → AtomFits later (atom_in k xs e)
     atom_fits (t.ends s m) h p = whole_fits m h p
     atom_fits (t.checks s m) h p = whole_fits m h p
     atom_fits (t.many s m) h p = (h.0, whole_fits m h.1 p)
 
-    effect_fits : (es : List t.Atom) → AreAtoms later false es → Passes (atoms_points xs es) → EffectFits later (effect_in k xs es)
+    effect_fits : (es : List t.Atom) → AreAtoms later false es → PassesTests (atoms_points xs es) → EffectFits later (effect_in k xs es)
     effect_fits [] h p = tt
     effect_fits (e ∷ es) h p = (atom_fits e h.0 p.0, effect_fits es h.1 p.1)
 
   module _ (ts : Abbreviations) (fit : TypesFit later ts) where
     mutual
-      parts_fit : (xs : Names) (a : t.Ty) → IsTy later a → Passes (type_points ts xs a) → PartsFit later (type_in k ts xs a)
+      parts_fit : (xs : Names) (a : t.Ty) → IsTy later a → PassesTests (type_points ts xs a) → PartsFit later (type_in k ts xs a)
       parts_fit xs (t.un s) h p = tt
       parts_fit xs (t.unit_ty s) h p = tt
       parts_fit xs (t.tuple_ty s w a fs l) h p =
@@ -82,54 +82,54 @@ module _ (later : Bool) (k : ℕ) where
       parts_fit xs (t.nonce s es) h p = effect_fits xs es h p
       parts_fit xs (t.abbr s w) h p = known_fits later ts fit w.word
 
-      fields_fit : (xs : Names) (fs : t.Fields) (z : Ty) → PartsFit later z → AreFields later fs → Passes (fields_points ts xs fs) → PartsFit later (nested_types (fields_in k ts xs fs) z)
+      fields_fit : (xs : Names) (fs : t.Fields) (z : Ty) → PartsFit later z → AreFields later fs → PassesTests (fields_points ts xs fs) → PartsFit later (nested_types (fields_in k ts xs fs) z)
       fields_fit xs t.no_fields z g h p = g
       fields_fit xs (t.more_fields w a fs) z g h p = (parts_fit xs a h.0 p.0, fields_fit (w.word ∷ xs) fs z g h.1 p.1)
 
-      last_fits : (xs : Names) (l : t.Last) → IsLast later l → Passes (last_points ts xs l) → PartsFit later (last_in k ts xs l)
+      last_fits : (xs : Names) (l : t.Last) → IsLast later l → PassesTests (last_points ts xs l) → PartsFit later (last_in k ts xs l)
       last_fits xs (t.bare a) h p = parts_fit xs a h p
       last_fits xs (t.named w a) h p = parts_fit xs a h p
 
-    pub type_fits : (xs : Names) (a : t.Ty) → IsTy later a → Passes (whole_type ts xs a) → TyFits later (type_in k ts xs a)
+    pub type_fits : (xs : Names) (a : t.Ty) → IsTy later a → PassesTests (whole_type ts xs a) → TyFits later (type_in k ts xs a)
     unfolding whole_type
     type_fits xs a h p = (omega (arith, p.0.1, type_sized k ts xs a), parts_fit xs a h p.0.0)
 
-    part_fits : (xs : Names) (m : t.Msg) → IsMsg later false m → Passes (part xs m) → MessageFits later (message_in k xs m)
+    part_fits : (xs : Names) (m : t.Msg) → IsMsg later false m → PassesTests (part xs m) → MessageFits later (message_in k xs m)
     unfolding part
     part_fits xs m h p = whole_fits xs m h p.0
 
 -- the parts of a head
-of_message : (xs : Names) (s : Span) (m : t.Msg) → Passes (message_head xs s m) → Passes (part xs m)
+of_message : (xs : Names) (s : Span) (m : t.Msg) → PassesTests (message_head xs s m) → PassesTests (part xs m)
 unfolding message_head
 of_message xs s m h = h.1
 
-of_messages : (xs : Names) (s : Span) (m n : t.Msg) → Passes (messages_head xs s m n) → Passes (part xs m) × Passes (part xs n)
+of_messages : (xs : Names) (s : Span) (m n : t.Msg) → PassesTests (messages_head xs s m n) → PassesTests (part xs m) × PassesTests (part xs n)
 unfolding messages_head
 of_messages xs s m n h = h.1
 
-of_typed : (ts : Abbreviations) (xs : Names) (s : Span) (m : t.Msg) (a : t.Ty) → Passes (typed_head ts xs s m a) → Passes (part xs m) × Passes (whole_type ts xs a)
+of_typed : (ts : Abbreviations) (xs : Names) (s : Span) (m : t.Msg) (a : t.Ty) → PassesTests (typed_head ts xs s m a) → PassesTests (part xs m) × PassesTests (whole_type ts xs a)
 unfolding typed_head
 of_typed ts xs s m a h = h.1
 
-of_new : (ts : Abbreviations) (xs : Names) (s : Span) (a : t.Ty) → Passes (new_head ts xs s a) → Passes (whole_type ts xs a)
+of_new : (ts : Abbreviations) (xs : Names) (s : Span) (a : t.Ty) → PassesTests (new_head ts xs s a) → PassesTests (whole_type ts xs a)
 unfolding new_head
 of_new ts xs s a h = h.1
 
-of_tested : (ts : Abbreviations) (xs : Names) (s : Span) (m : t.Msg) (a : t.Ty) (n : t.Msg) → Passes (tested_head ts xs s m a n) → Passes (part xs m) × Passes (whole_type ts xs a) × Passes (part xs n)
+of_tested : (ts : Abbreviations) (xs : Names) (s : Span) (m : t.Msg) (a : t.Ty) (n : t.Msg) → PassesTests (tested_head ts xs s m a n) → PassesTests (part xs m) × PassesTests (whole_type ts xs a) × PassesTests (part xs n)
 unfolding tested_head
 of_tested ts xs s m a n h = (h.1.0, h.1.1.0, h.1.1.1)
 
-of_split : (ts : Abbreviations) (xs : Names) (s : Span) (m : t.Msg) (x : SWord) (a c : t.Ty) → Passes (split_head ts xs s m x a c) → Passes (part xs m) × Passes (whole_type ts xs a) × Passes (whole_type ts (x.word ∷ xs) c)
+of_split : (ts : Abbreviations) (xs : Names) (s : Span) (m : t.Msg) (x : SWord) (a c : t.Ty) → PassesTests (split_head ts xs s m x a c) → PassesTests (part xs m) × PassesTests (whole_type ts xs a) × PassesTests (whole_type ts (x.word ∷ xs) c)
 unfolding split_head
 of_split ts xs s m x a c h = (h.1.0, h.1.1.0, h.1.1.1)
 
-of_match : (ts : Abbreviations) (xs : Names) (s : Span) (m : t.Msg) (x : SWord) (a : t.Ty) (n : t.Msg) (c : t.Ty) → Passes (match_head ts xs s m x a n c)
-    → Passes (tested_head ts xs s m a n) × Passes (whole_type ts (x.word ∷ xs) c)
+of_match : (ts : Abbreviations) (xs : Names) (s : Span) (m : t.Msg) (x : SWord) (a : t.Ty) (n : t.Msg) (c : t.Ty) → PassesTests (match_head ts xs s m x a n c)
+    → PassesTests (tested_head ts xs s m a n) × PassesTests (whole_type ts (x.word ∷ xs) c)
 unfolding match_head
 of_match ts xs s m x a n c h = h
 
 module _ (later : Bool) (k : ℕ) (ts : Abbreviations) (fit : TypesFit later ts) where
-  pub process_fits : (xs : Names) (p : t.Proc) (a : Place) → IsProc later a p → Passes (process_points ts xs p) → ProcessFits later (process_in (λ s. k) ts xs p)
+  pub process_fits : (xs : Names) (p : t.Proc) (a : Place) → IsProc later a p → PassesTests (process_points ts xs p) → ProcessFits later (process_in (λ s. k) ts xs p)
   process_fits xs (t.par s p q) (in_seq l) f h = absurd f
   process_fits xs (t.par s p q) (at_level l) f h = (tt, process_fits xs p (in_seq (l + 1)) f.0 h.0, process_fits xs q (at_level (l + 1)) f.1 h.1.1)
   process_fits xs (t.group s p q) a f h = (tt, process_fits xs p (below a) f.0 h.0, process_fits xs q (beside a) f.1 h.1.1)
@@ -171,7 +171,7 @@ module _ (later : Bool) (k : ℕ) (ts : Abbreviations) (fit : TypesFit later ts)
   process_fits xs (t.stop s) a f h = tt
 
 -- the abbreviations that declarations bring into scope
-pub types_fit : (later : Bool) (ts : Abbreviations) (xs : Names) (ds : List t.Declared) → TypesFit later ts → AreDeclared later ds → Passes (decls_points ts xs ds) → TypesFit later (all_types ts xs ds)
+pub types_fit : (later : Bool) (ts : Abbreviations) (xs : Names) (ds : List t.Declared) → TypesFit later ts → AreDeclared later ds → PassesTests (decls_points ts xs ds) → TypesFit later (all_types ts xs ds)
 types_fit later ts xs [] fit h p = fit
 types_fit later ts xs (t.free s w ws ∷ ds) fit h p = types_fit later ts (with_free xs (w ∷ ws)) ds fit h.1 p.1
 types_fit later ts xs (t.abbreviated s w a ∷ ds) fit h p =

@@ -1,6 +1,6 @@
 -- Processes whose typings are within the nesting limit of derivations and have rules of the version alone.
 use Rattle.std.proofs.Common.{◌≡◌, ℕ, ◌+◌, ◌≤◌, ◌==◌, Bool, true, false, not, ◌&&◌, [], refl, ap, if◌then◌else◌}
-use Rattle.spi_term.specs.Term.{Message, bound, name, unit, pair, in_left, in_right, enc, hash, Effect, Ty, Leaf, Sends, Stops, Prefix, Recvs, Serves, Splits, Selects, Decrypts, Checks, Begins, Ends, EndManys, Casts, Makes, Fork, Cases, Pars, Process, leaf, prefix, fork, binds, fork_binds}
+use Rattle.spi_term.specs.Term.{Message, bound, name, unit, pair, in_left, in_right, enc, hash, Effect, Ty, Leaf, Sends, Stops, Prefix, Recvs, Serves, Splits, Selects, Decrypts, Checks, Begins, Ends, EndManys, Casts, Freshes, Fork, Branches, Pars, Process, leaf, prefix, fork, binds, fork_binds}
 use Rattle.spi_term.specs.Substitution.{put, leaf_map, prefix_map, fork_map, process_map, process_put, process_put_two}
 use Rattle.spi_rules.specs.declared.rule.Rule.TheVariants.{MsgName, MsgUnit, MsgUnitUn, MsgPair, MsgPairUn, MsgInl, MsgInlUn, MsgInr, MsgInrUn, MsgEnc, MsgEncUn, MsgHash, ProcStop, ProcOut, ProcIn, ProcRepeat, ProcSplit, ProcSplitUn, ProcMatch, ProcMatchUn, ProcCase, ProcCaseUn, ProcDecrypt, ProcDecryptUn, ProcCheck, ProcCheckUn, ProcBegin, ProcEnd, ProcEndMany, ProcCast, ProcCastUn, ProcNew, ProcPar}
 use Rattle.spi_rules.specs.Environment.{Env}
@@ -36,17 +36,17 @@ FitsPrefix later n (Begins m) = Unit {0}
 FitsPrefix later n (Ends m) = Unit {0}
 FitsPrefix later n (EndManys m) = later ≡ true
 FitsPrefix later n (Casts m t) = FitsMessage later n m
-FitsPrefix later n (Makes t) = Unit {0}
+FitsPrefix later n (Freshes t) = Unit {0}
 
 abbrev pub FitsFork : Bool → ℕ → Fork → Type 0
-FitsFork later n (Cases m t u) = FitsMessage later n m
+FitsFork later n (Branches m t u) = FitsMessage later n m
 FitsFork later n Pars = Unit {0}
 
 -- a process whose typing has its root at this nesting
-abbrev pub Fits : Bool → ℕ → Process → Type 0
-Fits later n (leaf l) = (n ≤ 1000) × FitsLeaf later (n + 1) l
-Fits later n (prefix s p) = (n ≤ 1000) × FitsPrefix later (n + 1) s × Fits later (n + 1) p
-Fits later n (fork f p q) = (n ≤ 1000) × FitsFork later (n + 1) f × Fits later (n + 1) p × Fits later (n + 1) q
+abbrev pub FitsNesting : Bool → ℕ → Process → Type 0
+FitsNesting later n (leaf l) = (n ≤ 1000) × FitsLeaf later (n + 1) l
+FitsNesting later n (prefix s p) = (n ≤ 1000) × FitsPrefix later (n + 1) s × FitsNesting later (n + 1) p
+FitsNesting later n (fork f p q) = (n ≤ 1000) × FitsFork later (n + 1) f × FitsNesting later (n + 1) p × FitsNesting later (n + 1) q
 
 -- ---- a name for a binder
 
@@ -79,22 +79,22 @@ prefix_put later n x k (Begins m) h = h
 prefix_put later n x k (Ends m) h = h
 prefix_put later n x k (EndManys m) h = h
 prefix_put later n x k (Casts m t) h = message_put later n x k m h
-prefix_put later n x k (Makes t) h = h
+prefix_put later n x k (Freshes t) h = h
 
 fork_put : (later : Bool) (n x k : ℕ) (f : Fork) → FitsFork later n f → FitsFork later n (fork_map (put (name x)) k f)
-fork_put later n x k (Cases m t u) h = message_put later n x k m h
+fork_put later n x k (Branches m t u) h = message_put later n x k m h
 fork_put later n x k Pars h = h
 
-fits_put : (later : Bool) (n x k : ℕ) (p : Process) → Fits later n p → Fits later n (process_map (put (name x)) k p)
+fits_put : (later : Bool) (n x k : ℕ) (p : Process) → FitsNesting later n p → FitsNesting later n (process_map (put (name x)) k p)
 fits_put later n x k (leaf l) h = (h.0, leaf_put later (n + 1) x k l h.1)
 fits_put later n x k (prefix s p) h = (h.0, prefix_put later (n + 1) x k s h.1, fits_put later (n + 1) x (k + binds s) p h.2)
 fits_put later n x k (fork f p q) h =
     (h.0, fork_put later (n + 1) x k f h.1, fits_put later (n + 1) x (k + fork_binds f) p h.2, fits_put later (n + 1) x (k + fork_binds f) q h.3)
 
-opened : (later : Bool) (n x : ℕ) (p : Process) → Fits later n p → Fits later n (process_put (name x) p)
+opened : (later : Bool) (n x : ℕ) (p : Process) → FitsNesting later n p → FitsNesting later n (process_put (name x) p)
 opened later n x p h = fits_put later n x 0 p h
 
-opened_two : (later : Bool) (n x y : ℕ) (p : Process) → Fits later n p → Fits later n (process_put_two (name x) (name y) p)
+opened_two : (later : Bool) (n x y : ℕ) (p : Process) → FitsNesting later n p → FitsNesting later n (process_put_two (name x) (name y) p)
 opened_two later n x y p h = fits_put later n y 0 (process_map (put (name x)) 1 p) (fits_put later n x 1 p h)
 
 -- ---- the rule uses of a typing are one tree
@@ -117,7 +117,7 @@ type_derives later n (msg_enc_un h k) f = rule MsgEncUn refl refl f.0 (premise (
 type_derives later n (msg_hash l) f = rule MsgHash refl (not_early later f.1) f.0 (no_premise later (n + 1))
 type_derives later n (msg_cast i s) f = elim i [ ]
 
-pub effect_derives : {env : Env} {p : Process} {es : Effect} (later : Bool) (n : ℕ) (d : HasEffect [] env p es) → IsCanonical d → Fits later n p → Derives later n (effect_uses d)
+pub effect_derives : {env : Env} {p : Process} {es : Effect} (later : Bool) (n : ℕ) (d : HasEffect [] env p es) → IsCanonical d → FitsNesting later n p → Derives later n (effect_uses d)
 effect_derives later n proc_stop c f = rule ProcStop refl refl f.0 (no_premise later (n + 1))
 effect_derives later n (proc_out h k) c f = rule ProcOut refl refl f.0 (premise (type_derives later (n + 1) h f.1.0) (last_premise (type_derives later (n + 1) k f.1.1)))
 effect_derives later n (proc_in {p = p} h d a) c f = rule ProcIn refl refl f.0 (premise (type_derives later (n + 1) h f.1) (last_premise (effect_derives later (n + 1) d c.1 (opened later (n + 1) _ p f.2))))

@@ -3,10 +3,10 @@ use Rattle.std.proofs.Common.{◌≡◌, ℕ, suc, ◌+◌, ◌-◌, Bool, true,
 use Rattle.std.specs.Prelude.{⊤}
 use Rattle.spi_tree.specs.Trees as t
 use Rattle.spi_tree.specs.Pieces.{Place, in_seq, at_level, nesting_of, tokens_of}
-use Rattle.spi_tree.specs.Formed.{AreWordsFit, IsMsg, AreMsgs, IsAtom, AreAtoms, IsTy, AreFields, IsLast, IsProc, AreDeclared, IsWritten, IsDeriv, AreDerivs, IsOpponent, IsDerivation}
-use Rattle.spi_parse.specs.Formed.{number_of, is_written, HasRules, HaveRules, IsDerived, IsFile}
+use Rattle.spi_tree.specs.Formed.{AreWordsFit, IsMsg, AreMsgs, IsAtom, AreAtoms, IsTy, AreFields, IsLast, IsProc, AreDeclared, IsWritten, IsDeriv, AreDerivs, IsFormedOpponent, IsDerivation}
+use Rattle.spi_parse.specs.Formed.{number_of, is_written, HasRules, HaveRules, IsFormedDerived, IsFile}
 use Rattle.spi_parse.proofs.TableLaws.{seq_is_proc}
-use Rattle.spi_term.specs.Term.{Message, bound, name, unit, pair, in_left, in_right, enc, hash, Atom, ends, checks, many, Effect, Ty, un, unit_ty, pair_ty, sum_ty, key, nonce, Leaf, Sends, Stops, Prefix, Recvs, Serves, Splits, Selects, Decrypts, Checks, Begins, Ends, EndManys, Casts, Makes, Cases, Pars, Process, leaf, prefix, fork, binds}
+use Rattle.spi_term.specs.Term.{Message, bound, name, unit, pair, in_left, in_right, enc, hash, Atom, ends, checks, many, Effect, Ty, un, unit_ty, pair_ty, sum_ty, key, nonce, Leaf, Sends, Stops, Prefix, Recvs, Serves, Splits, Selects, Decrypts, Checks, Begins, Ends, EndManys, Casts, Freshes, Branches, Pars, Process, leaf, prefix, fork, binds}
 use Rattle.spi_term.specs.Spelling.{Spelling}
 use Rattle.spi_scope.specs.Meaning.{nested}
 use Rattle.spi_scope.specs.Parts.{numbered_message, numbered_messages, numbered_atom, numbered_effect}
@@ -14,7 +14,7 @@ use Rattle.spi_scope.specs.StandsFor.{Meant}
 use Rattle.spi_show.specs.Spelled.{name_text}
 use Rattle.spi_show.specs.Processes.{Standing, alone, sequel}
 use Rattle.spi_spell.proofs.Printed.{spelled_name, numbered_name, message_tree, second_tree, rest_trees, second_part, parts_of_type, atom_tree, atom_trees, type_tree, field_trees, last_tree, leaf_tree, prefix_tree, process_tree, free_trees, part_tree, opponent_tree, written_tree, deriv_tree, deriv_trees, derivation_tree, file_tree}
-use Rattle.spi_spell.proofs.Printable.{HasVersion, MessageFits, AtomFits, EffectFits, PartsFit, TyFits, LeafFits, PrefixFits, ProcessFits, IsPart, IsOpponentPart, is_later, IsPrintable}
+use Rattle.spi_spell.proofs.Printable.{HasVersion, MessageFits, AtomFits, EffectFits, PartsFit, TyFits, LeafFits, PrefixFits, ProcessFits, IsPrintablePart, IsOpponentPart, is_later, IsPrintable}
 
 -- ---- messages and types
 
@@ -92,15 +92,15 @@ module _ (later : Bool) (spell : ℕ → List ℕ) where
   prefix_formed k n (Ends m) p h g = (spelled_formed n m h, g)
   prefix_formed k n (EndManys m) p h g = (h.0, spelled_formed n m h.1, g)
   prefix_formed k n (Casts m a) p h g = (spelled_formed n m h.0, bounded_formed n a h.1, g)
-  prefix_formed k n (Makes a) p h g = (bounded_formed n a h, g)
+  prefix_formed k n (Freshes a) p h g = (bounded_formed n a h, g)
 
   process_formed : (at : Standing) (k n : ℕ) (p : Process) → ProcessFits later p → IsProc later (place_of at k) (process_tree spell at n p)
   process_formed at k n (leaf l) h = placed at k (leaf_tree spell n l) (leaf_formed _ n l h)
   process_formed at k n (prefix s p) h =
       let behind = process_tree spell sequel (n + binds s) p in
       placed at k (prefix_tree spell n s behind) (prefix_formed _ n s behind h.0 (process_formed sequel _ (n + binds s) p h.1))
-  process_formed at k n (fork (Cases m a b) p q) h =
-      placed at k (process_tree spell at n (fork (Cases m a b) p q))
+  process_formed at k n (fork (Branches m a b) p q) h =
+      placed at k (process_tree spell at n (fork (Branches m a b) p q))
       (spelled_formed n m h.0.0, bounded_formed n a h.0.1, process_formed sequel _ (n + 1) p h.1, bounded_formed n b h.0.2, process_formed sequel _ (n + 1) q h.2)
   process_formed alone k n (fork Pars p q) h = (process_formed sequel (k + 1) n p h.1, process_formed alone (k + 1) n q h.2)
   process_formed sequel k n (fork Pars (leaf (Sends a b)) q) h = (spelled_formed n a h.1.0, spelled_formed n b h.1.1, process_formed sequel (k + 1) n q h.2)
@@ -108,10 +108,10 @@ module _ (later : Bool) (spell : ℕ → List ℕ) where
   process_formed sequel k n (fork Pars (prefix s p) q) h = (process_formed sequel (k + 1) n (prefix s p) h.1, process_formed alone (k + 1) n q h.2)
   process_formed sequel k n (fork Pars (fork f p r) q) h = (process_formed sequel (k + 1) n (fork f p r) h.1, process_formed alone (k + 1) n q h.2)
 
-  pub part_formed : (i : ℕ) (p : Spelling) → IsPart later i p → IsProc later (at_level 0) (part_tree spell p)
+  pub part_formed : (i : ℕ) (p : Spelling) → IsPrintablePart later i p → IsProc later (at_level 0) (part_tree spell p)
   part_formed i p h = process_formed alone 0 p.names p.process h.fits
 
-  opponent_formed : (i : ℕ) (o : Option Spelling) → IsOpponentPart later i o → IsOpponent later (opponent_tree spell o)
+  opponent_formed : (i : ℕ) (o : Option Spelling) → IsOpponentPart later i o → IsFormedOpponent later (opponent_tree spell o)
   opponent_formed i None h = tt
   opponent_formed i (Some p) h = part_formed i p h
 
@@ -180,7 +180,7 @@ module _ (later : Bool) where
         let ks = derivs_kept ds (h.0.1, h.1.1) in
         ((k.0, ks.0), (k.1, ks.1))
 
-  derivation_kept : (d : Option t.Deriv) → IsDerivation later d × IsDerived later d → IsDerivation later (derivation_tree d) × IsDerived later (derivation_tree d)
+  derivation_kept : (d : Option t.Deriv) → IsDerivation later d × IsFormedDerived later d → IsDerivation later (derivation_tree d) × IsFormedDerived later (derivation_tree d)
   derivation_kept None h = (tt, tt)
   derivation_kept (Some d) h = deriv_kept d h
 

@@ -28,9 +28,9 @@ use Rattle.spi_spell.specs.Spelled.{limit, IsTreeOf, SpellsFile}
 use Rattle.spi_spell.specs.Joined.{with_derivation, with_schedule, joined, schedule_text, HasLowPlaces}
 use Rattle.spi_spell.proofs.Together.{text_behind}
 use Rattle.spi_tree.proofs.Same.{same_version, same_decls, same_proc, same_opponent, same_schedule}
-use Rattle.spi_spell.proofs.Derived.{Derives, IsTree, rule_words}
+use Rattle.spi_spell.proofs.Derived.{Derives, FollowsRules, rule_words}
 use Rattle.spi_spell.proofs.Reading.{reads_behind}
-use Rattle.spi_spell.proofs.Fitting.{Fits, effect_derives}
+use Rattle.spi_spell.proofs.Fitting.{FitsNesting, effect_derives}
 use Rattle.spi_spell.proofs.Past.{past_version, past_decls}
 use Rattle.spi_spell.proofs.Shallow.{proc_fits, small}
 use Rattle.spi_spell.proofs.Texts.{derivation_kinds, derivation_writes, steps_kinds, schedule_kinds, schedule_writes}
@@ -42,33 +42,33 @@ abbrev to_schedule : t.File → List Piece → List Piece
 to_schedule f r = version_pieces f.version (decls_pieces f.decls (a_reserved word.Process (proc_pieces (at_level 0) f.process (opponent_pieces f.opponent r))))
 
 -- with more tokens behind, the tokens spell these pieces in place of those
-record GoesOn (more : List Token) (x y : List Piece) : Type 0 where
+record SpellsInPlace (more : List Token) (x y : List Piece) : Type 0 where
   pub on : (e : ℕ) (ts : List Token) → Spells [] e x ts → Spells [] e y (ts ++ more)
 
-piece_on : (more : List Token) (p : Piece) (x y : List Piece) → GoesOn more x y → (e : ℕ) (ts : List Token) → Spells [] e (p ∷ x) ts → Spells [] e (p ∷ y) (ts ++ more)
+piece_on : (more : List Token) (p : Piece) (x y : List Piece) → SpellsInPlace more x y → (e : ℕ) (ts : List Token) → Spells [] e (p ∷ x) ts → Spells [] e (p ∷ y) (ts ++ more)
 piece_on more (opens from) x y f e [] h = absurd h
 piece_on more (opens from) x y f e (t ∷ ts) h = (h.0, f.on e (t ∷ ts) h.1)
 piece_on more (cell kind deep) x y f e [] h = absurd h
 piece_on more (cell kind deep) x y f e (t ∷ ts) h = (h.0, h.1, f.on t.span.to ts h.2)
 piece_on more (closes to) x y f e ts h = (h.0, f.on e ts h.1)
 
-one_on : (more : List Token) (p : Piece) (x y : List Piece) → GoesOn more x y → GoesOn more (p ∷ x) (p ∷ y)
+one_on : (more : List Token) (p : Piece) (x y : List Piece) → SpellsInPlace more x y → SpellsInPlace more (p ∷ x) (p ∷ y)
 one_on more p x y f = record { on = piece_on more p x y f }
 
-schedule_on : (more : List Token) (f : t.File) (x y : List Piece) → GoesOn more x y → GoesOn more (opens f.span.from ∷ to_schedule f x) (opens f.span.from ∷ to_schedule f y)
+schedule_on : (more : List Token) (f : t.File) (x y : List Piece) → SpellsInPlace more x y → SpellsInPlace more (opens f.span.from ∷ to_schedule f x) (opens f.span.from ∷ to_schedule f y)
 schedule_on more f x y h =
-    let behind = same_opponent (GoesOn more) (one_on more) f.opponent h in
-    let process = same_proc (GoesOn more) (one_on more) (at_level 0) f.process behind in
+    let behind = same_opponent (SpellsInPlace more) (one_on more) f.opponent h in
+    let process = same_proc (SpellsInPlace more) (one_on more) (at_level 0) f.process behind in
     let word_process = one_on more (cell (kinds.Reserved word.Process) false) _ _ process in
-    let decls = same_decls (GoesOn more) (one_on more) f.decls word_process in
-    one_on more (opens f.span.from) _ _ (same_version (GoesOn more) (one_on more) f.version decls)
+    let decls = same_decls (SpellsInPlace more) (one_on more) f.decls word_process in
+    one_on more (opens f.span.from) _ _ (same_version (SpellsInPlace more) (one_on more) f.version decls)
 
-derivation_on : (more : List Token) (f : t.File) (x y : List Piece) → GoesOn more x y
-    → GoesOn more (opens f.span.from ∷ to_schedule f (schedule_pieces f.schedule x)) (opens f.span.from ∷ to_schedule f (schedule_pieces f.schedule y))
-derivation_on more f x y h = schedule_on more f _ _ (same_schedule (GoesOn more) (one_on more) f.schedule h)
+derivation_on : (more : List Token) (f : t.File) (x y : List Piece) → SpellsInPlace more x y
+    → SpellsInPlace more (opens f.span.from ∷ to_schedule f (schedule_pieces f.schedule x)) (opens f.span.from ∷ to_schedule f (schedule_pieces f.schedule y))
+derivation_on more f x y h = schedule_on more f _ _ (same_schedule (SpellsInPlace more) (one_on more) f.schedule h)
 
 -- the end of a file
-closed_on : (more : List Token) (to : ℕ) (y : List Piece) → ((e : ℕ) → Spells [] e y more) → GoesOn more (closes to ∷ []) y
+closed_on : (more : List Token) (to : ℕ) (y : List Piece) → ((e : ℕ) → Spells [] e y more) → SpellsInPlace more (closes to ∷ []) y
 closed_on more to y f = record { on = λ e ts h. subst (λ (us : List Token). Spells [] e y (us ++ more)) (sym h.1) (f e) }
 
 -- a file with no derivation, up to its end
@@ -102,7 +102,7 @@ derived bytes tree file d is stands canonical =
     let within = past_decls tree.decls _ (past_version tree.version _ (spelled_within [] 0 (whole_file tree) is.tokens is.spelled)) in
     let few = small (file_points tree) 0 stands.clean in
     let fits = proc_fits later (λ (s : ℕ). length xs) ts xs tree.process (at_level 0) _ 1 is.formed.formed.process within.1 few.1.0 (omega arith) in
-    let of_file : Fits later 1 file.process.process = subst (λ (s : Spelling). Fits later 1 s.process) (sym stands.process) fits in
+    let of_file : FitsNesting later 1 file.process.process = subst (λ (s : Spelling). FitsNesting later 1 s.process) (sym stands.process) fits in
     subst (Derives later 1) canonical.are (effect_derives later 1 canonical.has canonical.canonical of_file)
 
 abbrev tree_with_derivation : t.File → t.Deriv → ℕ → t.File
@@ -122,7 +122,7 @@ module _ (bytes : List ℕ) (file : Meant) (tree : t.File) (is : IsTreeOf bytes 
   with_a_derivation d canonical short =
       let derives = derived bytes tree file d is stands canonical in
       let b = text_behind bytes (derivation_text d) is.tokens word.Derivation (rule_words d) is.lexed (derivation_writes d derives.plain) (derivation_kinds false d) (derivation_kinds true d) in
-      let x = reads_behind (IsTree (is_later tree)) uses_in (deriv_pieces 1) d word.Derivation (rule_words d) b.more (λ e ts. derives.read e ts []) b.kinds_are in
+      let x = reads_behind (FollowsRules (is_later tree)) uses_in (deriv_pieces 1) d word.Derivation (rule_words d) b.more (λ e ts. derives.read e ts []) b.kinds_are in
       let y = x.reads in
       let f : t.File = tree_with_derivation tree y.read y.rest.end in
       let old = to_end tree is.tokens tree_none is.spelled in

@@ -4,7 +4,7 @@ use Rattle.std.proofs.Common.{◌≡◌, ℕ, suc, ◌+◌, ◌-◌, ◌<◌, �
 use Rattle.std.proofs.lemmas.Bool.{lt-ltb, le-ltb}
 use Rattle.spi_tree.specs.Trees as t
 use Rattle.spi_parse.specs.Bare.{nowhere}
-use Rattle.spi_term.specs.Term.{Message, bound, name, unit, pair, in_left, in_right, enc, hash, Atom, ends, checks, many, Effect, Ty, un, unit_ty, pair_ty, sum_ty, key, nonce, Leaf, Sends, Stops, Prefix, Recvs, Serves, Splits, Selects, Decrypts, Checks, Begins, Ends, EndManys, Casts, Makes, Cases, Pars, Process, leaf, prefix, fork, binds}
+use Rattle.spi_term.specs.Term.{Message, bound, name, unit, pair, in_left, in_right, enc, hash, Atom, ends, checks, many, Effect, Ty, un, unit_ty, pair_ty, sum_ty, key, nonce, Leaf, Sends, Stops, Prefix, Recvs, Serves, Splits, Selects, Decrypts, Checks, Begins, Ends, EndManys, Casts, Freshes, Branches, Pars, Process, leaf, prefix, fork, binds}
 use Rattle.spi_term.specs.Names.{MessageOver, OfAtom, OfEffect, OfTy, OfLeaf, OfPrefix, OfProcess}
 use Rattle.spi_term.specs.Spelling.{ty_nodes}
 use Rattle.spi_scope.specs.Scope.{Abbreviations, number_of}
@@ -116,7 +116,7 @@ module _ (most : ℕ) (spell : ℕ → List ℕ) (apart : AreApart most spell) (
       prefix_means (EndManys m) few h g = λ i. prefix (EndManys (message_means n d is (omega (arith, few)) m h i)) (moved (add-zero n) body p g i)
       prefix_means (Casts m a) few h g =
           λ i. prefix (Casts (message_means n d is (omega (arith, few)) m h.0 i) (type_means n d a is (omega (arith, few)) h.1 i)) (moved (add-one n) body p g i)
-      prefix_means (Makes a) few h g = λ i. prefix (Makes (type_means n d a is (omega (arith, few)) h i)) (moved (add-one n) body p g i)
+      prefix_means (Freshes a) few h g = λ i. prefix (Freshes (type_means n d a is (omega (arith, few)) h i)) (moved (add-one n) body p g i)
 
     -- an output and its sequel, or a group
     sequel_means : (n : ℕ) (p q : Process) (behind beside : t.Proc) → Means n (process_tree spell sequel n p) p → Means n behind q → Means n beside q
@@ -132,12 +132,12 @@ module _ (most : ℕ) (spell : ℕ → List ℕ) (apart : AreApart most spell) (
         let room = binds_few s in
         prefix_means n d is (process_tree spell sequel (n + binds s) p) p s (omega (arith, few)) h.0
         (process_means p sequel (n + binds s) (d + binds s) (omega (arith, is)) (omega (arith, few, room)) h.1)
-    process_means (fork (Cases m a b) p q) at n d is few h =
+    process_means (fork (Branches m a b) p q) at n d is few h =
         let f = process_means p sequel (n + 1) (d + 1) (omega (arith, is)) (omega (arith, few)) h.1 in
         let g = process_means q sequel (n + 1) (d + 1) (omega (arith, is)) (omega (arith, few)) h.2 in
         let low : n + ty_nodes a ≤ most = omega (arith, few) in
         let lower : n + ty_nodes b ≤ most = omega (arith, few) in
-        λ i. fork (Cases (message_means n d is (omega (arith, few)) m h.0.0 i) (type_means n d a is low h.0.1 i) (type_means n d b is lower h.0.2 i))
+        λ i. fork (Branches (message_means n d is (omega (arith, few)) m h.0.0 i) (type_means n d a is low h.0.1 i) (type_means n d b is lower h.0.2 i))
         (moved (add-one n) (process_tree spell sequel (n + 1) p) p f i) (moved (add-one n) (process_tree spell sequel (n + 1) q) q g i)
     process_means (fork Pars p q) alone n d is few h =
         let f = process_means p sequel n (d + 0) (omega (arith, is)) (omega (arith, few)) h.1 in

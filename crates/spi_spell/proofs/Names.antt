@@ -76,9 +76,9 @@ count s [] = 0
 count s (w ∷ ws) = if nat_lt (value w) s then count s ws else suc (count s ws)
 
 -- none has one of the 100,000 numbers from this one on
-abbrev IsFree : ℕ → List (List ℕ) → Type 0
-IsFree s [] = ⊤
-IsFree s (w ∷ ws) = ((value w < s) ⊎ (s + 100000 ≤ value w)) × IsFree s ws
+abbrev IsFreeFrom : ℕ → List (List ℕ) → Type 0
+IsFreeFrom s [] = ⊤
+IsFreeFrom s (w ∷ ws) = ((value w < s) ⊎ (s + 100000 ≤ value w)) × IsFreeFrom s ws
 
 passed : (s : ℕ) (w : List ℕ) (ws : List (List ℕ)) → value w < s → count s (w ∷ ws) ≡ count s ws
 passed s w ws h = cond-true (nat_lt (value w) s) (count s ws) (suc (count s ws)) (lt-ltb (value w) s h)
@@ -104,7 +104,7 @@ fewer s (w ∷ ws) = elim (cases_lt (value w) (s + 100000)) [
 ]
 
 -- none is there, or fewer have at least the number behind them
-decided : (s : ℕ) (ws : List (List ℕ)) → IsFree s ws ⊎ (suc (count (s + 100000) ws) ≤ count s ws)
+decided : (s : ℕ) (ws : List (List ℕ)) → IsFreeFrom s ws ⊎ (suc (count (s + 100000) ws) ≤ count s ws)
 decided s [] = inl tt
 decided s (w ∷ ws) = elim (cases_lt (value w) (s + 100000)) [
   | inl below ↦ elim (cases_lt (value w) s) [
@@ -120,7 +120,7 @@ decided s (w ∷ ws) = elim (cases_lt (value w) (s + 100000)) [
   ]
 ]
 
-found : (n s : ℕ) (ws : List (List ℕ)) → count s ws ≤ n → (r : ℕ) × (r ≤ s + 100000 * n) × IsFree r ws
+found : (n s : ℕ) (ws : List (List ℕ)) → count s ws ≤ n → (r : ℕ) × (r ≤ s + 100000 * n) × IsFreeFrom r ws
 found zero s ws few = elim (decided s ws) [
   | inl free ↦ (s, omega arith, free)
   | inr less ↦ absurd (omega arith)
@@ -133,7 +133,7 @@ found (suc n) s ws few = elim (decided s ws) [
 value_of : (w : List ℕ) (i : ℕ) → i < 10 ^ 64 → w ≡ codes "v" ++ decimal i → value w ≡ i
 value_of w i low e = ap value e ∙ (decimal_is_IsNumeral_wide i low).1
 
-free_apart : (r : ℕ) (ws : List (List ℕ)) → r + 100000 ≤ 10 ^ 64 → IsFree r ws → IsApart ws r
+free_apart : (r : ℕ) (ws : List (List ℕ)) → r + 100000 ≤ 10 ^ 64 → IsFreeFrom r ws → IsApart ws r
 free_apart r [] low h i x from to e = absurd cc
 free_apart r (w ∷ ws) low h i zero from to e =
     let same : w ≡ codes "v" ++ decimal i = cc in

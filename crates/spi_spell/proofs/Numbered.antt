@@ -11,8 +11,8 @@ use Rattle.spi_scope.specs.First.{Clean}
 use Rattle.spi_scope.specs.StandsFor.{schedule_in, derivation_in}
 use Rattle.spi_spell.proofs.Printed.{numbered_name, message_tree, second_tree, rest_trees, second_part, atom_tree, atom_trees, step_tree, schedule_tree, written_tree, deriv_tree, deriv_trees, derivation_tree}
 use Rattle.spi_spell.proofs.Printable.{AreSteps}
-use Rattle.spi_spell.proofs.Shallow.{AreSmall, small}
-use Rattle.spi_spell.proofs.Clear.{Adds, next, no_point}
+use Rattle.spi_spell.proofs.Shallow.{ArePointsSmall, small}
+use Rattle.spi_spell.proofs.Clear.{AddsPoints, next, no_point}
 
 -- ---- messages of a derivation
 
@@ -71,31 +71,31 @@ pub derivation_means : (d : Option t.Deriv) → derivation_in (derivation_tree d
 derivation_means None = refl
 derivation_means (Some d) = ap Some (deriv_means d)
 
-message_clear : (m : t.Msg) → message_size (numbered_message m) ≤ 200 → Adds 0 (numbered_points (message_tree numbered_name 0 (numbered_message m)))
+message_clear : (m : t.Msg) → message_size (numbered_message m) ≤ 200 → AddsPoints 0 (numbered_points (message_tree numbered_name 0 (numbered_message m)))
 message_clear m low = record { clear = subst (λ (n : Message). message_size n ≤ 200) (sym (read_again m)) low; weighs = refl }
 
-atom_clear : (a : t.Atom) → AreSmall (numbered_atom_points a) → Adds 0 (numbered_atom_points (atom_tree numbered_name 0 (numbered_atom a)))
+atom_clear : (a : t.Atom) → ArePointsSmall (numbered_atom_points a) → AddsPoints 0 (numbered_atom_points (atom_tree numbered_name 0 (numbered_atom a)))
 atom_clear (t.ends s m) low = message_clear m low
 atom_clear (t.checks s m) low = message_clear m low
 atom_clear (t.many s m) low = message_clear m low
 
-atoms_clear : (es : List t.Atom) → AreSmall (numbered_atoms_points es) → Adds 0 (numbered_atoms_points (atom_trees numbered_name 0 (map numbered_atom es)))
+atoms_clear : (es : List t.Atom) → ArePointsSmall (numbered_atoms_points es) → AddsPoints 0 (numbered_atoms_points (atom_trees numbered_name 0 (map numbered_atom es)))
 atoms_clear [] low = no_point
 atoms_clear (a ∷ es) low = next (atom_clear a low.0) (atoms_clear es low.1)
 
-written_clear : (es : Option (List t.Atom)) → AreSmall (written_points es) → Adds 0 (written_points (written_tree (numbered_effect es)))
+written_clear : (es : Option (List t.Atom)) → ArePointsSmall (written_points es) → AddsPoints 0 (written_points (written_tree (numbered_effect es)))
 written_clear None low = no_point
 written_clear (Some es) low = atoms_clear es low
 
 mutual
-  deriv_clear : (d : t.Deriv) → AreSmall (deriv_points d) → Adds 0 (deriv_points (deriv_tree d))
+  deriv_clear : (d : t.Deriv) → ArePointsSmall (deriv_points d) → AddsPoints 0 (deriv_points (deriv_tree d))
   deriv_clear (t.rule s w es ds) low = next (written_clear es low.0) (derivs_clear ds low.1)
 
-  derivs_clear : (ds : t.Derivs) → AreSmall (derivs_points ds) → Adds 0 (derivs_points (deriv_trees ds))
+  derivs_clear : (ds : t.Derivs) → ArePointsSmall (derivs_points ds) → AddsPoints 0 (derivs_points (deriv_trees ds))
   derivs_clear t.no_derivs low = no_point
   derivs_clear (t.more_derivs d ds) low = next (deriv_clear d low.0) (derivs_clear ds low.1)
 
-pub derivation_clear : (d : Option t.Deriv) → Clean 0 (in_order (derivation_points d)) → Adds 0 (derivation_points (derivation_tree d))
+pub derivation_clear : (d : Option t.Deriv) → Clean 0 (in_order (derivation_points d)) → AddsPoints 0 (derivation_points (derivation_tree d))
 derivation_clear None clean = no_point
 derivation_clear (Some d) clean = deriv_clear d (small (deriv_points d) 0 clean)
 
@@ -110,10 +110,10 @@ pub schedule_means : (o : Option (List Step)) → schedule_in (schedule_tree o) 
 schedule_means None = refl
 schedule_means (Some ss) = ap Some (steps_mean ss)
 
-steps_clear : (i n : ℕ) (ss : List Step) → i + length ss ≤ 10001 → Adds 0 (steps_points i n (map step_tree ss))
+steps_clear : (i n : ℕ) (ss : List Step) → i + length ss ≤ 10001 → AddsPoints 0 (steps_points i n (map step_tree ss))
 steps_clear i n [] few = no_point
 steps_clear i n (s ∷ ss) few = next (record { clear = omega (arith, few); weighs = refl }) (steps_clear (i + 1) n ss (omega (arith, few)))
 
-pub schedule_clear : (o : Option (List Step)) → AreSteps o → Adds 0 (schedule_points (schedule_tree o))
+pub schedule_clear : (o : Option (List Step)) → AreSteps o → AddsPoints 0 (schedule_points (schedule_tree o))
 schedule_clear None h = no_point
 schedule_clear (Some ss) h = steps_clear 1 (length (map step_tree ss)) ss (omega (arith, h.0))

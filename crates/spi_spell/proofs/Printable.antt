@@ -9,8 +9,8 @@ use Rattle.spi_tree.specs.Trees as t
 use Rattle.spi_tree.specs.Pieces.{Place, in_seq, at_level, nesting_of, below, process_limit, derivation_pieces, kinds_in}
 use Rattle.spi_tree.specs.Formed.{IsDerivation}
 use Rattle.spi_parse.specs.Exact.{IsWithin}
-use Rattle.spi_parse.specs.Formed.{IsDerived}
-use Rattle.spi_term.specs.Term.{Message, bound, name, unit, pair, in_left, in_right, enc, hash, Atom, ends, checks, many, Effect, Ty, un, unit_ty, pair_ty, sum_ty, key, nonce, Leaf, Sends, Stops, Prefix, Recvs, Serves, Splits, Selects, Decrypts, Checks, Begins, Ends, EndManys, Casts, Makes, Fork, Cases, Pars, Process, leaf, prefix, fork, message_size}
+use Rattle.spi_parse.specs.Formed.{IsFormedDerived}
+use Rattle.spi_term.specs.Term.{Message, bound, name, unit, pair, in_left, in_right, enc, hash, Atom, ends, checks, many, Effect, Ty, un, unit_ty, pair_ty, sum_ty, key, nonce, Leaf, Sends, Stops, Prefix, Recvs, Serves, Splits, Selects, Decrypts, Checks, Begins, Ends, EndManys, Casts, Freshes, Fork, Branches, Pars, Process, leaf, prefix, fork, message_size}
 use Rattle.spi_term.specs.Names.{ProcessOver}
 use Rattle.spi_term.specs.Spelling.{Spelling, ty_nodes}
 use Rattle.spi_run.specs.Reduction.{Step}
@@ -76,10 +76,10 @@ PrefixFits later (Begins m) = MessageFits later m
 PrefixFits later (Ends m) = MessageFits later m
 PrefixFits later (EndManys m) = (later ≡ true) × MessageFits later m
 PrefixFits later (Casts m a) = MessageFits later m × TyFits later a
-PrefixFits later (Makes a) = TyFits later a
+PrefixFits later (Freshes a) = TyFits later a
 
 abbrev pub ForkFits : Bool → Fork → Type 0
-ForkFits later (Cases m a b) = MessageFits later m × TyFits later a × TyFits later b
+ForkFits later (Branches m a b) = MessageFits later m × TyFits later a × TyFits later b
 ForkFits later Pars = ⊤
 
 abbrev pub ProcessFits : Bool → Process → Type 0
@@ -91,7 +91,7 @@ ProcessFits later (fork f p q) = ForkFits later f × ProcessFits later p × Proc
 abbrev pub Nests : Place → Process → Type 0
 Nests a (leaf l) = nesting_of a ≤ process_limit
 Nests a (prefix s p) = (nesting_of a ≤ process_limit) × Nests (below a) p
-Nests a (fork (Cases m t u) p q) = (nesting_of a ≤ process_limit) × Nests (below a) p × Nests (below a) q
+Nests a (fork (Branches m t u) p q) = (nesting_of a ≤ process_limit) × Nests (below a) p × Nests (below a) q
 Nests (at_level n) (fork Pars p q) = Nests (in_seq (n + 1)) p × Nests (at_level (n + 1)) q
 Nests (in_seq n) (fork Pars p q) =
     (n ≤ process_limit) × MatchBool (is_output p) (Nests (in_seq (n + 1)) q) (Nests (in_seq (n + 1)) p × Nests (at_level (n + 1)) q)
@@ -112,10 +112,10 @@ prefix_nodes (Begins m) = 1 + message_size m
 prefix_nodes (Ends m) = 1 + message_size m
 prefix_nodes (EndManys m) = 1 + message_size m
 prefix_nodes (Casts m a) = 1 + (message_size m + ty_nodes a)
-prefix_nodes (Makes a) = 1 + ty_nodes a
+prefix_nodes (Freshes a) = 1 + ty_nodes a
 
 abbrev pub fork_nodes : Fork → ℕ
-fork_nodes (Cases m a b) = 1 + (message_size m + (ty_nodes a + ty_nodes b))
+fork_nodes (Branches m a b) = 1 + (message_size m + (ty_nodes a + ty_nodes b))
 fork_nodes Pars = 1
 
 abbrev pub process_nodes : Process → ℕ
@@ -128,7 +128,7 @@ opponent_nodes None = 0
 opponent_nodes (Some o) = process_nodes o.process
 
 -- a part over so many free names
-pub record IsPart (later : Bool) (k : ℕ) (p : Spelling) : Type 0 where
+pub record IsPrintablePart (later : Bool) (k : ℕ) (p : Spelling) : Type 0 where
   pub names : p.names ≡ k
   pub over : ProcessOver k p.process
   pub fits : ProcessFits later p.process
@@ -136,7 +136,7 @@ pub record IsPart (later : Bool) (k : ℕ) (p : Spelling) : Type 0 where
 
 abbrev pub IsOpponentPart : Bool → ℕ → Option Spelling → Type 0
 IsOpponentPart later k None = ⊤
-IsOpponentPart later k (Some o) = IsPart later k o
+IsOpponentPart later k (Some o) = IsPrintablePart later k o
 
 abbrev pub AreDistinct : List (List ℕ) → Type 0
 AreDistinct [] = ⊤
@@ -150,7 +150,7 @@ AreSteps (Some steps) = (length steps ≤ 10000) × AllByRecursion HasLowPlaces 
 pub record IsDerivationOf (later : Bool) (f : Meant) (d : Option t.Deriv) : Type 0 where
   pub uses : f.derivation ≡ derivation_in d
   pub formed : IsDerivation later d
-  pub rules : IsDerived later d
+  pub rules : IsFormedDerived later d
   pub within : IsWithin (derivation_pieces d [])
   pub kinds : AllByRecursion (IsKind (words_of later)) (kinds_in (derivation_pieces d []))
   pub small : Clean 0 (in_order (derivation_points d))
@@ -163,7 +163,7 @@ pub record IsPrintable (f : Meant) (d : Option t.Deriv) : Type 0 where
   pub version : (f.version ≡ 1) ⊎ (f.version ≡ 2)
   pub words : AllByRecursion (λ w. IsKind (words_of (is_later f)) (kinds.Word w)) f.names
   pub distinct : AreDistinct f.names
-  pub process : IsPart (is_later f) (length f.names) f.process
+  pub process : IsPrintablePart (is_later f) (length f.names) f.process
   pub opponent : IsOpponentPart (is_later f) (length f.names) f.opponent
   pub few : length f.names + (process_nodes f.process.process + opponent_nodes f.opponent) ≤ 100000
   pub schedule : AreSteps f.schedule

@@ -3,7 +3,7 @@
 use Rattle.std.proofs.Common.{ℕ, suc, ◌+◌, ◌-◌, if◌then◌else◌, List, [], ◌∷◌, map, Option, Some, None}
 use Rattle.spi_tree.specs.declared.tree.SWord.{SWord}
 use Rattle.spi_tree.specs.Trees as t
-use Rattle.spi_term.specs.Term.{Message, bound, name, unit, pair, in_left, in_right, enc, hash, Atom, ends, checks, many, Effect, Ty, un, unit_ty, pair_ty, sum_ty, key, nonce, Leaf, Sends, Stops, Prefix, Recvs, Serves, Splits, Selects, Decrypts, Checks, Begins, Ends, EndManys, Casts, Makes, Cases, Pars, Process, leaf, prefix, fork, binds}
+use Rattle.spi_term.specs.Term.{Message, bound, name, unit, pair, in_left, in_right, enc, hash, Atom, ends, checks, many, Effect, Ty, un, unit_ty, pair_ty, sum_ty, key, nonce, Leaf, Sends, Stops, Prefix, Recvs, Serves, Splits, Selects, Decrypts, Checks, Begins, Ends, EndManys, Casts, Freshes, Branches, Pars, Process, leaf, prefix, fork, binds}
 use Rattle.spi_term.specs.Spelling.{Spelling}
 use Rattle.spi_run.specs.Reduction.{Step, act, talk}
 use Rattle.spi_parse.specs.Bare.{nowhere}
@@ -136,7 +136,7 @@ prefix_tree spell n (Begins m) p = t.begin nowhere (message_tree (spelled_name s
 prefix_tree spell n (Ends m) p = t.end nowhere (message_tree (spelled_name spell) n m) p
 prefix_tree spell n (EndManys m) p = t.end_many nowhere (message_tree (spelled_name spell) n m) p
 prefix_tree spell n (Casts m a) p = t.cast nowhere (message_tree (spelled_name spell) n m) (word (spell n)) (type_tree spell n a) p
-prefix_tree spell n (Makes a) p = t.new nowhere (word (spell n)) (type_tree spell n a) p
+prefix_tree spell n (Freshes a) p = t.new nowhere (word (spell n)) (type_tree spell n a) p
 
 -- an output and its sequel
 abbrev pub then_tree : t.Proc → t.Proc → t.Proc
@@ -146,7 +146,7 @@ then_tree p q = t.stop nowhere
 abbrev pub process_tree : (ℕ → List ℕ) → Standing → ℕ → Process → t.Proc
 process_tree spell at n (leaf l) = leaf_tree spell n l
 process_tree spell at n (prefix s p) = prefix_tree spell n s (process_tree spell sequel (n + binds s) p)
-process_tree spell at n (fork (Cases m a b) p q) =
+process_tree spell at n (fork (Branches m a b) p q) =
     t.case nowhere (message_tree (spelled_name spell) n m) (word (spell n)) (type_tree spell n a) (process_tree spell sequel (n + 1) p)
     (word (spell n)) (type_tree spell n b) (process_tree spell sequel (n + 1) q)
 process_tree spell alone n (fork Pars p q) = t.par nowhere (process_tree spell sequel n p) (process_tree spell alone n q)

@@ -32,8 +32,8 @@ use Rattle.spi_spell.proofs.PrintsTerms.{IsAtomIn, IsEffectIn}
 
 -- ---- the numbers of names in a derivation are small, as its tokens are those of the version
 
-abbrev Fit : Bool → List Piece → Type 0
-Fit later r = AllByRecursion (IsKind (words_of later)) (kinds_in r)
+abbrev FitPieces : Bool → List Piece → Type 0
+FitPieces later r = AllByRecursion (IsKind (words_of later)) (kinds_in r)
 
 abbrev Low : Bool → Message → Type 0
 Low later m = MessageOver (2 ^ 32) 0 m × HasVersion later m
@@ -47,7 +47,7 @@ nested_low later m [] h k = h
 nested_low later m (n ∷ ns) h k = (let x = nested_low later n ns k.0 k.1 in ((h.0, x.0), (h.1, x.1)))
 
 mutual
-  message_low : (later : Bool) (c : ℕ) (m : t.Msg) (r : List Piece) → IsMsg later true m → Fit later (msg_pieces c m r) → Low later (numbered_message m) × Fit later r
+  message_low : (later : Bool) (c : ℕ) (m : t.Msg) (r : List Piece) → IsMsg later true m → FitPieces later (msg_pieces c m r) → Low later (numbered_message m) × FitPieces later r
   message_low later c (t.name s w) r is h = absurd cc
   message_low later c (t.unit s) r is h = ((tt, tt), h.1.1)
   message_low later c (t.tuple s a b ms) r is h =
@@ -64,7 +64,7 @@ mutual
   message_low later c (t.hash s a) r is h = (let x = message_low later (c + 1) a _ is.1 h.1.1 in ((x.0.0, (is.0, x.0.1)), x.1.1))
   message_low later c (t.num s i) r is h = ((h.1.0, tt), h.1.1)
 
-  messages_low : (later : Bool) (c : ℕ) (ms : t.Msgs) (r : List Piece) → AreMsgs later true ms → Fit later (msgs_pieces c ms r) → LowAll later (numbered_messages ms) × Fit later r
+  messages_low : (later : Bool) (c : ℕ) (ms : t.Msgs) (r : List Piece) → AreMsgs later true ms → FitPieces later (msgs_pieces c ms r) → LowAll later (numbered_messages ms) × FitPieces later r
   messages_low later c t.no_msgs r is h = (tt, h)
   messages_low later c (t.more_msgs m ms) r is h =
       let x = message_low later c m _ is.0 h.1 in
@@ -77,19 +77,19 @@ AtomLow later a = OfAtom (MessageOver (2 ^ 32) 0) a × IsAtomIn later a
 abbrev EffectLow : Bool → Effect → Type 0
 EffectLow later es = OfEffect (MessageOver (2 ^ 32) 0) es × IsEffectIn later es
 
-atom_low : (later : Bool) (c : ℕ) (a : t.Atom) (r : List Piece) → IsAtom later true a → Fit later (atom_pieces c a r) → AtomLow later (numbered_atom a) × Fit later r
+atom_low : (later : Bool) (c : ℕ) (a : t.Atom) (r : List Piece) → IsAtom later true a → FitPieces later (atom_pieces c a r) → AtomLow later (numbered_atom a) × FitPieces later r
 atom_low later c (t.ends s m) r is h = message_low later (c + 1) m _ is h.1
 atom_low later c (t.checks s m) r is h = message_low later (c + 1) m _ is h.1
 atom_low later c (t.many s m) r is h = (let x = message_low later (c + 1) m _ is.1 h.1 in ((x.0.0, (is.0, x.0.1)), x.1))
 
-atoms_low : (later : Bool) (c : ℕ) (es : List t.Atom) (r : List Piece) → AreAtoms later true es → Fit later (atoms_pieces c es r) → EffectLow later (map numbered_atom es) × Fit later r
+atoms_low : (later : Bool) (c : ℕ) (es : List t.Atom) (r : List Piece) → AreAtoms later true es → FitPieces later (atoms_pieces c es r) → EffectLow later (map numbered_atom es) × FitPieces later r
 atoms_low later c [] r is h = ((tt, tt), h)
 atoms_low later c (a ∷ es) r is h =
     let x = atom_low later c a _ is.0 h.1 in
     let y = atoms_low later c es r is.1 x.1 in
     (((x.0.0, y.0.0), (x.0.1, y.0.1)), y.1)
 
-effect_low : (later : Bool) (c : ℕ) (es : List t.Atom) (r : List Piece) → AreAtoms later true es → Fit later (effect_pieces c es r) → EffectLow later (map numbered_atom es) × Fit later r
+effect_low : (later : Bool) (c : ℕ) (es : List t.Atom) (r : List Piece) → AreAtoms later true es → FitPieces later (effect_pieces c es r) → EffectLow later (map numbered_atom es) × FitPieces later r
 effect_low later c [] r is h = ((tt, tt), h.1.1)
 effect_low later c (a ∷ es) r is h =
     let x = atom_low later c a _ is.0 h.1 in
@@ -119,7 +119,7 @@ known later w n e = go (named (rules_of later) w) refl e
         sym (ap spelled (rule_found r w same)) ∙ same
 
 mutual
-  pub deriv_low : (later : Bool) (c : ℕ) (d : t.Deriv) (r : List Piece) → IsDeriv later d → HasRules later d → Fit later (deriv_pieces c d r) → Printable later d × Fit later r
+  pub deriv_low : (later : Bool) (c : ℕ) (d : t.Deriv) (r : List Piece) → IsDeriv later d → HasRules later d → FitPieces later (deriv_pieces c d r) → Printable later d × FitPieces later r
   deriv_low later c (t.rule s w None ds) r is has h =
       let y = derivs_low later (c + 1) ds _ is.1 has.2 h.1 in
       ((known later w.word _ has.0, h.0, tt, y.0), y.1)
@@ -128,7 +128,7 @@ mutual
       let y = derivs_low later (c + 1) ds _ is.1 has.2 x.1 in
       ((known later w.word _ has.0, h.0, x.0, y.0), y.1)
 
-  derivs_low : (later : Bool) (c : ℕ) (ds : t.Derivs) (r : List Piece) → AreDerivs later ds → HaveRules later ds → Fit later (derivs_pieces c ds r) → AllPrintable later ds × Fit later r
+  derivs_low : (later : Bool) (c : ℕ) (ds : t.Derivs) (r : List Piece) → AreDerivs later ds → HaveRules later ds → FitPieces later (derivs_pieces c ds r) → AllPrintable later ds × FitPieces later r
   derivs_low later c t.no_derivs r is has h = (tt, h)
   derivs_low later c (t.more_derivs d ds) r is has h =
       let x = deriv_low later c d _ is.0 has.0 h in

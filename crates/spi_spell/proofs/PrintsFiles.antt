@@ -12,7 +12,7 @@ use Rattle.spi_lex.specs.Writing.{is_apart, Writes, IsKind, AreKinds, first_vers
 use Rattle.spi_tree.specs.Trees as t
 use Rattle.spi_tree.specs.Pieces.{Piece, closes, a_token, a_word, a_number, a_mark, kinds_in, tokens_of, words_pieces, decls_pieces, steps_pieces, opponent_pieces, schedule_pieces, derivation_pieces, proc_pieces, at_level}
 use Rattle.spi_tree.specs.Formed.{AreWordsFit, IsDerivation}
-use Rattle.spi_parse.specs.Formed.{IsDerived}
+use Rattle.spi_parse.specs.Formed.{IsFormedDerived}
 use Rattle.spi_parse.proofs.LiveLaws.{version_fit}
 use Rattle.spi_parse.proofs.Lexed.{kinds_fit}
 use Rattle.spi_term.specs.Spelling.{Spelling}
@@ -29,7 +29,7 @@ use Rattle.spi_spell.proofs.Together.{reserved_first}
 use Rattle.spi_spell.proofs.Texts.{act_kind, talk_kind}
 use Rattle.spi_spell.proofs.Printed as printed
 use Rattle.spi_spell.proofs.Printed.{free_trees, part_tree, opponent_tree, step_tree, schedule_tree, derivation_tree, file_tree}
-use Rattle.spi_spell.proofs.Printable.{IsPart, IsOpponentPart, process_nodes, opponent_nodes, AreSteps, is_later, IsPrintable}
+use Rattle.spi_spell.proofs.Printable.{IsPrintablePart, IsOpponentPart, process_nodes, opponent_nodes, AreSteps, is_later, IsPrintable}
 use Rattle.spi_spell.proofs.Names.{name_fit}
 use Rattle.spi_spell.proofs.Prints as prints
 use Rattle.spi_spell.proofs.Prints.{Prints}
@@ -81,7 +81,7 @@ free later (w ∷ ws) fit r more p =
 abbrev NamesFit : Bool → (ℕ → List ℕ) → Type 0
 NamesFit later spell = (i : ℕ) → i < 100000 → IsKind (words_of later) (kinds.Word (spell i))
 
-line : (later : Bool) (spell : ℕ → List ℕ) → NamesFit later spell → (k : ℕ) (p : Spelling) → IsPart later k p → k + process_nodes p.process ≤ 100000
+line : (later : Bool) (spell : ℕ → List ℕ) → NamesFit later spell → (k : ℕ) (p : Spelling) → IsPrintablePart later k p → k + process_nodes p.process ≤ 100000
     → (r : List Piece) (more : List ℕ) → Prints later (kinds_in r) more → Prints later (kinds_in (proc_pieces (at_level 0) (part_tree spell p) r)) (line_text spell p ++ more)
 line later spell fit k p part few r more h =
     let all = part.names in
@@ -110,7 +110,7 @@ schedule : (later : Bool) (o : Option (List Step)) → AreSteps o → (r : List 
 schedule later None are r more h = h
 schedule later (Some ss) are r more h = prints.keyword word.Schedule refl refl (prints.line (steps later ss are.1 r more h))
 
-derivation : (later : Bool) (d : Option t.Deriv) → IsDerivation later d → IsDerived later d → AllByRecursion (IsKind (words_of later)) (kinds_in (derivation_pieces d []))
+derivation : (later : Bool) (d : Option t.Deriv) → IsDerivation later d → IsFormedDerived later d → AllByRecursion (IsKind (words_of later)) (kinds_in (derivation_pieces d []))
     → (r : List Piece) → Prints later (kinds_in r) [] → Prints later (kinds_in (derivation_pieces (derivation_tree d) r)) (derivation_part (derivation_in d))
 derivation later None formed rules fit r h = h
 derivation later (Some d) formed rules fit r h =

@@ -7,7 +7,7 @@ use Rattle.spi_lex.specs.Words.{words_of}
 use Rattle.spi_lex.specs.Writing.{is_apart, IsKind}
 use Rattle.spi_tree.specs.Trees as t
 use Rattle.spi_tree.specs.Pieces.{Piece, Place, below, beside, a_reserved, kinds_in, msg_pieces, named_pieces, binder_pieces, proc_pieces, ends}
-use Rattle.spi_term.specs.Term.{Message, Ty, Leaf, Sends, Stops, Prefix, Recvs, Serves, Splits, Selects, Decrypts, Checks, Begins, Ends, EndManys, Casts, Makes, Cases, Pars, Process, leaf, prefix, fork, binds}
+use Rattle.spi_term.specs.Term.{Message, Ty, Leaf, Sends, Stops, Prefix, Recvs, Serves, Splits, Selects, Decrypts, Checks, Begins, Ends, EndManys, Casts, Freshes, Branches, Pars, Process, leaf, prefix, fork, binds}
 use Rattle.spi_term.specs.Names.{MessageOver, OfTy, OfLeaf, OfPrefix, OfProcess}
 use Rattle.spi_term.specs.Spelling.{ty_nodes}
 use Rattle.spi_parse.specs.Bare.{nowhere}
@@ -84,7 +84,7 @@ module _ (later : Bool) (top : ℕ) (spell : ℕ → List ℕ) (fit : (i : ℕ) 
   one_prefix k d n at (Casts m a) q scope few o v r more p =
       prints.keyword word.Cast refl refl (prints.space (prints.part (message_text spell n m) _ more (message m scope o.0 v.0 _ _ refl (prints.space (prints.keyword word.Is refl refl (prints.space
       (binder n a (omega arith) scope (omega arith) o.1 v.1 _ more p)))))))
-  one_prefix k d n at (Makes a) q scope few o v r more p =
+  one_prefix k d n at (Freshes a) q scope few o v r more p =
       prints.keyword word.New refl refl (prints.space (binder n a (omega arith) scope (omega arith) o v _ more p))
 
   one_leaf : (k d n : ℕ) (at : Place) (l : Leaf) → InScope top k d n → OfLeaf (MessageOver k) d l → LeafFits later l → (r : List Piece) (more : List ℕ)
@@ -148,7 +148,7 @@ module _ (later : Bool) (top : ℕ) (spell : ℕ → List ℕ) (fit : (i : ℕ) 
       let b = binds_few s in
       prints.part (prefix_text spell n s) _ more (one_prefix k d n at s _ scope (omega arith) o.0 v.0 r _
       (process k (d + binds s) (n + binds s) sequel p (behind (binds s) scope (omega arith)) (omega arith) o.1 v.1 (below at) _ more apart h))
-  process k d n st (fork (Cases m a b) p q) scope few o v at r more apart h =
+  process k d n st (fork (Branches m a b) p q) scope few o v at r more apart h =
       let whole : List ℕ = left_text spell n (message_text spell n m) (type_text spell n a) in
       let right : List ℕ = right_text spell n (type_text spell n b) in
       prints.part whole _ more (left k d n m a scope (omega arith) o.0.0 o.0.1 v.0.0 v.0.1 _ _ (prints.part (process_text spell sequel (n + 1) p) _ more

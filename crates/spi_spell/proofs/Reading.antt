@@ -20,7 +20,7 @@ pub record Rest (ks : List Kind) : Type 0 where
 
 module _ {T U : Type 0} (IsIt : T → Type 0) (stands_for : T → U) (pieces : T → List Piece → List Piece) (u : U) where
   -- one that stands for u, from the tokens on which its own stand first, the token before which ends at e
-  pub record Reads (e : ℕ) (ts : List Token) (ks : List Kind) : Type 0 where
+  pub record ReadsTree (e : ℕ) (ts : List Token) (ks : List Kind) : Type 0 where
     pub read : T
     pub is : IsIt read
     pub are : stands_for read ≡ u
@@ -31,10 +31,10 @@ module _ {T U : Type 0} (IsIt : T → Type 0) (stands_for : T → U) (pieces : T
   pub record ReadsBehind (w : Reserved) (more : List Token) : Type 0 where
     pub e : ℕ
     pub tokens : List Token
-    pub reads : Reads e tokens []
+    pub reads : ReadsTree e tokens []
     pub spells : (f : ℕ) → Spells [] f (a_reserved w (pieces reads.read (closes reads.rest.end ∷ []))) more
 
-  pub reads_behind : (w : Reserved) (ks : List Kind) (more : List Token) → ((e : ℕ) (ts : List Token) → kinds_of ts ≡ ks ++ [] → Reads e ts [])
+  pub reads_behind : (w : Reserved) (ks : List Kind) (more : List Token) → ((e : ℕ) (ts : List Token) → kinds_of ts ≡ ks ++ [] → ReadsTree e ts [])
       → kinds_of more ≡ kinds.Reserved w ∷ ks → ReadsBehind w more
   reads_behind w ks [] reads h = absurd cc
   reads_behind w ks (t ∷ ts) reads h =

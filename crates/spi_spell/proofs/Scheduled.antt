@@ -13,12 +13,12 @@ use Rattle.spi_run.specs.Reduction.{Step, act, talk}
 use Rattle.spi_scope.specs.Parts.{step_in}
 use Rattle.spi_scope.specs.Points.{in_order, steps_points}
 use Rattle.spi_scope.specs.First.{Clean}
-use Rattle.spi_spell.proofs.Reading.{Reads}
+use Rattle.spi_spell.proofs.Reading.{ReadsTree}
 use Rattle.spi_spell.proofs.Texts.{step_kinds, steps_kinds}
 
 -- as many steps, from the tokens on which theirs stand first, the token before which ends at e
 abbrev pub ReadSteps : List Step → ℕ → List Token → List Kind → Type 0
-ReadSteps ss e ts ks = Reads (λ (steps : List t.Step). length steps ≡ length ss) (λ (steps : List t.Step). map step_in steps) steps_pieces ss e ts ks
+ReadSteps ss e ts ks = ReadsTree (λ (steps : List t.Step). length steps ≡ length ss) (λ (steps : List t.Step). map step_in steps) steps_pieces ss e ts ks
 
 abbrev over : Token → Token → Span
 over a b = record { from = a.span.from; to = b.span.to }

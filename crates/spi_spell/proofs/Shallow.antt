@@ -15,7 +15,7 @@ use Rattle.spi_scope.specs.Meaning.{named, nested, message_in, messages_in, proc
 use Rattle.spi_scope.specs.Points.{Point, uses_name, uses_type, declares_name, declares_type, ends_message, ends_type, adds, starts_step, Points, none, one, ◌⨾◌, in_order, fault_at, added, msg_nodes, part, message_head, messages_head, typed_head, tested_head, split_head, match_head, process_points}
 use Rattle.spi_scope.specs.First.{Clean}
 use Rattle.spi_scope.proofs.Sizes.{message_sized}
-use Rattle.spi_spell.proofs.Fitting.{FitsMessage, Fits, bound_put}
+use Rattle.spi_spell.proofs.Fitting.{FitsMessage, FitsNesting, bound_put}
 use Rattle.spi_spell.proofs.Past.{past_msg, past_named, past_binder, past_proc}
 use Rattle.spi_spell.proofs.Counts.{some_size}
 
@@ -31,10 +31,10 @@ IsSmallPoint (ends_type n s) = Unit {0}
 IsSmallPoint (adds n s) = Unit {0}
 IsSmallPoint (starts_step i n s) = Unit {0}
 
-abbrev pub AreSmall : Points → Type 0
-AreSmall none = Unit {0}
-AreSmall (one p) = IsSmallPoint p
-AreSmall (ps ⨾ qs) = AreSmall ps × AreSmall qs
+abbrev pub ArePointsSmall : Points → Type 0
+ArePointsSmall none = Unit {0}
+ArePointsSmall (one p) = IsSmallPoint p
+ArePointsSmall (ps ⨾ qs) = ArePointsSmall ps × ArePointsSmall qs
 
 small_size : (n : ℕ) (f : ScopeFault) → (if nat_lt 200 n then Some f else None) ≡ None → n ≤ 200
 small_size n f h = elim (cases_Bool (nat_lt 200 n)) [
@@ -60,38 +60,38 @@ pub clean_back : (ps qs : List Point) (c : ℕ) → Clean c (ps ++ qs) → (d : 
 clean_back [] qs c h = (c, h)
 clean_back (p ∷ ps) qs c h = clean_back ps qs (c + added p) h.1
 
-pub small : (ps : Points) (c : ℕ) → Clean c (in_order ps) → AreSmall ps
+pub small : (ps : Points) (c : ℕ) → Clean c (in_order ps) → ArePointsSmall ps
 small none c h = tt
 small (one p) c h = small_point p c h.0
 small (ps ⨾ qs) c h =
     let k = clean_back (in_order ps) (in_order qs) c h in
     (small ps c (clean_front (in_order ps) (in_order qs) c h), small qs k.0 k.1)
 
-part_small : (xs : Names) (m : t.Msg) → AreSmall (part xs m) → msg_nodes xs m ≤ 200
+part_small : (xs : Names) (m : t.Msg) → ArePointsSmall (part xs m) → msg_nodes xs m ≤ 200
 unfolding part
 part_small xs m h = h.0.1
 
-message_small : (xs : Names) (s : Span) (m : t.Msg) → AreSmall (message_head xs s m) → msg_nodes xs m ≤ 200
+message_small : (xs : Names) (s : Span) (m : t.Msg) → ArePointsSmall (message_head xs s m) → msg_nodes xs m ≤ 200
 unfolding message_head
 message_small xs s m h = part_small xs m h.1
 
-messages_small : (xs : Names) (s : Span) (m n : t.Msg) → AreSmall (messages_head xs s m n) → (msg_nodes xs m ≤ 200) × (msg_nodes xs n ≤ 200)
+messages_small : (xs : Names) (s : Span) (m n : t.Msg) → ArePointsSmall (messages_head xs s m n) → (msg_nodes xs m ≤ 200) × (msg_nodes xs n ≤ 200)
 unfolding messages_head
 messages_small xs s m n h = (part_small xs m h.1.0, part_small xs n h.1.1)
 
-typed_small : (ts : Abbreviations) (xs : Names) (s : Span) (m : t.Msg) (a : t.Ty) → AreSmall (typed_head ts xs s m a) → msg_nodes xs m ≤ 200
+typed_small : (ts : Abbreviations) (xs : Names) (s : Span) (m : t.Msg) (a : t.Ty) → ArePointsSmall (typed_head ts xs s m a) → msg_nodes xs m ≤ 200
 unfolding typed_head
 typed_small ts xs s m a h = part_small xs m h.1.0
 
-tested_small : (ts : Abbreviations) (xs : Names) (s : Span) (m : t.Msg) (a : t.Ty) (n : t.Msg) → AreSmall (tested_head ts xs s m a n) → (msg_nodes xs m ≤ 200) × (msg_nodes xs n ≤ 200)
+tested_small : (ts : Abbreviations) (xs : Names) (s : Span) (m : t.Msg) (a : t.Ty) (n : t.Msg) → ArePointsSmall (tested_head ts xs s m a n) → (msg_nodes xs m ≤ 200) × (msg_nodes xs n ≤ 200)
 unfolding tested_head
 tested_small ts xs s m a n h = (part_small xs m h.1.0, part_small xs n h.1.1.1)
 
-split_small : (ts : Abbreviations) (xs : Names) (s : Span) (m : t.Msg) (x : SWord) (a c : t.Ty) → AreSmall (split_head ts xs s m x a c) → msg_nodes xs m ≤ 200
+split_small : (ts : Abbreviations) (xs : Names) (s : Span) (m : t.Msg) (x : SWord) (a c : t.Ty) → ArePointsSmall (split_head ts xs s m x a c) → msg_nodes xs m ≤ 200
 unfolding split_head
 split_small ts xs s m x a c h = part_small xs m h.1.0
 
-match_small : (ts : Abbreviations) (xs : Names) (s : Span) (m : t.Msg) (x : SWord) (a : t.Ty) (n : t.Msg) (c : t.Ty) → AreSmall (match_head ts xs s m x a n c) → (msg_nodes xs m ≤ 200) × (msg_nodes xs n ≤ 200)
+match_small : (ts : Abbreviations) (xs : Names) (s : Span) (m : t.Msg) (x : SWord) (a : t.Ty) (n : t.Msg) (c : t.Ty) → ArePointsSmall (match_head ts xs s m x a n c) → (msg_nodes xs m ≤ 200) × (msg_nodes xs n ≤ 200)
 unfolding match_head
 match_small ts xs s m x a n c h = tested_small ts xs s m a n h.0
 
@@ -128,7 +128,7 @@ level_low : (a : Place) → level_of a ≤ nesting_of a
 level_low (in_seq n) = omega arith
 level_low (at_level n) = omega arith
 
-low_root : (later : Bool) (n : ℕ) (p : Process) → Fits later n p → n ≤ 1000
+low_root : (later : Bool) (n : ℕ) (p : Process) → FitsNesting later n p → n ≤ 1000
 low_root later n (leaf l) h = h.0
 low_root later n (prefix s p) h = h.0
 low_root later n (fork f p q) h = h.0
@@ -142,8 +142,8 @@ here : (a : Place) (n : ℕ) → nat_lt 500 (nesting_of a) ≡ false → n ≤ l
 here a n within most = (let k = ltb-false 500 (nesting_of a) within in let l = level_low a in record { low = omega arith; on = omega arith })
 
 module _ (later : Bool) (b : ℕ → ℕ) (ts : Abbreviations) where
-  pub proc_fits : (xs : Names) (p : t.Proc) (a : Place) (r : List Piece) (n : ℕ) → IsProc later a p → IsWithin (proc_pieces a p r) → AreSmall (process_points ts xs p) → n ≤ level_of a + 1
-      → Fits later n (process_in b ts xs p)
+  pub proc_fits : (xs : Names) (p : t.Proc) (a : Place) (r : List Piece) (n : ℕ) → IsProc later a p → IsWithin (proc_pieces a p r) → ArePointsSmall (process_points ts xs p) → n ≤ level_of a + 1
+      → FitsNesting later n (process_in b ts xs p)
   proc_fits xs (t.par s p q) (in_seq l) r n f w few low = absurd f
   proc_fits xs (t.par s p q) (at_level l) r n f w few low =
       let first = proc_fits xs p (in_seq (l + 1)) _ (n + 1) f.0 w few.0 (omega arith) in

@@ -9,18 +9,18 @@ use Rattle.spi_lex.specs.Words.{words_of}
 use Rattle.spi_lex.specs.Writing.{IsKind}
 use Rattle.spi_tree.specs.Trees as t
 use Rattle.spi_tree.specs.Pieces.{Piece, at_level, proc_pieces, opponent_pieces, derivation_pieces, kinds_in, tokens_of}
-use Rattle.spi_tree.specs.Formed.{IsProc, IsOpponent, IsDerivation}
+use Rattle.spi_tree.specs.Formed.{IsProc, IsFormedOpponent, IsDerivation}
 use Rattle.spi_parse.specs.Exact.{IsWithin}
-use Rattle.spi_parse.specs.Formed.{IsFile, IsDerived, whole_file}
+use Rattle.spi_parse.specs.Formed.{IsFile, IsFormedDerived, whole_file}
 use Rattle.spi_term.specs.Spelling.{Spelling}
 use Rattle.spi_scope.specs.Scope.{Names, Abbreviations}
 use Rattle.spi_scope.specs.Points.{Points, in_order, process_points, opponent_points, all_names, all_types, file_points}
-use Rattle.spi_scope.specs.Over.{AreOver}
+use Rattle.spi_scope.specs.Over.{AreAbbreviationsOver}
 use Rattle.spi_scope.specs.StandsFor.{Meant, StandsFor, over_free, opponent_over}
-use Rattle.spi_scope.proofs.Counting.{run_weight, names_weigh, Passes, passed}
+use Rattle.spi_scope.proofs.Counting.{run_weight, names_weigh, PassesTests, passed}
 use Rattle.spi_scope.proofs.Indexing.{nodes_spell}
 use Rattle.spi_scope.proofs.Made.{types_over}
-use Rattle.spi_spell.proofs.Printable.{IsPart, IsOpponentPart, AreDistinct, AreSteps, process_nodes, opponent_nodes, is_later, IsPrintable}
+use Rattle.spi_spell.proofs.Printable.{IsPrintablePart, IsOpponentPart, AreDistinct, AreSteps, process_nodes, opponent_nodes, is_later, IsPrintable}
 use Rattle.spi_spell.proofs.Past.{past_decls, past_version, past_proc, past_opponent, past_schedule, behind_version, behind_decls, behind_proc, behind_opponent, behind_schedule}
 use Rattle.spi_spell.proofs.Nesting.{nests}
 use Rattle.spi_spell.proofs.Fitted.{TypesFit, process_fits, types_fit}
@@ -29,8 +29,8 @@ use Rattle.spi_spell.proofs.Declared.{are_new, names_distinct, reverse_distinct,
 use Rattle.spi_spell.proofs.Behind.{schedule_stands, derivation_clean, derivation_within, derivation_kinds}
 
 -- a process over the free names
-part_stands : (later : Bool) (ts : Abbreviations) (xs : Names) (p : t.Proc) (r : List Piece) → AreOver (length xs) ts → TypesFit later ts → IsProc later (at_level 0) p → IsWithin (proc_pieces (at_level 0) p r) → Passes (process_points ts xs p)
-    → IsPart later (length xs) (over_free ts xs p)
+part_stands : (later : Bool) (ts : Abbreviations) (xs : Names) (p : t.Proc) (r : List Piece) → AreAbbreviationsOver (length xs) ts → TypesFit later ts → IsProc later (at_level 0) p → IsWithin (proc_pieces (at_level 0) p r) → PassesTests (process_points ts xs p)
+    → IsPrintablePart later (length xs) (over_free ts xs p)
 part_stands later ts xs p r over fit formed within small = record {
   names = refl;
   over = (nodes_spell ts xs over p).0;
@@ -38,14 +38,14 @@ part_stands later ts xs p r over fit formed within small = record {
   nests = nests later (λ s. length xs) ts xs p (at_level 0) (at_level 0) r formed within (omega arith);
 }
 
-opponent_stands : (later : Bool) (ts : Abbreviations) (xs : Names) (o : Option t.Proc) (r : List Piece) → AreOver (length xs) ts → TypesFit later ts → IsOpponent later o → IsWithin (opponent_pieces o r) → Passes (opponent_points ts xs o)
+opponent_stands : (later : Bool) (ts : Abbreviations) (xs : Names) (o : Option t.Proc) (r : List Piece) → AreAbbreviationsOver (length xs) ts → TypesFit later ts → IsFormedOpponent later o → IsWithin (opponent_pieces o r) → PassesTests (opponent_points ts xs o)
     → IsOpponentPart later (length xs) (opponent_over ts xs o)
 opponent_stands later ts xs None r over fit formed within small = tt
 opponent_stands later ts xs (Some p) r over fit formed within small = part_stands later ts xs p r over fit formed within.1 small
 
 -- the same of what is equal
-pub part_of : {later other : Bool} {n m : ℕ} {p q : Spelling} → later ≡ other → n ≡ m → p ≡ q → IsPart other m q → IsPart later n p
-part_of {other = other} {n = n} {m = m} {p = p} a b c h = subst (λ (l : Bool). IsPart l n p) (sym a) (subst (λ (k : ℕ). IsPart other k p) (sym b) (subst (λ (s : Spelling). IsPart other m s) (sym c) h))
+pub part_of : {later other : Bool} {n m : ℕ} {p q : Spelling} → later ≡ other → n ≡ m → p ≡ q → IsPrintablePart other m q → IsPrintablePart later n p
+part_of {other = other} {n = n} {m = m} {p = p} a b c h = subst (λ (l : Bool). IsPrintablePart l n p) (sym a) (subst (λ (k : ℕ). IsPrintablePart other k p) (sym b) (subst (λ (s : Spelling). IsPrintablePart other m s) (sym c) h))
 
 pub opponent_of : {later other : Bool} {n m : ℕ} {p q : Option Spelling} → later ≡ other → n ≡ m → p ≡ q → IsOpponentPart other m q → IsOpponentPart later n p
 opponent_of {other = other} {n = n} {m = m} {p = p} a b c h = subst (λ (l : Bool). IsOpponentPart l n p) (sym a) (subst (λ (k : ℕ). IsOpponentPart other k p) (sym b) (subst (λ (s : Option Spelling). IsOpponentPart other m s) (sym c) h))
@@ -72,7 +72,7 @@ printable tree f file within low stands =
     let k3 = behind_proc P (at_level 0) tree.process _ k2 in
     let k4 = behind_opponent P tree.opponent _ k3 in
     let k5 = behind_schedule P tree.schedule _ k4 in
-    let over : AreOver (length xs) ts = types_over tree.decls ts xs refl refl in
+    let over : AreAbbreviationsOver (length xs) ts = types_over tree.decls ts xs refl refl in
     let fit : TypesFit later ts = types_fit later [] [] tree.decls tt file.formed.decls small.0 in
     let v : is_later f ≡ later = ap (λ (n : ℕ). n == 2) stands.version in
     let n : length f.names ≡ length xs = ap length stands.names ∙ length-reverse xs in
@@ -91,7 +91,7 @@ printable tree f file within low stands =
       derivation = record {
         uses = stands.derivation;
         formed = subst (λ (l : Bool). IsDerivation l tree.derivation) (sym v) file.formed.derivation;
-        rules = subst (λ (l : Bool). IsDerived l tree.derivation) (sym v) file.rules;
+        rules = subst (λ (l : Bool). IsFormedDerived l tree.derivation) (sym v) file.rules;
         within = derivation_within tree.derivation tree.span w5;
         kinds = subst (λ (l : Bool). AllByRecursion (IsKind (words_of l)) (kinds_in (derivation_pieces tree.derivation []))) (sym v) (derivation_kinds P tree.derivation tree.span k5);
         small = derivation_clean tree.derivation small.1.1.1.1;

@@ -18,7 +18,7 @@ use Rattle.spi_run.specs.Reduction.{Step, act, talk}
 use Rattle.spi_term.specs.Term.{Effect}
 use Rattle.spi_deriv.specs.Text.{taken_text, use_text, uses_text, derivation_text}
 use Rattle.spi_spell.specs.Joined.{step_text, steps_text, schedule_text, HasLowPlaces}
-use Rattle.spi_spell.proofs.Derived.{rule_words, ArePlain}
+use Rattle.spi_spell.proofs.Derived.{rule_words, WriteNoEffect}
 
 -- ---- derivations
 
@@ -80,14 +80,14 @@ derivation_first false = refl
 pub derivation_kinds : (later : Bool) (us : List RuleUse) → AllByRecursion (IsKind (words_of later)) (kinds.Reserved Derivation ∷ rule_words us)
 derivation_kinds later us = (derivation_first later, rule_kinds later us)
 
-uses_write : (us : List RuleUse) → ArePlain us → Writes (rule_words us) (uses_text us)
+uses_write : (us : List RuleUse) → WriteNoEffect us → Writes (rule_words us) (uses_text us)
 uses_write [] h = nothing
 uses_write (u ∷ us) h =
     let plain : use_text u ≡ spelled u.rule ++ codes "\n" = ap (λ (o : Option Effect). spelled u.rule ++ (taken_text o ++ codes "\n")) h.0 in
     let is : uses_text (u ∷ us) ≡ spelled u.rule ++ (10 ∷ uses_text us) = ap (λ (l : List ℕ). l ++ uses_text us) plain ∙ append_assoc (spelled u.rule) (codes "\n") (uses_text us) in
     subst (Writes (rule_words (u ∷ us))) (sym is) (token (kinds.Word (spelled u.rule)) refl (blank 10 refl (uses_write us h.1)))
 
-pub derivation_writes : (us : List RuleUse) → ArePlain us → Writes (kinds.Reserved Derivation ∷ rule_words us) (derivation_text us)
+pub derivation_writes : (us : List RuleUse) → WriteNoEffect us → Writes (kinds.Reserved Derivation ∷ rule_words us) (derivation_text us)
 derivation_writes us h = token (kinds.Reserved Derivation) refl (blank 10 refl (uses_write us h))
 
 -- ---- schedules

@@ -13,7 +13,7 @@ use Rattle.spi_lex.specs.declared.token.Reserved.TheVariants.{Hash, EndMany, Man
 use Rattle.spi_lex.specs.declared.fault.LexFault.{LexFault}
 use Rattle.spi_lex.specs.Words.{version_1, version_2, words_of, word_bytes, word_of}
 use Rattle.spi_lex.specs.Lexeme.{Lexeme, identifier, number, mark}
-use Rattle.spi_lex.specs.Lexing.{Piece, Leads, word_kind, kind_of, token_of, tokens_of, kinds_of, is_version_2, is_version, is_two, is_semicolon, Lexes, to_tokens, not_utf8, bad_char, bad_number, name_too_long}
+use Rattle.spi_lex.specs.Lexing.{LexPiece, Leads, word_kind, kind_of, token_of, tokens_of, kinds_of, is_version_2, is_version, is_two, is_semicolon, Lexes, to_tokens, not_utf8, bad_char, bad_number, name_too_long}
 use Rattle.spi_lex.specs.Writing.{Writes, blank, IsKind, first_version}
 use Rattle.spi_lex.proofs.Reached.{joined}
 use Rattle.spi_lex.proofs.Writing.{reads_back}
@@ -21,7 +21,7 @@ use Rattle.spi_spell.proofs.Feeds.{leads_on, moved, leads_moved}
 
 -- the pieces of bytes that have these tokens
 pub record IsLexed (bytes : List ℕ) (tokens : List Token) : Type 0 where
-  pub pieces : List Piece
+  pub pieces : List LexPiece
   pub end : ℕ
   pub utf8 : IsUtf8 bytes
   pub leads : Leads 0 bytes pieces end []
@@ -52,20 +52,20 @@ reserved_second k w (c ∷ ks) = ap (λ (b : Bool). b && is_semicolon c) (and_fa
 reserved_third : (j k : Kind) (w : Reserved) (ks : List Kind) → is_version_2 (j ∷ k ∷ kinds.Reserved w ∷ ks) ≡ false
 reserved_third j k w ks = and_false (is_version j && is_two k)
 
-abbrev first_token : Piece → Token
+abbrev first_token : LexPiece → Token
 first_token = token_of version_1
 
-abbrev later_token : Piece → Token
+abbrev later_token : LexPiece → Token
 later_token = token_of version_2
 
-by_version : (v : Bool) (a b c : Piece) (ps qs : List Piece)
+by_version : (v : Bool) (a b c : LexPiece) (ps qs : List LexPiece)
     → cond v (first_token a ∷ first_token b ∷ first_token c ∷ map later_token (ps ++ qs)) (first_token a ∷ first_token b ∷ first_token c ∷ map first_token (ps ++ qs))
     ≡ cond v (first_token a ∷ first_token b ∷ first_token c ∷ map later_token ps) (first_token a ∷ first_token b ∷ first_token c ∷ map first_token ps) ++ map (token_of (words_of v)) qs
 by_version true a b c ps qs = ap (λ (ts : List Token). first_token a ∷ first_token b ∷ first_token c ∷ ts) (map-append later_token ps qs)
 by_version false a b c ps qs = ap (λ (ts : List Token). first_token a ∷ first_token b ∷ first_token c ∷ ts) (map-append first_token ps qs)
 
 -- a reserved word behind the tokens of pieces leaves those tokens as they are
-tokens_joined : (ps qs : List Piece) (w : Reserved) (ks : List Kind) → kinds_of (map first_token qs) ≡ kinds.Reserved w ∷ ks
+tokens_joined : (ps qs : List LexPiece) (w : Reserved) (ks : List Kind) → kinds_of (map first_token qs) ≡ kinds.Reserved w ∷ ks
     → (v : Bool) × (tokens_of (ps ++ qs) ≡ tokens_of ps ++ map (token_of (words_of v)) qs)
 tokens_joined [] qs w ks e = (false, cond-false _ _ (map first_token qs) (ap is_version_2 e ∙ reserved_first w ks))
 tokens_joined (a ∷ []) qs w ks e =
@@ -97,7 +97,7 @@ later_kind (identifier name) k e h = later_word name k (word_of version_1 name) 
 later_kind (number value) k e h = e
 later_kind (mark m) k e h = e
 
-later_kinds : (qs : List Piece) (ks : List Kind) → kinds_of (map first_token qs) ≡ ks → AllByRecursion (IsKind version_2) ks → kinds_of (map later_token qs) ≡ ks
+later_kinds : (qs : List LexPiece) (ks : List Kind) → kinds_of (map first_token qs) ≡ ks → AllByRecursion (IsKind version_2) ks → kinds_of (map later_token qs) ≡ ks
 later_kinds [] ks e h = e
 later_kinds (q ∷ qs) [] e h = absurd cc
 later_kinds (q ∷ qs) (k ∷ ks) e h =
@@ -107,14 +107,14 @@ later_kinds (q ∷ qs) (k ∷ ks) e h =
     let b = later_kinds qs ks rest h.1 in
     ap (λ (x : Kind). x ∷ kinds_of (map later_token qs)) a ∙ ap (λ (l : List Kind). k ∷ l) b
 
-kinds_in_version : (v : Bool) (qs : List Piece) (ks : List Kind) → kinds_of (map first_token qs) ≡ ks → AllByRecursion (IsKind version_2) ks → kinds_of (map (token_of (words_of v)) qs) ≡ ks
+kinds_in_version : (v : Bool) (qs : List LexPiece) (ks : List Kind) → kinds_of (map first_token qs) ≡ ks → AllByRecursion (IsKind version_2) ks → kinds_of (map (token_of (words_of v)) qs) ≡ ks
 kinds_in_version true qs ks e h = later_kinds qs ks e h
 kinds_in_version false qs ks e h = e
 
 -- ---- the text alone
 
 -- pieces whose tokens don't begin a file of version 2 have the tokens of version 1
-first_kinds : (qs : List Piece) (w : Reserved) (ks : List Kind) → kinds_of (tokens_of qs) ≡ kinds.Reserved w ∷ ks → kinds_of (map first_token qs) ≡ kinds.Reserved w ∷ ks
+first_kinds : (qs : List LexPiece) (w : Reserved) (ks : List Kind) → kinds_of (tokens_of qs) ≡ kinds.Reserved w ∷ ks → kinds_of (map first_token qs) ≡ kinds.Reserved w ∷ ks
 first_kinds [] w ks e = e
 first_kinds (a ∷ []) w ks e = e
 first_kinds (a ∷ b ∷ []) w ks e = e
@@ -129,7 +129,7 @@ first_kinds (a ∷ b ∷ c ∷ qs) w ks e = go (is_version (first_token a).kind 
         absurd cc
     go false says h = h
 
-moved_kinds : (words : List Reserved) (k : ℕ) (qs : List Piece) → kinds_of (map (token_of words) (map (moved k) qs)) ≡ kinds_of (map (token_of words) qs)
+moved_kinds : (words : List Reserved) (k : ℕ) (qs : List LexPiece) → kinds_of (map (token_of words) (map (moved k) qs)) ≡ kinds_of (map (token_of words) qs)
 moved_kinds words k [] = refl
 moved_kinds words k (q ∷ qs) = ap (λ (l : List Kind). kind_of words q.lexeme ∷ l) (moved_kinds words k qs)
 
@@ -146,7 +146,7 @@ text_behind bytes text tokens w ks lexes writes old new =
     let r = reads_back (kinds.Reserved w ∷ ks) (10 ∷ text) (blank 10 refl writes) (first_version (reserved_first w ks) old) in
     let t = view r.0 r.1 refl in
     let first : kinds_of (map first_token t.pieces) ≡ kinds.Reserved w ∷ ks = first_kinds t.pieces w ks (ap kinds_of t.tokens_are ∙ r.2) in
-    let qs : List Piece = map (moved b.end) t.pieces in
+    let qs : List LexPiece = map (moved b.end) t.pieces in
     let there : kinds_of (map first_token qs) ≡ kinds.Reserved w ∷ ks = moved_kinds version_1 b.end t.pieces ∙ first in
     let j = tokens_joined b.pieces qs w ks there in
     let start : b.end + 0 ≡ b.end = omega arith in

@@ -11,24 +11,24 @@ use Rattle.spi_term.specs.Lists.{At, at_first, at_later, In, in_first, in_later}
 use Rattle.spi_term.specs.Term.{Atom, same_atom, Effect}
 use Rattle.spi_term.specs.Counts.{tally, cut, count}
 use Rattle.spi_term.specs.Tests.{is_within}
-use Rattle.spi_term.specs.Looking.{IsPlace, IsTally, AreFewer, AllWithin}
+use Rattle.spi_term.specs.Looking.{IsFirstPlace, IsTally, AreFewer, AllWithin}
 use Rattle.spi_term.specs.View.{pointed}
 use Rattle.spi_term.specs.declared.term.Atom.{Atom as Atom-code}
 use Rattle.spi_term.proofs.Counting.{same_atom_refl, same_atom_true, in_tally, tally_in, each_complete_in, is_within_sound}
 use Rattle.spi_term.proofs.Lookup.{seen, pointed_at, place_unique, one_element}
 
 -- an atom that stands in a list has a place there
-place_next : (a b : Atom) (es : Effect) (i : ℕ) → same_atom a b ≡ false → IsPlace a es (Some i) → IsPlace a (b ∷ es) (Some (suc i))
+place_next : (a b : Atom) (es : Effect) (i : ℕ) → same_atom a b ≡ false → IsFirstPlace a es (Some i) → IsFirstPlace a (b ∷ es) (Some (suc i))
 place_next a b es i d p = (p.0, before)
   where
     before : (k : ℕ) → k < suc i → slice_get (b ∷ es) k ≡ Some a → ⊥
     before zero h e = true≢false (sym (subst (λ c. same_atom a c ≡ true) (sym (one_element e)) (same_atom_refl a)) ∙ d)
     before (suc k) h e = p.1 k (omega arith) e
 
-place_first : (a b : Atom) (es : Effect) → same_atom a b ≡ true → IsPlace a (b ∷ es) (Some zero)
+place_first : (a b : Atom) (es : Effect) → same_atom a b ≡ true → IsFirstPlace a (b ∷ es) (Some zero)
 place_first a b es d = (ap Some (sym (same_atom_true a b d)), λ k h. absurd (omega arith))
 
-pub place_exists : (a : Atom) (es : Effect) → In a es → (i : ℕ) × IsPlace a es (Some i)
+pub place_exists : (a : Atom) (es : Effect) → In a es → (i : ℕ) × IsFirstPlace a es (Some i)
 place_exists a [] i = elim i [ ]
 place_exists a (b ∷ es) i = ⊎_elim
     (λ (d : same_atom a b ≡ true). (zero, place_first a b es d))
@@ -79,7 +79,7 @@ chunk_told P chunk before after es fs e p h =
     (λ q. all_within_permuted before after es fs p (h.0 q), λ w. h.1 (all_within_permuted after before es fs (IsPermutation-sym before after p) w))
 
 -- one more place
-pub fewer_more : (rs : List (Bor Atom-code)) (ours theirs : List ℕ) (n : ℕ) (r : Bor Atom-code) (place : ℕ) → n < length rs → r ≡ get_or rs n r → IsPlace (seen r) (pointed rs) (Some place) → cut (seen r) (slice_index ours place) ≤ cut (seen r) (slice_index theirs place) → ((a : Atom) (i : ℕ) → i < n → IsPlace a (pointed rs) (Some i) → cut a (slice_index ours i) ≤ cut a (slice_index theirs i)) → (a : Atom) (i : ℕ) → i < n + 1 → IsPlace a (pointed rs) (Some i) → cut a (slice_index ours i) ≤ cut a (slice_index theirs i)
+pub fewer_more : (rs : List (Bor Atom-code)) (ours theirs : List ℕ) (n : ℕ) (r : Bor Atom-code) (place : ℕ) → n < length rs → r ≡ get_or rs n r → IsFirstPlace (seen r) (pointed rs) (Some place) → cut (seen r) (slice_index ours place) ≤ cut (seen r) (slice_index theirs place) → ((a : Atom) (i : ℕ) → i < n → IsFirstPlace a (pointed rs) (Some i) → cut a (slice_index ours i) ≤ cut a (slice_index theirs i)) → (a : Atom) (i : ℕ) → i < n + 1 → IsFirstPlace a (pointed rs) (Some i) → cut a (slice_index ours i) ≤ cut a (slice_index theirs i)
 fewer_more rs ours theirs n r place w g q le before a i h p = ⊎_elim (λ (k : i < n). before a i k p) here (sides i n h)
   where
     sides : (i n : ℕ) → i < n + 1 → (i < n) ⊎ (i ≡ n)
@@ -91,7 +91,7 @@ fewer_more rs ours theirs n r place w g q le before a i h p = ⊎_elim (λ (k : 
     here : i ≡ n → cut a (slice_index ours i) ≤ cut a (slice_index theirs i)
     here e =
         let same : a ≡ seen r = one_element (sym p.0 ∙ ap (slice_get (pointed rs)) e ∙ pointed_at rs n r w g) in
-        let there : i ≡ place = place_unique (seen r) (pointed rs) i place (subst (λ b. IsPlace b (pointed rs) (Some i)) same p) q in
+        let there : i ≡ place = place_unique (seen r) (pointed rs) i place (subst (λ b. IsFirstPlace b (pointed rs) (Some i)) same p) q in
         subst (λ b. cut b (slice_index ours i) ≤ cut b (slice_index theirs i)) (sym same) (subst (λ k. cut (seen r) (slice_index ours k) ≤ cut (seen r) (slice_index theirs k)) (sym there) le)
 
 -- a list by its parts

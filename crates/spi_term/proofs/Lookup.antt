@@ -17,7 +17,7 @@ use Rattle.spi_term.specs.Term.{same_atom, Effect}
 use Rattle.spi_term.specs.Term as Term
 use Rattle.spi_term.specs.Counts.{tally}
 use Rattle.spi_term.specs.Order.{atom_cmp}
-use Rattle.spi_term.specs.Looking.{IsInOrder, IsCut, IsPlace, IsTally, raised, IsRaised}
+use Rattle.spi_term.specs.Looking.{IsInOrder, IsCut, IsFirstPlace, IsTally, raised, IsRaised}
 use Rattle.spi_term.specs.View.{atom, pointed}
 use Rattle.spi_term.specs.declared.term.Atom.{Atom}
 use Rattle.spi_term.proofs.Counting.{same_atom_refl, same_other, tally_append}
@@ -105,13 +105,13 @@ pub search_cut : {F : Type 0} {g : Mut F (Bor (Bor Atom) × Unit {0}) Bool} {f :
 search_cut a rs i o clause h = cut_from a rs i (IsPartitionPoint-from_clause (λ y. is_lt (atom_cmp (seen y) a)) rs i clause (partitioned a rs o) h)
 
 -- what stands at the cut is the atom, or the atom doesn't stand in the list
-pub place_here : (a : Term.Atom) (es : Effect) (i : ℕ) → IsCut a es i → slice_get es i ≡ Some a → IsPlace a es (Some i)
+pub place_here : (a : Term.Atom) (es : Effect) (i : ℕ) → IsCut a es i → slice_get es i ≡ Some a → IsFirstPlace a es (Some i)
 place_here a es i c e = (e, λ k h f. absurd (true≢false (sym (c.before k a h f) ∙ never_before a)))
 
-pub place_past : (a : Term.Atom) (es : Effect) (i : ℕ) → IsCut a es i → length es ≤ i → IsPlace a es None
+pub place_past : (a : Term.Atom) (es : Effect) (i : ℕ) → IsCut a es i → length es ≤ i → IsFirstPlace a es None
 place_past a es i c h = λ k e. let w : k < length es = slice_get_within es k a e in absurd (true≢false (sym (c.before k a (omega arith) e) ∙ never_before a))
 
-pub place_other : (a b : Term.Atom) (es : Effect) (i : ℕ) → IsInOrder es → IsCut a es i → slice_get es i ≡ Some b → same_atom b a ≡ false → IsPlace a es None
+pub place_other : (a b : Term.Atom) (es : Effect) (i : ℕ) → IsInOrder es → IsCut a es i → slice_get es i ≡ Some b → same_atom b a ≡ false → IsFirstPlace a es None
 place_other a b es i o c e d = λ k f. ⊎_elim
     (λ (h : k < i). true≢false (sym (c.before k a h f) ∙ never_before a))
     (λ (h : i ≤ k). true≢false (sym (same_atom_refl b) ∙ ap (same_atom b) (neither b a (c.after i b (omega arith) e) (o.at i k b a h e f)) ∙ d))
@@ -123,7 +123,7 @@ place_other a b es i o c e d = λ k f. ⊎_elim
     sides (suc k) (suc i) = ⊎_elim (λ h. inl (omega arith)) (λ h. inr (omega arith)) (sides k i)
 
 -- an atom has one place
-pub place_unique : (a : Term.Atom) (es : Effect) (i j : ℕ) → IsPlace a es (Some i) → IsPlace a es (Some j) → i ≡ j
+pub place_unique : (a : Term.Atom) (es : Effect) (i j : ℕ) → IsFirstPlace a es (Some i) → IsFirstPlace a es (Some j) → i ≡ j
 place_unique a es i j p q =
     let f : i < j → ⊥ = λ h. q.1 i h p.0 in
     let g : j < i → ⊥ = λ h. p.1 j h q.0 in
@@ -145,7 +145,7 @@ one_element e = cc
 pub tally_raised : (es fs : Effect) (y : Term.Atom) (before after : List ℕ) → length before ≡ length es → IsTally es fs before → IsRaised es y before after → IsTally es (fs ++ y ∷ []) after
 tally_raised es fs y before after n t r = record { at = λ a i p. go r.place r.is_place r.is a i p }
   where
-    go : (o : Option ℕ) → IsPlace y es o → after ≡ raised o before → (a : Term.Atom) (i : ℕ) → IsPlace a es (Some i) → slice_index after i ≡ tally a (fs ++ y ∷ [])
+    go : (o : Option ℕ) → IsFirstPlace y es o → after ≡ raised o before → (a : Term.Atom) (i : ℕ) → IsFirstPlace a es (Some i) → slice_index after i ≡ tally a (fs ++ y ∷ [])
     go None q e a i p =
         let d : a ≢ y = λ s. q i (p.0 ∙ ap Some s) in
         ap (λ c. slice_index c i) e ∙ t.at a i p ∙ sym (tally_push_other a y fs d)
@@ -161,7 +161,7 @@ tally_raised es fs y before after n t r = record { at = λ a i p. go r.place r.i
 
         there : i ≢ j → slice_index after i ≡ tally a (fs ++ y ∷ [])
         there d =
-            let other : a ≢ y = λ s. d (place_unique a es i j p (subst (λ z. IsPlace z es (Some j)) (sym s) q)) in
+            let other : a ≢ y = λ s. d (place_unique a es i j p (subst (λ z. IsFirstPlace z es (Some j)) (sym s) q)) in
             ap (λ c. slice_index c i) e ∙ get_or-set_other before j i (suc (get_or before j 0)) 0 d ∙ t.at a i p ∙ sym (tally_push_other a y fs other)
 
 -- counts that are all 0, before the first atom

@@ -12,9 +12,9 @@ pub record IsInOrder (es : Effect) : Type 0 where
       → is_lt (atom_cmp b a) ≡ false
 
 -- the first place of an atom, or none where it doesn't stand in the list
-abbrev pub IsPlace : Atom → Effect → Option ℕ → Type 0
-IsPlace a es None = (k : ℕ) → slice_get es k ≡ Some a → ⊥
-IsPlace a es (Some i) = (slice_get es i ≡ Some a) × ((k : ℕ) → k < i → slice_get es k ≡ Some a → ⊥)
+abbrev pub IsFirstPlace : Atom → Effect → Option ℕ → Type 0
+IsFirstPlace a es None = (k : ℕ) → slice_get es k ≡ Some a → ⊥
+IsFirstPlace a es (Some i) = (slice_get es i ≡ Some a) × ((k : ℕ) → k < i → slice_get es k ≡ Some a → ⊥)
 
 -- the atoms before place i are before a, and no other is
 pub record IsCut (a : Atom) (es : Effect) (i : ℕ) : Type 0 where
@@ -23,7 +23,7 @@ pub record IsCut (a : Atom) (es : Effect) (i : ℕ) : Type 0 where
 
 -- how often each atom of es stands in fs is written at its first place
 pub record IsTally (es fs : Effect) (counts : List ℕ) : Type 0 where
-  pub at : (a : Atom) (i : ℕ) → IsPlace a es (Some i) → slice_index counts i ≡ tally a fs
+  pub at : (a : Atom) (i : ℕ) → IsFirstPlace a es (Some i) → slice_index counts i ≡ tally a fs
 
 -- the counts with one more at the place of an atom
 abbrev pub raised : Option ℕ → List ℕ → List ℕ
@@ -32,12 +32,12 @@ raised (Some i) counts = slice_set counts i (suc (slice_index counts i))
 
 pub record IsRaised (es : Effect) (a : Atom) (before after : List ℕ) : Type 0 where
   pub place : Option ℕ
-  pub is_place : IsPlace a es place
+  pub is_place : IsFirstPlace a es place
   pub is : after ≡ raised place before
 
 -- at the first place of each atom, what is written in xs is at most what is written in ys
 pub record AreFewer (es : Effect) (xs ys : List ℕ) : Type 0 where
-  pub at : (a : Atom) (i : ℕ) → IsPlace a es (Some i) → cut a (slice_index xs i) ≤ cut a (slice_index ys i)
+  pub at : (a : Atom) (i : ℕ) → IsFirstPlace a es (Some i) → cut a (slice_index xs i) ≤ cut a (slice_index ys i)
 
 -- no atom of gs has a count in es above that in fs
 pub record AllWithin (gs es fs : Effect) : Type 0 where

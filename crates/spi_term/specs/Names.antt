@@ -1,6 +1,6 @@
 -- Which names a term has: a statement about each message of a term, given how many binders stand over it.
 use Rattle.std.specs.Prelude.{ℕ, suc, ◌+◌, ◌<◌, ◌≢◌, [], ◌∷◌, ⊤}
-use Rattle.spi_term.specs.Term.{Message, bound, name, unit, pair, in_left, in_right, enc, hash, Atom, ends, checks, many, Effect, Ty, un, unit_ty, pair_ty, sum_ty, key, nonce, Leaf, Sends, Stops, Prefix, Recvs, Serves, Splits, Selects, Decrypts, Checks, Begins, Ends, EndManys, Casts, Makes, Fork, Cases, Pars, Process, leaf, prefix, fork, binds, fork_binds}
+use Rattle.spi_term.specs.Term.{Message, bound, name, unit, pair, in_left, in_right, enc, hash, Atom, ends, checks, many, Effect, Ty, un, unit_ty, pair_ty, sum_ty, key, nonce, Leaf, Sends, Stops, Prefix, Recvs, Serves, Splits, Selects, Decrypts, Checks, Begins, Ends, EndManys, Casts, Freshes, Fork, Branches, Pars, Process, leaf, prefix, fork, binds, fork_binds}
 
 -- the names are below n and the indices below k
 abbrev pub MessageOver : ℕ → ℕ → Message → Type 0
@@ -48,10 +48,10 @@ OfPrefix P k (Begins m) = P k m
 OfPrefix P k (Ends m) = P k m
 OfPrefix P k (EndManys m) = P k m
 OfPrefix P k (Casts m t) = P k m × OfTy P k t
-OfPrefix P k (Makes t) = OfTy P k t
+OfPrefix P k (Freshes t) = OfTy P k t
 
 abbrev pub OfFork : (ℕ → Message → Type 0) → ℕ → Fork → Type 0
-OfFork P k (Cases m t u) = P k m × OfTy P k t × OfTy P k u
+OfFork P k (Branches m t u) = P k m × OfTy P k t × OfTy P k u
 OfFork P k Pars = ⊤
 
 abbrev pub OfProcess : (ℕ → Message → Type 0) → ℕ → Process → Type 0

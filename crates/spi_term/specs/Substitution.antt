@@ -1,6 +1,6 @@
 -- Messages in place of names: one traversal for each sort, and what it puts where.
 use Rattle.std.specs.Prelude.{ℕ, suc, ◌+◌, ◌-◌, map, if◌then◌else◌, ◌==◌, nat_lt, List, Option, Some, None, slice_get}
-use Rattle.spi_term.specs.Term.{Message, bound, name, unit, pair, in_left, in_right, enc, hash, Atom, ends, checks, many, Effect, Ty, un, unit_ty, pair_ty, sum_ty, key, nonce, Leaf, Sends, Stops, Prefix, Recvs, Serves, Splits, Selects, Decrypts, Checks, Begins, Ends, EndManys, Casts, Makes, Fork, Cases, Pars, Process, leaf, prefix, fork, binds, fork_binds}
+use Rattle.spi_term.specs.Term.{Message, bound, name, unit, pair, in_left, in_right, enc, hash, Atom, ends, checks, many, Effect, Ty, un, unit_ty, pair_ty, sum_ty, key, nonce, Leaf, Sends, Stops, Prefix, Recvs, Serves, Splits, Selects, Decrypts, Checks, Begins, Ends, EndManys, Casts, Freshes, Fork, Branches, Pars, Process, leaf, prefix, fork, binds, fork_binds}
 
 -- f on the message of an atom, and of each atom
 abbrev pub atom_map : (Message → Message) → Atom → Atom
@@ -36,10 +36,10 @@ prefix_map f k (Begins m) = Begins (f k m)
 prefix_map f k (Ends m) = Ends (f k m)
 prefix_map f k (EndManys m) = EndManys (f k m)
 prefix_map f k (Casts m t) = Casts (f k m) (ty_map f k t)
-prefix_map f k (Makes t) = Makes (ty_map f k t)
+prefix_map f k (Freshes t) = Freshes (ty_map f k t)
 
 abbrev pub fork_map : (ℕ → Message → Message) → ℕ → Fork → Fork
-fork_map f k (Cases m t u) = Cases (f k m) (ty_map f k t) (ty_map f k u)
+fork_map f k (Branches m t u) = Branches (f k m) (ty_map f k t) (ty_map f k u)
 fork_map f k Pars = Pars
 
 abbrev pub process_map : (ℕ → Message → Message) → ℕ → Process → Process

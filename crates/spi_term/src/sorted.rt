@@ -2,7 +2,7 @@
 
 ghost use Rattle.std.specs.Prelude.{◌≡◌, ◌+◌, ◌^◌, ◌<◌, ◌≤◌, length, map, All, IfSome};
 ghost use Rattle.std.specs.List.Sorted.{IsPermutation};
-ghost use Rattle.spi_term.specs.Looking.{IsInOrder, IsCut, IsPlace, IsTally, IsRaised};
+ghost use Rattle.spi_term.specs.Looking.{IsInOrder, IsCut, IsFirstPlace, IsTally, IsRaised};
 ghost use Rattle.spi_term.specs.View.{atom, pointed};
 
 use crate::compare::compare_atoms;
@@ -30,7 +30,7 @@ fn cut_of(sorted: &[&Atom], a: &Atom) -> usize
 pub fn place_of(sorted: &[&Atom], a: &Atom) -> Option<usize>
     requires { IsInOrder (pointed sorted.now) }
     ensures bound { IfSome result (λ i. i < length sorted.now) }
-    ensures place { IsPlace (atom a.now) (pointed sorted.now) result }
+    ensures place { IsFirstPlace (atom a.now) (pointed sorted.now) result }
 {
     let place = cut_of(sorted, a);
     if place == sorted.len() {

@@ -9,15 +9,15 @@ use Rattle.spi_intern.proofs.Tables.{tells_push, tells_map}
 use Rattle.spi_run.specs.Reduction.{Event, begun, ended, ended_many}
 use Rattle.spi_run.specs.View.{event}
 use Rattle.spi_run.specs.declared.step.Event as Declared
-use Rattle.spi_trace.specs.Labels.{label_of, Numbers}
+use Rattle.spi_trace.specs.Labels.{label_of, NumbersLabel}
 use Rattle.spi_trace.specs.Queue.{Queue, queue, no_begins, with_begin, next, one_taken, pays, after, IsPaidFrom}
 use Rattle.spi_trace.specs.declared.queue.Begins.{Begins}
 
 -- one more label with its number
-pub numbered_next : (old new : List Message) (ns ns' : List ℕ) (es : List Declared.Event) (i : ℕ) (x : Declared.Event) (n : ℕ) (m : Message) → KeepsAll old new → TellsAll (Numbers old) ns (map event (take i es)) → i < length es → x ≡ get_or es i x → slice_get new n ≡ Some m → m ≡ label_of (event x) → ns' ≡ ns ++ n ∷ [] → TellsAll (Numbers new) ns' (map event (take (i + 1) es))
+pub numbered_next : (old new : List Message) (ns ns' : List ℕ) (es : List Declared.Event) (i : ℕ) (x : Declared.Event) (n : ℕ) (m : Message) → KeepsAll old new → TellsAll (NumbersLabel old) ns (map event (take i es)) → i < length es → x ≡ get_or es i x → slice_get new n ≡ Some m → m ≡ label_of (event x) → ns' ≡ ns ++ n ∷ [] → TellsAll (NumbersLabel new) ns' (map event (take (i + 1) es))
 numbered_next old new ns ns' es i x n m k t l e g f h =
-    let t' : TellsAll (Numbers new) ns (map event (take i es)) = tells_map {S = Numbers old} {T = Numbers new} (λ p d s. k.at p (label_of d) s) t in
-    let u : TellsAll (Numbers new) (ns ++ n ∷ []) (map event (take i es) ++ event x ∷ []) = tells_push {S = Numbers new} t' (g ∙ ap Some f) in
+    let t' : TellsAll (NumbersLabel new) ns (map event (take i es)) = tells_map {S = NumbersLabel old} {T = NumbersLabel new} (λ p d s. k.at p (label_of d) s) t in
+    let u : TellsAll (NumbersLabel new) (ns ++ n ∷ []) (map event (take i es) ++ event x ∷ []) = tells_push {S = NumbersLabel new} t' (g ∙ ap Some f) in
     rw (h, map_take_more event es i x l e) u
 
 -- one more queue
@@ -64,8 +64,8 @@ paid_end_many m i n qs d o l g = record {
   left = λ q k. sym (set_as_it_is (map queue qs) n q k);
 }
 
-pub none_numbered : (ms : List Message) (ns : List ℕ) → ns ≡ [] → TellsAll (Numbers ms) ns []
-none_numbered ms ns e = subst (λ l. TellsAll (Numbers ms) l []) (sym e) tells_none
+pub none_numbered : (ms : List Message) (ns : List ℕ) → ns ≡ [] → TellsAll (NumbersLabel ms) ns []
+none_numbered ms ns e = subst (λ l. TellsAll (NumbersLabel ms) l []) (sym e) tells_none
 
 pub as_many : (qs : List Begins) (n : ℕ) → map queue qs ≡ replicate n no_begins → length qs ≡ n
 as_many [] zero e = refl

@@ -20,18 +20,18 @@ use Rattle.spi_trace.proofs.Seen.{and_then}
 use Rattle.spi_trace.proofs.Kept.{Kept, kept_none, kept_earliest, kept_spent, kept_begin, kept_other, kept_take, kept_take_other}
 
 -- the queue has the begins of the label
-abbrev pub Holds : List Event → List ℕ → Message → Queue → Type 0
-Holds seen taken m q = Kept seen taken m q.places q.taken
+abbrev pub HasBegins : List Event → List ℕ → Message → Queue → Type 0
+HasBegins seen taken m q = Kept seen taken m q.places q.taken
 
 -- one event: what pays for it, and how the begins are then
 record Paying (seen : List Event) (taken : List ℕ) (e : Event) (begin : Option ℕ) (q : Queue) : Type 0 where
   taken_then : List ℕ
-  own : Holds (seen ++ e ∷ []) taken_then (label_of e) q
-  other : (m : Message) (r : Queue) → m ≢ label_of e → Holds seen taken m r → Holds (seen ++ e ∷ []) taken_then m r
+  own : HasBegins (seen ++ e ∷ []) taken_then (label_of e) q
+  other : (m : Message) (r : Queue) → m ≢ label_of e → HasBegins seen taken m r → HasBegins (seen ++ e ∷ []) taken_then m r
   paired : (es : List Event) (is : List (Option ℕ)) → Pairs (seen ++ e ∷ []) taken_then es is → Pairs seen taken (e ∷ es) (begin ∷ is)
 
 -- none of the begins counts as taken
-untaken : {seen : List Event} {taken : List ℕ} {m : Message} {q : Queue} → Holds seen taken m q → Kept seen [] m q.places 0
+untaken : {seen : List Event} {taken : List ℕ} {m : Message} {q : Queue} → HasBegins seen taken m q → Kept seen [] m q.places 0
 untaken k = record {
   begins = k.begins;
   all = k.all;
@@ -47,7 +47,7 @@ none_past [] i e = omega arith
 none_past (x ∷ xs) zero e = absurd cc
 none_past (x ∷ xs) (suc i) e = let h = none_past xs i e in omega arith
 
-pay_begin : (seen : List Event) (taken : List ℕ) (m : Message) (q : Queue) → Holds seen taken m q → Paying seen taken (begun m) None (with_begin q (length seen))
+pay_begin : (seen : List Event) (taken : List ℕ) (m : Message) (q : Queue) → HasBegins seen taken m q → Paying seen taken (begun m) None (with_begin q (length seen))
 pay_begin seen taken m q k = record {
   taken_then = taken;
   own = kept_begin k;
@@ -55,7 +55,7 @@ pay_begin seen taken m q k = record {
   paired = λ es is p. pairs_begin p;
 }
 
-pay_end : (seen : List Event) (taken : List ℕ) (m : Message) (q : Queue) → Holds seen taken m q → (o : Option ℕ) → slice_get q.places q.taken ≡ o → Paying seen taken (ended m) o (one_taken o q)
+pay_end : (seen : List Event) (taken : List ℕ) (m : Message) (q : Queue) → HasBegins seen taken m q → (o : Option ℕ) → slice_get q.places q.taken ≡ o → Paying seen taken (ended m) o (one_taken o q)
 pay_end seen taken m q k (Some i) g =
     let a = get_at q.places q.taken g in
     record {
@@ -71,7 +71,7 @@ pay_end seen taken m q k None g = record {
   paired = λ es is p. pairs_unpaid (kept_spent k (none_past q.places q.taken g)) p;
 }
 
-pay_many : (seen : List Event) (taken : List ℕ) (m : Message) (q : Queue) → Holds seen taken m q → (o : Option ℕ) → slice_get q.places 0 ≡ o → Paying seen taken (ended_many m) o q
+pay_many : (seen : List Event) (taken : List ℕ) (m : Message) (q : Queue) → HasBegins seen taken m q → (o : Option ℕ) → slice_get q.places 0 ≡ o → Paying seen taken (ended_many m) o q
 pay_many seen taken m q k (Some i) g = record {
   taken_then = taken;
   own = kept_other k (ended_many m) (λ e. cc);
@@ -85,7 +85,7 @@ pay_many seen taken m q k None g = record {
   paired = λ es is p. pairs_unpaid_many (kept_spent (untaken k) (none_past q.places 0 g)) p;
 }
 
-paying : (seen : List Event) (taken : List ℕ) (e : Event) (q : Queue) → Holds seen taken (label_of e) q → Paying seen taken e (pays e q) (after e (length seen) q)
+paying : (seen : List Event) (taken : List ℕ) (e : Event) (q : Queue) → HasBegins seen taken (label_of e) q → Paying seen taken e (pays e q) (after e (length seen) q)
 paying seen taken (begun m) q k = pay_begin seen taken m q k
 paying seen taken (ended m) q k = pay_end seen taken m q k (next q) refl
 paying seen taken (ended_many m) q k = pay_many seen taken m q k (slice_get q.places 0) refl
@@ -93,7 +93,7 @@ paying seen taken (ended_many m) q k = pay_many seen taken m q k (slice_get q.pl
 -- after the first i events
 pub record Running (es : List Event) (ns : List ℕ) (i : ℕ) (qs : List Queue) (from : List (Option ℕ)) : Type 0 where
   pub taken : List ℕ
-  pub holds : (j n : ℕ) (e : Event) (q : Queue) → At es j e → At ns j n → slice_get qs n ≡ Some q → Holds (take i es) taken (label_of e) q
+  pub holds : (j n : ℕ) (e : Event) (q : Queue) → At es j e → At ns j n → slice_get qs n ≡ Some q → HasBegins (take i es) taken (label_of e) q
   pub joined : (is : List (Option ℕ)) → Pairs (take i es) taken (drop i es) is → Pairs [] [] es (from ++ is)
 
 all_empty : (n : ℕ) (i : ℕ) (x q : Queue) → slice_get (replicate n x) i ≡ Some q → q ≡ x
@@ -104,7 +104,7 @@ all_empty (suc n) (suc i) x q e = all_empty n i x q e
 pub run_none : (es : List Event) (ns : List ℕ) (n : ℕ) (qs : List Queue) (from : List (Option ℕ)) → qs ≡ replicate n no_begins → from ≡ [] → Running es ns 0 qs from
 run_none es ns n qs from f g = record {
   taken = [];
-  holds = λ j k e q a b h. subst (λ r. Holds [] [] (label_of e) r) (sym (all_empty n k no_begins q (subst (λ rs. slice_get rs k ≡ Some q) f h))) (kept_none (label_of e));
+  holds = λ j k e q a b h. subst (λ r. HasBegins [] [] (label_of e) r) (sym (all_empty n k no_begins q (subst (λ rs. slice_get rs k ≡ Some q) f h))) (kept_none (label_of e));
   joined = λ is p. subst (λ os. Pairs [] [] es (os ++ is)) (sym g) p;
 }
 
@@ -163,13 +163,13 @@ run_suc es ns bound i n e q qs from r a b g h =
       taken = p.taken_then;
       holds = λ j k d x c f y.
           let z = same_label es ns bound r j i k n d e c a f b in
-          let w : Holds (take i es ++ e ∷ []) p.taken_then (label_of d) x = ⊎_elim
+          let w : HasBegins (take i es ++ e ∷ []) p.taken_then (label_of d) x = ⊎_elim
           (λ t.
           let u = set_there qs n (after e i q) x (subst (λ l. slice_get (slice_set qs n (after e i q)) l ≡ Some x) t y) in
-          subst₂ (λ m v. Holds (take i es ++ e ∷ []) p.taken_then m v) (sym (z.0 t)) (sym u) p.own)
+          subst₂ (λ m v. HasBegins (take i es ++ e ∷ []) p.taken_then m v) (sym (z.0 t)) (sym u) p.own)
           (λ t. p.other (label_of d) x (λ v. t (z.1 v)) (h.holds j k d x c f (sym (set_elsewhere qs n k (after e i q) t) ∙ y)))
           (cases_eq k n) in
-          subst (λ xs. Holds xs p.taken_then (label_of d) x) s w;
+          subst (λ xs. HasBegins xs p.taken_then (label_of d) x) s w;
       joined = λ is t.
           let u : Pairs (take i es ++ e ∷ []) p.taken_then (drop (suc i) es) is = subst (λ xs. Pairs xs p.taken_then (drop (suc i) es) is) (take_at es i e a) t in
           let v : Pairs (take i es) h.taken (drop i es) (pays e q ∷ is) = subst (λ xs. Pairs (take i es) h.taken xs (pays e q ∷ is)) (sym (drop_at es i e a)) (p.paired (drop (suc i) es) is u) in

@@ -108,9 +108,9 @@ abbrev mutual
   AreDerivs later t.no_derivs = Unit {0}
   AreDerivs later (t.more_derivs d ds) = IsDeriv later d × AreDerivs later ds
 
-abbrev pub IsOpponent : Bool → Option t.Proc → Type 0
-IsOpponent later None = Unit {0}
-IsOpponent later (Some p) = IsProc later (at_level 0) p
+abbrev pub IsFormedOpponent : Bool → Option t.Proc → Type 0
+IsFormedOpponent later None = Unit {0}
+IsFormedOpponent later (Some p) = IsProc later (at_level 0) p
 
 abbrev pub IsDerivation : Bool → Option t.Deriv → Type 0
 IsDerivation later None = Unit {0}
@@ -124,6 +124,6 @@ pub record IsFormed (f : t.File) : Type 0 where
   pub version : (f.version ≡ 1) ⊎ (f.version ≡ 2)
   pub decls : AreDeclared (is_later f) f.decls
   pub process : IsProc (is_later f) (at_level 0) f.process
-  pub opponent : IsOpponent (is_later f) f.opponent
+  pub opponent : IsFormedOpponent (is_later f) f.opponent
   pub derivation : IsDerivation (is_later f) f.derivation
   pub words : AreWordsFit (is_later f) (tokens_of f)

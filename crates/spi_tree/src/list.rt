@@ -8,6 +8,7 @@ use spi_lex::{Kind, Mark, Reserved};
 use spi_text::Text;
 use std::alloc::Global;
 
+/// Puts a mark.
 pub fn put_mark(out: &mut Vec<Kind>, mark: Mark) -> Result<(), NoMemory>
     ensures { OnOk result (out.new.items ≡ out.old.items ++ mark_list mark) }
 {
@@ -15,6 +16,7 @@ pub fn put_mark(out: &mut Vec<Kind>, mark: Mark) -> Result<(), NoMemory>
     Ok(())
 }
 
+/// Puts a reserved word.
 pub fn put_reserved(out: &mut Vec<Kind>, word: Reserved) -> Result<(), NoMemory>
     ensures { OnOk result (out.new.items ≡ out.old.items ++ reserved_list word) }
 {
@@ -22,6 +24,7 @@ pub fn put_reserved(out: &mut Vec<Kind>, word: Reserved) -> Result<(), NoMemory>
     Ok(())
 }
 
+/// Puts a number.
 pub fn put_number(out: &mut Vec<Kind>, number: u32) -> Result<(), NoMemory>
     ensures { OnOk result (out.new.items ≡ out.old.items ++ number_list number) }
 {
@@ -29,6 +32,7 @@ pub fn put_number(out: &mut Vec<Kind>, number: u32) -> Result<(), NoMemory>
     Ok(())
 }
 
+/// Puts a word that the grammar asks for by its spelling.
 pub fn put_literal(alloc: Global, out: &mut Vec<Kind>, literal: &str) -> Result<(), NoMemory>
     ensures { OnOk result (out.new.items ≡ out.old.items ++ literal_list literal.now) }
 {
@@ -36,6 +40,7 @@ pub fn put_literal(alloc: Global, out: &mut Vec<Kind>, literal: &str) -> Result<
     Ok(())
 }
 
+/// Puts an identifier.
 pub fn put_word(alloc: Global, out: &mut Vec<Kind>, word: &SWord) -> Result<(), NoMemory>
     ensures { OnOk result (out.new.items ≡ out.old.items ++ word_list word.now) }
 {

@@ -115,6 +115,7 @@ fn put_open(
     put_mark(out, Mark::Semicolon)
 }
 
+/// Puts the tokens of a process.
 pub fn put_process(alloc: Global, out: &mut Vec<Kind>, process: &SProc) -> Result<(), NoMemory>
     ensures { OnOk result (out.new.items ≡ out.old.items ++ proc_list (proc_of process.now)) }
 {

@@ -9,6 +9,7 @@ use crate::{Last, NoMemory, SAtom, SField, SMsg, STy, SWord};
 use spi_lex::{Kind, Mark, Reserved};
 use std::alloc::Global;
 
+/// Puts the tokens of a message.
 #[cycle(messages)]
 pub fn put_message(alloc: Global, out: &mut Vec<Kind>, message: &SMsg) -> Result<(), NoMemory>
     ensures { OnOk result (out.new.items ≡ out.old.items ++ msg_list (msg_of message.now)) }
@@ -100,6 +101,7 @@ fn put_atoms(alloc: Global, out: &mut Vec<Kind>, atoms: &[SAtom]) -> Result<(), 
     Ok(())
 }
 
+/// Puts the tokens of an effect.
 pub fn put_effect(alloc: Global, out: &mut Vec<Kind>, atoms: &[SAtom]) -> Result<(), NoMemory>
     ensures { OnOk result (out.new.items ≡ out.old.items ++ effect_list (map atom_of atoms.now)) }
 {
@@ -113,6 +115,7 @@ pub fn put_effect(alloc: Global, out: &mut Vec<Kind>, atoms: &[SAtom]) -> Result
     }
 }
 
+/// Puts the tokens of a type.
 #[cycle(types)]
 pub fn put_type(alloc: Global, out: &mut Vec<Kind>, ty: &STy) -> Result<(), NoMemory>
     ensures { OnOk result (out.new.items ≡ out.old.items ++ ty_list (ty_of ty.now)) }

@@ -214,29 +214,29 @@ module _ (later : Bool) where
       ((refl, tt, g.0), λ r e. (known_inp later, shallow (nesting_of a) u, (k, refl, (tt, refl, (l, refl, (tt, refl, (known_un later, refl, (tt, refl, (tt, refl, g.1 (ends s r) e)))))))))
 
   -- a process that fits wherever so many levels are left
-  abbrev pub Fits : ℕ → t.Proc → Type 0
-  Fits k p = (b : Place) → nesting_of b + k ≤ 500 → IsFineAt b p
+  abbrev pub FitsLevels : ℕ → t.Proc → Type 0
+  FitsLevels k p = (b : Place) → nesting_of b + k ≤ 500 → IsFineAt b p
 
-  fits_done : (b : Bool) (s : Span) (f : n.Prefix) (p : t.Proc) (k : ℕ) (r0 : List Piece) → IsPrefix later f → IsFine later (prefix_pieces f r0) → Fits k p → Fits (suc (suc k)) (done b s f p)
+  fits_done : (b : Bool) (s : Span) (f : n.Prefix) (p : t.Proc) (k : ℕ) (r0 : List Piece) → IsPrefix later f → IsFine later (prefix_pieces f r0) → FitsLevels k p → FitsLevels (suc (suc k)) (done b s f p)
   fits_done true s f p k r0 i h g a u = with_prefix a s f p r0 (omega (arith, u)) i h (g (below a) (omega (arith, u)))
   fits_done false s f p k r0 i h g a u = g a (omega (arith, u))
 
-  fits_received : (b : Bool) (s : Span) (c x : SWord) (p : t.Proc) (k : ℕ) → IsKind (words_of later) (kinds.Word c.word) → IsKind (words_of later) (kinds.Word x.word) → Fits k p → Fits (suc k) (received b s c x p)
+  fits_received : (b : Bool) (s : Span) (c x : SWord) (p : t.Proc) (k : ℕ) → IsKind (words_of later) (kinds.Word c.word) → IsKind (words_of later) (kinds.Word x.word) → FitsLevels k p → FitsLevels (suc k) (received b s c x p)
   fits_received true s c x p k i j g a u = with_received a s c x p (omega (arith, u)) i j (g (below a) (omega (arith, u)))
   fits_received false s c x p k i j g a u = g a (omega (arith, u))
 
-  fits_sent : (b : Bool) (s : Span) (c : SWord) (m : t.Msg) (p : t.Proc) (k : ℕ) (r0 : List Piece) → IsKind (words_of later) (kinds.Word c.word) → IsMsg later false m → IsFine later (msg_pieces 1 m r0) → Fits k p → Fits (suc k) (sent b s c m p)
+  fits_sent : (b : Bool) (s : Span) (c : SWord) (m : t.Msg) (p : t.Proc) (k : ℕ) (r0 : List Piece) → IsKind (words_of later) (kinds.Word c.word) → IsMsg later false m → IsFine later (msg_pieces 1 m r0) → FitsLevels k p → FitsLevels (suc k) (sent b s c m p)
   fits_sent true s c m p k r0 i j h g a u = with_sent a s c m p r0 (omega (arith, u)) i j h (g (below a) (omega (arith, u)))
   fits_sent false s c m p k r0 i j h g a u = g a (omega (arith, u))
 
-  fits_part : (w : SWord) (l : n.Line) (p : t.Proc) (k : ℕ) (r0 : List Piece) → IsLine later l → IsFine later (line_pieces l r0) → Fits k p → Fits (suc (suc k)) (role_part w l p)
+  fits_part : (w : SWord) (l : n.Line) (p : t.Proc) (k : ℕ) (r0 : List Piece) → IsLine later l → IsFine later (line_pieces l r0) → FitsLevels k p → FitsLevels (suc (suc k)) (role_part w l p)
   fits_part w (n.local s who f) p k r0 i h g = fits_done (is_word who w) s f p k _ i h.2.2 g
   fits_part w (n.pass s from to c m x) p k r0 i h g =
       let behind = behind_msg m _ h.2.2.2.2.2.2 in
       fits_sent (is_word from w) s c m (received (is_word to w) s c x p) (suc k) _ h.2.2.2.2.0 i h.2.2.2.2.2.2
       (fits_received (is_word to w) s c x p k h.2.2.2.2.0 behind.2.0 g)
 
-  fits_role : (w : SWord) (ls : List n.Line) (r0 : List Piece) → AllByRecursion (IsLine later) ls → IsFine later (each_pieces line_pieces ls r0) → Fits (2 * length ls) (role_process w ls)
+  fits_role : (w : SWord) (ls : List n.Line) (r0 : List Piece) → AllByRecursion (IsLine later) ls → IsFine later (each_pieces line_pieces ls r0) → FitsLevels (2 * length ls) (role_process w ls)
   fits_role w [] r0 i h a u = (tt, λ r e. (known_stop later, shallow (nesting_of a) (omega (arith, u)), e))
   fits_role w (l ∷ ls) r0 i h a u =
       fits_part w l (role_process w ls) (2 * length ls) (each_pieces line_pieces ls r0) i.0 h
@@ -251,7 +251,7 @@ module _ (later : Bool) where
         let more = beside_at q ws (i + 1) (omega (arith, u)) in
         ((one.0, more.0), λ r e. one.1 _ (tt, refl, more.1 _ e))
 
-    pub fits_together : (ws : List SWord) → Fits (length ws + (2 + 2 * length ls)) (roles_together ls ws)
+    pub fits_together : (ws : List SWord) → FitsLevels (length ws + (2 + 2 * length ls)) (roles_together ls ws)
     fits_together [] a u = (tt, λ r e. (known_stop later, shallow (nesting_of a) (omega (arith, u)), e))
     fits_together (w ∷ []) a u = fits_role w ls r0 are fine a (omega (arith, u))
     fits_together (w ∷ q ∷ ws) a u =
@@ -265,7 +265,7 @@ module _ (later : Bool) where
   pub behind_shared : (x : Shared) (r : List Piece) → IsFine later (shared_pieces x r) → IsFine later r
   behind_shared x r h = (behind_named x.name x.ty _ h.2).2
 
-  pub fits_sharing : (xs : List Shared) (p : t.Proc) (k : ℕ) (r0 : List Piece) → AllByRecursion (IsShared later) xs → IsFine later (each_pieces shared_pieces xs r0) → Fits k p → Fits (length xs + k) (sharing xs p)
+  pub fits_sharing : (xs : List Shared) (p : t.Proc) (k : ℕ) (r0 : List Piece) → AllByRecursion (IsShared later) xs → IsFine later (each_pieces shared_pieces xs r0) → FitsLevels k p → FitsLevels (length xs + k) (sharing xs p)
   fits_sharing [] p k r0 i h g a u = g a (omega (arith, u))
   fits_sharing (x ∷ xs) p k r0 i h g a u =
       let more = fits_sharing xs p k r0 i.1 (behind_shared x _ h) g (below a) (omega (arith, u)) in

@@ -17,7 +17,7 @@ use Rattle.spi_narrate.specs.Narrations as n
 use Rattle.spi_narrate.specs.Grammar.{prefix_pieces, line_pieces, roles_pieces, HasRole, whole_narration}
 use Rattle.spi_narrate.specs.declared.fault.NarrateFault.{NarrateFault}
 use Rattle.spi_narrate.specs.declared.fault.NarrateFault.TheVariants as faults
-use Rattle.spi_narrate.specs.Faults.{Item, declares, speaks, counts, fault_of, shared_items, role_items, line_items, items_of, IsFirstFault}
+use Rattle.spi_narrate.specs.Faults.{FaultItem, declares, speaks, counts, fault_of, shared_items, role_items, line_items, items_of, IsFirstFault}
 use Rattle.spi_weave.specs.Starts.{StartBy}
 use Rattle.spi_weave.specs.Woven.{prefixed, spelled, sent, received, done, is_word, role_part, role_process, roles_beside, roles_together, sharing, last_span, woven}
 use Rattle.spi_weave.proofs.Forming.{split_same, match_same, decrypt_same, check_same, label_same, cast_same, new_same}
@@ -222,16 +222,16 @@ module _ (end : ℕ) where
   lines_of x h = behind_roles x.roles _ (behind_all_shared x.shared _ (shared_of x h))
 
   -- items, of which the first that has a fault says where it is
-  abbrev item_from : Item → ℕ
+  abbrev item_from : FaultItem → ℕ
   item_from (declares before w) = w.span.from
   item_from (speaks roles w) = w.span.from
   item_from (counts i limit all s) = s.from
 
-  abbrev AllBy : List Item → Type 0
+  abbrev AllBy : List FaultItem → Type 0
   AllBy [] = Unit {0}
   AllBy (x ∷ xs) = (item_from x ≤ end) × AllBy xs
 
-  both_by : (xs ys : List Item) → AllBy xs → AllBy ys → AllBy (xs ++ ys)
+  both_by : (xs ys : List FaultItem) → AllBy xs → AllBy ys → AllBy (xs ++ ys)
   both_by [] ys h g = g
   both_by (x ∷ xs) ys h g = (h.0, both_by xs ys h.1 g)
 
@@ -267,12 +267,12 @@ module _ (end : ℕ) where
   fault_from (faults.NarrationTooLarge s count) = s.from
   fault_from faults.NoMemory = 0
 
-  fault_by : (x : Item) → item_from x ≤ end → fault_from (fault_of x) ≤ end
+  fault_by : (x : FaultItem) → item_from x ≤ end → fault_from (fault_of x) ≤ end
   fault_by (declares before w) h = h
   fault_by (speaks roles w) h = h
   fault_by (counts i limit all s) h = h
 
-  first_by : (xs : List Item) (f : NarrateFault) → AllBy xs → IsFirstFault xs f → fault_from f ≤ end
+  first_by : (xs : List FaultItem) (f : NarrateFault) → AllBy xs → IsFirstFault xs f → fault_from f ≤ end
   first_by [] f h g = absurd g
   first_by (x ∷ xs) f h (inl g) = subst (λ (z : NarrateFault). fault_from z ≤ end) (sym g.1) (fault_by x h.0)
   first_by (x ∷ xs) f h (inr g) = first_by xs f h.1 g.1

@@ -54,6 +54,7 @@ pub struct Page {
 }
 
 impl Page {
+    /// An empty page.
     pub fn new(alloc: Global, style: Style) -> Page {
         Page {
             alloc,
@@ -63,16 +64,19 @@ impl Page {
         }
     }
 
+    /// Puts bytes on the page, or notes that memory ran out.
     pub fn put_bytes(&mut self, bytes: &[u8]) {
         if self.text.extend_from_slice(bytes).is_err() {
             self.is_lost = true;
         }
     }
 
+    /// Puts a text on the page.
     pub fn put(&mut self, text: &str) {
         self.put_bytes(text.as_bytes());
     }
 
+    /// Puts a number on the page, in decimal.
     pub fn put_number(&mut self, n: usize) {
         match format!(in self.alloc; "{n}") {
             Ok(text) => self.put(text.as_str()),
@@ -99,6 +103,7 @@ impl Page {
         self.is_lost = true;
     }
 
+    /// Whether each finding stands on a line of its own.
     pub fn is_in_lines(&self) -> bool {
         self.style.lines
     }

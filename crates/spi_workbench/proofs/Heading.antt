@@ -13,7 +13,7 @@ use Rattle.spi_scope.specs.declared.fault.ScopeFault.TheVariants.{FileTooLarge}
 use Rattle.spi_scope.specs.Scope.{Names, Abbreviations}
 use Rattle.spi_scope.specs.Points.{Point, uses_name, uses_type, declares_name, declares_type, ends_message, ends_type, adds, starts_step, fault_at, added, Points, none, one, ◌⨾◌, in_order, process_points, decls_points, file_points}
 use Rattle.spi_scope.specs.First.{count, Clean, IsClean}
-use Rattle.spi_scope.specs.Over.{AreOver}
+use Rattle.spi_scope.specs.Over.{AreAbbreviationsOver}
 use Rattle.spi_scope.specs.StandsFor.{StandsFor, Meant}
 use Rattle.spi_scope.proofs.Counting.{weight, names_weigh}
 use Rattle.spi_scope.proofs.Indexing.{all_over}
@@ -80,7 +80,7 @@ module _ (b : Bench) where
   pub names_counted : length (free_names b) + length b.shared ≤ heading_nodes b
   names_counted = omega (arith, names_weigh [] [] b.decls, weight_added (decls_points [] [] b.decls), many_shared (abbreviations_of b) (free_names b) b.shared)
 
-  pub over : AreOver (length (free_names b)) (abbreviations_of b)
+  pub over : AreAbbreviationsOver (length (free_names b)) (abbreviations_of b)
   over = all_over [] [] b.decls tt
 
   pub part_stands : (p : t.Proc) (f : Meant) → StandsFor (file_with b p) f → StandsBehind (length b.shared) f.process (part_meant b p)

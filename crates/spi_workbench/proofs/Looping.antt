@@ -8,10 +8,10 @@ use Rattle.spi_edits.specs.Edits.{Edit, Bench}
 use Rattle.spi_edits.specs.declared.text.Edit as declared
 use Rattle.spi_edits.specs.Views.{edit_of}
 use Rattle.spi_workbench.specs.Reading.{bench_after}
-use Rattle.spi_workbench.specs.Answers.{EditStands, EditsStand, IsRefused, AreVerdicts}
+use Rattle.spi_workbench.specs.Answers.{EditStands, EditsStand, IsEditRefused, AreVerdicts}
 use Rattle.spi_workbench.specs.declared.answer.Refusal.{Refusal}
 use Rattle.spi_workbench.specs.declared.judging.Work.{Work}
-use Rattle.spi_workbench.specs.Work.{IsAt, Comes, Stood, Stopped}
+use Rattle.spi_workbench.specs.Work.{IsAt, Comes, StoodEdits, StoppedEdits}
 
 head_drop : {A : Type 0} (i : ℕ) (xs : List A) (d : A) → get_or (drop i xs) 0 d ≡ get_or xs i d
 head_drop zero xs d = refl
@@ -56,25 +56,25 @@ verdict_last b before [] e (u ∷ vs) v h g = absurd h
 verdict_last b before (d ∷ es) e [] v h g = absurd h
 verdict_last b before (d ∷ es) e (u ∷ vs) v h g = (h.0, verdict_last b (before ++ d ∷ []) es e vs v h.1 (subst (λ l. IsTrue v ↔ IsYes (bench_after b (l ++ e ∷ []))) (sym (append_assoc before (d ∷ []) es)) g))
 
-pub stood_none : (b : Bench) (w : Work) → IsAt b [] w → Stood b [] w []
+pub stood_none : (b : Bench) (w : Work) → IsAt b [] w → StoodEdits b [] w []
 stood_none b w h = record { at = h; edits = tt; each = tt }
 
 module _ (b : Bench) (es : List declared.Edit) (i : ℕ) (x : declared.Edit) (lt : i < length es) (is : x ≡ get_or es i x) where
   front : map edit_of (take (i + 1) es) ≡ map edit_of (take i es) ++ edit_of x ∷ []
   front = map_take_more edit_of es i x lt is
 
-  pub stood_next : (w w' : Work) (vs : List Bool) (v : Bool) → Stood b (map edit_of (take i es)) w vs → Comes b (map edit_of (take i es)) (edit_of x) w' None → (IsTrue v ↔ IsYes w'.bench) → Stood b (map edit_of (take (i + 1) es)) w' (vs ++ v ∷ [])
+  pub stood_next : (w w' : Work) (vs : List Bool) (v : Bool) → StoodEdits b (map edit_of (take i es)) w vs → Comes b (map edit_of (take i es)) (edit_of x) w' None → (IsTrue v ↔ IsYes w'.bench) → StoodEdits b (map edit_of (take (i + 1) es)) w' (vs ++ v ∷ [])
   stood_next w w' vs v h c y =
       let before = map edit_of (take i es) in
       let g : IsTrue v ↔ IsYes (bench_after b (before ++ edit_of x ∷ [])) = subst (λ (q : Benched). IsTrue v ↔ IsYes q) c.1.bench y in
-      subst (λ l. Stood b l w' (vs ++ v ∷ [])) (sym front)
+      subst (λ l. StoodEdits b l w' (vs ++ v ∷ [])) (sym front)
       (record {
         at = c.1;
         edits = stand_last b [] before (edit_of x) h.edits c.0;
         each = verdict_last b [] before (edit_of x) vs v h.each g;
       })
 
-  pub stopped_here : (w : Work) (vs : List Bool) (r : Refusal) → Stood b (map edit_of (take i es)) w vs → IsRefused b (map edit_of (take i es)) (edit_of x) r → Stopped b (map edit_of es) r
+  pub stopped_here : (w : Work) (vs : List Bool) (r : Refusal) → StoodEdits b (map edit_of (take i es)) w vs → IsEditRefused b (map edit_of (take i es)) (edit_of x) r → StoppedEdits b (map edit_of es) r
   stopped_here w vs r h c =
       let before = map edit_of (take i es) in
       let after = map edit_of (drop (i + 1) es) in
@@ -87,8 +87,8 @@ module _ (b : Bench) (es : List declared.Edit) (i : ℕ) (x : declared.Edit) (lt
         refused = c;
       }
 
-pub stood_all : (b : Bench) (es : List declared.Edit) (i : ℕ) (w : Work) (vs : List Bool) → length es ≤ i → Stood b (map edit_of (take i es)) w vs → Stood b (map edit_of es) w vs
-stood_all b es i w vs le h = subst (λ (l : List declared.Edit). Stood b (map edit_of l) w vs) (take_all i es le) h
+pub stood_all : (b : Bench) (es : List declared.Edit) (i : ℕ) (w : Work) (vs : List Bool) → length es ≤ i → StoodEdits b (map edit_of (take i es)) w vs → StoodEdits b (map edit_of es) w vs
+stood_all b es i w vs le h = subst (λ (l : List declared.Edit). StoodEdits b (map edit_of l) w vs) (take_all i es le) h
 
 pub get_mapped : {A B : Type 0} (f : A → B) (xs : List A) (i : ℕ) (x : A) → i < length xs → x ≡ get_or xs i x → slice_get (map f xs) i ≡ Some (f x)
 get_mapped f [] i x h e = absurd (omega arith)

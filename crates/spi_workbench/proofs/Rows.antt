@@ -3,9 +3,9 @@ use Rattle.std.proofs.Common.{◌≡◌, ℕ, zero, suc, ◌+◌, ◌≤◌, Lis
 use Rattle.std.specs.Prelude.{Some, slice_get}
 use Rattle.std.specs.List.{All}
 use Rattle.std.proofs.lemmas.List.{map_push, drop_all, length-map}
-use Rattle.spi_term.specs.Term.{Recvs, Serves, Splits, Selects, Decrypts, Checks, Begins, Ends, EndManys, Casts, Makes, Cases, Pars}
+use Rattle.spi_term.specs.Term.{Recvs, Serves, Splits, Selects, Decrypts, Checks, Begins, Ends, EndManys, Casts, Freshes, Branches, Pars}
 use Rattle.spi_term.specs.Names.{ProcessOver}
-use Rattle.spi_term.specs.Spelling.{Shape, leaf_at, prefix_at, fork_at, spelled, HasSmallParts, HaveSmallParts, Spells, Spelling}
+use Rattle.spi_term.specs.Spelling.{Shape, leaf_at, prefix_at, fork_at, spelled, HasSmallParts, HaveSmallParts, SpellsProcess, Spelling}
 use Rattle.spi_term.specs.View.{shape_of, shapes_of, ty}
 use Rattle.spi_term.specs.declared.term.Node.{Node}
 use Rattle.spi_term.specs.declared.term.Ty.{Ty as TyValue}
@@ -65,9 +65,9 @@ small_earlier n (prefix_at k (Begins m) b) h = h
 small_earlier n (prefix_at k (Ends m) b) h = h
 small_earlier n (prefix_at k (EndManys m) b) h = h
 small_earlier n (prefix_at k (Casts m t) b) h = h
-small_earlier n (prefix_at k (Makes t) b) h = h
+small_earlier n (prefix_at k (Freshes t) b) h = h
 small_earlier n (fork_at k Pars a r) h = h
-small_earlier n (fork_at k (Cases m t u) a r) h = h
+small_earlier n (fork_at k (Branches m t u) a r) h = h
 
 small_all : (n : ℕ) (ss : List Shape) → HaveSmallParts ss → HaveSmallParts (map (earlier n) ss)
 small_all n [] h = tt
@@ -82,12 +82,12 @@ pub small_copies : (n : ℕ) (ss : List Shape) (ns : List Node) → map shape_of
 small_copies n ss ns e h = small_nodes ns (map (earlier n) (drop n ss)) e (small_all n (drop n ss) (small_drop n ss h))
 
 -- the nodes spell the part, and no other
-pub spells_part : (n : ℕ) (whole part : Spelling) (ns : List Node) → map shape_of ns ≡ map (earlier n) (drop n (spelled whole.names whole.process)) → StandsBehind n whole part → (k : ℕ) → k ≡ whole.names + n → Spells k part.process (shapes_of ns)
+pub spells_part : (n : ℕ) (whole part : Spelling) (ns : List Node) → map shape_of ns ≡ map (earlier n) (drop n (spelled whole.names whole.process)) → StandsBehind n whole part → (k : ℕ) → k ≡ whole.names + n → SpellsProcess k part.process (shapes_of ns)
 spells_part n whole part ns e h k f =
     let g : part.names ≡ k = h.names ∙ sym f in
-    subst (λ m. Spells m part.process (shapes_of ns)) g (h.over, sym h.nodes ∙ sym e ∙ sym (shapes_are ns))
+    subst (λ m. SpellsProcess m part.process (shapes_of ns)) g (h.over, sym h.nodes ∙ sym e ∙ sym (shapes_are ns))
 
-pub stands_there : (n : ℕ) (whole part : Spelling) (ns : List Node) → map shape_of ns ≡ map (earlier n) (drop n (spelled whole.names whole.process)) → (k : ℕ) → k ≡ whole.names + n → (part.names ≡ k) × Spells k part.process (shapes_of ns) → StandsBehind n whole part
+pub stands_there : (n : ℕ) (whole part : Spelling) (ns : List Node) → map shape_of ns ≡ map (earlier n) (drop n (spelled whole.names whole.process)) → (k : ℕ) → k ≡ whole.names + n → (part.names ≡ k) × SpellsProcess k part.process (shapes_of ns) → StandsBehind n whole part
 stands_there n whole part ns e k f h = record {
   names = h.0 ∙ f;
   over = subst (λ m. ProcessOver m part.process) (sym h.0) h.1.0;

@@ -5,13 +5,13 @@ use Rattle.std.proofs.lemmas.List.{length-map}
 use Rattle.std.proofs.lemmas.List.Elements.{All-from_recursion}
 use Rattle.spi_tree.specs.Trees as t
 use Rattle.spi_heading.specs.Headings.{Shared}
-use Rattle.spi_term.specs.Term.{Ty, process_size, Recvs, Serves, Splits, Selects, Decrypts, Checks, Begins, Ends, EndManys, Casts, Makes}
+use Rattle.spi_term.specs.Term.{Ty, process_size, Recvs, Serves, Splits, Selects, Decrypts, Checks, Begins, Ends, EndManys, Casts, Freshes}
 use Rattle.spi_term.specs.Spelling.{Shape, leaf_at, prefix_at, fork_at, Spelling, spelled, ty_nodes, HasSmallParts, HaveSmallParts}
 use Rattle.spi_term.specs.View.{ty}
 use Rattle.spi_term.specs.declared.term.Ty.{Ty as TyValue}
 use Rattle.spi_scope.specs.Scope.{Names, Abbreviations}
 use Rattle.spi_scope.specs.Meaning.{process_in}
-use Rattle.spi_scope.specs.Over.{AreOver}
+use Rattle.spi_scope.specs.Over.{AreAbbreviationsOver}
 use Rattle.spi_scope.specs.StandsFor.{StandsFor, Meant}
 use Rattle.spi_scope.proofs.Indexing.{nodes_spell}
 use Rattle.spi_bench.specs.Whole as Whole
@@ -26,7 +26,7 @@ size_behind : (k : ℕ) (ts : Abbreviations) (xs : Names) (ss : List Shared) (p 
 size_behind k ts xs [] p = omega arith
 size_behind k ts xs (s ∷ ss) p = omega (arith, size_behind k ts (s.name.word ∷ xs) ss p)
 
-types_over : (ts : Abbreviations) (xs : Names) (ss : List Shared) → AreOver (length xs) ts → Whole.AreOver (length xs) (types_in ts xs ss)
+types_over : (ts : Abbreviations) (xs : Names) (ss : List Shared) → AreAbbreviationsOver (length xs) ts → Whole.AreOver (length xs) (types_in ts xs ss)
 types_over ts xs [] o = tt
 types_over ts xs (s ∷ ss) o =
     let ys : Names = s.name.word ∷ xs in
@@ -44,7 +44,7 @@ few_made (prefix_at k (Begins m) b) h = omega arith
 few_made (prefix_at k (Ends m) b) h = omega arith
 few_made (prefix_at k (EndManys m) b) h = omega arith
 few_made (prefix_at k (Casts m t) b) h = omega arith
-few_made (prefix_at k (Makes t) b) h = h
+few_made (prefix_at k (Freshes t) b) h = h
 few_made (fork_at k f a r) h = omega arith
 
 few_types : (vs : List TyValue) (ss : List Shape) (n : ℕ) → map ty vs ≡ map type_made (take n ss) → HaveSmallParts ss → AllByRecursion (λ v. ty_nodes (ty v) ≤ 10000) vs

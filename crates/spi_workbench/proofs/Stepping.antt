@@ -15,7 +15,7 @@ use Rattle.spi_bench.specs.Parts.{Part, Benched, named, with_part, without, node
 use Rattle.spi_edits.specs.Edits.{Edit, puts, drops, Bench}
 use Rattle.spi_workbench.specs.Reading.{file_with, free_names, abbreviations_of, part_names, part_meant, shared_types, edited, parts_after, bench_after}
 use Rattle.spi_workbench.specs.Counting.{edit_nodes, part_nodes, nodes_put, bench_nodes}
-use Rattle.spi_workbench.specs.Answers.{IsRefused, too_large, unknown}
+use Rattle.spi_workbench.specs.Answers.{IsEditRefused, too_large, unknown}
 use Rattle.spi_workbench.specs.declared.answer.Refusal.TheVariants.{BenchTooLarge, UnknownPart}
 use Rattle.spi_workbench.specs.declared.judging.Work.{Work}
 use Rattle.spi_workbench.specs.Work.{IsHeaded, IsAt, Comes}
@@ -63,10 +63,10 @@ module _ (b : Bench) (before : List Edit) (w : Work) (at : IsAt b before w) wher
     nodes_next : bench_nodes b (before ++ puts s name p ∷ []) ≡ w.count + part_nodes b p
     nodes_next = omega (arith, put_last b before (puts s name p), at.count)
 
-    pub too_many : (n : ℕ) → IsClean (file_with b p) → n ≡ w.count + part_nodes b p → 100000 < n → IsRefused b before (puts s name p) (BenchTooLarge name.span n)
+    pub too_many : (n : ℕ) → IsClean (file_with b p) → n ≡ w.count + part_nodes b p → 100000 < n → IsEditRefused b before (puts s name p) (BenchTooLarge name.span n)
     too_many n clean e h =
         let f : n ≡ bench_nodes b (before ++ puts s name p ∷ []) = e ∙ sym nodes_next in
-        subst (λ k. IsRefused b before (puts s name p) (BenchTooLarge name.span k)) (sym f) (too_large clean (omega (arith, f, h)))
+        subst (λ k. IsEditRefused b before (puts s name p) (BenchTooLarge name.span k)) (sym f) (too_large clean (omega (arith, f, h)))
 
     pub put_next : (w' : Work) → IsClean (file_with b p) → IsHeaded b w'.news (file_of w'.tree) → w'.bench ≡ record w.bench { parts = with_part name.word (part_meant b p) w.bench.parts } → w'.count ≡ w.count + part_nodes b p → w'.count ≤ 100000
         → Comes b before (puts s name p) w' None
@@ -92,7 +92,7 @@ module _ (b : Bench) (before : List Edit) (w : Work) (at : IsAt b before w) wher
   room p h = omega (arith, h, at.held, at.count, size_counted b p)
 
   module _ (s : Span) (name : SWord) where
-    pub none_there : named name.word w.bench.parts ≡ None → IsRefused b before (drops s name) (UnknownPart name.span name.word)
+    pub none_there : named name.word w.bench.parts ≡ None → IsEditRefused b before (drops s name) (UnknownPart name.span name.word)
     none_there h = unknown (sym (ap (named name.word) parts_are) ∙ h)
 
     pub drop_next : (w' : Work) → IsSome (named name.word w.bench.parts) → IsHeaded b w'.news (file_of w'.tree) → w'.bench ≡ record w.bench { parts = without name.word w.bench.parts } → w'.count ≡ w.count → Comes b before (drops s name) w' None

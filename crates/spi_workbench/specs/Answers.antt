@@ -40,26 +40,26 @@ EditsStand b before [] = ⊤
 EditsStand b before (e ∷ es) = EditStands b before e × EditsStand b (before ++ e ∷ []) es
 
 -- the edit behind these is refused so
-pub data IsRefused (b : Bench) (before : List Edit) : Edit → Refusal → Type 0 where
+pub data IsEditRefused (b : Bench) (before : List Edit) : Edit → Refusal → Type 0 where
   wrong_part : {s : Span} {w : SWord} {p : t.Proc} {f : ScopeFault} → HasFirst (file_with b p) f
-      → IsRefused b before (puts s w p) (Scope f)
+      → IsEditRefused b before (puts s w p) (Scope f)
   too_large : {s : Span} {w : SWord} {p : t.Proc} → IsClean (file_with b p)
       → 100000 < bench_nodes b (before ++ puts s w p ∷ [])
-      → IsRefused b before (puts s w p) (BenchTooLarge w.span (bench_nodes b (before ++ puts s w p ∷ [])))
+      → IsEditRefused b before (puts s w p) (BenchTooLarge w.span (bench_nodes b (before ++ puts s w p ∷ [])))
   unknown : {s : Span} {w : SWord} → named w.word (parts_after b [] before) ≡ None
-      → IsRefused b before (drops s w) (UnknownPart w.span w.word)
+      → IsEditRefused b before (drops s w) (UnknownPart w.span w.word)
 
 -- the first refusal, in this order
-pub data Refuses (b : Bench) (end : ℕ) : Refusal → Type 0 where
+pub data RefusesEdits (b : Bench) (end : ℕ) : Refusal → Type 0 where
   too_many_shared : {s : Shared} → slice_get b.shared 16 ≡ Some s
-      → Refuses b end (TooManyShared s.name.span (length b.shared))
+      → RefusesEdits b end (TooManyShared s.name.span (length b.shared))
   wrong_heading : {f : ScopeFault} → length b.shared ≤ 16 → HasFirst (heading_file b end) f
-      → Refuses b end (Scope f)
+      → RefusesEdits b end (Scope f)
   too_many_edits : {e : Edit} → HeadingStands b end → slice_get b.edits 1000 ≡ Some e
-      → Refuses b end (TooManyEdits (edit_span e) (length b.edits))
+      → RefusesEdits b end (TooManyEdits (edit_span e) (length b.edits))
   wrong_edit : (before after : List Edit) {e : Edit} {r : Refusal} → HeadingStands b end
       → length b.edits ≤ 1000 → b.edits ≡ before ++ e ∷ after → EditsStand b [] before
-      → IsRefused b before e r → Refuses b end r
+      → IsEditRefused b before e r → RefusesEdits b end r
 
 -- the verdicts after each of these edits, behind those before them
 abbrev pub AreVerdicts : Bench → List Edit → List Edit → List Bool → Type 0
@@ -82,6 +82,6 @@ pub record IsJudged (b : Bench) (end : ℕ) (v : Verdicts) : Type 0 where
   pub last : IsTrue v.last ↔ IsYes (bench_after b b.edits)
 
 -- what the bench, of so many bytes, answers
-abbrev pub IsAnswer : Bench → ℕ → Answer → Type 0
-IsAnswer b end (Judged v) = IsJudged b end v
-IsAnswer b end (Refused r) = Refuses b end r
+abbrev pub IsBenchAnswer : Bench → ℕ → Answer → Type 0
+IsBenchAnswer b end (Judged v) = IsJudged b end v
+IsBenchAnswer b end (Refused r) = RefusesEdits b end r

@@ -1,6 +1,6 @@
 -- The nodes of a process that stands behind `new`s, and the types that these make. No public clause names it.
 use Rattle.std.specs.Prelude.{◌≡◌, ℕ, ◌+◌, ◌-◌, drop, map}
-use Rattle.spi_term.specs.Term.{Ty, un, Recvs, Serves, Splits, Selects, Decrypts, Checks, Begins, Ends, EndManys, Casts, Makes}
+use Rattle.spi_term.specs.Term.{Ty, un, Recvs, Serves, Splits, Selects, Decrypts, Checks, Begins, Ends, EndManys, Casts, Freshes}
 use Rattle.spi_term.specs.Names.{ProcessOver}
 use Rattle.spi_term.specs.Spelling.{Shape, leaf_at, prefix_at, fork_at, spelled, Spelling}
 
@@ -29,5 +29,5 @@ type_made (prefix_at k (Begins m) b) = un
 type_made (prefix_at k (Ends m) b) = un
 type_made (prefix_at k (EndManys m) b) = un
 type_made (prefix_at k (Casts m t) b) = un
-type_made (prefix_at k (Makes t) b) = t
+type_made (prefix_at k (Freshes t) b) = t
 type_made (fork_at k f a r) = un

@@ -11,7 +11,7 @@ ghost use Rattle.spi_workbench.specs.Reading.{file_with, heading_file, bench_aft
 ghost use Rattle.spi_term.specs.Spelling.{stopped};
 ghost use Rattle.spi_scope.specs.First.{IsClean};
 ghost use Rattle.spi_workbench.specs.Counting.{heading_nodes};
-ghost use Rattle.spi_workbench.specs.Answers.{edit_span, IsAnswer, Refuses};
+ghost use Rattle.spi_workbench.specs.Answers.{edit_span, IsBenchAnswer, RefusesEdits};
 ghost use Rattle.spi_workbench.specs.Work.{IsAt, StartsEdits};
 
 use crate::NoMemory;
@@ -77,7 +77,7 @@ pub fn start(
     requires count { count ≡ stopped (heading_nodes (bench_of text.old)) }
     ensures ok { IfOk result (λ r. IfOk r (λ w. IsAt (bench_of text.old) [] w
         × IsClean (heading_file (bench_of text.old) end))) }
-    ensures err { IfOk result (λ r. IfErr r (λ e. Refuses (bench_of text.old) end e)) }
+    ensures err { IfOk result (λ r. IfErr r (λ e. RefusesEdits (bench_of text.old) end e)) }
     ensures edits { text.new.edits ≡ text.old.edits }
 {
     let news = text.shared.len() as u32;
@@ -119,7 +119,7 @@ fn judge_edits_over<L: Ledger>(
     requires some { 0 < blank.parts }
     requires starts { (b : Written) × (end : ℕ) × StartsEdits b end work text counted }
     ensures { IfOk result (λ a. (b : Written) (end : ℕ) → StartsEdits b end work text counted
-        → IsAnswer b end a) }
+        → IsBenchAnswer b end a) }
 {
     if text.edits.len() > 1000 {
         return Ok(Answer::Refused(Refusal::TooManyEdits {
@@ -147,7 +147,7 @@ fn judge_edits_over<L: Ledger>(
 /// refusal. Want of memory is the one fault. Each part is read behind the declarations and the shared names,
 /// whose nodes are visited again for it. No edit visits the parts that are kept.
 pub fn judge_edits(alloc: Global, mut text: BenchText, end: u32) -> Result<Answer, NoMemory>
-    ensures { IfOk result (IsAnswer (bench_of text) end) }
+    ensures { IfOk result (IsBenchAnswer (bench_of text) end) }
 {
     if text.shared.len() > 16 {
         return Ok(Answer::Refused(Refusal::TooManyShared {

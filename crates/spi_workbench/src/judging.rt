@@ -12,7 +12,7 @@ ghost use Rattle.spi_edits.specs.Edits.{Edit as Written, Bench as Written_bench,
 ghost use Rattle.spi_edits.specs.Views.{edit_of};
 ghost use Rattle.spi_workbench.specs.Reading.{file_with, part_meant};
 ghost use Rattle.spi_workbench.specs.Counting.{part_nodes, edit_nodes};
-ghost use Rattle.spi_workbench.specs.Work.{IsHeaded, IsAt, Comes, Starts, Stood, Stopped};
+ghost use Rattle.spi_workbench.specs.Work.{IsHeaded, IsAt, Comes, WorkStarts, StoodEdits, StoppedEdits};
 
 use crate::NoMemory;
 use crate::answer::Refusal;
@@ -165,14 +165,14 @@ pub fn judge_all<L: Ledger>(
     nodes: &[u64],
     steps: &mut Steps<L>,
 ) -> Result<Result<Vec<bool>, Refusal>, NoMemory>
-    requires { (b : Written_bench) × Starts b work.old edits.old nodes.now }
+    requires { (b : Written_bench) × WorkStarts b work.old edits.old nodes.now }
     ensures ok { IfOk result
-        (λ r. IfOk r (λ vs. (b : Written_bench) → Starts b work.old edits.old nodes.now
-        → Stood b (map edit_of edits.old) work.new vs.items)) }
+        (λ r. IfOk r (λ vs. (b : Written_bench) → WorkStarts b work.old edits.old nodes.now
+        → StoodEdits b (map edit_of edits.old) work.new vs.items)) }
     ensures err { IfOk result
         (λ r. IfErr r
-        (λ e. (b : Written_bench) → Starts b work.old edits.old nodes.now
-        → Stopped b (map edit_of edits.old) e)) }
+        (λ e. (b : Written_bench) → WorkStarts b work.old edits.old nodes.now
+        → StoppedEdits b (map edit_of edits.old) e)) }
 {
     let mut verdicts = Vec::new(alloc);
     for i in 0..edits.len() {

@@ -25,6 +25,7 @@ fn one_over(first: u64, second: u64) -> u64
     first.saturating_add(second).saturating_add(1)
 }
 
+/// How many nodes the message has. The count stops at the greatest `u64`.
 #[cycle(messages)]
 pub fn message_nodes(m: &SMsg) -> u64
     ensures { result ≡ stopped (msg_size (msg_of m.now)) }
@@ -91,6 +92,7 @@ fn abbreviation_nodes(sizes: &Sizes, word: &SWord) -> u64
     }
 }
 
+/// How many nodes the type has, with its abbreviations expanded. The count stops at the greatest `u64`.
 #[cycle(types)]
 pub fn type_nodes(sizes: &Sizes, t: &STy) -> u64
     ensures { result ≡ stopped (ty_size (nodes_in sizes.now) (ty_of t.now)) }
@@ -143,6 +145,7 @@ fn typed_nodes(sizes: &Sizes, m: &SMsg, t: &STy) -> u64
     one_over(message_nodes(m), type_nodes(sizes, t))
 }
 
+/// How many nodes the process has, with the abbreviations expanded. The count stops at the greatest `u64`.
 pub fn process_nodes(sizes: &Sizes, p: &SProc) -> u64
     ensures { result ≡ stopped (proc_size (nodes_in sizes.now) (proc_of p.now)) }
 {

@@ -1,9 +1,9 @@
 use Rattle.spi_count.specs.Sums.{keys_in}
-use Rattle.spi_audit.proofs.Within.{IsTaken}
+use Rattle.spi_audit.proofs.Within.{IsTakenOut}
 use Rattle.spi_audit.proofs.accounts.is_sum_within.Given as goal
 
 abbrev pub invariant-loop-kind : goal.invariant-loop-kind
-invariant-loop-kind l = IsTaken l.fn.a l.b l.rest
+invariant-loop-kind l = IsTakenOut l.fn.a l.b l.rest
 
 abbrev pub decreases-loop-kind : goal.decreases-loop-kind
 decreases-loop-kind l = keys_in l.rest

@@ -1,6 +1,6 @@
 use Rattle.std.proofs.Common.{ap}
 use Rattle.spi_term.specs.View.{message, ty, form_of, shape_of}
-use Rattle.spi_term.specs.Term.{Sends, Stops, Recvs, Serves, Splits, Selects, Decrypts, Checks, Begins, Ends, EndManys, Casts, Makes, Cases, Pars}
+use Rattle.spi_term.specs.Term.{Sends, Stops, Recvs, Serves, Splits, Selects, Decrypts, Checks, Begins, Ends, EndManys, Casts, Freshes, Branches, Pars}
 use Rattle.spi_audit.proofs.FormChildren.{leaf_answers, prefix_answers, fork_answers, leaf_answer, fork_answer}
 use Rattle.spi_audit.proofs.forms.node_premises.Goals as goal
 
@@ -26,7 +26,7 @@ returns-in-Select-clause-answer c =
 
 pub returns-in-Branch-clause-answer : goal.returns-in-Branch-clause-answer
 returns-in-Branch-clause-answer c =
-    fork_answers c.args.judge.now c.of_branch.new.judge c.args.rule c.args.node.now.scope (Cases (message c.in-Branch.whole) (ty c.in-Branch.left) (ty c.in-Branch.right)) c.in-Branch.on_left c.in-Branch.on_right (shape_of c.args.node.now) c.of_branch.result (ap (form_of c.args.node.now.scope) c.in-Branch.is) c.of_branch.ensures.answer
+    fork_answers c.args.judge.now c.of_branch.new.judge c.args.rule c.args.node.now.scope (Branches (message c.in-Branch.whole) (ty c.in-Branch.left) (ty c.in-Branch.right)) c.in-Branch.on_left c.in-Branch.on_right (shape_of c.args.node.now) c.of_branch.result (ap (form_of c.args.node.now.scope) c.in-Branch.is) c.of_branch.ensures.answer
 
 pub returns-in-Decrypt-clause-answer : goal.returns-in-Decrypt-clause-answer
 returns-in-Decrypt-clause-answer c =
@@ -54,7 +54,7 @@ returns-in-Cast-clause-answer c =
 
 pub returns-in-Fresh-clause-answer : goal.returns-in-Fresh-clause-answer
 returns-in-Fresh-clause-answer c =
-    prefix_answers c.args.judge.now c.of_fresh.new.judge c.args.rule c.args.node.now.scope (Makes (ty c.in-Fresh.ty)) c.in-Fresh.body (shape_of c.args.node.now) c.of_fresh.result (ap (form_of c.args.node.now.scope) c.in-Fresh.is) c.of_fresh.ensures.answer
+    prefix_answers c.args.judge.now c.of_fresh.new.judge c.args.rule c.args.node.now.scope (Freshes (ty c.in-Fresh.ty)) c.in-Fresh.body (shape_of c.args.node.now) c.of_fresh.result (ap (form_of c.args.node.now.scope) c.in-Fresh.is) c.of_fresh.ensures.answer
 
 pub returns-in-Par-clause-answer : goal.returns-in-Par-clause-answer
 returns-in-Par-clause-answer c = fork_answer c.args.judge.now c.args.judge.now c.args.rule c.args.node.now.scope Pars c.in-Par.first c.in-Par.rest (shape_of c.args.node.now) c.of_par.result (ap (form_of c.args.node.now.scope) c.in-Par.is) c.of_par.ensures

@@ -9,7 +9,7 @@ use Rattle.spi_audit.specs.declared.asked.Binding.TheVariants.{Nothing}
 use Rattle.spi_audit.specs.declared.notes.Note.{Note}
 use Rattle.spi_audit.specs.Fits.{Subject, of_process}
 use Rattle.spi_audit.specs.Notes.{AreSmallNotes, IsSmallNote}
-use Rattle.spi_audit.specs.Walking.{IsState, Misfits, Steps}
+use Rattle.spi_audit.specs.Walking.{IsWalkState, Misfits, Steps}
 use Rattle.spi_audit.proofs.WalkSteps.{led_start, small_push, drop_at, take_at, at_use, at_state, at_misfit, at_fit, led_all}
 use Rattle.spi_audit.proofs.walking.walk_uses.Goals as goal
 
@@ -39,14 +39,14 @@ returns-in-None-clause-walked c =
     let ss = spelled c.args.process.now.names c.args.process.now.process in
     let below : c.loop-i.i < length us = omega (arith, c.loop-i-test.true, c.len-i-end.ensures, c.args.d.now.uses.ok.0) in
     at_misfit c.loop-i.judge c.loop-i.keys ss (of_process (untrusted c.args.process.now.names) c.args.process.now.process) (rule_uses c.args.d.now) c.loop-i.i c.loop-i.asked.items c.loop-i.notes.items c.loop-i.invariant.led (rule_use c.index-u.result.now) (drop_at rule_use us c.loop-i.i c.index-u.result.now c.index-u.ensures below) (omega (arith, below, length-map us rule_use))
-    (subst (λ (r : Option Note). IfNone r ((ts : List Subject) → IsState c.loop-i.judge ss c.loop-i.asked.items ts → Misfits (rule_use c.index-u.result.now) ts)) c.in-None.is c.in_ok-note.ensures.misfit)
+    (subst (λ (r : Option Note). IfNone r ((ts : List Subject) → IsWalkState c.loop-i.judge ss c.loop-i.asked.items ts → Misfits (rule_use c.index-u.result.now) ts)) c.in-None.is c.in_ok-note.ensures.misfit)
 
 pub loop-i-preserved : goal.loop-i-preserved
 loop-i-preserved c =
     let us = c.args.d.now.uses.items in
     let ss = spelled c.args.process.now.names c.args.process.now.process in
     let below : c.loop-i.i < length us = omega (arith, c.loop-i-test.true, c.len-i-end.ensures, c.args.d.now.uses.ok.0) in
-    let fit = subst (λ (r : Option Note). IfSome r (λ o. (ts : List Subject) → IsState c.loop-i.judge ss c.loop-i.asked.items ts → Steps c.step.new.judge c.step.new.keys ss (rule_use c.index-u.result.now) c.step.new.asked.items ts o)) c.in-Some.is c.in_ok-note.ensures.fit in
+    let fit = subst (λ (r : Option Note). IfSome r (λ o. (ts : List Subject) → IsWalkState c.loop-i.judge ss c.loop-i.asked.items ts → Steps c.step.new.judge c.step.new.keys ss (rule_use c.index-u.result.now) c.step.new.asked.items ts o)) c.in-Some.is c.in_ok-note.ensures.fit in
     let small = subst (λ (r : Option Note). IfSome r IsSmallNote) c.in-Some.is c.in_ok-note.ensures.small in
     record {
       led = at_fit c.loop-i.judge c.loop-i.keys ss (of_process (untrusted c.args.process.now.names) c.args.process.now.process) (rule_uses c.args.d.now) c.loop-i.i c.loop-i.asked.items c.loop-i.notes.items c.loop-i.invariant.led (rule_use c.index-u.result.now) (drop_at rule_use us c.loop-i.i c.index-u.result.now c.index-u.ensures below)

@@ -2,7 +2,7 @@ use Rattle.std.proofs.Common.{◌≡◌, ◌∙◌, sym, subst, map, true, true�
 use Rattle.std.specs.Prelude.{IfSome, string_bytes}
 use Rattle.clap.specs.Words.{app_of, kind_of, rows_of, found_of, matches_of, subcommand_rows_of}
 use Rattle.clap.specs.declared.error.kind.ErrorKind.TheVariants.{OutOfMemory}
-use Rattle.spi_commands.specs.Asked.{IsWithin}
+use Rattle.spi_commands.specs.Asked.{AreNumbersKnown}
 use Rattle.spi_commands.proofs.WordsTables.{asked_within}
 use Rattle.spi_commands.proofs.WordsDashes.{dashes_ask_nothing}
 use Rattle.spi_commands.proofs.WordsFound.{fault_asks_nothing, found_is_asked, same_kind}
@@ -17,7 +17,7 @@ returns-in-Ok-clause-value c = found_is_asked (app_of c.in_ok-form.form) (map st
     c.in_ok-form.ensures (sym c.has_dashes_in.ensures ∙ c.if-has_dashes_in.false) c.in-Ok.ensures.kinds c.in-Ok.ensures.matches c.read_from.ensures
 
 pub returns-in-Ok-clause-within : goal.returns-in-Ok-clause-within
-returns-in-Ok-clause-within c = subst (λ o. IfSome o (IsWithin c.args.players)) (sym (returns-in-Ok-clause-value c)) (asked_within (map string_bytes c.args.words.now) c.args.players)
+returns-in-Ok-clause-within c = subst (λ o. IfSome o (AreNumbersKnown c.args.players)) (sym (returns-in-Ok-clause-value c)) (asked_within (map string_bytes c.args.words.now) c.args.players)
 
 pub returns-in-Err-2-clause-value : goal.returns-in-Err-2-clause-value
 returns-in-Err-2-clause-value c =

@@ -4,7 +4,7 @@ use Rattle.spi_horn.specs.declared.rules.Why.TheVariants.{ByRule}
 use Rattle.spi_horn.specs.declared.rules.Why.{Why}
 use Rattle.spi_horn.specs.declared.tracing.Ground.TheVariants as G
 use Rattle.spi_horn.specs.Needs.{SaysWhy}
-use Rattle.spi_horn.specs.Leading.{StandsAt}
+use Rattle.spi_horn.specs.Leading.{IsPlacedAt}
 use Rattle.spi_horn.proofs.Spreading.{rule_read}
 use Rattle.spi_horn.proofs.tracing.ground_of.Goals as goal
 
@@ -21,6 +21,6 @@ returns-in-ByRule c =
       c.line_of-first.result,
       c.line_of-second.result,
       refl,
-      λ r s e st. let p : Some r ≡ Some rule = sym e ∙ f in let q : r ≡ rule = cc in c.line_of-first.ensures s (subst (λ x. StandsAt c.args.closure.now.places.items x.first s) q st),
-      λ r s e st. let p : Some r ≡ Some rule = sym e ∙ f in let q : r ≡ rule = cc in c.line_of-second.ensures s (subst (λ x. StandsAt c.args.closure.now.places.items x.second s) q st),
+      λ r s e st. let p : Some r ≡ Some rule = sym e ∙ f in let q : r ≡ rule = cc in c.line_of-first.ensures s (subst (λ x. IsPlacedAt c.args.closure.now.places.items x.first s) q st),
+      λ r s e st. let p : Some r ≡ Some rule = sym e ∙ f in let q : r ≡ rule = cc in c.line_of-second.ensures s (subst (λ x. IsPlacedAt c.args.closure.now.places.items x.second s) q st),
     )

@@ -3,7 +3,7 @@ use Rattle.spi_intern.specs.Meaning.{Keeps}
 use Rattle.spi_intern.specs.declared.store.Store.{Store}
 use Rattle.spi_intern.proofs.Meanings.{means_keeps}
 use Rattle.spi_infer.specs.Passes.{Wait}
-use Rattle.spi_infer.specs.Waiting.{Queued, IsDue, IsNotDue, Reaches}
+use Rattle.spi_infer.specs.Waiting.{Queued, IsDue, IsNotDue, ReachesUpTo}
 use Rattle.spi_message.proofs.Tested.{kept_same}
 use Rattle.spi_count.proofs.Kept.{on_ok}
 use Rattle.spi_infer.proofs.Queues.{none_of, some_of, calm, taken, calm_queued, due_queued}
@@ -42,7 +42,7 @@ pub cut_to-requires-in-Some : goal.cut_to-requires-in-Some
 cut_to-requires-in-Some c =
     let f = some_of c.in_ok-due.field-0 c.in-Some.ty (IsDue c.args.id c.args.pending.now.items c.due.new.pending.items) c.in-Some.is c.in_ok-due.ensures.some in
     let w = taken f c.requires.low.queued in
-    omega (arith, reaches_due c.args.judge.now.free c.args.id c.args.scope w.type w.rest (subst (Reaches c.args.judge.now.free c.args.id c.args.scope) w.waits c.requires.low.reaches), c.saturating_sub-outer.ensures)
+    omega (arith, reaches_due c.args.judge.now.free c.args.id c.args.scope w.type w.rest (subst (ReachesUpTo c.args.judge.now.free c.args.id c.args.scope) w.waits c.requires.low.reaches), c.saturating_sub-outer.ensures)
 
 pub bind-requires-clause-room : goal.bind-requires-clause-room
 bind-requires-clause-room c =
@@ -78,6 +78,6 @@ pub returns-in-Some-clause-above : goal.returns-in-Some-clause-above
 returns-in-Some-clause-above c first a r =
     let f = some_of c.in_ok-due.field-0 c.in-Some.ty (IsDue c.args.id c.args.pending.now.items c.due.new.pending.items) c.in-Some.is c.in_ok-due.ensures.some in
     let w = taken f r.queued in
-    let b : length first.types ≤ c.args.scope - 1 = reaches_due (length first.types) c.args.id c.args.scope w.type w.rest (subst (Reaches (length first.types) c.args.id c.args.scope) w.waits r.reaches) in
+    let b : length first.types ≤ c.args.scope - 1 = reaches_due (length first.types) c.args.id c.args.scope w.type w.rest (subst (ReachesUpTo (length first.types) c.args.id c.args.scope) w.waits r.reaches) in
     let l : length first.types ≤ c.saturating_sub-outer.result = omega (arith, b, c.saturating_sub-outer.ensures) in
     above_more {a = first} {b = c.cut_to-in-Some.new.judge} {c = c.bind.new.self} (above_cut first c.args.judge.now c.cut_to-in-Some.new.judge c.saturating_sub-outer.result a l c.cut_to-in-Some.ensures.types c.cut_to-in-Some.ensures.store c.cut_to-in-Some.ensures.free) (above_bind c.cut_to-in-Some.new.judge c.bind.new.self c.in-Some.ty c.bind.ensures.store c.bind.ensures.free c.bind.result c.bind.ensures.ok c.bind.ensures.err)

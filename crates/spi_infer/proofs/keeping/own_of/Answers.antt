@@ -25,7 +25,7 @@ returns-in-Cast-clause-fits c =
 
 pub returns-in-Fresh-clause-fits : goal.returns-in-Fresh-clause-fits
 returns-in-Fresh-clause-fits c =
-    fits_at c.args.judge.now c.new_own.new.judge c.new_own.new.keys (shape_of c.args.node.now) (ap (form_of c.args.node.now.scope) c.in-Fresh.is) c.new_own.result c.new_own.ensures.fits (λ own f e s. f)
+    fits_at c.args.judge.now c.fresh_own.new.judge c.fresh_own.new.keys (shape_of c.args.node.now) (ap (form_of c.args.node.now.scope) c.in-Fresh.is) c.fresh_own.result c.fresh_own.ensures.fits (λ own f e s. f)
 
 pub returns-in_default-clause-fits : goal.returns-in_default-clause-fits
 returns-in_default-clause-fits c =

@@ -1,7 +1,7 @@
 use Rattle.std.proofs.Common.{sym, subst, ℕ, List, length, arith}
 use Rattle.spi_horn.specs.declared.tracing.Line.{Line}
 use Rattle.spi_intern.proofs.Lists.{below_get}
-use Rattle.spi_know.specs.Spelled.{AreSmall, AreLines}
+use Rattle.spi_know.specs.Spelled.{CanBeSpelled, AreLines}
 use Rattle.spi_know.proofs.Certified.{small_lines, certifies, all_used}
 use Rattle.spi_know.proofs.deciding.certify.Goals as goal
 
@@ -14,7 +14,7 @@ spell-requires c =
     let within = c.requires.within in
     let short = c.requires.few in
     let small = small_lines _ _ _ start _ _ x.number c.requires.clauses sw proof (omega (arith, few, within, short)) in
-    subst (λ (ls : List Line). AreSmall (length c.args.store.now.messages) c.args.ways.now ls) (sym c.deref.ensures.value) small
+    subst (λ (ls : List Line). CanBeSpelled (length c.args.store.now.messages) c.args.ways.now ls) (sym c.deref.ensures.value) small
 
 pub returns : goal.returns
 returns c = λ start from target m o st len at n.

@@ -1,6 +1,6 @@
 use Rattle.std.proofs.Common.{sym, ap, subst, ◌∙◌, ◌-◌, ℕ, List, slice_get, length, map, arith}
 use Rattle.spi_term.specs.View.{message}
-use Rattle.spi_know.specs.Numbered.{Starts}
+use Rattle.spi_know.specs.Numbered.{StartsWith}
 use Rattle.spi_horn.specs.Leading.{StartsWithin}
 use Rattle.spi_know.proofs.Starting.{starts_kept, starts_within, length_from, length_nodes}
 use Rattle.spi_know.proofs.deciding.decide.Goals as goal
@@ -30,5 +30,5 @@ returns c =
     let ms = c.message.new.self.messages in
     let from = map message c.args.sent.now in
     let starts = starts_kept _ ms from _ c.in_ok-id.ensures.kept.messages c.in_ok-start.ensures.starts in
-    c.in_ok-knowledge.ensures from _ (subst (λ (ns : List ℕ). Starts ms from ns) (sym c.deref.ensures.value) starts)
+    c.in_ok-knowledge.ensures from _ (subst (λ (ns : List ℕ). StartsWith ms from ns) (sym c.deref.ensures.value) starts)
     (length_from c.args.sent.now) (ap (slice_get ms) c.place.ensures ∙ c.in_ok-id.ensures.at)

@@ -1,13 +1,13 @@
 use Rattle.std.proofs.Common.{◌≡◌, sym, ap, subst, ◌∙◌, ℕ, Option, Some, None}
 use Rattle.std.proofs.lemmas.Option.{slice_get_within}
-use Rattle.spi_horn.specs.Leading.{IsWithin, StartsWithin}
+use Rattle.spi_horn.specs.Leading.{SpeaksBelow, StartsWithin}
 use Rattle.spi_know.proofs.Clausal.{clauses_within}
 use Rattle.spi_know.proofs.Saturated.{unknown}
 use Rattle.spi_know.proofs.Certs.{cert_known, read_below}
 use Rattle.spi_know.proofs.deciding.decide_by.Goals as goal
 
 pub close-requires-clause-rules : goal.close-requires-clause-rules
-close-requires-clause-rules c = subst (λ n. IsWithin n c.args.rules.now) (sym c.message_count-count.ensures.count) (clauses_within _ _ _ _ c.requires.clauses)
+close-requires-clause-rules c = subst (λ n. SpeaksBelow n c.args.rules.now) (sym c.message_count-count.ensures.count) (clauses_within _ _ _ _ c.requires.clauses)
 
 pub close-requires-clause-start : goal.close-requires-clause-start
 close-requires-clause-start c = subst (λ n. StartsWithin n c.args.start.now) (sym c.message_count-count.ensures.count) c.requires.start

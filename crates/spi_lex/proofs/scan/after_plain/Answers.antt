@@ -1,7 +1,7 @@
 use Rattle.std.proofs.Common.{ℕ, drop, ap, sym, subst, ◌∙◌}
 use Rattle.std.specs.List.{prefix_len}
 use Rattle.std.specs.Str.{IsCharBoundary}
-use Rattle.spi_lex.specs.Front.{is_plain, StopsPlain, Passes}
+use Rattle.spi_lex.specs.Front.{is_plain, StopsPlain, PassesNameCharacters}
 use Rattle.spi_lex.proofs.Plain.{plain_passes, plain_stops, plain_cut}
 use Rattle.spi_lex.proofs.scan.after_plain.Goals as goal
 
@@ -19,5 +19,5 @@ returns-clause-stops c =
 pub returns-clause-passes : goal.returns-clause-passes
 returns-clause-passes c =
     let len = c.plain_len.ensures.value ∙ ap (prefix_len is_plain) c.as_bytes.ensures.value in
-    subst (Passes c.args.text.now) (sym c.split_at.ensures.back)
-    (subst (λ (n : ℕ). Passes c.args.text.now (drop n c.args.text.now)) (sym len) (plain_passes c.args.text.now))
+    subst (PassesNameCharacters c.args.text.now) (sym c.split_at.ensures.back)
+    (subst (λ (n : ℕ). PassesNameCharacters c.args.text.now (drop n c.args.text.now)) (sym len) (plain_passes c.args.text.now))

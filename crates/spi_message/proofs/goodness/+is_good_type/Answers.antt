@@ -1,6 +1,6 @@
 use Rattle.std.proofs.Common.{◌≡◌, arith, ap, sym, subst, ◌∙◌, ◌++◌, ◌∷◌, [], Some, length}
 use Rattle.spi_term.specs.Term.{name}
-use Rattle.spi_message.specs.Filling.{AreBelow, FillsTy}
+use Rattle.spi_message.specs.Filling.{AreIdsBelow, FillsTy}
 use Rattle.spi_intern.specs.Messages.{says_name}
 use Rattle.spi_intern.specs.Growing.{Adds, over_messages}
 use Rattle.spi_message.specs.Added.{TypeIsAdded}
@@ -28,7 +28,7 @@ filled_type-requires-clause-ty t c = given_keeps c.in_ok-name-in-Pair.ensures.ke
 
 pub filled_type-requires-clause-values : goal.filled_type-requires-clause-values
 filled_type-requires-clause-values t c =
-    subst (λ us. AreBelow us (length c.message_over.new.self.messages)) (sym (c.deref.ensures.value ∙ c.in_ok-is_good_type-in-Pair.ensures.values)) (all_below_keeps c.in_ok-name-in-Pair.ensures.kept.messages (all_below_keeps c.in_ok-is_good_type-in-Pair.ensures.kept.messages c.requires.values))
+    subst (λ us. AreIdsBelow us (length c.message_over.new.self.messages)) (sym (c.deref.ensures.value ∙ c.in_ok-is_good_type-in-Pair.ensures.values)) (all_below_keeps c.in_ok-name-in-Pair.ensures.kept.messages (all_below_keeps c.in_ok-is_good_type-in-Pair.ensures.kept.messages c.requires.values))
 
 pub is_good_type-answer-requires : goal.is_good_type-answer-requires
 is_good_type-answer-requires t c =

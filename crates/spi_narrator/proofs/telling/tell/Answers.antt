@@ -2,13 +2,13 @@ use Rattle.std.proofs.Common.{true≢false, sym, ◌∙◌, subst}
 use Rattle.spi_narrate.specs.Views.{narration_of}
 use Rattle.spi_honest.specs.Narrated.{free_of}
 use Rattle.spi_narrator.specs.declared.answer.Refusal.TheVariants.{NotFree}
-use Rattle.spi_narrator.specs.Answers.{Refuses, not_free}
+use Rattle.spi_narrator.specs.Answers.{RefusesNarration, not_free}
 use Rattle.spi_narrator.proofs.Told.{scope_fault}
 use Rattle.spi_narrator.proofs.telling.tell.Goals as goal
 
 pub returns-in-Some : goal.returns-in-Some
 returns-in-Some c =
-    subst (λ w. Refuses (narration_of c.args.n.now) (NotFree c.in-Some.word.now.span w)) (sym (c.in_ok-of.ensures ∙ c.as_str.ensures))
+    subst (λ w. RefusesNarration (narration_of c.args.n.now) (NotFree c.in-Some.word.now.span w)) (sym (c.in_ok-of.ensures ∙ c.as_str.ensures))
     (not_free (rw c.deref-2.ensures.value at (c.in-Some.ensures (free_of (narration_of c.args.n.now)) (rw c.deref.ensures.value at c.in_ok-names.ensures))))
 
 pub returns : goal.returns

@@ -6,7 +6,7 @@ use Rattle.spi_rules.specs.Environment.{Env}
 use Rattle.spi_infer.specs.Accounts.{IsNoted, Tops}
 use Rattle.spi_infer.specs.Passes.{act, run, scan}
 use Rattle.spi_infer.proofs.Walked.{noted_length, note_here, note_given, before, acted, starts}
-use Rattle.spi_origin.specs.Gathering.{aim_of, at_top, with_node, joined, gather, Marked}
+use Rattle.spi_origin.specs.Gathering.{aim_of, at_top, with_node, joined, gather, MarkedStacks}
 use Rattle.spi_origin.proofs.Gathered.{gathers_to}
 use Rattle.spi_origin.proofs.Stepping.{stepped, starts_marked}
 use Rattle.spi_origin.proofs.gathering.gathered_from.Goals as goal
@@ -67,8 +67,8 @@ loop-id-preserved c =
           let stuck = c.in_ok-stuck.ensures.stuck (n env h) (st env) (b env h) in
           let kept = c.is_kept-kept.ensures s noted.keys (act x (n env h) (st env)) c.requires.key (subst (λ l. Tops s noted.keys l (act x (n env h) (st env))) (sym c.deref.ensures.value) tops) in
           let two = c.in_ok-join.ensures c.loop-id.found.items (ls env) (sym (c.len.ensures ∙ c.loop-id.found.ok.0)) (c.loop-id.invariant.found_is env h) in
-          let added = c.in_ok-add_node.ensures (joined x (ls env)) (subst (λ l. Marked l c.loop-id.found.items (joined x (ls env))) (sym c.deref-in-loop-id.ensures.value) two) in
-          stepped s noted k p env h i x c.node-node.ensures o c.index-note.ensures c.distinct.ensures.differ c.len-id.ensures.over c.loop-id.id z (aim_of c.args.aim.now) c.is_kept-kept.result c.is_picked-picked.result c.join.new.marks.items c.add_node.new.found.items kept (λ e. c.is_picked-picked.ensures s noted.keys (n env h) (st env) (b env h).noted stuck (sym kept ∙ e)) (subst (λ l. Marked l c.add_node.new.found.items (at_top (with_node c.is_kept-kept.result c.is_picked-picked.result i) (joined x (ls env)))) c.deref-in-loop-id.ensures.value added);
+          let added = c.in_ok-add_node.ensures (joined x (ls env)) (subst (λ l. MarkedStacks l c.loop-id.found.items (joined x (ls env))) (sym c.deref-in-loop-id.ensures.value) two) in
+          stepped s noted k p env h i x c.node-node.ensures o c.index-note.ensures c.distinct.ensures.differ c.len-id.ensures.over c.loop-id.id z (aim_of c.args.aim.now) c.is_kept-kept.result c.is_picked-picked.result c.join.new.marks.items c.add_node.new.found.items kept (λ e. c.is_picked-picked.ensures s noted.keys (n env h) (st env) (b env h).noted stuck (sym kept ∙ e)) (subst (λ l. MarkedStacks l c.add_node.new.found.items (at_top (with_node c.is_kept-kept.result c.is_picked-picked.result i) (joined x (ls env)))) c.deref-in-loop-id.ensures.value added);
     }
 
 pub returns : goal.returns
@@ -77,5 +77,5 @@ returns c env e q h n =
     let z : c.loop-id.id ≡ c.args.from = at_from c.loop-id.invariant.within c.loop-id-test.false in
     let ss = spelled c.args.process.now.names c.args.process.now.process in
     let ns = scan 0 env [] ss in
-    let m = subst (λ l. Marked l c.loop-id.found.items (gather (aim_of c.args.aim.now) c.loop-id.id (drop c.loop-id.id ss) (drop c.loop-id.id ns))) (sym c.deref-2.ensures.value) (c.loop-id.invariant.found_is env h) in
-    c.first_list.ensures _ r.others (subst (Marked c.deref-2.result.now c.loop-id.found.items) (ap (λ i. gather (aim_of c.args.aim.now) i (drop i ss) (drop i ns)) z ∙ r.is) m)
+    let m = subst (λ l. MarkedStacks l c.loop-id.found.items (gather (aim_of c.args.aim.now) c.loop-id.id (drop c.loop-id.id ss) (drop c.loop-id.id ns))) (sym c.deref-2.ensures.value) (c.loop-id.invariant.found_is env h) in
+    c.first_list.ensures _ r.others (subst (MarkedStacks c.deref-2.result.now c.loop-id.found.items) (ap (λ i. gather (aim_of c.args.aim.now) i (drop i ss) (drop i ns)) z ∙ r.is) m)

@@ -5,3 +5,6 @@ use Rattle.spi_parse.proofs.files.read_file.Goals as goal
 
 pub returns-in_default : goal.returns-in_default
 returns-in_default c = rw read_is_step (grind (arith, common_steps))
+
+pub returns-else-eq : goal.returns-else-eq
+returns-else-eq c = rw read_is_step (grind (arith, common_steps))

@@ -2,7 +2,7 @@ use Rattle.std.proofs.Common.{◌≡◌, suc, ◌+◌, ◌++◌, ◌∷◌, map,
 use Rattle.std.proofs.lemmas.List.{length-map}
 use Rattle.std.proofs.lemmas.Result.{on_ok_weaker}
 use Rattle.spi_tree.specs.Views.{msg_of, ty_of, proc_of}
-use Rattle.spi_term.specs.Term.{Cases, Pars, process_size}
+use Rattle.spi_term.specs.Term.{Branches, Pars, process_size}
 use Rattle.spi_term.specs.Spelling.{flat}
 use Rattle.spi_term.specs.View.{message, ty, shape_of}
 use Rattle.spi_scope.specs.Meaning.{message_in, type_in, process_in}
@@ -76,7 +76,7 @@ branch-returns-clause-nodes t c =
     let d = c.close.ensures in
     on_ok_weaker c.read_under-2.result
     (λ h.
-    (fork_nodes (Cases mm aa cc') (map shape_of c.args.arena.now.nodes.items) (map shape_of c.push.new.arena.nodes.items) (map shape_of c.read_under.new.arena.nodes.items) (map shape_of c.close.new.arena.nodes.items) (map shape_of c.read_under-2.new.arena.nodes.items)
+    (fork_nodes (Branches mm aa cc') (map shape_of c.args.arena.now.nodes.items) (map shape_of c.push.new.arena.nodes.items) (map shape_of c.read_under.new.arena.nodes.items) (map shape_of c.close.new.arena.nodes.items) (map shape_of c.read_under-2.new.arena.nodes.items)
     p q k (suc k) (suc k) _ _ _ (length c.push.new.arena.nodes.items) (length c.close.new.arena.nodes.items) _
     g.nodes f (rw (c.len-base.ensures, em, ea, ec) at d.nodes) (rw (n3, y4) at h) i
     (omega (arith, a)) (sym (length-map c.args.arena.now.nodes.items shape_of)) (omega (arith, g.len)) (omega (arith, a)) (omega (arith, b, l, g.len)) (omega (arith, d.len, l, g.len)) (omega arith) (omega arith)))

@@ -4,7 +4,7 @@ use Rattle.spi_heading.specs.Views.{shared_of}
 use Rattle.spi_scope.specs.First.{IsClean}
 use Rattle.spi_edits.specs.Views.{bench_of}
 use Rattle.spi_workbench.specs.Reading.{heading_file}
-use Rattle.spi_workbench.specs.Answers.{Refuses, too_many_shared}
+use Rattle.spi_workbench.specs.Answers.{RefusesEdits, too_many_shared}
 use Rattle.spi_workbench.specs.Work.{IsAt, StartsEdits}
 use Rattle.spi_workbench.specs.declared.answer.Refusal.TheVariants.{TooManyShared}
 use Rattle.spi_workbench.proofs.Answering.{answer_for, begins_so}
@@ -18,7 +18,7 @@ returns-then-len-gt16 c =
     let x = c.index.result.now in
     let g : slice_get b.shared 16 ≡ Some (shared_of x) = get_mapped shared_of c.args.text.shared.items 16 x (omega (arith, c.if-len-gt16.true, c.len.ensures, c.args.text.shared.ok.0)) c.index.ensures in
     let n : length b.shared ≡ c.len-then-len-gt16.result = omega (arith, length-map c.args.text.shared.items shared_of, c.len-then-len-gt16.ensures, c.args.text.shared.ok.0) in
-    subst (λ k. Refuses b c.args.end (TooManyShared x.name.span k)) n (too_many_shared g)
+    subst (λ k. RefusesEdits b c.args.end (TooManyShared x.name.span k)) n (too_many_shared g)
 
 few : (c : In-Ok) → length (bench_of c.args.text).shared ≤ 16
 few c = omega (arith, length-map c.args.text.shared.items shared_of, c.if-len-gt16.false, c.len.ensures, c.args.text.shared.ok.0)

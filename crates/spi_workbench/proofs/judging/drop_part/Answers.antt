@@ -1,6 +1,6 @@
 use Rattle.std.proofs.Common.{◌≡◌, sym, ap, ◌∙◌, subst}
 use Rattle.spi_workbench.proofs.Stepping.{none_from, some_there, none_there, drop_next}
-use Rattle.spi_workbench.specs.Answers.{IsRefused}
+use Rattle.spi_workbench.specs.Answers.{IsEditRefused}
 use Rattle.spi_workbench.specs.declared.answer.Refusal.TheVariants.{UnknownPart}
 use Rattle.spi_edits.specs.Edits.{drops}
 use Rattle.spi_workbench.proofs.judging.drop_part.Goals as goal
@@ -14,4 +14,4 @@ pub returns : goal.returns
 returns c b before s at =
     let w = c.args.work.now in
     let none = sym c.drop_part.ensures.part ∙ none_from c.drop_part.result c.in_default.not-Some in
-    subst (λ x. IsRefused b before (drops s c.args.name.now) (UnknownPart c.args.name.now.span x)) (sym (c.in_ok-word.ensures ∙ c.as_str.ensures)) (none_there b before w at s c.args.name.now none)
+    subst (λ x. IsEditRefused b before (drops s c.args.name.now) (UnknownPart c.args.name.now.span x)) (sym (c.in_ok-word.ensures ∙ c.as_str.ensures)) (none_there b before w at s c.args.name.now none)

@@ -1,6 +1,6 @@
 use Rattle.std.proofs.Common.{ℕ, ◌+◌, ◌∷◌, ◌++◌, [], ◌<◌, length, map, sym, ap, ◌∙◌, subst, arith}
 use Rattle.std.proofs.lemmas.List.{length-append}
-use Rattle.spi_scope.specs.Chains.{link, chains, chain_at, all_at, AreBelow, Chained}
+use Rattle.spi_scope.specs.Chains.{link, chains, chain_at, all_at, AreNumbersBelow, Chained}
 use Rattle.spi_scope.proofs.Trails.{length_chains, chains_push, lead_push, below_more, all_before}
 use Rattle.spi_scope.proofs.trail.Trail.extend.Goals as goal
 
@@ -35,5 +35,5 @@ returns-clause-noted c =
     let old = c.self.inside.links.items in
     let is = c.self.inside.noted.items in
     ap (λ l. all_at l is) (chains_push old _ (record { word = c.args.word; outer = c.args.outer }) c.in_ok-push.ensures.items)
-    ∙ all_before (chains (map link old)) _ is (subst (λ n. AreBelow n is) (sym (length_chains old)) c.self.invariant.1)
+    ∙ all_before (chains (map link old)) _ is (subst (λ n. AreNumbersBelow n is) (sym (length_chains old)) c.self.invariant.1)
     ∙ ap (λ (s : Chained). s.noted) c.self.view_is

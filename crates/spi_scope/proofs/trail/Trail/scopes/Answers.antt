@@ -1,6 +1,6 @@
 use Rattle.std.proofs.Common.{◌≡◌, ℕ, ◌+◌, ◌++◌, List, [], map, length, get_or, sym, ap, ◌∙◌, subst, append-nil}
 use Rattle.std.proofs.lemmas.List.{length-map}
-use Rattle.spi_scope.specs.Chains.{Pair, link, spelled, AreBelow, LeadBack}
+use Rattle.spi_scope.specs.Chains.{Pair, link, spelled, AreNumbersBelow, LeadBack}
 use Rattle.spi_scope.specs.declared.trail.Link.{Link}
 use Rattle.spi_scope.proofs.Nesting.{drop_past}
 use Rattle.spi_scope.proofs.Trails.{pair_of, copied_more}
@@ -18,7 +18,7 @@ invariant_of-result c =
     let noted : c.loop-chain.noted.items ≡ c.self.inside.noted.items =
     sym (append-nil c.loop-chain.noted.items) ∙ ap (λ l. c.loop-chain.noted.items ++ l) (sym f) ∙ c.loop-chain.invariant ∙ c.deref-chain-items.ensures.value in (
       subst (λ (l : List Pair). LeadBack 1 l) (sym same) c.self.invariant.0,
-      subst (λ (m : ℕ). AreBelow (m + 1) c.loop-chain.noted.items) (sym n) (subst (λ (l : List ℕ). AreBelow (length old + 1) l) (sym noted) c.self.invariant.1),
+      subst (λ (m : ℕ). AreNumbersBelow (m + 1) c.loop-chain.noted.items) (sym n) (subst (λ (l : List ℕ). AreNumbersBelow (length old + 1) l) (sym noted) c.self.invariant.1),
     )
 
 pub loop-link-preserved : goal.loop-link-preserved

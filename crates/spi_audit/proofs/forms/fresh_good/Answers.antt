@@ -4,7 +4,7 @@ use Rattle.spi_intern.proofs.Meanings.{terms_same}
 use Rattle.spi_audit.proofs.FormPremises.{begins_later}
 use Rattle.spi_audit.proofs.FormUses.{is_good, is_not_good}
 use Rattle.spi_audit.proofs.FormTyped.{fresh_other, fresh_bad, fresh_fits}
-use Rattle.spi_audit.proofs.forms.new_good.Goals as goal
+use Rattle.spi_audit.proofs.forms.fresh_good.Goals as goal
 
 pub returns-then-not-is_fresh_type-clause-answer : goal.returns-then-not-is_fresh_type-clause-answer
 returns-then-not-is_fresh_type-clause-answer c = fresh_other c.args.judge.now c.args.judge.now (ty c.args.ty.now) c.args.body (sym c.is_fresh_type.ensures ∙ c.if-not-is_fresh_type.true)

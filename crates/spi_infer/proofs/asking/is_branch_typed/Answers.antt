@@ -1,5 +1,5 @@
 use Rattle.spi_infer.proofs.Asked.{and_then}
-use Rattle.spi_infer.proofs.asking.is_case_typed.Goals as goal
+use Rattle.spi_infer.proofs.asking.is_branch_typed.Goals as goal
 
 pub returns-then-whole-clause-answer : goal.returns-then-whole-clause-answer
 returns-then-whole-clause-answer c =
