@@ -3,6 +3,7 @@ use Rattle.std.proofs.Common.{◌≡◌, refl, sym, ap, ◌∙◌, subst, ℕ, z
 use Rattle.std.specs.Prelude.{slice_get}
 use Rattle.std.proofs.lemmas.Result.{IfOk-weaker}
 use Rattle.spi_term.specs.Term.{Leaf, Prefix, Fork, Process, leaf, prefix, fork, binds, fork_binds, process_size}
+use Rattle.spi_term.proofs.Rows.{length_flat}
 use Rattle.spi_term.specs.Spelling.{Shape, leaf_at, prefix_at, fork_at, flat, numbered}
 use Rattle.spi_rules.specs.Environment.{Env}
 use Rattle.spi_rules.specs.declared.rule.Rule.{Rule}
@@ -30,14 +31,6 @@ drop_behind xs i [] zs d = let e : i + 0 ≡ i = omega arith in ap (λ n. drop n
 drop_behind xs i (y ∷ ys) zs d =
     let e : i + suc (length ys) ≡ suc i + length ys = omega arith in
     ap (λ n. drop n xs) e ∙ drop_behind xs (suc i) ys zs (drop_second xs i y (ys ++ zs) d)
-
-length_flat : (q : Process) (i k : ℕ) → length (flat i k q) ≡ process_size q
-length_flat (leaf l) i k = refl
-length_flat (prefix s p) i k = ap suc (length_flat p (suc i) (k + binds s))
-length_flat (fork f p q) i k =
-    let fp = flat (suc i) (k + fork_binds f) p in
-    let fq = flat (suc i + process_size p) (k + fork_binds f) q in
-    omega (arith, length-append fp fq, length_flat p (suc i) (k + fork_binds f), length_flat q (suc i + process_size p) (k + fork_binds f))
 
 -- the processes of a form as they stand, their binders opened
 abbrev body_of : Env → Prefix → Process → Process

@@ -44,28 +44,18 @@ is_no_label m h q e s g = true≢false (sym (sym q ∙ (h.at e s ∙ labelled_fr
 -- what new may make, and nonces
 pub generative : (t : Ty) → is_fresh t ≡ true → IsGenerative t
 generative un h = tt
-generative unit_ty h = true≢false (sym h)
-generative (pair_ty t u) h = true≢false (sym h)
-generative (sum_ty t u) h = true≢false (sym h)
 generative (key t) h = tt
-generative (nonce es) h = true≢false (sym h)
+generative _ h = true≢false (sym h)
 
 pub generated : (t : Ty) → is_fresh t ≡ false → IsGenerative t → ⊥
 generated un h g = true≢false h
-generated unit_ty h g = g
-generated (pair_ty t u) h g = g
-generated (sum_ty t u) h g = g
 generated (key t) h g = true≢false h
-generated (nonce es) h g = g
+generated _ h g = g
 
 nonce_type : (o : Option Ty) (fs : Effect) → nonce_in o ≡ Some fs → o ≡ Some (nonce fs)
 nonce_type None fs h = cc
-nonce_type (Some un) fs h = absurd cc
-nonce_type (Some unit_ty) fs h = absurd cc
-nonce_type (Some (pair_ty t u)) fs h = absurd cc
-nonce_type (Some (sum_ty t u)) fs h = absurd cc
-nonce_type (Some (key t)) fs h = absurd cc
 nonce_type (Some (nonce es)) fs h = cc
+nonce_type _ fs h = absurd cc
 
 pub a_nonce : (e : Env) (m : Message) (fs : Effect) → nonce_of e m ≡ Some fs → IsNonce [] e m fs
 a_nonce e (name x) fs h = nonce_name (get_at e x (nonce_type (slice_get e x) fs h))

@@ -61,25 +61,9 @@ module _ (j : Numbered) (x : ℕ) where
           l (omega (arith, b, k, p))
 
 -- a message that is a name, and one that is none
-abbrev part_is_name : MsgPart → Bool
-part_is_name (P.Bound i) = false
-part_is_name (P.Name x) = true
-part_is_name P.Unit = false
-part_is_name (P.Pair a b) = false
-part_is_name (P.Inl a) = false
-part_is_name (P.Inr a) = false
-part_is_name (P.Enc a b) = false
-part_is_name (P.Hash a) = false
-
-no_name_said : {ms : List Message} {p : MsgPart} {m : Message} → part_is_name p ≡ false → Says ms p m → (x : ℕ) → m ≡ name x → ⊥
-no_name_said e says_bound x q = absurd (cc)
-no_name_said e says_name x q = absurd (cc)
-no_name_said e says_unit x q = absurd (cc)
-no_name_said e (says_pair g h) x q = absurd (cc)
-no_name_said e (says_left g) x q = absurd (cc)
-no_name_said e (says_right g) x q = absurd (cc)
-no_name_said e (says_enc g h) x q = absurd (cc)
-no_name_said e (says_hash g) x q = absurd (cc)
+no_name_said : {ms : List Message} {p : MsgPart} {m : Message} → ((x : ℕ) → p ≡ P.Name x → ⊥) → Says ms p m → (x : ℕ) → m ≡ name x → ⊥
+no_name_said d (says_name {x = y}) x q = d y refl
+no_name_said d _ x q = absurd (cc)
 
 name_said : {ms : List Message} {x : ℕ} {m : Message} → Says ms (P.Name x) m → m ≡ name x
 name_said says_name = refl
@@ -96,19 +80,13 @@ module _ {r : Store} (j : Numbered) (e : r ≡ j.store) (i : ℕ) where
   no_key_said x h (Some t) a = tt
   no_key_said x h None a = λ k g. subst (λ m. IsNoKeyAt j m) (sym (name_said (said_there (P.Name x) h k g))) a
 
-  pub no_name : (p : MsgPart) → part_is_name p ≡ false → ((n : Message) → slice_get r.messages i ≡ Some n → Says r.messages p n) → (k : Message) → slice_get j.store.messages i ≡ Some k → IsNoKeyAt j k
-  no_name p f h k g = record { at = λ e x v s q a. no_name_said f (said_there p h k g) x q }
+  pub no_name : (p : MsgPart) → ((x : ℕ) → p ≡ P.Name x → ⊥) → ((n : Message) → slice_get r.messages i ≡ Some n → Says r.messages p n) → (k : Message) → slice_get j.store.messages i ≡ Some k → IsNoKeyAt j k
+  no_name p d h k g = record { at = λ e x v s q a. no_name_said d (said_there p h k g) x q }
 
 -- a ciphertext under a name of a Key type
 module _ (j : Numbered) (t : TyId) (b : Bool) (told : (u : Ty) → Means j.store t.place u → b ≡ is_un u) (x y : MsgId) where
   is_there : b ≡ true → (u : Ty) → Means j.store t.place u → u ≡ un
   is_there e u m = is_un_true u (sym (told u m) ∙ e)
-
-  pub enc_not_un : b ≡ false → AnswersPart j j MsgEnc (P.Enc x y) t None
-  enc_not_un e = record { at = λ env m u s w n ps f. true≢false (sym (sym e ∙ (told u n ∙ ap is_un (go f)))) }
-    where
-      go : {env : Env} {m : Message} {u : Ty} {ps : List Subject} → Fits (plain MsgEnc) (of_message env m u) ps → u ≡ un
-      go (fits_enc a) = refl
 
   pub enc_not : ((k : Message) → slice_get j.store.messages y.place ≡ Some k → IsNoKeyAt j k) → AnswersPart j j MsgEnc (P.Enc x y) t None
   enc_not h = record { at = λ env m u s w n. go s w }

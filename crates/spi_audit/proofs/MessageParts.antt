@@ -44,26 +44,10 @@ pair_not j t x y p = record { at = λ env m u s w n ps f. go n f }
     go : {env : Env} {m : Message} {u : Ty} {ps : List Subject} → Means j.store t.place u → Fits (plain MsgPair) (of_message env m u) ps → ⊥
     go n (fits_pair {t = v} {u = w}) = p.at (pair_ty v w) v w n refl
 
-pair_rules : {rule : Rule} {env : Env} {m k : Message} {u : Ty} {ps : List Subject} → Fits (plain rule) (of_message env (pair m k) u) ps → (rule ≡ MsgPair) ⊎ (rule ≡ MsgPairUn)
-pair_rules fits_pair = inl refl
-pair_rules fits_pair_un = inr refl
-
-pub pair_other : (j : Numbered) (rule : Rule) (t : TyId) (x y : MsgId) → (rule ≡ MsgPair → ⊥) → (rule ≡ MsgPairUn → ⊥) → AnswersPart j j rule (P.Pair x y) t None
-pair_other j rule t x y d h = record { at = λ env m u s w n. go w }
-  where
-    go : {env : Env} {m : Message} {u : Ty} → Says j.store.messages (P.Pair x y) m → (ps : List Subject) → Fits (plain rule) (of_message env m u) ps → ⊥
-    go (says_pair g k) ps f = ⊎_elim d h (pair_rules f)
-
 -- a hash of a label
 module _ (j : Numbered) (t : TyId) (b : Bool) (told : (u : Ty) → Means j.store t.place u → b ≡ is_un u) (x : MsgId) where
   is_there : b ≡ true → (u : Ty) → Means j.store t.place u → u ≡ un
   is_there e u m = is_un_true u (sym (told u m) ∙ e)
-
-  pub hash_not_un : b ≡ false → AnswersPart j j MsgHash (P.Hash x) t None
-  hash_not_un e = record { at = λ env m u s w n ps f. true≢false (sym (sym e ∙ (told u n ∙ ap is_un (go f)))) }
-    where
-      go : {env : Env} {m : Message} {u : Ty} {ps : List Subject} → Fits (plain MsgHash) (of_message env m u) ps → u ≡ un
-      go (fits_hash l) = refl
 
   module _ (k : Numbered) (d : Bool) (labels : (env : Env) (n : Message) → Stands j env → slice_get j.store.messages x.place ≡ Some n → (d ≡ true) ↔ IsLabel [] env n) where
     pub hash_fits : b ≡ true → d ≡ true → AnswersPart j k MsgHash (P.Hash x) t (Some NoPremise)
@@ -78,15 +62,6 @@ module _ (j : Numbered) (t : TyId) (b : Bool) (told : (u : Ty) → Means j.store
       where
         go : {env : Env} {m : Message} {u : Ty} → Stands j env → Says j.store.messages (P.Hash x) m → (ps : List Subject) → Fits (plain MsgHash) (of_message env m u) ps → ⊥
         go {env = env} s (says_hash {m = n} g) ps (fits_hash l) = true≢false (sym ((labels env n s g).1 l) ∙ f)
-
-hash_rules : {rule : Rule} {env : Env} {m : Message} {u : Ty} {ps : List Subject} → Fits (plain rule) (of_message env (hash m) u) ps → rule ≡ MsgHash
-hash_rules (fits_hash l) = refl
-
-pub hash_other : (j : Numbered) (rule : Rule) (t : TyId) (x : MsgId) → (rule ≡ MsgHash → ⊥) → AnswersPart j j rule (P.Hash x) t None
-hash_other j rule t x d = record { at = λ env m u s w n. go w }
-  where
-    go : {env : Env} {m : Message} {u : Ty} → Says j.store.messages (P.Hash x) m → (ps : List Subject) → Fits (plain rule) (of_message env m u) ps → ⊥
-    go (says_hash g) ps f = d (hash_rules f)
 
 -- the parts of a message are numbers of the store
 module _ {r s : Store} (e : r ≡ s) (i : ℕ) (below : i < length s.messages) where

@@ -11,22 +11,6 @@ use Rattle.spi_intern.specs.declared.store.TyPart.{TyPart}
 use Rattle.spi_intern.specs.declared.store.TyPart.TheVariants.{Un, Unit as NoParts, Pair, Sum, Key, Nonce}
 use Rattle.spi_audit.specs.Asked.{IsPairOf, IsSumOf, IsNoPair, IsNoSum}
 
-abbrev is_pair : TyPart → Bool
-is_pair Un = false
-is_pair NoParts = false
-is_pair (Pair a b) = true
-is_pair (Sum a b) = false
-is_pair (Key a) = false
-is_pair (Nonce ids) = false
-
-abbrev is_sum : TyPart → Bool
-is_sum Un = false
-is_sum NoParts = false
-is_sum (Pair a b) = false
-is_sum (Sum a b) = true
-is_sum (Key a) = false
-is_sum (Nonce ids) = false
-
 -- what a lent store says is so in the judge's
 module _ {r s : Store} (e : r ≡ s) where
   pub given_there : {i : ℕ} → IsGiven s i → IsGiven r i
@@ -53,24 +37,14 @@ module _ {r s : Store} (e : r ≡ s) where
       go : (u : Ty) → SaysTy r (Sum a b) u → (v w : Ty) × (u ≡ sum_ty v w) × Means s a.place v × Means s b.place w
       go _ (says_sum {t = v} {u = w} m n) = (v, w, refl, means_here m, means_here n)
 
-  pub no_pair_told : (t : TyId) (p : TyPart) → is_pair p ≡ false → ((u : Ty) → Means r t.place u → SaysTy r p u) → IsNoPair s t
-  no_pair_told t p e h = record { at = λ u v w m q. go (pair_ty v w) p e (subst (λ u. SaysTy r p u) q (h u (means_there m))) v w refl }
+  pub no_pair_told : (t : TyId) (p : TyPart) → ((a b : TyId) → p ≡ Pair a b → ⊥) → ((u : Ty) → Means r t.place u → SaysTy r p u) → IsNoPair s t
+  no_pair_told t p d h = record { at = λ u v w m q. go d (subst (λ u. SaysTy r p u) q (h u (means_there m))) }
     where
-      go : (u : Ty) (p : TyPart) → is_pair p ≡ false → SaysTy r p u → (v w : Ty) → u ≡ pair_ty v w → ⊥
-      go _ _ e says_un v w q = absurd (cc)
-      go _ _ e says_unit v w q = absurd (cc)
-      go _ _ e (says_pair m n) v w q = absurd (cc)
-      go _ _ e (says_sum m n) v w q = absurd (cc)
-      go _ _ e (says_key m) v w q = absurd (cc)
-      go _ _ e (says_nonce m) v w q = absurd (cc)
+      go : {p : TyPart} {v w : Ty} → ((a b : TyId) → p ≡ Pair a b → ⊥) → SaysTy r p (pair_ty v w) → ⊥
+      go d (says_pair {a = a} {b = b} m n) = d a b refl
 
-  pub no_sum_told : (t : TyId) (p : TyPart) → is_sum p ≡ false → ((u : Ty) → Means r t.place u → SaysTy r p u) → IsNoSum s t
-  no_sum_told t p e h = record { at = λ u v w m q. go (sum_ty v w) p e (subst (λ u. SaysTy r p u) q (h u (means_there m))) v w refl }
+  pub no_sum_told : (t : TyId) (p : TyPart) → ((a b : TyId) → p ≡ Sum a b → ⊥) → ((u : Ty) → Means r t.place u → SaysTy r p u) → IsNoSum s t
+  no_sum_told t p d h = record { at = λ u v w m q. go d (subst (λ u. SaysTy r p u) q (h u (means_there m))) }
     where
-      go : (u : Ty) (p : TyPart) → is_sum p ≡ false → SaysTy r p u → (v w : Ty) → u ≡ sum_ty v w → ⊥
-      go _ _ e says_un v w q = absurd (cc)
-      go _ _ e says_unit v w q = absurd (cc)
-      go _ _ e (says_pair m n) v w q = absurd (cc)
-      go _ _ e (says_sum m n) v w q = absurd (cc)
-      go _ _ e (says_key m) v w q = absurd (cc)
-      go _ _ e (says_nonce m) v w q = absurd (cc)
+      go : {p : TyPart} {v w : Ty} → ((a b : TyId) → p ≡ Sum a b → ⊥) → SaysTy r p (sum_ty v w) → ⊥
+      go d (says_sum {a = a} {b = b} m n) = d a b refl

@@ -42,17 +42,9 @@ cast_scope ProcCast k (nonce fs) = refl
 cast_scope _ k t = refl
 
 prefix_scope : (r : Rule) (e : Env) (s : Prefix) → scope_in (prefix_change r e s) ≡ length e
-prefix_scope r e (Recvs m t) = refl
-prefix_scope r e (Serves m t) = refl
-prefix_scope r e (Splits m t u) = refl
-prefix_scope r e (Selects m t n u) = refl
-prefix_scope r e (Decrypts m t n) = refl
 prefix_scope r e (Checks m n) = check_scope r (length e) m (nonce_of e n)
-prefix_scope r e (Begins m) = refl
-prefix_scope r e (Ends m) = refl
-prefix_scope r e (EndManys m) = refl
 prefix_scope r e (Casts m t) = cast_scope r (length e) t
-prefix_scope r e (Freshes t) = refl
+prefix_scope r e _ = refl
 
 form_scope : (r : Rule) (e : Env) (p : Process) → scope_in (form_change r e p) ≡ length e
 form_scope r e (leaf l) = refl
@@ -65,21 +57,13 @@ change_scope (Some fs) r e p = refl
 change_scope None r e p = form_scope r e p
 
 small_as : {s : Store} {ks : Keys} {c : Change} {o : Note} → NotedAs s ks c o → scope_in c ≤ 300000 → IsSmallNote o
-small_as noted_nothing h = tt
-small_as noted_empty h = tt
-small_as noted_same h = tt
 small_as noted_one h = h
 small_as noted_two h = h
 small_as noted_serve h = h
 small_as noted_branch h = h
-small_as (noted_check a b) h = tt
-small_as (noted_begin a) h = tt
-small_as (noted_end a) h = tt
-small_as (noted_many a) h = tt
 small_as (noted_cast a b) h = h
 small_as (noted_make a) h = h
-small_as noted_both h = tt
-small_as (noted_taken a b) h = tt
+small_as _ h = tt
 
 small_note : (s : Store) (ks : Keys) (u : RuleUse) (e : Env) (p : Process) (o : Note) → length e ≤ 300000 → NotedAs s ks (change_of u (of_process e p)) o → IsSmallNote o
 small_note s ks u e p o h n = small_as n (subst (λ k. k ≤ 300000) (sym (change_scope u.taken u.rule e p)) h)

@@ -114,17 +114,7 @@ module _ {ss : List Shape} {i : ℕ} {e : Env} {p : Process} (l : Located ss i e
 -- a use that is asked of a message
 written_misfits : {u : RuleUse} {fs : Effect} {e : Env} {m : Message} {t : Ty} {ps : List Subject} → u.taken ≡ Some fs → Fits u (of_message e m t) ps → ⊥
 written_misfits q (fits_name a b) = cc
-written_misfits q fits_unit = cc
-written_misfits q fits_unit_un = cc
-written_misfits q fits_pair = cc
-written_misfits q fits_pair_un = cc
-written_misfits q fits_inl = cc
-written_misfits q fits_inl_un = cc
-written_misfits q fits_inr = cc
-written_misfits q fits_inr_un = cc
-written_misfits q (fits_enc a) = cc
-written_misfits q fits_enc_un = cc
-written_misfits q (fits_hash l) = cc
+written_misfits q _ = cc
 
 pub message_written : (old new : Numbered) (u : RuleUse) {fs : Effect} (id : MsgId) (t : TyId) → u.taken ≡ Some fs → FitsMessage old new u id t None
 message_written old new u id t q = record { at = λ e m v s g w ps f. written_misfits q f }

@@ -194,7 +194,7 @@ fn is_free_of(inside: bool, loose: u64) -> bool
     inside && loose == 0
 }
 
-/// Whether both hold.
+/// Whether both are true.
 pub fn both(a: bool, b: bool) -> bool
     ensures { result ≡ (a && b) }
 {

@@ -37,12 +37,8 @@ fn pair_parts(judge: &Judge, t: TyId) -> Option<(TyId, TyId)>
     ensures none { IfNone result (IsNoPair judge.now.store t) }
 {
     match judge.store().ty_part(t) {
-        TyPart::Un => None,
-        TyPart::Unit => None,
         TyPart::Pair(first, second) => Some((first, second)),
-        TyPart::Sum(_, _) => None,
-        TyPart::Key(_) => None,
-        TyPart::Nonce(_) => None,
+        _ => None,
     }
 }
 
@@ -52,12 +48,8 @@ fn sum_parts(judge: &Judge, t: TyId) -> Option<(TyId, TyId)>
     ensures none { IfNone result (IsNoSum judge.now.store t) }
 {
     match judge.store().ty_part(t) {
-        TyPart::Un => None,
-        TyPart::Unit => None,
-        TyPart::Pair(_, _) => None,
         TyPart::Sum(left, right) => Some((left, right)),
-        TyPart::Key(_) => None,
-        TyPart::Nonce(_) => None,
+        _ => None,
     }
 }
 
@@ -84,13 +76,7 @@ fn key_payload(judge: &Judge, m: MsgId) -> Option<TyId>
 {
     match judge.store().part(m) {
         MsgPart::Name(x) => payload_at(judge, x),
-        MsgPart::Bound(_) => None,
-        MsgPart::Unit => None,
-        MsgPart::Pair(_, _) => None,
-        MsgPart::Inl(_) => None,
-        MsgPart::Inr(_) => None,
-        MsgPart::Enc(_, _) => None,
-        MsgPart::Hash(_) => None,
+        _ => None,
     }
 }
 

@@ -62,39 +62,22 @@ either_or (inr n) (inr m) = inr (λ z. ⊎_elim n m z)
 
 generative_or : (t : Ty) → Decided (IsGenerative t)
 generative_or un = inl tt
-generative_or unit_ty = inr (λ z. z)
-generative_or (pair_ty t u) = inr (λ z. z)
-generative_or (sum_ty t u) = inr (λ z. z)
 generative_or (key t) = inl tt
-generative_or (nonce es) = inr (λ z. z)
+generative_or _ = inr (λ z. z)
 
 castable_or : (t : Ty) → Decided (IsCastable t)
 castable_or un = inl tt
-castable_or unit_ty = inr (λ z. z)
-castable_or (pair_ty t u) = inr (λ z. z)
-castable_or (sum_ty t u) = inr (λ z. z)
-castable_or (key t) = inr (λ z. z)
 castable_or (nonce es) = inl tt
+castable_or _ = inr (λ z. z)
 
 -- names of a Nonce type
 nonce_type : (o : Option Ty) (es : Effect) → nonce_in o ≡ Some es → o ≡ Some (nonce es)
-nonce_type None es h = absurd (cc)
-nonce_type (Some un) es h = absurd (cc)
-nonce_type (Some unit_ty) es h = absurd (cc)
-nonce_type (Some (pair_ty t u)) es h = absurd (cc)
-nonce_type (Some (sum_ty t u)) es h = absurd (cc)
-nonce_type (Some (key t)) es h = absurd (cc)
 nonce_type (Some (nonce fs)) es h = let f : fs ≡ es = cc in ap (λ fs. Some (nonce fs)) f
+nonce_type _ es h = absurd (cc)
 
 nonce_is : (e : Env) (m : Message) (fs : Effect) → nonce_of e m ≡ Some fs → IsNonce [] e m fs
-nonce_is e (bound i) fs h = absurd (cc)
 nonce_is e (name x) fs h = nonce_name (get_at e x (nonce_type (slice_get e x) fs h))
-nonce_is e unit fs h = absurd (cc)
-nonce_is e (pair a b) fs h = absurd (cc)
-nonce_is e (in_left m) fs h = absurd (cc)
-nonce_is e (in_right m) fs h = absurd (cc)
-nonce_is e (enc a b) fs h = absurd (cc)
-nonce_is e (hash m) fs h = absurd (cc)
+nonce_is e _ fs h = absurd (cc)
 
 nonce_told : {e : Env} {m : Message} {fs : Effect} → IsNonce [] e m fs → nonce_of e m ≡ Some fs
 nonce_told (nonce_name a) = ap nonce_in (at_get a)

@@ -14,6 +14,7 @@ use Rattle.spi_effect.proofs.Made.{minus_difference, greater_is}
 use Rattle.spi_rules.specs.Environment.{Env, extended}
 use Rattle.spi_rules.specs.Messages.{HasType}
 use Rattle.spi_rules.specs.Processes.{HasEffect, IsNonce, proc_stop, proc_out, proc_in, proc_repeat, proc_split, proc_split_un, proc_match, proc_match_un, proc_case, proc_case_un, proc_decrypt, proc_decrypt_un, proc_check, proc_check_un, proc_begin, proc_end, proc_end_many, proc_cast, proc_cast_un, proc_new, proc_par}
+use Rattle.spi_rules.specs.Least.{Least}
 use Rattle.spi_rules.specs.Blocking.{Child, child_recv, child_serve, child_split, child_select, child_left, child_right, child_decrypt, child_check, child_begin, child_end, child_end_many, child_cast, child_fresh, child_first, child_rest, HasSome}
 use Rattle.spi_fault.specs.Checks as C
 use Rattle.spi_fault.specs.Passing.{HasLeastBehind, HasBoundName, Passes, not_many, escapes, unchecked}
@@ -67,38 +68,38 @@ module _ (env : Env) where
   next : n < n + 1
   next = omega arith
 
+  -- the least effect of a process in the node
+  following : {p : Process} {i : ℕ} {inner : Env} {q : Process} → ProcessOver n p → Inner env p → Child env p i inner q → (es : Effect) × Least inner q es × HasLeastBehind env p i es
+  following {i = i} {inner = inner} {q = q} over kids k =
+      let l = has_least over k (kids i inner q k) in
+      (l.0, l.1, record { inner = inner; process = q; child = k; least = l.1 })
+
   some_recv : (m : Message) (t : Ty) (p : Process) → ProcessOver n (recv m t p) → Inner env (recv m t p) → AllPass env (recv m t p) → HasSome env (recv m t p)
   some_recv m t p over kids h =
-      let k : Child env (recv m t p) 1 (extended env t) (process_put (name n) p) = child_recv in
-      let l = has_least over k (kids 1 _ _ k) in
-      let f : HasLeastBehind env (recv m t p) 1 l.0 = record { inner = extended env t; process = process_put (name n) p; child = k; least = l.1 } in
+      let l = following over kids child_recv in
       let c = h (C.channel m) in_first in
       let u = h (C.untrusted t) (in_later in_first) in
-      let a = stays_out f (h (C.stays 1 1) (in_later (in_later in_first))) n at_once next in
+      let a = stays_out l.2 (h (C.stays 1 1) (in_later (in_later in_first))) n at_once next in
       (l.0, subst (λ t. HasEffect [] (extended env t) (process_put (name n) p) l.0 → HasEffect [] env (recv m t p) l.0) (sym u) (λ d. proc_in c d a) l.1.derivable.has)
 
   some_serve : (m : Message) (t : Ty) (p : Process) → ProcessOver n (serve m t p) → Inner env (serve m t p) → AllPass env (serve m t p) → HasSome env (serve m t p)
   some_serve m t p over kids h =
-      let k : Child env (serve m t p) 1 (extended env t) (process_put (name n) p) = child_serve in
-      let l = has_least over k (kids 1 _ _ k) in
-      let f : HasLeastBehind env (serve m t p) 1 l.0 = record { inner = extended env t; process = process_put (name n) p; child = k; least = l.1 } in
+      let l = following over kids child_serve in
       let c = h (C.channel m) in_first in
       let u = h (C.untrusted t) (in_later in_first) in
       let s = h (C.served 1) (in_later (in_later in_first)) in
-      let all = many_when l.0 (λ a i g. s a (not_many f i g)) in
-      let a = stays_out f (h (C.stays 1 1) (in_later (in_later (in_later in_first)))) n at_once next in
+      let all = many_when l.0 (λ a i g. s a (not_many l.2 i g)) in
+      let a = stays_out l.2 (h (C.stays 1 1) (in_later (in_later (in_later in_first)))) n at_once next in
       (l.0, subst (λ t. HasEffect [] (extended env t) (process_put (name n) p) l.0 → HasEffect [] env (serve m t p) l.0) (sym u) (λ d. proc_repeat c d all a) l.1.derivable.has)
 
   some_split : (m : Message) (t u : Ty) (p : Process) → ProcessOver n (split m t u p) → Inner env (split m t u p) → AllPass env (split m t u p) → HasSome env (split m t u p)
   some_split m t u p over kids h =
       let q = process_put_two (name n) (name (suc n)) p in
-      let k : Child env (split m t u p) 1 (extended (extended env t) (ty_put (name n) u)) (process_put_two (name n) (name (suc n)) p) = child_split in
-      let l = has_least over k (kids 1 _ _ k) in
-      let f : HasLeastBehind env (split m t u p) 1 l.0 = record { inner = extended (extended env t) (ty_put (name n) u); process = q; child = k; least = l.1 } in
+      let l = following over kids child_split in
       let g = h (C.good (pair_ty t u)) in_first in
       let s = h (C.stays 2 1) (in_later (in_later in_first)) in
-      let a = stays_out f s n at_once (let z : n < n + 2 = omega arith in z) in
-      let b = stays_out f s (suc n) (let z : n ≤ suc n = omega arith in z) (let z : suc n < n + 2 = omega arith in z) in
+      let a = stays_out l.2 s n at_once (let z : n < n + 2 = omega arith in z) in
+      let b = stays_out l.2 s (suc n) (let z : n ≤ suc n = omega arith in z) (let z : suc n < n + 2 = omega arith in z) in
       let untrusted : HasType [] env m un × (t ≡ un) × (u ≡ un) → HasEffect [] (extended (extended env t) (ty_put (name n) u)) q l.0 → HasEffect [] env (split m t u p) l.0
       = λ k. subst (λ t. HasEffect [] (extended (extended env t) (ty_put (name n) u)) q l.0 → HasEffect [] env (split m t u p) l.0) (sym k.1) (subst (λ u. HasEffect [] (extended (extended env un) (ty_put (name n) u)) q l.0 → HasEffect [] env (split m un u p) l.0) (sym k.2) (λ d. proc_split_un k.0 d a b)) in
       (l.0, ⊎_elim (λ (z : HasType [] env m (pair_ty t u)). proc_split z l.1.derivable.has g a b) (λ (k : HasType [] env m un × (t ≡ un) × (u ≡ un)). untrusted k l.1.derivable.has) (h (C.scrutinee m (pair_ty t u) t u) (in_later in_first)))
@@ -106,12 +107,10 @@ module _ (env : Env) where
   some_select : (m : Message) (t : Ty) (r : Message) (u : Ty) (p : Process) → ProcessOver n (select m t r u p) → Inner env (select m t r u p) → AllPass env (select m t r u p) → HasSome env (select m t r u p)
   some_select m t r u p over kids h =
       let q = process_put (name n) p in
-      let k : Child env (select m t r u p) 1 (extended env (ty_put r u)) (process_put (name n) p) = child_select in
-      let l = has_least over k (kids 1 _ _ k) in
-      let f : HasLeastBehind env (select m t r u p) 1 l.0 = record { inner = extended env (ty_put r u); process = q; child = k; least = l.1 } in
+      let l = following over kids child_select in
       let g = h (C.good (pair_ty t u)) in_first in
       let e = h (C.first r t) (in_later (in_later in_first)) in
-      let a = stays_out f (h (C.stays 1 1) (in_later (in_later (in_later in_first)))) n at_once next in
+      let a = stays_out l.2 (h (C.stays 1 1) (in_later (in_later (in_later in_first)))) n at_once next in
       let untrusted : HasType [] env m un × (t ≡ un) × (u ≡ un) → HasEffect [] (extended env (ty_put r u)) q l.0 → HasEffect [] env (select m t r u p) l.0
       = λ k. subst (λ t. HasType [] env r t → HasEffect [] (extended env (ty_put r u)) q l.0 → HasEffect [] env (select m t r u p) l.0) (sym k.1) (λ e. subst (λ u. HasEffect [] (extended env (ty_put r u)) q l.0 → HasEffect [] env (select m un r u p) l.0) (sym k.2) (λ d. proc_match_un k.0 e d a)) e in
       (l.0, ⊎_elim (λ (z : HasType [] env m (pair_ty t u)). proc_match z e l.1.derivable.has g a) (λ (k : HasType [] env m un × (t ≡ un) × (u ≡ un)). untrusted k l.1.derivable.has) (h (C.scrutinee m (pair_ty t u) t u) (in_later in_first)))
@@ -120,14 +119,10 @@ module _ (env : Env) where
   some_branch m t p u q over kids h =
       let p' = process_put (name n) p in
       let q' = process_put (name n) q in
-      let k : Child env (branch m t p u q) 1 (extended env t) p' = child_left in
-      let j : Child env (branch m t p u q) (suc (process_size p)) (extended env u) q' = child_right in
-      let l = has_least over k (kids 1 _ _ k) in
-      let r = has_least over j (kids (suc (process_size p)) _ _ j) in
-      let f : HasLeastBehind env (branch m t p u q) 1 l.0 = record { inner = extended env t; process = p'; child = k; least = l.1 } in
-      let g : HasLeastBehind env (branch m t p u q) (suc (process_size p)) r.0 = record { inner = extended env u; process = q'; child = j; least = r.1 } in
-      let a = stays_out f (h (C.stays 1 1) (in_later (in_later (in_later in_first)))) n at_once next in
-      let b = stays_out g (h (C.stays 1 (suc (process_size p))) (in_later (in_later (in_later (in_later in_first))))) n at_once next in
+      let l = following over kids child_left in
+      let r = following over kids child_right in
+      let a = stays_out l.2 (h (C.stays 1 1) (in_later (in_later (in_later in_first)))) n at_once next in
+      let b = stays_out r.2 (h (C.stays 1 (suc (process_size p))) (in_later (in_later (in_later (in_later in_first))))) n at_once next in
       let most = greater_is l.0 r.0 in
       let untrusted : HasType [] env m un × (t ≡ un) × (u ≡ un) → HasEffect [] (extended env t) p' l.0 → HasEffect [] (extended env u) q' r.0 → HasEffect [] env (branch m t p u q) (greater l.0 r.0)
       = λ k. subst (λ t. HasEffect [] (extended env t) p' l.0 → HasEffect [] (extended env u) q' r.0 → HasEffect [] env (branch m t p u q) (greater l.0 r.0)) (sym k.1) (subst (λ u. HasEffect [] (extended env un) p' l.0 → HasEffect [] (extended env u) q' r.0 → HasEffect [] env (branch m un p u q) (greater l.0 r.0)) (sym k.2) (λ d e. proc_case_un k.0 d e a b most)) in
@@ -136,12 +131,10 @@ module _ (env : Env) where
   some_decrypt : (m : Message) (t : Ty) (k : Message) (p : Process) → ProcessOver n (decrypt m t k p) → Inner env (decrypt m t k p) → AllPass env (decrypt m t k p) → HasSome env (decrypt m t k p)
   some_decrypt m t r p over kids h =
       let q = process_put (name n) p in
-      let k : Child env (decrypt m t r p) 1 (extended env t) (process_put (name n) p) = child_decrypt in
-      let l = has_least over k (kids 1 _ _ k) in
-      let f : HasLeastBehind env (decrypt m t r p) 1 l.0 = record { inner = extended env t; process = q; child = k; least = l.1 } in
+      let l = following over kids child_decrypt in
       let g = h (C.good t) in_first in
       let s = h (C.sealed m) (in_later in_first) in
-      let a = stays_out f (h (C.stays 1 1) (in_later (in_later (in_later in_first)))) n at_once next in
+      let a = stays_out l.2 (h (C.stays 1 1) (in_later (in_later (in_later in_first)))) n at_once next in
       let untrusted : HasType [] env r un × (t ≡ un) → HasEffect [] (extended env t) q l.0 → HasEffect [] env (decrypt m t r p) l.0
       = λ k. subst (λ t. HasEffect [] (extended env t) q l.0 → HasEffect [] env (decrypt m t r p) l.0) (sym k.1) (λ d. proc_decrypt_un s k.0 d a) in
       (l.0, ⊎_elim (λ (k : HasType [] env r (key t)). proc_decrypt s k l.1.derivable.has g a) (λ (k : HasType [] env r un × (t ≡ un)). untrusted k l.1.derivable.has) (h (C.key_of r t) (in_later (in_later in_first))))
@@ -171,30 +164,21 @@ module _ (env : Env) where
 
   some_cast : (m : Message) (t : Ty) (p : Process) → ProcessOver n (cast m t p) → Inner env (cast m t p) → AllPass env (cast m t p) → HasSome env (cast m t p)
   some_cast m un p over kids h =
-      let k : Child env (cast m un p) 1 (extended env un) (process_put (name n) p) = child_cast in
-      let l = has_least over k (kids 1 _ _ k) in
-      let f : HasLeastBehind env (cast m un p) 1 l.0 = record { inner = extended env un; process = process_put (name n) p; child = k; least = l.1 } in
-      let a = stays_out f (h (C.stays 1 1) (in_later (in_later (in_later in_first)))) n at_once next in
+      let l = following over kids child_cast in
+      let a = stays_out l.2 (h (C.stays 1 1) (in_later (in_later (in_later in_first)))) n at_once next in
       (l.0, proc_cast_un (h (C.sealed m) (in_later (in_later in_first))) l.1.derivable.has a)
-  some_cast m unit_ty p over kids h = absurd (h (C.castable unit_ty) in_first)
-  some_cast m (pair_ty t u) p over kids h = absurd (h (C.castable (pair_ty t u)) in_first)
-  some_cast m (sum_ty t u) p over kids h = absurd (h (C.castable (sum_ty t u)) in_first)
-  some_cast m (key t) p over kids h = absurd (h (C.castable (key t)) in_first)
   some_cast m (nonce fs) p over kids h =
-      let k : Child env (cast m (nonce fs) p) 1 (extended env (nonce fs)) (process_put (name n) p) = child_cast in
-      let l = has_least over k (kids 1 _ _ k) in
-      let f : HasLeastBehind env (cast m (nonce fs) p) 1 l.0 = record { inner = extended env (nonce fs); process = process_put (name n) p; child = k; least = l.1 } in
-      let a = stays_out f (h (C.stays 1 1) (in_later (in_later (in_later in_first)))) n at_once next in
+      let l = following over kids child_cast in
+      let a = stays_out l.2 (h (C.stays 1 1) (in_later (in_later (in_later in_first)))) n at_once next in
       (l.0 ++ fs, proc_cast (h (C.sealed m) (in_later (in_later in_first))) l.1.derivable.has (h (C.good (nonce fs)) (in_later in_first)) a (sum_append l.0 fs))
+  some_cast m t p over kids h = absurd (h (C.castable t) in_first)
 
   some_fresh : (t : Ty) (p : Process) → ProcessOver n (fresh t p) → Inner env (fresh t p) → AllPass env (fresh t p) → HasSome env (fresh t p)
   some_fresh t p over kids h =
-      let k : Child env (fresh t p) 1 (extended env t) (process_put (name n) p) = child_fresh in
-      let l = has_least over k (kids 1 _ _ k) in
-      let f : HasLeastBehind env (fresh t p) 1 l.0 = record { inner = extended env t; process = process_put (name n) p; child = k; least = l.1 } in
+      let l = following over kids child_fresh in
       let made = h (C.made 1) (in_later (in_later in_first)) in
       let off = minus_difference l.0 (checks (name n) ∷ []) in
-      let a = made_out f off made n at_once next in
+      let a = made_out l.2 off made n at_once next in
       (minus l.0 (checks (name n) ∷ []), proc_new l.1.derivable.has (h (C.generative t) in_first) (h (C.good t) (in_later in_first)) off a)
 
   some_par : (p q : Process) → Inner env (par p q) → HasSome env (par p q)

@@ -48,8 +48,7 @@ fn is_generative(t: &Ty) -> bool
     ensures { IsTrue result ↔ IsGenerative (type_of t.now) }
 {
     match t {
-        Ty::Un => true,
-        Ty::Key(_) => true,
+        Ty::Un | Ty::Key(_) => true,
         _ => false,
     }
 }
@@ -58,8 +57,7 @@ fn is_castable(t: &Ty) -> bool
     ensures { IsTrue result ↔ IsCastable (type_of t.now) }
 {
     match t {
-        Ty::Un => true,
-        Ty::Nonce(_) => true,
+        Ty::Un | Ty::Nonce(_) => true,
         _ => false,
     }
 }
@@ -115,14 +113,8 @@ fn is_nonce_name(env: &Env, m: &Msg) -> bool
     ensures { IsTrue result ↔ ((fs : Term.Effect) × IsNonce [] env.now (message m.now) fs) }
 {
     match m {
-        Msg::Bound(_) => false,
         Msg::Name(x) => is_nonce_at(env, *x),
-        Msg::Unit => false,
-        Msg::Pair(_, _) => false,
-        Msg::Inl(_) => false,
-        Msg::Inr(_) => false,
-        Msg::Enc(_, _) => false,
-        Msg::Hash(_) => false,
+        _ => false,
     }
 }
 

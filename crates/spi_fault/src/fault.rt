@@ -41,8 +41,7 @@ pub enum Shown {
 impl Drop for Shown {
     fn drop(self) {
         match self {
-            Shown::Message(_) => {}
-            Shown::Atom(_) => {}
+            Shown::Message(_) | Shown::Atom(_) => {}
         }
     }
 }

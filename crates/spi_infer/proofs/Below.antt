@@ -1,6 +1,6 @@
 -- The names of an effect are those in scope.
 use Rattle.std.proofs.Common.{◌≡◌, refl, ap, ◌∙◌, subst, ℕ, suc, ◌+◌, ◌≤◌, Bool, true, false, ◌||◌, [], ◌∷◌, ◌++◌, length, Option, Some, None, arith, length-append}
-use Rattle.spi_term.specs.Term.{Message, name, ends, checks, many, Effect, Ty, un, unit_ty, pair_ty, sum_ty, key, nonce, Prefix, Recvs, Serves, Splits, Selects, Decrypts, Checks, Begins, Ends, EndManys, Casts, Freshes, Fork, Branches, Pars, Process, leaf, prefix, fork, binds, fork_binds}
+use Rattle.spi_term.specs.Term.{Message, name, ends, checks, many, Effect, Ty, nonce, Prefix, Recvs, Serves, Splits, Selects, Decrypts, Checks, Begins, Ends, EndManys, Casts, Freshes, Fork, Branches, Pars, Process, leaf, prefix, fork, binds, fork_binds}
 use Rattle.spi_term.specs.Names.{MessageOver, OfTy, OfPrefix}
 use Rattle.spi_term.specs.Arena.{InScope}
 use Rattle.spi_effect.specs.Made.{are_many, minus, greater, mentions}
@@ -29,12 +29,8 @@ below_unless k es fs gs h f e =
     subst (Below k) u.1 (f (below_bound k es (next k es h) u.0))
 
 below_cast : (k : ℕ) (t : Ty) → OfTy (MessageOver k) 0 t → Below k (cast_effect_of t)
-below_cast k un h = λ a n. elim n [ ]
-below_cast k unit_ty h = λ a n. elim n [ ]
-below_cast k (pair_ty t u) h = λ a n. elim n [ ]
-below_cast k (sum_ty t u) h = λ a n. elim n [ ]
-below_cast k (key t) h = λ a n. elim n [ ]
 below_cast k (nonce es) h = below_over 0 es h
+below_cast k _ h = λ a n. elim n [ ]
 
 below_same : {n : ℕ} {es fs : Effect} → Some es ≡ Some fs → Below n es → Below n fs
 below_same {n} {es} {fs} e h = subst (Below n) (let f : es ≡ fs = cc in f) h

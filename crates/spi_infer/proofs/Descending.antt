@@ -70,6 +70,13 @@ module _ (k : ℕ) (p : Process) (env : Env) (names : k ≡ length env) (node i 
     abbrev Next : Type 0
     Next = Nearer env p node i j e'
 
+    -- node j stands in a process of node i that has `node`
+    nearer_in : {inner : Env} {q : Process} → e' ≡ inner → ReachesNode env p j inner q → i < j → j ≤ node → node < j + process_size q → Next
+    nearer_in {q = q} z r l f b = record {
+      later = l;
+      toward = record { process = q; reached = subst (λ e'. ReachesNode env p j e' q) (sym z) r; from = f; before = b };
+    }
+
     nearer_leaf : (l : Leaf) → node < i + process_size (leaf l) → Next
     nearer_leaf l b = absurd (omega (arith, b))
 
@@ -77,15 +84,7 @@ module _ (k : ℕ) (p : Process) (env : Env) (names : k ≡ length env) (node i 
     nearer_prefix s q r b d =
         let z : i + 1 ≡ j = omega (arith, d.0) in
         let n = size_enter (binds s) (length e) q in
-        record {
-          later = omega (arith, d.0);
-          toward = record {
-            process = enter (binds s) (length e) q;
-            reached = subst (λ e'. ReachesNode env p j e' (enter (binds s) (length e) q)) (sym d.1) (at_place z (reach_then r (at_place (let o : suc 0 ≡ 1 = omega arith in o) (reach_prefix {s = s} reach_root))));
-            from = omega (arith, d.0);
-            before = omega (arith, d.0, b, n);
-          };
-        }
+        nearer_in d.1 (at_place z (reach_then r (at_place (let o : suc 0 ≡ 1 = omega arith in o) (reach_prefix {s = s} reach_root)))) (omega (arith, d.0)) (omega (arith, d.0)) (omega (arith, d.0, b, n))
 
     nearer_fork : (f : Fork) (q q' : Process) (r : ℕ) → r ≡ suc (0 + i) + process_size q → ReachesNode env p i e (fork f q q') → node < i + process_size (fork f q q') → Descends (fork_at (length e) f (suc (0 + i)) r) node e j e' → Next
     nearer_fork f q q' r n w b d = ⊎_elim here there (cases_lt node r)
@@ -95,15 +94,7 @@ module _ (k : ℕ) (p : Process) (env : Env) (names : k ≡ length env) (node i 
             let g = d.0 l in
             let z : i + 1 ≡ j = omega (arith, g.0) in
             let m = size_enter (fork_binds f) (length e) q in
-            record {
-              later = omega (arith, g.0);
-              toward = record {
-                process = enter (fork_binds f) (length e) q;
-                reached = subst (λ e'. ReachesNode env p j e' (enter (fork_binds f) (length e) q)) (sym g.1) (at_place z (reach_then w (reach_first {f = f} {q = q'} reach_root)));
-                from = omega (arith, g.0);
-                before = omega (arith, g.0, l, n, m);
-              };
-            }
+            nearer_in g.1 (at_place z (reach_then w (reach_first {f = f} {q = q'} reach_root))) (omega (arith, g.0)) (omega (arith, g.0)) (omega (arith, g.0, l, n, m))
 
         there : r ≤ node → Next
         there l =
@@ -111,15 +102,7 @@ module _ (k : ℕ) (p : Process) (env : Env) (names : k ≡ length env) (node i 
             let z : i + suc (process_size q) ≡ j = omega (arith, g.0, n) in
             let m = size_enter (fork_binds f) (length e) q' in
             let o : process_size q ≡ process_size q + 0 = omega arith in
-            record {
-              later = omega (arith, g.0, n);
-              toward = record {
-                process = enter (fork_binds f) (length e) q';
-                reached = subst (λ e'. ReachesNode env p j e' (enter (fork_binds f) (length e) q')) (sym g.1) (at_place z (reach_then w (reach_rest {f = f} {p = q} reach_root o)));
-                from = omega (arith, g.0, l);
-                before = omega (arith, g.0, n, b, m);
-              };
-            }
+            nearer_in g.1 (at_place z (reach_then w (reach_rest {f = f} {p = q} reach_root o))) (omega (arith, g.0, n)) (omega (arith, g.0, l)) (omega (arith, g.0, n, b, m))
 
     nearer_by : (q : Process) → ReachesNode env p i e q → node < i + process_size q → Descends x node e j e' → Next
     nearer_by (leaf l) r b d = nearer_leaf l b

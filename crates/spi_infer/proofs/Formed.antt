@@ -120,25 +120,26 @@ branch_both k a b a' b' c h j g s keys es fs kd t u x y =
     let (f, w) = unless_some (with_keys s keys) b' (mentions k fs) fs (j s keys fs kd u y) in
     kept_unless (with_keys s keys) c (mentions k es || mentions k fs) (greater es fs) (both_false e f) (stands_greatest (with_keys s keys) (numbers kd) v w g)
 
+-- the label that is kept is the node's
+label_at : (P : ℕ → Type 0) {own : Own} {label id : MsgId} → ((id : MsgId) → own ≡ Label id → Some label ≡ Some id) → own ≡ Label id → P id.place → P label.place
+label_at P {label = label} {id = id} f e g = let i : label ≡ id = some_one (f id e) in subst (λ (i : MsgId). P i.place) (sym i) g
+
 pub begin_is : (keys : Keys) (own : Own) (label : MsgId) (old mid new : Sum) → ((id : MsgId) → own ≡ Label id → Some label ≡ Some id)
     → TakesAtom keys (A.End label) old mid → TakesAtom keys (A.Many label) mid new → OwnBegin keys own old (Some new)
 begin_is keys own label old mid new f p q s id m es e kd g t =
-    let i : label ≡ id = some_one (f id e) in
-    let h = subst (λ (i : MsgId). slice_get s.messages i.place ≡ Some m) (sym i) g in
+    let h = label_at (λ i. slice_get s.messages i ≡ Some m) f e g in
     q s (many m) (minus es (ends m ∷ [])) kd (says_many h) (p s (ends m) es kd (says_end h) t)
 
 pub end_is : (keys : Keys) (own : Own) (label : MsgId) (old new : Sum) → ((id : MsgId) → own ≡ Label id → Some label ≡ Some id)
     → AddsAtom keys (A.End label) old new → OwnEnd keys own old (Some new)
 end_is keys own label old new f p s id m es e kd g t =
-    let i : label ≡ id = some_one (f id e) in
-    let h = subst (λ (i : MsgId). with_keys s keys i.place m) (sym i) g in
+    let h = label_at (λ i. with_keys s keys i m) f e g in
     p s (ends m) es kd (says_end h.at) (label.place, h) t
 
 pub many_is : (keys : Keys) (own : Own) (label : MsgId) (old new : Sum) → ((id : MsgId) → own ≡ Label id → Some label ≡ Some id)
     → AddsAtom keys (A.Many label) old new → OwnMany keys own old (Some new)
 many_is keys own label old new f p s id m es e kd g t =
-    let i : label ≡ id = some_one (f id e) in
-    let h = subst (λ (i : MsgId). with_keys s keys i.place m) (sym i) g in
+    let h = label_at (λ i. with_keys s keys i m) f e g in
     p s (many m) es kd (says_many h.at) (label.place, h) t
 
 pub cast_form : (s : Store) (keys : Keys) (k b : ℕ) (m : Message) (u : Ty) (own : Own) (sum : Sum) (r : Option Sum) → OwnCast k s keys own sum r → AfterForm s keys (prefix_at k (Casts m u) b) own sum r

@@ -2,10 +2,12 @@
 use Rattle.std.proofs.Common.{◌≡◌, ℕ, List, [], ◌∷◌, ◌++◌, Option, Some, None, refl, sym, subst, Result, Ok, Err, IfOk}
 use Rattle.std.specs.Prelude.{IfSome, IfNone, ⊤}
 use Rattle.spi_term.specs.declared.term.Msg.{Msg}
+use Rattle.spi_term.specs.declared.term.Effect as D
 use Rattle.spi_term.specs.declared.term.Ty.{Ty}
+use Rattle.spi_term.specs.declared.term.Ty.TheVariants as T
 use Rattle.spi_term.specs.declared.term.Form.{Form}
 use Rattle.spi_term.specs.declared.term.Form.TheVariants as F
-use Rattle.spi_term.specs.View.{form_of}
+use Rattle.spi_term.specs.View.{form_of, ty}
 use Rattle.spi_term.specs.Term.{Message, name, Effect, nonce, Prefix, Recvs, Serves, Splits, Selects, Decrypts, Checks, Begins, Ends, EndManys, Casts, Freshes}
 use Rattle.spi_term.specs.Spelling.{Shape, leaf_at, prefix_at, fork_at}
 use Rattle.spi_rules.specs.Environment.{Env}
@@ -34,17 +36,13 @@ paid_keeps (Some t) (Some es) g h = means_keeps g h
 
 module _ {s r : Store} {ks ls : Keys} (g : GrowsTo s ks r ls) where
   form_keeps : (k : ℕ) (p : Prefix) (paid : Option Effect) (own : Own) → FormFits s (with_keys s ks) k p paid own → FormFits r (with_keys r ls) k p paid own
-  form_keeps k (Recvs m t) paid own h = tt
-  form_keeps k (Serves m t) paid own h = tt
-  form_keeps k (Splits m t u) paid own h = tt
-  form_keeps k (Selects m t n u) paid own h = tt
-  form_keeps k (Decrypts m t n) paid own h = tt
   form_keeps k (Checks m n) paid own h = (h.0, h.1, h.2, key_keeps {s = s} {r = r} {ks = ks} {ls = ls} g h.3, paid_keeps h.1 paid g.store h.4)
   form_keeps k (Begins m) paid own h = (h.0, h.1, g.store.messages.at h.0.place m h.2)
   form_keeps k (Ends m) paid own h = (h.0, h.1, key_keeps {s = s} {r = r} {ks = ks} {ls = ls} g h.2)
   form_keeps k (EndManys m) paid own h = (h.0, h.1, key_keeps {s = s} {r = r} {ks = ks} {ls = ls} g h.2)
   form_keeps k (Casts m t) paid own h = (h.0, h.1, means_keeps g.store h.2, have_keys_keep {s = s} {r = r} {ks = ks} {ls = ls} (cast_effect_of t) g h.3)
   form_keeps k (Freshes t) paid own h = (h.0, h.1, g.store.messages.at h.0.place (name k) h.2)
+  form_keeps k _ paid own h = tt
 
   fits_keep : (x : Shape) (paid : Option Effect) (own : Own) → IsOwnOf s (with_keys s ks) x paid own → IsOwnOf r (with_keys r ls) x paid own
   fits_keep (leaf_at k l) paid own h = tt
@@ -67,8 +65,10 @@ pub paid_fits : {s : Store} (o : Option TyId) (e : Env) (n : Message) (P : TyId 
 paid_fits {s} (Some t) e n P Q h g f z = let w = f t h in subst (PaidFits s (Some t)) (sym w.1) w.2
 paid_fits {s} None e n P Q h g f z = subst (PaidFits s None) (sym (z g)) tt
 
-pub none_as : (s : Store) (ks : Keys) (es : Effect) → es ≡ [] → HaveKeys s ks es
-none_as s ks es e = subst (λ es. HaveKeys s ks es) (sym e) (have_none s ks)
+-- a cast adds atoms where its type is a nonce's
+pub none_cast : (s : Store) (ks : Keys) (t : Ty) → ((e : D.Effect) → t ≡ T.Nonce e → ⊥) → HaveKeys s ks (cast_effect_of (ty t))
+none_cast s ks (T.Nonce e) h = absurd (h e refl)
+none_cast s ks _ h = have_none s ks
 
 -- forms of which nothing is kept
 abbrev pub IsQuietForm : Prefix → Type 0
@@ -77,12 +77,7 @@ IsQuietForm (Serves m t) = ⊤
 IsQuietForm (Splits m t u) = ⊤
 IsQuietForm (Selects m t n u) = ⊤
 IsQuietForm (Decrypts m t n) = ⊤
-IsQuietForm (Checks m n) = ⊥
-IsQuietForm (Begins m) = ⊥
-IsQuietForm (Ends m) = ⊥
-IsQuietForm (EndManys m) = ⊥
-IsQuietForm (Casts m t) = ⊥
-IsQuietForm (Freshes t) = ⊥
+IsQuietForm _ = ⊥
 
 abbrev pub IsQuietShape : Shape → Type 0
 IsQuietShape (leaf_at k l) = ⊤
@@ -94,21 +89,13 @@ pub quiet_rest : (k : ℕ) (f : Form)
     → ((m n : Msg) (b : ℕ) → f ≡ F.Check m n b → ⊥) → ((m : Msg) (b : ℕ) → f ≡ F.Begin m b → ⊥) → ((m : Msg) (b : ℕ) → f ≡ F.End m b → ⊥)
     → ((m : Msg) (b : ℕ) → f ≡ F.EndMany m b → ⊥) → ((m : Msg) (t : Ty) (b : ℕ) → f ≡ F.Cast m t b → ⊥) → ((t : Ty) (b : ℕ) → f ≡ F.Fresh t b → ⊥)
     → IsQuietShape (form_of k f)
-quiet_rest k (F.Send a b) h i j l o p = tt
-quiet_rest k (F.Recv m t b) h i j l o p = tt
-quiet_rest k (F.Serve m t b) h i j l o p = tt
-quiet_rest k (F.Split m t u b) h i j l o p = tt
-quiet_rest k (F.Select m t n u b) h i j l o p = tt
-quiet_rest k (F.Branch m t a u b) h i j l o p = tt
-quiet_rest k (F.Decrypt m t n b) h i j l o p = tt
 quiet_rest k (F.Check m n b) h i j l o p = absurd (h m n b refl)
 quiet_rest k (F.Begin m b) h i j l o p = absurd (i m b refl)
 quiet_rest k (F.End m b) h i j l o p = absurd (j m b refl)
 quiet_rest k (F.EndMany m b) h i j l o p = absurd (l m b refl)
 quiet_rest k (F.Cast m t b) h i j l o p = absurd (o m t b refl)
 quiet_rest k (F.Fresh t b) h i j l o p = absurd (p t b refl)
-quiet_rest k (F.Par a b) h i j l o p = tt
-quiet_rest k F.Stop h i j l o p = tt
+quiet_rest k _ h i j l o p = tt
 
 quiet_form : (s : Store) (At : ℕ → Message → Type 0) (k : ℕ) (p : Prefix) (paid : Option Effect) (own : Own) → IsQuietForm p → FormFits s At k p paid own
 quiet_form s At k (Recvs m t) paid own h = tt
@@ -116,12 +103,7 @@ quiet_form s At k (Serves m t) paid own h = tt
 quiet_form s At k (Splits m t u) paid own h = tt
 quiet_form s At k (Selects m t n u) paid own h = tt
 quiet_form s At k (Decrypts m t n) paid own h = tt
-quiet_form s At k (Checks m n) paid own h = absurd h
-quiet_form s At k (Begins m) paid own h = absurd h
-quiet_form s At k (Ends m) paid own h = absurd h
-quiet_form s At k (EndManys m) paid own h = absurd h
-quiet_form s At k (Casts m t) paid own h = absurd h
-quiet_form s At k (Freshes t) paid own h = absurd h
+quiet_form s At k _ paid own h = absurd h
 
 quiet_shape : (s : Store) (At : ℕ → Message → Type 0) (x : Shape) (paid : Option Effect) (own : Own) → IsQuietShape x → IsOwnOf s At x paid own
 quiet_shape s At (leaf_at k l) paid own h = tt

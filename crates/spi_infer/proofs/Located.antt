@@ -4,6 +4,7 @@ use Rattle.spi_term.specs.Term.{Effect, Process, leaf, prefix, fork, binds, fork
 use Rattle.spi_term.specs.Names.{MessageOver, OfProcess, ProcessOver}
 use Rattle.spi_term.specs.Spelling.{Shape, flat, numbered, spelled}
 use Rattle.spi_term.proofs.Numbers.{size_numbered}
+use Rattle.spi_term.proofs.Rows.{length_flat}
 use Rattle.spi_term.proofs.Terms.{over_put_process, over_more_process}
 use Rattle.spi_term.specs.Substitution.{process_map, put}
 use Rattle.spi_rules.specs.Environment.{Env}
@@ -16,14 +17,6 @@ use Rattle.spi_infer.proofs.Reach.{ReachesNode, reach_root, reach_prefix, reach_
 use Rattle.spi_infer.proofs.Blocked.{reach_within}
 
 -- lists
-length_flat : (q : Process) (i k : ℕ) → length (flat i k q) ≡ process_size q
-length_flat (leaf l) i k = refl
-length_flat (prefix s p) i k = ap suc (length_flat p (suc i) (k + binds s))
-length_flat (fork f p q) i k =
-    let fp = flat (suc i) (k + fork_binds f) p in
-    let fq = flat (suc i + process_size p) (k + fork_binds f) q in
-    omega (arith, length-append fp fq, length_flat p (suc i) (k + fork_binds f), length_flat q (suc i + process_size p) (k + fork_binds f))
-
 length_notes : (q : Process) (e : Env) → length (notes q e) ≡ process_size q
 length_notes (leaf l) e = refl
 length_notes (prefix s p) e = ap suc (length_notes p (e ++ more e s))

@@ -3,7 +3,7 @@ use Rattle.std.proofs.Common.{◌≡◌, refl, sym, ap, ◌∙◌, subst, ℕ, z
 use Rattle.std.specs.Prelude.{⊤, slice_get, if◌then◌else◌}
 use Rattle.std.proofs.lemmas.List.{drop_all}
 use Rattle.std.proofs.lemmas.Option.{slice_get_within}
-use Rattle.spi_term.specs.Term.{Message, Effect, Prefix, Recvs, Serves, Splits, Selects, Decrypts, Checks, Begins, Ends, EndManys, Casts, Freshes, Process, leaf, prefix, fork, binds, fork_binds, process_size}
+use Rattle.spi_term.specs.Term.{Message, Effect, Prefix, Checks, Casts, Process, leaf, prefix, fork, binds, fork_binds, process_size}
 use Rattle.spi_term.specs.Names.{ProcessOver}
 use Rattle.spi_term.specs.Spelling.{Shape, leaf_at, prefix_at, fork_at, flat, numbered, spelled}
 use Rattle.spi_term.specs.Arena.{InScope}
@@ -128,17 +128,9 @@ cast_given : (s : Store) (own : Own) (t : TyId) (i : ℕ) → own ≡ Cast t →
 cast_given s own t i e l t' g = let h : t ≡ t' = cc in subst (λ (t : TyId). t.place < length s.types) h l
 
 form_given : (s : Store) (keys : Keys) (k : ℕ) (p : Prefix) (paid : Option Effect) (own : Own) → FormFits s (with_keys s keys) k p paid own → (b : ℕ) → OwnGiven s (prefix_at k p b) own
-form_given s keys k (Recvs m t) paid own f b = tt
-form_given s keys k (Serves m t) paid own f b = tt
-form_given s keys k (Splits m t u) paid own f b = tt
-form_given s keys k (Selects m t n u) paid own f b = tt
-form_given s keys k (Decrypts m t n) paid own f b = tt
 form_given s keys k (Checks m n) paid own f b = check_given s own f.0 f.1 paid f.2 f.4
-form_given s keys k (Begins m) paid own f b = tt
-form_given s keys k (Ends m) paid own f b = tt
-form_given s keys k (EndManys m) paid own f b = tt
 form_given s keys k (Casts m t) paid own f b = cast_given s own f.0 0 f.1 (slice_get_within s.types f.0.place f.2.kind f.2.at)
-form_given s keys k (Freshes t) paid own f b = tt
+form_given s keys k _ paid own f b = tt
 
 fits_given : (s : Store) (keys : Keys) (x : Shape) (paid : Option Effect) (own : Own) → IsOwnOf s (with_keys s keys) x paid own → OwnGiven s x own
 fits_given s keys (leaf_at k l) paid own f = tt
@@ -191,6 +183,13 @@ module _ (s : Store) (noted : Noted) (k : ℕ) (p : Process) (env : Env) (h : Is
 
     pub acted : act x note_here st ≡ run (drop i ss) (drop i ns)
     acted = sym (ap (λ l. run l (drop i ns)) at_node ∙ ap (run (x ∷ drop id ss)) at_note)
+
+    -- what the node's turn makes of the stack, and whether the node is stuck
+    pub tops_after : (old new : List (Option Sum)) → Tops s noted.keys old st → ((n : Note) (st : List (Option Effect)) → IsBeforeNode s noted.keys x o old n st → Tops s noted.keys new (act x n st)) → Tops s noted.keys new (run (drop i ss) (drop i ns))
+    tops_after old new t f = subst (Tops s noted.keys new) acted (f note_here st (before old t))
+
+    pub stuck_at : (old : List (Option Sum)) (b : Bool) → Tops s noted.keys old st → ((n : Note) (st : List (Option Effect)) → IsBeforeNode s noted.keys x o old n st → b ≡ is_stuck x n st) → b ≡ is_stuck x note_here st
+    stuck_at old b t f = f note_here st (before old t)
 
     stuck_is : first_stuck i (drop i ss) (drop i ns) ≡ (if is_stuck x note_here st then Some i else first_stuck (suc i) (drop id ss) (drop id ns))
     stuck_is = ap (λ l. first_stuck i l (drop i ns)) at_node ∙ ap (first_stuck i (x ∷ drop id ss)) at_note

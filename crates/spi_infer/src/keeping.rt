@@ -28,12 +28,8 @@ fn keep_cast(judge: &mut Judge, keys: &mut Keys, t: &Ty) -> Result<(), NoMemory>
     ensures kept { IsKept judge.old judge.new }
 {
     match t {
-        Ty::Un => Ok(()),
-        Ty::Unit => Ok(()),
-        Ty::Pair(_, _) => Ok(()),
-        Ty::Sum(_, _) => Ok(()),
-        Ty::Key(_) => Ok(()),
         Ty::Nonce(e) => keep_atoms(judge, keys, e),
+        _ => Ok(()),
     }
 }
 

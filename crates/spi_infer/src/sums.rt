@@ -4,6 +4,7 @@ ghost use Rattle.spi_term.specs.Term as Term;
 ghost use Rattle.spi_term.specs.View.{shape_of};
 ghost use Rattle.spi_term.specs.Arena.{scope_of};
 ghost use Rattle.spi_intern.specs.declared.store.Store.{Store};
+ghost use Rattle.spi_count.specs.Adding.{AddsAtom};
 ghost use Rattle.spi_infer.specs.Accounts.{AfterOne, AfterTwo, AfterServe, AfterMake, AfterCast, AfterCheck, AfterForm, BothForm, BothCase, MayBeType, OwnCheck, OwnCast, OwnMake, OwnBegin, OwnEnd, OwnMany, CheckGiven, CastGiven, OwnGiven};
 
 use crate::own::Own;
@@ -166,17 +167,22 @@ pub fn begun(keys: &Keys, own: Own, sum: Sum) -> Option<Sum>
     }
 }
 
+// One more atom.
+fn with_atom(keys: &Keys, a: AtomId, sum: Sum) -> Result<Sum, NoMemory>
+    ensures { IfOk result (AddsAtom keys.now a sum) }
+{
+    let mut more = sum;
+    add_atom(keys, a, &mut more)?;
+    Ok(more)
+}
+
 /// An `end` asks for a begin of its label.
 pub fn ended(keys: &Keys, own: Own, sum: Sum) -> Result<Option<Sum>, NoMemory>
     ensures { IfOk result (OwnEnd keys.now own sum) }
 {
     match own.label() {
         None => Ok(None),
-        Some(label) => {
-            let mut more = sum;
-            add_atom(keys, AtomId::End(label), &mut more)?;
-            Ok(Some(more))
-        }
+        Some(label) => Ok(Some(with_atom(keys, AtomId::End(label), sum)?)),
     }
 }
 
@@ -186,11 +192,7 @@ pub fn ended_many(keys: &Keys, own: Own, sum: Sum) -> Result<Option<Sum>, NoMemo
 {
     match own.label() {
         None => Ok(None),
-        Some(label) => {
-            let mut more = sum;
-            add_atom(keys, AtomId::Many(label), &mut more)?;
-            Ok(Some(more))
-        }
+        Some(label) => Ok(Some(with_atom(keys, AtomId::Many(label), sum)?)),
     }
 }
 

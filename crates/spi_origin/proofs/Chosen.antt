@@ -174,6 +174,10 @@ range_with : (a b : Bool) (i n : ℕ) (l : List ℕ) → i < n → Range (suc i)
 range_with a b i n l h r j k =
     ⊎_elim (λ c. (omega (arith, c.1), omega (arith, c.1, h))) (λ k. let z = r j k in (omega (arith, z.0), z.1)) (in_with a b i j l k).1
 
+range_both : {i m k n' n : ℕ} {a b : List ℕ} → Range i m a → Range k n' b → i ≤ k → m ≤ n → n' ≤ n → Range i n (a ++ b)
+range_both {a = a} r t low first rest j k =
+    ⊎_elim (λ k. let z = r j k in (z.0, omega (arith, z.1, first))) (λ k. let z = t j k in (omega (arith, z.0, low), omega (arith, z.1, rest))) (in_append a k)
+
 pub ranges : (w : Aim) (q : Process) (e : Env) (i : ℕ) → Range i (i + process_size q) (picked w q e i)
 ranges w (leaf l) e i = range_with _ _ i (i + 1) [] (omega arith) (λ j k. elim k [ ])
 ranges w (prefix s p) e i =
@@ -181,11 +185,8 @@ ranges w (prefix s p) e i =
     range_with _ _ i (i + suc (process_size p)) (picked w p (e ++ more e s) (suc i)) (omega arith) (λ j k. let z = r j k in (z.0, omega (arith, z.1)))
 ranges w (fork f p q) e i =
     let m = suc i + process_size p in
-    let a = picked w p (e ++ on_first f) (suc i) in
-    let b = picked w q (e ++ on_rest f) m in
-    let r = ranges w p (e ++ on_first f) (suc i) in
-    let t = ranges w q (e ++ on_rest f) m in
-    range_with _ _ i (i + suc (process_size p + process_size q)) (a ++ b) (omega arith) (λ j k. ⊎_elim (λ k. let z = r j k in (z.0, omega (arith, z.1))) (λ k. let z = t j k in (omega (arith, z.0), omega (arith, z.1))) (in_append a k))
+    range_with _ _ i (i + suc (process_size p + process_size q)) _ (omega arith)
+    (range_both (ranges w p (e ++ on_first f) (suc i)) (ranges w q (e ++ on_rest f) m) (omega arith) (omega arith) (omega arith))
 
 ascends_with : (a b : Bool) (i : ℕ) (l : List ℕ) → ((j : ℕ) → In j l → i < j) → AreAscending l → AreAscending (with_node a b i l)
 ascends_with false b i l h k = tt

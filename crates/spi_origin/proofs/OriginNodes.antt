@@ -23,7 +23,7 @@ use Rattle.spi_term.specs.Counts.{count, tally}
 use Rattle.spi_term.specs.Lists.{In}
 use Rattle.spi_term.specs.Names.{ProcessOver}
 use Rattle.spi_term.specs.Substitution.{ty_put}
-use Rattle.spi_term.specs.Term.{Message, bound, name, unit, pair, in_left, in_right, enc, hash, Atom, ends, checks, many, same_atom, Effect, Ty, un, unit_ty, pair_ty, sum_ty, key, nonce, Prefix, Recvs, Serves, Splits, Selects, Decrypts, Checks, Begins, Ends, EndManys, Casts, Freshes, Branches, Pars, Process, leaf, prefix, fork, process_size}
+use Rattle.spi_term.specs.Term.{Message, name, Atom, ends, checks, many, same_atom, Effect, Ty, nonce, Prefix, Recvs, Serves, Splits, Selects, Decrypts, Checks, Begins, Ends, EndManys, Casts, Freshes, Branches, Pars, Process, leaf, prefix, fork, process_size}
 
 pub some_in : (a : Atom) (es : Effect) → 0 < count a es → In a es
 some_in a es h = tally_in a es ((count_tally a (tally a es)).0 (omega (arith, h)))
@@ -50,24 +50,13 @@ left_kept a e p l = left_has a e p (computed_of e p) refl l
 
 -- what a form adds
 nonce_some : (o : Option Ty) (es : Effect) → nonce_in o ≡ Some es → o ≡ Some (nonce es)
-nonce_some None es h = absurd (cc h)
-nonce_some (Some un) es h = absurd (cc h)
-nonce_some (Some unit_ty) es h = absurd (cc h)
-nonce_some (Some (pair_ty t u)) es h = absurd (cc h)
-nonce_some (Some (sum_ty t u)) es h = absurd (cc h)
-nonce_some (Some (key t)) es h = absurd (cc h)
 nonce_some (Some (nonce fs)) es h = let z : fs ≡ es = cc h in ap (λ fs. Some (nonce fs)) z
+nonce_some _ es h = absurd (cc h)
 
 is_nonce : (e : Env) (n : Message) (o : Option Effect) → nonce_of e n ≡ o → is_some o ≡ true → (fs : Effect) × IsNonce [] e n fs
 is_nonce e n None f h = absurd (cc h)
 is_nonce e (name x) (Some fs) f h = (fs, nonce_name (get_at e x (nonce_some (slice_get e x) fs f)))
-is_nonce e (bound i) (Some fs) f h = absurd (cc f)
-is_nonce e unit (Some fs) f h = absurd (cc f)
-is_nonce e (pair a b) (Some fs) f h = absurd (cc f)
-is_nonce e (in_left m) (Some fs) f h = absurd (cc f)
-is_nonce e (in_right m) (Some fs) f h = absurd (cc f)
-is_nonce e (enc a b) (Some fs) f h = absurd (cc f)
-is_nonce e (hash m) (Some fs) f h = absurd (cc f)
+is_nonce e _ (Some fs) f h = absurd (cc f)
 
 nonce_is : {e : Env} {n : Message} {fs : Effect} → IsNonce [] e n fs → is_some (nonce_of e n) ≡ true
 nonce_is (nonce_name a) = ap (λ o. is_some (nonce_in o)) (at_get a)
@@ -77,12 +66,8 @@ adds_same : {e : Env} {p : Process} {a b : Atom} → a ≡ b → AddsToEffect e 
 adds_same {e} {p} f h = subst (AddsToEffect e p) (sym f) h
 
 cast_adds : (e : Env) (m : Message) (t : Ty) (p : Process) (a : Atom) → In a (cast_effect_of t) → AddsToEffect e (prefix (Casts m t) p) a
-cast_adds e m un p a i = elim i [ ]
-cast_adds e m unit_ty p a i = elim i [ ]
-cast_adds e m (pair_ty t u) p a i = elim i [ ]
-cast_adds e m (sum_ty t u) p a i = elim i [ ]
-cast_adds e m (key t) p a i = elim i [ ]
 cast_adds e m (nonce es) p a i = adds_cast i
+cast_adds e m _ p a i = elim i [ ]
 
 by_adds : (e : Env) (s : Prefix) (p : Process) (a : Atom) → adds_by a s (paid_by e s) ≡ true → AddsToEffect e (prefix s p) a
 by_adds e (Recvs m t) p a h = absurd (cc h)

@@ -54,12 +54,8 @@ fn is_cast(a: &Atom, t: &Ty) -> bool
     ensures { IsTrue result ↔ 0 < count (atom a.now) (cast_effect_of (type_of t.now)) }
 {
     match t {
-        Ty::Un => false,
-        Ty::Unit => false,
-        Ty::Pair(_, _) => false,
-        Ty::Sum(_, _) => false,
-        Ty::Key(_) => false,
         Ty::Nonce(e) => count_in(&e.atoms, a) > 0,
+        _ => false,
     }
 }
 

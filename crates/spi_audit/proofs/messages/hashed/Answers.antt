@@ -1,8 +1,11 @@
-use Rattle.spi_audit.proofs.MessageParts.{hash_not_un, hash_fits, hash_not}
+use Rattle.spi_rules.specs.declared.rule.Rule.TheVariants.{MsgHash}
+use Rattle.spi_intern.specs.declared.messages.MsgPart.TheVariants as P
+use Rattle.spi_audit.proofs.Replies.{un_not}
+use Rattle.spi_audit.proofs.MessageParts.{hash_fits, hash_not}
 use Rattle.spi_audit.proofs.messages.hashed.Goals as goal
 
 pub returns-then-not-is_untrusted-clause-answer : goal.returns-then-not-is_untrusted-clause-answer
-returns-then-not-is_untrusted-clause-answer c = hash_not_un c.args.judge.now c.args.t c.is_untrusted.result c.is_untrusted.ensures c.args.a c.if-not-is_untrusted.true
+returns-then-not-is_untrusted-clause-answer c = un_not c.args.judge.now c.args.t c.is_untrusted.result c.is_untrusted.ensures MsgHash (P.Hash c.args.a) tt c.if-not-is_untrusted.true
 
 pub returns-then-branch-clause-answer : goal.returns-then-branch-clause-answer
 returns-then-branch-clause-answer c =

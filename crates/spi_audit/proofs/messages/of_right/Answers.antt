@@ -1,5 +1,7 @@
-use Rattle.spi_audit.proofs.Replies.{right_other}
+use Rattle.std.proofs.Common.{⊎_elim}
+use Rattle.spi_intern.specs.declared.messages.MsgPart.TheVariants as P
+use Rattle.spi_audit.proofs.Replies.{other}
 use Rattle.spi_audit.proofs.messages.of_right.Goals as goal
 
 pub returns-in_default : goal.returns-in_default
-returns-in_default c = right_other c.args.judge.now c.args.rule c.args.t c.args.a c.in_default.not-MsgInr c.in_default.not-MsgInrUn
+returns-in_default c = other c.args.judge.now c.args.rule c.args.t (P.Inr c.args.a) (⊎_elim c.in_default.not-MsgInr c.in_default.not-MsgInrUn)

@@ -1,5 +1,7 @@
-use Rattle.spi_audit.proofs.Replies.{unit_other}
+use Rattle.std.proofs.Common.{⊎_elim}
+use Rattle.spi_intern.specs.declared.messages.MsgPart.TheVariants as P
+use Rattle.spi_audit.proofs.Replies.{other}
 use Rattle.spi_audit.proofs.messages.of_unit.Goals as goal
 
 pub returns-in_default : goal.returns-in_default
-returns-in_default c = unit_other c.args.judge.now c.args.rule c.args.t c.in_default.not-MsgUnit c.in_default.not-MsgUnitUn
+returns-in_default c = other c.args.judge.now c.args.rule c.args.t P.Unit (⊎_elim c.in_default.not-MsgUnit c.in_default.not-MsgUnitUn)

@@ -17,20 +17,15 @@ message_use-requires-clause-ty c =
     let ss = spelled c.args.process.now.names c.args.process.now.process in
     message_given c.args.judge.now ss c.in-Message.m c.in-Message.t (next_is c.args.judge.now ss c.in-Message.is c.requires.next)
 
-pub settle-requires-clause-low : goal.settle-requires-clause-low
-settle-requires-clause-low c =
+pub settle-requires : goal.settle-requires
+settle-requires c =
     let ss = spelled c.args.process.now.names c.args.process.now.process in
-    process_low c.args.judge.now ss c.in-Process.id c.in-Process.scope c.in-Process.names (next_is c.args.judge.now ss c.in-Process.is c.requires.next)
-
-pub settle-requires-clause-few : goal.settle-requires-clause-few
-settle-requires-clause-few c =
-    let ss = spelled c.args.process.now.names c.args.process.now.process in
-    process_few c.args.judge.now ss c.in-Process.id c.in-Process.scope c.in-Process.names (next_is c.args.judge.now ss c.in-Process.is c.requires.next)
-
-pub settle-requires-clause-given : goal.settle-requires-clause-given
-settle-requires-clause-given c =
-    let ss = spelled c.args.process.now.names c.args.process.now.process in
-    process_bound c.args.judge.now ss c.in-Process.id c.in-Process.scope c.in-Process.names (next_is c.args.judge.now ss c.in-Process.is c.requires.next)
+    let next = next_is c.args.judge.now ss c.in-Process.is c.requires.next in
+    record {
+      low = process_low c.args.judge.now ss c.in-Process.id c.in-Process.scope c.in-Process.names next;
+      few = process_few c.args.judge.now ss c.in-Process.id c.in-Process.scope c.in-Process.names next;
+      given = process_bound c.args.judge.now ss c.in-Process.id c.in-Process.scope c.in-Process.names next;
+    }
 
 pub process_use-requires-clause-node : goal.process_use-requires-clause-node
 process_use-requires-clause-node c =

@@ -1,9 +1,8 @@
-use Rattle.std.proofs.Common.{◌≡◌, ℕ, ◌+◌, ◌-◌, ◌≤◌, length, sym, ◌∙◌, subst, arith}
+use Rattle.std.proofs.Common.{◌≡◌, ℕ, ◌+◌, ◌-◌, ◌≤◌, length, sym, ◌∙◌, arith}
 use Rattle.spi_term.specs.Spelling.{spelled}
 use Rattle.spi_term.specs.View.{shape_of}
 use Rattle.spi_term.proofs.Numbers.{small_node, length_spelled}
-use Rattle.spi_infer.specs.Accounts.{Tops}
-use Rattle.spi_infer.proofs.Walked.{noted_length, note_here, note_given, before, acted, stuck_here, stuck_later, starts, starts_stuck}
+use Rattle.spi_infer.proofs.Walked.{noted_length, note_given, tops_after, stuck_at, stuck_here, stuck_later, starts, starts_stuck}
 use Rattle.spi_infer.proofs.Ending.{ends_with, ends_stuck, ends_not_empty}
 use Rattle.spi_infer.proofs.accounts.account.Goals as goal
 use Rattle.spi_infer.proofs.accounts.account.Goals.{After-len-id}
@@ -39,50 +38,22 @@ act_on-requires-clause-own c =
     note_given c.args.store.now c.args.noted.now c.args.process.now.names c.args.process.now.process c.requires.noted.0 c.requires.noted.1 (c.loop-id.id - 1) (shape_of c.node-node.result.now) c.node-node.ensures c.index-note.result.now c.index-note.ensures
 
 pub loop-id-preserved : goal.loop-id-preserved
-loop-id-preserved c =
-    let z : c.loop-id.id ≡ c.loop-id.id - 1 + 1 = omega (arith, c.loop-id-test.true) in
-    record {
-      within = omega (arith, c.loop-id-test.true);
-      stack_is = λ env h.
-          let k = c.args.process.now.names in
-          let p = c.args.process.now.process in
-          let x = shape_of c.node-node.result.now in
-          let o = c.index-note.result.now in
-          let n = note_here c.args.store.now c.args.noted.now k p env h (c.loop-id.id - 1) x c.node-node.ensures o c.index-note.ensures in
-          let b = before c.args.store.now c.args.noted.now k p env h (c.loop-id.id - 1) x c.node-node.ensures o c.index-note.ensures c.distinct.ensures.differ c.len-id.ensures.over c.loop-id.id z c.loop-id.stack.items (c.loop-id.invariant.stack_is env h) in
-          subst (Tops c.args.store.now c.args.noted.now.keys c.act_on.new.stack.items) (acted c.args.store.now c.args.noted.now k p env h (c.loop-id.id - 1) x c.node-node.ensures o c.index-note.ensures c.distinct.ensures.differ c.len-id.ensures.over c.loop-id.id z) (c.in_ok-act_on.ensures.stack n _ b);
-      stuck_is = λ env h.
-          let k = c.args.process.now.names in
-          let p = c.args.process.now.process in
-          let x = shape_of c.node-node.result.now in
-          let o = c.index-note.result.now in
-          let n = note_here c.args.store.now c.args.noted.now k p env h (c.loop-id.id - 1) x c.node-node.ensures o c.index-note.ensures in
-          let b = before c.args.store.now c.args.noted.now k p env h (c.loop-id.id - 1) x c.node-node.ensures o c.index-note.ensures c.distinct.ensures.differ c.len-id.ensures.over c.loop-id.id z c.loop-id.stack.items (c.loop-id.invariant.stack_is env h) in
-          stuck_later c.args.store.now c.args.noted.now k p env h (c.loop-id.id - 1) x c.node-node.ensures o c.index-note.ensures c.distinct.ensures.differ c.len-id.ensures.over c.loop-id.id z c.in_ok-act_on.field-0 c.loop-id.stuck (c.in_ok-act_on.ensures.stuck n _ b) c.if-branch.false (c.loop-id.invariant.stuck_is env h);
-    }
+loop-id-preserved c = record {
+  within = omega (arith, c.loop-id-test.true);
+  stack_is = λ env h. tops_after c.args.store.now c.args.noted.now c.args.process.now.names c.args.process.now.process env h (c.loop-id.id - 1) (shape_of c.node-node.result.now) c.node-node.ensures c.index-note.result.now c.index-note.ensures c.distinct.ensures.differ c.len-id.ensures.over c.loop-id.id (omega (arith, c.loop-id-test.true)) c.loop-id.stack.items c.act_on.new.stack.items (c.loop-id.invariant.stack_is env h) c.in_ok-act_on.ensures.stack;
+  stuck_is = λ env h.
+      let stuck = stuck_at c.args.store.now c.args.noted.now c.args.process.now.names c.args.process.now.process env h (c.loop-id.id - 1) (shape_of c.node-node.result.now) c.node-node.ensures c.index-note.result.now c.index-note.ensures c.distinct.ensures.differ c.len-id.ensures.over c.loop-id.id (omega (arith, c.loop-id-test.true)) c.loop-id.stack.items c.in_ok-act_on.field-0 (c.loop-id.invariant.stack_is env h) c.in_ok-act_on.ensures.stuck in
+      stuck_later c.args.store.now c.args.noted.now c.args.process.now.names c.args.process.now.process env h (c.loop-id.id - 1) (shape_of c.node-node.result.now) c.node-node.ensures c.index-note.result.now c.index-note.ensures c.distinct.ensures.differ c.len-id.ensures.over c.loop-id.id (omega (arith, c.loop-id-test.true)) c.in_ok-act_on.field-0 c.loop-id.stuck stuck c.if-branch.false (c.loop-id.invariant.stuck_is env h);
+}
 
 pub loop-id-preserved-then-branch : goal.loop-id-preserved-then-branch
-loop-id-preserved-then-branch c =
-    let z : c.loop-id.id ≡ c.loop-id.id - 1 + 1 = omega (arith, c.loop-id-test.true) in
-    record {
-      within = omega (arith, c.loop-id-test.true);
-      stack_is = λ env h.
-          let k = c.args.process.now.names in
-          let p = c.args.process.now.process in
-          let x = shape_of c.node-node.result.now in
-          let o = c.index-note.result.now in
-          let n = note_here c.args.store.now c.args.noted.now k p env h (c.loop-id.id - 1) x c.node-node.ensures o c.index-note.ensures in
-          let b = before c.args.store.now c.args.noted.now k p env h (c.loop-id.id - 1) x c.node-node.ensures o c.index-note.ensures c.distinct.ensures.differ c.len-id.ensures.over c.loop-id.id z c.loop-id.stack.items (c.loop-id.invariant.stack_is env h) in
-          subst (Tops c.args.store.now c.args.noted.now.keys c.act_on.new.stack.items) (acted c.args.store.now c.args.noted.now k p env h (c.loop-id.id - 1) x c.node-node.ensures o c.index-note.ensures c.distinct.ensures.differ c.len-id.ensures.over c.loop-id.id z) (c.in_ok-act_on.ensures.stack n _ b);
-      stuck_is = λ env h.
-          let k = c.args.process.now.names in
-          let p = c.args.process.now.process in
-          let x = shape_of c.node-node.result.now in
-          let o = c.index-note.result.now in
-          let n = note_here c.args.store.now c.args.noted.now k p env h (c.loop-id.id - 1) x c.node-node.ensures o c.index-note.ensures in
-          let b = before c.args.store.now c.args.noted.now k p env h (c.loop-id.id - 1) x c.node-node.ensures o c.index-note.ensures c.distinct.ensures.differ c.len-id.ensures.over c.loop-id.id z c.loop-id.stack.items (c.loop-id.invariant.stack_is env h) in
-          stuck_here c.args.store.now c.args.noted.now k p env h (c.loop-id.id - 1) x c.node-node.ensures o c.index-note.ensures c.distinct.ensures.differ c.len-id.ensures.over c.loop-id.id z c.in_ok-act_on.field-0 (c.in_ok-act_on.ensures.stuck n _ b) c.if-branch.true;
-    }
+loop-id-preserved-then-branch c = record {
+  within = omega (arith, c.loop-id-test.true);
+  stack_is = λ env h. tops_after c.args.store.now c.args.noted.now c.args.process.now.names c.args.process.now.process env h (c.loop-id.id - 1) (shape_of c.node-node.result.now) c.node-node.ensures c.index-note.result.now c.index-note.ensures c.distinct.ensures.differ c.len-id.ensures.over c.loop-id.id (omega (arith, c.loop-id-test.true)) c.loop-id.stack.items c.act_on.new.stack.items (c.loop-id.invariant.stack_is env h) c.in_ok-act_on.ensures.stack;
+  stuck_is = λ env h.
+      let stuck = stuck_at c.args.store.now c.args.noted.now c.args.process.now.names c.args.process.now.process env h (c.loop-id.id - 1) (shape_of c.node-node.result.now) c.node-node.ensures c.index-note.result.now c.index-note.ensures c.distinct.ensures.differ c.len-id.ensures.over c.loop-id.id (omega (arith, c.loop-id-test.true)) c.loop-id.stack.items c.in_ok-act_on.field-0 (c.loop-id.invariant.stack_is env h) c.in_ok-act_on.ensures.stuck in
+      stuck_here c.args.store.now c.args.noted.now c.args.process.now.names c.args.process.now.process env h (c.loop-id.id - 1) (shape_of c.node-node.result.now) c.node-node.ensures c.index-note.result.now c.index-note.ensures c.distinct.ensures.differ c.len-id.ensures.over c.loop-id.id (omega (arith, c.loop-id-test.true)) c.in_ok-act_on.field-0 stuck c.if-branch.true;
+}
 
 pub returns-in-Some-clause-effect : goal.returns-in-Some-clause-effect
 returns-in-Some-clause-effect c env e q h n =
