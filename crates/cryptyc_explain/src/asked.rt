@@ -1,6 +1,6 @@
 // What the words of the command line ask for.
 use clap::error::ErrorKind;
-use clap::{Arg, ArgAction, Command};
+use clap::{Arg, ArgAction, ArgMatches, Command};
 use std::alloc::{AllocError, Global};
 
 /// When colours are written.
@@ -81,44 +81,46 @@ fn color_of(word: Option<&str>) -> Color {
     }
 }
 
-// What the words behind `explain` ask for.
-fn explain_of<'a>(alloc: Global, words: &'a [String]) -> Result<Asked<'a>, AllocError> {
-    let form = explain_form(alloc)?;
-    match form.try_get_matches_from(words) {
-        Ok(matches) => {
-            if matches.get_flag("help") {
-                return Ok(Asked::Help);
-            }
-            if matches.get_flag("version") {
-                return Ok(Asked::Version);
-            }
-            Ok(Asked::Explain(Explain {
-                lines: matches.get_flag("lines"),
-                color: color_of(matches.get_str("color")),
-                file: matches.get_str("file"),
-            }))
-        }
-        Err(e) if e.kind() == ErrorKind::OutOfMemory => Err(AllocError),
-        Err(_) => Ok(Asked::Usage),
+/// The commands.
+#[derive(Clone, Copy)]
+enum Verb {
+    Explain,
+    Trace,
+}
+
+fn form_of<'a>(alloc: Global, verb: Verb) -> Result<Command<'a>, AllocError> {
+    match verb {
+        Verb::Explain => explain_form(alloc),
+        Verb::Trace => trace_form(alloc),
     }
 }
 
-// What the words behind `trace` ask for.
-fn trace_of<'a>(alloc: Global, words: &'a [String]) -> Result<Asked<'a>, AllocError> {
-    let form = trace_form(alloc)?;
-    match form.try_get_matches_from(words) {
-        Ok(matches) => {
-            if matches.get_flag("help") {
-                return Ok(Asked::Help);
-            }
-            if matches.get_flag("version") {
-                return Ok(Asked::Version);
-            }
-            Ok(Asked::Trace(Trace {
-                chart: matches.get_flag("chart"),
-                file: matches.get_str("file"),
-            }))
-        }
+// What is asked for by words that have the command's form.
+fn asked_in<'a>(verb: Verb, matches: &ArgMatches<'a>) -> Asked<'a> {
+    if matches.get_flag("help") {
+        return Asked::Help;
+    }
+    if matches.get_flag("version") {
+        return Asked::Version;
+    }
+    let file = matches.get_str("file");
+    match verb {
+        Verb::Explain => Asked::Explain(Explain {
+            lines: matches.get_flag("lines"),
+            color: color_of(matches.get_str("color")),
+            file,
+        }),
+        Verb::Trace => Asked::Trace(Trace {
+            chart: matches.get_flag("chart"),
+            file,
+        }),
+    }
+}
+
+// What the words behind a command ask for.
+fn asked_by<'a>(alloc: Global, verb: Verb, words: &'a [String]) -> Result<Asked<'a>, AllocError> {
+    match form_of(alloc, verb)?.try_get_matches_from(words) {
+        Ok(matches) => Ok(asked_in(verb, &matches)),
         Err(e) if e.kind() == ErrorKind::OutOfMemory => Err(AllocError),
         Err(_) => Ok(Asked::Usage),
     }
@@ -128,8 +130,8 @@ fn trace_of<'a>(alloc: Global, words: &'a [String]) -> Result<Asked<'a>, AllocEr
 /// the command `trace`.
 pub fn asked_of<'a>(alloc: Global, words: &'a [String]) -> Result<Asked<'a>, AllocError> {
     match words {
-        [first, rest @ ..] if first.as_str() == "explain" => explain_of(alloc, rest),
-        [first, rest @ ..] if first.as_str() == "trace" => trace_of(alloc, rest),
-        _ => explain_of(alloc, words),
+        [first, rest @ ..] if first.as_str() == "explain" => asked_by(alloc, Verb::Explain, rest),
+        [first, rest @ ..] if first.as_str() == "trace" => asked_by(alloc, Verb::Trace, rest),
+        _ => asked_by(alloc, Verb::Explain, words),
     }
 }

@@ -2,9 +2,12 @@
 use Rattle.std.proofs.Common.{◌≡◌, ◌↔◌, ◌<◌, ℕ, List, [], ◌++◌, length, sym, subst, Option, Some, None, refl, Result, Ok, Err, IfOk, IsNone, inl}
 use Rattle.spi_advice.specs.Advising.{Advises, verdict}
 use Rattle.spi_advice.specs.declared.advice.Advice.{Advice}
+use Rattle.std.specs.Global.{Vec}
+use Rattle.spi_report.specs.declared.refusal.Refusal.{Refusal}
+use Rattle.spi_report.specs.Refused.{refused_text}
 use Rattle.spi_commands.specs.Checking.{ChecksTo}
 use Rattle.spi_commands.specs.Reading.{IsRead}
-use Rattle.spi_commands.specs.Refusals.{IsRefusal, IsLineOf, IsUnlexed}
+use Rattle.spi_commands.specs.Refusals.{IsRefusal, IsLineOf, IsUnlexed, Refuses}
 use Rattle.spi_commands.specs.declared.status.Status.{Status}
 use Rattle.spi_commands.specs.declared.status.Status.TheVariants.{Refused}
 use Rattle.spi_commands.proofs.AnswerNo.{place_of, names_of, no_line, none_derivable}
@@ -34,6 +37,12 @@ pub advised : {E : Type 0} (bytes line rest : List ℕ) (s : Status) (result : R
     → IfOk result (λ a. Advises bytes a.status a.output.items)
 advised bytes line rest s (Ok a) h w = (line, rest, subst (λ t. ChecksTo bytes t line) (sym w.0) h, w.1)
 advised bytes line rest s (Err e) h w = tt
+
+-- the line of a refusal
+pub line_told : {E : Type 0} (bytes : List ℕ) (r : Refusal) (result : Result (Vec ℕ) E) → Refuses bytes r.number r.offset r.shown.items
+    → IfOk result (λ text. text.items ≡ refused_text bytes r) → IfOk result (λ line. IsLineOf bytes (Refuses bytes) line.items)
+line_told bytes r (Ok line) is h = (r, is, h)
+line_told bytes r (Err e) is h = tt
 
 -- more bytes than a file may have
 pub advised_long : {E : Type 0} (line rest : List ℕ) (result : Result Advice E)

@@ -5,33 +5,26 @@ ghost use Rattle.spi_commands.specs.Reading.{IsRead};
 ghost use Rattle.spi_commands.specs.Refusals.{Refuses};
 
 use crate::NoMemory;
+use crate::refusing::{refusal_line, too_many};
 use crate::tokens::{LIMIT, tokens_of};
 use spi_commands::{Status, Unread, read};
 use spi_explain::{Explained, explain_file};
 use spi_fault::Fault;
-use spi_report::{Refusal, refused};
-use spi_scope::{File, faults_stand_at_nodes};
+use spi_report::Refusal;
+use spi_scope::File;
 use spi_text::Lines;
 use spi_wording::{
-    Page, Source, Style, tell_expected, tell_fault, tell_others, tell_refusal, tell_yes,
+    Case, Page, Source, Style, tell_expected, tell_fault, tell_others, tell_refusal, tell_yes,
 };
 use std::alloc::{AllocError, Global};
 
 /// An explanation, with the status of `check`.
+#[derive(Drop)]
 pub struct Advice {
     /// Yes, no or refused.
     pub status: Status,
     /// The line of `check`, and behind it the explanation.
     pub output: Vec<u8>,
-}
-
-impl Drop for Advice {
-    fn drop(self) {
-        let Advice {
-            status: _,
-            output: _,
-        } = self;
-    }
 }
 
 // This status, this line, and behind it this text.
@@ -71,8 +64,13 @@ fn text_of(
         Some(fault) => {
             let tokens = tokens_of(alloc, bytes)?;
             let source = Source::new(bytes, lines, &tokens);
-            tell_fault(alloc, &mut page, &source, file, found, fault)?;
-            tell_others(alloc, &mut page, &source, file, &found.blocked)?;
+            let case = Case {
+                source: &source,
+                file: &*file,
+                found: &*found,
+            };
+            tell_fault(&mut page, &case, fault)?;
+            tell_others(&mut page, &case)?;
         }
     }
     page.into_text()
@@ -104,14 +102,13 @@ fn of_refusal(alloc: Global, bytes: &[u8], r: &Refusal, style: Style) -> Result<
     requires refuses { Refuses bytes.now r.now.number r.now.offset r.now.shown.items }
     ensures { IfOk result (λ a. Advises bytes.now a.status a.output.items) }
 {
-    faults_stand_at_nodes();
     let lines = Lines::of(alloc, bytes)?;
-    let line = refused(alloc, &lines, r)?;
+    let line = refusal_line(alloc, &lines, r)?;
     let tokens = tokens_of(alloc, bytes)?;
     let source = Source::new(bytes, &lines, &tokens);
     let mut page = Page::new(alloc, style);
     tell_refusal(&mut page, &source, r);
-    tell_expected(alloc, &mut page, &source, bytes)?;
+    tell_expected(&mut page, &source, bytes)?;
     let rest = page.into_text()?;
     joined(Status::Refused, line, &rest)
 }
@@ -121,15 +118,8 @@ fn of_too_many(alloc: Global, style: Style) -> Result<Advice, NoMemory>
     ensures { IfOk result (λ a. (bytes : List ℕ) → 16_777_216 < length bytes
         → Advises bytes a.status a.output.items) }
 {
-    let count = LIMIT + 1;
-    let shown = format!(in alloc; "{count}")?.into_bytes();
+    let (r, line) = too_many(alloc)?;
     let lines = Lines::of(alloc, b"")?;
-    let r = Refusal {
-        number: 2,
-        offset: None,
-        shown,
-    };
-    let line = refused(alloc, &lines, &r)?;
     let source = Source::new(b"", &lines, &[]);
     let mut page = Page::new(alloc, style);
     tell_refusal(&mut page, &source, &r);

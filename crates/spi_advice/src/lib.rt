@@ -4,6 +4,7 @@
 #![tactic(auto)]
 
 mod advice;
+mod refusing;
 mod tokens;
 mod tracing;
 

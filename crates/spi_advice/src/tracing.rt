@@ -10,17 +10,19 @@ ghost use Rattle.spi_commands.specs.Beside.{HasOffence};
 ghost use Rattle.spi_advice.specs.Tracing.{Traces, EndsWith};
 
 use crate::NoMemory;
+use crate::refusing::{refusal_line, too_many};
 use crate::tokens::{LIMIT, tokens_of};
 use spi_commands::{Status, Unread, read};
 use spi_course::{Account, Course, Untold, course_text};
 use spi_report::{Refusal, first_unpaid, refused};
 use spi_run::Event;
-use spi_scope::{File, faults_stand_at_nodes};
+use spi_scope::File;
 use spi_text::Lines;
 use spi_trace::{pair_up, paired_is_paid};
 use std::alloc::{AllocError, Global};
 
 /// A trace, with the status of `replay`.
+#[derive(Drop)]
 pub struct Trace {
     /// Yes, no or refused.
     pub status: Status,
@@ -28,16 +30,6 @@ pub struct Trace {
     pub course: Option<Course>,
     /// The text or the chart of the course, or that line.
     pub output: Vec<u8>,
-}
-
-impl Drop for Trace {
-    fn drop(self) {
-        let Trace {
-            status: _,
-            course: _,
-            output: _,
-        } = self;
-    }
 }
 
 // The trace of what is refused with this line.
@@ -166,10 +158,8 @@ fn of_refusal(alloc: Global, bytes: &[u8], r: &Refusal) -> Result<Trace, NoMemor
     requires refuses { Refuses bytes.now r.now.number r.now.offset r.now.shown.items }
     ensures { IfOk result (λ t. Traces bytes.now t.course t.status t.output.items) }
 {
-    faults_stand_at_nodes();
     let lines = Lines::of(alloc, bytes)?;
-    let line = refused(alloc, &lines, r)?;
-    Ok(refused_with(line))
+    Ok(refused_with(refusal_line(alloc, &lines, r)?))
 }
 
 // The trace of more bytes than a file may have.
@@ -177,15 +167,7 @@ fn of_too_many(alloc: Global) -> Result<Trace, NoMemory>
     ensures { IfOk result (λ t. (bytes : List ℕ) → 16_777_216 < length bytes
         → Traces bytes t.course t.status t.output.items) }
 {
-    let count = LIMIT + 1;
-    let shown = format!(in alloc; "{count}")?.into_bytes();
-    let lines = Lines::of(alloc, b"")?;
-    let r = Refusal {
-        number: 2,
-        offset: None,
-        shown,
-    };
-    let line = refused(alloc, &lines, &r)?;
+    let (_, line) = too_many(alloc)?;
     Ok(refused_with(line))
 }
 

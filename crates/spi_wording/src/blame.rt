@@ -1,4 +1,9 @@
 // What is to blame in a message.
+ghost use Rattle.std.specs.Prelude.{◌<◌};
+ghost use Rattle.spi_term.specs.Term.{process_size};
+
+use crate::NoMemory;
+use crate::case::Case;
 use crate::find::{Spot, binder_at, binder_of, part_at, span_of};
 use crate::help::put_help;
 use crate::page::{Kind, Page};
@@ -7,19 +12,40 @@ use crate::terms::{Names, put_name, quote_message, quote_name, quote_type};
 use spi_blame::Blame;
 use spi_explain::Answer;
 use spi_fault::Reason;
+use spi_infer::reached;
 use spi_rules::Env;
-use spi_scope::File;
 use spi_term::{Form, Msg, Ty};
 use spi_text::Span;
+use std::alloc::Global;
 
-/// What is said of a node: the file, its bytes, the node, the types and the spellings of the names in scope there.
+/// What is said of a node: the case that it is of, the node, the types of the names in scope there, and spellings of names.
 #[derive(Drop)]
-pub struct Scene<'a, 's> {
-    pub file: &'a File,
-    pub source: &'a Source<'s>,
+pub struct Scene<'a> {
+    pub case: &'a Case<'a>,
     pub node: u32,
-    pub env: &'a Env,
-    pub names: &'a Names,
+    pub env: Env,
+    pub names: Names,
+}
+
+impl<'a> Scene<'a> {
+    /// That of this node, with the spellings of the names in scope at another.
+    pub fn at(
+        case: &'a Case<'a>,
+        alloc: Global,
+        node: u32,
+        scope_of: u32,
+    ) -> Result<Scene<'a>, NoMemory>
+        requires { node < process_size case.now.file.now.process.process }
+    {
+        let names = Names::at(alloc, case.file, scope_of)?;
+        let env = reached(alloc, &case.file.process, node)?;
+        Ok(Scene {
+            case,
+            node,
+            env,
+            names,
+        })
+    }
 }
 
 // Part number `step` of a message: of {M}N the key N is part 0.
@@ -91,19 +117,19 @@ pub fn type_of<'a>(env: &'a Env, m: &Msg) -> Option<&'a Ty> {
 }
 
 // What is wanted of a part, and what it has.
-fn put_misfit(page: &mut Page, scene: &Scene<'_, '_>, blame: &Blame) {
-    quote_message(page, scene.names, &blame.part);
-    match type_of(scene.env, &blame.part) {
+fn put_misfit(page: &mut Page, scene: &Scene<'_>, blame: &Blame) {
+    quote_message(page, &scene.names, &blame.part);
+    match type_of(&scene.env, &blame.part) {
         Some(t) => {
             page.put(" is of type ");
-            quote_type(page, scene.names, t);
+            quote_type(page, &scene.names, t);
         }
         None => page.put(form_of(&blame.part)),
     }
     match &blame.wanted {
         Some(t) => {
             page.put(", and ");
-            quote_type(page, scene.names, t);
+            quote_type(page, &scene.names, t);
             page.put(" is wanted");
         }
         None => page.put(", and a label is wanted"),
@@ -111,16 +137,16 @@ fn put_misfit(page: &mut Page, scene: &Scene<'_, '_>, blame: &Blame) {
 }
 
 /// In a message, the first part that fails, with what is wanted of it and what it has.
-pub fn put_blame(page: &mut Page, scene: &Scene<'_, '_>, whole: &Msg, blame: &Blame) {
+pub fn put_blame(page: &mut Page, scene: &Scene<'_>, whole: &Msg, blame: &Blame) {
     if !blame.steps.is_empty() {
         page.put("in ");
-        quote_message(page, scene.names, whole);
+        quote_message(page, &scene.names, whole);
         page.put(": ");
     }
-    if let Some((key, payload)) = key_over(scene.env, whole, &blame.steps) {
-        quote_name(page, scene.names, key);
+    if let Some((key, payload)) = key_over(&scene.env, whole, &blame.steps) {
+        quote_name(page, &scene.names, key);
         page.put(" takes ");
-        quote_type(page, scene.names, payload);
+        quote_type(page, &scene.names, payload);
         page.put("; ");
     }
     put_misfit(page, scene, blame);
@@ -134,24 +160,24 @@ fn spelling<'a>(source: &Source<'a>, span: Option<Span>) -> &'a str {
 }
 
 // Where a name is bound, as a note.
-fn note_binder(page: &mut Page, scene: &Scene<'_, '_>, x: u32, word: &str) {
-    let Some(binder) = binder_of(&scene.file.process, scene.node, x) else {
+fn note_binder(page: &mut Page, scene: &Scene<'_>, x: u32, word: &str) {
+    let Some(binder) = binder_of(&scene.case.file.process, scene.node, x) else {
         return;
     };
-    let place = scene.file.process_place(binder);
-    let span = Some(binder_at(scene.source.tokens(), place.from, word));
+    let place = scene.case.file.process_place(binder);
+    let span = Some(binder_at(scene.case.source.tokens(), place.from, word));
     page.open(Kind::Note, span);
     page.put("`");
-    put_name(page, scene.names, x);
+    put_name(page, &scene.names, x);
     page.put("` is bound here");
-    page.close(scene.source, span);
+    page.close(scene.case.source, span);
 }
 
 /// The note on an answer of no, with the place of the part, where that isn't the whole message, where its name is bound, and
 /// what usually mends it. The message that was asked about stands at the spot.
 pub fn note_blame(
     page: &mut Page,
-    scene: &Scene<'_, '_>,
+    scene: &Scene<'_>,
     reason: Reason,
     form: &Form,
     answer: &Answer,
@@ -160,16 +186,16 @@ pub fn note_blame(
     let Some(blame) = &answer.blame else {
         return;
     };
-    let tokens = scene.source.tokens();
+    let tokens = scene.case.source.tokens();
     let span = span_of(tokens, part_at(tokens, spot, &blame.steps));
     page.open(Kind::Note, span);
     put_blame(page, scene, &answer.message, blame);
     page.close(
-        scene.source,
+        scene.case.source,
         if blame.steps.is_empty() { None } else { span },
     );
     if let Msg::Name(x) = &blame.part {
-        note_binder(page, scene, *x, spelling(scene.source, span));
+        note_binder(page, scene, *x, spelling(scene.case.source, span));
     }
     put_help(page, scene, reason, form, blame);
 }

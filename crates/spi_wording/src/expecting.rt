@@ -2,11 +2,11 @@
 ghost use Rattle.std.specs.Prelude.{◌≤◌, length};
 
 use crate::NoMemory;
+use crate::find::begins_process;
 use crate::page::{Kind, Page};
 use crate::source::Source;
 use spi_expected::expected_in;
 use spi_lex::{Kind as TokenKind, Mark, Reserved};
-use std::alloc::Global;
 
 fn has_word(kinds: &[TokenKind], wanted: Reserved) -> bool {
     kinds.iter().any(|kind| match kind {
@@ -18,24 +18,9 @@ fn has_word(kinds: &[TokenKind], wanted: Reserved) -> bool {
 // The token is one of those that begin a process or a message or a type, where these are told as one.
 fn is_told(kind: &TokenKind, process: bool, message: bool, ty: bool) -> bool {
     match kind {
-        TokenKind::Reserved(
-            Reserved::Out
-            | Reserved::Inp
-            | Reserved::Repeat
-            | Reserved::Split
-            | Reserved::Match
-            | Reserved::Case
-            | Reserved::Decrypt
-            | Reserved::Check
-            | Reserved::Begin
-            | Reserved::End
-            | Reserved::EndMany
-            | Reserved::Cast
-            | Reserved::New
-            | Reserved::Stop,
-        ) => process,
         TokenKind::Reserved(Reserved::Inl | Reserved::Inr | Reserved::Hash) => message,
         TokenKind::Reserved(Reserved::Un | Reserved::Key | Reserved::Nonce) => ty,
+        TokenKind::Reserved(word) => process && begins_process(*word),
         TokenKind::Mark(Mark::ParenOpen) => process || message || ty,
         TokenKind::Mark(Mark::BraceOpen) => message,
         TokenKind::Word(_) => message || ty,
@@ -101,15 +86,10 @@ fn put_kinds(page: &mut Page, kinds: &[TokenKind]) {
 }
 
 /// What could stand where the syntax of these bytes breaks off.
-pub fn tell_expected(
-    alloc: Global,
-    page: &mut Page,
-    source: &Source<'_>,
-    bytes: &[u8],
-) -> Result<(), NoMemory>
+pub fn tell_expected(page: &mut Page, source: &Source<'_>, bytes: &[u8]) -> Result<(), NoMemory>
     requires { length bytes.now ≤ 16_777_216 }
 {
-    if let Some(kinds) = expected_in(alloc, bytes)? {
+    if let Some(kinds) = expected_in(page.alloc(), bytes)? {
         page.open(Kind::Note, None);
         if kinds.is_empty() {
             page.put("nothing could stand here but the end of the file");

@@ -1,19 +1,16 @@
 // The text of a no: what is wrong, where and why, and what usually mends it.
 use crate::NoMemory;
 use crate::blame::{Scene, note_blame};
+use crate::case::{Case, node_span};
 use crate::find::{Spot, first_message, second_message, span_of, token_at};
 use crate::others::{Asked, asked_by, is_for, is_of_written};
 use crate::page::{Kind, Page};
-use crate::paid::{help_atom, node_span, note_origins};
-use crate::source::Source;
+use crate::paid::{help_atom, note_origins};
 use crate::terms::{Names, quote_atom, quote_message, quote_name};
-use spi_explain::{Answer, Explained, blames};
+use spi_explain::{Answer, blames};
 use spi_fault::{Fault, Reason, Shown};
-use spi_infer::reached;
-use spi_scope::File;
 use spi_term::{Atom, Form, Msg, Ty, free_in};
 use spi_text::Span;
-use std::alloc::Global;
 
 /// The word that a form begins with.
 pub fn word_of(form: &Form) -> &'static str {
@@ -145,36 +142,30 @@ fn put_unpaid(
 }
 
 // The fault of an effect.
-fn tell_atom(
-    alloc: Global,
-    page: &mut Page,
-    source: &Source<'_>,
-    file: &File,
-    found: &Explained,
-    fault: &Fault,
-    atom: &Atom,
-) -> Result<(), NoMemory> {
-    if fault.node >= file.process.len() {
+fn tell_atom(page: &mut Page, case: &Case<'_>, fault: &Fault, atom: &Atom) -> Result<(), NoMemory> {
+    let process = &case.file.process;
+    if fault.node >= process.len() {
         return Ok(());
     }
-    let names = Names::at(alloc, file, fault.scope_of)?;
-    let node = file.process.node(fault.node);
-    let span = Some(node_span(source, file, fault.node));
+    let names = Names::at(page.alloc(), case.file, fault.scope_of)?;
+    let node = process.node(fault.node);
+    let span = Some(node_span(case, fault.node));
     page.open(Kind::Wrong, span);
     put_unpaid(page, fault.reason, &names, node.scope, &node.form, atom);
-    page.close(source, span);
-    note_origins(alloc, page, source, file, found, atom)?;
-    help_atom(page, source, file, found, fault.reason, atom);
+    page.close(case.source, span);
+    note_origins(page, case, atom)?;
+    help_atom(page, case, fault.reason, atom);
     Ok(())
 }
 
 // Where the message of an answer stands.
-fn spot_of(source: &Source<'_>, file: &File, node: u32, form: &Form, is_second: bool) -> Spot {
-    let head = token_at(source.tokens(), file.process_place(node).from);
+fn spot_of(scene: &Scene<'_>, form: &Form, is_second: bool) -> Spot {
+    let tokens = scene.case.source.tokens();
+    let head = token_at(tokens, scene.case.file.process_place(scene.node).from);
     if is_second {
-        second_message(source.tokens(), head, form)
+        second_message(tokens, head, form)
     } else {
-        first_message(source.tokens(), head)
+        first_message(tokens, head)
     }
 }
 
@@ -182,7 +173,7 @@ fn spot_of(source: &Source<'_>, file: &File, node: u32, form: &Form, is_second: 
 // are written are `Un`.
 fn note_answers(
     page: &mut Page,
-    scene: &Scene<'_, '_>,
+    scene: &Scene<'_>,
     fault: &Fault,
     form: &Form,
     answers: &[Answer],
@@ -190,14 +181,14 @@ fn note_answers(
     for (i, answer) in answers.iter().enumerate() {
         let asked: Asked = asked_by(form, i);
         if is_for(fault.reason, form, i) && is_of_written(form, asked) {
-            let spot = spot_of(scene.source, scene.file, scene.node, form, asked.is_second);
+            let spot = spot_of(scene, form, asked.is_second);
             note_blame(page, scene, fault.reason, form, answer, spot);
         }
     }
 }
 
 // The wrong message's place.
-fn message_span(scene: &Scene<'_, '_>, form: &Form, reason: Reason) -> Option<Span> {
+fn message_span(scene: &Scene<'_>, form: &Form, reason: Reason) -> Option<Span> {
     let is_second = match reason {
         Reason::DatumNotUn => true,
         Reason::WrongKey => true,
@@ -205,72 +196,51 @@ fn message_span(scene: &Scene<'_, '_>, form: &Form, reason: Reason) -> Option<Sp
         Reason::WrongFirst => true,
         _ => false,
     };
-    let spot = spot_of(scene.source, scene.file, scene.node, form, is_second);
-    span_of(scene.source.tokens(), spot)
+    span_of(scene.case.source.tokens(), spot_of(scene, form, is_second))
 }
 
 // The fault of a message.
-fn tell_message(
-    alloc: Global,
-    page: &mut Page,
-    source: &Source<'_>,
-    file: &File,
-    fault: &Fault,
-    m: &Msg,
-) -> Result<(), NoMemory> {
-    if fault.node >= file.process.len() {
+fn tell_message(page: &mut Page, case: &Case<'_>, fault: &Fault, m: &Msg) -> Result<(), NoMemory> {
+    let process = &case.file.process;
+    if fault.node >= process.len() {
         return Ok(());
     }
-    let names = Names::at(alloc, file, fault.scope_of)?;
-    let env = reached(alloc, &file.process, fault.node)?;
-    let answers = blames(alloc, &file.process, fault.node)?;
-    let form = &file.process.node(fault.node).form;
-    let scene = Scene {
-        file: &*file,
-        source: &*source,
-        node: fault.node,
-        env: &env,
-        names: &names,
-    };
+    let scene = Scene::at(case, page.alloc(), fault.node, fault.scope_of)?;
+    let answers = blames(page.alloc(), process, fault.node)?;
+    let form = &process.node(fault.node).form;
     let span = message_span(&scene, form, fault.reason);
     page.open(Kind::Wrong, span);
-    quote_message(page, &names, m);
+    quote_message(page, &scene.names, m);
     page.put(message_words(fault.reason, form));
-    page.close(source, span);
+    page.close(case.source, span);
     note_answers(page, &scene, fault, form, &answers);
     Ok(())
 }
 
 // The fault of a type.
-fn tell_type(page: &mut Page, source: &Source<'_>, file: &File, fault: &Fault) {
-    if fault.node >= file.process.len() {
+fn tell_type(page: &mut Page, case: &Case<'_>, fault: &Fault) {
+    let process = &case.file.process;
+    if fault.node >= process.len() {
         return;
     }
-    let form = &file.process.node(fault.node).form;
-    let span = Some(node_span(source, file, fault.node));
+    let form = &process.node(fault.node).form;
+    let span = Some(node_span(case, fault.node));
     page.open(Kind::Wrong, span);
     page.put(type_words(fault.reason, form));
-    page.close(source, span);
+    page.close(case.source, span);
     page.open(Kind::Help, None);
     page.put(type_help(fault.reason, form));
-    page.close(source, None);
+    page.close(case.source, None);
 }
 
 /// What is wrong by this fault, why, and what usually mends it.
-pub fn tell_fault(
-    alloc: Global,
-    page: &mut Page,
-    source: &Source<'_>,
-    file: &File,
-    found: &Explained,
-    fault: &Fault,
-) -> Result<(), NoMemory> {
+pub fn tell_fault(page: &mut Page, case: &Case<'_>, fault: &Fault) -> Result<(), NoMemory> {
     match &fault.shown {
         None => {
-            tell_type(page, source, file, fault);
+            tell_type(page, case, fault);
             Ok(())
         }
-        Some(Shown::Message(m)) => tell_message(alloc, page, source, file, fault, m),
-        Some(Shown::Atom(atom)) => tell_atom(alloc, page, source, file, found, fault, atom),
+        Some(Shown::Message(m)) => tell_message(page, case, fault, m),
+        Some(Shown::Atom(atom)) => tell_atom(page, case, fault, atom),
     }
 }

@@ -10,23 +10,46 @@ pub struct Spot {
     is_tail: bool,
 }
 
-fn is_mark(tokens: &[Token], at: usize, wanted: Mark) -> bool {
+// What the token of this number is, where there is one.
+fn kind_at(tokens: &[Token], at: usize) -> Option<&Kind> {
     match tokens.get(at) {
-        Some(token) => match &token.kind {
-            Kind::Mark(mark) => *mark == wanted,
-            _ => false,
-        },
-        None => false,
+        Some(token) => Some(&token.kind),
+        None => None,
+    }
+}
+
+fn is_mark(tokens: &[Token], at: usize, wanted: Mark) -> bool {
+    match kind_at(tokens, at) {
+        Some(Kind::Mark(mark)) => *mark == wanted,
+        _ => false,
     }
 }
 
 fn is_reserved(tokens: &[Token], at: usize, wanted: Reserved) -> bool {
-    match tokens.get(at) {
-        Some(token) => match &token.kind {
-            Kind::Reserved(word) => *word == wanted,
-            _ => false,
-        },
-        None => false,
+    match kind_at(tokens, at) {
+        Some(Kind::Reserved(word)) => *word == wanted,
+        _ => false,
+    }
+}
+
+/// A process begins with this word.
+pub fn begins_process(word: Reserved) -> bool {
+    match word {
+        Reserved::Out
+        | Reserved::Inp
+        | Reserved::Repeat
+        | Reserved::Split
+        | Reserved::Match
+        | Reserved::Case
+        | Reserved::Decrypt
+        | Reserved::Check
+        | Reserved::Begin
+        | Reserved::End
+        | Reserved::EndMany
+        | Reserved::Cast
+        | Reserved::New
+        | Reserved::Stop => true,
+        _ => false,
     }
 }
 
@@ -262,12 +285,9 @@ pub fn second_message(tokens: &[Token], head: usize, form: &Form) -> Spot {
 }
 
 fn is_word(tokens: &[Token], at: usize, word: &str) -> bool {
-    match tokens.get(at) {
-        Some(token) => match &token.kind {
-            Kind::Word(text) => text.as_str() == word,
-            _ => false,
-        },
-        None => false,
+    match kind_at(tokens, at) {
+        Some(Kind::Word(text)) => text.as_str() == word,
+        _ => false,
     }
 }
 

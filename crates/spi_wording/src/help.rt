@@ -8,12 +8,18 @@ use spi_fault::Reason;
 use spi_term::{Form, Msg, Ty};
 
 // The name is one that `new` makes.
-fn is_made(scene: &Scene<'_, '_>, part: &Msg) -> bool {
+fn is_made(scene: &Scene<'_>, part: &Msg) -> bool {
     let Msg::Name(x) = part else {
         return false;
     };
-    match binder_of(&scene.file.process, scene.node, *x) {
-        Some(id) if id < scene.file.process.len() => match &scene.file.process.node(id).form {
+    match binder_of(&scene.case.file.process, scene.node, *x) {
+        Some(id) if id < scene.case.file.process.len() => match &scene
+            .case
+            .file
+            .process
+            .node(id)
+            .form
+        {
             Form::Fresh { .. } => true,
             _ => false,
         },
@@ -22,7 +28,7 @@ fn is_made(scene: &Scene<'_, '_>, part: &Msg) -> bool {
 }
 
 // Of a name of a type that is no `Un`, where `Un` is wanted.
-fn help_untrusted(scene: &Scene<'_, '_>, form: &Form, part: &Msg, has: &Ty) -> &'static str {
+fn help_untrusted(scene: &Scene<'_>, form: &Form, part: &Msg, has: &Ty) -> &'static str {
     match (has, form) {
         (_, Form::Check { .. }) => {
             "in `check n is p` one's own nonce comes first, and then what came in: are the two exchanged?"
@@ -42,13 +48,13 @@ fn help_untrusted(scene: &Scene<'_, '_>, form: &Form, part: &Msg, has: &Ty) -> &
 }
 
 // Of a part, where a promise is wanted.
-fn help_nonce(page: &mut Page, scene: &Scene<'_, '_>, part: &Msg, wanted: &Ty) {
-    match type_of(scene.env, part) {
+fn help_nonce(page: &mut Page, scene: &Scene<'_>, part: &Msg, wanted: &Ty) {
+    match type_of(&scene.env, part) {
         Some(Ty::Un) => {
             page.put("put the promise into it: `cast ");
-            put_message(page, scene.names, 0, part);
+            put_message(page, &scene.names, 0, part);
             page.put(" is (p: ");
-            put_types(page, scene.names, 0, wanted, false);
+            put_types(page, &scene.names, 0, wanted, false);
             page.put(");`, and write `p` in its place");
         }
         Some(Ty::Nonce(_)) => {
@@ -77,9 +83,9 @@ fn help_parts(form: &Form) -> &'static str {
     }
 }
 
-fn put_advice(page: &mut Page, scene: &Scene<'_, '_>, form: &Form, part: &Msg, wanted: &Ty) {
+fn put_advice(page: &mut Page, scene: &Scene<'_>, form: &Form, part: &Msg, wanted: &Ty) {
     match wanted {
-        Ty::Un => match type_of(scene.env, part) {
+        Ty::Un => match type_of(&scene.env, part) {
             Some(t) => page.put(help_untrusted(scene, form, part, t)),
             None => page.put("what is sent in the clear is of type `Un` in all its parts"),
         },
@@ -116,18 +122,12 @@ fn place_help(reason: Reason) -> Option<&'static str> {
 }
 
 /// What usually mends a part that is to blame, where the node has this form and is wrong for this reason.
-pub fn put_help(
-    page: &mut Page,
-    scene: &Scene<'_, '_>,
-    reason: Reason,
-    form: &Form,
-    blame: &Blame,
-) {
+pub fn put_help(page: &mut Page, scene: &Scene<'_>, reason: Reason, form: &Form, blame: &Blame) {
     page.open(Kind::Help, None);
     match (place_help(reason), &blame.wanted) {
         (Some(text), _) => page.put(text),
         (None, Some(wanted)) => put_advice(page, scene, form, &blame.part, wanted),
         (None, None) => page.put("a label is made of names, pairs, tags and hashes"),
     }
-    page.close(scene.source, None);
+    page.close(scene.case.source, None);
 }

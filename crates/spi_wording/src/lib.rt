@@ -3,6 +3,7 @@
 #![tactic(auto)]
 
 mod blame;
+mod case;
 mod expecting;
 mod fault;
 mod find;
@@ -15,6 +16,7 @@ mod source;
 mod syntax;
 mod terms;
 
+pub use case::Case;
 pub use expecting::tell_expected;
 pub use fault::tell_fault;
 pub use others::tell_others;

@@ -1,17 +1,14 @@
 // The other nodes that block, each with its reason in a line, and which question of a form is for which reason.
 use crate::NoMemory;
 use crate::blame::{Scene, put_blame};
+use crate::case::{Case, node_span};
 use crate::fault::{binds, label_of, message_words, type_words, word_of};
 use crate::page::{Kind, Page};
-use crate::paid::node_span;
-use crate::source::Source;
 use crate::terms::{Names, quote_atom, quote_message};
 use spi_explain::{Answer, blames};
 use spi_fault::Reason;
-use spi_infer::{effect_at, reached};
-use spi_scope::File;
+use spi_infer::effect_at;
 use spi_term::{Atom, Effect, Form, Msg, Ty, free_in};
-use std::alloc::Global;
 
 /// How many other nodes are told with their reasons.
 const REASONED: usize = 100;
@@ -109,9 +106,9 @@ fn reason_for(form: &Form, i: usize) -> Reason {
 }
 
 // A nonce by its type, which is as good as one of type `Un`.
-fn is_nonce(scene: &Scene<'_, '_>, form: &Form, i: usize, m: &Msg) -> bool {
+fn is_nonce(scene: &Scene<'_>, form: &Form, i: usize, m: &Msg) -> bool {
     match form {
-        Form::Check { .. } if i == 1 => match crate::blame::type_of(scene.env, m) {
+        Form::Check { .. } if i == 1 => match crate::blame::type_of(&scene.env, m) {
             Some(Ty::Nonce(_)) => true,
             _ => false,
         },
@@ -120,12 +117,7 @@ fn is_nonce(scene: &Scene<'_, '_>, form: &Form, i: usize, m: &Msg) -> bool {
 }
 
 // The first message of the node that fails, with what is to blame in it.
-fn put_message_reason(
-    page: &mut Page,
-    scene: &Scene<'_, '_>,
-    form: &Form,
-    answers: &[Answer],
-) -> bool {
+fn put_message_reason(page: &mut Page, scene: &Scene<'_>, form: &Form, answers: &[Answer]) -> bool {
     for (i, answer) in answers.iter().enumerate() {
         let is_meant = if is_untrusted(form) {
             asked_by(form, i).is_untrusted
@@ -134,7 +126,7 @@ fn put_message_reason(
         };
         if let Some(blame) = &answer.blame {
             if is_meant && !is_nonce(scene, form, i, &answer.message) {
-                quote_message(page, scene.names, &answer.message);
+                quote_message(page, &scene.names, &answer.message);
                 page.put(message_words(reason_for(form, i), form));
                 page.put(": ");
                 put_blame(page, scene, &answer.message, blame);
@@ -227,18 +219,17 @@ fn held_back<'a>(scope: u32, form: &Form, effect: &'a Effect) -> Option<&'a Atom
 
 // The atom that nothing pays for behind the node.
 fn put_effect_reason(
-    alloc: Global,
     page: &mut Page,
-    scene: &Scene<'_, '_>,
+    scene: &Scene<'_>,
     form: &Form,
     is_near: bool,
 ) -> Result<(), NoMemory> {
     let body = scene.node.saturating_add(1);
-    let process = &scene.file.process;
+    let process = &scene.case.file.process;
     let mut is_shown = false;
     if is_near && body < process.len() {
-        let names = Names::at(alloc, scene.file, body)?;
-        if let Some(effect) = effect_at(alloc, process, body)? {
+        let names = Names::at(page.alloc(), scene.case.file, body)?;
+        if let Some(effect) = effect_at(page.alloc(), process, body)? {
             let scope = process.node(body).scope.saturating_sub(binds(form));
             if let Some(atom) = held_back(scope, form, &effect) {
                 page.put("nothing pays for ");
@@ -258,9 +249,8 @@ fn put_effect_reason(
 
 // Why a node blocks.
 fn put_reason(
-    alloc: Global,
     page: &mut Page,
-    scene: &Scene<'_, '_>,
+    scene: &Scene<'_>,
     form: &Form,
     answers: &[Answer],
     is_near: bool,
@@ -271,64 +261,45 @@ fn put_reason(
     } else if put_message_reason(page, scene, form, answers) {
         Ok(())
     } else {
-        put_effect_reason(alloc, page, scene, form, is_near)
+        put_effect_reason(page, scene, form, is_near)
     }
 }
 
 // One other node that blocks, and why.
-fn tell_other(
-    alloc: Global,
-    page: &mut Page,
-    source: &Source<'_>,
-    file: &File,
-    node: u32,
-    is_near: bool,
-) -> Result<(), NoMemory> {
-    if node >= file.process.len() {
+fn tell_other(page: &mut Page, case: &Case<'_>, node: u32, is_near: bool) -> Result<(), NoMemory> {
+    let process = &case.file.process;
+    if node >= process.len() {
         return Ok(());
     }
-    let names = Names::at(alloc, file, node)?;
-    let env = reached(alloc, &file.process, node)?;
-    let answers = blames(alloc, &file.process, node)?;
-    let form = &file.process.node(node).form;
-    let scene = Scene {
-        file: &*file,
-        source: &*source,
-        node,
-        env: &env,
-        names: &names,
-    };
-    let span = node_span(source, file, node);
+    let scene = Scene::at(case, page.alloc(), node, node)?;
+    let answers = blames(page.alloc(), process, node)?;
+    let form = &process.node(node).form;
+    let span = node_span(case, node);
     page.open(Kind::Also, Some(span));
-    put_reason(alloc, page, &scene, form, &answers, is_near)?;
-    page.close_short(source, span);
+    put_reason(page, &scene, form, &answers, is_near)?;
+    page.close_short(case.source, span);
     Ok(())
 }
 
 // One other node that blocks.
-fn name_other(page: &mut Page, source: &Source<'_>, file: &File, node: u32) {
-    let span = node_span(source, file, node);
+fn name_other(page: &mut Page, case: &Case<'_>, node: u32) {
+    let span = node_span(case, node);
     page.open(Kind::Also, Some(span));
     page.put("this is wrong by itself too");
-    page.close_short(source, span);
+    page.close_short(case.source, span);
 }
 
 /// The nodes that block, but for the first.
-pub fn tell_others(
-    alloc: Global,
-    page: &mut Page,
-    source: &Source<'_>,
-    file: &File,
-    blocked: &[u32],
-) -> Result<(), NoMemory> {
+pub fn tell_others(page: &mut Page, case: &Case<'_>) -> Result<(), NoMemory> {
+    let blocked = &case.found.blocked;
     if blocked.len() > 1 && !page.is_in_lines() {
         page.put("\n");
     }
     for (i, node) in blocked.iter().enumerate().skip(1) {
         if i <= REASONED {
-            tell_other(alloc, page, source, file, *node, i <= NEAR)?;
+            tell_other(page, case, *node, i <= NEAR)?;
         } else {
-            name_other(page, source, file, *node);
+            name_other(page, case, *node);
         }
     }
     Ok(())

@@ -64,6 +64,11 @@ impl Page {
         }
     }
 
+    /// The memory that it is written in.
+    pub fn alloc(&self) -> Global {
+        self.alloc
+    }
+
     /// Puts bytes on the page, or notes that memory ran out.
     pub fn put_bytes(&mut self, bytes: &[u8]) {
         if self.text.extend_from_slice(bytes).is_err() {

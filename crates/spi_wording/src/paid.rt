@@ -1,18 +1,13 @@
 // What is left to pay: where it comes from, and what is paid on the way there.
 use crate::NoMemory;
+use crate::case::{Case, node_span};
 use crate::fault::label_of;
-use crate::find::head_at;
 use crate::page::{Kind, Page};
-use crate::source::Source;
 use crate::terms::{Names, put_effect, quote_message};
-use spi_explain::Explained;
 use spi_fault::Reason;
 use spi_infer::reached;
 use spi_rules::Env;
-use spi_scope::File;
 use spi_term::{Atom, Form, Msg, Node, Process, Ty, same_message};
-use spi_text::Span;
-use std::alloc::Global;
 
 /// How many findings of a kind have their line of the source.
 const SHOWN: usize = 8;
@@ -30,23 +25,18 @@ fn origin_text(form: &Form) -> &'static str {
     }
 }
 
-/// Where the first word of a node stands.
-pub fn node_span(source: &Source<'_>, file: &File, node: u32) -> Span {
-    head_at(source.tokens(), file.process_place(node).from)
-}
-
 // One origin.
-fn note_origin(page: &mut Page, source: &Source<'_>, file: &File, node: u32, is_short: bool) {
-    if node >= file.process.len() {
+fn note_origin(page: &mut Page, case: &Case<'_>, node: u32, is_short: bool) {
+    if node >= case.file.process.len() {
         return;
     }
-    let span = node_span(source, file, node);
+    let span = node_span(case, node);
     page.open(Kind::Note, Some(span));
-    page.put(origin_text(&file.process.node(node).form));
+    page.put(origin_text(&case.file.process.node(node).form));
     if is_short {
-        page.close_short(source, span);
+        page.close_short(case.source, span);
     } else {
-        page.close(source, Some(span));
+        page.close(case.source, Some(span));
     }
 }
 
@@ -78,14 +68,13 @@ fn payers_above(process: &Process, target: u32, payers: &mut Vec<u32>) -> Result
 // What a `begin` in front pays for.
 fn note_begin(
     page: &mut Page,
-    source: &Source<'_>,
-    file: &File,
+    case: &Case<'_>,
     names: &Names,
     node: u32,
     is_same: bool,
     label: &Msg,
 ) {
-    let span = Some(node_span(source, file, node));
+    let span = Some(node_span(case, node));
     page.open(Kind::Note, span);
     if is_same {
         page.put("this `begin` in front pays for one such end, and another needs it too");
@@ -93,52 +82,38 @@ fn note_begin(
         page.put("this `begin` in front is for another label: ");
         quote_message(page, names, label);
     }
-    page.close(source, span);
+    page.close(case.source, span);
 }
 
 // What a `check` in front pays for.
-fn note_check(
-    page: &mut Page,
-    source: &Source<'_>,
-    file: &File,
-    names: &Names,
-    env: &Env,
-    node: u32,
-    nonce: &Msg,
-) {
+fn note_check(page: &mut Page, case: &Case<'_>, names: &Names, env: &Env, node: u32, nonce: &Msg) {
     let Msg::Name(x) = nonce else { return };
     let Some(Ty::Nonce(effect)) = env.get(*x) else {
         return;
     };
-    let span = Some(node_span(source, file, node));
+    let span = Some(node_span(case, node));
     page.open(Kind::Note, span);
     page.put("this `check` in front pays for `");
     put_effect(page, names, 0, effect);
     page.put("`");
-    page.close(source, span);
+    page.close(case.source, span);
 }
 
 // What one node in front pays for.
-fn note_payer(
-    alloc: Global,
-    page: &mut Page,
-    source: &Source<'_>,
-    file: &File,
-    node: u32,
-    atom: &Atom,
-) -> Result<(), NoMemory> {
-    if node >= file.process.len() {
+fn note_payer(page: &mut Page, case: &Case<'_>, node: u32, atom: &Atom) -> Result<(), NoMemory> {
+    let process = &case.file.process;
+    if node >= process.len() {
         return Ok(());
     }
-    let names = Names::at(alloc, file, node)?;
-    match &file.process.node(node).form {
+    let names = Names::at(page.alloc(), case.file, node)?;
+    match &process.node(node).form {
         Form::Begin { label, .. } => {
             let is_same = same_message(label, label_of(atom));
-            note_begin(page, source, file, &names, node, is_same, label);
+            note_begin(page, case, &names, node, is_same, label);
         }
         Form::Check { nonce, .. } => {
-            let env = reached(alloc, &file.process, node)?;
-            note_check(page, source, file, &names, &env, node, nonce);
+            let env = reached(page.alloc(), process, node)?;
+            note_check(page, case, &names, &env, node, nonce);
         }
         _ => {}
     }
@@ -146,45 +121,32 @@ fn note_payer(
 }
 
 // What the last begins and checks in front of a node pay for.
-fn note_payers(
-    alloc: Global,
-    page: &mut Page,
-    source: &Source<'_>,
-    file: &File,
-    node: u32,
-    atom: &Atom,
-) -> Result<(), NoMemory> {
-    let mut payers = Vec::new(alloc);
-    payers_above(&file.process, node, &mut payers)?;
+fn note_payers(page: &mut Page, case: &Case<'_>, node: u32, atom: &Atom) -> Result<(), NoMemory> {
+    let mut payers = Vec::new(page.alloc());
+    payers_above(&case.file.process, node, &mut payers)?;
     let skipped = payers.len().saturating_sub(TOLD);
     for payer in payers.iter().skip(skipped) {
-        note_payer(alloc, page, source, file, *payer, atom)?;
+        note_payer(page, case, *payer, atom)?;
     }
     Ok(())
 }
 
 /// Each origin of the atom that is shown, and what is paid in front of the first.
-pub fn note_origins(
-    alloc: Global,
-    page: &mut Page,
-    source: &Source<'_>,
-    file: &File,
-    found: &Explained,
-    atom: &Atom,
-) -> Result<(), NoMemory> {
-    for (i, node) in found.origins.iter().enumerate() {
-        note_origin(page, source, file, *node, i >= SHOWN);
+pub fn note_origins(page: &mut Page, case: &Case<'_>, atom: &Atom) -> Result<(), NoMemory> {
+    for (i, node) in case.found.origins.iter().enumerate() {
+        note_origin(page, case, *node, i >= SHOWN);
     }
-    match found.origins.first() {
-        Some(node) => note_payers(alloc, page, source, file, *node, atom),
+    match case.found.origins.first() {
+        Some(node) => note_payers(page, case, *node, atom),
         None => Ok(()),
     }
 }
 
 // The first origin is a cast.
-fn is_cast(file: &File, found: &Explained) -> bool {
-    match found.origins.first() {
-        Some(node) if *node < file.process.len() => match &file.process.node(*node).form {
+fn is_cast(case: &Case<'_>) -> bool {
+    let process = &case.file.process;
+    match case.found.origins.first() {
+        Some(node) if *node < process.len() => match &process.node(*node).form {
             Form::Cast { .. } => true,
             _ => false,
         },
@@ -214,15 +176,8 @@ fn atom_help(reason: Reason, is_cast: bool, atom: &Atom) -> &'static str {
 }
 
 /// What usually mends an atom that nothing pays for.
-pub fn help_atom(
-    page: &mut Page,
-    source: &Source<'_>,
-    file: &File,
-    found: &Explained,
-    reason: Reason,
-    atom: &Atom,
-) {
+pub fn help_atom(page: &mut Page, case: &Case<'_>, reason: Reason, atom: &Atom) {
     page.open(Kind::Help, None);
-    page.put(atom_help(reason, is_cast(file, found), atom));
-    page.close(source, None);
+    page.put(atom_help(reason, is_cast(case), atom));
+    page.close(case.source, None);
 }

@@ -1,5 +1,5 @@
 // The text of a file that is wrong by its syntax: the token that is there, and what it usually comes from.
-use crate::find::{opener, token_at};
+use crate::find::{begins_process, opener, token_at};
 use crate::page::{Kind, Page};
 use crate::source::{Source, text_at};
 use spi_lex::{Kind as TokenKind, Mark, Reserved, Token, is_version_2};
@@ -27,25 +27,12 @@ fn seen_at(tokens: &[Token], at: usize) -> Seen {
     }
 }
 
-// The last token in front that begins a process, and how it begins.
+// The last token in front that begins a process, behind `repeat` where that stands there, and how it begins.
 fn last_form(tokens: &[Token]) -> Option<Reserved> {
     for token in tokens.iter().rev() {
         if let TokenKind::Reserved(word) = &token.kind {
-            match *word {
-                Reserved::Out
-                | Reserved::Inp
-                | Reserved::Split
-                | Reserved::Match
-                | Reserved::Case
-                | Reserved::Decrypt
-                | Reserved::Check
-                | Reserved::Begin
-                | Reserved::End
-                | Reserved::EndMany
-                | Reserved::Cast
-                | Reserved::New
-                | Reserved::Stop => return Some(*word),
-                _ => {}
+            if *word != Reserved::Repeat && begins_process(*word) {
+                return Some(*word);
             }
         }
     }

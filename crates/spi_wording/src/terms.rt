@@ -100,20 +100,13 @@ pub fn put_message(page: &mut Page, names: &Names, depth: u32, m: &Msg) {
 
 /// An atom, where so many binders stand over it.
 pub fn put_atom(page: &mut Page, names: &Names, depth: u32, a: &Atom) {
-    match a {
-        Atom::End(m) => {
-            page.put("end ");
-            put_message(page, names, depth, m);
-        }
-        Atom::Check(m) => {
-            page.put("check ");
-            put_message(page, names, depth, m);
-        }
-        Atom::Many(m) => {
-            page.put("many ");
-            put_message(page, names, depth, m);
-        }
-    }
+    let (word, label) = match a {
+        Atom::End(m) => ("end ", m),
+        Atom::Check(m) => ("check ", m),
+        Atom::Many(m) => ("many ", m),
+    };
+    page.put(word);
+    put_message(page, names, depth, label);
 }
 
 /// An effect, where so many binders stand over it.

@@ -1,18 +1,11 @@
-use Rattle.spi_commands.proofs.FileRefusals.{refused_named, refused_within}
-use Rattle.spi_commands.proofs.FileScopes.{first_is_fault}
 use Rattle.spi_commands.specs.declared.status.Status.TheVariants.{Refused}
 use Rattle.spi_advice.proofs.Advised.{advised}
 use Rattle.spi_advice.proofs.advice.of_refusal.Goals as goal
 
-pub refused-requires-clause-named : goal.refused-requires-clause-named
-refused-requires-clause-named c = refused_named first_is_fault c.requires.refuses
-
-pub refused-requires-clause-within : goal.refused-requires-clause-within
-refused-requires-clause-within c =
-    rw c.in_ok-lines.ensures (refused_within c.faults_stand_at_nodes.ensures c.requires.refuses)
+pub refusal_line-requires : goal.refusal_line-requires
+refusal_line-requires c = rw c.in_ok-lines.ensures c.requires.refuses
 
 pub returns : goal.returns
 returns c =
     let line = rw c.in_ok-lines.ensures at c.in_ok-line.ensures in
-    advised c.args.bytes.now c.in_ok-line.line.items c.deref-2.result.now
-    Refused c.joined.result (c.args.r.now, c.requires.refuses, line) c.joined.ensures
+    advised c.args.bytes.now c.in_ok-line.line.items c.deref-2.result.now Refused c.joined.result line c.joined.ensures

@@ -1,11 +1,6 @@
-use Rattle.std.proofs.Common.{refl, rules, None, []}
-use Rattle.spi_commands.proofs.FileTaking.{long_line}
 use Rattle.spi_advice.proofs.TraceLines.{long_trace}
 use Rattle.spi_advice.proofs.tracing.of_too_many.Goals as goal
 
 pub returns : goal.returns
 returns c = long_trace c.in_ok-line.line.items c.refused_with.result c.refused_with.ensures.status
-    c.refused_with.ensures.course c.refused_with.ensures.output
-    (λ bytes l. long_line [] bytes c.in_ok-line.line.items
-    (record { number = 2; offset = None; shown = c.into_bytes-shown.result }) l refl refl (search rules)
-    c.in_ok-line.ensures)
+    c.refused_with.ensures.course c.refused_with.ensures.output c.in_ok-line.ensures
