@@ -1,5 +1,5 @@
 -- How often atoms are counted at a place.
-use Rattle.std.proofs.Common.{◌≡◌, refl, sym, ap, ◌∙◌, subst, ℕ, ◌+◌, ◌-◌, ◌<◌, ◌≤◌, Bool, true, false, nat_lt, if◌then◌else◌, List, [], ◌∷◌, ◌++◌, length, map, take, drop, Option, Some, None, arith, eq-eqb, ltb-true}
+use Rattle.std.proofs.Common.{◌≡◌, refl, sym, ap, ◌∙◌, subst, ℕ, ◌+◌, ◌-◌, ◌<◌, ◌≤◌, Bool, true, false, nat_lt, if◌then◌else◌, List, [], ◌∷◌, ◌++◌, length, map, take, drop, Option, Some, None, arith, eq-eqb, ltb-true, ltb-false}
 use Rattle.std.proofs.lemmas.List.{length-map, length-take, map-append, take-append-drop}
 use Rattle.spi_term.specs.declared.term.Effect as D
 use Rattle.spi_term.specs.View.{effect}
@@ -10,26 +10,33 @@ use Rattle.spi_bench.specs.Sums.{nodes, blocked, atoms, placed, of_least, if_non
 use Rattle.spi_bench.specs.declared.slot.Slot.{Slot}
 use Rattle.spi_bench.specs.declared.sums.Sums.{Sums}
 
--- where an atom is counted
-at_small : (k n x i : ℕ) (a b : Bool) → nat_lt x k ≡ a → nat_lt (x - k) n ≡ b → (if a then None else (if b then Some (x - k) else None)) ≡ Some i → i < n
-at_small k n x i true b e f h = absurd (cc)
-at_small k n x i false true e f h = let g : x - k ≡ i = cc in let l : x - k < n = ltb-true (x - k) n f in subst (λ j. j < n) g l
-at_small k n x i false false e f h = absurd (cc)
+-- the atom that is counted at a shared name
+at_is : (k n x i : ℕ) (a b : Bool) → nat_lt x k ≡ a → nat_lt (x - k) n ≡ b → (if a then None else (if b then Some (x - k) else None)) ≡ Some i → (x ≡ k + i) × (i < n)
+at_is k n x i true b e f h = absurd (cc)
+at_is k n x i false true e f h =
+    let g : x - k ≡ i = cc in
+    let l : x - k < n = ltb-true (x - k) n f in
+    let m : k ≤ x = ltb-false x k e in
+    ((omega arith), subst (λ j. j < n) g l)
+at_is k n x i false false e f h = absurd (cc)
 
-name_small : (k n : ℕ) (m : Message) (i : ℕ) → shared_name k n m ≡ Some i → i < n
-name_small k n (bound j) i h = absurd (cc)
-name_small k n (name x) i h = at_small k n x i (nat_lt x k) (nat_lt (x - k) n) refl refl h
-name_small k n unit i h = absurd (cc)
-name_small k n (pair a b) i h = absurd (cc)
-name_small k n (in_left a) i h = absurd (cc)
-name_small k n (in_right a) i h = absurd (cc)
-name_small k n (enc a b) i h = absurd (cc)
-name_small k n (hash a) i h = absurd (cc)
+name_is : (k n : ℕ) (m : Message) (i : ℕ) → shared_name k n m ≡ Some i → (m ≡ name (k + i)) × (i < n)
+name_is k n (bound j) i h = absurd (cc)
+name_is k n (name x) i h = let a = at_is k n x i (nat_lt x k) (nat_lt (x - k) n) refl refl h in (ap (λ (y : ℕ). name y) a.0, a.1)
+name_is k n unit i h = absurd (cc)
+name_is k n (pair a b) i h = absurd (cc)
+name_is k n (in_left a) i h = absurd (cc)
+name_is k n (in_right a) i h = absurd (cc)
+name_is k n (enc a b) i h = absurd (cc)
+name_is k n (hash a) i h = absurd (cc)
+
+pub place_is : (k n : ℕ) (a : Atom) (i : ℕ) → place_of k n a ≡ Some i → (a ≡ checks (name (k + i))) × (i < n)
+place_is k n (ends m) i h = absurd (cc)
+place_is k n (checks m) i h = let a = name_is k n m i h in (ap (λ (y : Message). checks y) a.0, a.1)
+place_is k n (many m) i h = absurd (cc)
 
 pub place_small : (k n : ℕ) (a : Atom) (i : ℕ) → place_of k n a ≡ Some i → i < n
-place_small k n (ends m) i h = absurd (cc)
-place_small k n (checks m) i h = name_small k n m i h
-place_small k n (many m) i h = absurd (cc)
+place_small k n a i h = (place_is k n a i h).1
 
 same_refl : (w : Option ℕ) → same_place w w ≡ true
 same_refl None = refl
@@ -70,20 +77,22 @@ adds_more a b c es fs h g = record {
       let s = times_append a.free (shared_in a) w es fs in omega arith;
 }
 
-pub takes_more : (a b c : Sums) (es fs : Effect) → AddsAtoms b a es → AddsAtoms c b fs → AddsAtoms c a (es ++ fs)
-takes_more a b c es fs h g = record {
-  free = h.free ∙ g.free;
-  shared = h.shared ∙ g.shared;
-  nodes = h.nodes ∙ g.nodes;
-  blocked = h.blocked ∙ g.blocked;
-  atoms = h.atoms ∙ g.atoms;
+-- and in the other order
+adds_swapped : (a b : Sums) (es fs : Effect) → AddsAtoms a b (es ++ fs) → AddsAtoms a b (fs ++ es)
+adds_swapped a b es fs h = record {
+  free = h.free;
+  shared = h.shared;
+  nodes = h.nodes;
+  blocked = h.blocked;
+  atoms = h.atoms;
   at = λ w p.
-      let x = g.at w p in
-      let q = subst (λ n. IsSharedPlace n w) (sym g.shared) p in
-      let y = subst (λ n. at_place a w ≡ at_place b w + times b.free n w es) g.shared (h.at w q) in
-      let z = subst (λ k. at_place a w ≡ at_place b w + times k (shared_in c) w es) g.free y in
-      let s = times_append c.free (shared_in c) w es fs in omega arith;
+      let x = h.at w p in
+      let s = times_append a.free (shared_in a) w es fs in
+      let t = times_append a.free (shared_in a) w fs es in omega arith;
 }
+
+pub takes_more : (a b c : Sums) (es fs : Effect) → AddsAtoms b a es → AddsAtoms c b fs → AddsAtoms c a (es ++ fs)
+takes_more a b c es fs h g = adds_swapped c a fs es (adds_more c b a fs es g h)
 
 -- room for one atom more of the effect, and one atom fewer
 pub prefix_short : {A B : Type 0} (f : A → B) (xs : List A) (n : ℕ) → n < length xs → length (map f (take n xs)) + 1 ≤ length (map f xs)

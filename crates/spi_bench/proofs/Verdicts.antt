@@ -21,33 +21,8 @@ use Rattle.spi_bench.specs.Sums.{blocked, placed, shared_name, place_of, same_pl
 use Rattle.spi_message.specs.Judging.{Numbered}
 use Rattle.spi_bench.specs.Slots.{IsBench, parts_of, AreInferred, HaveNoneTwice, names_of}
 use Rattle.spi_bench.specs.declared.slot.Slot.{Slot}
-use Rattle.spi_bench.proofs.Counted.{times_append}
+use Rattle.spi_bench.proofs.Counted.{place_is, times_append}
 use Rattle.spi_bench.proofs.Wholes.{decided, together_least, together_is_least}
-
--- the atom that is counted at a shared name
-at_is : (k n x i : ℕ) (a b : Bool) → nat_lt x k ≡ a → nat_lt (x - k) n ≡ b → (if a then None else (if b then Some (x - k) else None)) ≡ Some i → (x ≡ k + i) × (i < n)
-at_is k n x i true b e f h = absurd (cc)
-at_is k n x i false true e f h =
-    let g : x - k ≡ i = cc in
-    let l : x - k < n = ltb-true (x - k) n f in
-    let m : k ≤ x = ltb-false x k e in
-    ((omega arith), subst (λ j. j < n) g l)
-at_is k n x i false false e f h = absurd (cc)
-
-name_is : (k n : ℕ) (m : Message) (i : ℕ) → shared_name k n m ≡ Some i → (m ≡ name (k + i)) × (i < n)
-name_is k n (bound j) i h = absurd (cc)
-name_is k n (name x) i h = let a = at_is k n x i (nat_lt x k) (nat_lt (x - k) n) refl refl h in (ap (λ (y : ℕ). name y) a.0, a.1)
-name_is k n unit i h = absurd (cc)
-name_is k n (pair a b) i h = absurd (cc)
-name_is k n (in_left a) i h = absurd (cc)
-name_is k n (in_right a) i h = absurd (cc)
-name_is k n (enc a b) i h = absurd (cc)
-name_is k n (hash a) i h = absurd (cc)
-
-place_is : (k n : ℕ) (a : Atom) (i : ℕ) → place_of k n a ≡ Some i → (a ≡ checks (name (k + i))) × (i < n)
-place_is k n (ends m) i h = absurd (cc)
-place_is k n (checks m) i h = let a = name_is k n m i h in (ap (λ (y : Message). checks y) a.0, a.1)
-place_is k n (many m) i h = absurd (cc)
 
 at_here : (k n x : ℕ) (a b : Bool) → k ≤ x → x < k + n → nat_lt x k ≡ a → nat_lt (x - k) n ≡ b → (if a then None else (if b then Some (x - k) else None)) ≡ None → ⊥
 at_here k n x true b l m e f h = let g : x < k = ltb-true x k e in omega arith

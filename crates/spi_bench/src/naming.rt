@@ -91,36 +91,6 @@ fn put_new(
     }
 }
 
-// A part under a name: another one in its place where the name is there, and else the last one.
-fn put_in(
-    alloc: Global,
-    table: &mut Table,
-    places: &mut IndexMap<Text, usize>,
-    name: &Text,
-    part: Process,
-    least: Option<Effect>,
-) -> Result<Option<Process>, Process>
-    requires places { AreNamed table.old.slots.items (get bytes_eq places.old) }
-    requires nodes { total_in table.old.sums S.nodes table.old.slots.items + process_size part.process
-        < 2 ^ 64 }
-    requires atoms { total_in table.old.sums S.atoms table.old.slots.items + of_least length least < 2 ^ 64 }
-    ensures ok { IfOk result
-        (λ r. PutsPart name.now part least r table.old.slots.items table.new.slots.items
-        (get bytes_eq places.new)) }
-    ensures err { OnErr result (Stays table.old.slots.items table.new.slots.items (get bytes_eq places.new)) }
-    ensures part { IfErr result (λ p. p ≡ part) }
-    ensures free { table.new.sums.free ≡ table.old.sums.free }
-    ensures shared { shared_in table.new.sums ≡ shared_in table.old.sums }
-{
-    match places.get(name).copied() {
-        Some(at) => Ok(put_there(table, at, part, least)),
-        None => match put_new(alloc, table, places, name, part, least) {
-            Ok(()) => Ok(None),
-            Err(part) => Err(part),
-        },
-    }
-}
-
 /// A part under a name: another one in its place where the name is there, and else the last one. It gives back the part
 /// that was there. Without memory the new part is given back.
 pub fn put_fitting(
@@ -145,7 +115,13 @@ pub fn put_fitting(
     if !table.has_room(&least) {
         return Err(part);
     }
-    put_in(alloc, table, places, name, part, least)
+    match places.get(name).copied() {
+        Some(at) => Ok(put_there(table, at, part, least)),
+        None => match put_new(alloc, table, places, name, part, least) {
+            Ok(()) => Ok(None),
+            Err(part) => Err(part),
+        },
+    }
 }
 
 /// The part under the name goes, where there is one, and is given back.

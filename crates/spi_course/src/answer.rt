@@ -14,7 +14,7 @@ use crate::chart::put_chart;
 use crate::course::{Course, Taken, take_all};
 use crate::deeds::{event_of, put_step};
 use crate::follow::Follower;
-use crate::naming::{Naming, put};
+use crate::naming::Naming;
 use crate::scene::Scene;
 use crate::source::Source;
 use crate::waiting::{is_done, put_refusal, put_waiting, refusal_name};
@@ -40,6 +40,7 @@ pub struct Account {
 }
 
 /// Why nothing is told of a file.
+#[derive(Drop)]
 pub enum Untold {
     /// It has no opponent part.
     NoOpponent,
@@ -49,17 +50,6 @@ pub enum Untold {
     NotOpponent { node: u32 },
     /// Memory ran out.
     NoMemory,
-}
-
-impl Drop for Untold {
-    fn drop(self) {
-        match self {
-            Untold::NoOpponent => {}
-            Untold::NoSchedule => {}
-            Untold::NotOpponent { node: _ } => {}
-            Untold::NoMemory => {}
-        }
-    }
 }
 
 impl From<AllocError> for Untold {
@@ -101,18 +91,18 @@ fn begin_of(taken: &Taken, begins: &[Option<usize>]) -> Option<usize> {
 }
 
 // Appends what each place waits for that isn't done.
-fn put_places(scene: &Scene<'_>, out: &mut Vec<u8>, places: u32) -> Result<(), NoMemory> {
-    put(out, "At the end:\n")?;
+fn put_places(scene: &mut Scene<'_>, places: u32) -> Result<(), NoMemory> {
+    scene.put("At the end:\n")?;
     let mut done = false;
     for place in 0..places {
         if is_done(scene, place) {
             done = true;
         } else {
-            put_waiting(scene, out, place)?;
+            put_waiting(scene, place)?;
         }
     }
     if done {
-        put(out, "   nothing is left to do at the other places\n")?;
+        scene.put("   nothing is left to do at the other places\n")?;
     }
     Ok(())
 }
@@ -127,38 +117,27 @@ fn offset_of(file: &File, index: usize) -> u32 {
 
 // Appends the line of a step that is refused, and why.
 fn put_refused(
-    scene: &Scene<'_>,
-    out: &mut Vec<u8>,
+    scene: &mut Scene<'_>,
     pool: &Pool<'_>,
     index: usize,
     step: Step,
     fault: &StepFault,
 ) -> Result<(), NoMemory> {
-    scene.put_number(out, index.saturating_add(1) as u64)?;
-    match step {
-        Step::Act(place) => {
-            put(out, ". act ")?;
-            scene.put_number(out, place as u64)?;
-        }
-        Step::Talk(from, to) => {
-            put(out, ". talk ")?;
-            scene.put_number(out, from as u64)?;
-            put(out, " ")?;
-            scene.put_number(out, to as u64)?;
-        }
-    }
-    put(out, " in the schedule at ")?;
-    scene.put_offset(out, offset_of(scene.file, index))?;
-    put(out, " is refused: ")?;
-    put(out, refusal_name(fault))?;
-    put(out, "\n")?;
-    put_refusal(scene, out, pool, step, fault)
+    scene.put_number(index.saturating_add(1) as u64)?;
+    scene.put(". ")?;
+    scene.put_step(step)?;
+    scene.put(" in the schedule at ")?;
+    let offset = offset_of(scene.file, index);
+    scene.put_offset(offset)?;
+    scene.put(" is refused: ")?;
+    scene.put(refusal_name(fault))?;
+    scene.put("\n")?;
+    put_refusal(scene, pool, step, fault)
 }
 
 // Appends the lines of the steps that were taken, and those behind them.
 fn put_course(
     scene: &mut Scene<'_>,
-    out: &mut Vec<u8>,
     pool: &Pool<'_>,
     course: &Course,
     steps: &[Step],
@@ -168,15 +147,15 @@ fn put_course(
         scene.note(taken)?;
         let begin = begin_of(taken, begins);
         let event = event_of(course, taken);
-        put_step(scene, out, index.saturating_add(1), taken, event, begin)?;
+        put_step(scene, index.saturating_add(1), taken, event, begin)?;
         scene.follower.follow(taken)?;
     }
     let index = course.taken.len();
     match (&course.refused, steps.get(index)) {
-        (Some(fault), Some(step)) => put_refused(scene, out, pool, index, *step, fault)?,
+        (Some(fault), Some(step)) => put_refused(scene, pool, index, *step, fault)?,
         _ => {}
     }
-    put_places(scene, out, pool.places())
+    put_places(scene, pool.places())
 }
 
 // What the text of a file is written from, at the start of its schedule.
@@ -203,6 +182,7 @@ fn scene_of<'f>(
             mark,
         },
         follower,
+        out: Vec::new(alloc),
     })
 }
 
@@ -222,15 +202,14 @@ fn written(
     requires few { length course.now.events.items < 2 ^ 32 }
 {
     let begins = begins_of(alloc, course)?;
-    let mut out = Vec::new(alloc);
     let mark = if chart { "#35;" } else { "#" };
     let mut scene = scene_of(alloc, file, opponent, tokens, bytes, mark)?;
     if chart {
-        put_chart(&mut scene, &mut out, course, steps, &begins)?;
+        put_chart(&mut scene, course, steps, &begins)?;
     } else {
-        put_course(&mut scene, &mut out, pool, course, steps, &begins)?;
+        put_course(&mut scene, pool, course, steps, &begins)?;
     }
-    Ok(out)
+    Ok(scene.out)
 }
 
 // What is told of these steps beside this opponent.

@@ -3,7 +3,6 @@
 use crate::NoMemory;
 use crate::course::{Course, Taken};
 use crate::deeds::{event_of, put_channel, put_event, put_made};
-use crate::naming::put;
 use crate::roles::{Role, Roles};
 use crate::scene::Scene;
 use crate::waiting::refusal_name;
@@ -11,13 +10,13 @@ use spi_replay::StepFault;
 use spi_run::{Event, Step};
 
 // Appends the name of a role in the chart.
-fn put_role(scene: &Scene<'_>, out: &mut Vec<u8>, role: Role) -> Result<(), NoMemory> {
+fn put_role(scene: &mut Scene<'_>, role: Role) -> Result<(), NoMemory> {
     match role {
-        Role::Opponent => put(out, "O"),
-        Role::All => put(out, "P0"),
+        Role::Opponent => scene.put("O"),
+        Role::All => scene.put("P0"),
         Role::Part(number) => {
-            put(out, "P")?;
-            scene.put_number(out, number as u64)
+            scene.put("P")?;
+            scene.put_number(number as u64)
         }
     }
 }
@@ -31,41 +30,36 @@ fn role_of(scene: &Scene<'_>, roles: &Roles, place: u32) -> Role {
 }
 
 // Appends the line of each role: the top parts with their places in the file, and the opponent.
-fn put_roles(scene: &Scene<'_>, out: &mut Vec<u8>, roles: &Roles) -> Result<(), NoMemory> {
-    put(out, "sequenceDiagram\n")?;
+fn put_roles(scene: &mut Scene<'_>, roles: &Roles) -> Result<(), NoMemory> {
+    scene.put("sequenceDiagram\n")?;
     for (number, start) in roles.starts.iter().enumerate() {
-        put(out, "    participant ")?;
-        put_role(scene, out, Role::Part(number))?;
-        put(out, " as ")?;
-        put_role(scene, out, Role::Part(number))?;
-        put(out, " (")?;
-        scene.put_offset(out, scene.file.process_place(*start).from)?;
-        put(out, ")\n")?;
+        scene.put("    participant ")?;
+        put_role(scene, Role::Part(number))?;
+        scene.put(" as ")?;
+        put_role(scene, Role::Part(number))?;
+        scene.put(" (")?;
+        let offset = scene.file.process_place(*start).from;
+        scene.put_offset(offset)?;
+        scene.put(")\n")?;
     }
-    put(out, "    participant O as opponent\n")
+    scene.put("    participant O as opponent\n")
 }
 
 // Appends the start of a note.
-fn put_note(
-    scene: &Scene<'_>,
-    out: &mut Vec<u8>,
-    roles: &Roles,
-    place: u32,
-) -> Result<(), NoMemory> {
-    put(out, "    Note over ")?;
+fn put_note(scene: &mut Scene<'_>, roles: &Roles, place: u32) -> Result<(), NoMemory> {
+    scene.put("    Note over ")?;
     let role = role_of(scene, roles, place);
-    put_role(scene, out, role)?;
+    put_role(scene, role)?;
     if role == Role::All && roles.starts.len() > 1 {
-        put(out, ",")?;
-        put_role(scene, out, Role::Part(roles.starts.len().saturating_sub(1)))?;
+        scene.put(",")?;
+        put_role(scene, Role::Part(roles.starts.len().saturating_sub(1)))?;
     }
-    put(out, ": ")
+    scene.put(": ")
 }
 
 // Appends the note of an act that shows an event or makes a name.
 fn put_act(
-    scene: &Scene<'_>,
-    out: &mut Vec<u8>,
+    scene: &mut Scene<'_>,
     roles: &Roles,
     place: u32,
     taken: &Taken,
@@ -74,14 +68,14 @@ fn put_act(
 ) -> Result<(), NoMemory> {
     match event {
         Some(event) => {
-            put_note(scene, out, roles, place)?;
-            put_event(scene, out, event)?;
-            put(out, if unpaid { ", unpaid\n" } else { "\n" })
+            put_note(scene, roles, place)?;
+            put_event(scene, event)?;
+            scene.put(if unpaid { ", unpaid\n" } else { "\n" })
         }
         None if taken.made.is_some() => {
-            put_note(scene, out, roles, place)?;
-            put_made(scene, out, taken.made)?;
-            put(out, "\n")
+            put_note(scene, roles, place)?;
+            put_made(scene, taken.made)?;
+            scene.put("\n")
         }
         None => Ok(()),
     }
@@ -89,38 +83,38 @@ fn put_act(
 
 // Appends the arrow of a talk.
 fn put_talk(
-    scene: &Scene<'_>,
-    out: &mut Vec<u8>,
+    scene: &mut Scene<'_>,
     roles: &Roles,
     from: u32,
     to: u32,
     taken: &Taken,
 ) -> Result<(), NoMemory> {
-    put(out, "    ")?;
-    put_role(scene, out, role_of(scene, roles, from))?;
-    put(out, "->>")?;
-    put_role(scene, out, role_of(scene, roles, to))?;
-    put(out, ": ")?;
-    put_channel(scene, out, from)?;
-    put(out, ": ")?;
+    scene.put("    ")?;
+    let sender = role_of(scene, roles, from);
+    put_role(scene, sender)?;
+    scene.put("->>")?;
+    let receiver = role_of(scene, roles, to);
+    put_role(scene, receiver)?;
+    scene.put(": ")?;
+    put_channel(scene, from)?;
+    scene.put(": ")?;
     match &taken.datum {
-        Some(datum) => scene.put_message(out, datum)?,
+        Some(datum) => scene.put_message(datum)?,
         None => {}
     }
-    put(out, "\n")
+    scene.put("\n")
 }
 
 fn put_taken(
-    scene: &Scene<'_>,
-    out: &mut Vec<u8>,
+    scene: &mut Scene<'_>,
     roles: &Roles,
     taken: &Taken,
     event: Option<&Event>,
     unpaid: bool,
 ) -> Result<(), NoMemory> {
     match taken.step {
-        Step::Act(place) => put_act(scene, out, roles, place, taken, event, unpaid),
-        Step::Talk(from, to) => put_talk(scene, out, roles, from, to, taken),
+        Step::Act(place) => put_act(scene, roles, place, taken, event, unpaid),
+        Step::Talk(from, to) => put_talk(scene, roles, from, to, taken),
     }
 }
 
@@ -138,51 +132,41 @@ fn is_unpaid(taken: &Taken, event: Option<&Event>, begins: &[Option<usize>]) -> 
 
 // Appends the note of a step that is refused.
 fn put_refused(
-    scene: &Scene<'_>,
-    out: &mut Vec<u8>,
+    scene: &mut Scene<'_>,
     roles: &Roles,
     step: Step,
     fault: &StepFault,
 ) -> Result<(), NoMemory> {
-    match step {
-        Step::Act(place) => {
-            put_note(scene, out, roles, place)?;
-            put(out, "act ")?;
-            scene.put_number(out, place as u64)?;
-        }
-        Step::Talk(from, to) => {
-            put_note(scene, out, roles, from)?;
-            put(out, "talk ")?;
-            scene.put_number(out, from as u64)?;
-            put(out, " ")?;
-            scene.put_number(out, to as u64)?;
-        }
-    }
-    put(out, " is refused: ")?;
-    put(out, refusal_name(fault))?;
-    put(out, "\n")
+    let place = match step {
+        Step::Act(place) => place,
+        Step::Talk(from, _) => from,
+    };
+    put_note(scene, roles, place)?;
+    scene.put_step(step)?;
+    scene.put(" is refused: ")?;
+    scene.put(refusal_name(fault))?;
+    scene.put("\n")
 }
 
 /// Appends the chart of a course of these steps: a line for each role, an arrow for each talk, and a note for each name
 /// that is made and each event.
 pub fn put_chart(
     scene: &mut Scene<'_>,
-    out: &mut Vec<u8>,
     course: &Course,
     steps: &[Step],
     begins: &[Option<usize>],
 ) -> Result<(), NoMemory> {
     let roles = Roles::of(scene.alloc, scene.file)?;
-    put_roles(scene, out, &roles)?;
+    put_roles(scene, &roles)?;
     for taken in &course.taken {
         scene.note(taken)?;
         let event = event_of(course, taken);
         let unpaid = is_unpaid(taken, event, begins);
-        put_taken(scene, out, &roles, taken, event, unpaid)?;
+        put_taken(scene, &roles, taken, event, unpaid)?;
         scene.follower.follow(taken)?;
     }
     match (&course.refused, steps.get(course.taken.len())) {
-        (Some(fault), Some(step)) => put_refused(scene, out, &roles, *step, fault),
+        (Some(fault), Some(step)) => put_refused(scene, &roles, *step, fault),
         _ => Ok(()),
     }
 }

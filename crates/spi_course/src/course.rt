@@ -29,20 +29,11 @@ pub struct Taken {
 
 /// The steps that were taken, in order, with their events, and why the step behind them is refused: None where each step
 /// of the schedule was taken.
+#[derive(Drop)]
 pub struct Course {
     pub taken: Vec<Taken>,
     pub events: Vec<Event>,
     pub refused: Option<StepFault>,
-}
-
-impl Drop for Course {
-    fn drop(self) {
-        let Course {
-            taken: _,
-            events: _,
-            refused: _,
-        } = self;
-    }
 }
 
 // The number that is new where there is one more of them.

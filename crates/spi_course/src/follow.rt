@@ -24,39 +24,20 @@ pub struct Standing {
 }
 
 /// The message of a bound name, and the number of the link of the name that was bound before it.
+#[derive(Drop)]
 pub struct Link {
     pub value: Msg,
     pub before: usize,
 }
 
-impl Drop for Link {
-    fn drop(self) {
-        let Link {
-            value: _,
-            before: _,
-        } = self;
-    }
-}
-
 /// The places of a pool, by the nodes that they stand at.
+#[derive(Drop)]
 pub struct Follower<'f> {
     pub alloc: Global,
     pub process: &'f Process,
     pub opponent: &'f Process,
     pub links: Vec<Link>,
     pub places: Vec<Standing>,
-}
-
-impl Drop for Follower<'_> {
-    fn drop(self) {
-        let Follower {
-            alloc: _,
-            process: _,
-            opponent: _,
-            links: _,
-            places: _,
-        } = self;
-    }
 }
 
 // The message in a box, where there is one.

@@ -7,20 +7,11 @@ use std::alloc::Global;
 
 /// The spellings of the free names, those of the binders of the names that were made, in their order, and what stands
 /// between a spelling and a number.
+#[derive(Drop)]
 pub struct Naming<'f> {
     pub free: &'f [Text],
     pub made: Vec<&'f str>,
     pub mark: &'static str,
-}
-
-impl Drop for Naming<'_> {
-    fn drop(self) {
-        let Naming {
-            free: _,
-            made: _,
-            mark: _,
-        } = self;
-    }
 }
 
 /// Appends a text.

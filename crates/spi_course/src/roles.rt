@@ -7,14 +7,9 @@ use spi_term::{Form, Process};
 use std::alloc::Global;
 
 /// The first nodes of the top parts of a process, behind the names that it makes first.
+#[derive(Drop)]
 pub struct Roles {
     pub starts: Vec<u32>,
-}
-
-impl Drop for Roles {
-    fn drop(self) {
-        let Roles { starts: _ } = self;
-    }
 }
 
 /// Whose a place is.

@@ -3,7 +3,7 @@
 use crate::NoMemory;
 use crate::course::Taken;
 use crate::follow::{Follower, Side, Standing};
-use crate::naming::{Naming, put, put_message, put_number};
+use crate::naming::{Naming, put, put_message, put_name, put_number};
 use crate::source::{Source, binder_at};
 use spi_lex::Token;
 use spi_run::Step;
@@ -11,7 +11,8 @@ use spi_scope::File;
 use spi_term::{Form, Msg};
 use std::alloc::Global;
 
-/// A file with its text, and how far its schedule has come.
+/// A file with its text, how far its schedule has come, and what is written of it.
+#[derive(Drop)]
 pub struct Scene<'f> {
     pub alloc: Global,
     pub file: &'f File,
@@ -19,19 +20,7 @@ pub struct Scene<'f> {
     pub source: Source<'f>,
     pub names: Naming<'f>,
     pub follower: Follower<'f>,
-}
-
-impl Drop for Scene<'_> {
-    fn drop(self) {
-        let Scene {
-            alloc: _,
-            file: _,
-            tokens: _,
-            source: _,
-            names: _,
-            follower: _,
-        } = self;
-    }
+    pub out: Vec<u8>,
 }
 
 impl<'f> Scene<'f> {
@@ -43,31 +32,42 @@ impl<'f> Scene<'f> {
         }
     }
 
+    /// Appends a text.
+    pub fn put(&mut self, text: &str) -> Result<(), NoMemory> {
+        put(&mut self.out, text)
+    }
+
     /// Appends the line and the column of an offset.
-    pub fn put_offset(&self, out: &mut Vec<u8>, offset: u32) -> Result<(), NoMemory> {
+    pub fn put_offset(&mut self, offset: u32) -> Result<(), NoMemory> {
         match self.source.place(offset) {
             Some(place) => {
-                put_number(self.alloc, out, place.line as u64)?;
-                put(out, ":")?;
-                put_number(self.alloc, out, place.column as u64)
+                self.put_number(place.line as u64)?;
+                self.put(":")?;
+                self.put_number(place.column as u64)
             }
-            None => put(out, "?"),
+            None => self.put("?"),
         }
     }
 
     /// Appends the line and the column of the node of a place.
-    pub fn put_at(&self, out: &mut Vec<u8>, at: Standing) -> Result<(), NoMemory> {
-        self.put_offset(out, self.offset(at))
+    pub fn put_at(&mut self, at: Standing) -> Result<(), NoMemory> {
+        let offset = self.offset(at);
+        self.put_offset(offset)
     }
 
     /// Appends a number.
-    pub fn put_number(&self, out: &mut Vec<u8>, number: u64) -> Result<(), NoMemory> {
-        put_number(self.alloc, out, number)
+    pub fn put_number(&mut self, number: u64) -> Result<(), NoMemory> {
+        put_number(self.alloc, &mut self.out, number)
+    }
+
+    /// Appends a name.
+    pub fn put_name(&mut self, x: u32) -> Result<(), NoMemory> {
+        put_name(self.alloc, &mut self.out, &self.names, x)
     }
 
     /// Appends a message without bound names.
-    pub fn put_message(&self, out: &mut Vec<u8>, m: &Msg) -> Result<(), NoMemory> {
-        put_message(self.alloc, out, &self.names, m)
+    pub fn put_message(&mut self, m: &Msg) -> Result<(), NoMemory> {
+        put_message(self.alloc, &mut self.out, &self.names, m)
     }
 
     /// A message of the node of a place, with the messages of the names in it.
@@ -79,9 +79,31 @@ impl<'f> Scene<'f> {
     }
 
     /// Appends a message of the node of a place.
-    pub fn put_said(&self, out: &mut Vec<u8>, at: Standing, m: &Msg) -> Result<(), NoMemory> {
+    pub fn put_said(&mut self, at: Standing, m: &Msg) -> Result<(), NoMemory> {
         let said = self.instance(at, m)?;
-        self.put_message(out, &said)
+        self.put_message(&said)
+    }
+
+    /// Appends a word, and a message of the node of a place.
+    pub fn put_part(&mut self, word: &str, at: Standing, m: &Msg) -> Result<(), NoMemory> {
+        self.put(word)?;
+        self.put_said(at, m)
+    }
+
+    /// Appends a step as a schedule writes it.
+    pub fn put_step(&mut self, step: Step) -> Result<(), NoMemory> {
+        match step {
+            Step::Act(place) => {
+                self.put("act ")?;
+                self.put_number(place as u64)
+            }
+            Step::Talk(from, to) => {
+                self.put("talk ")?;
+                self.put_number(from as u64)?;
+                self.put(" ")?;
+                self.put_number(to as u64)
+            }
+        }
     }
 
     /// The form that a place holds, where it is there and isn't done.

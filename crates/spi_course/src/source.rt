@@ -9,16 +9,11 @@ use spi_text::{Lines, Place};
 use std::alloc::Global;
 
 /// The bytes of a file with their lines. That these are theirs is a fact of the type.
+#[derive(Drop)]
 pub struct Source<'f> {
     bytes: &'f [u8],
     lines: Lines<'f>,
     ghost same: { lines ≡ bytes.now },
-}
-
-impl Drop for Source<'_> {
-    fn drop(self) {
-        let Source { bytes: _, lines: _ } = self;
-    }
 }
 
 impl<'f> Source<'f> {

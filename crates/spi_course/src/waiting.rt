@@ -1,8 +1,8 @@
 // What places wait for.
 
 use crate::NoMemory;
+use crate::deeds::looked_at;
 use crate::follow::Standing;
-use crate::naming::put;
 use crate::scene::Scene;
 use spi_replay::{Pool, StepFault};
 use spi_run::Step;
@@ -78,105 +78,72 @@ fn other_nonce(whole: &Msg, wanted: &Msg) -> &'static str {
     }
 }
 
-// Appends a word, and a message of the node of a place.
-fn put_part(
-    scene: &Scene<'_>,
-    out: &mut Vec<u8>,
-    word: &str,
-    at: Standing,
-    m: &Msg,
-) -> Result<(), NoMemory> {
-    put(out, word)?;
-    scene.put_said(out, at, m)
+// Appends what a form asks of the message that it looks at.
+fn put_wanted(scene: &mut Scene<'_>, at: Standing, form: &Form) -> Result<(), NoMemory> {
+    match form {
+        Form::Select { equal, .. } => scene.put_part(" wants the first part ", at, equal),
+        Form::Decrypt { key, .. } => scene.put_part(" wants the key ", at, key),
+        Form::Check { nonce, .. } => scene.put_part(" wants ", at, nonce),
+        _ => Ok(()),
+    }
 }
 
-// Appends what a form that looks at a message asks of it.
-fn put_asked(
-    scene: &Scene<'_>,
-    out: &mut Vec<u8>,
-    at: Standing,
-    form: &Form,
-) -> Result<(), NoMemory> {
+// Appends a form that acts alone, with what it asks.
+fn put_asked(scene: &mut Scene<'_>, at: Standing, form: &Form) -> Result<(), NoMemory> {
+    if let Some((word, whole)) = looked_at(form) {
+        scene.put_part(word, at, whole)?;
+        return put_wanted(scene, at, form);
+    }
     match form {
-        Form::Split { whole, .. } => put_part(scene, out, "split ", at, whole),
-        Form::Select { whole, equal, .. } => {
-            put_part(scene, out, "match ", at, whole)?;
-            put_part(scene, out, " wants the first part ", at, equal)
-        }
-        Form::Branch { whole, .. } => put_part(scene, out, "case ", at, whole),
-        Form::Decrypt { whole, key, .. } => {
-            put_part(scene, out, "decrypt ", at, whole)?;
-            put_part(scene, out, " wants the key ", at, key)
-        }
-        Form::Check { whole, nonce, .. } => {
-            put_part(scene, out, "check ", at, whole)?;
-            put_part(scene, out, " wants ", at, nonce)
-        }
-        Form::Begin { label, .. } => put_part(scene, out, "begin ", at, label),
-        Form::End { label, .. } => put_part(scene, out, "end ", at, label),
-        Form::EndMany { label, .. } => put_part(scene, out, "endmany ", at, label),
-        Form::Cast { whole, .. } => put_part(scene, out, "cast ", at, whole),
-        Form::Fresh { .. } => put(out, "new"),
-        _ => put(out, "P | Q"),
+        Form::Begin { label, .. } => scene.put_part("begin ", at, label),
+        Form::End { label, .. } => scene.put_part("end ", at, label),
+        Form::EndMany { label, .. } => scene.put_part("endmany ", at, label),
+        Form::Fresh { .. } => scene.put("new"),
+        _ => scene.put("P | Q"),
     }
 }
 
 // Appends what a form that acts alone would do, and whether it can.
-fn put_alone(
-    scene: &Scene<'_>,
-    out: &mut Vec<u8>,
-    at: Standing,
-    form: &Form,
-) -> Result<(), NoMemory> {
+fn put_alone(scene: &mut Scene<'_>, at: Standing, form: &Form) -> Result<(), NoMemory> {
     let why = hindered(scene, at, form)?;
-    put(
-        out,
-        if why.is_empty() {
-            "can go on: "
-        } else {
-            "is stuck: "
-        },
-    )?;
-    put_asked(scene, out, at, form)?;
-    put(out, why)
+    scene.put(if why.is_empty() {
+        "can go on: "
+    } else {
+        "is stuck: "
+    })?;
+    put_asked(scene, at, form)?;
+    scene.put(why)
 }
 
 // Appends what a form waits for.
-fn put_form(
-    scene: &Scene<'_>,
-    out: &mut Vec<u8>,
-    at: Standing,
-    form: &Form,
-) -> Result<(), NoMemory> {
-    put(out, " at ")?;
-    scene.put_at(out, at)?;
-    put(out, " ")?;
+fn put_form(scene: &mut Scene<'_>, at: Standing, form: &Form) -> Result<(), NoMemory> {
+    scene.put(" at ")?;
+    scene.put_at(at)?;
+    scene.put(" ")?;
     match form {
         Form::Send { channel, datum } => {
-            put_part(scene, out, "puts out on ", at, channel)?;
-            put_part(scene, out, ": ", at, datum)
+            scene.put_part("puts out on ", at, channel)?;
+            scene.put_part(": ", at, datum)
         }
-        Form::Recv { channel, .. } => {
-            put_part(scene, out, "waits for a message on ", at, channel)
-        }
+        Form::Recv { channel, .. } => scene.put_part("waits for a message on ", at, channel),
         Form::Serve { channel, .. } => {
-            put_part(scene, out, "waits for a message on ", at, channel)?;
-            put(out, ", again and again")
+            scene.put_part("waits for a message on ", at, channel)?;
+            scene.put(", again and again")
         }
-        Form::Stop => put(out, "is done"),
-        form => put_alone(scene, out, at, form),
+        Form::Stop => scene.put("is done"),
+        form => put_alone(scene, at, form),
     }
 }
 
 /// Appends the line of what a place waits for.
-pub fn put_waiting(scene: &Scene<'_>, out: &mut Vec<u8>, place: u32) -> Result<(), NoMemory> {
-    put(out, "   place ")?;
-    scene.put_number(out, place as u64)?;
+pub fn put_waiting(scene: &mut Scene<'_>, place: u32) -> Result<(), NoMemory> {
+    scene.put("   place ")?;
+    scene.put_number(place as u64)?;
     match scene.held(place) {
-        Some((at, form)) => put_form(scene, out, at, form)?,
-        None => put(out, " is done")?,
+        Some((at, form)) => put_form(scene, at, form)?,
+        None => scene.put(" is done")?,
     }
-    put(out, "\n")
+    scene.put("\n")
 }
 
 /// Whether nothing is left to do at a place.
@@ -188,109 +155,67 @@ pub fn is_done(scene: &Scene<'_>, place: u32) -> bool {
     }
 }
 
-// Appends a step behind those that stand there.
-fn put_one(
-    scene: &Scene<'_>,
-    out: &mut Vec<u8>,
-    word: &str,
-    first: u32,
-    second: Option<u32>,
-) -> Result<(), NoMemory> {
-    put(out, word)?;
-    scene.put_number(out, first as u64)?;
-    match second {
-        Some(place) => {
-            put(out, " ")?;
-            scene.put_number(out, place as u64)
-        }
-        None => Ok(()),
-    }
-}
-
-// Appends the talks of an output with these inputs.
-fn put_inputs(
-    scene: &Scene<'_>,
-    out: &mut Vec<u8>,
-    from: u32,
-    inputs: &[u32],
-) -> Result<(), NoMemory> {
+// Adds the talks of an output with these inputs.
+fn add_inputs(ready: &mut Vec<Step>, from: u32, inputs: &[u32]) -> Result<(), NoMemory> {
     for to in inputs {
-        put_one(scene, out, " talk ", from, Some(*to))?;
+        ready.push(Step::Talk(from, *to))?;
     }
     Ok(())
 }
 
-// Appends the talks of an input with these outputs.
-fn put_outputs(
-    scene: &Scene<'_>,
-    out: &mut Vec<u8>,
-    to: u32,
-    outputs: &[u32],
-) -> Result<(), NoMemory> {
+// Adds the talks of an input with these outputs.
+fn add_outputs(ready: &mut Vec<Step>, to: u32, outputs: &[u32]) -> Result<(), NoMemory> {
     for from in outputs {
-        put_one(scene, out, " talk ", *from, Some(to))?;
+        ready.push(Step::Talk(*from, to))?;
     }
     Ok(())
 }
 
-// Appends the act of a place, where it can go on alone.
-fn put_able(
-    scene: &Scene<'_>,
-    out: &mut Vec<u8>,
-    place: u32,
-    at: Standing,
-    form: &Form,
-) -> Result<(), NoMemory> {
-    if hindered(scene, at, form)?.is_empty() {
-        put_one(scene, out, " act ", place, None)
-    } else {
-        Ok(())
-    }
-}
-
-// Appends the steps that are ready with a place.
-fn put_ready(
-    scene: &Scene<'_>,
-    out: &mut Vec<u8>,
-    pool: &Pool<'_>,
-    place: u32,
-) -> Result<(), NoMemory> {
+// The steps that are ready with a place. A place that acts alone is ready where nothing hinders it.
+fn ready_with(scene: &Scene<'_>, pool: &Pool<'_>, place: u32) -> Result<Vec<Step>, NoMemory> {
+    let mut ready = Vec::new(scene.alloc);
     match scene.held(place) {
         Some((at, Form::Send { channel, .. })) => {
             let channel = scene.instance(at, channel)?;
-            put_inputs(scene, out, place, pool.ins_on(&channel))
+            add_inputs(&mut ready, place, pool.ins_on(&channel))?;
         }
         Some((at, Form::Recv { channel, .. })) => {
             let channel = scene.instance(at, channel)?;
-            put_outputs(scene, out, place, pool.outs_on(&channel))
+            add_outputs(&mut ready, place, pool.outs_on(&channel))?;
         }
         Some((at, Form::Serve { channel, .. })) => {
             let channel = scene.instance(at, channel)?;
-            put_outputs(scene, out, place, pool.outs_on(&channel))
+            add_outputs(&mut ready, place, pool.outs_on(&channel))?;
         }
-        Some((_, Form::Stop)) => Ok(()),
-        Some((at, form)) => put_able(scene, out, place, at, form),
-        None => Ok(()),
+        Some((_, Form::Stop)) => {}
+        Some((at, form)) => {
+            if hindered(scene, at, form)?.is_empty() {
+                ready.push(Step::Act(place))?;
+            }
+        }
+        None => {}
     }
+    Ok(ready)
+}
+
+// Appends the steps that are ready with a place.
+fn put_ready(scene: &mut Scene<'_>, ready: &[Step]) -> Result<(), NoMemory> {
+    if ready.is_empty() {
+        return scene.put("      no step with it is ready\n");
+    }
+    scene.put("      ready with it:")?;
+    for step in ready {
+        scene.put(" ")?;
+        scene.put_step(*step)?;
+    }
+    scene.put("\n")
 }
 
 // Appends what a place waits for, and the steps that are ready with it.
-fn put_place(
-    scene: &Scene<'_>,
-    out: &mut Vec<u8>,
-    pool: &Pool<'_>,
-    place: u32,
-) -> Result<(), NoMemory> {
-    put_waiting(scene, out, place)?;
-    let mut ready = Vec::new(scene.alloc);
-    put_ready(scene, &mut ready, pool, place)?;
-    if ready.is_empty() {
-        put(out, "      no step with it is ready\n")
-    } else {
-        put(out, "      ready with it:")?;
-        out.extend_from_slice(&ready)?;
-        put(out, "\n")
-    }
+fn put_place(scene: &mut Scene<'_>, pool: &Pool<'_>, place: u32) -> Result<(), NoMemory> {
+    put_waiting(scene, place)?;
+    let ready = ready_with(scene, pool, place)?;
+    put_ready(scene, &ready)
 }
 
 /// The number and the name of a refusal.
@@ -306,35 +231,34 @@ pub fn refusal_name(fault: &StepFault) -> &'static str {
 
 /// Appends why a step is refused, and what would be ready.
 pub fn put_refusal(
-    scene: &Scene<'_>,
-    out: &mut Vec<u8>,
+    scene: &mut Scene<'_>,
     pool: &Pool<'_>,
     step: Step,
     fault: &StepFault,
 ) -> Result<(), NoMemory> {
     match fault {
         StepFault::NoPlace { place } => {
-            put(out, "   there is no place ")?;
-            scene.put_number(out, *place as u64)?;
-            put(out, ": the last one is ")?;
-            scene.put_number(out, pool.places().saturating_sub(1) as u64)?;
-            put(out, "\n")
+            scene.put("   there is no place ")?;
+            scene.put_number(*place as u64)?;
+            scene.put(": the last one is ")?;
+            scene.put_number(pool.places().saturating_sub(1) as u64)?;
+            scene.put("\n")
         }
         StepFault::RunMessageTooLarge { nodes } => {
-            put(out, "   it binds or shows a message of ")?;
-            scene.put_number(out, *nodes)?;
-            put(out, " nodes, of which 1000 are allowed\n")
+            scene.put("   it binds or shows a message of ")?;
+            scene.put_number(*nodes)?;
+            scene.put(" nodes, of which 1000 are allowed\n")
         }
         StepFault::TooManyPlaces { places } => {
-            put(out, "   there would be ")?;
-            scene.put_number(out, *places as u64)?;
-            put(out, " places, of which 5000 are allowed\n")
+            scene.put("   there would be ")?;
+            scene.put_number(*places as u64)?;
+            scene.put(" places, of which 5000 are allowed\n")
         }
         _ => match step {
-            Step::Act(place) => put_place(scene, out, pool, place),
+            Step::Act(place) => put_place(scene, pool, place),
             Step::Talk(from, to) => {
-                put_place(scene, out, pool, from)?;
-                put_place(scene, out, pool, to)
+                put_place(scene, pool, from)?;
+                put_place(scene, pool, to)
             }
         },
     }

@@ -2,7 +2,7 @@ use Rattle.std.proofs.Common.{◌≡◌, Some, None}
 use Rattle.std.specs.Str.{bytes_eq}
 use Rattle.indexmap.specs.IndexMap.{get}
 use Rattle.spi_bench.proofs.Placing.{stands_within, puts_there, puts_last, stays_padded, other_text, lookup_same}
-use Rattle.spi_bench.proofs.naming.put_in.Goals as goal
+use Rattle.spi_bench.proofs.naming.put_fitting.Goals as goal
 
 pub put_there-requires-clause-at : goal.put_there-requires-clause-at
 put_there-requires-clause-at c =
