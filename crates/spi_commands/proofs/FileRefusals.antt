@@ -11,7 +11,7 @@ use Rattle.spi_lex.proofs.Lexed.{lexed}
 use Rattle.spi_lex.specs.declared.token.Kind.{Kind}
 use Rattle.spi_text.specs.declared.lines.Span.{Span}
 use Rattle.spi_tree.specs.Trees as t
-use Rattle.spi_tree.specs.Pieces.{LexPiece as Part, opens, cell, closes, kinds_in}
+use Rattle.spi_tree.specs.Pieces.{Piece as Part, opens, cell, closes, kinds_in}
 use Rattle.spi_parse.specs.Formed.{IsFile, whole_file}
 use Rattle.spi_parse.specs.Exact.{Spells, IsWithin, Stops, IsSyntaxAt}
 use Rattle.spi_scope.specs.declared.fault.ScopeFault.{ScopeFault}

@@ -18,7 +18,8 @@ use Rattle.spi_play.specs.declared.plays.PlayFault.TheVariants.{BadPick, RunMess
 use Rattle.spi_play.specs.Way.{Way, Seen, Script, First, Turn, FollowsWay}
 use Rattle.spi_play.specs.Play.{Seat, State, Course, TurnOf, IsKth, CountsReady, Picks, DoesReady, Does, Turns, Plays, PlayGoesOn, EndsBy, most_reached, no_players, none_ready, seats_from, start, after_take, after_leave}
 use Rattle.spi_play.specs.Outcome.{IsPickRefused, AskedTell}
-use Rattle.spi_play.proofs.Steps.{counts_once, kth_once, taken_once}
+use Rattle.spi_play.proofs.Steps.{counts_once, kth_once}
+use Rattle.spi_replay.proofs.Taken.{taken_once}
 use Rattle.spi_commands.specs.Playing.{AskedTold}
 use Rattle.spi_commands.proofs.ScheduleSteps.{taken_never}
 

@@ -12,7 +12,9 @@ use Rattle.unicode_ident.specs.Ident.{is_xid_continue}
 use Rattle.unicode_ident.proofs.IdentLemmas.{is_xid_start-ascii, is_xid_continue-ascii}
 use Rattle.spi_lex.specs.Lexeme.{starts_name, IsIdentifier, IsGap, SpellsLexeme, IsPart, IsLongest}
 use Rattle.spi_lex.specs.Lexing.{LexPiece, Leads, here, past_gap, past_piece}
-use Rattle.spi_lex.proofs.Parts.{blank, comment, digits, sign, name, part_of}
+use Rattle.spi_lex.specs.declared.scan.Class.{Class}
+use Rattle.spi_lex.specs.declared.scan.Class.TheVariants as classes
+use Rattle.spi_lex.proofs.Parts.{IsOfClass, part_of}
 
 -- a test that 10 doesn't pass tells a character from 10
 passes_no_feed : (p : ℕ → Bool) (c : ℕ) → p 10 ≡ false → p c ≡ true → (c == 10) ≡ false
@@ -41,17 +43,18 @@ comment_has_none text zero all lt = λ e. omega (arith, e)
 comment_has_none text (suc zero) all lt = λ e. omega (arith, e)
 comment_has_none text (suc (suc i)) all lt = All-from_recursion (λ b. b ≢ 10) text all i 0 (omega arith)
 
+class_has_none : (k : Class) (front : List ℕ) (i : ℕ) → IsOfClass k front → 0 < i → i < length front → get_or front i 0 ≢ 10
+class_has_none classes.Blank front i one some lt = λ z. absurd (omega arith)
+class_has_none classes.Slash front i c some lt =
+    let P : List ℕ → Type 0 = λ (bs : List ℕ). i < length bs → get_or bs i 0 ≢ 10 in
+    subst P (sym c.2) (comment_has_none c.0 i c.1) lt
+class_has_none classes.Digit front i num some lt = λ z. let r : IsInRange 48 57 (get_or front i 0) = digit_at front i num.1 lt in absurd (omega arith)
+class_has_none (classes.Sign m) front i one some lt = λ z. absurd (omega arith)
+class_has_none classes.Other front i ident some lt = name_has_none front i ident lt
+
 -- no gap and no lexeme has a line feed behind its first byte
 part_has_none : (front : List ℕ) (i : ℕ) → IsPart front → 0 < i → i < length front → get_or front i 0 ≢ 10
-part_has_none front i part some lt = elim (part_of front part).1 [
-  | blank e one ↦ (λ z. absurd (omega arith))
-  | comment text e all is ↦ (
-      let P : List ℕ → Type 0 = λ (bs : List ℕ). i < length bs → get_or bs i 0 ≢ 10 in
-      subst P (sym is) (comment_has_none text i all) lt)
-  | digits e num ↦ (λ z. let r : IsInRange 48 57 (get_or front i 0) = digit_at front i num.1 lt in absurd (omega arith))
-  | sign m e one ↦ (λ z. absurd (omega arith))
-  | name e ident ↦ name_has_none front i ident lt
-]
+part_has_none front i part some lt = class_has_none _ front i (part_of front part).1 some lt
 
 longest_on : (text more : List ℕ) (n : ℕ) → IsLongest text n → IsPart (take n text) → IsLongest (text ++ 10 ∷ more) n
 longest_on text more n l part =
