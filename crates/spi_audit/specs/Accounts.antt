@@ -42,7 +42,8 @@ Held s keys n acc es = HeldBy s keys (outer n) acc.sum acc.loose.counts acc.last
 pub data HoldsEffects (s : Store) (keys : Keys) : List ℕ → List Account → List Effect → Type 0 where
   holds_none : HoldsEffects s keys [] [] []
   holds_next : {n : ℕ} {acc : Account} {es : Effect} {ns : List ℕ} {accs : List Account} {st : List Effect}
-      → Held s keys n acc es → HoldsEffects s keys ns accs st → HoldsEffects s keys (n ∷ ns) (acc ∷ accs) (es ∷ st)
+      → Held s keys n acc es → HoldsEffects s keys ns accs st
+      → HoldsEffects s keys (n ∷ ns) (acc ∷ accs) (es ∷ st)
 
 -- whether each is a `many`, with one more of this kind
 abbrev pub lasting_with : Bool → AtomKind → Bool

@@ -71,7 +71,8 @@ pub record Begins (old new : Numbered) (node : ℕ) (types : Env → Env) (a : A
 -- messages alone
 pub data AreAsked (s : Store) (env : Env) : List Asked → List Subject → Type 0 where
   asked_none : AreAsked s env [] []
-  asked_next : {a : Asked} {m : Message} {t : Ty} {others : List Asked} {ps : List Subject} → IsTypeAsked s a m t
+  asked_next : {a : Asked} {m : Message} {t : Ty} {others : List Asked} {ps : List Subject}
+      → IsTypeAsked s a m t
       → AreAsked s env others ps → AreAsked s env (a ∷ others) (of_message env m t ∷ ps)
 
 -- processes alone
@@ -84,7 +85,8 @@ pub data AreBegun (s : Store) (ss : List Shape) (env : Env) : List Asked → Lis
 -- messages, and then processes
 pub data AreOpen (s : Store) (ss : List Shape) (env : Env) : List Asked → List Subject → Type 0 where
   open_message : {a : Asked} {m : Message} {t : Ty} {others : List Asked} {ps : List Subject}
-      → IsTypeAsked s a m t → AreOpen s ss env others ps → AreOpen s ss env (a ∷ others) (of_message env m t ∷ ps)
+      → IsTypeAsked s a m t → AreOpen s ss env others ps
+      → AreOpen s ss env (a ∷ others) (of_message env m t ∷ ps)
   open_processes : {others : List Asked} {ps : List Subject} → AreBegun s ss env others ps
       → AreOpen s ss env others ps
 

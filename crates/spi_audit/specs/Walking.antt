@@ -56,11 +56,12 @@ pub data Opens (s : Store) (ss : List Shape) (base : ℕ) (env : Env) : List Ask
       → Opens s ss base env others ts
 
 -- an environment that the judge stands for, and what is asked, the next at the end
-pub record IsWalkState (j : Numbered) (ss : List Shape) (asked : List Asked) (ts : List Subject) : Type 0 where
-  pub env : Env
-  pub stands : Stands j env
-  pub enough : j.free ≤ length env
-  pub opens : Opens j.store ss j.free env (reverse asked) ts
+pub record IsWalkState (j : Numbered) (ss : List Shape) (asked : List Asked) (ts : List Subject) : Type 0
+  where
+    pub env : Env
+    pub stands : Stands j env
+    pub enough : j.free ≤ length env
+    pub opens : Opens j.store ss j.free env (reverse asked) ts
 
 -- the first uses fit, with what is kept of them
 pub record IsLed (j : Numbered) (ks : Keys) (ss : List Shape) (root : Subject) (us vs : List RuleUse)

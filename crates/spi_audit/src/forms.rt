@@ -653,7 +653,8 @@ fn of_fresh(
     body: u32,
 ) -> Result<Option<Premises>, NoMemory>
     requires { length judge.old.types + ty_nodes (type_of ty.now) < 2 ^ 32 }
-    ensures answer { IfOk result (AnswersPrefix judge.old judge.new rule (Term.Freshes (type_of ty.now)) body) }
+    ensures answer { IfOk result
+        (AnswersPrefix judge.old judge.new rule (Term.Freshes (type_of ty.now)) body) }
     ensures kept { IsKept judge.old judge.new }
 {
     match rule {

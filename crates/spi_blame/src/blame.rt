@@ -79,7 +79,8 @@ fn of_body(body: Option<Blame>) -> Result<Option<Blame>, NoMemory>
 // The whole message: no rule is for it at this type.
 fn itself(alloc: Global, m: &Msg, t: &Ty) -> Result<Option<Blame>, NoMemory>
     ensures { IfOk result (λ o. (env : Names)
-        → IsMisfit env (typed (message m.now) (ty t.now)) → TellsBlame env (typed (message m.now) (ty t.now)) o) }
+        → IsMisfit env (typed (message m.now) (ty t.now))
+        → TellsBlame env (typed (message m.now) (ty t.now)) o) }
 {
     Ok(Some(Blame {
         steps: Vec::new(alloc),

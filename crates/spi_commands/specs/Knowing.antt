@@ -60,12 +60,14 @@ pub record IsKnowsAsked (i : ℕ) (bytes : List ℕ) (file : Meant) (events : Li
 -- and the name is known from what was sent, or isn't
 abbrev pub SpellsKnown : ℕ → List ℕ → Type 0
 SpellsKnown i bytes =
-    (file : Meant) × (events : List Event) × (run : RunsThrough file events) × IsKnowsAsked i bytes file events run
+    (file : Meant) × (events : List Event) × (run : RunsThrough file events)
+    × IsKnowsAsked i bytes file events run
     × Knows (sent file run) (name i)
 
 abbrev pub SpellsUnknown : ℕ → List ℕ → Type 0
 SpellsUnknown i bytes =
-    (file : Meant) × (events : List Event) × (run : RunsThrough file events) × IsKnowsAsked i bytes file events run
+    (file : Meant) × (events : List Event) × (run : RunsThrough file events)
+    × IsKnowsAsked i bytes file events run
     × (¬ Knows (sent file run) (name i))
 
 -- the text is that of a certificate of the name

@@ -33,11 +33,13 @@ IsReplayText file events output = (from : List (Option ℕ)) × IsPairing events
 
 -- the status tells whether the events are paid
 abbrev pub AreEventsJudged : List Event → Status → Type 0
-AreEventsJudged events status = ((status ≡ Yes) × AreEventsPaid events) ⊎ ((status ≡ No) × (¬ AreEventsPaid events))
+AreEventsJudged events status =
+    ((status ≡ Yes) × AreEventsPaid events) ⊎ ((status ≡ No) × (¬ AreEventsPaid events))
 
 abbrev pub IsPaidReplay : List ℕ → List ℕ → Type 0
 IsPaidReplay bytes output =
-    (file : Meant) × (events : List Event) × SpellsFile bytes file × RunsThrough file events × AreEventsPaid events
+    (file : Meant) × (events : List Event) × SpellsFile bytes file × RunsThrough file events
+    × AreEventsPaid events
     × IsReplayText file events output
 
 abbrev pub IsUnpaidReplay : List ℕ → List ℕ → Type 0

@@ -32,7 +32,8 @@ IsWrongLine bytes tree file d output =
 
 abbrev pub IsUnpaidLine : List ℕ → File → Meant → List RuleUse → List ℕ → Type 0
 IsUnpaidLine bytes tree file d output =
-    (es : Effect) × (fault : ToldFault) × LeavesUnpaid (untrusted file.process.names) file.process.process d es
+    (es : Effect) × (fault : ToldFault)
+    × LeavesUnpaid (untrusted file.process.names) file.process.process d es
     × IsUnpaid (spelled_at tree) es fault
     × (output ≡ fault_text bytes (place_at tree) (spelled_at tree) fault)
 

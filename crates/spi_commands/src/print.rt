@@ -15,7 +15,8 @@ use std::alloc::Global;
 pub fn prints(alloc: Global, given: Given) -> Result<Answer, Stop>
     requires { IsGiven given }
     ensures ok { IfOk result
-        (λ answer. (bytes : List ℕ) → GivesSpelled bytes given → PrintsTo bytes answer.status answer.output.items) }
+        (λ answer. (bytes : List ℕ) → GivesSpelled bytes given
+        → PrintsTo bytes answer.status answer.output.items) }
     ensures answered { IfOk result (λ answer. IsAnswered answer.status × (answer.status ≢ Status.Usage)) }
     ensures err { OnErr result (result ≡ Err Stop.NoMemory) }
 {

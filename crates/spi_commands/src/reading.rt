@@ -100,7 +100,8 @@ fn read_tree(alloc: Global, bytes: &[u8], tree: &Tree) -> Result<File, Unread>
 
 /// The refusal of a fault of scopes.
 pub fn out_of_scope(alloc: Global, fault: &ScopeFault) -> Unread
-    ensures tells { TellsRefusal (scope_number fault.now) (span_from fault.now) (scope_shown fault.now) result }
+    ensures tells { TellsRefusal (scope_number fault.now) (span_from fault.now) (scope_shown fault.now)
+        result }
     ensures memory { fault.now ≡ ScopeFault.NoMemory → result ≡ Unread.NoMemory }
 {
     match fault {

@@ -64,7 +64,8 @@ fn noted(events: &mut Vec<Event>, event: Option<Event>) -> Result<Option<usize>,
 fn take_one(pool: &mut Pool<'_>, events: &mut Vec<Event>, step: Step) -> Result<Taken, StepFault>
     requires { pool.old.configuration.names < 2 ^ 32 - 1 }
     ensures step { IfOk result (λ t. t.step ≡ step) }
-    ensures ok { IfOk result (λ t. (e : Option Shown) × IsStepTold pool.old (length events.old.items) t e pool.new
+    ensures ok { IfOk result
+        (λ t. (e : Option Shown) × IsStepTold pool.old (length events.old.items) t e pool.new
         × (map event_of events.new.items ≡ map event_of events.old.items ++ option_to_list e)) }
     ensures err { IfErr result (λ fault. (fault ≡ StepFault.NoMemory)
         ⊎ (RefusesPoolStep pool.old.configuration pool.old.most (step_of step) fault

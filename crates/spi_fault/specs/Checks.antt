@@ -76,10 +76,21 @@ reason_of (made i) = EffectEscapes
 
 -- the process whose effect a check asks about, where it asks about one
 abbrev pub process_of : Check → Option ℕ
+process_of (channel m) = None
+process_of (datum m) = None
+process_of (untrusted t) = None
+process_of (good t) = None
+process_of (scrutinee m s t u) = None
+process_of (sealed m) = None
+process_of (first m t) = None
+process_of (key_of m t) = None
+process_of (nonce_of m) = None
+process_of (label m) = None
+process_of (generative t) = None
+process_of (castable t) = None
 process_of (served i) = Some i
 process_of (stays k i) = Some i
 process_of (made i) = Some i
-process_of _ = None
 
 -- the checks of the node with this number, by the shape that it has
 abbrev pub shape_checks : ℕ → Shape → List Check

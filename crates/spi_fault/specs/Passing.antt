@@ -15,8 +15,11 @@ use Rattle.spi_fault.specs.Checks.{Check, channel, datum, untrusted, good, scrut
 -- what `cast` may cast to
 abbrev pub IsCastable : Ty → Type 0
 IsCastable un = ⊤
+IsCastable unit_ty = ⊥
+IsCastable (pair_ty t u) = ⊥
+IsCastable (sum_ty t u) = ⊥
+IsCastable (key t) = ⊥
 IsCastable (nonce es) = ⊤
-IsCastable _ = ⊥
 
 -- the least effect of the process that stands in this node, behind so many nodes
 pub record HasLeastBehind (env : Env) (p : Process) (at : ℕ) (es : Effect) : Type 0 where

@@ -115,7 +115,8 @@ CanBeCounted n (C.made i) = ⊤
 -- the check passes, or it fails and this is shown
 abbrev pub TellsFailure : (ℕ → List (List ℕ)) → ℕ → Env → Process → C.Check → Option Found → Type 0
 TellsFailure spelled n env p c None = Passes env p c
-TellsFailure spelled n env p c (Some f) = (Passes env p c → ⊥) × Shows spelled n env p c f.scope_of (thing f.shown)
+TellsFailure spelled n env p c (Some f) = (Passes env p c → ⊥)
+    × Shows spelled n env p c f.scope_of (thing f.shown)
 
 -- no atom of the effect is of the kind, or this one is shown, in the scope of node s
 abbrev pub TellsAtom : (ℕ → List (List ℕ)) → ℕ → (Atom → Type 0) → Effect → Option Found → Type 0

@@ -195,7 +195,8 @@ fn three(
     b: Result<Check, NoMemory>,
     c: Result<Check, NoMemory>,
 ) -> Result<Vec<Check>, NoMemory>
-    ensures { (p q r : Checks.Check) → GivesCheck a p → GivesCheck b q → GivesCheck c r → GivesAll result (p ∷ q ∷ r ∷ []) }
+    ensures { (p q r : Checks.Check) → GivesCheck a p → GivesCheck b q → GivesCheck c r
+        → GivesAll result (p ∷ q ∷ r ∷ []) }
 {
     and(two(alloc, a, b), c)
 }
@@ -221,7 +222,8 @@ fn five(
     d: Result<Check, NoMemory>,
     e: Result<Check, NoMemory>,
 ) -> Result<Vec<Check>, NoMemory>
-    ensures { (p q r s t : Checks.Check) → GivesCheck a p → GivesCheck b q → GivesCheck c r → GivesCheck d s → GivesCheck e t
+    ensures { (p q r s t : Checks.Check) → GivesCheck a p → GivesCheck b q → GivesCheck c r → GivesCheck d s
+        → GivesCheck e t
         → GivesAll result (p ∷ q ∷ r ∷ s ∷ t ∷ []) }
 {
     and(four(alloc, a, b, c, d), e)

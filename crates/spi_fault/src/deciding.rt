@@ -294,7 +294,8 @@ pub fn failing(
     ensures { IfOk result
         (λ r. (q : Term.Process)
         → NodeOf (untrusted file.now.process.names) file.now.process.process id env.now q
-        → TellsFailure (λ i. reverse (chain_at file.now.marks.scopes i)) id env.now q (check_of check.now) r) }
+        → TellsFailure (λ i. reverse (chain_at file.now.marks.scopes i)) id env.now q (check_of check.now)
+        r) }
 {
     let _ = file.process.len();
     let n = env.len();

@@ -80,7 +80,8 @@ shown more e = map (λ x. x.message) more ++ map label (option_to_list e)
 abbrev pub AreLinesSmall : {free : Names} {o p : Told} {ls : List n.Line} {es : List Event}
     → Narrates free o ls es p → Type 0
 AreLinesSmall narrates_none = ⊤
-AreLinesSmall (narrates_line {more = more} {e = e} t r) = (largest (shown more e) ≤ message_most) × AreLinesSmall r
+AreLinesSmall (narrates_line {more = more} {e = e} t r) = (largest (shown more e) ≤ message_most)
+    × AreLinesSmall r
 
 pub record NarratesSmall (free : Names) (o : Told) (ls : List n.Line) (es : List Event) (p : Told) : Type 0
   where

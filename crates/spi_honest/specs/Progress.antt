@@ -68,7 +68,8 @@ pub data Each (x : n.Narration) : List SWord → List Process → Type 0 where
       → Each x (r ∷ rs) (p ∷ ps)
 
 -- these roles were taken apart, and the last place has this one with the rest
-pub record SpreadsRoles (x : n.Narration) (file : Meant) (before : List SWord) (role : SWord) (rest : List SWord)
+pub record SpreadsRoles (x : n.Narration) (file : Meant) (before : List SWord) (role : SWord)
+    (rest : List SWord)
     (pool : Pooled) (steps : List Step) : Type 0 where
   pub cut : x.roles ≡ before ++ role ∷ rest
   pub apart : List Process

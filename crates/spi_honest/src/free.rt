@@ -26,7 +26,8 @@ impl Drop for FreeNames<'_> {
 /// One more name. There is no room for 2 ^ 32 names, and so many don't come: each has a token of its own.
 fn bind<'n>(names: &mut FreeNames<'n>, word: &'n SWord) -> Result<(), NoMemory>
     ensures { OnOk result
-        ((xs : Names) → NumbersSpellings names.old xs → NumbersSpellings names.new (word.entry.now.word ∷ xs)) }
+        ((xs : Names) → NumbersSpellings names.old xs
+        → NumbersSpellings names.new (word.entry.now.word ∷ xs)) }
 {
     if names.count == u32::MAX {
         return Err(AllocError);
@@ -39,7 +40,8 @@ fn bind<'n>(names: &mut FreeNames<'n>, word: &'n SWord) -> Result<(), NoMemory>
 /// More names, in order.
 fn bind_all<'n>(names: &mut FreeNames<'n>, words: &'n [SWord]) -> Result<(), NoMemory>
     ensures { OnOk result
-        ((xs : Names) → NumbersSpellings names.old xs → NumbersSpellings names.new (with_free xs words.entry.now)) }
+        ((xs : Names) → NumbersSpellings names.old xs
+        → NumbersSpellings names.new (with_free xs words.entry.now)) }
 {
     for word in words {
         bind(names, word)?;
@@ -87,7 +89,8 @@ impl<'n> FreeNames<'n> {
 
 /// The number of a word that is a free name.
 pub fn name_number(names: &FreeNames<'_>, word: &SWord) -> u32
-    requires { (xs : Names) × (i : ℕ) × NumbersSpellings names.now xs × (number_of xs word.now.word ≡ Some i) }
+    requires { (xs : Names) × (i : ℕ) × NumbersSpellings names.now xs
+        × (number_of xs word.now.word ≡ Some i) }
     ensures { (xs : Names) → NumbersSpellings names.now xs → number_of xs word.now.word ≡ Some result }
 {
     match names.number(word) {

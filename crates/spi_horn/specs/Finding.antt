@@ -26,14 +26,16 @@ AddsNumber n why order places order' places' =
 abbrev pub Tries : Rule → ℕ → List Reached → List (Option ℕ) → List Reached → List (Option ℕ) → Type 0
 Tries r k order places order' places' =
     ((HasSomePlace places r.first → HasSomePlace places r.second → ⊥) × (order' ≡ order) × (places' ≡ places))
-    ⊎ (HasSomePlace places r.first × HasSomePlace places r.second × AddsNumber r.gives (ByRule k) order places order' places')
+    ⊎ (HasSomePlace places r.first × HasSomePlace places r.second
+    × AddsNumber r.gives (ByRule k) order places order' places')
 
 -- k stands in a list, from the place i on
 abbrev pub IsLeftFrom : List ℕ → ℕ → ℕ → Type 0
 IsLeftFrom ks i k = (j : ℕ) × (i ≤ j) × (slice_get ks j ≡ Some k)
 
 -- the numbers before c were looked at: each rule with both premises there has given its conclusion, or is left
-pub record IsLookedThrough (rules : List Rule) (start : List ℕ) (order : List Reached) (places : List (Option ℕ))
+pub record IsLookedThrough (rules : List Rule) (start : List ℕ) (order : List Reached)
+    (places : List (Option ℕ))
     (c : ℕ) (left : List ℕ) (i : ℕ) : Type 0 where
   pub ordered : IsOrder rules start order places
   pub count : unplaced places + length order ≡ length places

@@ -39,7 +39,8 @@ IsReason rules start places t n (ByRule k) =
 -- numbers in an order, each once, with its place and with a reason that looks back
 pub record IsOrder (rules : List Rule) (start : List ℕ) (order : List Reached)
     (places : List (Option ℕ)) : Type 0 where
-  pub placed : (n t : ℕ) → IsPlacedAt places n t → (x : Reached) × (slice_get order t ≡ Some x) × (x.number ≡ n)
+  pub placed : (n t : ℕ) → IsPlacedAt places n t
+      → (x : Reached) × (slice_get order t ≡ Some x) × (x.number ≡ n)
   pub stands : (t : ℕ) (x : Reached) → slice_get order t ≡ Some x → IsPlacedAt places x.number t
   pub reasons : (t : ℕ) (x : Reached) → slice_get order t ≡ Some x
       → IsReason rules start places t x.number x.why

@@ -23,7 +23,8 @@ NamesLine (ByRule k a b) i = (a ≡ i) ⊎ (b ≡ i)
 
 -- each line holds by earlier lines, the last has the target, and each other one is named by a later one
 pub record ProvesTarget (rules : List Rule) (start : List ℕ) (lines : List Line) (target : ℕ) : Type 0 where
-  pub each : (l : ℕ) (x : Line) → slice_get lines l ≡ Some x → HoldsOfLine rules start lines l x.number x.ground
+  pub each : (l : ℕ) (x : Line) → slice_get lines l ≡ Some x
+      → HoldsOfLine rules start lines l x.number x.ground
   pub last : (l : ℕ) × (x : Line) × (suc l ≡ length lines) × (slice_get lines l ≡ Some x)
       × (x.number ≡ target)
   pub used : (l : ℕ) → suc l < length lines

@@ -54,7 +54,8 @@ SaysAt rules order places line_at t y = (x : Reached) → slice_get order t ≡ 
     → (y.number ≡ x.number) × SaysWhy rules places line_at x.why y.ground
 
 -- the places below t that are marked have lines, in their order
-pub record AreMarkedWritten (rules : List Rule) (order : List Reached) (places : List (Option ℕ)) (marks : List Bool)
+pub record AreMarkedWritten (rules : List Rule) (order : List Reached) (places : List (Option ℕ))
+    (marks : List Bool)
     (t : ℕ) (lines : List Line) (line_at : List ℕ) : Type 0 where
   pub count : length line_at ≡ t
   pub few : length lines ≤ t

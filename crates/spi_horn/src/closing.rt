@@ -59,7 +59,8 @@ fn fire(rules: &[Rule], waiting: &Waiting, closure: &mut Closure) -> Result<(), 
     requires tried { StartsWithin (length rules.now) (numbers waiting.now) }
     ensures good { OnOk result
         ((start : List ℕ) (c : ℕ)
-        → IsLookedThrough rules.now start closure.old.order.items closure.old.places.items c (numbers waiting.now) 0
+        → IsLookedThrough rules.now start closure.old.order.items closure.old.places.items c
+        (numbers waiting.now) 0
         → IsLookedThrough rules.now start closure.new.order.items closure.new.places.items c [] 0) }
     ensures keeps { OnOk result (KeepsPlaces closure.old.places.items closure.new.places.items) }
 {
@@ -95,7 +96,8 @@ fn reach_all(rules: &[Rule], lists: &[Waiting], closure: &mut Closure) -> Result
     requires begun { (start : List ℕ)
         × IsLookedThrough rules.now start closure.old.order.items closure.old.places.items 0 [] 0 }
     ensures good { OnOk result
-        ((start : List ℕ) → IsLookedThrough rules.now start closure.old.order.items closure.old.places.items 0 [] 0
+        ((start : List ℕ)
+        → IsLookedThrough rules.now start closure.old.order.items closure.old.places.items 0 [] 0
         → IsLookedThrough rules.now start closure.new.order.items closure.new.places.items
         (length closure.new.order.items) [] 0) }
     ensures keeps { OnOk result (KeepsPlaces closure.old.places.items closure.new.places.items) }

@@ -151,7 +151,8 @@ fn write(
         × IsOrder rules.now start closure.now.order.items closure.now.places.items }
     ensures written { IfOk result
         (λ lines. (line_at : List ℕ)
-        × AreMarkedWritten rules.now closure.now.order.items closure.now.places.items marks.now (length marks.now)
+        × AreMarkedWritten rules.now closure.now.order.items closure.now.places.items marks.now
+        (length marks.now)
         lines.items line_at) }
     ensures few { IfOk result (λ lines. length lines.items ≤ length marks.now) }
 {
@@ -197,7 +198,8 @@ pub fn trace(
     ensures proves { IfOk result
         (λ lines. (start : List ℕ) (target : ℕ)
         → IsOrder rules.now start closure.now.order.items closure.now.places.items
-        → IsPlacedAt closure.now.places.items target place → ProvesTarget rules.now start lines.items target) }
+        → IsPlacedAt closure.now.places.items target place
+        → ProvesTarget rules.now start lines.items target) }
     ensures few { IfOk result (λ lines. length lines.items ≤ place + 1) }
 {
     let marks = needed(alloc, rules, closure, place)?;

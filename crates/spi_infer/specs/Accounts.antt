@@ -164,7 +164,8 @@ abbrev pub Tops : Store → Keys → List (Option Sum) → List (Option Effect) 
 Tops s keys os st = TopsStand (with_keys s keys) (reverse os) st
 
 -- before a node is acted on
-pub record IsBeforeNode (s : Store) (keys : Keys) (x : Shape) (o : OwnNote) (os : List (Option Sum)) (n : Note)
+pub record IsBeforeNode (s : Store) (keys : Keys) (x : Shape) (o : OwnNote) (os : List (Option Sum))
+    (n : Note)
     (st : List (Option Effect)) : Type 0 where
   pub keyed : IsKeyed s keys
   pub noted : FormNotedAs s (with_keys s keys) x n o
@@ -179,7 +180,8 @@ NoteGiven s x o = o.fine ≡ true → OwnGiven s x o.own
 pub record IsNoted (s : Store) (noted : Noted) (k : ℕ) (p : Process) (env : Env) : Type 0 where
   pub names : k ≡ length env
   pub keyed : AreKept s noted.keys
-  pub each : AreFormsNoted s (with_keys s noted.keys) (spelled k p) (scan 0 env [] (spelled k p)) noted.notes.items
+  pub each : AreFormsNoted s (with_keys s noted.keys) (spelled k p) (scan 0 env [] (spelled k p))
+      noted.notes.items
 
 -- an effect with these counts, where there is one
 abbrev pub IsReadAs : Option Declared.Effect → Option Effect → Type 0

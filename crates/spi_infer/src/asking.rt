@@ -285,7 +285,8 @@ fn is_branch_ok(
     requires { length judge.old.types + (ty_nodes (type_of left.now) + ty_nodes (type_of right.now))
         < 2 ^ 32 }
     ensures answer { IfOk result
-        (IsTest judge.old (λ e. fork_ok e (Branches (message m.now) (type_of left.now) (type_of right.now)))) }
+        (IsTest judge.old
+        (λ e. fork_ok e (Branches (message m.now) (type_of left.now) (type_of right.now)))) }
     ensures kept { IsKept judge.old judge.new }
 {
     let both = sum_type(alloc, left, right)?;

@@ -74,7 +74,8 @@ pub record TypeAmong (gs : List Given) (u : Ty) : Type 0 where
   pub part : TypeIn given u
 
 -- the numbers below n count what has P, where what is Same counts as one: each number is that of such a thing, each such thing has a number, and two numbers are equal just where the things are the same
-pub record NumbersCount {A : Type 0} (n : ℕ) (IsAt : ℕ → A → Type 0) (P : A → Type 0) (Same : A → A → Type 0) : Type
+pub record NumbersCount {A : Type 0} (n : ℕ) (IsAt : ℕ → A → Type 0) (P : A → Type 0)
+    (Same : A → A → Type 0) : Type
     0 where
   pub each : (i : ℕ) → i < n → (a : A) × P a × IsAt i a
   pub all : (a : A) → P a → (i : ℕ) × (i < n) × IsAt i a

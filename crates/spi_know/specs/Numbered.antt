@@ -62,11 +62,13 @@ HasRule rules a b c = (k : ℕ) × (slice_get rules k ≡ Some (rule a b c))
 
 -- the rules have each clause that makes m, which has the number j, or takes it apart
 abbrev pub HasClauses : List Message → List Rule → ℕ → Message → Type 0
-HasClauses ms rules j (pair a b) = (i : ℕ) × (k : ℕ) × HasNumber ms i a × HasNumber ms k b × HasRule rules i k j
+HasClauses ms rules j (pair a b) = (i : ℕ) × (k : ℕ) × HasNumber ms i a × HasNumber ms k b
+    × HasRule rules i k j
     × HasRule rules j j i × HasRule rules j j k
 HasClauses ms rules j (in_left a) = (i : ℕ) × HasNumber ms i a × HasRule rules i i j × HasRule rules j j i
 HasClauses ms rules j (in_right a) = (i : ℕ) × HasNumber ms i a × HasRule rules i i j × HasRule rules j j i
-HasClauses ms rules j (enc a b) = (i : ℕ) × (k : ℕ) × HasNumber ms i a × HasNumber ms k b × HasRule rules i k j
+HasClauses ms rules j (enc a b) = (i : ℕ) × (k : ℕ) × HasNumber ms i a × HasNumber ms k b
+    × HasRule rules i k j
     × HasRule rules j k i
 HasClauses ms rules j (hash a) = (i : ℕ) × HasNumber ms i a × HasRule rules i i j
 HasClauses ms rules j m = ⊤

@@ -31,7 +31,8 @@ pub record AtomsAreAdded (old new : Store) (values : List MsgId) (depth : ℕ) (
   where
     pub messages : (d : ℕ) → IsDepth d depth → AllHaveParts old.messages (values_of old.messages values)
         → AddsMessages old.messages new.messages
-        (λ x. InEffect x (effect_map (fill (values_of old.messages values) d) (map (atom_at old.messages) ids)))
+        (λ x. InEffect x
+        (effect_map (fill (values_of old.messages values) d) (map (atom_at old.messages) ids)))
     pub types : (d : ℕ) → IsDepth d depth → AllHaveParts old.messages (values_of old.messages values)
         → AddsTypes old new (λ u. ⊥)
 
@@ -44,7 +45,8 @@ pub record TypeIsAdded (old new : Store) (values : List MsgId) (depth : ℕ) (t 
 -- what typing a message gives numbers to, where the values and the message have their parts
 pub record TypingGives (old new : Store) (env : List TyId) (n : Message) (t : TyId) (vs : List MsgId) : Type 0
   where
-    pub at : (e : Env) (u : Ty) → StandFor old env e → Means old t.place u → AllStay (values_of old.messages vs)
+    pub at : (e : Env) (u : Ty) → StandFor old env e → Means old t.place u
+        → AllStay (values_of old.messages vs)
         → AllHaveParts old.messages (values_of old.messages vs) → HasParts old.messages n
         → GivesOnly (Compared e n (filled (values_of old.messages vs) u)) old new
 

@@ -9,7 +9,8 @@ ghost use Rattle.spi_narrate.specs.declared.fault.NarrateFault.{NarrateFault};
 
 /// Tokens are those of at most one narration, with the span of each of its nodes and words.
 pub fn one_narration()
-    ensures { (x y : Narration) (ts : List Token) → IsNarrationSpelled x ts → IsNarrationSpelled y ts → x ≡ y }
+    ensures { (x y : Narration) (ts : List Token) → IsNarrationSpelled x ts → IsNarrationSpelled y ts
+        → x ≡ y }
 {}
 
 /// A narration has at most one first fault, and none where it is faultless.

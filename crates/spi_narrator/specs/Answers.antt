@@ -52,7 +52,8 @@ pub data RefusesNarration (x : n.Narration) : Refusal → Type 0 where
       → HasHonestFault x (LineNotReady i) → LineIn x.lines i s → RefusesNarration x (NotReady s)
   too_large : {i nodes : ℕ} {s : Span} {file : Meant} → HaveChannels (free_of x) x.lines
       → StandsFor (woven x) file
-      → HasHonestFault x (NarratedTooLarge i nodes) → LineIn x.lines i s → RefusesNarration x (TooLarge s nodes)
+      → HasHonestFault x (NarratedTooLarge i nodes) → LineIn x.lines i s
+      → RefusesNarration x (TooLarge s nodes)
 
 -- the file is the one that the narration is woven into, with an honest schedule
 pub record IsTold (x : n.Narration) (told : Meant) : Type 0 where

@@ -71,7 +71,8 @@ fn is_picked(aim: &Aim, node: &Node, note: &OwnNote, stuck: bool) -> bool
 // The lists of the node's processes become one. There are `end` numbers in all.
 fn join(node: &Node, marks: &mut Vec<usize>, end: usize) -> Result<(), NoMemory>
     ensures { OnOk result ((found : List ℕ) (ls : List (List ℕ)) → length found ≡ end
-        → MarkedStacks marks.old.items found ls → MarkedStacks marks.new.items found (joined (shape_of node.now) ls)) }
+        → MarkedStacks marks.old.items found ls
+        → MarkedStacks marks.new.items found (joined (shape_of node.now) ls)) }
 {
     match &node.form {
         Form::Send { .. } => marks.push(end)?,
@@ -112,7 +113,8 @@ fn add_node(
 
 // The list of the process that begins first.
 fn first_list(found: Vec<u32>, marks: &[usize]) -> Vec<u32>
-    ensures { (l : List ℕ) (ls : List (List ℕ)) → MarkedStacks marks.now found.items (l ∷ ls) → result.items ≡ l }
+    ensures { (l : List ℕ) (ls : List (List ℕ)) → MarkedStacks marks.now found.items (l ∷ ls)
+        → result.items ≡ l }
 {
     let mark = match marks.last() {
         Some(mark) => *mark,

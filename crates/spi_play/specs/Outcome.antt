@@ -50,9 +50,11 @@ pub record RefusesKth (pool : Pooled) (k : ℕ) (fault : StepFault) : Type 0 whe
 
 -- why the number that the player at this place picked isn't taken, where so many steps are ready
 abbrev pub IsPickRefused : Pooled → ℕ → ℕ → ℕ → PlayFault → Type 0
-IsPickRefused pool place ready k (BadPick player picked count) = (player ≡ place) × (picked ≡ k) × (count ≡ ready)
+IsPickRefused pool place ready k (BadPick player picked count) = (player ≡ place) × (picked ≡ k)
+    × (count ≡ ready)
     × (ready ≤ k)
-IsPickRefused pool place ready k (RunMessageTooLarge nodes) = RefusesKth pool k (refused.RunMessageTooLarge nodes)
+IsPickRefused pool place ready k (RunMessageTooLarge nodes) =
+    RefusesKth pool k (refused.RunMessageTooLarge nodes)
 IsPickRefused pool place ready k (TooManyPlaces places) = RefusesKth pool k (refused.TooManyPlaces places)
 IsPickRefused pool place ready k NoMemory = k < ready
 

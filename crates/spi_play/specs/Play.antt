@@ -120,7 +120,8 @@ Does only place Leave old new players after next = (new ≡ old) × (after ≡ r
 pub record Turns (only : Option ℕ) (most : ℕ) (old : State) (turn : TurnOf) (new : State) : Type 0 where
   pub place : ℕ
   pub seats : List Seat
-  pub goes_on : PlayGoesOn old.course.pool.configuration old.next (length old.course.steps) most place turn.ready
+  pub goes_on : PlayGoesOn old.course.pool.configuration old.next (length old.course.steps) most place
+      turn.ready
   pub asks : Asks old.seats place turn seats
   pub does : Does only place turn.pick old.course new.course seats new.seats new.next
 

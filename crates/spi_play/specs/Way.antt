@@ -27,6 +27,7 @@ next_count n = min (n + 1) (2 ^ 64 - 1)
 abbrev pub FollowsWay : Option Way → ℕ → ℕ → Pick → Option Way → Type 0
 FollowsWay None times ready pick after = ⊤
 FollowsWay (Some (Script [])) times ready pick after = (pick ≡ Leave) × (after ≡ Some (Script []))
-FollowsWay (Some (Script (k ∷ script))) times ready pick after = (pick ≡ Take k) × (after ≡ Some (Script script))
+FollowsWay (Some (Script (k ∷ script))) times ready pick after = (pick ≡ Take k)
+    × (after ≡ Some (Script script))
 FollowsWay (Some First) times ready pick after = (pick ≡ Take 0) × (after ≡ Some First)
 FollowsWay (Some Turn) times ready pick after = (pick ≡ Take (times % ready)) × (after ≡ Some Turn)

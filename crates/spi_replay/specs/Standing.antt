@@ -90,9 +90,10 @@ abbrev pub processes : List Message → List Link → List Place → List Proces
 processes ms ls ps = map (place_process ms ls) ps
 
 -- stores and links grow at their ends
-pub record GrowAtEnds (ms : List Message) (ls : List Link) (ms' : List Message) (ls' : List Link) : Type 0 where
-  pub messages : KeepsAll ms ms'
-  pub links : KeepsAll ls ls'
+pub record GrowAtEnds (ms : List Message) (ls : List Link) (ms' : List Message) (ls' : List Link) : Type 0
+  where
+    pub messages : KeepsAll ms ms'
+    pub links : KeepsAll ls ls'
 
 -- a node of a process, with more messages for the names that its form binds
 pub record Binds (ms : List Message) (ls : List Link) (sp : Spelling) (node last : ℕ)

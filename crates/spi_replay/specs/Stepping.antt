@@ -62,7 +62,8 @@ message_most = 1000
 
 -- why a step is refused, in this order
 pub data RefusesPoolStep (c : Configuration) (most : ℕ) (s : Step) : StepFault → Type 0 where
-  no_place : {i : ℕ} → FirstOutside (length c.places) (places_named s) i → RefusesPoolStep c most s (NoPlace i)
+  no_place : {i : ℕ} → FirstOutside (length c.places) (places_named s) i
+      → RefusesPoolStep c most s (NoPlace i)
   not_ready : ((i : ℕ) → FirstOutside (length c.places) (places_named s) i → ⊥) → (IsReady c s → ⊥)
       → RefusesPoolStep c most s (NotReady (first_place s))
   too_large : IsReady c s → message_most < largest (bound_by c s)

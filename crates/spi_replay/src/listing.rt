@@ -166,7 +166,8 @@ fn waited_on(state: &State<'_>, channel: &Msg) -> Option<MsgId>
 /// The ascending places that put out on a channel.
 pub fn outs_on<'s>(state: &'s State<'_>, channel: &Msg) -> &'s [u32]
     requires { IsState state.now }
-    ensures { AreReadyPlaces (PutsOut (message channel.now)) (pooled state.now).configuration.places result.now }
+    ensures { AreReadyPlaces (PutsOut (message channel.now)) (pooled state.now).configuration.places
+        result.now }
 {
     // The count is asked for what its answer says: no message has two numbers.
     let _ = state.store.distinct();
@@ -179,7 +180,8 @@ pub fn outs_on<'s>(state: &'s State<'_>, channel: &Msg) -> &'s [u32]
 /// The ascending places that take in on a channel.
 pub fn ins_on<'s>(state: &'s State<'_>, channel: &Msg) -> &'s [u32]
     requires { IsState state.now }
-    ensures { AreReadyPlaces (TakesIn (message channel.now)) (pooled state.now).configuration.places result.now }
+    ensures { AreReadyPlaces (TakesIn (message channel.now)) (pooled state.now).configuration.places
+        result.now }
 {
     // The count is asked for what its answer says: no message has two numbers.
     let _ = state.store.distinct();

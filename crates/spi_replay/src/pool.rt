@@ -72,7 +72,8 @@ impl<'p> Pool<'p> {
         requires { self.old.configuration.names < 2 ^ 32 - 1 }
         ensures ok { IfOk result (λ e. IsTaken self.old (step_of step) (event_in e) self.new) }
         ensures refused { IfErr result
-            (λ f. (f ≡ StepFault.NoMemory) ⊎ RefusesPoolStep self.old.configuration self.old.most (step_of step) f) }
+            (λ f. (f ≡ StepFault.NoMemory)
+            ⊎ RefusesPoolStep self.old.configuration self.old.most (step_of step) f) }
         ensures unchanged { OnErr result (self.new ≡ self.old) }
     {
         match step {

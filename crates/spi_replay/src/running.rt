@@ -94,7 +94,8 @@ pub fn start<'p>(
 fn may_act(state: &State<'_>, place: u32) -> Result<(), StepFault>
     requires { IsState state.now }
     ensures may { OnOk result (MayAct state.now place) }
-    ensures refused { IfErr result (RefusesPoolStep (pooled state.now).configuration state.now.most (act place)) }
+    ensures refused { IfErr result
+        (RefusesPoolStep (pooled state.now).configuration state.now.most (act place)) }
 {
     if place as usize >= state.index.len() {
         return Err(StepFault::NoPlace { place });
@@ -166,7 +167,8 @@ pub fn step_act(state: &mut State<'_>, place: u32) -> Result<Option<Event>, Step
 fn may_talk(state: &State<'_>, out: u32, inp: u32) -> Result<Meeting, StepFault>
     requires { IsState state.now }
     ensures may { IfOk result (MayTalk state.now out inp) }
-    ensures refused { IfErr result (RefusesPoolStep (pooled state.now).configuration state.now.most (talk out inp)) }
+    ensures refused { IfErr result
+        (RefusesPoolStep (pooled state.now).configuration state.now.most (talk out inp)) }
 {
     if out as usize >= state.index.len() {
         return Err(StepFault::NoPlace { place: out });

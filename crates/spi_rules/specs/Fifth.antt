@@ -17,5 +17,6 @@ rules_by b =
     else (if b == 82 then ProcRepeat ∷ []
     else (if b == 83 then ProcStop ∷ ProcSplit ∷ ProcSplitUn ∷ ProcSub ∷ []
     else (if b == 97 then MsgName ∷ MsgPair ∷ MsgPairUn ∷ MsgHash ∷ []
-    else (if b == 110 then MsgUnit ∷ MsgUnitUn ∷ MsgInl ∷ MsgInlUn ∷ MsgInr ∷ MsgInrUn ∷ MsgEnc ∷ MsgEncUn ∷ []
+    else (if b == 110 then MsgUnit ∷ MsgUnitUn ∷ MsgInl ∷ MsgInlUn ∷ MsgInr ∷ MsgInrUn ∷ MsgEnc ∷ MsgEncUn
+    ∷ []
     else []))))))))))))

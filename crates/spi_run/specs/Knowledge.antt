@@ -1,33 +1,69 @@
 -- What an intruder learns from a run.
-use Rattle.std.specs.Prelude.{zero, slice_get, ℕ, suc, ◌≤◌, List, [], ◌∷◌, ◌++◌, Option, Some}
+use Rattle.std.specs.Prelude.{zero, slice_get, ℕ, suc, ◌≤◌, List, [], ◌∷◌, ◌++◌, Option, Some, None}
 use Rattle.spi_run.specs.Opponent.{IsOpponent}
 use Rattle.spi_run.specs.Reduction.{Configuration, Step, act, talk, Event, Runs, runs_none, runs_silent, runs_event}
 use Rattle.spi_run.specs.Safety.{beside}
 use Rattle.spi_term.specs.Lists.{In}
 use Rattle.spi_term.specs.Names.{ProcessOver}
-use Rattle.spi_term.specs.Term.{Message, name, unit, hash, pair, in_left, in_right, enc, un, key, Process, send, fresh}
+use Rattle.spi_term.specs.Term.{Message, name, unit, hash, pair, in_left, in_right, enc, Ty, un, unit_ty, pair_ty, sum_ty, key, nonce, Process, leaf, prefix, fork, send, stop, Prefix, Recvs, Serves, Splits, Selects, Decrypts, Checks, Begins, Ends, EndManys, Casts, Freshes}
 
--- a name that a process makes at Un, a name that it makes at a Key type, and what it hands over
-abbrev pub made_un : Option Process → ℕ → List Message
-made_un (Some (fresh un p)) n = name n ∷ []
-made_un _ n = []
+-- the type at which a form makes a name, where it makes one
+abbrev pub fresh_ty : Prefix → Option Ty
+fresh_ty (Recvs m t) = None
+fresh_ty (Serves m t) = None
+fresh_ty (Splits m t u) = None
+fresh_ty (Selects m t n u) = None
+fresh_ty (Decrypts m t n) = None
+fresh_ty (Checks m n) = None
+fresh_ty (Begins m) = None
+fresh_ty (Ends m) = None
+fresh_ty (EndManys m) = None
+fresh_ty (Casts m t) = None
+fresh_ty (Freshes t) = Some t
 
-abbrev pub made_key : Option Process → ℕ → List ℕ
-made_key (Some (fresh (key t) p)) n = n ∷ []
-made_key _ n = []
+-- the same of the process that stands in a place
+abbrev pub made_ty : Option Process → Option Ty
+made_ty None = None
+made_ty (Some (leaf l)) = None
+made_ty (Some (prefix f p)) = fresh_ty f
+made_ty (Some (fork f p q)) = None
 
+-- the name, where it is made at Un
+abbrev pub made_un : Option Ty → ℕ → List Message
+made_un None n = []
+made_un (Some un) n = name n ∷ []
+made_un (Some unit_ty) n = []
+made_un (Some (pair_ty t u)) n = []
+made_un (Some (sum_ty t u)) n = []
+made_un (Some (key t)) n = []
+made_un (Some (nonce es)) n = []
+
+-- the name, where it is made at a Key type
+abbrev pub made_key : Option Ty → ℕ → List ℕ
+made_key None n = []
+made_key (Some un) n = []
+made_key (Some unit_ty) n = []
+made_key (Some (pair_ty t u)) n = []
+made_key (Some (sum_ty t u)) n = []
+made_key (Some (key t)) n = n ∷ []
+made_key (Some (nonce es)) n = []
+
+-- what an output in a place hands over
 abbrev pub datum : Option Process → List Message
+datum None = []
 datum (Some (send m d)) = d ∷ []
-datum _ = []
+datum (Some stop) = []
+datum (Some (prefix f p)) = []
+datum (Some (fork f p q)) = []
 
 -- what a step shows: a name made at Un, or the datum of a talk
 abbrev pub shown : Configuration → Step → List Message
-shown c (act i) = made_un (slice_get c.places i) c.names
+shown c (act i) = made_un (made_ty (slice_get c.places i)) c.names
 shown c (talk i j) = datum (slice_get c.places i)
 
 -- the name that a step makes at a Key type
 abbrev pub keyed : Configuration → Step → List ℕ
-keyed c (act i) = made_key (slice_get c.places i) c.names
+keyed c (act i) = made_key (made_ty (slice_get c.places i)) c.names
 keyed c (talk i j) = []
 
 -- the same along a run

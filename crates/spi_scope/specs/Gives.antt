@@ -36,7 +36,8 @@ Goes (Ok x) ran c = ran ≡ Ok c
 Goes (Err e) ran c = FailsWith e ran
 
 -- the same of a term with its nodes counted on: the term is left out where there are more than 1,000
-abbrev pub CountsOn : {X Y : Type 0} → (X → Y) → (Y → ℕ) → Result (X × ℕ) ScopeFault → Ran → ℕ → ℕ → Y → Type 0
+abbrev pub CountsOn : {X Y : Type 0} → (X → Y) → (Y → ℕ) → Result (X × ℕ) ScopeFault → Ran → ℕ → ℕ → Y
+    → Type 0
 CountsOn view nodes (Ok x) ran c spent meant = (ran ≡ Ok c) × (x.1 ≡ stopped (spent + nodes meant))
     × (x.1 ≤ 1000 → view x.0 ≡ meant)
 CountsOn view nodes (Err e) ran c spent meant = FailsWith e ran

@@ -122,7 +122,8 @@ fn read_atom(alloc: Global, count: u64, a: &SAtom) -> Result<Atom, ScopeFault>
 }
 
 fn read_atoms(alloc: Global, count: u64, es: &[SAtom]) -> Result<Vec<Atom>, ScopeFault>
-    ensures { GivesMeant (λ v. map atom v.items) result (run (numbered_atoms_points (map atom_of es.now)) count)
+    ensures { GivesMeant (λ v. map atom v.items) result
+        (run (numbered_atoms_points (map atom_of es.now)) count)
         count (map numbered_atom (map atom_of es.now)) }
 {
     let mut read = Vec::new(alloc);

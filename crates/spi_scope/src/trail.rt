@@ -131,7 +131,8 @@ impl Model for Scopes {
 
     ghost view = { λ s. all_at (chains (map spelled s.links.items)) s.noted.items };
 
-    ghost invariant = { λ s. LeadBack 1 (map spelled s.links.items) × AreNumbersBelow (length s.links.items + 1) s.noted.items };
+    ghost invariant = { λ s. LeadBack 1 (map spelled s.links.items)
+        × AreNumbersBelow (length s.links.items + 1) s.noted.items };
 }
 
 impl Scopes {

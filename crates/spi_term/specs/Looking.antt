@@ -37,7 +37,8 @@ pub record IsRaised (es : Effect) (a : Atom) (before after : List ℕ) : Type 0 
 
 -- at the first place of each atom, what is written in xs is at most what is written in ys
 pub record AreFewer (es : Effect) (xs ys : List ℕ) : Type 0 where
-  pub at : (a : Atom) (i : ℕ) → IsFirstPlace a es (Some i) → cut a (slice_index xs i) ≤ cut a (slice_index ys i)
+  pub at : (a : Atom) (i : ℕ) → IsFirstPlace a es (Some i)
+      → cut a (slice_index xs i) ≤ cut a (slice_index ys i)
 
 -- no atom of gs has a count in es above that in fs
 pub record AllWithin (gs es fs : Effect) : Type 0 where
