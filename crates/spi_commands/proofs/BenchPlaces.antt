@@ -69,17 +69,17 @@ in_right (y ∷ xs) i = in_later (in_right xs i)
 
 -- ---- a process begins its nodes and words at the same places, whatever its level
 
-abbrev Same : List Piece → List Piece → Type 0
-Same ps qs = starts ps ≡ starts qs
+abbrev SameStarts : List Piece → List Piece → Type 0
+SameStarts ps qs = starts ps ≡ starts qs
 
-behind_same : (front : List Piece) (whole : List Piece → List Piece) → ((r : List Piece) → whole r ≡ front ++ r) → (r s : List Piece) → Same r s → Same (whole r) (whole s)
+behind_same : (front : List Piece) (whole : List Piece → List Piece) → ((r : List Piece) → whole r ≡ front ++ r) → (r s : List Piece) → SameStarts r s → SameStarts (whole r) (whole s)
 behind_same front whole is r s e =
     ap starts (is r) ∙ starts_append front r ∙ ap (λ (l : List ℕ). starts front ++ l) e ∙ sym (starts_append front s) ∙ sym (ap starts (is s))
 
-msg : (m : t.Msg) (r s : List Piece) → Same r s → Same (msg_pieces 1 m r) (msg_pieces 1 m s)
+msg : (m : t.Msg) (r s : List Piece) → SameStarts r s → SameStarts (msg_pieces 1 m r) (msg_pieces 1 m s)
 msg m = behind_same (msg_pieces 1 m []) (msg_pieces 1 m) (msg_behind 1 m)
 
-ty : (a : t.Ty) (r s : List Piece) → Same r s → Same (ty_pieces 1 a r) (ty_pieces 1 a s)
+ty : (a : t.Ty) (r s : List Piece) → SameStarts r s → SameStarts (ty_pieces 1 a r) (ty_pieces 1 a s)
 ty a = behind_same (ty_pieces 1 a []) (ty_pieces 1 a) (ty_behind 1 a)
 
 -- one more begins before them
@@ -87,10 +87,10 @@ on : (m : ℕ) {xs ys : List ℕ} → xs ≡ ys → m ∷ xs ≡ m ∷ ys
 on m e = ap (λ (l : List ℕ). m ∷ l) e
 
 -- a word with its type
-word : (w : SWord) (a : t.Ty) (r s : List Piece) → Same r s → w.span.from ∷ starts (ty_pieces 1 a r) ≡ w.span.from ∷ starts (ty_pieces 1 a s)
+word : (w : SWord) (a : t.Ty) (r s : List Piece) → SameStarts r s → w.span.from ∷ starts (ty_pieces 1 a r) ≡ w.span.from ∷ starts (ty_pieces 1 a s)
 word w a r s e = on w.span.from (ty a r s e)
 
-levels : (p : t.Proc) (k j : Place) (r s : List Piece) → Same r s → Same (proc_pieces k p r) (proc_pieces j p s)
+levels : (p : t.Proc) (k j : Place) (r s : List Piece) → SameStarts r s → SameStarts (proc_pieces k p r) (proc_pieces j p s)
 levels (t.par u p q) k j r s e = on u.from (levels p _ _ _ _ (levels q _ _ _ _ e))
 levels (t.out u m n) k j r s e = on u.from (msg m _ _ (msg n _ _ e))
 levels (t.out_then u m n p) k j r s e = on u.from (msg m _ _ (msg n _ _ (levels p _ _ _ _ e)))
@@ -110,7 +110,7 @@ levels (t.stop u) k j r s e = on u.from e
 levels (t.group u p q) k j r s e = on u.from (levels p _ _ _ _ (levels q _ _ _ _ e))
 
 -- the `new`s of shared names begin where these do
-shared_levels : (ss : List h.Shared) (k : Place) (p : t.Proc) (r s : List Piece) → Same r s → Same (proc_pieces k (behind_shared ss p) r) (each_pieces shared_pieces ss (proc_pieces (at_level 0) p s))
+shared_levels : (ss : List h.Shared) (k : Place) (p : t.Proc) (r s : List Piece) → SameStarts r s → SameStarts (proc_pieces k (behind_shared ss p) r) (each_pieces shared_pieces ss (proc_pieces (at_level 0) p s))
 shared_levels [] k p r s e = levels p k (at_level 0) r s e
 shared_levels (x ∷ ss) k p r s e = on x.span.from (word x.name x.ty _ _ (shared_levels ss (below k) p _ s e))
 
@@ -118,7 +118,7 @@ decls_are : (ds : List t.Declared) (r : List Piece) → decls_pieces ds r ≡ ea
 decls_are [] r = refl
 decls_are (d ∷ ds) r = ap (decl_pieces d) (decls_are ds r)
 
-version_starts : (v : ℕ) (r : List Piece) → Same (version_pieces v r) r
+version_starts : (v : ℕ) (r : List Piece) → SameStarts (version_pieces v r) r
 version_starts v r = go (v == 2)
   where
     go : (b : Bool) → starts (if b then a_token (kinds.Word (codes "version")) (a_number 2 (a_mark mark.Semicolon r)) else r) ≡ starts r

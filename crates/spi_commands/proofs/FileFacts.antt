@@ -16,7 +16,7 @@ use Rattle.spi_spell.specs.Joined.{joined, with_derivation, with_schedule, HasLo
 use Rattle.spi_commands.specs.Spelled.{limit, SpellsFile, IsDerivable, SpellsDerivable, SpellsUnderivable, SpellsNone}
 use Rattle.spi_commands.specs.Refusals.{Refuses, IsRefusal}
 use Rattle.spi_commands.proofs.FileRefusals.{OneLexing, OnePlaced, OneMeant, one_tree}
-use Rattle.spi_commands.proofs.NarrateOnce.{Narrations}
+use Rattle.spi_commands.proofs.NarrateOnce.{NarrationFacts}
 
 -- bytes spell one file at most
 abbrev pub OneFile : Type 0
@@ -46,7 +46,7 @@ abbrev pub ReadsBack : Type 0
 ReadsBack = (bytes text : List ℕ) (file : Meant) → SpellsFile bytes file → IsCanonicalText file text → length text ≤ limit → SpellsFile text file
 
 -- all of it
-pub record Facts : Type 0 where
+pub record FileFacts : Type 0 where
   pub lexing : OneLexing
   pub none_of : RefusedNone
   pub one : OneFile
@@ -57,7 +57,7 @@ pub record Facts : Type 0 where
   pub schedule : ScheduleJoins
   pub reads : ReadsBack
   pub keys : Safe KeysStayUnknown
-  pub narrations : Narrations
+  pub narrations : NarrationFacts
 
 -- bytes spell one file at most, since they have one tree, and it stands for one file at most
 pub one_spelled : OneLexing → OnePlaced → OneMeant → OneFile

@@ -40,14 +40,14 @@ pub process_over_names : (tree : t.File) (file : Meant) → StandsFor tree file 
 process_over_names tree file stands = subst IsOver (sym stands.process) (is_over tree tree.process)
 
 -- what is known of an opponent
-record Joins (file : Meant) (o : Spelling) : Type 0 where
+record OpponentJoins (file : Meant) (o : Spelling) : Type 0 where
   names : o.names ≡ file.process.names
   over : ProcessOver o.names o.process
 
-joins : (tree : t.File) (file : Meant) (o : Spelling) → StandsFor tree file → file.opponent ≡ Some o → Joins file o
+joins : (tree : t.File) (file : Meant) (o : Spelling) → StandsFor tree file → file.opponent ≡ Some o → OpponentJoins file o
 joins tree file o stands e = by tree.opponent (sym stands.opponent ∙ e)
   where
-    by : (p : Option t.Proc) → opponent_over (all_types [] [] tree.decls) (all_names [] tree.decls) p ≡ Some o → Joins file o
+    by : (p : Option t.Proc) → opponent_over (all_types [] [] tree.decls) (all_names [] tree.decls) p ≡ Some o → OpponentJoins file o
     by None h = absurd (cc)
     by (Some p) h =
         let same : over_free (all_types [] [] tree.decls) (all_names [] tree.decls) p ≡ o = (let g : Some (over_free (all_types [] [] tree.decls) (all_names [] tree.decls) p) ≡ Some o = h in cc) in
@@ -61,7 +61,7 @@ opponent_names tree file o stands e = sym (joins tree file o stands e).names
 
 pub opponent_over_names : (tree : t.File) (file : Meant) (o : Spelling) → StandsFor tree file → file.opponent ≡ Some o → ProcessOver file.process.names o.process
 opponent_over_names tree file o stands e =
-    let j : Joins file o = joins tree file o stands e in
+    let j : OpponentJoins file o = joins tree file o stands e in
     subst (λ (n : ℕ). ProcessOver n o.process) j.names j.over
 
 -- a clean tree has few free names

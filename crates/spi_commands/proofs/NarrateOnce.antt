@@ -21,7 +21,7 @@ use Rattle.spi_commands.specs.Spelled.{SpellsFile}
 use Rattle.spi_commands.specs.Canonical.{IsPrint}
 use Rattle.spi_commands.specs.Refusals.{IsUnlexed, IsUnparsed, too_long, not_utf8, bad_char, bad_number, name_too_long, syntax, too_deep}
 use Rattle.spi_narrate.specs.declared.fault.NarrateFault.TheVariants.{UnknownRole, RoleTwice, NarrationTooLarge}
-use Rattle.spi_commands.specs.Narrating.{IsNarrationOf, SpellsNarration, IsFaulty, unknown_role, role_twice, narration_too_large, IsUntold, untold, RefusesNarrate, SpellsUntold, SpellsLongTelling}
+use Rattle.spi_commands.specs.Narrating.{IsNarrationOf, SpellsNarration, IsFaulty, unknown_role, role_twice, narration_too_large, IsNarrationUntold, untold, RefusesNarrate, SpellsUntold, SpellsLongTelling}
 use Rattle.spi_commands.proofs.FileRefusals.{OneLexing, spells_kinds, spells_within}
 use Rattle.spi_commands.proofs.AnswerText.{long_of}
 
@@ -35,7 +35,7 @@ abbrev pub NeverUntold : Type 0
 NeverUntold = (x : n.Narration) (told : Meant) (r : Refusal) → IsTold x told → RefusesTelling x r → ⊥
 
 -- what is known of narrations
-pub record Narrations : Type 0 where
+pub record NarrationFacts : Type 0 where
   pub one : (bytes : List ℕ) (x y : n.Narration) → IsNarrationOf bytes x → IsNarrationOf bytes y → x ≡ y
   pub told : (x : n.Narration) (told other : Meant) → IsTold x told → IsTold x other → told ≡ other
   pub untold : (bytes : List ℕ) (number : ℕ) (offset : Option ℕ) (shown : List ℕ) → RefusesNarrate bytes number offset shown → SpellsUntold bytes ⊎ SpellsLongTelling bytes
@@ -78,7 +78,7 @@ faulty_never never x free (unknown_role s {w = w} f) = never x (UnknownRole s w)
 faulty_never never x free (role_twice s {w = w} f) = never x (RoleTwice s w) f free
 faulty_never never x free (narration_too_large s count f) = never x (NarrationTooLarge s count) f free
 
-untold_never : NeverUntold → {number : ℕ} {offset : Option ℕ} {shown : List ℕ} (x : n.Narration) (told : Meant) → IsTold x told → IsUntold x number offset shown → ⊥
+untold_never : NeverUntold → {number : ℕ} {offset : Option ℕ} {shown : List ℕ} (x : n.Narration) (told : Meant) → IsTold x told → IsNarrationUntold x number offset shown → ⊥
 untold_never never x told is (untold {r = r} why) = never x told r is why
 
 pub refused_untold : OneLexing → OneNarration → NeverFaulty → NeverUntold → (bytes : List ℕ) (number : ℕ) (offset : Option ℕ) (shown : List ℕ) → RefusesNarrate bytes number offset shown → SpellsUntold bytes ⊎ SpellsLongTelling bytes
@@ -87,7 +87,7 @@ refused_untold lexing one faultless never bytes number offset shown (inr (inl h)
 refused_untold lexing one faultless never bytes number offset shown (inr (inr (inl (y, that, h)))) =
     inl (λ x told is tells. faulty_never faultless x is.1 (subst (λ (z : n.Narration). IsFaulty z number offset shown) (one_narration_of lexing one bytes y x that is.0) h))
 refused_untold lexing one faultless never bytes number offset shown (inr (inr (inr (inl (y, that, h))))) =
-    inl (λ x told is tells. untold_never never x told tells (subst (λ (z : n.Narration). IsUntold z number offset shown) (one_narration_of lexing one bytes y x that.0 is.0) h))
+    inl (λ x told is tells. untold_never never x told tells (subst (λ (z : n.Narration). IsNarrationUntold z number offset shown) (one_narration_of lexing one bytes y x that.0 is.0) h))
 refused_untold lexing one faultless never bytes number offset shown (inr (inr (inr (inr (x, told, is, tells, long))))) = inr (x, told, is, tells, long_of told long)
 
 -- ---- the text is read as the file

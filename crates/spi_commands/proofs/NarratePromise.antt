@@ -10,10 +10,10 @@ use Rattle.spi_commands.specs.Canonical.{IsLong}
 use Rattle.spi_commands.specs.Narrating.{SpellsTelling, NarratesTo, SpellsUntold, SpellsLongTelling, IsNarrated}
 use Rattle.spi_commands.proofs.FileFacts.{OneFile, RefusedNone}
 use Rattle.spi_commands.proofs.AnswerText.{never_longer}
-use Rattle.spi_commands.proofs.NarrateOnce.{Narrations}
+use Rattle.spi_commands.proofs.NarrateOnce.{NarrationFacts}
 use Rattle.spi_commands.proofs.NarrateRuns.{runs_as_told}
 
-module _ (one : OneFile) (none_of : RefusedNone) (k : Narrations) (bytes : List ℕ) where
+module _ (one : OneFile) (none_of : RefusedNone) (k : NarrationFacts) (bytes : List ℕ) where
   never_long : (output : List ℕ) → SpellsTelling bytes output → SpellsLongTelling bytes → ⊥
   never_long output (x, told, is, tells, shown) (y, other, that, means, long) =
       let same = k.one bytes y x that.0 is.0 in

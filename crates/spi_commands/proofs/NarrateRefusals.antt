@@ -22,12 +22,12 @@ use Rattle.spi_weave.proofs.Starting.{woven_starts, lines_of, fault_starts, chan
 use Rattle.spi_narrator.specs.declared.answer.Refusal.{Refusal}
 use Rattle.spi_narrator.specs.Answers.{line_span, LineIn, RefusesNarration as RefusesTelling, not_free, out_of_scope, not_ready, too_large}
 use Rattle.spi_commands.specs.Refusals.{IsTooMuch, too_much}
-use Rattle.spi_commands.specs.Narrating.{IsNarrationOf, IsFaulty, unknown_role, role_twice, narration_too_large, telling_number, telling_from, IsUntold, untold, RefusesNarrate}
+use Rattle.spi_commands.specs.Narrating.{IsNarrationOf, IsFaulty, unknown_role, role_twice, narration_too_large, telling_number, telling_from, IsNarrationUntold, untold, RefusesNarrate}
 use Rattle.spi_commands.proofs.FileRefusals.{unlexed_named, unlexed_within, unparsed_named, unparsed_within, scope_named}
 use Rattle.spi_commands.proofs.FileScopes.{first_is_fault}
 
-abbrev pub Standing : Type 0
-Standing = (tree : t.File) (fault : ScopeFault) → HasFirst tree fault → StartsAt tree (span_from fault)
+abbrev pub FaultsStand : Type 0
+FaultsStand = (tree : t.File) (fault : ScopeFault) → HasFirst tree fault → StartsAt tree (span_from fault)
 
 -- ---- names
 
@@ -42,7 +42,7 @@ telling_named x r (out_of_scope {f = f} h first) = scope_named f (first_is_fault
 telling_named x r (not_ready h stands f l) = refl
 telling_named x r (too_large h stands f l) = refl
 
-untold_named : {x : n.Narration} {number : ℕ} {offset : Option ℕ} {shown : List ℕ} → IsUntold x number offset shown → IsSome (name_of number)
+untold_named : {x : n.Narration} {number : ℕ} {offset : Option ℕ} {shown : List ℕ} → IsNarrationUntold x number offset shown → IsSome (name_of number)
 untold_named {x} (untold {r = r} why) = telling_named x r why
 
 much_named : {count number : ℕ} {offset : Option ℕ} {shown : List ℕ} → IsTooMuch count number offset shown → IsSome (name_of number)
@@ -101,20 +101,20 @@ line_within end x i s h (l, e, is) =
     let c = line_same l in
     omega (arith, a, b, c)
 
-telling_within : Standing → (end : ℕ) (x : n.Narration) (r : Refusal) → HasRole x.roles → StartBy end (whole_narration x) → RefusesTelling x r → telling_from r ≤ end
+telling_within : FaultsStand → (end : ℕ) (x : n.Narration) (r : Refusal) → HasRole x.roles → StartBy end (whole_narration x) → RefusesTelling x r → telling_from r ≤ end
 telling_within standing end x r has h (not_free f) =
     channel_starts end f.before f.after f.span f.from f.to _ f.message f.name _ (subst (λ (ls : List n.Line). StartBy end (each_pieces line_pieces ls (ends x.span []))) f.cut (lines_of end x h))
 telling_within standing end x r has h (out_of_scope {f = f} c first) = there_starts end (span_from f) _ (standing (woven x) f first) (woven_starts x end has h)
 telling_within standing end x r has h (not_ready {i = i} {s = s} c stands f l) = line_within end x i s h l
 telling_within standing end x r has h (too_large {i = i} {s = s} c stands f l) = line_within end x i s h l
 
-untold_within : {bytes : List ℕ} {x : n.Narration} {number : ℕ} {offset : Option ℕ} {shown : List ℕ} → Standing → IsNarrationOf bytes x → IsUntold x number offset shown → IfSome offset (λ at. at ≤ length bytes)
+untold_within : {bytes : List ℕ} {x : n.Narration} {number : ℕ} {offset : Option ℕ} {shown : List ℕ} → FaultsStand → IsNarrationOf bytes x → IsNarrationUntold x number offset shown → IfSome offset (λ at. at ≤ length bytes)
 untold_within {bytes} {x} standing is (untold {r = r} why) = telling_within standing (length bytes) x r is.spelled.0.roles (starts bytes x is) why
 
 much_within : (bytes : List ℕ) {count number : ℕ} {offset : Option ℕ} {shown : List ℕ} → IsTooMuch count number offset shown → IfSome offset (λ at. at ≤ length bytes)
 much_within bytes (too_much l) = tt
 
-pub narrate_within : Standing → (bytes : List ℕ) (number : ℕ) (offset : Option ℕ) (shown : List ℕ) → RefusesNarrate bytes number offset shown → IfSome offset (λ at. at ≤ length bytes)
+pub narrate_within : FaultsStand → (bytes : List ℕ) (number : ℕ) (offset : Option ℕ) (shown : List ℕ) → RefusesNarrate bytes number offset shown → IfSome offset (λ at. at ≤ length bytes)
 narrate_within standing bytes number offset shown (inl h) = unlexed_within h
 narrate_within standing bytes number offset shown (inr (inl h)) = unparsed_within h
 narrate_within standing bytes number offset shown (inr (inr (inl (x, is, h)))) = faulty_within is h

@@ -19,18 +19,18 @@ use Rattle.spi_commands.specs.declared.status.Status.{Status}
 use Rattle.spi_commands.specs.declared.status.Status.TheVariants.{Yes, No, Refused, ReadFault, WriteFault, NoMemory, Usage}
 use Rattle.spi_commands.specs.Spelled.{SpellsFile}
 use Rattle.spi_commands.specs.Beside.{pool_of}
-use Rattle.spi_commands.specs.Replays.{places_most, Replays, replays_none, replays_step, RunsThrough, IsUnplayed, RefusesReplay}
+use Rattle.spi_commands.specs.Replays.{places_most, ReplaysWithTalks, replays_none, replays_step, RunsThrough, IsUnplayed, RefusesReplay}
 use Rattle.spi_commands.specs.Replaying.{ReplaysTo, IsReplayText}
 use Rattle.spi_commands.specs.Narrating.{RunsAsTold}
 use Rattle.spi_commands.proofs.FileFacts.{OneFile, RefusedNone}
 use Rattle.spi_commands.proofs.ScheduleFiles.{runs_once, never_unplayed, unreplayed}
 
 -- the data of the talks of a replay
-pub record Talked (p : Pooled) (ss : List Step) (es : List Event) (q : Pooled) : Type 0 where
+pub record ReplayTalked (p : Pooled) (ss : List Step) (es : List Event) (q : Pooled) : Type 0 where
   pub talks : List Message
-  pub replays : Replays p ss es talks q
+  pub replays : ReplaysWithTalks p ss es talks q
 
-pub talked : {p q : Pooled} {ss : List Step} {es : List Event} → Plays p ss es q → Talked p ss es q
+pub talked : {p q : Pooled} {ss : List Step} {es : List Event} → Plays p ss es q → ReplayTalked p ss es q
 talked plays_none = record { talks = []; replays = replays_none }
 talked (plays_step {p = p} {s = s} t h) = let r = talked h in record { talks = handed p.configuration s ++ r.talks; replays = replays_step t r.replays }
 
@@ -64,7 +64,7 @@ module _ (x : n.Narration) (told : Meant) (is : IsTold x told) where
           last = is.is.last;
           beside = (has_opponent, tt);
           schedule = ap (λ (f : Meant). f.schedule) is.same;
-          replays = subst (λ (p : Pooled). Replays p steps events t.talks is.is.last) opens t.replays;
+          replays = subst (λ (p : Pooled). ReplaysWithTalks p steps events t.talks is.is.last) opens t.replays;
         },
         refl,
       )

@@ -22,7 +22,7 @@ use Rattle.spi_commands.proofs.FileFacts.{OneFile, RefusedNone, ScheduleJoins}
 use Rattle.spi_commands.proofs.AnswerLines.{more_than}
 use Rattle.spi_commands.proofs.ScheduleFiles.{offends}
 use Rattle.spi_commands.proofs.PlaySteps.{widened, play_replays}
-use Rattle.spi_commands.proofs.PlayTold.{StopsAt, ended_both, ended_stopped, stopped_ended, stopped_both}
+use Rattle.spi_commands.proofs.PlayTold.{PlayStopsAt, ended_both, ended_stopped, stopped_ended, stopped_both}
 
 -- ---- two plays of a file
 
@@ -36,7 +36,7 @@ end_of {ss = ss} {es = es} p = record { course = record { pool = p.last; steps =
 abbrev stop_of : {file : Meant} {most : ℕ} {only : Option ℕ} {before after : List Seen} {fault : PlayFault} → IsStopped file most only before after fault → State
 stop_of p = record { course = record { pool = p.last; steps = p.stops.steps; events = p.stops.events }; seats = p.stops.stands.seats; next = p.stops.next }
 
-abbrev stops_at : {file : Meant} {most : ℕ} {only : Option ℕ} {before after : List Seen} {fault : PlayFault} → (s : IsStopped file most only before after fault) → StopsAt only most (stop_of s) fault
+abbrev stops_at : {file : Meant} {most : ℕ} {only : Option ℕ} {before after : List Seen} {fault : PlayFault} → (s : IsStopped file most only before after fault) → PlayStopsAt only most (stop_of s) fault
 stops_at s = record {
   place = s.stops.place;
   ready = s.stops.ready;

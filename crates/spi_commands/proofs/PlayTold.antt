@@ -196,7 +196,7 @@ refused_never old new place ready k OutOfMemory some counts goes r = some refl
 -- ---- a pick that was refused
 
 -- a play stands here, and a pick is refused so
-pub record StopsAt (only : Option ℕ) (most : ℕ) (s : State) (fault : PlayFault) : Type 0 where
+pub record PlayStopsAt (only : Option ℕ) (most : ℕ) (s : State) (fault : PlayFault) : Type 0 where
   pub place : ℕ
   pub ready : ℕ
   pub picked : ℕ
@@ -208,7 +208,7 @@ pub record StopsAt (only : Option ℕ) (most : ℕ) (s : State) (fault : PlayFau
   pub refused : IsPickRefused s.course.pool place ready picked fault
 
 -- who was asked is the one whose turn it would be
-asked_is : (only : Option ℕ) (most : ℕ) (s : State) (fault : PlayFault) (stop : StopsAt only most s fault) (t : TurnOf) (new : State) → (turn : Turns only most s t new) → (turn.place ≡ stop.place) × (t.ready ≡ stop.ready) × (turn.asks.seat.seen ≡ stop.old)
+asked_is : (only : Option ℕ) (most : ℕ) (s : State) (fault : PlayFault) (stop : PlayStopsAt only most s fault) (t : TurnOf) (new : State) → (turn : Turns only most s t new) → (turn.place ≡ stop.place) × (t.ready ≡ stop.ready) × (turn.asks.seat.seen ≡ stop.old)
 asked_is only most s fault stop t new turn =
     let f : Seat → Seen = λ seat. seat.seen in
     let e : Some turn.place ≡ Some stop.place = sym turn.goes_on.at ∙ stop.goes_on.at in
@@ -217,7 +217,7 @@ asked_is only most s fault stop t new turn =
     sym (ap (option_map f) turn.asks.was) ∙ sym (slice_get-map f s.seats turn.place) ∙ ap (slice_get (map f s.seats)) place ∙ stop.was in
     (place, counts_once turn.goes_on.counts stop.goes_on.counts, (let g = seen in cc))
 
-stuck : (only : Option ℕ) (most : ℕ) (s : State) (fault : PlayFault) (stop : StopsAt only most s fault) → fault ≢ OutOfMemory → IsSome stop.old.way → Halts only most s
+stuck : (only : Option ℕ) (most : ℕ) (s : State) (fault : PlayFault) (stop : PlayStopsAt only most s fault) → fault ≢ OutOfMemory → IsSome stop.old.way → Halts only most s
 stuck only most s fault stop some tells t new turn =
     let (place, ready, seen) = asked_is only most s fault stop t new turn in
     let a = turn.asks in
@@ -226,7 +226,7 @@ stuck only most s fault stop some tells t new turn =
     let does : Does only turn.place (Take stop.picked) s.course new.course turn.seats new.seats new.next = subst (λ (p : Pick). Does only turn.place p s.course new.course turn.seats new.seats new.next) same.0 turn.does in
     refused_never s.course new.course stop.place stop.ready stop.picked fault some stop.goes_on.counts does.0 stop.refused
 
-stuck_told : (only : Option ℕ) (most : ℕ) (s : State) (fault : PlayFault) (stop : StopsAt only most s fault) → fault ≢ OutOfMemory → HaltsTold only most s
+stuck_told : (only : Option ℕ) (most : ℕ) (s : State) (fault : PlayFault) (stop : PlayStopsAt only most s fault) → fault ≢ OutOfMemory → HaltsTold only most s
 stuck_told only most s fault stop some t new turn tells =
     stuck only most s fault stop some (subst (λ (x : Seen). IsSome x.way) (asked_is only most s fault stop t new turn).2 tells) t new turn
 
@@ -270,7 +270,7 @@ one_fault pool place ready k (TooManyPlaces n) (RunMessageTooLarge m) counts som
     let small = many_small a.refuses in
     absurd (omega (arith, large, small))
 
-same_fault : (only : Option ℕ) (most : ℕ) (s : State) (f g : PlayFault) (a : StopsAt only most s f) → StopsAt only most s g → IsSome a.old.way → f ≢ OutOfMemory → g ≢ OutOfMemory → f ≡ g
+same_fault : (only : Option ℕ) (most : ℕ) (s : State) (f g : PlayFault) (a : PlayStopsAt only most s f) → PlayStopsAt only most s g → IsSome a.old.way → f ≢ OutOfMemory → g ≢ OutOfMemory → f ≡ g
 same_fault only most s f g a b tells some other =
     let e : Some b.place ≡ Some a.place = sym b.goes_on.at ∙ a.goes_on.at in
     let place : b.place ≡ a.place = cc in
@@ -300,20 +300,20 @@ module _ (before : List Seen) (only : Option ℕ) (most : ℕ) (pool : Pooled) (
   ended_both e f end other =
       ap (λ (s : State). s.course.steps) (sym (one_state (λ t new turn. ended_once end turn.goes_on) (λ t new turn tells. ended_once other turn.goes_on)))
 
-  pub ended_stopped : (e : Ended) (fault : PlayFault) → HasEnded most m e → StopsAt only most n fault → fault ≢ OutOfMemory → ⊥
+  pub ended_stopped : (e : Ended) (fault : PlayFault) → HasEnded most m e → PlayStopsAt only most n fault → fault ≢ OutOfMemory → ⊥
   ended_stopped e fault end stop some =
       let same : m ≡ n = one_state (λ t new turn. ended_once end turn.goes_on) (stuck_told only most n fault stop some) in
       ended_once (subst (λ (s : State). HasEnded most s e) same end) stop.goes_on
 
-  pub stopped_ended : (fault : PlayFault) (f : Ended) (stop : StopsAt only most m fault) → fault ≢ OutOfMemory → IsSome stop.old.way → HasEnded most n f → ⊥
+  pub stopped_ended : (fault : PlayFault) (f : Ended) (stop : PlayStopsAt only most m fault) → fault ≢ OutOfMemory → IsSome stop.old.way → HasEnded most n f → ⊥
   stopped_ended fault f stop some tells end =
       let same : m ≡ n = one_state (stuck only most m fault stop some tells) (λ t new turn told. ended_once end turn.goes_on) in
       ended_once (subst (λ (s : State). HasEnded most s f) (sym same) end) stop.goes_on
 
-  pub stopped_both : (f g : PlayFault) (stop : StopsAt only most m f) → f ≢ OutOfMemory → g ≢ OutOfMemory → IsSome stop.old.way → StopsAt only most n g → f ≡ g
+  pub stopped_both : (f g : PlayFault) (stop : PlayStopsAt only most m f) → f ≢ OutOfMemory → g ≢ OutOfMemory → IsSome stop.old.way → PlayStopsAt only most n g → f ≡ g
   stopped_both f g stop some other tells that =
       let same : m ≡ n = one_state (stuck only most m f stop some tells) (stuck_told only most n g that other) in
-      same_fault only most m f g stop (subst (λ (s : State). StopsAt only most s g) (sym same) that) tells some other
+      same_fault only most m f g stop (subst (λ (s : State). PlayStopsAt only most s g) (sym same) that) tells some other
 
 -- ---- those that may be asked are told, and nobody else is asked
 

@@ -17,7 +17,7 @@ use Rattle.spi_commands.specs.Spelled.{IsManySafe}
 use Rattle.spi_commands.specs.Checking.{IsExact}
 use Rattle.spi_commands.specs.Commands.{AnswersTo, Promise}
 use Rattle.spi_commands.specs.Run.{Wants, Ends, Completes, IsUndisturbed, IsAnswered}
-use Rattle.spi_commands.proofs.FileFacts.{OneFile, Safe, Facts}
+use Rattle.spi_commands.proofs.FileFacts.{OneFile, Safe, FileFacts}
 use Rattle.spi_commands.proofs.CheckPromise.{many_yes}
 use Rattle.spi_commands.proofs.RunPromises.{promised}
 
@@ -55,20 +55,20 @@ module _ (asks : Option Command) (left : Option (List ℕ)) (before after : List
       by (Some bytes) ends = λ no_read no_write. completes (Wants asks bytes before after) old new status (λ e. no_read (read e)) (λ e. no_write (write e)) ends
 
   -- and keeps its promise
-  kept : Facts → (players : ℕ) → (¬ (status ≡ NoMemory) → IfSome asks (AreNumbersKnown players)) → (command : Command) → asks ≡ Some command → (bytes : List ℕ) → Ends (Wants asks bytes before after) old new status → IsUndisturbed r s t u status → Promise command bytes before after old new status
+  kept : FileFacts → (players : ℕ) → (¬ (status ≡ NoMemory) → IfSome asks (AreNumbersKnown players)) → (command : Command) → asks ≡ Some command → (bytes : List ℕ) → Ends (Wants asks bytes before after) old new status → IsUndisturbed r s t u status → Promise command bytes before after old new status
   kept facts players within command is bytes ends (no_read, no_write, memory) =
       let ends_so : Ends (Wants (Some command) bytes before after) old new status = subst (λ (o : Option Command). Ends (Wants o bytes before after) old new status) is ends in
       let done : Completes (Wants (Some command) bytes before after) old new status = completes (Wants (Some command) bytes before after) old new status (λ e. no_read (read e)) (λ e. no_write (write e)) ends_so in
       elim done [ inl none ↦ absurd (memory none) | inr some ↦ promised facts players command (subst (λ (o : Option Command). IfSome o (AreNumbersKnown players)) is (within memory)) bytes before after old new some.0 status some.1 some.2 ]
 
-  pub promise : Facts → (players : ℕ) → (¬ (status ≡ NoMemory) → IfSome asks (AreNumbersKnown players)) → IfSome left (λ bytes. Ends (Wants asks bytes before after) old new status) → (command : Command) → asks ≡ Some command → IfSome left (λ bytes. IsUndisturbed r s t u status → Promise command bytes before after old new status)
+  pub promise : FileFacts → (players : ℕ) → (¬ (status ≡ NoMemory) → IfSome asks (AreNumbersKnown players)) → IfSome left (λ bytes. Ends (Wants asks bytes before after) old new status) → (command : Command) → asks ≡ Some command → IfSome left (λ bytes. IsUndisturbed r s t u status → Promise command bytes before after old new status)
   promise facts players within ends command is = by left ends
     where
       by : (left : Option (List ℕ)) → IfSome left (λ bytes. Ends (Wants asks bytes before after) old new status) → IfSome left (λ bytes. IsUndisturbed r s t u status → Promise command bytes before after old new status)
       by None ends = tt
       by (Some bytes) ends = kept facts players within command is bytes ends
 
-  pub headline : Facts → (players : ℕ) → (¬ (status ≡ NoMemory) → IfSome asks (AreNumbersKnown players)) → IfSome left (λ bytes. Ends (Wants asks bytes before after) old new status) → asks ≡ Some Check → IfSome left (λ bytes. ¬ Rose r s → ¬ Rose t u → ¬ (status ≡ NoMemory) → IsExact bytes old new status)
+  pub headline : FileFacts → (players : ℕ) → (¬ (status ≡ NoMemory) → IfSome asks (AreNumbersKnown players)) → IfSome left (λ bytes. Ends (Wants asks bytes before after) old new status) → asks ≡ Some Check → IfSome left (λ bytes. ¬ Rose r s → ¬ Rose t u → ¬ (status ≡ NoMemory) → IsExact bytes old new status)
   headline facts players within ends is = by left ends
     where
       by : (left : Option (List ℕ)) → IfSome left (λ bytes. Ends (Wants asks bytes before after) old new status) → IfSome left (λ bytes. ¬ Rose r s → ¬ Rose t u → ¬ (status ≡ NoMemory) → IsExact bytes old new status)

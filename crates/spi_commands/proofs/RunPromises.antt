@@ -9,7 +9,7 @@ use Rattle.spi_commands.specs.declared.status.Status.TheVariants.{Yes, No, Refus
 use Rattle.spi_commands.specs.Asked.{AreNumbersKnown}
 use Rattle.spi_commands.specs.Loading.{LoadsTo, IsLoadedOn}
 use Rattle.spi_commands.specs.Commands.{AnswersTo, Promise}
-use Rattle.spi_commands.proofs.FileFacts.{Facts}
+use Rattle.spi_commands.proofs.FileFacts.{FileFacts}
 use Rattle.spi_commands.proofs.CheckPromise.{exactly, many_yes}
 use Rattle.spi_commands.proofs.DerivePromise.{derives}
 use Rattle.spi_commands.proofs.VerifyPromise.{verifies}
@@ -31,7 +31,7 @@ loads k old new output WriteFault is put = absurd is
 loads k old new output NoMemory is put = absurd is
 loads k old new output Usage is put = absurd is
 
-pub promised : Facts → (players : ℕ) (command : Command) → AreNumbersKnown players command → (bytes : List ℕ) (before after : List Seen) (old new : Option (List ℕ)) (output : List ℕ) (status : Status) → AnswersTo command bytes before after status output → Appends old new output → Promise command bytes before after old new status
+pub promised : FileFacts → (players : ℕ) (command : Command) → AreNumbersKnown players command → (bytes : List ℕ) (before after : List Seen) (old new : Option (List ℕ)) (output : List ℕ) (status : Status) → AnswersTo command bytes before after status output → Appends old new output → Promise command bytes before after old new status
 promised l players Check within bytes before after old new output status is put = (exactly l.none_of l.one l.safe bytes old new output status is put, many_yes l.one l.many bytes output status is)
 promised l players Derive within bytes before after old new output status is put = derives l.one bytes l.none_of l.canonical l.derivation old new output status is put
 promised l players Verify within bytes before after old new output status is put = verifies l.one bytes l.none_of l.safe l.many output status is

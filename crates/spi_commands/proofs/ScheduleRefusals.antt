@@ -27,7 +27,7 @@ use Rattle.spi_commands.specs.Ran.{AreTalks, IsRan, IsRefused}
 use Rattle.spi_commands.specs.Refusals.{IsLineOf, IsCause, IsMissing}
 use Rattle.spi_commands.specs.Beside.{pool_of, HasOffence}
 use Rattle.spi_commands.specs.Reading.{IsRead}
-use Rattle.spi_commands.specs.Replays.{Replays, IsRefusedAt, step_refused, RefusesReplay, places_most, step_number, step_shown, step_at}
+use Rattle.spi_commands.specs.Replays.{ReplaysWithTalks, IsRefusedAt, step_refused, RefusesReplay, places_most, step_number, step_shown, step_at}
 use Rattle.spi_commands.proofs.FilePlaces.{step_within}
 use Rattle.spi_commands.proofs.ScheduleSteps.{few_events}
 use Rattle.spi_commands.proofs.AnswerLines.{line_map, one_line}
@@ -71,11 +71,11 @@ step_line bytes output f o steps i fault (tree, is, stands, marks) e g opponent 
     one_line bytes (step_shown fault) output (step_number fault) (Some (step_at tree i).from) r (RefusesReplay bytes)
     (inr (inr (inr (inr (tree, meant f, o, steps, is, stands, (e, opponent), g, step_refused refused))))) n there s line
 
-abbrev pub IsStopped : List ℕ → File → ℕ → StepFault → Ran → Type 0
-IsStopped bytes f i fault ran = (fault ≢ OutOfMemory) × IsRefused bytes (IsCause (step_number fault) (Some (scheduled (marked f) i).from) (step_shown fault)) ran
+abbrev pub IsScheduleStopped : List ℕ → File → ℕ → StepFault → Ran → Type 0
+IsScheduleStopped bytes f i fault ran = (fault ≢ OutOfMemory) × IsRefused bytes (IsCause (step_number fault) (Some (scheduled (marked f) i).from) (step_shown fault)) ran
 
 pub stopped_at : (bytes : List ℕ) (f : File) (o : Spelling) (steps : List Step) (p : Pooled) (i : ℕ) (fault : StepFault) (keeps : Bool) (result : Result Ran Stop) → IsRead bytes f → (meant f).opponent ≡ Some o → (meant f).schedule ≡ Some steps → IsOpponent o.process
-    → p ≡ pool_of places_most (meant f) o → (fault ≡ OutOfMemory) ⊎ IsRefusedAt p steps i fault → IfOk result (IsStopped bytes f i fault) → IfOk result (λ ran. IsRan bytes (meant f) keeps ran)
+    → p ≡ pool_of places_most (meant f) o → (fault ≡ OutOfMemory) ⊎ IsRefusedAt p steps i fault → IfOk result (IsScheduleStopped bytes f i fault) → IfOk result (λ ran. IsRan bytes (meant f) keeps ran)
 stopped_at bytes f o steps p i fault keeps (Ok (Through replay)) r e g opponent start refused h = absurd h.1
 stopped_at bytes f o steps p i fault keeps (Ok (Refused line)) r e g opponent start (inl none) h = absurd (h.0 none)
 stopped_at bytes f o steps p i fault keeps (Ok (Refused line)) r e g opponent start (inr refused) h =
@@ -91,14 +91,14 @@ step_named (TooManyPlaces places) number some e = subst (λ n. IsSome (name_of n
 step_named OutOfMemory number some e = absurd (some refl)
 
 -- a schedule that runs through
-few_happened : (steps : List program.Step) (events : List declared.Event) (n : ℕ) (p q : Pooled) (ms : List Message) → n + length steps < 4294967295 → Replays p (map step_of steps) (map event_of events) ms q → length events < 4294967296
+few_happened : (steps : List program.Step) (events : List declared.Event) (n : ℕ) (p q : Pooled) (ms : List Message) → n + length steps < 4294967295 → ReplaysWithTalks p (map step_of steps) (map event_of events) ms q → length events < 4294967296
 few_happened steps events n p q ms few replays =
     let most = few_events replays in
     omega (arith, few, most, length-map steps step_of, length-map events event_of)
 
 pub ran_through : (bytes : List ℕ) (f : File) (o : Spelling) (steps : List program.Step) (n : ℕ) (replay : Replay) (keeps : Bool) (p q : Pooled) → (meant f).opponent ≡ Some o → (meant f).schedule ≡ Some (map step_of steps) → IsOpponent o.process
     → p ≡ pool_of places_most (meant f) o → n + length steps < 4294967295
-    → (ms : List Message) × Replays p (map step_of steps) (map event_of replay.events.items) ms q × (keeps ≡ true → AreTalks ms replay.talks) × (replay.names ≡ q.configuration.names)
+    → (ms : List Message) × ReplaysWithTalks p (map step_of steps) (map event_of replay.events.items) ms q × (keeps ≡ true → AreTalks ms replay.talks) × (replay.names ≡ q.configuration.names)
     → IsRan bytes (meant f) keeps (Through replay)
 ran_through bytes f o steps n replay keeps p q e g opponent start few (ms, replays, kept, names) = (
   record {
@@ -108,7 +108,7 @@ ran_through bytes f o steps n replay keeps p q e g opponent start few (ms, repla
     last = q;
     beside = (e, opponent);
     schedule = g;
-    replays = subst (λ first. Replays first (map step_of steps) (map event_of replay.events.items) ms q) start replays;
+    replays = subst (λ first. ReplaysWithTalks first (map step_of steps) (map event_of replay.events.items) ms q) start replays;
   },
   kept,
   names,

@@ -5,11 +5,11 @@ use Rattle.spi_run.specs.Reduction.{Configuration, Step, Event, Takes, Runs, run
 use Rattle.spi_run.proofs.Once.{takes_once}
 use Rattle.spi_replay.specs.Stepping.{Pooled}
 use Rattle.spi_know.specs.Sent.{handed, handed_in}
-use Rattle.spi_commands.specs.Replays.{Replays, replays_none, replays_step}
+use Rattle.spi_commands.specs.Replays.{ReplaysWithTalks, replays_none, replays_step}
 
 -- a replay from a pool with the same configuration
 abbrev From : Configuration → List Step → List Event → List Message → Type 0
-From c ss es ms = (p : Pooled) × (q : Pooled) × (p.configuration ≡ c) × Replays p ss es ms q
+From c ss es ms = (p : Pooled) × (q : Pooled) × (p.configuration ≡ c) × ReplaysWithTalks p ss es ms q
 
 pub same_handed : {c d : Configuration} {ss : List Step} {es fs : List Event} {ms : List Message} → From c ss fs ms → (r : Runs c ss es d) → handed_in r ≡ ms
 same_handed (p, q, e, replays_none) runs_none = refl

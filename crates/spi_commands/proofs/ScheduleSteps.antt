@@ -1,4 +1,4 @@
--- Replays of a schedule: two of them are the same, and none goes past a step that is refused.
+-- ReplaysWithTalks of a schedule: two of them are the same, and none goes past a step that is refused.
 use Rattle.std.proofs.Common.{◌≡◌, ◌⊎◌, inl, inr, refl, sym, ap, ◌∙◌, subst, subst₂, ℕ, zero, suc, ◌+◌, ◌*◌, ◌<◌, ◌≤◌, Bool, true, List, [], ◌∷◌, ◌++◌, append_assoc, append-nil, length, map, take, drop, get_or, Option, Some, None, arith}
 use Rattle.std.proofs.lemmas.List.{length-map, length-take-le, take_all}
 use Rattle.std.specs.Prelude.{option_to_list}
@@ -15,7 +15,7 @@ use Rattle.spi_run.proofs.Once.{takes_once}
 use Rattle.spi_replay.specs.declared.fault.StepFault.{StepFault}
 use Rattle.spi_replay.specs.declared.fault.StepFault.TheVariants.{NoMemory as OutOfMemory}
 use Rattle.spi_replay.specs.Stepping.{Pooled, FirstOutside, outside_here, outside_later, places_named, RefusesPoolStep, no_place, not_ready, too_large, too_many, IsTaken}
-use Rattle.spi_commands.specs.Replays.{Replays, replays_none, replays_step, IsRefusedAt}
+use Rattle.spi_commands.specs.Replays.{ReplaysWithTalks, replays_none, replays_step, IsRefusedAt}
 use Rattle.spi_commands.specs.Ran.{AreTalks}
 
 -- a step is taken in one way
@@ -31,10 +31,10 @@ taken_once {q = q} {r = r} t u =
     (same, same_pool q r next (t.most ∙ sym u.most))
 
 -- and so are steps
-from_same : {p q r : Pooled} {ss : List Step} {es : List Event} {ms : List Message} → p ≡ q → Replays p ss es ms r → Replays q ss es ms r
-from_same {r = r} {ss = ss} {es = es} {ms = ms} e h = subst (λ (p : Pooled). Replays p ss es ms r) e h
+from_same : {p q r : Pooled} {ss : List Step} {es : List Event} {ms : List Message} → p ≡ q → ReplaysWithTalks p ss es ms r → ReplaysWithTalks q ss es ms r
+from_same {r = r} {ss = ss} {es = es} {ms = ms} e h = subst (λ (p : Pooled). ReplaysWithTalks p ss es ms r) e h
 
-pub replays_once : {p q r : Pooled} {ss : List Step} {es fs : List Event} {ms ns : List Message} → Replays p ss es ms q → Replays p ss fs ns r → (es ≡ fs) × (ms ≡ ns) × (q ≡ r)
+pub replays_once : {p q r : Pooled} {ss : List Step} {es fs : List Event} {ms ns : List Message} → ReplaysWithTalks p ss es ms q → ReplaysWithTalks p ss fs ns r → (es ≡ fs) × (ms ≡ ns) × (q ≡ r)
 replays_once replays_none replays_none = (refl, refl, refl)
 replays_once {p} (replays_step {s = s} {e = e} {es = es} t h) (replays_step {e = f} {es = fs} u k) =
     let (same, next) = taken_once t u in
@@ -45,7 +45,7 @@ replays_once {p} (replays_step {s = s} {e = e} {es = es} t h) (replays_step {e =
     )
 
 -- a replay takes each of its steps
-step_taken : {p q r : Pooled} {early : List Step} {es fs : List Event} {ms ns : List Message} (late : List Step) (s : Step) → Replays p early fs ns q → Replays p (early ++ s ∷ late) es ms r → (e : Option Event) × (next : Pooled) × IsTaken q s e next
+step_taken : {p q r : Pooled} {early : List Step} {es fs : List Event} {ms ns : List Message} (late : List Step) (s : Step) → ReplaysWithTalks p early fs ns q → ReplaysWithTalks p (early ++ s ∷ late) es ms r → (e : Option Event) × (next : Pooled) × IsTaken q s e next
 step_taken late s replays_none (replays_step {q = next} {e = e} t h) = (e, next, t)
 step_taken late s (replays_step t h) (replays_step u k) =
     let (same, next) = taken_once t u in
@@ -78,26 +78,26 @@ taken_never {q = q} t (too_many {d = d} takes small many) =
     let each : length q.configuration.places ≡ length d.places = ap (λ (c : Configuration). length c.places) next in
     omega (arith, few, many, each)
 
-pub never_refused : {p r : Pooled} {ss : List Step} {es : List Event} {ms : List Message} {i : ℕ} {f : StepFault} → Replays p ss es ms r → IsRefusedAt p ss i f → ⊥
+pub never_refused : {p r : Pooled} {ss : List Step} {es : List Event} {ms : List Message} {i : ℕ} {f : StepFault} → ReplaysWithTalks p ss es ms r → IsRefusedAt p ss i f → ⊥
 never_refused {p} {r} {es = es} {ms = ms} h at =
-    let whole : Replays p (at.early ++ at.step ∷ at.late) es ms r = subst (λ (l : List Step). Replays p l es ms r) at.split h in
+    let whole : ReplaysWithTalks p (at.early ++ at.step ∷ at.late) es ms r = subst (λ (l : List Step). ReplaysWithTalks p l es ms r) at.split h in
     let (e, next, taken) = step_taken at.late at.step at.replays whole in
     taken_never taken at.refuses
 
 -- a replay is a run, in which its data are handed over
-pub runs_of : {p q : Pooled} {ss : List Step} {es : List Event} {ms : List Message} → Replays p ss es ms q → Runs p.configuration ss es q.configuration
+pub runs_of : {p q : Pooled} {ss : List Step} {es : List Event} {ms : List Message} → ReplaysWithTalks p ss es ms q → Runs p.configuration ss es q.configuration
 runs_of replays_none = runs_none
 runs_of (replays_step {e = None} t h) = runs_silent t.takes (runs_of h)
 runs_of (replays_step {e = Some event} t h) = runs_event t.takes (runs_of h)
 
-pub handed_over : {p q : Pooled} {ss : List Step} {es : List Event} {ms : List Message} (r : Replays p ss es ms q) → handed_in (runs_of r) ≡ ms
+pub handed_over : {p q : Pooled} {ss : List Step} {es : List Event} {ms : List Message} (r : ReplaysWithTalks p ss es ms q) → handed_in (runs_of r) ≡ ms
 unfolding runs_of
 handed_over replays_none = refl
 handed_over {p} (replays_step {s = s} {e = None} t h) = ap (λ (l : List Message). handed p.configuration s ++ l) (handed_over h)
 handed_over {p} (replays_step {s = s} {e = Some event} t h) = ap (λ (l : List Message). handed p.configuration s ++ l) (handed_over h)
 
 -- and it has at most one event for each step
-pub few_events : {p q : Pooled} {ss : List Step} {es : List Event} {ms : List Message} → Replays p ss es ms q → length es ≤ length ss
+pub few_events : {p q : Pooled} {ss : List Step} {es : List Event} {ms : List Message} → ReplaysWithTalks p ss es ms q → length es ≤ length ss
 few_events replays_none = omega arith
 few_events (replays_step {e = None} t h) = let few = few_events h in omega (arith, few)
 few_events (replays_step {e = Some event} t h) = let few = few_events h in omega (arith, few)
@@ -122,12 +122,12 @@ takes_names (takes_act a x) = acts_names x
 takes_names (takes_talk a b x) = omega arith
 
 -- a step more
-pub append_step : {p q r : Pooled} {ss : List Step} {es : List Event} {ms : List Message} {s : Step} {e : Option Event} → Replays p ss es ms q → IsTaken q s e r
-    → Replays p (ss ++ s ∷ []) (es ++ option_to_list e) (ms ++ handed q.configuration s) r
+pub append_step : {p q r : Pooled} {ss : List Step} {es : List Event} {ms : List Message} {s : Step} {e : Option Event} → ReplaysWithTalks p ss es ms q → IsTaken q s e r
+    → ReplaysWithTalks p (ss ++ s ∷ []) (es ++ option_to_list e) (ms ++ handed q.configuration s) r
 append_step {p} {r = r} {s = s} {e = e} replays_none t =
-    subst₂ (λ (l : List Event) (ms : List Message). Replays p (s ∷ []) l ms r) (append-nil (option_to_list e)) (append-nil (handed p.configuration s)) (replays_step t replays_none)
+    subst₂ (λ (l : List Event) (ms : List Message). ReplaysWithTalks p (s ∷ []) l ms r) (append-nil (option_to_list e)) (append-nil (handed p.configuration s)) (replays_step t replays_none)
 append_step {p} {q} {r = r} {s = s} {e = e} (replays_step {s = first} {e = shown} {ss = ss} {es = es} {ms = ms} u h) t =
-    subst₂ (λ (l : List Event) (ns : List Message). Replays p (first ∷ (ss ++ s ∷ [])) l ns r) (sym (append_assoc (option_to_list shown) es (option_to_list e)))
+    subst₂ (λ (l : List Event) (ns : List Message). ReplaysWithTalks p (first ∷ (ss ++ s ∷ [])) l ns r) (sym (append_assoc (option_to_list shown) es (option_to_list e)))
     (sym (append_assoc (handed p.configuration first) ms (handed q.configuration s))) (replays_step u (append_step h t))
 
 -- the first i of a schedule, and the step behind them
@@ -155,49 +155,49 @@ unfolding before
 before_all i steps h = ap (λ (l : List program.Step). map step_of l) (take_all i steps h)
 
 -- how far a replay has come
-pub record Came (first : Pooled) (i : ℕ) (steps : List program.Step) (events : List declared.Event) (talks : Talks) (keeps : Bool) (now : Pooled) : Type 0 where
+pub record ReplayCame (first : Pooled) (i : ℕ) (steps : List program.Step) (events : List declared.Event) (talks : Talks) (keeps : Bool) (now : Pooled) : Type 0 where
   pub said : List Message
-  pub replays : Replays first (before i steps) (map event_of events) said now
+  pub replays : ReplaysWithTalks first (before i steps) (map event_of events) said now
   pub kept : keeps ≡ true → AreTalks said talks
   pub room : talks.nodes ≤ 1000 * i
   pub names : now.configuration.names ≤ first.configuration.names + i
 
-pub came_none : (first : Pooled) (steps : List program.Step) (events : List declared.Event) (talks : Talks) (keeps : Bool) → events ≡ [] → talks.nodes ≡ 0 → talks.data.items ≡ [] → Came first 0 steps events talks keeps first
+pub came_none : (first : Pooled) (steps : List program.Step) (events : List declared.Event) (talks : Talks) (keeps : Bool) → events ≡ [] → talks.nodes ≡ 0 → talks.data.items ≡ [] → ReplayCame first 0 steps events talks keeps first
 unfolding before
 came_none first steps events talks keeps none nothing empty = record {
   said = [];
-  replays = subst (λ (es : List declared.Event). Replays first [] (map event_of es) [] first) (sym none) replays_none;
+  replays = subst (λ (es : List declared.Event). ReplaysWithTalks first [] (map event_of es) [] first) (sym none) replays_none;
   kept = λ k. (nothing, λ few. ap (map message) empty);
   room = omega (arith, nothing);
   names = omega arith;
 }
 
-pub came_on : (first now next : Pooled) (i : ℕ) (steps : List program.Step) (events more : List declared.Event) (talks later : Talks) (keeps : Bool) (s d : program.Step) → i < length steps → s ≡ get_or steps i d → Came first i steps events talks keeps now
+pub came_on : (first now next : Pooled) (i : ℕ) (steps : List program.Step) (events more : List declared.Event) (talks later : Talks) (keeps : Bool) (s d : program.Step) → i < length steps → s ≡ get_or steps i d → ReplayCame first i steps events talks keeps now
     → (e : Option Event) × IsTaken now (step_of s) e next × (map event_of more ≡ map event_of events ++ option_to_list e)
     → ((ms : List Message) → keeps ≡ true → AreTalks ms talks → AreTalks (ms ++ handed now.configuration (step_of s)) later) → later.nodes ≤ talks.nodes + 1000
-    → Came first (i + 1) steps more later keeps next
+    → ReplayCame first (i + 1) steps more later keeps next
 came_on first now next i steps events more talks later keeps s d h is came (e, t, shown) kept room =
     let one : suc i ≡ i + 1 = omega arith in
     let step : before i steps ++ step_of s ∷ [] ≡ before (i + 1) steps = ap (λ (x : program.Step). before i steps ++ step_of x ∷ []) is ∙ sym (before_more i steps d h) ∙ ap (λ (j : ℕ). before j steps) one in
     let ms : List Message = came.said ++ handed now.configuration (step_of s) in
-    let whole : Replays first (before i steps ++ step_of s ∷ []) (map event_of events ++ option_to_list e) ms next = append_step came.replays t in
+    let whole : ReplaysWithTalks first (before i steps ++ step_of s ∷ []) (map event_of events ++ option_to_list e) ms next = append_step came.replays t in
     let few = takes_names t.takes in
     let less = came.names in
     let so_far = came.room in
     record {
       said = ms;
-      replays = subst₂ (λ (l : List Step) (es : List Event). Replays first l es ms next) step (sym shown) whole;
+      replays = subst₂ (λ (l : List Step) (es : List Event). ReplaysWithTalks first l es ms next) step (sym shown) whole;
       kept = λ k. kept came.said k (came.kept k);
       room = omega (arith, room, so_far);
       names = omega (arith, few, less);
     }
 
-pub came_all : (first now : Pooled) (i : ℕ) (steps : List program.Step) (events : List declared.Event) (talks : Talks) (keeps : Bool) (names : ℕ) → length steps ≤ i → Came first i steps events talks keeps now → names ≡ now.configuration.names
-    → (ms : List Message) × Replays first (map step_of steps) (map event_of events) ms now × (keeps ≡ true → AreTalks ms talks) × (names ≡ now.configuration.names)
+pub came_all : (first now : Pooled) (i : ℕ) (steps : List program.Step) (events : List declared.Event) (talks : Talks) (keeps : Bool) (names : ℕ) → length steps ≤ i → ReplayCame first i steps events talks keeps now → names ≡ now.configuration.names
+    → (ms : List Message) × ReplaysWithTalks first (map step_of steps) (map event_of events) ms now × (keeps ≡ true → AreTalks ms talks) × (names ≡ now.configuration.names)
 came_all first now i steps events talks keeps names h came same =
-    (came.said, subst (λ (l : List Step). Replays first l (map event_of events) came.said now) (before_all i steps h) came.replays, came.kept, same)
+    (came.said, subst (λ (l : List Step). ReplaysWithTalks first l (map event_of events) came.said now) (before_all i steps h) came.replays, came.kept, same)
 
-pub stops_at : (first now : Pooled) (i : ℕ) (steps : List program.Step) (events : List declared.Event) (talks : Talks) (keeps : Bool) (s d : program.Step) (fault : StepFault) → i < length steps → s ≡ get_or steps i d → Came first i steps events talks keeps now → (fault ≡ OutOfMemory) ⊎ RefusesPoolStep now.configuration now.most (step_of s) fault → (fault ≡ OutOfMemory) ⊎ IsRefusedAt first (map step_of steps) i fault
+pub stops_at : (first now : Pooled) (i : ℕ) (steps : List program.Step) (events : List declared.Event) (talks : Talks) (keeps : Bool) (s d : program.Step) (fault : StepFault) → i < length steps → s ≡ get_or steps i d → ReplayCame first i steps events talks keeps now → (fault ≡ OutOfMemory) ⊎ RefusesPoolStep now.configuration now.most (step_of s) fault → (fault ≡ OutOfMemory) ⊎ IsRefusedAt first (map step_of steps) i fault
 stops_at first now i steps events talks keeps s d fault h is came (inl none) = inl none
 stops_at first now i steps events talks keeps s d fault h is came (inr refuses) = inr (record {
   early = before i steps;

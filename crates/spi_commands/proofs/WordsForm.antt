@@ -17,9 +17,9 @@ use Rattle.clap.proofs.WalkLemmas.{walk_stopped}
 use Rattle.clap.proofs.OnLiterals.{clap_on_literals}
 use Rattle.spi_commands.specs.declared.asked.Command.{Command}
 use Rattle.spi_commands.specs.Number.{number_below}
-use Rattle.spi_commands.specs.Asked.{Numbered, asked, at_least, number_table, row_of, with_number, word_table}
+use Rattle.spi_commands.specs.Asked.{NumberedCommands, asked, at_least, number_table, row_of, with_number, word_table}
 use Rattle.spi_commands.specs.Options.{found, has_dashes, read, whole, with_count, words_of}
-use Rattle.spi_commands.proofs.WordsKinds.{IsDashed, IsPlain, dashed_or_plain}
+use Rattle.spi_commands.proofs.WordsKinds.{IsDashed, IsPlainValue, dashed_or_plain}
 use Rattle.spi_commands.proofs.WordsLevels.{after, answer, dashed_turn, goes, plain_turn, plain_walked, standing, stops}
 use Rattle.spi_commands.proofs.WordsTables.{at_word, both, found_row, no_row}
 use Rattle.spi_commands.proofs.WordsPlay.{built_shape, play_read, rules, shape as play_shape}
@@ -37,7 +37,7 @@ module _ (name : Text) (r : List Row → Option Command) where
       d : bytes_eq word (codes "--") ≡ false
       d = (or_parts (bytes_eq word (codes "--")) (has_dashes rest) h).0
 
-      by : IsDashed [] word ⊎ IsPlain [] word → None ≡ after (built_shape name []) r (standing idle 1 [] None) (word ∷ rest)
+      by : IsDashed [] word ⊎ IsPlainValue [] word → None ≡ after (built_shape name []) r (standing idle 1 [] None) (word ∷ rest)
       by (inl k) = stops (built_shape name []) r (standing idle 1 [] None) word rest UnknownArgument [] (dashed_turn (built_shape name []) [] idle 1 [] None word refl d k)
       by (inr k) = stops (built_shape name []) r (standing idle 1 [] None) word rest UnknownArgument [] (plain_turn (built_shape name []) [] idle 1 [] None word refl d k)
 
@@ -52,7 +52,7 @@ count_rule = record (new_rule (codes "count")) {
   range = Some (record { start_inclusive = 1; end_inclusive = 1 });
 }
 
-module _ (name : Text) (form : Numbered) where
+module _ (name : Text) (form : NumberedCommands) where
   abbrev pub count_shape : Shape
   count_shape = built_shape name (count_rule ∷ [])
 
@@ -73,17 +73,17 @@ module _ (name : Text) (form : Numbered) where
   no_number : (word : Text) → number_below (form.most + 1) word ≡ None → at_least form (number_below (form.most + 1) word) ≡ None
   no_number word h = ap (at_least form) h
 
-  abbrev count_kind : (word : Text) → IsDashed (count_rule ∷ []) word ⊎ IsPlain (count_rule ∷ []) word
+  abbrev count_kind : (word : Text) → IsDashed (count_rule ∷ []) word ⊎ IsPlainValue (count_rule ∷ []) word
   count_kind word = dashed_or_plain (count_rule ∷ []) word (λ x. refl) (λ p e. refl)
 
   two_counts : (word next : Text) (rest : List Text) → bytes_eq next (codes "--") ≡ false → None ≡ after count_shape count_in (counted word) (next ∷ rest)
   two_counts word next rest d = by (count_kind next)
     where
-      by : IsDashed (count_rule ∷ []) next ⊎ IsPlain (count_rule ∷ []) next → None ≡ after count_shape count_in (counted word) (next ∷ rest)
+      by : IsDashed (count_rule ∷ []) next ⊎ IsPlainValue (count_rule ∷ []) next → None ≡ after count_shape count_in (counted word) (next ∷ rest)
       by (inl k) = stops count_shape count_in (counted word) next rest UnknownArgument [] (dashed_turn count_shape [] idle 2 [] (Some (codes "count", word ∷ [])) next refl d k)
       by (inr k) = stops count_shape count_in (counted word) next rest UnknownArgument [] (plain_turn count_shape [] idle 2 [] (Some (codes "count", word ∷ [])) next refl d k)
 
-  plain_count : (word : Text) (rest : List Text) → bytes_eq word (codes "--") ≡ false → IsPlain (count_rule ∷ []) word
+  plain_count : (word : Text) (rest : List Text) → bytes_eq word (codes "--") ≡ false → IsPlainValue (count_rule ∷ []) word
       → after count_shape count_in (standing idle 1 [] None) (word ∷ rest) ≡ after count_shape count_in (counted word) rest
   plain_count word rest d k = goes count_shape count_in (standing idle 1 [] None) (counted word) word rest
       (plain_turn count_shape [] idle 1 [] None word refl d k) (plain_walked count_shape [] idle 1 [] None word refl d k)
@@ -99,7 +99,7 @@ module _ (name : Text) (form : Numbered) where
       d : bytes_eq word (codes "--") ≡ false
       d = (or_parts (bytes_eq word (codes "--")) false h).0
 
-      by : IsDashed (count_rule ∷ []) word ⊎ IsPlain (count_rule ∷ []) word → after count_shape count_in (standing idle 1 [] None) (word ∷ []) ≡ at_least form (number_below (form.most + 1) word)
+      by : IsDashed (count_rule ∷ []) word ⊎ IsPlainValue (count_rule ∷ []) word → after count_shape count_in (standing idle 1 [] None) (word ∷ []) ≡ at_least form (number_below (form.most + 1) word)
       by (inl k) = sym (dashed_count word [] d k) ∙ sym (no_number word (k.number (form.most + 1)))
       by (inr k) = plain_count word [] d k ∙ one_count word
   count_read (word ∷ next ∷ rest) h = by (count_kind word)
@@ -107,7 +107,7 @@ module _ (name : Text) (form : Numbered) where
       d : (bytes_eq word (codes "--") ≡ false) × (has_dashes (next ∷ rest) ≡ false)
       d = or_parts (bytes_eq word (codes "--")) (has_dashes (next ∷ rest)) h
 
-      by : IsDashed (count_rule ∷ []) word ⊎ IsPlain (count_rule ∷ []) word → after count_shape count_in (standing idle 1 [] None) (word ∷ next ∷ rest) ≡ None
+      by : IsDashed (count_rule ∷ []) word ⊎ IsPlainValue (count_rule ∷ []) word → after count_shape count_in (standing idle 1 [] None) (word ∷ next ∷ rest) ≡ None
       by (inl k) = sym (dashed_count word (next ∷ rest) d.0 k)
       by (inr k) = plain_count word (next ∷ rest) d.0 k ∙ sym (two_counts word next rest (or_parts (bytes_eq next (codes "--")) (has_dashes rest) d.1).0)
 
@@ -257,7 +257,7 @@ module _ (word : Text) (players : ℕ) (none : row_of word word_table ≡ None) 
   behind : form_of word ≡ find (λ s. answers_to word (label_of s)) counted_shapes
   behind = no_row [] word word_table (play_shape ∷ counted_shapes) none ∙ rw (flip word (codes "play") differs) refl
 
-  number_told : (form : Numbered) → row_of word number_table ≡ Some form → (rest : List Text) → has_dashes rest ≡ false → told_of (word ∷ rest) players ≡ asked (word ∷ rest) players
+  number_told : (form : NumberedCommands) → row_of word number_table ≡ Some form → (rest : List Text) → has_dashes rest ≡ false → told_of (word ∷ rest) players ≡ asked (word ∷ rest) players
   number_told form is rest h =
       enters word (count_rule ∷ []) rest players (behind ∙ found_row (count_rule ∷ []) word number_table [] form is)
       ∙ (λ i. after (count_shape word form) (λ rs. reads rs i) (standing idle 1 [] None) rest) ∙ count_read word form rest h ∙ sym (asks rest)
@@ -284,7 +284,7 @@ module _ (word : Text) (players : ℕ) (none : row_of word word_table ≡ None) 
         two : bytes_eq word (codes "--") ≡ false
         two = (or_parts (bytes_eq word (codes "--")) (has_dashes rest) h).0
 
-        by : IsDashed [] word ⊎ IsPlain [] word → told_of (word ∷ rest) players ≡ None
+        by : IsDashed [] word ⊎ IsPlainValue [] word → told_of (word ∷ rest) players ≡ None
         by (inl k) = told_fails (turn_fault top names (walk_from nothing_held) word) UnknownArgument [] (walk_fault top names (walked [] names (walk_from nothing_held) word) rest) (fold (walked [] names) (walked [] names (walk_from nothing_held) word) rest) (dashed_turn top names idle 1 [] None word no_name two k)
         by (inr k) = told_fails (turn_fault top names (walk_from nothing_held) word) UnknownArgument (InvalidSubcommand ∷ []) (walk_fault top names (walked [] names (walk_from nothing_held) word) rest) (fold (walked [] names) (walked [] names (walk_from nothing_held) word) rest) (plain_turn top names idle 1 [] None word no_name two k)
 
@@ -299,21 +299,21 @@ unfolding clap_on_literals
 nothing_told players = refl
 
 module _ (players : ℕ) (word : Text) (rest : List Text) (h : has_dashes (word ∷ rest) ≡ false) where
-  abbrev IsTold : Type 0
-  IsTold = told_of (word ∷ rest) players ≡ asked (word ∷ rest) players
+  abbrev IsFormTold : Type 0
+  IsFormTold = told_of (word ∷ rest) players ≡ asked (word ∷ rest) players
 
   behind_none : has_dashes rest ≡ false
   behind_none = (or_parts (bytes_eq word (codes "--")) (has_dashes rest) h).1
 
-  by_number : row_of word word_table ≡ None → bytes_eq word (codes "play") ≡ false → (o : Option Numbered) → row_of word number_table ≡ o → IsTold
+  by_number : row_of word word_table ≡ None → bytes_eq word (codes "play") ≡ false → (o : Option NumberedCommands) → row_of word number_table ≡ o → IsFormTold
   by_number none differs None is = unknown_told word players none differs is rest h ∙ sym (unknown_asked word players none differs is rest rest)
   by_number none differs (Some form) is = number_told word players none differs form is rest behind_none
 
-  by_play : row_of word word_table ≡ None → (b : Bool) → bytes_eq word (codes "play") ≡ b → IsTold
+  by_play : row_of word word_table ≡ None → (b : Bool) → bytes_eq word (codes "play") ≡ b → IsFormTold
   by_play none true is = subst (λ w. told_of (w ∷ rest) players ≡ asked (w ∷ rest) players) (sym ((bytes_eq-Decides _ _).0 is)) (play_told rest players behind_none)
   by_play none false is = by_number none is (row_of word number_table) refl
 
-  by_word : (o : Option Command) → row_of word word_table ≡ o → IsTold
+  by_word : (o : Option Command) → row_of word word_table ≡ o → IsFormTold
   by_word None is = by_play is (bytes_eq word (codes "play")) refl
   by_word (Some command) is = word_told word players command is rest behind_none
 

@@ -9,7 +9,7 @@ use Rattle.clap.specs.declared.error.kind.ErrorKind.{ErrorKind}
 use Rattle.clap.specs.declared.error.kind.ErrorKind.TheVariants.{OutOfMemory}
 use Rattle.clap.proofs.WalkLemmas.{first_value-rows}
 use Rattle.spi_commands.specs.declared.asked.Command.{Command}
-use Rattle.spi_commands.specs.Asked.{Numbered, asked, number_table, row_of, word_table}
+use Rattle.spi_commands.specs.Asked.{NumberedCommands, asked, number_table, row_of, word_table}
 use Rattle.spi_commands.specs.Options.{found, has_dashes, read, whole, with_count, with_values}
 use Rattle.spi_commands.proofs.WordsForm.{all_told, told, whole_free, whole_simple}
 
@@ -38,7 +38,7 @@ play_found m inner name steps player r players e h is n k value =
     value ∙ (λ i. with_values ((n ∙ first_value-rows (found_of inner) (codes "steps")) i) ((k ∙ first_value-rows (found_of inner) (codes "player")) i) players)
     ∙ ap (λ t. found t (rows_of (found_of inner)) players) (sym is) ∙ by_parts (subcommand_rows_of m) name (rows_of (found_of inner)) players (e ∙ names_are m) h
 
-pub number_found : (m inner : ArgMatches) (name : Text) (form : Numbered) (count : Option Text) (r : Option Command) (players : ℕ) → Some name ≡ subcommand_name_of m
+pub number_found : (m inner : ArgMatches) (name : Text) (form : NumberedCommands) (count : Option Text) (r : Option Command) (players : ℕ) → Some name ≡ subcommand_name_of m
     → Some (rows_of (found_of inner)) ≡ option_map (λ p. p.1) (subcommand_rows_of m) → bytes_eq name (codes "play") ≡ false
     → row_of name number_table ≡ Some form
     → count ≡ first_value (found_of inner) (codes "count") → r ≡ with_count form count → r ≡ read (subcommand_rows_of m) players

@@ -106,13 +106,13 @@ pub record IsDashed (c : List Rule) (word : Text) : Type 0 where
   pub number : (most : ℕ) → number_below most word ≡ None
 
 -- clap takes it as a value
-pub record IsPlain (c : List Rule) (word : Text) : Type 0 where
+pub record IsPlainValue (c : List Rule) (word : Text) : Type 0 where
   pub passes : (again : Bool) (rows : List Row) (pending : Option (Text × List Text)) → flag_word_fault c again (long_of word) word (hold rows pending) ≡ []
   pub value : (waiting : Waiting) (rows : List Row) (pending : Option (Text × List Text))
       → long_or_other c waiting word (long_of word) (hold rows pending) ≡ plain_word c waiting word (hold rows pending)
 
 module _ (c : List Rule) (word : Text) (short : (x : ℕ) → arg_by_short c x ≡ None) where
-  flags_fail : (flags : Text) (o : Option ℕ) → slice_get (chars flags) 0 ≡ o → long_of word ≡ None → short_of word ≡ Some flags → IsDashed c word ⊎ IsPlain c word
+  flags_fail : (flags : Text) (o : Option ℕ) → slice_get (chars flags) 0 ≡ o → long_of word ≡ None → short_of word ≡ Some flags → IsDashed c word ⊎ IsPlainValue c word
   unfolding clap_on_literals
   flags_fail [] o is long e = inr (record {
     passes = λ again rows pending. rw (long, e) refl;
@@ -127,19 +127,19 @@ module _ (c : List Rule) (word : Text) (short : (x : ℕ) → arg_by_short c x �
     number = no_number word (y ∷ ys) (short_word_is word (y ∷ ys) e);
   })
 
-  by_short : (o : Option Text) → long_of word ≡ None → short_of word ≡ o → IsDashed c word ⊎ IsPlain c word
+  by_short : (o : Option Text) → long_of word ≡ None → short_of word ≡ o → IsDashed c word ⊎ IsPlainValue c word
   by_short None long e = inr (record {
     passes = λ again rows pending. rw (long, e) refl;
     value = λ waiting rows pending. rw (long, e) refl;
   })
   by_short (Some flags) long e = flags_fail flags (slice_get (chars flags) 0) refl long e
 
-  by_long : (o : Option (Text × Option Text)) → long_of word ≡ o → ((p : Text × Option Text) → o ≡ Some p → arg_by_long c p.0 ≡ None) → IsDashed c word ⊎ IsPlain c word
+  by_long : (o : Option (Text × Option Text)) → long_of word ≡ o → ((p : Text × Option Text) → o ≡ Some p → arg_by_long c p.0 ≡ None) → IsDashed c word ⊎ IsPlainValue c word
   by_long None e none = by_short (short_of word) e refl
   by_long (Some p) e none = inl (record {
     fails = λ again rows pending. rw (e, none p refl) refl;
     number = no_number word (45 ∷ (p.0 ++ behind p.1)) (long_word_is word p e);
   })
 
-  pub dashed_or_plain : ((p : Text × Option Text) → long_of word ≡ Some p → arg_by_long c p.0 ≡ None) → IsDashed c word ⊎ IsPlain c word
+  pub dashed_or_plain : ((p : Text × Option Text) → long_of word ≡ Some p → arg_by_long c p.0 ≡ None) → IsDashed c word ⊎ IsPlainValue c word
   dashed_or_plain = by_long (long_of word) refl

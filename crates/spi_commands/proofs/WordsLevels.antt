@@ -12,7 +12,7 @@ use Rattle.clap.specs.declared.error.kind.ErrorKind.{ErrorKind}
 use Rattle.clap.specs.declared.error.kind.ErrorKind.TheVariants.{UnknownArgument}
 use Rattle.clap.proofs.OnLiterals.{clap_on_literals}
 use Rattle.spi_commands.specs.declared.asked.Command.{Command}
-use Rattle.spi_commands.proofs.WordsKinds.{IsDashed, IsPlain, hold}
+use Rattle.spi_commands.proofs.WordsKinds.{IsDashed, IsPlainValue, hold}
 
 -- what is read of the rows, where there is no fault
 abbrev pub answer : (List Row → Option Command) → Kinds → List Row → Option Command
@@ -68,13 +68,13 @@ module _ (s : Shape) (names : Names) (waiting : Waiting) (position : ℕ) (rows 
       ap (λ o. or_else (Rattle.clap.specs.Faults.other_fault s o word (hold rows pending)) (step_fault s position met.0 met.1)) free
       ∙ refused_kinds (bytes_eq word (codes "--")) _ _ differs (h.fails s.args_override_self rows pending)
 
-  pub plain_met : IsPlain s.rules word → Rattle.clap.specs.Walk.word_met s.rules names false waiting position word (hold rows pending) ≡ plain_word s.rules waiting word (hold rows pending)
+  pub plain_met : IsPlainValue s.rules word → Rattle.clap.specs.Walk.word_met s.rules names false waiting position word (hold rows pending) ≡ plain_word s.rules waiting word (hold rows pending)
   plain_met h =
       ap (λ o. Rattle.clap.specs.Walk.subcommand_or_other s.rules o waiting position word (hold rows pending)) free
       ∙ ap (λ b. cond b (hold rows pending, trailing position) (long_or_other s.rules waiting word (long_of word) (hold rows pending))) differs
       ∙ h.value waiting rows pending
 
-  pub plain_turn : IsPlain s.rules word → turn_fault s names (standing waiting position rows pending) word
+  pub plain_turn : IsPlainValue s.rules word → turn_fault s names (standing waiting position rows pending) word
       ≡ step_fault s position (plain_word s.rules waiting word (hold rows pending)).0 (plain_word s.rules waiting word (hold rows pending)).1
   plain_turn h =
       let quiet : Rattle.clap.specs.Faults.word_fault s names false waiting word (hold rows pending) ≡ [] =
@@ -82,7 +82,7 @@ module _ (s : Shape) (names : Names) (waiting : Waiting) (position : ℕ) (rows 
       ∙ passed_kinds (bytes_eq word (codes "--")) _ differs (h.passes s.args_override_self rows pending) in
       ap₂ (λ (k : Kinds) (m : Held × Step). or_else k (step_fault s position m.0 m.1)) quiet (plain_met h)
 
-  pub plain_walked : IsPlain s.rules word → walked s.rules names (standing waiting position rows pending) word
+  pub plain_walked : IsPlainValue s.rules word → walked s.rules names (standing waiting position rows pending) word
       ≡ after_step s.rules word (standing waiting position rows pending) (plain_word s.rules waiting word (hold rows pending)).0 (plain_word s.rules waiting word (hold rows pending)).1
   unfolding walked
   plain_walked h = ap (λ (m : Held × Step). after_step s.rules word (standing waiting position rows pending) m.0 m.1) (plain_met h)

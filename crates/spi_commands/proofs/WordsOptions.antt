@@ -25,22 +25,22 @@ joined_word steps v = codes "--steps=" ++ v
 joined_word player v = codes "--player=" ++ v
 
 -- the options that were seen, in order
-pub data Seen : Type 0 where
-  none : Seen
-  one : Which → Text → Seen
-  two : Which → Text → Text → Seen
+pub data SeenOptions : Type 0 where
+  none : SeenOptions
+  one : Which → Text → SeenOptions
+  two : Which → Text → Text → SeenOptions
 
 abbrev pub other : Which → Which
 other steps = player
 other player = steps
 
-abbrev pub pieces_of : Seen → List Text
+abbrev pub pieces_of : SeenOptions → List Text
 pieces_of none = []
 pieces_of (one x v) = bare_word x ∷ v ∷ []
 pieces_of (two x v w) = bare_word x ∷ v ∷ bare_word (other x) ∷ w ∷ []
 
 -- one more, which may not be there yet
-abbrev pub more : Seen → Which → Text → Option Seen
+abbrev pub more : SeenOptions → Which → Text → Option SeenOptions
 more none x v = Some (one x v)
 more (one steps u) steps v = None
 more (one steps u) player v = Some (two steps u v)
@@ -48,11 +48,11 @@ more (one player u) steps v = Some (two player u v)
 more (one player u) player v = None
 more (two x u w) y v = None
 
-abbrev pub wants : Option Seen → List Text → ℕ → Option Command
+abbrev pub wants : Option SeenOptions → List Text → ℕ → Option Command
 wants None ps players = None
 wants (Some s) ps players = with_options (pieces_of s ++ ps) players
 
-pub one_use : (s : Seen) (x : Which) (v : Text) (ps : List Text) (players : ℕ) → wants (more s x v) ps players ≡ with_options (pieces_of s ++ bare_word x ∷ v ∷ ps) players
+pub one_use : (s : SeenOptions) (x : Which) (v : Text) (ps : List Text) (players : ℕ) → wants (more s x v) ps players ≡ with_options (pieces_of s ++ bare_word x ∷ v ∷ ps) players
 one_use none x v ps players = refl
 one_use (one steps u) player v ps players = refl
 one_use (one player u) steps v ps players = refl
@@ -66,7 +66,7 @@ one_use (two player u w) steps v ps players = refl
 one_use (two player u w) player v ps players = refl
 
 -- an option with nothing behind it
-pub no_value : (s : Seen) (x : Which) (players : ℕ) → None ≡ with_options (pieces_of s ++ bare_word x ∷ []) players
+pub no_value : (s : SeenOptions) (x : Which) (players : ℕ) → None ≡ with_options (pieces_of s ++ bare_word x ∷ []) players
 no_value none x players = refl
 no_value (one y u) x players = refl
 no_value (two y u w) x players = refl
@@ -89,7 +89,7 @@ either true o e = e
 either false o e = refl
 
 -- an option with a value that is no number
-pub bad_value : (s : Seen) (x : Which) (w : Text) (ps : List Text) (players : ℕ) → ((most : ℕ) → number_below most w ≡ None) → None ≡ with_options (pieces_of s ++ bare_word x ∷ w ∷ ps) players
+pub bad_value : (s : SeenOptions) (x : Which) (w : Text) (ps : List Text) (players : ℕ) → ((most : ℕ) → number_below most w ≡ None) → None ≡ with_options (pieces_of s ++ bare_word x ∷ w ∷ ps) players
 bad_value none steps w [] players h = none_all (number_below 1001 w) (h 1001)
 bad_value none player w [] players h = refl
 bad_value none x w (b ∷ []) players h = refl
@@ -109,7 +109,7 @@ name_no_number steps most = refl
 name_no_number player most = refl
 
 -- a piece that is no option stands for one
-pub no_option : (s : Seen) (b : Text) (ps : List Text) (players : ℕ) → bytes_eq b (codes "--steps") ≡ false → bytes_eq b (codes "--player") ≡ false
+pub no_option : (s : SeenOptions) (b : Text) (ps : List Text) (players : ℕ) → bytes_eq b (codes "--steps") ≡ false → bytes_eq b (codes "--player") ≡ false
     → None ≡ with_options (pieces_of s ++ b ∷ ps) players
 no_option none b [] players h g = refl
 no_option none b (n ∷ []) players h g = rw (h) refl

@@ -18,8 +18,8 @@ use Rattle.clap.proofs.OnLiterals.{clap_on_literals}
 use Rattle.spi_commands.specs.declared.asked.Command.{Command}
 use Rattle.spi_commands.specs.Asked.{apart, pieces, with_options}
 use Rattle.spi_commands.specs.Options.{has_dashes, with_values}
-use Rattle.spi_commands.proofs.WordsKinds.{IsDashed, IsPlain, behind, dashed_or_plain, hold, long_word_is}
-use Rattle.spi_commands.proofs.WordsOptions.{Which, steps, player, Seen, none, one, two, id_of, bare_word, joined_word, other, pieces_of, more, wants, one_use, no_value, bad_value, name_no_number, no_option}
+use Rattle.spi_commands.proofs.WordsKinds.{IsDashed, IsPlainValue, behind, dashed_or_plain, hold, long_word_is}
+use Rattle.spi_commands.proofs.WordsOptions.{Which, steps, player, SeenOptions, none, one, two, id_of, bare_word, joined_word, other, pieces_of, more, wants, one_use, no_value, bad_value, name_no_number, no_option}
 use Rattle.spi_commands.proofs.WordsLevels.{after, answer, dashed_turn, goes, plain_turn, plain_walked, standing, stops}
 
 -- ---- the command as it is built
@@ -57,7 +57,7 @@ shape = built_shape (codes "play") rules
 abbrev row : Which → Text → Row
 row x v = record { id = id_of x; values = v ∷ []; count = None; source = Some CommandLine; reading = reading_by (rule x) }
 
-abbrev rows : Seen → List Row
+abbrev rows : SeenOptions → List Row
 rows none = []
 rows (one x v) = row x v ∷ []
 rows (two x v w) = row x v ∷ row (other x) w ∷ []
@@ -71,22 +71,22 @@ abbrev pend : Pending → Option (Text × List Text)
 pend nothing = None
 pend (value x v) = Some (id_of x, v ∷ [])
 
-abbrev then : Seen → Pending → Option Seen
+abbrev then : SeenOptions → Pending → Option SeenOptions
 then s nothing = Some s
 then s (value x v) = more s x v
 
-abbrev between : Seen → Pending → Walk
+abbrev between : SeenOptions → Pending → Walk
 between s p = standing idle 1 (rows s) (pend p)
 
 -- an option waits for its value
 abbrev amid : List Row → Which → Walk
 amid rs x = standing (option (id_of x)) 1 rs (Some (id_of x, []))
 
-abbrev UsesSeat : Seen → Which → Text → Option Seen → Type 0
+abbrev UsesSeat : SeenOptions → Which → Text → Option SeenOptions → Type 0
 UsesSeat s x v None = use_fault false (rule x) (v ∷ []) (rows s) ≡ ArgumentConflict ∷ []
 UsesSeat s x v (Some t) = (use_fault false (rule x) (v ∷ []) (rows s) ≡ []) × (used (rule x) (v ∷ []) (rows s) ≡ rows t)
 
-uses : (s : Seen) (x : Which) (v : Text) → UsesSeat s x v (more s x v)
+uses : (s : SeenOptions) (x : Which) (v : Text) → UsesSeat s x v (more s x v)
 uses none steps v = (refl, refl)
 uses none player v = (refl, refl)
 uses (one steps u) steps v = refl
@@ -98,17 +98,17 @@ uses (two steps u w) player v = refl
 uses (two player u w) steps v = refl
 uses (two player u w) player v = refl
 
-abbrev Settles : Seen → Pending → Option Seen → Type 0
-Settles s p None = settle_fault rules false (hold (rows s) (pend p)) ≡ ArgumentConflict ∷ []
-Settles s p (Some t) = (settle_fault rules false (hold (rows s) (pend p)) ≡ []) × ((settled rules (hold (rows s) (pend p))).rows ≡ rows t)
+abbrev SettlesOptions : SeenOptions → Pending → Option SeenOptions → Type 0
+SettlesOptions s p None = settle_fault rules false (hold (rows s) (pend p)) ≡ ArgumentConflict ∷ []
+SettlesOptions s p (Some t) = (settle_fault rules false (hold (rows s) (pend p)) ≡ []) × ((settled rules (hold (rows s) (pend p))).rows ≡ rows t)
 
-as_used : (s : Seen) (x : Which) (v : Text) (o : Option Seen) → UsesSeat s x v o → Settles s (value x v) o
+as_used : (s : SeenOptions) (x : Which) (v : Text) (o : Option SeenOptions) → UsesSeat s x v o → SettlesOptions s (value x v) o
 as_used s steps v None h = h
 as_used s player v None h = h
 as_used s steps v (Some t) h = h
 as_used s player v (Some t) h = h
 
-settles : (s : Seen) (p : Pending) → Settles s p (then s p)
+settles : (s : SeenOptions) (p : Pending) → SettlesOptions s p (then s p)
 settles s nothing = (refl, refl)
 settles s (value x v) = as_used s x v (more s x v) (uses s x v)
 
@@ -151,10 +151,10 @@ joined_amid rs player player v = refl
 
 -- ---- what kind of word it is
 
-pub data Kind (word : Text) : Type 0 where
-  bare : (x : Which) → word ≡ bare_word x → Kind word
-  joined : (x : Which) (v : Text) → word ≡ joined_word x v → Kind word
-  strange : IsDashed rules word ⊎ IsPlain rules word → bytes_eq word (codes "--steps") ≡ false → bytes_eq word (codes "--player") ≡ false → apart word ≡ word ∷ [] → Kind word
+pub data WordKind (word : Text) : Type 0 where
+  bare : (x : Which) → word ≡ bare_word x → WordKind word
+  joined : (x : Which) (v : Text) → word ≡ joined_word x v → WordKind word
+  strange : IsDashed rules word ⊎ IsPlainValue rules word → bytes_eq word (codes "--steps") ≡ false → bytes_eq word (codes "--player") ≡ false → apart word ≡ word ∷ [] → WordKind word
 
 named_steps : (word : Text) (v : Option Text) → bytes_eq (take 8 word) (codes "--steps=") ≡ false → bytes_eq word (codes "--steps") ≡ false
     → word ≡ 45 ∷ 45 ∷ (codes "steps" ++ behind v) → ⊥
@@ -182,11 +182,11 @@ no_long word h g i j p e =
     by : (b c : Bool) → b ≡ false → c ≡ false → cond (b || false) (Some (rule steps)) (cond (c || false) (Some (rule player)) None) ≡ None
     by b c s q = rw (s, q) refl
 
-pub kind_of : (word : Text) → Kind word
+pub kind_of : (word : Text) → WordKind word
 kind_of word = by (bytes_eq (take 8 word) (codes "--steps=")) refl (bytes_eq (take 9 word) (codes "--player=")) refl (bytes_eq word (codes "--steps")) refl (bytes_eq word (codes "--player")) refl
   where
     by : (b : Bool) → bytes_eq (take 8 word) (codes "--steps=") ≡ b → (c : Bool) → bytes_eq (take 9 word) (codes "--player=") ≡ c
-        → (d : Bool) → bytes_eq word (codes "--steps") ≡ d → (f : Bool) → bytes_eq word (codes "--player") ≡ f → Kind word
+        → (d : Bool) → bytes_eq word (codes "--steps") ≡ d → (f : Bool) → bytes_eq word (codes "--player") ≡ f → WordKind word
     by true h c g d i f j = joined steps (drop 8 word) (sym (take-append-drop 8 word) ∙ ap (λ l. l ++ drop 8 word) ((bytes_eq-Decides _ _).0 h))
     by false h true g d i f j = joined player (drop 9 word) (sym (take-append-drop 9 word) ∙ ap (λ l. l ++ drop 9 word) ((bytes_eq-Decides _ _).0 g))
     by false h false g true i f j = bare steps ((bytes_eq-Decides _ _).0 i)
@@ -200,13 +200,13 @@ module _ (players : ℕ) where
   read rs = with_values (first_of (codes "steps") rs) (first_of (codes "player") rs) players
 
   -- between two options, and behind one that waits for its value
-  abbrev Between : List Text → Type 0
-  Between words = has_dashes words ≡ false → (s : Seen) (p : Pending) → after shape read (between s p) words ≡ wants (then s p) (pieces words) players
+  abbrev BetweenOptions : List Text → Type 0
+  BetweenOptions words = has_dashes words ≡ false → (s : SeenOptions) (p : Pending) → after shape read (between s p) words ≡ wants (then s p) (pieces words) players
 
   abbrev Amid : List Text → Type 0
-  Amid words = has_dashes words ≡ false → (s : Seen) (x : Which) → after shape read (amid (rows s) x) words ≡ with_options (pieces_of s ++ bare_word x ∷ pieces words) players
+  Amid words = has_dashes words ≡ false → (s : SeenOptions) (x : Which) → after shape read (amid (rows s) x) words ≡ with_options (pieces_of s ++ bare_word x ∷ pieces words) players
 
-  ends : (s : Seen) → answer read (or_else (defaults_fault (rows s) rules) (check_fault shape (fold with_default (rows s) rules) false)) (fold with_default (rows s) rules) ≡ with_options (pieces_of s ++ []) players
+  ends : (s : SeenOptions) → answer read (or_else (defaults_fault (rows s) rules) (check_fault shape (fold with_default (rows s) rules) false)) (fold with_default (rows s) rules) ≡ with_options (pieces_of s ++ []) players
   unfolding clap_on_literals
   ends none = refl
   ends (one steps v) = refl
@@ -214,11 +214,11 @@ module _ (players : ℕ) where
   ends (two steps v w) = refl
   ends (two player v w) = refl
 
-  between_end : Between []
+  between_end : BetweenOptions []
   unfolding clap_on_literals
   between_end h s p = by (then s p) (settles s p)
     where
-      by : (o : Option Seen) → Settles s p o → after shape read (between s p) [] ≡ wants o [] players
+      by : (o : Option SeenOptions) → SettlesOptions s p o → after shape read (between s p) [] ≡ wants o [] players
       by None e = ap (λ k. answer read (or_else k (or_else (defaults_fault (settled rules (hold (rows s) (pend p))).rows rules)
           (check_fault shape (finished rules (hold (rows s) (pend p))) false))) (finished rules (hold (rows s) (pend p)))) e
       by (Some t) e = ap₂ (λ k rs. answer read (or_else k (or_else (defaults_fault rs rules)
@@ -229,11 +229,11 @@ module _ (players : ℕ) where
   amid_end h s steps = no_value s steps players
   amid_end h s player = no_value s player players
 
-  joined_word_step : (rest : List Text) → Between rest → has_dashes rest ≡ false → (s : Seen) (p : Pending) (x : Which) (v : Text)
+  joined_word_step : (rest : List Text) → BetweenOptions rest → has_dashes rest ≡ false → (s : SeenOptions) (p : Pending) (x : Which) (v : Text)
       → after shape read (between s p) (joined_word x v ∷ rest) ≡ wants (then s p) (bare_word x ∷ v ∷ pieces rest) players
   joined_word_step rest next h s p x v = by (then s p) (settles s p)
     where
-      then_used : (t : Seen) (o : Option Seen) → Settles s p (Some t) → UsesSeat t x v o → after shape read (between s p) (joined_word x v ∷ rest) ≡ wants o (pieces rest) players
+      then_used : (t : SeenOptions) (o : Option SeenOptions) → SettlesOptions s p (Some t) → UsesSeat t x v o → after shape read (between s p) (joined_word x v ∷ rest) ≡ wants o (pieces rest) players
       then_used t None e u = sym (stops shape read (between s p) (joined_word x v) rest ArgumentConflict [] (joined_turn (rows s) (pend p) x v ∙ ap₂ (λ k rs. or_else (or_else k (use_fault false (rule x) (v ∷ []) rs)) []) e.0 e.1 ∙ ap (λ k. or_else k []) u))
       then_used t (Some q) e u =
           goes shape read (between s p) (between q nothing) (joined_word x v) rest
@@ -241,16 +241,16 @@ module _ (players : ℕ) where
           (joined_walked (rows s) (pend p) x v ∙ ap (λ rs. standing idle 1 (used (rule x) (v ∷ []) rs) None) e.1 ∙ ap (λ rs. standing idle 1 rs None) u.1)
           ∙ next h q nothing
 
-      by : (o : Option Seen) → Settles s p o → after shape read (between s p) (joined_word x v ∷ rest) ≡ wants o (bare_word x ∷ v ∷ pieces rest) players
+      by : (o : Option SeenOptions) → SettlesOptions s p o → after shape read (between s p) (joined_word x v ∷ rest) ≡ wants o (bare_word x ∷ v ∷ pieces rest) players
       by None e = sym (stops shape read (between s p) (joined_word x v) rest ArgumentConflict []
           (joined_turn (rows s) (pend p) x v ∙ ap (λ k. or_else (or_else k (use_fault false (rule x) (v ∷ []) (settled rules (hold (rows s) (pend p))).rows)) []) e))
       by (Some t) e = then_used t (more t x v) e (uses t x v) ∙ one_use t x v (pieces rest) players
 
-  bare_word_step : (rest : List Text) → Amid rest → has_dashes rest ≡ false → (s : Seen) (p : Pending) (x : Which)
+  bare_word_step : (rest : List Text) → Amid rest → has_dashes rest ≡ false → (s : SeenOptions) (p : Pending) (x : Which)
       → after shape read (between s p) (bare_word x ∷ rest) ≡ wants (then s p) (bare_word x ∷ pieces rest) players
   bare_word_step rest next h s p x = by (then s p) (settles s p)
     where
-      by : (o : Option Seen) → Settles s p o → after shape read (between s p) (bare_word x ∷ rest) ≡ wants o (bare_word x ∷ pieces rest) players
+      by : (o : Option SeenOptions) → SettlesOptions s p o → after shape read (between s p) (bare_word x ∷ rest) ≡ wants o (bare_word x ∷ pieces rest) players
       by None e = sym (stops shape read (between s p) (bare_word x) rest ArgumentConflict [] (bare_turn (rows s) (pend p) x ∙ ap (λ k. or_else k []) e))
       by (Some t) e =
           goes shape read (between s p) (amid (rows t) x) (bare_word x) rest (bare_turn (rows s) (pend p) x ∙ ap (λ k. or_else k []) e.0)
@@ -258,12 +258,12 @@ module _ (players : ℕ) where
           ∙ next h t x
 
   -- a word that is no option
-  stray : (s : Seen) (p : Pending) (word : Text) (rest : List Text) → bytes_eq word (codes "--") ≡ false → IsDashed rules word ⊎ IsPlain rules word
+  stray : (s : SeenOptions) (p : Pending) (word : Text) (rest : List Text) → bytes_eq word (codes "--") ≡ false → IsDashed rules word ⊎ IsPlainValue rules word
       → None ≡ after shape read (between s p) (word ∷ rest)
   stray s p word rest d (inl h) = stops shape read (between s p) word rest UnknownArgument [] (dashed_turn shape [] idle 1 (rows s) (pend p) word refl d h)
   stray s p word rest d (inr h) = stops shape read (between s p) word rest UnknownArgument [] (plain_turn shape [] idle 1 (rows s) (pend p) word refl d h)
 
-  strange_for : (o : Option Seen) (word : Text) (ps : List Text) → bytes_eq word (codes "--steps") ≡ false → bytes_eq word (codes "--player") ≡ false → None ≡ wants o (word ∷ ps) players
+  strange_for : (o : Option SeenOptions) (word : Text) (ps : List Text) → bytes_eq word (codes "--steps") ≡ false → bytes_eq word (codes "--player") ≡ false → None ≡ wants o (word ∷ ps) players
   strange_for None word ps i j = refl
   strange_for (Some t) word ps i j = no_option t word ps players i j
 
@@ -271,20 +271,20 @@ module _ (players : ℕ) where
   or_parts true c e = absurd (true≢false e)
   or_parts false c e = (refl, e)
 
-  between_step : (word : Text) (rest : List Text) → Between rest → Amid rest → Between (word ∷ rest)
+  between_step : (word : Text) (rest : List Text) → BetweenOptions rest → Amid rest → BetweenOptions (word ∷ rest)
   between_step word rest next waits h s p = by (kind_of word)
     where
       d : (bytes_eq word (codes "--") ≡ false) × (has_dashes rest ≡ false)
       d = or_parts (bytes_eq word (codes "--")) (has_dashes rest) h
 
-      by : Kind word → after shape read (between s p) (word ∷ rest) ≡ wants (then s p) (pieces (word ∷ rest)) players
+      by : WordKind word → after shape read (between s p) (word ∷ rest) ≡ wants (then s p) (pieces (word ∷ rest)) players
       by (bare steps is) = subst (λ w. after shape read (between s p) (w ∷ rest) ≡ wants (then s p) (pieces (w ∷ rest)) players) (sym is) (bare_word_step rest waits d.1 s p steps)
       by (bare player is) = subst (λ w. after shape read (between s p) (w ∷ rest) ≡ wants (then s p) (pieces (w ∷ rest)) players) (sym is) (bare_word_step rest waits d.1 s p player)
       by (joined steps v is) = subst (λ w. after shape read (between s p) (w ∷ rest) ≡ wants (then s p) (pieces (w ∷ rest)) players) (sym is) (joined_word_step rest next d.1 s p steps v)
       by (joined player v is) = subst (λ w. after shape read (between s p) (w ∷ rest) ≡ wants (then s p) (pieces (w ∷ rest)) players) (sym is) (joined_word_step rest next d.1 s p player v)
       by (strange k i j a) = sym (stray s p word rest d.0 k) ∙ strange_for (then s p) word (pieces rest) i j ∙ ap (λ l. wants (then s p) (l ++ pieces rest) players) (sym a)
 
-  amid_plain : (rest : List Text) → Between rest → has_dashes rest ≡ false → (s : Seen) (x : Which) (word : Text) → bytes_eq word (codes "--") ≡ false → IsPlain rules word
+  amid_plain : (rest : List Text) → BetweenOptions rest → has_dashes rest ≡ false → (s : SeenOptions) (x : Which) (word : Text) → bytes_eq word (codes "--") ≡ false → IsPlainValue rules word
       → after shape read (amid (rows s) x) (word ∷ rest) ≡ wants (more s x word) (pieces rest) players
   amid_plain rest next h s steps word d k =
       goes shape read (amid (rows s) steps) (between s (value steps word)) word rest
@@ -297,17 +297,17 @@ module _ (players : ℕ) where
       (plain_walked shape [] (option (id_of player)) 1 (rows s) (Some (id_of player, [])) word refl d k)
       ∙ next h s (value player word)
 
-  amid_dashed : (rest : List Text) (s : Seen) (x : Which) (word : Text) → bytes_eq word (codes "--") ≡ false → IsDashed rules word
+  amid_dashed : (rest : List Text) (s : SeenOptions) (x : Which) (word : Text) → bytes_eq word (codes "--") ≡ false → IsDashed rules word
       → None ≡ after shape read (amid (rows s) x) (word ∷ rest)
   amid_dashed rest s x word d k = stops shape read (amid (rows s) x) word rest UnknownArgument [] (dashed_turn shape [] (option (id_of x)) 1 (rows s) (Some (id_of x, [])) word refl d k)
 
-  amid_step : (word : Text) (rest : List Text) → Between rest → Amid (word ∷ rest)
+  amid_step : (word : Text) (rest : List Text) → BetweenOptions rest → Amid (word ∷ rest)
   amid_step word rest next h s x = by (kind_of word)
     where
       d : (bytes_eq word (codes "--") ≡ false) × (has_dashes rest ≡ false)
       d = or_parts (bytes_eq word (codes "--")) (has_dashes rest) h
 
-      by : Kind word → after shape read (amid (rows s) x) (word ∷ rest) ≡ with_options (pieces_of s ++ bare_word x ∷ pieces (word ∷ rest)) players
+      by : WordKind word → after shape read (amid (rows s) x) (word ∷ rest) ≡ with_options (pieces_of s ++ bare_word x ∷ pieces (word ∷ rest)) players
       by (bare steps is) = subst (λ w. after shape read (amid (rows s) x) (w ∷ rest) ≡ with_options (pieces_of s ++ bare_word x ∷ pieces (w ∷ rest)) players) (sym is)
           (sym (stops shape read (amid (rows s) x) (bare_word steps) rest InvalidValue [] (bare_amid (rows s) x steps)) ∙ bad_value s x (bare_word steps) (pieces rest) players (name_no_number steps))
       by (bare player is) = subst (λ w. after shape read (amid (rows s) x) (w ∷ rest) ≡ with_options (pieces_of s ++ bare_word x ∷ pieces (w ∷ rest)) players) (sym is)
@@ -321,7 +321,7 @@ module _ (players : ℕ) where
       by (strange (inr k) i j a) = amid_plain rest next d.1 s x word d.0 k ∙ one_use s x word (pieces rest) players
           ∙ ap (λ l. with_options (pieces_of s ++ bare_word x ∷ (l ++ pieces rest)) players) (sym a)
 
-  walks : (words : List Text) → Between words × Amid words
+  walks : (words : List Text) → BetweenOptions words × Amid words
   walks [] = (between_end, amid_end)
   walks (word ∷ rest) = let next = walks rest in (between_step word rest next.0 next.1, amid_step word rest next.0)
 

@@ -9,7 +9,7 @@ use Rattle.clap.specs.Walk.{Rule, Text, answers_to}
 use Rattle.clap.specs.Simple.{Shape, label_of}
 use Rattle.spi_commands.specs.declared.asked.Command.{Command}
 use Rattle.spi_commands.specs.Number.{below, number, number_below}
-use Rattle.spi_commands.specs.Asked.{AreNumbersKnown, Numbered, asked, at_least, number_table, pieces, play_all, play_one, row_of, with_number, with_options, word_table}
+use Rattle.spi_commands.specs.Asked.{AreNumbersKnown, NumberedCommands, asked, at_least, number_table, pieces, play_all, play_one, row_of, with_number, with_options, word_table}
 use Rattle.spi_commands.specs.Options.{words_of}
 use Rattle.spi_commands.proofs.WordsPlay.{built_shape}
 
@@ -30,11 +30,11 @@ module _ {X : Type 0} where
       by false is f later = later f
 
   -- what holds of each row holds of that of a word
-  abbrev pub Each : (X → Type 0) → List (Text × X) → Type 0
-  Each P [] = ⊤
-  Each P (row ∷ rows) = P row.1 × Each P rows
+  abbrev pub EachRow : (X → Type 0) → List (Text × X) → Type 0
+  EachRow P [] = ⊤
+  EachRow P (row ∷ rows) = P row.1 × EachRow P rows
 
-  pub each_row : (P : X → Type 0) (word : Text) (rows : List (Text × X)) → Each P rows → IfSome (row_of word rows) P
+  pub each_row : (P : X → Type 0) (word : Text) (rows : List (Text × X)) → EachRow P rows → IfSome (row_of word rows) P
   each_row P word [] all = tt
   each_row P word (row ∷ rows) all = by (bytes_eq row.0 word) (each_row P word rows all.1)
     where
@@ -80,10 +80,10 @@ pub number_within : (most : ℕ) (text : Text) → IfSome (number_below most tex
 number_within most text = below_within most (number text)
 
 -- the command keeps what is known of its number
-abbrev pub KeepsNumber : ℕ → Numbered → Type 0
+abbrev pub KeepsNumber : ℕ → NumberedCommands → Type 0
 KeepsNumber players form = (n : ℕ) → form.least ≤ n → n ≤ form.most → AreNumbersKnown players (form.command n)
 
-at_least_within : (players : ℕ) (form : Numbered) → KeepsNumber players form → (o : Option ℕ) → IfSome o (λ n. n < form.most + 1) → IfSome (at_least form o) (AreNumbersKnown players)
+at_least_within : (players : ℕ) (form : NumberedCommands) → KeepsNumber players form → (o : Option ℕ) → IfSome o (λ n. n < form.most + 1) → IfSome (at_least form o) (AreNumbersKnown players)
 at_least_within players form keeps None few = tt
 at_least_within players form keeps (Some n) few = by (nat_lt n form.least) refl
   where
@@ -91,7 +91,7 @@ at_least_within players form keeps (Some n) few = by (nat_lt n form.least) refl
     by true e = tt
     by false e = keeps n (grind (arith, nat_tests)) (omega (arith, few))
 
-with_number_within : (players : ℕ) (o : Option Numbered) → IfSome o (KeepsNumber players) → (words : List Text) → IfSome (with_number o words) (AreNumbersKnown players)
+with_number_within : (players : ℕ) (o : Option NumberedCommands) → IfSome o (KeepsNumber players) → (words : List Text) → IfSome (with_number o words) (AreNumbersKnown players)
 with_number_within players None k words = tt
 with_number_within players (Some form) k [] = tt
 with_number_within players (Some form) k (n ∷ []) = at_least_within players form k (number_below (form.most + 1) n) (number_within (form.most + 1) n)
@@ -99,10 +99,10 @@ with_number_within players (Some form) k (n ∷ m ∷ more) = tt
 
 -- ---- what is known of the commands that are asked for
 
-pub words_within : (players : ℕ) → Each (AreNumbersKnown players) word_table
+pub words_within : (players : ℕ) → EachRow (AreNumbersKnown players) word_table
 words_within players = search
 
-pub numbers_within : (players : ℕ) → Each (KeepsNumber players) number_table
+pub numbers_within : (players : ℕ) → EachRow (KeepsNumber players) number_table
 numbers_within players = search
 
 play_one_within : (players : ℕ) (o p : Option ℕ) → IfSome o (λ n. n < 1001) → IfSome p (λ n. n < players) → IfSome (play_one o p) (AreNumbersKnown players)

@@ -17,12 +17,12 @@ word_table =
     ∷ (codes "bench", Bench) ∷ []
 
 -- the commands of a word and a number behind it, from the least to the most
-pub record Numbered : Type 0 where
+pub record NumberedCommands : Type 0 where
   pub least : ℕ
   pub most : ℕ
   pub command : ℕ → Command
 
-abbrev pub number_table : List (List ℕ × Numbered)
+abbrev pub number_table : List (List ℕ × NumberedCommands)
 number_table =
     (codes "load", record { least = 1; most = 500; command = Load })
     ∷ (codes "knows", record { least = 0; most = 999999999; command = Knows }) ∷ []
@@ -35,11 +35,11 @@ module _ {X : Type 0} where
 
 -- ---- a number behind the word
 
-abbrev pub at_least : Numbered → Option ℕ → Option Command
+abbrev pub at_least : NumberedCommands → Option ℕ → Option Command
 at_least form None = None
 at_least form (Some n) = if nat_lt n form.least then None else Some (form.command n)
 
-abbrev pub with_number : Option Numbered → List (List ℕ) → Option Command
+abbrev pub with_number : Option NumberedCommands → List (List ℕ) → Option Command
 with_number (Some form) (n ∷ []) = at_least form (number_below (form.most + 1) n)
 with_number form words = None
 

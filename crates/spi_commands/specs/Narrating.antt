@@ -77,13 +77,13 @@ telling_shown (TooLarge s n) = decimal n
 
 -- a word after `on` is no free name, the woven tree stands for no file, or a line isn't ready or has too large a
 -- message
-pub data IsUntold (x : Narration) : ℕ → Option ℕ → List ℕ → Type 0 where
+pub data IsNarrationUntold (x : Narration) : ℕ → Option ℕ → List ℕ → Type 0 where
   untold : {r : Refusal} → RefusesTelling x r
-      → IsUntold x (telling_number r) (Some (telling_from r)) (telling_shown r)
+      → IsNarrationUntold x (telling_number r) (Some (telling_from r)) (telling_shown r)
 
 abbrev pub HasUntold : List ℕ → ℕ → Option ℕ → List ℕ → Type 0
 HasUntold bytes number offset shown =
-    (x : Narration) × SpellsNarration bytes x × IsUntold x number offset shown
+    (x : Narration) × SpellsNarration bytes x × IsNarrationUntold x number offset shown
 
 -- the text of the file that the narration is told by would be too long
 abbrev pub HasLongTelling : List ℕ → ℕ → Option ℕ → List ℕ → Type 0

@@ -10,7 +10,7 @@ use Rattle.spi_commands.specs.declared.asked.Command.{Command}
 use Rattle.spi_commands.specs.declared.asked.Command.TheVariants.{Load, Knows}
 use Rattle.spi_commands.specs.declared.words.Numbered.{Numbered as Given}
 use Rattle.spi_commands.specs.Number.{number_below}
-use Rattle.spi_commands.specs.Asked.{Numbered, at_least, number_table, play_all, play_one, row_of, word_table}
+use Rattle.spi_commands.specs.Asked.{NumberedCommands, at_least, number_table, play_all, play_one, row_of, word_table}
 
 -- ---- what the code's tables mean
 
@@ -20,13 +20,13 @@ numbered (Load k) n = Load n
 numbered (Knows k) n = Knows n
 numbered command n = command
 
-abbrev pub number_of : Given → Numbered
+abbrev pub number_of : Given → NumberedCommands
 number_of form = record { least = form.least; most = form.most; command = numbered form.command }
 
 abbrev pub word_rows : List (Bor Text × Command) → List (Text × Command)
 word_rows = map (λ row. (row.0.now, row.1))
 
-abbrev pub number_rows : List (Bor Text × Given) → List (Text × Numbered)
+abbrev pub number_rows : List (Bor Text × Given) → List (Text × NumberedCommands)
 number_rows = map (λ row. (row.0.now, number_of row.1))
 
 -- ---- the forms
@@ -83,11 +83,11 @@ with_values None player players = None
 with_values (Some n) None players = play_all (number_below 1001 n)
 with_values (Some n) (Some m) players = play_one (number_below 1001 n) (number_below players m)
 
-abbrev pub with_count : Numbered → Option Text → Option Command
+abbrev pub with_count : NumberedCommands → Option Text → Option Command
 with_count form None = None
 with_count form (Some n) = at_least form (number_below (form.most + 1) n)
 
-abbrev pub word_or_number : Option Command → Option Numbered → List Row → Option Command
+abbrev pub word_or_number : Option Command → Option NumberedCommands → List Row → Option Command
 word_or_number word (Some form) rows = with_count form (first_of (codes "count") rows)
 word_or_number word None rows = word
 

@@ -1,4 +1,4 @@
--- Replays of a file's schedule beside its opponent.
+-- ReplaysWithTalks of a file's schedule beside its opponent.
 use Rattle.std.specs.Prelude.{◌≡◌, ℕ, List, [], ◌∷◌, ◌++◌, length, Some, None, codes, option_to_list}
 use Rattle.std.specs.declared.option.Option.{Option}
 use Rattle.std.specs.Fmt.{decimal}
@@ -20,12 +20,12 @@ use Rattle.spi_commands.specs.Refusals.{layered, Refuses, IsMissing}
 use Rattle.spi_commands.specs.Beside.{pool_of, HasOpponent, LacksOpponent, HasOffence}
 
 -- the steps are taken one by one, each within the limits, with these events, and these data of their talks
-pub data Replays : Pooled → List Step → List Event → List Message → Pooled → Type 0 where
-  replays_none : {p : Pooled} → Replays p [] [] [] p
+pub data ReplaysWithTalks : Pooled → List Step → List Event → List Message → Pooled → Type 0 where
+  replays_none : {p : Pooled} → ReplaysWithTalks p [] [] [] p
   replays_step : {p q r : Pooled} {s : Step} {e : Option Event} {ss : List Step} {es : List Event}
       {ms : List Message}
-      → IsTaken p s e q → Replays q ss es ms r
-      → Replays p (s ∷ ss) (option_to_list e ++ es) (handed p.configuration s ++ ms) r
+      → IsTaken p s e q → ReplaysWithTalks q ss es ms r
+      → ReplaysWithTalks p (s ∷ ss) (option_to_list e ++ es) (handed p.configuration s ++ ms) r
 
 -- the steps before this one are taken, and it is refused so
 pub record IsRefusedAt (p : Pooled) (steps : List Step) (index : ℕ) (fault : StepFault) : Type 0 where
@@ -37,7 +37,7 @@ pub record IsRefusedAt (p : Pooled) (steps : List Step) (index : ℕ) (fault : S
   pub mid : Pooled
   pub split : steps ≡ early ++ step ∷ late
   pub at : index ≡ length early
-  pub replays : Replays p early events talks mid
+  pub replays : ReplaysWithTalks p early events talks mid
   pub refuses : RefusesStep mid.configuration mid.most step fault
 
 -- how many places a replay may have
@@ -56,7 +56,7 @@ pub record RunsThrough (file : Meant) (events : List Event) : Type 0 where
   pub last : Pooled
   pub beside : HasOpponent file opponent
   pub schedule : file.schedule ≡ Some steps
-  pub replays : Replays (pool_of places_most file opponent) steps events talks last
+  pub replays : ReplaysWithTalks (pool_of places_most file opponent) steps events talks last
 
 -- why a file isn't replayed
 pub data IsUnplayed (file : Meant) : Type 0 where

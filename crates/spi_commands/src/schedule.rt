@@ -13,7 +13,7 @@ ghost use Rattle.spi_scope.specs.Places.{place_in};
 ghost use Rattle.spi_scope.specs.Files.{meant};
 ghost use Rattle.spi_commands.specs.Reading.{IsRead};
 ghost use Rattle.spi_commands.specs.Refusals.{IsLineOf, IsCause};
-ghost use Rattle.spi_commands.specs.Replays.{Replays, IsRefusedAt, step_number, step_shown};
+ghost use Rattle.spi_commands.specs.Replays.{ReplaysWithTalks, IsRefusedAt, step_number, step_shown};
 ghost use Rattle.spi_commands.specs.Ran.{AreTalks, IsDatum, IsRan, IsRefused, said};
 
 use crate::answer::{Answer, Stop, missing, refusal_line};
@@ -63,7 +63,8 @@ struct RefusedStep {
 
 /// A replay is a run with its events, in which the data of its talks are handed over.
 pub fn replays_are_runs()
-    ensures { (p q : Pooled) (ss : List StepTerm) (es : List Shown) (ms : List Message) → Replays p ss es ms q
+    ensures { (p q : Pooled) (ss : List StepTerm) (es : List Shown) (ms : List Message)
+        → ReplaysWithTalks p ss es ms q
         → (r : Runs p.configuration ss es q.configuration) × (handed_in r ≡ ms) }
 {}
 
@@ -146,7 +147,7 @@ fn take_steps(
     requires { pool.old.configuration.names + length steps.now < 2 ^ 32 - 1 }
     ensures ok { IfOk result
         (λ replay. (ms : List Message)
-        × Replays pool.old (map step_of steps.now) (map event_of replay.events.items) ms pool.new
+        × ReplaysWithTalks pool.old (map step_of steps.now) (map event_of replay.events.items) ms pool.new
         × (keeps ≡ true → AreTalks ms replay.talks) × (replay.names ≡ pool.new.configuration.names)) }
     ensures err { IfErr result
         (λ refused. (refused.fault ≡ StepFault.NoMemory)

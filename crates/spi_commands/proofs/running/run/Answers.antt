@@ -1,11 +1,11 @@
-use Rattle.spi_commands.proofs.FileFacts.{Facts}
+use Rattle.spi_commands.proofs.FileFacts.{FileFacts}
 use Rattle.spi_commands.proofs.RunEnds.{headline, many_to_one, promise, complete}
 use Rattle.spi_commands.proofs.running.run.Goals as goal
 
 pub returns-clause-headline : goal.returns-clause-headline
 returns-clause-headline g c =
     let e = c.run_for.ensures in
-    let facts : Facts = record {
+    let facts : FileFacts = record {
       lexing = c.one_answer.ensures.one;
       none_of = c.refused_is_none.ensures;
       one = c.one_file.ensures;
@@ -32,7 +32,7 @@ returns-clause-many_to_one g c =
 pub returns-clause-promise : goal.returns-clause-promise
 returns-clause-promise g c =
     let e = c.run_for.ensures in
-    let facts : Facts = record {
+    let facts : FileFacts = record {
       lexing = c.one_answer.ensures.one;
       none_of = c.refused_is_none.ensures;
       one = c.one_file.ensures;
