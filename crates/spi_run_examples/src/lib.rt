@@ -2,12 +2,4 @@
 #![tactic(auto)]
 
 #[cfg(test)]
-mod audits;
-#[cfg(test)]
-mod knowledge;
-#[cfg(test)]
-mod plays;
-#[cfg(test)]
-mod pools;
-#[cfg(test)]
-mod processes;
+mod tests;

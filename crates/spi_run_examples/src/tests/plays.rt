@@ -2,7 +2,7 @@
 
 ghost use Rattle.std.specs.Prelude.{◌≡◌};
 
-use crate::processes::{NoMemory, begins_twice, shows, stops};
+use super::processes::{NoMemory, begins_twice, shows, stops};
 use spi_play::{PlayFault, Player, Scripted, play};
 use spi_replay::Pool;
 use spi_term::Process;

@@ -1,6 +1,6 @@
 // Audits by example.
 
-use crate::processes::{NoMemory, begins_twice, shows, stops};
+use super::processes::{NoMemory, begins_twice, shows, stops};
 use spi_audit::{Audited, audit};
 use spi_rules::{Deriv, Rule, RuleUse};
 use spi_term::{Atom, Effect, Msg, Process};

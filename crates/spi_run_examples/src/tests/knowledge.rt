@@ -5,10 +5,11 @@ ghost use Rattle.spi_term.specs.Term.{message_size};
 ghost use Rattle.spi_term.specs.View.{message};
 ghost use Rattle.spi_know.specs.Numbered.{nodes_in};
 
-use crate::processes::{NoMemory, shows};
+use super::processes::NoMemory;
 use spi_know::{Knowledge, check_cert, decide};
 use spi_term::Msg;
 use std::alloc::{AllocError, Global};
+use std::test::Fail;
 
 fn pair(alloc: Global, a: Msg, b: Msg) -> Result<Msg, NoMemory>
     ensures { IfOk result
@@ -48,41 +49,30 @@ fn lines(alloc: Global, sent: &[Msg], target: &Msg) -> Result<Option<usize>, NoM
     }
 }
 
-fn opens_by_a_compound_key(alloc: Global) -> Result<bool, NoMemory> {
-    let some = Vec::from_array(alloc, [locked(alloc)?, Msg::Name(2)])?;
-    let all = Vec::from_array(alloc, [locked(alloc)?, Msg::Name(2), Msg::Name(1)])?;
-    let without = lines(alloc, &some, &Msg::Name(0))?;
-    let with = lines(alloc, &all, &Msg::Name(0))?;
-    let other = lines(alloc, &all, &Msg::Name(3))?;
-    Ok(without == None && with == Some(5) && other == None)
+#[test]
+fn a_compound_key_is_made(rt: HostRuntime) -> Result<(), Fail> {
+    let alloc = rt.alloc();
+    let sent = [locked(alloc)?, Msg::Name(2), Msg::Name(1)];
+    let without = lines(alloc, &sent[..2], &Msg::Name(0))?;
+    let with = lines(alloc, &sent, &Msg::Name(0))?;
+    let other = lines(alloc, &sent, &Msg::Name(3))?;
+    let holds = without == None && with == Some(5) && other == None;
+    assert!(rt; holds, "a ciphertext under a pair");
+    Ok(())
 }
 
 #[test]
-fn a_compound_key_is_made(rt: HostRuntime) {
-    shows(
-        &rt,
-        "a ciphertext under a pair",
-        opens_by_a_compound_key(rt.alloc()),
-    );
-}
-
-fn has_no_unused_line(alloc: Global) -> Result<bool, NoMemory> {
-    let sent = Vec::from_array(alloc, [Msg::Name(1), Msg::Name(0)])?;
+fn what_is_not_used_is_left_out(rt: HostRuntime) -> Result<(), Fail> {
+    let alloc = rt.alloc();
+    let sent = [Msg::Name(1), Msg::Name(0)];
     let made = pair(alloc, Msg::Unit, Msg::Name(0))?;
-    let three = lines(alloc, &sent, &made)?;
     let hash = Msg::Hash(Box::new(alloc, Msg::Name(0))?);
+    let three = lines(alloc, &sent, &made)?;
     let two = lines(alloc, &sent, &hash)?;
     let one = lines(alloc, &[], &Msg::Unit)?;
-    Ok(three == Some(3) && two == Some(2) && one == Some(1))
-}
-
-#[test]
-fn what_is_not_used_is_left_out(rt: HostRuntime) {
-    shows(
-        &rt,
-        "a pair, a hash and unit",
-        has_no_unused_line(rt.alloc()),
-    );
+    assert!(rt; three == Some(3) && two == Some(2), "a pair and a hash");
+    assert!(rt; one == Some(1), "unit");
+    Ok(())
 }
 
 // The ciphertext of the name behind a name, under that name.
@@ -93,33 +83,19 @@ fn next(alloc: Global, name: u32) -> Result<Msg, NoMemory>
     enc(alloc, Msg::Name(name + 1), Msg::Name(name))
 }
 
-// Ciphertexts in a row, each of which has the next one's key, the last one first.
-fn opens_in_a_row(alloc: Global) -> Result<bool, NoMemory> {
-    let locked = Vec::from_array(
-        alloc,
-        [
-            next(alloc, 3)?,
-            next(alloc, 2)?,
-            next(alloc, 1)?,
-            next(alloc, 0)?,
-        ],
-    )?;
-    let without = lines(alloc, &locked, &Msg::Name(4))?;
-    let opened = Vec::from_array(
-        alloc,
-        [
-            next(alloc, 3)?,
-            next(alloc, 2)?,
-            next(alloc, 1)?,
-            next(alloc, 0)?,
-            Msg::Name(0),
-        ],
-    )?;
-    let with = lines(alloc, &opened, &Msg::Name(4))?;
-    Ok(without == None && with == Some(9))
-}
-
 #[test]
-fn keys_in_the_worst_order(rt: HostRuntime) {
-    shows(&rt, "ciphertexts in a row", opens_in_a_row(rt.alloc()));
+fn keys_in_the_worst_order(rt: HostRuntime) -> Result<(), Fail> {
+    let alloc = rt.alloc();
+    // each ciphertext has the next one's key, the last one first
+    let sent = [
+        next(alloc, 3)?,
+        next(alloc, 2)?,
+        next(alloc, 1)?,
+        next(alloc, 0)?,
+        Msg::Name(0),
+    ];
+    let without = lines(alloc, &sent[..4], &Msg::Name(4))?;
+    let with = lines(alloc, &sent, &Msg::Name(4))?;
+    assert!(rt; without == None && with == Some(9), "ciphertexts in a row");
+    Ok(())
 }

@@ -1,0 +1,5 @@
+mod audits;
+mod knowledge;
+mod plays;
+mod pools;
+mod processes;
