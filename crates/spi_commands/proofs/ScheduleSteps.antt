@@ -1,4 +1,4 @@
--- ReplaysWithTalks of a schedule: two of them are the same, and none goes past a step that is refused.
+-- Replays of a schedule: two of them are the same, and none goes past a step that is refused.
 use Rattle.std.proofs.Common.{◌≡◌, ◌⊎◌, inl, inr, refl, sym, ap, ◌∙◌, subst, subst₂, ℕ, zero, suc, ◌+◌, ◌*◌, ◌<◌, ◌≤◌, Bool, true, List, [], ◌∷◌, ◌++◌, append_assoc, append-nil, length, map, take, drop, get_or, Option, Some, None, arith}
 use Rattle.std.proofs.lemmas.List.{length-map, length-take-le, take_all}
 use Rattle.std.specs.Prelude.{option_to_list}

@@ -1,4 +1,4 @@
--- ReplaysWithTalks of a file's schedule beside its opponent.
+-- Replays of a file's schedule beside its opponent.
 use Rattle.std.specs.Prelude.{◌≡◌, ℕ, List, [], ◌∷◌, ◌++◌, length, Some, None, codes, option_to_list}
 use Rattle.std.specs.declared.option.Option.{Option}
 use Rattle.std.specs.Fmt.{decimal}
