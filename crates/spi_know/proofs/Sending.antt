@@ -6,7 +6,7 @@ use Rattle.spi_term.specs.Lists.{In, in_first, in_later}
 use Rattle.spi_term.proofs.Lists.{in_append, in_cases}
 use Rattle.spi_term.specs.Term.{Message, name}
 use Rattle.spi_run.specs.Reduction.{Configuration, Step, act, talk, Event, Runs, runs_none, runs_silent, runs_event}
-use Rattle.spi_run.specs.Knowledge.{shown, shown_in, names_below, Knows, knows_sent, knows_unit, knows_pair, knows_first, knows_second, knows_inl, knows_inr, knows_from_inl, knows_from_inr, knows_enc, knows_opened, knows_hash}
+use Rattle.spi_run.specs.Knowledge.{shown, shown_in, names_below}
 use Rattle.spi_know.specs.Sent.{names_up, handed, handed_in, sent_in}
 
 pub count_up : (n : ℕ) → length (names_up n) ≡ n
@@ -71,18 +71,3 @@ sent_shown n r m i = ⊎_elim
     (λ j. in_left_of (shown_in r) (up_below n m j))
     (λ j. in_right_of (names_below n) (handed_in_shown r m j))
     (in_append (names_up n) i)
-
--- who has more knows more
-pub knows_more : {sent more : List Message} {m : Message} → ((n : Message) → In n sent → In n more) → Knows sent m → Knows more m
-knows_more f (knows_sent {m} i) = knows_sent (f m i)
-knows_more f knows_unit = knows_unit
-knows_more f (knows_pair k l) = knows_pair (knows_more f k) (knows_more f l)
-knows_more f (knows_first k) = knows_first (knows_more f k)
-knows_more f (knows_second k) = knows_second (knows_more f k)
-knows_more f (knows_inl k) = knows_inl (knows_more f k)
-knows_more f (knows_inr k) = knows_inr (knows_more f k)
-knows_more f (knows_from_inl k) = knows_from_inl (knows_more f k)
-knows_more f (knows_from_inr k) = knows_from_inr (knows_more f k)
-knows_more f (knows_enc k l) = knows_enc (knows_more f k) (knows_more f l)
-knows_more f (knows_opened k l) = knows_opened (knows_more f k) (knows_more f l)
-knows_more f (knows_hash k) = knows_hash (knows_more f k)

@@ -8,26 +8,16 @@ ghost use Rattle.spi_know.specs.Cert.{said, Follows, Certifies};
 use spi_term::{Msg, same_message};
 
 /// A certificate: each line is a message that is known by the lines before it.
+#[derive(Drop)]
 pub struct Cert {
     pub lines: Vec<CertLine>,
 }
 
-impl Drop for Cert {
-    fn drop(self) {
-        let Cert { lines: _ } = self;
-    }
-}
-
 /// A message, and the clause by which it's known.
+#[derive(Drop)]
 pub struct CertLine {
     pub message: Msg,
     pub by: By,
-}
-
-impl Drop for CertLine {
-    fn drop(self) {
-        let CertLine { message: _, by: _ } = self;
-    }
 }
 
 /// The clause by which a message is known. `Sent` has an index into what was sent, and the others

@@ -6,7 +6,7 @@ ghost use Rattle.spi_term.specs.View.{message};
 ghost use Rattle.spi_horn.specs.Leading.{IsOrder, IsPlacedAt, StartsWithin};
 ghost use Rattle.spi_know.specs.Cert.{Certifies, AllUsed};
 ghost use Rattle.spi_know.specs.Numbered.{HasNumber, AreClauses, AreFirstNumbers, StartsWith, nodes_in};
-ghost use Rattle.spi_know.specs.Knowledge.{Decides};
+ghost use Rattle.spi_know.specs.Knowledge.{Decides, DecidesNumber};
 
 use crate::NoMemory;
 use crate::cert::{Cert, CertLine};
@@ -18,18 +18,10 @@ use spi_term::Msg;
 use std::alloc::Global;
 
 /// Whether a message is known: it is, with a certificate, or it isn't.
+#[derive(Drop)]
 pub enum Knowledge {
     Known(Cert),
     Unknown,
-}
-
-impl Drop for Knowledge {
-    fn drop(self) {
-        match self {
-            Knowledge::Known(_) => {}
-            Knowledge::Unknown => {}
-        }
-    }
 }
 
 // The numbers of the messages sent.
@@ -101,9 +93,7 @@ fn decide_by(
     requires start { StartsWithin (length store.now.messages) start.now }
     requires target { target < length store.now.messages }
     requires few { length store.now.messages < 2 ^ 32 }
-    ensures { IfOk result
-        (λ k. (from : List Message) (m : Message) → StartsWith store.now.messages from start.now
-        → length from ≡ sent → HasNumber store.now.messages target m → Decides from m k) }
+    ensures { IfOk result (DecidesNumber store.now.messages start.now sent target) }
 {
     let count = store.message_count();
     let closure = close(alloc, rules, start, count)?;
@@ -127,9 +117,7 @@ fn decide_numbers(
     requires start { StartsWithin (length store.now.messages) start.now }
     requires target { target < length store.now.messages }
     requires few { length store.now.messages < 2 ^ 32 }
-    ensures { IfOk result
-        (λ k. (from : List Message) (m : Message) → StartsWith store.now.messages from start.now
-        → length from ≡ sent → HasNumber store.now.messages target m → Decides from m k) }
+    ensures { IfOk result (DecidesNumber store.now.messages start.now sent target) }
 {
     let clauses = clauses_of(alloc, store)?;
     let knowledge = decide_by(

@@ -1,4 +1,5 @@
-use Rattle.spi_know.proofs.Sending.{sent_shown, knows_more}
+use Rattle.spi_know.proofs.Closing.{knows_more}
+use Rattle.spi_know.proofs.Sending.{sent_shown}
 use Rattle.spi_know.proofs.secret.keys_stay_unknown.Goals as goal
 
 pub returns : goal.returns
