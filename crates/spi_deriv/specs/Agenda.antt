@@ -7,6 +7,8 @@ use Rattle.spi_term.specs.declared.term.Ty.{Ty}
 use Rattle.spi_term.specs.View as View
 use Rattle.spi_term.specs.Spelling.{Shape, leaf_at, prefix_at, fork_at}
 use Rattle.spi_rules.specs.Derivations.{RuleUse}
+use Rattle.spi_rules.specs.Deriv.{rule_use}
+use Rattle.spi_rules.specs.declared.deriv.RuleUse as declared
 use Rattle.spi_message.specs.Forms.{on_first, on_rest}
 use Rattle.spi_deriv.specs.declared.agenda.Binding.{Binding}
 use Rattle.spi_deriv.specs.declared.agenda.Binding.TheVariants as B
@@ -15,6 +17,10 @@ use Rattle.spi_deriv.specs.Uses.{leaf_uses, prefix_uses, fork_uses, binding}
 -- the types that references point to
 abbrev pub types_of : List (Bor Ty) → List Term.Ty
 types_of rs = map (λ r. View.ty r.now) rs
+
+-- these uses are pushed at the end
+abbrev pub PushesUses : List declared.RuleUse → List declared.RuleUse → List RuleUse → Type 0
+PushesUses old new us = map rule_use new ≡ map rule_use old ++ us
 
 abbrev pub bound_types : Binding → List Term.Ty
 bound_types B.None = []

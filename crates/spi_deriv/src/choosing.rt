@@ -1,19 +1,33 @@
 // The rule of a node and the uses of its messages, where the process has some effect: a typed rule where it has a
 // derivation there, else its Un form. The head of a type tells which.
 
-ghost use Rattle.std.specs.Prelude.{◌≡◌, ◌++◌, map, OnOk};
+ghost use Rattle.std.specs.Prelude.{◌≡◌, OnOk};
+ghost use Rattle.spi_term.specs.Term.{Branches, Checks, Selects, Splits, un};
 ghost use Rattle.spi_term.specs.View.{message, ty as type_of, shape_of};
-ghost use Rattle.spi_message.specs.Forms.{is_nonce};
-ghost use Rattle.spi_message.specs.Tests.{key_of, nonce_of};
-ghost use Rattle.spi_rules.specs.Deriv.{rule_use};
-ghost use Rattle.spi_deriv.specs.Agenda.{types_of, node_uses};
-ghost use Rattle.spi_deriv.specs.Uses.{is_pair, is_sum, split_uses, select_uses, decrypt_uses, check_uses, cast_rule, branch_uses};
+ghost use Rattle.spi_message.specs.Tests.{key_of};
+ghost use Rattle.spi_rules.specs.Derivations.{uses};
+ghost use Rattle.spi_deriv.specs.Agenda.{types_of, node_uses, PushesUses};
+ghost use Rattle.spi_deriv.specs.Uses.{two_uses, decrypt_uses, cast_rule, prefix_uses, fork_uses};
 
 use crate::NoMemory;
 use crate::messages::{push_at_pair, push_at_sum, push_both, push_message, push_one, push_rule};
 use crate::seeing::{is_nonce_name, is_pair, is_sum, payload};
 use spi_rules::{Rule, RuleUse};
 use spi_term::{Form, Msg, Node, Ty};
+
+// A rule over two messages that are to have type Un.
+fn push_both_untrusted(
+    rule: Rule,
+    a: &Msg,
+    b: &Msg,
+    types: &[&Ty],
+    out: &mut Vec<RuleUse>,
+) -> Result<(), NoMemory>
+    ensures { OnOk result (PushesUses out.old.items out.new.items
+        (uses rule (two_uses (types_of types.now) (message a.now) un (message b.now) un))) }
+{
+    push_both(rule, a, &Ty::Un, b, &Ty::Un, types, out)
+}
 
 fn push_split(
     whole: &Msg,
@@ -22,10 +36,9 @@ fn push_split(
     types: &[&Ty],
     out: &mut Vec<RuleUse>,
 ) -> Result<(), NoMemory>
-    ensures { OnOk result
-        (map rule_use out.new.items ≡ map rule_use out.old.items
-        ++ split_uses (is_pair (types_of types.now) (message whole.now)) (types_of types.now)
-        (message whole.now) (type_of first.now) (type_of second.now)) }
+    ensures { OnOk result (PushesUses out.old.items out.new.items
+        (prefix_uses (types_of types.now)
+        (Splits (message whole.now) (type_of first.now) (type_of second.now)))) }
 {
     if is_pair(types, whole) {
         push_rule(Rule::ProcSplit, out)?;
@@ -43,25 +56,16 @@ fn push_select(
     types: &[&Ty],
     out: &mut Vec<RuleUse>,
 ) -> Result<(), NoMemory>
-    ensures { OnOk result
-        (map rule_use out.new.items ≡ map rule_use out.old.items
-        ++ select_uses (is_pair (types_of types.now) (message whole.now)) (types_of types.now)
-        (message whole.now) (type_of first.now) (message equal.now) (type_of second.now)) }
+    ensures { OnOk result (PushesUses out.old.items out.new.items
+        (prefix_uses (types_of types.now) (Selects (message whole.now) (type_of first.now) (message equal.now)
+        (type_of second.now)))) }
 {
     if is_pair(types, whole) {
         push_rule(Rule::ProcMatch, out)?;
         push_at_pair(whole, first, second, types, out)?;
         push_message(equal, first, types, out)
     } else {
-        push_both(
-            Rule::ProcMatchUn,
-            whole,
-            &Ty::Un,
-            equal,
-            &Ty::Un,
-            types,
-            out,
-        )
+        push_both_untrusted(Rule::ProcMatchUn, whole, equal, types, out)
     }
 }
 
@@ -72,10 +76,9 @@ fn push_branch(
     types: &[&Ty],
     out: &mut Vec<RuleUse>,
 ) -> Result<(), NoMemory>
-    ensures { OnOk result
-        (map rule_use out.new.items ≡ map rule_use out.old.items
-        ++ branch_uses (is_sum (types_of types.now) (message whole.now)) (types_of types.now)
-        (message whole.now) (type_of left.now) (type_of right.now)) }
+    ensures { OnOk result (PushesUses out.old.items out.new.items
+        (fork_uses (types_of types.now)
+        (Branches (message whole.now) (type_of left.now) (type_of right.now)))) }
 {
     if is_sum(types, whole) {
         push_rule(Rule::ProcCase, out)?;
@@ -91,25 +94,16 @@ fn push_decrypt(
     types: &[&Ty],
     out: &mut Vec<RuleUse>,
 ) -> Result<(), NoMemory>
-    ensures { OnOk result
-        (map rule_use out.new.items ≡ map rule_use out.old.items
-        ++ decrypt_uses (key_of (types_of types.now) (message key.now)) (types_of types.now)
-        (message whole.now) (message key.now)) }
+    ensures { OnOk result (PushesUses out.old.items out.new.items
+        (decrypt_uses (key_of (types_of types.now) (message key.now)) (types_of types.now)
+        (message whole.now) (message key.now))) }
 {
     match payload(types, key) {
         Some(_) => {
             push_one(Rule::ProcDecrypt, whole, &Ty::Un, types, out)?;
             push_rule(Rule::MsgName, out)
         }
-        None => push_both(
-            Rule::ProcDecryptUn,
-            whole,
-            &Ty::Un,
-            key,
-            &Ty::Un,
-            types,
-            out,
-        ),
+        None => push_both_untrusted(Rule::ProcDecryptUn, whole, key, types, out),
     }
 }
 
@@ -119,23 +113,13 @@ fn push_check(
     types: &[&Ty],
     out: &mut Vec<RuleUse>,
 ) -> Result<(), NoMemory>
-    ensures { OnOk result
-        (map rule_use out.new.items ≡ map rule_use out.old.items
-        ++ check_uses (is_nonce (nonce_of (types_of types.now) (message nonce.now))) (types_of types.now)
-        (message whole.now) (message nonce.now)) }
+    ensures { OnOk result (PushesUses out.old.items out.new.items
+        (prefix_uses (types_of types.now) (Checks (message whole.now) (message nonce.now)))) }
 {
     if is_nonce_name(types, nonce) {
         push_one(Rule::ProcCheck, whole, &Ty::Un, types, out)
     } else {
-        push_both(
-            Rule::ProcCheckUn,
-            whole,
-            &Ty::Un,
-            nonce,
-            &Ty::Un,
-            types,
-            out,
-        )
+        push_both_untrusted(Rule::ProcCheckUn, whole, nonce, types, out)
     }
 }
 
@@ -150,17 +134,14 @@ fn cast_rule(t: &Ty) -> Rule
 
 /// The use of the node's rule and those of its messages.
 pub fn push_uses(node: &Node, types: &[&Ty], out: &mut Vec<RuleUse>) -> Result<(), NoMemory>
-    ensures { OnOk result
-        (map rule_use out.new.items ≡ map rule_use out.old.items
-        ++ node_uses (types_of types.now) (shape_of node.now)) }
+    ensures { OnOk result (PushesUses out.old.items out.new.items
+        (node_uses (types_of types.now) (shape_of node.now))) }
 {
     match &node.form {
-        Form::Send { channel, datum } => push_both(
+        Form::Send { channel, datum } => push_both_untrusted(
             Rule::ProcOut,
             channel,
-            &Ty::Un,
             datum,
-            &Ty::Un,
             types,
             out,
         ),

@@ -1,12 +1,11 @@
 // The rule uses of a message's typing, by the type that is wanted. They are pushed at the end of a list.
 
-ghost use Rattle.std.specs.Prelude.{◌≡◌, ◌++◌, [], map, Some, None, OnOk};
+ghost use Rattle.std.specs.Prelude.{◌≡◌, [], Some, None, OnOk};
 ghost use Rattle.spi_term.specs.Term.{enc, un, pair_ty, sum_ty};
 ghost use Rattle.spi_term.specs.View.{message, ty as type_of};
 ghost use Rattle.spi_rules.specs.Derivations.{uses};
-ghost use Rattle.spi_rules.specs.Deriv.{rule_use};
-ghost use Rattle.spi_deriv.specs.Agenda.{types_of};
-ghost use Rattle.spi_deriv.specs.Uses.{unit_uses, pair_uses, left_uses, right_uses, enc_uses, message_uses};
+ghost use Rattle.spi_deriv.specs.Agenda.{types_of, PushesUses};
+ghost use Rattle.spi_deriv.specs.Uses.{two_uses, unit_uses, pair_uses, left_uses, right_uses, enc_uses, message_uses};
 
 use crate::NoMemory;
 use crate::seeing::payload;
@@ -15,15 +14,14 @@ use spi_term::{Msg, Ty};
 
 /// One use of the rule.
 pub fn push_rule(rule: Rule, out: &mut Vec<RuleUse>) -> Result<(), NoMemory>
-    ensures { OnOk result (map rule_use out.new.items ≡ map rule_use out.old.items ++ uses rule []) }
+    ensures { OnOk result (PushesUses out.old.items out.new.items (uses rule [])) }
 {
     out.push(RuleUse { rule, taken: None })?;
     Ok(())
 }
 
 fn push_unit(wanted: &Ty, out: &mut Vec<RuleUse>) -> Result<(), NoMemory>
-    ensures { OnOk result
-        (map rule_use out.new.items ≡ map rule_use out.old.items ++ unit_uses (type_of wanted.now)) }
+    ensures { OnOk result (PushesUses out.old.items out.new.items (unit_uses (type_of wanted.now))) }
 {
     match wanted {
         Ty::Un => push_rule(Rule::MsgUnitUn, out),
@@ -43,10 +41,9 @@ pub fn push_both(
     types: &[&Ty],
     out: &mut Vec<RuleUse>,
 ) -> Result<(), NoMemory>
-    ensures { OnOk result
-        (map rule_use out.new.items ≡ map rule_use out.old.items
-        ++ uses rule (message_uses (message a.now) (types_of types.now) (type_of first.now)
-        ++ message_uses (message b.now) (types_of types.now) (type_of second.now))) }
+    ensures { OnOk result (PushesUses out.old.items out.new.items
+        (uses rule (two_uses (types_of types.now) (message a.now) (type_of first.now) (message b.now)
+        (type_of second.now)))) }
 {
     push_rule(rule, out)?;
     push_message(a, first, types, out)?;
@@ -61,10 +58,9 @@ fn push_pair(
     types: &[&Ty],
     out: &mut Vec<RuleUse>,
 ) -> Result<(), NoMemory>
-    ensures { OnOk result
-        (map rule_use out.new.items ≡ map rule_use out.old.items
-        ++ pair_uses (message_uses (message a.now) (types_of types.now))
-        (message_uses (message b.now) (types_of types.now)) (type_of wanted.now)) }
+    ensures { OnOk result (PushesUses out.old.items out.new.items
+        (pair_uses (message_uses (message a.now) (types_of types.now))
+        (message_uses (message b.now) (types_of types.now)) (type_of wanted.now))) }
 {
     match wanted {
         Ty::Un => push_both(Rule::MsgPairUn, a, &Ty::Un, b, &Ty::Un, types, out),
@@ -82,9 +78,8 @@ pub fn push_one(
     types: &[&Ty],
     out: &mut Vec<RuleUse>,
 ) -> Result<(), NoMemory>
-    ensures { OnOk result
-        (map rule_use out.new.items ≡ map rule_use out.old.items
-        ++ uses rule (message_uses (message a.now) (types_of types.now) (type_of wanted.now))) }
+    ensures { OnOk result (PushesUses out.old.items out.new.items
+        (uses rule (message_uses (message a.now) (types_of types.now) (type_of wanted.now)))) }
 {
     push_rule(rule, out)?;
     push_message(a, wanted, types, out)
@@ -92,9 +87,8 @@ pub fn push_one(
 
 #[cycle(message)]
 fn push_left(a: &Msg, wanted: &Ty, types: &[&Ty], out: &mut Vec<RuleUse>) -> Result<(), NoMemory>
-    ensures { OnOk result
-        (map rule_use out.new.items ≡ map rule_use out.old.items
-        ++ left_uses (message_uses (message a.now) (types_of types.now)) (type_of wanted.now)) }
+    ensures { OnOk result (PushesUses out.old.items out.new.items
+        (left_uses (message_uses (message a.now) (types_of types.now)) (type_of wanted.now))) }
 {
     match wanted {
         Ty::Un => push_one(Rule::MsgInlUn, a, &Ty::Un, types, out),
@@ -105,9 +99,8 @@ fn push_left(a: &Msg, wanted: &Ty, types: &[&Ty], out: &mut Vec<RuleUse>) -> Res
 
 #[cycle(message)]
 fn push_right(a: &Msg, wanted: &Ty, types: &[&Ty], out: &mut Vec<RuleUse>) -> Result<(), NoMemory>
-    ensures { OnOk result
-        (map rule_use out.new.items ≡ map rule_use out.old.items
-        ++ right_uses (message_uses (message a.now) (types_of types.now)) (type_of wanted.now)) }
+    ensures { OnOk result (PushesUses out.old.items out.new.items
+        (right_uses (message_uses (message a.now) (types_of types.now)) (type_of wanted.now))) }
 {
     match wanted {
         Ty::Un => push_one(Rule::MsgInrUn, a, &Ty::Un, types, out),
@@ -118,9 +111,8 @@ fn push_right(a: &Msg, wanted: &Ty, types: &[&Ty], out: &mut Vec<RuleUse>) -> Re
 
 #[cycle(message)]
 fn push_enc(a: &Msg, key: &Msg, types: &[&Ty], out: &mut Vec<RuleUse>) -> Result<(), NoMemory>
-    ensures { OnOk result
-        (map rule_use out.new.items ≡ map rule_use out.old.items
-        ++ message_uses (enc (message a.now) (message key.now)) (types_of types.now) un) }
+    ensures { OnOk result (PushesUses out.old.items out.new.items
+        (message_uses (enc (message a.now) (message key.now)) (types_of types.now) un)) }
 {
     match payload(types, key) {
         Some(t) => push_one(Rule::MsgEnc, a, t, types, out),
@@ -136,9 +128,8 @@ pub fn push_message(
     types: &[&Ty],
     out: &mut Vec<RuleUse>,
 ) -> Result<(), NoMemory>
-    ensures { OnOk result
-        (map rule_use out.new.items ≡ map rule_use out.old.items
-        ++ message_uses (message m.now) (types_of types.now) (type_of wanted.now)) }
+    ensures { OnOk result (PushesUses out.old.items out.new.items
+        (message_uses (message m.now) (types_of types.now) (type_of wanted.now))) }
 {
     match m {
         Msg::Bound(_) => Ok(()),
@@ -160,10 +151,9 @@ pub fn push_at_pair(
     types: &[&Ty],
     out: &mut Vec<RuleUse>,
 ) -> Result<(), NoMemory>
-    ensures { OnOk result
-        (map rule_use out.new.items ≡ map rule_use out.old.items
-        ++ message_uses (message m.now) (types_of types.now)
-        (pair_ty (type_of first.now) (type_of second.now))) }
+    ensures { OnOk result (PushesUses out.old.items out.new.items
+        (message_uses (message m.now) (types_of types.now)
+        (pair_ty (type_of first.now) (type_of second.now)))) }
 {
     match m {
         Msg::Name(_) => push_rule(Rule::MsgName, out),
@@ -182,10 +172,9 @@ pub fn push_at_sum(
     types: &[&Ty],
     out: &mut Vec<RuleUse>,
 ) -> Result<(), NoMemory>
-    ensures { OnOk result
-        (map rule_use out.new.items ≡ map rule_use out.old.items
-        ++ message_uses (message m.now) (types_of types.now)
-        (sum_ty (type_of left.now) (type_of right.now))) }
+    ensures { OnOk result (PushesUses out.old.items out.new.items
+        (message_uses (message m.now) (types_of types.now)
+        (sum_ty (type_of left.now) (type_of right.now)))) }
 {
     match m {
         Msg::Name(_) => push_rule(Rule::MsgName, out),
