@@ -1,10 +1,10 @@
 // What is asked of a node, form by form.
-ghost use Rattle.std.specs.Prelude.{◌≡◌, List, Ok, [], ◌∷◌, ◌++◌, IfOk};
+ghost use Rattle.std.specs.Prelude.{◌≡◌};
 ghost use Rattle.spi_term.specs.Term as Term;
-ghost use Rattle.spi_term.specs.Term.{Splits, Selects, Decrypts, Casts, Branches};
+ghost use Rattle.spi_term.specs.Term.{Sends, Recvs, Serves, Splits, Selects, Decrypts, Begins, Casts, Freshes, Branches};
 ghost use Rattle.spi_term.specs.View.{message, ty as type_of, shape_of};
 ghost use Rattle.spi_fault.specs.Checks as Checks;
-ghost use Rattle.spi_fault.specs.Checks.{prefix_checks, fork_checks, shape_checks, reason_of};
+ghost use Rattle.spi_fault.specs.Checks.{leaf_checks, prefix_checks, fork_checks, shape_checks, reason_of};
 ghost use Rattle.spi_fault.specs.Trying.{check as check_of};
 ghost use Rattle.spi_fault.specs.Giving.{GivesCheck, GivesAll};
 
@@ -14,6 +14,7 @@ use spi_term::{Form, Msg, Node, Ty};
 use std::alloc::Global;
 
 /// A check. A process that follows in the node is told by how many nodes stand before it.
+#[derive(Drop)]
 pub enum Check {
     Channel(Msg),
     Datum(Msg),
@@ -30,28 +31,6 @@ pub enum Check {
     Served(u32),
     Stays(u32, u32),
     Made(u32),
-}
-
-impl Drop for Check {
-    fn drop(self) {
-        match self {
-            Check::Channel(_) => {}
-            Check::Datum(_) => {}
-            Check::Untrusted(_) => {}
-            Check::Good(_) => {}
-            Check::Scrutinee(_, _, _, _) => {}
-            Check::Sealed(_) => {}
-            Check::First(_, _) => {}
-            Check::KeyOf(_, _) => {}
-            Check::NonceOf(_) => {}
-            Check::Label(_) => {}
-            Check::Generative(_) => {}
-            Check::Castable(_) => {}
-            Check::Served(_) => {}
-            Check::Stays(_, _) => {}
-            Check::Made(_) => {}
-        }
-    }
 }
 
 impl Check {
@@ -76,166 +55,48 @@ impl Check {
     }
 }
 
-fn channel(alloc: Global, m: &Msg) -> Result<Check, NoMemory>
-    ensures { GivesCheck result (Checks.channel (message m.now)) }
+fn scrutinee(alloc: Global, m: &Msg, whole: Ty, first: &Ty, second: &Ty) -> Result<Check, NoMemory>
+    ensures { GivesCheck result
+        (Checks.scrutinee (message m.now) (type_of whole) (type_of first.now) (type_of second.now)) }
 {
-    Ok(Check::Channel(m.copy(alloc)?))
-}
-
-fn datum(alloc: Global, m: &Msg) -> Result<Check, NoMemory>
-    ensures { GivesCheck result (Checks.datum (message m.now)) }
-{
-    Ok(Check::Datum(m.copy(alloc)?))
-}
-
-fn untrusted(alloc: Global, t: &Ty) -> Result<Check, NoMemory>
-    ensures { GivesCheck result (Checks.untrusted (type_of t.now)) }
-{
-    Ok(Check::Untrusted(t.copy(alloc)?))
-}
-
-fn good(t: Result<Ty, NoMemory>) -> Result<Check, NoMemory>
-    ensures { (u : Term.Ty) → IfOk t (λ t. type_of t ≡ u) → GivesCheck result (Checks.good u) }
-{
-    Ok(Check::Good(t?))
-}
-
-fn scrutinee(
-    alloc: Global,
-    m: &Msg,
-    whole: Result<Ty, NoMemory>,
-    first: &Ty,
-    second: &Ty,
-) -> Result<Check, NoMemory>
-    ensures { (w : Term.Ty) → IfOk whole (λ t. type_of t ≡ w)
-        → GivesCheck result (Checks.scrutinee (message m.now) w (type_of first.now) (type_of second.now)) }
-{
-    let whole = whole?;
     let m = m.copy(alloc)?;
     let first = first.copy(alloc)?;
     Ok(Check::Scrutinee(m, whole, first, second.copy(alloc)?))
 }
 
-fn sealed(alloc: Global, m: &Msg) -> Result<Check, NoMemory>
-    ensures { GivesCheck result (Checks.sealed (message m.now)) }
+fn send_checks(alloc: Global, m: &Msg, n: &Msg) -> Result<Vec<Check>, NoMemory>
+    ensures { GivesAll result (leaf_checks (Sends (message m.now) (message n.now))) }
 {
-    Ok(Check::Sealed(m.copy(alloc)?))
+    let channel = Check::Channel(m.copy(alloc)?);
+    let datum = Check::Datum(n.copy(alloc)?);
+    Ok(Vec::from_array(alloc, [channel, datum])?)
 }
 
-fn first_of(alloc: Global, m: &Msg, t: &Ty) -> Result<Check, NoMemory>
-    ensures { GivesCheck result (Checks.first (message m.now) (type_of t.now)) }
+fn receive_checks(alloc: Global, m: &Msg, t: &Ty) -> Result<Vec<Check>, NoMemory>
+    ensures { GivesAll result (prefix_checks (Recvs (message m.now) (type_of t.now))) }
 {
-    let m = m.copy(alloc)?;
-    Ok(Check::First(m, t.copy(alloc)?))
+    let channel = Check::Channel(m.copy(alloc)?);
+    let untrusted = Check::Untrusted(t.copy(alloc)?);
+    Ok(Vec::from_array(alloc, [channel, untrusted, Check::Stays(1, 1)])?)
 }
 
-fn key_of(alloc: Global, m: &Msg, t: &Ty) -> Result<Check, NoMemory>
-    ensures { GivesCheck result (Checks.key_of (message m.now) (type_of t.now)) }
+fn serve_checks(alloc: Global, m: &Msg, t: &Ty) -> Result<Vec<Check>, NoMemory>
+    ensures { GivesAll result (prefix_checks (Serves (message m.now) (type_of t.now))) }
 {
-    let m = m.copy(alloc)?;
-    Ok(Check::KeyOf(m, t.copy(alloc)?))
-}
-
-fn nonce_of(alloc: Global, m: &Msg) -> Result<Check, NoMemory>
-    ensures { GivesCheck result (Checks.nonce_of (message m.now)) }
-{
-    Ok(Check::NonceOf(m.copy(alloc)?))
-}
-
-fn label(alloc: Global, m: &Msg) -> Result<Check, NoMemory>
-    ensures { GivesCheck result (Checks.label (message m.now)) }
-{
-    Ok(Check::Label(m.copy(alloc)?))
-}
-
-fn generative(alloc: Global, t: &Ty) -> Result<Check, NoMemory>
-    ensures { GivesCheck result (Checks.generative (type_of t.now)) }
-{
-    Ok(Check::Generative(t.copy(alloc)?))
-}
-
-fn castable(alloc: Global, t: &Ty) -> Result<Check, NoMemory>
-    ensures { GivesCheck result (Checks.castable (type_of t.now)) }
-{
-    Ok(Check::Castable(t.copy(alloc)?))
-}
-
-// One more check behind others.
-fn and(
-    checks: Result<Vec<Check>, NoMemory>,
-    check: Result<Check, NoMemory>,
-) -> Result<Vec<Check>, NoMemory>
-    ensures { (cs : List Checks.Check) (c : Checks.Check) → GivesAll checks cs → GivesCheck check c
-        → GivesAll result (cs ++ c ∷ []) }
-{
-    let mut checks = checks?;
-    checks.push(check?)?;
-    Ok(checks)
-}
-
-fn one(alloc: Global, a: Result<Check, NoMemory>) -> Result<Vec<Check>, NoMemory>
-    ensures { (p : Checks.Check) → GivesCheck a p → GivesAll result (p ∷ []) }
-{
-    and(Ok(Vec::new(alloc)), a)
-}
-
-fn two(
-    alloc: Global,
-    a: Result<Check, NoMemory>,
-    b: Result<Check, NoMemory>,
-) -> Result<Vec<Check>, NoMemory>
-    ensures { (p q : Checks.Check) → GivesCheck a p → GivesCheck b q → GivesAll result (p ∷ q ∷ []) }
-{
-    and(one(alloc, a), b)
-}
-
-fn three(
-    alloc: Global,
-    a: Result<Check, NoMemory>,
-    b: Result<Check, NoMemory>,
-    c: Result<Check, NoMemory>,
-) -> Result<Vec<Check>, NoMemory>
-    ensures { (p q r : Checks.Check) → GivesCheck a p → GivesCheck b q → GivesCheck c r
-        → GivesAll result (p ∷ q ∷ r ∷ []) }
-{
-    and(two(alloc, a, b), c)
-}
-
-fn four(
-    alloc: Global,
-    a: Result<Check, NoMemory>,
-    b: Result<Check, NoMemory>,
-    c: Result<Check, NoMemory>,
-    d: Result<Check, NoMemory>,
-) -> Result<Vec<Check>, NoMemory>
-    ensures { (p q r s : Checks.Check) → GivesCheck a p → GivesCheck b q → GivesCheck c r → GivesCheck d s
-        → GivesAll result (p ∷ q ∷ r ∷ s ∷ []) }
-{
-    and(three(alloc, a, b, c), d)
-}
-
-fn five(
-    alloc: Global,
-    a: Result<Check, NoMemory>,
-    b: Result<Check, NoMemory>,
-    c: Result<Check, NoMemory>,
-    d: Result<Check, NoMemory>,
-    e: Result<Check, NoMemory>,
-) -> Result<Vec<Check>, NoMemory>
-    ensures { (p q r s t : Checks.Check) → GivesCheck a p → GivesCheck b q → GivesCheck c r → GivesCheck d s
-        → GivesCheck e t
-        → GivesAll result (p ∷ q ∷ r ∷ s ∷ t ∷ []) }
-{
-    and(four(alloc, a, b, c, d), e)
+    let channel = Check::Channel(m.copy(alloc)?);
+    let untrusted = Check::Untrusted(t.copy(alloc)?);
+    let checks = [channel, untrusted, Check::Served(1), Check::Stays(1, 1)];
+    Ok(Vec::from_array(alloc, checks)?)
 }
 
 fn split_checks(alloc: Global, whole: &Msg, first: &Ty, second: &Ty) -> Result<Vec<Check>, NoMemory>
     ensures { GivesAll result (prefix_checks (Splits (message whole.now) (type_of first.now)
         (type_of second.now))) }
 {
-    let good = good(pair_type(alloc, first, second));
-    let scrutinee = scrutinee(alloc, whole, pair_type(alloc, first, second), first, second);
-    three(alloc, good, scrutinee, Ok(Check::Stays(2, 1)))
+    let good = Check::Good(pair_type(alloc, first, second)?);
+    let pair = pair_type(alloc, first, second)?;
+    let scrutinee = scrutinee(alloc, whole, pair, first, second)?;
+    Ok(Vec::from_array(alloc, [good, scrutinee, Check::Stays(2, 1)])?)
 }
 
 fn select_checks(
@@ -248,10 +109,12 @@ fn select_checks(
     ensures { GivesAll result (prefix_checks (Selects (message whole.now) (type_of first.now)
         (message equal.now) (type_of second.now))) }
 {
-    let good = good(pair_type(alloc, first, second));
-    let scrutinee = scrutinee(alloc, whole, pair_type(alloc, first, second), first, second);
-    let equal = first_of(alloc, equal, first);
-    four(alloc, good, scrutinee, equal, Ok(Check::Stays(1, 1)))
+    let good = Check::Good(pair_type(alloc, first, second)?);
+    let pair = pair_type(alloc, first, second)?;
+    let scrutinee = scrutinee(alloc, whole, pair, first, second)?;
+    let equal = equal.copy(alloc)?;
+    let part = Check::First(equal, first.copy(alloc)?);
+    Ok(Vec::from_array(alloc, [good, scrutinee, part, Check::Stays(1, 1)])?)
 }
 
 fn branch_checks(
@@ -264,31 +127,55 @@ fn branch_checks(
     ensures { GivesAll result (fork_checks (Branches (message whole.now) (type_of left.now)
         (type_of right.now)) rest) }
 {
-    let on_left = good(left.copy(alloc));
-    let on_right = good(right.copy(alloc));
-    let scrutinee = scrutinee(alloc, whole, sum_type(alloc, left, right), left, right);
-    let first = Ok(Check::Stays(1, 1));
-    let second = Ok(Check::Stays(1, rest));
-    five(alloc, on_left, on_right, scrutinee, first, second)
+    let on_left = Check::Good(left.copy(alloc)?);
+    let on_right = Check::Good(right.copy(alloc)?);
+    let scrutinee = scrutinee(alloc, whole, sum_type(alloc, left, right)?, left, right)?;
+    let first = Check::Stays(1, 1);
+    let second = Check::Stays(1, rest);
+    Ok(Vec::from_array(alloc, [on_left, on_right, scrutinee, first, second])?)
 }
 
 fn decrypt_checks(alloc: Global, whole: &Msg, t: &Ty, key: &Msg) -> Result<Vec<Check>, NoMemory>
     ensures { GivesAll result (prefix_checks (Decrypts (message whole.now) (type_of t.now)
         (message key.now))) }
 {
-    let good = good(t.copy(alloc));
-    let sealed = sealed(alloc, whole);
-    let key = key_of(alloc, key, t);
-    four(alloc, good, sealed, key, Ok(Check::Stays(1, 1)))
+    let good = Check::Good(t.copy(alloc)?);
+    let sealed = Check::Sealed(whole.copy(alloc)?);
+    let key = key.copy(alloc)?;
+    let by = Check::KeyOf(key, t.copy(alloc)?);
+    Ok(Vec::from_array(alloc, [good, sealed, by, Check::Stays(1, 1)])?)
+}
+
+fn nonce_checks(alloc: Global, whole: &Msg, nonce: &Msg) -> Result<Vec<Check>, NoMemory>
+    ensures { GivesAll result (prefix_checks (Term.Checks (message whole.now) (message nonce.now))) }
+{
+    let sealed = Check::Sealed(whole.copy(alloc)?);
+    let nonce = Check::NonceOf(nonce.copy(alloc)?);
+    Ok(Vec::from_array(alloc, [sealed, nonce])?)
+}
+
+fn label_checks(alloc: Global, m: &Msg) -> Result<Vec<Check>, NoMemory>
+    ensures { GivesAll result (prefix_checks (Begins (message m.now))) }
+{
+    let label = Check::Label(m.copy(alloc)?);
+    Ok(Vec::from_array(alloc, [label])?)
 }
 
 fn cast_checks(alloc: Global, whole: &Msg, t: &Ty) -> Result<Vec<Check>, NoMemory>
     ensures { GivesAll result (prefix_checks (Casts (message whole.now) (type_of t.now))) }
 {
-    let castable = castable(alloc, t);
-    let good = good(t.copy(alloc));
-    let sealed = sealed(alloc, whole);
-    four(alloc, castable, good, sealed, Ok(Check::Stays(1, 1)))
+    let castable = Check::Castable(t.copy(alloc)?);
+    let good = Check::Good(t.copy(alloc)?);
+    let sealed = Check::Sealed(whole.copy(alloc)?);
+    Ok(Vec::from_array(alloc, [castable, good, sealed, Check::Stays(1, 1)])?)
+}
+
+fn fresh_checks(alloc: Global, t: &Ty) -> Result<Vec<Check>, NoMemory>
+    ensures { GivesAll result (prefix_checks (Freshes (type_of t.now))) }
+{
+    let generative = Check::Generative(t.copy(alloc)?);
+    let good = Check::Good(t.copy(alloc)?);
+    Ok(Vec::from_array(alloc, [generative, good, Check::Made(1)])?)
 }
 
 /// The checks of the form of node `id`, in their order.
@@ -296,25 +183,9 @@ pub fn checks_of(alloc: Global, id: u32, node: &Node) -> Result<Vec<Check>, NoMe
     ensures { GivesAll result (shape_checks id (shape_of node.now)) }
 {
     match &node.form {
-        Form::Send {
-            channel: m,
-            datum: n,
-        } => two(alloc, channel(alloc, m), datum(alloc, n)),
-        Form::Recv { channel: m, ty, .. } => {
-            let stays = Ok(Check::Stays(1, 1));
-            three(alloc, channel(alloc, m), untrusted(alloc, ty), stays)
-        }
-        Form::Serve { channel: m, ty, .. } => {
-            let served = Ok(Check::Served(1));
-            let stays = Ok(Check::Stays(1, 1));
-            four(
-                alloc,
-                channel(alloc, m),
-                untrusted(alloc, ty),
-                served,
-                stays,
-            )
-        }
+        Form::Send { channel, datum } => send_checks(alloc, channel, datum),
+        Form::Recv { channel, ty, .. } => receive_checks(alloc, channel, ty),
+        Form::Serve { channel, ty, .. } => serve_checks(alloc, channel, ty),
         Form::Split {
             whole,
             first,
@@ -336,19 +207,12 @@ pub fn checks_of(alloc: Global, id: u32, node: &Node) -> Result<Vec<Check>, NoMe
             ..
         } => branch_checks(alloc, whole, left, right, on_right.saturating_sub(id)),
         Form::Decrypt { whole, ty, key, .. } => decrypt_checks(alloc, whole, ty, key),
-        Form::Check { whole, nonce, .. } => two(
-            alloc,
-            sealed(alloc, whole),
-            nonce_of(alloc, nonce),
-        ),
-        Form::Begin { label: m, .. }
-        | Form::End { label: m, .. }
-        | Form::EndMany { label: m, .. } => one(alloc, label(alloc, m)),
-        Form::Cast { whole, ty, .. } => cast_checks(alloc, whole, ty),
-        Form::Fresh { ty, .. } => {
-            let made = Ok(Check::Made(1));
-            three(alloc, generative(alloc, ty), good(ty.copy(alloc)), made)
+        Form::Check { whole, nonce, .. } => nonce_checks(alloc, whole, nonce),
+        Form::Begin { label, .. } | Form::End { label, .. } | Form::EndMany { label, .. } => {
+            label_checks(alloc, label)
         }
+        Form::Cast { whole, ty, .. } => cast_checks(alloc, whole, ty),
+        Form::Fresh { ty, .. } => fresh_checks(alloc, ty),
         Form::Par { .. } | Form::Stop => Ok(Vec::new(alloc)),
     }
 }

@@ -1,5 +1,0 @@
-use Rattle.std.proofs.Common.{refl}
-use Rattle.spi_fault.proofs.check.cast_checks.Goals as goal
-
-pub returns : goal.returns
-returns c = c.four.ensures _ _ _ _ c.castable-castable.ensures (c.good-good.ensures _ c.copy.ensures) c.sealed-sealed.ensures refl
