@@ -1,6 +1,6 @@
 -- Uses of the rules of messages, held against what they are asked of.
 use Rattle.std.proofs.Common.{◌≡◌, refl, sym, ap, ◌∙◌, subst, ℕ, ◌≤◌, length, arith, Bool, true, false, true≢false, List, [], ◌∷◌, Some, None, ◌⊎◌, inl, inr, ⊎_elim}
-use Rattle.std.specs.Prelude.{slice_get, ⊤}
+use Rattle.std.specs.Prelude.{slice_get, ⊤, if◌then◌else◌, Option}
 use Rattle.spi_term.specs.Term.{Message, name, unit, pair, in_left, in_right, enc, Ty, un, unit_ty, pair_ty, sum_ty, key, nonce}
 use Rattle.spi_rules.specs.Environment.{Env}
 use Rattle.spi_rules.specs.declared.rule.Rule.{Rule}
@@ -24,7 +24,7 @@ use Rattle.spi_audit.specs.declared.asked.Asked.TheVariants as A
 use Rattle.spi_audit.specs.declared.asked.Premises.{Premises}
 use Rattle.spi_audit.specs.declared.asked.Premises.TheVariants.{NoPremise, OnePremise, TwoPremises}
 use Rattle.spi_audit.specs.Fits.{Subject, of_message, plain, Fits, fits_unit, fits_unit_un, fits_pair_un, fits_inl, fits_inl_un, fits_inr, fits_inr_un, fits_enc_un, fits_name, fits_enc, fits_pair, fits_hash}
-use Rattle.spi_audit.specs.Asked.{IsTypeAsked, asked_none, asked_next, AnsweredMessage, AnswersPart, IsSumOf, IsNoSum}
+use Rattle.spi_audit.specs.Asked.{IsTypeAsked, asked_none, asked_next, IsWhereUn, AnsweredMessage, AnswersPart, IsSumOf, IsNoSum}
 
 unit_of : (u : Ty) → is_un u ≡ false → is_unit u ≡ true → u ≡ unit_ty
 unit_of unit_ty e f = refl
@@ -97,6 +97,14 @@ module _ (j : Numbered) (t : TyId) (b : Bool) (told : (u : Ty) → Means j.store
   pub un_not : (rule : Rule) (p : MsgPart) → ForUn rule → b ≡ false → AnswersPart j j rule p t None
   un_not rule p k e = record { at = λ env m u s w n ps f. not_there e u n (at_un k f) }
 
+  -- the premises are answered where the type is Un
+  where_un : (rule : Rule) (p : MsgPart) → ForUn rule → (ps : Premises) (r : Option Premises) → r ≡ (if b then Some ps else None) → (b ≡ true → AnswersPart j j rule p t (Some ps)) → AnswersPart j j rule p t r
+  where_un rule p k ps r e f = subst (AnswersPart j j rule p t) (sym e) (by b refl)
+    where
+      by : (d : Bool) → b ≡ d → AnswersPart j j rule p t (if d then Some ps else None)
+      by true g = f g
+      by false g = un_not rule p k g
+
   pub unit_un_fits : b ≡ true → AnswersPart j j MsgUnitUn P.Unit t (Some NoPremise)
   unit_un_fits e = un_fits MsgUnitUn P.Unit NoPremise e at
     where
@@ -144,6 +152,9 @@ module _ (j : Numbered) (t : TyId) (b : Bool) (told : (u : Ty) → Means j.store
     where
       at : (env : Env) (m : Message) → Says j.store.messages (P.Inr x) m → Means j.store t.place un → AnsweredMessage j.store env (plain MsgInrUn) m un (Some (OnePremise (A.Message x t)))
       at env _ (says_right {m = k} g) w = (of_message env k un ∷ [], fits_inr_un, asked_next (asked_as j.store x t g w) asked_none)
+
+pub un_arm : (j : Numbered) (t : TyId) (rule own : Rule) → rule ≡ own → ForUn own → (p : MsgPart) (ps : Premises) (r : Option Premises) → (w : IsWhereUn j.store t ps r) → (w.0 ≡ true → AnswersPart j j own p t (Some ps)) → AnswersPart j j rule p t r
+un_arm j t rule own q k p ps r w f = subst (λ o. AnswersPart j j o p t r) (sym q) (where_un j t w.0 w.1 own p k ps r w.2 f)
 
 -- the rules that give a message a sum type alone
 abbrev pub ForSum : Rule → Type 0

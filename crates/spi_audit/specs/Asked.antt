@@ -1,5 +1,5 @@
 -- What uses are asked of, by the numbers of a judge's store, and the premises of a use that fits.
-use Rattle.std.specs.Prelude.{◌≡◌, ℕ, List, [], ◌∷◌, ◌++◌, drop, length, slice_get, Option, Some, None, true, false}
+use Rattle.std.specs.Prelude.{◌≡◌, ℕ, List, [], ◌∷◌, ◌++◌, drop, length, slice_get, Option, Some, None, Bool, true, false, if◌then◌else◌}
 use Rattle.spi_term.specs.Lists.{At}
 use Rattle.spi_term.specs.Term.{Message, name, Ty, un, pair_ty, sum_ty, key, Leaf, Prefix, Fork, Process, leaf, prefix, fork, binds, fork_binds}
 use Rattle.spi_term.specs.Spelling.{Shape, flat, numbered}
@@ -144,6 +144,10 @@ TakesLabel old new m body None = (e : Env) → Stands old e → IsLabel [] e m �
 TakesLabel old new m body (Some p) =
     (a : Asked) × (p ≡ OnePremise a) × Begins old new body (λ e. []) a
     × ((e : Env) → Stands old e → IsLabel [] e m)
+
+-- these premises where the type with this number is Un, and none where it isn't
+abbrev pub IsWhereUn : Store → TyId → Premises → Option Premises → Type 0
+IsWhereUn s t ps r = (b : Bool) × ((u : Ty) → Means s t.place u → b ≡ is_un u) × (r ≡ (if b then Some ps else None))
 
 -- the parts of a type by its number
 pub record IsPairOf (s : Store) (t a b : TyId) : Type 0 where

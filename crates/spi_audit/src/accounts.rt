@@ -23,20 +23,11 @@ use std::mem::replace;
 
 /// An effect: the atoms with names in scope by counts, and of the others which names they have, and whether each of them
 /// is a `many`.
+#[derive(Drop)]
 pub struct Account {
     pub sum: Sum,
     pub loose: Counts,
     pub lasting: bool,
-}
-
-impl Drop for Account {
-    fn drop(self) {
-        let Account {
-            sum: _,
-            loose: _,
-            lasting: _,
-        } = self;
-    }
 }
 
 impl Account {
@@ -52,11 +43,14 @@ impl Account {
         sum
     }
 
-    /// The sum of two effects.
-    pub fn summed(self, other: Account) -> Result<Account, NoMemory>
-        ensures { IfOk result
-            (λ r. (s : Store) (keys : Keys) (n : ℕ) (es fs : Effect) → IsKeyed s keys → Held s keys n self es
-            → Held s keys n other fs → Held s keys n r (es ++ fs)) }
+    // The atoms with names in scope of two effects apart, and the others of both.
+    fn apart(self, other: Account) -> Result<(Sum, Sum, Counts, bool), NoMemory>
+        ensures first { IfOk result (λ r. r.0 ≡ self.sum) }
+        ensures second { IfOk result (λ r. r.1 ≡ other.sum) }
+        ensures loose { IfOk result
+            (λ r. (k : ℕ) → count_of r.2.counts k
+            ≡ max (count_of self.loose.counts k) (count_of other.loose.counts k)) }
+        ensures lasting { IfOk result (λ r. r.3 ≡ (self.lasting && other.lasting)) }
     {
         let Account {
             sum,
@@ -68,10 +62,22 @@ impl Account {
             loose: more_loose,
             lasting: more_lasting,
         } = other;
+        let names = merged(loose, more_loose)?;
+        Ok((sum, more_sum, names, both(lasting, more_lasting)))
+    }
+
+    /// The sum of two effects.
+    pub fn summed(self, other: Account) -> Result<Account, NoMemory>
+        ensures { IfOk result
+            (λ r. (s : Store) (keys : Keys) (n : ℕ) (es fs : Effect) → IsKeyed s keys → Held s keys n self es
+            → Held s keys n other fs → Held s keys n r (es ++ fs)) }
+    {
+        let (sum, more, loose, lasting) = self.apart(other)?;
+        let joined = Sum::joined(sum, more)?;
         Ok(Account {
-            sum: Sum::joined(sum, more_sum)?,
-            loose: merged(loose, more_loose)?,
-            lasting: both(lasting, more_lasting),
+            sum: joined,
+            loose,
+            lasting,
         })
     }
 
@@ -81,20 +87,12 @@ impl Account {
             (λ r. (s : Store) (keys : Keys) (n : ℕ) (es fs : Effect) → IsKeyed s keys → Held s keys n self es
             → Held s keys n other fs → Held s keys n r (greater es fs)) }
     {
-        let Account {
-            sum,
+        let (sum, more, loose, lasting) = self.apart(other)?;
+        let greatest = Sum::greatest(sum, more)?;
+        Ok(Account {
+            sum: greatest,
             loose,
             lasting,
-        } = self;
-        let Account {
-            sum: more_sum,
-            loose: more_loose,
-            lasting: more_lasting,
-        } = other;
-        Ok(Account {
-            sum: Sum::greatest(sum, more_sum)?,
-            loose: merged(loose, more_loose)?,
-            lasting: both(lasting, more_lasting),
         })
     }
 }

@@ -31,6 +31,9 @@ pub enum Premises {
     ThreePremises(Asked, Asked, Asked),
 }
 
+/// The premises of a use where it fits, and none where it doesn't.
+pub type FittingPremises = Result<Option<Premises>, NoMemory>;
+
 /// The first premise comes to the top.
 pub fn push_premises(asked: &mut Vec<Asked>, premises: Premises) -> Result<(), NoMemory>
     ensures { OnOk result (reverse asked.new.items ≡ listed premises ++ reverse asked.old.items) }

@@ -7,8 +7,7 @@ ghost use Rattle.spi_message.specs.Judging.{IsKept};
 ghost use Rattle.spi_audit.specs.Fits.{plain};
 ghost use Rattle.spi_audit.specs.Asked.{AnswersLeaf, AnswersPrefix, AnswersFork, AnswersNode, TakesUntrusted, TakesGood, TakesLabel};
 
-use crate::NoMemory;
-use crate::asked::Premises;
+use crate::asked::{FittingPremises, Premises};
 use crate::opening::{asked, asked_untrusted, begun, begun_one, begun_opened, begun_two};
 use spi_message::slices::{is_fresh_type, is_un_type};
 use spi_message::{Judge, is_good, is_labelled, key_type, nonce_at, pair_type, sum_type};
@@ -18,13 +17,7 @@ use std::alloc::Global;
 
 // A process under one untrusted name.
 #[tactic(auto, using(spi_message::proofs::Tested::kept_more, spi_message::proofs::Tested::kept_same))]
-fn takes_untrusted(
-    alloc: Global,
-    judge: &mut Judge,
-    m: &Msg,
-    ty: &Ty,
-    body: u32,
-) -> Result<Option<Premises>, NoMemory>
+fn takes_untrusted(alloc: Global, judge: &mut Judge, m: &Msg, ty: &Ty, body: u32) -> FittingPremises
     ensures answer { IfOk result (TakesUntrusted judge.old judge.new (message m.now) (type_of ty.now) body) }
     ensures kept { IsKept judge.old judge.new }
 {
@@ -39,12 +32,7 @@ fn takes_untrusted(
 
 // A process behind a label.
 #[tactic(auto, using(spi_message::proofs::Tested::kept_more))]
-fn takes_label(
-    alloc: Global,
-    judge: &mut Judge,
-    m: &Msg,
-    body: u32,
-) -> Result<Option<Premises>, NoMemory>
+fn takes_label(alloc: Global, judge: &mut Judge, m: &Msg, body: u32) -> FittingPremises
     ensures answer { IfOk result (TakesLabel judge.old judge.new (message m.now) body) }
     ensures kept { IsKept judge.old judge.new }
 {
@@ -63,7 +51,7 @@ fn of_send(
     rule: Rule,
     channel: &Msg,
     datum: &Msg,
-) -> Result<Option<Premises>, NoMemory>
+) -> FittingPremises
     ensures answer { IfOk result
         (AnswersLeaf judge.old judge.new rule (Term.Sends (message channel.now) (message datum.now))) }
     ensures kept { IsKept judge.old judge.new }
@@ -96,7 +84,7 @@ fn of_recv(
     m: &Msg,
     ty: &Ty,
     body: u32,
-) -> Result<Option<Premises>, NoMemory>
+) -> FittingPremises
     ensures answer { IfOk result
         (AnswersPrefix judge.old judge.new rule (Term.Recvs (message m.now) (type_of ty.now)) body) }
     ensures kept { IsKept judge.old judge.new }
@@ -115,7 +103,7 @@ fn of_serve(
     m: &Msg,
     ty: &Ty,
     body: u32,
-) -> Result<Option<Premises>, NoMemory>
+) -> FittingPremises
     ensures answer { IfOk result
         (AnswersPrefix judge.old judge.new rule (Term.Serves (message m.now) (type_of ty.now)) body) }
     ensures kept { IsKept judge.old judge.new }
@@ -134,7 +122,7 @@ fn split_typed(
     first: &Ty,
     second: &Ty,
     body: u32,
-) -> Result<Option<Premises>, NoMemory>
+) -> FittingPremises
     requires { length judge.old.types + (ty_nodes (type_of first.now) + ty_nodes (type_of second.now)) + 1
         < 2 ^ 32 }
     ensures answer { IfOk result
@@ -159,7 +147,7 @@ fn split_untrusted(
     first: &Ty,
     second: &Ty,
     body: u32,
-) -> Result<Option<Premises>, NoMemory>
+) -> FittingPremises
     ensures answer { IfOk result
         (AnswersPrefix judge.old judge.new Rule.ProcSplitUn
         (Term.Splits (message whole.now) (type_of first.now) (type_of second.now)) body) }
@@ -185,7 +173,7 @@ fn of_split(
     first: &Ty,
     second: &Ty,
     body: u32,
-) -> Result<Option<Premises>, NoMemory>
+) -> FittingPremises
     requires { length judge.old.types + (ty_nodes (type_of first.now) + ty_nodes (type_of second.now)) + 1
         < 2 ^ 32 }
     ensures answer { IfOk result
@@ -209,7 +197,7 @@ fn select_typed(
     equal: &Msg,
     second: &Ty,
     body: u32,
-) -> Result<Option<Premises>, NoMemory>
+) -> FittingPremises
     requires { length judge.old.types + (ty_nodes (type_of first.now) + ty_nodes (type_of second.now)) + 1
         < 2 ^ 32 }
     ensures answer { IfOk result
@@ -237,7 +225,7 @@ fn select_untrusted(
     equal: &Msg,
     second: &Ty,
     body: u32,
-) -> Result<Option<Premises>, NoMemory>
+) -> FittingPremises
     ensures answer { IfOk result
         (AnswersPrefix judge.old judge.new Rule.ProcMatchUn
         (Term.Selects (message whole.now) (type_of first.now) (message equal.now) (type_of second.now))
@@ -266,7 +254,7 @@ fn of_select(
     equal: &Msg,
     second: &Ty,
     body: u32,
-) -> Result<Option<Premises>, NoMemory>
+) -> FittingPremises
     requires { length judge.old.types + (ty_nodes (type_of first.now) + ty_nodes (type_of second.now)) + 1
         < 2 ^ 32 }
     ensures answer { IfOk result
@@ -291,7 +279,7 @@ fn branch_typed(
     on_left: u32,
     right: &Ty,
     on_right: u32,
-) -> Result<Option<Premises>, NoMemory>
+) -> FittingPremises
     requires { length judge.old.types + (ty_nodes (type_of left.now) + ty_nodes (type_of right.now))
         < 2 ^ 32 }
     ensures answer { IfOk result
@@ -321,7 +309,7 @@ fn branch_untrusted(
     on_left: u32,
     right: &Ty,
     on_right: u32,
-) -> Result<Option<Premises>, NoMemory>
+) -> FittingPremises
     ensures answer { IfOk result
         (AnswersFork judge.old judge.new Rule.ProcCaseUn
         (Term.Branches (message whole.now) (type_of left.now) (type_of right.now)) on_left on_right) }
@@ -349,7 +337,7 @@ fn of_branch(
     on_left: u32,
     right: &Ty,
     on_right: u32,
-) -> Result<Option<Premises>, NoMemory>
+) -> FittingPremises
     requires { length judge.old.types + (ty_nodes (type_of left.now) + ty_nodes (type_of right.now))
         < 2 ^ 32 }
     ensures answer { IfOk result
@@ -381,7 +369,7 @@ fn decrypt_typed(
     ty: &Ty,
     key: &Msg,
     body: u32,
-) -> Result<Option<Premises>, NoMemory>
+) -> FittingPremises
     requires { length judge.old.types + ty_nodes (type_of ty.now) < 2 ^ 32 }
     ensures answer { IfOk result
         (AnswersPrefix judge.old judge.new Rule.ProcDecrypt
@@ -406,7 +394,7 @@ fn decrypt_untrusted(
     ty: &Ty,
     key: &Msg,
     body: u32,
-) -> Result<Option<Premises>, NoMemory>
+) -> FittingPremises
     ensures answer { IfOk result
         (AnswersPrefix judge.old judge.new Rule.ProcDecryptUn
         (Term.Decrypts (message whole.now) (type_of ty.now) (message key.now)) body) }
@@ -430,7 +418,7 @@ fn of_decrypt(
     ty: &Ty,
     key: &Msg,
     body: u32,
-) -> Result<Option<Premises>, NoMemory>
+) -> FittingPremises
     requires { length judge.old.types + ty_nodes (type_of ty.now) < 2 ^ 32 }
     ensures answer { IfOk result
         (AnswersPrefix judge.old judge.new rule
@@ -451,7 +439,7 @@ fn check_typed(
     whole: &Msg,
     nonce: &Msg,
     body: u32,
-) -> Result<Option<Premises>, NoMemory>
+) -> FittingPremises
     ensures answer { IfOk result
         (AnswersPrefix judge.old judge.new Rule.ProcCheck
         (Term.Checks (message whole.now) (message nonce.now)) body) }
@@ -475,7 +463,7 @@ fn check_untrusted(
     whole: &Msg,
     nonce: &Msg,
     body: u32,
-) -> Result<Option<Premises>, NoMemory>
+) -> FittingPremises
     ensures answer { IfOk result
         (AnswersPrefix judge.old judge.new Rule.ProcCheckUn
         (Term.Checks (message whole.now) (message nonce.now)) body) }
@@ -495,7 +483,7 @@ fn of_check(
     whole: &Msg,
     nonce: &Msg,
     body: u32,
-) -> Result<Option<Premises>, NoMemory>
+) -> FittingPremises
     ensures answer { IfOk result
         (AnswersPrefix judge.old judge.new rule (Term.Checks (message whole.now) (message nonce.now)) body) }
     ensures kept { IsKept judge.old judge.new }
@@ -508,13 +496,7 @@ fn of_check(
 }
 
 #[tactic(auto, using(spi_message::proofs::Tested::kept_same))]
-fn of_begin(
-    alloc: Global,
-    judge: &mut Judge,
-    rule: Rule,
-    label: &Msg,
-    body: u32,
-) -> Result<Option<Premises>, NoMemory>
+fn of_begin(alloc: Global, judge: &mut Judge, rule: Rule, label: &Msg, body: u32) -> FittingPremises
     ensures answer { IfOk result
         (AnswersPrefix judge.old judge.new rule (Term.Begins (message label.now)) body) }
     ensures kept { IsKept judge.old judge.new }
@@ -526,13 +508,7 @@ fn of_begin(
 }
 
 #[tactic(auto, using(spi_message::proofs::Tested::kept_same))]
-fn of_end(
-    alloc: Global,
-    judge: &mut Judge,
-    rule: Rule,
-    label: &Msg,
-    body: u32,
-) -> Result<Option<Premises>, NoMemory>
+fn of_end(alloc: Global, judge: &mut Judge, rule: Rule, label: &Msg, body: u32) -> FittingPremises
     ensures answer { IfOk result
         (AnswersPrefix judge.old judge.new rule (Term.Ends (message label.now)) body) }
     ensures kept { IsKept judge.old judge.new }
@@ -550,7 +526,7 @@ fn of_end_many(
     rule: Rule,
     label: &Msg,
     body: u32,
-) -> Result<Option<Premises>, NoMemory>
+) -> FittingPremises
     ensures answer { IfOk result
         (AnswersPrefix judge.old judge.new rule (Term.EndManys (message label.now)) body) }
     ensures kept { IsKept judge.old judge.new }
@@ -562,13 +538,7 @@ fn of_end_many(
 }
 
 #[tactic(auto, using(spi_message::proofs::Tested::kept_more, spi_message::proofs::Tested::kept_same))]
-fn cast_good(
-    alloc: Global,
-    judge: &mut Judge,
-    whole: &Msg,
-    ty: &Ty,
-    body: u32,
-) -> Result<Option<Premises>, NoMemory>
+fn cast_good(alloc: Global, judge: &mut Judge, whole: &Msg, ty: &Ty, body: u32) -> FittingPremises
     requires { length judge.old.types + ty_nodes (type_of ty.now) < 2 ^ 32 }
     ensures answer { IfOk result (TakesGood judge.old judge.new (message whole.now) (type_of ty.now) body) }
     ensures kept { IsKept judge.old judge.new }
@@ -582,13 +552,7 @@ fn cast_good(
 }
 
 #[tactic(auto, using(spi_message::proofs::Tested::kept_same))]
-fn cast_typed(
-    alloc: Global,
-    judge: &mut Judge,
-    whole: &Msg,
-    ty: &Ty,
-    body: u32,
-) -> Result<Option<Premises>, NoMemory>
+fn cast_typed(alloc: Global, judge: &mut Judge, whole: &Msg, ty: &Ty, body: u32) -> FittingPremises
     requires { length judge.old.types + ty_nodes (type_of ty.now) < 2 ^ 32 }
     ensures answer { IfOk result
         (AnswersPrefix judge.old judge.new Rule.ProcCast (Term.Casts (message whole.now) (type_of ty.now))
@@ -609,7 +573,7 @@ fn of_cast(
     whole: &Msg,
     ty: &Ty,
     body: u32,
-) -> Result<Option<Premises>, NoMemory>
+) -> FittingPremises
     requires { length judge.old.types + ty_nodes (type_of ty.now) < 2 ^ 32 }
     ensures answer { IfOk result
         (AnswersPrefix judge.old judge.new rule (Term.Casts (message whole.now) (type_of ty.now)) body) }
@@ -623,12 +587,7 @@ fn of_cast(
 }
 
 #[tactic(auto, using(spi_message::proofs::Tested::kept_more, spi_message::proofs::Tested::kept_same))]
-fn fresh_good(
-    alloc: Global,
-    judge: &mut Judge,
-    ty: &Ty,
-    body: u32,
-) -> Result<Option<Premises>, NoMemory>
+fn fresh_good(alloc: Global, judge: &mut Judge, ty: &Ty, body: u32) -> FittingPremises
     requires { length judge.old.types + ty_nodes (type_of ty.now) < 2 ^ 32 }
     ensures answer { IfOk result
         (AnswersPrefix judge.old judge.new Rule.ProcNew (Term.Freshes (type_of ty.now)) body) }
@@ -645,13 +604,7 @@ fn fresh_good(
 }
 
 #[tactic(auto, using(spi_message::proofs::Tested::kept_same))]
-fn of_fresh(
-    alloc: Global,
-    judge: &mut Judge,
-    rule: Rule,
-    ty: &Ty,
-    body: u32,
-) -> Result<Option<Premises>, NoMemory>
+fn of_fresh(alloc: Global, judge: &mut Judge, rule: Rule, ty: &Ty, body: u32) -> FittingPremises
     requires { length judge.old.types + ty_nodes (type_of ty.now) < 2 ^ 32 }
     ensures answer { IfOk result
         (AnswersPrefix judge.old judge.new rule (Term.Freshes (type_of ty.now)) body) }
@@ -665,12 +618,7 @@ fn of_fresh(
 
 /// The premises of a use that is asked of the process at a node, where it fits and isn't one of `ProcSub`.
 #[tactic(auto, using(spi_message::proofs::Tested::kept_same))]
-pub fn node_premises(
-    alloc: Global,
-    judge: &mut Judge,
-    rule: Rule,
-    node: &Node,
-) -> Result<Option<Premises>, NoMemory>
+pub fn node_premises(alloc: Global, judge: &mut Judge, rule: Rule, node: &Node) -> FittingPremises
     requires small { HasSmallParts (shape_of node.now) }
     requires room { length judge.old.types ≤ 300001 }
     ensures answer { IfOk result (AnswersNode judge.old judge.new (plain rule) (shape_of node.now)) }

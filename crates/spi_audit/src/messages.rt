@@ -6,10 +6,11 @@ ghost use Rattle.spi_intern.specs.Given.{IsGiven};
 ghost use Rattle.spi_intern.specs.Meaning.{Means};
 ghost use Rattle.spi_message.specs.Judging.{IsKept};
 ghost use Rattle.spi_message.specs.Tests.{is_un, is_unit};
-ghost use Rattle.spi_audit.specs.Asked.{AnswersPart, AnswersMessage, IsPairOf, IsSumOf, IsNoPair, IsNoSum, IsKeyAt, IsNoKeyAt};
+ghost use Rattle.spi_audit.specs.declared.asked.Asked.TheVariants as A;
+ghost use Rattle.spi_audit.specs.declared.asked.Premises.TheVariants as C;
+ghost use Rattle.spi_audit.specs.Asked.{AnswersPart, AnswersMessage, IsWhereUn, IsPairOf, IsSumOf, IsNoPair, IsNoSum, IsKeyAt, IsNoKeyAt};
 
-use crate::NoMemory;
-use crate::asked::{Asked, Premises};
+use crate::asked::{Asked, FittingPremises, Premises};
 use spi_intern::{MsgId, MsgPart, TyId, TyPart};
 use spi_message::Judge;
 use spi_message::heads::{is_un_type, is_unit_type, payload_of};
@@ -29,6 +30,36 @@ fn is_unit(judge: &Judge, t: TyId) -> bool
     ensures { (u : TypeTerm) → Means judge.now.store t.place u → result ≡ is_unit u }
 {
     is_unit_type(judge.store(), t)
+}
+
+// The premises where the type is `Un`, and none where it isn't.
+fn where_untrusted(judge: &Judge, t: TyId, premises: Premises) -> Option<Premises>
+    requires { IsGiven judge.now.store t.place }
+    ensures { IsWhereUn judge.now.store t premises result }
+{
+    if is_untrusted(judge, t) {
+        Some(premises)
+    } else {
+        None
+    }
+}
+
+// Both parts have the type where it is `Un`.
+fn both_untrusted(judge: &Judge, a: MsgId, b: MsgId, t: TyId) -> Option<Premises>
+    requires { IsGiven judge.now.store t.place }
+    ensures { IsWhereUn judge.now.store t (C.TwoPremises (A.Message a t) (A.Message b t)) result }
+{
+    let premises = Premises::TwoPremises(Asked::Message(a, t), Asked::Message(b, t));
+    where_untrusted(judge, t, premises)
+}
+
+// The part has the type where it is `Un`.
+fn part_untrusted(judge: &Judge, a: MsgId, t: TyId) -> Option<Premises>
+    requires { IsGiven judge.now.store t.place }
+    ensures { IsWhereUn judge.now.store t (C.OnePremise (A.Message a t)) result }
+{
+    let premises = Premises::OnePremise(Asked::Message(a, t));
+    where_untrusted(judge, t, premises)
 }
 
 fn pair_parts(judge: &Judge, t: TyId) -> Option<(TyId, TyId)>
@@ -111,24 +142,7 @@ fn unit_typed(judge: &Judge, t: TyId) -> Option<Premises>
     }
 }
 
-fn unit_untrusted(judge: &Judge, t: TyId) -> Option<Premises>
-    requires { IsGiven judge.now.store t.place }
-    ensures { AnswersPart judge.now judge.now Rule.MsgUnitUn P.Unit t result }
-{
-    if is_untrusted(judge, t) {
-        Some(Premises::NoPremise)
-    } else {
-        None
-    }
-}
-
-fn pair_typed(
-    alloc: Global,
-    judge: &mut Judge,
-    a: MsgId,
-    b: MsgId,
-    t: TyId,
-) -> Result<Option<Premises>, NoMemory>
+fn pair_typed(alloc: Global, judge: &mut Judge, a: MsgId, b: MsgId, t: TyId) -> FittingPremises
     requires message { a.place < length judge.old.store.messages }
     requires ty { IsGiven judge.old.store t.place }
     ensures answer { IfOk result (AnswersPart judge.old judge.new Rule.MsgPair (P.Pair a b) t) }
@@ -143,17 +157,6 @@ fn pair_typed(
     }
 }
 
-fn pair_untrusted(judge: &Judge, a: MsgId, b: MsgId, t: TyId) -> Option<Premises>
-    requires { IsGiven judge.now.store t.place }
-    ensures { AnswersPart judge.now judge.now Rule.MsgPairUn (P.Pair a b) t result }
-{
-    if is_untrusted(judge, t) {
-        Some(Premises::TwoPremises(Asked::Message(a, t), Asked::Message(b, t)))
-    } else {
-        None
-    }
-}
-
 fn left_typed(judge: &Judge, a: MsgId, t: TyId) -> Option<Premises>
     requires { IsGiven judge.now.store t.place }
     ensures { AnswersPart judge.now judge.now Rule.MsgInl (P.Inl a) t result }
@@ -164,17 +167,6 @@ fn left_typed(judge: &Judge, a: MsgId, t: TyId) -> Option<Premises>
     }
 }
 
-fn left_untrusted(judge: &Judge, a: MsgId, t: TyId) -> Option<Premises>
-    requires { IsGiven judge.now.store t.place }
-    ensures { AnswersPart judge.now judge.now Rule.MsgInlUn (P.Inl a) t result }
-{
-    if is_untrusted(judge, t) {
-        Some(Premises::OnePremise(Asked::Message(a, t)))
-    } else {
-        None
-    }
-}
-
 fn right_typed(judge: &Judge, a: MsgId, t: TyId) -> Option<Premises>
     requires { IsGiven judge.now.store t.place }
     ensures { AnswersPart judge.now judge.now Rule.MsgInr (P.Inr a) t result }
@@ -182,17 +174,6 @@ fn right_typed(judge: &Judge, a: MsgId, t: TyId) -> Option<Premises>
     match sum_parts(judge, t) {
         Some((_, right)) => Some(Premises::OnePremise(Asked::Message(a, right))),
         None => None,
-    }
-}
-
-fn right_untrusted(judge: &Judge, a: MsgId, t: TyId) -> Option<Premises>
-    requires { IsGiven judge.now.store t.place }
-    ensures { AnswersPart judge.now judge.now Rule.MsgInrUn (P.Inr a) t result }
-{
-    if is_untrusted(judge, t) {
-        Some(Premises::OnePremise(Asked::Message(a, t)))
-    } else {
-        None
     }
 }
 
@@ -210,18 +191,7 @@ fn sealed(judge: &Judge, a: MsgId, b: MsgId, t: TyId) -> Option<Premises>
     }
 }
 
-fn sealed_untrusted(judge: &Judge, a: MsgId, b: MsgId, t: TyId) -> Option<Premises>
-    requires { IsGiven judge.now.store t.place }
-    ensures { AnswersPart judge.now judge.now Rule.MsgEncUn (P.Enc a b) t result }
-{
-    if is_untrusted(judge, t) {
-        Some(Premises::TwoPremises(Asked::Message(a, t), Asked::Message(b, t)))
-    } else {
-        None
-    }
-}
-
-fn hashed(alloc: Global, judge: &mut Judge, a: MsgId, t: TyId) -> Result<Option<Premises>, NoMemory>
+fn hashed(alloc: Global, judge: &mut Judge, a: MsgId, t: TyId) -> FittingPremises
     requires message { a.place < length judge.old.store.messages }
     requires ty { IsGiven judge.old.store t.place }
     ensures answer { IfOk result (AnswersPart judge.old judge.new Rule.MsgHash (P.Hash a) t) }
@@ -253,7 +223,7 @@ fn of_unit(judge: &Judge, rule: Rule, t: TyId) -> Option<Premises>
 {
     match rule {
         Rule::MsgUnit => unit_typed(judge, t),
-        Rule::MsgUnitUn => unit_untrusted(judge, t),
+        Rule::MsgUnitUn => where_untrusted(judge, t, Premises::NoPremise),
         _ => None,
     }
 }
@@ -266,7 +236,7 @@ fn of_pair(
     a: MsgId,
     b: MsgId,
     t: TyId,
-) -> Result<Option<Premises>, NoMemory>
+) -> FittingPremises
     requires message { a.place < length judge.old.store.messages }
     requires ty { IsGiven judge.old.store t.place }
     ensures answer { IfOk result (AnswersPart judge.old judge.new rule (P.Pair a b) t) }
@@ -274,7 +244,7 @@ fn of_pair(
 {
     match rule {
         Rule::MsgPair => pair_typed(alloc, judge, a, b, t),
-        Rule::MsgPairUn => Ok(pair_untrusted(judge, a, b, t)),
+        Rule::MsgPairUn => Ok(both_untrusted(judge, a, b, t)),
         _ => Ok(None),
     }
 }
@@ -285,7 +255,7 @@ fn of_left(judge: &Judge, rule: Rule, a: MsgId, t: TyId) -> Option<Premises>
 {
     match rule {
         Rule::MsgInl => left_typed(judge, a, t),
-        Rule::MsgInlUn => left_untrusted(judge, a, t),
+        Rule::MsgInlUn => part_untrusted(judge, a, t),
         _ => None,
     }
 }
@@ -296,7 +266,7 @@ fn of_right(judge: &Judge, rule: Rule, a: MsgId, t: TyId) -> Option<Premises>
 {
     match rule {
         Rule::MsgInr => right_typed(judge, a, t),
-        Rule::MsgInrUn => right_untrusted(judge, a, t),
+        Rule::MsgInrUn => part_untrusted(judge, a, t),
         _ => None,
     }
 }
@@ -308,19 +278,13 @@ fn of_sealed(judge: &Judge, rule: Rule, a: MsgId, b: MsgId, t: TyId) -> Option<P
 {
     match rule {
         Rule::MsgEnc => sealed(judge, a, b, t),
-        Rule::MsgEncUn => sealed_untrusted(judge, a, b, t),
+        Rule::MsgEncUn => both_untrusted(judge, a, b, t),
         _ => None,
     }
 }
 
 #[tactic(auto, using(spi_message::proofs::Tested::kept_same))]
-fn of_hash(
-    alloc: Global,
-    judge: &mut Judge,
-    rule: Rule,
-    a: MsgId,
-    t: TyId,
-) -> Result<Option<Premises>, NoMemory>
+fn of_hash(alloc: Global, judge: &mut Judge, rule: Rule, a: MsgId, t: TyId) -> FittingPremises
     requires message { a.place < length judge.old.store.messages }
     requires ty { IsGiven judge.old.store t.place }
     ensures answer { IfOk result (AnswersPart judge.old judge.new rule (P.Hash a) t) }
@@ -340,7 +304,7 @@ pub fn message_premises(
     rule: Rule,
     m: MsgId,
     t: TyId,
-) -> Result<Option<Premises>, NoMemory>
+) -> FittingPremises
     requires message { m.place < length judge.old.store.messages }
     requires ty { IsGiven judge.old.store t.place }
     ensures answer { IfOk result (AnswersMessage judge.old judge.new rule m t) }

@@ -3,6 +3,7 @@ use spi_intern::{AtomId, MsgId, TyId};
 
 /// What a use does to the effects of the processes in its premises, by the numbers of a store. A number of names is the
 /// number of names in scope at the use.
+#[derive(Drop)]
 pub enum Note {
     /// A message's use does nothing.
     Nothing,
@@ -32,26 +33,4 @@ pub enum Note {
     Both,
     /// An effect that is written in place of the process's.
     Taken(Vec<AtomId>),
-}
-
-impl Drop for Note {
-    fn drop(self) {
-        match self {
-            Note::Nothing => {}
-            Note::Empty => {}
-            Note::Same => {}
-            Note::LeaveOne(_) => {}
-            Note::LeaveTwo(_) => {}
-            Note::Serve(_) => {}
-            Note::Case(_) => {}
-            Note::Check(_, _) => {}
-            Note::Begin(_) => {}
-            Note::End(_) => {}
-            Note::EndMany(_) => {}
-            Note::Cast(_, _) => {}
-            Note::Make(_, _) => {}
-            Note::Both => {}
-            Note::Taken(_) => {}
-        }
-    }
 }
