@@ -5,30 +5,9 @@ use crate::syntax::tell_syntax;
 use spi_report::Refusal;
 use spi_text::Span;
 
-/// What a refusal says, and what usually mends it.
-fn words(number: u32) -> (&'static str, &'static str) {
+/// What the refusal of a name says, and what usually mends it.
+fn name_words(number: u32) -> (&'static str, &'static str) {
     match number {
-        2 => (
-            "the input has more than 16,777,216 bytes",
-            "check the parts one by one",
-        ),
-        10 => (
-            "the bytes from here on are no UTF-8",
-            "save the file as UTF-8",
-        ),
-        11 => (
-            "no token begins with this character",
-            "names are letters, digits and underscores; comments begin with `//`",
-        ),
-        12 => (
-            "this number is above 4,294,967,295",
-            "numbers stand in schedules and derivations alone",
-        ),
-        13 => ("this name has more than 255 bytes", "take a shorter name"),
-        21 => (
-            "something that is nested too deep begins here: processes at most 500, messages and types at most 1,000",
-            "a chain of `|` goes one deeper at each bar: put the parts into groups, `(.. | ..) | (.. | ..)`",
-        ),
         30 => (
             "this name isn't in scope here",
             "it's declared by `free`, or bound in front on the same way; an abbreviation and the opponent see the free names alone, and the first name of a `match` stands for nothing behind it",
@@ -41,9 +20,28 @@ fn words(number: u32) -> (&'static str, &'static str) {
             "this free name is declared a second time",
             "names that are bound in the process may repeat, free ones may not",
         ),
-        33 => (
+        _ => (
             "this abbreviation is declared a second time",
             "give it another name",
+        ),
+    }
+}
+
+/// What the refusal of something too large says, and what usually mends it.
+fn limit_words(number: u32) -> (&'static str, &'static str) {
+    match number {
+        2 => (
+            "the input has more than 16,777,216 bytes",
+            "check the parts one by one",
+        ),
+        12 => (
+            "this number is above 4,294,967,295",
+            "numbers stand in schedules and derivations alone",
+        ),
+        13 => ("this name has more than 255 bytes", "take a shorter name"),
+        21 => (
+            "something that is nested too deep begins here: processes at most 500, messages and types at most 1,000",
+            "a chain of `|` goes one deeper at each bar: put the parts into groups, `(.. | ..) | (.. | ..)`",
         ),
         34 => (
             "this message has more than 200 nodes",
@@ -57,10 +55,26 @@ fn words(number: u32) -> (&'static str, &'static str) {
             "up to here the file has more than 100,000 nodes",
             "check the parts one by one: accepted files stay accepted beside one another, if they share free names alone",
         ),
-        37 => (
+        _ => (
             "a schedule has at most 10,000 steps",
             "leave out the steps behind",
         ),
+    }
+}
+
+/// What a refusal says, and what usually mends it.
+fn words(number: u32) -> (&'static str, &'static str) {
+    match number {
+        10 => (
+            "the bytes from here on are no UTF-8",
+            "save the file as UTF-8",
+        ),
+        11 => (
+            "no token begins with this character",
+            "names are letters, digits and underscores; comments begin with `//`",
+        ),
+        30..=33 => name_words(number),
+        2 | 12 | 13 | 21 | 34..=37 => limit_words(number),
         _ => (
             "the file isn't one",
             "docs/reasons.md has the causes of each number",
