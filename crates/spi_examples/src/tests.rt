@@ -1,0 +1,17 @@
+mod commands;
+mod effects;
+mod events;
+mod hostile;
+mod inference;
+mod judges;
+mod lines;
+mod messages;
+mod parts;
+mod rules;
+mod samples;
+mod scopes;
+mod sharing;
+mod streams;
+mod sums;
+mod terms;
+mod tokens;
