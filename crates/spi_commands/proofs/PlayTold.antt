@@ -18,91 +18,10 @@ use Rattle.spi_play.specs.declared.plays.PlayFault.TheVariants.{BadPick, RunMess
 use Rattle.spi_play.specs.Way.{Way, Seen, Script, First, Turn, FollowsWay}
 use Rattle.spi_play.specs.Play.{Seat, State, Course, TurnOf, IsKth, CountsReady, Picks, DoesReady, Does, Turns, Plays, PlayGoesOn, EndsBy, most_reached, no_players, none_ready, seats_from, start, after_take, after_leave}
 use Rattle.spi_play.specs.Outcome.{IsPickRefused, AskedTell}
+use Rattle.spi_play.proofs.Same.{all_at, follows_tells, picks_same, turns_same}
 use Rattle.spi_play.proofs.Steps.{counts_once, kth_once}
-use Rattle.spi_replay.proofs.Taken.{taken_once}
+use Rattle.spi_replay.proofs.Taken.{taken_never}
 use Rattle.spi_commands.specs.Playing.{AskedTold}
-use Rattle.spi_commands.proofs.ScheduleSteps.{taken_never}
-
--- ---- one player
-
-follows_same : (way : Option Way) (times ready : ℕ) (p q : Pick) (v w : Option Way) → IsSome way → FollowsWay way times ready p v → FollowsWay way times ready q w → (p ≡ q) × (v ≡ w)
-follows_same None times ready p q v w some a b = absurd (cc)
-follows_same (Some (Script [])) times ready p q v w some a b = (a.0 ∙ sym b.0, a.1 ∙ sym b.1)
-follows_same (Some (Script (k ∷ script))) times ready p q v w some a b = (a.0 ∙ sym b.0, a.1 ∙ sym b.1)
-follows_same (Some First) times ready p q v w some a b = (a.0 ∙ sym b.0, a.1 ∙ sym b.1)
-follows_same (Some Turn) times ready p q v w some a b = (a.0 ∙ sym b.0, a.1 ∙ sym b.1)
-
--- who goes by a told way keeps telling it
-follows_tells : (way : Option Way) (times ready : ℕ) (p : Pick) (v : Option Way) → IsSome way → FollowsWay way times ready p v → IsSome v
-follows_tells None times ready p v some a = absurd (cc)
-follows_tells (Some (Script [])) times ready p v some a = rw a.1
-follows_tells (Some (Script (k ∷ script))) times ready p v some a = rw a.1
-follows_tells (Some First) times ready p v some a = rw a.1
-follows_tells (Some Turn) times ready p v some a = rw a.1
-
-picks_same : (old : Seen) (ready : ℕ) (p q : Pick) (a b : Seen) → IsSome old.way → Picks old ready p a → Picks old ready q b → (p ≡ q) × (a ≡ b)
-picks_same old ready p q a b tells first second =
-    let same : (p ≡ q) × (a.way ≡ b.way) = follows_same old.way old.times ready p q a.way b.way tells first.way second.way in
-    let f : ℕ → Seen = λ t. record { times = t; way = a.way } in
-    let g : Option Way → Seen = λ w. record { times = b.times; way = w } in
-    (same.0, ap f (first.times ∙ sym second.times) ∙ ap g same.1)
-
--- ---- one turn
-
-course_same : (a b : Course) → a.pool ≡ b.pool → a.steps ≡ b.steps → a.events ≡ b.events → a ≡ b
-course_same a b pool steps events =
-    let f : Pooled → Course = λ x. record { pool = x; steps = a.steps; events = a.events } in
-    let g : List Step → Course = λ x. record { pool = b.pool; steps = x; events = a.events } in
-    let h : List Event → Course = λ x. record { pool = b.pool; steps = b.steps; events = x } in
-    ap f pool ∙ ap g steps ∙ ap h events
-
-state_same : (a b : State) → a.course ≡ b.course → a.seats ≡ b.seats → a.next ≡ b.next → a ≡ b
-state_same a b done seats next =
-    let f : Course → State = λ x. record { course = x; seats = a.seats; next = a.next } in
-    let g : List Seat → State = λ x. record { course = b.course; seats = x; next = a.next } in
-    let h : Option ℕ → State = λ x. record { course = b.course; seats = b.seats; next = x } in
-    ap f done ∙ ap g seats ∙ ap h next
-
-goes_same : (old : Course) (k : ℕ) (m n : Course) → DoesReady old k m → DoesReady old k n → m ≡ n
-goes_same old k m n first second =
-    let step : second.step ≡ first.step = kth_once second.kth first.kth in
-    let P : Step → Type 0 = λ s. IsTaken old.pool s second.event n.pool in
-    let taken : IsTaken old.pool first.step second.event n.pool = subst P step second.taken in
-    let same : (first.event ≡ second.event) × (m.pool ≡ n.pool) = taken_once first.taken taken in
-    course_same m n same.1
-    (first.steps ∙ ap (λ x. old.steps ++ x ∷ []) (sym step) ∙ sym second.steps)
-    (first.events ∙ ap (λ x. old.events ++ option_to_list x) same.0 ∙ sym second.events)
-
-does_same : (only : Option ℕ) (old : State) (place : ℕ) (p : Pick) (seats : List Seat) (m n : State) → Does only place p old.course m.course seats m.seats m.next → Does only place p old.course n.course seats n.seats n.next → m ≡ n
-does_same only old place (Take k) seats m n first second =
-    let after : m.seats ≡ n.seats = first.1 ∙ sym second.1 in
-    state_same m n (goes_same old.course k m.course n.course first.0 second.0) after
-    (first.2 ∙ ap (λ (xs : List Seat). after_take only place (length xs)) after ∙ sym second.2)
-does_same only old place Leave seats m n first second =
-    let after : m.seats ≡ n.seats = first.1 ∙ sym second.1 in
-    state_same m n (first.0 ∙ sym second.0) after
-    (first.2 ∙ ap (λ (xs : List Seat). after_leave only place (length xs)) after ∙ sym second.2)
-
-turns_same : (only : Option ℕ) (most : ℕ) (old : State) (t u : TurnOf) (m n : State) → (first : Turns only most old t m) → IsSome first.asks.seat.seen.way → Turns only most old u n → m ≡ n
-turns_same only most old t u m n first tell second =
-    let a = first.asks in
-    let b = second.asks in
-    let next : Some second.place ≡ Some first.place = sym second.goes_on.at ∙ first.goes_on.at in
-    let place : second.place ≡ first.place = cc in
-    let ready : u.ready ≡ t.ready = counts_once second.goes_on.counts first.goes_on.counts in
-    let there : Some b.seat ≡ Some a.seat = sym b.was ∙ ap (slice_get old.seats) place ∙ a.was in
-    let seat : b.seat ≡ a.seat = cc in
-    let P : Seat → Type 0 = λ s. Picks s.seen u.ready u.pick b.new in
-    let Q : ℕ → Type 0 = λ r. Picks a.seat.seen r u.pick b.new in
-    let picks : Picks a.seat.seen t.ready u.pick b.new = subst Q ready (subst P seat b.picks) in
-    let same : (u.pick ≡ t.pick) × (b.new ≡ a.new) = picks_same a.seat.seen t.ready u.pick t.pick b.new a.new tell picks a.picks in
-    let put : ℕ → Seat → Seen → List Seat = λ p s v. slice_set old.seats p (record { who = s.who; seen = v }) in
-    let seats : second.seats ≡ first.seats =
-    b.others ∙ ap (λ p. put p b.seat b.new) place ∙ ap (λ s. put first.place s b.new) seat ∙ ap (put first.place a.seat) same.1 ∙ sym a.others in
-    let D : ℕ → Type 0 = λ p. Does only p u.pick old.course n.course second.seats n.seats n.next in
-    let E : Pick → Type 0 = λ p. Does only first.place p old.course n.course second.seats n.seats n.next in
-    let F : List Seat → Type 0 = λ s. Does only first.place t.pick old.course n.course s n.seats n.next in
-    does_same only old first.place t.pick first.seats m n first.does (subst F seats (subst E same.0 (subst D place second.does)))
 
 -- ---- who told before the play tells in it
 
@@ -126,13 +45,6 @@ seats_keep before i (x ∷ rest) agree =
 
 start_keeps : (before : List Seen) → All (KeepsTelling before) (seats_from 0 before)
 start_keeps before = seats_keep before 0 before (λ k. let e : 0 + k ≡ k = omega arith in ap (slice_get before) e)
-
-all_at : {X : Type 0} (P : X → Type 0) (xs : List X) (i : ℕ) (x : X) → All P xs → slice_get xs i ≡ Some x → P x
-all_at P xs i x all is =
-    elim (slice_get_cases xs i).1 [
-      | inl within ↦ subst P (get_or_from_slice_get xs i x x is) (all i x within.1)
-      | inr past ↦ absurd (cc)
-    ]
 
 seats_after : (P : Seat → Type 0) (only : Option ℕ) (place : ℕ) (p : Pick) (old new : Course) (seats after : List Seat) (next : Option ℕ) → All P seats → Does only place p old new seats after next → All P after
 seats_after P only place (Take k) old new seats after next all does = subst (λ (s : List Seat). All P s) (sym does.1) all

@@ -2,35 +2,22 @@
 use Rattle.std.proofs.Common.{◌≡◌, ◌⊎◌, inl, inr, refl, sym, ap, ◌∙◌, subst, subst₂, ℕ, zero, suc, ◌+◌, ◌*◌, ◌<◌, ◌≤◌, Bool, true, List, [], ◌∷◌, ◌++◌, append_assoc, append-nil, length, map, take, drop, get_or, Option, Some, None, arith}
 use Rattle.std.proofs.lemmas.List.{length-map, length-take-le, take_all}
 use Rattle.std.specs.Prelude.{option_to_list}
-use Rattle.spi_term.specs.Lists.{At, at_first, at_later}
-use Rattle.spi_term.specs.Term.{Message, Process}
+use Rattle.spi_term.specs.Term.{Message}
 use Rattle.spi_know.specs.Sent.{handed, handed_in}
 use Rattle.spi_run.specs.declared.step.Step as program
 use Rattle.spi_run.specs.declared.step.Event as declared
 use Rattle.spi_run.specs.View.{step as step_of, event as event_of}
 use Rattle.spi_term.specs.View.{message}
 use Rattle.spi_commands.specs.declared.schedule.Talks.{Talks}
-use Rattle.spi_run.specs.Reduction.{Configuration, Step, Event, Acts, acts_split, acts_select, acts_inl, acts_inr, acts_decrypt, acts_check, acts_begin, acts_end, acts_end_many, acts_cast, acts_fresh, acts_par, Takes, takes_act, takes_talk, Runs, runs_none, runs_silent, runs_event}
-use Rattle.spi_run.proofs.Once.{takes_once}
+use Rattle.spi_run.specs.Reduction.{Configuration, Step, Event, Runs, runs_none, runs_silent, runs_event}
+use Rattle.spi_replay.proofs.Taken.{taken_once, taken_never, takes_names}
 use Rattle.spi_replay.specs.declared.fault.StepFault.{StepFault}
 use Rattle.spi_replay.specs.declared.fault.StepFault.TheVariants.{NoMemory as OutOfMemory}
-use Rattle.spi_replay.specs.Stepping.{Pooled, FirstOutside, outside_here, outside_later, places_named, RefusesPoolStep, no_place, not_ready, too_large, too_many, IsTaken}
+use Rattle.spi_replay.specs.Stepping.{Pooled, RefusesPoolStep, IsTaken}
 use Rattle.spi_commands.specs.Replays.{ReplaysWithTalks, replays_none, replays_step, IsRefusedAt}
 use Rattle.spi_commands.specs.Ran.{AreTalks}
 
--- a step is taken in one way
-same_pool : (q r : Pooled) → q.configuration ≡ r.configuration → q.most ≡ r.most → q ≡ r
-same_pool q r e f =
-    let one : Configuration → Pooled = λ c. record { configuration = c; most = q.most } in
-    let other : ℕ → Pooled = λ m. record { configuration = r.configuration; most = m } in
-    ap one e ∙ ap other f
-
-pub taken_once : {p q r : Pooled} {s : Step} {e f : Option Event} → IsTaken p s e q → IsTaken p s f r → (e ≡ f) × (q ≡ r)
-taken_once {q = q} {r = r} t u =
-    let (same, next) = takes_once t.takes u.takes in
-    (same, same_pool q r next (t.most ∙ sym u.most))
-
--- and so are steps
+-- steps are taken in one way
 from_same : {p q r : Pooled} {ss : List Step} {es : List Event} {ms : List Message} → p ≡ q → ReplaysWithTalks p ss es ms r → ReplaysWithTalks q ss es ms r
 from_same {r = r} {ss = ss} {es = es} {ms = ms} e h = subst (λ (p : Pooled). ReplaysWithTalks p ss es ms r) e h
 
@@ -51,33 +38,7 @@ step_taken late s (replays_step t h) (replays_step u k) =
     let (same, next) = taken_once t u in
     step_taken late s h (from_same (sym next) k)
 
--- a step that is taken isn't refused
-at_inside : {A : Type 0} {xs : List A} {i : ℕ} {x : A} → At xs i x → i < length xs
-at_inside at_first = omega arith
-at_inside (at_later a) = let h = at_inside a in omega (arith, h)
-
-one_inside : {n i k : ℕ} → i < n → FirstOutside n (i ∷ []) k → ⊥
-one_inside h (outside_here g) = omega (arith, h, g)
-one_inside h (outside_later g l) = elim l [ ]
-
-two_inside : {n i j k : ℕ} → i < n → j < n → FirstOutside n (i ∷ j ∷ []) k → ⊥
-two_inside h g (outside_here l) = omega (arith, h, l)
-two_inside h g (outside_later l m) = one_inside g m
-
-never_outside : {c d : Configuration} {s : Step} {e : Option Event} {k : ℕ} → Takes c s e d → FirstOutside (length c.places) (places_named s) k → ⊥
-never_outside (takes_act a x) o = one_inside (at_inside a) o
-never_outside (takes_talk a b x) o = two_inside (at_inside a) (at_inside b) o
-
-pub taken_never : {p q : Pooled} {s : Step} {e : Option Event} {f : StepFault} → IsTaken p s e q → RefusesPoolStep p.configuration p.most s f → ⊥
-taken_never t (no_place o) = never_outside t.takes o
-taken_never {q = q} {e = e} t (not_ready inside never) = never (e, q.configuration, t.takes)
-taken_never t (too_large ready large) = let small = t.small in omega (arith, small, large)
-taken_never {q = q} t (too_many {d = d} takes small many) =
-    let (same, next) = takes_once t.takes takes in
-    let few = t.few in
-    let each : length q.configuration.places ≡ length d.places = ap (λ (c : Configuration). length c.places) next in
-    omega (arith, few, many, each)
-
+-- and refuses none of them
 pub never_refused : {p r : Pooled} {ss : List Step} {es : List Event} {ms : List Message} {i : ℕ} {f : StepFault} → ReplaysWithTalks p ss es ms r → IsRefusedAt p ss i f → ⊥
 never_refused {p} {r} {es = es} {ms = ms} h at =
     let whole : ReplaysWithTalks p (at.early ++ at.step ∷ at.late) es ms r = subst (λ (l : List Step). ReplaysWithTalks p l es ms r) at.split h in
@@ -101,25 +62,6 @@ pub few_events : {p q : Pooled} {ss : List Step} {es : List Event} {ms : List Me
 few_events replays_none = omega arith
 few_events (replays_step {e = None} t h) = let few = few_events h in omega (arith, few)
 few_events (replays_step {e = Some event} t h) = let few = few_events h in omega (arith, few)
-
--- each step uses one name more at most
-acts_names : {n k : ℕ} {p q : Process} {e : Option Event} {more : List Process} → Acts n p e k q more → k ≤ n + 1
-acts_names acts_split = omega arith
-acts_names (acts_select e) = omega arith
-acts_names acts_inl = omega arith
-acts_names acts_inr = omega arith
-acts_names (acts_decrypt e) = omega arith
-acts_names (acts_check e) = omega arith
-acts_names acts_begin = omega arith
-acts_names acts_end = omega arith
-acts_names acts_end_many = omega arith
-acts_names acts_cast = omega arith
-acts_names acts_fresh = omega arith
-acts_names acts_par = omega arith
-
-takes_names : {c d : Configuration} {s : Step} {e : Option Event} → Takes c s e d → d.names ≤ c.names + 1
-takes_names (takes_act a x) = acts_names x
-takes_names (takes_talk a b x) = omega arith
 
 -- a step more
 pub append_step : {p q r : Pooled} {ss : List Step} {es : List Event} {ms : List Message} {s : Step} {e : Option Event} → ReplaysWithTalks p ss es ms q → IsTaken q s e r
