@@ -79,7 +79,10 @@ pub fn replay_of(alloc: Global, bytes: &[u8], file: &File, keeps: bool) -> Resul
         None => Ok(refused_by(missing(alloc, bytes, b"opponent")?)),
         Some(opponent) => match &file.schedule {
             None => Ok(refused_by(missing(alloc, bytes, b"schedule")?)),
-            Some(steps) => against(alloc, bytes, file, opponent, steps, keeps),
+            Some(steps) => match is_opponent(opponent) {
+                Err(fault) => Ok(refused_by(not_opponent(alloc, bytes, file, fault.node)?)),
+                Ok(()) => beside(alloc, bytes, file, opponent, steps, keeps),
+            },
         },
     }
 }
@@ -89,28 +92,6 @@ fn refused_by(answer: Answer) -> Ran
     ensures { result ≡ Ran.Refused answer.output }
 {
     Ran::Refused(answer.output)
-}
-
-/// The replay of these steps, where this is an opponent.
-fn against(
-    alloc: Global,
-    bytes: &[u8],
-    file: &File,
-    opponent: &Process,
-    steps: &[Step],
-    keeps: bool,
-) -> Result<Ran, Stop>
-    requires sized { length bytes.now ≤ 16_777_216 }
-    requires read { IsRead bytes.now file.now }
-    requires opponent { (meant file.now).opponent ≡ Some opponent.now }
-    requires schedule { (meant file.now).schedule ≡ Some (map step_of steps.now) }
-    ensures ok { IfOk result (λ ran. IsRan bytes.now (meant file.now) keeps ran) }
-    ensures err { OnErr result (result ≡ Err Stop.NoMemory) }
-{
-    match is_opponent(opponent) {
-        Err(fault) => Ok(refused_by(not_opponent(alloc, bytes, file, fault.node)?)),
-        Ok(()) => beside(alloc, bytes, file, opponent, steps, keeps),
-    }
 }
 
 /// The replay of these steps beside this opponent.
@@ -286,7 +267,7 @@ fn told_of(fault: &StepFault) -> Option<Told>
     }
 }
 
-/// The refusal of a step.
+/// The line of a step that is refused.
 fn stopped(alloc: Global, bytes: &[u8], file: &File, refused: &RefusedStep) -> Result<Ran, Stop>
     requires sized { length bytes.now ≤ 16_777_216 }
     requires read { IsRead bytes.now file.now }
@@ -298,33 +279,9 @@ fn stopped(alloc: Global, bytes: &[u8], file: &File, refused: &RefusedStep) -> R
         ran) }
     ensures err { OnErr result (result ≡ Err Stop.NoMemory) }
 {
-    match told_of(&refused.fault) {
-        None => Err(Stop::NoMemory),
-        Some(told) => step_refusal(alloc, bytes, file, refused, &told),
-    }
-}
-
-/// The line of that refusal.
-fn step_refusal(
-    alloc: Global,
-    bytes: &[u8],
-    file: &File,
-    refused: &RefusedStep,
-    told: &Told,
-) -> Result<Ran, Stop>
-    requires sized { length bytes.now ≤ 16_777_216 }
-    requires read { IsRead bytes.now file.now }
-    requires some { refused.now.fault ≢ StepFault.NoMemory }
-    requires number { told.now.number ≡ step_number refused.now.fault }
-    requires count { decimal told.now.count ≡ step_shown refused.now.fault }
-    ensures ok { IfOk result
-        (λ ran. (refused.now.fault ≢ StepFault.NoMemory)
-        × IsRefused bytes.now
-        (IsCause (step_number refused.now.fault)
-        (Some (place_in file.now.marks.steps.items refused.now.index).from) (step_shown refused.now.fault))
-        ran) }
-    ensures err { OnErr result (result ≡ Err Stop.NoMemory) }
-{
+    let Some(told) = told_of(&refused.fault) else {
+        return Err(Stop::NoMemory);
+    };
     let offset = file.step_place(refused.index).from;
     let count = told.count;
     let shown = format!(in alloc; "{count}")?.into_bytes();
