@@ -1,12 +1,13 @@
 -- The lines of refusals, in a table of answers.
-use Rattle.std.proofs.Common.{◌≡◌, ℕ, ◌<◌, List, Option, Result, Ok, Err, IfOk, sym, subst, inl}
+use Rattle.std.proofs.Common.{◌≡◌, ℕ, ◌<◌, List, Option, None, Result, Ok, Err, IfOk, refl, sym, subst, inl}
+use Rattle.std.specs.Prelude.{◌↔◌}
 use Rattle.spi_report.specs.declared.refusal.Refusal.{Refusal}
 use Rattle.spi_report.specs.Refused.{refused_text}
 use Rattle.spi_commands.specs.declared.answer.Answer.{Answer}
 use Rattle.spi_commands.specs.declared.status.Status.{Status}
-use Rattle.spi_commands.specs.declared.status.Status.TheVariants.{Refused}
+use Rattle.spi_commands.specs.declared.status.Status.TheVariants.{Yes, No, Refused, ReadFault, WriteFault, NoMemory, Usage}
 use Rattle.spi_commands.specs.Spelled.{limit}
-use Rattle.spi_commands.specs.Answers.{Answers}
+use Rattle.spi_commands.specs.Answers.{Answers, never}
 use Rattle.spi_commands.specs.Refusals.{layered, IsLineOf, IsCause, IsTooMuch, too_much, Refuses, IsRefusal}
 
 -- the causes of a line are these too
@@ -28,6 +29,12 @@ pub cause_is : {E : Type 0} (bytes shown : List ℕ) (number : ℕ) (offset : Op
 cause_is bytes shown number offset causes (Ok a) h (e, (r, (n, o, s), line)) = (e, one_line bytes shown a.output.items number offset r causes h n o s line)
 cause_is bytes shown number offset causes (Err e) h is = tt
 
+-- what it shows, said in another way
+pub cause_shown : {E : Type 0} (bytes shown text : List ℕ) (number : ℕ) (result : Result Answer E) → text ≡ shown
+    → IfOk result (λ a. (a.status ≡ Refused) × IsLineOf bytes (IsCause number None text) a.output.items) → IfOk result (λ a. (a.status ≡ Refused) × IsLineOf bytes (IsCause number None shown) a.output.items)
+cause_shown bytes shown text number result e h =
+    subst (λ (s : List ℕ). IfOk result (λ a. (a.status ≡ Refused) × IsLineOf bytes (IsCause number None s) a.output.items)) e h
+
 -- a refusal is the answer of a table that has its causes
 pub refuses_by : {E : Type 0} (bytes : List ℕ) (causes wanted : ℕ → Option ℕ → List ℕ → Type 0) (accepted denied : List ℕ → Type 0) (result : Result Answer E) → ((n : ℕ) (o : Option ℕ) (s : List ℕ) → causes n o s → wanted n o s)
     → IfOk result (λ a. (a.status ≡ Refused) × IsLineOf bytes causes a.output.items) → IfOk result (λ a. Answers accepted denied (IsLineOf bytes wanted) a.status a.output.items)
@@ -46,3 +53,32 @@ much count most number offset shown e h = subst (λ n. IsTooMuch n number offset
 
 pub more_than : {count number : ℕ} {offset : Option ℕ} {shown : List ℕ} → IsTooMuch count number offset shown → limit < count
 more_than (too_much l) = l
+
+-- ---- tables without a no
+
+-- yes where there is such an output, and refused where there is this reason for none
+pub record IsYesOrRefused (accepted : List ℕ → Type 0) (reason : Type 0) (status : Status) : Type 0 where
+  pub yes : (status ≡ Yes) ↔ ((output : List ℕ) × accepted output)
+  pub refused : (status ≡ Refused) ↔ reason
+
+pub yes_or_refused : (bytes : List ℕ) (accepted : List ℕ → Type 0) (causes : ℕ → Option ℕ → List ℕ → Type 0) (reason : Type 0) → ((output : List ℕ) → accepted output → reason → ⊥) → ((n : ℕ) (o : Option ℕ) (s : List ℕ) → causes n o s → reason)
+    → (output : List ℕ) (status : Status) → Answers accepted never (IsLineOf bytes causes) status output → IsYesOrRefused accepted reason status
+yes_or_refused bytes accepted causes reason apart reasons output Yes is = record {
+  yes = (λ e. (output, is), λ a. refl);
+  refused = (λ e. absurd (cc), λ why. absurd (apart output is why));
+}
+yes_or_refused bytes accepted causes reason apart reasons output No is = absurd is
+yes_or_refused bytes accepted causes reason apart reasons output Refused (r, h, line) =
+    let why : reason = reasons r.number r.offset r.shown.items h in
+    record {
+      yes = (λ e. absurd (cc), λ a. absurd (apart a.0 a.1 why));
+      refused = (λ e. why, λ w. refl);
+    }
+yes_or_refused bytes accepted causes reason apart reasons output ReadFault is = absurd is
+yes_or_refused bytes accepted causes reason apart reasons output WriteFault is = absurd is
+yes_or_refused bytes accepted causes reason apart reasons output NoMemory is = absurd is
+yes_or_refused bytes accepted causes reason apart reasons output Usage is = absurd is
+
+-- the output of a yes
+pub accepted_at : (bytes : List ℕ) (accepted : List ℕ → Type 0) (causes : ℕ → Option ℕ → List ℕ → Type 0) (output : List ℕ) (status : Status) → Answers accepted never (IsLineOf bytes causes) status output → status ≡ Yes → accepted output
+accepted_at bytes accepted causes output status is e = let at_yes : Answers accepted never (IsLineOf bytes causes) Yes output = subst (λ (s : Status). Answers accepted never (IsLineOf bytes causes) s output) e is in at_yes

@@ -1,5 +1,5 @@
 -- What `bench` answers on a text.
-use Rattle.std.proofs.Common.{◌≡◌, ◌≢◌, inl, inr, ℕ, List, sym, subst, Result, Ok, Err, IfOk, length}
+use Rattle.std.proofs.Common.{inr, ℕ, List, Result, Ok, Err, IfOk, length}
 use Rattle.spi_edits.specs.Edits.{Bench}
 use Rattle.spi_workbench.specs.Answers.{IsJudged, RefusesEdits}
 use Rattle.spi_workbench.specs.declared.answer.Refusal.{Refusal}
@@ -11,10 +11,7 @@ use Rattle.spi_commands.specs.declared.reading.Unread.TheVariants as unread
 use Rattle.spi_commands.specs.declared.status.Status.{Status}
 use Rattle.spi_commands.specs.declared.status.Status.TheVariants.{Yes, No, Refused, ReadFault, WriteFault, NoMemory, Usage}
 use Rattle.spi_commands.specs.Reading.{IsUnreadBy, TellsRefusal}
-use Rattle.spi_commands.specs.Refusals.{IsLineOf, IsUnlexed}
-use Rattle.spi_commands.specs.Run.{IsAnswered}
 use Rattle.spi_commands.specs.Benching.{IsBenchOf, AreVerdictsTold, IsUnjudged, unjudged, RefusesBench, BenchesTo, bench_number, bench_place, bench_shown}
-use Rattle.spi_commands.proofs.AnswerLines.{line_map}
 use Rattle.spi_commands.proofs.FileRefusals.{unread_as}
 
 -- ---- refusals
@@ -27,16 +24,6 @@ tells_unjudged b end r u h t = unread_as (IsUnjudged b end) (bench_number r) (be
 pub unjudged_refuses : (bytes : List ℕ) (b : Bench) (u : Unread) → IsBenchOf bytes b → IsUnreadBy (IsUnjudged b (length bytes)) u → IsUnreadBy (RefusesBench bytes) u
 unjudged_refuses bytes b (unread.Refused r) is h = inr (inr (b, is, h))
 unjudged_refuses bytes b unread.NoMemory is h = tt
-
--- the line of bytes that have no tokens
-pub unlexed_line : (bytes line output : List ℕ) (status : Status) → status ≡ Refused → output ≡ line → IsLineOf bytes (IsUnlexed bytes) line → BenchesTo bytes status output
-unlexed_line bytes line output status e is h =
-    subst (λ (s : Status). BenchesTo bytes s output) (sym e) (subst (λ (o : List ℕ). IsLineOf bytes (RefusesBench bytes) o) (sym is) (line_map bytes line (IsUnlexed bytes) (RefusesBench bytes) (λ n o s m. inl m) h))
-
--- any refusal
-pub refused_to : (bytes : List ℕ) (result : Result Answer Stop) → IfOk result (λ a. (a.status ≡ Refused) × IsLineOf bytes (RefusesBench bytes) a.output.items) → IfOk result (λ a. BenchesTo bytes a.status a.output.items)
-refused_to bytes (Ok a) (e, line) = subst (λ (s : Status). BenchesTo bytes s a.output.items) (sym e) line
-refused_to bytes (Err s) h = tt
 
 -- ---- verdicts
 
@@ -52,8 +39,3 @@ told_one bytes b v is judged Usage output h = absurd h
 pub told_to : (bytes : List ℕ) (v : Verdicts) → (b : Bench) × IsBenchOf bytes b × IsJudged b (length bytes) v → (result : Result Answer Stop) → IfOk result (λ a. AreVerdictsTold v a.status a.output.items) → IfOk result (λ a. BenchesTo bytes a.status a.output.items)
 told_to bytes v (b, is, judged) (Ok a) h = told_one bytes b v is judged a.status a.output.items h
 told_to bytes v b (Err s) h = tt
-
--- ---- the status
-
-pub bench_answered : (bytes : List ℕ) (result : Result Answer Stop) → IfOk result (λ a. BenchesTo bytes a.status a.output.items) → IfOk result (λ a. IsAnswered a.status × (a.status ≢ Usage))
-bench_answered bytes result h = Rattle.spi_commands.proofs.FileTaking.are_answered _ _ _ result h

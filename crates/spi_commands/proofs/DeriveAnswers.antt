@@ -1,6 +1,5 @@
 -- What `derive` answers on a file.
-use Rattle.std.proofs.Common.{◌≡◌, ℕ, ◌+◌, ◌≤◌, List, ◌++◌, sym, ap, ◌∙◌, length, length-append, Result, Ok, Err, IfOk, arith, inr}
-use Rattle.std.specs.Prelude.{codes}
+use Rattle.std.proofs.Common.{◌≡◌, ℕ, List, ◌∙◌, subst, length, Result, Ok, Err, IfOk, inr}
 use Rattle.spi_scope.specs.declared.file.File.{File}
 use Rattle.spi_scope.specs.Files.{meant}
 use Rattle.spi_rules.specs.Derivations.{RuleUse}
@@ -11,29 +10,30 @@ use Rattle.spi_commands.specs.declared.answer.Answer.{Answer}
 use Rattle.spi_commands.specs.declared.answer.Stop.{Stop}
 use Rattle.spi_commands.specs.declared.status.Status.{Status}
 use Rattle.spi_commands.specs.declared.status.Status.TheVariants.{Yes, No, Refused, ReadFault, WriteFault, NoMemory, Usage}
-use Rattle.spi_commands.specs.Spelled.{limit, IsDerivable}
-use Rattle.spi_commands.specs.Refusals.{layered, IsLineOf, Refuses, IsTooMuch}
+use Rattle.spi_commands.specs.Spelled.{IsDerivable}
+use Rattle.spi_commands.specs.Refusals.{layered, Refuses, IsTooMuch, FitsBehind}
 use Rattle.spi_commands.specs.NoLine.{IsVerdict}
-use Rattle.spi_commands.specs.Deriving.{SpellsCanonical, listing_length, HasLongListing, DerivesTo}
+use Rattle.spi_commands.specs.Deriving.{SpellsCanonical, HasLongListing, DerivesTo}
 use Rattle.spi_commands.specs.Reading.{IsRead}
-use Rattle.spi_commands.proofs.AnswerLines.{refuses_by, much}
+use Rattle.spi_commands.proofs.AnswerLines.{line_map}
 
 spelled : (bytes : List ℕ) (f : File) (us : List RuleUse) → IsRead bytes f → Canonical us f.process.names f.process.process → SpellsCanonical bytes us
 spelled bytes f us (tree, is, stands, marks) c = (meant f, (tree, is, stands), c)
 
-joined_long : (bytes text : List ℕ) → length (joined bytes text) ≡ length bytes + 1 + length text
-joined_long bytes text = let e = length-append bytes (codes "\n" ++ text) in omega (arith, e)
+-- a listing, or one that is too long
+listed : (bytes text output : List ℕ) (f : File) (us : List RuleUse) (status : Status) → IsRead bytes f → Canonical us f.process.names f.process.process → text ≡ derivation_text us → FitsBehind bytes text status output → DerivesTo bytes status output
+listed bytes text output f us Yes r c e h = (us, spelled bytes f us r c, h.0 ∙ e, h.1)
+listed bytes text output f us No r c e h = absurd h
+listed bytes text output f us Refused r c e h =
+    line_map bytes output (IsTooMuch (length (joined bytes text))) (layered (Refuses bytes) (HasLongListing bytes)) (λ n o s x. inr (us, spelled bytes f us r c, subst (λ (t : List ℕ). IsTooMuch (length (joined bytes t)) n o s) e x)) h
+listed bytes text output f us ReadFault r c e h = absurd h
+listed bytes text output f us WriteFault r c e h = absurd h
+listed bytes text output f us NoMemory r c e h = absurd h
+listed bytes text output f us Usage r c e h = absurd h
 
--- a listing
-pub listing : (bytes output : List ℕ) (f : File) (us : List RuleUse) → IsRead bytes f → Canonical us f.process.names f.process.process → output ≡ derivation_text us → length bytes + 1 + length output ≤ limit → DerivesTo bytes Yes output
-listing bytes output f us r c e l = let long = joined_long bytes output in (us, spelled bytes f us r c, e, omega (arith, long, l))
-
--- one that is too long
-pub long_listing : (bytes text : List ℕ) (f : File) (us : List RuleUse) (count : ℕ) (result : Result Answer Stop) → IsRead bytes f → Canonical us f.process.names f.process.process → text ≡ derivation_text us → count ≡ length bytes + 1 + length text
-    → IfOk result (λ a. (a.status ≡ Refused) × IsLineOf bytes (IsTooMuch count) a.output.items) → IfOk result (λ a. DerivesTo bytes a.status a.output.items)
-long_listing bytes text f us count result r c e n h =
-    let same : count ≡ listing_length bytes us = n ∙ sym (joined_long bytes text) ∙ ap (λ t. length (joined bytes t)) e in
-    refuses_by bytes (IsTooMuch count) (layered (Refuses bytes) (HasLongListing bytes)) _ _ result (λ m o s x. inr (us, spelled bytes f us r c, much count (listing_length bytes us) m o s same x)) h
+pub listing : (bytes text : List ℕ) (f : File) (us : List RuleUse) (result : Result Answer Stop) → IsRead bytes f → Canonical us f.process.names f.process.process → text ≡ derivation_text us → IfOk result (λ a. FitsBehind bytes text a.status a.output.items) → IfOk result (λ a. DerivesTo bytes a.status a.output.items)
+listing bytes text f us (Ok a) r c e h = listed bytes text a.output.items f us a.status r c e h
+listing bytes text f us (Err s) r c e h = tt
 
 -- a no
 refused_by : (bytes output : List ℕ) (f : File) (status : Status) → IsRead bytes f → (IsDerivable (meant f) → ⊥) → IsVerdict bytes (meant f) status output → DerivesTo bytes status output

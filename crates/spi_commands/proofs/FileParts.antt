@@ -27,7 +27,7 @@ use Rattle.spi_scope.proofs.Indexing.{all_over, nodes_spell}
 use Rattle.spi_commands.specs.Spelled.{limit, IsTreeOf}
 use Rattle.spi_commands.specs.Reading.{IsRead}
 use Rattle.spi_commands.proofs.FilePieces as Past
-use Rattle.spi_commands.proofs.FileRefusals.{tokens_within, spells_kinds}
+use Rattle.spi_commands.proofs.FileRefusals.{HaveOwnTokens, longer_on, kinds_long, tokens_within, spells_kinds}
 
 -- process and opponent are over the free names
 is_over : (tree : t.File) (p : t.Proc) → ProcessOver (over_free (all_types [] [] tree.decls) (all_names [] tree.decls) p).names (over_free (all_types [] [] tree.decls) (all_names [] tree.decls) p).process
@@ -102,15 +102,7 @@ few_free tree clean =
     omega (arith, few, weighs ps, names_weigh [] [] tree.decls)
 
 -- each step has a token of its own
-abbrev StepsHaveTokens : ℕ → List Piece → Type 0
-StepsHaveTokens k r = k ≤ length (kinds_in r)
-
-longer_on : (k : ℕ) (a : Piece) (r : List Piece) → StepsHaveTokens k r → StepsHaveTokens k (a ∷ r)
-longer_on k (opens from) r h = h
-longer_on k (cell kind deep) r h = omega (arith, h)
-longer_on k (closes to) r h = h
-
-steps_long : (xs : List t.Step) (r : List Piece) → StepsHaveTokens (length xs) (steps_pieces xs r)
+steps_long : (xs : List t.Step) (r : List Piece) → HaveOwnTokens (length xs) (steps_pieces xs r)
 steps_long [] r = omega arith
 steps_long (t.act s i ∷ xs) r = let more = steps_long xs r in omega (arith, more)
 steps_long (t.talk s i j ∷ xs) r = let more = steps_long xs r in omega (arith, more)
@@ -119,7 +111,7 @@ abbrev steps_of_tree : Option (List t.Step) → List t.Step
 steps_of_tree None = []
 steps_of_tree (Some xs) = xs
 
-schedule_long : (o : Option (List t.Step)) (r : List Piece) → StepsHaveTokens (length (steps_of_tree o)) (schedule_pieces o r)
+schedule_long : (o : Option (List t.Step)) (r : List Piece) → HaveOwnTokens (length (steps_of_tree o)) (schedule_pieces o r)
 schedule_long None r = omega arith
 schedule_long (Some xs) r = let more = steps_long xs r in omega (arith, more)
 
@@ -132,16 +124,12 @@ same_length (Some xs) steps h =
 few_steps : (bytes : List ℕ) (tree : t.File) (steps : List Step) → IsTreeOf bytes tree → schedule_in tree.schedule ≡ Some steps → length steps ≤ limit
 few_steps bytes tree steps is e =
     let n : ℕ = length (steps_of_tree tree.schedule) in
-    let long = Past.past_body {P = StepsHaveTokens n} (longer_on n) tree (schedule_long tree.schedule (derivation_pieces tree.derivation (ends tree.span []))) in
+    let long = Past.past_body {P = HaveOwnTokens n} (longer_on n) tree (schedule_long tree.schedule (derivation_pieces tree.derivation (ends tree.span []))) in
     let same : kinds_in (whole_file tree) ≡ kinds_of is.tokens = spells_kinds 0 (whole_file tree) is.tokens is.spelled in
     let each : length (kinds_of is.tokens) ≡ length is.tokens = kinds_long is.tokens in
     let most = tokens_within 0 (length bytes) is.tokens (lexed bytes is.tokens is.lexed).1 in
     let some : n ≤ length (kinds_of is.tokens) = subst (λ ks. n ≤ length ks) same long in
     omega (arith, some, each, most, is.within, same_length tree.schedule steps e)
-  where
-    kinds_long : (ts : List Token) → length (kinds_of ts) ≡ length ts
-    kinds_long [] = refl
-    kinds_long (token ∷ ts) = ap suc (kinds_long ts)
 
 -- so a replay uses few names, and has few events
 pub few_used : (bytes : List ℕ) (f : File) (steps : List program.Step) → IsRead bytes f → (meant f).schedule ≡ Some (map step_of steps) → f.process.names + length steps < 4294967295

@@ -12,7 +12,7 @@ use Rattle.spi_term.proofs.Lists.{in_cases, in_append}
 use Rattle.spi_scope.specs.Marks.{places}
 use Rattle.spi_scope.specs.Parts.{step_span}
 use Rattle.spi_scope.specs.Files.{opponent_places, step_places}
-use Rattle.spi_scope.specs.Places.{placed}
+use Rattle.spi_scope.specs.Places.{placed, place_in}
 use Rattle.spi_commands.specs.Spelled.{IsTreeOf}
 use Rattle.spi_commands.specs.NoLine.{place_at}
 use Rattle.spi_commands.specs.Beside.{opponent_at}
@@ -94,13 +94,16 @@ get_in [] i x h = absurd (cc)
 get_in (y ∷ xs) zero x h = let e : y ≡ x = cc in subst (λ z. In z (y ∷ xs)) e in_first
 get_in (y ∷ xs) (suc i) x h = in_later (get_in xs i x h)
 
--- each node that is asked for
-pub place_within : (bytes : List ℕ) (tree : t.File) → IsTreeOf bytes tree → (i : ℕ) → (place_at tree i).from ≤ length bytes
-place_within bytes tree is i = by (slice_get (places tree.process) i) refl
+-- each place that is asked for is in the bytes, where a piece opens at each of them
+pub opened_within : (bytes : List ℕ) (tree : t.File) → IsTreeOf bytes tree → (spans : List Span) → ((s : Span) → In s spans → In (opens s.from) (file_pieces tree [])) → (i : ℕ) → (place_in spans i).from ≤ length bytes
+opened_within bytes tree is spans all i = by (slice_get spans i) refl
   where
-    by : (o : Option Span) → slice_get (places tree.process) i ≡ o → (placed o).from ≤ length bytes
+    by : (o : Option Span) → slice_get spans i ≡ o → (placed o).from ≤ length bytes
     by None h = omega arith
-    by (Some s) h = opens_within (length bytes) 0 0 s.from (whole_file tree) is.tokens is.spelled (lexed bytes is.tokens is.lexed).1 (node_opens tree s (get_in (places tree.process) i s h))
+    by (Some s) h = opens_within (length bytes) 0 0 s.from (whole_file tree) is.tokens is.spelled (lexed bytes is.tokens is.lexed).1 (all s (get_in spans i s h))
+
+pub place_within : (bytes : List ℕ) (tree : t.File) → IsTreeOf bytes tree → (i : ℕ) → (place_at tree i).from ≤ length bytes
+place_within bytes tree is = opened_within bytes tree is (places tree.process) (node_opens tree)
 
 -- each node of the opponent that is asked for
 opponent_in : (o : Option t.Proc) (s : Span) (r : List Piece) → In s (opponent_places o) → In (opens s.from) (opponent_pieces o r)
@@ -112,11 +115,7 @@ opponent_opens tree s i =
     in_later (past_version _ _ _ _ _ (past_decls tree.decls _ (in_later (past_proc (at_level 0) tree.process _ (opponent_in tree.opponent s _ i)))))
 
 pub opponent_within : (bytes : List ℕ) (tree : t.File) → IsTreeOf bytes tree → (i : ℕ) → (opponent_at tree i).from ≤ length bytes
-opponent_within bytes tree is i = by (slice_get (opponent_places tree.opponent) i) refl
-  where
-    by : (o : Option Span) → slice_get (opponent_places tree.opponent) i ≡ o → (placed o).from ≤ length bytes
-    by None h = omega arith
-    by (Some s) h = opens_within (length bytes) 0 0 s.from (whole_file tree) is.tokens is.spelled (lexed bytes is.tokens is.lexed).1 (opponent_opens tree s (get_in (opponent_places tree.opponent) i s h))
+opponent_within bytes tree is = opened_within bytes tree is (opponent_places tree.opponent) (opponent_opens tree)
 
 -- each step that is asked for
 steps_in : (xs : List t.Step) (s : Span) (r : List Piece) → In s (map step_span xs) → In (opens s.from) (steps_pieces xs r)
@@ -133,8 +132,4 @@ step_opens tree s i =
     in_later (past_version _ _ _ _ _ (past_decls tree.decls _ (in_later (past_proc (at_level 0) tree.process _ (Past.past_opponent {P = λ r. In (opens s.from) r} (λ a r i. in_later i) tree.opponent _ (schedule_in tree.schedule s _ i))))))
 
 pub step_within : (bytes : List ℕ) (tree : t.File) → IsTreeOf bytes tree → (i : ℕ) → (step_at tree i).from ≤ length bytes
-step_within bytes tree is i = by (slice_get (step_places tree.schedule) i) refl
-  where
-    by : (o : Option Span) → slice_get (step_places tree.schedule) i ≡ o → (placed o).from ≤ length bytes
-    by None h = omega arith
-    by (Some s) h = opens_within (length bytes) 0 0 s.from (whole_file tree) is.tokens is.spelled (lexed bytes is.tokens is.lexed).1 (step_opens tree s (get_in (step_places tree.schedule) i s h))
+step_within bytes tree is = opened_within bytes tree is (step_places tree.schedule) (step_opens tree)

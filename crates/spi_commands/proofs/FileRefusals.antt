@@ -13,6 +13,7 @@ use Rattle.spi_text.specs.declared.lines.Span.{Span}
 use Rattle.spi_tree.specs.Trees as t
 use Rattle.spi_tree.specs.Pieces.{Piece as Part, opens, cell, closes, kinds_in}
 use Rattle.spi_parse.specs.Formed.{IsFile, whole_file}
+use Rattle.spi_parse.proofs.Counted.{few_tokens}
 use Rattle.spi_parse.specs.Exact.{Spells, IsWithin, Stops, IsSyntaxAt}
 use Rattle.spi_scope.specs.declared.fault.ScopeFault.{ScopeFault}
 use Rattle.spi_scope.specs.declared.fault.ScopeFault.TheVariants as scope
@@ -23,7 +24,7 @@ use Rattle.spi_term.specs.Lists.{In, in_first, in_later}
 use Rattle.spi_report.specs.Names.{name_of}
 use Rattle.spi_commands.specs.declared.reading.Unread.{Unread}
 use Rattle.spi_commands.specs.declared.reading.Unread.TheVariants as unread
-use Rattle.spi_commands.specs.Reading.{IsUnreadBy, TellsRefusal}
+use Rattle.spi_commands.specs.Reading.{HasTokens, IsUnreadBy, StandsNamed, TellsRefusal}
 use Rattle.spi_commands.specs.Spelled.{limit, IsTreeOf, SpellsNone}
 use Rattle.spi_commands.specs.Refusals.{start_of, scope_number, IsUnlexed, IsUnparsed, IsUnscoped, Refuses, too_long, not_utf8, bad_char, bad_number, name_too_long, syntax, too_deep, out_of_scope}
 
@@ -130,6 +131,26 @@ refused_named never (inl h) = unlexed_named h
 refused_named never (inr (inl h)) = unparsed_named h
 refused_named never (inr (inr (tree, is, h))) = unscoped_named never h
 
+-- few bytes have few tokens
+pub few_lexed : (bytes : List ℕ) (tokens : List Token) → HasTokens bytes tokens → length tokens ≤ limit
+few_lexed bytes tokens h =
+    let few = few_tokens tokens (length bytes) h.3 in
+    let low = h.0 in
+    omega (arith, few, low)
+
+-- so many of the pieces have a token each
+abbrev pub HaveOwnTokens : ℕ → List Part → Type 0
+HaveOwnTokens k r = k ≤ length (kinds_in r)
+
+pub longer_on : (k : ℕ) (a : Part) (r : List Part) → HaveOwnTokens k r → HaveOwnTokens k (a ∷ r)
+longer_on k (opens from) r h = h
+longer_on k (cell kind deep) r h = omega (arith, h)
+longer_on k (closes to) r h = h
+
+pub kinds_long : (ts : List Token) → length (kinds_of ts) ≡ length ts
+kinds_long [] = refl
+kinds_long (token ∷ ts) = ap suc (kinds_long ts)
+
 -- what spelled pieces tell
 pub spells_kinds : (e : ℕ) (ps : List Part) (ts : List Token) → Spells [] e ps ts → kinds_in ps ≡ kinds_of ts
 spells_kinds e [] ts h = ap kinds_of (sym h)
@@ -146,6 +167,11 @@ spells_within e (opens from ∷ ps) (tok ∷ ts) h = spells_within e ps (tok ∷
 spells_within e (cell k deep ∷ ps) [] h = absurd h
 spells_within e (cell k deep ∷ ps) (tok ∷ ts) h = (h.1, spells_within tok.span.to ps ts h.2)
 spells_within e (closes to ∷ ps) ts h = spells_within e ps ts h.1
+
+-- what is refused for one of these causes stands in the bytes, and has a name
+pub stands_named : (bytes : List ℕ) (causes : ℕ → Option ℕ → List ℕ → Type 0) → ((n : ℕ) (o : Option ℕ) (s : List ℕ) → causes n o s → IsSome (name_of n)) → ((n : ℕ) (o : Option ℕ) (s : List ℕ) → causes n o s → IfSome o (λ at. at ≤ length bytes)) → (u : Unread) → IsUnreadBy causes u → IsUnreadBy (StandsNamed bytes) u
+stands_named bytes causes named within (unread.Refused r) h = (named r.number r.offset r.shown.items h, within r.number r.offset r.shown.items h)
+stands_named bytes causes named within unread.NoMemory h = tt
 
 -- what is known of each list of bytes and of each tree
 abbrev pub OneLexing : Type 0

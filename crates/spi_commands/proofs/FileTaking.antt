@@ -1,5 +1,5 @@
--- What is taken of an input, and what is answered on it.
-use Rattle.std.proofs.Common.{◌≡◌, ◌≢◌, ℕ, ◌+◌, ◌<◌, ◌≤◌, List, [], ◌++◌, length, Option, Some, None, Result, Ok, Err, IfOk, IfSome, ap, sym, ◌∙◌, subst, arith, append-nil, take, refl, inl}
+-- What is taken of an input.
+use Rattle.std.proofs.Common.{◌≡◌, ℕ, ◌+◌, ◌<◌, ◌≤◌, List, [], ◌++◌, length, Option, Some, None, Result, Ok, Err, IfOk, IfSome, ap, sym, ◌∙◌, subst, arith, append-nil, take, refl, inl}
 use Rattle.std.specs.Prelude.{OnOk}
 use Rattle.std.specs.Fmt.{decimal}
 use Rattle.std.specs.Io.KnownBytes.{Appends}
@@ -7,16 +7,11 @@ use Rattle.std.proofs.lemmas.Grind.{common_steps}
 use Rattle.spi_io.specs.Causes.{TakesCount, TakesAll, PutsPrefix}
 use Rattle.spi_report.specs.declared.refusal.Refusal.{Refusal}
 use Rattle.spi_report.specs.Refused.{refused_text}
-use Rattle.spi_commands.specs.declared.answer.Answer.{Answer}
-use Rattle.spi_commands.specs.declared.status.Status.{Status}
-use Rattle.spi_commands.specs.declared.status.Status.TheVariants.{Yes, No, Refused, ReadFault, WriteFault, NoMemory, Usage}
 use Rattle.spi_commands.specs.declared.text.Text.{Text}
-use Rattle.spi_commands.specs.declared.file.Given.{Given}
 use Rattle.spi_commands.specs.Spelled.{limit}
-use Rattle.spi_commands.specs.Reading.{GivesText, GivesSpelled}
-use Rattle.spi_commands.specs.Answers.{Answers}
+use Rattle.spi_commands.specs.Reading.{GivesText}
 use Rattle.spi_commands.specs.Refusals.{IsUnlexed, too_long, layered, IsLineOf, Refuses, IsRefusal}
-use Rattle.spi_commands.specs.Run.{TakesInput, IsAnswered}
+use Rattle.spi_commands.specs.Run.{TakesInput}
 
 -- without a place the line doesn't depend on the bytes
 pub no_place : (bytes others : List ℕ) (r : Refusal) → r.offset ≡ None → refused_text others r ≡ refused_text bytes r
@@ -54,17 +49,6 @@ text_long None (Ok a) long is = tt
 text_long (Some bytes) (Ok a) long is = is bytes long
 text_long left (Err e) long is = tt
 
--- what is answered on what is given of the bytes that were left
-pub answers_given : {E : Type 0} (W : List ℕ → Status → List ℕ → Type 0) (left : Option (List ℕ)) (given : Given) (result : Result Answer E) → IfSome left (λ bytes. GivesSpelled bytes given) → IfOk result (λ a. (bytes : List ℕ) → GivesSpelled bytes given → W bytes a.status a.output.items) → IfOk result (λ a. IfSome left (λ bytes. W bytes a.status a.output.items))
-answers_given W None given (Ok a) gives is = tt
-answers_given W (Some bytes) given (Ok a) gives is = is bytes gives
-answers_given W left given (Err e) gives is = tt
-
--- what holds of bytes with the same file
-pub of_taken : {E : Type 0} (W : List ℕ → Status → List ℕ → Type 0) (taken : List ℕ) (result : Result Answer E) → IfOk result (λ a. W taken a.status a.output.items) → IfOk result (λ a. (bytes : List ℕ) → bytes ≡ taken → W bytes a.status a.output.items)
-of_taken W taken (Ok a) is = λ bytes e. subst (λ (bs : List ℕ). W bs a.status a.output.items) (sym e) is
-of_taken W taken (Err e) is = tt
-
 -- what a sink held stays in front
 pub keeps_front : (x : Option (List ℕ)) → (output : List ℕ) × Appends x x output
 keeps_front None = ([], tt)
@@ -73,25 +57,7 @@ keeps_front (Some bytes) = ([], sym (append-nil bytes))
 pub prefix_front : (old new : Option (List ℕ)) (output : List ℕ) → PutsPrefix old new output → (put : List ℕ) × Appends old new put
 prefix_front old new output (n, few, put) = (take n output, put)
 
--- the status of an answer
-is_answered : (accepted denied refused : List ℕ → Type 0) (output : List ℕ) (status : Status) → Answers accepted denied refused status output → IsAnswered status × (status ≢ Usage)
-is_answered accepted denied refused output Yes is = (tt, λ e. absurd (cc))
-is_answered accepted denied refused output No is = (tt, λ e. absurd (cc))
-is_answered accepted denied refused output Refused is = (tt, λ e. absurd (cc))
-is_answered accepted denied refused output ReadFault is = absurd is
-is_answered accepted denied refused output WriteFault is = absurd is
-is_answered accepted denied refused output NoMemory is = absurd is
-is_answered accepted denied refused output Usage is = absurd is
-
-pub are_answered : {E : Type 0} (accepted denied refused : List ℕ → Type 0) (result : Result Answer E) → IfOk result (λ a. Answers accepted denied refused a.status a.output.items) → IfOk result (λ a. IsAnswered a.status × (a.status ≢ Usage))
-are_answered accepted denied refused (Ok a) is = is_answered accepted denied refused a.output.items a.status is
-are_answered accepted denied refused (Err e) is = tt
-
--- the refusal that was given
-pub refused_given : (T : List ℕ → Status → List ℕ → Type 0) (line output : List ℕ) (status : Status) → status ≡ Refused → output ≡ line → ((bytes : List ℕ) → IsRefusal bytes line → T bytes Refused line) → (bytes : List ℕ) → IsRefusal bytes line → T bytes status output
-refused_given T line output status e is f = λ bytes h.
-    subst (λ (s : Status). T bytes s output) (sym e) (subst (λ (o : List ℕ). T bytes Refused o) (sym is) (f bytes h))
-
+-- a refusal of a file comes before the others
 pub first_of_all : (bytes line : List ℕ) (later : ℕ → Option ℕ → List ℕ → Type 0) → IsRefusal bytes line → IsLineOf bytes (layered (Refuses bytes) later) line
 first_of_all bytes line later (r, h, e) = (r, inl h, e)
 
@@ -103,8 +69,3 @@ long_line others bytes line r l n o s is = (r, rw (n, o, s) (too_long l), is ∙
 pub on_ok : {T E : Type 0} (result : Result T E) (P : Type 0) → P → OnOk result P
 on_ok (Ok a) P p = p
 on_ok (Err e) P p = tt
-
--- bytes that have no tokens spell no file
-pub lexical_refused : (left : Option (List ℕ)) (line : List ℕ) → IfSome left (λ bytes. IsLineOf bytes (IsUnlexed bytes) line) → IfSome left (λ bytes. IsRefusal bytes line)
-lexical_refused None line h = tt
-lexical_refused (Some bytes) line (r, h, e) = (r, inl h, e)

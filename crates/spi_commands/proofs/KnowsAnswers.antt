@@ -1,5 +1,5 @@
 -- What `knows` answers on a file.
-use Rattle.std.proofs.Common.{◌≡◌, ◌≢◌, inl, inr, ℕ, zero, suc, ◌+◌, ◌<◌, ◌≤◌, true, List, [], ◌∷◌, ◌++◌, map, refl, sym, ap, ◌∙◌, subst, None, Result, Ok, Err, IfOk, arith}
+use Rattle.std.proofs.Common.{◌≡◌, inl, inr, ℕ, zero, suc, ◌+◌, ◌<◌, ◌≤◌, true, List, [], ◌∷◌, ◌++◌, map, refl, sym, ap, ◌∙◌, subst, None, Result, Ok, Err, IfOk, arith}
 use Rattle.std.specs.Fmt.{decimal}
 use Rattle.spi_term.specs.Term.{Message, name}
 use Rattle.spi_term.specs.View.{message}
@@ -22,7 +22,6 @@ use Rattle.spi_commands.specs.Refusals.{IsCause, IsLineOf, IsRefusal, Refuses}
 use Rattle.spi_commands.specs.Replays.{RefusesReplay, RunsThrough, talks_most}
 use Rattle.spi_commands.specs.Ran.{IsRan}
 use Rattle.spi_commands.specs.Knowing.{IsKnowsAsked, IsDecided, KnowsTo, RefusesKnows, no_name, too_much_sent}
-use Rattle.spi_commands.specs.Run.{IsAnswered}
 use Rattle.spi_commands.proofs.AnswerLines.{line_map}
 
 -- ---- refusals
@@ -55,10 +54,6 @@ lacks_name i bytes f replay result (tree, is, stands, marks) (run, kept, names, 
     let count : replay.talks.nodes ≡ nodes_in run.talks = (kept refl).0 in
     refused_by i bytes 111 i result
     (inr (inr (meant f, map event_of replay.events.items, run, (tree, is, stands), omega (arith, count, small), no_name (omega (arith, names, past))))) h
-
-pub refusal_answered : (P : Answer → Type 0) (result : Result Answer Stop) → IfOk result (λ a. (a.status ≡ Refused) × P a) → IfOk result (λ a. IsAnswered a.status × (a.status ≢ Usage))
-refusal_answered P (Ok a) h = subst (λ (s : Status). IsAnswered s × (s ≢ Usage)) (sym h.0) (tt, λ e. absurd (cc))
-refusal_answered P (Err s) h = tt
 
 -- ---- the decision
 

@@ -38,6 +38,7 @@ pub mod PlaySteps
 pub mod PlayTold
 pub mod PlayPromise
 pub mod KnowsAnswers
+pub mod AnswerCommands
 pub mod KnowsPromise
 pub mod BenchPlaces
 pub mod BenchAnswers

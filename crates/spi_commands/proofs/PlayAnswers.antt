@@ -1,6 +1,6 @@
 -- What `play` answers on a file.
 use Rattle.std.proofs.Common.{◌≡◌, ◌≢◌, ℕ, ◌+◌, ◌-◌, ◌≤◌, List, ◌++◌, map, sym, subst, refl, ap, ◌∙◌, length, length-append, Option, Some, None, Result, Ok, Err, IfOk, arith, inl, inr}
-use Rattle.std.specs.Prelude.{codes, OnErr, IsErrOf, IfSome}
+use Rattle.std.specs.Prelude.{codes, OnErr, IfSome}
 use Rattle.spi_term.specs.Spelling.{Spelling}
 use Rattle.spi_run.specs.Opponent.{IsOpponent}
 use Rattle.spi_run.specs.Reduction.{Configuration, Step}
@@ -21,32 +21,15 @@ use Rattle.spi_show.specs.Steps.{schedule_text}
 use Rattle.spi_spell.specs.Joined.{joined}
 use Rattle.spi_commands.specs.declared.answer.Answer.{Answer}
 use Rattle.spi_commands.specs.declared.answer.Stop.{Stop}
-use Rattle.spi_commands.specs.declared.answer.Stop.TheVariants.{NoMemory as NoMemoryStop}
-use Rattle.spi_commands.specs.declared.asked.Command.{Command}
-use Rattle.spi_commands.specs.declared.asked.Command.TheVariants.{Play}
-use Rattle.spi_commands.specs.declared.file.Given.{Given}
 use Rattle.spi_commands.specs.declared.status.Status.{Status}
 use Rattle.spi_commands.specs.declared.status.Status.TheVariants.{Yes, No, Refused, ReadFault, WriteFault, NoMemory, Usage}
 use Rattle.spi_commands.specs.Spelled.{limit}
-use Rattle.spi_commands.specs.Refusals.{IsLineOf, IsCause, IsMissing, IsTooMuch, IsRefusal}
+use Rattle.spi_commands.specs.Refusals.{IsLineOf, IsCause, IsMissing, IsTooMuch}
 use Rattle.spi_commands.specs.Beside.{pool_of, HasOffence}
 use Rattle.spi_commands.specs.Playing.{IsPlayed, IsStopped, play_length, play_number, play_shown, play_places, ListsTo, IsPlayFault, play_fault, PlaysTo, LeavesPlayers, not_asked, asked_to_the_end, stopped}
-use Rattle.spi_commands.specs.Reading.{IsRead, GivesSpelled}
+use Rattle.spi_commands.specs.Reading.{IsRead}
 use Rattle.spi_commands.proofs.FileParts.{few_names}
 use Rattle.spi_commands.proofs.AnswerLines.{refuses_by, line_map, cause_is, much}
-
--- the text of steps
-joined_long : (bytes text : List ℕ) → length (joined bytes text) ≡ length bytes + 1 + length text
-joined_long bytes text = let e = length-append bytes (codes "\n" ++ text) in omega (arith, e)
-
-pub lists : (bytes output : List ℕ) (ss : List Step) → output ≡ schedule_text ss → length bytes + 1 + length output ≤ limit → ListsTo bytes ss Yes output
-lists bytes output ss e l = let long = joined_long bytes output in (e, omega (arith, long, l))
-
-pub lists_long : (bytes text : List ℕ) (ss : List Step) (count : ℕ) (result : Result Answer Stop) → text ≡ schedule_text ss → count ≡ length bytes + 1 + length text
-    → IfOk result (λ a. (a.status ≡ Refused) × IsLineOf bytes (IsTooMuch count) a.output.items) → IfOk result (λ a. ListsTo bytes ss a.status a.output.items)
-lists_long bytes text ss count result e c h =
-    let same : count ≡ play_length bytes ss = c ∙ sym (joined_long bytes text) ∙ ap (λ t. length (joined bytes t)) e in
-    refuses_by bytes (IsTooMuch count) (IsTooMuch (play_length bytes ss)) _ _ result (λ n o s m. much count (play_length bytes ss) n o s same m) h
 
 -- the line of a refused play
 pub refused_line : (bytes shown : List ℕ) (number : ℕ) (fault other : PlayFault) (result : Result Answer Stop) → fault ≡ other → other ≢ OutOfMemory → number ≡ play_number other → shown ≡ play_shown other → IfOk result (λ a. (a.status ≡ Refused) × IsLineOf bytes (IsCause number None shown) a.output.items) → IfOk result (λ a. (a.status ≡ Refused) × IsLineOf bytes (IsPlayFault fault) a.output.items)
@@ -113,16 +96,6 @@ pub offends : (bytes : List ℕ) (most : ℕ) (only : Option ℕ) (players : Lis
 offends bytes most only players result h =
     refuses_by bytes (HasOffence bytes) _ _ _ result (λ n o s m. inl (inr (inr m), refl)) h
 
-pub unread : (bytes output : List ℕ) (most : ℕ) (only : Option ℕ) (players : List Seen) (status : Status) → status ≡ Refused → IsRefusal bytes output → PlaysTo most only bytes players players status output
-unread bytes output most only players status e (r, h, line) =
-    let wanted : PlaysTo most only bytes players players Refused output = (r, inl (inl h, refl), line) in
-    subst (λ (s : Status). PlaysTo most only bytes players players s output) (sym e) wanted
-
--- what was taken
-pub leaves_taken : {E : Type 0} (most : ℕ) (only : Option ℕ) (taken : List ℕ) (before after : List Seen) (result : Result Answer E) → OnErr result (LeavesPlayers most only taken before after) → OnErr result ((bytes : List ℕ) → bytes ≡ taken → LeavesPlayers most only bytes before after)
-leaves_taken most only taken before after (Ok a) h = tt
-leaves_taken most only taken before after (Err e) h = λ bytes same. subst (λ (bs : List ℕ). LeavesPlayers most only bs before after) (sym same) h
-
 -- what holds of a want of memory
 pub on_err : {T E : Type 0} (result : Result T E) (P : Type 0) → P → OnErr result P
 on_err (Ok a) P p = tt
@@ -132,14 +105,3 @@ on_err (Err e) P p = p
 pub left_same : (most : ℕ) (only : Option ℕ) (players : List Seen) (left : Option (List ℕ)) → IfSome left (λ bytes. LeavesPlayers most only bytes players players)
 left_same most only players None = tt
 left_same most only players (Some bytes) = not_asked
-
--- what holds of a play with these numbers
-pub left_given : (command : Option Command) (m most : ℕ) (o only : Option ℕ) (before after : List Seen) (left : Option (List ℕ)) (given : Given) (result : Result Answer Stop) → command ≡ Some (Play m o) → command ≡ Some (Play most only)
-    → IfSome left (λ bytes. GivesSpelled bytes given) → OnErr result ((bytes : List ℕ) → GivesSpelled bytes given → LeavesPlayers m o bytes before after) → IsErrOf result NoMemoryStop → IfSome left (λ bytes. LeavesPlayers most only bytes before after)
-left_given command m most o only before after None given result e f gives h err = tt
-left_given command m most o only before after (Some bytes) given (Ok a) e f gives h err = absurd (cc)
-left_given command m most o only before after (Some bytes) given (Err s) e f gives h err =
-    let same : Some (Play m o) ≡ Some (Play most only) = sym e ∙ f in
-    let first : m ≡ most = cc in
-    let second : o ≡ only = cc in
-    subst (λ (n : ℕ). LeavesPlayers n only bytes before after) first (subst (λ (p : Option ℕ). LeavesPlayers m p bytes before after) second (h bytes gives))

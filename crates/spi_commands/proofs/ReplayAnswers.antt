@@ -1,6 +1,5 @@
 -- What `replay` answers on a file.
-use Rattle.std.proofs.Common.{◌≡◌, ◌≢◌, false, inl, inr, ℕ, List, map, sym, subst, Result, Ok, Err, IfOk}
-use Rattle.spi_run.specs.Reduction.{Event}
+use Rattle.std.proofs.Common.{◌≡◌, false, inl, inr, ℕ, List, map, sym, subst, Result, Ok, Err, IfOk}
 use Rattle.spi_run.specs.View.{event as event_of}
 use Rattle.spi_scope.specs.declared.file.File.{File}
 use Rattle.spi_scope.specs.Files.{meant}
@@ -9,13 +8,12 @@ use Rattle.spi_commands.specs.declared.answer.Stop.{Stop}
 use Rattle.spi_commands.specs.declared.schedule.Replay.{Replay}
 use Rattle.spi_commands.specs.declared.schedule.Ran.TheVariants.{Through}
 use Rattle.spi_commands.specs.declared.status.Status.{Status}
-use Rattle.spi_commands.specs.declared.status.Status.TheVariants.{Yes, No, Refused, Usage}
+use Rattle.spi_commands.specs.declared.status.Status.TheVariants.{Yes, No, Refused}
 use Rattle.spi_commands.specs.Reading.{IsRead}
 use Rattle.spi_commands.specs.Refusals.{IsLineOf}
 use Rattle.spi_commands.specs.Replays.{RefusesReplay}
 use Rattle.spi_commands.specs.Ran.{IsRan}
 use Rattle.spi_commands.specs.Replaying.{ReplaysTo, AreEventsJudged, IsReplayText}
-use Rattle.spi_commands.specs.Run.{IsAnswered}
 
 -- an answer with this status
 answered : (bytes : List ℕ) (a : Answer) (status : Status) → a.status ≡ status → ReplaysTo bytes status a.output.items → ReplaysTo bytes a.status a.output.items
@@ -30,14 +28,6 @@ judged bytes f replay (Ok a) (tree, is, stands, marks) ran h = by h.0
     by (inl (s, paid)) = answered bytes a Yes s (meant f, map event_of replay.events.items, (tree, is, stands), ran.0, paid, h.1)
     by (inr (s, unpaid)) = answered bytes a No s (meant f, map event_of replay.events.items, (tree, is, stands), ran.0, unpaid, h.1)
 judged bytes f replay (Err s) r ran h = tt
-
-pub told : (events : List Event) (f : File) (result : Result Answer Stop) → IfOk result (λ a. AreEventsJudged events a.status × IsReplayText (meant f) events a.output.items) → IfOk result (λ a. IsAnswered a.status × (a.status ≢ Usage))
-told events f (Ok a) h = by h.0
-  where
-    by : AreEventsJudged events a.status → IsAnswered a.status × (a.status ≢ Usage)
-    by (inl (s, paid)) = subst (λ (s : Status). IsAnswered s × (s ≢ Usage)) (sym s) (tt, λ e. absurd (cc))
-    by (inr (s, unpaid)) = subst (λ (s : Status). IsAnswered s × (s ≢ Usage)) (sym s) (tt, λ e. absurd (cc))
-told events f (Err s) h = tt
 
 -- a refusal
 pub refused : (bytes line output : List ℕ) (status : Status) → IsLineOf bytes (RefusesReplay bytes) line → status ≡ Refused → output ≡ line → ReplaysTo bytes status output

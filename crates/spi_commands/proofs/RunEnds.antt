@@ -1,25 +1,26 @@
 -- How a call ends.
-use Rattle.std.proofs.Common.{◌≡◌, ℕ, List, Option, None, Some, IfSome, Result, Ok, Err, IfOk, refl, sym, subst, inl, inr}
+use Rattle.std.proofs.Common.{◌≡◌, ◌≢◌, ◌∙◌, ℕ, List, Option, None, Some, IfSome, Result, Ok, Err, IfOk, refl, sym, subst, inl, inr}
+use Rattle.std.specs.Prelude.{◌↔◌, IsErrOf}
 use Rattle.std.specs.Io.KnownBytes.{Appends}
 use Rattle.spi_io.specs.Causes.{Rose, PutsPrefix}
 use Rattle.spi_run.specs.Safety.{RobustlySafeMany}
 use Rattle.spi_commands.specs.declared.answer.Answer.{Answer}
+use Rattle.spi_commands.specs.declared.answer.Stop.{Stop}
+use Rattle.spi_commands.specs.declared.answer.Stop.TheVariants.{NoMemory as OutOfMemory}
 use Rattle.spi_commands.specs.declared.asked.Command.{Command}
-use Rattle.spi_commands.specs.declared.asked.Command.TheVariants.{Check}
+use Rattle.spi_commands.specs.declared.asked.Command.TheVariants.{Check, Play}
 use Rattle.spi_commands.specs.declared.status.Status.{Status}
 use Rattle.spi_commands.specs.declared.status.Status.TheVariants.{Yes, No, Refused, ReadFault, WriteFault, NoMemory, Usage}
-use Rattle.spi_commands.specs.declared.file.Given.{Given}
-use Rattle.spi_commands.specs.declared.text.Text.{Text}
-use Rattle.spi_commands.specs.Reading.{GivesSpelled, GivesText}
 use Rattle.spi_play.specs.Way.{Seen}
+use Rattle.spi_commands.specs.Answering.{IsAnsweredBy, KeepPromises}
 use Rattle.spi_commands.specs.Asked.{AreNumbersKnown}
 use Rattle.spi_commands.specs.Spelled.{IsManySafe}
 use Rattle.spi_commands.specs.Checking.{IsExact}
-use Rattle.spi_commands.specs.Commands.{AnswersTo, Promise}
+use Rattle.spi_commands.specs.Commands.{Promise}
+use Rattle.spi_commands.specs.Playing.{LeavesPlayers}
 use Rattle.spi_commands.specs.Run.{Wants, Ends, Completes, IsUndisturbed, IsAnswered}
-use Rattle.spi_commands.proofs.FileFacts.{OneFile, Safe, FileFacts}
+use Rattle.spi_commands.proofs.FileFacts.{OneFile, Safe}
 use Rattle.spi_commands.proofs.CheckPromise.{many_yes}
-use Rattle.spi_commands.proofs.RunPromises.{promised}
 
 -- a prefix of the wanted output was put
 pub cut_short : (left : Option (List ℕ)) (wants : List ℕ → Status → List ℕ → Type 0) (old new : Option (List ℕ)) (status : Status) (output : List ℕ) → IfSome left (λ bytes. wants bytes status output) → PutsPrefix old new output → IfSome left (λ bytes. Ends (wants bytes) old new WriteFault)
@@ -55,25 +56,25 @@ module _ (asks : Option Command) (left : Option (List ℕ)) (before after : List
       by (Some bytes) ends = λ no_read no_write. completes (Wants asks bytes before after) old new status (λ e. no_read (read e)) (λ e. no_write (write e)) ends
 
   -- and keeps its promise
-  kept : FileFacts → (players : ℕ) → (¬ (status ≡ NoMemory) → IfSome asks (AreNumbersKnown players)) → (command : Command) → asks ≡ Some command → (bytes : List ℕ) → Ends (Wants asks bytes before after) old new status → IsUndisturbed r s t u status → Promise command bytes before after old new status
-  kept facts players within command is bytes ends (no_read, no_write, memory) =
+  kept : KeepPromises → (players : ℕ) → (¬ (status ≡ NoMemory) → IfSome asks (AreNumbersKnown players)) → (command : Command) → asks ≡ Some command → (bytes : List ℕ) → Ends (Wants asks bytes before after) old new status → IsUndisturbed r s t u status → Promise command bytes before after old new status
+  kept keeps players within command is bytes ends (no_read, no_write, memory) =
       let ends_so : Ends (Wants (Some command) bytes before after) old new status = subst (λ (o : Option Command). Ends (Wants o bytes before after) old new status) is ends in
       let done : Completes (Wants (Some command) bytes before after) old new status = completes (Wants (Some command) bytes before after) old new status (λ e. no_read (read e)) (λ e. no_write (write e)) ends_so in
-      elim done [ inl none ↦ absurd (memory none) | inr some ↦ promised facts players command (subst (λ (o : Option Command). IfSome o (AreNumbersKnown players)) is (within memory)) bytes before after old new some.0 status some.1 some.2 ]
+      elim done [ inl none ↦ absurd (memory none) | inr some ↦ keeps players command (subst (λ (o : Option Command). IfSome o (AreNumbersKnown players)) is (within memory)) bytes before after old new some.0 status some.1 some.2 ]
 
-  pub promise : FileFacts → (players : ℕ) → (¬ (status ≡ NoMemory) → IfSome asks (AreNumbersKnown players)) → IfSome left (λ bytes. Ends (Wants asks bytes before after) old new status) → (command : Command) → asks ≡ Some command → IfSome left (λ bytes. IsUndisturbed r s t u status → Promise command bytes before after old new status)
-  promise facts players within ends command is = by left ends
+  pub promise : KeepPromises → (players : ℕ) → (¬ (status ≡ NoMemory) → IfSome asks (AreNumbersKnown players)) → IfSome left (λ bytes. Ends (Wants asks bytes before after) old new status) → (command : Command) → asks ≡ Some command → IfSome left (λ bytes. IsUndisturbed r s t u status → Promise command bytes before after old new status)
+  promise keeps players within ends command is = by left ends
     where
       by : (left : Option (List ℕ)) → IfSome left (λ bytes. Ends (Wants asks bytes before after) old new status) → IfSome left (λ bytes. IsUndisturbed r s t u status → Promise command bytes before after old new status)
       by None ends = tt
-      by (Some bytes) ends = kept facts players within command is bytes ends
+      by (Some bytes) ends = kept keeps players within command is bytes ends
 
-  pub headline : FileFacts → (players : ℕ) → (¬ (status ≡ NoMemory) → IfSome asks (AreNumbersKnown players)) → IfSome left (λ bytes. Ends (Wants asks bytes before after) old new status) → asks ≡ Some Check → IfSome left (λ bytes. ¬ Rose r s → ¬ Rose t u → ¬ (status ≡ NoMemory) → IsExact bytes old new status)
-  headline facts players within ends is = by left ends
+  pub headline : KeepPromises → (players : ℕ) → (¬ (status ≡ NoMemory) → IfSome asks (AreNumbersKnown players)) → IfSome left (λ bytes. Ends (Wants asks bytes before after) old new status) → asks ≡ Some Check → IfSome left (λ bytes. ¬ Rose r s → ¬ Rose t u → ¬ (status ≡ NoMemory) → IsExact bytes old new status)
+  headline keeps players within ends is = by left ends
     where
       by : (left : Option (List ℕ)) → IfSome left (λ bytes. Ends (Wants asks bytes before after) old new status) → IfSome left (λ bytes. ¬ Rose r s → ¬ Rose t u → ¬ (status ≡ NoMemory) → IsExact bytes old new status)
       by None ends = tt
-      by (Some bytes) ends = λ no_read no_write memory. (kept facts players within Check is bytes ends (no_read, no_write, memory)).0
+      by (Some bytes) ends = λ no_read no_write memory. (kept keeps players within Check is bytes ends (no_read, no_write, memory)).0
 
 -- a yes of `check`, whatever failed
 pub many_to_one : OneFile → Safe RobustlySafeMany → (asks : Option Command) (left : Option (List ℕ)) (before after : List Seen) (old new : Option (List ℕ)) (status : Status) → IfSome left (λ bytes. Ends (Wants asks bytes before after) old new status) → asks ≡ Some Check → IfSome left (λ bytes. status ≡ Yes → IsManySafe bytes)
@@ -82,19 +83,33 @@ many_to_one one many asks (Some bytes) before after old new status ends is = λ 
     let one_yes : Ends (Wants (Some Check) bytes before after) old new Yes = subst (λ (s : Status). Ends (Wants (Some Check) bytes before after) old new s) e (subst (λ (o : Option Command). Ends (Wants o bytes before after) old new status) is ends) in
     many_yes one many bytes one_yes.0 Yes one_yes.1 refl
 
--- what a command answers on bytes of which something is known
-wants_by : {E : Type 0} (asks : Option Command) (own : Command) (before after : List Seen) (left : Option (List ℕ)) (P : List ℕ → Type 0) (result : Result Answer E) → asks ≡ Some own → IfSome left P
-    → IfOk result (λ a. (bytes : List ℕ) → P bytes → AnswersTo own bytes before after a.status a.output.items) → IfOk result (λ a. IfSome left (λ bytes. Wants asks bytes before after a.status a.output.items))
+-- what a command answers on these bytes
+pub wants_on : (asks : Option Command) (own : Command) (bytes : List ℕ) (before after : List Seen) (result : Result Answer Stop) → asks ≡ Some own → IsAnsweredBy own bytes before after result → IfOk result (λ a. Wants asks bytes before after a.status a.output.items)
+wants_on asks own bytes before after (Ok a) is h = subst (λ (o : Option Command). Wants o bytes before after a.status a.output.items) (sym is) h
+wants_on asks own bytes before after (Err s) is h = tt
+
+-- what a command answers on bytes of which something is known, and how it leaves the players
+pub wants_by : (asks : Option Command) (own : Command) (before after : List Seen) (left : Option (List ℕ)) (P : List ℕ → Type 0) (result : Result Answer Stop) → asks ≡ Some own → IfSome left P
+    → ((bytes : List ℕ) → P bytes → IsAnsweredBy own bytes before after result) → IfOk result (λ a. IfSome left (λ bytes. Wants asks bytes before after a.status a.output.items))
 wants_by asks own before after None P (Ok a) is known h = tt
-wants_by asks own before after (Some bytes) P (Ok a) is known h =
-    subst (λ (o : Option Command). Wants o bytes before after a.status a.output.items) (sym is) (h bytes known)
+wants_by asks own before after (Some bytes) P (Ok a) is known h = wants_on asks own bytes before after (Ok a) is (h bytes known)
 wants_by asks own before after left P (Err e) is known h = tt
 
--- what a command answers on what is given of the bytes that were left, and on their text
-pub wants_given : {E : Type 0} (asks : Option Command) (own : Command) (before after : List Seen) (left : Option (List ℕ)) (given : Given) (result : Result Answer E) → asks ≡ Some own → IfSome left (λ bytes. GivesSpelled bytes given)
-    → IfOk result (λ a. (bytes : List ℕ) → GivesSpelled bytes given → AnswersTo own bytes before after a.status a.output.items) → IfOk result (λ a. IfSome left (λ bytes. Wants asks bytes before after a.status a.output.items))
-wants_given asks own before after left given result is gives h = wants_by asks own before after left (λ bytes. GivesSpelled bytes given) result is gives h
+pub left_by : (asks : Option Command) (own : Command) (most : ℕ) (only : Option ℕ) (before after : List Seen) (left : Option (List ℕ)) (P : List ℕ → Type 0) (result : Result Answer Stop) → asks ≡ Some own → asks ≡ Some (Play most only) → IfSome left P
+    → ((bytes : List ℕ) → P bytes → IsAnsweredBy own bytes before after result) → IsErrOf result OutOfMemory → IfSome left (λ bytes. LeavesPlayers most only bytes before after)
+left_by asks own most only before after None P result is play known h err = tt
+left_by asks own most only before after (Some bytes) P (Ok a) is play known h err = absurd (cc)
+left_by asks own most only before after (Some bytes) P (Err s) is play known h err =
+    (h bytes known).1 most only (let same : Some own ≡ Some (Play most only) = sym is ∙ play in cc)
 
-pub wants_text : {E : Type 0} (asks : Option Command) (own : Command) (before after : List Seen) (left : Option (List ℕ)) (text : Text) (result : Result Answer E) → asks ≡ Some own → IfSome left (λ bytes. GivesText bytes text)
-    → IfOk result (λ a. (bytes : List ℕ) → GivesText bytes text → AnswersTo own bytes before after a.status a.output.items) → IfOk result (λ a. IfSome left (λ bytes. Wants asks bytes before after a.status a.output.items))
-wants_text asks own before after left text result is gives h = wants_by asks own before after left (λ bytes. GivesText bytes text) result is gives h
+-- and one whose answer goes by no bytes
+pub wants_always : (asks : Option Command) (own : Command) (before after : List Seen) (left : Option (List ℕ)) (result : Result Answer Stop) → asks ≡ Some own
+    → ((bytes : List ℕ) → IsAnsweredBy own bytes before after result) → IfOk result (λ a. IfSome left (λ bytes. Wants asks bytes before after a.status a.output.items))
+wants_always asks own before after None (Ok a) is h = tt
+wants_always asks own before after (Some bytes) (Ok a) is h = wants_on asks own bytes before after (Ok a) is (h bytes)
+wants_always asks own before after left (Err s) is h = tt
+
+-- a command is no want of a usage line
+pub never_usage : (asks : Option Command) (own : Command) (result : Result Answer Stop) → asks ≡ Some own → IfOk result (λ a. IsAnswered a.status × (a.status ≢ Usage)) → IfOk result (λ a. (a.status ≡ Usage) ↔ (asks ≡ None))
+never_usage asks own (Ok a) is h = (λ e. absurd (h.1 e), λ e. absurd (cc))
+never_usage asks own (Err s) is h = tt

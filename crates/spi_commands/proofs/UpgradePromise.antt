@@ -1,16 +1,17 @@
 -- What `upgrade` promises.
-use Rattle.std.proofs.Common.{◌≡◌, ℕ, List, [], Option, Some, None, refl, sym, subst, inl, inr}
+use Rattle.std.proofs.Common.{◌≡◌, ◌⊎◌, ℕ, List, [], Option, Some, None, sym, subst, inl, inr}
 use Rattle.std.specs.Io.KnownBytes.{Appends}
 use Rattle.spi_term.specs.Spelling.{Spelling}
 use Rattle.spi_rules.specs.Environment.{untrusted}
 use Rattle.spi_rules.specs.Derivations.{RuleUse, Derivable, Proves}
 use Rattle.spi_scope.specs.StandsFor.{Meant}
 use Rattle.spi_commands.specs.declared.status.Status.{Status}
-use Rattle.spi_commands.specs.declared.status.Status.TheVariants.{Yes, No, Refused, ReadFault, WriteFault, NoMemory, Usage}
 use Rattle.spi_commands.specs.Spelled.{SpellsFile, SpellsNone}
+use Rattle.spi_commands.specs.Refusals.{layered, Refuses}
 use Rattle.spi_commands.specs.Canonical.{IsPrint}
-use Rattle.spi_commands.specs.Upgrading.{IsUpgrade, SpellsUpgrade, SpellsLongUpgrade, UpgradesTo, HaveSameAnswers, IsUpgraded}
+use Rattle.spi_commands.specs.Upgrading.{IsUpgrade, SpellsUpgrade, SpellsLongUpgrade, RefusesUpgrade, UpgradesTo, HaveSameAnswers, IsUpgraded}
 use Rattle.spi_commands.proofs.FileFacts.{OneFile, RefusedNone}
+use Rattle.spi_commands.proofs.AnswerLines.{yes_or_refused, accepted_at}
 use Rattle.spi_commands.proofs.AnswerText.{never_longer, long_of}
 use Rattle.spi_commands.proofs.UpgradeParts.{one_upgrade, upgrade_keeps, ReadsUpgrade}
 
@@ -43,30 +44,24 @@ module _ (one : OneFile) (none_of : RefusedNone) (bytes : List ℕ) where
         underived = (λ a. (upgraded, other, here (λ q e. e ≡ None) a.0 a.1 a.2), λ a. (file, spells, there (λ q e. e ≡ None) a.0 a.1 a.2));
       }
 
+  reasons : (n : ℕ) (o : Option ℕ) (s : List ℕ) → layered (Refuses bytes) (RefusesUpgrade bytes) n o s → SpellsNone bytes ⊎ SpellsLongUpgrade bytes
+  reasons n o s (inl refuses) = inl (none_of bytes n o s refuses)
+  reasons n o s (inr (f, up, spells, is, h)) = inr (f, up, spells, is, long_of up h)
+
+  apart : (output : List ℕ) → SpellsUpgrade bytes output → SpellsNone bytes ⊎ SpellsLongUpgrade bytes → ⊥
+  apart output is (inl none) = none is.0 is.2
+  apart output is (inr long) = never_long output is long
+
   pub upgrades : ReadsUpgrade → (old new : Option (List ℕ)) (output : List ℕ) (status : Status) → UpgradesTo bytes status output → Appends old new output → IsUpgraded bytes old new status
-  upgrades reads old new output Yes is put = record {
-    yes = (λ e. (output, is), λ a. refl);
-    refused = (λ e. absurd (cc), λ r. absurd (elim r [ inl none ↦ none is.0 is.2 | inr long ↦ never_long output is long ]));
-    reads_back = λ e file spells.
-        let made : IsUpgrade file is.1 = subst (λ (f : Meant). IsUpgrade f is.1) (one bytes is.0 file is.2 spells) is.3 in
-        let whole : SpellsFile output is.1 = reads bytes output file is.1 spells made is.4.0 is.4.1 in
-        let kept = upgrade_keeps file is.1 made in
-        (output, is.1, put, made, is.4, whole, same_answers output file is.1 spells whole kept.0 kept.1);
-  }
-  upgrades reads old new output No is put = absurd is
-  upgrades reads old new output Refused (r, inl refuses, line) put =
-      let none : SpellsNone bytes = none_of bytes r.number r.offset r.shown.items refuses in record {
-        yes = (λ e. absurd (cc), λ a. absurd (none a.1.0 a.1.2));
-        refused = (λ e. inl none, λ r. refl);
-        reads_back = λ e file spells. absurd (cc);
+  upgrades reads old new output status is put =
+      let exactly = yes_or_refused bytes (SpellsUpgrade bytes) (layered (Refuses bytes) (RefusesUpgrade bytes)) (SpellsNone bytes ⊎ SpellsLongUpgrade bytes) apart reasons output status is in
+      record {
+        yes = exactly.yes;
+        refused = exactly.refused;
+        reads_back = λ e file spells.
+            let (f, up, own, upgrade, printed) = accepted_at bytes (SpellsUpgrade bytes) (layered (Refuses bytes) (RefusesUpgrade bytes)) output status is e in
+            let made : IsUpgrade file up = subst (λ (f : Meant). IsUpgrade f up) (one bytes f file own spells) upgrade in
+            let whole : SpellsFile output up = reads bytes output file up spells made printed.0 printed.1 in
+            let kept = upgrade_keeps file up made in
+            (output, up, put, made, printed, whole, same_answers output file up spells whole kept.0 kept.1);
       }
-  upgrades reads old new output Refused (r, inr (f, up, spells, is, h), line) put =
-      let long : SpellsLongUpgrade bytes = (f, up, spells, is, long_of up h) in record {
-        yes = (λ e. absurd (cc), λ a. absurd (never_long a.0 a.1 long));
-        refused = (λ e. inr long, λ r. refl);
-        reads_back = λ e file spells. absurd (cc);
-      }
-  upgrades reads old new output ReadFault is put = absurd is
-  upgrades reads old new output WriteFault is put = absurd is
-  upgrades reads old new output NoMemory is put = absurd is
-  upgrades reads old new output Usage is put = absurd is

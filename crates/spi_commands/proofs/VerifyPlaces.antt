@@ -20,14 +20,13 @@ use Rattle.spi_rules.proofs.Named.{named_spelled}
 use Rattle.spi_scope.proofs.Rules.{rule_found}
 use Rattle.spi_scope.specs.Parts.{rule_named, numbered_effect, uses_in, all_uses_in, use_places, all_use_places}
 use Rattle.spi_scope.specs.Files.{rule_places}
-use Rattle.spi_scope.specs.Places.{placed}
 use Rattle.spi_scope.specs.StandsFor.{derivation_in}
 use Rattle.spi_term.specs.Lists.{In, in_later}
 use Rattle.spi_commands.specs.Spelled.{limit, IsTreeOf}
 use Rattle.spi_commands.specs.Verifying.{rule_at}
 use Rattle.spi_commands.proofs.FilePieces as Past
-use Rattle.spi_commands.proofs.FilePlaces.{get_in, at_first, either}
-use Rattle.spi_commands.proofs.FileRefusals.{opens_within, tokens_within, spells_kinds}
+use Rattle.spi_commands.proofs.FilePlaces.{at_first, either, opened_within}
+use Rattle.spi_commands.proofs.FileRefusals.{HaveOwnTokens, longer_on, kinds_long, tokens_within, spells_kinds}
 
 -- a use stands among the pieces of its derivation
 abbrev IsAmongPieces : Piece → List Piece → Type 0
@@ -55,28 +54,16 @@ use_opens tree s i = Past.past_parts {P = IsAmongPieces (opens s.from)} (stands_
 
 -- each use that is asked for stands in the bytes
 pub rule_within : (bytes : List ℕ) (tree : t.File) → IsTreeOf bytes tree → (i : ℕ) → (rule_at tree i).from ≤ length bytes
-rule_within bytes tree is i = by (slice_get (rule_places tree.derivation) i) refl
-  where
-    by : (o : Option Span) → slice_get (rule_places tree.derivation) i ≡ o → (placed o).from ≤ length bytes
-    by None h = omega arith
-    by (Some s) h = opens_within (length bytes) 0 0 s.from (whole_file tree) is.tokens is.spelled (lexed bytes is.tokens is.lexed).1 (use_opens tree s (get_in (rule_places tree.derivation) i s h))
+rule_within bytes tree is = opened_within bytes tree is (rule_places tree.derivation) (use_opens tree)
 
 -- each use has a token of its own
-abbrev UsesHaveTokens : ℕ → List Piece → Type 0
-UsesHaveTokens k r = k ≤ length (kinds_in r)
-
-longer_on : (k : ℕ) (a : Piece) (r : List Piece) → UsesHaveTokens k r → UsesHaveTokens k (a ∷ r)
-longer_on k (opens from) r h = h
-longer_on k (cell kind deep) r h = omega (arith, h)
-longer_on k (closes to) r h = h
-
 mutual
-  uses_long : (n k : ℕ) (d : t.Deriv) (r : List Piece) → UsesHaveTokens k r → UsesHaveTokens (length (uses_in d) + k) (deriv_pieces n d r)
+  uses_long : (n k : ℕ) (d : t.Deriv) (r : List Piece) → HaveOwnTokens k r → HaveOwnTokens (length (uses_in d) + k) (deriv_pieces n d r)
   uses_long n k (t.rule s w es ds) r h =
-      let more = Past.past_written {P = UsesHaveTokens (length (all_uses_in ds) + k)} (longer_on (length (all_uses_in ds) + k)) es (derivs_pieces (n + 1) ds (ends s r)) (all_long (n + 1) k ds (ends s r) h) in
+      let more = Past.past_written {P = HaveOwnTokens (length (all_uses_in ds) + k)} (longer_on (length (all_uses_in ds) + k)) es (derivs_pieces (n + 1) ds (ends s r)) (all_long (n + 1) k ds (ends s r) h) in
       omega (arith, more)
 
-  all_long : (n k : ℕ) (ds : t.Derivs) (r : List Piece) → UsesHaveTokens k r → UsesHaveTokens (length (all_uses_in ds) + k) (derivs_pieces n ds r)
+  all_long : (n k : ℕ) (ds : t.Derivs) (r : List Piece) → HaveOwnTokens k r → HaveOwnTokens (length (all_uses_in ds) + k) (derivs_pieces n ds r)
   all_long n k t.no_derivs r h = let e : k ≤ length (kinds_in r) = h in omega (arith, e)
   all_long n k (t.more_derivs d ds) r h =
       let more = uses_long n (length (all_uses_in ds) + k) d (derivs_pieces n ds r) (all_long n k ds r h) in
@@ -86,23 +73,19 @@ abbrev uses_of_tree : Option (List RuleUse) → List RuleUse
 uses_of_tree None = []
 uses_of_tree (Some us) = us
 
-derivation_long : (o : Option t.Deriv) (r : List Piece) → UsesHaveTokens (length (uses_of_tree (derivation_in o))) (derivation_pieces o r)
+derivation_long : (o : Option t.Deriv) (r : List Piece) → HaveOwnTokens (length (uses_of_tree (derivation_in o))) (derivation_pieces o r)
 derivation_long None r = omega arith
 derivation_long (Some d) r = let h = uses_long 1 0 d r (omega arith) in omega (arith, h)
 
 pub few_uses : (bytes : List ℕ) (tree : t.File) (us : List RuleUse) → IsTreeOf bytes tree → derivation_in tree.derivation ≡ Some us → length us ≤ limit
 few_uses bytes tree us is e =
-    let long = Past.past_parts {P = UsesHaveTokens (length (uses_of_tree (derivation_in tree.derivation)))} (longer_on (length (uses_of_tree (derivation_in tree.derivation)))) tree (derivation_long tree.derivation _) in
+    let long = Past.past_parts {P = HaveOwnTokens (length (uses_of_tree (derivation_in tree.derivation)))} (longer_on (length (uses_of_tree (derivation_in tree.derivation)))) tree (derivation_long tree.derivation _) in
     let same : kinds_in (whole_file tree) ≡ kinds_of is.tokens = spells_kinds 0 (whole_file tree) is.tokens is.spelled in
     let each : length (kinds_of is.tokens) ≡ length is.tokens = kinds_long is.tokens in
     let most = tokens_within 0 (length bytes) is.tokens (lexed bytes is.tokens is.lexed).1 in
     let own : uses_of_tree (derivation_in tree.derivation) ≡ us = ap uses_of_tree e in
     let some : length us ≤ length (kinds_of is.tokens) = subst (λ (v : List RuleUse). length v ≤ length (kinds_of is.tokens)) own (subst (λ ks. length (uses_of_tree (derivation_in tree.derivation)) ≤ length ks) same long) in
     omega (arith, some, each, most, is.within)
-  where
-    kinds_long : (ts : List Token) → length (kinds_of ts) ≡ length ts
-    kinds_long [] = refl
-    kinds_long (token ∷ ts) = ap suc (kinds_long ts)
 
 -- the rule of a word, in a formed derivation
 rule_of : (later : Bool) (w : List ℕ) (n : ℕ) → arity_of later w ≡ Some n → (r : Rule) × (spelled r ≡ w) × (arity r ≡ n)

@@ -24,4 +24,5 @@ pub mod Narrating
 pub mod Loading
 pub mod Benching
 pub mod Commands
+pub mod Answering
 pub mod Run

@@ -1,9 +1,11 @@
 -- What reading an input gives.
-use Rattle.std.specs.Prelude.{◌≡◌, ℕ, ◌≤◌, List, length, Ok, Some, ⊤}
+use Rattle.std.specs.Prelude.{◌≡◌, ℕ, ◌≤◌, List, length, Ok, Some, IfSome, IsSome, ⊤}
 use Rattle.std.specs.declared.option.Option.{Option}
 use Rattle.spi_lex.specs.Lexing.{Lexes, kinds_of}
 use Rattle.spi_lex.specs.Writing.{AreKinds, AreSpans, spans_of}
+use Rattle.spi_lex.specs.declared.token.Token.{Token}
 use Rattle.spi_tree.specs.Trees as t
+use Rattle.spi_report.specs.Names.{name_of}
 use Rattle.spi_scope.specs.declared.file.File.{File}
 use Rattle.spi_scope.specs.Files.{meant, marked, marks_of}
 use Rattle.spi_scope.specs.StandsFor.{StandsFor}
@@ -11,10 +13,8 @@ use Rattle.spi_commands.specs.declared.reading.Unread.{Unread}
 use Rattle.spi_commands.specs.declared.reading.Unread.TheVariants.{Refused, NoMemory}
 use Rattle.spi_commands.specs.declared.text.Text.{Text}
 use Rattle.spi_commands.specs.declared.text.Text.TheVariants.{Lexed, Refused as RefusedText}
-use Rattle.spi_commands.specs.declared.file.Given.{Given}
-use Rattle.spi_commands.specs.declared.file.Given.TheVariants.{File as GivenFile, Refused as RefusedFile}
 use Rattle.spi_commands.specs.Spelled.{limit, IsTreeOf}
-use Rattle.spi_commands.specs.Refusals.{Refuses, IsUnlexed, IsLineOf, IsRefusal}
+use Rattle.spi_commands.specs.Refusals.{Refuses, IsUnlexed, IsLineOf, IsCause}
 
 -- the bytes spell the file, and it tells where the nodes of its tree stand and which names are in scope there
 abbrev pub IsRead : List ℕ → File → Type 0
@@ -35,24 +35,26 @@ TellsRefusal number offset shown (Refused r) = (r.number ≡ number) × (r.offse
     × (r.shown.items ≡ shown)
 TellsRefusal number offset shown NoMemory = ⊤
 
+-- the one cause that the refusal has
+abbrev pub IsCauseOf : Unread → ℕ → Option ℕ → List ℕ → Type 0
+IsCauseOf (Refused r) number offset shown = IsCause r.number r.offset r.shown.items number offset shown
+IsCauseOf NoMemory number offset shown = ⊥
+
+-- the number has a name, and the place is in the bytes
+abbrev pub StandsNamed : List ℕ → ℕ → Option ℕ → List ℕ → Type 0
+StandsNamed bytes number offset shown = IsSome (name_of number) × IfSome offset (λ at. at ≤ length bytes)
+
 -- the tokens are those of the bytes, and these are few
+abbrev pub HasTokens : List ℕ → List Token → Type 0
+HasTokens bytes tokens =
+    (length bytes ≤ limit) × Lexes bytes (Ok tokens) × AreKinds (kinds_of tokens)
+    × AreSpans 0 (spans_of tokens) (length bytes)
+
 abbrev pub IsText : Text → Type 0
-IsText (Lexed bytes tokens) =
-    (length bytes.items ≤ limit) × Lexes bytes.items (Ok tokens.items) × AreKinds (kinds_of tokens.items)
-    × AreSpans 0 (spans_of tokens.items) (length bytes.items)
+IsText (Lexed bytes tokens) = HasTokens bytes.items tokens.items
 IsText (RefusedText line) = ⊤
 
 -- the text is the one of these bytes
 abbrev pub GivesText : List ℕ → Text → Type 0
 GivesText bytes (Lexed taken tokens) = bytes ≡ taken.items
 GivesText bytes (RefusedText line) = IsLineOf bytes (IsUnlexed bytes) line.items
-
--- the file is the one of the bytes, and these are few
-abbrev pub IsGiven : Given → Type 0
-IsGiven (GivenFile bytes file) = (length bytes.items ≤ limit) × IsRead bytes.items file
-IsGiven (RefusedFile line) = ⊤
-
--- what is given is what these bytes spell
-abbrev pub GivesSpelled : List ℕ → Given → Type 0
-GivesSpelled bytes (GivenFile taken file) = bytes ≡ taken.items
-GivesSpelled bytes (RefusedFile line) = IsRefusal bytes line.items

@@ -16,6 +16,9 @@ use Rattle.spi_scope.specs.First.{HasFirst}
 use Rattle.spi_scope.specs.FaultPlaces.{span_from}
 use Rattle.spi_report.specs.declared.refusal.Refusal.{Refusal}
 use Rattle.spi_report.specs.Refused.{refused_text}
+use Rattle.spi_spell.specs.Joined.{joined}
+use Rattle.spi_commands.specs.declared.status.Status.{Status}
+use Rattle.spi_commands.specs.Answers.{Answers, never}
 use Rattle.spi_commands.specs.Spelled.{limit, IsTreeOf}
 
 -- the causes of a layer, and behind them those of further layers
@@ -117,3 +120,9 @@ pub data IsMissing (part : List ℕ) : ℕ → Option ℕ → List ℕ → Type 
 -- a text would have so many bytes, which are more than a file may have
 pub data IsTooMuch (count : ℕ) : ℕ → Option ℕ → List ℕ → Type 0 where
   too_much : limit < count → IsTooMuch count 80 None (decimal count)
+
+-- the text, or the line of its refusal where it is too long to stand behind these bytes
+abbrev pub FitsBehind : List ℕ → List ℕ → Status → List ℕ → Type 0
+FitsBehind bytes text =
+    Answers (λ output. (output ≡ text) × (length (joined bytes output) ≤ limit)) never
+    (IsLineOf bytes (IsTooMuch (length (joined bytes text))))

@@ -1,12 +1,14 @@
 // Answers, and why there is none.
-ghost use Rattle.std.specs.Prelude.{◌≡◌, ◌<◌, ◌≤◌, length, IfOk, OnErr, IfSome, IsSome, Err};
+ghost use Rattle.std.specs.Prelude.{◌≡◌, ◌<◌, ◌≤◌, length, string_bytes, IfOk, OnErr, IfSome, IsSome, None, Err};
+ghost use Rattle.std.specs.Fmt.{decimal};
 ghost use Rattle.spi_text.specs.Place.{IsSized};
 ghost use Rattle.spi_report.specs.Names.{name_of};
 ghost use Rattle.spi_report.specs.Refused.{refused_text};
-ghost use Rattle.spi_commands.specs.Refusals.{IsLineOf, IsMissing, IsTooMuch};
+ghost use Rattle.spi_commands.specs.Refusals.{FitsBehind, IsCause, IsLineOf, IsMissing, IsTooMuch};
 ghost use Rattle.spi_commands.specs.declared.answer.Stop.TheVariants.{NoMemory};
 
 use crate::status::Status;
+use crate::text::LIMIT;
 use spi_report::{Refusal, refused};
 use spi_text::Lines;
 use std::alloc::{AllocError, Global};
@@ -82,6 +84,36 @@ pub fn refusal_line(alloc: Global, bytes: &[u8], r: &Refusal) -> Result<Vec<u8>,
     refused(alloc, &lines, r)
 }
 
+/// The refusal without a place that shows this text.
+pub fn placeless(alloc: Global, bytes: &[u8], number: u32, shown: String) -> Result<Answer, Stop>
+    requires sized { length bytes.now ≤ 16_777_216 }
+    requires named { IsSome (name_of number) }
+    ensures ok { IfOk result
+        (λ answer. (answer.status ≡ Status.Refused)
+        × IsLineOf bytes.now (IsCause number None (string_bytes shown)) answer.output.items) }
+    ensures err { OnErr result (result ≡ Err Stop.NoMemory) }
+{
+    let r = Refusal {
+        number,
+        offset: None,
+        shown: shown.into_bytes(),
+    };
+    refusal(alloc, bytes, &r)
+}
+
+/// The refusal without a place that shows a count.
+pub fn refused_count(alloc: Global, bytes: &[u8], number: u32, count: u64) -> Result<Answer, Stop>
+    requires sized { length bytes.now ≤ 16_777_216 }
+    requires named { IsSome (name_of number) }
+    ensures ok { IfOk result
+        (λ answer. (answer.status ≡ Status.Refused)
+        × IsLineOf bytes.now (IsCause number None (decimal count)) answer.output.items) }
+    ensures err { OnErr result (result ≡ Err Stop.NoMemory) }
+{
+    let shown = format!(in alloc; "{count}")?;
+    placeless(alloc, bytes, number, shown)
+}
+
 /// The refusal of a text that would have so many bytes, which are more than a file may have.
 pub fn too_much(alloc: Global, bytes: &[u8], count: u64) -> Result<Answer, Stop>
     requires sized { length bytes.now ≤ 16_777_216 }
@@ -91,13 +123,25 @@ pub fn too_much(alloc: Global, bytes: &[u8], count: u64) -> Result<Answer, Stop>
         × IsLineOf bytes.now (IsTooMuch count) answer.output.items) }
     ensures err { OnErr result (result ≡ Err Stop.NoMemory) }
 {
-    let shown = format!(in alloc; "{count}")?.into_bytes();
-    let r = Refusal {
-        number: 80,
-        offset: None,
-        shown,
-    };
-    refusal(alloc, bytes, &r)
+    refused_count(alloc, bytes, 80, count)
+}
+
+/// This text as an answer, or its refusal where it is too long to stand behind the file of these bytes.
+pub fn within_limit(alloc: Global, bytes: &[u8], output: Vec<u8>) -> Result<Answer, Stop>
+    requires { length bytes.now ≤ 16_777_216 }
+    ensures ok { IfOk result
+        (λ answer. FitsBehind bytes.now output.items answer.status answer.output.items) }
+    ensures err { OnErr result (result ≡ Err Stop.NoMemory) }
+{
+    let count = bytes.len() as u64 + 1 + output.len() as u64;
+    if count <= LIMIT as u64 {
+        Ok(Answer {
+            status: Status::Yes,
+            output,
+        })
+    } else {
+        too_much(alloc, bytes, count)
+    }
 }
 
 /// The refusal of a file that lacks a part.

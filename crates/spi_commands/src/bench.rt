@@ -1,59 +1,38 @@
 // The command `bench`.
-ghost use Rattle.std.specs.Prelude.{◌≡◌, ◌≢◌, ◌+◌, ◌<◌, ◌≤◌, ◌^◌, ◌++◌, ℕ, List, length};
+ghost use Rattle.std.specs.Prelude.{◌≡◌, ◌+◌, ◌<◌, ◌≤◌, ◌^◌, ◌++◌, length};
 ghost use Rattle.std.specs.Prelude.{IfOk, IfErr, OnOk, OnErr, Ok, Err};
 ghost use Rattle.spi_lex.specs.Lexing.{Lexes, kinds_of};
-ghost use Rattle.spi_lex.specs.Writing.{AreKinds, AreSpans, spans_of};
+ghost use Rattle.spi_lex.specs.Writing.{AreKinds};
 ghost use Rattle.spi_edits.specs.Edits.{Bench};
 ghost use Rattle.spi_edits.specs.Views.{bench_of};
 ghost use Rattle.spi_workbench.specs.Answers.{IsJudged};
-ghost use Rattle.spi_commands.specs.Reading.{IsText, GivesText, IsUnreadBy, TellsRefusal};
-ghost use Rattle.spi_commands.specs.Refusals.{IsLineOf};
+ghost use Rattle.spi_commands.specs.Reading.{HasTokens, IsUnreadBy, TellsRefusal};
 ghost use Rattle.spi_commands.specs.Benching.{IsBenchOf, AreVerdictsTold, IsUnjudged, RefusesBench, BenchesTo};
 ghost use Rattle.spi_commands.specs.Benching.{bench_number, bench_place, bench_shown};
 ghost use Rattle.spi_commands.specs.Benching.{verdict_text, verdicts_text};
-ghost use Rattle.spi_commands.specs.Run.{IsAnswered};
 
 use crate::NoMemory;
-use crate::answer::{Answer, Stop, refusal, refused_with};
-use crate::reading::{Unread, out_of_scope, shown_count, shown_word, start};
+use crate::answer::{Answer, Stop};
+use crate::reading::{Unread, out_of_scope, refused_for, shown_count, shown_word, start};
 use crate::status::Status;
-use crate::text::{Text, unspelled};
+use crate::text::unspelled;
 use spi_edits::{BenchText, read_bench};
 use spi_lex::Token;
 use spi_parse::ParseFault;
-use spi_report::Refusal;
 use spi_scope::faults_stand_at_nodes;
 use spi_workbench::{Answer as Judged, Refusal as Unjudged, Verdicts, judge_edits};
 use std::alloc::Global;
 
-/// What `bench` answers on the text of an input.
-pub fn benches(alloc: Global, text: Text) -> Result<Answer, Stop>
-    requires { IsText text }
-    ensures ok { IfOk result (λ answer. (bytes : List ℕ) → GivesText bytes text
-        → BenchesTo bytes answer.status answer.output.items) }
-    ensures answered { IfOk result (λ answer. IsAnswered answer.status × (answer.status ≢ Status.Usage)) }
-    ensures err { OnErr result (result ≡ Err Stop.NoMemory) }
-{
-    match text {
-        Text::Lexed { bytes, tokens } => benched(alloc, &bytes, &tokens),
-        Text::Refused(line) => Ok(refused_with(line)),
-    }
-}
-
 /// What `bench` answers on these bytes, which have these tokens.
-fn benched(alloc: Global, bytes: &[u8], tokens: &[Token]) -> Result<Answer, Stop>
-    requires within { length bytes.now ≤ 16_777_216 }
-    requires lexed { Lexes bytes.now (Ok tokens.now) }
-    requires kinds { AreKinds (kinds_of tokens.now) }
-    requires spans { AreSpans 0 (spans_of tokens.now) (length bytes.now) }
+pub fn benched(alloc: Global, bytes: &[u8], tokens: &[Token]) -> Result<Answer, Stop>
+    requires { HasTokens bytes.now tokens.now }
     ensures ok { IfOk result (λ answer. BenchesTo bytes.now answer.status answer.output.items) }
-    ensures answered { IfOk result (λ answer. IsAnswered answer.status × (answer.status ≢ Status.Usage)) }
     ensures err { OnErr result (result ≡ Err Stop.NoMemory) }
 {
+    faults_stand_at_nodes();
     match verdicts_of(alloc, bytes, tokens) {
         Ok(verdicts) => told(alloc, &verdicts),
-        Err(Unread::Refused(r)) => unbenched(alloc, bytes, &r),
-        Err(Unread::NoMemory) => Err(Stop::NoMemory),
+        Err(cause) => refused_for(alloc, bytes, &cause),
     }
 }
 
@@ -101,18 +80,6 @@ fn unjudged(alloc: Global, r: Unjudged) -> Unread
         Unjudged::UnknownPart { span, word } => shown_word(alloc, 120, span, &word),
         Unjudged::BenchTooLarge { span, count } => shown_count(alloc, 123, span, count),
     }
-}
-
-/// The answer that bytes are refused with, for this first reason.
-fn unbenched(alloc: Global, bytes: &[u8], r: &Refusal) -> Result<Answer, Stop>
-    requires sized { length bytes.now ≤ 16_777_216 }
-    requires refuses { RefusesBench bytes.now r.now.number r.now.offset r.now.shown.items }
-    ensures ok { IfOk result (λ answer. (answer.status ≡ Status.Refused)
-        × IsLineOf bytes.now (RefusesBench bytes.now) answer.output.items) }
-    ensures err { OnErr result (result ≡ Err Stop.NoMemory) }
-{
-    faults_stand_at_nodes();
-    refusal(alloc, bytes, r)
 }
 
 /// The answer with these verdicts. The last one is the status.

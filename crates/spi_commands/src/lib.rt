@@ -2,13 +2,12 @@
 #![tactic(auto)]
 
 mod answer;
+mod answering;
 mod asked;
 mod bench;
 mod canonical;
 mod certificate;
-mod check;
 mod derive;
-mod file;
 mod knows;
 mod load;
 mod narrate;
@@ -16,7 +15,6 @@ mod opponent;
 mod options;
 mod play;
 mod players;
-mod print;
 mod reading;
 mod rejection;
 mod replay;

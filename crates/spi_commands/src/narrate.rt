@@ -1,7 +1,6 @@
 // The command `narrate`.
-ghost use Rattle.std.specs.Prelude.{◌≡◌, ◌≢◌, ◌≤◌, ◌⊎◌, ℕ, List, Option, length, IfOk, OnErr, Ok, Err};
-ghost use Rattle.spi_lex.specs.Lexing.{Lexes, kinds_of};
-ghost use Rattle.spi_lex.specs.Writing.{AreKinds, AreSpans, spans_of};
+ghost use Rattle.std.specs.Prelude.{◌≡◌, ◌≤◌, ◌⊎◌, ℕ, List, Option, length, IfOk, OnErr, Ok, Err};
+ghost use Rattle.spi_lex.specs.Lexing.{Lexes};
 ghost use Rattle.spi_narrate.specs.Narrations.{Narration as Told};
 ghost use Rattle.spi_narrate.specs.Reads.{FailsNarration};
 ghost use Rattle.spi_narrate.specs.Views.{narration_of};
@@ -16,15 +15,13 @@ ghost use Rattle.spi_commands.specs.Narrating.{
   SpellsUntold,
   SpellsLongTelling,
 };
-ghost use Rattle.spi_commands.specs.Reading.{IsText, GivesText, IsUnreadBy};
-ghost use Rattle.spi_commands.specs.Run.{IsAnswered};
+ghost use Rattle.spi_commands.specs.Reading.{HasTokens, IsUnreadBy};
 ghost use Rattle.spi_commands.specs.Spelled.{SpellsFile};
 
-use crate::answer::{Answer, Stop, refusal, refused_with};
+use crate::answer::{Answer, Stop};
 use crate::canonical::shown;
-use crate::reading::{Unread, out_of_scope, shown_count, shown_word, start};
-use crate::status::Status;
-use crate::text::{Text, unspelled};
+use crate::reading::{Unread, out_of_scope, refused_for, shown_count, shown_word, start};
+use crate::text::unspelled;
 use spi_honest::faultless_is_tellable;
 use spi_lex::{Token, one_answer};
 use spi_narrate::{NarrateFault, Narration, one_first_fault, one_narration, read_narration};
@@ -32,33 +29,16 @@ use spi_narrator::{Answer as Telling, Refusal as Untold, one_telling, tell, told
 use spi_scope::faults_stand_at_nodes;
 use std::alloc::Global;
 
-/// What `narrate` answers on what it is given.
-pub fn narrates(alloc: Global, text: Text) -> Result<Answer, Stop>
-    requires { IsText text }
-    ensures ok { IfOk result (λ answer. (bytes : List ℕ) → GivesText bytes text
-        → NarratesTo bytes answer.status answer.output.items) }
-    ensures answered { IfOk result (λ answer. IsAnswered answer.status × (answer.status ≢ Status.Usage)) }
-    ensures err { OnErr result (result ≡ Err Stop.NoMemory) }
-{
-    match text {
-        Text::Lexed { bytes, tokens } => narrated(alloc, &bytes, &tokens),
-        Text::Refused(line) => Ok(refused_with(line)),
-    }
-}
-
 /// What `narrate` answers on these bytes, which have these tokens.
-fn narrated(alloc: Global, bytes: &[u8], tokens: &[Token]) -> Result<Answer, Stop>
-    requires within { length bytes.now ≤ 16_777_216 }
-    requires lexed { Lexes bytes.now (Ok tokens.now) }
-    requires kinds { AreKinds (kinds_of tokens.now) }
-    requires spans { AreSpans 0 (spans_of tokens.now) (length bytes.now) }
+pub fn narrated(alloc: Global, bytes: &[u8], tokens: &[Token]) -> Result<Answer, Stop>
+    requires { HasTokens bytes.now tokens.now }
     ensures ok { IfOk result (λ answer. NarratesTo bytes.now answer.status answer.output.items) }
-    ensures answered { IfOk result (λ answer. IsAnswered answer.status × (answer.status ≢ Status.Usage)) }
     ensures err { OnErr result (result ≡ Err Stop.NoMemory) }
 {
+    faults_stand_at_nodes();
     match read_narration(alloc, tokens) {
         Ok(narration) => told(alloc, bytes, &narration),
-        Err(fault) => refused_by(alloc, bytes, unnarrated(alloc, bytes, tokens, &fault)),
+        Err(fault) => refused_for(alloc, bytes, &unnarrated(alloc, bytes, tokens, &fault)),
     }
 }
 
@@ -83,14 +63,14 @@ fn unnarrated(alloc: Global, bytes: &[u8], tokens: &[Token], fault: &NarrateFaul
 fn told(alloc: Global, bytes: &[u8], narration: &Narration) -> Result<Answer, Stop>
     requires { SpellsNarration bytes.now (narration_of narration.now) }
     ensures ok { IfOk result (λ answer. NarratesTo bytes.now answer.status answer.output.items) }
-    ensures answered { IfOk result (λ answer. IsAnswered answer.status × (answer.status ≢ Status.Usage)) }
     ensures err { OnErr result (result ≡ Err Stop.NoMemory) }
 {
+    faults_stand_at_nodes();
     faultless_is_tellable();
     let telling = tell(alloc, narration)?;
     match &telling {
         Telling::Told(file) => shown(alloc, bytes, file),
-        Telling::Refused(cause) => refused_by(alloc, bytes, untold(alloc, cause)),
+        Telling::Refused(cause) => refused_for(alloc, bytes, &untold(alloc, cause)),
     }
 }
 
@@ -104,21 +84,6 @@ fn untold(alloc: Global, cause: &Untold) -> Unread
         Untold::Scope(fault) => out_of_scope(alloc, fault),
         Untold::NotReady { span } => unspelled(alloc, 102, span.from),
         Untold::TooLarge { span, nodes } => shown_count(alloc, 104, *span, *nodes),
-    }
-}
-
-/// A refusal, with this cause.
-fn refused_by(alloc: Global, bytes: &[u8], cause: Unread) -> Result<Answer, Stop>
-    requires sized { length bytes.now ≤ 16_777_216 }
-    requires causes { IsUnreadBy (RefusesNarrate bytes.now) cause }
-    ensures ok { IfOk result (λ answer. NarratesTo bytes.now answer.status answer.output.items) }
-    ensures answered { IfOk result (λ answer. IsAnswered answer.status × (answer.status ≢ Status.Usage)) }
-    ensures err { OnErr result (result ≡ Err Stop.NoMemory) }
-{
-    faults_stand_at_nodes();
-    match cause {
-        Unread::Refused(r) => refusal(alloc, bytes, &r),
-        Unread::NoMemory => Err(Stop::NoMemory),
     }
 }
 

@@ -1,25 +1,23 @@
 // The command `play`.
-ghost use Rattle.std.specs.Prelude.{◌≡◌, ◌≢◌, ◌<◌, ◌≤◌, ℕ, List, length, map, string_bytes, vec_len, IfOk, IsSome, OnErr, Err, None, Some};
+ghost use Rattle.std.specs.Prelude.{◌≡◌, ◌<◌, ◌≤◌, length, map, vec_len, IfOk, OnErr, Err, Some};
 ghost use Rattle.std.specs.Option.{ForSome};
 ghost use Rattle.spi_run.specs.Opponent.{IsOpponent};
 ghost use Rattle.spi_run.specs.View.{step as step_of};
 ghost use Rattle.spi_play.specs.Way.{seen_of};
-ghost use Rattle.spi_report.specs.Names.{name_of};
 ghost use Rattle.spi_scope.specs.Files.{meant};
+ghost use Rattle.spi_commands.specs.Answering.{IsAnsweredBy};
+ghost use Rattle.spi_commands.specs.Asked.{AreNumbersKnown};
 ghost use Rattle.spi_commands.specs.Playing.{ListsTo, PlaysTo, LeavesPlayers, IsPlayFault};
-ghost use Rattle.spi_commands.specs.Reading.{IsRead, IsGiven, GivesSpelled};
-ghost use Rattle.spi_commands.specs.Refusals.{IsLineOf, IsCause};
-ghost use Rattle.spi_commands.specs.Run.{IsAnswered};
+ghost use Rattle.spi_commands.specs.Reading.{IsRead};
+ghost use Rattle.spi_commands.specs.Refusals.{IsLineOf};
 
-use crate::answer::{Answer, Stop, missing, refusal, refused_with, too_much};
-use crate::file::Given;
+use crate::answer::{Answer, Stop, missing, placeless, within_limit};
+use crate::asked::Command;
 use crate::opponent::not_opponent;
 use crate::status::Status;
-use crate::text::LIMIT;
 use spi_opponent::is_opponent;
 use spi_play::{PlayFault, Player, play};
 use spi_replay::Pool;
-use spi_report::Refusal;
 use spi_run::Step;
 use spi_scope::File;
 use spi_show::show_steps;
@@ -29,35 +27,9 @@ use std::alloc::Global;
 /// How many places a play may have.
 const PLACES: u32 = 1_000;
 
-/// What `play` answers on what it is given, where so many steps are taken at most. Where memory runs out the players are
-/// as they were, or as a play of the file left them.
-pub fn plays(
-    alloc: Global,
-    given: Given,
-    players: &mut Vec<Box<dyn Player>>,
-    most: u32,
-    only: Option<usize>,
-) -> Result<Answer, Stop>
-    requires given { IsGiven given }
-    requires few { most ≤ 1000 }
-    requires only { ForSome only (λ place. place < vec_len players.old) }
-    ensures ok { IfOk result (λ answer. (bytes : List ℕ) → GivesSpelled bytes given → PlaysTo most only bytes
-        (seen_of (λ b. times b) (λ b. way b) players.old.items)
-        (seen_of (λ b. times b) (λ b. way b) players.new.items) answer.status answer.output.items) }
-    ensures answered { IfOk result (λ answer. IsAnswered answer.status × (answer.status ≢ Status.Usage)) }
-    ensures left { OnErr result ((bytes : List ℕ) → GivesSpelled bytes given → LeavesPlayers most only bytes
-        (seen_of (λ b. times b) (λ b. way b) players.old.items)
-        (seen_of (λ b. times b) (λ b. way b) players.new.items)) }
-    ensures err { OnErr result (result ≡ Err Stop.NoMemory) }
-{
-    match given {
-        Given::File { bytes, file } => played(alloc, &bytes, &file, players, most, only),
-        Given::Refused(line) => Ok(refused_with(line)),
-    }
-}
-
-/// What `play` answers on the file of these bytes.
-fn played(
+/// What `play` answers on the file of these bytes, where so many steps are taken at most. Where memory runs out the players
+/// are as they were, or as the play left them.
+pub fn played(
     alloc: Global,
     bytes: &[u8],
     file: &File,
@@ -67,16 +39,10 @@ fn played(
 ) -> Result<Answer, Stop>
     requires sized { length bytes.now ≤ 16_777_216 }
     requires read { IsRead bytes.now file.now }
-    requires few { most ≤ 1000 }
-    requires only { ForSome only (λ place. place < vec_len players.old) }
-    ensures ok { IfOk result (λ answer. PlaysTo most only bytes.now
+    requires known { AreNumbersKnown (vec_len players.old) (Command.Play most only) }
+    ensures { IsAnsweredBy (Command.Play most only) bytes.now
         (seen_of (λ b. times b) (λ b. way b) players.old.items)
-        (seen_of (λ b. times b) (λ b. way b) players.new.items) answer.status answer.output.items) }
-    ensures answered { IfOk result (λ answer. IsAnswered answer.status × (answer.status ≢ Status.Usage)) }
-    ensures left { OnErr result (LeavesPlayers most only bytes.now
-        (seen_of (λ b. times b) (λ b. way b) players.old.items)
-        (seen_of (λ b. times b) (λ b. way b) players.new.items)) }
-    ensures err { OnErr result (result ≡ Err Stop.NoMemory) }
+        (seen_of (λ b. times b) (λ b. way b) players.new.items) result }
 {
     match &file.opponent {
         None => missing(alloc, bytes, b"opponent"),
@@ -106,7 +72,6 @@ fn beside(
     ensures ok { IfOk result (λ answer. PlaysTo most only bytes.now
         (seen_of (λ b. times b) (λ b. way b) players.old.items)
         (seen_of (λ b. times b) (λ b. way b) players.new.items) answer.status answer.output.items) }
-    ensures answered { IfOk result (λ answer. IsAnswered answer.status × (answer.status ≢ Status.Usage)) }
     ensures left { OnErr result (LeavesPlayers most only bytes.now
         (seen_of (λ b. times b) (λ b. way b) players.old.items)
         (seen_of (λ b. times b) (λ b. way b) players.new.items)) }
@@ -124,19 +89,10 @@ fn listed(alloc: Global, bytes: &[u8], steps: &[Step]) -> Result<Answer, Stop>
     requires { length bytes.now ≤ 16_777_216 }
     ensures ok { IfOk result
         (λ answer. ListsTo bytes.now (map step_of steps.now) answer.status answer.output.items) }
-    ensures answered { IfOk result (λ answer. IsAnswered answer.status × (answer.status ≢ Status.Usage)) }
     ensures err { OnErr result (result ≡ Err Stop.NoMemory) }
 {
     let output = show_steps(alloc, steps)?;
-    let count = bytes.len() as u64 + 1 + output.len() as u64;
-    if count <= LIMIT as u64 {
-        Ok(Answer {
-            status: Status::Yes,
-            output,
-        })
-    } else {
-        too_much(alloc, bytes, count)
-    }
+    within_limit(alloc, bytes, output)
 }
 
 /// The refusal of a play.
@@ -145,7 +101,6 @@ fn refused(alloc: Global, bytes: &[u8], fault: &PlayFault) -> Result<Answer, Sto
     ensures ok { IfOk result
         (λ answer. (answer.status ≡ Status.Refused)
         × IsLineOf bytes.now (IsPlayFault fault.now) answer.output.items) }
-    ensures answered { IfOk result (λ answer. IsAnswered answer.status × (answer.status ≢ Status.Usage)) }
     ensures err { OnErr result (result ≡ Err Stop.NoMemory) }
 {
     match fault {
@@ -167,21 +122,4 @@ fn refused(alloc: Global, bytes: &[u8], fault: &PlayFault) -> Result<Answer, Sto
         }
         PlayFault::NoMemory => Err(Stop::NoMemory),
     }
-}
-
-/// The line of a refusal without a place.
-fn placeless(alloc: Global, bytes: &[u8], number: u32, shown: String) -> Result<Answer, Stop>
-    requires sized { length bytes.now ≤ 16_777_216 }
-    requires named { IsSome (name_of number) }
-    ensures ok { IfOk result
-        (λ answer. (answer.status ≡ Status.Refused)
-        × IsLineOf bytes.now (IsCause number None (string_bytes shown)) answer.output.items) }
-    ensures err { OnErr result (result ≡ Err Stop.NoMemory) }
-{
-    let r = Refusal {
-        number,
-        offset: None,
-        shown: shown.into_bytes(),
-    };
-    refusal(alloc, bytes, &r)
 }

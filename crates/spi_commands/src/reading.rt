@@ -1,5 +1,5 @@
 // The file that bytes spell.
-ghost use Rattle.std.specs.Prelude.{◌≡◌, ◌≤◌, length, drop, IfOk, IfErr, Ok};
+ghost use Rattle.std.specs.Prelude.{◌≡◌, ◌≤◌, length, drop, IfOk, IfErr, OnErr, Ok, Err};
 ghost use Rattle.std.specs.Fmt.{decimal};
 ghost use Rattle.spi_lex.specs.Lexing.{Lexes};
 ghost use Rattle.spi_lex.specs.Lexing.{kinds_of};
@@ -8,10 +8,12 @@ ghost use Rattle.spi_tree.specs.Views.{file_of};
 ghost use Rattle.spi_scope.specs.Files.{meant};
 ghost use Rattle.spi_scope.specs.FaultPlaces.{span_from};
 ghost use Rattle.spi_commands.specs.Spelled.{IsTreeOf, SpellsFile};
-ghost use Rattle.spi_commands.specs.Refusals.{start_of, scope_number, scope_shown};
-ghost use Rattle.spi_commands.specs.Reading.{IsRead, IsUnread, TellsRefusal};
+ghost use Rattle.spi_commands.specs.Refusals.{IsLineOf, start_of, scope_number, scope_shown};
+ghost use Rattle.spi_commands.specs.Reading.{IsRead, IsUnread, IsUnreadBy, IsCauseOf, StandsNamed, TellsRefusal};
 ghost use Rattle.spi_commands.specs.declared.reading.Unread.TheVariants.{NoMemory};
 
+use crate::answer::{Answer, Stop, refusal};
+use crate::status::Status;
 use crate::text::{unlexed, unspelled};
 use spi_lex::{Token, lex};
 use spi_parse::{ParseFault, parse};
@@ -70,6 +72,21 @@ pub fn read_tokens(alloc: Global, bytes: &[u8], tokens: &[Token]) -> Result<File
             start(bytes, tokens, token),
         )),
         Err(ParseFault::NoMemory) => Err(Unread::NoMemory),
+    }
+}
+
+/// The refusal of bytes that are not read, where its number has a name and its place is in the bytes.
+pub fn refused_for(alloc: Global, bytes: &[u8], cause: &Unread) -> Result<Answer, Stop>
+    requires sized { length bytes.now ≤ 16_777_216 }
+    requires stands { IsUnreadBy (StandsNamed bytes.now) cause.now }
+    ensures ok { IfOk result
+        (λ answer. (answer.status ≡ Status.Refused)
+        × IsLineOf bytes.now (IsCauseOf cause.now) answer.output.items) }
+    ensures err { OnErr result (result ≡ Err Stop.NoMemory) }
+{
+    match cause {
+        Unread::Refused(r) => refusal(alloc, bytes, r),
+        Unread::NoMemory => Err(Stop::NoMemory),
     }
 }
 

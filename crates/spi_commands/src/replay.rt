@@ -1,14 +1,12 @@
 // The command `replay`.
-ghost use Rattle.std.specs.Prelude.{◌≡◌, ◌≢◌, ◌<◌, ◌^◌, ◌≤◌, ℕ, List, length, map, IfOk, OnErr, Err};
+ghost use Rattle.std.specs.Prelude.{◌≡◌, ◌<◌, ◌^◌, ◌≤◌, length, map, IfOk, OnErr, Err};
 ghost use Rattle.spi_run.specs.View.{event as event_of};
 ghost use Rattle.spi_trace.specs.Pairing.{IsPairing};
 ghost use Rattle.spi_scope.specs.Files.{meant};
-ghost use Rattle.spi_commands.specs.Reading.{IsRead, IsGiven, GivesSpelled};
+ghost use Rattle.spi_commands.specs.Reading.{IsRead};
 ghost use Rattle.spi_commands.specs.Replaying.{ReplaysTo, AreEventsJudged, IsReplayText};
-ghost use Rattle.spi_commands.specs.Run.{IsAnswered};
 
 use crate::answer::{Answer, Stop, refused_with};
-use crate::file::Given;
 use crate::schedule::{Ran, replay_of};
 use crate::status::Status;
 use spi_report::{events, first_unpaid};
@@ -17,27 +15,11 @@ use spi_scope::File;
 use spi_trace::{Pairing, pair_up, paired_is_paid};
 use std::alloc::Global;
 
-/// What `replay` answers on what it is given.
-pub fn replays(alloc: Global, given: Given) -> Result<Answer, Stop>
-    requires { IsGiven given }
-    ensures ok { IfOk result
-        (λ answer. (bytes : List ℕ) → GivesSpelled bytes given
-        → ReplaysTo bytes answer.status answer.output.items) }
-    ensures answered { IfOk result (λ answer. IsAnswered answer.status × (answer.status ≢ Status.Usage)) }
-    ensures err { OnErr result (result ≡ Err Stop.NoMemory) }
-{
-    match given {
-        Given::File { bytes, file } => replayed(alloc, &bytes, &file),
-        Given::Refused(line) => Ok(refused_with(line)),
-    }
-}
-
 /// What `replay` answers on the file of these bytes.
-fn replayed(alloc: Global, bytes: &[u8], file: &File) -> Result<Answer, Stop>
+pub fn replayed(alloc: Global, bytes: &[u8], file: &File) -> Result<Answer, Stop>
     requires sized { length bytes.now ≤ 16_777_216 }
     requires read { IsRead bytes.now file.now }
     ensures ok { IfOk result (λ answer. ReplaysTo bytes.now answer.status answer.output.items) }
-    ensures answered { IfOk result (λ answer. IsAnswered answer.status × (answer.status ≢ Status.Usage)) }
     ensures err { OnErr result (result ≡ Err Stop.NoMemory) }
 {
     match replay_of(alloc, bytes, file, false)? {

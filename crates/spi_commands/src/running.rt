@@ -4,6 +4,7 @@ ghost use Rattle.std.specs.Io.KnownBytes.{Appends};
 ghost use Rattle.spi_io.specs.Causes.{Rose, TakesUpTo};
 ghost use Rattle.spi_scope.specs.StandsFor.{Meant};
 ghost use Rattle.spi_play.specs.Way.{seen_of};
+ghost use Rattle.spi_commands.specs.Answering.{KeepPromises};
 ghost use Rattle.spi_commands.specs.Asked.{asked, is_play, reads_input, AreNumbersKnown};
 ghost use Rattle.spi_commands.specs.Spelled.{limit, SpellsFile, SpellsNone, IsManySafe};
 ghost use Rattle.spi_commands.specs.Refusals.{Refuses};
@@ -13,21 +14,12 @@ ghost use Rattle.spi_commands.specs.Commands.{Promise};
 ghost use Rattle.spi_commands.specs.Run.{Wants, IsAnswered, Ends, Completes, IsUndisturbed, TakesInput};
 
 use crate::answer::{Answer, Stop, made};
+use crate::answering::answers;
 use crate::asked::{Command, asked_of};
-use crate::bench::benches;
-use crate::check::checks;
-use crate::derive::derives;
-use crate::file::take_file;
-use crate::knows::knows;
 use crate::load::loads;
-use crate::narrate::{narrates, narrations_have_one_answer};
-use crate::play::plays;
-use crate::print::prints;
-use crate::replay::replays;
+use crate::narrate::narrations_have_one_answer;
 use crate::status::Status;
 use crate::text::take_text;
-use crate::upgrade::upgrades;
-use crate::verify::verifies;
 use crate::words::USAGE;
 use spi_deriv::one_canonical;
 use spi_io::{Put, Sink, Source, put_all};
@@ -121,6 +113,16 @@ pub fn run<S: Source, K: Sink>(
         (seen_of (λ b. times b) (λ b. way b) players.old.items)
         (seen_of (λ b. times b) (λ b. way b) players.new.items)) }
 {
+    one_file();
+    derivable_is_many_safe();
+    answers_keep_promises();
+    run_for(alloc, words, source, sink, players)
+}
+
+/// What a command answers keeps what it promises.
+fn answers_keep_promises()
+    ensures { KeepPromises }
+{
     one_answer();
     one_file();
     refused_is_none();
@@ -132,7 +134,6 @@ pub fn run<S: Source, K: Sink>(
     canonical_reads_back();
     keys_stay_unknown();
     narrations_have_one_answer();
-    run_for(alloc, words, source, sink, players)
 }
 
 /// Bytes spell one file at most.
@@ -243,18 +244,9 @@ fn answer_to<S: Source>(
 {
     match command {
         None => made(alloc, Status::Usage, USAGE),
-        Some(Command::Check) => checks(alloc, take_file(alloc, source)?),
-        Some(Command::Derive) => derives(alloc, take_file(alloc, source)?),
-        Some(Command::Verify) => verifies(alloc, take_file(alloc, source)?),
-        Some(Command::Replay) => replays(alloc, take_file(alloc, source)?),
-        Some(Command::Play { most, only }) => {
-            plays(alloc, take_file(alloc, source)?, players, most, only)
-        }
-        Some(Command::Print) => prints(alloc, take_file(alloc, source)?),
-        Some(Command::Load { sessions }) => loads(alloc, sessions),
-        Some(Command::Upgrade) => upgrades(alloc, take_file(alloc, source)?),
-        Some(Command::Narrate) => narrates(alloc, take_text(alloc, source)?),
-        Some(Command::Knows { name }) => knows(alloc, take_file(alloc, source)?, name),
-        Some(Command::Bench) => benches(alloc, take_text(alloc, source)?),
+        Some(asked) => match asked {
+            Command::Load { sessions } => loads(alloc, sessions),
+            _ => answers(alloc, asked, take_text(alloc, source)?, players),
+        },
     }
 }

@@ -1,41 +1,22 @@
 // The command `upgrade`.
-ghost use Rattle.std.specs.Prelude.{◌≡◌, ◌≢◌, ◌≤◌, ◌⊎◌, ◌++◌, ℕ, List, length, codes, MatchOption, IfOk, OnErr, Err};
+ghost use Rattle.std.specs.Prelude.{◌≡◌, ◌≤◌, ◌⊎◌, ◌++◌, length, codes, MatchOption, IfOk, OnErr, Err};
 ghost use Rattle.spi_scope.specs.Files.{meant};
 ghost use Rattle.spi_commands.specs.Upgrading.{IsNewWord, IsRespelled, AreRespelled, IsUpgrade, UpgradesTo};
-ghost use Rattle.spi_commands.specs.Reading.{IsRead, IsGiven, GivesSpelled};
-ghost use Rattle.spi_commands.specs.Run.{IsAnswered};
+ghost use Rattle.spi_commands.specs.Reading.{IsRead};
 
 use crate::NoMemory;
-use crate::answer::{Answer, Stop, refused_with};
+use crate::answer::{Answer, Stop};
 use crate::canonical::shown;
-use crate::file::Given;
-use crate::status::Status;
 use spi_scope::File;
 use spi_show::least_behind;
 use spi_text::Text;
 use std::alloc::Global;
 
-/// What `upgrade` answers on what it is given.
-pub fn upgrades(alloc: Global, given: Given) -> Result<Answer, Stop>
-    requires { IsGiven given }
-    ensures ok { IfOk result
-        (λ answer. (bytes : List ℕ) → GivesSpelled bytes given
-        → UpgradesTo bytes answer.status answer.output.items) }
-    ensures answered { IfOk result (λ answer. IsAnswered answer.status × (answer.status ≢ Status.Usage)) }
-    ensures err { OnErr result (result ≡ Err Stop.NoMemory) }
-{
-    match given {
-        Given::File { bytes, file } => upgraded(alloc, &bytes, file),
-        Given::Refused(line) => Ok(refused_with(line)),
-    }
-}
-
 /// What `upgrade` answers on the file of these bytes.
-fn upgraded(alloc: Global, bytes: &[u8], file: File) -> Result<Answer, Stop>
+pub fn upgraded(alloc: Global, bytes: &[u8], file: File) -> Result<Answer, Stop>
     requires sized { length bytes.now ≤ 16_777_216 }
     requires read { IsRead bytes.now file }
     ensures ok { IfOk result (λ answer. UpgradesTo bytes.now answer.status answer.output.items) }
-    ensures answered { IfOk result (λ answer. IsAnswered answer.status × (answer.status ≢ Status.Usage)) }
     ensures err { OnErr result (result ≡ Err Stop.NoMemory) }
 {
     let file = in_version_2(alloc, file)?;

@@ -1,5 +1,5 @@
 // The command `verify`.
-ghost use Rattle.std.specs.Prelude.{◌≡◌, ◌≢◌, ◌≤◌, ℕ, List, length, Some, IfOk, OnErr, Err};
+ghost use Rattle.std.specs.Prelude.{◌≡◌, ◌≤◌, List, length, Some, IfOk, OnErr, Err};
 ghost use Rattle.spi_term.specs.View.{effect as effect_of};
 ghost use Rattle.spi_rules.specs.Deriv.{rule_uses};
 ghost use Rattle.spi_rules.specs.Derivations.{RuleUse};
@@ -7,11 +7,9 @@ ghost use Rattle.spi_rules.specs.Environment.{untrusted};
 ghost use Rattle.spi_scope.specs.Files.{uses_of};
 ghost use Rattle.spi_audit.specs.Audit.{IsWrongAt, LeavesUnpaid};
 ghost use Rattle.spi_commands.specs.Verifying.{VerifiesTo, IsUnprovedLine};
-ghost use Rattle.spi_commands.specs.Reading.{IsRead, IsGiven, GivesSpelled};
-ghost use Rattle.spi_commands.specs.Run.{IsAnswered};
+ghost use Rattle.spi_commands.specs.Reading.{IsRead};
 
-use crate::answer::{Answer, Stop, made, missing, refused_with};
-use crate::file::Given;
+use crate::answer::{Answer, Stop, made, missing};
 use crate::rejection::fault_line;
 use crate::status::Status;
 use spi_audit::{Audited, audit, one_audit};
@@ -23,27 +21,11 @@ use spi_term::Effect;
 use spi_text::Lines;
 use std::alloc::Global;
 
-/// What `verify` answers on what it is given.
-pub fn verifies(alloc: Global, given: Given) -> Result<Answer, Stop>
-    requires { IsGiven given }
-    ensures ok { IfOk result
-        (λ answer. (bytes : List ℕ) → GivesSpelled bytes given
-        → VerifiesTo bytes answer.status answer.output.items) }
-    ensures answered { IfOk result (λ answer. IsAnswered answer.status × (answer.status ≢ Status.Usage)) }
-    ensures err { OnErr result (result ≡ Err Stop.NoMemory) }
-{
-    match given {
-        Given::File { bytes, file } => verified(alloc, &bytes, &file),
-        Given::Refused(line) => Ok(refused_with(line)),
-    }
-}
-
 /// What `verify` answers on the file of these bytes.
-fn verified(alloc: Global, bytes: &[u8], file: &File) -> Result<Answer, Stop>
+pub fn verified(alloc: Global, bytes: &[u8], file: &File) -> Result<Answer, Stop>
     requires sized { length bytes.now ≤ 16_777_216 }
     requires read { IsRead bytes.now file.now }
     ensures ok { IfOk result (λ answer. VerifiesTo bytes.now answer.status answer.output.items) }
-    ensures answered { IfOk result (λ answer. IsAnswered answer.status × (answer.status ≢ Status.Usage)) }
     ensures err { OnErr result (result ≡ Err Stop.NoMemory) }
 {
     match &file.derivation {
@@ -58,7 +40,6 @@ fn audited(alloc: Global, bytes: &[u8], file: &File, d: &Deriv) -> Result<Answer
     requires read { IsRead bytes.now file.now }
     requires derivation { uses_of file.now.derivation ≡ Some (rule_uses d.now) }
     ensures ok { IfOk result (λ answer. VerifiesTo bytes.now answer.status answer.output.items) }
-    ensures answered { IfOk result (λ answer. IsAnswered answer.status × (answer.status ≢ Status.Usage)) }
     ensures err { OnErr result (result ≡ Err Stop.NoMemory) }
 {
     one_audit();

@@ -1,7 +1,8 @@
-use Rattle.std.proofs.Common.{refl, rules, None}
+use Rattle.std.proofs.Common.{None}
+use Rattle.std.specs.Fmt.{decimal}
 use Rattle.spi_commands.specs.Refusals.{IsTooMuch, too_much}
-use Rattle.spi_commands.proofs.AnswerLines.{line_if}
+use Rattle.spi_commands.proofs.AnswerLines.{cause_is}
 use Rattle.spi_commands.proofs.answer.too_much.Goals as goal
 
 pub returns-clause-ok : goal.returns-clause-ok
-returns-clause-ok c = line_if c.args.bytes.now _ 80 None (record { number = 80; offset = None; shown = c.into_bytes-shown.result }) (IsTooMuch c.args.count) c.refusal.result (too_much c.requires.much) refl refl (search rules) c.refusal.ensures.ok
+returns-clause-ok c = cause_is c.args.bytes.now (decimal c.args.count) 80 None (IsTooMuch c.args.count) c.refused_count.result (too_much c.requires.much) c.refused_count.ensures.ok

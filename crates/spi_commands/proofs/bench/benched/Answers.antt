@@ -1,22 +1,20 @@
-use Rattle.std.proofs.Common.{length, arith}
-use Rattle.spi_parse.proofs.Counted.{few_tokens}
-use Rattle.spi_commands.proofs.BenchAnswers.{told_to, refused_to, bench_answered}
+use Rattle.spi_commands.specs.Benching.{RefusesBench}
+use Rattle.spi_commands.proofs.AnswerCommands.{unread_answer}
+use Rattle.spi_commands.proofs.FileRefusals.{few_lexed, stands_named}
+use Rattle.spi_commands.proofs.FileScopes.{first_is_fault}
+use Rattle.spi_commands.proofs.BenchPlaces.{bench_within, bench_named}
+use Rattle.spi_commands.proofs.BenchAnswers.{told_to}
 use Rattle.spi_commands.proofs.bench.benched.Goals as goal
 
 pub verdicts_of-requires-clause-few : goal.verdicts_of-requires-clause-few
-verdicts_of-requires-clause-few c =
-    let few = few_tokens c.args.tokens.now (length c.args.bytes.now) c.requires.spans in
-    let low = c.requires.within in
-    omega arith
+verdicts_of-requires-clause-few c = few_lexed c.args.bytes.now c.args.tokens.now c.requires
+
+pub refused_for-requires-clause-stands : goal.refused_for-requires-clause-stands
+refused_for-requires-clause-stands c =
+    stands_named c.args.bytes.now (RefusesBench c.args.bytes.now) (λ n o s h. bench_named first_is_fault h) (λ n o s h. bench_within c.faults_stand_at_nodes.ensures h) c.in-Err.cause c.in-Err.ensures.unread
 
 pub returns-in-Ok-clause-ok : goal.returns-in-Ok-clause-ok
 returns-in-Ok-clause-ok c = told_to c.args.bytes.now c.in-Ok.verdicts c.in-Ok.ensures.verdicts c.told.result c.told.ensures.ok
 
-pub returns-in-Ok-clause-answered : goal.returns-in-Ok-clause-answered
-returns-in-Ok-clause-answered c = bench_answered c.args.bytes.now c.told.result (told_to c.args.bytes.now c.in-Ok.verdicts c.in-Ok.ensures.verdicts c.told.result c.told.ensures.ok)
-
-pub returns-in-Err-Refused-clause-ok : goal.returns-in-Err-Refused-clause-ok
-returns-in-Err-Refused-clause-ok c = refused_to c.args.bytes.now c.unbenched.result c.unbenched.ensures.ok
-
-pub returns-in-Err-Refused-clause-answered : goal.returns-in-Err-Refused-clause-answered
-returns-in-Err-Refused-clause-answered c = bench_answered c.args.bytes.now c.unbenched.result (refused_to c.args.bytes.now c.unbenched.result c.unbenched.ensures.ok)
+pub returns-in-Err-clause-ok : goal.returns-in-Err-clause-ok
+returns-in-Err-clause-ok c = unread_answer c.args.bytes.now c.in-Err.cause (RefusesBench c.args.bytes.now) _ _ c.refused_for.result c.in-Err.ensures.unread c.refused_for.ensures.ok

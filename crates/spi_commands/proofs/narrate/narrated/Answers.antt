@@ -1,19 +1,25 @@
-use Rattle.std.proofs.Common.{length, arith}
-use Rattle.spi_parse.proofs.Counted.{few_tokens}
 use Rattle.spi_parse.proofs.Lexed.{kinds_fit}
 use Rattle.spi_narrate.specs.Views.{narration_of}
+use Rattle.spi_commands.specs.Narrating.{RefusesNarrate}
+use Rattle.spi_commands.proofs.AnswerCommands.{unread_answer}
+use Rattle.spi_commands.proofs.FileRefusals.{few_lexed, stands_named}
+use Rattle.spi_commands.proofs.NarrateRefusals.{narrate_named, narrate_within}
 use Rattle.spi_commands.proofs.NarrateAnswers.{narration_of_bytes}
 use Rattle.spi_commands.proofs.narrate.narrated.Goals as goal
 
 pub read_narration-requires-clause-size : goal.read_narration-requires-clause-size
-read_narration-requires-clause-size c =
-    let few = few_tokens c.args.tokens.now (length c.args.bytes.now) c.requires.spans in
-    let low = c.requires.within in
-    omega arith
+read_narration-requires-clause-size c = few_lexed c.args.bytes.now c.args.tokens.now c.requires
 
 pub read_narration-requires-clause-words : goal.read_narration-requires-clause-words
-read_narration-requires-clause-words c = kinds_fit _ c.requires.kinds
+read_narration-requires-clause-words c = kinds_fit _ c.requires.2
 
 pub told-requires : goal.told-requires
 told-requires c =
-    (narration_of_bytes c.args.bytes.now c.args.tokens.now (narration_of c.in-Ok.narration) c.requires.within c.requires.lexed c.in-Ok.ensures.0, c.in-Ok.ensures.1)
+    (narration_of_bytes c.args.bytes.now c.args.tokens.now (narration_of c.in-Ok.narration) c.requires.0 c.requires.1 c.in-Ok.ensures.0, c.in-Ok.ensures.1)
+
+pub refused_for-requires-clause-stands : goal.refused_for-requires-clause-stands
+refused_for-requires-clause-stands c =
+    stands_named c.args.bytes.now (RefusesNarrate c.args.bytes.now) (narrate_named c.args.bytes.now) (narrate_within c.faults_stand_at_nodes.ensures c.args.bytes.now) c.unnarrated.result c.unnarrated.ensures
+
+pub returns-in-Err-clause-ok : goal.returns-in-Err-clause-ok
+returns-in-Err-clause-ok c = unread_answer c.args.bytes.now c.unnarrated.result (RefusesNarrate c.args.bytes.now) _ _ c.refused_for.result c.unnarrated.ensures c.refused_for.ensures.ok

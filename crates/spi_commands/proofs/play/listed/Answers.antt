@@ -1,10 +1,6 @@
-use Rattle.std.proofs.Common.{length, map, ◌+◌, arith}
-use Rattle.spi_run.specs.View.{step}
-use Rattle.spi_commands.proofs.PlayAnswers.{lists, lists_long}
+use Rattle.std.proofs.Common.{ℕ, List, IfOk, subst}
+use Rattle.spi_commands.specs.Refusals.{FitsBehind}
 use Rattle.spi_commands.proofs.play.listed.Goals as goal
 
-pub returns-then-count-clause-ok : goal.returns-then-count-clause-ok
-returns-then-count-clause-ok c = lists c.args.bytes.now c.in_ok-output.output.items (map step c.args.steps.now) c.in_ok-output.ensures (omega (arith, c.len.ensures, c.if-count.true))
-
-pub returns-else-count-clause-ok : goal.returns-else-count-clause-ok
-returns-else-count-clause-ok c = lists_long c.args.bytes.now c.in_ok-output.output.items (map step c.args.steps.now) (length c.args.bytes.now + 1 + c.len.result) c.too_much.result c.in_ok-output.ensures (omega (arith, c.len.ensures)) c.too_much.ensures.ok
+pub returns-clause-ok : goal.returns-clause-ok
+returns-clause-ok c = subst (λ (text : List ℕ). IfOk c.within_limit.result (λ a. FitsBehind c.args.bytes.now text a.status a.output.items)) c.in_ok-output.ensures c.within_limit.ensures.ok

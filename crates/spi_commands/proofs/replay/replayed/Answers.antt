@@ -1,9 +1,8 @@
-use Rattle.std.proofs.Common.{false, map, subst}
-use Rattle.spi_run.specs.View.{event}
+use Rattle.std.proofs.Common.{false, subst}
 use Rattle.spi_scope.specs.Files.{meant}
 use Rattle.spi_commands.specs.declared.schedule.Ran.{Ran}
 use Rattle.spi_commands.specs.Ran.{IsRan}
-use Rattle.spi_commands.proofs.ReplayAnswers.{judged, refused, told}
+use Rattle.spi_commands.proofs.ReplayAnswers.{judged, refused}
 use Rattle.spi_commands.proofs.replay.replayed.Goals as goal
 
 pub judged-requires : goal.judged-requires
@@ -13,9 +12,6 @@ pub returns-in-Through-clause-ok : goal.returns-in-Through-clause-ok
 returns-in-Through-clause-ok c =
     judged c.args.bytes.now c.args.file.now c.in-Through.replay c.judged.result c.requires.read
     (subst (λ (r : Ran). IsRan c.args.bytes.now (meant c.args.file.now) false r) c.in-Through.is c.in_ok-replay.ensures.ok) (rw c.deref.ensures.value at c.judged.ensures.ok)
-
-pub returns-in-Through-clause-answered : goal.returns-in-Through-clause-answered
-returns-in-Through-clause-answered c = told (map event c.in-Through.replay.events.items) c.args.file.now c.judged.result (rw c.deref.ensures.value at c.judged.ensures.ok)
 
 pub returns-in-Refused-clause-ok : goal.returns-in-Refused-clause-ok
 returns-in-Refused-clause-ok c =

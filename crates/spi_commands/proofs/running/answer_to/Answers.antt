@@ -1,41 +1,61 @@
-use Rattle.std.proofs.Common.{◌∙◌, ap, Some}
-use Rattle.spi_commands.specs.declared.asked.Command.TheVariants.{Check, Derive, Verify, Replay, Play, Print, Upgrade, Narrate, Knows, Bench}
-use Rattle.spi_commands.proofs.RunEnds.{wants_given, wants_text}
-use Rattle.spi_commands.proofs.PlayAnswers.{left_same, left_given}
+use Rattle.std.proofs.Common.{[], ◌∙◌, ap, inl, inr, sym}
+use Rattle.spi_commands.specs.declared.asked.Command.TheVariants.{Load}
+use Rattle.spi_commands.specs.Asked.{is_play}
+use Rattle.spi_commands.specs.Reading.{GivesText}
+use Rattle.spi_commands.proofs.AnswerCommands.{answered_as, never_faults, never_inputless}
+use Rattle.spi_commands.proofs.PlayAnswers.{left_same}
+use Rattle.spi_commands.proofs.RunEnds.{left_by, never_usage, wants_always, wants_by, wants_on}
 use Rattle.spi_commands.proofs.running.answer_to.Goals as goal
 
-pub returns-in_ok-take_file-in-Some-Check-clause-answer : goal.returns-in_ok-take_file-in-Some-Check-clause-answer
-returns-in_ok-take_file-in-Some-Check-clause-answer g c = wants_given c.args.command Check _ _ _ _ c.checks.result (c.in-Some-Check.is ∙ ap Some (rw c.in-Some-Check.is at c.in-Some-Check.field-0-is)) c.in_ok-take_file-in-Some-Check.ensures.gives c.checks.ensures.ok
+pub returns-in-Load-clause-answer : goal.returns-in-Load-clause-answer
+returns-in-Load-clause-answer g c =
+    wants_always c.args.command c.in-Some.asked _ _ _ c.loads.result c.in-Some.is (λ bytes. answered_as c.in-Some.asked (Load c.in-Load.sessions) bytes _ c.loads.result c.in-Load.is c.loads.ensures.ok c.loads.ensures.err)
 
-pub returns-in_ok-take_file-in-Some-Derive-clause-answer : goal.returns-in_ok-take_file-in-Some-Derive-clause-answer
-returns-in_ok-take_file-in-Some-Derive-clause-answer g c = wants_given c.args.command Derive _ _ _ _ c.derives.result (c.in-Some-Derive.is ∙ ap Some (rw c.in-Some-Derive.is at c.in-Some-Derive.field-0-is)) c.in_ok-take_file-in-Some-Derive.ensures.gives c.derives.ensures.ok
+pub returns-in-Load-clause-usage : goal.returns-in-Load-clause-usage
+returns-in-Load-clause-usage g c = never_usage c.args.command c.in-Some.asked c.loads.result c.in-Some.is c.loads.ensures.answered
 
-pub returns-in_ok-take_file-in-Some-Verify-clause-answer : goal.returns-in_ok-take_file-in-Some-Verify-clause-answer
-returns-in_ok-take_file-in-Some-Verify-clause-answer g c = wants_given c.args.command Verify _ _ _ _ c.verifies.result (c.in-Some-Verify.is ∙ ap Some (rw c.in-Some-Verify.is at c.in-Some-Verify.field-0-is)) c.in_ok-take_file-in-Some-Verify.ensures.gives c.verifies.ensures.ok
+pub returns-in-Load-clause-inputless : goal.returns-in-Load-clause-inputless
+returns-in-Load-clause-inputless g c = λ e.
+    wants_on c.args.command c.in-Some.asked [] [] [] c.loads.result c.in-Some.is (answered_as c.in-Some.asked (Load c.in-Load.sessions) [] [] c.loads.result c.in-Load.is c.loads.ensures.ok c.loads.ensures.err)
 
-pub returns-in_ok-take_file-in-Some-Replay-clause-answer : goal.returns-in_ok-take_file-in-Some-Replay-clause-answer
-returns-in_ok-take_file-in-Some-Replay-clause-answer g c = wants_given c.args.command Replay _ _ _ _ c.replays.result (c.in-Some-Replay.is ∙ ap Some (rw c.in-Some-Replay.is at c.in-Some-Replay.field-0-is)) c.in_ok-take_file-in-Some-Replay.ensures.gives c.replays.ensures.ok
+pub answers-requires-clause-known : goal.answers-requires-clause-known
+answers-requires-clause-known g c = rw c.in-Some.is at c.requires
 
-pub returns-in_ok-take_file-in-Some-Print-clause-answer : goal.returns-in_ok-take_file-in-Some-Print-clause-answer
-returns-in_ok-take_file-in-Some-Print-clause-answer g c = wants_given c.args.command Print _ _ _ _ c.prints.result (c.in-Some-Print.is ∙ ap Some (rw c.in-Some-Print.is at c.in-Some-Print.field-0-is)) c.in_ok-take_file-in-Some-Print.ensures.gives c.prints.ensures.ok
+pub answers-requires-clause-reads : goal.answers-requires-clause-reads
+answers-requires-clause-reads g c = c.in_default.not-Load
 
-pub returns-in_ok-take_file-in-Some-Upgrade-clause-answer : goal.returns-in_ok-take_file-in-Some-Upgrade-clause-answer
-returns-in_ok-take_file-in-Some-Upgrade-clause-answer g c = wants_given c.args.command Upgrade _ _ _ _ c.upgrades.result (c.in-Some-Upgrade.is ∙ ap Some (rw c.in-Some-Upgrade.is at c.in-Some-Upgrade.field-0-is)) c.in_ok-take_file-in-Some-Upgrade.ensures.gives c.upgrades.ensures.ok
+pub returns-in_ok-take_text-in_default-clause-answer : goal.returns-in_ok-take_text-in_default-clause-answer
+returns-in_ok-take_text-in_default-clause-answer g c =
+    wants_by c.args.command c.in-Some.asked _ _ _ (λ bytes. GivesText bytes c.in_ok-take_text-in_default.field-0) c.answers.result c.in-Some.is c.in_ok-take_text-in_default.ensures.gives c.answers.ensures.answers
 
-pub returns-in_ok-take_file-in-Some-Play-clause-answer : goal.returns-in_ok-take_file-in-Some-Play-clause-answer
-returns-in_ok-take_file-in-Some-Play-clause-answer g c = wants_given c.args.command (Play c.in-Some-Play.most c.in-Some-Play.only) _ _ _ _ c.plays.result (c.in-Some-Play.is ∙ ap Some (rw c.in-Some-Play.is at c.in-Some-Play.field-0-is)) c.in_ok-take_file-in-Some-Play.ensures.gives c.plays.ensures.ok
+pub returns-in_ok-take_text-in_default-clause-usage : goal.returns-in_ok-take_text-in_default-clause-usage
+returns-in_ok-take_text-in_default-clause-usage g c = never_usage c.args.command c.in-Some.asked c.answers.result c.in-Some.is c.answers.ensures.answered
 
-pub returns-in_ok-take_file-in-Some-Play-clause-left : goal.returns-in_ok-take_file-in-Some-Play-clause-left
-returns-in_ok-take_file-in-Some-Play-clause-left g c = λ most only e err. left_given c.args.command c.in-Some-Play.most most c.in-Some-Play.only only _ _ _ _ c.plays.result (c.in-Some-Play.is ∙ ap Some (rw c.in-Some-Play.is at c.in-Some-Play.field-0-is)) e c.in_ok-take_file-in-Some-Play.ensures.gives c.plays.ensures.left err
+pub returns-in_ok-take_text-in_default-clause-inputless : goal.returns-in_ok-take_text-in_default-clause-inputless
+returns-in_ok-take_text-in_default-clause-inputless g c = λ e. absurd (never_inputless c.args.command c.in-Some.asked c.in-Some.is c.in_default.not-Load e)
 
-pub returns-in_err-take_file-in-Some-Play-clause-left : goal.returns-in_err-take_file-in-Some-Play-clause-left
-returns-in_err-take_file-in-Some-Play-clause-left g c = λ most only e err. left_same most only _ _
+pub returns-in_ok-take_text-in_default-clause-unread : goal.returns-in_ok-take_text-in_default-clause-unread
+returns-in_ok-take_text-in_default-clause-unread g c = λ e. absurd (never_inputless c.args.command c.in-Some.asked c.in-Some.is c.in_default.not-Load e)
 
-pub returns-in_ok-take_file-in-Some-Knows-clause-answer : goal.returns-in_ok-take_file-in-Some-Knows-clause-answer
-returns-in_ok-take_file-in-Some-Knows-clause-answer g c = wants_given c.args.command (Knows c.in-Some-Knows.name) _ _ _ _ c.knows.result (c.in-Some-Knows.is ∙ ap Some (rw c.in-Some-Knows.is at c.in-Some-Knows.field-0-is)) c.in_ok-take_file-in-Some-Knows.ensures.gives c.knows.ensures.ok
+pub returns-in_ok-take_text-in_default-clause-memory : goal.returns-in_ok-take_text-in_default-clause-memory
+returns-in_ok-take_text-in_default-clause-memory g c = λ e. absurd (never_inputless c.args.command c.in-Some.asked c.in-Some.is c.in_default.not-Load e)
 
-pub returns-in_ok-take_text-in-Some-Narrate-clause-answer : goal.returns-in_ok-take_text-in-Some-Narrate-clause-answer
-returns-in_ok-take_text-in-Some-Narrate-clause-answer g c = wants_text c.args.command Narrate _ _ _ _ c.narrates.result (c.in-Some-Narrate.is ∙ ap Some (rw c.in-Some-Narrate.is at c.in-Some-Narrate.field-0-is)) c.in_ok-take_text-in-Some-Narrate.ensures.gives c.narrates.ensures.ok
+pub returns-in_ok-take_text-in_default-clause-players : goal.returns-in_ok-take_text-in_default-clause-players
+returns-in_ok-take_text-in_default-clause-players g c = λ h.
+    elim h [
+      | inl e ↦ c.answers.ensures.players (ap is_play (sym c.in-Some.is) ∙ e)
+      | inr err ↦ absurd (never_faults c.answers.result c.answers.ensures.err err)
+    ]
 
-pub returns-in_ok-take_text-in-Some-Bench-clause-answer : goal.returns-in_ok-take_text-in-Some-Bench-clause-answer
-returns-in_ok-take_text-in-Some-Bench-clause-answer g c = wants_text c.args.command Bench _ _ _ _ c.benches.result (c.in-Some-Bench.is ∙ ap Some (rw c.in-Some-Bench.is at c.in-Some-Bench.field-0-is)) c.in_ok-take_text-in-Some-Bench.ensures.gives c.benches.ensures.ok
+pub returns-in_ok-take_text-in_default-clause-left : goal.returns-in_ok-take_text-in_default-clause-left
+returns-in_ok-take_text-in_default-clause-left g c = λ most only e err.
+    left_by c.args.command c.in-Some.asked most only _ _ _ (λ bytes. GivesText bytes c.in_ok-take_text-in_default.field-0) c.answers.result c.in-Some.is e c.in_ok-take_text-in_default.ensures.gives c.answers.ensures.answers err
+
+pub returns-in_err-take_text-in_default-clause-unread : goal.returns-in_err-take_text-in_default-clause-unread
+returns-in_err-take_text-in_default-clause-unread g c = λ e. absurd (never_inputless c.args.command c.in-Some.asked c.in-Some.is c.in_default.not-Load e)
+
+pub returns-in_err-take_text-in_default-clause-memory : goal.returns-in_err-take_text-in_default-clause-memory
+returns-in_err-take_text-in_default-clause-memory g c = λ e. absurd (never_inputless c.args.command c.in-Some.asked c.in-Some.is c.in_default.not-Load e)
+
+pub returns-in_err-take_text-in_default-clause-left : goal.returns-in_err-take_text-in_default-clause-left
+returns-in_err-take_text-in_default-clause-left g c = λ most only e err. left_same most only _ _

@@ -1,6 +1,5 @@
 use Rattle.spi_scope.specs.Files.{meant}
 use Rattle.spi_commands.proofs.UpgradeAnswers.{read_spelled, read_version, upgrades}
-use Rattle.spi_commands.proofs.FileTaking.{are_answered}
 use Rattle.spi_commands.proofs.upgrade.upgraded.Goals as goal
 
 pub in_version_2-requires : goal.in_version_2-requires
@@ -8,6 +7,3 @@ in_version_2-requires c = read_version c.args.bytes.now c.args.file c.requires.r
 
 pub returns-clause-ok : goal.returns-clause-ok
 returns-clause-ok c = upgrades c.args.bytes.now (meant c.args.file) (meant c.in_ok-file.file) c.shown.result (read_spelled c.args.bytes.now c.args.file c.requires.read) c.in_ok-file.ensures c.shown.ensures.ok
-
-pub returns-clause-answered : goal.returns-clause-answered
-returns-clause-answered c = are_answered _ _ _ c.shown.result c.shown.ensures.ok

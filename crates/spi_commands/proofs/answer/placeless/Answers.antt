@@ -2,7 +2,7 @@ use Rattle.std.proofs.Common.{refl, rules, None, string_bytes}
 use Rattle.spi_report.specs.declared.refusal.Refusal.{Refusal}
 use Rattle.spi_commands.specs.Refusals.{IsCause}
 use Rattle.spi_commands.proofs.AnswerLines.{line_if}
-use Rattle.spi_commands.proofs.play.placeless.Goals as goal
+use Rattle.spi_commands.proofs.answer.placeless.Goals as goal
 
 pub returns-clause-ok : goal.returns-clause-ok
 returns-clause-ok c =
