@@ -1,12 +1,11 @@
 -- A file's process and opponent: over how many names they are, and that these names and the steps are few.
-use Rattle.std.proofs.Common.{◌≡◌, ⊎_elim, refl, sym, ap, ◌∙◌, subst, ℕ, suc, ◌+◌, ◌<◌, ◌≤◌, List, [], ◌∷◌, ◌++◌, length, map, Option, Some, None, arith, if◌then◌else◌}
+use Rattle.std.proofs.Common.{◌≡◌, ⊎_elim, refl, sym, ap, ◌∙◌, subst, ℕ, ◌+◌, ◌<◌, ◌≤◌, List, [], ◌∷◌, ◌++◌, length, map, Option, Some, None, arith, if◌then◌else◌}
 use Rattle.std.proofs.lemmas.Bool.{cases_lt, lt-ltb}
 use Rattle.std.proofs.lemmas.List.{length-map}
-use Rattle.spi_lex.specs.declared.token.Token.{Token}
 use Rattle.spi_lex.specs.Lexing.{kinds_of}
 use Rattle.spi_lex.proofs.Lexed.{lexed}
 use Rattle.spi_tree.specs.Trees as t
-use Rattle.spi_tree.specs.Pieces.{Piece, opens, cell, closes, kinds_in, ends, steps_pieces, schedule_pieces, derivation_pieces}
+use Rattle.spi_tree.specs.Pieces.{Piece, kinds_in, ends, steps_pieces, schedule_pieces, derivation_pieces}
 use Rattle.spi_parse.specs.Formed.{whole_file}
 use Rattle.spi_term.specs.Spelling.{Spelling}
 use Rattle.spi_term.specs.Names.{ProcessOver}

@@ -1,9 +1,9 @@
 -- What `play` answers on a file.
-use Rattle.std.proofs.Common.{◌≡◌, ◌≢◌, ℕ, ◌+◌, ◌-◌, ◌≤◌, List, ◌++◌, map, sym, subst, refl, ap, ◌∙◌, length, length-append, Option, Some, None, Result, Ok, Err, IfOk, arith, inl, inr}
+use Rattle.std.proofs.Common.{◌≡◌, ◌≢◌, ℕ, ◌-◌, ◌≤◌, List, map, sym, subst, refl, ap, ◌∙◌, Option, Some, None, Result, Ok, Err, IfOk, arith, inl, inr}
 use Rattle.std.specs.Prelude.{codes, OnErr, IfSome}
 use Rattle.spi_term.specs.Spelling.{Spelling}
 use Rattle.spi_run.specs.Opponent.{IsOpponent}
-use Rattle.spi_run.specs.Reduction.{Configuration, Step}
+use Rattle.spi_run.specs.Reduction.{Configuration}
 use Rattle.spi_run.specs.Safety.{beside}
 use Rattle.spi_run.specs.View as View
 use Rattle.spi_run.specs.declared.step.Step as steps
@@ -17,19 +17,16 @@ use Rattle.spi_play.specs.declared.plays.PlayFault.{PlayFault}
 use Rattle.spi_play.specs.declared.plays.PlayFault.TheVariants.{NoMemory as OutOfMemory}
 use Rattle.spi_scope.specs.declared.file.File.{File}
 use Rattle.spi_scope.specs.Files.{meant}
-use Rattle.spi_show.specs.Steps.{schedule_text}
-use Rattle.spi_spell.specs.Joined.{joined}
 use Rattle.spi_commands.specs.declared.answer.Answer.{Answer}
 use Rattle.spi_commands.specs.declared.answer.Stop.{Stop}
 use Rattle.spi_commands.specs.declared.status.Status.{Status}
 use Rattle.spi_commands.specs.declared.status.Status.TheVariants.{Yes, No, Refused, ReadFault, WriteFault, NoMemory, Usage}
-use Rattle.spi_commands.specs.Spelled.{limit}
 use Rattle.spi_commands.specs.Refusals.{IsLineOf, IsCause, IsMissing, IsTooMuch}
 use Rattle.spi_commands.specs.Beside.{pool_of, HasOffence}
 use Rattle.spi_commands.specs.Playing.{IsPlayed, IsStopped, play_length, play_number, play_shown, play_places, ListsTo, IsPlayFault, play_fault, PlaysTo, LeavesPlayers, not_asked, asked_to_the_end, stopped}
 use Rattle.spi_commands.specs.Reading.{IsRead}
 use Rattle.spi_commands.proofs.FileParts.{few_names}
-use Rattle.spi_commands.proofs.AnswerLines.{refuses_by, line_map, cause_is, much}
+use Rattle.spi_commands.proofs.AnswerLines.{refuses_by, line_map, cause_is}
 
 -- the line of a refused play
 pub refused_line : (bytes shown : List ℕ) (number : ℕ) (fault other : PlayFault) (result : Result Answer Stop) → fault ≡ other → other ≢ OutOfMemory → number ≡ play_number other → shown ≡ play_shown other → IfOk result (λ a. (a.status ≡ Refused) × IsLineOf bytes (IsCause number None shown) a.output.items) → IfOk result (λ a. (a.status ≡ Refused) × IsLineOf bytes (IsPlayFault fault) a.output.items)

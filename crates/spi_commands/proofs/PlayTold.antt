@@ -1,22 +1,22 @@
 -- A play in which all that were asked had told their ways before is the only one.
-use Rattle.std.proofs.Common.{◌≡◌, ◌≢◌, ℕ, ◌+◌, ◌<◌, ◌≤◌, List, [], ◌∷◌, ◌++◌, Option, Some, None, map, length, slice_set, slice_get, zero, suc, take, drop, refl, ap, sym, ◌∙◌, subst, inl, inr, arith}
+use Rattle.std.proofs.Common.{◌≡◌, ◌≢◌, ℕ, ◌+◌, ◌<◌, ◌≤◌, List, [], ◌∷◌, Option, Some, None, map, length, slice_set, slice_get, zero, suc, take, drop, refl, ap, sym, ◌∙◌, subst, inl, inr, arith}
 use Rattle.std.specs.Prelude.{All, IfSome, IsSome}
-use Rattle.std.specs.Option.{option_to_list, option_map}
-use Rattle.std.proofs.lemmas.Option.{slice_get_cases, slice_get-map, get_or_from_slice_get}
+use Rattle.std.specs.Option.{option_map}
+use Rattle.std.proofs.lemmas.Option.{slice_get_cases, slice_get-map}
 use Rattle.std.proofs.lemmas.List.Elements.{All-nil, All-cons, All-set, All-append, All-take, All-drop}
 use Rattle.spi_term.specs.Lists.{In, in_first, in_later}
-use Rattle.spi_run.specs.Reduction.{Configuration, Step, Event}
+use Rattle.spi_run.specs.Reduction.{Configuration, Step}
 use Rattle.spi_run.proofs.Once.{takes_once}
 use Rattle.spi_replay.specs.declared.fault.StepFault.TheVariants as refused
-use Rattle.spi_replay.specs.Stepping.{Pooled, IsTaken, RefusesPoolStep, bound_by, largest, too_large, too_many}
+use Rattle.spi_replay.specs.Stepping.{Pooled, RefusesPoolStep, bound_by, largest, too_large, too_many}
 use Rattle.spi_term.specs.Spelling.{stopped}
 use Rattle.spi_play.specs.declared.player.Pick.{Pick}
 use Rattle.spi_play.specs.declared.player.Pick.TheVariants.{Take, Leave}
 use Rattle.spi_play.specs.declared.plays.Ended.{Ended}
 use Rattle.spi_play.specs.declared.plays.PlayFault.{PlayFault}
 use Rattle.spi_play.specs.declared.plays.PlayFault.TheVariants.{BadPick, RunMessageTooLarge, TooManyPlaces, NoMemory as OutOfMemory}
-use Rattle.spi_play.specs.Way.{Way, Seen, Script, First, Turn, FollowsWay}
-use Rattle.spi_play.specs.Play.{Seat, State, Course, TurnOf, IsKth, CountsReady, Picks, DoesReady, Does, Turns, Plays, PlayGoesOn, EndsBy, most_reached, no_players, none_ready, seats_from, start, after_take, after_leave}
+use Rattle.spi_play.specs.Way.{Seen}
+use Rattle.spi_play.specs.Play.{Seat, State, Course, TurnOf, IsKth, CountsReady, Picks, DoesReady, Does, Turns, Plays, PlayGoesOn, EndsBy, most_reached, no_players, none_ready, seats_from, start}
 use Rattle.spi_play.specs.Outcome.{IsPickRefused, AskedTell}
 use Rattle.spi_play.proofs.Same.{all_at, follows_tells, picks_same, turns_same}
 use Rattle.spi_play.proofs.Steps.{counts_once, kth_once}

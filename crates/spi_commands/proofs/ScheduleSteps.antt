@@ -9,7 +9,7 @@ use Rattle.spi_run.specs.declared.step.Event as declared
 use Rattle.spi_run.specs.View.{step as step_of, event as event_of}
 use Rattle.spi_term.specs.View.{message}
 use Rattle.spi_commands.specs.declared.schedule.Talks.{Talks}
-use Rattle.spi_run.specs.Reduction.{Configuration, Step, Event, Runs, runs_none, runs_silent, runs_event}
+use Rattle.spi_run.specs.Reduction.{Step, Event, Runs, runs_none, runs_silent, runs_event}
 use Rattle.spi_replay.proofs.Taken.{taken_once, taken_never, takes_names}
 use Rattle.spi_replay.specs.declared.fault.StepFault.{StepFault}
 use Rattle.spi_replay.specs.declared.fault.StepFault.TheVariants.{NoMemory as OutOfMemory}

@@ -1,14 +1,12 @@
 -- The rule uses of a tree's derivation: where they stand, how many they are, and that they are one tree.
 use Rattle.std.proofs.Common.{◌≡◌, sym, subst, ap, ◌∙◌, refl, ℕ, suc, ◌+◌, ◌≤◌, ◌≢◌, Bool, true, false, List, [], ◌∷◌, ◌++◌, length, length-append, append-nil, append_assoc, Option, Some, None, arith}
-use Rattle.std.specs.Prelude.{slice_get}
 use Rattle.std.proofs.lemmas.Slice.Eq.{bytes_eq-Decides}
 use Rattle.spi_text.specs.declared.lines.Span.{Span}
-use Rattle.spi_lex.specs.declared.token.Token.{Token}
 use Rattle.spi_lex.specs.Lexing.{kinds_of}
 use Rattle.spi_lex.proofs.Lexed.{lexed}
 use Rattle.spi_tree.specs.Trees as t
 use Rattle.spi_tree.specs.Formed.{is_later}
-use Rattle.spi_tree.specs.Pieces.{Piece, opens, cell, closes, kinds_in, ends, deriv_pieces, derivs_pieces, derivation_pieces, file_pieces}
+use Rattle.spi_tree.specs.Pieces.{Piece, opens, kinds_in, ends, deriv_pieces, derivs_pieces, derivation_pieces, file_pieces}
 use Rattle.spi_parse.specs.Formed.{IsFile, IsFormedDerived, HasRules, HaveRules, number_of, is_written, whole_file}
 use Rattle.spi_parse.specs.Rules.{rules_of, arity_by, arity_of, writes_effect}
 use Rattle.spi_rules.specs.declared.rule.Rule.{Rule}
