@@ -50,6 +50,7 @@ HasTokens bytes tokens =
     (length bytes ≤ limit) × Lexes bytes (Ok tokens) × AreKinds (kinds_of tokens)
     × AreSpans 0 (spans_of tokens) (length bytes)
 
+-- a text has its tokens, unless it is the line of a refusal
 abbrev pub IsText : Text → Type 0
 IsText (Lexed bytes tokens) = HasTokens bytes.items tokens.items
 IsText (RefusedText line) = ⊤
