@@ -9,8 +9,8 @@ use Rattle.spi_rules.specs.Environment.{Env}
 use Rattle.spi_term.specs.SameTy.{SameTy}
 use Rattle.spi_rules.specs.Messages.{HasType, msg_name, msg_cast, IsLabel}
 use Rattle.spi_term.specs.Substitution.{ty_put}
-use Rattle.spi_blame.specs.Blaming.{Question, typed, labelled, AnswersYes, IsKeyName, Asks, asks_name, asks_label_name, asks_key, asks_label_key, IsMisfit, Blamed, itself, inside}
-use Rattle.spi_blame.specs.Told.{asked, TellsBlame, IsKeyFor}
+use Rattle.spi_blame.specs.Blaming.{Question, typed, labelled, AnswersYes, IsKeyName, Asks, asks_name, asks_label_name, asks_key, asks_label_key, asks_enc, asks_label_enc, IsMisfit, Blamed, itself, inside}
+use Rattle.spi_blame.specs.Told.{asked, TellsBlame, IsKeyFor, AsksSealed}
 use Rattle.spi_blame.proofs.Blaming.{asks_holds, each_none, each_more, before_second, key_typed}
 use Rattle.spi_blame.specs.declared.blame.Blame.{Blame}
 
@@ -56,9 +56,6 @@ keyed_beyond {env} {x} l k =
 pub asks_for : {env : Env} {m n : Message} {t : Ty} → IsKeyFor env n t → Asks env (typed (enc m n) un) (typed n (key t) ∷ typed m t ∷ [])
 asks_for {env} {m} {n} {t} k = subst (λ n. Asks env (typed (enc m n) un) (typed n (key t) ∷ typed m t ∷ [])) (sym k.1) (asks_key k.2)
 
-pub label_for : {env : Env} {m n : Message} {t : Ty} → IsKeyFor env n t → Asks env (labelled (enc m n)) (typed n (key t) ∷ typed m t ∷ [])
-label_for {env} {m} {n} {t} k = subst (λ n. Asks env (labelled (enc m n)) (typed n (key t) ∷ typed m t ∷ [])) (sym k.1) (asks_label_key k.2)
-
 -- the key of such a name holds
 pub key_holds : {env : Env} {n : Message} {t : Ty} → IsKeyFor env n t → AnswersYes env (typed n (key t))
 key_holds {env} {n} {t} k = subst (λ n. HasType [] env n (key t)) (sym k.1) (key_typed k.2)
@@ -74,9 +71,25 @@ one_ok env q q' a a' part r e f k t h = weaker r (λ o g. subst (λ v. TellsBlam
 pub two_ok : {E : Type 0} (env : Env) (q q' a a' b b' : Question) (first second : Option Blame) (r : Result (Option Blame) E) → q ≡ q' → a ≡ a' → b ≡ b' → Asks env q' (a' ∷ b' ∷ []) → TellsBlame env a first → TellsBlame env b second → IfOk r (λ o. (env : Env) (q a b : Question) → Asks env q (a ∷ b ∷ []) → TellsBlame env a first → TellsBlame env b second → TellsBlame env q o) → IfOk r (λ o. TellsBlame env q o)
 two_ok env q q' a a' b b' first second r e f g k t v h = weaker r (λ o w. subst (λ v. TellsBlame env v o) (sym e) (w env q' a' b' k (subst (λ v. TellsBlame env v first) f t) (subst (λ x. TellsBlame env x second) g v))) h
 
--- of the body of {M}N, where N is a name of a Key type
-pub keyed_ok : {E : Type 0} (env : Env) (q q' k a a' : Question) (part : Option Blame) (r : Result (Option Blame) E) → q ≡ q' → a ≡ a' → Asks env q' (k ∷ a' ∷ []) → AnswersYes env k → TellsBlame env a part → IfOk r (λ o. (env : Env) (q k a : Question) → Asks env q (k ∷ a ∷ []) → AnswersYes env k → TellsBlame env a part → TellsBlame env q o) → IfOk r (λ o. TellsBlame env q o)
-keyed_ok env q q' k a a' part r e f j h t w = weaker r (λ o g. subst (λ v. TellsBlame env v o) (sym e) (g env q' k a' j h (subst (λ v. TellsBlame env v part) f t))) w
+-- the same from the answer for both
+pub both_ok : {E : Type 0} (env : Env) (q q' a a' b b' : Question) (r : Result (Option Blame) E) → q ≡ q' → a ≡ a' → b ≡ b' → Asks env q' (a' ∷ b' ∷ []) → IfOk r (λ o. (q : Question) → Asks env q (a ∷ b ∷ []) → TellsBlame env q o) → IfOk r (λ o. TellsBlame env q o)
+both_ok env q q' a a' b b' r e f g k h =
+    let j : Asks env q (a ∷ b ∷ []) = rw (e, f, g) k in
+    weaker r (λ o w. w q j) h
+
+-- and from the answer for the parts of {M}N
+pub sealed_ok : {E : Type 0} (env : Env) (q q' : Question) (m m' n n' : Message) (r : Result (Option Blame) E) → q ≡ q' → m ≡ m' → n ≡ n' → AsksSealed env q' m' n' → IfOk r (λ o. (q : Question) → AsksSealed env q m n → TellsBlame env q o) → IfOk r (λ o. TellsBlame env q o)
+sealed_ok env q q' m m' n n' r e f g k h =
+    let j : AsksSealed env q m n = rw (e, f, g) k in
+    weaker r (λ o w. w q j) h
+
+-- as a label it asks the same
+pub label_sealed : {env : Env} (m n : Message) → AsksSealed env (labelled (enc m n)) m n
+label_sealed {env} m n qs k = at k
+  where
+    at : {m n : Message} {qs : List Question} → Asks env (typed (enc m n) un) qs → Asks env (labelled (enc m n)) qs
+    at (asks_key a) = asks_label_key a
+    at (asks_enc k) = asks_label_enc k
 
 pub itself_ok : {E : Type 0} (env : Env) (q : Question) (r : Result (Option Blame) E) → IsMisfit env q → IfOk r (λ o. (env : Env) → IsMisfit env q → TellsBlame env q o) → IfOk r (λ o. TellsBlame env q o)
 itself_ok env q r n h = weaker r (λ o g. g env n) h
@@ -110,9 +123,6 @@ typed_as {env} {m} {n} {t} {u} e f h = subst (λ v. HasType [] env v t) (sym e) 
 
 pub label_as : {env : Env} {m n : Message} → m ≡ n → IsLabel [] env n → IsLabel [] env m
 label_as {env} e h = subst (λ v. IsLabel [] env v) (sym e) h
-
-pub key_at : {env : Env} {m n : Message} {t : Ty} → m ≡ n → IsKeyFor env m t → IsKeyFor env n t
-key_at {env} {t = t} e h = subst (λ v. IsKeyFor env v t) e h
 
 pub no_key_at : {env : Env} {m n : Message} → m ≡ n → (IsKeyName env m → ⊥) → IsKeyName env n → ⊥
 no_key_at {env} e h = subst (λ v. IsKeyName env v → ⊥) e h

@@ -6,7 +6,7 @@ ghost use Rattle.spi_term.specs.View.{message, ty};
 ghost use Rattle.spi_rules.specs.Environment.{Env as Names};
 ghost use Rattle.spi_rules.specs.Messages.{HasType};
 ghost use Rattle.spi_blame.specs.Blaming.{Question, typed, labelled, Asks, IsMisfit, IsKeyName, AnswersYes};
-ghost use Rattle.spi_blame.specs.Told.{TellsBlame, IsKeyFor};
+ghost use Rattle.spi_blame.specs.Told.{TellsBlame, IsKeyFor, AsksSealed};
 
 use crate::NoMemory;
 use spi_rules::Env;
@@ -16,20 +16,11 @@ use std::alloc::Global;
 /// A part of a message that lacks what typing asks of it: the steps to it, the last one first, the part, and the type that
 /// it lacks, or none where it is to be a label. A step is the number of a part: of a pair and of `{M}N` it is 0 or 1, where
 /// the key N is part 0, and else 0.
+#[derive(Drop)]
 pub struct Blame {
     pub steps: Vec<u32>,
     pub part: Msg,
     pub wanted: Option<Ty>,
-}
-
-impl Drop for Blame {
-    fn drop(self) {
-        let Blame {
-            steps: _,
-            part: _,
-            wanted: _,
-        } = self;
-    }
 }
 
 // The same, seen from the message whose part number `step` was asked.
@@ -155,15 +146,44 @@ pub fn lacking_label(alloc: Global, env: &Env, m: &Msg) -> Result<Option<Blame>,
         }
         Msg::Inl(a) => of_one(lacking_label(alloc, env, a)?),
         Msg::Inr(a) => of_one(lacking_label(alloc, env, a)?),
-        Msg::Enc(a, k) => match payload(env, k) {
-            Some(t) => of_body(lacking(alloc, env, a, t)?),
-            None => {
-                let first = lacking(alloc, env, k, &Ty::Un)?;
-                let second = lacking(alloc, env, a, &Ty::Un)?;
-                of_two(first, second)
-            }
-        },
+        Msg::Enc(a, k) => lacking_sealed(alloc, env, a, k),
         Msg::Hash(a) => of_one(lacking_label(alloc, env, a)?),
+    }
+}
+
+// What is to blame of two messages that are each asked for a type, the first message before the second.
+#[cycle(lacks)]
+fn lacking_both(
+    alloc: Global,
+    env: &Env,
+    m: &Msg,
+    t: &Ty,
+    n: &Msg,
+    u: &Ty,
+) -> Result<Option<Blame>, NoMemory>
+    ensures { IfOk result (λ o. (q : Question)
+        → Asks env.now q (typed (message m.now) (ty t.now) ∷ typed (message n.now) (ty u.now) ∷ [])
+        → TellsBlame env.now q o) }
+{
+    let first = lacking(alloc, env, m, t)?;
+    let second = lacking(alloc, env, n, u)?;
+    of_two(first, second)
+}
+
+// What is to blame of the parts of {M}N. It asks the same of them where it is to be Un and where it is to be a label.
+#[cycle(lacks)]
+fn lacking_sealed(
+    alloc: Global,
+    env: &Env,
+    body: &Msg,
+    key: &Msg,
+) -> Result<Option<Blame>, NoMemory>
+    ensures { IfOk result (λ o. (q : Question)
+        → AsksSealed env.now q (message body.now) (message key.now) → TellsBlame env.now q o) }
+{
+    match payload(env, key) {
+        Some(t) => of_body(lacking(alloc, env, body, t)?),
+        None => lacking_both(alloc, env, key, &Ty::Un, body, &Ty::Un),
     }
 }
 
@@ -182,21 +202,14 @@ pub fn lacking(alloc: Global, env: &Env, m: &Msg, t: &Ty) -> Result<Option<Blame
         }
         Msg::Bound(_) => itself(alloc, m, t),
         Msg::Unit => match t {
-            Ty::Un => Ok(None),
-            Ty::Unit => Ok(None),
+            Ty::Un | Ty::Unit => Ok(None),
             _ => itself(alloc, m, t),
         },
         Msg::Pair(a, b) => match t {
-            Ty::Un => {
-                let first = lacking(alloc, env, a, t)?;
-                let second = lacking(alloc, env, b, t)?;
-                of_two(first, second)
-            }
+            Ty::Un => lacking_both(alloc, env, a, t, b, t),
             Ty::Pair(u, v) => {
                 let wanted = opened(alloc, v, a)?;
-                let first = lacking(alloc, env, a, u)?;
-                let second = lacking(alloc, env, b, &wanted)?;
-                of_two(first, second)
+                lacking_both(alloc, env, a, u, b, &wanted)
             }
             _ => itself(alloc, m, t),
         },
@@ -211,14 +224,7 @@ pub fn lacking(alloc: Global, env: &Env, m: &Msg, t: &Ty) -> Result<Option<Blame
             _ => itself(alloc, m, t),
         },
         Msg::Enc(a, k) => match t {
-            Ty::Un => match payload(env, k) {
-                Some(u) => of_body(lacking(alloc, env, a, u)?),
-                None => {
-                    let first = lacking(alloc, env, k, t)?;
-                    let second = lacking(alloc, env, a, t)?;
-                    of_two(first, second)
-                }
-            },
+            Ty::Un => lacking_sealed(alloc, env, a, k),
             _ => itself(alloc, m, t),
         },
         Msg::Hash(a) => match t {

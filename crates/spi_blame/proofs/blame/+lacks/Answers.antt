@@ -1,27 +1,18 @@
-use Rattle.std.proofs.Common.{◌∙◌, refl, ap, sym, subst, true≢false}
-use Rattle.spi_term.specs.Term.{pair, in_left, in_right, enc, hash, un, pair_ty, sum_ty, key}
+use Rattle.std.proofs.Common.{◌∙◌, refl, ap, sym, subst, ⊎_elim, true≢false}
+use Rattle.spi_term.specs.Term.{pair, in_left, in_right, enc, hash, un, pair_ty, sum_ty}
 use Rattle.spi_term.specs.View.{message, ty}
 use Rattle.spi_term.specs.Substitution.{ty_put}
 use Rattle.spi_term.proofs.Lists.{get_at}
 use Rattle.spi_rules.specs.Messages.{msg_unit, msg_unit_un, label_name, label_unit}
-use Rattle.spi_blame.specs.Blaming.{typed, labelled, IsMisfit, asks_pair, asks_pair_un, asks_left, asks_left_un, asks_right, asks_right_un, asks_enc, asks_hash, asks_label_pair, asks_label_left, asks_label_right, asks_label_enc, asks_label_hash}
-use Rattle.spi_blame.proofs.Telling.{one_ok, two_ok, keyed_ok, itself_ok, key_holds, name_misfit, beyond_misfit, asks_for, label_for, typed_as, label_as, key_at, no_key_at, typed_equal, put_equal}
+use Rattle.spi_blame.specs.Blaming.{typed, labelled, IsMisfit, asks_pair, asks_pair_un, asks_left, asks_left_un, asks_right, asks_right_un, asks_enc, asks_hash, asks_label_pair, asks_label_left, asks_label_right, asks_label_hash}
+use Rattle.spi_blame.proofs.Telling.{weaker, one_ok, two_ok, both_ok, sealed_ok, label_sealed, itself_ok, key_holds, name_misfit, beyond_misfit, asks_for, typed_as, label_as, typed_equal, put_equal}
 use Rattle.spi_blame.proofs.blame.+lacks.Goals as goal
 
 pub lacking-returns-else-has_type : goal.lacking-returns-else-has_type
 lacking-returns-else-has_type k c = itself_ok c.args.env.now (typed (message c.args.m.now) (ty c.args.t.now)) c.itself.result (subst (λ m. IsMisfit c.args.env.now (typed m (ty c.args.t.now))) (sym (ap message c.in-Name.is)) (name_misfit (λ h. absurd (true≢false (sym (c.has_type.ensures.1 h) ∙ c.if-has_type.false))))) c.itself.ensures
 
 pub lacking-returns-in-Un : goal.lacking-returns-in-Un
-lacking-returns-in-Un k c = typed_as (ap message c.in-Unit.is) (ap ty c.in-Un.is) msg_unit_un
-
-pub lacking-returns-in-Unit-t : goal.lacking-returns-in-Unit-t
-lacking-returns-in-Unit-t k c = typed_as (ap message c.in-Unit.is) (ap ty c.in-Unit-t.is) msg_unit
-
-pub lacking-returns-in_ok-second-in-Un-t : goal.lacking-returns-in_ok-second-in-Un-t
-lacking-returns-in_ok-second-in-Un-t k c = two_ok c.args.env.now (typed (message c.args.m.now) (ty c.args.t.now)) (typed (pair (message c.in-Pair.a.value) (message c.in-Pair.b.value)) un) (typed (message c.deref.result.now) (ty c.args.t.now)) (typed (message c.in-Pair.a.value) un) (typed (message c.deref-in-Un-t.result.now) (ty c.args.t.now)) (typed (message c.in-Pair.b.value) un) c.in_ok-first-in-Un-t.first c.in_ok-second-in-Un-t.second c.of_two.result (typed_equal (ap message c.in-Pair.is) (ap ty c.in-Un-t.is)) (typed_equal (ap message c.deref.ensures) (ap ty c.in-Un-t.is)) (typed_equal (ap message c.deref-in-Un-t.ensures) (ap ty c.in-Un-t.is)) asks_pair_un c.in_ok-first-in-Un-t.ensures c.in_ok-second-in-Un-t.ensures c.of_two.ensures
-
-pub lacking-returns-in_ok-second-in-Pair-t : goal.lacking-returns-in_ok-second-in-Pair-t
-lacking-returns-in_ok-second-in-Pair-t k c = two_ok c.args.env.now (typed (message c.args.m.now) (ty c.args.t.now)) (typed (pair (message c.in-Pair.a.value) (message c.in-Pair.b.value)) (pair_ty (ty c.in-Pair-t.u.value) (ty c.in-Pair-t.v.value))) (typed (message c.deref-in-Pair-t-3.result.now) (ty c.deref-in-Pair-t-4.result.now)) (typed (message c.in-Pair.a.value) (ty c.in-Pair-t.u.value)) (typed (message c.deref-in-Pair-t-5.result.now) (ty c.in_ok-wanted-in-Pair-t.wanted)) (typed (message c.in-Pair.b.value) (ty_put (message c.in-Pair.a.value) (ty c.in-Pair-t.v.value))) c.in_ok-first-in-Pair-t.first c.in_ok-second-in-Pair-t.second c.of_two-in-Pair-t.result (typed_equal (ap message c.in-Pair.is) (ap ty c.in-Pair-t.is)) (typed_equal (ap message c.deref-in-Pair-t-3.ensures) (ap ty c.deref-in-Pair-t-4.ensures)) (typed_equal (ap message c.deref-in-Pair-t-5.ensures) (put_equal c.in_ok-wanted-in-Pair-t.ensures (ap message c.deref-in-Pair-t-2.ensures) (ap ty c.deref-in-Pair-t.ensures))) asks_pair c.in_ok-first-in-Pair-t.ensures c.in_ok-second-in-Pair-t.ensures c.of_two-in-Pair-t.ensures
+lacking-returns-in-Un k c = ⊎_elim (λ e. typed_as (ap message c.in-Unit.is) (ap ty e) msg_unit_un) (λ e. typed_as (ap message c.in-Unit.is) (ap ty e) msg_unit) c.in-Un.is
 
 pub lacking-returns-in_ok-lacking-in-Un-t-2 : goal.lacking-returns-in_ok-lacking-in-Un-t-2
 lacking-returns-in_ok-lacking-in-Un-t-2 k c = one_ok c.args.env.now (typed (message c.args.m.now) (ty c.args.t.now)) (typed (in_left (message c.in-Inl.a.value)) un) (typed (message c.deref-in-Un-t-2.result.now) (ty c.args.t.now)) (typed (message c.in-Inl.a.value) un) c.in_ok-lacking-in-Un-t-2.field-0 c.of_one.result (typed_equal (ap message c.in-Inl.is) (ap ty c.in-Un-t-2.is)) (typed_equal (ap message c.deref-in-Un-t-2.ensures) (ap ty c.in-Un-t-2.is)) asks_left_un c.in_ok-lacking-in-Un-t-2.ensures c.of_one.ensures
@@ -34,12 +25,6 @@ lacking-returns-in_ok-lacking-in-Un-t-3 k c = one_ok c.args.env.now (typed (mess
 
 pub lacking-returns-in_ok-lacking-in-Sum-t : goal.lacking-returns-in_ok-lacking-in-Sum-t
 lacking-returns-in_ok-lacking-in-Sum-t k c = one_ok c.args.env.now (typed (message c.args.m.now) (ty c.args.t.now)) (typed (in_right (message c.in-Inr.a.value)) (sum_ty (ty c.in-Sum-t.field-0.value) (ty c.in-Sum-t.u.value))) (typed (message c.deref-in-Sum-t.result.now) (ty c.deref-in-Sum-t-2.result.now)) (typed (message c.in-Inr.a.value) (ty c.in-Sum-t.u.value)) c.in_ok-lacking-in-Sum-t.field-0 c.of_one-in-Sum-t.result (typed_equal (ap message c.in-Inr.is) (ap ty c.in-Sum-t.is)) (typed_equal (ap message c.deref-in-Sum-t.ensures) (ap ty c.deref-in-Sum-t-2.ensures)) asks_right c.in_ok-lacking-in-Sum-t.ensures c.of_one-in-Sum-t.ensures
-
-pub lacking-returns-in_ok-lacking-in-Some : goal.lacking-returns-in_ok-lacking-in-Some
-lacking-returns-in_ok-lacking-in-Some k c = let h = key_at (ap message c.deref-in-Un-t-4.ensures) c.in-Some.ensures.some in keyed_ok c.args.env.now (typed (message c.args.m.now) (ty c.args.t.now)) (typed (enc (message c.in-Enc.a.value) (message c.in-Enc.k.value)) un) (typed (message c.in-Enc.k.value) (key (ty c.in-Some.u.now))) (typed (message c.deref-in-Some.result.now) (ty c.in-Some.u.now)) (typed (message c.in-Enc.a.value) (ty c.in-Some.u.now)) c.in_ok-lacking-in-Some.field-0 c.of_body.result (typed_equal (ap message c.in-Enc.is) (ap ty c.in-Un-t-4.is)) (ap (λ m. typed (message m) (ty c.in-Some.u.now)) c.deref-in-Some.ensures) (asks_for h) (key_holds h) c.in_ok-lacking-in-Some.ensures c.of_body.ensures
-
-pub lacking-returns-in_ok-second-in-None : goal.lacking-returns-in_ok-second-in-None
-lacking-returns-in_ok-second-in-None k c = two_ok c.args.env.now (typed (message c.args.m.now) (ty c.args.t.now)) (typed (enc (message c.in-Enc.a.value) (message c.in-Enc.k.value)) un) (typed (message c.deref-in-None.result.now) (ty c.args.t.now)) (typed (message c.in-Enc.k.value) un) (typed (message c.deref-in-None-2.result.now) (ty c.args.t.now)) (typed (message c.in-Enc.a.value) un) c.in_ok-first-in-None.first c.in_ok-second-in-None.second c.of_two-in-None.result (typed_equal (ap message c.in-Enc.is) (ap ty c.in-Un-t-4.is)) (typed_equal (ap message c.deref-in-None.ensures) (ap ty c.in-Un-t-4.is)) (typed_equal (ap message c.deref-in-None-2.ensures) (ap ty c.in-Un-t-4.is)) (asks_enc (no_key_at (ap message c.deref-in-Un-t-4.ensures) c.in-None.ensures.none)) c.in_ok-first-in-None.ensures c.in_ok-second-in-None.ensures c.of_two-in-None.ensures
 
 pub lacking-returns-in_ok-lacking_label-in-Un-t-5 : goal.lacking-returns-in_ok-lacking_label-in-Un-t-5
 lacking-returns-in_ok-lacking_label-in-Un-t-5 k c = one_ok c.args.env.now (typed (message c.args.m.now) (ty c.args.t.now)) (typed (hash (message c.in-Hash.a.value)) un) (labelled (message c.deref-in-Un-t-5.result.now)) (labelled (message c.in-Hash.a.value)) c.in_ok-lacking_label-in-Un-t-5.field-0 c.of_one-in-Un-t-5.result (typed_equal (ap message c.in-Hash.is) (ap ty c.in-Un-t-5.is)) (ap (λ m. labelled (message m)) c.deref-in-Un-t-5.ensures) asks_hash c.in_ok-lacking_label-in-Un-t-5.ensures c.of_one-in-Un-t-5.ensures
@@ -65,8 +50,20 @@ lacking_label-returns-in_ok-lacking_label-in-Inr k c = one_ok c.args.env.now (la
 pub lacking_label-returns-in_ok-lacking_label-in-Hash : goal.lacking_label-returns-in_ok-lacking_label-in-Hash
 lacking_label-returns-in_ok-lacking_label-in-Hash k c = one_ok c.args.env.now (labelled (message c.args.m.now)) (labelled (hash (message c.in-Hash.a.value))) (labelled (message c.deref-in-Hash.result.now)) (labelled (message c.in-Hash.a.value)) c.in_ok-lacking_label-in-Hash.field-0 c.of_one-in-Hash.result (ap (λ m. labelled (message m)) c.in-Hash.is) (ap (λ m. labelled (message m)) c.deref-in-Hash.ensures) asks_label_hash c.in_ok-lacking_label-in-Hash.ensures c.of_one-in-Hash.ensures
 
-pub lacking_label-returns-in_ok-lacking-in-Some-payload : goal.lacking_label-returns-in_ok-lacking-in-Some-payload
-lacking_label-returns-in_ok-lacking-in-Some-payload k c = let h = key_at (ap message c.deref-in-Enc.ensures) c.in-Some-payload.ensures.some in keyed_ok c.args.env.now (labelled (message c.args.m.now)) (labelled (enc (message c.in-Enc.a.value) (message c.in-Enc.k.value))) (typed (message c.in-Enc.k.value) (key (ty c.in-Some-payload.t.now))) (typed (message c.deref-in-Some-payload.result.now) (ty c.in-Some-payload.t.now)) (typed (message c.in-Enc.a.value) (ty c.in-Some-payload.t.now)) c.in_ok-lacking-in-Some-payload.field-0 c.of_body.result (ap (λ m. labelled (message m)) c.in-Enc.is) (ap (λ m. typed (message m) (ty c.in-Some-payload.t.now)) c.deref-in-Some-payload.ensures) (label_for h) (key_holds h) c.in_ok-lacking-in-Some-payload.ensures c.of_body.ensures
+pub lacking_label-returns-in-Enc : goal.lacking_label-returns-in-Enc
+lacking_label-returns-in-Enc k c = sealed_ok c.args.env.now (labelled (message c.args.m.now)) (labelled (enc (message c.in-Enc.a.value) (message c.in-Enc.k.value))) (message c.deref-in-Enc.result.now) (message c.in-Enc.a.value) (message c.deref-in-Enc-2.result.now) (message c.in-Enc.k.value) c.lacking_sealed.result (ap (λ m. labelled (message m)) c.in-Enc.is) (ap message c.deref-in-Enc.ensures) (ap message c.deref-in-Enc-2.ensures) (label_sealed _ _) c.lacking_sealed.ensures
 
-pub lacking_label-returns-in_ok-second-in-None-payload : goal.lacking_label-returns-in_ok-second-in-None-payload
-lacking_label-returns-in_ok-second-in-None-payload k c = two_ok c.args.env.now (labelled (message c.args.m.now)) (labelled (enc (message c.in-Enc.a.value) (message c.in-Enc.k.value))) (typed (message c.deref-in-None-payload.result.now) un) (typed (message c.in-Enc.k.value) un) (typed (message c.deref-in-None-payload-2.result.now) un) (typed (message c.in-Enc.a.value) un) c.in_ok-first-in-None-payload.first c.in_ok-second-in-None-payload.second c.of_two-in-None-payload.result (ap (λ m. labelled (message m)) c.in-Enc.is) (ap (λ m. typed (message m) un) c.deref-in-None-payload.ensures) (ap (λ m. typed (message m) un) c.deref-in-None-payload-2.ensures) (asks_label_enc (no_key_at (ap message c.deref-in-Enc.ensures) c.in-None-payload.ensures.none)) c.in_ok-first-in-None-payload.ensures c.in_ok-second-in-None-payload.ensures c.of_two-in-None-payload.ensures
+pub lacking_sealed-returns-in_ok-lacking-in-Some : goal.lacking_sealed-returns-in_ok-lacking-in-Some
+lacking_sealed-returns-in_ok-lacking-in-Some k c = let h = c.in-Some.ensures.some in weaker c.of_body.result (λ o g q j. g c.args.env.now q _ _ (j _ (asks_for h)) (key_holds h) c.in_ok-lacking-in-Some.ensures) c.of_body.ensures
+
+pub lacking_sealed-returns-in-None : goal.lacking_sealed-returns-in-None
+lacking_sealed-returns-in-None k c = weaker c.lacking_both.result (λ o g q j. g q (j _ (asks_enc c.in-None.ensures.none))) c.lacking_both.ensures
+
+pub lacking-returns-in-Un-t : goal.lacking-returns-in-Un-t
+lacking-returns-in-Un-t k c = both_ok c.args.env.now (typed (message c.args.m.now) (ty c.args.t.now)) (typed (pair (message c.in-Pair.a.value) (message c.in-Pair.b.value)) un) (typed (message c.deref.result.now) (ty c.args.t.now)) (typed (message c.in-Pair.a.value) un) (typed (message c.deref-in-Un-t.result.now) (ty c.args.t.now)) (typed (message c.in-Pair.b.value) un) c.lacking_both.result (typed_equal (ap message c.in-Pair.is) (ap ty c.in-Un-t.is)) (typed_equal (ap message c.deref.ensures) (ap ty c.in-Un-t.is)) (typed_equal (ap message c.deref-in-Un-t.ensures) (ap ty c.in-Un-t.is)) asks_pair_un c.lacking_both.ensures
+
+pub lacking-returns-in_ok-wanted-in-Pair-t : goal.lacking-returns-in_ok-wanted-in-Pair-t
+lacking-returns-in_ok-wanted-in-Pair-t k c = both_ok c.args.env.now (typed (message c.args.m.now) (ty c.args.t.now)) (typed (pair (message c.in-Pair.a.value) (message c.in-Pair.b.value)) (pair_ty (ty c.in-Pair-t.u.value) (ty c.in-Pair-t.v.value))) (typed (message c.deref-in-Pair-t-3.result.now) (ty c.deref-in-Pair-t-4.result.now)) (typed (message c.in-Pair.a.value) (ty c.in-Pair-t.u.value)) (typed (message c.deref-in-Pair-t-5.result.now) (ty c.in_ok-wanted-in-Pair-t.wanted)) (typed (message c.in-Pair.b.value) (ty_put (message c.in-Pair.a.value) (ty c.in-Pair-t.v.value))) c.lacking_both-in-Pair-t.result (typed_equal (ap message c.in-Pair.is) (ap ty c.in-Pair-t.is)) (typed_equal (ap message c.deref-in-Pair-t-3.ensures) (ap ty c.deref-in-Pair-t-4.ensures)) (typed_equal (ap message c.deref-in-Pair-t-5.ensures) (put_equal c.in_ok-wanted-in-Pair-t.ensures (ap message c.deref-in-Pair-t-2.ensures) (ap ty c.deref-in-Pair-t.ensures))) asks_pair c.lacking_both-in-Pair-t.ensures
+
+pub lacking-returns-in-Un-t-4 : goal.lacking-returns-in-Un-t-4
+lacking-returns-in-Un-t-4 k c = sealed_ok c.args.env.now (typed (message c.args.m.now) (ty c.args.t.now)) (typed (enc (message c.in-Enc.a.value) (message c.in-Enc.k.value)) un) (message c.deref-in-Un-t-4.result.now) (message c.in-Enc.a.value) (message c.deref-in-Un-t-4-2.result.now) (message c.in-Enc.k.value) c.lacking_sealed.result (typed_equal (ap message c.in-Enc.is) (ap ty c.in-Un-t-4.is)) (ap message c.deref-in-Un-t-4.ensures) (ap message c.deref-in-Un-t-4-2.ensures) (λ qs j. j) c.lacking_sealed.ensures
