@@ -10,7 +10,7 @@ use Rattle.spi_intern.specs.declared.messages.MsgId.{MsgId}
 use Rattle.spi_intern.specs.declared.types.TyId.{TyId}
 use Rattle.spi_intern.specs.declared.atoms.AtomId.{AtomId}
 use Rattle.spi_intern.specs.declared.atoms.AtomId.TheVariants.{End, Check, Many}
-use Rattle.spi_intern.specs.Atoms.{SaysAtom, says_end, says_check, says_many}
+use Rattle.spi_intern.specs.Atoms.{SaysAtom, says_end, says_check, says_many, AtomVec}
 use Rattle.spi_intern.specs.Meaning.{Means}
 use Rattle.spi_intern.specs.Table.{TellsAll}
 use Rattle.spi_intern.proofs.Lists.{get_below}
@@ -22,7 +22,7 @@ use Rattle.spi_audit.specs.declared.notes.Note.TheVariants as N
 use Rattle.spi_count.specs.Keeping.{IsKeyed, HasKey, HaveKeys}
 use Rattle.spi_audit.specs.Accounts.{Held, IsHeld, HoldsEffects, holds_next, LeavesOne, LeavesTwo, HoldsMore, HoldsLess}
 use Rattle.spi_audit.specs.Changes.{Change, served, chosen, summed, IsScoped, before, own, scope_in, after, pays, top}
-use Rattle.spi_audit.specs.Notes.{NotedAs, noted_nothing, noted_empty, noted_same, noted_one, noted_two, noted_serve, noted_branch, noted_check, noted_begin, noted_end, noted_many, noted_cast, noted_make, noted_both, noted_taken, ChangesOne, ChangesAll, IsBeforeChange, IsBeforeOne, IsUnaryNote, AtomVec}
+use Rattle.spi_audit.specs.Notes.{NotedAs, noted_nothing, noted_empty, noted_same, noted_one, noted_two, noted_serve, noted_branch, noted_check, noted_begin, noted_end, noted_many, noted_cast, noted_make, noted_both, noted_taken, ChangesOne, ChangesAll, IsBeforeChange, IsBeforeOne, IsUnaryNote}
 
 abbrev first_of : List ℕ → ℕ
 first_of [] = 0

@@ -15,7 +15,7 @@ use Rattle.spi_intern.specs.declared.store.Store.{Store}
 use Rattle.spi_intern.specs.declared.messages.MsgId.{MsgId}
 use Rattle.spi_intern.specs.declared.types.TyId.{TyId}
 use Rattle.spi_intern.specs.Table.{TellsAll}
-use Rattle.spi_intern.specs.Atoms.{SaysAtom}
+use Rattle.spi_intern.specs.Atoms.{SaysAtom, AtomVec}
 use Rattle.spi_intern.specs.Meaning.{Keeps}
 use Rattle.spi_intern.proofs.Lists.{some_one, get_below}
 use Rattle.spi_message.specs.Judging.{Numbered, Stands, IsKept}
@@ -32,7 +32,7 @@ use Rattle.spi_audit.specs.Fits.{Subject, of_message, of_process, plain, subsume
 use Rattle.spi_audit.specs.Asked.{Located, IsBegun, Begins, AreBegun, begun_none, begun_next, AreOpen, open_message, open_processes, AnswersMessage, AnswersNode}
 use Rattle.spi_count.specs.Keeping.{HaveKeys}
 use Rattle.spi_audit.specs.Changes.{shape_change, form_change, prefix_change}
-use Rattle.spi_audit.specs.Notes.{NotedAs, noted_taken, NotesNode, AtomVec}
+use Rattle.spi_audit.specs.Notes.{NotedAs, noted_taken, NotesNode}
 use Rattle.spi_audit.specs.Walking.{FitsMessage, FitsNode}
 use Rattle.spi_message.proofs.Opened.{name_none_prefix}
 use Rattle.spi_message.proofs.Tested.{stands_kept}

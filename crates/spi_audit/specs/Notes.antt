@@ -13,7 +13,7 @@ use Rattle.spi_intern.specs.declared.messages.MsgId.{MsgId}
 use Rattle.spi_intern.specs.declared.types.TyId.{TyId}
 use Rattle.spi_intern.specs.declared.atoms.AtomId.{AtomId}
 use Rattle.spi_intern.specs.Table.{TellsAll}
-use Rattle.spi_intern.specs.Atoms.{SaysAtom}
+use Rattle.spi_intern.specs.Atoms.{SaysAtom, AtomVec}
 use Rattle.spi_intern.specs.Meaning.{Means}
 use Rattle.spi_message.specs.Judging.{Numbered, Stands}
 use Rattle.spi_count.specs.declared.keys.Keys.{Keys}
@@ -23,9 +23,6 @@ use Rattle.spi_audit.specs.declared.notes.Note.TheVariants as N
 use Rattle.spi_count.specs.Keeping.{with_keys, HasKey, HaveKeys, IsKeyed, AreKept}
 use Rattle.spi_audit.specs.Accounts.{Held, HoldsEffects}
 use Rattle.spi_audit.specs.Changes.{Change, nothing_done, no_effect, same_effect, one_left, two_left, served, chosen, checked, begun, ended, ended_many, casted, made, summed, subsumed_to, shape_change, top, after, pays, before, own, scope_in, IsScoped, AreScoped}
-
-abbrev pub AtomVec : Type 0
-AtomVec = Vec AtomId Global
 
 -- what is kept of a use stands for what it does
 pub data NotedAs (s : Store) (keys : Keys) : Change → Note → Type 0 where

@@ -20,10 +20,7 @@ use Rattle.spi_commands.specs.Loading.{IsLoaded}
 use Rattle.spi_commands.proofs.AnswerNo.{none_derived}
 use Rattle.spi_commands.proofs.LoadDerivations.{sessions_canonical, sessions_derivable}
 use Rattle.spi_commands.proofs.LoadFiles.{sessions_clean, sessions_count, sessions_names, sessions_mean}
-
--- a process has one canonical derivation at most
-abbrev pub OneCanonical : Type 0
-OneCanonical = (k : ℕ) (p : Process) (d e : List RuleUse) → Canonical d k p → Canonical e k p → d ≡ e
+use Rattle.spi_commands.proofs.FileFacts.{OneCanonical}
 
 -- the file of so many sessions has no fault
 pub only_memory : (n : ℕ) (tree : t.File) (fault : ScopeFault) → n ≤ 500 → IsSessions n tree → (fault ≡ NoMemory) ⊎ HasFirst tree fault → fault ≡ NoMemory

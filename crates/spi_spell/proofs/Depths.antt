@@ -19,8 +19,9 @@ use Rattle.spi_scope.specs.StandsFor.{Meant}
 use Rattle.spi_show.specs.Spelled.{name_text}
 use Rattle.spi_show.specs.Processes.{Standing, alone, sequel}
 use Rattle.spi_tree.proofs.Same.{same_effect}
+use Rattle.spi_gen.specs.Handshake.{word}
 use Rattle.spi_spell.proofs.Shallow.{ArePointsSmall, small}
-use Rattle.spi_spell.proofs.Printed.{twice, word, spelled_name, numbered_name, message_tree, second_tree, rest_trees, atom_tree, atom_trees, type_tree, field_trees, last_tree, leaf_tree, prefix_tree, process_tree, free_trees, part_tree, opponent_tree, step_tree, schedule_tree, written_tree, deriv_tree, deriv_trees, derivation_tree, file_tree}
+use Rattle.spi_spell.proofs.Printed.{twice, spelled_name, numbered_name, message_tree, second_tree, rest_trees, atom_tree, atom_trees, type_tree, field_trees, last_tree, leaf_tree, prefix_tree, process_tree, free_trees, part_tree, opponent_tree, step_tree, schedule_tree, written_tree, deriv_tree, deriv_trees, derivation_tree, file_tree}
 use Rattle.spi_spell.proofs.Printable.{MessageFits, TyFits, LeafFits, PrefixFits, ForkFits, ProcessFits, Nests, IsPrintablePart, IsOpponentPart, is_later, IsPrintable}
 
 -- the first token of a message, a type or an atom, and of a process

@@ -5,12 +5,13 @@ use Rattle.spi_parse.specs.Bare.{nowhere}
 use Rattle.spi_term.specs.Term.{Message, bound, name, unit, pair, in_left, in_right, enc, hash, Atom, ends, checks, many, Effect, Ty, un, unit_ty, pair_ty, sum_ty, key, nonce, Leaf, Sends, Stops, Prefix, Recvs, Serves, Splits, Selects, Decrypts, Checks, Begins, Ends, EndManys, Casts, Freshes, Branches, Pars, Process, leaf, prefix, fork, binds, message_size}
 use Rattle.spi_term.specs.Names.{MessageOver, OfAtom, OfEffect, OfTy, OfLeaf, OfPrefix, OfProcess}
 use Rattle.spi_term.specs.Spelling.{ty_nodes}
+use Rattle.spi_gen.specs.Handshake.{word}
 use Rattle.spi_scope.specs.Scope.{Abbreviations}
 use Rattle.spi_scope.specs.Meaning.{behind}
 use Rattle.spi_scope.specs.Points.{◌⨾◌, msg_nodes, message_points, messages_points, whole_message, atom_points, atoms_points, type_points, fields_points, last_points, part, whole_type, process_points}
 use Rattle.spi_scope.proofs.Sizes.{message_sized, type_sized}
 use Rattle.spi_show.specs.Processes.{Standing, alone, sequel, is_output}
-use Rattle.spi_spell.proofs.Printed.{second_part, parts_of_type, word, spelled_name, message_tree, second_tree, rest_trees, atom_tree, atom_trees, type_tree, field_trees, last_tree, leaf_tree, prefix_tree, then_tree, process_tree}
+use Rattle.spi_spell.proofs.Printed.{second_part, parts_of_type, spelled_name, message_tree, second_tree, rest_trees, atom_tree, atom_trees, type_tree, field_trees, last_tree, leaf_tree, prefix_tree, then_tree, process_tree}
 use Rattle.spi_spell.proofs.Printable.{MessageFits, AtomFits, EffectFits, PartsFit, TyFits, LeafFits, PrefixFits, ProcessFits, leaf_nodes, prefix_nodes, process_nodes}
 use Rattle.spi_spell.proofs.Scopes.{in_scope, AreApart, found}
 use Rattle.spi_spell.proofs.Means.{message_means, type_means}

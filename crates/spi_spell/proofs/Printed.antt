@@ -5,15 +5,13 @@ use Rattle.spi_tree.specs.declared.tree.SWord.{SWord}
 use Rattle.spi_tree.specs.Trees as t
 use Rattle.spi_term.specs.Term.{Message, bound, name, unit, pair, in_left, in_right, enc, hash, Atom, ends, checks, many, Effect, Ty, un, unit_ty, pair_ty, sum_ty, key, nonce, Leaf, Sends, Stops, Prefix, Recvs, Serves, Splits, Selects, Decrypts, Checks, Begins, Ends, EndManys, Casts, Freshes, Branches, Pars, Process, leaf, prefix, fork, binds}
 use Rattle.spi_term.specs.Spelling.{Spelling}
+use Rattle.spi_gen.specs.Handshake.{word}
 use Rattle.spi_run.specs.Reduction.{Step, act, talk}
 use Rattle.spi_parse.specs.Bare.{nowhere}
 use Rattle.spi_scope.specs.Parts.{numbered_effect}
 use Rattle.spi_scope.specs.StandsFor.{Meant}
 use Rattle.spi_show.specs.Spelled.{name_text}
 use Rattle.spi_show.specs.Processes.{Standing, alone, sequel, is_output}
-
-abbrev pub word : List ℕ → SWord
-word w = record { word = w; span = nowhere }
 
 abbrev pub spelled_name : (ℕ → List ℕ) → ℕ → t.Msg
 spelled_name spell i = t.name nowhere (word (spell i))

@@ -16,6 +16,7 @@ use Rattle.spi_parse.specs.Formed.{IsFormedDerived}
 use Rattle.spi_parse.proofs.LiveLaws.{version_fit}
 use Rattle.spi_parse.proofs.Lexed.{kinds_fit}
 use Rattle.spi_term.specs.Spelling.{Spelling}
+use Rattle.spi_gen.specs.Handshake.{word}
 use Rattle.spi_run.specs.Reduction.{Step, act, talk}
 use Rattle.spi_scope.specs.Parts.{uses_in}
 use Rattle.spi_scope.specs.StandsFor.{Meant, derivation_in}
@@ -63,7 +64,7 @@ semicolon_apart [] more = refl
 semicolon_apart (w ∷ ws) more = refl
 
 words : (later : Bool) (ws : List (List ℕ)) → AllFit later ws → (r : List Piece) (more : List ℕ) → IsTrue (is_apart more) → Prints later (kinds_in r) more
-    → Prints later (kinds_in (words_pieces (map printed.word ws) r)) (words_text ws ++ more)
+    → Prints later (kinds_in (words_pieces (map word ws) r)) (words_text ws ++ more)
 words later [] fit r more apart p = p
 words later (w ∷ ws) fit r more apart p =
     prints.mark mark.Comma (prints.space (prints.part w (words_text ws) more (prints.spelling w fit.0 (words_apart ws more apart) (words later ws fit.1 r more apart p))))
@@ -150,7 +151,7 @@ module _ (s : ℕ) (f : Meant) (d : Option t.Deriv) (is : IsPrintable f d) (low 
 
   -- a declaration behind its first token
   abbrev decl_rest : List ℕ → List (List ℕ) → List Piece → List Piece
-  decl_rest w ws r = a_word false (printed.word w) (words_pieces (map printed.word ws) (a_mark mark.Semicolon (closes 0 ∷ r)))
+  decl_rest w ws r = a_word false (word w) (words_pieces (map word ws) (a_mark mark.Semicolon (closes 0 ∷ r)))
 
   no_version : (ws : List (List ℕ)) (r : List Piece) → is_version_2 (kinds_in (decls_pieces (free_trees ws) (a_token (kinds.Reserved word.Process) r))) ≡ false
   no_version [] r = reserved_first word.Process (kinds_in r)

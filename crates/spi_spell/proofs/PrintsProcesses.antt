@@ -10,6 +10,7 @@ use Rattle.spi_tree.specs.Pieces.{Piece, Place, below, beside, a_reserved, kinds
 use Rattle.spi_term.specs.Term.{Message, Ty, Leaf, Sends, Stops, Prefix, Recvs, Serves, Splits, Selects, Decrypts, Checks, Begins, Ends, EndManys, Casts, Freshes, Branches, Pars, Process, leaf, prefix, fork, binds}
 use Rattle.spi_term.specs.Names.{MessageOver, OfTy, OfLeaf, OfPrefix, OfProcess}
 use Rattle.spi_term.specs.Spelling.{ty_nodes}
+use Rattle.spi_gen.specs.Handshake.{word}
 use Rattle.spi_parse.specs.Bare.{nowhere}
 use Rattle.spi_show.specs.Terms.{message_text, typed_text, type_text}
 use Rattle.spi_show.specs.Processes.{leaf_text, prefix_text, left_text, right_text, Standing, alone, sequel, is_output, process_text}
@@ -38,13 +39,13 @@ module _ (later : Bool) (top : ℕ) (spell : ℕ → List ℕ) (fit : (i : ℕ) 
   -- the name with number x and its type, where n names are in scope
   named : {k d n : ℕ} (x : ℕ) (a : Ty) → x < top → InScope top k d n → n + ty_nodes a ≤ top → OfTy (MessageOver k) d a → TyFits later a → (r : List Piece) (more : List ℕ)
       → IsTrue (is_apart more) → Prints later (kinds_in r) more
-      → Prints later (kinds_in (named_pieces (printed.word (spell x)) (type_tree spell n a) r)) (typed_text spell x (type_text spell n a) ++ more)
+      → Prints later (kinds_in (named_pieces (word (spell x)) (type_tree spell n a) r)) (typed_text spell x (type_text spell n a) ++ more)
   named {k = k} {d = d} {n = n} x a low in_scope few o v r more apart p =
       types.typed later top spell fit x (type_text spell n a) more low (types.type later top spell fit k d n 1 a in_scope few o v.1 r more apart p)
 
   -- a binder, after which a process follows
   binder : {k d n : ℕ} (x : ℕ) (a : Ty) → x < top → InScope top k d n → n + ty_nodes a ≤ top → OfTy (MessageOver k) d a → TyFits later a → (r : List Piece) (more : List ℕ) → Prints later (kinds_in r) more
-      → Prints later (kinds_in (binder_pieces (printed.word (spell x)) (type_tree spell n a) r)) (codes "(" ++ ((typed_text spell x (type_text spell n a) ++ codes "); ") ++ more))
+      → Prints later (kinds_in (binder_pieces (word (spell x)) (type_tree spell n a) r)) (codes "(" ++ ((typed_text spell x (type_text spell n a) ++ codes "); ") ++ more))
   binder {n = n} x a low in_scope few o v r more p =
       prints.mark mark.ParenOpen (prints.part (typed_text spell x (type_text spell n a)) _ more (named x a low in_scope few o v _ _ refl (prints.mark mark.ParenClose (prints.mark mark.Semicolon (prints.space p)))))
 
@@ -129,14 +130,14 @@ module _ (later : Bool) (top : ℕ) (spell : ℕ → List ℕ) (fit : (i : ℕ) 
   -- a `case` up to its first process, and between its processes
   left : (k d n : ℕ) (m : Message) (a : Ty) → InScope top k d n → suc (n + ty_nodes a) ≤ top → MessageOver k d m → OfTy (MessageOver k) d a → MessageFits later m → TyFits later a
       → (r : List Piece) (more : List ℕ) → Prints later (kinds_in r) more
-      → Prints later (kinds_in (a_reserved word.Case (msg_pieces 1 (message_tree (spelled_name spell) n m) (a_reserved word.Is (a_reserved word.Inl (binder_pieces (printed.word (spell n)) (type_tree spell n a) r))))))
+      → Prints later (kinds_in (a_reserved word.Case (msg_pieces 1 (message_tree (spelled_name spell) n m) (a_reserved word.Is (a_reserved word.Inl (binder_pieces (word (spell n)) (type_tree spell n a) r))))))
       (left_text spell n (message_text spell n m) (type_text spell n a) ++ more)
   left k d n m a scope few o oa v va r more h =
       prints.keyword word.Case refl refl (prints.space (prints.part (message_text spell n m) _ more (message m scope o v _ _ refl (prints.space (prints.keyword word.Is refl refl (prints.space
       (prints.keyword word.Inl refl refl (prints.space (binder n a (omega arith) scope (omega arith) oa va _ more h)))))))))
 
   between : (k d n : ℕ) (b : Ty) → InScope top k d n → suc (n + ty_nodes b) ≤ top → OfTy (MessageOver k) d b → TyFits later b → (r : List Piece) (more : List ℕ) → Prints later (kinds_in r) more
-      → Prints later (kinds_in (a_reserved word.Is (a_reserved word.Inr (binder_pieces (printed.word (spell n)) (type_tree spell n b) r)))) (right_text spell n (type_text spell n b) ++ more)
+      → Prints later (kinds_in (a_reserved word.Is (a_reserved word.Inr (binder_pieces (word (spell n)) (type_tree spell n b) r)))) (right_text spell n (type_text spell n b) ++ more)
   between k d n b scope few o v r more h =
       prints.space (prints.keyword word.Is refl refl (prints.space (prints.keyword word.Inr refl refl (prints.space (binder n b (omega arith) scope (omega arith) o v _ more h)))))
 

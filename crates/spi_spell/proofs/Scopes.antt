@@ -6,10 +6,11 @@ use Rattle.std.specs.Str.Parse.{digits_value}
 use Rattle.std.proofs.lemmas.Fmt.{decimal_is_IsNumeral_wide}
 use Rattle.std.proofs.lemmas.List.{reverse-append, reverse-reverse}
 use Rattle.std.proofs.lemmas.Slice.Eq.{bytes_eq-Decides}
+use Rattle.spi_gen.specs.Handshake.{word}
 use Rattle.spi_scope.specs.Scope.{Names, number_of}
 use Rattle.spi_scope.specs.Points.{all_names, with_free}
 use Rattle.spi_show.specs.Spelled.{bound_text, given_text, name_text, IsApart}
-use Rattle.spi_spell.proofs.Printed.{word, free_trees}
+use Rattle.spi_spell.proofs.Printed.{free_trees}
 use Rattle.spi_spell.proofs.Printable.{AreDistinct}
 
 -- the names with numbers below n, the innermost first

@@ -3,13 +3,14 @@ use Rattle.std.proofs.Common.{◌≡◌, ℕ, suc, ◌+◌, ◌^◌, ◌<◌, �
 use Rattle.spi_tree.specs.Trees as t
 use Rattle.spi_term.specs.Term.{Process}
 use Rattle.spi_term.specs.Spelling.{Spelling}
+use Rattle.spi_gen.specs.Handshake.{word}
 use Rattle.spi_scope.specs.Scope.{Names, Abbreviations, number_of}
 use Rattle.spi_scope.specs.Meaning.{process_in}
 use Rattle.spi_scope.specs.Points.{all_names, all_types, free_points, decls_points, process_points, opponent_points, body_points, file_points}
 use Rattle.spi_scope.specs.StandsFor.{Meant, StandsFor, over_free, opponent_over}
 use Rattle.spi_show.specs.Spelled.{name_text, IsApart}
 use Rattle.spi_show.specs.Processes.{alone}
-use Rattle.spi_spell.proofs.Printed.{word, process_tree, free_trees, part_tree, opponent_tree, file_tree}
+use Rattle.spi_spell.proofs.Printed.{process_tree, free_trees, part_tree, opponent_tree, file_tree}
 use Rattle.spi_spell.proofs.Printable.{process_nodes, opponent_nodes, IsPrintablePart, IsOpponentPart, is_later, IsPrintable}
 use Rattle.spi_spell.proofs.Scopes.{in_scope, scope_length, AreApart, unknown, names_apart, AreSpelled, free_spelled, declared_names, declared_reversed}
 use Rattle.spi_spell.proofs.Means.{process_means}

@@ -1,6 +1,7 @@
 use Rattle.std.proofs.Common.{subst, Option}
 use Rattle.spi_term.specs.View.{effect}
-use Rattle.spi_audit.specs.Notes.{AtomVec, TakesEffect}
+use Rattle.spi_intern.specs.Atoms.{AtomVec}
+use Rattle.spi_audit.specs.Notes.{TakesEffect}
 use Rattle.spi_audit.proofs.WalkUses.{sub_fits}
 use Rattle.spi_audit.proofs.walking.sub_use.Goals as goal
 
