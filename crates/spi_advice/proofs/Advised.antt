@@ -10,8 +10,8 @@ use Rattle.spi_commands.specs.Reading.{IsRead}
 use Rattle.spi_commands.specs.Refusals.{IsRefusal, IsLineOf, IsUnlexed, Refuses}
 use Rattle.spi_commands.specs.declared.status.Status.{Status}
 use Rattle.spi_commands.specs.declared.status.Status.TheVariants.{Refused}
-use Rattle.spi_commands.proofs.AnswerNo.{place_of, names_of, no_line, none_derivable}
-use Rattle.spi_explain.specs.Findings.{line_of}
+use Rattle.spi_commands.proofs.AnswerNo.{place_told, names_told, no_line, none_derivable}
+use Rattle.spi_explain.specs.Findings.{finding_line}
 use Rattle.spi_fault.proofs.Blaming.{exactly}
 use Rattle.spi_fault.specs.Faults.{Explains, told}
 use Rattle.spi_fault.specs.declared.fault.Fault.{Fault}
@@ -21,13 +21,13 @@ use Rattle.spi_scope.specs.Files.{meant, marked}
 use Rattle.spi_scope.specs.declared.file.File.{File}
 
 pub file_checks : (bytes line : List ℕ) (f : File) (fault : Option Fault) → IsRead bytes f
-    → line ≡ line_of bytes (place_of (marked f)) (names_of (marked f)) fault
-    → Explains (names_of (marked f)) f.process.names f.process.process fault → ChecksTo bytes (verdict fault) line
+    → line ≡ finding_line bytes (place_told (marked f)) (names_told (marked f)) fault
+    → Explains (names_told (marked f)) f.process.names f.process.process fault → ChecksTo bytes (verdict fault) line
 file_checks bytes line f None (tree, is, stands, marks) e d = ((meant f, (tree, is, stands), d), e)
 file_checks bytes line f (Some fault) (tree, is, stands, marks) e h =
     let o : Result (Option Fault) ℕ = Ok (Some fault) in
     let exact : IsNone (Some fault) ↔ Derivable (untrusted f.process.names) f.process.process [] =
-    exactly (names_of (marked f)) f.process.names f.process.process o h in (
+    exactly (names_told (marked f)) f.process.names f.process.process o h in (
       (meant f, (tree, is, stands), none_derivable (Some fault) fault _ refl exact),
       no_line bytes line f (told fault) (tree, is, stands, marks) h e,
     )

@@ -10,7 +10,7 @@ use Rattle.spi_rules.specs.Environment.{Env}
 use Rattle.spi_rules.specs.Processes.{IsNonce, nonce_name, nonce_cast}
 use Rattle.spi_rules.specs.Derivations.{RuleUse}
 use Rattle.spi_audit.specs.Fits.{Subject, Fits}
-use Rattle.spi_audit.specs.Paying.{Gives, gives_message, gives_stop, gives_out, gives_in, gives_repeat, gives_split, gives_split_un, gives_match, gives_match_un, gives_case, gives_case_un, gives_decrypt, gives_decrypt_un, gives_check, gives_check_un, gives_begin, gives_end, gives_end_many, gives_cast, gives_cast_un, gives_new, gives_par, gives_sub, Pays, pays_message, pays_stop, pays_out, pays_in, pays_repeat, pays_split, pays_split_un, pays_match, pays_match_un, pays_case, pays_case_un, pays_decrypt, pays_decrypt_un, pays_check, pays_check_un, pays_begin, pays_end, pays_end_many, pays_cast, pays_cast_un, pays_new, pays_par, pays_sub}
+use Rattle.spi_audit.specs.Paying.{GivesEffects, gives_message, gives_stop, gives_out, gives_in, gives_repeat, gives_split, gives_split_un, gives_match, gives_match_un, gives_case, gives_case_un, gives_decrypt, gives_decrypt_un, gives_check, gives_check_un, gives_begin, gives_end, gives_end_many, gives_cast, gives_cast_un, gives_new, gives_par, gives_sub, PaysByUse, pays_message, pays_stop, pays_out, pays_in, pays_repeat, pays_split, pays_split_un, pays_match, pays_match_un, pays_case, pays_case_un, pays_decrypt, pays_decrypt_un, pays_check, pays_check_un, pays_begin, pays_end, pays_end_many, pays_cast, pays_cast_un, pays_new, pays_par, pays_sub}
 use Rattle.spi_audit.specs.Audit.{MisfitAt, misfit_here, misfit_later, Judged, judged_none, judged_use, AllPay, FirstUnpaid}
 use Rattle.spi_audit.proofs.Fitted.{fits_one}
 
@@ -56,7 +56,7 @@ difference_same s e = record { at = λ a. omega (arith, s.at a, e.at a) }
 nonce_same : {env : Env} {m : Message} {fs gs : Effect} → IsNonce [] env m fs → IsNonce [] env m gs → SameEffect fs gs
 nonce_same {fs = fs} n o = subst (λ gs. SameEffect fs gs) (nonce_one n o) (same_refl fs)
 
-pub gives_one : {u : RuleUse} {s : Subject} {es es' : List Effect} {e e' : Effect} → Gives u s es e → Gives u s es' e' → AllSame es es' → SameEffect e e'
+pub gives_one : {u : RuleUse} {s : Subject} {es es' : List Effect} {e e' : Effect} → GivesEffects u s es e → GivesEffects u s es' e' → AllSame es es' → SameEffect e e'
 gives_one gives_message gives_message a = same_refl []
 gives_one gives_stop gives_stop a = same_refl []
 gives_one gives_out gives_out a = same_refl []
@@ -84,7 +84,7 @@ gives_one (gives_sub {fs = fs}) gives_sub a = same_refl fs
 pub avoids_same : (x : ℕ) {es fs : Effect} → SameEffect es fs → EffectAvoids x es → EffectAvoids x fs
 avoids_same x h a = OfEffect_within (Avoids x) (same_within (same_sym h)) a
 
-pub pays_same : {u : RuleUse} {s : Subject} {es es' : List Effect} → Pays u s es → AllSame es es' → Pays u s es'
+pub pays_same : {u : RuleUse} {s : Subject} {es es' : List Effect} → PaysByUse u s es → AllSame es es' → PaysByUse u s es'
 pays_same (pays_in {env = env} a) (same_next h (same_next k same_none)) = pays_in (avoids_same (length env) k a)
 pays_same (pays_repeat {env = env} m a) (same_next h (same_next k same_none)) = pays_repeat (AllMany_within (same_within (same_sym k)) m) (avoids_same (length env) k a)
 pays_same (pays_split {env = env} a b) (same_next h (same_next k same_none)) = pays_split (avoids_same (length env) k a) (avoids_same (suc (length env)) k b)
@@ -130,7 +130,7 @@ pub judged_same : {ss ts : List Subject} {us : List RuleUse} {es fs : List Effec
 judged_same e judged_none judged_none = same_none
 judged_same e (judged_use {u} {s} {ps} {es = es} {e = x} f j l g) (judged_use {s = t} {ps = qs} {es = es'} {e = y} f' j' l' g') =
     let r = all_split es es' (as_many es es' l l' (premises_are e f f')) (judged_same (behind_are e f f') j j') in
-    same_next (gives_one g (subst (λ s. Gives u s es' y) (sym (first_is e)) g') r.front) r.rest
+    same_next (gives_one g (subst (λ s. GivesEffects u s es' y) (sym (first_is e)) g') r.front) r.rest
 
 -- the effects of the premises, and of what stands behind them
 behind_same : {u : RuleUse} {s t : Subject} {ps qs ss ts : List Subject} {us : List RuleUse} {es es' fs fs' : List Effect} → s ∷ ss ≡ t ∷ ts
@@ -142,16 +142,16 @@ behind_same {es = es} {es' = es'} e f j l f' j' l' = all_split es es' (as_many e
 pub none_unpaid : {ss ts : List Subject} {us : List RuleUse} {es fs : List Effect} (i : ℕ) → ss ≡ ts → (j : Judged ss us es) (k : Judged ts us fs) → AllPay j → FirstUnpaid k i → ⊥
 none_unpaid i e judged_none judged_none a h = h
 none_unpaid zero e (judged_use {u} {s} {es = es} f j l g) (judged_use {s = t} {es = es'} f' j' l' g') a h =
-    h (subst (λ s. Pays u s es') (first_is e) (pays_same a.0 (behind_same e f j l f' j' l').front))
+    h (subst (λ s. PaysByUse u s es') (first_is e) (pays_same a.0 (behind_same e f j l f' j' l').front))
 none_unpaid (suc i) e (judged_use f j l g) (judged_use f' j' l' g') a h = none_unpaid i (behind_are e f f') j j' a.1 h.1
 
 pub unpaid_one : {ss ts : List Subject} {us : List RuleUse} {es fs : List Effect} (i n : ℕ) → ss ≡ ts → (j : Judged ss us es) (k : Judged ts us fs) → FirstUnpaid j i → FirstUnpaid k n → i ≡ n
 unpaid_one i n e judged_none judged_none h k = absurd h
 unpaid_one zero zero e (judged_use f j l g) (judged_use f' j' l' g') h k = refl
 unpaid_one zero (suc n) e (judged_use {u} {s} {es = es} f j l g) (judged_use {s = t} {es = es'} f' j' l' g') h k =
-    absurd (h (subst (λ s. Pays u s es) (sym (first_is e)) (pays_same k.0 (all_sym (behind_same e f j l f' j' l').front))))
+    absurd (h (subst (λ s. PaysByUse u s es) (sym (first_is e)) (pays_same k.0 (all_sym (behind_same e f j l f' j' l').front))))
 unpaid_one (suc i) zero e (judged_use {u} {s} {es = es} f j l g) (judged_use {s = t} {es = es'} f' j' l' g') h k =
-    absurd (k (subst (λ s. Pays u s es') (first_is e) (pays_same h.0 (behind_same e f j l f' j' l').front)))
+    absurd (k (subst (λ s. PaysByUse u s es') (first_is e) (pays_same h.0 (behind_same e f j l f' j' l').front)))
 unpaid_one (suc i) (suc n) e (judged_use f j l g) (judged_use f' j' l' g') h k = ap suc (unpaid_one i n (behind_are e f f') j j' h.1 k.1)
 
 -- uses that all fit have none that doesn't, and there is one first that doesn't

@@ -33,11 +33,11 @@ drop_behind xs i (y ∷ ys) zs d =
     ap (λ n. drop n xs) e ∙ drop_behind xs (suc i) ys zs (drop_second xs i y (ys ++ zs) d)
 
 -- the processes of a form as they stand, their binders opened
-abbrev body_of : Env → Prefix → Process → Process
-body_of e s p = numbered [] (length (e ++ more e s)) (enter (binds s) (length e) p)
+abbrev body_below : Env → Prefix → Process → Process
+body_below e s p = numbered [] (length (e ++ more e s)) (enter (binds s) (length e) p)
 
-abbrev first_of : Env → Fork → Process → Process
-first_of e f p = numbered [] (length (e ++ on_first f)) (enter (fork_binds f) (length e) p)
+abbrev first_child : Env → Fork → Process → Process
+first_child e f p = numbered [] (length (e ++ on_first f)) (enter (fork_binds f) (length e) p)
 
 abbrev rest_of : Env → Fork → Process → Process
 rest_of e f q = numbered [] (length (e ++ on_rest f)) (enter (fork_binds f) (length e) q)
@@ -46,10 +46,10 @@ module _ (ss : List Shape) (i : ℕ) (e : Env) where
   at_leaf : (l : Leaf) (h : Located ss i e (leaf l)) → drop i ss ≡ leaf_at (length e) l ∷ h.rest
   at_leaf l h = h.is ∙ ap (λ q. flat i (length e) q ++ h.rest) (numbered_leaf (length e) l)
 
-  at_prefix : (s : Prefix) (p : Process) (h : Located ss i e (prefix s p)) → drop i ss ≡ prefix_at (length e) s (suc i) ∷ (flat (suc i) (length e + binds s) (body_of e s p) ++ h.rest)
+  at_prefix : (s : Prefix) (p : Process) (h : Located ss i e (prefix s p)) → drop i ss ≡ prefix_at (length e) s (suc i) ∷ (flat (suc i) (length e + binds s) (body_below e s p) ++ h.rest)
   at_prefix s p h = h.is ∙ ap (λ q. flat i (length e) q ++ h.rest) (numbered_prefix e s p)
 
-  at_fork : (f : Fork) (p q : Process) (h : Located ss i e (fork f p q)) → drop i ss ≡ fork_at (length e) f (suc i) (suc i + process_size (first_of e f p)) ∷ ((flat (suc i) (length e + fork_binds f) (first_of e f p) ++ flat (suc i + process_size (first_of e f p)) (length e + fork_binds f) (rest_of e f q)) ++ h.rest)
+  at_fork : (f : Fork) (p q : Process) (h : Located ss i e (fork f p q)) → drop i ss ≡ fork_at (length e) f (suc i) (suc i + process_size (first_child e f p)) ∷ ((flat (suc i) (length e + fork_binds f) (first_child e f p) ++ flat (suc i + process_size (first_child e f p)) (length e + fork_binds f) (rest_of e f q)) ++ h.rest)
   at_fork f p q h = h.is ∙ ap (λ q. flat i (length e) q ++ h.rest) (numbered_fork e f p q)
 
   body_there : (s : Prefix) (p : Process) → Located ss i e (prefix s p) → Located ss (suc i) (e ++ more e s) (enter (binds s) (length e) p)
@@ -57,29 +57,29 @@ module _ (ss : List Shape) (i : ℕ) (e : Env) where
       let n : length e + binds s ≡ length (e ++ more e s) = omega (arith, length-append e (more e s), length_more e s) in
       record {
         rest = h.rest;
-        is = drop_second ss i (prefix_at (length e) s (suc i)) (flat (suc i) (length e + binds s) (body_of e s p) ++ h.rest) (at_prefix s p h) ∙ ap (λ k. flat (suc i) k (body_of e s p) ++ h.rest) n;
+        is = drop_second ss i (prefix_at (length e) s (suc i)) (flat (suc i) (length e + binds s) (body_below e s p) ++ h.rest) (at_prefix s p h) ∙ ap (λ k. flat (suc i) k (body_below e s p) ++ h.rest) n;
       }
 
   module _ (f : Fork) (p q : Process) (h : Located ss i e (fork f p q)) where
-    both_there : drop (suc i) ss ≡ flat (suc i) (length e + fork_binds f) (first_of e f p) ++ (flat (suc i + process_size (first_of e f p)) (length e + fork_binds f) (rest_of e f q) ++ h.rest)
+    both_there : drop (suc i) ss ≡ flat (suc i) (length e + fork_binds f) (first_child e f p) ++ (flat (suc i + process_size (first_child e f p)) (length e + fork_binds f) (rest_of e f q) ++ h.rest)
     both_there =
-        let a = flat (suc i) (length e + fork_binds f) (first_of e f p) in
-        let b = flat (suc i + process_size (first_of e f p)) (length e + fork_binds f) (rest_of e f q) in
-        drop_second ss i (fork_at (length e) f (suc i) (suc i + process_size (first_of e f p))) ((a ++ b) ++ h.rest) (at_fork f p q h) ∙ append_assoc a b h.rest
+        let a = flat (suc i) (length e + fork_binds f) (first_child e f p) in
+        let b = flat (suc i + process_size (first_child e f p)) (length e + fork_binds f) (rest_of e f q) in
+        drop_second ss i (fork_at (length e) f (suc i) (suc i + process_size (first_child e f p))) ((a ++ b) ++ h.rest) (at_fork f p q h) ∙ append_assoc a b h.rest
 
     first_there : Located ss (suc i) (e ++ on_first f) (enter (fork_binds f) (length e) p)
     first_there =
         let n : length e + fork_binds f ≡ length (e ++ on_first f) = omega (arith, length-append e (on_first f), length_first f) in
-        let b = flat (suc i + process_size (first_of e f p)) (length e + fork_binds f) (rest_of e f q) in
-        record { rest = b ++ h.rest; is = both_there ∙ ap (λ k. flat (suc i) k (first_of e f p) ++ (b ++ h.rest)) n }
+        let b = flat (suc i + process_size (first_child e f p)) (length e + fork_binds f) (rest_of e f q) in
+        record { rest = b ++ h.rest; is = both_there ∙ ap (λ k. flat (suc i) k (first_child e f p) ++ (b ++ h.rest)) n }
 
-    rest_there : Located ss (suc i + process_size (first_of e f p)) (e ++ on_rest f) (enter (fork_binds f) (length e) q)
+    rest_there : Located ss (suc i + process_size (first_child e f p)) (e ++ on_rest f) (enter (fork_binds f) (length e) q)
     rest_there =
-        let m = suc i + process_size (first_of e f p) in
-        let a = flat (suc i) (length e + fork_binds f) (first_of e f p) in
+        let m = suc i + process_size (first_child e f p) in
+        let a = flat (suc i) (length e + fork_binds f) (first_child e f p) in
         let n : length e + fork_binds f ≡ length (e ++ on_rest f) = omega (arith, length-append e (on_rest f), length_rest f) in
         let d = drop_behind ss (suc i) a (flat m (length e + fork_binds f) (rest_of e f q) ++ h.rest) both_there in
-        let w : suc i + length a ≡ m = ap (λ n. suc i + n) (length_flat (first_of e f p) (suc i) (length e + fork_binds f)) in
+        let w : suc i + length a ≡ m = ap (λ n. suc i + n) (length_flat (first_child e f p) (suc i) (length e + fork_binds f)) in
         record { rest = h.rest; is = ap (λ n. drop n ss) (sym w) ∙ d ∙ ap (λ k. flat m k (rest_of e f q) ++ h.rest) n }
 
 -- the form at a node
@@ -104,11 +104,11 @@ module _ (ss : List Shape) (i : ℕ) (e : Env) where
 
   prefix_is : (s : Prefix) (p : Process) (x : Shape) → Located ss i e (prefix s p) → slice_get ss i ≡ Some x → prefix_at (length e) s (suc i) ≡ x
   prefix_is s p x h g =
-      drop_first ss i (prefix_at (length e) s (suc i)) x (flat (suc i) (length e + binds s) (body_of e s p) ++ h.rest) (at_prefix ss i e s p h) g
+      drop_first ss i (prefix_at (length e) s (suc i)) x (flat (suc i) (length e + binds s) (body_below e s p) ++ h.rest) (at_prefix ss i e s p h) g
 
-  fork_is : (f : Fork) (p q : Process) (x : Shape) → Located ss i e (fork f p q) → slice_get ss i ≡ Some x → fork_at (length e) f (suc i) (suc i + process_size (first_of e f p)) ≡ x
+  fork_is : (f : Fork) (p q : Process) (x : Shape) → Located ss i e (fork f p q) → slice_get ss i ≡ Some x → fork_at (length e) f (suc i) (suc i + process_size (first_child e f p)) ≡ x
   fork_is f p q x h g =
-      drop_first ss i (fork_at (length e) f (suc i) (suc i + process_size (first_of e f p))) x ((flat (suc i) (length e + fork_binds f) (first_of e f p) ++ flat (suc i + process_size (first_of e f p)) (length e + fork_binds f) (rest_of e f q)) ++ h.rest) (at_fork ss i e f p q h) g
+      drop_first ss i (fork_at (length e) f (suc i) (suc i + process_size (first_child e f p))) x ((flat (suc i) (length e + fork_binds f) (first_child e f p) ++ flat (suc i + process_size (first_child e f p)) (length e + fork_binds f) (rest_of e f q)) ++ h.rest) (at_fork ss i e f p q h) g
 
   leaf_node : (q : Process) (n : ℕ) (l : Leaf) → Located ss i e q → slice_get ss i ≡ Some (leaf_at n l) → LeafThere l q
   leaf_node (leaf m) n l h g = record { is = same (leaf_is m (leaf_at n l) h g) }
@@ -138,7 +138,7 @@ module _ (ss : List Shape) (i : ℕ) (e : Env) where
       let w = fork_is t p q (fork_at n f a b) h g in
       let v : t ≡ f = cc w in
       let u : suc i ≡ a = cc w in
-      let z : suc i + process_size (first_of e t p) ≡ b = cc w in
+      let z : suc i + process_size (first_child e t p) ≡ b = cc w in
       record {
         left = p;
         right = q;

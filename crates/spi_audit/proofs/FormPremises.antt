@@ -12,7 +12,7 @@ use Rattle.spi_audit.specs.declared.asked.Asked.{Asked}
 use Rattle.spi_audit.specs.declared.asked.Asked.TheVariants as A
 use Rattle.spi_audit.specs.declared.asked.Binding.{Binding}
 use Rattle.spi_audit.specs.Fits.{of_process}
-use Rattle.spi_audit.specs.Asked.{Bound, bound_none, bound_one, bound_two, Located, IsTypeAsked, IsBegun, Begins, begun_none, begun_next, AreOpen, open_processes}
+use Rattle.spi_audit.specs.Asked.{Bound, bound_none, bound_one, bound_two, Located, IsTypeAsked, IsBegun, BeginsWalk, begun_none, begun_next, AreOpen, open_processes}
 use Rattle.spi_message.proofs.Tested.{stands_kept}
 
 -- what is asked stays as the store grows
@@ -25,7 +25,7 @@ bound_later k (bound_one m) = bound_one (means_keeps k m)
 bound_later k (bound_two m n) = bound_two (means_keeps k m) (means_keeps k n)
 
 -- a process begins in what the judge stood for before
-pub begins_later : (i j k l : Numbered) {node : ℕ} {types : Env → Env} {a : Asked} → IsKept i j → Keeps k.store l.store → Begins j k node types a → Begins i l node types a
+pub begins_later : (i j k l : Numbered) {node : ℕ} {types : Env → Env} {a : Asked} → IsKept i j → Keeps k.store l.store → BeginsWalk j k node types a → BeginsWalk i l node types a
 begins_later i j k l {node = node} f g h = record {
   names = h.names;
   is = h.is ∙ ap (λ ids. A.Process node (length ids) h.names) f.types;
@@ -33,7 +33,7 @@ begins_later i j k l {node = node} f g h = record {
 }
 
 -- the process in an environment
-pub is_begun : (j k : Numbered) (ss : List Shape) {node : ℕ} (types : Env → Env) {a : Asked} (e e' : Env) (p : Process) → e' ≡ e ++ types e → Stands j e → Begins j k node types a → Located ss node (e ++ types e) p → IsBegun k.store ss e a e' p
+pub is_begun : (j k : Numbered) (ss : List Shape) {node : ℕ} (types : Env → Env) {a : Asked} (e e' : Env) (p : Process) → e' ≡ e ++ types e → Stands j e → BeginsWalk j k node types a → Located ss node (e ++ types e) p → IsBegun k.store ss e a e' p
 is_begun j k ss {node = node} types e e' p q s h l = record {
   node = node;
   names = h.names;

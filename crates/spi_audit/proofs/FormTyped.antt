@@ -13,7 +13,7 @@ use Rattle.spi_message.specs.Tests.{is_un, is_fresh}
 use Rattle.spi_audit.specs.declared.asked.Asked.{Asked}
 use Rattle.spi_audit.specs.declared.asked.Premises.TheVariants.{OnePremise, TwoPremises, ThreePremises}
 use Rattle.spi_audit.specs.Fits.{Subject, of_message, of_process, plain, Fits, fits_split, fits_split_un, fits_match, fits_match_un, fits_case, fits_case_un, fits_decrypt, fits_decrypt_un, fits_check, fits_check_un, fits_new, fits_par}
-use Rattle.spi_audit.specs.Asked.{IsTypeAsked, Begins, open_message, AnswersPrefix, AnswersFork}
+use Rattle.spi_audit.specs.Asked.{IsTypeAsked, BeginsWalk, open_message, AnswersPrefix, AnswersFork}
 use Rattle.spi_message.specs.Tested.{IsNonceAt, IsNoNonce}
 use Rattle.spi_audit.proofs.Computed.{nonce_is}
 use Rattle.spi_message.proofs.Tested.{stands_kept}
@@ -64,7 +64,7 @@ module _ (j k : Numbered) (m : Message) where
     pub split_bad : (v : Ty) → v ≡ pair_ty t u → ((e : Env) → Stands j e → GoodTy [] e v → ⊥) → AnswersPrefix j k ProcSplit (Splits m t u) body None
     split_bad v q h = record { at = λ ss e p s l ps f. h e s (subst (GoodTy [] e) (sym q) (split_good f)) }
 
-    pub split_fits : (v : Ty) {a b : Asked} → v ≡ pair_ty t u → ((e : Env) → Stands j e → GoodTy [] e v) → IsTypeAsked k.store a m v → Begins j k body (λ e. t ∷ (opened_ty e u ∷ [])) b
+    pub split_fits : (v : Ty) {a b : Asked} → v ≡ pair_ty t u → ((e : Env) → Stands j e → GoodTy [] e v) → IsTypeAsked k.store a m v → BeginsWalk j k body (λ e. t ∷ (opened_ty e u ∷ [])) b
         → AnswersPrefix j k ProcSplit (Splits m t u) body (Some (TwoPremises a b))
     split_fits v {a} q g x y = record {
       at = λ ss e p s l. (
@@ -80,11 +80,11 @@ module _ (j k : Numbered) (m : Message) where
     pub split_second : is_un u ≡ false → AnswersPrefix j k ProcSplitUn (Splits m t u) body None
     split_second h = record { at = λ ss e p s l ps f. not_un h (split_types f).1 }
 
-    pub split_un_fits : {a b : Asked} → is_un t ≡ true → is_un u ≡ true → IsTypeAsked k.store a m un → Begins j k body (λ e. t ∷ (opened_ty e u ∷ [])) b
+    pub split_un_fits : {a b : Asked} → is_un t ≡ true → is_un u ≡ true → IsTypeAsked k.store a m un → BeginsWalk j k body (λ e. t ∷ (opened_ty e u ∷ [])) b
         → AnswersPrefix j k ProcSplitUn (Splits m t u) body (Some (TwoPremises a b))
     split_un_fits {a} {b} h g x y =
-        as_un (λ t. Begins j k body (λ e. t ∷ (opened_ty e u ∷ [])) b → AnswersPrefix j k ProcSplitUn (Splits m t u) body (Some (TwoPremises a b))) t h
-        (as_un (λ u. Begins j k body (λ e. un ∷ (opened_ty e u ∷ [])) b → AnswersPrefix j k ProcSplitUn (Splits m un u) body (Some (TwoPremises a b))) u g (λ y. record {
+        as_un (λ t. BeginsWalk j k body (λ e. t ∷ (opened_ty e u ∷ [])) b → AnswersPrefix j k ProcSplitUn (Splits m t u) body (Some (TwoPremises a b))) t h
+        (as_un (λ u. BeginsWalk j k body (λ e. un ∷ (opened_ty e u ∷ [])) b → AnswersPrefix j k ProcSplitUn (Splits m un u) body (Some (TwoPremises a b))) u g (λ y. record {
           at = λ ss e p s l. (
             of_message e m un ∷ (of_process (extended (extended e un) un) (opened_two e p) ∷ []),
             fits_split_un,
@@ -97,7 +97,7 @@ module _ (j k : Numbered) (m : Message) where
     pub select_bad : (v : Ty) → v ≡ pair_ty t u → ((e : Env) → Stands j e → GoodTy [] e v → ⊥) → AnswersPrefix j k ProcMatch (Selects m t n u) body None
     select_bad v q h = record { at = λ ss e p s l ps f. h e s (subst (GoodTy [] e) (sym q) (select_good f)) }
 
-    pub select_fits : (v : Ty) {a b c : Asked} → v ≡ pair_ty t u → ((e : Env) → Stands j e → GoodTy [] e v) → IsTypeAsked k.store a m v → IsTypeAsked k.store b n t → Begins j k body (λ e. ty_put n u ∷ []) c
+    pub select_fits : (v : Ty) {a b c : Asked} → v ≡ pair_ty t u → ((e : Env) → Stands j e → GoodTy [] e v) → IsTypeAsked k.store a m v → IsTypeAsked k.store b n t → BeginsWalk j k body (λ e. ty_put n u ∷ []) c
         → AnswersPrefix j k ProcMatch (Selects m t n u) body (Some (ThreePremises a b c))
     select_fits v {a} q g x y z = record {
       at = λ ss e p s l. (
@@ -113,11 +113,11 @@ module _ (j k : Numbered) (m : Message) where
     pub select_second : is_un u ≡ false → AnswersPrefix j k ProcMatchUn (Selects m t n u) body None
     select_second h = record { at = λ ss e p s l ps f. not_un h (select_types f).1 }
 
-    pub select_un_fits : {a b c : Asked} → is_un t ≡ true → is_un u ≡ true → IsTypeAsked k.store a m un → IsTypeAsked k.store b n un → Begins j k body (λ e. u ∷ []) c
+    pub select_un_fits : {a b c : Asked} → is_un t ≡ true → is_un u ≡ true → IsTypeAsked k.store a m un → IsTypeAsked k.store b n un → BeginsWalk j k body (λ e. u ∷ []) c
         → AnswersPrefix j k ProcMatchUn (Selects m t n u) body (Some (ThreePremises a b c))
     select_un_fits {a} {b} {c} h g x y z =
         as_un (λ t. AnswersPrefix j k ProcMatchUn (Selects m t n u) body (Some (ThreePremises a b c))) t h
-        (as_un (λ u. Begins j k body (λ e. u ∷ []) c → AnswersPrefix j k ProcMatchUn (Selects m un n u) body (Some (ThreePremises a b c))) u g (λ z. record {
+        (as_un (λ u. BeginsWalk j k body (λ e. u ∷ []) c → AnswersPrefix j k ProcMatchUn (Selects m un n u) body (Some (ThreePremises a b c))) u g (λ z. record {
           at = λ ss e p s l. (
             of_message e m un ∷ (of_message e n un ∷ (of_process (extended e un) (opened e p) ∷ [])),
             fits_match_un,
@@ -133,7 +133,7 @@ module _ (j k : Numbered) (m : Message) where
     pub branch_right_bad : ((e : Env) → Stands j e → GoodTy [] e u → ⊥) → AnswersFork j k ProcCase (Branches m t u) first rest None
     branch_right_bad h = record { at = λ ss e p q s l r ps f. h e s (branch_good f).1 }
 
-    pub branch_fits : (v : Ty) {a b c : Asked} → v ≡ sum_ty t u → ((e : Env) → Stands j e → GoodTy [] e t) → ((e : Env) → Stands j e → GoodTy [] e u) → IsTypeAsked k.store a m v → Begins j k first (λ e. t ∷ []) b → Begins j k rest (λ e. u ∷ []) c
+    pub branch_fits : (v : Ty) {a b c : Asked} → v ≡ sum_ty t u → ((e : Env) → Stands j e → GoodTy [] e t) → ((e : Env) → Stands j e → GoodTy [] e u) → IsTypeAsked k.store a m v → BeginsWalk j k first (λ e. t ∷ []) b → BeginsWalk j k rest (λ e. u ∷ []) c
         → AnswersFork j k ProcCase (Branches m t u) first rest (Some (ThreePremises a b c))
     branch_fits v {a} q g h x y z = record {
       at = λ ss e p r s l o. (
@@ -149,11 +149,11 @@ module _ (j k : Numbered) (m : Message) where
     pub branch_right : is_un u ≡ false → AnswersFork j k ProcCaseUn (Branches m t u) first rest None
     branch_right h = record { at = λ ss e p q s l r ps f. not_un h (branch_types f).1 }
 
-    pub branch_un_fits : {a b c : Asked} → is_un t ≡ true → is_un u ≡ true → IsTypeAsked k.store a m un → Begins j k first (λ e. t ∷ []) b → Begins j k rest (λ e. u ∷ []) c
+    pub branch_un_fits : {a b c : Asked} → is_un t ≡ true → is_un u ≡ true → IsTypeAsked k.store a m un → BeginsWalk j k first (λ e. t ∷ []) b → BeginsWalk j k rest (λ e. u ∷ []) c
         → AnswersFork j k ProcCaseUn (Branches m t u) first rest (Some (ThreePremises a b c))
     branch_un_fits {a} {b} {c} h g x y z =
-        as_un (λ t. Begins j k first (λ e. t ∷ []) b → AnswersFork j k ProcCaseUn (Branches m t u) first rest (Some (ThreePremises a b c))) t h
-        (λ y. as_un (λ u. Begins j k rest (λ e. u ∷ []) c → AnswersFork j k ProcCaseUn (Branches m un u) first rest (Some (ThreePremises a b c))) u g (λ z. record {
+        as_un (λ t. BeginsWalk j k first (λ e. t ∷ []) b → AnswersFork j k ProcCaseUn (Branches m t u) first rest (Some (ThreePremises a b c))) t h
+        (λ y. as_un (λ u. BeginsWalk j k rest (λ e. u ∷ []) c → AnswersFork j k ProcCaseUn (Branches m un u) first rest (Some (ThreePremises a b c))) u g (λ z. record {
           at = λ ss e p r s l o. (
             of_message e m un ∷ (of_process (extended e un) (opened e p) ∷ (of_process (extended e un) (opened e r) ∷ [])),
             fits_case_un,
@@ -166,7 +166,7 @@ module _ (j k : Numbered) (m : Message) where
     pub decrypt_bad : ((e : Env) → Stands j e → GoodTy [] e t → ⊥) → AnswersPrefix j k ProcDecrypt (Decrypts m t n) body None
     decrypt_bad h = record { at = λ ss e p s l ps f. h e s (decrypt_good f) }
 
-    pub decrypt_fits : (v : Ty) {a b c : Asked} → v ≡ key t → ((e : Env) → Stands j e → GoodTy [] e t) → IsTypeAsked k.store a m un → IsTypeAsked k.store b n v → Begins j k body (λ e. t ∷ []) c
+    pub decrypt_fits : (v : Ty) {a b c : Asked} → v ≡ key t → ((e : Env) → Stands j e → GoodTy [] e t) → IsTypeAsked k.store a m un → IsTypeAsked k.store b n v → BeginsWalk j k body (λ e. t ∷ []) c
         → AnswersPrefix j k ProcDecrypt (Decrypts m t n) body (Some (ThreePremises a b c))
     decrypt_fits v {a} {b} q g x y z = record {
       at = λ ss e p s l. (
@@ -179,10 +179,10 @@ module _ (j k : Numbered) (m : Message) where
     pub decrypt_typed : is_un t ≡ false → AnswersPrefix j k ProcDecryptUn (Decrypts m t n) body None
     decrypt_typed h = record { at = λ ss e p s l ps f. not_un h (decrypt_type f) }
 
-    pub decrypt_un_fits : {a b c : Asked} → is_un t ≡ true → IsTypeAsked k.store a m un → IsTypeAsked k.store b n un → Begins j k body (λ e. t ∷ []) c
+    pub decrypt_un_fits : {a b c : Asked} → is_un t ≡ true → IsTypeAsked k.store a m un → IsTypeAsked k.store b n un → BeginsWalk j k body (λ e. t ∷ []) c
         → AnswersPrefix j k ProcDecryptUn (Decrypts m t n) body (Some (ThreePremises a b c))
     decrypt_un_fits {a} {b} {c} h x y z =
-        as_un (λ t. Begins j k body (λ e. t ∷ []) c → AnswersPrefix j k ProcDecryptUn (Decrypts m t n) body (Some (ThreePremises a b c))) t h (λ z. record {
+        as_un (λ t. BeginsWalk j k body (λ e. t ∷ []) c → AnswersPrefix j k ProcDecryptUn (Decrypts m t n) body (Some (ThreePremises a b c))) t h (λ z. record {
           at = λ ss e p s l. (
             of_message e m un ∷ (of_message e n un ∷ (of_process (extended e un) (opened e p) ∷ [])),
             fits_decrypt_un,
@@ -195,7 +195,7 @@ module _ (j k : Numbered) (m : Message) where
     pub check_no_nonce : IsNoNonce j n → AnswersPrefix j k ProcCheck (Checks m n) body None
     check_no_nonce h = record { at = λ ss e p s l ps f. let w = check_nonce f in absurd (cc (h.at e s, nonce_is w.1)) }
 
-    pub check_fits : {a b : Asked} {t : TyId} → IsNonceAt j n t → IsTypeAsked k.store a m un → Begins j k body (λ e. []) b
+    pub check_fits : {a b : Asked} {t : TyId} → IsNonceAt j n t → IsTypeAsked k.store a m un → BeginsWalk j k body (λ e. []) b
         → AnswersPrefix j k ProcCheck (Checks m n) body (Some (TwoPremises a b))
     check_fits h x y = record {
       at = λ ss e p s l.
@@ -203,7 +203,7 @@ module _ (j k : Numbered) (m : Message) where
           (of_message e m un ∷ (of_process e p ∷ []), fits_check (a_nonce e n w.0 w.1), open_message x (process_open (same j k ss e p s y l)));
     }
 
-    pub check_un_fits : {a b c : Asked} → IsTypeAsked k.store a m un → IsTypeAsked k.store b n un → Begins j k body (λ e. []) c
+    pub check_un_fits : {a b c : Asked} → IsTypeAsked k.store a m un → IsTypeAsked k.store b n un → BeginsWalk j k body (λ e. []) c
         → AnswersPrefix j k ProcCheckUn (Checks m n) body (Some (ThreePremises a b c))
     check_un_fits x y z = record {
       at = λ ss e p s l. (of_message e m un ∷ (of_message e n un ∷ (of_process e p ∷ [])), fits_check_un, open_message x (open_message y (process_open (same j k ss e p s z l))));
@@ -217,12 +217,12 @@ module _ (j k : Numbered) (t : Ty) (body : ℕ) where
   pub fresh_bad : ((e : Env) → Stands j e → GoodTy [] e t → ⊥) → AnswersPrefix j k ProcNew (Freshes t) body None
   fresh_bad h = record { at = λ ss e p s l ps f. h e s (fresh_parts f).1 }
 
-  pub fresh_fits : {a : Asked} → is_fresh t ≡ true → ((e : Env) → Stands j e → GoodTy [] e t) → Begins j k body (λ e. t ∷ []) a → AnswersPrefix j k ProcNew (Freshes t) body (Some (OnePremise a))
+  pub fresh_fits : {a : Asked} → is_fresh t ≡ true → ((e : Env) → Stands j e → GoodTy [] e t) → BeginsWalk j k body (λ e. t ∷ []) a → AnswersPrefix j k ProcNew (Freshes t) body (Some (OnePremise a))
   fresh_fits h g x = record {
     at = λ ss e p s l. (of_process (extended e t) (opened e p) ∷ [], fits_new (generative t h) (g e s), process_open (one j k ss e p s x l));
   }
 
 -- two processes
-pub par_fits : (j : Numbered) (rule : Rule) (first rest : ℕ) {a b : Asked} → rule ≡ ProcPar → Begins j j first (λ e. []) a → Begins j j rest (λ e. []) b → AnswersFork j j rule Pars first rest (Some (TwoPremises a b))
+pub par_fits : (j : Numbered) (rule : Rule) (first rest : ℕ) {a b : Asked} → rule ≡ ProcPar → BeginsWalk j j first (λ e. []) a → BeginsWalk j j rest (λ e. []) b → AnswersFork j j rule Pars first rest (Some (TwoPremises a b))
 par_fits j rule first rest {a} {b} q x y =
     subst (λ r. AnswersFork j j r Pars first rest (Some (TwoPremises a b))) (sym q) (record { at = λ ss e p r s l o. (of_process e p ∷ (of_process e r ∷ []), fits_par, two_open (same j j ss e p s x l) (same j j ss e r s y o)) })

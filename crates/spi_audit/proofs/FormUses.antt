@@ -18,7 +18,7 @@ use Rattle.spi_audit.specs.declared.asked.Asked.{Asked}
 use Rattle.spi_audit.specs.declared.asked.Premises.{Premises}
 use Rattle.spi_audit.specs.declared.asked.Premises.TheVariants.{NoPremise, TwoPremises}
 use Rattle.spi_audit.specs.Fits.{Subject, of_message, of_process, plain, Fits, fits_stop, fits_out, fits_in, fits_repeat, fits_begin, fits_end, fits_end_many, fits_cast, fits_cast_un}
-use Rattle.spi_audit.specs.Asked.{Located, IsTypeAsked, IsBegun, Begins, AreOpen, open_message, open_processes, begun_none, AnswersLeaf, AnswersPrefix, AnswersFork, TakesUntrusted, TakesLabel, TakesGood}
+use Rattle.spi_audit.specs.Asked.{Located, IsTypeAsked, IsBegun, BeginsWalk, AreOpen, open_message, open_processes, begun_none, AnswersLeaf, AnswersPrefix, AnswersFork, TakesUntrusted, TakesLabel, TakesGood}
 use Rattle.spi_message.specs.Tested.{IsTest}
 use Rattle.spi_audit.proofs.FormPremises.{is_begun, process_open}
 
@@ -63,13 +63,13 @@ a_nonce e _ fs h = absurd cc
 
 -- the process of a form, in its environment
 module _ (j k : Numbered) (ss : List Shape) {node : ℕ} {a : Asked} (e : Env) (p : Process) (s : Stands j e) where
-  pub same : Begins j k node (λ e. []) a → Located ss node (e ++ []) p → IsBegun k.store ss e a e p
+  pub same : BeginsWalk j k node (λ e. []) a → Located ss node (e ++ []) p → IsBegun k.store ss e a e p
   same h l = is_begun j k ss (λ e. []) e e p (sym (append-nil e)) s h l
 
-  pub one : {t : Ty} → Begins j k node (λ e. t ∷ []) a → Located ss node (e ++ t ∷ []) (opened e p) → IsBegun k.store ss e a (extended e t) (opened e p)
+  pub one : {t : Ty} → BeginsWalk j k node (λ e. t ∷ []) a → Located ss node (e ++ t ∷ []) (opened e p) → IsBegun k.store ss e a (extended e t) (opened e p)
   one {t} h l = is_begun j k ss (λ e. t ∷ []) e (extended e t) (opened e p) refl s h l
 
-  pub two : {t : Ty} (u : Ty) → Begins j k node (λ e. t ∷ (opened_ty e u ∷ [])) a → Located ss node (e ++ t ∷ (opened_ty e u ∷ [])) (opened_two e p)
+  pub two : {t : Ty} (u : Ty) → BeginsWalk j k node (λ e. t ∷ (opened_ty e u ∷ [])) a → Located ss node (e ++ t ∷ (opened_ty e u ∷ [])) (opened_two e p)
       → IsBegun k.store ss e a (extended (extended e t) (opened_ty e u)) (opened_two e p)
   two {t} u h l =
       is_begun j k ss (λ e. t ∷ (opened_ty e u ∷ [])) e (extended (extended e t) (opened_ty e u)) (opened_two e p) (append_assoc e (t ∷ []) (opened_ty e u ∷ [])) s h l
@@ -95,21 +95,21 @@ send_fits j k rule {m} {n} {a} {b} q x y =
 
 -- forms under one name of an untrusted type
 module _ (j k : Numbered) where
-  under_un : (ss : List Shape) (e : Env) (p : Process) {body : ℕ} {m : Message} {t : Ty} {a b : Asked} → Stands j e → IsTypeAsked k.store a m un → Begins j k body (λ e. t ∷ []) b → Located ss body (e ++ t ∷ []) (opened e p)
+  under_un : (ss : List Shape) (e : Env) (p : Process) {body : ℕ} {m : Message} {t : Ty} {a b : Asked} → Stands j e → IsTypeAsked k.store a m un → BeginsWalk j k body (λ e. t ∷ []) b → Located ss body (e ++ t ∷ []) (opened e p)
       → AreOpen k.store ss e (a ∷ (b ∷ [])) (of_message e m un ∷ (of_process (extended e t) (opened e p) ∷ []))
   under_un ss e p s x y l = open_message x (process_open (one j k ss e p s y l))
 
-  recv_un : {m : Message} {body : ℕ} {a b : Asked} → IsTypeAsked k.store a m un → Begins j k body (λ e. un ∷ []) b → AnswersPrefix j k ProcIn (Recvs m un) body (Some (TwoPremises a b))
+  recv_un : {m : Message} {body : ℕ} {a b : Asked} → IsTypeAsked k.store a m un → BeginsWalk j k body (λ e. un ∷ []) b → AnswersPrefix j k ProcIn (Recvs m un) body (Some (TwoPremises a b))
   recv_un {m} x y = record {
     at = λ ss e p s l. (of_message e m un ∷ (of_process (extended e un) (opened e p) ∷ []), fits_in, under_un ss e p s x y l);
   }
 
-  serve_un : {m : Message} {body : ℕ} {a b : Asked} → IsTypeAsked k.store a m un → Begins j k body (λ e. un ∷ []) b → AnswersPrefix j k ProcRepeat (Serves m un) body (Some (TwoPremises a b))
+  serve_un : {m : Message} {body : ℕ} {a b : Asked} → IsTypeAsked k.store a m un → BeginsWalk j k body (λ e. un ∷ []) b → AnswersPrefix j k ProcRepeat (Serves m un) body (Some (TwoPremises a b))
   serve_un {m} x y = record {
     at = λ ss e p s l. (of_message e m un ∷ (of_process (extended e un) (opened e p) ∷ []), fits_repeat, under_un ss e p s x y l);
   }
 
-  cast_un : {m : Message} {body : ℕ} {a b : Asked} → IsTypeAsked k.store a m un → Begins j k body (λ e. un ∷ []) b → AnswersPrefix j k ProcCastUn (Casts m un) body (Some (TwoPremises a b))
+  cast_un : {m : Message} {body : ℕ} {a b : Asked} → IsTypeAsked k.store a m un → BeginsWalk j k body (λ e. un ∷ []) b → AnswersPrefix j k ProcCastUn (Casts m un) body (Some (TwoPremises a b))
   cast_un {m} x y = record {
     at = λ ss e p s l. (of_message e m un ∷ (of_process (extended e un) (opened e p) ∷ []), fits_cast_un, under_un ss e p s x y l);
   }
@@ -127,19 +127,19 @@ module _ (j k : Numbered) where
   recv_takes m t body None h = record { at = λ ss e p s l ps f. not_un h (recv_type f) }
   recv_takes m t body (Some p) (a, b, q, x, y, u) =
       subst (λ p. AnswersPrefix j k ProcIn (Recvs m t) body (Some p)) (sym q)
-      (as_un (λ t. Begins j k body (λ e. t ∷ []) b → AnswersPrefix j k ProcIn (Recvs m t) body (Some (TwoPremises a b))) t u (λ y. recv_un x y) y)
+      (as_un (λ t. BeginsWalk j k body (λ e. t ∷ []) b → AnswersPrefix j k ProcIn (Recvs m t) body (Some (TwoPremises a b))) t u (λ y. recv_un x y) y)
 
   serve_takes : (m : Message) (t : Ty) (body : ℕ) (r : Option Premises) → TakesUntrusted j k m t body r → AnswersPrefix j k ProcRepeat (Serves m t) body r
   serve_takes m t body None h = record { at = λ ss e p s l ps f. not_un h (serve_type f) }
   serve_takes m t body (Some p) (a, b, q, x, y, u) =
       subst (λ p. AnswersPrefix j k ProcRepeat (Serves m t) body (Some p)) (sym q)
-      (as_un (λ t. Begins j k body (λ e. t ∷ []) b → AnswersPrefix j k ProcRepeat (Serves m t) body (Some (TwoPremises a b))) t u (λ y. serve_un x y) y)
+      (as_un (λ t. BeginsWalk j k body (λ e. t ∷ []) b → AnswersPrefix j k ProcRepeat (Serves m t) body (Some (TwoPremises a b))) t u (λ y. serve_un x y) y)
 
   cast_takes : (m : Message) (t : Ty) (body : ℕ) (r : Option Premises) → TakesUntrusted j k m t body r → AnswersPrefix j k ProcCastUn (Casts m t) body r
   cast_takes m t body None h = record { at = λ ss e p s l ps f. not_un h (cast_type f) }
   cast_takes m t body (Some p) (a, b, q, x, y, u) =
       subst (λ p. AnswersPrefix j k ProcCastUn (Casts m t) body (Some p)) (sym q)
-      (as_un (λ t. Begins j k body (λ e. t ∷ []) b → AnswersPrefix j k ProcCastUn (Casts m t) body (Some (TwoPremises a b))) t u (λ y. cast_un x y) y)
+      (as_un (λ t. BeginsWalk j k body (λ e. t ∷ []) b → AnswersPrefix j k ProcCastUn (Casts m t) body (Some (TwoPremises a b))) t u (λ y. cast_un x y) y)
 
   pub recv_answers : {E : Type 0} (rule : Rule) (m : Message) (t : Ty) (body : ℕ) (r : Result (Option Premises) E) → rule ≡ ProcIn → IfOk r (TakesUntrusted j k m t body) → IfOk r (AnswersPrefix j k rule (Recvs m t) body)
   recv_answers rule m t body r q h =

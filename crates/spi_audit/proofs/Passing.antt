@@ -9,7 +9,7 @@ use Rattle.spi_audit.specs.declared.accounts.Account.{Account}
 use Rattle.spi_audit.specs.declared.notes.Note.{Note}
 use Rattle.spi_count.specs.Keeping.{IsKeyed}
 use Rattle.spi_audit.specs.Accounts.{Held, HoldsEffects, holds_none, holds_next}
-use Rattle.spi_audit.specs.Changes.{Change, before, after, pays, top, run, first_unpaid, AreScoped, scoped_none, scoped_next}
+use Rattle.spi_audit.specs.Changes.{Change, before, effects_after, pays, top_effect, run_changes, first_unpaid_change, AreScoped, scoped_none, scoped_next}
 use Rattle.spi_audit.specs.Notes.{NotedAs, AreNoted, are_noted_none, are_noted_next, ChangesAll, IsBeforeChange, IsSmallNote, AreSmallNotes}
 use Rattle.spi_audit.proofs.Turning.{holds_names, holds_top, holds_empty, some_held}
 
@@ -18,8 +18,8 @@ pub record Passed (s : Store) (keys : Keys) (cs : List Change) (rest : List Note
   pub back : List Change
   pub whole : cs ≡ front ++ back
   pub noted : AreNoted s keys front rest
-  pub holds : (ns : List ℕ) → AreScoped ns back → HoldsEffects s keys ns (reverse stack) (run back)
-  pub first : (ns : List ℕ) → AreScoped ns back → unpaid ≡ first_unpaid (length front) back
+  pub holds : (ns : List ℕ) → AreScoped ns back → HoldsEffects s keys ns (reverse stack) (run_changes back)
+  pub first : (ns : List ℕ) → AreScoped ns back → unpaid ≡ first_unpaid_change (length front) back
 
 scoped_empty : (s : Store) (keys : Keys) (ns : List ℕ) → AreScoped ns [] → HoldsEffects s keys ns [] []
 scoped_empty s keys _ scoped_none = holds_none
@@ -59,9 +59,9 @@ length_last : {A : Type 0} (xs : List A) (x : A) → length (xs ++ x ∷ []) ≡
 length_last [] x = refl
 length_last (y ∷ xs) x = ap suc (length_last xs x)
 
-next_first : (b pay : Bool) (m n i j : ℕ) (old new : Option ℕ) (back : List Change) → b ≡ pay → new ≡ (if b then old else Some m) → m ≡ n → i ≡ suc n → old ≡ first_unpaid i back → new ≡ (if pay then first_unpaid (suc n) back else Some n)
-next_first true pay m n i j old new back e f g h k = subst (λ p. new ≡ (if p then first_unpaid (suc n) back else Some n)) e (f ∙ (k ∙ ap (λ i. first_unpaid i back) h))
-next_first false pay m n i j old new back e f g h k = subst (λ p. new ≡ (if p then first_unpaid (suc n) back else Some n)) e (f ∙ ap Some g)
+next_first : (b pay : Bool) (m n i j : ℕ) (old new : Option ℕ) (back : List Change) → b ≡ pay → new ≡ (if b then old else Some m) → m ≡ n → i ≡ suc n → old ≡ first_unpaid_change i back → new ≡ (if pay then first_unpaid_change (suc n) back else Some n)
+next_first true pay m n i j old new back e f g h k = subst (λ p. new ≡ (if p then first_unpaid_change (suc n) back else Some n)) e (f ∙ (k ∙ ap (λ i. first_unpaid_change i back) h))
+next_first false pay m n i j old new back e f g h k = subst (λ p. new ≡ (if p then first_unpaid_change (suc n) back else Some n)) e (f ∙ ap Some g)
 
 pub passed_next : {s : Store} {keys : Keys} {cs : List Change} {all : List Note} {old : List Account} {unpaid : Option ℕ} → Passed s keys cs all old unpaid → (rest : List Note) (o : Note) (new : List Account) (b : Bool) (next : Option ℕ) → all ≡ rest ++ o ∷ [] → ChangesAll s keys o old b new → next ≡ (if b then unpaid else Some (length rest)) → Passed s keys cs rest new next
 passed_next {s} {keys} {cs} {all} {old} {unpaid} p rest o new b next e changes f = record {
@@ -76,10 +76,10 @@ passed_next {s} {keys} {cs} {all} {old} {unpaid} p rest o new b next e changes f
     last : Last s keys p.front rest o
     last = last_of rest o e p.noted
 
-    turned : (ns : List ℕ) → AreScoped ns (last.change ∷ p.back) → HoldsEffects s keys ns (reverse new) (after last.change (run p.back)) × (next ≡ first_unpaid (length last.others) (last.change ∷ p.back))
+    turned : (ns : List ℕ) → AreScoped ns (last.change ∷ p.back) → HoldsEffects s keys ns (reverse new) (effects_after last.change (run_changes p.back)) × (next ≡ first_unpaid_change (length last.others) (last.change ∷ p.back))
     turned ns (scoped_next ms sc q r) =
-        let t = changes.at last.change ms (run p.back) last.is sc (p.holds (before last.change ++ ms) r) in
-        (holds_names (sym q) t.0, next_first b (pays last.change (run p.back)) (length rest) (length last.others) (length p.front) 0 unpaid next p.back t.1 f (sym (noted_length last.noted)) (ap length last.all ∙ length_last last.others last.change) (p.first (before last.change ++ ms) r))
+        let t = changes.at last.change ms (run_changes p.back) last.is sc (p.holds (before last.change ++ ms) r) in
+        (holds_names (sym q) t.0, next_first b (pays last.change (run_changes p.back)) (length rest) (length last.others) (length p.front) 0 unpaid next p.back t.1 f (sym (noted_length last.noted)) (ap length last.all ∙ length_last last.others last.change) (p.first (before last.change ++ ms) r))
 
 scoped_later : (front : List Change) {back : List Change} {ns : List ℕ} → AreScoped ns (front ++ back) → (ms : List ℕ) × AreScoped ms back
 scoped_later [] {ns = ns} h = (ns, h)
@@ -99,7 +99,7 @@ passed_before {s} {keys} {cs} {all} {old} {unpaid} kd p n h rest o e = go r.0 r.
       keyed = kd;
       change = last.change;
       scopes = ns;
-      effects = run p.back;
+      effects = run_changes p.back;
       noted = last.is;
       scoped = sc;
       holds = p.holds (before last.change ++ ns) t;
@@ -115,17 +115,17 @@ module _ {s : Store} {keys : Keys} {cs : List Change} {all : List Note} {stack :
   back_is : cs ≡ p.back
   back_is = p.whole ∙ ap (λ xs. xs ++ p.back) here
 
-  held : HoldsEffects s keys (n ∷ []) (reverse stack) (run p.back)
+  held : HoldsEffects s keys (n ∷ []) (reverse stack) (run_changes p.back)
   held = p.holds (n ∷ []) (subst (λ xs. AreScoped (n ∷ []) xs) back_is h)
 
-  pub passed_root : (rest : List Account) (root : Account) → stack ≡ rest ++ root ∷ [] → Held s keys n root (top (run cs))
-  passed_root rest root e = subst (λ xs. Held s keys n root (top (run xs))) (sym back_is) (go (holds_top stack rest root e held))
+  pub passed_root : (rest : List Account) (root : Account) → stack ≡ rest ++ root ∷ [] → Held s keys n root (top_effect (run_changes cs))
+  passed_root rest root e = subst (λ xs. Held s keys n root (top_effect (run_changes xs))) (sym back_is) (go (holds_top stack rest root e held))
     where
-      go : {st : List Effect} → HoldsEffects s keys (n ∷ []) (root ∷ reverse rest) st → Held s keys n root (top st)
+      go : {st : List Effect} → HoldsEffects s keys (n ∷ []) (root ∷ reverse rest) st → Held s keys n root (top_effect st)
       go (holds_next t r) = t
 
-  pub passed_first : unpaid ≡ first_unpaid 0 cs
-  passed_first = p.first (n ∷ []) (subst (λ xs. AreScoped (n ∷ []) xs) back_is h) ∙ (ap (λ xs. first_unpaid (length xs) p.back) here ∙ ap (first_unpaid 0) (sym back_is))
+  pub passed_first : unpaid ≡ first_unpaid_change 0 cs
+  passed_first = p.first (n ∷ []) (subst (λ xs. AreScoped (n ∷ []) xs) back_is h) ∙ (ap (λ xs. first_unpaid_change (length xs) p.back) here ∙ ap (first_unpaid_change 0) (sym back_is))
 
   pub passed_some : stack ≡ [] → ⊥
   passed_some e = some_held (holds_empty stack e held)

@@ -18,17 +18,17 @@ use Rattle.spi_rules.proofs.Typing.{length_extended, at_cases}
 use Rattle.spi_rules.proofs.Good.{good_over}
 use Rattle.spi_audit.specs.Fits.{Subject, of_message, of_process, Fits, fits_name, fits_unit, fits_unit_un, fits_pair, fits_pair_un, fits_inl, fits_inl_un, fits_inr, fits_inr_un, fits_enc, fits_enc_un, fits_hash, fits_stop, fits_out, fits_in, fits_repeat, fits_split, fits_split_un, fits_match, fits_match_un, fits_case, fits_case_un, fits_decrypt, fits_decrypt_un, fits_check, fits_check_un, fits_begin, fits_end, fits_end_many, fits_cast, fits_cast_un, fits_new, fits_par, fits_sub}
 use Rattle.spi_message.specs.Forms.{enter}
-use Rattle.spi_audit.specs.Changes.{Change, nothing_done, no_effect, same_effect, one_left, two_left, served, chosen, checked, begun, ended, ended_many, casted, made, summed, subsumed_to, change_of, check_change, top, after, pays, run, first_unpaid, before, own, IsScoped, AreScoped, scoped_none, scoped_next}
+use Rattle.spi_audit.specs.Changes.{Change, nothing_done, no_effect, same_effect, one_left, two_left, served, chosen, checked, begun, ended, ended_many, casted, made, summed, subsumed_to, change_of, check_change, top_effect, effects_after, pays, run_changes, first_unpaid_change, before, own, IsScoped, AreScoped, scoped_none, scoped_next}
 use Rattle.spi_audit.specs.Walking.{Trace, trace_none, trace_use}
 use Rattle.spi_audit.proofs.Computed.{nonce_is, not_true}
 use Rattle.spi_count.proofs.Below.{bound_over, below_joined, below_one, below_minus, below_over, below_bound}
 
 -- effects with names in scope alone
-pub data AllBelow : List ℕ → List Effect → Type 0 where
-  below_none : AllBelow [] []
-  below_next : {n : ℕ} {es : Effect} {ns : List ℕ} {st : List Effect} → Below n es → AllBelow ns st → AllBelow (n ∷ ns) (es ∷ st)
+pub data EffectsAreBelow : List ℕ → List Effect → Type 0 where
+  below_none : EffectsAreBelow [] []
+  below_next : {n : ℕ} {es : Effect} {ns : List ℕ} {st : List Effect} → Below n es → EffectsAreBelow ns st → EffectsAreBelow (n ∷ ns) (es ∷ st)
 
-below_change : (c : Change) (ns : List ℕ) (st : List Effect) → IsScoped c → pays c st ≡ true → AllBelow (before c ++ ns) st → AllBelow (own c ++ ns) (after c st)
+below_change : (c : Change) (ns : List ℕ) (st : List Effect) → IsScoped c → pays c st ≡ true → EffectsAreBelow (before c ++ ns) st → EffectsAreBelow (own c ++ ns) (effects_after c st)
 below_change nothing_done ns st c p a = a
 below_change (no_effect k) ns st c p a = below_next (λ b n. elim n [ ]) a
 below_change (same_effect k) ns st c p a = a
@@ -69,16 +69,16 @@ none_first : (b : Bool) (i : ℕ) (o : Option ℕ) → (if b then o else Some i)
 none_first true i o e = (refl, e)
 none_first false i o e = cc
 
-pub below_run : {ms : List ℕ} {cs : List Change} (i : ℕ) → AreScoped ms cs → first_unpaid i cs ≡ None → AllBelow ms (run cs)
+pub below_run : {ms : List ℕ} {cs : List Change} (i : ℕ) → AreScoped ms cs → first_unpaid_change i cs ≡ None → EffectsAreBelow ms (run_changes cs)
 below_run i scoped_none e = below_none
 below_run i (scoped_next {c = c} {cs = cs} ns s q a) e =
-    let r = none_first (pays c (run cs)) i (first_unpaid (suc i) cs) e in
-    subst (λ ms. AllBelow ms (after c (run cs))) (sym q) (below_change c ns (run cs) s r.0 (below_run (suc i) a r.1))
+    let r = none_first (pays c (run_changes cs)) i (first_unpaid_change (suc i) cs) e in
+    subst (λ ms. EffectsAreBelow ms (effects_after c (run_changes cs))) (sym q) (below_change c ns (run_changes cs) s r.0 (below_run (suc i) a r.1))
 
-pub below_root : {n : ℕ} {cs : List Change} → AreScoped (n ∷ []) cs → first_unpaid 0 cs ≡ None → Below n (top (run cs))
-below_root {n} {cs} a e = go (run cs) (below_run 0 a e)
+pub below_root : {n : ℕ} {cs : List Change} → AreScoped (n ∷ []) cs → first_unpaid_change 0 cs ≡ None → Below n (top_effect (run_changes cs))
+below_root {n} {cs} a e = go (run_changes cs) (below_run 0 a e)
   where
-    go : (st : List Effect) → AllBelow (n ∷ []) st → Below n (top st)
+    go : (st : List Effect) → EffectsAreBelow (n ∷ []) st → Below n (top_effect st)
     go [] b = elim b [ ]
     go (es ∷ st) (below_next h b) = h
 
@@ -98,12 +98,12 @@ all_over : (ps ss : List Subject) → AreSubjectsOver ps → AreSubjectsOver ss 
 all_over [] ss h k = k
 all_over (p ∷ ps) ss h k = (h.0, all_over ps ss h.1 k)
 
-abbrev pub scopes : List Subject → List ℕ
-scopes [] = []
-scopes (of_message e m t ∷ ss) = scopes ss
-scopes (of_process e p ∷ ss) = length e ∷ scopes ss
+abbrev pub subject_scopes : List Subject → List ℕ
+subject_scopes [] = []
+subject_scopes (of_message e m t ∷ ss) = subject_scopes ss
+subject_scopes (of_process e p ∷ ss) = length e ∷ subject_scopes ss
 
-scopes_joined : (ps ss : List Subject) → scopes (ps ++ ss) ≡ scopes ps ++ scopes ss
+scopes_joined : (ps ss : List Subject) → subject_scopes (ps ++ ss) ≡ subject_scopes ps ++ subject_scopes ss
 scopes_joined [] ss = refl
 scopes_joined (of_message e m t ∷ ps) ss = scopes_joined ps ss
 scopes_joined (of_process e p ∷ ps) ss = ap (λ l. length e ∷ l) (scopes_joined ps ss)
@@ -164,11 +164,11 @@ two_more env t u ns = ap (λ n. n ∷ ns) (length_extended (extended env t) u �
 both_more : (env : Env) (t u : Ty) (ns : List ℕ) → length (extended env t) ∷ (length (extended env u) ∷ ns) ≡ suc (length env) ∷ (suc (length env) ∷ ns)
 both_more env t u ns = ap (λ n. n ∷ (length (extended env u) ∷ ns)) (length_extended env t) ∙ ap (λ n. suc (length env) ∷ (n ∷ ns)) (length_extended env u)
 
-pub record InScope (c : Change) (s : Subject) (ps : List Subject) : Type 0 where
+pub record IsScopedChange (c : Change) (s : Subject) (ps : List Subject) : Type 0 where
   pub scoped : IsScoped c
   pub over : AreSubjectsOver ps
-  pub behind : (ns : List ℕ) → scopes ps ++ ns ≡ before c ++ ns
-  pub here : (ss : List Subject) → scopes (s ∷ ss) ≡ own c ++ scopes ss
+  pub behind : (ns : List ℕ) → subject_scopes ps ++ ns ≡ before c ++ ns
+  pub here : (ss : List Subject) → subject_scopes (s ∷ ss) ≡ own c ++ subject_scopes ss
 
 nonce_below : {env : Env} {n : Message} {fs : Effect} → EnvOver env → IsNonce [] env n fs → Below (length env) fs
 nonce_below e (nonce_name {x} {fs} a) = below_over 0 fs (e x (nonce fs) a)
@@ -177,7 +177,7 @@ nonce_below e (nonce_cast i) = elim i [ ]
 good_below : {env : Env} {fs : Effect} → GoodEffect [] env fs → Below (length env) fs
 good_below {fs = fs} g = below_over 0 fs (good_over (λ m gs i. elim i [ ]) g)
 
-in_scope : {u : RuleUse} {s : Subject} {ps : List Subject} → Fits u s ps → Over s → InScope (change_of u s) s ps
+in_scope : {u : RuleUse} {s : Subject} {ps : List Subject} → Fits u s ps → Over s → IsScopedChange (change_of u s) s ps
 in_scope (fits_name a q) o = record { scoped = tt; over = tt; behind = λ ns. refl; here = λ ss. refl }
 in_scope fits_unit o = record { scoped = tt; over = tt; behind = λ ns. refl; here = λ ss. refl }
 in_scope fits_unit_un o = record { scoped = tt; over = tt; behind = λ ns. refl; here = λ ss. refl }
@@ -203,7 +203,7 @@ in_scope (fits_case_un {env = env} {p = p} {q = q}) o = record { scoped = tt; ov
 in_scope (fits_decrypt {env = env} {t = t} {p = p} g) o = record { scoped = tt; over = (tt, (tt, (under env t p o.0 o.1.0.1 o.1.1, tt))); behind = one_more env t; here = λ ss. refl }
 in_scope (fits_decrypt_un {env = env} {p = p}) o = record { scoped = tt; over = (tt, (tt, (under env un p o.0 tt o.1.1, tt))); behind = one_more env un; here = λ ss. refl }
 in_scope (fits_check {env = env} {m = m} {n = n} {p = p} {fs = fs} i) o =
-    subst (λ (x : Option Effect). InScope (check_change ProcCheck (length env) m x) (of_process env (check m n p)) (of_message env m un ∷ (of_process env p ∷ []))) (sym (nonce_is i))
+    subst (λ (x : Option Effect). IsScopedChange (check_change ProcCheck (length env) m x) (of_process env (check m n p)) (of_message env m un ∷ (of_process env p ∷ []))) (sym (nonce_is i))
     (record { scoped = (bound_over (length env) 0 m o.1.0.0, nonce_below o.0 i); over = (tt, ((o.0, none (length env) p o.1.1), tt)); behind = λ ns. refl; here = λ ss. refl })
 in_scope (fits_check_un {env = env} {p = p}) o = record { scoped = tt; over = (tt, (tt, ((o.0, none (length env) p o.1.1), tt))); behind = λ ns. refl; here = λ ss. refl }
 in_scope (fits_begin {env = env} {m = m} {p = p} l) o = record { scoped = bound_over (length env) 0 m o.1.0; over = ((o.0, none (length env) p o.1.1), tt); behind = λ ns. refl; here = λ ss. refl }
@@ -215,8 +215,8 @@ in_scope (fits_new {env = env} {t = t} {p = p} i g) o = record { scoped = tt; ov
 in_scope (fits_par {env = env} {p = p} {q = q}) o = record { scoped = tt; over = ((o.0, none (length env) p o.1.1), ((o.0, none (length env) q o.1.2), tt)); behind = λ ns. refl; here = λ ss. refl }
 in_scope (fits_sub g) o = record { scoped = good_below g; over = (o, tt); behind = λ ns. refl; here = λ ss. refl }
 
-pub trace_scoped : {ss : List Subject} {us : List RuleUse} {cs : List Change} → Trace ss us cs → AreSubjectsOver ss → AreScoped (scopes ss) cs
+pub trace_scoped : {ss : List Subject} {us : List RuleUse} {cs : List Change} → Trace ss us cs → AreSubjectsOver ss → AreScoped (subject_scopes ss) cs
 trace_scoped trace_none o = scoped_none
 trace_scoped (trace_use {u} {s} {ps} {ss} {us} {cs} f t) o =
     let w = in_scope f o.0 in
-    scoped_next (scopes ss) w.scoped (w.here ss) (subst (λ ns. AreScoped ns cs) (scopes_joined ps ss ∙ w.behind (scopes ss)) (trace_scoped t (all_over ps ss w.over o.1)))
+    scoped_next (subject_scopes ss) w.scoped (w.here ss) (subst (λ ns. AreScoped ns cs) (scopes_joined ps ss ∙ w.behind (subject_scopes ss)) (trace_scoped t (all_over ps ss w.over o.1)))

@@ -19,9 +19,9 @@ use Rattle.spi_audit.specs.declared.audited.Audited.{Audited}
 use Rattle.spi_audit.specs.declared.audited.Audited.TheVariants.{Proved, WrongStep, Unpaid}
 use Rattle.spi_audit.specs.Fits.{of_process}
 use Rattle.spi_audit.specs.Audit.{Judged, AllPay, FirstUnpaid, IsAudited}
-use Rattle.spi_audit.specs.Changes.{Change, run, top, first_unpaid, AreScoped}
+use Rattle.spi_audit.specs.Changes.{Change, run_changes, top_effect, first_unpaid_change, AreScoped}
 use Rattle.spi_audit.specs.Walking.{Trace}
-use Rattle.spi_audit.specs.Settled.{IsLeft, IsSettled}
+use Rattle.spi_audit.specs.Settled.{IsLeftOver, IsSettled}
 use Rattle.spi_audit.proofs.Holding.{in_count, count_none}
 use Rattle.spi_audit.proofs.Sound.{sound_one}
 use Rattle.spi_audit.proofs.Computed.{Verdict, trace_judged}
@@ -43,7 +43,7 @@ pub left_something : (v : Vec Code.Atom Global) → false ≡ (vec_len v == 0) �
 left_something v e h = eqb-false (vec_len v) 0 (sym e) (let z = ap length (map_empty View.atom v.items (same_nothing (map View.atom v.items) (record { at = λ a. sym (h.at a) }))) in let r : vec_len v ≡ 0 = omega (arith, v.ok.0, z) in r)
 
 -- what is left is what it comes to, where each use pays
-pub left_settled : (cs : List Change) (r : Audited) → first_unpaid 0 cs ≡ None → IsLeft (top (run cs)) r → IsSettled cs r
+pub left_settled : (cs : List Change) (r : Audited) → first_unpaid_change 0 cs ≡ None → IsLeftOver (top_effect (run_changes cs)) r → IsSettled cs r
 left_settled cs Proved e h = (e, h)
 left_settled cs (WrongStep i) e h = absurd h
 left_settled cs (Unpaid f) e h = (e, h.0, h.1)
@@ -68,13 +68,13 @@ root_scoped k p o t = trace_scoped t ((env_over k, untrusted_over k p o), tt)
 pub settled_audited : (k : ℕ) (p : Process) (us : List RuleUse) (cs : List Change) (r : Audited) → ProcessOver k p → Trace (of_process (untrusted k) p ∷ []) us cs → IsSettled cs r → IsAudited k p us r
 settled_audited k p us cs Proved o t h = go (trace_judged t).0 (subst (λ (n : Option ℕ). Verdict 0 n (trace_judged t).0) h.0 ((trace_judged t).1 0))
   where
-    go : (j : Judged (of_process (untrusted k) p ∷ []) us (top (run cs) ∷ [])) → AllPay j → Proves us (untrusted k) p []
+    go : (j : Judged (of_process (untrusted k) p ∷ []) us (top_effect (run_changes cs) ∷ [])) → AllPay j → Proves us (untrusted k) p []
     go j a =
         let y = sound_one j a in
         let z : (h : HasEffect [] (untrusted k) p []) × (effect_uses h ≡ us) = subst (λ es. (h : HasEffect [] (untrusted k) p es) × (effect_uses h ≡ us)) h.1 y in
         record { over = untrusted_over k p o; effect = []; same = same_refl []; has = z.0; are = z.1 }
-settled_audited k p us cs (WrongStep i) o t h = inr (top (run cs), (trace_judged t).0, first (subst (λ (n : Option ℕ). Verdict 0 n (trace_judged t).0) h ((trace_judged t).1 0)))
+settled_audited k p us cs (WrongStep i) o t h = inr (top_effect (run_changes cs), (trace_judged t).0, first (subst (λ (n : Option ℕ). Verdict 0 n (trace_judged t).0) h ((trace_judged t).1 0)))
   where
     first : (d : ℕ) × (i ≡ 0 + d) × FirstUnpaid (trace_judged t).0 d → FirstUnpaid (trace_judged t).0 i
     first (d, e, f) = subst (λ n. FirstUnpaid (trace_judged t).0 n) (let q : d ≡ i = omega (arith, e) in q) f
-settled_audited k p us cs (Unpaid f) o t h = (top (run cs), (trace_judged t).0, subst (λ (n : Option ℕ). Verdict 0 n (trace_judged t).0) h.0 ((trace_judged t).1 0), h.1, h.2)
+settled_audited k p us cs (Unpaid f) o t h = (top_effect (run_changes cs), (trace_judged t).0, subst (λ (n : Option ℕ). Verdict 0 n (trace_judged t).0) h.0 ((trace_judged t).1 0), h.1, h.2)

@@ -7,7 +7,7 @@ use Rattle.spi_rules.specs.Messages.{HasType, msg_name, msg_unit, msg_unit_un, m
 use Rattle.spi_rules.specs.Processes.{HasEffect, proc_stop, proc_out, proc_in, proc_repeat, proc_split, proc_split_un, proc_match, proc_match_un, proc_case, proc_case_un, proc_decrypt, proc_decrypt_un, proc_check, proc_check_un, proc_begin, proc_end, proc_end_many, proc_cast, proc_cast_un, proc_new, proc_par, proc_sub}
 use Rattle.spi_rules.specs.Derivations.{RuleUse, type_uses, effect_uses}
 use Rattle.spi_audit.specs.Fits.{Subject, of_message, of_process, Fits, fits_name, fits_unit, fits_unit_un, fits_pair, fits_pair_un, fits_inl, fits_inl_un, fits_inr, fits_inr_un, fits_enc, fits_enc_un, fits_hash, fits_stop, fits_out, fits_in, fits_repeat, fits_split, fits_split_un, fits_match, fits_match_un, fits_case, fits_case_un, fits_decrypt, fits_decrypt_un, fits_check, fits_check_un, fits_begin, fits_end, fits_end_many, fits_cast, fits_cast_un, fits_new, fits_par, fits_sub}
-use Rattle.spi_audit.specs.Paying.{Gives, gives_stop, gives_out, gives_in, gives_repeat, gives_split, gives_split_un, gives_match, gives_match_un, gives_case, gives_case_un, gives_decrypt, gives_decrypt_un, gives_check, gives_check_un, gives_begin, gives_end, gives_end_many, gives_cast, gives_cast_un, gives_new, gives_par, gives_sub, Pays, pays_stop, pays_out, pays_in, pays_repeat, pays_split, pays_split_un, pays_match, pays_match_un, pays_case, pays_case_un, pays_decrypt, pays_decrypt_un, pays_check, pays_check_un, pays_begin, pays_end, pays_end_many, pays_cast, pays_cast_un, pays_new, pays_par, pays_sub}
+use Rattle.spi_audit.specs.Paying.{GivesEffects, gives_stop, gives_out, gives_in, gives_repeat, gives_split, gives_split_un, gives_match, gives_match_un, gives_case, gives_case_un, gives_decrypt, gives_decrypt_un, gives_check, gives_check_un, gives_begin, gives_end, gives_end_many, gives_cast, gives_cast_un, gives_new, gives_par, gives_sub, PaysByUse, pays_stop, pays_out, pays_in, pays_repeat, pays_split, pays_split_un, pays_match, pays_match_un, pays_case, pays_case_un, pays_decrypt, pays_decrypt_un, pays_check, pays_check_un, pays_begin, pays_end, pays_end_many, pays_cast, pays_cast_un, pays_new, pays_par, pays_sub}
 use Rattle.spi_audit.specs.Audit.{Judged, judged_none, judged_use, AllPay}
 use Rattle.spi_audit.proofs.Agreeing.{avoids_same}
 
@@ -49,7 +49,7 @@ three {u} {us = us} {bs = bs} {vs = vs} {cs = cs} {ws = ws} e f g = ap (λ l. u 
 difference_is : {rs ds es fs : Effect} → IsDifference rs es fs → IsDifference ds es fs → SameEffect rs ds
 difference_is r s = record { at = λ a. r.at a ∙ sym (s.at a) }
 
-typed_by : {u : RuleUse} {s : Subject} {ps : List Subject} {es : List Effect} {e : Effect} {us : List RuleUse} → Fits u s ps → AllTyped ps es us → Gives u s es e → Pays u s es → Typed s e (u ∷ us)
+typed_by : {u : RuleUse} {s : Subject} {ps : List Subject} {es : List Effect} {e : Effect} {us : List RuleUse} → Fits u s ps → AllTyped ps es us → GivesEffects u s es e → PaysByUse u s es → Typed s e (u ∷ us)
 typed_by (fits_name a q) typed_none g w = (msg_name a q, refl)
 typed_by fits_unit typed_none g w = (msg_unit, refl)
 typed_by fits_unit_un typed_none g w = (msg_unit_un, refl)

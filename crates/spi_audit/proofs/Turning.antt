@@ -21,63 +21,63 @@ use Rattle.spi_audit.specs.declared.notes.Note.{Note}
 use Rattle.spi_audit.specs.declared.notes.Note.TheVariants as N
 use Rattle.spi_count.specs.Keeping.{IsKeyed, HasKey, HaveKeys}
 use Rattle.spi_audit.specs.Accounts.{Held, IsHeld, HoldsEffects, holds_next, LeavesOne, LeavesTwo, HoldsMore, HoldsLess}
-use Rattle.spi_audit.specs.Changes.{Change, served, chosen, summed, IsScoped, before, own, scope_in, after, pays, top}
+use Rattle.spi_audit.specs.Changes.{Change, served, chosen, summed, IsScoped, before, own, scope_in, effects_after, pays, top_effect}
 use Rattle.spi_audit.specs.Notes.{NotedAs, noted_nothing, noted_empty, noted_same, noted_one, noted_two, noted_serve, noted_branch, noted_check, noted_begin, noted_end, noted_many, noted_cast, noted_make, noted_both, noted_taken, ChangesOne, ChangesAll, IsBeforeChange, IsBeforeOne, IsUnaryNote}
 
-abbrev first_of : List ℕ → ℕ
-first_of [] = 0
-first_of (n ∷ ns) = n
+abbrev first_number : List ℕ → ℕ
+first_number [] = 0
+first_number (n ∷ ns) = n
 
 -- what is held in the scope before is held in the one that is named there
 named_held : {s : Store} {keys : Keys} (acc : Account) {es : Effect} (k n : ℕ) → (k ∷ []) ≡ (n ∷ []) → Held s keys n acc es → Held s keys k acc es
-named_held {s} {keys} acc {es} k n e h = subst (λ n. Held s keys n acc es) (sym (ap first_of e)) h
+named_held {s} {keys} acc {es} k n e h = subst (λ n. Held s keys n acc es) (sym (ap first_number e)) h
 
 pub same_one : (s : Store) (keys : Keys) (acc : Account) → ChangesOne s keys N.Same acc true acc
 same_one s keys acc = record { at = at }
   where
-    at : (c : Change) (n : ℕ) (es : Effect) → NotedAs s keys c N.Same → IsScoped c → before c ≡ n ∷ [] → Held s keys n acc es → Held s keys (scope_in c) acc (top (after c (es ∷ []))) × (true ≡ pays c (es ∷ []))
+    at : (c : Change) (n : ℕ) (es : Effect) → NotedAs s keys c N.Same → IsScoped c → before c ≡ n ∷ [] → Held s keys n acc es → Held s keys (scope_in c) acc (top_effect (effects_after c (es ∷ []))) × (true ≡ pays c (es ∷ []))
     at _ n es (noted_same {k}) w e h = (named_held acc k n e h, refl)
 
 pub nothing_one : (s : Store) (keys : Keys) (acc : Account) → ChangesOne s keys N.Nothing acc true acc
 nothing_one s keys acc = record { at = at }
   where
-    at : (c : Change) (n : ℕ) (es : Effect) → NotedAs s keys c N.Nothing → IsScoped c → before c ≡ n ∷ [] → Held s keys n acc es → Held s keys (scope_in c) acc (top (after c (es ∷ []))) × (true ≡ pays c (es ∷ []))
+    at : (c : Change) (n : ℕ) (es : Effect) → NotedAs s keys c N.Nothing → IsScoped c → before c ≡ n ∷ [] → Held s keys n acc es → Held s keys (scope_in c) acc (top_effect (effects_after c (es ∷ []))) × (true ≡ pays c (es ∷ []))
     at _ n es noted_nothing w e h = absurd (cc)
 
 pub empty_one : (s : Store) (keys : Keys) (acc : Account) → ChangesOne s keys N.Empty acc true acc
 empty_one s keys acc = record { at = at }
   where
-    at : (c : Change) (n : ℕ) (es : Effect) → NotedAs s keys c N.Empty → IsScoped c → before c ≡ n ∷ [] → Held s keys n acc es → Held s keys (scope_in c) acc (top (after c (es ∷ []))) × (true ≡ pays c (es ∷ []))
+    at : (c : Change) (n : ℕ) (es : Effect) → NotedAs s keys c N.Empty → IsScoped c → before c ≡ n ∷ [] → Held s keys n acc es → Held s keys (scope_in c) acc (top_effect (effects_after c (es ∷ []))) × (true ≡ pays c (es ∷ []))
     at _ n es (noted_empty {k}) w e h = absurd (cc)
 
 pub case_one : (s : Store) (keys : Keys) (i : ℕ) (acc : Account) → ChangesOne s keys (N.Case i) acc true acc
 case_one s keys i acc = record { at = at }
   where
-    at : (c : Change) (n : ℕ) (es : Effect) → NotedAs s keys c (N.Case i) → IsScoped c → before c ≡ n ∷ [] → Held s keys n acc es → Held s keys (scope_in c) acc (top (after c (es ∷ []))) × (true ≡ pays c (es ∷ []))
+    at : (c : Change) (n : ℕ) (es : Effect) → NotedAs s keys c (N.Case i) → IsScoped c → before c ≡ n ∷ [] → Held s keys n acc es → Held s keys (scope_in c) acc (top_effect (effects_after c (es ∷ []))) × (true ≡ pays c (es ∷ []))
     at _ n es (noted_branch {k}) w e h = absurd (cc)
 
 pub both_one : (s : Store) (keys : Keys) (acc : Account) → ChangesOne s keys N.Both acc true acc
 both_one s keys acc = record { at = at }
   where
-    at : (c : Change) (n : ℕ) (es : Effect) → NotedAs s keys c N.Both → IsScoped c → before c ≡ n ∷ [] → Held s keys n acc es → Held s keys (scope_in c) acc (top (after c (es ∷ []))) × (true ≡ pays c (es ∷ []))
+    at : (c : Change) (n : ℕ) (es : Effect) → NotedAs s keys c N.Both → IsScoped c → before c ≡ n ∷ [] → Held s keys n acc es → Held s keys (scope_in c) acc (top_effect (effects_after c (es ∷ []))) × (true ≡ pays c (es ∷ []))
     at _ n es (noted_both {k}) w e h = absurd (cc)
 
 pub leave_one_changes : (s : Store) (keys : Keys) (i : ℕ) (old new : Account) (b : Bool) → LeavesOne s keys i old b new → ChangesOne s keys (N.LeaveOne i) old b new
 leave_one_changes s keys i old new b l = record { at = at }
   where
-    at : (c : Change) (n : ℕ) (es : Effect) → NotedAs s keys c (N.LeaveOne i) → IsScoped c → before c ≡ n ∷ [] → Held s keys n old es → Held s keys (scope_in c) new (top (after c (es ∷ []))) × (b ≡ pays c (es ∷ []))
+    at : (c : Change) (n : ℕ) (es : Effect) → NotedAs s keys c (N.LeaveOne i) → IsScoped c → before c ≡ n ∷ [] → Held s keys n old es → Held s keys (scope_in c) new (top_effect (effects_after c (es ∷ []))) × (b ≡ pays c (es ∷ []))
     at _ n es noted_one w e h = l es (named_held old (suc i) n e h)
 
 pub leave_two_changes : (s : Store) (keys : Keys) (i : ℕ) (old new : Account) (b : Bool) → LeavesTwo s keys i old b new → ChangesOne s keys (N.LeaveTwo i) old b new
 leave_two_changes s keys i old new b l = record { at = at }
   where
-    at : (c : Change) (n : ℕ) (es : Effect) → NotedAs s keys c (N.LeaveTwo i) → IsScoped c → before c ≡ n ∷ [] → Held s keys n old es → Held s keys (scope_in c) new (top (after c (es ∷ []))) × (b ≡ pays c (es ∷ []))
+    at : (c : Change) (n : ℕ) (es : Effect) → NotedAs s keys c (N.LeaveTwo i) → IsScoped c → before c ≡ n ∷ [] → Held s keys n old es → Held s keys (scope_in c) new (top_effect (effects_after c (es ∷ []))) × (b ≡ pays c (es ∷ []))
     at _ n es noted_two w e h = l es (named_held old (suc (suc i)) n e h)
 
 pub serve_changes : (s : Store) (keys : Keys) (i : ℕ) (old new : Account) (b : Bool) → ((es : Effect) → Held s keys (suc i) old es → Held s keys i new es × (b ≡ pays (served i) (es ∷ []))) → ChangesOne s keys (N.Serve i) old b new
 serve_changes s keys i old new b l = record { at = at }
   where
-    at : (c : Change) (n : ℕ) (es : Effect) → NotedAs s keys c (N.Serve i) → IsScoped c → before c ≡ n ∷ [] → Held s keys n old es → Held s keys (scope_in c) new (top (after c (es ∷ []))) × (b ≡ pays c (es ∷ []))
+    at : (c : Change) (n : ℕ) (es : Effect) → NotedAs s keys c (N.Serve i) → IsScoped c → before c ≡ n ∷ [] → Held s keys n old es → Held s keys (scope_in c) new (top_effect (effects_after c (es ∷ []))) × (b ≡ pays c (es ∷ []))
     at _ n es noted_serve w e h = l es (named_held old (suc i) n e h)
 
 -- an atom by its number goes in or out, in any store
@@ -96,33 +96,33 @@ TypeOut s keys t old new = (fs : Effect) (k : ℕ) → IsKeyed s keys → Means 
 pub check_changes : (s : Store) (keys : Keys) (id : MsgId) (t : TyId) (old rest new : Account) → IsKeyed s keys → TypeOut s keys t old rest → AtomIn keys (Check id) rest new → ChangesOne s keys (N.Check id t) old true new
 check_changes s keys id t old rest new kd out more = record { at = at }
   where
-    at : (c : Change) (n : ℕ) (es : Effect) → NotedAs s keys c (N.Check id t) → IsScoped c → before c ≡ n ∷ [] → Held s keys n old es → Held s keys (scope_in c) new (top (after c (es ∷ []))) × (true ≡ pays c (es ∷ []))
+    at : (c : Change) (n : ℕ) (es : Effect) → NotedAs s keys c (N.Check id t) → IsScoped c → before c ≡ n ∷ [] → Held s keys n old es → Held s keys (scope_in c) new (top_effect (effects_after c (es ∷ []))) × (true ≡ pays c (es ∷ []))
     at _ n es (noted_check {k} {m} {fs} g means) w e h =
         (more s (checks m) k kd (says_check g.at) (id.place, g) w.0 (minus es fs) (out fs k kd means w.1 es (named_held old k n e h)), refl)
 
 pub begin_changes : (s : Store) (keys : Keys) (id : MsgId) (old rest new : Account) → IsKeyed s keys → AtomOut keys (End id) old rest → AtomOut keys (Many id) rest new → ChangesOne s keys (N.Begin id) old true new
 begin_changes s keys id old rest new kd out all = record { at = at }
   where
-    at : (c : Change) (n : ℕ) (es : Effect) → NotedAs s keys c (N.Begin id) → IsScoped c → before c ≡ n ∷ [] → Held s keys n old es → Held s keys (scope_in c) new (top (after c (es ∷ []))) × (true ≡ pays c (es ∷ []))
+    at : (c : Change) (n : ℕ) (es : Effect) → NotedAs s keys c (N.Begin id) → IsScoped c → before c ≡ n ∷ [] → Held s keys n old es → Held s keys (scope_in c) new (top_effect (effects_after c (es ∷ []))) × (true ≡ pays c (es ∷ []))
     at _ n es (noted_begin {k} {m} g) w e h =
         (all s (many m) k kd (says_many g) w (minus es (ends m ∷ [])) (out s (ends m) k kd (says_end g) w es (named_held old k n e h)), refl)
 
 pub end_changes : (s : Store) (keys : Keys) (id : MsgId) (old new : Account) → IsKeyed s keys → AtomIn keys (End id) old new → ChangesOne s keys (N.End id) old true new
 end_changes s keys id old new kd more = record { at = at }
   where
-    at : (c : Change) (n : ℕ) (es : Effect) → NotedAs s keys c (N.End id) → IsScoped c → before c ≡ n ∷ [] → Held s keys n old es → Held s keys (scope_in c) new (top (after c (es ∷ []))) × (true ≡ pays c (es ∷ []))
+    at : (c : Change) (n : ℕ) (es : Effect) → NotedAs s keys c (N.End id) → IsScoped c → before c ≡ n ∷ [] → Held s keys n old es → Held s keys (scope_in c) new (top_effect (effects_after c (es ∷ []))) × (true ≡ pays c (es ∷ []))
     at _ n es (noted_end {k} {m} g) w e h = (more s (ends m) k kd (says_end g.at) (id.place, g) w es (named_held old k n e h), refl)
 
 pub many_changes : (s : Store) (keys : Keys) (id : MsgId) (old new : Account) → IsKeyed s keys → AtomIn keys (Many id) old new → ChangesOne s keys (N.EndMany id) old true new
 many_changes s keys id old new kd more = record { at = at }
   where
-    at : (c : Change) (n : ℕ) (es : Effect) → NotedAs s keys c (N.EndMany id) → IsScoped c → before c ≡ n ∷ [] → Held s keys n old es → Held s keys (scope_in c) new (top (after c (es ∷ []))) × (true ≡ pays c (es ∷ []))
+    at : (c : Change) (n : ℕ) (es : Effect) → NotedAs s keys c (N.EndMany id) → IsScoped c → before c ≡ n ∷ [] → Held s keys n old es → Held s keys (scope_in c) new (top_effect (effects_after c (es ∷ []))) × (true ≡ pays c (es ∷ []))
     at _ n es (noted_many {k} {m} g) w e h = (more s (many m) k kd (says_many g.at) (id.place, g) w es (named_held old k n e h), refl)
 
 pub cast_changes : (s : Store) (keys : Keys) (i : ℕ) (t : TyId) (old rest new : Account) (b : Bool) → IsKeyed s keys → LeavesOne s keys i old b rest → TypeTurns s keys t rest new → ChangesOne s keys (N.Cast i t) old b new
 cast_changes s keys i t old rest new b kd l more = record { at = at }
   where
-    at : (c : Change) (n : ℕ) (es : Effect) → NotedAs s keys c (N.Cast i t) → IsScoped c → before c ≡ n ∷ [] → Held s keys n old es → Held s keys (scope_in c) new (top (after c (es ∷ []))) × (b ≡ pays c (es ∷ []))
+    at : (c : Change) (n : ℕ) (es : Effect) → NotedAs s keys c (N.Cast i t) → IsScoped c → before c ≡ n ∷ [] → Held s keys n old es → Held s keys (scope_in c) new (top_effect (effects_after c (es ∷ []))) × (b ≡ pays c (es ∷ []))
     at _ n es (noted_cast {fs = fs} means key) w e h =
         let r = l es (named_held old (suc i) n e h) in
         (more fs i kd means key w es r.0, r.1)
@@ -130,7 +130,7 @@ cast_changes s keys i t old rest new b kd l more = record { at = at }
 pub make_changes : (s : Store) (keys : Keys) (i : ℕ) (id : MsgId) (old rest new : Account) (b : Bool) → IsKeyed s keys → AtomOut keys (Check id) old rest → LeavesOne s keys i rest b new → ChangesOne s keys (N.Make i id) old b new
 make_changes s keys i id old rest new b kd out l = record { at = at }
   where
-    at : (c : Change) (n : ℕ) (es : Effect) → NotedAs s keys c (N.Make i id) → IsScoped c → before c ≡ n ∷ [] → Held s keys n old es → Held s keys (scope_in c) new (top (after c (es ∷ []))) × (b ≡ pays c (es ∷ []))
+    at : (c : Change) (n : ℕ) (es : Effect) → NotedAs s keys c (N.Make i id) → IsScoped c → before c ≡ n ∷ [] → Held s keys n old es → Held s keys (scope_in c) new (top_effect (effects_after c (es ∷ []))) × (b ≡ pays c (es ∷ []))
     at _ n es (noted_make g) w e h = l (minus es (checks (name i) ∷ [])) (out s (checks (name i)) (suc i) kd (says_check g) (omega arith) es (named_held old (suc i) n e h))
 
 -- changes of one process
@@ -138,7 +138,7 @@ pub record IsUnary (c : Change) : Type 0 where
   pub names : ℕ
   pub before_is : before c ≡ names ∷ []
   pub own_is : own c ≡ scope_in c ∷ []
-  pub after_is : (es : Effect) (st : List Effect) → after c (es ∷ st) ≡ top (after c (es ∷ [])) ∷ st
+  pub after_is : (es : Effect) (st : List Effect) → effects_after c (es ∷ st) ≡ top_effect (effects_after c (es ∷ [])) ∷ st
   pub pays_is : (es : Effect) (st : List Effect) → pays c (es ∷ st) ≡ pays c (es ∷ [])
 
 unary : {s : Store} {keys : Keys} {c : Change} {o : Note} → NotedAs s keys c o → IsUnaryNote o → IsUnary c
@@ -200,7 +200,7 @@ module _ {s : Store} {keys : Keys} {o : Note} (one : IsUnaryNote o) where
     at = λ c ns st w sc h. go c ns st w sc (holds_names (ap (λ xs. xs ++ ns) (unary w one).before_is) (holds_top old rest acc e h));
   }
     where
-      go : (c : Change) (ns : List ℕ) (st : List Effect) (w : NotedAs s keys c o) → IsScoped c → HoldsEffects s keys ((unary w one).names ∷ ns) (acc ∷ reverse rest) st → HoldsEffects s keys (own c ++ ns) (reverse new) (after c st) × (b ≡ pays c st)
+      go : (c : Change) (ns : List ℕ) (st : List Effect) (w : NotedAs s keys c o) → IsScoped c → HoldsEffects s keys ((unary w one).names ∷ ns) (acc ∷ reverse rest) st → HoldsEffects s keys (own c ++ ns) (reverse new) (effects_after c st) × (b ≡ pays c st)
       go c ns _ w sc (holds_next {es = es} {st = st} h t) =
           let u = unary w one in
           let r = one_change.at c u.names es w sc u.before_is h in
@@ -209,13 +209,13 @@ module _ {s : Store} {keys : Keys} {o : Note} (one : IsUnaryNote o) where
 pub changes_empty : (s : Store) (keys : Keys) (old new : List Account) (acc : Account) → new ≡ old ++ acc ∷ [] → ((n : ℕ) → Held s keys n acc []) → ChangesAll s keys N.Empty old true new
 changes_empty s keys old new acc e h = record { at = at }
   where
-    at : (c : Change) (ns : List ℕ) (st : List Effect) → NotedAs s keys c N.Empty → IsScoped c → HoldsEffects s keys (before c ++ ns) (reverse old) st → HoldsEffects s keys (own c ++ ns) (reverse new) (after c st) × (true ≡ pays c st)
+    at : (c : Change) (ns : List ℕ) (st : List Effect) → NotedAs s keys c N.Empty → IsScoped c → HoldsEffects s keys (before c ++ ns) (reverse old) st → HoldsEffects s keys (own c ++ ns) (reverse new) (effects_after c st) × (true ≡ pays c st)
     at _ ns st (noted_empty {k}) w t = (holds_push old new acc e (h k) t, refl)
 
 pub changes_nothing : (s : Store) (keys : Keys) (old : List Account) → ChangesAll s keys N.Nothing old true old
 changes_nothing s keys old = record { at = at }
   where
-    at : (c : Change) (ns : List ℕ) (st : List Effect) → NotedAs s keys c N.Nothing → IsScoped c → HoldsEffects s keys (before c ++ ns) (reverse old) st → HoldsEffects s keys (own c ++ ns) (reverse old) (after c st) × (true ≡ pays c st)
+    at : (c : Change) (ns : List ℕ) (st : List Effect) → NotedAs s keys c N.Nothing → IsScoped c → HoldsEffects s keys (before c ++ ns) (reverse old) st → HoldsEffects s keys (own c ++ ns) (reverse old) (effects_after c st) × (true ≡ pays c st)
     at _ ns st noted_nothing w t = (t, refl)
 
 -- two processes
@@ -242,13 +242,13 @@ branch_two i _ noted_branch = (suc i, refl)
 pub both_changes : (s : Store) (keys : Keys) (old mid rest new : List Account) (a b sum : Account) → old ≡ mid ++ a ∷ [] → mid ≡ rest ++ b ∷ [] → new ≡ rest ++ sum ∷ [] → ((n : ℕ) (es fs : Effect) → Held s keys n a es → Held s keys n b fs → Held s keys n sum (es ++ fs)) → ChangesAll s keys N.Both old true new
 both_changes s keys old mid rest new a b sum e f g add = record { at = at }
   where
-    second : {k : ℕ} {ns : List ℕ} {es : Effect} {st : List Effect} → Held s keys k a es → HoldsEffects s keys (k ∷ ns) (b ∷ reverse rest) st → HoldsEffects s keys (k ∷ ns) (reverse new) (after (summed k) (es ∷ st))
+    second : {k : ℕ} {ns : List ℕ} {es : Effect} {st : List Effect} → Held s keys k a es → HoldsEffects s keys (k ∷ ns) (b ∷ reverse rest) st → HoldsEffects s keys (k ∷ ns) (reverse new) (effects_after (summed k) (es ∷ st))
     second {k} {es = es} h (holds_next {es = fs} i t) = holds_push rest new sum g (add k es fs h i) t
 
-    first : {k : ℕ} {ns : List ℕ} {st : List Effect} → HoldsEffects s keys (k ∷ (k ∷ ns)) (a ∷ reverse mid) st → HoldsEffects s keys (k ∷ ns) (reverse new) (after (summed k) st)
+    first : {k : ℕ} {ns : List ℕ} {st : List Effect} → HoldsEffects s keys (k ∷ (k ∷ ns)) (a ∷ reverse mid) st → HoldsEffects s keys (k ∷ ns) (reverse new) (effects_after (summed k) st)
     first (holds_next h t) = second h (holds_top mid rest b f t)
 
-    at : (c : Change) (ns : List ℕ) (st : List Effect) → NotedAs s keys c N.Both → IsScoped c → HoldsEffects s keys (before c ++ ns) (reverse old) st → HoldsEffects s keys (own c ++ ns) (reverse new) (after c st) × (true ≡ pays c st)
+    at : (c : Change) (ns : List ℕ) (st : List Effect) → NotedAs s keys c N.Both → IsScoped c → HoldsEffects s keys (before c ++ ns) (reverse old) st → HoldsEffects s keys (own c ++ ns) (reverse new) (effects_after c st) × (true ≡ pays c st)
     at _ ns st (noted_both {k}) w t = (first (holds_top old mid a e t), refl)
 
 abbrev pub TwoSides : Store → Keys → ℕ → Account → Account → Bool → Account → Type 0
@@ -257,13 +257,13 @@ TwoSides s keys i a b t most = (es fs : Effect) → Held s keys (suc i) a es →
 pub branch_changes : (s : Store) (keys : Keys) (i : ℕ) (old mid rest new : List Account) (a b most : Account) (pay : Bool) → old ≡ mid ++ a ∷ [] → mid ≡ rest ++ b ∷ [] → new ≡ rest ++ most ∷ [] → TwoSides s keys i a b pay most → ChangesAll s keys (N.Case i) old pay new
 branch_changes s keys i old mid rest new a b most pay e f g sides = record { at = at }
   where
-    second : {ns : List ℕ} {es : Effect} {st : List Effect} → Held s keys (suc i) a es → HoldsEffects s keys (suc i ∷ ns) (b ∷ reverse rest) st → HoldsEffects s keys (i ∷ ns) (reverse new) (after (chosen i) (es ∷ st)) × (pay ≡ pays (chosen i) (es ∷ st))
+    second : {ns : List ℕ} {es : Effect} {st : List Effect} → Held s keys (suc i) a es → HoldsEffects s keys (suc i ∷ ns) (b ∷ reverse rest) st → HoldsEffects s keys (i ∷ ns) (reverse new) (effects_after (chosen i) (es ∷ st)) × (pay ≡ pays (chosen i) (es ∷ st))
     second {es = es} h (holds_next {es = fs} j t) = let r = sides es fs h j in (holds_push rest new most g r.0 t, r.1)
 
-    first : {ns : List ℕ} {st : List Effect} → HoldsEffects s keys (suc i ∷ (suc i ∷ ns)) (a ∷ reverse mid) st → HoldsEffects s keys (i ∷ ns) (reverse new) (after (chosen i) st) × (pay ≡ pays (chosen i) st)
+    first : {ns : List ℕ} {st : List Effect} → HoldsEffects s keys (suc i ∷ (suc i ∷ ns)) (a ∷ reverse mid) st → HoldsEffects s keys (i ∷ ns) (reverse new) (effects_after (chosen i) st) × (pay ≡ pays (chosen i) st)
     first (holds_next h t) = second h (holds_top mid rest b f t)
 
-    at : (c : Change) (ns : List ℕ) (st : List Effect) → NotedAs s keys c (N.Case i) → IsScoped c → HoldsEffects s keys (before c ++ ns) (reverse old) st → HoldsEffects s keys (own c ++ ns) (reverse new) (after c st) × (pay ≡ pays c st)
+    at : (c : Change) (ns : List ℕ) (st : List Effect) → NotedAs s keys c (N.Case i) → IsScoped c → HoldsEffects s keys (before c ++ ns) (reverse old) st → HoldsEffects s keys (own c ++ ns) (reverse new) (effects_after c st) × (pay ≡ pays c st)
     at _ ns st noted_branch w t = first (holds_top old mid a e t)
 
 -- both processes of a case are held before
@@ -306,7 +306,7 @@ if_ok (Err e) f h = tt
 pub taken_changes : (s : Store) (keys : Keys) (ids : AtomVec) (old new : Account) (b : Bool) → IsKeyed s keys → ((fs es : Effect) (k : ℕ) → TellsAll (SaysAtom s.messages) ids.items fs → HaveKeys s keys fs → Below k fs → Held s keys k old es → Held s keys k new fs × (b ≡ is_within es fs)) → ChangesOne s keys (N.Taken ids) old b new
 taken_changes s keys ids old new b kd f = record { at = at }
   where
-    at : (c : Change) (n : ℕ) (es : Effect) → NotedAs s keys c (N.Taken ids) → IsScoped c → before c ≡ n ∷ [] → Held s keys n old es → Held s keys (scope_in c) new (top (after c (es ∷ []))) × (b ≡ pays c (es ∷ []))
+    at : (c : Change) (n : ℕ) (es : Effect) → NotedAs s keys c (N.Taken ids) → IsScoped c → before c ≡ n ∷ [] → Held s keys n old es → Held s keys (scope_in c) new (top_effect (effects_after c (es ∷ []))) × (b ≡ pays c (es ∷ []))
     at _ n es (noted_taken {k} {fs} t g) w e h = f fs es k t g w (named_held old k n e h)
 
 pub no_items : {A : Type 0} (v : Vec A Global) → vec_len v ≡ 0 → v.items ≡ []

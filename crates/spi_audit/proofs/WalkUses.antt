@@ -29,7 +29,7 @@ use Rattle.spi_audit.specs.declared.asked.Premises.{Premises}
 use Rattle.spi_audit.specs.declared.asked.Premises.TheVariants.{OnePremise}
 use Rattle.spi_audit.specs.declared.walking.Fit.{Fit}
 use Rattle.spi_audit.specs.Fits.{Subject, of_message, of_process, plain, subsumed, Fits, fits_name, fits_unit, fits_unit_un, fits_pair, fits_pair_un, fits_inl, fits_inl_un, fits_inr, fits_inr_un, fits_enc, fits_enc_un, fits_hash, fits_sub}
-use Rattle.spi_audit.specs.Asked.{Located, IsBegun, Begins, AreBegun, begun_none, begun_next, AreOpen, open_message, open_processes, AnswersMessage, AnswersNode}
+use Rattle.spi_audit.specs.Asked.{Located, IsBegun, BeginsWalk, AreBegun, begun_none, begun_next, AreOpen, open_message, open_processes, AnswersMessage, AnswersNode}
 use Rattle.spi_count.specs.Keeping.{HaveKeys}
 use Rattle.spi_audit.specs.Changes.{shape_change, form_change, prefix_change}
 use Rattle.spi_audit.specs.Notes.{NotedAs, noted_taken, NotesNode}
@@ -53,7 +53,7 @@ get_first [] (suc i) x ys e = absurd (cc)
 get_first (y ∷ ss) zero x ys e = cc
 get_first (y ∷ ss) (suc i) x ys e = get_first ss i x ys e
 
-pub record NodeOf (e : Env) (p : Process) (x : Shape) : Type 0 where
+pub record NodeOfShape (e : Env) (p : Process) (x : Shape) : Type 0 where
   pub scope : scope_of x ≡ length e
   pub change : (r : Rule) → shape_change r e x ≡ form_change r e p
 
@@ -61,7 +61,7 @@ record FrontOfWalk (i : ℕ) (e : Env) (p : Process) (rest : List Shape) : Type 
   first : Shape
   others : List Shape
   are : flat i (length e) (numbered [] (length e) p) ++ rest ≡ first ∷ others
-  node : NodeOf e p first
+  node : NodeOfShape e p first
 
 fork_change : (r : Rule) (e : Env) (f : Fork) (a b : ℕ) (p q : Process) → shape_change r e (fork_at (length e) (fork_map (name_message []) 0 f) a b) ≡ form_change r e (fork f p q)
 fork_change r e Pars a b p q = refl
@@ -101,8 +101,8 @@ module _ {ss : List Shape} {i : ℕ} {e : Env} {p : Process} (l : Located ss i e
   front_there : slice_get ss i ≡ Some front.first
   front_there = get_first ss i front.first front.others (l.is ∙ front.are)
 
-  pub node_of : {x : Shape} → slice_get ss i ≡ Some x → NodeOf e p x
-  node_of g = subst (λ x. NodeOf e p x) (some_one (sym front_there ∙ g)) front.node
+  pub node_of : {x : Shape} → slice_get ss i ≡ Some x → NodeOfShape e p x
+  node_of g = subst (λ x. NodeOfShape e p x) (some_one (sym front_there ∙ g)) front.node
 
   pub located_below : i < length ss
   located_below = get_below ss i front.first front_there
@@ -145,7 +145,7 @@ good_taken (fits_sub g) = g
 pub sub_misfits : (old new : Numbered) (ks : Keys) (ss : List Shape) (fs : Effect) (i : ℕ) → ((e : Env) → Stands old e → GoodEffect [] e fs → ⊥) → FitsNode old new ks ss (subsumed fs) i None
 sub_misfits old new ks ss fs i h = record { at = λ e p s l ps f. h e s (good_taken f) }
 
-pub sub_fits : (old new : Numbered) (ks : Keys) (ss : List Shape) (fs : Effect) (i : ℕ) (ids : AtomVec) (next : Asked) → IsKept old new → TellsAll (SaysAtom new.store.messages) ids.items fs → HaveKeys new.store ks fs → ((e : Env) → Stands old e → GoodEffect [] e fs) → Begins new new i (λ e. []) next → FitsNode old new ks ss (subsumed fs) i (Some (record { premises = OnePremise next; note = N.Taken ids }))
+pub sub_fits : (old new : Numbered) (ks : Keys) (ss : List Shape) (fs : Effect) (i : ℕ) (ids : AtomVec) (next : Asked) → IsKept old new → TellsAll (SaysAtom new.store.messages) ids.items fs → HaveKeys new.store ks fs → ((e : Env) → Stands old e → GoodEffect [] e fs) → BeginsWalk new new i (λ e. []) next → FitsNode old new ks ss (subsumed fs) i (Some (record { premises = OnePremise next; note = N.Taken ids }))
 sub_fits old new ks ss fs i ids next kept told keys good b = record {
   at = λ e p s l.
       let s' = stands_kept {j = old} {k = new} kept s in

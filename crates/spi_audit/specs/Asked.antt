@@ -63,7 +63,7 @@ pub record IsBegun (s : Store) (ss : List Shape) (env : Env) (a : Asked) (e : En
     pub located : Located ss node e p
 
 -- the process at a node begins with these types more, in each environment that the judge stands for
-pub record Begins (old new : Numbered) (node : ℕ) (types : Env → Env) (a : Asked) : Type 0 where
+pub record BeginsWalk (old new : Numbered) (node : ℕ) (types : Env → Env) (a : Asked) : Type 0 where
   pub names : Binding
   pub is : a ≡ A.Process node (length old.types) names
   pub bound : (e : Env) → Stands old e → Bound new.store names (types e)
@@ -135,14 +135,14 @@ pub record AnswersNode (old new : Numbered) (u : RuleUse) (x : Shape) (r : Optio
 abbrev pub TakesUntrusted : Numbered → Numbered → Message → Ty → ℕ → Option Premises → Type 0
 TakesUntrusted old new m t body None = is_un t ≡ false
 TakesUntrusted old new m t body (Some p) =
-    (a b : Asked) × (p ≡ TwoPremises a b) × IsTypeAsked new.store a m un × Begins old new body (λ e. t ∷ []) b
+    (a b : Asked) × (p ≡ TwoPremises a b) × IsTypeAsked new.store a m un × BeginsWalk old new body (λ e. t ∷ []) b
     × (is_un t ≡ true)
 
 -- a process behind a label
 abbrev pub TakesLabel : Numbered → Numbered → Message → ℕ → Option Premises → Type 0
 TakesLabel old new m body None = (e : Env) → Stands old e → IsLabel [] e m → ⊥
 TakesLabel old new m body (Some p) =
-    (a : Asked) × (p ≡ OnePremise a) × Begins old new body (λ e. []) a
+    (a : Asked) × (p ≡ OnePremise a) × BeginsWalk old new body (λ e. []) a
     × ((e : Env) → Stands old e → IsLabel [] e m)
 
 -- these premises where the type with this number is Un, and none where it isn't
@@ -176,5 +176,5 @@ pub record IsNoKeyAt (j : Numbered) (m : Message) : Type 0 where
 abbrev pub TakesGood : Numbered → Numbered → Message → Ty → ℕ → Option Premises → Type 0
 TakesGood old new m t body None = (e : Env) → Stands old e → GoodTy [] e t → ⊥
 TakesGood old new m t body (Some p) =
-    (a b : Asked) × (p ≡ TwoPremises a b) × IsTypeAsked new.store a m un × Begins old new body (λ e. t ∷ []) b
+    (a b : Asked) × (p ≡ TwoPremises a b) × IsTypeAsked new.store a m un × BeginsWalk old new body (λ e. t ∷ []) b
     × ((e : Env) → Stands old e → GoodTy [] e t)

@@ -6,7 +6,7 @@ use Rattle.spi_term.specs.View as View
 use Rattle.spi_rules.specs.Environment.{Env, untrusted}
 use Rattle.spi_rules.specs.Derivations.{RuleUse, Proves}
 use Rattle.spi_audit.specs.Fits.{Subject, of_process, Fits}
-use Rattle.spi_audit.specs.Paying.{Gives, Pays}
+use Rattle.spi_audit.specs.Paying.{GivesEffects, PaysByUse}
 use Rattle.spi_audit.specs.declared.audited.Audited.{Audited}
 use Rattle.spi_audit.specs.declared.audited.Audited.TheVariants.{Proved, WrongStep, Unpaid}
 
@@ -24,20 +24,20 @@ pub data Judged : List Subject → List RuleUse → List Effect → Type 0 where
   judged_none : Judged [] [] []
   judged_use : {u : RuleUse} {s : Subject} {ps ss : List Subject} {us : List RuleUse} {es fs : List Effect}
       {e : Effect}
-      → Fits u s ps → Judged (ps ++ ss) us (es ++ fs) → length es ≡ length ps → Gives u s es e
+      → Fits u s ps → Judged (ps ++ ss) us (es ++ fs) → length es ≡ length ps → GivesEffects u s es e
       → Judged (s ∷ ss) (u ∷ us) (e ∷ fs)
 
 -- each use pays
 abbrev pub AllPay : {ss : List Subject} {us : List RuleUse} {es : List Effect} → Judged ss us es → Type 0
 AllPay judged_none = ⊤
-AllPay (judged_use {u} {s} {es = es} f j l g) = Pays u s es × AllPay j
+AllPay (judged_use {u} {s} {es = es} f j l g) = PaysByUse u s es × AllPay j
 
 -- use number i is the first in preorder that doesn't pay
 abbrev pub FirstUnpaid : {ss : List Subject} {us : List RuleUse} {es : List Effect} → Judged ss us es → ℕ
     → Type 0
 FirstUnpaid judged_none i = ⊥
-FirstUnpaid (judged_use {u} {s} {es = es} f j l g) zero = Pays u s es → ⊥
-FirstUnpaid (judged_use {u} {s} {es = es} f j l g) (suc i) = Pays u s es × FirstUnpaid j i
+FirstUnpaid (judged_use {u} {s} {es = es} f j l g) zero = PaysByUse u s es → ⊥
+FirstUnpaid (judged_use {u} {s} {es = es} f j l g) (suc i) = PaysByUse u s es × FirstUnpaid j i
 
 -- use number i is wrong: it is the first that doesn't fit, or where all fit the first that doesn't pay
 abbrev pub IsWrongAt : Env → Process → List RuleUse → ℕ → Type 0

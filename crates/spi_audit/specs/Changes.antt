@@ -72,63 +72,63 @@ change_of u (of_message e m t) = nothing_done
 change_of u (of_process e p) = use_change u.taken u.rule e p
 
 -- the first effect, the others
-abbrev pub top : List Effect → Effect
-top [] = []
-top (e ∷ st) = e
+abbrev pub top_effect : List Effect → Effect
+top_effect [] = []
+top_effect (e ∷ st) = e
 
 abbrev pub below_top : List Effect → List Effect
 below_top [] = []
 below_top (e ∷ st) = st
 
 abbrev pub on_top : (Effect → Effect) → List Effect → List Effect
-on_top f st = f (top st) ∷ below_top st
+on_top f st = f (top_effect st) ∷ below_top st
 
-abbrev pub on_two : (Effect → Effect → Effect) → List Effect → List Effect
-on_two f st = f (top st) (top (below_top st)) ∷ below_top (below_top st)
+abbrev pub on_two_effects : (Effect → Effect → Effect) → List Effect → List Effect
+on_two_effects f st = f (top_effect st) (top_effect (below_top st)) ∷ below_top (below_top st)
 
 -- the effects of the open processes before a use, from those behind it
-abbrev pub after : Change → List Effect → List Effect
-after nothing_done st = st
-after (no_effect k) st = [] ∷ st
-after (same_effect k) st = st
-after (one_left k) st = st
-after (two_left k) st = st
-after (served k) st = st
-after (chosen k) st = on_two greater st
-after (checked k m fs) st = on_top (λ es. minus es fs ++ checks m ∷ []) st
-after (begun k m) st = on_top (λ es. minus es (ends m ∷ (many m ∷ []))) st
-after (ended k m) st = on_top (λ es. es ++ ends m ∷ []) st
-after (ended_many k m) st = on_top (λ es. es ++ many m ∷ []) st
-after (casted k fs) st = on_top (λ es. es ++ fs) st
-after (made k) st = on_top (λ es. minus es (checks (name k) ∷ [])) st
-after (summed k) st = on_two (λ es fs. es ++ fs) st
-after (subsumed_to k fs) st = on_top (λ es. fs) st
+abbrev pub effects_after : Change → List Effect → List Effect
+effects_after nothing_done st = st
+effects_after (no_effect k) st = [] ∷ st
+effects_after (same_effect k) st = st
+effects_after (one_left k) st = st
+effects_after (two_left k) st = st
+effects_after (served k) st = st
+effects_after (chosen k) st = on_two_effects greater st
+effects_after (checked k m fs) st = on_top (λ es. minus es fs ++ checks m ∷ []) st
+effects_after (begun k m) st = on_top (λ es. minus es (ends m ∷ (many m ∷ []))) st
+effects_after (ended k m) st = on_top (λ es. es ++ ends m ∷ []) st
+effects_after (ended_many k m) st = on_top (λ es. es ++ many m ∷ []) st
+effects_after (casted k fs) st = on_top (λ es. es ++ fs) st
+effects_after (made k) st = on_top (λ es. minus es (checks (name k) ∷ [])) st
+effects_after (summed k) st = on_two_effects (λ es fs. es ++ fs) st
+effects_after (subsumed_to k fs) st = on_top (λ es. fs) st
 
 abbrev pub pays : Change → List Effect → Bool
 pays nothing_done st = true
 pays (no_effect k) st = true
 pays (same_effect k) st = true
-pays (one_left k) st = not (mentions k (top st))
-pays (two_left k) st = not (mentions k (top st) || mentions (suc k) (top st))
-pays (served k) st = are_many (top st) && not (mentions k (top st))
-pays (chosen k) st = not (mentions k (top st)) && not (mentions k (top (below_top st)))
+pays (one_left k) st = not (mentions k (top_effect st))
+pays (two_left k) st = not (mentions k (top_effect st) || mentions (suc k) (top_effect st))
+pays (served k) st = are_many (top_effect st) && not (mentions k (top_effect st))
+pays (chosen k) st = not (mentions k (top_effect st)) && not (mentions k (top_effect (below_top st)))
 pays (checked k m fs) st = true
 pays (begun k m) st = true
 pays (ended k m) st = true
 pays (ended_many k m) st = true
-pays (casted k fs) st = not (mentions k (top st))
-pays (made k) st = not (mentions k (minus (top st) (checks (name k) ∷ [])))
+pays (casted k fs) st = not (mentions k (top_effect st))
+pays (made k) st = not (mentions k (minus (top_effect st) (checks (name k) ∷ [])))
 pays (summed k) st = true
-pays (subsumed_to k fs) st = is_within (top st) fs
+pays (subsumed_to k fs) st = is_within (top_effect st) fs
 
-abbrev pub run : List Change → List Effect
-run [] = []
-run (c ∷ cs) = after c (run cs)
+abbrev pub run_changes : List Change → List Effect
+run_changes [] = []
+run_changes (c ∷ cs) = effects_after c (run_changes cs)
 
 -- the first from number i on that doesn't pay
-abbrev pub first_unpaid : ℕ → List Change → Option ℕ
-first_unpaid i [] = None
-first_unpaid i (c ∷ cs) = if pays c (run cs) then first_unpaid (suc i) cs else Some i
+abbrev pub first_unpaid_change : ℕ → List Change → Option ℕ
+first_unpaid_change i [] = None
+first_unpaid_change i (c ∷ cs) = if pays c (run_changes cs) then first_unpaid_change (suc i) cs else Some i
 
 -- how many names are in scope at the processes that a change takes the effects of, and at its own
 abbrev pub before : Change → List ℕ

@@ -22,7 +22,7 @@ use Rattle.spi_audit.specs.declared.notes.Note.{Note}
 use Rattle.spi_audit.specs.declared.notes.Note.TheVariants as N
 use Rattle.spi_count.specs.Keeping.{with_keys, HasKey, HaveKeys, IsKeyed, AreKept}
 use Rattle.spi_audit.specs.Accounts.{Held, HoldsEffects}
-use Rattle.spi_audit.specs.Changes.{Change, nothing_done, no_effect, same_effect, one_left, two_left, served, chosen, checked, begun, ended, ended_many, casted, made, summed, subsumed_to, shape_change, top, after, pays, before, own, scope_in, IsScoped, AreScoped}
+use Rattle.spi_audit.specs.Changes.{Change, nothing_done, no_effect, same_effect, one_left, two_left, served, chosen, checked, begun, ended, ended_many, casted, made, summed, subsumed_to, shape_change, top_effect, effects_after, pays, before, own, scope_in, IsScoped, AreScoped}
 
 -- what is kept of a use stands for what it does
 pub data NotedAs (s : Store) (keys : Keys) : Change → Note → Type 0 where
@@ -69,14 +69,14 @@ pub record ChangesOne (s : Store) (keys : Keys) (o : Note) (old : Account) (b : 
   where
     pub at : (c : Change) (n : ℕ) (es : Effect) → NotedAs s keys c o → IsScoped c → before c ≡ n ∷ []
         → Held s keys n old es
-        → Held s keys (scope_in c) new (top (after c (es ∷ []))) × (b ≡ pays c (es ∷ []))
+        → Held s keys (scope_in c) new (top_effect (effects_after c (es ∷ []))) × (b ≡ pays c (es ∷ []))
 
 -- what a change does to the accounts of the open processes: the stack grows at its end
 pub record ChangesAll (s : Store) (keys : Keys) (o : Note) (old : List Account) (b : Bool)
     (new : List Account) : Type 0 where
   pub at : (c : Change) (ns : List ℕ) (st : List Effect) → NotedAs s keys c o → IsScoped c
       → HoldsEffects s keys (before c ++ ns) (reverse old) st
-      → HoldsEffects s keys (own c ++ ns) (reverse new) (after c st) × (b ≡ pays c st)
+      → HoldsEffects s keys (own c ++ ns) (reverse new) (effects_after c st) × (b ≡ pays c st)
 
 -- a change that is to be made, with what stands behind it
 pub record IsBeforeChange (s : Store) (keys : Keys) (o : Note) (old : List Account) : Type 0 where

@@ -6,7 +6,7 @@ ghost use Rattle.spi_intern.specs.declared.store.Store.{Store};
 ghost use Rattle.spi_count.specs.declared.keys.Keys.{Keys};
 ghost use Rattle.spi_count.specs.Keeping.{IsKeyed};
 ghost use Rattle.spi_audit.specs.Accounts.{Held, IsHeld};
-ghost use Rattle.spi_audit.specs.Changes.{Change, run, first_unpaid, AreScoped, top};
+ghost use Rattle.spi_audit.specs.Changes.{Change, run_changes, first_unpaid_change, AreScoped, top_effect};
 ghost use Rattle.spi_audit.specs.Notes.{AreNoted, ChangesOne, ChangesAll, IsBeforeChange, IsBeforeOne, IsSmallNote, IsUnaryNote, AreSmallNotes, IsRooted};
 
 use crate::NoMemory;
@@ -259,10 +259,10 @@ pub fn account(
     requires noted { IsRooted store.now keys.now notes.items }
     ensures effect { IfOk result
         (λ r. (cs : List Change) (n : ℕ) → AreNoted store.now keys.now cs notes.items → AreScoped (n ∷ []) cs
-        → Held store.now keys.now n r.0 (top (run cs))) }
+        → Held store.now keys.now n r.0 (top_effect (run_changes cs))) }
     ensures unpaid { IfOk result
         (λ r. (cs : List Change) (n : ℕ) → AreNoted store.now keys.now cs notes.items → AreScoped (n ∷ []) cs
-        → r.1 ≡ first_unpaid 0 cs) }
+        → r.1 ≡ first_unpaid_change 0 cs) }
 {
     // The count is asked for what its answer says: nothing has two numbers.
     let _ = store.distinct();

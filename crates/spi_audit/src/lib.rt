@@ -9,7 +9,7 @@ ghost use Rattle.spi_audit.specs.Accounts.{IsHeld, Held};
 ghost use Rattle.spi_audit.specs.Changes.{Change, AreScoped};
 ghost use Rattle.spi_count.specs.Sums.{Below};
 ghost use Rattle.spi_audit.specs.Notes.{AreNoted, AreSmallNotes, IsRooted};
-ghost use Rattle.spi_audit.specs.Settled.{IsLeft, IsSettled};
+ghost use Rattle.spi_audit.specs.Settled.{IsLeftOver, IsSettled};
 
 mod accounts;
 mod asked;
@@ -43,7 +43,7 @@ pub type NoMemory = AllocError;
 fn left(alloc: Global, store: &Store, keys: &Keys, root: Account) -> Result<Audited, NoMemory>
     requires { IsHeld store.now keys.now root }
     ensures { IfOk result
-        (λ r. (es : Term.Effect) (n : ℕ) → Held store.now keys.now n root es → Below n es → IsLeft es r) }
+        (λ r. (es : Term.Effect) (n : ℕ) → Held store.now keys.now n root es → Below n es → IsLeftOver es r) }
 {
     let effect = effect_of_sum(alloc, store, keys, root.into_sum())?;
     if effect.atoms.is_empty() {

@@ -5,7 +5,7 @@ ghost use Rattle.spi_term.specs.Term as Term;
 ghost use Rattle.spi_term.specs.Substitution.{ty_put};
 ghost use Rattle.spi_term.specs.View.{message, ty as type_of};
 ghost use Rattle.spi_message.specs.Judging.{IsKept};
-ghost use Rattle.spi_audit.specs.Asked.{IsTypeAsked, Begins};
+ghost use Rattle.spi_audit.specs.Asked.{IsTypeAsked, BeginsWalk};
 
 use crate::NoMemory;
 use crate::asked::{Asked, Binding};
@@ -34,14 +34,14 @@ pub fn asked_untrusted(alloc: Global, judge: &mut Judge, m: &Msg) -> Result<Aske
 
 /// The process that begins at `body`, with no name more.
 pub fn begun(judge: &Judge, body: u32) -> Asked
-    ensures { Begins judge.now judge.now body (λ e. []) result }
+    ensures { BeginsWalk judge.now judge.now body (λ e. []) result }
 {
     Asked::Process(body, judge.len(), Binding::Nothing)
 }
 
 /// The process that begins at `body`, with one name of this type more.
 pub fn begun_one(alloc: Global, judge: &mut Judge, t: &Ty, body: u32) -> Result<Asked, NoMemory>
-    ensures begins { IfOk result (Begins judge.old judge.new body (λ e. type_of t.now ∷ [])) }
+    ensures begins { IfOk result (BeginsWalk judge.old judge.new body (λ e. type_of t.now ∷ [])) }
     ensures kept { IsKept judge.old judge.new }
 {
     let scope = judge.len();
@@ -59,7 +59,7 @@ pub fn begun_opened(
     body: u32,
 ) -> Result<Asked, NoMemory>
     ensures begins { IfOk result
-        (Begins judge.old judge.new body (λ e. ty_put (message value.now) (type_of t.now) ∷ [])) }
+        (BeginsWalk judge.old judge.new body (λ e. ty_put (message value.now) (type_of t.now) ∷ [])) }
     ensures kept { IsKept judge.old judge.new }
 {
     let scope = judge.len();
@@ -80,7 +80,7 @@ pub fn begun_two(
     body: u32,
 ) -> Result<Asked, NoMemory>
     ensures begins { IfOk result
-        (Begins judge.old judge.new body
+        (BeginsWalk judge.old judge.new body
         (λ e. type_of first.now ∷ (ty_put (name (length e)) (type_of second.now) ∷ []))) }
     ensures kept { IsKept judge.old judge.new }
 {

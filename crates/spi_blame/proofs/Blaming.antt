@@ -167,9 +167,9 @@ blamed_unique {env} {r = s} {s = z} (inside {r = r} {qs = qs} {i = i} {path = p}
     (cc, y)
 
 -- one of them
-pub data Answer (env : Env) (q : Question) : Type 0 where
-  yes : AnswersYes env q → Answer env q
-  no : {path : List ℕ} {r : Question} → Blamed env q path r → Answer env q
+pub data BlameAnswer (env : Env) (q : Question) : Type 0 where
+  yes : AnswersYes env q → BlameAnswer env q
+  no : {path : List ℕ} {r : Question} → Blamed env q path r → BlameAnswer env q
 
 pub before_second : (env : Env) (a b : Question) → AnswersYes env a → HoldBefore env (a ∷ b ∷ []) 1
 before_second env a b h j r lt at = go at lt
@@ -178,14 +178,14 @@ before_second env a b h j r lt at = go at lt
     go at_first lt = h
     go (at_later i) lt = absurd (omega arith)
 
-none : {env : Env} {q : Question} → Asks env q [] → Answer env q
+none : {env : Env} {q : Question} → Asks env q [] → BlameAnswer env q
 none k = yes (asks_holds k (each_none _))
 
-one : {env : Env} {q a : Question} → Asks env q (a ∷ []) → Answer env a → Answer env q
+one : {env : Env} {q a : Question} → Asks env q (a ∷ []) → BlameAnswer env a → BlameAnswer env q
 one {a = a} k (yes h) = yes (asks_holds k (each_more _ a h (each_none _)))
 one k (no b) = no (inside k at_first (λ j r lt a. absurd (omega arith)) b)
 
-two : {env : Env} {q a b : Question} → Asks env q (a ∷ b ∷ []) → Answer env a → Answer env b → Answer env q
+two : {env : Env} {q a b : Question} → Asks env q (a ∷ b ∷ []) → BlameAnswer env a → BlameAnswer env b → BlameAnswer env q
 two {a = a} {b} k (yes h) (yes j) = yes (asks_holds k (each_more _ a h (each_more _ b j (each_none _))))
 two {env} {a = a} {b = b} k (yes h) (no d) = no (inside k (at_later at_first) (before_second env a b h) d)
 two k (no b) _ = no (inside k at_first (λ j r lt a. absurd (omega arith)) b)
@@ -208,16 +208,16 @@ same_or s t = by (same_ty s t) refl
     by true e = inl (same_sound s t e)
     by false e = inr (λ q. false≢true (let f : same_ty s t ≡ true = same_complete q in cc))
 
-abbrev Keyed : Env → Message → Type 0
-Keyed env n = IsKeyName env n ⊎ (IsKeyName env n → ⊥)
+abbrev HasTypedKey : Env → Message → Type 0
+HasTypedKey env n = IsKeyName env n ⊎ (IsKeyName env n → ⊥)
 
-key_or : (env : Env) (n : Message) → Keyed env n
+key_or : (env : Env) (n : Message) → HasTypedKey env n
 key_or env (name x) = ⊎_elim (λ h. of h.0 h.1) (λ n. inr (λ k. let e : x ≡ k.number = cc (k.is) in n (key k.payload) (subst (λ y. At env y (key k.payload)) (sym e) k.has))) (look env x)
   where
-    other : {s : Ty} → At env x s → ((t : Ty) → key t ≡ s → ⊥) → Keyed env (name x)
+    other : {s : Ty} → At env x s → ((t : Ty) → key t ≡ s → ⊥) → HasTypedKey env (name x)
     other {s} a f = inr (λ k. let e : k.number ≡ x = cc (k.is) in f k.payload (at_unique (subst (λ y. At env y (key k.payload)) e k.has) a))
 
-    of : (s : Ty) → At env x s → Keyed env (name x)
+    of : (s : Ty) → At env x s → HasTypedKey env (name x)
     of (key t) a = inl (key_named a)
     of un a = other a (λ t e. absurd (cc (e)))
     of unit_ty a = other a (λ t e. absurd (cc (e)))
@@ -233,7 +233,7 @@ typed_key {env} {m} k = subst (λ n. Asks env (typed (enc m n) un) (typed (name 
 label_key : {env : Env} {m n : Message} (k : IsKeyName env n) → Asks env (labelled (enc m n)) (typed (name k.number) (key k.payload) ∷ typed m (k.payload) ∷ [])
 label_key {env} {m} k = subst (λ n. Asks env (labelled (enc m n)) (typed (name k.number) (key k.payload) ∷ typed m (k.payload) ∷ [])) (sym k.is) (asks_label_key k.has)
 
-name_answer : (env : Env) (x : ℕ) (t : Ty) → Answer env (typed (name x) t)
+name_answer : (env : Env) (x : ℕ) (t : Ty) → BlameAnswer env (typed (name x) t)
 name_answer env x t = ⊎_elim (λ h. ⊎_elim (λ s. none (asks_name h.1 s)) (λ n. no (itself (λ qs k. other h.1 n k))) (same_or h.0 t)) (λ n. no (itself (λ qs k. unknown n k))) (look env x)
   where
     other : {s : Ty} {qs : List Question} → At env x s → (SameTy s t → ⊥) → Asks env (typed (name x) t) qs → ⊥
@@ -242,7 +242,7 @@ name_answer env x t = ⊎_elim (λ h. ⊎_elim (λ s. none (asks_name h.1 s)) (�
     unknown : {qs : List Question} → ((s : Ty) → At env x s → ⊥) → Asks env (typed (name x) t) qs → ⊥
     unknown n (asks_name b q) = n _ b
 
-label_answer : (env : Env) (x : ℕ) → Answer env (labelled (name x))
+label_answer : (env : Env) (x : ℕ) → BlameAnswer env (labelled (name x))
 label_answer env x = ⊎_elim (λ h. none (asks_label_name h.1)) (λ n. no (itself (λ qs k. unknown n k))) (look env x)
   where
     unknown : {qs : List Question} → ((s : Ty) → At env x s → ⊥) → Asks env (labelled (name x)) qs → ⊥
@@ -254,7 +254,7 @@ asks_fits (asks_name a s) = tt
 asks_fits _ = tt
 
 mutual
-  pub answer_typed : (env : Env) (m : Message) (t : Ty) → Answer env (typed m t)
+  pub answer_typed : (env : Env) (m : Message) (t : Ty) → BlameAnswer env (typed m t)
   answer_typed env (name x) t = name_answer env x t
   answer_typed env (bound i) t = no (itself (λ qs k. elim k [ ]))
   answer_typed env unit un = none asks_unit_un
@@ -269,7 +269,7 @@ mutual
   answer_typed env (hash m) un = one asks_hash (answer_label env m)
   answer_typed env _ _ = no (itself (λ qs k. asks_fits k))
 
-  pub answer_label : (env : Env) (m : Message) → Answer env (labelled m)
+  pub answer_label : (env : Env) (m : Message) → BlameAnswer env (labelled m)
   answer_label env (name x) = label_answer env x
   answer_label env (bound i) = no (itself (λ qs k. elim k [ ]))
   answer_label env unit = none asks_label_unit
@@ -279,7 +279,7 @@ mutual
   answer_label env (enc m n) = ⊎_elim (λ k. two (label_key k) (yes (key_typed k.has)) (answer_typed env m k.payload)) (λ f. two (asks_label_enc f) (answer_typed env n un) (answer_typed env m un)) (key_or env n)
   answer_label env (hash m) = one asks_label_hash (answer_label env m)
 
-pub answer : (env : Env) (q : Question) → Answer env q
+pub answer : (env : Env) (q : Question) → BlameAnswer env q
 answer env (typed m t) = answer_typed env m t
 answer env (labelled m) = answer_label env m
 
@@ -352,14 +352,14 @@ reached_part reaches_itself = part_whole
 reached_part (reaches_inside k a d) = part_inside (child_asked k a) (reached_part d)
 
 -- why no row is for a question
-pub data Row (env : Env) (q : Question) : Type 0 where
-  some_row : {qs : List Question} → Asks env q qs → Row env q
-  no_row : Reason env q → Row env q
+pub data BlameRow (env : Env) (q : Question) : Type 0 where
+  some_row : {qs : List Question} → Asks env q qs → BlameRow env q
+  no_row : Reason env q → BlameRow env q
 
-name_row : (env : Env) (x : ℕ) (t : Ty) → Row env (typed (name x) t)
+name_row : (env : Env) (x : ℕ) (t : Ty) → BlameRow env (typed (name x) t)
 name_row env x t = ⊎_elim (λ h. ⊎_elim (λ s. some_row (asks_name h.1 s)) (λ n. no_row (mismatched (has_other h.1 n))) (same_or h.0 t)) (λ n. no_row (unscoped (unknown n))) (look env x)
 
-typed_row : (env : Env) (m : Message) (t : Ty) → Row env (typed m t)
+typed_row : (env : Env) (m : Message) (t : Ty) → BlameRow env (typed m t)
 typed_row env (name x) t = name_row env x t
 typed_row env (bound i) t = no_row (unscoped loose)
 typed_row env unit un = some_row asks_unit_un
@@ -374,7 +374,7 @@ typed_row env (enc m n) un = ⊎_elim (λ k. some_row (typed_key k)) (λ f. some
 typed_row env (hash m) un = some_row asks_hash
 typed_row env _ _ = no_row (mismatched (never_has (λ f. f)))
 
-label_row : (env : Env) (m : Message) → Row env (labelled m)
+label_row : (env : Env) (m : Message) → BlameRow env (labelled m)
 label_row env (name x) = ⊎_elim (λ h. some_row (asks_label_name h.1)) (λ n. no_row (unscoped (unknown n))) (look env x)
 label_row env (bound i) = no_row (unscoped loose)
 label_row env unit = some_row asks_label_unit
@@ -384,7 +384,7 @@ label_row env (in_right m) = some_row asks_label_right
 label_row env (enc m n) = ⊎_elim (λ k. some_row (label_key k)) (λ f. some_row (asks_label_enc f)) (key_or env n)
 label_row env (hash m) = some_row asks_label_hash
 
-row : (env : Env) (q : Question) → Row env q
+row : (env : Env) (q : Question) → BlameRow env q
 row env (typed m t) = typed_row env m t
 row env (labelled m) = label_row env m
 

@@ -10,7 +10,7 @@ use Rattle.spi_term.specs.SameTy.{SameTy}
 use Rattle.spi_rules.specs.Messages.{HasType, msg_name, msg_cast, IsLabel}
 use Rattle.spi_term.specs.Substitution.{ty_put}
 use Rattle.spi_blame.specs.Blaming.{Question, typed, labelled, AnswersYes, IsKeyName, Asks, asks_name, asks_label_name, asks_key, asks_label_key, asks_enc, asks_label_enc, IsMisfit, Blamed, itself, inside}
-use Rattle.spi_blame.specs.Told.{asked, TellsBlame, IsKeyFor, AsksSealed}
+use Rattle.spi_blame.specs.Told.{question_of, TellsBlame, IsKeyOfMessage, AsksSealed}
 use Rattle.spi_blame.proofs.Blaming.{asks_holds, each_none, each_more, before_second, key_typed}
 use Rattle.spi_blame.specs.declared.blame.Blame.{Blame}
 
@@ -20,15 +20,15 @@ told_itself {env} {q} {r} {path} n e f = subst (λ p. Blamed env q p r) (sym e) 
 moved : {env : Env} {q r s : Question} {p o : List ℕ} → Blamed env q p r → o ≡ p → s ≡ r → Blamed env q o s
 moved {env} {q} {r} {s} {p} {o} b e f = subst (λ v. Blamed env q o v) (sym f) (subst (λ l. Blamed env q l r) (sym e) b)
 
-pub first_told : {env : Env} {q a : Question} {qs : List Question} {o : Option Blame} {b : Blame} (d : Blame) → Asks env q (a ∷ qs) → TellsBlame env a o → o ≡ Some b → reverse d.steps.items ≡ 0 ∷ reverse b.steps.items → d.part ≡ b.part → d.wanted ≡ b.wanted → Blamed env q (reverse d.steps.items) (asked d.part d.wanted)
+pub first_told : {env : Env} {q a : Question} {qs : List Question} {o : Option Blame} {b : Blame} (d : Blame) → Asks env q (a ∷ qs) → TellsBlame env a o → o ≡ Some b → reverse d.steps.items ≡ 0 ∷ reverse b.steps.items → d.part ≡ b.part → d.wanted ≡ b.wanted → Blamed env q (reverse d.steps.items) (question_of d.part d.wanted)
 first_told {env} {q} {a} {o = o} {b = b} d k t is e f g =
-    let h : Blamed env a (reverse b.steps.items) (asked b.part b.wanted) = subst (λ v. TellsBlame env a v) is t in
+    let h : Blamed env a (reverse b.steps.items) (question_of b.part b.wanted) = subst (λ v. TellsBlame env a v) is t in
     moved (inside k at_first (λ j r lt a. absurd (omega arith)) h) e cc
 
-pub second_told : {env : Env} {q a b : Question} {o u : Option Blame} {x : Blame} (d : Blame) → Asks env q (a ∷ b ∷ []) → TellsBlame env a o → TellsBlame env b u → o ≡ None → u ≡ Some x → reverse d.steps.items ≡ 1 ∷ reverse x.steps.items → d.part ≡ x.part → d.wanted ≡ x.wanted → Blamed env q (reverse d.steps.items) (asked d.part d.wanted)
+pub second_told : {env : Env} {q a b : Question} {o u : Option Blame} {x : Blame} (d : Blame) → Asks env q (a ∷ b ∷ []) → TellsBlame env a o → TellsBlame env b u → o ≡ None → u ≡ Some x → reverse d.steps.items ≡ 1 ∷ reverse x.steps.items → d.part ≡ x.part → d.wanted ≡ x.wanted → Blamed env q (reverse d.steps.items) (question_of d.part d.wanted)
 second_told {env} {q} {a} {b} {o} {u} {x} d k t v is is' e f g =
     let h : AnswersYes env a = subst (λ v. TellsBlame env a v) is t in
-    let j : Blamed env b (reverse x.steps.items) (asked x.part x.wanted) = subst (λ v. TellsBlame env b v) is' v in
+    let j : Blamed env b (reverse x.steps.items) (question_of x.part x.wanted) = subst (λ v. TellsBlame env b v) is' v in
     moved (inside k (at_later at_first) (before_second env a b h) j) e cc
 
 pub one_told : {env : Env} {q a : Question} {o : Option Blame} → Asks env q (a ∷ []) → TellsBlame env a o → o ≡ None → AnswersYes env q
@@ -40,7 +40,7 @@ two_told {env} {q} {a} {b} k t v is is' =
     let j : AnswersYes env b = subst (λ v. TellsBlame env b v) is' v in
     asks_holds k (each_more _ a h (each_more _ b j (each_none _)))
 
-pub keyed : {env : Env} {x : ℕ} {s u : Ty} → slice_get env x ≡ Some s → s ≡ key u → IsKeyFor env (name x) u
+pub keyed : {env : Env} {x : ℕ} {s u : Ty} → slice_get env x ≡ Some s → s ≡ key u → IsKeyOfMessage env (name x) u
 keyed {env} {x} e f = (x, refl, get_at env x (cc (e, f)))
 
 pub keyed_other : {env : Env} {x : ℕ} {s : Ty} → slice_get env x ≡ Some s → ((u : Ty) → s ≡ key u → ⊥) → IsKeyName env (name x) → ⊥
@@ -53,11 +53,11 @@ keyed_beyond {env} {x} l k =
     let f : k.number ≡ x = cc (k.is) in
     let h : k.number < length env = at_below k.has in absurd (omega arith)
 
-pub asks_for : {env : Env} {m n : Message} {t : Ty} → IsKeyFor env n t → Asks env (typed (enc m n) un) (typed n (key t) ∷ typed m t ∷ [])
+pub asks_for : {env : Env} {m n : Message} {t : Ty} → IsKeyOfMessage env n t → Asks env (typed (enc m n) un) (typed n (key t) ∷ typed m t ∷ [])
 asks_for {env} {m} {n} {t} k = subst (λ n. Asks env (typed (enc m n) un) (typed n (key t) ∷ typed m t ∷ [])) (sym k.1) (asks_key k.2)
 
 -- the key of such a name holds
-pub key_holds : {env : Env} {n : Message} {t : Ty} → IsKeyFor env n t → AnswersYes env (typed n (key t))
+pub key_holds : {env : Env} {n : Message} {t : Ty} → IsKeyOfMessage env n t → AnswersYes env (typed n (key t))
 key_holds {env} {n} {t} k = subst (λ n. HasType [] env n (key t)) (sym k.1) (key_typed k.2)
 
 pub weaker : {E : Type 0} (r : Result (Option Blame) E) {P Q : Option Blame → Type 0} → ((o : Option Blame) → P o → Q o) → IfOk r P → IfOk r Q
@@ -128,8 +128,8 @@ pub no_key_at : {env : Env} {m n : Message} → m ≡ n → (IsKeyName env m →
 no_key_at {env} e h = subst (λ v. IsKeyName env v → ⊥) e h
 
 -- what a type's own payload says of the name that has the type
-pub some_payload : {X : Type 0} (view : X → Ty) (r : Option X) (env : Env) (m : Message) (x : ℕ) (s : Ty) → m ≡ name x → slice_get env x ≡ Some s → IfSome r (λ u. s ≡ key (view u)) → IfSome r (λ u. IsKeyFor env m (view u))
-some_payload view (Some u) env m x s e f h = subst (λ v. IsKeyFor env v (view u)) (sym e) (keyed f h)
+pub some_payload : {X : Type 0} (view : X → Ty) (r : Option X) (env : Env) (m : Message) (x : ℕ) (s : Ty) → m ≡ name x → slice_get env x ≡ Some s → IfSome r (λ u. s ≡ key (view u)) → IfSome r (λ u. IsKeyOfMessage env m (view u))
+some_payload view (Some u) env m x s e f h = subst (λ v. IsKeyOfMessage env v (view u)) (sym e) (keyed f h)
 some_payload view None env m x s e f h = h
 
 pub no_payload : {X : Type 0} (r : Option X) (env : Env) (m : Message) (x : ℕ) (s : Ty) → m ≡ name x → slice_get env x ≡ Some s → IfNone r ((u : Ty) → s ≡ key u → ⊥) → IfNone r (IsKeyName env m → ⊥)

@@ -11,18 +11,18 @@ use Rattle.spi_term.specs.declared.term.Msg.{Msg}
 use Rattle.spi_term.specs.declared.term.Ty.{Ty}
 
 -- what is asked of a part: a type, or to be a label
-abbrev pub asked : Msg → Option Ty → Question
-asked m None = labelled (message m)
-asked m (Some t) = typed (message m) (ty t)
+abbrev pub question_of : Msg → Option Ty → Question
+question_of m None = labelled (message m)
+question_of m (Some t) = typed (message m) (ty t)
 
 -- nothing where the question holds, and else what is to blame
 abbrev pub TellsBlame : Env → Question → Option Blame → Type 0
 TellsBlame env q None = AnswersYes env q
-TellsBlame env q (Some b) = Blamed env q (reverse b.steps.items) (asked b.part b.wanted)
+TellsBlame env q (Some b) = Blamed env q (reverse b.steps.items) (question_of b.part b.wanted)
 
 -- the message is a name of type Key(t)
-abbrev pub IsKeyFor : Env → Message → Term.Ty → Type 0
-IsKeyFor env m t = (x : ℕ) × (m ≡ name x) × At env x (key t)
+abbrev pub IsKeyOfMessage : Env → Message → Term.Ty → Type 0
+IsKeyOfMessage env m t = (x : ℕ) × (m ≡ name x) × At env x (key t)
 
 -- q asks all that {m}n asks where it is to be Un
 abbrev pub AsksSealed : Env → Question → Message → Message → Type 0

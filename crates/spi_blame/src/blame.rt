@@ -6,7 +6,7 @@ ghost use Rattle.spi_term.specs.View.{message, ty};
 ghost use Rattle.spi_rules.specs.Environment.{Env as Names};
 ghost use Rattle.spi_rules.specs.Messages.{HasType};
 ghost use Rattle.spi_blame.specs.Blaming.{Question, typed, labelled, Asks, IsMisfit, IsKeyName, AnswersYes};
-ghost use Rattle.spi_blame.specs.Told.{TellsBlame, IsKeyFor, AsksSealed};
+ghost use Rattle.spi_blame.specs.Told.{TellsBlame, IsKeyOfMessage, AsksSealed};
 
 use crate::NoMemory;
 use spi_rules::Env;
@@ -105,7 +105,7 @@ fn payload_of(t: &Ty) -> Option<&Ty>
 
 // The T, where the message is a name of type Key(T).
 fn payload<'a>(env: &'a Env, m: &Msg) -> Option<&'a Ty>
-    ensures some { IfSome result (λ t. IsKeyFor env.now (message m.now) (ty t.now)) }
+    ensures some { IfSome result (λ t. IsKeyOfMessage env.now (message m.now) (ty t.now)) }
     ensures none { IfNone result (IsKeyName env.now (message m.now) → ⊥) }
 {
     match m {

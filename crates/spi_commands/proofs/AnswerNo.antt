@@ -18,28 +18,28 @@ use Rattle.spi_commands.specs.Reading.{IsRead}
 use Rattle.spi_commands.proofs.FilePlaces.{place_within}
 
 -- what the file tells of places and names is what its tree has
-abbrev pub place_of : Marked → ℕ → Span
-place_of m i = place_in m.process i
+abbrev pub place_told : Marked → ℕ → Span
+place_told m i = place_in m.process i
 
-abbrev pub names_of : Marked → ℕ → List (List ℕ)
-names_of m i = reverse (chain_at m.scopes i)
+abbrev pub names_told : Marked → ℕ → List (List ℕ)
+names_told m i = reverse (chain_at m.scopes i)
 
-pub stands_within : (bytes : List ℕ) (f : File) (i : ℕ) → IsRead bytes f → (place_of (marked f) i).from ≤ length bytes
-stands_within bytes f i (tree, is, stands, marks) = subst (λ m. (place_of m i).from ≤ length bytes) (sym marks) (place_within bytes tree is i)
+pub stands_within : (bytes : List ℕ) (f : File) (i : ℕ) → IsRead bytes f → (place_told (marked f) i).from ≤ length bytes
+stands_within bytes f i (tree, is, stands, marks) = subst (λ m. (place_told m i).from ≤ length bytes) (sym marks) (place_within bytes tree is i)
 
-pub no_line : (bytes output : List ℕ) (f : File) (fault : ToldFault) → IsRead bytes f → IsFault (names_of (marked f)) f.process.names f.process.process fault → output ≡ fault_text bytes (place_of (marked f)) (names_of (marked f)) fault → IsNo bytes output
+pub no_line : (bytes output : List ℕ) (f : File) (fault : ToldFault) → IsRead bytes f → IsFault (names_told (marked f)) f.process.names f.process.process fault → output ≡ fault_text bytes (place_told (marked f)) (names_told (marked f)) fault → IsNo bytes output
 no_line bytes output f fault (tree, is, stands, marks) h e = (
   tree,
   meant f,
   fault,
   is,
   stands,
-  subst (λ m. IsFault (names_of m) f.process.names f.process.process fault) marks h,
-  subst (λ m. output ≡ fault_text bytes (place_of m) (names_of m) fault) marks e,
+  subst (λ m. IsFault (names_told m) f.process.names f.process.process fault) marks h,
+  subst (λ m. output ≡ fault_text bytes (place_told m) (names_told m) fault) marks e,
 )
 
-pub rejects : (bytes : List ℕ) (f : File) (fault : ToldFault) (result : Result Answer Stop) → IsRead bytes f → IsFault (names_of (marked f)) f.process.names f.process.process fault
-    → IfOk result (λ a. (a.status ≡ No) × (a.output.items ≡ fault_text bytes (place_of (marked f)) (names_of (marked f)) fault)) → IfOk result (λ a. (a.status ≡ No) × IsNo bytes a.output.items)
+pub rejects : (bytes : List ℕ) (f : File) (fault : ToldFault) (result : Result Answer Stop) → IsRead bytes f → IsFault (names_told (marked f)) f.process.names f.process.process fault
+    → IfOk result (λ a. (a.status ≡ No) × (a.output.items ≡ fault_text bytes (place_told (marked f)) (names_told (marked f)) fault)) → IfOk result (λ a. (a.status ≡ No) × IsNo bytes a.output.items)
 rejects bytes f fault (Ok a) r is h = (h.0, no_line bytes a.output.items f fault r is h.1)
 rejects bytes f fault (Err e) r is h = tt
 

@@ -9,7 +9,7 @@ use Rattle.spi_commands.specs.declared.answer.Stop.{Stop}
 use Rattle.spi_commands.specs.declared.status.Status.{Status}
 use Rattle.spi_commands.specs.declared.status.Status.TheVariants.{Yes, No, Refused, ReadFault, WriteFault, NoMemory, Usage}
 use Rattle.spi_commands.specs.Answers.{Answers, never}
-use Rattle.spi_spell.specs.Joined.{joined}
+use Rattle.spi_spell.specs.Joined.{joined_texts}
 use Rattle.spi_commands.specs.Spelled.{limit}
 use Rattle.spi_commands.specs.Refusals.{IsLineOf, IsTooMuch, FitsBehind}
 use Rattle.spi_commands.specs.Canonical.{IsPrint, IsLong, HasLongPrint, ShowsTo}
@@ -40,7 +40,7 @@ long_text bytes text file count result is e h =
     refuses_by bytes (IsTooMuch count) (HasLongPrint file) _ _ result (λ n o s m. (text, is, much count (length text) n o s e m)) h
 
 -- a text that is to stand behind bytes
-joined_long : (bytes text : List ℕ) → length (joined bytes text) ≡ length bytes + 1 + length text
+joined_long : (bytes text : List ℕ) → length (joined_texts bytes text) ≡ length bytes + 1 + length text
 joined_long bytes text = let e = length-append bytes (codes "\n" ++ text) in omega (arith, e)
 
 pub text_fits : (bytes text : List ℕ) → length bytes + 1 + length text ≤ limit → FitsBehind bytes text Yes text
@@ -49,8 +49,8 @@ text_fits bytes text l = let long = joined_long bytes text in (refl, omega (arit
 pub text_overflows : (bytes text : List ℕ) (count : ℕ) (result : Result Answer Stop) → count ≡ length bytes + 1 + length text
     → IfOk result (λ a. (a.status ≡ Refused) × IsLineOf bytes (IsTooMuch count) a.output.items) → IfOk result (λ a. FitsBehind bytes text a.status a.output.items)
 text_overflows bytes text count result e h =
-    let same : count ≡ length (joined bytes text) = e ∙ sym (joined_long bytes text) in
-    refuses_by bytes (IsTooMuch count) (IsTooMuch (length (joined bytes text))) _ _ result (λ n o s m. much count (length (joined bytes text)) n o s same m) h
+    let same : count ≡ length (joined_texts bytes text) = e ∙ sym (joined_long bytes text) in
+    refuses_by bytes (IsTooMuch count) (IsTooMuch (length (joined_texts bytes text))) _ _ result (λ n o s m. much count (length (joined_texts bytes text)) n o s same m) h
 
 -- what is shown of a file is what a command answers that has the file
 shows : (bytes output : List ℕ) (file : Meant) (accepted : List ℕ → Type 0) (causes : ℕ → Option ℕ → List ℕ → Type 0) (status : Status) → ((output : List ℕ) → IsPrint file output → accepted output) → ((n : ℕ) (o : Option ℕ) (s : List ℕ) → HasLongPrint file n o s → causes n o s)

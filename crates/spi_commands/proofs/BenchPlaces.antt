@@ -33,29 +33,29 @@ use Rattle.spi_commands.proofs.FilePlaces.{get_in}
 use Rattle.spi_commands.proofs.FileRefusals.{opens_within, unlexed_within, unparsed_within, unlexed_named, unparsed_named, scope_named}
 
 -- where nodes and words begin among these pieces
-abbrev starts : List Piece → List ℕ
-starts [] = []
-starts (opens from ∷ ps) = from ∷ starts ps
-starts (cell k deep ∷ ps) = starts ps
-starts (closes to ∷ ps) = starts ps
+abbrev piece_starts : List Piece → List ℕ
+piece_starts [] = []
+piece_starts (opens from ∷ ps) = from ∷ piece_starts ps
+piece_starts (cell k deep ∷ ps) = piece_starts ps
+piece_starts (closes to ∷ ps) = piece_starts ps
 
-starts_append : (ps qs : List Piece) → starts (ps ++ qs) ≡ starts ps ++ starts qs
+starts_append : (ps qs : List Piece) → piece_starts (ps ++ qs) ≡ piece_starts ps ++ piece_starts qs
 starts_append [] qs = refl
 starts_append (opens from ∷ ps) qs = ap (λ (l : List ℕ). from ∷ l) (starts_append ps qs)
 starts_append (cell k deep ∷ ps) qs = starts_append ps qs
 starts_append (closes to ∷ ps) qs = starts_append ps qs
 
-starts_in : (m : ℕ) (ps : List Piece) → In (opens m) ps → In m (starts ps)
+starts_in : (m : ℕ) (ps : List Piece) → In (opens m) ps → In m (piece_starts ps)
 starts_in m [] i = elim i [ ]
 starts_in m (opens from ∷ ps) in_first = in_first
 starts_in m (opens from ∷ ps) (in_later i) = in_later (starts_in m ps i)
 starts_in m (cell k deep ∷ ps) (in_later i) = starts_in m ps i
 starts_in m (closes to ∷ ps) (in_later i) = starts_in m ps i
 
-in_starts : (m : ℕ) (ps : List Piece) → In m (starts ps) → In (opens m) ps
+in_starts : (m : ℕ) (ps : List Piece) → In m (piece_starts ps) → In (opens m) ps
 in_starts m [] i = elim i [ ]
 in_starts m (opens from ∷ ps) i =
-    ⊎_elim (λ (e : m ≡ from). subst (λ (n : ℕ). In (opens n) (opens from ∷ ps)) (sym e) in_first) (λ (j : In m (starts ps)). in_later (in_starts m ps j)) (in_cases i)
+    ⊎_elim (λ (e : m ≡ from). subst (λ (n : ℕ). In (opens n) (opens from ∷ ps)) (sym e) in_first) (λ (j : In m (piece_starts ps)). in_later (in_starts m ps j)) (in_cases i)
 in_starts m (cell k deep ∷ ps) i = in_later (in_starts m ps i)
 in_starts m (closes to ∷ ps) i = in_later (in_starts m ps i)
 
@@ -70,11 +70,11 @@ in_right (y ∷ xs) i = in_later (in_right xs i)
 -- ---- a process begins its nodes and words at the same places, whatever its level
 
 abbrev SameStarts : List Piece → List Piece → Type 0
-SameStarts ps qs = starts ps ≡ starts qs
+SameStarts ps qs = piece_starts ps ≡ piece_starts qs
 
 behind_same : (front : List Piece) (whole : List Piece → List Piece) → ((r : List Piece) → whole r ≡ front ++ r) → (r s : List Piece) → SameStarts r s → SameStarts (whole r) (whole s)
 behind_same front whole is r s e =
-    ap starts (is r) ∙ starts_append front r ∙ ap (λ (l : List ℕ). starts front ++ l) e ∙ sym (starts_append front s) ∙ sym (ap starts (is s))
+    ap piece_starts (is r) ∙ starts_append front r ∙ ap (λ (l : List ℕ). piece_starts front ++ l) e ∙ sym (starts_append front s) ∙ sym (ap piece_starts (is s))
 
 msg : (m : t.Msg) (r s : List Piece) → SameStarts r s → SameStarts (msg_pieces 1 m r) (msg_pieces 1 m s)
 msg m = behind_same (msg_pieces 1 m []) (msg_pieces 1 m) (msg_behind 1 m)
@@ -87,7 +87,7 @@ on : (m : ℕ) {xs ys : List ℕ} → xs ≡ ys → m ∷ xs ≡ m ∷ ys
 on m e = ap (λ (l : List ℕ). m ∷ l) e
 
 -- a word with its type
-word : (w : SWord) (a : t.Ty) (r s : List Piece) → SameStarts r s → w.span.from ∷ starts (ty_pieces 1 a r) ≡ w.span.from ∷ starts (ty_pieces 1 a s)
+word : (w : SWord) (a : t.Ty) (r s : List Piece) → SameStarts r s → w.span.from ∷ piece_starts (ty_pieces 1 a r) ≡ w.span.from ∷ piece_starts (ty_pieces 1 a s)
 word w a r s e = on w.span.from (ty a r s e)
 
 levels : (p : t.Proc) (k j : Place) (r s : List Piece) → SameStarts r s → SameStarts (proc_pieces k p r) (proc_pieces j p s)
@@ -121,7 +121,7 @@ decls_are (d ∷ ds) r = ap (decl_pieces d) (decls_are ds r)
 version_starts : (v : ℕ) (r : List Piece) → SameStarts (version_pieces v r) r
 version_starts v r = go (v == 2)
   where
-    go : (b : Bool) → starts (if b then a_token (kinds.Word (codes "version")) (a_number 2 (a_mark mark.Semicolon r)) else r) ≡ starts r
+    go : (b : Bool) → piece_starts (if b then a_token (kinds.Word (codes "version")) (a_number 2 (a_mark mark.Semicolon r)) else r) ≡ piece_starts r
     go true = refl
     go false = refl
 
@@ -130,36 +130,36 @@ version_starts v r = go (v == 2)
 -- the declarations, the shared names and the edits
 module _ (b : Bench) where
   abbrev decl_starts : List ℕ
-  decl_starts = starts (each_pieces decl_pieces b.decls [])
+  decl_starts = piece_starts (each_pieces decl_pieces b.decls [])
 
   abbrev shared_starts : List ℕ
-  shared_starts = starts (each_pieces shared_pieces b.shared [])
+  shared_starts = piece_starts (each_pieces shared_pieces b.shared [])
 
   abbrev edit_starts : List ℕ
-  edit_starts = starts (each_pieces edit_pieces b.edits [])
+  edit_starts = piece_starts (each_pieces edit_pieces b.edits [])
 
-  heading_starts : (r : List Piece) → starts (each_pieces decl_pieces b.decls (each_pieces shared_pieces b.shared r)) ≡ decl_starts ++ (shared_starts ++ starts r)
+  heading_starts : (r : List Piece) → piece_starts (each_pieces decl_pieces b.decls (each_pieces shared_pieces b.shared r)) ≡ decl_starts ++ (shared_starts ++ piece_starts r)
   heading_starts r =
-      ap starts (each_behind decl_pieces decl_behind b.decls (each_pieces shared_pieces b.shared r)) ∙ starts_append (each_pieces decl_pieces b.decls []) (each_pieces shared_pieces b.shared r)
-      ∙ ap (λ (l : List ℕ). decl_starts ++ l) (ap starts (each_behind shared_pieces shared_behind b.shared r) ∙ starts_append (each_pieces shared_pieces b.shared []) r)
+      ap piece_starts (each_behind decl_pieces decl_behind b.decls (each_pieces shared_pieces b.shared r)) ∙ starts_append (each_pieces decl_pieces b.decls []) (each_pieces shared_pieces b.shared r)
+      ∙ ap (λ (l : List ℕ). decl_starts ++ l) (ap piece_starts (each_behind shared_pieces shared_behind b.shared r) ∙ starts_append (each_pieces shared_pieces b.shared []) r)
 
-  bench_starts : starts (bench_pieces b) ≡ decl_starts ++ (shared_starts ++ edit_starts)
+  bench_starts : piece_starts (bench_pieces b) ≡ decl_starts ++ (shared_starts ++ edit_starts)
   bench_starts = version_starts b.version _ ∙ heading_starts (each_pieces edit_pieces b.edits [])
 
-  file_starts : (p : t.Proc) → starts (file_pieces (file_with b p) []) ≡ b.span.from ∷ (decl_starts ++ (shared_starts ++ starts (whole_process p)))
+  file_starts : (p : t.Proc) → piece_starts (file_pieces (file_with b p) []) ≡ b.span.from ∷ (decl_starts ++ (shared_starts ++ piece_starts (whole_process p)))
   file_starts p =
       let tail : List Piece = closes b.span.to ∷ [] in
       let process : List Piece = a_reserved Rattle.spi_lex.specs.declared.token.Reserved.TheVariants.Process (proc_pieces (at_level 0) (behind_shared b.shared p) tail) in
       on b.span.from
-      (version_starts b.version _ ∙ ap starts (decls_are b.decls process) ∙ ap starts (each_behind decl_pieces decl_behind b.decls process) ∙ starts_append (each_pieces decl_pieces b.decls []) process
-      ∙ ap (λ (l : List ℕ). decl_starts ++ l) (shared_levels b.shared (at_level 0) p tail [] refl ∙ ap starts (each_behind shared_pieces shared_behind b.shared (whole_process p)) ∙ starts_append (each_pieces shared_pieces b.shared []) (whole_process p)))
+      (version_starts b.version _ ∙ ap piece_starts (decls_are b.decls process) ∙ ap piece_starts (each_behind decl_pieces decl_behind b.decls process) ∙ starts_append (each_pieces decl_pieces b.decls []) process
+      ∙ ap (λ (l : List ℕ). decl_starts ++ l) (shared_levels b.shared (at_level 0) p tail [] refl ∙ ap piece_starts (each_behind shared_pieces shared_behind b.shared (whole_process p)) ∙ starts_append (each_pieces shared_pieces b.shared []) (whole_process p)))
 
 -- a part's own, where it is one of many
 module _ {X : Type 0} (piece : X → List Piece → List Piece) (behind : (x : X) (r : List Piece) → piece x r ≡ piece x [] ++ r) where
-  in_each : (xs : List X) (x : X) (m : ℕ) → In x xs → In m (starts (piece x [])) → In m (starts (each_pieces piece xs []))
+  in_each : (xs : List X) (x : X) (m : ℕ) → In x xs → In m (piece_starts (piece x [])) → In m (piece_starts (each_pieces piece xs []))
   in_each (y ∷ xs) x m i j =
-      subst (λ (l : List ℕ). In m l) (sym (ap starts (behind y (each_pieces piece xs [])) ∙ starts_append (piece y []) (each_pieces piece xs [])))
-      (⊎_elim (λ (e : x ≡ y). in_left (starts (each_pieces piece xs [])) (subst (λ (z : X). In m (starts (piece z []))) e j)) (λ (k : In x xs). in_right (starts (piece y [])) (in_each xs x m k j)) (in_cases i))
+      subst (λ (l : List ℕ). In m l) (sym (ap piece_starts (behind y (each_pieces piece xs [])) ∙ starts_append (piece y []) (each_pieces piece xs [])))
+      (⊎_elim (λ (e : x ≡ y). in_left (piece_starts (each_pieces piece xs [])) (subst (λ (z : X). In m (piece_starts (piece z []))) e j)) (λ (k : In x xs). in_right (piece_starts (piece y [])) (in_each xs x m k j)) (in_cases i))
   in_each [] x m i j = elim i [ ]
 
 -- ---- the places are in the bytes
@@ -188,31 +188,31 @@ module _ (bytes : List ℕ) (b : Bench) (is : IsBenchOf bytes b) where
       go [] e = let z : b.span.from ≡ 0 = ap (λ (s : Span). s.from) (is.spelled.0.place e) in omega (arith, z)
       go (p ∷ ps) e = opens_in b.span.from (subst (λ (l : List Piece). In (opens b.span.from) (placed b.span l)) (sym e) in_first)
 
-  edit_here : (e : Edit) (m : ℕ) → In e b.edits → In m (starts (edit_pieces e [])) → m ≤ length bytes
+  edit_here : (e : Edit) (m : ℕ) → In e b.edits → In m (piece_starts (edit_pieces e [])) → m ≤ length bytes
   edit_here e m i j = in_edits m (in_each edit_pieces edit_behind b.edits e m i j)
 
   -- a fault of the heading and a part stands at the heading or in the part
-  fault_here : ((tree : t.File) (fault : ScopeFault) → HasFirst tree fault → StartsAt tree (span_from fault)) → (p : t.Proc) → ((m : ℕ) → In m (starts (whole_process p)) → m ≤ length bytes)
+  fault_here : ((tree : t.File) (fault : ScopeFault) → HasFirst tree fault → StartsAt tree (span_from fault)) → (p : t.Proc) → ((m : ℕ) → In m (piece_starts (whole_process p)) → m ≤ length bytes)
       → (f : ScopeFault) → HasFirst (file_with b p) f → span_from f ≤ length bytes
   fault_here law p part f first = all (span_from f) (subst (λ (l : List ℕ). In (span_from f) l) (file_starts b p) (starts_in (span_from f) (file_pieces (file_with b p) []) (law (file_with b p) f first)))
     where
-      names : (m : ℕ) → In m (shared_starts b ++ starts (whole_process p)) → m ≤ length bytes
-      names m i = ⊎_elim (λ (j : In m (shared_starts b)). in_shared m j) (λ (j : In m (starts (whole_process p))). part m j) (in_append (shared_starts b) i)
+      names : (m : ℕ) → In m (shared_starts b ++ piece_starts (whole_process p)) → m ≤ length bytes
+      names m i = ⊎_elim (λ (j : In m (shared_starts b)). in_shared m j) (λ (j : In m (piece_starts (whole_process p))). part m j) (in_append (shared_starts b) i)
 
-      body : (m : ℕ) → In m (decl_starts b ++ (shared_starts b ++ starts (whole_process p))) → m ≤ length bytes
-      body m i = ⊎_elim (λ (j : In m (decl_starts b)). starts_here m (in_left (shared_starts b ++ edit_starts b) j)) (λ (j : In m (shared_starts b ++ starts (whole_process p))). names m j) (in_append (decl_starts b) i)
+      body : (m : ℕ) → In m (decl_starts b ++ (shared_starts b ++ piece_starts (whole_process p))) → m ≤ length bytes
+      body m i = ⊎_elim (λ (j : In m (decl_starts b)). starts_here m (in_left (shared_starts b ++ edit_starts b) j)) (λ (j : In m (shared_starts b ++ piece_starts (whole_process p))). names m j) (in_append (decl_starts b) i)
 
-      all : (m : ℕ) → In m (b.span.from ∷ (decl_starts b ++ (shared_starts b ++ starts (whole_process p)))) → m ≤ length bytes
-      all m i = ⊎_elim (λ (e : m ≡ b.span.from). let s = span_here in omega (arith, e, s)) (λ (j : In m (decl_starts b ++ (shared_starts b ++ starts (whole_process p)))). body m j) (in_cases i)
+      all : (m : ℕ) → In m (b.span.from ∷ (decl_starts b ++ (shared_starts b ++ piece_starts (whole_process p)))) → m ≤ length bytes
+      all m i = ⊎_elim (λ (e : m ≡ b.span.from). let s = span_here in omega (arith, e, s)) (λ (j : In m (decl_starts b ++ (shared_starts b ++ piece_starts (whole_process p)))). body m j) (in_cases i)
 
-  edit_in : (e : Edit) → In (edit_span e).from (starts (edit_pieces e []))
+  edit_in : (e : Edit) → In (edit_span e).from (piece_starts (edit_pieces e []))
   edit_in (puts s w p) = in_first
   edit_in (drops s w) = in_first
 
-  part_in : (s : Span) (w : SWord) (p : t.Proc) (m : ℕ) → In m (starts (whole_process p)) → In m (starts (edit_pieces (puts s w p) []))
+  part_in : (s : Span) (w : SWord) (p : t.Proc) (m : ℕ) → In m (piece_starts (whole_process p)) → In m (piece_starts (edit_pieces (puts s w p) []))
   part_in s w p m i =
       let r : List Piece = a_mark Rattle.spi_lex.specs.declared.token.Mark.TheVariants.BraceClose (closes s.to ∷ []) in
-      in_later (in_later (subst (λ (l : List ℕ). In m l) (sym (ap starts (Rattle.spi_parts.proofs.Behind.proc_behind (at_level 0) p r) ∙ starts_append (whole_process p) r)) (in_left (starts r) i)))
+      in_later (in_later (subst (λ (l : List ℕ). In m l) (sym (ap piece_starts (Rattle.spi_parts.proofs.Behind.proc_behind (at_level 0) p r) ∙ starts_append (whole_process p) r)) (in_left (piece_starts r) i)))
 
   among : (before after : List Edit) (e : Edit) → b.edits ≡ before ++ e ∷ after → In e b.edits
   among before after e cut = subst (λ (l : List Edit). In e l) (sym cut) (in_right before in_first)

@@ -5,7 +5,7 @@ use Rattle.spi_scope.specs.Files.{meant}
 use Rattle.spi_rules.specs.Derivations.{RuleUse}
 use Rattle.spi_deriv.specs.Canonical.{Canonical}
 use Rattle.spi_deriv.specs.Text.{derivation_text}
-use Rattle.spi_spell.specs.Joined.{joined}
+use Rattle.spi_spell.specs.Joined.{joined_texts}
 use Rattle.spi_commands.specs.declared.answer.Answer.{Answer}
 use Rattle.spi_commands.specs.declared.answer.Stop.{Stop}
 use Rattle.spi_commands.specs.declared.status.Status.{Status}
@@ -25,7 +25,7 @@ listed : (bytes text output : List ℕ) (f : File) (us : List RuleUse) (status :
 listed bytes text output f us Yes r c e h = (us, spelled bytes f us r c, h.0 ∙ e, h.1)
 listed bytes text output f us No r c e h = absurd h
 listed bytes text output f us Refused r c e h =
-    line_map bytes output (IsTooMuch (length (joined bytes text))) (layered (Refuses bytes) (HasLongListing bytes)) (λ n o s x. inr (us, spelled bytes f us r c, subst (λ (t : List ℕ). IsTooMuch (length (joined bytes t)) n o s) e x)) h
+    line_map bytes output (IsTooMuch (length (joined_texts bytes text))) (layered (Refuses bytes) (HasLongListing bytes)) (λ n o s x. inr (us, spelled bytes f us r c, subst (λ (t : List ℕ). IsTooMuch (length (joined_texts bytes t)) n o s) e x)) h
 listed bytes text output f us ReadFault r c e h = absurd h
 listed bytes text output f us WriteFault r c e h = absurd h
 listed bytes text output f us NoMemory r c e h = absurd h

@@ -8,7 +8,7 @@ use Rattle.spi_effect.proofs.Laws.{same_refl}
 use Rattle.spi_rules.specs.Derivations.{RuleUse, Derivable, Proves}
 use Rattle.spi_deriv.specs.Canonical.{Canonical}
 use Rattle.spi_deriv.specs.Text.{derivation_text}
-use Rattle.spi_spell.specs.Joined.{joined, with_derivation}
+use Rattle.spi_spell.specs.Joined.{joined_texts, with_derivation}
 use Rattle.spi_commands.specs.declared.status.Status.{Status}
 use Rattle.spi_commands.specs.declared.status.Status.TheVariants.{Yes, No, Refused, ReadFault, WriteFault, NoMemory, Usage}
 use Rattle.spi_commands.specs.Spelled.{limit, SpellsFile, SpellsUnderivable, SpellsNone, IsDerivable, SpellsProved, SpellsUnderived}
@@ -35,15 +35,15 @@ module _ (one : OneFile) (bytes : List ℕ) where
   never_long : OneCanonical → (output : List ℕ) → IsListing bytes output → SpellsLongListing bytes → ⊥
   never_long same output (d, spells, text, short) (e, others, long) =
       let equal : output ≡ derivation_text e = text ∙ ap derivation_text (same_canonical same d e spells others) in
-      let short' : length (joined bytes (derivation_text e)) ≤ limit = subst (λ t. length (joined bytes t) ≤ limit) equal short in
+      let short' : length (joined_texts bytes (derivation_text e)) ≤ limit = subst (λ t. length (joined_texts bytes t) ≤ limit) equal short in
       absurd (omega (arith, short', long))
 
   -- a listing behind its file is a proof
-  joined_proves : DerivationJoins → (output : List ℕ) → IsListing bytes output → SpellsUnderived bytes → SpellsProved (joined bytes output)
+  joined_proves : DerivationJoins → (output : List ℕ) → IsListing bytes output → SpellsUnderived bytes → SpellsProved (joined_texts bytes output)
   joined_proves joins output (d, (f, spells, c), text, short) (g, other, none) =
       let missing : f.derivation ≡ None = subst (λ (f : Meant). f.derivation ≡ None) (sym (one bytes f g spells other)) none in
-      let whole : SpellsFile (joined bytes (derivation_text d)) (with_derivation f d) = joins bytes f d spells missing c (subst (λ t. length (joined bytes t) ≤ limit) text short) in
-      subst (λ t. SpellsProved (joined bytes t)) (sym text) (with_derivation f d, d, whole, refl, canonical_proves d f.process.names f.process.process c)
+      let whole : SpellsFile (joined_texts bytes (derivation_text d)) (with_derivation f d) = joins bytes f d spells missing c (subst (λ t. length (joined_texts bytes t) ≤ limit) text short) in
+      subst (λ t. SpellsProved (joined_texts bytes t)) (sym text) (with_derivation f d, d, whole, refl, canonical_proves d f.process.names f.process.process c)
 
   -- the answers of `derive`
   pub derives : RefusedNone → OneCanonical → DerivationJoins → (old new : Option (List ℕ)) (output : List ℕ) (status : Status) → DerivesTo bytes status output → Appends old new output → IsDerived bytes old new status

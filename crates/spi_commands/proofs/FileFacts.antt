@@ -12,7 +12,7 @@ use Rattle.spi_deriv.specs.Canonical.{Canonical}
 use Rattle.spi_deriv.specs.Text.{derivation_text}
 use Rattle.spi_show.specs.Files.{IsCanonicalText}
 use Rattle.spi_show.specs.Steps.{schedule_text}
-use Rattle.spi_spell.specs.Joined.{joined, with_derivation, with_schedule, HasLowPlaces}
+use Rattle.spi_spell.specs.Joined.{joined_texts, with_derivation, with_schedule, HasLowPlaces}
 use Rattle.spi_commands.specs.Spelled.{limit, SpellsFile, IsDerivable, SpellsDerivable, SpellsUnderivable, SpellsNone}
 use Rattle.spi_commands.specs.Refusals.{Refuses, IsRefusal}
 use Rattle.spi_commands.proofs.FileRefusals.{OneLexing, OnePlaced, OneMeant, one_tree}
@@ -36,10 +36,10 @@ OneCanonical = (k : ℕ) (p : Process) (d e : List RuleUse) → Canonical d k p 
 
 -- what is written behind a file is read with it
 abbrev pub DerivationJoins : Type 0
-DerivationJoins = (bytes : List ℕ) (file : Meant) (d : List RuleUse) → SpellsFile bytes file → file.derivation ≡ None → Canonical d file.process.names file.process.process → length (joined bytes (derivation_text d)) ≤ limit → SpellsFile (joined bytes (derivation_text d)) (with_derivation file d)
+DerivationJoins = (bytes : List ℕ) (file : Meant) (d : List RuleUse) → SpellsFile bytes file → file.derivation ≡ None → Canonical d file.process.names file.process.process → length (joined_texts bytes (derivation_text d)) ≤ limit → SpellsFile (joined_texts bytes (derivation_text d)) (with_derivation file d)
 
 abbrev pub ScheduleJoins : Type 0
-ScheduleJoins = (bytes : List ℕ) (file : Meant) (steps : List Step) → SpellsFile bytes file → file.schedule ≡ None → file.derivation ≡ None → length steps ≤ 10000 → All HasLowPlaces steps → length (joined bytes (schedule_text steps)) ≤ limit → SpellsFile (joined bytes (schedule_text steps)) (with_schedule file steps)
+ScheduleJoins = (bytes : List ℕ) (file : Meant) (steps : List Step) → SpellsFile bytes file → file.schedule ≡ None → file.derivation ≡ None → length steps ≤ 10000 → All HasLowPlaces steps → length (joined_texts bytes (schedule_text steps)) ≤ limit → SpellsFile (joined_texts bytes (schedule_text steps)) (with_schedule file steps)
 
 -- the canonical text of a file that bytes spell is read as that file
 abbrev pub ReadsBack : Type 0

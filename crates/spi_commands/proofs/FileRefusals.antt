@@ -26,7 +26,7 @@ use Rattle.spi_commands.specs.declared.reading.Unread.{Unread}
 use Rattle.spi_commands.specs.declared.reading.Unread.TheVariants as unread
 use Rattle.spi_commands.specs.Reading.{HasTokens, IsUnreadBy, StandsNamed, TellsRefusal}
 use Rattle.spi_commands.specs.Spelled.{limit, IsTreeOf, SpellsNone}
-use Rattle.spi_commands.specs.Refusals.{start_of, scope_number, IsUnlexed, IsUnparsed, IsUnscoped, Refuses, too_long, not_utf8, bad_char, bad_number, name_too_long, syntax, too_deep, out_of_scope}
+use Rattle.spi_commands.specs.Refusals.{start_of_fault, scope_number, IsUnlexed, IsUnparsed, IsUnscopedAt, Refuses, too_long, not_utf8, bad_char, bad_number, name_too_long, syntax, too_deep, out_of_scope}
 
 -- the way of lexemes goes through the bytes
 leads_within : {at to : ℕ} {text rest : List ℕ} {pieces : List LexPiece} → Leads at text pieces to rest → to + length rest ≡ at + length text
@@ -60,13 +60,13 @@ spans_end at end [] h = h
 spans_end at end (span ∷ spans) h = let m = spans_end span.to end spans h.2 in omega (arith, h.0, h.1, m)
 
 -- a token stands in the bytes
-starts_within : (at end : ℕ) (bytes : List ℕ) (tokens : List Token) → AreSpans at (spans_of tokens) end → end ≤ length bytes → (i : ℕ) → start_of bytes (drop i tokens) ≤ length bytes
+starts_within : (at end : ℕ) (bytes : List ℕ) (tokens : List Token) → AreSpans at (spans_of tokens) end → end ≤ length bytes → (i : ℕ) → start_of_fault bytes (drop i tokens) ≤ length bytes
 starts_within at end bytes [] h l zero = omega arith
 starts_within at end bytes [] h l (suc i) = omega arith
 starts_within at end bytes (token ∷ tokens) h l zero = let m = spans_end token.span.to end (spans_of tokens) h.2 in omega (arith, h.1, l, m)
 starts_within at end bytes (token ∷ tokens) h l (suc i) = starts_within token.span.to end bytes tokens h.2 l i
 
-token_within : (bytes : List ℕ) (tokens : List Token) (i : ℕ) → Lexes bytes (Ok tokens) → start_of bytes (drop i tokens) ≤ length bytes
+token_within : (bytes : List ℕ) (tokens : List Token) (i : ℕ) → Lexes bytes (Ok tokens) → start_of_fault bytes (drop i tokens) ≤ length bytes
 token_within bytes tokens i h = starts_within 0 (length bytes) bytes tokens (lexed bytes tokens h).1 (let z : length bytes ≤ length bytes = omega arith in z) i
 
 -- a node or a word of a tree that is spelled starts in the bytes
@@ -91,7 +91,7 @@ pub unparsed_within : {X : Type 0} {pieces : X → List Part} {IsFormed : X → 
 unparsed_within {bytes = bytes} (syntax {tokens = tokens} {i = i} l h f) = token_within bytes tokens i h
 unparsed_within {bytes = bytes} (too_deep {tokens = tokens} {i = i} l h f) = token_within bytes tokens i h
 
-unscoped_within : {bytes : List ℕ} {tree : t.File} {number : ℕ} {offset : Option ℕ} {shown : List ℕ} → ((tree : t.File) (fault : ScopeFault) → HasFirst tree fault → StartsAt tree (span_from fault)) → IsTreeOf bytes tree → IsUnscoped tree number offset shown → IfSome offset (λ at. at ≤ length bytes)
+unscoped_within : {bytes : List ℕ} {tree : t.File} {number : ℕ} {offset : Option ℕ} {shown : List ℕ} → ((tree : t.File) (fault : ScopeFault) → HasFirst tree fault → StartsAt tree (span_from fault)) → IsTreeOf bytes tree → IsUnscopedAt tree number offset shown → IfSome offset (λ at. at ≤ length bytes)
 unscoped_within {bytes} {tree} at is (out_of_scope {fault = fault} f) =
     opens_within (length bytes) 0 0 (span_from fault) (whole_file tree) is.tokens is.spelled (lexed bytes is.tokens is.lexed).1 (at tree fault f)
 
@@ -123,7 +123,7 @@ pub unparsed_named : {X : Type 0} {pieces : X → List Part} {IsFormed : X → T
 unparsed_named (syntax l h f) = refl
 unparsed_named (too_deep l h f) = refl
 
-unscoped_named : {tree : t.File} {number : ℕ} {offset : Option ℕ} {shown : List ℕ} → ((tree : t.File) (fault : ScopeFault) → HasFirst tree fault → ¬ (fault ≡ scope.NoMemory)) → IsUnscoped tree number offset shown → IsSome (name_of number)
+unscoped_named : {tree : t.File} {number : ℕ} {offset : Option ℕ} {shown : List ℕ} → ((tree : t.File) (fault : ScopeFault) → HasFirst tree fault → ¬ (fault ≡ scope.NoMemory)) → IsUnscopedAt tree number offset shown → IsSome (name_of number)
 unscoped_named {tree} never (out_of_scope {fault = fault} f) = scope_named fault (never tree fault f)
 
 pub refused_named : {bytes : List ℕ} {number : ℕ} {offset : Option ℕ} {shown : List ℕ} → ((tree : t.File) (fault : ScopeFault) → HasFirst tree fault → ¬ (fault ≡ scope.NoMemory)) → Refuses bytes number offset shown → IsSome (name_of number)
@@ -230,7 +230,7 @@ unlexed_none lexing h file (tree, is, stands) = unlexed_never lexing h is.within
 unparsed_none : OneLexing → {bytes : List ℕ} {number : ℕ} {offset : Option ℕ} {shown : List ℕ} → IsUnparsed whole_file IsFile bytes number offset shown → SpellsNone bytes
 unparsed_none lexing h file (tree, is, stands) = unparsed_never whole_file IsFile lexing h tree is.formed is.tokens is.lexed is.spelled
 
-unscoped_none : OneLexing → OnePlaced → NeverBoth → {bytes : List ℕ} {other : t.File} {number : ℕ} {offset : Option ℕ} {shown : List ℕ} → IsTreeOf bytes other → IsUnscoped other number offset shown → SpellsNone bytes
+unscoped_none : OneLexing → OnePlaced → NeverBoth → {bytes : List ℕ} {other : t.File} {number : ℕ} {offset : Option ℕ} {shown : List ℕ} → IsTreeOf bytes other → IsUnscopedAt other number offset shown → SpellsNone bytes
 unscoped_none lexing placed never {bytes} {other} is (out_of_scope {fault = fault} f) file (tree, that, stands) =
     never tree file fault stands (subst (λ t. HasFirst t fault) (one_tree lexing placed bytes other tree is that) f)
 

@@ -13,10 +13,10 @@ use Rattle.spi_replay.specs.Stepping.{Pooled}
 use Rattle.spi_commands.specs.declared.status.Status.{Status}
 use Rattle.spi_commands.specs.declared.status.Status.TheVariants.{Yes, No, Refused, ReadFault, WriteFault, NoMemory, Usage}
 use Rattle.spi_commands.specs.Spelled.{SpellsFile, SpellsDerivable, SpellsNone}
-use Rattle.spi_commands.specs.Beside.{pool_of}
+use Rattle.spi_commands.specs.Beside.{replay_pool}
 use Rattle.spi_commands.specs.Replays.{places_most, RunsThrough, SpellsUnplayed, IsUnplayed, talks_most}
 use Rattle.spi_commands.specs.Certificate.{known_text}
-use Rattle.spi_commands.specs.Knowing.{sent, IsTooMuchSent, too_much_sent, IsNoName, no_name, RefusesKnows, IsKnowsAsked, SpellsKnown, SpellsUnknown, IsKnown, KnowsTo, SpellsMuchSent, SpellsNameless, MakesKey, IsKnownOn}
+use Rattle.spi_commands.specs.Knowing.{sent_through, IsTooMuchSent, too_much_sent, IsNoName, no_name, RefusesKnows, IsKnowsAsked, SpellsKnown, SpellsUnknown, IsKnown, KnowsTo, SpellsMuchSent, SpellsNameless, MakesKey, IsKnownOn}
 use Rattle.spi_commands.proofs.FileFacts.{OneFile, Safe, RefusedNone, holds_after}
 use Rattle.spi_commands.proofs.FileParts.{process_over_names, opponent_over_names}
 use Rattle.spi_commands.proofs.ScheduleFiles.{last_once, never_unplayed, talks_once, unreplayed}
@@ -31,13 +31,13 @@ module _ (i : ℕ) (f : Meant) (es fs : List Event) (a : RunsThrough f es) (g : 
   same_last : b.last ≡ a.last
   same_last = subst (λ (h : Meant). (b : RunsThrough h fs) → b.last ≡ a.last) e (λ b. last_once f fs es b a) b
 
-  same_sent : sent g b ≡ sent f a
+  same_sent : sent_through g b ≡ sent_through f a
   same_sent = ap (λ (ms : List Message). names_up g.process.names ++ ms) same_talks ∙ ap (λ (h : Meant). names_up h.process.names ++ a.talks) (sym e)
 
-  knows_too : Knows (sent g b) (name i) → Knows (sent f a) (name i)
+  knows_too : Knows (sent_through g b) (name i) → Knows (sent_through f a) (name i)
   knows_too k = subst (λ (ms : List Message). Knows ms (name i)) same_sent k
 
-  certifies_too : (lines : List CertLine) → Certifies (sent g b) lines (name i) → Certifies (sent f a) lines (name i)
+  certifies_too : (lines : List CertLine) → Certifies (sent_through g b) lines (name i) → Certifies (sent_through f a) lines (name i)
   certifies_too lines c = subst (λ (ms : List Message). Certifies ms lines (name i)) same_sent c
 
 module _ (one : OneFile) (i : ℕ) (bytes : List ℕ) where
@@ -61,14 +61,14 @@ module _ (one : OneFile) (i : ℕ) (bytes : List ℕ) where
       omega (arith, same, used, past)
 
   -- a key that the replay makes isn't known
-  key_never : Safe KeysStayUnknown → SpellsDerivable bytes → (f : Meant) (es : List Event) → SpellsFile bytes f → (run : RunsThrough f es) → MakesKey i f run → Knows (sent f run) (name i) → ⊥
+  key_never : Safe KeysStayUnknown → SpellsDerivable bytes → (f : Meant) (es : List Event) → SpellsFile bytes f → (run : RunsThrough f es) → MakesKey i f run → Knows (sent_through f run) (name i) → ⊥
   key_never keys derivable f es spells run (r, key) knows =
       let (tree, is, stands) = spells in
       let n : ℕ = f.process.names in
       let least : n ≤ n = omega arith in
       let over = process_over_names tree f stands in
       let joins = opponent_over_names tree f run.opponent stands run.beside.0 in
-      let same = same_handed (pool_of places_most f run.opponent, run.last, refl, run.replays) r in
+      let same = same_handed (replay_pool places_most f run.opponent, run.last, refl, run.replays) r in
       holds_after KeysStayUnknown one keys bytes derivable f spells run.opponent.process n run.steps es run.last.configuration run.beside.1 least over joins r i key
       (subst (λ (ms : List Message). Knows (names_up n ++ ms) (name i)) (sym same) knows)
 

@@ -16,7 +16,7 @@ use Rattle.spi_rules.specs.Derivations.{RuleUse, Derivable, uses, effect_uses}
 use Rattle.spi_rules.specs.declared.rule.Rule.{Rule}
 use Rattle.spi_rules.specs.declared.rule.Rule.TheVariants.{MsgName, MsgPair, MsgEnc, ProcStop, ProcOut, ProcIn, ProcSplit, ProcDecrypt, ProcCheck, ProcBegin, ProcEnd, ProcCast, ProcNew, ProcPar}
 use Rattle.spi_deriv.specs.Canonical.{IsCanonical, Canonical}
-use Rattle.spi_commands.proofs.LoadProcesses.{answer, answering, asking, handshake, AreSessions, one_session, two_halves}
+use Rattle.spi_commands.proofs.LoadProcesses.{answer_type, answering_process, asking_process, handshake_process, AreSessions, one_session, two_halves}
 
 -- the rules of the two parts of a session, and of a session
 abbrev pub answering_uses : List RuleUse
@@ -67,8 +67,8 @@ at7 = at_later at6
 at8 : {a b c d f g h i t : Ty} {e : Env} → At (a ∷ b ∷ c ∷ d ∷ f ∷ g ∷ h ∷ i ∷ t ∷ e) 8 t
 at8 = at_later at7
 
-abbrev is_un : {env : Env} {x : ℕ} → At env x un → HasType [] env (name x) un
-is_un a = msg_name a same_un
+abbrev is_un_name : {env : Env} {x : ℕ} → At env x un → HasType [] env (name x) un
+is_un_name a = msg_name a same_un
 
 -- (a, b, m) with this name for m
 abbrev labelled : ℕ → Message
@@ -78,7 +78,7 @@ is_label : {a b t : Ty} {e : Env} {x : ℕ} → At (a ∷ b ∷ e) x t → IsLab
 is_label c = label_pair (label_name at0) (label_pair (label_name at1) (label_name c))
 
 -- the type of an answer is good
-good_answer : {a b : Ty} (e : Env) → At (extended (a ∷ b ∷ e) un) (length (a ∷ b ∷ e)) un → GoodTy [] (a ∷ b ∷ e) answer
+good_answer : {a b : Ty} (e : Env) → At (extended (a ∷ b ∷ e) un) (length (a ∷ b ∷ e)) un → GoodTy [] (a ∷ b ∷ e) answer_type
 good_answer e c = good_pair good_un (good_nonce (good_ends (is_label c) good_none))
 
 -- the names behind name 4 aren't in the effect that checks it
@@ -86,30 +86,30 @@ others : (x : ℕ) → EffectAvoids (5 + x) (checks (name 4) ∷ [])
 others x = (λ e. omega arith, tt)
 
 -- a, b, net and the key
-abbrev keyed : Env
-keyed = un ∷ un ∷ un ∷ key answer ∷ []
+abbrev keyed_env : Env
+keyed_env = un ∷ un ∷ un ∷ key answer_type ∷ []
 
 -- the first part's typing, the second part's, and the session's
-abbrev answering_has : HasEffect [] keyed (process_put (name 3) answering) []
+abbrev answering_has : HasEffect [] keyed_env (process_put (name 3) answering_process) []
 answering_has =
-    proc_in (is_un at2)
+    proc_in (is_un_name at2)
     (proc_new {es = []}
     (proc_begin {es = ends (labelled 5) ∷ []}
-    (proc_cast {es = []} (is_un at4)
-    (proc_out (is_un at2) (msg_enc (msg_pair (is_un at5) (msg_name at6 (same_ty_refl _))) at3))
+    (proc_cast {es = []} (is_un_name at4)
+    (proc_out (is_un_name at2) (msg_enc (msg_pair (is_un_name at5) (msg_name at6 (same_ty_refl _))) at3))
     (good_nonce (good_ends (is_label at5) good_none)) tt (sum_append [] _))
     (is_label at5) (one_less _ _))
     tt good_un (difference_start _) tt)
     tt
 
-abbrev asking_has : HasEffect [] keyed (process_put (name 3) asking) []
+abbrev asking_has : HasEffect [] keyed_env (process_put (name 3) asking_process) []
 asking_has =
     proc_new {es = checks (name 4) ∷ []}
-    (proc_par {es = []} {fs = checks (name 4) ∷ []} (proc_out (is_un at2) (is_un at4))
-    (proc_in (is_un at2)
-    (proc_decrypt (is_un at5) (msg_name at3 (same_ty_refl _))
+    (proc_par {es = []} {fs = checks (name 4) ∷ []} (proc_out (is_un_name at2) (is_un_name at4))
+    (proc_in (is_un_name at2)
+    (proc_decrypt (is_un_name at5) (msg_name at3 (same_ty_refl _))
     (proc_split (msg_name at6 (same_ty_refl _))
-    (proc_check {es = ends (labelled 7) ∷ []} {ds = []} (is_un at4)
+    (proc_check {es = ends (labelled 7) ∷ []} {ds = []} (is_un_name at4)
     (proc_end {es = []} proc_stop (is_label at7) (sum_append [] _))
     (nonce_name at8) (one_less _ _) (sum_append [] _))
     (good_answer _ at7) (others 2) (others 3))
@@ -118,14 +118,14 @@ asking_has =
     (sum_append [] _))
     tt good_un (one_less _ _) tt
 
-abbrev handshake_has : HasEffect [] (untrusted 3) handshake []
+abbrev handshake_has : HasEffect [] (untrusted 3) handshake_process []
 handshake_has =
     proc_new {es = []} (proc_par answering_has asking_has (sum_append [] [])) tt
     (good_key (good_answer _ at3))
     (difference_start _) tt
 
 -- a session's typing is canonical
-pub handshake_canonical : (d : HasEffect [] (untrusted 3) handshake []) × IsCanonical d × (effect_uses d ≡ handshake_uses)
+pub handshake_canonical : (d : HasEffect [] (untrusted 3) handshake_process []) × IsCanonical d × (effect_uses d ≡ handshake_uses)
 handshake_canonical = (handshake_has, ((tt, (tt, (tt, (tt, tt)))), ((tt, tt), (tt, (tt, tt, (tt, (tt, tt)))))), refl)
 
 -- a rule before the uses of two processes
@@ -137,7 +137,7 @@ pub sessions_some : {n : ℕ} {p : Process} → AreSessions n p → 1 ≤ n
 sessions_some one_session = omega arith
 sessions_some (two_halves le e s t) = omega arith
 
-handshake_over : ProcessOver 3 handshake
+handshake_over : ProcessOver 3 handshake_process
 handshake_over = omega arith
 
 -- the canonical derivation of so many sessions, and its length

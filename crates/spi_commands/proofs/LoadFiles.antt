@@ -21,8 +21,8 @@ use Rattle.spi_commands.proofs.LoadPoints.{Fit, fit, tested, fit_run}
 abbrev pub types : Abbreviations
 types = all_types [] [] declarations
 
-abbrev pub names : Names
-names = all_names [] declarations
+abbrev pub load_names : Names
+load_names = all_names [] declarations
 
 declarations_fit : fit (decls_points [] [] declarations) ≡ true
 unfolding whole_type
@@ -32,41 +32,41 @@ declarations_weigh : weight (decls_points [] [] declarations) ≡ 12
 unfolding whole_type
 declarations_weigh = refl
 
-handshake_fits : fit (process_points types names handshake) ≡ true
+handshake_fits : fit (process_points types load_names handshake) ≡ true
 unfolding whole_type part message_head messages_head typed_head new_head tested_head split_head
 handshake_fits = refl
 
-handshake_weighs : weight (process_points types names handshake) ≡ 80
+handshake_weighs : weight (process_points types load_names handshake) ≡ 80
 unfolding whole_type part message_head messages_head typed_head new_head tested_head split_head
 handshake_weighs = refl
 
-handshake_means : process_over 3 types names handshake ≡ S.handshake
+handshake_means : process_over 3 types load_names handshake ≡ S.handshake_process
 handshake_means = refl
 
 mutual
-  beside_fit : {n : ℕ} {p : t.Proc} → AreBeside n p → Fit (process_points types names p)
-  beside_fit one_session = tested (process_points types names handshake) handshake_fits
+  beside_fit : {n : ℕ} {p : t.Proc} → AreBeside n p → Fit (process_points types load_names p)
+  beside_fit one_session = tested (process_points types load_names handshake) handshake_fits
   beside_fit (two_halves two half a b) = (grouped_fit a, (refl, grouped_fit b))
 
-  grouped_fit : {n : ℕ} {p : t.Proc} → AreGrouped n p → Fit (process_points types names p)
-  grouped_fit alone = tested (process_points types names handshake) handshake_fits
+  grouped_fit : {n : ℕ} {p : t.Proc} → AreGrouped n p → Fit (process_points types load_names p)
+  grouped_fit alone = tested (process_points types load_names handshake) handshake_fits
   grouped_fit (in_parentheses two a) = beside_fit a
 
 mutual
-  beside_weigh : {n : ℕ} {p : t.Proc} → AreBeside n p → weight (process_points types names p) + 1 ≡ 81 * n
+  beside_weigh : {n : ℕ} {p : t.Proc} → AreBeside n p → weight (process_points types load_names p) + 1 ≡ 81 * n
   beside_weigh one_session = ap (λ w. w + 1) handshake_weighs
   beside_weigh {n} (two_halves two half a b) = omega (arith, two, half, grouped_weigh a, grouped_weigh b)
 
-  grouped_weigh : {n : ℕ} {p : t.Proc} → AreGrouped n p → weight (process_points types names p) + 1 ≡ 81 * n
+  grouped_weigh : {n : ℕ} {p : t.Proc} → AreGrouped n p → weight (process_points types load_names p) + 1 ≡ 81 * n
   grouped_weigh alone = ap (λ w. w + 1) handshake_weighs
   grouped_weigh (in_parentheses two a) = beside_weigh a
 
 mutual
-  beside_mean : {n : ℕ} {p : t.Proc} → AreBeside n p → S.AreSessions n (process_over 3 types names p)
+  beside_mean : {n : ℕ} {p : t.Proc} → AreBeside n p → S.AreSessions n (process_over 3 types load_names p)
   beside_mean one_session = subst (S.AreSessions 1) (sym handshake_means) S.one_session
   beside_mean (two_halves two half a b) = S.two_halves two half (grouped_mean a) (grouped_mean b)
 
-  grouped_mean : {n : ℕ} {p : t.Proc} → AreGrouped n p → S.AreSessions n (process_over 3 types names p)
+  grouped_mean : {n : ℕ} {p : t.Proc} → AreGrouped n p → S.AreSessions n (process_over 3 types load_names p)
   grouped_mean alone = subst (S.AreSessions 1) (sym handshake_means) S.one_session
   grouped_mean (in_parentheses two a) = beside_mean a
 
@@ -96,7 +96,7 @@ pub sessions_count : {n : ℕ} {tree : t.File} → n ≤ 500 → IsSessions n tr
 sessions_count {n} {tree} few is = sym (is_clean (file_points tree) (81 * n + 11) (sessions_run few is)).1
 
 -- the process that it stands for
-process_is : {n : ℕ} {tree : t.File} {file : Meant} → IsSessions n tree → StandsFor tree file → file.process ≡ over_free types names tree.process
+process_is : {n : ℕ} {tree : t.File} {file : Meant} → IsSessions n tree → StandsFor tree file → file.process ≡ over_free types load_names tree.process
 process_is {tree} is stands = stands.process ∙ ap (λ ds. over_free (all_types [] [] ds) (all_names [] ds) tree.process) is.decls
 
 pub sessions_names : {n : ℕ} {tree : t.File} {file : Meant} → IsSessions n tree → StandsFor tree file → file.process.names ≡ 3

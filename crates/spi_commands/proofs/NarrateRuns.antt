@@ -18,7 +18,7 @@ use Rattle.spi_narrator.specs.Answers.{IsTold}
 use Rattle.spi_commands.specs.declared.status.Status.{Status}
 use Rattle.spi_commands.specs.declared.status.Status.TheVariants.{Yes, No, Refused, ReadFault, WriteFault, NoMemory, Usage}
 use Rattle.spi_commands.specs.Spelled.{SpellsFile}
-use Rattle.spi_commands.specs.Beside.{pool_of}
+use Rattle.spi_commands.specs.Beside.{replay_pool}
 use Rattle.spi_commands.specs.Replays.{places_most, ReplaysWithTalks, replays_none, replays_step, RunsThrough, IsUnplayed, RefusesReplay}
 use Rattle.spi_commands.specs.Replaying.{ReplaysTo, IsReplayText}
 use Rattle.spi_commands.specs.Narrating.{RunsAsTold}
@@ -51,7 +51,7 @@ module _ (x : n.Narration) (told : Meant) (is : IsTold x told) where
   abbrev events : List Event
   events = map event is.honest.events.items
 
-  opens : opening is.file ≡ pool_of places_most told opponent
+  opens : opening is.file ≡ replay_pool places_most told opponent
   opens = ap (λ (p : Spelling). record { configuration = beside p.names p.process stop; most = places_most }) (sym has_process)
 
   pub run : (r : RunsThrough told events) × (r.last ≡ is.is.last)

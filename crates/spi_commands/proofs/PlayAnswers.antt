@@ -22,7 +22,7 @@ use Rattle.spi_commands.specs.declared.answer.Stop.{Stop}
 use Rattle.spi_commands.specs.declared.status.Status.{Status}
 use Rattle.spi_commands.specs.declared.status.Status.TheVariants.{Yes, No, Refused, ReadFault, WriteFault, NoMemory, Usage}
 use Rattle.spi_commands.specs.Refusals.{IsLineOf, IsCause, IsMissing, IsTooMuch}
-use Rattle.spi_commands.specs.Beside.{pool_of, HasOffence}
+use Rattle.spi_commands.specs.Beside.{replay_pool, HasOffence}
 use Rattle.spi_commands.specs.Playing.{IsPlayed, IsStopped, play_length, play_number, play_shown, play_places, ListsTo, IsPlayFault, play_fault, PlaysTo, LeavesPlayers, not_asked, asked_to_the_end, stopped}
 use Rattle.spi_commands.specs.Reading.{IsRead}
 use Rattle.spi_commands.proofs.FileParts.{few_names}
@@ -35,7 +35,7 @@ refused_line bytes shown number fault other result e some n s h =
     cause_is bytes shown number None (IsPlayFault fault) result (subst (λ (f : PlayFault). IsPlayFault f number None shown) (sym e) is) h
 
 -- the pool of a file's play
-pooled : (pool : Pooled) (f : File) (o : Spelling) → pool.configuration ≡ beside f.process.names f.process.process o.process → pool.most ≡ 1000 → pool ≡ pool_of play_places (meant f) o
+pooled : (pool : Pooled) (f : File) (o : Spelling) → pool.configuration ≡ beside f.process.names f.process.process o.process → pool.most ≡ 1000 → pool ≡ replay_pool play_places (meant f) o
 pooled pool f o e m =
     let one : Configuration → Pooled = λ c. record { configuration = c; most = pool.most } in
     let other : ℕ → Pooled = λ n. record { configuration = beside f.process.names f.process.process o.process; most = n } in
@@ -51,12 +51,12 @@ few_at_start bytes f o pool most r small e =
 module _ (bytes : List ℕ) (f : File) (o : Spelling) (most : ℕ) (only : Option ℕ) (before after : List Seen) (pool last : Pooled) (r : IsRead bytes f) (own : (meant f).opponent ≡ Some o) (is : IsOpponent o.process) (e : pool.configuration ≡ beside f.process.names f.process.process o.process) (m : pool.most ≡ 1000) where
   played_so : (ss : List steps.Step) (es : List events.Event) (ended : Ended) → EndsAt only most (start pool before only) (course last ss es) after ended → IsPlayed (meant f) most only before after (map View.step ss) (map View.event es)
   played_so ss es ended ends =
-      let here : EndsAt only most (start (pool_of play_places (meant f) o) before only) (course last ss es) after ended = subst (λ p. EndsAt only most (start p before only) (course last ss es) after ended) (pooled pool f o e m) ends in
+      let here : EndsAt only most (start (replay_pool play_places (meant f) o) before only) (course last ss es) after ended = subst (λ p. EndsAt only most (start p before only) (course last ss es) after ended) (pooled pool f o e m) ends in
       record { opponent = o; beside = (own, is); last = last; ended = ended; ends = here }
 
   stopped_so : (fault : PlayFault) → RefusedAt only most (start pool before only) last after fault → IsStopped (meant f) most only before after fault
   stopped_so fault at =
-      let here : RefusedAt only most (start (pool_of play_places (meant f) o) before only) last after fault = subst (λ p. RefusedAt only most (start p before only) last after fault) (pooled pool f o e m) at in
+      let here : RefusedAt only most (start (replay_pool play_places (meant f) o) before only) last after fault = subst (λ p. RefusedAt only most (start p before only) last after fault) (pooled pool f o e m) at in
       record { opponent = o; beside = (own, is); last = last; stops = here }
 
   ended_so : (ss : List steps.Step) (es : List events.Event) (ended : Ended) → EndsAt only most (start pool before only) (course last ss es) after ended → (status : Status) (output : List ℕ) → ListsTo bytes (map View.step ss) status output → PlaysTo most only bytes before after status output

@@ -12,10 +12,10 @@ use Rattle.spi_play.specs.declared.plays.PlayFault.{PlayFault}
 use Rattle.spi_play.specs.declared.plays.PlayFault.TheVariants.{NoMemory as OutOfMemory}
 use Rattle.spi_commands.specs.declared.status.Status.{Status}
 use Rattle.spi_commands.specs.declared.status.Status.TheVariants.{Yes, No, Refused, ReadFault, WriteFault, NoMemory, Usage}
-use Rattle.spi_spell.specs.Joined.{joined, with_schedule}
+use Rattle.spi_spell.specs.Joined.{joined_texts, with_schedule}
 use Rattle.spi_commands.specs.Spelled.{limit, SpellsFile, SpellsNone}
 use Rattle.spi_commands.specs.Refusals.{IsLineOf, IsTooMuch}
-use Rattle.spi_commands.specs.Beside.{pool_of, HasOpponent}
+use Rattle.spi_commands.specs.Beside.{replay_pool, HasOpponent}
 use Rattle.spi_commands.specs.Replays.{places_most, RunsThrough}
 use Rattle.spi_commands.specs.Playing.{play_places, play_length, IsPlayed, IsStopped, IsPlay, IsPlayFault, play_fault, PlaysTo, IsUnplayable, AskedTold, StoppedTold, SpellsUnopposed, IsPlayedOn}
 use Rattle.spi_commands.proofs.FileFacts.{OneFile, RefusedNone, ScheduleJoins}
@@ -51,40 +51,40 @@ stops_at s = record {
 
 module _ (file : Meant) (most : ℕ) (only : Option ℕ) (before : List Seen) where
   -- a play that starts beside another opponent of the file starts so
-  beside_same : (o u : Spelling) (ts : List TurnOf) (m : State) → HasOpponent file o → HasOpponent file u → Plays only most (start (pool_of play_places file u) before only) ts m → Plays only most (start (pool_of play_places file o) before only) ts m
-  beside_same o u ts m a b plays = subst (λ (x : Spelling). Plays only most (start (pool_of play_places file x) before only) ts m) (same_some b.0 a.0) plays
+  beside_same : (o u : Spelling) (ts : List TurnOf) (m : State) → HasOpponent file o → HasOpponent file u → Plays only most (start (replay_pool play_places file u) before only) ts m → Plays only most (start (replay_pool play_places file o) before only) ts m
+  beside_same o u ts m a b plays = subst (λ (x : Spelling). Plays only most (start (replay_pool play_places file x) before only) ts m) (same_some b.0 a.0) plays
 
   same_steps : (after others : List Seen) (ss ts : List Step) (es fs : List Event) (a : IsPlayed file most only before others ss es) (b : IsPlayed file most only before after ts fs) → AskedTold before a.ends.stands.turns → ts ≡ ss
   same_steps after others ss ts es fs a b told =
-      ended_both before only most (pool_of play_places file a.opponent) a.ends.stands.turns b.ends.stands.turns (end_of a) (end_of b) told a.ends.stands.plays
+      ended_both before only most (replay_pool play_places file a.opponent) a.ends.stands.turns b.ends.stands.turns (end_of a) (end_of b) told a.ends.stands.plays
       (beside_same a.opponent b.opponent b.ends.stands.turns (end_of b) a.beside b.beside b.ends.stands.plays) a.ended b.ended a.ends.end b.ends.end
 
   ends_never_stops : (after others : List Seen) (ss : List Step) (es : List Event) (fault : PlayFault) (a : IsPlayed file most only before others ss es) (b : IsStopped file most only before after fault) → AskedTold before a.ends.stands.turns → fault ≢ OutOfMemory → ⊥
   ends_never_stops after others ss es fault a b told some =
-      ended_stopped before only most (pool_of play_places file a.opponent) a.ends.stands.turns b.stops.stands.turns (end_of a) (stop_of b) told a.ends.stands.plays
+      ended_stopped before only most (replay_pool play_places file a.opponent) a.ends.stands.turns b.stops.stands.turns (end_of a) (stop_of b) told a.ends.stands.plays
       (beside_same a.opponent b.opponent b.stops.stands.turns (stop_of b) a.beside b.beside b.stops.stands.plays) a.ended fault a.ends.end (stops_at b) some
 
   stops_never_ends : (after others : List Seen) (ss : List Step) (es : List Event) (fault : PlayFault) (a : IsStopped file most only before others fault) (b : IsPlayed file most only before after ss es) → StoppedTold before a → fault ≢ OutOfMemory → ⊥
   stops_never_ends after others ss es fault a b told some =
-      stopped_ended before only most (pool_of play_places file a.opponent) a.stops.stands.turns b.ends.stands.turns (stop_of a) (end_of b) told.0 a.stops.stands.plays
+      stopped_ended before only most (replay_pool play_places file a.opponent) a.stops.stands.turns b.ends.stands.turns (stop_of a) (end_of b) told.0 a.stops.stands.plays
       (beside_same a.opponent b.opponent b.ends.stands.turns (end_of b) a.beside b.beside b.ends.stands.plays) fault b.ended (stops_at a) some told.1 b.ends.end
 
   same_stop : (after others : List Seen) (f g : PlayFault) (a : IsStopped file most only before others f) (b : IsStopped file most only before after g) → StoppedTold before a → f ≢ OutOfMemory → g ≢ OutOfMemory → f ≡ g
   same_stop after others f g a b told some other =
-      stopped_both before only most (pool_of play_places file a.opponent) a.stops.stands.turns b.stops.stands.turns (stop_of a) (stop_of b) told.0 a.stops.stands.plays
+      stopped_both before only most (replay_pool play_places file a.opponent) a.stops.stands.turns b.stops.stands.turns (stop_of a) (stop_of b) told.0 a.stops.stands.plays
       (beside_same a.opponent b.opponent b.stops.stands.turns (stop_of b) a.beside b.beside b.stops.stands.plays) f g (stops_at a) some other told.1 (stops_at b)
 
 -- ---- the promise
 
 -- the text of a play behind its file is a schedule that runs through
 joins : OneFile → ScheduleJoins → (most : ℕ) (only : Option ℕ) (bytes : List ℕ) (before after : List Seen) (old new : Option (List ℕ)) (output : List ℕ) → most ≤ 1000 → IsPlay most only bytes before after output → Appends old new output → (file : Meant) → SpellsFile bytes file → file.schedule ≡ None → file.derivation ≡ None
-    → (steps : List Step) × (events : List Event) × Appends old new (schedule_text steps) × IsPlayed file most only before after steps events × SpellsFile (joined bytes (schedule_text steps)) (with_schedule file steps) × RunsThrough (with_schedule file steps) events
+    → (steps : List Step) × (events : List Event) × Appends old new (schedule_text steps) × IsPlayed file most only before after steps events × SpellsFile (joined_texts bytes (schedule_text steps)) (with_schedule file steps) × RunsThrough (with_schedule file steps) events
 joins one law most only bytes before after old new output few (f, ss, es, spells, played, text, short) put file own no_steps none =
     let here : IsPlayed file most only before after ss es = subst (λ (g : Meant). IsPlayed g most only before after ss es) (one bytes f file spells own) played in
     let stands = here.ends.stands in
-    let (low, places, (talks, replays)) = play_replays only most places_most (pool_of play_places file here.opponent) before stands.turns (record { course = record { pool = here.last; steps = ss; events = es }; seats = stands.seats; next = here.ends.next }) (omega arith) (omega arith) (omega arith) stands.plays in
+    let (low, places, (talks, replays)) = play_replays only most places_most (replay_pool play_places file here.opponent) before stands.turns (record { course = record { pool = here.last; steps = ss; events = es }; seats = stands.seats; next = here.ends.next }) (omega arith) (omega arith) (omega arith) stands.plays in
     let listed : Appends old new (schedule_text ss) = subst (λ t. Appends old new t) text put in
-    let fits : length (joined bytes (schedule_text ss)) ≤ limit = subst (λ t. length (joined bytes t) ≤ limit) text short in
+    let fits : length (joined_texts bytes (schedule_text ss)) ≤ limit = subst (λ t. length (joined_texts bytes t) ≤ limit) text short in
     let through : RunsThrough (with_schedule file ss) es = record { opponent = here.opponent; steps = ss; talks = talks; last = widened places_most here.last; beside = here.beside; schedule = refl; replays = replays } in
     (ss, es, listed, here, law bytes file ss own no_steps none (omega (arith, low, few)) places fits, through)
 

@@ -11,7 +11,7 @@ use Rattle.spi_opponent.proofs.Nodes.{allowed_of, get_all}
 use Rattle.spi_replay.specs.Stepping.{Pooled}
 use Rattle.spi_commands.specs.Spelled.{SpellsFile, SpellsNone}
 use Rattle.spi_commands.specs.Replays.{places_most, ReplaysWithTalks, RunsThrough, IsUnplayed, no_opponent_part, no_schedule, no_opponent, no_step, SpellsUnplayed, RefusesReplay, IsStepRefusal, step_refused}
-use Rattle.spi_commands.specs.Beside.{pool_of, HasOpponent, IsOffence, HasOffence, offence}
+use Rattle.spi_commands.specs.Beside.{replay_pool, HasOpponent, IsOffence, HasOffence, offence}
 use Rattle.spi_commands.proofs.FileFacts.{RefusedNone}
 use Rattle.spi_commands.proofs.ScheduleSteps.{replays_once, never_refused}
 
@@ -23,9 +23,9 @@ pub never_none : {A : Type 0} {x : A} {o : Option A} → o ≡ Some x → o ≡ 
 never_none {A} {x = x} e f = absurd (let g : Some x ≡ None = sym e ∙ f in cc)
 
 -- the same steps beside the same opponent
-from_same : (file : Meant) (o u : Spelling) (ss ts : List Step) (es : List Event) (ms : List Message) (q : Pooled) → o ≡ u → ss ≡ ts → ReplaysWithTalks (pool_of places_most file o) ss es ms q → ReplaysWithTalks (pool_of places_most file u) ts es ms q
+from_same : (file : Meant) (o u : Spelling) (ss ts : List Step) (es : List Event) (ms : List Message) (q : Pooled) → o ≡ u → ss ≡ ts → ReplaysWithTalks (replay_pool places_most file o) ss es ms q → ReplaysWithTalks (replay_pool places_most file u) ts es ms q
 from_same file o u ss ts es ms q e f h =
-    subst (λ (l : List Step). ReplaysWithTalks (pool_of places_most file u) l es ms q) f (subst (λ (s : Spelling). ReplaysWithTalks (pool_of places_most file s) ss es ms q) e h)
+    subst (λ (l : List Step). ReplaysWithTalks (replay_pool places_most file u) l es ms q) f (subst (λ (s : Spelling). ReplaysWithTalks (replay_pool places_most file s) ss es ms q) e h)
 
 module _ (file : Meant) (es fs : List Event) (a : RunsThrough file es) (b : RunsThrough file fs) where
   same_run : (es ≡ fs) × (a.talks ≡ b.talks) × (a.last ≡ b.last)
@@ -61,7 +61,7 @@ pub offends : {bytes : List ℕ} {number : ℕ} {offset : Option ℕ} {shown : L
 offends (tree, file, o, is, stands, e, h) = (file, (tree, is, stands), (o, e, offence_none h))
 
 -- why a file is refused
-step_unplayed : {tree : t.File} {file : Meant} {o : Spelling} {steps : List Step} {number : ℕ} {offset : Option ℕ} {shown : List ℕ} → HasOpponent file o → file.schedule ≡ Some steps → IsStepRefusal tree (pool_of places_most file o) steps number offset shown → IsUnplayed file
+step_unplayed : {tree : t.File} {file : Meant} {o : Spelling} {steps : List Step} {number : ℕ} {offset : Option ℕ} {shown : List ℕ} → HasOpponent file o → file.schedule ≡ Some steps → IsStepRefusal tree (replay_pool places_most file o) steps number offset shown → IsUnplayed file
 step_unplayed has e (step_refused refused) = no_step has e refused
 
 pub unreplayed : (bytes : List ℕ) → RefusedNone → (number : ℕ) (offset : Option ℕ) (shown : List ℕ) → RefusesReplay bytes number offset shown → SpellsNone bytes ⊎ SpellsUnplayed bytes

@@ -25,7 +25,7 @@ use Rattle.spi_commands.specs.declared.schedule.Ran.{Ran}
 use Rattle.spi_commands.specs.declared.schedule.Ran.TheVariants.{Through, Refused}
 use Rattle.spi_commands.specs.Ran.{AreTalks, IsRan, IsRefused}
 use Rattle.spi_commands.specs.Refusals.{IsLineOf, IsCause, IsMissing}
-use Rattle.spi_commands.specs.Beside.{pool_of, HasOffence}
+use Rattle.spi_commands.specs.Beside.{replay_pool, HasOffence}
 use Rattle.spi_commands.specs.Reading.{IsRead}
 use Rattle.spi_commands.specs.Replays.{ReplaysWithTalks, IsRefusedAt, step_refused, RefusesReplay, places_most, step_number, step_shown, step_at}
 use Rattle.spi_commands.proofs.FilePlaces.{step_within}
@@ -58,14 +58,14 @@ offended bytes f steps keeps a ran (tree, is, stands, marks) there e line =
     line_ran bytes f keeps a ran e (line_map bytes a.output.items (HasOffence bytes) (RefusesReplay bytes) (λ n p s m. inr (inr (inr (inl (m, (meant f, steps, (tree, is, stands), there)))))) line)
 
 -- the pool at the start
-pub starts : (f : File) (o : Spelling) (p : Pooled) → p.configuration ≡ beside f.process.names f.process.process o.process → p.most ≡ 5000 → p ≡ pool_of places_most (meant f) o
+pub starts : (f : File) (o : Spelling) (p : Pooled) → p.configuration ≡ beside f.process.names f.process.process o.process → p.most ≡ 5000 → p ≡ replay_pool places_most (meant f) o
 starts f o p e m =
     let one : ℕ → Pooled = λ k. record { configuration = p.configuration; most = k } in
     ap one m ∙ ap (λ c. record { configuration = c; most = places_most }) e
 
 -- a step that is refused
 step_line : (bytes output : List ℕ) (f : File) (o : Spelling) (steps : List Step) (i : ℕ) (fault : StepFault) → IsRead bytes f → (meant f).opponent ≡ Some o → (meant f).schedule ≡ Some steps → IsOpponent o.process
-    → IsRefusedAt (pool_of places_most (meant f) o) steps i fault → IsLineOf bytes (IsCause (step_number fault) (Some (scheduled (marked f) i).from) (step_shown fault)) output → IsLineOf bytes (RefusesReplay bytes) output
+    → IsRefusedAt (replay_pool places_most (meant f) o) steps i fault → IsLineOf bytes (IsCause (step_number fault) (Some (scheduled (marked f) i).from) (step_shown fault)) output → IsLineOf bytes (RefusesReplay bytes) output
 step_line bytes output f o steps i fault (tree, is, stands, marks) e g opponent refused (r, (n, p, s), line) =
     let there : r.offset ≡ Some (step_at tree i).from = p ∙ ap (λ m. Some (scheduled m i).from) marks in
     one_line bytes (step_shown fault) output (step_number fault) (Some (step_at tree i).from) r (RefusesReplay bytes)
@@ -75,7 +75,7 @@ abbrev pub IsScheduleStopped : List ℕ → File → ℕ → StepFault → Ran �
 IsScheduleStopped bytes f i fault ran = (fault ≢ OutOfMemory) × IsRefused bytes (IsCause (step_number fault) (Some (scheduled (marked f) i).from) (step_shown fault)) ran
 
 pub stopped_at : (bytes : List ℕ) (f : File) (o : Spelling) (steps : List Step) (p : Pooled) (i : ℕ) (fault : StepFault) (keeps : Bool) (result : Result Ran Stop) → IsRead bytes f → (meant f).opponent ≡ Some o → (meant f).schedule ≡ Some steps → IsOpponent o.process
-    → p ≡ pool_of places_most (meant f) o → (fault ≡ OutOfMemory) ⊎ IsRefusedAt p steps i fault → IfOk result (IsScheduleStopped bytes f i fault) → IfOk result (λ ran. IsRan bytes (meant f) keeps ran)
+    → p ≡ replay_pool places_most (meant f) o → (fault ≡ OutOfMemory) ⊎ IsRefusedAt p steps i fault → IfOk result (IsScheduleStopped bytes f i fault) → IfOk result (λ ran. IsRan bytes (meant f) keeps ran)
 stopped_at bytes f o steps p i fault keeps (Ok (Through replay)) r e g opponent start refused h = absurd h.1
 stopped_at bytes f o steps p i fault keeps (Ok (Refused line)) r e g opponent start (inl none) h = absurd (h.0 none)
 stopped_at bytes f o steps p i fault keeps (Ok (Refused line)) r e g opponent start (inr refused) h =
@@ -97,7 +97,7 @@ few_happened steps events n p q ms few replays =
     omega (arith, few, most, length-map steps step_of, length-map events event_of)
 
 pub ran_through : (bytes : List ℕ) (f : File) (o : Spelling) (steps : List program.Step) (n : ℕ) (replay : Replay) (keeps : Bool) (p q : Pooled) → (meant f).opponent ≡ Some o → (meant f).schedule ≡ Some (map step_of steps) → IsOpponent o.process
-    → p ≡ pool_of places_most (meant f) o → n + length steps < 4294967295
+    → p ≡ replay_pool places_most (meant f) o → n + length steps < 4294967295
     → (ms : List Message) × ReplaysWithTalks p (map step_of steps) (map event_of replay.events.items) ms q × (keeps ≡ true → AreTalks ms replay.talks) × (replay.names ≡ q.configuration.names)
     → IsRan bytes (meant f) keeps (Through replay)
 ran_through bytes f o steps n replay keeps p q e g opponent start few (ms, replays, kept, names) = (

@@ -10,7 +10,7 @@ use Rattle.spi_replay.specs.Stepping.{Pooled, IsTaken, by_place, handed_over, la
 use Rattle.spi_know.specs.Numbered.{nodes_in}
 use Rattle.spi_know.specs.Sent.{handed}
 use Rattle.spi_commands.specs.declared.schedule.Talks.{Talks}
-use Rattle.spi_commands.specs.Ran.{AreTalks, IsDatum, said}
+use Rattle.spi_commands.specs.Ran.{AreTalks, IsDatum, messages_said}
 use Rattle.spi_commands.specs.Replays.{talks_most}
 
 -- nodes of two lists
@@ -19,7 +19,7 @@ nodes_both [] ns = omega arith
 nodes_both (m ∷ ms) ns = let e = nodes_both ms ns in omega (arith, e)
 
 -- what a step that is taken hands over
-pub hands : (keeps : Bool) (p q : Pooled) (s : Step) (e : Option Event) (d : Option Msg) → keeps ≡ true → IsDatum keeps p.configuration s d → IsTaken p s e q → said d ≡ handed p.configuration s
+pub hands : (keeps : Bool) (p q : Pooled) (s : Step) (e : Option Event) (d : Option Msg) → keeps ≡ true → IsDatum keeps p.configuration s d → IsTaken p s e q → messages_said d ≡ handed p.configuration s
 hands keeps p q (act i) e None k is t = refl
 hands keeps p q (act i) e (Some m) k is t = absurd is.0
 hands keeps p q (talk i j) e None k is t = absurd (is k (e, q.configuration, t.takes))
@@ -53,18 +53,18 @@ is_small keeps p q (talk i j) e (Some m) is t =
     omega (arith, small)
 
 -- and its nodes are counted
-said_few : (d : Option Msg) → IfSome d (λ m. message_size (message m) ≤ 1000) → nodes_in (said d) ≤ 1000
+said_few : (d : Option Msg) → IfSome d (λ m. message_size (message m) ≤ 1000) → nodes_in (messages_said d) ≤ 1000
 said_few None few = omega arith
 said_few (Some m) few = omega (arith, few)
 
-pub within_room : (old new : ℕ) (d : Option Msg) → IfSome d (λ m. message_size (message m) ≤ 1000) → new ≡ old + nodes_in (said d) → new ≤ old + 1000
+pub within_room : (old new : ℕ) (d : Option Msg) → IfSome d (λ m. message_size (message m) ≤ 1000) → new ≡ old + nodes_in (messages_said d) → new ≤ old + 1000
 within_room old new d few is = let less = said_few d few in omega (arith, is, less)
 
-pub heard : (old new : Talks) (d : Option Msg) (hands ms : List Message) → said d ≡ hands → new.nodes ≡ old.nodes + nodes_in (said d)
-    → (new.nodes ≤ talks_most → map message new.data.items ≡ map message old.data.items ++ said d) → AreTalks ms old → AreTalks (ms ++ hands) new
+pub heard : (old new : Talks) (d : Option Msg) (hands ms : List Message) → messages_said d ≡ hands → new.nodes ≡ old.nodes + nodes_in (messages_said d)
+    → (new.nodes ≤ talks_most → map message new.data.items ≡ map message old.data.items ++ messages_said d) → AreTalks ms old → AreTalks (ms ++ hands) new
 heard old new d hands ms is count kept (nodes, all) =
-    let same : nodes_in (said d) ≡ nodes_in hands = ap nodes_in is in
+    let same : nodes_in (messages_said d) ≡ nodes_in hands = ap nodes_in is in
     let both = nodes_both ms hands in (
       omega (arith, count, nodes, same, both),
-      λ few. kept (omega (arith, count, nodes, same, both, few)) ∙ ap (λ l. l ++ said d) (all (omega (arith, both, few))) ∙ ap (λ l. ms ++ l) is,
+      λ few. kept (omega (arith, count, nodes, same, both, few)) ∙ ap (λ l. l ++ messages_said d) (all (omega (arith, both, few))) ∙ ap (λ l. ms ++ l) is,
     )

@@ -12,7 +12,7 @@ use Rattle.spi_commands.specs.Spelled.{SpellsFile}
 use Rattle.spi_commands.specs.Reading.{IsRead}
 use Rattle.spi_commands.specs.Refusals.{layered, Refuses}
 use Rattle.spi_commands.specs.Canonical.{ShowsTo}
-use Rattle.spi_commands.specs.Upgrading.{IsNewWord, IsSpelled, with_number, IsRespelled, AreRespelled, none_respelled, one_respelled, IsUpgrade, SpellsUpgrade, RefusesUpgrade, UpgradesTo}
+use Rattle.spi_commands.specs.Upgrading.{IsNewWord, IsSpelled, numbered_word, IsRespelled, AreRespelled, none_respelled, one_respelled, IsUpgrade, SpellsUpgrade, RefusesUpgrade, UpgradesTo}
 use Rattle.spi_commands.proofs.AnswerText.{shown_as}
 
 -- one name more
@@ -39,7 +39,7 @@ respelled_new names old prefix new n w e a f = inl (
   },
 )
   where
-    same : (m : ℕ) → prefix ++ decimal m ≡ with_number old m
+    same : (m : ℕ) → prefix ++ decimal m ≡ numbered_word old m
     same m = ap (λ p. p ++ decimal m) e ∙ append_assoc old (codes "_") (decimal m)
 
 pub respelled_if : {E : Type 0} (names : List (List ℕ)) (old prefix word : List ℕ) (n : ℕ) (r : Result (List ℕ) E) → IsNewWord old → prefix ≡ old ++ codes "_" → IsLeastBehind names prefix n → word ≡ prefix ++ decimal n → IfOk r (λ text. text ≡ word) → IfOk r (λ text. IsRespelled names old text)

@@ -7,7 +7,7 @@ use Rattle.spi_lex.specs.Writing.{IsKind}
 use Rattle.spi_tree.specs.Trees as t
 use Rattle.spi_term.specs.Spelling.{Spelling}
 use Rattle.spi_scope.specs.StandsFor.{Meant}
-use Rattle.spi_spell.proofs.Printable.{IsPrintablePart, IsOpponentPart, AreSteps, process_nodes, opponent_nodes, is_later, IsDerivationOf, IsPrintable}
+use Rattle.spi_spell.proofs.Printable.{IsPrintablePart, IsOpponentPart, AreSteps, process_nodes, opponent_nodes, is_later_file, IsDerivationOf, IsPrintable}
 use Rattle.spi_spell.proofs.Standing.{part_of, opponent_of}
 use Rattle.spi_commands.specs.Upgrading.{IsVersion2, AreRespelled, IsUpgrade}
 use Rattle.spi_commands.proofs.UpgradeVersions.{process_later, derivation_later, rules_later, derivation_kinds_later}
@@ -32,8 +32,8 @@ derivation_of f g d e h = record {
 
 from_first : (f g : Meant) (d : Option t.Deriv) → IsPrintable f d → f.version ≡ 1 → IsVersion2 f g → AreRespelled f.names f.names g.names → IsPrintable g d
 from_first f g d h one v r =
-    let old : is_later f ≡ false = ap (λ (n : ℕ). n == 2) one in
-    let new : is_later g ≡ true = ap (λ (n : ℕ). n == 2) v.version in
+    let old : is_later_file f ≡ false = ap (λ (n : ℕ). n == 2) one in
+    let new : is_later_file g ≡ true = ap (λ (n : ℕ). n == 2) v.version in
     let n : length g.names ≡ length f.names = as_many f.names r in
     let words : AllByRecursion (λ w. IsKind (words_of false) (kinds.Word w)) f.names = subst (λ (l : Bool). AllByRecursion (λ w. IsKind (words_of l) (kinds.Word w)) f.names) old h.words in
     let process : IsPrintablePart false (length f.names) f.process = subst (λ (l : Bool). IsPrintablePart l (length f.names) f.process) old h.process in

@@ -7,24 +7,24 @@ use Rattle.spi_lex.specs.Words.{version_1, version_2}
 use Rattle.spi_lex.specs.Writing.{IsKind}
 use Rattle.spi_spell.proofs.Plain.{plain_identifier, decimal_short, decimal_plain}
 use Rattle.spi_spell.proofs.Printable.{AreDistinct}
-use Rattle.spi_commands.specs.Upgrading.{IsNewWord, IsSpelled, with_number, IsRespelled, AreRespelled, none_respelled, one_respelled}
+use Rattle.spi_commands.specs.Upgrading.{IsNewWord, IsSpelled, numbered_word, IsRespelled, AreRespelled, none_respelled, one_respelled}
 use Rattle.spi_commands.proofs.UpgradeVersions.{kind_later}
 
 -- ---- a new word with a number is no word that is reserved
 
-hash_fit : (n : ℕ) → IsKind version_2 (kinds.Word (with_number (codes "hash") n))
+hash_fit : (n : ℕ) → IsKind version_2 (kinds.Word (numbered_word (codes "hash") n))
 hash_fit n = (plain_identifier 104 (97 ∷ 115 ∷ 104 ∷ 95 ∷ decimal n) (omega arith) refl (refl, (refl, (refl, (refl, (refl, decimal_plain n))))), omega (arith, decimal_short n), refl)
 
-end_many_fit : (n : ℕ) → IsKind version_2 (kinds.Word (with_number (codes "endmany") n))
+end_many_fit : (n : ℕ) → IsKind version_2 (kinds.Word (numbered_word (codes "endmany") n))
 end_many_fit n = (plain_identifier 101 (110 ∷ 100 ∷ 109 ∷ 97 ∷ 110 ∷ 121 ∷ 95 ∷ decimal n) (omega arith) refl (refl, (refl, (refl, (refl, (refl, (refl, (refl, (refl, decimal_plain n)))))))), omega (arith, decimal_short n), refl)
 
-many_fit : (n : ℕ) → IsKind version_2 (kinds.Word (with_number (codes "many") n))
+many_fit : (n : ℕ) → IsKind version_2 (kinds.Word (numbered_word (codes "many") n))
 many_fit n = (plain_identifier 109 (97 ∷ 110 ∷ 121 ∷ 95 ∷ decimal n) (omega arith) refl (refl, (refl, (refl, (refl, (refl, decimal_plain n))))), omega (arith, decimal_short n), refl)
 
-new_fit : (old : List ℕ) (n : ℕ) → IsNewWord old → IsKind version_2 (kinds.Word (with_number old n))
-new_fit old n (inl e) = subst (λ (w : List ℕ). IsKind version_2 (kinds.Word (with_number w n))) (sym e) (hash_fit n)
-new_fit old n (inr (inl e)) = subst (λ (w : List ℕ). IsKind version_2 (kinds.Word (with_number w n))) (sym e) (end_many_fit n)
-new_fit old n (inr (inr e)) = subst (λ (w : List ℕ). IsKind version_2 (kinds.Word (with_number w n))) (sym e) (many_fit n)
+new_fit : (old : List ℕ) (n : ℕ) → IsNewWord old → IsKind version_2 (kinds.Word (numbered_word old n))
+new_fit old n (inl e) = subst (λ (w : List ℕ). IsKind version_2 (kinds.Word (numbered_word w n))) (sym e) (hash_fit n)
+new_fit old n (inr (inl e)) = subst (λ (w : List ℕ). IsKind version_2 (kinds.Word (numbered_word w n))) (sym e) (end_many_fit n)
+new_fit old n (inr (inr e)) = subst (λ (w : List ℕ). IsKind version_2 (kinds.Word (numbered_word w n))) (sym e) (many_fit n)
 
 one_fit : (names : List (List ℕ)) (old new : List ℕ) → IsKind version_1 (kinds.Word old) → IsRespelled names old new → IsKind version_2 (kinds.Word new)
 one_fit names old new h (inl r) = subst (λ (w : List ℕ). IsKind version_2 (kinds.Word w)) (sym r.1.spelled) (new_fit old r.1.number r.0)
@@ -44,10 +44,10 @@ abbrev head_of : List ℕ → ℕ
 head_of [] = 0
 head_of (b ∷ bs) = b
 
-heads : (a b : List ℕ) (n m : ℕ) (x y : List ℕ) → x ≡ a → y ≡ b → with_number x n ≡ with_number y m → head_of (with_number a n) ≡ head_of (with_number b m)
-heads a b n m x y e f same = sym (ap (λ (w : List ℕ). head_of (with_number w n)) e) ∙ (ap head_of same ∙ ap (λ (w : List ℕ). head_of (with_number w m)) f)
+heads : (a b : List ℕ) (n m : ℕ) (x y : List ℕ) → x ≡ a → y ≡ b → numbered_word x n ≡ numbered_word y m → head_of (numbered_word a n) ≡ head_of (numbered_word b m)
+heads a b n m x y e f same = sym (ap (λ (w : List ℕ). head_of (numbered_word w n)) e) ∙ (ap head_of same ∙ ap (λ (w : List ℕ). head_of (numbered_word w m)) f)
 
-new_differ : (x y : List ℕ) (n m : ℕ) → IsNewWord x → IsNewWord y → x ≢ y → with_number x n ≡ with_number y m → ⊥
+new_differ : (x y : List ℕ) (n m : ℕ) → IsNewWord x → IsNewWord y → x ≢ y → numbered_word x n ≡ numbered_word y m → ⊥
 new_differ x y n m (inl e) (inl f) d same = d (e ∙ sym f)
 new_differ x y n m (inl e) (inr (inl f)) d same = (let z : 104 ≡ 101 = heads (codes "hash") (codes "endmany") n m x y e f same in omega (arith, z))
 new_differ x y n m (inl e) (inr (inr f)) d same = (let z : 104 ≡ 109 = heads (codes "hash") (codes "many") n m x y e f same in omega (arith, z))

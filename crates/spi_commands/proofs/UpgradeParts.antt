@@ -7,7 +7,7 @@ use Rattle.spi_scope.specs.StandsFor.{Meant}
 use Rattle.spi_show.specs.Files.{IsCanonicalText}
 use Rattle.spi_spell.proofs.Canonical.{printed_reads_back, spelled_printable}
 use Rattle.spi_commands.specs.Spelled.{limit, SpellsFile}
-use Rattle.spi_commands.specs.Upgrading.{with_number, IsRenumbered, IsRespelled, AreRespelled, none_respelled, one_respelled, IsUpgrade}
+use Rattle.spi_commands.specs.Upgrading.{numbered_word, IsRenumbered, IsRespelled, AreRespelled, none_respelled, one_respelled, IsUpgrade}
 use Rattle.spi_commands.proofs.UpgradeFiles.{upgraded_printable}
 
 one_number : (names : List (List ℕ)) (old a b : List ℕ) → IsRenumbered names old a → IsRenumbered names old b → a ≡ b
@@ -15,7 +15,7 @@ one_number names old a b r q =
     let low : ¬ (r.number < q.number) = λ h. r.free (q.least r.number h) in
     let high : ¬ (q.number < r.number) = λ h. q.free (r.least q.number h) in
     let same : r.number ≡ q.number = omega (arith, low, high) in
-    r.spelled ∙ ap (λ (n : ℕ). with_number old n) same ∙ sym q.spelled
+    r.spelled ∙ ap (λ (n : ℕ). numbered_word old n) same ∙ sym q.spelled
 
 one_spelling : (names : List (List ℕ)) (old a b : List ℕ) → IsRespelled names old a → IsRespelled names old b → a ≡ b
 one_spelling names old a b (inl r) (inl q) = one_number names old a b r.1 q.1
@@ -29,17 +29,17 @@ one_respelling names (one_respelled {old} {new = x} {news = xs} h r) (one_respel
     ap (λ (z : List ℕ). z ∷ xs) (one_spelling names old x y h g) ∙ ap (λ (zs : List (List ℕ)). y ∷ zs) (one_respelling names r q)
 
 -- a file by its parts
-abbrev made : ℕ → List (List ℕ) → Spelling → Option Spelling → Option (List Step) → Option (List RuleUse) → Meant
-made v n p o s d = record { version = v; names = n; process = p; opponent = o; schedule = s; derivation = d }
+abbrev upgraded_file : ℕ → List (List ℕ) → Spelling → Option Spelling → Option (List Step) → Option (List RuleUse) → Meant
+upgraded_file v n p o s d = record { version = v; names = n; process = p; opponent = o; schedule = s; derivation = d }
 
 same_file : (f g : Meant) → f.version ≡ g.version → f.names ≡ g.names → f.process ≡ g.process → f.opponent ≡ g.opponent → f.schedule ≡ g.schedule → f.derivation ≡ g.derivation → f ≡ g
 same_file f g v n p o s d =
-    ap (λ (x : ℕ). made x f.names f.process f.opponent f.schedule f.derivation) v
-    ∙ ap (λ (x : List (List ℕ)). made g.version x f.process f.opponent f.schedule f.derivation) n
-    ∙ ap (λ (x : Spelling). made g.version g.names x f.opponent f.schedule f.derivation) p
-    ∙ ap (λ (x : Option Spelling). made g.version g.names g.process x f.schedule f.derivation) o
-    ∙ ap (λ (x : Option (List Step)). made g.version g.names g.process g.opponent x f.derivation) s
-    ∙ ap (λ (x : Option (List RuleUse)). made g.version g.names g.process g.opponent g.schedule x) d
+    ap (λ (x : ℕ). upgraded_file x f.names f.process f.opponent f.schedule f.derivation) v
+    ∙ ap (λ (x : List (List ℕ)). upgraded_file g.version x f.process f.opponent f.schedule f.derivation) n
+    ∙ ap (λ (x : Spelling). upgraded_file g.version g.names x f.opponent f.schedule f.derivation) p
+    ∙ ap (λ (x : Option Spelling). upgraded_file g.version g.names g.process x f.schedule f.derivation) o
+    ∙ ap (λ (x : Option (List Step)). upgraded_file g.version g.names g.process g.opponent x f.derivation) s
+    ∙ ap (λ (x : Option (List RuleUse)). upgraded_file g.version g.names g.process g.opponent g.schedule x) d
 
 pub one_upgrade : (file a b : Meant) → IsUpgrade file a → IsUpgrade file b → a ≡ b
 one_upgrade file a b (inl (one, v, r)) (inl (two, w, q)) =

@@ -27,7 +27,7 @@ use Rattle.spi_commands.specs.declared.status.Status.TheVariants.{Yes, No, Refus
 use Rattle.spi_commands.specs.Refusals.{layered, IsLineOf, Refuses, IsMissing}
 use Rattle.spi_commands.specs.Verifying.{IsUnprovedLine, LacksDerivation, VerifiesTo}
 use Rattle.spi_commands.specs.Reading.{IsRead}
-use Rattle.spi_commands.proofs.AnswerNo.{place_of, names_of}
+use Rattle.spi_commands.proofs.AnswerNo.{place_told, names_told}
 use Rattle.spi_commands.proofs.AnswerLines.{refuses_by}
 use Rattle.spi_commands.proofs.VerifyPlaces.{rule_within, few_uses, one_derivation}
 
@@ -65,12 +65,12 @@ wrong_line bytes output f us i (tree, is, stands, marks) e w t =
     (tree, meant f, us, is, stands, e, inl (i, w, subst (λ m. output ≡ wrong_text bytes (use_of m i) i) marks t))
 
 -- the line of what is left unpaid
-unpaid_line : (bytes output : List ℕ) (f : File) (us : List RuleUse) (es : Effect) (fault : ToldFault) → IsRead bytes f → uses_of f.derivation ≡ Some us → LeavesUnpaid (untrusted f.process.names) f.process.process us es → IsUnpaid (names_of (marked f)) es fault → output ≡ fault_text bytes (place_of (marked f)) (names_of (marked f)) fault → IsUnprovedLine bytes output
+unpaid_line : (bytes output : List ℕ) (f : File) (us : List RuleUse) (es : Effect) (fault : ToldFault) → IsRead bytes f → uses_of f.derivation ≡ Some us → LeavesUnpaid (untrusted f.process.names) f.process.process us es → IsUnpaid (names_told (marked f)) es fault → output ≡ fault_text bytes (place_told (marked f)) (names_told (marked f)) fault → IsUnprovedLine bytes output
 unpaid_line bytes output f us es fault (tree, is, stands, marks) e l u t =
-    (tree, meant f, us, is, stands, e, inr (es, fault, l, subst (λ m. IsUnpaid (names_of m) es fault) marks u, subst (λ m. output ≡ fault_text bytes (place_of m) (names_of m) fault) marks t))
+    (tree, meant f, us, is, stands, e, inr (es, fault, l, subst (λ m. IsUnpaid (names_told m) es fault) marks u, subst (λ m. output ≡ fault_text bytes (place_told m) (names_told m) fault) marks t))
 
-pub unpaid_answer : (bytes : List ℕ) (f : File) (es : Effect) (fault : Fault) (result : Result Answer Stop) → IsRead bytes f → (us : List RuleUse) × (uses_of f.derivation ≡ Some us) × LeavesUnpaid (untrusted f.process.names) f.process.process us es → TellsUnpaid (names_of (marked f)) es (Some fault)
-    → IfOk result (λ a. (a.status ≡ No) × (a.output.items ≡ fault_text bytes (place_of (marked f)) (names_of (marked f)) (told fault))) → IfOk result (λ a. (a.status ≡ No) × IsUnprovedLine bytes a.output.items)
+pub unpaid_answer : (bytes : List ℕ) (f : File) (es : Effect) (fault : Fault) (result : Result Answer Stop) → IsRead bytes f → (us : List RuleUse) × (uses_of f.derivation ≡ Some us) × LeavesUnpaid (untrusted f.process.names) f.process.process us es → TellsUnpaid (names_told (marked f)) es (Some fault)
+    → IfOk result (λ a. (a.status ≡ No) × (a.output.items ≡ fault_text bytes (place_told (marked f)) (names_told (marked f)) (told fault))) → IfOk result (λ a. (a.status ≡ No) × IsUnprovedLine bytes a.output.items)
 unpaid_answer bytes f es fault (Ok a) r (us, e, l) u h = (h.0, unpaid_line bytes a.output.items f us es (told fault) r e l u h.1)
 unpaid_answer bytes f es fault (Err s) r l u h = tt
 

@@ -6,7 +6,7 @@ use Rattle.std.proofs.lemmas.Slice.Eq.{bytes_eq-Decides}
 use Rattle.clap.specs.Walk.{Text}
 use Rattle.spi_commands.specs.declared.asked.Command.{Command}
 use Rattle.spi_commands.specs.Number.{number_below}
-use Rattle.spi_commands.specs.Asked.{NumberedCommands, apart, asked, number_table, pieces, play_one, row_of, with_number, with_options}
+use Rattle.spi_commands.specs.Asked.{NumberedCommands, apart, asked, number_table, pieces, play_one, row_of, with_numbers, with_options}
 use Rattle.spi_commands.specs.Options.{has_dashes}
 
 -- either the first word is `--`, or one of the others
@@ -65,10 +65,10 @@ no_options (a ∷ n ∷ b ∷ m ∷ []) players h = first_or_rest (λ a. with_op
     neither false false o p = refl
 no_options (a ∷ n ∷ b ∷ m ∷ c ∷ ps) players h = refl
 
-no_count : (form : Option NumberedCommands) (words : List Text) → has_dashes words ≡ true → with_number form words ≡ None
+no_count : (form : Option NumberedCommands) (words : List Text) → has_dashes words ≡ true → with_numbers form words ≡ None
 no_count None words h = refl
 no_count (Some form) [] h = refl
-no_count (Some form) (n ∷ []) h = first_or_rest (λ n. with_number (Some form) (n ∷ []) ≡ None) n false h refl (λ z. absurd (never z))
+no_count (Some form) (n ∷ []) h = first_or_rest (λ n. with_numbers (Some form) (n ∷ []) ≡ None) n false h refl (λ z. absurd (never z))
 no_count (Some form) (n ∷ m ∷ rest) h = refl
 
 pub dashes_ask_nothing : (words : List Text) (players : ℕ) → has_dashes words ≡ true → None ≡ asked words players

@@ -40,9 +40,9 @@ uncut (x ∷ xs) e = by (x == 61) (uncut xs) e
         rw (on) (ap (λ l. x ∷ l) (rest none))
 
 -- what stands behind the name
-abbrev pub behind : Option Text → Text
-behind None = []
-behind (Some v) = 61 ∷ v
+abbrev pub behind_kind : Option Text → Text
+behind_kind None = []
+behind_kind (Some v) = 61 ∷ v
 
 none≢some : {X : Type 0} (x : X) → None ≡ Some x → ⊥
 none≢some x e = true≢false (ap (λ o. Rattle.std.specs.Option.is_none o) e)
@@ -52,23 +52,23 @@ append_nothing [] = refl
 append_nothing (x ∷ xs) = ap (λ l. x ∷ l) (append_nothing xs)
 
 -- a word that clap reads as an option
-pub long_word_is : (word : Text) (p : Text × Option Text) → long_of word ≡ Some p → word ≡ 45 ∷ 45 ∷ (p.0 ++ behind p.1)
+pub long_word_is : (word : Text) (p : Text × Option Text) → long_of word ≡ Some p → word ≡ 45 ∷ 45 ∷ (p.0 ++ behind_kind p.1)
 long_word_is [] p e = absurd (none≢some p e)
 long_word_is (x ∷ xs) p e = by (x == 45) refl xs e
   where
-    parts : (t : Text) (b : Bool) → list_any (λ x. x == 61) t ≡ b → t ≡ before_first (λ x. x == 61) t ++ behind (cond b (Some (after_first (λ x. x == 61) t)) None)
+    parts : (t : Text) (b : Bool) → list_any (λ x. x == 61) t ≡ b → t ≡ before_first (λ x. x == 61) t ++ behind_kind (cond b (Some (after_first (λ x. x == 61) t)) None)
     parts t true h = cut t h
     parts t false h = uncut t h ∙ sym (append_nothing (before_first (λ x. x == 61) t))
 
-    second : (y : ℕ) (c : Bool) → (y == 45) ≡ c → (ys : Text) → x ≡ 45 → option_and_then long_of_rest (cond c (Some ys) None) ≡ Some p → x ∷ y ∷ ys ≡ 45 ∷ 45 ∷ (p.0 ++ behind p.1)
+    second : (y : ℕ) (c : Bool) → (y == 45) ≡ c → (ys : Text) → x ≡ 45 → option_and_then long_of_rest (cond c (Some ys) None) ≡ Some p → x ∷ y ∷ ys ≡ 45 ∷ 45 ∷ (p.0 ++ behind_kind p.1)
     second y false isy ys is45 e = absurd (none≢some p e)
     second y true isy [] is45 e = absurd (none≢some p e)
     second y true isy (z ∷ zs) is45 e =
         let also : y ≡ 45 = grind (arith, nat_tests) in
         let same = ap (λ o. unwrap_or o p) e in
-        (λ i. is45 i ∷ also i ∷ parts (z ∷ zs) (list_any (λ x. x == 61) (z ∷ zs)) refl i) ∙ ap (λ (q : Text × Option Text). 45 ∷ 45 ∷ (q.0 ++ behind q.1)) same
+        (λ i. is45 i ∷ also i ∷ parts (z ∷ zs) (list_any (λ x. x == 61) (z ∷ zs)) refl i) ∙ ap (λ (q : Text × Option Text). 45 ∷ 45 ∷ (q.0 ++ behind_kind q.1)) same
 
-    by : (b : Bool) → (x == 45) ≡ b → (xs : Text) → option_and_then long_of_rest (option_and_then (strip_byte 45) (cond b (Some xs) None)) ≡ Some p → x ∷ xs ≡ 45 ∷ 45 ∷ (p.0 ++ behind p.1)
+    by : (b : Bool) → (x == 45) ≡ b → (xs : Text) → option_and_then long_of_rest (option_and_then (strip_byte 45) (cond b (Some xs) None)) ≡ Some p → x ∷ xs ≡ 45 ∷ 45 ∷ (p.0 ++ behind_kind p.1)
     by false isx xs e = absurd (none≢some p e)
     by true isx [] e = absurd (none≢some p e)
     by true isx (y ∷ ys) e = let is45 : x ≡ 45 = grind (arith, nat_tests) in second y (y == 45) refl ys is45 e
@@ -91,7 +91,7 @@ short_word_is (x ∷ xs) flags e = by (x == 45) refl xs e
 pub no_number : (word t : Text) → word ≡ 45 ∷ t → (most : ℕ) → number_below most word ≡ None
 no_number word t is most = ap (number_below most) is ∙ by (nat_lt (length t) 9)
   where
-    by : (b : Bool) → Rattle.spi_commands.specs.Number.below most (cond b None None) ≡ None
+    by : (b : Bool) → Rattle.spi_commands.specs.Number.below_limit most (cond b None None) ≡ None
     by true = refl
     by false = refl
 
@@ -138,7 +138,7 @@ module _ (c : List Rule) (word : Text) (short : (x : ℕ) → arg_by_short c x �
   by_long None e none = by_short (short_of word) e refl
   by_long (Some p) e none = inl (record {
     fails = λ again rows pending. rw (e, none p refl) refl;
-    number = no_number word (45 ∷ (p.0 ++ behind p.1)) (long_word_is word p e);
+    number = no_number word (45 ∷ (p.0 ++ behind_kind p.1)) (long_word_is word p e);
   })
 
   pub dashed_or_plain : ((p : Text × Option Text) → long_of word ≡ Some p → arg_by_long c p.0 ≡ None) → IsDashed c word ⊎ IsPlainValue c word

@@ -15,25 +15,25 @@ use Rattle.spi_commands.specs.declared.asked.Command.{Command}
 use Rattle.spi_commands.proofs.WordsKinds.{IsDashed, IsPlainValue, hold}
 
 -- what is read of the rows, where there is no fault
-abbrev pub answer : (List Row → Option Command) → Kinds → List Row → Option Command
-answer read [] rows = read rows
-answer read (k ∷ ks) rows = None
+abbrev pub level_answer : (List Row → Option Command) → Kinds → List Row → Option Command
+level_answer read [] rows = read rows
+level_answer read (k ∷ ks) rows = None
 
 abbrev no_kinds : Kinds → Bool
 no_kinds [] = true
 no_kinds (k ∷ ks) = false
 
-abbrev pub standing : Waiting → ℕ → List Row → Option (Text × List Text) → Walk
-standing waiting position rows pending = record { held = hold rows pending; waiting = waiting; position = position; is_trailing = false; stopped = None }
+abbrev pub waiting_walk : Waiting → ℕ → List Row → Option (Text × List Text) → Walk
+waiting_walk waiting position rows pending = record { held = hold rows pending; waiting = waiting; position = position; is_trailing = false; stopped = None }
 
 module _ (s : Shape) (read : List Row → Option Command) where
   -- what is read at the end, and behind words
   abbrev pub at_end : Held → Option Command
-  at_end end = answer read (or_else (settle_fault s.rules s.args_override_self end)
+  at_end end = level_answer read (or_else (settle_fault s.rules s.args_override_self end)
       (or_else (defaults_fault (settled s.rules end).rows s.rules) (check_fault s (finished s.rules end) false))) (finished s.rules end)
 
   abbrev pub behind_fault : Kinds → Held → Option Command
-  behind_fault ks end = answer read (or_else ks (or_else [] (or_else (settle_fault s.rules s.args_override_self end)
+  behind_fault ks end = level_answer read (or_else ks (or_else [] (or_else (settle_fault s.rules s.args_override_self end)
       (or_else (defaults_fault (settled s.rules end).rows s.rules) (check_fault s (finished s.rules end) false))))) (finished s.rules end)
 
   abbrev pub after : Walk → List Text → Option Command
@@ -62,7 +62,7 @@ module _ (s : Shape) (names : Names) (waiting : Waiting) (position : ℕ) (rows 
   passed_kinds : (b : Bool) (f : Kinds) → b ≡ false → f ≡ [] → cond b [] f ≡ []
   passed_kinds b f e is = rw (e, is) refl
 
-  pub dashed_turn : IsDashed s.rules word → turn_fault s names (standing waiting position rows pending) word ≡ UnknownArgument ∷ []
+  pub dashed_turn : IsDashed s.rules word → turn_fault s names (waiting_walk waiting position rows pending) word ≡ UnknownArgument ∷ []
   dashed_turn h =
       let met = Rattle.clap.specs.Walk.word_met s.rules names false waiting position word (hold rows pending) in
       ap (λ o. or_else (Rattle.clap.specs.Faults.other_fault s o word (hold rows pending)) (step_fault s position met.0 met.1)) free
@@ -74,7 +74,7 @@ module _ (s : Shape) (names : Names) (waiting : Waiting) (position : ℕ) (rows 
       ∙ ap (λ b. cond b (hold rows pending, trailing position) (long_or_other s.rules waiting word (long_of word) (hold rows pending))) differs
       ∙ h.value waiting rows pending
 
-  pub plain_turn : IsPlainValue s.rules word → turn_fault s names (standing waiting position rows pending) word
+  pub plain_turn : IsPlainValue s.rules word → turn_fault s names (waiting_walk waiting position rows pending) word
       ≡ step_fault s position (plain_word s.rules waiting word (hold rows pending)).0 (plain_word s.rules waiting word (hold rows pending)).1
   plain_turn h =
       let quiet : Rattle.clap.specs.Faults.word_fault s names false waiting word (hold rows pending) ≡ [] =
@@ -82,7 +82,7 @@ module _ (s : Shape) (names : Names) (waiting : Waiting) (position : ℕ) (rows 
       ∙ passed_kinds (bytes_eq word (codes "--")) _ differs (h.passes s.args_override_self rows pending) in
       ap₂ (λ (k : Kinds) (m : Held × Step). or_else k (step_fault s position m.0 m.1)) quiet (plain_met h)
 
-  pub plain_walked : IsPlainValue s.rules word → walked s.rules names (standing waiting position rows pending) word
-      ≡ after_step s.rules word (standing waiting position rows pending) (plain_word s.rules waiting word (hold rows pending)).0 (plain_word s.rules waiting word (hold rows pending)).1
+  pub plain_walked : IsPlainValue s.rules word → walked s.rules names (waiting_walk waiting position rows pending) word
+      ≡ after_step s.rules word (waiting_walk waiting position rows pending) (plain_word s.rules waiting word (hold rows pending)).0 (plain_word s.rules waiting word (hold rows pending)).1
   unfolding walked
-  plain_walked h = ap (λ (m : Held × Step). after_step s.rules word (standing waiting position rows pending) m.0 m.1) (plain_met h)
+  plain_walked h = ap (λ (m : Held × Step). after_step s.rules word (waiting_walk waiting position rows pending) m.0 m.1) (plain_met h)

@@ -16,9 +16,9 @@ id_of steps = codes "steps"
 id_of player = codes "player"
 
 -- the option in a word of its own, and with its value
-abbrev pub bare_word : Which → Text
-bare_word steps = codes "--steps"
-bare_word player = codes "--player"
+abbrev pub bare_option : Which → Text
+bare_option steps = codes "--steps"
+bare_option player = codes "--player"
 
 abbrev pub joined_word : Which → Text → Text
 joined_word steps v = codes "--steps=" ++ v
@@ -36,23 +36,23 @@ other player = steps
 
 abbrev pub pieces_of : SeenOptions → List Text
 pieces_of none = []
-pieces_of (one x v) = bare_word x ∷ v ∷ []
-pieces_of (two x v w) = bare_word x ∷ v ∷ bare_word (other x) ∷ w ∷ []
+pieces_of (one x v) = bare_option x ∷ v ∷ []
+pieces_of (two x v w) = bare_option x ∷ v ∷ bare_option (other x) ∷ w ∷ []
 
 -- one more, which may not be there yet
-abbrev pub more : SeenOptions → Which → Text → Option SeenOptions
-more none x v = Some (one x v)
-more (one steps u) steps v = None
-more (one steps u) player v = Some (two steps u v)
-more (one player u) steps v = Some (two player u v)
-more (one player u) player v = None
-more (two x u w) y v = None
+abbrev pub more_options : SeenOptions → Which → Text → Option SeenOptions
+more_options none x v = Some (one x v)
+more_options (one steps u) steps v = None
+more_options (one steps u) player v = Some (two steps u v)
+more_options (one player u) steps v = Some (two player u v)
+more_options (one player u) player v = None
+more_options (two x u w) y v = None
 
 abbrev pub wants : Option SeenOptions → List Text → ℕ → Option Command
 wants None ps players = None
 wants (Some s) ps players = with_options (pieces_of s ++ ps) players
 
-pub one_use : (s : SeenOptions) (x : Which) (v : Text) (ps : List Text) (players : ℕ) → wants (more s x v) ps players ≡ with_options (pieces_of s ++ bare_word x ∷ v ∷ ps) players
+pub one_use : (s : SeenOptions) (x : Which) (v : Text) (ps : List Text) (players : ℕ) → wants (more_options s x v) ps players ≡ with_options (pieces_of s ++ bare_option x ∷ v ∷ ps) players
 one_use none x v ps players = refl
 one_use (one steps u) player v ps players = refl
 one_use (one player u) steps v ps players = refl
@@ -66,7 +66,7 @@ one_use (two player u w) steps v ps players = refl
 one_use (two player u w) player v ps players = refl
 
 -- an option with nothing behind it
-pub no_value : (s : SeenOptions) (x : Which) (players : ℕ) → None ≡ with_options (pieces_of s ++ bare_word x ∷ []) players
+pub no_value : (s : SeenOptions) (x : Which) (players : ℕ) → None ≡ with_options (pieces_of s ++ bare_option x ∷ []) players
 no_value none x players = refl
 no_value (one y u) x players = refl
 no_value (two y u w) x players = refl
@@ -89,7 +89,7 @@ either true o e = e
 either false o e = refl
 
 -- an option with a value that is no number
-pub bad_value : (s : SeenOptions) (x : Which) (w : Text) (ps : List Text) (players : ℕ) → ((most : ℕ) → number_below most w ≡ None) → None ≡ with_options (pieces_of s ++ bare_word x ∷ w ∷ ps) players
+pub bad_value : (s : SeenOptions) (x : Which) (w : Text) (ps : List Text) (players : ℕ) → ((most : ℕ) → number_below most w ≡ None) → None ≡ with_options (pieces_of s ++ bare_option x ∷ w ∷ ps) players
 bad_value none steps w [] players h = none_all (number_below 1001 w) (h 1001)
 bad_value none player w [] players h = refl
 bad_value none x w (b ∷ []) players h = refl
@@ -104,7 +104,7 @@ bad_value (one y u) x w (p ∷ ps) players h = refl
 bad_value (two y u v) x w ps players h = refl
 
 -- the name of an option is no number
-pub name_no_number : (x : Which) (most : ℕ) → number_below most (bare_word x) ≡ None
+pub name_no_number : (x : Which) (most : ℕ) → number_below most (bare_option x) ≡ None
 name_no_number steps most = refl
 name_no_number player most = refl
 

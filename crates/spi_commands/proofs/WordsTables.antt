@@ -8,8 +8,8 @@ use Rattle.std.proofs.lemmas.Slice.Eq.{bytes_eq-Decides}
 use Rattle.clap.specs.Walk.{Rule, Text, answers_to}
 use Rattle.clap.specs.Simple.{Shape, label_of}
 use Rattle.spi_commands.specs.declared.asked.Command.{Command}
-use Rattle.spi_commands.specs.Number.{below, number, number_below}
-use Rattle.spi_commands.specs.Asked.{AreNumbersKnown, NumberedCommands, asked, at_least, number_table, pieces, play_all, play_one, row_of, with_number, with_options, word_table}
+use Rattle.spi_commands.specs.Number.{below_limit, number, number_below}
+use Rattle.spi_commands.specs.Asked.{AreNumbersKnown, NumberedCommands, asked, at_least, number_table, pieces, play_all, play_one, row_of, with_numbers, with_options, word_table}
 use Rattle.spi_commands.specs.Options.{words_of}
 use Rattle.spi_commands.proofs.WordsPlay.{built_shape}
 
@@ -68,7 +68,7 @@ module _ {X : Type 0} where
 
 -- ---- a number within its bounds
 
-below_within : (most : ℕ) (o : Option ℕ) → IfSome (below most o) (λ n. n < most)
+below_within : (most : ℕ) (o : Option ℕ) → IfSome (below_limit most o) (λ n. n < most)
 below_within most None = tt
 below_within most (Some n) = by (nat_lt n most) refl
   where
@@ -91,7 +91,7 @@ at_least_within players form keeps (Some n) few = by (nat_lt n form.least) refl
     by true e = tt
     by false e = keeps n (grind (arith, nat_tests)) (omega (arith, few))
 
-with_number_within : (players : ℕ) (o : Option NumberedCommands) → IfSome o (KeepsNumber players) → (words : List Text) → IfSome (with_number o words) (AreNumbersKnown players)
+with_number_within : (players : ℕ) (o : Option NumberedCommands) → IfSome o (KeepsNumber players) → (words : List Text) → IfSome (with_numbers o words) (AreNumbersKnown players)
 with_number_within players None k words = tt
 with_number_within players (Some form) k [] = tt
 with_number_within players (Some form) k (n ∷ []) = at_least_within players form k (number_below (form.most + 1) n) (number_within (form.most + 1) n)

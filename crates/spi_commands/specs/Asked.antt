@@ -39,9 +39,9 @@ abbrev pub at_least : NumberedCommands → Option ℕ → Option Command
 at_least form None = None
 at_least form (Some n) = if nat_lt n form.least then None else Some (form.command n)
 
-abbrev pub with_number : Option NumberedCommands → List (List ℕ) → Option Command
-with_number (Some form) (n ∷ []) = at_least form (number_below (form.most + 1) n)
-with_number form words = None
+abbrev pub with_numbers : Option NumberedCommands → List (List ℕ) → Option Command
+with_numbers (Some form) (n ∷ []) = at_least form (number_below (form.most + 1) n)
+with_numbers form words = None
 
 -- ---- `play`
 
@@ -86,7 +86,7 @@ asked [] players = None
 asked (word ∷ []) players = row_of word word_table
 asked (word ∷ other ∷ more) players =
     (if bytes_eq word (codes "play") then with_options (pieces (other ∷ more)) players else
-    with_number (row_of word number_table) (other ∷ more))
+    with_numbers (row_of word number_table) (other ∷ more))
 
 -- it asks the players
 abbrev pub is_play : Option Command → Bool

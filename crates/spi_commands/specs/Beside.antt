@@ -15,8 +15,8 @@ use Rattle.spi_commands.specs.Spelled.{IsTreeOf, SpellsFile}
 use Rattle.spi_commands.specs.Refusals.{IsMissing}
 
 -- the process at place 0 and the opponent at place 1, with at most so many places
-abbrev pub pool_of : ℕ → Meant → Spelling → Pooled
-pool_of most file o =
+abbrev pub replay_pool : ℕ → Meant → Spelling → Pooled
+replay_pool most file o =
     record { configuration = beside file.process.names file.process.process o.process; most = most }
 
 -- the file has this opponent part, and it is an opponent

@@ -5,7 +5,7 @@ use Rattle.spi_show.specs.Report.{message_text}
 use Rattle.spi_know.specs.declared.cert.CertLine.{CertLine}
 use Rattle.spi_know.specs.declared.cert.By.{By}
 use Rattle.spi_know.specs.declared.cert.By.TheVariants.{Sent, MakeUnit, MakePair, First, Second, MakeInl, MakeInr, TakeInl, TakeInr, MakeEnc, Open, MakeHash}
-use Rattle.spi_know.specs.Cert.{said}
+use Rattle.spi_know.specs.Cert.{message_said}
 
 -- a word with the lines that it names, which are counted from 1
 abbrev pub of_one : List ℕ → ℕ → List ℕ
@@ -30,19 +30,19 @@ by_text (Open i j) = of_two (codes "Open") i j
 by_text (MakeHash i) = of_one (codes "MakeHash") i
 
 -- line number k, counted from 0
-abbrev pub line_text : List (List ℕ) → ℕ → CertLine → List ℕ
-line_text names k line =
+abbrev pub certificate_line : List (List ℕ) → ℕ → CertLine → List ℕ
+certificate_line names k line =
     decimal (suc k)
-    ++ (codes " " ++ (message_text names (said line) ++ (codes " by " ++ (by_text line.by ++ codes "\n"))))
+    ++ (codes " " ++ (message_text names (message_said line) ++ (codes " by " ++ (by_text line.by ++ codes "\n"))))
 
 -- a line for each, from number k on
-abbrev pub lines_text : List (List ℕ) → ℕ → List CertLine → List ℕ
-lines_text names k [] = []
-lines_text names k (line ∷ lines) = line_text names k line ++ lines_text names (suc k) lines
+abbrev pub certificate_lines : List (List ℕ) → ℕ → List CertLine → List ℕ
+certificate_lines names k [] = []
+certificate_lines names k (line ∷ lines) = certificate_line names k line ++ certificate_lines names (suc k) lines
 
 -- the text of a name that is known, and its certificate; and that of one that isn't
 abbrev pub known_text : List (List ℕ) → ℕ → List CertLine → List ℕ
-known_text names i lines = codes "known: #" ++ (decimal i ++ (codes "\n" ++ lines_text names 0 lines))
+known_text names i lines = codes "known: #" ++ (decimal i ++ (codes "\n" ++ certificate_lines names 0 lines))
 
 abbrev pub unknown_text : ℕ → List ℕ
 unknown_text i = codes "unknown: #" ++ (decimal i ++ codes "\n")

@@ -6,7 +6,7 @@ use Rattle.spi_rules.specs.Derivations.{RuleUse}
 use Rattle.spi_scope.specs.StandsFor.{Meant}
 use Rattle.spi_deriv.specs.Canonical.{Canonical}
 use Rattle.spi_deriv.specs.Text.{derivation_text}
-use Rattle.spi_spell.specs.Joined.{joined}
+use Rattle.spi_spell.specs.Joined.{joined_texts}
 use Rattle.spi_commands.specs.declared.status.Status.{Status}
 use Rattle.spi_commands.specs.declared.status.Status.TheVariants.{Yes, No, Refused}
 use Rattle.spi_commands.specs.Spelled.{limit, SpellsFile, SpellsUnderivable, SpellsNone, SpellsUnderived, SpellsProved}
@@ -21,13 +21,13 @@ SpellsCanonical bytes d = (file : Meant) × SpellsFile bytes file
 
 -- how many bytes the file and the text of a derivation behind it have
 abbrev pub listing_length : List ℕ → List RuleUse → ℕ
-listing_length bytes d = length (joined bytes (derivation_text d))
+listing_length bytes d = length (joined_texts bytes (derivation_text d))
 
 -- the text is that derivation, and can stand behind the file
 abbrev pub IsListing : List ℕ → List ℕ → Type 0
 IsListing bytes output =
     (d : List RuleUse) × SpellsCanonical bytes d × (output ≡ derivation_text d)
-    × (length (joined bytes output) ≤ limit)
+    × (length (joined_texts bytes output) ≤ limit)
 
 -- that derivation is too long for it
 abbrev pub SpellsLongListing : List ℕ → Type 0
@@ -51,4 +51,4 @@ pub record IsDerived (bytes : List ℕ) (old new : Option (List ℕ)) (status : 
   pub no : (status ≡ No) ↔ SpellsUnderivable bytes
   pub refused : (status ≡ Refused) ↔ (SpellsNone bytes ⊎ SpellsLongListing bytes)
   pub joins : status ≡ Yes → SpellsUnderived bytes
-      → (output : List ℕ) × Appends old new output × SpellsProved (joined bytes output)
+      → (output : List ℕ) × Appends old new output × SpellsProved (joined_texts bytes output)

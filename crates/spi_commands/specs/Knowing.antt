@@ -22,8 +22,8 @@ use Rattle.spi_commands.specs.Replays.{RunsThrough, SpellsUnplayed, RefusesRepla
 use Rattle.spi_commands.specs.Certificate.{known_text, unknown_text}
 
 -- what was sent in a replay of a file: its free names in order, and then the datum of each talk in order
-abbrev pub sent : (file : Meant) {events : List Event} → RunsThrough file events → List Message
-sent file run = names_up file.process.names ++ run.talks
+abbrev pub sent_through : (file : Meant) {events : List Event} → RunsThrough file events → List Message
+sent_through file run = names_up file.process.names ++ run.talks
 
 -- ---- refusals
 
@@ -62,20 +62,20 @@ abbrev pub SpellsKnown : ℕ → List ℕ → Type 0
 SpellsKnown i bytes =
     (file : Meant) × (events : List Event) × (run : RunsThrough file events)
     × IsKnowsAsked i bytes file events run
-    × Knows (sent file run) (name i)
+    × Knows (sent_through file run) (name i)
 
 abbrev pub SpellsUnknown : ℕ → List ℕ → Type 0
 SpellsUnknown i bytes =
     (file : Meant) × (events : List Event) × (run : RunsThrough file events)
     × IsKnowsAsked i bytes file events run
-    × (¬ Knows (sent file run) (name i))
+    × (¬ Knows (sent_through file run) (name i))
 
 -- the text is that of a certificate of the name
 abbrev pub IsKnown : ℕ → List ℕ → List ℕ → Type 0
 IsKnown i bytes output =
     (file : Meant) × (events : List Event) × (run : RunsThrough file events) × (lines : List CertLine)
     × IsKnowsAsked i bytes file events run
-    × Knows (sent file run) (name i) × Certifies (sent file run) lines (name i)
+    × Knows (sent_through file run) (name i) × Certifies (sent_through file run) lines (name i)
     × (output ≡ known_text file.names i lines)
 
 -- yes, no, or a refusal
@@ -123,7 +123,7 @@ pub record IsKnownOn (i : ℕ) (bytes : List ℕ) (old new : Option (List ℕ)) 
       ↔ ((SpellsNone bytes ⊎ SpellsUnplayed bytes) ⊎ (SpellsMuchSent bytes ⊎ SpellsNameless i bytes))
   pub certified : status ≡ Yes → (file : Meant) (events : List Event) → SpellsFile bytes file
       → (run : RunsThrough file events)
-      → (lines : List CertLine) × Certifies (sent file run) lines (name i)
+      → (lines : List CertLine) × Certifies (sent_through file run) lines (name i)
       × Appends old new (known_text file.names i lines)
   pub secret : SpellsDerivable bytes → (file : Meant) (events : List Event) → SpellsFile bytes file
       → (run : RunsThrough file events)

@@ -11,9 +11,9 @@ number [] = None
 number (b ∷ bs) = if nat_lt (length bs) 9 then digits 0 (b ∷ bs) else None
 
 -- a number below this one
-abbrev pub below : ℕ → Option ℕ → Option ℕ
-below most None = None
-below most (Some n) = if nat_lt n most then Some n else None
+abbrev pub below_limit : ℕ → Option ℕ → Option ℕ
+below_limit most None = None
+below_limit most (Some n) = if nat_lt n most then Some n else None
 
 abbrev pub number_below : ℕ → List ℕ → Option ℕ
-number_below most bs = below most (number bs)
+number_below most bs = below_limit most (number bs)

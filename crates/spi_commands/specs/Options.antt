@@ -15,33 +15,33 @@ use Rattle.spi_commands.specs.Asked.{NumberedCommands, at_least, number_table, p
 -- ---- what the code's tables mean
 
 -- the command with another number
-abbrev pub numbered : Command → ℕ → Command
-numbered (Load k) n = Load n
-numbered (Knows k) n = Knows n
-numbered command n = command
+abbrev pub numbered_command : Command → ℕ → Command
+numbered_command (Load k) n = Load n
+numbered_command (Knows k) n = Knows n
+numbered_command command n = command
 
-abbrev pub number_of : Given → NumberedCommands
-number_of form = record { least = form.least; most = form.most; command = numbered form.command }
+abbrev pub numbers_given : Given → NumberedCommands
+numbers_given form = record { least = form.least; most = form.most; command = numbered_command form.command }
 
 abbrev pub word_rows : List (Bor Text × Command) → List (Text × Command)
 word_rows = map (λ row. (row.0.now, row.1))
 
 abbrev pub number_rows : List (Bor Text × Given) → List (Text × NumberedCommands)
-number_rows = map (λ row. (row.0.now, number_of row.1))
+number_rows = map (λ row. (row.0.now, numbers_given row.1))
 
 -- ---- the forms
 
 -- `--NAME VALUE`
-abbrev pub named : Text → Bool → Rule
-named name required = record (new_rule name) { long = Some name; action = Some Set; required = required }
+abbrev pub named_rule : Text → Bool → Rule
+named_rule name required = record (new_rule name) { long = Some name; action = Some Set; required = required }
 
 abbrev pub play : App
-play = with_rule (with_rule (new_app (codes "play")) (named (codes "steps") true))
-    (named (codes "player") false)
+play = with_rule (with_rule (new_app (codes "play")) (named_rule (codes "steps") true))
+    (named_rule (codes "player") false)
 
 -- a number that stands alone
-abbrev pub counted : Rule
-counted = record (new_rule (codes "count")) { action = Some Set; required = true }
+abbrev pub counted_rule : Rule
+counted_rule = record (new_rule (codes "count")) { action = Some Set; required = true }
 
 -- the program: nothing stands before its words, it has no help, and it wants a command
 abbrev pub bare : App
@@ -59,7 +59,7 @@ abbrev pub with_word : App → Text → App
 with_word a name = with_subcommand a (new_app name).top
 
 abbrev pub with_counted : App → Text → App
-with_counted a name = with_subcommand a (with_rule (new_app name) counted).top
+with_counted a name = with_subcommand a (with_rule (new_app name) counted_rule).top
 
 -- the words of a table
 module _ {X : Type 0} where
@@ -67,8 +67,8 @@ module _ {X : Type 0} where
   words_of = map (λ row. row.0)
 
 -- with all its commands
-abbrev pub whole : App
-whole = fold with_counted (with_subcommand (fold with_word bare (words_of word_table)) play.top)
+abbrev pub whole_app : App
+whole_app = fold with_counted (with_subcommand (fold with_word bare (words_of word_table)) play.top)
     (words_of number_table)
 
 -- one of the words is `--`
@@ -91,8 +91,8 @@ abbrev pub word_or_number : Option Command → Option NumberedCommands → List 
 word_or_number word (Some form) rows = with_count form (first_of (codes "count") rows)
 word_or_number word None rows = word
 
-abbrev pub found : Text → List Row → ℕ → Option Command
-found name rows players =
+abbrev pub found_command : Text → List Row → ℕ → Option Command
+found_command name rows players =
     (if bytes_eq name (codes "play") then with_values (first_of (codes "steps") rows)
     (first_of (codes "player") rows) players else
     word_or_number (row_of name word_table) (row_of name number_table) rows)
@@ -100,4 +100,4 @@ found name rows players =
 -- the command that is read from the subcommand that clap found, with its rows
 abbrev pub read : Option (Text × List Row) → ℕ → Option Command
 read None players = None
-read (Some p) players = found p.0 p.1 players
+read (Some p) players = found_command p.0 p.1 players

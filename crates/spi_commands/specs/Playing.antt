@@ -8,7 +8,7 @@ use Rattle.spi_term.specs.Spelling.{Spelling}
 use Rattle.spi_run.specs.Opponent.{IsOpponent}
 use Rattle.spi_run.specs.Reduction.{Step, Event}
 use Rattle.spi_show.specs.Steps.{schedule_text}
-use Rattle.spi_spell.specs.Joined.{joined, with_schedule}
+use Rattle.spi_spell.specs.Joined.{joined_texts, with_schedule}
 use Rattle.spi_replay.specs.Stepping.{Pooled}
 use Rattle.spi_play.specs.Way.{Seen}
 use Rattle.spi_play.specs.Play.{TurnOf, start}
@@ -22,7 +22,7 @@ use Rattle.spi_commands.specs.declared.status.Status.TheVariants.{Yes, No, Refus
 use Rattle.spi_commands.specs.Spelled.{limit, SpellsFile, SpellsNone}
 use Rattle.spi_commands.specs.Answers.{Answers, never}
 use Rattle.spi_commands.specs.Refusals.{layered, IsLineOf, Refuses, IsTooMuch}
-use Rattle.spi_commands.specs.Beside.{pool_of, HasOpponent, LacksOpponent, HasOffence}
+use Rattle.spi_commands.specs.Beside.{replay_pool, HasOpponent, LacksOpponent, HasOffence}
 use Rattle.spi_commands.specs.Replays.{RunsThrough}
 
 -- how many places a play may have
@@ -36,7 +36,7 @@ pub record IsPlayed (file : Meant) (most : ℕ) (only : Option ℕ) (before afte
   pub beside : HasOpponent file opponent
   pub last : Pooled
   pub ended : Ended
-  pub ends : EndsAt only most (start (pool_of play_places file opponent) before only)
+  pub ends : EndsAt only most (start (replay_pool play_places file opponent) before only)
       (record { pool = last; steps = steps; events = events }) after ended
 
 -- or a pick of theirs was refused so, or there was no memory to go on
@@ -45,18 +45,18 @@ pub record IsStopped (file : Meant) (most : ℕ) (only : Option ℕ) (before aft
   pub opponent : Spelling
   pub beside : HasOpponent file opponent
   pub last : Pooled
-  pub stops : RefusedAt only most (start (pool_of play_places file opponent) before only) last after fault
+  pub stops : RefusedAt only most (start (replay_pool play_places file opponent) before only) last after fault
 
 -- how many bytes the file and the text of steps behind it have
 abbrev pub play_length : List ℕ → List Step → ℕ
-play_length bytes steps = length (joined bytes (schedule_text steps))
+play_length bytes steps = length (joined_texts bytes (schedule_text steps))
 
 -- the text has the steps of such a play, and can stand behind the file
 abbrev pub IsPlay : ℕ → Option ℕ → List ℕ → List Seen → List Seen → List ℕ → Type 0
 IsPlay most only bytes before after output =
     (file : Meant) × (steps : List Step) × (events : List Event) × SpellsFile bytes file
     × IsPlayed file most only before after steps events × (output ≡ schedule_text steps)
-    × (length (joined bytes output) ≤ limit)
+    × (length (joined_texts bytes output) ≤ limit)
 
 -- that text is too long for it
 abbrev pub HasLongPlay : ℕ → Option ℕ → List ℕ → List Seen → List Seen → ℕ → Option ℕ → List ℕ → Type 0
@@ -68,7 +68,7 @@ HasLongPlay most only bytes before after number offset shown =
 -- the text of these steps, or the line of its refusal where it is too long to stand behind the file
 abbrev pub ListsTo : List ℕ → List Step → Status → List ℕ → Type 0
 ListsTo bytes steps =
-    Answers (λ output. (output ≡ schedule_text steps) × (length (joined bytes output) ≤ limit)) never
+    Answers (λ output. (output ≡ schedule_text steps) × (length (joined_texts bytes output) ≤ limit)) never
     (IsLineOf bytes (IsTooMuch (play_length bytes steps)))
 
 -- the number of a refused play's cause, and what it shows
@@ -172,5 +172,5 @@ pub record IsPlayedOn (most : ℕ) (only : Option ℕ) (bytes : List ℕ) (befor
       → file.derivation ≡ None
       → (steps : List Step) × (events : List Event) × Appends old new (schedule_text steps)
       × IsPlayed file most only before after steps events
-      × SpellsFile (joined bytes (schedule_text steps)) (with_schedule file steps)
+      × SpellsFile (joined_texts bytes (schedule_text steps)) (with_schedule file steps)
       × RunsThrough (with_schedule file steps) events

@@ -26,9 +26,9 @@ abbrev pub IsDatum : Bool → Configuration → Step → Option Msg → Type 0
 IsDatum keeps c s None = keeps ≡ true → ¬ IsReadyTalk c s
 IsDatum keeps c s (Some m) = IsReadyTalk c s × (shown c s ≡ message m ∷ [])
 
-abbrev pub said : Option Msg → List Message
-said None = []
-said (Some m) = message m ∷ []
+abbrev pub messages_said : Option Msg → List Message
+messages_said None = []
+messages_said (Some m) = message m ∷ []
 
 -- the line is that of one of these causes
 abbrev pub IsRefused : List ℕ → (ℕ → Option ℕ → List ℕ → Type 0) → Ran → Type 0

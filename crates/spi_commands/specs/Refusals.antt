@@ -16,7 +16,7 @@ use Rattle.spi_scope.specs.First.{HasFirst}
 use Rattle.spi_scope.specs.FaultPlaces.{span_from}
 use Rattle.spi_report.specs.declared.refusal.Refusal.{Refusal}
 use Rattle.spi_report.specs.Refused.{refused_text}
-use Rattle.spi_spell.specs.Joined.{joined}
+use Rattle.spi_spell.specs.Joined.{joined_texts}
 use Rattle.spi_commands.specs.declared.status.Status.{Status}
 use Rattle.spi_commands.specs.Answers.{Answers, never}
 use Rattle.spi_commands.specs.Spelled.{limit, IsTreeOf}
@@ -52,19 +52,19 @@ pub data IsUnlexed (bytes : List ℕ) : ℕ → Option ℕ → List ℕ → Type
 -- ---- syntax
 
 -- where a token begins, and at the end of the tokens the end of the bytes
-abbrev pub start_of : List ℕ → List Token → ℕ
-start_of bytes [] = length bytes
-start_of bytes (token ∷ rest) = token.span.from
+abbrev pub start_of_fault : List ℕ → List Token → ℕ
+start_of_fault bytes [] = length bytes
+start_of_fault bytes (token ∷ rest) = token.span.from
 
 -- the tokens are those of no formed text of this kind, whose texts have these pieces
 pub data IsUnparsed {X : Type 0} (pieces : X → List Piece) (IsFormed : X → Type 0) (bytes : List ℕ) : ℕ
     → Option ℕ → List ℕ → Type 0 where
   syntax : {tokens : List Token} {i : ℕ} → length bytes ≤ limit → Lexes bytes (Ok tokens)
       → IsSyntaxAt pieces IsFormed (kinds_of tokens) i
-      → IsUnparsed pieces IsFormed bytes 20 (Some (start_of bytes (drop i tokens))) []
+      → IsUnparsed pieces IsFormed bytes 20 (Some (start_of_fault bytes (drop i tokens))) []
   too_deep : {tokens : List Token} {i : ℕ} → length bytes ≤ limit → Lexes bytes (Ok tokens)
       → IsDeepAt pieces IsFormed (kinds_of tokens) i
-      → IsUnparsed pieces IsFormed bytes 21 (Some (start_of bytes (drop i tokens))) []
+      → IsUnparsed pieces IsFormed bytes 21 (Some (start_of_fault bytes (drop i tokens))) []
 
 -- ---- scopes
 
@@ -92,16 +92,16 @@ scope_shown (ScheduleTooLong s n) = decimal n
 scope_shown OutOfMemory = []
 
 -- the tree stands for no file
-pub data IsUnscoped (tree : File) : ℕ → Option ℕ → List ℕ → Type 0 where
+pub data IsUnscopedAt (tree : File) : ℕ → Option ℕ → List ℕ → Type 0 where
   out_of_scope : {fault : ScopeFault} → HasFirst tree fault
-      → IsUnscoped tree (scope_number fault) (Some (span_from fault)) (scope_shown fault)
+      → IsUnscopedAt tree (scope_number fault) (Some (span_from fault)) (scope_shown fault)
 
 -- ---- files
 
 -- the tree that the bytes spell stands for none
 abbrev pub HasUnscoped : List ℕ → ℕ → Option ℕ → List ℕ → Type 0
 HasUnscoped bytes number offset shown = (tree : File) × IsTreeOf bytes tree
-    × IsUnscoped tree number offset shown
+    × IsUnscopedAt tree number offset shown
 
 -- the bytes spell no file
 abbrev pub Refuses : List ℕ → ℕ → Option ℕ → List ℕ → Type 0
@@ -124,5 +124,5 @@ pub data IsTooMuch (count : ℕ) : ℕ → Option ℕ → List ℕ → Type 0 wh
 -- the text, or the line of its refusal where it is too long to stand behind these bytes
 abbrev pub FitsBehind : List ℕ → List ℕ → Status → List ℕ → Type 0
 FitsBehind bytes text =
-    Answers (λ output. (output ≡ text) × (length (joined bytes output) ≤ limit)) never
-    (IsLineOf bytes (IsTooMuch (length (joined bytes text))))
+    Answers (λ output. (output ≡ text) × (length (joined_texts bytes output) ≤ limit)) never
+    (IsLineOf bytes (IsTooMuch (length (joined_texts bytes text))))

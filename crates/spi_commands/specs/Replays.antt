@@ -17,7 +17,7 @@ use Rattle.spi_scope.specs.Places.{place_in}
 use Rattle.spi_scope.specs.StandsFor.{Meant, StandsFor}
 use Rattle.spi_commands.specs.Spelled.{IsTreeOf, SpellsFile}
 use Rattle.spi_commands.specs.Refusals.{layered, Refuses, IsMissing}
-use Rattle.spi_commands.specs.Beside.{pool_of, HasOpponent, LacksOpponent, HasOffence}
+use Rattle.spi_commands.specs.Beside.{replay_pool, HasOpponent, LacksOpponent, HasOffence}
 
 -- the steps are taken one by one, each within the limits, with these events, and these data of their talks
 pub data ReplaysWithTalks : Pooled → List Step → List Event → List Message → Pooled → Type 0 where
@@ -56,7 +56,7 @@ pub record RunsThrough (file : Meant) (events : List Event) : Type 0 where
   pub last : Pooled
   pub beside : HasOpponent file opponent
   pub schedule : file.schedule ≡ Some steps
-  pub replays : ReplaysWithTalks (pool_of places_most file opponent) steps events talks last
+  pub replays : ReplaysWithTalks (replay_pool places_most file opponent) steps events talks last
 
 -- why a file isn't replayed
 pub data IsUnplayed (file : Meant) : Type 0 where
@@ -65,7 +65,7 @@ pub data IsUnplayed (file : Meant) : Type 0 where
   no_opponent : {o : Spelling} → file.opponent ≡ Some o → ¬ IsOpponent o.process → IsUnplayed file
   no_step : {o : Spelling} {steps : List Step} {i : ℕ} {fault : StepFault} → HasOpponent file o
       → file.schedule ≡ Some steps
-      → IsRefusedAt (pool_of places_most file o) steps i fault → IsUnplayed file
+      → IsRefusedAt (replay_pool places_most file o) steps i fault → IsUnplayed file
 
 abbrev pub SpellsUnplayed : List ℕ → Type 0
 SpellsUnplayed bytes = (file : Meant) × SpellsFile bytes file × IsUnplayed file
@@ -113,7 +113,7 @@ HasStepRefusal bytes number offset shown =
     (tree : File) × (file : Meant) × (o : Spelling) × (steps : List Step) × IsTreeOf bytes tree
     × StandsFor tree file
     × HasOpponent file o × (file.schedule ≡ Some steps)
-    × IsStepRefusal tree (pool_of places_most file o) steps number offset shown
+    × IsStepRefusal tree (replay_pool places_most file o) steps number offset shown
 
 -- what a replay is refused for
 abbrev pub RefusesReplay : List ℕ → ℕ → Option ℕ → List ℕ → Type 0

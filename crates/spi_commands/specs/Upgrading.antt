@@ -20,15 +20,15 @@ abbrev pub IsSpelled : List (List ℕ) → List ℕ → Type 0
 IsSpelled names word = (x : ℕ) × (slice_get names x ≡ Some word)
 
 -- a word with a number behind it
-abbrev pub with_number : List ℕ → ℕ → List ℕ
-with_number word n = word ++ (codes "_" ++ decimal n)
+abbrev pub numbered_word : List ℕ → ℕ → List ℕ
+numbered_word word n = word ++ (codes "_" ++ decimal n)
 
 -- a new word gets the least number from 0 with which no name of the file is spelled so
 pub record IsRenumbered (names : List (List ℕ)) (old new : List ℕ) : Type 0 where
   pub number : ℕ
-  pub spelled : new ≡ with_number old number
-  pub free : ¬ IsSpelled names (with_number old number)
-  pub least : (n : ℕ) → n < number → IsSpelled names (with_number old n)
+  pub spelled : new ≡ numbered_word old number
+  pub free : ¬ IsSpelled names (numbered_word old number)
+  pub least : (n : ℕ) → n < number → IsSpelled names (numbered_word old n)
 
 -- and every other name keeps its spelling
 abbrev pub IsRespelled : List (List ℕ) → List ℕ → List ℕ → Type 0

@@ -3,7 +3,7 @@ ghost use Rattle.std.specs.Prelude.{◌≡◌, ◌<◌, ◌≤◌, ◌-◌, ◌^
 ghost use Rattle.clap.specs.Words.{subcommand_rows_of};
 ghost use Rattle.spi_commands.specs.Asked.{asked, AreNumbersKnown};
 ghost use Rattle.spi_commands.specs.Number.{digits, number_below};
-ghost use Rattle.spi_commands.specs.Options.{has_dashes, number_of as number_form, read, with_count, with_values};
+ghost use Rattle.spi_commands.specs.Options.{has_dashes, numbers_given as number_form, read, with_count, with_values};
 
 use crate::options::whole_form;
 use crate::words::{Numbered, number_command, with, word_command};

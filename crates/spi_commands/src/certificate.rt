@@ -1,6 +1,6 @@
 // The text of a certificate of knowledge.
 ghost use Rattle.std.specs.Prelude.{◌≡◌, ◌+◌, ◌<◌, ◌^◌, ◌++◌, IfOk, OnOk};
-ghost use Rattle.spi_commands.specs.Certificate.{by_text, known_text, line_text, lines_text, of_one, of_two, unknown_text};
+ghost use Rattle.spi_commands.specs.Certificate.{by_text, known_text, certificate_line, certificate_lines, of_one, of_two, unknown_text};
 
 use crate::NoMemory;
 use spi_know::{By, Cert, CertLine};
@@ -56,7 +56,7 @@ fn put_line(
     line: &CertLine,
 ) -> Result<(), NoMemory>
     requires { k + 1 < 2 ^ 64 }
-    ensures { OnOk result (out.new.items ≡ out.old.items ++ line_text names.now k line.now) }
+    ensures { OnOk result (out.new.items ≡ out.old.items ++ certificate_line names.now k line.now) }
 {
     let number = k as u64 + 1;
     out.extend_from_slice(format!(in alloc; "{number} ")?.as_bytes())?;

@@ -2,7 +2,7 @@
 ghost use Rattle.std.specs.Prelude.{◌≡◌, IfOk, false};
 ghost use Rattle.std.specs.List.{fold};
 ghost use Rattle.clap.specs.Words.{app_of, rule_of};
-ghost use Rattle.spi_commands.specs.Options.{bare, counted, named, number_rows, whole, with_counted, with_word, word_rows, words_of};
+ghost use Rattle.spi_commands.specs.Options.{bare, counted_rule, named_rule, number_rows, whole_app, with_counted, with_word, word_rows, words_of};
 
 use crate::asked::Command as Asked;
 use crate::words::{NUMBERS, Numbered, WORDS};
@@ -11,7 +11,7 @@ use std::alloc::{AllocError, Global};
 
 /// An option with this name and a value.
 fn named_form<'a>(alloc: Global, name: &'a str, required: bool) -> Arg<'a>
-    ensures rule { rule_of result ≡ named name.entry.now required }
+    ensures rule { rule_of result ≡ named_rule name.entry.now required }
     ensures local { result.global ≡ false }
 {
     Arg::new(alloc, name)
@@ -22,7 +22,7 @@ fn named_form<'a>(alloc: Global, name: &'a str, required: bool) -> Arg<'a>
 
 /// A number that stands alone.
 fn counted_form<'a>(alloc: Global) -> Arg<'a>
-    ensures rule { rule_of result ≡ counted }
+    ensures rule { rule_of result ≡ counted_rule }
     ensures local { result.global ≡ false }
 {
     Arg::new(alloc, "count")
@@ -98,7 +98,7 @@ fn with_counted_forms<'a>(
 
 /// The program with all its commands.
 pub fn whole_form<'a>(alloc: Global) -> Result<Command<'a>, AllocError>
-    ensures { IfOk result (λ c. app_of c ≡ whole) }
+    ensures { IfOk result (λ c. app_of c ≡ whole_app) }
 {
     let form = with_word_forms(bare_form(alloc), alloc, &WORDS)?;
     let play = Command::new(alloc, "play")

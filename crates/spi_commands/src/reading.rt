@@ -8,7 +8,7 @@ ghost use Rattle.spi_tree.specs.Views.{file_of};
 ghost use Rattle.spi_scope.specs.Files.{meant};
 ghost use Rattle.spi_scope.specs.FaultPlaces.{span_from};
 ghost use Rattle.spi_commands.specs.Spelled.{IsTreeOf, SpellsFile};
-ghost use Rattle.spi_commands.specs.Refusals.{IsLineOf, start_of, scope_number, scope_shown};
+ghost use Rattle.spi_commands.specs.Refusals.{IsLineOf, start_of_fault, scope_number, scope_shown};
 ghost use Rattle.spi_commands.specs.Reading.{IsRead, IsUnread, IsUnreadBy, IsCauseOf, StandsNamed, TellsRefusal};
 ghost use Rattle.spi_commands.specs.declared.reading.Unread.TheVariants.{NoMemory};
 
@@ -94,7 +94,7 @@ pub fn refused_for(alloc: Global, bytes: &[u8], cause: &Unread) -> Result<Answer
 pub fn start(bytes: &[u8], tokens: &[Token], token: u32) -> u32
     requires within { length bytes.now ≤ 16_777_216 }
     requires token { token ≤ length tokens.now }
-    ensures { result ≡ start_of bytes.now (drop token tokens.now) }
+    ensures { result ≡ start_of_fault bytes.now (drop token tokens.now) }
 {
     match &tokens[token as usize..] {
         [next, ..] => next.span.from,

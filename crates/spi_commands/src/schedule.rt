@@ -14,7 +14,7 @@ ghost use Rattle.spi_scope.specs.Files.{meant};
 ghost use Rattle.spi_commands.specs.Reading.{IsRead};
 ghost use Rattle.spi_commands.specs.Refusals.{IsLineOf, IsCause};
 ghost use Rattle.spi_commands.specs.Replays.{ReplaysWithTalks, IsRefusedAt, step_number, step_shown};
-ghost use Rattle.spi_commands.specs.Ran.{AreTalks, IsDatum, IsRan, IsRefused, said};
+ghost use Rattle.spi_commands.specs.Ran.{AreTalks, IsDatum, IsRan, IsRefused, messages_said};
 
 use crate::answer::{Answer, Stop, missing, refusal_line};
 use crate::opponent::not_opponent;
@@ -215,10 +215,10 @@ fn note(events: &mut Vec<Event>, event: Option<Event>) -> Result<(), StepFault>
 fn hear(talks: &mut Talks, datum: Option<Msg>) -> Result<(), StepFault>
     requires room { talks.old.nodes + 1000 < 2 ^ 64 }
     requires small { IfSome datum (λ m. message_size (message m) ≤ 1000) }
-    ensures count { OnOk result (talks.new.nodes ≡ talks.old.nodes + nodes_in (said datum)) }
+    ensures count { OnOk result (talks.new.nodes ≡ talks.old.nodes + nodes_in (messages_said datum)) }
     ensures kept { OnOk result
         (talks.new.nodes ≤ 20000
-        → map message talks.new.data.items ≡ map message talks.old.data.items ++ said datum) }
+        → map message talks.new.data.items ≡ map message talks.old.data.items ++ messages_said datum) }
     ensures err { OnErr result (result ≡ Err StepFault.NoMemory) }
 {
     match datum {

@@ -1,7 +1,7 @@
 // The words of the commands.
 ghost use Rattle.std.specs.Prelude.{◌≡◌, option_map};
 ghost use Rattle.spi_commands.specs.Asked.{number_table, row_of, word_table};
-ghost use Rattle.spi_commands.specs.Options.{number_of, number_rows, numbered, word_rows};
+ghost use Rattle.spi_commands.specs.Options.{numbers_given, number_rows, numbered_command, word_rows};
 
 use crate::asked::Command;
 
@@ -70,14 +70,14 @@ fn word_in(rows: &[(&str, Command)], word: &str) -> Option<Command>
 
 /// The command of a word with a number behind it.
 pub fn number_command(word: &str) -> Option<Numbered>
-    ensures { option_map number_of result ≡ row_of word.now number_table }
+    ensures { option_map numbers_given result ≡ row_of word.now number_table }
 {
     number_in(&NUMBERS, word)
 }
 
 /// The command of this word among these.
 fn number_in(rows: &[(&str, Numbered)], word: &str) -> Option<Numbered>
-    ensures { option_map number_of result ≡ row_of word.now (number_rows rows.now) }
+    ensures { option_map numbers_given result ≡ row_of word.now (number_rows rows.now) }
 {
     for row in rows {
         if row.0 == word {
@@ -89,7 +89,7 @@ fn number_in(rows: &[(&str, Numbered)], word: &str) -> Option<Numbered>
 
 /// The command with this number.
 pub fn with(command: Command, n: u32) -> Command
-    ensures { result ≡ numbered command n }
+    ensures { result ≡ numbered_command command n }
 {
     match command {
         Command::Load { sessions: _ } => Command::Load { sessions: n },

@@ -14,35 +14,35 @@ use Rattle.spi_rules.specs.Processes.{HasEffect, IsNonce, proc_stop, proc_out, p
 use Rattle.spi_rules.proofs.Paying.{Pays, pays_stop, pays_out, pays_in, pays_repeat, pays_split, pays_split_un, pays_match, pays_match_un, pays_case, pays_case_un, pays_decrypt, pays_decrypt_un, pays_check, pays_check_un, pays_begin, pays_end, pays_end_many, pays_cast, pays_cast_un, pays_new, pays_par, flip}
 use Rattle.spi_message.specs.Tests.{typed}
 use Rattle.spi_message.proofs.Deciding.{typed_true, typed_from}
-use Rattle.spi_deriv.specs.Canonical.{IsTyped, HasNoTyped, IsCanonical}
+use Rattle.spi_deriv.specs.Canonical.{IsTypedBelow, HasNoTyped, IsCanonical}
 use Rattle.spi_deriv.proofs.Written.{every, key_or_un, nonce_or_un}
 
 -- a canonical typing, of an effect within fs
-abbrev pub Chosen : Env → Process → Effect → Type 0
-Chosen e p fs = (es : Effect) × (d : HasEffect [] e p es) × Within es fs × IsCanonical d
+abbrev pub IsChosenEffect : Env → Process → Effect → Type 0
+IsChosenEffect e p fs = (es : Effect) × (d : HasEffect [] e p es) × Within es fs × IsCanonical d
 
 -- what a typed rule asks, where its Un form is there too
-pub split_typed : {e : Env} {m : Message} {t u : Ty} {p : Process} {es : Effect} (d : HasEffect [] e (split m t u p) es) → IsTyped d → HasType [] e m (pair_ty t u)
+pub split_typed : {e : Env} {m : Message} {t u : Ty} {p : Process} {es : Effect} (d : HasEffect [] e (split m t u p) es) → IsTypedBelow d → HasType [] e m (pair_ty t u)
 split_typed (proc_split h d g a b) i = h
 split_typed (proc_split_un h d a b) i = absurd i
 split_typed (proc_sub d w g) i = absurd i
 
-pub select_typed : {e : Env} {m n : Message} {t u : Ty} {p : Process} {es : Effect} (d : HasEffect [] e (select m t n u p) es) → IsTyped d → HasType [] e m (pair_ty t u)
+pub select_typed : {e : Env} {m n : Message} {t u : Ty} {p : Process} {es : Effect} (d : HasEffect [] e (select m t n u p) es) → IsTypedBelow d → HasType [] e m (pair_ty t u)
 select_typed (proc_match h k d g a) i = h
 select_typed (proc_match_un h k d a) i = absurd i
 select_typed (proc_sub d w g) i = absurd i
 
-pub branch_typed : {e : Env} {m : Message} {t u : Ty} {p q : Process} {es : Effect} (d : HasEffect [] e (branch m t p u q) es) → IsTyped d → HasType [] e m (sum_ty t u)
+pub branch_typed : {e : Env} {m : Message} {t u : Ty} {p q : Process} {es : Effect} (d : HasEffect [] e (branch m t p u q) es) → IsTypedBelow d → HasType [] e m (sum_ty t u)
 branch_typed (proc_case h d f g k a b r) i = h
 branch_typed (proc_case_un h d f a b r) i = absurd i
 branch_typed (proc_sub d w g) i = absurd i
 
-decrypt_typed : {e : Env} {m n : Message} {t : Ty} {p : Process} {es : Effect} (d : HasEffect [] e (decrypt m t n p) es) → IsTyped d → HasType [] e n (key t)
+decrypt_typed : {e : Env} {m n : Message} {t : Ty} {p : Process} {es : Effect} (d : HasEffect [] e (decrypt m t n p) es) → IsTypedBelow d → HasType [] e n (key t)
 decrypt_typed (proc_decrypt h k d g a) i = k
 decrypt_typed (proc_decrypt_un h k d a) i = absurd i
 decrypt_typed (proc_sub d w g) i = absurd i
 
-check_typed : {e : Env} {m n : Message} {p : Process} {es : Effect} (d : HasEffect [] e (check m n p) es) → IsTyped d → (fs : Effect) × IsNonce [] e n fs
+check_typed : {e : Env} {m n : Message} {p : Process} {es : Effect} (d : HasEffect [] e (check m n p) es) → IsTypedBelow d → (fs : Effect) × IsNonce [] e n fs
 check_typed (proc_check {fs = fs} h d n s r) i = (fs, n)
 check_typed (proc_check_un h k d) i = absurd i
 check_typed (proc_sub d w g) i = absurd i
@@ -63,19 +63,19 @@ no_check : {e : Env} {m n : Message} {p : Process} → HasType [] e n un → Has
 no_check k = λ es d i. nonce_or_un (check_typed d i).1 k
 
 -- the typed rule where it is there, else its Un form
-split_chosen : {e : Env} {m : Message} {p : Process} {es fs : Effect} (b : Bool) → typed m e (pair_ty un un) ≡ b → HasType [] e m un → (d : HasEffect [] (extended (extended e un) un) (opened_two e p) es) → IsCanonical d → EffectAvoids (length e) es → EffectAvoids (suc (length e)) es → Within es fs → Chosen e (split m un un p) fs
+split_chosen : {e : Env} {m : Message} {p : Process} {es fs : Effect} (b : Bool) → typed m e (pair_ty un un) ≡ b → HasType [] e m un → (d : HasEffect [] (extended (extended e un) un) (opened_two e p) es) → IsCanonical d → EffectAvoids (length e) es → EffectAvoids (suc (length e)) es → Within es fs → IsChosenEffect e (split m un un p) fs
 split_chosen {e} {m} {p} {es} true q h d c a b w = let k = typed_true m e (pair_ty un un) q in (es, proc_split k d (good_pair good_un good_un) a b, w, (every k, c))
 split_chosen {e} {m} {p} {es} false q h d c a b w = (es, proc_split_un h d a b, w, (no_split q, every h, c))
 
-select_chosen : {e : Env} {m n : Message} {p : Process} {es fs : Effect} (b : Bool) → typed m e (pair_ty un un) ≡ b → HasType [] e m un → HasType [] e n un → (d : HasEffect [] (extended e un) (opened e p) es) → IsCanonical d → EffectAvoids (length e) es → Within es fs → Chosen e (select m un n un p) fs
+select_chosen : {e : Env} {m n : Message} {p : Process} {es fs : Effect} (b : Bool) → typed m e (pair_ty un un) ≡ b → HasType [] e m un → HasType [] e n un → (d : HasEffect [] (extended e un) (opened e p) es) → IsCanonical d → EffectAvoids (length e) es → Within es fs → IsChosenEffect e (select m un n un p) fs
 select_chosen {e} {m} {n} {p} {es} true q h k d c a w = let l = typed_true m e (pair_ty un un) q in (es, proc_match l k d (good_pair good_un good_un) a, w, (every l, every k, c))
 select_chosen {e} {m} {n} {p} {es} false q h k d c a w = (es, proc_match_un h k d a, w, (no_select q, every h, every k, c))
 
-branch_chosen : {e : Env} {m : Message} {p q : Process} {es gs rs fs : Effect} (b : Bool) → typed m e (sum_ty un un) ≡ b → HasType [] e m un → (d : HasEffect [] (extended e un) (opened e p) es) → IsCanonical d → (f : HasEffect [] (extended e un) (opened e q) gs) → IsCanonical f → EffectAvoids (length e) es → EffectAvoids (length e) gs → IsGreater rs es gs → Within rs fs → Chosen e (branch m un p un q) fs
+branch_chosen : {e : Env} {m : Message} {p q : Process} {es gs rs fs : Effect} (b : Bool) → typed m e (sum_ty un un) ≡ b → HasType [] e m un → (d : HasEffect [] (extended e un) (opened e p) es) → IsCanonical d → (f : HasEffect [] (extended e un) (opened e q) gs) → IsCanonical f → EffectAvoids (length e) es → EffectAvoids (length e) gs → IsGreater rs es gs → Within rs fs → IsChosenEffect e (branch m un p un q) fs
 branch_chosen {e} {m} {p} {q} {es} {gs} {rs} true o h d c f k a b r w = let l = typed_true m e (sum_ty un un) o in (rs, proc_case l d f good_un good_un a b r, w, (every l, c, k))
 branch_chosen {e} {m} {p} {q} {es} {gs} {rs} false o h d c f k a b r w = (rs, proc_case_un h d f a b r, w, (no_branch o, every h, c, k))
 
-pub chosen : {e : Env} {p : Process} {fs : Effect} → Pays [] e p fs → Chosen e p fs
+pub chosen : {e : Env} {p : Process} {fs : Effect} → Pays [] e p fs → IsChosenEffect e p fs
 chosen pays_stop = ([], proc_stop, within_tally (λ a. omega arith), tt)
 chosen (pays_out h k) = ([], proc_out h k, within_tally (λ a. omega arith), (every h, every k))
 chosen {e} (pays_in h d a w) = let (xs, f, v, c) = chosen d in (xs, proc_in h f (OfEffect_within (Avoids (length e)) v a), within_trans v w, (every h, c))

@@ -12,7 +12,7 @@ use Rattle.spi_message.specs.Forms.{on_first, on_rest}
 use Rattle.spi_infer.proofs.Descending.{length_untrusted}
 use Rattle.spi_message.proofs.Opened.{length_first, length_rest}
 use Rattle.spi_infer.proofs.Scanning.{drop_at_get}
-use Rattle.spi_deriv.specs.Agenda.{next, node_uses, IsPassed}
+use Rattle.spi_deriv.specs.Agenda.{next_types, node_uses, IsPassed}
 use Rattle.spi_deriv.specs.Uses.{leaf_uses, prefix_uses, fork_uses, binding, process_uses}
 
 -- a process that is to be done, and the types of the names in scope in it
@@ -24,9 +24,9 @@ abbrev pub nodes_of : ℕ → List Task → List Shape
 nodes_of i [] = []
 nodes_of i (task q e ∷ ts) = flat i (length e) q ++ nodes_of (i + process_size q) ts
 
-abbrev pub uses_of : List Task → List RuleUse
-uses_of [] = []
-uses_of (task q e ∷ ts) = process_uses q e ++ uses_of ts
+abbrev pub task_uses : List Task → List RuleUse
+task_uses [] = []
+task_uses (task q e ∷ ts) = process_uses q e ++ task_uses ts
 
 -- Each has its own names on top of the first k of those in scope now, and k grows towards the first task, up to n.
 pub data AreTasks (now : List Ty) : ℕ → List Task → List (List Ty) → Type 0 where
@@ -43,7 +43,7 @@ pub record PassesNodes (ss : List Shape) (all : List RuleUse) (i : ℕ) (now : L
   pub tasks : List Task
   pub are : AreTasks now (length now) tasks bs
   pub nodes : drop i ss ≡ nodes_of i tasks
-  pub uses : us ++ uses_of tasks ≡ all
+  pub uses : us ++ task_uses tasks ≡ all
 
 whole : (e b : List Ty) → e ++ b ≡ take (length e) e ++ b
 whole e b = ap (λ l. l ++ b) (sym (take-length e))
@@ -78,20 +78,20 @@ nodes_at ts h = ap (λ i. nodes_of i ts) h
 
 module _ (ss : List Shape) (all : List RuleUse) (i : ℕ) (e : List Ty) (bs : List (List Ty)) (us : List RuleUse) (ts : List Task) (more : AreTasks e (length e) ts bs) where
   abbrev Next : Shape → Type 0
-  Next x = (scope_of x ≡ length e) × PassesNodes ss all (i + 1) e (next x ++ bs) (us ++ node_uses e x)
+  Next x = (scope_of x ≡ length e) × PassesNodes ss all (i + 1) e (next_types x ++ bs) (us ++ node_uses e x)
 
-  next_leaf : (l : Leaf) → drop (i + 1) ss ≡ nodes_of (i + 1) ts → us ++ (leaf_uses e l ++ uses_of ts) ≡ all → Next (leaf_at (length e) l)
+  next_leaf : (l : Leaf) → drop (i + 1) ss ≡ nodes_of (i + 1) ts → us ++ (leaf_uses e l ++ task_uses ts) ≡ all → Next (leaf_at (length e) l)
   next_leaf l h u = (
     refl,
     record {
       tasks = ts;
       are = more;
       nodes = h;
-      uses = append_assoc us (leaf_uses e l) (uses_of ts) ∙ u;
+      uses = append_assoc us (leaf_uses e l) (task_uses ts) ∙ u;
     },
   )
 
-  next_prefix : (s : Prefix) (p : Process) → drop (i + 1) ss ≡ flat (suc i) (length e + binds s) p ++ nodes_of (i + suc (process_size p)) ts → us ++ ((prefix_uses e s ++ process_uses p (e ++ binding s)) ++ uses_of ts) ≡ all → Next (prefix_at (length e) s (suc i))
+  next_prefix : (s : Prefix) (p : Process) → drop (i + 1) ss ≡ flat (suc i) (length e + binds s) p ++ nodes_of (i + suc (process_size p)) ts → us ++ ((prefix_uses e s ++ process_uses p (e ++ binding s)) ++ task_uses ts) ≡ all → Next (prefix_at (length e) s (suc i))
   next_prefix s p h u =
       let f = e ++ binding s in
       let a : suc i ≡ i + 1 = omega arith in
@@ -103,13 +103,13 @@ module _ (ss : List Shape) (all : List RuleUse) (i : ℕ) (e : List Ty) (bs : Li
           are = tasks_next {k = length e} (omega arith) (whole e (binding s)) more;
           nodes = h ∙ ap (λ l. l ++ nodes_of (i + suc (process_size p)) ts) (flat_at p a n) ∙ ap (λ l. flat (i + 1) (length f) p ++ l) (nodes_at ts z);
           uses =
-              append_assoc us (prefix_uses e s) (process_uses p f ++ uses_of ts)
-              ∙ ap (λ l. us ++ l) (sym (append_assoc (prefix_uses e s) (process_uses p f) (uses_of ts)))
+              append_assoc us (prefix_uses e s) (process_uses p f ++ task_uses ts)
+              ∙ ap (λ l. us ++ l) (sym (append_assoc (prefix_uses e s) (process_uses p f) (task_uses ts)))
               ∙ u;
         },
       )
 
-  next_fork : (f : Fork) (p q : Process) → drop (i + 1) ss ≡ (flat (suc i) (length e + fork_binds f) p ++ flat (suc i + process_size p) (length e + fork_binds f) q) ++ nodes_of (i + suc (process_size p + process_size q)) ts → us ++ ((fork_uses e f ++ (process_uses p (e ++ on_first f) ++ process_uses q (e ++ on_rest f))) ++ uses_of ts) ≡ all → Next (fork_at (length e) f (suc i) (suc i + process_size p))
+  next_fork : (f : Fork) (p q : Process) → drop (i + 1) ss ≡ (flat (suc i) (length e + fork_binds f) p ++ flat (suc i + process_size p) (length e + fork_binds f) q) ++ nodes_of (i + suc (process_size p + process_size q)) ts → us ++ ((fork_uses e f ++ (process_uses p (e ++ on_first f) ++ process_uses q (e ++ on_rest f))) ++ task_uses ts) ≡ all → Next (fork_at (length e) f (suc i) (suc i + process_size p))
   next_fork f p q h u =
       let g = e ++ on_first f in
       let k = e ++ on_rest f in
@@ -133,14 +133,14 @@ module _ (ss : List Shape) (all : List RuleUse) (i : ℕ) (e : List Ty) (bs : Li
               ∙ ap (λ l. flat (i + 1) (length g) p ++ (l ++ nodes_of (i + suc (process_size p + process_size q)) ts)) (flat_at q c m)
               ∙ ap (λ l. flat (i + 1) (length g) p ++ (flat (i + 1 + process_size p) (length k) q ++ l)) (nodes_at ts z);
           uses =
-              append_assoc us (fork_uses e f) (up ++ (uq ++ uses_of ts))
-              ∙ ap (λ l. us ++ (fork_uses e f ++ l)) (sym (append_assoc up uq (uses_of ts)))
-              ∙ ap (λ l. us ++ l) (sym (append_assoc (fork_uses e f) (up ++ uq) (uses_of ts)))
+              append_assoc us (fork_uses e f) (up ++ (uq ++ task_uses ts))
+              ∙ ap (λ l. us ++ (fork_uses e f ++ l)) (sym (append_assoc up uq (task_uses ts)))
+              ∙ ap (λ l. us ++ l) (sym (append_assoc (fork_uses e f) (up ++ uq) (task_uses ts)))
               ∙ u;
         },
       )
 
-  next_by : (q : Process) (x : Shape) → x ∷ drop (i + 1) ss ≡ nodes_of i (task q e ∷ ts) → us ++ (process_uses q e ++ uses_of ts) ≡ all → Next x
+  next_by : (q : Process) (x : Shape) → x ∷ drop (i + 1) ss ≡ nodes_of i (task q e ∷ ts) → us ++ (process_uses q e ++ task_uses ts) ≡ all → Next x
   next_by (leaf l) x h u =
       let a : x ≡ leaf_at (length e) l = cc in
       let b : drop (i + 1) ss ≡ nodes_of (i + 1) ts = cc in
@@ -155,7 +155,7 @@ module _ (ss : List Shape) (all : List RuleUse) (i : ℕ) (e : List Ty) (bs : Li
       subst Next (sym a) (next_fork f p q b u)
 
 -- one more node
-next_from : (ss : List Shape) (all : List RuleUse) (i : ℕ) (x : Shape) {now later : List Ty} {bs cs : List (List Ty)} {us vs : List RuleUse} (ts : List Task) → AreTasks now (length now) ts bs → x ∷ drop (i + 1) ss ≡ nodes_of i ts → us ++ uses_of ts ≡ all → ((b : List Ty) (rest : List (List Ty)) → bs ≡ b ∷ rest → IsPassed (scope_of x) x b rest now later cs us vs) → PassesNodes ss all (i + 1) later cs vs
+next_from : (ss : List Shape) (all : List RuleUse) (i : ℕ) (x : Shape) {now later : List Ty} {bs cs : List (List Ty)} {us vs : List RuleUse} (ts : List Task) → AreTasks now (length now) ts bs → x ∷ drop (i + 1) ss ≡ nodes_of i ts → us ++ task_uses ts ≡ all → ((b : List Ty) (rest : List (List Ty)) → bs ≡ b ∷ rest → IsPassed (scope_of x) x b rest now later cs us vs) → PassesNodes ss all (i + 1) later cs vs
 next_from ss all i x [] tasks_none h u p = absurd (cc h)
 next_from ss all i x {now} {later} {cs = cs} {us = us} {vs = vs} (task q e ∷ ts) (tasks_next {k = k} {b = b} {bs = rest} l g r) h u p =
     let w = p b rest refl in
@@ -166,7 +166,7 @@ next_from ss all i x {now} {later} {cs = cs} {us = us} {vs = vs} (task q e ∷ t
     let z : scope_of x - length b ≡ k = omega (arith, d.0, n) in
     let t : later ≡ e = w.types ∙ ap (λ k. take k now ++ b) z ∙ sym g in
     let v = w.uses ∙ ap (λ l. us ++ node_uses l x) t in
-    subst (λ vs. PassesNodes ss all (i + 1) later cs vs) (sym v) (subst (λ cs. PassesNodes ss all (i + 1) later cs (us ++ node_uses e x)) (sym w.left) (subst (λ l. PassesNodes ss all (i + 1) l (next x ++ rest) (us ++ node_uses e x)) (sym t) d.1))
+    subst (λ vs. PassesNodes ss all (i + 1) later cs vs) (sym v) (subst (λ cs. PassesNodes ss all (i + 1) later cs (us ++ node_uses e x)) (sym w.left) (subst (λ l. PassesNodes ss all (i + 1) l (next_types x ++ rest) (us ++ node_uses e x)) (sym t) d.1))
 
 pub passes_next : {ss : List Shape} {all : List RuleUse} {i : ℕ} {now later : List Ty} {bs cs : List (List Ty)} {us vs : List RuleUse} (x : Shape) (n : ℕ) → PassesNodes ss all i now bs us → slice_get ss i ≡ Some x → n ≡ scope_of x → ((b : List Ty) (rest : List (List Ty)) → bs ≡ b ∷ rest → IsPassed n x b rest now later cs us vs) → PassesNodes ss all (i + 1) later cs vs
 passes_next {ss} {all} {i} {now} {later} {bs} {cs} {us} {vs} x n w at h p =
@@ -175,7 +175,7 @@ passes_next {ss} {all} {i} {now} {later} {bs} {cs} {us} {vs} x n w at h p =
     next_from ss all i x w.tasks w.are (sym (drop_at_get ss i x at) ∙ w.nodes) w.uses q
 
 -- behind the last node nothing is left
-none_left : (i : ℕ) (ts : List Task) → [] ≡ nodes_of i ts → uses_of ts ≡ []
+none_left : (i : ℕ) (ts : List Task) → [] ≡ nodes_of i ts → task_uses ts ≡ []
 none_left i [] h = refl
 none_left i (task (leaf l) e ∷ ts) h = absurd (cc h)
 none_left i (task (prefix s p) e ∷ ts) h = absurd (cc h)

@@ -13,7 +13,7 @@ use Rattle.spi_message.specs.Forms.{is_nonce, enter, more, on_first, on_rest}
 use Rattle.spi_message.proofs.Opened.{numbered_prefix, numbered_fork, numbered_leaf}
 use Rattle.spi_deriv.specs.Canonical.{Canonical, IsCanonical}
 use Rattle.spi_deriv.specs.Uses.{message_uses, split_uses, select_uses, decrypt_uses, check_uses, branch_uses, leaf_uses, prefix_uses, fork_uses, binding, process_uses}
-use Rattle.spi_deriv.proofs.Heads.{bare, bare_map, Alike, alike_more}
+use Rattle.spi_deriv.proofs.Heads.{bare_type, bare_map, Alike, alike_more}
 use Rattle.spi_deriv.proofs.Written.{un_no_key, un_no_nonce, un_no_pair, un_no_sum, pair_is_pair, sum_is_sum, key_is_key, nonce_is_nonce, uses_are}
 
 abbrev pub uses_in : Env → Process → List Ty → List RuleUse
@@ -50,13 +50,13 @@ split_body e f a t u p us ih =
     let v = ty_put (name (length e)) u in
     let z = append_assoc e (t ∷ []) (v ∷ []) in
     let g = f ++ t ∷ (u ∷ []) in
-    let same : map bare (t ∷ (u ∷ [])) ≡ map bare (t ∷ (v ∷ [])) = ap (λ x. bare t ∷ (x ∷ [])) (sym (bare_map (put (name (length e))) 0 u)) in
+    let same : map bare_type (t ∷ (u ∷ [])) ≡ map bare_type (t ∷ (v ∷ [])) = ap (λ x. bare_type t ∷ (x ∷ [])) (sym (bare_map (put (name (length e))) 0 u)) in
     let b = subst (λ e. Alike g e) (sym z) (alike_more f e (t ∷ (u ∷ [])) (t ∷ (v ∷ [])) a same) in
     ih g b ∙ ap (λ e'. uses_in e' (enter 2 (length e) p) g) z
 
 select_body : (e : Env) (f : List Ty) → Alike f e → (n : Message) (u : Ty) (p : Process) (us : List RuleUse) → ((g : List Ty) → Alike g (e ++ ty_put n u ∷ []) → us ≡ uses_in (e ++ ty_put n u ∷ []) (enter 1 (length e) p) g) → us ≡ uses_in (e ++ ty_put n u ∷ []) (enter 1 (length e) p) (f ++ u ∷ [])
 select_body e f a n u p us ih =
-    let same : map bare (u ∷ []) ≡ map bare (ty_put n u ∷ []) = ap (λ x. x ∷ []) (sym (bare_map (put n) 0 u)) in
+    let same : map bare_type (u ∷ []) ≡ map bare_type (ty_put n u ∷ []) = ap (λ x. x ∷ []) (sym (bare_map (put n) 0 u)) in
     ih (f ++ u ∷ []) (alike_more f e (u ∷ []) (ty_put n u ∷ []) a same)
 
 pub spelled_are : {e : Env} {p : Process} {es : Effect} (f : List Ty) → Alike f e → (d : HasEffect [] e p es) → IsCanonical d → effect_uses d ≡ uses_in e p f

@@ -14,7 +14,7 @@ use Rattle.spi_rules.specs.declared.rule.Rule.TheVariants.{MsgName, MsgPair, Msg
 use Rattle.spi_message.specs.Tests.{key_in, key_of, nonce_in, nonce_of}
 use Rattle.spi_deriv.specs.Canonical.{IsTypedMessage, IsCanonicalMessage}
 use Rattle.spi_deriv.specs.Uses.{enc_uses, message_uses, is_pair_ty, is_pair, is_sum_ty, is_sum}
-use Rattle.spi_deriv.proofs.Heads.{bare, bare_map, bare_un, bare_pair, bare_sum, bare_key, bare_nonce, Alike, seen, same_uses}
+use Rattle.spi_deriv.proofs.Heads.{bare_type, bare_map, bare_un, bare_pair, bare_sum, bare_key, bare_nonce, Alike, seen, same_uses}
 
 -- a name of type Un is of no Key and of no Nonce type
 no_un_key : {e : Env} {x : ℕ} {t : Ty} → At e x (key t) → HasType [] e (name x) un → ⊥
@@ -59,10 +59,10 @@ module _ {e : Env} (f : List Ty) (a : Alike f e) where
   un_seen : {x : ℕ} → At e x un → slice_get f x ≡ Some un
   un_seen {x} h = let w = seen f e x un a (at_get h) in w.1 ∙ ap Some (bare_un w.0 w.2)
 
-  key_seen : {x : ℕ} {t : Ty} → At e x (key t) → (u : Ty) × (slice_get f x ≡ Some (key u)) × (bare u ≡ bare t)
+  key_seen : {x : ℕ} {t : Ty} → At e x (key t) → (u : Ty) × (slice_get f x ≡ Some (key u)) × (bare_type u ≡ bare_type t)
   key_seen {x} {t} h =
       let w = seen f e x (key t) a (at_get h) in
-      let k = bare_key w.0 (bare t) w.2 in
+      let k = bare_key w.0 (bare_type t) w.2 in
       (k.0, w.1 ∙ ap Some k.1, k.2)
 
   nonce_seen : {x : ℕ} {es : Effect} → At e x (nonce es) → (fs : Effect) × (slice_get f x ≡ Some (nonce fs))
@@ -99,7 +99,7 @@ module _ {e : Env} (f : List Ty) (a : Alike f e) where
   pub pair_is_pair : {m : Message} {t u : Ty} → HasType [] e m (pair_ty t u) → is_pair f m ≡ true
   pair_is_pair (msg_name {x} h (same_pair {t} {u = u} p q)) =
       let w = seen f e x (pair_ty t u) a (at_get h) in
-      let k = bare_pair w.0 (bare t) (bare u) w.2 in
+      let k = bare_pair w.0 (bare_type t) (bare_type u) w.2 in
       ap is_pair_ty (w.1 ∙ ap Some k.2)
   pair_is_pair (msg_pair h k) = refl
   pair_is_pair (msg_cast i s) = elim i [ ]
@@ -107,7 +107,7 @@ module _ {e : Env} (f : List Ty) (a : Alike f e) where
   pub sum_is_sum : {m : Message} {t u : Ty} → HasType [] e m (sum_ty t u) → is_sum f m ≡ true
   sum_is_sum (msg_name {x} h (same_sum {t} {u = u} p q)) =
       let w = seen f e x (sum_ty t u) a (at_get h) in
-      let k = bare_sum w.0 (bare t) (bare u) w.2 in
+      let k = bare_sum w.0 (bare_type t) (bare_type u) w.2 in
       ap is_sum_ty (w.1 ∙ ap Some k.2)
   sum_is_sum (msg_inl h) = refl
   sum_is_sum (msg_inr h) = refl

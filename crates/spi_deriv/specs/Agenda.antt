@@ -28,14 +28,14 @@ bound_types (B.One t) = View.ty t.now ∷ []
 bound_types (B.Two t u) = View.ty t.now ∷ (View.ty u.now ∷ [])
 
 -- the stack grows at its end, and is read from there
-abbrev pub tops : List Binding → List (List Term.Ty)
-tops bs = reverse (map bound_types bs)
+abbrev pub top_types : List Binding → List (List Term.Ty)
+top_types bs = reverse (map bound_types bs)
 
 -- what the processes in a form bind
-abbrev pub next : Shape → List (List Term.Ty)
-next (leaf_at k l) = []
-next (prefix_at k s b) = binding s ∷ []
-next (fork_at k f a r) = on_first f ∷ (on_rest f ∷ [])
+abbrev pub next_types : Shape → List (List Term.Ty)
+next_types (leaf_at k l) = []
+next_types (prefix_at k s b) = binding s ∷ []
+next_types (fork_at k f a r) = on_first f ∷ (on_rest f ∷ [])
 
 -- the uses of a node itself and of its messages
 abbrev pub node_uses : List Term.Ty → Shape → List RuleUse
@@ -44,7 +44,7 @@ node_uses e (prefix_at k s b) = prefix_uses e s
 node_uses e (fork_at k f a r) = fork_uses e f
 
 -- the last on the stack is bound on top of the names that are in scope outside
-pub record IsSettled (scope : ℕ) (b : List Term.Ty) (rest : List (List Term.Ty)) (old new : List Term.Ty)
+pub record IsAgendaSettled (scope : ℕ) (b : List Term.Ty) (rest : List (List Term.Ty)) (old new : List Term.Ty)
     (after : List (List Term.Ty)) : Type 0 where
   pub types : new ≡ take (scope - length b) old ++ b
   pub left : after ≡ rest
@@ -53,5 +53,5 @@ pub record IsSettled (scope : ℕ) (b : List Term.Ty) (rest : List (List Term.Ty
 pub record IsPassed (scope : ℕ) (x : Shape) (b : List Term.Ty) (rest : List (List Term.Ty))
     (old new : List Term.Ty) (after : List (List Term.Ty)) (us vs : List RuleUse) : Type 0 where
   pub types : new ≡ take (scope - length b) old ++ b
-  pub left : after ≡ next x ++ rest
+  pub left : after ≡ next_types x ++ rest
   pub uses : vs ≡ us ++ node_uses new x

@@ -46,32 +46,32 @@ IsCanonicalMessage (msg_hash l) = ⊤
 IsCanonicalMessage (msg_cast i s) = ⊥
 
 -- the last rule of a process's typing is a typed rule with an Un form
-abbrev pub IsTyped : {env : Env} {p : Process} {es : Effect} → HasEffect [] env p es → Type 0
-IsTyped proc_stop = ⊥
-IsTyped (proc_out h k) = ⊥
-IsTyped (proc_in h d a) = ⊥
-IsTyped (proc_repeat h d m a) = ⊥
-IsTyped (proc_split h d g a b) = ⊤
-IsTyped (proc_split_un h d a b) = ⊥
-IsTyped (proc_match h k d g a) = ⊤
-IsTyped (proc_match_un h k d a) = ⊥
-IsTyped (proc_case h d e g k a b r) = ⊤
-IsTyped (proc_case_un h d e a b r) = ⊥
-IsTyped (proc_decrypt h k d g a) = ⊤
-IsTyped (proc_decrypt_un h k d a) = ⊥
-IsTyped (proc_check h d n s r) = ⊤
-IsTyped (proc_check_un h k d) = ⊥
-IsTyped (proc_begin d l r) = ⊥
-IsTyped (proc_end d l r) = ⊥
-IsTyped (proc_end_many d l r) = ⊥
-IsTyped (proc_cast h d g a r) = ⊥
-IsTyped (proc_cast_un h d a) = ⊥
-IsTyped (proc_new d i g r a) = ⊥
-IsTyped (proc_par d e r) = ⊥
-IsTyped (proc_sub d w g) = ⊥
+abbrev pub IsTypedBelow : {env : Env} {p : Process} {es : Effect} → HasEffect [] env p es → Type 0
+IsTypedBelow proc_stop = ⊥
+IsTypedBelow (proc_out h k) = ⊥
+IsTypedBelow (proc_in h d a) = ⊥
+IsTypedBelow (proc_repeat h d m a) = ⊥
+IsTypedBelow (proc_split h d g a b) = ⊤
+IsTypedBelow (proc_split_un h d a b) = ⊥
+IsTypedBelow (proc_match h k d g a) = ⊤
+IsTypedBelow (proc_match_un h k d a) = ⊥
+IsTypedBelow (proc_case h d e g k a b r) = ⊤
+IsTypedBelow (proc_case_un h d e a b r) = ⊥
+IsTypedBelow (proc_decrypt h k d g a) = ⊤
+IsTypedBelow (proc_decrypt_un h k d a) = ⊥
+IsTypedBelow (proc_check h d n s r) = ⊤
+IsTypedBelow (proc_check_un h k d) = ⊥
+IsTypedBelow (proc_begin d l r) = ⊥
+IsTypedBelow (proc_end d l r) = ⊥
+IsTypedBelow (proc_end_many d l r) = ⊥
+IsTypedBelow (proc_cast h d g a r) = ⊥
+IsTypedBelow (proc_cast_un h d a) = ⊥
+IsTypedBelow (proc_new d i g r a) = ⊥
+IsTypedBelow (proc_par d e r) = ⊥
+IsTypedBelow (proc_sub d w g) = ⊥
 
 abbrev pub HasNoTyped : Env → Process → Type 0
-HasNoTyped env p = (es : Effect) (d : HasEffect [] env p es) → IsTyped d → ⊥
+HasNoTyped env p = (es : Effect) (d : HasEffect [] env p es) → IsTypedBelow d → ⊥
 
 -- a process's typing is canonical
 abbrev pub IsCanonical : {env : Env} {p : Process} {es : Effect} → HasEffect [] env p es → Type 0

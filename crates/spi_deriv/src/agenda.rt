@@ -3,7 +3,7 @@
 ghost use Rattle.std.specs.Prelude.{◌≡◌, List, [], ◌∷◌, ◌++◌, length, OnOk};
 ghost use Rattle.spi_term.specs.Term as Term;
 ghost use Rattle.spi_term.specs.View.{shape_of, ty as type_of};
-ghost use Rattle.spi_deriv.specs.Agenda.{types_of, bound_types, tops, next, IsSettled};
+ghost use Rattle.spi_deriv.specs.Agenda.{types_of, bound_types, top_types, next_types, IsAgendaSettled};
 
 use crate::NoMemory;
 use spi_term::{Form, Node, Ty};
@@ -55,9 +55,9 @@ pub fn settle<'a>(
     types: &mut Vec<&'a Ty>,
 ) -> Result<(), NoMemory>
     ensures { OnOk result
-        ((b : List Term.Ty) (rest : List (List Term.Ty)) → tops pending.old.items ≡ b ∷ rest
-        → IsSettled scope b rest (types_of types.old.items) (types_of types.new.items)
-        (tops pending.new.items)) }
+        ((b : List Term.Ty) (rest : List (List Term.Ty)) → top_types pending.old.items ≡ b ∷ rest
+        → IsAgendaSettled scope b rest (types_of types.old.items) (types_of types.new.items)
+        (top_types pending.new.items)) }
 {
     match pending.pop() {
         None => Ok(()),
@@ -70,7 +70,7 @@ pub fn settle<'a>(
 }
 
 fn push_binding<'a>(binding: Binding<'a>, pending: &mut Vec<Binding<'a>>) -> Result<(), NoMemory>
-    ensures { OnOk result (tops pending.new.items ≡ bound_types binding.entry ∷ tops pending.old.items) }
+    ensures { OnOk result (top_types pending.new.items ≡ bound_types binding.entry ∷ top_types pending.old.items) }
 {
     pending.push(binding)?;
     Ok(())
@@ -82,8 +82,8 @@ fn push_bindings<'a>(
     pending: &mut Vec<Binding<'a>>,
 ) -> Result<(), NoMemory>
     ensures { OnOk result
-        (tops pending.new.items ≡ bound_types first.entry
-        ∷ (bound_types rest.entry ∷ tops pending.old.items)) }
+        (top_types pending.new.items ≡ bound_types first.entry
+        ∷ (bound_types rest.entry ∷ top_types pending.old.items)) }
 {
     push_binding(rest, pending)?;
     push_binding(first, pending)
@@ -91,7 +91,7 @@ fn push_bindings<'a>(
 
 /// The processes in a form are to be done, the first of them first.
 pub fn put_off<'a>(node: &'a Node, pending: &mut Vec<Binding<'a>>) -> Result<(), NoMemory>
-    ensures { OnOk result (tops pending.new.items ≡ next (shape_of node.now) ++ tops pending.old.items) }
+    ensures { OnOk result (top_types pending.new.items ≡ next_types (shape_of node.now) ++ top_types pending.old.items) }
 {
     match &node.form {
         Form::Send { .. } | Form::Stop => Ok(()),

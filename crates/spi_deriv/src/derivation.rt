@@ -9,7 +9,7 @@ ghost use Rattle.spi_rules.specs.Environment.{untrusted};
 ghost use Rattle.spi_rules.specs.Derivations.{Derivable};
 ghost use Rattle.spi_rules.specs.Deriv.{rule_use, rule_uses};
 ghost use Rattle.spi_rules.specs.Least.{Least};
-ghost use Rattle.spi_deriv.specs.Agenda.{types_of, tops, IsPassed};
+ghost use Rattle.spi_deriv.specs.Agenda.{types_of, top_types, IsPassed};
 ghost use Rattle.spi_deriv.specs.Canonical.{Canonical};
 ghost use Rattle.spi_deriv.specs.Text.{derivation_text};
 ghost use Rattle.spi_deriv.specs.Uses.{process_uses};
@@ -43,9 +43,9 @@ fn visit<'a>(
     out: &mut Vec<RuleUse>,
 ) -> Result<(), NoMemory>
     ensures { OnOk result
-        ((b : List Term.Ty) (rest : List (List Term.Ty)) → tops pending.old.items ≡ b ∷ rest
+        ((b : List Term.Ty) (rest : List (List Term.Ty)) → top_types pending.old.items ≡ b ∷ rest
         → IsPassed node.now.scope (shape_of node.now) b rest (types_of types.old.items)
-        (types_of types.new.items) (tops pending.new.items) (map rule_use out.old.items)
+        (types_of types.new.items) (top_types pending.new.items) (map rule_use out.old.items)
         (map rule_use out.new.items)) }
 {
     settle(node.scope, pending, types)?;

@@ -12,9 +12,9 @@ use Rattle.spi_term.specs.View.{atom}
 use Rattle.spi_text.specs.declared.lines.Span.{Span}
 
 -- the line of a yes, or that of the fault
-abbrev pub line_of : List ℕ → (ℕ → Span) → (ℕ → List (List ℕ)) → Option Fault → List ℕ
-line_of bytes place spelled None = codes "yes\n"
-line_of bytes place spelled (Some f) = fault_text bytes place spelled (told f)
+abbrev pub finding_line : List ℕ → (ℕ → Span) → (ℕ → List (List ℕ)) → Option Fault → List ℕ
+finding_line bytes place spelled None = codes "yes\n"
+finding_line bytes place spelled (Some f) = fault_text bytes place spelled (told f)
 
 -- the origins of the atom that is shown, in the effect in which it stands, and none where no atom is shown
 abbrev pub AreShownOrigins : ℕ → Process → ℕ → Option Shown → List ℕ → Type 0

@@ -1,7 +1,7 @@
 -- What the typing rules for a process's form ask of its messages.
 use Rattle.std.specs.Prelude.{List, [], ◌∷◌}
 use Rattle.spi_blame.specs.Blaming.{Question, typed, labelled}
-use Rattle.spi_blame.specs.Told.{asked, TellsBlame}
+use Rattle.spi_blame.specs.Told.{question_of, TellsBlame}
 use Rattle.spi_explain.specs.declared.blaming.Answer.{Answer}
 use Rattle.spi_rules.specs.Environment.{Env}
 use Rattle.spi_term.specs.Spelling.{Shape, leaf_at, prefix_at, fork_at}
@@ -45,5 +45,5 @@ premises_at (fork_at k f a r) = fork_premises f
 pub data AreAnswered (env : Env) : List Question → List Answer → Type 0 where
   answered_none : AreAnswered env [] []
   answered_next : {a : Answer} {qs : List Question} {rs : List Answer}
-      → TellsBlame env (asked a.message a.wanted) a.blame → AreAnswered env qs rs
-      → AreAnswered env (asked a.message a.wanted ∷ qs) (a ∷ rs)
+      → TellsBlame env (question_of a.message a.wanted) a.blame → AreAnswered env qs rs
+      → AreAnswered env (question_of a.message a.wanted ∷ qs) (a ∷ rs)

@@ -2,7 +2,7 @@
 
 ghost use Rattle.std.specs.Prelude.{◌≡◌, ◌<◌, ℕ, IfOk, OnOk, List, [], ◌∷◌, ◌++◌};
 ghost use Rattle.spi_blame.specs.Blaming.{Question, typed, labelled};
-ghost use Rattle.spi_blame.specs.Told.{asked, TellsBlame};
+ghost use Rattle.spi_blame.specs.Told.{question_of, TellsBlame};
 ghost use Rattle.spi_explain.specs.Premises.{premises, premises_at, AreAnswered};
 ghost use Rattle.spi_rules.specs.Blocking.{NodeOf};
 ghost use Rattle.spi_rules.specs.Environment as Rules;

@@ -1,7 +1,7 @@
 // What is found of a file's process.
 
 ghost use Rattle.std.specs.Prelude.{◌≡◌, ◌≤◌, ℕ, length, reverse, IfOk};
-ghost use Rattle.spi_explain.specs.Findings.{line_of, AreOrigins};
+ghost use Rattle.spi_explain.specs.Findings.{finding_line, AreOrigins};
 ghost use Rattle.spi_fault.specs.Faults.{Explains};
 ghost use Rattle.spi_infer.specs.Inferring.{AnswersOver};
 ghost use Rattle.spi_origin.specs.Listing.{AreAll};
@@ -44,7 +44,7 @@ fn line(
 ) -> Result<Vec<u8>, NoMemory>
     requires { (i : ℕ) → (place_in file.now.marks.process.items i).from ≤ length lines.now }
     ensures { IfOk result
-        (λ text. text.items ≡ line_of lines.now (λ i. place_in file.now.marks.process.items i)
+        (λ text. text.items ≡ finding_line lines.now (λ i. place_in file.now.marks.process.items i)
         (λ i. reverse (chain_at file.now.marks.scopes i)) fault.now) }
 {
     match fault {
@@ -92,7 +92,7 @@ fn shown_origins(
 pub fn explain_file(alloc: Global, file: &File, lines: &Lines<'_>) -> Result<Explained, NoMemory>
     requires { (i : ℕ) → (place_in file.now.marks.process.items i).from ≤ length lines.now }
     ensures line { IfOk result
-        (λ r. r.line.items ≡ line_of lines.now (λ i. place_in file.now.marks.process.items i)
+        (λ r. r.line.items ≡ finding_line lines.now (λ i. place_in file.now.marks.process.items i)
         (λ i. reverse (chain_at file.now.marks.scopes i)) r.fault) }
     ensures fault { IfOk result (λ r. Explains (λ i. reverse (chain_at file.now.marks.scopes i))
         file.now.process.names file.now.process.process r.fault) }

@@ -24,7 +24,7 @@ use Rattle.spi_fault.specs.declared.fault.Reason.{Reason}
 use Rattle.spi_fault.specs.declared.fault.Reason.TheVariants.{Unpaid}
 use Rattle.spi_fault.specs.declared.least.Kind.TheVariants as K
 use Rattle.spi_fault.specs.Faults.{thing, FirstBlocks, FailsFirst, IsLeastText, IsFault, unpaid, fails as fails_at, IsUnpaid, unpaid_at_root, TellsUnpaid, ToldFault, told, Explains}
-use Rattle.spi_fault.specs.Trying.{check, IsOf, Asked, TellsFailure, TellsAtom, IsBlamed}
+use Rattle.spi_fault.specs.Trying.{check, IsOf, IsAskedOf, TellsFailure, TellsAtom, IsBlamed}
 use Rattle.spi_fault.proofs.Passed.{all_pass}
 use Rattle.spi_fault.proofs.Heads.{asked, checks_at}
 use Rattle.spi_fault.proofs.Texts.{get_within}
@@ -148,7 +148,7 @@ module _ (k : ℕ) (p : Process) (id : ℕ) (env : Env) (checks' : List Declared
   given_at : Given → (q : Process) → Node q → map check checks' ≡ checks q
   given_at (q', m, b, is) q n = subst (λ q. map check checks' ≡ checks q) (one_node m n).1 is
 
-  pub can_ask : (i : ℕ) (c : Declared.Check) → i < length checks' → c ≡ get_or checks' i c → Given → (q : Process) × Node q × BlocksAt env q × Asked env q (check c)
+  pub can_ask : (i : ℕ) (c : Declared.Check) → i < length checks' → c ≡ get_or checks' i c → Given → (q : Process) × Node q × BlocksAt env q × IsAskedOf env q (check c)
   can_ask i c l at (q, n, b, is) = (q, n, b, asked env q (check c) (subst (λ cs. In (check c) cs) is (in_checks i c l at)))
 
   pub blamed : (s : ℕ → List (List ℕ)) (i : ℕ) (c : Declared.Check) (f : Found) (r : Reason) → i < length checks' → c ≡ get_or checks' i c → Given → PassedTo i → ((q : Process) → Node q → TellsFailure s id env q (check c) (Some f)) → r ≡ reason_of (check c)

@@ -21,7 +21,7 @@ use Rattle.spi_message.proofs.Tested.{nonce_there as nonce_type_of}
 use Rattle.spi_message.proofs.Deciding.{is_un_true, is_un_from, typed_true, typed_from, labelled_true, labelled_from, good_true, good_from}
 use Rattle.spi_fault.specs.Checks as C
 use Rattle.spi_fault.specs.Passing.{IsCastable, HasLeastBehind, HasBoundName, Passes, Spoils, not_many, escapes, unchecked}
-use Rattle.spi_fault.specs.Trying.{Asked}
+use Rattle.spi_fault.specs.Trying.{IsAskedOf}
 use Rattle.spi_fault.proofs.Children.{has_least, follows_in, follows_within, less_in}
 use Rattle.spi_fault.proofs.Passed.{many_when, stays_out, made_out}
 
@@ -113,22 +113,22 @@ none_past e x l z = past e x _ l (name_told z.1)
     past (s ∷ e) (suc x) t l h = past e x t (omega (arith, l)) h
 
 -- effects
-abbrev pub Out : ℕ → ℕ → Effect → Type 0
-Out n k es = (x : ℕ) → n ≤ x → x < n + k → EffectAvoids x es
+abbrev pub EffectIsOut : ℕ → ℕ → Effect → Type 0
+EffectIsOut n k es = (x : ℕ) → n ≤ x → x < n + k → EffectAvoids x es
 
 avoids_or : (x : ℕ) (es : Effect) → Decided (EffectAvoids x es)
 avoids_or x es =
     ⊎_elim (λ (h : mentions x es ≡ true). inr (λ a. false≢true (sym (mentions_complete x es a) ∙ h))) (λ (h : mentions x es ≡ false). inl (mentions_sound x es h)) (cases_Bool (mentions x es))
 
-out_at : (n k : ℕ) (es : Effect) → EffectAvoids (n + k) es → Out n k es → Out n (suc k) es
+out_at : (n k : ℕ) (es : Effect) → EffectAvoids (n + k) es → EffectIsOut n k es → EffectIsOut n (suc k) es
 out_at n k es a o x low high =
     ⊎_elim (λ (l : x < n + k). o x low l) (λ (g : n + k ≤ x). let e : n + k ≡ x = omega (arith, g, high) in subst (λ x. EffectAvoids x es) e a) (cases_lt x (n + k))
 
-out_or : (n k : ℕ) (es : Effect) → Decided (Out n k es)
+out_or : (n k : ℕ) (es : Effect) → Decided (EffectIsOut n k es)
 out_or n zero es = inl (λ x low high. absurd (omega (arith, low, high)))
 out_or n (suc k) es = step (avoids_or (n + k) es) (out_or n k es)
   where
-    step : Decided (EffectAvoids (n + k) es) → Decided (Out n k es) → Decided (Out n (suc k) es)
+    step : Decided (EffectAvoids (n + k) es) → Decided (EffectIsOut n k es) → Decided (EffectIsOut n (suc k) es)
     step (inr f) d = inr (λ o. f (o (n + k) (let z : n ≤ n + k = omega arith in z) (let z : n + k < n + suc k = omega arith in z)))
     step (inl a) (inr f) = inr (λ o. f (λ x low high. o x low (let z : x < n + suc k = omega (arith, high) in z)))
     step (inl a) (inl o) = inl (out_at n k es a o)
@@ -146,13 +146,13 @@ served_or : {env : Env} {p : Process} {i : ℕ} (es : Effect) → HasLeastBehind
 served_or {env} {p} {i} es f =
     ⊎_elim (λ (h : are_many es ≡ true). inl (λ a s. let z = spoils_served f s in z.1 (AllMany_in z.0 (are_many_sound es h)))) (λ (h : are_many es ≡ false). inr (λ pass. false≢true (sym h ∙ are_many_complete es (many_when es (λ a i g. pass a (not_many f i g)))))) (cases_Bool (are_many es))
 
-free_of : {es : Effect} {a : Atom} (n k : ℕ) → In a es → HasBoundName n k a → Out n k es → ⊥
+free_of : {es : Effect} {a : Atom} (n k : ℕ) → In a es → HasBoundName n k a → EffectIsOut n k es → ⊥
 free_of n k i b o = b.3 (OfEffect_in (Avoids b.0) i (o b.0 b.1 b.2))
 
 stays_or : {env : Env} {p : Process} {i : ℕ} (k : ℕ) (es : Effect) → HasLeastBehind env p i es → Decided (Passes env p (C.stays k i))
 stays_or {env} {p} {i} k es f = step (out_or (length env) k es)
   where
-    step : Decided (Out (length env) k es) → Decided (Passes env p (C.stays k i))
+    step : Decided (EffectIsOut (length env) k es) → Decided (Passes env p (C.stays k i))
     step (inl o) = inl (λ a s. let z = spoils_stays f s in free_of (length env) k z.0 z.1 o)
     step (inr g) = inr (λ pass. g (λ x low high. stays_out f pass x low high))
 
@@ -165,7 +165,7 @@ made_or {env} {p} {i} es f = step (out_or (length env) 1 ds)
     off : IsDifference ds es (checks (name (length env)) ∷ [])
     off = minus_difference es (checks (name (length env)) ∷ [])
 
-    step : Decided (Out (length env) 1 ds) → Decided (Passes env p (C.made i))
+    step : Decided (EffectIsOut (length env) 1 ds) → Decided (Passes env p (C.made i))
     step (inl o) = inl (λ a s. let z = spoils_made f off s in free_of (length env) 1 z.0 z.1 o)
     step (inr g) = inr (λ pass. g (λ x low high. made_out f off pass x low high))
 
@@ -173,7 +173,7 @@ module _ (env : Env) (p : Process) (over : ProcessOver (length env) p) (kids : (
   pub follows : (i : ℕ) → ((e : Env) × (q : Process) × Child env p i e q) → (es : Effect) × HasLeastBehind env p i es
   follows i (e, q, c) = let l = has_least over c (kids i e q c) in (l.0, record { inner = e; process = q; child = c; least = l.1 })
 
-  pub decided : (c : C.Check) → Asked env p c → Decided (Passes env p c)
+  pub decided : (c : C.Check) → IsAskedOf env p c → Decided (Passes env p c)
   decided (C.channel m) a = typed_or env m un
   decided (C.datum m) a = typed_or env m un
   decided (C.untrusted t) a = un_or t

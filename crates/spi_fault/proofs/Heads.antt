@@ -15,7 +15,7 @@ use Rattle.spi_infer.proofs.Scanning.{drop_at_get}
 use Rattle.spi_infer.proofs.Located.{located}
 use Rattle.spi_infer.proofs.Descending.{length_untrusted}
 use Rattle.spi_fault.specs.Checks.{Check, prefix_checks, fork_checks, checks, shape_checks}
-use Rattle.spi_fault.specs.Trying.{Asked, CanBeCounted}
+use Rattle.spi_fault.specs.Trying.{IsAskedOf, CanBeCounted}
 
 -- the shape of a node with n names in scope
 abbrev Shapes : ℕ → ℕ → Process → Shape → Type 0
@@ -60,16 +60,16 @@ scope_at k p id e q x node at = scope_is q (has_shape k p id e q x node at)
     scope_is (fork f p q) h = ap scope_of h
 
 -- what can be asked
-abbrev Each : (Check → Type 0) → List Check → Type 0
-Each P [] = ⊤
-Each P (c ∷ cs) = P c × Each P cs
+abbrev EachCheck : (Check → Type 0) → List Check → Type 0
+EachCheck P [] = ⊤
+EachCheck P (c ∷ cs) = P c × EachCheck P cs
 
-each_in : (P : Check → Type 0) (cs : List Check) → Each P cs → (c : Check) → In c cs → P c
+each_in : (P : Check → Type 0) (cs : List Check) → EachCheck P cs → (c : Check) → In c cs → P c
 each_in P [] h d i = elim i [ ]
 each_in P (c ∷ cs) h _ in_first = h.0
 each_in P (c ∷ cs) h d (in_later i) = each_in P cs h.1 d i
 
-asked_prefix : (env : Env) (s : Prefix) (p : Process) → Each (Asked env (prefix s p)) (prefix_checks s)
+asked_prefix : (env : Env) (s : Prefix) (p : Process) → EachCheck (IsAskedOf env (prefix s p)) (prefix_checks s)
 asked_prefix env (Recvs m t) p = (tt, (tt, ((_, _, child_recv), tt)))
 asked_prefix env (Serves m t) p = (tt, (tt, ((_, _, child_serve), ((_, _, child_serve), tt))))
 asked_prefix env (Splits m t u) p = (tt, (tt, ((_, _, child_split), tt)))
@@ -82,15 +82,15 @@ asked_prefix env (EndManys m) p = (tt, tt)
 asked_prefix env (Casts m t) p = (tt, (tt, (tt, ((_, _, child_cast), tt))))
 asked_prefix env (Freshes t) p = (tt, (tt, ((_, _, child_fresh), tt)))
 
-asked_all : (env : Env) (q : Process) → Each (Asked env q) (checks q)
+asked_all : (env : Env) (q : Process) → EachCheck (IsAskedOf env q) (checks q)
 asked_all env (leaf (Sends m n)) = (tt, (tt, tt))
 asked_all env (leaf Stops) = tt
 asked_all env (prefix s p) = asked_prefix env s p
 asked_all env (fork (Branches m t u) p q) = (tt, (tt, (tt, ((_, _, child_left), ((_, _, child_right), tt)))))
 asked_all env (fork Pars p q) = tt
 
-pub asked : (env : Env) (q : Process) (c : Check) → In c (checks q) → Asked env q c
-asked env q c i = each_in (Asked env q) (checks q) (asked_all env q) c i
+pub asked : (env : Env) (q : Process) (c : Check) → In c (checks q) → IsAskedOf env q c
+asked env q c i = each_in (IsAskedOf env q) (checks q) (asked_all env q) c i
 
 few : (n : ℕ) (t : Ty) → n ≤ 300000 → ty_nodes t ≤ 20001 → n + ty_nodes t < 2 ^ 32
 few n t l m = omega (arith, l, m)
@@ -102,7 +102,7 @@ two : 2 ≤ 2
 two = omega arith
 
 module _ (n : ℕ) (l : n ≤ 300000) where
-  fits_prefix : (k b : ℕ) (s : Prefix) → HasSmallParts (prefix_at k s b) → Each (CanBeCounted n) (prefix_checks s)
+  fits_prefix : (k b : ℕ) (s : Prefix) → HasSmallParts (prefix_at k s b) → EachCheck (CanBeCounted n) (prefix_checks s)
   fits_prefix k b (Recvs m t) h = (tt, (tt, (one, tt)))
   fits_prefix k b (Serves m t) h = (tt, (tt, (tt, (one, tt))))
   fits_prefix k b (Splits m t u) h = (few n (pair_ty t u) l (omega (arith, h.1, h.2)), (tt, (two, tt)))
@@ -115,7 +115,7 @@ module _ (n : ℕ) (l : n ≤ 300000) where
   fits_prefix k b (Casts m t) h = (tt, (few n t l (omega (arith, h.1)), (tt, (one, tt))))
   fits_prefix k b (Freshes t) h = (tt, (few n t l (omega (arith, h)), (tt, tt)))
 
-  fits_shape : (id : ℕ) (x : Shape) → HasSmallParts x → Each (CanBeCounted n) (shape_checks id x)
+  fits_shape : (id : ℕ) (x : Shape) → HasSmallParts x → EachCheck (CanBeCounted n) (shape_checks id x)
   fits_shape id (leaf_at k (Sends m r)) h = (tt, (tt, tt))
   fits_shape id (leaf_at k Stops) h = tt
   fits_shape id (prefix_at k s b) h = fits_prefix k b s h

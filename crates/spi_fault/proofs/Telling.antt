@@ -20,8 +20,8 @@ use Rattle.spi_fault.specs.declared.least.Kind.TheVariants as K
 use Rattle.spi_fault.specs.Checks as C
 use Rattle.spi_fault.specs.Checks.{Check, process_of}
 use Rattle.spi_fault.specs.Passing.{HasLeastBehind, Passes, Spoils, not_many, escapes, unchecked}
-use Rattle.spi_fault.specs.Faults.{Thing, IsLeastText, Shows, shows_subject, shows_atom, subject}
-use Rattle.spi_fault.specs.Trying.{IsOf, Asked, TellsFailure, TellsAtom}
+use Rattle.spi_fault.specs.Faults.{Thing, IsLeastText, Shows, shows_subject, shows_atom, subject_checked}
+use Rattle.spi_fault.specs.Trying.{IsOf, IsAskedOf, TellsFailure, TellsAtom}
 use Rattle.spi_fault.proofs.Decided.{spoils_served, spoils_stays, spoils_made}
 
 -- nodes
@@ -92,21 +92,21 @@ module _ (s : ℕ → List (List ℕ)) (k : ℕ) (p : Process) (id : ℕ) (env :
   here : (c : Check) (r : Option Found) → TellsFailure s id env q c r → TellsHere c r
   here c r h = λ q' m. subst (λ q. TellsFailure s id env q c r) (one_node n m).1 h
 
-  pub told_served : {E : Type 0} (i : ℕ) (result : Result (Option Found) E) → Asked env q (C.served i) → IfOk result (TellsLeast s k p (id + i) (IsOf K.NotMany)) → IfOk result (TellsHere (C.served i))
+  pub told_served : {E : Type 0} (i : ℕ) (result : Result (Option Found) E) → IsAskedOf env q (C.served i) → IfOk result (TellsLeast s k p (id + i) (IsOf K.NotMany)) → IfOk result (TellsHere (C.served i))
   told_served i (Ok r) (e, w, c) h =
       let l = h e w (node_more n c) in
       let f : HasLeastBehind env q i l.0 = record { inner = e; process = w; child = c; least = l.1 } in
       here (C.served i) r (outcome s id i env q (C.served i) l.0 (IsOf K.NotMany) refl (λ g. g) (λ g. g) (λ a x y. not_many f x y) (λ a z. spoils_served f z) r l.2)
   told_served i (Err x) a h = tt
 
-  pub told_stays : {E : Type 0} (m i : ℕ) (result : Result (Option Found) E) → Asked env q (C.stays m i) → IfOk result (TellsLeast s k p (id + i) (IsOf (K.Naming (length env) m))) → IfOk result (TellsHere (C.stays m i))
+  pub told_stays : {E : Type 0} (m i : ℕ) (result : Result (Option Found) E) → IsAskedOf env q (C.stays m i) → IfOk result (TellsLeast s k p (id + i) (IsOf (K.Naming (length env) m))) → IfOk result (TellsHere (C.stays m i))
   told_stays m i (Ok r) (e, w, c) h =
       let l = h e w (node_more n c) in
       let f : HasLeastBehind env q i l.0 = record { inner = e; process = w; child = c; least = l.1 } in
       here (C.stays m i) r (outcome s id i env q (C.stays m i) l.0 (IsOf (K.Naming (length env) m)) refl (λ g. g) (λ g. g) (λ a x y. escapes f x y) (λ a z. spoils_stays f z) r l.2)
   told_stays m i (Err x) a h = tt
 
-  pub told_made : {E : Type 0} (i : ℕ) (result : Result (Option Found) E) → Asked env q (C.made i) → IfOk result (TellsLess s k p (id + i) (length env)) → IfOk result (TellsHere (C.made i))
+  pub told_made : {E : Type 0} (i : ℕ) (result : Result (Option Found) E) → IsAskedOf env q (C.made i) → IfOk result (TellsLess s k p (id + i) (length env)) → IfOk result (TellsHere (C.made i))
   told_made i (Ok r) (e, w, c) h =
       let l = h e w (node_more n c) in
       let f : HasLeastBehind env q i l.0 = record { inner = e; process = w; child = c; least = l.2 } in
@@ -114,5 +114,5 @@ module _ (s : ℕ → List (List ℕ)) (k : ℕ) (p : Process) (id : ℕ) (env :
   told_made i (Err x) a h = tt
 
 -- a check that asks about no effect
-pub shows_here : (s : ℕ → List (List ℕ)) (id : ℕ) (env : Env) (q : Process) (c : Check) (t : Thing) → t ≡ subject c → process_of c ≡ None → Shows s id env q c id t
+pub shows_here : (s : ℕ → List (List ℕ)) (id : ℕ) (env : Env) (q : Process) (c : Check) (t : Thing) → t ≡ subject_checked c → process_of c ≡ None → Shows s id env q c id t
 shows_here s id env q c t shown none = subst (λ t. Shows s id env q c id t) (sym shown) (shows_subject none)

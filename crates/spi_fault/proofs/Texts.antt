@@ -13,7 +13,7 @@ use Rattle.spi_term.specs.declared.term.Atom as Declared
 use Rattle.spi_term.specs.Term.{Atom, Effect}
 use Rattle.spi_term.specs.View.{atom}
 use Rattle.spi_show.specs.Report.{atom_text}
-use Rattle.spi_fault.specs.Trying.{IsBest, IsBetter, IsPlaceOfLeast, place_in}
+use Rattle.spi_fault.specs.Trying.{IsBest, IsBetter, IsPlaceOfLeast, tried_place}
 
 in_none : {A : Type 0} {x : A} → In x [] → ⊥
 in_none i = elim i [ ]
@@ -96,7 +96,7 @@ module _ (names : List (List ℕ)) (P : Atom → Type 0) (es : List Atom) (a : A
   best_more i text (Some (j, old)) r is at t (inr (g, e)) (x, place, was, u, least) =
       subst (IsBest names P (es ++ a ∷ [])) (sym e) (x, get_more es (a ∷ []) j x place, was, u, λ b i p. ⊎_elim (λ (i : In b es). least b i p) (λ (e : b ≡ a). subst (λ b. text_cmp (atom_text names x) (atom_text names b) ≢ Greater) (sym e) (λ k. g (ap₂ text_cmp u t ∙ k))) (more i))
 
-pub best_place : (names : List (List ℕ)) (P : Atom → Type 0) (es : List Atom) (o : Option (ℕ × Vec ℕ)) → IsBest names P es o → IsPlaceOfLeast names P es (place_in o)
+pub best_place : (names : List (List ℕ)) (P : Atom → Type 0) (es : List Atom) (o : Option (ℕ × Vec ℕ)) → IsBest names P es o → IsPlaceOfLeast names P es (tried_place o)
 best_place names P es None h = h
 best_place names P es (Some (j, text)) (x, at, is, t, least) = (x, at, record { is = (get_in es j x at, is); least = λ b z. least b z.0 z.1 })
 
@@ -130,5 +130,5 @@ module _ (names : List (List ℕ)) (P : Atom → Type 0) (atoms : List Declared.
   best_next a o r l at so next =
       subst (λ es. IsBest names P es r) (sym (take_more atom atoms i a at)) (next (take i (map atom atoms)) (length_taken atom atoms i l) so)
 
-  pub best_end : (o : Option (ℕ × Vec ℕ)) → length atoms ≤ i → BestTo i o → IsPlaceOfLeast names P (map atom atoms) (place_in o)
+  pub best_end : (o : Option (ℕ × Vec ℕ)) → length atoms ≤ i → BestTo i o → IsPlaceOfLeast names P (map atom atoms) (tried_place o)
   best_end o l so = best_place names P (map atom atoms) o (subst (λ es. IsBest names P es o) (take_whole atom atoms i l) so)

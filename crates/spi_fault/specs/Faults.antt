@@ -47,29 +47,29 @@ pub record IsLeastText (spelled : List (List ℕ)) (Kind : Atom → Type 0) (a :
   pub least : (b : Atom) → Kind b → slice_cmp nat_cmp (atom_text spelled a) (atom_text spelled b) ≢ Greater
 
 -- what a check shows that asks about no effect: its message, and no type
-abbrev pub subject : Check → Thing
-subject (C.channel m) = the_message m
-subject (C.datum m) = the_message m
-subject (C.untrusted t) = nothing
-subject (C.good t) = nothing
-subject (C.scrutinee m s t u) = the_message m
-subject (C.sealed m) = the_message m
-subject (C.first m t) = the_message m
-subject (C.key_of m t) = the_message m
-subject (C.nonce_of m) = the_message m
-subject (C.label m) = the_message m
-subject (C.generative t) = nothing
-subject (C.castable t) = nothing
-subject (C.served i) = nothing
-subject (C.stays k i) = nothing
-subject (C.made i) = nothing
+abbrev pub subject_checked : Check → Thing
+subject_checked (C.channel m) = the_message m
+subject_checked (C.datum m) = the_message m
+subject_checked (C.untrusted t) = nothing
+subject_checked (C.good t) = nothing
+subject_checked (C.scrutinee m s t u) = the_message m
+subject_checked (C.sealed m) = the_message m
+subject_checked (C.first m t) = the_message m
+subject_checked (C.key_of m t) = the_message m
+subject_checked (C.nonce_of m) = the_message m
+subject_checked (C.label m) = the_message m
+subject_checked (C.generative t) = nothing
+subject_checked (C.castable t) = nothing
+subject_checked (C.served i) = nothing
+subject_checked (C.stays k i) = nothing
+subject_checked (C.made i) = nothing
 
 -- What is shown of a check that fails at node n, and in the scope of which node: its message in that of node n itself, or
 -- an atom of an effect in that of the process that has the effect. `spelled` has the spellings of the names in scope at a
 -- node.
 pub data Shows (spelled : ℕ → List (List ℕ)) (n : ℕ) (env : Env) (p : Process) : Check → ℕ → Thing
     → Type 0 where
-  shows_subject : {c : Check} → process_of c ≡ None → Shows spelled n env p c n (subject c)
+  shows_subject : {c : Check} → process_of c ≡ None → Shows spelled n env p c n (subject_checked c)
   shows_atom : {c : Check} {i : ℕ} {a : Atom}
       → process_of c ≡ Some i → IsLeastText (spelled (n + i)) (Spoils env p c) a
       → Shows spelled n env p c (n + i) (the_atom a)

@@ -60,9 +60,9 @@ IsBetter (Some (j, old)) i text r =
     ((slice_cmp nat_cmp old.items text.items ≡ Greater) × (r ≡ Some (i, text)))
     ⊎ ((slice_cmp nat_cmp old.items text.items ≢ Greater) × (r ≡ Some (j, old)))
 
-abbrev pub place_in : Option (ℕ × Vec ℕ) → Option ℕ
-place_in None = None
-place_in (Some (j, text)) = Some j
+abbrev pub tried_place : Option (ℕ × Vec ℕ) → Option ℕ
+tried_place None = None
+tried_place (Some (j, text)) = Some j
 
 -- the same without the text
 abbrev pub IsPlaceOfLeast : List (List ℕ) → (Atom → Type 0) → List Atom → Option ℕ → Type 0
@@ -77,22 +77,22 @@ CanBe K.NotMany = ⊤
 CanBe (K.Naming n k) = n + k < 2 ^ 32
 
 -- the process that a check speaks of is there
-abbrev pub Asked : Env → Process → C.Check → Type 0
-Asked env p (C.channel m) = ⊤
-Asked env p (C.datum m) = ⊤
-Asked env p (C.untrusted t) = ⊤
-Asked env p (C.good t) = ⊤
-Asked env p (C.scrutinee m s t u) = ⊤
-Asked env p (C.sealed m) = ⊤
-Asked env p (C.first m t) = ⊤
-Asked env p (C.key_of m t) = ⊤
-Asked env p (C.nonce_of m) = ⊤
-Asked env p (C.label m) = ⊤
-Asked env p (C.generative t) = ⊤
-Asked env p (C.castable t) = ⊤
-Asked env p (C.served i) = (e : Env) × (q : Process) × Child env p i e q
-Asked env p (C.stays k i) = (e : Env) × (q : Process) × Child env p i e q
-Asked env p (C.made i) = (e : Env) × (q : Process) × Child env p i e q
+abbrev pub IsAskedOf : Env → Process → C.Check → Type 0
+IsAskedOf env p (C.channel m) = ⊤
+IsAskedOf env p (C.datum m) = ⊤
+IsAskedOf env p (C.untrusted t) = ⊤
+IsAskedOf env p (C.good t) = ⊤
+IsAskedOf env p (C.scrutinee m s t u) = ⊤
+IsAskedOf env p (C.sealed m) = ⊤
+IsAskedOf env p (C.first m t) = ⊤
+IsAskedOf env p (C.key_of m t) = ⊤
+IsAskedOf env p (C.nonce_of m) = ⊤
+IsAskedOf env p (C.label m) = ⊤
+IsAskedOf env p (C.generative t) = ⊤
+IsAskedOf env p (C.castable t) = ⊤
+IsAskedOf env p (C.served i) = (e : Env) × (q : Process) × Child env p i e q
+IsAskedOf env p (C.stays k i) = (e : Env) × (q : Process) × Child env p i e q
+IsAskedOf env p (C.made i) = (e : Env) × (q : Process) × Child env p i e q
 
 -- the nodes of a type that is asked about can be counted, where n names are in scope, and so can the names that a form binds
 abbrev pub CanBeCounted : ℕ → C.Check → Type 0

@@ -13,8 +13,8 @@ ghost use Rattle.spi_rules.specs.Blocking.{NodeOf, HasSome, BlocksAt};
 ghost use Rattle.spi_scope.specs.Chains.{chain_at};
 ghost use Rattle.spi_fault.specs.Passing.{IsCastable, Passes};
 ghost use Rattle.spi_fault.specs.Checks.{process_of};
-ghost use Rattle.spi_fault.specs.Faults.{the_message, subject, thing};
-ghost use Rattle.spi_fault.specs.Trying.{check as check_of, IsOf, CanBe, Asked, CanBeCounted, TellsFailure, TellsAtom};
+ghost use Rattle.spi_fault.specs.Faults.{the_message, subject_checked, thing};
+ghost use Rattle.spi_fault.specs.Trying.{check as check_of, IsOf, CanBe, IsAskedOf, CanBeCounted, TellsFailure, TellsAtom};
 
 use crate::check::Check;
 use crate::least::{Kind, least_text};
@@ -166,7 +166,7 @@ fn the_message(alloc: Global, m: &Msg) -> Result<Option<Shown>, NoMemory>
 
 // What a check shows that asks about no effect.
 fn subject(alloc: Global, check: &Check) -> Result<Option<Shown>, NoMemory>
-    ensures { IfOk result (λ r. thing r ≡ subject (check_of check.now)) }
+    ensures { IfOk result (λ r. thing r ≡ subject_checked (check_of check.now)) }
 {
     match check {
         Check::Channel(m) => the_message(alloc, m),
@@ -290,7 +290,7 @@ pub fn failing(
     requires few { length env.now ≤ 300000 }
     requires node { (q : Term.Process)
         × NodeOf (untrusted file.now.process.names) file.now.process.process id env.now q × BlocksAt env.now q
-        × Asked env.now q (check_of check.now) }
+        × IsAskedOf env.now q (check_of check.now) }
     ensures { IfOk result
         (λ r. (q : Term.Process)
         → NodeOf (untrusted file.now.process.names) file.now.process.process id env.now q

@@ -5,7 +5,7 @@ ghost use Rattle.spi_term.specs.Names.{OfAtom, Avoids};
 ghost use Rattle.spi_term.specs.View.{atom};
 ghost use Rattle.spi_effect.specs.Effect.{IsMany};
 ghost use Rattle.spi_fault.specs.Passing.{HasBoundName};
-ghost use Rattle.spi_fault.specs.Trying.{IsOf, IsBest, IsBetter, CanBe, IsPlaceOfLeast, place_in};
+ghost use Rattle.spi_fault.specs.Trying.{IsOf, IsBest, IsBetter, CanBe, IsPlaceOfLeast, tried_place};
 
 use crate::NoMemory;
 use spi_show::show_atom;
@@ -104,7 +104,7 @@ fn next_best(
 }
 
 fn place_in(best: Option<(usize, Vec<u8>)>) -> Option<usize>
-    ensures { result ≡ place_in best }
+    ensures { result ≡ tried_place best }
 {
     match best {
         Some((i, _)) => Some(i),

@@ -16,10 +16,10 @@ use Rattle.spi_know.specs.declared.cert.CertLine.{CertLine}
 use Rattle.spi_know.specs.declared.cert.By.{By}
 use Rattle.spi_know.specs.declared.clauses.Way.{Way}
 use Rattle.spi_know.specs.declared.clauses.Way.TheVariants.{MakePair, First, Second, MakeInl, MakeInr, TakeInl, TakeInr, MakeEnc, Open, MakeHash}
-use Rattle.spi_know.specs.Cert.{said, Follows, Certifies, Uses, AllUsed}
+use Rattle.spi_know.specs.Cert.{message_said, Follows, Certifies, Uses, AllUsed}
 use Rattle.spi_know.specs.Numbered.{HasNumber, Suits, AreClauses, StartsWith}
 use Rattle.spi_know.proofs.Clausal.{clauses_within}
-use Rattle.spi_know.specs.Spelled.{named_by, IsSmall, SaysBy, IsCertLineOf, AreLines, CanBeSpelled}
+use Rattle.spi_know.specs.Spelled.{named_by, IsSmallGround, SaysBy, IsCertLineOf, AreLines, CanBeSpelled}
 
 -- a clause, by the lines of its premises
 follows_by : (ms sent before : List Message) (r : Rule) (w : Way) (a b : ℕ) (m : Message) → Suits ms r w → ((n : Message) → HasNumber ms r.first n → slice_get before a ≡ Some n) → ((n : Message) → HasNumber ms r.second n → slice_get before b ≡ Some n) → HasNumber ms r.gives m → Follows sent before (named_by w a b) m
@@ -48,10 +48,10 @@ uses_by ms r Open a b k s f u = u
 uses_by ms r MakeHash a b k (x, (e, h, s)) f u = ⊎_elim (λ v. v) (λ v. f (sym s) ∙ v) u
 
 -- a line before another one, by its message
-taken_line : (cert : List CertLine) (k i : ℕ) (c : CertLine) → i < k → slice_get cert i ≡ Some c → slice_get (map said (take k cert)) i ≡ Some (said c)
+taken_line : (cert : List CertLine) (k i : ℕ) (c : CertLine) → i < k → slice_get cert i ≡ Some c → slice_get (map message_said (take k cert)) i ≡ Some (message_said c)
 taken_line [] k i c lt e = cc
 taken_line (x ∷ xs) zero i c lt e = absurd (omega (arith, lt))
-taken_line (x ∷ xs) (suc k) zero c lt e = ap (λ (z : CertLine). Some (said z)) (some_one e)
+taken_line (x ∷ xs) (suc k) zero c lt e = ap (λ (z : CertLine). Some (message_said z)) (some_one e)
 taken_line (x ∷ xs) (suc k) (suc i) c lt e = taken_line xs k i c (omega (arith, lt)) e
 
 -- what stands at the same place of a list that is as long
@@ -72,33 +72,33 @@ module _ (ms from : List Message) (rules : List Rule) (ways : List Way) (start :
       let (l, f) = same_place cert lines i c (omega (arith, count)) e in
       (l, f, ar.each i l c f e)
 
-  premise_said : (i a x : ℕ) → SaysBefore lines i a x → (v : Message) → HasNumber ms x v → slice_get (map said (take i cert)) a ≡ Some v
+  premise_said : (i a x : ℕ) → SaysBefore lines i a x → (v : Message) → HasNumber ms x v → slice_get (map message_said (take i cert)) a ≡ Some v
   premise_said i a x (l, lt, e, same) v f =
       let (c, g, (h, b)) = line_of a l e in
-      let q : said c ≡ v = some_one (sym h ∙ (ap (slice_get ms) same ∙ f)) in
+      let q : message_said c ≡ v = some_one (sym h ∙ (ap (slice_get ms) same ∙ f)) in
       taken_line cert i a c lt g ∙ ap (λ z. Some z) q
 
-  follows_ground : (i x : ℕ) (g : Ground) (b : By) (v : Message) → HasNumber ms x v → HoldsOfLine rules start lines i x g → SaysBy (length from) ways g b → Follows from (map said (take i cert)) b v
+  follows_ground : (i x : ℕ) (g : Ground) (b : By) (v : Message) → HasNumber ms x v → HoldsOfLine rules start lines i x g → SaysBy (length from) ways g b → Follows from (map message_said (take i cert)) b v
   follows_ground i x (Start j) b v f h s = ⊎_elim
       (λ (lt, e).
       let (y, k) = below_get from j lt in
       let (z, p, q) = st.sent_at j y k in
       let w : z ≡ x = some_one (sym p ∙ h) in
       let u : y ≡ v = some_one (sym q ∙ (ap (slice_get ms) w ∙ f)) in
-      subst (λ c. Follows from (map said (take i cert)) c v) (sym e) (k ∙ ap (λ c. Some c) u))
+      subst (λ c. Follows from (map message_said (take i cert)) c v) (sym e) (k ∙ ap (λ c. Some c) u))
       (λ (le, e).
       let count = st.count in
       let lt = get_below start j x h in
       let w : length from ≡ j = omega (arith, count, le, lt) in
       let u = st.unit_at x (ap (slice_get start) w ∙ h) in
-      subst (λ c. Follows from (map said (take i cert)) c v) (sym e) (some_one (sym f ∙ u)))
+      subst (λ c. Follows from (map message_said (take i cert)) c v) (sym e) (some_one (sym f ∙ u)))
       s
   follows_ground i x (ByRule k p q) b v f (r, e, g, first, second, same) (w, wk, bw) =
       let (w', wk', su) = tells_at cl.suit k r e in
       let ww : w' ≡ w = some_one (sym wk' ∙ wk) in
       let suits : Suits ms r w = subst (λ z. Suits ms r z) ww su in
-      subst (λ c. Follows from (map said (take i cert)) c v) (sym bw)
-      (follows_by ms from (map said (take i cert)) r w p q v suits (premise_said i p r.first first) (premise_said i q r.second second) (ap (slice_get ms) g ∙ f))
+      subst (λ c. Follows from (map message_said (take i cert)) c v) (sym bw)
+      (follows_by ms from (map message_said (take i cert)) r w p q v suits (premise_said i p r.first first) (premise_said i q r.second second) (ap (slice_get ms) g ∙ f))
 
   uses_ground : (i x k : ℕ) (g : Ground) (b : By) → HoldsOfLine rules start lines i x g → SaysBy (length from) ways g b → NamesLine g k → Uses b k
   uses_ground i x k (Start j) b h s u = absurd u
@@ -110,13 +110,13 @@ module _ (ms from : List Message) (rules : List Rule) (ways : List Way) (start :
 
   pub certifies : Certifies from cert m
   certifies = record {
-    each = λ i c e. let (l, f, (h, b)) = of_line i c e in follows_ground i l.number l.ground c.by (said c) h (pr.each i l f) b;
+    each = λ i c e. let (l, f, (h, b)) = of_line i c e in follows_ground i l.number l.ground c.by (message_said c) h (pr.each i l f) b;
     last =
         let (i, l, e, f, g) = pr.last in
         let count = ar.count in
         let (c, h, (a, b)) = line_of i l f in
-        let q : said c ≡ m = some_one (sym a ∙ (ap (slice_get ms) g ∙ at)) in
-        (i, omega (arith, e, count), slice_get-map said cert i ∙ (ap (option_map said) h ∙ ap (λ z. Some z) q));
+        let q : message_said c ≡ m = some_one (sym a ∙ (ap (slice_get ms) g ∙ at)) in
+        (i, omega (arith, e, count), slice_get-map message_said cert i ∙ (ap (option_map message_said) h ∙ ap (λ z. Some z) q));
   }
 
   pub all_used : AllUsed cert
@@ -151,7 +151,7 @@ lines_step ms n ways lines i cert cert' l c e f is a =
     }
 
 -- lines that hold can be spelled
-small_ground : (ms : List Message) (rules : List Rule) (ways : List Way) (start : List ℕ) (lines : List Line) (n i x : ℕ) (g : Ground) → AreClauses ms n rules ways → HoldsOfLine rules start lines i x g → i < 2 ^ 32 → IsSmall ways g
+small_ground : (ms : List Message) (rules : List Rule) (ways : List Way) (start : List ℕ) (lines : List Line) (n i x : ℕ) (g : Ground) → AreClauses ms n rules ways → HoldsOfLine rules start lines i x g → i < 2 ^ 32 → IsSmallGround ways g
 small_ground ms rules ways start lines n i x (Start j) cl h lt = tt
 small_ground ms rules ways start lines n i x (ByRule k a b) cl (r, e, g, (la, p, ea, na), (lb, q, eb, nb), same) lt =
     let (w, f, s) = tells_at cl.suit k r e in (get_below ways k w f, omega (arith, p, lt), omega (arith, q, lt))

@@ -6,7 +6,7 @@ use Rattle.spi_horn.proofs.Lookups.{get_read}
 use Rattle.spi_term.specs.Lists.{In, in_first, in_later}
 use Rattle.spi_term.specs.Term.{Message}
 use Rattle.spi_run.specs.Knowledge.{Knows, knows_sent, knows_unit, knows_pair, knows_first, knows_second, knows_inl, knows_inr, knows_from_inl, knows_from_inr, knows_enc, knows_opened, knows_hash}
-use Rattle.spi_know.specs.Cert.{said, Follows, Certifies}
+use Rattle.spi_know.specs.Cert.{message_said, Follows, Certifies}
 use Rattle.spi_know.specs.declared.cert.CertLine.{CertLine}
 use Rattle.spi_know.specs.declared.cert.By.{By}
 use Rattle.spi_know.specs.declared.cert.By.TheVariants.{Sent, MakeUnit, MakePair, First, Second, MakeInl, MakeInr, TakeInl, TakeInr, MakeEnc, Open, MakeHash}
@@ -40,21 +40,21 @@ follows_known sent before (Open i j) m f (b, g, h) = knows_opened (f i _ g) (f j
 follows_known sent before (MakeHash i) m f (a, e, g) = subst (λ n. Knows sent n) (sym e) (knows_hash (f i a g))
 
 -- what a line before the line number k says
-before_line : (lines : List CertLine) (k i : ℕ) (n : Message) → slice_get (map said (take k lines)) i ≡ Some n → (l : CertLine) × (i < k) × (slice_get lines i ≡ Some l) × (said l ≡ n)
+before_line : (lines : List CertLine) (k i : ℕ) (n : Message) → slice_get (map message_said (take k lines)) i ≡ Some n → (l : CertLine) × (i < k) × (slice_get lines i ≡ Some l) × (message_said l ≡ n)
 before_line [] zero i n e = cc
 before_line (x ∷ xs) zero i n e = cc
 before_line [] (suc k) i n e = cc
 before_line (x ∷ xs) (suc k) zero n e = (x, omega arith, refl, cc)
 before_line (x ∷ xs) (suc k) (suc i) n e = let (l, lt, g, s) = before_line xs k i n e in (l, omega arith, g, s)
 
-below_known : (sent : List Message) (lines : List CertLine) (target : Message) → Certifies sent lines target → (n k : ℕ) (l : CertLine) → k < n → slice_get lines k ≡ Some l → Knows sent (said l)
+below_known : (sent : List Message) (lines : List CertLine) (target : Message) → Certifies sent lines target → (n k : ℕ) (l : CertLine) → k < n → slice_get lines k ≡ Some l → Knows sent (message_said l)
 below_known sent lines target c zero k l lt e = absurd (omega arith)
-below_known sent lines target c (suc n) k l lt e = follows_known sent (map said (take k lines)) l.by (said l)
+below_known sent lines target c (suc n) k l lt e = follows_known sent (map message_said (take k lines)) l.by (message_said l)
     (λ i m g. let (b, less, h, s) = before_line lines k i m g in subst (λ a. Knows sent a) s (below_known sent lines target c n i b (omega arith) h))
     (c.each k l e)
 
 -- a line that a lookup by message finds
-mapped_line : (lines : List CertLine) (k : ℕ) (n : Message) → slice_get (map said lines) k ≡ Some n → (l : CertLine) × (slice_get lines k ≡ Some l) × (said l ≡ n)
+mapped_line : (lines : List CertLine) (k : ℕ) (n : Message) → slice_get (map message_said lines) k ≡ Some n → (l : CertLine) × (slice_get lines k ≡ Some l) × (message_said l ≡ n)
 mapped_line [] k n e = cc
 mapped_line (x ∷ xs) zero n e = (x, refl, cc)
 mapped_line (x ∷ xs) (suc k) n e = mapped_line xs k n e
@@ -66,16 +66,16 @@ cert_known sent lines target c =
     subst (λ a. Knows sent a) h (below_known sent lines target c (suc k) k l (omega arith) g)
 
 -- the certificate is right where each line follows, by its last line
-pub certified : (sent : List Message) (lines : List CertLine) (target : Message) (l : CertLine) (b : Bool) → Some l ≡ slice_get lines (length lines - 1) → ((j : ℕ) (line : CertLine) → j < length lines → slice_get lines j ≡ Some line → Follows sent (map said (take j lines)) line.by (said line)) → (IsTrue b ↔ said l ≡ target) → IsTrue b ↔ Certifies sent lines target
+pub certified : (sent : List Message) (lines : List CertLine) (target : Message) (l : CertLine) (b : Bool) → Some l ≡ slice_get lines (length lines - 1) → ((j : ℕ) (line : CertLine) → j < length lines → slice_get lines j ≡ Some line → Follows sent (map message_said (take j lines)) line.by (message_said line)) → (IsTrue b ↔ message_said l ≡ target) → IsTrue b ↔ Certifies sent lines target
 certified sent lines target l b e each (f, g) =
     let w = slice_get_within lines (length lines - 1) l (sym e) in (
       λ t. record {
         each = λ k line h. each k line (slice_get_within lines k line h) h;
-        last = (length lines - 1, omega (arith, w), slice_get-map said lines (length lines - 1) ∙ (ap (option_map said) (sym e) ∙ ap (λ n. Some n) (f t)));
+        last = (length lines - 1, omega (arith, w), slice_get-map message_said lines (length lines - 1) ∙ (ap (option_map message_said) (sym e) ∙ ap (λ n. Some n) (f t)));
       },
       λ c. let (k, s, h) = c.last in
           let q : length lines - 1 ≡ k = omega arith in
-          let p : Some (said l) ≡ Some target = ap (option_map said) e ∙ (sym (slice_get-map said lines (length lines - 1)) ∙ (ap (slice_get (map said lines)) q ∙ h)) in
-          let r : said l ≡ target = cc in
+          let p : Some (message_said l) ≡ Some target = ap (option_map message_said) e ∙ (sym (slice_get-map message_said lines (length lines - 1)) ∙ (ap (slice_get (map message_said lines)) q ∙ h)) in
+          let r : message_said l ≡ target = cc in
           g r,
     )

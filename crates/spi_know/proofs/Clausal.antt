@@ -11,14 +11,14 @@ use Rattle.spi_intern.proofs.Lists.{some_one, get_append, get_below}
 use Rattle.spi_intern.proofs.Tables.{tells_at}
 use Rattle.spi_know.specs.declared.clauses.Way.{Way}
 use Rattle.spi_know.specs.declared.clauses.Way.TheVariants.{MakePair, First, Second, MakeInl, MakeInr, TakeInl, TakeInr, MakeEnc, Open, MakeHash}
-use Rattle.spi_know.specs.Numbered.{rule, rules_of, ways_of, HasNumber, Suits, HasRule, HasClauses, AreClauses}
+use Rattle.spi_know.specs.Numbered.{rule, rules_of_part, ways_of, HasNumber, Suits, HasRule, HasClauses, AreClauses}
 
 tells_append : {P M : Type 0} {S : P → M → Type 0} {ps qs : List P} {ms ns : List M} → TellsAll S ps ms → TellsAll S qs ns → TellsAll S (ps ++ qs) (ms ++ ns)
 tells_append tells_none t = t
 tells_append (tells_next s r) t = tells_next s (tells_append r t)
 
 -- the clauses at one message suit it
-suits_of : (ms : List Message) (j : ℕ) (p : MsgPart) (m : Message) → HasNumber ms j m → Says ms p m → TellsAll (Suits ms) (rules_of j p) (ways_of p)
+suits_of : (ms : List Message) (j : ℕ) (p : MsgPart) (m : Message) → HasNumber ms j m → Says ms p m → TellsAll (Suits ms) (rules_of_part j p) (ways_of p)
 suits_of ms j p m at says_bound = tells_none
 suits_of ms j p m at says_name = tells_none
 suits_of ms j p m at says_unit = tells_none
@@ -36,7 +36,7 @@ has_right [] ys a b c h = h
 has_right (x ∷ xs) ys a b c h = let (k, e) = has_right xs ys a b c h in (suc k, e)
 
 -- and they are all there
-clauses_here : (ms : List Message) (xs : List Rule) (j : ℕ) (p : MsgPart) (m : Message) → Says ms p m → HasClauses ms (xs ++ rules_of j p) j m
+clauses_here : (ms : List Message) (xs : List Rule) (j : ℕ) (p : MsgPart) (m : Message) → Says ms p m → HasClauses ms (xs ++ rules_of_part j p) j m
 clauses_here ms xs j p m says_bound = tt
 clauses_here ms xs j p m says_name = tt
 clauses_here ms xs j p m says_unit = tt
@@ -73,15 +73,15 @@ clauses_none ms rules ways e f =
       all = λ j m lt h. absurd (omega (arith, lt));
     }
 
-pub clauses_step : (ms : List Message) (n : ℕ) (rules rules' : List Rule) (ways ways' : List Way) (p : MsgPart) (m : Message) → HasNumber ms n m → Says ms p m → rules' ≡ rules ++ rules_of n p → ways' ≡ ways ++ ways_of p → AreClauses ms n rules ways → AreClauses ms (n + 1) rules' ways'
+pub clauses_step : (ms : List Message) (n : ℕ) (rules rules' : List Rule) (ways ways' : List Way) (p : MsgPart) (m : Message) → HasNumber ms n m → Says ms p m → rules' ≡ rules ++ rules_of_part n p → ways' ≡ ways ++ ways_of p → AreClauses ms n rules ways → AreClauses ms (n + 1) rules' ways'
 clauses_step ms n rules rules' ways ways' p m at s e f c =
     let P : List Rule → Type 0 = λ x. TellsAll (Suits ms) x ways' in
-    let Q : List Way → Type 0 = λ x. TellsAll (Suits ms) (rules ++ rules_of n p) x in
+    let Q : List Way → Type 0 = λ x. TellsAll (Suits ms) (rules ++ rules_of_part n p) x in
     let H : ℕ → Type 0 = λ j. (v : Message) → HasNumber ms j v → HasClauses ms rules' j v in
     let R : List Rule → Type 0 = λ x. HasClauses ms x n m in
     let here : HasClauses ms rules' n m = subst R (sym e) (clauses_here ms rules n p m s) in
     let all : (j : ℕ) → j < n + 1 → H j = below_more H n
-    (λ j lt v h. subst (λ x. HasClauses ms x j v) (sym e) (clauses_more ms rules (rules_of n p) j v (c.all j v lt h)))
+    (λ j lt v h. subst (λ x. HasClauses ms x j v) (sym e) (clauses_more ms rules (rules_of_part n p) j v (c.all j v lt h)))
     (λ v h. let q : m ≡ v = some_one (sym at ∙ h) in subst (λ x. HasClauses ms rules' n x) q here) in
     record {
       suit = subst P (sym e) (subst Q (sym f) (tells_append c.suit (suits_of ms n p m at s)));

@@ -17,8 +17,8 @@ use Rattle.spi_know.proofs.Certs.{in_get}
 abbrev pub All : List Message → Message → Type 0
 All ms m = (i : ℕ) × HasNumber ms i m
 
-abbrev pub Found : List Message → List (Option ℕ) → Message → Type 0
-Found ms places m = (i : ℕ) × HasNumber ms i m × HasSomePlace places i
+abbrev pub IsFoundMessage : List Message → List (Option ℕ) → Message → Type 0
+IsFoundMessage ms places m = (i : ℕ) × HasNumber ms i m × HasSomePlace places i
 
 module _ (ms sent : List Message) (rules : List Rule) (ways : List Way) (start : List ℕ) (places : List (Option ℕ)) (d : AllDiffer ms) (c : AreClauses ms (length ms) rules ways) (s : StartsWith ms sent start) (l : IsLeastModel rules start places) where
   all_parts : HaveTheirParts (All ms)
@@ -37,7 +37,7 @@ module _ (ms sent : List Message) (rules : List Rule) (ways : List Way) (start :
   unit_start : (i : ℕ) × (slice_get start (length sent) ≡ Some i)
   unit_start = let n = s.count in below_get start (length sent) (omega (arith, n))
 
-  saturated : IsSaturated (All ms) (Found ms places)
+  saturated : IsSaturated (All ms) (IsFoundMessage ms places)
   saturated = record {
     units = λ (j, e). let (i, f) = unit_start in (i, s.unit_at i f, l.started (length sent) i f);
     pairs = λ {m} {n} (j, e) (i1, e1, s1) (i2, e2, s2). let (i, k, x, y, (q, r), t, u) = c.all j (pair m n) (get_below ms j (pair m n) e) e in
@@ -62,7 +62,7 @@ module _ (ms sent : List Message) (rules : List Rule) (ways : List Way) (start :
         let h = moved m i1 i e1 x s1 in (j, e, l.closed q (rule i i j) r h h);
   }
 
-  sent_found : (m : Message) → In m sent → Found ms places m
+  sent_found : (m : Message) → In m sent → IsFoundMessage ms places m
   sent_found m i = let (j, e) = in_get i in let (x, f, g) = s.sent_at j m e in (x, g, l.started j x f)
 
   pub known_stands : (target : ℕ) (m : Message) → HasNumber ms target m → Knows sent m → HasSomePlace places target

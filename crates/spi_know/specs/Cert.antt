@@ -7,8 +7,8 @@ use Rattle.spi_know.specs.declared.cert.CertLine.{CertLine}
 use Rattle.spi_know.specs.declared.cert.By.{By}
 use Rattle.spi_know.specs.declared.cert.By.TheVariants.{Sent, MakeUnit, MakePair, First, Second, MakeInl, MakeInr, TakeInl, TakeInr, MakeEnc, Open, MakeHash}
 
-abbrev pub said : CertLine → Message
-said l = message l.message
+abbrev pub message_said : CertLine → Message
+message_said l = message l.message
 
 -- a message follows, by a clause of knowledge, from those of the lines before it
 abbrev pub Follows : List Message → List Message → By → Message → Type 0
@@ -31,8 +31,8 @@ Follows sent before (MakeHash i) m = (a : Message) × (m ≡ hash a) × (slice_g
 -- each line follows from the lines before it, and the last says the target
 pub record Certifies (sent : List Message) (lines : List CertLine) (target : Message) : Type 0 where
   pub each : (k : ℕ) (l : CertLine) → slice_get lines k ≡ Some l
-      → Follows sent (map said (take k lines)) l.by (said l)
-  pub last : (k : ℕ) × (suc k ≡ length lines) × (slice_get (map said lines) k ≡ Some target)
+      → Follows sent (map message_said (take k lines)) l.by (message_said l)
+  pub last : (k : ℕ) × (suc k ≡ length lines) × (slice_get (map message_said lines) k ≡ Some target)
 
 -- a line by this clause names the line k
 abbrev pub Uses : By → ℕ → Type 0

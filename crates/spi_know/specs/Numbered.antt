@@ -13,15 +13,15 @@ abbrev pub rule : ℕ → ℕ → ℕ → Rule
 rule a b c = record { first = a; second = b; gives = c }
 
 -- the clauses that make the message with the number j of its parts, or take it apart
-abbrev pub rules_of : ℕ → MsgPart → List Rule
-rules_of j (P.Pair a b) = rule a.place b.place j ∷ rule j j a.place ∷ rule j j b.place ∷ []
-rules_of j (P.Inl a) = rule a.place a.place j ∷ rule j j a.place ∷ []
-rules_of j (P.Inr a) = rule a.place a.place j ∷ rule j j a.place ∷ []
-rules_of j (P.Enc a k) = rule a.place k.place j ∷ rule j k.place a.place ∷ []
-rules_of j (P.Hash a) = rule a.place a.place j ∷ []
-rules_of j (P.Bound i) = []
-rules_of j (P.Name x) = []
-rules_of j P.Unit = []
+abbrev pub rules_of_part : ℕ → MsgPart → List Rule
+rules_of_part j (P.Pair a b) = rule a.place b.place j ∷ rule j j a.place ∷ rule j j b.place ∷ []
+rules_of_part j (P.Inl a) = rule a.place a.place j ∷ rule j j a.place ∷ []
+rules_of_part j (P.Inr a) = rule a.place a.place j ∷ rule j j a.place ∷ []
+rules_of_part j (P.Enc a k) = rule a.place k.place j ∷ rule j k.place a.place ∷ []
+rules_of_part j (P.Hash a) = rule a.place a.place j ∷ []
+rules_of_part j (P.Bound i) = []
+rules_of_part j (P.Name x) = []
+rules_of_part j P.Unit = []
 
 abbrev pub ways_of : MsgPart → List Way
 ways_of (P.Pair a b) = MakePair ∷ First ∷ Second ∷ []

@@ -9,7 +9,7 @@ use Rattle.spi_know.specs.declared.cert.By.{By}
 use Rattle.spi_know.specs.declared.cert.By.TheVariants as B
 use Rattle.spi_know.specs.declared.clauses.Way.{Way}
 use Rattle.spi_know.specs.declared.clauses.Way.TheVariants.{MakePair, First, Second, MakeInl, MakeInr, TakeInl, TakeInr, MakeEnc, Open, MakeHash}
-use Rattle.spi_know.specs.Cert.{said}
+use Rattle.spi_know.specs.Cert.{message_said}
 use Rattle.spi_know.specs.Numbered.{HasNumber}
 
 -- the clause, with the lines of its premises
@@ -26,9 +26,9 @@ named_by Open a b = B.Open a b
 named_by MakeHash a b = B.MakeHash a
 
 -- the numbers of a ground fit
-abbrev pub IsSmall : List Way → Ground → Type 0
-IsSmall ways (Start j) = ⊤
-IsSmall ways (ByRule k a b) = (k < length ways) × (a < 2 ^ 32) × (b < 2 ^ 32)
+abbrev pub IsSmallGround : List Way → Ground → Type 0
+IsSmallGround ways (Start j) = ⊤
+IsSmallGround ways (ByRule k a b) = (k < length ways) × (a < 2 ^ 32) × (b < 2 ^ 32)
 
 -- what a ground says, where n messages were sent
 abbrev pub SaysBy : ℕ → List Way → Ground → By → Type 0
@@ -36,7 +36,7 @@ SaysBy n ways (Start j) b = ((j < n) × (b ≡ B.Sent j)) ⊎ ((n ≤ j) × (b �
 SaysBy n ways (ByRule k i j) b = (w : Way) × (slice_get ways k ≡ Some w) × (b ≡ named_by w i j)
 
 abbrev pub IsCertLineOf : List Message → ℕ → List Way → Line → CertLine → Type 0
-IsCertLineOf ms n ways l c = HasNumber ms l.number (said c) × SaysBy n ways l.ground c.by
+IsCertLineOf ms n ways l c = HasNumber ms l.number (message_said c) × SaysBy n ways l.ground c.by
 
 -- the first i lines, in their order
 pub record AreLines (ms : List Message) (n : ℕ) (ways : List Way) (lines : List Line) (i : ℕ)
@@ -48,4 +48,4 @@ pub record AreLines (ms : List Message) (n : ℕ) (ways : List Way) (lines : Lis
 -- each line can be spelled
 abbrev pub CanBeSpelled : ℕ → List Way → List Line → Type 0
 CanBeSpelled n ways lines = (i : ℕ) (l : Line) → slice_get lines i ≡ Some l
-    → (l.number < n) × IsSmall ways l.ground
+    → (l.number < n) × IsSmallGround ways l.ground

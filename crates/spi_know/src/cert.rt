@@ -3,7 +3,7 @@
 ghost use Rattle.std.specs.Prelude.{◌≡◌, ◌↔◌, IsTrue, MatchOption, slice_get, map};
 ghost use Rattle.spi_term.specs.Term.{Message, pair, in_left, in_right, enc};
 ghost use Rattle.spi_term.specs.View.{message};
-ghost use Rattle.spi_know.specs.Cert.{said, Follows, Certifies};
+ghost use Rattle.spi_know.specs.Cert.{message_said, Follows, Certifies};
 
 use spi_term::{Msg, same_message};
 
@@ -49,8 +49,8 @@ fn is_sent(sent: &[Msg], i: u32, m: &Msg) -> bool
 
 // What the line with that number says.
 fn message_at(lines: &[CertLine], i: u32) -> Option<&Msg>
-    ensures { MatchOption result (slice_get (map said lines.now) i ≡ None)
-        (λ m. slice_get (map said lines.now) i ≡ Some (message m.now)) }
+    ensures { MatchOption result (slice_get (map message_said lines.now) i ≡ None)
+        (λ m. slice_get (map message_said lines.now) i ≡ Some (message m.now)) }
 {
     match lines.get(i as usize) {
         Some(line) => Some(&line.message),
@@ -60,7 +60,7 @@ fn message_at(lines: &[CertLine], i: u32) -> Option<&Msg>
 
 // The line number i says m.
 fn says(lines: &[CertLine], i: u32, m: &Msg) -> bool
-    ensures { IsTrue result ↔ slice_get (map said lines.now) i ≡ Some (message m.now) }
+    ensures { IsTrue result ↔ slice_get (map message_said lines.now) i ≡ Some (message m.now) }
 {
     match message_at(lines, i) {
         Some(n) => same_message(n, m),
@@ -71,7 +71,7 @@ fn says(lines: &[CertLine], i: u32, m: &Msg) -> bool
 // The line number i says a pair with the first part m.
 fn says_first(lines: &[CertLine], i: u32, m: &Msg) -> bool
     ensures { IsTrue result
-        ↔ ((n : Message) × slice_get (map said lines.now) i ≡ Some (pair (message m.now) n)) }
+        ↔ ((n : Message) × slice_get (map message_said lines.now) i ≡ Some (pair (message m.now) n)) }
 {
     match message_at(lines, i) {
         Some(Msg::Pair(a, _)) => same_message(a, m),
@@ -81,7 +81,7 @@ fn says_first(lines: &[CertLine], i: u32, m: &Msg) -> bool
 
 fn says_second(lines: &[CertLine], i: u32, m: &Msg) -> bool
     ensures { IsTrue result
-        ↔ ((n : Message) × slice_get (map said lines.now) i ≡ Some (pair n (message m.now))) }
+        ↔ ((n : Message) × slice_get (map message_said lines.now) i ≡ Some (pair n (message m.now))) }
 {
     match message_at(lines, i) {
         Some(Msg::Pair(_, b)) => same_message(b, m),
@@ -90,7 +90,7 @@ fn says_second(lines: &[CertLine], i: u32, m: &Msg) -> bool
 }
 
 fn says_left(lines: &[CertLine], i: u32, m: &Msg) -> bool
-    ensures { IsTrue result ↔ slice_get (map said lines.now) i ≡ Some (in_left (message m.now)) }
+    ensures { IsTrue result ↔ slice_get (map message_said lines.now) i ≡ Some (in_left (message m.now)) }
 {
     match message_at(lines, i) {
         Some(Msg::Inl(a)) => same_message(a, m),
@@ -99,7 +99,7 @@ fn says_left(lines: &[CertLine], i: u32, m: &Msg) -> bool
 }
 
 fn says_right(lines: &[CertLine], i: u32, m: &Msg) -> bool
-    ensures { IsTrue result ↔ slice_get (map said lines.now) i ≡ Some (in_right (message m.now)) }
+    ensures { IsTrue result ↔ slice_get (map message_said lines.now) i ≡ Some (in_right (message m.now)) }
 {
     match message_at(lines, i) {
         Some(Msg::Inr(a)) => same_message(a, m),
@@ -110,8 +110,8 @@ fn says_right(lines: &[CertLine], i: u32, m: &Msg) -> bool
 // The line number i says a ciphertext of m, and the line number j its key.
 fn opens(lines: &[CertLine], i: u32, j: u32, m: &Msg) -> bool
     ensures { IsTrue result
-        ↔ ((n : Message) × (slice_get (map said lines.now) i ≡ Some (enc (message m.now) n))
-        × (slice_get (map said lines.now) j ≡ Some n)) }
+        ↔ ((n : Message) × (slice_get (map message_said lines.now) i ≡ Some (enc (message m.now) n))
+        × (slice_get (map message_said lines.now) j ≡ Some n)) }
 {
     match message_at(lines, i) {
         Some(Msg::Enc(a, k)) => same_message(a, m) && says(lines, j, k),
@@ -121,7 +121,7 @@ fn opens(lines: &[CertLine], i: u32, j: u32, m: &Msg) -> bool
 
 fn follows(sent: &[Msg], before: &[CertLine], line: &CertLine) -> bool
     ensures { IsTrue result
-        ↔ Follows (map message sent.now) (map said before.now) line.now.by (message line.now.message) }
+        ↔ Follows (map message sent.now) (map message_said before.now) line.now.by (message line.now.message) }
 {
     let m = &line.message;
     match line.by {

@@ -1,7 +1,7 @@
 // The clauses of knowledge at the messages of a store, as rules over their numbers.
 
 ghost use Rattle.std.specs.Prelude.{◌≡◌, ◌++◌, ◌∷◌, [], OnOk, IfOk, length};
-ghost use Rattle.spi_know.specs.Numbered.{rule, rules_of, ways_of, AreClauses};
+ghost use Rattle.spi_know.specs.Numbered.{rule, rules_of_part, ways_of, AreClauses};
 
 use crate::NoMemory;
 use spi_horn::Rule;
@@ -88,7 +88,7 @@ fn add_one(
 
 // The clauses that make the message with the number j of its parts, and take it apart.
 fn add_part(clauses: &mut Clauses, j: usize, part: MsgPart) -> Result<(), NoMemory>
-    ensures rules { OnOk result (clauses.new.rules.items ≡ clauses.old.rules.items ++ rules_of j part) }
+    ensures rules { OnOk result (clauses.new.rules.items ≡ clauses.old.rules.items ++ rules_of_part j part) }
     ensures ways { OnOk result (clauses.new.ways.items ≡ clauses.old.ways.items ++ ways_of part) }
 {
     match part {

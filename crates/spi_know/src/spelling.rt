@@ -1,7 +1,7 @@
 // Lines of certificates, for lines over the numbers of a store.
 
 ghost use Rattle.std.specs.Prelude.{◌≡◌, ◌<◌, IfOk, length};
-ghost use Rattle.spi_know.specs.Spelled.{named_by as named_by_of, IsSmall, SaysBy, IsCertLineOf, AreLines, CanBeSpelled};
+ghost use Rattle.spi_know.specs.Spelled.{named_by as named_by_of, IsSmallGround, SaysBy, IsCertLineOf, AreLines, CanBeSpelled};
 
 use crate::NoMemory;
 use crate::cert::{By, CertLine};
@@ -28,7 +28,7 @@ fn named_by(way: Way, first: u32, second: u32) -> By
 }
 
 fn by_of(sent: u32, ways: &[Way], ground: Ground) -> By
-    requires { IsSmall ways.now ground }
+    requires { IsSmallGround ways.now ground }
     ensures { SaysBy sent ways.now ground result }
 {
     match ground {
@@ -51,7 +51,7 @@ fn cert_line(
     line: Line,
 ) -> Result<CertLine, NoMemory>
     requires number { line.number < length store.now.messages }
-    requires small { IsSmall ways.now line.ground }
+    requires small { IsSmallGround ways.now line.ground }
     ensures { IfOk result (IsCertLineOf store.now.messages sent ways.now line) }
 {
     let by = by_of(sent, ways, line.ground);

@@ -5,41 +5,41 @@ use Rattle.spi_run.specs.declared.step.Event as declared
 use Rattle.spi_run.specs.View.{event}
 use Rattle.spi_run.specs.Reduction.{Event}
 use Rattle.spi_trace.specs.Pairing.{Pairs, pairs_none, pairs_begin, pairs_end, pairs_unpaid, pairs_end_many, pairs_unpaid_many, IsPairing}
-use Rattle.spi_report.specs.Events.{line_text, lines_text, is_unpaid, first_unpaid}
+use Rattle.spi_report.specs.Events.{event_line, event_lines, is_unpaid, first_unpaid}
 
 -- the first n of the events, and the event behind them
 abbrev lines_of : List (List ℕ) → ℕ → ℕ → List declared.Event → List (Option ℕ) → List ℕ
-lines_of names k n events from = lines_text names k (map event (take n events)) (take n from)
+lines_of names k n events from = event_lines names k (map event (take n events)) (take n from)
 
 abbrev unpaid_of : ℕ → ℕ → List declared.Event → List (Option ℕ) → Option ℕ
 unpaid_of k n events from = first_unpaid k (map event (take n events)) (take n from)
 
 -- a line more
-suc_lines : (names : List (List ℕ)) (k n : ℕ) (events : List declared.Event) (from : List (Option ℕ)) (d : declared.Event) (o : Option ℕ) → n < length events → n < length from → lines_of names k (suc n) events from ≡ lines_of names k n events from ++ line_text names (k + n) (event (get_or events n d)) (get_or from n o)
+suc_lines : (names : List (List ℕ)) (k n : ℕ) (events : List declared.Event) (from : List (Option ℕ)) (d : declared.Event) (o : Option ℕ) → n < length events → n < length from → lines_of names k (suc n) events from ≡ lines_of names k n events from ++ event_line names (k + n) (event (get_or events n d)) (get_or from n o)
 suc_lines names k n [] from d o h g = absurd (omega arith)
 suc_lines names k n (e ∷ events) [] d o h g = absurd (omega arith)
 suc_lines names k zero (e ∷ events) (i ∷ from) d o h g =
     let same : k ≡ k + 0 = omega arith in
-    append-nil (line_text names k (event e) i) ∙ ap (λ (j : ℕ). line_text names j (event e) i) same
+    append-nil (event_line names k (event e) i) ∙ ap (λ (j : ℕ). event_line names j (event e) i) same
 suc_lines names k (suc n) (e ∷ events) (i ∷ from) d o h g =
-    let here = line_text names k (event e) i in
-    let next = line_text names (k + suc n) (event (get_or events n d)) (get_or from n o) in
+    let here = event_line names k (event e) i in
+    let next = event_line names (k + suc n) (event (get_or events n d)) (get_or from n o) in
     let same : suc k + n ≡ k + suc n = omega arith in
     let more = suc_lines names (suc k) n events from d o (omega arith) (omega arith) in
-    ap (λ (t : List ℕ). here ++ t) (more ∙ ap (λ (j : ℕ). lines_of names (suc k) n events from ++ line_text names j (event (get_or events n d)) (get_or from n o)) same) ∙ sym (append_assoc here (lines_of names (suc k) n events from) next)
+    ap (λ (t : List ℕ). here ++ t) (more ∙ ap (λ (j : ℕ). lines_of names (suc k) n events from ++ event_line names j (event (get_or events n d)) (get_or from n o)) same) ∙ sym (append_assoc here (lines_of names (suc k) n events from) next)
 
-more_lines : (names : List (List ℕ)) (n : ℕ) (events : List declared.Event) (from : List (Option ℕ)) (e : declared.Event) (i o : Option ℕ) → n < length events → length from ≡ length events → e ≡ get_or events n e → i ≡ get_or from n o → lines_text names 0 (map event (take (n + 1) events)) (take (n + 1) from) ≡ lines_text names 0 (map event (take n events)) (take n from) ++ line_text names n (event e) i
+more_lines : (names : List (List ℕ)) (n : ℕ) (events : List declared.Event) (from : List (Option ℕ)) (e : declared.Event) (i o : Option ℕ) → n < length events → length from ≡ length events → e ≡ get_or events n e → i ≡ get_or from n o → event_lines names 0 (map event (take (n + 1) events)) (take (n + 1) from) ≡ event_lines names 0 (map event (take n events)) (take n from) ++ event_line names n (event e) i
 more_lines names n events from e i o h l f g =
     let same : 0 + n ≡ n = omega arith in
     let one : n + 1 ≡ suc n = omega arith in
     ap (λ (m : ℕ). lines_of names 0 m events from) one ∙ suc_lines names 0 n events from e o h (omega arith)
-    ∙ ap (λ (j : ℕ). lines_of names 0 n events from ++ line_text names j (event (get_or events n e)) (get_or from n o)) same
-    ∙ ap (λ (x : declared.Event). lines_of names 0 n events from ++ line_text names n (event x) (get_or from n o)) (sym f)
-    ∙ ap (λ (x : Option ℕ). lines_of names 0 n events from ++ line_text names n (event e) x) (sym g)
+    ∙ ap (λ (j : ℕ). lines_of names 0 n events from ++ event_line names j (event (get_or events n e)) (get_or from n o)) same
+    ∙ ap (λ (x : declared.Event). lines_of names 0 n events from ++ event_line names n (event x) (get_or from n o)) (sym f)
+    ∙ ap (λ (x : Option ℕ). lines_of names 0 n events from ++ event_line names n (event e) x) (sym g)
 
-pub put_more : (names : List (List ℕ)) (n : ℕ) (events : List declared.Event) (from : List (Option ℕ)) (e : declared.Event) (i o : Option ℕ) (old new : List ℕ) → n < length events → length from ≡ length events → e ≡ get_or events n e → i ≡ get_or from n o → old ≡ lines_text names 0 (map event (take n events)) (take n from) → new ≡ old ++ line_text names n (event e) i → new ≡ lines_text names 0 (map event (take (n + 1) events)) (take (n + 1) from)
+pub put_more : (names : List (List ℕ)) (n : ℕ) (events : List declared.Event) (from : List (Option ℕ)) (e : declared.Event) (i o : Option ℕ) (old new : List ℕ) → n < length events → length from ≡ length events → e ≡ get_or events n e → i ≡ get_or from n o → old ≡ event_lines names 0 (map event (take n events)) (take n from) → new ≡ old ++ event_line names n (event e) i → new ≡ event_lines names 0 (map event (take (n + 1) events)) (take (n + 1) from)
 put_more names n events from e i o old new h l f g was put =
-    put ∙ ap (λ (t : List ℕ). t ++ line_text names n (event e) i) was ∙ sym (more_lines names n events from e i o h l f g)
+    put ∙ ap (λ (t : List ℕ). t ++ event_line names n (event e) i) was ∙ sym (more_lines names n events from e i o h l f g)
 
 -- a choice that gives nothing, and one that isn't made
 none_chosen : (b : Bool) (k : ℕ) (o : Option ℕ) → (if b then Some k else o) ≡ None → (b ≡ false) × (o ≡ None)

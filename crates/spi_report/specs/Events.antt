@@ -15,13 +15,13 @@ event_text names (ended m) i = codes " end " ++ (message_text names m ++ from_te
 event_text names (ended_many m) i = codes " endmany " ++ (message_text names m ++ from_text i)
 
 -- the line of event number k, counted from 0
-abbrev pub line_text : List (List ℕ) → ℕ → Event → Option ℕ → List ℕ
-line_text names k e i = decimal (suc k) ++ (event_text names e i ++ codes "\n")
+abbrev pub event_line : List (List ℕ) → ℕ → Event → Option ℕ → List ℕ
+event_line names k e i = decimal (suc k) ++ (event_text names e i ++ codes "\n")
 
 -- a line for each event, from number k on
-abbrev pub lines_text : List (List ℕ) → ℕ → List Event → List (Option ℕ) → List ℕ
-lines_text names k (e ∷ es) (i ∷ is) = line_text names k e i ++ lines_text names (suc k) es is
-lines_text names k es is = []
+abbrev pub event_lines : List (List ℕ) → ℕ → List Event → List (Option ℕ) → List ℕ
+event_lines names k (e ∷ es) (i ∷ is) = event_line names k e i ++ event_lines names (suc k) es is
+event_lines names k es is = []
 
 -- an end or endmany without a begin
 abbrev pub is_unpaid : Event → Option ℕ → Bool
@@ -41,4 +41,4 @@ last_text None = codes "paid\n"
 last_text (Some k) = codes "unpaid at " ++ (decimal (suc k) ++ codes "\n")
 
 abbrev pub events_text : List (List ℕ) → List Event → List (Option ℕ) → List ℕ
-events_text names es is = lines_text names 0 es is ++ last_text (first_unpaid 0 es is)
+events_text names es is = event_lines names 0 es is ++ last_text (first_unpaid 0 es is)

@@ -8,20 +8,20 @@ use Rattle.spi_fault.specs.Faults.{Thing, nothing, the_message, the_atom, ToldFa
 use Rattle.spi_show.specs.Report.{message_text, atom_text}
 use Rattle.spi_report.specs.Refused.{place_text}
 
-abbrev pub number_of : Reason → ℕ
-number_of ChannelNotUn = 40
-number_of DatumNotUn = 41
-number_of BadType = 42
-number_of WrongScrutinee = 43
-number_of WrongKey = 44
-number_of NotANonce = 45
-number_of NotALabel = 46
-number_of NotGenerative = 47
-number_of BodyHasEffect = 48
-number_of EffectEscapes = 49
-number_of Unpaid = 50
-number_of WrongFirst = 51
-number_of BadCast = 52
+abbrev pub reason_number : Reason → ℕ
+reason_number ChannelNotUn = 40
+reason_number DatumNotUn = 41
+reason_number BadType = 42
+reason_number WrongScrutinee = 43
+reason_number WrongKey = 44
+reason_number NotANonce = 45
+reason_number NotALabel = 46
+reason_number NotGenerative = 47
+reason_number BodyHasEffect = 48
+reason_number EffectEscapes = 49
+reason_number Unpaid = 50
+reason_number WrongFirst = 51
+reason_number BadCast = 52
 
 abbrev pub reason_text : Reason → List ℕ
 reason_text ChannelNotUn = codes "ChannelNotUn"
@@ -47,5 +47,5 @@ thing_text names (the_atom a) = codes ": " ++ atom_text names a
 -- `no: N Name at L:C: shown` and a LF, where the nodes stand at these places and have these names in scope
 abbrev pub fault_text : List ℕ → (ℕ → Span) → (ℕ → List (List ℕ)) → ToldFault → List ℕ
 fault_text bytes place spelled f =
-    codes "no: " ++ decimal (number_of f.reason) ++ codes " " ++ reason_text f.reason
+    codes "no: " ++ decimal (reason_number f.reason) ++ codes " " ++ reason_text f.reason
     ++ place_text bytes (Some (place f.node).from) ++ thing_text (spelled f.scope_of) f.shown ++ codes "\n"

@@ -6,8 +6,8 @@ use Rattle.spi_report.specs.declared.refusal.Refusal.{Refusal}
 use Rattle.spi_report.specs.Names.{name_of}
 
 -- the number and the name
-abbrev pub head_text : ℕ → List ℕ → List ℕ
-head_text number name = codes "refused: " ++ decimal number ++ codes " " ++ name
+abbrev pub refused_head : ℕ → List ℕ → List ℕ
+refused_head number name = codes "refused: " ++ decimal number ++ codes " " ++ name
 
 -- where it stands in the file, by line and column
 abbrev pub place_text : List ℕ → Option ℕ → List ℕ
@@ -24,5 +24,5 @@ shown_text (b ∷ bs) = codes ": " ++ (b ∷ bs)
 -- `refused: N Name at L:C: shown` and a LF
 abbrev pub refused_text : List ℕ → Refusal → List ℕ
 refused_text bytes r =
-    head_text r.number (unwrap_or (name_of r.number) []) ++ place_text bytes r.offset
+    refused_head r.number (unwrap_or (name_of r.number) []) ++ place_text bytes r.offset
     ++ shown_text r.shown.items ++ codes "\n"

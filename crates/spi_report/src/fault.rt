@@ -5,7 +5,7 @@ ghost use Rattle.spi_scope.specs.Chains.{chain_at};
 ghost use Rattle.spi_scope.specs.Places.{place_in};
 ghost use Rattle.spi_fault.specs.Faults.{thing, told};
 ghost use Rattle.spi_report.specs.Refused.{place_text};
-ghost use Rattle.spi_report.specs.Fault.{number_of, reason_text, thing_text, fault_text};
+ghost use Rattle.spi_report.specs.Fault.{reason_number, reason_text, thing_text, fault_text};
 
 use crate::NoMemory;
 use crate::refusal::put_place;
@@ -17,7 +17,7 @@ use std::alloc::Global;
 
 /// The number of a reason.
 fn number_of(reason: Reason) -> u32
-    ensures { result ≡ number_of reason }
+    ensures { result ≡ reason_number reason }
 {
     match reason {
         Reason::ChannelNotUn => 40,

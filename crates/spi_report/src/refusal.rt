@@ -1,6 +1,6 @@
 ghost use Rattle.std.specs.Prelude.{◌≡◌, ◌≤◌, ◌++◌, [], length, IfOk, IfSome, OnOk, IsSome, unwrap_or, string_bytes};
 ghost use Rattle.spi_report.specs.Names.{name_of};
-ghost use Rattle.spi_report.specs.Refused.{head_text, place_text, shown_text, refused_text};
+ghost use Rattle.spi_report.specs.Refused.{refused_head, place_text, shown_text, refused_text};
 
 use crate::NoMemory;
 use spi_text::Lines;
@@ -64,7 +64,7 @@ fn name_of(number: u32) -> &'static str
 
 /// The start of the line: `refused: N Name`.
 fn head(alloc: Global, number: u32, name: &str) -> Result<String, NoMemory>
-    ensures { IfOk result (λ text. string_bytes text ≡ head_text number name.now) }
+    ensures { IfOk result (λ text. string_bytes text ≡ refused_head number name.now) }
 {
     let text = format!(in alloc; "refused: {number} {name}")?;
     Ok(text)

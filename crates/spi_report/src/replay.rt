@@ -3,7 +3,7 @@ ghost use Rattle.std.specs.Prelude.{◌≡◌, ◌+◌, ◌^◌, ◌<◌, ◌++�
 ghost use Rattle.spi_term.specs.View.{message};
 ghost use Rattle.spi_run.specs.View.{event};
 ghost use Rattle.spi_show.specs.Report.{message_text};
-ghost use Rattle.spi_report.specs.Events.{from_text, event_text, line_text, is_unpaid as is_unpaid_by, first_unpaid as first_unpaid_of, last_text, events_text};
+ghost use Rattle.spi_report.specs.Events.{from_text, event_text, event_line, is_unpaid as is_unpaid_by, first_unpaid as first_unpaid_of, last_text, events_text};
 
 use crate::NoMemory;
 use spi_run::Event;
@@ -75,7 +75,7 @@ fn put_line(
     begin: Option<u32>,
 ) -> Result<(), NoMemory>
     requires { k + 1 < 2 ^ 64 }
-    ensures { OnOk result (out.new.items ≡ out.old.items ++ line_text names.now k (event e.now) begin) }
+    ensures { OnOk result (out.new.items ≡ out.old.items ++ event_line names.now k (event e.now) begin) }
 {
     let number = k as u64 + 1;
     out.extend_from_slice(format!(in alloc; "{number}")?.as_bytes())?;

@@ -22,7 +22,7 @@ use Rattle.spi_tree.proofs.Same.{same_effect}
 use Rattle.spi_gen.specs.Handshake.{word}
 use Rattle.spi_spell.proofs.Shallow.{ArePointsSmall, small}
 use Rattle.spi_spell.proofs.Printed.{twice, spelled_name, numbered_name, message_tree, second_tree, rest_trees, atom_tree, atom_trees, type_tree, field_trees, last_tree, leaf_tree, prefix_tree, process_tree, free_trees, part_tree, opponent_tree, step_tree, schedule_tree, written_tree, deriv_tree, deriv_trees, derivation_tree, file_tree}
-use Rattle.spi_spell.proofs.Printable.{MessageFits, TyFits, LeafFits, PrefixFits, ForkFits, ProcessFits, Nests, IsPrintablePart, IsOpponentPart, is_later, IsPrintable}
+use Rattle.spi_spell.proofs.Printable.{MessageFits, TyFits, LeafFits, PrefixFits, ForkFits, ProcessFits, Nests, IsPrintablePart, IsOpponentPart, is_later_file, IsPrintable}
 
 -- the first token of a message, a type or an atom, and of a process
 shallow : (k : ℕ) → k ≤ 1000 → nat_lt message_limit k ≡ false
@@ -251,6 +251,6 @@ tree_within s f d h =
     let spell : ℕ → List ℕ = name_text s f.names in
     version_within f.version _ (free_within f.names _ (
       refl,
-      part_within (is_later f) spell (length f.names) f.process h.process _
-          (opponent_within (is_later f) spell (length f.names) f.opponent _ h.opponent (schedule_within f.schedule _ (derivation_within d _ h.derivation.within h.derivation.small tt))),
+      part_within (is_later_file f) spell (length f.names) f.process h.process _
+          (opponent_within (is_later_file f) spell (length f.names) f.opponent _ h.opponent (schedule_within f.schedule _ (derivation_within d _ h.derivation.within h.derivation.small tt))),
     ))

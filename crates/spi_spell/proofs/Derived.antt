@@ -44,8 +44,8 @@ abbrev pub FollowsRules : Bool → t.Deriv → Type 0
 FollowsRules later d = IsRuled later d × (in_order (deriv_points d) ≡ [])
 
 -- k such trees
-abbrev pub AreTrees : Bool → ℕ → t.Derivs → Type 0
-AreTrees later k ds = AreRuled later ds × (in_order (derivs_points ds) ≡ []) × (number_of ds ≡ k)
+abbrev pub AreDerivTrees : Bool → ℕ → t.Derivs → Type 0
+AreDerivTrees later k ds = AreRuled later ds × (in_order (derivs_points ds) ≡ []) × (number_of ds ≡ k)
 
 -- the uses are one tree, and k trees, wherever their tokens stand
 pub record Derives (later : Bool) (n : ℕ) (us : List RuleUse) : Type 0 where
@@ -54,7 +54,7 @@ pub record Derives (later : Bool) (n : ℕ) (us : List RuleUse) : Type 0 where
 
 pub record DeriveAll (later : Bool) (n k : ℕ) (us : List RuleUse) : Type 0 where
   pub plain : WriteNoEffect us
-  pub read : (e : ℕ) (ts : List Token) (ks : List Kind) → kinds_of ts ≡ rule_words us ++ ks → ReadsTree (AreTrees later k) all_uses_in (derivs_pieces n) us e ts ks
+  pub read : (e : ℕ) (ts : List Token) (ks : List Kind) → kinds_of ts ≡ rule_words us ++ ks → ReadsTree (AreDerivTrees later k) all_uses_in (derivs_pieces n) us e ts ks
 
 pub no_premise : (later : Bool) (n : ℕ) → DeriveAll later n 0 []
 no_premise later n = record {

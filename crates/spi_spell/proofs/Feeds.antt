@@ -84,14 +84,14 @@ leads_on {at = at} {to = to} {text = text} more (past_piece {pieces = ps} n lexe
     (subst (λ (bs : List ℕ). Leads (at + n) bs ps to (10 ∷ more)) (sym (drop-append-le n text (10 ∷ more) l.within)) (leads_on more h e))
 
 -- the same text k bytes further on
-abbrev pub moved : ℕ → LexPiece → LexPiece
-moved k p = record { lexeme = p.lexeme; from = k + p.from; to = k + p.to }
+abbrev pub moved_piece : ℕ → LexPiece → LexPiece
+moved_piece k p = record { lexeme = p.lexeme; from = k + p.from; to = k + p.to }
 
-pub leads_moved : {at to : ℕ} {text rest : List ℕ} {ps : List LexPiece} (k : ℕ) → Leads at text ps to rest → Leads (k + at) text (map (moved k) ps) (k + to) rest
+pub leads_moved : {at to : ℕ} {text rest : List ℕ} {ps : List LexPiece} (k : ℕ) → Leads at text ps to rest → Leads (k + at) text (map (moved_piece k) ps) (k + to) rest
 leads_moved k here = here
 leads_moved {at = at} {to = to} {text = text} {rest = rest} {ps = ps} k (past_gap n l g h) =
-    past_gap n l g (subst (λ (i : ℕ). Leads i (drop n text) (map (moved k) ps) (k + to) rest) (sym (add_assoc k at n)) (leads_moved k h))
+    past_gap n l g (subst (λ (i : ℕ). Leads i (drop n text) (map (moved_piece k) ps) (k + to) rest) (sym (add_assoc k at n)) (leads_moved k h))
 leads_moved {at = at} {to = to} {text = text} {rest = rest} k (past_piece {pieces = ps} n lexeme l s a h) =
     let e = add_assoc k at n in
-    subst (λ (i : ℕ). Leads (k + at) text (record { lexeme = lexeme; from = k + at; to = i } ∷ map (moved k) ps) (k + to) rest) e
-    (past_piece n lexeme l s a (subst (λ (i : ℕ). Leads i (drop n text) (map (moved k) ps) (k + to) rest) (sym e) (leads_moved k h)))
+    subst (λ (i : ℕ). Leads (k + at) text (record { lexeme = lexeme; from = k + at; to = i } ∷ map (moved_piece k) ps) (k + to) rest) e
+    (past_piece n lexeme l s a (subst (λ (i : ℕ). Leads i (drop n text) (map (moved_piece k) ps) (k + to) rest) (sym e) (leads_moved k h)))

@@ -11,35 +11,35 @@ use Rattle.spi_deriv.specs.Canonical.{IsCanonical}
 use Rattle.spi_spell.proofs.Derived.{Derives, rule, no_premise, last_premise, premise}
 
 -- a message whose typing has its root at this nesting
-abbrev pub FitsMessage : Bool → ℕ → Message → Type 0
-FitsMessage later n (bound i) = n ≤ 1000
-FitsMessage later n (name x) = n ≤ 1000
-FitsMessage later n unit = n ≤ 1000
-FitsMessage later n (pair a b) = (n ≤ 1000) × FitsMessage later (n + 1) a × FitsMessage later (n + 1) b
-FitsMessage later n (in_left a) = (n ≤ 1000) × FitsMessage later (n + 1) a
-FitsMessage later n (in_right a) = (n ≤ 1000) × FitsMessage later (n + 1) a
-FitsMessage later n (enc a b) = (n ≤ 1000) × FitsMessage later (n + 1) a × FitsMessage later (n + 1) b
-FitsMessage later n (hash a) = (n ≤ 1000) × (later ≡ true)
+abbrev pub MessageFitsIn : Bool → ℕ → Message → Type 0
+MessageFitsIn later n (bound i) = n ≤ 1000
+MessageFitsIn later n (name x) = n ≤ 1000
+MessageFitsIn later n unit = n ≤ 1000
+MessageFitsIn later n (pair a b) = (n ≤ 1000) × MessageFitsIn later (n + 1) a × MessageFitsIn later (n + 1) b
+MessageFitsIn later n (in_left a) = (n ≤ 1000) × MessageFitsIn later (n + 1) a
+MessageFitsIn later n (in_right a) = (n ≤ 1000) × MessageFitsIn later (n + 1) a
+MessageFitsIn later n (enc a b) = (n ≤ 1000) × MessageFitsIn later (n + 1) a × MessageFitsIn later (n + 1) b
+MessageFitsIn later n (hash a) = (n ≤ 1000) × (later ≡ true)
 
 abbrev pub FitsLeaf : Bool → ℕ → Leaf → Type 0
-FitsLeaf later n (Sends a b) = FitsMessage later n a × FitsMessage later n b
+FitsLeaf later n (Sends a b) = MessageFitsIn later n a × MessageFitsIn later n b
 FitsLeaf later n Stops = Unit {0}
 
 abbrev pub FitsPrefix : Bool → ℕ → Prefix → Type 0
-FitsPrefix later n (Recvs m t) = FitsMessage later n m
-FitsPrefix later n (Serves m t) = FitsMessage later n m
-FitsPrefix later n (Splits m t u) = FitsMessage later n m
-FitsPrefix later n (Selects m t k u) = FitsMessage later n m × FitsMessage later n k
-FitsPrefix later n (Decrypts m t k) = FitsMessage later n m × FitsMessage later n k
-FitsPrefix later n (Checks m k) = FitsMessage later n m × FitsMessage later n k
+FitsPrefix later n (Recvs m t) = MessageFitsIn later n m
+FitsPrefix later n (Serves m t) = MessageFitsIn later n m
+FitsPrefix later n (Splits m t u) = MessageFitsIn later n m
+FitsPrefix later n (Selects m t k u) = MessageFitsIn later n m × MessageFitsIn later n k
+FitsPrefix later n (Decrypts m t k) = MessageFitsIn later n m × MessageFitsIn later n k
+FitsPrefix later n (Checks m k) = MessageFitsIn later n m × MessageFitsIn later n k
 FitsPrefix later n (Begins m) = Unit {0}
 FitsPrefix later n (Ends m) = Unit {0}
 FitsPrefix later n (EndManys m) = later ≡ true
-FitsPrefix later n (Casts m t) = FitsMessage later n m
+FitsPrefix later n (Casts m t) = MessageFitsIn later n m
 FitsPrefix later n (Freshes t) = Unit {0}
 
 abbrev pub FitsFork : Bool → ℕ → Fork → Type 0
-FitsFork later n (Branches m t u) = FitsMessage later n m
+FitsFork later n (Branches m t u) = MessageFitsIn later n m
 FitsFork later n Pars = Unit {0}
 
 -- a process whose typing has its root at this nesting
@@ -50,11 +50,11 @@ FitsNesting later n (fork f p q) = (n ≤ 1000) × FitsFork later (n + 1) f × F
 
 -- ---- a name for a binder
 
-pub bound_put : (later : Bool) (n x i : ℕ) (b : Bool) → n ≤ 1000 → FitsMessage later n (if b then name x else bound i)
+pub bound_put : (later : Bool) (n x i : ℕ) (b : Bool) → n ≤ 1000 → MessageFitsIn later n (if b then name x else bound i)
 bound_put later n x i true h = h
 bound_put later n x i false h = h
 
-message_put : (later : Bool) (n x k : ℕ) (m : Message) → FitsMessage later n m → FitsMessage later n (put (name x) k m)
+message_put : (later : Bool) (n x k : ℕ) (m : Message) → MessageFitsIn later n m → MessageFitsIn later n (put (name x) k m)
 message_put later n x k (bound i) h = bound_put later n x i (i == k) h
 message_put later n x k (name y) h = h
 message_put later n x k unit h = h
@@ -102,7 +102,7 @@ opened_two later n x y p h = fits_put later n y 0 (process_map (put (name x)) 1 
 not_early : (later : Bool) → later ≡ true → (true && not later) ≡ false
 not_early later h = ap (λ (b : Bool). true && not b) h
 
-type_derives : {env : Env} {m : Message} {t : Ty} (later : Bool) (n : ℕ) (h : HasType [] env m t) → FitsMessage later n m → Derives later n (type_uses h)
+type_derives : {env : Env} {m : Message} {t : Ty} (later : Bool) (n : ℕ) (h : HasType [] env m t) → MessageFitsIn later n m → Derives later n (type_uses h)
 type_derives later n (msg_name a s) f = rule MsgName refl refl f (no_premise later (n + 1))
 type_derives later n msg_unit f = rule MsgUnit refl refl f (no_premise later (n + 1))
 type_derives later n msg_unit_un f = rule MsgUnitUn refl refl f (no_premise later (n + 1))

@@ -14,7 +14,7 @@ use Rattle.spi_scope.specs.StandsFor.{Meant}
 use Rattle.spi_show.specs.Spelled.{name_text}
 use Rattle.spi_show.specs.Processes.{Standing, alone, sequel}
 use Rattle.spi_spell.proofs.Printed.{spelled_name, numbered_name, message_tree, second_tree, rest_trees, second_part, parts_of_type, atom_tree, atom_trees, type_tree, field_trees, last_tree, leaf_tree, prefix_tree, process_tree, free_trees, part_tree, opponent_tree, written_tree, deriv_tree, deriv_trees, derivation_tree, file_tree}
-use Rattle.spi_spell.proofs.Printable.{HasVersion, MessageFits, AtomFits, EffectFits, PartsFit, TyFits, LeafFits, PrefixFits, ProcessFits, IsPrintablePart, IsOpponentPart, is_later, IsPrintable}
+use Rattle.spi_spell.proofs.Printable.{HasVersion, MessageFits, AtomFits, EffectFits, PartsFit, TyFits, LeafFits, PrefixFits, ProcessFits, IsPrintablePart, IsOpponentPart, is_later_file, IsPrintable}
 
 -- ---- messages and types
 
@@ -190,15 +190,15 @@ free_formed : (later : Bool) (ws : List (List ℕ)) → AreDeclared later (free_
 free_formed later [] = tt
 free_formed later (w ∷ ws) = (tt, tt)
 
-pub tree_formed : (s : ℕ) (f : Meant) (d : Option t.Deriv) → IsPrintable f d → AreWordsFit (is_later f) (tokens_of (file_tree s f d)) → IsFile (file_tree s f d)
+pub tree_formed : (s : ℕ) (f : Meant) (d : Option t.Deriv) → IsPrintable f d → AreWordsFit (is_later_file f) (tokens_of (file_tree s f d)) → IsFile (file_tree s f d)
 tree_formed s f d h words = record {
   formed = record {
     version = h.version;
-    decls = free_formed (is_later f) f.names;
-    process = part_formed (is_later f) (name_text s f.names) (length f.names) f.process h.process;
-    opponent = opponent_formed (is_later f) (name_text s f.names) (length f.names) f.opponent h.opponent;
-    derivation = (derivation_kept (is_later f) d (h.derivation.formed, h.derivation.rules)).0;
+    decls = free_formed (is_later_file f) f.names;
+    process = part_formed (is_later_file f) (name_text s f.names) (length f.names) f.process h.process;
+    opponent = opponent_formed (is_later_file f) (name_text s f.names) (length f.names) f.opponent h.opponent;
+    derivation = (derivation_kept (is_later_file f) d (h.derivation.formed, h.derivation.rules)).0;
     words = words;
   };
-  rules = (derivation_kept (is_later f) d (h.derivation.formed, h.derivation.rules)).1;
+  rules = (derivation_kept (is_later_file f) d (h.derivation.formed, h.derivation.rules)).1;
 }

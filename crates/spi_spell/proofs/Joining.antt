@@ -25,7 +25,7 @@ use Rattle.spi_scope.specs.StandsFor.{Meant, StandsFor, derivation_in, schedule_
 use Rattle.spi_deriv.specs.Canonical.{Canonical}
 use Rattle.spi_deriv.specs.Text.{derivation_text}
 use Rattle.spi_spell.specs.Spelled.{limit, IsTreeOf, SpellsFile}
-use Rattle.spi_spell.specs.Joined.{with_derivation, with_schedule, joined, schedule_text, HasLowPlaces}
+use Rattle.spi_spell.specs.Joined.{with_derivation, with_schedule, joined_texts, schedule_text, HasLowPlaces}
 use Rattle.spi_spell.proofs.Together.{text_behind}
 use Rattle.spi_tree.proofs.Same.{same_version, same_decls, same_proc, same_opponent, same_schedule}
 use Rattle.spi_spell.proofs.Derived.{Derives, FollowsRules, rule_words}
@@ -118,7 +118,7 @@ module _ (bytes : List ℕ) (file : Meant) (tree : t.File) (is : IsTreeOf bytes 
   tree_none : tree.derivation ≡ None
   tree_none = no_derivation tree.derivation (sym stands.derivation ∙ none)
 
-  pub with_a_derivation : (d : List RuleUse) → Canonical d file.process.names file.process.process → length (joined bytes (derivation_text d)) ≤ limit → SpellsFile (joined bytes (derivation_text d)) (with_derivation file d)
+  pub with_a_derivation : (d : List RuleUse) → Canonical d file.process.names file.process.process → length (joined_texts bytes (derivation_text d)) ≤ limit → SpellsFile (joined_texts bytes (derivation_text d)) (with_derivation file d)
   with_a_derivation d canonical short =
       let derives = derived bytes tree file d is stands canonical in
       let b = text_behind bytes (derivation_text d) is.tokens word.Derivation (rule_words d) is.lexed (derivation_writes d derives.plain) (derivation_kinds false d) (derivation_kinds true d) in
@@ -132,7 +132,7 @@ module _ (bytes : List ℕ) (file : Meant) (tree : t.File) (is : IsTreeOf bytes 
       let last : in_order (derivation_points tree.derivation) ≡ in_order (deriv_points y.read) = ap (λ (o : Option t.Deriv). in_order (derivation_points o)) tree_none ∙ sym y.is.1 in
       let clean : IsClean f = subst (λ (l : List Point). Clean 0 (points_with tree (in_order (schedule_points tree.schedule) ++ l))) last stands.clean in (
         f,
-        record { within = short; tokens = is.tokens ++ b.more; lexed = b.lexed; formed = made f (joined bytes (derivation_text d)) (is.tokens ++ b.more) b.lexed ruled spelled; spelled = spelled },
+        record { within = short; tokens = is.tokens ++ b.more; lexed = b.lexed; formed = made f (joined_texts bytes (derivation_text d)) (is.tokens ++ b.more) b.lexed ruled spelled; spelled = spelled },
         record { clean = clean; version = stands.version; names = stands.names; process = stands.process; opponent = stands.opponent; schedule = stands.schedule; derivation = ap Some (sym y.are) },
       )
 
@@ -157,7 +157,7 @@ clean_with f qs rs h clean =
     (λ c. clean_more process (opponent ++ qs) (opponent ++ rs) c (λ d. clean_more opponent qs rs d h)) clean
 
 module _ (bytes : List ℕ) (file : Meant) (tree : t.File) (is : IsTreeOf bytes tree) (stands : StandsFor tree file) (no_steps : file.schedule ≡ None) (none : file.derivation ≡ None) where
-  pub with_a_schedule : (steps : List Step) → length steps ≤ 10000 → AllByRecursion HasLowPlaces steps → length (joined bytes (schedule_text steps)) ≤ limit → SpellsFile (joined bytes (schedule_text steps)) (with_schedule file steps)
+  pub with_a_schedule : (steps : List Step) → length steps ≤ 10000 → AllByRecursion HasLowPlaces steps → length (joined_texts bytes (schedule_text steps)) ≤ limit → SpellsFile (joined_texts bytes (schedule_text steps)) (with_schedule file steps)
   with_a_schedule steps few places short =
       let bare = no_schedule tree.schedule (sym stands.schedule ∙ no_steps) in
       let plain = no_derivation tree.derivation (sym stands.derivation ∙ none) in
@@ -176,6 +176,6 @@ module _ (bytes : List ℕ) (file : Meant) (tree : t.File) (is : IsTreeOf bytes 
       λ d h. subst (Clean d) (sym (append-nil (in_order (steps_points 1 (length y.read) y.read)))) (steps_clean 1 (length y.read) d y.read (omega arith)) in
       let clean : IsClean f = clean_with tree _ _ new stands.clean in (
         f,
-        record { within = short; tokens = is.tokens ++ b.more; lexed = b.lexed; formed = made f (joined bytes (schedule_text steps)) (is.tokens ++ b.more) b.lexed ruled spelled; spelled = spelled },
+        record { within = short; tokens = is.tokens ++ b.more; lexed = b.lexed; formed = made f (joined_texts bytes (schedule_text steps)) (is.tokens ++ b.more) b.lexed ruled spelled; spelled = spelled },
         record { clean = clean; version = stands.version; names = stands.names; process = stands.process; opponent = stands.opponent; schedule = ap Some (sym y.are); derivation = none },
       )

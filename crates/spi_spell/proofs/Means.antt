@@ -13,9 +13,9 @@ use Rattle.spi_show.specs.Processes.{Standing, alone, sequel, is_output}
 use Rattle.spi_spell.proofs.Printed.{spelled_name, message_tree, second_tree, rest_trees, second_part, parts_of_type, atom_tree, atom_trees, type_tree, field_trees, last_tree, leaf_tree, prefix_tree, then_tree, process_tree}
 use Rattle.spi_spell.proofs.Printable.{prefix_nodes, process_nodes}
 use Rattle.spi_spell.proofs.Counts.{binds_few}
-use Rattle.spi_spell.proofs.Scopes.{in_scope, scope_length, AreApart, found}
+use Rattle.spi_spell.proofs.Scopes.{in_scope, scope_length, NamesAreApart, found}
 
-module _ (most : ℕ) (spell : ℕ → List ℕ) (apart : AreApart most spell) (k : ℕ) where
+module _ (most : ℕ) (spell : ℕ → List ℕ) (apart : NamesAreApart most spell) (k : ℕ) where
   -- ---- messages and effects, where n names are in scope, d of them bound
 
   free_name : (n x : ℕ) → x < k → x < n → n ≤ most → named k (length (in_scope spell n)) (number_of (in_scope spell n) (spell x)) ≡ name x

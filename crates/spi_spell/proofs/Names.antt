@@ -66,37 +66,37 @@ name_fit later s free fit low i few =
 -- ---- the least number by which bound names are moved up
 
 -- the number in a bound name
-abbrev value : List ℕ → ℕ
-value [] = 0
-value (c ∷ ds) = digits_value 10 ds
+abbrev value_of_digits : List ℕ → ℕ
+value_of_digits [] = 0
+value_of_digits (c ∷ ds) = digits_value 10 ds
 
 -- how many names have at least this number
-abbrev count : ℕ → List (List ℕ) → ℕ
-count s [] = 0
-count s (w ∷ ws) = if nat_lt (value w) s then count s ws else suc (count s ws)
+abbrev count_words : ℕ → List (List ℕ) → ℕ
+count_words s [] = 0
+count_words s (w ∷ ws) = if nat_lt (value_of_digits w) s then count_words s ws else suc (count_words s ws)
 
 -- none has one of the 100,000 numbers from this one on
 abbrev IsFreeFrom : ℕ → List (List ℕ) → Type 0
 IsFreeFrom s [] = ⊤
-IsFreeFrom s (w ∷ ws) = ((value w < s) ⊎ (s + 100000 ≤ value w)) × IsFreeFrom s ws
+IsFreeFrom s (w ∷ ws) = ((value_of_digits w < s) ⊎ (s + 100000 ≤ value_of_digits w)) × IsFreeFrom s ws
 
-passed : (s : ℕ) (w : List ℕ) (ws : List (List ℕ)) → value w < s → count s (w ∷ ws) ≡ count s ws
-passed s w ws h = cond-true (nat_lt (value w) s) (count s ws) (suc (count s ws)) (lt-ltb (value w) s h)
+passed : (s : ℕ) (w : List ℕ) (ws : List (List ℕ)) → value_of_digits w < s → count_words s (w ∷ ws) ≡ count_words s ws
+passed s w ws h = cond-true (nat_lt (value_of_digits w) s) (count_words s ws) (suc (count_words s ws)) (lt-ltb (value_of_digits w) s h)
 
-counted : (s : ℕ) (w : List ℕ) (ws : List (List ℕ)) → s ≤ value w → count s (w ∷ ws) ≡ suc (count s ws)
-counted s w ws h = cond-false (nat_lt (value w) s) (count s ws) (suc (count s ws)) (le-ltb (value w) s h)
+counted : (s : ℕ) (w : List ℕ) (ws : List (List ℕ)) → s ≤ value_of_digits w → count_words s (w ∷ ws) ≡ suc (count_words s ws)
+counted s w ws h = cond-false (nat_lt (value_of_digits w) s) (count_words s ws) (suc (count_words s ws)) (le-ltb (value_of_digits w) s h)
 
-at_most : (s : ℕ) (ws : List (List ℕ)) → count s ws ≤ length ws
+at_most : (s : ℕ) (ws : List (List ℕ)) → count_words s ws ≤ length ws
 at_most s [] = omega arith
-at_most s (w ∷ ws) = elim (cases_lt (value w) s) [
+at_most s (w ∷ ws) = elim (cases_lt (value_of_digits w) s) [
   | inl below ↦ omega (arith, passed s w ws below, at_most s ws)
   | inr above ↦ omega (arith, counted s w ws above, at_most s ws)
 ]
 
-fewer : (s : ℕ) (ws : List (List ℕ)) → count (s + 100000) ws ≤ count s ws
+fewer : (s : ℕ) (ws : List (List ℕ)) → count_words (s + 100000) ws ≤ count_words s ws
 fewer s [] = omega arith
-fewer s (w ∷ ws) = elim (cases_lt (value w) (s + 100000)) [
-  | inl below ↦ elim (cases_lt (value w) s) [
+fewer s (w ∷ ws) = elim (cases_lt (value_of_digits w) (s + 100000)) [
+  | inl below ↦ elim (cases_lt (value_of_digits w) s) [
     | inl low ↦ omega (arith, passed (s + 100000) w ws below, passed s w ws low, fewer s ws)
     | inr high ↦ omega (arith, passed (s + 100000) w ws below, counted s w ws high, fewer s ws)
   ]
@@ -104,10 +104,10 @@ fewer s (w ∷ ws) = elim (cases_lt (value w) (s + 100000)) [
 ]
 
 -- none is there, or fewer have at least the number behind them
-decided : (s : ℕ) (ws : List (List ℕ)) → IsFreeFrom s ws ⊎ (suc (count (s + 100000) ws) ≤ count s ws)
+decided : (s : ℕ) (ws : List (List ℕ)) → IsFreeFrom s ws ⊎ (suc (count_words (s + 100000) ws) ≤ count_words s ws)
 decided s [] = inl tt
-decided s (w ∷ ws) = elim (cases_lt (value w) (s + 100000)) [
-  | inl below ↦ elim (cases_lt (value w) s) [
+decided s (w ∷ ws) = elim (cases_lt (value_of_digits w) (s + 100000)) [
+  | inl below ↦ elim (cases_lt (value_of_digits w) s) [
     | inl low ↦ elim (decided s ws) [
       | inl free ↦ inl (inl low, free)
       | inr less ↦ inr (omega (arith, passed (s + 100000) w ws below, passed s w ws low))
@@ -120,7 +120,7 @@ decided s (w ∷ ws) = elim (cases_lt (value w) (s + 100000)) [
   ]
 ]
 
-found : (n s : ℕ) (ws : List (List ℕ)) → count s ws ≤ n → (r : ℕ) × (r ≤ s + 100000 * n) × IsFreeFrom r ws
+found : (n s : ℕ) (ws : List (List ℕ)) → count_words s ws ≤ n → (r : ℕ) × (r ≤ s + 100000 * n) × IsFreeFrom r ws
 found zero s ws few = elim (decided s ws) [
   | inl free ↦ (s, omega arith, free)
   | inr less ↦ absurd (omega arith)
@@ -130,8 +130,8 @@ found (suc n) s ws few = elim (decided s ws) [
   | inr less ↦ (let x = found n (s + 100000) ws (omega arith) in (x.0, omega (arith, x.1), x.2))
 ]
 
-value_of : (w : List ℕ) (i : ℕ) → i < 10 ^ 64 → w ≡ codes "v" ++ decimal i → value w ≡ i
-value_of w i low e = ap value e ∙ (decimal_is_IsNumeral_wide i low).1
+value_of : (w : List ℕ) (i : ℕ) → i < 10 ^ 64 → w ≡ codes "v" ++ decimal i → value_of_digits w ≡ i
+value_of w i low e = ap value_of_digits e ∙ (decimal_is_IsNumeral_wide i low).1
 
 free_apart : (r : ℕ) (ws : List (List ℕ)) → r + 100000 ≤ 10 ^ 64 → IsFreeFrom r ws → IsApart ws r
 free_apart r [] low h i x from to e = absurd cc

@@ -13,23 +13,23 @@ use Rattle.spi_spell.proofs.Past.{past_msg, past_named, past_binder, past_proc}
 use Rattle.spi_spell.proofs.Printable.{Nests}
 
 -- what is printed at the place b stands in the tree at a place that is no higher
-abbrev IsAbove : Place → Place → Type 0
-IsAbove (in_seq n) (in_seq m) = n ≤ m
-IsAbove (at_level n) (at_level m) = n ≤ m
-IsAbove (in_seq n) (at_level m) = n ≤ m
-IsAbove (at_level n) (in_seq m) = n + 1 ≤ m
+abbrev PlaceIsAbove : Place → Place → Type 0
+PlaceIsAbove (in_seq n) (in_seq m) = n ≤ m
+PlaceIsAbove (at_level n) (at_level m) = n ≤ m
+PlaceIsAbove (in_seq n) (at_level m) = n ≤ m
+PlaceIsAbove (at_level n) (in_seq m) = n + 1 ≤ m
 
-above_nesting : (b a : Place) → IsAbove b a → nesting_of b ≤ nesting_of a
+above_nesting : (b a : Place) → PlaceIsAbove b a → nesting_of b ≤ nesting_of a
 above_nesting (in_seq n) (in_seq m) h = h
 above_nesting (at_level n) (at_level m) h = omega (arith, h)
 above_nesting (in_seq n) (at_level m) h = omega (arith, h)
 above_nesting (at_level n) (in_seq m) h = h
 
-low : (b a : Place) → IsAbove b a → nat_lt 500 (nesting_of a) ≡ false → nesting_of b ≤ process_limit
+low : (b a : Place) → PlaceIsAbove b a → nat_lt 500 (nesting_of a) ≡ false → nesting_of b ≤ process_limit
 low b a h within = omega (arith, above_nesting b a h, ltb-false 500 (nesting_of a) within)
 
 -- the `Seq` behind a form
-under : (b a : Place) → IsAbove b a → IsAbove (below b) (below a)
+under : (b a : Place) → PlaceIsAbove b a → PlaceIsAbove (below b) (below a)
 under b a h = omega (arith, above_nesting b a h)
 
 choose : (w : Bool) {P Q : Type 0} → P → Q → MatchBool w P Q
@@ -56,7 +56,7 @@ first_within later n (t.stop s) r f w = w.0
 first_within later n (t.group s p q) r f w = w.0
 
 module _ (later : Bool) (by : ℕ → ℕ) (ts : Abbreviations) where
-  pub nests : (xs : Names) (p : t.Proc) (a b : Place) (r : List Piece) → IsProc later a p → IsWithin (proc_pieces a p r) → IsAbove b a → Nests b (process_in by ts xs p)
+  pub nests : (xs : Names) (p : t.Proc) (a b : Place) (r : List Piece) → IsProc later a p → IsWithin (proc_pieces a p r) → PlaceIsAbove b a → Nests b (process_in by ts xs p)
   nests xs (t.par s p q) (in_seq l) b r f w h = absurd f
   nests xs (t.par s p q) (at_level l) (in_seq n) r f w h =
       let rest = (past_proc (in_seq (l + 1)) p _ w).1 in

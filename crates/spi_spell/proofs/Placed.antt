@@ -30,8 +30,8 @@ kinds_append : (a b : List Tok) → exact.kinds (a ++ b) ≡ exact.kinds a ++ ex
 kinds_append [] b = refl
 kinds_append (x ∷ a) b = ap (λ (l : List Kind). x.kind ∷ l) (kinds_append a b)
 
-abbrev IsPlaced : t.File → List Token → t.File → Type 0
-IsPlaced f ts g = (bare_file g ≡ bare_file f) × IsFile g × Spells [] 0 (whole_file g) ts
+abbrev FileIsPlaced : t.File → List Token → t.File → Type 0
+FileIsPlaced f ts g = (bare_file g ≡ bare_file f) × IsFile g × Spells [] 0 (whole_file g) ts
 
 module _ (f : t.File) (ts : List Token) (formed : IsFile f) (within : IsWithin (whole_file f)) (same : kinds_of ts ≡ tokens_of f) where
   fit : AreWordsFit (is_version_2 (kinds_of ts)) (kinds_of ts)
@@ -50,13 +50,13 @@ module _ (f : t.File) (ts : List Token) (formed : IsFile f) (within : IsWithin (
       let split : kinds_of ts ≡ exact.kinds r.pre ++ k.kind ∷ exact.kinds rest = sym (kinds_tok ts) ∙ ap exact.kinds r.split ∙ kinds_append r.pre (k ∷ rest) in
       r.ends f formed (exact.kinds rest) (sym same ∙ split)
 
-  placed_at : (g : t.File) (e : ℕ) (rest : List Tok) → read limited file (at 0 (map tok ts)) ≡ Ok (g, at e rest) → (g : t.File) × IsPlaced f ts g
+  placed_at : (g : t.File) (e : ℕ) (rest : List Tok) → read limited file (at 0 (map tok ts)) ≡ Ok (g, at e rest) → (g : t.File) × FileIsPlaced f ts g
   placed_at g e [] is =
       let p = parses_ok (λ (x : t.File). x) ts fit g e is in
       (g, (same_tokens g f p.0 formed (tokens_spelled g ts p.1 ∙ same), p.0, p.1))
   placed_at g e (k ∷ rest) is = absurd (none_left g e k rest is)
 
-  placed_by : (r : Out t.File) → read limited file (at 0 (map tok ts)) ≡ r → (g : t.File) × IsPlaced f ts g
+  placed_by : (r : Out t.File) → read limited file (at 0 (map tok ts)) ≡ r → (g : t.File) × FileIsPlaced f ts g
   placed_by (Ok (g, s)) is = placed_at g s.end s.rest is
   placed_by (Err d) is =
       let all : exact.kinds (map tok ts) ≡ exact.kinds (map tok ts) ++ [] = sym (append-nil (exact.kinds (map tok ts))) in

@@ -43,14 +43,14 @@ decimal_short n = digits_short 64 n []
 
 -- ---- identifiers of letters, digits and `_`
 
-abbrev pub is_plain : ℕ → Bool
-is_plain b = nat_lt b 128 && (is_ascii_alphanumeric b || (b == 95))
+abbrev pub is_plain_ascii : ℕ → Bool
+is_plain_ascii b = nat_lt b 128 && (is_ascii_alphanumeric b || (b == 95))
 
 abbrev pub ArePlain : List ℕ → Type 0
-ArePlain bs = AllByRecursion (λ b. is_plain b ≡ true) bs
+ArePlain bs = AllByRecursion (λ b. is_plain_ascii b ≡ true) bs
 
-digit_plain : (d : ℕ) → d < 10 → is_plain (digit_glyph false d) ≡ true
-digit_plain d l = agree_below_at (λ x. is_plain (digit_glyph false x)) (λ x. true) 10 d refl l
+digit_plain : (d : ℕ) → d < 10 → is_plain_ascii (digit_glyph false d) ≡ true
+digit_plain d l = agree_below_at (λ x. is_plain_ascii (digit_glyph false x)) (λ x. true) 10 d refl l
 
 plain_continue : (bs : List ℕ) → ArePlain bs → AllByRecursion (λ c. IsTrue (is_xid_continue c)) bs × (all_scalars bs ≡ true) × IsAscii bs
 plain_continue [] h = (tt, refl, IsAscii-nil)
@@ -67,4 +67,4 @@ plain_identifier b bs l letter h =
     (b ∷ bs, (starts, all.0.1), all.1, encodes-IsAscii (b ∷ bs) all.2)
 
 pub decimal_plain : (n : ℕ) → ArePlain (decimal n)
-decimal_plain n = decimal_by (λ b. is_plain b ≡ true) digit_plain n
+decimal_plain n = decimal_by (λ b. is_plain_ascii b ≡ true) digit_plain n

@@ -13,12 +13,12 @@ use Rattle.spi_scope.proofs.Sizes.{message_sized, type_sized}
 use Rattle.spi_show.specs.Processes.{Standing, alone, sequel, is_output}
 use Rattle.spi_spell.proofs.Printed.{second_part, parts_of_type, spelled_name, message_tree, second_tree, rest_trees, atom_tree, atom_trees, type_tree, field_trees, last_tree, leaf_tree, prefix_tree, then_tree, process_tree}
 use Rattle.spi_spell.proofs.Printable.{MessageFits, AtomFits, EffectFits, PartsFit, TyFits, LeafFits, PrefixFits, ProcessFits, leaf_nodes, prefix_nodes, process_nodes}
-use Rattle.spi_spell.proofs.Scopes.{in_scope, AreApart, found}
+use Rattle.spi_spell.proofs.Scopes.{in_scope, NamesAreApart, found}
 use Rattle.spi_spell.proofs.Means.{message_means, type_means}
 use Rattle.spi_spell.proofs.Counts.{binds_few}
 use Rattle.spi_spell.proofs.Clear.{regrouped, AddsPoints, next, in_all, no_point, counted, message_adds, type_adds, message_head_adds, messages_head_adds, typed_head_adds, tested_head_adds, split_head_adds, match_head_adds, new_head_adds}
 
-module _ (most : ℕ) (spell : ℕ → List ℕ) (apart : AreApart most spell) (k : ℕ) where
+module _ (most : ℕ) (spell : ℕ → List ℕ) (apart : NamesAreApart most spell) (k : ℕ) where
   -- ---- messages and effects, where n names are in scope, d of them bound
 
   module _ (n d : ℕ) (is : n ≡ k + d) (few : n ≤ most) where

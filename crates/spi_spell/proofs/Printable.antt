@@ -155,16 +155,16 @@ pub record IsDerivationOf (later : Bool) (f : Meant) (d : Option t.Deriv) : Type
   pub kinds : AllByRecursion (IsKind (words_of later)) (kinds_in (derivation_pieces d []))
   pub small : Clean 0 (in_order (derivation_points d))
 
-abbrev pub is_later : Meant → Bool
-is_later f = f.version == 2
+abbrev pub is_later_file : Meant → Bool
+is_later_file f = f.version == 2
 
 -- such a file, with the tree of its derivation
 pub record IsPrintable (f : Meant) (d : Option t.Deriv) : Type 0 where
   pub version : (f.version ≡ 1) ⊎ (f.version ≡ 2)
-  pub words : AllByRecursion (λ w. IsKind (words_of (is_later f)) (kinds.Word w)) f.names
+  pub words : AllByRecursion (λ w. IsKind (words_of (is_later_file f)) (kinds.Word w)) f.names
   pub distinct : AreDistinct f.names
-  pub process : IsPrintablePart (is_later f) (length f.names) f.process
-  pub opponent : IsOpponentPart (is_later f) (length f.names) f.opponent
+  pub process : IsPrintablePart (is_later_file f) (length f.names) f.process
+  pub opponent : IsOpponentPart (is_later_file f) (length f.names) f.opponent
   pub few : length f.names + (process_nodes f.process.process + opponent_nodes f.opponent) ≤ 100000
   pub schedule : AreSteps f.schedule
-  pub derivation : IsDerivationOf (is_later f) f d
+  pub derivation : IsDerivationOf (is_later_file f) f d

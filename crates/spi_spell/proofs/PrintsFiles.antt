@@ -30,7 +30,7 @@ use Rattle.spi_spell.proofs.Together.{reserved_first}
 use Rattle.spi_spell.proofs.Texts.{act_kind, talk_kind}
 use Rattle.spi_spell.proofs.Printed as printed
 use Rattle.spi_spell.proofs.Printed.{free_trees, part_tree, opponent_tree, step_tree, schedule_tree, derivation_tree, file_tree}
-use Rattle.spi_spell.proofs.Printable.{IsPrintablePart, IsOpponentPart, process_nodes, opponent_nodes, AreSteps, is_later, IsPrintable}
+use Rattle.spi_spell.proofs.Printable.{IsPrintablePart, IsOpponentPart, process_nodes, opponent_nodes, AreSteps, is_later_file, IsPrintable}
 use Rattle.spi_spell.proofs.Names.{name_fit}
 use Rattle.spi_spell.proofs.Prints as prints
 use Rattle.spi_spell.proofs.Prints.{Prints}
@@ -122,7 +122,7 @@ derivation later (Some d) formed rules fit r h =
 
 module _ (s : ℕ) (f : Meant) (d : Option t.Deriv) (is : IsPrintable f d) (low : s < 10 ^ 60) where
   abbrev later : Bool
-  later = is_later f
+  later = is_later_file f
 
   abbrev spell : ℕ → List ℕ
   spell = name_text s f.names

@@ -20,36 +20,36 @@ use Rattle.spi_spell.proofs.Printable.{MessageFits, TyFits, LeafFits, PrefixFits
 use Rattle.spi_spell.proofs.Counts.{some_size, binds_few}
 use Rattle.spi_spell.proofs.Prints as prints
 use Rattle.spi_spell.proofs.Prints.{Prints}
-use Rattle.spi_spell.proofs.PrintsTerms.{InScope}
+use Rattle.spi_spell.proofs.PrintsTerms.{PrintsInScope}
 use Rattle.spi_spell.proofs.PrintsTypes as types
 use Rattle.spi_spell.proofs.PrintsTypes.{inner}
 
-behind : {top k d n : ℕ} (b : ℕ) → InScope top k d n → n + b ≤ top → InScope top k (d + b) (n + b)
+behind : {top k d n : ℕ} (b : ℕ) → PrintsInScope top k d n → n + b ≤ top → PrintsInScope top k (d + b) (n + b)
 behind b s few = (let low = s.bound in record { free = s.free; bound = omega arith; all = few })
 
-same : {top k d n : ℕ} → InScope top k d n → InScope top k (d + 0) n
+same : {top k d n : ℕ} → PrintsInScope top k d n → PrintsInScope top k (d + 0) n
 same s = (let low = s.bound in record { free = s.free; bound = omega arith; all = s.all })
 
 module _ (later : Bool) (top : ℕ) (spell : ℕ → List ℕ) (fit : (i : ℕ) → i < top → IsKind (words_of later) (kinds.Word (spell i))) where
   -- a message
-  message : {k d n : ℕ} (m : Message) → InScope top k d n → MessageOver k d m → MessageFits later m → (r : List Piece) (more : List ℕ)
+  message : {k d n : ℕ} (m : Message) → PrintsInScope top k d n → MessageOver k d m → MessageFits later m → (r : List Piece) (more : List ℕ)
       → IsTrue (is_apart more) → Prints later (kinds_in r) more → Prints later (kinds_in (msg_pieces 1 (message_tree (spelled_name spell) n m) r)) (message_text spell n m ++ more)
   message {k = k} {d = d} {n = n} m in_scope o v r more apart p = types.message later top spell fit k d n 1 m in_scope o v.1 r more apart p
 
   -- the name with number x and its type, where n names are in scope
-  named : {k d n : ℕ} (x : ℕ) (a : Ty) → x < top → InScope top k d n → n + ty_nodes a ≤ top → OfTy (MessageOver k) d a → TyFits later a → (r : List Piece) (more : List ℕ)
+  named : {k d n : ℕ} (x : ℕ) (a : Ty) → x < top → PrintsInScope top k d n → n + ty_nodes a ≤ top → OfTy (MessageOver k) d a → TyFits later a → (r : List Piece) (more : List ℕ)
       → IsTrue (is_apart more) → Prints later (kinds_in r) more
       → Prints later (kinds_in (named_pieces (word (spell x)) (type_tree spell n a) r)) (typed_text spell x (type_text spell n a) ++ more)
   named {k = k} {d = d} {n = n} x a low in_scope few o v r more apart p =
       types.typed later top spell fit x (type_text spell n a) more low (types.type later top spell fit k d n 1 a in_scope few o v.1 r more apart p)
 
   -- a binder, after which a process follows
-  binder : {k d n : ℕ} (x : ℕ) (a : Ty) → x < top → InScope top k d n → n + ty_nodes a ≤ top → OfTy (MessageOver k) d a → TyFits later a → (r : List Piece) (more : List ℕ) → Prints later (kinds_in r) more
+  binder : {k d n : ℕ} (x : ℕ) (a : Ty) → x < top → PrintsInScope top k d n → n + ty_nodes a ≤ top → OfTy (MessageOver k) d a → TyFits later a → (r : List Piece) (more : List ℕ) → Prints later (kinds_in r) more
       → Prints later (kinds_in (binder_pieces (word (spell x)) (type_tree spell n a) r)) (codes "(" ++ ((typed_text spell x (type_text spell n a) ++ codes "); ") ++ more))
   binder {n = n} x a low in_scope few o v r more p =
       prints.mark mark.ParenOpen (prints.part (typed_text spell x (type_text spell n a)) _ more (named x a low in_scope few o v _ _ refl (prints.mark mark.ParenClose (prints.mark mark.Semicolon (prints.space p)))))
 
-  pub one_prefix : (k d n : ℕ) (at : Place) (s : Prefix) (q : t.Proc) → InScope top k d n → n + prefix_nodes s ≤ top → OfPrefix (MessageOver k) d s → PrefixFits later s
+  pub one_prefix : (k d n : ℕ) (at : Place) (s : Prefix) (q : t.Proc) → PrintsInScope top k d n → n + prefix_nodes s ≤ top → OfPrefix (MessageOver k) d s → PrefixFits later s
       → (r : List Piece) (more : List ℕ) → Prints later (kinds_in (proc_pieces (below at) q (ends nowhere r))) more
       → Prints later (kinds_in (proc_pieces at (prefix_tree spell n s q) r)) (prefix_text spell n s ++ more)
   one_prefix k d n at (Recvs m a) q scope few o v r more p =
@@ -88,14 +88,14 @@ module _ (later : Bool) (top : ℕ) (spell : ℕ → List ℕ) (fit : (i : ℕ) 
   one_prefix k d n at (Freshes a) q scope few o v r more p =
       prints.keyword word.New refl refl (prints.space (binder n a (omega arith) scope (omega arith) o v _ more p))
 
-  one_leaf : (k d n : ℕ) (at : Place) (l : Leaf) → InScope top k d n → OfLeaf (MessageOver k) d l → LeafFits later l → (r : List Piece) (more : List ℕ)
+  one_leaf : (k d n : ℕ) (at : Place) (l : Leaf) → PrintsInScope top k d n → OfLeaf (MessageOver k) d l → LeafFits later l → (r : List Piece) (more : List ℕ)
       → IsTrue (is_apart more) → Prints later (kinds_in r) more → Prints later (kinds_in (proc_pieces at (leaf_tree spell n l) r)) (leaf_text spell n l ++ more)
   one_leaf k d n at (Sends a b) scope o v r more apart p =
       prints.keyword word.Out refl refl (prints.space (prints.part (message_text spell n a) _ more (message a scope o.0 v.0 _ _ refl (prints.space (message b scope o.1 v.1 _ more apart p)))))
   one_leaf k d n at Stops scope o v r more apart p = prints.keyword word.Stop refl apart p
 
   -- an output before its sequel
-  output : (k d n : ℕ) (at : Place) (l : Process) (q : t.Proc) → is_output l ≡ true → InScope top k d n → OfProcess (MessageOver k) d l → ProcessFits later l → (r : List Piece) (more : List ℕ)
+  output : (k d n : ℕ) (at : Place) (l : Process) (q : t.Proc) → is_output l ≡ true → PrintsInScope top k d n → OfProcess (MessageOver k) d l → ProcessFits later l → (r : List Piece) (more : List ℕ)
       → Prints later (kinds_in (proc_pieces (below at) q (ends nowhere r))) more
       → Prints later (kinds_in (proc_pieces at (then_tree (process_tree spell sequel n l) q) r)) (process_text spell sequel n l ++ (59 ∷ 32 ∷ more))
   output k d n at (leaf (Sends a b)) q is scope o v r more p =
@@ -118,7 +118,7 @@ module _ (later : Bool) (top : ℕ) (spell : ℕ → List ℕ) (fit : (i : ℕ) 
       if w then process_text spell sequel n p ++ (codes "; " ++ process_text spell sequel n q)
       else codes "(" ++ (process_text spell sequel n p ++ (codes " | " ++ (process_text spell alone n q ++ codes ")")))
 
-  composed : (k d n : ℕ) (at : Place) (p q : Process) (w : Bool) → is_output p ≡ w → InScope top k d n → OfProcess (MessageOver k) d p → ProcessFits later p
+  composed : (k d n : ℕ) (at : Place) (p q : Process) (w : Bool) → is_output p ≡ w → PrintsInScope top k d n → OfProcess (MessageOver k) d p → ProcessFits later p
       → Written sequel n p → ((st : Standing) → Written st n q) → (r : List Piece) (more : List ℕ) → IsTrue (is_apart more) → Prints later (kinds_in r) more
       → Prints later (kinds_in (proc_pieces at (sequel_tree w n p q) r)) (sequel_text w n p q ++ more)
   composed k d n at p q true is scope o v first second r more apart h =
@@ -128,7 +128,7 @@ module _ (later : Bool) (top : ℕ) (spell : ℕ → List ℕ) (fit : (i : ℕ) 
       (prints.part (process_text spell alone n q) _ more (second alone (beside at) _ _ refl (prints.mark mark.ParenClose h))))))))
 
   -- a `case` up to its first process, and between its processes
-  left : (k d n : ℕ) (m : Message) (a : Ty) → InScope top k d n → suc (n + ty_nodes a) ≤ top → MessageOver k d m → OfTy (MessageOver k) d a → MessageFits later m → TyFits later a
+  left : (k d n : ℕ) (m : Message) (a : Ty) → PrintsInScope top k d n → suc (n + ty_nodes a) ≤ top → MessageOver k d m → OfTy (MessageOver k) d a → MessageFits later m → TyFits later a
       → (r : List Piece) (more : List ℕ) → Prints later (kinds_in r) more
       → Prints later (kinds_in (a_reserved word.Case (msg_pieces 1 (message_tree (spelled_name spell) n m) (a_reserved word.Is (a_reserved word.Inl (binder_pieces (word (spell n)) (type_tree spell n a) r))))))
       (left_text spell n (message_text spell n m) (type_text spell n a) ++ more)
@@ -136,12 +136,12 @@ module _ (later : Bool) (top : ℕ) (spell : ℕ → List ℕ) (fit : (i : ℕ) 
       prints.keyword word.Case refl refl (prints.space (prints.part (message_text spell n m) _ more (message m scope o v _ _ refl (prints.space (prints.keyword word.Is refl refl (prints.space
       (prints.keyword word.Inl refl refl (prints.space (binder n a (omega arith) scope (omega arith) oa va _ more h)))))))))
 
-  between : (k d n : ℕ) (b : Ty) → InScope top k d n → suc (n + ty_nodes b) ≤ top → OfTy (MessageOver k) d b → TyFits later b → (r : List Piece) (more : List ℕ) → Prints later (kinds_in r) more
+  between : (k d n : ℕ) (b : Ty) → PrintsInScope top k d n → suc (n + ty_nodes b) ≤ top → OfTy (MessageOver k) d b → TyFits later b → (r : List Piece) (more : List ℕ) → Prints later (kinds_in r) more
       → Prints later (kinds_in (a_reserved word.Is (a_reserved word.Inr (binder_pieces (word (spell n)) (type_tree spell n b) r)))) (right_text spell n (type_text spell n b) ++ more)
   between k d n b scope few o v r more h =
       prints.space (prints.keyword word.Is refl refl (prints.space (prints.keyword word.Inr refl refl (prints.space (binder n b (omega arith) scope (omega arith) o v _ more h)))))
 
-  pub process : (k d n : ℕ) (st : Standing) (p : Process) → InScope top k d n → n + process_nodes p ≤ top → OfProcess (MessageOver k) d p → ProcessFits later p
+  pub process : (k d n : ℕ) (st : Standing) (p : Process) → PrintsInScope top k d n → n + process_nodes p ≤ top → OfProcess (MessageOver k) d p → ProcessFits later p
       → (at : Place) (r : List Piece) (more : List ℕ) → IsTrue (is_apart more) → Prints later (kinds_in r) more
       → Prints later (kinds_in (proc_pieces at (process_tree spell st n p) r)) (process_text spell st n p ++ more)
   process k d n st (leaf l) scope few o v at r more apart h = one_leaf k d n at l scope o v r more apart h

@@ -26,7 +26,7 @@ effect_in later (checks m ∷ es) h = (h.0.1, effect_in later es h.1)
 effect_in later (many m ∷ es) h = ((h.0.0, h.0.1.1), effect_in later es h.1)
 
 -- k free names and d bound ones, where n names are in scope and numbers are below top
-pub record InScope (top k d n : ℕ) : Type 0 where
+pub record PrintsInScope (top k d n : ℕ) : Type 0 where
   pub free : k ≤ top
   pub bound : d ≤ n
   pub all : n ≤ top
@@ -36,7 +36,7 @@ pub record InScope (top k d n : ℕ) : Type 0 where
 module _ (later : Bool) (top : ℕ) (of : ℕ → t.Msg) (spell : ℕ → List ℕ)
     (names : (i : ℕ) → i < top → (c : ℕ) (r : List Piece) (more : List ℕ) → IsTrue (is_apart more) → Prints later (kinds_in r) more → Prints later (kinds_in (msg_pieces c (of i) r)) (spell i ++ more)) where
   -- the message, and its text behind the first component of a tuple
-  both : (k d n c : ℕ) (m : Message) → InScope top k d n → MessageOver k d m → HasVersion later m → (r : List Piece) (more : List ℕ) → IsTrue (is_apart more) → Prints later (kinds_in r) more
+  both : (k d n c : ℕ) (m : Message) → PrintsInScope top k d n → MessageOver k d m → HasVersion later m → (r : List Piece) (more : List ℕ) → IsTrue (is_apart more) → Prints later (kinds_in r) more
       → Prints later (kinds_in (msg_pieces c (message_tree of n m) r)) (message_text spell n m ++ more)
       × Prints later (kinds_in (msg_pieces c (second_tree of n m) (msgs_pieces c (rest_trees of n m) r))) (tuple_text spell n m ++ more)
   both k d n c (bound i) scope o v r more apart p = twice (let b = scope.bound in let a = scope.all in names (n - suc i) (omega arith) c r more apart p)
@@ -54,11 +54,11 @@ module _ (later : Bool) (top : ℕ) (of : ℕ → t.Msg) (spell : ℕ → List �
   both k d n c (hash a) scope o v r more apart p =
       twice (late_keyword word.Hash refl v.0 refl (mark ParenOpen (part (message_text spell n a) _ more ((both k d n (c + 1) a scope o v.1 _ _ refl (mark ParenClose p)).0))))
 
-  pub message : (k d n c : ℕ) (m : Message) → InScope top k d n → MessageOver k d m → HasVersion later m → (r : List Piece) (more : List ℕ)
+  pub message : (k d n c : ℕ) (m : Message) → PrintsInScope top k d n → MessageOver k d m → HasVersion later m → (r : List Piece) (more : List ℕ)
       → IsTrue (is_apart more) → Prints later (kinds_in r) more → Prints later (kinds_in (msg_pieces c (message_tree of n m) r)) (message_text spell n m ++ more)
   message k d n c m scope o v r more apart p = (both k d n c m scope o v r more apart p).0
 
-  pub atom : (k d n c : ℕ) (a : Atom) → InScope top k d n → OfAtom (MessageOver k d) a → IsAtomIn later a → (r : List Piece) (more : List ℕ)
+  pub atom : (k d n c : ℕ) (a : Atom) → PrintsInScope top k d n → OfAtom (MessageOver k d) a → IsAtomIn later a → (r : List Piece) (more : List ℕ)
       → IsTrue (is_apart more) → Prints later (kinds_in r) more → Prints later (kinds_in (atom_pieces c (atom_tree of n a) r)) (atom_text spell n a ++ more)
   atom k d n c (ends m) scope o v r more apart p = keyword word.End refl refl (space (message k d n (c + 1) m scope o v _ more apart p))
   atom k d n c (checks m) scope o v r more apart p = keyword word.Check refl refl (space (message k d n (c + 1) m scope o v _ more apart p))
@@ -72,13 +72,13 @@ module _ (later : Bool) (top : ℕ) (of : ℕ → t.Msg) (spell : ℕ → List �
   bracket_apart n [] more = refl
   bracket_apart n (a ∷ es) more = refl
 
-  atoms : (k d n c : ℕ) (es : Effect) → InScope top k d n → OfEffect (MessageOver k d) es → IsEffectIn later es → (r : List Piece) (more : List ℕ)
+  atoms : (k d n c : ℕ) (es : Effect) → PrintsInScope top k d n → OfEffect (MessageOver k d) es → IsEffectIn later es → (r : List Piece) (more : List ℕ)
       → IsTrue (is_apart more) → Prints later (kinds_in r) more → Prints later (kinds_in (atoms_pieces c (atom_trees of n es) r)) (more_text spell n es ++ more)
   atoms k d n c [] scope o v r more apart p = p
   atoms k d n c (a ∷ es) scope o v r more apart p =
       mark Comma (space (part (atom_text spell n a) _ more (atom k d n c a scope o.0 v.0 _ _ (more_apart n es more apart) (atoms k d n c es scope o.1 v.1 r more apart p))))
 
-  pub effect : (k d n c : ℕ) (es : Effect) → InScope top k d n → OfEffect (MessageOver k d) es → IsEffectIn later es → (r : List Piece) (more : List ℕ)
+  pub effect : (k d n c : ℕ) (es : Effect) → PrintsInScope top k d n → OfEffect (MessageOver k d) es → IsEffectIn later es → (r : List Piece) (more : List ℕ)
       → Prints later (kinds_in r) more → Prints later (kinds_in (effect_pieces c (atom_trees of n es) r)) (effect_text spell n es ++ more)
   effect k d n c [] scope o v r more p = mark BracketOpen (mark BracketClose p)
   effect k d n c (a ∷ es) scope o v r more p =

@@ -13,7 +13,7 @@ none_left [] h = refl
 none_left (t ∷ ts) h = absurd cc
 
 -- the tokens that are left, and where the token before them ends
-pub record Rest (ks : List Kind) : Type 0 where
+pub record RestOfKinds (ks : List Kind) : Type 0 where
   pub end : ℕ
   pub tokens : List Token
   pub left : kinds_of tokens ≡ ks
@@ -24,7 +24,7 @@ module _ {T U : Type 0} (IsIt : T → Type 0) (stands_for : T → U) (pieces : T
     pub read : T
     pub is : IsIt read
     pub are : stands_for read ≡ u
-    pub rest : Rest ks
+    pub rest : RestOfKinds ks
     pub spells : (after : List Token) (r : List Piece) → Spells after rest.end r rest.tokens → Spells after e (pieces read r) ts
 
   -- the same behind a reserved word, with no token left

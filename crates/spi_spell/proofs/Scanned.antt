@@ -10,7 +10,7 @@ use Rattle.spi_lex.specs.Lexeme.{is_blank}
 use Rattle.spi_lex.specs.Words.{version_1, word_of}
 use Rattle.spi_lex.specs.Writing.{written, is_apart, IsEnded, Writes, nothing, blank, token}
 use Rattle.spi_tree.specs.Formed.{IsWordFit, AreWordsFit}
-use Rattle.spi_spell.proofs.Plain.{is_plain, ArePlain, plain_identifier}
+use Rattle.spi_spell.proofs.Plain.{is_plain_ascii, ArePlain, plain_identifier}
 
 -- ---- texts
 
@@ -45,29 +45,29 @@ ends (kinds.Number value) text h = h
 ends (kinds.Mark m) text h = tt
 
 -- whether the text is these tokens with blanks between, in at most so many pieces
-abbrev pub is_written : ℕ → List Kind → List ℕ → Bool
-is_written zero ks text = false
-is_written (suc n) [] [] = true
-is_written (suc n) (k ∷ ks) [] = false
-is_written (suc n) [] (b ∷ text) = is_blank b && is_written n [] text
-is_written (suc n) (k ∷ ks) (b ∷ text) =
-    if is_blank b then is_written n (k ∷ ks) text
-    else elim (strip (written k) (b ∷ text)) [ None ↦ false | Some rest ↦ ends_by k rest && is_written n ks rest ]
+abbrev pub is_written_as : ℕ → List Kind → List ℕ → Bool
+is_written_as zero ks text = false
+is_written_as (suc n) [] [] = true
+is_written_as (suc n) (k ∷ ks) [] = false
+is_written_as (suc n) [] (b ∷ text) = is_blank b && is_written_as n [] text
+is_written_as (suc n) (k ∷ ks) (b ∷ text) =
+    if is_blank b then is_written_as n (k ∷ ks) text
+    else elim (strip (written k) (b ∷ text)) [ None ↦ false | Some rest ↦ ends_by k rest && is_written_as n ks rest ]
 
-pub writes : (n : ℕ) (ks : List Kind) (text : List ℕ) → is_written n ks text ≡ true → Writes ks text
+pub writes : (n : ℕ) (ks : List Kind) (text : List ℕ) → is_written_as n ks text ≡ true → Writes ks text
 writes zero ks text h = cc
 writes (suc n) [] [] h = nothing
 writes (suc n) (k ∷ ks) [] h = cc
-writes (suc n) [] (b ∷ text) h = let p = and_parts (is_blank b) (is_written n [] text) h in blank b p.0 (writes n [] text p.1)
+writes (suc n) [] (b ∷ text) h = let p = and_parts (is_blank b) (is_written_as n [] text) h in blank b p.0 (writes n [] text p.1)
 writes (suc n) (k ∷ ks) (b ∷ text) h = go (λ (l : List Kind) (t : List ℕ) e. writes n l t e) (is_blank b) refl h
   where
-    one : ((l : List Kind) (t : List ℕ) → is_written n l t ≡ true → Writes l t) → (o : Option (List ℕ)) → strip (written k) (b ∷ text) ≡ o → (elim o [ None ↦ false | Some rest ↦ ends_by k rest && is_written n ks rest ]) ≡ true → Writes (k ∷ ks) (b ∷ text)
+    one : ((l : List Kind) (t : List ℕ) → is_written_as n l t ≡ true → Writes l t) → (o : Option (List ℕ)) → strip (written k) (b ∷ text) ≡ o → (elim o [ None ↦ false | Some rest ↦ ends_by k rest && is_written_as n ks rest ]) ≡ true → Writes (k ∷ ks) (b ∷ text)
     one behind None e h = cc
     one behind (Some rest) e h =
-        let p = and_parts (ends_by k rest) (is_written n ks rest) h in
+        let p = and_parts (ends_by k rest) (is_written_as n ks rest) h in
         subst (λ (l : List ℕ). Writes (k ∷ ks) l) (sym (strip_is (written k) (b ∷ text) rest e)) (token k (ends k rest p.0) (behind ks rest p.1))
 
-    go : ((l : List Kind) (t : List ℕ) → is_written n l t ≡ true → Writes l t) → (is : Bool) → is_blank b ≡ is → (if is then is_written n (k ∷ ks) text else (elim (strip (written k) (b ∷ text)) [ None ↦ false | Some rest ↦ ends_by k rest && is_written n ks rest ])) ≡ true → Writes (k ∷ ks) (b ∷ text)
+    go : ((l : List Kind) (t : List ℕ) → is_written_as n l t ≡ true → Writes l t) → (is : Bool) → is_blank b ≡ is → (if is then is_written_as n (k ∷ ks) text else (elim (strip (written k) (b ∷ text)) [ None ↦ false | Some rest ↦ ends_by k rest && is_written_as n ks rest ])) ≡ true → Writes (k ∷ ks) (b ∷ text)
     go behind true e h = blank b e (behind (k ∷ ks) text h)
     go behind false e h = one behind (strip (written k) (b ∷ text)) refl h
 
@@ -75,18 +75,18 @@ writes (suc n) (k ∷ ks) (b ∷ text) h = go (λ (l : List Kind) (t : List ℕ)
 
 abbrev all_plain : List ℕ → Bool
 all_plain [] = true
-all_plain (b ∷ bs) = is_plain b && all_plain bs
+all_plain (b ∷ bs) = is_plain_ascii b && all_plain bs
 
 are_plain : (bs : List ℕ) → all_plain bs ≡ true → ArePlain bs
 are_plain [] h = tt
-are_plain (b ∷ bs) h = let p = and_parts (is_plain b) (all_plain bs) h in (p.0, are_plain bs p.1)
+are_plain (b ∷ bs) h = let p = and_parts (is_plain_ascii b) (all_plain bs) h in (p.0, are_plain bs p.1)
 
 -- a short plain word that no version reserves
-abbrev is_free : List ℕ → Bool
-is_free [] = false
-is_free (b ∷ bs) = (nat_lt b 128 && is_ascii_alphabetic b) && (all_plain (b ∷ bs) && (nat_lt (length (b ∷ bs)) 256 && is_none (word_of version_1 (b ∷ bs))))
+abbrev is_word_free : List ℕ → Bool
+is_word_free [] = false
+is_word_free (b ∷ bs) = (nat_lt b 128 && is_ascii_alphabetic b) && (all_plain (b ∷ bs) && (nat_lt (length (b ∷ bs)) 256 && is_none (word_of version_1 (b ∷ bs))))
 
-is_free_word : (name : List ℕ) → is_free name ≡ true → IsWordFit false (kinds.Word name)
+is_free_word : (name : List ℕ) → is_word_free name ≡ true → IsWordFit false (kinds.Word name)
 is_free_word [] h = cc
 is_free_word (b ∷ bs) h =
     let p = and_parts (nat_lt b 128 && is_ascii_alphabetic b) (all_plain (b ∷ bs) && (nat_lt (length (b ∷ bs)) 256 && is_none (word_of version_1 (b ∷ bs)))) h in
@@ -101,7 +101,7 @@ is_free_word (b ∷ bs) h =
     none (Some w) h = cc
 
 abbrev is_fit : Kind → Bool
-is_fit (kinds.Word name) = is_free name
+is_fit (kinds.Word name) = is_word_free name
 is_fit (kinds.Reserved word) = true
 is_fit (kinds.Number value) = true
 is_fit (kinds.Mark m) = true

@@ -20,8 +20,8 @@ use Rattle.spi_spell.proofs.Texts.{step_kinds, steps_kinds}
 abbrev pub ReadSteps : List Step → ℕ → List Token → List Kind → Type 0
 ReadSteps ss e ts ks = ReadsTree (λ (steps : List t.Step). length steps ≡ length ss) (λ (steps : List t.Step). map step_in steps) steps_pieces ss e ts ks
 
-abbrev over : Token → Token → Span
-over a b = record { from = a.span.from; to = b.span.to }
+abbrev span_of_tokens : Token → Token → Span
+span_of_tokens a b = record { from = a.span.from; to = b.span.to }
 
 read_act : (i : ℕ) (ss : List Step) (e : ℕ) (ts : List Token) (ks : List Kind) → ((f : ℕ) (us : List Token) → kinds_of us ≡ steps_kinds ss ++ ks → ReadSteps ss f us ks)
     → kinds_of ts ≡ step_kinds (act i) ++ (steps_kinds ss ++ ks) → ReadSteps (act i ∷ ss) e ts ks
@@ -35,7 +35,7 @@ read_act i ss e (a ∷ b ∷ c ∷ ts) ks go is =
     let behind : kinds_of ts ≡ steps_kinds ss ++ ks = cc in
     let x = go c.span.to ts behind in
     record {
-      read = t.act (over a c) i ∷ x.read;
+      read = t.act (span_of_tokens a c) i ∷ x.read;
       are = ap (λ (l : List Step). act i ∷ l) x.are;
       is = omega (arith, x.is);
       rest = x.rest;
@@ -56,7 +56,7 @@ read_talk i j ss e (a ∷ b ∷ d ∷ c ∷ ts) ks go is =
     let behind : kinds_of ts ≡ steps_kinds ss ++ ks = cc in
     let x = go c.span.to ts behind in
     record {
-      read = t.talk (over a c) i j ∷ x.read;
+      read = t.talk (span_of_tokens a c) i j ∷ x.read;
       are = ap (λ (l : List Step). talk i j ∷ l) x.are;
       is = omega (arith, x.is);
       rest = x.rest;

@@ -23,12 +23,12 @@ scope_length spell zero = refl
 scope_length spell (suc n) = ap suc (scope_length spell n)
 
 -- no two of these names are spelled alike
-abbrev pub AreApart : ℕ → (ℕ → List ℕ) → Type 0
-AreApart most spell = (i j : ℕ) → i < most → j < most → spell i ≡ spell j → i ≡ j
+abbrev pub NamesAreApart : ℕ → (ℕ → List ℕ) → Type 0
+NamesAreApart most spell = (i j : ℕ) → i < most → j < most → spell i ≡ spell j → i ≡ j
 
 -- ---- numbers of names
 
-module _ (most : ℕ) (spell : ℕ → List ℕ) (apart : AreApart most spell) where
+module _ (most : ℕ) (spell : ℕ → List ℕ) (apart : NamesAreApart most spell) where
   pub found : (n i : ℕ) → i < n → n ≤ most → number_of (in_scope spell n) (spell i) ≡ Some i
   found zero i h few = absurd (omega (arith, h))
   found (suc n) i h few = by (bytes_eq (spell n) (spell i)) refl (λ other. found n i other (omega (arith, few)))
@@ -77,7 +77,7 @@ one_place (x ∷ ws) (suc i) zero v w h at there same = absurd (not_again x v ws
 one_place (x ∷ ws) (suc i) (suc j) v w h at there same = ap suc (one_place ws i j v w h.1 at there same)
 
 -- free names and bound ones are spelled differently
-pub names_apart : (names : List (List ℕ)) (s : ℕ) → AreDistinct names → IsApart names s → s < 10 ^ 60 → AreApart 100000 (name_text s names)
+pub names_apart : (names : List (List ℕ)) (s : ℕ) → AreDistinct names → IsApart names s → s < 10 ^ 60 → NamesAreApart 100000 (name_text s names)
 names_apart names s distinct apart low i j few fewer = by (slice_get names i) (slice_get names j) refl refl
   where
     by : (o p : Option (List ℕ)) → slice_get names i ≡ o → slice_get names j ≡ p → given_text o (bound_text s i) ≡ given_text p (bound_text s j) → i ≡ j

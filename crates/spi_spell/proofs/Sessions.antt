@@ -66,8 +66,8 @@ both_fit (x ∷ a) b h k = (h.0, both_fit a b h.1 k)
 abbrev session : List Kind
 session = kinds_in (proc_pieces (at_level 0) handshake [])
 
-abbrev front : List Kind
-front = kinds_in (decls_pieces declarations (a_reserved word.Process []))
+abbrev front_kinds : List Kind
+front_kinds = kinds_in (decls_pieces declarations (a_reserved word.Process []))
 
 session_tokens : (a : Place) (r : List Piece) → kinds_in (proc_pieces a handshake r) ≡ session ++ kinds_in r
 session_tokens a r = refl
@@ -94,7 +94,7 @@ file_of_process p = record { version = 1; decls = declarations; process = p; opp
 generated : (n : ℕ) (f : t.File) (h : IsSessions n f) → f ≡ file_of_process f.process
 generated n f h = rw (h.span, h.version, h.decls, h.opponent, h.schedule, h.derivation) refl
 
-tokens_of_file : (p : t.Proc) → tokens_of (file_of_process p) ≡ front ++ kinds_in (proc_pieces (at_level 0) p (closes 0 ∷ []))
+tokens_of_file : (p : t.Proc) → tokens_of (file_of_process p) ≡ front_kinds ++ kinds_in (proc_pieces (at_level 0) p (closes 0 ∷ []))
 tokens_of_file p = refl
 
 pub formed : (n : ℕ) (f : t.File) → IsSessions n f → IsFormed f
@@ -105,7 +105,7 @@ formed n f h =
       process = beside_formed h.process 0;
       opponent = tt;
       derivation = tt;
-      words = subst (AreWordsFit false) (sym (tokens_of_file f.process)) (both_fit front _ (words_fit front refl) (beside_words h.process (at_level 0) (closes 0 ∷ []) tt));
+      words = subst (AreWordsFit false) (sym (tokens_of_file f.process)) (both_fit front_kinds _ (words_fit front_kinds refl) (beside_words h.process (at_level 0) (closes 0 ∷ []) tt));
     })
 
 -- ---- one session

@@ -15,7 +15,7 @@ use Rattle.spi_scope.specs.Meaning.{named, nested, message_in, messages_in, proc
 use Rattle.spi_scope.specs.Points.{Point, uses_name, uses_type, declares_name, declares_type, ends_message, ends_type, adds, starts_step, Points, none, one, ◌⨾◌, in_order, fault_at, added, msg_nodes, part, message_head, messages_head, typed_head, tested_head, split_head, match_head, process_points}
 use Rattle.spi_scope.specs.First.{Clean}
 use Rattle.spi_scope.proofs.Sizes.{message_sized}
-use Rattle.spi_spell.proofs.Fitting.{FitsMessage, FitsNesting, bound_put}
+use Rattle.spi_spell.proofs.Fitting.{MessageFitsIn, FitsNesting, bound_put}
 use Rattle.spi_spell.proofs.Past.{past_msg, past_named, past_binder, past_proc}
 use Rattle.spi_spell.proofs.Counts.{some_size}
 
@@ -97,13 +97,13 @@ match_small ts xs s m x a n c h = tested_small ts xs s m a n h.0
 
 -- ---- messages
 
-name_fits : (later : Bool) (n k s : ℕ) (o : Option ℕ) → n ≤ 1000 → FitsMessage later n (named k s o)
+name_fits : (later : Bool) (n k s : ℕ) (o : Option ℕ) → n ≤ 1000 → MessageFitsIn later n (named k s o)
 name_fits later n k s None h = h
 name_fits later n k s (Some x) h = bound_put later n x (s - suc x) (nat_lt x k) h
 
 module _ (later : Bool) (k : ℕ) (xs : Names) where
   mutual
-    msg_fits : (m : t.Msg) (n : ℕ) → IsMsg later false m → n + message_size (message_in k xs m) ≤ 1001 → FitsMessage later n (message_in k xs m)
+    msg_fits : (m : t.Msg) (n : ℕ) → IsMsg later false m → n + message_size (message_in k xs m) ≤ 1001 → MessageFitsIn later n (message_in k xs m)
     msg_fits (t.name s w) n h low = (let some = some_size (named k (length xs) (number_of xs w.word)) in name_fits later n k (length xs) (number_of xs w.word) (omega arith))
     msg_fits (t.unit s) n h low = omega arith
     msg_fits (t.tuple s a b ms) n h low =
@@ -114,12 +114,12 @@ module _ (later : Bool) (k : ℕ) (xs : Names) where
     msg_fits (t.hash s a) n h low = (omega arith, h.0)
     msg_fits (t.num s i) n h low = absurd cc
 
-    row_fits : (first : Message) (ms : t.Msgs) → ((i : ℕ) → i + message_size first ≤ 1001 → FitsMessage later i first) → (n : ℕ) → AreMsgs later false ms
-        → n + message_size (nested first (messages_in k xs ms)) ≤ 1001 → FitsMessage later n (nested first (messages_in k xs ms))
+    row_fits : (first : Message) (ms : t.Msgs) → ((i : ℕ) → i + message_size first ≤ 1001 → MessageFitsIn later i first) → (n : ℕ) → AreMsgs later false ms
+        → n + message_size (nested first (messages_in k xs ms)) ≤ 1001 → MessageFitsIn later n (nested first (messages_in k xs ms))
     row_fits first t.no_msgs f n h low = f n low
     row_fits first (t.more_msgs m ms) f n h low = (omega arith, f (n + 1) (omega arith), row_fits (message_in k xs m) ms (λ i q. msg_fits m i h.0 q) (n + 1) h.1 (omega arith))
 
-  whole_fits : (m : t.Msg) (n : ℕ) → IsMsg later false m → msg_nodes xs m ≤ 200 → n ≤ 700 → FitsMessage later n (message_in k xs m)
+  whole_fits : (m : t.Msg) (n : ℕ) → IsMsg later false m → msg_nodes xs m ≤ 200 → n ≤ 700 → MessageFitsIn later n (message_in k xs m)
   whole_fits m n h few low = (let same = message_sized k xs m in msg_fits m n h (omega arith))
 
 -- ---- processes

@@ -20,7 +20,7 @@ use Rattle.spi_scope.specs.StandsFor.{Meant, StandsFor, over_free, opponent_over
 use Rattle.spi_scope.proofs.Counting.{run_weight, names_weigh, PassesTests, passed}
 use Rattle.spi_scope.proofs.Indexing.{nodes_spell}
 use Rattle.spi_scope.proofs.Made.{types_over}
-use Rattle.spi_spell.proofs.Printable.{IsPrintablePart, IsOpponentPart, AreDistinct, AreSteps, process_nodes, opponent_nodes, is_later, IsPrintable}
+use Rattle.spi_spell.proofs.Printable.{IsPrintablePart, IsOpponentPart, AreDistinct, AreSteps, process_nodes, opponent_nodes, is_later_file, IsPrintable}
 use Rattle.spi_spell.proofs.Past.{past_decls, past_version, past_proc, past_opponent, past_schedule, behind_version, behind_decls, behind_proc, behind_opponent, behind_schedule}
 use Rattle.spi_spell.proofs.Nesting.{nests}
 use Rattle.spi_spell.proofs.Fitted.{TypesFit, process_fits, types_fit}
@@ -74,7 +74,7 @@ printable tree f file within low stands =
     let k5 = behind_schedule P tree.schedule _ k4 in
     let over : AreAbbreviationsOver (length xs) ts = types_over tree.decls ts xs refl refl in
     let fit : TypesFit later ts = types_fit later [] [] tree.decls tt file.formed.decls small.0 in
-    let v : is_later f ≡ later = ap (λ (n : ℕ). n == 2) stands.version in
+    let v : is_later_file f ≡ later = ap (λ (n : ℕ). n == 2) stands.version in
     let n : length f.names ≡ length xs = ap length stands.names ∙ length-reverse xs in
     let words : AllByRecursion (λ w. IsKind (words_of later) (kinds.Word w)) f.names =
     subst (λ (ws : Names). AllByRecursion (λ w. IsKind (words_of later) (kinds.Word w)) ws) (sym stands.names) (reverse_words P xs (names_words P [] tree.decls _ tt k1)) in

@@ -11,14 +11,14 @@ use Rattle.spi_scope.specs.StandsFor.{Meant, StandsFor, over_free, opponent_over
 use Rattle.spi_show.specs.Spelled.{name_text, IsApart}
 use Rattle.spi_show.specs.Processes.{alone}
 use Rattle.spi_spell.proofs.Printed.{process_tree, free_trees, part_tree, opponent_tree, file_tree}
-use Rattle.spi_spell.proofs.Printable.{process_nodes, opponent_nodes, IsPrintablePart, IsOpponentPart, is_later, IsPrintable}
-use Rattle.spi_spell.proofs.Scopes.{in_scope, scope_length, AreApart, unknown, names_apart, AreSpelled, free_spelled, declared_names, declared_reversed}
+use Rattle.spi_spell.proofs.Printable.{process_nodes, opponent_nodes, IsPrintablePart, IsOpponentPart, is_later_file, IsPrintable}
+use Rattle.spi_spell.proofs.Scopes.{in_scope, scope_length, NamesAreApart, unknown, names_apart, AreSpelled, free_spelled, declared_names, declared_reversed}
 use Rattle.spi_spell.proofs.Means.{process_means}
 use Rattle.spi_spell.proofs.Clear.{AddsPoints, next, in_all, no_point, counted, clear_clean}
 use Rattle.spi_spell.proofs.Pointed.{process_clear}
 use Rattle.spi_spell.proofs.Numbered.{derivation_means, derivation_clear, schedule_means, schedule_clear}
 
-module _ (spell : ℕ → List ℕ) (apart : AreApart 100000 spell) where
+module _ (spell : ℕ → List ℕ) (apart : NamesAreApart 100000 spell) where
   -- ---- the free names
 
   names_clear : (m : ℕ) (ws : List (List ℕ)) → AreSpelled spell m ws → m + length ws ≤ 100000 → AddsPoints (length ws) (free_points (in_scope spell m) (map word ws))
@@ -62,9 +62,9 @@ module _ (spell : ℕ → List ℕ) (apart : AreApart 100000 spell) where
 pub tree_stands : (s : ℕ) (f : Meant) (d : Option t.Deriv) → IsPrintable f d → IsApart f.names s → s < 10 ^ 60 → StandsFor (file_tree s f d) f
 tree_stands s f d is apart low =
     let spell : ℕ → List ℕ = name_text s f.names in
-    let different : AreApart 100000 spell = names_apart f.names s is.distinct apart low in
+    let different : NamesAreApart 100000 spell = names_apart f.names s is.distinct apart low in
     let k : ℕ = length f.names in
-    let later : Bool = is_later f in
+    let later : Bool = is_later_file f in
     let ts : Abbreviations = all_types [] [] (free_trees f.names) in
     let scope : all_names [] (free_trees f.names) ≡ in_scope spell k = declared_names f.names s in
     let few : k + process_nodes f.process.process ≤ 100000 = omega (arith, is.few) in

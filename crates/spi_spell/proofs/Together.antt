@@ -17,7 +17,7 @@ use Rattle.spi_lex.specs.Lexing.{LexPiece, Leads, word_kind, kind_of, token_of, 
 use Rattle.spi_lex.specs.Writing.{Writes, blank, IsKind, first_version}
 use Rattle.spi_lex.proofs.Reached.{joined}
 use Rattle.spi_lex.proofs.Writing.{reads_back}
-use Rattle.spi_spell.proofs.Feeds.{leads_on, moved, leads_moved}
+use Rattle.spi_spell.proofs.Feeds.{leads_on, moved_piece, leads_moved}
 
 -- the pieces of bytes that have these tokens
 pub record IsLexed (bytes : List ℕ) (tokens : List Token) : Type 0 where
@@ -129,7 +129,7 @@ first_kinds (a ∷ b ∷ c ∷ qs) w ks e = go (is_version (first_token a).kind 
         absurd cc
     go false says h = h
 
-moved_kinds : (words : List Reserved) (k : ℕ) (qs : List LexPiece) → kinds_of (map (token_of words) (map (moved k) qs)) ≡ kinds_of (map (token_of words) qs)
+moved_kinds : (words : List Reserved) (k : ℕ) (qs : List LexPiece) → kinds_of (map (token_of words) (map (moved_piece k) qs)) ≡ kinds_of (map (token_of words) qs)
 moved_kinds words k [] = refl
 moved_kinds words k (q ∷ qs) = ap (λ (l : List Kind). kind_of words q.lexeme ∷ l) (moved_kinds words k qs)
 
@@ -146,7 +146,7 @@ text_behind bytes text tokens w ks lexes writes old new =
     let r = reads_back (kinds.Reserved w ∷ ks) (10 ∷ text) (blank 10 refl writes) (first_version (reserved_first w ks) old) in
     let t = view r.0 r.1 refl in
     let first : kinds_of (map first_token t.pieces) ≡ kinds.Reserved w ∷ ks = first_kinds t.pieces w ks (ap kinds_of t.tokens_are ∙ r.2) in
-    let qs : List LexPiece = map (moved b.end) t.pieces in
+    let qs : List LexPiece = map (moved_piece b.end) t.pieces in
     let there : kinds_of (map first_token qs) ≡ kinds.Reserved w ∷ ks = moved_kinds version_1 b.end t.pieces ∙ first in
     let j = tokens_joined b.pieces qs w ks there in
     let start : b.end + 0 ≡ b.end = omega arith in

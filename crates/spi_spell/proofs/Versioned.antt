@@ -26,8 +26,8 @@ no_version (t.free s w ws ∷ ds) r =
 no_version (t.abbreviated s w a ∷ ds) r =
     reserved_first word.TypeWord (kinds_in (a_word false w (a_mark mark.Equals (ty_pieces 1 a (a_mark mark.Semicolon (closes s.to ∷ decls_pieces ds (a_reserved word.Process r)))))))
 
-abbrev body : t.File → List Piece
-body f = decls_pieces f.decls (a_reserved word.Process (proc_pieces (at_level 0) f.process (opponent_pieces f.opponent (schedule_pieces f.schedule (derivation_pieces f.derivation (closes f.span.to ∷ []))))))
+abbrev file_body : t.File → List Piece
+file_body f = decls_pieces f.decls (a_reserved word.Process (proc_pieces (at_level 0) f.process (opponent_pieces f.opponent (schedule_pieces f.schedule (derivation_pieces f.derivation (closes f.span.to ∷ []))))))
 
 versioned : (later : Bool) (r : List Piece) → is_version_2 (kinds_in r) ≡ false → is_version_2 (kinds_in (with_version later r)) ≡ later
 versioned true r none = refl
@@ -35,5 +35,5 @@ versioned false r none = none
 
 pub tree_fit : (tree : t.File) → AreKinds (tokens_of tree) → AllByRecursion (IsKind (words_of (is_later tree))) (tokens_of tree)
 tree_fit tree are =
-    let same = versioned (is_later tree) (body tree) (no_version tree.decls _) in
+    let same = versioned (is_later tree) (file_body tree) (no_version tree.decls _) in
     subst (λ (v : Bool). AllByRecursion (IsKind (words_of v)) (tokens_of tree)) same (kinds_of_version (tokens_of tree) are)

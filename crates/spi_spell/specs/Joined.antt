@@ -26,8 +26,8 @@ with_schedule f steps = record {
 }
 
 -- bytes, and behind one line feed a text
-abbrev pub joined : List ℕ → List ℕ → List ℕ
-joined bytes text = bytes ++ (codes "\n" ++ text)
+abbrev pub joined_texts : List ℕ → List ℕ → List ℕ
+joined_texts bytes text = bytes ++ (codes "\n" ++ text)
 
 -- the places of a step are below 2 ^ 32, as those of every step that is read are
 abbrev pub HasLowPlaces : Step → Type 0
