@@ -1,6 +1,6 @@
 -- Uses of the rules of processes that take a message apart, and of those that check and that make one.
 use Rattle.std.proofs.Common.{◌≡◌, refl, sym, subst, ℕ, true, false, List, [], ◌∷◌, Some, None}
-use Rattle.spi_term.specs.Term.{Message, name, Effect, Ty, un, pair_ty, sum_ty, key, Splits, Selects, Decrypts, Checks, Freshes, Branches, Pars, Process, split, select, branch, decrypt, check, fresh}
+use Rattle.spi_term.specs.Term.{Message, Effect, Ty, un, pair_ty, sum_ty, key, Splits, Selects, Decrypts, Checks, Freshes, Branches, Pars, Process, split, select, branch, decrypt, check, fresh}
 use Rattle.spi_term.specs.Substitution.{ty_put}
 use Rattle.spi_rules.specs.Environment.{Env, extended, opened, opened_two, opened_ty}
 use Rattle.spi_rules.specs.Good.{GoodTy}

@@ -2,7 +2,7 @@
 use Rattle.std.proofs.Common.{◌≡◌, refl, sym, ap, ◌∙◌, subst, ℕ, Bool, true, false, true≢false, List, [], ◌∷◌, ◌++◌, Option, Some, None, Result, IfOk, append_assoc, append-nil}
 use Rattle.std.specs.Prelude.{slice_get}
 use Rattle.std.proofs.lemmas.Result.{IfOk-weaker}
-use Rattle.spi_term.specs.Term.{Message, name, Effect, Ty, un, unit_ty, pair_ty, sum_ty, key, nonce, Sends, Stops, Prefix, Recvs, Serves, Begins as BeginsAt, Ends, EndManys, Casts, Fork, Process, recv, serve, begin, end, end_many, cast}
+use Rattle.spi_term.specs.Term.{Message, name, Effect, Ty, un, key, nonce, Sends, Stops, Prefix, Recvs, Serves, Begins as BeginsAt, Ends, EndManys, Casts, Fork, Process, recv, serve, begin, end, end_many, cast}
 use Rattle.spi_term.specs.Spelling.{Shape}
 use Rattle.spi_term.proofs.Lists.{get_at}
 use Rattle.spi_rules.specs.Environment.{Env, extended, opened, opened_two, opened_ty}

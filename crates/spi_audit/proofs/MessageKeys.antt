@@ -1,5 +1,5 @@
 -- Names of Key types, and ciphertexts under them.
-use Rattle.std.proofs.Common.{◌≡◌, refl, sym, ap, ◌∙◌, subst, ℕ, ◌<◌, length, arith, Bool, true, false, true≢false, List, [], ◌∷◌, Option, Some, None, IfSome, IfNone}
+use Rattle.std.proofs.Common.{◌≡◌, refl, sym, ap, ◌∙◌, subst, ℕ, ◌<◌, length, arith, Bool, true, List, [], ◌∷◌, Option, Some, None, IfSome, IfNone}
 use Rattle.std.specs.Prelude.{slice_get}
 use Rattle.spi_term.specs.Lists.{At}
 use Rattle.spi_term.specs.Term.{Message, name, enc, Ty, un, key}
@@ -12,7 +12,7 @@ use Rattle.spi_intern.specs.declared.messages.MsgPart.{MsgPart}
 use Rattle.spi_intern.specs.declared.messages.MsgPart.TheVariants as P
 use Rattle.spi_intern.specs.declared.types.TyId.{TyId}
 use Rattle.spi_intern.specs.Meaning.{Means}
-use Rattle.spi_intern.specs.Messages.{Says, says_bound, says_name, says_unit, says_pair, says_left, says_right, says_enc, says_hash}
+use Rattle.spi_intern.specs.Messages.{Says, says_name, says_enc}
 use Rattle.spi_intern.proofs.Lists.{some_one, get_below}
 use Rattle.spi_message.specs.Judging.{Numbered, Stands}
 use Rattle.spi_message.specs.Asking.{IsKeyFor, IsNoKey}

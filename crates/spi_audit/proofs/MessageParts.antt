@@ -1,12 +1,12 @@
 -- Pairs and hashes, and the parts of a message by their numbers.
-use Rattle.std.proofs.Common.{◌≡◌, refl, sym, ap, ◌∙◌, subst, ℕ, ◌<◌, length, ◌↔◌, Bool, true, false, true≢false, List, [], ◌∷◌, Some, None, ◌⊎◌, inl, inr, ⊎_elim}
+use Rattle.std.proofs.Common.{◌≡◌, refl, sym, ◌∙◌, subst, ℕ, ◌<◌, length, ◌↔◌, Bool, true, false, true≢false, List, [], ◌∷◌, Some, None, ◌⊎◌}
 use Rattle.std.specs.Prelude.{slice_get}
 use Rattle.spi_term.specs.Substitution.{ty_put}
 use Rattle.spi_term.specs.Term.{Message, bound, pair, hash, Ty, un, pair_ty}
 use Rattle.spi_rules.specs.Environment.{Env}
 use Rattle.spi_rules.specs.Messages.{IsLabel}
 use Rattle.spi_rules.specs.declared.rule.Rule.{Rule}
-use Rattle.spi_rules.specs.declared.rule.Rule.TheVariants.{MsgPair, MsgPairUn, MsgHash}
+use Rattle.spi_rules.specs.declared.rule.Rule.TheVariants.{MsgPair, MsgHash}
 use Rattle.spi_intern.specs.declared.store.Store.{Store}
 use Rattle.spi_intern.specs.declared.messages.MsgId.{MsgId}
 use Rattle.spi_intern.specs.declared.messages.MsgPart.{MsgPart}
@@ -22,7 +22,7 @@ use Rattle.spi_message.specs.Tests.{is_un}
 use Rattle.spi_message.proofs.Deciding.{is_un_true}
 use Rattle.spi_audit.specs.declared.asked.Asked.TheVariants as A
 use Rattle.spi_audit.specs.declared.asked.Premises.TheVariants.{NoPremise, TwoPremises}
-use Rattle.spi_audit.specs.Fits.{Subject, of_message, plain, Fits, fits_pair, fits_pair_un, fits_hash}
+use Rattle.spi_audit.specs.Fits.{Subject, of_message, plain, Fits, fits_pair, fits_hash}
 use Rattle.spi_audit.specs.Asked.{asked_none, asked_next, AnsweredMessage, AnswersPart, AnswersMessage, IsPairOf, IsNoPair}
 
 -- a pair of a pair type

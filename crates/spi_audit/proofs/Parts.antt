@@ -1,14 +1,14 @@
 -- The parts of types by their numbers.
-use Rattle.std.proofs.Common.{◌≡◌, refl, sym, subst, ℕ, ◌<◌, Bool, true, false, length}
+use Rattle.std.proofs.Common.{◌≡◌, refl, sym, subst, ℕ, ◌<◌, length}
 use Rattle.spi_intern.proofs.Lists.{get_below}
 use Rattle.spi_term.specs.Term.{Ty, pair_ty, sum_ty}
 use Rattle.spi_intern.specs.Given.{IsGiven}
 use Rattle.spi_intern.specs.Meaning.{Means}
-use Rattle.spi_intern.specs.Lent.{SaysTy, says_un, says_unit, says_pair, says_sum, says_key, says_nonce}
+use Rattle.spi_intern.specs.Lent.{SaysTy, says_pair, says_sum}
 use Rattle.spi_intern.specs.declared.types.TyId.{TyId}
 use Rattle.spi_intern.specs.declared.store.Store.{Store}
 use Rattle.spi_intern.specs.declared.store.TyPart.{TyPart}
-use Rattle.spi_intern.specs.declared.store.TyPart.TheVariants.{Un, Unit as NoParts, Pair, Sum, Key, Nonce}
+use Rattle.spi_intern.specs.declared.store.TyPart.TheVariants.{Pair, Sum}
 use Rattle.spi_audit.specs.Asked.{IsPairOf, IsSumOf, IsNoPair, IsNoSum}
 
 -- what a lent store says is so in the judge's

@@ -1,7 +1,7 @@
 -- Uses of the rules of messages, held against what they are asked of.
-use Rattle.std.proofs.Common.{◌≡◌, refl, sym, ap, ◌∙◌, subst, ℕ, ◌≤◌, length, arith, Bool, true, false, true≢false, List, [], ◌∷◌, Some, None, ◌⊎◌, inl, inr, ⊎_elim}
+use Rattle.std.proofs.Common.{◌≡◌, refl, sym, ap, ◌∙◌, subst, ℕ, ◌≤◌, length, arith, Bool, true, false, true≢false, List, [], ◌∷◌, Some, None, ◌⊎◌, inl, inr}
 use Rattle.std.specs.Prelude.{slice_get, ⊤, if◌then◌else◌, Option}
-use Rattle.spi_term.specs.Term.{Message, name, unit, pair, in_left, in_right, enc, Ty, un, unit_ty, pair_ty, sum_ty, key, nonce}
+use Rattle.spi_term.specs.Term.{Message, unit, Ty, un, unit_ty, sum_ty}
 use Rattle.spi_rules.specs.Environment.{Env}
 use Rattle.spi_rules.specs.declared.rule.Rule.{Rule}
 use Rattle.spi_rules.specs.declared.rule.Rule.TheVariants.{MsgUnit, MsgUnitUn, MsgPairUn, MsgInl, MsgInlUn, MsgInr, MsgInrUn, MsgEncUn, MsgName, MsgEnc, MsgPair, MsgHash}

@@ -2,7 +2,7 @@
 use Rattle.std.proofs.Common.{◌≡◌, refl, sym, ap, ◌∙◌, subst, ℕ, ◌<◌, ◌≤◌, List, [], ◌∷◌, ◌++◌, length, take, reverse, Option, Some, None, arith, length-append, length-take}
 use Rattle.std.specs.Prelude.{slice_get}
 use Rattle.std.proofs.lemmas.List.{take-append-le, take_all}
-use Rattle.spi_term.specs.Term.{Message, Effect, Ty, nonce, Prefix, Recvs, Serves, Splits, Selects, Decrypts, Checks, Begins, Ends, EndManys, Casts, Freshes, Branches, Pars, Process, leaf, prefix, fork}
+use Rattle.spi_term.specs.Term.{Message, Effect, Ty, nonce, Prefix, Checks, Casts, Branches, Pars, Process, leaf, prefix, fork}
 use Rattle.spi_term.specs.Spelling.{Shape}
 use Rattle.spi_term.specs.Arena.{scope_of}
 use Rattle.spi_rules.specs.Environment.{Env}
@@ -26,7 +26,7 @@ use Rattle.spi_audit.specs.declared.walking.Fit.{Fit}
 use Rattle.spi_audit.specs.Fits.{Subject, of_message, of_process}
 use Rattle.spi_audit.specs.Asked.{listed, Bound, Located}
 use Rattle.spi_audit.specs.Changes.{Change, change_of, prefix_change, form_change, use_change, scope_in, check_change, cast_change}
-use Rattle.spi_audit.specs.Notes.{NotedAs, noted_nothing, noted_empty, noted_same, noted_one, noted_two, noted_serve, noted_branch, noted_check, noted_begin, noted_end, noted_many, noted_cast, noted_make, noted_both, noted_taken, IsSmallNote}
+use Rattle.spi_audit.specs.Notes.{NotedAs, noted_nothing, noted_one, noted_two, noted_serve, noted_branch, noted_cast, noted_make, IsSmallNote}
 use Rattle.spi_audit.specs.Walking.{Later, later_none, later_next, Opens, opens_message, opens_later, IsWalkState, IsOpen, Settles, IsPlaced, FitsMessage, FitsMessageIn, FitsNode, UseFitsIn, StepsTo, FitsNext}
 use Rattle.spi_message.proofs.Tested.{stands_kept}
 use Rattle.spi_audit.proofs.Leading.{later_moved, opens_keeps, opens_asked, opens_open}

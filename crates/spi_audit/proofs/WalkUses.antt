@@ -28,7 +28,7 @@ use Rattle.spi_audit.specs.declared.asked.Asked.TheVariants as A
 use Rattle.spi_audit.specs.declared.asked.Premises.{Premises}
 use Rattle.spi_audit.specs.declared.asked.Premises.TheVariants.{OnePremise}
 use Rattle.spi_audit.specs.declared.walking.Fit.{Fit}
-use Rattle.spi_audit.specs.Fits.{Subject, of_message, of_process, plain, subsumed, Fits, fits_name, fits_unit, fits_unit_un, fits_pair, fits_pair_un, fits_inl, fits_inl_un, fits_inr, fits_inr_un, fits_enc, fits_enc_un, fits_hash, fits_sub}
+use Rattle.spi_audit.specs.Fits.{Subject, of_message, of_process, plain, subsumed, Fits, fits_name, fits_sub}
 use Rattle.spi_audit.specs.Asked.{Located, IsBegun, BeginsWalk, AreBegun, begun_none, begun_next, AreOpen, open_message, open_processes, AnswersMessage, AnswersNode}
 use Rattle.spi_count.specs.Keeping.{HaveKeys}
 use Rattle.spi_audit.specs.Changes.{shape_change, form_change, prefix_change}

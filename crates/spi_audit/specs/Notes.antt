@@ -1,6 +1,5 @@
 -- What the forward pass keeps of uses by numbers, and what that stands for.
-use Rattle.std.specs.Prelude.{◌≡◌, ℕ, ◌≤◌, ⊤, Bool, slice_get, List, [], ◌∷◌, ◌++◌, reverse, Option, Some, None, Vec}
-use Rattle.std.specs.declared.alloc.Global.{Global}
+use Rattle.std.specs.Prelude.{◌≡◌, ℕ, ◌≤◌, ⊤, Bool, slice_get, List, [], ◌∷◌, ◌++◌, reverse, Option, Some, None}
 use Rattle.spi_term.specs.Term.{Message, name, Atom, Effect, un, nonce}
 use Rattle.spi_term.specs.Spelling.{Shape}
 use Rattle.spi_rules.specs.Environment.{Env}

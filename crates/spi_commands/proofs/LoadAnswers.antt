@@ -2,7 +2,6 @@
 use Rattle.std.proofs.Common.{◌≡◌, ◌⊎◌, ℕ, ◌+◌, ◌*◌, ◌≤◌, List, [], length, sym, subst, ap, ap₂, ◌∙◌, ⊎_elim, Option, Some, None, IsSome, IfSome, ◌↔◌, refl}
 use Rattle.spi_tree.specs.Trees as t
 use Rattle.spi_gen.specs.Sessions.{IsSessions}
-use Rattle.spi_term.specs.Term.{Process}
 use Rattle.spi_rules.specs.Environment.{untrusted}
 use Rattle.spi_rules.specs.Derivations.{RuleUse, Derivable}
 use Rattle.spi_rules.specs.Deriv.{rule_uses}

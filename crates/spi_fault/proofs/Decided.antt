@@ -4,7 +4,7 @@ use Rattle.std.specs.Prelude.{slice_get}
 use Rattle.std.proofs.lemmas.Bool.{cases_Bool, cases_lt, false≢true}
 use Rattle.spi_term.specs.Lists.{In}
 use Rattle.spi_term.specs.Names.{Avoids, EffectAvoids, ProcessOver}
-use Rattle.spi_term.specs.Term.{Message, bound, name, unit, pair, in_left, in_right, enc, hash, Atom, checks, Effect, Ty, un, unit_ty, pair_ty, sum_ty, key, nonce, Process}
+use Rattle.spi_term.specs.Term.{Message, name, Atom, checks, Effect, Ty, un, key, nonce, Process}
 use Rattle.spi_term.proofs.Lists.{get_at, at_get}
 use Rattle.spi_effect.specs.Effect.{IsMany, IsDifference}
 use Rattle.spi_effect.specs.Made.{are_many, minus, mentions}

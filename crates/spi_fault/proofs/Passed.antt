@@ -4,7 +4,7 @@ use Rattle.std.proofs.lemmas.Bool.{cases_Bool, false≢true}
 use Rattle.spi_term.specs.Lists.{In, in_first, in_later}
 use Rattle.spi_term.specs.Names.{OfAtom, Avoids, EffectAvoids, ProcessOver}
 use Rattle.spi_term.specs.Substitution.{ty_put, process_put, process_put_two}
-use Rattle.spi_term.specs.Term.{Message, name, Atom, ends, checks, many, Effect, Ty, un, unit_ty, pair_ty, sum_ty, key, nonce, Sends, Stops, Recvs, Serves, Splits, Selects, Decrypts, Checks, Begins, Ends, EndManys, Casts, Freshes, Branches, Pars, Process, leaf, prefix, fork, recv, serve, split, select, branch, decrypt, check, begin, end, end_many, cast, fresh, par, process_size}
+use Rattle.spi_term.specs.Term.{Message, name, Atom, ends, checks, many, Effect, Ty, un, pair_ty, sum_ty, key, nonce, Sends, Stops, Recvs, Serves, Splits, Selects, Decrypts, Checks, Begins, Ends, EndManys, Casts, Freshes, Branches, Pars, Process, leaf, prefix, fork, recv, serve, split, select, branch, decrypt, check, begin, end, end_many, cast, fresh, par, process_size}
 use Rattle.spi_term.specs.Tests.{is_free}
 use Rattle.spi_term.proofs.Freeness.{avoids_sound, avoids_complete}
 use Rattle.spi_effect.specs.Effect.{IsMany, AllMany, IsDifference}

@@ -1,4 +1,4 @@
-use Rattle.std.proofs.Common.{sym, ap, refl, if◌then◌else◌, Some, None}
+use Rattle.std.proofs.Common.{sym, ap, if◌then◌else◌, Some, None}
 use Rattle.spi_audit.proofs.messages.where_untrusted.Goals as goal
 
 pub returns-then-is_untrusted : goal.returns-then-is_untrusted
