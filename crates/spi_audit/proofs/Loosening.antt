@@ -13,7 +13,7 @@ use Rattle.spi_effect.proofs.Laws.{AllMany_in, AllMany_of}
 use Rattle.spi_intern.specs.declared.store.Store.{Store}
 use Rattle.spi_intern.proofs.Lists.{truths}
 use Rattle.spi_count.specs.Counts.{count_of, IsNothing}
-use Rattle.spi_count.specs.Sums.{name_bound, key_of, kind_of, message_of, part, Puts}
+use Rattle.spi_count.specs.Sums.{name_bound, key_of, kind_of_atom, message_of, part, Puts}
 use Rattle.spi_count.specs.declared.sum.AtomKind.{AtomKind}
 use Rattle.spi_count.specs.declared.sum.AtomKind.TheVariants.{End, Check, Many}
 use Rattle.spi_count.specs.declared.sum.Sum.{Sum}
@@ -78,7 +78,7 @@ one_or_next n k h l = go (n - (k + 1)) refl
 -- counts that are the same
 pub stands_parts : (s : Store) (keys : Keys) {old new : Sum} {es : Effect} → ((kind : AtomKind) → part kind new ≡ part kind old) → SumOf s keys old es → SumOf s keys new es
 stands_parts s keys {old} {new} e h = record {
-  counted = λ a i g. ap (λ m. count_of m (key_of (name_bound (message_of a)) i)) (e (kind_of a)) ∙ h.counted a i g;
+  counted = λ a i g. ap (λ m. count_of m (key_of (name_bound (message_of a)) i)) (e (kind_of_atom a)) ∙ h.counted a i g;
   known = h.known;
   kept = λ kind q p. h.kept kind q (subst (λ (m : _). 0 < count_of m q) (e kind) p);
 }
@@ -94,30 +94,30 @@ module _ {s : Store} {keys : Keys} where
   loosened_start k {from} h = record { loose = from; held = h; by = λ a e. inl e }
 
   -- the counts without an atom
-  stands_out : IsKeyed s keys → {sum new : Sum} (inner : Effect) → SumOf s keys sum inner → (a : Atom) (i : ℕ) → with_keys s keys i (message_of a) → Puts (kind_of a) sum new (key_of (name_bound (message_of a)) i) 0 → SumOf s keys new (every_out a inner)
+  stands_out : IsKeyed s keys → {sum new : Sum} (inner : Effect) → SumOf s keys sum inner → (a : Atom) (i : ℕ) → with_keys s keys i (message_of a) → Puts (kind_of_atom a) sum new (key_of (name_bound (message_of a)) i) 0 → SumOf s keys new (every_out a inner)
   stands_out kd {sum} {new} inner h a i g put = record {
     counted = λ c j gj. put_at (with_keys s keys) (numbers kd) a i 0 g put c j gj ∙ (ap (λ n. if same_atom c a then 0 else n) (h.counted c j gj) ∙ sym (count_every c a inner));
     known = λ c n. known_of c (same_atom c a) refl (in_count n);
-    kept = λ kind q p. h.kept kind q (kept_of kind q p (same_kind kind (kind_of a)));
+    kept = λ kind q p. h.kept kind q (kept_of kind q p (same_kind kind (kind_of_atom a)));
   }
     where
       known_of : (c : Atom) (t : Bool) → same_atom c a ≡ t → 0 < count c (every_out a inner) → (j : ℕ) × with_keys s keys j (message_of c)
       known_of c true e p = absurd (let z = count_every c a inner ∙ ap (λ t. if t then 0 else count c inner) e in omega (arith, z, p))
       known_of c false e p = h.known c (count_in c inner (positive (count_every c a inner ∙ ap (λ t. if t then 0 else count c inner) e) p))
 
-      cases : (q : ℕ) (v : Bool) → 0 < (if v then 0 else count_of (part (kind_of a) sum) q) → 0 < count_of (part (kind_of a) sum) q
+      cases : (q : ℕ) (v : Bool) → 0 < (if v then 0 else count_of (part (kind_of_atom a) sum) q) → 0 < count_of (part (kind_of_atom a) sum) q
       cases q true l = absurd (omega (arith, l))
       cases q false l = l
 
-      kept_of : (kind : AtomKind) (q : ℕ) → 0 < count_of (part kind new) q → (kind ≡ kind_of a) ⊎ (kind ≢ kind_of a) → 0 < count_of (part kind sum) q
+      kept_of : (kind : AtomKind) (q : ℕ) → 0 < count_of (part kind new) q → (kind ≡ kind_of_atom a) ⊎ (kind ≢ kind_of_atom a) → 0 < count_of (part kind sum) q
       kept_of kind q p (inl d) =
-          let m : 0 < count_of (part (kind_of a) new) q = subst (λ kind. 0 < count_of (part kind new) q) d p in
+          let m : 0 < count_of (part (kind_of_atom a) new) q = subst (λ kind. 0 < count_of (part kind new) q) d p in
           subst (λ kind. 0 < count_of (part kind sum) q) (sym d) (cases q _ (subst (λ n. 0 < n) (put.here q) m))
       kept_of kind q p (inr d) = subst (λ (m : _). 0 < count_of m q) (put.others kind d) p
 
   -- one atom more is loose
   loosen_atom : IsKeyed s keys → {k : ℕ} {from : Atom → Bool} {sum new : Sum} {names nexts : BTreeMap ℕ ℕ} {b : Bool} {es : Effect} → Loosened s keys k from sum names b es → (a : Atom) (i : ℕ) → with_keys s keys i (message_of a)
-      → 0 < count_of (part (kind_of a) sum) (key_of (name_bound (message_of a)) i) → Puts (kind_of a) sum new (key_of (name_bound (message_of a)) i) 0 → Marks names nexts (message_of a) → (next : Bool)
+      → 0 < count_of (part (kind_of_atom a) sum) (key_of (name_bound (message_of a)) i) → Puts (kind_of_atom a) sum new (key_of (name_bound (message_of a)) i) 0 → Marks names nexts (message_of a) → (next : Bool)
       → (next ≡ true → (b ≡ true) × IsMany a) → (next ≡ false → (b ≡ false) ⊎ (IsMany a → ⊥)) → k < name_bound (message_of a) → Loosened s keys k from new nexts next es
   loosen_atom kd {k} {from} {sum} {new} {names} {nexts} {b} {es} w a i g p put mk next many_so not_so big = record {
     loose = λ c. w.loose c || same_atom c a;

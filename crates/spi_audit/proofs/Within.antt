@@ -9,7 +9,7 @@ use Rattle.spi_effect.proofs.Made.{is_within_sound, is_within_complete, and_true
 use Rattle.spi_intern.specs.declared.store.Store.{Store}
 use Rattle.spi_intern.proofs.Lists.{truths}
 use Rattle.spi_count.specs.Counts.{count_of, IsNothing}
-use Rattle.spi_count.specs.Sums.{name_bound, key_of, kind_of, message_of, part, Puts, Below}
+use Rattle.spi_count.specs.Sums.{name_bound, key_of, kind_of_atom, message_of, part, Puts, Below}
 use Rattle.spi_count.specs.declared.sum.AtomKind.{AtomKind}
 use Rattle.spi_count.specs.declared.sum.AtomKind.TheVariants.{End, Check, Many}
 use Rattle.spi_count.specs.declared.sum.Sum.{Sum}
@@ -50,16 +50,16 @@ module _ {s : Store} {keys : Keys} (kd : IsKeyed s keys) {a b : Sum} {es fs : Ef
       here c p =
           let (i, g) = h.known c (count_in c es p) in
           let q = key_of (name_bound (message_of c)) i in
-          let x = h.counted c i g in let y = k.counted c i g in let n = z (kind_of c) q in
-          ⊎_elim (λ e. absurd (omega (arith, e, x, n, p))) (λ e. let l = e.1 in omega (arith, l, x, y)) (t (kind_of c) q)
+          let x = h.counted c i g in let y = k.counted c i g in let n = z (kind_of_atom c) q in
+          ⊎_elim (λ e. absurd (omega (arith, e, x, n, p))) (λ e. let l = e.1 in omega (arith, l, x, y)) (t (kind_of_atom c) q)
 
   pub taken_more : (rest : Sum) (kind : AtomKind) (q n : ℕ) → IsTakenOut a b rest → 0 < n → count_of (part kind rest) q ≡ n → count_of (part kind b) q < n → false ≡ is_within es fs
   taken_more rest kind q n t p e l = ⊎_elim (λ w. absurd (at kind (is_within_sound es fs w) t e l)) sym (cases_Bool (is_within es fs))
     where
-      one : (c : Atom) (i : ℕ) → with_keys s keys i (message_of c) → q ≡ key_of (name_bound (message_of c)) i → count c es ≤ count c fs → count_of (part (kind_of c) rest) q ≡ count_of (part (kind_of c) a) q → count_of (part (kind_of c) rest) q ≡ n → count_of (part (kind_of c) b) q < n → ⊥
+      one : (c : Atom) (i : ℕ) → with_keys s keys i (message_of c) → q ≡ key_of (name_bound (message_of c)) i → count c es ≤ count c fs → count_of (part (kind_of_atom c) rest) q ≡ count_of (part (kind_of_atom c) a) q → count_of (part (kind_of_atom c) rest) q ≡ n → count_of (part (kind_of_atom c) b) q < n → ⊥
       one c i g f w t e l =
-          let x : count_of (part (kind_of c) a) q ≡ count c es = ap (count_of (part (kind_of c) a)) f ∙ h.counted c i g in
-          let y : count_of (part (kind_of c) b) q ≡ count c fs = ap (count_of (part (kind_of c) b)) f ∙ k.counted c i g in
+          let x : count_of (part (kind_of_atom c) a) q ≡ count c es = ap (count_of (part (kind_of_atom c) a)) f ∙ h.counted c i g in
+          let y : count_of (part (kind_of_atom c) b) q ≡ count c fs = ap (count_of (part (kind_of_atom c) b)) f ∙ k.counted c i g in
           omega (arith, x, y, w, t, e, l)
 
       was : (kind : AtomKind) → IsTakenOut a b rest → count_of (part kind rest) q ≡ n → count_of (part kind rest) q ≡ count_of (part kind a) q

@@ -5,7 +5,7 @@ use Rattle.spi_term.specs.declared.term.Effect as D
 use Rattle.spi_term.specs.View.{effect}
 use Rattle.spi_term.specs.Term.{process_size}
 use Rattle.spi_term.specs.Term.{Message, bound, name, unit, pair, in_left, in_right, enc, hash, Atom, ends, checks, many, Effect}
-use Rattle.spi_bench.specs.Sums.{shared_name, place_of, same_place, times, at_place, IsSharedPlace, shared_in, AddsAtoms}
+use Rattle.spi_bench.specs.Sums.{shared_name, place_of_atom, same_place, atom_times, at_place, IsSharedPlace, shared_in, AddsAtoms}
 use Rattle.spi_bench.specs.Sums.{nodes, blocked, atoms, placed, of_least, if_none, of_slot}
 use Rattle.spi_bench.specs.declared.slot.Slot.{Slot}
 use Rattle.spi_bench.specs.declared.sums.Sums.{Sums}
@@ -30,23 +30,23 @@ name_is k n (in_right a) i h = absurd (cc)
 name_is k n (enc a b) i h = absurd (cc)
 name_is k n (hash a) i h = absurd (cc)
 
-pub place_is : (k n : ℕ) (a : Atom) (i : ℕ) → place_of k n a ≡ Some i → (a ≡ checks (name (k + i))) × (i < n)
+pub place_is : (k n : ℕ) (a : Atom) (i : ℕ) → place_of_atom k n a ≡ Some i → (a ≡ checks (name (k + i))) × (i < n)
 place_is k n (ends m) i h = absurd (cc)
 place_is k n (checks m) i h = let a = name_is k n m i h in (ap (λ (y : Message). checks y) a.0, a.1)
 place_is k n (many m) i h = absurd (cc)
 
-pub place_small : (k n : ℕ) (a : Atom) (i : ℕ) → place_of k n a ≡ Some i → i < n
+pub place_small : (k n : ℕ) (a : Atom) (i : ℕ) → place_of_atom k n a ≡ Some i → i < n
 place_small k n a i h = (place_is k n a i h).1
 
 same_refl : (w : Option ℕ) → same_place w w ≡ true
 same_refl None = refl
 same_refl (Some i) = eq-eqb i i refl
 
-pub times_here : (k n : ℕ) (a : Atom) (w : Option ℕ) → w ≡ place_of k n a → times k n w (a ∷ []) ≡ 1
-times_here k n a w e = subst (λ v. times k n v (a ∷ []) ≡ 1) (sym e) (rw (same_refl (place_of k n a)) refl)
+pub times_here : (k n : ℕ) (a : Atom) (w : Option ℕ) → w ≡ place_of_atom k n a → atom_times k n w (a ∷ []) ≡ 1
+times_here k n a w e = subst (λ v. atom_times k n v (a ∷ []) ≡ 1) (sym e) (rw (same_refl (place_of_atom k n a)) refl)
 
 -- sums and bounds
-pub times_append : (k n : ℕ) (w : Option ℕ) (es fs : Effect) → times k n w (es ++ fs) ≡ times k n w es + times k n w fs
+pub times_append : (k n : ℕ) (w : Option ℕ) (es fs : Effect) → atom_times k n w (es ++ fs) ≡ atom_times k n w es + atom_times k n w fs
 times_append k n w [] fs = omega arith
 times_append k n w (a ∷ es) fs = let h = times_append k n w es fs in omega arith
 
@@ -54,9 +54,9 @@ bit_le : (b : Bool) → (if b then 1 else 0) ≤ 1
 bit_le true = omega arith
 bit_le false = omega arith
 
-pub times_le : (k n : ℕ) (w : Option ℕ) (es : Effect) → times k n w es ≤ length es
+pub times_le : (k n : ℕ) (w : Option ℕ) (es : Effect) → atom_times k n w es ≤ length es
 times_le k n w [] = omega arith
-times_le k n w (a ∷ es) = let h = times_le k n w es in let g = bit_le (same_place (place_of k n a) w) in omega arith
+times_le k n w (a ∷ es) = let h = times_le k n w es in let g = bit_le (same_place (place_of_atom k n a) w) in omega arith
 
 -- atoms that are counted one after another
 pub adds_none : (s : Sums) → AddsAtoms s s []
@@ -72,8 +72,8 @@ adds_more a b c es fs h g = record {
   at = λ w p.
       let x = h.at w p in
       let q = subst (λ n. IsSharedPlace n w) (sym h.shared) p in
-      let y = subst (λ n. at_place c w ≡ at_place b w + times b.free n w fs) h.shared (g.at w q) in
-      let z = subst (λ k. at_place c w ≡ at_place b w + times k (shared_in a) w fs) h.free y in
+      let y = subst (λ n. at_place c w ≡ at_place b w + atom_times b.free n w fs) h.shared (g.at w q) in
+      let z = subst (λ k. at_place c w ≡ at_place b w + atom_times k (shared_in a) w fs) h.free y in
       let s = times_append a.free (shared_in a) w es fs in omega arith;
 }
 
@@ -104,12 +104,12 @@ add_room a b es fs h l r w p =
     let q = subst (λ n. IsSharedPlace n w) h.shared p in
     let x = h.at w q in let y = r w q in let z = times_le a.free (shared_in a) w es in omega arith
 
-pub take_room : (a b : Sums) (es gs fs : Effect) (x : Atom) → (es ++ x ∷ []) ++ gs ≡ fs → AddsAtoms b a es → ((w : Option ℕ) → IsSharedPlace (shared_in a) w → times a.free (shared_in a) w fs ≤ at_place a w) → (w : Option ℕ) → IsSharedPlace (shared_in b) w → times b.free (shared_in b) w (x ∷ []) ≤ at_place b w
+pub take_room : (a b : Sums) (es gs fs : Effect) (x : Atom) → (es ++ x ∷ []) ++ gs ≡ fs → AddsAtoms b a es → ((w : Option ℕ) → IsSharedPlace (shared_in a) w → atom_times a.free (shared_in a) w fs ≤ at_place a w) → (w : Option ℕ) → IsSharedPlace (shared_in b) w → atom_times b.free (shared_in b) w (x ∷ []) ≤ at_place b w
 take_room a b es gs fs x e h r w p =
     let q = subst (λ n. IsSharedPlace n w) (sym h.shared) p in
-    let y = subst (λ ys. times a.free (shared_in a) w ys ≤ at_place a w) (sym e) (r w q) in
-    let z = subst (λ n. times a.free n w ((es ++ x ∷ []) ++ gs) ≤ at_place a w) h.shared y in
-    let v = subst (λ k. times k (shared_in b) w ((es ++ x ∷ []) ++ gs) ≤ at_place a w) h.free z in
+    let y = subst (λ ys. atom_times a.free (shared_in a) w ys ≤ at_place a w) (sym e) (r w q) in
+    let z = subst (λ n. atom_times a.free n w ((es ++ x ∷ []) ++ gs) ≤ at_place a w) h.shared y in
+    let v = subst (λ k. atom_times k (shared_in b) w ((es ++ x ∷ []) ++ gs) ≤ at_place a w) h.free z in
     let s = times_append b.free (shared_in b) w (es ++ x ∷ []) gs in
     let t = times_append b.free (shared_in b) w es (x ∷ []) in
     let u = h.at w p in omega arith
@@ -127,8 +127,8 @@ slot_blocked k n e f = ap (of_slot k n blocked) e ∙ ap if_none f
 pub slot_atoms : (k n : ℕ) {s : Option Slot} {t : Slot} (e : D.Effect) → s ≡ Some t → t.least ≡ Some e → of_slot k n atoms s ≡ length (effect e)
 slot_atoms k n e q f = ap (of_slot k n atoms) q ∙ ap (of_least length) f
 
-pub slot_placed : (k n : ℕ) {s : Option Slot} {t : Slot} (e : D.Effect) (w : Option ℕ) → s ≡ Some t → t.least ≡ Some e → of_slot k n (placed w) s ≡ times k n w (effect e)
-slot_placed k n e w q f = ap (of_slot k n (placed w)) q ∙ ap (of_least (times k n w)) f
+pub slot_placed : (k n : ℕ) {s : Option Slot} {t : Slot} (e : D.Effect) (w : Option ℕ) → s ≡ Some t → t.least ≡ Some e → of_slot k n (placed w) s ≡ atom_times k n w (effect e)
+slot_placed k n e w q f = ap (of_slot k n (placed w)) q ∙ ap (of_least (atom_times k n w)) f
 
 -- the nodes alone change no other count
 pub at_with : (s : Sums) (m : ℕ) (w : Option ℕ) → at_place (record s { nodes = m }) w ≡ at_place s w

@@ -5,7 +5,7 @@ use Rattle.spi_rules.specs.Environment.{Env, extended, untrusted}
 use Rattle.spi_rules.specs.Good.{GoodTy}
 use Rattle.spi_rules.specs.Processes.{IsGenerative}
 use Rattle.spi_infer.proofs.Descending.{length_untrusted}
-use Rattle.spi_bench.specs.Slots.{names_of}
+use Rattle.spi_bench.specs.Slots.{slot_names}
 use Rattle.spi_bench.specs.Whole.{AreShared}
 
 abbrev pub IsNext : Env → List Ty → Ty → Type 0
@@ -24,5 +24,5 @@ shared_next env ts t us a b e h g =
     (λ x. let y = g.0 x in subst (AreShared env) e (p.1 (h.0 y.0, y.1)), λ x. let y = p.0 (subst (AreShared env) (sym e) x) in g.1 (h.1 y.0, y.1))
 
 -- how many names there are
-pub names_length : (k : ℕ) (ts : List Ty) → length (names_of k ts) ≡ k + length ts
+pub names_length : (k : ℕ) (ts : List Ty) → length (slot_names k ts) ≡ k + length ts
 names_length k ts = let a = length-append (untrusted k) ts in let b = length_untrusted k in omega arith

@@ -5,7 +5,7 @@ use Rattle.spi_term.specs.Term.{Message, bound, name, unit, pair, in_left, in_ri
 use Rattle.spi_term.specs.Substitution.{effect_map, ty_map, process_map, leaf_map, prefix_map, fork_map, put}
 use Rattle.spi_term.specs.Names.{OfLeaf, OfPrefix, OfFork, MessageOver, OfEffect, OfTy, OfProcess}
 use Rattle.spi_term.proofs.Terms.{binds_map, fork_binds_map}
-use Rattle.spi_bench.specs.Whole.{indexed}
+use Rattle.spi_bench.specs.Whole.{indexed_message}
 
 -- a map that undoes another on the messages of which P holds undoes it on the whole
 module _ (P : ℕ → Message → Type 0) (f g : ℕ → Message → Message) (ok : (d : ℕ) (m : Message) → P d m → g d (f d m) ≡ m) where
@@ -54,7 +54,7 @@ back_name : (k d x : ℕ) (t : Bool) → (x == k) ≡ t → put (name k) d (if t
 back_name k d x true e = let f : x ≡ k = eqb-true x k e in rw (eq-eqb d d refl) (ap (λ n. name n) (sym f))
 back_name k d x false e = refl
 
-back : (n k d : ℕ) (m : Message) → MessageOver n d m → put (name k) d (indexed k d m) ≡ m
+back : (n k d : ℕ) (m : Message) → MessageOver n d m → put (name k) d (indexed_message k d m) ≡ m
 back n k d (bound i) h = let ne : i ≢ d = omega arith in rw (ne_eqb i d ne)
 back n k d (name x) h = back_name k d x (x == k) refl
 back n k d unit h = refl
@@ -64,8 +64,8 @@ back n k d (in_right a) h = rw (back n k d a h)
 back n k d (enc a b) h = rw (back n k d a h.0, back n k d b h.1)
 back n k d (hash a) h = rw (back n k d a h)
 
-pub opened_back : (n k : ℕ) (p : Process) → OfProcess (MessageOver n) 0 p → process_map (put (name k)) 0 (process_map (indexed k) 0 p) ≡ p
-opened_back n k p h = undone (MessageOver n) (indexed k) (λ d. put (name k) d) (back n k) 0 p h
+pub opened_back : (n k : ℕ) (p : Process) → OfProcess (MessageOver n) 0 p → process_map (put (name k)) 0 (process_map (indexed_message k) 0 p) ≡ p
+opened_back n k p h = undone (MessageOver n) (indexed_message k) (λ d. put (name k) d) (back n k) 0 p h
 
 zero_less : (d : ℕ) → d < suc d
 zero_less d = omega arith
@@ -75,7 +75,7 @@ over_name : (k d x : ℕ) (t : Bool) → (x == k) ≡ t → x < suc k → Messag
 over_name k d x true e h = zero_less d
 over_name k d x false e h = let f : x ≢ k = eqb-false x k e in omega arith
 
-over_indexed : (k d : ℕ) (m : Message) → MessageOver (suc k) d m → MessageOver k (suc d) (indexed k d m)
+over_indexed : (k d : ℕ) (m : Message) → MessageOver (suc k) d m → MessageOver k (suc d) (indexed_message k d m)
 over_indexed k d (bound i) h = omega arith
 over_indexed k d (name x) h = over_name k d x (x == k) refl h
 over_indexed k d unit h = tt
@@ -85,13 +85,13 @@ over_indexed k d (in_right a) h = over_indexed k d a h
 over_indexed k d (enc a b) h = (over_indexed k d a h.0, over_indexed k d b h.1)
 over_indexed k d (hash a) h = over_indexed k d a h
 
-over_effect : (k d : ℕ) (es : Effect) → OfEffect (MessageOver (suc k) d) es → OfEffect (MessageOver k (suc d)) (effect_map (indexed k d) es)
+over_effect : (k d : ℕ) (es : Effect) → OfEffect (MessageOver (suc k) d) es → OfEffect (MessageOver k (suc d)) (effect_map (indexed_message k d) es)
 over_effect k d [] h = tt
 over_effect k d (ends m ∷ es) h = (over_indexed k d m h.0, over_effect k d es h.1)
 over_effect k d (checks m ∷ es) h = (over_indexed k d m h.0, over_effect k d es h.1)
 over_effect k d (many m ∷ es) h = (over_indexed k d m h.0, over_effect k d es h.1)
 
-over_ty : (k d : ℕ) (t : Ty) → OfTy (MessageOver (suc k)) d t → OfTy (MessageOver k) (suc d) (ty_map (indexed k) d t)
+over_ty : (k d : ℕ) (t : Ty) → OfTy (MessageOver (suc k)) d t → OfTy (MessageOver k) (suc d) (ty_map (indexed_message k) d t)
 over_ty k d un h = tt
 over_ty k d unit_ty h = tt
 over_ty k d (pair_ty t u) h = (over_ty k d t h.0, over_ty k (suc d) u h.1)
@@ -99,11 +99,11 @@ over_ty k d (sum_ty t u) h = (over_ty k d t h.0, over_ty k d u h.1)
 over_ty k d (key t) h = over_ty k d t h
 over_ty k d (nonce es) h = over_effect k d es h
 
-over_leaf : (k d : ℕ) (b : Leaf) → OfLeaf (MessageOver (suc k)) d b → OfLeaf (MessageOver k) (suc d) (leaf_map (indexed k) d b)
+over_leaf : (k d : ℕ) (b : Leaf) → OfLeaf (MessageOver (suc k)) d b → OfLeaf (MessageOver k) (suc d) (leaf_map (indexed_message k) d b)
 over_leaf k d (Sends m n) h = (over_indexed k d m h.0, over_indexed k d n h.1)
 over_leaf k d Stops h = tt
 
-over_prefix : (k d : ℕ) (b : Prefix) → OfPrefix (MessageOver (suc k)) d b → OfPrefix (MessageOver k) (suc d) (prefix_map (indexed k) d b)
+over_prefix : (k d : ℕ) (b : Prefix) → OfPrefix (MessageOver (suc k)) d b → OfPrefix (MessageOver k) (suc d) (prefix_map (indexed_message k) d b)
 over_prefix k d (Recvs m t) h = (over_indexed k d m h.0, over_ty k d t h.1)
 over_prefix k d (Serves m t) h = (over_indexed k d m h.0, over_ty k d t h.1)
 over_prefix k d (Splits m t u) h = (over_indexed k d m h.0, over_ty k d t h.1, over_ty k (suc d) u h.2)
@@ -116,16 +116,16 @@ over_prefix k d (EndManys m) h = over_indexed k d m h
 over_prefix k d (Casts m t) h = (over_indexed k d m h.0, over_ty k d t h.1)
 over_prefix k d (Freshes t) h = over_ty k d t h
 
-over_fork : (k d : ℕ) (b : Fork) → OfFork (MessageOver (suc k)) d b → OfFork (MessageOver k) (suc d) (fork_map (indexed k) d b)
+over_fork : (k d : ℕ) (b : Fork) → OfFork (MessageOver (suc k)) d b → OfFork (MessageOver k) (suc d) (fork_map (indexed_message k) d b)
 over_fork k d (Branches m t u) h = (over_indexed k d m h.0, over_ty k d t h.1, over_ty k d u h.2)
 over_fork k d Pars h = tt
 
 suc_add : (k b : ℕ) → suc (k + b) ≡ suc k + b
 suc_add k b = omega arith
 
-pub over_bound : (k d : ℕ) (p : Process) → OfProcess (MessageOver (suc k)) d p → OfProcess (MessageOver k) (suc d) (process_map (indexed k) d p)
+pub over_bound : (k d : ℕ) (p : Process) → OfProcess (MessageOver (suc k)) d p → OfProcess (MessageOver k) (suc d) (process_map (indexed_message k) d p)
 over_bound k d (leaf l) h = over_leaf k d l h
 over_bound k d (prefix b p) h =
-    (over_prefix k d b h.0, rw (binds_map (indexed k) d b) (subst (λ j. OfProcess (MessageOver k) j (process_map (indexed k) (d + binds b) p)) (suc_add d (binds b)) (over_bound k (d + binds b) p h.1)))
+    (over_prefix k d b h.0, rw (binds_map (indexed_message k) d b) (subst (λ j. OfProcess (MessageOver k) j (process_map (indexed_message k) (d + binds b) p)) (suc_add d (binds b)) (over_bound k (d + binds b) p h.1)))
 over_bound k d (fork b p q) h =
-    (over_fork k d b h.0, rw (fork_binds_map (indexed k) d b) (subst (λ j. OfProcess (MessageOver k) j (process_map (indexed k) (d + fork_binds b) p)) (suc_add d (fork_binds b)) (over_bound k (d + fork_binds b) p h.1)), rw (fork_binds_map (indexed k) d b) (subst (λ j. OfProcess (MessageOver k) j (process_map (indexed k) (d + fork_binds b) q)) (suc_add d (fork_binds b)) (over_bound k (d + fork_binds b) q h.2)))
+    (over_fork k d b h.0, rw (fork_binds_map (indexed_message k) d b) (subst (λ j. OfProcess (MessageOver k) j (process_map (indexed_message k) (d + fork_binds b) p)) (suc_add d (fork_binds b)) (over_bound k (d + fork_binds b) p h.1)), rw (fork_binds_map (indexed_message k) d b) (subst (λ j. OfProcess (MessageOver k) j (process_map (indexed_message k) (d + fork_binds b) q)) (suc_add d (fork_binds b)) (over_bound k (d + fork_binds b) q h.2)))

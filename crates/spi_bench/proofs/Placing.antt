@@ -9,11 +9,11 @@ use Rattle.indexmap.specs.IndexMap.{get}
 use Rattle.std.specs.Cmp.Lexicographic.{bytes_decides}
 use Rattle.spi_term.specs.Spelling.{Spelling}
 use Rattle.spi_rules.specs.Environment.{Env}
-use Rattle.spi_bench.specs.Parts.{named, with_part, without}
+use Rattle.spi_bench.specs.Parts.{part_named, with_part, without}
 use Rattle.std.proofs.lemmas.Option.{slice_get_within}
 use Rattle.spi_term.specs.declared.term.Effect as D
 use Rattle.spi_bench.specs.Slots.{SetsPart, sets_part, sets_none, SetsLast, sets_last, IsPadded, PutsPart, Drops, Stays}
-use Rattle.spi_bench.specs.Slots.{part_of, parts_of, SlotStandsAt, AreNamed, IsPartOver, IsInferred, AreInferred}
+use Rattle.spi_bench.specs.Slots.{part_of, slot_parts, SlotStandsAt, AreNamed, IsPartOver, IsInferred, AreInferred}
 use Rattle.spi_bench.specs.declared.slot.Slot.{Slot}
 
 -- texts
@@ -79,19 +79,19 @@ next_only : (n : List ℕ) (i : ℕ) (x : Option Slot) (ss : List (Option Slot))
 next_only n i x ss h j u e f = let a : suc j ≡ suc i = h (suc j) u e f in omega arith
 
 -- the parts, where the slot named n changes
-put_there : (ss : List (Option Slot)) (i : ℕ) (s t : Slot) (n : List ℕ) → slice_get ss i ≡ Some (Some s) → s.name ≡ n → t.name ≡ n → Only n i ss → parts_of (slice_set ss i (Some t)) ≡ with_part n t.part (parts_of ss)
+put_there : (ss : List (Option Slot)) (i : ℕ) (s t : Slot) (n : List ℕ) → slice_get ss i ≡ Some (Some s) → s.name ≡ n → t.name ≡ n → Only n i ss → slot_parts (slice_set ss i (Some t)) ≡ with_part n t.part (slot_parts ss)
 put_there [] i s t n e f g o = absurd (cc)
 put_there (None ∷ ss) zero s t n e f g o = absurd (cc)
 put_there (None ∷ ss) (suc i) s t n e f g o = put_there ss i s t n e f g (next_only n i None ss o)
 put_there (Some u ∷ ss) zero s t n e f g o =
     let q : u ≡ s = cc in
     let w : n ≡ u.name = sym (ap (λ (v : Slot). v.name) q ∙ f) in
-    rw (same_text n u.name w) (ap (λ (m : List ℕ). record { name = m; part = t.part } ∷ parts_of ss) g)
+    rw (same_text n u.name w) (ap (λ (m : List ℕ). record { name = m; part = t.part } ∷ slot_parts ss) g)
 put_there (Some u ∷ ss) (suc i) s t n e f g o =
     let w : n ≢ u.name = λ q. let z : 0 ≡ suc i = o 0 u refl (sym q) in absurd (omega arith) in
     rw (other_text n u.name w) (ap (λ l. part_of u ∷ l) (put_there ss i s t n e f g (next_only n i (Some u) ss o)))
 
-find_there : (ss : List (Option Slot)) (i : ℕ) (s : Slot) (n : List ℕ) → slice_get ss i ≡ Some (Some s) → s.name ≡ n → Only n i ss → named n (parts_of ss) ≡ Some s.part
+find_there : (ss : List (Option Slot)) (i : ℕ) (s : Slot) (n : List ℕ) → slice_get ss i ≡ Some (Some s) → s.name ≡ n → Only n i ss → part_named n (slot_parts ss) ≡ Some s.part
 find_there [] i s n e f o = absurd (cc)
 find_there (None ∷ ss) zero s n e f o = absurd (cc)
 find_there (None ∷ ss) (suc i) s n e f o = find_there ss i s n e f (next_only n i None ss o)
@@ -103,7 +103,7 @@ find_there (Some u ∷ ss) (suc i) s n e f o =
     let w : n ≢ u.name = λ q. let z : 0 ≡ suc i = o 0 u refl (sym q) in absurd (omega arith) in
     rw (other_text n u.name w) (find_there ss i s n e f (next_only n i (Some u) ss o))
 
-drop_there : (ss : List (Option Slot)) (i : ℕ) (s : Slot) (n : List ℕ) → slice_get ss i ≡ Some (Some s) → s.name ≡ n → Only n i ss → parts_of (slice_set ss i None) ≡ without n (parts_of ss)
+drop_there : (ss : List (Option Slot)) (i : ℕ) (s : Slot) (n : List ℕ) → slice_get ss i ≡ Some (Some s) → s.name ≡ n → Only n i ss → slot_parts (slice_set ss i None) ≡ without n (slot_parts ss)
 drop_there [] i s n e f o = absurd (cc)
 drop_there (None ∷ ss) zero s n e f o = absurd (cc)
 drop_there (None ∷ ss) (suc i) s n e f o = drop_there ss i s n e f (next_only n i None ss o)
@@ -116,41 +116,41 @@ drop_there (Some u ∷ ss) (suc i) s n e f o =
     rw (other_text n u.name w) (ap (λ l. part_of u ∷ l) (drop_there ss i s n e f (next_only n i (Some u) ss o)))
 
 -- where no slot is named n
-put_last : (ss : List (Option Slot)) (t : Slot) (n : List ℕ) → t.name ≡ n → NoName n ss → parts_of (slice_set (ss ++ None ∷ []) (length ss) (Some t)) ≡ with_part n t.part (parts_of ss)
+put_last : (ss : List (Option Slot)) (t : Slot) (n : List ℕ) → t.name ≡ n → NoName n ss → slot_parts (slice_set (ss ++ None ∷ []) (length ss) (Some t)) ≡ with_part n t.part (slot_parts ss)
 put_last [] t n g o = ap (λ (m : List ℕ). record { name = m; part = t.part } ∷ []) g
 put_last (None ∷ ss) t n g o = put_last ss t n g (λ j. o (suc j))
 put_last (Some u ∷ ss) t n g o = rw (other_text n u.name (λ q. o 0 u refl (sym q))) (ap (λ l. part_of u ∷ l) (put_last ss t n g (λ j. o (suc j))))
 
-find_none : (ss : List (Option Slot)) (n : List ℕ) → NoName n ss → named n (parts_of ss) ≡ None
+find_none : (ss : List (Option Slot)) (n : List ℕ) → NoName n ss → part_named n (slot_parts ss) ≡ None
 find_none [] n o = refl
 find_none (None ∷ ss) n o = find_none ss n (λ j. o (suc j))
 find_none (Some u ∷ ss) n o = rw (other_text n u.name (λ q. o 0 u refl (sym q))) (find_none ss n (λ j. o (suc j)))
 
-drop_none : (ss : List (Option Slot)) (n : List ℕ) → NoName n ss → without n (parts_of ss) ≡ parts_of ss
+drop_none : (ss : List (Option Slot)) (n : List ℕ) → NoName n ss → without n (slot_parts ss) ≡ slot_parts ss
 drop_none [] n o = refl
 drop_none (None ∷ ss) n o = drop_none ss n (λ j. o (suc j))
 drop_none (Some u ∷ ss) n o = rw (other_text n u.name (λ q. o 0 u refl (sym q))) (ap (λ l. part_of u ∷ l) (drop_none ss n (λ j. o (suc j))))
 
-parts_padded : (ss : List (Option Slot)) → parts_of (ss ++ None ∷ []) ≡ parts_of ss
+parts_padded : (ss : List (Option Slot)) → slot_parts (ss ++ None ∷ []) ≡ slot_parts ss
 parts_padded [] = refl
 parts_padded (None ∷ ss) = parts_padded ss
 parts_padded (Some u ∷ ss) = ap (λ l. part_of u ∷ l) (parts_padded ss)
 
 -- what a slot may become, with the place of its name
-pub data Becomes (n : List ℕ) (i : ℕ) : Option Slot → Option ℕ → Type 0 where
-  gone : Becomes n i None None
-  there : {t : Slot} → t.name ≡ n → Becomes n i (Some t) (Some i)
+pub data SlotBecomes (n : List ℕ) (i : ℕ) : Option Slot → Option ℕ → Type 0 where
+  gone : SlotBecomes n i None None
+  there : {t : Slot} → t.name ≡ n → SlotBecomes n i (Some t) (Some i)
 
-becomes_at : {n : List ℕ} {i : ℕ} {x : Option Slot} {w : Option ℕ} (u : Slot) → Becomes n i x w → x ≡ Some u → (w ≡ Some i) × (u.name ≡ n)
+becomes_at : {n : List ℕ} {i : ℕ} {x : Option Slot} {w : Option ℕ} (u : Slot) → SlotBecomes n i x w → x ≡ Some u → (w ≡ Some i) × (u.name ≡ n)
 becomes_at u gone e = absurd (cc)
 becomes_at u (there {t} g) e = let q : t ≡ u = cc in (refl, sym (ap (λ (v : Slot). v.name) q) ∙ g)
 
 -- the names after the slot with number i becomes x, where it is empty or named n, and no other is named n
-module _ (n : List ℕ) (i : ℕ) (ss : List (Option Slot)) (at to : List ℕ → Option ℕ) (x : Option Slot) (w : Option ℕ) (l : i < length ss) (h : AreNamed ss at) (o : Only n i ss) (old : (u : Slot) → slice_get ss i ≡ Some (Some u) → u.name ≡ n) (b : Becomes n i x w) (here : to n ≡ w) (others : (m : List ℕ) → n ≢ m → to m ≡ at m) where
+module _ (n : List ℕ) (i : ℕ) (ss : List (Option Slot)) (at to : List ℕ → Option ℕ) (x : Option Slot) (w : Option ℕ) (l : i < length ss) (h : AreNamed ss at) (o : Only n i ss) (old : (u : Slot) → slice_get ss i ≡ Some (Some u) → u.name ≡ n) (b : SlotBecomes n i x w) (here : to n ≡ w) (others : (m : List ℕ) → n ≢ m → to m ≡ at m) where
   stands_here : (j : ℕ) → w ≡ Some j → SlotStandsAt (slice_set ss i x) j n
   stands_here j e = go b e
     where
-      go : {y : Option Slot} {v : Option ℕ} → Becomes n i y v → v ≡ Some j → SlotStandsAt (slice_set ss i y) j n
+      go : {y : Option Slot} {v : Option ℕ} → SlotBecomes n i y v → v ≡ Some j → SlotStandsAt (slice_set ss i y) j n
       go gone e = absurd (cc)
       go (there {t} g) e = let q : i ≡ j = cc in subst (λ k. SlotStandsAt (slice_set ss i (Some t)) k n) q (t, get_here ss i (Some t) l, g)
 
@@ -207,10 +207,10 @@ none_some : {A : Type 0} (u : Slot) (x : Option (Option Slot)) → x ≡ Some No
 none_some u x e f = absurd (cc)
 
 -- puts and drops, from what becomes of the slots
-abbrev At : Type 0
+abbrev SlotAt : Type 0
 At = List ℕ → Option ℕ
 
-pub puts_there : (n : List ℕ) (p : Spelling) (least : Option D.Effect) (i : ℕ) (r : Option Spelling) (old new : List (Option Slot)) (at : At) → AreNamed old at → at n ≡ Some i → SetsPart i p least r old new → PutsPart n p least r old new at
+pub puts_there : (n : List ℕ) (p : Spelling) (least : Option D.Effect) (i : ℕ) (r : Option Spelling) (old new : List (Option Slot)) (at : SlotAt) → AreNamed old at → at n ≡ Some i → SetsPart i p least r old new → PutsPart n p least r old new at
 puts_there n p least i _ old new at h e (sets_part {s} {t} g f q m w) =
     let (u, v, z) = (h n i).0 e in
     let a : s ≡ u = cc in
@@ -219,7 +219,7 @@ puts_there n p least i _ old new at h e (sets_part {s} {t} g f q m w) =
     let l = slice_get_within old i (Some s) g in
     record {
       places = subst (λ x. AreNamed x at) (sym w) (named_after n i old at at (Some t) (Some i) l h o (λ y k. let c : s ≡ y = cc in sym (ap (λ (x : Slot). x.name) c) ∙ b) (there (f ∙ b)) e (λ m d. refl));
-      parts = ap parts_of w ∙ put_there old i s t n g b (f ∙ b) o ∙ ap (λ x. with_part n x (parts_of old)) q;
+      parts = ap slot_parts w ∙ put_there old i s t n g b (f ∙ b) o ∙ ap (λ x. with_part n x (slot_parts old)) q;
       before = sym (find_there old i s n g b o);
       inferred = λ env count k y.
           subst (λ x. AreInferred env count x) (sym w) (inferred_after env count i old (Some t) l k (λ x c. let d : t ≡ x = cc in subst (IsInferred env count) d (inferred_slot env count t p least q m y)));
@@ -228,14 +228,14 @@ puts_there n p least i _ old new at h e (sets_none g) =
     let (u, v, z) = (h n i).0 e in
     none_some u (slice_get old i) g v
 
-pub puts_last : (n : List ℕ) (p : Spelling) (least : Option D.Effect) (old new : List (Option Slot)) (at to : At) → AreNamed old at → at n ≡ None → SetsLast n p least old new → to n ≡ Some (length old) → ((m : List ℕ) → n ≢ m → to m ≡ at m) → PutsPart n p least None old new to
+pub puts_last : (n : List ℕ) (p : Spelling) (least : Option D.Effect) (old new : List (Option Slot)) (at to : SlotAt) → AreNamed old at → at n ≡ None → SetsLast n p least old new → to n ≡ Some (length old) → ((m : List ℕ) → n ≢ m → to m ≡ at m) → PutsPart n p least None old new to
 puts_last n p least old new at to h e (sets_last {t} f q m w) here others =
     let o = no_name n old at h e in
     let l : length old < length (old ++ None ∷ []) = let a = length-append old (None ∷ []) in omega arith in
     let padded = old ++ None ∷ [] in
     record {
       places = subst (λ x. AreNamed x to) (sym w) (named_after n (length old) padded at to (Some t) (Some (length old)) l (named_padded old at h) (λ j u g k. absurd (o j u (get_padded old j u g) k)) (λ u g. absurd (past old u (get_padded old (length old) u g))) (there f) here others);
-      parts = ap parts_of w ∙ put_last old t n f o ∙ ap (λ x. with_part n x (parts_of old)) q;
+      parts = ap slot_parts w ∙ put_last old t n f o ∙ ap (λ x. with_part n x (slot_parts old)) q;
       before = sym (find_none old n o);
       inferred = λ env count k y.
           subst (λ x. AreInferred env count x) (sym w) (inferred_after env count (length old) padded (Some t) l (inferred_padded env count old k) (λ x c. let d : t ≡ x = cc in subst (IsInferred env count) d (inferred_slot env count t p least q m y)));
@@ -244,7 +244,7 @@ puts_last n p least old new at to h e (sets_last {t} f q m w) here others =
     past : (ss : List (Option Slot)) (u : Slot) → slice_get ss (length ss) ≡ Some (Some u) → ⊥
     past ss u g = let a = slice_get_within ss (length ss) (Some u) g in omega arith
 
-pub stays_padded : (old new : List (Option Slot)) (at to : At) → AreNamed old at → ((m : List ℕ) → to m ≡ at m) → IsPadded old new → Stays old new to
+pub stays_padded : (old new : List (Option Slot)) (at to : SlotAt) → AreNamed old at → ((m : List ℕ) → to m ≡ at m) → IsPadded old new → Stays old new to
 stays_padded old new at to h e p = go p
   where
     named_to : (ss : List (Option Slot)) → AreNamed ss at → AreNamed ss to
@@ -253,16 +253,16 @@ stays_padded old new at to h e p = go p
     go : IsPadded old new → Stays old new to
     go (inl q) = record {
       places = subst (λ x. AreNamed x to) (sym q) (named_to old h);
-      parts = ap parts_of q;
+      parts = ap slot_parts q;
       inferred = λ env count k. subst (λ x. AreInferred env count x) (sym q) k;
     }
     go (inr q) = record {
       places = subst (λ x. AreNamed x to) (sym q) (named_to (old ++ None ∷ []) (named_padded old at h));
-      parts = ap parts_of q ∙ parts_padded old;
+      parts = ap slot_parts q ∙ parts_padded old;
       inferred = λ env count k. subst (λ x. AreInferred env count x) (sym q) (inferred_padded env count old k);
     }
 
-pub drops_there : (n : List ℕ) (i : ℕ) (s : Slot) (old new : List (Option Slot)) (at to : At) → AreNamed old at → at n ≡ Some i → slice_get old i ≡ Some (Some s) → new ≡ slice_set old i None → to n ≡ None → ((m : List ℕ) → n ≢ m → to m ≡ at m) → Drops n (Some s.part) old new to
+pub drops_there : (n : List ℕ) (i : ℕ) (s : Slot) (old new : List (Option Slot)) (at to : SlotAt) → AreNamed old at → at n ≡ Some i → slice_get old i ≡ Some (Some s) → new ≡ slice_set old i None → to n ≡ None → ((m : List ℕ) → n ≢ m → to m ≡ at m) → Drops n (Some s.part) old new to
 drops_there n i s old new at to h e g w here others =
     let (u, v, z) = (h n i).0 e in
     let a : s ≡ u = cc in
@@ -271,20 +271,20 @@ drops_there n i s old new at to h e g w here others =
     let l = slice_get_within old i (Some s) g in
     record {
       places = subst (λ x. AreNamed x to) (sym w) (named_after n i old at to None None l h o (λ y k. let c : s ≡ y = cc in sym (ap (λ (x : Slot). x.name) c) ∙ b) gone here others);
-      parts = ap parts_of w ∙ drop_there old i s n g b o;
+      parts = ap slot_parts w ∙ drop_there old i s n g b o;
       before = sym (find_there old i s n g b o);
       inferred = λ env count k. subst (λ x. AreInferred env count x) (sym w) (inferred_after env count i old None l k (λ x c. absurd (cc)));
     }
 
-pub stands_some : (n : List ℕ) (i : ℕ) (old : List (Option Slot)) (at : At) → AreNamed old at → at n ≡ Some i → slice_get old i ≡ Some None → ⊥
+pub stands_some : (n : List ℕ) (i : ℕ) (old : List (Option Slot)) (at : SlotAt) → AreNamed old at → at n ≡ Some i → slice_get old i ≡ Some None → ⊥
 stands_some n i old at h e g =
     let (u, v, z) = (h n i).0 e in
     none_some u (slice_get old i) g v
 
-pub stands_within : (n : List ℕ) (i : ℕ) (old : List (Option Slot)) (at : At) → AreNamed old at → at n ≡ Some i → i < length old
+pub stands_within : (n : List ℕ) (i : ℕ) (old : List (Option Slot)) (at : SlotAt) → AreNamed old at → at n ≡ Some i → i < length old
 stands_within n i old at h e = let (u, v, z) = (h n i).0 e in slice_get_within old i (Some u) v
 
-pub drops_none : (n : List ℕ) (old : List (Option Slot)) (at to : At) → AreNamed old at → at n ≡ None → ((m : List ℕ) → to m ≡ at m) → Drops n None old old to
+pub drops_none : (n : List ℕ) (old : List (Option Slot)) (at to : SlotAt) → AreNamed old at → at n ≡ None → ((m : List ℕ) → to m ≡ at m) → Drops n None old old to
 drops_none n old at to h e q =
     let o = no_name n old at h e in
     let s = stays_padded old old at to h q (inl refl) in
@@ -295,11 +295,11 @@ pub lookup_same : {S : Type 0} (m m' : HashMap (List ℕ) ℕ S) → m'.entries 
 lookup_same m m' e n = ap (λ es. lookup (bytes_eq n) es) e
 
 -- after a put that may have failed
-pub done_places : (n : List ℕ) (p : Spelling) (least : Option D.Effect) (old new : List (Option Slot)) (to : At) (r : Result (Option Spelling) Spelling) → IfOk r (λ x. PutsPart n p least x old new to) → OnErr r (Stays old new to) → AreNamed new to
+pub done_places : (n : List ℕ) (p : Spelling) (least : Option D.Effect) (old new : List (Option Slot)) (to : SlotAt) (r : Result (Option Spelling) Spelling) → IfOk r (λ x. PutsPart n p least x old new to) → OnErr r (Stays old new to) → AreNamed new to
 done_places n p least old new to (Ok x) a b = a.places
 done_places n p least old new to (Err x) a b = b.places
 
-pub done_inferred : (n : List ℕ) (p : Spelling) (least : Option D.Effect) (old new : List (Option Slot)) (to : At) (env : Env) (count : ℕ) (r : Result (Option Spelling) Spelling) → IfOk r (λ x. PutsPart n p least x old new to) → OnErr r (Stays old new to) → AreInferred env count old → IsPartOver env count p least → AreInferred env count new
+pub done_inferred : (n : List ℕ) (p : Spelling) (least : Option D.Effect) (old new : List (Option Slot)) (to : SlotAt) (env : Env) (count : ℕ) (r : Result (Option Spelling) Spelling) → IfOk r (λ x. PutsPart n p least x old new to) → OnErr r (Stays old new to) → AreInferred env count old → IsPartOver env count p least → AreInferred env count new
 done_inferred n p least old new to env count (Ok x) a b h k = a.inferred env count h k
 done_inferred n p least old new to env count (Err x) a b h k = b.inferred env count h
 

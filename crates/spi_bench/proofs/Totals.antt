@@ -5,9 +5,9 @@ use Rattle.std.proofs.lemmas.List.Sums.{sum_by-set, sum_by_push, sum_by-le-sum_b
 use Rattle.spi_term.specs.Term.{Process, process_size, leaf, prefix, fork}
 use Rattle.spi_term.specs.View.{effect}
 use Rattle.spi_term.specs.declared.term.Effect as D
-use Rattle.spi_bench.specs.Sums.{Measure, nodes, blocked, atoms, placed, times, of_least, if_none, of_slot, total, counted, IsMeasure, shared_in, AddsSlot, AreSums}
-use Rattle.spi_bench.specs.Parts.{nodes_in}
-use Rattle.spi_bench.specs.Slots.{parts_of}
+use Rattle.spi_bench.specs.Sums.{Measure, nodes, blocked, atoms, placed, atom_times, of_least, if_none, of_slot, total, counted, IsMeasure, shared_in, AddsSlot, AreSums}
+use Rattle.spi_bench.specs.Parts.{nodes_in_parts}
+use Rattle.spi_bench.specs.Slots.{slot_parts}
 use Rattle.spi_bench.specs.declared.slot.Slot.{Slot}
 use Rattle.spi_bench.specs.declared.sums.Sums.{Sums}
 use Rattle.spi_bench.proofs.Counted.{times_le}
@@ -47,7 +47,7 @@ blocked_le : (k n : ℕ) (s : Option Slot) → of_slot k n blocked s ≤ of_slot
 blocked_le k n None = le_refl 0
 blocked_le k n (Some s) = let a = if_none_le s.least in let b = some_node s.part.process in omega arith
 
-of_least_le : (k n : ℕ) (w : Option ℕ) (o : Option D.Effect) → of_least (times k n w) o ≤ of_least length o
+of_least_le : (k n : ℕ) (w : Option ℕ) (o : Option D.Effect) → of_least (atom_times k n w) o ≤ of_least length o
 of_least_le k n w None = le_refl 0
 of_least_le k n w (Some e) = times_le k n w (effect e)
 
@@ -128,7 +128,7 @@ room_padded k n ss ts m r g h =
     let c = ap (total k n m) g in omega arith
 
 -- the nodes of the parts
-pub nodes_total : (k n : ℕ) (ss : List (Option Slot)) → nodes_in (parts_of ss) ≡ total k n nodes ss
+pub nodes_total : (k n : ℕ) (ss : List (Option Slot)) → nodes_in_parts (slot_parts ss) ≡ total k n nodes ss
 nodes_total k n [] = refl
 nodes_total k n (None ∷ ss) = let a = sum_by-cons (of_slot k n nodes) None ss in let h = nodes_total k n ss in omega arith
 nodes_total k n (Some s ∷ ss) = let a = sum_by-cons (of_slot k n nodes) (Some s) ss in let h = nodes_total k n ss in omega arith

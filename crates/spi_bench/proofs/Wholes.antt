@@ -16,7 +16,7 @@ use Rattle.spi_rules.proofs.Having.{pays_has}
 use Rattle.spi_rules.proofs.Least.{LeastOf, least_of, least_is, par_least, stop_least}
 use Rattle.spi_infer.proofs.Deriving.{least_or_none}
 use Rattle.spi_infer.proofs.Descending.{length_untrusted}
-use Rattle.spi_bench.specs.Whole.{indexed, new_named, together, whole, AreOver, AreShared, each_check, sum_of, AreLeast}
+use Rattle.spi_bench.specs.Whole.{indexed_message, new_named, together, whole_process_of, AreOver, AreShared, each_check, sum_of, AreLeast}
 use Rattle.spi_bench.proofs.Named.{opened_back, over_bound}
 
 -- parts side by side
@@ -93,16 +93,16 @@ PartsOver n ps = (p : Process) → In p ps → ProcessOver n p
 parts_next : (k : ℕ) (t : Ty) (ts : List Ty) (ps : List Process) → PartsOver (k + length (t ∷ ts)) ps → PartsOver (suc k + length ts) ps
 parts_next k t ts ps h = subst (λ n. PartsOver n ps) (less_one k (length ts)) h
 
-pub whole_over : (k : ℕ) (ts : List Ty) (ps : List Process) → AreOver k ts → PartsOver (k + length ts) ps → ProcessOver k (whole k ts ps)
+pub whole_over : (k : ℕ) (ts : List Ty) (ps : List Process) → AreOver k ts → PartsOver (k + length ts) ps → ProcessOver k (whole_process_of k ts ps)
 whole_over k [] ps a h = together_over k ps (subst (λ n. PartsOver n ps) (no_more k) h)
-whole_over k (t ∷ ts) ps a h = (a.0, over_bound k 0 (whole (suc k) ts ps) (whole_over (suc k) ts ps a.1 (parts_next k t ts ps h)))
+whole_over k (t ∷ ts) ps a h = (a.0, over_bound k 0 (whole_process_of (suc k) ts ps) (whole_over (suc k) ts ps a.1 (parts_next k t ts ps h)))
 
 -- `new` of the next name
 abbrev OpensNext : Env → ℕ → Process → Type 0
-OpensNext env k q = process_put (name (length env)) (process_map (indexed k) 0 q) ≡ q
+OpensNext env k q = process_put (name (length env)) (process_map (indexed_message k) 0 q) ≡ q
 
 opened : (env : Env) (k : ℕ) (q : Process) → k ≡ length env → ProcessOver (suc k) q → OpensNext env k q
-opened env k q e o = subst (λ n. process_put (name n) (process_map (indexed k) 0 q) ≡ q) e (opened_back (suc k) k q o)
+opened env k q e o = subst (λ n. process_put (name n) (process_map (indexed_message k) 0 q) ≡ q) e (opened_back (suc k) k q o)
 
 new_pays : (env : Env) (k : ℕ) (t : Ty) (q : Process) (es rest : Effect) → k ≡ length env → OpensNext env k q → Pays [] (extended env t) q es → IsGenerative t → GoodTy [] env t → Within es (checks (name k) ∷ rest) → EffectAvoids k rest → Pays [] env (new_named k t q) rest
 new_pays env k t q es rest e o d i g w a =
@@ -138,13 +138,13 @@ clear_next : (k : ℕ) (rest : Effect) → AreNamesClear k rest → AreNamesClea
 clear_next k rest c x le = (let n : k ≢ x = omega arith in n, c x (omega arith))
 
 -- where the parts pay with a `check` of each shared name and something more, the whole pays with that
-pub whole_pays : (env : Env) (k : ℕ) (ts : List Ty) (ps : List Process) (s rest : Effect) → k ≡ length env → AreOver k ts → PartsOver (k + length ts) ps → AreShared env ts → AreNamesClear k rest → Pays [] (env ++ ts) (together ps) s → Within s (each_check k ts ++ rest) → Pays [] env (whole k ts ps) rest
+pub whole_pays : (env : Env) (k : ℕ) (ts : List Ty) (ps : List Process) (s rest : Effect) → k ≡ length env → AreOver k ts → PartsOver (k + length ts) ps → AreShared env ts → AreNamesClear k rest → Pays [] (env ++ ts) (together ps) s → Within s (each_check k ts ++ rest) → Pays [] env (whole_process_of k ts ps) rest
 whole_pays env k [] ps s rest e a h g c d w = pays_more (subst (λ v. Pays [] v (together ps) s) (append-nil env) d) w
 whole_pays env k (t ∷ ts) ps s rest e a h g c d w =
     let h' = parts_next k t ts ps h in
-    let o = opened env k (whole (suc k) ts ps) e (whole_over (suc k) ts ps a.1 h') in
+    let o = opened env k (whole_process_of (suc k) ts ps) e (whole_over (suc k) ts ps a.1 h') in
     let b = whole_pays (extended env t) (suc k) ts ps s (checks (name k) ∷ rest) (next_length env k t e) a.1 h' g.2 (clear_next k rest c) (subst (λ v. Pays [] v (together ps) s) (sym (append_assoc env (t ∷ []) ts)) d) (moved (checks (name k)) s (each_check (suc k) ts) rest w) in
-    new_pays env k t (whole (suc k) ts ps) (checks (name k) ∷ rest) rest e o b g.0 g.1 (within_refl (checks (name k) ∷ rest)) (c k (le_refl k))
+    new_pays env k t (whole_process_of (suc k) ts ps) (checks (name k) ∷ rest) rest e o b g.0 g.1 (within_refl (checks (name k) ∷ rest)) (c k (le_refl k))
 
 -- and the other way
 pub record PartsPay (env : Env) (k : ℕ) (ts : List Ty) (ps : List Process) (fs : Effect) : Type 0 where
@@ -153,7 +153,7 @@ pub record PartsPay (env : Env) (k : ℕ) (ts : List Ty) (ps : List Process) (fs
   pub pays : Pays [] (env ++ ts) (together ps) es
   pub within : Within es (each_check k ts ++ fs)
 
-pub parts_pay : (env : Env) (k : ℕ) (ts : List Ty) (ps : List Process) (fs : Effect) → k ≡ length env → AreOver k ts → PartsOver (k + length ts) ps → Pays [] env (whole k ts ps) fs → PartsPay env k ts ps fs
+pub parts_pay : (env : Env) (k : ℕ) (ts : List Ty) (ps : List Process) (fs : Effect) → k ≡ length env → AreOver k ts → PartsOver (k + length ts) ps → Pays [] env (whole_process_of k ts ps) fs → PartsPay env k ts ps fs
 parts_pay env k [] ps fs e a h d = record {
   shared = tt;
   es = fs;
@@ -162,8 +162,8 @@ parts_pay env k [] ps fs e a h d = record {
 }
 parts_pay env k (t ∷ ts) ps fs e a h d =
     let h' = parts_next k t ts ps h in
-    let o = opened env k (whole (suc k) ts ps) e (whole_over (suc k) ts ps a.1 h') in
-    let n = of_new env k t (whole (suc k) ts ps) fs e o d in
+    let o = opened env k (whole_process_of (suc k) ts ps) e (whole_over (suc k) ts ps a.1 h') in
+    let n = of_new env k t (whole_process_of (suc k) ts ps) fs e o d in
     let b = parts_pay (extended env t) (suc k) ts ps n.es (next_length env k t e) a.1 h' n.pays in
     record {
       shared = (n.makes, n.good, b.shared);
@@ -179,17 +179,17 @@ IsDecidedByParts env k ts ps = AreShared env ts × ((ess : List Effect) × AreLe
 no_rest : (k : ℕ) → AreNamesClear k []
 no_rest k x le = tt
 
-from_parts : (env : Env) (k : ℕ) (ts : List Ty) (ps : List Process) → k ≡ length env → AreOver k ts → PartsOver (k + length ts) ps → IsDecidedByParts env k ts ps → Derivable env (whole k ts ps) []
+from_parts : (env : Env) (k : ℕ) (ts : List Ty) (ps : List Process) → k ≡ length env → AreOver k ts → PartsOver (k + length ts) ps → IsDecidedByParts env k ts ps → Derivable env (whole_process_of k ts ps) []
 from_parts env k ts ps e a h (g, (ess, l, w)) =
     let d = has_pays (together_is_least (env ++ ts) ps ess l).derivable.has in
     let p = whole_pays env k ts ps (sum_of ess) [] e a h g (no_rest k) d (subst (λ fs. Within (sum_of ess) fs) (sym (append-nil (each_check k ts))) w) in
     let (fs, b, v) = pays_has p in
-    record { over = subst (λ n. ProcessOver n (whole k ts ps)) e (whole_over k ts ps a h); has = proc_sub b v good_none }
+    record { over = subst (λ n. ProcessOver n (whole_process_of k ts ps)) e (whole_over k ts ps a h); has = proc_sub b v good_none }
 
 both_length : (env : Env) (k : ℕ) (ts : List Ty) → k ≡ length env → k + length ts ≡ length (env ++ ts)
 both_length env k ts e = rw length-append (omega arith)
 
-to_parts : (env : Env) (k : ℕ) (ts : List Ty) (ps : List Process) → k ≡ length env → AreOver k ts → PartsOver (k + length ts) ps → Derivable env (whole k ts ps) [] → IsDecidedByParts env k ts ps
+to_parts : (env : Env) (k : ℕ) (ts : List Ty) (ps : List Process) → k ≡ length env → AreOver k ts → PartsOver (k + length ts) ps → Derivable env (whole_process_of k ts ps) [] → IsDecidedByParts env k ts ps
 to_parts env k ts ps e a h d =
     let p = parts_pay env k ts ps [] e a h (has_pays d.has) in
     (p.shared, ⊎_elim (λ r. paid_by p r.0 r.1) (λ r. blocked_by p r.0 r.1 r.2) (all_or_one (env ++ ts) ps over))
@@ -206,5 +206,5 @@ to_parts env k ts ps e a h d =
         let (fs, b, v) = pays_has d in
         absurd (n fs (record { over = over q i; has = b }))
 
-pub decided : (k : ℕ) (ts : List Ty) (ps : List Process) → AreOver k ts → PartsOver (k + length ts) ps → Derivable (untrusted k) (whole k ts ps) [] ↔ IsDecidedByParts (untrusted k) k ts ps
+pub decided : (k : ℕ) (ts : List Ty) (ps : List Process) → AreOver k ts → PartsOver (k + length ts) ps → Derivable (untrusted k) (whole_process_of k ts ps) [] ↔ IsDecidedByParts (untrusted k) k ts ps
 decided k ts ps a h = (to_parts (untrusted k) k ts ps (sym (length_untrusted k)) a h, from_parts (untrusted k) k ts ps (sym (length_untrusted k)) a h)

@@ -7,7 +7,7 @@ use Rattle.spi_term.specs.declared.term.Effect as Declared
 use Rattle.spi_rules.specs.Environment.{Env, untrusted}
 use Rattle.spi_infer.specs.Inferring.{IsLeast}
 use Rattle.spi_message.specs.Judging.{Numbered, Stands}
-use Rattle.spi_bench.specs.Parts.{Part, named, with_part, without}
+use Rattle.spi_bench.specs.Parts.{Part, part_named, with_part, without}
 use Rattle.spi_bench.specs.Sums.{blocked, placed, total}
 use Rattle.spi_bench.specs.Whole.{AreOver, AreShared}
 use Rattle.spi_bench.specs.declared.slot.Slot.{Slot}
@@ -21,8 +21,8 @@ kept [] = []
 kept (None ∷ ss) = kept ss
 kept (Some s ∷ ss) = s ∷ kept ss
 
-abbrev pub parts_of : List (Option Slot) → List Part
-parts_of ss = map part_of (kept ss)
+abbrev pub slot_parts : List (Option Slot) → List Part
+slot_parts ss = map part_of (kept ss)
 
 -- a slot with this name stands there
 abbrev pub SlotStandsAt : List (Option Slot) → ℕ → List ℕ → Type 0
@@ -49,8 +49,8 @@ abbrev pub IsPadded : List (Option Slot) → List (Option Slot) → Type 0
 IsPadded old new = (new ≡ old) ⊎ (new ≡ old ++ None ∷ [])
 
 -- the types of the free and the shared names
-abbrev pub names_of : ℕ → List Ty → Env
-names_of k ts = untrusted k ++ ts
+abbrev pub slot_names : ℕ → List Ty → Env
+slot_names k ts = untrusted k ++ ts
 
 -- each part has an effect, and their atoms are at most one `check x` for each shared name x, where k names are free and n shared
 pub record HaveNoneTwice (k n : ℕ) (ss : List (Option Slot)) : Type 0 where
@@ -77,8 +77,8 @@ pub data SetsLast (n : List ℕ) (p : Spelling) (least : Option Declared.Effect)
 pub record PutsPart (n : List ℕ) (p : Spelling) (least : Option Declared.Effect) (r : Option Spelling)
     (old new : List (Option Slot)) (to : List ℕ → Option ℕ) : Type 0 where
   pub places : AreNamed new to
-  pub parts : parts_of new ≡ with_part n p (parts_of old)
-  pub before : r ≡ named n (parts_of old)
+  pub parts : slot_parts new ≡ with_part n p (slot_parts old)
+  pub before : r ≡ part_named n (slot_parts old)
   pub inferred : (env : Env) (count : ℕ) → AreInferred env count old → IsPartOver env count p least
       → AreInferred env count new
 
@@ -86,24 +86,24 @@ pub record PutsPart (n : List ℕ) (p : Spelling) (least : Option Declared.Effec
 pub record Drops (n : List ℕ) (r : Option Spelling) (old new : List (Option Slot))
     (to : List ℕ → Option ℕ) : Type 0 where
   pub places : AreNamed new to
-  pub parts : parts_of new ≡ without n (parts_of old)
-  pub before : r ≡ named n (parts_of old)
+  pub parts : slot_parts new ≡ without n (slot_parts old)
+  pub before : r ≡ part_named n (slot_parts old)
   pub inferred : (env : Env) (count : ℕ) → AreInferred env count old → AreInferred env count new
 
 -- no change
 pub record Stays (old new : List (Option Slot)) (to : List ℕ → Option ℕ) : Type 0 where
   pub places : AreNamed new to
-  pub parts : parts_of new ≡ parts_of old
+  pub parts : slot_parts new ≡ slot_parts old
   pub inferred : (env : Env) (count : ℕ) → AreInferred env count old → AreInferred env count new
 
 -- what holds of a bench: its judge stands for the types of the names, `fine` says whether the shared types are in order,
 -- the counts are over the same names, each name is found where its slot stands, and each slot has its least effect
-pub record IsBench (j : Numbered) (free : ℕ) (ts : List Ty) (fine : Bool) (k n : ℕ) (ss : List (Option Slot))
+pub record IsJudgedBench (j : Numbered) (free : ℕ) (ts : List Ty) (fine : Bool) (k n : ℕ) (ss : List (Option Slot))
     (at : List ℕ → Option ℕ) : Type 0 where
-  pub stands : Stands j (names_of free ts)
+  pub stands : Stands j (slot_names free ts)
   pub shared : (fine ≡ true) ↔ AreShared (untrusted free) ts
   pub over : AreOver free ts
   pub free_is : k ≡ free
   pub shared_is : n ≡ length ts
   pub places : AreNamed ss at
-  pub inferred : AreInferred (names_of free ts) (free + length ts) ss
+  pub inferred : AreInferred (slot_names free ts) (free + length ts) ss

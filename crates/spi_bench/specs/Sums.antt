@@ -23,10 +23,10 @@ shared_name k n (enc a b) = None
 shared_name k n (hash a) = None
 
 -- where an atom is counted: at the shared name that it checks, or with all others
-abbrev pub place_of : ℕ → ℕ → Atom → Option ℕ
-place_of k n (ends m) = None
-place_of k n (checks m) = shared_name k n m
-place_of k n (many m) = None
+abbrev pub place_of_atom : ℕ → ℕ → Atom → Option ℕ
+place_of_atom k n (ends m) = None
+place_of_atom k n (checks m) = shared_name k n m
+place_of_atom k n (many m) = None
 
 abbrev pub same_place : Option ℕ → Option ℕ → Bool
 same_place None None = true
@@ -35,9 +35,9 @@ same_place (Some i) None = false
 same_place (Some i) (Some j) = eqb i j
 
 -- how many atoms of an effect are counted there
-abbrev pub times : ℕ → ℕ → Option ℕ → Effect → ℕ
-times k n w [] = 0
-times k n w (a ∷ es) = (if same_place (place_of k n a) w then 1 else 0) + times k n w es
+abbrev pub atom_times : ℕ → ℕ → Option ℕ → Effect → ℕ
+atom_times k n w [] = 0
+atom_times k n w (a ∷ es) = (if same_place (place_of_atom k n a) w then 1 else 0) + atom_times k n w es
 
 -- what is counted: nodes, parts with no effect, atoms, and atoms by the place where they are counted
 pub data Measure : Type 0 where
@@ -58,7 +58,7 @@ abbrev pub measured : ℕ → ℕ → Measure → Slot → ℕ
 measured k n nodes s = process_size s.part.process
 measured k n blocked s = if_none s.least
 measured k n atoms s = of_least length s.least
-measured k n (placed w) s = of_least (times k n w) s.least
+measured k n (placed w) s = of_least (atom_times k n w) s.least
 
 abbrev pub of_slot : ℕ → ℕ → Measure → Option Slot → ℕ
 of_slot k n m None = 0
@@ -100,7 +100,7 @@ pub record AddsAtoms (old new : Sums) (es : Effect) : Type 0 where
   pub blocked : new.blocked ≡ old.blocked
   pub atoms : new.atoms ≡ old.atoms
   pub at : (w : Option ℕ) → IsSharedPlace (shared_in old) w
-      → at_place new w ≡ at_place old w + times old.free (shared_in old) w es
+      → at_place new w ≡ at_place old w + atom_times old.free (shared_in old) w es
 
 -- a count over slots and of one slot, with the names of these sums
 abbrev pub total_in : Sums → Measure → List (Option Slot) → ℕ
@@ -110,7 +110,7 @@ abbrev pub slot_in : Sums → Measure → Option Slot → ℕ
 slot_in s m slot = of_slot s.free (shared_in s) m slot
 
 abbrev pub times_in : Sums → Option ℕ → Effect → ℕ
-times_in s w es = times s.free (shared_in s) w es
+times_in s w es = atom_times s.free (shared_in s) w es
 
 -- a slot is counted too
 pub record AddsSlot (old new : Sums) (s : Option Slot) : Type 0 where

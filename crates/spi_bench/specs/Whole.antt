@@ -12,19 +12,19 @@ use Rattle.spi_rules.specs.Least.{Least}
 use Rattle.spi_rules.specs.Processes.{IsGenerative}
 
 -- the name k as the index of a binder that stands outside of d others
-abbrev pub indexed : ℕ → ℕ → Message → Message
-indexed k d (bound i) = bound i
-indexed k d (name x) = if x == k then bound d else name x
-indexed k d unit = unit
-indexed k d (pair a b) = pair (indexed k d a) (indexed k d b)
-indexed k d (in_left a) = in_left (indexed k d a)
-indexed k d (in_right a) = in_right (indexed k d a)
-indexed k d (enc a b) = enc (indexed k d a) (indexed k d b)
-indexed k d (hash a) = hash (indexed k d a)
+abbrev pub indexed_message : ℕ → ℕ → Message → Message
+indexed_message k d (bound i) = bound i
+indexed_message k d (name x) = if x == k then bound d else name x
+indexed_message k d unit = unit
+indexed_message k d (pair a b) = pair (indexed_message k d a) (indexed_message k d b)
+indexed_message k d (in_left a) = in_left (indexed_message k d a)
+indexed_message k d (in_right a) = in_right (indexed_message k d a)
+indexed_message k d (enc a b) = enc (indexed_message k d a) (indexed_message k d b)
+indexed_message k d (hash a) = hash (indexed_message k d a)
 
 -- new (x: T); P, where x is the name k in P
 abbrev pub new_named : ℕ → Ty → Process → Process
-new_named k t p = fresh t (process_map (indexed k) 0 p)
+new_named k t p = fresh t (process_map (indexed_message k) 0 p)
 
 -- P1 | P2 and so on, or `stop` where there are none
 abbrev pub together : List Process → Process
@@ -33,9 +33,9 @@ together (p ∷ []) = p
 together (p ∷ (q ∷ ps)) = par p (together (q ∷ ps))
 
 -- new (x1: T1); up to new (xm: Tm); and then the parts, in which the shared names are k, k + 1 and so on
-abbrev pub whole : ℕ → List Ty → List Process → Process
-whole k [] ps = together ps
-whole k (t ∷ ts) ps = new_named k t (whole (suc k) ts ps)
+abbrev pub whole_process_of : ℕ → List Ty → List Process → Process
+whole_process_of k [] ps = together ps
+whole_process_of k (t ∷ ts) ps = new_named k t (whole_process_of (suc k) ts ps)
 
 -- each type is closed over the names before it
 abbrev pub AreOver : ℕ → List Ty → Type 0
@@ -85,8 +85,8 @@ OneHasNone =
 
 -- each shared type is in order, each part has a least effect, and the sum of these is at most one `check x` for each shared
 -- name x, and nothing else
-abbrev pub ArePaid : ℕ → List Ty → List Process → Type 0
-ArePaid k ts ps =
+abbrev pub ProcessesArePaid : ℕ → List Ty → List Process → Type 0
+ProcessesArePaid k ts ps =
     AreShared (untrusted k) ts
     × ((ess : List Effect) × AreLeast (untrusted k ++ ts) ps ess × Within (sum_of ess) (each_check k ts))
 
@@ -94,4 +94,4 @@ ArePaid k ts ps =
 abbrev pub PartsDecide : Type 0
 PartsDecide =
     (k : ℕ) (ts : List Ty) (ps : List Process) → AreOver k ts → AreAllOver (k + length ts) ps
-    → Derivable (untrusted k) (whole k ts ps) [] ↔ ArePaid k ts ps
+    → Derivable (untrusted k) (whole_process_of k ts ps) [] ↔ ProcessesArePaid k ts ps

@@ -3,7 +3,7 @@ ghost use Rattle.std.specs.Prelude.{◌≡◌, ◌↔◌, ◌+◌, ◌≤◌, []
 ghost use Rattle.spi_term.specs.Spelling.{HasFewTy};
 ghost use Rattle.spi_term.specs.Term.{process_size};
 ghost use Rattle.spi_term.specs.View.{ty};
-ghost use Rattle.spi_bench.specs.Parts.{named, with_part, without, nodes_in, IsYes};
+ghost use Rattle.spi_bench.specs.Parts.{part_named, with_part, without, nodes_in_parts, IsYes};
 ghost use Rattle.spi_bench.specs.Whole.{AreOver};
 
 use crate::NoMemory;
@@ -53,16 +53,16 @@ impl Model for Bench {
     ghost use Rattle.spi_term.specs.Codes.{coded_spelling, coded_types};
     ghost use Rattle.spi_term.specs.View.{ty};
     ghost use Rattle.spi_bench.specs.Parts.{Benched};
-    ghost use Rattle.spi_bench.specs.Slots.{IsBench, parts_of};
+    ghost use Rattle.spi_bench.specs.Slots.{IsJudgedBench, slot_parts};
     ghost use Rattle.spi_bench.specs.Sums.{shared_in};
 
     ghost Value = { Benched };
 
     ghost coded = { Prim.hlevel (codes, coded_spelling, coded_types) };
 
-    ghost view = { λ b. record { free = b.free; shared = map ty b.shared.items; parts = parts_of b.table.slots.items } };
+    ghost view = { λ b. record { free = b.free; shared = map ty b.shared.items; parts = slot_parts b.table.slots.items } };
 
-    ghost invariant = { λ b. IsBench b.judge b.free (map ty b.shared.items) b.fine b.table.sums.free
+    ghost invariant = { λ b. IsJudgedBench b.judge b.free (map ty b.shared.items) b.fine b.table.sums.free
         (shared_in b.table.sums) b.table.slots.items (get bytes_eq b.places) };
 }
 
@@ -98,7 +98,7 @@ impl Bench {
 
     /// How many nodes the parts have that are there.
     pub fn held(&self) -> u64
-        ensures { result ≡ nodes_in self.now.parts }
+        ensures { result ≡ nodes_in_parts self.now.parts }
     {
         self.table.nodes()
     }
@@ -120,8 +120,8 @@ impl Bench {
         steps: &mut Steps<L>,
     ) -> Result<Option<Process>, PutFault>
         requires names { part.names ≡ self.old.free + length self.old.shared }
-        requires nodes { nodes_in self.old.parts + process_size part.process ≤ 100_000 }
-        ensures before { IfOk result (λ r. r ≡ named name.now self.old.parts) }
+        requires nodes { nodes_in_parts self.old.parts + process_size part.process ≤ 100_000 }
+        ensures before { IfOk result (λ r. r ≡ part_named name.now self.old.parts) }
         ensures parts { OnOk result
             (self.new ≡ record self.old { parts = with_part name.now part self.old.parts }) }
         ensures unchanged { OnErr result (self.new ≡ self.old) }
@@ -149,7 +149,7 @@ impl Bench {
 
     /// The part of that name goes, and is given back. `None` where no part has that name.
     pub fn drop_part(&mut self, name: &Text) -> Option<Process>
-        ensures part { result ≡ named name.now self.old.parts }
+        ensures part { result ≡ part_named name.now self.old.parts }
         ensures parts { self.new ≡ record self.old { parts = without name.now self.old.parts } }
     {
         drop_from(&mut self.table, &mut self.places, name)

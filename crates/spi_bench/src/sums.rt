@@ -1,7 +1,7 @@
 // What is counted over the parts.
 ghost use Rattle.std.specs.Prelude.{◌≡◌, ◌↔◌, ◌+◌, ◌<◌, ◌≤◌, ◌^◌, ◌∷◌, ℕ, [], Option, length, IfOk, IsTrue};
 ghost use Rattle.spi_term.specs.View.{message, atom, effect};
-ghost use Rattle.spi_bench.specs.Sums.{shared_name, place_of, times_in, Measure, slot_in, at_place, counted, shared_in, IsSharedPlace, IsMeasure, AddsAtoms, AddsSlot, ArePaid};
+ghost use Rattle.spi_bench.specs.Sums.{shared_name, place_of_atom, times_in, Measure, slot_in, at_place, counted, shared_in, IsSharedPlace, IsMeasure, AddsAtoms, AddsSlot, ArePaid};
 
 use crate::NoMemory;
 use crate::slot::Slot;
@@ -56,7 +56,7 @@ fn shared_name_of(free: u32, shared: usize, m: &Msg) -> Option<usize>
 
 // Where the atom is counted: at the shared name that it checks, or with the others.
 fn place(free: u32, shared: usize, a: &Atom) -> Option<usize>
-    ensures { result ≡ place_of free shared (atom a.now) }
+    ensures { result ≡ place_of_atom free shared (atom a.now) }
 {
     match a {
         Atom::Check(m) => shared_name_of(free, shared, m),

@@ -10,8 +10,8 @@ use Rattle.spi_scope.specs.StandsFor.{Meant}
 use Rattle.spi_scope.specs.First.{IsClean, HasFirst}
 use Rattle.spi_scope.specs.Points.{in_order, file_points}
 use Rattle.spi_scope.proofs.Firsts.{never_both}
-use Rattle.spi_bench.specs.Parts.{Benched, IsYes, named}
-use Rattle.spi_bench.specs.Whole.{whole}
+use Rattle.spi_bench.specs.Parts.{Benched, IsYes, part_named}
+use Rattle.spi_bench.specs.Whole.{whole_process_of}
 use Rattle.spi_edits.specs.Edits.{Edit, Bench}
 use Rattle.spi_edits.specs.Grammar.{whole_bench, IsBench}
 use Rattle.spi_edits.proofs.OneBench.{one_spelled}
@@ -48,7 +48,7 @@ none_never (Some x) h e = cc
 edit_never : (b : Bench) (before : List Edit) (e : Edit) (r : Refusal) → EditStands b before e → IsEditRefused b before e r → ⊥
 edit_never b before e r h (wrong_part {p = p} {f = f} first) = clean_never b p f h.0 first
 edit_never b before e r h (too_large clean more) = omega (arith, h.1, more)
-edit_never b before e r h (unknown {w = w} none) = none_never (named w.word (parts_after b [] before)) h none
+edit_never b before e r h (unknown {w = w} none) = none_never (part_named w.word (parts_after b [] before)) h none
 
 -- an edit stands where all do
 stands_at : (b : Bench) (front before : List Edit) (e : Edit) (after : List Edit) → EditsStand b front (before ++ e ∷ after) → EditStands b (front ++ before) e
@@ -72,7 +72,7 @@ none_spelled lexing bytes number offset shown (inr (inr (c, is, h))) = λ b s. r
 
 -- ---- verdicts are those of `check`
 
-derivable_is : (q : Benched) (n : ℕ) (p : Process) → n ≡ q.free → p ≡ whole q.free q.shared (map (λ part. part.part.process) q.parts) → IsYes q ↔ Derivable (untrusted n) p []
+derivable_is : (q : Benched) (n : ℕ) (p : Process) → n ≡ q.free → p ≡ whole_process_of q.free q.shared (map (λ part. part.part.process) q.parts) → IsYes q ↔ Derivable (untrusted n) p []
 derivable_is q n p e f = rw (e, f) (λ y. y, λ y. y)
 
 checked : OneFile → (q : Benched) (others : List ℕ) (file : Meant) → SpellsFile others file → IsWholeOf q file → IsChecked q others

@@ -18,7 +18,7 @@ use Rattle.spi_scope.specs.declared.fault.ScopeFault.TheVariants.{FileTooLarge}
 use Rattle.spi_scope.specs.declared.file.File.{File}
 use Rattle.spi_scope.specs.Parts.{step_in}
 use Rattle.spi_scope.specs.Points.{Point, uses_name, uses_type, declares_name, declares_type, ends_message, ends_type, adds, starts_step, Points, none, one, ◌⨾◌, in_order, fault_at, added, decls_points, body_points, all_names, all_types}
-use Rattle.spi_scope.specs.First.{count, Clean, IsClean}
+use Rattle.spi_scope.specs.First.{count_points, Clean, IsClean}
 use Rattle.spi_scope.specs.Files.{meant}
 use Rattle.spi_scope.specs.StandsFor.{Meant, StandsFor, over_free, opponent_over, schedule_in}
 use Rattle.spi_scope.proofs.Counting.{weight, names_weigh}
@@ -79,17 +79,17 @@ point_few c (adds n s) few h = ⊎_elim large (λ small. small) (cases_lt 100000
         absurd (cc)
 point_few c (starts_step i n s) few h = omega (arith, few)
 
-front_few : (c : ℕ) (ps qs : List Point) → c ≤ 100000 → Clean c (ps ++ qs) → c + count ps ≤ 100000
+front_few : (c : ℕ) (ps qs : List Point) → c ≤ 100000 → Clean c (ps ++ qs) → c + count_points ps ≤ 100000
 front_few c [] qs few h = omega (arith, few)
 front_few c (p ∷ ps) qs few h =
     let rest = front_few (c + added p) ps qs (point_few c p few h.0) h.1 in
     omega (arith, rest)
 
-count_append : (ps qs : List Point) → count (ps ++ qs) ≡ count ps + count qs
+count_append : (ps qs : List Point) → count_points (ps ++ qs) ≡ count_points ps + count_points qs
 count_append [] qs = omega arith
 count_append (p ∷ ps) qs = omega (arith, count_append ps qs)
 
-weighs : (ps : Points) → count (in_order ps) ≡ weight ps
+weighs : (ps : Points) → count_points (in_order ps) ≡ weight ps
 weighs none = refl
 weighs (one p) = omega arith
 weighs (ps ⨾ qs) = omega (arith, count_append (in_order ps) (in_order qs), weighs ps, weighs qs)

@@ -2,7 +2,7 @@
 use Rattle.std.proofs.Common.{ℕ, ◌+◌, Bool, true, false, List, [], ◌∷◌, Option, Some, None, if◌then◌else◌}
 use Rattle.spi_tree.specs.declared.tree.SWord.{SWord}
 use Rattle.spi_tree.specs.Trees as t
-use Rattle.spi_tree.specs.Pieces.{Piece, ends, msg_pieces, msgs_pieces, atom_pieces, atoms_pieces, effect_pieces, ty_pieces, fields_pieces, last_pieces, Place, in_seq, at_level, below, beside, level_of, binder_pieces, proc_pieces, words_pieces, decl_pieces, decls_pieces, step_pieces, steps_pieces, written_pieces, deriv_pieces, derivs_pieces, opponent_pieces, schedule_pieces, derivation_pieces, file_pieces}
+use Rattle.spi_tree.specs.Pieces.{Piece, ends, msg_pieces, msgs_pieces, atom_pieces, atoms_pieces, effect_pieces, ty_pieces, fields_pieces, last_pieces, Place, in_seq, at_level, below, beside_place, level_of, binder_pieces, proc_pieces, words_pieces, decl_pieces, decls_pieces, step_pieces, steps_pieces, written_pieces, deriv_pieces, derivs_pieces, opponent_pieces, schedule_pieces, derivation_pieces, file_pieces}
 
 -- what holds of pieces, and then of them behind any other, holds of those of a part that stands before them
 module _ {P : List Piece → Type 0} (on : (a : Piece) (r : List Piece) → P r → P (a ∷ r)) where
@@ -84,7 +84,7 @@ module _ {P : List Piece → Type 0} (on : (a : Piece) (r : List Piece) → P r 
   past_proc at (t.cast s m w a p) r i = two (past_msg 1 m _ (one (past_binder w a _ (past_proc (below at) p _ (one i)))))
   past_proc at (t.new s w a p) r i = two (past_binder w a _ (past_proc (below at) p _ (one i)))
   past_proc at (t.stop s) r i = three i
-  past_proc at (t.group s p q) r i = two (past_proc (below at) p _ (one (past_proc (beside at) q _ (two i))))
+  past_proc at (t.group s p q) r i = two (past_proc (below at) p _ (one (past_proc (beside_place at) q _ (two i))))
 
   pub past_words : (ws : List SWord) (r : List Piece) → P r → P (words_pieces ws r)
   past_words [] r i = i

@@ -5,14 +5,14 @@ use Rattle.spi_text.specs.declared.lines.Span.{Span}
 use Rattle.spi_lex.proofs.Lexed.{lexed}
 use Rattle.spi_tree.specs.declared.tree.SWord.{SWord}
 use Rattle.spi_tree.specs.Trees as t
-use Rattle.spi_tree.specs.Pieces.{Piece, opens, msg_pieces, ty_pieces, Place, in_seq, at_level, below, beside, level_of, binder_pieces, proc_pieces, decls_pieces, steps_pieces, opponent_pieces, schedule_pieces, file_pieces}
+use Rattle.spi_tree.specs.Pieces.{Piece, opens, msg_pieces, ty_pieces, Place, in_seq, at_level, below, beside_place, level_of, binder_pieces, proc_pieces, decls_pieces, steps_pieces, opponent_pieces, schedule_pieces, file_pieces}
 use Rattle.spi_parse.specs.Formed.{whole_file}
 use Rattle.spi_term.specs.Lists.{In, in_first, in_later}
 use Rattle.spi_term.proofs.Lists.{in_cases, in_append}
 use Rattle.spi_scope.specs.Marks.{places}
 use Rattle.spi_scope.specs.Parts.{step_span}
 use Rattle.spi_scope.specs.Files.{opponent_places, step_places}
-use Rattle.spi_scope.specs.Places.{placed, place_in}
+use Rattle.spi_scope.specs.Places.{or_nowhere, place_in}
 use Rattle.spi_commands.specs.Spelled.{IsTreeOf}
 use Rattle.spi_commands.specs.NoLine.{place_at}
 use Rattle.spi_commands.specs.Beside.{opponent_at}
@@ -84,7 +84,7 @@ node_in at (t.cast u m w a p) s r i = at_first i (λ j. in_later (past_msg 1 m _
 node_in at (t.new u w a p) s r i = at_first i (λ j. in_later (past_binder w a _ (node_in (below at) p s _ j)))
 node_in at (t.stop u) s r i = at_first i none
 node_in at (t.group u p q) s r i =
-    at_first i (λ j. in_later (either (places p) (places q) j (λ k. node_in (below at) p s _ k) (λ k. past_proc (below at) p _ (in_later (node_in (beside at) q s _ k)))))
+    at_first i (λ j. in_later (either (places p) (places q) j (λ k. node_in (below at) p s _ k) (λ k. past_proc (below at) p _ (in_later (node_in (beside_place at) q s _ k)))))
 
 node_opens : (tree : t.File) (s : Span) → In s (places tree.process) → In (opens s.from) (file_pieces tree [])
 node_opens tree s i = in_later (past_version _ _ _ _ _ (past_decls tree.decls _ (in_later (node_in (at_level 0) tree.process s _ i))))
@@ -98,7 +98,7 @@ get_in (y ∷ xs) (suc i) x h = in_later (get_in xs i x h)
 pub opened_within : (bytes : List ℕ) (tree : t.File) → IsTreeOf bytes tree → (spans : List Span) → ((s : Span) → In s spans → In (opens s.from) (file_pieces tree [])) → (i : ℕ) → (place_in spans i).from ≤ length bytes
 opened_within bytes tree is spans all i = by (slice_get spans i) refl
   where
-    by : (o : Option Span) → slice_get spans i ≡ o → (placed o).from ≤ length bytes
+    by : (o : Option Span) → slice_get spans i ≡ o → (or_nowhere o).from ≤ length bytes
     by None h = omega arith
     by (Some s) h = opens_within (length bytes) 0 0 s.from (whole_file tree) is.tokens is.spelled (lexed bytes is.tokens is.lexed).1 (all s (get_in spans i s h))
 

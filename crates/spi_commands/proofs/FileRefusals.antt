@@ -14,7 +14,7 @@ use Rattle.spi_tree.specs.Trees as t
 use Rattle.spi_tree.specs.Pieces.{Piece as Part, opens, cell, closes, kinds_in}
 use Rattle.spi_parse.specs.Formed.{IsFile, whole_file}
 use Rattle.spi_parse.proofs.Counted.{few_tokens}
-use Rattle.spi_parse.specs.Exact.{Spells, IsWithin, Stops, IsSyntaxAt}
+use Rattle.spi_parse.specs.Exact.{Spells, IsWithin, ItemStops, IsSyntaxAt}
 use Rattle.spi_scope.specs.declared.fault.ScopeFault.{ScopeFault}
 use Rattle.spi_scope.specs.declared.fault.ScopeFault.TheVariants as scope
 use Rattle.spi_scope.specs.StandsFor.{Meant, StandsFor}
@@ -208,7 +208,7 @@ module _ {X : Type 0} (pieces : X → List Part) (IsFormed : X → Type 0) where
   not_at : (x : X) (ks : List Kind) (i : ℕ) → IsFormed x → kinds_in (pieces x) ≡ ks → IsSyntaxAt pieces IsFormed ks i → ⊥
   not_at x ks i formed e at = go at.rest (e ∙ at.split) at.stops
     where
-      go : (rest : List Kind) → kinds_in (pieces x) ≡ at.pre ++ rest → Stops pieces IsFormed at.pre rest → ⊥
+      go : (rest : List Kind) → kinds_in (pieces x) ≡ at.pre ++ rest → ItemStops pieces IsFormed at.pre rest → ⊥
       go [] f stops = stops x formed (f ∙ append-nil at.pre)
       go (k ∷ rest) f stops = stops x formed rest f
 

@@ -4,7 +4,7 @@ use Rattle.std.specs.Prelude.{OnOk}
 use Rattle.std.specs.Fmt.{decimal}
 use Rattle.std.specs.Io.KnownBytes.{Appends}
 use Rattle.std.proofs.lemmas.Grind.{common_steps}
-use Rattle.spi_io.specs.Causes.{TakesCount, TakesAll, PutsPrefix}
+use Rattle.spi_io.specs.Causes.{TakesCount, TakesAllBytes, PutsPrefix}
 use Rattle.spi_report.specs.declared.refusal.Refusal.{Refusal}
 use Rattle.spi_report.specs.Refused.{refused_text}
 use Rattle.spi_commands.specs.declared.text.Text.{Text}
@@ -24,11 +24,11 @@ taken_long (Some bytes) None t = absurd t.2
 taken_long (Some bytes) (Some rest) t = grind (arith, common_steps)
 
 -- the bytes that were left are those that were taken
-pub all_taken : (bytes : List ℕ) (new : Option (List ℕ)) (taken : List ℕ) → TakesAll (Some bytes) new taken → bytes ≡ taken
+pub all_taken : (bytes : List ℕ) (new : Option (List ℕ)) (taken : List ℕ) → TakesAllBytes (Some bytes) new taken → bytes ≡ taken
 all_taken bytes None taken all = absurd all.taken
 all_taken bytes (Some rest) taken all = all.taken ∙ ap (λ (r : List ℕ). taken ++ r) all.ended ∙ append-nil taken
 
-pub takes_all : (old new : Option (List ℕ)) (taken : List ℕ) → length taken ≤ limit → TakesAll old new taken → TakesInput old new
+pub takes_all : (old new : Option (List ℕ)) (taken : List ℕ) → length taken ≤ limit → TakesAllBytes old new taken → TakesInput old new
 takes_all None new taken few all = tt
 takes_all (Some bytes) new taken few all =
     let same : length bytes ≡ length taken = ap (λ (l : List ℕ). length l) (all_taken bytes new taken all) in
@@ -39,7 +39,7 @@ takes_long None new t = tt
 takes_long (Some bytes) new t = let long = taken_long (Some bytes) new t in (λ l. absurd (omega (arith, long, l)), λ l. t)
 
 -- the text of the bytes that were left
-pub text_taken : {E : Type 0} (old new : Option (List ℕ)) (taken : List ℕ) (result : Result Text E) → TakesAll old new taken → IfOk result (λ text. GivesText taken text) → IfOk result (λ text. IfSome old (λ bytes. GivesText bytes text))
+pub text_taken : {E : Type 0} (old new : Option (List ℕ)) (taken : List ℕ) (result : Result Text E) → TakesAllBytes old new taken → IfOk result (λ text. GivesText taken text) → IfOk result (λ text. IfSome old (λ bytes. GivesText bytes text))
 text_taken None new taken (Ok a) all is = tt
 text_taken (Some bytes) new taken (Ok a) all is = subst (λ (bs : List ℕ). GivesText bs a) (sym (all_taken bytes new taken all)) is
 text_taken old new taken (Err e) all is = tt

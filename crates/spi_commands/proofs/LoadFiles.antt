@@ -8,7 +8,7 @@ use Rattle.spi_gen.specs.Sessions.{AreBeside, one_session, two_halves, AreGroupe
 use Rattle.spi_scope.specs.Scope.{Names, Abbreviations}
 use Rattle.spi_scope.specs.Meaning.{process_over}
 use Rattle.spi_scope.specs.Points.{Points, ◌⨾◌, whole_type, part, message_head, messages_head, typed_head, new_head, tested_head, split_head, process_points, decls_points, opponent_points, schedule_points, derivation_points, file_points, all_names, all_types, in_order}
-use Rattle.spi_scope.specs.First.{count, IsClean}
+use Rattle.spi_scope.specs.First.{count_points, IsClean}
 use Rattle.spi_scope.specs.StandsFor.{Meant, StandsFor, over_free}
 use Rattle.spi_scope.specs.Gives.{run}
 use Rattle.spi_scope.proofs.Counting.{weight}
@@ -92,7 +92,7 @@ sessions_run {n} {tree} few is =
 pub sessions_clean : {n : ℕ} {tree : t.File} → n ≤ 500 → IsSessions n tree → IsClean tree
 sessions_clean {n} {tree} few is = (is_clean (file_points tree) (81 * n + 11) (sessions_run few is)).0
 
-pub sessions_count : {n : ℕ} {tree : t.File} → n ≤ 500 → IsSessions n tree → count (in_order (file_points tree)) ≡ 81 * n + 11
+pub sessions_count : {n : ℕ} {tree : t.File} → n ≤ 500 → IsSessions n tree → count_points (in_order (file_points tree)) ≡ 81 * n + 11
 sessions_count {n} {tree} few is = sym (is_clean (file_points tree) (81 * n + 11) (sessions_run few is)).1
 
 -- the process that it stands for

@@ -6,7 +6,7 @@ use Rattle.spi_lex.specs.Lexing.{Lexes, kinds_of}
 use Rattle.spi_lex.specs.Writing.{AreKinds}
 use Rattle.spi_lex.proofs.Lexed.{lexed}
 use Rattle.spi_tree.specs.Pieces.{kinds_in}
-use Rattle.spi_parse.specs.Exact.{Stops, IsSyntaxAt}
+use Rattle.spi_parse.specs.Exact.{ItemStops, IsSyntaxAt}
 use Rattle.spi_scope.specs.StandsFor.{Meant}
 use Rattle.spi_narrate.specs.Narrations as n
 use Rattle.spi_narrate.specs.Grammar.{whole_narration, IsNarration}
@@ -60,7 +60,7 @@ unlexed_never lexing {bytes} x is (name_too_long l h) = let e = lexing bytes _ _
 not_at : (x : n.Narration) (ks : List Kind) (i : ℕ) → IsNarration x → kinds_in (whole_narration x) ≡ ks → IsSyntaxAt whole_narration IsNarration ks i → ⊥
 not_at x ks i formed e at = go at.rest (e ∙ at.split) at.stops
   where
-    go : (rest : List Kind) → kinds_in (whole_narration x) ≡ at.pre ++ rest → Stops whole_narration IsNarration at.pre rest → ⊥
+    go : (rest : List Kind) → kinds_in (whole_narration x) ≡ at.pre ++ rest → ItemStops whole_narration IsNarration at.pre rest → ⊥
     go [] f stops = stops x formed (f ∙ append-nil at.pre)
     go (k ∷ rest) f stops = stops x formed rest f
 

@@ -7,7 +7,7 @@ use Rattle.spi_run.specs.Reduction.{Step, Event}
 use Rattle.spi_scope.specs.StandsFor.{Meant}
 use Rattle.spi_show.specs.Steps.{schedule_text}
 use Rattle.spi_play.specs.Way.{Seen}
-use Rattle.spi_play.specs.Play.{State, TurnOf, Plays, start}
+use Rattle.spi_play.specs.Play.{PlayState, TurnOf, Plays, start}
 use Rattle.spi_play.specs.declared.plays.PlayFault.{PlayFault}
 use Rattle.spi_play.specs.declared.plays.PlayFault.TheVariants.{NoMemory as OutOfMemory}
 use Rattle.spi_commands.specs.declared.status.Status.{Status}
@@ -30,10 +30,10 @@ same_some : {A : Type 0} {x y : A} {o : Option A} → o ≡ Some x → o ≡ Som
 same_some {x = x} {y = y} e f = let g : Some x ≡ Some y = sym e ∙ f in cc
 
 -- where they stand at their end
-abbrev end_of : {file : Meant} {most : ℕ} {only : Option ℕ} {before after : List Seen} {ss : List Step} {es : List Event} → IsPlayed file most only before after ss es → State
+abbrev end_of : {file : Meant} {most : ℕ} {only : Option ℕ} {before after : List Seen} {ss : List Step} {es : List Event} → IsPlayed file most only before after ss es → PlayState
 end_of {ss = ss} {es = es} p = record { course = record { pool = p.last; steps = ss; events = es }; seats = p.ends.stands.seats; next = p.ends.next }
 
-abbrev stop_of : {file : Meant} {most : ℕ} {only : Option ℕ} {before after : List Seen} {fault : PlayFault} → IsStopped file most only before after fault → State
+abbrev stop_of : {file : Meant} {most : ℕ} {only : Option ℕ} {before after : List Seen} {fault : PlayFault} → IsStopped file most only before after fault → PlayState
 stop_of p = record { course = record { pool = p.last; steps = p.stops.steps; events = p.stops.events }; seats = p.stops.stands.seats; next = p.stops.next }
 
 abbrev stops_at : {file : Meant} {most : ℕ} {only : Option ℕ} {before after : List Seen} {fault : PlayFault} → (s : IsStopped file most only before after fault) → PlayStopsAt only most (stop_of s) fault
@@ -51,7 +51,7 @@ stops_at s = record {
 
 module _ (file : Meant) (most : ℕ) (only : Option ℕ) (before : List Seen) where
   -- a play that starts beside another opponent of the file starts so
-  beside_same : (o u : Spelling) (ts : List TurnOf) (m : State) → HasOpponent file o → HasOpponent file u → Plays only most (start (replay_pool play_places file u) before only) ts m → Plays only most (start (replay_pool play_places file o) before only) ts m
+  beside_same : (o u : Spelling) (ts : List TurnOf) (m : PlayState) → HasOpponent file o → HasOpponent file u → Plays only most (start (replay_pool play_places file u) before only) ts m → Plays only most (start (replay_pool play_places file o) before only) ts m
   beside_same o u ts m a b plays = subst (λ (x : Spelling). Plays only most (start (replay_pool play_places file x) before only) ts m) (same_some b.0 a.0) plays
 
   same_steps : (after others : List Seen) (ss ts : List Step) (es fs : List Event) (a : IsPlayed file most only before others ss es) (b : IsPlayed file most only before after ts fs) → AskedTold before a.ends.stands.turns → ts ≡ ss

@@ -10,7 +10,7 @@ use Rattle.spi_replay.specs.Stepping.{Pooled, IsTaken}
 use Rattle.spi_play.specs.declared.player.Pick.{Pick}
 use Rattle.spi_play.specs.declared.player.Pick.TheVariants.{Take, Leave}
 use Rattle.spi_play.specs.Way.{Seen}
-use Rattle.spi_play.specs.Play.{Course, Seat, State, TurnOf, DoesReady, Does, Plays, start}
+use Rattle.spi_play.specs.Play.{Course, Seat, PlayState, TurnOf, DoesReady, DoesTurn, Plays, start}
 use Rattle.spi_spell.specs.Joined.{HasLowPlaces}
 use Rattle.spi_commands.specs.Replays.{ReplaysWithTalks, replays_none, replays_step}
 use Rattle.spi_commands.proofs.ScheduleSteps.{append_step}
@@ -62,19 +62,19 @@ went most k first old new less goes came =
       replays = subst₂ (λ (ss : List Step) (es : List Event). ReplaysWithTalks first ss es (came.talks ++ handed old.pool.configuration goes.step) new.pool) (sym goes.steps) (sym goes.events) (append_step came.replays goes.taken);
     }
 
-turned : (only : Option ℕ) (most place : ℕ) (first : Pooled) (pick : Pick) (old new : Course) (before after : List Seat) (next : Option ℕ) → length old.steps < most → Does only place pick old new before after next → PlayCame most first old → PlayCame most first new
+turned : (only : Option ℕ) (most place : ℕ) (first : Pooled) (pick : Pick) (old new : Course) (before after : List Seat) (next : Option ℕ) → length old.steps < most → DoesTurn only place pick old new before after next → PlayCame most first old → PlayCame most first new
 turned only most place first (Take k) old new before after next less does came = went most k first old new less does.0 came
 turned only most place first Leave old new before after next less does came = subst (λ (c : Course). PlayCame most first c) (sym does.0) came
 
-came_by : (only : Option ℕ) (most : ℕ) (first : Pooled) (turns : List TurnOf) (old new : State) → Plays only most old turns new → PlayCame most first old.course → PlayCame most first new.course
-came_by only most first [] old new plays came = subst (λ (s : State). PlayCame most first s.course) (sym plays) came
+came_by : (only : Option ℕ) (most : ℕ) (first : Pooled) (turns : List TurnOf) (old new : PlayState) → Plays only most old turns new → PlayCame most first old.course → PlayCame most first new.course
+came_by only most first [] old new plays came = subst (λ (s : PlayState). PlayCame most first s.course) (sym plays) came
 came_by only most first (turn ∷ turns) old new (mid, turns_so, plays) came =
     let few = came.few in
     let more = turns_so.goes_on.more in
     came_by only most first turns mid new plays (turned only most turns_so.place first turn.pick old.course mid.course turns_so.seats mid.seats mid.next (omega (arith, few, more)) turns_so.does came)
 
 -- the steps of a play replay with its events, where more places are allowed too
-pub play_replays : (only : Option ℕ) (most wide : ℕ) (first : Pooled) (players : List Seen) (turns : List TurnOf) (new : State) → length first.configuration.places ≤ first.most → first.most ≤ wide → wide ≤ 5000 → Plays only most (start first players only) turns new
+pub play_replays : (only : Option ℕ) (most wide : ℕ) (first : Pooled) (players : List Seen) (turns : List TurnOf) (new : PlayState) → length first.configuration.places ≤ first.most → first.most ≤ wide → wide ≤ 5000 → Plays only most (start first players only) turns new
     → (length new.course.steps ≤ most) × All HasLowPlaces new.course.steps
     × ((ms : List Message) × ReplaysWithTalks (widened wide first) new.course.steps new.course.events ms (widened wide new.course.pool))
 play_replays only most wide first players turns new few small low plays =

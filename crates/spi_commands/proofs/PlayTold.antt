@@ -16,7 +16,7 @@ use Rattle.spi_play.specs.declared.plays.Ended.{Ended}
 use Rattle.spi_play.specs.declared.plays.PlayFault.{PlayFault}
 use Rattle.spi_play.specs.declared.plays.PlayFault.TheVariants.{BadPick, RunMessageTooLarge, TooManyPlaces, NoMemory as OutOfMemory}
 use Rattle.spi_play.specs.Way.{Seen}
-use Rattle.spi_play.specs.Play.{Seat, State, Course, TurnOf, IsKth, CountsReady, Picks, DoesReady, Does, Turns, Plays, PlayGoesOn, EndsBy, most_reached, no_players, none_ready, seats_from, start}
+use Rattle.spi_play.specs.Play.{Seat, PlayState, Course, TurnOf, IsKth, CountsReady, Picks, DoesReady, DoesTurn, TakesTurn, Plays, PlayGoesOn, EndsBy, most_reached, no_players, none_ready, seats_from, start}
 use Rattle.spi_play.specs.Outcome.{IsPickRefused, AskedTell}
 use Rattle.spi_play.proofs.Same.{all_at, follows_tells, picks_same, turns_same}
 use Rattle.spi_play.proofs.Steps.{counts_once, kth_once}
@@ -46,19 +46,19 @@ seats_keep before i (x ∷ rest) agree =
 start_keeps : (before : List Seen) → All (KeepsTelling before) (seats_from 0 before)
 start_keeps before = seats_keep before 0 before (λ k. let e : 0 + k ≡ k = omega arith in ap (slice_get before) e)
 
-seats_after : (P : Seat → Type 0) (only : Option ℕ) (place : ℕ) (p : Pick) (old new : Course) (seats after : List Seat) (next : Option ℕ) → All P seats → Does only place p old new seats after next → All P after
+seats_after : (P : Seat → Type 0) (only : Option ℕ) (place : ℕ) (p : Pick) (old new : Course) (seats after : List Seat) (next : Option ℕ) → All P seats → DoesTurn only place p old new seats after next → All P after
 seats_after P only place (Take k) old new seats after next all does = subst (λ (s : List Seat). All P s) (sym does.1) all
 seats_after P only place Leave old new seats after next all does =
     subst (λ (s : List Seat). All P s) (sym does.1) (All-append P (take place seats) (drop (suc place) seats) (All-take P place seats all) (All-drop P (suc place) seats all))
 
-turn_keeps : (before : List Seen) (only : Option ℕ) (most : ℕ) (old : State) (t : TurnOf) (new : State) → All (KeepsTelling before) old.seats → Turns only most old t new → All (KeepsTelling before) new.seats
+turn_keeps : (before : List Seen) (only : Option ℕ) (most : ℕ) (old : PlayState) (t : TurnOf) (new : PlayState) → All (KeepsTelling before) old.seats → TakesTurn only most old t new → All (KeepsTelling before) new.seats
 turn_keeps before only most old t new all turn =
     let a = turn.asks in
     let tells : HasTold before a.seat.who → IsSome a.new.way = λ told. follows_tells a.seat.seen.way a.seat.seen.times t.ready t.pick a.new.way (all_at (KeepsTelling before) old.seats turn.place a.seat all a.was told) a.picks.way in
     let put : All (KeepsTelling before) turn.seats = subst (λ (s : List Seat). All (KeepsTelling before) s) (sym a.others) (All-set (KeepsTelling before) old.seats turn.place (record { who = a.seat.who; seen = a.new }) tells all) in
     seats_after (KeepsTelling before) only turn.place t.pick old.course new.course turn.seats new.seats new.next put turn.does
 
-turn_tells : (before : List Seen) (only : Option ℕ) (most : ℕ) (old : State) (t : TurnOf) (new : State) → All (KeepsTelling before) old.seats → (turn : Turns only most old t new) → HasTold before t.who → IsSome turn.asks.seat.seen.way
+turn_tells : (before : List Seen) (only : Option ℕ) (most : ℕ) (old : PlayState) (t : TurnOf) (new : PlayState) → All (KeepsTelling before) old.seats → (turn : TakesTurn only most old t new) → HasTold before t.who → IsSome turn.asks.seat.seen.way
 turn_tells before only most old t new all turn told =
     let a = turn.asks in
     all_at (KeepsTelling before) old.seats turn.place a.seat all a.was (subst (HasTold before) a.who told)
@@ -66,13 +66,13 @@ turn_tells before only most old t new all turn told =
 -- ---- where a play comes to its end
 
 -- no turn goes on from here, or none of a player that tells its way
-abbrev Halts : Option ℕ → ℕ → State → Type 0
-Halts only most s = (t : TurnOf) (new : State) → Turns only most s t new → ⊥
+abbrev Halts : Option ℕ → ℕ → PlayState → Type 0
+Halts only most s = (t : TurnOf) (new : PlayState) → TakesTurn only most s t new → ⊥
 
-abbrev HaltsTold : Option ℕ → ℕ → State → Type 0
-HaltsTold only most s = (t : TurnOf) (new : State) → (turn : Turns only most s t new) → IsSome turn.asks.seat.seen.way → ⊥
+abbrev HaltsTold : Option ℕ → ℕ → PlayState → Type 0
+HaltsTold only most s = (t : TurnOf) (new : PlayState) → (turn : TakesTurn only most s t new) → IsSome turn.asks.seat.seen.way → ⊥
 
-same_end : (before : List Seen) (only : Option ℕ) (most : ℕ) (s : State) (ts us : List TurnOf) (m n : State) → All (KeepsTelling before) s.seats → AskedTold before ts → Plays only most s ts m → Plays only most s us n → Halts only most m → HaltsTold only most n → m ≡ n
+same_end : (before : List Seen) (only : Option ℕ) (most : ℕ) (s : PlayState) (ts us : List TurnOf) (m n : PlayState) → All (KeepsTelling before) s.seats → AskedTold before ts → Plays only most s ts m → Plays only most s us n → Halts only most m → HaltsTold only most n → m ≡ n
 same_end before only most s [] [] m n all told first second halts stops = first ∙ sym second
 same_end before only most s [] (u ∷ us) m n all told first second halts stops = absurd (subst (Halts only most) first halts u second.0 second.1)
 same_end before only most s (t ∷ ts) [] m n all told first second halts stops =
@@ -80,7 +80,7 @@ same_end before only most s (t ∷ ts) [] m n all told first second halts stops 
 same_end before only most s (t ∷ ts) (u ∷ us) m n all told first second halts stops =
     let same : first.0 ≡ second.0 = turns_same only most s t u first.0 second.0 first.1 (turn_tells before only most s t first.0 all first.1 (told t in_first)) second.1 in
     same_end before only most first.0 ts us m n (turn_keeps before only most s t first.0 all first.1) (λ turn i. told turn (in_later i)) first.2
-    (subst (λ (x : State). Plays only most x us n) (sym same) second.2) halts stops
+    (subst (λ (x : PlayState). Plays only most x us n) (sym same) second.2) halts stops
 
 -- a play that has ended doesn't go on
 ended_once : {c : Configuration} {next : Option ℕ} {taken most place ready : ℕ} {e : Ended} → EndsBy c next taken most e → PlayGoesOn c next taken most place ready → ⊥
@@ -108,7 +108,7 @@ refused_never old new place ready k OutOfMemory some counts goes r = some refl
 -- ---- a pick that was refused
 
 -- a play stands here, and a pick is refused so
-pub record PlayStopsAt (only : Option ℕ) (most : ℕ) (s : State) (fault : PlayFault) : Type 0 where
+pub record PlayStopsAt (only : Option ℕ) (most : ℕ) (s : PlayState) (fault : PlayFault) : Type 0 where
   pub place : ℕ
   pub ready : ℕ
   pub picked : ℕ
@@ -120,7 +120,7 @@ pub record PlayStopsAt (only : Option ℕ) (most : ℕ) (s : State) (fault : Pla
   pub refused : IsPickRefused s.course.pool place ready picked fault
 
 -- who was asked is the one whose turn it would be
-asked_is : (only : Option ℕ) (most : ℕ) (s : State) (fault : PlayFault) (stop : PlayStopsAt only most s fault) (t : TurnOf) (new : State) → (turn : Turns only most s t new) → (turn.place ≡ stop.place) × (t.ready ≡ stop.ready) × (turn.asks.seat.seen ≡ stop.old)
+asked_is : (only : Option ℕ) (most : ℕ) (s : PlayState) (fault : PlayFault) (stop : PlayStopsAt only most s fault) (t : TurnOf) (new : PlayState) → (turn : TakesTurn only most s t new) → (turn.place ≡ stop.place) × (t.ready ≡ stop.ready) × (turn.asks.seat.seen ≡ stop.old)
 asked_is only most s fault stop t new turn =
     let f : Seat → Seen = λ seat. seat.seen in
     let e : Some turn.place ≡ Some stop.place = sym turn.goes_on.at ∙ stop.goes_on.at in
@@ -129,16 +129,16 @@ asked_is only most s fault stop t new turn =
     sym (ap (option_map f) turn.asks.was) ∙ sym (slice_get-map f s.seats turn.place) ∙ ap (slice_get (map f s.seats)) place ∙ stop.was in
     (place, counts_once turn.goes_on.counts stop.goes_on.counts, (let g = seen in cc))
 
-stuck : (only : Option ℕ) (most : ℕ) (s : State) (fault : PlayFault) (stop : PlayStopsAt only most s fault) → fault ≢ OutOfMemory → IsSome stop.old.way → Halts only most s
+stuck : (only : Option ℕ) (most : ℕ) (s : PlayState) (fault : PlayFault) (stop : PlayStopsAt only most s fault) → fault ≢ OutOfMemory → IsSome stop.old.way → Halts only most s
 stuck only most s fault stop some tells t new turn =
     let (place, ready, seen) = asked_is only most s fault stop t new turn in
     let a = turn.asks in
     let picks : Picks stop.old stop.ready t.pick a.new = subst (λ (r : ℕ). Picks stop.old r t.pick a.new) ready (subst (λ (x : Seen). Picks x t.ready t.pick a.new) seen a.picks) in
     let same : (t.pick ≡ Take stop.picked) × (a.new ≡ stop.new) = picks_same stop.old stop.ready t.pick (Take stop.picked) a.new stop.new tells picks stop.picks in
-    let does : Does only turn.place (Take stop.picked) s.course new.course turn.seats new.seats new.next = subst (λ (p : Pick). Does only turn.place p s.course new.course turn.seats new.seats new.next) same.0 turn.does in
+    let does : DoesTurn only turn.place (Take stop.picked) s.course new.course turn.seats new.seats new.next = subst (λ (p : Pick). DoesTurn only turn.place p s.course new.course turn.seats new.seats new.next) same.0 turn.does in
     refused_never s.course new.course stop.place stop.ready stop.picked fault some stop.goes_on.counts does.0 stop.refused
 
-stuck_told : (only : Option ℕ) (most : ℕ) (s : State) (fault : PlayFault) (stop : PlayStopsAt only most s fault) → fault ≢ OutOfMemory → HaltsTold only most s
+stuck_told : (only : Option ℕ) (most : ℕ) (s : PlayState) (fault : PlayFault) (stop : PlayStopsAt only most s fault) → fault ≢ OutOfMemory → HaltsTold only most s
 stuck_told only most s fault stop some t new turn tells =
     stuck only most s fault stop some (subst (λ (x : Seen). IsSome x.way) (asked_is only most s fault stop t new turn).2 tells) t new turn
 
@@ -182,7 +182,7 @@ one_fault pool place ready k (TooManyPlaces n) (RunMessageTooLarge m) counts som
     let small = many_small a.refuses in
     absurd (omega (arith, large, small))
 
-same_fault : (only : Option ℕ) (most : ℕ) (s : State) (f g : PlayFault) (a : PlayStopsAt only most s f) → PlayStopsAt only most s g → IsSome a.old.way → f ≢ OutOfMemory → g ≢ OutOfMemory → f ≡ g
+same_fault : (only : Option ℕ) (most : ℕ) (s : PlayState) (f g : PlayFault) (a : PlayStopsAt only most s f) → PlayStopsAt only most s g → IsSome a.old.way → f ≢ OutOfMemory → g ≢ OutOfMemory → f ≡ g
 same_fault only most s f g a b tells some other =
     let e : Some b.place ≡ Some a.place = sym b.goes_on.at ∙ a.goes_on.at in
     let place : b.place ≡ a.place = cc in
@@ -200,36 +200,36 @@ same_fault only most s f g a b tells some other =
 
 -- ---- two plays of a pool
 
-abbrev pub HasEnded : ℕ → State → Ended → Type 0
+abbrev pub HasEnded : ℕ → PlayState → Ended → Type 0
 HasEnded most s e = EndsBy s.course.pool.configuration s.next (length s.course.steps) most e
 
-module _ (before : List Seen) (only : Option ℕ) (most : ℕ) (pool : Pooled) (ts us : List TurnOf) (m n : State) (told : AskedTold before ts)
+module _ (before : List Seen) (only : Option ℕ) (most : ℕ) (pool : Pooled) (ts us : List TurnOf) (m n : PlayState) (told : AskedTold before ts)
     (first : Plays only most (start pool before only) ts m) (second : Plays only most (start pool before only) us n) where
   one_state : Halts only most m → HaltsTold only most n → m ≡ n
   one_state halts stops = same_end before only most (start pool before only) ts us m n (start_keeps before) told first second halts stops
 
   pub ended_both : (e f : Ended) → HasEnded most m e → HasEnded most n f → n.course.steps ≡ m.course.steps
   ended_both e f end other =
-      ap (λ (s : State). s.course.steps) (sym (one_state (λ t new turn. ended_once end turn.goes_on) (λ t new turn tells. ended_once other turn.goes_on)))
+      ap (λ (s : PlayState). s.course.steps) (sym (one_state (λ t new turn. ended_once end turn.goes_on) (λ t new turn tells. ended_once other turn.goes_on)))
 
   pub ended_stopped : (e : Ended) (fault : PlayFault) → HasEnded most m e → PlayStopsAt only most n fault → fault ≢ OutOfMemory → ⊥
   ended_stopped e fault end stop some =
       let same : m ≡ n = one_state (λ t new turn. ended_once end turn.goes_on) (stuck_told only most n fault stop some) in
-      ended_once (subst (λ (s : State). HasEnded most s e) same end) stop.goes_on
+      ended_once (subst (λ (s : PlayState). HasEnded most s e) same end) stop.goes_on
 
   pub stopped_ended : (fault : PlayFault) (f : Ended) (stop : PlayStopsAt only most m fault) → fault ≢ OutOfMemory → IsSome stop.old.way → HasEnded most n f → ⊥
   stopped_ended fault f stop some tells end =
       let same : m ≡ n = one_state (stuck only most m fault stop some tells) (λ t new turn told. ended_once end turn.goes_on) in
-      ended_once (subst (λ (s : State). HasEnded most s f) (sym same) end) stop.goes_on
+      ended_once (subst (λ (s : PlayState). HasEnded most s f) (sym same) end) stop.goes_on
 
   pub stopped_both : (f g : PlayFault) (stop : PlayStopsAt only most m f) → f ≢ OutOfMemory → g ≢ OutOfMemory → IsSome stop.old.way → PlayStopsAt only most n g → f ≡ g
   stopped_both f g stop some other tells that =
       let same : m ≡ n = one_state (stuck only most m f stop some tells) (stuck_told only most n g that other) in
-      same_fault only most m f g stop (subst (λ (s : State). PlayStopsAt only most s g) (sym same) that) tells some other
+      same_fault only most m f g stop (subst (λ (s : PlayState). PlayStopsAt only most s g) (sym same) that) tells some other
 
 -- ---- those that may be asked are told, and nobody else is asked
 
-abbrev IsOnly : ℕ → State → Type 0
+abbrev IsOnly : ℕ → PlayState → Type 0
 IsOnly only s = (place : ℕ) (seat : Seat) → s.next ≡ Some place → slice_get s.seats place ≡ Some seat → seat.who ≡ only
 
 seats_who : (i k : ℕ) (players : List Seen) (seat : Seat) → slice_get (seats_from i players) k ≡ Some seat → seat.who ≡ i + k
@@ -242,7 +242,7 @@ got_put [] i x y e = absurd (cc)
 got_put (z ∷ xs) zero x y e = refl
 got_put (z ∷ xs) (suc i) x y e = got_put xs i x y e
 
-only_after : (only place : ℕ) (p : Pick) (old new : Course) (seats after : List Seat) (next : Option ℕ) (seat : Seat) → slice_get seats place ≡ Some seat → seat.who ≡ only → Does (Some only) place p old new seats after next → (i : ℕ) (other : Seat) → next ≡ Some i → slice_get after i ≡ Some other → other.who ≡ only
+only_after : (only place : ℕ) (p : Pick) (old new : Course) (seats after : List Seat) (next : Option ℕ) (seat : Seat) → slice_get seats place ≡ Some seat → seat.who ≡ only → DoesTurn (Some only) place p old new seats after next → (i : ℕ) (other : Seat) → next ≡ Some i → slice_get after i ≡ Some other → other.who ≡ only
 only_after only place (Take k) old new seats after next seat was who does i other asks there =
     let e : Some place ≡ Some i = sym does.2 ∙ asks in
     let f : place ≡ i = cc in
@@ -251,7 +251,7 @@ only_after only place (Take k) old new seats after next seat was who does i othe
     ap (λ (s : Seat). s.who) h ∙ who
 only_after only place Leave old new seats after next seat was who does i other asks there = let e : None ≡ Some i = sym does.2 ∙ asks in absurd (cc)
 
-only_asked : (only most : ℕ) (s m : State) (ts : List TurnOf) → IsOnly only s → Plays (Some only) most s ts m → (turn : TurnOf) → In turn ts → turn.who ≡ only
+only_asked : (only most : ℕ) (s m : PlayState) (ts : List TurnOf) → IsOnly only s → Plays (Some only) most s ts m → (turn : TurnOf) → In turn ts → turn.who ≡ only
 only_asked only most s m [] is plays turn i = elim i [ ]
 only_asked only most s m (t ∷ ts) is plays turn in_first =
     let a = plays.1.asks in
@@ -271,7 +271,7 @@ all_told before who all = by (slice_get before who) refl
     by None e = tt
     by (Some x) e = all_at (λ player. IsSome player.way) before who x all e
 
-pub asked_told : (only : Option ℕ) (most : ℕ) (pool : Pooled) (before : List Seen) (ts : List TurnOf) (m : State) → AskedTell only before → Plays only most (start pool before only) ts m → AskedTold before ts
+pub asked_told : (only : Option ℕ) (most : ℕ) (pool : Pooled) (before : List Seen) (ts : List TurnOf) (m : PlayState) → AskedTell only before → Plays only most (start pool before only) ts m → AskedTold before ts
 asked_told None most pool before ts m all plays = λ turn i. all_told before turn.who all
 asked_told (Some only) most pool before ts m tells plays = λ turn i.
     let start_is : IsOnly only (start pool before (Some only)) = λ place seat e there.

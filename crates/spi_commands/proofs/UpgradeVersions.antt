@@ -16,7 +16,7 @@ use Rattle.spi_tree.specs.Formed.{IsMsg, AreMsgs, IsAtom, AreAtoms, IsWritten, I
 use Rattle.spi_parse.specs.Formed.{HasRules, HaveRules, IsFormedDerived}
 use Rattle.spi_parse.specs.Rules.{first_rules, later_rules, arity_by, arity_of}
 use Rattle.spi_rules.specs.declared.rule.Rule.{Rule}
-use Rattle.spi_rules.specs.Rule.{spelled, named}
+use Rattle.spi_rules.specs.Rule.{rule_spelled, named}
 use Rattle.spi_term.specs.Term.{Message, bound, name, unit, pair, in_left, in_right, enc, hash, Atom, ends, checks, many, Effect, Ty, un, unit_ty, pair_ty, sum_ty, key, nonce, Leaf, Sends, Stops, Prefix, Recvs, Serves, Splits, Selects, Decrypts, Checks, Begins, Ends, EndManys, Casts, Freshes, Fork, Branches, Pars, Process, leaf, prefix, fork}
 use Rattle.spi_spell.proofs.Printable.{HasVersion, MessageFits, AtomFits, EffectFits, PartsFit, TyFits, LeafFits, PrefixFits, ForkFits, ProcessFits}
 use Rattle.spi_commands.specs.Upgrading.{IsNewWord}
@@ -127,7 +127,7 @@ derivation_later (Some d) h = later_deriv d h
 -- a rule of version 1 has the same arity in version 2
 named_on : (rs more : List Rule) (w : List ℕ) (k : ℕ) → arity_by (named rs w) ≡ Some k → arity_by (named (rs ++ more) w) ≡ Some k
 named_on [] more w k e = absurd cc
-named_on (r ∷ rs) more w k e = by (bytes_eq (spelled r) w) e (named_on rs more w k)
+named_on (r ∷ rs) more w k e = by (bytes_eq (rule_spelled r) w) e (named_on rs more w k)
   where
     by : (b : Bool) → arity_by (cond b (Some r) (named rs w)) ≡ Some k → (arity_by (named rs w) ≡ Some k → arity_by (named (rs ++ more) w) ≡ Some k) → arity_by (cond b (Some r) (named (rs ++ more) w)) ≡ Some k
     by true h f = h

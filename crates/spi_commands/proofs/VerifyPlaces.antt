@@ -7,11 +7,11 @@ use Rattle.spi_lex.proofs.Lexed.{lexed}
 use Rattle.spi_tree.specs.Trees as t
 use Rattle.spi_tree.specs.Formed.{is_later}
 use Rattle.spi_tree.specs.Pieces.{Piece, opens, kinds_in, ends, deriv_pieces, derivs_pieces, derivation_pieces, file_pieces}
-use Rattle.spi_parse.specs.Formed.{IsFile, IsFormedDerived, HasRules, HaveRules, number_of, is_written, whole_file}
+use Rattle.spi_parse.specs.Formed.{IsFile, IsFormedDerived, HasRules, HaveRules, count_derivs, is_written, whole_file}
 use Rattle.spi_parse.specs.Rules.{rules_of, arity_by, arity_of, writes_effect}
 use Rattle.spi_rules.specs.declared.rule.Rule.{Rule}
 use Rattle.spi_rules.specs.declared.rule.Rule.TheVariants.{ProcSub}
-use Rattle.spi_rules.specs.Rule.{arity, spelled, named}
+use Rattle.spi_rules.specs.Rule.{arity, rule_spelled, named}
 use Rattle.spi_rules.specs.Derivations.{RuleUse}
 use Rattle.spi_rules.specs.Deriv.{IsUse, sub_use, other_use, AreTrees, no_tree, tree as a_tree, IsTree}
 use Rattle.spi_rules.proofs.Named.{named_spelled}
@@ -86,38 +86,38 @@ few_uses bytes tree us is e =
     omega (arith, some, each, most, is.within)
 
 -- the rule of a word, in a formed derivation
-rule_of : (later : Bool) (w : List ℕ) (n : ℕ) → arity_of later w ≡ Some n → (r : Rule) × (spelled r ≡ w) × (arity r ≡ n)
+rule_of : (later : Bool) (w : List ℕ) (n : ℕ) → arity_of later w ≡ Some n → (r : Rule) × (rule_spelled r ≡ w) × (arity r ≡ n)
 rule_of later w n e = by (named (rules_of later) w) refl e
   where
-    by : (o : Option Rule) → named (rules_of later) w ≡ o → arity_by o ≡ Some n → (r : Rule) × (spelled r ≡ w) × (arity r ≡ n)
+    by : (o : Option Rule) → named (rules_of later) w ≡ o → arity_by o ≡ Some n → (r : Rule) × (rule_spelled r ≡ w) × (arity r ≡ n)
     by None f g = absurd (cc)
     by (Some r) f g = (r, named_spelled (rules_of later) w r f, (let same : Some (arity r) ≡ Some n = g in cc))
 
 is_sub : (w : List ℕ) → writes_effect w ≡ true → ProcSub ≡ rule_named w
-is_sub w h = rule_found ProcSub w ((bytes_eq-Decides (spelled ProcSub) w).0 h)
+is_sub w h = rule_found ProcSub w ((bytes_eq-Decides (rule_spelled ProcSub) w).0 h)
 
-isnt_sub : (w : List ℕ) (r : Rule) → spelled r ≡ w → writes_effect w ≡ false → rule_named w ≢ ProcSub
+isnt_sub : (w : List ℕ) (r : Rule) → rule_spelled r ≡ w → writes_effect w ≡ false → rule_named w ≢ ProcSub
 isnt_sub w r s h e =
     let named : r ≡ ProcSub = rule_found r w s ∙ e in
-    let yes' : writes_effect w ≡ true = (bytes_eq-Decides (spelled ProcSub) w).1 (sym (ap spelled named) ∙ s) in
+    let yes' : writes_effect w ≡ true = (bytes_eq-Decides (rule_spelled ProcSub) w).1 (sym (ap rule_spelled named) ∙ s) in
     absurd (cc)
 
-use_of : (w : List ℕ) (r : Rule) (es : Option (List t.Atom)) → spelled r ≡ w → writes_effect w ≡ is_written es → IsUse (record { rule = rule_named w; taken = numbered_effect es })
+use_of : (w : List ℕ) (r : Rule) (es : Option (List t.Atom)) → rule_spelled r ≡ w → writes_effect w ≡ is_written es → IsUse (record { rule = rule_named w; taken = numbered_effect es })
 use_of w r None s h = other_use (rule_named w) (isnt_sub w r s h)
 use_of w r (Some es) s h = subst (λ (q : Rule). IsUse (record { rule = q; taken = numbered_effect (Some es) })) (is_sub w h) (sub_use _)
 
 mutual
   tree_of : (later : Bool) (d : t.Deriv) (n : ℕ) (us : List RuleUse) → HasRules later d → AreTrees n us → AreTrees (suc n) (uses_in d ++ us)
   tree_of later (t.rule s w es ds) n us h ts =
-      let (r, spells, own) = rule_of later w.word (number_of ds) h.0 in
-      let count : number_of ds ≡ arity (rule_named w.word) = sym own ∙ ap arity (rule_found r w.word spells) in
+      let (r, spells, own) = rule_of later w.word (count_derivs ds) h.0 in
+      let count : count_derivs ds ≡ arity (rule_named w.word) = sym own ∙ ap arity (rule_found r w.word spells) in
       a_tree (use_of w.word r es spells h.1) (subst (λ (k : ℕ). AreTrees (k + n) (all_uses_in ds ++ us)) count (trees_of later ds n us h.2 ts))
 
-  trees_of : (later : Bool) (ds : t.Derivs) (n : ℕ) (us : List RuleUse) → HaveRules later ds → AreTrees n us → AreTrees (number_of ds + n) (all_uses_in ds ++ us)
+  trees_of : (later : Bool) (ds : t.Derivs) (n : ℕ) (us : List RuleUse) → HaveRules later ds → AreTrees n us → AreTrees (count_derivs ds + n) (all_uses_in ds ++ us)
   trees_of later t.no_derivs n us h ts = subst (λ (k : ℕ). AreTrees k us) (let e : n ≡ 0 + n = omega arith in e) ts
   trees_of later (t.more_derivs d ds) n us h ts =
-      let same : suc (number_of ds + n) ≡ suc (number_of ds) + n = omega arith in
-      subst (λ (k : ℕ). AreTrees k ((uses_in d ++ all_uses_in ds) ++ us)) same (subst (λ (l : List RuleUse). AreTrees (suc (number_of ds + n)) l) (sym (append_assoc (uses_in d) (all_uses_in ds) us)) (tree_of later d (number_of ds + n) (all_uses_in ds ++ us) h.0 (trees_of later ds n us h.1 ts)))
+      let same : suc (count_derivs ds + n) ≡ suc (count_derivs ds) + n = omega arith in
+      subst (λ (k : ℕ). AreTrees k ((uses_in d ++ all_uses_in ds) ++ us)) same (subst (λ (l : List RuleUse). AreTrees (suc (count_derivs ds + n)) l) (sym (append_assoc (uses_in d) (all_uses_in ds) us)) (tree_of later d (count_derivs ds + n) (all_uses_in ds ++ us) h.0 (trees_of later ds n us h.1 ts)))
 
 pub one_derivation : (tree : t.File) (us : List RuleUse) → IsFile tree → derivation_in tree.derivation ≡ Some us → IsTree us
 one_derivation tree us is e = by tree.derivation is.rules e

@@ -9,7 +9,7 @@ use Rattle.spi_lex.specs.Lexing.{Lexes}
 use Rattle.spi_scope.specs.StandsFor.{Meant}
 use Rattle.spi_scope.specs.FaultPlaces.{span_from}
 use Rattle.spi_bench.specs.Parts.{Benched, IsYes}
-use Rattle.spi_bench.specs.Whole.{whole}
+use Rattle.spi_bench.specs.Whole.{whole_process_of}
 use Rattle.spi_edits.specs.Edits.{Edit, Bench}
 use Rattle.spi_edits.specs.Grammar.{whole_bench, IsBench}
 use Rattle.spi_edits.specs.Reads.{IsBenchSpelled}
@@ -126,7 +126,7 @@ SpellsNoBench bytes = (b : Bench) → ¬ SpellsBench bytes b
 abbrev pub IsWholeOf : Benched → Meant → Type 0
 IsWholeOf q file =
     (file.process.names ≡ q.free)
-    × (file.process.process ≡ whole q.free q.shared (map (λ part. part.part.process) q.parts))
+    × (file.process.process ≡ whole_process_of q.free q.shared (map (λ part. part.part.process) q.parts))
 
 -- `check` says the same of a file with this process
 pub record IsChecked (q : Benched) (bytes : List ℕ) : Type 0 where

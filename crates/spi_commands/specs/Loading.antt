@@ -6,7 +6,7 @@ use Rattle.spi_tree.specs.Trees.{File}
 use Rattle.spi_gen.specs.Sessions.{IsSessions}
 use Rattle.spi_rules.specs.Derivations.{RuleUse}
 use Rattle.spi_scope.specs.Points.{in_order, file_points}
-use Rattle.spi_scope.specs.First.{count}
+use Rattle.spi_scope.specs.First.{count_points}
 use Rattle.spi_scope.specs.StandsFor.{Meant, StandsFor}
 use Rattle.spi_deriv.specs.Canonical.{Canonical}
 use Rattle.spi_report.specs.Loaded.{loaded_text}
@@ -20,7 +20,7 @@ abbrev pub IsLoaded : ℕ → List ℕ → Type 0
 IsLoaded k output =
     (tree : File) × (file : Meant) × (d : List RuleUse) × IsSessions k tree × StandsFor tree file
     × Canonical d file.process.names file.process.process
-    × (output ≡ loaded_text k (count (in_order (file_points tree))) (length d))
+    × (output ≡ loaded_text k (count_points (in_order (file_points tree))) (length d))
     × (output ≡ loaded_text k (81 * k + 11) (31 * k - 1))
 
 -- always yes

@@ -16,7 +16,7 @@ use Rattle.spi_narrate.specs.Grammar.{whole_narration, IsNarration}
 use Rattle.spi_narrate.specs.Faults.{items_of, IsFirstFault, IsFaultless}
 use Rattle.spi_narrate.specs.Reads.{IsNarrationSpelled}
 use Rattle.spi_narrate.specs.declared.fault.NarrateFault.TheVariants as faults
-use Rattle.spi_honest.specs.Narrated.{Told, NarratesSmall, free_of, begins}
+use Rattle.spi_honest.specs.Narrated.{Told, NarratesSmall, free_of, narrated_begin}
 use Rattle.spi_narrator.specs.declared.answer.Refusal.{Refusal}
 use Rattle.spi_narrator.specs.declared.answer.Refusal.TheVariants.{NotFree, Scope, NotReady, TooLarge}
 use Rattle.spi_narrator.specs.Answers.{IsTold, RefusesNarration as RefusesTelling}
@@ -122,7 +122,7 @@ SpellsLongTelling bytes =
 pub record RunsAsTold (x : Narration) (told : Meant) (output : List ℕ) : Type 0 where
   pub events : List Event
   pub end : Told
-  pub narrates : NarratesSmall (free_of x) (begins x) x.lines events end
+  pub narrates : NarratesSmall (free_of x) (narrated_begin x) x.lines events end
   pub run : RunsThrough told events
   pub stops : (i : ℕ) (p : Process) → At run.last.configuration.places i p → p ≡ stop
   pub replays : (status : Status) (text : List ℕ) → ReplaysTo output status text

@@ -11,24 +11,24 @@ use Rattle.spi_intern.specs.declared.messages.MsgId.{MsgId}
 use Rattle.spi_intern.specs.declared.messages.MsgPart.TheVariants as P
 use Rattle.spi_intern.specs.Messages.{Says, says_pair, says_left, says_right, says_enc, says_hash, or_unit, message_at}
 use Rattle.spi_count.specs.Counts.{count_of, IsNothing}
-use Rattle.spi_count.specs.Sums.{name_bound, key_of, kind_of, message_of, part, Puts}
+use Rattle.spi_count.specs.Sums.{name_bound, key_of, kind_of_atom, message_of, part, Puts}
 use Rattle.spi_count.specs.declared.sum.AtomKind.{AtomKind}
 use Rattle.spi_count.specs.declared.sum.AtomKind.TheVariants.{End, Check, Many}
 use Rattle.spi_count.specs.declared.sum.Sum.{Sum}
 use Rattle.spi_count.proofs.Standing.{put_at, same_kind}
 use Rattle.spi_count.specs.declared.keys.Keys.{Keys}
 use Rattle.spi_count.specs.Keeping.{with_keys, IsKeyed, HasKey, HaveKeys}
-use Rattle.spi_count.specs.Adding.{SumOf, IsKey, atom_of}
+use Rattle.spi_count.specs.Adding.{SumOf, IsKey, atom_of_kind}
 use Rattle.indexmap.specs.IndexMap.{get}
 use Rattle.spi_count.proofs.Summed.{numbers, place_is}
 use Rattle.spi_intern.proofs.Lists.{get_below, some_one}
 
-abbrev pub held : Sum → Atom → ℕ → ℕ
-held s a i = count_of (part (kind_of a) s) (key_of (name_bound (message_of a)) i)
+abbrev pub held_in_sum : Sum → Atom → ℕ → ℕ
+held_in_sum s a i = count_of (part (kind_of_atom a) s) (key_of (name_bound (message_of a)) i)
 
 -- the atoms of a sum that aren't left stand in the effect
-pub record IsRead (s : Store) (keys : Keys) (sum rest : Sum) (es : Effect) : Type 0 where
-  pub counts : (a : Atom) (i : ℕ) → with_keys s keys i (message_of a) → count a es + held rest a i ≡ held sum a i
+pub record IsSumRead (s : Store) (keys : Keys) (sum rest : Sum) (es : Effect) : Type 0 where
+  pub counts : (a : Atom) (i : ℕ) → with_keys s keys i (message_of a) → count a es + held_in_sum rest a i ≡ held_in_sum sum a i
   pub known : HaveKeys s keys es
   pub inside : (kind : AtomKind) (q : ℕ) → 0 < count_of (part kind rest) q → 0 < count_of (part kind sum) q
 
@@ -37,8 +37,8 @@ zero_count (ends m) = refl
 zero_count (checks m) = refl
 zero_count (many m) = omega arith
 
-pub read_none : (s : Store) (keys : Keys) (sum : Sum) (es : Effect) → es ≡ [] → IsRead s keys sum sum es
-read_none s keys sum es e = subst (IsRead s keys sum sum) (sym e) (record {
+pub read_none : (s : Store) (keys : Keys) (sum : Sum) (es : Effect) → es ≡ [] → IsSumRead s keys sum sum es
+read_none s keys sum es e = subst (IsSumRead s keys sum sum) (sym e) (record {
   counts = λ a i g. let z = zero_count a in omega (arith, z);
   known = λ a n. elim n [ ];
   inside = λ kind q p. p;
@@ -60,29 +60,29 @@ cut_more (checks m) x n y es e f = e
 cut_more (many m) x n y es e f = let l : y ≤ 1 = omega (arith, f) in omega (arith, e, l)
 
 -- the key of what is taken out
-pub key_at : (s : Store) (keys : Keys) (sum rest : Sum) (es gs : Effect) → SumOf s keys sum es → IsRead s keys sum rest gs → (kind : AtomKind) (q n : ℕ) → 0 < n → count_of (part kind rest) q ≡ n → IsKey s keys q
+pub key_at : (s : Store) (keys : Keys) (sum rest : Sum) (es gs : Effect) → SumOf s keys sum es → IsSumRead s keys sum rest gs → (kind : AtomKind) (q n : ℕ) → 0 < n → count_of (part kind rest) q ≡ n → IsKey s keys q
 key_at s keys sum rest es gs t r kind q n p e = t.kept kind q (r.inside kind q (subst (λ n. 0 < n) (sym e) p))
 
-module _ (s : Store) (keys : Keys) (k : IsKeyed s keys) (sum old new : Sum) (es gs : Effect) (t : SumOf s keys sum es) (r : IsRead s keys sum old gs) (i n : ℕ) (b : Atom) (w : with_keys s keys i (message_of b)) (p : 0 < n)
-    (e : held old b i ≡ n) (put : Puts (kind_of b) old new (key_of (name_bound (message_of b)) i) 0) where
+module _ (s : Store) (keys : Keys) (k : IsKeyed s keys) (sum old new : Sum) (es gs : Effect) (t : SumOf s keys sum es) (r : IsSumRead s keys sum old gs) (i n : ℕ) (b : Atom) (w : with_keys s keys i (message_of b)) (p : 0 < n)
+    (e : held_in_sum old b i ≡ n) (put : Puts (kind_of_atom b) old new (key_of (name_bound (message_of b)) i) 0) where
   after : Effect
   after = gs ++ replicate n b
 
-  counts_after : (a : Atom) (j : ℕ) → with_keys s keys j (message_of a) → count a (gs ++ replicate n b) + held new a j ≡ held sum a j
+  counts_after : (a : Atom) (j : ℕ) → with_keys s keys j (message_of a) → count a (gs ++ replicate n b) + held_in_sum new a j ≡ held_in_sum sum a j
   counts_after a j g = go (same_atom a b) refl (put_at (with_keys s keys) (numbers k) b i 0 w put a j g) (tally_append a gs (replicate n b))
     where
-      go : (v : Bool) → same_atom a b ≡ v → held new a j ≡ (if same_atom a b then 0 else held old a j) → tally a (gs ++ replicate n b) ≡ tally a gs + tally a (replicate n b) → count a (gs ++ replicate n b) + held new a j ≡ held sum a j
+      go : (v : Bool) → same_atom a b ≡ v → held_in_sum new a j ≡ (if same_atom a b then 0 else held_in_sum old a j) → tally a (gs ++ replicate n b) ≡ tally a gs + tally a (replicate n b) → count a (gs ++ replicate n b) + held_in_sum new a j ≡ held_in_sum sum a j
       go true v x y =
-          let z : held new a j ≡ 0 = x ∙ ap (λ v. if v then 0 else held old a j) v in
+          let z : held_in_sum new a j ≡ 0 = x ∙ ap (λ v. if v then 0 else held_in_sum old a j) v in
           let ab = same_atom_true a b v in
           let ji : j ≡ i = place_is k (subst (λ (c : Atom). slice_get s.messages j ≡ Some (message_of c)) ab g.at) w.at in
-          let was : held old a j ≡ n = ap (λ c. held old c j) ab ∙ ap (held old b) ji ∙ e in
+          let was : held_in_sum old a j ≡ n = ap (λ c. held_in_sum old c j) ab ∙ ap (held_in_sum old b) ji ∙ e in
           let c = r.counts a j g in
-          let d = cut_more a (tally a gs) n (held sum a j) es (let f : cut a (tally a gs) + n ≡ held sum a j = ap (λ n. count a gs + n) (sym was) ∙ c in f) (t.counted a j g) in
+          let d = cut_more a (tally a gs) n (held_in_sum sum a j) es (let f : cut a (tally a gs) + n ≡ held_in_sum sum a j = ap (λ n. count a gs + n) (sym was) ∙ c in f) (t.counted a j g) in
           let u = ap (cut a) (y ∙ ap (λ m. tally a gs + m) (tally_same a b true v n)) in
           omega (arith, u, d, z)
       go false v x y =
-          let z : held new a j ≡ held old a j = x ∙ ap (λ v. if v then 0 else held old a j) v in
+          let z : held_in_sum new a j ≡ held_in_sum old a j = x ∙ ap (λ v. if v then 0 else held_in_sum old a j) v in
           let u = ap (cut a) (y ∙ ap (λ m. tally a gs + m) (tally_same a b false v n) ∙ (let f : tally a gs + 0 ≡ tally a gs = omega arith in f)) in
           let c = r.counts a j g in
           omega (arith, u, z, c)
@@ -97,40 +97,40 @@ module _ (s : Store) (keys : Keys) (k : IsKeyed s keys) (sum old new : Sum) (es 
           r.known a (tally_in a gs (omega (arith, y, l, z)))
 
   inside_after : (kind : AtomKind) (q : ℕ) → 0 < count_of (part kind new) q → 0 < count_of (part kind sum) q
-  inside_after kind q l = ⊎_elim (λ d. r.inside kind q (same d)) (λ d. r.inside kind q (subst (λ (m : _). 0 < count_of m q) (put.others kind d) l)) (same_kind kind (kind_of b))
+  inside_after kind q l = ⊎_elim (λ d. r.inside kind q (same d)) (λ d. r.inside kind q (subst (λ (m : _). 0 < count_of m q) (put.others kind d) l)) (same_kind kind (kind_of_atom b))
     where
-      cases : (v : Bool) → 0 < (if v then 0 else count_of (part (kind_of b) old) q) → 0 < count_of (part (kind_of b) old) q
+      cases : (v : Bool) → 0 < (if v then 0 else count_of (part (kind_of_atom b) old) q) → 0 < count_of (part (kind_of_atom b) old) q
       cases true l = absurd (omega arith)
       cases false l = l
 
-      same : kind ≡ kind_of b → 0 < count_of (part kind old) q
+      same : kind ≡ kind_of_atom b → 0 < count_of (part kind old) q
       same d =
-          let m : 0 < count_of (part (kind_of b) new) q = subst (λ kind. 0 < count_of (part kind new) q) d l in
+          let m : 0 < count_of (part (kind_of_atom b) new) q = subst (λ kind. 0 < count_of (part kind new) q) d l in
           subst (λ kind. 0 < count_of (part kind old) q) (sym d) (cases _ (subst (λ n. 0 < n) (put.here q) m))
 
-  pub read_more : IsRead s keys sum new (gs ++ replicate n b)
+  pub read_more : IsSumRead s keys sum new (gs ++ replicate n b)
   read_more = record { counts = counts_after; known = known_after; inside = inside_after }
 
-pub read_next : (s : Store) (keys : Keys) (k : IsKeyed s keys) (sum old new : Sum) (es gs hs : Effect) (t : SumOf s keys sum es) (r : IsRead s keys sum old gs) (kind : AtomKind) (q n : ℕ)
+pub read_next : (s : Store) (keys : Keys) (k : IsKeyed s keys) (sum old new : Sum) (es gs hs : Effect) (t : SumOf s keys sum es) (r : IsSumRead s keys sum old gs) (kind : AtomKind) (q n : ℕ)
     → 0 < n → count_of (part kind old) q ≡ n → Puts kind old new q 0
-    → ((i : ℕ) (m : Message) → with_keys s keys i m → q ≡ key_of (name_bound m) i → hs ≡ gs ++ replicate n (atom_of kind m)) → IsRead s keys sum new hs
+    → ((i : ℕ) (m : Message) → with_keys s keys i m → q ≡ key_of (name_bound m) i → hs ≡ gs ++ replicate n (atom_of_kind kind m)) → IsSumRead s keys sum new hs
 read_next s keys k sum old new es gs hs t r kind q n p e put h =
     let (i, m, w, f) = key_at s keys sum old es gs t r kind q n p e in
-    subst (IsRead s keys sum new) (sym (h i m w f)) (go kind i m w f e put)
+    subst (IsSumRead s keys sum new) (sym (h i m w f)) (go kind i m w f e put)
   where
-    go : (kind : AtomKind) (i : ℕ) (m : Message) → with_keys s keys i m → q ≡ key_of (name_bound m) i → count_of (part kind old) q ≡ n → Puts kind old new q 0 → IsRead s keys sum new (gs ++ replicate n (atom_of kind m))
+    go : (kind : AtomKind) (i : ℕ) (m : Message) → with_keys s keys i m → q ≡ key_of (name_bound m) i → count_of (part kind old) q ≡ n → Puts kind old new q 0 → IsSumRead s keys sum new (gs ++ replicate n (atom_of_kind kind m))
     go End i m w f e put = read_more s keys k sum old new es gs t r i n (ends m) w p (ap (count_of (part End old)) (sym f) ∙ e) (subst (λ q. Puts End old new q 0) f put)
     go Check i m w f e put = read_more s keys k sum old new es gs t r i n (checks m) w p (ap (count_of (part Check old)) (sym f) ∙ e) (subst (λ q. Puts Check old new q 0) f put)
     go Many i m w f e put = read_more s keys k sum old new es gs t r i n (many m) w p (ap (count_of (part Many old)) (sym f) ∙ e) (subst (λ q. Puts Many old new q 0) f put)
 
-pub read_all : (s : Store) (keys : Keys) (sum rest : Sum) (es gs : Effect) → SumOf s keys sum es → IsRead s keys sum rest gs → ((kind : AtomKind) → IsNothing (part kind rest)) → SameEffect gs es
+pub read_all : (s : Store) (keys : Keys) (sum rest : Sum) (es gs : Effect) → SumOf s keys sum es → IsSumRead s keys sum rest gs → ((kind : AtomKind) → IsNothing (part kind rest)) → SameEffect gs es
 read_all s keys sum rest es gs t r z = record { at = λ a. go a (count a gs) refl (count a es) refl }
   where
     keyed : (a : Atom) → HasKey s keys (message_of a) → count a gs ≡ count a es
     keyed a h =
         let c = r.counts a h.0 h.1 in
         let d = t.counted a h.0 h.1 in
-        let y = z (kind_of a) (key_of (name_bound (message_of a)) h.0) in
+        let y = z (kind_of_atom a) (key_of (name_bound (message_of a)) h.0) in
         omega (arith, c, d, y)
 
     go : (a : Atom) (x : ℕ) → count a gs ≡ x → (y : ℕ) → count a es ≡ y → count a gs ≡ count a es

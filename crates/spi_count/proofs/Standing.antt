@@ -11,13 +11,13 @@ use Rattle.spi_effect.specs.Made.{are_many, minus, greater, is_free, is_free_at,
 use Rattle.spi_effect.proofs.Laws.{AllMany_in, AllMany_of}
 use Rattle.spi_effect.proofs.Made.{minus_difference, greater_is, are_many_sound, are_many_complete, both_false}
 use Rattle.spi_count.specs.Counts.{count_of, IsNothing}
-use Rattle.spi_count.specs.Sums.{name_bound, key_of, kind_of, message_of, part, one_more, both_counts, Puts, StandsForEffect, AreNumbers, Below}
+use Rattle.spi_count.specs.Sums.{name_bound, key_of, kind_of_atom, message_of, part, one_more, both_counts, Puts, StandsForEffect, AreNumbers, Below}
 use Rattle.spi_count.specs.declared.sum.AtomKind.{AtomKind}
 use Rattle.spi_count.specs.declared.sum.AtomKind.TheVariants.{End, Check, Many}
 use Rattle.spi_count.specs.declared.sum.Sum.{Sum}
 
 -- atoms of one kind with one message are one
-pub same_parts : (a b : Atom) → kind_of a ≡ kind_of b → message_of a ≡ message_of b → a ≡ b
+pub same_parts : (a b : Atom) → kind_of_atom a ≡ kind_of_atom b → message_of a ≡ message_of b → a ≡ b
 same_parts (ends m) (ends n) k e = ap ends e
 same_parts (ends m) (checks n) k e = cc
 same_parts (ends m) (many n) k e = cc
@@ -47,11 +47,11 @@ same_place above over i j h k e = omega (arith, h, k, e)
 module _ (At : ℕ → Message → Type 0) (numbers : AreNumbers At) where
   -- the count of an atom
   abbrev pub held : Sum → Atom → ℕ → ℕ
-  held s a i = count_of (part (kind_of a) s) (key_of (name_bound (message_of a)) i)
+  held s a i = count_of (part (kind_of_atom a) s) (key_of (name_bound (message_of a)) i)
 
   -- after one count is put, the others are as before
   pub put_at : {old new : Sum} (b : Atom) (j n : ℕ) → At j (message_of b)
-      → Puts (kind_of b) old new (key_of (name_bound (message_of b)) j) n
+      → Puts (kind_of_atom b) old new (key_of (name_bound (message_of b)) j) n
       → (a : Atom) (i : ℕ) → At i (message_of a)
       → held new a i ≡ (if same_atom a b then n else held old a i)
   put_at {old} {new} b j n gb p a i g = go (same_atom a b) refl
@@ -62,13 +62,13 @@ module _ (At : ℕ → Message → Type 0) (numbers : AreNumbers At) where
       same : a ≡ b → held new a i ≡ n
       same e =
           let ij : i ≡ j = numbers.differ (subst (λ x. At i (message_of x)) e g) gb in
-          ap (λ x. count_of (part (kind_of x) new) (key_of (name_bound (message_of x)) i)) e
-          ∙ ap (λ x. count_of (part (kind_of b) new) (key_of (name_bound (message_of b)) x)) ij
+          ap (λ x. count_of (part (kind_of_atom x) new) (key_of (name_bound (message_of x)) i)) e
+          ∙ ap (λ x. count_of (part (kind_of_atom b) new) (key_of (name_bound (message_of b)) x)) ij
           ∙ p.here key
-          ∙ ap (λ t. if t then n else count_of (part (kind_of b) old) key) (eq-eqb key key refl)
+          ∙ ap (λ t. if t then n else count_of (part (kind_of_atom b) old) key) (eq-eqb key key refl)
 
-      apart : (kind_of a ≡ kind_of b) ⊎ (kind_of a ≢ kind_of b) → a ≢ b → held new a i ≡ held old a i
-      apart (inr d) ne = ap (λ m. count_of m (key_of (name_bound (message_of a)) i)) (p.others (kind_of a) d)
+      apart : (kind_of_atom a ≡ kind_of_atom b) ⊎ (kind_of_atom a ≢ kind_of_atom b) → a ≢ b → held new a i ≡ held old a i
+      apart (inr d) ne = ap (λ m. count_of m (key_of (name_bound (message_of a)) i)) (p.others (kind_of_atom a) d)
       apart (inl e) ne =
           let here = key_of (name_bound (message_of a)) i in
           let far : key ≢ here
@@ -77,16 +77,16 @@ module _ (At : ℕ → Message → Type 0) (numbers : AreNumbers At) where
           ne (same_parts a b e (numbers.one (subst (λ i. At i (message_of a)) ij g) gb)) in
           ap (λ k. count_of (part k new) here) e
           ∙ p.here here
-          ∙ ap (λ t. if t then n else count_of (part (kind_of b) old) here) (ne_eqb key here far)
+          ∙ ap (λ t. if t then n else count_of (part (kind_of_atom b) old) here) (ne_eqb key here far)
           ∙ ap (λ k. count_of (part k old) here) (sym e)
 
       go : (t : Bool) → same_atom a b ≡ t → held new a i ≡ (if t then n else held old a i)
       go true e = same (same_atom_true a b e)
-      go false e = apart (same_kind (kind_of a) (kind_of b)) (λ f. true≢false (sym (same_atom_refl a) ∙ ap (same_atom a) f ∙ e))
+      go false e = apart (same_kind (kind_of_atom a) (kind_of_atom b)) (λ f. true≢false (sym (same_atom_refl a) ∙ ap (same_atom a) f ∙ e))
 
   pub stands_none : {s : Sum} → ((kind : AtomKind) → IsNothing (part kind s)) → StandsForEffect At s []
   stands_none {s} h = record {
-    counted = λ a i g. h (kind_of a) (key_of (name_bound (message_of a)) i) ∙ sym (none a);
+    counted = λ a i g. h (kind_of_atom a) (key_of (name_bound (message_of a)) i) ∙ sym (none a);
     known = λ a n. absurd (let t = in_tally n in omega (arith, t));
     kept = λ kind k p. absurd (let z = h kind k in omega (arith, z, p));
   }
@@ -110,7 +110,7 @@ module _ (At : ℕ → Message → Type 0) (numbers : AreNumbers At) where
 
   -- after one count is put, the counts are those of the new effect
   stands_put : {old new : Sum} {es fs : Effect} (b : Atom) (j n : ℕ) → StandsForEffect At old es → At j (message_of b)
-      → Puts (kind_of b) old new (key_of (name_bound (message_of b)) j) n
+      → Puts (kind_of_atom b) old new (key_of (name_bound (message_of b)) j) n
       → ((a : Atom) → (if same_atom a b then n else count a es) ≡ count a fs)
       → StandsForEffect At new fs
   stands_put {old} {new} {es} {fs} b j n h gb p e = record {
@@ -119,7 +119,7 @@ module _ (At : ℕ → Message → Type 0) (numbers : AreNumbers At) where
         ∙ ap (λ x. if same_atom a b then n else x) (h.counted a i g)
         ∙ e a;
     known = λ a m. known_of a m (same_atom a b) refl;
-    kept = λ kind k q. kept_of kind k q (same_kind kind (kind_of b)) (cases k (key_of (name_bound (message_of b)) j));
+    kept = λ kind k q. kept_of kind k q (same_kind kind (kind_of_atom b)) (cases k (key_of (name_bound (message_of b)) j));
   }
     where
       known_of : (a : Atom) → In a fs → (t : Bool) → same_atom a b ≡ t → (i : ℕ) × At i (message_of a)
@@ -131,32 +131,32 @@ module _ (At : ℕ → Message → Type 0) (numbers : AreNumbers At) where
       cases : (k l : ℕ) → (k ≡ l) ⊎ (k ≢ l)
       cases k l = cases_eq k l
 
-      kept_of : (kind : AtomKind) (k : ℕ) → 0 < count_of (part kind new) k → (kind ≡ kind_of b) ⊎ (kind ≢ kind_of b) → (k ≡ key_of (name_bound (message_of b)) j) ⊎ (k ≢ key_of (name_bound (message_of b)) j)
+      kept_of : (kind : AtomKind) (k : ℕ) → 0 < count_of (part kind new) k → (kind ≡ kind_of_atom b) ⊎ (kind ≢ kind_of_atom b) → (k ≡ key_of (name_bound (message_of b)) j) ⊎ (k ≢ key_of (name_bound (message_of b)) j)
           → (i : ℕ) × (m : Message) × At i m × (k ≡ key_of (name_bound m) i)
       kept_of kind k q (inr d) c = h.kept kind k (subst (λ m. 0 < count_of m k) (p.others kind d) q)
       kept_of kind k q (inl d) (inl f) = (j, message_of b, gb, f)
       kept_of kind k q (inl d) (inr f) =
           let x : count_of (part kind new) k ≡ count_of (part kind old) k
-          = ap (λ d. count_of (part d new) k) d ∙ p.here k ∙ ap (λ t. if t then n else count_of (part (kind_of b) old) k) (ne_eqb (key_of (name_bound (message_of b)) j) k (λ z. f (sym z))) ∙ ap (λ d. count_of (part d old) k) (sym d) in
+          = ap (λ d. count_of (part d new) k) d ∙ p.here k ∙ ap (λ t. if t then n else count_of (part (kind_of_atom b) old) k) (ne_eqb (key_of (name_bound (message_of b)) j) k (λ z. f (sym z))) ∙ ap (λ d. count_of (part d old) k) (sym d) in
           h.kept kind k (subst (λ n. 0 < n) x q)
 
-  more_is : (b : Atom) (es : Effect) → one_more (kind_of b) (count b es) ≡ cut b (tally b es + 1)
+  more_is : (b : Atom) (es : Effect) → one_more (kind_of_atom b) (count b es) ≡ cut b (tally b es + 1)
   more_is (ends m) es = refl
   more_is (checks m) es = refl
   more_is (many m) es = omega arith
 
   -- an atom more
   pub stands_more : {old new : Sum} {es : Effect} (b : Atom) (j : ℕ) → StandsForEffect At old es → At j (message_of b)
-      → Puts (kind_of b) old new (key_of (name_bound (message_of b)) j) (one_more (kind_of b) (count_of (part (kind_of b) old) (key_of (name_bound (message_of b)) j)))
+      → Puts (kind_of_atom b) old new (key_of (name_bound (message_of b)) j) (one_more (kind_of_atom b) (count_of (part (kind_of_atom b) old) (key_of (name_bound (message_of b)) j)))
       → StandsForEffect At new (es ++ b ∷ [])
   stands_more {old} {new} {es} b j h gb p =
-      stands_put b j (one_more (kind_of b) (held old b j)) h gb p (λ a. go a (same_atom a b) refl (tally_append a es (b ∷ [])))
+      stands_put b j (one_more (kind_of_atom b) (held old b j)) h gb p (λ a. go a (same_atom a b) refl (tally_append a es (b ∷ [])))
     where
-      go : (a : Atom) (t : Bool) → same_atom a b ≡ t → tally a (es ++ b ∷ []) ≡ tally a es + ((if same_atom a b then 1 else 0) + 0) → (if t then one_more (kind_of b) (held old b j) else count a es) ≡ count a (es ++ b ∷ [])
+      go : (a : Atom) (t : Bool) → same_atom a b ≡ t → tally a (es ++ b ∷ []) ≡ tally a es + ((if same_atom a b then 1 else 0) + 0) → (if t then one_more (kind_of_atom b) (held old b j) else count a es) ≡ count a (es ++ b ∷ [])
       go a true t f =
           let e = same_atom_true a b t in
           let g : tally a (es ++ b ∷ []) ≡ tally a es + 1 = f ∙ ap (λ t. tally a es + ((if t then 1 else 0) + 0)) t ∙ (let z : tally a es + (1 + 0) ≡ tally a es + 1 = omega arith in z) in
-          ap (one_more (kind_of b)) (h.counted b j gb) ∙ more_is b es ∙ ap (λ x. cut x (tally x es + 1)) (sym e) ∙ ap (cut a) (sym g)
+          ap (one_more (kind_of_atom b)) (h.counted b j gb) ∙ more_is b es ∙ ap (λ x. cut x (tally x es + 1)) (sym e) ∙ ap (cut a) (sym g)
       go a false t f =
           let g : tally a (es ++ b ∷ []) ≡ tally a es = f ∙ ap (λ t. tally a es + ((if t then 1 else 0) + 0)) t ∙ (let z : tally a es + (0 + 0) ≡ tally a es = omega arith in z) in
           ap (cut a) (sym g)
@@ -170,7 +170,7 @@ module _ (At : ℕ → Message → Type 0) (numbers : AreNumbers At) where
   less_is b es a = (minus_difference es (b ∷ [])).at a ∙ ap (λ n. count a es - n) (one_of a (same_atom a b))
 
   pub stands_less : {old new : Sum} {es : Effect} (b : Atom) (j : ℕ) → StandsForEffect At old es → At j (message_of b)
-      → Puts (kind_of b) old new (key_of (name_bound (message_of b)) j) (count_of (part (kind_of b) old) (key_of (name_bound (message_of b)) j) - 1)
+      → Puts (kind_of_atom b) old new (key_of (name_bound (message_of b)) j) (count_of (part (kind_of_atom b) old) (key_of (name_bound (message_of b)) j) - 1)
       → StandsForEffect At new (minus es (b ∷ []))
   stands_less {old} {new} {es} b j h gb p =
       stands_put b j (held old b j - 1) h gb p (λ a. go a (same_atom a b) refl (less_is b es a))
@@ -224,13 +224,13 @@ module _ (At : ℕ → Message → Type 0) (numbers : AreNumbers At) where
   both_positive Check m n h = positive m n h
   both_positive Many m n h = positive_max m n h
 
-  both_is : (a : Atom) (m n : ℕ) → both_counts (kind_of a) (cut a m) (cut a n) ≡ cut a (m + n)
+  both_is : (a : Atom) (m n : ℕ) → both_counts (kind_of_atom a) (cut a m) (cut a n) ≡ cut a (m + n)
   both_is (ends l) m n = refl
   both_is (checks l) m n = refl
   both_is (many l) m n = omega arith
 
   cut_positive : (a : Atom) (es fs : Effect) → 0 < count a (es ++ fs) → (0 < count a es) ⊎ (0 < count a fs)
-  cut_positive a es fs h = both_positive (kind_of a) (count a es) (count a fs) (subst (λ n. 0 < n) (ap (cut a) (tally_append a es fs) ∙ sym (both_is a (tally a es) (tally a fs))) h)
+  cut_positive a es fs h = both_positive (kind_of_atom a) (count a es) (count a fs) (subst (λ n. 0 < n) (ap (cut a) (tally_append a es fs) ∙ sym (both_is a (tally a es) (tally a fs))) h)
 
   -- a sum
   pub stands_joined : {s t u : Sum} {es fs : Effect} → StandsForEffect At s es → StandsForEffect At t fs
@@ -238,9 +238,9 @@ module _ (At : ℕ → Message → Type 0) (numbers : AreNumbers At) where
       → StandsForEffect At u (es ++ fs)
   stands_joined {s} {t} {u} {es} {fs} h k e = record {
     counted = λ a i g.
-        e (kind_of a) (key_of (name_bound (message_of a)) i)
-        ∙ ap (λ n. both_counts (kind_of a) n (held t a i)) (h.counted a i g)
-        ∙ ap (λ n. both_counts (kind_of a) (count a es) n) (k.counted a i g)
+        e (kind_of_atom a) (key_of (name_bound (message_of a)) i)
+        ∙ ap (λ n. both_counts (kind_of_atom a) n (held t a i)) (h.counted a i g)
+        ∙ ap (λ n. both_counts (kind_of_atom a) (count a es) n) (k.counted a i g)
         ∙ both_is a (tally a es) (tally a fs)
         ∙ ap (cut a) (sym (tally_append a es fs));
     known = known_one {s = s} {t = t} {es = es} {fs = fs} {gs = es ++ fs} h k (λ a p. cut_positive a es fs p);
@@ -255,7 +255,7 @@ module _ (At : ℕ → Message → Type 0) (numbers : AreNumbers At) where
       → StandsForEffect At u (greater es fs)
   stands_greatest {s} {t} {u} {es} {fs} h k e = record {
     counted = λ a i g.
-        e (kind_of a) (key_of (name_bound (message_of a)) i)
+        e (kind_of_atom a) (key_of (name_bound (message_of a)) i)
         ∙ ap (λ n. max n (held t a i)) (h.counted a i g)
         ∙ ap (λ n. max (count a es) n) (k.counted a i g)
         ∙ sym ((greater_is es fs).at a);
@@ -304,7 +304,7 @@ module _ (At : ℕ → Message → Type 0) (numbers : AreNumbers At) where
   atom_of Check m = checks m
   atom_of Many m = many m
 
-  kind_back : (kind : AtomKind) (m : Message) → kind_of (atom_of kind m) ≡ kind
+  kind_back : (kind : AtomKind) (m : Message) → kind_of_atom (atom_of kind m) ≡ kind
   kind_back End m = refl
   kind_back Check m = refl
   kind_back Many m = refl
@@ -322,7 +322,7 @@ module _ (At : ℕ → Message → Type 0) (numbers : AreNumbers At) where
       let mb = message_back kind m in
       let g' = subst (At i) (sym mb) g in let c = h.counted a i g' in
       let e' : k ≡ key_of (name_bound (message_of a)) i = e ∙ ap (λ m. key_of (name_bound m) i) (sym mb) in
-      let q : 0 < count a es = subst (λ x. 0 < x) (ap (λ d. count_of (part d s) k) (sym (kind_back kind m)) ∙ ap (count_of (part (kind_of a) s)) e' ∙ c) p in
+      let q : 0 < count a es = subst (λ x. 0 < x) (ap (λ d. count_of (part d s) k) (sym (kind_back kind m)) ∙ ap (count_of (part (kind_of_atom a) s)) e' ∙ c) p in
       (a, count_in a es q, (i, g', e'))
 
 -- names and the least number above them
@@ -376,7 +376,7 @@ module _ (At : ℕ → Message → Type 0) (numbers : AreNumbers At) {s : Sum} {
       let (j, g) = h.known a i in
       let c = h.counted a j g in
       let p = (count_tally a (tally a es)).1 (in_tally i) in
-      let l = f (kind_of a) (key_of (name_bound (message_of a)) j) (omega (arith, c, p)) in
+      let l = f (kind_of_atom a) (key_of (name_bound (message_of a)) j) (omega (arith, c, p)) in
       omega (arith, l)
 
   -- such a key is counted: an atom has a name from n on

@@ -20,7 +20,7 @@ use Rattle.spi_intern.specs.Lent.{SaysTy, says_un, says_unit, says_pair, says_su
 use Rattle.spi_intern.specs.Table.{TellsAll, tells_none, tells_next}
 use Rattle.spi_intern.specs.Atoms.{says_end, says_check, says_many}
 use Rattle.spi_count.specs.Counts.{count_of}
-use Rattle.spi_count.specs.Sums.{name_bound, key_of, kind_of, message_of, part, one_more, Puts, AreNumbers}
+use Rattle.spi_count.specs.Sums.{name_bound, key_of, kind_of_atom, message_of, part, one_more, Puts, AreNumbers}
 use Rattle.spi_count.specs.declared.sum.AtomKind.{AtomKind}
 use Rattle.spi_count.specs.declared.sum.AtomKind.TheVariants as K
 use Rattle.spi_count.specs.declared.sum.Sum.{Sum}
@@ -60,14 +60,14 @@ module _ {s : Store} {keys : Keys} (k : IsKeyed s keys) where
   kept_at i m at h = subst (λ i. with_keys s keys i m) (place_is h.1.at at) h.1
 
   adds_at : {old new : Sum} (i : ℕ) (b : Atom) (es : Effect)
-      → ((q : ℕ) → get nat_eq keys.keys i ≡ Some q → Puts (kind_of b) old new q (one_more (kind_of b) (count_of (part (kind_of b) old) q)))
+      → ((q : ℕ) → get nat_eq keys.keys i ≡ Some q → Puts (kind_of_atom b) old new q (one_more (kind_of_atom b) (count_of (part (kind_of_atom b) old) q)))
       → slice_get s.messages i ≡ Some (message_of b) → HasKey s keys (message_of b) → SumOf s keys old es → SumOf s keys new (es ++ b ∷ [])
   adds_at {old} {new} i b es p at h t =
       let w = kept_at i (message_of b) at h in
       stands_more (with_keys s keys) numbers b i t w (p (key_of (name_bound (message_of b)) i) w.key)
 
   takes_at : {old new : Sum} (i : ℕ) (b : Atom) (es : Effect)
-      → ((q : ℕ) → get nat_eq keys.keys i ≡ Some q → Puts (kind_of b) old new q (count_of (part (kind_of b) old) q - 1))
+      → ((q : ℕ) → get nat_eq keys.keys i ≡ Some q → Puts (kind_of_atom b) old new q (count_of (part (kind_of_atom b) old) q - 1))
       → (get nat_eq keys.keys i ≡ None → new ≡ old)
       → slice_get s.messages i ≡ Some (message_of b) → SumOf s keys old es → SumOf s keys new (minus es (b ∷ []))
   takes_at {old} {new} i b es p n at t = go (get nat_eq keys.keys i) refl
@@ -82,7 +82,7 @@ module _ {s : Store} {keys : Keys} (k : IsKeyed s keys) where
       go : (o : Option ℕ) → get nat_eq keys.keys i ≡ o → SumOf s keys new (minus es (b ∷ []))
       go (Some q) g =
           let (w, e) = found i q (message_of b) g at in
-          stands_less (with_keys s keys) numbers b i t w (subst (λ q. Puts (kind_of b) old new q (count_of (part (kind_of b) old) q - 1)) e (p q g))
+          stands_less (with_keys s keys) numbers b i t w (subst (λ q. Puts (kind_of_atom b) old new q (count_of (part (kind_of_atom b) old) q - 1)) e (p q g))
       go None g = subst (λ z. SumOf s keys z (minus es (b ∷ []))) (sym (n g)) (stands_absent (with_keys s keys) numbers b t (absent g))
 
 -- by the kind of the atom
@@ -135,14 +135,14 @@ pub in_end : {A : Type 0} (xs : List A) (a : A) → In a (xs ++ a ∷ [])
 in_end [] a = in_first
 in_end (x ∷ xs) a = in_later (in_end xs a)
 
-pub record Ended {P M : Type 0} (S : P → M → Type 0) (ps : List P) (p : P) (ms : List M) : Type 0 where
+pub record EndedSum {P M : Type 0} (S : P → M → Type 0) (ps : List P) (p : P) (ms : List M) : Type 0 where
   pub front : List M
   pub last : M
   pub is : ms ≡ front ++ last ∷ []
   pub tells : TellsAll S ps front
   pub says : S p last
 
-tells_end : {P M : Type 0} {S : P → M → Type 0} (ps : List P) (p : P) (ms : List M) → TellsAll S (ps ++ p ∷ []) ms → Ended S ps p ms
+tells_end : {P M : Type 0} {S : P → M → Type 0} (ps : List P) (p : P) (ms : List M) → TellsAll S (ps ++ p ∷ []) ms → EndedSum S ps p ms
 tells_end [] p _ (tells_next {m = m} h tells_none) = record { front = []; last = m; is = refl; tells = tells_none; says = h }
 tells_end (q ∷ ps) p _ (tells_next {m = m} {ms = ms} h t) =
     let e = tells_end ps p ms t in

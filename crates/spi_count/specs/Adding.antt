@@ -41,10 +41,10 @@ TakesAll keys ids old new =
     → SumOf s keys old es → SumOf s keys new (minus es fs)
 
 -- an atom by its kind and its message
-abbrev pub atom_of : AtomKind → Message → Atom
-atom_of End m = ends m
-atom_of Check m = checks m
-atom_of Many m = many m
+abbrev pub atom_of_kind : AtomKind → Message → Atom
+atom_of_kind End m = ends m
+atom_of_kind Check m = checks m
+atom_of_kind Many m = many m
 
 -- the key of a message of the store
 abbrev pub IsKey : Store → Keys → ℕ → Type 0

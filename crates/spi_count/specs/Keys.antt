@@ -5,9 +5,9 @@ use Rattle.spi_intern.specs.declared.messages.MsgId.{MsgId}
 use Rattle.spi_count.specs.Sums.{name_bound, key_of}
 
 -- the place of a number of a store, where there is one
-abbrev pub place_in : Option MsgId → Option ℕ
-place_in None = None
-place_in (Some id) = Some id.place
+abbrev pub place_of_key : Option MsgId → Option ℕ
+place_of_key None = None
+place_of_key (Some id) = Some id.place
 
 -- the message number i of a store is m, and has its key
 pub record Keyed (ms : List Message) (kept : ℕ → Option ℕ) (i : ℕ) (m : Message) : Type 0 where

@@ -25,10 +25,10 @@ name_bound (hash a) = name_bound a
 abbrev pub key_of : ℕ → ℕ → ℕ
 key_of above i = above * 4294967296 + i
 
-abbrev pub kind_of : Atom → AtomKind
-kind_of (ends m) = End
-kind_of (checks m) = Check
-kind_of (many m) = Many
+abbrev pub kind_of_atom : Atom → AtomKind
+kind_of_atom (ends m) = End
+kind_of_atom (checks m) = Check
+kind_of_atom (many m) = Many
 
 abbrev pub message_of : Atom → Message
 message_of (ends m) = m
@@ -53,8 +53,8 @@ both_counts Check m n = m + n
 both_counts Many m n = max m n
 
 -- how many keys are kept
-abbrev pub keys_in : Sum → ℕ
-keys_in s = btree_map_len s.ends.counts + btree_map_len s.checks.counts + btree_map_len s.lasting.counts
+abbrev pub sum_keys : Sum → ℕ
+sum_keys s = btree_map_len s.ends.counts + btree_map_len s.checks.counts + btree_map_len s.lasting.counts
 
 -- the atoms of that kind are counted so high at a key, and all else is as before
 pub record Puts (kind : AtomKind) (old new : Sum) (key n : ℕ) : Type 0 where
@@ -64,7 +64,7 @@ pub record Puts (kind : AtomKind) (old new : Sum) (key n : ℕ) : Type 0 where
 -- The counts are those of an effect, where At i m says that the message m has the number i.
 pub record StandsForEffect (At : ℕ → Message → Type 0) (s : Sum) (es : Effect) : Type 0 where
   pub counted : (a : Atom) (i : ℕ) → At i (message_of a)
-      → count_of (part (kind_of a) s) (key_of (name_bound (message_of a)) i) ≡ count a es
+      → count_of (part (kind_of_atom a) s) (key_of (name_bound (message_of a)) i) ≡ count a es
   pub known : (a : Atom) → In a es → (i : ℕ) × At i (message_of a)
   pub kept : (kind : AtomKind) (k : ℕ) → 0 < count_of (part kind s) k
       → (i : ℕ) × (m : Message) × At i m × (k ≡ key_of (name_bound m) i)

@@ -3,7 +3,7 @@ ghost use Rattle.std.specs.Prelude.{◌≡◌, ◌+◌, ◌<◌, ℕ, eqb, if◌
 ghost use Rattle.spi_term.specs.View.{message};
 ghost use Rattle.indexmap.specs.IndexMap.{get};
 ghost use Rattle.spi_count.specs.Sums.{name_bound, key_of};
-ghost use Rattle.spi_count.specs.Keys.{place_in};
+ghost use Rattle.spi_count.specs.Keys.{place_of_key};
 
 use indexmap::IndexMap;
 use spi_intern::MsgId;
@@ -14,7 +14,7 @@ use std::alloc::{AllocError, Global};
 pub struct Keys {
     keys: IndexMap<usize, u64>,
     ids: IndexMap<usize, MsgId>,
-    ghost held: { (i k : ℕ) → get nat_eq keys i ≡ Some k → place_in (get nat_eq ids i) ≡ Some i },
+    ghost held: { (i k : ℕ) → get nat_eq keys i ≡ Some k → place_of_key (get nat_eq ids i) ≡ Some i },
 }
 
 impl Drop for Keys {
@@ -59,7 +59,7 @@ impl Keys {
 
     /// The number in this place, where its message has a key.
     pub fn id(&self, place: usize) -> Option<MsgId>
-        ensures id { (k : ℕ) → get nat_eq self.now.keys place ≡ Some k → place_in result ≡ Some place }
+        ensures id { (k : ℕ) → get nat_eq self.now.keys place ≡ Some k → place_of_key result ≡ Some place }
         ensures kept { result ≡ get nat_eq self.now.ids place }
     {
         self.ids.get(&place).copied()

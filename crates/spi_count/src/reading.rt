@@ -5,7 +5,7 @@ ghost use Rattle.spi_term.specs.Counts.{SameEffect};
 ghost use Rattle.spi_term.specs.View.{message, atom, effect};
 ghost use Rattle.spi_count.specs.Sums.{name_bound, key_of};
 ghost use Rattle.spi_count.specs.Keeping.{with_keys, IsKeyed};
-ghost use Rattle.spi_count.specs.Adding.{IsKey, SumOf, atom_of};
+ghost use Rattle.spi_count.specs.Adding.{IsKey, SumOf, atom_of_kind};
 
 use crate::NoMemory;
 use crate::keys::Keys;
@@ -23,7 +23,7 @@ fn read_message(alloc: Global, store: &Store, id: MsgId) -> Result<Msg, NoMemory
 }
 
 fn atom_over(alloc: Global, kind: AtomKind, m: &Msg) -> Result<Atom, NoMemory>
-    ensures { IfOk result (λ a. atom a ≡ atom_of kind (message m.now)) }
+    ensures { IfOk result (λ a. atom a ≡ atom_of_kind kind (message m.now)) }
 {
     let copy = m.copy(alloc)?;
     match kind {
@@ -42,7 +42,7 @@ fn push_atoms(
 ) -> Result<(), NoMemory>
     ensures { OnOk result
         (map atom atoms.new.items ≡ map atom atoms.old.items
-        ++ replicate count (atom_of kind (message m.now))) }
+        ++ replicate count (atom_of_kind kind (message m.now))) }
 {
     for i in 0..count {
         let a = atom_over(alloc, kind, m)?;
@@ -64,7 +64,7 @@ fn read_atoms(
     requires { IsKey store.now keys.now key }
     ensures { OnOk result
         ((i : ℕ) (m : Term.Message) → with_keys store.now keys.now i m → key ≡ key_of (name_bound m) i
-        → map atom atoms.new.items ≡ map atom atoms.old.items ++ replicate count (atom_of kind m)) }
+        → map atom atoms.new.items ≡ map atom atoms.old.items ++ replicate count (atom_of_kind kind m)) }
 {
     match keys.id((key % 4_294_967_296) as usize) {
         Some(id) => {

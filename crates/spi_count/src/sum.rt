@@ -1,7 +1,7 @@
 // The counts of the atoms of an effect, by the keys of their messages.
 ghost use Rattle.std.specs.Prelude.{false, ◌≡◌, ◌↔◌, ◌+◌, ◌-◌, ◌<◌, ◌≤◌, ℕ, max, IfSome, IfNone, IfOk, OnOk, IsTrue};
 ghost use Rattle.spi_count.specs.Counts.{count_of, IsNothing};
-ghost use Rattle.spi_count.specs.Sums.{part, one_more, both_counts, keys_in, Puts};
+ghost use Rattle.spi_count.specs.Sums.{part, one_more, both_counts, sum_keys, Puts};
 ghost use Rattle.spi_count.specs.declared.sum.AtomKind.{AtomKind};
 ghost use Rattle.spi_count.specs.declared.sum.AtomKind.TheVariants as kinds;
 
@@ -78,7 +78,7 @@ impl Sum {
         ensures some { IfSome result
             (λ p. (0 < p.2) × (count_of (part p.0 self.old) p.1 ≡ p.2) × Puts p.0 self.old self.new p.1 0) }
         ensures none { IfNone result ((kind : AtomKind) → IsNothing (part kind self.old)) }
-        ensures less { IfSome result (λ p. keys_in self.new < keys_in self.old) }
+        ensures less { IfSome result (λ p. sum_keys self.new < sum_keys self.old) }
     {
         if !self.ends.is_empty() {
             return match self.ends.take() {
@@ -107,7 +107,7 @@ impl Sum {
         ensures none { IfNone result
             ((kind : AtomKind) (q : ℕ) → 0 < count_of (part kind self.old) q → q < least) }
         ensures same { IfNone result ((kind : AtomKind) → part kind self.new ≡ part kind self.old) }
-        ensures less { IfSome result (λ p. keys_in self.new < keys_in self.old) }
+        ensures less { IfSome result (λ p. sum_keys self.new < sum_keys self.old) }
     {
         match self.ends.take_from(least) {
             Some((key, count)) => Some((AtomKind::End, key, count)),

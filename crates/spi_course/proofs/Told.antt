@@ -13,7 +13,7 @@ use Rattle.spi_run.specs.Reduction.{Configuration, Step, act, talk, Event, Acts,
 use Rattle.spi_term.specs.Term.{Process}
 use Rattle.spi_term.specs.Spelling.{Spelling}
 use Rattle.spi_run.specs.Safety.{beside}
-use Rattle.spi_course.specs.Fit.{places_most, pool_of}
+use Rattle.spi_course.specs.Fit.{places_most, course_pool}
 use Rattle.spi_replay.specs.declared.fault.StepFault.{StepFault}
 use Rattle.spi_replay.specs.declared.fault.StepFault.TheVariants.{NoMemory as OutOfMemory}
 use Rattle.spi_replay.specs.Stepping.{Pooled, RefusesPoolStep}
@@ -22,7 +22,7 @@ use Rattle.spi_course.specs.declared.course.Course.{Course}
 use Rattle.spi_course.specs.Courses.{HandsOver, IsStepTold, TellsSteps, tells_none, tells_step, steps_of, IsEndOfCourse, all_taken, one_refused, IsCourse}
 
 -- the pool at the start
-pub starts : (process opponent : Spelling) (p : Pooled) → p.configuration ≡ beside process.names process.process opponent.process → p.most ≡ places_most → p ≡ pool_of process opponent
+pub starts : (process opponent : Spelling) (p : Pooled) → p.configuration ≡ beside process.names process.process opponent.process → p.most ≡ places_most → p ≡ course_pool process opponent
 starts process opponent p e m =
     let one : ℕ → Pooled = λ k. record { configuration = p.configuration; most = k } in
     ap one m ∙ ap (λ (c : Configuration). record { configuration = c; most = places_most }) e

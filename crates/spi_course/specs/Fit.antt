@@ -22,8 +22,8 @@ abbrev pub places_most : ℕ
 places_most = 5000
 
 -- the process at place 0 and the opponent at place 1
-abbrev pub pool_of : Spelling → Spelling → Pooled
-pool_of p o = record { configuration = beside p.names p.process o.process; most = places_most }
+abbrev pub course_pool : Spelling → Spelling → Pooled
+course_pool p o = record { configuration = beside p.names p.process o.process; most = places_most }
 
 -- the file has an opponent and a schedule, and this is the course of its steps beside that opponent
 pub record IsCourseOf (file : Meant) (course : Course) : Type 0 where
@@ -33,7 +33,7 @@ pub record IsCourseOf (file : Meant) (course : Course) : Type 0 where
   pub has : file.opponent ≡ Some opponent
   pub is : IsOpponent opponent.process
   pub schedule : file.schedule ≡ Some steps
-  pub taken : IsCourse (pool_of file.process opponent) steps course last
+  pub taken : IsCourse (course_pool file.process opponent) steps course last
 
 -- why nothing is told: the opponent is missing, or the schedule beside it, or with both the opponent part is no opponent
 abbrev pub IsUntold : Meant → Untold → Type 0

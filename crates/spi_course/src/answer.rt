@@ -6,7 +6,7 @@ ghost use Rattle.spi_replay.specs.Stepping.{Pooled};
 ghost use Rattle.spi_scope.specs.Files.{meant};
 ghost use Rattle.spi_text.specs.Place.{IsSized};
 ghost use Rattle.spi_course.specs.Courses.{IsCourse};
-ghost use Rattle.spi_course.specs.Fit.{pool_of, IsFit, IsCourseOf, IsUntold};
+ghost use Rattle.spi_course.specs.Fit.{course_pool, IsFit, IsCourseOf, IsUntold};
 ghost use Rattle.spi_course.specs.declared.answer.Untold.TheVariants.{NoMemory as OutOfMemory};
 
 use crate::NoMemory;
@@ -226,7 +226,7 @@ fn beside(
     requires names { file.now.process.names ≡ opponent.now.names }
     requires few { file.now.process.names + length steps.now < 2 ^ 32 - 1 }
     ensures course { IfOk result (λ account. (last : Pooled)
-        × IsCourse (pool_of file.now.process opponent.now) (map step_of steps.now) account.course last) }
+        × IsCourse (course_pool file.now.process opponent.now) (map step_of steps.now) account.course last) }
     ensures few { IfOk result (λ account. length account.course.events.items < 2 ^ 32) }
 {
     let mut pool = Pool::start(alloc, &file.process, opponent, PLACES)?;

@@ -11,7 +11,7 @@ use Rattle.spi_rules.specs.Messages.{HasType, msg_name, msg_unit, msg_unit_un, m
 use Rattle.spi_rules.specs.Processes.{IsNonce, nonce_name, nonce_cast}
 use Rattle.spi_rules.specs.Derivations.{uses, type_uses}
 use Rattle.spi_rules.specs.declared.rule.Rule.TheVariants.{MsgName, MsgPair, MsgPairUn, MsgInl, MsgInlUn, MsgInr, MsgInrUn, MsgEnc, MsgEncUn}
-use Rattle.spi_message.specs.Tests.{key_in, key_of, nonce_in, nonce_of}
+use Rattle.spi_message.specs.Tests.{key_in, type_of_key, nonce_in, nonce_of}
 use Rattle.spi_deriv.specs.Canonical.{IsTypedMessage, IsCanonicalMessage}
 use Rattle.spi_deriv.specs.Uses.{enc_uses, message_uses, is_pair_ty, is_pair, is_sum_ty, is_sum}
 use Rattle.spi_deriv.proofs.Heads.{bare_type, bare_map, bare_un, bare_pair, bare_sum, bare_key, bare_nonce, Alike, seen, same_uses}
@@ -72,7 +72,7 @@ module _ {e : Env} (f : List Ty) (a : Alike f e) where
       (k.0, w.1 ∙ ap Some k.1)
 
   -- a message of type Un
-  pub un_no_key : {n : Message} → HasType [] e n un → key_of f n ≡ None
+  pub un_no_key : {n : Message} → HasType [] e n un → type_of_key f n ≡ None
   un_no_key (msg_name h same_un) = ap key_in (un_seen h)
   un_no_key (msg_cast i s) = elim i [ ]
   un_no_key _ = refl
@@ -113,7 +113,7 @@ module _ {e : Env} (f : List Ty) (a : Alike f e) where
   sum_is_sum (msg_inr h) = refl
   sum_is_sum (msg_cast i s) = elim i [ ]
 
-  pub key_is_key : {n : Message} {t : Ty} (h : HasType [] e n (key t)) → ((u : Ty) × (key_of f n ≡ Some u)) × (type_uses h ≡ uses MsgName [])
+  pub key_is_key : {n : Message} {t : Ty} (h : HasType [] e n (key t)) → ((u : Ty) × (type_of_key f n ≡ Some u)) × (type_uses h ≡ uses MsgName [])
   key_is_key (msg_name h (same_key s)) = let w = key_seen h in ((w.0, ap key_in w.1), refl)
   key_is_key (msg_cast i s) = elim i [ ]
 

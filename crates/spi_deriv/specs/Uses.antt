@@ -5,7 +5,7 @@ use Rattle.spi_term.specs.Term.{Message, bound, name, unit, pair, in_left, in_ri
 use Rattle.spi_rules.specs.Derivations.{RuleUse, uses}
 use Rattle.spi_rules.specs.declared.rule.Rule.{Rule}
 use Rattle.spi_rules.specs.declared.rule.Rule.TheVariants.{MsgName, MsgUnit, MsgUnitUn, MsgPair, MsgPairUn, MsgInl, MsgInlUn, MsgInr, MsgInrUn, MsgEnc, MsgEncUn, MsgHash, ProcStop, ProcOut, ProcIn, ProcRepeat, ProcSplit, ProcSplitUn, ProcMatch, ProcMatchUn, ProcCase, ProcCaseUn, ProcDecrypt, ProcDecryptUn, ProcCheck, ProcCheckUn, ProcBegin, ProcEnd, ProcEndMany, ProcCast, ProcCastUn, ProcNew, ProcPar}
-use Rattle.spi_message.specs.Tests.{key_of, nonce_of}
+use Rattle.spi_message.specs.Tests.{type_of_key, nonce_of}
 use Rattle.spi_message.specs.Forms.{is_nonce, on_first, on_rest}
 
 -- the uses of a message's typing, by the type that is wanted
@@ -41,7 +41,7 @@ message_uses unit e t = unit_uses t
 message_uses (pair a b) e t = pair_uses (message_uses a e) (message_uses b e) t
 message_uses (in_left a) e t = left_uses (message_uses a e) t
 message_uses (in_right a) e t = right_uses (message_uses a e) t
-message_uses (enc a b) e t = enc_uses (message_uses a e) (message_uses b e) (key_of e b)
+message_uses (enc a b) e t = enc_uses (message_uses a e) (message_uses b e) (type_of_key e b)
 message_uses (hash a) e t = uses MsgHash []
 
 -- a message is a pair or a name of a pair type
@@ -102,7 +102,7 @@ prefix_uses e (Recvs m t) = uses ProcIn (message_uses m e un)
 prefix_uses e (Serves m t) = uses ProcRepeat (message_uses m e un)
 prefix_uses e (Splits m t u) = split_uses (is_pair e m) e m t u
 prefix_uses e (Selects m t n u) = select_uses (is_pair e m) e m t n u
-prefix_uses e (Decrypts m t n) = decrypt_uses (key_of e n) e m n
+prefix_uses e (Decrypts m t n) = decrypt_uses (type_of_key e n) e m n
 prefix_uses e (Checks m n) = check_uses (is_nonce (nonce_of e n)) e m n
 prefix_uses e (Begins m) = uses ProcBegin []
 prefix_uses e (Ends m) = uses ProcEnd []

@@ -4,7 +4,7 @@
 ghost use Rattle.std.specs.Prelude.{◌≡◌, OnOk};
 ghost use Rattle.spi_term.specs.Term.{Branches, Checks, Selects, Splits, un};
 ghost use Rattle.spi_term.specs.View.{message, ty as type_of, shape_of};
-ghost use Rattle.spi_message.specs.Tests.{key_of};
+ghost use Rattle.spi_message.specs.Tests.{type_of_key};
 ghost use Rattle.spi_rules.specs.Derivations.{uses};
 ghost use Rattle.spi_deriv.specs.Agenda.{types_of, node_uses, PushesUses};
 ghost use Rattle.spi_deriv.specs.Uses.{two_uses, decrypt_uses, cast_rule, prefix_uses, fork_uses};
@@ -95,7 +95,7 @@ fn push_decrypt(
     out: &mut Vec<RuleUse>,
 ) -> Result<(), NoMemory>
     ensures { OnOk result (PushesUses out.old.items out.new.items
-        (decrypt_uses (key_of (types_of types.now) (message key.now)) (types_of types.now)
+        (decrypt_uses (type_of_key (types_of types.now) (message key.now)) (types_of types.now)
         (message whole.now) (message key.now))) }
 {
     match payload(types, key) {

@@ -2,7 +2,7 @@
 
 ghost use Rattle.std.specs.Prelude.{◌≡◌, Some, None, slice_get, IfSome, IfNone};
 ghost use Rattle.spi_term.specs.View.{message, ty as type_of};
-ghost use Rattle.spi_message.specs.Tests.{key_of, nonce_of};
+ghost use Rattle.spi_message.specs.Tests.{type_of_key, nonce_of};
 ghost use Rattle.spi_message.specs.Forms.{is_nonce};
 ghost use Rattle.spi_deriv.specs.Agenda.{types_of};
 ghost use Rattle.spi_deriv.specs.Uses.{is_pair_ty, is_pair, is_sum_ty, is_sum};
@@ -25,8 +25,8 @@ fn type_at<'a>(types: &[&'a Ty], x: u32) -> Option<&'a Ty>
 
 /// The T of a name of type Key(T).
 pub fn payload<'a>(types: &[&'a Ty], key: &Msg) -> Option<&'a Ty>
-    ensures some { IfSome result (λ t. key_of (types_of types.now) (message key.now) ≡ Some (type_of t.now)) }
-    ensures none { IfNone result (key_of (types_of types.now) (message key.now) ≡ None) }
+    ensures some { IfSome result (λ t. type_of_key (types_of types.now) (message key.now) ≡ Some (type_of t.now)) }
+    ensures none { IfNone result (type_of_key (types_of types.now) (message key.now) ≡ None) }
 {
     match key {
         Msg::Name(x) => match type_at(types, *x) {

@@ -19,10 +19,10 @@ use Rattle.spi_grammar.proofs.Good.{IsSome}
 use Rattle.spi_parts.proofs.Behind.{proc_behind}
 use Rattle.spi_parts.proofs.Bridge.{kinds_cells, OfPieces, of_piece, part_from}
 use Rattle.spi_parts.proofs.Processes.{Processes, IsBraceClose, processes_apart, processes_even}
-use Rattle.spi_heading.specs.Taking.{IsThere, Takes}
+use Rattle.spi_heading.specs.Taking.{IsThere, TakesOneToken}
 use Rattle.spi_heading.proofs.Standing.{AreTokensOf, IsSolid, proc_solid, stands_both, stands_kinds, stands_length, behind_part}
 use Rattle.spi_heading.proofs.Failing.{FailsAt, memory, fault, tells_at, ReadAt, IsToldBy, fails_to}
-use Rattle.spi_heading.proofs.Symbols.{Sym, token, name, braced, closing, the_mark, the_word, put, drop_, SymbolItem}
+use Rattle.spi_heading.proofs.Symbols.{HeadingSym, token, name, braced, closing, the_mark, the_word, put, drop_, SymbolItem}
 use Rattle.spi_heading.proofs.Versions.{Cells}
 use Rattle.spi_heading.proofs.Rows.{Values, Row, row_into, row_behind, ItemAt}
 use Rattle.spi_heading.proofs.Calls.{part_stands, took}
@@ -32,16 +32,16 @@ use Rattle.spi_heading.proofs.Wholes.{none_fail}
 use Rattle.spi_edits.specs.Edits.{Edit, puts, drops}
 use Rattle.spi_edits.specs.Grammar.{put_word, drop_word, edit_pieces, whole_edit, IsWholeEdit}
 
-abbrev pub put_rest : List Sym
+abbrev pub put_rest : List HeadingSym
 put_rest = name ∷ token (the_mark mark.BraceOpen) ∷ braced ∷ closing ∷ []
 
-abbrev pub put_row : List Sym
+abbrev pub put_row : List HeadingSym
 put_row = node_row (the_word put) put_rest
 
-abbrev pub drop_rest : List Sym
+abbrev pub drop_rest : List HeadingSym
 drop_rest = name ∷ token (the_mark mark.Semicolon) ∷ closing ∷ []
 
-abbrev pub drop_row : List Sym
+abbrev pub drop_row : List HeadingSym
 drop_row = node_row (the_word drop_) drop_rest
 
 abbrev pub put_values : Span → SWord → t.Proc → Values put_row
@@ -147,7 +147,7 @@ module _ (v : Bool) where
         fault d (length (kinds h.cells) + n) (tells_at f d (j + n) (i + (length (kinds h.cells) + n)) (omega arith) t)
         (second_refuses (Processes v) (One IsBraceClose) (processes_apart v) (processes_even v) (kinds_of (drop i ts)) h.cells (kinds_of (drop j ts)) h.reads d n g)
 
-    pub braced_read : (p : t.Proc) (j k : ℕ) → i ≤ length ts → ProcessAt p j → Takes (K.Mark mark.BraceClose) (Ok k) ts j → ItemAt v ts i braced p k
+    pub braced_read : (p : t.Proc) (j k : ℕ) → i ≤ length ts → ProcessAt p j → TakesOneToken (K.Mark mark.BraceClose) (Ok k) ts j → ItemAt v ts i braced p k
     braced_read p j k w r h = record {
       is = r.2.part.0;
       stands = subst (λ (l : List Piece). AreTokensOf ts i l k) (sym (proc_behind (at_level 0) p (a_mark mark.BraceClose [])))

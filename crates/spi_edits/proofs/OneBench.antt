@@ -14,7 +14,7 @@ use Rattle.spi_tree.specs.Formed.{AreWordsFit, IsTy, IsProc, IsDeclared}
 use Rattle.spi_parse.specs.Bare.{nowhere, bare_ty, bare_proc, bare_decl}
 use Rattle.spi_parse.specs.Exact.{Spells}
 use Rattle.spi_parse.specs.Formed.{whole_process, IsWholeProcess}
-use Rattle.spi_parse.proofs.Filled.{Rest, after_ty, after_proc, after_decl, fill_ty, fill_proc, fill_decl}
+use Rattle.spi_parse.proofs.Filled.{FilledRest, after_ty, after_proc, after_decl, fill_ty, fill_proc, fill_decl}
 use Rattle.spi_parse.proofs.OneTree.{Spelled, one_ty, one_proc, one_decl, kinds_spelled}
 use Rattle.spi_parse.proofs.Words.{fits_front, fits_drop}
 use Rattle.spi_parts.proofs.Alone.{kinds_in_append, types_split, declarations_split}
@@ -28,7 +28,7 @@ use Rattle.spi_heading.specs.Taking.{version_word}
 use Rattle.spi_heading.proofs.Each.{each_behind}
 use Rattle.spi_heading.proofs.Names.{shared_behind}
 use Rattle.spi_edits.specs.Edits.{Edit, puts, drops, Bench}
-use Rattle.spi_edits.specs.Grammar.{edit_pieces, IsEdit, bench_pieces, placed, whole_bench, is_later}
+use Rattle.spi_edits.specs.Grammar.{edit_pieces, IsEdit, bench_pieces, placed, whole_bench, is_later_bench}
 use Rattle.spi_edits.specs.Reads.{IsBenchSpelled}
 use Rattle.spi_edits.proofs.EditRows.{edit_behind}
 
@@ -41,22 +41,22 @@ same_span i j f e = made i.from i.to j.from j.to f e
     made : (a b c d : ℕ) → a ≡ c → b ≡ d → span_of a b ≡ span_of c d
     made a b c d p q = rw (p, q) refl
 
-abbrev word_of : List ℕ → Span → SWord
-word_of a i = record { word = a; span = i }
+abbrev word_named : List ℕ → Span → SWord
+word_named a i = record { word = a; span = i }
 
 same_word : (w x : SWord) → w.word ≡ x.word → w.span ≡ x.span → w ≡ x
 same_word w x f e = made w.word x.word w.span x.span f e
   where
-    made : (a b : List ℕ) (i j : Span) → a ≡ b → i ≡ j → word_of a i ≡ word_of b j
+    made : (a b : List ℕ) (i j : Span) → a ≡ b → i ≡ j → word_named a i ≡ word_named b j
     made a b i j p q = rw (p, q) refl
 
-abbrev name_of : Span → SWord → t.Ty → h.Shared
-name_of i w a = record { span = i; name = w; ty = a }
+abbrev shared_named_at : Span → SWord → t.Ty → h.Shared
+shared_named_at i w a = record { span = i; name = w; ty = a }
 
 same_shared : (x y : h.Shared) → x.span ≡ y.span → x.name ≡ y.name → x.ty ≡ y.ty → x ≡ y
 same_shared x y f g e = made x.span y.span x.name y.name x.ty y.ty f g e
   where
-    made : (i j : Span) (w u : SWord) (a b : t.Ty) → i ≡ j → w ≡ u → a ≡ b → name_of i w a ≡ name_of j u b
+    made : (i j : Span) (w u : SWord) (a b : t.Ty) → i ≡ j → w ≡ u → a ≡ b → shared_named_at i w a ≡ shared_named_at j u b
     made i j w u a b p q r = rw (p, q, r) refl
 
 -- pieces that the same tokens spell, up to the end
@@ -121,9 +121,9 @@ module _ {X : Type 0} (v : Bool) (piece : X → List Piece → List Piece) (behi
   fit_right = fits_front v (kinds_in (piece y [])) (kinds_in s) (subst (AreWordsFit v) (sym kinds_right) b.fit)
 
   -- the parts are filled with the places of the same tokens
-  module _ (bare : X → X) (fill : X → Rest → X) (after : X → Rest → Rest)
-      (filled : (z : X) (a : Rest) (q : List Piece) → Spelled [] (piece z q) a → (fill (bare z) a ≡ z) × Spelled [] q (after (bare z) a)) (same : bare x ≡ bare y) where
-    abbrev here : Rest
+  module _ (bare : X → X) (fill : X → FilledRest → X) (after : X → FilledRest → FilledRest)
+      (filled : (z : X) (a : FilledRest) (q : List Piece) → Spelled [] (piece z q) a → (fill (bare z) a ≡ z) × Spelled [] q (after (bare z) a)) (same : bare x ≡ bare y) where
+    abbrev here : FilledRest
     here = record { end = b.end; tokens = b.tokens }
 
     one_part : (x ≡ y) × Both v r s
@@ -357,7 +357,7 @@ same_bench b c = made b.span c.span b.version c.version b.decls c.decls b.shared
 
 pub one_spelled : (b c : Bench) (ts : List Token) → IsBenchSpelled b ts → IsBenchSpelled c ts → b ≡ c
 one_spelled b c ts (hb, sb) (hc, sc) =
-    let v : Bool = is_later b in
+    let v : Bool = is_later_bench b in
     let fit : AreWordsFit v (kinds_of ts) = subst (AreWordsFit v) (kinds_spelled 0 (whole_bench b) ts sb) hb.words in
     let start = unplaced v b.span c.span (bench_pieces b) (bench_pieces c) hb.place hc.place ts fit sb sc in
     let left = pieces_to b (closes b.span.to ∷ []) in
@@ -365,7 +365,7 @@ one_spelled b c ts (hb, sb) (hc, sc) =
     let both = subst (λ (l : List Piece). Both v l (bench_pieces c ++ closes c.span.to ∷ [])) left start.1 in
     let all = subst (λ (l : List Piece). Both v (version_pieces b.version (body_to b (closes b.span.to ∷ []))) l) right both in
     let version = one_version v b.version c.version _ _ hb.version hc.version (body_is v b b.span.to) (body_is v c c.span.to) all in
-    let same : is_later c ≡ v = ap (λ (n : ℕ). n == 2) (sym version.0) in
+    let same : is_later_bench c ≡ v = ap (λ (n : ℕ). n == 2) (sym version.0) in
     let decls = one_each v decl_pieces (IsDeclared v) (one_declaration v) (Names v) (no_decl v) b.decls c.decls _ _ hb.decls (subst (λ (w : Bool). AllByRecursion (IsDeclared w) c.decls) same hc.decls) (names_are v b b.span.to) (names_are v c c.span.to) version.1 in
     let shared = one_each v shared_pieces (IsShared v) (one_shared v) (Edits v) (no_shared v) b.shared c.shared _ _ hb.shared (subst (λ (w : Bool). AllByRecursion (IsShared w) c.shared) same hc.shared) (edits_are v b b.span.to) (edits_are v c c.span.to) decls.1 in
     let edits = one_each v edit_pieces (IsEdit v) (one_edit v) (Last v) (no_edit v) b.edits c.edits _ _ hb.edits (subst (λ (w : Bool). AllByRecursion (IsEdit w) c.edits) same hc.edits) (b.span.to, refl) (c.span.to, refl) shared.1 in

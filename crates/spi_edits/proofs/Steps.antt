@@ -28,10 +28,10 @@ use Rattle.spi_edits.specs.Grammar.{edit_pieces, IsEdit, bench_pieces, placed, w
 use Rattle.spi_edits.specs.Reads.{IsBenchSpelled, ParsesBench}
 use Rattle.spi_edits.specs.Spans.{span_of_all}
 use Rattle.spi_edits.proofs.EditRows.{edit_behind, edit_solid}
-use Rattle.spi_edits.proofs.Whole.{body_pieces, Benches, of_version, version_are, later_pieces, first_pieces}
+use Rattle.spi_edits.proofs.Whole.{bench_body, Benches, bench_of_version, bench_version_are, later_pieces, first_pieces}
 
 body_stands : (v : Bool) (ts : List Token) (ds : List t.Declared) (ss : List h.Shared) (es : List Edit) (i j k l : ℕ) → Along decl_pieces decl_behind (IsDeclared v) ts i ds j → Along shared_pieces shared_behind (IsShared v) ts j ss k
-    → Along edit_pieces edit_behind (IsEdit v) ts k es l → AreTokensOf ts i (body_pieces ds ss es) l
+    → Along edit_pieces edit_behind (IsEdit v) ts k es l → AreTokensOf ts i (bench_body ds ss es) l
 body_stands v ts ds ss es i j k l a b c =
     stands_both ts (each_pieces decl_pieces ds []) (each_pieces shared_pieces ss [] ++ each_pieces edit_pieces es []) i j l a.stands (stands_both ts (each_pieces shared_pieces ss []) (each_pieces edit_pieces es []) j k l b.stands c.stands)
 
@@ -52,9 +52,9 @@ decls_start : (ds : List t.Declared) (ss : List h.Shared) (es : List Edit) → N
 decls_start [] ss es = shared_start ss es
 decls_start (d ∷ ds) ss es = inr (decl_solid d (each_pieces decl_pieces ds (each_pieces shared_pieces ss (each_pieces edit_pieces es []))))
 
-bench_start : (v : ℕ) (s : Span) (ds : List t.Declared) (ss : List h.Shared) (es : List Edit) → (v ≡ 1) ⊎ (v ≡ 2) → NoneOrSolid (bench_pieces (of_version v s ds ss es))
-bench_start v s ds ss es (inl e) = subst (λ (i : ℕ). NoneOrSolid (bench_pieces (of_version i s ds ss es))) (sym e) (decls_start ds ss es)
-bench_start v s ds ss es (inr e) = subst (λ (i : ℕ). NoneOrSolid (bench_pieces (of_version i s ds ss es))) (sym e) (inr tt)
+bench_start : (v : ℕ) (s : Span) (ds : List t.Declared) (ss : List h.Shared) (es : List Edit) → (v ≡ 1) ⊎ (v ≡ 2) → NoneOrSolid (bench_pieces (bench_of_version v s ds ss es))
+bench_start v s ds ss es (inl e) = subst (λ (i : ℕ). NoneOrSolid (bench_pieces (bench_of_version i s ds ss es))) (sym e) (decls_start ds ss es)
+bench_start v s ds ss es (inr e) = subst (λ (i : ℕ). NoneOrSolid (bench_pieces (bench_of_version i s ds ss es))) (sym e) (inr tt)
 
 solid_within : (ts : List Token) (ps : List Piece) (i j : ℕ) → IsSolid ps → AreTokensOf ts i ps j → i < length ts
 solid_within ts [] i j s h = absurd s
@@ -94,18 +94,18 @@ module _ (ts : List Token) (s : Span) (spans : s ≡ span_of_all ts) where
     placed_stands ts s (spans ∙ spans_some ts (solid_within ts (bench_pieces x) 0 (length ts) solid h)) (bench_pieces x) solid h,
   )
 
-  whole_stands : (ds : List t.Declared) (ss : List h.Shared) (es : List Edit) (r : ℕ × ℕ) → ReadsVersion (Ok r) ts → AreTokensOf ts r.1 (body_pieces ds ss es) (length ts) → AreTokensOf ts 0 (bench_pieces (of_version r.0 s ds ss es)) (length ts)
+  whole_stands : (ds : List t.Declared) (ss : List h.Shared) (es : List Edit) (r : ℕ × ℕ) → ReadsVersion (Ok r) ts → AreTokensOf ts r.1 (bench_body ds ss es) (length ts) → AreTokensOf ts 0 (bench_pieces (bench_of_version r.0 s ds ss es)) (length ts)
   whole_stands ds ss es r (inl h) body =
-      subst (λ (n : ℕ). AreTokensOf ts 0 (bench_pieces (of_version n s ds ss es)) (length ts)) (sym h.0)
+      subst (λ (n : ℕ). AreTokensOf ts 0 (bench_pieces (bench_of_version n s ds ss es)) (length ts)) (sym h.0)
       (subst (λ (l : List Piece). AreTokensOf ts 0 l (length ts)) (sym (later_pieces s ds ss es))
-      (stands_both ts version_are (body_pieces ds ss es) 0 3 (length ts) (version_row_at false ts h.2 h.3 h.4).stands (subst (λ (n : ℕ). AreTokensOf ts n (body_pieces ds ss es) (length ts)) h.1 body)))
+      (stands_both ts bench_version_are (bench_body ds ss es) 0 3 (length ts) (version_row_at false ts h.2 h.3 h.4).stands (subst (λ (n : ℕ). AreTokensOf ts n (bench_body ds ss es) (length ts)) h.1 body)))
   whole_stands ds ss es r (inr h) body =
-      subst (λ (n : ℕ). AreTokensOf ts 0 (bench_pieces (of_version n s ds ss es)) (length ts)) (sym h.0)
-      (subst (λ (l : List Piece). AreTokensOf ts 0 l (length ts)) (sym (first_pieces s ds ss es)) (subst (λ (n : ℕ). AreTokensOf ts n (body_pieces ds ss es) (length ts)) h.1 body))
+      subst (λ (n : ℕ). AreTokensOf ts 0 (bench_pieces (bench_of_version n s ds ss es)) (length ts)) (sym h.0)
+      (subst (λ (l : List Piece). AreTokensOf ts 0 l (length ts)) (sym (first_pieces s ds ss es)) (subst (λ (n : ℕ). AreTokensOf ts n (bench_body ds ss es) (length ts)) h.1 body))
 
   pub bench_read : (fit : AreWordsFit (is_version_2 (kinds_of ts)) (kinds_of ts)) (r : ℕ × ℕ) (vr : ReadsVersion (Ok r) ts) (ds : List t.Declared) (ss : List h.Shared) (es : List Edit) (j k : ℕ)
       → Along decl_pieces decl_behind (IsDeclared (r.0 == 2)) ts r.1 ds j → Along shared_pieces shared_behind (IsShared (r.0 == 2)) ts j ss k → Along edit_pieces edit_behind (IsEdit (r.0 == 2)) ts k es (length ts)
-      → IsBenchSpelled (of_version r.0 s ds ss es) ts
+      → IsBenchSpelled (bench_of_version r.0 s ds ss es) ts
   bench_read fit r vr ds ss es j k a b c = (
     record {
       version = version_known ts r vr;
@@ -119,7 +119,7 @@ module _ (ts : List Token) (s : Span) (spans : s ≡ span_of_all ts) where
   )
     where
       x : Bench
-      x = of_version r.0 s ds ss es
+      x = bench_of_version r.0 s ds ss es
 
       is : IsPlaced x
       is = bench_placed x (bench_start r.0 s ds ss es (version_known ts r vr)) (whole_stands ds ss es r vr (body_stands (r.0 == 2) ts ds ss es r.1 j k (length ts) a b c))

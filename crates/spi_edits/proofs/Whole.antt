@@ -22,18 +22,18 @@ use Rattle.spi_heading.proofs.Rows.{row_pieces, row_into, row_from}
 use Rattle.spi_heading.proofs.Each.{each_behind}
 use Rattle.spi_heading.proofs.Names.{shared_behind}
 use Rattle.spi_heading.proofs.Manys.{both_fit, both_cells, many_from, each_into, each_shows, last_into, last_shows}
-use Rattle.spi_heading.proofs.Versions.{version_row, Cells, Later}
-use Rattle.spi_heading.proofs.Fronts.{BeginsFront, NeverFront, SharedFront, Front, IsHeaded}
+use Rattle.spi_heading.proofs.Versions.{version_row, Cells, InLaterVersion}
+use Rattle.spi_heading.proofs.Fronts.{BeginsFront, NeverFront, SharedFront, Front, IsFrontOf}
 use Rattle.spi_heading.proofs.Lasts.{nothing_begins}
 use Rattle.spi_edits.specs.Edits.{Edit, Bench}
 use Rattle.spi_edits.specs.Grammar.{put_word, drop_word, edit_pieces, IsEdit, bench_pieces, placed, whole_bench, IsBench}
 use Rattle.spi_edits.proofs.EditRows.{Edits, edits_begin, edits_some, edit_behind}
 
 -- what stands behind the version
-abbrev pub body_pieces : List t.Declared → List h.Shared → List Edit → List Piece
-body_pieces ds ss es = each_pieces decl_pieces ds [] ++ (each_pieces shared_pieces ss [] ++ each_pieces edit_pieces es [])
+abbrev pub bench_body : List t.Declared → List h.Shared → List Edit → List Piece
+bench_body ds ss es = each_pieces decl_pieces ds [] ++ (each_pieces shared_pieces ss [] ++ each_pieces edit_pieces es [])
 
-pub body_are : (ds : List t.Declared) (ss : List h.Shared) (es : List Edit) → each_pieces decl_pieces ds (each_pieces shared_pieces ss (each_pieces edit_pieces es [])) ≡ body_pieces ds ss es
+pub body_are : (ds : List t.Declared) (ss : List h.Shared) (es : List Edit) → each_pieces decl_pieces ds (each_pieces shared_pieces ss (each_pieces edit_pieces es [])) ≡ bench_body ds ss es
 body_are ds ss es =
     each_behind decl_pieces decl_behind ds (each_pieces shared_pieces ss (each_pieces edit_pieces es []))
     ∙ ap (λ (l : List Piece). each_pieces decl_pieces ds [] ++ l) (each_behind shared_pieces shared_behind ss (each_pieces edit_pieces es []))
@@ -66,8 +66,8 @@ module _ (v : Bool) where
     pub decls_are : AllByRecursion (IsDeclared v) decls
     pub shared_are : AllByRecursion (IsShared v) shared
     pub edits_are : AllByRecursion (IsEdit v) edits
-    pub fit : AreWordsFit v (kinds_in (body_pieces decls shared edits))
-    pub shows : cells (body_pieces decls shared edits) ≡ cs
+    pub fit : AreWordsFit v (kinds_in (bench_body decls shared edits))
+    pub shows : cells (bench_body decls shared edits) ≡ cs
 
   pub body_from : (cs : Cells) → Front v EditsOn cs → FromBody cs
   body_from cs b =
@@ -90,7 +90,7 @@ module _ (v : Bool) where
       }
 
   pub body_into : (ds : List t.Declared) (ss : List h.Shared) (es : List Edit) → AllByRecursion (IsDeclared v) ds → AllByRecursion (IsShared v) ss → AllByRecursion (IsEdit v) es
-      → AreWordsFit v (kinds_in (body_pieces ds ss es)) → Front v EditsOn (cells (body_pieces ds ss es))
+      → AreWordsFit v (kinds_in (bench_body ds ss es)) → Front v EditsOn (cells (bench_body ds ss es))
   body_into ds ss es hd hs he fit =
       let edits = each_pieces edit_pieces es [] in
       each_into decl_pieces decl_behind v (IsDeclared v) (SharedFront v EditsOn) ds hd (each_pieces shared_pieces ss [] ++ edits) fit
@@ -101,19 +101,19 @@ module _ (v : Bool) where
 abbrev pub Benches : Cells → Type 0
 Benches = OfPieces whole_bench IsBench
 
-abbrev Fronts : Bool → Cells → Type 0
-Fronts v = Front v (EditsOn v)
+abbrev BenchFronts : Bool → Cells → Type 0
+BenchFronts v = Front v (EditsOn v)
 
-abbrev pub of_version : ℕ → Span → List t.Declared → List h.Shared → List Edit → Bench
-of_version v s ds ss es = record { span = s; version = v; decls = ds; shared = ss; edits = es }
+abbrev pub bench_of_version : ℕ → Span → List t.Declared → List h.Shared → List Edit → Bench
+bench_of_version v s ds ss es = record { span = s; version = v; decls = ds; shared = ss; edits = es }
 
-abbrev pub version_are : List Piece
+abbrev pub bench_version_are : List Piece
 version_are = row_pieces version_row (tt, (tt, (tt, tt))) []
 
-pub later_pieces : (s : Span) (ds : List t.Declared) (ss : List h.Shared) (es : List Edit) → bench_pieces (of_version 2 s ds ss es) ≡ version_are ++ body_pieces ds ss es
-later_pieces s ds ss es = ap (λ (l : List Piece). version_are ++ l) (body_are ds ss es)
+pub later_pieces : (s : Span) (ds : List t.Declared) (ss : List h.Shared) (es : List Edit) → bench_pieces (bench_of_version 2 s ds ss es) ≡ bench_version_are ++ bench_body ds ss es
+later_pieces s ds ss es = ap (λ (l : List Piece). bench_version_are ++ l) (body_are ds ss es)
 
-pub first_pieces : (s : Span) (ds : List t.Declared) (ss : List h.Shared) (es : List Edit) → bench_pieces (of_version 1 s ds ss es) ≡ body_pieces ds ss es
+pub first_pieces : (s : Span) (ds : List t.Declared) (ss : List h.Shared) (es : List Edit) → bench_pieces (bench_of_version 1 s ds ss es) ≡ bench_body ds ss es
 first_pieces s ds ss es = body_are ds ss es
 
 -- the place of a bench adds no token
@@ -125,24 +125,24 @@ placed_kinds : (s : Span) (ps : List Piece) → kinds_in (placed s ps) ≡ kinds
 placed_kinds s [] = refl
 placed_kinds s (p ∷ ps) = kinds_in_append (p ∷ ps) (closes s.to ∷ []) ∙ append-nil (kinds_in (p ∷ ps))
 
-formed_body : (v : ℕ) (cs : Cells) (b : FromBody (v == 2) cs) → (v ≡ 1) ⊎ (v ≡ 2) → AreWordsFit (v == 2) (kinds_in (whole_bench (of_version v nowhere b.decls b.shared b.edits))) → IsBench (of_version v nowhere b.decls b.shared b.edits)
+formed_body : (v : ℕ) (cs : Cells) (b : FromBody (v == 2) cs) → (v ≡ 1) ⊎ (v ≡ 2) → AreWordsFit (v == 2) (kinds_in (whole_bench (bench_of_version v nowhere b.decls b.shared b.edits))) → IsBench (bench_of_version v nowhere b.decls b.shared b.edits)
 formed_body v cs b known words = record { version = known; decls = b.decls_are; shared = b.shared_are; edits = b.edits_are; words = words; place = λ e. refl }
 
-there : (cs : Cells) → Either (Later Fronts) (Fronts false) cs → Benches cs
+there : (cs : Cells) → Either (InLaterVersion BenchFronts) (BenchFronts false) cs → Benches cs
 there cs (inl k) =
     let b = body_from true k.right k.two in
     let r = row_from true version_row k.left k.one in
-    let x = of_version 2 nowhere b.decls b.shared b.edits in
-    let body = body_pieces b.decls b.shared b.edits in
+    let x = bench_of_version 2 nowhere b.decls b.shared b.edits in
+    let body = bench_body b.decls b.shared b.edits in
     let are = later_pieces nowhere b.decls b.shared b.edits in
     record {
       part = x;
-      is = formed_body 2 k.right b (inr refl) (subst (AreWordsFit true) (sym (placed_kinds nowhere (bench_pieces x) ∙ ap kinds_in are)) (both_fit true version_are body r.fit b.fit));
-      shows = placed_cells nowhere (bench_pieces x) ∙ ap cells are ∙ both_cells version_are body k.left k.right r.shows b.shows ∙ sym k.cells;
+      is = formed_body 2 k.right b (inr refl) (subst (AreWordsFit true) (sym (placed_kinds nowhere (bench_pieces x) ∙ ap kinds_in are)) (both_fit true bench_version_are body r.fit b.fit));
+      shows = placed_cells nowhere (bench_pieces x) ∙ ap cells are ∙ both_cells bench_version_are body k.left k.right r.shows b.shows ∙ sym k.cells;
     }
 there cs (inr k) =
     let b = body_from false cs k in
-    let x = of_version 1 nowhere b.decls b.shared b.edits in
+    let x = bench_of_version 1 nowhere b.decls b.shared b.edits in
     let are = first_pieces nowhere b.decls b.shared b.edits in
     record {
       part = x;
@@ -150,34 +150,34 @@ there cs (inr k) =
       shows = placed_cells nowhere (bench_pieces x) ∙ ap cells are ∙ b.shows;
     }
 
-later_back : (s : Span) (ds : List t.Declared) (ss : List h.Shared) (es : List Edit) → IsBench (of_version 2 s ds ss es) → Later Fronts (cells (whole_bench (of_version 2 s ds ss es)))
+later_back : (s : Span) (ds : List t.Declared) (ss : List h.Shared) (es : List Edit) → IsBench (bench_of_version 2 s ds ss es) → InLaterVersion BenchFronts (cells (whole_bench (bench_of_version 2 s ds ss es)))
 later_back s ds ss es is =
-    let body = body_pieces ds ss es in
-    let x = of_version 2 s ds ss es in
+    let body = bench_body ds ss es in
+    let x = bench_of_version 2 s ds ss es in
     let are = later_pieces s ds ss es in
-    let fit = subst (AreWordsFit true) (placed_kinds s (bench_pieces x) ∙ ap kinds_in are ∙ kinds_in_append version_are body) is.words in
+    let fit = subst (AreWordsFit true) (placed_kinds s (bench_pieces x) ∙ ap kinds_in are ∙ kinds_in_append bench_version_are body) is.words in
     record {
-      left = cells version_are;
+      left = cells bench_version_are;
       right = cells body;
-      one = row_into true version_row (tt, (tt, (tt, tt))) (tt, (tt, (tt, tt))) (fits_front true (kinds_in version_are) (kinds_in body) fit);
-      two = body_into true ds ss es is.decls is.shared is.edits (fits_drop true (kinds_in version_are) (kinds_in body) fit);
-      cells = placed_cells s (bench_pieces x) ∙ ap cells are ∙ cells_append version_are body;
+      one = row_into true version_row (tt, (tt, (tt, tt))) (tt, (tt, (tt, tt))) (fits_front true (kinds_in bench_version_are) (kinds_in body) fit);
+      two = body_into true ds ss es is.decls is.shared is.edits (fits_drop true (kinds_in bench_version_are) (kinds_in body) fit);
+      cells = placed_cells s (bench_pieces x) ∙ ap cells are ∙ cells_append bench_version_are body;
     }
 
-first_back : (s : Span) (ds : List t.Declared) (ss : List h.Shared) (es : List Edit) → IsBench (of_version 1 s ds ss es) → Fronts false (cells (whole_bench (of_version 1 s ds ss es)))
+first_back : (s : Span) (ds : List t.Declared) (ss : List h.Shared) (es : List Edit) → IsBench (bench_of_version 1 s ds ss es) → BenchFronts false (cells (whole_bench (bench_of_version 1 s ds ss es)))
 first_back s ds ss es is =
-    let x = of_version 1 s ds ss es in
+    let x = bench_of_version 1 s ds ss es in
     let are = first_pieces s ds ss es in
-    subst (Fronts false) (sym (placed_cells s (bench_pieces x) ∙ ap cells are)) (body_into false ds ss es is.decls is.shared is.edits (subst (AreWordsFit false) (placed_kinds s (bench_pieces x) ∙ ap kinds_in are) is.words))
+    subst (BenchFronts false) (sym (placed_cells s (bench_pieces x) ∙ ap cells are)) (body_into false ds ss es is.decls is.shared is.edits (subst (AreWordsFit false) (placed_kinds s (bench_pieces x) ∙ ap kinds_in are) is.words))
 
-back : (cs : Cells) → Benches cs → Either (Later Fronts) (Fronts false) cs
+back : (cs : Cells) → Benches cs → Either (InLaterVersion BenchFronts) (BenchFronts false) cs
 back cs p = go p.part.version p.part.decls p.part.shared p.part.edits p.part.span p.is p.shows p.is.version
   where
-    go : (v : ℕ) (ds : List t.Declared) (ss : List h.Shared) (es : List Edit) (s : Span) → IsBench (of_version v s ds ss es) → cells (whole_bench (of_version v s ds ss es)) ≡ cs → (v ≡ 1) ⊎ (v ≡ 2) → Either (Later Fronts) (Fronts false) cs
+    go : (v : ℕ) (ds : List t.Declared) (ss : List h.Shared) (es : List Edit) (s : Span) → IsBench (bench_of_version v s ds ss es) → cells (whole_bench (bench_of_version v s ds ss es)) ≡ cs → (v ≡ 1) ⊎ (v ≡ 2) → Either (InLaterVersion BenchFronts) (BenchFronts false) cs
     go v ds ss es s is e (inl f) =
-        inr (subst (Fronts false) (subst (λ (i : ℕ). cells (whole_bench (of_version i s ds ss es)) ≡ cs) f e) (first_back s ds ss es (subst (λ (i : ℕ). IsBench (of_version i s ds ss es)) f is)))
+        inr (subst (BenchFronts false) (subst (λ (i : ℕ). cells (whole_bench (bench_of_version i s ds ss es)) ≡ cs) f e) (first_back s ds ss es (subst (λ (i : ℕ). IsBench (bench_of_version i s ds ss es)) f is)))
     go v ds ss es s is e (inr f) =
-        inl (subst (Later Fronts) (subst (λ (i : ℕ). cells (whole_bench (of_version i s ds ss es)) ≡ cs) f e) (later_back s ds ss es (subst (λ (i : ℕ). IsBench (of_version i s ds ss es)) f is)))
+        inl (subst (InLaterVersion BenchFronts) (subst (λ (i : ℕ). cells (whole_bench (bench_of_version i s ds ss es)) ≡ cs) f e) (later_back s ds ss es (subst (λ (i : ℕ). IsBench (bench_of_version i s ds ss es)) f is)))
 
-pub benches_headed : IsHeaded Benches EditsOn
+pub benches_headed : IsFrontOf Benches EditsOn
 benches_headed = record { same = record { there = there; back = back }; live = λ v. live_many (Edits v) Nothing ([], refl); never = edits_never }

@@ -46,16 +46,16 @@ abbrev pub IsEdit : Bool → Edit → Type 0
 IsEdit later (puts s w p) = IsProc later (at_level 0) p
 IsEdit later (drops s w) = Unit {0}
 
-abbrev pub is_later : Bench → Bool
-is_later b = b.version == 2
+abbrev pub is_later_bench : Bench → Bool
+is_later_bench b = b.version == 2
 
 -- a formed bench; one without tokens has the empty span at 0
 pub record IsBench (b : Bench) : Type 0 where
   pub version : (b.version ≡ 1) ⊎ (b.version ≡ 2)
-  pub decls : AllByRecursion (IsDeclared (is_later b)) b.decls
-  pub shared : AllByRecursion (IsShared (is_later b)) b.shared
-  pub edits : AllByRecursion (IsEdit (is_later b)) b.edits
-  pub words : AreWordsFit (is_later b) (kinds_in (whole_bench b))
+  pub decls : AllByRecursion (IsDeclared (is_later_bench b)) b.decls
+  pub shared : AllByRecursion (IsShared (is_later_bench b)) b.shared
+  pub edits : AllByRecursion (IsEdit (is_later_bench b)) b.edits
+  pub words : AreWordsFit (is_later_bench b) (kinds_in (whole_bench b))
   pub place : bench_pieces b ≡ [] → b.span ≡ nowhere
 
 -- ---- an edit that stands alone

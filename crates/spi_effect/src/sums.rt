@@ -5,7 +5,7 @@ ghost use Rattle.std.specs.List.Sorted.{IsPermutation};
 ghost use Rattle.spi_term.specs.Looking.{IsInOrder};
 ghost use Rattle.spi_term.specs.View.{atom, effect, pointed};
 ghost use Rattle.spi_effect.specs.Effect.{IsSum, IsDifference, IsGreater};
-ghost use Rattle.spi_effect.specs.Made.{is_many};
+ghost use Rattle.spi_effect.specs.Made.{atom_is_many};
 ghost use Rattle.spi_effect.specs.Rest.{IsMet};
 
 use crate::NoMemory;
@@ -45,7 +45,7 @@ fn references(alloc: Global, atoms: &[Atom]) -> Result<Vec<&Atom>, NoMemory>
 
 // Whether an atom is a `many`.
 fn is_many_atom(a: &Atom) -> bool
-    ensures { result ≡ is_many (atom a.now) }
+    ensures { result ≡ atom_is_many (atom a.now) }
 {
     match a {
         Atom::End(_) => false,

@@ -8,7 +8,7 @@ use Rattle.spi_tree.specs.Trees as t
 use Rattle.spi_tree.specs.Pieces.{Piece, kinds_in}
 use Rattle.spi_grammar.specs.Exactly.{kinds}
 use Rattle.spi_grammar.proofs.Cuts.{Cut, same, behind, before, cut, kinds_append}
-use Rattle.spi_parse.specs.Exact.{Spells, Begins, NoneGoesOn, StartsDeep, NoDeepBefore, IsSyntaxAt, IsDeepAt}
+use Rattle.spi_parse.specs.Exact.{Spells, ItemBegins, NoItemGoesOn, PiecesStartDeep, NoDeepBefore, IsSyntaxAt, IsDeepAt}
 use Rattle.spi_parse.specs.Formed.{whole_file, IsFile}
 use Rattle.spi_parse.proofs.OneTree.{kinds_spelled}
 use Rattle.spi_parts.proofs.Bridge.{kinds_cells, deep_from}
@@ -48,21 +48,21 @@ shallow_front all front rest k e h p x r s lt f is deep =
 pub read_whole : (f : t.File) (ts : List Token) (front : List Kind) (k : Kind) → IsFile f → Spells [] 0 (whole_file f) ts → kinds_of ts ≡ front ++ k ∷ [] → GoesOn front k
 read_whole f ts front k is spells e = (f, is, [], kinds_spelled 0 (whole_file f) ts spells ∙ e ∙ sym (append-nil (front ++ k ∷ [])))
 
-pub ends_there : (ks : List Kind) (i : ℕ) → IsSyntaxAt whole_file IsFile ks i → i ≡ length ks → Begins whole_file IsFile ks
-ends_there ks i s e = subst (λ (l : List Kind). Begins whole_file IsFile l) (sym (s.split ∙ go s.rest (omega (arith, ap length s.split, length-append s.pre s.rest, s.place, e)))) s.begins
+pub ends_there : (ks : List Kind) (i : ℕ) → IsSyntaxAt whole_file IsFile ks i → i ≡ length ks → ItemBegins whole_file IsFile ks
+ends_there ks i s e = subst (λ (l : List Kind). ItemBegins whole_file IsFile l) (sym (s.split ∙ go s.rest (omega (arith, ap length s.split, length-append s.pre s.rest, s.place, e)))) s.begins
   where
     go : (rest : List Kind) → length rest ≡ 0 → s.pre ++ rest ≡ s.pre
     go [] l = append-nil s.pre
     go (x ∷ xs) l = absurd (omega (arith, l))
 
-pub stops_before : (ks : List Kind) (i : ℕ) → IsSyntaxAt whole_file IsFile ks i → (i ≡ length ks → ⊥) → Begins whole_file IsFile ks → ⊥
+pub stops_before : (ks : List Kind) (i : ℕ) → IsSyntaxAt whole_file IsFile ks i → (i ≡ length ks → ⊥) → ItemBegins whole_file IsFile ks → ⊥
 stops_before ks i s n (f, is, c, b) = go s.rest s.split s.stops
   where
-    go : (rest : List Kind) → ks ≡ s.pre ++ rest → Rattle.spi_parse.specs.Exact.Stops whole_file IsFile s.pre rest → ⊥
+    go : (rest : List Kind) → ks ≡ s.pre ++ rest → Rattle.spi_parse.specs.Exact.ItemStops whole_file IsFile s.pre rest → ⊥
     go [] e h = n (sym s.place ∙ sym (ap length (e ∙ append-nil s.pre)))
     go (x ∷ xs) e h = h f is (xs ++ c) (b ∙ ap (λ (l : List Kind). l ++ c) e ∙ append_assoc s.pre (x ∷ xs) c)
 
-starts_begins : (ps : List Piece) (pre : List Kind) (k : Kind) → StartsDeep ps pre k → (c : List Kind) × (kinds_in ps ≡ (pre ++ k ∷ []) ++ c)
+starts_begins : (ps : List Piece) (pre : List Kind) (k : Kind) → PiecesStartDeep ps pre k → (c : List Kind) × (kinds_in ps ≡ (pre ++ k ∷ []) ++ c)
 starts_begins ps pre k d =
     let s = deep_from ps pre k d in
     (kinds s.after, sym (kinds_cells ps) ∙ ap kinds s.parts ∙ kinds_append s.before ((k, true) ∷ s.after) ∙ ap (λ (l : List Kind). l ++ k ∷ kinds s.after) s.begins ∙ sym (append_assoc pre (k ∷ []) (kinds s.after)))
@@ -76,7 +76,7 @@ deep_goes_on ks front k i d e shallow = go (cut d.pre (d.token ∷ d.rest) front
     not_before : length d.pre < length front → ⊥
     not_before lt = shallow d.pre d.token d.rest d.split lt f d.part.1 d.part.2
 
-    here : (pre : List Kind) (x : Kind) → pre ≡ front → x ≡ k → StartsDeep (whole_file f) pre x → GoesOn front k
+    here : (pre : List Kind) (x : Kind) → pre ≡ front → x ≡ k → PiecesStartDeep (whole_file f) pre x → GoesOn front k
     here pre x p q s =
         let b = starts_begins (whole_file f) pre x s in
         (f, d.part.1, b.0, b.1 ∙ ap (λ (l : List Kind). (l ++ x ∷ []) ++ b.0) p ∙ ap (λ (z : Kind). (front ++ z ∷ []) ++ b.0) q)
@@ -89,28 +89,28 @@ deep_goes_on ks front k i d e shallow = go (cut d.pre (d.token ∷ d.rest) front
 -- ---- whether the tokens are begun
 
 -- the answer holds of a front and one token more, where no node above a limit starts before that
-abbrev pub IsBegun : List Token → Bool → Type 0
-IsBegun ts b =
+abbrev pub FrontIsBegun : List Token → Bool → Type 0
+FrontIsBegun ts b =
     (front : List Kind) (k : Kind) → kinds_of ts ≡ front ++ k ∷ [] → NoDeepBefore whole_file IsFile (kinds_of ts) (length front)
     → IsTrue b ↔ GoesOn front k
 
-pub begun_whole : (f : t.File) (ts : List Token) → IsFile f × Spells [] 0 (whole_file f) ts → IsBegun ts true
+pub begun_whole : (f : t.File) (ts : List Token) → IsFile f × Spells [] 0 (whole_file f) ts → FrontIsBegun ts true
 begun_whole f ts h front k e shallow = (λ _. read_whole f ts front k h.0 h.1 e, λ _. refl)
 
-pub begun_deep : (i : ℕ) (ts : List Token) → IsDeepAt whole_file IsFile (kinds_of ts) i → IsBegun ts true
+pub begun_deep : (i : ℕ) (ts : List Token) → IsDeepAt whole_file IsFile (kinds_of ts) i → FrontIsBegun ts true
 begun_deep i ts d front k e shallow = (λ _. deep_goes_on (kinds_of ts) front k i d e shallow, λ _. refl)
 
-pub begun_syntax : (i : ℕ) (ts : List Token) (b : Bool) → IsSyntaxAt whole_file IsFile (kinds_of ts) i → IsTrue b ↔ i ≡ length ts → IsBegun ts b
+pub begun_syntax : (i : ℕ) (ts : List Token) (b : Bool) → IsSyntaxAt whole_file IsFile (kinds_of ts) i → IsTrue b ↔ i ≡ length ts → FrontIsBegun ts b
 begun_syntax i ts b s at front k e shallow = (
-  λ yes. subst (λ (l : List Kind). Begins whole_file IsFile l) e (ends_there (kinds_of ts) i s (at.0 yes ∙ sym (length-map ts (λ (x : Token). x.kind)))),
-  λ g. go b refl (at.1) (subst (λ (l : List Kind). Begins whole_file IsFile l) (sym e) g),
+  λ yes. subst (λ (l : List Kind). ItemBegins whole_file IsFile l) e (ends_there (kinds_of ts) i s (at.0 yes ∙ sym (length-map ts (λ (x : Token). x.kind)))),
+  λ g. go b refl (at.1) (subst (λ (l : List Kind). ItemBegins whole_file IsFile l) (sym e) g),
 )
   where
-    go : (v : Bool) → b ≡ v → (i ≡ length ts → IsTrue b) → Begins whole_file IsFile (kinds_of ts) → IsTrue b
+    go : (v : Bool) → b ≡ v → (i ≡ length ts → IsTrue b) → ItemBegins whole_file IsFile (kinds_of ts) → IsTrue b
     go true h from g = h
     go false h from g = absurd (stops_before (kinds_of ts) i s (λ l. true≢false (sym (from (l ∙ length-map ts (λ (x : Token). x.kind))) ∙ h)) g)
 
-pub begun_front : (ts old : List Token) (k : Kind) (b : Bool) → IsBegun ts b → kinds_of ts ≡ kinds_of old ++ k ∷ []
+pub begun_front : (ts old : List Token) (k : Kind) (b : Bool) → FrontIsBegun ts b → kinds_of ts ≡ kinds_of old ++ k ∷ []
     → NoDeepBefore whole_file IsFile (kinds_of old ++ k ∷ []) (length old) → IsTrue b ↔ GoesOn (kinds_of old) k
 begun_front ts old k b h e shallow =
     h (kinds_of old) k e

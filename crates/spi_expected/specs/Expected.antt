@@ -5,12 +5,12 @@ use Rattle.spi_lex.specs.declared.token.Kind.TheVariants as kinds
 use Rattle.spi_lex.specs.declared.token.Mark.{Mark}
 use Rattle.spi_lex.specs.declared.token.Mark.TheVariants.{ParenOpen, ParenClose, BracketOpen, BracketClose, BraceOpen, BraceClose, Comma, Semicolon, Colon, Equals, Bar, Plus, NumberSign}
 use Rattle.spi_lex.specs.Words.{version_2}
-use Rattle.spi_parse.specs.Exact.{Begins}
+use Rattle.spi_parse.specs.Exact.{ItemBegins}
 use Rattle.spi_parse.specs.Formed.{whole_file, IsFile}
 
 -- some file's tokens begin with these and then with one of this kind
 abbrev pub GoesOn : List Kind → Kind → Type 0
-GoesOn front k = Begins whole_file IsFile (front ++ k ∷ [])
+GoesOn front k = ItemBegins whole_file IsFile (front ++ k ∷ [])
 
 abbrev pub marks : List Mark
 marks =

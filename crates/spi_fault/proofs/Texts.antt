@@ -12,7 +12,7 @@ use Rattle.spi_term.proofs.Lists.{in_append}
 use Rattle.spi_term.specs.declared.term.Atom as Declared
 use Rattle.spi_term.specs.Term.{Atom, Effect}
 use Rattle.spi_term.specs.View.{atom}
-use Rattle.spi_show.specs.Report.{atom_text}
+use Rattle.spi_show.specs.Report.{reported_atom}
 use Rattle.spi_fault.specs.Trying.{IsBest, IsBetter, IsPlaceOfLeast, tried_place}
 
 in_none : {A : Type 0} {x : A} → In x [] → ⊥
@@ -81,20 +81,20 @@ module _ (names : List (List ℕ)) (P : Atom → Type 0) (es : List Atom) (a : A
       (x, get_more es (a ∷ []) j x at, is, t, λ b i p. ⊎_elim (λ (i : In b es). least b i p) (λ (e : b ≡ a). absurd (n (subst P e p))) (more i))
 
   abbrev Above : Atom → Type 0
-  Above x = (b : Atom) → In b (es ++ a ∷ []) → P b → slice_cmp nat_cmp (atom_text names x) (atom_text names b) ≢ Greater
+  Above x = (b : Atom) → In b (es ++ a ∷ []) → P b → slice_cmp nat_cmp (reported_atom names x) (reported_atom names b) ≢ Greater
 
-  above_itself : ((b : Atom) → In b es → P b → slice_cmp nat_cmp (atom_text names a) (atom_text names b) ≢ Greater) → Above a
+  above_itself : ((b : Atom) → In b es → P b → slice_cmp nat_cmp (reported_atom names a) (reported_atom names b) ≢ Greater) → Above a
   above_itself h b i p =
-      ⊎_elim (λ (i : In b es). h b i p) (λ (e : b ≡ a). subst (λ b. slice_cmp nat_cmp (atom_text names a) (atom_text names b) ≢ Greater) (sym e) (self_not (atom_text names a))) (more i)
+      ⊎_elim (λ (i : In b es). h b i p) (λ (e : b ≡ a). subst (λ b. slice_cmp nat_cmp (reported_atom names a) (reported_atom names b) ≢ Greater) (sym e) (self_not (reported_atom names a))) (more i)
 
   -- one of the kind takes the place of a greater one
-  pub best_more : (i : ℕ) (text : Vec ℕ) (o r : Option (ℕ × Vec ℕ)) → P a → i ≡ length es → text.items ≡ atom_text names a → IsBetter o i text r → IsBest names P es o → IsBest names P (es ++ a ∷ []) r
+  pub best_more : (i : ℕ) (text : Vec ℕ) (o r : Option (ℕ × Vec ℕ)) → P a → i ≡ length es → text.items ≡ reported_atom names a → IsBetter o i text r → IsBest names P es o → IsBest names P (es ++ a ∷ []) r
   best_more i text None r is at t better h =
       subst (IsBest names P (es ++ a ∷ [])) (sym better) (a, ap (slice_get (es ++ a ∷ [])) at ∙ get_last es a, is, t, above_itself (λ b i p. absurd (h b i p)))
   best_more i text (Some (j, old)) r is at t (inl (g, e)) (x, place, was, u, least) =
-      subst (IsBest names P (es ++ a ∷ [])) (sym e) (a, ap (slice_get (es ++ a ∷ [])) at ∙ get_last es a, is, t, above_itself (λ b i p. below (atom_text names a) (atom_text names x) (atom_text names b) (ap₂ text_cmp (sym u) (sym t) ∙ g) (least b i p)))
+      subst (IsBest names P (es ++ a ∷ [])) (sym e) (a, ap (slice_get (es ++ a ∷ [])) at ∙ get_last es a, is, t, above_itself (λ b i p. below (reported_atom names a) (reported_atom names x) (reported_atom names b) (ap₂ text_cmp (sym u) (sym t) ∙ g) (least b i p)))
   best_more i text (Some (j, old)) r is at t (inr (g, e)) (x, place, was, u, least) =
-      subst (IsBest names P (es ++ a ∷ [])) (sym e) (x, get_more es (a ∷ []) j x place, was, u, λ b i p. ⊎_elim (λ (i : In b es). least b i p) (λ (e : b ≡ a). subst (λ b. text_cmp (atom_text names x) (atom_text names b) ≢ Greater) (sym e) (λ k. g (ap₂ text_cmp u t ∙ k))) (more i))
+      subst (IsBest names P (es ++ a ∷ [])) (sym e) (x, get_more es (a ∷ []) j x place, was, u, λ b i p. ⊎_elim (λ (i : In b es). least b i p) (λ (e : b ≡ a). subst (λ b. text_cmp (reported_atom names x) (reported_atom names b) ≢ Greater) (sym e) (λ k. g (ap₂ text_cmp u t ∙ k))) (more i))
 
 pub best_place : (names : List (List ℕ)) (P : Atom → Type 0) (es : List Atom) (o : Option (ℕ × Vec ℕ)) → IsBest names P es o → IsPlaceOfLeast names P es (tried_place o)
 best_place names P es None h = h

@@ -10,7 +10,7 @@ use Rattle.spi_rules.specs.Blocking.{NodeOf, Blocks}
 use Rattle.spi_term.specs.Lists.{In}
 use Rattle.spi_term.specs.Term.{Message, Atom, Effect, Process}
 use Rattle.spi_term.specs.View as View
-use Rattle.spi_show.specs.Report.{atom_text}
+use Rattle.spi_show.specs.Report.{reported_atom}
 use Rattle.spi_fault.specs.declared.fault.Fault.{Fault}
 use Rattle.spi_fault.specs.declared.fault.Shown.{Shown}
 use Rattle.spi_fault.specs.declared.fault.Shown.TheVariants as S
@@ -44,7 +44,7 @@ told f = record { reason = f.reason; node = f.node; scope_of = f.scope_of; shown
 -- Of the atoms of this kind, one whose report form is least by its bytes, where names are spelled so.
 pub record IsLeastText (spelled : List (List ℕ)) (Kind : Atom → Type 0) (a : Atom) : Type 0 where
   pub is : Kind a
-  pub least : (b : Atom) → Kind b → slice_cmp nat_cmp (atom_text spelled a) (atom_text spelled b) ≢ Greater
+  pub least : (b : Atom) → Kind b → slice_cmp nat_cmp (reported_atom spelled a) (reported_atom spelled b) ≢ Greater
 
 -- what a check shows that asks about no effect: its message, and no type
 abbrev pub subject_checked : Check → Thing

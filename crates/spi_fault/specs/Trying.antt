@@ -11,7 +11,7 @@ use Rattle.spi_term.specs.View.{message, ty}
 use Rattle.spi_effect.specs.Effect.{IsMany}
 use Rattle.spi_rules.specs.Environment.{Env}
 use Rattle.spi_rules.specs.Blocking.{Child}
-use Rattle.spi_show.specs.Report.{atom_text}
+use Rattle.spi_show.specs.Report.{reported_atom}
 use Rattle.spi_fault.specs.declared.check.Check as Declared
 use Rattle.spi_fault.specs.declared.check.Check.TheVariants as D
 use Rattle.spi_fault.specs.declared.least.Kind.{Kind}
@@ -50,8 +50,8 @@ IsOf (K.Naming n k) a = HasBoundName n k a
 abbrev pub IsBest : List (List ℕ) → (Atom → Type 0) → List Atom → Option (ℕ × Vec ℕ) → Type 0
 IsBest names P es None = (b : Atom) → In b es → P b → ⊥
 IsBest names P es (Some (j, text)) =
-    (a : Atom) × (slice_get es j ≡ Some a) × P a × (text.items ≡ atom_text names a)
-    × ((b : Atom) → In b es → P b → slice_cmp nat_cmp (atom_text names a) (atom_text names b) ≢ Greater)
+    (a : Atom) × (slice_get es j ≡ Some a) × P a × (text.items ≡ reported_atom names a)
+    × ((b : Atom) → In b es → P b → slice_cmp nat_cmp (reported_atom names a) (reported_atom names b) ≢ Greater)
 
 -- what is kept of the best so far and of one more
 abbrev pub IsBetter : Option (ℕ × Vec ℕ) → ℕ → Vec ℕ → Option (ℕ × Vec ℕ) → Type 0

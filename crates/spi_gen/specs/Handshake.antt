@@ -20,7 +20,7 @@ pair m n = t.tuple nowhere m n t.no_msgs
 abbrev pub label : t.Msg
 label = t.tuple nowhere (name (codes "a")) (name (codes "b")) (t.more_msgs (name (codes "m")) t.no_msgs)
 
-abbrev pub untrusted : t.Ty
+abbrev pub untrusted_type : t.Ty
 untrusted = t.un nowhere
 
 -- Nonce [end (a, b, m)]
@@ -29,7 +29,7 @@ proof = t.nonce nowhere (t.ends nowhere label ∷ [])
 
 -- (m: Un, n: Nonce [end (a, b, m)])
 abbrev pub answer : t.Ty
-answer = t.tuple_ty nowhere (word (codes "m")) untrusted t.no_fields (t.named (word (codes "n")) proof)
+answer = t.tuple_ty nowhere (word (codes "m")) untrusted_type t.no_fields (t.named (word (codes "n")) proof)
 
 abbrev pub answer_name : t.Ty
 answer_name = t.abbr nowhere (word (codes "Msg"))
@@ -40,8 +40,8 @@ net = name (codes "net")
 -- inp net (q: Un); new (m: Un); begin (a, b, m); cast q is (p: Nonce [end (a, b, m)]); out net {(m, p)}k
 abbrev pub answering : t.Proc
 answering =
-    t.inp nowhere net (word (codes "q")) untrusted (
-    t.new nowhere (word (codes "m")) untrusted (
+    t.inp nowhere net (word (codes "q")) untrusted_type (
+    t.new nowhere (word (codes "m")) untrusted_type (
     t.begin nowhere label (
     t.cast nowhere (name (codes "q")) (word (codes "p")) proof (
     t.out nowhere net (t.enc nowhere (pair (name (codes "m")) (name (codes "p"))) (name (codes "k")))))))
@@ -49,16 +49,16 @@ answering =
 -- split x is (m: Un, p: Nonce [end (a, b, m)]); check n is p; end (a, b, m); stop
 abbrev pub checking : t.Proc
 checking =
-    t.split nowhere (name (codes "x")) (word (codes "m")) untrusted (word (codes "p")) proof (
+    t.split nowhere (name (codes "x")) (word (codes "m")) untrusted_type (word (codes "p")) proof (
     t.check nowhere (name (codes "n")) (name (codes "p")) (
     t.end nowhere label (t.stop nowhere)))
 
 -- new (n: Un); out net n; inp net (c: Un); decrypt c is {x: Msg}k; split ..
 abbrev pub asking : t.Proc
 asking =
-    t.new nowhere (word (codes "n")) untrusted (
+    t.new nowhere (word (codes "n")) untrusted_type (
     t.out_then nowhere net (name (codes "n")) (
-    t.inp nowhere net (word (codes "c")) untrusted (
+    t.inp nowhere net (word (codes "c")) untrusted_type (
     t.decrypt nowhere (name (codes "c")) (word (codes "x")) answer_name (name (codes "k")) checking)))
 
 -- new (k: Key(Msg)); ( .. | .. )

@@ -57,7 +57,7 @@ fn label(alloc: Global) -> Result<SMsg, NoMemory>
 }
 
 fn untrusted() -> STy
-    ensures { ty_of result ≡ H.untrusted }
+    ensures { ty_of result ≡ H.untrusted_type }
 {
     STy::Un {
         span: Span { from: 0, to: 0 },
@@ -123,7 +123,7 @@ fn new_name(alloc: Global, spelling: &str, ty: STy, then: SProc) -> Result<SProc
 // inp net (x: Un); P
 fn input(alloc: Global, spelling: &str, then: SProc) -> Result<SProc, NoMemory>
     ensures { IfOk result
-        (λ p. proc_of p ≡ t.inp H.nowhere H.net (H.word spelling.now) H.untrusted (proc_of then)) }
+        (λ p. proc_of p ≡ t.inp H.nowhere H.net (H.word spelling.now) H.untrusted_type (proc_of then)) }
 {
     Ok(SProc::Inp {
         channel: name(alloc, "net")?,

@@ -17,23 +17,23 @@ use Rattle.spi_grammar.specs.Exactly.{kinds, IsPrefixFree, IsSame, IsEnd}
 use Rattle.spi_grammar.proofs.Good.{end_closed}
 use Rattle.spi_parts.proofs.Bridge.{kinds_cells, OfPieces, of_piece, end_to}
 use Rattle.spi_heading.specs.Spans.{end_before, first_from, first_to}
-use Rattle.spi_heading.specs.Taking.{IsThere, Takes, TakesWord}
+use Rattle.spi_heading.specs.Taking.{IsThere, TakesOneToken, TakesWord}
 use Rattle.spi_heading.proofs.Standing.{AreTokensOf, found, within_one, within_part, behind_one, behind_part, spelled, standing, IsSolid, solid, msg_solid, ty_solid}
 use Rattle.spi_heading.proofs.Failing.{FailsAt, memory, one_fail}
-use Rattle.spi_heading.proofs.Symbols.{Tok, kind_of, IsNameKind, name_token, asked_fits, shared, spelling, token, name, message, ty, SymbolItem}
+use Rattle.spi_heading.proofs.Symbols.{HeadingTok, kind_of_token, IsNameKind, name_token, asked_fits, shared, spelling_asked, token, name, message, ty, SymbolItem}
 use Rattle.spi_heading.proofs.Rows.{ItemAt}
 
 -- ---- single tokens
 
-pub took : (v : Bool) (ts : List Token) (i next : ℕ) (x : Tok) → Takes (kind_of x) (Ok next) ts i → ItemAt v ts i (token x) tt next
+pub took : (v : Bool) (ts : List Token) (i next : ℕ) (x : HeadingTok) → TakesOneToken (kind_of_token x) (Ok next) ts i → ItemAt v ts i (token x) tt next
 took v ts i next x h =
     let f = found ts i h.0.0 h.0.1 in
     let e = h.1 in
     record { is = tt; stands = (h.0.0, f.0, f.1, h.0.2, refl, omega arith) }
 
-pub untaken : (v : Bool) (ts : List Token) (i : ℕ) (x : Tok) (f : ParseFault) → Takes (kind_of x) (Err f) ts i → FailsAt (SymbolItem v (token x)) ts i f
+pub untaken : (v : Bool) (ts : List Token) (i : ℕ) (x : HeadingTok) (f : ParseFault) → TakesOneToken (kind_of_token x) (Err f) ts i → FailsAt (SymbolItem v (token x)) ts i f
 untaken v ts i x (faults.Syntax n) h = subst (λ (m : ℕ). FailsAt (SymbolItem v (token x)) ts i (faults.Syntax m)) (sym h.1)
-    (one_fail (λ k. k ≡ kind_of x) (kind_of x, refl) ts i (λ k e there. h.0 (there.0, there.1, there.2 ∙ e)))
+    (one_fail (λ k. k ≡ kind_of_token x) (kind_of_token x, refl) ts i (λ k e there. h.0 (there.0, there.1, there.2 ∙ e)))
 untaken v ts i x (faults.TooDeep n) h = absurd h
 untaken v ts i x faults.NoMemory h = absurd h
 
@@ -48,7 +48,7 @@ took_word v ts i r h =
 
 pub untaken_word : (v : Bool) (ts : List Token) (i : ℕ) (f : ParseFault) → TakesWord (Err f) ts i → FailsAt (SymbolItem v name) ts i f
 untaken_word v ts i (faults.Syntax n) h = subst (λ (m : ℕ). FailsAt (SymbolItem v name) ts i (faults.Syntax m)) (sym h.1)
-    (one_fail (IsNameKind v) (K.Word (spelling shared), asked_fits v shared) ts i (λ k c there. let n = name_token v k c in h.0 n.0 (there.0, there.1, there.2 ∙ n.1)))
+    (one_fail (IsNameKind v) (K.Word (spelling_asked shared), asked_fits v shared) ts i (λ k c there. let n = name_token v k c in h.0 n.0 (there.0, there.1, there.2 ∙ n.1)))
 untaken_word v ts i (faults.TooDeep n) h = absurd h
 untaken_word v ts i faults.NoMemory h = memory refl
 
@@ -120,8 +120,8 @@ message_within v ts i m j w r = part_within whole_message (IsWholeMessage v) m t
 pub there_before : (ts : List Token) (i : ℕ) (k : Kind) → IsThere ts i k → i < length ts
 there_before ts i k h = let f = found ts i h.0 h.1 in within_one ts i h.0 f.0 f.1
 
-pub took_before : (ts : List Token) (i next : ℕ) (x : Tok) → Takes (kind_of x) (Ok next) ts i → i < length ts
-took_before ts i next x h = there_before ts i (kind_of x) h.0
+pub took_before : (ts : List Token) (i next : ℕ) (x : HeadingTok) → TakesOneToken (kind_of_token x) (Ok next) ts i → i < length ts
+took_before ts i next x h = there_before ts i (kind_of_token x) h.0
 
 pub there_within : (ts : List Token) (i : ℕ) (k : Kind) → IsThere ts i k → i + 1 ≤ length ts
 there_within ts i k h = let b = there_before ts i k h in omega arith

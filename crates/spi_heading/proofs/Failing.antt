@@ -55,8 +55,8 @@ module _ (L M : List (Kind × Bool) → Type 0) (ts : List Token) where
       (second_refuses L M (apart_closed L M l.closed) l.even (kinds_of (drop i ts)) h.cells (kinds_of (drop j ts)) h.reads d n r)
 
 -- a part is told by its first token: those that begin so, and the others
-abbrev Rest : (M : List (Kind × Bool) → Type 0) → Kind → List (Kind × Bool) → Type 0
-Rest M k a = M a × ((x : List Kind) → kinds a ≡ k ∷ x → ⊥)
+abbrev RestOfRow : (M : List (Kind × Bool) → Type 0) → Kind → List (Kind × Bool) → Type 0
+RestOfRow M k a = M a × ((x : List Kind) → kinds a ≡ k ∷ x → ⊥)
 
 -- the kind L has all parts of the kind M that begin with the token k, and no parts but those of M
 pub record IsToldBy (k : Kind) (L M : List (Kind × Bool) → Type 0) : Type 0 where
@@ -64,14 +64,14 @@ pub record IsToldBy (k : Kind) (L M : List (Kind × Bool) → Type 0) : Type 0 w
   pub into : (a : List (Kind × Bool)) → L a → M a
   pub splits : (a : List (Kind × Bool)) → M a → L a ⊎ ((x : List Kind) → kinds a ≡ k ∷ x → ⊥)
 
-told_same : (k : Kind) (L M : List (Kind × Bool) → Type 0) → IsToldBy k L M → IsSame (Either L (Rest M k)) M
+told_same : (k : Kind) (L M : List (Kind × Bool) → Type 0) → IsToldBy k L M → IsSame (Either L (RestOfRow M k)) M
 told_same k L M told = record { there = there; back = λ a m. back a m (told.splits a m) }
   where
-    there : (a : List (Kind × Bool)) → Either L (Rest M k) a → M a
+    there : (a : List (Kind × Bool)) → Either L (RestOfRow M k) a → M a
     there a (inl h) = told.into a h
     there a (inr h) = h.0
 
-    back : (a : List (Kind × Bool)) → M a → L a ⊎ ((x : List Kind) → kinds a ≡ k ∷ x → ⊥) → Either L (Rest M k) a
+    back : (a : List (Kind × Bool)) → M a → L a ⊎ ((x : List Kind) → kinds a ≡ k ∷ x → ⊥) → Either L (RestOfRow M k) a
     back a m (inl l) = inl l
     back a m (inr h) = inr (m, h)
 
@@ -80,8 +80,8 @@ told_fail k L M told ts i there f (memory e) = memory e
 told_fail k L M told ts i there f (fault d n t r) =
     let l = found ts i there.0 there.1 in
     let is : kinds_of (drop i ts) ≡ k ∷ kinds_of l.0 = ap kinds_of l.1 ∙ ap (λ (x : Kind). x ∷ kinds_of l.0) there.2 in
-    fault d n t (same_refuses (Either L (Rest M k)) M (told_same k L M told) d (kinds_of (drop i ts)) n
-    (subst (λ (l : List Kind). RefusesText d (Either L (Rest M k)) l n) (sym is) (this_refuses L (Rest M k) k (kinds_of l.0) told.starts (λ b h x e. h.1 x e) d n (subst (λ (l : List Kind). RefusesText d L l n) is r))))
+    fault d n t (same_refuses (Either L (RestOfRow M k)) M (told_same k L M told) d (kinds_of (drop i ts)) n
+    (subst (λ (l : List Kind). RefusesText d (Either L (RestOfRow M k)) l n) (sym is) (this_refuses L (RestOfRow M k) k (kinds_of l.0) told.starts (λ b h x e. h.1 x e) d n (subst (λ (l : List Kind). RefusesText d L l n) is r))))
 
 -- none of these tokens stands there
 pub one_fail : (C : Kind → Type 0) → ((k : Kind) × C k) → (ts : List Token) (i : ℕ) → ((k : Kind) → C k → IsThere ts i k → ⊥) → FailsAt (One C) ts i (faults.Syntax i)

@@ -13,7 +13,7 @@ use Rattle.spi_grammar.proofs.Good.{IsSome}
 use Rattle.spi_parts.proofs.Bridge.{of_piece}
 use Rattle.spi_parts.proofs.Alone.{Decls, declarations_closed, declarations_even}
 use Rattle.spi_heading.specs.Grammar.{shared_word, whole_shared}
-use Rattle.spi_heading.proofs.Symbols.{asked_fits, shared, spelling}
+use Rattle.spi_heading.proofs.Symbols.{asked_fits, shared, spelling_asked}
 use Rattle.spi_heading.proofs.Rows.{row_good}
 use Rattle.spi_heading.proofs.Names.{Shareds, shared_row, shared_are}
 use Rattle.spi_heading.proofs.RowParts.{rows_same}
@@ -38,7 +38,7 @@ module _ (v : Bool) where
 
   pub decls_good : IsGoodKind (Decls v)
   decls_good =
-      let name : SWord = record { word = spelling shared; span = nowhere } in
+      let name : SWord = record { word = spelling_asked shared; span = nowhere } in
       let d : t.Declared = t.free nowhere name [] in
       record { live = (cells (whole_decl d), of_piece whole_decl (IsWholeDecl v) d (tt, (tt, (asked_fits v shared, (tt, tt))))); closed = declarations_closed v; even = declarations_even v }
 

@@ -23,9 +23,9 @@ use Rattle.spi_heading.proofs.Standing.{decl_solid}
 use Rattle.spi_heading.proofs.Failing.{FailsAt, fails_from}
 use Rattle.spi_heading.proofs.Each.{Along, each_along}
 use Rattle.spi_heading.proofs.Names.{Shareds, shared_behind, shared_solid}
-use Rattle.spi_heading.proofs.Wholes.{WholeFails, Rest, many_fault, many_end, each_next}
+use Rattle.spi_heading.proofs.Wholes.{WholeFails, RestOfWhole, many_fault, many_end, each_next}
 use Rattle.spi_heading.proofs.Firsts.{BeginsDeclared, decls_begin, decls_some, decls_good, shareds_begin, shareds_some, shareds_good}
-use Rattle.spi_heading.proofs.Versions.{Cells, Later, version_fits, after_version, version_fault}
+use Rattle.spi_heading.proofs.Versions.{Cells, InLaterVersion, version_fits, after_version, version_fault}
 
 -- the tokens with which the version, a shared name or a declaration begins
 abbrev pub BeginsFront : Kind → Type 0
@@ -76,14 +76,14 @@ module _ (v : Bool) (Next : Cells → Type 0) where
       abbrev Decls_at : ℕ → List t.Declared → ℕ → Type 0
       Decls_at i ds j = Along decl_pieces decl_behind (IsDeclared v) ts i ds j
 
-      decls_next : (ds : List t.Declared) (i j : ℕ) → Decls_at i ds j → Rest Whole Front ts i → Rest Whole Front ts j
+      decls_next : (ds : List t.Declared) (i j : ℕ) → Decls_at i ds j → RestOfWhole Whole Front ts i → RestOfWhole Whole Front ts j
       decls_next ds i j a r = each_next Whole SharedFront ts decl_pieces decl_behind v (IsDeclared v) fit (decls_good v) (decls_some v) decls_differ shared_live ds i j a r
 
-      decls_fault : (ds : List t.Declared) (i j : ℕ) → Decls_at i ds j → Rest Whole Front ts i → BeginsDecl ts j → (f : ParseFault) → FailsAt (Decls v) ts j f → WholeFails Whole ts f
+      decls_fault : (ds : List t.Declared) (i j : ℕ) → Decls_at i ds j → RestOfWhole Whole Front ts i → BeginsDecl ts j → (f : ParseFault) → FailsAt (Decls v) ts j f → WholeFails Whole ts f
       decls_fault ds i j a r (inl there) f e = many_fault Whole (Decls v) SharedFront ts j f (K.Reserved word.Free) there (λ b lb x g. decls_never (K.Reserved word.Free) (inl refl) b lb x g) (decls_next ds i j a r) (decls_good v) shared_live e
       decls_fault ds i j a r (inr there) f e = many_fault Whole (Decls v) SharedFront ts j f (K.Reserved word.TypeWord) there (λ b lb x g. decls_never (K.Reserved word.TypeWord) (inr refl) b lb x g) (decls_next ds i j a r) (decls_good v) shared_live e
 
-      after_decls : (ds : List t.Declared) (i j : ℕ) → Decls_at i ds j → Rest Whole Front ts i → (BeginsDecl ts j → ⊥) → Rest Whole SharedFront ts j
+      after_decls : (ds : List t.Declared) (i j : ℕ) → Decls_at i ds j → RestOfWhole Whole Front ts i → (BeginsDecl ts j → ⊥) → RestOfWhole Whole SharedFront ts j
       after_decls ds i j a r none = many_end Whole (Decls v) SharedFront ts j (decls_next ds i j a r) (decls_some v) (λ b lb k x e there. none (go k (decls_begin v b lb k x e) there))
         where
           go : (k : Kind) → (k ≡ K.Reserved word.Free) ⊎ (k ≡ K.Reserved word.TypeWord) → IsThere ts j k → BeginsDecl ts j
@@ -93,24 +93,24 @@ module _ (v : Bool) (Next : Cells → Type 0) where
       abbrev Shared_at : ℕ → List h.Shared → ℕ → Type 0
       Shared_at i ss j = Along shared_pieces shared_behind (IsShared v) ts i ss j
 
-      shared_next : (ss : List h.Shared) (i j : ℕ) → Shared_at i ss j → Rest Whole SharedFront ts i → Rest Whole SharedFront ts j
+      shared_next : (ss : List h.Shared) (i j : ℕ) → Shared_at i ss j → RestOfWhole Whole SharedFront ts i → RestOfWhole Whole SharedFront ts j
       shared_next ss i j a r = each_next Whole Next ts shared_pieces shared_behind v (IsShared v) fit (shareds_good v) (shareds_some v) shared_differ next_live ss i j a r
 
-      shared_fault : (ss : List h.Shared) (i j : ℕ) → Shared_at i ss j → Rest Whole SharedFront ts i → BeginsShared ts j → (f : ParseFault) → FailsAt (Shareds v) ts j f → WholeFails Whole ts f
+      shared_fault : (ss : List h.Shared) (i j : ℕ) → Shared_at i ss j → RestOfWhole Whole SharedFront ts i → BeginsShared ts j → (f : ParseFault) → FailsAt (Shareds v) ts j f → WholeFails Whole ts f
       shared_fault ss i j a r there f e = many_fault Whole (Shareds v) Next ts j f shared_word there (λ b lb x g. never shared_word (inr (inl refl)) b lb x g) (shared_next ss i j a r) (shareds_good v) next_live e
 
-      after_shared : (ss : List h.Shared) (i j : ℕ) → Shared_at i ss j → Rest Whole SharedFront ts i → (BeginsShared ts j → ⊥) → Rest Whole Next ts j
+      after_shared : (ss : List h.Shared) (i j : ℕ) → Shared_at i ss j → RestOfWhole Whole SharedFront ts i → (BeginsShared ts j → ⊥) → RestOfWhole Whole Next ts j
       after_shared ss i j a r none = many_end Whole (Shareds v) Next ts j (shared_next ss i j a r) (shareds_some v) (λ b lb k x e there. none (there.0, there.1, there.2 ∙ shareds_begin v b lb k x e))
 
 -- ---- the answers of the calls that read them
 
 -- a whole is the front, with the version or not, and behind it what `Next` says
-pub record IsHeaded (Whole : Cells → Type 0) (Next : Bool → Cells → Type 0) : Type 0 where
-  pub same : IsSame (Either (Later (λ v. Front v (Next v))) (Front false (Next false))) Whole
+pub record IsFrontOf (Whole : Cells → Type 0) (Next : Bool → Cells → Type 0) : Type 0 where
+  pub same : IsSame (Either (InLaterVersion (λ v. Front v (Next v))) (Front false (Next false))) Whole
   pub live : (v : Bool) → IsLive (Next v)
   pub never : (v : Bool) → NeverFront (Next v)
 
-module _ {Whole : Cells → Type 0} {Next : Bool → Cells → Type 0} (is : IsHeaded Whole Next) (ts : List Token) (words : AreWordsFit (is_version_2 (kinds_of ts)) (kinds_of ts)) where
+module _ {Whole : Cells → Type 0} {Next : Bool → Cells → Type 0} (is : IsFrontOf Whole Next) (ts : List Token) (words : AreWordsFit (is_version_2 (kinds_of ts)) (kinds_of ts)) where
   abbrev Fronts : Bool → Cells → Type 0
   Fronts v = Front v (Next v)
 
@@ -118,7 +118,7 @@ module _ {Whole : Cells → Type 0} {Next : Bool → Cells → Type 0} (is : IsH
   version_answer f h = version_fault Whole Fronts is.same (version_never false (Next false) (is.live false) (is.never false)) (front_live true (Next true) (is.live true) (is.never true)) ts words f h
 
   module _ (r : ℕ × ℕ) (read : ReadsVersion (Ok r) ts) (within : r.1 ≤ length ts) where
-    start : Rest Whole (Front (r.0 == 2) (Next (r.0 == 2))) ts r.1
+    start : RestOfWhole Whole (Front (r.0 == 2) (Next (r.0 == 2))) ts r.1
     start = after_version Whole Fronts is.same (version_never false (Next false) (is.live false) (is.never false)) (front_live true (Next true) (is.live true) (is.never true)) ts words r read
 
     pub decls_answer : (f : ParseFault) → ReadsEach (λ (ds : List t.Declared). ds) decl_pieces (r.0 == 2) (IsDeclared (r.0 == 2)) BeginsDecl (Err f) ts r.1 → WholeFails Whole ts f
@@ -131,7 +131,7 @@ module _ {Whole : Cells → Type 0} {Next : Bool → Cells → Type 0} (is : IsH
       pub decls_stand : Along decl_pieces decl_behind (IsDeclared (r.0 == 2)) ts r.1 ds j
       decls_stand = each_along decl_pieces decl_behind (IsDeclared (r.0 == 2)) ts decl_solid r.1 j ds within d.0
 
-      behind_decls : Rest Whole (SharedFront (r.0 == 2) (Next (r.0 == 2))) ts j
+      behind_decls : RestOfWhole Whole (SharedFront (r.0 == 2) (Next (r.0 == 2))) ts j
       behind_decls = let v = r.0 == 2 in after_decls v (Next v) (is.live v) (is.never v) Whole ts (version_fits ts words r read) ds r.1 j decls_stand start d.1
 
       pub shared_answer : (f : ParseFault) → ReadsEach (λ (ss : List h.Shared). ss) shared_pieces (r.0 == 2) (IsShared (r.0 == 2)) BeginsShared (Err f) ts j → WholeFails Whole ts f
@@ -144,5 +144,5 @@ module _ {Whole : Cells → Type 0} {Next : Bool → Cells → Type 0} (is : IsH
         pub shared_stand : Along shared_pieces shared_behind (IsShared (r.0 == 2)) ts j ss k
         shared_stand = each_along shared_pieces shared_behind (IsShared (r.0 == 2)) ts shared_solid j k ss d.0.within s.0
 
-        pub behind_front : Rest Whole (Next (r.0 == 2)) ts k
+        pub behind_front : RestOfWhole Whole (Next (r.0 == 2)) ts k
         behind_front = let v = r.0 == 2 in after_shared v (Next v) (is.live v) (is.never v) Whole ts (version_fits ts words r read) ss j k shared_stand behind_decls s.1

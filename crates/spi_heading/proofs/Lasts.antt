@@ -13,7 +13,7 @@ use Rattle.spi_heading.specs.Each.{IsWhole, ReadsEach}
 use Rattle.spi_heading.proofs.Standing.{IsSolid, unfound, one_there}
 use Rattle.spi_heading.proofs.Failing.{fails_from}
 use Rattle.spi_heading.proofs.Each.{each_along}
-use Rattle.spi_heading.proofs.Wholes.{WholeFails, Rest, many_fault, each_next}
+use Rattle.spi_heading.proofs.Wholes.{WholeFails, RestOfWhole, many_fault, each_next}
 
 pub nothing_begins : (k : Kind) (b : List (Kind × Bool)) → Nothing b → (x : List Kind) → kinds b ≡ k ∷ x → ⊥
 nothing_begins k b lb x e = let g : [] ≡ k ∷ x = ap kinds (sym lb) ∙ e in cc
@@ -26,7 +26,7 @@ module _ {X : Type 0} (piece : X → List Piece → List Piece) (behind : (x : X
   abbrev Parts : List (Kind × Bool) → Type 0
   Parts = OfPieces (λ x. piece x []) (IsWhole v piece Is)
 
-  pub last_answer : IsGoodKind Parts → IsSome Parts → (Whole : List (Kind × Bool) → Type 0) (ts : List Token) → AreWordsFit v (kinds_of ts) → (i : ℕ) → i ≤ length ts → Rest Whole (Many Parts Nothing) ts i → (f : ParseFault)
+  pub last_answer : IsGoodKind Parts → IsSome Parts → (Whole : List (Kind × Bool) → Type 0) (ts : List Token) → AreWordsFit v (kinds_of ts) → (i : ℕ) → i ≤ length ts → RestOfWhole Whole (Many Parts Nothing) ts i → (f : ParseFault)
       → ReadsEach (λ (xs : List X). xs) piece v Is (λ ts i. i < length ts) (Err f) ts i → WholeFails Whole ts f
   last_answer good some Whole ts fit i within r f e =
       let o = one_there ts e.1 e.3 in

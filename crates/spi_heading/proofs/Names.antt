@@ -7,14 +7,14 @@ use Rattle.spi_parts.proofs.Bridge.{OfPieces}
 use Rattle.spi_heading.specs.Headings as h
 use Rattle.spi_heading.specs.Grammar.{shared_pieces, whole_named, whole_shared, IsWholeNamed, IsWholeShared}
 use Rattle.spi_heading.proofs.Standing.{IsSolid}
-use Rattle.spi_heading.proofs.Symbols.{Sym, token, name, ty, opening, closing, the_mark, the_word, shared}
+use Rattle.spi_heading.proofs.Symbols.{HeadingSym, token, name, ty, opening, closing, the_mark, the_word, shared}
 use Rattle.spi_heading.proofs.Rows.{Values, row_behind}
 use Rattle.spi_heading.proofs.RowParts.{AreRows}
 
-abbrev pub named_row : List Sym
+abbrev pub named_row : List HeadingSym
 named_row = name ∷ token (the_mark mark.Colon) ∷ ty ∷ []
 
-abbrev pub shared_row : List Sym
+abbrev pub shared_row : List HeadingSym
 shared_row = opening ∷ token (the_word shared) ∷ name ∷ token (the_mark mark.Colon) ∷ ty ∷ token (the_mark mark.Semicolon) ∷ closing ∷ []
 
 abbrev pub named_values : h.Named → Values named_row

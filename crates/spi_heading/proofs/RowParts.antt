@@ -12,13 +12,13 @@ use Rattle.spi_grammar.specs.Exactly.{IsSame}
 use Rattle.spi_parts.proofs.Bridge.{OfPieces}
 use Rattle.spi_heading.proofs.Standing.{AreTokensOf, IsSolid}
 use Rattle.spi_heading.proofs.Failing.{FailsAt, same_fail, fails_from, fails_to}
-use Rattle.spi_heading.proofs.Symbols.{Sym}
+use Rattle.spi_heading.proofs.Symbols.{HeadingSym}
 use Rattle.spi_heading.proofs.Rows.{Values, join, AreItems, Row, row_good, row_pieces, row_into, row_from, RowAt, RowFails, row_fits}
-use Rattle.spi_heading.proofs.Reached.{Reached, then_row, no_row}
+use Rattle.spi_heading.proofs.Reached.{RowReached, then_row, no_row}
 use Rattle.spi_heading.proofs.Calls.{part_at, part_stands, same_closed}
 
 -- the parts have the pieces of the row, with these values, and are formed where those are
-pub record AreRows (v : Bool) {X : Type 0} (pieces : X → List Piece) (P : X → Type 0) (row : List Sym) (values : X → Values row) : Type 0 where
+pub record AreRows (v : Bool) {X : Type 0} (pieces : X → List Piece) (P : X → Type 0) (row : List HeadingSym) (values : X → Values row) : Type 0 where
   pub part : Values row → X
   pub values_of : (xs : Values row) → cells (pieces (part xs)) ≡ cells (row_pieces row xs [])
   pub formed : (xs : Values row) → AreItems v row xs → AreWordsFit v (kinds_in (row_pieces row xs [])) → P (part xs)
@@ -28,7 +28,7 @@ pub record AreRows (v : Bool) {X : Type 0} (pieces : X → List Piece) (P : X �
   pub known : (x : X) → AreItems v row (values x) → AreWordsFit v (kinds_in (row_pieces row (values x) [])) → P x
   pub solid : (x : X) → IsSolid (pieces x)
 
-module _ {v : Bool} {X : Type 0} {pieces : X → List Piece} {P : X → Type 0} {row : List Sym} {values : X → Values row} (is : AreRows v pieces P row values) where
+module _ {v : Bool} {X : Type 0} {pieces : X → List Piece} {P : X → Type 0} {row : List HeadingSym} {values : X → Values row} (is : AreRows v pieces P row values) where
   pub rows_same : IsSame (Row v row) (OfPieces pieces P)
   rows_same = record { there = there; back = back }
     where
@@ -61,10 +61,10 @@ module _ {v : Bool} {X : Type 0} {pieces : X → List Piece} {P : X → Type 0} 
 
 -- ---- such a part in a row that is read
 
-pub then_part : {v : Bool} {ts : List Token} {i j : ℕ} {row more : List Sym} (left : List Sym) {put : Values (more ++ left) → Values row} {X : Type 0} {pieces : X → List Piece} {P : X → Type 0} {values : X → Values more} → AreRows v pieces P more values
-    → Reached v ts i row (more ++ left) put j → (x : X) (k : ℕ) → j ≤ length ts → (h : (n : ℕ) × (k ≡ j + n) × exact.IsPartAt pieces P x (drop j ts) n) → Reached v ts i row left (λ (xs : Values left). put (join more left (values x) xs)) k
+pub then_part : {v : Bool} {ts : List Token} {i j : ℕ} {row more : List HeadingSym} (left : List HeadingSym) {put : Values (more ++ left) → Values row} {X : Type 0} {pieces : X → List Piece} {P : X → Type 0} {values : X → Values more} → AreRows v pieces P more values
+    → RowReached v ts i row (more ++ left) put j → (x : X) (k : ℕ) → j ≤ length ts → (h : (n : ℕ) × (k ≡ j + n) × exact.IsPartAt pieces P x (drop j ts) n) → RowReached v ts i row left (λ (xs : Values left). put (join more left (values x) xs)) k
 then_part {ts = ts} {j = j} {more = more} left {values = values} is r x k w h = then_row more left r (values x) k (part_row is ts j x k w h)
 
-pub no_part : {v : Bool} {ts : List Token} {i j : ℕ} {row more : List Sym} (left : List Sym) {put : Values (more ++ left) → Values row} {X V : Type 0} {pieces : X → List Piece} {P : X → Type 0} {values : X → Values more} → AreRows v pieces P more values
-    → Reached v ts i row (more ++ left) put j → (view : V → X) (f : ParseFault) → exact.Reads view pieces P (Err f) ts j → RowFails v ts i row f
+pub no_part : {v : Bool} {ts : List Token} {i j : ℕ} {row more : List HeadingSym} (left : List HeadingSym) {put : Values (more ++ left) → Values row} {X V : Type 0} {pieces : X → List Piece} {P : X → Type 0} {values : X → Values more} → AreRows v pieces P more values
+    → RowReached v ts i row (more ++ left) put j → (view : V → X) (f : ParseFault) → exact.Reads view pieces P (Err f) ts j → RowFails v ts i row f
 no_part {ts = ts} {j = j} {more = more} left is r view f h = no_row more left r f (part_unread is ts j view f h)

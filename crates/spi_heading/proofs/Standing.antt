@@ -8,12 +8,12 @@ use Rattle.spi_tree.specs.Trees as t
 use Rattle.spi_tree.specs.Pieces.{Piece, opens, cell, closes, cells, kinds_in, in_seq, at_level, msg_pieces, ty_pieces, decl_pieces, proc_pieces}
 use Rattle.spi_parse.specs.Exact.{Spells}
 use Rattle.spi_grammar.specs.Exactly.{IsWithinLimits}
-use Rattle.spi_heading.specs.Spans.{start_of, end_before, first_from, first_to}
+use Rattle.spi_heading.specs.Spans.{start_of_token, end_before, first_from, first_to}
 
 -- the pieces are those of the tokens from number i up to number j, and no node is above a limit
 abbrev pub AreTokensOf : List Token → ℕ → List Piece → ℕ → Type 0
 AreTokensOf ts i [] j = i ≡ j
-AreTokensOf ts i (opens from ∷ ps) j = (i < length ts) × (start_of ts i ≡ from) × AreTokensOf ts i ps j
+AreTokensOf ts i (opens from ∷ ps) j = (i < length ts) × (start_of_token ts i ≡ from) × AreTokensOf ts i ps j
 AreTokensOf ts i (cell k deep ∷ ps) j = (t : Token) × (more : List Token) × (drop i ts ≡ t ∷ more) × (t.kind ≡ k) × (deep ≡ false) × AreTokensOf ts (suc i) ps j
 AreTokensOf ts i (closes to ∷ ps) j = (end_before ts i ≡ to) × AreTokensOf ts i ps j
 

@@ -30,27 +30,27 @@ cells_append (closes to ∷ a) b = cells_append a b
 -- ---- the tokens that are asked for
 
 -- the words that are asked for by their spelling
-pub data Asked : Type 0 where
-  shared : Asked
-  roles : Asked
-  to : Asked
-  on : Asked
-  as_ : Asked
-  put : Asked
-  drop_ : Asked
-  version : Asked
+pub data SymbolAsked : Type 0 where
+  shared : SymbolAsked
+  roles : SymbolAsked
+  to : SymbolAsked
+  on : SymbolAsked
+  as_ : SymbolAsked
+  put : SymbolAsked
+  drop_ : SymbolAsked
+  version : SymbolAsked
 
-abbrev pub spelling : Asked → List ℕ
-spelling shared = codes "shared"
-spelling roles = codes "roles"
-spelling to = codes "to"
-spelling on = codes "on"
-spelling as_ = codes "as"
-spelling put = codes "put"
-spelling drop_ = codes "drop"
-spelling version = codes "version"
+abbrev pub spelling_asked : SymbolAsked → List ℕ
+spelling_asked shared = codes "shared"
+spelling_asked roles = codes "roles"
+spelling_asked to = codes "to"
+spelling_asked on = codes "on"
+spelling_asked as_ = codes "as"
+spelling_asked put = codes "put"
+spelling_asked drop_ = codes "drop"
+spelling_asked version = codes "version"
 
-pub asked_fits : (v : Bool) (a : Asked) → IsWordFit v (K.Word (spelling a))
+pub asked_fits : (v : Bool) (a : SymbolAsked) → IsWordFit v (K.Word (spelling_asked a))
 asked_fits v shared = fit_any v (K.Word (codes "shared")) (letters_identifier (codes "shared") refl (lit≤ tt), lit≤ tt, refl)
 asked_fits v roles = fit_any v (K.Word (codes "roles")) (letters_identifier (codes "roles") refl (lit≤ tt), lit≤ tt, refl)
 asked_fits v to = fit_any v (K.Word (codes "to")) (letters_identifier (codes "to") refl (lit≤ tt), lit≤ tt, refl)
@@ -60,19 +60,19 @@ asked_fits v put = fit_any v (K.Word (codes "put")) (letters_identifier (codes "
 asked_fits v drop_ = fit_any v (K.Word (codes "drop")) (letters_identifier (codes "drop") refl (lit≤ tt), lit≤ tt, refl)
 asked_fits v version = fit_any v (K.Word (codes "version")) (letters_identifier (codes "version") refl (lit≤ tt), lit≤ tt, refl)
 
-pub data Tok : Type 0 where
-  the_mark : Mark → Tok
-  the_reserved : Reserved → Tok
-  the_word : Asked → Tok
-  the_two : Tok
+pub data HeadingTok : Type 0 where
+  the_mark : Mark → HeadingTok
+  the_reserved : Reserved → HeadingTok
+  the_word : SymbolAsked → HeadingTok
+  the_two : HeadingTok
 
-abbrev pub kind_of : Tok → Kind
-kind_of (the_mark m) = K.Mark m
-kind_of (the_reserved w) = K.Reserved w
-kind_of (the_word a) = K.Word (spelling a)
-kind_of the_two = K.Number 2
+abbrev pub kind_of_token : HeadingTok → Kind
+kind_of_token (the_mark m) = K.Mark m
+kind_of_token (the_reserved w) = K.Reserved w
+kind_of_token (the_word a) = K.Word (spelling_asked a)
+kind_of_token the_two = K.Number 2
 
-pub tok_fits : (v : Bool) (x : Tok) → IsWordFit v (kind_of x)
+pub tok_fits : (v : Bool) (x : HeadingTok) → IsWordFit v (kind_of_token x)
 tok_fits v (the_mark m) = tt
 tok_fits v (the_reserved w) = tt
 tok_fits v (the_word a) = asked_fits v a
@@ -93,16 +93,16 @@ name_token v (K.Mark m) h = absurd h
 
 -- ---- the symbols
 
-pub data Sym : Type 0 where
-  token : Tok → Sym
-  name : Sym
-  message : Sym
-  ty : Sym
-  braced : Sym
-  opening : Sym
-  closing : Sym
+pub data HeadingSym : Type 0 where
+  token : HeadingTok → HeadingSym
+  name : HeadingSym
+  message : HeadingSym
+  ty : HeadingSym
+  braced : HeadingSym
+  opening : HeadingSym
+  closing : HeadingSym
 
-abbrev pub Value : Sym → Type 0
+abbrev pub Value : HeadingSym → Type 0
 Value (token x) = Unit {0}
 Value name = SWord
 Value message = t.Msg
@@ -111,8 +111,8 @@ Value braced = t.Proc
 Value opening = ℕ
 Value closing = ℕ
 
-abbrev pub item_pieces : (s : Sym) → Value s → List Piece → List Piece
-item_pieces (token x) y r = a_token (kind_of x) r
+abbrev pub item_pieces : (s : HeadingSym) → Value s → List Piece → List Piece
+item_pieces (token x) y r = a_token (kind_of_token x) r
 item_pieces name w r = a_word false w r
 item_pieces message m r = msg_pieces 1 m r
 item_pieces ty a r = ty_pieces 1 a r
@@ -120,7 +120,7 @@ item_pieces braced p r = proc_pieces (at_level 0) p (a_mark mark.BraceClose r)
 item_pieces opening n r = opens n ∷ r
 item_pieces closing n r = closes n ∷ r
 
-abbrev pub IsItem : Bool → (s : Sym) → Value s → Type 0
+abbrev pub IsItem : Bool → (s : HeadingSym) → Value s → Type 0
 IsItem v (token x) y = Unit {0}
 IsItem v name w = Unit {0}
 IsItem v message m = IsMsg v false m
@@ -129,7 +129,7 @@ IsItem v braced p = IsProc v (at_level 0) p
 IsItem v opening n = Unit {0}
 IsItem v closing n = Unit {0}
 
-pub item_behind : (s : Sym) (x : Value s) (r : List Piece) → item_pieces s x r ≡ item_pieces s x [] ++ r
+pub item_behind : (s : HeadingSym) (x : Value s) (r : List Piece) → item_pieces s x r ≡ item_pieces s x [] ++ r
 item_behind (token x) y r = refl
 item_behind name w r = refl
 item_behind message m r = msg_behind 1 m r
@@ -165,8 +165,8 @@ nothing_good = record { live = ([], refl); closed = closed; even = even }
         none (c ∷ before) after g = cc
 
 module _ (v : Bool) where
-  abbrev pub SymbolItem : Sym → List (Kind × Bool) → Type 0
-  SymbolItem (token x) = One (λ k. k ≡ kind_of x)
+  abbrev pub SymbolItem : HeadingSym → List (Kind × Bool) → Type 0
+  SymbolItem (token x) = One (λ k. k ≡ kind_of_token x)
   SymbolItem name = One (IsNameKind v)
   SymbolItem message = Messages v
   SymbolItem ty = Types v
@@ -174,9 +174,9 @@ module _ (v : Bool) where
   SymbolItem opening = Nothing
   SymbolItem closing = Nothing
 
-  pub item_good : (s : Sym) → IsGoodKind (SymbolItem s)
-  item_good (token x) = one_good (λ k. k ≡ kind_of x) (kind_of x) refl
-  item_good name = one_good (IsNameKind v) (K.Word (spelling shared)) (asked_fits v shared)
+  pub item_good : (s : HeadingSym) → IsGoodKind (SymbolItem s)
+  item_good (token x) = one_good (λ k. k ≡ kind_of_token x) (kind_of_token x) refl
+  item_good name = one_good (IsNameKind v) (K.Word (spelling_asked shared)) (asked_fits v shared)
   item_good message = record { live = messages_live v; closed = messages_closed v; even = messages_even v }
   item_good ty = record { live = types_live v; closed = types_closed v; even = types_even v }
   item_good braced = braced_good v
@@ -190,8 +190,8 @@ module _ (v : Bool) where
   braced_kinds p = ap kinds_in (proc_behind (at_level 0) p (a_mark mark.BraceClose [])) ∙ kinds_in_append (whole_process p) (a_mark mark.BraceClose [])
 
   -- the cells of a value are of the kind
-  pub item_into : (s : Sym) (x : Value s) → IsItem v s x → AreWordsFit v (kinds_in (item_pieces s x [])) → SymbolItem s (cells (item_pieces s x []))
-  item_into (token x) y h fit = record { token = kind_of x; is = refl; cells = refl }
+  pub item_into : (s : HeadingSym) (x : Value s) → IsItem v s x → AreWordsFit v (kinds_in (item_pieces s x [])) → SymbolItem s (cells (item_pieces s x []))
+  item_into (token x) y h fit = record { token = kind_of_token x; is = refl; cells = refl }
   item_into name w h fit = record { token = K.Word w.word; is = fit.0; cells = refl }
   item_into message m h fit = of_piece whole_message (IsWholeMessage v) m (h, fit)
   item_into ty a h fit = of_piece whole_type (IsWholeType v) a (h, fit)
@@ -206,13 +206,13 @@ module _ (v : Bool) where
   item_into closing n h fit = refl
 
   -- and those of the kind are of a value
-  pub record FromItem (s : Sym) (cs : List (Kind × Bool)) : Type 0 where
+  pub record FromItem (s : HeadingSym) (cs : List (Kind × Bool)) : Type 0 where
     pub value : Value s
     pub is : IsItem v s value
     pub fit : AreWordsFit v (kinds_in (item_pieces s value []))
     pub shows : cells (item_pieces s value []) ≡ cs
 
-  pub item_from : (s : Sym) (cs : List (Kind × Bool)) → SymbolItem s cs → FromItem s cs
+  pub item_from : (s : HeadingSym) (cs : List (Kind × Bool)) → SymbolItem s cs → FromItem s cs
   item_from (token x) cs h = record { value = tt; is = tt; fit = (tok_fits v x, tt); shows = sym (h.cells ∙ ap (λ (k : Kind). (k, false) ∷ []) h.is) }
   item_from name cs h =
       let n = name_token v h.token h.is in

@@ -4,13 +4,13 @@ use Rattle.spi_lex.specs.declared.token.Kind.{Kind}
 use Rattle.spi_grammar.specs.Exactly.{kinds, IsLive, IsPrefixFree, IsEven, IsGoodKind}
 use Rattle.spi_grammar.proofs.Cuts.{deep_begins}
 use Rattle.spi_heading.proofs.Failing.{IsToldBy}
-use Rattle.spi_heading.proofs.Symbols.{Sym}
+use Rattle.spi_heading.proofs.Symbols.{HeadingSym}
 use Rattle.spi_heading.proofs.Rows.{Row, row_good}
 
 -- the row that a part of the kind M is, and the token that tells it
 pub record FormOf (v : Bool) (M : List (Kind × Bool) → Type 0) (a : List (Kind × Bool)) : Type 0 where
   pub first : Kind
-  pub row : List Sym
+  pub row : List HeadingSym
   pub told : IsToldBy first (Row v row) M
   pub is : Row v row a
   pub begins : (x : List Kind) × (kinds a ≡ first ∷ x)

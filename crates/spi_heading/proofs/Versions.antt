@@ -15,22 +15,22 @@ use Rattle.spi_grammar.proofs.Cuts.{kinds_append}
 use Rattle.spi_grammar.proofs.Along.{LeadsAlong, either_this, either_other}
 use Rattle.spi_heading.specs.Taking.{IsThere, version_word, ReadsVersion}
 use Rattle.spi_heading.proofs.Standing.{found, behind_one}
-use Rattle.spi_heading.proofs.Symbols.{Sym, token, the_mark, the_word, the_two, version}
+use Rattle.spi_heading.proofs.Symbols.{HeadingSym, token, the_mark, the_word, the_two, version}
 use Rattle.spi_heading.proofs.Rows.{Row, row_good, row_read, row_end, row_more, RowAt, RowFails, fails_first, fails_behind}
 use Rattle.spi_heading.proofs.Calls.{took, untaken}
-use Rattle.spi_heading.proofs.Wholes.{WholeFails, Rest, rest_start, rest_next, rest_fails}
+use Rattle.spi_heading.proofs.Wholes.{WholeFails, RestOfWhole, rest_start, rest_next, rest_fails}
 
-abbrev pub version_row : List Sym
+abbrev pub version_row : List HeadingSym
 version_row = token (the_word version) ∷ token the_two ∷ token (the_mark mark.Semicolon) ∷ []
 
 abbrev pub Cells : Type 0
 Cells = List (Kind × Bool)
 
 -- the version in front of what stands behind it, which is of a kind for each version
-abbrev pub Later : (Bool → Cells → Type 0) → Cells → Type 0
-Later Body = Then (Row true version_row) (Body true)
+abbrev pub InLaterVersion : (Bool → Cells → Type 0) → Cells → Type 0
+InLaterVersion Body = Then (Row true version_row) (Body true)
 
-later_always : (Body : Bool → Cells → Type 0) (a : Cells) → Later Body a → (x : List Kind) × (kinds a ≡ version_word ∷ x)
+later_always : (Body : Bool → Cells → Type 0) (a : Cells) → InLaterVersion Body a → (x : List Kind) × (kinds a ≡ version_word ∷ x)
 later_always Body a h =
     let left : kinds h.left ≡ version_word ∷ kinds h.one.right = ap kinds h.one.cells ∙ kinds_append h.one.left h.one.right ∙ ap (λ (l : List Kind). l ++ kinds h.one.right) (ap kinds h.one.one.cells ∙ ap (λ (y : Kind). y ∷ []) h.one.one.is) in
     (kinds h.one.right ++ kinds h.right, ap kinds h.cells ∙ kinds_append h.left h.right ∙ ap (λ (l : List Kind). l ++ kinds h.right) left)
@@ -84,35 +84,35 @@ version_row_at v ts a b c =
 
 -- ---- what stands behind it
 
-module _ (Whole : Cells → Type 0) (Body : Bool → Cells → Type 0) (same : IsSame (Either (Later Body) (Body false)) Whole) (never : (b : Cells) → Body false b → (x : List Kind) → kinds b ≡ version_word ∷ x → ⊥) (live : IsLive (Body true)) where
-  later_start : (ts : List Token) → IsThere ts 0 version_word → Rest Whole (Later Body) ts 0
+module _ (Whole : Cells → Type 0) (Body : Bool → Cells → Type 0) (same : IsSame (Either (InLaterVersion Body) (Body false)) Whole) (never : (b : Cells) → Body false b → (x : List Kind) → kinds b ≡ version_word ∷ x → ⊥) (live : IsLive (Body true)) where
+  later_start : (ts : List Token) → IsThere ts 0 version_word → RestOfWhole Whole (InLaterVersion Body) ts 0
   later_start ts a =
       let x = kinds_at ts 0 version_word a in
-      let r = rest_start Whole (Either (Later Body) (Body false)) ts same in
+      let r = rest_start Whole (Either (InLaterVersion Body) (Body false)) ts same in
       record {
-        by = subst (λ (l : List Kind). LeadsAlong Whole (Later Body) (kinds_of ts) 0 l) (sym x.1)
-            (either_this Whole (Later Body) (Body false) (kinds_of ts) 0 version_word (kinds_of x.0) (subst (λ (l : List Kind). LeadsAlong Whole (Either (Later Body) (Body false)) (kinds_of ts) 0 l) x.1 r.by) (λ b lb y e. never b lb y e));
+        by = subst (λ (l : List Kind). LeadsAlong Whole (InLaterVersion Body) (kinds_of ts) 0 l) (sym x.1)
+            (either_this Whole (InLaterVersion Body) (Body false) (kinds_of ts) 0 version_word (kinds_of x.0) (subst (λ (l : List Kind). LeadsAlong Whole (Either (InLaterVersion Body) (Body false)) (kinds_of ts) 0 l) x.1 r.by) (λ b lb y e. never b lb y e));
       }
 
-  pub after_version : (ts : List Token) → AreWordsFit (is_version_2 (kinds_of ts)) (kinds_of ts) → (r : ℕ × ℕ) → ReadsVersion (Ok r) ts → Rest Whole (Body (r.0 == 2)) ts r.1
+  pub after_version : (ts : List Token) → AreWordsFit (is_version_2 (kinds_of ts)) (kinds_of ts) → (r : ℕ × ℕ) → ReadsVersion (Ok r) ts → RestOfWhole Whole (Body (r.0 == 2)) ts r.1
   after_version ts fit r (inl h) =
       let v = is_version_2 (kinds_of ts) in
       let read = row_read v ts 0 3 version_row (tt, (tt, (tt, tt))) fit (version_row_at v ts h.2 h.3 h.4) in
-      let rest : Rest Whole (Body true) ts 3 = rest_next Whole (Row true version_row) (Body true) ts 0 3 (later_start ts h.2) (row_good true version_row) read in
-      subst (λ (n : ℕ). Rest Whole (Body (n == 2)) ts r.1) (sym h.0) (subst (λ (n : ℕ). Rest Whole (Body true) ts n) (sym h.1) rest)
+      let rest : RestOfWhole Whole (Body true) ts 3 = rest_next Whole (Row true version_row) (Body true) ts 0 3 (later_start ts h.2) (row_good true version_row) read in
+      subst (λ (n : ℕ). RestOfWhole Whole (Body (n == 2)) ts r.1) (sym h.0) (subst (λ (n : ℕ). RestOfWhole Whole (Body true) ts n) (sym h.1) rest)
   after_version ts fit r (inr h) =
-      let s = rest_start Whole (Either (Later Body) (Body false)) ts same in
-      let rest : Rest Whole (Body false) ts 0 = record { by = either_other Whole (Later Body) (Body false) (kinds_of ts) 0 (kinds_of ts) s.by (record { some = some; none = none }) } in
-      subst (λ (n : ℕ). Rest Whole (Body (n == 2)) ts r.1) (sym h.0) (subst (λ (n : ℕ). Rest Whole (Body false) ts n) (sym h.1) rest)
+      let s = rest_start Whole (Either (InLaterVersion Body) (Body false)) ts same in
+      let rest : RestOfWhole Whole (Body false) ts 0 = record { by = either_other Whole (InLaterVersion Body) (Body false) (kinds_of ts) 0 (kinds_of ts) s.by (record { some = some; none = none }) } in
+      subst (λ (n : ℕ). RestOfWhole Whole (Body (n == 2)) ts r.1) (sym h.0) (subst (λ (n : ℕ). RestOfWhole Whole (Body false) ts n) (sym h.1) rest)
     where
-      some : (a : List (Kind × Bool)) → (Later Body) a → kinds a ≡ [] → ⊥
+      some : (a : List (Kind × Bool)) → (InLaterVersion Body) a → kinds a ≡ [] → ⊥
       some a la e = let f = later_always Body a la in let g : version_word ∷ f.0 ≡ [] = sym f.1 ∙ e in cc
 
       front : (l : List Token) (k : Kind) (y : List Kind) → kinds_of l ≡ k ∷ y → IsThere l 0 k
       front [] k y e = absurd (let f : [] ≡ k ∷ y = e in cc)
       front (t ∷ l) k y e = (t, refl, let j : t.kind ≡ k = cc in j)
 
-      none : (a : List (Kind × Bool)) → (Later Body) a → (k : Kind) (x y : List Kind) → kinds a ≡ k ∷ x → kinds_of ts ≡ k ∷ y → ⊥
+      none : (a : List (Kind × Bool)) → (InLaterVersion Body) a → (k : Kind) (x y : List Kind) → kinds a ≡ k ∷ x → kinds_of ts ≡ k ∷ y → ⊥
       none a la k x y e g =
           let f = later_always Body a la in
           let j : version_word ∷ f.0 ≡ k ∷ x = sym f.1 ∙ e in

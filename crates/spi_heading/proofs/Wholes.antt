@@ -57,10 +57,10 @@ pub data WholeFails (W : List (Kind × Bool) → Type 0) (ts : List Token) (f : 
   fault_of : (d : Fault) (n : ℕ) → TellsFault f d n → FailsAtToken d W (kinds_of ts) n → WholeFails W ts f
 
 -- behind the tokens before number i the rest of a W is to be an M
-pub record Rest (W M : List (Kind × Bool) → Type 0) (ts : List Token) (i : ℕ) : Type 0 where
+pub record RestOfWhole (W M : List (Kind × Bool) → Type 0) (ts : List Token) (i : ℕ) : Type 0 where
   pub by : LeadsAlong W M (kinds_of ts) i (kinds_of (drop i ts))
 
-pub rest_start : (W M : List (Kind × Bool) → Type 0) (ts : List Token) → IsSame M W → Rest W M ts 0
+pub rest_start : (W M : List (Kind × Bool) → Type 0) (ts : List Token) → IsSame M W → RestOfWhole W M ts 0
 rest_start W M ts s = record { by = lead W M s (kinds_of ts) }
 
 -- a part with a first token
@@ -75,19 +75,19 @@ module _ (W L M : List (Kind × Bool) → Type 0) (ts : List Token) (i : ℕ) wh
   told_of : (n : ℕ) (d : Fault) (f : ParseFault) → TellsFault f d (i + n) → FailsAtToken d W (kinds_of ts) (i + n) → WholeFails W ts f
   told_of n d f t h = fault_of d (i + n) t h
 
-  pub rest_next : (j : ℕ) → Rest W (Then L M) ts i → IsGoodKind L → ReadAt L ts i j → Rest W M ts j
+  pub rest_next : (j : ℕ) → RestOfWhole W (Then L M) ts i → IsGoodKind L → ReadAt L ts i j → RestOfWhole W M ts j
   rest_next j r good h = record {
     by = subst (λ (n : ℕ). LeadsAlong W M (kinds_of ts) n (kinds_of (drop j ts))) (sym h.place)
         (then_next W L M (kinds_of ts) i (kinds_of (drop i ts)) r.by (apart_closed L M good.closed) good.even h.cells (kinds_of (drop j ts)) h.reads);
   }
 
-  pub rest_fails : (f : ParseFault) → Rest W (Then L M) ts i → IsGoodKind L → IsLive M → FailsAt L ts i f → WholeFails W ts f
+  pub rest_fails : (f : ParseFault) → RestOfWhole W (Then L M) ts i → IsGoodKind L → IsLive M → FailsAt L ts i f → WholeFails W ts f
   rest_fails f r good live (memory e) = no_memory e
   rest_fails f r good live (fault d n t h) = told_of n d f t (then_fails W L M (kinds_of ts) i (kinds_of (drop i ts)) r.by (apart_closed L M good.closed) live d n h)
 
   -- ---- any number of parts
 
-  many_one : (j : ℕ) → Rest W (Many L M) ts i → IsGoodKind L → IsSome L → Differ L M → IsLive M → ReadAt L ts i j → Rest W (Many L M) ts j
+  many_one : (j : ℕ) → RestOfWhole W (Many L M) ts i → IsGoodKind L → IsSome L → Differ L M → IsLive M → ReadAt L ts i j → RestOfWhole W (Many L M) ts j
   many_one j r good some differ live h =
       let f = first_there L some ts i j h in
       record {
@@ -97,7 +97,7 @@ module _ (W L M : List (Kind × Bool) → Type 0) (ts : List Token) (i : ℕ) wh
       }
 
   -- the first that isn't read begins with a token with which nothing begins that is behind them
-  pub many_fault : (f : ParseFault) (k : Kind) → IsThere ts i k → ((b : List (Kind × Bool)) → M b → (x : List Kind) → kinds b ≡ k ∷ x → ⊥) → Rest W (Many L M) ts i → IsGoodKind L → IsLive M → FailsAt L ts i f → WholeFails W ts f
+  pub many_fault : (f : ParseFault) (k : Kind) → IsThere ts i k → ((b : List (Kind × Bool)) → M b → (x : List Kind) → kinds b ≡ k ∷ x → ⊥) → RestOfWhole W (Many L M) ts i → IsGoodKind L → IsLive M → FailsAt L ts i f → WholeFails W ts f
   many_fault f k there last r good live (memory e) = no_memory e
   many_fault f k there last r good live (fault d n t h) =
       let l = found ts i there.0 there.1 in
@@ -106,7 +106,7 @@ module _ (W L M : List (Kind × Bool) → Type 0) (ts : List Token) (i : ℕ) wh
       (many_fails W L M (kinds_of ts) i k (kinds_of l.0) (subst (λ (l : List Kind). LeadsAlong W (Many L M) (kinds_of ts) i l) is r.by) (apart_closed L (Many L M) good.closed) live last d n (subst (λ (l : List Kind). RefusesText d L l n) is h))
 
   -- none begins with the token that is there
-  pub many_end : Rest W (Many L M) ts i → IsSome L → ((a : List (Kind × Bool)) → L a → (k : Kind) (x : List Kind) → kinds a ≡ k ∷ x → IsThere ts i k → ⊥) → Rest W M ts i
+  pub many_end : RestOfWhole W (Many L M) ts i → IsSome L → ((a : List (Kind × Bool)) → L a → (k : Kind) (x : List Kind) → kinds a ≡ k ∷ x → IsThere ts i k → ⊥) → RestOfWhole W M ts i
   many_end r some not = record { by = many_last W L M (kinds_of ts) i (kinds_of (drop i ts)) r.by some (λ a la k x y e g. not a la k x e (front (drop i ts) refl k y g)) }
     where
       front : (l : List Token) → drop i ts ≡ l → (k : Kind) (y : List Kind) → kinds_of l ≡ k ∷ y → IsThere ts i k
@@ -116,8 +116,8 @@ module _ (W L M : List (Kind × Bool) → Type 0) (ts : List Token) (i : ℕ) wh
 -- all parts that were read
 pub each_next : {X : Type 0} (W M : List (Kind × Bool) → Type 0) (ts : List Token) (piece : X → List Piece → List Piece) (behind : (x : X) (r : List Piece) → piece x r ≡ piece x [] ++ r) (v : Bool) (Is : X → Type 0)
     → AreWordsFit v (kinds_of ts) → IsGoodKind (OfPieces (λ x. piece x []) (IsWhole v piece Is)) → IsSome (OfPieces (λ x. piece x []) (IsWhole v piece Is)) → Differ (OfPieces (λ x. piece x []) (IsWhole v piece Is)) M → IsLive M
-    → (xs : List X) (i j : ℕ) → Along piece behind Is ts i xs j → Rest W (Many (OfPieces (λ x. piece x []) (IsWhole v piece Is)) M) ts i → Rest W (Many (OfPieces (λ x. piece x []) (IsWhole v piece Is)) M) ts j
-each_next W M ts piece behind v Is fit good some differ live [] i j a r = subst (λ (n : ℕ). Rest W (Many (OfPieces (λ x. piece x []) (IsWhole v piece Is)) M) ts n) a.stands r
+    → (xs : List X) (i j : ℕ) → Along piece behind Is ts i xs j → RestOfWhole W (Many (OfPieces (λ x. piece x []) (IsWhole v piece Is)) M) ts i → RestOfWhole W (Many (OfPieces (λ x. piece x []) (IsWhole v piece Is)) M) ts j
+each_next W M ts piece behind v Is fit good some differ live [] i j a r = subst (λ (n : ℕ). RestOfWhole W (Many (OfPieces (λ x. piece x []) (IsWhole v piece Is)) M) ts n) a.stands r
 each_next W M ts piece behind v Is fit good some differ live (x ∷ xs) i j a r =
     let c = along_rest piece behind Is ts i j x xs a in
     each_next W M ts piece behind v Is fit good some differ live xs c.0 j c.3

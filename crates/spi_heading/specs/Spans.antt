@@ -12,8 +12,8 @@ first_to [] = 0
 first_to (t ∷ ts) = t.span.to
 
 -- the start of the token of this number
-abbrev pub start_of : List Token → ℕ → ℕ
-start_of ts i = first_from (drop i ts)
+abbrev pub start_of_token : List Token → ℕ → ℕ
+start_of_token ts i = first_from (drop i ts)
 
 -- the end of the token before that of this number
 abbrev pub end_before : List Token → ℕ → ℕ
@@ -22,4 +22,4 @@ end_before ts (suc i) = first_to (drop i ts)
 
 -- from the start of the token of the first number to the end of the one before that of the second
 abbrev pub span_over : List Token → ℕ → ℕ → Span
-span_over ts i j = record { from = start_of ts i; to = end_before ts j }
+span_over ts i j = record { from = start_of_token ts i; to = end_before ts j }

@@ -13,11 +13,11 @@ abbrev pub IsThere : List Token → ℕ → Kind → Type 0
 IsThere ts i k = (t : Token) × (slice_get ts i ≡ Some t) × (t.kind ≡ k)
 
 -- the number behind the token where it is the one that is asked for, or the fault at it
-abbrev pub Takes : Kind → Result ℕ ParseFault → List Token → ℕ → Type 0
-Takes k (Ok next) ts i = IsThere ts i k × (next ≡ i + 1)
-Takes k (Err (faults.Syntax token)) ts i = (IsThere ts i k → ⊥) × (token ≡ i)
-Takes k (Err (faults.TooDeep token)) ts i = ⊥
-Takes k (Err faults.NoMemory) ts i = ⊥
+abbrev pub TakesOneToken : Kind → Result ℕ ParseFault → List Token → ℕ → Type 0
+TakesOneToken k (Ok next) ts i = IsThere ts i k × (next ≡ i + 1)
+TakesOneToken k (Err (faults.Syntax token)) ts i = (IsThere ts i k → ⊥) × (token ≡ i)
+TakesOneToken k (Err (faults.TooDeep token)) ts i = ⊥
+TakesOneToken k (Err faults.NoMemory) ts i = ⊥
 
 -- the word that is the token of this number, and the number behind it, or the fault at it
 abbrev pub TakesWord : Result (SWord × ℕ) ParseFault → List Token → ℕ → Type 0

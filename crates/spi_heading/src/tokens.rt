@@ -3,7 +3,7 @@
 ghost use Rattle.std.specs.Prelude.{◌≡◌, ◌≤◌, ◌<◌, ◌↔◌, IsTrue, length, IfOk};
 ghost use Rattle.spi_lex.specs.declared.token.Kind.TheVariants as kinds;
 ghost use Rattle.spi_heading.specs.Spans.{span_over};
-ghost use Rattle.spi_heading.specs.Taking.{IsThere, Takes, TakesWord, ReadsVersion};
+ghost use Rattle.spi_heading.specs.Taking.{IsThere, TakesOneToken, TakesWord, ReadsVersion};
 
 use spi_lex::{Kind, Mark, Reserved, Token};
 use spi_parse::ParseFault;
@@ -71,7 +71,7 @@ pub fn spelled_at(tokens: &[Token], at: u32, spelling: &str) -> bool
 /// Takes the mark, and gives the number of the token behind it. Where another token stands there, or none, that is `Syntax`.
 pub fn take_mark(tokens: &[Token], at: u32, mark: Mark) -> Result<u32, ParseFault>
     requires size { length tokens.now ≤ 16_777_216 }
-    ensures taken { Takes (kinds.Mark mark) result tokens.now at }
+    ensures taken { TakesOneToken (kinds.Mark mark) result tokens.now at }
     ensures within { IfOk result (λ next. next ≤ length tokens.now) }
 {
     if mark_at(tokens, at, mark) {
@@ -85,7 +85,7 @@ pub fn take_mark(tokens: &[Token], at: u32, mark: Mark) -> Result<u32, ParseFaul
 /// `Syntax`.
 pub fn take_reserved(tokens: &[Token], at: u32, word: Reserved) -> Result<u32, ParseFault>
     requires size { length tokens.now ≤ 16_777_216 }
-    ensures taken { Takes (kinds.Reserved word) result tokens.now at }
+    ensures taken { TakesOneToken (kinds.Reserved word) result tokens.now at }
     ensures within { IfOk result (λ next. next ≤ length tokens.now) }
 {
     if reserved_at(tokens, at, word) {
@@ -99,7 +99,7 @@ pub fn take_reserved(tokens: &[Token], at: u32, word: Reserved) -> Result<u32, P
 /// stands there, or none, that is `Syntax`.
 pub fn take_spelled(tokens: &[Token], at: u32, spelling: &str) -> Result<u32, ParseFault>
     requires size { length tokens.now ≤ 16_777_216 }
-    ensures taken { Takes (kinds.Word spelling.now) result tokens.now at }
+    ensures taken { TakesOneToken (kinds.Word spelling.now) result tokens.now at }
     ensures within { IfOk result (λ next. next ≤ length tokens.now) }
 {
     if spelled_at(tokens, at, spelling) {
@@ -129,7 +129,7 @@ fn two_at(tokens: &[Token], at: u32) -> bool
 
 fn take_two(tokens: &[Token], at: u32) -> Result<u32, ParseFault>
     requires size { length tokens.now ≤ 16_777_216 }
-    ensures taken { Takes (kinds.Number 2) result tokens.now at }
+    ensures taken { TakesOneToken (kinds.Number 2) result tokens.now at }
     ensures within { IfOk result (λ next. next ≤ length tokens.now) }
 {
     if two_at(tokens, at) {

@@ -15,11 +15,11 @@ use Rattle.spi_scope.specs.StandsFor.{Meant}
 use Rattle.spi_honest.specs.declared.honest.Honest.{Honest}
 use Rattle.spi_honest.specs.declared.stage.Stage.{Stage}
 use Rattle.spi_honest.specs.Reading.{Map}
-use Rattle.spi_honest.specs.Narrated.{NarratesSmall, free_of, begins}
+use Rattle.spi_honest.specs.Narrated.{NarratesSmall, free_of, narrated_begin}
 use Rattle.spi_honest.specs.Standing.{StandRoles, StoppedRoles, left}
 use Rattle.spi_honest.specs.Honest.{IsHonest}
 use Rattle.spi_honest.specs.Progress.{Progress}
-use Rattle.spi_honest.specs.Stages.{ToldTo, steps_in, events_in}
+use Rattle.spi_honest.specs.Stages.{ToldTo, stage_steps, events_in}
 use Rattle.spi_honest.proofs.Telling.{replays_run}
 
 -- a role that stands at a place
@@ -50,7 +50,7 @@ finished_at : {x : n.Narration} {file : Meant} {pool : Pooled} {steps : List Ste
 finished_at {x} {file} {pool} {steps} {events} h a b p = record {
   told = p.told;
   last = pool;
-  narrates = subst (λ es. NarratesSmall (free_of x) (begins x) x.lines es p.told) (sym b) p.narrates;
+  narrates = subst (λ es. NarratesSmall (free_of x) (narrated_begin x) x.lines es p.told) (sym b) p.narrates;
   order = a ∙ sym (append-nil steps) ∙ sym p.order;
   replays = subst (λ ss. Rattle.spi_honest.specs.Honest.Replays (Rattle.spi_honest.specs.Honest.opening file) ss (map event h.events.items) pool) (sym a) (subst (λ es. Rattle.spi_honest.specs.Honest.Replays (Rattle.spi_honest.specs.Honest.opening file) steps es pool) (sym b) p.replays);
   runs = subst (λ ss. Rattle.spi_run.specs.Reduction.Runs (Rattle.spi_honest.specs.Honest.opening file).configuration ss (map event h.events.items) pool.configuration) (sym a) (subst (λ es. Rattle.spi_run.specs.Reduction.Runs (Rattle.spi_honest.specs.Honest.opening file).configuration steps es pool.configuration) (sym b) (replays_run p.replays));
@@ -60,5 +60,5 @@ finished_at {x} {file} {pool} {steps} {events} h a b p = record {
 pub finished : (x : n.Narration) (file : Meant) (i : ℕ) (st : Stage) (h : Honest) → length x.lines ≤ i → h.steps.items ≡ st.steps.items → h.events.items ≡ st.events.items → ToldTo x file i st → IsHonest x file h
 finished x file i st h e a b t =
     finished_at h (ap (map step) a) (ap (map event) b)
-    (subst (λ ls. Progress x file ls [] st.pool (steps_in st) (events_in st) st.places.items) (all_taken x.lines i e)
-    (subst (λ ls. Progress x file (take i x.lines) ls st.pool (steps_in st) (events_in st) st.places.items) (all_dropped x.lines i e) t))
+    (subst (λ ls. Progress x file ls [] st.pool (stage_steps st) (events_in st) st.places.items) (all_taken x.lines i e)
+    (subst (λ ls. Progress x file (take i x.lines) ls st.pool (stage_steps st) (events_in st) st.places.items) (all_dropped x.lines i e) t))

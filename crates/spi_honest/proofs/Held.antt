@@ -10,7 +10,7 @@ use Rattle.spi_replay.specs.Holding.{IsClosed}
 use Rattle.spi_replay.proofs.Opening.{put_closed}
 use Rattle.spi_scope.specs.Scope.{Word, Names}
 use Rattle.spi_scope.specs.Meaning.{nested}
-use Rattle.spi_honest.specs.Holds.{deeper, index_of, or_bound, under, with, Holds, AreClosed}
+use Rattle.spi_honest.specs.Holds.{deeper, index_of, or_bound_at, under_names, with, Holds, AreClosed}
 use Rattle.spi_honest.specs.Reading.{valued, all_valued}
 
 -- a message put in is one word more
@@ -63,19 +63,19 @@ index_last [] x w = first_last (bytes_eq x w)
 index_last (d ∷ ds) x w = ap (λ o. if bytes_eq d w then Some 0 else deeper o) (index_last ds x w) ∙ step_last (bytes_eq d w) (bytes_eq x w) (index_of ds w) (length ds)
 
 -- an index is one of the binders
-abbrev pub Within : ℕ → Option ℕ → Type 0
-Within k None = Rattle.std.specs.Prelude.⊤
-Within k (Some i) = i < k
+abbrev pub IsWithinSome : ℕ → Option ℕ → Type 0
+IsWithinSome k None = Rattle.std.specs.Prelude.⊤
+IsWithinSome k (Some i) = i < k
 
-deeper_within : (k : ℕ) (o : Option ℕ) → Within k o → Within (suc k) (deeper o)
+deeper_within : (k : ℕ) (o : Option ℕ) → IsWithinSome k o → IsWithinSome (suc k) (deeper o)
 deeper_within k None h = tt
 deeper_within k (Some i) h = omega arith
 
-if_within : (k : ℕ) (b : Bool) (o : Option ℕ) → Within k o → Within (suc k) (if b then Some 0 else deeper o)
+if_within : (k : ℕ) (b : Bool) (o : Option ℕ) → IsWithinSome k o → IsWithinSome (suc k) (if b then Some 0 else deeper o)
 if_within k true o h = omega arith
 if_within k false o h = deeper_within k o h
 
-pub index_within : (ds : Names) (w : Word) → Within (length ds) (index_of ds w)
+pub index_within : (ds : Names) (w : Word) → IsWithinSome (length ds) (index_of ds w)
 index_within [] w = tt
 index_within (d ∷ ds) w = if_within (length ds) (bytes_eq d w) (index_of ds w) (index_within ds w)
 
@@ -85,18 +85,18 @@ put_other a k i h = let e : (i == k) ≡ false = ne_eqb i k (λ e. omega (arith,
 put_same : (a : Message) (k : ℕ) → put a k (bound k) ≡ a
 put_same a k = let e : (k == k) ≡ true = Rattle.std.proofs.Common.eq-eqb k k refl in rw e
 
-put_last : (a : Message) (k : ℕ) (o : Option ℕ) (b : Bool) (m : Message) → Within k o → IsClosed m → put a k (or_bound (or_last o b k) m) ≡ or_bound o (if b then a else m)
+put_last : (a : Message) (k : ℕ) (o : Option ℕ) (b : Bool) (m : Message) → IsWithinSome k o → IsClosed m → put a k (or_bound_at (or_last o b k) m) ≡ or_bound_at o (if b then a else m)
 put_last a k (Some i) b m h c = put_other a k i h
 put_last a k None true m h c = put_same a k
 put_last a k None false m h c = put_closed a k m c
 
-pub under_put : (a : Message) (k : ℕ) (ds : Names) (x : Word) (f : Word → Message) (w : Word) → k ≡ length ds → IsClosed (f w) → put a k (under (ds ++ x ∷ []) f w) ≡ under ds (with x a f) w
+pub under_put : (a : Message) (k : ℕ) (ds : Names) (x : Word) (f : Word → Message) (w : Word) → k ≡ length ds → IsClosed (f w) → put a k (under_names (ds ++ x ∷ []) f w) ≡ under_names ds (with x a f) w
 under_put a k ds x f w e c =
-    ap (λ o. put a k (or_bound o (f w))) (index_last ds x w ∙ ap (or_last (index_of ds w) (bytes_eq x w)) (sym e))
-    ∙ put_last a k (index_of ds w) (bytes_eq x w) (f w) (subst (λ n. Within n (index_of ds w)) (sym e) (index_within ds w)) c
+    ap (λ o. put a k (or_bound_at o (f w))) (index_last ds x w ∙ ap (or_last (index_of ds w) (bytes_eq x w)) (sym e))
+    ∙ put_last a k (index_of ds w) (bytes_eq x w) (f w) (subst (λ n. IsWithinSome n (index_of ds w)) (sym e) (index_within ds w)) c
 
-pub message_put : (a : Message) (k : ℕ) (ds : Names) (x : Word) (f : Word → Message) → k ≡ length ds → AreClosed f → (m : t.Msg) → put a k (valued (under (ds ++ x ∷ []) f) m) ≡ valued (under ds (with x a f)) m
-message_put a k ds x f e c m = valued_put a k (under (ds ++ x ∷ []) f) m ∙ (λ i. valued (λ w. under_put a k ds x f w e (c.each w) i) m)
+pub message_put : (a : Message) (k : ℕ) (ds : Names) (x : Word) (f : Word → Message) → k ≡ length ds → AreClosed f → (m : t.Msg) → put a k (valued (under_names (ds ++ x ∷ []) f) m) ≡ valued (under_names ds (with x a f)) m
+message_put a k ds x f e c m = valued_put a k (under_names (ds ++ x ∷ []) f) m ∙ (λ i. valued (λ w. under_put a k ds x f w e (c.each w) i) m)
 
 -- a binder opened: the outermost binder's name has the message
 pub holds_put : (p : t.Proc) (a : Message) (k : ℕ) (ds : Names) (x : Word) (f : Word → Message) (r : Process) → k ≡ length ds → AreClosed f → Holds p (ds ++ x ∷ []) f r → Holds p ds (with x a f) (process_map (put a) k r)

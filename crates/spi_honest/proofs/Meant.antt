@@ -7,13 +7,13 @@ use Rattle.spi_tree.specs.Trees as t
 use Rattle.spi_term.specs.Term.{Message, bound, name, unit, in_left, in_right, enc, hash, send, recv, serve, split, select, decrypt, check, begin, end, end_many, cast, branch, par}
 use Rattle.spi_replay.specs.Holding.{IsClosed}
 use Rattle.spi_scope.specs.Scope.{Word, Names, number_of, Abbreviations}
-use Rattle.spi_scope.specs.Meaning.{named, nested, message_in, messages_in, type_in, process_in}
-use Rattle.spi_honest.specs.Reading.{at_word, or_unit, word_in, valued, all_valued, numbered}
-use Rattle.spi_honest.specs.Holds.{deeper, index_of, or_bound, under, Holds, AreClosed}
-use Rattle.spi_honest.proofs.Held.{Within, index_within}
+use Rattle.spi_scope.specs.Meaning.{name_meant, nested, message_in, messages_in, type_in, process_in}
+use Rattle.spi_honest.specs.Reading.{at_word, or_unit, word_in, valued, all_valued, names_numbered}
+use Rattle.spi_honest.specs.Holds.{deeper, index_of, or_bound_at, under_names, Holds, AreClosed}
+use Rattle.spi_honest.proofs.Held.{IsWithinSome, index_within}
 
 mutual
-  pub message_valued : (k : ℕ) (xs : Names) (m : t.Msg) → message_in k xs m ≡ valued (λ w. named k (length xs) (number_of xs w)) m
+  pub message_valued : (k : ℕ) (xs : Names) (m : t.Msg) → message_in k xs m ≡ valued (λ w. name_meant k (length xs) (number_of xs w)) m
   message_valued k xs (t.name s w) = refl
   message_valued k xs (t.unit s) = refl
   message_valued k xs (t.tuple s a b ms) = λ i. nested (message_valued k xs a i) (message_valued k xs b i ∷ messages_valued k xs ms i)
@@ -23,7 +23,7 @@ mutual
   message_valued k xs (t.hash s a) = ap hash (message_valued k xs a)
   message_valued k xs (t.num s i) = refl
 
-  messages_valued : (k : ℕ) (xs : Names) (ms : t.Msgs) → messages_in k xs ms ≡ all_valued (λ w. named k (length xs) (number_of xs w)) ms
+  messages_valued : (k : ℕ) (xs : Names) (ms : t.Msgs) → messages_in k xs ms ≡ all_valued (λ w. name_meant k (length xs) (number_of xs w)) ms
   messages_valued k xs t.no_msgs = refl
   messages_valued k xs (t.more_msgs m ms) = λ i. message_valued k xs m i ∷ messages_valued k xs ms i
 
@@ -41,53 +41,53 @@ pub number_behind : (bs xs : Names) (w : Word) → number_of (bs ++ xs) w ≡ or
 number_behind [] xs w = refl
 number_behind (b ∷ bs) xs w = number_if (bytes_eq b w) (index_of bs w) (length (bs ++ xs)) (length (b ∷ (bs ++ xs))) (number_of xs w) (number_of (bs ++ xs) w) (omega arith) (number_behind bs xs w)
 
-if_below : (b : Bool) (o : Option ℕ) (n : ℕ) → Within n o → Within (suc n) (if b then Some n else o)
+if_below : (b : Bool) (o : Option ℕ) (n : ℕ) → IsWithinSome n o → IsWithinSome (suc n) (if b then Some n else o)
 if_below true o n h = omega arith
 if_below false None n h = tt
 if_below false (Some i) n h = omega arith
 
-pub number_below : (xs : Names) (w : Word) → Within (length xs) (number_of xs w)
+pub number_below : (xs : Names) (w : Word) → IsWithinSome (length xs) (number_of xs w)
 number_below [] w = tt
 number_below (x ∷ xs) w = if_below (bytes_eq x w) (number_of xs w) (length xs) (number_below xs w)
 
 -- its name
-abbrev pub or_name : Option ℕ → Message
-or_name None = unit
-or_name (Some i) = name i
+abbrev pub or_free_name : Option ℕ → Message
+or_free_name None = unit
+or_free_name (Some i) = name i
 
-name_if : (b : Bool) (n : ℕ) (o : Option ℕ) (m : Option Message) → or_unit m ≡ or_name o → or_unit (if b then Some (name n) else m) ≡ or_name (if b then Some n else o)
+name_if : (b : Bool) (n : ℕ) (o : Option ℕ) (m : Option Message) → or_unit m ≡ or_free_name o → or_unit (if b then Some (name n) else m) ≡ or_free_name (if b then Some n else o)
 name_if true n o m e = refl
 name_if false n o m e = e
 
-pub word_numbered : (xs : Names) (w : Word) → word_in (numbered xs) w ≡ or_name (number_of xs w)
+pub word_numbered : (xs : Names) (w : Word) → word_in (names_numbered xs) w ≡ or_free_name (number_of xs w)
 word_numbered [] w = refl
-word_numbered (x ∷ xs) w = name_if (bytes_eq x w) (length xs) (number_of xs w) (at_word (numbered xs) w) (word_numbered xs w)
+word_numbered (x ∷ xs) w = name_if (bytes_eq x w) (length xs) (number_of xs w) (at_word (names_numbered xs) w) (word_numbered xs w)
 
-low_named : (k s i : ℕ) → i < k → named k s (Some i) ≡ name i
+low_named : (k s i : ℕ) → i < k → name_meant k s (Some i) ≡ name i
 low_named k s i h = let e : nat_lt i k ≡ true = Rattle.std.proofs.Common.lt-ltb i k h in rw e refl
 
-high_named : (k s i : ℕ) → i + k < s → named k s (Some (s - suc i)) ≡ bound i
+high_named : (k s i : ℕ) → i + k < s → name_meant k s (Some (s - suc i)) ≡ bound i
 high_named k s i h =
     let e : nat_lt (s - suc i) k ≡ false = Rattle.std.proofs.lemmas.Bool.le-ltb (s - suc i) k (omega arith) in
     let f : s - suc (s - suc i) ≡ i = omega arith in
     rw e (ap bound f)
 
-named_behind : (k s : ℕ) (o x : Option ℕ) (n : ℕ) → s ≡ n + k → Within n o → Within k x → named k s (or_number o s x) ≡ or_bound o (or_name x)
+named_behind : (k s : ℕ) (o x : Option ℕ) (n : ℕ) → s ≡ n + k → IsWithinSome n o → IsWithinSome k x → name_meant k s (or_number o s x) ≡ or_bound_at o (or_free_name x)
 named_behind k s None None n e h g = refl
 named_behind k s None (Some i) n e h g = low_named k s i g
 named_behind k s (Some i) x n e h g = high_named k s i (omega arith)
 
-pub named_under : (k : ℕ) (bs xs : Names) (w : Word) → k ≡ length xs → named k (length (bs ++ xs)) (number_of (bs ++ xs) w) ≡ under bs (word_in (numbered xs)) w
+pub named_under : (k : ℕ) (bs xs : Names) (w : Word) → k ≡ length xs → name_meant k (length (bs ++ xs)) (number_of (bs ++ xs) w) ≡ under_names bs (word_in (names_numbered xs)) w
 named_under k bs xs w e =
-    ap (named k (length (bs ++ xs))) (number_behind bs xs w)
-    ∙ named_behind k (length (bs ++ xs)) (index_of bs w) (number_of xs w) (length bs) (omega (arith, length-append bs xs)) (index_within bs w) (subst (λ n. Within n (number_of xs w)) (sym e) (number_below xs w))
-    ∙ ap (or_bound (index_of bs w)) (sym (word_numbered xs w))
+    ap (name_meant k (length (bs ++ xs))) (number_behind bs xs w)
+    ∙ named_behind k (length (bs ++ xs)) (index_of bs w) (number_of xs w) (length bs) (omega (arith, length-append bs xs)) (index_within bs w) (subst (λ n. IsWithinSome n (number_of xs w)) (sym e) (number_below xs w))
+    ∙ ap (or_bound_at (index_of bs w)) (sym (word_numbered xs w))
 
-pub message_under : (k : ℕ) (bs xs : Names) → k ≡ length xs → (m : t.Msg) → message_in k (bs ++ xs) m ≡ valued (under bs (word_in (numbered xs))) m
+pub message_under : (k : ℕ) (bs xs : Names) → k ≡ length xs → (m : t.Msg) → message_in k (bs ++ xs) m ≡ valued (under_names bs (word_in (names_numbered xs))) m
 message_under k bs xs e m = message_valued k (bs ++ xs) m ∙ (λ i. valued (λ w. named_under k bs xs w e i) m)
 
 module _ (k : ℕ) (ts : Abbreviations) (xs : Names) (e : k ≡ length xs) where
-  pub holds_meaning : (p : t.Proc) (bs : Names) → Holds p bs (word_in (numbered xs)) (process_in (λ s. k) ts (bs ++ xs) p)
+  pub holds_meaning : (p : t.Proc) (bs : Names) → Holds p bs (word_in (names_numbered xs)) (process_in (λ s. k) ts (bs ++ xs) p)
   holds_meaning (t.par s p q) bs = (_, _, refl, holds_meaning p bs, holds_meaning q bs)
   holds_meaning (t.group s p q) bs = (_, _, refl, holds_meaning p bs, holds_meaning q bs)
   holds_meaning (t.out s m n) bs = λ i. send (message_under k bs xs e m i) (message_under k bs xs e n i)
@@ -111,9 +111,9 @@ module _ (k : ℕ) (ts : Abbreviations) (xs : Names) (e : k ≡ length xs) where
   holds_meaning (t.stop s) bs = refl
 
 -- names are closed
-or_name_closed : (o : Option ℕ) → IsClosed (or_name o)
+or_name_closed : (o : Option ℕ) → IsClosed (or_free_name o)
 or_name_closed None = tt
 or_name_closed (Some i) = tt
 
-pub names_closed : (xs : Names) → AreClosed (word_in (numbered xs))
+pub names_closed : (xs : Names) → AreClosed (word_in (names_numbered xs))
 names_closed xs = record { each = λ w. subst IsClosed (sym (word_numbered xs w)) (or_name_closed (number_of xs w)) }

@@ -21,7 +21,7 @@ use Rattle.spi_honest.specs.Roles.{AreRolesDistinct, IsRole, IsTellable}
 use Rattle.spi_honest.specs.Standing.{AreApart, Locates}
 use Rattle.spi_honest.specs.Honest.{IsNotReady, IsTooLarge, HasHonestFault}
 use Rattle.spi_honest.specs.Progress.{Progress}
-use Rattle.spi_honest.specs.Stages.{TookStep, IsRoomy, IsStepRefused, IsRoleAt, ToldTo, steps_in, events_in, IsPassAt, IsParted, PutsAt, TakesAt}
+use Rattle.spi_honest.specs.Stages.{TookStep, IsRoomy, IsStepRefused, IsRoleAt, ToldTo, stage_steps, events_in, IsPassAt, IsParted, PutsAt, TakesAt}
 use Rattle.spi_rules.proofs.Typing.{at_below}
 use Rattle.spi_honest.proofs.Places.{at_set, at_set_other}
 use Rattle.spi_honest.proofs.Settled.{apart_of, distinct_at}
@@ -56,7 +56,7 @@ role_below {roles} j h r = let b = at_below (get_at roles j r.1) in omega (arith
 
 -- the output comes apart
 module _ (x : n.Narration) (file : Meant) (at j k i : ℕ) (old : Stage) (ok : IsTellable x) (line : IsPassAt x at j k i) (told : ToldTo x file at old) (out : ℕ) (read : out ≡ get_or old.places.items j out) where
-  h : Progress x file (take at x.lines) (n.pass line.span line.from line.to line.channel line.datum line.name ∷ drop (suc at) x.lines) old.pool (steps_in old) (events_in old) old.places.items
+  h : Progress x file (take at x.lines) (n.pass line.span line.from line.to line.channel line.datum line.name ∷ drop (suc at) x.lines) old.pool (stage_steps old) (events_in old) old.places.items
   h = told_here x file at (n.pass line.span line.from line.to line.channel line.datum line.name) line.here told
 
   once : AreApart x.roles
@@ -86,14 +86,14 @@ module _ (x : n.Narration) (file : Meant) (at j k i : ℕ) (old : Stage) (ok : I
   part_done new now rest t e a b c d = record {
     line = line;
     pool = old.pool;
-    steps = steps_in old;
+    steps = stage_steps old;
     events = events_in old;
     is = old.places.items;
     told = h;
     event = t.event;
     taken = subst (λ p. IsTaken old.pool (act (h.place line.from.word)) t.event p) (sym a) (subst (λ z. IsTaken old.pool (act z) t.event new.pool) place_is t.taken);
     place = place_is;
-    steps_now = ap (λ v. map Rattle.spi_run.specs.View.step v.items) b ∙ t.steps ∙ ap (λ z. steps_in old ++ act z ∷ []) place_is;
+    steps_now = ap (λ v. map Rattle.spi_run.specs.View.step v.items) b ∙ t.steps ∙ ap (λ z. stage_steps old ++ act z ∷ []) place_is;
     events_now = ap (λ v. map Rattle.spi_run.specs.View.event v.items) c ∙ t.events;
     located = subst (λ is. Locates x.roles (moved line.from.word (length old.pool.configuration.places) h.place) is) (sym (d ∙ (λ i. slice_set (t.places i) j (e i)))) (located_set j (length old.pool.configuration.places) ok.distinct h.located line.sender);
   }
@@ -189,7 +189,7 @@ module _ (x : n.Narration) (file : Meant) (at j k i out : ℕ) (old : Stage) (ok
     pub meet_ok : {new : Stage} → TookStep old new (talk out inp) → ToldTo x file (at + 1) new
     meet_ok {new} t =
         told_then x file at (n.pass parted.line.span parted.line.from parted.line.to parted.line.channel parted.line.datum parted.line.name) parted.line.here
-        (ap (λ ss. ss ++ talk (parted.told.place parted.line.from.word) (place_now parted.line.to.word) ∷ []) (sym parted.steps_now) ∙ ap (λ s. steps_in old ++ s ∷ []) (sym its_talk) ∙ sym t.steps)
+        (ap (λ ss. ss ++ talk (parted.told.place parted.line.from.word) (place_now parted.line.to.word) ∷ []) (sym parted.steps_now) ∙ ap (λ s. stage_steps old ++ s ∷ []) (sym its_talk) ∙ sym t.steps)
         (ap (λ es. es ++ option_to_list t.event) (sym parted.events_now) ∙ sym t.events)
         (sym t.places)
         (pass_progress parted.line.span parted.line.from parted.line.to parted.line.channel parted.line.datum parted.line.name apart from_is to_is i parted.line.number parted.told both old.places.items parted.taken (subst (λ s. IsTaken old.pool s t.event new.pool) its_talk t.taken) parted.located)

@@ -13,12 +13,12 @@ use Rattle.spi_replay.specs.Stepping.{Pooled, IsTaken, largest, bound_here, by_p
 use Rattle.spi_scope.specs.Scope.{Names}
 use Rattle.spi_scope.specs.StandsFor.{Meant}
 use Rattle.spi_weave.specs.Woven.{role_process, roles_together, sharing}
-use Rattle.spi_honest.specs.Reading.{word_in, numbered}
-use Rattle.spi_honest.specs.Narrated.{at, free_of, with_shared, begins}
+use Rattle.spi_honest.specs.Reading.{word_in, names_numbered}
+use Rattle.spi_honest.specs.Narrated.{with_message, free_of, with_shared, narrated_begin}
 use Rattle.spi_honest.specs.Schedule.{role_steps}
 use Rattle.spi_honest.specs.Holds.{Holds}
 use Rattle.spi_honest.specs.Honest.{Replays, opening}
-use Rattle.spi_honest.specs.Progress.{place_number, beside_stop, steps_behind, Shares, Each, each_none, each_role, SpreadsRoles}
+use Rattle.spi_honest.specs.Progress.{place_number, beside_stop, steps_behind, Shares, EachRole, each_none, each_role, SpreadsRoles}
 use Rattle.spi_honest.proofs.Held.{holds_one}
 use Rattle.spi_honest.proofs.Meant.{names_closed}
 use Rattle.spi_rules.proofs.Typing.{at_last}
@@ -63,9 +63,9 @@ module _ {x : n.Narration} {file : Meant} {before rest : List Shared} {pool : Po
           places = ap (λ c. c.places) u.1;
           names = ns ∙ ap suc h.names ∙ sym (ap length w);
           holds =
-              subst (λ xs. Holds (sharing rest (roles_together x.lines x.roles)) [] (word_in (numbered xs)) shared_now) (sym w)
-              (subst (λ g. Holds (sharing rest (roles_together x.lines x.roles)) [] g shared_now) (given_one s.name (name pool.configuration.names) (numbered scope) ∙ ap (λ k. word_in (at s.name (name k) ∷ numbered scope)) h.names)
-              (holds_one (sharing rest (roles_together x.lines x.roles)) (name pool.configuration.names) s.name.word (word_in (numbered scope)) h.holds.1 (names_closed scope) h.holds.3));
+              subst (λ xs. Holds (sharing rest (roles_together x.lines x.roles)) [] (word_in (names_numbered xs)) shared_now) (sym w)
+              (subst (λ g. Holds (sharing rest (roles_together x.lines x.roles)) [] g shared_now) (given_one s.name (name pool.configuration.names) (names_numbered scope) ∙ ap (λ k. word_in (with_message s.name (name k) ∷ names_numbered scope)) h.names)
+              (holds_one (sharing rest (roles_together x.lines x.roles)) (name pool.configuration.names) s.name.word (word_in (names_numbered scope)) h.holds.1 (names_closed scope) h.holds.3));
           replays = replays_more_silent u.0 h.replays t;
           order = step_order steps (act 0) h.order refl;
           few_names = omega (arith, ns, h.few_names, z);
@@ -90,11 +90,11 @@ last_set : (ps : List Process) (a y : Process) → slice_set (ps ++ a ∷ []) (l
 last_set [] a y = refl
 last_set (p ∷ ps) a y = ap (λ l. p ∷ l) (last_set ps a y)
 
-pub each_length : {x : n.Narration} {rs : List SWord} {ps : List Process} → Each x rs ps → length ps ≡ length rs
+pub each_length : {x : n.Narration} {rs : List SWord} {ps : List Process} → EachRole x rs ps → length ps ≡ length rs
 each_length each_none = refl
 each_length (each_role h e) = ap suc (each_length e)
 
-pub each_more : {x : n.Narration} {rs : List SWord} {ps : List Process} (r : SWord) (p : Process) → Each x rs ps → Holds (role_process r x.lines) [] (word_in ((begins x).has r.word)) p → Each x (rs ++ r ∷ []) (ps ++ p ∷ [])
+pub each_more : {x : n.Narration} {rs : List SWord} {ps : List Process} (r : SWord) (p : Process) → EachRole x rs ps → Holds (role_process r x.lines) [] (word_in ((narrated_begin x).has r.word)) p → EachRole x (rs ++ r ∷ []) (ps ++ p ∷ [])
 each_more r p each_none g = each_role g each_none
 each_more r p (each_role h e) g = each_role h (each_more r p e g)
 

@@ -15,7 +15,7 @@ use Rattle.spi_honest.specs.declared.stage.Stage.{Stage}
 use Rattle.spi_honest.specs.Roles.{IsTellable}
 use Rattle.spi_honest.specs.Honest.{opening}
 use Rattle.spi_honest.specs.Progress.{Progress, place_number, AreRolePlaces, Shares, SpreadsRoles}
-use Rattle.spi_honest.specs.Stages.{TookStep, SharesTo, SpreadsTo, ToldTo, steps_in, events_in}
+use Rattle.spi_honest.specs.Stages.{TookStep, SharesTo, SpreadsTo, ToldTo, stage_steps, events_in}
 use Rattle.spi_honest.proofs.Settled.{share_first, spread_first, settled}
 use Rattle.spi_honest.proofs.Opened.{can_share, share_more, can_spread, spread_more}
 use Rattle.spi_honest.proofs.Playing.{dropped, taken, one_more}
@@ -58,8 +58,8 @@ module _ (x : n.Narration) (file : Meant) (i : ℕ) (old : Stage) (h : SharesTo 
   its : (s : Shared) × (slice_get x.shared i ≡ Some s)
   its = get_some x.shared i below
 
-  shares : Shares x file (take i x.shared) (its.0 ∷ drop (suc i) x.shared) old.pool (steps_in old)
-  shares = subst (λ ss. Shares x file (take i x.shared) ss old.pool (steps_in old)) (dropped x.shared i its.1) h.shares
+  shares : Shares x file (take i x.shared) (its.0 ∷ drop (suc i) x.shared) old.pool (stage_steps old)
+  shares = subst (λ ss. Shares x file (take i x.shared) ss old.pool (stage_steps old)) (dropped x.shared i its.1) h.shares
 
   pub share_can : (e : Option Event) × (new : Pooled) × IsTaken old.pool (act 0) e new
   share_can = (None, _, can_share its.0 shares)
@@ -68,7 +68,7 @@ module _ (x : n.Narration) (file : Meant) (i : ℕ) (old : Stage) (h : SharesTo 
   share_on new t =
       let m = share_more its.0 shares t.taken in
       subst (λ k. SharesTo x file k new) (one_more i) (record {
-        shares = subst (λ ss. Shares x file ss (drop (suc i) x.shared) new.pool (steps_in new)) (sym (taken x.shared i its.1)) (subst (λ ss. Shares x file (take i x.shared ++ its.0 ∷ []) (drop (suc i) x.shared) new.pool ss) (sym t.steps) m.1);
+        shares = subst (λ ss. Shares x file ss (drop (suc i) x.shared) new.pool (stage_steps new)) (sym (taken x.shared i its.1)) (subst (λ ss. Shares x file (take i x.shared ++ its.0 ∷ []) (drop (suc i) x.shared) new.pool ss) (sym t.steps) m.1);
         quiet = t.events ∙ (λ z. h.quiet z ++ option_to_list (m.0 z));
       })
 
@@ -77,8 +77,8 @@ module _ (x : n.Narration) (file : Meant) (i : ℕ) (old : Stage) (h : SpreadsTo
   next : (q : SWord) × (slice_get x.roles (suc i) ≡ Some q)
   next = get_some x.roles (suc i) below
 
-  spreads : SpreadsRoles x file (take i x.roles) h.role (next.0 ∷ drop (suc (suc i)) x.roles) old.pool (steps_in old)
-  spreads = subst (λ rs. SpreadsRoles x file (take i x.roles) h.role rs old.pool (steps_in old)) (dropped x.roles (suc i) next.1) h.spreads
+  spreads : SpreadsRoles x file (take i x.roles) h.role (next.0 ∷ drop (suc (suc i)) x.roles) old.pool (stage_steps old)
+  spreads = subst (λ rs. SpreadsRoles x file (take i x.roles) h.role rs old.pool (stage_steps old)) (dropped x.roles (suc i) next.1) h.spreads
 
   many : length (take i x.roles) ≡ i
   many = taken_length x.roles i (omega (arith, below))
@@ -96,24 +96,24 @@ module _ (x : n.Narration) (file : Meant) (i : ℕ) (old : Stage) (h : SpreadsTo
         role = next.0;
         here = next.1;
         spreads =
-            subst (λ rs. SpreadsRoles x file rs next.0 (drop (suc (suc i)) x.roles) new.pool (steps_in new)) (sym (taken x.roles i h.here))
-            (subst (λ ss. SpreadsRoles x file (take i x.roles ++ h.role ∷ []) next.0 (drop (suc (suc i)) x.roles) new.pool ss) (ap (λ z. steps_in old ++ act z ∷ []) place_is ∙ sym t.steps) m.1);
+            subst (λ rs. SpreadsRoles x file rs next.0 (drop (suc (suc i)) x.roles) new.pool (stage_steps new)) (sym (taken x.roles i h.here))
+            (subst (λ ss. SpreadsRoles x file (take i x.roles ++ h.role ∷ []) next.0 (drop (suc (suc i)) x.roles) new.pool ss) (ap (λ z. stage_steps old ++ act z ∷ []) place_is ∙ sym t.steps) m.1);
         quiet = t.events ∙ (λ z. h.quiet z ++ option_to_list (m.0 z));
       })
 
 pub shares_spread : (x : n.Narration) (file : Meant) (i : ℕ) (st : Stage) (r : SWord) (rs : List SWord) → IsTellable x → x.roles ≡ r ∷ rs → length x.shared ≤ i → SharesTo x file i st → SpreadsTo x file 0 st
 shares_spread x file i st r rs ok e f h =
-    let s = spread_first r rs e ok.shared (subst (λ ss. Shares x file (take i x.shared) ss st.pool (steps_in st)) (all_dropped x.shared i f) h.shares) in
+    let s = spread_first r rs e ok.shared (subst (λ ss. Shares x file (take i x.shared) ss st.pool (stage_steps st)) (all_dropped x.shared i f) h.shares) in
     record {
       role = r;
       here = ap (λ l. slice_get l 0) e;
-      spreads = subst (λ qs. SpreadsRoles x file [] r qs st.pool (steps_in st)) (sym (ap (λ l. drop 1 l) e)) s;
+      spreads = subst (λ qs. SpreadsRoles x file [] r qs st.pool (stage_steps st)) (sym (ap (λ l. drop 1 l) e)) s;
       quiet = h.quiet;
     }
 
 pub spread_told : (x : n.Narration) (file : Meant) (i : ℕ) (st now : Stage) → IsTellable x → length x.roles ≤ suc i → SpreadsTo x file i st → AreRolePlaces (length x.roles) now.places.items → now.pool ≡ st.pool → now.steps ≡ st.steps → now.events ≡ st.events → ToldTo x file 0 now
 spread_told x file i st now ok f h a b c d =
-    subst (λ p. Progress x file [] x.lines p (steps_in now) (events_in now) now.places.items) (sym b)
+    subst (λ p. Progress x file [] x.lines p (stage_steps now) (events_in now) now.places.items) (sym b)
     (subst (λ ss. Progress x file [] x.lines st.pool ss (events_in now) now.places.items) (sym (ap (λ v. map step v.items) c))
-    (subst (λ es. Progress x file [] x.lines st.pool (steps_in st) es now.places.items) (sym (ap (λ v. map event v.items) d ∙ h.quiet))
-    (settled now.places.items ok a (subst (λ rs. SpreadsRoles x file (take i x.roles) h.role rs st.pool (steps_in st)) (all_dropped x.roles (suc i) f) h.spreads))))
+    (subst (λ es. Progress x file [] x.lines st.pool (stage_steps st) es now.places.items) (sym (ap (λ v. map event v.items) d ∙ h.quiet))
+    (settled now.places.items ok a (subst (λ rs. SpreadsRoles x file (take i x.roles) h.role rs st.pool (stage_steps st)) (all_dropped x.roles (suc i) f) h.spreads))))

@@ -14,8 +14,8 @@ use Rattle.spi_replay.specs.Stepping.{Pooled, IsTaken, largest, bound_by}
 use Rattle.spi_replay.specs.Ready.{PutsOut, puts_out, TakesIn, takes_once as takes_in_once}
 use Rattle.spi_scope.specs.Scope.{Word, Names, number_of}
 use Rattle.spi_scope.specs.StandsFor.{Meant}
-use Rattle.spi_honest.specs.Reading.{Map, at_word, or_unit, word_in, value}
-use Rattle.spi_honest.specs.Narrated.{at, giving, Told, IsFree, TellsLine, tells_pass, shown, free_of}
+use Rattle.spi_honest.specs.Reading.{Map, at_word, or_unit, word_in, value_in_map}
+use Rattle.spi_honest.specs.Narrated.{with_message, giving, Told, IsFreeWord, TellsLine, tells_pass, shown_by_event, free_of}
 use Rattle.spi_honest.specs.Schedule.{moved, line_steps}
 use Rattle.spi_honest.specs.Roles.{IsRole}
 use Rattle.spi_honest.specs.Standing.{AreApart, StandRoles, StoppedRoles, StoppedBut, Locates, left}
@@ -32,10 +32,10 @@ free_word (Some m) i e = ap Some e
 one_number : {i j : ℕ} {o : Option ℕ} → o ≡ Some i → o ≡ Some j → i ≡ j
 one_number {i} {j} e f = let g : Some i ≡ Some j = sym e ∙ f in cc
 
-pub is_free : {free : Names} {g : Map} {w : Word} (i : ℕ) → number_of free w ≡ Some i → word_in g w ≡ name i → IsFree free g w
+pub is_free : {free : Names} {g : Map} {w : Word} (i : ℕ) → number_of free w ≡ Some i → word_in g w ≡ name i → IsFreeWord free g w
 is_free {g = g} {w = w} i e f = record { number = i; is = e; had = free_word (at_word g w) i f }
 
-pub free_is : {free : Names} {g : Map} {w : Word} (i : ℕ) → number_of free w ≡ Some i → IsFree free g w → word_in g w ≡ name i
+pub free_is : {free : Names} {g : Map} {w : Word} (i : ℕ) → number_of free w ≡ Some i → IsFreeWord free g w → word_in g w ≡ name i
 free_is i e f = ap or_unit f.had ∙ ap name (one_number f.is e)
 
 puts_channel : {m : Message} {a b : Message} → PutsOut m (send a b) → a ≡ m
@@ -73,7 +73,7 @@ module _ {x : n.Narration} {file : Meant} {before rest : List n.Line} {pool : Po
   its_channel = word_in (h.told.has from.word) c.word
 
   abbrev pub its_datum : Message
-  its_datum = value (h.told.has from.word) m
+  its_datum = value_in_map (h.told.has from.word) m
 
   pub can_part : length before ≤ 200 → IsTaken pool (act out_place) None (record { configuration = at_places k parted_now; most = pool.most })
   can_part few =
@@ -125,7 +125,7 @@ module _ {x : n.Narration} {file : Meant} {before rest : List n.Line} {pool : Po
     pass_takes = talk_takes once s to c w rest kt out_place its_channel its_datum stand_mid out_there none_mid (valued_closed (word_in (h.told.has from.word)) (h.stands.closed from.word) m) k (both.0 ∙ sym both.1)
 
     abbrev pub bound_now : Map
-    bound_now = at w its_datum ∷ []
+    bound_now = with_message w its_datum ∷ []
 
     abbrev pub told_now : Told
     told_now = record { names = h.told.names; has = giving to.word bound_now h.told.has }
@@ -133,7 +133,7 @@ module _ {x : n.Narration} {file : Meant} {before rest : List n.Line} {pool : Po
     pub pass_tells : TellsLine (free_of x) h.told (n.pass s from to c m w) bound_now None told_now
     pass_tells = tells_pass (is_free i free both.0) (is_free i free both.1)
 
-    pub pass_size : largest (bound_by (at_places k parted_now) (talk out_place (place_then to.word))) ≡ largest (shown bound_now None)
+    pub pass_size : largest (bound_by (at_places k parted_now) (talk out_place (place_then to.word))) ≡ largest (shown_by_event bound_now None)
     pass_size = ap largest (talk_bound once s to c w rest kt out_place its_channel its_datum stand_mid out_there none_mid (valued_closed (word_in (h.told.has from.word)) (h.stands.closed from.word) m) k)
 
     pass_stands : StandRoles x.roles place_then (left rest) (giving to.word bound_now h.told.has) StoppedRoles now
@@ -159,7 +159,7 @@ module _ {x : n.Narration} {file : Meant} {before rest : List n.Line} {pool : Po
           cut = h.cut ∙ sym (append_assoc before (n.pass s from to c m w ∷ []) rest);
           told = told_now;
           place = place_then;
-          narrates = subst (λ es. Rattle.spi_honest.specs.Narrated.NarratesSmall (free_of x) (Rattle.spi_honest.specs.Narrated.begins x) (before ++ n.pass s from to c m w ∷ []) es told_now) (append-nil events ∙ sym none) told;
+          narrates = subst (λ es. Rattle.spi_honest.specs.Narrated.NarratesSmall (free_of x) (Rattle.spi_honest.specs.Narrated.narrated_begin x) (before ++ n.pass s from to c m w ∷ []) es told_now) (append-nil events ∙ sym none) told;
           replays = replays_more (replays_more h.replays t) t';
           names = ks ∙ h.names;
           stands = subst (λ qs. StandRoles x.roles place_then (left rest) (giving to.word bound_now h.told.has) StoppedRoles qs) (sym ps) pass_stands;

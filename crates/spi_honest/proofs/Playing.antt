@@ -15,9 +15,9 @@ use Rattle.spi_honest.specs.declared.fault.HonestFault.TheVariants.{LineNotReady
 use Rattle.spi_honest.specs.Narrated.{Told, free_of}
 use Rattle.spi_honest.specs.Roles.{IsRole, IsTellable}
 use Rattle.spi_honest.specs.Standing.{AreApart, Locates}
-use Rattle.spi_honest.specs.Honest.{IsWrongAt, IsNotReady, IsTooLarge, HasHonestFault}
+use Rattle.spi_honest.specs.Honest.{LineIsWrongAt, IsNotReady, IsTooLarge, HasHonestFault}
 use Rattle.spi_honest.specs.Progress.{Progress}
-use Rattle.spi_honest.specs.Stages.{TookStep, IsRoomy, IsStepRefused, IsRoleAt, ToldTo, steps_in, events_in, IsLocalAt}
+use Rattle.spi_honest.specs.Stages.{TookStep, IsRoomy, IsStepRefused, IsRoleAt, ToldTo, stage_steps, events_in, IsLocalAt}
 use Rattle.spi_rules.proofs.Typing.{at_below}
 use Rattle.spi_honest.proofs.Settled.{apart_of, at_in}
 use Rattle.spi_honest.proofs.Telling.{LocalTold, local_told, local_not_ready, local_progress}
@@ -70,7 +70,7 @@ module _ (x : n.Narration) (file : Meant) (at : ℕ) (l : n.Line) (here : slice_
   pub before_few : IsTellable x → length (take at x.lines) ≤ 200
   before_few ok = let e = taken_many x.lines at here in let b = at_below (get_at x.lines at here) in omega (arith, e, b, ok.lines)
 
-  pub wrong_here : {pool : Pooled} {steps : List Step} {events : List Event} {is : List ℕ} (k : ℕ) (IsWrong : Told → n.Line → Type 0) → k ≡ at → (h : Progress x file (take at x.lines) (l ∷ drop (suc at) x.lines) pool steps events is) → IsWrong h.told l → IsWrongAt x k IsWrong
+  pub wrong_here : {pool : Pooled} {steps : List Step} {events : List Event} {is : List ℕ} (k : ℕ) (IsWrong : Told → n.Line → Type 0) → k ≡ at → (h : Progress x file (take at x.lines) (l ∷ drop (suc at) x.lines) pool steps events is) → IsWrong h.told l → LineIsWrongAt x k IsWrong
   wrong_here {events = events} k IsWrong e h w = record {
     before = take at x.lines;
     here = l;
@@ -84,7 +84,7 @@ module _ (x : n.Narration) (file : Meant) (at : ℕ) (l : n.Line) (here : slice_
   }
 
 module _ (x : n.Narration) (file : Meant) (at j : ℕ) (old : Stage) (ok : IsTellable x) (line : IsLocalAt x at j) (told : ToldTo x file at old) (p : ℕ) (read : p ≡ get_or old.places.items j p) where
-  h : Progress x file (take at x.lines) (n.local line.span line.who line.prefix ∷ drop (suc at) x.lines) old.pool (steps_in old) (events_in old) old.places.items
+  h : Progress x file (take at x.lines) (n.local line.span line.who line.prefix ∷ drop (suc at) x.lines) old.pool (stage_steps old) (events_in old) old.places.items
   h = told_here x file at (n.local line.span line.who line.prefix) line.here told
 
   once : AreApart x.roles
@@ -110,7 +110,7 @@ module _ (x : n.Narration) (file : Meant) (at j : ℕ) (old : Stage) (ok : IsTel
 
   pub local_ok : {new : Stage} → TookStep old new (act p) → ToldTo x file (at + 1) new
   local_ok {new} t =
-      told_then x file at (n.local line.span line.who line.prefix) line.here (ap (λ s. steps_in old ++ s ∷ []) (sym its_step) ∙ sym t.steps) (sym t.events) (sym t.places)
+      told_then x file at (n.local line.span line.who line.prefix) line.here (ap (λ s. stage_steps old ++ s ∷ []) (sym its_step) ∙ sym t.steps) (sym t.events) (sym t.places)
       (local_progress line.span line.who line.prefix once k h (subst (λ s. IsTaken old.pool s t.event new.pool) its_step t.taken))
 
   bound_is : largest (bound_by old.pool.configuration (act p)) ≡ largest (bound_by old.pool.configuration (act (h.place line.who.word)))

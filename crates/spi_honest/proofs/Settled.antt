@@ -13,14 +13,14 @@ use Rattle.spi_scope.specs.Scope.{Word, Names}
 use Rattle.spi_scope.specs.Points.{all_types}
 use Rattle.spi_scope.specs.StandsFor.{Meant, StandsFor}
 use Rattle.spi_weave.specs.Woven.{role_process, roles_beside, roles_together, sharing, woven}
-use Rattle.spi_honest.specs.Reading.{word_in, numbered}
-use Rattle.spi_honest.specs.Narrated.{narrates_none, free_of, with_shared, begins}
+use Rattle.spi_honest.specs.Reading.{word_in, names_numbered}
+use Rattle.spi_honest.specs.Narrated.{narrates_none, free_of, with_shared, narrated_begin}
 use Rattle.spi_honest.specs.Schedule.{line_steps, role_steps, places_from, places_of, others}
 use Rattle.spi_honest.specs.Holds.{Holds}
 use Rattle.spi_honest.specs.Roles.{AreRolesDistinct, IsTellable}
 use Rattle.spi_honest.specs.Standing.{AreApart, StandRoles, StoppedRoles, Locates, left}
 use Rattle.spi_honest.specs.Honest.{replays_none, opening}
-use Rattle.spi_honest.specs.Progress.{Progress, place_number, beside_stop, steps_behind, Shares, Each, each_none, each_role, SpreadsRoles, AreRolePlaces}
+use Rattle.spi_honest.specs.Progress.{Progress, place_number, beside_stop, steps_behind, Shares, EachRole, each_none, each_role, SpreadsRoles, AreRolePlaces}
 use Rattle.spi_honest.proofs.Meant.{holds_meaning, names_closed}
 use Rattle.spi_honest.proofs.Standing.{chosen, not_chosen}
 use Rattle.spi_honest.proofs.Opened.{place_at, each_length, each_more}
@@ -45,7 +45,7 @@ share_first {x} {file} {pool} h few e = subst (λ p. Shares x file [] x.shared p
   process = file.process.process;
   places = refl;
   names = ap (λ s. s.names) h.process;
-  holds = subst (λ s. Holds (sharing x.shared (roles_together x.lines x.roles)) [] (word_in (numbered (free_of x))) s.process) (sym h.process) (holds_meaning (length (free_of x)) (all_types [] [] x.decls) (free_of x) refl (sharing x.shared (roles_together x.lines x.roles)) []);
+  holds = subst (λ s. Holds (sharing x.shared (roles_together x.lines x.roles)) [] (word_in (names_numbered (free_of x))) s.process) (sym h.process) (holds_meaning (length (free_of x)) (all_types [] [] x.decls) (free_of x) refl (sharing x.shared (roles_together x.lines x.roles)) []);
   replays = replays_none;
   order = refl;
   few_names = omega (arith, few);
@@ -61,9 +61,9 @@ spread_first {x} {file} {before} {pool} {steps} r rs e few h =
       last = h.process;
       each = each_none;
       holds =
-          together_beside x.lines r rs [] (word_in (numbered (with_shared (free_of x) x.shared))) h.process
-          (subst (λ qs. Holds (roles_together x.lines qs) [] (word_in (numbered (with_shared (free_of x) x.shared))) h.process) e
-          (subst (λ ss. Holds (roles_together x.lines x.roles) [] (word_in (numbered (with_shared (free_of x) ss))) h.process) (sym c) h.holds));
+          together_beside x.lines r rs [] (word_in (names_numbered (with_shared (free_of x) x.shared))) h.process
+          (subst (λ qs. Holds (roles_together x.lines qs) [] (word_in (names_numbered (with_shared (free_of x) x.shared))) h.process) e
+          (subst (λ ss. Holds (roles_together x.lines x.roles) [] (word_in (names_numbered (with_shared (free_of x) ss))) h.process) (sym c) h.holds));
       places = h.places;
       names = h.names ∙ ap (λ ss. length (with_shared (free_of x) ss)) (sym c);
       replays = h.replays;
@@ -99,30 +99,30 @@ distinct_at (x ∷ xs) (suc i) (suc j) d (at_later a) (at_later b) e = ap suc (d
 pub apart_of : (rs : List SWord) → AreRolesDistinct rs → AreApart rs
 apart_of rs d = record { once = λ r q i j e. let a = in_at i in let b = in_at j in at_unique a.1 (subst (λ k. At rs k q) (sym (distinct_at rs a.0 b.0 d a.1 b.1 e)) b.1) }
 
-pub record EachAt (x : n.Narration) (zs : List Process) (j : ℕ) (r : SWord) : Type 0 where
+pub record RoleAt (x : n.Narration) (zs : List Process) (j : ℕ) (r : SWord) : Type 0 where
   pub process : Process
   pub there : At zs j process
-  pub holds : Holds (role_process r x.lines) [] (word_in ((begins x).has r.word)) process
+  pub holds : Holds (role_process r x.lines) [] (word_in ((narrated_begin x).has r.word)) process
 
-each_at : {x : n.Narration} {rs : List SWord} {zs : List Process} {j : ℕ} {r : SWord} → Each x rs zs → At rs j r → EachAt x zs j r
+each_at : {x : n.Narration} {rs : List SWord} {zs : List Process} {j : ℕ} {r : SWord} → EachRole x rs zs → At rs j r → RoleAt x zs j r
 each_at each_none h = elim h [ ]
 each_at (each_role h e) at_first = record { process = _; there = at_first; holds = h }
 each_at (each_role h e) (at_later a) = let b = each_at e a in record { process = b.process; there = at_later b.there; holds = b.holds }
 
-each_role_at : {x : n.Narration} {rs : List SWord} {zs : List Process} {j : ℕ} {p : Process} → Each x rs zs → At zs j p → (r : SWord) × At rs j r
+each_role_at : {x : n.Narration} {rs : List SWord} {zs : List Process} {j : ℕ} {p : Process} → EachRole x rs zs → At zs j p → (r : SWord) × At rs j r
 each_role_at each_none h = elim h [ ]
 each_role_at (each_role {r = r} h e) at_first = (r, at_first)
 each_role_at (each_role h e) (at_later a) = let b = each_role_at e a in (b.0, at_later b.1)
 
 -- a place has a role's process, or it is the opponent's
-idle_at : (x : n.Narration) (rs : List SWord) (zs : List Process) → Each x rs zs → AreRolesDistinct rs → (i : ℕ) (p : Process) → At (beside_stop zs) i p → ((r : SWord) → In r rs → places_of rs r.word ≡ i → ⊥) → p ≡ stop
+idle_at : (x : n.Narration) (rs : List SWord) (zs : List Process) → EachRole x rs zs → AreRolesDistinct rs → (i : ℕ) (p : Process) → At (beside_stop zs) i p → ((r : SWord) → In r rs → places_of rs r.word ≡ i → ⊥) → p ≡ stop
 idle_at x rs [] e d zero p at_first away = refl
 idle_at x rs [] e d (suc i) p (at_later a) away = elim a [ ]
 idle_at x rs (z ∷ zs) e d zero p at_first away = let b = each_role_at {j = 0} e at_first in absurd (away b.0 (at_in b.1) (placed rs d b.1))
 idle_at x rs (z ∷ zs) e d (suc zero) p (at_later at_first) away = refl
 idle_at x rs (z ∷ zs) e d (suc (suc i)) p (at_later (at_later a)) away = let b = each_role_at e (at_later a) in absurd (away b.0 (at_in b.1) (placed rs d b.1))
 
-each_stands : {x : n.Narration} (rs : List SWord) (zs : List Process) → Each x rs zs → AreRolesDistinct rs → StandRoles rs (places_of rs) (left x.lines) (begins x).has StoppedRoles (beside_stop zs)
+each_stands : {x : n.Narration} (rs : List SWord) (zs : List Process) → EachRole x rs zs → AreRolesDistinct rs → StandRoles rs (places_of rs) (left x.lines) (narrated_begin x).has StoppedRoles (beside_stop zs)
 each_stands {x} rs zs e d = record {
   closed = λ w. names_closed (with_shared (free_of x) x.shared);
   there = λ r i. let a = in_at i in let b = each_at e a.1 in record { process = b.process; there = subst (λ k. At (beside_stop zs) k b.process) (sym (placed rs d a.1)) (place_at a.0 b.there); holds = b.holds };
@@ -142,16 +142,16 @@ others_many (q ∷ qs) i = refl
 
 pub settled : {x : n.Narration} {file : Meant} {before : List SWord} {r : SWord} {pool : Pooled} {steps : List Step} (is : List ℕ) → IsTellable x → AreRolePlaces (length x.roles) is → SpreadsRoles x file before r [] pool steps → Progress x file [] x.lines pool steps [] is
 settled {x} {file} {before} {r} {pool} {steps} is ok h s =
-    let e : Each x (before ++ r ∷ []) (s.apart ++ s.last ∷ []) = each_more r s.last s.each s.holds in
-    let stands : StandRoles x.roles (places_of x.roles) (left x.lines) (begins x).has StoppedRoles pool.configuration.places =
-    subst (λ ps. StandRoles x.roles (places_of x.roles) (left x.lines) (begins x).has StoppedRoles ps) (sym s.places)
-    (each_stands x.roles (s.apart ++ s.last ∷ []) (subst (λ rs. Each x rs (s.apart ++ s.last ∷ [])) (sym s.cut) e) ok.distinct) in
+    let e : EachRole x (before ++ r ∷ []) (s.apart ++ s.last ∷ []) = each_more r s.last s.each s.holds in
+    let stands : StandRoles x.roles (places_of x.roles) (left x.lines) (narrated_begin x).has StoppedRoles pool.configuration.places =
+    subst (λ ps. StandRoles x.roles (places_of x.roles) (left x.lines) (narrated_begin x).has StoppedRoles ps) (sym s.places)
+    (each_stands x.roles (s.apart ++ s.last ∷ []) (subst (λ rs. EachRole x rs (s.apart ++ s.last ∷ [])) (sym s.cut) e) ok.distinct) in
     let many : length pool.configuration.places ≡ suc (length x.roles) =
-    ap length s.places ∙ beside_many s.apart s.last ∙ ap suc (each_length (subst (λ rs. Each x rs (s.apart ++ s.last ∷ [])) (sym s.cut) e)) in
+    ap length s.places ∙ beside_many s.apart s.last ∙ ap suc (each_length (subst (λ rs. EachRole x rs (s.apart ++ s.last ∷ [])) (sym s.cut) e)) in
     let last : length x.roles ≡ suc (length (others x.roles)) = others_many x.roles (subst (λ rs. In r rs) (sym s.cut) (behind before)) in
     record {
       cut = refl;
-      told = begins x;
+      told = narrated_begin x;
       place = places_of x.roles;
       narrates = record { narrates = narrates_none; small = tt };
       replays = s.replays;

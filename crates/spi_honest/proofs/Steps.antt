@@ -15,9 +15,9 @@ use Rattle.spi_term.specs.Substitution.{process_put}
 use Rattle.spi_run.specs.Reduction.{Configuration, act, talk, Event, Acts, acts_par, talks_once, Takes, takes_act, takes_talk}
 use Rattle.spi_replay.specs.Stepping.{largest, bound_here, handed_over, by_place, bound_by}
 use Rattle.spi_scope.specs.Scope.{Word}
-use Rattle.spi_weave.specs.Woven.{is_word, spelled, sent, received, done, role_process}
-use Rattle.spi_honest.specs.Reading.{Map, word_in, value}
-use Rattle.spi_honest.specs.Narrated.{at, giving, Does, shown}
+use Rattle.spi_weave.specs.Woven.{is_word, name_spelled, sent, received, woven_prefix, role_process}
+use Rattle.spi_honest.specs.Reading.{Map, word_in, value_in_map}
+use Rattle.spi_honest.specs.Narrated.{with_message, giving, Does, shown_by_event}
 use Rattle.spi_honest.specs.Schedule.{moved}
 use Rattle.spi_honest.specs.Holds.{Holds}
 use Rattle.spi_honest.specs.Roles.{IsRole}
@@ -52,13 +52,13 @@ module _ {roles : List SWord} {place : Word → ℕ} {has : Word → Map} {ps : 
   unfolding mine
   mine_holds =
       subst (λ w. Holds (Rattle.spi_weave.specs.Woven.prefixed s f (role_process k.role ls)) [] (word_in (has w)) mine.process) k.word
-      (subst (λ b. Holds (done b s f (role_process k.role ls)) [] (word_in (has k.role.word)) mine.process) (same_word who k.role (sym k.word)) mine.holds)
+      (subst (λ b. Holds (woven_prefix b s f (role_process k.role ls)) [] (word_in (has k.role.word)) mine.process) (same_word who k.role (sym k.word)) mine.holds)
 
   pub record LocalTakes (n : ℕ) (more : Map) (e : Option Event) (n' : ℕ) : Type 0 where
     pub now : Process
     pub takes : Takes (at_places n ps) (act (place who.word)) e (at_places n' (slice_set ps (place who.word) now ++ []))
     pub stands : StandRoles roles place (left ls) (giving who.word more has) StoppedRoles (slice_set ps (place who.word) now)
-    pub size : largest (bound_by (at_places n ps) (act (place who.word))) ≡ largest (shown more e)
+    pub size : largest (bound_by (at_places n ps) (act (place who.word))) ≡ largest (shown_by_event more e)
 
   pub local_takes : {n n' : ℕ} {more : Map} {e : Option Event} → Does n (has who.word) f more e n' → LocalTakes n more e n'
   local_takes {n} {n'} {more} {e} d =
@@ -66,7 +66,7 @@ module _ {roles : List SWord} {place : Word → ℕ} {has : Word → Map} {ps : 
       record {
         now = a.now;
         takes = takes_act mine_there a.acts;
-        stands = goes_on once who.word k (left ls) (λ q i v. sym (ap (λ b. done b s f (role_process q ls)) (other_word who q (λ u. v (sym u))))) a.now more a.closed (λ q i v. subst (λ r. Holds (role_process r ls) [] (word_in (more ++ has who.word)) a.now) (once.once k.role q k.is i (k.word ∙ sym v)) a.holds) h;
+        stands = goes_on once who.word k (left ls) (λ q i v. sym (ap (λ b. woven_prefix b s f (role_process q ls)) (other_word who q (λ u. v (sym u))))) a.now more a.closed (λ q i v. subst (λ r. Holds (role_process r ls) [] (word_in (more ++ has who.word)) a.now) (once.once k.role q k.is i (k.word ∙ sym v)) a.holds) h;
         size = ap largest (bound_at n ps (place who.word) mine_there) ∙ a.size;
       }
 
@@ -94,16 +94,16 @@ module _ {roles : List SWord} {place : Word → ℕ} {has : Word → Map} {ps : 
   channel = word_in (has from.word) c.word
 
   abbrev pub datum : Message
-  datum = value (has from.word) m
+  datum = value_in_map (has from.word) m
 
   sender_there : At ps (place from.word) sender.process
   unfolding sender
   sender_there = subst (λ w. At ps (place w) sender.process) k.word sender.there
 
-  pub sender_holds : Holds (t.out_then s (spelled c) m (mid to s c x ls k.role)) [] (word_in (has from.word)) sender.process
+  pub sender_holds : Holds (t.out_then s (name_spelled c) m (mid to s c x ls k.role)) [] (word_in (has from.word)) sender.process
   unfolding sender
   sender_holds =
-      subst (λ w. Holds (t.out_then s (spelled c) m (mid to s c x ls k.role)) [] (word_in (has w)) sender.process) k.word
+      subst (λ w. Holds (t.out_then s (name_spelled c) m (mid to s c x ls k.role)) [] (word_in (has w)) sender.process) k.word
       (subst (λ b. Holds (sent b s c m (mid to s c x ls k.role)) [] (word_in (has k.role.word)) sender.process) (same_word from k.role (sym k.word)) sender.holds)
 
   -- after the act, the output stands at the sender's place
@@ -138,10 +138,10 @@ module _ {roles : List SWord} {place : Word → ℕ} {has : Word → Map} {ps : 
   unfolding receiver
   receiver_there = subst (λ w. At ps (place w) receiver.process) k.word receiver.there
 
-  pub receiver_holds : Holds (t.inp s (spelled c) x (t.un x.span) (role_process k.role ls)) [] (word_in (has to.word)) receiver.process
+  pub receiver_holds : Holds (t.inp s (name_spelled c) x (t.un x.span) (role_process k.role ls)) [] (word_in (has to.word)) receiver.process
   unfolding receiver
   receiver_holds =
-      subst (λ w. Holds (t.inp s (spelled c) x (t.un x.span) (role_process k.role ls)) [] (word_in (has w)) receiver.process) k.word
+      subst (λ w. Holds (t.inp s (name_spelled c) x (t.un x.span) (role_process k.role ls)) [] (word_in (has w)) receiver.process) k.word
       (subst (λ b. Holds (received b s c x (role_process k.role ls)) [] (word_in (has k.role.word)) receiver.process) (same_word to k.role (sym k.word)) receiver.holds)
 
   pub receives : (u : Ty) × (p : Process) × At ps (place to.word) (recv (word_in (has to.word) c.word) u p)
@@ -156,14 +156,14 @@ module _ {roles : List SWord} {place : Word → ℕ} {has : Word → Map} {ps : 
   pub talk_bound : (n : ℕ) → bound_by (at_places n ps) (talk i (place to.word)) ≡ datum ∷ []
   talk_bound n = ap (by_place handed_over) (at_get out)
 
-  talk_own : (q : SWord) → In q roles → q.word ≡ to.word → Holds (role_process q ls) [] (word_in (at x datum ∷ has to.word)) received_now
+  talk_own : (q : SWord) → In q roles → q.word ≡ to.word → Holds (role_process q ls) [] (word_in (with_message x datum ∷ has to.word)) received_now
   talk_own q j v =
-      subst (λ r. Holds (role_process r ls) [] (word_in (at x datum ∷ has to.word)) received_now) (once.once k.role q k.is j (k.word ∙ sym v))
+      subst (λ r. Holds (role_process r ls) [] (word_in (with_message x datum ∷ has to.word)) received_now) (once.once k.role q k.is j (k.word ∙ sym v))
       (subst (λ g. Holds (role_process k.role ls) [] g received_now) (given_one x datum (has to.word)) (holds_one (role_process k.role ls) datum x.word (word_in (has to.word)) receiver_holds.1 (h.closed to.word) receiver_holds.3))
 
-  pub talk_stands : StandRoles roles place (left ls) (giving to.word (at x datum ∷ []) has) StoppedRoles (slice_set (slice_set ps i stop) (place to.word) received_now)
+  pub talk_stands : StandRoles roles place (left ls) (giving to.word (with_message x datum ∷ []) has) StoppedRoles (slice_set (slice_set ps i stop) (place to.word) received_now)
   talk_stands =
-      goes_on once to.word k (left ls) (λ q j v. sym (ap (λ b. received b s c x (role_process q ls)) (other_word to q (λ u. v (sym u))))) received_now (at x datum ∷ []) (one_closed x datum (has to.word) closed (h.closed to.word)) talk_own (stops i out none h)
+      goes_on once to.word k (left ls) (λ q j v. sym (ap (λ b. received b s c x (role_process q ls)) (other_word to q (λ u. v (sym u))))) received_now (with_message x datum ∷ []) (one_closed x datum (has to.word) closed (h.closed to.word)) talk_own (stops i out none h)
 
   pub talk_length : length (slice_set (slice_set ps i stop) (place to.word) received_now) ≡ length ps
   talk_length = length-set (slice_set ps i stop) (place to.word) received_now ∙ length-set ps i stop

@@ -11,7 +11,7 @@ use Rattle.spi_replay.proofs.Taken.{takes_names, runs_more}
 use Rattle.spi_scope.specs.Scope.{Names}
 use Rattle.spi_scope.specs.StandsFor.{Meant}
 use Rattle.spi_honest.specs.Reading.{Map}
-use Rattle.spi_honest.specs.Narrated.{giving, Told, Does, TellsLine, tells_local, Narrates, narrates_none, narrates_line, AreLinesSmall, NarratesSmall, shown, free_of}
+use Rattle.spi_honest.specs.Narrated.{giving, Told, Does, TellsLine, tells_local, Narrates, narrates_none, narrates_line, AreLinesSmall, NarratesSmall, shown_by_event, free_of}
 use Rattle.spi_honest.specs.Schedule.{line_steps}
 use Rattle.spi_honest.specs.Roles.{IsRole}
 use Rattle.spi_honest.specs.Standing.{AreApart, StandRoles, StoppedRoles, left}
@@ -23,7 +23,7 @@ use Rattle.spi_honest.proofs.Steps.{LocalTakes, local_takes, local_back}
 small_as : {free : Names} {o p : Told} {ls : List n.Line} {es fs : List Event} → es ≡ fs → NarratesSmall free o ls es p → NarratesSmall free o ls fs p
 small_as {free} {o} {p} {ls} e h = subst (λ es. NarratesSmall free o ls es p) e h
 
-pub narrates_more : {free : Names} {o p q : Told} {ls : List n.Line} {l : n.Line} {es : List Event} {more : Map} {e : Option Event} (h : Narrates free o ls es p) → AreLinesSmall h → TellsLine free p l more e q → largest (shown more e) ≤ message_most → NarratesSmall free o (ls ++ l ∷ []) (es ++ option_to_list e) q
+pub narrates_more : {free : Names} {o p q : Told} {ls : List n.Line} {l : n.Line} {es : List Event} {more : Map} {e : Option Event} (h : Narrates free o ls es p) → AreLinesSmall h → TellsLine free p l more e q → largest (shown_by_event more e) ≤ message_most → NarratesSmall free o (ls ++ l ∷ []) (es ++ option_to_list e) q
 narrates_more {e = e} narrates_none s t g = small_as (append-nil (option_to_list e)) (record { narrates = narrates_line t narrates_none; small = (g, tt) })
 narrates_more {e = e} (narrates_line {e = e'} {es = es} t' r) s t g =
     let h = narrates_more r s.1 t g in
@@ -53,7 +53,7 @@ module _ {x : n.Narration} {file : Meant} {before rest : List n.Line} {pool : Po
     pub more : Map
     pub then : Told
     pub tells : TellsLine (free_of x) h.told (n.local s who f) more e then
-    pub size : largest (bound_by pool.configuration (act (h.place who.word))) ≡ largest (shown more e)
+    pub size : largest (bound_by pool.configuration (act (h.place who.word))) ≡ largest (shown_by_event more e)
     pub names : d.names ≡ then.names
     pub few_names : d.names ≤ suc pool.configuration.names
     pub many : length d.places ≡ length pool.configuration.places

@@ -17,12 +17,12 @@ abbrev pub index_of : Names → Word → Option ℕ
 index_of [] w = None
 index_of (x ∷ xs) w = if bytes_eq x w then Some 0 else deeper (index_of xs w)
 
-abbrev pub or_bound : Option ℕ → Message → Message
-or_bound None m = m
-or_bound (Some i) m = bound i
+abbrev pub or_bound_at : Option ℕ → Message → Message
+or_bound_at None m = m
+or_bound_at (Some i) m = bound i
 
-abbrev pub under : Names → (Word → Message) → Word → Message
-under bs f w = or_bound (index_of bs w) (f w)
+abbrev pub under_names : Names → (Word → Message) → Word → Message
+under_names bs f w = or_bound_at (index_of bs w) (f w)
 
 -- a message at one word more
 abbrev pub with : Word → Message → (Word → Message) → Word → Message
@@ -32,27 +32,27 @@ with x a f w = if bytes_eq x w then a else f w
 -- any
 abbrev pub Holds : t.Proc → Names → (Word → Message) → Process → Type 0
 Holds (t.par s p q) bs f r = (x y : Process) × (r ≡ par x y) × Holds p bs f x × Holds q bs f y
-Holds (t.out s m n) bs f r = r ≡ send (valued (under bs f) m) (valued (under bs f) n)
+Holds (t.out s m n) bs f r = r ≡ send (valued (under_names bs f) m) (valued (under_names bs f) n)
 Holds (t.out_then s m n p) bs f r = (x : Process)
-    × (r ≡ par (send (valued (under bs f) m) (valued (under bs f) n)) x) × Holds p bs f x
-Holds (t.inp s m w a p) bs f r = (u : Ty) × (x : Process) × (r ≡ recv (valued (under bs f) m) u x)
+    × (r ≡ par (send (valued (under_names bs f) m) (valued (under_names bs f) n)) x) × Holds p bs f x
+Holds (t.inp s m w a p) bs f r = (u : Ty) × (x : Process) × (r ≡ recv (valued (under_names bs f) m) u x)
     × Holds p (w.word ∷ bs) f x
-Holds (t.repeat s m w a p) bs f r = (u : Ty) × (x : Process) × (r ≡ serve (valued (under bs f) m) u x)
+Holds (t.repeat s m w a p) bs f r = (u : Ty) × (x : Process) × (r ≡ serve (valued (under_names bs f) m) u x)
     × Holds p (w.word ∷ bs) f x
-Holds (t.split s m w a y c p) bs f r = (u v : Ty) × (x : Process) × (r ≡ split (valued (under bs f) m) u v x)
+Holds (t.split s m w a y c p) bs f r = (u v : Ty) × (x : Process) × (r ≡ split (valued (under_names bs f) m) u v x)
     × Holds p (y.word ∷ w.word ∷ bs) f x
 Holds (t.match s m w a n y c p) bs f r = (u v : Ty) × (x : Process)
-    × (r ≡ select (valued (under bs f) m) u (valued (under bs f) n) v x) × Holds p (y.word ∷ bs) f x
+    × (r ≡ select (valued (under_names bs f) m) u (valued (under_names bs f) n) v x) × Holds p (y.word ∷ bs) f x
 Holds (t.case s m w a p y c q) bs f r = (u v : Ty) × (x z : Process)
-    × (r ≡ branch (valued (under bs f) m) u x v z) × Holds p (w.word ∷ bs) f x × Holds q (y.word ∷ bs) f z
+    × (r ≡ branch (valued (under_names bs f) m) u x v z) × Holds p (w.word ∷ bs) f x × Holds q (y.word ∷ bs) f z
 Holds (t.decrypt s m w a n p) bs f r = (u : Ty) × (x : Process)
-    × (r ≡ decrypt (valued (under bs f) m) u (valued (under bs f) n) x) × Holds p (w.word ∷ bs) f x
-Holds (t.check s m n p) bs f r = (x : Process) × (r ≡ check (valued (under bs f) m) (valued (under bs f) n) x)
+    × (r ≡ decrypt (valued (under_names bs f) m) u (valued (under_names bs f) n) x) × Holds p (w.word ∷ bs) f x
+Holds (t.check s m n p) bs f r = (x : Process) × (r ≡ check (valued (under_names bs f) m) (valued (under_names bs f) n) x)
     × Holds p bs f x
-Holds (t.begin s m p) bs f r = (x : Process) × (r ≡ begin (valued (under bs f) m) x) × Holds p bs f x
-Holds (t.end s m p) bs f r = (x : Process) × (r ≡ end (valued (under bs f) m) x) × Holds p bs f x
-Holds (t.end_many s m p) bs f r = (x : Process) × (r ≡ end_many (valued (under bs f) m) x) × Holds p bs f x
-Holds (t.cast s m w a p) bs f r = (u : Ty) × (x : Process) × (r ≡ cast (valued (under bs f) m) u x)
+Holds (t.begin s m p) bs f r = (x : Process) × (r ≡ begin (valued (under_names bs f) m) x) × Holds p bs f x
+Holds (t.end s m p) bs f r = (x : Process) × (r ≡ end (valued (under_names bs f) m) x) × Holds p bs f x
+Holds (t.end_many s m p) bs f r = (x : Process) × (r ≡ end_many (valued (under_names bs f) m) x) × Holds p bs f x
+Holds (t.cast s m w a p) bs f r = (u : Ty) × (x : Process) × (r ≡ cast (valued (under_names bs f) m) u x)
     × Holds p (w.word ∷ bs) f x
 Holds (t.new s w a p) bs f r = (u : Ty) × (x : Process) × (r ≡ fresh u x) × Holds p (w.word ∷ bs) f x
 Holds (t.stop s) bs f r = r ≡ stop

@@ -14,7 +14,7 @@ use Rattle.spi_honest.specs.declared.honest.Honest.{Honest}
 use Rattle.spi_honest.specs.declared.fault.HonestFault.{HonestFault}
 use Rattle.spi_honest.specs.declared.fault.HonestFault.TheVariants.{LineNotReady, NarratedTooLarge, NoMemory}
 use Rattle.spi_honest.specs.Reading.{Map}
-use Rattle.spi_honest.specs.Narrated.{Told, TellsLine, NarratesSmall, shown, free_of, begins}
+use Rattle.spi_honest.specs.Narrated.{Told, TellsLine, NarratesSmall, shown_by_event, free_of, narrated_begin}
 use Rattle.spi_honest.specs.Schedule.{honest_steps}
 
 -- the steps are taken one by one, each within the limits of a replay, with these events
@@ -32,7 +32,7 @@ opening file = record { configuration = beside file.process.names file.process.p
 pub record IsHonest (x : n.Narration) (file : Meant) (h : Honest) : Type 0 where
   pub told : Told
   pub last : Pooled
-  pub narrates : NarratesSmall (free_of x) (begins x) x.lines (map event h.events.items) told
+  pub narrates : NarratesSmall (free_of x) (narrated_begin x) x.lines (map event h.events.items) told
   pub order : map step h.steps.items ≡ honest_steps x
   pub replays : Replays (opening file) (map step h.steps.items) (map event h.events.items) last
   pub runs : Runs (opening file).configuration (map step h.steps.items) (map event h.events.items)
@@ -40,7 +40,7 @@ pub record IsHonest (x : n.Narration) (file : Meant) (h : Honest) : Type 0 where
   pub stops : (i : ℕ) (p : Process) → At last.configuration.places i p → p ≡ stop
 
 -- the line with this number is wrong where the lines before it have values and messages that aren't too large
-pub record IsWrongAt (x : n.Narration) (line : ℕ) (IsWrong : Told → n.Line → Type 0) : Type 0 where
+pub record LineIsWrongAt (x : n.Narration) (line : ℕ) (IsWrong : Told → n.Line → Type 0) : Type 0 where
   pub before : List n.Line
   pub here : n.Line
   pub after : List n.Line
@@ -48,7 +48,7 @@ pub record IsWrongAt (x : n.Narration) (line : ℕ) (IsWrong : Told → n.Line �
   pub number : length before ≡ line
   pub events : List Event
   pub told : Told
-  pub narrates : NarratesSmall (free_of x) (begins x) before events told
+  pub narrates : NarratesSmall (free_of x) (narrated_begin x) before events told
   pub wrong : IsWrong told here
 
 -- the line has no value
@@ -61,11 +61,11 @@ pub record IsTooLarge (free : Names) (nodes : ℕ) (o : Told) (l : n.Line) : Typ
   pub event : Option Event
   pub then : Told
   pub tells : TellsLine free o l more event then
-  pub large : message_most < largest (shown more event)
-  pub count : nodes ≡ stopped (largest (shown more event))
+  pub large : message_most < largest (shown_by_event more event)
+  pub count : nodes ≡ stopped (largest (shown_by_event more event))
 
 -- why there is no honest schedule
 abbrev pub HasHonestFault : n.Narration → HonestFault → Type 0
-HasHonestFault x (LineNotReady line) = IsWrongAt x line (IsNotReady (free_of x))
-HasHonestFault x (NarratedTooLarge line nodes) = IsWrongAt x line (IsTooLarge (free_of x) nodes)
+HasHonestFault x (LineNotReady line) = LineIsWrongAt x line (IsNotReady (free_of x))
+HasHonestFault x (NarratedTooLarge line nodes) = LineIsWrongAt x line (IsTooLarge (free_of x) nodes)
 HasHonestFault x NoMemory = ⊥

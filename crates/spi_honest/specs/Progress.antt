@@ -9,10 +9,10 @@ use Rattle.spi_run.specs.Reduction.{Step, Event}
 use Rattle.spi_replay.specs.Stepping.{Pooled}
 use Rattle.spi_scope.specs.Scope.{Word}
 use Rattle.spi_scope.specs.StandsFor.{Meant}
-use Rattle.spi_honest.specs.Narrated.{Told, NarratesSmall, free_of, with_shared, begins}
+use Rattle.spi_honest.specs.Narrated.{Told, NarratesSmall, free_of, with_shared, narrated_begin}
 use Rattle.spi_honest.specs.Schedule.{line_steps, shared_steps, role_steps, places_of, others, honest_steps}
 use Rattle.spi_honest.specs.Honest.{Replays, opening}
-use Rattle.spi_honest.specs.Reading.{word_in, numbered}
+use Rattle.spi_honest.specs.Reading.{word_in, names_numbered}
 use Rattle.spi_honest.specs.Holds.{Holds}
 use Rattle.spi_honest.specs.Standing.{StandRoles, StoppedRoles, Locates, left}
 
@@ -22,7 +22,7 @@ pub record Progress (x : n.Narration) (file : Meant) (before rest : List n.Line)
   pub cut : x.lines ≡ before ++ rest
   pub told : Told
   pub place : Word → ℕ
-  pub narrates : NarratesSmall (free_of x) (begins x) before events told
+  pub narrates : NarratesSmall (free_of x) (narrated_begin x) before events told
   pub replays : Replays (opening file) steps events pool
   pub names : pool.configuration.names ≡ told.names
   pub stands : StandRoles x.roles place (left rest) told.has StoppedRoles pool.configuration.places
@@ -53,7 +53,7 @@ pub record Shares (x : n.Narration) (file : Meant) (before rest : List Shared) (
   pub places : pool.configuration.places ≡ beside_stop (process ∷ [])
   pub names : pool.configuration.names ≡ length (with_shared (free_of x) before)
   pub holds : Holds (sharing rest (roles_together x.lines x.roles)) []
-      (word_in (numbered (with_shared (free_of x) before))) process
+      (word_in (names_numbered (with_shared (free_of x) before))) process
   pub replays : Replays (opening file) steps [] pool
   pub order : honest_steps x ≡ steps
       ++ (shared_steps rest ++ role_steps 0 2 (others x.roles) ++ steps_behind x)
@@ -61,11 +61,11 @@ pub record Shares (x : n.Narration) (file : Meant) (before rest : List Shared) (
   pub most : pool.most ≡ 5000
 
 -- each role's process, where all of its lines are left
-pub data Each (x : n.Narration) : List SWord → List Process → Type 0 where
-  each_none : Each x [] []
+pub data EachRole (x : n.Narration) : List SWord → List Process → Type 0 where
+  each_none : EachRole x [] []
   each_role : {r : SWord} {rs : List SWord} {p : Process} {ps : List Process}
-      → Holds (role_process r x.lines) [] (word_in ((begins x).has r.word)) p → Each x rs ps
-      → Each x (r ∷ rs) (p ∷ ps)
+      → Holds (role_process r x.lines) [] (word_in ((narrated_begin x).has r.word)) p → EachRole x rs ps
+      → EachRole x (r ∷ rs) (p ∷ ps)
 
 -- these roles were taken apart, and the last place has this one with the rest
 pub record SpreadsRoles (x : n.Narration) (file : Meant) (before : List SWord) (role : SWord)
@@ -74,10 +74,10 @@ pub record SpreadsRoles (x : n.Narration) (file : Meant) (before : List SWord) (
   pub cut : x.roles ≡ before ++ role ∷ rest
   pub apart : List Process
   pub last : Process
-  pub each : Each x before apart
-  pub holds : Holds (roles_beside x.lines role rest) [] (word_in ((begins x).has role.word)) last
+  pub each : EachRole x before apart
+  pub holds : Holds (roles_beside x.lines role rest) [] (word_in ((narrated_begin x).has role.word)) last
   pub places : pool.configuration.places ≡ beside_stop (apart ++ last ∷ [])
-  pub names : pool.configuration.names ≡ (begins x).names
+  pub names : pool.configuration.names ≡ (narrated_begin x).names
   pub replays : Replays (opening file) steps [] pool
   pub order : honest_steps x ≡ steps
       ++ (role_steps (place_number (length before)) (2 + length before) rest ++ steps_behind x)

@@ -45,10 +45,10 @@ abbrev mutual
   all_valued f (t.more_msgs m ms) = valued f m ∷ all_valued f ms
 
 -- the value of a message for a role that has these
-abbrev pub value : Map → t.Msg → Message
-value g m = valued (word_in g) m
+abbrev pub value_in_map : Map → t.Msg → Message
+value_in_map g m = valued (word_in g) m
 
 -- names in scope, each with its number
-abbrev pub numbered : Names → Map
-numbered [] = []
-numbered (x ∷ xs) = record { word = x; message = name (length xs) } ∷ numbered xs
+abbrev pub names_numbered : Names → Map
+names_numbered [] = []
+names_numbered (x ∷ xs) = record { word = x; message = name (length xs) } ∷ names_numbered xs

@@ -54,26 +54,26 @@ TakesAt m ps i = (p : Process) × At ps i p × TakesIn m p
 abbrev pub IsRoleAt : List SWord → Word → ℕ → Type 0
 IsRoleAt roles w j = (r : SWord) × (slice_get roles j ≡ Some r) × (r.word ≡ w)
 
-abbrev pub steps_in : Stage → List Step
-steps_in st = map step st.steps.items
+abbrev pub stage_steps : Stage → List Step
+stage_steps st = map step st.steps.items
 
 abbrev pub events_in : Stage → List Event
 events_in st = map event st.events.items
 
 -- so many shared names were made, so many compositions of roles were taken apart, and so many lines were told
 pub record SharesTo (x : n.Narration) (file : Meant) (i : ℕ) (st : Stage) : Type 0 where
-  pub shares : Shares x file (take i x.shared) (drop i x.shared) st.pool (steps_in st)
+  pub shares : Shares x file (take i x.shared) (drop i x.shared) st.pool (stage_steps st)
   pub quiet : events_in st ≡ []
 
 pub record SpreadsTo (x : n.Narration) (file : Meant) (i : ℕ) (st : Stage) : Type 0 where
   pub role : SWord
   pub here : slice_get x.roles i ≡ Some role
-  pub spreads : SpreadsRoles x file (take i x.roles) role (drop (suc i) x.roles) st.pool (steps_in st)
+  pub spreads : SpreadsRoles x file (take i x.roles) role (drop (suc i) x.roles) st.pool (stage_steps st)
   pub quiet : events_in st ≡ []
 
 abbrev pub ToldTo : n.Narration → Meant → ℕ → Stage → Type 0
 ToldTo x file i st =
-    Progress x file (take i x.lines) (drop i x.lines) st.pool (steps_in st) (events_in st) st.places.items
+    Progress x file (take i x.lines) (drop i x.lines) st.pool (stage_steps st) (events_in st) st.places.items
 
 -- the line with this number is of the role with this number, or is a message between roles with these numbers
 pub record IsLocalAt (x : n.Narration) (at j : ℕ) : Type 0 where
@@ -108,7 +108,7 @@ pub record IsParted (x : n.Narration) (file : Meant) (at j k i out : ℕ) (st : 
   pub event : Option Event
   pub taken : IsTaken pool (act (told.place line.from.word)) event st.pool
   pub place : out ≡ told.place line.from.word
-  pub steps_now : steps_in st ≡ steps ++ act (told.place line.from.word) ∷ []
+  pub steps_now : stage_steps st ≡ steps ++ act (told.place line.from.word) ∷ []
   pub events_now : events_in st ≡ events ++ option_to_list event
   pub located : Locates x.roles (moved line.from.word (length pool.configuration.places) told.place)
       st.places.items

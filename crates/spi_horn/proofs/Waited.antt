@@ -33,10 +33,10 @@ at_put_new lists lists' p k (ks0, e, s) = λ ks h.
     let v : ks0 ++ k ∷ [] ≡ ks = cc in
     (length ks0, ap (λ l. slice_get l (length ks0)) (sym v) ∙ get_end ks0 k)
 
-abbrev AllBelow : ℕ → List (List ℕ) → Type 0
-AllBelow n lists = (p : ℕ) (ks : List ℕ) → slice_get lists p ≡ Some ks → (i k : ℕ) → slice_get ks i ≡ Some k → k < n
+abbrev ListsAreBelow : ℕ → List (List ℕ) → Type 0
+ListsAreBelow n lists = (p : ℕ) (ks : List ℕ) → slice_get lists p ≡ Some ks → (i k : ℕ) → slice_get ks i ≡ Some k → k < n
 
-within_put : (lists lists' : List (List ℕ)) (p k n : ℕ) → k < n → PutsWait p k lists lists' → AllBelow n lists → AllBelow n lists'
+within_put : (lists lists' : List (List ℕ)) (p k n : ℕ) → k < n → PutsWait p k lists lists' → ListsAreBelow n lists → ListsAreBelow n lists'
 within_put lists lists' p k n lt (ks0, e, s) f q ks h i j at =
     let g : slice_get (set lists p (ks0 ++ k ∷ [])) q ≡ Some ks = sym (ap (λ l. slice_get l q) s) ∙ h in
     ⊎_elim

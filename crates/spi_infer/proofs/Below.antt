@@ -8,14 +8,14 @@ use Rattle.spi_effect.proofs.Made.{or_false}
 use Rattle.spi_rules.specs.Environment.{Env}
 use Rattle.spi_count.specs.Sums.{name_bound, Below}
 use Rattle.spi_message.specs.Forms.{more, on_first, on_rest, cast_effect_of}
-use Rattle.spi_infer.specs.Forms.{unless, keep, checked, after, both, by_effect, by_effects, effect_of, prefix_ok, fork_ok, leaf_ok, paid_by}
+use Rattle.spi_infer.specs.Forms.{unless_blocked, keep, checked, after_prefix, both, by_effect, by_effects, effect_of, prefix_ok, fork_ok, leaf_ok, paid_by}
 use Rattle.spi_message.proofs.Opened.{length_more, length_first, length_rest}
 use Rattle.spi_count.proofs.Below.{bound_over, below_joined, below_one, below_minus, below_over, below_bound, below_more}
 
 next : (k : ℕ) (es : Effect) → Below (k + 1) es → Below (suc k) es
 next k es = below_more (k + 1) (suc k) es (omega arith)
 
-unless_no : (b : Bool) (es fs : Effect) → unless b es ≡ Some fs → (b ≡ false) × (es ≡ fs)
+unless_no : (b : Bool) (es fs : Effect) → unless_blocked b es ≡ Some fs → (b ≡ false) × (es ≡ fs)
 unless_no true es fs h = cc
 unless_no false es fs h = (refl, let e : es ≡ fs = cc in e)
 
@@ -23,7 +23,7 @@ keep_yes : (b : Bool) (o : Option Effect) (fs : Effect) → keep b o ≡ Some fs
 keep_yes true o fs h = h
 keep_yes false o fs h = cc
 
-below_unless : (k : ℕ) (es fs gs : Effect) → Below (k + 1) es → (Below k es → Below k fs) → unless (mentions k es) fs ≡ Some gs → Below k gs
+below_unless : (k : ℕ) (es fs gs : Effect) → Below (k + 1) es → (Below k es → Below k fs) → unless_blocked (mentions k es) fs ≡ Some gs → Below k gs
 below_unless k es fs gs h f e =
     let u = unless_no (mentions k es) fs gs e in
     subst (Below k) u.1 (f (below_bound k es (next k es h) u.0))
@@ -42,9 +42,9 @@ below_checked : (k : ℕ) (paid : Option Effect) (m n : Message) (es fs : Effect
 below_checked k None m n es fs o h e = below_same e h
 below_checked k (Some gs) m n es fs o h e = below_same e (below_joined (minus es gs) (checks m ∷ []) (below_minus es gs h) (below_one (checks m) o))
 
-pub below_after : (k : ℕ) (paid : Option Effect) (s : Prefix) (es fs : Effect) → OfPrefix (MessageOver k) 0 s → Below (k + binds s) es → after k paid s es ≡ Some fs → Below k fs
+pub below_after : (k : ℕ) (paid : Option Effect) (s : Prefix) (es fs : Effect) → OfPrefix (MessageOver k) 0 s → Below (k + binds s) es → after_prefix k paid s es ≡ Some fs → Below k fs
 below_after k paid (Recvs m t) es fs o h e = below_unless k es es fs h (λ x. x) e
-below_after k paid (Serves m t) es fs o h e = below_unless k es es fs h (λ x. x) (keep_yes (are_many es) (unless (mentions k es) es) fs e)
+below_after k paid (Serves m t) es fs o h e = below_unless k es es fs h (λ x. x) (keep_yes (are_many es) (unless_blocked (mentions k es) es) fs e)
 below_after k paid (Splits m t u) es fs o h e =
     let x = unless_no (mentions k es || mentions (suc k) es) es fs e in
     let y = or_false (mentions k es) (mentions (suc k) es) x.0 in
@@ -82,10 +82,10 @@ by_both f (Some es) (Some fs) gs e = (es, fs, refl, refl, e)
 pub below_effect : (q : Process) (e : Env) (n : ℕ) (es : Effect) → n ≡ length e → InScope n q → effect_of q e ≡ Some es → Below n es
 below_effect (leaf l) e n es h o f = below_same (keep_yes (leaf_ok e l) (Some []) es f) (λ a n. elim n [ ])
 below_effect (prefix s p) e n es h o f =
-    let g = keep_yes (prefix_ok e s) (by_effect (after (length e) (paid_by e s) s) (effect_of p (e ++ more e s))) es f in
-    let (fs, is, then) = by_some (after (length e) (paid_by e s) s) (effect_of p (e ++ more e s)) es g in
+    let g = keep_yes (prefix_ok e s) (by_effect (after_prefix (length e) (paid_by e s) s) (effect_of p (e ++ more e s))) es f in
+    let (fs, is, then) = by_some (after_prefix (length e) (paid_by e s) s) (effect_of p (e ++ more e s)) es g in
     let l : n + binds s ≡ length (e ++ more e s) = omega (arith, h, length-append e (more e s), length_more e s) in
-    below_after n (paid_by e s) s fs es o.0 (below_effect p (e ++ more e s) (n + binds s) fs l o.1 is) (ap (λ n. after n (paid_by e s) s fs) h ∙ then)
+    below_after n (paid_by e s) s fs es o.0 (below_effect p (e ++ more e s) (n + binds s) fs l o.1 is) (ap (λ n. after_prefix n (paid_by e s) s fs) h ∙ then)
 below_effect (fork s p q) e n es h o f =
     let g = keep_yes (fork_ok e s) (by_effects (both (length e) s) (effect_of p (e ++ on_first s)) (effect_of q (e ++ on_rest s))) es f in
     let (fs, gs, is, are, then) = by_both (both (length e) s) (effect_of p (e ++ on_first s)) (effect_of q (e ++ on_rest s)) es g in

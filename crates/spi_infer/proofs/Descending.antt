@@ -132,22 +132,22 @@ toward_end k p node i e t l =
     (t.process, node_of (at_place z t.reached))
 
 -- each node is reached
-abbrev pub IsNode : Env → Process → ℕ → Type 0
-IsNode e p i = (e' : Env) × (q : Process) × ReachesNode e p i e' q
+abbrev pub HasNodeAt : Env → Process → ℕ → Type 0
+HasNodeAt e p i = (e' : Env) × (q : Process) × ReachesNode e p i e' q
 
-reached_fork : (e : Env) (f : Fork) (p q : Process) (i : ℕ) → i < process_size p + process_size q → ((j : ℕ) → j < process_size p → IsNode (e ++ on_first f) (enter (fork_binds f) (length e) p) j)
-    → ((j : ℕ) → j < process_size q → IsNode (e ++ on_rest f) (enter (fork_binds f) (length e) q) j) → IsNode e (fork f p q) (suc i)
+reached_fork : (e : Env) (f : Fork) (p q : Process) (i : ℕ) → i < process_size p + process_size q → ((j : ℕ) → j < process_size p → HasNodeAt (e ++ on_first f) (enter (fork_binds f) (length e) p) j)
+    → ((j : ℕ) → j < process_size q → HasNodeAt (e ++ on_rest f) (enter (fork_binds f) (length e) q) j) → HasNodeAt e (fork f p q) (suc i)
 reached_fork e f p q i l first rest = ⊎_elim here there (cases_lt i (process_size p))
   where
-    here : i < process_size p → IsNode e (fork f p q) (suc i)
+    here : i < process_size p → HasNodeAt e (fork f p q) (suc i)
     here g = let w = first i g in (w.0, w.1, reach_first {f = f} {q = q} w.2)
 
-    there : process_size p ≤ i → IsNode e (fork f p q) (suc i)
+    there : process_size p ≤ i → HasNodeAt e (fork f p q) (suc i)
     there g =
         let w = rest (i - process_size p) (omega arith) in
         (w.0, w.1, reach_rest {f = f} {p = p} w.2 (omega arith))
 
-reached_by : (n : ℕ) (p : Process) (e : Env) (i : ℕ) → process_size p ≤ n → i < process_size p → IsNode e p i
+reached_by : (n : ℕ) (p : Process) (e : Env) (i : ℕ) → process_size p ≤ n → i < process_size p → HasNodeAt e p i
 reached_by zero p e i h l = absurd (omega (arith, h, l))
 reached_by (suc n) p e zero h l = (e, p, reach_root)
 reached_by (suc n) (leaf b) e (suc i) h l = absurd (omega (arith, l))
@@ -160,7 +160,7 @@ reached_by (suc n) (fork f p q) e (suc i) h l =
     let m' = size_enter (fork_binds f) (length e) q in
     reached_fork e f p q i (omega (arith, l)) (λ j g. reached_by n (enter (fork_binds f) (length e) p) (e ++ on_first f) j (omega (arith, m, h)) (omega (arith, m, g))) (λ j g. reached_by n (enter (fork_binds f) (length e) q) (e ++ on_rest f) j (omega (arith, m', h)) (omega (arith, m', g)))
 
-each_reached : (p : Process) (e : Env) (i : ℕ) → i < process_size p → IsNode e p i
+each_reached : (p : Process) (e : Env) (i : ℕ) → i < process_size p → HasNodeAt e p i
 each_reached p e i l = reached_by (process_size p) p e i (omega arith) l
 
 -- and at one environment and process only

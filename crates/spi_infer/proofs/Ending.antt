@@ -10,7 +10,7 @@ use Rattle.spi_infer.specs.declared.own.Noted.{Noted}
 use Rattle.spi_count.specs.Keeping.{with_keys}
 use Rattle.spi_infer.specs.Own.{CountsFor}
 use Rattle.spi_infer.specs.Forms.{effect_of}
-use Rattle.spi_infer.specs.Passes.{scan, run, first_stuck}
+use Rattle.spi_infer.specs.Passes.{scan, run_notes, first_stuck}
 use Rattle.spi_infer.specs.Accounts.{Tops, IsNoted}
 use Rattle.spi_infer.proofs.Accounted.{tops_top}
 use Rattle.spi_infer.proofs.Nodes.{reached_of}
@@ -25,13 +25,13 @@ none_left s noted [] o st e t = absurd (cc)
 none_left s noted (x ∷ items) o st e t = absurd (omega (arith, e))
 
 module _ (s : Store) (noted : Noted) (k : ℕ) (p : Process) (env : Env) (h : IsNoted s noted k p env) (from : ℕ) (e : Env) (q : Process) (n : NodeOf env p from e q)
-    (id : ℕ) (z : id ≡ from) (items : List (Option Sum)) (t : Tops s noted.keys items (run (drop id (spelled k p)) (drop id (scan 0 env [] (spelled k p))))) where
+    (id : ℕ) (z : id ≡ from) (items : List (Option Sum)) (t : Tops s noted.keys items (run_notes (drop id (spelled k p)) (drop id (scan 0 env [] (spelled k p))))) where
   node_runs : RunsTo k p env from e q
   node_runs = runs_to k h.names (reached_of n)
 
   stack_is : Tops s noted.keys items (effect_of (numbered [] (length e) q) e ∷ node_runs.others)
   stack_is =
-      subst (Tops s noted.keys items) (ap (λ i. run (drop i (spelled k p)) (drop i (scan 0 env [] (spelled k p)))) z ∙ node_runs.is) t
+      subst (Tops s noted.keys items) (ap (λ i. run_notes (drop i (spelled k p)) (drop i (scan 0 env [] (spelled k p)))) z ∙ node_runs.is) t
 
   pub ends_with : (rest : List (Option Sum)) (o : Option Sum) → items ≡ rest ++ o ∷ [] → CountsFor (with_keys s noted.keys) o (effect_of (numbered [] (length e) q) e)
   ends_with rest o f =

@@ -24,7 +24,7 @@ use Rattle.spi_infer.specs.declared.own.Own.{Own}
 use Rattle.spi_infer.specs.declared.own.Own.TheVariants.{Label}
 use Rattle.spi_count.specs.Keeping.{with_keys, IsKeyed}
 use Rattle.spi_infer.specs.Own.{CountsFor}
-use Rattle.spi_infer.specs.Forms.{unless, keep}
+use Rattle.spi_infer.specs.Forms.{unless_blocked, keep}
 use Rattle.spi_message.specs.Forms.{cast_effect_of}
 use Rattle.spi_count.specs.Adding.{SumOf, TakesAtom, AddsAtom}
 use Rattle.spi_infer.specs.Accounts.{AfterOne, AfterTwo, AfterServe, AfterMake, AfterCheck, AfterForm, OwnCast, OwnBegin, OwnEnd, OwnMany, BothCase, BothForm}
@@ -32,15 +32,15 @@ use Rattle.spi_count.proofs.Summed.{numbers}
 use Rattle.spi_count.proofs.Below.{in_minus, below_more}
 
 -- counts for an effect that stands where a test says so
-pub kept_unless : (At : ℕ → Message → Type 0) (sum : Sum) (b : Bool) (es : Effect) → b ≡ false → StandsForEffect At sum es → CountsFor At (Some sum) (unless b es)
+pub kept_unless : (At : ℕ → Message → Type 0) (sum : Sum) (b : Bool) (es : Effect) → b ≡ false → StandsForEffect At sum es → CountsFor At (Some sum) (unless_blocked b es)
 kept_unless At sum true es e t = absurd (cc)
 kept_unless At sum false es e t = t
 
-pub gone_unless : (At : ℕ → Message → Type 0) (b : Bool) (es : Effect) → b ≡ true → CountsFor At None (unless b es)
+pub gone_unless : (At : ℕ → Message → Type 0) (b : Bool) (es : Effect) → b ≡ true → CountsFor At None (unless_blocked b es)
 gone_unless At true es e = tt
 gone_unless At false es e = absurd (cc)
 
-pub unless_some : (At : ℕ → Message → Type 0) (sum : Sum) (b : Bool) (es : Effect) → CountsFor At (Some sum) (unless b es) → (b ≡ false) × StandsForEffect At sum es
+pub unless_some : (At : ℕ → Message → Type 0) (sum : Sum) (b : Bool) (es : Effect) → CountsFor At (Some sum) (unless_blocked b es) → (b ≡ false) × StandsForEffect At sum es
 unless_some At sum true es t = absurd t
 unless_some At sum false es t = (refl, t)
 
@@ -55,8 +55,8 @@ gone_keep At false o e = tt
 abbrev pub Unreached : ℕ → Sum → Type 0
 Unreached k sum = (kind : AtomKind) (q : ℕ) → 0 < count_of (part kind sum) q → q < (k + 1) * 4294967296
 
-abbrev pub Reached : ℕ → Sum → Type 0
-Reached k sum = (kind : AtomKind) × (q : ℕ) × (0 < count_of (part kind sum) q) × ((k + 1) * 4294967296 ≤ q)
+abbrev pub SumReached : ℕ → Sum → Type 0
+SumReached k sum = (kind : AtomKind) × (q : ℕ) × (0 < count_of (part kind sum) q) × ((k + 1) * 4294967296 ≤ q)
 
 pub one_stays : (k : ℕ) (sum : Sum) → Unreached k sum → AfterOne k sum (Some sum)
 one_stays k sum u s keys es kd t b =
@@ -76,14 +76,14 @@ one_or_next n k h l = go (n - (k + 1)) refl
     go zero e = inl (omega (arith, e, h, l))
     go (suc d) e = inr (omega (arith, e, h, l))
 
-pub one_goes : (k : ℕ) (sum : Sum) → Reached k sum → AfterOne k sum None
+pub one_goes : (k : ℕ) (sum : Sum) → SumReached k sum → AfterOne k sum None
 one_goes k sum r s keys es kd t b =
     let (kind, q, p, l) = r in
     let (a, i, o) = reached_in (with_keys s keys) (numbers kd) t k kind q p l in
     let m = b a i in
     gone_unless (with_keys s keys) (mentions k es) es (in_mentions k a es i (omega (arith, o, m)))
 
-pub two_go : (k : ℕ) (sum : Sum) → Reached k sum → AfterTwo k sum None
+pub two_go : (k : ℕ) (sum : Sum) → SumReached k sum → AfterTwo k sum None
 two_go k sum r s keys es kd t b =
     let (kind, q, p, l) = r in
     let (a, i, o) = reached_in (with_keys s keys) (numbers kd) t k kind q p l in
@@ -92,11 +92,11 @@ two_go k sum r s keys es kd t b =
 
 pub serve_stays : (k : ℕ) (sum : Sum) (r : Option Sum) → IsNothing (part K.End sum) × IsNothing (part K.Check sum) → AfterOne k sum r → AfterServe k sum r
 serve_stays k sum r n h s keys es kd t b =
-    kept_keep (with_keys s keys) r (are_many es) (unless (mentions k es) es) (stands_many (with_keys s keys) (numbers kd) t n.0 n.1) (h s keys es kd t b)
+    kept_keep (with_keys s keys) r (are_many es) (unless_blocked (mentions k es) es) (stands_many (with_keys s keys) (numbers kd) t n.0 n.1) (h s keys es kd t b)
 
 pub serve_goes : (k : ℕ) (sum : Sum) → (IsNothing (part K.End sum) × IsNothing (part K.Check sum) → ⊥) → AfterServe k sum None
 serve_goes k sum n s keys es kd t b =
-    gone_keep (with_keys s keys) (are_many es) (unless (mentions k es) es) (λ e. n (many_stands (with_keys s keys) (numbers kd) t e))
+    gone_keep (with_keys s keys) (are_many es) (unless_blocked (mentions k es) es) (λ e. n (many_stands (with_keys s keys) (numbers kd) t e))
 
 pub make_is : (k : ℕ) (s : Store) (keys : Keys) (id : MsgId) (sum mid : Sum) (r : Option Sum) → slice_get s.messages id.place ≡ Some (name k) → TakesAtom keys (A.Check id) sum mid → AfterOne k mid r → AfterMake k s keys sum r
 make_is k s keys id sum mid r e p h es kd t b =

@@ -7,7 +7,7 @@ use Rattle.spi_term.specs.declared.term.Ty.{Ty}
 use Rattle.spi_term.specs.declared.term.Ty.TheVariants as T
 use Rattle.spi_term.specs.declared.term.Form.{Form}
 use Rattle.spi_term.specs.declared.term.Form.TheVariants as F
-use Rattle.spi_term.specs.View.{form_of, ty}
+use Rattle.spi_term.specs.View.{shape_of_form, ty}
 use Rattle.spi_term.specs.Term.{Message, name, Effect, nonce, Prefix, Recvs, Serves, Splits, Selects, Decrypts, Checks, Begins, Ends, EndManys, Casts, Freshes}
 use Rattle.spi_term.specs.Spelling.{Shape, leaf_at, prefix_at, fork_at}
 use Rattle.spi_rules.specs.Environment.{Env}
@@ -88,7 +88,7 @@ IsQuietShape (fork_at k f a r) = ⊤
 pub quiet_rest : (k : ℕ) (f : Form)
     → ((m n : Msg) (b : ℕ) → f ≡ F.Check m n b → ⊥) → ((m : Msg) (b : ℕ) → f ≡ F.Begin m b → ⊥) → ((m : Msg) (b : ℕ) → f ≡ F.End m b → ⊥)
     → ((m : Msg) (b : ℕ) → f ≡ F.EndMany m b → ⊥) → ((m : Msg) (t : Ty) (b : ℕ) → f ≡ F.Cast m t b → ⊥) → ((t : Ty) (b : ℕ) → f ≡ F.Fresh t b → ⊥)
-    → IsQuietShape (form_of k f)
+    → IsQuietShape (shape_of_form k f)
 quiet_rest k (F.Check m n b) h i j l o p = absurd (h m n b refl)
 quiet_rest k (F.Begin m b) h i j l o p = absurd (i m b refl)
 quiet_rest k (F.End m b) h i j l o p = absurd (j m b refl)

@@ -10,7 +10,7 @@ use Rattle.spi_term.specs.Substitution.{process_map, put}
 use Rattle.spi_rules.specs.Environment.{Env}
 use Rattle.spi_message.specs.Forms.{enter, more, on_first, on_rest}
 use Rattle.spi_infer.specs.Forms.{effect_of}
-use Rattle.spi_infer.specs.Passes.{Note, scan, run}
+use Rattle.spi_infer.specs.Passes.{Note, scan, run_notes}
 use Rattle.spi_message.proofs.Opened.{length_more, length_first, length_rest, numbered_prefix, numbered_fork, size_enter}
 use Rattle.spi_infer.proofs.Passes.{notes, scan_flat, run_flat}
 use Rattle.spi_infer.proofs.Reach.{ReachesNode, reach_root, reach_prefix, reach_first, reach_rest}
@@ -143,18 +143,18 @@ scan_is k p env names =
 -- the backward pass has come to the effect of node i's process there
 pub record RunsTo (k : ℕ) (p : Process) (env : Env) (i : ℕ) (e : Env) (q : Process) : Type 0 where
   pub others : List (Option Effect)
-  pub is : run (drop i (spelled k p)) (drop i (scan 0 env [] (spelled k p))) ≡ effect_of (numbered [] (length e) q) e ∷ others
+  pub is : run_notes (drop i (spelled k p)) (drop i (scan 0 env [] (spelled k p))) ≡ effect_of (numbered [] (length e) q) e ∷ others
 
 runs_at : {env e : Env} {p q : Process} {i : ℕ} → ReachesNode env p i e q → RunsTo (length env) p env i e q
 runs_at {env = env} {e = e} {p = p} {q = q} {i = i} r =
     let w = located 0 r in
     let tree = numbered [] (length e) q in
     record {
-      others = run w.rest w.behind;
+      others = run_notes w.rest w.behind;
       is =
-          ap (λ ns. run (drop i (spelled (length env) p)) (drop i ns)) (scan_is (length env) p env refl)
-          ∙ ap (λ ss. run ss (drop i (notes (numbered [] (length env) p) env))) w.shapes
-          ∙ ap (run (flat (0 + i) (length e) tree ++ w.rest)) w.seen
+          ap (λ ns. run_notes (drop i (spelled (length env) p)) (drop i ns)) (scan_is (length env) p env refl)
+          ∙ ap (λ ss. run_notes ss (drop i (notes (numbered [] (length env) p) env))) w.shapes
+          ∙ ap (run_notes (flat (0 + i) (length e) tree ++ w.rest)) w.seen
           ∙ run_flat tree e (0 + i) (length e) w.rest w.behind refl;
     }
 

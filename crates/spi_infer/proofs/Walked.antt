@@ -23,7 +23,7 @@ use Rattle.spi_count.specs.Keeping.{with_keys}
 use Rattle.spi_infer.specs.Own.{PaidFits, IsOwnOf, FormFits, FormNotedAs, AreFormsNoted, noted_none, noted_next}
 use Rattle.spi_message.specs.Forms.{more, on_first, on_rest}
 use Rattle.spi_infer.specs.Forms.{effect_of}
-use Rattle.spi_infer.specs.Passes.{Note, scan, run, act, is_stuck, first_stuck}
+use Rattle.spi_infer.specs.Passes.{Note, scan, run_notes, act, is_stuck, first_stuck}
 use Rattle.spi_infer.specs.Accounts.{BelowIn, MayBelowIn, TopBelowIn, BothBelowIn, Behind, CheckGiven, CastGiven, OwnGiven, NoteGiven, Tops, IsBeforeNode, IsNoted}
 use Rattle.spi_message.proofs.Opened.{length_more, length_first, length_rest}
 use Rattle.spi_infer.proofs.Passes.{notes, run_flat}
@@ -34,7 +34,7 @@ use Rattle.spi_infer.proofs.Located.{scan_is}
 abbrev pub AllBehind : List Shape → List Note → Type 0
 AllBehind [] ns = ⊤
 AllBehind (x ∷ ss) [] = ⊤
-AllBehind (x ∷ ss) (n ∷ ns) = Behind x (run ss ns) × AllBehind ss ns
+AllBehind (x ∷ ss) (n ∷ ns) = Behind x (run_notes ss ns) × AllBehind ss ns
 
 may_below : (x : Shape) (o : Option Effect) → ((es : Effect) → o ≡ Some es → BelowIn x es) → MayBelowIn x o
 may_below x None h = tt
@@ -60,9 +60,9 @@ behind_flat (fork f p q) e i k ss bs n o h =
     let x = fork_at k f (suc i) r in
     let first = may_below x (effect_of p e1) (λ es g. below_effect p e1 m es n1 o.1.0 g) in
     let second = may_below x (effect_of q e2) (λ es g. below_effect q e2 m es n2 o.1.1 g) in
-    let is : run ((fp ++ fq) ++ ss) ((notes p e1 ++ notes q e2) ++ bs) ≡ effect_of p e1 ∷ (effect_of q e2 ∷ run ss bs)
-    = ap (λ l. run l ((notes p e1 ++ notes q e2) ++ bs)) (append_assoc fp fq ss)
-    ∙ ap (λ l. run (fp ++ (fq ++ ss)) l) (append_assoc (notes p e1) (notes q e2) bs)
+    let is : run_notes ((fp ++ fq) ++ ss) ((notes p e1 ++ notes q e2) ++ bs) ≡ effect_of p e1 ∷ (effect_of q e2 ∷ run_notes ss bs)
+    = ap (λ l. run_notes l ((notes p e1 ++ notes q e2) ++ bs)) (append_assoc fp fq ss)
+    ∙ ap (λ l. run_notes (fp ++ (fq ++ ss)) l) (append_assoc (notes p e1) (notes q e2) bs)
     ∙ run_flat p e1 (suc i) m (fq ++ ss) (notes q e2 ++ bs) n1
     ∙ ap (λ l. effect_of p e1 ∷ l) (run_flat q e2 r m ss bs n2) in
     let rest = behind_flat p e1 (suc i) m (fq ++ ss) (notes q e2 ++ bs) n1 o.1.0 (behind_flat q e2 r m ss bs n2 o.1.1 h) in (
@@ -165,7 +165,7 @@ module _ (s : Store) (noted : Noted) (k : ℕ) (p : Process) (env : Env) (h : Is
 
   module _ (once : NoneTwice s) (over : ProcessOver k p) (id : ℕ) (z : id ≡ i + 1) where
     abbrev st : List (Option Effect)
-    st = run (drop id ss) (drop id ns)
+    st = run_notes (drop id ss) (drop id ns)
 
     pub at_node : drop i ss ≡ x ∷ drop id ss
     at_node = drop_at ss i x g ∙ ap (λ n. x ∷ drop n ss) (sym z)
@@ -181,11 +181,11 @@ module _ (s : Store) (noted : Noted) (k : ℕ) (p : Process) (env : Env) (h : Is
     pub before : (old : List (Option Sum)) → Tops s noted.keys old st → IsBeforeNode s noted.keys x o old note_here st
     before old t = record { keyed = record { once = once; keyed = h.keyed }; noted = unfold note_here in here.noted; behind = behind; tops = t }
 
-    pub acted : act x note_here st ≡ run (drop i ss) (drop i ns)
-    acted = sym (ap (λ l. run l (drop i ns)) at_node ∙ ap (run (x ∷ drop id ss)) at_note)
+    pub acted : act x note_here st ≡ run_notes (drop i ss) (drop i ns)
+    acted = sym (ap (λ l. run_notes l (drop i ns)) at_node ∙ ap (run_notes (x ∷ drop id ss)) at_note)
 
     -- what the node's turn makes of the stack, and whether the node is stuck
-    pub tops_after : (old new : List (Option Sum)) → Tops s noted.keys old st → ((n : Note) (st : List (Option Effect)) → IsBeforeNode s noted.keys x o old n st → Tops s noted.keys new (act x n st)) → Tops s noted.keys new (run (drop i ss) (drop i ns))
+    pub tops_after : (old new : List (Option Sum)) → Tops s noted.keys old st → ((n : Note) (st : List (Option Effect)) → IsBeforeNode s noted.keys x o old n st → Tops s noted.keys new (act x n st)) → Tops s noted.keys new (run_notes (drop i ss) (drop i ns))
     tops_after old new t f = subst (Tops s noted.keys new) acted (f note_here st (before old t))
 
     pub stuck_at : (old : List (Option Sum)) (b : Bool) → Tops s noted.keys old st → ((n : Note) (st : List (Option Effect)) → IsBeforeNode s noted.keys x o old n st → b ≡ is_stuck x n st) → b ≡ is_stuck x note_here st
@@ -203,9 +203,9 @@ module _ (s : Store) (noted : Noted) (k : ℕ) (p : Process) (env : Env) (h : Is
         w ∙ ap (λ n. first_stuck n (drop id ss) (drop id ns)) n ∙ sym (stuck_is ∙ ap (λ b. if b then Some i else first_stuck (suc i) (drop id ss) (drop id ns)) (sym f ∙ e))
 
 -- where the pass begins and ends
-pub starts : (s : Store) (keys : Keys) (ss : List Shape) (bs : List Note) (n : ℕ) (os : List (Option Sum)) → length ss ≤ n → os ≡ [] → Tops s keys os (run (drop n ss) bs)
+pub starts : (s : Store) (keys : Keys) (ss : List Shape) (bs : List Note) (n : ℕ) (os : List (Option Sum)) → length ss ≤ n → os ≡ [] → Tops s keys os (run_notes (drop n ss) bs)
 starts s keys ss bs n os l e =
-    subst (λ os. Tops s keys os (run (drop n ss) bs)) (sym e) (ap (λ l. run l bs) (drop_all n ss l))
+    subst (λ os. Tops s keys os (run_notes (drop n ss) bs)) (sym e) (ap (λ l. run_notes l bs) (drop_all n ss l))
 
 pub starts_stuck : (ss : List Shape) (bs : List Note) (n : ℕ) → length ss ≤ n → None ≡ first_stuck n (drop n ss) bs
 starts_stuck ss bs n l = sym (ap (λ l. first_stuck n l bs) (drop_all n ss l))

@@ -21,7 +21,7 @@ use Rattle.spi_infer.specs.declared.own.Noted.{Noted}
 use Rattle.spi_count.specs.Keeping.{with_keys, IsKeyed, HaveKeys, AreKept}
 use Rattle.spi_infer.specs.Own.{PaidFits, IsOwnOf, CountsFor, FormNotedAs, AreFormsNoted, TopsStand}
 use Rattle.spi_message.specs.Forms.{cast_effect_of}
-use Rattle.spi_infer.specs.Forms.{unless, keep, checked}
+use Rattle.spi_infer.specs.Forms.{unless_blocked, keep, checked}
 use Rattle.spi_infer.specs.Passes.{Note, scan, after_shape, both_shape}
 use Rattle.spi_count.specs.Adding.{SumOf}
 
@@ -29,29 +29,29 @@ use Rattle.spi_count.specs.Adding.{SumOf}
 abbrev pub AfterOne : ℕ → Sum → Option Sum → Type 0
 AfterOne k sum r =
     (s : Store) (keys : Keys) (es : Effect) → IsKeyed s keys → SumOf s keys sum es → Below (k + 1) es
-    → CountsFor (with_keys s keys) r (unless (mentions k es) es)
+    → CountsFor (with_keys s keys) r (unless_blocked (mentions k es) es)
 
 abbrev pub AfterTwo : ℕ → Sum → Option Sum → Type 0
 AfterTwo k sum r =
     (s : Store) (keys : Keys) (es : Effect) → IsKeyed s keys → SumOf s keys sum es → Below (k + 2) es
-    → CountsFor (with_keys s keys) r (unless (mentions k es || mentions (suc k) es) es)
+    → CountsFor (with_keys s keys) r (unless_blocked (mentions k es || mentions (suc k) es) es)
 
 abbrev pub AfterServe : ℕ → Sum → Option Sum → Type 0
 AfterServe k sum r =
     (s : Store) (keys : Keys) (es : Effect) → IsKeyed s keys → SumOf s keys sum es → Below (k + 1) es
-    → CountsFor (with_keys s keys) r (keep (are_many es) (unless (mentions k es) es))
+    → CountsFor (with_keys s keys) r (keep (are_many es) (unless_blocked (mentions k es) es))
 
 abbrev pub AfterMake : ℕ → Store → Keys → Sum → Option Sum → Type 0
 AfterMake k s keys sum r =
     (es : Effect) → IsKeyed s keys → SumOf s keys sum es → Below (k + 1) es
     → CountsFor (with_keys s keys) r
-    (unless (mentions k (minus es (checks (name k) ∷ []))) (minus es (checks (name k) ∷ [])))
+    (unless_blocked (mentions k (minus es (checks (name k) ∷ []))) (minus es (checks (name k) ∷ [])))
 
 abbrev pub AfterCast : ℕ → Store → Keys → TyId → Sum → Option Sum → Type 0
 AfterCast k s keys t sum r =
     (u : Ty) (es : Effect) → IsKeyed s keys → Means s t.place u → HaveKeys s keys (cast_effect_of u)
     → SumOf s keys sum es → Below (k + 1) es
-    → CountsFor (with_keys s keys) r (unless (mentions k es) (es ++ cast_effect_of u))
+    → CountsFor (with_keys s keys) r (unless_blocked (mentions k es) (es ++ cast_effect_of u))
 
 abbrev pub AfterCheck : Store → Keys → MsgId → Option TyId → Sum → Option Sum → Type 0
 AfterCheck s keys id t sum r =
@@ -84,7 +84,7 @@ abbrev pub BothCase : ℕ → Sum → Sum → Option Sum → Type 0
 BothCase k a b r =
     (s : Store) (keys : Keys) (es fs : Effect) → IsKeyed s keys → SumOf s keys a es → SumOf s keys b fs
     → Below (k + 1) es → Below (k + 1) fs
-    → CountsFor (with_keys s keys) r (unless (mentions k es || mentions k fs) (greater es fs))
+    → CountsFor (with_keys s keys) r (unless_blocked (mentions k es || mentions k fs) (greater es fs))
 
 -- by what is kept of the form
 abbrev pub OwnCheck : Store → Keys → Own → Sum → Option Sum → Type 0

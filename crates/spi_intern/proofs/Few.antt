@@ -4,19 +4,19 @@ use Rattle.std.specs.Prelude.{if◌then◌else◌}
 use Rattle.std.specs.List.{list_any}
 use Rattle.std.proofs.lemmas.List.{length_push}
 use Rattle.spi_term.specs.Term.{Message, bound, name, unit, pair, in_left, in_right, enc, hash, same_message, message_size}
-use Rattle.spi_intern.specs.Messages.{added, interned}
+use Rattle.spi_intern.specs.Messages.{message_added, interned}
 
-few_added : (ms : List Message) (m : Message) → length (added ms m) ≤ length ms + 1
+few_added : (ms : List Message) (m : Message) → length (message_added ms m) ≤ length ms + 1
 few_added ms m = by (list_any (same_message m) ms)
   where
     by : (b : Bool) → length (if b then ms else ms ++ m ∷ []) ≤ length ms + 1
     by true = omega arith
     by false = let e = length_push ms m in omega (arith, e)
 
-few_two : (ms ns os : List Message) (m a b : Message) → length ns ≤ length ms + message_size a → length os ≤ length ns + message_size b → length (added os m) ≤ length ms + (1 + (message_size a + message_size b))
+few_two : (ms ns os : List Message) (m a b : Message) → length ns ≤ length ms + message_size a → length os ≤ length ns + message_size b → length (message_added os m) ≤ length ms + (1 + (message_size a + message_size b))
 few_two ms ns os m a b f g = let h = few_added os m in omega (arith, f, g, h)
 
-few_one : (ms ns : List Message) (m a : Message) → length ns ≤ length ms + message_size a → length (added ns m) ≤ length ms + (1 + message_size a)
+few_one : (ms ns : List Message) (m a : Message) → length ns ≤ length ms + message_size a → length (message_added ns m) ≤ length ms + (1 + message_size a)
 few_one ms ns m a f = let h = few_added ns m in omega (arith, f, h)
 
 few_interned : (m : Message) (ms : List Message) → length (interned ms m) ≤ length ms + message_size m

@@ -3,20 +3,20 @@ use Rattle.std.proofs.Common.{◌≡◌, Bool, true, false, if◌then◌else◌,
 use Rattle.std.specs.List.{list_any}
 use Rattle.spi_term.specs.Term.{Message, bound, name, unit, pair, in_left, in_right, enc, hash, same_message}
 use Rattle.spi_intern.specs.Table.{KeepsAll}
-use Rattle.spi_intern.specs.Messages.{added, interned}
+use Rattle.spi_intern.specs.Messages.{message_added, interned}
 use Rattle.spi_intern.specs.Parts.{PartOf, whole, of_first, of_second, of_left, of_right, of_body, of_key, of_hash}
 use Rattle.spi_intern.specs.Growing.{Has, AddsMessages}
 use Rattle.spi_intern.proofs.Lists.{get_push, any_at}
 use Rattle.spi_intern.proofs.MessageLaws.{same_true}
 use Rattle.spi_intern.proofs.Tables.{keeps_more, keeps_with}
 
-keeps_added : (ms : List Message) (m : Message) → KeepsAll ms (added ms m)
+keeps_added : (ms : List Message) (m : Message) → KeepsAll ms (message_added ms m)
 keeps_added ms m = keeps_with same_message ms m
 
 pub has_kept : {ms ns : List Message} {x : Message} → KeepsAll ms ns → Has ms x → Has ns x
 has_kept k h = record { place = h.place; at = k.at _ _ h.at }
 
-only_added : (ms : List Message) (m x : Message) → Has (added ms m) x → Has ms x ⊎ PartOf x m
+only_added : (ms : List Message) (m x : Message) → Has (message_added ms m) x → Has ms x ⊎ PartOf x m
 only_added ms m x = by (list_any (same_message m) ms)
   where
     by : (b : Bool) → Has (if b then ms else ms ++ m ∷ []) x → Has ms x ⊎ PartOf x m
@@ -38,7 +38,7 @@ get_last : (ms : List Message) (m : Message) → slice_get (ms ++ m ∷ []) (len
 get_last [] m = refl
 get_last (x ∷ ms) m = get_last ms m
 
-added_has : (ms : List Message) (m : Message) → Has (added ms m) m
+added_has : (ms : List Message) (m : Message) → Has (message_added ms m) m
 added_has ms m = by (list_any (same_message m) ms) refl
   where
     by : (b : Bool) → list_any (same_message m) ms ≡ b → Has (if b then ms else ms ++ m ∷ []) m

@@ -3,7 +3,7 @@ use Rattle.std.proofs.Common.{◌≡◌, ℕ, ◌<◌, Bool, true, false, if◌t
 use Rattle.std.specs.List.{list_any}
 use Rattle.spi_term.specs.Term.{Message, same_message, Effect, Ty, pair_ty, sum_ty, key, nonce}
 use Rattle.spi_intern.specs.Table.{AllDiffer, TellsAll, with_value}
-use Rattle.spi_intern.specs.Messages.{Says, said, added}
+use Rattle.spi_intern.specs.Messages.{Says, said, message_added}
 use Rattle.spi_intern.specs.Atoms.{SaysAtom, InOrder, IsCutTo, IdsMean}
 use Rattle.spi_intern.specs.Kinds.{same_kind}
 use Rattle.spi_intern.specs.Typed.{said_kind}
@@ -21,7 +21,7 @@ use Rattle.spi_intern.proofs.Counting.{cut_means}
 use Rattle.spi_intern.proofs.Adding.{adds_none, types_none, put_pair, put_sum, put_key, put_nonce}
 
 -- one message is put
-this_added : (ms ns : List Message) (i : ℕ) (m : Message) → ns ≡ added ms m → slice_get ns i ≡ Some m → AddsMessages ms ns (λ x. x ≡ m)
+this_added : (ms ns : List Message) (i : ℕ) (m : Message) → ns ≡ message_added ms m → slice_get ns i ≡ Some m → AddsMessages ms ns (λ x. x ≡ m)
 this_added ms ns i m grows at = record {
   all = λ x e. record { place = i; at = at ∙ ap Some (sym e) };
   only = λ x h. by (list_any (same_message m) ms) x (subst (λ zs. Has zs x) grows h);
@@ -32,11 +32,11 @@ this_added ms ns i m grows at = record {
     by false x h = ⊎_elim (λ e. inl record { place = h.place; at = e }) (λ e. inr e.1) (get_push ms m h.place x h.at)
 
 pub message_over_adds : {E : Type 0} (s r : Store) (p : MsgPart) → r.types ≡ s.types → (o : Result MsgId E)
-    → IfOk o (λ id. slice_get r.messages id.place ≡ Some (said s.messages p)) → OnOk o (r.messages ≡ added s.messages (said s.messages p))
+    → IfOk o (λ id. slice_get r.messages id.place ≡ Some (said s.messages p)) → OnOk o (r.messages ≡ message_added s.messages (said s.messages p))
     → OnOk o ((n : Message) → Says s.messages p n → Adds s r (over_messages n))
 message_over_adds s r p e (Ok id) at grows = λ n says.
     let m : said s.messages p ≡ n = says_said says in
-    record { messages = this_added s.messages r.messages id.place n (grows ∙ ap (added s.messages) m) (at ∙ ap Some m); types = types_none e }
+    record { messages = this_added s.messages r.messages id.place n (grows ∙ ap (message_added s.messages) m) (at ∙ ap Some m); types = types_none e }
 message_over_adds s r p e (Err x) at grows = tt
 
 pub pair_over_adds : {E : Type 0} (s r : Store) (a b : TyId) → Keeps s r → r.messages ≡ s.messages → (o : Result TyId E)

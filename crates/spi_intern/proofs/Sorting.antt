@@ -10,13 +10,13 @@ use Rattle.spi_intern.specs.declared.messages.MsgId.{MsgId}
 use Rattle.spi_intern.specs.declared.atoms.AtomId.{AtomId}
 use Rattle.spi_intern.specs.declared.atoms.AtomId.TheVariants.{End, Check, Many}
 use Rattle.spi_intern.specs.contracts.atoms.AtomIdOrd.TheImpl.{cmp-value}
-use Rattle.spi_intern.specs.Atoms.{same_id_atom, times, group, place_of, IsNotAfter, by_group, by_place, InOrder, order_none, order_next, cut_times, IsCutTo, is_many, repeats, without_repeats, AtomVec}
+use Rattle.spi_intern.specs.Atoms.{same_id_atom, times, group, atom_place, IsNotAfter, by_group, by_place, InOrder, order_none, order_next, cut_times, IsCutTo, is_many, repeats, without_repeats, AtomVec}
 use Rattle.spi_intern.proofs.EffectLaws.{atom_same, same_of}
 
 id_of : (a b : MsgId) → a.place ≡ b.place → a ≡ b
 id_of a b e = λ i. record { place = e i }
 
-alike : (a b : AtomId) → group a ≡ group b → place_of a ≡ place_of b → a ≡ b
+alike : (a b : AtomId) → group a ≡ group b → atom_place a ≡ atom_place b → a ≡ b
 alike (End a) (End b) g e = ap End (id_of a b e)
 alike (End a) (Check b) g e = absurd cc
 alike (End a) (Many b) g e = absurd cc

@@ -3,7 +3,7 @@ use Rattle.std.proofs.Common.{◌≡◌, ℕ, zero, suc, Bool, true, false, List
 use Rattle.std.specs.List.{list_any}
 use Rattle.std.proofs.lemmas.List.Sums.{fold-append}
 use Rattle.indexmap.specs.IndexSet.{insert_key}
-use Rattle.spi_intern.specs.Table.{KeepsAll, AllDiffer, TellsAll, tells_none, tells_next, with_value, next_told, told, IsTable}
+use Rattle.spi_intern.specs.Table.{KeepsAll, AllDiffer, TellsAll, tells_none, tells_next, with_value, next_told, told_each, IsTable}
 use Rattle.spi_intern.proofs.Lists.{some_one, get_append, any_at, any_from, truths, get_push}
 
 pub keeps_same : {M : Type 0} {ms ns : List M} → ms ≡ ns → KeepsAll ms ns
@@ -58,8 +58,8 @@ pub record Laws {P M : Type 0} (Says : List M → P → M → Type 0) (said : Li
 
 -- a node that is put: the nodes before and after, and the values before
 pub record PutsNode {P M : Type 0} (Says : List M → P → M → Type 0) (said : List M → P → M) (eq : P → P → Bool) (ps qs : List P) (ms : List M) (p : P) : Type 0 where
-  pub view : told said ps ≡ ms
-  pub table : IsTable Says ps (told said ps)
+  pub view : told_each said ps ≡ ms
+  pub table : IsTable Says ps (told_each said ps)
   pub says : Says ms p (said ms p)
   pub keys : qs ≡ insert_key eq ps p
 
@@ -87,65 +87,65 @@ module _ {P M : Type 0} (Says : List M → P → M → Type 0) (said : List M �
           let w = tells_back t r.0 r.1 r.2 in
           any_from (eq p) ps r.0 w.0 w.1 (laws.alike _ _ _ _ d s (subst (λ n. Says ms w.0 n) (sym (laws.same_true _ _ r.3)) w.2))
 
-  told_push : (ps : List P) (p : P) → told said (ps ++ p ∷ []) ≡ told said ps ++ said (told said ps) p ∷ []
+  told_push : (ps : List P) (p : P) → told_each said (ps ++ p ∷ []) ≡ told_each said ps ++ said (told_each said ps) p ∷ []
   told_push ps p = fold-append (next_told said) [] ps (p ∷ [])
 
-  told_insert : (ps : List P) (p : P) → IsTable Says ps (told said ps) → Says (told said ps) p (said (told said ps) p) → told said (insert_key eq ps p) ≡ with_value same (told said ps) (said (told said ps) p)
+  told_insert : (ps : List P) (p : P) → IsTable Says ps (told_each said ps) → Says (told_each said ps) p (said (told_each said ps) p) → told_each said (insert_key eq ps p) ≡ with_value same (told_each said ps) (said (told_each said ps) p)
   told_insert ps p h s = by (list_any (eq p) ps) refl
     where
-      by : (b : Bool) → list_any (eq p) ps ≡ b → told said (if list_any (eq p) ps then ps else ps ++ p ∷ []) ≡ (if list_any (same (said (told said ps) p)) (told said ps) then told said ps else told said ps ++ said (told said ps) p ∷ [])
+      by : (b : Bool) → list_any (eq p) ps ≡ b → told_each said (if list_any (eq p) ps then ps else ps ++ p ∷ []) ≡ (if list_any (same (said (told_each said ps) p)) (told_each said ps) then told_each said ps else told_each said ps ++ said (told_each said ps) p ∷ [])
       by true e =
-          ap (λ b. told said (if b then ps else ps ++ p ∷ [])) e
-          ∙ ap (λ b. if b then told said ps else told said ps ++ said (told said ps) p ∷ []) (sym e ∙ found _ _ _ _ h.tells h.distinct s)
+          ap (λ b. told_each said (if b then ps else ps ++ p ∷ [])) e
+          ∙ ap (λ b. if b then told_each said ps else told_each said ps ++ said (told_each said ps) p ∷ []) (sym e ∙ found _ _ _ _ h.tells h.distinct s)
       by false e =
-          ap (λ b. told said (if b then ps else ps ++ p ∷ [])) e
+          ap (λ b. told_each said (if b then ps else ps ++ p ∷ [])) e
           ∙ told_push ps p
-          ∙ ap (λ b. if b then told said ps else told said ps ++ said (told said ps) p ∷ []) (sym e ∙ found _ _ _ _ h.tells h.distinct s)
+          ∙ ap (λ b. if b then told_each said ps else told_each said ps ++ said (told_each said ps) p ∷ []) (sym e ∙ found _ _ _ _ h.tells h.distinct s)
 
-  table_insert : (ps : List P) (p : P) → IsTable Says ps (told said ps) → Says (told said ps) p (said (told said ps) p) → IsTable Says (insert_key eq ps p) (told said (insert_key eq ps p))
+  table_insert : (ps : List P) (p : P) → IsTable Says ps (told_each said ps) → Says (told_each said ps) p (said (told_each said ps) p) → IsTable Says (insert_key eq ps p) (told_each said (insert_key eq ps p))
   table_insert ps p h s = by (list_any (eq p) ps) refl
     where
-      by : (b : Bool) → list_any (eq p) ps ≡ b → IsTable Says (if list_any (eq p) ps then ps else ps ++ p ∷ []) (told said (if list_any (eq p) ps then ps else ps ++ p ∷ []))
-      by true e = subst (λ b. IsTable Says (if b then ps else ps ++ p ∷ []) (told said (if b then ps else ps ++ p ∷ []))) (sym e) h
+      by : (b : Bool) → list_any (eq p) ps ≡ b → IsTable Says (if list_any (eq p) ps then ps else ps ++ p ∷ []) (told_each said (if list_any (eq p) ps then ps else ps ++ p ∷ []))
+      by true e = subst (λ b. IsTable Says (if b then ps else ps ++ p ∷ []) (told_each said (if b then ps else ps ++ p ∷ []))) (sym e) h
       by false e =
-          let k = keeps_append (told said ps) (said (told said ps) p ∷ []) in
-          let d = distinct_push (told said ps) (said (told said ps) p) h.distinct (sym (found _ _ _ _ h.tells h.distinct s) ∙ e) in
-          let w : IsTable Says (ps ++ p ∷ []) (told said ps ++ said (told said ps) p ∷ []) = record { tells = tells_push (tells_map (λ q m t. laws.kept _ _ q m k t) h.tells) (laws.kept _ _ _ _ k s); distinct = d } in
-          subst (λ b. IsTable Says (if b then ps else ps ++ p ∷ []) (told said (if b then ps else ps ++ p ∷ []))) (sym e) (subst (IsTable Says (ps ++ p ∷ [])) (sym (told_push ps p)) w)
+          let k = keeps_append (told_each said ps) (said (told_each said ps) p ∷ []) in
+          let d = distinct_push (told_each said ps) (said (told_each said ps) p) h.distinct (sym (found _ _ _ _ h.tells h.distinct s) ∙ e) in
+          let w : IsTable Says (ps ++ p ∷ []) (told_each said ps ++ said (told_each said ps) p ∷ []) = record { tells = tells_push (tells_map (λ q m t. laws.kept _ _ q m k t) h.tells) (laws.kept _ _ _ _ k s); distinct = d } in
+          subst (λ b. IsTable Says (if b then ps else ps ++ p ∷ []) (told_each said (if b then ps else ps ++ p ∷ []))) (sym e) (subst (IsTable Says (ps ++ p ∷ [])) (sym (told_push ps p)) w)
 
-  says_here : (ps qs : List P) (ms : List M) (p : P) → PutsNode Says said eq ps qs ms p → Says (told said ps) p (said (told said ps) p)
+  says_here : (ps qs : List P) (ms : List M) (p : P) → PutsNode Says said eq ps qs ms p → Says (told_each said ps) p (said (told_each said ps) p)
   says_here ps qs ms p h = subst (λ xs. Says xs p (said xs p)) (sym h.view) h.says
 
-  pub put_grows : (ps qs : List P) (ms : List M) (p : P) → PutsNode Says said eq ps qs ms p → told said qs ≡ with_value same ms (said ms p)
+  pub put_grows : (ps qs : List P) (ms : List M) (p : P) → PutsNode Says said eq ps qs ms p → told_each said qs ≡ with_value same ms (said ms p)
   put_grows ps qs ms p h =
-      ap (told said) h.keys ∙ told_insert ps p h.table (says_here ps qs ms p h) ∙ ap (λ xs. with_value same xs (said xs p)) h.view
+      ap (told_each said) h.keys ∙ told_insert ps p h.table (says_here ps qs ms p h) ∙ ap (λ xs. with_value same xs (said xs p)) h.view
 
-  pub put_table : (ps qs : List P) (ms : List M) (p : P) → PutsNode Says said eq ps qs ms p → IsTable Says qs (told said qs)
+  pub put_table : (ps qs : List P) (ms : List M) (p : P) → PutsNode Says said eq ps qs ms p → IsTable Says qs (told_each said qs)
   put_table ps qs ms p h =
-      subst (λ xs. IsTable Says xs (told said xs)) (sym h.keys) (table_insert ps p h.table (says_here ps qs ms p h))
+      subst (λ xs. IsTable Says xs (told_each said xs)) (sym h.keys) (table_insert ps p h.table (says_here ps qs ms p h))
 
-  pub put_keeps : (ps qs : List P) (ms : List M) (p : P) → PutsNode Says said eq ps qs ms p → KeepsAll ms (told said qs)
+  pub put_keeps : (ps qs : List P) (ms : List M) (p : P) → PutsNode Says said eq ps qs ms p → KeepsAll ms (told_each said qs)
   put_keeps ps qs ms p h = subst (KeepsAll ms) (sym (put_grows ps qs ms p h)) (keeps_with same ms (said ms p))
 
-  pub put_at : (ps qs : List P) (ms : List M) (p : P) → PutsNode Says said eq ps qs ms p → (i : ℕ) (q : P) → slice_get qs i ≡ Some q → eq p q ≡ true → slice_get (told said qs) i ≡ Some (said ms p)
+  pub put_at : (ps qs : List P) (ms : List M) (p : P) → PutsNode Says said eq ps qs ms p → (i : ℕ) (q : P) → slice_get qs i ≡ Some q → eq p q ≡ true → slice_get (told_each said qs) i ≡ Some (said ms p)
   put_at ps qs ms p h i q at e =
       let w = tells_at (put_table ps qs ms p h).tells i q at in
-      let s : Says (told said qs) q (said ms p) = laws.respects _ p q _ e (laws.kept _ _ _ _ (put_keeps ps qs ms p h) h.says) in
+      let s : Says (told_each said qs) q (said ms p) = laws.respects _ p q _ e (laws.kept _ _ _ _ (put_keeps ps qs ms p h) h.says) in
       w.1 ∙ ap Some (sym (laws.says_said _ _ _ w.2) ∙ laws.says_said _ _ _ s)
 
   -- the node at the place of a value says it
-  pub says_there : (ps : List P) (ms : List M) → told said ps ≡ ms → IsTable Says ps (told said ps) → (i : ℕ) (o : Option P) (n : M) → o ≡ slice_get ps i → slice_get ms i ≡ Some n → (p : P) × (o ≡ Some p) × Says ms p n
+  pub says_there : (ps : List P) (ms : List M) → told_each said ps ≡ ms → IsTable Says ps (told_each said ps) → (i : ℕ) (o : Option P) (n : M) → o ≡ slice_get ps i → slice_get ms i ≡ Some n → (p : P) × (o ≡ Some p) × Says ms p n
   says_there ps ms v h i o n e at =
       let w = tells_back h.tells i n (ap (λ xs. slice_get xs i) v ∙ at) in
       (w.0, e ∙ w.1, subst (λ xs. Says xs w.0 n) v w.2)
 
-  pub says_some : (ps : List P) (ms : List M) → told said ps ≡ ms → IsTable Says ps (told said ps) → (i : ℕ) (q : P) (n : M) → Some q ≡ slice_get ps i → slice_get ms i ≡ Some n → Says ms q n
+  pub says_some : (ps : List P) (ms : List M) → told_each said ps ≡ ms → IsTable Says ps (told_each said ps) → (i : ℕ) (q : P) (n : M) → Some q ≡ slice_get ps i → slice_get ms i ≡ Some n → Says ms q n
   says_some ps ms v h i q n e at =
       let w = says_there ps ms v h i (Some q) n e at in
       let f : w.0 ≡ q = some_one (sym w.1) in
       subst (λ p. Says ms p n) f w.2
 
-  pub says_none : (ps : List P) (ms : List M) → told said ps ≡ ms → IsTable Says ps (told said ps) → (i : ℕ) (n : M) → None ≡ slice_get ps i → slice_get ms i ≡ Some n → ⊥
+  pub says_none : (ps : List P) (ms : List M) → told_each said ps ≡ ms → IsTable Says ps (told_each said ps) → (i : ℕ) (n : M) → None ≡ slice_get ps i → slice_get ms i ≡ Some n → ⊥
   says_none ps ms v h i n e at =
       let w = says_there ps ms v h i None n e at in
       let f : None ≡ Some w.0 = w.1 in

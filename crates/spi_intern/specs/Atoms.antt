@@ -31,14 +31,14 @@ group (End a) = 0
 group (Check a) = 1
 group (Many a) = 2
 
-abbrev pub place_of : AtomId → ℕ
-place_of (End a) = a.place
-place_of (Check a) = a.place
-place_of (Many a) = a.place
+abbrev pub atom_place : AtomId → ℕ
+atom_place (End a) = a.place
+atom_place (Check a) = a.place
+atom_place (Many a) = a.place
 
 pub data IsNotAfter (a b : AtomId) : Type 0 where
   by_group : group a < group b → IsNotAfter a b
-  by_place : group a ≡ group b → place_of a ≤ place_of b → IsNotAfter a b
+  by_place : group a ≡ group b → atom_place a ≤ atom_place b → IsNotAfter a b
 
 -- no atom is after one that comes later
 pub data InOrder : List AtomId → Type 0 where

@@ -39,16 +39,16 @@ said ms (Enc a b) = enc (message_at ms a) (message_at ms b)
 said ms (Hash a) = hash (message_at ms a)
 
 -- the messages with m, at the end where it is new
-abbrev pub added : List Message → Message → List Message
-added ms m = with_value same_message ms m
+abbrev pub message_added : List Message → Message → List Message
+message_added ms m = with_value same_message ms m
 
 -- the messages with m and its parts, each where it is new after its own parts
 abbrev pub interned : List Message → Message → List Message
-interned ms (bound i) = added ms (bound i)
-interned ms (name x) = added ms (name x)
-interned ms unit = added ms unit
-interned ms (pair a b) = added (interned (interned ms a) b) (pair a b)
-interned ms (in_left a) = added (interned ms a) (in_left a)
-interned ms (in_right a) = added (interned ms a) (in_right a)
-interned ms (enc a b) = added (interned (interned ms a) b) (enc a b)
-interned ms (hash a) = added (interned ms a) (hash a)
+interned ms (bound i) = message_added ms (bound i)
+interned ms (name x) = message_added ms (name x)
+interned ms unit = message_added ms unit
+interned ms (pair a b) = message_added (interned (interned ms a) b) (pair a b)
+interned ms (in_left a) = message_added (interned ms a) (in_left a)
+interned ms (in_right a) = message_added (interned ms a) (in_right a)
+interned ms (enc a b) = message_added (interned (interned ms a) b) (enc a b)
+interned ms (hash a) = message_added (interned ms a) (hash a)

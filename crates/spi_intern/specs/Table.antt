@@ -24,8 +24,8 @@ abbrev pub next_told : {P M : Type 0} → (List M → P → M) → List M → P 
 next_told said ms p = ms ++ said ms p ∷ []
 
 -- the values that the nodes say, each by those before it
-abbrev pub told : {P M : Type 0} → (List M → P → M) → List P → List M
-told said ps = fold (next_told said) [] ps
+abbrev pub told_each : {P M : Type 0} → (List M → P → M) → List P → List M
+told_each said ps = fold (next_told said) [] ps
 
 -- each node says the value at its place, and no value stands twice
 pub record IsTable {P M : Type 0} (Says : List M → P → M → Type 0) (ps : List P) (ms : List M) : Type 0 where

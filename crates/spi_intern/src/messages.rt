@@ -4,7 +4,7 @@ ghost use Rattle.std.specs.Prelude.{◌≡◌, List, [], Some, IfOk, OnOk, ◌<�
 ghost use Rattle.spi_term.specs.Term.{Message};
 ghost use Rattle.spi_term.specs.View.{message};
 ghost use Rattle.spi_intern.specs.Table.{KeepsAll, AllDiffer};
-ghost use Rattle.spi_intern.specs.Messages.{added, interned, Says, said};
+ghost use Rattle.spi_intern.specs.Messages.{message_added, interned, Says, said};
 
 use crate::NoMemory;
 use indexmap::IndexSet;
@@ -83,7 +83,7 @@ impl Messages {
     /// The number of a message of which this is the outermost constructor.
     pub fn put(&mut self, part: MsgPart) -> Result<MsgId, NoMemory>
         requires { Says self.old part (said self.old part) }
-        ensures grows { OnOk result (self.new ≡ added self.old (said self.old part)) }
+        ensures grows { OnOk result (self.new ≡ message_added self.old (said self.old part)) }
         ensures same { OnErr result (self.new ≡ self.old) }
         ensures at { IfOk result (λ id. slice_get self.new id.place ≡ Some (said self.old part)) }
         ensures kept { KeepsAll self.old self.new }

@@ -16,7 +16,7 @@ use Rattle.spi_intern.proofs.Meanings.{means_keeps}
 use Rattle.spi_message.specs.Judging.{StandFor}
 use Rattle.spi_message.specs.Filling.{fill, filled, AllStay, values_of, AreIdsBelow}
 use Rattle.spi_message.specs.Asking.{IsTyped, IsPayload}
-use Rattle.spi_message.specs.Tests.{key_of}
+use Rattle.spi_message.specs.Tests.{type_of_key}
 use Rattle.spi_message.specs.Giving.{HasParts, GivesOnly, Opening, itself, of_first as opens_first, of_second as opens_second, of_left as opens_left, of_right as opens_right, Compared, with_un, with_type, with_payload}
 use Rattle.spi_message.specs.Added.{AllHaveParts, TypeIsAdded, TypingGives, LabelGives}
 use Rattle.spi_message.proofs.Deciding.{key_in_some}
@@ -83,7 +83,7 @@ get_in [] x t h = absurd cc
 get_in (u ∷ e) zero t h = let q : u ≡ t = cc in subst (λ v. In v (u ∷ e)) q in_first
 get_in (u ∷ e) (suc x) t h = in_later (get_in e x t h)
 
-key_in_env : (e : Env) (m : Message) (t : Ty) → key_of e m ≡ Some t → In (key t) e
+key_in_env : (e : Env) (m : Message) (t : Ty) → type_of_key e m ≡ Some t → In (key t) e
 key_in_env e (name x) t h = get_in e x (key t) (key_in_some (slice_get e x) t h)
 key_in_env e _ t h = absurd cc
 

@@ -17,7 +17,7 @@ use Rattle.spi_intern.proofs.Grown.{has_kept}
 use Rattle.spi_intern.proofs.Counted.{counted, counted_at_least}
 use Rattle.spi_message.specs.Filling.{values_of}
 use Rattle.spi_message.specs.Judging.{Numbered}
-use Rattle.spi_message.specs.Giving.{HasParts, GrowsBy, grows_none, grows_next, GivesOnly, Compared, with_un, with_type, with_payload, Tested, the_message, its_typing, Examined, the_name, its_type, in_first as from_first, in_second, in_left, in_right, in_payload, of_atom, IsWhole, whole_message, whole_type, AreWhole, HasGiven, HasGivenAtLeast}
+use Rattle.spi_message.specs.Giving.{HasParts, GrowsBy, grows_none, grows_next, GivesOnly, Compared, with_un, with_type, with_payload, Tested, the_message, its_typing, Examined, the_name, its_type, in_first as from_first, in_second, in_left, in_right, in_payload, of_atom, IsWholeGiven, whole_message, whole_type, AreWhole, HasGiven, HasGivenAtLeast}
 use Rattle.spi_message.specs.Added.{TypeIsAdded}
 use Rattle.spi_message.proofs.Fills.{at_message}
 use Rattle.spi_message.proofs.Typings.{filled_one}
@@ -106,7 +106,7 @@ in_types p (in_key h) = in_key (in_types p h)
 in_types p (in_nonce h) = in_nonce (in_atoms p h)
 
 -- a whole term has the parts of the messages in it
-whole_parts : {x y : Message} (g : Given) → IsWhole g → PartOf x y → MessageIn g y → MessageIn g x
+whole_parts : {x y : Message} (g : Given) → IsWholeGiven g → PartOf x y → MessageIn g y → MessageIn g x
 whole_parts _ whole_message p h = part_trans p h
 whole_parts _ whole_type p h = in_types p h
 
@@ -162,20 +162,20 @@ least_next gs hs s r w z h = record { gave = least_more w.gave z; whole = whole_
 pub first_given : {s r : Store} {t : Ty} → s.messages ≡ [] → s.types ≡ [] → Keeps s r → Adds s r (a_type t) → HasGiven (a_type t ∷ []) r
 first_given {t = t} p q k a = record { gave = gave_next (gave_none p q) k a; whole = record { each = each } }
   where
-    each : (g : Given) → In g (a_type t ∷ []) → IsWhole g
+    each : (g : Given) → In g (a_type t ∷ []) → IsWholeGiven g
     each _ first_of = whole_type
     each g (later_of i) = elim i [ ]
 
-pub compared_whole : (env : Env) (n : Message) (u : Ty) (g : Given) → Compared env n u g → IsWhole g
+pub compared_whole : (env : Env) (n : Message) (u : Ty) (g : Given) → Compared env n u g → IsWholeGiven g
 compared_whole env n u _ with_un = whole_type
 compared_whole env n u _ (with_type o) = whole_type
 compared_whole env n u _ (with_payload i o) = whole_type
 
-tested_whole : (env : Env) (n : Message) (g : Given) → Tested env n g → IsWhole g
+tested_whole : (env : Env) (n : Message) (g : Given) → Tested env n g → IsWholeGiven g
 tested_whole env n _ the_message = whole_message
 tested_whole env n g (its_typing h) = compared_whole env n un g h
 
-pub examined_whole : (env : Env) (u : Ty) (g : Given) → Examined env u g → IsWhole g
+pub examined_whole : (env : Env) (u : Ty) (g : Given) → Examined env u g → IsWholeGiven g
 examined_whole env _ _ the_name = whole_message
 examined_whole env _ _ its_type = whole_type
 examined_whole env _ g (from_first h) = examined_whole env _ g h

@@ -16,7 +16,7 @@ use Rattle.spi_message.specs.declared.answers.Asked.TheVariants.{Typed, Labelled
 use Rattle.spi_message.specs.declared.answers.Question.{Question}
 use Rattle.spi_message.specs.Judging.{StandFor}
 use Rattle.spi_message.specs.Asking.{IsEnvironment}
-use Rattle.spi_message.specs.Answered.{Entries, question, Tells, CanAsk, IsAnswer, AreAnswers, IsKeptAnswer, EndsWithin, IsInside}
+use Rattle.spi_message.specs.Answered.{Entries, question, TellsTest, CanAsk, IsTestAnswer, AreAnswers, IsKeptAnswer, EndsWithin, IsInside}
 use Rattle.spi_message.proofs.Earlier.{message_back, means_back, stand_back}
 use Rattle.spi_message.proofs.Fills.{below_keeps}
 use Rattle.spi_message.proofs.Judges.{judge_keeps, judge_bound, judge_unbound}
@@ -31,7 +31,7 @@ can_keeps k n (Labelled m) c = below_keeps m k.messages c
 can_keeps k n (Good t) c = record { type = c.type; means = means_keeps k c.means; few = c.few }
 
 -- an answer stays right as the store grows
-tells_keeps : {s r : Store} {ids : List TyId} {d : Env} → Keeps s r → StandFor s ids d → (n : ℕ) (a : Asked) (b : Bool) → CanAsk s n a → Tells s ids a b → Tells r ids a b
+tells_keeps : {s r : Store} {ids : List TyId} {d : Env} → Keeps s r → StandFor s ids d → (n : ℕ) (a : Asked) (b : Bool) → CanAsk s n a → TellsTest s ids a b → TellsTest r ids a b
 tells_keeps k w n (Typed m t) b c h = λ e x u st at mu. h e x u (stand_back k w st) (message_back k.messages m.place x c.0 at) (means_back k c.1.means mu)
 tells_keeps k w n (Labelled m) b c h = λ e x st at. h e x (stand_back k w st) (message_back k.messages m.place x c at)
 tells_keeps k w n (Good t) b c h = λ e u st mu. h e u (stand_back k w st) (means_back k c.means mu)
@@ -62,7 +62,7 @@ answers_bound {s} {ids} {js} {es} t p ks = subst (λ is. AreAnswers s is es) (sy
       record {
         within = let w = a.within in let e = length-append ids (t ∷ []) in omega arith;
         asked = a.asked;
-        tells = subst (λ is. Tells s is q.asked b) (sym (take-append-le q.names ids (t ∷ []) a.within)) a.tells;
+        tells = subst (λ is. TellsTest s is q.asked b) (sym (take-append-le q.names ids (t ∷ []) a.within)) a.tells;
       };
   order = ks.order;
 }
@@ -88,19 +88,19 @@ answers_cut {s} {ids} {js} {es} {fs} rest gone p e w ks = cut (subst (λ is. Are
       each = λ i q b h.
           let a = ks.each i q b (get_append fs gone i (q, b) h) in
           let l = ends_within fs gone (length js) ks w i q b h in
-          record { within = l; asked = a.asked; tells = subst (λ is. Tells s is q.asked b) (take-append-le q.names js rest l) a.tells };
+          record { within = l; asked = a.asked; tells = subst (λ is. TellsTest s is q.asked b) (take-append-le q.names js rest l) a.tells };
       order = λ i j q r b c l h g. ks.order i j q r b c l (get_append fs gone i (q, b) h) (get_append fs gone j (r, c) g);
     }
 
 -- one more answer
-pub answers_push : {s : Store} {ids : List TyId} {es fs : Entries} (n : ℕ) (a : Asked) (b : Bool) → n ≡ length ids → fs ≡ es ++ (question n a, b) ∷ [] → CanAsk s n a → Tells s ids a b → AreAnswers s ids es → AreAnswers s ids fs
+pub answers_push : {s : Store} {ids : List TyId} {es fs : Entries} (n : ℕ) (a : Asked) (b : Bool) → n ≡ length ids → fs ≡ es ++ (question n a, b) ∷ [] → CanAsk s n a → TellsTest s ids a b → AreAnswers s ids es → AreAnswers s ids fs
 answers_push {s} {ids} {es} {fs} n a b v p c t ks = subst (AreAnswers s ids) (sym p) record {
-  each = λ i q d h. elim (get_push es (question n a, b) i (q, d) h) [ inl g ↦ ks.each i q d g | inr g ↦ subst (λ y. IsAnswer s ids y.0 y.1) (sym g.1) new ];
+  each = λ i q d h. elim (get_push es (question n a, b) i (q, d) h) [ inl g ↦ ks.each i q d g | inr g ↦ subst (λ y. IsTestAnswer s ids y.0 y.1) (sym g.1) new ];
   order = λ i j q r d k l h g. ordered i j q r d k l (get_push es (question n a, b) i (q, d) h) (get_push es (question n a, b) j (r, k) g);
 }
   where
-    new : IsAnswer s ids (question n a) b
-    new = record { within = omega arith; asked = c; tells = subst (λ is. Tells s is a b) (sym (take_all n ids (omega arith))) t }
+    new : IsTestAnswer s ids (question n a) b
+    new = record { within = omega arith; asked = c; tells = subst (λ is. TellsTest s is a b) (sym (take_all n ids (omega arith))) t }
 
     ordered : (i j : ℕ) (q r : Question) (d k : Bool) → i < j → (slice_get es i ≡ Some (q, d)) ⊎ ((i ≡ length es) × (◌≡◌ {A = Question × Bool} (q, d) (question n a, b))) → (slice_get es j ≡ Some (r, k)) ⊎ ((j ≡ length es) × (◌≡◌ {A = Question × Bool} (r, k) (question n a, b))) → q.names ≤ r.names
     ordered i j q r d k l (inl h) (inl g) = ks.order i j q r d k l h g
@@ -112,14 +112,14 @@ answers_push {s} {ids} {es} {fs} n a b v p c t ks = subst (AreAnswers s ids) (sy
 pub still_kept : {s r : Store} {ids js : List TyId} {es fs : Entries} → Keeps s r → IsEnvironment s ids → js ≡ ids → fs ≡ es → AreAnswers s ids es → AreAnswers r js fs
 still_kept {r = r} {es = es} {fs = fs} k w p e ks = subst (λ is. AreAnswers r is fs) (sym p) (subst (AreAnswers r _) (sym e) (answers_keep k w.stands ks))
 
-pub one_more : {s r : Store} {ids js : List TyId} {es fs : Entries} (n : ℕ) (a : Asked) (b : Bool) → Keeps s r → IsEnvironment s ids → js ≡ ids → n ≡ length ids → fs ≡ es ++ (question n a, b) ∷ [] → CanAsk s (length ids) a → Tells s ids a b → AreAnswers s ids es → AreAnswers r js fs
+pub one_more : {s r : Store} {ids js : List TyId} {es fs : Entries} (n : ℕ) (a : Asked) (b : Bool) → Keeps s r → IsEnvironment s ids → js ≡ ids → n ≡ length ids → fs ≡ es ++ (question n a, b) ∷ [] → CanAsk s (length ids) a → TellsTest s ids a b → AreAnswers s ids es → AreAnswers r js fs
 one_more {s} {r} {ids} {fs = fs} n a b k w p v e c t ks =
     let d : CanAsk s n a = subst (λ m. CanAsk s m a) (sym v) c in
     subst (λ is. AreAnswers r is fs) (sym p) (answers_push n a b v e (can_keeps k n a d) (tells_keeps k w.stands n a b d t) (answers_keep k w.stands ks))
 
 -- the answer that is found
-pub answer_held : {s : Store} {ids : List TyId} {es : Entries} (n : ℕ) (a : Asked) (b : Bool) → n ≡ length ids → AreAnswers s ids es → IsKeptAnswer es (question n a) b → Tells s ids a b
-answer_held {s} {ids} n a b v ks h = subst (λ is. Tells s is a b) (take_all n ids (omega arith)) (ks.each h.place (question n a) b h.at).tells
+pub answer_held : {s : Store} {ids : List TyId} {es : Entries} (n : ℕ) (a : Asked) (b : Bool) → n ≡ length ids → AreAnswers s ids es → IsKeptAnswer es (question n a) b → TellsTest s ids a b
+answer_held {s} {ids} n a b v ks h = subst (λ is. TellsTest s is a b) (take_all n ids (omega arith)) (ks.each h.place (question n a) b h.at).tells
 
 -- what holds of every judge goes on to hold
 pub inside_keeps : {s r : Store} {f : ℕ} {ids js : List TyId} {es : Entries} → Keeps s r → js ≡ ids → IsInside s f ids es → IsInside r f js es

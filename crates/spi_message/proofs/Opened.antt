@@ -4,7 +4,7 @@ use Rattle.std.specs.Prelude.{slice_get, if◌then◌else◌, nat_lt, ⊤}
 use Rattle.std.proofs.lemmas.Bool.{cases_lt, cases_eq, lt-ltb, le-ltb, ne_eqb}
 use Rattle.spi_term.specs.Term.{Message, bound, name, unit, pair, in_left, in_right, enc, hash, Leaf, Prefix, Recvs, Serves, Splits, Selects, Decrypts, Checks, Begins, Ends, EndManys, Casts, Freshes, Fork, Branches, Pars, Process, leaf, prefix, fork, binds, fork_binds, process_size}
 use Rattle.spi_term.specs.Substitution.{process_map, leaf_map, prefix_map, fork_map, put}
-use Rattle.spi_term.specs.Spelling.{under, named, name_message, numbered}
+use Rattle.spi_term.specs.Spelling.{under, name_or_index, name_message, numbered}
 use Rattle.spi_term.proofs.Terms.{binds_map, fork_binds_map}
 use Rattle.spi_term.proofs.Maps.{fixed_leaf, fixed_prefix, fixed_fork, each_leaf, each_prefix, each_fork, joined_leaf, joined_prefix, joined_fork}
 use Rattle.spi_rules.specs.Environment.{Env}
@@ -59,17 +59,17 @@ module _ (names : List ℕ) (j : ℕ) where
       here f =
           let g : i - c ≡ length names = omega arith in
           let l : c ≤ i = omega arith in
-          ap (name_message names c) (if_yes (name j) (bound i) (eq-eqb i d f)) ∙ sym (if_no (bound i) (named i (slice_get (names ++ j ∷ []) (i - c))) (le-ltb i c l) ∙ ap (λ n. named i (slice_get (names ++ j ∷ []) n)) g ∙ ap (named i) (get_last names j))
+          ap (name_message names c) (if_yes (name j) (bound i) (eq-eqb i d f)) ∙ sym (if_no (bound i) (name_or_index i (slice_get (names ++ j ∷ []) (i - c))) (le-ltb i c l) ∙ ap (λ n. name_or_index i (slice_get (names ++ j ∷ []) n)) g ∙ ap (name_or_index i) (get_last names j))
 
       there : (i ≡ d → ⊥) → name_message names c (put (name j) d (bound i)) ≡ name_message (names ++ j ∷ []) c (bound i)
       there f = ap (name_message names c) (if_no (name j) (bound i) (ne_eqb i d f)) ∙ ⊎_elim low high (cases_lt i c)
         where
           low : i < c → name_message names c (bound i) ≡ name_message (names ++ j ∷ []) c (bound i)
-          low l = if_yes (bound i) (named i (slice_get names (i - c))) (lt-ltb i c l) ∙ sym (if_yes (bound i) (named i (slice_get (names ++ j ∷ []) (i - c))) (lt-ltb i c l))
+          low l = if_yes (bound i) (name_or_index i (slice_get names (i - c))) (lt-ltb i c l) ∙ sym (if_yes (bound i) (name_or_index i (slice_get (names ++ j ∷ []) (i - c))) (lt-ltb i c l))
 
           high : c ≤ i → name_message names c (bound i) ≡ name_message (names ++ j ∷ []) c (bound i)
           high l =
-              if_no (bound i) (named i (slice_get names (i - c))) (le-ltb i c l) ∙ ap (named i) (sym (get_other names j (i - c) (λ g. f (omega arith)))) ∙ sym (if_no (bound i) (named i (slice_get (names ++ j ∷ []) (i - c))) (le-ltb i c l))
+              if_no (bound i) (name_or_index i (slice_get names (i - c))) (le-ltb i c l) ∙ ap (name_or_index i) (sym (get_other names j (i - c) (λ g. f (omega arith)))) ∙ sym (if_no (bound i) (name_or_index i (slice_get (names ++ j ∷ []) (i - c))) (le-ltb i c l))
 
   name_put_message : (c d : ℕ) → d ≡ c + length names → (m : Message) → name_message names c (put (name j) d m) ≡ name_message (names ++ j ∷ []) c m
   name_put_message c d e (bound i) = put_index c d i e

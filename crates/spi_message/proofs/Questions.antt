@@ -25,7 +25,7 @@ use Rattle.spi_intern.proofs.Telling.{types_tell}
 use Rattle.spi_message.specs.Judging.{StandFor}
 use Rattle.spi_message.specs.Filling.{fill, filled, AllStay, values_of, AreIdsBelow, FillsTy}
 use Rattle.spi_message.specs.Asking.{IsEnvironment, IsAsked, IsTyped, IsLabelled, IsKeyFor, IsNoKey, IsPayload, IsNoPayload}
-use Rattle.spi_message.specs.Tests.{is_un, is_unit, as_name, as_pair, as_left, as_right, key_in, key_of, by_key, typed, labelled}
+use Rattle.spi_message.specs.Tests.{is_un, is_unit, as_name, as_pair, as_left, as_right, key_in, type_of_key, by_key, typed, labelled}
 use Rattle.spi_message.proofs.Deciding.{and_false, key_alone}
 use Rattle.spi_message.proofs.Fills.{message_keeps, below_keeps, values_keep, all_below_keeps, message_there, none_below, Tells}
 use Rattle.spi_message.proofs.FillsTypes.{TwoTys, OneTy, given_keeps}
@@ -53,12 +53,12 @@ pub key_for : {s : Store} {t p : TyId} → OneTy s t p key → IsKeyFor s t p
 key_for w = record { at = w.at }
 
 -- a name of a type
-pub no_name : {ms : List Message} {p : MsgPart} {n : Message} (e : Env) → Says ms p n → ((x : ℕ) → p ≡ Name x → ⊥) → key_of e n ≡ None
+pub no_name : {ms : List Message} {p : MsgPart} {n : Message} (e : Env) → Says ms p n → ((x : ℕ) → p ≡ Name x → ⊥) → type_of_key e n ≡ None
 no_name e (says_name {x = x}) h = absurd (h x refl)
 no_name e _ h = refl
 
 pub no_payload_name : {s : Store} {env : List TyId} {n : Message} {x : ℕ} → n ≡ name x → slice_get env x ≡ None → IsNoPayload s env n
-no_payload_name {n = n} {x = x} q h = record { at = λ e st. ap (key_of e) q ∙ ap key_in (stand_none_at st x h) }
+no_payload_name {n = n} {x = x} q h = record { at = λ e st. ap (type_of_key e) q ∙ ap key_in (stand_none_at st x h) }
 
 pub no_payload_part : {s : Store} {env : List TyId} {m : MsgId} {p : MsgPart} → Tells s.messages m p → m.place < length s.messages → ((x : ℕ) → p ≡ Name x → ⊥) → IsNoPayload s env (message_at s.messages m)
 no_payload_part {s} {m = m} f h g = record { at = λ e st. no_name e (f (message_at s.messages m) (message_there s.messages m h)) g }
@@ -71,7 +71,7 @@ payload_some s env {n = n} {x = x} {i = i} q g (Some p) h = record {
   at = λ e st.
       let w = stand_at st x i g in
       let z = h.at w.0 w.2 in
-      (z.0, ap (key_of e) q ∙ ap key_in (w.1 ∙ ap Some z.1), z.2);
+      (z.0, ap (type_of_key e) q ∙ ap key_in (w.1 ∙ ap Some z.1), z.2);
 }
 payload_some s env q g None h = tt
 
@@ -80,7 +80,7 @@ payload_none s env q g (Some p) h = tt
 payload_none s env {n = n} {x = x} {i = i} q g None h = record {
   at = λ e st.
       let w = stand_at st x i g in
-      ap (key_of e) q ∙ ap key_in w.1 ∙ h.at w.0 w.2;
+      ap (type_of_key e) q ∙ ap key_in w.1 ∙ h.at w.0 w.2;
 }
 
 -- a name has the type with its number, and no other
@@ -323,7 +323,7 @@ by_payload {s = s} {env = env} a {k = k} {p = p} w q (Ok b) h = record {
 }
 by_payload a w q (Err e) h = tt
 
-no_key_label : (e : Env) (a k : Message) → key_of e k ≡ None → labelled (enc a k) e ≡ (typed a e un && typed k e un)
+no_key_label : (e : Env) (a k : Message) → type_of_key e k ≡ None → labelled (enc a k) e ≡ (typed a e un && typed k e un)
 no_key_label e a k h = ap (λ o. by_key (typed a e) o || (typed a e un && typed k e un)) h
 
 pub by_un : {E : Type 0} {s p r : Store} {env : List TyId} {x k : MsgId} {t : TyId} {vs ws : List MsgId} {c : Bool} → IsNoPayload s env (message_at s.messages k) → Keeps s p → Means p t.place un → vs ≡ [] → k.place < length s.messages → IsTyped p env (message_at p.messages k) t vs c → c ≡ true → Keeps p r → ws ≡ vs → x.place < length s.messages → (o : Result Bool E) → IfOk o (IsTyped r env (message_at r.messages x) t ws) → IfOk o (IsLabelled s env (enc (message_at s.messages x) (message_at s.messages k)))

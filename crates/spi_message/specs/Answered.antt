@@ -20,12 +20,12 @@ abbrev pub question : ℕ → Asked → Question
 question n a = record { names = n; asked = a }
 
 -- the answer b to a question is what the rules say, in each environment that the numbers of the names stand for
-abbrev pub Tells : Store → List TyId → Asked → Bool → Type 0
-Tells s ids (Typed m t) b = (env : Env) (n : Message) (u : Ty) → StandFor s ids env
+abbrev pub TellsTest : Store → List TyId → Asked → Bool → Type 0
+TellsTest s ids (Typed m t) b = (env : Env) (n : Message) (u : Ty) → StandFor s ids env
     → slice_get s.messages m.place ≡ Some n → Means s t.place u → (b ≡ true) ↔ HasType [] env n u
-Tells s ids (Labelled m) b = (env : Env) (n : Message) → StandFor s ids env
+TellsTest s ids (Labelled m) b = (env : Env) (n : Message) → StandFor s ids env
     → slice_get s.messages m.place ≡ Some n → (b ≡ true) ↔ IsLabel [] env n
-Tells s ids (Good t) b = (env : Env) (u : Ty) → StandFor s ids env → Means s t.place u
+TellsTest s ids (Good t) b = (env : Env) (u : Ty) → StandFor s ids env → Means s t.place u
     → (b ≡ true) ↔ GoodTy [] env u
 
 -- the question is over numbers of the store, and a type is small enough to be judged where so many names are in scope
@@ -35,15 +35,15 @@ CanAsk s names (Labelled m) = m.place < length s.messages
 CanAsk s names (Good t) = IsGivenSmall s t.place names
 
 -- the answer was given where the first names alone were in scope
-pub record IsAnswer (s : Store) (ids : List TyId) (q : Question) (b : Bool) : Type 0 where
+pub record IsTestAnswer (s : Store) (ids : List TyId) (q : Question) (b : Bool) : Type 0 where
   pub within : q.names ≤ length ids
   pub asked : CanAsk s q.names q.asked
-  pub tells : Tells s (take q.names ids) q.asked b
+  pub tells : TellsTest s (take q.names ids) q.asked b
 
 -- What is kept in an environment. The later an answer was given, the more names were in scope: those of a name's
 -- scope are the last ones.
 pub record AreAnswers (s : Store) (ids : List TyId) (es : Entries) : Type 0 where
-  pub each : (i : ℕ) (q : Question) (b : Bool) → slice_get es i ≡ Some (q, b) → IsAnswer s ids q b
+  pub each : (i : ℕ) (q : Question) (b : Bool) → slice_get es i ≡ Some (q, b) → IsTestAnswer s ids q b
   pub order : (i j : ℕ) (q r : Question) (b c : Bool) → i < j → slice_get es i ≡ Some (q, b)
       → slice_get es j ≡ Some (r, c) → q.names ≤ r.names
 

@@ -12,7 +12,7 @@ use Rattle.spi_intern.specs.Typed.{kind_at}
 use Rattle.spi_intern.specs.Meaning.{Means}
 use Rattle.spi_message.specs.Judging.{StandFor}
 use Rattle.spi_message.specs.Filling.{AllStay, AreIdsBelow, AtomsAreBelow, values_of, atom_at, fill, filled, kind_size}
-use Rattle.spi_message.specs.Tests.{typed, labelled, good_atom, good_effect, good, key_in, key_of}
+use Rattle.spi_message.specs.Tests.{typed, labelled, good_atom, good_effect, good, key_in, type_of_key}
 
 -- the numbers stand for some environment
 pub record IsEnvironment (s : Store) (ids : List TyId) : Type 0 where
@@ -44,10 +44,10 @@ pub record IsNoKey (s : Store) (t : TyId) : Type 0 where
 
 -- the number of T, where the message is a name of type Key(T)
 pub record IsPayload (s : Store) (env : List TyId) (n : Message) (p : TyId) : Type 0 where
-  pub at : (e : Env) → StandFor s env e → (t : Ty) × (key_of e n ≡ Some t) × Means s p.place t
+  pub at : (e : Env) → StandFor s env e → (t : Ty) × (type_of_key e n ≡ Some t) × Means s p.place t
 
 pub record IsNoPayload (s : Store) (env : List TyId) (n : Message) : Type 0 where
-  pub at : (e : Env) → StandFor s env e → key_of e n ≡ None
+  pub at : (e : Env) → StandFor s env e → type_of_key e n ≡ None
 
 -- an atom of a Nonce type is good
 pub record IsGoodAtom (s : Store) (env : List TyId) (a : AtomId) (vs : List MsgId) (b : Bool) : Type 0 where

@@ -61,12 +61,12 @@ pub data Examined : Env → Ty → Given → Type 0 where
       → Examined e (nonce es) g
 
 -- a whole term, and no constructor over numbers alone
-pub data IsWhole : Given → Type 0 where
-  whole_message : {m : Message} → IsWhole (a_message m)
-  whole_type : {t : Ty} → IsWhole (a_type t)
+pub data IsWholeGiven : Given → Type 0 where
+  whole_message : {m : Message} → IsWholeGiven (a_message m)
+  whole_type : {t : Ty} → IsWholeGiven (a_type t)
 
 pub record AreWhole (gs : List Given) : Type 0 where
-  pub each : (g : Given) → In g gs → IsWhole g
+  pub each : (g : Given) → In g gs → IsWholeGiven g
 
 -- a judge's store, where each call answered Ok: the whole terms that calls gave numbers to, the last first
 pub record HasGiven (gs : List Given) (s : Store) : Type 0 where

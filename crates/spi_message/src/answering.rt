@@ -2,7 +2,7 @@
 
 ghost use Rattle.std.specs.Prelude.{◌≡◌, IfOk, OnOk, length};
 ghost use Rattle.spi_intern.specs.Meaning.{Keeps};
-ghost use Rattle.spi_message.specs.Answered.{Tells, CanAsk, AreAnswers};
+ghost use Rattle.spi_message.specs.Answered.{TellsTest, CanAsk, AreAnswers};
 ghost use Rattle.spi_message.specs.Added.{AnswerGives};
 ghost use Rattle.spi_message.specs.Asking.{IsEnvironment};
 
@@ -22,7 +22,7 @@ fn ask(
 ) -> Result<bool, NoMemory>
     requires names { IsEnvironment store.old types.old.items }
     requires asked { CanAsk store.old (length types.old.items) asked }
-    ensures answer { IfOk result (Tells store.old types.old.items asked) }
+    ensures answer { IfOk result (TellsTest store.old types.old.items asked) }
     ensures adds { OnOk result (AnswerGives store.old store.new types.old.items asked) }
     ensures kept { Keeps store.old store.new }
     ensures types { types.new.items ≡ types.old.items }
@@ -46,7 +46,7 @@ pub fn answered(
     requires names { IsEnvironment store.old types.old.items }
     requires asked { CanAsk store.old (length types.old.items) asked }
     requires answers { AreAnswers store.old types.old.items answers.old.given.entries }
-    ensures answer { IfOk result (Tells store.old types.old.items asked) }
+    ensures answer { IfOk result (TellsTest store.old types.old.items asked) }
     ensures adds { OnOk result (AnswerGives store.old store.new types.old.items asked) }
     ensures kept { Keeps store.old store.new }
     ensures types { types.new.items ≡ types.old.items }

@@ -5,7 +5,7 @@ ghost use Rattle.std.specs.Prelude.{◌≡◌, ◌+◌, ◌^◌, ◌<◌, ltb, I
 ghost use Rattle.spi_term.specs.Term.{name, pair, enc};
 ghost use Rattle.spi_term.specs.Spelling.{ty_nodes};
 ghost use Rattle.spi_term.specs.View.{message, atom, effect, ty};
-ghost use Rattle.spi_message.specs.Tests.{scope_of, is_unit, key_in, key_of, typed, labelled, good_atom, good_effect, good};
+ghost use Rattle.spi_message.specs.Tests.{scope_of_types, is_unit, key_in, type_of_key, typed, labelled, good_atom, good_effect, good};
 
 use crate::NoMemory;
 use crate::slices::is_un_type;
@@ -16,8 +16,8 @@ use std::alloc::Global;
 
 // The type of a name.
 fn type_of<'a>(x: u32, env: &'a [Ty], inner: &'a [Ty]) -> Option<&'a Ty>
-    ensures some { IfSome result (λ t. slice_get (scope_of env.now inner.now) x ≡ Some (ty t.now)) }
-    ensures none { IfNone result (slice_get (scope_of env.now inner.now) x ≡ None) }
+    ensures some { IfSome result (λ t. slice_get (scope_of_types env.now inner.now) x ≡ Some (ty t.now)) }
+    ensures none { IfNone result (slice_get (scope_of_types env.now inner.now) x ≡ None) }
 {
     let place = x as usize;
     if place < env.len() {
@@ -33,8 +33,8 @@ fn type_of<'a>(x: u32, env: &'a [Ty], inner: &'a [Ty]) -> Option<&'a Ty>
 // The T of a name of type Key(T).
 fn key_type<'a>(m: &Msg, env: &'a [Ty], inner: &'a [Ty]) -> Option<&'a Ty>
     ensures some { IfSome result
-        (λ t. key_of (scope_of env.now inner.now) (message m.now) ≡ Some (ty t.now)) }
-    ensures none { IfNone result (key_of (scope_of env.now inner.now) (message m.now) ≡ None) }
+        (λ t. type_of_key (scope_of_types env.now inner.now) (message m.now) ≡ Some (ty t.now)) }
+    ensures none { IfNone result (type_of_key (scope_of_types env.now inner.now) (message m.now) ≡ None) }
 {
     match m {
         Msg::Name(x) => match type_of(*x, env, inner) {
@@ -46,7 +46,7 @@ fn key_type<'a>(m: &Msg, env: &'a [Ty], inner: &'a [Ty]) -> Option<&'a Ty>
 }
 
 fn has_name_type(x: u32, env: &[Ty], inner: &[Ty], t: &Ty) -> bool
-    ensures { result ≡ typed (name x) (scope_of env.now inner.now) (ty t.now) }
+    ensures { result ≡ typed (name x) (scope_of_types env.now inner.now) (ty t.now) }
 {
     match type_of(x, env, inner) {
         Some(s) => is_same_type(s, t),
@@ -55,7 +55,7 @@ fn has_name_type(x: u32, env: &[Ty], inner: &[Ty], t: &Ty) -> bool
 }
 
 fn is_below(x: u32, env: &[Ty], inner: &[Ty]) -> bool
-    ensures { result ≡ ltb x (length (scope_of env.now inner.now)) }
+    ensures { result ≡ ltb x (length (scope_of_types env.now inner.now)) }
 {
     match type_of(x, env, inner) {
         Some(_) => true,
@@ -66,7 +66,7 @@ fn is_below(x: u32, env: &[Ty], inner: &[Ty]) -> bool
 /// The message has the type.
 #[cycle(typing)]
 pub fn has_type(alloc: Global, m: &Msg, env: &[Ty], inner: &[Ty], t: &Ty) -> Result<bool, NoMemory>
-    ensures { IfOk result (λ b. b ≡ typed (message m.now) (scope_of env.now inner.now) (ty t.now)) }
+    ensures { IfOk result (λ b. b ≡ typed (message m.now) (scope_of_types env.now inner.now) (ty t.now)) }
 {
     match m {
         Msg::Bound(_) => Ok(false),
@@ -110,7 +110,7 @@ fn pair_has_type(
     t: &Ty,
 ) -> Result<bool, NoMemory>
     ensures { IfOk result
-        (λ x. x ≡ typed (pair (message a.now) (message b.now)) (scope_of env.now inner.now) (ty t.now)) }
+        (λ x. x ≡ typed (pair (message a.now) (message b.now)) (scope_of_types env.now inner.now) (ty t.now)) }
 {
     match t {
         Ty::Un => {
@@ -143,7 +143,7 @@ fn is_sealed(
     inner: &[Ty],
 ) -> Result<bool, NoMemory>
     ensures { IfOk result
-        (λ b. b ≡ labelled (enc (message body.now) (message key.now)) (scope_of env.now inner.now)) }
+        (λ b. b ≡ labelled (enc (message body.now) (message key.now)) (scope_of_types env.now inner.now)) }
 {
     if let Some(payload) = key_type(key, env, inner) {
         return has_type(alloc, body, env, inner, payload);
@@ -158,7 +158,7 @@ fn is_sealed(
 /// The message is a label.
 #[cycle(typing)]
 pub fn is_label(alloc: Global, m: &Msg, env: &[Ty], inner: &[Ty]) -> Result<bool, NoMemory>
-    ensures { IfOk result (λ b. b ≡ labelled (message m.now) (scope_of env.now inner.now)) }
+    ensures { IfOk result (λ b. b ≡ labelled (message m.now) (scope_of_types env.now inner.now)) }
 {
     match m {
         Msg::Bound(_) => Ok(false),
@@ -179,7 +179,7 @@ pub fn is_label(alloc: Global, m: &Msg, env: &[Ty], inner: &[Ty]) -> Result<bool
 }
 
 fn is_good_atom(alloc: Global, a: &Atom, env: &[Ty], inner: &[Ty]) -> Result<bool, NoMemory>
-    ensures { IfOk result (λ b. b ≡ good_atom (atom a.now) (scope_of env.now inner.now)) }
+    ensures { IfOk result (λ b. b ≡ good_atom (atom a.now) (scope_of_types env.now inner.now)) }
 {
     match a {
         Atom::End(m) => is_label(alloc, m, env, inner),
@@ -190,7 +190,7 @@ fn is_good_atom(alloc: Global, a: &Atom, env: &[Ty], inner: &[Ty]) -> Result<boo
 
 /// The effect is good.
 pub fn is_good_effect(alloc: Global, e: &Effect, env: &[Ty], inner: &[Ty]) -> Result<bool, NoMemory>
-    ensures { IfOk result (λ b. b ≡ good_effect (effect e.now) (scope_of env.now inner.now)) }
+    ensures { IfOk result (λ b. b ≡ good_effect (effect e.now) (scope_of_types env.now inner.now)) }
 {
     for a in &e.atoms {
         if !is_good_atom(alloc, a, env, inner)? {
@@ -209,7 +209,7 @@ pub fn is_good_type(
     inner: &mut Vec<Ty>,
 ) -> Result<bool, NoMemory>
     requires { length env.now + length inner.old.items + ty_nodes (ty t.now) < 2 ^ 32 }
-    ensures answer { IfOk result (λ b. b ≡ good (scope_of env.now inner.old.items) (ty t.now)) }
+    ensures answer { IfOk result (λ b. b ≡ good (scope_of_types env.now inner.old.items) (ty t.now)) }
     ensures inner { OnOk result (inner.new.items ≡ inner.old.items) }
 {
     match t {

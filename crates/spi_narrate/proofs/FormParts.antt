@@ -8,20 +8,20 @@ use Rattle.spi_tree.specs.Pieces.{Piece, a_mark, a_reserved, msg_pieces, named_p
 use Rattle.spi_tree.specs.Formed.{AreWordsFit, IsMsg, IsTy}
 use Rattle.spi_heading.specs.Headings as h
 use Rattle.spi_heading.proofs.Standing.{msg_solid}
-use Rattle.spi_heading.proofs.Symbols.{Sym, token, message, the_mark, the_reserved}
+use Rattle.spi_heading.proofs.Symbols.{HeadingSym, token, message, the_mark, the_reserved}
 use Rattle.spi_heading.proofs.RowParts.{AreRows}
 use Rattle.spi_heading.proofs.Names.{named_row, named_values}
 
-abbrev pub whole_row : List Sym
+abbrev pub whole_row : List HeadingSym
 whole_row = message ∷ token (the_reserved word.Is) ∷ []
 
-abbrev pub bound_row : Mark → List Sym
+abbrev pub bound_row : Mark → List HeadingSym
 bound_row m = whole_row ++ token (the_mark m) ∷ named_row
 
-abbrev pub closing_row : List Sym
+abbrev pub closing_row : List HeadingSym
 closing_row = token (the_mark mark.ParenClose) ∷ []
 
-abbrev pub closed_row : Mark → List Sym
+abbrev pub closed_row : Mark → List HeadingSym
 closed_row m = token (the_mark m) ∷ (named_row ++ closing_row)
 
 module _ (v : Bool) where

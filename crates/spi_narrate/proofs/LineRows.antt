@@ -21,11 +21,11 @@ use Rattle.spi_grammar.proofs.Answers.{good_both}
 use Rattle.spi_grammar.proofs.Good.{IsSome, Differ, good_either}
 use Rattle.spi_parts.proofs.Alone.{kinds_in_append}
 use Rattle.spi_parts.proofs.Bridge.{OfPieces, of_piece}
-use Rattle.spi_heading.specs.Spans.{start_of, end_before}
-use Rattle.spi_heading.specs.Taking.{IsThere, Takes, TakesWord}
+use Rattle.spi_heading.specs.Spans.{start_of_token, end_before}
+use Rattle.spi_heading.specs.Taking.{IsThere, TakesOneToken, TakesWord}
 use Rattle.spi_heading.proofs.Standing.{AreTokensOf, IsSolid, stands_both}
 use Rattle.spi_heading.proofs.Failing.{FailsAt, IsToldBy, told_fail, same_fail, first_fail, second_fail, fails_to}
-use Rattle.spi_heading.proofs.Symbols.{cells_append, Sym, token, name, message, opening, closing, the_mark, the_word, to, on, as_}
+use Rattle.spi_heading.proofs.Symbols.{cells_append, HeadingSym, token, name, message, opening, closing, the_mark, the_word, to, on, as_}
 use Rattle.spi_heading.proofs.Rows.{Values, Row, row_good, row_pieces, row_into, row_from, row_behind, row_read, RowAt, RowFails, row_end, row_more, opened, closed, fits_at, stands_read}
 use Rattle.spi_heading.proofs.Calls.{part_at, took, took_word, there_before}
 use Rattle.spi_heading.proofs.Versions.{Cells}
@@ -36,16 +36,16 @@ use Rattle.spi_narrate.specs.Narrations as n
 use Rattle.spi_narrate.specs.Grammar.{whole_prefix, IsPrefix, IsWholePrefix, line_pieces, whole_line, IsLine, IsWholeLine}
 use Rattle.spi_narrate.proofs.Prefixes.{Prefixes, prefixes_good, prefix_behind}
 
-abbrev pub head_row : List Sym
+abbrev pub head_row : List HeadingSym
 head_row = opening ∷ name ∷ []
 
-abbrev pub colon_row : List Sym
+abbrev pub colon_row : List HeadingSym
 colon_row = token (the_mark mark.Colon) ∷ []
 
-abbrev pub tail_row : List Sym
+abbrev pub tail_row : List HeadingSym
 tail_row = token (the_mark mark.Semicolon) ∷ closing ∷ []
 
-abbrev pub pass_row : List Sym
+abbrev pub pass_row : List HeadingSym
 pass_row = token (the_word to) ∷ name ∷ token (the_word on) ∷ name ∷ token (the_mark mark.Colon) ∷ message ∷ token (the_word as_) ∷ name ∷ token (the_mark mark.Semicolon) ∷ closing ∷ []
 
 abbrev pub head_values : ℕ → SWord → Values head_row
@@ -291,15 +291,15 @@ line_behind (n.pass s a b c m x) r =
 -- ---- the answers of the readers of lines
 
 module _ (v : Bool) (ts : List Token) where
-  pub head_at : (i next : ℕ) (w : SWord) → TakesWord (Ok (w, next)) ts i → RowAt v ts i head_row (head_values (start_of ts i) w) next
+  pub head_at : (i next : ℕ) (w : SWord) → TakesWord (Ok (w, next)) ts i → RowAt v ts i head_row (head_values (start_of_token ts i) w) next
   head_at i next w h =
-      row_more v ts i i next opening (name ∷ []) (start_of ts i) (w, tt) (opened v ts i (there_before ts i (K.Word w.word) (h.0, h.1, h.2)))
+      row_more v ts i i next opening (name ∷ []) (start_of_token ts i) (w, tt) (opened v ts i (there_before ts i (K.Word w.word) (h.0, h.1, h.2)))
       (row_more v ts i next next name [] w tt (took_word v ts i (w, next) h) (row_end v ts next))
 
   pub colon_at : (i : ℕ) → IsThere ts i (K.Mark mark.Colon) → RowAt v ts i colon_row (tt, tt) (i + 1)
   colon_at i h = row_more v ts i (i + 1) (i + 1) (token (the_mark mark.Colon)) [] tt tt (took v ts i (i + 1) (the_mark mark.Colon) (h, refl)) (row_end v ts (i + 1))
 
-  pub tail_at : (i next : ℕ) → Takes (K.Mark mark.Semicolon) (Ok next) ts i → RowAt v ts i tail_row (tail_values (end_before ts next)) next
+  pub tail_at : (i next : ℕ) → TakesOneToken (K.Mark mark.Semicolon) (Ok next) ts i → RowAt v ts i tail_row (tail_values (end_before ts next)) next
   tail_at i next h =
       row_more v ts i next next (token (the_mark mark.Semicolon)) (closing ∷ []) tt (end_before ts next, tt) (took v ts i next (the_mark mark.Semicolon) h)
       (row_more v ts next next next closing [] (end_before ts next) tt (closed v ts next) (row_end v ts next))
@@ -309,7 +309,7 @@ module _ (v : Bool) (ts : List Token) where
   line_answer view i f (Err e) is h = fails_to view whole_line (IsWholeLine v) ts i e (subst (λ (g : ParseFault). FailsAt (Lines v) ts i g) (sym is) h)
 
   -- only a fault of the syntax comes of a single token, and it is at that token
-  pub no_pass : (i j from : ℕ) (w : SWord) → AreWordsFit v (kinds_of ts) → RowAt v ts i head_row (head_values from w) j → (IsThere ts j (K.Mark mark.Colon) → ⊥) → (f : ParseFault) → Takes (K.Word (codes "to")) (Err f) ts j → FailsAt (Lines v) ts i f
+  pub no_pass : (i j from : ℕ) (w : SWord) → AreWordsFit v (kinds_of ts) → RowAt v ts i head_row (head_values from w) j → (IsThere ts j (K.Mark mark.Colon) → ⊥) → (f : ParseFault) → TakesOneToken (K.Word (codes "to")) (Err f) ts j → FailsAt (Lines v) ts i f
   no_pass i j from w fit head other (faults.Syntax k) h = subst (λ (m : ℕ). FailsAt (Lines v) ts i (faults.Syntax m)) (sym h.1) (neither_fails v ts i fit j from w head other h.0)
   no_pass i j from w fit head other (faults.TooDeep k) h = absurd h
   no_pass i j from w fit head other faults.NoMemory h = absurd h
@@ -324,7 +324,7 @@ line_first v a p = go p.part p.shows
 
 -- ---- the receiver, the channel and the datum by themselves
 
-abbrev pub addressed_row : List Sym
+abbrev pub addressed_row : List HeadingSym
 addressed_row = name ∷ token (the_word on) ∷ name ∷ token (the_mark mark.Colon) ∷ message ∷ []
 
 abbrev addressed_part : SWord × SWord × t.Msg → List Piece

@@ -23,7 +23,7 @@ use Rattle.spi_heading.specs.Headings as h
 use Rattle.spi_heading.specs.Each.{each_pieces}
 use Rattle.spi_heading.specs.Grammar.{shared_pieces, IsShared}
 use Rattle.spi_heading.proofs.Standing.{AreTokensOf, IsSolid, msg_solid, ty_solid, decl_solid}
-use Rattle.spi_heading.proofs.Symbols.{Sym, token, name, message, ty, braced, opening, closing, Value, item_pieces, IsItem, item_behind}
+use Rattle.spi_heading.proofs.Symbols.{HeadingSym, token, name, message, ty, braced, opening, closing, Value, item_pieces, IsItem, item_behind}
 use Rattle.spi_heading.proofs.Rows.{Values, row_pieces, AreItems, fits_at}
 use Rattle.spi_heading.proofs.Calls.{part_at}
 use Rattle.spi_heading.proofs.Each.{stands_cut}
@@ -44,11 +44,11 @@ a_part z m = Ok (z, m)
 part_same : {X : Type 0} (x y : X) (j k : ℕ) → a_part x j ≡ a_part y k → a_pair x j ≡ a_pair y k
 part_same x y j k e = cc
 
-abbrev word_of : List ℕ → ℕ → ℕ → SWord
-word_of w from to = record { word = w; span = record { from = from; to = to } }
+abbrev word_once : List ℕ → ℕ → ℕ → SWord
+word_once w from to = record { word = w; span = record { from = from; to = to } }
 
-word_same : (a b : List ℕ) (f g u w : ℕ) → a ≡ b → f ≡ g → u ≡ w → word_of a f u ≡ word_of b g w
-word_same a b f g u w e p q = ap (λ (x : List ℕ). word_of x f u) e ∙ ap (λ (x : ℕ). word_of b x u) p ∙ ap (λ (x : ℕ). word_of b g x) q
+word_same : (a b : List ℕ) (f g u w : ℕ) → a ≡ b → f ≡ g → u ≡ w → word_once a f u ≡ word_once b g w
+word_same a b f g u w e p q = ap (λ (x : List ℕ). word_once x f u) e ∙ ap (λ (x : ℕ). word_once b x u) p ∙ ap (λ (x : ℕ). word_once b g x) q
 
 module _ (v : Bool) (ts : List Token) (fit : AreWordsFit v (kinds_of ts)) where
   -- one token stands at a place
@@ -60,7 +60,7 @@ module _ (v : Bool) (ts : List Token) (fit : AreWordsFit v (kinds_of ts)) where
 
   -- ---- symbols, and rows of them
 
-  abbrev IsPlain : Sym → Type 0
+  abbrev IsPlain : HeadingSym → Type 0
   IsPlain (token x) = Unit {0}
   IsPlain name = Unit {0}
   IsPlain message = Unit {0}
@@ -69,7 +69,7 @@ module _ (v : Bool) (ts : List Token) (fit : AreWordsFit v (kinds_of ts)) where
   IsPlain opening = Unit {0}
   IsPlain closing = Unit {0}
 
-  abbrev ArePlain : List Sym → Type 0
+  abbrev ArePlain : List HeadingSym → Type 0
   ArePlain [] = Unit {0}
   ArePlain (s ∷ ss) = IsPlain s × ArePlain ss
 
@@ -84,7 +84,7 @@ module _ (v : Bool) (ts : List Token) (fit : AreWordsFit v (kinds_of ts)) where
       go (inr (inl e)) = absurd cc
       go (inr (inr e)) = absurd cc
 
-  item_once : (s : Sym) (i j k : ℕ) (x y : Value s) → IsPlain s → IsItem v s x → IsItem v s y → AreTokensOf ts i (item_pieces s x []) j → AreTokensOf ts i (item_pieces s y []) k → (x ≡ y) × (j ≡ k)
+  item_once : (s : HeadingSym) (i j k : ℕ) (x y : Value s) → IsPlain s → IsItem v s x → IsItem v s y → AreTokensOf ts i (item_pieces s x []) j → AreTokensOf ts i (item_pieces s y []) k → (x ≡ y) × (j ≡ k)
   item_once (token w) i j k x y p a b f g = (refl, sym f.5 ∙ g.5)
   item_once name i j k x y p a b f g =
       let e : K.Word x.word ≡ K.Word y.word = one_kind i f.2.0 g.2.0 f.2.1 g.2.1 (K.Word x.word) (K.Word y.word) f.2.2 g.2.2 f.2.3 g.2.3 in
@@ -98,7 +98,7 @@ module _ (v : Bool) (ts : List Token) (fit : AreWordsFit v (kinds_of ts)) where
   item_once opening i j k x y p a b f g = (sym f.1 ∙ g.1, sym f.2 ∙ g.2)
   item_once closing i j k x y p a b f g = (sym f.0 ∙ g.0, sym f.1 ∙ g.1)
 
-  pub row_once : (ss : List Sym) (i j k : ℕ) (xs ys : Values ss) → ArePlain ss → AreItems v ss xs → AreItems v ss ys → AreTokensOf ts i (row_pieces ss xs []) j → AreTokensOf ts i (row_pieces ss ys []) k → (xs ≡ ys) × (j ≡ k)
+  pub row_once : (ss : List HeadingSym) (i j k : ℕ) (xs ys : Values ss) → ArePlain ss → AreItems v ss xs → AreItems v ss ys → AreTokensOf ts i (row_pieces ss xs []) j → AreTokensOf ts i (row_pieces ss ys []) k → (xs ≡ ys) × (j ≡ k)
   row_once [] i j k xs ys p a b f g = (refl, sym f ∙ g)
   row_once (s ∷ ss) i j k xs ys p a b f g =
       let c = stands_cut ts (item_pieces s xs.0 []) (row_pieces ss xs.1 []) i j (subst (λ (l : List Piece). AreTokensOf ts i l j) (item_behind s xs.0 (row_pieces ss xs.1 [])) f) in
@@ -187,7 +187,7 @@ module _ (v : Bool) (ts : List Token) (fit : AreWordsFit v (kinds_of ts)) where
       let three : (z : Values tail_row) → n.Line = λ z. n.local (record { from = s'.from; to = z.1.0 }) w' x' in
       (ap one head.0 ∙ ap two form.0 ∙ ap three tail.0, tail.1)
 
-  abbrev whole_row : List Sym
+  abbrev whole_row : List HeadingSym
   whole_row = opening ∷ name ∷ pass_row
 
   abbrev whole_values : Span → SWord → SWord → SWord → t.Msg → SWord → Values whole_row

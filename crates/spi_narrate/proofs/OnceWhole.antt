@@ -18,7 +18,7 @@ use Rattle.spi_parts.proofs.Behind.{decl_behind}
 use Rattle.spi_heading.specs.Headings as h
 use Rattle.spi_heading.specs.Each.{each_pieces}
 use Rattle.spi_heading.specs.Grammar.{shared_word, shared_pieces, IsShared, BeginsDecl, BeginsShared}
-use Rattle.spi_heading.specs.Spans.{start_of, end_before}
+use Rattle.spi_heading.specs.Spans.{start_of_token, end_before}
 use Rattle.spi_heading.specs.Taking.{IsThere, version_word}
 use Rattle.spi_heading.proofs.Standing.{AreTokensOf, unfound, standing, stands_kinds}
 use Rattle.spi_heading.proofs.Rows.{row_pieces}
@@ -29,7 +29,7 @@ use Rattle.spi_narrate.specs.Grammar.{line_pieces, IsLine, comma_pieces, whole_r
 use Rattle.spi_narrate.specs.Reads.{IsNarrationSpelled}
 use Rattle.spi_narrate.proofs.LineRows.{line_behind}
 use Rattle.spi_narrate.proofs.RoleRows.{roles_head, semicolon_row, roles_are, comma_behind}
-use Rattle.spi_narrate.proofs.Whole.{body_pieces, body_are}
+use Rattle.spi_narrate.proofs.Whole.{narration_body, body_are}
 use Rattle.spi_narrate.proofs.Once.{row_once, decl_once, shared_once, comma_once, line_once, each_once}
 
 module _ (ts : List Token) where
@@ -91,7 +91,7 @@ module _ (ts : List Token) where
   no_comma j k f b = let e : K.Mark mark.Semicolon ≡ K.Mark mark.Comma = kind_there j f.0 f.1 (K.Mark mark.Semicolon) (K.Mark mark.Comma) f.2 f.3 b in cc
 
   -- a text that begins with its version has no body in front
-  no_version : (ds : List t.Declared) (ss : List h.Shared) (ws : List SWord) (ls : List n.Line) (j k : ℕ) → HasRole ws → AreTokensOf ts j (body_pieces ds ss ws ls) k → IsThere ts j version_word → ⊥
+  no_version : (ds : List t.Declared) (ss : List h.Shared) (ws : List SWord) (ls : List n.Line) (j k : ℕ) → HasRole ws → AreTokensOf ts j (narration_body ds ss ws ls) k → IsThere ts j version_word → ⊥
   no_version [] ss ws ls j k has f there = go (shared_or_roles ss ws ls j k has f)
     where
       go : IsThere ts j shared_word ⊎ IsThere ts j (K.Word (codes "roles")) → ⊥
@@ -107,8 +107,8 @@ module _ (ts : List Token) where
       pub shared : AllByRecursion (IsShared v) x.shared
       pub roles : HasRole x.roles
       pub lines : AllByRecursion (IsLine v) x.lines
-      pub stands : AreTokensOf ts i (body_pieces x.decls x.shared x.roles x.lines) (length ts)
-      pub from : start_of ts 0 ≡ x.span.from
+      pub stands : AreTokensOf ts i (narration_body x.decls x.shared x.roles x.lines) (length ts)
+      pub from : start_of_token ts 0 ≡ x.span.from
       pub to : end_before ts (length ts) ≡ x.span.to
 
   module _ (v : Bool) (fit : AreWordsFit v (kinds_of ts)) where
@@ -168,7 +168,7 @@ module _ (ts : List Token) where
   of_version v x = record { span = x.span; version = v; decls = x.decls; shared = x.shared; roles = x.roles; lines = x.lines }
 
   abbrev body_of : n.Narration → List Piece
-  body_of x = body_pieces x.decls x.shared x.roles x.lines
+  body_of x = narration_body x.decls x.shared x.roles x.lines
 
   -- the parts and the end of the whole
   ended : (x : n.Narration) (i : ℕ) → AreTokensOf ts i (body_of x ++ closes x.span.to ∷ []) (length ts) → AreTokensOf ts i (body_of x) (length ts) × (end_before ts (length ts) ≡ x.span.to)

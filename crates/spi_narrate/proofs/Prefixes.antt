@@ -16,10 +16,10 @@ use Rattle.spi_parse.specs.Formed.{whole_message, IsWholeMessage}
 use Rattle.spi_parse.specs.Exact as exact
 use Rattle.spi_grammar.specs.Exactly.{kinds, IsGoodKind}
 use Rattle.spi_parts.proofs.Bridge.{OfPieces}
-use Rattle.spi_heading.specs.Spans.{start_of, end_before, span_over}
+use Rattle.spi_heading.specs.Spans.{start_of_token, end_before, span_over}
 use Rattle.spi_heading.specs.Taking.{IsThere}
 use Rattle.spi_heading.proofs.Failing.{IsToldBy, fails_to}
-use Rattle.spi_heading.proofs.Symbols.{Sym, token, name, message, ty, closing, the_mark, the_reserved}
+use Rattle.spi_heading.proofs.Symbols.{HeadingSym, token, name, message, ty, closing, the_mark, the_reserved}
 use Rattle.spi_heading.proofs.Rows.{Values, Row, row_pieces, row_into, row_behind, RowAt}
 use Rattle.spi_heading.proofs.Standing.{AreTokensOf, IsSolid}
 use Rattle.spi_heading.proofs.Calls.{part_stands, there_within}
@@ -33,50 +33,50 @@ use Rattle.spi_narrate.specs.Narrations as n
 use Rattle.spi_narrate.specs.Grammar.{prefix_pieces, whole_prefix, IsPrefix, IsWholePrefix}
 
 -- the row of a form: a node that begins with the reserved word
-abbrev pub form : Reserved → List Sym → List Sym
-form w ss = node_row (the_reserved w) ss
+abbrev pub form_row : Reserved → List HeadingSym → List HeadingSym
+form_row w ss = node_row (the_reserved w) ss
 
-abbrev pub split_rest : List Sym
+abbrev pub split_rest : List HeadingSym
 split_rest = message ∷ token (the_reserved word.Is) ∷ token (the_mark mark.ParenOpen) ∷ name ∷ token (the_mark mark.Colon) ∷ ty ∷ token (the_mark mark.Comma) ∷ name ∷ token (the_mark mark.Colon) ∷ ty ∷ token (the_mark mark.ParenClose) ∷ closing ∷ []
 
-abbrev pub split_row : List Sym
-split_row = form word.Split split_rest
+abbrev pub split_row : List HeadingSym
+split_row = form_row word.Split split_rest
 
-abbrev pub match_rest : List Sym
+abbrev pub match_rest : List HeadingSym
 match_rest = message ∷ token (the_reserved word.Is) ∷ token (the_mark mark.ParenOpen) ∷ name ∷ token (the_mark mark.Colon) ∷ ty ∷ token (the_mark mark.Equals) ∷ message ∷ token (the_mark mark.Comma) ∷ name ∷ token (the_mark mark.Colon) ∷ ty ∷ token (the_mark mark.ParenClose) ∷ closing ∷ []
 
-abbrev pub match_row : List Sym
-match_row = form word.Match match_rest
+abbrev pub match_row : List HeadingSym
+match_row = form_row word.Match match_rest
 
-abbrev pub decrypt_rest : List Sym
+abbrev pub decrypt_rest : List HeadingSym
 decrypt_rest = message ∷ token (the_reserved word.Is) ∷ token (the_mark mark.BraceOpen) ∷ name ∷ token (the_mark mark.Colon) ∷ ty ∷ token (the_mark mark.BraceClose) ∷ message ∷ closing ∷ []
 
-abbrev pub decrypt_row : List Sym
-decrypt_row = form word.Decrypt decrypt_rest
+abbrev pub decrypt_row : List HeadingSym
+decrypt_row = form_row word.Decrypt decrypt_rest
 
-abbrev pub check_rest : List Sym
+abbrev pub check_rest : List HeadingSym
 check_rest = message ∷ token (the_reserved word.Is) ∷ message ∷ closing ∷ []
 
-abbrev pub check_row : List Sym
-check_row = form word.Check check_rest
+abbrev pub check_row : List HeadingSym
+check_row = form_row word.Check check_rest
 
-abbrev pub label_rest : List Sym
+abbrev pub label_rest : List HeadingSym
 label_rest = message ∷ closing ∷ []
 
-abbrev pub label_row : Reserved → List Sym
-label_row w = form w label_rest
+abbrev pub label_row : Reserved → List HeadingSym
+label_row w = form_row w label_rest
 
-abbrev pub cast_rest : List Sym
+abbrev pub cast_rest : List HeadingSym
 cast_rest = message ∷ token (the_reserved word.Is) ∷ token (the_mark mark.ParenOpen) ∷ name ∷ token (the_mark mark.Colon) ∷ ty ∷ token (the_mark mark.ParenClose) ∷ closing ∷ []
 
-abbrev pub cast_row : List Sym
-cast_row = form word.Cast cast_rest
+abbrev pub cast_row : List HeadingSym
+cast_row = form_row word.Cast cast_rest
 
-abbrev pub new_rest : List Sym
+abbrev pub new_rest : List HeadingSym
 new_rest = token (the_mark mark.ParenOpen) ∷ name ∷ token (the_mark mark.Colon) ∷ ty ∷ token (the_mark mark.ParenClose) ∷ closing ∷ []
 
-abbrev pub new_row : List Sym
-new_row = form word.New new_rest
+abbrev pub new_row : List HeadingSym
+new_row = form_row word.New new_rest
 
 module _ (v : Bool) where
   abbrev pub Prefixes : List (Kind × Bool) → Type 0
@@ -228,15 +228,15 @@ module _ (v : Bool) where
 
   -- ---- the answers of the readers of forms
 
-  pub prefix_reads : (ts : List Token) (i : ℕ) → AreWordsFit v (kinds_of ts) → (x : Span → n.Prefix) (s : Span) (j : ℕ) → s ≡ span_over ts i j → IsPrefix v (x (span_over ts i j)) → (row : List Sym) (xs : Values row) → whole_prefix (x (span_over ts i j)) ≡ row_pieces row xs []
+  pub prefix_reads : (ts : List Token) (i : ℕ) → AreWordsFit v (kinds_of ts) → (x : Span → n.Prefix) (s : Span) (j : ℕ) → s ≡ span_over ts i j → IsPrefix v (x (span_over ts i j)) → (row : List HeadingSym) (xs : Values row) → whole_prefix (x (span_over ts i j)) ≡ row_pieces row xs []
       → RowAt v ts i row xs j → (m : ℕ) × (j ≡ i + m) × exact.IsPartAt whole_prefix (IsWholePrefix v) (x s) (drop i ts) m
   prefix_reads ts i = node_reads v whole_prefix (IsPrefix v) (λ x. prefix_solid x []) prefixes_good.closed ts i
 
   module _ (ts : List Token) (i : ℕ) where
     pub label_reads : AreWordsFit v (kinds_of ts) → (x : Span → n.Prefix) (s : Span) (j : ℕ) → s ≡ span_over ts i j → (w : Reserved) → IsThere ts i (K.Reserved w) → (m : t.Msg) → (h : (k : ℕ) × (j ≡ (i + 1) + k) × exact.IsPartAt whole_message (IsWholeMessage v) m (drop (i + 1) ts) k)
-        → IsPrefix v (x (span_over ts i j)) → whole_prefix (x (span_over ts i j)) ≡ row_pieces (label_row w) (start_of ts i, (tt, (m, (end_before ts j, tt)))) [] → (k : ℕ) × (j ≡ i + k) × exact.IsPartAt whole_prefix (IsWholePrefix v) (x s) (drop i ts) k
+        → IsPrefix v (x (span_over ts i j)) → whole_prefix (x (span_over ts i j)) ≡ row_pieces (label_row w) (start_of_token ts i, (tt, (m, (end_before ts j, tt)))) [] → (k : ℕ) × (j ≡ i + k) × exact.IsPartAt whole_prefix (IsWholePrefix v) (x s) (drop i ts) k
     label_reads fit x s j spans w there m h formed are =
-        prefix_reads ts i fit x s j spans formed (label_row w) (start_of ts i, (tt, (m, (end_before ts j, tt)))) are
+        prefix_reads ts i fit x s j spans formed (label_row w) (start_of_token ts i, (tt, (m, (end_before ts j, tt)))) are
         (ended (then_closing (then_message (begun_node v ts i fit (the_reserved w) label_rest there) m j (there_within ts i (K.Reserved w) there) h)))
 
 -- a prefix that is read, where it stands

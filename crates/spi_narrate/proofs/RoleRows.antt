@@ -19,11 +19,11 @@ use Rattle.spi_grammar.proofs.Answers.{good_both}
 use Rattle.spi_grammar.proofs.Good.{IsSome, Differ, good_many}
 use Rattle.spi_parts.proofs.Alone.{kinds_in_append}
 use Rattle.spi_parts.proofs.Bridge.{OfPieces}
-use Rattle.spi_heading.specs.Taking.{IsThere, Takes, TakesWord}
+use Rattle.spi_heading.specs.Taking.{IsThere, TakesOneToken, TakesWord}
 use Rattle.spi_heading.specs.Each.{each_pieces, IsWhole}
 use Rattle.spi_heading.proofs.Standing.{AreTokensOf, IsSolid, stands_both}
 use Rattle.spi_heading.proofs.Failing.{FailsAt, same_fail, first_fail, second_fail, fails_to}
-use Rattle.spi_heading.proofs.Symbols.{cells_append, Sym, token, name, the_mark, the_word, roles}
+use Rattle.spi_heading.proofs.Symbols.{cells_append, HeadingSym, token, name, the_mark, the_word, roles}
 use Rattle.spi_heading.proofs.Versions.{Cells}
 use Rattle.spi_heading.proofs.Rows.{Row, row_good, row_pieces, row_into, row_from, row_read, RowAt, RowFails, row_end, row_more, fits_at}
 use Rattle.spi_heading.proofs.Calls.{part_at, took, took_word}
@@ -31,13 +31,13 @@ use Rattle.spi_heading.proofs.Each.{Along, along_rest, each_behind, one_read}
 use Rattle.spi_heading.proofs.Manys.{part_fail, more_fail, last_fail, both_fit, many_from, many_into}
 use Rattle.spi_narrate.specs.Grammar.{comma_pieces, roles_pieces, IsAnyWord, HasRole, whole_roles, AreWholeRoles}
 
-abbrev pub roles_head : List Sym
+abbrev pub roles_head : List HeadingSym
 roles_head = token (the_word roles) ∷ name ∷ []
 
-abbrev pub comma_row : List Sym
+abbrev pub comma_row : List HeadingSym
 comma_row = token (the_mark mark.Comma) ∷ name ∷ []
 
-abbrev pub semicolon_row : List Sym
+abbrev pub semicolon_row : List HeadingSym
 semicolon_row = token (the_mark mark.Semicolon) ∷ []
 
 pub comma_behind : (w : SWord) (r : List Piece) → comma_pieces w r ≡ comma_pieces w [] ++ r
@@ -157,7 +157,7 @@ module _ (v : Bool) where
 
   -- ---- roles at a place of a text
 
-  pub roles_head_at : (ts : List Token) (i j k : ℕ) (w : SWord) → Takes (K.Word (codes "roles")) (Ok j) ts i → TakesWord (Ok (w, k)) ts j → RowAt v ts i roles_head (tt, (w, tt)) k
+  pub roles_head_at : (ts : List Token) (i j k : ℕ) (w : SWord) → TakesOneToken (K.Word (codes "roles")) (Ok j) ts i → TakesWord (Ok (w, k)) ts j → RowAt v ts i roles_head (tt, (w, tt)) k
   roles_head_at ts i j k w h g =
       row_more v ts i j k (token (the_word roles)) (name ∷ []) tt (w, tt) (took v ts i j (the_word roles) h)
       (row_more v ts j k k name [] w tt (took_word v ts j (w, k) g) (row_end v ts k))

@@ -24,7 +24,7 @@ use Rattle.spi_heading.proofs.Rows.{fits_at, stands_read}
 use Rattle.spi_heading.proofs.Calls.{part_stands, part_within}
 use Rattle.spi_heading.proofs.Each.{Along}
 use Rattle.spi_heading.proofs.Names.{shared_behind}
-use Rattle.spi_heading.proofs.Wholes.{WholeFails, Rest, rest_next, rest_fails, whole_fails}
+use Rattle.spi_heading.proofs.Wholes.{WholeFails, RestOfWhole, rest_next, rest_fails, whole_fails}
 use Rattle.spi_narrate.specs.Narrations as n
 use Rattle.spi_narrate.specs.Grammar.{line_pieces, IsLine, whole_roles, AreWholeRoles, HasRole, whole_narration, IsNarration}
 use Rattle.spi_narrate.specs.Reads.{IsNarrationSpelled, ParsesNarration}
@@ -32,7 +32,7 @@ use Rattle.spi_heading.proofs.Lasts.{last_answer}
 use Rattle.spi_narrate.proofs.LineRows.{lines_good, line_behind, line_solids}
 use Rattle.spi_narrate.proofs.RoleRows.{Roles, roles_good}
 use Rattle.spi_heading.proofs.Versions.{version_row_at, version_fits, version_known}
-use Rattle.spi_narrate.proofs.Whole.{body_pieces, body_are, LinesOn, RolesOn, Narrations, lines_some, lines_live, version_are}
+use Rattle.spi_narrate.proofs.Whole.{narration_body, body_are, LinesOn, RolesOn, Narrations, lines_some, lines_live, version_are}
 
 -- ---- what stands behind the shared names
 
@@ -45,20 +45,20 @@ roles_read v ts w ws i j within r = (
 )
 
 module _ (v : Bool) (ts : List Token) (fit : AreWordsFit v (kinds_of ts)) where
-  pub roles_fault : (i : ℕ) → Rest Narrations (RolesOn v) ts i → (f : ParseFault) → FailsAt (Roles v) ts i f → WholeFails Narrations ts f
+  pub roles_fault : (i : ℕ) → RestOfWhole Narrations (RolesOn v) ts i → (f : ParseFault) → FailsAt (Roles v) ts i f → WholeFails Narrations ts f
   roles_fault i r f e = rest_fails Narrations (Roles v) (LinesOn v) ts i f r (roles_good v) (lines_live v) e
 
-  after_roles : (ws : List SWord) (i j : ℕ) → HasRole ws → AreTokensOf ts i (whole_roles ws) j → Rest Narrations (RolesOn v) ts i → Rest Narrations (LinesOn v) ts j
+  after_roles : (ws : List SWord) (i j : ℕ) → HasRole ws → AreTokensOf ts i (whole_roles ws) j → RestOfWhole Narrations (RolesOn v) ts i → RestOfWhole Narrations (LinesOn v) ts j
   after_roles ws i j has stands r =
       rest_next Narrations (Roles v) (LinesOn v) ts i j r (roles_good v) (stands_read (Roles v) (roles_good v) ts (whole_roles ws) i j (of_piece whole_roles (AreWholeRoles v) ws (has, fits_at v ts (whole_roles ws) i j fit stands)) stands)
 
   -- roles that are read, and lines that are not
-  pub lines_answer : (w : SWord) (ws : List SWord) (i j : ℕ) → j ≤ length ts → AreTokensOf ts i (whole_roles (w ∷ ws)) j → Rest Narrations (RolesOn v) ts i → (f : ParseFault)
+  pub lines_answer : (w : SWord) (ws : List SWord) (i j : ℕ) → j ≤ length ts → AreTokensOf ts i (whole_roles (w ∷ ws)) j → RestOfWhole Narrations (RolesOn v) ts i → (f : ParseFault)
       → ReadsEach (λ (ls : List n.Line). ls) line_pieces v (IsLine v) (λ ts i. i < length ts) (Err f) ts j → WholeFails Narrations ts f
   lines_answer w ws i j within stands r f e = last_answer line_pieces line_behind line_solids v (IsLine v) (lines_good v) (lines_some v) Narrations ts fit j within (after_roles (w ∷ ws) i j (w, ws, refl) stands r) f e
 
   body_stands : (ds : List t.Declared) (ss : List h.Shared) (ws : List SWord) (ls : List n.Line) (i j k l m : ℕ) → Along decl_pieces decl_behind (IsDeclared v) ts i ds j → Along shared_pieces shared_behind (IsShared v) ts j ss k
-      → AreTokensOf ts k (whole_roles ws) l → Along line_pieces line_behind (IsLine v) ts l ls m → AreTokensOf ts i (body_pieces ds ss ws ls) m
+      → AreTokensOf ts k (whole_roles ws) l → Along line_pieces line_behind (IsLine v) ts l ls m → AreTokensOf ts i (narration_body ds ss ws ls) m
   body_stands ds ss ws ls i j k l m a b c d =
       stands_both ts (each_pieces decl_pieces ds []) (each_pieces shared_pieces ss [] ++ (whole_roles ws ++ each_pieces line_pieces ls [])) i j m a.stands
       (stands_both ts (each_pieces shared_pieces ss []) (whole_roles ws ++ each_pieces line_pieces ls []) j k m b.stands
@@ -72,21 +72,21 @@ module _ (ts : List Token) (some : 0 < length ts) (s : Span) (spans : s ≡ span
   spell : (x : n.Narration) → AreTokensOf ts 0 (whole_narration x) (length ts) → exact.Spells [] 0 (whole_narration x) ts
   spell x h = subst (λ (l : List Token). exact.Spells l 0 (whole_narration x) ts) (drop-length ts) (spelled ts (whole_narration x) 0 (length ts) h)
 
-  whole_stands : (ds : List t.Declared) (ss : List h.Shared) (ws : List SWord) (ls : List n.Line) (r : ℕ × ℕ) → ReadsVersion (Ok r) ts → AreTokensOf ts r.1 (body_pieces ds ss ws ls ++ closes s.to ∷ []) (length ts)
+  whole_stands : (ds : List t.Declared) (ss : List h.Shared) (ws : List SWord) (ls : List n.Line) (r : ℕ × ℕ) → ReadsVersion (Ok r) ts → AreTokensOf ts r.1 (narration_body ds ss ws ls ++ closes s.to ∷ []) (length ts)
       → AreTokensOf ts 0 (whole_narration (record { span = s; version = r.0; decls = ds; shared = ss; roles = ws; lines = ls })) (length ts)
   whole_stands ds ss ws ls r (inl h) body =
       subst (λ (n : ℕ). AreTokensOf ts 0 (whole_narration (record { span = s; version = n; decls = ds; shared = ss; roles = ws; lines = ls })) (length ts)) (sym h.0) (
         some,
         ap (λ (y : Span). y.from) (sym spans),
         subst (λ (l : List Piece). AreTokensOf ts 0 (version_are ++ l) (length ts)) (sym (body_are ds ss ws ls (closes s.to ∷ [])))
-            (stands_both ts version_are (body_pieces ds ss ws ls ++ closes s.to ∷ []) 0 3 (length ts) (version_row_at false ts h.2 h.3 h.4).stands (subst (λ (n : ℕ). AreTokensOf ts n (body_pieces ds ss ws ls ++ closes s.to ∷ []) (length ts)) h.1 body)),
+            (stands_both ts version_are (narration_body ds ss ws ls ++ closes s.to ∷ []) 0 3 (length ts) (version_row_at false ts h.2 h.3 h.4).stands (subst (λ (n : ℕ). AreTokensOf ts n (narration_body ds ss ws ls ++ closes s.to ∷ []) (length ts)) h.1 body)),
       )
   whole_stands ds ss ws ls r (inr h) body =
       subst (λ (n : ℕ). AreTokensOf ts 0 (whole_narration (record { span = s; version = n; decls = ds; shared = ss; roles = ws; lines = ls })) (length ts)) (sym h.0) (
         some,
         ap (λ (y : Span). y.from) (sym spans),
         subst (λ (l : List Piece). AreTokensOf ts 0 l (length ts)) (sym (body_are ds ss ws ls (closes s.to ∷ [])))
-            (subst (λ (n : ℕ). AreTokensOf ts n (body_pieces ds ss ws ls ++ closes s.to ∷ []) (length ts)) h.1 body),
+            (subst (λ (n : ℕ). AreTokensOf ts n (narration_body ds ss ws ls ++ closes s.to ∷ []) (length ts)) h.1 body),
       )
 
   pub narration_read : (fit : AreWordsFit (is_version_2 (kinds_of ts)) (kinds_of ts)) (r : ℕ × ℕ) (vr : ReadsVersion (Ok r) ts) (ds : List t.Declared) (ss : List h.Shared) (w : SWord) (ws : List SWord) (ls : List n.Line) (j k l : ℕ)
@@ -107,8 +107,8 @@ module _ (ts : List Token) (some : 0 < length ts) (s : Span) (spans : s ≡ span
       x : n.Narration
       x = record { span = s; version = r.0; decls = ds; shared = ss; roles = w ∷ ws; lines = ls }
 
-      body : AreTokensOf ts r.1 (body_pieces ds ss (w ∷ ws) ls ++ closes s.to ∷ []) (length ts)
-      body = closes_at (body_pieces ds ss (w ∷ ws) ls) r.1 (body_stands (r.0 == 2) ts (version_fits ts fit r vr) ds ss (w ∷ ws) ls r.1 j k l (length ts) a b c d)
+      body : AreTokensOf ts r.1 (narration_body ds ss (w ∷ ws) ls ++ closes s.to ∷ []) (length ts)
+      body = closes_at (narration_body ds ss (w ∷ ws) ls) r.1 (body_stands (r.0 == 2) ts (version_fits ts fit r vr) ds ss (w ∷ ws) ls r.1 j k l (length ts) a b c d)
 
       stands : AreTokensOf ts 0 (whole_narration x) (length ts)
       stands = whole_stands ds ss (w ∷ ws) ls r vr body

@@ -26,18 +26,18 @@ use Rattle.spi_heading.proofs.Rows.{row_pieces, row_into, row_from}
 use Rattle.spi_heading.proofs.Each.{each_behind}
 use Rattle.spi_heading.proofs.Names.{shared_behind}
 use Rattle.spi_heading.proofs.Manys.{both_fit, both_cells, many_from, each_into, each_shows, last_into, last_shows}
-use Rattle.spi_heading.proofs.Versions.{version_row, Cells, Later}
-use Rattle.spi_heading.proofs.Fronts.{BeginsFront, NeverFront, SharedFront, Front, IsHeaded}
+use Rattle.spi_heading.proofs.Versions.{version_row, Cells, InLaterVersion}
+use Rattle.spi_heading.proofs.Fronts.{BeginsFront, NeverFront, SharedFront, Front, IsFrontOf}
 use Rattle.spi_narrate.specs.Narrations as n
 use Rattle.spi_narrate.specs.Grammar.{line_pieces, IsLine, roles_pieces, whole_roles, HasRole, whole_narration, IsNarration}
 use Rattle.spi_narrate.proofs.LineRows.{Lines, line_behind, line_first}
 use Rattle.spi_narrate.proofs.RoleRows.{Roles, roles_good, roles_first, roles_behind}
 
 -- what stands behind the version
-abbrev pub body_pieces : List t.Declared → List h.Shared → List SWord → List n.Line → List Piece
-body_pieces ds ss ws ls = each_pieces decl_pieces ds [] ++ (each_pieces shared_pieces ss [] ++ (whole_roles ws ++ each_pieces line_pieces ls []))
+abbrev pub narration_body : List t.Declared → List h.Shared → List SWord → List n.Line → List Piece
+narration_body ds ss ws ls = each_pieces decl_pieces ds [] ++ (each_pieces shared_pieces ss [] ++ (whole_roles ws ++ each_pieces line_pieces ls []))
 
-pub body_are : (ds : List t.Declared) (ss : List h.Shared) (ws : List SWord) (ls : List n.Line) (r : List Piece) → each_pieces decl_pieces ds (each_pieces shared_pieces ss (roles_pieces ws (each_pieces line_pieces ls r))) ≡ body_pieces ds ss ws ls ++ r
+pub body_are : (ds : List t.Declared) (ss : List h.Shared) (ws : List SWord) (ls : List n.Line) (r : List Piece) → each_pieces decl_pieces ds (each_pieces shared_pieces ss (roles_pieces ws (each_pieces line_pieces ls r))) ≡ narration_body ds ss ws ls ++ r
 body_are ds ss ws ls r =
     let lines = each_pieces line_pieces ls [] in
     let roles_ = whole_roles ws in
@@ -102,8 +102,8 @@ module _ (v : Bool) where
     pub shared_are : AllByRecursion (IsShared v) shared
     pub has_role : HasRole roles
     pub lines_are : AllByRecursion (IsLine v) lines
-    pub fit : AreWordsFit v (kinds_in (body_pieces decls shared roles lines))
-    pub shows : cells (body_pieces decls shared roles lines) ≡ cs
+    pub fit : AreWordsFit v (kinds_in (narration_body decls shared roles lines))
+    pub shows : cells (narration_body decls shared roles lines) ≡ cs
 
   pub body_from : (cs : Cells) → Front v RolesOn cs → FromBody cs
   body_from cs b =
@@ -143,7 +143,7 @@ module _ (v : Bool) where
       }
 
   pub body_into : (ds : List t.Declared) (ss : List h.Shared) (ws : List SWord) (ls : List n.Line) → AllByRecursion (IsDeclared v) ds → AllByRecursion (IsShared v) ss → HasRole ws → AllByRecursion (IsLine v) ls
-      → AreWordsFit v (kinds_in (body_pieces ds ss ws ls)) → Front v RolesOn (cells (body_pieces ds ss ws ls))
+      → AreWordsFit v (kinds_in (narration_body ds ss ws ls)) → Front v RolesOn (cells (narration_body ds ss ws ls))
   body_into ds ss ws ls hd hs hw hl fit =
       let tail = whole_roles ws ++ each_pieces line_pieces ls [] in
       each_into decl_pieces decl_behind v (IsDeclared v) (SharedFront v RolesOn) ds hd (each_pieces shared_pieces ss [] ++ tail) fit (λ f. each_into shared_pieces shared_behind v (IsShared v) RolesOn ss hs tail f (λ g. roles_into ws ls hw hl g))
@@ -153,19 +153,19 @@ module _ (v : Bool) where
 abbrev pub Narrations : Cells → Type 0
 Narrations = OfPieces whole_narration IsNarration
 
-abbrev Fronts : Bool → Cells → Type 0
-Fronts v = Front v (RolesOn v)
+abbrev NarrationFronts : Bool → Cells → Type 0
+NarrationFronts v = Front v (RolesOn v)
 
-abbrev of_version : ℕ → Span → List t.Declared → List h.Shared → List SWord → List n.Line → n.Narration
-of_version v s ds ss ws ls = record { span = s; version = v; decls = ds; shared = ss; roles = ws; lines = ls }
+abbrev narration_of_version : ℕ → Span → List t.Declared → List h.Shared → List SWord → List n.Line → n.Narration
+narration_of_version v s ds ss ws ls = record { span = s; version = v; decls = ds; shared = ss; roles = ws; lines = ls }
 
 abbrev pub version_are : List Piece
 version_are = row_pieces version_row (tt, (tt, (tt, tt))) []
 
-later_pieces : (s : Span) (ds : List t.Declared) (ss : List h.Shared) (ws : List SWord) (ls : List n.Line) → whole_narration (of_version 2 s ds ss ws ls) ≡ opens s.from ∷ (version_are ++ (body_pieces ds ss ws ls ++ closes s.to ∷ []))
+later_pieces : (s : Span) (ds : List t.Declared) (ss : List h.Shared) (ws : List SWord) (ls : List n.Line) → whole_narration (narration_of_version 2 s ds ss ws ls) ≡ opens s.from ∷ (version_are ++ (narration_body ds ss ws ls ++ closes s.to ∷ []))
 later_pieces s ds ss ws ls = ap (λ (l : List Piece). opens s.from ∷ (version_are ++ l)) (body_are ds ss ws ls (closes s.to ∷ []))
 
-first_pieces : (s : Span) (ds : List t.Declared) (ss : List h.Shared) (ws : List SWord) (ls : List n.Line) → whole_narration (of_version 1 s ds ss ws ls) ≡ opens s.from ∷ (body_pieces ds ss ws ls ++ closes s.to ∷ [])
+first_pieces : (s : Span) (ds : List t.Declared) (ss : List h.Shared) (ws : List SWord) (ls : List n.Line) → whole_narration (narration_of_version 1 s ds ss ws ls) ≡ opens s.from ∷ (narration_body ds ss ws ls ++ closes s.to ∷ [])
 first_pieces s ds ss ws ls = ap (λ (l : List Piece). opens s.from ∷ l) (body_are ds ss ws ls (closes s.to ∷ []))
 
 closed_cells : (ps : List Piece) (to : ℕ) → cells (ps ++ closes to ∷ []) ≡ cells ps
@@ -174,15 +174,15 @@ closed_cells ps to = cells_append ps (closes to ∷ []) ∙ append-nil (cells ps
 closed_kinds : (ps : List Piece) (to : ℕ) → kinds_in (ps ++ closes to ∷ []) ≡ kinds_in ps
 closed_kinds ps to = kinds_in_append ps (closes to ∷ []) ∙ append-nil (kinds_in ps)
 
-formed_body : (v : ℕ) (cs : Cells) (b : FromBody (v == 2) cs) → (v ≡ 1) ⊎ (v ≡ 2) → AreWordsFit (v == 2) (kinds_in (whole_narration (of_version v nowhere b.decls b.shared b.roles b.lines))) → IsNarration (of_version v nowhere b.decls b.shared b.roles b.lines)
+formed_body : (v : ℕ) (cs : Cells) (b : FromBody (v == 2) cs) → (v ≡ 1) ⊎ (v ≡ 2) → AreWordsFit (v == 2) (kinds_in (whole_narration (narration_of_version v nowhere b.decls b.shared b.roles b.lines))) → IsNarration (narration_of_version v nowhere b.decls b.shared b.roles b.lines)
 formed_body v cs b known words = record { version = known; decls = b.decls_are; shared = b.shared_are; roles = b.has_role; lines = b.lines_are; words = words }
 
-there : (cs : Cells) → Either (Later Fronts) (Fronts false) cs → Narrations cs
+there : (cs : Cells) → Either (InLaterVersion NarrationFronts) (NarrationFronts false) cs → Narrations cs
 there cs (inl k) =
     let b = body_from true k.right k.two in
     let r = row_from true version_row k.left k.one in
-    let x = of_version 2 nowhere b.decls b.shared b.roles b.lines in
-    let body = body_pieces b.decls b.shared b.roles b.lines in
+    let x = narration_of_version 2 nowhere b.decls b.shared b.roles b.lines in
+    let body = narration_body b.decls b.shared b.roles b.lines in
     let rest = body ++ closes 0 ∷ [] in
     record {
       part = x;
@@ -191,17 +191,17 @@ there cs (inl k) =
     }
 there cs (inr k) =
     let b = body_from false cs k in
-    let x = of_version 1 nowhere b.decls b.shared b.roles b.lines in
-    let body = body_pieces b.decls b.shared b.roles b.lines in
+    let x = narration_of_version 1 nowhere b.decls b.shared b.roles b.lines in
+    let body = narration_body b.decls b.shared b.roles b.lines in
     record {
       part = x;
       is = formed_body 1 cs b (inl refl) (subst (λ (l : List Piece). AreWordsFit false (kinds_in l)) (sym (first_pieces nowhere b.decls b.shared b.roles b.lines)) (subst (AreWordsFit false) (sym (closed_kinds body 0)) b.fit));
       shows = ap cells (first_pieces nowhere b.decls b.shared b.roles b.lines) ∙ closed_cells body 0 ∙ b.shows;
     }
 
-later_back : (s : Span) (ds : List t.Declared) (ss : List h.Shared) (ws : List SWord) (ls : List n.Line) → IsNarration (of_version 2 s ds ss ws ls) → Later Fronts (cells (whole_narration (of_version 2 s ds ss ws ls)))
+later_back : (s : Span) (ds : List t.Declared) (ss : List h.Shared) (ws : List SWord) (ls : List n.Line) → IsNarration (narration_of_version 2 s ds ss ws ls) → InLaterVersion NarrationFronts (cells (whole_narration (narration_of_version 2 s ds ss ws ls)))
 later_back s ds ss ws ls is =
-    let body = body_pieces ds ss ws ls in
+    let body = narration_body ds ss ws ls in
     let rest = body ++ closes s.to ∷ [] in
     let fit = subst (AreWordsFit true) (kinds_in_append version_are rest) (subst (λ (l : List Piece). AreWordsFit true (kinds_in l)) (later_pieces s ds ss ws ls) is.words) in
     record {
@@ -212,21 +212,21 @@ later_back s ds ss ws ls is =
       cells = ap cells (later_pieces s ds ss ws ls) ∙ both_cells version_are rest (cells version_are) (cells body) refl (closed_cells body s.to);
     }
 
-first_back : (s : Span) (ds : List t.Declared) (ss : List h.Shared) (ws : List SWord) (ls : List n.Line) → IsNarration (of_version 1 s ds ss ws ls) → Fronts false (cells (whole_narration (of_version 1 s ds ss ws ls)))
+first_back : (s : Span) (ds : List t.Declared) (ss : List h.Shared) (ws : List SWord) (ls : List n.Line) → IsNarration (narration_of_version 1 s ds ss ws ls) → NarrationFronts false (cells (whole_narration (narration_of_version 1 s ds ss ws ls)))
 first_back s ds ss ws ls is =
-    let body = body_pieces ds ss ws ls in
+    let body = narration_body ds ss ws ls in
     let fit = subst (λ (l : List Piece). AreWordsFit false (kinds_in l)) (first_pieces s ds ss ws ls) is.words in
-    subst (Fronts false) (sym (ap cells (first_pieces s ds ss ws ls) ∙ closed_cells body s.to))
+    subst (NarrationFronts false) (sym (ap cells (first_pieces s ds ss ws ls) ∙ closed_cells body s.to))
     (body_into false ds ss ws ls is.decls is.shared is.roles is.lines (subst (AreWordsFit false) (closed_kinds body s.to) fit))
 
-back : (cs : Cells) → Narrations cs → Either (Later Fronts) (Fronts false) cs
+back : (cs : Cells) → Narrations cs → Either (InLaterVersion NarrationFronts) (NarrationFronts false) cs
 back cs p = go p.part.version p.part.decls p.part.shared p.part.roles p.part.lines p.part.span p.is p.shows p.is.version
   where
-    go : (v : ℕ) (ds : List t.Declared) (ss : List h.Shared) (ws : List SWord) (ls : List n.Line) (s : Span) → IsNarration (of_version v s ds ss ws ls) → cells (whole_narration (of_version v s ds ss ws ls)) ≡ cs → (v ≡ 1) ⊎ (v ≡ 2) → Either (Later Fronts) (Fronts false) cs
+    go : (v : ℕ) (ds : List t.Declared) (ss : List h.Shared) (ws : List SWord) (ls : List n.Line) (s : Span) → IsNarration (narration_of_version v s ds ss ws ls) → cells (whole_narration (narration_of_version v s ds ss ws ls)) ≡ cs → (v ≡ 1) ⊎ (v ≡ 2) → Either (InLaterVersion NarrationFronts) (NarrationFronts false) cs
     go v ds ss ws ls s is e (inl f) =
-        inr (subst (Fronts false) (subst (λ (i : ℕ). cells (whole_narration (of_version i s ds ss ws ls)) ≡ cs) f e) (first_back s ds ss ws ls (subst (λ (i : ℕ). IsNarration (of_version i s ds ss ws ls)) f is)))
+        inr (subst (NarrationFronts false) (subst (λ (i : ℕ). cells (whole_narration (narration_of_version i s ds ss ws ls)) ≡ cs) f e) (first_back s ds ss ws ls (subst (λ (i : ℕ). IsNarration (narration_of_version i s ds ss ws ls)) f is)))
     go v ds ss ws ls s is e (inr f) =
-        inl (subst (Later Fronts) (subst (λ (i : ℕ). cells (whole_narration (of_version i s ds ss ws ls)) ≡ cs) f e) (later_back s ds ss ws ls (subst (λ (i : ℕ). IsNarration (of_version i s ds ss ws ls)) f is)))
+        inl (subst (InLaterVersion NarrationFronts) (subst (λ (i : ℕ). cells (whole_narration (narration_of_version i s ds ss ws ls)) ≡ cs) f e) (later_back s ds ss ws ls (subst (λ (i : ℕ). IsNarration (narration_of_version i s ds ss ws ls)) f is)))
 
-pub narrations_headed : IsHeaded Narrations RolesOn
+pub narrations_headed : IsFrontOf Narrations RolesOn
 narrations_headed = record { same = record { there = there; back = back }; live = roles_live; never = roles_never }

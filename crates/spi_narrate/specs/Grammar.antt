@@ -105,17 +105,17 @@ HasRole ws = (w : SWord) × (more : List SWord) × (ws ≡ w ∷ more)
 abbrev pub whole_narration : n.Narration → List Piece
 whole_narration x = narration_pieces x []
 
-abbrev pub is_later : n.Narration → Bool
-is_later x = x.version == 2
+abbrev pub is_later_narration : n.Narration → Bool
+is_later_narration x = x.version == 2
 
 -- a formed narration
 pub record IsNarration (x : n.Narration) : Type 0 where
   pub version : (x.version ≡ 1) ⊎ (x.version ≡ 2)
-  pub decls : AllByRecursion (IsDeclared (is_later x)) x.decls
-  pub shared : AllByRecursion (IsShared (is_later x)) x.shared
+  pub decls : AllByRecursion (IsDeclared (is_later_narration x)) x.decls
+  pub shared : AllByRecursion (IsShared (is_later_narration x)) x.shared
   pub roles : HasRole x.roles
-  pub lines : AllByRecursion (IsLine (is_later x)) x.lines
-  pub words : AreWordsFit (is_later x) (kinds_in (whole_narration x))
+  pub lines : AllByRecursion (IsLine (is_later_narration x)) x.lines
+  pub words : AreWordsFit (is_later_narration x) (kinds_in (whole_narration x))
 
 -- ---- the parts that stand alone, and the roles with their semicolon
 

@@ -12,10 +12,10 @@ use Rattle.spi_spell.specs.Joined.{with_schedule}
 use Rattle.spi_tree.specs.Trees as t
 use Rattle.spi_narrate.specs.Narrations as n
 use Rattle.spi_weave.specs.Woven.{woven}
-use Rattle.spi_honest.specs.Reading.{Map, value}
-use Rattle.spi_honest.specs.Narrated.{Told, Does, does_split, does_match, does_decrypt, does_check, does_begin, does_end, does_end_many, does_cast, does_new, TellsLine, tells_local, tells_pass, giving, Narrates, narrates_none, narrates_line, AreLinesSmall, NarratesSmall, shown, free_of, at}
+use Rattle.spi_honest.specs.Reading.{Map, value_in_map}
+use Rattle.spi_honest.specs.Narrated.{Told, Does, does_split, does_match, does_decrypt, does_check, does_begin, does_end, does_end_many, does_cast, does_new, TellsLine, tells_local, tells_pass, giving, Narrates, narrates_none, narrates_line, AreLinesSmall, NarratesSmall, shown_by_event, free_of, with_message}
 use Rattle.spi_honest.specs.Roles.{HasChannel, HaveChannels}
-use Rattle.spi_honest.specs.Honest.{IsWrongAt, IsNotReady, IsTooLarge}
+use Rattle.spi_honest.specs.Honest.{LineIsWrongAt, IsNotReady, IsTooLarge}
 use Rattle.spi_narrator.specs.declared.answer.Refusal.{Refusal}
 use Rattle.spi_narrator.specs.Answers.{RefusesNarration, not_free, out_of_scope, not_ready, too_large, IsTold}
 
@@ -29,9 +29,9 @@ same_enc e = (cc, cc)
 
 does_once : {k i j : ℕ} {g more other : Map} {f : n.Prefix} {e d : Option Event} → Does k g f more e i → Does k g f other d j → (more ≡ other) × (e ≡ d) × (i ≡ j)
 does_once (does_split {x = x} {y = y} {a = a} {b = b} p) (does_split {a = c} {b = d} q) =
-    let s = same_pair (sym p ∙ q) in (ap (λ m. at y m ∷ at x a ∷ []) s.1 ∙ ap (λ m. at y d ∷ at x m ∷ []) s.0, refl, refl)
-does_once (does_match {y = y} p u) (does_match q w) = let s = same_pair (sym p ∙ q) in (ap (λ m. at y m ∷ []) s.1, refl, refl)
-does_once (does_decrypt {x = x} p u) (does_decrypt q w) = let s = same_enc (sym p ∙ q) in (ap (λ m. at x m ∷ []) s.0, refl, refl)
+    let s = same_pair (sym p ∙ q) in (ap (λ m. with_message y m ∷ with_message x a ∷ []) s.1 ∙ ap (λ m. with_message y d ∷ with_message x m ∷ []) s.0, refl, refl)
+does_once (does_match {y = y} p u) (does_match q w) = let s = same_pair (sym p ∙ q) in (ap (λ m. with_message y m ∷ []) s.1, refl, refl)
+does_once (does_decrypt {x = x} p u) (does_decrypt q w) = let s = same_enc (sym p ∙ q) in (ap (λ m. with_message x m ∷ []) s.0, refl, refl)
 does_once (does_check p) (does_check q) = (refl, refl, refl)
 does_once does_begin does_begin = (refl, refl, refl)
 does_once does_end does_end = (refl, refl, refl)
@@ -45,8 +45,8 @@ module _ (free : Names) where
   Facts o (n.local s r f) more e p =
       (k : ℕ) × Does o.names (o.has r.word) f more e k × (p ≡ record { names = k; has = giving r.word more o.has })
   Facts o (n.pass s from to c m x) more e p =
-      (more ≡ at x (value (o.has from.word) m) ∷ []) × (e ≡ None)
-      × (p ≡ record { names = o.names; has = giving to.word (at x (value (o.has from.word) m) ∷ []) o.has })
+      (more ≡ with_message x (value_in_map (o.has from.word) m) ∷ []) × (e ≡ None)
+      × (p ≡ record { names = o.names; has = giving to.word (with_message x (value_in_map (o.has from.word) m) ∷ []) o.has })
 
   facts : {o : Told} {l : n.Line} {more : Map} {e : Option Event} {p : Told} → TellsLine free o l more e p → Facts o l more e p
   facts (tells_local {k = k} a) = (k, a, refl)
@@ -69,7 +69,7 @@ module _ (free : Names) where
     pub event : Option Event
     pub then : Told
     pub tells : TellsLine free o l more event then
-    pub few : largest (shown more event) ≤ message_most
+    pub few : largest (shown_by_event more event) ≤ message_most
     pub events : List Event
     pub rest : NarratesSmall free then ls events q
 
@@ -99,16 +99,16 @@ NarrationNeverBoth = (tree : t.File) (file : Meant) (fault : ScopeFault) → Sta
 abbrev pub OneNarrationMeant : Type 0
 OneNarrationMeant = (tree : t.File) (file other : Meant) → StandsFor tree file → StandsFor tree other → file ≡ other
 
-unready : (x : n.Narration) (told : Meant) (i : ℕ) → IsTold x told → IsWrongAt x i (IsNotReady (free_of x)) → ⊥
+unready : (x : n.Narration) (told : Meant) (i : ℕ) → IsTold x told → LineIsWrongAt x i (IsNotReady (free_of x)) → ⊥
 unready x told i is w =
     let next = told_line (free_of x) w.cut w.narrates is.is.narrates in
     w.wrong next.more next.event next.then next.tells
 
-too_big : (x : n.Narration) (told : Meant) (i nodes : ℕ) → IsTold x told → IsWrongAt x i (IsTooLarge (free_of x) nodes) → ⊥
+too_big : (x : n.Narration) (told : Meant) (i nodes : ℕ) → IsTold x told → LineIsWrongAt x i (IsTooLarge (free_of x) nodes) → ⊥
 too_big x told i nodes is w =
     let next = told_line (free_of x) w.cut w.narrates is.is.narrates in
     let same = tells_once (free_of x) w.wrong.tells next.tells in
-    let size = ap largest (ap (λ (m : Map). shown m w.wrong.event) same.0 ∙ ap (λ (e : Option Event). shown next.more e) same.1) in
+    let size = ap largest (ap (λ (m : Map). shown_by_event m w.wrong.event) same.0 ∙ ap (λ (e : Option Event). shown_by_event next.more e) same.1) in
     let large = w.wrong.large in
     let small = next.few in
     absurd (omega (arith, size, large, small))

@@ -5,7 +5,7 @@ use Rattle.spi_infer.proofs.Nodes.{node_of, reached_of, blocks_of, stops_of}
 use Rattle.spi_infer.proofs.Reach.{ReachesNode, reach_root, reach_prefix, reach_first, reach_rest, StopsPaying}
 use Rattle.spi_infer.specs.Forms.{leaf_ok, keep, effect_of}
 use Rattle.spi_message.proofs.Opened.{numbered_leaf}
-use Rattle.spi_origin.proofs.Chosen.{computed_of, own, Chosen, chosen_here, chosen_prefix, chosen_first, chosen_rest}
+use Rattle.spi_origin.proofs.Chosen.{computed_of, is_own, Chosen, chosen_here, chosen_prefix, chosen_first, chosen_rest}
 use Rattle.spi_origin.specs.Gathering.{all_blocking}
 use Rattle.spi_rules.specs.Blocking.{Blocks}
 use Rattle.spi_rules.specs.Environment.{Env}
@@ -14,7 +14,7 @@ use Rattle.spi_term.specs.Term.{Leaf, Process, leaf, prefix, fork}
 leaf_effect : (e : Env) (l : Leaf) (b : Bool) → leaf_ok e l ≡ b → computed_of e (leaf l) ≡ keep b (Some [])
 leaf_effect e l b h = ap (λ q. effect_of q e) (numbered_leaf (length e) l) ∙ ap (λ b. keep b (Some [])) h
 
-own_stops : (e : Env) (p : Process) → own all_blocking e p ≡ true → StopsPaying e p
+own_stops : (e : Env) (p : Process) → is_own all_blocking e p ≡ true → StopsPaying e p
 own_stops e (leaf l) h = has_none e (leaf l) (leaf_effect e l false (not_true (leaf_ok e l) h))
   where
     not_true : (b : Bool) → not b ≡ true → b ≡ false
@@ -27,7 +27,7 @@ by_false : (b : Bool) → (b ≡ false → ⊥) → b ≡ true
 by_false true f = refl
 by_false false f = absurd (f refl)
 
-stops_own : (e : Env) (p : Process) → StopsPaying e p → own all_blocking e p ≡ true
+stops_own : (e : Env) (p : Process) → StopsPaying e p → is_own all_blocking e p ≡ true
 stops_own e (leaf l) h = by (leaf_ok e l) refl
   where
     by : (b : Bool) → leaf_ok e l ≡ b → not (leaf_ok e l) ≡ true

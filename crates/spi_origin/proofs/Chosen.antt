@@ -18,12 +18,12 @@ abbrev pub computed_of : Env → Process → Option Effect
 computed_of e p = effect_of (numbered [] (length e) p) e
 
 -- the node itself is one
-abbrev pub own : Aim → Env → Process → Bool
-own w e (leaf l) = picks w (leaf_at (length e) l) (note_of e (leaf_at (length e) l)) []
-own w e (prefix s p) =
+abbrev pub is_own : Aim → Env → Process → Bool
+is_own w e (leaf l) = picks w (leaf_at (length e) l) (note_of e (leaf_at (length e) l)) []
+is_own w e (prefix s p) =
     let x = prefix_at (length e) s 1 in
     picks w x (note_of e x) (computed_of (e ++ more e s) (enter (binds s) (length e) p) ∷ [])
-own w e (fork f p q) =
+is_own w e (fork f p q) =
     let x = fork_at (length e) f 1 1 in
     picks w x (note_of e x) (computed_of (e ++ on_first f) (enter (fork_binds f) (length e) p) ∷ (computed_of (e ++ on_rest f) (enter (fork_binds f) (length e) q) ∷ []))
 
@@ -31,7 +31,7 @@ abbrev pub KeepsAim : Aim → Env → Process → Type 0
 KeepsAim w e p = keeps w (computed_of e p) ≡ true
 
 pub data Chosen (w : Aim) : Env → Process → ℕ → Type 0 where
-  chosen_here : {e : Env} {p : Process} → KeepsAim w e p → own w e p ≡ true → Chosen w e p 0
+  chosen_here : {e : Env} {p : Process} → KeepsAim w e p → is_own w e p ≡ true → Chosen w e p 0
   chosen_prefix : {e : Env} {s : Prefix} {p : Process} {i : ℕ} → KeepsAim w e (prefix s p) → Chosen w (e ++ more e s) (enter (binds s) (length e) p) i → Chosen w e (prefix s p) (suc i)
   chosen_first : {e : Env} {f : Fork} {p q : Process} {i : ℕ} → KeepsAim w e (fork f p q) → Chosen w (e ++ on_first f) (enter (fork_binds f) (length e) p) i → Chosen w e (fork f p q) (suc i)
   chosen_rest : {e : Env} {f : Fork} {p q : Process} {i j : ℕ} → KeepsAim w e (fork f p q) → Chosen w (e ++ on_rest f) (enter (fork_binds f) (length e) q) i → j ≡ process_size p + i → Chosen w e (fork f p q) (suc j)
@@ -79,57 +79,57 @@ Listed w e p i l = (j : ℕ) → In j l ↔ IsBelowAim w e p i j
 listed_as : {w : Aim} {e : Env} {p : Process} (i : ℕ) {l l' : List ℕ} → l ≡ l' → Listed w e p i l' → Listed w e p i l
 listed_as {w} {e} {p} i f h = subst (Listed w e p i) (sym f) h
 
-leaf_listed : (w : Aim) (e : Env) (l : Leaf) (i : ℕ) → Listed w e (leaf l) i (with_node (keeps w (computed_of e (leaf l))) (own w e (leaf l)) i [])
+leaf_listed : (w : Aim) (e : Env) (l : Leaf) (i : ℕ) → Listed w e (leaf l) i (with_node (keeps w (computed_of e (leaf l))) (is_own w e (leaf l)) i [])
 leaf_listed w e l i j = (to, from)
   where
-    to : In j (with_node (keeps w (computed_of e (leaf l))) (own w e (leaf l)) i []) → IsBelowAim w e (leaf l) i j
+    to : In j (with_node (keeps w (computed_of e (leaf l))) (is_own w e (leaf l)) i []) → IsBelowAim w e (leaf l) i j
     to h =
-        let r = in_with (keeps w (computed_of e (leaf l))) (own w e (leaf l)) i j [] h in
+        let r = in_with (keeps w (computed_of e (leaf l))) (is_own w e (leaf l)) i j [] h in
         ⊎_elim (λ b. (0, omega (arith, b.1), chosen_here r.0 b.0)) (λ k. elim k [ ]) r.1
 
-    at : (m : ℕ) → j ≡ i + m → Chosen w e (leaf l) m → In j (with_node (keeps w (computed_of e (leaf l))) (own w e (leaf l)) i [])
+    at : (m : ℕ) → j ≡ i + m → Chosen w e (leaf l) m → In j (with_node (keeps w (computed_of e (leaf l))) (is_own w e (leaf l)) i [])
     at _ f (chosen_here k b) =
         let z : i ≡ j = omega (arith, f) in
-        subst (λ j. In j (with_node (keeps w (computed_of e (leaf l))) (own w e (leaf l)) i [])) z (with_here (keeps w (computed_of e (leaf l))) (own w e (leaf l)) i [] k b)
+        subst (λ j. In j (with_node (keeps w (computed_of e (leaf l))) (is_own w e (leaf l)) i [])) z (with_here (keeps w (computed_of e (leaf l))) (is_own w e (leaf l)) i [] k b)
 
-    from : IsBelowAim w e (leaf l) i j → In j (with_node (keeps w (computed_of e (leaf l))) (own w e (leaf l)) i [])
+    from : IsBelowAim w e (leaf l) i j → In j (with_node (keeps w (computed_of e (leaf l))) (is_own w e (leaf l)) i [])
     from h = at h.0 h.1 h.2
 
-prefix_listed : (w : Aim) (e : Env) (s : Prefix) (p : Process) (i : ℕ) (inner : List ℕ) → Listed w (e ++ more e s) (enter (binds s) (length e) p) (suc i) inner → Listed w e (prefix s p) i (with_node (keeps w (computed_of e (prefix s p))) (own w e (prefix s p)) i inner)
+prefix_listed : (w : Aim) (e : Env) (s : Prefix) (p : Process) (i : ℕ) (inner : List ℕ) → Listed w (e ++ more e s) (enter (binds s) (length e) p) (suc i) inner → Listed w e (prefix s p) i (with_node (keeps w (computed_of e (prefix s p))) (is_own w e (prefix s p)) i inner)
 prefix_listed w e s p i inner below j = (to, λ h. at h.0 h.1 h.2)
   where
-    to : In j (with_node (keeps w (computed_of e (prefix s p))) (own w e (prefix s p)) i inner) → IsBelowAim w e (prefix s p) i j
+    to : In j (with_node (keeps w (computed_of e (prefix s p))) (is_own w e (prefix s p)) i inner) → IsBelowAim w e (prefix s p) i j
     to h =
-        let r = in_with (keeps w (computed_of e (prefix s p))) (own w e (prefix s p)) i j inner h in
+        let r = in_with (keeps w (computed_of e (prefix s p))) (is_own w e (prefix s p)) i j inner h in
         ⊎_elim (λ b. (0, omega (arith, b.1), chosen_here r.0 b.0)) (λ k. let c = (below j).0 k in (suc c.0, omega (arith, c.1), chosen_prefix r.0 c.2)) r.1
 
-    at : (m : ℕ) → j ≡ i + m → Chosen w e (prefix s p) m → In j (with_node (keeps w (computed_of e (prefix s p))) (own w e (prefix s p)) i inner)
+    at : (m : ℕ) → j ≡ i + m → Chosen w e (prefix s p) m → In j (with_node (keeps w (computed_of e (prefix s p))) (is_own w e (prefix s p)) i inner)
     at _ f (chosen_here k b) =
         let z : i ≡ j = omega (arith, f) in
-        subst (λ j. In j (with_node (keeps w (computed_of e (prefix s p))) (own w e (prefix s p)) i inner)) z (with_here (keeps w (computed_of e (prefix s p))) (own w e (prefix s p)) i inner k b)
+        subst (λ j. In j (with_node (keeps w (computed_of e (prefix s p))) (is_own w e (prefix s p)) i inner)) z (with_here (keeps w (computed_of e (prefix s p))) (is_own w e (prefix s p)) i inner k b)
     at _ f (chosen_prefix {i = m} k c) =
-        with_later (keeps w (computed_of e (prefix s p))) (own w e (prefix s p)) i j inner k ((below j).1 (m, omega (arith, f), c))
+        with_later (keeps w (computed_of e (prefix s p))) (is_own w e (prefix s p)) i j inner k ((below j).1 (m, omega (arith, f), c))
 
 abbrev forked : Aim → Env → Fork → Process → Process → ℕ → List ℕ → List ℕ
-forked w e f p q i l = with_node (keeps w (computed_of e (fork f p q))) (own w e (fork f p q)) i l
+forked w e f p q i l = with_node (keeps w (computed_of e (fork f p q))) (is_own w e (fork f p q)) i l
 
 fork_listed : (w : Aim) (e : Env) (f : Fork) (p q : Process) (i r : ℕ) (a b : List ℕ) → r ≡ suc i + process_size p → Listed w (e ++ on_first f) (enter (fork_binds f) (length e) p) (suc i) a → Listed w (e ++ on_rest f) (enter (fork_binds f) (length e) q) r b
-    → Listed w e (fork f p q) i (with_node (keeps w (computed_of e (fork f p q))) (own w e (fork f p q)) i (a ++ b))
+    → Listed w e (fork f p q) i (with_node (keeps w (computed_of e (fork f p q))) (is_own w e (fork f p q)) i (a ++ b))
 fork_listed w e f p q i r a b n first rest j = (to, λ h. at h.0 h.1 h.2)
   where
     to : In j (forked w e f p q i (a ++ b)) → IsBelowAim w e (fork f p q) i j
     to h =
-        let s = in_with (keeps w (computed_of e (fork f p q))) (own w e (fork f p q)) i j (a ++ b) h in
+        let s = in_with (keeps w (computed_of e (fork f p q))) (is_own w e (fork f p q)) i j (a ++ b) h in
         ⊎_elim (λ b. (0, omega (arith, b.1), chosen_here s.0 b.0)) (λ k. ⊎_elim (λ k. let c = (first j).0 k in (suc c.0, omega (arith, c.1), chosen_first s.0 c.2)) (λ k. let c = (rest j).0 k in (suc (process_size p + c.0), omega (arith, c.1, n), chosen_rest s.0 c.2 refl)) (in_append a k)) s.1
 
     at : (m : ℕ) → j ≡ i + m → Chosen w e (fork f p q) m → In j (forked w e f p q i (a ++ b))
     at _ g (chosen_here k o) =
         let z : i ≡ j = omega (arith, g) in
-        subst (λ j. In j (forked w e f p q i (a ++ b))) z (with_here (keeps w (computed_of e (fork f p q))) (own w e (fork f p q)) i (a ++ b) k o)
+        subst (λ j. In j (forked w e f p q i (a ++ b))) z (with_here (keeps w (computed_of e (fork f p q))) (is_own w e (fork f p q)) i (a ++ b) k o)
     at _ g (chosen_first {i = m} k c) =
-        with_later (keeps w (computed_of e (fork f p q))) (own w e (fork f p q)) i j (a ++ b) k (in_left_of a b ((first j).1 (m, omega (arith, g), c)))
+        with_later (keeps w (computed_of e (fork f p q))) (is_own w e (fork f p q)) i j (a ++ b) k (in_left_of a b ((first j).1 (m, omega (arith, g), c)))
     at _ g (chosen_rest {i = m} k c h) =
-        with_later (keeps w (computed_of e (fork f p q))) (own w e (fork f p q)) i j (a ++ b) k (in_right_of a b ((rest j).1 (m, omega (arith, g, h, n), c)))
+        with_later (keeps w (computed_of e (fork f p q))) (is_own w e (fork f p q)) i j (a ++ b) k (in_right_of a b ((rest j).1 (m, omega (arith, g, h, n), c)))
 
 listed_by : (n : ℕ) (w : Aim) (p : Process) (e : Env) (i : ℕ) → process_size p ≤ n → Listed w e p i (picked w (numbered [] (length e) p) e i)
 listed_by zero w (leaf l) e i h = absurd (omega arith)
@@ -137,7 +137,7 @@ listed_by zero w (prefix s p) e i h = absurd (omega arith)
 listed_by zero w (fork f p q) e i h = absurd (omega arith)
 listed_by (suc n) w (leaf l) e i h =
     let t = numbered_leaf (length e) l in
-    listed_as i (ap (λ q. picked w q e i) t ∙ ap (λ o. with_node (keeps w o) (own w e (leaf l)) i []) (sym (ap (λ q. effect_of q e) t))) (leaf_listed w e l i)
+    listed_as i (ap (λ q. picked w q e i) t ∙ ap (λ o. with_node (keeps w o) (is_own w e (leaf l)) i []) (sym (ap (λ q. effect_of q e) t))) (leaf_listed w e l i)
 listed_by (suc n) w (prefix s p) e i h =
     let e' = e ++ more e s in
     let p' = enter (binds s) (length e) p in

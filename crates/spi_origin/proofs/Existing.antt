@@ -3,7 +3,7 @@ use Rattle.std.proofs.Common.{◌≡◌, refl, sym, ap, ◌∙◌, subst, ℕ, z
 use Rattle.spi_effect.proofs.Made.{minus_difference, greater_is}
 use Rattle.spi_effect.specs.Made.{are_many, minus, greater, mentions}
 use Rattle.spi_infer.proofs.Least.{keep_some, after_some, both_some}
-use Rattle.spi_infer.specs.Forms.{leaf_ok, prefix_ok, fork_ok, paid_by, unless, keep, checked, after, by_effect, by_effects, both, effect_of}
+use Rattle.spi_infer.specs.Forms.{leaf_ok, prefix_ok, fork_ok, paid_by, unless_blocked, keep, checked, after_prefix, by_effect, by_effects, both, effect_of}
 use Rattle.spi_message.proofs.Opened.{numbered_leaf, numbered_prefix, numbered_fork, size_enter}
 use Rattle.spi_message.specs.Forms.{enter, more, on_first, on_rest, cast_effect_of}
 use Rattle.std.specs.Prelude.{nat_lt}
@@ -35,7 +35,7 @@ in_greater a fs gs i =
     by true e m = inl (some_in a fs (ltb-true 0 (count a fs) e))
     by false e m = inr (some_in a gs (let z = ltb-false 0 (count a fs) e in omega (arith, z, m)))
 
-in_unless : (a : Atom) (b : Bool) (fs es : Effect) → unless b fs ≡ Some es → In a es → In a fs
+in_unless : (a : Atom) (b : Bool) (fs es : Effect) → unless_blocked b fs ≡ Some es → In a es → In a fs
 in_unless a true fs es e i = absurd (cc e)
 in_unless a false fs es e i = let z : fs ≡ es = cc e in subst (In a) (sym z) i
 
@@ -52,9 +52,9 @@ in_checked a None m n fs es e i = inr (some_is a fs es e i)
 in_checked a (Some gs) m n fs es e i =
     ⊎_elim (λ h. inl h) (λ j. inr (in_minus a fs gs j)) (one_more a (checks m) (minus fs gs) (some_is a (minus fs gs ++ checks m ∷ []) es e i))
 
-in_after : (a : Atom) (k : ℕ) (paid : Option Effect) (s : Prefix) (fs es : Effect) → after k paid s fs ≡ Some es → In a es → (adds_by a s paid ≡ true) ⊎ In a fs
+in_after : (a : Atom) (k : ℕ) (paid : Option Effect) (s : Prefix) (fs es : Effect) → after_prefix k paid s fs ≡ Some es → In a es → (adds_by a s paid ≡ true) ⊎ In a fs
 in_after a k paid (Recvs m t) fs es e i = inr (in_unless a (mentions k fs) fs es e i)
-in_after a k paid (Serves m t) fs es e i = inr (in_unless a (mentions k fs) fs es (keep_some (are_many fs) (unless (mentions k fs) fs) es e).1 i)
+in_after a k paid (Serves m t) fs es e i = inr (in_unless a (mentions k fs) fs es (keep_some (are_many fs) (unless_blocked (mentions k fs) fs) es e).1 i)
 in_after a k paid (Splits m t u) fs es e i = inr (in_unless a (mentions k fs || mentions (suc k) fs) fs es e i)
 in_after a k paid (Selects m t n u) fs es e i = inr (in_unless a (mentions k fs) fs es e i)
 in_after a k paid (Decrypts m t n) fs es e i = inr (in_unless a (mentions k fs) fs es e i)
@@ -97,8 +97,8 @@ exists_by (suc n) a (prefix s p) e h k =
     let p' = enter (binds s) (length e) p in
     let w = has_some a (computed_of e (prefix s p)) k in
     let c = sym (ap (λ q. effect_of q e) (numbered_prefix e s p)) ∙ w.1 in
-    let d = keep_some (prefix_ok e s) (by_effect (after (length e) (paid_by e s) s) (computed_of e' p')) w.0 c in
-    let g = after_some (after (length e) (paid_by e s) s) (computed_of e' p') w.0 d.1 in
+    let d = keep_some (prefix_ok e s) (by_effect (after_prefix (length e) (paid_by e s) s) (computed_of e' p')) w.0 c in
+    let g = after_some (after_prefix (length e) (paid_by e s) s) (computed_of e' p') w.0 d.1 in
     ⊎_elim (λ b. (0, chosen_here k b)) (λ j. let r = exists_by n a p' e' (omega (arith, h, size_enter (binds s) (length e) p)) (has_of a (computed_of e' p') g.0 g.1 j) in (suc r.0, chosen_prefix k r.1)) (in_after a (length e) (paid_by e s) s g.0 w.0 g.2 w.2)
 exists_by (suc n) a (fork f p q) e h k =
     let e1 = e ++ on_first f in

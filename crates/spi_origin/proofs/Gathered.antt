@@ -5,10 +5,10 @@ use Rattle.spi_infer.proofs.Nodes.{reached_of}
 use Rattle.spi_infer.proofs.Passes.{notes, run_flat}
 use Rattle.spi_infer.proofs.Reach.{ReachesNode}
 use Rattle.spi_infer.specs.Forms.{effect_of}
-use Rattle.spi_infer.specs.Passes.{Note, note_of, act, run, scan}
+use Rattle.spi_infer.specs.Passes.{Note, note_of, act, run_notes, scan}
 use Rattle.spi_message.proofs.Opened.{length_more, length_first, length_rest}
 use Rattle.spi_message.specs.Forms.{more, on_first, on_rest}
-use Rattle.spi_origin.specs.Gathering.{Aim, all_blocking, all_origins, keeps, picks, with_node, at_top, joined, top, gather, picked}
+use Rattle.spi_origin.specs.Gathering.{Aim, all_blocking, all_origins, keeps, picks, with_node, at_top, joined_lists, top_sum, gather, picked}
 use Rattle.spi_rules.specs.Blocking.{NodeOf}
 use Rattle.spi_rules.specs.Environment.{Env}
 use Rattle.spi_term.specs.Spelling.{Shape, leaf_at, prefix_at, fork_at, flat, numbered, spelled}
@@ -31,22 +31,22 @@ pub lists_flat : (w : Aim) (q : Process) (e : Env) (i k : ℕ) (ss : List Shape)
 lists_flat w (leaf l) e i k ss bs n =
     let x = leaf_at (length e) l in
     let z : suc i ≡ i + 1 = omega arith in
-    ap (λ b. with_node (keeps w (effect_of (leaf l) e)) b i [] ∷ gather w (suc i) ss bs) (leaf_picks w k (length e) l (note_of e x) (run ss bs))
+    ap (λ b. with_node (keeps w (effect_of (leaf l) e)) b i [] ∷ gather w (suc i) ss bs) (leaf_picks w k (length e) l (note_of e x) (run_notes ss bs))
     ∙ ap (λ j. picked w (leaf l) e i ∷ gather w j ss bs) z
 lists_flat w (prefix s p) e i k ss bs n =
     let e' = e ++ more e s in
     let n' : k + binds s ≡ length e' = omega (arith, length-append e (more e s), length_more e s) in
     let m = note_of e (prefix_at k s (suc i)) in
     let z : suc i + process_size p ≡ i + suc (process_size p) = omega arith in
-    let st = effect_of p e' ∷ run ss bs in
+    let st = effect_of p e' ∷ run_notes ss bs in
     let l = picked w p e' (suc i) in
     let rest = gather w (suc i + process_size p) ss bs in
-    let go = λ (j : ℕ) (st : List (Option Effect)) (ls : List (List ℕ)). at_top (with_node (keeps w (top (act (prefix_at j s (suc i)) m st))) (picks w (prefix_at j s (suc i)) m st) i) ls in
+    let go = λ (j : ℕ) (st : List (Option Effect)) (ls : List (List ℕ)). at_top (with_node (keeps w (top_sum (act (prefix_at j s (suc i)) m st))) (picks w (prefix_at j s (suc i)) m st) i) ls in
     let x = prefix_at (length e) s (suc i) in
     ap (λ st. go k st (gather w (suc i) (flat (suc i) (k + binds s) p ++ ss) (notes p e' ++ bs))) (run_flat p e' (suc i) (k + binds s) ss bs n')
     ∙ ap (go k st) (lists_flat w p e' (suc i) (k + binds s) ss bs n')
     ∙ ap (λ j. go j st (l ∷ rest)) n
-    ∙ ap (λ b. with_node (keeps w (effect_of (prefix s p) e)) b i l ∷ rest) (prefix_picks w x (length e) (suc i) s m (effect_of p e') (run ss bs) refl)
+    ∙ ap (λ b. with_node (keeps w (effect_of (prefix s p) e)) b i l ∷ rest) (prefix_picks w x (length e) (suc i) s m (effect_of p e') (run_notes ss bs) refl)
     ∙ ap (λ j. picked w (prefix s p) e i ∷ gather w j ss bs) z
 lists_flat w (fork f p q) e i k ss bs n =
     let m = k + fork_binds f in
@@ -59,18 +59,18 @@ lists_flat w (fork f p q) e i k ss bs n =
     let fq = flat r m q in
     let note = note_of e (fork_at k f (suc i) r) in
     let z : r + process_size q ≡ i + suc (process_size p + process_size q) = omega arith in
-    let st = effect_of p e1 ∷ (effect_of q e2 ∷ run ss bs) in
+    let st = effect_of p e1 ∷ (effect_of q e2 ∷ run_notes ss bs) in
     let l = picked w p e1 (suc i) in
     let l' = picked w q e2 r in
     let rest = gather w (r + process_size q) ss bs in
     let x = fork_at (length e) f (suc i) r in
-    let go = λ (j : ℕ) (st : List (Option Effect)) (ls : List (List ℕ)). at_top (with_node (keeps w (top (act (fork_at j f (suc i) r) note st))) (picks w (fork_at j f (suc i) r) note st) i) (joined (fork_at j f (suc i) r) ls) in
-    ap (λ l. go k (run l ((notes p e1 ++ notes q e2) ++ bs)) (gather w (suc i) l ((notes p e1 ++ notes q e2) ++ bs))) (append_assoc fp fq ss)
-    ∙ ap (λ l. go k (run (fp ++ (fq ++ ss)) l) (gather w (suc i) (fp ++ (fq ++ ss)) l)) (append_assoc (notes p e1) (notes q e2) bs)
+    let go = λ (j : ℕ) (st : List (Option Effect)) (ls : List (List ℕ)). at_top (with_node (keeps w (top_sum (act (fork_at j f (suc i) r) note st))) (picks w (fork_at j f (suc i) r) note st) i) (joined_lists (fork_at j f (suc i) r) ls) in
+    ap (λ l. go k (run_notes l ((notes p e1 ++ notes q e2) ++ bs)) (gather w (suc i) l ((notes p e1 ++ notes q e2) ++ bs))) (append_assoc fp fq ss)
+    ∙ ap (λ l. go k (run_notes (fp ++ (fq ++ ss)) l) (gather w (suc i) (fp ++ (fq ++ ss)) l)) (append_assoc (notes p e1) (notes q e2) bs)
     ∙ ap (λ st. go k st (gather w (suc i) (fp ++ (fq ++ ss)) (notes p e1 ++ (notes q e2 ++ bs)))) (run_flat p e1 (suc i) m (fq ++ ss) (notes q e2 ++ bs) n1 ∙ ap (λ l. effect_of p e1 ∷ l) (run_flat q e2 r m ss bs n2))
     ∙ ap (go k st) (lists_flat w p e1 (suc i) m (fq ++ ss) (notes q e2 ++ bs) n1 ∙ ap (λ ls. l ∷ ls) (lists_flat w q e2 r m ss bs n2))
     ∙ ap (λ j. go j st (l ∷ (l' ∷ rest))) n
-    ∙ ap (λ b. with_node (keeps w (effect_of (fork f p q) e)) b i (l ++ l') ∷ rest) (fork_picks w x (length e) (suc i) r f note (effect_of p e1) (effect_of q e2) (run ss bs) refl)
+    ∙ ap (λ b. with_node (keeps w (effect_of (fork f p q) e)) b i (l ++ l') ∷ rest) (fork_picks w x (length e) (suc i) r f note (effect_of p e1) (effect_of q e2) (run_notes ss bs) refl)
     ∙ ap (λ j. picked w (fork f p q) e i ∷ gather w j ss bs) z
 
 -- from the place of node i on, what is gathered in its process comes first

@@ -9,7 +9,7 @@ use Rattle.spi_infer.proofs.Reach.{reach_root, reach_prefix, reach_first, reach_
 use Rattle.spi_infer.specs.Forms.{paid_by}
 use Rattle.spi_message.specs.Forms.{cast_effect_of}
 use Rattle.spi_message.specs.Tests.{nonce_in, nonce_of}
-use Rattle.spi_origin.proofs.Chosen.{computed_of, own, KeepsAim, Chosen, chosen_here, chosen_prefix, chosen_first, chosen_rest}
+use Rattle.spi_origin.proofs.Chosen.{computed_of, is_own, KeepsAim, Chosen, chosen_here, chosen_prefix, chosen_first, chosen_rest}
 use Rattle.spi_origin.specs.Gathering.{all_origins, has_left, adds_by}
 use Rattle.spi_origin.specs.Origins.{AddsToEffect, adds_check, adds_end, adds_end_many, adds_cast, IsLeft, IsOrigin, origin_here, origin_below}
 use Rattle.spi_rules.proofs.Least.{least_of}
@@ -85,12 +85,12 @@ by_adds e (EndManys m) p a h = adds_same (same_atom_true a (many m) h) adds_end_
 by_adds e (Casts m t) p a h = cast_adds e m t p a (some_in a (cast_effect_of t) (ltb-true 0 (count a (cast_effect_of t)) h))
 by_adds e (Freshes t) p a h = absurd (cc h)
 
-own_adds : (a : Atom) (e : Env) (p : Process) → own (all_origins a) e p ≡ true → AddsToEffect e p a
+own_adds : (a : Atom) (e : Env) (p : Process) → is_own (all_origins a) e p ≡ true → AddsToEffect e p a
 own_adds a e (leaf l) h = absurd (cc h)
 own_adds a e (prefix s p) h = by_adds e s p a h
 own_adds a e (fork f p q) h = absurd (cc h)
 
-adds_own : (a : Atom) (e : Env) (p : Process) → AddsToEffect e p a → own (all_origins a) e p ≡ true
+adds_own : (a : Atom) (e : Env) (p : Process) → AddsToEffect e p a → is_own (all_origins a) e p ≡ true
 adds_own _ e _ (adds_check {m = m} {n = n} i) = and_from (is_some (nonce_of e n)) (same_atom (checks m) (checks m)) (nonce_is i) (same_atom_refl (checks m))
 adds_own _ e _ (adds_end {m = m}) = same_atom_refl (ends m)
 adds_own _ e _ (adds_end_many {m = m}) = same_atom_refl (many m)

@@ -4,12 +4,12 @@ use Rattle.std.proofs.lemmas.List.{drop_all}
 use Rattle.std.specs.Prelude.{slice_get}
 use Rattle.spi_infer.proofs.Walked.{note_here, at_node, at_note}
 use Rattle.spi_infer.specs.Accounts.{IsNoted}
-use Rattle.spi_infer.specs.Passes.{Note, act, run, scan}
+use Rattle.spi_infer.specs.Passes.{Note, act, run_notes, scan}
 use Rattle.spi_infer.specs.declared.own.Noted.{Noted}
 use Rattle.spi_infer.specs.declared.own.OwnNote.{OwnNote}
 use Rattle.spi_intern.specs.Meaning.{NoneTwice}
 use Rattle.spi_intern.specs.declared.store.Store.{Store}
-use Rattle.spi_origin.specs.Gathering.{Aim, keeps, picks, with_node, at_top, joined, top, gather, MarkedStacks, AreMarked, marked_none}
+use Rattle.spi_origin.specs.Gathering.{Aim, keeps, picks, with_node, at_top, joined_lists, top_sum, gather, MarkedStacks, AreMarked, marked_none}
 use Rattle.spi_rules.specs.Environment.{Env}
 use Rattle.spi_term.specs.Names.{ProcessOver}
 use Rattle.spi_term.specs.Spelling.{Shape, spelled}
@@ -36,15 +36,15 @@ module _ (s : Store) (noted : Noted) (k : ℕ) (p : Process) (env : Env) (h : Is
   note = note_here s noted k p env h i x g o ix
 
   abbrev st : List (Option Effect)
-  st = run (drop id ss) (drop id ns)
+  st = run_notes (drop id ss) (drop id ns)
 
-  gather_is : gather w i (drop i ss) (drop i ns) ≡ at_top (with_node (keeps w (top (act x note st))) (picks w x note st) i) (joined x (gather w id (drop id ss) (drop id ns)))
+  gather_is : gather w i (drop i ss) (drop i ns) ≡ at_top (with_node (keeps w (top_sum (act x note st))) (picks w x note st) i) (joined_lists x (gather w id (drop id ss) (drop id ns)))
   gather_is =
       let n : suc i ≡ id = omega (arith, z) in
       ap (λ l. gather w i l (drop i ns)) (at_node s noted k p env h i x g o ix once over id z)
       ∙ ap (gather w i (x ∷ drop id ss)) (at_note s noted k p env h i x g o ix once over id z)
-      ∙ ap (λ j. at_top (with_node (keeps w (top (act x note st))) (picks w x note st) i) (joined x (gather w j (drop id ss) (drop id ns)))) n
+      ∙ ap (λ j. at_top (with_node (keeps w (top_sum (act x note st))) (picks w x note st) i) (joined_lists x (gather w j (drop id ss) (drop id ns)))) n
 
-  pub stepped : (kept picked : Bool) (marks found : List ℕ) → kept ≡ keeps w (top (act x note st)) → (kept ≡ true → picked ≡ picks w x note st) → MarkedStacks marks found (at_top (with_node kept picked i) (joined x (gather w id (drop id ss) (drop id ns)))) → MarkedStacks marks found (gather w i (drop i ss) (drop i ns))
+  pub stepped : (kept picked : Bool) (marks found : List ℕ) → kept ≡ keeps w (top_sum (act x note st)) → (kept ≡ true → picked ≡ picks w x note st) → MarkedStacks marks found (at_top (with_node kept picked i) (joined_lists x (gather w id (drop id ss) (drop id ns)))) → MarkedStacks marks found (gather w i (drop i ss) (drop i ns))
   stepped kept picked marks found e f m =
-      subst (MarkedStacks marks found) (with_same kept picked (keeps w (top (act x note st))) (picks w x note st) i (joined x (gather w id (drop id ss) (drop id ns))) e f ∙ sym gather_is) m
+      subst (MarkedStacks marks found) (with_same kept picked (keeps w (top_sum (act x note st))) (picks w x note st) i (joined_lists x (gather w id (drop id ss) (drop id ns))) e f ∙ sym gather_is) m

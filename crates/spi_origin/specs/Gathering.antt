@@ -5,7 +5,7 @@ use Rattle.spi_count.specs.Keeping.{with_keys}
 use Rattle.spi_count.specs.Sums.{name_bound, key_of, message_of}
 use Rattle.spi_count.specs.declared.keys.Keys.{Keys}
 use Rattle.spi_infer.specs.Forms.{effect_of}
-use Rattle.spi_infer.specs.Passes.{Note, note_of, act, is_stuck, run}
+use Rattle.spi_infer.specs.Passes.{Note, note_of, act, is_stuck, run_notes}
 use Rattle.spi_intern.specs.declared.store.Store.{Store}
 use Rattle.spi_message.specs.Forms.{more, on_first, on_rest, cast_effect_of}
 use Rattle.spi_rules.specs.Environment.{Env}
@@ -77,28 +77,28 @@ two_as_one [] = []
 two_as_one (l ∷ []) = []
 two_as_one (l ∷ (l' ∷ ls)) = (l ++ l') ∷ ls
 
-abbrev pub joined : Shape → List (List ℕ) → List (List ℕ)
-joined (leaf_at k l) ls = [] ∷ ls
-joined (prefix_at k s b) ls = ls
-joined (fork_at k f a r) ls = two_as_one ls
+abbrev pub joined_lists : Shape → List (List ℕ) → List (List ℕ)
+joined_lists (leaf_at k l) ls = [] ∷ ls
+joined_lists (prefix_at k s b) ls = ls
+joined_lists (fork_at k f a r) ls = two_as_one ls
 
 abbrev pub at_top : (List ℕ → List ℕ) → List (List ℕ) → List (List ℕ)
 at_top f [] = []
 at_top f (l ∷ ls) = f l ∷ ls
 
 abbrev pub gathered : Shape → Bool → Bool → ℕ → List (List ℕ) → List (List ℕ)
-gathered x kept picked i ls = at_top (with_node kept picked i) (joined x ls)
+gathered x kept picked i ls = at_top (with_node kept picked i) (joined_lists x ls)
 
 -- the effect of the process that begins first
-abbrev pub top : List (Option Effect) → Option Effect
-top [] = None
-top (o ∷ st) = o
+abbrev pub top_sum : List (Option Effect) → Option Effect
+top_sum [] = None
+top_sum (o ∷ st) = o
 
 abbrev pub gather : Aim → ℕ → List Shape → List Note → List (List ℕ)
 gather w i [] ns = []
 gather w i (x ∷ ss) [] = []
 gather w i (x ∷ ss) (n ∷ ns) =
-    gathered x (keeps w (top (act x n (run ss ns)))) (picks w x n (run ss ns)) i (gather w (suc i) ss ns)
+    gathered x (keeps w (top_sum (act x n (run_notes ss ns)))) (picks w x n (run_notes ss ns)) i (gather w (suc i) ss ns)
 
 -- The lists one after another, and how long what stands behind each is. Below the last list there may be more
 pub data AreMarked : List ℕ → List ℕ → List (List ℕ) → Type 0 where

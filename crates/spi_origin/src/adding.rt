@@ -2,7 +2,7 @@
 
 ghost use Rattle.std.specs.Prelude.{◌≡◌, ◌<◌, ℕ, Option, IsTrue, ◌↔◌, is_some};
 ghost use Rattle.spi_count.specs.Keeping.{with_keys, IsKeyed};
-ghost use Rattle.spi_count.specs.Sums.{kind_of, message_of, name_bound, key_of};
+ghost use Rattle.spi_count.specs.Sums.{kind_of_atom, message_of, name_bound, key_of};
 ghost use Rattle.spi_count.specs.declared.keys.Keys as Declared;
 ghost use Rattle.spi_infer.specs.Own.{IsOwnOf, CountsFor};
 ghost use Rattle.spi_intern.specs.declared.messages.MsgId as Ids;
@@ -85,7 +85,7 @@ pub fn adds(a: &Atom, node: &Node, own: Own) -> bool
 }
 
 fn kind(a: &Atom) -> AtomKind
-    ensures { result ≡ kind_of (atom a.now) }
+    ensures { result ≡ kind_of_atom (atom a.now) }
 {
     match a {
         Atom::End(_) => AtomKind::End,

@@ -8,7 +8,7 @@ ghost use Rattle.spi_infer.specs.Own.{FormNotedAs};
 ghost use Rattle.spi_infer.specs.Passes.{Note, act, is_stuck};
 ghost use Rattle.spi_intern.specs.Meaning.{NoneTwice};
 ghost use Rattle.spi_intern.specs.declared.store.Store as Stores;
-ghost use Rattle.spi_origin.specs.Gathering.{aim_of, HasAimKey, keeps, picks, joined, at_top, with_node, top, picked, MarkedStacks};
+ghost use Rattle.spi_origin.specs.Gathering.{aim_of, HasAimKey, keeps, picks, joined_lists, at_top, with_node, top_sum, picked, MarkedStacks};
 ghost use Rattle.spi_rules.specs.Blocking.{NodeOf};
 ghost use Rattle.spi_rules.specs.Environment as Rules;
 ghost use Rattle.spi_term.specs.Spelling.{numbered};
@@ -43,7 +43,7 @@ impl Drop for Aim {
 // What is gathered in the process that begins first is kept.
 fn is_kept(aim: &Aim, stack: &[Option<Sum>]) -> bool
     ensures { (s : Stores.Store) (keys : Keys.Keys) (st : List (Option Term.Effect))
-        → HasAimKey s keys aim.now → Tops s keys stack.now st → result ≡ keeps (aim_of aim.now) (top st) }
+        → HasAimKey s keys aim.now → Tops s keys stack.now st → result ≡ keeps (aim_of aim.now) (top_sum st) }
 {
     match aim {
         Aim::Blocking => true,
@@ -59,7 +59,7 @@ fn is_picked(aim: &Aim, node: &Node, note: &OwnNote, stuck: bool) -> bool
     ensures { (s : Stores.Store) (keys : Keys.Keys) (n : Note) (st : List (Option Term.Effect))
         → FormNotedAs s (with_keys s keys) (shape_of node.now) n note.now
         → stuck ≡ is_stuck (shape_of node.now) n st
-        → keeps (aim_of aim.now) (top (act (shape_of node.now) n st)) ≡ true
+        → keeps (aim_of aim.now) (top_sum (act (shape_of node.now) n st)) ≡ true
         → result ≡ picks (aim_of aim.now) (shape_of node.now) n st }
 {
     match aim {
@@ -72,7 +72,7 @@ fn is_picked(aim: &Aim, node: &Node, note: &OwnNote, stuck: bool) -> bool
 fn join(node: &Node, marks: &mut Vec<usize>, end: usize) -> Result<(), NoMemory>
     ensures { OnOk result ((found : List ℕ) (ls : List (List ℕ)) → length found ≡ end
         → MarkedStacks marks.old.items found ls
-        → MarkedStacks marks.new.items found (joined (shape_of node.now) ls)) }
+        → MarkedStacks marks.new.items found (joined_lists (shape_of node.now) ls)) }
 {
     match &node.form {
         Form::Send { .. } => marks.push(end)?,

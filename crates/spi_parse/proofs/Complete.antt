@@ -15,17 +15,17 @@ use Rattle.spi_parse.specs.Rules.{arity_of, writes_effect}
 use Rattle.spi_parse.specs.Bare.{nowhere, bare_word, bare_msg, bare_msgs, bare_atom, bare_ty, bare_fields, bare_last, bare_proc, bare_decl, bare_step, bare_deriv, bare_opponent, bare_schedule, bare_derivation, bare_file}
 use Rattle.spi_parse.specs.Tokens.{Tok, State}
 use Rattle.spi_parse.specs.Table.{Body, Sym, the_mark, the_reserved, the_word, the_number, the_two, msg, msgs, atom, atoms, effect, ty, fields, fields_more, named, binder, split_head, match_head, case_head, decrypt_head, check_head, cast_head, sproc, seq, out_tail, par_tail, words, free_rest, abbr_rest, decl, decls, act_rest, talk_rest, steps, deriv, opponent_tail, schedule_tail, derivation_tail, body, file, Trees, over, par_of, file_from, rule_move, delta_paren, delta_bracket, delta_ty_paren}
-use Rattle.spi_parse.specs.Reading.{◌>>=◌, Out, Mode, told, any, pass, may_pass, may_lead, read_all, go_on, behind, step, read}
+use Rattle.spi_parse.specs.Reading.{◌>>=◌, Out, Mode, told, any, pass, may_pass, may_lead, read_all, go_on, behind_move, reads_step, read}
 use Rattle.spi_parse.proofs.Readers.{at, read_is_step}
-use Rattle.spi_parse.proofs.Spell.{IsBody, body_pieces, IsRuled, IsRuledFile, IsDerivation}
+use Rattle.spi_parse.proofs.Spell.{IsBody, body_pieces, IsRuled, IsRuledFile, IsRuledDerivation}
 use Rattle.spi_parse.proofs.RuleLaws.{arity_most, sub_arity}
 
 -- the tokens of pieces, all at one place, with these flags
-abbrev pub flat : (Bool → Bool) → List Piece → List Tok
-flat φ [] = []
-flat φ (opens from ∷ ps) = flat φ ps
-flat φ (cell k deep ∷ ps) = record { kind = k; span = nowhere; deep = φ deep } ∷ flat φ ps
-flat φ (closes to ∷ ps) = flat φ ps
+abbrev pub flat_pieces : (Bool → Bool) → List Piece → List Tok
+flat_pieces φ [] = []
+flat_pieces φ (opens from ∷ ps) = flat_pieces φ ps
+flat_pieces φ (cell k deep ∷ ps) = record { kind = k; span = nowhere; deep = φ deep } ∷ flat_pieces φ ps
+flat_pieces φ (closes to ∷ ps) = flat_pieces φ ps
 
 -- a mode that goes on past every token with these flags
 pub record FitsMode (m : Mode) (φ : Bool → Bool) : Type 1 where
@@ -37,7 +37,7 @@ pub record FitsMode (m : Mode) (φ : Bool → Bool) : Type 1 where
 
 module _ (m : Mode) (φ : Bool → Bool) (fits : FitsMode m φ) where
   abbrev pub flat_at : List Piece → State
-  flat_at ps = at 0 (flat φ ps)
+  flat_at ps = at 0 (flat_pieces φ ps)
 
   pass_same : {X : Type 0} (d : Bool) (n : ℕ) (go : Out X) → pass m d (φ d) n go ≡ go
   pass_same d n go = fits.passes d n go
@@ -54,14 +54,14 @@ module _ (m : Mode) (φ : Bool → Bool) (fits : FitsMode m φ) where
   lead_on : {X : Type 0} (d : Bool) (n : ℕ) (go : Out X) → may_lead m d (φ false) d n go ≡ go
   lead_on d n go = fits.leads_on d n go
 
-  mark_step : (k : Mark) (r : List Piece) → step m (read m) (the_mark k) (flat_at (a_mark k r)) ≡ Ok (tt, flat_at r)
+  mark_step : (k : Mark) (r : List Piece) → reads_step m (read m) (the_mark k) (flat_at (a_mark k r)) ≡ Ok (tt, flat_at r)
   mark_step mark.ParenOpen r = pass_same false _ _
   mark_step _ r = pass_same false _ _
 
   mark_c : (k : Mark) (r : List Piece) → read m (the_mark k) (flat_at (a_mark k r)) ≡ Ok (tt, flat_at r)
   mark_c k r = read_is_step m (the_mark k) (flat_at (a_mark k r)) ∙ mark_step k r
 
-  reserved_step : (w : Reserved) (r : List Piece) → step m (read m) (the_reserved w) (flat_at (a_reserved w r)) ≡ Ok (tt, flat_at r)
+  reserved_step : (w : Reserved) (r : List Piece) → reads_step m (read m) (the_reserved w) (flat_at (a_reserved w r)) ≡ Ok (tt, flat_at r)
   reserved_step word.Free r = pass_same false _ _
   reserved_step _ r = pass_same false _ _
 
@@ -91,7 +91,7 @@ module _ (m : Mode) (φ : Bool → Bool) (fits : FitsMode m φ) where
   tuple_parts v d n = msg v d (n + 1) ∷ the_mark mark.Comma ∷ msg v d (n + 1) ∷ msgs v d (n + 1) ∷ []
 
   -- no message begins with a right parenthesis
-  paren_first : (x : t.Msg) (v d : Bool) (n n' : ℕ) (q : List Piece) → behind m (read m) (delta_paren v d n) (nowhere ∷ []) (flat_at (msg_pieces n' x q))
+  paren_first : (x : t.Msg) (v d : Bool) (n n' : ℕ) (q : List Piece) → behind_move m (read m) (delta_paren v d n) (nowhere ∷ []) (flat_at (msg_pieces n' x q))
       ≡ ◌>>=◌ {B = t.Msg × State} (read_all (read m) (tuple_parts v d n) (flat_at (msg_pieces n' x q))) (λ xs. Ok (t.tuple (over (nowhere ∷ []) xs.1.end) xs.0.0 xs.0.1.1.0 (t.msgs_of_list xs.0.1.1.1.0.0), xs.1))
   paren_first (t.name s w) v d n n' q = refl
   paren_first _ v d n n' q = refl
@@ -141,7 +141,7 @@ module _ (m : Mode) (φ : Bool → Bool) (fits : FitsMode m φ) where
       rw (read_is_step, pass_same false, atom_c e v d n q1 h.0, atoms_c es v d n r h.1) refl
 
   -- no atom begins with a right bracket
-  bracket_first : (x : t.Atom) (v d : Bool) (n n' : ℕ) (q : List Piece) → behind m (read m) (delta_bracket v d n) (nowhere ∷ []) (flat_at (atom_pieces n' x q))
+  bracket_first : (x : t.Atom) (v d : Bool) (n n' : ℕ) (q : List Piece) → behind_move m (read m) (delta_bracket v d n) (nowhere ∷ []) (flat_at (atom_pieces n' x q))
       ≡ ◌>>=◌ {B = List t.Atom × State} (read_all (read m) (atom v d n ∷ atoms v d n ∷ []) (flat_at (atom_pieces n' x q))) (λ xs. Ok (xs.0.0 ∷ xs.0.1.0.0, xs.1))
   bracket_first (t.ends s a) v d n n' q = refl
   bracket_first (t.checks s a) v d n n' q = refl
@@ -160,12 +160,12 @@ module _ (m : Mode) (φ : Bool → Bool) (fits : FitsMode m φ) where
   NotWord _ = Unit {0}
 
   -- what is no word begins a sum
-  sum_first : (x : t.Ty) (v : Bool) (n n' : ℕ) (q : List Piece) → NotWord x → behind m (read m) (delta_ty_paren v n) (nowhere ∷ []) (flat_at (ty_pieces n' x q))
+  sum_first : (x : t.Ty) (v : Bool) (n n' : ℕ) (q : List Piece) → NotWord x → behind_move m (read m) (delta_ty_paren v n) (nowhere ∷ []) (flat_at (ty_pieces n' x q))
       ≡ ◌>>=◌ {B = t.Ty × State} (read_all (read m) (ty v (n + 1) ∷ the_mark mark.Plus ∷ ty v (n + 1) ∷ the_mark mark.ParenClose ∷ []) (flat_at (ty_pieces n' x q))) (λ xs. Ok (t.sum (over (nowhere ∷ []) xs.1.end) xs.0.0 xs.0.1.1.0, xs.1))
   sum_first (t.abbr s w) v n n' q h = absurd h
   sum_first _ v n n' q h = refl
 
-  bare_first : (x : t.Ty) (v : Bool) (n n' : ℕ) (q : List Piece) → NotWord x → step m (read m) (fields v n) (flat_at (ty_pieces n' x q))
+  bare_first : (x : t.Ty) (v : Bool) (n n' : ℕ) (q : List Piece) → NotWord x → reads_step m (read m) (fields v n) (flat_at (ty_pieces n' x q))
       ≡ ◌>>=◌ {B = (List t.Field × t.Last) × State} (read_all (read m) (ty v n ∷ the_mark mark.ParenClose ∷ []) (flat_at (ty_pieces n' x q))) (λ xs. Ok (([], t.bare xs.0.0), xs.1))
   bare_first (t.abbr s w) v n n' q h = absurd h
   bare_first _ v n n' q h = refl
@@ -312,26 +312,26 @@ module _ (m : Mode) (φ : Bool → Bool) (fits : FitsMode m φ) where
   pub par_ends_nil : ParEnds []
   par_ends_nil = record { by = λ v n. rw read_is_step refl }
 
-  out_ends_bar : (r : List Piece) → OutEnds (flat φ (a_mark mark.Bar r))
+  out_ends_bar : (r : List Piece) → OutEnds (flat_pieces φ (a_mark mark.Bar r))
   out_ends_bar r = record { by = λ v n. rw read_is_step refl }
 
-  out_ends_paren : (r : List Piece) → OutEnds (flat φ (a_mark mark.ParenClose r))
+  out_ends_paren : (r : List Piece) → OutEnds (flat_pieces φ (a_mark mark.ParenClose r))
   out_ends_paren r = record { by = λ v n. rw read_is_step refl }
 
-  par_ends_paren : (r : List Piece) → ParEnds (flat φ (a_mark mark.ParenClose r))
+  par_ends_paren : (r : List Piece) → ParEnds (flat_pieces φ (a_mark mark.ParenClose r))
   par_ends_paren r = record { by = λ v n. rw read_is_step refl }
 
-  out_ends_word : (w : Reserved) (r : List Piece) → OutEnds (flat φ (a_reserved w r))
+  out_ends_word : (w : Reserved) (r : List Piece) → OutEnds (flat_pieces φ (a_reserved w r))
   out_ends_word w r = record { by = λ v n. rw read_is_step refl }
 
-  par_ends_word : (w : Reserved) (r : List Piece) → ParEnds (flat φ (a_reserved w r))
+  par_ends_word : (w : Reserved) (r : List Piece) → ParEnds (flat_pieces φ (a_reserved w r))
   par_ends_word w r = record { by = λ v n. rw read_is_step refl }
 
   abbrev SeqRead : t.Proc → Type 0
-  SeqRead p = (v : Bool) (n : ℕ) (r : List Piece) → IsProc v (in_seq n) p → OutEnds (flat φ r) → read m (seq v n) (flat_at (proc_pieces (in_seq n) p r)) ≡ Ok (bare_proc p, flat_at r)
+  SeqRead p = (v : Bool) (n : ℕ) (r : List Piece) → IsProc v (in_seq n) p → OutEnds (flat_pieces φ r) → read m (seq v n) (flat_at (proc_pieces (in_seq n) p r)) ≡ Ok (bare_proc p, flat_at r)
 
   abbrev LevelRead : t.Proc → Type 0
-  LevelRead p = (v : Bool) (l : ℕ) (r : List Piece) → IsProc v (at_level l) p → OutEnds (flat φ r) → ParEnds (flat φ r) → read m (sproc v l) (flat_at (proc_pieces (at_level l) p r)) ≡ Ok (bare_proc p, flat_at r)
+  LevelRead p = (v : Bool) (l : ℕ) (r : List Piece) → IsProc v (at_level l) p → OutEnds (flat_pieces φ r) → ParEnds (flat_pieces φ r) → read m (sproc v l) (flat_at (proc_pieces (at_level l) p r)) ≡ Ok (bare_proc p, flat_at r)
 
   semi_c : (v : Bool) (n : ℕ) (q : List Piece) (x : t.Proc × State) → read m (seq v (n + 1)) (flat_at q) ≡ Ok x → read m (out_tail v n) (flat_at (a_mark mark.Semicolon q)) ≡ Ok (Some x.0, x.1)
   semi_c v n q x e = rw (read_is_step, pass_same false, e) refl
@@ -345,16 +345,16 @@ module _ (m : Mode) (φ : Bool → Bool) (fits : FitsMode m φ) where
   abbrev level_rest : Bool → ℕ → List Piece → Out t.Proc
   level_rest v l q = ◌>>=◌ {A = Trees (level_parts v l) × State} {B = t.Proc × State} (read_all (read m) (level_parts v l) (flat_at q)) (λ xs. Ok (par_of (over (nowhere ∷ []) xs.1.end) xs.0.0 xs.0.1.0, xs.1))
 
-  level_first : (p : t.Proc) (v : Bool) (l n : ℕ) (q : List Piece) → IsProc v (in_seq n) p → step m (read m) (sproc v l) (flat_at (proc_pieces (in_seq n) p q)) ≡ level_rest v l (proc_pieces (in_seq n) p q)
+  level_first : (p : t.Proc) (v : Bool) (l n : ℕ) (q : List Piece) → IsProc v (in_seq n) p → reads_step m (read m) (sproc v l) (flat_at (proc_pieces (in_seq n) p q)) ≡ level_rest v l (proc_pieces (in_seq n) p q)
   level_first (t.par s p p') v l n q h = absurd h
   level_first _ v l n q h = refl
 
-  lift : (p : t.Proc) (v : Bool) (l : ℕ) (r : List Piece) → IsProc v (in_seq (l + 1)) p → SeqRead p → OutEnds (flat φ r) → ParEnds (flat φ r) → read m (sproc v l) (flat_at (proc_pieces (in_seq (l + 1)) p r)) ≡ Ok (bare_proc p, flat_at r)
+  lift : (p : t.Proc) (v : Bool) (l : ℕ) (r : List Piece) → IsProc v (in_seq (l + 1)) p → SeqRead p → OutEnds (flat_pieces φ r) → ParEnds (flat_pieces φ r) → read m (sproc v l) (flat_at (proc_pieces (in_seq (l + 1)) p r)) ≡ Ok (bare_proc p, flat_at r)
   lift p v l r h rp oe pe = rw (read_is_step, level_first p v l (l + 1) r h, rp v (l + 1) r h oe, pe.by v l) refl
 
   many_c : (s : Span) (a : t.Msg) (p : t.Proc) (v : Bool) (n : ℕ) (r : List Piece) → IsProc v (in_seq n) (t.end_many s a p)
-      → ((r' : List Piece) → IsProc v (in_seq (n + 1)) p → OutEnds (flat φ r') → read m (seq v (n + 1)) (flat_at (proc_pieces (in_seq (n + 1)) p r')) ≡ Ok (bare_proc p, flat_at r'))
-      → OutEnds (flat φ r) → read m (seq v n) (flat_at (proc_pieces (in_seq n) (t.end_many s a p) r)) ≡ Ok (bare_proc (t.end_many s a p), flat_at r)
+      → ((r' : List Piece) → IsProc v (in_seq (n + 1)) p → OutEnds (flat_pieces φ r') → read m (seq v (n + 1)) (flat_at (proc_pieces (in_seq (n + 1)) p r')) ≡ Ok (bare_proc p, flat_at r'))
+      → OutEnds (flat_pieces φ r) → read m (seq v n) (flat_at (proc_pieces (in_seq n) (t.end_many s a p) r)) ≡ Ok (bare_proc (t.end_many s a p), flat_at r)
   many_c s a p false n r h ih oe = absurd (let e = h.0 in cc)
   many_c s a p true n r h ih oe =
       let q9 = proc_pieces (in_seq (n + 1)) p (ends s r) in
@@ -492,7 +492,7 @@ module _ (m : Mode) (φ : Bool → Bool) (fits : FitsMode m φ) where
   abbrev StepsEnd : List Tok → Type 0
   StepsEnd ts = read m steps (at 0 ts) ≡ Ok (([], tt), at 0 ts)
 
-  steps_c : (xs : List t.Step) (r : List Piece) → StepsEnd (flat φ r) → read m steps (flat_at (steps_pieces xs r)) ≡ Ok ((map bare_step xs, tt), flat_at r)
+  steps_c : (xs : List t.Step) (r : List Piece) → StepsEnd (flat_pieces φ r) → read m steps (flat_at (steps_pieces xs r)) ≡ Ok ((map bare_step xs, tt), flat_at r)
   steps_c [] r e = e
   steps_c (t.act s i ∷ xs) r e =
       let q1 = ends s (steps_pieces xs r) in
@@ -505,36 +505,36 @@ module _ (m : Mode) (φ : Bool → Bool) (fits : FitsMode m φ) where
 
   -- the move of a rule's word
   rule_step : (v : Bool) (n : ℕ) (w : List ℕ) (f : Bool) (ts : List Tok) (a : Option ℕ) (b : Bool) → arity_of v w ≡ a → writes_effect w ≡ b
-      → step m (read m) (deriv v n) (at 0 (record { kind = K.Word w; span = nowhere; deep = f } ∷ ts)) ≡ go_on m (read m) (rule_move v n w a b) (nat_lt derivation_limit n) [] (at 0 (record { kind = K.Word w; span = nowhere; deep = f } ∷ ts))
+      → reads_step m (read m) (deriv v n) (at 0 (record { kind = K.Word w; span = nowhere; deep = f } ∷ ts)) ≡ go_on m (read m) (rule_move v n w a b) (nat_lt derivation_limit n) [] (at 0 (record { kind = K.Word w; span = nowhere; deep = f } ∷ ts))
   rule_step v n w f ts a b ea eb =
       ap (λ (c : Option ℕ). go_on m (read m) (rule_move v n w c (writes_effect w)) (nat_lt derivation_limit n) [] (at 0 (record { kind = K.Word w; span = nowhere; deep = f } ∷ ts))) ea
       ∙ ap (λ (c : Bool). go_on m (read m) (rule_move v n w a c) (nat_lt derivation_limit n) [] (at 0 (record { kind = K.Word w; span = nowhere; deep = f } ∷ ts))) eb
 
   pub deriv_c : (d : t.Deriv) (v : Bool) (n : ℕ) (r : List Piece) → IsRuled v d → read m (deriv v n) (flat_at (deriv_pieces n d r)) ≡ Ok (bare_deriv d, flat_at r)
-  deriv_c (t.rule s w None t.no_derivs) v n r h = rw (read_is_step, rule_step v n w.word (φ (nat_lt derivation_limit n)) (flat φ (ends w.span (ends s r))) (Some zero) false h.0 h.1, pass_same (nat_lt derivation_limit n)) refl
+  deriv_c (t.rule s w None t.no_derivs) v n r h = rw (read_is_step, rule_step v n w.word (φ (nat_lt derivation_limit n)) (flat_pieces φ (ends w.span (ends s r))) (Some zero) false h.0 h.1, pass_same (nat_lt derivation_limit n)) refl
   deriv_c (t.rule s w None (t.more_derivs a t.no_derivs)) v n r h =
-      rw (read_is_step, rule_step v n w.word (φ (nat_lt derivation_limit n)) (flat φ (deriv_pieces (n + 1) a (ends s r))) (Some (suc zero)) false h.0 h.1, pass_same (nat_lt derivation_limit n), deriv_c a v (n + 1) (ends s r) h.3.0) refl
+      rw (read_is_step, rule_step v n w.word (φ (nat_lt derivation_limit n)) (flat_pieces φ (deriv_pieces (n + 1) a (ends s r))) (Some (suc zero)) false h.0 h.1, pass_same (nat_lt derivation_limit n), deriv_c a v (n + 1) (ends s r) h.3.0) refl
   deriv_c (t.rule s w None (t.more_derivs a (t.more_derivs b t.no_derivs))) v n r h =
       let q1 = deriv_pieces (n + 1) b (ends s r) in
-      rw (read_is_step, rule_step v n w.word (φ (nat_lt derivation_limit n)) (flat φ (deriv_pieces (n + 1) a q1)) (Some (suc (suc zero))) false h.0 h.1, pass_same (nat_lt derivation_limit n), deriv_c a v (n + 1) q1 h.3.0, deriv_c b v (n + 1) (ends s r) h.3.1.0) refl
+      rw (read_is_step, rule_step v n w.word (φ (nat_lt derivation_limit n)) (flat_pieces φ (deriv_pieces (n + 1) a q1)) (Some (suc (suc zero))) false h.0 h.1, pass_same (nat_lt derivation_limit n), deriv_c a v (n + 1) q1 h.3.0, deriv_c b v (n + 1) (ends s r) h.3.1.0) refl
   deriv_c (t.rule s w None (t.more_derivs a (t.more_derivs b (t.more_derivs c t.no_derivs)))) v n r h =
       let q2 = deriv_pieces (n + 1) c (ends s r) in
       let q1 = deriv_pieces (n + 1) b q2 in
-      rw (read_is_step, rule_step v n w.word (φ (nat_lt derivation_limit n)) (flat φ (deriv_pieces (n + 1) a q1)) (Some (suc (suc (suc zero)))) false h.0 h.1, pass_same (nat_lt derivation_limit n), deriv_c a v (n + 1) q1 h.3.0, deriv_c b v (n + 1) q2 h.3.1.0, deriv_c c v (n + 1) (ends s r) h.3.1.1.0) refl
+      rw (read_is_step, rule_step v n w.word (φ (nat_lt derivation_limit n)) (flat_pieces φ (deriv_pieces (n + 1) a q1)) (Some (suc (suc (suc zero)))) false h.0 h.1, pass_same (nat_lt derivation_limit n), deriv_c a v (n + 1) q1 h.3.0, deriv_c b v (n + 1) q2 h.3.1.0, deriv_c c v (n + 1) (ends s r) h.3.1.1.0) refl
   deriv_c (t.rule s w None (t.more_derivs a (t.more_derivs b (t.more_derivs c (t.more_derivs d ds))))) v n r h = let k = arity_most v w.word _ h.0 in absurd (omega arith)
   deriv_c (t.rule s w (Some es) t.no_derivs) v n r h = let k = sub_arity v w.word _ h.1 h.0 in absurd (omega arith)
   deriv_c (t.rule s w (Some es) (t.more_derivs a t.no_derivs)) v n r h =
       let q1 = deriv_pieces (n + 1) a (ends s r) in
-      rw (read_is_step, rule_step v n w.word (φ (nat_lt derivation_limit n)) (flat φ (effect_pieces 0 es q1)) (Some (suc zero)) true h.0 h.1, pass_same (nat_lt derivation_limit n), effect_c es v true 0 q1 h.2, deriv_c a v (n + 1) (ends s r) h.3.0) refl
+      rw (read_is_step, rule_step v n w.word (φ (nat_lt derivation_limit n)) (flat_pieces φ (effect_pieces 0 es q1)) (Some (suc zero)) true h.0 h.1, pass_same (nat_lt derivation_limit n), effect_c es v true 0 q1 h.2, deriv_c a v (n + 1) (ends s r) h.3.0) refl
   deriv_c (t.rule s w (Some es) (t.more_derivs a (t.more_derivs b ds))) v n r h = let k = sub_arity v w.word _ h.1 h.0 in absurd (omega arith)
 
   -- ---- files
 
-  derivation_c : (d : Option t.Deriv) (v : Bool) (to : ℕ) → IsDerivation v d → read m (derivation_tail v) (flat_at (derivation_pieces d (closes to ∷ []))) ≡ Ok (bare_derivation d, at 0 [])
+  derivation_c : (d : Option t.Deriv) (v : Bool) (to : ℕ) → IsRuledDerivation v d → read m (derivation_tail v) (flat_at (derivation_pieces d (closes to ∷ []))) ≡ Ok (bare_derivation d, at 0 [])
   derivation_c None v to h = rw read_is_step refl
   derivation_c (Some d) v to h = rw (read_is_step, pass_same false, deriv_c d v 1 (closes to ∷ []) h) refl
 
-  steps_end : (d : Option t.Deriv) (to : ℕ) → StepsEnd (flat φ (derivation_pieces d (closes to ∷ [])))
+  steps_end : (d : Option t.Deriv) (to : ℕ) → StepsEnd (flat_pieces φ (derivation_pieces d (closes to ∷ [])))
   steps_end None to = rw read_is_step refl
   steps_end (Some d) to = rw read_is_step refl
 
@@ -546,12 +546,12 @@ module _ (m : Mode) (φ : Bool → Bool) (fits : FitsMode m φ) where
   abbrev behind_opponent : Option (List t.Step) → Option t.Deriv → ℕ → List Piece
   behind_opponent x d to = schedule_pieces x (derivation_pieces d (closes to ∷ []))
 
-  out_ends_schedule : (x : Option (List t.Step)) (d : Option t.Deriv) (to : ℕ) → OutEnds (flat φ (behind_opponent x d to))
+  out_ends_schedule : (x : Option (List t.Step)) (d : Option t.Deriv) (to : ℕ) → OutEnds (flat_pieces φ (behind_opponent x d to))
   out_ends_schedule None None to = out_ends_nil
   out_ends_schedule None (Some d) to = out_ends_word word.Derivation (deriv_pieces 1 d (closes to ∷ []))
   out_ends_schedule (Some xs) d to = out_ends_word word.Schedule (steps_pieces xs (derivation_pieces d (closes to ∷ [])))
 
-  par_ends_schedule : (x : Option (List t.Step)) (d : Option t.Deriv) (to : ℕ) → ParEnds (flat φ (behind_opponent x d to))
+  par_ends_schedule : (x : Option (List t.Step)) (d : Option t.Deriv) (to : ℕ) → ParEnds (flat_pieces φ (behind_opponent x d to))
   par_ends_schedule None None to = par_ends_nil
   par_ends_schedule None (Some d) to = par_ends_word word.Derivation (deriv_pieces 1 d (closes to ∷ []))
   par_ends_schedule (Some xs) d to = par_ends_word word.Schedule (steps_pieces xs (derivation_pieces d (closes to ∷ [])))
@@ -562,11 +562,11 @@ module _ (m : Mode) (φ : Bool → Bool) (fits : FitsMode m φ) where
   opponent_c None (Some xs) d v to h = rw read_is_step refl
   opponent_c (Some p) x d v to h = rw (read_is_step, pass_same false, (proc_c p).1 v 0 (behind_opponent x d to) h (out_ends_schedule x d to) (par_ends_schedule x d to)) refl
 
-  out_ends_opponent : (o : Option t.Proc) (x : Option (List t.Step)) (d : Option t.Deriv) (to : ℕ) → OutEnds (flat φ (opponent_pieces o (behind_opponent x d to)))
+  out_ends_opponent : (o : Option t.Proc) (x : Option (List t.Step)) (d : Option t.Deriv) (to : ℕ) → OutEnds (flat_pieces φ (opponent_pieces o (behind_opponent x d to)))
   out_ends_opponent None x d to = out_ends_schedule x d to
   out_ends_opponent (Some p) x d to = out_ends_word word.Opponent (proc_pieces (at_level 0) p (behind_opponent x d to))
 
-  par_ends_opponent : (o : Option t.Proc) (x : Option (List t.Step)) (d : Option t.Deriv) (to : ℕ) → ParEnds (flat φ (opponent_pieces o (behind_opponent x d to)))
+  par_ends_opponent : (o : Option t.Proc) (x : Option (List t.Step)) (d : Option t.Deriv) (to : ℕ) → ParEnds (flat_pieces φ (opponent_pieces o (behind_opponent x d to)))
   par_ends_opponent None x d to = par_ends_schedule x d to
   par_ends_opponent (Some p) x d to = par_ends_word word.Opponent (proc_pieces (at_level 0) p (behind_opponent x d to))
 
@@ -579,7 +579,7 @@ module _ (m : Mode) (φ : Bool → Bool) (fits : FitsMode m φ) where
   abbrev body_rest : Bool → List Piece → Out Body
   body_rest v q = ◌>>=◌ {A = Trees (body_parts v) × State} {B = Body × State} (read_all (read m) (body_parts v) (flat_at q)) (λ xs. Ok (record { decls = xs.0.0.0; process = xs.0.1.0; opponent = xs.0.1.1.0; schedule = xs.0.1.1.1.0; derivation = xs.0.1.1.1.1.0 }, xs.1))
 
-  body_first : (ds : List t.Declared) (v : Bool) (q : List Piece) → step m (read m) (body v) (flat_at (decls_pieces ds (a_reserved word.Process q))) ≡ body_rest v (decls_pieces ds (a_reserved word.Process q))
+  body_first : (ds : List t.Declared) (v : Bool) (q : List Piece) → reads_step m (read m) (body v) (flat_at (decls_pieces ds (a_reserved word.Process q))) ≡ body_rest v (decls_pieces ds (a_reserved word.Process q))
   body_first [] v q = refl
   body_first (t.free s w ws ∷ ds) v q = refl
   body_first (t.abbreviated s w a ∷ ds) v q = refl
@@ -601,7 +601,7 @@ module _ (m : Mode) (φ : Bool → Bool) (fits : FitsMode m φ) where
   abbrev file_rest : List Piece → Out t.File
   file_rest q = ◌>>=◌ {A = Trees (body false ∷ []) × State} {B = t.File × State} (read_all (read m) (body false ∷ []) (flat_at q)) (λ xs. Ok (file_from 1 (over (nowhere ∷ []) xs.1.end) xs.0.0, xs.1))
 
-  file_first : (ds : List t.Declared) (q : List Piece) → step m (read m) file (flat_at (decls_pieces ds (a_reserved word.Process q))) ≡ file_rest (decls_pieces ds (a_reserved word.Process q))
+  file_first : (ds : List t.Declared) (q : List Piece) → reads_step m (read m) file (flat_at (decls_pieces ds (a_reserved word.Process q))) ≡ file_rest (decls_pieces ds (a_reserved word.Process q))
   file_first [] q = refl
   file_first (t.free s w ws ∷ ds) q = refl
   file_first (t.abbreviated s w a ∷ ds) q = refl

@@ -6,7 +6,7 @@ use Rattle.spi_lex.specs.declared.token.Reserved.TheVariants as word
 use Rattle.spi_lex.specs.declared.token.Mark.TheVariants as mark
 use Rattle.spi_parse.specs.Rules.{arity_of, writes_effect}
 use Rattle.spi_parse.specs.Table.{Sym, msg, atom, ty, seq, out_tail, par_tail, steps_item, steps, deriv, opponent_tail, schedule_tail, derivation_tail, Tree, Build, eat, skip, deep_here, delta, at_end, is_act, is_talk, rule_move}
-use Rattle.spi_parse.proofs.Local.{Flags, Opens, TableFlags}
+use Rattle.spi_parse.proofs.Local.{Flags, MoveOpens, TableFlags}
 
 rule_flags : (v : Bool) (n : ℕ) (w : List ℕ) (a : Option ℕ) (b : Bool) → Flags (rule_move v n w a b)
 rule_flags v n w None b = tt
@@ -48,12 +48,12 @@ deep_ends (deriv v n) e = refl
 deep_ends _ e = absurd cc
 
 -- a step that is told by two words, or none
-skips_open : (a : Sym) (l l' : List Sym) (b : Build a l) (b' : Build a l') (x : Tree a) (c c' : Bool) → Opens {a = a} (cond c (eat l b) (cond c' (eat l' b') (skip x)))
+skips_open : (a : Sym) (l l' : List Sym) (b : Build a l) (b' : Build a l') (x : Tree a) (c c' : Bool) → MoveOpens {a = a} (cond c (eat l b) (cond c' (eat l' b') (skip x)))
 skips_open a l l' b b' x true c' = tt
 skips_open a l l' b b' x false true = tt
 skips_open a l l' b b' x false false = tt
 
-tails : (a : Sym) (k : Kind) (x : Tree a) → at_end a ≡ Some x → Opens (delta a k) × (deep_here a ≡ false)
+tails : (a : Sym) (k : Kind) (x : Tree a) → at_end a ≡ Some x → MoveOpens (delta a k) × (deep_here a ≡ false)
 tails (out_tail v n) (K.Mark mark.Semicolon) x e = (tt, refl)
 tails (out_tail v n) _ x e = (tt, refl)
 tails (par_tail v n) (K.Mark mark.Bar) x e = (tt, refl)

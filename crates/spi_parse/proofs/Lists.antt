@@ -13,7 +13,7 @@ use Rattle.spi_tree.specs.Pieces.{message_limit}
 use Rattle.spi_parse.specs.declared.fault.Fault.TheVariants.{Syntax}
 use Rattle.spi_parse.specs.Tokens.{Tok, State}
 use Rattle.spi_parse.specs.Table.{ListItem, one, last, Sym, the_word, msgs_item, msgs, atoms_item, atoms, fields_item, fields_rest, fields, fields_more, words_item, words, free_rest, abbr_rest, decls_item, decls, act_rest, talk_rest, steps_item, steps, Tree, eat, skip, with_field, free_from, abbr_from, act_from, talk_from, is_act, is_talk, word_at, delta, delta_fields_word, delta_item_word}
-use Rattle.spi_parse.specs.Reading.{◌>>=◌, Out, Mode, limited, pass, may_pass, with_next, go_on, read_all, step, read, next_list}
+use Rattle.spi_parse.specs.Reading.{◌>>=◌, Out, Mode, limited, pass, may_pass, with_next, go_on, read_all, reads_step, read, next_list}
 use Rattle.spi_parse.proofs.Readers.{at, read_is_step, Base, TakesToken, Eats, TakesSome, no_longer, bind_ok, ok_is, all_no_longer}
 
 abbrev tok_at : Kind → Span → Bool → Tok
@@ -25,9 +25,9 @@ m = limited
 
 -- two symbols that are read alike at each first token, and at none, are read alike
 module _ (a b : Sym) (to : Out (Tree b) → Out (Tree a))
-    (none : (e : ℕ) → step m (read m) a (at e []) ≡ to (step m (read m) b (at e [])))
-    (some : (e : ℕ) (k : Kind) (sp : Span) (d : Bool) (ts : List Tok) → step m (read m) a (at e (tok_at k sp d ∷ ts)) ≡ to (step m (read m) b (at e (tok_at k sp d ∷ ts)))) where
-  alike_at : (e : ℕ) (ts : List Tok) → step m (read m) a (at e ts) ≡ to (step m (read m) b (at e ts))
+    (none : (e : ℕ) → reads_step m (read m) a (at e []) ≡ to (reads_step m (read m) b (at e [])))
+    (some : (e : ℕ) (k : Kind) (sp : Span) (d : Bool) (ts : List Tok) → reads_step m (read m) a (at e (tok_at k sp d ∷ ts)) ≡ to (reads_step m (read m) b (at e (tok_at k sp d ∷ ts)))) where
+  alike_at : (e : ℕ) (ts : List Tok) → reads_step m (read m) a (at e ts) ≡ to (reads_step m (read m) b (at e ts))
   alike_at e [] = none e
   alike_at e (t ∷ ts) = some e t.kind t.span t.deep ts
 
@@ -50,28 +50,28 @@ module _ {X Y E : Type 0} (g : Y → X) (go : State → Out (List X × E)) where
       inner (Err f) = refl
       inner (Ok z) = refl
 
-msgs_at : (v : Bool) (d' : Bool) (n : ℕ) (e : ℕ) (k : Kind) (sp : Span) (d : Bool) (ts : List Tok) → step m (read m) (msgs v d' n) (at e (tok_at k sp d ∷ ts)) ≡ next_list (step m (read m) (msgs_item v d' n) (at e (tok_at k sp d ∷ ts))) (read m (msgs v d' n))
+msgs_at : (v : Bool) (d' : Bool) (n : ℕ) (e : ℕ) (k : Kind) (sp : Span) (d : Bool) (ts : List Tok) → reads_step m (read m) (msgs v d' n) (at e (tok_at k sp d ∷ ts)) ≡ next_list (reads_step m (read m) (msgs_item v d' n) (at e (tok_at k sp d ∷ ts))) (read m (msgs v d' n))
 msgs_at v d' n e (K.Mark mark.Comma) sp d ts = one_part (λ x. x) (read m (msgs v d' n)) (read m (Sym.msg v d' n) (at sp.to ts))
 msgs_at v d' n e _ sp d ts = refl
 
 pub msgs_law : (v : Bool) (d' : Bool) (n : ℕ) (s : State) → read limited (msgs v d' n) s ≡ next_list (read limited (msgs_item v d' n) s) (read limited (msgs v d' n))
 msgs_law v d' n s = alike (msgs v d' n) (msgs_item v d' n) (λ r. next_list r (read m (msgs v d' n))) (λ e. refl) (msgs_at v d' n) s
 
-atoms_at : (v : Bool) (d' : Bool) (n : ℕ) (e : ℕ) (k : Kind) (sp : Span) (d : Bool) (ts : List Tok) → step m (read m) (atoms v d' n) (at e (tok_at k sp d ∷ ts)) ≡ next_list (step m (read m) (atoms_item v d' n) (at e (tok_at k sp d ∷ ts))) (read m (atoms v d' n))
+atoms_at : (v : Bool) (d' : Bool) (n : ℕ) (e : ℕ) (k : Kind) (sp : Span) (d : Bool) (ts : List Tok) → reads_step m (read m) (atoms v d' n) (at e (tok_at k sp d ∷ ts)) ≡ next_list (reads_step m (read m) (atoms_item v d' n) (at e (tok_at k sp d ∷ ts))) (read m (atoms v d' n))
 atoms_at v d' n e (K.Mark mark.Comma) sp d ts = one_part (λ x. x) (read m (atoms v d' n)) (read m (Sym.atom v d' n) (at sp.to ts))
 atoms_at v d' n e _ sp d ts = refl
 
 pub atoms_law : (v : Bool) (d' : Bool) (n : ℕ) (s : State) → read limited (atoms v d' n) s ≡ next_list (read limited (atoms_item v d' n) s) (read limited (atoms v d' n))
 atoms_law v d' n s = alike (atoms v d' n) (atoms_item v d' n) (λ r. next_list r (read m (atoms v d' n))) (λ e. refl) (atoms_at v d' n) s
 
-words_at : (e : ℕ) (k : Kind) (sp : Span) (d : Bool) (ts : List Tok) → step m (read m) words (at e (tok_at k sp d ∷ ts)) ≡ next_list (step m (read m) words_item (at e (tok_at k sp d ∷ ts))) (read m words)
+words_at : (e : ℕ) (k : Kind) (sp : Span) (d : Bool) (ts : List Tok) → reads_step m (read m) words (at e (tok_at k sp d ∷ ts)) ≡ next_list (reads_step m (read m) words_item (at e (tok_at k sp d ∷ ts))) (read m words)
 words_at e (K.Mark mark.Comma) sp d ts = one_part (λ x. x) (read m words) (read m the_word (at sp.to ts))
 words_at e _ sp d ts = refl
 
 pub words_law : (s : State) → read limited words s ≡ next_list (read limited words_item s) (read limited words)
 words_law s = alike words words_item (λ r. next_list r (read m words)) (λ e. refl) words_at s
 
-decls_at : (v : Bool) (e : ℕ) (k : Kind) (sp : Span) (d : Bool) (ts : List Tok) → step m (read m) (decls v) (at e (tok_at k sp d ∷ ts)) ≡ next_list (step m (read m) (decls_item v) (at e (tok_at k sp d ∷ ts))) (read m (decls v))
+decls_at : (v : Bool) (e : ℕ) (k : Kind) (sp : Span) (d : Bool) (ts : List Tok) → reads_step m (read m) (decls v) (at e (tok_at k sp d ∷ ts)) ≡ next_list (reads_step m (read m) (decls_item v) (at e (tok_at k sp d ∷ ts))) (read m (decls v))
 decls_at v e (K.Reserved word.Free) sp d ts = one_part (free_from (sp ∷ [])) (read m (decls v)) (read m free_rest (at sp.to ts))
 decls_at v e (K.Reserved word.TypeWord) sp d ts = one_part (abbr_from (sp ∷ [])) (read m (decls v)) (read m (abbr_rest v) (at sp.to ts))
 decls_at v e _ sp d ts = refl
@@ -86,7 +86,7 @@ step_word e w sp d ts true b = one_part (act_from (sp ∷ [])) (read m steps) (r
 step_word e w sp d ts false true = one_part (talk_from (sp ∷ [])) (read m steps) (read m talk_rest (at sp.to ts))
 step_word e w sp d ts false false = refl
 
-steps_at : (e : ℕ) (k : Kind) (sp : Span) (d : Bool) (ts : List Tok) → step m (read m) steps (at e (tok_at k sp d ∷ ts)) ≡ next_list (step m (read m) steps_item (at e (tok_at k sp d ∷ ts))) (read m steps)
+steps_at : (e : ℕ) (k : Kind) (sp : Span) (d : Bool) (ts : List Tok) → reads_step m (read m) steps (at e (tok_at k sp d ∷ ts)) ≡ next_list (reads_step m (read m) steps_item (at e (tok_at k sp d ∷ ts))) (read m steps)
 steps_at e (K.Word w) sp d ts = step_word e w sp d ts (is_act w) (is_talk w)
 steps_at e _ sp d ts = refl
 
@@ -97,7 +97,7 @@ steps_law s = alike steps steps_item (λ r. next_list r (read m steps)) (λ e. r
 abbrev after_rest : (v : Bool) (n : ℕ) → Out Bool → Out (Option (List t.Field × t.Last))
 after_rest v n r = r >>= λ x. cond x.0 (Ok (None, x.1)) (read m (fields v n) x.1 >>= λ z. Ok (Some z.0, z.1))
 
-rest_at : (v : Bool) (n e : ℕ) (k : Kind) (sp : Span) (d : Bool) (ts : List Tok) → step m (read m) (fields_more v n) (at e (tok_at k sp d ∷ ts)) ≡ after_rest v n (step m (read m) fields_rest (at e (tok_at k sp d ∷ ts)))
+rest_at : (v : Bool) (n e : ℕ) (k : Kind) (sp : Span) (d : Bool) (ts : List Tok) → reads_step m (read m) (fields_more v n) (at e (tok_at k sp d ∷ ts)) ≡ after_rest v n (reads_step m (read m) fields_rest (at e (tok_at k sp d ∷ ts)))
 rest_at v n e (K.Mark mark.Comma) sp d ts = inner (read m (fields v n) (at sp.to ts))
   where
     inner : (o : Out (List t.Field × t.Last)) → ◌>>=◌ {B = Option (List t.Field × t.Last) × State} (◌>>=◌ {B = ((List t.Field × t.Last) × Unit {0}) × State} o (λ y. Ok ((y.0, tt), y.1))) (λ xs. Ok (Some xs.0.0, xs.1)) ≡ (o >>= λ z. Ok (Some z.0, z.1))
@@ -152,7 +152,7 @@ bare_last : (v : Bool) (n : ℕ) (r : Out (t.Ty × (Unit {0} × Unit {0}))) → 
 bare_last v n (Err f) = refl
 bare_last v n (Ok x) = refl
 
-fields_at : (v : Bool) (n e : ℕ) (k : Kind) (sp : Span) (d : Bool) (ts : List Tok) → step m (read m) (fields v n) (at e (tok_at k sp d ∷ ts)) ≡ next_list (step m (read m) (fields_item v n) (at e (tok_at k sp d ∷ ts))) (read m (fields v n))
+fields_at : (v : Bool) (n e : ℕ) (k : Kind) (sp : Span) (d : Bool) (ts : List Tok) → reads_step m (read m) (fields v n) (at e (tok_at k sp d ∷ ts)) ≡ next_list (reads_step m (read m) (fields_item v n) (at e (tok_at k sp d ∷ ts))) (read m (fields v n))
 fields_at v n e (K.Word text) sp d ts = may_passes (nat_lt message_limit n) d _ _ _ (read m (fields v n)) (field_word v n sp.to text sp ts)
 fields_at v n e k sp d ts = bare_last v n (read_all (read m) (Sym.ty v n ∷ Sym.the_mark mark.ParenClose ∷ []) (at e (tok_at k sp d ∷ ts)))
 
@@ -227,11 +227,11 @@ step_taken w e sp d ts false true y s h =
     omega arith
 step_taken w e sp d ts false false y s h = absurd (not_one tt y (at e (tok_at (K.Word w) sp d ∷ ts)) s h)
 
-step_takes : (e : ℕ) (ts : List Tok) (y : t.Step) (s : State) → step m (read m) steps_item (at e ts) ≡ Ok (one y, s) → length s.rest < length ts
+step_takes : (e : ℕ) (ts : List Tok) (y : t.Step) (s : State) → reads_step m (read m) steps_item (at e ts) ≡ Ok (one y, s) → length s.rest < length ts
 step_takes e [] y s h = absurd (not_one tt y (at e []) s h)
 step_takes e (u ∷ ts) y s h = by_kind u.kind u.span u.deep h
   where
-    by_kind : (k : Kind) (sp : Span) (d : Bool) → step m (read m) steps_item (at e (tok_at k sp d ∷ ts)) ≡ Ok (one y, s) → length s.rest < suc (length ts)
+    by_kind : (k : Kind) (sp : Span) (d : Bool) → reads_step m (read m) steps_item (at e (tok_at k sp d ∷ ts)) ≡ Ok (one y, s) → length s.rest < suc (length ts)
     by_kind (K.Word w) sp d h = let l = step_taken w e sp d ts (is_act w) (is_talk w) y s h in omega arith
     by_kind (K.Reserved w) sp d h = absurd (not_one tt y (at e (tok_at (K.Reserved w) sp d ∷ ts)) s h)
     by_kind (K.Number n) sp d h = absurd (not_one tt y (at e (tok_at (K.Number n) sp d ∷ ts)) s h)
@@ -249,7 +249,7 @@ seq_passes n f left go x h = go_by (nat_lt 500 n) refl h
     go_by true e k = absurd cc
     go_by false e k = ltb-false _ _ e
 
-seq_fits_at : (v : Bool) (n e : ℕ) (k : Kind) (sp : Span) (d : Bool) (ts : List Tok) (x : t.Proc × State) → step limited (read limited) (Sym.seq v n) (at e (tok_at k sp d ∷ ts)) ≡ Ok x → n ≤ 500
+seq_fits_at : (v : Bool) (n e : ℕ) (k : Kind) (sp : Span) (d : Bool) (ts : List Tok) (x : t.Proc × State) → reads_step limited (read limited) (Sym.seq v n) (at e (tok_at k sp d ∷ ts)) ≡ Ok x → n ≤ 500
 seq_fits_at v n e (K.Reserved word.Out) sp d ts x h = seq_passes n d _ _ x h
 seq_fits_at v n e (K.Reserved word.Inp) sp d ts x h = seq_passes n d _ _ x h
 seq_fits_at v n e (K.Reserved word.Repeat) sp d ts x h = seq_passes n d _ _ x h
@@ -268,7 +268,7 @@ seq_fits_at false n e (K.Reserved word.EndMany) sp d ts x h = absurd cc
 seq_fits_at v n e (K.Mark mark.ParenOpen) sp d ts x h = seq_passes n d _ _ x h
 seq_fits_at v n e _ sp d ts x h = absurd cc
 
-seq_fits_state : (v : Bool) (n e : ℕ) (ts : List Tok) (x : t.Proc × State) → step limited (read limited) (Sym.seq v n) (at e ts) ≡ Ok x → n ≤ 500
+seq_fits_state : (v : Bool) (n e : ℕ) (ts : List Tok) (x : t.Proc × State) → reads_step limited (read limited) (Sym.seq v n) (at e ts) ≡ Ok x → n ≤ 500
 seq_fits_state v n e [] x h = absurd cc
 seq_fits_state v n e (t ∷ ts) x h = seq_fits_at v n e t.kind t.span t.deep ts x h
 

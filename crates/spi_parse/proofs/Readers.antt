@@ -6,8 +6,8 @@ use Rattle.spi_text.specs.declared.lines.Span.{Span}
 use Rattle.spi_parse.specs.declared.fault.Fault.{Fault}
 use Rattle.spi_lex.specs.declared.token.Kind.{Kind}
 use Rattle.spi_parse.specs.Tokens.{Tok, State}
-use Rattle.spi_parse.specs.Table.{Sym, Tree, Trees, Move, eat, look, may_look, fail, stay, skip, deep_here, delta, at_end, high, all_below, may_stay}
-use Rattle.spi_parse.specs.Reading.{◌>>=◌, Out, Reader, Mode, limited, told, any, pass, may_pass, may_lead, leads_deep, read_all, go_on, or_end, step, read_within, read}
+use Rattle.spi_parse.specs.Table.{Sym, Tree, Trees, TableMove, eat, look, may_look, fail, stay, skip, deep_here, delta, at_end, high, all_below, may_stay}
+use Rattle.spi_parse.specs.Reading.{◌>>=◌, Out, Reader, Mode, limited, told, any, pass, may_pass, may_lead, leads_deep, read_all, go_on, or_end, reads_step, read_within, read}
 
 -- the value of a step that did not fail
 pub bind_ok : {A B : Type 0} (r : Result A Fault) (f : A → Result B Fault) (y : B) → (r >>= f) ≡ Ok y → (x : A) × (r ≡ Ok x) × (f x ≡ Ok y)
@@ -47,13 +47,13 @@ may_lead_ok any may f leads n go x e = e
 pub record NoLonger (rd : Reader) : Type 0 where
   pub by : (a : Sym) (s : State) (x : Tree a × State) → rd a s ≡ Ok x → length x.1.rest ≤ length s.rest
 
-abbrev pub done : {X : Type 0} → X → Result X Fault
-done x = Ok x
+abbrev pub done_result : {X : Type 0} → X → Result X Fault
+done_result x = Ok x
 
-pub ok_is : {X : Type 0} (y x : X) → done y ≡ done x → y ≡ x
+pub ok_is : {X : Type 0} (y x : X) → done_result y ≡ done_result x → y ≡ x
 ok_is y x e = cc
 
-ok_length : {X : Type 0} (y x : X × State) → done y ≡ done x → length x.1.rest ≡ length y.1.rest
+ok_length : {X : Type 0} (y x : X × State) → done_result y ≡ done_result x → length x.1.rest ≡ length y.1.rest
 ok_length {X = X} y x e = ap (λ (z : X × State). length z.1.rest) (sym (ok_is y x e))
 
 abbrev pub at : ℕ → List Tok → State
@@ -70,7 +70,7 @@ module _ (rd : Reader) (short : NoLonger rd) where
       let two = all_no_longer l p.0.1 q.0 q.1 in
       omega arith
 
-  pub moves_no_longer : {a : Sym} {ate : Bool} (m : Mode) (mv : Move a ate) (deep : Bool) (ss : List Span) (e : ℕ) (ts : List Tok) (x : Tree a × State) → go_on m rd mv deep ss (at e ts) ≡ Ok x → length x.1.rest ≤ length ts
+  pub moves_no_longer : {a : Sym} {ate : Bool} (m : Mode) (mv : TableMove a ate) (deep : Bool) (ss : List Span) (e : ℕ) (ts : List Tok) (x : Tree a × State) → go_on m rd mv deep ss (at e ts) ≡ Ok x → length x.1.rest ≤ length ts
   moves_no_longer m fail deep ss e ts x h = absurd cc
   moves_no_longer m (stay l low b) deep ss e [] x h = absurd cc
   moves_no_longer {a = a} m (stay l low b) deep ss e (t ∷ ts) x h =
@@ -103,7 +103,7 @@ module _ (rd : Reader) (short : NoLonger rd) where
       let one = moves_no_longer m (f t'.kind) false (ss ++ t.span ∷ []) t.span.to (t' ∷ ts) x g in
       omega arith
 
-  pub step_no_longer : (m : Mode) (a : Sym) (e : ℕ) (ts : List Tok) (x : Tree a × State) → step m rd a (at e ts) ≡ Ok x → length x.1.rest ≤ length ts
+  pub step_no_longer : (m : Mode) (a : Sym) (e : ℕ) (ts : List Tok) (x : Tree a × State) → reads_step m rd a (at e ts) ≡ Ok x → length x.1.rest ≤ length ts
   step_no_longer m a e [] x h = end_no_longer (at_end a) h
     where
       end_no_longer : (o : Option (Tree a)) → or_end o (at e []) ≡ Ok x → length x.1.rest ≤ 0
@@ -125,7 +125,7 @@ module _ (P : List Tok → Type 0) (tail : (t : Tok) (ts : List Tok) → P (t �
   pub record KeepsState (rd : Reader) : Type 0 where
     pub by : (a : Sym) (s : State) (x : Tree a × State) → rd a s ≡ Ok x → P s.rest → P x.1.rest
 
-  kept : {X : Type 0} (y x : X × State) → done y ≡ done x → P y.1.rest → P x.1.rest
+  kept : {X : Type 0} (y x : X × State) → done_result y ≡ done_result x → P y.1.rest → P x.1.rest
   kept {X = X} y x e p = subst (λ (z : X × State). P z.1.rest) (ok_is y x e) p
 
   module _ (rd : Reader) (keep : KeepsState rd) where
@@ -136,7 +136,7 @@ module _ (P : List Tok → Type 0) (tail : (t : Tok) (ts : List Tok) → P (t �
         let r = bind_ok (read_all rd l q.0.1) (λ ys. Ok ((q.0.0, ys.0), ys.1)) x q.2 in
         kept ((q.0.0, r.0.0), r.0.1) x r.2 (all_keep l q.0.1 r.0 r.1 (keep.by a s q.0 q.1 p))
 
-    pub moves_keep : {a : Sym} {ate : Bool} (m : Mode) (mv : Move a ate) (deep : Bool) (ss : List Span) (e : ℕ) (ts : List Tok) (x : Tree a × State) → go_on m rd mv deep ss (at e ts) ≡ Ok x → P ts → P x.1.rest
+    pub moves_keep : {a : Sym} {ate : Bool} (m : Mode) (mv : TableMove a ate) (deep : Bool) (ss : List Span) (e : ℕ) (ts : List Tok) (x : Tree a × State) → go_on m rd mv deep ss (at e ts) ≡ Ok x → P ts → P x.1.rest
     moves_keep m fail deep ss e ts x h p = absurd cc
     moves_keep m (stay l low b) deep ss e [] x h p = absurd cc
     moves_keep {a = a} m (stay l low b) deep ss e (t ∷ ts) x h p =
@@ -163,7 +163,7 @@ module _ (P : List Tok → Type 0) (tail : (t : Tok) (ts : List Tok) → P (t �
         let g = may_lead_ok m d t.deep (leads_deep (f t'.kind)) _ _ x (may_pass_ok m d t.deep _ _ x h) in
         moves_keep m (f t'.kind) false (ss ++ t.span ∷ []) t.span.to (t' ∷ ts) x g (tail t (t' ∷ ts) p)
 
-    pub step_keeps : (m : Mode) (a : Sym) (e : ℕ) (ts : List Tok) (x : Tree a × State) → step m rd a (at e ts) ≡ Ok x → P ts → P x.1.rest
+    pub step_keeps : (m : Mode) (a : Sym) (e : ℕ) (ts : List Tok) (x : Tree a × State) → reads_step m rd a (at e ts) ≡ Ok x → P ts → P x.1.rest
     step_keeps m a e [] x h p = at_ends (at_end a) h
       where
         at_ends : (o : Option (Tree a)) → or_end o (at e []) ≡ Ok x → P x.1.rest
@@ -235,7 +235,7 @@ module _ (rd rd' : Reader) (short : NoLonger rd) (most : ℕ) (same : Agree rd r
   wanted true a n = 4 * n + 3
   wanted false a n = 4 * n + high a - 1
 
-  moves_agree : {a : Sym} {ate : Bool} (m : Mode) (mv : Move a ate) (deep : Bool) (ss : List Span) (e : ℕ) (ts : List Tok) → wanted ate a (length ts) ≤ most → go_on m rd mv deep ss (at e ts) ≡ go_on m rd' mv deep ss (at e ts)
+  moves_agree : {a : Sym} {ate : Bool} (m : Mode) (mv : TableMove a ate) (deep : Bool) (ss : List Span) (e : ℕ) (ts : List Tok) → wanted ate a (length ts) ≤ most → go_on m rd mv deep ss (at e ts) ≡ go_on m rd' mv deep ss (at e ts)
   moves_agree m fail deep ss e ts h = refl
   moves_agree m (stay l low b) deep ss e [] h = refl
   moves_agree {a = a} {ate = ate} m (stay l low b) deep ss e (t ∷ ts) h = ap (λ (r : Out (Trees l)). ◌>>=◌ {B = Tree a × State} r (λ xs. Ok (b (ss ++ t.span ∷ []) xs.1.end xs.0, xs.1))) (go ate low h)
@@ -276,7 +276,7 @@ module _ (rd rd' : Reader) (short : NoLonger rd) (most : ℕ) (same : Agree rd r
       less true k = omega arith
       less false k = omega arith
 
-  step_agree : (m : Mode) (a : Sym) (e : ℕ) (ts : List Tok) → 4 * length ts + high a ≤ suc most → step m rd a (at e ts) ≡ step m rd' a (at e ts)
+  step_agree : (m : Mode) (a : Sym) (e : ℕ) (ts : List Tok) → 4 * length ts + high a ≤ suc most → reads_step m rd a (at e ts) ≡ reads_step m rd' a (at e ts)
   step_agree m a e [] h = refl
   step_agree m a e (t ∷ ts) h = moves_agree m (delta a t.kind) (deep_here a) [] e (t ∷ ts) (omega arith)
 
@@ -300,11 +300,11 @@ more m (suc k) n n' a s e h = one_more m n a s h ∙ more m k (suc n) n' a s (om
 any_turns : (m : Mode) (n n' : ℕ) (a : Sym) (s : State) → turns a s < n → turns a s < n' → read_within m n a s ≡ read_within m n' a s
 any_turns m n n' a s h k = more m n' n (n' + n) a s refl h ∙ sym (more m n n' (n' + n) a s (omega arith) k)
 
-within_step : (m : Mode) (n : ℕ) (a : Sym) (s : State) → read_within m (suc n) a s ≡ step m (read_within m n) a s
+within_step : (m : Mode) (n : ℕ) (a : Sym) (s : State) → read_within m (suc n) a s ≡ reads_step m (read_within m n) a s
 unfolding read_within
 within_step m n a s = refl
 
-step_at : (m : Mode) (a : Sym) (e : ℕ) (ts : List Tok) → read m a (at e ts) ≡ step m (read m) a (at e ts)
+step_at : (m : Mode) (a : Sym) (e : ℕ) (ts : List Tok) → read m a (at e ts) ≡ reads_step m (read m) a (at e ts)
 unfolding read
 step_at m a e ts =
     let two : 4 * length ts + 4 ≡ suc (4 * length ts + 3) = omega arith in
@@ -313,7 +313,7 @@ step_at m a e ts =
     step_agree (read_within m (4 * length ts + 3)) (read m) (within_no_longer m (4 * length ts + 3)) (4 * length ts + 2)
     (record { by = λ b s k. let q = high_most b in any_turns m (4 * length ts + 3) (4 * length s.rest + 4) b s (omega arith) (omega arith) }) m a e ts (omega arith)
 
-pub read_is_step : (m : Mode) (a : Sym) (s : State) → read m a s ≡ step m (read m) a s
+pub read_is_step : (m : Mode) (a : Sym) (s : State) → read m a s ≡ reads_step m (read m) a s
 read_is_step m a s = step_at m a s.end s.rest
 
 -- any number of turns from this on is enough
@@ -323,7 +323,7 @@ read_enough m n a s h = let q = high_most a in any_turns m (4 * length s.rest + 
 
 -- ---- what takes at least one token
 
-abbrev pub Base : {a : Sym} → Move a false → Type 0
+abbrev pub Base : {a : Sym} → TableMove a false → Type 0
 Base (eat l b) = Unit {0}
 Base (look f) = Unit {0}
 Base fail = Unit {0}
@@ -339,7 +339,7 @@ abbrev pub EatsFirst : List Sym → Type 0
 EatsFirst [] = ⊥
 EatsFirst (b ∷ l) = Eats b
 
-abbrev pub TakesToken : {a : Sym} → Move a false → Type 0
+abbrev pub TakesToken : {a : Sym} → TableMove a false → Type 0
 TakesToken (eat l b) = Unit {0}
 TakesToken (look f) = Unit {0}
 TakesToken fail = Unit {0}
@@ -356,7 +356,7 @@ none_ends None s x n e = cc
 none_ends (Some y) s x n e = cc
 
 module _ (m : Mode) where
-  moves_shorter : {a : Sym} (mv : Move a false) (deep : Bool) (ss : List Span) (e : ℕ) (t : Tok) (ts : List Tok) (x : Tree a × State) → Base mv → go_on m (read m) mv deep ss (at e (t ∷ ts)) ≡ Ok x → length x.1.rest ≤ length ts
+  moves_shorter : {a : Sym} (mv : TableMove a false) (deep : Bool) (ss : List Span) (e : ℕ) (t : Tok) (ts : List Tok) (x : Tree a × State) → Base mv → go_on m (read m) mv deep ss (at e (t ∷ ts)) ≡ Ok x → length x.1.rest ≤ length ts
   moves_shorter fail deep ss e t ts x base h = absurd cc
   moves_shorter (stay l low b) deep ss e t ts x base h = absurd base
   moves_shorter (skip y) deep ss e t ts x base h = absurd base
@@ -379,14 +379,14 @@ module _ (m : Mode) where
       let g = may_lead_ok m d t.deep (leads_deep (f t'.kind)) _ _ x (may_pass_ok m d t.deep _ _ x h) in
       moves_no_longer (read m) (no_longer m) m (f t'.kind) false (ss ++ t.span ∷ []) t.span.to (t' ∷ ts) x g
 
-  eats_at : (a : Sym) (e : ℕ) (ts : List Tok) (x : Tree a × State) → Eats a → step m (read m) a (at e ts) ≡ Ok x → length x.1.rest < length ts
+  eats_at : (a : Sym) (e : ℕ) (ts : List Tok) (x : Tree a × State) → Eats a → reads_step m (read m) a (at e ts) ≡ Ok x → length x.1.rest < length ts
   eats_at a e [] x eats h = absurd (none_ends (at_end a) (at e []) x eats.ends h)
   eats_at a e (t ∷ ts) x eats h = let k = moves_shorter (delta a t.kind) (deep_here a) [] e t ts x (eats.moves t.kind) h in omega arith
 
   pub eats_some : (a : Sym) (s : State) (x : Tree a × State) → Eats a → read m a s ≡ Ok x → length x.1.rest < length s.rest
   eats_some a s x eats h = eats_at a s.end s.rest x eats (sym (read_is_step m a s) ∙ h)
 
-  moves_take : {a : Sym} (mv : Move a false) (deep : Bool) (ss : List Span) (e : ℕ) (t : Tok) (ts : List Tok) (x : Tree a × State) → TakesToken mv → go_on m (read m) mv deep ss (at e (t ∷ ts)) ≡ Ok x → length x.1.rest ≤ length ts
+  moves_take : {a : Sym} (mv : TableMove a false) (deep : Bool) (ss : List Span) (e : ℕ) (t : Tok) (ts : List Tok) (x : Tree a × State) → TakesToken mv → go_on m (read m) mv deep ss (at e (t ∷ ts)) ≡ Ok x → length x.1.rest ≤ length ts
   moves_take fail deep ss e t ts x takes h = moves_shorter fail deep ss e t ts x tt h
   moves_take (stay [] low b) deep ss e t ts x takes h = absurd takes
   moves_take {a = a} (stay (c ∷ l) low b) deep ss e t ts x takes h =
@@ -403,7 +403,7 @@ module _ (m : Mode) where
   moves_take (look f) deep ss e t ts x takes h = moves_shorter (look f) deep ss e t ts x tt h
   moves_take (may_look d f) deep ss e t ts x takes h = moves_shorter (may_look d f) deep ss e t ts x tt h
 
-  takes_at : (a : Sym) (e : ℕ) (ts : List Tok) (x : Tree a × State) → TakesSome a → step m (read m) a (at e ts) ≡ Ok x → length x.1.rest < length ts
+  takes_at : (a : Sym) (e : ℕ) (ts : List Tok) (x : Tree a × State) → TakesSome a → reads_step m (read m) a (at e ts) ≡ Ok x → length x.1.rest < length ts
   takes_at a e [] x takes h = absurd (none_ends (at_end a) (at e []) x takes.ends h)
   takes_at a e (t ∷ ts) x takes h = let k = moves_take (delta a t.kind) (deep_here a) [] e t ts x (takes.moves t.kind) h in omega arith
 

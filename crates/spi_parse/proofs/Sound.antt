@@ -5,8 +5,8 @@ use Rattle.spi_parse.specs.declared.fault.Fault.{Fault}
 use Rattle.spi_lex.specs.declared.token.Kind.{Kind}
 use Rattle.spi_lex.specs.declared.token.Token.{Token}
 use Rattle.spi_parse.specs.Tokens.{Tok, State}
-use Rattle.spi_parse.specs.Table.{Sym, Tree, Trees, Move, eat, look, may_look, fail, stay, skip, deep_here, delta, at_end}
-use Rattle.spi_parse.specs.Reading.{◌>>=◌, Out, Reader, limited, pass, may_pass, read_all, go_on, or_end, step, read_within, read}
+use Rattle.spi_parse.specs.Table.{Sym, Tree, Trees, TableMove, eat, look, may_look, fail, stay, skip, deep_here, delta, at_end}
+use Rattle.spi_parse.specs.Reading.{◌>>=◌, Out, Reader, limited, pass, may_pass, read_all, go_on, or_end, reads_step, read_within, read}
 use Rattle.spi_tree.specs.Pieces.{Piece, opens, cell, closes, cells}
 use Rattle.spi_parse.specs.Exact.{Spells}
 use Rattle.spi_parse.proofs.Readers.{at, bind_ok, ok_is}
@@ -20,11 +20,11 @@ untok t = record { kind = t.kind; span = t.span }
 abbrev pub Lies : List Tok → ℕ → List Piece → List Tok → Type 0
 Lies left e ps ts = Spells (map untok left) e ps (map untok ts)
 
-abbrev pub plain : List Tok → List (Kind × Bool)
-plain [] = []
-plain (t ∷ ts) = (t.kind, false) ∷ plain ts
+abbrev pub plain_tokens : List Tok → List (Kind × Bool)
+plain_tokens [] = []
+plain_tokens (t ∷ ts) = (t.kind, false) ∷ plain_tokens ts
 
-plain_append : (a b : List Tok) (c : List (Kind × Bool)) → plain (a ++ b) ++ c ≡ plain a ++ (plain b ++ c)
+plain_append : (a b : List Tok) (c : List (Kind × Bool)) → plain_tokens (a ++ b) ++ c ≡ plain_tokens a ++ (plain_tokens b ++ c)
 plain_append [] b c = refl
 plain_append (t ∷ a) b c = ap (λ (l : List (Kind × Bool)). (t.kind, false) ∷ l) (plain_append a b c)
 
@@ -32,7 +32,7 @@ plain_append (t ∷ a) b c = ap (λ (l : List (Kind × Bool)). (t.kind, false) �
 pub record Lays (e : ℕ) (ps : List Piece) (ts : List Tok) (e' : ℕ) (ps' : List Piece) (ts' : List Tok) : Type 0 where
   pub pre : List Tok
   pub split : ts ≡ pre ++ ts'
-  pub cells_are : cells ps ≡ plain pre ++ cells ps'
+  pub cells_are : cells ps ≡ plain_tokens pre ++ cells ps'
   pub lies : (left : List Tok) → Lies left e' ps' ts' → Lies left e ps ts
 
 pub lays_here : (e : ℕ) (ps : List Piece) (ts : List Tok) → Lays e ps ts e ps ts
@@ -42,7 +42,7 @@ pub lays_on : (e e' e'' : ℕ) (ps ps' ps'' : List Piece) (ts ts' ts'' : List To
 lays_on e e' e'' ps ps' ps'' ts ts' ts'' a b = record {
   pre = a.pre ++ b.pre;
   split = a.split ∙ ap (λ (l : List Tok). a.pre ++ l) b.split ∙ sym (append_assoc a.pre b.pre ts'');
-  cells_are = a.cells_are ∙ ap (λ (l : List (Kind × Bool)). plain a.pre ++ l) b.cells_are ∙ sym (plain_append a.pre b.pre (cells ps''));
+  cells_are = a.cells_are ∙ ap (λ (l : List (Kind × Bool)). plain_tokens a.pre ++ l) b.cells_are ∙ sym (plain_append a.pre b.pre (cells ps''));
   lies = λ left h. a.lies left (b.lies left h);
 }
 
@@ -59,9 +59,9 @@ abbrev pub FrontOfMove : Type 0
 FrontOfMove = List Piece → List Piece
 
 -- so many nodes and words begin at a token, or end with one
-abbrev pub opened : ℕ → ℕ → FrontOfMove
-opened zero from q = q
-opened (suc k) from q = opens from ∷ opened k from q
+abbrev pub opened_front : ℕ → ℕ → FrontOfMove
+opened_front zero from q = q
+opened_front (suc k) from q = opens from ∷ opened_front k from q
 
 abbrev pub closed : ℕ → ℕ → FrontOfMove
 closed zero to q = q
@@ -74,13 +74,13 @@ word_front true k s b q = opens s.from ∷ opens s.from ∷ cell k b ∷ closes 
 
 -- how the tree that a move builds is spelled: by its parts behind what was eaten, and whether a node begins or ends with it
 abbrev pub IsMoveSpelled : (a : Sym) (l : List Sym) → ℕ → FrontOfMove → ℕ → Tree a → Trees l → Type 0
-IsMoveSpelled a l from fr to x xs = (o : ℕ) × (c : ℕ) × ((r : List Piece) → spell a x r ≡ opened o from (fr (spell_all l xs (closed c to r))))
+IsMoveSpelled a l from fr to x xs = (o : ℕ) × (c : ℕ) × ((r : List Piece) → spell a x r ≡ opened_front o from (fr (spell_all l xs (closed c to r))))
 
 abbrev pub Builds : (a : Sym) (l : List Sym) → ℕ → FrontOfMove → (ℕ → Trees l → Tree a) → Type 0
 Builds a l from fr b = (to : ℕ) (xs : Trees l) → FormedAll l xs → Formed a (b to xs) × IsMoveSpelled a l from fr to (b to xs) xs
 
 -- from is where the first token begins, fr what was eaten, and k and s are of the token to come
-abbrev pub MoveOk : {a : Sym} {ate : Bool} → Move a ate → Bool → List Span → ℕ → FrontOfMove → Kind → Span → Type 0
+abbrev pub MoveOk : {a : Sym} {ate : Bool} → TableMove a ate → Bool → List Span → ℕ → FrontOfMove → Kind → Span → Type 0
 MoveOk {a = a} (eat l b) deep ss from fr k s = (w : ℕ) × Builds a l from (λ q. fr (cell k deep ∷ closed w s.to q)) (b (ss ++ s ∷ []))
 MoveOk (look f) deep ss from fr k s = (k' : Kind) (s' : Span) → MoveOk (f k') false (ss ++ s ∷ []) from (λ q. fr (cell k deep ∷ q)) k' s'
 MoveOk fail deep ss from fr k s = Unit {0}
@@ -108,7 +108,7 @@ eaten_more e0 ts0 from fr more e e' ts ts' a b = record {
   starts = a.starts;
 }
 
-pub cells_opened : (o : ℕ) (from : ℕ) (q : List Piece) → cells (opened o from q) ≡ cells q
+pub cells_opened : (o : ℕ) (from : ℕ) (q : List Piece) → cells (opened_front o from q) ≡ cells q
 cells_opened zero from q = refl
 cells_opened (suc o) from q = cells_opened o from q
 
@@ -116,11 +116,11 @@ pub cells_closed : (c : ℕ) (to : ℕ) (q : List Piece) → cells (closed c to 
 cells_closed zero to q = refl
 cells_closed (suc c) to q = cells_closed c to q
 
-starts_more : (left : List Tok) (o : ℕ) (e0 : ℕ) (ts0 : List Tok) (from : ℕ) (ps : List Piece) → ((qs : List Piece) → Lies left e0 qs ts0 → Lies left e0 (opens from ∷ qs) ts0) → Lies left e0 ps ts0 → Lies left e0 (opened o from ps) ts0
+starts_more : (left : List Tok) (o : ℕ) (e0 : ℕ) (ts0 : List Tok) (from : ℕ) (ps : List Piece) → ((qs : List Piece) → Lies left e0 qs ts0 → Lies left e0 (opens from ∷ qs) ts0) → Lies left e0 ps ts0 → Lies left e0 (opened_front o from ps) ts0
 starts_more left zero e0 ts0 from ps go h = h
-starts_more left (suc o) e0 ts0 from ps go h = go (opened o from ps) (starts_more left o e0 ts0 from ps go h)
+starts_more left (suc o) e0 ts0 from ps go h = go (opened_front o from ps) (starts_more left o e0 ts0 from ps go h)
 
-pub eaten_opened : (o : ℕ) (e0 : ℕ) (ts0 : List Tok) (from : ℕ) (fr : FrontOfMove) (e : ℕ) (ts : List Tok) → Eaten e0 ts0 from fr e ts → (q : List Piece) → Lays e0 (opened o from (fr q)) ts0 e q ts
+pub eaten_opened : (o : ℕ) (e0 : ℕ) (ts0 : List Tok) (from : ℕ) (fr : FrontOfMove) (e : ℕ) (ts : List Tok) → Eaten e0 ts0 from fr e ts → (q : List Piece) → Lays e0 (opened_front o from (fr q)) ts0 e q ts
 eaten_opened o e0 ts0 from fr e ts a q =
     let l = a.lays q in
     record { pre = l.pre; split = l.split; cells_are = cells_opened o from (fr q) ∙ l.cells_are; lies = λ left h. starts_more left o e0 ts0 from (fr q) (a.starts left) (l.lies left h) }
@@ -173,7 +173,7 @@ module _ (rd : Reader) (sound : IsSound rd) where
       subst (λ (z : Tree a × State). Formed a z.0 × ((r : List Piece) → Lays e0 (spell a z.0 r) ts0 z.1.end r z.1.rest)) (ok_is made x p.2)
       (how.0, λ r. rw (how.1.2 r) (lays_on _ _ _ _ _ _ _ _ _ (eaten_opened how.1.0 e0 ts0 from fr e ts eaten (spell_all l p.0.0 (closed how.1.1 p.0.1.end r))) (lays_on _ _ _ _ _ _ _ _ _ (parts.1 (closed how.1.1 p.0.1.end r)) (lays_closed how.1.1 p.0.1.end r p.0.1.rest))))
 
-  moves_sound : {a : Sym} {ate : Bool} (mv : Move a ate) (deep : Bool) (ss : List Span) (from : ℕ) (fr : FrontOfMove) (e0 : ℕ) (ts0 : List Tok) (e : ℕ) (t : Tok) (ts : List Tok) (x : Tree a × State)
+  moves_sound : {a : Sym} {ate : Bool} (mv : TableMove a ate) (deep : Bool) (ss : List Span) (from : ℕ) (fr : FrontOfMove) (e0 : ℕ) (ts0 : List Tok) (e : ℕ) (t : Tok) (ts : List Tok) (x : Tree a × State)
       → MoveOk mv deep ss from fr t.kind t.span → Eaten e0 ts0 from fr e (t ∷ ts) → go_on limited rd mv deep ss (at e (t ∷ ts)) ≡ Ok x → Formed a x.0 × ((r : List Piece) → Lays e0 (spell a x.0 r) ts0 x.1.end r x.1.rest)
   moves_sound fail deep ss from fr e0 ts0 e t ts x ok eaten h = absurd cc
   moves_sound {a = a} (eat l b) deep ss from fr e0 ts0 e t ts x ok eaten h =
@@ -206,7 +206,7 @@ module _ (rd : Reader) (sound : IsSound rd) where
       let k = ok y refl in
       subst (λ (z : Tree a × State). Formed a z.0 × ((r : List Piece) → Lays e (spell a z.0 r) [] z.1.end r z.1.rest)) (ok_is made x h) (k.0, λ r. rw (k.1 r) (lays_here e r []))
 
-  step_sound : (table : TableOk) (a : Sym) (e : ℕ) (ts : List Tok) (x : Tree a × State) → step limited rd a (at e ts) ≡ Ok x → Formed a x.0 × ((r : List Piece) → Lays e (spell a x.0 r) ts x.1.end r x.1.rest)
+  step_sound : (table : TableOk) (a : Sym) (e : ℕ) (ts : List Tok) (x : Tree a × State) → reads_step limited rd a (at e ts) ≡ Ok x → Formed a x.0 × ((r : List Piece) → Lays e (spell a x.0 r) ts x.1.end r x.1.rest)
   step_sound table a e [] x h = ends_sound a (at_end a) e x (table.ends a) h
   step_sound table a e (t ∷ ts) x h =
       moves_sound (delta a t.kind) (deep_here a) [] t.span.from (λ q. q) e (t ∷ ts) e t ts x (table.moves a t.kind t.span)

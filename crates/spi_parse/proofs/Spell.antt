@@ -8,7 +8,7 @@ use Rattle.spi_tree.specs.Pieces.{Piece, closes, a_mark, a_reserved, a_number, a
 use Rattle.spi_tree.specs.Formed.{IsMsg, AreMsgs, IsAtom, AreAtoms, IsTy, AreFields, IsLast, IsProc, IsDeclared, AreDeclared, IsWritten, IsFormedOpponent, is_later}
 use Rattle.spi_parse.specs.Table.{ListItem, one, last, Body, Sym, the_mark, the_reserved, the_word, the_number, the_two, msg, msgs_item, msgs, atom, atoms_item, atoms, effect, ty, fields_item, fields_rest, fields, fields_more, named, binder, split_head, match_head, case_head, decrypt_head, check_head, cast_head, sproc, seq, out_tail, par_tail, words_item, words, free_rest, abbr_rest, decl, decls_item, decls, act_rest, talk_rest, steps_item, steps, deriv, opponent_tail, schedule_tail, derivation_tail, body, file, Tree, Trees}
 use Rattle.spi_parse.specs.Rules.{arity_of, writes_effect}
-use Rattle.spi_parse.specs.Formed.{number_of, is_written}
+use Rattle.spi_parse.specs.Formed.{count_derivs, is_written}
 
 abbrev pub item_msg : ℕ → ListItem t.Msg (Unit {0}) → List Piece → List Piece
 item_msg n (one m) r = a_mark mark.Comma (msg_pieces n m r)
@@ -111,15 +111,15 @@ spell_all (a ∷ l) xs r = spell a xs.0 (spell_all l xs.1 r)
 -- a derivation that is formed, with its rules
 abbrev mutual
   pub IsRuled : Bool → t.Deriv → Type 0
-  IsRuled later (t.rule s w es ds) = (arity_of later w.word ≡ Some (number_of ds)) × (writes_effect w.word ≡ is_written es) × IsWritten later es × AreRuled later ds
+  IsRuled later (t.rule s w es ds) = (arity_of later w.word ≡ Some (count_derivs ds)) × (writes_effect w.word ≡ is_written es) × IsWritten later es × AreRuled later ds
 
   pub AreRuled : Bool → t.Derivs → Type 0
   AreRuled later t.no_derivs = Unit {0}
   AreRuled later (t.more_derivs d ds) = IsRuled later d × AreRuled later ds
 
-abbrev pub IsDerivation : Bool → Option t.Deriv → Type 0
-IsDerivation later None = Unit {0}
-IsDerivation later (Some d) = IsRuled later d
+abbrev pub IsRuledDerivation : Bool → Option t.Deriv → Type 0
+IsRuledDerivation later None = Unit {0}
+IsRuledDerivation later (Some d) = IsRuled later d
 
 -- a formed file, but for its words
 pub record IsRuledFile (f : t.File) : Type 0 where
@@ -127,7 +127,7 @@ pub record IsRuledFile (f : t.File) : Type 0 where
   pub decls : AreDeclared (is_later f) f.decls
   pub process : IsProc (is_later f) (at_level 0) f.process
   pub opponent : IsFormedOpponent (is_later f) f.opponent
-  pub derivation : IsDerivation (is_later f) f.derivation
+  pub derivation : IsRuledDerivation (is_later f) f.derivation
 
 abbrev pub IsRest : Bool → Place → Option t.Proc → Type 0
 IsRest v a None = Unit {0}
@@ -157,7 +157,7 @@ IsDeclItem v (one d) = IsDeclared v d
 IsDeclItem v (last e) = Unit {0}
 
 abbrev pub IsBody : Bool → Body → Type 0
-IsBody v b = AreDeclared v b.decls × IsProc v (at_level 0) b.process × IsFormedOpponent v b.opponent × IsDerivation v b.derivation
+IsBody v b = AreDeclared v b.decls × IsProc v (at_level 0) b.process × IsFormedOpponent v b.opponent × IsRuledDerivation v b.derivation
 
 abbrev pub Formed : (a : Sym) → Tree a → Type 0
 Formed (msg v d n) x = IsMsg v d x
@@ -189,7 +189,7 @@ Formed (decls_item v) x = IsDeclItem v x
 Formed (decls v) x = AreDeclared v x.0
 Formed (deriv v n) x = IsRuled v x
 Formed (opponent_tail v) x = IsFormedOpponent v x
-Formed (derivation_tail v) x = IsDerivation v x
+Formed (derivation_tail v) x = IsRuledDerivation v x
 Formed (body v) x = IsBody v x
 Formed file x = IsRuledFile x
 Formed _ x = Unit {0}

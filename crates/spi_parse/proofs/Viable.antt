@@ -6,12 +6,12 @@ use Rattle.spi_parse.specs.declared.fault.Fault.{Fault}
 use Rattle.spi_parse.specs.declared.fault.Fault.TheVariants.{Syntax, TooDeep}
 use Rattle.spi_lex.specs.declared.token.Kind.{Kind}
 use Rattle.spi_parse.specs.Tokens.{Tok, State}
-use Rattle.spi_parse.specs.Table.{Sym, Tree, Trees, Move, eat, look, may_look, fail, stay, skip, deep_here, delta, at_end}
-use Rattle.spi_parse.specs.Reading.{◌>>=◌, Out, Reader, limited, pass, may_pass, read_all, go_on, or_end, step, read_within, read}
+use Rattle.spi_parse.specs.Table.{Sym, Tree, Trees, TableMove, eat, look, may_look, fail, stay, skip, deep_here, delta, at_end}
+use Rattle.spi_parse.specs.Reading.{◌>>=◌, Out, Reader, limited, pass, may_pass, read_all, go_on, or_end, reads_step, read_within, read}
 use Rattle.spi_tree.specs.Pieces.{Piece, cell, cells}
 use Rattle.spi_parse.proofs.Readers.{at}
 use Rattle.spi_parse.proofs.Spell.{spell, spell_all, Formed, FormedAll}
-use Rattle.spi_parse.proofs.Sound.{plain, FrontOfMove, closed, word_front, Builds, MoveOk, TableOk, IsSound, Eaten, lays_here, lays_cell, lays_token, lays_word, cells_opened, cells_closed, eaten_more, within_sound}
+use Rattle.spi_parse.proofs.Sound.{plain_tokens, FrontOfMove, closed, word_front, Builds, MoveOk, TableOk, IsSound, Eaten, lays_here, lays_cell, lays_token, lays_word, cells_opened, cells_closed, eaten_more, within_sound}
 use Rattle.spi_tree.specs.Formed.{IsWordFit}
 
 -- the words among tokens that aren't given are Words in both versions
@@ -22,19 +22,19 @@ AreSpare (c ∷ cs) = IsWordFit true c.0 × AreSpare cs
 -- The fault's token stands behind tokens that are those of the cells, and a token that is too deep is so among them. The
 -- cells behind it are spare where those behind the tree are.
 abbrev pub ReachesFault : List Tok → Fault → List (Kind × Bool) → Type 0 → Type 0
-ReachesFault ts (Syntax n) cs q = (pre : List Tok) × (r : List Tok) × (c : List (Kind × Bool)) × (ts ≡ pre ++ r) × (length r ≡ n) × (cs ≡ plain pre ++ c) × (q → AreSpare c)
-ReachesFault ts (TooDeep n) cs q = (pre : List Tok) × (t : Tok) × (r : List Tok) × (c : List (Kind × Bool)) × (ts ≡ pre ++ t ∷ r) × (suc (length r) ≡ n) × (cs ≡ plain pre ++ (t.kind, true) ∷ c) × (q → AreSpare c)
+ReachesFault ts (Syntax n) cs q = (pre : List Tok) × (r : List Tok) × (c : List (Kind × Bool)) × (ts ≡ pre ++ r) × (length r ≡ n) × (cs ≡ plain_tokens pre ++ c) × (q → AreSpare c)
+ReachesFault ts (TooDeep n) cs q = (pre : List Tok) × (t : Tok) × (r : List Tok) × (c : List (Kind × Bool)) × (ts ≡ pre ++ t ∷ r) × (suc (length r) ≡ n) × (cs ≡ plain_tokens pre ++ (t.kind, true) ∷ c) × (q → AreSpare c)
 
-plain_on : (a b : List Tok) (c : List (Kind × Bool)) → plain (a ++ b) ++ c ≡ plain a ++ (plain b ++ c)
+plain_on : (a b : List Tok) (c : List (Kind × Bool)) → plain_tokens (a ++ b) ++ c ≡ plain_tokens a ++ (plain_tokens b ++ c)
 plain_on [] b c = refl
 plain_on (t ∷ a) b c = ap (λ (l : List (Kind × Bool)). (t.kind, false) ∷ l) (plain_on a b c)
 
 -- behind more tokens
-later : (pre ts ts' : List Tok) (d : Fault) (cs cs' : List (Kind × Bool)) (q q' : Type 0) → ts ≡ pre ++ ts' → cs ≡ plain pre ++ cs' → (q → q') → ReachesFault ts' d cs' q' → ReachesFault ts d cs q
+later : (pre ts ts' : List Tok) (d : Fault) (cs cs' : List (Kind × Bool)) (q q' : Type 0) → ts ≡ pre ++ ts' → cs ≡ plain_tokens pre ++ cs' → (q → q') → ReachesFault ts' d cs' q' → ReachesFault ts d cs q
 later pre ts ts' (Syntax n) cs cs' q q' e k f r =
-    (pre ++ r.0, r.1, r.2, e ∙ ap (λ (l : List Tok). pre ++ l) r.3 ∙ sym (append_assoc pre r.0 r.1), r.4, k ∙ ap (λ (l : List (Kind × Bool)). plain pre ++ l) r.5 ∙ sym (plain_on pre r.0 r.2), λ h. r.6 (f h))
+    (pre ++ r.0, r.1, r.2, e ∙ ap (λ (l : List Tok). pre ++ l) r.3 ∙ sym (append_assoc pre r.0 r.1), r.4, k ∙ ap (λ (l : List (Kind × Bool)). plain_tokens pre ++ l) r.5 ∙ sym (plain_on pre r.0 r.2), λ h. r.6 (f h))
 later pre ts ts' (TooDeep n) cs cs' q q' e k f r =
-    (pre ++ r.0, r.1, r.2, r.3, e ∙ ap (λ (l : List Tok). pre ++ l) r.4 ∙ sym (append_assoc pre r.0 (r.1 ∷ r.2)), r.5, k ∙ ap (λ (l : List (Kind × Bool)). plain pre ++ l) r.6 ∙ sym (plain_on pre r.0 ((r.1.kind, true) ∷ r.3)), λ h. r.7 (f h))
+    (pre ++ r.0, r.1, r.2, r.3, e ∙ ap (λ (l : List Tok). pre ++ l) r.4 ∙ sym (append_assoc pre r.0 (r.1 ∷ r.2)), r.5, k ∙ ap (λ (l : List (Kind × Bool)). plain_tokens pre ++ l) r.6 ∙ sym (plain_on pre r.0 ((r.1.kind, true) ∷ r.3)), λ h. r.7 (f h))
 
 -- spare cells behind one part are so behind another where the cells are equal
 spare_as : (cs cs' : List (Kind × Bool)) → cs ≡ cs' → AreSpare cs → AreSpare cs'
@@ -44,7 +44,7 @@ pub record Viable (rd : Reader) : Type 0 where
   pub by : (a : Sym) (s : State) (d : Fault) → rd a s ≡ Err d → (x : Tree a) × Formed a x × ((q : List Piece) → ReachesFault s.rest d (cells (spell a x q)) (AreSpare (cells q)))
 
 -- whether more is eaten by some token, so that a tree is built
-abbrev pub EatsMore : {a : Sym} {ate : Bool} → Move a ate → Type 0
+abbrev pub EatsMore : {a : Sym} {ate : Bool} → TableMove a ate → Type 0
 EatsMore (eat l b) = Unit {0}
 EatsMore (look f) = (k : Kind) × IsWordFit true k × EatsMore (f k)
 EatsMore fail = ⊥
@@ -53,7 +53,7 @@ EatsMore (may_look d f) = (k : Kind) × IsWordFit true k × EatsMore (f k)
 EatsMore (skip x) = Unit {0}
 
 -- a look leads somewhere, and one that may be too deep leads to a node that is
-abbrev pub Live : {a : Sym} {ate : Bool} → Move a ate → Bool → List Span → ℕ → FrontOfMove → Kind → Span → Type 0
+abbrev pub Live : {a : Sym} {ate : Bool} → TableMove a ate → Bool → List Span → ℕ → FrontOfMove → Kind → Span → Type 0
 Live (eat l b) deep ss from fr k s = Unit {0}
 Live (look f) deep ss from fr k s = ((k' : Kind) × IsWordFit true k' × EatsMore (f k')) × ((k' : Kind) (s' : Span) → Live (f k') false (ss ++ s ∷ []) from (λ q. fr (cell k deep ∷ q)) k' s')
 Live fail deep ss from fr k s = Unit {0}
@@ -115,7 +115,7 @@ module _ (live : TableLive) where
   spare_word true k s b q fit h = (fit, h)
 
   -- some tree, at a token that the move eats
-  grows : {a : Sym} {ate : Bool} (mv : Move a ate) (deep : Bool) (ss : List Span) (from : ℕ) (fr : FrontOfMove) (k : Kind) (s : Span) → IsWordFit true k → EatsMore mv → MoveOk mv deep ss from fr k s → Extends a fr
+  grows : {a : Sym} {ate : Bool} (mv : TableMove a ate) (deep : Bool) (ss : List Span) (from : ℕ) (fr : FrontOfMove) (k : Kind) (s : Span) → IsWordFit true k → EatsMore mv → MoveOk mv deep ss from fr k s → Extends a fr
   grows {a = a} (eat l b) deep ss from fr k s fit g ok =
       longer a fr (λ q. cell k deep ∷ closed ok.0 s.to q) (λ q h. spare_token ok.0 s.to k deep q fit h) (built_by a l from (λ q. fr (cell k deep ∷ closed ok.0 s.to q)) (b (ss ++ s ∷ [])) ok.1)
   grows {a = a} (look f) deep ss from fr k s fit g ok =
@@ -133,7 +133,7 @@ module _ (live : TableLive) where
       → (x : Tree a) × Formed a x × ((q : List Piece) → (ps : List Piece) × (c : List (Kind × Bool)) × (cells (spell a x q) ≡ cells (fr ps)) × (cells ps ≡ (t.kind, true) ∷ c) × (AreSpare (cells q) → AreSpare c))
       → (x : Tree a) × Formed a x × ((q : List Piece) → ReachesFault ts0 (TooDeep (suc (length ts))) (cells (spell a x q)) (AreSpare (cells q)))
   deep_at a e0 ts0 from fr e t ts eaten x =
-      (x.0, x.1, λ q. let y = x.2 q in let l = eaten.lays y.0 in (l.pre, t, ts, y.1, l.split, refl, y.2 ∙ l.cells_are ∙ ap (λ (c : List (Kind × Bool)). plain l.pre ++ c) y.3, y.4))
+      (x.0, x.1, λ q. let y = x.2 q in let l = eaten.lays y.0 in (l.pre, t, ts, y.1, l.split, refl, y.2 ∙ l.cells_are ∙ ap (λ (c : List (Kind × Bool)). plain_tokens l.pre ++ c) y.3, y.4))
 
   -- where no token fits
   stuck_at : (a : Sym) (e0 : ℕ) (ts0 : List Tok) (from : ℕ) (fr : FrontOfMove) (e : ℕ) (ts : List Tok) → Eaten e0 ts0 from fr e ts → Extends a fr
@@ -212,23 +212,23 @@ module _ (live : TableLive) where
             let l = eaten.lays (word_front true t.kind t.span may q) in
             let k = eaten.lays (word_front false t.kind t.span false q) in
             let same : l.pre ≡ k.pre = append_cancel_right l.pre k.pre (t ∷ us) (sym l.split ∙ k.split) in
-            l.cells_are ∙ ap (λ (p : List Tok). plain p ++ (t.kind, may) ∷ cells q) same ∙ ap (λ (b : Bool). plain k.pre ++ (t.kind, b) ∷ cells q) z ∙ sym k.cells_are
+            l.cells_are ∙ ap (λ (p : List Tok). plain_tokens p ++ (t.kind, may) ∷ cells q) same ∙ ap (λ (b : Bool). plain_tokens k.pre ++ (t.kind, b) ∷ cells q) z ∙ sym k.cells_are
 
-    abbrev Witness : {a : Sym} → Bool → (Kind → Move a true) → List Span → ℕ → FrontOfMove → Tok → Type 0
+    abbrev Witness : {a : Sym} → Bool → (Kind → TableMove a true) → List Span → ℕ → FrontOfMove → Tok → Type 0
     Witness may f ss from fr t = (k' : Kind) × IsWordFit true k' × EatsMore (f k') × ((s' : Span) → MoveOk (f k') false (ss ++ t.span ∷ []) from (λ q. fr (word_front true t.kind t.span may q)) k' s')
 
-    may_grown : {a : Sym} (may : Bool) (f : Kind → Move a true) (ss : List Span) (from : ℕ) (fr : FrontOfMove) (t : Tok) → Witness may f ss from fr t → Extends a (λ q. fr (word_front true t.kind t.span may q))
+    may_grown : {a : Sym} (may : Bool) (f : Kind → TableMove a true) (ss : List Span) (from : ℕ) (fr : FrontOfMove) (t : Tok) → Witness may f ss from fr t → Extends a (λ q. fr (word_front true t.kind t.span may q))
     may_grown may f ss from fr t w = grows (f w.0) false (ss ++ t.span ∷ []) from (λ q. fr (word_front true t.kind t.span may q)) w.0 t.span w.1 w.2 (w.3 t.span)
 
     may_laid : (from : ℕ) (fr : FrontOfMove) (e0 : ℕ) (ts0 : List Tok) (e : ℕ) (t : Tok) (us : List Tok) (node b : Bool) → b ≡ false → Eaten e0 ts0 from fr e (t ∷ us) → Eaten e0 ts0 from (λ q. fr (word_front node t.kind t.span b q)) t.span.to us
     may_laid from fr e0 ts0 e t us node b z eaten = eaten_more e0 ts0 from fr (word_front node t.kind t.span b) e t.span.to (t ∷ us) us eaten (λ q. lays_word node e b q t us z)
 
-    may_deep : {a : Sym} (may : Bool) (f : Kind → Move a true) (ss : List Span) (from : ℕ) (fr : FrontOfMove) (e0 : ℕ) (ts0 : List Tok) (e : ℕ) (t : Tok) (us : List Tok) → Witness may f ss from fr t → Eaten e0 ts0 from fr e (t ∷ us) → may ≡ true → Found a ts0 (TooDeep (suc (length us)))
+    may_deep : {a : Sym} (may : Bool) (f : Kind → TableMove a true) (ss : List Span) (from : ℕ) (fr : FrontOfMove) (e0 : ℕ) (ts0 : List Tok) (e : ℕ) (t : Tok) (us : List Tok) → Witness may f ss from fr t → Eaten e0 ts0 from fr e (t ∷ us) → may ≡ true → Found a ts0 (TooDeep (suc (length us)))
     may_deep {a = a} may f ss from fr e0 ts0 e t us w eaten z =
         let x = may_grown may f ss from fr t w in
         deep_at a e0 ts0 from fr e t us eaten (x.0, x.1, λ q. let y = x.2 q in (word_front true t.kind t.span may y.0, cells y.0, y.1, ap (λ (b : Bool). (t.kind, b) ∷ cells y.0) z, y.2))
 
-    moves_viable : {a : Sym} {ate : Bool} (mv : Move a ate) (deep : Bool) (ss : List Span) (from : ℕ) (fr : FrontOfMove) (e0 : ℕ) (ts0 : List Tok) (e : ℕ) (t : Tok) (ts : List Tok) (d : Fault)
+    moves_viable : {a : Sym} {ate : Bool} (mv : TableMove a ate) (deep : Bool) (ss : List Span) (from : ℕ) (fr : FrontOfMove) (e0 : ℕ) (ts0 : List Tok) (e : ℕ) (t : Tok) (ts : List Tok) (d : Fault)
         → MoveOk mv deep ss from fr t.kind t.span → Live mv deep ss from fr t.kind t.span → Eaten e0 ts0 from fr e (t ∷ ts) → Extends a fr → go_on limited rd mv deep ss (at e (t ∷ ts)) ≡ Err d → Found a ts0 d
     moves_viable {a = a} fail deep ss from fr e0 ts0 e t ts d ok lv eaten fall h = let same : Syntax (suc (length ts)) ≡ d = cc in as_fault a ts0 _ d same (stuck_at a e0 ts0 from fr e (t ∷ ts) eaten fall)
     moves_viable {a = a} (skip y) deep ss from fr e0 ts0 e t ts d ok lv eaten fall h = absurd cc
@@ -265,7 +265,7 @@ module _ (live : TableLive) where
           ]
         ]
 
-    step_viable : (table : TableOk) (a : Sym) (e : ℕ) (ts : List Tok) (d : Fault) → step limited rd a (at e ts) ≡ Err d → Found a ts d
+    step_viable : (table : TableOk) (a : Sym) (e : ℕ) (ts : List Tok) (d : Fault) → reads_step limited rd a (at e ts) ≡ Err d → Found a ts d
     step_viable table a e [] d h = (live.some a, live.formed a, λ q. subst (λ (z : Fault). ReachesFault [] z (cells (spell a (live.some a) q)) (AreSpare (cells q))) (none (at_end a) h) ([], [], cells (spell a (live.some a) q), refl, refl, refl, live.spare a q))
       where
         none : (o : Option (Tree a)) → or_end o (at e []) ≡ Err d → Syntax 0 ≡ d

@@ -16,20 +16,20 @@ use Rattle.spi_parse.specs.Table.{Sym, Tree, msg, ty, decl, sproc, file}
 use Rattle.spi_parse.specs.Reading.{Fails, limited, told, read}
 use Rattle.spi_parse.specs.Formed.{IsFile, whole_file, whole_decl, whole_type, whole_message, whole_process, IsWholeDecl, IsWholeType, IsWholeMessage, IsWholeProcess}
 use Rattle.spi_parse.specs.Bare.{bare_msg, bare_ty, bare_decl, bare_proc, bare_file}
-use Rattle.spi_parse.specs.Exact.{Spells, IsEnd, NoneGoesOn, IsSyntaxAt, IsDeepAt, IsPartAt, IsNoPart, Reads, Parses}
-use Rattle.spi_parse.specs.Faults.{fault_at}
+use Rattle.spi_parse.specs.Exact.{Spells, ItemEnds, NoItemGoesOn, IsSyntaxAt, IsDeepAt, IsPartAt, IsNoPart, Reads, Parses}
+use Rattle.spi_parse.specs.Faults.{fault_of_stop}
 use Rattle.spi_parse.proofs.Readers.{at}
 use Rattle.spi_parse.proofs.Spell.{spell, Formed}
 use Rattle.spi_parse.proofs.Sound.{untok, Lies}
 use Rattle.spi_parse.proofs.Viable.{AreSpare}
 use Rattle.spi_parse.proofs.Local.{left_of}
 use Rattle.spi_parse.proofs.Complete.{told_fits, out_ends_nil, par_ends_nil, msg_c, ty_c, decl_c, proc_c, file_c}
-use Rattle.spi_parse.proofs.ExactLaws.{kinds, firsts, told_by, exact_ok, exact_syntax, exact_deep, no_part, first_ok, fault_within}
+use Rattle.spi_parse.proofs.ExactLaws.{kinds_read, firsts, tokens_told, exact_ok, exact_syntax, exact_deep, no_part, first_ok, fault_within}
 use Rattle.spi_parse.proofs.Words.{made_fit, file_ruled, file_made}
 
 -- ---- tokens with flags and without
 
-pub kinds_tok : (ts : List Token) → kinds (map tok ts) ≡ kinds_of ts
+pub kinds_tok : (ts : List Token) → kinds_read (map tok ts) ≡ kinds_of ts
 kinds_tok [] = refl
 kinds_tok (t ∷ ts) = ap (λ (l : List Kind). t.kind ∷ l) (kinds_tok ts)
 
@@ -60,14 +60,14 @@ kinds_count ts = length-map ts (λ (t : Token). t.kind)
 -- ---- any kind of part
 
 module _ (a : Sym) (bare : Tree a → Tree a) (P : Tree a → Type 0) (formed : (x : Tree a) → P x → Formed a x)
-    (complete : (x : Tree a) → Formed a x → read told a (at 0 (told_by (spell a x []))) ≡ Ok (bare x, at 0 []))
+    (complete : (x : Tree a) → Formed a x → read told a (at 0 (tokens_told (spell a x []))) ≡ Ok (bare x, at 0 []))
     (Q : List Kind → Type 0)
     (make : (ks : List Kind) → Q ks → (x : Tree a) → Formed a x → (pre rest : List Kind) (c : List (Kind × Bool)) → ks ≡ pre ++ rest → kinds_in (spell a x []) ≡ pre ++ firsts c → AreSpare c → P x) where
   abbrev shown : Tree a → List Piece
   shown x = spell a x []
 
   module _ (ts : List Token) (fit : Q (kinds_of ts)) where
-    making : (x : Tree a) → Formed a x → (pre rest : List Kind) (c : List (Kind × Bool)) → kinds (map tok ts) ≡ pre ++ rest → kinds_in (spell a x []) ≡ pre ++ firsts c → AreSpare c → P x
+    making : (x : Tree a) → Formed a x → (pre rest : List Kind) (c : List (Kind × Bool)) → kinds_read (map tok ts) ≡ pre ++ rest → kinds_in (spell a x []) ≡ pre ++ firsts c → AreSpare c → P x
     making x h pre rest c split = make (kinds_of ts) fit x h pre rest c (sym (kinds_tok ts) ∙ split)
 
     count : length (map tok ts) ≡ length ts
@@ -77,7 +77,7 @@ module _ (a : Sym) (bare : Tree a → Tree a) (P : Tree a → Type 0) (formed : 
     part_ok x e rest is =
         let r = exact_ok a bare P formed complete (map tok ts) making x (at e (map tok rest)) is in
         let f = front_of ts r.pre rest r.split in
-        let pre_kinds : kinds r.pre ≡ kinds_of f.0 = ap kinds (sym f.2) ∙ kinds_tok f.0 in (
+        let pre_kinds : kinds_read r.pre ≡ kinds_of f.0 = ap kinds_read (sym f.2) ∙ kinds_tok f.0 in (
           length f.0,
           ap length f.1 ∙ length-append f.0 rest,
           record {
@@ -88,7 +88,7 @@ module _ (a : Sym) (bare : Tree a → Tree a) (P : Tree a → Type 0) (formed : 
             part = r.part;
             tokens = r.tokens ∙ pre_kinds;
             spells = spells_of rest 0 (shown x) ts r.lies;
-            ends = subst (λ (l : List Kind). IsEnd shown P (kinds_of f.0) l) (kinds_tok rest) (subst (λ (l : List Kind). IsEnd shown P l (kinds (map tok rest))) pre_kinds r.ends);
+            ends = subst (λ (l : List Kind). ItemEnds shown P (kinds_of f.0) l) (kinds_tok rest) (subst (λ (l : List Kind). ItemEnds shown P l (kinds_read (map tok rest))) pre_kinds r.ends);
           },
         )
 
@@ -141,7 +141,7 @@ module _ (a : Sym) (bare : Tree a → Tree a) (P : Tree a → Type 0) (formed : 
         let total = p.1 in
         (p.0, omega arith, p.2)
 
-    reads_err : (stop : Stop) → Fails stop (read limited a (at 0 (map tok (drop from tokens)))) → Reads view shown P (Err (fault_at (length tokens) stop)) tokens from
+    reads_err : (stop : Stop) → Fails stop (read limited a (at 0 (map tok (drop from tokens)))) → Reads view shown P (Err (fault_of_stop (length tokens) stop)) tokens from
     reads_err stops.NoMemory is = tt
     reads_err (stops.Fault (Syntax n)) is =
         let len = length-drop from tokens in
@@ -187,31 +187,31 @@ module _ (v : Bool) where
     pub message_ok : {V : Type 0} (view : V → t.Msg) (x : V) (e : ℕ) (rest : List Token) → read limited (msg v false 1) here ≡ Ok (view x, at e (map tok rest)) → Reads view whole_message (IsWholeMessage v) (Ok (x, length tokens - length rest)) tokens from
     message_ok view x e rest is = reads_ok (msg v false 1) bare_msg (IsWholeMessage v) (λ y h. h.0) (λ y h. msg_c told (λ d. d) told_fits y v false 1 [] h) (AreWordsFit v) message_made view tokens from within (fits_from v from tokens fit) x e rest is
 
-    pub message_err : {V : Type 0} (view : V → t.Msg) (stop : Stop) → Fails stop (read limited (msg v false 1) here) → Reads view whole_message (IsWholeMessage v) (Err (fault_at (length tokens) stop)) tokens from
+    pub message_err : {V : Type 0} (view : V → t.Msg) (stop : Stop) → Fails stop (read limited (msg v false 1) here) → Reads view whole_message (IsWholeMessage v) (Err (fault_of_stop (length tokens) stop)) tokens from
     message_err view stop is = reads_err (msg v false 1) bare_msg (IsWholeMessage v) (λ y h. h.0) (λ y h. msg_c told (λ d. d) told_fits y v false 1 [] h) (AreWordsFit v) message_made view tokens from within (fits_from v from tokens fit) stop is
 
     pub type_ok : {V : Type 0} (view : V → t.Ty) (x : V) (e : ℕ) (rest : List Token) → read limited (ty v 1) here ≡ Ok (view x, at e (map tok rest)) → Reads view whole_type (IsWholeType v) (Ok (x, length tokens - length rest)) tokens from
     type_ok view x e rest is = reads_ok (ty v 1) bare_ty (IsWholeType v) (λ y h. h.0) (λ y h. ty_c told (λ d. d) told_fits y v 1 [] h) (AreWordsFit v) type_made view tokens from within (fits_from v from tokens fit) x e rest is
 
-    pub type_err : {V : Type 0} (view : V → t.Ty) (stop : Stop) → Fails stop (read limited (ty v 1) here) → Reads view whole_type (IsWholeType v) (Err (fault_at (length tokens) stop)) tokens from
+    pub type_err : {V : Type 0} (view : V → t.Ty) (stop : Stop) → Fails stop (read limited (ty v 1) here) → Reads view whole_type (IsWholeType v) (Err (fault_of_stop (length tokens) stop)) tokens from
     type_err view stop is = reads_err (ty v 1) bare_ty (IsWholeType v) (λ y h. h.0) (λ y h. ty_c told (λ d. d) told_fits y v 1 [] h) (AreWordsFit v) type_made view tokens from within (fits_from v from tokens fit) stop is
 
     pub decl_ok : {V : Type 0} (view : V → t.Declared) (x : V) (e : ℕ) (rest : List Token) → read limited (decl v) here ≡ Ok (view x, at e (map tok rest)) → Reads view whole_decl (IsWholeDecl v) (Ok (x, length tokens - length rest)) tokens from
     decl_ok view x e rest is = reads_ok (decl v) bare_decl (IsWholeDecl v) (λ y h. h.0) (λ y h. decl_c told (λ d. d) told_fits y v [] h) (AreWordsFit v) decl_made view tokens from within (fits_from v from tokens fit) x e rest is
 
-    pub decl_err : {V : Type 0} (view : V → t.Declared) (stop : Stop) → Fails stop (read limited (decl v) here) → Reads view whole_decl (IsWholeDecl v) (Err (fault_at (length tokens) stop)) tokens from
+    pub decl_err : {V : Type 0} (view : V → t.Declared) (stop : Stop) → Fails stop (read limited (decl v) here) → Reads view whole_decl (IsWholeDecl v) (Err (fault_of_stop (length tokens) stop)) tokens from
     decl_err view stop is = reads_err (decl v) bare_decl (IsWholeDecl v) (λ y h. h.0) (λ y h. decl_c told (λ d. d) told_fits y v [] h) (AreWordsFit v) decl_made view tokens from within (fits_from v from tokens fit) stop is
 
     pub process_ok : {V : Type 0} (view : V → t.Proc) (x : V) (e : ℕ) (rest : List Token) → read limited (sproc v 0) here ≡ Ok (view x, at e (map tok rest)) → Reads view whole_process (IsWholeProcess v) (Ok (x, length tokens - length rest)) tokens from
     process_ok view x e rest is = reads_ok (sproc v 0) bare_proc (IsWholeProcess v) (λ y h. h.0) (λ y h. (proc_c told (λ d. d) told_fits y).1 v 0 [] h (out_ends_nil told (λ d. d) told_fits) (par_ends_nil told (λ d. d) told_fits)) (AreWordsFit v) process_made view tokens from within (fits_from v from tokens fit) x e rest is
 
-    pub process_err : {V : Type 0} (view : V → t.Proc) (stop : Stop) → Fails stop (read limited (sproc v 0) here) → Reads view whole_process (IsWholeProcess v) (Err (fault_at (length tokens) stop)) tokens from
+    pub process_err : {V : Type 0} (view : V → t.Proc) (stop : Stop) → Fails stop (read limited (sproc v 0) here) → Reads view whole_process (IsWholeProcess v) (Err (fault_of_stop (length tokens) stop)) tokens from
     process_err view stop is = reads_err (sproc v 0) bare_proc (IsWholeProcess v) (λ y h. h.0) (λ y h. (proc_c told (λ d. d) told_fits y).1 v 0 [] h (out_ends_nil told (λ d. d) told_fits) (par_ends_nil told (λ d. d) told_fits)) (AreWordsFit v) process_made view tokens from within (fits_from v from tokens fit) stop is
 
 abbrev FileFits : List Kind → Type 0
 FileFits ks = AreWordsFit (is_version_2 ks) ks
 
-file_complete : (x : t.File) → Formed file x → read told file (at 0 (told_by (spell file x []))) ≡ Ok (bare_file x, at 0 [])
+file_complete : (x : t.File) → Formed file x → read told file (at 0 (tokens_told (spell file x []))) ≡ Ok (bare_file x, at 0 [])
 file_complete x h = file_c told (λ d. d) told_fits x h
 
 module _ {V : Type 0} (view : V → t.File) (tokens : List Token) (fit : AreWordsFit (is_version_2 (kinds_of tokens)) (kinds_of tokens)) where
@@ -223,7 +223,7 @@ module _ {V : Type 0} (view : V → t.File) (tokens : List Token) (fit : AreWord
   pub parses_rest : (x : V) (e : ℕ) (t : Token) (rest : List Token) → read limited file (at 0 (map tok tokens)) ≡ Ok (view x, at e (map tok (t ∷ rest))) → IsSyntaxAt whole_file IsFile (kinds_of tokens) (length tokens - suc (length rest))
   parses_rest x e t rest is = more_left file bare_file IsFile file_ruled file_complete FileFits file_made tokens fit (view x) e t rest is
 
-  pub parses_err : (stop : Stop) → Fails stop (read limited file (at 0 (map tok tokens))) → Parses view (Err (fault_at (length tokens) stop)) tokens
+  pub parses_err : (stop : Stop) → Fails stop (read limited file (at 0 (map tok tokens))) → Parses view (Err (fault_of_stop (length tokens) stop)) tokens
   parses_err stops.NoMemory is = tt
   parses_err (stops.Fault (Syntax n)) is = syntax_at file bare_file IsFile file_ruled file_complete FileFits file_made tokens fit n is
   parses_err (stops.Fault (TooDeep n)) is = deep_at file bare_file IsFile file_ruled file_complete FileFits file_made tokens fit n is

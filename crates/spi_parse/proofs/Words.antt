@@ -92,16 +92,16 @@ later_front l ks (p ∷ q ∷ r ∷ pre) rest c e split fit =
     let now : is_version_2 ks ≡ true = ap is_version_2 begun ∙ version_tokens (pre ++ rest) in
     fits_front true (p ∷ q ∷ r ∷ pre) rest (subst (AreWordsFit true) split (subst (λ (v : Bool). AreWordsFit v ks) now fit))
 
-abbrev tokens_by : t.File → ℕ → List Kind
-tokens_by f v = kinds_in (version_pieces v (decls_pieces f.decls (a_reserved word.Process (proc_pieces (at_level 0) f.process (opponent_pieces f.opponent (schedule_pieces f.schedule (derivation_pieces f.derivation (ends f.span []))))))))
+abbrev tokens_in_full : t.File → ℕ → List Kind
+tokens_in_full f v = kinds_in (version_pieces v (decls_pieces f.decls (a_reserved word.Process (proc_pieces (at_level 0) f.process (opponent_pieces f.opponent (schedule_pieces f.schedule (derivation_pieces f.derivation (ends f.span []))))))))
 
-front_fits : (f : t.File) (v : ℕ) → (v ≡ 1) ⊎ (v ≡ 2) → (ks pre rest c : List Kind) → tokens_by f v ≡ pre ++ c → ks ≡ pre ++ rest → AreWordsFit (is_version_2 ks) ks → AreWordsFit (v == 2) pre
+front_fits : (f : t.File) (v : ℕ) → (v ≡ 1) ⊎ (v ≡ 2) → (ks pre rest c : List Kind) → tokens_in_full f v ≡ pre ++ c → ks ≡ pre ++ rest → AreWordsFit (is_version_2 ks) ks → AreWordsFit (v == 2) pre
 front_fits f v (inl e) ks pre rest c is split fit =
     let b = begins_reserved f.decls (proc_pieces (at_level 0) f.process (opponent_pieces f.opponent (schedule_pieces f.schedule (derivation_pieces f.derivation (ends f.span []))))) in
-    let one : tokens_by f 1 ≡ pre ++ c = subst (λ (i : ℕ). tokens_by f i ≡ pre ++ c) e is in
+    let one : tokens_in_full f 1 ≡ pre ++ c = subst (λ (i : ℕ). tokens_in_full f i ≡ pre ++ c) e is in
     subst (λ (i : ℕ). AreWordsFit (i == 2) pre) (sym e) (first_front b.0 b.1 ks pre rest c (sym b.2 ∙ one) split fit)
 front_fits f v (inr e) ks pre rest c is split fit =
-    let two : tokens_by f 2 ≡ pre ++ c = subst (λ (i : ℕ). tokens_by f i ≡ pre ++ c) e is in
+    let two : tokens_in_full f 2 ≡ pre ++ c = subst (λ (i : ℕ). tokens_in_full f i ≡ pre ++ c) e is in
     subst (λ (i : ℕ). AreWordsFit (i == 2) pre) (sym e) (later_front _ ks pre rest c two split fit)
 
 -- ---- rules
@@ -122,11 +122,11 @@ mutual
   formed_rules v t.no_derivs h k = tt
   formed_rules v (t.more_derivs d ds) h k = (formed_ruled v d h.0 k.0, formed_rules v ds h.1 k.1)
 
-derived : (v : Bool) (d : Option t.Deriv) → s.IsDerivation v d → IsDerivation v d × IsFormedDerived v d
+derived : (v : Bool) (d : Option t.Deriv) → s.IsRuledDerivation v d → IsDerivation v d × IsFormedDerived v d
 derived v None h = (tt, tt)
 derived v (Some d) h = ruled_formed v d h
 
-underived : (v : Bool) (d : Option t.Deriv) → IsDerivation v d → IsFormedDerived v d → s.IsDerivation v d
+underived : (v : Bool) (d : Option t.Deriv) → IsDerivation v d → IsFormedDerived v d → s.IsRuledDerivation v d
 underived v None h k = tt
 underived v (Some d) h k = formed_ruled v d h k
 

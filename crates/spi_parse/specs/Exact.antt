@@ -28,26 +28,26 @@ Spells left e (cell k deep ∷ ps) (t ∷ ts) = (t.kind ≡ k) × (deep ≡ fals
 Spells left e (closes to ∷ ps) ts = (e ≡ to) × Spells left e ps ts
 
 -- some part's tokens begin so
-abbrev pub Begins : {X : Type 0} → (X → List Piece) → (X → Type 0) → List Kind → Type 0
-Begins {X = X} pieces IsPart pre = (x : X) × IsPart x × (c : List Kind) × (kinds_in (pieces x) ≡ pre ++ c)
+abbrev pub ItemBegins : {X : Type 0} → (X → List Piece) → (X → Type 0) → List Kind → Type 0
+ItemBegins {X = X} pieces IsPart pre = (x : X) × IsPart x × (c : List Kind) × (kinds_in (pieces x) ≡ pre ++ c)
 
 -- no part's tokens begin so and then with this token
-abbrev pub NoneGoesOn : {X : Type 0} → (X → List Piece) → (X → Type 0) → List Kind → Kind → Type 0
-NoneGoesOn {X = X} pieces IsPart pre k = (x : X) → IsPart x → (c : List Kind)
+abbrev pub NoItemGoesOn : {X : Type 0} → (X → List Piece) → (X → Type 0) → List Kind → Kind → Type 0
+NoItemGoesOn {X = X} pieces IsPart pre k = (x : X) → IsPart x → (c : List Kind)
     → kinds_in (pieces x) ≡ pre ++ k ∷ c → ⊥
 
 -- no part's tokens begin with one more of the rest, and at the end none are these
-abbrev pub Stops : {X : Type 0} → (X → List Piece) → (X → Type 0) → List Kind → List Kind → Type 0
-Stops {X = X} pieces IsPart pre [] = (x : X) → IsPart x → kinds_in (pieces x) ≡ pre → ⊥
-Stops pieces IsPart pre (k ∷ rest) = NoneGoesOn pieces IsPart pre k
+abbrev pub ItemStops : {X : Type 0} → (X → List Piece) → (X → Type 0) → List Kind → List Kind → Type 0
+ItemStops {X = X} pieces IsPart pre [] = (x : X) → IsPart x → kinds_in (pieces x) ≡ pre → ⊥
+ItemStops pieces IsPart pre (k ∷ rest) = NoItemGoesOn pieces IsPart pre k
 
 -- these tokens are at the end, or no part goes on behind them
-abbrev pub IsEnd : {X : Type 0} → (X → List Piece) → (X → Type 0) → List Kind → List Kind → Type 0
-IsEnd pieces IsPart pre [] = Unit {0}
-IsEnd pieces IsPart pre (k ∷ rest) = NoneGoesOn pieces IsPart pre k
+abbrev pub ItemEnds : {X : Type 0} → (X → List Piece) → (X → Type 0) → List Kind → List Kind → Type 0
+ItemEnds pieces IsPart pre [] = Unit {0}
+ItemEnds pieces IsPart pre (k ∷ rest) = NoItemGoesOn pieces IsPart pre k
 
 -- behind these tokens a node above a limit starts at this one
-pub record StartsDeep (ps : List Piece) (pre : List Kind) (k : Kind) : Type 0 where
+pub record PiecesStartDeep (ps : List Piece) (pre : List Kind) (k : Kind) : Type 0 where
   pub before : List (Kind × Bool)
   pub after : List (Kind × Bool)
   pub parts : cells ps ≡ before ++ (k, true) ∷ after
@@ -56,7 +56,7 @@ pub record StartsDeep (ps : List Piece) (pre : List Kind) (k : Kind) : Type 0 wh
 -- at none of the first i tokens such a node of some part starts
 abbrev pub NoDeepBefore : {X : Type 0} → (X → List Piece) → (X → Type 0) → List Kind → ℕ → Type 0
 NoDeepBefore {X = X} pieces IsPart ks i = (pre : List Kind) (k : Kind) (rest : List Kind)
-    → ks ≡ pre ++ k ∷ rest → length pre < i → (x : X) → IsPart x → StartsDeep (pieces x) pre k → ⊥
+    → ks ≡ pre ++ k ∷ rest → length pre < i → (x : X) → IsPart x → PiecesStartDeep (pieces x) pre k → ⊥
 
 -- token i is the one with which no part goes on
 pub record IsSyntaxAt {X : Type 0} (pieces : X → List Piece) (IsPart : X → Type 0) (ks : List Kind)
@@ -65,8 +65,8 @@ pub record IsSyntaxAt {X : Type 0} (pieces : X → List Piece) (IsPart : X → T
   pub rest : List Kind
   pub split : ks ≡ pre ++ rest
   pub place : length pre ≡ i
-  pub begins : Begins pieces IsPart pre
-  pub stops : Stops pieces IsPart pre rest
+  pub begins : ItemBegins pieces IsPart pre
+  pub stops : ItemStops pieces IsPart pre rest
   pub first : NoDeepBefore pieces IsPart ks i
 
 -- Token i is the first at which a node above a limit of some part starts. Every part whose tokens begin so has such a node.
@@ -77,7 +77,7 @@ pub record IsDeepAt {X : Type 0} (pieces : X → List Piece) (IsPart : X → Typ
   pub rest : List Kind
   pub split : ks ≡ pre ++ token ∷ rest
   pub place : length pre ≡ i
-  pub part : (x : X) × IsPart x × StartsDeep (pieces x) pre token
+  pub part : (x : X) × IsPart x × PiecesStartDeep (pieces x) pre token
   pub first : NoDeepBefore pieces IsPart ks i
   pub every : (x : X) → IsPart x → (c : List Kind) → kinds_in (pieces x) ≡ pre ++ token ∷ c
       → IsWithin (pieces x) → ⊥
@@ -92,12 +92,12 @@ pub record IsPartAt {X : Type 0} (pieces : X → List Piece) (IsPart : X → Typ
   pub part : IsPart x
   pub tokens : kinds_in (pieces x) ≡ kinds_of pre
   pub spells : Spells rest 0 (pieces x) ts
-  pub ends : IsEnd pieces IsPart (kinds_of pre) (kinds_of rest)
+  pub ends : ItemEnds pieces IsPart (kinds_of pre) (kinds_of rest)
 
 -- no front of the tokens is such a part
 abbrev pub IsNoPart : {X : Type 0} → (X → List Piece) → (X → Type 0) → List Kind → Type 0
 IsNoPart {X = X} pieces IsPart ks = (x : X) (pre rest : List Kind) → ks ≡ pre ++ rest → IsPart x
-    → IsWithin (pieces x) → kinds_in (pieces x) ≡ pre → IsEnd pieces IsPart pre rest → ⊥
+    → IsWithin (pieces x) → kinds_in (pieces x) ≡ pre → ItemEnds pieces IsPart pre rest → ⊥
 
 -- the answer on the tokens from this number on: a part and the number of the token behind it, or the fault
 abbrev pub Reads : {V X : Type 0} → (V → X) → (X → List Piece) → (X → Type 0) → Result (V × ℕ) ParseFault

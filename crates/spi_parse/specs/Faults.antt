@@ -6,7 +6,7 @@ use Rattle.spi_parse.specs.declared.fault.Stop.{Stop}
 use Rattle.spi_parse.specs.declared.fault.Stop.TheVariants as stops
 use Rattle.spi_parse.specs.declared.fault.Fault.TheVariants as inner
 
-abbrev pub fault_at : ℕ → Stop → ParseFault
-fault_at n stops.NoMemory = faults.NoMemory
-fault_at n (stops.Fault (inner.Syntax left)) = faults.Syntax (n - left)
-fault_at n (stops.Fault (inner.TooDeep left)) = faults.TooDeep (n - left)
+abbrev pub fault_of_stop : ℕ → Stop → ParseFault
+fault_of_stop n stops.NoMemory = faults.NoMemory
+fault_of_stop n (stops.Fault (inner.Syntax left)) = faults.Syntax (n - left)
+fault_of_stop n (stops.Fault (inner.TooDeep left)) = faults.TooDeep (n - left)

@@ -5,9 +5,9 @@ use Rattle.spi_tree.specs.Pieces.{Piece, at_level, kinds_in, msg_pieces, ty_piec
 use Rattle.spi_tree.specs.Formed.{AreWordsFit, IsMsg, IsTy, IsDeclared, IsProc, IsFormed, is_later}
 use Rattle.spi_parse.specs.Rules.{arity_of, writes_effect}
 
-abbrev pub number_of : t.Derivs → ℕ
-number_of t.no_derivs = 0
-number_of (t.more_derivs d ds) = suc (number_of ds)
+abbrev pub count_derivs : t.Derivs → ℕ
+count_derivs t.no_derivs = 0
+count_derivs (t.more_derivs d ds) = suc (count_derivs ds)
 
 abbrev pub is_written : Option (List t.Atom) → Bool
 is_written None = false
@@ -16,7 +16,7 @@ is_written (Some es) = true
 -- each rule is one of the version, has its arity, and writes an effect where it is `ProcSub` and nowhere else
 abbrev mutual
   pub HasRules : Bool → t.Deriv → Type 0
-  HasRules later (t.rule s w es ds) = (arity_of later w.word ≡ Some (number_of ds))
+  HasRules later (t.rule s w es ds) = (arity_of later w.word ≡ Some (count_derivs ds))
       × (writes_effect w.word ≡ is_written es) × HaveRules later ds
 
   pub HaveRules : Bool → t.Derivs → Type 0

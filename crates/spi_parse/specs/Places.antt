@@ -17,7 +17,7 @@ use Rattle.spi_parse.specs.declared.forms.Event.TheVariants as events
 use Rattle.spi_parse.specs.declared.forms.Plain.TheVariants as plains
 use Rattle.spi_parse.specs.declared.fault.Fault.TheVariants.{Syntax}
 use Rattle.spi_parse.specs.Tokens.{State, tok}
-use Rattle.spi_parse.specs.Table.{ListItem, one, last, Sym, the_mark, msg, msgs, atom, atoms, effect, ty, seq, Tree, Build, Move, eat, stay, over, delta, delta_ty_word, form_move}
+use Rattle.spi_parse.specs.Table.{ListItem, one, last, Sym, the_mark, msg, msgs, atom, atoms, effect, ty, seq, Tree, Build, TableMove, eat, stay, over, delta, delta_ty_word, form_move}
 use Rattle.spi_parse.specs.Reading.{◌>>=◌, Out, read, limited, read_all}
 
 abbrev pub state_of : Cursor → State
@@ -36,7 +36,7 @@ abbrev pub parts : (a : Sym) (l : List Sym) → Build a l → List Span → Stat
 parts a l b ss s = read_all (read limited) l s >>= λ xs. Ok (b ss xs.1.end xs.0, xs.1)
 
 -- the parts of a move of the table, behind the tokens that it ate
-abbrev pub parts_by : {a : Sym} {ate : Bool} → Move a ate → List Span → State → Out (Tree a)
+abbrev pub parts_by : {a : Sym} {ate : Bool} → TableMove a ate → List Span → State → Out (Tree a)
 parts_by {a = a} (eat l b) = parts a l b
 parts_by {a = a} (stay l low b) = parts a l b
 parts_by _ = λ ss s. Err (Syntax 0)

@@ -7,7 +7,7 @@ use Rattle.spi_parse.specs.declared.fault.Fault.TheVariants.{Syntax, TooDeep}
 use Rattle.spi_parse.specs.declared.fault.Stop.{Stop}
 use Rattle.spi_parse.specs.declared.fault.Stop.TheVariants as stops
 use Rattle.spi_parse.specs.Tokens.{Tok, State}
-use Rattle.spi_parse.specs.Table.{ListItem, one, last, Sym, Tree, Trees, Move, eat, stay, skip, look, may_look, fail, deep_here, delta, at_end}
+use Rattle.spi_parse.specs.Table.{ListItem, one, last, Sym, Tree, Trees, TableMove, eat, stay, skip, look, may_look, fail, deep_here, delta, at_end}
 
 infixl 10 ◌>>=◌
 abbrev pub ◌>>=◌ : {A B : Type 0} → Result A Fault → (A → Result B Fault) → Result B Fault
@@ -62,7 +62,7 @@ may_pass told _ _ left go = go
 may_pass any deep said left go = go
 
 -- whether a move leads to a node above its limit
-abbrev pub leads_deep : {a : Sym} {ate : Bool} → Move a ate → Bool
+abbrev pub leads_deep : {a : Sym} {ate : Bool} → TableMove a ate → Bool
 leads_deep (eat [] b) = false
 leads_deep (eat (c ∷ l) b) = deep_here c
 leads_deep (look f) = false
@@ -78,7 +78,7 @@ may_lead told true false false left go = Err (Syntax left)
 may_lead told _ _ _ left go = go
 may_lead any may said leads left go = go
 
-abbrev pub go_on : {a : Sym} {ate : Bool} → Mode → Reader → Move a ate → Bool → List Span → State
+abbrev pub go_on : {a : Sym} {ate : Bool} → Mode → Reader → TableMove a ate → Bool → List Span → State
     → Out (Tree a)
 go_on m rd fail deep ss s = Err (Syntax (length s.rest))
 go_on m rd (stay l low b) deep ss s =
@@ -99,20 +99,20 @@ go_on m rd (may_look may f) deep ss s =
     (go_on m rd (f t'.kind) false (ss ++ t.span ∷ []) s')) (Err (Syntax 0)))) (Err (Syntax 0))
 
 -- what a look leads to
-abbrev pub behind : {a : Sym} → Mode → Reader → (Kind → Move a true) → List Span → State → Out (Tree a)
-behind m rd f ss s = with_next s (λ t _. go_on m rd (f t.kind) false ss s) (Err (Syntax 0))
+abbrev pub behind_move : {a : Sym} → Mode → Reader → (Kind → TableMove a true) → List Span → State → Out (Tree a)
+behind_move m rd f ss s = with_next s (λ t _. go_on m rd (f t.kind) false ss s) (Err (Syntax 0))
 
 abbrev pub or_end : {X : Type 0} → Option X → State → Out X
 or_end None s = Err (Syntax 0)
 or_end (Some x) s = Ok (x, s)
 
 -- reading one symbol, where its parts are read by rd
-abbrev pub step : Mode → Reader → Reader
-step m rd a s = with_next s (λ t _. go_on m rd (delta a t.kind) (deep_here a) [] s) (or_end (at_end a) s)
+abbrev pub reads_step : Mode → Reader → Reader
+reads_step m rd a s = with_next s (λ t _. go_on m rd (delta a t.kind) (deep_here a) [] s) (or_end (at_end a) s)
 
 unfoldable pub read_within : Mode → ℕ → Reader
 read_within m zero a s = Err (Syntax (length s.rest))
-read_within m (suc n) a s = step m (read_within m n) a s
+read_within m (suc n) a s = reads_step m (read_within m n) a s
 
 -- each token is entered at most four times
 unfoldable pub read : Mode → Reader

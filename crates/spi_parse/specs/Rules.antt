@@ -3,7 +3,7 @@ use Rattle.std.specs.Prelude.{ℕ, Bool, true, false, List, [], ◌∷◌, ◌++
 use Rattle.std.specs.Str.{bytes_eq}
 use Rattle.spi_rules.specs.declared.rule.Rule.{Rule}
 use Rattle.spi_rules.specs.declared.rule.Rule.TheVariants.{MsgName, MsgUnit, MsgUnitUn, MsgPair, MsgPairUn, MsgInl, MsgInlUn, MsgInr, MsgInrUn, MsgEnc, MsgEncUn, ProcStop, ProcOut, ProcIn, ProcRepeat, ProcSplit, ProcSplitUn, ProcMatch, ProcMatchUn, ProcCase, ProcCaseUn, ProcDecrypt, ProcDecryptUn, ProcCheck, ProcCheckUn, ProcBegin, ProcEnd, ProcCast, ProcCastUn, ProcNew, ProcPar, ProcSub, MsgHash, ProcEndMany}
-use Rattle.spi_rules.specs.Rule.{arity, spelled, named}
+use Rattle.spi_rules.specs.Rule.{arity, rule_spelled, named}
 
 -- the rules of version 1, and those that version 2 has besides
 abbrev pub first_rules : List Rule
@@ -29,7 +29,7 @@ arity_of later w = arity_by (named (rules_of later) w)
 
 -- the rule that writes its effect
 abbrev pub writes_effect : List ℕ → Bool
-writes_effect w = bytes_eq (spelled ProcSub) w
+writes_effect w = bytes_eq (rule_spelled ProcSub) w
 
 -- the rules that version 1 doesn't have
 abbrev pub is_late : Rule → Bool

@@ -13,10 +13,10 @@ abbrev pub by_arity : ℕ → Bool → Shape
 by_arity n true = Sub
 by_arity n false = if n == 0 then Leaf else (if n == 1 then One else (if n == 2 then Two else Three))
 
-abbrev pub IsShape : Shape → Option ℕ → Bool → Type 0
-IsShape NoRule a b = a ≡ None
-IsShape Leaf a b = (a ≡ Some 0) × (b ≡ false)
-IsShape One a b = (a ≡ Some 1) × (b ≡ false)
-IsShape Two a b = (a ≡ Some 2) × (b ≡ false)
-IsShape Three a b = (a ≡ Some 3) × (b ≡ false)
-IsShape Sub a b = (a ≡ Some 1) × (b ≡ true)
+abbrev pub IsTreeShape : Shape → Option ℕ → Bool → Type 0
+IsTreeShape NoRule a b = a ≡ None
+IsTreeShape Leaf a b = (a ≡ Some 0) × (b ≡ false)
+IsTreeShape One a b = (a ≡ Some 1) × (b ≡ false)
+IsTreeShape Two a b = (a ≡ Some 2) × (b ≡ false)
+IsTreeShape Three a b = (a ≡ Some 3) × (b ≡ false)
+IsTreeShape Sub a b = (a ≡ Some 1) × (b ≡ true)

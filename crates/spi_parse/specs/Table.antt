@@ -172,16 +172,16 @@ may_stay true a l = true
 may_stay false a l = all_below (high a) l
 
 -- What a token begins: the index says whether a token was eaten before it.
-pub data Move (a : Sym) : Bool → Type 0 where
-  eat : {ate : Bool} → (l : List Sym) → Build a l → Move a ate
-  look : {ate : Bool} → (Kind → Move a true) → Move a ate
-  fail : {ate : Bool} → Move a ate
+pub data TableMove (a : Sym) : Bool → Type 0 where
+  eat : {ate : Bool} → (l : List Sym) → Build a l → TableMove a ate
+  look : {ate : Bool} → (Kind → TableMove a true) → TableMove a ate
+  fail : {ate : Bool} → TableMove a ate
   -- the parts begin at this very token
-  stay : {ate : Bool} → (l : List Sym) → T (may_stay ate a l) → Build a l → Move a ate
+  stay : {ate : Bool} → (l : List Sym) → T (may_stay ate a l) → Build a l → TableMove a ate
   -- a node above a limit may start at the token
-  may_look : {ate : Bool} → Bool → (Kind → Move a true) → Move a ate
+  may_look : {ate : Bool} → Bool → (Kind → TableMove a true) → TableMove a ate
   -- the symbol has no tokens here
-  skip : Tree a → Move a false
+  skip : Tree a → TableMove a false
 
 abbrev pub from_of : List Span → ℕ
 from_of [] = 0
@@ -270,19 +270,19 @@ is_reserved w (K.Number n) = false
 is_reserved w (K.Mark m) = false
 
 -- behind the left parenthesis of a message
-abbrev pub delta_paren : (v d : Bool) (n : ℕ) → Kind → Move (msg v d n) true
+abbrev pub delta_paren : (v d : Bool) (n : ℕ) → Kind → TableMove (msg v d n) true
 delta_paren v d n (K.Mark mark.ParenClose) = eat [] (λ ss to xs. t.unit (over ss to))
 delta_paren v d n _ =
     stay (msg v d (n + 1) ∷ the_mark mark.Comma ∷ msg v d (n + 1) ∷ msgs v d (n + 1) ∷ []) tt
     (λ ss to xs. t.tuple (over ss to) xs.0 xs.1.1.0 (t.msgs_of_list xs.1.1.1.0.0))
 
 -- behind the bracket of an effect
-abbrev pub delta_bracket : (v d : Bool) (n : ℕ) → Kind → Move (effect v d n) true
+abbrev pub delta_bracket : (v d : Bool) (n : ℕ) → Kind → TableMove (effect v d n) true
 delta_bracket v d n (K.Mark mark.BracketClose) = eat [] (λ ss to xs. [])
 delta_bracket v d n _ = stay (atom v d n ∷ atoms v d n ∷ []) tt (λ ss to xs. xs.0 ∷ xs.1.0.0)
 
 -- behind the left parenthesis of a type and a word
-abbrev pub delta_ty_word : (v : Bool) (n : ℕ) → List ℕ → Kind → Move (ty v n) true
+abbrev pub delta_ty_word : (v : Bool) (n : ℕ) → List ℕ → Kind → TableMove (ty v n) true
 delta_ty_word v n w (K.Mark mark.Colon) =
     eat (ty v (n + 1) ∷ the_mark mark.Comma ∷ fields v (n + 1) ∷ [])
     (λ ss to xs. t.tuple_ty (over ss to) (word_at w (second ss)) xs.0 (t.fields_of_list xs.1.1.0.0)
@@ -293,7 +293,7 @@ delta_ty_word v n w (K.Mark mark.Plus) =
 delta_ty_word v n w _ = fail
 
 -- behind the left parenthesis of a type
-abbrev pub delta_ty_paren : (v : Bool) (n : ℕ) → Kind → Move (ty v n) true
+abbrev pub delta_ty_paren : (v : Bool) (n : ℕ) → Kind → TableMove (ty v n) true
 delta_ty_paren v n (K.Mark mark.ParenClose) = eat [] (λ ss to xs. t.unit_ty (over ss to))
 delta_ty_paren v n (K.Word w) = may_look (nat_lt message_limit (n + 1)) (delta_ty_word v n w)
 delta_ty_paren v n _ =
@@ -301,7 +301,7 @@ delta_ty_paren v n _ =
     (λ ss to xs. t.sum (over ss to) xs.0 xs.1.1.0)
 
 -- behind a word among the parts of a tuple
-abbrev pub delta_item_word : (v : Bool) (n : ℕ) → List ℕ → Kind → Move (fields_item v n) true
+abbrev pub delta_item_word : (v : Bool) (n : ℕ) → List ℕ → Kind → TableMove (fields_item v n) true
 delta_item_word v n w (K.Mark mark.Colon) =
     eat (ty v n ∷ fields_rest ∷ [])
     (λ ss to xs. if xs.1.0 then last (t.named (word_at w (first ss)) xs.0) else one
@@ -314,7 +314,7 @@ abbrev pub with_field : SWord → t.Ty → Option (List t.Field × t.Last) → L
 with_field w a None = ([], t.named w a)
 with_field w a (Some r) = (record { name = w; ty = a } ∷ r.0, r.1)
 
-abbrev pub delta_fields_word : (v : Bool) (n : ℕ) → List ℕ → Kind → Move (fields v n) true
+abbrev pub delta_fields_word : (v : Bool) (n : ℕ) → List ℕ → Kind → TableMove (fields v n) true
 delta_fields_word v n w (K.Mark mark.Colon) =
     eat (ty v n ∷ fields_more v n ∷ []) (λ ss to xs. with_field (word_at w (first ss)) xs.0 xs.1.0)
 delta_fields_word v n w (K.Mark mark.ParenClose) =
@@ -330,7 +330,7 @@ out_of s m n None = t.out s m n
 out_of s m n (Some p) = t.out_then s m n p
 
 -- a form of a process behind its first token
-abbrev pub form_move : (v : Bool) (n : ℕ) → Form → Move (seq v n) false
+abbrev pub form_move : (v : Bool) (n : ℕ) → Form → TableMove (seq v n) false
 form_move v n (forms.Talk talks.Out) =
     eat (msg v false 1 ∷ msg v false 1 ∷ out_tail v n ∷ [])
     (λ ss to xs. out_of (over ss to) xs.0 xs.1.0 xs.1.1.0)
@@ -394,7 +394,7 @@ abbrev pub is_talk : List ℕ → Bool
 is_talk w = bytes_eq w (codes "talk")
 
 -- the rule of a word, by its premises and whether it writes its effect
-abbrev pub rule_move : (v : Bool) (n : ℕ) → List ℕ → Option ℕ → Bool → Move (deriv v n) false
+abbrev pub rule_move : (v : Bool) (n : ℕ) → List ℕ → Option ℕ → Bool → TableMove (deriv v n) false
 rule_move v n w None writes = fail
 rule_move v n w (Some zero) false =
     eat [] (λ ss to xs. t.rule (over ss to) (word_at w (first ss)) None t.no_derivs)
@@ -431,7 +431,7 @@ abbrev pub is_version_word : List ℕ → Bool
 is_version_word w = bytes_eq w (codes "version")
 
 -- the alternative that a token begins
-abbrev pub delta : (a : Sym) → Kind → Move a false
+abbrev pub delta : (a : Sym) → Kind → TableMove a false
 delta (the_mark m) k = if is_mark m k then eat [] (λ ss to xs. tt) else fail
 delta (the_reserved w) k = if is_reserved w k then eat [] (λ ss to xs. tt) else fail
 delta the_word (K.Word w) = eat [] (λ ss to xs. word_at w (first ss))

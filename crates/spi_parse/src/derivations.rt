@@ -3,14 +3,14 @@
 ghost use Rattle.std.specs.Prelude.{◌≡◌, ◌+◌, ◌≤◌, None, [], ◌∷◌, map, IfOk};
 ghost use Rattle.spi_tree.specs.Trees.{derivs_of_list};
 ghost use Rattle.spi_tree.specs.Trees as trees;
-ghost use Rattle.spi_tree.specs.Views.{deriv_of, effect_of};
+ghost use Rattle.spi_tree.specs.Views.{deriv_of, tree_effect};
 ghost use Rattle.spi_parse.specs.Places.{state_of};
 ghost use Rattle.spi_parse.specs.Ends.{done};
 ghost use Rattle.spi_parse.specs.Wholes.{one_form, two_form, three_form, sub_form};
 ghost use Rattle.spi_parse.specs.Rules.{arity_of, writes_effect, is_late};
-ghost use Rattle.spi_parse.specs.Shapes.{is_sub, by_arity, IsShape};
+ghost use Rattle.spi_parse.specs.Shapes.{is_sub, by_arity, IsTreeShape};
 ghost use Rattle.spi_parse.specs.Table.{deriv, over};
-ghost use Rattle.spi_parse.specs.Reading.{Gives, read, step, limited};
+ghost use Rattle.spi_parse.specs.Reading.{Gives, read, reads_step, limited};
 
 use crate::NoMemory;
 use crate::cursor::{Cursor, DERIVATION_LIMIT, Read, copy_word, fits, span_from, syntax};
@@ -79,7 +79,7 @@ fn by_arity(arity: u32, sub: bool) -> Shape
 
 /// What stands behind this word, in a derivation of the version.
 fn shape_of(later: bool, word: &str) -> Shape
-    ensures { IsShape result (arity_of later word.now) (writes_effect word.now) }
+    ensures { IsTreeShape result (arity_of later word.now) (writes_effect word.now) }
 {
     match Rule::of_word(word) {
         Some(rule) => {
@@ -94,7 +94,7 @@ fn shape_of(later: bool, word: &str) -> Shape
 
 fn make_use(rule: SWord, effect: Option<Vec<SAtom>>, premises: Vec<SDeriv>, span: Span) -> SDeriv
     ensures { deriv_of result
-        ≡ trees.rule span rule (effect_of effect) (derivs_of_list (map deriv_of premises.items)) }
+        ≡ trees.rule span rule (tree_effect effect) (derivs_of_list (map deriv_of premises.items)) }
 {
     SDeriv {
         rule,
@@ -138,7 +138,7 @@ fn boxed_derivation(alloc: Global, at: Cursor<'_>, later: bool, nesting: u32) ->
 fn derivation_step(alloc: Global, at: Cursor<'_>, later: bool, nesting: u32) -> Part<'_>
     requires { nesting ≤ 1001 }
     ensures { Gives (λ x. (deriv_of x.0.value, state_of x.1)) result
-        (step limited (read limited) (deriv later nesting) (state_of at.entry)) }
+        (reads_step limited (read limited) (deriv later nesting) (state_of at.entry)) }
 {
     let [first, rest @ ..] = at.rest else {
         return Err(syntax(0));
@@ -239,7 +239,7 @@ fn end_one(
     at: Cursor<'_>,
 ) -> Part<'_>
     ensures { Gives (λ x. (deriv_of x.0.value, state_of x.1)) result
-        (done (trees.rule (over (rule.span ∷ []) at.entry.end) rule (effect_of effect)
+        (done (trees.rule (over (rule.span ∷ []) at.entry.end) rule (tree_effect effect)
         (derivs_of_list (deriv_of first.value ∷ []))) (state_of at.entry)) }
 {
     let span = span_from(rule.span, at);

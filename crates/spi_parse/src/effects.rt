@@ -4,7 +4,7 @@ ghost use Rattle.std.specs.Prelude.{◌≡◌, ◌+◌, ◌≤◌, [], ◌∷◌
 ghost use Rattle.spi_tree.specs.Views.{atom_of};
 ghost use Rattle.spi_parse.specs.Places.{state_of, effect_form};
 ghost use Rattle.spi_parse.specs.Table.{atom, atoms, atoms_item, effect, delta_bracket};
-ghost use Rattle.spi_parse.specs.Reading.{Gives, read, limited, behind, item_of};
+ghost use Rattle.spi_parse.specs.Reading.{Gives, read, limited, behind_move, item_of};
 
 use crate::NoMemory;
 use crate::cursor::{Cursor, MESSAGE_LIMIT, Read, fits, next_token, span_from, syntax};
@@ -104,7 +104,7 @@ fn effect_in_brackets(
 ) -> Read<'_, Vec<SAtom>>
     requires { node.nesting ≤ 1001 }
     ensures { Gives (λ x. (map atom_of x.0.items, state_of x.1)) result
-        (behind limited (read limited) (delta_bracket node.later node.numbered node.nesting) (_first ∷ [])
+        (behind_move limited (read limited) (delta_bracket node.later node.numbered node.nesting) (_first ∷ [])
         (state_of at.entry)) }
 {
     let (second, next) = next_token(at)?;

@@ -6,7 +6,7 @@ ghost use Rattle.spi_tree.specs.Views.{msg_of};
 ghost use Rattle.spi_parse.specs.Places.{state_of, tuple_form, enc_form, inl_form, inr_form, hash_form};
 ghost use Rattle.spi_parse.specs.Ends.{done, numeral_form};
 ghost use Rattle.spi_parse.specs.Table.{msg, msgs, msgs_item, delta_paren, word_at, over};
-ghost use Rattle.spi_parse.specs.Reading.{Gives, read, step, limited, behind, item_of};
+ghost use Rattle.spi_parse.specs.Reading.{Gives, read, reads_step, limited, behind_move, item_of};
 
 use crate::cursor::{Cursor, MESSAGE_LIMIT, Read, copy_word, fits, next_token, span_from, syntax};
 use crate::reading::{take_mark, take_number};
@@ -84,7 +84,7 @@ fn boxed_message(alloc: Global, at: Cursor<'_>, node: Node) -> Part<'_>
 fn message_step(alloc: Global, at: Cursor<'_>, node: Node) -> Part<'_>
     requires { node.nesting ≤ 1001 }
     ensures { Gives (λ x. (msg_of x.0.value, state_of x.1)) result
-        (step limited (read limited) (msg node.later node.numbered node.nesting) (state_of at.entry)) }
+        (reads_step limited (read limited) (msg node.later node.numbered node.nesting) (state_of at.entry)) }
 {
     let (first, next) = next_token(at)?;
     match &first.kind {
@@ -217,7 +217,7 @@ fn read_hash(alloc: Global, first: Span, at: Cursor<'_>, node: Node) -> Part<'_>
 fn message_in_parens(alloc: Global, first: Span, at: Cursor<'_>, node: Node) -> Part<'_>
     requires { node.nesting ≤ 1000 }
     ensures { Gives (λ x. (msg_of x.0.value, state_of x.1)) result
-        (behind limited (read limited) (delta_paren node.later node.numbered node.nesting) (first ∷ [])
+        (behind_move limited (read limited) (delta_paren node.later node.numbered node.nesting) (first ∷ [])
         (state_of at.entry)) }
 {
     let (second, next) = next_token(at)?;

@@ -8,7 +8,7 @@ ghost use Rattle.spi_tree.specs.Formed.{AreWordsFit};
 ghost use Rattle.spi_tree.specs.Views.{decl_of, ty_of, msg_of, proc_of};
 ghost use Rattle.spi_parse.specs.Bare.{bare_file};
 ghost use Rattle.spi_parse.specs.Exact.{Reads};
-ghost use Rattle.spi_parse.specs.Faults.{fault_at};
+ghost use Rattle.spi_parse.specs.Faults.{fault_of_stop};
 ghost use Rattle.spi_parse.specs.Formed.{IsFile, whole_decl, whole_type, whole_message, whole_process, IsWholeDecl, IsWholeType, IsWholeMessage, IsWholeProcess};
 
 use crate::ParseFault;
@@ -25,7 +25,7 @@ use std::alloc::Global;
 /// The fault by the number of its token, among so many.
 pub fn fault_of(count: usize, stop: Stop) -> ParseFault
     requires { count ≤ 16_777_216 }
-    ensures { result ≡ fault_at count stop }
+    ensures { result ≡ fault_of_stop count stop }
 {
     match stop {
         Stop::NoMemory => ParseFault::NoMemory,
@@ -53,7 +53,7 @@ fn place_at(tokens: &[Token], from: u32) -> Cursor<'_>
 fn by_number<X>(tokens: &[Token], answer: Read<'_, X>) -> Result<(X, u32), ParseFault>
     requires { length tokens.now ≤ 16_777_216 }
     ensures { MatchResult answer.entry (λ x. result ≡ Ok (x.0, length tokens.now - length x.1.rest.now))
-        (λ e. result ≡ Err (fault_at (length tokens.now) e)) }
+        (λ e. result ≡ Err (fault_of_stop (length tokens.now) e)) }
 {
     match answer {
         Ok((part, at)) => Ok((part, tokens.len().saturating_sub(at.rest.len()) as u32)),

@@ -6,7 +6,7 @@ ghost use Rattle.spi_tree.specs.Views.{ty_of, field_of, last_of};
 ghost use Rattle.spi_parse.specs.Places.{state_of, field_item, sum_form, key_form, nonce_form, tuple_ty_form, sum_word_form};
 ghost use Rattle.spi_parse.specs.Ends.{done, sum_end};
 ghost use Rattle.spi_parse.specs.Table.{one, last, ty, fields, fields_item, fields_rest, delta_ty_paren, delta_ty_word, delta_item_word, word_at, over};
-ghost use Rattle.spi_parse.specs.Reading.{Gives, read, step, limited, behind};
+ghost use Rattle.spi_parse.specs.Reading.{Gives, read, reads_step, limited, behind_move};
 
 use crate::NoMemory;
 use crate::cursor::{Cursor, MESSAGE_LIMIT, Read, copy_word, fits, next_token, span_from, syntax};
@@ -87,7 +87,7 @@ fn boxed_type(alloc: Global, at: Cursor<'_>, later: bool, nesting: u32) -> Part<
 fn type_step(alloc: Global, at: Cursor<'_>, later: bool, nesting: u32) -> Part<'_>
     requires { nesting ≤ 1001 }
     ensures { Gives (λ x. (ty_of x.0.value, state_of x.1)) result
-        (step limited (read limited) (ty later nesting) (state_of at.entry)) }
+        (reads_step limited (read limited) (ty later nesting) (state_of at.entry)) }
 {
     let (first, next) = next_token(at)?;
     match &first.kind {
@@ -158,7 +158,7 @@ fn read_key(alloc: Global, first: Span, at: Cursor<'_>, later: bool, nesting: u3
 fn type_in_parens(alloc: Global, first: Span, at: Cursor<'_>, later: bool, nesting: u32) -> Part<'_>
     requires { nesting ≤ 1000 }
     ensures { Gives (λ x. (ty_of x.0.value, state_of x.1)) result
-        (behind limited (read limited) (delta_ty_paren later nesting) (first ∷ []) (state_of at.entry)) }
+        (behind_move limited (read limited) (delta_ty_paren later nesting) (first ∷ []) (state_of at.entry)) }
 {
     let (second, next) = next_token(at)?;
     match &second.kind {
@@ -208,7 +208,7 @@ fn type_behind_word<'t>(
 ) -> Part<'t>
     requires { nesting ≤ 999 }
     ensures { Gives (λ x. (ty_of x.0.value, state_of x.1)) result
-        (behind limited (read limited) (delta_ty_word later nesting word.now) (first ∷ place ∷ [])
+        (behind_move limited (read limited) (delta_ty_word later nesting word.now) (first ∷ place ∷ [])
         (state_of at.entry)) }
 {
     let (second, next) = next_token(at)?;
@@ -389,7 +389,7 @@ fn next_field_step(
 ) -> Read<'_, Box<FieldOrLast>>
     requires { nesting ≤ 1001 }
     ensures { Gives (λ x. (field_item x.0.value, state_of x.1)) result
-        (step limited (read limited) (fields_item later nesting) (state_of at.entry)) }
+        (reads_step limited (read limited) (fields_item later nesting) (state_of at.entry)) }
 {
     let (first, next) = next_token(at)?;
     match &first.kind {
@@ -419,7 +419,7 @@ fn field_behind_word(
 ) -> Read<'_, Box<FieldOrLast>>
     requires { nesting ≤ 1000 }
     ensures { Gives (λ x. (field_item x.0.value, state_of x.1)) result
-        (behind limited (read limited) (delta_item_word later nesting name.word) (name.span ∷ [])
+        (behind_move limited (read limited) (delta_item_word later nesting name.word) (name.span ∷ [])
         (state_of at.entry)) }
 {
     let (first, next) = next_token(at)?;

@@ -13,7 +13,7 @@ use Rattle.spi_parse.specs.Exact as exact
 use Rattle.spi_parse.proofs.Readers.{at, ok_is}
 use Rattle.spi_parse.proofs.Spell.{spell, Formed}
 use Rattle.spi_parse.proofs.Viable.{AreSpare}
-use Rattle.spi_parse.proofs.Complete.{flat, any_fits, told_fits, msg_c, ty_c, decl_c}
+use Rattle.spi_parse.proofs.Complete.{flat_pieces, any_fits, told_fits, msg_c, ty_c, decl_c}
 use Rattle.spi_parse.proofs.ExactLaws as e
 use Rattle.spi_parse.proofs.Words.{made_fit}
 use Rattle.spi_parse.proofs.Unique.{all_false, flat_is}
@@ -22,7 +22,7 @@ use Rattle.spi_parts.specs.Determined.{IsCutOnce, BeginsNoOther, AgreesOnDepth}
 use Rattle.spi_parts.proofs.Bridge.{kinds_cells, within_cells, deep_to, OfPieces, of_piece}
 use Rattle.spi_parts.proofs.Behind.{msg_behind, ty_behind, decl_behind}
 
-kinds_of_false : (ks : List Kind) → e.kinds (all_false ks) ≡ ks
+kinds_of_false : (ks : List Kind) → e.kinds_read (all_false ks) ≡ ks
 kinds_of_false [] = refl
 kinds_of_false (k ∷ ks) = ap (λ (l : List Kind). k ∷ l) (kinds_of_false ks)
 
@@ -40,8 +40,8 @@ kinds_in_append (opens from ∷ a) b = kinds_in_append a b
 kinds_in_append (cell k deep ∷ a) b = ap (λ (l : List Kind). k ∷ l) (kinds_in_append a b)
 kinds_in_append (closes to ∷ a) b = kinds_in_append a b
 
-kinds_flat : (c : List Kind) → e.kinds (flat (λ d. false) (as_pieces c)) ≡ c
-kinds_flat c = ap e.kinds (flat_is (as_pieces c)) ∙ kinds_of_false (kinds_in (as_pieces c)) ∙ kinds_as c
+kinds_flat : (c : List Kind) → e.kinds_read (flat_pieces (λ d. false) (as_pieces c)) ≡ c
+kinds_flat c = ap e.kinds_read (flat_is (as_pieces c)) ∙ kinds_of_false (kinds_in (as_pieces c)) ∙ kinds_as c
 
 module _ (a : Sym) (p : Tree a → List Piece → List Piece) (bare : Tree a → Tree a) (behind : (y : Tree a) (r : List Piece) → p y r ≡ p y [] ++ r) where
   tokens_behind : (y : Tree a) (c : List Kind) → kinds_in (p y (as_pieces c)) ≡ kinds_in (p y []) ++ c
@@ -49,21 +49,21 @@ module _ (a : Sym) (p : Tree a → List Piece → List Piece) (bare : Tree a →
 
   -- two parts with the same tokens, whatever is behind them, are one up to spans, with the same behind it, if each is read
   pub one_split_at : (y z : Tree a) (c d : List Kind)
-      → read any a (at 0 (flat (λ d. false) (p y (as_pieces c)))) ≡ Ok (bare y, at 0 (flat (λ d. false) (as_pieces c)))
-      → read any a (at 0 (flat (λ d. false) (p z (as_pieces d)))) ≡ Ok (bare z, at 0 (flat (λ d. false) (as_pieces d)))
+      → read any a (at 0 (flat_pieces (λ d. false) (p y (as_pieces c)))) ≡ Ok (bare y, at 0 (flat_pieces (λ d. false) (as_pieces c)))
+      → read any a (at 0 (flat_pieces (λ d. false) (p z (as_pieces d)))) ≡ Ok (bare z, at 0 (flat_pieces (λ d. false) (as_pieces d)))
       → kinds_in (p y []) ++ c ≡ kinds_in (p z []) ++ d → (bare y ≡ bare z) × (c ≡ d)
   one_split_at y z c d hy hz same =
       let all : kinds_in (p y (as_pieces c)) ≡ kinds_in (p z (as_pieces d)) = tokens_behind y c ∙ same ∙ sym (tokens_behind z d) in
-      let lists : flat (λ d. false) (p y (as_pieces c)) ≡ flat (λ d. false) (p z (as_pieces d)) = flat_is (p y (as_pieces c)) ∙ ap all_false all ∙ sym (flat_is (p z (as_pieces d))) in
+      let lists : flat_pieces (λ d. false) (p y (as_pieces c)) ≡ flat_pieces (λ d. false) (p z (as_pieces d)) = flat_is (p y (as_pieces c)) ∙ ap all_false all ∙ sym (flat_is (p z (as_pieces d))) in
       let answers = sym hy ∙ ap (λ (l : List Tok). read any a (at 0 l)) lists ∙ hz in
-      let left : Tree a × State = (bare y, at 0 (flat (λ d. false) (as_pieces c))) in
-      let right : Tree a × State = (bare z, at 0 (flat (λ d. false) (as_pieces d))) in
+      let left : Tree a × State = (bare y, at 0 (flat_pieces (λ d. false) (as_pieces c))) in
+      let right : Tree a × State = (bare z, at 0 (flat_pieces (λ d. false) (as_pieces d))) in
       let one : left ≡ right = ok_is {X = Tree a × State} left right answers in
-      (ap (λ (x : Tree a × State). x.0) one, sym (kinds_flat c) ∙ ap (λ (x : Tree a × State). e.kinds x.1.rest) one ∙ kinds_flat d)
+      (ap (λ (x : Tree a × State). x.0) one, sym (kinds_flat c) ∙ ap (λ (x : Tree a × State). e.kinds_read x.1.rest) one ∙ kinds_flat d)
 
 module _ (a : Sym) (p : Tree a → List Piece → List Piece) (bare : Tree a → Tree a) (P : Tree a → Type 0)
     (behind : (y : Tree a) (r : List Piece) → p y r ≡ p y [] ++ r)
-    (complete : (y : Tree a) → P y → (r : List Piece) → read any a (at 0 (flat (λ d. false) (p y r))) ≡ Ok (bare y, at 0 (flat (λ d. false) r))) where
+    (complete : (y : Tree a) → P y → (r : List Piece) → read any a (at 0 (flat_pieces (λ d. false) (p y r))) ≡ Ok (bare y, at 0 (flat_pieces (λ d. false) r))) where
   -- parts with the same tokens, whatever is behind them, are one part up to spans, with the same behind it
   pub one_split : (y z : Tree a) → P y → P z → (c d : List Kind) → kinds_in (p y []) ++ c ≡ kinds_in (p z []) ++ d → (bare y ≡ bare z) × (c ≡ d)
   one_split y z hy hz c d same = one_split_at a p bare behind y z c d (complete y hy (as_pieces c)) (complete z hz (as_pieces d)) same
@@ -79,7 +79,7 @@ module _ (a : Sym) (p : Tree a → List Piece → List Piece) (bare : Tree a →
       (sym (kinds_cells (p lc.part [])) ∙ ap kinds lc.shows ∙ g ∙ ap (λ (l : List Kind). l ++ k ∷ x) (sym (ap kinds lb.shows) ∙ kinds_cells (p lb.part [])))
 
 module _ (a : Sym) (bare : Tree a → Tree a) (P : Tree a → Type 0) (formed : (y : Tree a) → P y → Formed a y)
-    (complete : (y : Tree a) → Formed a y → read told a (at 0 (e.told_by (spell a y []))) ≡ Ok (bare y, at 0 []))
+    (complete : (y : Tree a) → Formed a y → read told a (at 0 (e.tokens_told (spell a y []))) ≡ Ok (bare y, at 0 []))
     (Q : List Kind → Type 0)
     (make : (ks : List Kind) → Q ks → (y : Tree a) → Formed a y → (pre rest : List Kind) (c : List (Kind × Bool)) → ks ≡ pre ++ rest → kinds_in (spell a y []) ≡ pre ++ e.firsts c → AreSpare c → P y)
     (fit : (y : Tree a) → P y → Q (kinds_in (spell a y []))) where
@@ -93,15 +93,15 @@ module _ (a : Sym) (bare : Tree a → Tree a) (P : Tree a → Type 0) (formed : 
       ts : List Tok
       ts = all_false (kinds_in (shown y))
 
-      go : (o : Out (Tree a)) → read limited a (at 0 ts) ≡ o → exact.NoDeepBefore shown P (e.kinds ts) i
+      go : (o : Out (Tree a)) → read limited a (at 0 ts) ≡ o → exact.NoDeepBefore shown P (e.kinds_read ts) i
       go (Ok r) is = e.first_ok a bare P formed complete ts making r.0 r.1 i is
         where
-          making : (z : Tree a) → Formed a z → (pre rest : List Kind) (c : List (Kind × Bool)) → e.kinds ts ≡ pre ++ rest → kinds_in (spell a z []) ≡ pre ++ e.firsts c → AreSpare c → P z
+          making : (z : Tree a) → Formed a z → (pre rest : List Kind) (c : List (Kind × Bool)) → e.kinds_read ts ≡ pre ++ rest → kinds_in (spell a z []) ≡ pre ++ e.firsts c → AreSpare c → P z
           making z h pre rest c split = make (kinds_in (shown y)) (fit y py) z h pre rest c (sym (kinds_of_false (kinds_in (shown y))) ∙ split)
       go (Err d) is =
           absurd (e.no_part a bare P formed complete ts making d is y (kinds_in (shown y)) [] (kinds_of_false (kinds_in (shown y)) ∙ sym (append-nil (kinds_in (shown y)))) py within refl tt)
         where
-          making : (z : Tree a) → Formed a z → (pre rest : List Kind) (c : List (Kind × Bool)) → e.kinds ts ≡ pre ++ rest → kinds_in (spell a z []) ≡ pre ++ e.firsts c → AreSpare c → P z
+          making : (z : Tree a) → Formed a z → (pre rest : List Kind) (c : List (Kind × Bool)) → e.kinds_read ts ≡ pre ++ rest → kinds_in (spell a z []) ≡ pre ++ e.firsts c → AreSpare c → P z
           making z h pre rest c split = make (kinds_in (shown y)) (fit y py) z h pre rest c (sym (kinds_of_false (kinds_in (shown y))) ∙ split)
 
   pub agree_by : AgreesOnDepth shown P

@@ -6,7 +6,7 @@ use Rattle.spi_lex.specs.declared.token.Token.{Token}
 use Rattle.spi_lex.specs.Lexing.{kinds_of}
 use Rattle.spi_tree.specs.Pieces.{Piece, kinds_in}
 use Rattle.spi_parse.specs.declared.fault.ParseFault.TheVariants as faults
-use Rattle.spi_parse.specs.Exact.{IsWithin, Stops, StartsDeep, IsSyntaxAt, IsDeepAt, IsPartAt, IsNoPart}
+use Rattle.spi_parse.specs.Exact.{IsWithin, ItemStops, PiecesStartDeep, IsSyntaxAt, IsDeepAt, IsPartAt, IsNoPart}
 use Rattle.spi_grammar.proofs.Cuts.{Cut, same, behind, before, cut, kinds_append}
 use Rattle.spi_grammar.specs.Exactly.{kinds}
 use Rattle.spi_parts.specs.Determined.{HasOneAnswer}
@@ -14,16 +14,16 @@ use Rattle.spi_parse.proofs.Spelled.{spelled_within}
 use Rattle.spi_parts.proofs.Bridge.{kinds_cells, deep_from}
 
 -- the tokens of a part that is deep at one of them
-tokens_deep : (ps : List Piece) (pre : List Kind) (k : Kind) → StartsDeep ps pre k → (c : List Kind) × (kinds_in ps ≡ pre ++ k ∷ c)
+tokens_deep : (ps : List Piece) (pre : List Kind) (k : Kind) → PiecesStartDeep ps pre k → (c : List Kind) × (kinds_in ps ≡ pre ++ k ∷ c)
 tokens_deep ps pre k s =
     let d = deep_from ps pre k s in
     (kinds d.after, sym (kinds_cells ps) ∙ ap kinds d.parts ∙ kinds_append d.before ((k, _) ∷ d.after) ∙ ap (λ (l : List Kind). l ++ k ∷ kinds d.after) d.begins)
 
 module _ {X : Type 0} (pieces : X → List Piece) (P : X → Type 0) where
   -- no part goes on where one stops, nor behind
-  past : (pre rest : List Kind) (k : Kind) (d more : List Kind) → Stops pieces P pre rest → rest ≡ k ∷ d → (x : X) → P x → (c : List Kind) → kinds_in (pieces x) ≡ (pre ++ k ∷ more) ++ c → ⊥
+  past : (pre rest : List Kind) (k : Kind) (d more : List Kind) → ItemStops pieces P pre rest → rest ≡ k ∷ d → (x : X) → P x → (c : List Kind) → kinds_in (pieces x) ≡ (pre ++ k ∷ more) ++ c → ⊥
   past pre rest k d more stops is x px c e =
-      subst (λ (l : List Kind). Stops pieces P pre l) is stops x px (more ++ c) (e ∙ append_assoc pre (k ∷ more) c)
+      subst (λ (l : List Kind). ItemStops pieces P pre l) is stops x px (more ++ c) (e ∙ append_assoc pre (k ∷ more) c)
 
   longer : (pre more : List Kind) (k : Kind) (i j : ℕ) (later : List Kind) → length pre ≡ i → length later ≡ j → later ≡ pre ++ k ∷ more → i < j
   longer pre more k i j later a b e = let l = ap length e ∙ length-append pre (k ∷ more) in omega arith
@@ -43,7 +43,7 @@ module _ {X : Type 0} (pieces : X → List Piece) (P : X → Type 0) where
       deep = tokens_deep (pieces b.part.0) b.pre b.token b.part.2
 
       go : Cut a.pre a.rest b.pre (b.token ∷ b.rest) → ⊥
-      go (same p q) = subst (λ (l : List Kind). Stops pieces P a.pre l) q a.stops b.part.0 b.part.1 deep.0 (deep.1 ∙ ap (λ (l : List Kind). l ++ b.token ∷ deep.0) (sym p))
+      go (same p q) = subst (λ (l : List Kind). ItemStops pieces P a.pre l) q a.stops b.part.0 b.part.1 deep.0 (deep.1 ∙ ap (λ (l : List Kind). l ++ b.token ∷ deep.0) (sym p))
       go (behind k e p q) = a.first b.pre b.token b.rest b.split (subst (λ (l : ℕ). l < i) refl (longer b.pre e k (length b.pre) i a.pre refl a.place p)) b.part.0 b.part.1 b.part.2
       go (before k e p q) = past a.pre a.rest k (e ++ b.token ∷ b.rest) e a.stops q b.part.0 b.part.1 (b.token ∷ deep.0) (deep.1 ∙ ap (λ (l : List Kind). l ++ b.token ∷ deep.0) p)
 
@@ -61,8 +61,8 @@ module _ {X : Type 0} (pieces : X → List Piece) (P : X → Type 0) where
     no_syntax i s = go s.rest refl
       where
         go : (rest : List Kind) → s.rest ≡ rest → ⊥
-        go [] e = subst (λ (l : List Kind). Stops pieces P s.pre l) e s.stops x px (are ∙ s.split ∙ ap (λ (l : List Kind). s.pre ++ l) e ∙ append-nil s.pre)
-        go (k ∷ rest) e = subst (λ (l : List Kind). Stops pieces P s.pre l) e s.stops x px rest (are ∙ s.split ∙ ap (λ (l : List Kind). s.pre ++ l) e)
+        go [] e = subst (λ (l : List Kind). ItemStops pieces P s.pre l) e s.stops x px (are ∙ s.split ∙ ap (λ (l : List Kind). s.pre ++ l) e ∙ append-nil s.pre)
+        go (k ∷ rest) e = subst (λ (l : List Kind). ItemStops pieces P s.pre l) e s.stops x px rest (are ∙ s.split ∙ ap (λ (l : List Kind). s.pre ++ l) e)
 
     pub no_deep : (i : ℕ) → IsWithin (pieces x) → IsDeepAt pieces P ks i → ⊥
     no_deep i within d = d.every x px d.rest (are ∙ d.split) within

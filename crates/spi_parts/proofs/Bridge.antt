@@ -32,10 +32,10 @@ within_cells (opens from ∷ ps) h = within_cells ps h
 within_cells (cell k deep ∷ ps) h = (h.0, within_cells ps h.1)
 within_cells (closes to ∷ ps) h = within_cells ps h
 
-pub deep_to : (ps : List Piece) (p : List Kind) (k : Kind) → StartsDeep (cells ps) p k → x.StartsDeep ps p k
+pub deep_to : (ps : List Piece) (p : List Kind) (k : Kind) → StartsDeep (cells ps) p k → x.PiecesStartDeep ps p k
 deep_to ps p k s = record { before = s.before; after = s.after; parts = s.parts; begins = sym (kinds_map s.before) ∙ s.begins }
 
-pub deep_from : (ps : List Piece) (p : List Kind) (k : Kind) → x.StartsDeep ps p k → StartsDeep (cells ps) p k
+pub deep_from : (ps : List Piece) (p : List Kind) (k : Kind) → x.PiecesStartDeep ps p k → StartsDeep (cells ps) p k
 deep_from ps p k s = record { before = s.before; after = s.after; parts = s.parts; begins = kinds_map s.before ∙ s.begins }
 
 front_lt : (pre rest p : List Kind) (k : Kind) (r : List Kind) → pre ++ rest ≡ p ++ k ∷ r → length p < length pre → (c : List Kind) × (pre ≡ p ++ k ∷ c)
@@ -57,7 +57,7 @@ module _ {X : Type 0} (pieces : X → List Piece) (P : X → Type 0) where
   tokens_of_part : (a : List (Kind × Bool)) (la : OfPieces a) → kinds_in (pieces la.part) ≡ kinds a
   tokens_of_part a la = sym (kinds_cells (pieces la.part)) ∙ ap kinds la.shows
 
-  deep_of_part : (a : List (Kind × Bool)) (la : OfPieces a) (p : List Kind) (k : Kind) → StartsDeep a p k → x.StartsDeep (pieces la.part) p k
+  deep_of_part : (a : List (Kind × Bool)) (la : OfPieces a) (p : List Kind) (k : Kind) → StartsDeep a p k → x.PiecesStartDeep (pieces la.part) p k
   deep_of_part a la p k s = deep_to (pieces la.part) p k (subst (λ (l : List (Kind × Bool)). StartsDeep l p k) (sym la.shows) s)
 
   -- ---- from the answers on tokens
@@ -66,15 +66,15 @@ module _ {X : Type 0} (pieces : X → List Piece) (P : X → Type 0) where
   first_from ks i pre rest split place h p k c e a la d =
       h p k (c ++ rest) (split ∙ ap (λ (l : List Kind). l ++ rest) e ∙ append_assoc p (k ∷ c) rest) (let l = ap length e ∙ length-append p (k ∷ c) in omega arith) la.part la.is (deep_of_part a la p k d)
 
-  stops_from : (pre rest : List Kind) → x.Stops pieces P pre rest → Stops OfPieces pre rest
+  stops_from : (pre rest : List Kind) → x.ItemStops pieces P pre rest → Stops OfPieces pre rest
   stops_from pre [] h = λ a la e. h la.part la.is (tokens_of_part a la ∙ e)
   stops_from pre (k ∷ rest) h = λ a la c e. h la.part la.is c (tokens_of_part a la ∙ e)
 
-  pub end_from : (pre rest : List Kind) → x.IsEnd pieces P pre rest → IsEnd OfPieces pre rest
+  pub end_from : (pre rest : List Kind) → x.ItemEnds pieces P pre rest → IsEnd OfPieces pre rest
   end_from pre [] h = tt
   end_from pre (k ∷ rest) h = λ a la c e. h la.part la.is c (tokens_of_part a la ∙ e)
 
-  pub end_to : (pre rest : List Kind) → IsEnd OfPieces pre rest → x.IsEnd pieces P pre rest
+  pub end_to : (pre rest : List Kind) → IsEnd OfPieces pre rest → x.ItemEnds pieces P pre rest
   end_to pre [] h = tt
   end_to pre (k ∷ rest) h = λ y p c e. h (cells (pieces y)) (of_piece y p) c (kinds_cells (pieces y) ∙ e)
 
@@ -115,7 +115,7 @@ module _ {X : Type 0} (pieces : X → List Piece) (P : X → Type 0) where
   first_to : (ks pre rest : List Kind) → ks ≡ pre ++ rest → NoneDeep OfPieces pre → x.NoDeepBefore pieces P ks (length pre)
   first_to ks pre rest split h p k r e lt y py d = let f = front_lt pre rest p k r (sym split ∙ e) lt in h p k f.0 f.1 (cells (pieces y)) (of_piece y py) (deep_from (pieces y) p k d)
 
-  stops_to : (pre rest : List Kind) → Stops OfPieces pre rest → x.Stops pieces P pre rest
+  stops_to : (pre rest : List Kind) → Stops OfPieces pre rest → x.ItemStops pieces P pre rest
   stops_to pre [] h = λ y p e. h (cells (pieces y)) (of_piece y p) (kinds_cells (pieces y) ∙ e)
   stops_to pre (k ∷ rest) h = λ y p c e. h (cells (pieces y)) (of_piece y p) c (kinds_cells (pieces y) ∙ e)
 

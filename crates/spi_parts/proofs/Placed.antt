@@ -6,23 +6,23 @@ use Rattle.spi_lex.specs.declared.token.Token.{Token}
 use Rattle.spi_lex.specs.Lexing.{kinds_of}
 use Rattle.spi_tree.specs.Pieces.{Piece, at_level, kinds_in}
 use Rattle.spi_parse.specs.Bare.{bare_ty, bare_msg, bare_decl, bare_proc}
-use Rattle.spi_parse.specs.Exact.{Spells, IsEnd, IsPartAt}
+use Rattle.spi_parse.specs.Exact.{Spells, ItemEnds, IsPartAt}
 use Rattle.spi_parse.specs.Formed.{whole_decl, whole_type, whole_message, whole_process, IsWholeDecl, IsWholeType, IsWholeMessage, IsWholeProcess}
-use Rattle.spi_parse.proofs.Filled.{Rest, fill_ty, fill_msg, fill_decl, fill_proc}
+use Rattle.spi_parse.proofs.Filled.{FilledRest, fill_ty, fill_msg, fill_decl, fill_proc}
 use Rattle.spi_parse.proofs.OneTree.{one_ty, one_msg, one_decl, one_proc}
 use Rattle.spi_parts.specs.Determined.{HasOneAnswer, IsCutOnce, IsCutOnceAtEnds}
 use Rattle.spi_parts.proofs.Answers.{one_answer_by}
 use Rattle.spi_parts.proofs.Alone.{types_split, messages_split, declarations_split}
 use Rattle.spi_parts.proofs.Processes.{processes_split}
 
-module _ {X : Type 0} (bare : X → X) (pieces : X → List Piece) (P : X → Type 0) (fill : X → Rest → X)
+module _ {X : Type 0} (bare : X → X) (pieces : X → List Piece) (P : X → Type 0) (fill : X → FilledRest → X)
     (filled : (x : X) (left ts : List Token) → Spells left 0 (pieces x) ts → fill (bare x) (record { end = 0; tokens = ts }) ≡ x)
     (split : IsCutOnceAtEnds bare pieces P) where
   kinds_split : (x : X) (ts : List Token) (n : ℕ) (r : IsPartAt pieces P x ts n) → kinds_of ts ≡ kinds_in (pieces x) ++ kinds_of r.rest
   kinds_split x ts n r = ap kinds_of r.split ∙ map-append (λ (k : Token). k.kind) r.pre r.rest ∙ ap (λ (l : List Kind). l ++ kinds_of r.rest) (sym r.tokens)
 
-  ends_at : (x : X) (ts : List Token) (n : ℕ) (r : IsPartAt pieces P x ts n) → IsEnd pieces P (kinds_in (pieces x)) (kinds_of r.rest)
-  ends_at x ts n r = subst (λ (l : List Kind). IsEnd pieces P l (kinds_of r.rest)) (sym r.tokens) r.ends
+  ends_at : (x : X) (ts : List Token) (n : ℕ) (r : IsPartAt pieces P x ts n) → ItemEnds pieces P (kinds_in (pieces x)) (kinds_of r.rest)
+  ends_at x ts n r = subst (λ (l : List Kind). ItemEnds pieces P l (kinds_of r.rest)) (sym r.tokens) r.ends
 
   tokens_at : (x : X) (ts : List Token) (n : ℕ) → IsPartAt pieces P x ts n → length (kinds_in (pieces x)) ≡ n
   tokens_at x ts n r = ap length r.tokens ∙ length-map r.pre (λ (k : Token). k.kind) ∙ r.place

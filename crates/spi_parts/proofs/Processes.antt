@@ -11,12 +11,12 @@ use Rattle.spi_parse.specs.Reading.{any, told, read}
 use Rattle.spi_parse.specs.Bare.{nowhere, bare_proc}
 use Rattle.spi_parse.specs.Formed.{whole_process, IsWholeProcess}
 use Rattle.spi_parse.proofs.Readers.{at, read_is_step}
-use Rattle.spi_parse.proofs.Complete.{flat, any_fits, told_fits, proc_c, OutEnds, ParEnds, out_ends_nil, par_ends_nil}
+use Rattle.spi_parse.proofs.Complete.{flat_pieces, any_fits, told_fits, proc_c, OutEnds, ParEnds, out_ends_nil, par_ends_nil}
 use Rattle.spi_parse.proofs.Words.{made_fit}
 use Rattle.spi_grammar.specs.Exactly.{kinds, Apart, IsEven, IsLive, Then, One, IsGoodKind}
 use Rattle.spi_grammar.proofs.Answers.{one_good}
 use Rattle.spi_grammar.proofs.Good.{IsSome, good_apart}
-use Rattle.spi_parse.specs.Exact.{IsEnd}
+use Rattle.spi_parse.specs.Exact.{ItemEnds}
 use Rattle.spi_grammar.proofs.Cuts.{Cut, same, behind, before, cut}
 use Rattle.spi_parts.specs.Determined.{IsCutOnceAtEnds, AgreesOnDepth}
 use Rattle.spi_parts.proofs.Bridge.{kinds_cells, OfPieces, of_piece}
@@ -27,10 +27,10 @@ use Rattle.spi_parts.proofs.Alone.{even_by, agree_by, one_split_at, as_pieces}
 abbrev pub IsBraceClose : Kind → Type 0
 IsBraceClose k = k ≡ K.Mark mark.BraceClose
 
-out_ends_brace : (r : List Piece) → OutEnds any (λ d. false) any_fits (flat (λ d. false) (a_mark mark.BraceClose r))
+out_ends_brace : (r : List Piece) → OutEnds any (λ d. false) any_fits (flat_pieces (λ d. false) (a_mark mark.BraceClose r))
 out_ends_brace r = record { by = λ v n. rw read_is_step refl }
 
-par_ends_brace : (r : List Piece) → ParEnds any (λ d. false) any_fits (flat (λ d. false) (a_mark mark.BraceClose r))
+par_ends_brace : (r : List Piece) → ParEnds any (λ d. false) any_fits (flat_pieces (λ d. false) (a_mark mark.BraceClose r))
 par_ends_brace r = record { by = λ v n. rw read_is_step refl }
 
 module _ (v : Bool) where
@@ -58,13 +58,13 @@ module _ (v : Bool) where
   pub processes_split : IsCutOnceAtEnds bare_proc whole_process (IsWholeProcess v)
   processes_split y z c d hy hz e ends_y ends_z = go (cut (kinds_in (whole_process y)) c (kinds_in (whole_process z)) d e)
     where
-      read_alone : (x : t.Proc) → IsWholeProcess v x → read any (sproc v 0) (at 0 (flat (λ b. false) (whole_process x))) ≡ Ok (bare_proc x, at 0 [])
+      read_alone : (x : t.Proc) → IsWholeProcess v x → read any (sproc v 0) (at 0 (flat_pieces (λ b. false) (whole_process x))) ≡ Ok (bare_proc x, at 0 [])
       read_alone x h = (proc_c any (λ b. false) any_fits x).1 v 0 [] h.0 (out_ends_nil any (λ b. false) any_fits) (par_ends_nil any (λ b. false) any_fits)
 
       go : Cut (kinds_in (whole_process y)) c (kinds_in (whole_process z)) d → (bare_proc y ≡ bare_proc z) × (c ≡ d)
       go (same p q) = (same_bare (sproc v 0) whole_process bare_proc y z (read_alone y hy) (read_alone z hz) p, q)
-      go (behind k x p q) = absurd (subst (λ (l : List Kind). IsEnd whole_process (IsWholeProcess v) (kinds_in (whole_process z)) l) q ends_z y hy x p)
-      go (before k x p q) = absurd (subst (λ (l : List Kind). IsEnd whole_process (IsWholeProcess v) (kinds_in (whole_process y)) l) q ends_y z hz x p)
+      go (behind k x p q) = absurd (subst (λ (l : List Kind). ItemEnds whole_process (IsWholeProcess v) (kinds_in (whole_process z)) l) q ends_z y hy x p)
+      go (before k x p q) = absurd (subst (λ (l : List Kind). ItemEnds whole_process (IsWholeProcess v) (kinds_in (whole_process y)) l) q ends_y z hz x p)
 
   pub processes_live : IsLive Processes
   processes_live = (cells (whole_process (t.stop nowhere)), of_piece whole_process (IsWholeProcess v) (t.stop nowhere) (tt, (tt, tt)))

@@ -6,7 +6,7 @@ use Rattle.spi_lex.specs.declared.token.Token.{Token}
 use Rattle.spi_tree.specs.Pieces.{Piece, kinds_in}
 use Rattle.spi_parse.specs.declared.fault.ParseFault.{ParseFault}
 use Rattle.spi_parse.specs.declared.fault.ParseFault.TheVariants as faults
-use Rattle.spi_parse.specs.Exact.{IsWithin, IsEnd, StartsDeep, Reads}
+use Rattle.spi_parse.specs.Exact.{IsWithin, ItemEnds, PiecesStartDeep, Reads}
 
 -- the same answer, but for want of memory
 abbrev pub AreOne : {V : Type 0} → Result V ParseFault → Result V ParseFault → Type 0
@@ -28,7 +28,7 @@ IsCutOnce {X = X} bare pieces IsPart =
 abbrev pub IsCutOnceAtEnds : {X : Type 0} → (X → X) → (X → List Piece) → (X → Type 0) → Type 0
 IsCutOnceAtEnds {X = X} bare pieces IsPart =
     (a b : X) (c d : List Kind) → IsPart a → IsPart b → kinds_in (pieces a) ++ c ≡ kinds_in (pieces b) ++ d
-    → IsEnd pieces IsPart (kinds_in (pieces a)) c → IsEnd pieces IsPart (kinds_in (pieces b)) d
+    → ItemEnds pieces IsPart (kinds_in (pieces a)) c → ItemEnds pieces IsPart (kinds_in (pieces b)) d
     → (bare a ≡ bare b) × (c ≡ d)
 
 -- no part's tokens are a proper prefix of another's
@@ -41,4 +41,4 @@ BeginsNoOther {X = X} pieces IsPart =
 abbrev pub AgreesOnDepth : {X : Type 0} → (X → List Piece) → (X → Type 0) → Type 0
 AgreesOnDepth {X = X} pieces IsPart =
     (a b : X) → IsPart a → IsPart b → IsWithin (pieces a) → (pre : List Kind) (k : Kind) (more : List Kind)
-    → kinds_in (pieces a) ≡ pre ++ k ∷ more → StartsDeep (pieces b) pre k → ⊥
+    → kinds_in (pieces a) ≡ pre ++ k ∷ more → PiecesStartDeep (pieces b) pre k → ⊥

@@ -7,7 +7,7 @@ use Rattle.spi_replay.specs.Stepping.{Pooled}
 use Rattle.spi_play.specs.declared.player.Pick.{Pick}
 use Rattle.spi_play.specs.declared.player.Pick.TheVariants.{Take, Leave}
 use Rattle.spi_play.specs.Way.{Seen}
-use Rattle.spi_play.specs.Play.{Seat, State, Course, TurnOf, Picks, Asks, Does, Turns, Plays, seats_from, start}
+use Rattle.spi_play.specs.Play.{Seat, PlayState, Course, TurnOf, Picks, AsksSeat, DoesTurn, TakesTurn, Plays, seats_from, start}
 use Rattle.spi_play.specs.Fitting.{turns_of, FitsTurns, EndInLeave, AreInOrder, TurnsFit}
 
 nothing_in : {A : Type 0} {x : A} → In x [] → ⊥
@@ -48,18 +48,18 @@ split_at (x ∷ xs) (suc i) seat e = let s = split_at xs i seat e in record {
 }
 
 -- a turn, by what it changes in the list
-record Moved (old after : List Seat) (turn : TurnOf) : Type 0 where
+record SeatMoved (old after : List Seat) (turn : TurnOf) : Type 0 where
   place : ℕ
   seats : List Seat
-  asks : Asks old place turn seats
+  asks : AsksSeat old place turn seats
   split : Split old place asks.seat
   now : (after ≡ split.pre ++ record { who = asks.seat.who; seen = asks.new } ∷ split.post) ⊎ ((turn.pick ≡ Leave) × (after ≡ split.pre ++ split.post))
 
-after_so : (only : Option ℕ) (place : ℕ) (pick : Pick) (c d : Course) (seats after : List Seat) (next : Option ℕ) (old : List Seat) (seat x : Seat) (s : Split old place seat) → seats ≡ slice_set old place x → Does only place pick c d seats after next → (after ≡ s.pre ++ x ∷ s.post) ⊎ ((pick ≡ Leave) × (after ≡ s.pre ++ s.post))
+after_so : (only : Option ℕ) (place : ℕ) (pick : Pick) (c d : Course) (seats after : List Seat) (next : Option ℕ) (old : List Seat) (seat x : Seat) (s : Split old place seat) → seats ≡ slice_set old place x → DoesTurn only place pick c d seats after next → (after ≡ s.pre ++ x ∷ s.post) ⊎ ((pick ≡ Leave) × (after ≡ s.pre ++ s.post))
 after_so only place (Take k) c d seats after next old seat x s is does = inl (does.1 ∙ is ∙ s.put x)
 after_so only place Leave c d seats after next old seat x s is does = inr (refl, does.1 ∙ ap (λ (xs : List Seat). remove xs place) is ∙ s.gone x)
 
-moved : (only : Option ℕ) (most : ℕ) (old : State) (turn : TurnOf) (new : State) → Turns only most old turn new → Moved old.seats new.seats turn
+moved : (only : Option ℕ) (most : ℕ) (old : PlayState) (turn : TurnOf) (new : PlayState) → TakesTurn only most old turn new → SeatMoved old.seats new.seats turn
 moved only most old turn new t =
     let a = t.asks in
     let s : Split old.seats t.place a.seat = split_at old.seats t.place a.seat a.was in
@@ -102,7 +102,7 @@ order_drop (z ∷ pre) x post o = (
   order_drop pre x post o.1,
 )
 
-order_moved : {old after : List Seat} {turn : TurnOf} → Moved old after turn → AreInOrder old → AreInOrder after
+order_moved : {old after : List Seat} {turn : TurnOf} → SeatMoved old after turn → AreInOrder old → AreInOrder after
 order_moved m o =
     let P : List Seat → Type 0 = λ xs. AreInOrder xs in
     let here : AreInOrder (m.split.pre ++ m.asks.seat ∷ m.split.post) = subst P m.split.is o in
@@ -110,35 +110,35 @@ order_moved m o =
     (λ e. subst P (sym e.1) (order_drop m.split.pre m.asks.seat m.split.post here)) m.now
 
 -- where a seat of the list is after a turn
-data Place (s x y : Seat) (after : List Seat) (turn : TurnOf) : Type 0 where
-  elsewhere : (turn.who ≡ s.who → ⊥) → In s after → Place s x y after turn
-  asked_here : s ≡ x → In y after → Place s x y after turn
-  left_here : s ≡ x → turn.pick ≡ Leave → ((t : Seat) → In t after → t.who ≡ x.who → ⊥) → Place s x y after turn
+data SeatPlace (s x y : Seat) (after : List Seat) (turn : TurnOf) : Type 0 where
+  elsewhere : (turn.who ≡ s.who → ⊥) → In s after → SeatPlace s x y after turn
+  asked_here : s ≡ x → In y after → SeatPlace s x y after turn
+  left_here : s ≡ x → turn.pick ≡ Leave → ((t : Seat) → In t after → t.who ≡ x.who → ⊥) → SeatPlace s x y after turn
 
-others_ne : {old after : List Seat} {turn : TurnOf} (m : Moved old after turn) (t : Seat) → AreInOrder old → In t m.split.pre ⊎ In t m.split.post → t.who ≡ m.asks.seat.who → ⊥
+others_ne : {old after : List Seat} {turn : TurnOf} (m : SeatMoved old after turn) (t : Seat) → AreInOrder old → In t m.split.pre ⊎ In t m.split.post → t.who ≡ m.asks.seat.who → ⊥
 others_ne m t o i e =
     let P : List Seat → Type 0 = λ xs. AreInOrder xs in
     let b : Between m.split.pre m.split.post m.asks.seat.who = between m.split.pre m.asks.seat m.split.post (subst P m.split.is o) in
     ⊎_elim (λ j. let h = b.before t j in omega (arith, e, h)) (λ j. let h = b.after t j in omega (arith, e, h)) i
 
-in_after : {old after : List Seat} {turn : TurnOf} (m : Moved old after turn) (t : Seat) → In t m.split.pre ⊎ In t m.split.post → In t after
+in_after : {old after : List Seat} {turn : TurnOf} (m : SeatMoved old after turn) (t : Seat) → In t m.split.pre ⊎ In t m.split.post → In t after
 in_after m t i =
     let P : List Seat → Type 0 = λ xs. In t xs in
     let y : Seat = record { who = m.asks.seat.who; seen = m.asks.new } in
     ⊎_elim (λ e. subst P (sym e) (⊎_elim (λ j. in_left m.split.pre (y ∷ m.split.post) j) (λ j. in_right m.split.pre (in_later j)) i))
     (λ e. subst P (sym e.1) (⊎_elim (λ j. in_left m.split.pre m.split.post j) (λ j. in_right m.split.pre j) i)) m.now
 
-place_other : {old after : List Seat} {turn : TurnOf} (m : Moved old after turn) (s : Seat) → AreInOrder old → In s m.split.pre ⊎ In s m.split.post → Place s m.asks.seat (record { who = m.asks.seat.who; seen = m.asks.new }) after turn
+place_other : {old after : List Seat} {turn : TurnOf} (m : SeatMoved old after turn) (s : Seat) → AreInOrder old → In s m.split.pre ⊎ In s m.split.post → SeatPlace s m.asks.seat (record { who = m.asks.seat.who; seen = m.asks.new }) after turn
 place_other m s o i = elsewhere (λ e. others_ne m s o i (sym e ∙ m.asks.who)) (in_after m s i)
 
-place_same : {old after : List Seat} {turn : TurnOf} (m : Moved old after turn) (s : Seat) → AreInOrder old → s ≡ m.asks.seat → Place s m.asks.seat (record { who = m.asks.seat.who; seen = m.asks.new }) after turn
+place_same : {old after : List Seat} {turn : TurnOf} (m : SeatMoved old after turn) (s : Seat) → AreInOrder old → s ≡ m.asks.seat → SeatPlace s m.asks.seat (record { who = m.asks.seat.who; seen = m.asks.new }) after turn
 place_same {after = after} m s o is =
     let y : Seat = record { who = m.asks.seat.who; seen = m.asks.new } in
     let P : List Seat → Type 0 = λ xs. In y xs in
     ⊎_elim (λ e. asked_here is (subst P (sym e) (in_right m.split.pre in_first)))
     (λ e. left_here is e.0 (λ t i f. let Q : List Seat → Type 0 = λ xs. In t xs in others_ne m t o (in_append m.split.pre (subst Q e.1 i)) f)) m.now
 
-place_of : {old after : List Seat} {turn : TurnOf} (m : Moved old after turn) (s : Seat) → AreInOrder old → In s old → Place s m.asks.seat (record { who = m.asks.seat.who; seen = m.asks.new }) after turn
+place_of : {old after : List Seat} {turn : TurnOf} (m : SeatMoved old after turn) (s : Seat) → AreInOrder old → In s old → SeatPlace s m.asks.seat (record { who = m.asks.seat.who; seen = m.asks.new }) after turn
 place_of m s o i =
     let P : List Seat → Type 0 = λ xs. In s xs in
     ⊎_elim (λ j. place_other m s o (inl j)) (λ j. ⊎_elim (λ e. place_same m s o e) (λ k. place_other m s o (inr k)) (in_cases j)) (in_append m.split.pre (subst P m.split.is i))
@@ -148,15 +148,15 @@ data Source (s x y : Seat) (old : List Seat) (turn : TurnOf) : Type 0 where
   from_elsewhere : (turn.who ≡ s.who → ⊥) → In s old → Source s x y old turn
   from_here : s ≡ y → In x old → Source s x y old turn
 
-in_old : {old after : List Seat} {turn : TurnOf} (m : Moved old after turn) (t : Seat) → In t m.split.pre ⊎ In t m.split.post → In t old
+in_old : {old after : List Seat} {turn : TurnOf} (m : SeatMoved old after turn) (t : Seat) → In t m.split.pre ⊎ In t m.split.post → In t old
 in_old m t i =
     let P : List Seat → Type 0 = λ xs. In t xs in
     subst P (sym m.split.is) (⊎_elim (λ j. in_left m.split.pre (m.asks.seat ∷ m.split.post) j) (λ j. in_right m.split.pre (in_later j)) i)
 
-source_other : {old after : List Seat} {turn : TurnOf} (m : Moved old after turn) (s : Seat) → AreInOrder old → In s m.split.pre ⊎ In s m.split.post → Source s m.asks.seat (record { who = m.asks.seat.who; seen = m.asks.new }) old turn
+source_other : {old after : List Seat} {turn : TurnOf} (m : SeatMoved old after turn) (s : Seat) → AreInOrder old → In s m.split.pre ⊎ In s m.split.post → Source s m.asks.seat (record { who = m.asks.seat.who; seen = m.asks.new }) old turn
 source_other m s o i = from_elsewhere (λ e. others_ne m s o i (sym e ∙ m.asks.who)) (in_old m s i)
 
-source_of : {old after : List Seat} {turn : TurnOf} (m : Moved old after turn) (s : Seat) → AreInOrder old → In s after → Source s m.asks.seat (record { who = m.asks.seat.who; seen = m.asks.new }) old turn
+source_of : {old after : List Seat} {turn : TurnOf} (m : SeatMoved old after turn) (s : Seat) → AreInOrder old → In s after → Source s m.asks.seat (record { who = m.asks.seat.who; seen = m.asks.new }) old turn
 source_of {old} m s o i =
     let P : List Seat → Type 0 = λ xs. In s xs in
     let Q : List Seat → Type 0 = λ xs. In m.asks.seat xs in
@@ -180,21 +180,21 @@ leave_more : (turn : TurnOf) (ts : List TurnOf) → EndInLeave ts → EndInLeave
 leave_more turn [] h = absurd h
 leave_more turn (t ∷ ts) h = h
 
-absent_after : {old after : List Seat} {turn : TurnOf} (m : Moved old after turn) (s : Seat) (who : ℕ) → AreInOrder old → ((t : Seat) → In t old → t.who ≡ who → ⊥) → Source s m.asks.seat (record { who = m.asks.seat.who; seen = m.asks.new }) old turn → s.who ≡ who → ⊥
+absent_after : {old after : List Seat} {turn : TurnOf} (m : SeatMoved old after turn) (s : Seat) (who : ℕ) → AreInOrder old → ((t : Seat) → In t old → t.who ≡ who → ⊥) → Source s m.asks.seat (record { who = m.asks.seat.who; seen = m.asks.new }) old turn → s.who ≡ who → ⊥
 absent_after m s who o absent (from_elsewhere ne i) e = absent s i e
 absent_after m s who o absent (from_here f i) e = absent m.asks.seat i (sym (ap (λ (t : Seat). t.who) f) ∙ e)
 
 -- who isn't in the list has no turn
-no_turns : (only : Option ℕ) (most : ℕ) (old : State) (turns : List TurnOf) (last : State) → AreInOrder old.seats → Plays only most old turns last → (who : ℕ) → ((s : Seat) → In s old.seats → s.who ≡ who → ⊥) → turns_of who turns ≡ []
+no_turns : (only : Option ℕ) (most : ℕ) (old : PlayState) (turns : List TurnOf) (last : PlayState) → AreInOrder old.seats → Plays only most old turns last → (who : ℕ) → ((s : Seat) → In s old.seats → s.who ≡ who → ⊥) → turns_of who turns ≡ []
 no_turns only most old [] last o plays who absent = refl
 no_turns only most old (turn ∷ turns) last o plays who absent =
-    let m : Moved old.seats plays.0.seats turn = moved only most old turn plays.0 plays.1 in
+    let m : SeatMoved old.seats plays.0.seats turn = moved only most old turn plays.0 plays.1 in
     let Q : List Seat → Type 0 = λ xs. In m.asks.seat xs in
     let there : In m.asks.seat old.seats = subst Q (sym m.split.is) (in_right m.split.pre in_first) in
     let gone : (s : Seat) → In s plays.0.seats → s.who ≡ who → ⊥ = λ s i e. absent_after m s who o absent (source_of m s o i) e in
     turns_other who turn turns (λ e. absent m.asks.seat there (sym m.asks.who ∙ e)) ∙ no_turns only most plays.0 turns last (order_moved m o) plays.2 who gone
 
-each_so : (turn : TurnOf) (turns : List TurnOf) (s x : Seat) (new : Seen) (after left : List Seat) → turn.who ≡ x.who → Picks x.seen turn.ready turn.pick new → ((t : Seat) → In t after → EachBy t (turns_of t.who turns) left) → ((who : ℕ) → ((t : Seat) → In t after → t.who ≡ who → ⊥) → turns_of who turns ≡ []) → Place s x (record { who = x.who; seen = new }) after turn → EachBy s (turns_of s.who (turn ∷ turns)) left
+each_so : (turn : TurnOf) (turns : List TurnOf) (s x : Seat) (new : Seen) (after left : List Seat) → turn.who ≡ x.who → Picks x.seen turn.ready turn.pick new → ((t : Seat) → In t after → EachBy t (turns_of t.who turns) left) → ((who : ℕ) → ((t : Seat) → In t after → t.who ≡ who → ⊥) → turns_of who turns ≡ []) → SeatPlace s x (record { who = x.who; seen = new }) after turn → EachBy s (turns_of s.who (turn ∷ turns)) left
 each_so turn turns s x new after left who picks each none (elsewhere ne i) =
     let P : List TurnOf → Type 0 = λ ts. EachBy s ts left in
     subst P (sym (turns_other s.who turn turns ne)) (each s i)
@@ -212,12 +212,12 @@ each_so turn turns s x new after left who picks each none (left_here is leaves g
     let here : EachBy x (turn ∷ []) left = (new, (new, picks, refl), inr leaves) in
     subst Q (sym is) (subst P (sym one) here)
 
-each_player : (only : Option ℕ) (most : ℕ) (old : State) (turns : List TurnOf) (last : State) → AreInOrder old.seats → Plays only most old turns last → (s : Seat) → In s old.seats → EachBy s (turns_of s.who turns) last.seats
+each_player : (only : Option ℕ) (most : ℕ) (old : PlayState) (turns : List TurnOf) (last : PlayState) → AreInOrder old.seats → Plays only most old turns last → (s : Seat) → In s old.seats → EachBy s (turns_of s.who turns) last.seats
 each_player only most old [] last o plays s i =
-    let P : State → Type 0 = λ t. In s t.seats in
+    let P : PlayState → Type 0 = λ t. In s t.seats in
     (s.seen, refl, inl (subst P (sym plays) i))
 each_player only most old (turn ∷ turns) last o plays s i =
-    let m : Moved old.seats plays.0.seats turn = moved only most old turn plays.0 plays.1 in
+    let m : SeatMoved old.seats plays.0.seats turn = moved only most old turn plays.0 plays.1 in
     let after : AreInOrder plays.0.seats = order_moved m o in
     each_so turn turns s m.asks.seat m.asks.new plays.0.seats last.seats m.asks.who m.asks.picks
     (λ t j. each_player only most plays.0 turns last after plays.2 t j)
@@ -238,17 +238,17 @@ came_so old turn turns s t x new who picks same fits (from_here is i) =
     let whose : x.who ≡ s.who = sym (ap (λ (y : Seat). y.who) is) ∙ same in
     (x, i, whose, subst P (sym (turns_here s.who turn turns (who ∙ whose))) (new, picks, subst Q is fits))
 
-came : (only : Option ℕ) (most : ℕ) (old : State) (turns : List TurnOf) (last : State) → AreInOrder old.seats → Plays only most old turns last → (s : Seat) → In s last.seats → CameBy old.seats s turns
+came : (only : Option ℕ) (most : ℕ) (old : PlayState) (turns : List TurnOf) (last : PlayState) → AreInOrder old.seats → Plays only most old turns last → (s : Seat) → In s last.seats → CameBy old.seats s turns
 came only most old [] last o plays s i =
-    let P : State → Type 0 = λ t. In s t.seats in
+    let P : PlayState → Type 0 = λ t. In s t.seats in
     (s, subst P plays i, refl, refl)
 came only most old (turn ∷ turns) last o plays s i =
-    let m : Moved old.seats plays.0.seats turn = moved only most old turn plays.0 plays.1 in
+    let m : SeatMoved old.seats plays.0.seats turn = moved only most old turn plays.0 plays.1 in
     let r = came only most plays.0 turns last (order_moved m o) plays.2 s i in
     came_so old.seats turn turns s r.0 m.asks.seat m.asks.new m.asks.who m.asks.picks r.2 r.3 (source_of m r.0 o r.1)
 
-order_kept : (only : Option ℕ) (most : ℕ) (old : State) (turns : List TurnOf) (last : State) → AreInOrder old.seats → Plays only most old turns last → AreInOrder last.seats
-order_kept only most old [] last o plays = let P : State → Type 0 = λ t. AreInOrder t.seats in subst P (sym plays) o
+order_kept : (only : Option ℕ) (most : ℕ) (old : PlayState) (turns : List TurnOf) (last : PlayState) → AreInOrder old.seats → Plays only most old turns last → AreInOrder last.seats
+order_kept only most old [] last o plays = let P : PlayState → Type 0 = λ t. AreInOrder t.seats in subst P (sym plays) o
 order_kept only most old (turn ∷ turns) last o plays = order_kept only most plays.0 turns last (order_moved (moved only most old turn plays.0 plays.1) o) plays.2
 
 -- the seats at the start
@@ -277,9 +277,9 @@ start_ordered i (player ∷ players) = (
   start_ordered (i + 1) players,
 )
 
-pub turns_fit : (only : Option ℕ) (most : ℕ) (pool : Pooled) (players : List Seen) (turns : List TurnOf) (last : State) → Plays only most (start pool players only) turns last → TurnsFit players turns last.seats
+pub turns_fit : (only : Option ℕ) (most : ℕ) (pool : Pooled) (players : List Seen) (turns : List TurnOf) (last : PlayState) → Plays only most (start pool players only) turns last → TurnsFit players turns last.seats
 turns_fit only most pool players turns last plays =
-    let first : State = start pool players only in
+    let first : PlayState = start pool players only in
     let o : AreInOrder first.seats = start_ordered 0 players in
     record {
       each = λ who old a. each_player only most first turns last o plays (record { who = who; seen = old }) (seat_at 0 players who old who (omega arith) a);

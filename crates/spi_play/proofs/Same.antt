@@ -13,7 +13,7 @@ use Rattle.spi_play.specs.declared.plays.Ended.{Ended}
 use Rattle.spi_play.specs.declared.plays.Played.{Played}
 use Rattle.spi_play.specs.declared.plays.PlayFault.{PlayFault}
 use Rattle.spi_play.specs.Way.{Way, Seen, Script, First, Turn, FollowsWay}
-use Rattle.spi_play.specs.Play.{Seat, State, Course, TurnOf, Picks, DoesReady, Does, Turns, Plays, PlayGoesOn, EndsBy, most_reached, no_players, none_ready, seats_from, start, after_take, after_leave}
+use Rattle.spi_play.specs.Play.{Seat, PlayState, Course, TurnOf, Picks, DoesReady, DoesTurn, TakesTurn, Plays, PlayGoesOn, EndsBy, most_reached, no_players, none_ready, seats_from, start, after_take, after_leave}
 use Rattle.spi_play.specs.Outcome.{course, EndsAt, AskedTell, OnlyPlay}
 use Rattle.spi_play.proofs.Standing.{seats_seen}
 use Rattle.spi_replay.proofs.Taken.{taken_once}
@@ -37,7 +37,7 @@ follows_tells (Some Turn) times ready p v some a = rw a.1
 pub seen_same : (a b : Seen) → a.times ≡ b.times → a.way ≡ b.way → a ≡ b
 seen_same a b times way = λ i. record { times = times i; way = way i }
 
-pub state_same : (a b : State) → a.course ≡ b.course → a.seats ≡ b.seats → a.next ≡ b.next → a ≡ b
+pub state_same : (a b : PlayState) → a.course ≡ b.course → a.seats ≡ b.seats → a.next ≡ b.next → a ≡ b
 state_same a b done seats next = λ i. record { course = done i; seats = seats i; next = next i }
 
 pub course_same : (a b : Course) → a.pool ≡ b.pool → a.steps ≡ b.steps → a.events ≡ b.events → a ≡ b
@@ -58,7 +58,7 @@ goes_same old k m n first second =
     (first.steps ∙ ap (λ x. old.steps ++ x ∷ []) (sym step) ∙ sym second.steps)
     (first.events ∙ ap (λ x. old.events ++ option_to_list x) same.0 ∙ sym second.events)
 
-pub does_same : (only : Option ℕ) (old : State) (place : ℕ) (p : Pick) (seats : List Seat) (m n : State) → Does only place p old.course m.course seats m.seats m.next → Does only place p old.course n.course seats n.seats n.next → m ≡ n
+pub does_same : (only : Option ℕ) (old : PlayState) (place : ℕ) (p : Pick) (seats : List Seat) (m n : PlayState) → DoesTurn only place p old.course m.course seats m.seats m.next → DoesTurn only place p old.course n.course seats n.seats n.next → m ≡ n
 does_same only old place (Take k) seats m n first second =
     let after : m.seats ≡ n.seats = first.1 ∙ sym second.1 in
     state_same m n (goes_same old.course k m.course n.course first.0 second.0) after
@@ -79,22 +79,22 @@ all_at P xs i x all is =
     ]
 
 -- who is asked next tells its way, and so in each turn that comes: where all may be asked all tell theirs
-abbrev NextTells : State → Type 0
+abbrev NextTells : PlayState → Type 0
 NextTells s = (place : ℕ) (seat : Seat) → s.next ≡ Some place → slice_get s.seats place ≡ Some seat → TellsSeat seat
 
-abbrev AskedTellOn : Option ℕ → State → Type 0
+abbrev AskedTellOn : Option ℕ → PlayState → Type 0
 AskedTellOn None s = All TellsSeat s.seats
 AskedTellOn (Some only) s = NextTells s
 
-next_tells : (only : Option ℕ) (s : State) → AskedTellOn only s → NextTells s
+next_tells : (only : Option ℕ) (s : PlayState) → AskedTellOn only s → NextTells s
 next_tells None s tell = λ place seat next there. all_at TellsSeat s.seats place seat tell there
 next_tells (Some only) s tell = tell
 
-asked_now : (only : Option ℕ) {most : ℕ} {t : TurnOf} {m : State} (old : State) → AskedTellOn only old → (first : Turns only most old t m) → TellsSeat first.asks.seat
+asked_now : (only : Option ℕ) {most : ℕ} {t : TurnOf} {m : PlayState} (old : PlayState) → AskedTellOn only old → (first : TakesTurn only most old t m) → TellsSeat first.asks.seat
 asked_now only old tell first = next_tells only old tell first.place first.asks.seat first.goes_on.at first.asks.was
 
 -- where who is asked tells its way, a turn has one outcome
-pub turns_same : (only : Option ℕ) (most : ℕ) (old : State) (t u : TurnOf) (m n : State) → (first : Turns only most old t m) → IsSome first.asks.seat.seen.way → Turns only most old u n → m ≡ n
+pub turns_same : (only : Option ℕ) (most : ℕ) (old : PlayState) (t u : TurnOf) (m n : PlayState) → (first : TakesTurn only most old t m) → IsSome first.asks.seat.seen.way → TakesTurn only most old u n → m ≡ n
 turns_same only most old t u m n first tell second =
     let a = first.asks in
     let b = second.asks in
@@ -110,19 +110,19 @@ turns_same only most old t u m n first tell second =
     let put : ℕ → Seat → Seen → List Seat = λ p s v. slice_set old.seats p (record { who = s.who; seen = v }) in
     let seats : second.seats ≡ first.seats =
     b.others ∙ ap (λ p. put p b.seat b.new) place ∙ ap (λ s. put first.place s b.new) seat ∙ ap (put first.place a.seat) same.1 ∙ sym a.others in
-    let D : ℕ → Type 0 = λ p. Does only p u.pick old.course n.course second.seats n.seats n.next in
-    let E : Pick → Type 0 = λ p. Does only first.place p old.course n.course second.seats n.seats n.next in
-    let F : List Seat → Type 0 = λ s. Does only first.place t.pick old.course n.course s n.seats n.next in
+    let D : ℕ → Type 0 = λ p. DoesTurn only p u.pick old.course n.course second.seats n.seats n.next in
+    let E : Pick → Type 0 = λ p. DoesTurn only first.place p old.course n.course second.seats n.seats n.next in
+    let F : List Seat → Type 0 = λ s. DoesTurn only first.place t.pick old.course n.course s n.seats n.next in
     does_same only old first.place t.pick first.seats m n first.does (subst F seats (subst E same.0 (subst D place second.does)))
 
-tells_after : (place : ℕ) (p : Pick) (old new : Course) (seats after : List Seat) (next : Option ℕ) → All TellsSeat seats → Does None place p old new seats after next → All TellsSeat after
+tells_after : (place : ℕ) (p : Pick) (old new : Course) (seats after : List Seat) (next : Option ℕ) → All TellsSeat seats → DoesTurn None place p old new seats after next → All TellsSeat after
 tells_after place (Take k) old new seats after next tell does = let P : List Seat → Type 0 = λ s. All TellsSeat s in subst P (sym does.1) tell
 tells_after place Leave old new seats after next tell does =
     let P : List Seat → Type 0 = λ s. All TellsSeat s in
     subst P (sym does.1) (All-append TellsSeat (take place seats) (drop (suc place) seats) (All-take TellsSeat place seats tell) (All-drop TellsSeat (suc place) seats tell))
 
 -- the one player that may be asked is the one that was asked, as long as it stays
-alone_after : (only place : ℕ) (p : Pick) (old new : Course) (seats after : List Seat) (next : Option ℕ) (seat : Seat) → slice_get seats place ≡ Some seat → TellsSeat seat → Does (Some only) place p old new seats after next → (i : ℕ) (other : Seat) → next ≡ Some i → slice_get after i ≡ Some other → TellsSeat other
+alone_after : (only place : ℕ) (p : Pick) (old new : Course) (seats after : List Seat) (next : Option ℕ) (seat : Seat) → slice_get seats place ≡ Some seat → TellsSeat seat → DoesTurn (Some only) place p old new seats after next → (i : ℕ) (other : Seat) → next ≡ Some i → slice_get after i ≡ Some other → TellsSeat other
 alone_after only place (Take k) old new seats after next seat was tells does i other asks there =
     let e : Some place ≡ Some i = sym does.2 ∙ asks in
     let f : place ≡ i = cc in
@@ -138,12 +138,12 @@ got_put (z ∷ xs) zero x y e = refl
 got_put (z ∷ xs) (suc i) x y e = got_put xs i x y e
 
 -- who is asked tells its way after that
-asked_tells : (only : Option ℕ) (most : ℕ) (old : State) (t : TurnOf) (new : State) → NextTells old → (turn : Turns only most old t new) → IsSome turn.asks.new.way
+asked_tells : (only : Option ℕ) (most : ℕ) (old : PlayState) (t : TurnOf) (new : PlayState) → NextTells old → (turn : TakesTurn only most old t new) → IsSome turn.asks.new.way
 asked_tells only most old t new tell turn =
     let a = turn.asks in
     follows_tells a.seat.seen.way a.seat.seen.times t.ready t.pick a.new.way (tell turn.place a.seat turn.goes_on.at a.was) a.picks.way
 
-tells_kept : (only : Option ℕ) (most : ℕ) (old : State) (t : TurnOf) (new : State) → AskedTellOn only old → Turns only most old t new → AskedTellOn only new
+tells_kept : (only : Option ℕ) (most : ℕ) (old : PlayState) (t : TurnOf) (new : PlayState) → AskedTellOn only old → TakesTurn only most old t new → AskedTellOn only new
 tells_kept None most old t new tell turn =
     let a = turn.asks in
     let tells : IsSome a.new.way = asked_tells None most old t new (next_tells None old tell) turn in
@@ -163,21 +163,21 @@ ended_once (most_reached h) goes = goes.more h
 ended_once (no_players m h) goes = let e : None ≡ Some _ = sym h ∙ goes.at in absurd (cc)
 ended_once (none_ready m h counts) goes = let e = counts_once counts goes.counts in let some = goes.some in omega (arith, e, some)
 
-abbrev HasEnded : ℕ → State → Ended → Type 0
+abbrev HasEnded : ℕ → PlayState → Ended → Type 0
 HasEnded most s e = EndsBy s.course.pool.configuration s.next (length s.course.steps) most e
 
 -- two plays from one state that have both ended are one
-plays_same : (only : Option ℕ) (most : ℕ) (old : State) (ts us : List TurnOf) (m n : State) (e f : Ended) → AskedTellOn only old → Plays only most old ts m → HasEnded most m e → Plays only most old us n → HasEnded most n f → m ≡ n
+plays_same : (only : Option ℕ) (most : ℕ) (old : PlayState) (ts us : List TurnOf) (m n : PlayState) (e f : Ended) → AskedTellOn only old → Plays only most old ts m → HasEnded most m e → Plays only most old us n → HasEnded most n f → m ≡ n
 plays_same only most old [] [] m n e f tell first first_end second second_end = first ∙ sym second
 plays_same only most old [] (u ∷ us) m n e f tell first first_end second second_end =
-    let P : State → Type 0 = λ s. HasEnded most s e in
+    let P : PlayState → Type 0 = λ s. HasEnded most s e in
     absurd (ended_once (subst P first first_end) second.1.goes_on)
 plays_same only most old (t ∷ ts) [] m n e f tell first first_end second second_end =
-    let P : State → Type 0 = λ s. HasEnded most s f in
+    let P : PlayState → Type 0 = λ s. HasEnded most s f in
     absurd (ended_once (subst P second second_end) first.1.goes_on)
 plays_same only most old (t ∷ ts) (u ∷ us) m n e f tell first first_end second second_end =
     let same : first.0 ≡ second.0 = turns_same only most old t u first.0 second.0 first.1 (asked_now only old tell first.1) second.1 in
-    let P : State → Type 0 = λ s. Plays only most s us n in
+    let P : PlayState → Type 0 = λ s. Plays only most s us n in
     plays_same only most first.0 ts us m n e f (tells_kept only most old t first.0 tell first.1) first.2 first_end (subst P (sym same) second.2) second_end
 
 seats_tell : (i : ℕ) (players : List Seen) → All (λ (player : Seen). IsSome player.way) players → All TellsSeat (seats_from i players)
@@ -204,8 +204,8 @@ asked_tell (Some place) pool players tell = λ i seat asks there.
 only_play : (only : Option ℕ) (most : ℕ) (pool : Pooled) (players last : List Seen) (done : Course) (ended : Ended) → AskedTell only players → EndsAt only most (start pool players only) done last ended → OnlyPlay only most (start pool players only) done.steps
 only_play only most pool players last done ended tell ends turns state other plays end =
     let stands = ends.stands in
-    let here : State = record { course = done; seats = stands.seats; next = ends.next } in
-    ap (λ (s : State). s.course.steps) (plays_same only most (start pool players only) turns stands.turns state here other ended (asked_tell only pool players tell) plays end stands.plays ends.end)
+    let here : PlayState = record { course = done; seats = stands.seats; next = ends.next } in
+    ap (λ (s : PlayState). s.course.steps) (plays_same only most (start pool players only) turns stands.turns state here other ended (asked_tell only pool players tell) plays end stands.plays ends.end)
 
 -- and so two of them have the same steps
 pub one_end : (only : Option ℕ) (most : ℕ) (pool : Pooled) (players last others : List Seen) (done other : Course) (ended ending : Ended) → AskedTell only players → EndsAt only most (start pool players only) done last ended → EndsAt only most (start pool players only) other others ending → other.steps ≡ done.steps

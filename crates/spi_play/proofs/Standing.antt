@@ -11,7 +11,7 @@ use Rattle.spi_play.specs.declared.player.Pick.TheVariants.{Take, Leave}
 use Rattle.spi_play.specs.declared.plays.PlayFault.{PlayFault}
 use Rattle.spi_play.specs.declared.plays.Ended.{Ended}
 use Rattle.spi_play.specs.Way.{Way, Seen, seen_of}
-use Rattle.spi_play.specs.Play.{Seat, State, Course, TurnOf, Picks, seats_from, first_place, after_take, after_leave, start, PlayGoesOn, EndsBy, Asks, Does, Turns, Plays}
+use Rattle.spi_play.specs.Play.{Seat, PlayState, Course, TurnOf, Picks, seats_from, first_seat, after_take, after_leave, start, PlayGoesOn, EndsBy, AsksSeat, DoesTurn, TakesTurn, Plays}
 use Rattle.spi_run.specs.declared.step.Step as steps
 use Rattle.spi_run.specs.declared.step.Event as events
 use Rattle.spi_play.specs.Outcome.{course, AsksAt, PlayStands, EndsAt, RefusedAt}
@@ -23,8 +23,8 @@ seats_seen i [] = refl
 seats_seen i (player ∷ players) = ap (λ rest. player ∷ rest) (seats_seen (i + 1) players)
 
 -- a play goes on by a turn
-pub plays_more : (only : Option ℕ) (most : ℕ) (old : State) (turns : List TurnOf) (mid : State) (turn : TurnOf) (new : State) → Plays only most old turns mid → Turns only most mid turn new → Plays only most old (turns ++ turn ∷ []) new
-plays_more only most old [] mid turn new is goes = (new, (let P : State → Type 0 = λ s. Turns only most s turn new in subst P is goes), refl)
+pub plays_more : (only : Option ℕ) (most : ℕ) (old : PlayState) (turns : List TurnOf) (mid : PlayState) (turn : TurnOf) (new : PlayState) → Plays only most old turns mid → TakesTurn only most mid turn new → Plays only most old (turns ++ turn ∷ []) new
+plays_more only most old [] mid turn new is goes = (new, (let P : PlayState → Type 0 = λ s. TakesTurn only most s turn new in subst P is goes), refl)
 plays_more only most old (first ∷ turns) mid turn new plays goes = (plays.0, plays.1, plays_more only most plays.0 turns mid turn new plays.2 goes)
 
 from_option_map : {A B : Type 0} (f : A → B) (o : Option A) (y : B) → option_map f o ≡ Some y → (x : A) × (o ≡ Some x) × (f x ≡ y)
@@ -35,7 +35,7 @@ from_option_map f (Some x) y e = (x, refl, cc)
 record AskedOnce (old : List Seat) (place ready : ℕ) (pick : Pick) (players : List Seen) : Type 0 where
   who : ℕ
   seats : List Seat
-  asks : Asks old place (record { who = who; ready = ready; pick = pick }) seats
+  asks : AsksSeat old place (record { who = who; ready = ready; pick = pick }) seats
   seen : map (λ (seat : Seat). seat.seen) seats ≡ players
 
 asked : (seats : List Seat) (place ready : ℕ) (pick : Pick) (before players : List Seen) → map (λ (seat : Seat). seat.seen) seats ≡ before → AsksAt before place ready pick players → AskedOnce seats place ready pick players
@@ -61,10 +61,10 @@ asked seats place ready pick before players seen asks =
 -- an answer does to the seats what it does to what is seen of them
 record Done (only : Option ℕ) (place : ℕ) (pick : Pick) (old new : Course) (seats : List Seat) (after : List Seen) (next : Option ℕ) : Type 0 where
   left : List Seat
-  does : Does only place pick old new seats left next
+  does : DoesTurn only place pick old new seats left next
   seen : map (λ (seat : Seat). seat.seen) left ≡ after
 
-done_so : (only : Option ℕ) (place : ℕ) (pick : Pick) (old new : Course) (seats : List Seat) (players after : List Seen) (next : Option ℕ) → map (λ (seat : Seat). seat.seen) seats ≡ players → Does only place pick old new players after next → Done only place pick old new seats after next
+done_so : (only : Option ℕ) (place : ℕ) (pick : Pick) (old new : Course) (seats : List Seat) (players after : List Seen) (next : Option ℕ) → map (λ (seat : Seat). seat.seen) seats ≡ players → DoesTurn only place pick old new players after next → Done only place pick old new seats after next
 done_so only place (Take k) old new seats players after next seen does =
     let f : Seat → Seen = λ seat. seat.seen in
     let same : length after ≡ length seats = ap length (does.1 ∙ sym seen) ∙ length-map seats f in
@@ -84,13 +84,13 @@ done_so only place Leave old new seats players after next seen does =
       seen = kept;
     }
 
-pub stands_turn : (only : Option ℕ) (most : ℕ) (first : State) (old new : Course) (before after : List Seen) (next next' : Option ℕ) (place ready : ℕ) → PlayStands only most first old before next → PlayGoesOn old.pool.configuration next (length old.steps) most place ready → Turned only place ready old new before after next' → PlayStands only most first new after next'
+pub stands_turn : (only : Option ℕ) (most : ℕ) (first : PlayState) (old new : Course) (before after : List Seen) (next next' : Option ℕ) (place ready : ℕ) → PlayStands only most first old before next → PlayGoesOn old.pool.configuration next (length old.steps) most place ready → Turned only place ready old new before after next' → PlayStands only most first new after next'
 stands_turn only most first old new before after next next' place ready stands goes turned =
     let a : AskedOnce stands.seats place ready turned.pick turned.players = asked stands.seats place ready turned.pick before turned.players stands.seen turned.asks in
     let d : Done only place turned.pick old new a.seats after next' = done_so only place turned.pick old new a.seats turned.players after next' a.seen turned.does in
     let turn : TurnOf = record { who = a.who; ready = ready; pick = turned.pick } in
-    let here : State = record { course = old; seats = stands.seats; next = next } in
-    let then : State = record { course = new; seats = d.left; next = next' } in
+    let here : PlayState = record { course = old; seats = stands.seats; next = next } in
+    let then : PlayState = record { course = new; seats = d.left; next = next' } in
     record {
       turns = stands.turns ++ turn ∷ [];
       seats = d.left;
@@ -99,19 +99,19 @@ stands_turn only most first old new before after next next' place ready stands g
     }
 
 -- a play over players of any kind stands at its start
-pub play_first : {B : Type 0} (times : B → ℕ) (way : B → Option Way) (players : List B) (only : Option ℕ) (most : ℕ) (pool : Pooled) (done : Course) (n : ℕ) (next : Option ℕ) → n ≡ length players → next ≡ first_place only n → done ≡ record { pool = pool; steps = []; events = [] } → PlayStands only most (start pool (seen_of times way players) only) done (seen_of times way players) next
+pub play_first : {B : Type 0} (times : B → ℕ) (way : B → Option Way) (players : List B) (only : Option ℕ) (most : ℕ) (pool : Pooled) (done : Course) (n : ℕ) (next : Option ℕ) → n ≡ length players → next ≡ first_seat only n → done ≡ record { pool = pool; steps = []; events = [] } → PlayStands only most (start pool (seen_of times way players) only) done (seen_of times way players) next
 play_first {B} times way players only most pool done n next count first nothing =
     let see : B → Seen = λ b. record { times = times b; way = way b } in
     let same : n ≡ length (map see players) = count ∙ sym (length-map players see) in
     let P : Course → Option ℕ → Type 0 = λ c o. PlayStands only most (start pool (map see players) only) c (map see players) o in
-    let Q : Course → Type 0 = λ c. P c (first_place only (length (map see players))) in
-    let here : PlayStands only most (start pool (map see players) only) (record { pool = pool; steps = []; events = [] }) (map see players) (first_place only (length (map see players))) = record {
+    let Q : Course → Type 0 = λ c. P c (first_seat only (length (map see players))) in
+    let here : PlayStands only most (start pool (map see players) only) (record { pool = pool; steps = []; events = [] }) (map see players) (first_seat only (length (map see players))) = record {
       turns = [];
       seats = seats_from 0 (map see players);
       plays = refl;
       seen = seats_seen 0 (map see players);
     } in
-    subst (λ o. P done o) (sym (first ∙ ap (first_place only) same)) (subst Q (sym nothing) here)
+    subst (λ o. P done o) (sym (first ∙ ap (first_seat only) same)) (subst Q (sym nothing) here)
 
 -- nothing was done
 pub nothing_done : (pool : Pooled) (ss : List steps.Step) (es : List events.Event) → ss ≡ [] → es ≡ [] → course pool ss es ≡ record { pool = pool; steps = []; events = [] }
@@ -135,7 +135,7 @@ turned_leave {B} times way before players left only place ready n done next asks
 pub taken_so : (c : Configuration) (next : Option ℕ) (n m most place ready : ℕ) → n ≡ m → PlayGoesOn c next n most place ready → PlayGoesOn c next m most place ready
 taken_so c next n m most place ready e goes = let P : ℕ → Type 0 = λ x. PlayGoesOn c next x most place ready in subst P e goes
 
-pub ends_so : (only : Option ℕ) (most : ℕ) (first : State) (done : Course) (players : List Seen) (next : Option ℕ) (n : ℕ) (ended : Ended) → PlayStands only most first done players next → n ≡ length done.steps → EndsBy done.pool.configuration next n most ended → EndsAt only most first done players ended
+pub ends_so : (only : Option ℕ) (most : ℕ) (first : PlayState) (done : Course) (players : List Seen) (next : Option ℕ) (n : ℕ) (ended : Ended) → PlayStands only most first done players next → n ≡ length done.steps → EndsBy done.pool.configuration next n most ended → EndsAt only most first done players ended
 ends_so only most first done players next n ended stands e end = record {
   next = next;
   stands = stands;
@@ -143,7 +143,7 @@ ends_so only most first done players next n ended stands e end = record {
 }
 
 -- the pick of the player that was asked next is refused
-pub refused_so : (only : Option ℕ) (most : ℕ) (first : State) (done : Course) (before players : List Seen) (next : Option ℕ) (n place ready : ℕ) (pool : Pooled) (fault : PlayFault) → PlayStands only most first done before next → n ≡ length done.steps → PlayGoesOn done.pool.configuration next n most place ready → pool ≡ done.pool → TurnRefused done.pool place ready before players fault → RefusedAt only most first pool players fault
+pub refused_so : (only : Option ℕ) (most : ℕ) (first : PlayState) (done : Course) (before players : List Seen) (next : Option ℕ) (n place ready : ℕ) (pool : Pooled) (fault : PlayFault) → PlayStands only most first done before next → n ≡ length done.steps → PlayGoesOn done.pool.configuration next n most place ready → pool ≡ done.pool → TurnRefused done.pool place ready before players fault → RefusedAt only most first pool players fault
 refused_so only most first done before players next n place ready pool fault stands e goes same refused =
     let P : Pooled → Type 0 = λ p. RefusedAt only most first p players fault in
     subst P (sym same) (record {

@@ -13,14 +13,14 @@ use Rattle.spi_play.specs.declared.plays.Ended.{Ended}
 use Rattle.spi_play.specs.declared.plays.PlayFault.{PlayFault}
 use Rattle.spi_play.specs.declared.plays.PlayFault.TheVariants.{BadPick, RunMessageTooLarge, TooManyPlaces, NoMemory}
 use Rattle.spi_play.specs.Way.{Seen}
-use Rattle.spi_play.specs.Play.{Course, Seat, State, TurnOf, IsKth, EndsBy, PlayGoesOn, Picks, Plays}
+use Rattle.spi_play.specs.Play.{Course, Seat, PlayState, TurnOf, IsKth, EndsBy, PlayGoesOn, Picks, Plays}
 
 -- what was done, by the program's own steps and events
 abbrev pub course : Pooled → List steps.Step → List events.Event → Course
 course pool steps events = record { pool = pool; steps = map View.step steps; events = map View.event events }
 
 -- A play that started so stands here: what was done, what is seen of the players in the list, and which is asked next.
-pub record PlayStands (only : Option ℕ) (most : ℕ) (first : State) (done : Course) (players : List Seen)
+pub record PlayStands (only : Option ℕ) (most : ℕ) (first : PlayState) (done : Course) (players : List Seen)
     (next : Option ℕ) : Type 0 where
   pub turns : List TurnOf
   pub seats : List Seat
@@ -28,7 +28,7 @@ pub record PlayStands (only : Option ℕ) (most : ℕ) (first : State) (done : C
   pub seen : map (λ seat. seat.seen) seats ≡ players
 
 -- A play that started so has ended so.
-pub record EndsAt (only : Option ℕ) (most : ℕ) (first : State) (done : Course) (players : List Seen)
+pub record EndsAt (only : Option ℕ) (most : ℕ) (first : PlayState) (done : Course) (players : List Seen)
     (ended : Ended) : Type 0 where
   pub next : Option ℕ
   pub stands : PlayStands only most first done players next
@@ -60,7 +60,7 @@ IsPickRefused pool place ready k NoMemory = k < ready
 
 -- A play that started so is refused here: it stands as it is, but that the player asked next was asked once more, and what
 -- it picked is refused so.
-pub record RefusedAt (only : Option ℕ) (most : ℕ) (first : State) (pool : Pooled) (players : List Seen)
+pub record RefusedAt (only : Option ℕ) (most : ℕ) (first : PlayState) (pool : Pooled) (players : List Seen)
     (fault : PlayFault) : Type 0 where
   pub steps : List Step
   pub events : List Event
@@ -80,8 +80,8 @@ AskedTell None players = All (λ player. IsSome player.way) players
 AskedTell (Some place) players = IfSome (slice_get players place) (λ player. IsSome player.way)
 
 -- any play that started so and has ended did these steps
-abbrev pub OnlyPlay : Option ℕ → ℕ → State → List Step → Type 0
+abbrev pub OnlyPlay : Option ℕ → ℕ → PlayState → List Step → Type 0
 OnlyPlay only most first steps =
-    (turns : List TurnOf) (last : State) (ended : Ended) → Plays only most first turns last
+    (turns : List TurnOf) (last : PlayState) (ended : Ended) → Plays only most first turns last
     → EndsBy last.course.pool.configuration last.next (length last.course.steps) most ended
     → last.course.steps ≡ steps

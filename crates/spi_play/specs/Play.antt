@@ -30,7 +30,7 @@ pub record Seat : Type 0 where
   pub seen : Seen
 
 -- a play as it stands, with the place in the list of the player that is asked next
-pub record State : Type 0 where
+pub record PlayState : Type 0 where
   pub course : Course
   pub seats : List Seat
   pub next : Option ℕ
@@ -48,9 +48,9 @@ seats_from i (seen ∷ players) = record { who = i; seen = seen } ∷ seats_from
 
 -- The cursor, by the one player that may be asked, if there is such a one, and the number of players in the list: the
 -- place that is asked first,
-abbrev pub first_place : Option ℕ → ℕ → Option ℕ
-first_place None players = if players == 0 then None else Some 0
-first_place (Some only) players = Some only
+abbrev pub first_seat : Option ℕ → ℕ → Option ℕ
+first_seat None players = if players == 0 then None else Some 0
+first_seat (Some only) players = Some only
 
 -- after the player at this place took a step,
 abbrev pub after_take : Option ℕ → ℕ → ℕ → Option ℕ
@@ -64,11 +64,11 @@ after_leave None place players =
 after_leave (Some only) place players = None
 
 -- how a play starts
-abbrev pub start : Pooled → List Seen → Option ℕ → State
+abbrev pub start : Pooled → List Seen → Option ℕ → PlayState
 start pool players only = record {
   course = record { pool = pool; steps = []; events = [] };
   seats = seats_from 0 players;
-  next = first_place only (length players);
+  next = first_seat only (length players);
 }
 
 -- the first of the ends that holds, where so many steps were taken
@@ -91,7 +91,7 @@ pub record Picks (old : Seen) (ready : ℕ) (pick : Pick) (new : Seen) : Type 0 
   pub way : FollowsWay old.way old.times ready pick new.way
 
 -- the player at this place of the list has this turn, and these are the seats after
-pub record Asks (seats : List Seat) (place : ℕ) (turn : TurnOf) (after : List Seat) : Type 0 where
+pub record AsksSeat (seats : List Seat) (place : ℕ) (turn : TurnOf) (after : List Seat) : Type 0 where
   pub seat : Seat
   pub new : Seen
   pub was : slice_get seats place ≡ Some seat
@@ -110,23 +110,23 @@ pub record DoesReady (old : Course) (k : ℕ) (new : Course) : Type 0 where
 
 -- What an answer of the player at this place does: to what was done, to the list of players, in whatever form they are
 -- seen, and to the cursor.
-abbrev pub Does : {A : Type 0} → Option ℕ → ℕ → Pick → Course → Course → List A → List A → Option ℕ → Type 0
-Does only place (Take k) old new players after next = DoesReady old k new × (after ≡ players)
+abbrev pub DoesTurn : {A : Type 0} → Option ℕ → ℕ → Pick → Course → Course → List A → List A → Option ℕ → Type 0
+DoesTurn only place (Take k) old new players after next = DoesReady old k new × (after ≡ players)
     × (next ≡ after_take only place (length after))
-Does only place Leave old new players after next = (new ≡ old) × (after ≡ remove players place)
+DoesTurn only place Leave old new players after next = (new ≡ old) × (after ≡ remove players place)
     × (next ≡ after_leave only place (length after))
 
 -- a turn of a play
-pub record Turns (only : Option ℕ) (most : ℕ) (old : State) (turn : TurnOf) (new : State) : Type 0 where
+pub record TakesTurn (only : Option ℕ) (most : ℕ) (old : PlayState) (turn : TurnOf) (new : PlayState) : Type 0 where
   pub place : ℕ
   pub seats : List Seat
   pub goes_on : PlayGoesOn old.course.pool.configuration old.next (length old.course.steps) most place
       turn.ready
-  pub asks : Asks old.seats place turn seats
-  pub does : Does only place turn.pick old.course new.course seats new.seats new.next
+  pub asks : AsksSeat old.seats place turn seats
+  pub does : DoesTurn only place turn.pick old.course new.course seats new.seats new.next
 
 -- a play with these turns leads from a state to another
-abbrev pub Plays : Option ℕ → ℕ → State → List TurnOf → State → Type 0
+abbrev pub Plays : Option ℕ → ℕ → PlayState → List TurnOf → PlayState → Type 0
 Plays only most old [] new = new ≡ old
-Plays only most old (turn ∷ turns) new = (mid : State) × Turns only most old turn mid
+Plays only most old (turn ∷ turns) new = (mid : PlayState) × TakesTurn only most old turn mid
     × Plays only most mid turns new

@@ -11,7 +11,7 @@ use Rattle.spi_play.specs.declared.plays.PlayFault.TheVariants.{RunMessageTooLar
 use Rattle.spi_play.specs.declared.turns.Ahead.{Ahead}
 use Rattle.spi_play.specs.declared.turns.Ahead.TheVariants.{Asks, Ends}
 use Rattle.spi_play.specs.Way.{Seen}
-use Rattle.spi_play.specs.Play.{Course, EndsBy, PlayGoesOn, Does}
+use Rattle.spi_play.specs.Play.{Course, EndsBy, PlayGoesOn, DoesTurn}
 use Rattle.spi_play.specs.Outcome.{AsksAt, IsPickRefused}
 
 -- what comes next in a play
@@ -36,7 +36,7 @@ pub record Turned (only : Option ℕ) (place ready : ℕ) (old new : Course) (be
   pub pick : Pick
   pub players : List Seen
   pub asks : AsksAt before place ready pick players
-  pub does : Does only place pick old new players after next
+  pub does : DoesTurn only place pick old new players after next
 
 -- the player at this place was asked, and what it picked is refused so
 pub record TurnRefused (pool : Pooled) (place ready : ℕ) (before after : List Seen) (fault : PlayFault) : Type

@@ -2,12 +2,12 @@
 
 ghost use Rattle.std.specs.Prelude.{◌≡◌, ◌<◌, ◌≤◌};
 ghost use Rattle.std.specs.Option.{ForSome};
-ghost use Rattle.spi_play.specs.Play.{first_place, after_take, after_leave};
+ghost use Rattle.spi_play.specs.Play.{first_seat, after_take, after_leave};
 
 // The place that is asked first.
 pub(crate) fn place_at_first(only: Option<usize>, players: usize) -> Option<usize>
     requires { ForSome only (λ place. place < players) }
-    ensures place { result ≡ first_place only players }
+    ensures place { result ≡ first_seat only players }
     ensures within { ForSome result (λ place. place < players) }
 {
     match only {

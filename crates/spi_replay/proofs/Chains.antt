@@ -11,7 +11,7 @@ use Rattle.spi_intern.specs.declared.messages.MsgPart.{MsgPart}
 use Rattle.spi_intern.specs.declared.messages.MsgPart.TheVariants.{Name}
 use Rattle.spi_replay.specs.declared.names.Link.{Link}
 use Rattle.spi_replay.specs.declared.names.Scope.{Scope}
-use Rattle.spi_replay.specs.Holding.{value, joined, linked, chain, Chain, no_link, a_link}
+use Rattle.spi_replay.specs.Holding.{value, message_with, linked, chain, Chain, no_link, a_link}
 use Rattle.spi_replay.specs.Moves.{Numbers}
 use Rattle.spi_replay.specs.Standing.{HasLink, IsValueAt, InScopeOf, HasNames, IsInstance}
 use Rattle.spi_replay.proofs.Opening.{value_here, value_other}
@@ -19,14 +19,14 @@ use Rattle.spi_replay.proofs.Opening.{value_here, value_other}
 pub chain_is : {ms : List Message} {ls : List Link} {i : ℕ} {vs : List Message} → Chain ms ls i vs → chain ms ls (length vs) i ≡ vs
 chain_is no_link = refl
 chain_is {ms} {ls} (a_link {l = l} {m = m} {vs = vs} g a c) =
-    ap (linked ms (chain ms ls (length vs))) g ∙ ap (λ o. joined o (chain ms ls (length vs) l.before)) a ∙ ap (λ ws. m ∷ ws) (chain_is c)
+    ap (linked ms (chain ms ls (length vs))) g ∙ ap (λ o. message_with o (chain ms ls (length vs) l.before)) a ∙ ap (λ ws. m ∷ ws) (chain_is c)
 
 pub chain_kept : {ms ns : List Message} {ls ks : List Link} {i : ℕ} {vs : List Message} → KeepsAll ms ns → KeepsAll ls ks → Chain ms ls i vs → Chain ns ks i vs
 chain_kept k h no_link = no_link
 chain_kept k h (a_link {i = i} {l = l} {m = m} g a c) = a_link (h.at i l g) (k.at l.value.place m a) (chain_kept k h c)
 
 -- the link before one
-pub record Before (ms : List Message) (ls : List Link) (i : ℕ) (vs : List Message) : Type 0 where
+pub record BoundBefore (ms : List Message) (ls : List Link) (i : ℕ) (vs : List Message) : Type 0 where
   pub link : Link
   pub there : slice_get ls i ≡ Some link
   pub first : Message
@@ -35,7 +35,7 @@ pub record Before (ms : List Message) (ls : List Link) (i : ℕ) (vs : List Mess
   pub numbers : Numbers ms link.value first
   pub linked : Chain ms ls link.before rest
 
-pub before : {ms : List Message} {ls : List Link} {i : ℕ} {vs : List Message} → Chain ms ls i vs → 0 < length vs → Before ms ls i vs
+pub before : {ms : List Message} {ls : List Link} {i : ℕ} {vs : List Message} → Chain ms ls i vs → 0 < length vs → BoundBefore ms ls i vs
 before no_link h = absurd (omega arith)
 before (a_link {l = l} {m = m} {vs = vs} g a c) h = record { link = l; there = g; first = m; rest = vs; is = refl; numbers = a; linked = c }
 

@@ -20,7 +20,7 @@ use Rattle.spi_replay.specs.Waiting.{met_if, met_with, met_by}
 use Rattle.spi_replay.specs.Moves.{event_of, Move, stays, puts, takes, takes_again, move_of, bound_in, appended, acts_alone, Numbers, Waits, w_puts, w_takes, w_takes_again, w_binds_one, w_binds_two, w_goes_on, w_shows, w_makes, w_forks}
 use Rattle.spi_replay.specs.Standing.{Enters, IsPlace, Binds, StandsAt}
 use Rattle.spi_replay.proofs.Subtrees.{FollowsNode, node_at}
-use Rattle.spi_replay.proofs.Forms.{IsQuiet, IsStill, LeadsByOne, Moves, moves_stays, moves_puts, moves_takes, moves_takes_again, moves_one, moves_two, moves_on, moves_shows, moves_makes, moves_forks, node_moves, done_moves}
+use Rattle.spi_replay.proofs.Forms.{IsQuiet, IsStill, LeadsByOne, MovesByForm, moves_stays, moves_puts, moves_takes, moves_takes_again, moves_one, moves_two, moves_on, moves_shows, moves_makes, moves_forks, node_moves, done_moves}
 use Rattle.spi_replay.proofs.Chains.{chain_is, chain_kept}
 use Rattle.spi_replay.proofs.Awaiting.{waits_kept}
 
@@ -34,7 +34,7 @@ pub record Acting (ms : List Message) (ls : List Link) (p : Place) : Type 0 wher
   pub closed : AllClosed values
   pub move : Move
   pub waits : Waits ms p.wait move
-  pub moves : Moves p.source.now.names (shapes_in p) values (place_process ms ls p) move
+  pub moves : MovesByForm p.source.now.names (shapes_in p) values (place_process ms ls p) move
 
 pub process_is : {ms : List Message} {ls : List Link} (p : Place) (h : IsPlace ms ls p) → place_process ms ls p ≡ (if p.done then stop else held_at p.source.now.names h.values (shapes_in p) p.node)
 process_is {ms} {ls} p h =
@@ -53,7 +53,7 @@ acting {ms} {ls} p h =
       closed = e.closed;
       move = v;
       waits = h.waits;
-      moves = subst (λ q. Moves k (shapes_in p) h.values q v) (sym (process_is p h)) d;
+      moves = subst (λ q. MovesByForm k (shapes_in p) h.values q v) (sym (process_is p h)) d;
     }
 
 -- kept
@@ -73,7 +73,7 @@ pub stands_kept : {ms ns : List Message} {ls ks : List Link} {sp : Spelling} {no
 stands_kept {p = p} k l s = record { is = place_kept k l s.is; process = process_kept p k l s.is ∙ s.process }
 
 -- a move that doesn't act, and one that does
-pub still_of : {k : ℕ} {ss : List Shape} {vs : List Message} {p : Process} {v : Move} → acts_alone v ≡ false → Moves k ss vs p v → IsStill p
+pub still_of : {k : ℕ} {ss : List Shape} {vs : List Message} {p : Process} {v : Move} → acts_alone v ≡ false → MovesByForm k ss vs p v → IsStill p
 still_of e (moves_stays q s) = s
 still_of e (moves_puts {a} {b} f c) = subst IsStill (sym f) (record { still = λ n x n' p' more h. elim h [ ] })
 still_of e (moves_takes {a} {t} {q} f o) = subst IsStill (sym f) (record { still = λ n x n' p' more h. elim h [ ] })
@@ -85,7 +85,7 @@ still_of e (moves_shows q l f) = absurd (true≢false e)
 still_of e (moves_makes q l f) = absurd (true≢false e)
 still_of e (moves_forks q l f g) = absurd (true≢false e)
 
-pub record Outcome (n : ℕ) (p : Process) (v : Move) : Type 0 where
+pub record MoveOutcome (n : ℕ) (p : Process) (v : Move) : Type 0 where
   pub event : Option Event
   pub names : ℕ
   pub now : Process
@@ -93,7 +93,7 @@ pub record Outcome (n : ℕ) (p : Process) (v : Move) : Type 0 where
   pub leads : LeadsByOne n p event names now more (bound_in n v)
   pub count : length more ≡ appended v
 
-pub outcome_of : {k : ℕ} {ss : List Shape} {vs : List Message} {p : Process} {v : Move} (n : ℕ) → acts_alone v ≡ true → Moves k ss vs p v → Outcome n p v
+pub outcome_of : {k : ℕ} {ss : List Shape} {vs : List Message} {p : Process} {v : Move} (n : ℕ) → acts_alone v ≡ true → MovesByForm k ss vs p v → MoveOutcome n p v
 outcome_of n e (moves_stays q s) = absurd (true≢false (sym e))
 outcome_of n e (moves_puts f c) = absurd (true≢false (sym e))
 outcome_of n e (moves_takes f o) = absurd (true≢false (sym e))
@@ -153,22 +153,22 @@ pub record ActsForking (ms : List Message) (ls : List Link) (p : Place) (i j : �
   pub rest : Enters ms ls p.source.now j p.last values
 
 module _ {ms : List Message} {ls : List Link} (p : Place) (h : Acting ms ls p) (over : ProcessOver p.source.now.names p.source.now.process) where
-  one_from : {id : MsgId} {i : ℕ} {v : Move} → Waits ms (W.BindsOne id i) v → Moves p.source.now.names (shapes_in p) h.values (place_process ms ls p) v → ActsOne ms ls p id i
+  one_from : {id : MsgId} {i : ℕ} {v : Move} → Waits ms (W.BindsOne id i) v → MovesByForm p.source.now.names (shapes_in p) h.values (place_process ms ls p) v → ActsOne ms ls p id i
   one_from (w_binds_one {m = m} a) (moves_one q c l f) = record { values = h.values; message = m; number = a; leads = l; binds = binds_at p h over (m ∷ []) (c, h.closed) f }
 
-  two_from : {id j : MsgId} {i : ℕ} {v : Move} → Waits ms (W.BindsTwo id j i) v → Moves p.source.now.names (shapes_in p) h.values (place_process ms ls p) v → ActsTwo ms ls p id j i
+  two_from : {id j : MsgId} {i : ℕ} {v : Move} → Waits ms (W.BindsTwo id j i) v → MovesByForm p.source.now.names (shapes_in p) h.values (place_process ms ls p) v → ActsTwo ms ls p id j i
   two_from (w_binds_two {m = m} {n = d} a b) (moves_two q c e l f) = record { values = h.values; message = m; other = d; number = a; other_number = b; leads = l; binds = binds_at p h over (d ∷ (m ∷ [])) (e, (c, h.closed)) f }
 
-  on_from : {i : ℕ} {v : Move} → Waits ms (W.GoesOn i) v → Moves p.source.now.names (shapes_in p) h.values (place_process ms ls p) v → ActsOn ms ls p i
+  on_from : {i : ℕ} {v : Move} → Waits ms (W.GoesOn i) v → MovesByForm p.source.now.names (shapes_in p) h.values (place_process ms ls p) v → ActsOn ms ls p i
   on_from w_goes_on (moves_on q l f) = record { values = h.values; leads = l; enters = enters_at p h over f }
 
-  showing_from : {k : Kind} {id : MsgId} {i : ℕ} {v : Move} → Waits ms (W.Shows k id i) v → Moves p.source.now.names (shapes_in p) h.values (place_process ms ls p) v → ActsShowing ms ls p k id i
+  showing_from : {k : Kind} {id : MsgId} {i : ℕ} {v : Move} → Waits ms (W.Shows k id i) v → MovesByForm p.source.now.names (shapes_in p) h.values (place_process ms ls p) v → ActsShowing ms ls p k id i
   showing_from (w_shows {m = m} a) (moves_shows q l f) = record { values = h.values; message = m; number = a; leads = l; enters = enters_at p h over f }
 
-  making_from : {i : ℕ} {v : Move} → Waits ms (W.Freshes i) v → Moves p.source.now.names (shapes_in p) h.values (place_process ms ls p) v → ActsMaking ms ls p i
+  making_from : {i : ℕ} {v : Move} → Waits ms (W.Freshes i) v → MovesByForm p.source.now.names (shapes_in p) h.values (place_process ms ls p) v → ActsMaking ms ls p i
   making_from w_makes (moves_makes q l f) = record { values = h.values; leads = l; binds = λ n. binds_at p h over (name n ∷ []) (tt, h.closed) (f n) }
 
-  forking_from : {i j : ℕ} {v : Move} → Waits ms (W.Forks i j) v → Moves p.source.now.names (shapes_in p) h.values (place_process ms ls p) v → ActsForking ms ls p i j
+  forking_from : {i j : ℕ} {v : Move} → Waits ms (W.Forks i j) v → MovesByForm p.source.now.names (shapes_in p) h.values (place_process ms ls p) v → ActsForking ms ls p i j
   forking_from w_forks (moves_forks q l f g) = record { values = h.values; leads = l; enters = enters_at p h over f; rest = enters_at p h over g }
 
 wait_is : {ms : List Message} {v w : Wait} {m : Move} → w ≡ v → Waits ms w m → Waits ms v m
@@ -210,10 +210,10 @@ pub record TakesHere (ms : List Message) (ls : List Link) (p : Place) (id : MsgI
   pub binds : (m : Message) → IsClosed m → Binds ms ls p.source.now i p.last values (m ∷ [])
 
 module _ {ms : List Message} {ls : List Link} (p : Place) (h : Acting ms ls p) (over : ProcessOver p.source.now.names p.source.now.process) where
-  puts_from : {id j : MsgId} {v : Move} → Waits ms (W.Puts id j) v → Moves p.source.now.names (shapes_in p) h.values (place_process ms ls p) v → PutsHere ms ls p id j
+  puts_from : {id j : MsgId} {v : Move} → Waits ms (W.Puts id j) v → MovesByForm p.source.now.names (shapes_in p) h.values (place_process ms ls p) v → PutsHere ms ls p id j
   puts_from (w_puts {m = m} {n = n} a b) (moves_puts e c) = record { channel = m; datum = n; on = a; number = b; closed = c; is = e }
 
-  takes_from : {id : MsgId} {i : ℕ} {v : Move} → Waits ms (W.Takes id i) v → Moves p.source.now.names (shapes_in p) h.values (place_process ms ls p) v → TakesHere ms ls p id i false
+  takes_from : {id : MsgId} {i : ℕ} {v : Move} → Waits ms (W.Takes id i) v → MovesByForm p.source.now.names (shapes_in p) h.values (place_process ms ls p) v → TakesHere ms ls p id i false
   takes_from {i = i} (w_takes {m = m} a) (moves_takes {t = t} {q = q} e o) = record {
     values = h.values;
     channel = m;
@@ -222,7 +222,7 @@ module _ {ms : List Message} {ls : List Link} (p : Place) (h : Acting ms ls p) (
     binds = λ d c. binds_at p h over (d ∷ []) (c, h.closed) (o.follows d);
   }
 
-  again_from : {id : MsgId} {i : ℕ} {v : Move} → Waits ms (W.TakesAgain id i) v → Moves p.source.now.names (shapes_in p) h.values (place_process ms ls p) v → TakesHere ms ls p id i true
+  again_from : {id : MsgId} {i : ℕ} {v : Move} → Waits ms (W.TakesAgain id i) v → MovesByForm p.source.now.names (shapes_in p) h.values (place_process ms ls p) v → TakesHere ms ls p id i true
   again_from {i = i} (w_takes_again {m = m} a) (moves_takes_again {t = t} {q = q} e o) = record {
     values = h.values;
     channel = m;
@@ -318,7 +318,7 @@ channel_of (recv a t p) = a
 channel_of (serve a t p) = a
 channel_of p = name 0
 
-puts_by : {ms : List Message} {w : Wait} {k : ℕ} {ss : List Shape} {vs : List Message} {p : Process} {v : Move} (c d : Message) → p ≡ send c d → Waits ms w v → Moves k ss vs p v → PutsBy ms w c
+puts_by : {ms : List Message} {w : Wait} {k : ℕ} {ss : List Shape} {vs : List Message} {p : Process} {v : Move} (c d : Message) → p ≡ send c d → Waits ms w v → MovesByForm k ss vs p v → PutsBy ms w c
 unfolding channel_of
 puts_by c d e x (moves_stays q s) = absurd (quiet_no e q)
 puts_by {ms} {w} c d e x (moves_puts {a} {b} f z) = subst (PutsBy ms w) (ap channel_of (sym f ∙ e)) (puts_wait x)
@@ -331,7 +331,7 @@ puts_by c d e x (moves_shows q l f) = absurd (quiet_no e q)
 puts_by c d e x (moves_makes q l f) = absurd (quiet_no e q)
 puts_by c d e x (moves_forks q l f g) = absurd (quiet_no e q)
 
-takes_by : {ms : List Message} {w : Wait} {k : ℕ} {ss : List Shape} {vs : List Message} {p : Process} {v : Move} (c : Message) (t : Ty) (r : Process) → (p ≡ recv c t r) ⊎ (p ≡ serve c t r) → Waits ms w v → Moves k ss vs p v → TakesBy ms w c
+takes_by : {ms : List Message} {w : Wait} {k : ℕ} {ss : List Shape} {vs : List Message} {p : Process} {v : Move} (c : Message) (t : Ty) (r : Process) → (p ≡ recv c t r) ⊎ (p ≡ serve c t r) → Waits ms w v → MovesByForm k ss vs p v → TakesBy ms w c
 unfolding channel_of
 takes_by c t r e x (moves_stays q s) = ⊎_elim (λ f. absurd (quiet_no f q)) (λ f. absurd (quiet_no f q)) e
 takes_by c t r e x (moves_puts f z) = ⊎_elim (λ g. absurd cc) (λ g. absurd cc) e

@@ -13,8 +13,8 @@ use Rattle.spi_replay.specs.declared.places.Place.{Place}
 use Rattle.spi_replay.specs.declared.waits.Wait.{Wait}
 use Rattle.spi_replay.specs.declared.waits.Wait.TheVariants.{Stays}
 use Rattle.spi_replay.specs.declared.tables.Change.{Change}
-use Rattle.spi_replay.specs.Indexed.{is_on, places_on, waits_of, or_none, HasPlaces, listed, moved}
-use Rattle.spi_replay.specs.Tables.{Rises, AllRise, with_place, next_wait, change_of, relisted, HasChanged}
+use Rattle.spi_replay.specs.Indexed.{is_on, places_on, waits_of, or_none, HasPlaces, place_listed, places_moved}
+use Rattle.spi_replay.specs.Tables.{Rises, AllRise, with_place, next_wait, table_change, relisted, HasChanged}
 
 lt_yes : (i n : ℕ) → i < n → nat_lt i n ≡ true
 lt_yes i n h = grind (arith, nat_tests)
@@ -247,7 +247,7 @@ get_wait [] i x e = absurd cc
 get_wait (y ∷ xs) zero x e = ap (λ (z : Place). Some z.wait) (some_one e)
 get_wait (y ∷ xs) (suc i) x e = get_wait xs i x e
 
-pub turned_set : (f : Wait → Option ℕ) (ps : List Place) (k : ℕ) (p q : Place) → slice_get ps k ≡ Some q → HasTurned f (waits_of ps) (waits_of (slice_set ps k p)) (change_of f (record { place = k; from = q.wait; to = p.wait }))
+pub turned_set : (f : Wait → Option ℕ) (ps : List Place) (k : ℕ) (p q : Place) → slice_get ps k ≡ Some q → HasTurned f (waits_of ps) (waits_of (slice_set ps k p)) (table_change f (record { place = k; from = q.wait; to = p.wait }))
 turned_set f ps k p q e = record {
   on = λ c. ap (places_on f c 0) (map-set (λ (x : Place). x.wait) ps k p) ∙ set_on f c k 0 k (waits_of ps) p.wait (omega arith) (omega (arith, get_below ps k q e, length-map ps (λ (x : Place). x.wait)));
   off = λ c g h. ap (places_on f c 0) (map-set (λ (x : Place). x.wait) ps k p) ∙ set_off f c 0 k (waits_of ps) p.wait (λ v at. subst (λ (w : Wait). is_on c (f w) ≡ false) (some_one (sym (get_wait ps k q e) ∙ at)) g) h;
@@ -261,7 +261,7 @@ get_after (x ∷ xs) zero (suc j) v w e = inl e
 get_after (x ∷ xs) (suc i) zero v w e = inl e
 get_after (x ∷ xs) (suc i) (suc j) v w e = get_after xs i j v w e
 
-pub turned_next : (f : Wait → Option ℕ) (ps : List Place) (i j : ℕ) (d p q : Place) → f d.wait ≡ None → slice_get ps j ≡ Some q → HasTurned f (waits_of (slice_set ps i d)) (waits_of (slice_set (slice_set ps i d) j p)) (change_of f (record { place = j; from = q.wait; to = p.wait }))
+pub turned_next : (f : Wait → Option ℕ) (ps : List Place) (i j : ℕ) (d p q : Place) → f d.wait ≡ None → slice_get ps j ≡ Some q → HasTurned f (waits_of (slice_set ps i d)) (waits_of (slice_set (slice_set ps i d) j p)) (table_change f (record { place = j; from = q.wait; to = p.wait }))
 turned_next f ps i j d p q n e = record {
   on = λ c. ap (places_on f c 0) (map-set (λ (x : Place). x.wait) (slice_set ps i d) j p) ∙ set_on f c j 0 j (waits_of (slice_set ps i d)) p.wait (omega arith) (omega (arith, get_below ps j q e, length-map (slice_set ps i d) (λ (x : Place). x.wait), length-set ps i d));
   off = λ c g h. ap (places_on f c 0) (map-set (λ (x : Place). x.wait) (slice_set ps i d) j p) ∙ set_off f c 0 j (waits_of (slice_set ps i d)) p.wait (λ v at. by c g v (get_after (waits_of ps) i j v d.wait (subst (λ (ws : List Wait). slice_get ws j ≡ Some v) (map-set (λ (x : Place). x.wait) ps i d) at))) h;
@@ -272,33 +272,33 @@ turned_next f ps i j d p q n e = record {
     by c g v (inr s) = ap (λ (w : Wait). is_on c (f w)) s ∙ ap (is_on c) n
 
 -- a place comes, or none
-pub turned_push : (f : Wait → Option ℕ) (ps : List Place) (n : ℕ) (p : Place) → n ≡ length ps → HasTurned f (waits_of ps) (waits_of (ps ++ p ∷ [])) (change_of f (record { place = n; from = Stays; to = p.wait }))
+pub turned_push : (f : Wait → Option ℕ) (ps : List Place) (n : ℕ) (p : Place) → n ≡ length ps → HasTurned f (waits_of ps) (waits_of (ps ++ p ∷ [])) (table_change f (record { place = n; from = Stays; to = p.wait }))
 turned_push f ps n p e = record {
   on = λ c. ap (places_on f c 0) (map-append (λ (x : Place). x.wait) ps (p ∷ [])) ∙ push_on f c n 0 (waits_of ps) p.wait (omega (arith, length-map ps (λ (x : Place). x.wait)));
   off = λ c g h. ap (places_on f c 0) (map-append (λ (x : Place). x.wait) ps (p ∷ [])) ∙ push_off f c 0 (waits_of ps) p.wait h;
 }
 
-pub turned_none : (f : Wait → Option ℕ) (ps : List Place) (n : ℕ) → f Stays ≡ None → n ≡ length ps → HasTurned f (waits_of ps) (waits_of ps) (change_of f (record { place = n; from = Stays; to = Stays }))
+pub turned_none : (f : Wait → Option ℕ) (ps : List Place) (n : ℕ) → f Stays ≡ None → n ≡ length ps → HasTurned f (waits_of ps) (waits_of ps) (table_change f (record { place = n; from = Stays; to = Stays }))
 turned_none f ps n s e = record {
   on = λ c. none_on f c n 0 (waits_of ps) (omega (arith, length-map ps (λ (x : Place). x.wait))) ∙ ap (λ b. with_place n b (places_on f c 0 (waits_of ps))) (sym (ap (is_on c) s));
   off = λ c g h. refl;
 }
 
-pub turned_more : (f : Wait → Option ℕ) (ps : List Place) (n : ℕ) (more : Option Place) → f Stays ≡ None → n ≡ length ps → HasTurned f (waits_of ps) (waits_of (ps ++ listed more)) (change_of f (record { place = n; from = Stays; to = next_wait more }))
-turned_more f ps n None s e = subst (λ (qs : List Place). HasTurned f (waits_of ps) (waits_of qs) (change_of f (record { place = n; from = Stays; to = Stays }))) (sym (append-nil ps)) (turned_none f ps n s e)
+pub turned_more : (f : Wait → Option ℕ) (ps : List Place) (n : ℕ) (more : Option Place) → f Stays ≡ None → n ≡ length ps → HasTurned f (waits_of ps) (waits_of (ps ++ place_listed more)) (table_change f (record { place = n; from = Stays; to = next_wait more }))
+turned_more f ps n None s e = subst (λ (qs : List Place). HasTurned f (waits_of ps) (waits_of qs) (table_change f (record { place = n; from = Stays; to = Stays }))) (sym (append-nil ps)) (turned_none f ps n s e)
 turned_more f ps n (Some p) s e = turned_push f ps n p e
 
 -- a table has the places after a push, an act and a meeting
-pub pushed_has : (f : Wait → Option ℕ) (t u : ℕ → Option (Vec ℕ)) (ps qs : List Place) (n : ℕ) (p : Place) → f Stays ≡ None → n ≡ length ps → HasPlaces f t ps → HasChanged (change_of f (record { place = n; from = Stays; to = Stays })) (change_of f (record { place = n; from = Stays; to = p.wait })) t u → qs ≡ ps ++ p ∷ [] → HasPlaces f u qs
-pushed_has f t u ps qs n p s e h g k = subst (HasPlaces f u) (sym k) (has_changed f t u ps (ps ++ p ∷ []) (waits_of ps) (change_of f (record { place = n; from = Stays; to = Stays })) (change_of f (record { place = n; from = Stays; to = p.wait })) h (turned_none f ps n s e) (turned_push f ps n p e) g)
+pub pushed_has : (f : Wait → Option ℕ) (t u : ℕ → Option (Vec ℕ)) (ps qs : List Place) (n : ℕ) (p : Place) → f Stays ≡ None → n ≡ length ps → HasPlaces f t ps → HasChanged (table_change f (record { place = n; from = Stays; to = Stays })) (table_change f (record { place = n; from = Stays; to = p.wait })) t u → qs ≡ ps ++ p ∷ [] → HasPlaces f u qs
+pushed_has f t u ps qs n p s e h g k = subst (HasPlaces f u) (sym k) (has_changed f t u ps (ps ++ p ∷ []) (waits_of ps) (table_change f (record { place = n; from = Stays; to = Stays })) (table_change f (record { place = n; from = Stays; to = p.wait })) h (turned_none f ps n s e) (turned_push f ps n p e) g)
 
-pub moved_has : (f : Wait → Option ℕ) (t u : ℕ → Option (Vec ℕ)) (ps qs : List Place) (i n : ℕ) (p q : Place) (more : Option Place) (v : Wait) → f Stays ≡ None → slice_get ps i ≡ Some q → n ≡ length ps → v ≡ next_wait more → HasPlaces f t ps → HasChanged (change_of f (record { place = i; from = q.wait; to = p.wait })) (change_of f (record { place = n; from = Stays; to = v })) t u → qs ≡ moved ps i p more → HasPlaces f u qs
+pub moved_has : (f : Wait → Option ℕ) (t u : ℕ → Option (Vec ℕ)) (ps qs : List Place) (i n : ℕ) (p q : Place) (more : Option Place) (v : Wait) → f Stays ≡ None → slice_get ps i ≡ Some q → n ≡ length ps → v ≡ next_wait more → HasPlaces f t ps → HasChanged (table_change f (record { place = i; from = q.wait; to = p.wait })) (table_change f (record { place = n; from = Stays; to = v })) t u → qs ≡ places_moved ps i p more → HasPlaces f u qs
 moved_has f t u ps qs i n p q more v s at e w h g k =
-    let g' : HasChanged (change_of f (record { place = i; from = q.wait; to = p.wait })) (change_of f (record { place = n; from = Stays; to = next_wait more })) t u = subst (λ (x : Wait). HasChanged (change_of f (record { place = i; from = q.wait; to = p.wait })) (change_of f (record { place = n; from = Stays; to = x })) t u) w g in
-    subst (HasPlaces f u) (sym k) (has_changed f t u ps (moved ps i p more) (waits_of (slice_set ps i p)) (change_of f (record { place = i; from = q.wait; to = p.wait })) (change_of f (record { place = n; from = Stays; to = next_wait more })) h (turned_set f ps i p q at) (turned_more f (slice_set ps i p) n more s (e ∙ sym (length-set ps i p))) g')
+    let g' : HasChanged (table_change f (record { place = i; from = q.wait; to = p.wait })) (table_change f (record { place = n; from = Stays; to = next_wait more })) t u = subst (λ (x : Wait). HasChanged (table_change f (record { place = i; from = q.wait; to = p.wait })) (table_change f (record { place = n; from = Stays; to = x })) t u) w g in
+    subst (HasPlaces f u) (sym k) (has_changed f t u ps (places_moved ps i p more) (waits_of (slice_set ps i p)) (table_change f (record { place = i; from = q.wait; to = p.wait })) (table_change f (record { place = n; from = Stays; to = next_wait more })) h (turned_set f ps i p q at) (turned_more f (slice_set ps i p) n more s (e ∙ sym (length-set ps i p))) g')
 
-pub met_has : (f : Wait → Option ℕ) (t u : ℕ → Option (Vec ℕ)) (ps qs : List Place) (i j : ℕ) (d p out inp : Place) → f d.wait ≡ None → slice_get ps i ≡ Some out → slice_get ps j ≡ Some inp → HasPlaces f t ps → HasChanged (change_of f (record { place = i; from = out.wait; to = d.wait })) (change_of f (record { place = j; from = inp.wait; to = p.wait })) t u → qs ≡ slice_set (slice_set ps i d) j p → HasPlaces f u qs
-met_has f t u ps qs i j d p out inp s at at' h g k = subst (HasPlaces f u) (sym k) (has_changed f t u ps (slice_set (slice_set ps i d) j p) (waits_of (slice_set ps i d)) (change_of f (record { place = i; from = out.wait; to = d.wait })) (change_of f (record { place = j; from = inp.wait; to = p.wait })) h (turned_set f ps i d out at) (turned_next f ps i j d p inp s at') g)
+pub met_has : (f : Wait → Option ℕ) (t u : ℕ → Option (Vec ℕ)) (ps qs : List Place) (i j : ℕ) (d p out inp : Place) → f d.wait ≡ None → slice_get ps i ≡ Some out → slice_get ps j ≡ Some inp → HasPlaces f t ps → HasChanged (table_change f (record { place = i; from = out.wait; to = d.wait })) (table_change f (record { place = j; from = inp.wait; to = p.wait })) t u → qs ≡ slice_set (slice_set ps i d) j p → HasPlaces f u qs
+met_has f t u ps qs i j d p out inp s at at' h g k = subst (HasPlaces f u) (sym k) (has_changed f t u ps (slice_set (slice_set ps i d) j p) (waits_of (slice_set ps i d)) (table_change f (record { place = i; from = out.wait; to = d.wait })) (table_change f (record { place = j; from = inp.wait; to = p.wait })) h (turned_set f ps i d out at) (turned_next f ps i j d p inp s at') g)
 
 -- a table is as it was
 pub same_has : (f : Wait → Option ℕ) (t u : ℕ → Option (Vec ℕ)) (ps qs : List Place) → ((c : ℕ) → u c ≡ t c) → HasPlaces f t ps → qs ≡ ps → HasPlaces f u qs

@@ -11,7 +11,7 @@ use Rattle.spi_replay.specs.declared.waits.Meeting.{Meeting}
 use Rattle.spi_replay.specs.declared.acting.Taken.{Taken}
 use Rattle.spi_replay.specs.declared.running.State.{State}
 use Rattle.spi_replay.specs.Holding.{place_process}
-use Rattle.spi_replay.specs.Indexed.{moved, settled}
+use Rattle.spi_replay.specs.Indexed.{places_moved, places_settled}
 use Rattle.spi_replay.specs.Waiting.{wait_acts, wait_appends, wait_largest, met_by}
 use Rattle.spi_replay.specs.Stepping.{message_most, event_in, IsTaken}
 use Rattle.spi_replay.specs.Standing.{ArePlaces, CanBind, HasBound, StandsAt}
@@ -46,11 +46,11 @@ module _ (s : State) (i : ℕ) (is : IsState s) (may : MayAct s i) {p : Place} (
   pub acts_here : wait_acts p.wait ≡ true
   acts_here = subst (λ (q : Place). wait_acts q.wait ≡ true) same may.acts
 
-  pub act_done : {ns : List Message} {ks : List Link} {qs : List Place} (x : Taken) → KeepsAll s.store.messages ns → KeepsAll s.links.items ks → TakenBy s.store.messages s.links.items ns ks s.names p x → qs ≡ moved s.index.places.items i x.now x.more → IsTaken (pooled s) (act i) (event_in x.event) (pool_of ns ks qs x.names s.most)
+  pub act_done : {ns : List Message} {ks : List Link} {qs : List Place} (x : Taken) → KeepsAll s.store.messages ns → KeepsAll s.links.items ks → TakenBy s.store.messages s.links.items ns ks s.names p x → qs ≡ places_moved s.index.places.items i x.now x.more → IsTaken (pooled s) (act i) (event_in x.event) (pool_of ns ks qs x.names s.most)
   act_done x k l b g =
       act_taken_as s.names s.most i p x k l is.places at acts_here (subst (λ (q : Place). wait_largest s.store.messages q.wait ≤ message_most) same may.small) (subst (λ (q : Place). length s.index.places.items + wait_appends q.wait ≤ s.most) same may.few) b g
 
-  pub state_acted : (t : State) (x : Taken) → KeepsAll s.store.messages t.store.messages → KeepsAll s.links.items t.links.items → TakenBy s.store.messages s.links.items t.store.messages t.links.items s.names p x → t.index.places.items ≡ moved s.index.places.items i x.now x.more → t.most ≡ s.most → IsState t
+  pub state_acted : (t : State) (x : Taken) → KeepsAll s.store.messages t.store.messages → KeepsAll s.links.items t.links.items → TakenBy s.store.messages s.links.items t.store.messages t.links.items s.names p x → t.index.places.items ≡ places_moved s.index.places.items i x.now x.more → t.most ≡ s.most → IsState t
   state_acted t x k l b g m =
       state_then s t is (act_done x k l b g) m (subst (ArePlaces t.store.messages t.links.items) (sym g) (moved_places i x.more (places_kept k l is.places) b.now b.more))
 
@@ -65,7 +65,7 @@ module _ (s : State) (i j : ℕ) (m : Meeting) (is : IsState s) (may : MayTalk s
   pub can_bind : CanBind s.store.messages s.links.items q.source.now m.body q.last m.datum
   can_bind = record { values = meets.values; message = meets.datum; number = meets.number; binds = meets.binds }
 
-  module _ {ns : List Message} {ks : List Link} {qs : List Place} {now : Place} (k : KeepsAll s.store.messages ns) (l : KeepsAll s.links.items ks) (b : HasBound s.store.messages ns s.links.items ks q.source.now m.body q.last m.datum now) (g : (p : Place) → slice_get s.index.places.items i ≡ Some p → qs ≡ settled s.index.places.items i p j now m.again) where
+  module _ {ns : List Message} {ks : List Link} {qs : List Place} {now : Place} (k : KeepsAll s.store.messages ns) (l : KeepsAll s.links.items ks) (b : HasBound s.store.messages ns s.links.items ks q.source.now m.body q.last m.datum now) (g : (p : Place) → slice_get s.index.places.items i ≡ Some p → qs ≡ places_settled s.index.places.items i p j now m.again) where
     stands : StandsAt ns ks q.source.now m.body (meets.datum ∷ meets.values) now
     stands = b.at meets.values meets.datum meets.number meets.binds
 
@@ -76,5 +76,5 @@ module _ (s : State) (i j : ℕ) (m : Meeting) (is : IsState s) (may : MayTalk s
     places_met =
         subst (ArePlaces ns ks) (sym (g may.out may.out_there)) (settled_places i j may.out now m.again (places_kept k l is.places) (place_kept k l (is.places.each i may.out may.out_there)) stands.is)
 
-  pub state_met : (t : State) {now : Place} → KeepsAll s.store.messages t.store.messages → KeepsAll s.links.items t.links.items → HasBound s.store.messages t.store.messages s.links.items t.links.items q.source.now m.body q.last m.datum now → ((p : Place) → slice_get s.index.places.items i ≡ Some p → t.index.places.items ≡ settled s.index.places.items i p j now m.again) → t.most ≡ s.most → IsState t
+  pub state_met : (t : State) {now : Place} → KeepsAll s.store.messages t.store.messages → KeepsAll s.links.items t.links.items → HasBound s.store.messages t.store.messages s.links.items t.links.items q.source.now m.body q.last m.datum now → ((p : Place) → slice_get s.index.places.items i ≡ Some p → t.index.places.items ≡ places_settled s.index.places.items i p j now m.again) → t.most ≡ s.most → IsState t
   state_met t k l b g e = state_then s t is (talk_done k l b g) e (places_met k l b g)

@@ -26,13 +26,13 @@ use Rattle.spi_replay.specs.Holding.{held, subtree, held_at, place_process, no_l
 use Rattle.spi_replay.specs.Waiting.{wait_acts, wait_appends, wait_largest, met_by}
 use Rattle.spi_replay.specs.Moves.{w_stays}
 use Rattle.spi_replay.specs.Standing.{Enters, CanEnter, IsPlace, ArePlaces, processes, StandsAt}
-use Rattle.spi_replay.specs.Indexed.{listed, done, moved, settled}
+use Rattle.spi_replay.specs.Indexed.{place_listed, place_done, places_moved, places_settled}
 use Rattle.spi_replay.specs.Pools.{configuration_of, pool_of, TakenBy, again_appends}
 use Rattle.spi_replay.proofs.Opening.{held_first}
 use Rattle.spi_replay.proofs.Subtrees.{root_tree, root_follows}
 use Rattle.spi_intern.proofs.Sized.{at_message}
 use Rattle.spi_replay.proofs.Awaiting.{waits_tell}
-use Rattle.spi_replay.proofs.Does.{acting, place_kept, process_kept, still_of, Outcome, outcome_of, Meets, meets_of, no_meeting}
+use Rattle.spi_replay.proofs.Does.{acting, place_kept, process_kept, still_of, MoveOutcome, outcome_of, Meets, meets_of, no_meeting}
 
 -- lists
 map_same : {A B : Type 0} (f g : A → B) (xs : List A) → ((i : ℕ) (x : A) → slice_get xs i ≡ Some x → f x ≡ g x) → map f xs ≡ map g xs
@@ -92,12 +92,12 @@ one_place {ms} {ls} {p} h = record { each = at }
     at zero q e = let f : p ≡ q = cc in subst (IsPlace ms ls) f h
     at (suc i) q e = absurd cc
 
-list_places : {ms : List Message} {ls : List Link} (o : Option Place) → ((q : Place) → o ≡ Some q → IsPlace ms ls q) → ArePlaces ms ls (listed o)
+list_places : {ms : List Message} {ls : List Link} (o : Option Place) → ((q : Place) → o ≡ Some q → IsPlace ms ls q) → ArePlaces ms ls (place_listed o)
 list_places None h = record { each = λ i q e. absurd cc }
 list_places (Some p) h = one_place (h p refl)
 
 -- an act
-pub moved_places : {ns : List Message} {ks : List Link} {ps : List Place} (i : ℕ) {p : Place} (o : Option Place) → ArePlaces ns ks ps → IsPlace ns ks p → ((q : Place) → o ≡ Some q → IsPlace ns ks q) → ArePlaces ns ks (moved ps i p o)
+pub moved_places : {ns : List Message} {ks : List Link} {ps : List Place} (i : ℕ) {p : Place} (o : Option Place) → ArePlaces ns ks ps → IsPlace ns ks p → ((q : Place) → o ≡ Some q → IsPlace ns ks q) → ArePlaces ns ks (places_moved ps i p o)
 moved_places i o h g m = append_places (set_places i h g) (list_places o m)
 
 module _ (ms : List Message) (ls : List Link) (ps : List Place) (n most i : ℕ) {p : Place} (at : slice_get ps i ≡ Some p) where
@@ -120,7 +120,7 @@ module _ (ms : List Message) (ls : List Link) (ps : List Place) (n most i : ℕ)
       none h (outside_here g) = omega arith
       none h (outside_later g o) = elim o [ ]
 
-  outcome_at : (h : IsPlace ms ls p) → wait_acts p.wait ≡ true → Outcome n (place_process ms ls p) (acting p h).move
+  outcome_at : (h : IsPlace ms ls p) → wait_acts p.wait ≡ true → MoveOutcome n (place_process ms ls p) (acting p h).move
   outcome_at h e = let a = acting p h in outcome_of n (sym (waits_tell a.waits).acts ∙ e) a.moves
 
   pub act_ready : IsPlace ms ls p → wait_acts p.wait ≡ true → IsReady (configuration_of ms ls ps n) (act i)
@@ -174,27 +174,27 @@ refuse_many_by ms ls ps n most i z at h e s f l = subst (λ x. RefusesPoolStep (
 pub refuse_place : (ms : List Message) (ls : List Link) (ps : List Place) (n most i : ℕ) → length ps ≤ i → RefusesPoolStep (configuration_of ms ls ps n) most (act i) (NoPlace i)
 refuse_place ms ls ps n most i h = no_place (outside_here (omega (arith, length-map ps (place_process ms ls))))
 
-pub act_taken : {ms ns : List Message} {ls ks : List Link} {ps : List Place} (n most i : ℕ) (p : Place) (t : Taken) → KeepsAll ms ns → KeepsAll ls ks → ArePlaces ms ls ps → slice_get ps i ≡ Some p → wait_acts p.wait ≡ true → wait_largest ms p.wait ≤ message_most → length ps + wait_appends p.wait ≤ most → TakenBy ms ls ns ks n p t → IsTaken (pool_of ms ls ps n most) (act i) (event_in t.event) (pool_of ns ks (moved ps i t.now t.more) t.names most)
+pub act_taken : {ms ns : List Message} {ls ks : List Link} {ps : List Place} (n most i : ℕ) (p : Place) (t : Taken) → KeepsAll ms ns → KeepsAll ls ks → ArePlaces ms ls ps → slice_get ps i ≡ Some p → wait_acts p.wait ≡ true → wait_largest ms p.wait ≤ message_most → length ps + wait_appends p.wait ≤ most → TakenBy ms ls ns ks n p t → IsTaken (pool_of ms ls ps n most) (act i) (event_in t.event) (pool_of ns ks (places_moved ps i t.now t.more) t.names most)
 act_taken {ms} {ns} {ls} {ks} {ps} n most i p t k l h at e s f b =
     let w = h.each i p at in
     let o = outcome_at ms ls ps n most i at w e in
     let a = acting p w in
     let g = place_process ns ks in
-    let q : processes ns ks (moved ps i t.now t.more) ≡ slice_set (processes ms ls ps) i (g t.now) ++ map g (listed t.more)
-    = map-append g (slice_set ps i t.now) (listed t.more) ∙ ap (λ xs. xs ++ map g (listed t.more)) (map-set g ps i t.now ∙ ap (λ xs. slice_set xs i (g t.now)) (processes_kept k l h)) in
-    let c : Takes (configuration_of ms ls ps n) (act i) (event_in t.event) (record { names = t.names; places = slice_set (processes ms ls ps) i (g t.now) ++ map g (listed t.more) }) = takes_act (there ms ls ps n most i at) b.acts in
+    let q : processes ns ks (places_moved ps i t.now t.more) ≡ slice_set (processes ms ls ps) i (g t.now) ++ map g (place_listed t.more)
+    = map-append g (slice_set ps i t.now) (place_listed t.more) ∙ ap (λ xs. xs ++ map g (place_listed t.more)) (map-set g ps i t.now ∙ ap (λ xs. slice_set xs i (g t.now)) (processes_kept k l h)) in
+    let c : Takes (configuration_of ms ls ps n) (act i) (event_in t.event) (record { names = t.names; places = slice_set (processes ms ls ps) i (g t.now) ++ map g (place_listed t.more) }) = takes_act (there ms ls ps n most i at) b.acts in
     record {
       takes = subst (λ xs. Takes (configuration_of ms ls ps n) (act i) (event_in t.event) (record { names = t.names; places = xs })) (sym q) c;
       small = act_small ms ls ps n most i at w e s;
       few =
           let r = o.more in
           let u = takes_once c (takes_act (there ms ls ps n most i at) o.leads.acts) in
-          let z : length (processes ns ks (moved ps i t.now t.more)) ≡ length (slice_set (processes ms ls ps) i o.now ++ r) = ap length q ∙ ap (λ d. length d.places) u.1 in
+          let z : length (processes ns ks (places_moved ps i t.now t.more)) ≡ length (slice_set (processes ms ls ps) i o.now ++ r) = ap length q ∙ ap (λ d. length d.places) u.1 in
           omega (arith, z, length-append (slice_set (processes ms ls ps) i o.now) r, length-set (processes ms ls ps) i o.now, length-map ps (place_process ms ls), o.count, (waits_tell a.waits).appends);
       most = refl;
     }
 
-pub act_taken_as : {ms ns : List Message} {ls ks : List Link} {ps qs : List Place} (n most i : ℕ) (p : Place) (t : Taken) → KeepsAll ms ns → KeepsAll ls ks → ArePlaces ms ls ps → slice_get ps i ≡ Some p → wait_acts p.wait ≡ true → wait_largest ms p.wait ≤ message_most → length ps + wait_appends p.wait ≤ most → TakenBy ms ls ns ks n p t → qs ≡ moved ps i t.now t.more → IsTaken (pool_of ms ls ps n most) (act i) (event_in t.event) (pool_of ns ks qs t.names most)
+pub act_taken_as : {ms ns : List Message} {ls ks : List Link} {ps qs : List Place} (n most i : ℕ) (p : Place) (t : Taken) → KeepsAll ms ns → KeepsAll ls ks → ArePlaces ms ls ps → slice_get ps i ≡ Some p → wait_acts p.wait ≡ true → wait_largest ms p.wait ≤ message_most → length ps + wait_appends p.wait ≤ most → TakenBy ms ls ns ks n p t → qs ≡ places_moved ps i t.now t.more → IsTaken (pool_of ms ls ps n most) (act i) (event_in t.event) (pool_of ns ks qs t.names most)
 act_taken_as {ms} {ns} {ls} {ks} {ps} n most i p t k l h at e s f b g =
     subst (λ xs. IsTaken (pool_of ms ls ps n most) (act i) (event_in t.event) (pool_of ns ks xs t.names most)) (sym g) (act_taken n most i p t k l h at e s f b)
 
@@ -271,30 +271,30 @@ module _ (ms : List Message) (ls : List Link) (ps : List Place) (n most i j : �
     pub refuse_talk_many : stopped (message_size (message_at ms m.datum)) ≤ message_most → most < length ps + again_appends m.again → RefusesPoolStep (configuration_of ms ls ps n) most (talk i j) (TooManyPlaces (length ps + again_appends m.again))
     refuse_talk_many s l = subst (λ z. RefusesPoolStep (configuration_of ms ls ps n) most (talk i j) (TooManyPlaces z)) talk_many (too_many talk_takes (talk_small s) (omega (arith, talk_many)))
 
-    places_then : {ns : List Message} {ks : List Link} (now : Place) → KeepsAll ms ns → KeepsAll ls ks → place_process ns ks now ≡ held_at q.source.now.names (meet.datum ∷ meet.values) (spelled q.source.now.names q.source.now.process) m.body → slice_set (slice_set (processes ms ls ps) i stop) j result ++ extra ≡ processes ns ks (settled ps i p j now m.again)
+    places_then : {ns : List Message} {ks : List Link} (now : Place) → KeepsAll ms ns → KeepsAll ls ks → place_process ns ks now ≡ held_at q.source.now.names (meet.datum ∷ meet.values) (spelled q.source.now.names q.source.now.process) m.body → slice_set (slice_set (processes ms ls ps) i stop) j result ++ extra ≡ processes ns ks (places_settled ps i p j now m.again)
     places_then {ns} {ks} now k l f = by m.again
       where
         g : Place → Process
         g x = place_process ns ks x
 
-        gone : processes ns ks (slice_set ps i (done p)) ≡ slice_set (processes ms ls ps) i stop
-        gone = map-set (place_process ns ks) ps i (done p) ∙ ap (λ xs. slice_set xs i stop) (processes_kept k l h)
+        gone : processes ns ks (slice_set ps i (place_done p)) ≡ slice_set (processes ms ls ps) i stop
+        gone = map-set (place_process ns ks) ps i (place_done p) ∙ ap (λ xs. slice_set xs i stop) (processes_kept k l h)
 
         other : i ≡ j → ⊥
         other r =
             let s : p ≡ q = some_one (sym at ∙ ap (slice_get ps) r ∙ at') in
             met_self q.wait m (subst (λ (x : Place). met_by x.wait q.wait ≡ Some m) s e)
 
-        by : (z : Bool) → slice_set (slice_set (processes ms ls ps) i stop) j (if z then place_process ms ls q else held_at q.source.now.names (meet.datum ∷ meet.values) (spelled q.source.now.names q.source.now.process) m.body) ++ (if z then held_at q.source.now.names (meet.datum ∷ meet.values) (spelled q.source.now.names q.source.now.process) m.body ∷ [] else []) ≡ processes ns ks (settled ps i p j now z)
+        by : (z : Bool) → slice_set (slice_set (processes ms ls ps) i stop) j (if z then place_process ms ls q else held_at q.source.now.names (meet.datum ∷ meet.values) (spelled q.source.now.names q.source.now.process) m.body) ++ (if z then held_at q.source.now.names (meet.datum ∷ meet.values) (spelled q.source.now.names q.source.now.process) m.body ∷ [] else []) ≡ processes ns ks (places_settled ps i p j now z)
         by true =
             let same : slice_set (slice_set (processes ms ls ps) i stop) j (place_process ms ls q) ≡ slice_set (processes ms ls ps) i stop = set_same (slice_set (processes ms ls ps) i stop) j (get_other (processes ms ls ps) i j stop other ∙ get_map (place_process ms ls) ps j at') in
-            (λ x. same x ++ (sym f x ∷ [])) ∙ ap (λ xs. xs ++ (place_process ns ks now ∷ [])) (sym gone) ∙ sym (map-append (place_process ns ks) (slice_set ps i (done p)) (now ∷ []))
+            (λ x. same x ++ (sym f x ∷ [])) ∙ ap (λ xs. xs ++ (place_process ns ks now ∷ [])) (sym gone) ∙ sym (map-append (place_process ns ks) (slice_set ps i (place_done p)) (now ∷ []))
         by false =
             append-nil (slice_set (slice_set (processes ms ls ps) i stop) j (held_at q.source.now.names (meet.datum ∷ meet.values) (spelled q.source.now.names q.source.now.process) m.body))
             ∙ (λ x. slice_set (sym gone x) j (sym f x))
-            ∙ sym (map-set (place_process ns ks) (slice_set ps i (done p)) j now)
+            ∙ sym (map-set (place_process ns ks) (slice_set ps i (place_done p)) j now)
 
-    pub talk_taken : {ns : List Message} {ks : List Link} (now : Place) → KeepsAll ms ns → KeepsAll ls ks → place_process ns ks now ≡ held_at q.source.now.names (meet.datum ∷ meet.values) (spelled q.source.now.names q.source.now.process) m.body → stopped (message_size (message_at ms m.datum)) ≤ message_most → length ps + again_appends m.again ≤ most → IsTaken (pool_of ms ls ps n most) (talk i j) None (pool_of ns ks (settled ps i p j now m.again) n most)
+    pub talk_taken : {ns : List Message} {ks : List Link} (now : Place) → KeepsAll ms ns → KeepsAll ls ks → place_process ns ks now ≡ held_at q.source.now.names (meet.datum ∷ meet.values) (spelled q.source.now.names q.source.now.process) m.body → stopped (message_size (message_at ms m.datum)) ≤ message_most → length ps + again_appends m.again ≤ most → IsTaken (pool_of ms ls ps n most) (talk i j) None (pool_of ns ks (places_settled ps i p j now m.again) n most)
     talk_taken {ns} {ks} now k l f s b =
         let z = places_then now k l f in
         record {
@@ -304,13 +304,13 @@ module _ (ms : List Message) (ls : List Link) (ps : List Place) (n most i j : �
           most = refl;
         }
 
-pub settled_places : {ns : List Message} {ks : List Link} {ps : List Place} (i j : ℕ) (p now : Place) (z : Bool) → ArePlaces ns ks ps → IsPlace ns ks p → IsPlace ns ks now → ArePlaces ns ks (settled ps i p j now z)
+pub settled_places : {ns : List Message} {ks : List Link} {ps : List Place} (i j : ℕ) (p now : Place) (z : Bool) → ArePlaces ns ks ps → IsPlace ns ks p → IsPlace ns ks now → ArePlaces ns ks (places_settled ps i p j now z)
 settled_places {ns} {ks} {ps} i j p now z h w g = by z
   where
-    gone : IsPlace ns ks (done p)
+    gone : IsPlace ns ks (place_done p)
     gone = record { values = w.values; enters = w.enters; bound = w.bound; waits = w_stays }
 
-    by : (z : Bool) → ArePlaces ns ks (settled ps i p j now z)
+    by : (z : Bool) → ArePlaces ns ks (places_settled ps i p j now z)
     by true = append_places (set_places i h gone) (one_place g)
     by false = set_places j (set_places i h gone) g
 
@@ -347,7 +347,7 @@ start_pool {ms} {ls} {ps} a b p q n k most e f g h h' s r =
     let x : processes ms ls ps ≡ a.process ∷ (b.process ∷ []) = ap (processes ms ls) e ∙ (λ i. (s.process ∙ root_held a.names a.process h) i ∷ ((r.process ∙ root_held b.names b.process h') i ∷ [])) in
     λ i. record { configuration = record { names = sym g i; places = x i }; most = most }
 
-pub talk_taken_as : {ms ns : List Message} {ls ks : List Link} {ps qs : List Place} (n most i j : ℕ) {p q : Place} (at : slice_get ps i ≡ Some p) (at' : slice_get ps j ≡ Some q) (h : ArePlaces ms ls ps) (m : Meeting) (e : met_by p.wait q.wait ≡ Some m) (now : Place) → KeepsAll ms ns → KeepsAll ls ks → StandsAt ns ks q.source.now m.body ((meets_of p q m (h.each i p at) (h.each j q at') e).datum ∷ (meets_of p q m (h.each i p at) (h.each j q at') e).values) now → stopped (message_size (message_at ms m.datum)) ≤ message_most → length ps + again_appends m.again ≤ most → qs ≡ settled ps i p j now m.again → IsTaken (pool_of ms ls ps n most) (talk i j) None (pool_of ns ks qs n most)
+pub talk_taken_as : {ms ns : List Message} {ls ks : List Link} {ps qs : List Place} (n most i j : ℕ) {p q : Place} (at : slice_get ps i ≡ Some p) (at' : slice_get ps j ≡ Some q) (h : ArePlaces ms ls ps) (m : Meeting) (e : met_by p.wait q.wait ≡ Some m) (now : Place) → KeepsAll ms ns → KeepsAll ls ks → StandsAt ns ks q.source.now m.body ((meets_of p q m (h.each i p at) (h.each j q at') e).datum ∷ (meets_of p q m (h.each i p at) (h.each j q at') e).values) now → stopped (message_size (message_at ms m.datum)) ≤ message_most → length ps + again_appends m.again ≤ most → qs ≡ places_settled ps i p j now m.again → IsTaken (pool_of ms ls ps n most) (talk i j) None (pool_of ns ks qs n most)
 talk_taken_as {ms} {ns} {ls} {ks} {ps} {qs} n most i j at at' h m e now k l s small few g =
     subst (λ xs. IsTaken (pool_of ms ls ps n most) (talk i j) None (pool_of ns ks xs n most)) (sym g) (talk_taken ms ls ps n most i j at at' h m e now k l s.process small few)
 

@@ -10,7 +10,7 @@ use Rattle.spi_replay.specs.declared.places.Place.{Place}
 use Rattle.spi_replay.specs.declared.acting.Taken.{Taken}
 use Rattle.spi_replay.specs.Holding.{held_at, place_process}
 use Rattle.spi_replay.specs.Standing.{Enters, Binds, IsPlace, StandsAt}
-use Rattle.spi_replay.specs.Indexed.{listed}
+use Rattle.spi_replay.specs.Indexed.{place_listed}
 use Rattle.spi_replay.specs.Pools.{TakenBy}
 use Rattle.spi_replay.proofs.Forms.{LeadsByOne}
 use Rattle.spi_replay.proofs.Chains.{chain_kept}
@@ -30,7 +30,7 @@ no_more e = absurd cc
 -- an act that appends nothing
 pub taken_alone : (old new : List Message) (ls ls' : List Link) (n : ℕ) (p : Place) (t : Taken) (sp : Spelling) (node : ℕ) (vs bs : List Message) → t.more ≡ None → StandsAt new ls' sp node vs t.now → LeadsByOne n (place_process old ls p) (event_in t.event) t.names (held_at sp.names vs (spelled sp.names sp.process) node) [] bs → TakenBy old ls new ls' n p t
 taken_alone old new ls ls' n p t sp node vs bs e s l = record {
-  acts = subst (λ o. Acts n (place_process old ls p) (event_in t.event) t.names (place_process new ls' t.now) (map (place_process new ls') (listed o))) (sym e) (subst (λ q. Acts n (place_process old ls p) (event_in t.event) t.names q []) (sym s.process) l.acts);
+  acts = subst (λ o. Acts n (place_process old ls p) (event_in t.event) t.names (place_process new ls' t.now) (map (place_process new ls') (place_listed o))) (sym e) (subst (λ q. Acts n (place_process old ls p) (event_in t.event) t.names q []) (sym s.process) l.acts);
   now = s.is;
   more = λ q f. no_more (sym e ∙ f);
 }
@@ -38,7 +38,7 @@ taken_alone old new ls ls' n p t sp node vs bs e s l = record {
 -- an act that appends a place
 pub taken_both : (old new : List Message) (ls ls' : List Link) (n : ℕ) (p : Place) (t : Taken) (other : Place) (sp : Spelling) (i j : ℕ) (vs bs : List Message) → t.more ≡ Some other → StandsAt new ls' sp i vs t.now → StandsAt new ls' sp j vs other → LeadsByOne n (place_process old ls p) (event_in t.event) t.names (held_at sp.names vs (spelled sp.names sp.process) i) (held_at sp.names vs (spelled sp.names sp.process) j ∷ []) bs → TakenBy old ls new ls' n p t
 taken_both old new ls ls' n p t other sp i j vs bs e s r l = record {
-  acts = subst (λ o. Acts n (place_process old ls p) (event_in t.event) t.names (place_process new ls' t.now) (map (place_process new ls') (listed o))) (sym e) (subst (λ w. Acts n (place_process old ls p) (event_in t.event) t.names (place_process new ls' t.now) (w ∷ [])) (sym r.process) (subst (λ q. Acts n (place_process old ls p) (event_in t.event) t.names q (held_at sp.names vs (spelled sp.names sp.process) j ∷ [])) (sym s.process) l.acts));
+  acts = subst (λ o. Acts n (place_process old ls p) (event_in t.event) t.names (place_process new ls' t.now) (map (place_process new ls') (place_listed o))) (sym e) (subst (λ w. Acts n (place_process old ls p) (event_in t.event) t.names (place_process new ls' t.now) (w ∷ [])) (sym r.process) (subst (λ q. Acts n (place_process old ls p) (event_in t.event) t.names q (held_at sp.names vs (spelled sp.names sp.process) j ∷ [])) (sym s.process) l.acts));
   now = s.is;
   more = λ q f. let g : other ≡ q = one (sym e ∙ f) in subst (IsPlace new ls') g r.is;
 }

@@ -21,7 +21,7 @@ use Rattle.spi_replay.specs.declared.running.State.{State}
 use Rattle.spi_replay.specs.Pools.{pooled, IsState}
 use Rattle.spi_replay.specs.Indexed.{out_channel, in_channel, is_on, places_on, waits_of}
 use Rattle.spi_replay.specs.Listing.{acts_now, puts_on, takes_on, is_channel, talks_to, talks_of, steps_at, steps_by, steps_begun, steps_before, ready_steps}
-use Rattle.spi_replay.proofs.Forms.{IsQuiet, IsStill, Moves, moves_stays, moves_puts, moves_takes, moves_takes_again, moves_one, moves_two, moves_on, moves_shows, moves_makes, moves_forks}
+use Rattle.spi_replay.proofs.Forms.{IsQuiet, IsStill, MovesByForm, moves_stays, moves_puts, moves_takes, moves_takes_again, moves_one, moves_two, moves_on, moves_shows, moves_makes, moves_forks}
 use Rattle.spi_replay.proofs.Awaiting.{Channel, no_channel, a_channel, put_of, take_of, waits_tell}
 use Rattle.spi_replay.proofs.Does.{acting, still_of, outcome_of}
 use Rattle.spi_replay.proofs.Stepped.{get_map}
@@ -36,7 +36,7 @@ still_false p s = by (acts_now p) refl
     by true e = let w = true_acts 0 p e in absurd (s.still 0 w.event w.names w.now w.more w.acts)
     by false e = refl
 
-acts_move : {k : ℕ} {ss : List Shape} {vs : List Message} {p : Process} {v : Move} (z : Bool) → acts_alone v ≡ z → Moves k ss vs p v → acts_now p ≡ z
+acts_move : {k : ℕ} {ss : List Shape} {vs : List Message} {p : Process} {v : Move} (z : Bool) → acts_alone v ≡ z → MovesByForm k ss vs p v → acts_now p ≡ z
 acts_move true e m = let w = outcome_of 0 e m in acts_true w.leads.acts
 acts_move {p = p} false e m = still_false p (still_of e m)
 
@@ -57,7 +57,7 @@ record OnChannels (p : Process) (v : Move) : Type 0 where
   put : put_of v ≡ puts_on p
   take : take_of v ≡ takes_on p
 
-on_channels : {k : ℕ} {ss : List Shape} {vs : List Message} {p : Process} {v : Move} → Moves k ss vs p v → OnChannels p v
+on_channels : {k : ℕ} {ss : List Shape} {vs : List Message} {p : Process} {v : Move} → MovesByForm k ss vs p v → OnChannels p v
 unfolding put_of take_of
 on_channels {p = p} (moves_stays q s) = record { put = sym (quiet_puts p q); take = sym (quiet_takes p q) }
 on_channels (moves_puts e c) = record { put = ap puts_on (sym e); take = ap takes_on (sym e) }

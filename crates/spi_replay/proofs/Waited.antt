@@ -137,29 +137,29 @@ enter_node {sp = sp} {node = node} h =
     omega (arith, b, length_spelled sp.names sp.process)
 
 -- what a node that is read says
-pub record Read (ms : List Message) (ls : List Link) (sp : Spelling) (node last : ℕ) (x : Shape) (s : ℕ) : Type 0 where
+pub record ReadShape (ms : List Message) (ls : List Link) (sp : Spelling) (node last : ℕ) (x : Shape) (s : ℕ) : Type 0 where
   pub can : CanEnter ms ls sp node last
   pub there : slice_get (spelled sp.names sp.process) node ≡ Some x
   pub scope : scope_of x ≡ s
 
-shape_is : {ms : List Message} {ls : List Link} {sp : Spelling} {node last s : ℕ} {x : Shape} {vs : List Message} → Read ms ls sp node last x s → (e : Enters ms ls sp node last vs) → x ≡ e.shape
+shape_is : {ms : List Message} {ls : List Link} {sp : Spelling} {node last s : ℕ} {x : Shape} {vs : List Message} → ReadShape ms ls sp node last x s → (e : Enters ms ls sp node last vs) → x ≡ e.shape
 shape_is r e = some_one (sym r.there ∙ e.there)
 
-scope_is : {ms : List Message} {ls : List Link} {sp : Spelling} {node last s : ℕ} {x : Shape} {vs : List Message} → Read ms ls sp node last x s → Enters ms ls sp node last vs → s ≡ sp.names + length vs
+scope_is : {ms : List Message} {ls : List Link} {sp : Spelling} {node last s : ℕ} {x : Shape} {vs : List Message} → ReadShape ms ls sp node last x s → Enters ms ls sp node last vs → s ≡ sp.names + length vs
 scope_is r e = sym r.scope ∙ ap scope_of (shape_is r e) ∙ e.scope
 
-pub read_free : {ms : List Message} {ls : List Link} {sp : Spelling} {node last s : ℕ} {x : Shape} → Read ms ls sp node last x s → sp.names ≤ s
+pub read_free : {ms : List Message} {ls : List Link} {sp : Spelling} {node last s : ℕ} {x : Shape} → ReadShape ms ls sp node last x s → sp.names ≤ s
 read_free r = omega (arith, scope_is r r.can.enters)
 
-pub read_names : {ms : List Message} {ls : List Link} {sp : Spelling} {node last s : ℕ} {x : Shape} → (free : ℕ) → free ≡ sp.names → Read ms ls sp node last x s → HasNames ms ls (record { free = free; bound = s - free; last = last })
+pub read_names : {ms : List Message} {ls : List Link} {sp : Spelling} {node last s : ℕ} {x : Shape} → (free : ℕ) → free ≡ sp.names → ReadShape ms ls sp node last x s → HasNames ms ls (record { free = free; bound = s - free; last = last })
 read_names free f r = record { values = r.can.values; stand = record { linked = r.can.enters.linked; bound = omega (arith, scope_is r r.can.enters) } }
 
-pub read_below : {ms : List Message} {ls : List Link} {sp : Spelling} {node last s : ℕ} {x : Shape} (free : ℕ) → free ≡ sp.names → Read ms ls sp node last x s → AreBelow (free + (s - free)) x
+pub read_below : {ms : List Message} {ls : List Link} {sp : Spelling} {node last s : ℕ} {x : Shape} (free : ℕ) → free ≡ sp.names → ReadShape ms ls sp node last x s → AreBelow (free + (s - free)) x
 read_below {sp = sp} {node = node} {s = s} {x = x} free f r =
     let e : scope_of x ≡ free + (s - free) = omega (arith, r.scope, read_free r) in
     subst (λ n. AreBelow n x) e (below_of (node_at sp.names sp.process r.can.enters.over node x r.there))
 
-pub has_entered : {old new : List Message} {ls : List Link} {s : ℕ} {x : Shape} (p : Place) (free : ℕ) → free ≡ p.source.now.names → Read old ls p.source.now p.node p.last x s → KeepsAll old new → p.bound ≡ s - free → p.done ≡ false → WaitsFor old new ls (record { free = free; bound = s - free; last = p.last }) (λ g. move_of g x) p.wait → HasEntered old new ls p.source.now p.node p.last p
+pub has_entered : {old new : List Message} {ls : List Link} {s : ℕ} {x : Shape} (p : Place) (free : ℕ) → free ≡ p.source.now.names → ReadShape old ls p.source.now p.node p.last x s → KeepsAll old new → p.bound ≡ s - free → p.done ≡ false → WaitsFor old new ls (record { free = free; bound = s - free; last = p.last }) (λ g. move_of g x) p.wait → HasEntered old new ls p.source.now p.node p.last p
 has_entered {old} {new} {ls} {s} {x} p free f r k b d w = record { at = at }
   where
     at : (vs : List Message) → Enters old ls p.source.now p.node p.last vs → StandsAt new ls p.source.now p.node vs p

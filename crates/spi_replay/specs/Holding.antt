@@ -29,13 +29,13 @@ subtree ss i = first_of_all (built (drop i ss))
 abbrev pub held_at : ℕ → List Message → List Shape → ℕ → Process
 held_at k ms ss i = held (value k ms) (k + length ms) (k + length ms) (subtree ss i)
 
-abbrev pub joined : Option Message → List Message → List Message
-joined None ms = []
-joined (Some m) ms = m ∷ ms
+abbrev pub message_with : Option Message → List Message → List Message
+message_with None ms = []
+message_with (Some m) ms = m ∷ ms
 
 abbrev pub linked : List Message → (ℕ → List Message) → Option Link → List Message
 linked ms f None = []
-linked ms f (Some l) = joined (slice_get ms l.value.place) (f l.before)
+linked ms f (Some l) = message_with (slice_get ms l.value.place) (f l.before)
 
 -- the messages of n names from a link on, in a store with these messages
 abbrev pub chain : List Message → List Link → ℕ → ℕ → List Message

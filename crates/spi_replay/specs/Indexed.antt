@@ -36,17 +36,17 @@ or_none (Some v) = v.items
 abbrev pub HasPlaces : (Wait → Option ℕ) → (ℕ → Option (Vec ℕ)) → List Place → Type 0
 HasPlaces f t ps = (c : ℕ) → or_none (t c) ≡ places_on f c 0 (waits_of ps)
 
-abbrev pub listed : Option Place → List Place
-listed None = []
-listed (Some p) = p ∷ []
+abbrev pub place_listed : Option Place → List Place
+place_listed None = []
+place_listed (Some p) = p ∷ []
 
-abbrev pub done : Place → Place
-done p = record p { done = true; wait = Stays }
+abbrev pub place_done : Place → Place
+place_done p = record p { done = true; wait = Stays }
 
 -- the places after an act, and after a meeting
-abbrev pub moved : List Place → ℕ → Place → Option Place → List Place
-moved ps i p more = slice_set ps i p ++ listed more
+abbrev pub places_moved : List Place → ℕ → Place → Option Place → List Place
+places_moved ps i p more = slice_set ps i p ++ place_listed more
 
-abbrev pub settled : List Place → ℕ → Place → ℕ → Place → Bool → List Place
-settled ps i out j now true = slice_set ps i (done out) ++ now ∷ []
-settled ps i out j now false = slice_set (slice_set ps i (done out)) j now
+abbrev pub places_settled : List Place → ℕ → Place → ℕ → Place → Bool → List Place
+places_settled ps i out j now true = slice_set ps i (place_done out) ++ now ∷ []
+places_settled ps i out j now false = slice_set (slice_set ps i (place_done out)) j now

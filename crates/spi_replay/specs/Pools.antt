@@ -5,7 +5,7 @@ use Rattle.spi_run.specs.Reduction.{Configuration, Acts}
 use Rattle.spi_replay.specs.Stepping.{Pooled, event_in, message_most}
 use Rattle.spi_replay.specs.declared.names.Link.{Link}
 use Rattle.spi_replay.specs.declared.places.Place.{Place}
-use Rattle.spi_replay.specs.Indexed.{listed}
+use Rattle.spi_replay.specs.Indexed.{place_listed}
 use Rattle.spi_replay.specs.declared.waits.Meeting.{Meeting}
 use Rattle.spi_replay.specs.declared.acting.Taken.{Taken}
 use Rattle.spi_replay.specs.declared.running.State.{State}
@@ -35,7 +35,7 @@ pub record IsState (s : State) : Type 0 where
 pub record TakenBy (old : List Message) (ls : List Link) (new : List Message) (ls' : List Link) (n : ℕ)
     (p : Place) (t : Taken) : Type 0 where
   pub acts : Acts n (place_process old ls p) (event_in t.event) t.names (place_process new ls' t.now)
-      (map (place_process new ls') (listed t.more))
+      (map (place_process new ls') (place_listed t.more))
   pub now : IsPlace new ls' t.now
   pub more : (q : Place) → t.more ≡ Some q → IsPlace new ls' q
 

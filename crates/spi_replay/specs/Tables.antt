@@ -30,8 +30,8 @@ next_wait None = Stays
 next_wait (Some p) = p.wait
 
 -- the channels that a place leaves and enters
-abbrev pub change_of : (Wait → Option ℕ) → Turn → Change
-change_of f t = record { place = t.place; from = f t.from; to = f t.to }
+abbrev pub table_change : (Wait → Option ℕ) → Turn → Change
+table_change f t = record { place = t.place; from = f t.from; to = f t.to }
 
 abbrev pub is_touched : Change → Change → ℕ → Bool
 is_touched a b c = ((is_on c a.from || is_on c a.to) || is_on c b.from) || is_on c b.to

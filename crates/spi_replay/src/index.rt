@@ -4,7 +4,7 @@ ghost use Rattle.std.specs.Prelude.{◌≡◌, ◌<◌, ◌-◌, ◌^◌, [], �
 ghost use Rattle.std.specs.Vec.{vec_len, vec_capacity};
 ghost use Rattle.spi_replay.specs.declared.places.Place.{Place as PlaceTerm};
 ghost use Rattle.indexmap.specs.IndexMap.{get};
-ghost use Rattle.spi_replay.specs.Indexed.{HasPlaces, out_channel, in_channel, places_on, waits_of, moved as moved_of, settled, done as done_of};
+ghost use Rattle.spi_replay.specs.Indexed.{HasPlaces, out_channel, in_channel, places_on, waits_of, places_moved as moved_of, places_settled, place_done as done_of};
 ghost use Rattle.spi_replay.specs.Tables.{next_wait as next_wait_of};
 
 use crate::NoMemory;
@@ -171,7 +171,7 @@ impl<'p> Index<'p> {
         requires few { length self.old.places.items < 2 ^ 32 - 1 }
         ensures settled { OnOk result
             ((sender : PlaceTerm) → slice_get self.old.places.items out ≡ Some sender
-            → self.new.places.items ≡ settled self.old.places.items out sender inp now.entry again) }
+            → self.new.places.items ≡ places_settled self.old.places.items out sender inp now.entry again) }
         ensures same { OnErr result (self.new.places.items ≡ self.old.places.items) }
     {
         let done = done_place(self.at(out));

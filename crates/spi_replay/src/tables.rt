@@ -3,7 +3,7 @@
 ghost use Rattle.std.specs.Prelude.{◌≡◌, ◌≤◌, ◌<◌, ◌+◌, ℕ, true, length, take, drop, filter, nat_lt, nat_eq, if◌then◌else◌, IfOk, OnOk, OnErr};
 ghost use Rattle.indexmap.specs.IndexMap.{get, spare, IsUnchanged};
 ghost use Rattle.spi_replay.specs.Indexed.{out_channel as out_channel_of, in_channel as in_channel_of, is_on as is_on_of, or_none};
-ghost use Rattle.spi_replay.specs.Tables.{Rises, AllRise, with_place as with_place_of, change_of, relisted as relisted_of, AreLists, IsRelisted, HasChanged};
+ghost use Rattle.spi_replay.specs.Tables.{Rises, AllRise, with_place as with_place_of, table_change, relisted as relisted_of, AreLists, IsRelisted, HasChanged};
 
 use crate::NoMemory;
 use crate::waits::Wait;
@@ -103,8 +103,8 @@ fn in_channel(wait: Wait) -> Option<usize>
 
 // What a turn changes in the tables of the outputs and of the inputs.
 fn changes(turn: Turn) -> (Change, Change)
-    ensures outs { result.0 ≡ change_of out_channel_of turn }
-    ensures ins { result.1 ≡ change_of in_channel_of turn }
+    ensures outs { result.0 ≡ table_change out_channel_of turn }
+    ensures ins { result.1 ≡ table_change in_channel_of turn }
 {
     let outs = Change {
         place: turn.place,
@@ -248,10 +248,10 @@ pub fn turn_both(
     requires outs { AllRise (get nat_eq outs.old) }
     requires ins { AllRise (get nat_eq ins.old) }
     ensures outs { OnOk result
-        (HasChanged (change_of out_channel_of first) (change_of out_channel_of second) (get nat_eq outs.old)
+        (HasChanged (table_change out_channel_of first) (table_change out_channel_of second) (get nat_eq outs.old)
         (get nat_eq outs.new)) }
     ensures ins { OnOk result
-        (HasChanged (change_of in_channel_of first) (change_of in_channel_of second) (get nat_eq ins.old)
+        (HasChanged (table_change in_channel_of first) (table_change in_channel_of second) (get nat_eq ins.old)
         (get nat_eq ins.new)) }
     ensures same_outs { OnErr result (IsUnchanged outs.old outs.new) }
     ensures same_ins { OnErr result (IsUnchanged ins.old ins.new) }

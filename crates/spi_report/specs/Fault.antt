@@ -5,7 +5,7 @@ use Rattle.spi_text.specs.declared.lines.Span.{Span}
 use Rattle.spi_fault.specs.declared.fault.Reason.{Reason}
 use Rattle.spi_fault.specs.declared.fault.Reason.TheVariants.{ChannelNotUn, DatumNotUn, BadType, WrongScrutinee, WrongKey, NotANonce, NotALabel, NotGenerative, BodyHasEffect, EffectEscapes, Unpaid, WrongFirst, BadCast}
 use Rattle.spi_fault.specs.Faults.{Thing, nothing, the_message, the_atom, ToldFault}
-use Rattle.spi_show.specs.Report.{message_text, atom_text}
+use Rattle.spi_show.specs.Report.{message_text, reported_atom}
 use Rattle.spi_report.specs.Refused.{place_text}
 
 abbrev pub reason_number : Reason → ℕ
@@ -42,7 +42,7 @@ reason_text BadCast = codes "BadCast"
 abbrev pub thing_text : List (List ℕ) → Thing → List ℕ
 thing_text names nothing = []
 thing_text names (the_message m) = codes ": " ++ message_text names m
-thing_text names (the_atom a) = codes ": " ++ atom_text names a
+thing_text names (the_atom a) = codes ": " ++ reported_atom names a
 
 -- `no: N Name at L:C: shown` and a LF, where the nodes stand at these places and have these names in scope
 abbrev pub fault_text : List ℕ → (ℕ → Span) → (ℕ → List (List ℕ)) → ToldFault → List ℕ

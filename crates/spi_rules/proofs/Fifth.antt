@@ -2,10 +2,10 @@
 use Rattle.std.proofs.Common.{◌≡◌, true, Some, length, get_or, nat_lt, refl}
 use Rattle.spi_rules.specs.declared.rule.Rule.{Rule}
 use Rattle.spi_rules.specs.declared.rule.Rule.TheVariants.{MsgName, MsgUnit, MsgUnitUn, MsgPair, MsgPairUn, MsgInl, MsgInlUn, MsgInr, MsgInrUn, MsgEnc, MsgEncUn, MsgHash, ProcStop, ProcOut, ProcIn, ProcRepeat, ProcSplit, ProcSplitUn, ProcMatch, ProcMatchUn, ProcCase, ProcCaseUn, ProcDecrypt, ProcDecryptUn, ProcCheck, ProcCheckUn, ProcBegin, ProcEnd, ProcEndMany, ProcCast, ProcCastUn, ProcNew, ProcPar, ProcSub}
-use Rattle.spi_rules.specs.Rule.{spelled, named}
+use Rattle.spi_rules.specs.Rule.{rule_spelled, named}
 use Rattle.spi_rules.specs.Fifth.{rules_by}
 
-pub has_fifth : (r : Rule) → nat_lt 4 (length (spelled r)) ≡ true
+pub has_fifth : (r : Rule) → nat_lt 4 (length (rule_spelled r)) ≡ true
 has_fifth MsgName = refl
 has_fifth MsgUnit = refl
 has_fifth MsgUnitUn = refl
@@ -41,7 +41,7 @@ has_fifth ProcNew = refl
 has_fifth ProcPar = refl
 has_fifth ProcSub = refl
 
-pub each_found : (r : Rule) → named (rules_by (get_or (spelled r) 4 0)) (spelled r) ≡ Some r
+pub each_found : (r : Rule) → named (rules_by (get_or (rule_spelled r) 4 0)) (rule_spelled r) ≡ Some r
 each_found MsgName = refl
 each_found MsgUnit = refl
 each_found MsgUnitUn = refl

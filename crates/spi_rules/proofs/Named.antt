@@ -6,12 +6,12 @@ use Rattle.std.specs.Prelude.{Some}
 use Rattle.std.specs.Str.{bytes_eq}
 use Rattle.spi_rules.specs.declared.rule.Rule.{Rule}
 use Rattle.spi_rules.specs.declared.rule.Rule.TheVariants.{MsgName, MsgUnit, MsgUnitUn, MsgPair, MsgPairUn, MsgInl, MsgInlUn, MsgInr, MsgInrUn, MsgEnc, MsgEncUn, MsgHash, ProcStop, ProcOut, ProcIn, ProcRepeat, ProcSplit, ProcSplitUn, ProcMatch, ProcMatchUn, ProcCase, ProcCaseUn, ProcDecrypt, ProcDecryptUn, ProcCheck, ProcCheckUn, ProcBegin, ProcEnd, ProcEndMany, ProcCast, ProcCastUn, ProcNew, ProcPar, ProcSub}
-use Rattle.spi_rules.specs.Rule.{spelled, named}
+use Rattle.spi_rules.specs.Rule.{rule_spelled, named}
 
 abbrev pub rules : List Rule
 rules = MsgName ∷ MsgUnit ∷ MsgUnitUn ∷ MsgPair ∷ MsgPairUn ∷ MsgInl ∷ MsgInlUn ∷ MsgInr ∷ MsgInrUn ∷ MsgEnc ∷ MsgEncUn ∷ MsgHash ∷ ProcStop ∷ ProcOut ∷ ProcIn ∷ ProcRepeat ∷ ProcSplit ∷ ProcSplitUn ∷ ProcMatch ∷ ProcMatchUn ∷ ProcCase ∷ ProcCaseUn ∷ ProcDecrypt ∷ ProcDecryptUn ∷ ProcCheck ∷ ProcCheckUn ∷ ProcBegin ∷ ProcEnd ∷ ProcEndMany ∷ ProcCast ∷ ProcCastUn ∷ ProcNew ∷ ProcPar ∷ ProcSub ∷ []
 
-pub each_named : (r : Rule) → named rules (spelled r) ≡ Some r
+pub each_named : (r : Rule) → named rules (rule_spelled r) ≡ Some r
 each_named MsgName = refl
 each_named MsgUnit = refl
 each_named MsgUnitUn = refl
@@ -47,9 +47,9 @@ each_named ProcNew = refl
 each_named ProcPar = refl
 each_named ProcSub = refl
 
-pub named_spelled : (rs : List Rule) (word : List ℕ) (r : Rule) → named rs word ≡ Some r → spelled r ≡ word
+pub named_spelled : (rs : List Rule) (word : List ℕ) (r : Rule) → named rs word ≡ Some r → rule_spelled r ≡ word
 named_spelled [] word r e = absurd (cc)
-named_spelled (s ∷ rs) word r e = elim (cases_Bool (bytes_eq (spelled s) word)) [
-  | inl here ↦ (let f : Some s ≡ Some r = sym (cond-true (bytes_eq (spelled s) word) (Some s) (named rs word) here) ∙ e in let same : s ≡ r = cc in sym (ap spelled same) ∙ (bytes_eq-Decides (spelled s) word).0 here)
-  | inr elsewhere ↦ named_spelled rs word r (sym (cond-false (bytes_eq (spelled s) word) (Some s) (named rs word) elsewhere) ∙ e)
+named_spelled (s ∷ rs) word r e = elim (cases_Bool (bytes_eq (rule_spelled s) word)) [
+  | inl here ↦ (let f : Some s ≡ Some r = sym (cond-true (bytes_eq (rule_spelled s) word) (Some s) (named rs word) here) ∙ e in let same : s ≡ r = cc in sym (ap rule_spelled same) ∙ (bytes_eq-Decides (rule_spelled s) word).0 here)
+  | inr elsewhere ↦ named_spelled rs word r (sym (cond-false (bytes_eq (rule_spelled s) word) (Some s) (named rs word) elsewhere) ∙ e)
 ]

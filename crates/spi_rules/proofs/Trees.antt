@@ -10,7 +10,7 @@ use Rattle.spi_rules.specs.declared.rule.Rule.TheVariants.{ProcSub}
 use Rattle.spi_rules.specs.declared.deriv.RuleUse as declared
 use Rattle.spi_rules.specs.Derivations.{RuleUse}
 use Rattle.spi_rules.specs.Rule.{arity}
-use Rattle.spi_rules.specs.Deriv.{written, rule_use, IsUse, sub_use, other_use, AreTrees, no_tree, tree}
+use Rattle.spi_rules.specs.Deriv.{effect_written, rule_use, IsUse, sub_use, other_use, AreTrees, no_tree, tree}
 
 sub_only : {r : Rule} {fs : Term.Effect} → IsUse (record { rule = r; taken = Some fs }) → r ≡ ProcSub
 sub_only (sub_use fs) = refl
@@ -21,12 +21,12 @@ not_sub (other_use r d) = d
 -- where an effect is written, and where none is
 pub use_some : (u : declared.RuleUse) (e : Effect) → u.taken ≡ Some e → IsUse (rule_use u) ↔ (u.rule ≡ ProcSub)
 use_some u e q =
-    subst (λ t. IsUse (record { rule = u.rule; taken = written t }) ↔ (u.rule ≡ ProcSub)) (sym q)
+    subst (λ t. IsUse (record { rule = u.rule; taken = effect_written t }) ↔ (u.rule ≡ ProcSub)) (sym q)
     ((λ h. sub_only h), (λ p. subst (λ r. IsUse (record { rule = r; taken = Some (effect e) })) (sym p) (sub_use (effect e))))
 
 pub use_none : (u : declared.RuleUse) → u.taken ≡ None → IsUse (rule_use u) ↔ (u.rule ≡ ProcSub → ⊥)
 use_none u q =
-    subst (λ t. IsUse (record { rule = u.rule; taken = written t }) ↔ (u.rule ≡ ProcSub → ⊥)) (sym q)
+    subst (λ t. IsUse (record { rule = u.rule; taken = effect_written t }) ↔ (u.rule ≡ ProcSub → ⊥)) (sym q)
     ((λ h. not_sub h), (λ d. other_use u.rule d))
 
 -- the first use, and what it leaves

@@ -10,12 +10,12 @@ use Rattle.spi_rules.specs.declared.deriv.Deriv.{Deriv}
 use Rattle.spi_rules.specs.Derivations.{RuleUse}
 use Rattle.spi_rules.specs.Rule.{arity}
 
-abbrev pub written : Option Effect → Option Term.Effect
-written None = None
-written (Some e) = Some (effect e)
+abbrev pub effect_written : Option Effect → Option Term.Effect
+effect_written None = None
+effect_written (Some e) = Some (effect e)
 
 abbrev pub rule_use : declared.RuleUse → RuleUse
-rule_use u = record { rule = u.rule; taken = written u.taken }
+rule_use u = record { rule = u.rule; taken = effect_written u.taken }
 
 abbrev pub rule_uses : Deriv → List RuleUse
 rule_uses d = map rule_use d.uses.items

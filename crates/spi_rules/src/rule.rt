@@ -1,7 +1,7 @@
 // The rules of the two tables by name.
 
 ghost use Rattle.std.specs.Prelude.{◌≡◌, ◌≤◌, IfSome, IsNone};
-ghost use Rattle.spi_rules.specs.Rule.{arity, spelled, named};
+ghost use Rattle.spi_rules.specs.Rule.{arity, rule_spelled, named};
 ghost use Rattle.spi_rules.specs.Fifth.{rules_by};
 
 /// A rule of the type system, named as its row in the tables of rules. `MsgHash` and `ProcEndMany` are rules of
@@ -86,7 +86,7 @@ impl Rule {
 
     /// The name of the rule, as a derivation writes it.
     pub fn spelled(self) -> &'static str
-        ensures { result.now ≡ spelled self }
+        ensures { result.now ≡ rule_spelled self }
     {
         match self {
             Rule::MsgName => "MsgName",
@@ -129,8 +129,8 @@ impl Rule {
     /// The rule with this name, and none exactly where no rule has it. It looks at the rules with the same fifth byte alone,
     /// at eight of them at most.
     pub fn of_word(word: &str) -> Option<Rule>
-        ensures some { IfSome result (λ rule. spelled rule ≡ word.now) }
-        ensures none { IsNone result → (rule : Rule) → spelled rule ≡ word.now → ⊥ }
+        ensures some { IfSome result (λ rule. rule_spelled rule ≡ word.now) }
+        ensures none { IsNone result → (rule : Rule) → rule_spelled rule ≡ word.now → ⊥ }
     {
         match word.as_bytes().get(4) {
             Some(byte) => named(rules_by(*byte), word),

@@ -28,18 +28,18 @@ one_of_both tree =
 pub not_both : (tree : t.File) (file : Meant) (f : ScopeFault) → StandsFor tree file → HasFirst tree f → ⊥
 not_both tree file f s h = never_both (in_order (file_points tree)) f s.clean h
 
-abbrev made : ℕ → List (List ℕ) → Spelling → Option Spelling → Option (List Step) → Option (List RuleUse) → Meant
-made v xs p o s d = record { version = v; names = xs; process = p; opponent = o; schedule = s; derivation = d }
+abbrev made_file : ℕ → List (List ℕ) → Spelling → Option Spelling → Option (List Step) → Option (List RuleUse) → Meant
+made_file v xs p o s d = record { version = v; names = xs; process = p; opponent = o; schedule = s; derivation = d }
 
 is_meant : (tree : t.File) (file : Meant) → StandsFor tree file → file ≡ file_meant tree
 is_meant tree file s =
     let m = file_meant tree in
-    ap (λ v. made v file.names file.process file.opponent file.schedule file.derivation) s.version
-    ∙ ap (λ xs. made m.version xs file.process file.opponent file.schedule file.derivation) s.names
-    ∙ ap (λ p. made m.version m.names p file.opponent file.schedule file.derivation) s.process
-    ∙ ap (λ o. made m.version m.names m.process o file.schedule file.derivation) s.opponent
-    ∙ ap (λ x. made m.version m.names m.process m.opponent x file.derivation) s.schedule
-    ∙ ap (λ d. made m.version m.names m.process m.opponent m.schedule d) s.derivation
+    ap (λ v. made_file v file.names file.process file.opponent file.schedule file.derivation) s.version
+    ∙ ap (λ xs. made_file m.version xs file.process file.opponent file.schedule file.derivation) s.names
+    ∙ ap (λ p. made_file m.version m.names p file.opponent file.schedule file.derivation) s.process
+    ∙ ap (λ o. made_file m.version m.names m.process o file.schedule file.derivation) s.opponent
+    ∙ ap (λ x. made_file m.version m.names m.process m.opponent x file.derivation) s.schedule
+    ∙ ap (λ d. made_file m.version m.names m.process m.opponent m.schedule d) s.derivation
 
 pub same_file : (tree : t.File) (file other : Meant) → StandsFor tree file → StandsFor tree other → file ≡ other
 same_file tree file other s r = is_meant tree file s ∙ sym (is_meant tree other r)

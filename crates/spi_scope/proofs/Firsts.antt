@@ -3,7 +3,7 @@ use Rattle.std.proofs.Common.{◌≡◌, ℕ, ◌+◌, List, [], ◌∷◌, ◌+
 use Rattle.std.specs.Prelude.{◌⊎◌, Option, Some, None, Ok, Err}
 use Rattle.spi_scope.specs.declared.fault.ScopeFault.{ScopeFault}
 use Rattle.spi_scope.specs.Points.{Point, Points, none, one, ◌⨾◌, in_order, fault_at, added}
-use Rattle.spi_scope.specs.First.{count, Clean, IsFirst}
+use Rattle.spi_scope.specs.First.{count_points, Clean, IsFirst}
 use Rattle.spi_scope.specs.Gives.{Ran, after, unless, run, FailsWith}
 use Rattle.spi_scope.specs.declared.fault.ScopeFault.TheVariants.{NoMemory}
 
@@ -40,20 +40,20 @@ run_in_order (ps ⨾ qs) c =
     ∙ same_after (run_list (in_order ps) c) (run qs) (run_list (in_order qs)) (λ d. run_in_order qs d)
     ∙ sym (run_more (in_order ps) (in_order qs) c)
 
-pub clean_from : (ps : List Point) (c d : ℕ) → run_list ps c ≡ Ok d → Clean c ps × (d ≡ c + count ps)
+pub clean_from : (ps : List Point) (c d : ℕ) → run_list ps c ≡ Ok d → Clean c ps × (d ≡ c + count_points ps)
 clean_from [] c d e = let f : c ≡ d = cc in (tt, omega (arith, f))
 clean_from (p ∷ ps) c d e = by (fault_at c p) refl (λ k. clean_from ps (c + added p) d k)
   where
-    by : (o : Option ScopeFault) → fault_at c p ≡ o → (run_list ps (c + added p) ≡ Ok d → Clean (c + added p) ps × (d ≡ c + added p + count ps)) → Clean c (p ∷ ps) × (d ≡ c + count (p ∷ ps))
+    by : (o : Option ScopeFault) → fault_at c p ≡ o → (run_list ps (c + added p) ≡ Ok d → Clean (c + added p) ps × (d ≡ c + added p + count_points ps)) → Clean c (p ∷ ps) × (d ≡ c + count_points (p ∷ ps))
     by None h k =
         let r = k (sym (ap (λ o. after (unless o (c + added p)) (run_list ps)) h) ∙ e) in
         ((h, r.0), omega (arith, r.1))
     by (Some f) h k = let z : Err f ≡ Ok d = sym (ap (λ o. after (unless o (c + added p)) (run_list ps)) h) ∙ e in absurd (cc)
 
-pub clean_run : (ps : List Point) (c : ℕ) → Clean c ps → run_list ps c ≡ Ok (c + count ps)
+pub clean_run : (ps : List Point) (c : ℕ) → Clean c ps → run_list ps c ≡ Ok (c + count_points ps)
 clean_run [] c h = ap (λ d. Ok d) (sym (add-zero c))
 clean_run (p ∷ ps) c h =
-    let e : c + added p + count ps ≡ c + (added p + count ps) = omega arith in
+    let e : c + added p + count_points ps ≡ c + (added p + count_points ps) = omega arith in
     ap (λ o. after (unless o (c + added p)) (run_list ps)) h.0 ∙ clean_run ps (c + added p) h.1 ∙ ap (λ d. Ok d) e
 
 -- the first fault where the count is c before the first point
@@ -63,7 +63,7 @@ pub record FirstFrom (c : ℕ) (points : List Point) (f : ScopeFault) : Type 0 w
   pub after : List Point
   pub cut : points ≡ before ++ at ∷ after
   pub clean : Clean c before
-  pub wrong : fault_at (c + count before) at ≡ Some f
+  pub wrong : fault_at (c + count_points before) at ≡ Some f
 
 pub first_from : (ps : List Point) (c : ℕ) (f : ScopeFault) → run_list ps c ≡ Err f → FirstFrom c ps f
 first_from [] c f e = absurd (cc)
@@ -72,7 +72,7 @@ first_from (p ∷ ps) c f e = by (fault_at c p) refl (λ k. first_from ps (c + a
     by : (o : Option ScopeFault) → fault_at c p ≡ o → (run_list ps (c + added p) ≡ Err f → FirstFrom (c + added p) ps f) → FirstFrom c (p ∷ ps) f
     by None h k =
         let r = k (sym (ap (λ o. after (unless o (c + added p)) (run_list ps)) h) ∙ e) in
-        let n : c + (added p + count r.before) ≡ c + added p + count r.before = omega arith in
+        let n : c + (added p + count_points r.before) ≡ c + added p + count_points r.before = omega arith in
         record {
           before = p ∷ r.before;
           at = r.at;
@@ -96,19 +96,19 @@ first_from (p ∷ ps) c f e = by (fault_at c p) refl (λ k. first_from ps (c + a
 pub is_first : (ps : Points) (f : ScopeFault) → run ps 0 ≡ Err f → IsFirst (in_order ps) f
 is_first ps f e =
     let r = first_from (in_order ps) 0 f (sym (run_in_order ps 0) ∙ e) in
-    let n : count r.before ≡ 0 + count r.before = omega arith in
+    let n : count_points r.before ≡ 0 + count_points r.before = omega arith in
     record { before = r.before; at = r.at; after = r.after; cut = r.cut; clean = r.clean; wrong = ap (λ d. fault_at d r.at) n ∙ r.wrong }
 
-pub is_clean : (ps : Points) (d : ℕ) → run ps 0 ≡ Ok d → Clean 0 (in_order ps) × (d ≡ count (in_order ps))
+pub is_clean : (ps : Points) (d : ℕ) → run ps 0 ≡ Ok d → Clean 0 (in_order ps) × (d ≡ count_points (in_order ps))
 is_clean ps d e =
     let r = clean_from (in_order ps) 0 d (sym (run_in_order ps 0) ∙ e) in
     (r.0, omega (arith, r.1))
 
 pub first_run : (ps : List Point) (f : ScopeFault) → IsFirst ps f → run_list ps 0 ≡ Err f
 first_run ps f r =
-    let n : 0 + count r.before ≡ count r.before = omega arith in
+    let n : 0 + count_points r.before ≡ count_points r.before = omega arith in
     ap (λ l. run_list l 0) r.cut ∙ run_more r.before (r.at ∷ r.after) 0 ∙ ap (λ x. after x (run_list (r.at ∷ r.after))) (clean_run r.before 0 r.clean ∙ ap (λ d. Ok d) n)
-    ∙ ap (λ o. after (unless o (count r.before + added r.at)) (run_list r.after)) r.wrong
+    ∙ ap (λ o. after (unless o (count_points r.before + added r.at)) (run_list r.after)) r.wrong
 
 -- a list of points is clean or has a first fault, never both, and no two first faults
 pub one_of : (ps : List Point) → Clean 0 ps ⊎ ((f : ScopeFault) × IsFirst ps f)
@@ -118,7 +118,7 @@ one_of ps = by (run_list ps 0) refl
     by (Ok d) e = inl (clean_from ps 0 d e).0
     by (Err f) e =
         let r = first_from ps 0 f e in
-        let n : count r.before ≡ 0 + count r.before = omega arith in
+        let n : count_points r.before ≡ 0 + count_points r.before = omega arith in
         inr (f, record { before = r.before; at = r.at; after = r.after; cut = r.cut; clean = r.clean; wrong = ap (λ d. fault_at d r.at) n ∙ r.wrong })
 
 pub never_both : (ps : List Point) (f : ScopeFault) → Clean 0 ps → IsFirst ps f → ⊥

@@ -11,24 +11,24 @@ use Rattle.spi_scope.specs.Scan.{token, point, Scan, ◌▸◌, message_scan, me
 use Rattle.spi_scope.specs.Standing.{number_at, Grow, StandBehind}
 
 -- the number of the last point behind the last token
-abbrev last : ℕ → Scan → ℕ
-last n [] = n
-last n (token k ∷ s) = last 0 s
-last n (point p ∷ s) = last (number_at p) s
+abbrev last_scanned : ℕ → Scan → ℕ
+last_scanned n [] = n
+last_scanned n (token k ∷ s) = last_scanned 0 s
+last_scanned n (point p ∷ s) = last_scanned (number_at p) s
 
-grow_on : (n : ℕ) (s t : Scan) → Grow n s → Grow (last n s) t → Grow n (s ++ t)
+grow_on : (n : ℕ) (s t : Scan) → Grow n s → Grow (last_scanned n s) t → Grow n (s ++ t)
 grow_on n [] t g h = h
 grow_on n (token k ∷ s) t g h = grow_on 0 s t g h
 grow_on n (point p ∷ s) t g h = (g.0, grow_on (number_at p) s t g.1 h)
 
-last_on : (n : ℕ) (s t : Scan) → last n (s ++ t) ≡ last (last n s) t
+last_on : (n : ℕ) (s t : Scan) → last_scanned n (s ++ t) ≡ last_scanned (last_scanned n s) t
 last_on n [] t = refl
 last_on n (token k ∷ s) t = last_on 0 s t
 last_on n (point p ∷ s) t = last_on (number_at p) s t
 
 -- behind a point with a number up to a, these grow, and the last of them has a number up to b
 pub record Climbs (a b : ℕ) (s : Scan) : Type 0 where
-  pub go : (n : ℕ) → n ≤ a → Grow n s × (last n s ≤ b)
+  pub go : (n : ℕ) → n ≤ a → Grow n s × (last_scanned n s ≤ b)
 
 nil : {a b : ℕ} → a ≤ b → Climbs a b []
 nil {a} {b} h = record { go = λ n g. (tt, omega (arith, g, h)) }
@@ -43,7 +43,7 @@ infixr 5 ◌▹◌
 ◌▹◌ : {a b c : ℕ} {s t : Scan} → Climbs a b s → Climbs b c t → Climbs a c (s ▸ t)
 ◌▹◌ {c} {s} {t} g h =
     record {
-      go = λ n i. let q = g.go n i in let r = h.go (last n s) q.1 in (grow_on n s t q.0 r.0, subst (λ x. x ≤ c) (sym (last_on n s t)) r.1);
+      go = λ n i. let q = g.go n i in let r = h.go (last_scanned n s) q.1 in (grow_on n s t q.0 r.0, subst (λ x. x ≤ c) (sym (last_on n s t)) r.1);
     }
 
 mutual

@@ -12,7 +12,7 @@ use Rattle.spi_term.specs.Arena.{InScope}
 use Rattle.spi_term.proofs.Numbers.{number_index, over_indexed}
 use Rattle.spi_term.proofs.Terms.{over_more_ty, loose_ty}
 use Rattle.spi_scope.specs.Scope.{Word, Names, number_of, Abbreviation, Abbreviations, type_of}
-use Rattle.spi_scope.specs.Meaning.{named, nested, message_in, messages_in, atom_in, effect_in, known, nested_types, behind, type_in, fields_in, last_in, process_in, process_over}
+use Rattle.spi_scope.specs.Meaning.{name_meant, nested, message_in, messages_in, atom_in, effect_in, known, nested_types, behind, type_in, fields_in, last_in, process_in, process_over}
 use Rattle.spi_scope.specs.Points.{with_free, all_names, all_types}
 use Rattle.spi_scope.specs.Over.{AreAbbreviationsOver}
 use Rattle.spi_tree.specs.declared.tree.SWord.{SWord}
@@ -24,10 +24,10 @@ if_yes x y e = rw e
 if_no : {A : Type 0} {b : Bool} (x y : A) → b ≡ false → (if b then x else y) ≡ y
 if_no x y e = rw e
 
-named_low : (k s x : ℕ) → x < k → named k s (Some x) ≡ name x
+named_low : (k s x : ℕ) → x < k → name_meant k s (Some x) ≡ name x
 named_low k s x h = if_yes (name x) (bound (s - suc x)) (lt-ltb x k h)
 
-named_high : (k s x : ℕ) → k ≤ x → named k s (Some x) ≡ bound (s - suc x)
+named_high : (k s x : ℕ) → k ≤ x → name_meant k s (Some x) ≡ bound (s - suc x)
 named_high k s x h = if_no (name x) (bound (s - suc x)) (le-ltb x k h)
 
 known_over : (n : ℕ) (ts : Abbreviations) → AreAbbreviationsOver n ts → (w : Word) → TyOver n (known (type_of ts w))
@@ -39,14 +39,14 @@ known_over n (u ∷ ts) h w = by (bytes_eq w u.word) (known_over n ts h.1 w)
     by false f = f
 
 -- names below s by their numbers, where s + d are in scope
-over_named : (s d : ℕ) (o : Option ℕ) → IfSome o (λ x. x < s + d) → MessageOver s d (named s (s + d) o)
+over_named : (s d : ℕ) (o : Option ℕ) → IfSome o (λ x. x < s + d) → MessageOver s d (name_meant s (s + d) o)
 over_named s d None h = tt
 over_named s d (Some x) h = ⊎_elim low high (cases_lt x s)
   where
-    low : x < s → MessageOver s d (named s (s + d) (Some x))
+    low : x < s → MessageOver s d (name_meant s (s + d) (Some x))
     low l = subst (MessageOver s d) (sym (named_low s (s + d) x l)) l
 
-    high : s ≤ x → MessageOver s d (named s (s + d) (Some x))
+    high : s ≤ x → MessageOver s d (name_meant s (s + d) (Some x))
     high l = let b : s + d - suc x < d = omega arith in subst (MessageOver s d) (sym (named_high s (s + d) x l)) b
 
 over_nested : (s d : ℕ) (a : Message) (ms : List Message) → MessageOver s d a → OfEffect (MessageOver s d) (map (λ m. ends m) ms) → MessageOver s d (nested a ms)
@@ -56,7 +56,7 @@ over_nested s d a (m ∷ ms) h g = (h, over_nested s d m ms g.0 g.1)
 mutual
   over_message : (s d : ℕ) (xs : Names) → length xs ≡ s + d → (m : t.Msg) → MessageOver s d (message_in s xs m)
   over_message s d xs e (t.name p w) =
-      subst (λ (n : ℕ). MessageOver s d (named s n (number_of xs w.word))) (sym e)
+      subst (λ (n : ℕ). MessageOver s d (name_meant s n (number_of xs w.word))) (sym e)
       (over_named s d (number_of xs w.word) (subst (λ (n : ℕ). IfSome (number_of xs w.word) (λ x. x < n)) e (number_below xs w.word)))
   over_message s d xs e (t.unit p) = tt
   over_message s d xs e (t.tuple p a b ms) =
@@ -167,27 +167,27 @@ index_high : (k s d x : ℕ) → k ≤ x → index_message k s d (name x) ≡ bo
 index_high k s d x h = if_no (name x) (bound (d + (s - suc x))) (le-ltb x k h)
 
 module _ (k s : ℕ) (few : k ≤ s) where
-  index_name : (d x : ℕ) → x < s + d → index_message k s d (named s (s + d) (Some x)) ≡ named k (s + d) (Some x)
+  index_name : (d x : ℕ) → x < s + d → index_message k s d (name_meant s (s + d) (Some x)) ≡ name_meant k (s + d) (Some x)
   index_name d x h = ⊎_elim low high (cases_lt x s)
     where
-      low : x < s → index_message k s d (named s (s + d) (Some x)) ≡ named k (s + d) (Some x)
+      low : x < s → index_message k s d (name_meant s (s + d) (Some x)) ≡ name_meant k (s + d) (Some x)
       low l = ap (index_message k s d) (named_low s (s + d) x l) ∙ ⊎_elim free inner (cases_lt x k)
         where
-          free : x < k → index_message k s d (name x) ≡ named k (s + d) (Some x)
+          free : x < k → index_message k s d (name x) ≡ name_meant k (s + d) (Some x)
           free g = index_low k s d x g ∙ sym (named_low k (s + d) x g)
 
-          inner : k ≤ x → index_message k s d (name x) ≡ named k (s + d) (Some x)
+          inner : k ≤ x → index_message k s d (name x) ≡ name_meant k (s + d) (Some x)
           inner g =
               let e : d + (s - suc x) ≡ s + d - suc x = omega arith in
               index_high k s d x g ∙ ap bound e ∙ sym (named_high k (s + d) x g)
 
-      high : s ≤ x → index_message k s d (named s (s + d) (Some x)) ≡ named k (s + d) (Some x)
+      high : s ≤ x → index_message k s d (name_meant s (s + d) (Some x)) ≡ name_meant k (s + d) (Some x)
       high l = ap (index_message k s d) (named_high s (s + d) x l) ∙ sym (named_high k (s + d) x (omega arith))
 
-  index_known : (d r : ℕ) (o : Option ℕ) → r ≡ s + d → IfSome o (λ x. x < r) → index_message k s d (named s r o) ≡ named k r o
+  index_known : (d r : ℕ) (o : Option ℕ) → r ≡ s + d → IfSome o (λ x. x < r) → index_message k s d (name_meant s r o) ≡ name_meant k r o
   index_known d r None e h = refl
   index_known d r (Some x) e h =
-      ap (λ n. index_message k s d (named s n (Some x))) e ∙ index_name d x (omega (arith, h, e)) ∙ ap (λ n. named k n (Some x)) (sym e)
+      ap (λ n. index_message k s d (name_meant s n (Some x))) e ∙ index_name d x (omega (arith, h, e)) ∙ ap (λ n. name_meant k n (Some x)) (sym e)
 
   index_nested : (d : ℕ) (a : Message) (ms : List Message) → index_message k s d (nested a ms) ≡ nested (index_message k s d a) (map (index_message k s d) ms)
   index_nested d a [] = refl

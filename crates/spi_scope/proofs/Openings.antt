@@ -4,14 +4,14 @@ use Rattle.std.specs.Prelude.{⊤, Option, Some, None, nat_lt, is_some, if◌the
 use Rattle.spi_text.specs.declared.lines.Span.{Span}
 use Rattle.spi_tree.specs.declared.tree.SWord.{SWord}
 use Rattle.spi_tree.specs.Trees as t
-use Rattle.spi_tree.specs.Pieces.{Piece, opens, msg_pieces, msgs_pieces, atom_pieces, atoms_pieces, effect_pieces, ty_pieces, fields_pieces, last_pieces, Place, in_seq, at_level, below, beside, level_of, binder_pieces, proc_pieces, words_pieces, decl_pieces, decls_pieces, steps_pieces, written_pieces, deriv_pieces, derivs_pieces, opponent_pieces, schedule_pieces, derivation_pieces, file_pieces}
+use Rattle.spi_tree.specs.Pieces.{Piece, opens, msg_pieces, msgs_pieces, atom_pieces, atoms_pieces, effect_pieces, ty_pieces, fields_pieces, last_pieces, Place, in_seq, at_level, below, beside_place, level_of, binder_pieces, proc_pieces, words_pieces, decl_pieces, decls_pieces, steps_pieces, written_pieces, deriv_pieces, derivs_pieces, opponent_pieces, schedule_pieces, derivation_pieces, file_pieces}
 use Rattle.spi_term.specs.Lists.{In, in_first, in_later}
 use Rattle.spi_term.proofs.Lists.{in_cases, in_append}
 use Rattle.spi_scope.specs.declared.fault.ScopeFault.{ScopeFault}
 use Rattle.spi_scope.specs.Scope.{Names, number_of, Abbreviations, type_of}
 use Rattle.spi_scope.specs.Meaning.{behind}
-use Rattle.spi_scope.specs.Points.{Point, uses_name, uses_type, declares_name, declares_type, ends_message, ends_type, adds, starts_step, Points, none, one, ◌⨾◌, in_order, fault_at, msg_span, ty_span, message_points, messages_points, whole_message, atom_points, atoms_points, type_points, fields_points, last_points, whole_type, part, message_head, messages_head, typed_head, new_head, tested_head, split_head, match_head, process_points, free_points, decl_points, decls_points, names_behind, types_behind, opponent_points, steps_points, schedule_points, numbered_atom_points, numbered_atoms_points, written_points, deriv_points, derivs_points, derivation_points, all_names, all_types, file_points}
-use Rattle.spi_scope.specs.First.{count, HasFirst}
+use Rattle.spi_scope.specs.Points.{Point, uses_name, uses_type, declares_name, declares_type, ends_message, ends_type, adds, starts_step, Points, none, one, ◌⨾◌, in_order, fault_at, msg_span, ty_span, message_points, messages_points, message_points_whole, atom_points, atoms_points, type_points, fields_points, last_points, whole_type, part, message_head, messages_head, typed_head, new_head, tested_head, split_head, match_head, process_points, free_points, decl_points, decls_points, names_behind, types_behind, opponent_points, steps_points, schedule_points, numbered_atom_points, numbered_atoms_points, written_points, deriv_points, derivs_points, derivation_points, all_names, all_types, file_points}
+use Rattle.spi_scope.specs.First.{count_points, HasFirst}
 use Rattle.spi_scope.specs.FaultPlaces.{span_from}
 
 -- the pieces of the whole, from some piece on
@@ -88,7 +88,7 @@ mutual
       ((i.0, j.0), j.1)
 
 -- an outermost message, or that of an atom
-whole_open : {whole : List Piece} (n : ℕ) (xs : Names) (m : t.Msg) (r : List Piece) → Tail whole (msg_pieces n m r) → StartAtOpenings whole (whole_message xs m) × Tail whole r
+whole_open : {whole : List Piece} (n : ℕ) (xs : Names) (m : t.Msg) (r : List Piece) → Tail whole (msg_pieces n m r) → StartAtOpenings whole (message_points_whole xs m) × Tail whole r
 whole_open n xs m r h = let i = msg_open n xs m r h in ((i.0, msg_start n m r h), i.1)
 
 atom_open : {whole : List Piece} (n : ℕ) (xs : Names) (e : t.Atom) (r : List Piece) → Tail whole (atom_pieces n e r) → StartAtOpenings whole (atom_points xs e) × Tail whole r
@@ -265,7 +265,7 @@ proc_open at ts xs (t.new s x a p) r h =
 proc_open at ts xs (t.stop s) r h = (here h, drop (drop (drop h)))
 proc_open at ts xs (t.group s p q) r h =
     let i = proc_open (below at) ts xs p _ (drop (drop h)) in
-    let j = proc_open (beside at) ts xs q _ (drop i.1) in
+    let j = proc_open (beside_place at) ts xs q _ (drop i.1) in
     ((i.0, (here h, j.0)), drop (drop j.1))
 
 -- declarations
@@ -399,4 +399,4 @@ in_middle (x ∷ xs) ys p = in_later (in_middle xs ys p)
 pub fault_opens : (tree : t.File) (f : ScopeFault) → HasFirst tree f → In (opens (span_from f)) (file_pieces tree [])
 fault_opens tree f h =
     let i = subst (λ l. In h.at l) (sym h.cut) (in_middle h.before h.after h.at) in
-    subst (λ x. In (opens x) (file_pieces tree [])) (fault_place (count h.before) h.at f h.wrong) (one_opened (file_pieces tree []) (file_points tree) (file_open tree) h.at i)
+    subst (λ x. In (opens x) (file_pieces tree [])) (fault_place (count_points h.before) h.at f h.wrong) (one_opened (file_pieces tree []) (file_points tree) (file_open tree) h.at i)

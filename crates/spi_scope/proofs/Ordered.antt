@@ -7,7 +7,7 @@ use Rattle.spi_tree.specs.declared.tree.SWord.{SWord}
 use Rattle.spi_tree.specs.Trees as t
 use Rattle.spi_scope.specs.Scope.{Names, Abbreviations}
 use Rattle.spi_scope.specs.Meaning.{behind}
-use Rattle.spi_scope.specs.Points.{Point, adds, in_order, file_points, message_points, messages_points, whole_message, part, atom_points, atoms_points, type_points, fields_points, last_points, bounded_type, whole_type, message_head, messages_head, typed_head, new_head, tested_head, split_head, match_head, process_points, free_points, decl_points, decls_points, names_behind, types_behind, all_names, all_types, opponent_points, steps_points, schedule_points, numbered_points, numbered_atom_points, numbered_atoms_points, written_points, deriv_points, derivs_points, derivation_points}
+use Rattle.spi_scope.specs.Points.{Point, adds, in_order, file_points, message_points, messages_points, message_points_whole, part, atom_points, atoms_points, type_points, fields_points, last_points, bounded_type, whole_type, message_head, messages_head, typed_head, new_head, tested_head, split_head, match_head, process_points, free_points, decl_points, decls_points, names_behind, types_behind, all_names, all_types, opponent_points, steps_points, schedule_points, numbered_points, numbered_atom_points, numbered_atoms_points, written_points, deriv_points, derivs_points, derivation_points}
 use Rattle.spi_scope.specs.Scan.{token, point, Scan, ◌▸◌, points_in_scan, message_scan, messages_scan, whole_scan, part_scan, atom_scan, atoms_scan, effect_scan, type_scan, fields_scan, last_scan, bounded_scan, whole_type_scan, named_scan, binder_scan, process_scan, frees_scan, decl_scan, decls_scan, steps_scan, numbered_scan, numbered_atom_scan, numbered_atoms_scan, written_scan, deriv_scan, derivs_scan, version_scan, opponent_scan, schedule_scan, derivation_scan, file_scan}
 
 points_append : (a b : Scan) → points_in_scan (a ++ b) ≡ points_in_scan a ++ points_in_scan b
@@ -54,7 +54,7 @@ mutual
   msgs_hold xs t.no_msgs = nil
   msgs_hold xs (t.more_msgs m ms) = tok (msg_holds xs m ▹ msgs_hold xs ms)
 
-whole_holds : (xs : Names) (m : t.Msg) → HasPoints (whole_scan xs m) (in_order (whole_message xs m))
+whole_holds : (xs : Names) (m : t.Msg) → HasPoints (whole_scan xs m) (in_order (message_points_whole xs m))
 whole_holds xs m = msg_holds xs m ▹ pt nil
 
 part_holds : (xs : Names) (m : t.Msg) → HasPoints (part_scan xs m) (in_order (part xs m))

@@ -4,7 +4,7 @@ use Rattle.std.specs.Prelude.{◌==◌, map, Option, Some, None, if◌then◌els
 use Rattle.spi_lex.specs.declared.token.Kind.{Kind}
 use Rattle.spi_tree.specs.declared.tree.SWord.{SWord}
 use Rattle.spi_tree.specs.Trees as t
-use Rattle.spi_tree.specs.Pieces.{Piece, opens, cell, closes, tokens_of, kinds_in, msg_pieces, msgs_pieces, atom_pieces, atoms_pieces, effect_pieces, ty_pieces, fields_pieces, last_pieces, named_pieces, binder_pieces, Place, in_seq, at_level, below, beside, level_of, proc_pieces, words_pieces, decl_pieces, decls_pieces, step_pieces, steps_pieces, written_pieces, deriv_pieces, derivs_pieces, version_pieces, opponent_pieces, schedule_pieces, derivation_pieces, file_pieces}
+use Rattle.spi_tree.specs.Pieces.{Piece, opens, cell, closes, tokens_of, kinds_in, msg_pieces, msgs_pieces, atom_pieces, atoms_pieces, effect_pieces, ty_pieces, fields_pieces, last_pieces, named_pieces, binder_pieces, Place, in_seq, at_level, below, beside_place, level_of, proc_pieces, words_pieces, decl_pieces, decls_pieces, step_pieces, steps_pieces, written_pieces, deriv_pieces, derivs_pieces, version_pieces, opponent_pieces, schedule_pieces, derivation_pieces, file_pieces}
 use Rattle.spi_scope.specs.Scope.{Names, Abbreviations}
 use Rattle.spi_scope.specs.Meaning.{behind}
 use Rattle.spi_scope.specs.Points.{Point, names_behind, types_behind, all_names, all_types}
@@ -132,7 +132,7 @@ proc_reads at ts xs (t.end_many s m p) r = first (part_reads xs m _ ▹ tok (shu
 proc_reads at ts xs (t.cast s m x a p) r = first (part_reads xs m _ ▹ tok (binder_reads ts xs x a _ ▹ shut (proc_reads (below at) ts (x.word ∷ xs) p _)))
 proc_reads at ts xs (t.new s x a p) r = first (binder_reads ts xs x a _ ▹ shut (proc_reads (below at) ts (x.word ∷ xs) p _))
 proc_reads at ts xs (t.stop s) r = record { are = refl }
-proc_reads at ts xs (t.group s p q) r = opening (tok (proc_reads (below at) ts xs p _ ▹ tok (pt (proc_reads (beside at) ts xs q _ ▹ tok (closing done)))))
+proc_reads at ts xs (t.group s p q) r = opening (tok (proc_reads (below at) ts xs p _ ▹ tok (pt (proc_reads (beside_place at) ts xs q _ ▹ tok (closing done)))))
 
 frees_read : (xs : Names) (ws : List SWord) (r : List Piece) → ReadsScan (words_pieces ws r) (frees_scan xs ws) r
 frees_read xs [] r = done

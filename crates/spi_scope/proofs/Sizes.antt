@@ -8,13 +8,13 @@ use Rattle.spi_term.specs.Term.{name, bound, message_size}
 use Rattle.spi_term.specs.Spelling.{atom_nodes, effect_nodes, ty_nodes, stopped}
 use Rattle.spi_scope.specs.declared.fault.ScopeFault.TheVariants.{MessageTooLarge, TypeTooLarge, FileTooLarge, ScheduleTooLong}
 use Rattle.spi_scope.specs.Scope.{Names, number_of, Abbreviations}
-use Rattle.spi_scope.specs.Meaning.{named, message_in, messages_in, atom_in, effect_in, type_in, fields_in, last_in, behind}
+use Rattle.spi_scope.specs.Meaning.{name_meant, message_in, messages_in, atom_in, effect_in, type_in, fields_in, last_in, behind}
 use Rattle.spi_scope.specs.Points.{msg_nodes, type_nodes, fault_at, ends_message, ends_type, adds, starts_step}
 use Rattle.spi_scope.specs.Gives.{unless}
 use Rattle.spi_scope.specs.State.{row_nodes, type_row_nodes}
 use Rattle.spi_scope.proofs.Tuples.{nested_nodes, nested_types_nodes}
 
-named_size : (k l s : ℕ) (o : Option ℕ) → message_size (named k s o) ≡ message_size (named l s o)
+named_size : (k l s : ℕ) (o : Option ℕ) → message_size (name_meant k s o) ≡ message_size (name_meant l s o)
 named_size k l s None = refl
 named_size k l s (Some x) = by (nat_lt x k) (nat_lt x l)
   where

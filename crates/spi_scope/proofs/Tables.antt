@@ -2,14 +2,14 @@
 use Rattle.std.proofs.Common.{◌≡◌, ℕ, zero, suc, drop, ◌-◌, ◌+◌, ◌^◌, ◌<◌, List, [], ◌∷◌, ◌++◌, length, reverse, Bool, true, false, cond, refl, sym, ap, ◌∙◌, subst, arith}
 use Rattle.std.specs.Prelude.{Option, Some, None, slice_get, IfSome, Result, Ok, Err, OnOk, OnErr}
 use Rattle.std.specs.declared.alloc.AllocError.{AllocError}
-use Rattle.spi_scope.specs.Chains.{chain_at, found}
+use Rattle.spi_scope.specs.Chains.{chain_at, found_names}
 use Rattle.std.specs.Str.{bytes_eq}
 use Rattle.std.proofs.lemmas.List.{reverse-append, reverse-reverse, length-reverse, length-map, length-append}
 use Rattle.std.proofs.lemmas.Slice.Eq.{bytes_eq-Decides}
 use Rattle.std.proofs.lemmas.Map.Text.{hash_map_updates_str}
 use Rattle.indexmap.specs.IndexMap.{IndexMap, get_by, UpdatesBy}
 use denote.Ref.{Bor}
-use Rattle.spi_scope.specs.Scope.{Word, Names, number_of, outer}
+use Rattle.spi_scope.specs.Scope.{Word, Names, number_of, outer_names}
 use Rattle.spi_scope.specs.declared.names.Held.{Held}
 use Rattle.spi_scope.specs.Table.{spellings, Hide, KeepsTable, Begin, top, IsPushed, IsPopped}
 
@@ -19,10 +19,10 @@ reverse_push es e = reverse-append es (e ∷ [])
 pub many_names : (es : List Held) → length (spellings (reverse es)) ≡ length es
 many_names es = length-map (reverse es) (λ e. e.word.now) ∙ length-reverse es
 
-abbrev pub Changes : {S : Type 0} → IndexMap (Bor (List ℕ)) ℕ S → IndexMap (Bor (List ℕ)) ℕ S → Word → Option ℕ → Type 0
-Changes m n x v = UpdatesBy (λ x y. bytes_eq x.now y.now) (λ k. bytes_eq x k.now) m n v
+abbrev pub TableChanges : {S : Type 0} → IndexMap (Bor (List ℕ)) ℕ S → IndexMap (Bor (List ℕ)) ℕ S → Word → Option ℕ → Type 0
+TableChanges m n x v = UpdatesBy (λ x y. bytes_eq x.now y.now) (λ k. bytes_eq x k.now) m n v
 
-pub entered : {S : Type 0} (m n : IndexMap (Bor (List ℕ)) ℕ S) (es : List Held) (e : Held) (number : ℕ) → KeepsTable m es → Changes m n e.word.now (Some number) → e.before ≡ number_of (spellings (reverse es)) e.word.now → number ≡ length es → length es + 1 < 2 ^ 32 → KeepsTable n (es ++ e ∷ [])
+pub entered : {S : Type 0} (m n : IndexMap (Bor (List ℕ)) ℕ S) (es : List Held) (e : Held) (number : ℕ) → KeepsTable m es → TableChanges m n e.word.now (Some number) → e.before ≡ number_of (spellings (reverse es)) e.word.now → number ≡ length es → length es + 1 < 2 ^ 32 → KeepsTable n (es ++ e ∷ [])
 entered m n es e number k u h p few = record {
   finds = λ w.
       hash_map_updates_str e.word.now m n (Some number) u w
@@ -36,7 +36,7 @@ entered m n es e number k u h p few = record {
 pub hidden_is : {S : Type 0} (m : IndexMap (Bor (List ℕ)) ℕ S) (es : List Held) (e : Held) → KeepsTable m (es ++ e ∷ []) → e.before ≡ number_of (spellings (reverse es)) e.word.now
 hidden_is m es e k = (subst Hide (reverse_push es e) k.hide).0
 
-pub left : {S : Type 0} (m n : IndexMap (Bor (List ℕ)) ℕ S) (es : List Held) (e : Held) → KeepsTable m (es ++ e ∷ []) → Changes m n e.word.now e.before → KeepsTable n es
+pub left : {S : Type 0} (m n : IndexMap (Bor (List ℕ)) ℕ S) (es : List Held) (e : Held) → KeepsTable m (es ++ e ∷ []) → TableChanges m n e.word.now e.before → KeepsTable n es
 left m n es e k u = record {
   finds = λ w. hash_map_updates_str e.word.now m n e.before u w ∙ ap (λ a. cond (bytes_eq e.word.now w) e.before a) (before w) ∙ shown w (bytes_eq e.word.now w) refl;
   hide = (subst Hide (reverse_push es e) k.hide).1;
@@ -74,8 +74,8 @@ pub pushed_names : (old new : List Held) (w : Word) (chain : ℕ) → IsPushed o
 pushed_names old new w chain p =
     ap (λ l. spellings (reverse l)) p.is ∙ ap spellings (reverse_push old p.held) ∙ ap (λ x. x ∷ spellings (reverse old)) p.word
 
-pub popped_names : (old new : List Held) → IsPopped old new → spellings (reverse new) ≡ outer (spellings (reverse old))
-popped_names old new p = sym (ap (λ l. outer (spellings (reverse l))) p.is ∙ ap (λ l. outer (spellings l)) (reverse_push new p.held))
+pub popped_names : (old new : List Held) → IsPopped old new → spellings (reverse new) ≡ outer_names (spellings (reverse old))
+popped_names old new p = sym (ap (λ l. outer_names (spellings (reverse l))) p.is ∙ ap (λ l. outer_names (spellings l)) (reverse_push new p.held))
 
 get_front : {A : Type 0} (xs ys : List A) (i : ℕ) (x : A) → slice_get xs i ≡ Some x → slice_get (xs ++ ys) i ≡ Some x
 get_front [] ys i x e = absurd (cc)
@@ -110,7 +110,7 @@ begin_pushed cs old new w chain b p e =
 pub begin_popped : (cs : List Names) (old new : List Held) → Begin cs (reverse old) → IsPopped old new → Begin cs (reverse new)
 begin_popped cs old new b p = (subst (Begin cs) (ap reverse p.is ∙ reverse_push new p.held) b).1
 
-pub cut_more : (xs : Names) (n : ℕ) → n < length xs → drop (length (outer xs) - n) (outer xs) ≡ drop (length xs - n) xs
+pub cut_more : (xs : Names) (n : ℕ) → n < length xs → drop (length (outer_names xs) - n) (outer_names xs) ≡ drop (length xs - n) xs
 cut_more [] n h = absurd (omega arith)
 cut_more (x ∷ xs) n h =
     let e : suc (length xs - n) ≡ length (x ∷ xs) - n = omega arith in
@@ -119,7 +119,7 @@ cut_more (x ∷ xs) n h =
 pub begin_bound : (cs ds : List Names) (old new : List Held) (w : Word) (chain outer : ℕ) (r : Result (Unit {0}) AllocError) → Begin cs (reverse old) → outer ≡ top (reverse old) → ds ≡ cs ++ (w ∷ chain_at cs outer) ∷ [] → chain ≡ length cs → OnOk r (IsPushed old new w chain) → OnErr r (new ≡ old) → Begin ds (reverse new)
 begin_bound cs ds old new w chain outer r b eo ed ec ok err =
     let xs = spellings (reverse old) in
-    let x : chain_at cs outer ≡ xs = ap (chain_at cs) eo ∙ ap found (top_is cs (reverse old) b) in
+    let x : chain_at cs outer ≡ xs = ap (chain_at cs) eo ∙ ap found_names (top_is cs (reverse old) b) in
     let d : ds ≡ cs ++ (w ∷ xs) ∷ [] = ed ∙ ap (λ l. cs ++ (w ∷ l) ∷ []) x in
     subst (λ l. Begin l (reverse new)) (sym d) (by r ok err)
   where

@@ -5,7 +5,7 @@ use Rattle.spi_scope.specs.declared.trail.Spelled.{Spelled}
 use Rattle.std.proofs.lemmas.List.{length-append, length-map, map_push, drop_more}
 use Rattle.spi_scope.specs.Scope.{Names}
 use Rattle.spi_scope.specs.declared.trail.Link.{Link}
-use Rattle.spi_scope.specs.Chains.{Pair, link, spelled, chain_at, longer, chains, LeadBack, all_at, AreNumbersBelow, found}
+use Rattle.spi_scope.specs.Chains.{Pair, link, spelled_pair, chain_at, longer, chains, LeadBack, all_at, AreNumbersBelow, found_names}
 
 longer_push : (cs : List Names) (ls : List Pair) (l : Pair) → longer cs (ls ++ l ∷ []) ≡ longer cs ls ++ (l.word ∷ chain_at (longer cs ls) l.outer) ∷ []
 longer_push cs [] l = refl
@@ -47,7 +47,7 @@ get_before (c ∷ cs) ds (suc i) h = get_before cs ds i (omega arith)
 
 pub all_before : (cs ds : List Names) (is : List ℕ) → AreNumbersBelow (length cs) is → all_at (cs ++ ds) is ≡ all_at cs is
 all_before cs ds [] b = refl
-all_before cs ds (i ∷ is) b = ap (λ x. found x ∷ all_at (cs ++ ds) is) (get_before cs ds i b.0) ∙ ap (λ l. chain_at cs i ∷ l) (all_before cs ds is b.1)
+all_before cs ds (i ∷ is) b = ap (λ x. found_names x ∷ all_at (cs ++ ds) is) (get_before cs ds i b.0) ∙ ap (λ l. chain_at cs i ∷ l) (all_before cs ds is b.1)
 
 longer_keeps : (cs : List Names) (ls : List Pair) (i : ℕ) → i < length cs → slice_get (longer cs ls) i ≡ slice_get cs i
 longer_keeps cs [] i h = refl
@@ -69,7 +69,7 @@ longer_at cs (k ∷ ls) zero j l e g h =
     let within : length cs < length (cs ++ x ∷ []) = omega (arith, length-append cs (x ∷ [])) in
     let earlier : k.outer < length (cs ++ x ∷ []) = omega (arith, h.0, length-append cs (x ∷ [])) in
     ap (slice_get (longer (cs ++ x ∷ []) ls)) n ∙ longer_keeps (cs ++ x ∷ []) ls (length cs) within ∙ get_end cs x
-    ∙ ap (λ o. Some (k.word ∷ found o)) (sym (longer_keeps (cs ++ x ∷ []) ls k.outer earlier ∙ get_before cs (x ∷ []) k.outer h.0))
+    ∙ ap (λ o. Some (k.word ∷ found_names o)) (sym (longer_keeps (cs ++ x ∷ []) ls k.outer earlier ∙ get_before cs (x ∷ []) k.outer h.0))
     ∙ ap (λ (m : Pair). Some (m.word ∷ chain_at (longer (cs ++ x ∷ []) ls) m.outer)) same
 longer_at cs (k ∷ ls) (suc i) j l e g h =
     let x = k.word ∷ chain_at cs k.outer in
@@ -81,20 +81,20 @@ lead_at n [] i l g h = absurd (cc)
 lead_at n (k ∷ ls) zero l g h = let same : k ≡ l = cc in let e = ap (λ (m : Pair). m.outer) same in omega (arith, h.0, e)
 lead_at n (k ∷ ls) (suc i) l g h = omega (arith, lead_at (n + 1) ls i l g h.1)
 
-get_map : (xs : List Spelled) (i : ℕ) (x : Spelled) → i < length xs → x ≡ get_or xs i x → slice_get (map spelled xs) i ≡ Some (spelled x)
+get_map : (xs : List Spelled) (i : ℕ) (x : Spelled) → i < length xs → x ≡ get_or xs i x → slice_get (map spelled_pair xs) i ≡ Some (spelled_pair x)
 get_map [] i x h e = absurd (omega arith)
-get_map (y ∷ xs) zero x h e = ap (λ z. Some (spelled z)) (sym e)
+get_map (y ∷ xs) zero x h e = ap (λ z. Some (spelled_pair z)) (sym e)
 get_map (y ∷ xs) (suc i) x h e = get_map xs i x (omega arith) e
 
 -- a chain by its first link
-pub chain_step : (xs : List Spelled) (at i : ℕ) (x : Spelled) → at ≡ i + 1 → i < length xs → x ≡ get_or xs i x → LeadBack 1 (map spelled xs)
-    → (chain_at (chains (map spelled xs)) at ≡ x.word ∷ chain_at (chains (map spelled xs)) x.outer) × (x.outer < at)
+pub chain_step : (xs : List Spelled) (at i : ℕ) (x : Spelled) → at ≡ i + 1 → i < length xs → x ≡ get_or xs i x → LeadBack 1 (map spelled_pair xs)
+    → (chain_at (chains (map spelled_pair xs)) at ≡ x.word ∷ chain_at (chains (map spelled_pair xs)) x.outer) × (x.outer < at)
 chain_step xs at i x e h q b =
     let g = get_map xs i x h q in
-    (ap found (longer_at ([] ∷ []) (map spelled xs) i at (spelled x) (omega (arith, e)) g b), omega (arith, lead_at 1 (map spelled xs) i (spelled x) g b, e))
+    (ap found_names (longer_at ([] ∷ []) (map spelled_pair xs) i at (spelled_pair x) (omega (arith, e)) g b), omega (arith, lead_at 1 (map spelled_pair xs) i (spelled_pair x) g b, e))
 
-pub chain_none : (xs : List Spelled) → chain_at (chains (map spelled xs)) 0 ≡ []
-chain_none xs = ap found (longer_keeps ([] ∷ []) (map spelled xs) 0 (omega arith))
+pub chain_none : (xs : List Spelled) → chain_at (chains (map spelled_pair xs)) 0 ≡ []
+chain_none xs = ap found_names (longer_keeps ([] ∷ []) (map spelled_pair xs) 0 (omega arith))
 
 pub below_or : (n : ℕ) (is : List ℕ) (j d : ℕ) → AreNumbersBelow n is → j < length is → get_or is j d < n
 below_or n [] j d b h = absurd (omega arith)
@@ -109,11 +109,11 @@ all_or cs (k ∷ is) (suc j) d h = all_or cs is j d (omega arith)
 abbrev pub pair_of : List ℕ → ℕ → Pair
 pair_of w n = record { word = w; outer = n }
 
-pub copied_more : (new copied : List Spelled) (items : List Link) (i : ℕ) (x : Spelled) (d : Link) → new ≡ copied ++ x ∷ [] → i < length items → spelled x ≡ link (get_or items i d) → map spelled copied ++ map link (drop i items) ≡ map link items → map spelled new ++ map link (drop (i + 1) items) ≡ map link items
+pub copied_more : (new copied : List Spelled) (items : List Link) (i : ℕ) (x : Spelled) (d : Link) → new ≡ copied ++ x ∷ [] → i < length items → spelled_pair x ≡ link (get_or items i d) → map spelled_pair copied ++ map link (drop i items) ≡ map link items → map spelled_pair new ++ map link (drop (i + 1) items) ≡ map link items
 copied_more new copied items i x d n h e inv =
-    ap (λ l. map spelled l ++ map link (drop (i + 1) items)) n
-    ∙ ap (λ l. l ++ map link (drop (i + 1) items)) (map_push spelled copied x)
-    ∙ append_assoc (map spelled copied) (spelled x ∷ []) (map link (drop (i + 1) items))
-    ∙ ap (λ y. map spelled copied ++ y ∷ map link (drop (i + 1) items)) e
-    ∙ ap (λ l. map spelled copied ++ map link l) (sym (drop_more items i d h))
+    ap (λ l. map spelled_pair l ++ map link (drop (i + 1) items)) n
+    ∙ ap (λ l. l ++ map link (drop (i + 1) items)) (map_push spelled_pair copied x)
+    ∙ append_assoc (map spelled_pair copied) (spelled_pair x ∷ []) (map link (drop (i + 1) items))
+    ∙ ap (λ y. map spelled_pair copied ++ y ∷ map link (drop (i + 1) items)) e
+    ∙ ap (λ l. map spelled_pair copied ++ map link l) (sym (drop_more items i d h))
     ∙ inv

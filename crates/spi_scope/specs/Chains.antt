@@ -23,16 +23,16 @@ pub record Pair : Type 0 where
 abbrev pub link : Link → Pair
 link l = record { word = l.word.now; outer = l.outer }
 
-abbrev pub spelled : Spelled → Pair
-spelled l = record { word = l.word; outer = l.outer }
+abbrev pub spelled_pair : Spelled → Pair
+spelled_pair l = record { word = l.word; outer = l.outer }
 
-abbrev pub found : Option Names → Names
-found None = []
-found (Some xs) = xs
+abbrev pub found_names : Option Names → Names
+found_names None = []
+found_names (Some xs) = xs
 
 -- the chain with this number, and none where there isn't one
 abbrev pub chain_at : List Names → ℕ → Names
-chain_at cs i = found (slice_get cs i)
+chain_at cs i = found_names (slice_get cs i)
 
 -- the chains so far, and those of more links, each of which leads to an earlier chain
 abbrev pub longer : List Names → List Pair → List Names

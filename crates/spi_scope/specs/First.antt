@@ -5,9 +5,9 @@ use Rattle.spi_scope.specs.declared.fault.ScopeFault.{ScopeFault}
 use Rattle.spi_scope.specs.Points.{Point, fault_at, added, in_order, file_points}
 
 -- the running count behind these points
-abbrev pub count : List Point → ℕ
-count [] = 0
-count (p ∷ ps) = added p + count ps
+abbrev pub count_points : List Point → ℕ
+count_points [] = 0
+count_points (p ∷ ps) = added p + count_points ps
 
 -- nothing is wrong at these points, before the first of which the running count is c
 abbrev pub Clean : ℕ → List Point → Type 0
@@ -21,7 +21,7 @@ pub record IsFirst (points : List Point) (f : ScopeFault) : Type 0 where
   pub after : List Point
   pub cut : points ≡ before ++ at ∷ after
   pub clean : Clean 0 before
-  pub wrong : fault_at (count before) at ≡ Some f
+  pub wrong : fault_at (count_points before) at ≡ Some f
 
 -- nothing is wrong with the tree, and the first fault of the tree
 abbrev pub IsClean : t.File → Type 0

@@ -7,9 +7,9 @@ use Rattle.spi_scope.specs.Scope.{Names, number_of, Abbreviations, type_of}
 
 -- the name with this number, where s names are in scope: those below k are written by their numbers, and the others
 -- by the index of their binder
-abbrev pub named : ℕ → ℕ → Option ℕ → Message
-named k s None = unit
-named k s (Some x) = if nat_lt x k then name x else bound (s - suc x)
+abbrev pub name_meant : ℕ → ℕ → Option ℕ → Message
+name_meant k s None = unit
+name_meant k s (Some x) = if nat_lt x k then name x else bound (s - suc x)
 
 -- `(M, N, K)` is `(M, (N, K))`
 abbrev pub nested : Message → List Message → Message
@@ -19,7 +19,7 @@ nested m (n ∷ ns) = pair m (nested n ns)
 -- a message, with names below k by their numbers. No `#n` stands in it in a formed tree
 abbrev mutual
   pub message_in : ℕ → Names → t.Msg → Message
-  message_in k xs (t.name s w) = named k (length xs) (number_of xs w.word)
+  message_in k xs (t.name s w) = name_meant k (length xs) (number_of xs w.word)
   message_in k xs (t.unit s) = unit
   message_in k xs (t.tuple s a b ms) = nested (message_in k xs a) (message_in k xs b ∷ messages_in k xs ms)
   message_in k xs (t.inl s a) = in_left (message_in k xs a)

@@ -6,9 +6,9 @@ use Rattle.spi_text.specs.declared.lines.Span.{Span}
 abbrev pub nowhere : Span
 nowhere = record { from = 0; to = 0 }
 
-abbrev pub placed : Option Span → Span
-placed None = nowhere
-placed (Some s) = s
+abbrev pub or_nowhere : Option Span → Span
+or_nowhere None = nowhere
+or_nowhere (Some s) = s
 
 abbrev pub place_in : List Span → ℕ → Span
-place_in ss i = placed (slice_get ss i)
+place_in ss i = or_nowhere (slice_get ss i)

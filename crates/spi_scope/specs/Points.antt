@@ -104,13 +104,13 @@ abbrev pub type_nodes : Abbreviations → Names → t.Ty → ℕ
 type_nodes ts xs a = ty_nodes (type_in 0 ts xs a)
 
 -- an outermost message, or that of an atom
-abbrev pub whole_message : Names → t.Msg → Points
-whole_message xs m = message_points xs m ⨾ one (ends_message (msg_nodes xs m) (msg_span m))
+abbrev pub message_points_whole : Names → t.Msg → Points
+message_points_whole xs m = message_points xs m ⨾ one (ends_message (msg_nodes xs m) (msg_span m))
 
 abbrev pub atom_points : Names → t.Atom → Points
-atom_points xs (t.ends s m) = whole_message xs m
-atom_points xs (t.checks s m) = whole_message xs m
-atom_points xs (t.many s m) = whole_message xs m
+atom_points xs (t.ends s m) = message_points_whole xs m
+atom_points xs (t.checks s m) = message_points_whole xs m
+atom_points xs (t.many s m) = message_points_whole xs m
 
 abbrev pub atoms_points : Names → List t.Atom → Points
 atoms_points xs [] = none
@@ -144,7 +144,7 @@ whole_type ts xs a = bounded_type ts xs a ⨾ one (adds (type_nodes ts xs a) (ty
 
 -- an outermost message of a process: its size is tested at its last token, and is then added
 unfoldable pub part : Names → t.Msg → Points
-part xs m = whole_message xs m ⨾ one (adds (msg_nodes xs m) (msg_span m))
+part xs m = message_points_whole xs m ⨾ one (adds (msg_nodes xs m) (msg_span m))
 
 -- What stands before the processes of a form, of which the form's own addition is at its first token: a message, two, a
 -- message and an annotation, and so on.

@@ -29,6 +29,6 @@ type_of [] w = None
 type_of (t ∷ ts) w = if bytes_eq w t.word then Some t.stands_for else type_of ts w
 
 -- the names in scope outside the innermost one
-abbrev pub outer : Names → Names
-outer [] = []
-outer (x ∷ xs) = xs
+abbrev pub outer_names : Names → Names
+outer_names [] = []
+outer_names (x ∷ xs) = xs

@@ -1,7 +1,7 @@
 //! The nodes of a process in preorder.
 
 ghost use Rattle.std.specs.Prelude.{◌≡◌, ◌+◌, ◌<◌, [], ◌∷◌, ◌++◌, map, length, IfOk, IfErr, OnOk, slice_set};
-ghost use Rattle.spi_term.specs.View.{form_of, shape_of};
+ghost use Rattle.spi_term.specs.View.{shape_of_form, shape_of};
 ghost use Rattle.spi_scope.specs.declared.fault.ScopeFault.TheVariants.{NoMemory as OutOfMemory};
 
 use crate::NoMemory;
@@ -39,7 +39,7 @@ pub fn push(
     place: Span,
 ) -> Result<(), ScopeFault>
     ensures nodes { OnOk result
-        (map shape_of arena.new.nodes.items ≡ map shape_of arena.old.nodes.items ++ form_of base form ∷ []) }
+        (map shape_of arena.new.nodes.items ≡ map shape_of arena.old.nodes.items ++ shape_of_form base form ∷ []) }
     ensures len { OnOk result (length arena.new.nodes.items ≡ length arena.old.nodes.items + 1) }
     ensures places { OnOk result (arena.new.places.items ≡ arena.old.places.items ++ place ∷ []) }
     ensures names { OnOk result (scope.new.held.names ≡ scope.old.held.names) }
@@ -65,7 +65,7 @@ pub fn put<T: Drop>(place: &mut T, value: T)
 pub fn close(arena: &mut Arena, at: usize, base: u32, form: Form)
     requires { at < length arena.old.nodes.items }
     ensures nodes { map shape_of arena.new.nodes.items
-        ≡ slice_set (map shape_of arena.old.nodes.items) at (form_of base form) }
+        ≡ slice_set (map shape_of arena.old.nodes.items) at (shape_of_form base form) }
     ensures places { arena.new.places ≡ arena.old.places }
     ensures len { length arena.new.nodes.items ≡ length arena.old.nodes.items }
 {

@@ -2,11 +2,11 @@
 
 ghost use Rattle.std.specs.Prelude.{◌≡◌, ◌+◌, ◌≤◌, [], ◌∷◌, ◌++◌, map, IfOk, OnOk, Ok};
 ghost use Rattle.spi_tree.specs.Trees.{msgs_of_list, derivs_of_list};
-ghost use Rattle.spi_tree.specs.Views.{msg_of, atom_of, effect_of, deriv_of};
+ghost use Rattle.spi_tree.specs.Views.{msg_of, atom_of, tree_effect, deriv_of};
 ghost use Rattle.spi_term.specs.Term.{message_size};
 ghost use Rattle.spi_term.specs.Spelling.{stopped};
 ghost use Rattle.spi_term.specs.View.{message, atom};
-ghost use Rattle.spi_rules.specs.Deriv.{written, rule_use};
+ghost use Rattle.spi_rules.specs.Deriv.{effect_written, rule_use};
 ghost use Rattle.spi_scope.specs.Parts.{numbered_message, numbered_messages, numbered_atom, numbered_effect, rule_named, uses_in, all_uses_in, use_places, all_use_places};
 ghost use Rattle.spi_scope.specs.Points.{msg_span, numbered_points, numbered_atom_points, numbered_atoms_points, written_points, deriv_points, derivs_points};
 ghost use Rattle.spi_scope.specs.Gives.{GivesMeant, Goes, run};
@@ -140,8 +140,8 @@ fn read_written(
     count: u64,
     effect: &Option<Vec<SAtom>>,
 ) -> Result<Option<Effect>, ScopeFault>
-    ensures { GivesMeant written result (run (written_points (effect_of effect.now)) count) count
-        (numbered_effect (effect_of effect.now)) }
+    ensures { GivesMeant effect_written result (run (written_points (tree_effect effect.now)) count) count
+        (numbered_effect (tree_effect effect.now)) }
 {
     match effect {
         None => Ok(None),

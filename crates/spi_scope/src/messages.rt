@@ -7,7 +7,7 @@ ghost use Rattle.spi_term.specs.Term.{message_size, unit, pair};
 ghost use Rattle.spi_term.specs.View.{message};
 ghost use Rattle.spi_scope.specs.declared.fault.ScopeFault.TheVariants.{NoMemory as OutOfMemory};
 ghost use Rattle.spi_scope.specs.Scope.{number_of};
-ghost use Rattle.spi_scope.specs.Meaning.{named, nested, message_in, messages_in};
+ghost use Rattle.spi_scope.specs.Meaning.{name_meant, nested, message_in, messages_in};
 ghost use Rattle.spi_scope.specs.Points.{one, uses_name, message_points, messages_points};
 ghost use Rattle.spi_scope.specs.Gives.{CountsOn, run};
 ghost use Rattle.spi_scope.specs.State.{row_nodes};
@@ -22,7 +22,7 @@ use std::alloc::{AllocError, Global};
 /// The name with this number, of so many in scope.
 fn name_at(base: u32, scope: u32, number: u32) -> Msg
     requires { number < scope }
-    ensures { message result ≡ named base scope (Some number) }
+    ensures { message result ≡ name_meant base scope (Some number) }
 {
     if number < base {
         Msg::Name(number)
@@ -41,7 +41,7 @@ fn read_name(
 ) -> Result<(Msg, u64), ScopeFault>
     ensures { CountsOn message message_size result
         (run (one (uses_name scope.now.held.names word.now)) scope.now.count) scope.now.count spent
-        (named base (length scope.now.held.names) (number_of scope.now.held.names word.now.word)) }
+        (name_meant base (length scope.now.held.names) (number_of scope.now.held.names word.now.word)) }
 {
     let text = word.word.as_str();
     match scope.held.number(text) {

@@ -1,7 +1,7 @@
 //! The names in scope, with a table of the innermost name of each spelling.
 
 ghost use Rattle.std.specs.Prelude.{◌≡◌, ◌+◌, ◌-◌, ◌^◌, ◌<◌, drop, [], ◌∷◌, reverse, length, IfOk, OnOk, OnErr, IfSome};
-ghost use Rattle.spi_scope.specs.Scope.{number_of, outer};
+ghost use Rattle.spi_scope.specs.Scope.{number_of, outer_names};
 ghost use Rattle.spi_scope.specs.Table.{KeepsTable, IsPushed, IsPopped, top, with_names, noting};
 
 use crate::NoMemory;
@@ -153,7 +153,7 @@ impl<'t> Names<'t> {
     /// The innermost name goes out of scope.
     pub fn unbind(&mut self)
         requires { 0 < length self.old.names }
-        ensures { self.new ≡ with_names self.old (outer self.old.names) }
+        ensures { self.new ≡ with_names self.old (outer_names self.old.names) }
     {
         leave(&mut self.innermost, &mut self.hidden)
     }

@@ -1,7 +1,7 @@
 //! Chains of spellings that share what they have in common.
 
 ghost use Rattle.std.specs.Prelude.{◌≡◌, ◌<◌, ◌≤◌, [], ◌∷◌, ◌++◌, map, length, reverse, OnOk, OnErr, IfOk};
-ghost use Rattle.spi_scope.specs.Chains.{chain_at, spelled, chains, LeadBack};
+ghost use Rattle.spi_scope.specs.Chains.{chain_at, spelled_pair, chains, LeadBack};
 
 use crate::NoMemory;
 use spi_text::Text;
@@ -123,15 +123,15 @@ impl Model for Scopes {
     ghost use Rattle.std.specs.Coded.{coded_list};
     ghost use Rattle.spi_scope.specs.Scope.{Names};
     ghost use Rattle.spi_scope.specs.Table.{coded_names};
-    ghost use Rattle.spi_scope.specs.Chains.{spelled, chains, all_at, AreNumbersBelow, LeadBack};
+    ghost use Rattle.spi_scope.specs.Chains.{spelled_pair, chains, all_at, AreNumbersBelow, LeadBack};
 
     ghost Value = { List Names };
 
     ghost coded = { coded_list coded_names };
 
-    ghost view = { λ s. all_at (chains (map spelled s.links.items)) s.noted.items };
+    ghost view = { λ s. all_at (chains (map spelled_pair s.links.items)) s.noted.items };
 
-    ghost invariant = { λ s. LeadBack 1 (map spelled s.links.items)
+    ghost invariant = { λ s. LeadBack 1 (map spelled_pair s.links.items)
         × AreNumbersBelow (length s.links.items + 1) s.noted.items };
 }
 
@@ -150,9 +150,9 @@ impl Scopes {
 
 /// The spellings of a chain, the outermost first.
 fn spellings(alloc: Global, links: &[Spelled], chain: u32) -> Result<Vec<Text>, NoMemory>
-    requires lead_back { LeadBack 1 (map spelled links.now) }
+    requires lead_back { LeadBack 1 (map spelled_pair links.now) }
     requires within { chain ≤ length links.now }
-    ensures { IfOk result (λ v. v.items ≡ reverse (chain_at (chains (map spelled links.now)) chain)) }
+    ensures { IfOk result (λ v. v.items ≡ reverse (chain_at (chains (map spelled_pair links.now)) chain)) }
 {
     let mut found = Vec::new(alloc);
     let mut at = chain;

@@ -8,7 +8,7 @@ ghost use Rattle.spi_term.specs.Spelling.{atom_nodes, effect_nodes, ty_nodes, st
 ghost use Rattle.spi_term.specs.View.{message, atom, ty};
 ghost use Rattle.spi_scope.specs.Scope.{type_of};
 ghost use Rattle.spi_scope.specs.Meaning.{message_in, atom_in, effect_in, type_in, fields_in, last_in, behind, nested_types, known};
-ghost use Rattle.spi_scope.specs.Points.{msg_span, msg_nodes, one, uses_type, whole_message, atom_points, atoms_points, type_points, fields_points, last_points};
+ghost use Rattle.spi_scope.specs.Points.{msg_span, msg_nodes, one, uses_type, message_points_whole, atom_points, atoms_points, type_points, fields_points, last_points};
 ghost use Rattle.spi_scope.specs.Gives.{GivesMeant, CountsOn, run};
 ghost use Rattle.spi_scope.specs.State.{abbreviations, type_row_nodes};
 ghost use Rattle.spi_scope.specs.Table.{with_names};
@@ -47,7 +47,7 @@ pub fn read_whole(
 ) -> Result<(Msg, u64), ScopeFault>
     requires { span ≡ msg_span (msg_of m.now) }
     ensures gives { GivesMeant (λ x. message x.0) result
-        (run (whole_message scope.now.held.names (msg_of m.now)) scope.now.count) scope.now.count
+        (run (message_points_whole scope.now.held.names (msg_of m.now)) scope.now.count) scope.now.count
         (message_in base scope.now.held.names (msg_of m.now)) }
     ensures nodes { IfOk result
         (λ x. (x.1 ≡ msg_nodes scope.now.held.names (msg_of m.now))

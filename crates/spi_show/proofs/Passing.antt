@@ -8,19 +8,19 @@ use Rattle.spi_term.proofs.Numbers.{length_spelled}
 use Rattle.spi_show.specs.Terms.{message_text, type_text}
 use Rattle.spi_show.specs.Processes.{leaf_text, prefix_text, left_text, right_text, Standing, alone, sequel, is_output, process_text}
 use Rattle.spi_show.specs.declared.pieces.Piece as D
-use Rattle.spi_show.specs.Pieces.{ShownPiece, words, process, piece, tops, output_in, parts_of, pieces_at, first_text, first_pieces, node_after, piece_text, piece_parts, piece_after, IsPut}
+use Rattle.spi_show.specs.Pieces.{ShownPiece, words, process, piece, tops, output_in, parts_shown, pieces_at, first_text, first_pieces, node_after, piece_text, piece_parts, piece_after, IsPut}
 
 -- a process that is to come, with so many names in scope
-pub data Task : Type 0 where
-  task : Process → ℕ → Task
+pub data ShownTask : Type 0 where
+  task : Process → ℕ → ShownTask
 
 -- their nodes from place i on
-abbrev pub nodes_of : ℕ → List Task → List Shape
-nodes_of i [] = []
-nodes_of i (task q n ∷ ts) = flat i n q ++ nodes_of (i + process_size q) ts
+abbrev pub shown_nodes : ℕ → List ShownTask → List Shape
+shown_nodes i [] = []
+shown_nodes i (task q n ∷ ts) = flat i n q ++ shown_nodes (i + process_size q) ts
 
 -- what the pieces say, where these processes come in their places
-abbrev pub rest_text : (ℕ → List ℕ) → List ShownPiece → List Task → List ℕ
+abbrev pub rest_text : (ℕ → List ℕ) → List ShownPiece → List ShownTask → List ℕ
 rest_text spell [] ts = []
 rest_text spell (words w ∷ ps) ts = w ++ rest_text spell ps ts
 rest_text spell (process at ∷ ps) [] = rest_text spell ps []
@@ -28,8 +28,8 @@ rest_text spell (process at ∷ ps) (task q n ∷ ts) = process_text spell at n 
 
 -- the nodes before place i are written
 pub record GoesThrough (spell : ℕ → List ℕ) (ss : List Shape) (all : List ℕ) (i : ℕ) (ps : List ShownPiece) (out : List ℕ) : Type 0 where
-  pub tasks : List Task
-  pub nodes : drop i ss ≡ nodes_of i tasks
+  pub tasks : List ShownTask
+  pub nodes : drop i ss ≡ shown_nodes i tasks
   pub text : out ++ rest_text spell ps tasks ≡ all
 
 pub goes_start : (spell : ℕ → List ℕ) (k : ℕ) (q : Process) (out : List ℕ) → GoesThrough spell (flat 0 k q) (out ++ process_text spell alone k q) 0 (process alone ∷ []) out
@@ -40,11 +40,11 @@ goes_start spell k q out = record {
 }
 
 -- the node at a place is the first one from there on
-abbrev first_of : List Shape → Option Shape
-first_of [] = None
-first_of (x ∷ ss) = Some x
+abbrev first_shape : List Shape → Option Shape
+first_shape [] = None
+first_shape (x ∷ ss) = Some x
 
-get_first : (ss : List Shape) (i : ℕ) → slice_get ss i ≡ first_of (drop i ss)
+get_first : (ss : List Shape) (i : ℕ) → slice_get ss i ≡ first_shape (drop i ss)
 get_first [] zero = refl
 get_first [] (suc i) = refl
 get_first (x ∷ ss) zero = refl
@@ -58,7 +58,7 @@ drop_next (y ∷ ss) (suc i) x r h =
     let n : suc i + 1 ≡ suc (i + 1) = omega arith in
     ap (λ m. drop m (y ∷ ss)) n ∙ drop_next ss i x r h
 
-output_first : (p : Process) (i n : ℕ) (more : List Shape) → output_in (first_of (flat i n p ++ more)) ≡ is_output p
+output_first : (p : Process) (i n : ℕ) (more : List Shape) → output_in (first_shape (flat i n p ++ more)) ≡ is_output p
 output_first (leaf (Sends a b)) i n more = refl
 output_first (leaf Stops) i n more = refl
 output_first (prefix s p) i n more = refl
@@ -67,32 +67,32 @@ output_first (fork f p q) i n more = refl
 flat_at : (p : Process) {i j k n : ℕ} → i ≡ j → k ≡ n → flat i k p ≡ flat j n p
 flat_at p {i} {j} {k} {n} h g = ap (λ i. flat i k p) h ∙ ap (λ k. flat j k p) g
 
-nodes_at : (ts : List Task) {i j : ℕ} → i ≡ j → nodes_of i ts ≡ nodes_of j ts
-nodes_at ts h = ap (λ i. nodes_of i ts) h
+nodes_at : (ts : List ShownTask) {i j : ℕ} → i ≡ j → shown_nodes i ts ≡ shown_nodes j ts
+nodes_at ts h = ap (λ i. shown_nodes i ts) h
 
 four : (out a b c d r : List ℕ) → (out ++ a) ++ (b ++ (c ++ (d ++ r))) ≡ out ++ ((a ++ (b ++ (c ++ d))) ++ r)
 four out a b c d r =
     append_assoc out a (b ++ (c ++ (d ++ r)))
     ∙ ap (λ l. out ++ l) (sym (append_assoc a (b ++ (c ++ d)) r ∙ ap (λ l. a ++ l) (append_assoc b (c ++ d) r ∙ ap (λ l. b ++ l) (append_assoc c d r))))
 
-module _ (spell : ℕ → List ℕ) (ss : List Shape) (all : List ℕ) (i : ℕ) (n : ℕ) (ts : List Task) (ps : List ShownPiece) (out : List ℕ) where
+module _ (spell : ℕ → List ℕ) (ss : List Shape) (all : List ℕ) (i : ℕ) (n : ℕ) (ts : List ShownTask) (ps : List ShownPiece) (out : List ℕ) where
   abbrev Next : Standing → Bool → Option Shape → Type 0
   Next at output o = GoesThrough spell ss all (node_after i o) (first_pieces spell at output o ++ ps) (out ++ first_text spell at output o)
 
   abbrev rest : List ℕ
   rest = rest_text spell ps ts
 
-  next_leaf : (l : Leaf) (at : Standing) (o : Bool) → drop i ss ≡ nodes_of i (task (leaf l) n ∷ ts) → out ++ (leaf_text spell n l ++ rest) ≡ all → Next at o (Some (leaf_at n l))
+  next_leaf : (l : Leaf) (at : Standing) (o : Bool) → drop i ss ≡ shown_nodes i (task (leaf l) n ∷ ts) → out ++ (leaf_text spell n l ++ rest) ≡ all → Next at o (Some (leaf_at n l))
   next_leaf l at o h t = record {
     tasks = ts;
-    nodes = drop_next ss i (leaf_at n l) (nodes_of (i + 1) ts) h;
+    nodes = drop_next ss i (leaf_at n l) (shown_nodes (i + 1) ts) h;
     text = append_assoc out (leaf_text spell n l) rest ∙ t;
   }
 
-  next_prefix : (s : Prefix) (p : Process) (at : Standing) (o : Bool) → drop i ss ≡ nodes_of i (task (prefix s p) n ∷ ts) → out ++ ((prefix_text spell n s ++ process_text spell sequel (n + binds s) p) ++ rest) ≡ all → Next at o (Some (prefix_at n s (suc i)))
+  next_prefix : (s : Prefix) (p : Process) (at : Standing) (o : Bool) → drop i ss ≡ shown_nodes i (task (prefix s p) n ∷ ts) → out ++ ((prefix_text spell n s ++ process_text spell sequel (n + binds s) p) ++ rest) ≡ all → Next at o (Some (prefix_at n s (suc i)))
   next_prefix s p at o h t =
       let m = n + binds s in
-      let more = nodes_of (i + suc (process_size p)) ts in
+      let more = shown_nodes (i + suc (process_size p)) ts in
       let a : suc i ≡ i + 1 = omega arith in
       let z : i + suc (process_size p) ≡ i + 1 + process_size p = omega arith in
       let x = prefix_text spell n s in
@@ -106,7 +106,7 @@ module _ (spell : ℕ → List ℕ) (ss : List Shape) (all : List ℕ) (i : ℕ)
         text = append_assoc out x (y ++ rest) ∙ ap (λ l. out ++ l) (sym (append_assoc x y rest)) ∙ t;
       }
 
-  fork_nodes : (f : Fork) (p q : Process) (m : ℕ) → n + fork_binds f ≡ m → drop i ss ≡ nodes_of i (task (fork f p q) n ∷ ts) → drop (i + 1) ss ≡ nodes_of (i + 1) (task p m ∷ (task q m ∷ ts))
+  fork_nodes : (f : Fork) (p q : Process) (m : ℕ) → n + fork_binds f ≡ m → drop i ss ≡ shown_nodes i (task (fork f p q) n ∷ ts) → drop (i + 1) ss ≡ shown_nodes (i + 1) (task p m ∷ (task q m ∷ ts))
   fork_nodes f p q m e h =
       let k = n + fork_binds f in
       let a : suc i ≡ i + 1 = omega arith in
@@ -114,7 +114,7 @@ module _ (spell : ℕ → List ℕ) (ss : List Shape) (all : List ℕ) (i : ℕ)
       let z : i + suc (process_size p + process_size q) ≡ i + 1 + process_size p + process_size q = omega arith in
       let fp = flat (suc i) k p in
       let fq = flat (suc i + process_size p) k q in
-      let more = nodes_of (i + suc (process_size p + process_size q)) ts in
+      let more = shown_nodes (i + suc (process_size p + process_size q)) ts in
       drop_next ss i (fork_at n f (suc i) (suc i + process_size p)) ((fp ++ fq) ++ more) h
       ∙ append_assoc fp fq more
       ∙ ap (λ l. l ++ (fq ++ more)) (flat_at p a e)
@@ -124,7 +124,7 @@ module _ (spell : ℕ → List ℕ) (ss : List Shape) (all : List ℕ) (i : ℕ)
   abbrev text_of : Standing → Process → List ℕ
   text_of at p = process_text spell at n p
 
-  par_sequel : (p q : Process) (w : Bool) → drop (i + 1) ss ≡ nodes_of (i + 1) (task p n ∷ (task q n ∷ ts)) → out ++ ((if w then text_of sequel p ++ (codes "; " ++ text_of sequel q) else codes "(" ++ (text_of sequel p ++ (codes " | " ++ (text_of alone q ++ codes ")")))) ++ rest) ≡ all → Next sequel w (Some (fork_at n Pars (suc i) (suc i + process_size p)))
+  par_sequel : (p q : Process) (w : Bool) → drop (i + 1) ss ≡ shown_nodes (i + 1) (task p n ∷ (task q n ∷ ts)) → out ++ ((if w then text_of sequel p ++ (codes "; " ++ text_of sequel q) else codes "(" ++ (text_of sequel p ++ (codes " | " ++ (text_of alone q ++ codes ")")))) ++ rest) ≡ all → Next sequel w (Some (fork_at n Pars (suc i) (suc i + process_size p)))
   par_sequel p q true h t = record {
     tasks = task p n ∷ (task q n ∷ ts);
     nodes = h;
@@ -139,7 +139,7 @@ module _ (spell : ℕ → List ℕ) (ss : List Shape) (all : List ℕ) (i : ℕ)
         ∙ t;
   }
 
-  next_cases : (f : Fork) (p q : Process) (at : Standing) (o : Bool) → o ≡ is_output p → drop i ss ≡ nodes_of i (task (fork f p q) n ∷ ts) → out ++ (text_of at (fork f p q) ++ rest) ≡ all → Next at o (Some (fork_at n f (suc i) (suc i + process_size p)))
+  next_cases : (f : Fork) (p q : Process) (at : Standing) (o : Bool) → o ≡ is_output p → drop i ss ≡ shown_nodes i (task (fork f p q) n ∷ ts) → out ++ (text_of at (fork f p q) ++ rest) ≡ all → Next at o (Some (fork_at n f (suc i) (suc i + process_size p)))
   next_cases (Branches m t u) p q at o w h g = record {
     tasks = task p (n + 1) ∷ (task q (n + 1) ∷ ts);
     nodes = fork_nodes (Branches m t u) p q (n + 1) refl h;
@@ -155,28 +155,28 @@ module _ (spell : ℕ → List ℕ) (ss : List Shape) (all : List ℕ) (i : ℕ)
   next_cases Pars p q sequel o w h g =
       subst (λ o. Next sequel o (Some (fork_at n Pars (suc i) (suc i + process_size p)))) (sym w) (par_sequel p q (is_output p) (fork_nodes Pars p q n (omega arith) h) g)
 
-  next_fork : (f : Fork) (p q : Process) (at : Standing) → drop i ss ≡ nodes_of i (task (fork f p q) n ∷ ts) → out ++ (text_of at (fork f p q) ++ rest) ≡ all → Next at (output_in (slice_get ss (i + 1))) (Some (fork_at n f (suc i) (suc i + process_size p)))
+  next_fork : (f : Fork) (p q : Process) (at : Standing) → drop i ss ≡ shown_nodes i (task (fork f p q) n ∷ ts) → out ++ (text_of at (fork f p q) ++ rest) ≡ all → Next at (output_in (slice_get ss (i + 1))) (Some (fork_at n f (suc i) (suc i + process_size p)))
   next_fork f p q at h g =
       let m = n + fork_binds f in
-      let w = ap output_in (get_first ss (i + 1) ∙ ap first_of (fork_nodes f p q m refl h)) ∙ output_first p (i + 1) m (nodes_of (i + 1 + process_size p) (task q m ∷ ts)) in
+      let w = ap output_in (get_first ss (i + 1) ∙ ap first_shape (fork_nodes f p q m refl h)) ∙ output_first p (i + 1) m (shown_nodes (i + 1 + process_size p) (task q m ∷ ts)) in
       next_cases f p q at (output_in (slice_get ss (i + 1))) w h g
 
-  next_by : (q : Process) (at : Standing) → drop i ss ≡ nodes_of i (task q n ∷ ts) → out ++ (text_of at q ++ rest) ≡ all → Next at (output_in (slice_get ss (i + 1))) (first_of (drop i ss))
+  next_by : (q : Process) (at : Standing) → drop i ss ≡ shown_nodes i (task q n ∷ ts) → out ++ (text_of at q ++ rest) ≡ all → Next at (output_in (slice_get ss (i + 1))) (first_shape (drop i ss))
   next_by (leaf l) at h g =
       let o = output_in (slice_get ss (i + 1)) in
-      subst (Next at o) (sym (ap first_of h)) (next_leaf l at o h g)
+      subst (Next at o) (sym (ap first_shape h)) (next_leaf l at o h g)
   next_by (prefix s p) at h g =
       let o = output_in (slice_get ss (i + 1)) in
-      subst (Next at o) (sym (ap first_of h)) (next_prefix s p at o h g)
+      subst (Next at o) (sym (ap first_shape h)) (next_prefix s p at o h g)
   next_by (fork f p q) at h g =
       let o = output_in (slice_get ss (i + 1)) in
-      subst (Next at o) (sym (ap first_of h)) (next_fork f p q at h g)
+      subst (Next at o) (sym (ap first_shape h)) (next_fork f p q at h g)
 
 -- a process is begun
-next_process : (spell : ℕ → List ℕ) (ss : List Shape) (all : List ℕ) (i : ℕ) (at : Standing) (ps : List ShownPiece) (out : List ℕ) (ts : List Task) → drop i ss ≡ nodes_of i ts → out ++ rest_text spell (process at ∷ ps) ts ≡ all → Next spell ss all i 0 [] ps out at (output_in (slice_get ss (i + 1))) (first_of (drop i ss))
+next_process : (spell : ℕ → List ℕ) (ss : List Shape) (all : List ℕ) (i : ℕ) (at : Standing) (ps : List ShownPiece) (out : List ℕ) (ts : List ShownTask) → drop i ss ≡ shown_nodes i ts → out ++ rest_text spell (process at ∷ ps) ts ≡ all → Next spell ss all i 0 [] ps out at (output_in (slice_get ss (i + 1))) (first_shape (drop i ss))
 next_process spell ss all i at ps out [] h g =
     let o = output_in (slice_get ss (i + 1)) in
-    subst (Next spell ss all i 0 [] ps out at o) (sym (ap first_of h)) (record {
+    subst (Next spell ss all i 0 [] ps out at o) (sym (ap first_shape h)) (record {
       tasks = [];
       nodes = h;
       text = ap (λ l. l ++ rest_text spell ps []) (append-nil out) ∙ g;
@@ -194,7 +194,7 @@ goes_next {spell} {ss} {all} {i} {j} {rest} {after} {old} {new} x g p =
         subst (λ o. GoesThrough spell ss all (node_after i o) (first_pieces spell at (output_in (slice_get ss (i + 1))) o ++ rest) (old ++ first_text spell at (output_in (slice_get ss (i + 1))) o)) (sym (get_first ss i)) (next_process spell ss all i at rest old g.tasks g.nodes g.text)
 
 -- each node brings four pieces at most
-few_parts : (at : Standing) (output : Bool) → length (parts_of at output) ≤ 4
+few_parts : (at : Standing) (output : Bool) → length (parts_shown at output) ≤ 4
 few_parts alone output = omega arith
 few_parts sequel true = omega arith
 few_parts sequel false = omega arith

@@ -12,7 +12,7 @@ use Rattle.std.proofs.lemmas.List.{append_cancel_left, take_more, length-take-le
 use Rattle.std.proofs.lemmas.List.Elements.{Contains-append_left, Contains-push, Contains-push_cases}
 use Rattle.std.proofs.lemmas.List.Sorted.{Contains-permutation, IsPermutation-sym, length_permutation}
 use Rattle.spi_show.specs.Spelled.{IsApart, IsShift, IsNumbered, IsLeastBehind}
-use Rattle.spi_show.specs.Shifts.{IsDecimal, IsNumber, with_number, IsNumberTaken, AreWordNumbers, IsSwept, IsLeastBeside}
+use Rattle.spi_show.specs.Shifts.{IsDecimal, IsNumber, with_least, IsNumberTaken, AreWordNumbers, IsSwept, IsLeastBeside}
 
 -- a number by its digits
 pub no_digits : {E : Type 0} (ds : List ℕ) (e : E) (r : Result ℕ E) → r ≡ Err e → ParsesUnsigned 128 10 ds r → IsDecimal ds None
@@ -63,7 +63,7 @@ get_at [] i x e l = absurd (omega arith)
 get_at (y ∷ xs) zero x e l = ap Some (sym e)
 get_at (y ∷ xs) (suc i) x e l = get_at xs i x e (omega arith)
 
-pub numbers_next : (prefix : List ℕ) (words : List (List ℕ)) (i : ℕ) (old new : List ℕ) (w : List ℕ) (o : Option ℕ) → AreWordNumbers prefix words i old → w ≡ get_or words i w → i < length words → IsNumber prefix w o → new ≡ with_number old o → AreWordNumbers prefix words (i + 1) new
+pub numbers_next : (prefix : List ℕ) (words : List (List ℕ)) (i : ℕ) (old new : List ℕ) (w : List ℕ) (o : Option ℕ) → AreWordNumbers prefix words i old → w ≡ get_or words i w → i < length words → IsNumber prefix w o → new ≡ with_least old o → AreWordNumbers prefix words (i + 1) new
 numbers_next prefix words i old new w o a e l d f = subst (AreWordNumbers prefix words (i + 1)) (sym f) (by o d)
   where
     at : slice_get words i ≡ Some w
@@ -79,7 +79,7 @@ numbers_next prefix words i old new w o a e l d f = subst (AreWordNumbers prefix
         unsome : {x y : List ℕ} → Some x ≡ Some y → x ≡ y
         unsome q = cc
 
-    by : (o : Option ℕ) → IsNumber prefix w o → AreWordNumbers prefix words (i + 1) (with_number old o)
+    by : (o : Option ℕ) → IsNumber prefix w o → AreWordNumbers prefix words (i + 1) (with_least old o)
     by None d = record {
       told = λ n l. (λ c. more n ((a.told n l).0 c), λ t. ⊎_elim (λ s. (a.told n l).1 s) (λ q. absurd (cc ((d n l).1 q))) (last n t));
       few = omega (arith, a.few);

@@ -1,7 +1,7 @@
 -- The text of a derivation.
 use Rattle.std.specs.Prelude.{ℕ, List, [], ◌∷◌, ◌++◌, codes, Option, Some, None}
 use Rattle.spi_term.specs.Term.{Effect}
-use Rattle.spi_rules.specs.Rule.{spelled}
+use Rattle.spi_rules.specs.Rule.{rule_spelled}
 use Rattle.spi_rules.specs.Derivations.{RuleUse}
 use Rattle.spi_show.specs.Spelled.{numbered_text}
 use Rattle.spi_show.specs.Terms.{effect_text}
@@ -13,7 +13,7 @@ taken_text (Some es) = codes " " ++ effect_text numbered_text 0 es
 
 -- a line for each rule use, in preorder
 abbrev pub use_text : RuleUse → List ℕ
-use_text u = spelled u.rule ++ (taken_text u.taken ++ codes "\n")
+use_text u = rule_spelled u.rule ++ (taken_text u.taken ++ codes "\n")
 
 abbrev pub uses_text : List RuleUse → List ℕ
 uses_text [] = []

@@ -22,12 +22,12 @@ free_text [] = []
 free_text (w ∷ ws) = codes "free " ++ (w ++ (words_text ws ++ codes ";\n"))
 
 -- a process on one line
-abbrev pub line_text : (ℕ → List ℕ) → Spelling → List ℕ
-line_text spell p = process_text spell alone p.names p.process ++ codes "\n"
+abbrev pub spelling_line : (ℕ → List ℕ) → Spelling → List ℕ
+spelling_line spell p = process_text spell alone p.names p.process ++ codes "\n"
 
 abbrev pub opponent_text : (ℕ → List ℕ) → Option Spelling → List ℕ
 opponent_text spell None = []
-opponent_text spell (Some p) = codes "opponent " ++ line_text spell p
+opponent_text spell (Some p) = codes "opponent " ++ spelling_line spell p
 
 abbrev pub schedule_part : Option (List Step) → List ℕ
 schedule_part None = []
@@ -41,7 +41,7 @@ derivation_part (Some uses) = derivation_text uses
 abbrev pub file_text : ℕ → Meant → List ℕ
 file_text s f =
     version_text f.version
-    ++ (free_text f.names ++ (codes "process " ++ (line_text (name_text s f.names) f.process
+    ++ (free_text f.names ++ (codes "process " ++ (spelling_line (name_text s f.names) f.process
     ++ (opponent_text (name_text s f.names) f.opponent
     ++ (schedule_part f.schedule ++ derivation_part f.derivation)))))
 

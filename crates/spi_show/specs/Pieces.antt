@@ -54,9 +54,9 @@ head_text spell at output (fork_at n (Branches m t u) a r) =
 head_text spell at output (fork_at n Pars a r) = open_text at output
 
 -- the pieces of a parallel composition behind that
-abbrev pub parts_of : Standing → Bool → List ShownPiece
-parts_of alone output = process sequel ∷ (words (codes " | ") ∷ (process alone ∷ []))
-parts_of sequel output =
+abbrev pub parts_shown : Standing → Bool → List ShownPiece
+parts_shown alone output = process sequel ∷ (words (codes " | ") ∷ (process alone ∷ []))
+parts_shown sequel output =
     if output then process sequel ∷ (words (codes "; ") ∷ (process sequel ∷ []))
     else (process sequel ∷ (words (codes " | ") ∷ (process alone ∷ (words (codes ")") ∷ []))))
 
@@ -66,7 +66,7 @@ pieces_at spell at output (leaf_at n l) = []
 pieces_at spell at output (prefix_at n s b) = process sequel ∷ []
 pieces_at spell at output (fork_at n (Branches m t u) a r) =
     process sequel ∷ (words (right_text spell n (type_text spell n u)) ∷ (process sequel ∷ []))
-pieces_at spell at output (fork_at n Pars a r) = parts_of at output
+pieces_at spell at output (fork_at n Pars a r) = parts_shown at output
 
 -- the same where a node is the next one, or none is left
 abbrev pub first_text : (ℕ → List ℕ) → Standing → Bool → Option Shape → List ℕ

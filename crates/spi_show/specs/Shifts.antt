@@ -11,9 +11,9 @@ IsDecimal ds o = (n : ℕ) → n < 2 ^ 128 → ((o ≡ Some n) ↔ (ds ≡ decim
 abbrev pub IsNumber : List ℕ → List ℕ → Option ℕ → Type 0
 IsNumber prefix word o = (n : ℕ) → n < 2 ^ 128 → ((o ≡ Some n) ↔ (word ≡ prefix ++ decimal n))
 
-abbrev pub with_number : List ℕ → Option ℕ → List ℕ
-with_number ns None = ns
-with_number ns (Some n) = ns ++ n ∷ []
+abbrev pub with_least : List ℕ → Option ℕ → List ℕ
+with_least ns None = ns
+with_least ns (Some n) = ns ++ n ∷ []
 
 -- one of the first i words has the number n
 abbrev pub IsNumberTaken : List ℕ → List (List ℕ) → ℕ → ℕ → Type 0

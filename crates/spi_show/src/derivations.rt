@@ -1,7 +1,7 @@
 // The text of a derivation.
 
 ghost use Rattle.std.specs.Prelude.{◌≡◌, ◌++◌, map, IfOk, OnOk};
-ghost use Rattle.spi_rules.specs.Deriv.{rule_use, rule_uses, written};
+ghost use Rattle.spi_rules.specs.Deriv.{rule_use, rule_uses, effect_written};
 ghost use Rattle.spi_show.specs.Derivations.{taken_text, use_text, uses_text, derivation_text};
 
 use crate::NoMemory;
@@ -13,7 +13,7 @@ use std::alloc::Global;
 
 // The effect that is written at a use, behind a space.
 fn put_taken(alloc: Global, taken: &Option<Effect>, out: &mut Vec<u8>) -> Result<(), NoMemory>
-    ensures { OnOk result (out.new.items ≡ out.old.items ++ taken_text (written taken.now)) }
+    ensures { OnOk result (out.new.items ≡ out.old.items ++ taken_text (effect_written taken.now)) }
 {
     match taken {
         None => Ok(()),

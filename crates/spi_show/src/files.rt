@@ -3,7 +3,7 @@
 ghost use Rattle.std.specs.Prelude.{◌≡◌, ◌++◌, IfOk, OnOk};
 ghost use Rattle.spi_scope.specs.Files.{meant, steps_in, uses_of};
 ghost use Rattle.spi_show.specs.Spells.{spelling};
-ghost use Rattle.spi_show.specs.Files.{version_text, words_text, free_text, line_text, opponent_text, schedule_part, derivation_part, file_text, IsCanonicalText};
+ghost use Rattle.spi_show.specs.Files.{version_text, words_text, free_text, spelling_line, opponent_text, schedule_part, derivation_part, file_text, IsCanonicalText};
 
 use crate::NoMemory;
 use crate::derivations::show_derivation;
@@ -60,7 +60,7 @@ fn put_line(
     process: &Process,
     out: &mut Vec<u8>,
 ) -> Result<(), NoMemory>
-    ensures { OnOk result (out.new.items ≡ out.old.items ++ line_text (spelling spell.now) process.now) }
+    ensures { OnOk result (out.new.items ≡ out.old.items ++ spelling_line (spelling spell.now) process.now) }
 {
     put_process(alloc, spell, process, out)?;
     out.extend_from_slice(b"\n")

@@ -1,7 +1,7 @@
 // The report form of messages and atoms.
 ghost use Rattle.std.specs.Prelude.{◌≡◌, ◌++◌, IfOk, OnOk, slice_get};
 ghost use Rattle.spi_term.specs.View.{message, atom};
-ghost use Rattle.spi_show.specs.Report.{name_text, message_text, atom_text};
+ghost use Rattle.spi_show.specs.Report.{reported_name, message_text, reported_atom};
 
 use crate::NoMemory;
 use spi_term::{Atom, Msg};
@@ -10,7 +10,7 @@ use std::alloc::Global;
 
 // Appends a name.
 fn put_name(alloc: Global, out: &mut Vec<u8>, names: &[Text], x: u32) -> Result<(), NoMemory>
-    ensures { OnOk result (out.new.items ≡ out.old.items ++ name_text (slice_get names.now x) x) }
+    ensures { OnOk result (out.new.items ≡ out.old.items ++ reported_name (slice_get names.now x) x) }
 {
     match names.get(x as usize) {
         Some(spelling) => out.extend_from_slice(spelling.as_str().as_bytes()),
@@ -68,7 +68,7 @@ pub fn show_message(alloc: Global, names: &[Text], m: &Msg) -> Result<Vec<u8>, N
 
 /// The report form of an atom: `end M`, `check M` or `many M`, with the report form of its message.
 pub fn show_atom(alloc: Global, names: &[Text], a: &Atom) -> Result<Vec<u8>, NoMemory>
-    ensures { IfOk result (λ v. v.items ≡ atom_text names.now (atom a.now)) }
+    ensures { IfOk result (λ v. v.items ≡ reported_atom names.now (atom a.now)) }
 {
     let mut out = Vec::new(alloc);
     match a {

@@ -4,7 +4,7 @@ ghost use Rattle.std.specs.Prelude.{◌≡◌, ◌≢◌, List, ℕ, ◌++◌, �
 ghost use Rattle.std.specs.Fmt.{decimal};
 ghost use Rattle.std.specs.List.Sorted.{IsNonDecreasing};
 ghost use Rattle.spi_show.specs.Spelled.{IsShift, IsLeastBehind};
-ghost use Rattle.spi_show.specs.Shifts.{IsDecimal, IsNumber, with_number, AreWordNumbers, IsSwept, IsLeastBeside};
+ghost use Rattle.spi_show.specs.Shifts.{IsDecimal, IsNumber, with_least, AreWordNumbers, IsSwept, IsLeastBeside};
 
 use crate::NoMemory;
 use crate::spell::Shift;
@@ -53,7 +53,7 @@ fn number_in(alloc: Global, word: &str, prefix: &str) -> Result<Option<u128>, No
 }
 
 fn keep(number: Option<u128>, numbers: &mut Vec<u128>) -> Result<(), NoMemory>
-    ensures { OnOk result (numbers.new.items ≡ with_number numbers.old.items number) }
+    ensures { OnOk result (numbers.new.items ≡ with_least numbers.old.items number) }
 {
     match number {
         None => Ok(()),

@@ -18,7 +18,7 @@ use Rattle.spi_sound.proofs.Opponents.{all_un_untrusted, opponent_derivable, len
 use Rattle.spi_sound.proofs.Weakening.{pays_lifted}
 use Rattle.spi_sound.proofs.Places.{pay_none, pay_one}
 use Rattle.spi_sound.proofs.BalanceOfActs.{Books, scoped}
-use Rattle.spi_sound.proofs.BalanceOfSteps.{Held, held_step}
+use Rattle.spi_sound.proofs.BalanceOfSteps.{HeldByPlaces, held_step}
 
 -- how often a label stands in a list
 abbrev how_many : Message → List Message → ℕ
@@ -72,7 +72,7 @@ many_event a b (ended_many l) {es} k ih (x ∷ early) late m f =
     ⊎_elim (λ i. inl (in_later i)) (λ i. inr (subst (λ ms. In m ms) k.1 i)) (ih early late m cc)
 
 -- along a run from places that pay
-run_paid : {c d : Configuration} {ss : List Step} {es : List Event} {a : Account} → Held c.places a → length a.types ≡ c.names → Runs c ss es d → PaidFrom a.begun es
+run_paid : {c d : Configuration} {ss : List Step} {es : List Event} {a : Account} → HeldByPlaces c.places a → length a.types ≡ c.names → Runs c ss es d → PaidFrom a.begun es
 run_paid h f runs_none [] late m g = zero-le
 run_paid h f runs_none (x ∷ early) late m g = cc
 run_paid {es = es} {a = a} h f (runs_silent t r) early late m g =
@@ -82,7 +82,7 @@ run_paid {a = a} h f (runs_event {e = e} t r) early late m g =
     let after = held_step h f t in
     paid_event a after.account e after.books (run_paid after.held after.names r) early late m g
 
-run_many : {c d : Configuration} {ss : List Step} {es : List Event} {a : Account} → Held c.places a → length a.types ≡ c.names → Runs c ss es d → ManyFrom a.ever es
+run_many : {c d : Configuration} {ss : List Step} {es : List Event} {a : Account} → HeldByPlaces c.places a → length a.types ≡ c.names → Runs c ss es d → ManyFrom a.ever es
 run_many h f runs_none [] late m g = cc
 run_many h f runs_none (x ∷ early) late m g = cc
 run_many {es = es} {a = a} h f (runs_silent t r) early late m g =
@@ -116,7 +116,7 @@ derivable_pays k n p le d =
     lower b = let h = at_below b in let e = length_untrusted k in let f = length_untrusted n in omega arith
 
 -- the places at the start
-pub held_first : (k n : ℕ) (p o : Process) → k ≤ n → Derivable (untrusted k) p [] → IsOpponent o → ProcessOver n p → ProcessOver n o → Held (p ∷ o ∷ []) (first_account n)
+pub held_first : (k n : ℕ) (p o : Process) → k ≤ n → Derivable (untrusted k) p [] → IsOpponent o → ProcessOver n p → ProcessOver n o → HeldByPlaces (p ∷ o ∷ []) (first_account n)
 held_first k n p o le d io op oo =
     let e = sym (length_untrusted n) in
     record {

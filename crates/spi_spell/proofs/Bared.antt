@@ -10,7 +10,7 @@ use Rattle.spi_scope.specs.declared.fault.ScopeFault.{ScopeFault}
 use Rattle.spi_scope.specs.Scope.{Names, Abbreviations}
 use Rattle.spi_scope.specs.Meaning.{message_in, messages_in, atom_in, effect_in, behind, type_in, fields_in, last_in, process_in}
 use Rattle.spi_scope.specs.Parts.{step_in, step_span, numbered_message, numbered_messages, numbered_atom, numbered_effect, uses_in, all_uses_in}
-use Rattle.spi_scope.specs.Points.{Point, uses_name, uses_type, declares_name, declares_type, ends_message, ends_type, adds, starts_step, fault_at, added, Points, none, one, ◌⨾◌, in_order, msg_span, ty_span, message_points, messages_points, whole_message, atom_points, atoms_points, type_points, fields_points, last_points, whole_type, part, message_head, messages_head, typed_head, new_head, tested_head, split_head, match_head, process_points, free_points, with_free, decl_points, names_behind, types_behind, decls_points, all_names, all_types, opponent_points, steps_points, schedule_points, numbered_points, numbered_atom_points, numbered_atoms_points, written_points, deriv_points, derivs_points, derivation_points, body_points, file_points}
+use Rattle.spi_scope.specs.Points.{Point, uses_name, uses_type, declares_name, declares_type, ends_message, ends_type, adds, starts_step, fault_at, added, Points, none, one, ◌⨾◌, in_order, msg_span, ty_span, message_points, messages_points, message_points_whole, atom_points, atoms_points, type_points, fields_points, last_points, whole_type, part, message_head, messages_head, typed_head, new_head, tested_head, split_head, match_head, process_points, free_points, with_free, decl_points, names_behind, types_behind, decls_points, all_names, all_types, opponent_points, steps_points, schedule_points, numbered_points, numbered_atom_points, numbered_atoms_points, written_points, deriv_points, derivs_points, derivation_points, body_points, file_points}
 use Rattle.spi_scope.specs.First.{Clean}
 use Rattle.spi_scope.specs.StandsFor.{Meant, StandsFor, over_free, opponent_over, schedule_in, derivation_in}
 
@@ -279,7 +279,7 @@ module _ (xs : Names) where
     messages_points_bared t.no_msgs = refl
     messages_points_bared (t.more_msgs m ms) = rw (message_points_bared m, messages_points_bared ms) refl
 
-  whole_message_bared : (m : t.Msg) → whole_message xs (bare_msg m) ≡ bare_points (whole_message xs m)
+  whole_message_bared : (m : t.Msg) → message_points_whole xs (bare_msg m) ≡ bare_points (message_points_whole xs m)
   whole_message_bared m = rw (message_points_bared m, message_bared 0 xs m, msg_span_bared m) refl
 
   atom_points_bared : (e : t.Atom) → atom_points xs (bare_atom e) ≡ bare_points (atom_points xs e)

@@ -11,7 +11,7 @@ use Rattle.spi_lex.specs.Lexing.{kinds_of}
 use Rattle.spi_tree.specs.declared.tree.SWord.{SWord}
 use Rattle.spi_tree.specs.Trees as t
 use Rattle.spi_tree.specs.Pieces.{closes, derivation_limit, deriv_pieces, derivs_pieces}
-use Rattle.spi_parse.specs.Formed.{number_of}
+use Rattle.spi_parse.specs.Formed.{count_derivs}
 use Rattle.spi_parse.specs.Rules.{arity_of, writes_effect, is_late}
 use Rattle.spi_parse.specs.Shapes.{is_sub}
 use Rattle.spi_parse.proofs.RuleLaws.{arity_found}
@@ -19,7 +19,7 @@ use Rattle.spi_parse.proofs.Spell.{IsRuled, AreRuled}
 use Rattle.spi_rules.specs.declared.rule.Rule.{Rule}
 use Rattle.spi_rules.specs.declared.rule.Rule.TheVariants.{ProcSub}
 use Rattle.spi_rules.specs.Derivations.{RuleUse, uses}
-use Rattle.spi_rules.specs.Rule.{arity, spelled, named}
+use Rattle.spi_rules.specs.Rule.{arity, rule_spelled, named}
 use Rattle.spi_rules.proofs.Named.{rules, each_named}
 use Rattle.spi_scope.specs.Parts.{uses_in, all_uses_in}
 use Rattle.spi_scope.specs.Points.{Point, in_order, deriv_points, derivs_points}
@@ -28,7 +28,7 @@ use Rattle.spi_spell.proofs.Reading.{ReadsTree}
 
 -- the tokens of rule uses that write no effect
 abbrev pub rule_words : List RuleUse → List Kind
-rule_words us = map (λ (u : RuleUse). kinds.Word (spelled u.rule)) us
+rule_words us = map (λ (u : RuleUse). kinds.Word (rule_spelled u.rule)) us
 
 -- no use writes an effect
 abbrev pub WriteNoEffect : List RuleUse → Type 0
@@ -45,7 +45,7 @@ FollowsRules later d = IsRuled later d × (in_order (deriv_points d) ≡ [])
 
 -- k such trees
 abbrev pub AreDerivTrees : Bool → ℕ → t.Derivs → Type 0
-AreDerivTrees later k ds = AreRuled later ds × (in_order (derivs_points ds) ≡ []) × (number_of ds ≡ k)
+AreDerivTrees later k ds = AreRuled later ds × (in_order (derivs_points ds) ≡ []) × (count_derivs ds ≡ k)
 
 -- the uses are one tree, and k trees, wherever their tokens stand
 pub record Derives (later : Bool) (n : ℕ) (us : List RuleUse) : Type 0 where
@@ -86,7 +86,7 @@ pub premise : {later : Bool} {n k : ℕ} {us vs : List RuleUse} → Derives late
 premise {n = n} {us = us} {vs = vs} d ds = record {
   plain = plain_join us vs d.plain ds.plain;
   read = λ e ts ks is.
-      let split : rule_words (us ++ vs) ++ ks ≡ rule_words us ++ (rule_words vs ++ ks) = ap (λ (l : List Kind). l ++ ks) (map-append (λ (u : RuleUse). kinds.Word (spelled u.rule)) us vs) ∙ append_assoc (rule_words us) (rule_words vs) ks in
+      let split : rule_words (us ++ vs) ++ ks ≡ rule_words us ++ (rule_words vs ++ ks) = ap (λ (l : List Kind). l ++ ks) (map-append (λ (u : RuleUse). kinds.Word (rule_spelled u.rule)) us vs) ∙ append_assoc (rule_words us) (rule_words vs) ks in
       let x = d.read e ts (rule_words vs ++ ks) (is ∙ split) in
       let y = ds.read x.rest.end x.rest.tokens ks x.rest.left in
       record {
@@ -99,10 +99,10 @@ premise {n = n} {us = us} {vs = vs} d ds = record {
 }
 
 -- a rule with its premises
-writes_none : (r : Rule) → is_sub r ≡ false → writes_effect (spelled r) ≡ false
-writes_none r plain = elim (cases_Bool (writes_effect (spelled r))) [
+writes_none : (r : Rule) → is_sub r ≡ false → writes_effect (rule_spelled r) ≡ false
+writes_none r plain = elim (cases_Bool (writes_effect (rule_spelled r))) [
   | inl writes ↦ (
-      let same : spelled ProcSub ≡ spelled r = (bytes_eq-Decides (spelled ProcSub) (spelled r)).0 writes in
+      let same : rule_spelled ProcSub ≡ rule_spelled r = (bytes_eq-Decides (rule_spelled ProcSub) (rule_spelled r)).0 writes in
       let both : Some ProcSub ≡ Some r = sym (each_named ProcSub) ∙ (ap (λ (w : List ℕ). named rules w) same ∙ each_named r) in
       let one : ProcSub ≡ r = cc in
       let sub : true ≡ false = ap is_sub one ∙ plain in
@@ -110,8 +110,8 @@ writes_none r plain = elim (cases_Bool (writes_effect (spelled r))) [
   | inr none ↦ none
 ]
 
-has_arity : (later : Bool) (r : Rule) → (is_late r && not later) ≡ false → arity_of later (spelled r) ≡ Some (arity r)
-has_arity later r h = arity_found later r (spelled r) refl ∙ cond-false (is_late r && not later) None (Some (arity r)) h
+has_arity : (later : Bool) (r : Rule) → (is_late r && not later) ≡ false → arity_of later (rule_spelled r) ≡ Some (arity r)
+has_arity later r h = arity_found later r (rule_spelled r) refl ∙ cond-false (is_late r && not later) None (Some (arity r)) h
 
 pub rule : {later : Bool} {n : ℕ} {us : List RuleUse} (r : Rule) → is_sub r ≡ false → (is_late r && not later) ≡ false → n ≤ 1000 → DeriveAll later (n + 1) (arity r) us → Derives later n (uses r us)
 rule {later = later} {n = n} {us = us} r plain early low ds = record {
@@ -122,15 +122,15 @@ rule {later = later} {n = n} {us = us} r plain early low ds = record {
     go : (e : ℕ) (ts : List Token) (ks : List Kind) → kinds_of ts ≡ rule_words (uses r us) ++ ks → ReadsTree (FollowsRules later) uses_in (deriv_pieces n) (uses r us) e ts ks
     go e [] ks is = absurd cc
     go e (token ∷ ts) ks is =
-        let kind : token.kind ≡ kinds.Word (spelled r) = cc in
+        let kind : token.kind ≡ kinds.Word (rule_spelled r) = cc in
         let behind : kinds_of ts ≡ rule_words us ++ ks = cc in
         let y = ds.read token.span.to ts ks behind in
         let not_deep : nat_lt derivation_limit n ≡ false = le-ltb derivation_limit n low in
-        let w : SWord = record { word = spelled r; span = token.span } in
+        let w : SWord = record { word = rule_spelled r; span = token.span } in
         record {
           read = t.rule (record { from = token.span.from; to = y.rest.end }) w None y.read;
           is = ((has_arity later r early ∙ ap Some (sym y.is.2), writes_none r plain, tt, y.is.0), y.is.1);
-          are = ap (λ (x : Rule). record { rule = x; taken = None } ∷ all_uses_in y.read) (sym (rule_found r (spelled r) refl)) ∙ ap (λ (l : List RuleUse). record { rule = r; taken = None } ∷ l) y.are;
+          are = ap (λ (x : Rule). record { rule = x; taken = None } ∷ all_uses_in y.read) (sym (rule_found r (rule_spelled r) refl)) ∙ ap (λ (l : List RuleUse). record { rule = r; taken = None } ∷ l) y.are;
           rest = y.rest;
           spells = λ after p h. (refl, (refl, (kind, not_deep, (refl, y.spells after (closes y.rest.end ∷ p) (refl, h)))));
         }

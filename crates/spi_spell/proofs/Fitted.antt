@@ -5,12 +5,12 @@ use Rattle.std.specs.Str.{bytes_eq}
 use Rattle.spi_text.specs.declared.lines.Span.{Span}
 use Rattle.spi_tree.specs.declared.tree.SWord.{SWord}
 use Rattle.spi_tree.specs.Trees as t
-use Rattle.spi_tree.specs.Pieces.{Place, in_seq, at_level, below, beside}
+use Rattle.spi_tree.specs.Pieces.{Place, in_seq, at_level, below, beside_place}
 use Rattle.spi_tree.specs.Formed.{IsMsg, AreMsgs, IsAtom, AreAtoms, IsTy, AreFields, IsLast, IsProc, AreDeclared}
 use Rattle.spi_term.specs.Term.{Message, bound, name, Ty}
 use Rattle.spi_scope.specs.Scope.{Word, Names, number_of, Abbreviation, Abbreviations, type_of}
-use Rattle.spi_scope.specs.Meaning.{named, nested, message_in, messages_in, atom_in, effect_in, known, nested_types, behind, type_in, fields_in, last_in, process_in}
-use Rattle.spi_scope.specs.Points.{whole_message, atom_points, atoms_points, type_points, fields_points, last_points, whole_type, part, message_head, messages_head, typed_head, new_head, tested_head, split_head, match_head, process_points, decls_points, with_free, all_types}
+use Rattle.spi_scope.specs.Meaning.{name_meant, nested, message_in, messages_in, atom_in, effect_in, known, nested_types, behind, type_in, fields_in, last_in, process_in}
+use Rattle.spi_scope.specs.Points.{message_points_whole, atom_points, atoms_points, type_points, fields_points, last_points, whole_type, part, message_head, messages_head, typed_head, new_head, tested_head, split_head, match_head, process_points, decls_points, with_free, all_types}
 use Rattle.spi_scope.proofs.Counting.{PassesTests}
 use Rattle.spi_scope.proofs.Sizes.{message_sized, type_sized}
 use Rattle.spi_spell.proofs.Printable.{HasVersion, MessageFits, AtomFits, EffectFits, PartsFit, TyFits, ProcessFits}
@@ -32,7 +32,7 @@ types_push : (later : Bool) (ts : Abbreviations) (u : Abbreviation) → TypesFit
 types_push later [] u h f = (f, tt)
 types_push later (v ∷ ts) u h f = (h.0, types_push later ts u h.1 f)
 
-name_version : (later : Bool) (k s : ℕ) (o : Option ℕ) → HasVersion later (named k s o)
+name_version : (later : Bool) (k s : ℕ) (o : Option ℕ) → HasVersion later (name_meant k s o)
 name_version later k s None = tt
 name_version later k s (Some x) = by (nat_lt x k)
   where
@@ -57,7 +57,7 @@ module _ (later : Bool) (k : ℕ) where
       row_version first t.no_msgs f h = f
       row_version first (t.more_msgs m ms) f h = (f, row_version (message_in k xs m) ms (message_version m h.0) h.1)
 
-    whole_fits : (m : t.Msg) → IsMsg later false m → PassesTests (whole_message xs m) → MessageFits later (message_in k xs m)
+    whole_fits : (m : t.Msg) → IsMsg later false m → PassesTests (message_points_whole xs m) → MessageFits later (message_in k xs m)
     whole_fits m h p = (omega (arith, p.1, message_sized k xs m), message_version m h)
 
     atom_fits : (e : t.Atom) → IsAtom later false e → PassesTests (atom_points xs e) → AtomFits later (atom_in k xs e)
@@ -132,7 +132,7 @@ module _ (later : Bool) (k : ℕ) (ts : Abbreviations) (fit : TypesFit later ts)
   pub process_fits : (xs : Names) (p : t.Proc) (a : Place) → IsProc later a p → PassesTests (process_points ts xs p) → ProcessFits later (process_in (λ s. k) ts xs p)
   process_fits xs (t.par s p q) (in_seq l) f h = absurd f
   process_fits xs (t.par s p q) (at_level l) f h = (tt, process_fits xs p (in_seq (l + 1)) f.0 h.0, process_fits xs q (at_level (l + 1)) f.1 h.1.1)
-  process_fits xs (t.group s p q) a f h = (tt, process_fits xs p (below a) f.0 h.0, process_fits xs q (beside a) f.1 h.1.1)
+  process_fits xs (t.group s p q) a f h = (tt, process_fits xs p (below a) f.0 h.0, process_fits xs q (beside_place a) f.1 h.1.1)
   process_fits xs (t.out s m n) a f h =
       let g = of_messages xs s m n h in
       (part_fits later k ts fit xs m f.0 g.0, part_fits later k ts fit xs n f.1 g.1)

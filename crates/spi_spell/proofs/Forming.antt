@@ -4,7 +4,7 @@ use Rattle.std.specs.Prelude.{⊤}
 use Rattle.spi_tree.specs.Trees as t
 use Rattle.spi_tree.specs.Pieces.{Place, in_seq, at_level, nesting_of, tokens_of}
 use Rattle.spi_tree.specs.Formed.{AreWordsFit, IsMsg, AreMsgs, IsAtom, AreAtoms, IsTy, AreFields, IsLast, IsProc, AreDeclared, IsWritten, IsDeriv, AreDerivs, IsFormedOpponent, IsDerivation}
-use Rattle.spi_parse.specs.Formed.{number_of, is_written, HasRules, HaveRules, IsFormedDerived, IsFile}
+use Rattle.spi_parse.specs.Formed.{count_derivs, is_written, HasRules, HaveRules, IsFormedDerived, IsFile}
 use Rattle.spi_parse.proofs.TableLaws.{seq_is_proc}
 use Rattle.spi_term.specs.Term.{Message, bound, name, unit, pair, in_left, in_right, enc, hash, Atom, ends, checks, many, Effect, Ty, un, unit_ty, pair_ty, sum_ty, key, nonce, Leaf, Sends, Stops, Prefix, Recvs, Serves, Splits, Selects, Decrypts, Checks, Begins, Ends, EndManys, Casts, Freshes, Branches, Pars, Process, leaf, prefix, fork, binds}
 use Rattle.spi_term.specs.Spelling.{Spelling}
@@ -159,7 +159,7 @@ module _ (later : Bool) where
   written_formed None h = tt
   written_formed (Some es) h = numbered_atoms_formed es h
 
-  same_number : (ds : t.Derivs) → number_of (deriv_trees ds) ≡ number_of ds
+  same_number : (ds : t.Derivs) → count_derivs (deriv_trees ds) ≡ count_derivs ds
   same_number t.no_derivs = refl
   same_number (t.more_derivs d ds) = ap suc (same_number ds)
 

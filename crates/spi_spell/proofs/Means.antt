@@ -8,7 +8,7 @@ use Rattle.spi_term.specs.Term.{Message, bound, name, unit, pair, in_left, in_ri
 use Rattle.spi_term.specs.Names.{MessageOver, OfAtom, OfEffect, OfTy, OfLeaf, OfPrefix, OfProcess}
 use Rattle.spi_term.specs.Spelling.{ty_nodes}
 use Rattle.spi_scope.specs.Scope.{Abbreviations, number_of}
-use Rattle.spi_scope.specs.Meaning.{named, nested, message_in, messages_in, atom_in, effect_in, nested_types, behind, type_in, fields_in, last_in, process_in}
+use Rattle.spi_scope.specs.Meaning.{name_meant, nested, message_in, messages_in, atom_in, effect_in, nested_types, behind, type_in, fields_in, last_in, process_in}
 use Rattle.spi_show.specs.Processes.{Standing, alone, sequel, is_output}
 use Rattle.spi_spell.proofs.Printed.{spelled_name, message_tree, second_tree, rest_trees, second_part, parts_of_type, atom_tree, atom_trees, type_tree, field_trees, last_tree, leaf_tree, prefix_tree, then_tree, process_tree}
 use Rattle.spi_spell.proofs.Printable.{prefix_nodes, process_nodes}
@@ -18,16 +18,16 @@ use Rattle.spi_spell.proofs.Scopes.{in_scope, scope_length, NamesAreApart, found
 module _ (most : ℕ) (spell : ℕ → List ℕ) (apart : NamesAreApart most spell) (k : ℕ) where
   -- ---- messages and effects, where n names are in scope, d of them bound
 
-  free_name : (n x : ℕ) → x < k → x < n → n ≤ most → named k (length (in_scope spell n)) (number_of (in_scope spell n) (spell x)) ≡ name x
+  free_name : (n x : ℕ) → x < k → x < n → n ≤ most → name_meant k (length (in_scope spell n)) (number_of (in_scope spell n) (spell x)) ≡ name x
   free_name n x h low few =
-      ap (named k (length (in_scope spell n))) (found most spell apart n x low few)
+      ap (name_meant k (length (in_scope spell n))) (found most spell apart n x low few)
       ∙ ap (λ b. if b then name x else bound (length (in_scope spell n) - suc x)) (lt-ltb x k h)
 
-  bound_name : (n d i : ℕ) → n ≡ k + d → i < d → n ≤ most → named k (length (in_scope spell n)) (number_of (in_scope spell n) (spell (n - suc i))) ≡ bound i
+  bound_name : (n d i : ℕ) → n ≡ k + d → i < d → n ≤ most → name_meant k (length (in_scope spell n)) (number_of (in_scope spell n) (spell (n - suc i))) ≡ bound i
   bound_name n d i is h few =
       let x : ℕ = n - suc i in
       let index : length (in_scope spell n) - suc x ≡ i = omega (arith, scope_length spell n, is, h) in
-      ap (named k (length (in_scope spell n))) (found most spell apart n x (omega (arith, is, h)) few)
+      ap (name_meant k (length (in_scope spell n))) (found most spell apart n x (omega (arith, is, h)) few)
       ∙ ap (λ b. if b then name x else bound (length (in_scope spell n) - suc x)) (le-ltb x k (omega (arith, is, h)))
       ∙ ap bound index
 

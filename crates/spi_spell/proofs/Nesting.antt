@@ -3,7 +3,7 @@ use Rattle.std.proofs.Common.{◌≡◌, ℕ, ◌+◌, ◌≤◌, Bool, true, fa
 use Rattle.std.specs.Prelude.{nat_lt}
 use Rattle.std.proofs.lemmas.Bool.{ltb-false}
 use Rattle.spi_tree.specs.Trees as t
-use Rattle.spi_tree.specs.Pieces.{Piece, Place, in_seq, at_level, nesting_of, below, beside, process_limit, proc_pieces}
+use Rattle.spi_tree.specs.Pieces.{Piece, Place, in_seq, at_level, nesting_of, below, beside_place, process_limit, proc_pieces}
 use Rattle.spi_tree.specs.Formed.{IsProc}
 use Rattle.spi_parse.specs.Exact.{IsWithin}
 use Rattle.spi_scope.specs.Scope.{Names, Abbreviations}
@@ -105,10 +105,10 @@ module _ (later : Bool) (by : ℕ → ℕ) (ts : Abbreviations) where
       let rest = (past_proc (below a) p _ w.1).1 in (
         low (in_seq i) a h w.0,
         choose (is_output (process_in by ts xs p))
-            (nests xs q (beside a) (in_seq (i + 1)) _ f.1 rest (omega (arith, k)))
-            (nests xs p (below a) (in_seq (i + 1)) _ f.0 w.1 (omega (arith, k)), nests xs q (beside a) (at_level (i + 1)) _ f.1 rest (omega (arith, k))),
+            (nests xs q (beside_place a) (in_seq (i + 1)) _ f.1 rest (omega (arith, k)))
+            (nests xs p (below a) (in_seq (i + 1)) _ f.0 w.1 (omega (arith, k)), nests xs q (beside_place a) (at_level (i + 1)) _ f.1 rest (omega (arith, k))),
       )
   nests xs (t.group s p q) a (at_level i) r f w h =
       let k = above_nesting (at_level i) a h in
       let rest = (past_proc (below a) p _ w.1).1 in
-      (nests xs p (below a) (in_seq (i + 1)) _ f.0 w.1 (omega (arith, k)), nests xs q (beside a) (at_level (i + 1)) _ f.1 rest (omega (arith, k)))
+      (nests xs p (below a) (in_seq (i + 1)) _ f.0 w.1 (omega (arith, k)), nests xs q (beside_place a) (at_level (i + 1)) _ f.1 rest (omega (arith, k)))

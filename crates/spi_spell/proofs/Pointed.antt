@@ -8,7 +8,7 @@ use Rattle.spi_term.specs.Spelling.{ty_nodes}
 use Rattle.spi_gen.specs.Handshake.{word}
 use Rattle.spi_scope.specs.Scope.{Abbreviations}
 use Rattle.spi_scope.specs.Meaning.{behind}
-use Rattle.spi_scope.specs.Points.{◌⨾◌, msg_nodes, message_points, messages_points, whole_message, atom_points, atoms_points, type_points, fields_points, last_points, part, whole_type, process_points}
+use Rattle.spi_scope.specs.Points.{◌⨾◌, msg_nodes, message_points, messages_points, message_points_whole, atom_points, atoms_points, type_points, fields_points, last_points, part, whole_type, process_points}
 use Rattle.spi_scope.proofs.Sizes.{message_sized, type_sized}
 use Rattle.spi_show.specs.Processes.{Standing, alone, sequel, is_output}
 use Rattle.spi_spell.proofs.Printed.{second_part, parts_of_type, spelled_name, message_tree, second_tree, rest_trees, atom_tree, atom_trees, type_tree, field_trees, last_tree, leaf_tree, prefix_tree, then_tree, process_tree}
@@ -48,7 +48,7 @@ module _ (most : ℕ) (spell : ℕ → List ℕ) (apart : NamesAreApart most spe
     part_clear : (later : Bool) (m : Message) → MessageOver k d m → MessageFits later m → AddsPoints (message_size m) (part (in_scope spell n) (message_tree (spelled_name spell) n m))
     part_clear later m h fits = message_adds (message_size m) (in_scope spell n) (message_tree (spelled_name spell) n m) (message_clear m h) (same_nodes m h) fits.0
 
-    whole_clear : (later : Bool) (m : Message) → MessageOver k d m → MessageFits later m → AddsPoints 0 (whole_message (in_scope spell n) (message_tree (spelled_name spell) n m))
+    whole_clear : (later : Bool) (m : Message) → MessageOver k d m → MessageFits later m → AddsPoints 0 (message_points_whole (in_scope spell n) (message_tree (spelled_name spell) n m))
     whole_clear later m h fits = (let f = message_clear m h in record { clear = (f.clear, omega (arith, same_nodes m h, fits.0)); weighs = omega (arith, f.weighs) })
 
     atom_clear : (later : Bool) (a : Atom) → OfAtom (MessageOver k d) a → AtomFits later a → AddsPoints 0 (atom_points (in_scope spell n) (atom_tree (spelled_name spell) n a))

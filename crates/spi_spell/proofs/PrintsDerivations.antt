@@ -14,7 +14,7 @@ use Rattle.spi_parse.specs.Formed.{HasRules, HaveRules}
 use Rattle.spi_term.specs.Term.{Message, Atom, Effect}
 use Rattle.spi_term.specs.Names.{MessageOver, OfAtom, OfEffect}
 use Rattle.spi_rules.specs.declared.rule.Rule.{Rule}
-use Rattle.spi_rules.specs.Rule.{spelled, named}
+use Rattle.spi_rules.specs.Rule.{rule_spelled, named}
 use Rattle.spi_rules.specs.Derivations.{RuleUse}
 use Rattle.spi_rules.proofs.Named.{named_spelled}
 use Rattle.spi_scope.specs.Parts.{numbered_message, numbered_messages, numbered_atom, rule_named, uses_in, all_uses_in}
@@ -103,20 +103,20 @@ IsLow later (Some es) = EffectLow later (map numbered_atom es)
 
 abbrev mutual
   pub Printable : Bool → t.Deriv → Type 0
-  Printable later (t.rule s w es ds) = (spelled (rule_named w.word) ≡ w.word) × IsKind (words_of later) (kinds.Word w.word) × IsLow later es × AllPrintable later ds
+  Printable later (t.rule s w es ds) = (rule_spelled (rule_named w.word) ≡ w.word) × IsKind (words_of later) (kinds.Word w.word) × IsLow later es × AllPrintable later ds
 
   AllPrintable : Bool → t.Derivs → Type 0
   AllPrintable later t.no_derivs = ⊤
   AllPrintable later (t.more_derivs d ds) = Printable later d × AllPrintable later ds
 
-known : (later : Bool) (w : List ℕ) (n : ℕ) → arity_of later w ≡ Some n → spelled (rule_named w) ≡ w
+known : (later : Bool) (w : List ℕ) (n : ℕ) → arity_of later w ≡ Some n → rule_spelled (rule_named w) ≡ w
 known later w n e = go (named (rules_of later) w) refl e
   where
-    go : (o : Option Rule) → named (rules_of later) w ≡ o → arity_by o ≡ Some n → spelled (rule_named w) ≡ w
+    go : (o : Option Rule) → named (rules_of later) w ≡ o → arity_by o ≡ Some n → rule_spelled (rule_named w) ≡ w
     go None is f = absurd cc
     go (Some r) is f =
         let same = named_spelled (rules_of later) w r is in
-        sym (ap spelled (rule_found r w same)) ∙ same
+        sym (ap rule_spelled (rule_found r w same)) ∙ same
 
 mutual
   pub deriv_low : (later : Bool) (c : ℕ) (d : t.Deriv) (r : List Piece) → IsDeriv later d → HasRules later d → FitPieces later (deriv_pieces c d r) → Printable later d × FitPieces later r
@@ -151,13 +151,13 @@ mutual
       → Prints later (kinds_in (deriv_pieces c (deriv_tree d) r)) (uses_text (uses_in d ++ us))
   deriv later c (t.rule s w None ds) h r us p =
       let rest : List ℕ = uses_text (all_uses_in ds ++ us) in
-      prints.part (spelled (rule_named w.word)) (codes "\n") rest (prints.rewritten (w.word ++ (10 ∷ rest)) (spelled (rule_named w.word) ++ (10 ∷ rest)) (ap (λ (x : List ℕ). x ++ (10 ∷ rest)) (sym h.0))
+      prints.part (rule_spelled (rule_named w.word)) (codes "\n") rest (prints.rewritten (w.word ++ (10 ∷ rest)) (rule_spelled (rule_named w.word) ++ (10 ∷ rest)) (ap (λ (x : List ℕ). x ++ (10 ∷ rest)) (sym h.0))
       (prints.spelling w.word h.1 refl (prints.line (derivs later (c + 1) ds h.3 _ us p))))
   deriv later c (t.rule s w (Some es) ds) h r us p =
       let rest : List ℕ = uses_text (all_uses_in ds ++ us) in
       let written : List ℕ = effect_text numbered_text 0 (map numbered_atom es) in
       let after : List ℕ = 32 ∷ ((written ++ codes "\n") ++ rest) in
-      prints.part (spelled (rule_named w.word)) (32 ∷ (written ++ codes "\n")) rest (prints.rewritten (w.word ++ after) (spelled (rule_named w.word) ++ after) (ap (λ (x : List ℕ). x ++ after) (sym h.0))
+      prints.part (rule_spelled (rule_named w.word)) (32 ∷ (written ++ codes "\n")) rest (prints.rewritten (w.word ++ after) (rule_spelled (rule_named w.word) ++ after) (ap (λ (x : List ℕ). x ++ after) (sym h.0))
       (prints.spelling w.word h.1 refl (prints.space (prints.part written (codes "\n") rest (effect later (map numbered_atom es) h.2 _ _ (prints.line (derivs later (c + 1) ds h.3 _ us p)))))))
 
   derivs : (later : Bool) (c : ℕ) (ds : t.Derivs) → AllPrintable later ds → (r : List Piece) (us : List RuleUse) → Prints later (kinds_in r) (uses_text us)

@@ -24,7 +24,7 @@ use Rattle.spi_show.specs.Spelled.{name_text}
 use Rattle.spi_show.specs.Processes.{alone, process_text}
 use Rattle.spi_show.specs.Steps.{step_text, steps_text}
 use Rattle.spi_show.specs.Derivations.{uses_text}
-use Rattle.spi_show.specs.Files.{words_text, free_text, line_text, opponent_text, schedule_part, derivation_part, file_text}
+use Rattle.spi_show.specs.Files.{words_text, free_text, spelling_line, opponent_text, schedule_part, derivation_part, file_text}
 use Rattle.spi_spell.specs.Joined.{HasLowPlaces}
 use Rattle.spi_spell.proofs.Together.{reserved_first}
 use Rattle.spi_spell.proofs.Texts.{act_kind, talk_kind}
@@ -83,7 +83,7 @@ abbrev NamesFit : Bool → (ℕ → List ℕ) → Type 0
 NamesFit later spell = (i : ℕ) → i < 100000 → IsKind (words_of later) (kinds.Word (spell i))
 
 line : (later : Bool) (spell : ℕ → List ℕ) → NamesFit later spell → (k : ℕ) (p : Spelling) → IsPrintablePart later k p → k + process_nodes p.process ≤ 100000
-    → (r : List Piece) (more : List ℕ) → Prints later (kinds_in r) more → Prints later (kinds_in (proc_pieces (at_level 0) (part_tree spell p) r)) (line_text spell p ++ more)
+    → (r : List Piece) (more : List ℕ) → Prints later (kinds_in r) more → Prints later (kinds_in (proc_pieces (at_level 0) (part_tree spell p) r)) (spelling_line spell p ++ more)
 line later spell fit k p part few r more h =
     let all = part.names in
     prints.part (process_text spell alone p.names p.process) (codes "\n") more

@@ -6,7 +6,7 @@ use Rattle.spi_lex.specs.declared.token.Mark.TheVariants as mark
 use Rattle.spi_lex.specs.Words.{words_of}
 use Rattle.spi_lex.specs.Writing.{is_apart, IsKind}
 use Rattle.spi_tree.specs.Trees as t
-use Rattle.spi_tree.specs.Pieces.{Piece, Place, below, beside, a_reserved, kinds_in, msg_pieces, named_pieces, binder_pieces, proc_pieces, ends}
+use Rattle.spi_tree.specs.Pieces.{Piece, Place, below, beside_place, a_reserved, kinds_in, msg_pieces, named_pieces, binder_pieces, proc_pieces, ends}
 use Rattle.spi_term.specs.Term.{Message, Ty, Leaf, Sends, Stops, Prefix, Recvs, Serves, Splits, Selects, Decrypts, Checks, Begins, Ends, EndManys, Casts, Freshes, Branches, Pars, Process, leaf, prefix, fork, binds}
 use Rattle.spi_term.specs.Names.{MessageOver, OfTy, OfLeaf, OfPrefix, OfProcess}
 use Rattle.spi_term.specs.Spelling.{ty_nodes}
@@ -125,7 +125,7 @@ module _ (later : Bool) (top : ℕ) (spell : ℕ → List ℕ) (fit : (i : ℕ) 
       prints.part (process_text spell sequel n p) _ more (output k d n at p (process_tree spell sequel n q) is scope o v r _ (second sequel (below at) _ more apart h))
   composed k d n at p q false is scope o v first second r more apart h =
       prints.mark mark.ParenOpen (prints.part (process_text spell sequel n p) _ more (first (below at) _ _ refl (prints.space (prints.mark mark.Bar (prints.space
-      (prints.part (process_text spell alone n q) _ more (second alone (beside at) _ _ refl (prints.mark mark.ParenClose h))))))))
+      (prints.part (process_text spell alone n q) _ more (second alone (beside_place at) _ _ refl (prints.mark mark.ParenClose h))))))))
 
   -- a `case` up to its first process, and between its processes
   left : (k d n : ℕ) (m : Message) (a : Ty) → PrintsInScope top k d n → suc (n + ty_nodes a) ≤ top → MessageOver k d m → OfTy (MessageOver k) d a → MessageFits later m → TyFits later a

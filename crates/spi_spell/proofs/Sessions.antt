@@ -12,7 +12,7 @@ use Rattle.spi_lex.specs.Words.{version_1, word_of, word_bytes}
 use Rattle.spi_lex.specs.Writing.{first_version, IsKind}
 use Rattle.spi_lex.proofs.Writing.{reads_back}
 use Rattle.spi_tree.specs.Trees as t
-use Rattle.spi_tree.specs.Pieces.{Piece, closes, Place, in_seq, at_level, below, beside, proc_pieces, decls_pieces, a_reserved, kinds_in, tokens_of}
+use Rattle.spi_tree.specs.Pieces.{Piece, closes, Place, in_seq, at_level, below, beside_place, proc_pieces, decls_pieces, a_reserved, kinds_in, tokens_of}
 use Rattle.spi_tree.specs.Formed.{IsMsg, IsProc, IsFormed, AreWordsFit}
 use Rattle.spi_gen.specs.Handshake.{nowhere, label, handshake, answering, checking, asking, declarations}
 use Rattle.spi_gen.specs.Sessions.{AreBeside, one_session, two_halves, AreGrouped, alone, in_parentheses, IsSessions}
@@ -85,7 +85,7 @@ mutual
   grouped_words (in_parentheses two x) a r h = halves_words x a r h
 
   halves_words : {n : ℕ} {p q : t.Proc} → AreBeside n (t.par nowhere p q) → (a : Place) (r : List Piece) → AreWordsFit false (kinds_in r) → AreWordsFit false (kinds_in (proc_pieces a (t.group nowhere p q) r))
-  halves_words (two_halves two half x y) a r h = (tt, grouped_words x (below a) _ (tt, grouped_words y (beside a) _ (tt, h)))
+  halves_words (two_halves two half x y) a r h = (tt, grouped_words x (below a) _ (tt, grouped_words y (beside_place a) _ (tt, h)))
 
 -- the file of a process
 abbrev file_of_process : t.Proc → t.File

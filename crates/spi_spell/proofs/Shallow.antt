@@ -5,13 +5,13 @@ use Rattle.std.proofs.lemmas.Bool.{cases_Bool, cond-true, ltb-false}
 use Rattle.spi_text.specs.declared.lines.Span.{Span}
 use Rattle.spi_tree.specs.declared.tree.SWord.{SWord}
 use Rattle.spi_tree.specs.Trees as t
-use Rattle.spi_tree.specs.Pieces.{Piece, Place, in_seq, at_level, nesting_of, level_of, below, beside, proc_pieces}
+use Rattle.spi_tree.specs.Pieces.{Piece, Place, in_seq, at_level, nesting_of, level_of, below, beside_place, proc_pieces}
 use Rattle.spi_tree.specs.Formed.{IsMsg, AreMsgs, IsProc}
 use Rattle.spi_parse.specs.Exact.{IsWithin}
 use Rattle.spi_term.specs.Term.{Message, Process, leaf, prefix, fork, message_size}
 use Rattle.spi_scope.specs.declared.fault.ScopeFault.{ScopeFault}
 use Rattle.spi_scope.specs.Scope.{Names, number_of, Abbreviations}
-use Rattle.spi_scope.specs.Meaning.{named, nested, message_in, messages_in, process_in}
+use Rattle.spi_scope.specs.Meaning.{name_meant, nested, message_in, messages_in, process_in}
 use Rattle.spi_scope.specs.Points.{Point, uses_name, uses_type, declares_name, declares_type, ends_message, ends_type, adds, starts_step, Points, none, one, ◌⨾◌, in_order, fault_at, added, msg_nodes, part, message_head, messages_head, typed_head, tested_head, split_head, match_head, process_points}
 use Rattle.spi_scope.specs.First.{Clean}
 use Rattle.spi_scope.proofs.Sizes.{message_sized}
@@ -97,14 +97,14 @@ match_small ts xs s m x a n c h = tested_small ts xs s m a n h.0
 
 -- ---- messages
 
-name_fits : (later : Bool) (n k s : ℕ) (o : Option ℕ) → n ≤ 1000 → MessageFitsIn later n (named k s o)
+name_fits : (later : Bool) (n k s : ℕ) (o : Option ℕ) → n ≤ 1000 → MessageFitsIn later n (name_meant k s o)
 name_fits later n k s None h = h
 name_fits later n k s (Some x) h = bound_put later n x (s - suc x) (nat_lt x k) h
 
 module _ (later : Bool) (k : ℕ) (xs : Names) where
   mutual
     msg_fits : (m : t.Msg) (n : ℕ) → IsMsg later false m → n + message_size (message_in k xs m) ≤ 1001 → MessageFitsIn later n (message_in k xs m)
-    msg_fits (t.name s w) n h low = (let some = some_size (named k (length xs) (number_of xs w.word)) in name_fits later n k (length xs) (number_of xs w.word) (omega arith))
+    msg_fits (t.name s w) n h low = (let some = some_size (name_meant k (length xs) (number_of xs w.word)) in name_fits later n k (length xs) (number_of xs w.word) (omega arith))
     msg_fits (t.unit s) n h low = omega arith
     msg_fits (t.tuple s a b ms) n h low =
         (omega arith, msg_fits a (n + 1) h.0 (omega arith), row_fits (message_in k xs b) ms (λ i q. msg_fits b i h.1 q) (n + 1) h.2 (omega arith))
@@ -216,5 +216,5 @@ module _ (later : Bool) (b : ℕ → ℕ) (ts : Abbreviations) where
   proc_fits xs (t.group s p q) a r n f w few low =
       let i = here a n w.0 low in let at = i.low in
       let first = proc_fits xs p (below a) _ (n + 1) f.0 w.1 few.0 i.on in
-      let rest = proc_fits xs q (beside a) _ (n + 1) f.1 (past_proc (below a) p _ w.1).1 few.1.1 i.on in
+      let rest = proc_fits xs q (beside_place a) _ (n + 1) f.1 (past_proc (below a) p _ w.1).1 few.1.1 i.on in
       (omega arith, tt, first, rest)

@@ -13,7 +13,7 @@ use Rattle.spi_lex.proofs.Writing.{all_letters, letters_identifier}
 use Rattle.spi_rules.specs.declared.rule.Rule.{Rule}
 use Rattle.spi_rules.specs.declared.rule.Rule.TheVariants.{MsgName, MsgUnit, MsgUnitUn, MsgPair, MsgPairUn, MsgInl, MsgInlUn, MsgInr, MsgInrUn, MsgEnc, MsgEncUn, MsgHash, ProcStop, ProcOut, ProcIn, ProcRepeat, ProcSplit, ProcSplitUn, ProcMatch, ProcMatchUn, ProcCase, ProcCaseUn, ProcDecrypt, ProcDecryptUn, ProcCheck, ProcCheckUn, ProcBegin, ProcEnd, ProcEndMany, ProcCast, ProcCastUn, ProcNew, ProcPar, ProcSub}
 use Rattle.spi_rules.specs.Derivations.{RuleUse}
-use Rattle.spi_rules.specs.Rule.{spelled}
+use Rattle.spi_rules.specs.Rule.{rule_spelled}
 use Rattle.spi_run.specs.Reduction.{Step, act, talk}
 use Rattle.spi_term.specs.Term.{Effect}
 use Rattle.spi_deriv.specs.Text.{taken_text, use_text, uses_text, derivation_text}
@@ -23,7 +23,7 @@ use Rattle.spi_spell.proofs.Derived.{rule_words, WriteNoEffect}
 -- ---- derivations
 
 -- the name of a rule is no reserved word
-rule_word : (r : Rule) → (all_letters (spelled r) ≡ true) × (nat_lt 0 (length (spelled r)) ≡ true) × (nat_lt (length (spelled r)) 256 ≡ true) × (word_of version_1 (spelled r) ≡ None) × (word_of version_2 (spelled r) ≡ None)
+rule_word : (r : Rule) → (all_letters (rule_spelled r) ≡ true) × (nat_lt 0 (length (rule_spelled r)) ≡ true) × (nat_lt (length (rule_spelled r)) 256 ≡ true) × (word_of version_1 (rule_spelled r) ≡ None) × (word_of version_2 (rule_spelled r) ≡ None)
 rule_word MsgName = (refl, refl, refl, refl, refl)
 rule_word MsgUnit = (refl, refl, refl, refl, refl)
 rule_word MsgUnitUn = (refl, refl, refl, refl, refl)
@@ -59,15 +59,15 @@ rule_word ProcNew = (refl, refl, refl, refl, refl)
 rule_word ProcPar = (refl, refl, refl, refl, refl)
 rule_word ProcSub = (refl, refl, refl, refl, refl)
 
-none_reserved : (later : Bool) (r : Rule) → word_of (words_of later) (spelled r) ≡ None
+none_reserved : (later : Bool) (r : Rule) → word_of (words_of later) (rule_spelled r) ≡ None
 none_reserved true r = (rule_word r).4
 none_reserved false r = (rule_word r).3
 
-rule_kind : (later : Bool) (r : Rule) → IsKind (words_of later) (kinds.Word (spelled r))
+rule_kind : (later : Bool) (r : Rule) → IsKind (words_of later) (kinds.Word (rule_spelled r))
 rule_kind later r =
     let w = rule_word r in
-    let short = ltb-true (length (spelled r)) 256 w.2 in
-    (letters_identifier (spelled r) w.0 (ltb-true 0 (length (spelled r)) w.1), omega arith, none_reserved later r)
+    let short = ltb-true (length (rule_spelled r)) 256 w.2 in
+    (letters_identifier (rule_spelled r) w.0 (ltb-true 0 (length (rule_spelled r)) w.1), omega arith, none_reserved later r)
 
 rule_kinds : (later : Bool) (us : List RuleUse) → AllByRecursion (IsKind (words_of later)) (rule_words us)
 rule_kinds later [] = tt
@@ -83,9 +83,9 @@ derivation_kinds later us = (derivation_first later, rule_kinds later us)
 uses_write : (us : List RuleUse) → WriteNoEffect us → Writes (rule_words us) (uses_text us)
 uses_write [] h = nothing
 uses_write (u ∷ us) h =
-    let plain : use_text u ≡ spelled u.rule ++ codes "\n" = ap (λ (o : Option Effect). spelled u.rule ++ (taken_text o ++ codes "\n")) h.0 in
-    let is : uses_text (u ∷ us) ≡ spelled u.rule ++ (10 ∷ uses_text us) = ap (λ (l : List ℕ). l ++ uses_text us) plain ∙ append_assoc (spelled u.rule) (codes "\n") (uses_text us) in
-    subst (Writes (rule_words (u ∷ us))) (sym is) (token (kinds.Word (spelled u.rule)) refl (blank 10 refl (uses_write us h.1)))
+    let plain : use_text u ≡ rule_spelled u.rule ++ codes "\n" = ap (λ (o : Option Effect). rule_spelled u.rule ++ (taken_text o ++ codes "\n")) h.0 in
+    let is : uses_text (u ∷ us) ≡ rule_spelled u.rule ++ (10 ∷ uses_text us) = ap (λ (l : List ℕ). l ++ uses_text us) plain ∙ append_assoc (rule_spelled u.rule) (codes "\n") (uses_text us) in
+    subst (Writes (rule_words (u ∷ us))) (sym is) (token (kinds.Word (rule_spelled u.rule)) refl (blank 10 refl (uses_write us h.1)))
 
 pub derivation_writes : (us : List RuleUse) → WriteNoEffect us → Writes (kinds.Reserved Derivation ∷ rule_words us) (derivation_text us)
 derivation_writes us h = token (kinds.Reserved Derivation) refl (blank 10 refl (uses_write us h))

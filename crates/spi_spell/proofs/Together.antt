@@ -13,7 +13,7 @@ use Rattle.spi_lex.specs.declared.token.Reserved.TheVariants.{Hash, EndMany, Man
 use Rattle.spi_lex.specs.declared.fault.LexFault.{LexFault}
 use Rattle.spi_lex.specs.Words.{version_1, version_2, words_of, word_bytes, word_of}
 use Rattle.spi_lex.specs.Lexeme.{Lexeme, identifier, number, mark}
-use Rattle.spi_lex.specs.Lexing.{LexPiece, Leads, word_kind, kind_of, token_of, tokens_of, kinds_of, is_version_2, is_version, is_two, is_semicolon, Lexes, to_tokens, not_utf8, bad_char, bad_number, name_too_long}
+use Rattle.spi_lex.specs.Lexing.{LexPiece, Leads, word_kind, kind_of, token_of, tokens_lexed, kinds_of, is_version_2, is_version, is_two, is_semicolon, Lexes, to_tokens, not_utf8, bad_char, bad_number, name_too_long}
 use Rattle.spi_lex.specs.Writing.{Writes, blank, IsKind, first_version}
 use Rattle.spi_lex.proofs.Reached.{joined}
 use Rattle.spi_lex.proofs.Writing.{reads_back}
@@ -25,7 +25,7 @@ pub record IsLexed (bytes : List ℕ) (tokens : List Token) : Type 0 where
   pub end : ℕ
   pub utf8 : IsUtf8 bytes
   pub leads : Leads 0 bytes pieces end []
-  pub tokens_are : tokens_of pieces ≡ tokens
+  pub tokens_are : tokens_lexed pieces ≡ tokens
 
 view : {bytes : List ℕ} {a : Result (List Token) LexFault} (tokens : List Token) → Lexes bytes a → a ≡ Ok tokens → IsLexed bytes tokens
 view tokens (to_tokens {pieces = ps} {at = at} u h) e = record { pieces = ps; end = at; utf8 = u; leads = h; tokens_are = cc }
@@ -66,7 +66,7 @@ by_version false a b c ps qs = ap (λ (ts : List Token). first_token a ∷ first
 
 -- a reserved word behind the tokens of pieces leaves those tokens as they are
 tokens_joined : (ps qs : List LexPiece) (w : Reserved) (ks : List Kind) → kinds_of (map first_token qs) ≡ kinds.Reserved w ∷ ks
-    → (v : Bool) × (tokens_of (ps ++ qs) ≡ tokens_of ps ++ map (token_of (words_of v)) qs)
+    → (v : Bool) × (tokens_lexed (ps ++ qs) ≡ tokens_lexed ps ++ map (token_of (words_of v)) qs)
 tokens_joined [] qs w ks e = (false, cond-false _ _ (map first_token qs) (ap is_version_2 e ∙ reserved_first w ks))
 tokens_joined (a ∷ []) qs w ks e =
     (false, cond-false _ _ (map first_token (a ∷ qs)) (ap (λ (l : List Kind). is_version_2 ((first_token a).kind ∷ l)) e ∙ reserved_second (first_token a).kind w ks))
@@ -114,7 +114,7 @@ kinds_in_version false qs ks e h = e
 -- ---- the text alone
 
 -- pieces whose tokens don't begin a file of version 2 have the tokens of version 1
-first_kinds : (qs : List LexPiece) (w : Reserved) (ks : List Kind) → kinds_of (tokens_of qs) ≡ kinds.Reserved w ∷ ks → kinds_of (map first_token qs) ≡ kinds.Reserved w ∷ ks
+first_kinds : (qs : List LexPiece) (w : Reserved) (ks : List Kind) → kinds_of (tokens_lexed qs) ≡ kinds.Reserved w ∷ ks → kinds_of (map first_token qs) ≡ kinds.Reserved w ∷ ks
 first_kinds [] w ks e = e
 first_kinds (a ∷ []) w ks e = e
 first_kinds (a ∷ b ∷ []) w ks e = e
@@ -153,7 +153,7 @@ text_behind bytes text tokens w ks lexes writes old new =
     let on : Leads b.end (10 ∷ text) qs (b.end + t.end) [] = subst (λ (i : ℕ). Leads i (10 ∷ text) qs (b.end + t.end) []) start (leads_moved b.end t.leads) in
     let all : Leads 0 (bytes ++ 10 ∷ text) (b.pieces ++ qs) (b.end + t.end) [] = joined (leads_on text b.leads refl) on in
     let more : List Token = map (token_of (words_of j.0)) qs in
-    let same : tokens_of (b.pieces ++ qs) ≡ tokens ++ more = j.1 ∙ ap (λ (ts : List Token). ts ++ more) b.tokens_are in
+    let same : tokens_lexed (b.pieces ++ qs) ≡ tokens ++ more = j.1 ∙ ap (λ (ts : List Token). ts ++ more) b.tokens_are in
     record {
       more = more;
       lexed = subst (λ (ts : List Token). Lexes (bytes ++ 10 ∷ text) (Ok ts)) same (to_tokens (IsUtf8-append bytes (10 ∷ text) b.utf8 t.utf8) all);

@@ -11,7 +11,7 @@ use Rattle.spi_scope.specs.declared.fault.ScopeFault.{ScopeFault}
 use Rattle.spi_scope.specs.Scope.{Names, Abbreviations}
 use Rattle.spi_scope.specs.Meaning.{message_in, type_in, process_in}
 use Rattle.spi_scope.specs.Points.{Point, uses_name, uses_type, declares_name, declares_type, ends_message, ends_type, adds, starts_step, Points, in_order, fault_at, added, part, whole_type, message_head, messages_head, typed_head, new_head, tested_head, split_head, match_head, process_points, opponent_points}
-use Rattle.spi_scope.specs.First.{Clean, count}
+use Rattle.spi_scope.specs.First.{Clean, count_points}
 use Rattle.spi_scope.specs.Gives.{run}
 use Rattle.spi_scope.specs.StandsFor.{opponent_over}
 use Rattle.spi_scope.proofs.Counting.{weight}
@@ -100,10 +100,10 @@ still_few c (ends_type n s) l h = omega (arith, l)
 still_few c (adds n s) l h = total c n _ h
 still_few c (starts_step i n s) l h = omega (arith, l)
 
-pub counted_few : (ps : List Point) (c : ℕ) → c ≤ 100000 → Clean c ps → c + count ps ≤ 100000
+pub counted_few : (ps : List Point) (c : ℕ) → c ≤ 100000 → Clean c ps → c + count_points ps ≤ 100000
 counted_few [] c l h = omega (arith, l)
 counted_few (p ∷ ps) c l h = omega (arith, counted_few ps (c + added p) (still_few c p l h.0) h.1)
 
 -- the points run
-pub runs : (ps : Points) → Clean 0 (in_order ps) → run ps 0 ≡ Ok (0 + count (in_order ps))
+pub runs : (ps : Points) → Clean 0 (in_order ps) → run ps 0 ≡ Ok (0 + count_points (in_order ps))
 runs ps h = run_in_order ps 0 ∙ clean_run (in_order ps) 0 h

@@ -10,20 +10,20 @@ use Rattle.spi_term.specs.Term.{Message, bound, name, unit, pair, in_left, in_ri
 use Rattle.spi_term.specs.Order.{message_cmp, atom_cmp}
 
 -- a message as numbers, in which no message begins another
-abbrev spell : Message → List ℕ → List ℕ
-spell (bound i) ks = 0 ∷ (i ∷ ks)
-spell (name x) ks = 1 ∷ (x ∷ ks)
-spell unit ks = 2 ∷ ks
-spell (pair a b) ks = 3 ∷ spell a (spell b ks)
-spell (in_left a) ks = 4 ∷ spell a ks
-spell (in_right a) ks = 5 ∷ spell a ks
-spell (enc a b) ks = 6 ∷ spell a (spell b ks)
-spell (hash a) ks = 7 ∷ spell a ks
+abbrev spell_message : Message → List ℕ → List ℕ
+spell_message (bound i) ks = 0 ∷ (i ∷ ks)
+spell_message (name x) ks = 1 ∷ (x ∷ ks)
+spell_message unit ks = 2 ∷ ks
+spell_message (pair a b) ks = 3 ∷ spell_message a (spell_message b ks)
+spell_message (in_left a) ks = 4 ∷ spell_message a ks
+spell_message (in_right a) ks = 5 ∷ spell_message a ks
+spell_message (enc a b) ks = 6 ∷ spell_message a (spell_message b ks)
+spell_message (hash a) ks = 7 ∷ spell_message a ks
 
 abbrev spell_atom : Atom → List ℕ
-spell_atom (ends m) = 0 ∷ spell m []
-spell_atom (checks m) = 1 ∷ spell m []
-spell_atom (many m) = 2 ∷ spell m []
+spell_atom (ends m) = 0 ∷ spell_message m []
+spell_atom (checks m) = 1 ∷ spell_message m []
+spell_atom (many m) = 2 ∷ spell_message m []
 
 abbrev list_cmp : List ℕ → List ℕ → Ordering
 list_cmp = slice_cmp nat_cmp
@@ -38,20 +38,20 @@ then_equal Less = refl
 then_equal Equal = refl
 then_equal Greater = refl
 
-spelled_cmp : (m n : Message) (xs ys : List ℕ) → list_cmp (spell m xs) (spell n ys) ≡ ordering_then (message_cmp m n) (list_cmp xs ys)
+spelled_cmp : (m n : Message) (xs ys : List ℕ) → list_cmp (spell_message m xs) (spell_message n ys) ≡ ordering_then (message_cmp m n) (list_cmp xs ys)
 spelled_cmp (bound i) (bound j) xs ys = refl
 spelled_cmp (name x) (name y) xs ys = refl
 spelled_cmp unit unit xs ys = refl
 spelled_cmp (pair a b) (pair c d) xs ys =
-    spelled_cmp a c (spell b xs) (spell d ys) ∙ ap (ordering_then (message_cmp a c)) (spelled_cmp b d xs ys) ∙ then_then (message_cmp a c) (message_cmp b d) (list_cmp xs ys)
+    spelled_cmp a c (spell_message b xs) (spell_message d ys) ∙ ap (ordering_then (message_cmp a c)) (spelled_cmp b d xs ys) ∙ then_then (message_cmp a c) (message_cmp b d) (list_cmp xs ys)
 spelled_cmp (in_left a) (in_left b) xs ys = spelled_cmp a b xs ys
 spelled_cmp (in_right a) (in_right b) xs ys = spelled_cmp a b xs ys
 spelled_cmp (enc a b) (enc c d) xs ys =
-    spelled_cmp a c (spell b xs) (spell d ys) ∙ ap (ordering_then (message_cmp a c)) (spelled_cmp b d xs ys) ∙ then_then (message_cmp a c) (message_cmp b d) (list_cmp xs ys)
+    spelled_cmp a c (spell_message b xs) (spell_message d ys) ∙ ap (ordering_then (message_cmp a c)) (spelled_cmp b d xs ys) ∙ then_then (message_cmp a c) (message_cmp b d) (list_cmp xs ys)
 spelled_cmp (hash a) (hash b) xs ys = spelled_cmp a b xs ys
 spelled_cmp _ _ xs ys = refl
 
-whole_cmp : (m n : Message) → list_cmp (spell m []) (spell n []) ≡ message_cmp m n
+whole_cmp : (m n : Message) → list_cmp (spell_message m []) (spell_message n []) ≡ message_cmp m n
 whole_cmp m n = spelled_cmp m n [] [] ∙ then_equal (message_cmp m n)
 
 atom_spelled : (a b : Atom) → list_cmp (spell_atom a) (spell_atom b) ≡ atom_cmp a b

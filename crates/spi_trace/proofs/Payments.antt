@@ -12,7 +12,7 @@ use Rattle.spi_trace.proofs.Seen.{within_at, at_in, in_at, and_then, length_more
 use Rattle.spi_trace.proofs.Kept.{Kept, kept_none, kept_earliest, earliest_kept, kept_begin, kept_other, kept_take, kept_take_other}
 
 -- n begins of the label are seen, of which u are taken
-record Has (seen : List Event) (taken : List ℕ) (m : Message) (n u : ℕ) : Type 0 where
+record HasTaken (seen : List Event) (taken : List ℕ) (m : Message) (n u : ℕ) : Type 0 where
   places : List ℕ
   kept : Kept seen taken m places u
   count : length places ≡ n
@@ -20,10 +20,10 @@ record Has (seen : List Event) (taken : List ℕ) (m : Message) (n u : ℕ) : Ty
 abbrev one_if : Bool → ℕ
 one_if b = if b then 1 else 0
 
-has_begin : {seen : List Event} {taken : List ℕ} (l m : Message) {n u : ℕ} → Has seen taken m n u → Has (seen ++ begun l ∷ []) taken m (one_if (same_message m l) + n) u
+has_begin : {seen : List Event} {taken : List ℕ} (l m : Message) {n u : ℕ} → HasTaken seen taken m n u → HasTaken (seen ++ begun l ∷ []) taken m (one_if (same_message m l) + n) u
 has_begin {seen} {taken} l m {n} {u} h = go (message_discrete m l)
   where
-    go : (d : Dec (m ≡ l)) → Has (seen ++ begun l ∷ []) taken m (one_if (elim d [ yes e ↦ true | no f ↦ false ]) + n) u
+    go : (d : Dec (m ≡ l)) → HasTaken (seen ++ begun l ∷ []) taken m (one_if (elim d [ yes e ↦ true | no f ↦ false ]) + n) u
     go (yes e) = record {
       places = h.places ++ length seen ∷ [];
       kept = subst (λ x. Kept (seen ++ begun x ∷ []) taken m (h.places ++ length seen ∷ []) u) e (kept_begin h.kept);
@@ -35,13 +35,13 @@ has_begin {seen} {taken} l m {n} {u} h = go (message_discrete m l)
       count = let b = h.count in omega arith;
     }
 
-has_other : {seen : List Event} {taken : List ℕ} {m : Message} {n u : ℕ} (e : Event) → e ≢ begun m → Has seen taken m n u → Has (seen ++ e ∷ []) taken m n u
+has_other : {seen : List Event} {taken : List ℕ} {m : Message} {n u : ℕ} (e : Event) → e ≢ begun m → HasTaken seen taken m n u → HasTaken (seen ++ e ∷ []) taken m n u
 has_other e d h = record { places = h.places; kept = kept_other h.kept e d; count = h.count }
 
-has_end : {seen : List Event} {taken : List ℕ} {i : ℕ} (l m : Message) {n u : ℕ} → IsEarliest seen taken l i → Has seen taken m n u → Has (seen ++ ended l ∷ []) (i ∷ taken) m n (one_if (same_message m l) + u)
+has_end : {seen : List Event} {taken : List ℕ} {i : ℕ} (l m : Message) {n u : ℕ} → IsEarliest seen taken l i → HasTaken seen taken m n u → HasTaken (seen ++ ended l ∷ []) (i ∷ taken) m n (one_if (same_message m l) + u)
 has_end {seen} {taken} {i} l m {n} {u} f h = has_other (ended l) (λ e. cc) (go (message_discrete m l))
   where
-    go : (d : Dec (m ≡ l)) → Has seen (i ∷ taken) m n (one_if (elim d [ yes e ↦ true | no g ↦ false ]) + u)
+    go : (d : Dec (m ≡ l)) → HasTaken seen (i ∷ taken) m n (one_if (elim d [ yes e ↦ true | no g ↦ false ]) + u)
     go (yes e) = record {
       places = h.places;
       kept = subst (λ x. Kept seen (i ∷ taken) m h.places x) (let p : suc u ≡ 1 + u = omega arith in p) (kept_take h.kept (earliest_kept h.kept (subst (λ x. IsEarliest seen taken x i) (sym e) f)));
@@ -55,13 +55,13 @@ has_end {seen} {taken} {i} l m {n} {u} f h = has_other (ended l) (λ e. cc) (go 
 
 -- of these labels so many begins are seen and so many are taken, and the further events are paid
 abbrev AllHave : List Event → List ℕ → (Message → ℕ) → (Message → ℕ) → Type 0
-AllHave seen taken n u = (m : Message) → Has seen taken m (n m) (u m)
+AllHave seen taken n u = (m : Message) → HasTaken seen taken m (n m) (u m)
 
 abbrev PaidAfter : (Message → ℕ) → (Message → ℕ) → List Event → Type 0
 PaidAfter n u es = (early late : List Event) (m : Message) → es ≡ early ++ late → u m + ends_of m early ≤ n m + begins_of m early
 
-abbrev more : Message → (Message → ℕ) → Message → ℕ
-more l n m = one_if (same_message m l) + n m
+abbrev more_by_one : Message → (Message → ℕ) → Message → ℕ
+more_by_one l n m = one_if (same_message m l) + n m
 
 -- the first event and the rest
 paid_first : {seen : List Event} {taken : List ℕ} {n u : Message → ℕ} → AllHave seen taken n u → (m : Message) → u m + 0 ≤ n m + 0
@@ -71,14 +71,14 @@ after_none : (n u : Message → ℕ) → ((m : Message) → u m + 0 ≤ n m + 0)
 after_none n u z [] late m f = z m
 after_none n u z (x ∷ early) late m f = cc
 
-after_begin : {es : List Event} (n u : Message → ℕ) (l : Message) → ((m : Message) → u m + 0 ≤ n m + 0) → PaidAfter (more l n) u es → PaidAfter n u (begun l ∷ es)
+after_begin : {es : List Event} (n u : Message → ℕ) (l : Message) → ((m : Message) → u m + 0 ≤ n m + 0) → PaidAfter (more_by_one l n) u es → PaidAfter n u (begun l ∷ es)
 after_begin n u l z p [] late m f = z m
 after_begin n u l z p (x ∷ early) late m f =
     let e : begun l ≡ x = cc in
     let h = p early late m cc in
     subst (λ y. u m + ends_of m (y ∷ early) ≤ n m + begins_of m (y ∷ early)) e (omega arith)
 
-after_end : {es : List Event} (n u : Message → ℕ) (l : Message) → ((m : Message) → u m + 0 ≤ n m + 0) → PaidAfter n (more l u) es → PaidAfter n u (ended l ∷ es)
+after_end : {es : List Event} (n u : Message → ℕ) (l : Message) → ((m : Message) → u m + 0 ≤ n m + 0) → PaidAfter n (more_by_one l u) es → PaidAfter n u (ended l ∷ es)
 after_end n u l z p [] late m f = z m
 after_end n u l z p (x ∷ early) late m f =
     let e : ended l ≡ x = cc in
@@ -95,16 +95,16 @@ after_end_many n u l z p (x ∷ early) late m f =
 -- where each end has a begin the events are paid
 pairs_paid : {seen : List Event} {taken : List ℕ} {es : List Event} {is : List (Option ℕ)} → Pairs seen taken es is → (n u : Message → ℕ) → AllHave seen taken n u → EndsPaired es is → PaidAfter n u es
 pairs_paid pairs_none n u a q = after_none n u (paid_first a)
-pairs_paid (pairs_begin {m = l} p) n u a q = after_begin n u l (paid_first a) (pairs_paid p (more l n) u (λ m. has_begin l m (a m)) (λ i m b c. q (suc i) m (at_later b) (at_later c)))
-pairs_paid (pairs_end {m = l} h p) n u a q = after_end n u l (paid_first a) (pairs_paid p n (more l u) (λ m. has_end l m h (a m)) (λ i m b c. q (suc i) m (at_later b) (at_later c)))
+pairs_paid (pairs_begin {m = l} p) n u a q = after_begin n u l (paid_first a) (pairs_paid p (more_by_one l n) u (λ m. has_begin l m (a m)) (λ i m b c. q (suc i) m (at_later b) (at_later c)))
+pairs_paid (pairs_end {m = l} h p) n u a q = after_end n u l (paid_first a) (pairs_paid p n (more_by_one l u) (λ m. has_end l m h (a m)) (λ i m b c. q (suc i) m (at_later b) (at_later c)))
 pairs_paid (pairs_unpaid {m = l} d p) n u a q = absurd (q 0 l at_first at_first)
 pairs_paid (pairs_end_many {m = l} h p) n u a q = after_end_many n u l (paid_first a) (pairs_paid p n u (λ m. has_other (ended_many l) (λ e. cc) (a m)) (λ i m b c. q (suc i) m (at_later b) (at_later c)))
 pairs_paid (pairs_unpaid_many {m = l} d p) n u a q = after_end_many n u l (paid_first a) (pairs_paid p n u (λ m. has_other (ended_many l) (λ e. cc) (a m)) (λ i m b c. q (suc i) m (at_later b) (at_later c)))
 
-rest_begin : {es : List Event} (n u : Message → ℕ) (l : Message) → PaidAfter n u (begun l ∷ es) → PaidAfter (more l n) u es
+rest_begin : {es : List Event} (n u : Message → ℕ) (l : Message) → PaidAfter n u (begun l ∷ es) → PaidAfter (more_by_one l n) u es
 rest_begin n u l p early late m f = let h = p (begun l ∷ early) late m (ap (λ x. begun l ∷ x) f) in omega arith
 
-rest_end : {es : List Event} (n u : Message → ℕ) (l : Message) → PaidAfter n u (ended l ∷ es) → PaidAfter n (more l u) es
+rest_end : {es : List Event} (n u : Message → ℕ) (l : Message) → PaidAfter n u (ended l ∷ es) → PaidAfter n (more_by_one l u) es
 rest_end n u l p early late m f = let h = p (ended l ∷ early) late m (ap (λ x. ended l ∷ x) f) in omega arith
 
 rest_end_many : {es : List Event} (n u : Message → ℕ) (l : Message) → PaidAfter n u (ended_many l ∷ es) → PaidAfter n u es
@@ -122,9 +122,9 @@ one_free {es = es} {n = n} {u = u} l a p =
 -- where the events are paid each end has a begin
 paid_pairs : {seen : List Event} {taken : List ℕ} {es : List Event} {is : List (Option ℕ)} → Pairs seen taken es is → (n u : Message → ℕ) → AllHave seen taken n u → PaidAfter n u es → EndsPaired es is
 paid_pairs pairs_none n u a q i m b c = elim b [ ]
-paid_pairs (pairs_begin {m = l} p) n u a q i m (at_later b) (at_later c) = paid_pairs p (more l n) u (λ k. has_begin l k (a k)) (rest_begin n u l q) _ m b c
+paid_pairs (pairs_begin {m = l} p) n u a q i m (at_later b) (at_later c) = paid_pairs p (more_by_one l n) u (λ k. has_begin l k (a k)) (rest_begin n u l q) _ m b c
 paid_pairs (pairs_end {m = l} h p) n u a q i m at_first c = elim c [ ]
-paid_pairs (pairs_end {m = l} h p) n u a q i m (at_later b) (at_later c) = paid_pairs p n (more l u) (λ k. has_end l k h (a k)) (rest_end n u l q) _ m b c
+paid_pairs (pairs_end {m = l} h p) n u a q i m (at_later b) (at_later c) = paid_pairs p n (more_by_one l u) (λ k. has_end l k h (a k)) (rest_end n u l q) _ m b c
 paid_pairs (pairs_unpaid {m = l} d p) n u a q i m b c = let (j, f) = one_free l a q in d j f.free
 paid_pairs (pairs_end_many {m = l} h p) n u a q i m (at_later b) (at_later c) = paid_pairs p n u (λ k. has_other (ended_many l) (λ e. cc) (a k)) (rest_end_many n u l q) _ m b c
 paid_pairs (pairs_unpaid_many {m = l} d p) n u a q i m (at_later b) (at_later c) = paid_pairs p n u (λ k. has_other (ended_many l) (λ e. cc) (a k)) (rest_end_many n u l q) _ m b c

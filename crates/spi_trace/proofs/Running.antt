@@ -14,7 +14,7 @@ use Rattle.std.proofs.Math.Seq.{take-append_seam}
 use Rattle.spi_run.specs.View.{event}
 use Rattle.spi_run.specs.declared.step.Event as Declared
 use Rattle.spi_trace.specs.declared.queue.Begins.{Begins}
-use Rattle.spi_trace.specs.Queue.{Queue, no_begins, with_begin, next, one_taken, pays, after, IsPaidFrom}
+use Rattle.spi_trace.specs.Queue.{Queue, no_begins, with_begin, next, one_taken, payer_in, queue_after, IsPaidFrom}
 use Rattle.spi_trace.proofs.Prefixes.{length_events}
 use Rattle.spi_trace.proofs.Seen.{and_then}
 use Rattle.spi_trace.proofs.Kept.{Kept, kept_none, kept_earliest, kept_spent, kept_begin, kept_other, kept_take, kept_take_other}
@@ -85,7 +85,7 @@ pay_many seen taken m q k None g = record {
   paired = λ es is p. pairs_unpaid_many (kept_spent (untaken k) (none_past q.places 0 g)) p;
 }
 
-paying : (seen : List Event) (taken : List ℕ) (e : Event) (q : Queue) → HasBegins seen taken (label_of e) q → Paying seen taken e (pays e q) (after e (length seen) q)
+paying : (seen : List Event) (taken : List ℕ) (e : Event) (q : Queue) → HasBegins seen taken (label_of e) q → Paying seen taken e (payer_in e q) (queue_after e (length seen) q)
 paying seen taken (begun m) q k = pay_begin seen taken m q k
 paying seen taken (ended m) q k = pay_end seen taken m q k (next q) refl
 paying seen taken (ended_many m) q k = pay_many seen taken m q k (slice_get q.places 0) refl
@@ -155,9 +155,9 @@ length_take (x ∷ es) zero e at_first = refl
 length_take (x ∷ es) (suc i) e (at_later a) = ap suc (length_take es i e a)
 
 -- one more event
-run_suc : (es : List Event) (ns : List ℕ) (bound i n : ℕ) (e : Event) (q : Queue) (qs : List Queue) (from : List (Option ℕ)) → AreNumbered es ns bound → At es i e → At ns i n → slice_get qs n ≡ Some q → Running es ns i qs from → Running es ns (suc i) (slice_set qs n (after e i q)) (from ++ pays e q ∷ [])
+run_suc : (es : List Event) (ns : List ℕ) (bound i n : ℕ) (e : Event) (q : Queue) (qs : List Queue) (from : List (Option ℕ)) → AreNumbered es ns bound → At es i e → At ns i n → slice_get qs n ≡ Some q → Running es ns i qs from → Running es ns (suc i) (slice_set qs n (queue_after e i q)) (from ++ payer_in e q ∷ [])
 run_suc es ns bound i n e q qs from r a b g h =
-    let p : Paying (take i es) h.taken e (pays e q) (after e i q) = subst (λ x. Paying (take i es) h.taken e (pays e q) (after e x q)) (length_take es i e a) (paying (take i es) h.taken e q (h.holds i n e q a b g)) in
+    let p : Paying (take i es) h.taken e (payer_in e q) (queue_after e i q) = subst (λ x. Paying (take i es) h.taken e (payer_in e q) (queue_after e x q)) (length_take es i e a) (paying (take i es) h.taken e q (h.holds i n e q a b g)) in
     let s = sym (take_at es i e a) in
     record {
       taken = p.taken_then;
@@ -165,15 +165,15 @@ run_suc es ns bound i n e q qs from r a b g h =
           let z = same_label es ns bound r j i k n d e c a f b in
           let w : HasBegins (take i es ++ e ∷ []) p.taken_then (label_of d) x = ⊎_elim
           (λ t.
-          let u = set_there qs n (after e i q) x (subst (λ l. slice_get (slice_set qs n (after e i q)) l ≡ Some x) t y) in
+          let u = set_there qs n (queue_after e i q) x (subst (λ l. slice_get (slice_set qs n (queue_after e i q)) l ≡ Some x) t y) in
           subst₂ (λ m v. HasBegins (take i es ++ e ∷ []) p.taken_then m v) (sym (z.0 t)) (sym u) p.own)
-          (λ t. p.other (label_of d) x (λ v. t (z.1 v)) (h.holds j k d x c f (sym (set_elsewhere qs n k (after e i q) t) ∙ y)))
+          (λ t. p.other (label_of d) x (λ v. t (z.1 v)) (h.holds j k d x c f (sym (set_elsewhere qs n k (queue_after e i q) t) ∙ y)))
           (cases_eq k n) in
           subst (λ xs. HasBegins xs p.taken_then (label_of d) x) s w;
       joined = λ is t.
           let u : Pairs (take i es ++ e ∷ []) p.taken_then (drop (suc i) es) is = subst (λ xs. Pairs xs p.taken_then (drop (suc i) es) is) (take_at es i e a) t in
-          let v : Pairs (take i es) h.taken (drop i es) (pays e q ∷ is) = subst (λ xs. Pairs (take i es) h.taken xs (pays e q ∷ is)) (sym (drop_at es i e a)) (p.paired (drop (suc i) es) is u) in
-          subst (λ os. Pairs [] [] es os) (sym (and_then from (pays e q) is)) (h.joined (pays e q ∷ is) v);
+          let v : Pairs (take i es) h.taken (drop i es) (payer_in e q ∷ is) = subst (λ xs. Pairs (take i es) h.taken xs (payer_in e q ∷ is)) (sym (drop_at es i e a)) (p.paired (drop (suc i) es) is u) in
+          subst (λ os. Pairs [] [] es os) (sym (and_then from (payer_in e q) is)) (h.joined (payer_in e q ∷ is) v);
     }
 
 all_taken : (es : List Event) (n : ℕ) → length es ≤ n → drop n es ≡ []

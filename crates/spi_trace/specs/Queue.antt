@@ -24,18 +24,18 @@ one_taken None q = q
 one_taken (Some i) q = record { places = q.places; taken = q.taken + 1 }
 
 -- what pays for an event of the label, and the begins after the event, which has this place
-abbrev pub pays : Event → Queue → Option ℕ
-pays (begun m) q = None
-pays (ended m) q = next q
-pays (ended_many m) q = slice_get q.places 0
+abbrev pub payer_in : Event → Queue → Option ℕ
+payer_in (begun m) q = None
+payer_in (ended m) q = next q
+payer_in (ended_many m) q = slice_get q.places 0
 
-abbrev pub after : Event → ℕ → Queue → Queue
-after (begun m) i q = with_begin q i
-after (ended m) i q = one_taken (next q) q
-after (ended_many m) i q = q
+abbrev pub queue_after : Event → ℕ → Queue → Queue
+queue_after (begun m) i q = with_begin q i
+queue_after (ended m) i q = one_taken (next q) q
+queue_after (ended_many m) i q = q
 
 -- the event with this place is paid by the begins of its label, which have this number
 pub record IsPaidFrom (e : Event) (i : ℕ) (number : ℕ) (old new : List Queue) (begin : Option ℕ) : Type 0
   where
-    pub by : (q : Queue) → slice_get old number ≡ Some q → begin ≡ pays e q
-    pub left : (q : Queue) → slice_get old number ≡ Some q → new ≡ slice_set old number (after e i q)
+    pub by : (q : Queue) → slice_get old number ≡ Some q → begin ≡ payer_in e q
+    pub left : (q : Queue) → slice_get old number ≡ Some q → new ≡ slice_set old number (queue_after e i q)

@@ -13,7 +13,7 @@ use Rattle.spi_tree.specs.declared.tree.SField.{SField}
 use Rattle.spi_tree.specs.declared.tree.Last.{Last}
 use Rattle.spi_tree.specs.declared.tree.SDeriv.{SDeriv, SDeriv', out-SDeriv, Row_of-SDeriv, end_of-SDeriv, more_of-SDeriv, items-the_row-SDeriv, items_shown-the_row-SDeriv-0, items_hidden-the_row-SDeriv-0}
 use Rattle.spi_tree.specs.Trees as t
-use Rattle.spi_tree.specs.Views.{msg_of, msgs_of_row, ty_of, fields_of_row, last_of, field_of, effect_of, deriv_of, derivs_of_row}
+use Rattle.spi_tree.specs.Views.{msg_of, msgs_of_row, ty_of, fields_of_row, last_of, field_of, tree_effect, deriv_of, derivs_of_row}
 use Rattle.spi_tree.specs.Listed.{joined, mark_list, msg_list, msgs_list, more_list, field_list, fields_list, deriv_list, derivs_list, word_list, ty_list, last_list, tuple_list, tuple_ty_list, written_list}
 
 row_of_msgs : (n : _) (row : Row_of-SMsg n) → t.msgs_of_list (map msg_of (items-the_row-SMsg n row)) ≡ msgs_of_row row
@@ -56,9 +56,9 @@ tuple_listed a b v s = ap msg_list (tuple_is a b v s) ∙ ap (λ l. mark_list ma
 pub tuple_ty_listed : (w : SWord) (a : Box STy) (v : Vec SField) (b : Box Last) (s : Span) → ty_list (ty_of (sty.Tuple w a v b s)) ≡ tuple_ty_list w (ty_of a.value) (map field_of v.items) (last_of b.value)
 tuple_ty_listed w a v b s = ap ty_list (tuple_ty_is w a v b s) ∙ ap (λ l. mark_list mark.ParenOpen ++ word_list w ++ mark_list mark.Colon ++ ty_list (ty_of a.value) ++ mark_list mark.Comma ++ l ++ last_list (last_of b.value) ++ mark_list mark.ParenClose) (joined_fields (map field_of v.items))
 
-pub deriv_listed : (d : SDeriv) → deriv_list (deriv_of d) ≡ word_list (out-SDeriv d).rule ++ written_list (effect_of (out-SDeriv d).effect) ++ joined deriv_list (map deriv_of (out-SDeriv d).premises.items)
+pub deriv_listed : (d : SDeriv) → deriv_list (deriv_of d) ≡ word_list (out-SDeriv d).rule ++ written_list (tree_effect (out-SDeriv d).effect) ++ joined deriv_list (map deriv_of (out-SDeriv d).premises.items)
 unfolding out-SDeriv denote.Hole.Carrier.out
-deriv_listed (SDeriv' w es shape row s) = ap (λ l. word_list w ++ written_list (effect_of es) ++ l) (sym (ap derivs_list (row_of_derivs _ row)) ∙ joined_derivs (map deriv_of (items-the_row-SDeriv _ row)) ∙ ap (λ l. joined deriv_list (map deriv_of l)) (sym (items_shown-the_row-SDeriv-0 shape row)))
+deriv_listed (SDeriv' w es shape row s) = ap (λ l. word_list w ++ written_list (tree_effect es) ++ l) (sym (ap derivs_list (row_of_derivs _ row)) ∙ joined_derivs (map deriv_of (items-the_row-SDeriv _ row)) ∙ ap (λ l. joined deriv_list (map deriv_of l)) (sym (items_shown-the_row-SDeriv-0 shape row)))
 
 -- what was put, one list behind another
 chain6 : (o0 o1 o2 o3 o4 o5 o6 a b c d e f : List Kind) → o1 ≡ o0 ++ a → o2 ≡ o1 ++ b → o3 ≡ o2 ++ c → o4 ≡ o3 ++ d → o5 ≡ o4 ++ e → o6 ≡ o5 ++ f → o6 ≡ o0 ++ (a ++ b ++ c ++ d ++ e ++ f)
@@ -83,6 +83,6 @@ put_tuple_ty m w a v b s a' vs b' o0 o1 o2 o3 o4 o5 o6 o7 o8 is ea ev eb h1 h2 h
     chain8 o0 o1 o2 o3 o4 o5 o6 o7 o8 (mark_list mark.ParenOpen) (word_list w) (mark_list mark.Colon) (ty_list (ty_of a.value)) (mark_list mark.Comma) (joined field_list (map field_of v.items)) (last_list (last_of b.value)) (mark_list mark.ParenClose) h1 h2 h3 (rw ea at h4) h5 (rw ev at h6) (rw eb at h7) h8
     ∙ ap (λ l. o0 ++ l) (sym (ap (λ x. ty_list (ty_of x)) is ∙ tuple_ty_listed w a v b s))
 
-pub put_derivation : (d : SDeriv) (ds : List SDeriv) (o0 o1 o2 o3 : List Kind) → ds ≡ (out-SDeriv d).premises.items → o1 ≡ o0 ++ word_list (out-SDeriv d).rule → o2 ≡ o1 ++ written_list (effect_of (out-SDeriv d).effect)
+pub put_derivation : (d : SDeriv) (ds : List SDeriv) (o0 o1 o2 o3 : List Kind) → ds ≡ (out-SDeriv d).premises.items → o1 ≡ o0 ++ word_list (out-SDeriv d).rule → o2 ≡ o1 ++ written_list (tree_effect (out-SDeriv d).effect)
     → o3 ≡ o2 ++ joined deriv_list (map deriv_of ds) → o3 ≡ o0 ++ deriv_list (deriv_of d)
 put_derivation d ds o0 o1 o2 o3 e h1 h2 h3 = rw (deriv_listed d, ← e, h3, h2, h1) (simp append_assoc refl)

@@ -2,7 +2,7 @@
 use Rattle.std.proofs.Common.{ℕ, ◌+◌, ◌==◌, Bool, true, false, List, [], ◌∷◌, Option, Some, None, if◌then◌else◌}
 use Rattle.spi_tree.specs.declared.tree.SWord.{SWord}
 use Rattle.spi_tree.specs.Trees as t
-use Rattle.spi_tree.specs.Pieces.{Piece, msg_pieces, msgs_pieces, atom_pieces, atoms_pieces, effect_pieces, ty_pieces, fields_pieces, last_pieces, Place, in_seq, at_level, below, beside, level_of, named_pieces, binder_pieces, proc_pieces, words_pieces, decl_pieces, decls_pieces, step_pieces, steps_pieces, version_pieces, opponent_pieces, schedule_pieces}
+use Rattle.spi_tree.specs.Pieces.{Piece, msg_pieces, msgs_pieces, atom_pieces, atoms_pieces, effect_pieces, ty_pieces, fields_pieces, last_pieces, Place, in_seq, at_level, below, beside_place, level_of, named_pieces, binder_pieces, proc_pieces, words_pieces, decl_pieces, decls_pieces, step_pieces, steps_pieces, version_pieces, opponent_pieces, schedule_pieces}
 
 module _ (R : List Piece → List Piece → Type 0) (cons : (p : Piece) (x y : List Piece) → R x y → R (p ∷ x) (p ∷ y)) where
   one : {p : Piece} {x y : List Piece} → R x y → R (p ∷ x) (p ∷ y)
@@ -85,7 +85,7 @@ module _ (R : List Piece → List Piece → Type 0) (cons : (p : Piece) (x y : L
   same_proc at (t.cast s m w a p) h = two (same_msg 1 m (one (same_binder w a (same_proc (below at) p (one h)))))
   same_proc at (t.new s w a p) h = two (same_binder w a (same_proc (below at) p (one h)))
   same_proc at (t.stop s) h = three h
-  same_proc at (t.group s p q) h = two (same_proc (below at) p (one (same_proc (beside at) q (two h))))
+  same_proc at (t.group s p q) h = two (same_proc (below at) p (one (same_proc (beside_place at) q (two h))))
 
   same_words : (ws : List SWord) {x y : List Piece} → R x y → R (words_pieces ws x) (words_pieces ws y)
   same_words [] h = h

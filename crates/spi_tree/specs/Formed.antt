@@ -7,7 +7,7 @@ use Rattle.spi_lex.specs.declared.token.Kind.TheVariants as kinds
 use Rattle.spi_lex.specs.Words.{words_of}
 use Rattle.spi_lex.specs.Writing.{IsKind}
 use Rattle.spi_tree.specs.Trees as t
-use Rattle.spi_tree.specs.Pieces.{Place, in_seq, at_level, below, beside, tokens_of}
+use Rattle.spi_tree.specs.Pieces.{Place, in_seq, at_level, below, beside_place, tokens_of}
 
 -- a token that is a Word has a spelling of at most 255 bytes that isn't reserved in the version
 abbrev pub IsWordFit : Bool → Kind → Type 0
@@ -86,7 +86,7 @@ IsProc later a (t.end_many s m p) = (later ≡ true) × IsMsg later false m × I
 IsProc later a (t.cast s m w b p) = IsMsg later false m × IsTy later b × IsProc later (below a) p
 IsProc later a (t.new s w b p) = IsTy later b × IsProc later (below a) p
 IsProc later a (t.stop s) = Unit {0}
-IsProc later a (t.group s p q) = IsProc later (below a) p × IsProc later (beside a) q
+IsProc later a (t.group s p q) = IsProc later (below a) p × IsProc later (beside_place a) q
 
 abbrev pub IsDeclared : Bool → t.Declared → Type 0
 IsDeclared later (t.free s w ws) = Unit {0}

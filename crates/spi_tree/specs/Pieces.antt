@@ -155,8 +155,8 @@ proc_begins a s k r = begins s k (nat_lt process_limit (nesting_of a)) r
 abbrev pub below : Place → Place
 below a = in_seq (nesting_of a + 1)
 
-abbrev pub beside : Place → Place
-beside a = at_level (nesting_of a + 1)
+abbrev pub beside_place : Place → Place
+beside_place a = at_level (nesting_of a + 1)
 
 abbrev pub proc_pieces : Place → t.Proc → List Piece → List Piece
 proc_pieces a (t.par s p q) r =
@@ -229,7 +229,7 @@ proc_pieces a (t.new s w b p) r =
 proc_pieces a (t.stop s) r = proc_begins a s (kinds.Reserved word.Stop) (ends s r)
 proc_pieces a (t.group s p q) r =
     proc_begins a s (kinds.Mark mark.ParenOpen)
-    (proc_pieces (below a) p (a_mark mark.Bar (proc_pieces (beside a) q (a_mark mark.ParenClose (ends s r)))))
+    (proc_pieces (below a) p (a_mark mark.Bar (proc_pieces (beside_place a) q (a_mark mark.ParenClose (ends s r)))))
 
 abbrev pub words_pieces : List SWord → List Piece → List Piece
 words_pieces [] r = r

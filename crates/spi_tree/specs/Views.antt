@@ -89,13 +89,13 @@ abbrev pub step_of : SStep → t.Step
 step_of (sstep.Act i s) = t.act s i
 step_of (sstep.Talk i j s) = t.talk s i j
 
-abbrev pub effect_of : Option (Vec SAtom) → Option (List t.Atom)
-effect_of None = None
-effect_of (Some es) = Some (map atom_of es.items)
+abbrev pub tree_effect : Option (Vec SAtom) → Option (List t.Atom)
+tree_effect None = None
+tree_effect (Some es) = Some (map atom_of es.items)
 
 abbrev mutual
   pub deriv_of : SDeriv → t.Deriv
-  deriv_of (SDeriv' w es shape ds s) = t.rule s w (effect_of es) (derivs_of_row ds)
+  deriv_of (SDeriv' w es shape ds s) = t.rule s w (tree_effect es) (derivs_of_row ds)
 
   pub derivs_of_row : {n : _} → Row_of-SDeriv n → t.Derivs
   derivs_of_row end_of-SDeriv = t.no_derivs

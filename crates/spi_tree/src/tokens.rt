@@ -1,5 +1,5 @@
 ghost use Rattle.std.specs.Prelude.{◌≡◌, ◌++◌, map, IfOk, OnOk, []};
-ghost use Rattle.spi_tree.specs.Views.{ty_of, proc_of, decl_of, step_of, effect_of, deriv_of, opponent_of, schedule_of, derivation_of, file_of};
+ghost use Rattle.spi_tree.specs.Views.{ty_of, proc_of, decl_of, step_of, tree_effect, deriv_of, opponent_of, schedule_of, derivation_of, file_of};
 ghost use Rattle.spi_tree.specs.Pieces.{tokens_of};
 ghost use Rattle.spi_tree.specs.Listed.{joined, more_word_list, decl_list, step_list, written_list, deriv_list, version_list, opponent_list, schedule_list, derivation_list};
 
@@ -81,7 +81,7 @@ fn put_written(
     out: &mut Vec<Kind>,
     effect: &Option<Vec<SAtom>>,
 ) -> Result<(), NoMemory>
-    ensures { OnOk result (out.new.items ≡ out.old.items ++ written_list (effect_of effect.now)) }
+    ensures { OnOk result (out.new.items ≡ out.old.items ++ written_list (tree_effect effect.now)) }
 {
     match effect {
         None => Ok(()),

@@ -19,7 +19,7 @@ use Rattle.spi_heading.specs.Headings.{Shared}
 use Rattle.spi_heading.specs.Each.{each_pieces}
 use Rattle.spi_heading.specs.Grammar.{shared_word, shared_pieces}
 use Rattle.spi_narrate.specs.Narrations as n
-use Rattle.spi_narrate.specs.Grammar.{line_pieces, roles_pieces, HasRole, whole_narration, IsNarration, is_later}
+use Rattle.spi_narrate.specs.Grammar.{line_pieces, roles_pieces, HasRole, whole_narration, IsNarration, is_later_narration}
 use Rattle.spi_weave.specs.Woven.{roles_together, sharing, woven}
 use Rattle.spi_weave.proofs.Forming.{IsFine, IsFineAt, known_stop, fits_sharing, fits_together, behind_shared, behind_decl, decl_then}
 
@@ -99,10 +99,10 @@ first_kinds : (ks : List Kind) → AreKinds ks → is_version_2 ks ≡ false →
 first_kinds ks (first_version e h) p = h
 first_kinds ks (later_version h) p = absurd cc
 
-abbrev marked : List Kind → List Kind
-marked ks = kinds.Word (codes "version") ∷ kinds.Number 2 ∷ kinds.Mark mark.Semicolon ∷ ks
+abbrev marked_kinds : List Kind → List Kind
+marked_kinds ks = kinds.Word (codes "version") ∷ kinds.Number 2 ∷ kinds.Mark mark.Semicolon ∷ ks
 
-later_kinds : (js ks : List Kind) → AreKinds js → js ≡ marked ks → AllByRecursion (IsKind version_2) ks
+later_kinds : (js ks : List Kind) → AreKinds js → js ≡ marked_kinds ks → AllByRecursion (IsKind version_2) ks
 later_kinds js ks (first_version e h) p = absurd (let z : true ≡ false = sym (ap is_version_2 p) ∙ e in cc)
 later_kinds js ks (later_version {tokens = ts} h) p = subst (AllByRecursion (IsKind version_2)) (ap (drop 3) p) h
 
@@ -128,8 +128,8 @@ with_version v ps (inr two) plain front fine =
 
 -- ---- the whole
 
-abbrev body : n.Narration → List Piece
-body x = each_pieces decl_pieces x.decls (each_pieces shared_pieces x.shared (roles_pieces x.roles (each_pieces line_pieces x.lines (ends x.span []))))
+abbrev narrated_body : n.Narration → List Piece
+narrated_body x = each_pieces decl_pieces x.decls (each_pieces shared_pieces x.shared (roles_pieces x.roles (each_pieces line_pieces x.lines (ends x.span []))))
 
 plain_roles : (ws : List SWord) (r : List Piece) → HasRole ws → is_version_2 (kinds_in (roles_pieces ws r)) ≡ false
 plain_roles [] r h = absurd (let z = h.2 in cc)
@@ -147,7 +147,7 @@ plain_each (t.free s w more ∷ ds) r h =
 plain_each (t.abbreviated s w a ∷ ds) r h =
     plain_first (kinds.Reserved word.TypeWord) (kinds_in (a_word false w (a_mark mark.Equals (ty_pieces 1 a (a_mark mark.Semicolon (ends s (each_pieces decl_pieces ds r))))))) refl
 
-plain_body : (x : n.Narration) → IsNarration x → is_version_2 (kinds_in (body x)) ≡ false
+plain_body : (x : n.Narration) → IsNarration x → is_version_2 (kinds_in (narrated_body x)) ≡ false
 plain_body x i = plain_each x.decls _ (plain_shared x.shared x.roles _ i.roles)
 
 plain_decls : (ds : List t.Declared) (r : List Piece) → is_version_2 (kinds_in (decls_pieces ds (a_reserved word.Process r))) ≡ false
@@ -158,36 +158,36 @@ plain_decls (t.abbreviated s w a ∷ ds) r =
     plain_first (kinds.Reserved word.TypeWord) (kinds_in (a_word false w (a_mark mark.Equals (ty_pieces 1 a (a_mark mark.Semicolon (ends s (decls_pieces ds (a_reserved word.Process r)))))))) refl
 
 -- the fine parts of a formed narration within the limits
-fine_body : (x : n.Narration) → IsNarration x → IsWithin (whole_narration x) → AreKinds (kinds_in (whole_narration x)) → IsFine (is_later x) (body x)
-fine_body x i w k = behind_version x.version (body x) i.version (plain_body x i) k w
+fine_body : (x : n.Narration) → IsNarration x → IsWithin (whole_narration x) → AreKinds (kinds_in (whole_narration x)) → IsFine (is_later_narration x) (narrated_body x)
+fine_body x i w k = behind_version x.version (narrated_body x) i.version (plain_body x i) k w
 
 abbrev tail : n.Narration → List Piece
 tail x = opponent_pieces (woven x).opponent (ends x.span [])
 
-fine_process : (x : n.Narration) → IsNarration x → IsFine (is_later x) (body x) → length x.shared ≤ 16 → length x.roles ≤ 8 → length x.lines ≤ 200
-    → IsFineAt (is_later x) (at_level 0) (sharing x.shared (roles_together x.lines x.roles))
+fine_process : (x : n.Narration) → IsNarration x → IsFine (is_later_narration x) (narrated_body x) → length x.shared ≤ 16 → length x.roles ≤ 8 → length x.lines ≤ 200
+    → IsFineAt (is_later_narration x) (at_level 0) (sharing x.shared (roles_together x.lines x.roles))
 fine_process x i fine shared roles lines =
-    let behind = behind_decls (is_later x) x.decls _ fine in
-    let named = behind_all_shared (is_later x) x.shared _ behind in
-    fits_sharing (is_later x) x.shared (roles_together x.lines x.roles) (length x.roles + (2 + 2 * length x.lines)) _ i.shared behind
-    (fits_together (is_later x) x.lines (ends x.span []) i.lines (behind_roles (is_later x) x.roles _ named) x.roles) (at_level 0) (omega (arith, shared, roles, lines))
+    let behind = behind_decls (is_later_narration x) x.decls _ fine in
+    let named = behind_all_shared (is_later_narration x) x.shared _ behind in
+    fits_sharing (is_later_narration x) x.shared (roles_together x.lines x.roles) (length x.roles + (2 + 2 * length x.lines)) _ i.shared behind
+    (fits_together (is_later_narration x) x.lines (ends x.span []) i.lines (behind_roles (is_later_narration x) x.roles _ named) x.roles) (at_level 0) (omega (arith, shared, roles, lines))
 
-fine_file : (x : n.Narration) → IsFine (is_later x) (body x) → IsFineAt (is_later x) (at_level 0) (sharing x.shared (roles_together x.lines x.roles))
-    → IsFine (is_later x) (decls_pieces x.decls (a_reserved word.Process (proc_pieces (at_level 0) (woven x).process (tail x))))
+fine_file : (x : n.Narration) → IsFine (is_later_narration x) (narrated_body x) → IsFineAt (is_later_narration x) (at_level 0) (sharing x.shared (roles_together x.lines x.roles))
+    → IsFine (is_later_narration x) (decls_pieces x.decls (a_reserved word.Process (proc_pieces (at_level 0) (woven x).process (tail x))))
 fine_file x fine process =
-    decls_then (is_later x) x.decls _ _
-    (known_process (is_later x), refl, process.1 (tail x) (known_opponent (is_later x), refl, (known_stop (is_later x), refl, tt))) fine
+    decls_then (is_later_narration x) x.decls _ _
+    (known_process (is_later_narration x), refl, process.1 (tail x) (known_opponent (is_later_narration x), refl, (known_stop (is_later_narration x), refl, tt))) fine
 
 pub woven_formed : (x : n.Narration) → IsNarration x → IsWithin (whole_narration x) → AreKinds (kinds_in (whole_narration x)) → length x.shared ≤ 16 → length x.roles ≤ 8 → length x.lines ≤ 200
     → IsFile (woven x) × IsWithin (whole_file (woven x)) × AreKinds (tokens_of (woven x))
 woven_formed x i w k shared roles lines =
     let fine = fine_body x i w k in
     let process = fine_process x i fine shared roles lines in
-    let is = with_version x.version _ i.version (plain_decls x.decls _) (front x.version (body x) i.version i.words) (fine_file x fine process) in (
+    let is = with_version x.version _ i.version (plain_decls x.decls _) (front x.version (narrated_body x) i.version i.words) (fine_file x fine process) in (
       record {
         formed = record {
           version = i.version;
-          decls = declared (is_later x) x.decls i.decls;
+          decls = declared (is_later_narration x) x.decls i.decls;
           process = process.0;
           opponent = tt;
           derivation = tt;

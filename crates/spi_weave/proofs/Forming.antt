@@ -21,7 +21,7 @@ use Rattle.spi_heading.specs.Each.{each_pieces}
 use Rattle.spi_heading.specs.Grammar.{shared_pieces, IsShared}
 use Rattle.spi_narrate.specs.Narrations as n
 use Rattle.spi_narrate.specs.Grammar.{prefix_pieces, line_pieces, IsPrefix, IsLine}
-use Rattle.spi_weave.specs.Woven.{prefixed, spelled, sent, received, done, is_word, role_part, role_process, roles_beside, roles_together, sharing}
+use Rattle.spi_weave.specs.Woven.{prefixed, name_spelled, sent, received, woven_prefix, is_word, role_part, role_process, roles_beside, roles_together, sharing}
 
 -- ---- two lists of pieces, of which the first may have an end more
 
@@ -205,11 +205,11 @@ module _ (later : Bool) where
   behind_line (n.pass s from to c m x) r h = (behind_msg m _ h.2.2.2.2.2.2).2.2.2
 
   -- the parts of a message that is passed
-  with_sent : (a : Place) (s : Span) (c : SWord) (m : t.Msg) (p : t.Proc) (r0 : List Piece) → nesting_of a ≤ 500 → IsKind (words_of later) (kinds.Word c.word) → IsMsg later false m → IsFine later (msg_pieces 1 m r0) → IsFineAt (below a) p → IsFineAt a (t.out_then s (spelled c) m p)
+  with_sent : (a : Place) (s : Span) (c : SWord) (m : t.Msg) (p : t.Proc) (r0 : List Piece) → nesting_of a ≤ 500 → IsKind (words_of later) (kinds.Word c.word) → IsMsg later false m → IsFine later (msg_pieces 1 m r0) → IsFineAt (below a) p → IsFineAt a (t.out_then s (name_spelled c) m p)
   with_sent a s c m p r0 u k i h g =
       ((refl, i, g.0), λ r e. (known_out later, shallow (nesting_of a) u, (k, refl, msg_then m r0 (a_mark mark.Semicolon (proc_pieces (below a) p (ends s r))) (λ z. tail_fine a s p r g e) h)))
 
-  with_received : (a : Place) (s : Span) (c x : SWord) (p : t.Proc) → nesting_of a ≤ 500 → IsKind (words_of later) (kinds.Word c.word) → IsKind (words_of later) (kinds.Word x.word) → IsFineAt (below a) p → IsFineAt a (t.inp s (spelled c) x (t.un x.span) p)
+  with_received : (a : Place) (s : Span) (c x : SWord) (p : t.Proc) → nesting_of a ≤ 500 → IsKind (words_of later) (kinds.Word c.word) → IsKind (words_of later) (kinds.Word x.word) → IsFineAt (below a) p → IsFineAt a (t.inp s (name_spelled c) x (t.un x.span) p)
   with_received a s c x p u k l g =
       ((refl, tt, g.0), λ r e. (known_inp later, shallow (nesting_of a) u, (k, refl, (tt, refl, (l, refl, (tt, refl, (known_un later, refl, (tt, refl, (tt, refl, g.1 (ends s r) e)))))))))
 
@@ -217,7 +217,7 @@ module _ (later : Bool) where
   abbrev pub FitsLevels : ℕ → t.Proc → Type 0
   FitsLevels k p = (b : Place) → nesting_of b + k ≤ 500 → IsFineAt b p
 
-  fits_done : (b : Bool) (s : Span) (f : n.Prefix) (p : t.Proc) (k : ℕ) (r0 : List Piece) → IsPrefix later f → IsFine later (prefix_pieces f r0) → FitsLevels k p → FitsLevels (suc (suc k)) (done b s f p)
+  fits_done : (b : Bool) (s : Span) (f : n.Prefix) (p : t.Proc) (k : ℕ) (r0 : List Piece) → IsPrefix later f → IsFine later (prefix_pieces f r0) → FitsLevels k p → FitsLevels (suc (suc k)) (woven_prefix b s f p)
   fits_done true s f p k r0 i h g a u = with_prefix a s f p r0 (omega (arith, u)) i h (g (below a) (omega (arith, u)))
   fits_done false s f p k r0 i h g a u = g a (omega (arith, u))
 

@@ -19,7 +19,7 @@ use Rattle.spi_narrate.specs.declared.fault.NarrateFault.{NarrateFault}
 use Rattle.spi_narrate.specs.declared.fault.NarrateFault.TheVariants as faults
 use Rattle.spi_narrate.specs.Faults.{FaultItem, declares, speaks, counts, fault_of, shared_items, role_items, line_items, items_of, IsFirstFault}
 use Rattle.spi_weave.specs.Starts.{StartBy}
-use Rattle.spi_weave.specs.Woven.{prefixed, spelled, sent, received, done, is_word, role_part, role_process, roles_beside, roles_together, sharing, last_span, woven}
+use Rattle.spi_weave.specs.Woven.{prefixed, name_spelled, sent, received, woven_prefix, is_word, role_part, role_process, roles_beside, roles_together, sharing, last_span, woven}
 use Rattle.spi_weave.proofs.Forming.{split_same, match_same, decrypt_same, check_same, label_same, cast_same, new_same}
 
 module _ (end : ℕ) where
@@ -112,7 +112,7 @@ module _ (end : ℕ) where
   behind_line (n.local s w f) r h = behind_prefix f _ h.1.1
   behind_line (n.pass s from to c m x) r h = (behind_msg m _ h.1.1.1.1).1
 
-  starts_done : (b : Bool) (s : Span) (f : n.Prefix) (p : t.Proc) (r0 : List Piece) → s.from ≤ end → By (prefix_pieces f r0) → Starts p → Starts (done b s f p)
+  starts_done : (b : Bool) (s : Span) (f : n.Prefix) (p : t.Proc) (r0 : List Piece) → s.from ≤ end → By (prefix_pieces f r0) → Starts p → Starts (woven_prefix b s f p)
   starts_done true s f p r0 l h g = with_prefix s f p r0 l h g
   starts_done false s f p r0 l h g = g
 

@@ -20,29 +20,29 @@ prefixed s (n.cast at m x a) p = t.cast s m x a p
 prefixed s (n.new at x a) p = t.new s x a p
 
 -- the message of a word
-abbrev pub spelled : SWord → t.Msg
-spelled w = t.name w.span w
+abbrev pub name_spelled : SWord → t.Msg
+name_spelled w = t.name w.span w
 
 -- what the sender does in `A to B on c: M as x`, and what the receiver does, where they are these
 abbrev pub sent : Bool → Span → SWord → t.Msg → t.Proc → t.Proc
-sent true s c m p = t.out_then s (spelled c) m p
+sent true s c m p = t.out_then s (name_spelled c) m p
 sent false s c m p = p
 
 abbrev pub received : Bool → Span → SWord → SWord → t.Proc → t.Proc
-received true s c x p = t.inp s (spelled c) x (t.un x.span) p
+received true s c x p = t.inp s (name_spelled c) x (t.un x.span) p
 received false s c x p = p
 
 -- what a role does in a line of its own
-abbrev pub done : Bool → Span → n.Prefix → t.Proc → t.Proc
-done true s f p = prefixed s f p
-done false s f p = p
+abbrev pub woven_prefix : Bool → Span → n.Prefix → t.Proc → t.Proc
+woven_prefix true s f p = prefixed s f p
+woven_prefix false s f p = p
 
 abbrev pub is_word : SWord → SWord → Bool
 is_word v w = bytes_eq v.word w.word
 
 -- what a role does in a line, before the process that follows
 abbrev pub role_part : SWord → n.Line → t.Proc → t.Proc
-role_part r (n.local s who f) p = done (is_word who r) s f p
+role_part r (n.local s who f) p = woven_prefix (is_word who r) s f p
 role_part r (n.pass s from to c m x) p = sent (is_word from r) s c m (received (is_word to r) s c x p)
 
 -- a role does its lines in order

@@ -4,7 +4,7 @@ ghost use Rattle.std.specs.Prelude.{◌≡◌, true, IfOk};
 ghost use Rattle.spi_tree.specs.Trees as t;
 ghost use Rattle.spi_tree.specs.Views.{msg_of, ty_of, proc_of};
 ghost use Rattle.spi_narrate.specs.Views.{prefix_of};
-ghost use Rattle.spi_weave.specs.Woven.{prefixed, spelled, sent, received};
+ghost use Rattle.spi_weave.specs.Woven.{prefixed, name_spelled, sent, received};
 
 use crate::NoMemory;
 use crate::copies::{message, ty, word};
@@ -206,7 +206,7 @@ pub fn prefixed(alloc: Global, span: Span, prefix: &Prefix, then: SProc) -> Resu
 }
 
 fn spelled(alloc: Global, w: &SWord) -> Result<SMsg, NoMemory>
-    ensures { IfOk result (λ m. msg_of m ≡ spelled w.now) }
+    ensures { IfOk result (λ m. msg_of m ≡ name_spelled w.now) }
 {
     Ok(SMsg::Name {
         name: word(alloc, w)?,

@@ -12,7 +12,7 @@ use Rattle.spi_term.specs.Spelling.{Spelling}
 use Rattle.spi_scope.specs.declared.fault.ScopeFault.TheVariants.{FileTooLarge}
 use Rattle.spi_scope.specs.Scope.{Names, Abbreviations}
 use Rattle.spi_scope.specs.Points.{Point, uses_name, uses_type, declares_name, declares_type, ends_message, ends_type, adds, starts_step, fault_at, added, Points, none, one, ◌⨾◌, in_order, process_points, decls_points, file_points}
-use Rattle.spi_scope.specs.First.{count, Clean, IsClean}
+use Rattle.spi_scope.specs.First.{count_points, Clean, IsClean}
 use Rattle.spi_scope.specs.Over.{AreAbbreviationsOver}
 use Rattle.spi_scope.specs.StandsFor.{StandsFor, Meant}
 use Rattle.spi_scope.proofs.Counting.{weight, names_weigh}
@@ -44,15 +44,15 @@ point_few c (ends_type n s) h e = omega arith
 point_few c (adds n s) h e = adds_few c n s e
 point_few c (starts_step i n s) h e = omega arith
 
-clean_few : (ps : List Point) (c : ℕ) → c ≤ 100000 → Clean c ps → c + count ps ≤ 100000
+clean_few : (ps : List Point) (c : ℕ) → c ≤ 100000 → Clean c ps → c + count_points ps ≤ 100000
 clean_few [] c h k = omega arith
 clean_few (p ∷ ps) c h k = omega (arith, clean_few ps (c + added p) (point_few c p h k.0) k.1)
 
-count_append : (ps qs : List Point) → count (ps ++ qs) ≡ count ps + count qs
+count_append : (ps qs : List Point) → count_points (ps ++ qs) ≡ count_points ps + count_points qs
 count_append [] qs = omega arith
 count_append (p ∷ ps) qs = omega (arith, count_append ps qs)
 
-count_added : (ps : Points) → count (in_order ps) ≡ all_added ps
+count_added : (ps : Points) → count_points (in_order ps) ≡ all_added ps
 count_added none = refl
 count_added (one p) = omega arith
 count_added (ps ⨾ qs) = omega (arith, count_append (in_order ps) (in_order qs), count_added ps, count_added qs)

@@ -18,32 +18,32 @@ use Rattle.spi_scope.specs.Points.{decl_points, decls_points, types_behind, name
 use Rattle.spi_workbench.specs.Counting.{all_added}
 use Rattle.spi_workbench.specs.Sizes.{Know}
 
-abbrev or_else : {A : Type 0} → Option A → Option A → Option A
-or_else None p = p
-or_else (Some x) p = Some x
+abbrev or_other : {A : Type 0} → Option A → Option A → Option A
+or_other None p = p
+or_other (Some x) p = Some x
 
-lookup_push : (es : List (Bor (List ℕ) × ℕ)) (k : Bor (List ℕ)) (n : ℕ) (w : Word) → lookup (λ j. bytes_eq w j.now) (es ++ (k, n) ∷ []) ≡ or_else (lookup (λ j. bytes_eq w j.now) es) (cond (bytes_eq w k.now) (Some n) None)
+lookup_push : (es : List (Bor (List ℕ) × ℕ)) (k : Bor (List ℕ)) (n : ℕ) (w : Word) → lookup (λ j. bytes_eq w j.now) (es ++ (k, n) ∷ []) ≡ or_other (lookup (λ j. bytes_eq w j.now) es) (cond (bytes_eq w k.now) (Some n) None)
 lookup_push [] k n w = refl
 lookup_push (e ∷ es) k n w = by (bytes_eq w e.0.now) (lookup_push es k n w)
   where
-    by : (b : Bool) → lookup (λ j. bytes_eq w j.now) (es ++ (k, n) ∷ []) ≡ or_else (lookup (λ j. bytes_eq w j.now) es) (cond (bytes_eq w k.now) (Some n) None)
-        → cond b (Some e.1) (lookup (λ j. bytes_eq w j.now) (es ++ (k, n) ∷ [])) ≡ or_else (cond b (Some e.1) (lookup (λ j. bytes_eq w j.now) es)) (cond (bytes_eq w k.now) (Some n) None)
+    by : (b : Bool) → lookup (λ j. bytes_eq w j.now) (es ++ (k, n) ∷ []) ≡ or_other (lookup (λ j. bytes_eq w j.now) es) (cond (bytes_eq w k.now) (Some n) None)
+        → cond b (Some e.1) (lookup (λ j. bytes_eq w j.now) (es ++ (k, n) ∷ [])) ≡ or_other (cond b (Some e.1) (lookup (λ j. bytes_eq w j.now) es)) (cond (bytes_eq w k.now) (Some n) None)
     by true h = refl
     by false h = h
 
-type_push : (ts : Abbreviations) (u : Abbreviation) (w : Word) → type_of (ts ++ u ∷ []) w ≡ or_else (type_of ts w) (cond (bytes_eq w u.word) (Some u.stands_for) None)
+type_push : (ts : Abbreviations) (u : Abbreviation) (w : Word) → type_of (ts ++ u ∷ []) w ≡ or_other (type_of ts w) (cond (bytes_eq w u.word) (Some u.stands_for) None)
 type_push [] u w = refl
 type_push (v ∷ ts) u w = by (bytes_eq w v.word) (type_push ts u w)
   where
-    by : (b : Bool) → type_of (ts ++ u ∷ []) w ≡ or_else (type_of ts w) (cond (bytes_eq w u.word) (Some u.stands_for) None)
-        → cond b (Some v.stands_for) (type_of (ts ++ u ∷ []) w) ≡ or_else (cond b (Some v.stands_for) (type_of ts w)) (cond (bytes_eq w u.word) (Some u.stands_for) None)
+    by : (b : Bool) → type_of (ts ++ u ∷ []) w ≡ or_other (type_of ts w) (cond (bytes_eq w u.word) (Some u.stands_for) None)
+        → cond b (Some v.stands_for) (type_of (ts ++ u ∷ []) w) ≡ or_other (cond b (Some v.stands_for) (type_of ts w)) (cond (bytes_eq w u.word) (Some u.stands_for) None)
     by true h = refl
     by false h = h
 
 abbrev sized : Option Ty → Option ℕ
 sized o = option_map (λ a. stopped (ty_nodes a)) o
 
-sized_else : (o : Option Ty) (b : Bool) (a : Ty) → or_else (sized o) (cond b (Some (stopped (ty_nodes a))) None) ≡ sized (or_else o (cond b (Some a) None))
+sized_else : (o : Option Ty) (b : Bool) (a : Ty) → or_other (sized o) (cond b (Some (stopped (ty_nodes a))) None) ≡ sized (or_other o (cond b (Some a) None))
 sized_else None true a = refl
 sized_else None false a = refl
 sized_else (Some x) b a = refl
@@ -53,9 +53,9 @@ pub more_known : {S : Type 0} (m m' : IndexMap (Bor (List ℕ)) ℕ S) (ts : Abb
 more_known m m' ts k u n e f g know w =
     ap (lookup (λ j. bytes_eq w j.now)) e
     ∙ lookup_push m.entries k n w
-    ∙ ap (λ o. or_else o (cond (bytes_eq w k.now) (Some n) None)) (know w)
-    ∙ ap (λ x. or_else (sized (type_of ts w)) (cond (bytes_eq w x) (Some n) None)) f
-    ∙ ap (λ x. or_else (sized (type_of ts w)) (cond (bytes_eq w u.word) (Some x) None)) g
+    ∙ ap (λ o. or_other o (cond (bytes_eq w k.now) (Some n) None)) (know w)
+    ∙ ap (λ x. or_other (sized (type_of ts w)) (cond (bytes_eq w x) (Some n) None)) f
+    ∙ ap (λ x. or_other (sized (type_of ts w)) (cond (bytes_eq w u.word) (Some x) None)) g
     ∙ sized_else (type_of ts w) (bytes_eq w u.word) u.stands_for
     ∙ ap sized (sym (type_push ts u w))
 
@@ -74,7 +74,7 @@ known_again m ts u n e know w = know w ∙ ap sized (same (type_of ts w) refl �
         let z : sized None ≡ Some n = ap sized (sym h) ∙ x in
         absurd (cc)
 
-    same : (o : Option Ty) → type_of ts w ≡ o → o ≡ or_else o (cond (bytes_eq w u.word) (Some u.stands_for) None)
+    same : (o : Option Ty) → type_of ts w ≡ o → o ≡ or_other o (cond (bytes_eq w u.word) (Some u.stands_for) None)
     same (Some a) h = refl
     same None h = none h (bytes_eq w u.word) refl
 

@@ -34,15 +34,15 @@ earlier_flat n i j k (fork f p q) e =
     ∙ ap (λ l. fork_at k f (suc i) (suc i + process_size p) ∷ (flat (suc i) m p ++ l)) (earlier_flat n (suc i + process_size p) (suc j + process_size p) m q (omega (arith, e)))
 
 -- the nodes of `new`s
-abbrev made : ℕ → ℕ → List Ty → List Shape
-made i k [] = []
-made i k (a ∷ bs) = prefix_at k (Freshes a) (suc i) ∷ made (suc i) (suc k) bs
+abbrev made_shapes : ℕ → ℕ → List Ty → List Shape
+made_shapes i k [] = []
+made_shapes i k (a ∷ bs) = prefix_at k (Freshes a) (suc i) ∷ made_shapes (suc i) (suc k) bs
 
-made_types : (i k : ℕ) (bs : List Ty) → map type_made (made i k bs) ≡ bs
+made_types : (i k : ℕ) (bs : List Ty) → map type_made (made_shapes i k bs) ≡ bs
 made_types i k [] = refl
 made_types i k (a ∷ bs) = ap (λ l. a ∷ l) (made_types (suc i) (suc k) bs)
 
-length_made : (i k : ℕ) (ts : Abbreviations) (xs : Names) (ss : List Shared) → length (made i k (types_in ts xs ss)) ≡ length ss
+length_made : (i k : ℕ) (ts : Abbreviations) (xs : Names) (ss : List Shared) → length (made_shapes i k (types_in ts xs ss)) ≡ length ss
 length_made i k ts xs [] = refl
 length_made i k ts xs (s ∷ ss) = ap suc (length_made (suc i) (suc k) ts (s.name.word ∷ xs) ss)
 
@@ -55,7 +55,7 @@ as_many_types ts xs [] = refl
 as_many_types ts xs (s ∷ ss) = ap suc (as_many_types ts (s.name.word ∷ xs) ss)
 
 flat_behind : (ts : Abbreviations) (p : t.Proc) (xs : Names) (ss : List Shared) (i k : ℕ) → k ≡ length xs
-    → flat i k (process_in (λ s. s) ts xs (behind_shared ss p)) ≡ made i k (types_in ts xs ss) ++ flat (i + length ss) (length (with_shared xs ss)) (process_in (λ s. s) ts (with_shared xs ss) p)
+    → flat i k (process_in (λ s. s) ts xs (behind_shared ss p)) ≡ made_shapes i k (types_in ts xs ss) ++ flat (i + length ss) (length (with_shared xs ss)) (process_in (λ s. s) ts (with_shared xs ss) p)
 flat_behind ts p xs [] i k e =
     let z : i ≡ i + 0 = omega arith in
     ap (λ n. flat n k (process_in (λ s. s) ts xs p)) z ∙ ap (λ n. flat (i + 0) n (process_in (λ s. s) ts xs p)) e
@@ -69,7 +69,7 @@ flat_behind ts p xs (s ∷ ss) i k e =
     let a : Ty = Rattle.spi_scope.specs.Meaning.type_in (length xs) ts xs s.ty in
     ap (λ m. prefix_at k (Freshes a) (suc i) ∷ flat (suc i) m q) z
     ∙ ap (λ l. prefix_at k (Freshes a) (suc i) ∷ l) (flat_behind ts p ys ss (suc i) (suc k) c)
-    ∙ ap (λ m. prefix_at k (Freshes a) (suc i) ∷ (made (suc i) (suc k) (types_in ts ys ss) ++ flat m (length (with_shared ys ss)) rest)) n
+    ∙ ap (λ m. prefix_at k (Freshes a) (suc i) ∷ (made_shapes (suc i) (suc k) (types_in ts ys ss) ++ flat m (length (with_shared ys ss)) rest)) n
 
 -- the abbreviations are over the shared names too
 pub more_over : (n m : ℕ) → n ≤ m → (ts : Abbreviations) → AreAbbreviationsOver n ts → AreAbbreviationsOver m ts
@@ -77,7 +77,7 @@ more_over n m h [] o = tt
 more_over n m h (u ∷ ts) o = (over_more_ty n m h 0 u.stands_for o.0, more_over n m h ts o.1)
 
 module _ (ts : Abbreviations) (xs : Names) (ss : List Shared) (p : t.Proc) (over : AreAbbreviationsOver (length xs) ts) where
-  whole_nodes : spelled (length xs) (process_over (length xs) ts xs (behind_shared ss p)) ≡ made 0 (length xs) (types_in ts xs ss) ++ flat (0 + length ss) (length (with_shared xs ss)) (process_in (λ s. s) ts (with_shared xs ss) p)
+  whole_nodes : spelled (length xs) (process_over (length xs) ts xs (behind_shared ss p)) ≡ made_shapes 0 (length xs) (types_in ts xs ss) ++ flat (0 + length ss) (length (with_shared xs ss)) (process_in (λ s. s) ts (with_shared xs ss) p)
   whole_nodes = (nodes_spell ts xs over (behind_shared ss p)).1 ∙ flat_behind ts p xs ss 0 (length xs) refl
 
   pub stands_behind : StandsBehind (length ss) (over_free ts xs (behind_shared ss p)) (over_free ts (with_shared xs ss) p)
@@ -85,7 +85,7 @@ module _ (ts : Abbreviations) (xs : Names) (ss : List Shared) (p : t.Proc) (over
       let ys : Names = with_shared xs ss in
       let le : length xs ≤ length ys = omega (arith, more_names xs ss) in
       let s = nodes_spell ts ys (more_over (length xs) (length ys) le ts over) p in
-      let ms = made 0 (length xs) (types_in ts xs ss) in
+      let ms = made_shapes 0 (length xs) (types_in ts xs ss) in
       let rest = flat (0 + length ss) (length ys) (process_in (λ s. s) ts ys p) in
       let n : length ms ≡ length ss = length_made 0 (length xs) ts xs ss in
       record {
@@ -100,7 +100,7 @@ module _ (ts : Abbreviations) (xs : Names) (ss : List Shared) (p : t.Proc) (over
 
   pub types_stand : map type_made (take (length ss) (spelled (length xs) (process_over (length xs) ts xs (behind_shared ss p)))) ≡ types_in ts xs ss
   types_stand =
-      let ms = made 0 (length xs) (types_in ts xs ss) in
+      let ms = made_shapes 0 (length xs) (types_in ts xs ss) in
       let rest = flat (0 + length ss) (length (with_shared xs ss)) (process_in (λ s. s) ts (with_shared xs ss) p) in
       let n : length ms ≡ length ss = length_made 0 (length xs) ts xs ss in
       ap (λ l. map type_made (take (length ss) l)) whole_nodes

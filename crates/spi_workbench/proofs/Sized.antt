@@ -11,7 +11,7 @@ use Rattle.spi_term.specs.Term.{name, bound, message_size, Ty}
 use Rattle.spi_term.specs.Spelling.{atom_nodes, effect_nodes, ty_nodes, stopped}
 use Rattle.spi_heading.specs.Headings.{Shared}
 use Rattle.spi_scope.specs.Scope.{Word, Names, number_of, Abbreviations, type_of}
-use Rattle.spi_scope.specs.Meaning.{named, message_in, messages_in, atom_in, effect_in, known, type_in, fields_in, last_in, behind}
+use Rattle.spi_scope.specs.Meaning.{name_meant, message_in, messages_in, atom_in, effect_in, known, type_in, fields_in, last_in, behind}
 use Rattle.spi_scope.specs.Points.{message_points, messages_points, atom_points, atoms_points, type_points, fields_points, last_points, msg_nodes, type_nodes, whole_type, part, message_head, messages_head, typed_head, new_head, tested_head, split_head, match_head, process_points, free_points}
 use Rattle.spi_scope.specs.State.{row_nodes, type_row_nodes}
 use Rattle.spi_scope.proofs.Tuples.{nested_nodes, nested_types_nodes}
@@ -21,9 +21,9 @@ use Rattle.spi_edits.specs.Views.{edit_of}
 use Rattle.spi_edits.specs.declared.text.Edit.{Edit}
 use Rattle.spi_workbench.specs.Reading.{abbreviations_of, part_names}
 use Rattle.spi_workbench.specs.Counting.{all_added, shared_points, edit_nodes}
-use Rattle.spi_workbench.specs.Sizes.{known_nodes, nodes_in, msg_size, msgs_size, atom_size, atoms_size, ty_size, fields_size, last_size, proc_size, shared_size, edit_size, Know}
+use Rattle.spi_workbench.specs.Sizes.{known_nodes, nodes_in_words, msg_size, msgs_size, atom_size, atoms_size, ty_size, fields_size, last_size, proc_size, shared_size, edit_size, Know}
 
-name_size : (k s : ℕ) (o : Option ℕ) → message_size (named k s o) ≡ 1
+name_size : (k s : ℕ) (o : Option ℕ) → message_size (name_meant k s o) ≡ 1
 name_size k s None = refl
 name_size k s (Some x) = by (nat_lt x k)
   where
@@ -140,11 +140,11 @@ module _ {S : Type 0} (m : IndexMap (Bor (List ℕ)) ℕ S) (ts : Abbreviations)
   found None = refl
   found (Some a) = refl
 
-  abbreviation_sized : (w : Word) → nodes_in m w ≡ stopped (ty_nodes (known (type_of ts w)))
+  abbreviation_sized : (w : Word) → nodes_in_words m w ≡ stopped (ty_nodes (known (type_of ts w)))
   abbreviation_sized w = ap known_nodes (know w) ∙ found (type_of ts w)
 
   mutual
-    pub type_sized : (k : ℕ) (xs : Names) (a : t.Ty) → stopped (ty_size (nodes_in m) a) ≡ stopped (ty_nodes (type_in k ts xs a))
+    pub type_sized : (k : ℕ) (xs : Names) (a : t.Ty) → stopped (ty_size (nodes_in_words m) a) ≡ stopped (ty_nodes (type_in k ts xs a))
     type_sized k xs (t.un s) = refl
     type_sized k xs (t.unit_ty s) = refl
     type_sized k xs (t.tuple_ty s w a fs l) =
@@ -155,16 +155,16 @@ module _ {S : Type 0} (m : IndexMap (Bor (List ℕ)) ℕ S) (ts : Abbreviations)
     type_sized k xs (t.nonce s es) = omega (arith, atoms_sized k xs es)
     type_sized k xs (t.abbr s w) = omega (arith, abbreviation_sized w.word)
 
-    fields_sized : (k : ℕ) (xs : Names) (fs : t.Fields) → stopped (fields_size (nodes_in m) fs) ≡ stopped (type_row_nodes (fields_in k ts xs fs))
+    fields_sized : (k : ℕ) (xs : Names) (fs : t.Fields) → stopped (fields_size (nodes_in_words m) fs) ≡ stopped (type_row_nodes (fields_in k ts xs fs))
     fields_sized k xs t.no_fields = refl
     fields_sized k xs (t.more_fields w a fs) = omega (arith, type_sized k xs a, fields_sized k (w.word ∷ xs) fs)
 
-    last_sized : (k : ℕ) (xs : Names) (l : t.Last) → stopped (last_size (nodes_in m) l) ≡ stopped (ty_nodes (last_in k ts xs l))
+    last_sized : (k : ℕ) (xs : Names) (l : t.Last) → stopped (last_size (nodes_in_words m) l) ≡ stopped (ty_nodes (last_in k ts xs l))
     last_sized k xs (t.bare a) = type_sized k xs a
     last_sized k xs (t.named w a) = type_sized k xs a
 
   -- a process has as many nodes as its points add
-  pub process_sized : (xs : Names) (p : t.Proc) → stopped (proc_size (nodes_in m) p) ≡ stopped (all_added (process_points ts xs p))
+  pub process_sized : (xs : Names) (p : t.Proc) → stopped (proc_size (nodes_in_words m) p) ≡ stopped (all_added (process_points ts xs p))
   process_sized xs (t.par s p q) = omega (arith, process_sized xs p, process_sized xs q)
   process_sized xs (t.out s a b) = omega (arith, messages_head_adds xs s a b, msg_sized 0 xs a, msg_sized 0 xs b)
   process_sized xs (t.out_then s a b p) = omega (arith, messages_head_adds xs s a b, msg_sized 0 xs a, msg_sized 0 xs b, process_sized xs p)
@@ -187,15 +187,15 @@ module _ {S : Type 0} (m : IndexMap (Bor (List ℕ)) ℕ S) (ts : Abbreviations)
   process_sized xs (t.stop s) = refl
   process_sized xs (t.group s p q) = omega (arith, process_sized xs p, process_sized xs q)
 
-  pub shared_sized : (xs : Names) (ss : List Shared) → stopped (shared_size (nodes_in m) ss) ≡ stopped (all_added (shared_points ts xs ss))
+  pub shared_sized : (xs : Names) (ss : List Shared) → stopped (shared_size (nodes_in_words m) ss) ≡ stopped (all_added (shared_points ts xs ss))
   shared_sized xs [] = refl
   shared_sized xs (s ∷ ss) = omega (arith, new_head_adds ts xs s.span s.ty, type_sized 0 xs s.ty, shared_sized (s.name.word ∷ xs) ss)
 
-pub edits_sized : {S : Type 0} (m : IndexMap (Bor (List ℕ)) ℕ S) (b : Bench) (es : List Edit) → Know m (abbreviations_of b) → map (λ e. stopped (edit_size (nodes_in m) (edit_of e))) es ≡ map (λ e. stopped (edit_nodes b (edit_of e))) es
+pub edits_sized : {S : Type 0} (m : IndexMap (Bor (List ℕ)) ℕ S) (b : Bench) (es : List Edit) → Know m (abbreviations_of b) → map (λ e. stopped (edit_size (nodes_in_words m) (edit_of e))) es ≡ map (λ e. stopped (edit_nodes b (edit_of e))) es
 edits_sized m b [] k = refl
 edits_sized m b (e ∷ es) k = λ i. one (edit_of e) i ∷ edits_sized m b es k i
   where
-    one : (x : Written) → stopped (edit_size (nodes_in m) x) ≡ stopped (edit_nodes b x)
+    one : (x : Written) → stopped (edit_size (nodes_in_words m) x) ≡ stopped (edit_nodes b x)
     one (puts s w p) = process_sized m (abbreviations_of b) k (part_names b) p
     one (drops s w) = refl
 

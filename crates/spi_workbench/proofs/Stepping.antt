@@ -11,7 +11,7 @@ use Rattle.spi_term.specs.Spelling.{Spelling}
 use Rattle.spi_scope.specs.First.{IsClean}
 use Rattle.spi_scope.specs.Points.{process_points}
 use Rattle.spi_scope.proofs.Counting.{process_weighs}
-use Rattle.spi_bench.specs.Parts.{Part, Benched, named, with_part, without, nodes_in}
+use Rattle.spi_bench.specs.Parts.{Part, Benched, part_named, with_part, without, nodes_in_parts}
 use Rattle.spi_edits.specs.Edits.{Edit, puts, drops, Bench}
 use Rattle.spi_workbench.specs.Reading.{file_with, free_names, abbreviations_of, part_names, part_meant, shared_types, edited, parts_after, bench_after}
 use Rattle.spi_workbench.specs.Counting.{edit_nodes, part_nodes, nodes_put, bench_nodes}
@@ -31,19 +31,19 @@ put_last b [] e = omega arith
 put_last b (d ∷ es) e = omega (arith, put_last b es e)
 
 -- a part that replaces another makes the parts larger by its own nodes at most
-with_few : (n : List ℕ) (p : Spelling) (ps : List Part) → nodes_in (with_part n p ps) ≤ nodes_in ps + process_size p.process
+with_few : (n : List ℕ) (p : Spelling) (ps : List Part) → nodes_in_parts (with_part n p ps) ≤ nodes_in_parts ps + process_size p.process
 with_few n p [] = omega arith
 with_few n p (q ∷ ps) = by (bytes_eq n q.name) (with_few n p ps)
   where
-    by : (b : Bool) → nodes_in (with_part n p ps) ≤ nodes_in ps + process_size p.process → nodes_in (cond b (record { name = n; part = p } ∷ ps) (q ∷ with_part n p ps)) ≤ process_size q.part.process + nodes_in ps + process_size p.process
+    by : (b : Bool) → nodes_in_parts (with_part n p ps) ≤ nodes_in_parts ps + process_size p.process → nodes_in_parts (cond b (record { name = n; part = p } ∷ ps) (q ∷ with_part n p ps)) ≤ process_size q.part.process + nodes_in_parts ps + process_size p.process
     by true h = omega arith
     by false h = omega (arith, h)
 
-without_few : (n : List ℕ) (ps : List Part) → nodes_in (without n ps) ≤ nodes_in ps
+without_few : (n : List ℕ) (ps : List Part) → nodes_in_parts (without n ps) ≤ nodes_in_parts ps
 without_few n [] = omega arith
 without_few n (q ∷ ps) = by (bytes_eq n q.name) (without_few n ps)
   where
-    by : (b : Bool) → nodes_in (without n ps) ≤ nodes_in ps → nodes_in (cond b ps (q ∷ without n ps)) ≤ process_size q.part.process + nodes_in ps
+    by : (b : Bool) → nodes_in_parts (without n ps) ≤ nodes_in_parts ps → nodes_in_parts (cond b ps (q ∷ without n ps)) ≤ process_size q.part.process + nodes_in_parts ps
     by true h = omega arith
     by false h = omega (arith, h)
 
@@ -71,7 +71,7 @@ module _ (b : Bench) (before : List Edit) (w : Work) (at : IsAt b before w) wher
     pub put_next : (w' : Work) → IsClean (file_with b p) → IsHeaded b w'.news (file_of w'.tree) → w'.bench ≡ record w.bench { parts = with_part name.word (part_meant b p) w.bench.parts } → w'.count ≡ w.count + part_nodes b p → w'.count ≤ 100000
         → Comes b before (puts s name p) w' None
     put_next w' clean tree bench count few =
-        let held = ap (λ (x : Benched). nodes_in x.parts) bench in (
+        let held = ap (λ (x : Benched). nodes_in_parts x.parts) bench in (
           (clean, omega (arith, nodes_next, count, few)),
           record {
             tree = tree;
@@ -88,17 +88,17 @@ module _ (b : Bench) (before : List Edit) (w : Work) (at : IsAt b before w) wher
       let s : length w.bench.shared ≡ length (shared_types b) = ap (λ (x : Benched). length x.shared) at.bench in
       omega (arith, f, s, more_names (free_names b) b.shared, as_many_types (abbreviations_of b) (free_names b) b.shared)
 
-  pub room : (p : t.Proc) → w.count + part_nodes b p ≤ 100000 → nodes_in w.bench.parts + process_size (part_meant b p).process ≤ 100000
+  pub room : (p : t.Proc) → w.count + part_nodes b p ≤ 100000 → nodes_in_parts w.bench.parts + process_size (part_meant b p).process ≤ 100000
   room p h = omega (arith, h, at.held, at.count, size_counted b p)
 
   module _ (s : Span) (name : SWord) where
-    pub none_there : named name.word w.bench.parts ≡ None → IsEditRefused b before (drops s name) (UnknownPart name.span name.word)
-    none_there h = unknown (sym (ap (named name.word) parts_are) ∙ h)
+    pub none_there : part_named name.word w.bench.parts ≡ None → IsEditRefused b before (drops s name) (UnknownPart name.span name.word)
+    none_there h = unknown (sym (ap (part_named name.word) parts_are) ∙ h)
 
-    pub drop_next : (w' : Work) → IsSome (named name.word w.bench.parts) → IsHeaded b w'.news (file_of w'.tree) → w'.bench ≡ record w.bench { parts = without name.word w.bench.parts } → w'.count ≡ w.count → Comes b before (drops s name) w' None
+    pub drop_next : (w' : Work) → IsSome (part_named name.word w.bench.parts) → IsHeaded b w'.news (file_of w'.tree) → w'.bench ≡ record w.bench { parts = without name.word w.bench.parts } → w'.count ≡ w.count → Comes b before (drops s name) w' None
     drop_next w' there tree bench count =
-        let held = ap (λ (x : Benched). nodes_in x.parts) bench in (
-          subst (λ (ps : List Part). IsSome (named name.word ps)) parts_are there,
+        let held = ap (λ (x : Benched). nodes_in_parts x.parts) bench in (
+          subst (λ (ps : List Part). IsSome (part_named name.word ps)) parts_are there,
           record {
             tree = tree;
             bench = bench_next (drops s name) w'.bench (without name.word w.bench.parts) bench refl;

@@ -7,7 +7,7 @@ use Rattle.spi_tree.specs.Trees as t
 use Rattle.spi_heading.specs.Headings.{Shared}
 use Rattle.spi_scope.specs.First.{IsClean, HasFirst}
 use Rattle.spi_scope.specs.declared.fault.ScopeFault.{ScopeFault}
-use Rattle.spi_bench.specs.Parts.{named, IsYes}
+use Rattle.spi_bench.specs.Parts.{part_named, IsYes}
 use Rattle.spi_edits.specs.Edits.{Edit, puts, drops, Bench}
 use Rattle.spi_workbench.specs.Reading.{file_with, heading_file, parts_after, bench_after}
 use Rattle.spi_workbench.specs.Counting.{bench_nodes}
@@ -32,7 +32,7 @@ pub record HeadingStands (b : Bench) (end : ℕ) : Type 0 where
 abbrev pub EditStands : Bench → List Edit → Edit → Type 0
 EditStands b before (puts s w p) =
     IsClean (file_with b p) × (bench_nodes b (before ++ puts s w p ∷ []) ≤ 100000)
-EditStands b before (drops s w) = IsSome (named w.word (parts_after b [] before))
+EditStands b before (drops s w) = IsSome (part_named w.word (parts_after b [] before))
 
 -- each of the edits stands behind those before it
 abbrev pub EditsStand : Bench → List Edit → List Edit → Type 0
@@ -46,7 +46,7 @@ pub data IsEditRefused (b : Bench) (before : List Edit) : Edit → Refusal → T
   too_large : {s : Span} {w : SWord} {p : t.Proc} → IsClean (file_with b p)
       → 100000 < bench_nodes b (before ++ puts s w p ∷ [])
       → IsEditRefused b before (puts s w p) (BenchTooLarge w.span (bench_nodes b (before ++ puts s w p ∷ [])))
-  unknown : {s : Span} {w : SWord} → named w.word (parts_after b [] before) ≡ None
+  unknown : {s : Span} {w : SWord} → part_named w.word (parts_after b [] before) ≡ None
       → IsEditRefused b before (drops s w) (UnknownPart w.span w.word)
 
 -- the first refusal, in this order

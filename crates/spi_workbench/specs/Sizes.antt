@@ -15,8 +15,8 @@ abbrev pub known_nodes : Option ℕ → ℕ
 known_nodes None = 1
 known_nodes (Some n) = n
 
-abbrev pub nodes_in : {S : Type 0} → IndexMap (Bor (List ℕ)) ℕ S → Word → ℕ
-nodes_in m w = known_nodes (get_by (λ k. bytes_eq w k.now) m)
+abbrev pub nodes_in_words : {S : Type 0} → IndexMap (Bor (List ℕ)) ℕ S → Word → ℕ
+nodes_in_words m w = known_nodes (get_by (λ k. bytes_eq w k.now) m)
 
 abbrev mutual
   pub msg_size : t.Msg → ℕ

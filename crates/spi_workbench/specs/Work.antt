@@ -2,7 +2,7 @@
 use Rattle.std.specs.Prelude.{◌≡◌, ◌≤◌, ℕ, List, [], ◌∷◌, ◌++◌, length, map, Bool, Option, Some, None}
 use Rattle.spi_tree.specs.Trees as t
 use Rattle.spi_tree.specs.Views.{file_of}
-use Rattle.spi_bench.specs.Parts.{nodes_in}
+use Rattle.spi_bench.specs.Parts.{nodes_in_parts}
 use Rattle.spi_edits.specs.Edits.{Edit, Bench}
 use Rattle.spi_edits.specs.declared.text.BenchText.{BenchText}
 use Rattle.spi_edits.specs.declared.text.Edit as declared
@@ -25,7 +25,7 @@ pub record IsAt (b : Bench) (before : List Edit) (w : Work) : Type 0 where
   pub bench : w.bench ≡ bench_after b before
   pub count : w.count ≡ bench_nodes b before
   pub few : w.count ≤ 100000
-  pub held : nodes_in w.bench.parts ≤ nodes_put b before
+  pub held : nodes_in_parts w.bench.parts ≤ nodes_put b before
 
 -- what an edit comes to: it stands, or it is refused
 abbrev pub Comes : Bench → List Edit → Edit → Work → Option Refusal → Type 0

@@ -14,8 +14,8 @@ use std::alloc::Global;
 fn form_earlier(alloc: Global, form: &Form, n: u32) -> Result<Form, NoMemory>
     ensures { IfOk result
         (λ f. (k : Rattle.std.specs.Prelude.ℕ)
-        → Rattle.spi_term.specs.View.form_of k f
-        ≡ earlier n (Rattle.spi_term.specs.View.form_of k form.now)) }
+        → Rattle.spi_term.specs.View.shape_of_form k f
+        ≡ earlier n (Rattle.spi_term.specs.View.shape_of_form k form.now)) }
 {
     Ok(match form {
         Form::Send { channel, datum } => Form::Send {

@@ -9,7 +9,7 @@ ghost use Rattle.spi_scope.specs.Scope.{Names, Abbreviations};
 ghost use Rattle.spi_scope.specs.Points.{decl_points, decls_points, types_behind, all_types};
 ghost use Rattle.spi_edits.specs.Views.{edit_of, bench_of};
 ghost use Rattle.spi_workbench.specs.Counting.{all_added, heading_nodes, edit_nodes};
-ghost use Rattle.spi_workbench.specs.Sizes.{nodes_in, shared_size, edit_size, Know};
+ghost use Rattle.spi_workbench.specs.Sizes.{nodes_in_words, shared_size, edit_size, Know};
 
 use crate::NoMemory;
 use crate::sizes::{Sizes, process_nodes, type_nodes};
@@ -67,7 +67,7 @@ fn declared_nodes<'t>(sizes: &mut Sizes<'t>, decls: &'t [Decl]) -> Result<u64, N
 
 /// The nodes of the shared names, each read as a `new`.
 fn shared_nodes(sizes: &Sizes, shared: &[Shared]) -> u64
-    ensures { result ≡ stopped (shared_size (nodes_in sizes.now) (map shared_of shared.now)) }
+    ensures { result ≡ stopped (shared_size (nodes_in_words sizes.now) (map shared_of shared.now)) }
 {
     let mut total: u64 = 0;
     for one in shared {
@@ -77,7 +77,7 @@ fn shared_nodes(sizes: &Sizes, shared: &[Shared]) -> u64
 }
 
 fn put_nodes(sizes: &Sizes, edit: &Edit) -> u64
-    ensures { result ≡ stopped (edit_size (nodes_in sizes.now) (edit_of edit.now)) }
+    ensures { result ≡ stopped (edit_size (nodes_in_words sizes.now) (edit_of edit.now)) }
 {
     match edit {
         Edit::Put { part, .. } => process_nodes(sizes, part),
@@ -87,7 +87,7 @@ fn put_nodes(sizes: &Sizes, edit: &Edit) -> u64
 
 fn all_put_nodes(alloc: Global, sizes: &Sizes, edits: &[Edit]) -> Result<Vec<u64>, NoMemory>
     ensures { IfOk result
-        (λ v. v.items ≡ map (λ e. stopped (edit_size (nodes_in sizes.now) (edit_of e))) edits.now) }
+        (λ v. v.items ≡ map (λ e. stopped (edit_size (nodes_in_words sizes.now) (edit_of e))) edits.now) }
 {
     let mut nodes = Vec::new(alloc);
     for edit in edits {

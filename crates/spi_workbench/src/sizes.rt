@@ -4,7 +4,7 @@ ghost use Rattle.std.specs.Prelude.{◌≡◌, ◌+◌, map};
 ghost use Rattle.spi_tree.specs.Trees.{msgs_of_list, fields_of_list};
 ghost use Rattle.spi_tree.specs.Views.{msg_of, atom_of, ty_of, field_of, last_of, proc_of};
 ghost use Rattle.spi_term.specs.Spelling.{stopped};
-ghost use Rattle.spi_workbench.specs.Sizes.{nodes_in, msg_size, msgs_size, atom_size, atoms_size, ty_size, fields_size, last_size, proc_size};
+ghost use Rattle.spi_workbench.specs.Sizes.{nodes_in_words, msg_size, msgs_size, atom_size, atoms_size, ty_size, fields_size, last_size, proc_size};
 
 use indexmap::IndexMap;
 use spi_tree::{Last, SAtom, SField, SMsg, SProc, STy, SWord};
@@ -84,7 +84,7 @@ fn atoms_nodes(es: &[SAtom]) -> u64
 
 /// The nodes of an abbreviation's type, and of `Un` where it isn't known.
 fn abbreviation_nodes(sizes: &Sizes, word: &SWord) -> u64
-    ensures { result ≡ nodes_in sizes.now word.now.word }
+    ensures { result ≡ nodes_in_words sizes.now word.now.word }
 {
     match sizes.get(&word.word.as_str()) {
         None => 1,
@@ -95,7 +95,7 @@ fn abbreviation_nodes(sizes: &Sizes, word: &SWord) -> u64
 /// How many nodes the type has, with its abbreviations expanded. The count stops at the greatest `u64`.
 #[cycle(types)]
 pub fn type_nodes(sizes: &Sizes, t: &STy) -> u64
-    ensures { result ≡ stopped (ty_size (nodes_in sizes.now) (ty_of t.now)) }
+    ensures { result ≡ stopped (ty_size (nodes_in_words sizes.now) (ty_of t.now)) }
 {
     match t {
         STy::Un { .. } => 1,
@@ -119,7 +119,7 @@ pub fn type_nodes(sizes: &Sizes, t: &STy) -> u64
 /// Components of a tuple type, with a pair for each.
 #[cycle(types)]
 fn fields_nodes(sizes: &Sizes, fs: &[SField]) -> u64
-    ensures { result ≡ stopped (fields_size (nodes_in sizes.now) (fields_of_list (map field_of fs.now))) }
+    ensures { result ≡ stopped (fields_size (nodes_in_words sizes.now) (fields_of_list (map field_of fs.now))) }
 {
     let mut total: u64 = 0;
     for f in fs {
@@ -130,7 +130,7 @@ fn fields_nodes(sizes: &Sizes, fs: &[SField]) -> u64
 
 #[cycle(types)]
 fn last_nodes(sizes: &Sizes, end: &Last) -> u64
-    ensures { result ≡ stopped (last_size (nodes_in sizes.now) (last_of end.now)) }
+    ensures { result ≡ stopped (last_size (nodes_in_words sizes.now) (last_of end.now)) }
 {
     match end {
         Last::Bare(ty) => type_nodes(sizes, ty),
@@ -140,14 +140,14 @@ fn last_nodes(sizes: &Sizes, end: &Last) -> u64
 
 /// A form with one message and one annotation.
 fn typed_nodes(sizes: &Sizes, m: &SMsg, t: &STy) -> u64
-    ensures { result ≡ stopped (1 + (msg_size (msg_of m.now) + ty_size (nodes_in sizes.now) (ty_of t.now))) }
+    ensures { result ≡ stopped (1 + (msg_size (msg_of m.now) + ty_size (nodes_in_words sizes.now) (ty_of t.now))) }
 {
     one_over(message_nodes(m), type_nodes(sizes, t))
 }
 
 /// How many nodes the process has, with the abbreviations expanded. The count stops at the greatest `u64`.
 pub fn process_nodes(sizes: &Sizes, p: &SProc) -> u64
-    ensures { result ≡ stopped (proc_size (nodes_in sizes.now) (proc_of p.now)) }
+    ensures { result ≡ stopped (proc_size (nodes_in_words sizes.now) (proc_of p.now)) }
 {
     match p {
         SProc::Par { first, rest, .. } => {

@@ -1,6 +1,6 @@
 use Rattle.std.proofs.Common.{sym, subst, length, IfOk, OnOk}
 use Rattle.spi_message.specs.declared.answers.Asked.{Asked}
-use Rattle.spi_message.specs.Answered.{Tells, CanAsk}
+use Rattle.spi_message.specs.Answered.{TellsTest, CanAsk}
 use Rattle.spi_message.proofs.Judges.{typed_in, labelled_in, good_in, small_asked}
 use Rattle.spi_message.specs.Added.{AnswerGives}
 use Rattle.spi_message.proofs.Comparing.{on_ok}
@@ -11,13 +11,13 @@ pub returns-in-Typed-clause-answer : goal.returns-in-Typed-clause-answer
 returns-in-Typed-clause-answer c =
     let s = c.args.store.now in
     let ids = c.args.types.now.items in
-    subst (λ (a : Asked). IfOk c.has_type.result (Tells s ids a)) (sym c.in-Typed.is) (typed_in s 0 ids c.in-Typed.m c.in-Typed.t c.deref.ensures.value c.new-values.ensures.items c.has_type.result c.has_type.ensures.answer)
+    subst (λ (a : Asked). IfOk c.has_type.result (TellsTest s ids a)) (sym c.in-Typed.is) (typed_in s 0 ids c.in-Typed.m c.in-Typed.t c.deref.ensures.value c.new-values.ensures.items c.has_type.result c.has_type.ensures.answer)
 
 pub returns-in-Labelled-clause-answer : goal.returns-in-Labelled-clause-answer
 returns-in-Labelled-clause-answer c =
     let s = c.args.store.now in
     let ids = c.args.types.now.items in
-    subst (λ (a : Asked). IfOk c.is_label.result (Tells s ids a)) (sym c.in-Labelled.is) (labelled_in s 0 ids c.in-Labelled.m c.deref-in-Labelled.ensures.value c.is_label.result c.is_label.ensures.answer)
+    subst (λ (a : Asked). IfOk c.is_label.result (TellsTest s ids a)) (sym c.in-Labelled.is) (labelled_in s 0 ids c.in-Labelled.m c.deref-in-Labelled.ensures.value c.is_label.result c.is_label.ensures.answer)
 
 pub is_good_type-requires : goal.is_good_type-requires
 is_good_type-requires c = small_asked c.requires.names (subst (CanAsk c.args.store.now (length c.args.types.now.items)) c.in-Good.is c.requires.asked) c.new-values.ensures.items
@@ -26,7 +26,7 @@ pub returns-clause-answer : goal.returns-clause-answer
 returns-clause-answer c =
     let s = c.args.store.now in
     let ids = c.args.types.now.items in
-    subst (λ (a : Asked). IfOk c.is_good_type.result (Tells s ids a)) (sym c.in-Good.is) (good_in s 0 ids c.in-Good.t c.new-values.ensures.items c.is_good_type.result c.is_good_type.ensures.answer)
+    subst (λ (a : Asked). IfOk c.is_good_type.result (TellsTest s ids a)) (sym c.in-Good.is) (good_in s 0 ids c.in-Good.t c.new-values.ensures.items c.is_good_type.result c.is_good_type.ensures.answer)
 
 pub returns-in-Typed-clause-adds : goal.returns-in-Typed-clause-adds
 returns-in-Typed-clause-adds c =

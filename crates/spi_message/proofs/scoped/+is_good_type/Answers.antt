@@ -3,7 +3,7 @@ use Rattle.spi_term.specs.Term.{Ty, name}
 use Rattle.spi_term.specs.Substitution.{ty_put}
 use Rattle.spi_term.specs.Spelling.{ty_nodes}
 use Rattle.spi_term.specs.View.{ty}
-use Rattle.spi_message.specs.Tests.{scope_of}
+use Rattle.spi_message.specs.Tests.{scope_of_types}
 use Rattle.spi_message.specs.Tests.{good}
 use Rattle.spi_message.proofs.Deciding.{good_first_bad, good_first_good, nodes_put_ty}
 use Rattle.spi_message.proofs.Types.{scope_length, scope_push}
@@ -11,7 +11,7 @@ use Rattle.spi_message.proofs.scoped.+is_good_type.Goals as goal
 
 pub returns-then-not-branch-clause-answer : goal.returns-then-not-branch-clause-answer
 returns-then-not-branch-clause-answer t c =
-    let e = scope_of c.args.env.now c.args.inner.now.items in
+    let e = scope_of_types c.args.env.now c.args.inner.now.items in
     good_first_bad e (ty c.in-Pair.first.value) (ty c.in-Pair.second.value) c.in_ok-is_good_type-in-Pair.field-0 (c.in_ok-is_good_type-in-Pair.ensures.answer ∙ ap (λ t. good e (ty t)) c.deref.ensures) c.if-not-branch.true
     ∙ ap (λ t. good e (ty t)) (sym c.in-Pair.is)
 
@@ -26,11 +26,11 @@ is_good_type-requires-in-Pair t c =
 
 pub returns-in_ok-answer-in-Pair-clause-answer : goal.returns-in_ok-answer-in-Pair-clause-answer
 returns-in_ok-answer-in-Pair-clause-answer t c =
-    let e : List Ty = scope_of c.args.env.now c.args.inner.now.items in
+    let e : List Ty = scope_of_types c.args.env.now c.args.inner.now.items in
     let one : c.in_ok-is_good_type-in-Pair.field-0 ≡ good e (ty c.in-Pair.first.value)
     = c.in_ok-is_good_type-in-Pair.ensures.answer ∙ ap (λ t. good e (ty t)) c.deref.ensures in
-    let f1 : scope_of c.args.env.now c.push.new.self.items ≡ e ++ ty c.in-Pair.first.value ∷ []
-    = ap (scope_of c.args.env.now) c.in_ok-push-in-Pair.ensures.items ∙ scope_push c.args.env.now c.is_good_type.new.inner.items c.in_ok-outer-in-Pair.outer ∙ ap (λ l. scope_of c.args.env.now l ++ ty c.in_ok-outer-in-Pair.outer ∷ []) c.in_ok-is_good_type-in-Pair.ensures.inner ∙ ap (λ k. e ++ k ∷ []) (c.in_ok-outer-in-Pair.ensures ∙ ap ty c.deref-in-Pair-2.ensures) in
+    let f1 : scope_of_types c.args.env.now c.push.new.self.items ≡ e ++ ty c.in-Pair.first.value ∷ []
+    = ap (scope_of_types c.args.env.now) c.in_ok-push-in-Pair.ensures.items ∙ scope_push c.args.env.now c.is_good_type.new.inner.items c.in_ok-outer-in-Pair.outer ∙ ap (λ l. scope_of_types c.args.env.now l ++ ty c.in_ok-outer-in-Pair.outer ∷ []) c.in_ok-is_good_type-in-Pair.ensures.inner ∙ ap (λ k. e ++ k ∷ []) (c.in_ok-outer-in-Pair.ensures ∙ ap ty c.deref-in-Pair-2.ensures) in
     let f2 : length c.args.env.now + c.len-count.result ≡ length e
     = ap (λ n. length c.args.env.now + n) (c.len-count.ensures ∙ c.is_good_type.new.inner.ok.0 ∙ ap length c.in_ok-is_good_type-in-Pair.ensures.inner) ∙ sym (scope_length c.args.env.now c.args.inner.now.items) in
     let f3 : ty c.in_ok-under-in-Pair.under ≡ ty_put (name (length e)) (ty c.in-Pair.second.value)

@@ -4,9 +4,9 @@ use Rattle.spi_term.specs.View.{shape_of}
 use Rattle.spi_term.proofs.Numbers.{small_node, length_spelled}
 use Rattle.spi_rules.specs.Environment.{Env}
 use Rattle.spi_infer.specs.Accounts.{IsNoted, Tops}
-use Rattle.spi_infer.specs.Passes.{act, run, scan}
+use Rattle.spi_infer.specs.Passes.{act, run_notes, scan}
 use Rattle.spi_infer.proofs.Walked.{noted_length, note_here, note_given, before, acted, starts}
-use Rattle.spi_origin.specs.Gathering.{aim_of, at_top, with_node, joined, gather, MarkedStacks}
+use Rattle.spi_origin.specs.Gathering.{aim_of, at_top, with_node, joined_lists, gather, MarkedStacks}
 use Rattle.spi_origin.proofs.Gathered.{gathers_to}
 use Rattle.spi_origin.proofs.Stepping.{stepped, starts_marked}
 use Rattle.spi_origin.proofs.gathering.gathered_from.Goals as goal
@@ -56,7 +56,7 @@ loop-id-preserved c =
     let ss = spelled k p in
     let n = λ (env : Env) (h : IsNoted s noted k p env). note_here s noted k p env h i x c.node-node.ensures o c.index-note.ensures in
     let b = λ (env : Env) (h : IsNoted s noted k p env). before s noted k p env h i x c.node-node.ensures o c.index-note.ensures c.distinct.ensures.differ c.len-id.ensures.over c.loop-id.id z c.loop-id.stack.items (c.loop-id.invariant.stack_is env h) in
-    let st = λ (env : Env). run (drop c.loop-id.id ss) (drop c.loop-id.id (scan 0 env [] ss)) in
+    let st = λ (env : Env). run_notes (drop c.loop-id.id ss) (drop c.loop-id.id (scan 0 env [] ss)) in
     let ls = λ (env : Env). gather w c.loop-id.id (drop c.loop-id.id ss) (drop c.loop-id.id (scan 0 env [] ss)) in
     record {
       within = omega (arith, c.loop-id-test.true);
@@ -67,8 +67,8 @@ loop-id-preserved c =
           let stuck = c.in_ok-stuck.ensures.stuck (n env h) (st env) (b env h) in
           let kept = c.is_kept-kept.ensures s noted.keys (act x (n env h) (st env)) c.requires.key (subst (λ l. Tops s noted.keys l (act x (n env h) (st env))) (sym c.deref.ensures.value) tops) in
           let two = c.in_ok-join.ensures c.loop-id.found.items (ls env) (sym (c.len.ensures ∙ c.loop-id.found.ok.0)) (c.loop-id.invariant.found_is env h) in
-          let added = c.in_ok-add_node.ensures (joined x (ls env)) (subst (λ l. MarkedStacks l c.loop-id.found.items (joined x (ls env))) (sym c.deref-in-loop-id.ensures.value) two) in
-          stepped s noted k p env h i x c.node-node.ensures o c.index-note.ensures c.distinct.ensures.differ c.len-id.ensures.over c.loop-id.id z (aim_of c.args.aim.now) c.is_kept-kept.result c.is_picked-picked.result c.join.new.marks.items c.add_node.new.found.items kept (λ e. c.is_picked-picked.ensures s noted.keys (n env h) (st env) (b env h).noted stuck (sym kept ∙ e)) (subst (λ l. MarkedStacks l c.add_node.new.found.items (at_top (with_node c.is_kept-kept.result c.is_picked-picked.result i) (joined x (ls env)))) c.deref-in-loop-id.ensures.value added);
+          let added = c.in_ok-add_node.ensures (joined_lists x (ls env)) (subst (λ l. MarkedStacks l c.loop-id.found.items (joined_lists x (ls env))) (sym c.deref-in-loop-id.ensures.value) two) in
+          stepped s noted k p env h i x c.node-node.ensures o c.index-note.ensures c.distinct.ensures.differ c.len-id.ensures.over c.loop-id.id z (aim_of c.args.aim.now) c.is_kept-kept.result c.is_picked-picked.result c.join.new.marks.items c.add_node.new.found.items kept (λ e. c.is_picked-picked.ensures s noted.keys (n env h) (st env) (b env h).noted stuck (sym kept ∙ e)) (subst (λ l. MarkedStacks l c.add_node.new.found.items (at_top (with_node c.is_kept-kept.result c.is_picked-picked.result i) (joined_lists x (ls env)))) c.deref-in-loop-id.ensures.value added);
     }
 
 pub returns : goal.returns

@@ -1,7 +1,7 @@
 use Rattle.std.proofs.Common.{◌≤◌, [], drop}
 use Rattle.spi_term.specs.Spelling.{spelled}
 use Rattle.spi_rules.specs.Environment.{Env}
-use Rattle.spi_infer.specs.Passes.{scan, run}
+use Rattle.spi_infer.specs.Passes.{scan, run_notes}
 use Rattle.spi_infer.specs.Accounts.{Tops, IsNoted}
 use Rattle.spi_origin.specs.Gathering.{aim_of, gather, MarkedStacks}
 use Rattle.spi_origin.proofs.gathering.gathered_from.Given as goal
@@ -9,6 +9,6 @@ use Rattle.spi_origin.proofs.gathering.gathered_from.Given as goal
 abbrev pub invariant-loop-id : goal.invariant-loop-id
 invariant-loop-id l = record {
   within : l.from ≤ l.id;
-  stack_is : (env : Env) → IsNoted l.store l.noted l.process.names l.process.process env → Tops l.store l.noted.keys l.stack.items (run (drop l.id (spelled l.process.names l.process.process)) (drop l.id (scan 0 env [] (spelled l.process.names l.process.process))));
+  stack_is : (env : Env) → IsNoted l.store l.noted l.process.names l.process.process env → Tops l.store l.noted.keys l.stack.items (run_notes (drop l.id (spelled l.process.names l.process.process)) (drop l.id (scan 0 env [] (spelled l.process.names l.process.process))));
   found_is : (env : Env) → IsNoted l.store l.noted l.process.names l.process.process env → MarkedStacks l.marks.items l.found.items (gather (aim_of l.aim) l.id (drop l.id (spelled l.process.names l.process.process)) (drop l.id (scan 0 env [] (spelled l.process.names l.process.process))));
 }

@@ -12,21 +12,21 @@ use Rattle.spi_parse.specs.Tokens.{State, tok}
 use Rattle.spi_parse.specs.Places.{state_of}
 use Rattle.spi_parse.specs.Rules.{arity_of, writes_effect}
 use Rattle.spi_parse.specs.Table.{deriv, rule_move}
-use Rattle.spi_parse.specs.Reading.{Out, Gives, read, limited, step, go_on}
+use Rattle.spi_parse.specs.Reading.{Out, Gives, read, limited, reads_step, go_on}
 use Rattle.spi_parse.proofs.Readers.{at}
 use Rattle.spi_parse.proofs.DerivLaws.{rule_is_first}
 use Rattle.spi_parse.proofs.derivations.+derivations.Goals as goal
 
-abbrev Read : Result (Box SDeriv × Cursor) Stop → Out trees.Deriv → Type 0
-Read r o = Gives {X = Box SDeriv × Cursor} {Y = trees.Deriv × State} (λ x. (deriv_of x.0.value, state_of x.1)) r o
+abbrev BoxRead : Result (Box SDeriv × Cursor) Stop → Out trees.Deriv → Type 0
+BoxRead r o = Gives {X = Box SDeriv × Cursor} {Y = trees.Deriv × State} (λ x. (deriv_of x.0.value, state_of x.1)) r o
 
 -- what the move of a rule gives behind its word is what a step gives before it, where the word was copied
 by_rule : (later : Bool) (nesting : ℕ) (start : Cursor) (first : Token) (w shown : List ℕ) (o : Option ℕ) (b : Bool) (r : Result (Box SDeriv × Cursor) Stop)
     → 1 ≤ length start.rest.now → first ≡ get_or start.rest.now 0 first → first.kind ≡ K.Word w → w ≡ shown → arity_of later shown ≡ o → writes_effect shown ≡ b → nesting ≤ derivation_limit
-    → Read r (go_on limited (read limited) (rule_move later nesting w o b) false [] (at start.end (tok first ∷ map tok (take (length start.rest.now - 1) (drop 1 start.rest.now)))))
-    → Read r (step limited (read limited) (deriv later nesting) (state_of start))
+    → BoxRead r (go_on limited (read limited) (rule_move later nesting w o b) false [] (at start.end (tok first ∷ map tok (take (length start.rest.now - 1) (drop 1 start.rest.now)))))
+    → BoxRead r (reads_step limited (read limited) (deriv later nesting) (state_of start))
 by_rule later nesting start first w shown o b r some is kind copied arity writes fits gives =
-    subst (Read r) (rule_is_first later nesting start.end start.rest.now first w o b some is kind (ap (arity_of later) copied ∙ arity) (ap writes_effect copied ∙ writes) fits) gives
+    subst (BoxRead r) (rule_is_first later nesting start.end start.rest.now first w o b some is kind (ap (arity_of later) copied ∙ arity) (ap writes_effect copied ∙ writes) fits) gives
 
 pub derivation_step-returns-in_ok-fits-in-One : goal.derivation_step-returns-in_ok-fits-in-One
 derivation_step-returns-in_ok-fits-in-One t c =

@@ -1,7 +1,7 @@
 use Rattle.std.proofs.Common.{rules, arith, List, ◌++◌, map, ap, ◌∙◌}
 use Rattle.std.proofs.lemmas.Grind.{common_steps}
 use Rattle.spi_tree.specs.Trees.{derivs_of_list}
-use Rattle.spi_tree.specs.Views.{effect_of, deriv_of}
+use Rattle.spi_tree.specs.Views.{tree_effect, deriv_of}
 use Rattle.spi_tree.specs.declared.tree.SDeriv.{SDeriv, out-SDeriv}
 use Rattle.spi_rules.specs.Derivations.{RuleUse}
 use Rattle.spi_rules.specs.Deriv.{rule_use}
@@ -24,7 +24,7 @@ read_derivation-returns-clause-uses t c =
     let us : List SDeriv → List RuleUse = λ l. all_uses_in (derivs_of_list (map deriv_of l)) in
     rw (deriv_is d)
     (used c.args.uses.now.uses.items c.push.new.self.items c.read_premises.new.uses.uses.items (record { rule = c.rule_of-rule.result; taken = c.in_ok-taken.taken })
-    (rule_named (out-SDeriv d).rule.word) (numbered_effect (effect_of (out-SDeriv d).effect)) (us (out-SDeriv d).premises.items)
+    (rule_named (out-SDeriv d).rule.word) (numbered_effect (tree_effect (out-SDeriv d).effect)) (us (out-SDeriv d).premises.items)
     c.in_ok-push.ensures.items
     (c.in_ok-read_premises.ensures.uses ∙ ap (λ l. map rule_use c.push.new.self.items ++ us l) c.deref.ensures.value)
     (c.rule_of-rule.ensures ∙ ap rule_named c.as_str.ensures) c.in_ok-taken.ensures.1)

@@ -1,20 +1,20 @@
 use Rattle.std.proofs.Common.{suc, ◌+◌}
 use Rattle.spi_tree.specs.Views.{proc_of}
-use Rattle.spi_scope.proofs.Weights.{weight}
+use Rattle.spi_scope.proofs.Weights.{process_weight}
 use Rattle.spi_scope.proofs.processes.+processes.Given as goal
 
 -- three times the weight of what is left, and one more for each call on the way to a smaller process
 abbrev pub decreases-read_process : goal.decreases-read_process
-decreases-read_process l = weight (proc_of l.p.now) + weight (proc_of l.p.now) + weight (proc_of l.p.now)
+decreases-read_process l = process_weight (proc_of l.p.now) + process_weight (proc_of l.p.now) + process_weight (proc_of l.p.now)
 
 abbrev pub decreases-read_under : goal.decreases-read_under
-decreases-read_under l = suc (weight (proc_of l.p.now) + weight (proc_of l.p.now) + weight (proc_of l.p.now))
+decreases-read_under l = suc (process_weight (proc_of l.p.now) + process_weight (proc_of l.p.now) + process_weight (proc_of l.p.now))
 
 abbrev pub decreases-send_then : goal.decreases-send_then
-decreases-send_then l = suc (weight (proc_of l.then.now) + weight (proc_of l.then.now) + weight (proc_of l.then.now))
+decreases-send_then l = suc (process_weight (proc_of l.then.now) + process_weight (proc_of l.then.now) + process_weight (proc_of l.then.now))
 
 abbrev pub decreases-branch : goal.decreases-branch
-decreases-branch l = suc (suc ((weight (proc_of l.first.now) + weight (proc_of l.first.now) + weight (proc_of l.first.now)) + (weight (proc_of l.second.now) + weight (proc_of l.second.now) + weight (proc_of l.second.now))))
+decreases-branch l = suc (suc ((process_weight (proc_of l.first.now) + process_weight (proc_of l.first.now) + process_weight (proc_of l.first.now)) + (process_weight (proc_of l.second.now) + process_weight (proc_of l.second.now) + process_weight (proc_of l.second.now))))
 
 abbrev pub decreases-compose : goal.decreases-compose
-decreases-compose l = suc ((weight (proc_of l.first.now) + weight (proc_of l.first.now) + weight (proc_of l.first.now)) + (weight (proc_of l.rest.now) + weight (proc_of l.rest.now) + weight (proc_of l.rest.now)))
+decreases-compose l = suc ((process_weight (proc_of l.first.now) + process_weight (proc_of l.first.now) + process_weight (proc_of l.first.now)) + (process_weight (proc_of l.rest.now) + process_weight (proc_of l.rest.now) + process_weight (proc_of l.rest.now)))

@@ -38,7 +38,7 @@ returns-in_ok-bench-in-Ok-clause-ok c =
         bench = e;
         count = omega (arith, c.requires.count, few);
         few = omega (arith, c.requires.count, few);
-        held = omega (arith, ap (λ (q : Rattle.spi_bench.specs.Parts.Benched). Rattle.spi_bench.specs.Parts.nodes_in q.parts) e);
+        held = omega (arith, ap (λ (q : Rattle.spi_bench.specs.Parts.Benched). Rattle.spi_bench.specs.Parts.nodes_in_parts q.parts) e);
       },
       s.clean,
     )

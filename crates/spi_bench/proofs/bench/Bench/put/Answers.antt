@@ -5,7 +5,7 @@ use Rattle.spi_term.specs.Names.{ProcessOver}
 use Rattle.spi_term.specs.View.{ty}
 use Rattle.spi_message.proofs.Standing.{stand_length}
 use Rattle.spi_message.proofs.Tested.{stands_kept}
-use Rattle.spi_bench.specs.Parts.{Benched, nodes_in}
+use Rattle.spi_bench.specs.Parts.{Benched, nodes_in_parts}
 use Rattle.spi_bench.specs.Sums.{shared_in}
 use Rattle.spi_bench.proofs.Judged.{names_length}
 use Rattle.spi_bench.proofs.Totals.{nodes_total}
@@ -33,7 +33,7 @@ invariant_of-self g c =
 pub put_fitting-requires-clause-nodes : goal.put_fitting-requires-clause-nodes
 put_fitting-requires-clause-nodes g c =
     let a = nodes_total c.self.inside.table.sums.free (shared_in c.self.inside.table.sums) c.self.inside.table.slots.items in
-    let b = ap (λ (v : Benched). nodes_in v.parts) c.self.view_is in
+    let b = ap (λ (v : Benched). nodes_in_parts v.parts) c.self.view_is in
     omega (arith, c.requires.nodes)
 
 pub invariant_of-self-2 : goal.invariant_of-self-2

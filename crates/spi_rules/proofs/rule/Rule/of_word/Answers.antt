@@ -2,19 +2,19 @@ use Rattle.std.proofs.Common.{◌≡◌, ℕ, List, false, get_or, length, nat_l
 use Rattle.std.proofs.lemmas.Bool.{false≢true}
 use Rattle.std.specs.Prelude.{Option, Some, None, IfSome, IsNone}
 use Rattle.spi_rules.specs.declared.rule.Rule.{Rule}
-use Rattle.spi_rules.specs.Rule.{spelled, named}
+use Rattle.spi_rules.specs.Rule.{rule_spelled, named}
 use Rattle.spi_rules.specs.Fifth.{rules_by}
 use Rattle.spi_rules.proofs.Named.{named_spelled}
 use Rattle.spi_rules.proofs.Fifth.{has_fifth, each_found}
 use Rattle.spi_rules.proofs.rule.Rule.of_word.Goals as goal
 
 some_is : (rules : List Rule) (word : List ℕ) (found : Option Rule) → found ≡ named rules word
-    → IfSome found (λ r. spelled r ≡ word)
+    → IfSome found (λ r. rule_spelled r ≡ word)
 some_is rules word None e = tt
 some_is rules word (Some r) e = named_spelled rules word r (sym e)
 
 none_is : (word : List ℕ) (found : Option Rule) → found ≡ named (rules_by (get_or word 4 0)) word → IsNone found
-    → (r : Rule) → spelled r ≡ word → ⊥
+    → (r : Rule) → rule_spelled r ≡ word → ⊥
 none_is word None e h r s =
     let q : None ≡ Some r = e ∙ subst (λ w. named (rules_by (get_or w 4 0)) w ≡ Some r) s (each_found r) in absurd (cc)
 none_is word (Some q) e h r s = absurd (cc)
