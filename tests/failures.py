@@ -45,16 +45,24 @@ def calls_in(text):
         yield owner, is_trait, it[1], head, clauses, it[0].lstrip().startswith("pub")
 
 
+def result_names():
+    """The public names that libraries give to a Result."""
+    texts = map(read, glob.glob(f"{ROOT}/crates/*/src/**/*.rt", recursive=True))
+    return sorted({name for text in texts for name in re.findall(r"^pub type (\w+)(?:<[^=]*>)? = Result<", text, re.M)})
+
+
 def public_calls(crate):
     """The public calls of a crate that may fail, with the names of their clauses; '' is one without a name."""
     lib = read(f"{ROOT}/crates/{crate}/src/lib.rt")
     again, open_modules = named_again(lib), {"lib", *re.findall(r"^pub mod (\w+);", lib, re.M)}
     types = {name for _, name in again}
+    # (a public name for a Result, as an answer's type, is one)
+    answers = "|".join(["Result<", r"Status\b", *[rf"{name}\b" for name in result_names()]])
     for path in sorted(glob.glob(f"{ROOT}/crates/{crate}/src/**/*.rt", recursive=True)):
         module = os.path.basename(path).removesuffix(".rt")
         for owner, is_trait, name, head, clauses, is_pub in calls_in(read(path)):
             is_open = module in open_modules or (owner in types if owner else (module, name) in again)
-            if is_open and (is_pub or is_trait) and re.search(r"-> .*\b(Result<|Status\b)", head, re.S):
+            if is_open and (is_pub or is_trait) and re.search(rf"-> .*\b({answers})", head, re.S):
                 yield (f"{owner}::{name}" if owner else name), clauses
 
 

@@ -5,9 +5,9 @@ ghost use Rattle.spi_commands.specs.Reading.{IsRead};
 ghost use Rattle.spi_commands.specs.Refusals.{Refuses};
 
 use crate::NoMemory;
-use crate::refusing::{refusal_line, too_many};
+use crate::refusing::refusal_line;
 use crate::tokens::{LIMIT, tokens_of};
-use spi_commands::{Status, Unread, read};
+use spi_commands::{Status, Unread, read, refuse_too_many};
 use spi_explain::{Explained, explain_file};
 use spi_fault::Fault;
 use spi_report::Refusal;
@@ -118,7 +118,7 @@ fn of_too_many(alloc: Global, style: Style) -> Result<Advice, NoMemory>
     ensures { IfOk result (λ a. (bytes : List ℕ) → 16_777_216 < length bytes
         → Advises bytes a.status a.output.items) }
 {
-    let (r, line) = too_many(alloc)?;
+    let (r, line) = refuse_too_many(alloc)?;
     let lines = Lines::of(alloc, b"")?;
     let source = Source::new(b"", &lines, &[]);
     let mut page = Page::new(alloc, style);

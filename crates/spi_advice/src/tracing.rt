@@ -10,9 +10,9 @@ ghost use Rattle.spi_commands.specs.Beside.{HasOffence};
 ghost use Rattle.spi_advice.specs.Tracing.{Traces, EndsWith};
 
 use crate::NoMemory;
-use crate::refusing::{refusal_line, too_many};
+use crate::refusing::refusal_line;
 use crate::tokens::{LIMIT, tokens_of};
-use spi_commands::{Status, Unread, read};
+use spi_commands::{Status, Unread, read, refuse_too_many};
 use spi_course::{Account, Course, Untold, course_text};
 use spi_report::{Refusal, first_unpaid, refused};
 use spi_run::Event;
@@ -167,7 +167,7 @@ fn of_too_many(alloc: Global) -> Result<Trace, NoMemory>
     ensures { IfOk result (λ t. (bytes : List ℕ) → 16_777_216 < length bytes
         → Traces bytes t.course t.status t.output.items) }
 {
-    let (_, line) = too_many(alloc)?;
+    let (_, line) = refuse_too_many(alloc)?;
     Ok(refused_with(line))
 }
 

@@ -12,7 +12,7 @@ use Rattle.spi_effect.proofs.Made.{minus_difference, greater_is, and_true}
 use Rattle.spi_effect.proofs.Laws.{sum_append}
 use Rattle.spi_intern.specs.declared.store.Store.{Store}
 use Rattle.spi_count.specs.Counts.{count_of, IsNothing}
-use Rattle.spi_count.specs.Sums.{name_bound, message_of, part, both_counts, Below}
+use Rattle.spi_count.specs.Sums.{name_bound, part, both_counts, Below}
 use Rattle.spi_count.specs.declared.sum.AtomKind.{AtomKind}
 use Rattle.spi_count.specs.declared.sum.Sum.{Sum}
 use Rattle.spi_count.proofs.Standing.{stands_none, stands_same, stands_joined, stands_greatest, in_mentions, unreached_below, reached_in, free_at}
@@ -21,6 +21,7 @@ use Rattle.spi_count.specs.Keeping.{with_keys, IsKeyed}
 use Rattle.spi_count.specs.Adding.{SumOf}
 use Rattle.spi_audit.specs.Accounts.{HeldBy, outer}
 use Rattle.spi_count.proofs.Summed.{numbers}
+use Rattle.spi_intern.specs.Parts.{message_of}
 
 -- counts
 pub count_none : (a : Atom) → count a [] ≡ 0

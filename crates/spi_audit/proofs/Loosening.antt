@@ -13,7 +13,7 @@ use Rattle.spi_effect.proofs.Laws.{AllMany_in, AllMany_of}
 use Rattle.spi_intern.specs.declared.store.Store.{Store}
 use Rattle.spi_intern.proofs.Lists.{truths}
 use Rattle.spi_count.specs.Counts.{count_of, IsNothing}
-use Rattle.spi_count.specs.Sums.{name_bound, key_of, kind_of_atom, message_of, part, Puts}
+use Rattle.spi_count.specs.Sums.{name_bound, key_of, kind_of_atom, part, Puts}
 use Rattle.spi_count.specs.declared.sum.AtomKind.{AtomKind}
 use Rattle.spi_count.specs.declared.sum.AtomKind.TheVariants.{End, Check, Many}
 use Rattle.spi_count.specs.declared.sum.Sum.{Sum}
@@ -25,6 +25,7 @@ use Rattle.spi_count.specs.Adding.{IsKey, SumOf}
 use Rattle.spi_audit.specs.Accounts.{HeldBy, outer, Marks, lasting_with, IsScopeCut, LeavesOne, LeavesTwo}
 use Rattle.spi_count.proofs.Summed.{numbers}
 use Rattle.spi_audit.proofs.Holding.{zero_or, in_count, count_in, inner_in, held_other, outer_true, outer_false, outer_from, outer_not, mentions_in, in_mentioned, free_at_below, cut_zero, positive}
+use Rattle.spi_intern.specs.Parts.{message_of}
 
 -- an effect with each of an atom out
 tally_every_other : (c a : Atom) (es : Effect) → c ≢ a → tally c (every_out a es) ≡ tally c es

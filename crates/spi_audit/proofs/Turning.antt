@@ -14,7 +14,7 @@ use Rattle.spi_intern.specs.Atoms.{SaysAtom, says_end, says_check, says_many, At
 use Rattle.spi_intern.specs.Meaning.{Means}
 use Rattle.spi_intern.specs.Table.{TellsAll}
 use Rattle.spi_intern.proofs.Lists.{get_below}
-use Rattle.spi_count.specs.Sums.{name_bound, message_of, Below}
+use Rattle.spi_count.specs.Sums.{name_bound, Below}
 use Rattle.spi_count.specs.declared.keys.Keys.{Keys}
 use Rattle.spi_audit.specs.declared.accounts.Account.{Account}
 use Rattle.spi_audit.specs.declared.notes.Note.{Note}
@@ -23,6 +23,7 @@ use Rattle.spi_count.specs.Keeping.{IsKeyed, HasKey, HaveKeys}
 use Rattle.spi_audit.specs.Accounts.{Held, IsHeld, HoldsEffects, holds_next, LeavesOne, LeavesTwo, HoldsMore, HoldsLess}
 use Rattle.spi_audit.specs.Changes.{Change, served, chosen, summed, IsScoped, before, own, scope_in, effects_after, pays, top_effect}
 use Rattle.spi_audit.specs.Notes.{NotedAs, noted_nothing, noted_empty, noted_same, noted_one, noted_two, noted_serve, noted_branch, noted_check, noted_begin, noted_end, noted_many, noted_cast, noted_make, noted_both, noted_taken, ChangesOne, ChangesAll, IsBeforeChange, IsBeforeOne, IsUnaryNote}
+use Rattle.spi_intern.specs.Parts.{message_of}
 
 abbrev first_number : List ℕ → ℕ
 first_number [] = 0

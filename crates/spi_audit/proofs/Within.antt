@@ -9,7 +9,7 @@ use Rattle.spi_effect.proofs.Made.{is_within_sound, is_within_complete, and_true
 use Rattle.spi_intern.specs.declared.store.Store.{Store}
 use Rattle.spi_intern.proofs.Lists.{truths}
 use Rattle.spi_count.specs.Counts.{count_of, IsNothing}
-use Rattle.spi_count.specs.Sums.{name_bound, key_of, kind_of_atom, message_of, part, Puts, Below}
+use Rattle.spi_count.specs.Sums.{name_bound, key_of, kind_of_atom, part, Puts, Below}
 use Rattle.spi_count.specs.declared.sum.AtomKind.{AtomKind}
 use Rattle.spi_count.specs.declared.sum.AtomKind.TheVariants.{End, Check, Many}
 use Rattle.spi_count.specs.declared.sum.Sum.{Sum}
@@ -20,6 +20,7 @@ use Rattle.spi_count.specs.Keeping.{with_keys, IsKeyed}
 use Rattle.spi_count.specs.Adding.{SumOf}
 use Rattle.spi_audit.specs.Accounts.{HeldBy, outer}
 use Rattle.spi_audit.proofs.Holding.{zero_or, count_in, below_none, last_free, bound_of, outer_true}
+use Rattle.spi_intern.specs.Parts.{message_of}
 
 -- what was taken out is counted in b no lower
 abbrev pub IsTakenOut : Sum → Sum → Sum → Type 0

@@ -7,7 +7,7 @@ use Rattle.spi_intern.specs.declared.store.Store.{Store}
 use Rattle.spi_effect.specs.Effect.{IsMany}
 use Rattle.spi_effect.specs.Made.{is_free, is_free_at, mentions, minus}
 use Rattle.spi_count.specs.Counts.{count_of}
-use Rattle.spi_count.specs.Sums.{name_bound, message_of}
+use Rattle.spi_count.specs.Sums.{name_bound}
 use Rattle.spi_count.specs.declared.sum.AtomKind.{AtomKind}
 use Rattle.spi_count.specs.declared.sum.AtomKind.TheVariants.{End, Check, Many}
 use Rattle.spi_count.specs.declared.sum.Sum.{Sum}
@@ -15,6 +15,7 @@ use Rattle.spi_count.specs.declared.keys.Keys.{Keys}
 use Rattle.spi_audit.specs.declared.accounts.Account.{Account}
 use Rattle.spi_count.specs.Keeping.{IsKeyed}
 use Rattle.spi_count.specs.Adding.{SumOf}
+use Rattle.spi_intern.specs.Parts.{message_of}
 
 -- An effect is held: the atoms that aren't loose by counts, the loose ones by the names that they have and by whether each
 -- is a `many`.

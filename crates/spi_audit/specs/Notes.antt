@@ -3,7 +3,6 @@ use Rattle.std.specs.Prelude.{◌≡◌, ℕ, ◌≤◌, ⊤, Bool, slice_get, L
 use Rattle.spi_term.specs.Term.{Message, name, Atom, Effect, un, nonce}
 use Rattle.spi_term.specs.Spelling.{Shape}
 use Rattle.spi_rules.specs.Environment.{Env}
-use Rattle.spi_count.specs.Sums.{message_of}
 use Rattle.spi_rules.specs.Messages.{HasType, IsLabel}
 use Rattle.spi_rules.specs.Good.{GoodEffect}
 use Rattle.spi_rules.specs.declared.rule.Rule.{Rule}
@@ -22,6 +21,7 @@ use Rattle.spi_audit.specs.declared.notes.Note.TheVariants as N
 use Rattle.spi_count.specs.Keeping.{with_keys, HasKey, HaveKeys, IsKeyed, AreKept}
 use Rattle.spi_audit.specs.Accounts.{Held, HoldsEffects}
 use Rattle.spi_audit.specs.Changes.{Change, nothing_done, no_effect, same_effect, one_left, two_left, served, chosen, checked, begun, ended, ended_many, casted, made, summed, subsumed_to, shape_change, top_effect, effects_after, pays, before, own, scope_in, IsScoped, AreScoped}
+use Rattle.spi_intern.specs.Parts.{message_of}
 
 -- what is kept of a use stands for what it does
 pub data NotedAs (s : Store) (keys : Keys) : Change → Note → Type 0 where

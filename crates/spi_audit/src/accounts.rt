@@ -9,11 +9,12 @@ ghost use Rattle.spi_intern.specs.Table.{TellsAll};
 ghost use Rattle.spi_intern.specs.Atoms.{SaysAtom};
 ghost use Rattle.spi_intern.specs.Meaning.{Means};
 ghost use Rattle.spi_count.specs.Counts.{count_of};
-ghost use Rattle.spi_count.specs.Sums.{name_bound, message_of, Below};
+ghost use Rattle.spi_count.specs.Sums.{name_bound, Below};
 ghost use Rattle.spi_count.specs.declared.keys.Keys.{Keys};
 ghost use Rattle.spi_count.specs.Keeping.{IsKeyed, HasKey, HaveKeys};
 ghost use Rattle.spi_count.specs.Adding.{IsKey, SumOf};
 ghost use Rattle.spi_audit.specs.Accounts.{Held, IsHeld, Marks, IsScopeCut, lasting_with, LeavesOne, LeavesTwo, HoldsMore, HoldsLess};
+ghost use Rattle.spi_intern.specs.Parts.{message_of};
 
 use crate::NoMemory;
 use spi_count::{AtomKind, Counts, Keys, Sum, add_atom, add_atoms, add_type, take_atom, take_type};

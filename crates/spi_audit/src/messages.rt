@@ -8,7 +8,7 @@ ghost use Rattle.spi_message.specs.Judging.{IsKept};
 ghost use Rattle.spi_message.specs.Tests.{is_un, is_unit};
 ghost use Rattle.spi_audit.specs.declared.asked.Asked.TheVariants as A;
 ghost use Rattle.spi_audit.specs.declared.asked.Premises.TheVariants as C;
-ghost use Rattle.spi_audit.specs.Asked.{AnswersPart, AnswersMessage, IsWhereUn, IsPairOf, IsSumOf, IsNoPair, IsNoSum, IsKeyAt, IsNoKeyAt};
+ghost use Rattle.spi_audit.specs.Asked.{AnswersPart, AnswersMessage, IsWhereUn, IsKeyAt, IsNoKeyAt};
 
 use crate::asked::{Asked, FittingPremises, Premises};
 use spi_intern::{MsgId, MsgPart, TyId, TyPart};
@@ -60,28 +60,6 @@ fn part_untrusted(judge: &Judge, a: MsgId, t: TyId) -> Option<Premises>
 {
     let premises = Premises::OnePremise(Asked::Message(a, t));
     where_untrusted(judge, t, premises)
-}
-
-fn pair_parts(judge: &Judge, t: TyId) -> Option<(TyId, TyId)>
-    requires { IsGiven judge.now.store t.place }
-    ensures some { IfSome result (λ p. IsPairOf judge.now.store t p.0 p.1) }
-    ensures none { IfNone result (IsNoPair judge.now.store t) }
-{
-    match judge.store().ty_part(t) {
-        TyPart::Pair(first, second) => Some((first, second)),
-        _ => None,
-    }
-}
-
-fn sum_parts(judge: &Judge, t: TyId) -> Option<(TyId, TyId)>
-    requires { IsGiven judge.now.store t.place }
-    ensures some { IfSome result (λ p. IsSumOf judge.now.store t p.0 p.1) }
-    ensures none { IfNone result (IsNoSum judge.now.store t) }
-{
-    match judge.store().ty_part(t) {
-        TyPart::Sum(left, right) => Some((left, right)),
-        _ => None,
-    }
 }
 
 // The payload of the type of a name.
@@ -148,12 +126,12 @@ fn pair_typed(alloc: Global, judge: &mut Judge, a: MsgId, b: MsgId, t: TyId) -> 
     ensures answer { IfOk result (AnswersPart judge.old judge.new Rule.MsgPair (P.Pair a b) t) }
     ensures kept { IsKept judge.old judge.new }
 {
-    match pair_parts(judge, t) {
-        Some((first, second)) => {
+    match judge.store().ty_part(t) {
+        TyPart::Pair(first, second) => {
             let rest = judge.opened(alloc, second, a)?;
             Ok(Some(Premises::TwoPremises(Asked::Message(a, first), Asked::Message(b, rest))))
         }
-        None => Ok(None),
+        _ => Ok(None),
     }
 }
 
@@ -161,9 +139,9 @@ fn left_typed(judge: &Judge, a: MsgId, t: TyId) -> Option<Premises>
     requires { IsGiven judge.now.store t.place }
     ensures { AnswersPart judge.now judge.now Rule.MsgInl (P.Inl a) t result }
 {
-    match sum_parts(judge, t) {
-        Some((left, _)) => Some(Premises::OnePremise(Asked::Message(a, left))),
-        None => None,
+    match judge.store().ty_part(t) {
+        TyPart::Sum(left, _) => Some(Premises::OnePremise(Asked::Message(a, left))),
+        _ => None,
     }
 }
 
@@ -171,9 +149,9 @@ fn right_typed(judge: &Judge, a: MsgId, t: TyId) -> Option<Premises>
     requires { IsGiven judge.now.store t.place }
     ensures { AnswersPart judge.now judge.now Rule.MsgInr (P.Inr a) t result }
 {
-    match sum_parts(judge, t) {
-        Some((_, right)) => Some(Premises::OnePremise(Asked::Message(a, right))),
-        None => None,
+    match judge.store().ty_part(t) {
+        TyPart::Sum(_, right) => Some(Premises::OnePremise(Asked::Message(a, right))),
+        _ => None,
     }
 }
 

@@ -9,8 +9,9 @@ use Rattle.indexmap.specs.IndexMap.{get}
 use Rattle.std.specs.Cmp.Lexicographic.{bytes_decides}
 use Rattle.spi_term.specs.Spelling.{Spelling}
 use Rattle.spi_rules.specs.Environment.{Env}
-use Rattle.spi_bench.specs.Parts.{part_named, with_part, without}
-use Rattle.std.proofs.lemmas.Option.{slice_get_within}
+use Rattle.spi_bench.specs.Parts.{Part, part_named, with_part, without}
+use Rattle.std.proofs.lemmas.List.{length-set, get_or-set_same, set-get_or, set_at, nil_from_length}
+use Rattle.std.proofs.lemmas.Option.{slice_get_within, slice_get-get_or, get_or_from_slice_get}
 use Rattle.spi_term.specs.declared.term.Effect as D
 use Rattle.spi_bench.specs.Slots.{SetsPart, sets_part, sets_none, SetsLast, sets_last, IsPadded, PutsPart, Drops, Stays}
 use Rattle.spi_bench.specs.Slots.{part_of, slot_parts, SlotStandsAt, AreNamed, IsPartOver, IsInferred, AreInferred}
@@ -39,12 +40,10 @@ told_place i j = go (eqb i j) refl
     go false e = inr (eqb-false i j e)
 
 -- elements
-pub get_here : {A : Type 0} (xs : List A) (i : ℕ) (a : A) → i < length xs → slice_get (slice_set xs i a) i ≡ Some a
-get_here [] i a h = absurd (omega arith)
-get_here (x ∷ xs) zero a h = refl
-get_here (x ∷ xs) (suc i) a h = get_here xs i a (omega arith)
+get_here : {A : Type 0} (xs : List A) (i : ℕ) (a : A) → i < length xs → slice_get (slice_set xs i a) i ≡ Some a
+get_here xs i a h = slice_get-get_or (slice_set xs i a) i a (omega (arith, length-set xs i a, h)) ∙ ap Some (get_or-set_same xs i a a h)
 
-pub get_there : {A : Type 0} (xs : List A) (i j : ℕ) (a : A) → j ≢ i → slice_get (slice_set xs i a) j ≡ slice_get xs j
+get_there : {A : Type 0} (xs : List A) (i j : ℕ) (a : A) → j ≢ i → slice_get (slice_set xs i a) j ≡ slice_get xs j
 get_there [] i j a h = refl
 get_there (x ∷ xs) zero zero a h = absurd (h refl)
 get_there (x ∷ xs) zero (suc j) a h = refl
@@ -78,63 +77,91 @@ no_name n ss at h e j u g f = let a : at n ≡ Some j = (h n j).1 (u, g, f) in a
 next_only : (n : List ℕ) (i : ℕ) (x : Option Slot) (ss : List (Option Slot)) → Only n (suc i) (x ∷ ss) → Only n i ss
 next_only n i x ss h j u e f = let a : suc j ≡ suc i = h (suc j) u e f in omega arith
 
--- the parts, where the slot named n changes
-put_there : (ss : List (Option Slot)) (i : ℕ) (s t : Slot) (n : List ℕ) → slice_get ss i ≡ Some (Some s) → s.name ≡ n → t.name ≡ n → Only n i ss → slot_parts (slice_set ss i (Some t)) ≡ with_part n t.part (slot_parts ss)
-put_there [] i s t n e f g o = absurd (cc)
-put_there (None ∷ ss) zero s t n e f g o = absurd (cc)
-put_there (None ∷ ss) (suc i) s t n e f g o = put_there ss i s t n e f g (next_only n i None ss o)
-put_there (Some u ∷ ss) zero s t n e f g o =
-    let q : u ≡ s = cc in
-    let w : n ≡ u.name = sym (ap (λ (v : Slot). v.name) q ∙ f) in
-    rw (same_text n u.name w) (ap (λ (m : List ℕ). record { name = m; part = t.part } ∷ slot_parts ss) g)
-put_there (Some u ∷ ss) (suc i) s t n e f g o =
-    let w : n ≢ u.name = λ q. let z : 0 ≡ suc i = o 0 u refl (sym q) in absurd (omega arith) in
-    rw (other_text n u.name w) (ap (λ l. part_of u ∷ l) (put_there ss i s t n e f g (next_only n i (Some u) ss o)))
-
-find_there : (ss : List (Option Slot)) (i : ℕ) (s : Slot) (n : List ℕ) → slice_get ss i ≡ Some (Some s) → s.name ≡ n → Only n i ss → part_named n (slot_parts ss) ≡ Some s.part
-find_there [] i s n e f o = absurd (cc)
-find_there (None ∷ ss) zero s n e f o = absurd (cc)
-find_there (None ∷ ss) (suc i) s n e f o = find_there ss i s n e f (next_only n i None ss o)
-find_there (Some u ∷ ss) zero s n e f o =
-    let q : u ≡ s = cc in
-    let w : n ≡ u.name = sym (ap (λ (v : Slot). v.name) q ∙ f) in
-    rw (same_text n u.name w) (ap (λ (v : Slot). Some v.part) q)
-find_there (Some u ∷ ss) (suc i) s n e f o =
-    let w : n ≢ u.name = λ q. let z : 0 ≡ suc i = o 0 u refl (sym q) in absurd (omega arith) in
-    rw (other_text n u.name w) (find_there ss i s n e f (next_only n i (Some u) ss o))
-
-drop_there : (ss : List (Option Slot)) (i : ℕ) (s : Slot) (n : List ℕ) → slice_get ss i ≡ Some (Some s) → s.name ≡ n → Only n i ss → slot_parts (slice_set ss i None) ≡ without n (slot_parts ss)
-drop_there [] i s n e f o = absurd (cc)
-drop_there (None ∷ ss) zero s n e f o = absurd (cc)
-drop_there (None ∷ ss) (suc i) s n e f o = drop_there ss i s n e f (next_only n i None ss o)
-drop_there (Some u ∷ ss) zero s n e f o =
-    let q : u ≡ s = cc in
-    let w : n ≡ u.name = sym (ap (λ (v : Slot). v.name) q ∙ f) in
-    rw (same_text n u.name w) refl
-drop_there (Some u ∷ ss) (suc i) s n e f o =
-    let w : n ≢ u.name = λ q. let z : 0 ≡ suc i = o 0 u refl (sym q) in absurd (omega arith) in
-    rw (other_text n u.name w) (ap (λ l. part_of u ∷ l) (drop_there ss i s n e f (next_only n i (Some u) ss o)))
-
--- where no slot is named n
-put_last : (ss : List (Option Slot)) (t : Slot) (n : List ℕ) → t.name ≡ n → NoName n ss → slot_parts (slice_set (ss ++ None ∷ []) (length ss) (Some t)) ≡ with_part n t.part (slot_parts ss)
-put_last [] t n g o = ap (λ (m : List ℕ). record { name = m; part = t.part } ∷ []) g
-put_last (None ∷ ss) t n g o = put_last ss t n g (λ j. o (suc j))
-put_last (Some u ∷ ss) t n g o = rw (other_text n u.name (λ q. o 0 u refl (sym q))) (ap (λ l. part_of u ∷ l) (put_last ss t n g (λ j. o (suc j))))
-
-find_none : (ss : List (Option Slot)) (n : List ℕ) → NoName n ss → part_named n (slot_parts ss) ≡ None
-find_none [] n o = refl
-find_none (None ∷ ss) n o = find_none ss n (λ j. o (suc j))
-find_none (Some u ∷ ss) n o = rw (other_text n u.name (λ q. o 0 u refl (sym q))) (find_none ss n (λ j. o (suc j)))
-
-drop_none : (ss : List (Option Slot)) (n : List ℕ) → NoName n ss → without n (slot_parts ss) ≡ slot_parts ss
-drop_none [] n o = refl
-drop_none (None ∷ ss) n o = drop_none ss n (λ j. o (suc j))
-drop_none (Some u ∷ ss) n o = rw (other_text n u.name (λ q. o 0 u refl (sym q))) (ap (λ l. part_of u ∷ l) (drop_none ss n (λ j. o (suc j))))
-
 parts_padded : (ss : List (Option Slot)) → slot_parts (ss ++ None ∷ []) ≡ slot_parts ss
 parts_padded [] = refl
 parts_padded (None ∷ ss) = parts_padded ss
 parts_padded (Some u ∷ ss) = ap (λ l. part_of u ∷ l) (parts_padded ss)
+
+-- the parts before and behind the slot at i, where no slot but that one is named n: what stands there may change, and what is
+-- asked of the name n passes the parts before it
+record PartPlace (n : List ℕ) (i : ℕ) (ss : List (Option Slot)) : Type 0 where
+  before : List Part
+  behind : List Part
+  changes : (x : Option Slot) → slot_parts (slice_set ss i x) ≡ before ++ (slot_parts (x ∷ []) ++ behind)
+  finds : (qs : List Part) → part_named n (before ++ qs) ≡ part_named n qs
+  puts : (p : Spelling) (qs : List Part) → with_part n p (before ++ qs) ≡ before ++ with_part n p qs
+  drops : (qs : List Part) → without n (before ++ qs) ≡ before ++ without n qs
+  last : suc i ≡ length ss → behind ≡ []
+
+part_place : (n : List ℕ) (ss : List (Option Slot)) (i : ℕ) → i < length ss → Only n i ss → PartPlace n i ss
+part_place n [] i l o = absurd (omega arith)
+part_place n (x ∷ ss) zero l o = record {
+  before = [];
+  behind = slot_parts ss;
+  changes = first;
+  finds = λ qs. refl;
+  puts = λ p qs. refl;
+  drops = λ qs. refl;
+  last = λ e. ap slot_parts (nil_from_length ss (omega (arith, e)));
+}
+  where
+    first : (y : Option Slot) → slot_parts (y ∷ ss) ≡ slot_parts (y ∷ []) ++ slot_parts ss
+    first None = refl
+    first (Some u) = refl
+part_place n (None ∷ ss) (suc i) l o =
+    let r = part_place n ss i (omega arith) (next_only n i None ss o) in
+    record { before = r.before; behind = r.behind; changes = r.changes; finds = r.finds; puts = r.puts; drops = r.drops; last = λ e. r.last (omega (arith, e)) }
+part_place n (Some u ∷ ss) (suc i) l o =
+    let r = part_place n ss i (omega arith) (next_only n i (Some u) ss o) in
+    let w : n ≢ u.name = λ q. let z : 0 ≡ suc i = o 0 u refl (sym q) in absurd (omega arith) in
+    let f = other_text n u.name w in
+    record {
+      before = part_of u ∷ r.before;
+      behind = r.behind;
+      changes = λ x. ap (λ l. part_of u ∷ l) (r.changes x);
+      finds = λ qs. rw f (r.finds qs);
+      puts = λ p qs. rw f (ap (λ l. part_of u ∷ l) (r.puts p qs));
+      drops = λ qs. rw f (ap (λ l. part_of u ∷ l) (r.drops qs));
+      last = λ e. r.last (omega (arith, e));
+    }
+
+set_same : {A : Type 0} (xs : List A) (i : ℕ) (a : A) → slice_get xs i ≡ Some a → slice_set xs i a ≡ xs
+set_same xs i a e = ap (slice_set xs i) (sym (get_or_from_slice_get xs i a a e)) ∙ set-get_or xs i a
+
+-- where no slot is named n: a slot comes last
+module _ (n : List ℕ) (ss : List (Option Slot)) (o : NoName n ss) where
+  padded_length : length (ss ++ None ∷ []) ≡ suc (length ss)
+  padded_length = omega (arith, length-append ss (None ∷ []))
+
+  end_place : PartPlace n (length ss) (ss ++ None ∷ [])
+  end_place = part_place n (ss ++ None ∷ []) (length ss) (omega (arith, padded_length)) (λ j u g f. absurd (o j u (get_padded ss j u g) f))
+
+  nothing_behind : end_place.behind ≡ []
+  nothing_behind = end_place.last (sym padded_length)
+
+  whole_before : slot_parts ss ≡ end_place.before ++ []
+  whole_before =
+      sym (parts_padded ss)
+      ∙ ap slot_parts (sym (set_at ss None [] None (length ss) refl))
+      ∙ end_place.changes None
+      ∙ ap (λ l. end_place.before ++ l) nothing_behind
+
+  put_last : (t : Slot) → t.name ≡ n → slot_parts (slice_set (ss ++ None ∷ []) (length ss) (Some t)) ≡ with_part n t.part (slot_parts ss)
+  put_last t h =
+      end_place.changes (Some t)
+      ∙ ap (λ l. end_place.before ++ part_of t ∷ l) nothing_behind
+      ∙ ap (λ (m : List ℕ). end_place.before ++ record { name = m; part = t.part } ∷ []) h
+      ∙ sym (end_place.puts t.part [])
+      ∙ ap (with_part n t.part) (sym whole_before)
+
+  find_none : part_named n (slot_parts ss) ≡ None
+  find_none = ap (part_named n) whole_before ∙ end_place.finds []
+
+  drop_none : without n (slot_parts ss) ≡ slot_parts ss
+  drop_none = ap (without n) whole_before ∙ end_place.drops [] ∙ sym whole_before
+
+abbrev SlotAt : Type 0
+SlotAt = List ℕ → Option ℕ
 
 -- what a slot may become, with the place of its name
 pub data SlotBecomes (n : List ℕ) (i : ℕ) : Option Slot → Option ℕ → Type 0 where
@@ -206,23 +233,61 @@ inferred_slot env count t p least q m h = subst (λ o. IsPartOver env count t.pa
 none_some : {A : Type 0} (u : Slot) (x : Option (Option Slot)) → x ≡ Some None → x ≡ Some (Some u) → A
 none_some u x e f = absurd (cc)
 
--- puts and drops, from what becomes of the slots
-abbrev SlotAt : Type 0
-At = List ℕ → Option ℕ
+-- where a slot named n stands
+module _ (n : List ℕ) (i : ℕ) (s : Slot) (ss : List (Option Slot)) (at : SlotAt) (h : AreNamed ss at) (e : at n ≡ Some i) (g : slice_get ss i ≡ Some (Some s)) where
+  its_name : s.name ≡ n
+  its_name =
+      let (u, v, z) = (h n i).0 e in
+      let a : s ≡ u = cc in
+      ap (λ (x : Slot). x.name) a ∙ z
 
+  its_only : Only n i ss
+  its_only = only_one n i ss at h e
+
+  its_within : i < length ss
+  its_within = slice_get_within ss i (Some s) g
+
+  slot_place : PartPlace n i ss
+  slot_place = part_place n ss i its_within its_only
+
+  parts_are : slot_parts ss ≡ slot_place.before ++ part_of s ∷ slot_place.behind
+  parts_are = ap slot_parts (sym (set_same ss i (Some s) g)) ∙ slot_place.changes (Some s)
+
+  put_there : (t : Slot) → t.name ≡ n → slot_parts (slice_set ss i (Some t)) ≡ with_part n t.part (slot_parts ss)
+  put_there t f =
+      let here : with_part n t.part (part_of s ∷ slot_place.behind) ≡ record { name = n; part = t.part } ∷ slot_place.behind = rw (same_text n s.name (sym its_name)) refl in
+      slot_place.changes (Some t)
+      ∙ ap (λ (m : List ℕ). slot_place.before ++ record { name = m; part = t.part } ∷ slot_place.behind) f
+      ∙ ap (λ l. slot_place.before ++ l) (sym here)
+      ∙ sym (slot_place.puts t.part (part_of s ∷ slot_place.behind))
+      ∙ ap (with_part n t.part) (sym parts_are)
+
+  find_there : part_named n (slot_parts ss) ≡ Some s.part
+  find_there =
+      let here : part_named n (part_of s ∷ slot_place.behind) ≡ Some s.part = rw (same_text n s.name (sym its_name)) refl in
+      ap (part_named n) parts_are ∙ slot_place.finds (part_of s ∷ slot_place.behind) ∙ here
+
+  drop_there : slot_parts (slice_set ss i None) ≡ without n (slot_parts ss)
+  drop_there =
+      let here : without n (part_of s ∷ slot_place.behind) ≡ slot_place.behind = rw (same_text n s.name (sym its_name)) refl in
+      slot_place.changes None
+      ∙ ap (λ l. slot_place.before ++ l) (sym here)
+      ∙ sym (slot_place.drops (part_of s ∷ slot_place.behind))
+      ∙ ap (without n) (sym parts_are)
+
+  named_changed : (x : Option Slot) (w : Option ℕ) (to : SlotAt) → SlotBecomes n i x w → to n ≡ w → ((m : List ℕ) → n ≢ m → to m ≡ at m) → AreNamed (slice_set ss i x) to
+  named_changed x w to b here others = named_after n i ss at to x w its_within h its_only (λ y k. let c : s ≡ y = cc in sym (ap (λ (v : Slot). v.name) c) ∙ its_name) b here others
+
+-- puts and drops, from what becomes of the slots
 pub puts_there : (n : List ℕ) (p : Spelling) (least : Option D.Effect) (i : ℕ) (r : Option Spelling) (old new : List (Option Slot)) (at : SlotAt) → AreNamed old at → at n ≡ Some i → SetsPart i p least r old new → PutsPart n p least r old new at
 puts_there n p least i _ old new at h e (sets_part {s} {t} g f q m w) =
-    let (u, v, z) = (h n i).0 e in
-    let a : s ≡ u = cc in
-    let b : s.name ≡ n = ap (λ (x : Slot). x.name) a ∙ z in
-    let o = only_one n i old at h e in
-    let l = slice_get_within old i (Some s) g in
+    let b = its_name n i s old at h e g in
     record {
-      places = subst (λ x. AreNamed x at) (sym w) (named_after n i old at at (Some t) (Some i) l h o (λ y k. let c : s ≡ y = cc in sym (ap (λ (x : Slot). x.name) c) ∙ b) (there (f ∙ b)) e (λ m d. refl));
-      parts = ap slot_parts w ∙ put_there old i s t n g b (f ∙ b) o ∙ ap (λ x. with_part n x (slot_parts old)) q;
-      before = sym (find_there old i s n g b o);
+      places = subst (λ x. AreNamed x at) (sym w) (named_changed n i s old at h e g (Some t) (Some i) at (there (f ∙ b)) e (λ m d. refl));
+      parts = ap slot_parts w ∙ put_there n i s old at h e g t (f ∙ b) ∙ ap (λ x. with_part n x (slot_parts old)) q;
+      before = sym (find_there n i s old at h e g);
       inferred = λ env count k y.
-          subst (λ x. AreInferred env count x) (sym w) (inferred_after env count i old (Some t) l k (λ x c. let d : t ≡ x = cc in subst (IsInferred env count) d (inferred_slot env count t p least q m y)));
+          subst (λ x. AreInferred env count x) (sym w) (inferred_after env count i old (Some t) (its_within n i s old at h e g) k (λ x c. let d : t ≡ x = cc in subst (IsInferred env count) d (inferred_slot env count t p least q m y)));
     }
 puts_there n p least i _ old new at h e (sets_none g) =
     let (u, v, z) = (h n i).0 e in
@@ -235,8 +300,8 @@ puts_last n p least old new at to h e (sets_last {t} f q m w) here others =
     let padded = old ++ None ∷ [] in
     record {
       places = subst (λ x. AreNamed x to) (sym w) (named_after n (length old) padded at to (Some t) (Some (length old)) l (named_padded old at h) (λ j u g k. absurd (o j u (get_padded old j u g) k)) (λ u g. absurd (past old u (get_padded old (length old) u g))) (there f) here others);
-      parts = ap slot_parts w ∙ put_last old t n f o ∙ ap (λ x. with_part n x (slot_parts old)) q;
-      before = sym (find_none old n o);
+      parts = ap slot_parts w ∙ put_last n old o t f ∙ ap (λ x. with_part n x (slot_parts old)) q;
+      before = sym (find_none n old o);
       inferred = λ env count k y.
           subst (λ x. AreInferred env count x) (sym w) (inferred_after env count (length old) padded (Some t) l (inferred_padded env count old k) (λ x c. let d : t ≡ x = cc in subst (IsInferred env count) d (inferred_slot env count t p least q m y)));
     }
@@ -264,16 +329,11 @@ stays_padded old new at to h e p = go p
 
 pub drops_there : (n : List ℕ) (i : ℕ) (s : Slot) (old new : List (Option Slot)) (at to : SlotAt) → AreNamed old at → at n ≡ Some i → slice_get old i ≡ Some (Some s) → new ≡ slice_set old i None → to n ≡ None → ((m : List ℕ) → n ≢ m → to m ≡ at m) → Drops n (Some s.part) old new to
 drops_there n i s old new at to h e g w here others =
-    let (u, v, z) = (h n i).0 e in
-    let a : s ≡ u = cc in
-    let b : s.name ≡ n = ap (λ (x : Slot). x.name) a ∙ z in
-    let o = only_one n i old at h e in
-    let l = slice_get_within old i (Some s) g in
     record {
-      places = subst (λ x. AreNamed x to) (sym w) (named_after n i old at to None None l h o (λ y k. let c : s ≡ y = cc in sym (ap (λ (x : Slot). x.name) c) ∙ b) gone here others);
-      parts = ap slot_parts w ∙ drop_there old i s n g b o;
-      before = sym (find_there old i s n g b o);
-      inferred = λ env count k. subst (λ x. AreInferred env count x) (sym w) (inferred_after env count i old None l k (λ x c. absurd (cc)));
+      places = subst (λ x. AreNamed x to) (sym w) (named_changed n i s old at h e g None None to gone here others);
+      parts = ap slot_parts w ∙ drop_there n i s old at h e g;
+      before = sym (find_there n i s old at h e g);
+      inferred = λ env count k. subst (λ x. AreInferred env count x) (sym w) (inferred_after env count i old None (its_within n i s old at h e g) k (λ x c. absurd (cc)));
     }
 
 pub stands_some : (n : List ℕ) (i : ℕ) (old : List (Option Slot)) (at : SlotAt) → AreNamed old at → at n ≡ Some i → slice_get old i ≡ Some None → ⊥
@@ -288,7 +348,7 @@ pub drops_none : (n : List ℕ) (old : List (Option Slot)) (at to : SlotAt) → 
 drops_none n old at to h e q =
     let o = no_name n old at h e in
     let s = stays_padded old old at to h q (inl refl) in
-    record { places = s.places; parts = sym (drop_none old n o); before = sym (find_none old n o); inferred = s.inferred }
+    record { places = s.places; parts = sym (drop_none n old o); before = sym (find_none n old o); inferred = s.inferred }
 
 -- a map with the same entries finds the same
 pub lookup_same : {S : Type 0} (m m' : HashMap (List ℕ) ℕ S) → m'.entries ≡ m.entries → (n : List ℕ) → get bytes_eq m' n ≡ get bytes_eq m n

@@ -1,6 +1,6 @@
 -- What is counted over slots, as they change.
-use Rattle.std.proofs.Common.{◌≡◌, refl, sym, ap, ◌∙◌, subst, ℕ, zero, suc, ◌+◌, ◌<◌, ◌≤◌, List, [], ◌∷◌, ◌++◌, length, Option, Some, None, arith, le_refl}
-use Rattle.std.specs.Prelude.{slice_get, slice_set, slice_index_or}
+use Rattle.std.proofs.Common.{◌≡◌, refl, sym, ap, ◌∙◌, subst, ℕ, ◌+◌, ◌<◌, ◌≤◌, List, [], ◌∷◌, ◌++◌, length, Option, Some, None, arith, le_refl}
+use Rattle.std.specs.Prelude.{slice_set, slice_index_or}
 use Rattle.std.proofs.lemmas.List.Sums.{sum_by-set, sum_by_push, sum_by-le-sum_by, get_or-le-sum_by, sum_by-cons}
 use Rattle.spi_term.specs.Term.{Process, process_size, leaf, prefix, fork}
 use Rattle.spi_term.specs.View.{effect}
@@ -11,27 +11,6 @@ use Rattle.spi_bench.specs.Slots.{slot_parts}
 use Rattle.spi_bench.specs.declared.slot.Slot.{Slot}
 use Rattle.spi_bench.specs.declared.sums.Sums.{Sums}
 use Rattle.spi_bench.proofs.Counted.{times_le}
-
--- elements of lists
-pub get_within : {A : Type 0} (xs : List A) (i : ℕ) (d : A) → i < length xs → slice_get xs i ≡ Some (slice_index_or xs i d)
-get_within [] i d h = absurd (omega arith)
-get_within (x ∷ xs) zero d h = refl
-get_within (x ∷ xs) (suc i) d h = get_within xs i d (omega arith)
-
-pub set_twice : {A : Type 0} (xs : List A) (i : ℕ) (a b : A) → slice_set (slice_set xs i a) i b ≡ slice_set xs i b
-set_twice [] i a b = refl
-set_twice (x ∷ xs) zero a b = refl
-set_twice (x ∷ xs) (suc i) a b = ap (λ l. x ∷ l) (set_twice xs i a b)
-
-pub set_length : {A : Type 0} (xs : List A) (i : ℕ) (a : A) → length (slice_set xs i a) ≡ length xs
-set_length [] i a = refl
-set_length (x ∷ xs) zero a = refl
-set_length (x ∷ xs) (suc i) a = ap suc (set_length xs i a)
-
-pub get_set : {A : Type 0} (xs : List A) (i : ℕ) (a d : A) → i < length xs → slice_index_or (slice_set xs i a) i d ≡ a
-get_set [] i a d h = absurd (omega arith)
-get_set (x ∷ xs) zero a d h = refl
-get_set (x ∷ xs) (suc i) a d h = get_set xs i a d (omega arith)
 
 -- a part has a node at least, and a least effect no more atoms at a place than it has
 some_node : (p : Process) → 1 ≤ process_size p
@@ -121,6 +100,12 @@ room_after k n k' n' ss ts m i r e f g l h =
     let b = ap (λ j. total k j m ts) f in
     let c = ap (total k n m) g in
     let d = emptied_le k n m ss i l in omega arith
+
+pub room_slot : (k n k' n' : ℕ) (ss ts : List (Option Slot)) (m : Measure) (i : ℕ) (s : Option Slot) → k' ≡ k → n' ≡ n → ts ≡ slice_set ss i None → i < length ss → total k n m ss + of_slot k n m s < 18446744073709551616 → total k' n' m ts + of_slot k' n' m s < 18446744073709551616
+room_slot k n k' n' ss ts m i s e f g l h =
+    let a = ap (λ j. of_slot j n' m s) e in
+    let b = ap (λ j. of_slot k j m s) f in
+    let r = room_after k n k' n' ss ts m i (of_slot k n m s) e f g l h in omega arith
 
 pub room_padded : (k n : ℕ) (ss ts : List (Option Slot)) (m : Measure) (r : ℕ) → ts ≡ ss ++ None ∷ [] → total k n m ss + r < 18446744073709551616 → total k n m ts + r < 18446744073709551616
 room_padded k n ss ts m r g h =

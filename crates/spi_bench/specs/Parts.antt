@@ -42,4 +42,5 @@ nodes_in_parts (q ∷ qs) = process_size q.part.process + nodes_in_parts qs
 
 -- the verdict: the whole is derivable with no effect over the free names at type Un
 abbrev pub IsYes : Benched → Type 0
-IsYes b = Derivable (untrusted b.free) (whole_process_of b.free b.shared (map (λ q. q.part.process) b.parts)) []
+IsYes b =
+    Derivable (untrusted b.free) (whole_process_of b.free b.shared (map (λ q. q.part.process) b.parts)) []

@@ -2,8 +2,8 @@
 use Rattle.std.specs.Prelude.{◌↔◌, ℕ, suc, ◌+◌, length, List, [], ◌∷◌, ◌++◌, if◌then◌else◌, ◌==◌, ⊤}
 use Rattle.spi_term.specs.Lists.{In}
 use Rattle.spi_term.specs.Names.{TyOver, ProcessOver}
-use Rattle.spi_term.specs.Substitution.{process_map}
-use Rattle.spi_term.specs.Term.{Message, bound, name, unit, pair, in_left, in_right, enc, hash, checks, Effect, Ty, Process, fresh, par, stop}
+use Rattle.spi_term.specs.Substitution.{message_map, process_map}
+use Rattle.spi_term.specs.Term.{Message, bound, name, checks, Effect, Ty, Process, fresh, par, stop}
 use Rattle.spi_rules.specs.Environment.{Env, extended, untrusted}
 use Rattle.spi_effect.specs.Effect.{Within}
 use Rattle.spi_rules.specs.Derivations.{Derivable}
@@ -13,14 +13,7 @@ use Rattle.spi_rules.specs.Processes.{IsGenerative}
 
 -- the name k as the index of a binder that stands outside of d others
 abbrev pub indexed_message : ℕ → ℕ → Message → Message
-indexed_message k d (bound i) = bound i
-indexed_message k d (name x) = if x == k then bound d else name x
-indexed_message k d unit = unit
-indexed_message k d (pair a b) = pair (indexed_message k d a) (indexed_message k d b)
-indexed_message k d (in_left a) = in_left (indexed_message k d a)
-indexed_message k d (in_right a) = in_right (indexed_message k d a)
-indexed_message k d (enc a b) = enc (indexed_message k d a) (indexed_message k d b)
-indexed_message k d (hash a) = hash (indexed_message k d a)
+indexed_message k d m = message_map bound (λ x. if x == k then bound d else name x) m
 
 -- new (x: T); P, where x is the name k in P
 abbrev pub new_named : ℕ → Ty → Process → Process

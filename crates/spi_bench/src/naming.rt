@@ -49,7 +49,7 @@ fn put_there(table: &mut Table, at: usize, part: Process, least: Option<Effect>)
     ensures free { table.new.sums.free ≡ table.old.sums.free }
     ensures shared { shared_in table.new.sums ≡ shared_in table.old.sums }
 {
-    match table.set(at, None) {
+    match table.clear(at) {
         Some(slot) => {
             let mut slot = slot;
             let before = replace(&mut slot.part, part);

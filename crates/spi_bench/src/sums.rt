@@ -10,6 +10,7 @@ use std::alloc::Global;
 
 /// How many nodes the parts have, how many of them have no effect, how many atoms their least effects have, and of these
 /// how many are a `check x` of each shared name x, and how many are none.
+#[derive(Drop)]
 pub struct Sums {
     pub free: u32,
     pub nodes: u64,
@@ -17,19 +18,6 @@ pub struct Sums {
     pub atoms: u64,
     pub checks: Vec<u64>,
     pub others: u64,
-}
-
-impl Drop for Sums {
-    fn drop(self) {
-        let Sums {
-            free: _,
-            nodes: _,
-            blocked: _,
-            atoms: _,
-            checks: _,
-            others: _,
-        } = self;
-    }
 }
 
 // The number of the shared name that the message is.

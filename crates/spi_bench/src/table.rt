@@ -12,16 +12,11 @@ use std::alloc::{AllocError, Global};
 use std::mem::replace;
 
 /// Slots with what is counted over them.
+#[derive(Drop)]
 pub struct Table {
     pub slots: Vec<Option<Slot>>,
     pub sums: Sums,
     ghost summed: { AreSums sums slots.items },
-}
-
-impl Drop for Table {
-    fn drop(self) {
-        let Table { slots: _, sums: _ } = self;
-    }
 }
 
 // The atoms of the effect can be counted beside so many.
@@ -81,6 +76,19 @@ impl Table {
         fits(self.sums.atoms, least)
     }
 
+    /// Empties a slot, and gives back what was there.
+    pub fn clear(&mut self, at: usize) -> Option<Slot>
+        requires { at < length self.old.slots.items }
+        ensures before { slice_get self.old.slots.items at ≡ Some result }
+        ensures after { self.new.slots.items ≡ slice_set self.old.slots.items at None }
+        ensures free { self.new.sums.free ≡ self.old.sums.free }
+        ensures shared { shared_in self.new.sums ≡ shared_in self.old.sums }
+    {
+        let before = replace(&mut self.slots[at], None);
+        self.sums.take(&before);
+        before
+    }
+
     /// Puts this into a slot, and gives back what was there.
     pub fn set(&mut self, at: usize, slot: Option<Slot>) -> Option<Slot>
         requires at { at < length self.old.slots.items }
@@ -93,23 +101,9 @@ impl Table {
         ensures free { self.new.sums.free ≡ self.old.sums.free }
         ensures shared { shared_in self.new.sums ≡ shared_in self.old.sums }
     {
-        let before = replace(&mut self.slots[at], None);
-        self.sums.take(&before);
+        let before = self.clear(at);
         self.sums.add(&slot);
         self.slots[at] = slot;
-        before
-    }
-
-    /// Empties a slot, and gives back what was there.
-    pub fn clear(&mut self, at: usize) -> Option<Slot>
-        requires { at < length self.old.slots.items }
-        ensures before { slice_get self.old.slots.items at ≡ Some result }
-        ensures after { self.new.slots.items ≡ slice_set self.old.slots.items at None }
-        ensures free { self.new.sums.free ≡ self.old.sums.free }
-        ensures shared { shared_in self.new.sums ≡ shared_in self.old.sums }
-    {
-        let before = replace(&mut self.slots[at], None);
-        self.sums.take(&before);
         before
     }
 

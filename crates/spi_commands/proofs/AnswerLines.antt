@@ -1,12 +1,12 @@
 -- The lines of refusals, in a table of answers.
-use Rattle.std.proofs.Common.{◌≡◌, ℕ, ◌<◌, List, Option, None, Result, Ok, Err, IfOk, refl, sym, subst, inl}
+use Rattle.std.proofs.Common.{◌≡◌, ◌⊎◌, ℕ, ◌<◌, List, Option, None, Result, Ok, Err, IfOk, refl, sym, subst, inl, inr}
 use Rattle.std.specs.Prelude.{◌↔◌}
 use Rattle.spi_report.specs.declared.refusal.Refusal.{Refusal}
 use Rattle.spi_report.specs.Refused.{refused_text}
 use Rattle.spi_commands.specs.declared.answer.Answer.{Answer}
 use Rattle.spi_commands.specs.declared.status.Status.{Status}
 use Rattle.spi_commands.specs.declared.status.Status.TheVariants.{Yes, No, Refused, ReadFault, WriteFault, NoMemory, Usage}
-use Rattle.spi_commands.specs.Spelled.{limit}
+use Rattle.spi_commands.specs.Spelled.{limit, SpellsNone}
 use Rattle.spi_commands.specs.Answers.{Answers, never}
 use Rattle.spi_commands.specs.Refusals.{layered, IsLineOf, IsCause, IsTooMuch, too_much, Refuses, IsRefusal}
 
@@ -78,6 +78,21 @@ yes_or_refused bytes accepted causes reason apart reasons output ReadFault is = 
 yes_or_refused bytes accepted causes reason apart reasons output WriteFault is = absurd is
 yes_or_refused bytes accepted causes reason apart reasons output NoMemory is = absurd is
 yes_or_refused bytes accepted causes reason apart reasons output Usage is = absurd is
+
+-- a text of a file: refused where the bytes spell no file, or where it is too long
+pub text_or_refused : (bytes : List ℕ) (accepted : List ℕ → Type 0) (later : ℕ → Option ℕ → List ℕ → Type 0) (long : Type 0) → ((n : ℕ) (o : Option ℕ) (s : List ℕ) → Refuses bytes n o s → SpellsNone bytes) → ((n : ℕ) (o : Option ℕ) (s : List ℕ) → later n o s → long)
+    → ((output : List ℕ) → accepted output → SpellsNone bytes → ⊥) → ((output : List ℕ) → accepted output → long → ⊥)
+    → (output : List ℕ) (status : Status) → Answers accepted never (IsLineOf bytes (layered (Refuses bytes) later)) status output → IsYesOrRefused accepted (SpellsNone bytes ⊎ long) status
+text_or_refused bytes accepted later long none_of long_by spells fits output status is =
+    yes_or_refused bytes accepted (layered (Refuses bytes) later) (SpellsNone bytes ⊎ long) apart reasons output status is
+  where
+    apart : (output : List ℕ) → accepted output → SpellsNone bytes ⊎ long → ⊥
+    apart output given (inl none) = spells output given none
+    apart output given (inr more) = fits output given more
+
+    reasons : (n : ℕ) (o : Option ℕ) (s : List ℕ) → layered (Refuses bytes) later n o s → SpellsNone bytes ⊎ long
+    reasons n o s (inl refuses) = inl (none_of n o s refuses)
+    reasons n o s (inr why) = inr (long_by n o s why)
 
 -- the output of a yes
 pub accepted_at : (bytes : List ℕ) (accepted : List ℕ → Type 0) (causes : ℕ → Option ℕ → List ℕ → Type 0) (output : List ℕ) (status : Status) → Answers accepted never (IsLineOf bytes causes) status output → status ≡ Yes → accepted output

@@ -1,6 +1,7 @@
 -- What `bench` promises.
-use Rattle.std.proofs.Common.{◌≡◌, ◌↔◌, inl, inr, ℕ, zero, suc, ◌<◌, List, [], ◌∷◌, ◌++◌, map, length, Option, Some, None, refl, sym, subst, append_assoc, append-nil, arith}
-use Rattle.std.specs.Prelude.{slice_get, IsSome}
+use Rattle.std.proofs.Common.{◌≡◌, ◌↔◌, inl, inr, ℕ, List, [], ◌∷◌, ◌++◌, map, length, Option, Some, None, refl, sym, subst, append_assoc, append-nil, arith}
+use Rattle.std.specs.Prelude.{IsSome}
+use Rattle.std.proofs.lemmas.Option.{slice_get_within}
 use Rattle.std.specs.Io.KnownBytes.{Appends}
 use Rattle.spi_lex.specs.declared.token.Token.{Token}
 use Rattle.spi_rules.specs.Derivations.{Derivable}
@@ -33,11 +34,6 @@ bench_once lexing bytes b c h k =
 
 -- ---- what stands isn't refused
 
-get_within : {A : Type 0} (xs : List A) (i : ℕ) (x : A) → slice_get xs i ≡ Some x → i < length xs
-get_within [] i x e = absurd (cc)
-get_within (y ∷ xs) zero x e = omega arith
-get_within (y ∷ xs) (suc i) x e = let h = get_within xs i x e in omega (arith, h)
-
 clean_never : (b : Bench) (p : Rattle.spi_tree.specs.Trees.Proc) (f : Rattle.spi_scope.specs.declared.fault.ScopeFault.ScopeFault) → IsClean (file_with b p) → HasFirst (file_with b p) f → ⊥
 clean_never b p f h k = never_both (in_order (file_points (file_with b p))) f h k
 
@@ -56,9 +52,9 @@ stands_at b front [] e after h = subst (λ (l : List Edit). EditStands b l e) (s
 stands_at b front (d ∷ before) e after h = subst (λ (l : List Edit). EditStands b l e) (append_assoc front (d ∷ []) before) (stands_at b (front ++ d ∷ []) before e after h.1)
 
 stands_never : (b : Bench) (end : ℕ) (r : Refusal) → BenchStands b end → RefusesEdits b end r → ⊥
-stands_never b end r h (too_many_shared {s = s} g) = let l = get_within b.shared 16 s g in let few = h.heading.few in omega (arith, l, few)
+stands_never b end r h (too_many_shared {s = s} g) = let l = slice_get_within b.shared 16 s g in let few = h.heading.few in omega (arith, l, few)
 stands_never b end r h (wrong_heading {f = f} few first) = clean_never b _ f h.heading.clean first
-stands_never b end r h (too_many_edits {e = e} stands g) = let l = get_within b.edits 1000 e g in let few = h.few in omega (arith, l, few)
+stands_never b end r h (too_many_edits {e = e} stands g) = let l = slice_get_within b.edits 1000 e g in let few = h.few in omega (arith, l, few)
 stands_never b end r h (wrong_edit before after {e = e} {r = f} stands few cut ahead refused) =
     edit_never b before e f (stands_at b [] before e after (subst (λ (l : List Edit). EditsStand b [] l) cut h.edits)) refused
 

@@ -1,6 +1,5 @@
 -- A file's process and opponent: over how many names they are, and that these names and the steps are few.
-use Rattle.std.proofs.Common.{◌≡◌, ⊎_elim, refl, sym, ap, ◌∙◌, subst, ℕ, ◌+◌, ◌<◌, ◌≤◌, List, [], ◌∷◌, ◌++◌, length, map, Option, Some, None, arith, if◌then◌else◌}
-use Rattle.std.proofs.lemmas.Bool.{cases_lt, lt-ltb}
+use Rattle.std.proofs.Common.{◌≡◌, refl, sym, ap, ◌∙◌, subst, ℕ, ◌+◌, ◌<◌, ◌≤◌, List, [], ◌∷◌, length, map, Option, Some, None, arith}
 use Rattle.std.proofs.lemmas.List.{length-map}
 use Rattle.spi_lex.specs.Lexing.{kinds_of}
 use Rattle.spi_lex.proofs.Lexed.{lexed}
@@ -14,15 +13,16 @@ use Rattle.spi_run.specs.Safety.{beside}
 use Rattle.spi_run.specs.Reduction.{Configuration, Step}
 use Rattle.spi_run.specs.declared.step.Step as program
 use Rattle.spi_run.specs.View.{step as step_of}
-use Rattle.spi_scope.specs.declared.fault.ScopeFault.TheVariants.{FileTooLarge}
 use Rattle.spi_scope.specs.declared.file.File.{File}
 use Rattle.spi_scope.specs.Parts.{step_in}
-use Rattle.spi_scope.specs.Points.{Point, uses_name, uses_type, declares_name, declares_type, ends_message, ends_type, adds, starts_step, Points, none, one, ◌⨾◌, in_order, fault_at, added, decls_points, body_points, all_names, all_types}
+use Rattle.spi_scope.specs.Points.{in_order, decls_points, body_points, all_names, all_types}
 use Rattle.spi_scope.specs.First.{count_points, Clean, IsClean}
 use Rattle.spi_scope.specs.Files.{meant}
 use Rattle.spi_scope.specs.StandsFor.{Meant, StandsFor, over_free, opponent_over, schedule_in}
-use Rattle.spi_scope.proofs.Counting.{weight, names_weigh}
 use Rattle.spi_scope.proofs.Indexing.{all_over, nodes_spell}
+use Rattle.spi_scope.proofs.Made.{few_names as few_declared}
+use Rattle.spi_spell.proofs.Shallow.{clean_front}
+use Rattle.spi_spell.proofs.Weighed.{runs, counted_few}
 use Rattle.spi_commands.specs.Spelled.{limit, IsTreeOf}
 use Rattle.spi_commands.specs.Reading.{IsRead}
 use Rattle.spi_commands.proofs.FilePieces as Past
@@ -64,41 +64,11 @@ opponent_over_names tree file o stands e =
     subst (λ (n : ℕ). ProcessOver n o.process) j.names j.over
 
 -- a clean tree has few free names
-point_few : (c : ℕ) (p : Point) → c ≤ 100000 → fault_at c p ≡ None → c + added p ≤ 100000
-point_few c (uses_name xs w) few h = omega (arith, few)
-point_few c (uses_type ts w) few h = omega (arith, few)
-point_few c (declares_name xs w) few h = omega (arith, few)
-point_few c (declares_type ts w) few h = omega (arith, few)
-point_few c (ends_message n s) few h = omega (arith, few)
-point_few c (ends_type n s) few h = omega (arith, few)
-point_few c (adds n s) few h = ⊎_elim large (λ small. small) (cases_lt 100000 (c + n))
-  where
-    large : 100000 < c + n → c + n ≤ 100000
-    large g =
-        let f : Some (FileTooLarge s (c + n)) ≡ None = sym (ap (λ b. if b then Some (FileTooLarge s (c + n)) else None) (lt-ltb 100000 (c + n) g)) ∙ h in
-        absurd (cc)
-point_few c (starts_step i n s) few h = omega (arith, few)
-
-front_few : (c : ℕ) (ps qs : List Point) → c ≤ 100000 → Clean c (ps ++ qs) → c + count_points ps ≤ 100000
-front_few c [] qs few h = omega (arith, few)
-front_few c (p ∷ ps) qs few h =
-    let rest = front_few (c + added p) ps qs (point_few c p few h.0) h.1 in
-    omega (arith, rest)
-
-count_append : (ps qs : List Point) → count_points (ps ++ qs) ≡ count_points ps + count_points qs
-count_append [] qs = omega arith
-count_append (p ∷ ps) qs = omega (arith, count_append ps qs)
-
-weighs : (ps : Points) → count_points (in_order ps) ≡ weight ps
-weighs none = refl
-weighs (one p) = omega arith
-weighs (ps ⨾ qs) = omega (arith, count_append (in_order ps) (in_order qs), weighs ps, weighs qs)
-
 few_free : (tree : t.File) → IsClean tree → length (all_names [] tree.decls) ≤ 100000
 few_free tree clean =
     let ps = decls_points [] [] tree.decls in
-    let few = front_few 0 (in_order ps) (in_order (body_points (all_types [] [] tree.decls) (all_names [] tree.decls) tree)) (omega arith) clean in
-    omega (arith, few, weighs ps, names_weigh [] [] tree.decls)
+    let front : Clean 0 (in_order ps) = clean_front (in_order ps) (in_order (body_points (all_types [] [] tree.decls) (all_names [] tree.decls) tree)) 0 clean in
+    few_declared tree.decls (0 + count_points (in_order ps)) (all_names [] tree.decls) (runs ps front) (counted_few (in_order ps) 0 (omega arith) front) refl
 
 -- each step has a token of its own
 steps_long : (xs : List t.Step) (r : List Piece) → HaveOwnTokens (length xs) (steps_pieces xs r)

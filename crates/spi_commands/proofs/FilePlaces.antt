@@ -1,5 +1,5 @@
 -- The nodes of a tree's process and of its opponent, and its steps, stand in the bytes that spell the tree.
-use Rattle.std.proofs.Common.{◌≡◌, ⊎_elim, sym, subst, ℕ, zero, suc, ◌+◌, ◌≤◌, Bool, List, [], ◌∷◌, ◌++◌, length, map, Option, Some, None, refl, arith, if◌then◌else◌}
+use Rattle.std.proofs.Common.{◌≡◌, ⊎_elim, sym, subst, ℕ, ◌+◌, ◌≤◌, Bool, List, [], ◌∷◌, ◌++◌, length, map, Option, Some, None, refl, arith, if◌then◌else◌}
 use Rattle.std.specs.Prelude.{slice_get}
 use Rattle.spi_text.specs.declared.lines.Span.{Span}
 use Rattle.spi_lex.proofs.Lexed.{lexed}
@@ -13,6 +13,7 @@ use Rattle.spi_scope.specs.Marks.{places}
 use Rattle.spi_scope.specs.Parts.{step_span}
 use Rattle.spi_scope.specs.Files.{opponent_places, step_places}
 use Rattle.spi_scope.specs.Places.{or_nowhere, place_in}
+use Rattle.spi_fault.proofs.Blaming.{get_in}
 use Rattle.spi_commands.specs.Spelled.{IsTreeOf}
 use Rattle.spi_commands.specs.NoLine.{place_at}
 use Rattle.spi_commands.specs.Beside.{opponent_at}
@@ -88,11 +89,6 @@ node_in at (t.group u p q) s r i =
 
 node_opens : (tree : t.File) (s : Span) → In s (places tree.process) → In (opens s.from) (file_pieces tree [])
 node_opens tree s i = in_later (past_version _ _ _ _ _ (past_decls tree.decls _ (in_later (node_in (at_level 0) tree.process s _ i))))
-
-pub get_in : {A : Type 0} (xs : List A) (i : ℕ) (x : A) → slice_get xs i ≡ Some x → In x xs
-get_in [] i x h = absurd (cc)
-get_in (y ∷ xs) zero x h = let e : y ≡ x = cc in subst (λ z. In z (y ∷ xs)) e in_first
-get_in (y ∷ xs) (suc i) x h = in_later (get_in xs i x h)
 
 -- each place that is asked for is in the bytes, where a piece opens at each of them
 pub opened_within : (bytes : List ℕ) (tree : t.File) → IsTreeOf bytes tree → (spans : List Span) → ((s : Span) → In s spans → In (opens s.from) (file_pieces tree [])) → (i : ℕ) → (place_in spans i).from ≤ length bytes

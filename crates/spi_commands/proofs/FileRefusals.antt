@@ -55,7 +55,7 @@ stands_within (L.bad_number n value u h l s most) = omega (arith, leads_within h
 stands_within (L.name_too_long n name u h l s long) = omega (arith, leads_within h)
 
 -- a list of spans ends where it ends or before
-spans_end : (at end : ℕ) (spans : List Span) → AreSpans at spans end → at ≤ end
+pub spans_end : (at end : ℕ) (spans : List Span) → AreSpans at spans end → at ≤ end
 spans_end at end [] h = h
 spans_end at end (span ∷ spans) h = let m = spans_end span.to end spans h.2 in omega (arith, h.0, h.1, m)
 

@@ -23,6 +23,7 @@ use Rattle.spi_commands.specs.Replays.{RefusesReplay, RunsThrough, talks_most}
 use Rattle.spi_commands.specs.Ran.{IsRan}
 use Rattle.spi_commands.specs.Knowing.{IsKnowsAsked, IsDecided, KnowsTo, RefusesKnows, no_name, too_much_sent}
 use Rattle.spi_commands.proofs.AnswerLines.{line_map}
+use Rattle.spi_commands.proofs.ScheduleTalks.{nodes_both}
 
 -- ---- refusals
 
@@ -96,10 +97,6 @@ decided i bytes f replay (Ok a) (tree, is, stands, marks) (run, kept, names, few
 decided i bytes f replay (Err s) r ran small used h = tt
 
 -- ---- what was sent
-
-nodes_both : (ms ns : List Message) → nodes_in (ms ++ ns) ≡ nodes_in ms + nodes_in ns
-nodes_both [] ns = omega arith
-nodes_both (m ∷ ms) ns = let e = nodes_both ms ns in omega (arith, e)
 
 nodes_of_names : (n : ℕ) → nodes_in (names_up n) ≡ n
 nodes_of_names zero = refl

@@ -9,12 +9,12 @@ use Rattle.spi_know.specs.Numbered.{nodes_in}
 use Rattle.spi_know.specs.Sent.{names_up, KeysStayUnknown}
 use Rattle.spi_know.specs.Cert.{Certifies}
 use Rattle.spi_know.specs.declared.cert.CertLine.{CertLine}
-use Rattle.spi_replay.specs.Stepping.{Pooled}
+use Rattle.spi_replay.specs.Stepping.{Pooled, places_most}
 use Rattle.spi_commands.specs.declared.status.Status.{Status}
 use Rattle.spi_commands.specs.declared.status.Status.TheVariants.{Yes, No, Refused, ReadFault, WriteFault, NoMemory, Usage}
 use Rattle.spi_commands.specs.Spelled.{SpellsFile, SpellsDerivable, SpellsNone}
 use Rattle.spi_commands.specs.Beside.{replay_pool}
-use Rattle.spi_commands.specs.Replays.{places_most, RunsThrough, SpellsUnplayed, IsUnplayed, talks_most}
+use Rattle.spi_commands.specs.Replays.{RunsThrough, SpellsUnplayed, IsUnplayed, talks_most}
 use Rattle.spi_commands.specs.Certificate.{known_text}
 use Rattle.spi_commands.specs.Knowing.{sent_through, IsTooMuchSent, too_much_sent, IsNoName, no_name, RefusesKnows, IsKnowsAsked, SpellsKnown, SpellsUnknown, IsKnown, KnowsTo, SpellsMuchSent, SpellsNameless, MakesKey, IsKnownOn}
 use Rattle.spi_commands.proofs.FileFacts.{OneFile, Safe, RefusedNone, holds_after}

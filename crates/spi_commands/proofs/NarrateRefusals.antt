@@ -23,7 +23,7 @@ use Rattle.spi_narrator.specs.declared.answer.Refusal.{Refusal}
 use Rattle.spi_narrator.specs.Answers.{line_span, LineIn, RefusesNarration as RefusesTelling, not_free, out_of_scope, not_ready, too_large}
 use Rattle.spi_commands.specs.Refusals.{IsTooMuch, too_much}
 use Rattle.spi_commands.specs.Narrating.{IsNarrationOf, IsFaulty, unknown_role, role_twice, narration_too_large, telling_number, telling_from, IsNarrationUntold, untold, RefusesNarrate}
-use Rattle.spi_commands.proofs.FileRefusals.{unlexed_named, unlexed_within, unparsed_named, unparsed_within, scope_named}
+use Rattle.spi_commands.proofs.FileRefusals.{unlexed_named, unlexed_within, unparsed_named, unparsed_within, scope_named, spans_end}
 use Rattle.spi_commands.proofs.FileScopes.{first_is_fault}
 
 abbrev pub FaultsStand : Type 0
@@ -56,11 +56,6 @@ narrate_named bytes number offset shown (inr (inr (inr (inl (x, is, h))))) = unt
 narrate_named bytes number offset shown (inr (inr (inr (inr (x, told, is, tells, (text, canonical, h)))))) = much_named h
 
 -- ---- places
-
--- a list of spans ends where it ends or before
-spans_end : (at end : ℕ) (spans : List Span) → AreSpans at spans end → at ≤ end
-spans_end at end [] h = h
-spans_end at end (span ∷ spans) h = let m = spans_end span.to end spans h.2 in omega (arith, h.0, h.1, m)
 
 -- what tokens spell starts in the bytes
 spelled_starts : (end at e : ℕ) (ps : List Piece) (ts : List Token) → Spells [] e ps ts → AreSpans at (spans_of ts) end → StartBy end ps

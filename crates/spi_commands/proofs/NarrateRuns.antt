@@ -8,7 +8,7 @@ use Rattle.spi_run.specs.Reduction.{Step, Event}
 use Rattle.spi_run.specs.Safety.{beside}
 use Rattle.spi_run.specs.View.{step, event}
 use Rattle.spi_know.specs.Sent.{handed}
-use Rattle.spi_replay.specs.Stepping.{Pooled}
+use Rattle.spi_replay.specs.Stepping.{Pooled, places_most}
 use Rattle.spi_scope.specs.Points.{all_names, all_types}
 use Rattle.spi_scope.specs.StandsFor.{Meant, over_free}
 use Rattle.spi_narrate.specs.Narrations as n
@@ -19,7 +19,7 @@ use Rattle.spi_commands.specs.declared.status.Status.{Status}
 use Rattle.spi_commands.specs.declared.status.Status.TheVariants.{Yes, No, Refused, ReadFault, WriteFault, NoMemory, Usage}
 use Rattle.spi_commands.specs.Spelled.{SpellsFile}
 use Rattle.spi_commands.specs.Beside.{replay_pool}
-use Rattle.spi_commands.specs.Replays.{places_most, ReplaysWithTalks, replays_none, replays_step, RunsThrough, IsUnplayed, RefusesReplay}
+use Rattle.spi_commands.specs.Replays.{ReplaysWithTalks, replays_none, replays_step, RunsThrough, IsUnplayed, RefusesReplay}
 use Rattle.spi_commands.specs.Replaying.{ReplaysTo, IsReplayText}
 use Rattle.spi_commands.specs.Narrating.{RunsAsTold}
 use Rattle.spi_commands.proofs.FileFacts.{OneFile, RefusedNone}

@@ -1,5 +1,5 @@
 -- What `play` answers on a file.
-use Rattle.std.proofs.Common.{◌≡◌, ◌≢◌, ℕ, ◌-◌, ◌≤◌, List, map, sym, subst, refl, ap, ◌∙◌, Option, Some, None, Result, Ok, Err, IfOk, arith, inl, inr}
+use Rattle.std.proofs.Common.{◌≡◌, ◌≢◌, ℕ, ◌-◌, ◌≤◌, List, map, sym, subst, refl, ap, Option, Some, None, Result, Ok, Err, IfOk, arith, inl, inr}
 use Rattle.std.specs.Prelude.{codes, OnErr, IfSome}
 use Rattle.spi_term.specs.Spelling.{Spelling}
 use Rattle.spi_run.specs.Opponent.{IsOpponent}
@@ -27,19 +27,13 @@ use Rattle.spi_commands.specs.Playing.{IsPlayed, IsStopped, play_length, play_nu
 use Rattle.spi_commands.specs.Reading.{IsRead}
 use Rattle.spi_commands.proofs.FileParts.{few_names}
 use Rattle.spi_commands.proofs.AnswerLines.{refuses_by, line_map, cause_is}
+use Rattle.spi_commands.proofs.ScheduleRefusals.{starts}
 
 -- the line of a refused play
 pub refused_line : (bytes shown : List ℕ) (number : ℕ) (fault other : PlayFault) (result : Result Answer Stop) → fault ≡ other → other ≢ OutOfMemory → number ≡ play_number other → shown ≡ play_shown other → IfOk result (λ a. (a.status ≡ Refused) × IsLineOf bytes (IsCause number None shown) a.output.items) → IfOk result (λ a. (a.status ≡ Refused) × IsLineOf bytes (IsPlayFault fault) a.output.items)
 refused_line bytes shown number fault other result e some n s h =
     let is : IsPlayFault other number None shown = rw (n, s) (play_fault some) in
     cause_is bytes shown number None (IsPlayFault fault) result (subst (λ (f : PlayFault). IsPlayFault f number None shown) (sym e) is) h
-
--- the pool of a file's play
-pooled : (pool : Pooled) (f : File) (o : Spelling) → pool.configuration ≡ beside f.process.names f.process.process o.process → pool.most ≡ 1000 → pool ≡ replay_pool play_places (meant f) o
-pooled pool f o e m =
-    let one : Configuration → Pooled = λ c. record { configuration = c; most = pool.most } in
-    let other : ℕ → Pooled = λ n. record { configuration = beside f.process.names f.process.process o.process; most = n } in
-    ap one e ∙ ap other m
 
 pub few_at_start : (bytes : List ℕ) (f : File) (o : Spelling) (pool : Pooled) (most : ℕ) → IsRead bytes f → most ≤ 1000 → pool.configuration ≡ beside f.process.names f.process.process o.process → pool.configuration.names ≤ 4294967295 - most
 few_at_start bytes f o pool most r small e =
@@ -51,12 +45,12 @@ few_at_start bytes f o pool most r small e =
 module _ (bytes : List ℕ) (f : File) (o : Spelling) (most : ℕ) (only : Option ℕ) (before after : List Seen) (pool last : Pooled) (r : IsRead bytes f) (own : (meant f).opponent ≡ Some o) (is : IsOpponent o.process) (e : pool.configuration ≡ beside f.process.names f.process.process o.process) (m : pool.most ≡ 1000) where
   played_so : (ss : List steps.Step) (es : List events.Event) (ended : Ended) → EndsAt only most (start pool before only) (course last ss es) after ended → IsPlayed (meant f) most only before after (map View.step ss) (map View.event es)
   played_so ss es ended ends =
-      let here : EndsAt only most (start (replay_pool play_places (meant f) o) before only) (course last ss es) after ended = subst (λ p. EndsAt only most (start p before only) (course last ss es) after ended) (pooled pool f o e m) ends in
+      let here : EndsAt only most (start (replay_pool play_places (meant f) o) before only) (course last ss es) after ended = subst (λ p. EndsAt only most (start p before only) (course last ss es) after ended) (starts play_places f o pool e m) ends in
       record { opponent = o; beside = (own, is); last = last; ended = ended; ends = here }
 
   stopped_so : (fault : PlayFault) → RefusedAt only most (start pool before only) last after fault → IsStopped (meant f) most only before after fault
   stopped_so fault at =
-      let here : RefusedAt only most (start (replay_pool play_places (meant f) o) before only) last after fault = subst (λ p. RefusedAt only most (start p before only) last after fault) (pooled pool f o e m) at in
+      let here : RefusedAt only most (start (replay_pool play_places (meant f) o) before only) last after fault = subst (λ p. RefusedAt only most (start p before only) last after fault) (starts play_places f o pool e m) at in
       record { opponent = o; beside = (own, is); last = last; stops = here }
 
   ended_so : (ss : List steps.Step) (es : List events.Event) (ended : Ended) → EndsAt only most (start pool before only) (course last ss es) after ended → (status : Status) (output : List ℕ) → ListsTo bytes (map View.step ss) status output → PlaysTo most only bytes before after status output

@@ -4,6 +4,7 @@ use Rattle.std.specs.Io.KnownBytes.{Appends}
 use Rattle.spi_term.specs.Spelling.{Spelling}
 use Rattle.spi_run.specs.Opponent.{IsOpponent}
 use Rattle.spi_run.specs.Reduction.{Step, Event}
+use Rattle.spi_replay.specs.Stepping.{places_most}
 use Rattle.spi_scope.specs.StandsFor.{Meant}
 use Rattle.spi_show.specs.Steps.{schedule_text}
 use Rattle.spi_play.specs.Way.{Seen}
@@ -16,18 +17,15 @@ use Rattle.spi_spell.specs.Joined.{joined_texts, with_schedule}
 use Rattle.spi_commands.specs.Spelled.{limit, SpellsFile, SpellsNone}
 use Rattle.spi_commands.specs.Refusals.{IsLineOf, IsTooMuch}
 use Rattle.spi_commands.specs.Beside.{replay_pool, HasOpponent}
-use Rattle.spi_commands.specs.Replays.{places_most, RunsThrough}
+use Rattle.spi_commands.specs.Replays.{RunsThrough}
 use Rattle.spi_commands.specs.Playing.{play_places, play_length, IsPlayed, IsStopped, IsPlay, IsPlayFault, play_fault, PlaysTo, IsUnplayable, AskedTold, StoppedTold, SpellsUnopposed, IsPlayedOn}
 use Rattle.spi_commands.proofs.FileFacts.{OneFile, RefusedNone, ScheduleJoins}
 use Rattle.spi_commands.proofs.AnswerLines.{more_than}
-use Rattle.spi_commands.proofs.ScheduleFiles.{offends}
+use Rattle.spi_commands.proofs.ScheduleFiles.{offends, same_some}
 use Rattle.spi_commands.proofs.PlaySteps.{widened, play_replays}
 use Rattle.spi_commands.proofs.PlayTold.{PlayStopsAt, ended_both, ended_stopped, stopped_ended, stopped_both}
 
 -- ---- two plays of a file
-
-same_some : {A : Type 0} {x y : A} {o : Option A} → o ≡ Some x → o ≡ Some y → x ≡ y
-same_some {x = x} {y = y} e f = let g : Some x ≡ Some y = sym e ∙ f in cc
 
 -- where they stand at their end
 abbrev end_of : {file : Meant} {most : ℕ} {only : Option ℕ} {before after : List Seen} {ss : List Step} {es : List Event} → IsPlayed file most only before after ss es → PlayState

@@ -2,7 +2,7 @@
 use Rattle.std.proofs.Common.{◌≡◌, ℕ, ◌+◌, ◌<◌, ◌≤◌, List, [], ◌∷◌, ◌++◌, length, length-append, Option, refl, sym, ap, ◌∙◌, subst, subst₂, arith}
 use Rattle.std.proofs.lemmas.List.Elements.{All-nil, All-cons}
 use Rattle.std.specs.List.{All}
-use Rattle.spi_term.specs.Lists.{At, at_first, at_later}
+use Rattle.spi_trace.proofs.Seen.{at_within}
 use Rattle.spi_term.specs.Term.{Message}
 use Rattle.spi_know.specs.Sent.{handed}
 use Rattle.spi_run.specs.Reduction.{Configuration, Step, Event, Takes, takes_act, takes_talk}
@@ -29,15 +29,11 @@ replays_wider most h (replays_step t r) =
     replays_step (taken_wider most h t) (replays_wider most (omega (arith, h, same)) r)
 
 -- a step names places that are there
-at_inside : {A : Type 0} {xs : List A} {i : ℕ} {x : A} → At xs i x → i < length xs
-at_inside at_first = omega arith
-at_inside (at_later a) = let h = at_inside a in omega (arith, h)
-
 low_places : {c d : Configuration} {s : Step} {e : Option Event} → Takes c s e d → length c.places ≤ 5000 → HasLowPlaces s
-low_places (takes_act a x) few = let i = at_inside a in omega (arith, few, i)
+low_places (takes_act a x) few = let i = at_within a in omega (arith, few, i)
 low_places (takes_talk a b x) few =
-    let i = at_inside a in
-    let j = at_inside b in
+    let i = at_within a in
+    let j = at_within b in
     (omega (arith, few, i), omega (arith, few, j))
 
 replays_low : {p q : Pooled} {ss : List Step} {es : List Event} {ms : List Message} → length p.configuration.places ≤ p.most → p.most ≤ 5000 → ReplaysWithTalks p ss es ms q → All HasLowPlaces ss

@@ -18,7 +18,7 @@ use Rattle.spi_play.specs.declared.plays.PlayFault.TheVariants.{BadPick, RunMess
 use Rattle.spi_play.specs.Way.{Seen}
 use Rattle.spi_play.specs.Play.{Seat, PlayState, Course, TurnOf, IsKth, CountsReady, Picks, DoesReady, DoesTurn, TakesTurn, Plays, PlayGoesOn, EndsBy, most_reached, no_players, none_ready, seats_from, start}
 use Rattle.spi_play.specs.Outcome.{IsPickRefused, AskedTell}
-use Rattle.spi_play.proofs.Same.{all_at, follows_tells, picks_same, turns_same}
+use Rattle.spi_play.proofs.Same.{HasEnded, all_at, follows_tells, picks_same, turns_same}
 use Rattle.spi_play.proofs.Steps.{counts_once, kth_once}
 use Rattle.spi_replay.proofs.Taken.{taken_never}
 use Rattle.spi_commands.specs.Playing.{AskedTold}
@@ -199,9 +199,6 @@ same_fault only most s f g a b tells some other =
     one_fault s.course.pool a.place a.ready a.picked f g a.goes_on.counts some other a.refused there
 
 -- ---- two plays of a pool
-
-abbrev pub HasEnded : ℕ → PlayState → Ended → Type 0
-HasEnded most s e = EndsBy s.course.pool.configuration s.next (length s.course.steps) most e
 
 module _ (before : List Seen) (only : Option ℕ) (most : ℕ) (pool : Pooled) (ts us : List TurnOf) (m n : PlayState) (told : AskedTold before ts)
     (first : Plays only most (start pool before only) ts m) (second : Plays only most (start pool before only) us n) where

@@ -8,9 +8,9 @@ use Rattle.spi_run.specs.Opponent.{IsOpponent}
 use Rattle.spi_run.specs.Reduction.{Step, Event}
 use Rattle.spi_opponent.specs.Allowed.{IsFirstOffence}
 use Rattle.spi_opponent.proofs.Nodes.{allowed_of, get_all}
-use Rattle.spi_replay.specs.Stepping.{Pooled}
+use Rattle.spi_replay.specs.Stepping.{Pooled, places_most}
 use Rattle.spi_commands.specs.Spelled.{SpellsFile, SpellsNone}
-use Rattle.spi_commands.specs.Replays.{places_most, ReplaysWithTalks, RunsThrough, IsUnplayed, no_opponent_part, no_schedule, no_opponent, no_step, SpellsUnplayed, RefusesReplay, IsStepRefusal, step_refused}
+use Rattle.spi_commands.specs.Replays.{ReplaysWithTalks, RunsThrough, IsUnplayed, no_opponent_part, no_schedule, no_opponent, no_step, SpellsUnplayed, RefusesReplay, IsStepRefusal, step_refused}
 use Rattle.spi_commands.specs.Beside.{replay_pool, HasOpponent, IsOffence, HasOffence, offence}
 use Rattle.spi_commands.proofs.FileFacts.{RefusedNone}
 use Rattle.spi_commands.proofs.ScheduleSteps.{replays_once, never_refused}

@@ -14,7 +14,7 @@ use Rattle.spi_run.specs.View.{step as step_of, event as event_of}
 use Rattle.spi_replay.specs.declared.fault.StepFault.{StepFault}
 use Rattle.spi_replay.specs.declared.fault.StepFault.TheVariants.{NoPlace, NotReady, RunMessageTooLarge, TooManyPlaces, NoMemory as OutOfMemory}
 use Rattle.spi_report.specs.Names.{name_of}
-use Rattle.spi_replay.specs.Stepping.{Pooled}
+use Rattle.spi_replay.specs.Stepping.{Pooled, places_most}
 use Rattle.spi_scope.specs.declared.file.File.{File}
 use Rattle.spi_scope.specs.Files.{meant, Marked, marked}
 use Rattle.spi_scope.specs.Places.{place_in}
@@ -27,7 +27,7 @@ use Rattle.spi_commands.specs.Ran.{AreTalks, IsRan, IsRefused}
 use Rattle.spi_commands.specs.Refusals.{IsLineOf, IsCause, IsMissing}
 use Rattle.spi_commands.specs.Beside.{replay_pool, HasOffence}
 use Rattle.spi_commands.specs.Reading.{IsRead}
-use Rattle.spi_commands.specs.Replays.{ReplaysWithTalks, IsRefusedAt, step_refused, RefusesReplay, places_most, step_number, step_shown, step_at}
+use Rattle.spi_commands.specs.Replays.{ReplaysWithTalks, IsRefusedAt, step_refused, RefusesReplay, step_number, step_shown, step_at}
 use Rattle.spi_commands.proofs.FilePlaces.{step_within}
 use Rattle.spi_commands.proofs.ScheduleSteps.{few_events}
 use Rattle.spi_commands.proofs.AnswerLines.{line_map, one_line}
@@ -58,10 +58,10 @@ offended bytes f steps keeps a ran (tree, is, stands, marks) there e line =
     line_ran bytes f keeps a ran e (line_map bytes a.output.items (HasOffence bytes) (RefusesReplay bytes) (λ n p s m. inr (inr (inr (inl (m, (meant f, steps, (tree, is, stands), there)))))) line)
 
 -- the pool at the start
-pub starts : (f : File) (o : Spelling) (p : Pooled) → p.configuration ≡ beside f.process.names f.process.process o.process → p.most ≡ 5000 → p ≡ replay_pool places_most (meant f) o
-starts f o p e m =
+pub starts : (most : ℕ) (f : File) (o : Spelling) (p : Pooled) → p.configuration ≡ beside f.process.names f.process.process o.process → p.most ≡ most → p ≡ replay_pool most (meant f) o
+starts most f o p e m =
     let one : ℕ → Pooled = λ k. record { configuration = p.configuration; most = k } in
-    ap one m ∙ ap (λ c. record { configuration = c; most = places_most }) e
+    ap one m ∙ ap (λ c. record { configuration = c; most = most }) e
 
 -- a step that is refused
 step_line : (bytes output : List ℕ) (f : File) (o : Spelling) (steps : List Step) (i : ℕ) (fault : StepFault) → IsRead bytes f → (meant f).opponent ≡ Some o → (meant f).schedule ≡ Some steps → IsOpponent o.process

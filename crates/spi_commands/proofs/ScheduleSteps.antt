@@ -1,6 +1,7 @@
 -- Replays of a schedule: two of them are the same, and none goes past a step that is refused.
-use Rattle.std.proofs.Common.{◌≡◌, ◌⊎◌, inl, inr, refl, sym, ap, ◌∙◌, subst, subst₂, ℕ, zero, suc, ◌+◌, ◌*◌, ◌<◌, ◌≤◌, Bool, true, List, [], ◌∷◌, ◌++◌, append_assoc, append-nil, length, map, take, drop, get_or, Option, Some, None, arith}
-use Rattle.std.proofs.lemmas.List.{length-map, length-take-le, take_all}
+use Rattle.std.proofs.Common.{◌≡◌, ◌⊎◌, inl, inr, refl, sym, ap, ◌∙◌, subst, subst₂, ℕ, suc, ◌+◌, ◌*◌, ◌<◌, ◌≤◌, Bool, true, List, [], ◌∷◌, ◌++◌, append_assoc, append-nil, length, map, take, drop, get_or, Option, Some, None, arith}
+use Rattle.std.proofs.Math.Seq.{drop-cons}
+use Rattle.std.proofs.lemmas.List.{length-map, length-take-le, map-append, take_all, take_more, take-append-drop}
 use Rattle.std.specs.Prelude.{option_to_list}
 use Rattle.spi_term.specs.Term.{Message}
 use Rattle.spi_know.specs.Sent.{handed, handed_in}
@@ -72,40 +73,15 @@ append_step {p} {q} {r = r} {s = s} {e = e} (replays_step {s = first} {e = shown
     subst₂ (λ (l : List Event) (ns : List Message). ReplaysWithTalks p (first ∷ (ss ++ s ∷ [])) l ns r) (sym (append_assoc (option_to_list shown) es (option_to_list e)))
     (sym (append_assoc (handed p.configuration first) ms (handed q.configuration s))) (replays_step u (append_step h t))
 
--- the first i of a schedule, and the step behind them
-pub before : ℕ → List program.Step → List Step
-before i steps = map step_of (take i steps)
-
-before_more : (i : ℕ) (steps : List program.Step) (d : program.Step) → i < length steps → before (suc i) steps ≡ before i steps ++ step_of (get_or steps i d) ∷ []
-unfolding before
-before_more i [] d h = absurd (omega arith)
-before_more zero (s ∷ steps) d h = refl
-before_more (suc i) (s ∷ steps) d h = ap (λ (l : List Step). step_of s ∷ l) (before_more i steps d (omega arith))
-
-before_split : (i : ℕ) (steps : List program.Step) (d : program.Step) → i < length steps → map step_of steps ≡ before i steps ++ step_of (get_or steps i d) ∷ map step_of (drop (suc i) steps)
-unfolding before
-before_split i [] d h = absurd (omega arith)
-before_split zero (s ∷ steps) d h = refl
-before_split (suc i) (s ∷ steps) d h = ap (λ (l : List Step). step_of s ∷ l) (before_split i steps d (omega arith))
-
-before_length : (i : ℕ) (steps : List program.Step) → i ≤ length steps → i ≡ length (before i steps)
-unfolding before
-before_length i steps h = sym (length-map (take i steps) step_of ∙ length-take-le i steps h)
-
-before_all : (i : ℕ) (steps : List program.Step) → length steps ≤ i → before i steps ≡ map step_of steps
-unfolding before
-before_all i steps h = ap (λ (l : List program.Step). map step_of l) (take_all i steps h)
-
 -- how far a replay has come
 pub record ReplayCame (first : Pooled) (i : ℕ) (steps : List program.Step) (events : List declared.Event) (talks : Talks) (keeps : Bool) (now : Pooled) : Type 0 where
   pub said : List Message
-  pub replays : ReplaysWithTalks first (before i steps) (map event_of events) said now
+  pub replays : ReplaysWithTalks first (map step_of (take i steps)) (map event_of events) said now
   pub kept : keeps ≡ true → AreTalks said talks
   pub room : talks.nodes ≤ 1000 * i
   pub names : now.configuration.names ≤ first.configuration.names + i
 
 pub came_none : (first : Pooled) (steps : List program.Step) (events : List declared.Event) (talks : Talks) (keeps : Bool) → events ≡ [] → talks.nodes ≡ 0 → talks.data.items ≡ [] → ReplayCame first 0 steps events talks keeps first
-unfolding before
 came_none first steps events talks keeps none nothing empty = record {
   said = [];
   replays = subst (λ (es : List declared.Event). ReplaysWithTalks first [] (map event_of es) [] first) (sym none) replays_none;
@@ -119,10 +95,11 @@ pub came_on : (first now next : Pooled) (i : ℕ) (steps : List program.Step) (e
     → ((ms : List Message) → keeps ≡ true → AreTalks ms talks → AreTalks (ms ++ handed now.configuration (step_of s)) later) → later.nodes ≤ talks.nodes + 1000
     → ReplayCame first (i + 1) steps more later keeps next
 came_on first now next i steps events more talks later keeps s d h is came (e, t, shown) kept room =
-    let one : suc i ≡ i + 1 = omega arith in
-    let step : before i steps ++ step_of s ∷ [] ≡ before (i + 1) steps = ap (λ (x : program.Step). before i steps ++ step_of x ∷ []) is ∙ sym (before_more i steps d h) ∙ ap (λ (j : ℕ). before j steps) one in
+    let step : map step_of (take i steps) ++ step_of s ∷ [] ≡ map step_of (take (i + 1) steps) =
+    ap (λ (x : program.Step). map step_of (take i steps) ++ step_of x ∷ []) is ∙ sym (ap (λ (l : List program.Step). map step_of l) (take_more steps i d h) ∙ map-append step_of (take i steps) (get_or steps i d ∷ []))
+    in
     let ms : List Message = came.said ++ handed now.configuration (step_of s) in
-    let whole : ReplaysWithTalks first (before i steps ++ step_of s ∷ []) (map event_of events ++ option_to_list e) ms next = append_step came.replays t in
+    let whole : ReplaysWithTalks first (map step_of (take i steps) ++ step_of s ∷ []) (map event_of events ++ option_to_list e) ms next = append_step came.replays t in
     let few = takes_names t.takes in
     let less = came.names in
     let so_far = came.room in
@@ -137,19 +114,22 @@ came_on first now next i steps events more talks later keeps s d h is came (e, t
 pub came_all : (first now : Pooled) (i : ℕ) (steps : List program.Step) (events : List declared.Event) (talks : Talks) (keeps : Bool) (names : ℕ) → length steps ≤ i → ReplayCame first i steps events talks keeps now → names ≡ now.configuration.names
     → (ms : List Message) × ReplaysWithTalks first (map step_of steps) (map event_of events) ms now × (keeps ≡ true → AreTalks ms talks) × (names ≡ now.configuration.names)
 came_all first now i steps events talks keeps names h came same =
-    (came.said, subst (λ (l : List Step). ReplaysWithTalks first l (map event_of events) came.said now) (before_all i steps h) came.replays, came.kept, same)
+    (came.said, subst (λ (l : List Step). ReplaysWithTalks first l (map event_of events) came.said now) (ap (λ (l : List program.Step). map step_of l) (take_all i steps h)) came.replays, came.kept, same)
 
 pub stops_at : (first now : Pooled) (i : ℕ) (steps : List program.Step) (events : List declared.Event) (talks : Talks) (keeps : Bool) (s d : program.Step) (fault : StepFault) → i < length steps → s ≡ get_or steps i d → ReplayCame first i steps events talks keeps now → (fault ≡ OutOfMemory) ⊎ RefusesPoolStep now.configuration now.most (step_of s) fault → (fault ≡ OutOfMemory) ⊎ IsRefusedAt first (map step_of steps) i fault
 stops_at first now i steps events talks keeps s d fault h is came (inl none) = inl none
 stops_at first now i steps events talks keeps s d fault h is came (inr refuses) = inr (record {
-  early = before i steps;
+  early = map step_of (take i steps);
   step = step_of s;
   late = map step_of (drop (suc i) steps);
   events = map event_of events;
   talks = came.said;
   mid = now;
-  split = before_split i steps d h ∙ ap (λ (x : program.Step). before i steps ++ step_of x ∷ map step_of (drop (suc i) steps)) (sym is);
-  at = before_length i steps (omega arith);
+  split =
+      ap (λ (l : List program.Step). map step_of l) (sym (take-append-drop i steps) ∙ ap (λ (l : List program.Step). take i steps ++ l) (drop-cons steps i d h))
+      ∙ map-append step_of (take i steps) (get_or steps i d ∷ drop (suc i) steps)
+      ∙ ap (λ (x : program.Step). map step_of (take i steps) ++ step_of x ∷ map step_of (drop (suc i) steps)) (sym is);
+  at = sym (length-map (take i steps) step_of ∙ length-take-le i steps (omega arith));
   replays = came.replays;
   refuses = refuses;
 })

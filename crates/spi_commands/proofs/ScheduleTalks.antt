@@ -14,7 +14,7 @@ use Rattle.spi_commands.specs.Ran.{AreTalks, IsDatum, messages_said}
 use Rattle.spi_commands.specs.Replays.{talks_most}
 
 -- nodes of two lists
-nodes_both : (ms ns : List Message) → nodes_in (ms ++ ns) ≡ nodes_in ms + nodes_in ns
+pub nodes_both : (ms ns : List Message) → nodes_in (ms ++ ns) ≡ nodes_in ms + nodes_in ns
 nodes_both [] ns = omega arith
 nodes_both (m ∷ ms) ns = let e = nodes_both ms ns in omega (arith, e)
 

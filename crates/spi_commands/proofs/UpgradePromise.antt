@@ -1,17 +1,17 @@
 -- What `upgrade` promises.
-use Rattle.std.proofs.Common.{◌≡◌, ◌⊎◌, ℕ, List, [], Option, Some, None, sym, subst, inl, inr}
+use Rattle.std.proofs.Common.{◌≡◌, ℕ, List, [], Option, Some, None, sym, subst}
 use Rattle.std.specs.Io.KnownBytes.{Appends}
 use Rattle.spi_term.specs.Spelling.{Spelling}
 use Rattle.spi_rules.specs.Environment.{untrusted}
 use Rattle.spi_rules.specs.Derivations.{RuleUse, Derivable, Proves}
 use Rattle.spi_scope.specs.StandsFor.{Meant}
 use Rattle.spi_commands.specs.declared.status.Status.{Status}
-use Rattle.spi_commands.specs.Spelled.{SpellsFile, SpellsNone}
+use Rattle.spi_commands.specs.Spelled.{SpellsFile}
 use Rattle.spi_commands.specs.Refusals.{layered, Refuses}
 use Rattle.spi_commands.specs.Canonical.{IsPrint}
 use Rattle.spi_commands.specs.Upgrading.{IsUpgrade, SpellsUpgrade, SpellsLongUpgrade, RefusesUpgrade, UpgradesTo, HaveSameAnswers, IsUpgraded}
 use Rattle.spi_commands.proofs.FileFacts.{OneFile, RefusedNone}
-use Rattle.spi_commands.proofs.AnswerLines.{yes_or_refused, accepted_at}
+use Rattle.spi_commands.proofs.AnswerLines.{text_or_refused, accepted_at}
 use Rattle.spi_commands.proofs.AnswerText.{never_longer, long_of}
 use Rattle.spi_commands.proofs.UpgradeParts.{one_upgrade, upgrade_keeps, ReadsUpgrade}
 
@@ -44,17 +44,9 @@ module _ (one : OneFile) (none_of : RefusedNone) (bytes : List ℕ) where
         underived = (λ a. (upgraded, other, here (λ q e. e ≡ None) a.0 a.1 a.2), λ a. (file, spells, there (λ q e. e ≡ None) a.0 a.1 a.2));
       }
 
-  reasons : (n : ℕ) (o : Option ℕ) (s : List ℕ) → layered (Refuses bytes) (RefusesUpgrade bytes) n o s → SpellsNone bytes ⊎ SpellsLongUpgrade bytes
-  reasons n o s (inl refuses) = inl (none_of bytes n o s refuses)
-  reasons n o s (inr (f, up, spells, is, h)) = inr (f, up, spells, is, long_of up h)
-
-  apart : (output : List ℕ) → SpellsUpgrade bytes output → SpellsNone bytes ⊎ SpellsLongUpgrade bytes → ⊥
-  apart output is (inl none) = none is.0 is.2
-  apart output is (inr long) = never_long output is long
-
   pub upgrades : ReadsUpgrade → (old new : Option (List ℕ)) (output : List ℕ) (status : Status) → UpgradesTo bytes status output → Appends old new output → IsUpgraded bytes old new status
   upgrades reads old new output status is put =
-      let exactly = yes_or_refused bytes (SpellsUpgrade bytes) (layered (Refuses bytes) (RefusesUpgrade bytes)) (SpellsNone bytes ⊎ SpellsLongUpgrade bytes) apart reasons output status is in
+      let exactly = text_or_refused bytes (SpellsUpgrade bytes) (RefusesUpgrade bytes) (SpellsLongUpgrade bytes) (none_of bytes) (λ n o s why. (why.0, why.1, why.2, why.3, long_of why.1 why.4)) (λ output given none. none given.0 given.2) never_long output status is in
       record {
         yes = exactly.yes;
         refused = exactly.refused;

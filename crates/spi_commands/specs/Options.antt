@@ -61,10 +61,16 @@ with_word a name = with_subcommand a (new_app name).top
 abbrev pub with_counted : App → Text → App
 with_counted a name = with_subcommand a (with_rule (new_app name) counted_rule).top
 
+abbrev pub with_command : Bool → App → Text → App
+with_command counted a name = if counted then with_counted a name else with_word a name
+
 -- the words of a table
 module _ {X : Type 0} where
   abbrev pub words_of : List (Text × X) → List Text
   words_of = map (λ row. row.0)
+
+  abbrev pub row_words : List (Bor Text × X) → List Text
+  row_words = map (λ row. row.0.now)
 
 -- with all its commands
 abbrev pub whole_app : App

@@ -11,7 +11,7 @@ use Rattle.spi_run.specs.Reduction.{Step, Event}
 use Rattle.spi_know.specs.Sent.{handed}
 use Rattle.spi_replay.specs.declared.fault.StepFault.{StepFault}
 use Rattle.spi_replay.specs.declared.fault.StepFault.TheVariants.{NoPlace, NotReady, RunMessageTooLarge, TooManyPlaces, NoMemory as OutOfMemory}
-use Rattle.spi_replay.specs.Stepping.{Pooled, RefusesPoolStep as RefusesStep, IsTaken}
+use Rattle.spi_replay.specs.Stepping.{Pooled, places_most, RefusesPoolStep as RefusesStep, IsTaken}
 use Rattle.spi_scope.specs.Files.{step_places}
 use Rattle.spi_scope.specs.Places.{place_in}
 use Rattle.spi_scope.specs.StandsFor.{Meant, StandsFor}
@@ -39,10 +39,6 @@ pub record IsRefusedAt (p : Pooled) (steps : List Step) (index : ℕ) (fault : S
   pub at : index ≡ length early
   pub replays : ReplaysWithTalks p early events talks mid
   pub refuses : RefusesStep mid.configuration mid.most step fault
-
--- how many places a replay may have
-abbrev pub places_most : ℕ
-places_most = 5000
 
 -- how many nodes the data of its talks may have where they are asked for
 abbrev pub talks_most : ℕ

@@ -34,6 +34,7 @@ pub use schedule::replays_are_runs;
 pub use spi_play::{Menu, Pick, Player};
 pub use status::Status;
 use std::alloc::AllocError;
+pub use text::refuse_too_many;
 
 /// Memory ran out.
 pub type NoMemory = AllocError;

@@ -2,10 +2,9 @@
 ghost use Rattle.std.specs.Prelude.{◌≡◌, IfOk, false};
 ghost use Rattle.std.specs.List.{fold};
 ghost use Rattle.clap.specs.Words.{app_of, rule_of};
-ghost use Rattle.spi_commands.specs.Options.{bare, counted_rule, named_rule, number_rows, whole_app, with_counted, with_word, word_rows, words_of};
+ghost use Rattle.spi_commands.specs.Options.{bare, counted_rule, named_rule, row_words, whole_app, with_command};
 
-use crate::asked::Command as Asked;
-use crate::words::{NUMBERS, Numbered, WORDS};
+use crate::words::{NUMBERS, WORDS};
 use clap::{Arg, ArgAction, Command};
 use std::alloc::{AllocError, Global};
 
@@ -41,57 +40,36 @@ fn bare_form<'a>(alloc: Global) -> Command<'a>
         .subcommand_required(true)
 }
 
-/// The program with one more command of one word.
-fn with_word_form<'a>(
+/// The program with one more command of a word, and where it is counted of a number behind it.
+fn with_form<'a>(
     form: Command<'a>,
     alloc: Global,
     name: &'a str,
+    counted: bool,
 ) -> Result<Command<'a>, AllocError>
-    ensures { IfOk result (λ c. app_of c ≡ with_word (app_of form.entry) name.entry.now) }
+    ensures { IfOk result (λ c. app_of c ≡ with_command counted (app_of form.entry) name.entry.now) }
 {
-    form.subcommand(Command::new(alloc, name))
-}
-
-/// The program with one more command of a word and a number.
-fn with_counted_form<'a>(
-    form: Command<'a>,
-    alloc: Global,
-    name: &'a str,
-) -> Result<Command<'a>, AllocError>
-    ensures { IfOk result (λ c. app_of c ≡ with_counted (app_of form.entry) name.entry.now) }
-{
-    let counted = Command::new(alloc, name).arg(counted_form(alloc))?;
-    form.subcommand(counted)
-}
-
-/// The program with these commands of one word.
-fn with_word_forms<'a>(
-    form: Command<'a>,
-    alloc: Global,
-    rows: &[(&'a str, Asked)],
-) -> Result<Command<'a>, AllocError>
-    ensures { IfOk result
-        (λ c. app_of c ≡ fold with_word (app_of form.entry) (words_of (word_rows rows.now))) }
-{
-    let mut form = form;
-    for row in rows {
-        form = with_word_form(form, alloc, row.0)?;
+    let command = Command::new(alloc, name);
+    if counted {
+        form.subcommand(command.arg(counted_form(alloc))?)
+    } else {
+        form.subcommand(command)
     }
-    Ok(form)
 }
 
-/// The program with these commands of a word and a number.
-fn with_counted_forms<'a>(
+/// The program with the commands of these words.
+fn with_forms<'a, T>(
     form: Command<'a>,
     alloc: Global,
-    rows: &[(&'a str, Numbered)],
+    rows: &[(&'a str, T)],
+    counted: bool,
 ) -> Result<Command<'a>, AllocError>
     ensures { IfOk result
-        (λ c. app_of c ≡ fold with_counted (app_of form.entry) (words_of (number_rows rows.now))) }
+        (λ c. app_of c ≡ fold (with_command counted) (app_of form.entry) (row_words rows.now)) }
 {
     let mut form = form;
     for row in rows {
-        form = with_counted_form(form, alloc, row.0)?;
+        form = with_form(form, alloc, row.0, counted)?;
     }
     Ok(form)
 }
@@ -100,10 +78,10 @@ fn with_counted_forms<'a>(
 pub fn whole_form<'a>(alloc: Global) -> Result<Command<'a>, AllocError>
     ensures { IfOk result (λ c. app_of c ≡ whole_app) }
 {
-    let form = with_word_forms(bare_form(alloc), alloc, &WORDS)?;
+    let form = with_forms(bare_form(alloc), alloc, &WORDS, false)?;
     let play = Command::new(alloc, "play")
         .arg(named_form(alloc, "steps", true))?
         .arg(named_form(alloc, "player", false))?;
     let form = form.subcommand(play)?;
-    with_counted_forms(form, alloc, &NUMBERS)
+    with_forms(form, alloc, &NUMBERS, true)
 }

@@ -14,7 +14,7 @@ use crate::reading::Unread;
 use spi_io::{Source, Taken, take_all};
 use spi_lex::{LexFault, Token, lex};
 use spi_report::Refusal;
-use std::alloc::Global;
+use std::alloc::{AllocError, Global};
 
 /// How many bytes an input may have.
 pub const LIMIT: usize = 16_777_216;
@@ -47,11 +47,10 @@ pub fn take_text<S: Source>(alloc: Global, source: &mut S) -> Result<Text, Stop>
     }
 }
 
-/// The refusal of more bytes than that.
-fn too_long(alloc: Global) -> Result<Text, Stop>
-    ensures text { IfOk result (λ text. IsText text) }
-    ensures gives { IfOk result (λ text. (bytes : List ℕ) → limit < length bytes → GivesText bytes text) }
-    ensures err { OnErr result (result ≡ Err Stop.NoMemory) }
+/// The refusal of more bytes than an input may have, and its line.
+pub fn refuse_too_many(alloc: Global) -> Result<(Refusal, Vec<u8>), AllocError>
+    ensures { IfOk result (λ r. (bytes : List ℕ) → limit < length bytes
+        → IsLineOf bytes (IsUnlexed bytes) r.1.items) }
 {
     let count = LIMIT + 1;
     let shown = format!(in alloc; "{count}")?.into_bytes();
@@ -60,7 +59,18 @@ fn too_long(alloc: Global) -> Result<Text, Stop>
         offset: None,
         shown,
     };
-    Ok(Text::Refused(refusal_line(alloc, b"", &r)?))
+    let line = refusal_line(alloc, b"", &r)?;
+    Ok((r, line))
+}
+
+/// The refusal of more bytes than that.
+fn too_long(alloc: Global) -> Result<Text, Stop>
+    ensures text { IfOk result (λ text. IsText text) }
+    ensures gives { IfOk result (λ text. (bytes : List ℕ) → limit < length bytes → GivesText bytes text) }
+    ensures err { OnErr result (result ≡ Err Stop.NoMemory) }
+{
+    let (_, line) = refuse_too_many(alloc)?;
+    Ok(Text::Refused(line))
 }
 
 /// The text of these bytes.

@@ -7,8 +7,9 @@ use Rattle.spi_term.specs.Names.{MessageOver, OfAtom, OfEffect}
 use Rattle.spi_term.proofs.Counting.{in_tally, tally_in, count_tally}
 use Rattle.spi_effect.specs.Made.{mentions, minus}
 use Rattle.spi_effect.proofs.Made.{minus_difference}
-use Rattle.spi_count.specs.Sums.{name_bound, message_of, Below}
+use Rattle.spi_count.specs.Sums.{name_bound, Below}
 use Rattle.spi_count.proofs.Standing.{in_mentions}
+use Rattle.spi_intern.specs.Parts.{message_of}
 
 pub bound_over : (n k : ℕ) (m : Message) → MessageOver n k m → name_bound m ≤ n
 bound_over n k (bound i) h = omega arith

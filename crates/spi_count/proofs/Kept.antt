@@ -9,10 +9,11 @@ use Rattle.spi_intern.specs.Meaning.{Keeps}
 use Rattle.spi_intern.specs.declared.store.Store.{Store}
 use Rattle.spi_intern.proofs.Lists.{some_one}
 use Rattle.spi_intern.proofs.Meanings.{terms_same, terms_more}
-use Rattle.spi_count.specs.Sums.{name_bound, key_of, message_of}
+use Rattle.spi_count.specs.Sums.{name_bound, key_of}
 use Rattle.spi_count.specs.declared.keys.Keys.{Keys}
 use Rattle.spi_count.specs.Keys.{Keyed}
 use Rattle.spi_count.specs.Keeping.{with_keys, HaveKeys, AreKept, GrowsTo}
+use Rattle.spi_intern.specs.Parts.{message_of}
 
 pub grows_same : (s : Store) (ks : Keys) → AreKept s ks → GrowsTo s ks s ks
 grows_same s ks h = record { store = terms_same s; keys = λ i k e. e; are = h }

@@ -1,17 +1,16 @@
 -- Effects read back from counts.
-use Rattle.std.proofs.Common.{◌≡◌, refl, sym, ap, ◌∙◌, subst, ℕ, zero, suc, ◌+◌, ◌<◌, ◌≤◌, Bool, true, false, [], ◌∷◌, ◌++◌, List, length, replicate, Option, Some, None, Result, Ok, Err, IfOk, ⊎_elim, arith}
+use Rattle.std.proofs.Common.{◌≡◌, refl, sym, ap, ◌∙◌, subst, ℕ, zero, suc, ◌+◌, ◌<◌, ◌≤◌, Bool, true, false, [], ◌++◌, List, length, replicate, Option, Some, None, Result, Ok, Err, IfOk, ⊎_elim, arith}
 use Rattle.std.specs.Prelude.{slice_get, nat_eq, IfNone, ◌%◌, if◌then◌else◌}
-use Rattle.spi_term.specs.Term.{Message, pair, in_left, in_right, enc, hash, message_size, Atom, ends, checks, many, same_atom, Effect}
+use Rattle.spi_term.specs.Term.{Message, Atom, ends, checks, many, same_atom, Effect}
 use Rattle.spi_term.specs.View.{message}
 use Rattle.spi_term.specs.declared.term.Msg.{Msg}
 use Rattle.spi_term.specs.Counts.{tally, cut, count, SameEffect}
 use Rattle.spi_term.proofs.Counting.{tally_append, same_atom_true, in_tally, tally_in, count_tally}
 use Rattle.spi_intern.specs.declared.store.Store.{Store}
 use Rattle.spi_intern.specs.declared.messages.MsgId.{MsgId}
-use Rattle.spi_intern.specs.declared.messages.MsgPart.TheVariants as P
-use Rattle.spi_intern.specs.Messages.{Says, says_pair, says_left, says_right, says_enc, says_hash, or_unit, message_at}
+use Rattle.spi_intern.specs.Messages.{message_at}
 use Rattle.spi_count.specs.Counts.{count_of, IsNothing}
-use Rattle.spi_count.specs.Sums.{name_bound, key_of, kind_of_atom, message_of, part, Puts}
+use Rattle.spi_count.specs.Sums.{name_bound, key_of, kind_of_atom, part, Puts}
 use Rattle.spi_count.specs.declared.sum.AtomKind.{AtomKind}
 use Rattle.spi_count.specs.declared.sum.AtomKind.TheVariants.{End, Check, Many}
 use Rattle.spi_count.specs.declared.sum.Sum.{Sum}
@@ -21,7 +20,9 @@ use Rattle.spi_count.specs.Keeping.{with_keys, IsKeyed, HasKey, HaveKeys}
 use Rattle.spi_count.specs.Adding.{SumOf, IsKey, atom_of_kind}
 use Rattle.indexmap.specs.IndexMap.{get}
 use Rattle.spi_count.proofs.Summed.{numbers, place_is}
-use Rattle.spi_intern.proofs.Lists.{get_below, some_one}
+use Rattle.spi_intern.proofs.Lists.{some_one}
+use Rattle.spi_intern.proofs.Sized.{message_there}
+use Rattle.spi_intern.specs.Parts.{message_of}
 
 abbrev pub held_in_sum : Sum → Atom → ℕ → ℕ
 held_in_sum s a i = count_of (part (kind_of_atom a) s) (key_of (name_bound (message_of a)) i)
@@ -139,41 +140,9 @@ read_all s keys sum rest es gs t r z = record { at = λ a. go a (count a gs) ref
     go a (suc x) e y f = keyed a (r.known a (tally_in a gs ((count_tally a (tally a gs)).0 (omega (arith, e)))))
 
 -- messages by their numbers
-pub there : (ms : List Message) (i : ℕ) → i < length ms → slice_get ms i ≡ Some (or_unit (slice_get ms i))
-there [] i h = absurd (omega arith)
-there (m ∷ ms) zero h = refl
-there (m ∷ ms) (suc i) h = there ms i (omega arith)
-
 pub read_there : {E : Type 0} (ms : List Message) (id : MsgId) → id.place < length ms → (r : Result Msg E) → IfOk r (λ (m : Msg). message m ≡ message_at ms id) → IfOk r (λ (m : Msg). slice_get ms id.place ≡ Some (message m))
-read_there ms id h (Ok m) e = there ms id.place h ∙ ap Some (sym e)
+read_there ms id h (Ok m) e = message_there ms id h ∙ ap Some (sym e)
 read_there ms id h (Err x) e = tt
-
-abbrev pub IsReadPart : List Message → MsgId → Message → Type 0
-IsReadPart ms a n = (message_size (message_at ms a) < message_size n) × (a.place < length ms)
-
-part_ok : (ms : List Message) (a : MsgId) (m n : Message) → slice_get ms a.place ≡ Some m → message_size m < message_size n → IsReadPart ms a n
-part_ok ms a m n g l = (let e : message_size (message_at ms a) ≡ message_size m = ap (λ o. message_size (or_unit o)) g in omega (arith, e, l), get_below ms a.place m g)
-
-pub pair_first : (ms : List Message) (a b : MsgId) (n : Message) → Says ms (P.Pair a b) n → IsReadPart ms a n
-pair_first ms a b _ (says_pair {m = m} {n = n} g h) = part_ok ms a m (pair m n) g (omega arith)
-
-pub pair_second : (ms : List Message) (a b : MsgId) (n : Message) → Says ms (P.Pair a b) n → IsReadPart ms b n
-pair_second ms a b _ (says_pair {m = m} {n = n} g h) = part_ok ms b n (pair m n) h (omega arith)
-
-pub enc_first : (ms : List Message) (a b : MsgId) (n : Message) → Says ms (P.Enc a b) n → IsReadPart ms a n
-enc_first ms a b _ (says_enc {m = m} {n = n} g h) = part_ok ms a m (enc m n) g (omega arith)
-
-pub enc_second : (ms : List Message) (a b : MsgId) (n : Message) → Says ms (P.Enc a b) n → IsReadPart ms b n
-enc_second ms a b _ (says_enc {m = m} {n = n} g h) = part_ok ms b n (enc m n) h (omega arith)
-
-pub left_part : (ms : List Message) (a : MsgId) (n : Message) → Says ms (P.Inl a) n → IsReadPart ms a n
-left_part ms a _ (says_left {m = m} g) = part_ok ms a m (in_left m) g (omega arith)
-
-pub right_part : (ms : List Message) (a : MsgId) (n : Message) → Says ms (P.Inr a) n → IsReadPart ms a n
-right_part ms a _ (says_right {m = m} g) = part_ok ms a m (in_right m) g (omega arith)
-
-pub hash_part : (ms : List Message) (a : MsgId) (n : Message) → Says ms (P.Hash a) n → IsReadPart ms a n
-hash_part ms a _ (says_hash {m = m} g) = part_ok ms a m (hash m) g (omega arith)
 
 -- the place of a key
 pub key_place : (s : Store) (keys : Keys) (i q : ℕ) (m : Message) → with_keys s keys i m → q ≡ key_of (name_bound m) i → q % 4294967296 ≡ i

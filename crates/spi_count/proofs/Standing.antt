@@ -11,10 +11,11 @@ use Rattle.spi_effect.specs.Made.{are_many, minus, greater, is_free, is_free_at,
 use Rattle.spi_effect.proofs.Laws.{AllMany_in, AllMany_of}
 use Rattle.spi_effect.proofs.Made.{minus_difference, greater_is, are_many_sound, are_many_complete, both_false}
 use Rattle.spi_count.specs.Counts.{count_of, IsNothing}
-use Rattle.spi_count.specs.Sums.{name_bound, key_of, kind_of_atom, message_of, part, one_more, both_counts, Puts, StandsForEffect, AreNumbers, Below}
+use Rattle.spi_count.specs.Sums.{name_bound, key_of, kind_of_atom, part, one_more, both_counts, Puts, StandsForEffect, AreNumbers, Below}
 use Rattle.spi_count.specs.declared.sum.AtomKind.{AtomKind}
 use Rattle.spi_count.specs.declared.sum.AtomKind.TheVariants.{End, Check, Many}
 use Rattle.spi_count.specs.declared.sum.Sum.{Sum}
+use Rattle.spi_intern.specs.Parts.{message_of}
 
 -- atoms of one kind with one message are one
 pub same_parts : (a b : Atom) → kind_of_atom a ≡ kind_of_atom b → message_of a ≡ message_of b → a ≡ b

@@ -20,7 +20,7 @@ use Rattle.spi_intern.specs.Lent.{SaysTy, says_un, says_unit, says_pair, says_su
 use Rattle.spi_intern.specs.Table.{TellsAll, tells_none, tells_next}
 use Rattle.spi_intern.specs.Atoms.{says_end, says_check, says_many}
 use Rattle.spi_count.specs.Counts.{count_of}
-use Rattle.spi_count.specs.Sums.{name_bound, key_of, kind_of_atom, message_of, part, one_more, Puts, AreNumbers}
+use Rattle.spi_count.specs.Sums.{name_bound, key_of, kind_of_atom, part, one_more, Puts, AreNumbers}
 use Rattle.spi_count.specs.declared.sum.AtomKind.{AtomKind}
 use Rattle.spi_count.specs.declared.sum.AtomKind.TheVariants as K
 use Rattle.spi_count.specs.declared.sum.Sum.{Sum}
@@ -29,6 +29,7 @@ use Rattle.spi_count.specs.declared.keys.Keys.{Keys}
 use Rattle.spi_message.specs.Forms.{cast_effect_of}
 use Rattle.spi_count.specs.Keeping.{with_keys, IsKeyed, HasKey, HaveKeys}
 use Rattle.spi_count.specs.Adding.{SumOf, AddsAtom, TakesAtom, AddsAll, TakesAll}
+use Rattle.spi_intern.specs.Parts.{message_of}
 
 -- messages with keys have their numbers
 module _ {s : Store} {keys : Keys} (k : IsKeyed s keys) where

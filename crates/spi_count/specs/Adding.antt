@@ -6,12 +6,13 @@ use Rattle.spi_intern.specs.declared.store.Store.{Store}
 use Rattle.spi_intern.specs.declared.atoms.AtomId.{AtomId}
 use Rattle.spi_intern.specs.Table.{TellsAll}
 use Rattle.spi_intern.specs.Atoms.{SaysAtom}
-use Rattle.spi_count.specs.Sums.{name_bound, key_of, message_of, StandsForEffect}
+use Rattle.spi_count.specs.Sums.{name_bound, key_of, StandsForEffect}
 use Rattle.spi_count.specs.Keeping.{with_keys, IsKeyed, HasKey, HaveKeys}
 use Rattle.spi_count.specs.declared.keys.Keys.{Keys}
 use Rattle.spi_count.specs.declared.sum.AtomKind.{AtomKind}
 use Rattle.spi_count.specs.declared.sum.AtomKind.TheVariants.{End, Check, Many}
 use Rattle.spi_count.specs.declared.sum.Sum.{Sum}
+use Rattle.spi_intern.specs.Parts.{message_of}
 
 -- counts for an effect, by the numbers and keys
 abbrev pub SumOf : Store → Keys → Sum → Effect → Type 0

@@ -5,9 +5,9 @@ use Rattle.spi_term.specs.Term.{Message, Atom, Effect}
 use Rattle.spi_term.specs.Lists.{In}
 use Rattle.spi_intern.specs.Meaning.{NoneTwice, Keeps}
 use Rattle.spi_intern.specs.declared.store.Store.{Store}
-use Rattle.spi_count.specs.Sums.{message_of}
 use Rattle.spi_count.specs.Keys.{Keyed, AreKeys}
 use Rattle.spi_count.specs.declared.keys.Keys.{Keys}
+use Rattle.spi_intern.specs.Parts.{message_of}
 
 -- the messages of a store that have their key among these
 abbrev pub with_keys : Store → Keys → ℕ → Message → Type 0

@@ -9,6 +9,7 @@ use Rattle.spi_count.specs.Counts.{count_of, Sets}
 use Rattle.spi_count.specs.declared.sum.AtomKind.{AtomKind}
 use Rattle.spi_count.specs.declared.sum.AtomKind.TheVariants.{End, Check, Many}
 use Rattle.spi_count.specs.declared.sum.Sum.{Sum}
+use Rattle.spi_intern.specs.Parts.{message_of}
 
 -- the least number above each name of a message
 abbrev pub name_bound : Message → ℕ
@@ -29,11 +30,6 @@ abbrev pub kind_of_atom : Atom → AtomKind
 kind_of_atom (ends m) = End
 kind_of_atom (checks m) = Check
 kind_of_atom (many m) = Many
-
-abbrev pub message_of : Atom → Message
-message_of (ends m) = m
-message_of (checks m) = m
-message_of (many m) = m
 
 -- the counts of the atoms of one kind
 abbrev pub part : AtomKind → Sum → BTreeMap ℕ ℕ

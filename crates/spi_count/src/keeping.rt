@@ -2,8 +2,8 @@
 ghost use Rattle.std.specs.Prelude.{IfOk, OnOk};
 ghost use Rattle.spi_term.specs.View.{message, atom, effect};
 ghost use Rattle.spi_message.specs.Judging.{IsKept};
-ghost use Rattle.spi_count.specs.Sums.{message_of};
 ghost use Rattle.spi_count.specs.Keeping.{with_keys, HaveKeys, AreKept, GrowsTo};
+ghost use Rattle.spi_intern.specs.Parts.{message_of};
 
 use crate::NoMemory;
 use crate::keys::Keys;

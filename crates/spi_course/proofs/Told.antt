@@ -1,6 +1,7 @@
 -- Courses, step by step.
-use Rattle.std.proofs.Common.{◌≡◌, ◌≢◌, ◌⊎◌, inl, inr, refl, sym, ap, ◌∙◌, subst, subst₂, ℕ, zero, suc, ◌+◌, ◌<◌, ◌≤◌, List, [], ◌∷◌, ◌++◌, append_assoc, append-nil, length, map, take, drop, get_or, Option, Some, None, arith}
-use Rattle.std.proofs.lemmas.List.{length-map, length-append, take_all}
+use Rattle.std.proofs.Common.{◌≡◌, ◌≢◌, ◌⊎◌, inl, inr, refl, sym, ap, ◌∙◌, subst, subst₂, ℕ, suc, ◌+◌, ◌<◌, ◌≤◌, List, [], ◌∷◌, ◌++◌, append_assoc, append-nil, length, map, take, drop, get_or, Option, Some, None, arith}
+use Rattle.std.proofs.Math.Seq.{take-suc, drop-cons}
+use Rattle.std.proofs.lemmas.List.{length-map, length-append, map-append, take_all, take-append-drop}
 use Rattle.std.specs.Prelude.{option_to_list, MatchOption}
 use Rattle.spi_term.specs.declared.term.Msg.{Msg}
 use Rattle.spi_term.specs.View.{message}
@@ -9,14 +10,14 @@ use Rattle.spi_replay.specs.Ready.{IsReadyTalk}
 use Rattle.spi_run.specs.declared.step.Step as program
 use Rattle.spi_run.specs.declared.step.Event as declared
 use Rattle.spi_run.specs.View.{step as step_of, event as event_of}
-use Rattle.spi_run.specs.Reduction.{Configuration, Step, act, talk, Event, Acts, acts_split, acts_select, acts_inl, acts_inr, acts_decrypt, acts_check, acts_begin, acts_end, acts_end_many, acts_cast, acts_fresh, acts_par, Takes, takes_act, takes_talk, Runs, runs_none, runs_silent, runs_event}
-use Rattle.spi_term.specs.Term.{Process}
+use Rattle.spi_run.specs.Reduction.{Configuration, Step, act, talk, Event, Takes, Runs, runs_none}
 use Rattle.spi_term.specs.Spelling.{Spelling}
 use Rattle.spi_run.specs.Safety.{beside}
-use Rattle.spi_course.specs.Fit.{places_most, course_pool}
+use Rattle.spi_course.specs.Fit.{course_pool}
 use Rattle.spi_replay.specs.declared.fault.StepFault.{StepFault}
 use Rattle.spi_replay.specs.declared.fault.StepFault.TheVariants.{NoMemory as OutOfMemory}
-use Rattle.spi_replay.specs.Stepping.{Pooled, RefusesPoolStep}
+use Rattle.spi_replay.specs.Stepping.{Pooled, RefusesPoolStep, places_most}
+use Rattle.spi_replay.proofs.Taken.{runs_more, takes_names}
 use Rattle.spi_course.specs.declared.course.Taken.{Taken}
 use Rattle.spi_course.specs.declared.course.Course.{Course}
 use Rattle.spi_course.specs.Courses.{HandsOver, IsStepTold, TellsSteps, tells_none, tells_step, steps_of, IsEndOfCourse, all_taken, one_refused, IsCourse}
@@ -37,8 +38,7 @@ hands c d (talk i j) e (Some x) t h = (x, refl, h.1)
 -- the steps that are told are a run
 pub runs_of : {p q : Pooled} {n : ℕ} {ts : List Taken} {es : List Event} → TellsSteps p n ts es q → Runs p.configuration (steps_of ts) es q.configuration
 runs_of tells_none = runs_none
-runs_of (tells_step {e = None} t h) = runs_silent t.takes.takes (runs_of h)
-runs_of (tells_step {e = Some event} t h) = runs_event t.takes.takes (runs_of h)
+runs_of (tells_step {e = e} t h) = runs_more e t.takes.takes (runs_of h)
 
 -- there is at most one event for each step
 pub few_events : {p q : Pooled} {n : ℕ} {ts : List Taken} {es : List Event} → TellsSteps p n ts es q → length es ≤ length ts
@@ -54,25 +54,6 @@ course_few {steps = steps} {c = c} is =
     let both = ap (λ (l : List Step). length l) is.split in
     let parts = length-append (steps_of c.taken.items) is.late in
     omega (arith, few, each, taken, both, parts)
-
--- each step uses one name more at most
-acts_names : {n k : ℕ} {p q : Process} {e : Option Event} {more : List Process} → Acts n p e k q more → k ≤ n + 1
-acts_names acts_split = omega arith
-acts_names (acts_select e) = omega arith
-acts_names acts_inl = omega arith
-acts_names acts_inr = omega arith
-acts_names (acts_decrypt e) = omega arith
-acts_names (acts_check e) = omega arith
-acts_names acts_begin = omega arith
-acts_names acts_end = omega arith
-acts_names acts_end_many = omega arith
-acts_names acts_cast = omega arith
-acts_names acts_fresh = omega arith
-acts_names acts_par = omega arith
-
-takes_names : {c d : Configuration} {s : Step} {e : Option Event} → Takes c s e d → d.names ≤ c.names + 1
-takes_names (takes_act a x) = acts_names x
-takes_names (takes_talk a b x) = omega arith
 
 -- a step more
 append_told : {p q r : Pooled} {n m : ℕ} {ts : List Taken} {es : List Event} {t : Taken} {e : Option Event} → TellsSteps p n ts es q → m ≡ n + length es → IsStepTold q m t e r
@@ -91,23 +72,20 @@ before i steps = map step_of (take i steps)
 
 before_more : (i : ℕ) (steps : List program.Step) (d : program.Step) → i < length steps → before (suc i) steps ≡ before i steps ++ step_of (get_or steps i d) ∷ []
 unfolding before
-before_more i [] d h = absurd (omega arith)
-before_more zero (s ∷ steps) d h = refl
-before_more (suc i) (s ∷ steps) d h = ap (λ (l : List Step). step_of s ∷ l) (before_more i steps d (omega arith))
+before_more i steps d h = ap (λ (l : List program.Step). map step_of l) (take-suc steps i d h) ∙ map-append step_of (take i steps) (get_or steps i d ∷ [])
 
 before_split : (i : ℕ) (steps : List program.Step) (d : program.Step) → i < length steps → map step_of steps ≡ before i steps ++ step_of (get_or steps i d) ∷ map step_of (drop (suc i) steps)
 unfolding before
-before_split i [] d h = absurd (omega arith)
-before_split zero (s ∷ steps) d h = refl
-before_split (suc i) (s ∷ steps) d h = ap (λ (l : List Step). step_of s ∷ l) (before_split i steps d (omega arith))
+before_split i steps d h =
+    ap (λ (l : List program.Step). map step_of l) (sym (take-append-drop i steps) ∙ ap (λ (l : List program.Step). take i steps ++ l) (drop-cons steps i d h))
+    ∙ map-append step_of (take i steps) (get_or steps i d ∷ drop (suc i) steps)
 
 before_all : (i : ℕ) (steps : List program.Step) → length steps ≤ i → before i steps ≡ map step_of steps
 unfolding before
 before_all i steps h = ap (λ (l : List program.Step). map step_of l) (take_all i steps h)
 
 steps_more : (ts : List Taken) (t : Taken) → steps_of (ts ++ t ∷ []) ≡ steps_of ts ++ step_of t.step ∷ []
-steps_more [] t = refl
-steps_more (one ∷ ts) t = ap (λ (l : List Step). step_of one.step ∷ l) (steps_more ts t)
+steps_more ts t = map-append (λ (u : Taken). step_of u.step) ts (t ∷ [])
 
 -- how far a course has come
 pub record Came (first : Pooled) (i : ℕ) (steps : List program.Step) (taken : List Taken) (events : List declared.Event) (now : Pooled) : Type 0 where

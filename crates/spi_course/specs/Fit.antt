@@ -5,7 +5,7 @@ use Rattle.spi_run.specs.Opponent.{IsOpponent}
 use Rattle.spi_run.specs.Safety.{beside}
 use Rattle.spi_run.specs.Reduction.{Step}
 use Rattle.spi_opponent.specs.Allowed.{IsFirstOffence}
-use Rattle.spi_replay.specs.Stepping.{Pooled}
+use Rattle.spi_replay.specs.Stepping.{Pooled, places_most}
 use Rattle.spi_scope.specs.StandsFor.{Meant}
 use Rattle.spi_course.specs.Courses.{IsCourse}
 use Rattle.spi_course.specs.declared.course.Course.{Course}
@@ -16,10 +16,6 @@ use Rattle.spi_course.specs.declared.answer.Untold.TheVariants.{NoOpponent, NoSc
 pub record IsFit (file : Meant) : Type 0 where
   pub names : (o : Spelling) → file.opponent ≡ Some o → file.process.names ≡ o.names
   pub few : (steps : List Step) → file.schedule ≡ Some steps → file.process.names + length steps < 2 ^ 32 - 1
-
--- how many places there are at most
-abbrev pub places_most : ℕ
-places_most = 5000
 
 -- the process at place 0 and the opponent at place 1
 abbrev pub course_pool : Spelling → Spelling → Pooled

@@ -21,7 +21,7 @@ use crate::waiting::{is_done, put_refusal, put_waiting, refusal_name};
 use spi_lex::Token;
 use spi_opponent::is_opponent;
 use spi_replay::{Pool, StepFault};
-use spi_run::{Event, Step};
+use spi_run::Step;
 use spi_scope::File;
 use spi_term::Process;
 use spi_trace::pair_up;

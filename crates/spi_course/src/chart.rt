@@ -2,7 +2,7 @@
 
 use crate::NoMemory;
 use crate::course::{Course, Taken};
-use crate::deeds::{event_of, put_channel, put_event, put_made};
+use crate::deeds::{event_of, put_channel, put_datum, put_event, put_made};
 use crate::roles::{Role, Roles};
 use crate::scene::Scene;
 use crate::waiting::refusal_name;
@@ -98,10 +98,7 @@ fn put_talk(
     scene.put(": ")?;
     put_channel(scene, from)?;
     scene.put(": ")?;
-    match &taken.datum {
-        Some(datum) => scene.put_message(datum)?,
-        None => {}
-    }
+    put_datum(scene, taken)?;
     scene.put("\n")
 }
 

@@ -4,7 +4,7 @@ ghost use Rattle.std.specs.Prelude.{◌≡◌, ◌≢◌, ◌⊎◌, ◌+◌, �
 ghost use Rattle.spi_run.specs.Reduction.{Event as Shown};
 ghost use Rattle.spi_run.specs.View.{step as step_of, event as event_of};
 ghost use Rattle.spi_replay.specs.Stepping.{RefusesPoolStep, event_in};
-ghost use Rattle.spi_course.specs.Courses.{grown as grown_of, event_number, HandsOver, IsStepTold, IsCourse};
+ghost use Rattle.spi_course.specs.Courses.{grown as grown_of, event_number, IsStepTold, IsCourse};
 
 use crate::NoMemory;
 use spi_replay::{Pool, StepFault};

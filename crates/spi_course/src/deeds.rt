@@ -132,6 +132,14 @@ fn put_where(scene: &mut Scene<'_>, word: &str, place: u32) -> Result<(), NoMemo
     }
 }
 
+/// Appends the message that a step handed over, where it did.
+pub fn put_datum(scene: &mut Scene<'_>, taken: &Taken) -> Result<(), NoMemory> {
+    match &taken.datum {
+        Some(datum) => scene.put_message(datum),
+        None => Ok(()),
+    }
+}
+
 // Appends what two places handed over.
 fn put_talk(scene: &mut Scene<'_>, from: u32, to: u32, taken: &Taken) -> Result<(), NoMemory> {
     scene.put_step(taken.step)?;
@@ -140,10 +148,7 @@ fn put_talk(scene: &mut Scene<'_>, from: u32, to: u32, taken: &Taken) -> Result<
     scene.put(": ")?;
     put_channel(scene, from)?;
     scene.put(" <- ")?;
-    match &taken.datum {
-        Some(datum) => scene.put_message(datum)?,
-        None => {}
-    }
+    put_datum(scene, taken)?;
     match taken.added {
         Some(place) => {
             scene.put(", the copy goes to place ")?;

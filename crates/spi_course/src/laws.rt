@@ -1,6 +1,6 @@
 // Laws of courses.
 
-ghost use Rattle.std.specs.Prelude.{ℕ, List, map};
+ghost use Rattle.std.specs.Prelude.{List};
 ghost use Rattle.spi_run.specs.Reduction.{Event as Shown, Runs};
 ghost use Rattle.spi_replay.specs.Stepping.{Pooled};
 ghost use Rattle.spi_course.specs.declared.course.Taken.{Taken as TakenTerm};

@@ -1,6 +1,6 @@
 // The bytes of a file, with the places in them.
 
-ghost use Rattle.std.specs.Prelude.{◌≡◌, IfOk};
+ghost use Rattle.std.specs.Prelude.{◌≡◌};
 ghost use Rattle.spi_text.specs.Place.{IsSized};
 
 use crate::NoMemory;

@@ -23,7 +23,7 @@ fn hindered(scene: &Scene<'_>, at: Standing, form: &Form) -> Result<&'static str
         }
         Form::Check { whole, nonce, .. } => {
             let wanted = scene.instance(at, nonce)?;
-            Ok(other_nonce(&scene.instance(at, whole)?, &wanted))
+            Ok(unless_same(&scene.instance(at, whole)?, &wanted, "; it is another"))
         }
         _ => Ok(""),
     }
@@ -36,15 +36,18 @@ fn no_pair(whole: &Msg) -> &'static str {
     }
 }
 
+// Nothing where the message is the wanted one, else that it is another.
+fn unless_same(found: &Msg, wanted: &Msg, another: &'static str) -> &'static str {
+    if same_message(found, wanted) {
+        ""
+    } else {
+        another
+    }
+}
+
 fn other_first(whole: &Msg, wanted: &Msg) -> &'static str {
     match whole {
-        Msg::Pair(first, _) => {
-            if same_message(first, wanted) {
-                ""
-            } else {
-                "; its first part is another"
-            }
-        }
+        Msg::Pair(first, _) => unless_same(first, wanted, "; its first part is another"),
         _ => "; it is no pair",
     }
 }
@@ -59,22 +62,8 @@ fn no_side(whole: &Msg) -> &'static str {
 
 fn other_key(whole: &Msg, wanted: &Msg) -> &'static str {
     match whole {
-        Msg::Enc(_, key) => {
-            if same_message(key, wanted) {
-                ""
-            } else {
-                "; its key is another"
-            }
-        }
+        Msg::Enc(_, key) => unless_same(key, wanted, "; its key is another"),
         _ => "; it is no ciphertext",
-    }
-}
-
-fn other_nonce(whole: &Msg, wanted: &Msg) -> &'static str {
-    if same_message(whole, wanted) {
-        ""
-    } else {
-        "; it is another"
     }
 }
 

@@ -14,7 +14,7 @@ use Rattle.spi_rules.specs.Processes.{HasEffect, IsNonce, proc_stop, proc_out, p
 use Rattle.spi_rules.proofs.Paying.{Pays, pays_stop, pays_out, pays_in, pays_repeat, pays_split, pays_split_un, pays_match, pays_match_un, pays_case, pays_case_un, pays_decrypt, pays_decrypt_un, pays_check, pays_check_un, pays_begin, pays_end, pays_end_many, pays_cast, pays_cast_un, pays_new, pays_par, flip}
 use Rattle.spi_message.specs.Tests.{typed}
 use Rattle.spi_message.proofs.Deciding.{typed_true, typed_from}
-use Rattle.spi_deriv.specs.Canonical.{IsTypedBelow, HasNoTyped, IsCanonical}
+use Rattle.spi_deriv.specs.Canonical.{IsTypedProcess, HasNoTyped, IsCanonical}
 use Rattle.spi_deriv.proofs.Written.{every, key_or_un, nonce_or_un}
 
 -- a canonical typing, of an effect within fs
@@ -22,27 +22,27 @@ abbrev pub IsChosenEffect : Env → Process → Effect → Type 0
 IsChosenEffect e p fs = (es : Effect) × (d : HasEffect [] e p es) × Within es fs × IsCanonical d
 
 -- what a typed rule asks, where its Un form is there too
-pub split_typed : {e : Env} {m : Message} {t u : Ty} {p : Process} {es : Effect} (d : HasEffect [] e (split m t u p) es) → IsTypedBelow d → HasType [] e m (pair_ty t u)
+pub split_typed : {e : Env} {m : Message} {t u : Ty} {p : Process} {es : Effect} (d : HasEffect [] e (split m t u p) es) → IsTypedProcess d → HasType [] e m (pair_ty t u)
 split_typed (proc_split h d g a b) i = h
 split_typed (proc_split_un h d a b) i = absurd i
 split_typed (proc_sub d w g) i = absurd i
 
-pub select_typed : {e : Env} {m n : Message} {t u : Ty} {p : Process} {es : Effect} (d : HasEffect [] e (select m t n u p) es) → IsTypedBelow d → HasType [] e m (pair_ty t u)
+pub select_typed : {e : Env} {m n : Message} {t u : Ty} {p : Process} {es : Effect} (d : HasEffect [] e (select m t n u p) es) → IsTypedProcess d → HasType [] e m (pair_ty t u)
 select_typed (proc_match h k d g a) i = h
 select_typed (proc_match_un h k d a) i = absurd i
 select_typed (proc_sub d w g) i = absurd i
 
-pub branch_typed : {e : Env} {m : Message} {t u : Ty} {p q : Process} {es : Effect} (d : HasEffect [] e (branch m t p u q) es) → IsTypedBelow d → HasType [] e m (sum_ty t u)
+pub branch_typed : {e : Env} {m : Message} {t u : Ty} {p q : Process} {es : Effect} (d : HasEffect [] e (branch m t p u q) es) → IsTypedProcess d → HasType [] e m (sum_ty t u)
 branch_typed (proc_case h d f g k a b r) i = h
 branch_typed (proc_case_un h d f a b r) i = absurd i
 branch_typed (proc_sub d w g) i = absurd i
 
-decrypt_typed : {e : Env} {m n : Message} {t : Ty} {p : Process} {es : Effect} (d : HasEffect [] e (decrypt m t n p) es) → IsTypedBelow d → HasType [] e n (key t)
+decrypt_typed : {e : Env} {m n : Message} {t : Ty} {p : Process} {es : Effect} (d : HasEffect [] e (decrypt m t n p) es) → IsTypedProcess d → HasType [] e n (key t)
 decrypt_typed (proc_decrypt h k d g a) i = k
 decrypt_typed (proc_decrypt_un h k d a) i = absurd i
 decrypt_typed (proc_sub d w g) i = absurd i
 
-check_typed : {e : Env} {m n : Message} {p : Process} {es : Effect} (d : HasEffect [] e (check m n p) es) → IsTypedBelow d → (fs : Effect) × IsNonce [] e n fs
+check_typed : {e : Env} {m n : Message} {p : Process} {es : Effect} (d : HasEffect [] e (check m n p) es) → IsTypedProcess d → (fs : Effect) × IsNonce [] e n fs
 check_typed (proc_check {fs = fs} h d n s r) i = (fs, n)
 check_typed (proc_check_un h k d) i = absurd i
 check_typed (proc_sub d w g) i = absurd i

@@ -46,32 +46,32 @@ IsCanonicalMessage (msg_hash l) = ⊤
 IsCanonicalMessage (msg_cast i s) = ⊥
 
 -- the last rule of a process's typing is a typed rule with an Un form
-abbrev pub IsTypedBelow : {env : Env} {p : Process} {es : Effect} → HasEffect [] env p es → Type 0
-IsTypedBelow proc_stop = ⊥
-IsTypedBelow (proc_out h k) = ⊥
-IsTypedBelow (proc_in h d a) = ⊥
-IsTypedBelow (proc_repeat h d m a) = ⊥
-IsTypedBelow (proc_split h d g a b) = ⊤
-IsTypedBelow (proc_split_un h d a b) = ⊥
-IsTypedBelow (proc_match h k d g a) = ⊤
-IsTypedBelow (proc_match_un h k d a) = ⊥
-IsTypedBelow (proc_case h d e g k a b r) = ⊤
-IsTypedBelow (proc_case_un h d e a b r) = ⊥
-IsTypedBelow (proc_decrypt h k d g a) = ⊤
-IsTypedBelow (proc_decrypt_un h k d a) = ⊥
-IsTypedBelow (proc_check h d n s r) = ⊤
-IsTypedBelow (proc_check_un h k d) = ⊥
-IsTypedBelow (proc_begin d l r) = ⊥
-IsTypedBelow (proc_end d l r) = ⊥
-IsTypedBelow (proc_end_many d l r) = ⊥
-IsTypedBelow (proc_cast h d g a r) = ⊥
-IsTypedBelow (proc_cast_un h d a) = ⊥
-IsTypedBelow (proc_new d i g r a) = ⊥
-IsTypedBelow (proc_par d e r) = ⊥
-IsTypedBelow (proc_sub d w g) = ⊥
+abbrev pub IsTypedProcess : {env : Env} {p : Process} {es : Effect} → HasEffect [] env p es → Type 0
+IsTypedProcess proc_stop = ⊥
+IsTypedProcess (proc_out h k) = ⊥
+IsTypedProcess (proc_in h d a) = ⊥
+IsTypedProcess (proc_repeat h d m a) = ⊥
+IsTypedProcess (proc_split h d g a b) = ⊤
+IsTypedProcess (proc_split_un h d a b) = ⊥
+IsTypedProcess (proc_match h k d g a) = ⊤
+IsTypedProcess (proc_match_un h k d a) = ⊥
+IsTypedProcess (proc_case h d e g k a b r) = ⊤
+IsTypedProcess (proc_case_un h d e a b r) = ⊥
+IsTypedProcess (proc_decrypt h k d g a) = ⊤
+IsTypedProcess (proc_decrypt_un h k d a) = ⊥
+IsTypedProcess (proc_check h d n s r) = ⊤
+IsTypedProcess (proc_check_un h k d) = ⊥
+IsTypedProcess (proc_begin d l r) = ⊥
+IsTypedProcess (proc_end d l r) = ⊥
+IsTypedProcess (proc_end_many d l r) = ⊥
+IsTypedProcess (proc_cast h d g a r) = ⊥
+IsTypedProcess (proc_cast_un h d a) = ⊥
+IsTypedProcess (proc_new d i g r a) = ⊥
+IsTypedProcess (proc_par d e r) = ⊥
+IsTypedProcess (proc_sub d w g) = ⊥
 
 abbrev pub HasNoTyped : Env → Process → Type 0
-HasNoTyped env p = (es : Effect) (d : HasEffect [] env p es) → IsTypedBelow d → ⊥
+HasNoTyped env p = (es : Effect) (d : HasEffect [] env p es) → IsTypedProcess d → ⊥
 
 -- a process's typing is canonical
 abbrev pub IsCanonical : {env : Env} {p : Process} {es : Effect} → HasEffect [] env p es → Type 0

@@ -1,14 +1,16 @@
 -- Edits as rows, each told by its first token, and a process in front of its right brace.
-use Rattle.std.proofs.Common.{◌≡◌, ℕ, ◌+◌, ◌≤◌, Bool, List, [], ◌∷◌, ◌++◌, length, drop, Ok, Err, refl, sym, ap, subst, ◌∙◌, ◌⊎◌, inl, inr, arith}
+use Rattle.std.proofs.Common.{◌≡◌, ℕ, ◌+◌, ◌≤◌, Bool, false, List, [], ◌∷◌, ◌++◌, length, drop, Ok, Err, refl, sym, ap, subst, ◌∙◌, ◌⊎◌, inl, inr, arith}
 use Rattle.spi_lex.specs.declared.token.Kind.{Kind}
 use Rattle.spi_lex.specs.declared.token.Kind.TheVariants as K
+use Rattle.spi_lex.specs.declared.token.Mark.{Mark}
 use Rattle.spi_lex.specs.declared.token.Mark.TheVariants as mark
 use Rattle.spi_lex.specs.declared.token.Token.{Token}
 use Rattle.spi_lex.specs.Lexing.{kinds_of}
 use Rattle.spi_text.specs.declared.lines.Span.{Span}
 use Rattle.spi_tree.specs.declared.tree.SWord.{SWord}
 use Rattle.spi_tree.specs.Trees as t
-use Rattle.spi_tree.specs.Pieces.{Piece, cells, a_mark, at_level}
+use Rattle.spi_tree.specs.Pieces.{Piece, cells, kinds_in, a_mark, a_word, at_level}
+use Rattle.spi_tree.specs.Formed.{AreWordsFit}
 use Rattle.spi_parse.specs.declared.fault.ParseFault.{ParseFault}
 use Rattle.spi_parse.specs.declared.fault.ParseFault.TheVariants as faults
 use Rattle.spi_parse.specs.Exact as exact
@@ -20,20 +22,44 @@ use Rattle.spi_parts.proofs.Behind.{proc_behind}
 use Rattle.spi_parts.proofs.Bridge.{kinds_cells, OfPieces, of_piece, part_from}
 use Rattle.spi_parts.proofs.Processes.{Processes, IsBraceClose, processes_apart, processes_even}
 use Rattle.spi_heading.specs.Taking.{IsThere, TakesOneToken}
-use Rattle.spi_heading.proofs.Standing.{AreTokensOf, IsSolid, proc_solid, stands_both, stands_kinds, stands_length, behind_part}
+use Rattle.spi_heading.specs.Repeated.{IsSolid}
+use Rattle.spi_heading.proofs.Standing.{AreTokensOf, proc_solid, stands_both, stands_kinds, stands_length, behind_part}
 use Rattle.spi_heading.proofs.Failing.{FailsAt, memory, fault, tells_at, ReadAt, IsToldBy, fails_to}
 use Rattle.spi_heading.proofs.Symbols.{HeadingSym, token, name, braced, closing, the_mark, the_word, put, drop_, SymbolItem}
 use Rattle.spi_heading.proofs.Versions.{Cells}
 use Rattle.spi_heading.proofs.Rows.{Values, Row, row_into, row_behind, ItemAt}
 use Rattle.spi_heading.proofs.Calls.{part_stands, took}
 use Rattle.spi_heading.proofs.Nodes.{node_row, node_told}
+use Rattle.spi_heading.proofs.RowParts.{AreRows}
 use Rattle.spi_heading.proofs.Told.{FormOf, forms_good}
 use Rattle.spi_heading.proofs.Wholes.{none_fail}
 use Rattle.spi_edits.specs.Edits.{Edit, puts, drops}
 use Rattle.spi_edits.specs.Grammar.{put_word, drop_word, edit_pieces, whole_edit, IsWholeEdit}
 
+-- a name and the mark behind it
+abbrev pub marked_row : Mark → List HeadingSym
+marked_row m = name ∷ token (the_mark m) ∷ []
+
+abbrev marked_part : Mark → SWord → List Piece
+marked_part m w = a_word false w (a_mark m [])
+
+pub marked_are : (v : Bool) (m : Mark) → AreRows v (marked_part m) (λ w. AreWordsFit v (kinds_in (marked_part m w))) (marked_row m) (λ w. (w, (tt, tt)))
+marked_are v m = record {
+  part = λ xs. xs.0;
+  values_of = λ xs. refl;
+  formed = λ xs are fit. fit;
+  are = λ w is. (tt, (tt, tt));
+  fit = λ w is. is;
+  pieces_of = λ w. refl;
+  known = λ w are fit. fit;
+  solid = λ w. tt;
+}
+
+abbrev pub put_tail : List HeadingSym
+put_tail = braced ∷ closing ∷ []
+
 abbrev pub put_rest : List HeadingSym
-put_rest = name ∷ token (the_mark mark.BraceOpen) ∷ braced ∷ closing ∷ []
+put_rest = name ∷ token (the_mark mark.BraceOpen) ∷ put_tail
 
 abbrev pub put_row : List HeadingSym
 put_row = node_row (the_word put) put_rest

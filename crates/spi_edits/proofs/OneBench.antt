@@ -11,7 +11,7 @@ use Rattle.spi_tree.specs.declared.tree.SWord.{SWord}
 use Rattle.spi_tree.specs.Trees as t
 use Rattle.spi_tree.specs.Pieces.{Piece, opens, cell, closes, cells, kinds_in, a_token, a_number, a_word, a_mark, ty_pieces, at_level, proc_pieces, decl_pieces, version_pieces}
 use Rattle.spi_tree.specs.Formed.{AreWordsFit, IsTy, IsProc, IsDeclared}
-use Rattle.spi_parse.specs.Bare.{nowhere, bare_ty, bare_proc, bare_decl}
+use Rattle.spi_parse.specs.Bare.{bare_ty, bare_proc, bare_decl}
 use Rattle.spi_parse.specs.Exact.{Spells}
 use Rattle.spi_parse.specs.Formed.{whole_process, IsWholeProcess}
 use Rattle.spi_parse.proofs.Filled.{FilledRest, after_ty, after_proc, after_decl, fill_ty, fill_proc, fill_decl}
@@ -31,6 +31,7 @@ use Rattle.spi_edits.specs.Edits.{Edit, puts, drops, Bench}
 use Rattle.spi_edits.specs.Grammar.{edit_pieces, IsEdit, bench_pieces, placed, whole_bench, is_later_bench}
 use Rattle.spi_edits.specs.Reads.{IsBenchSpelled}
 use Rattle.spi_edits.proofs.EditRows.{edit_behind}
+use Rattle.spi_tree.specs.Trees.{nowhere}
 
 abbrev span_of : ℕ → ℕ → Span
 span_of a b = record { from = a; to = b }

@@ -5,30 +5,33 @@ use Rattle.std.proofs.Math.Seq.{drop-length}
 use Rattle.spi_lex.specs.declared.token.Token.{Token}
 use Rattle.spi_lex.specs.Lexing.{kinds_of, is_version_2}
 use Rattle.spi_text.specs.declared.lines.Span.{Span}
+use Rattle.spi_tree.specs.Trees.{nowhere}
 use Rattle.spi_tree.specs.Trees as t
 use Rattle.spi_tree.specs.Pieces.{Piece, opens, cell, closes, decl_pieces}
 use Rattle.spi_tree.specs.Formed.{AreWordsFit, IsDeclared}
-use Rattle.spi_parse.specs.Bare.{nowhere}
 use Rattle.spi_parse.specs.declared.fault.ParseFault.{ParseFault}
 use Rattle.spi_parse.specs.Exact as exact
 use Rattle.spi_parts.proofs.Behind.{decl_behind}
 use Rattle.spi_heading.specs.Headings as h
 use Rattle.spi_heading.specs.Spans.{span_over}
+use Rattle.spi_heading.specs.Reading.{HeadingAt}
 use Rattle.spi_heading.specs.Taking.{ReadsVersion}
 use Rattle.spi_heading.specs.Each.{each_pieces, FailsWhole}
 use Rattle.spi_heading.specs.Grammar.{shared_pieces, IsShared}
-use Rattle.spi_heading.proofs.Standing.{AreTokensOf, stands_both, spelled, within_one, IsSolid, decl_solid}
+use Rattle.spi_heading.specs.Repeated.{IsSolid}
+use Rattle.spi_heading.proofs.Standing.{AreTokensOf, stands_both, spelled, within_one, decl_solid}
 use Rattle.spi_heading.proofs.Rows.{fits_at}
 use Rattle.spi_heading.proofs.Each.{Along}
 use Rattle.spi_heading.proofs.Names.{shared_behind, shared_solid}
 use Rattle.spi_heading.proofs.Wholes.{WholeFails, whole_fails}
+use Rattle.spi_heading.proofs.Fronts.{heading_decls, heading_shared}
 use Rattle.spi_heading.proofs.Versions.{version_row_at, version_fits, version_known}
 use Rattle.spi_edits.specs.Edits.{Edit, Bench}
 use Rattle.spi_edits.specs.Grammar.{edit_pieces, IsEdit, bench_pieces, placed, whole_bench, IsBench}
 use Rattle.spi_edits.specs.Reads.{IsBenchSpelled, ParsesBench}
 use Rattle.spi_edits.specs.Spans.{span_of_all}
 use Rattle.spi_edits.proofs.EditRows.{edit_behind, edit_solid}
-use Rattle.spi_edits.proofs.Whole.{bench_body, Benches, bench_of_version, bench_version_are, later_pieces, first_pieces}
+use Rattle.spi_edits.proofs.Whole.{bench_body, Benches, benches_headed, bench_of_version, bench_version_are, later_pieces, first_pieces}
 
 body_stands : (v : Bool) (ts : List Token) (ds : List t.Declared) (ss : List h.Shared) (es : List Edit) (i j k l : ℕ) → Along decl_pieces decl_behind (IsDeclared v) ts i ds j → Along shared_pieces shared_behind (IsShared v) ts j ss k
     → Along edit_pieces edit_behind (IsEdit v) ts k es l → AreTokensOf ts i (bench_body ds ss es) l
@@ -103,26 +106,26 @@ module _ (ts : List Token) (s : Span) (spans : s ≡ span_of_all ts) where
       subst (λ (n : ℕ). AreTokensOf ts 0 (bench_pieces (bench_of_version n s ds ss es)) (length ts)) (sym h.0)
       (subst (λ (l : List Piece). AreTokensOf ts 0 l (length ts)) (sym (first_pieces s ds ss es)) (subst (λ (n : ℕ). AreTokensOf ts n (bench_body ds ss es) (length ts)) h.1 body))
 
-  pub bench_read : (fit : AreWordsFit (is_version_2 (kinds_of ts)) (kinds_of ts)) (r : ℕ × ℕ) (vr : ReadsVersion (Ok r) ts) (ds : List t.Declared) (ss : List h.Shared) (es : List Edit) (j k : ℕ)
-      → Along decl_pieces decl_behind (IsDeclared (r.0 == 2)) ts r.1 ds j → Along shared_pieces shared_behind (IsShared (r.0 == 2)) ts j ss k → Along edit_pieces edit_behind (IsEdit (r.0 == 2)) ts k es (length ts)
-      → IsBenchSpelled (bench_of_version r.0 s ds ss es) ts
-  bench_read fit r vr ds ss es j k a b c = (
+  pub bench_read : AreWordsFit (is_version_2 (kinds_of ts)) (kinds_of ts) → (v : ℕ) (ds : List t.Declared) (ss : List h.Shared) (es : List Edit) (k : ℕ) → HeadingAt v ds ss ts k → Along edit_pieces edit_behind (IsEdit (v == 2)) ts k es (length ts)
+      → IsBenchSpelled (bench_of_version v s ds ss es) ts
+  bench_read fit v ds ss es k a c = (
     record {
-      version = version_known ts r vr;
-      decls = a.are;
-      shared = b.are;
+      version = version_known ts (v, a.front.start) a.front.front.read;
+      decls = a.front.decls.0.are;
+      shared = a.shared.0.are;
       edits = c.are;
-      words = fits_at (r.0 == 2) ts (whole_bench x) 0 (length ts) (version_fits ts fit r vr) is.1;
+      words = fits_at (v == 2) ts (whole_bench x) 0 (length ts) (version_fits ts fit (v, a.front.start) a.front.front.read) is.1;
       place = is.0;
     },
     subst (λ (l : List Token). exact.Spells l 0 (whole_bench x) ts) (drop-length ts) (spelled ts (whole_bench x) 0 (length ts) is.1),
   )
     where
       x : Bench
-      x = bench_of_version r.0 s ds ss es
+      x = bench_of_version v s ds ss es
 
       is : IsPlaced x
-      is = bench_placed x (bench_start r.0 s ds ss es (version_known ts r vr)) (whole_stands ds ss es r vr (body_stands (r.0 == 2) ts ds ss es r.1 j k (length ts) a b c))
+      is = bench_placed x (bench_start v s ds ss es (version_known ts (v, a.front.start) a.front.front.read))
+          (whole_stands ds ss es (v, a.front.start) a.front.front.read (body_stands (v == 2) ts ds ss es a.front.start a.start k (length ts) (heading_decls benches_headed ts fit v ds ss k a) (heading_shared benches_headed ts fit v ds ss k a) c))
 
 pub parse_fails : {V : Type 0} (view : V → Bench) (ts : List Token) (f : ParseFault) (r : Result V ParseFault) → IsErrAnd r (λ e. e ≡ f) → WholeFails Benches ts f → ParsesBench view r ts
 parse_fails view ts f (Ok x) is h = absurd is

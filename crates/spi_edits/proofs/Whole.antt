@@ -6,7 +6,6 @@ use Rattle.spi_text.specs.declared.lines.Span.{Span}
 use Rattle.spi_tree.specs.Trees as t
 use Rattle.spi_tree.specs.Pieces.{Piece, closes, cells, kinds_in, decl_pieces}
 use Rattle.spi_tree.specs.Formed.{AreWordsFit, IsDeclared}
-use Rattle.spi_parse.specs.Bare.{nowhere}
 use Rattle.spi_parse.proofs.Words.{fits_front, fits_drop}
 use Rattle.spi_grammar.specs.Exactly.{Either, Many, Nothing}
 use Rattle.spi_grammar.proofs.Repetition.{live_many}
@@ -28,6 +27,7 @@ use Rattle.spi_heading.proofs.Lasts.{nothing_begins}
 use Rattle.spi_edits.specs.Edits.{Edit, Bench}
 use Rattle.spi_edits.specs.Grammar.{put_word, drop_word, edit_pieces, IsEdit, bench_pieces, placed, whole_bench, IsBench}
 use Rattle.spi_edits.proofs.EditRows.{Edits, edits_begin, edits_some, edit_behind}
+use Rattle.spi_tree.specs.Trees.{nowhere}
 
 -- what stands behind the version
 abbrev pub bench_body : List t.Declared → List h.Shared → List Edit → List Piece
@@ -108,7 +108,7 @@ abbrev pub bench_of_version : ℕ → Span → List t.Declared → List h.Shared
 bench_of_version v s ds ss es = record { span = s; version = v; decls = ds; shared = ss; edits = es }
 
 abbrev pub bench_version_are : List Piece
-version_are = row_pieces version_row (tt, (tt, (tt, tt))) []
+bench_version_are = row_pieces version_row (tt, (tt, (tt, tt))) []
 
 pub later_pieces : (s : Span) (ds : List t.Declared) (ss : List h.Shared) (es : List Edit) → bench_pieces (bench_of_version 2 s ds ss es) ≡ bench_version_are ++ bench_body ds ss es
 later_pieces s ds ss es = ap (λ (l : List Piece). bench_version_are ++ l) (body_are ds ss es)

@@ -7,10 +7,10 @@ use Rattle.spi_lex.specs.declared.token.Kind.TheVariants as kinds
 use Rattle.spi_lex.specs.declared.token.Mark.TheVariants as mark
 use Rattle.spi_tree.specs.Pieces.{Piece, opens, closes, begins, ends, a_word, a_mark, at_level, proc_pieces, decl_pieces, version_pieces, kinds_in}
 use Rattle.spi_tree.specs.Formed.{IsProc, IsDeclared, AreWordsFit}
-use Rattle.spi_parse.specs.Bare.{nowhere}
 use Rattle.spi_heading.specs.Each.{each_pieces}
 use Rattle.spi_heading.specs.Grammar.{shared_pieces, IsShared}
 use Rattle.spi_edits.specs.Edits.{Edit, puts, drops, Bench}
+use Rattle.spi_tree.specs.Trees.{nowhere}
 
 -- the words that edits begin with, which are asked for by spelling
 abbrev pub put_word : Kind

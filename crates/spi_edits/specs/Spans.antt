@@ -2,8 +2,8 @@
 use Rattle.std.specs.Prelude.{List, [], ◌∷◌, length}
 use Rattle.spi_text.specs.declared.lines.Span.{Span}
 use Rattle.spi_lex.specs.declared.token.Token.{Token}
-use Rattle.spi_parse.specs.Bare.{nowhere}
 use Rattle.spi_heading.specs.Spans.{span_over}
+use Rattle.spi_tree.specs.Trees.{nowhere}
 
 -- from the first of these tokens to the last, where there are any
 abbrev pub span_of_all : List Token → Span

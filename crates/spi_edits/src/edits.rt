@@ -1,30 +1,46 @@
-//! Edits, and all of them up to the end.
+//! Edits.
 
-ghost use Rattle.std.specs.Prelude.{◌≡◌, ◌≤◌, ◌<◌, ◌⊎◌, ◌==◌, length, map};
-ghost use Rattle.spi_lex.specs.Lexing.{kinds_of};
+ghost use Rattle.std.specs.Prelude.{◌≤◌, ◌==◌, [], false, length, IfOk};
+ghost use Rattle.spi_tree.specs.declared.tree.SWord as words;
 ghost use Rattle.spi_tree.specs.Formed.{AreWordsFit};
+ghost use Rattle.spi_tree.specs.Pieces.{a_mark, a_word, kinds_in};
 ghost use Rattle.spi_parse.specs.Exact.{Reads};
-ghost use Rattle.spi_heading.specs.Each.{ReadsEach};
-ghost use Rattle.spi_heading.specs.Taking.{IsThere};
-ghost use Rattle.spi_edits.specs.Grammar.{put_word, drop_word, edit_pieces, whole_edit, IsEdit, IsWholeEdit};
-ghost use Rattle.spi_edits.specs.Views.{edit_of};
+ghost use Rattle.spi_heading.specs.Taking.{IsTextOf, IsThere};
+ghost use Rattle.spi_edits.specs.Grammar.{put_word, drop_word, whole_edit, IsWholeEdit};
+ghost use Rattle.spi_edits.specs.Views.{edit_of, edit_kind};
 
 use crate::text::Edit;
-use spi_heading::{span_between, spelled_at, take_mark, take_word};
+use spi_heading::{ReadPart, RepeatedPart, span_between, spelled_at, take_mark, take_word};
 use spi_lex::{Mark, Token};
 use spi_parse::{ParseFault, process_at};
+use spi_tree::SWord;
 use std::alloc::Global;
 
+/// A name and the mark behind it, from the token of number `at` on.
+fn marked_name_at(
+    alloc: Global,
+    tokens: &[Token],
+    at: u32,
+    mark: Mark,
+    version: u32,
+) -> ReadPart<SWord>
+    requires text { IsTextOf version tokens.now }
+    ensures read { let pieces = λ (w : words.SWord). a_word false w (a_mark mark []) in
+        Reads (λ w. w) pieces (λ w. AreWordsFit (version == 2) (kinds_in (pieces w))) result tokens.now at }
+    ensures within { IfOk result (λ r. r.1 ≤ length tokens.now) }
+{
+    let (name, mark_at) = take_word(alloc, tokens, at)?;
+    let next = take_mark(tokens, mark_at, mark)?;
+    Ok((name, next))
+}
+
 /// `put A { P }`, where the token of number `at` is its first.
-fn put_at(alloc: Global, tokens: &[Token], at: u32, version: u32) -> Result<(Edit, u32), ParseFault>
-    requires size { length tokens.now ≤ 16_777_216 }
-    requires known { (version ≡ 1) ⊎ (version ≡ 2) }
-    requires words { AreWordsFit (version == 2) (kinds_of tokens.now) }
+fn put_at(alloc: Global, tokens: &[Token], at: u32, version: u32) -> ReadPart<Edit>
+    requires text { IsTextOf version tokens.now }
     requires first { IsThere tokens.now at put_word }
     ensures { Reads edit_of whole_edit (IsWholeEdit (version == 2)) result tokens.now at }
 {
-    let (name, brace) = take_word(alloc, tokens, at + 1)?;
-    let part_at = take_mark(tokens, brace, Mark::BraceOpen)?;
+    let (name, part_at) = marked_name_at(alloc, tokens, at + 1, Mark::BraceOpen, version)?;
     let (part, close) = process_at(alloc, tokens, part_at, version)?;
     let next = take_mark(tokens, close, Mark::BraceClose)?;
     let span = span_between(tokens, at, next);
@@ -32,70 +48,35 @@ fn put_at(alloc: Global, tokens: &[Token], at: u32, version: u32) -> Result<(Edi
 }
 
 /// `drop A;`, where the token of number `at` is its first.
-fn drop_at(
-    alloc: Global,
-    tokens: &[Token],
-    at: u32,
-    version: u32,
-) -> Result<(Edit, u32), ParseFault>
-    requires size { length tokens.now ≤ 16_777_216 }
-    requires known { (version ≡ 1) ⊎ (version ≡ 2) }
-    requires words { AreWordsFit (version == 2) (kinds_of tokens.now) }
+fn drop_at(alloc: Global, tokens: &[Token], at: u32, version: u32) -> ReadPart<Edit>
+    requires text { IsTextOf version tokens.now }
     requires first { IsThere tokens.now at drop_word }
     ensures { Reads edit_of whole_edit (IsWholeEdit (version == 2)) result tokens.now at }
 {
-    let (name, end) = take_word(alloc, tokens, at + 1)?;
-    let next = take_mark(tokens, end, Mark::Semicolon)?;
+    let (name, next) = marked_name_at(alloc, tokens, at + 1, Mark::Semicolon, version)?;
     let span = span_between(tokens, at, next);
     Ok((Edit::Drop { name, span }, next))
 }
 
-/// The edit that the tokens from number `at` on begin with, in a text of the version, and the number of the token behind it.
-/// Where they begin with none that is within the nesting limits, the faults are as `process_at` has them.
-pub fn edit_at(
-    alloc: Global,
-    tokens: &[Token],
-    at: u32,
-    version: u32,
-) -> Result<(Edit, u32), ParseFault>
-    requires size { length tokens.now ≤ 16_777_216 }
-    requires known { (version ≡ 1) ⊎ (version ≡ 2) }
-    requires words { AreWordsFit (version == 2) (kinds_of tokens.now) }
-    ensures { Reads edit_of whole_edit (IsWholeEdit (version == 2)) result tokens.now at }
-{
-    if spelled_at(tokens, at, "put") {
-        put_at(alloc, tokens, at, version)
-    } else if spelled_at(tokens, at, "drop") {
-        drop_at(alloc, tokens, at, version)
-    } else {
-        Err(ParseFault::Syntax { token: at })
-    }
-}
+/// Edits up to the end, as repeated parts.
+pub struct Edits;
 
-/// The edits from token number `start` on, up to the end, and the number of tokens. The fault is that of the first edit that
-/// isn't read.
-pub fn edits_at(
-    alloc: Global,
-    tokens: &[Token],
-    start: u32,
-    version: u32,
-) -> Result<(Vec<Edit>, u32), ParseFault>
-    requires size { length tokens.now ≤ 16_777_216 }
-    requires start { start ≤ length tokens.now }
-    requires known { (version ≡ 1) ⊎ (version ≡ 2) }
-    requires words { AreWordsFit (version == 2) (kinds_of tokens.now) }
-    ensures { ReadsEach (λ v. map edit_of v.items) edit_pieces (version == 2) (IsEdit (version == 2))
-        (λ ts i. i < length ts) result tokens.now start }
-{
-    let mut edits = Vec::new(alloc);
-    let mut at = start;
-    'edits: while (at as usize) < tokens.len() {
-        let (edit, next) = edit_at(alloc, tokens, at, version)?;
-        match edits.push(edit) {
-            Ok(()) => {}
-            Err(_) => return Err(ParseFault::NoMemory),
-        }
-        at = next;
+impl RepeatedPart for Edits {
+    type Read = Edit;
+
+    ghost kind = { edit_kind };
+
+    fn begins_at(tokens: &[Token], at: u32) -> bool {
+        (at as usize) < tokens.len()
     }
-    Ok((edits, at))
+
+    fn part_at(alloc: Global, tokens: &[Token], at: u32, version: u32) -> ReadPart<Edit> {
+        if spelled_at(tokens, at, "put") {
+            put_at(alloc, tokens, at, version)
+        } else if spelled_at(tokens, at, "drop") {
+            drop_at(alloc, tokens, at, version)
+        } else {
+            Err(ParseFault::Syntax { token: at })
+        }
+    }
 }

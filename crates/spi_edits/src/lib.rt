@@ -6,7 +6,6 @@ mod laws;
 mod reading;
 mod text;
 
-pub use edits::{edit_at, edits_at};
 pub use laws::one_bench;
 pub use reading::read_bench;
 pub use text::{BenchText, Edit};

@@ -7,9 +7,9 @@ ghost use Rattle.spi_edits.specs.Reads.{ParsesBench};
 ghost use Rattle.spi_edits.specs.Spans.{span_of_all};
 ghost use Rattle.spi_edits.specs.Views.{bench_of};
 
-use crate::edits::edits_at;
+use crate::edits::Edits;
 use crate::text::BenchText;
-use spi_heading::{declarations_at, shared_names_at, span_between, version_of};
+use spi_heading::{heading_at, parts_at, span_between};
 use spi_lex::Token;
 use spi_parse::ParseFault;
 use spi_text::Span;
@@ -38,16 +38,13 @@ pub fn read_bench(alloc: Global, tokens: &[Token]) -> Result<BenchText, ParseFau
     requires words { AreWordsFit (is_version_2 (kinds_of tokens.now)) (kinds_of tokens.now) }
     ensures { ParsesBench bench_of result tokens.now }
 {
-    let (version, start) = version_of(tokens)?;
-    let (decls, shared_start) = declarations_at(alloc, tokens, start, version)?;
-    let (shared, edits_start) = shared_names_at(alloc, tokens, shared_start, version)?;
-    let (edits, _behind) = edits_at(alloc, tokens, edits_start, version)?;
-    let span = whole_span(tokens);
+    let (heading, start) = heading_at(alloc, tokens)?;
+    let (edits, _behind) = parts_at::<Edits>(alloc, tokens, start, heading.version)?;
     Ok(BenchText {
-        version,
-        decls,
-        shared,
+        version: heading.version,
+        decls: heading.decls,
+        shared: heading.shared,
         edits,
-        span,
+        span: whole_span(tokens),
     })
 }

@@ -44,7 +44,8 @@ told f = record { reason = f.reason; node = f.node; scope_of = f.scope_of; shown
 -- Of the atoms of this kind, one whose report form is least by its bytes, where names are spelled so.
 pub record IsLeastText (spelled : List (List ℕ)) (Kind : Atom → Type 0) (a : Atom) : Type 0 where
   pub is : Kind a
-  pub least : (b : Atom) → Kind b → slice_cmp nat_cmp (reported_atom spelled a) (reported_atom spelled b) ≢ Greater
+  pub least : (b : Atom) → Kind b
+      → slice_cmp nat_cmp (reported_atom spelled a) (reported_atom spelled b) ≢ Greater
 
 -- what a check shows that asks about no effect: its message, and no type
 abbrev pub subject_checked : Check → Thing

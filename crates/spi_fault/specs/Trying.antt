@@ -51,7 +51,8 @@ abbrev pub IsBest : List (List ℕ) → (Atom → Type 0) → List Atom → Opti
 IsBest names P es None = (b : Atom) → In b es → P b → ⊥
 IsBest names P es (Some (j, text)) =
     (a : Atom) × (slice_get es j ≡ Some a) × P a × (text.items ≡ reported_atom names a)
-    × ((b : Atom) → In b es → P b → slice_cmp nat_cmp (reported_atom names a) (reported_atom names b) ≢ Greater)
+    × ((b : Atom) → In b es → P b
+    → slice_cmp nat_cmp (reported_atom names a) (reported_atom names b) ≢ Greater)
 
 -- what is kept of the best so far and of one more
 abbrev pub IsBetter : Option (ℕ × Vec ℕ) → ℕ → Vec ℕ → Option (ℕ × Vec ℕ) → Type 0

@@ -14,7 +14,6 @@ use spi_term::{Form, Msg, Node, Ty};
 use std::alloc::Global;
 
 /// A check. A process that follows in the node is told by how many nodes stand before it.
-#[derive(Drop)]
 pub enum Check {
     Channel(Msg),
     Datum(Msg),
@@ -31,6 +30,28 @@ pub enum Check {
     Served(u32),
     Stays(u32, u32),
     Made(u32),
+}
+
+impl Drop for Check {
+    fn drop(self) {
+        match self {
+            Check::Channel(_)
+            | Check::Datum(_)
+            | Check::Untrusted(_)
+            | Check::Good(_)
+            | Check::Scrutinee(_, _, _, _)
+            | Check::Sealed(_)
+            | Check::First(_, _)
+            | Check::KeyOf(_, _)
+            | Check::NonceOf(_)
+            | Check::Label(_)
+            | Check::Generative(_)
+            | Check::Castable(_)
+            | Check::Served(_)
+            | Check::Stays(_, _)
+            | Check::Made(_) => {}
+        }
+    }
 }
 
 impl Check {

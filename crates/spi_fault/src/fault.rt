@@ -33,10 +33,17 @@ pub enum Reason {
 }
 
 /// What a fault shows.
-#[derive(Drop)]
 pub enum Shown {
     Message(Msg),
     Atom(Atom),
+}
+
+impl Drop for Shown {
+    fn drop(self) {
+        match self {
+            Shown::Message(_) | Shown::Atom(_) => {}
+        }
+    }
 }
 
 /// A fault of a process.

@@ -3,8 +3,9 @@ use Rattle.std.proofs.Common.{◌≡◌, refl, sym, subst, ℕ, ◌+◌, ◌-◌
 use Rattle.spi_tree.specs.declared.tree.SProc.{SProc}
 use Rattle.spi_tree.specs.Trees as t
 use Rattle.spi_tree.specs.Views.{proc_of}
-use Rattle.spi_gen.specs.Handshake.{nowhere, handshake}
+use Rattle.spi_gen.specs.Handshake.{handshake}
 use Rattle.spi_gen.specs.Sessions.{AreBeside, one_session, two_halves, AreGrouped, alone, in_parentheses}
+use Rattle.spi_tree.specs.Trees.{nowhere}
 
 pub one_grouped : {E : Type 0} (n : ℕ) (result : Result SProc E) (in_part : Bool) → n ≡ 1 → IfOk result (λ p. proc_of p ≡ handshake) → IfOk result (λ p. in_part ≡ true → AreGrouped n (proc_of p))
 one_grouped n (Ok p) in_part one h = λ is. subst (λ n. AreGrouped n (proc_of p)) (sym one) (subst (AreGrouped 1) (sym h) alone)

@@ -1,11 +1,8 @@
 -- The nonce handshake as a tree. Its nodes and words stand nowhere in particular: each has the empty span at 0.
 use Rattle.std.specs.Prelude.{List, [], ◌∷◌, ℕ, codes}
-use Rattle.spi_text.specs.declared.lines.Span.{Span}
 use Rattle.spi_tree.specs.declared.tree.SWord.{SWord}
 use Rattle.spi_tree.specs.Trees as t
-
-abbrev pub nowhere : Span
-nowhere = record { from = 0; to = 0 }
+use Rattle.spi_tree.specs.Trees.{nowhere}
 
 abbrev pub word : List ℕ → SWord
 word spelling = record { word = spelling; span = nowhere }
@@ -21,7 +18,7 @@ abbrev pub label : t.Msg
 label = t.tuple nowhere (name (codes "a")) (name (codes "b")) (t.more_msgs (name (codes "m")) t.no_msgs)
 
 abbrev pub untrusted_type : t.Ty
-untrusted = t.un nowhere
+untrusted_type = t.un nowhere
 
 -- Nonce [end (a, b, m)]
 abbrev pub proof : t.Ty

@@ -1,7 +1,8 @@
 -- So many sessions of the handshake beside one another.
 use Rattle.std.specs.Prelude.{◌≡◌, ℕ, ◌+◌, ◌-◌, ◌/◌, ◌≤◌, None}
 use Rattle.spi_tree.specs.Trees as t
-use Rattle.spi_gen.specs.Handshake.{nowhere, handshake, declarations}
+use Rattle.spi_gen.specs.Handshake.{handshake, declarations}
+use Rattle.spi_tree.specs.Trees.{nowhere}
 
 mutual
   -- n sessions in the place of a process: one alone, or one half, rounded up, beside the other

@@ -30,7 +30,7 @@ fn name(alloc: Global, spelling: &str) -> Result<SMsg, NoMemory>
 fn tuple(alloc: Global, first: SMsg, second: SMsg, more: Vec<SMsg>) -> Result<SMsg, NoMemory>
     ensures { IfOk result
         (λ m. msg_of m
-        ≡ t.tuple H.nowhere (msg_of first) (msg_of second) (t.msgs_of_list (map msg_of more.items))) }
+        ≡ t.tuple t.nowhere (msg_of first) (msg_of second) (t.msgs_of_list (map msg_of more.items))) }
 {
     Ok(SMsg::Tuple {
         first: Box::new(alloc, first)?,
@@ -80,7 +80,7 @@ fn proof(alloc: Global) -> Result<STy, NoMemory>
 
 fn pair_type(alloc: Global, name: SWord, first: STy, last: Last) -> Result<STy, NoMemory>
     ensures { IfOk result
-        (λ a. ty_of a ≡ t.tuple_ty H.nowhere name (ty_of first) t.no_fields (last_of last)) }
+        (λ a. ty_of a ≡ t.tuple_ty t.nowhere name (ty_of first) t.no_fields (last_of last)) }
 {
     Ok(STy::Tuple {
         name,
@@ -110,7 +110,7 @@ fn answer_name(alloc: Global) -> Result<STy, NoMemory>
 // new (x: T); P
 fn new_name(alloc: Global, spelling: &str, ty: STy, then: SProc) -> Result<SProc, NoMemory>
     ensures { IfOk result
-        (λ p. proc_of p ≡ t.new H.nowhere (H.word spelling.now) (ty_of ty) (proc_of then)) }
+        (λ p. proc_of p ≡ t.new t.nowhere (H.word spelling.now) (ty_of ty) (proc_of then)) }
 {
     Ok(SProc::New {
         name: word(alloc, spelling)?,
@@ -123,7 +123,7 @@ fn new_name(alloc: Global, spelling: &str, ty: STy, then: SProc) -> Result<SProc
 // inp net (x: Un); P
 fn input(alloc: Global, spelling: &str, then: SProc) -> Result<SProc, NoMemory>
     ensures { IfOk result
-        (λ p. proc_of p ≡ t.inp H.nowhere H.net (H.word spelling.now) H.untrusted_type (proc_of then)) }
+        (λ p. proc_of p ≡ t.inp t.nowhere H.net (H.word spelling.now) H.untrusted_type (proc_of then)) }
 {
     Ok(SProc::Inp {
         channel: name(alloc, "net")?,
@@ -138,8 +138,8 @@ fn input(alloc: Global, spelling: &str, then: SProc) -> Result<SProc, NoMemory>
 fn reply(alloc: Global) -> Result<SProc, NoMemory>
     ensures { IfOk result
         (λ p. proc_of p
-        ≡ t.out H.nowhere H.net
-        (t.enc H.nowhere (H.pair (H.name (codes "m")) (H.name (codes "p"))) (H.name (codes "k")))) }
+        ≡ t.out t.nowhere H.net
+        (t.enc t.nowhere (H.pair (H.name (codes "m")) (H.name (codes "p"))) (H.name (codes "k")))) }
 {
     let body = Box::new(alloc, pair(alloc, "m", "p")?)?;
     let key = Box::new(alloc, name(alloc, "k")?)?;

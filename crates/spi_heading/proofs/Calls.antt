@@ -18,7 +18,8 @@ use Rattle.spi_grammar.proofs.Good.{end_closed}
 use Rattle.spi_parts.proofs.Bridge.{kinds_cells, OfPieces, of_piece, end_to}
 use Rattle.spi_heading.specs.Spans.{end_before, first_from, first_to}
 use Rattle.spi_heading.specs.Taking.{IsThere, TakesOneToken, TakesWord}
-use Rattle.spi_heading.proofs.Standing.{AreTokensOf, found, within_one, within_part, behind_one, behind_part, spelled, standing, IsSolid, solid, msg_solid, ty_solid}
+use Rattle.spi_heading.specs.Repeated.{IsSolid}
+use Rattle.spi_heading.proofs.Standing.{AreTokensOf, found, within_one, within_part, behind_one, behind_part, spelled, standing, solid, msg_solid, ty_solid}
 use Rattle.spi_heading.proofs.Failing.{FailsAt, memory, one_fail}
 use Rattle.spi_heading.proofs.Symbols.{HeadingTok, kind_of_token, IsNameKind, name_token, asked_fits, shared, spelling_asked, token, name, message, ty, SymbolItem}
 use Rattle.spi_heading.proofs.Rows.{ItemAt}

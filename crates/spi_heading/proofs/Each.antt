@@ -12,7 +12,8 @@ use Rattle.spi_grammar.specs.Exactly.{IsGoodKind}
 use Rattle.spi_parts.proofs.Bridge.{OfPieces, of_piece}
 use Rattle.spi_heading.specs.Spans.{end_before}
 use Rattle.spi_heading.specs.Each.{each_pieces, IsWhole, EachAt, ReadsEach}
-use Rattle.spi_heading.proofs.Standing.{AreTokensOf, stands_both, stands_within, stands_length, spelled, standing, IsSolid, solid}
+use Rattle.spi_heading.specs.Repeated.{IsSolid}
+use Rattle.spi_heading.proofs.Standing.{AreTokensOf, stands_both, stands_within, stands_length, spelled, standing, solid}
 use Rattle.spi_heading.proofs.Failing.{ReadAt, fails_from, fails_to}
 use Rattle.spi_heading.proofs.Calls.{part_stands}
 use Rattle.spi_heading.proofs.Rows.{fits_at, stands_read}

@@ -6,7 +6,6 @@ use Rattle.spi_lex.specs.declared.token.Reserved.TheVariants as word
 use Rattle.spi_tree.specs.declared.tree.SWord.{SWord}
 use Rattle.spi_tree.specs.Trees as t
 use Rattle.spi_tree.specs.Pieces.{cells}
-use Rattle.spi_parse.specs.Bare.{nowhere}
 use Rattle.spi_parse.specs.Formed.{whole_decl, IsWholeDecl}
 use Rattle.spi_grammar.specs.Exactly.{kinds, IsGoodKind}
 use Rattle.spi_grammar.proofs.Good.{IsSome}
@@ -17,6 +16,7 @@ use Rattle.spi_heading.proofs.Symbols.{asked_fits, shared, spelling_asked}
 use Rattle.spi_heading.proofs.Rows.{row_good}
 use Rattle.spi_heading.proofs.Names.{Shareds, shared_row, shared_are}
 use Rattle.spi_heading.proofs.RowParts.{rows_same}
+use Rattle.spi_tree.specs.Trees.{nowhere}
 
 abbrev pub BeginsDeclared : Kind → Type 0
 BeginsDeclared k = (k ≡ K.Reserved word.Free) ⊎ (k ≡ K.Reserved word.TypeWord)

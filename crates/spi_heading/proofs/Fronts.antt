@@ -1,5 +1,6 @@
 -- The version, the declarations and the shared names in front of what stands behind them in a whole text.
-use Rattle.std.proofs.Common.{◌≡◌, ℕ, ◌≤◌, ◌==◌, Bool, true, false, List, ◌∷◌, length, Ok, Err, refl, ◌∙◌, ◌⊎◌, inl, inr}
+use Rattle.std.proofs.Common.{◌≡◌, ℕ, ◌≤◌, ◌==◌, Bool, true, false, List, ◌∷◌, length, Result, Ok, Err, refl, sym, subst, ◌∙◌, ◌⊎◌, inl, inr}
+use Rattle.std.specs.Result.{IsErrAnd}
 use Rattle.spi_lex.specs.declared.token.Kind.{Kind}
 use Rattle.spi_lex.specs.declared.token.Kind.TheVariants as K
 use Rattle.spi_lex.specs.declared.token.Reserved.TheVariants as word
@@ -16,7 +17,10 @@ use Rattle.spi_grammar.proofs.Good.{Differ, begins_many}
 use Rattle.spi_parts.proofs.Behind.{decl_behind}
 use Rattle.spi_parts.proofs.Alone.{Decls}
 use Rattle.spi_heading.specs.Headings as h
-use Rattle.spi_heading.specs.Taking.{IsThere, version_word, ReadsVersion}
+use Rattle.spi_heading.specs.Reading.{HeadingAt, FailsHeading, no_version, no_declared, no_shared, ReadsHeading}
+use Rattle.spi_heading.specs.Repeated.{IsSolidKind, declared_kind, shared_kind}
+use Rattle.spi_heading.specs.declared.heading.Heading.{Heading}
+use Rattle.spi_heading.specs.Taking.{IsTextOf, IsThere, version_word, ReadsVersion}
 use Rattle.spi_heading.specs.Each.{EachAt, ReadsEach}
 use Rattle.spi_heading.specs.Grammar.{shared_word, shared_pieces, whole_shared, IsShared, IsWholeShared, BeginsDecl, BeginsShared}
 use Rattle.spi_heading.proofs.Standing.{decl_solid}
@@ -25,7 +29,7 @@ use Rattle.spi_heading.proofs.Each.{Along, each_along}
 use Rattle.spi_heading.proofs.Names.{Shareds, shared_behind, shared_solid}
 use Rattle.spi_heading.proofs.Wholes.{WholeFails, RestOfWhole, many_fault, many_end, each_next}
 use Rattle.spi_heading.proofs.Firsts.{BeginsDeclared, decls_begin, decls_some, decls_good, shareds_begin, shareds_some, shareds_good}
-use Rattle.spi_heading.proofs.Versions.{Cells, InLaterVersion, version_fits, after_version, version_fault}
+use Rattle.spi_heading.proofs.Versions.{Cells, InLaterVersion, version_fits, version_known, after_version, version_fault}
 
 -- the tokens with which the version, a shared name or a declaration begins
 abbrev pub BeginsFront : Kind → Type 0
@@ -114,35 +118,67 @@ module _ {Whole : Cells → Type 0} {Next : Bool → Cells → Type 0} (is : IsF
   abbrev Fronts : Bool → Cells → Type 0
   Fronts v = Front v (Next v)
 
-  pub version_answer : (f : ParseFault) → ReadsVersion (Err f) ts → WholeFails Whole ts f
+  version_answer : (f : ParseFault) → ReadsVersion (Err f) ts → WholeFails Whole ts f
   version_answer f h = version_fault Whole Fronts is.same (version_never false (Next false) (is.live false) (is.never false)) (front_live true (Next true) (is.live true) (is.never true)) ts words f h
 
   module _ (r : ℕ × ℕ) (read : ReadsVersion (Ok r) ts) (within : r.1 ≤ length ts) where
     start : RestOfWhole Whole (Front (r.0 == 2) (Next (r.0 == 2))) ts r.1
     start = after_version Whole Fronts is.same (version_never false (Next false) (is.live false) (is.never false)) (front_live true (Next true) (is.live true) (is.never true)) ts words r read
 
-    pub decls_answer : (f : ParseFault) → ReadsEach (λ (ds : List t.Declared). ds) decl_pieces (r.0 == 2) (IsDeclared (r.0 == 2)) BeginsDecl (Err f) ts r.1 → WholeFails Whole ts f
+    decls_answer : (f : ParseFault) → ReadsEach (λ (ds : List t.Declared). ds) decl_pieces (r.0 == 2) (IsDeclared (r.0 == 2)) BeginsDecl (Err f) ts r.1 → WholeFails Whole ts f
     decls_answer f e =
         let v = r.0 == 2 in
         decls_fault v (Next v) (is.live v) (is.never v) Whole ts (version_fits ts words r read) e.0 r.1 e.1 (each_along decl_pieces decl_behind (IsDeclared v) ts decl_solid r.1 e.1 e.0 within e.2) start e.3 f
         (fails_from (λ (d : t.Declared). d) whole_decl (IsWholeDecl v) ts e.1 f e.4)
 
     module _ (ds : List t.Declared) (j : ℕ) (d : EachAt decl_pieces (IsDeclared (r.0 == 2)) ds ts r.1 j × (BeginsDecl ts j → ⊥)) where
-      pub decls_stand : Along decl_pieces decl_behind (IsDeclared (r.0 == 2)) ts r.1 ds j
+      decls_stand : Along decl_pieces decl_behind (IsDeclared (r.0 == 2)) ts r.1 ds j
       decls_stand = each_along decl_pieces decl_behind (IsDeclared (r.0 == 2)) ts decl_solid r.1 j ds within d.0
 
       behind_decls : RestOfWhole Whole (SharedFront (r.0 == 2) (Next (r.0 == 2))) ts j
       behind_decls = let v = r.0 == 2 in after_decls v (Next v) (is.live v) (is.never v) Whole ts (version_fits ts words r read) ds r.1 j decls_stand start d.1
 
-      pub shared_answer : (f : ParseFault) → ReadsEach (λ (ss : List h.Shared). ss) shared_pieces (r.0 == 2) (IsShared (r.0 == 2)) BeginsShared (Err f) ts j → WholeFails Whole ts f
+      shared_answer : (f : ParseFault) → ReadsEach (λ (ss : List h.Shared). ss) shared_pieces (r.0 == 2) (IsShared (r.0 == 2)) BeginsShared (Err f) ts j → WholeFails Whole ts f
       shared_answer f e =
           let v = r.0 == 2 in
           shared_fault v (Next v) (is.live v) (is.never v) Whole ts (version_fits ts words r read) e.0 j e.1 (each_along shared_pieces shared_behind (IsShared v) ts shared_solid j e.1 e.0 d.0.within e.2) behind_decls e.3 f
           (fails_from (λ (s : h.Shared). s) whole_shared (IsWholeShared v) ts e.1 f e.4)
 
       module _ (ss : List h.Shared) (k : ℕ) (s : EachAt shared_pieces (IsShared (r.0 == 2)) ss ts j k × (BeginsShared ts k → ⊥)) where
-        pub shared_stand : Along shared_pieces shared_behind (IsShared (r.0 == 2)) ts j ss k
+        shared_stand : Along shared_pieces shared_behind (IsShared (r.0 == 2)) ts j ss k
         shared_stand = each_along shared_pieces shared_behind (IsShared (r.0 == 2)) ts shared_solid j k ss d.0.within s.0
 
-        pub behind_front : RestOfWhole Whole (Next (r.0 == 2)) ts k
+        behind_front : RestOfWhole Whole (Next (r.0 == 2)) ts k
         behind_front = let v = r.0 == 2 in after_shared v (Next v) (is.live v) (is.never v) Whole ts (version_fits ts words r read) ss j k shared_stand behind_decls s.1
+
+  -- ---- what reading the heading answers
+
+  pub heading_answer : (f : ParseFault) → FailsHeading f ts → WholeFails Whole ts f
+  heading_answer f (no_version h) = version_answer f h
+  heading_answer f (no_declared version i a e) = decls_answer (version, i) a.read a.within f e
+  heading_answer f (no_shared version ds j a e) = shared_answer (version, a.start) a.front.read a.front.within ds j a.decls f e
+
+  module _ (version : ℕ) (ds : List t.Declared) (ss : List h.Shared) (k : ℕ) (a : HeadingAt version ds ss ts k) where
+    pub heading_decls : Along decl_pieces decl_behind (IsDeclared (version == 2)) ts a.front.start ds a.start
+    heading_decls = decls_stand (version, a.front.start) a.front.front.read a.front.front.within ds a.start a.front.decls
+
+    pub heading_shared : Along shared_pieces shared_behind (IsShared (version == 2)) ts a.start ss k
+    heading_shared = shared_stand (version, a.front.start) a.front.front.read a.front.front.within ds a.start a.front.decls ss k a.shared
+
+    pub behind_heading : RestOfWhole Whole (Next (version == 2)) ts k
+    behind_heading = behind_front (version, a.front.start) a.front.front.read a.front.front.within ds a.start a.front.decls ss k a.shared
+
+-- ---- reading the heading
+
+pub declared_solid : IsSolidKind declared_kind
+declared_solid = record { behind = decl_behind; solid = decl_solid }
+
+pub shareds_solid : IsSolidKind shared_kind
+shareds_solid = record { behind = shared_behind; solid = shared_solid }
+
+pub version_text : (ts : List Token) → length ts ≤ 16_777_216 → AreWordsFit (is_version_2 (kinds_of ts)) (kinds_of ts) → (r : ℕ × ℕ) → ReadsVersion (Ok r) ts → IsTextOf r.0 ts
+version_text ts size words r read = record { size = size; known = version_known ts r read; words = version_fits ts words r read }
+
+pub heading_fails : (ts : List Token) (f : ParseFault) (r : Result (Heading × ℕ) ParseFault) → IsErrAnd r (λ e. e ≡ f) → FailsHeading f ts → ReadsHeading r ts
+heading_fails ts f (Ok x) is h = absurd is
+heading_fails ts f (Err e) is h = subst (λ (g : ParseFault). FailsHeading g ts) (sym is) h

@@ -6,7 +6,7 @@ use Rattle.spi_tree.specs.Pieces.{Piece}
 use Rattle.spi_parts.proofs.Bridge.{OfPieces}
 use Rattle.spi_heading.specs.Headings as h
 use Rattle.spi_heading.specs.Grammar.{shared_pieces, whole_named, whole_shared, IsWholeNamed, IsWholeShared}
-use Rattle.spi_heading.proofs.Standing.{IsSolid}
+use Rattle.spi_heading.specs.Repeated.{IsSolid}
 use Rattle.spi_heading.proofs.Symbols.{HeadingSym, token, name, ty, opening, closing, the_mark, the_word, shared}
 use Rattle.spi_heading.proofs.Rows.{Values, row_behind}
 use Rattle.spi_heading.proofs.RowParts.{AreRows}

@@ -13,7 +13,8 @@ use Rattle.spi_grammar.specs.Exactly.{kinds, IsPrefixFree}
 use Rattle.spi_parts.proofs.Bridge.{OfPieces}
 use Rattle.spi_heading.specs.Spans.{start_of_token, span_over}
 use Rattle.spi_heading.specs.Taking.{IsThere}
-use Rattle.spi_heading.proofs.Standing.{AreTokensOf, IsSolid}
+use Rattle.spi_heading.specs.Repeated.{IsSolid}
+use Rattle.spi_heading.proofs.Standing.{AreTokensOf}
 use Rattle.spi_heading.proofs.Failing.{FailsAt, IsToldBy, told_fail, fails_to}
 use Rattle.spi_heading.proofs.Symbols.{HeadingSym, token, opening, HeadingTok, kind_of_token}
 use Rattle.spi_heading.proofs.Rows.{Values, AreItems, Row, row_good, row_pieces, row_from, RowAt, RowFails, fits_at}

@@ -10,7 +10,8 @@ use Rattle.spi_parse.specs.declared.fault.ParseFault.{ParseFault}
 use Rattle.spi_parse.specs.Exact as exact
 use Rattle.spi_grammar.specs.Exactly.{IsSame}
 use Rattle.spi_parts.proofs.Bridge.{OfPieces}
-use Rattle.spi_heading.proofs.Standing.{AreTokensOf, IsSolid}
+use Rattle.spi_heading.specs.Repeated.{IsSolid}
+use Rattle.spi_heading.proofs.Standing.{AreTokensOf}
 use Rattle.spi_heading.proofs.Failing.{FailsAt, same_fail, fails_from, fails_to}
 use Rattle.spi_heading.proofs.Symbols.{HeadingSym}
 use Rattle.spi_heading.proofs.Rows.{Values, join, AreItems, Row, row_good, row_pieces, row_into, row_from, RowAt, RowFails, row_fits}

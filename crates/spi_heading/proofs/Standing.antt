@@ -8,6 +8,7 @@ use Rattle.spi_tree.specs.Trees as t
 use Rattle.spi_tree.specs.Pieces.{Piece, opens, cell, closes, cells, kinds_in, in_seq, at_level, msg_pieces, ty_pieces, decl_pieces, proc_pieces}
 use Rattle.spi_parse.specs.Exact.{Spells}
 use Rattle.spi_grammar.specs.Exactly.{IsWithinLimits}
+use Rattle.spi_heading.specs.Repeated.{IsSolid}
 use Rattle.spi_heading.specs.Spans.{start_of_token, end_before, first_from, first_to}
 
 -- the pieces are those of the tokens from number i up to number j, and no node is above a limit
@@ -134,12 +135,6 @@ pub standing : (ts : List Token) (ps : List Piece) (i j : ℕ) → i ≤ length 
 standing ts ps i j v w h = stands_on ts ps i j (drop i ts) (end_before ts i) v w refl refl h
 
 -- ---- where the token before a part ends does not matter to it
-
-abbrev pub IsSolid : List Piece → Type 0
-IsSolid [] = ⊥
-IsSolid (opens from ∷ ps) = IsSolid ps
-IsSolid (cell k deep ∷ ps) = Unit {0}
-IsSolid (closes to ∷ ps) = ⊥
 
 pub solid : (ps : List Piece) → IsSolid ps → (left : List Token) (e e' : ℕ) (ts : List Token) → Spells left e ps ts → Spells left e' ps ts
 solid [] s left e e' ts h = absurd s

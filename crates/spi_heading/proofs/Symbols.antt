@@ -11,7 +11,6 @@ use Rattle.spi_tree.specs.declared.tree.SWord.{SWord}
 use Rattle.spi_tree.specs.Trees as t
 use Rattle.spi_tree.specs.Pieces.{Piece, opens, cell, closes, cells, kinds_in, at_level, a_token, a_word, a_mark, msg_pieces, ty_pieces, proc_pieces}
 use Rattle.spi_tree.specs.Formed.{IsWordFit, AreWordsFit, IsMsg, IsTy, IsProc}
-use Rattle.spi_parse.specs.Bare.{nowhere}
 use Rattle.spi_parse.specs.Formed.{whole_type, whole_message, whole_process, IsWholeType, IsWholeMessage, IsWholeProcess}
 use Rattle.spi_parse.proofs.Words.{fit_any, fits_append, fits_front}
 use Rattle.spi_grammar.specs.Exactly.{kinds, IsPrefixFree, IsEven, IsGoodKind, Then, Nothing, One}
@@ -20,6 +19,7 @@ use Rattle.spi_parts.proofs.Bridge.{of_piece}
 use Rattle.spi_parts.proofs.Behind.{msg_behind, ty_behind, proc_behind}
 use Rattle.spi_parts.proofs.Alone.{Types, types_closed, types_even, types_live, Messages, messages_closed, messages_even, messages_live, kinds_in_append}
 use Rattle.spi_parts.proofs.Processes.{Processes, IsBraceClose, braced_good}
+use Rattle.spi_tree.specs.Trees.{nowhere}
 
 pub cells_append : (a b : List Piece) → cells (a ++ b) ≡ cells a ++ cells b
 cells_append [] b = refl

@@ -4,3 +4,5 @@ pub mod Spans
 pub mod Grammar
 pub mod Taking
 pub mod Each
+pub mod Repeated
+pub mod Reading

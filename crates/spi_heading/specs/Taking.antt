@@ -1,12 +1,20 @@
--- What is taken of single tokens, by the number of the token.
-use Rattle.std.specs.Prelude.{◌≡◌, ◌⊎◌, ℕ, ◌+◌, List, slice_get, Some, Result, Ok, Err, codes}
+-- Texts of a version, and what is taken of their single tokens, by the number of the token.
+use Rattle.std.specs.Prelude.{◌≡◌, ◌≤◌, ◌⊎◌, ◌==◌, ℕ, ◌+◌, List, length, slice_get, Some, Result, Ok, Err, codes}
 use Rattle.spi_lex.specs.declared.token.Kind.{Kind}
 use Rattle.spi_lex.specs.declared.token.Kind.TheVariants as kinds
 use Rattle.spi_lex.specs.declared.token.Mark.TheVariants as mark
 use Rattle.spi_lex.specs.declared.token.Token.{Token}
+use Rattle.spi_lex.specs.Lexing.{kinds_of}
 use Rattle.spi_tree.specs.declared.tree.SWord.{SWord}
+use Rattle.spi_tree.specs.Formed.{AreWordsFit}
 use Rattle.spi_parse.specs.declared.fault.ParseFault.{ParseFault}
 use Rattle.spi_parse.specs.declared.fault.ParseFault.TheVariants as faults
+
+-- the version is known, its words fit, and the numbers of the tokens are small
+pub record IsTextOf (version : ℕ) (ts : List Token) : Type 0 where
+  pub size : length ts ≤ 16_777_216
+  pub known : (version ≡ 1) ⊎ (version ≡ 2)
+  pub words : AreWordsFit (version == 2) (kinds_of ts)
 
 -- the token of this number is such a one
 abbrev pub IsThere : List Token → ℕ → Kind → Type 0

@@ -1,15 +1,14 @@
 //! Names with their types, and shared names.
 
-ghost use Rattle.std.specs.Prelude.{◌≡◌, ◌≤◌, ◌⊎◌, ◌==◌, length, IfOk};
-ghost use Rattle.spi_lex.specs.Lexing.{kinds_of};
-ghost use Rattle.spi_tree.specs.Formed.{AreWordsFit};
+ghost use Rattle.std.specs.Prelude.{◌≤◌, ◌==◌, length, IfOk};
 ghost use Rattle.spi_parse.specs.Exact.{Reads};
 ghost use Rattle.spi_heading.specs.Grammar.{whole_named, whole_shared, IsWholeNamed, IsWholeShared};
+ghost use Rattle.spi_heading.specs.Taking.{IsTextOf};
 ghost use Rattle.spi_heading.specs.Views.{named_of, shared_of};
 
-use crate::tokens::{span_between, take_mark, take_spelled, take_word};
+use crate::tokens::{ReadPart, span_between, take_mark, take_spelled, take_word};
 use spi_lex::{Mark, Token};
-use spi_parse::{ParseFault, type_at};
+use spi_parse::type_at;
 use spi_text::Span;
 use spi_tree::{STy, SWord};
 use std::alloc::Global;
@@ -40,15 +39,8 @@ impl Drop for Shared {
 
 /// The name with its type that the tokens from number `at` on begin with, in a text of the version, and the number of the
 /// token behind it. Where they begin with none that is within the nesting limits, the faults are as `type_at` has them.
-pub fn named_at(
-    alloc: Global,
-    tokens: &[Token],
-    at: u32,
-    version: u32,
-) -> Result<(Named, u32), ParseFault>
-    requires size { length tokens.now ≤ 16_777_216 }
-    requires known { (version ≡ 1) ⊎ (version ≡ 2) }
-    requires words { AreWordsFit (version == 2) (kinds_of tokens.now) }
+pub fn named_at(alloc: Global, tokens: &[Token], at: u32, version: u32) -> ReadPart<Named>
+    requires text { IsTextOf version tokens.now }
     ensures read { Reads named_of whole_named (IsWholeNamed (version == 2)) result tokens.now at }
     ensures within { IfOk result (λ r. r.1 ≤ length tokens.now) }
 {
@@ -60,15 +52,8 @@ pub fn named_at(
 
 /// The shared name that the tokens from number `at` on begin with, in a text of the version, and the number of the token
 /// behind it. Where they begin with none that is within the nesting limits, the faults are as `type_at` has them.
-pub fn shared_at(
-    alloc: Global,
-    tokens: &[Token],
-    at: u32,
-    version: u32,
-) -> Result<(Shared, u32), ParseFault>
-    requires size { length tokens.now ≤ 16_777_216 }
-    requires known { (version ≡ 1) ⊎ (version ≡ 2) }
-    requires words { AreWordsFit (version == 2) (kinds_of tokens.now) }
+pub fn shared_at(alloc: Global, tokens: &[Token], at: u32, version: u32) -> ReadPart<Shared>
+    requires text { IsTextOf version tokens.now }
     ensures read { Reads shared_of whole_shared (IsWholeShared (version == 2)) result tokens.now at }
     ensures within { IfOk result (λ r. r.1 ≤ length tokens.now) }
 {

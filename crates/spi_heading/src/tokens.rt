@@ -11,6 +11,9 @@ use spi_text::{Span, Text};
 use spi_tree::SWord;
 use std::alloc::Global;
 
+/// What is read from a token on, with the number of the token behind it, or the fault.
+pub type ReadPart<T> = Result<(T, u32), ParseFault>;
+
 fn is_mark(kind: &Kind, mark: Mark) -> bool
     ensures { IsTrue result ↔ kind.now ≡ kinds.Mark mark }
 {
@@ -142,7 +145,7 @@ fn take_two(tokens: &[Token], at: u32) -> Result<u32, ParseFault>
 /// The version that the tokens begin with, and the number of the token behind it: 2 and 3 where they begin with the word
 /// `version`, the number 2 and a semicolon, and 1 and 0 where they don't begin with that word. `Syntax` is at the token behind
 /// the word that is another.
-pub fn version_of(tokens: &[Token]) -> Result<(u32, u32), ParseFault>
+pub fn version_of(tokens: &[Token]) -> ReadPart<u32>
     requires size { length tokens.now ≤ 16_777_216 }
     ensures read { ReadsVersion result tokens.now }
     ensures within { IfOk result (λ r. r.1 ≤ length tokens.now) }
@@ -157,7 +160,7 @@ pub fn version_of(tokens: &[Token]) -> Result<(u32, u32), ParseFault>
 
 /// Takes a word that isn't reserved, and gives it with the number of the token behind it. Where another token stands there, or
 /// none, that is `Syntax`. `NoMemory` comes where memory runs out.
-pub fn take_word(alloc: Global, tokens: &[Token], at: u32) -> Result<(SWord, u32), ParseFault>
+pub fn take_word(alloc: Global, tokens: &[Token], at: u32) -> ReadPart<SWord>
     requires size { length tokens.now ≤ 16_777_216 }
     ensures taken { TakesWord result tokens.now at }
     ensures within { IfOk result (λ r. r.1 ≤ length tokens.now) }

@@ -7,14 +7,14 @@ use Rattle.spi_tree.specs.declared.tree.SWord.{SWord}
 use Rattle.spi_tree.specs.Trees as t
 use Rattle.spi_narrate.specs.Narrations as n
 use Rattle.spi_term.specs.Term.{Message, name, Ty, Process, split, select, decrypt, check, begin, end, end_many, cast, fresh}
-use Rattle.spi_term.specs.Substitution.{process_put, process_put_two}
+use Rattle.spi_term.specs.Substitution.{process_put, process_put_two, or_unit}
 use Rattle.spi_run.specs.Reduction.{Event, begun, ended, ended_many, Acts, acts_split, acts_select, acts_decrypt, acts_check, acts_begin, acts_end, acts_end_many, acts_cast, acts_fresh}
 use Rattle.spi_replay.specs.Holding.{IsClosed}
 use Rattle.spi_replay.specs.Stepping.{largest, bound_here}
 use Rattle.spi_scope.specs.Scope.{Word}
 use Rattle.spi_scope.specs.Meaning.{nested}
 use Rattle.spi_weave.specs.Woven.{prefixed}
-use Rattle.spi_honest.specs.Reading.{Map, at_word, or_unit, word_in, valued, all_valued, value_in_map}
+use Rattle.spi_honest.specs.Reading.{Map, at_word, word_in, valued, all_valued, value_in_map}
 use Rattle.spi_honest.specs.Narrated.{with_message, Does, does_split, does_match, does_decrypt, does_check, does_begin, does_end, does_end_many, does_cast, does_new, shown_by_event}
 use Rattle.spi_honest.specs.Holds.{with, Holds, AreClosed}
 use Rattle.spi_honest.proofs.Held.{holds_one, holds_two}

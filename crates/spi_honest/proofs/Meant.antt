@@ -8,9 +8,10 @@ use Rattle.spi_term.specs.Term.{Message, bound, name, unit, in_left, in_right, e
 use Rattle.spi_replay.specs.Holding.{IsClosed}
 use Rattle.spi_scope.specs.Scope.{Word, Names, number_of, Abbreviations}
 use Rattle.spi_scope.specs.Meaning.{name_meant, nested, message_in, messages_in, type_in, process_in}
-use Rattle.spi_honest.specs.Reading.{at_word, or_unit, word_in, valued, all_valued, names_numbered}
+use Rattle.spi_honest.specs.Reading.{at_word, word_in, valued, all_valued, names_numbered}
 use Rattle.spi_honest.specs.Holds.{deeper, index_of, or_bound_at, under_names, Holds, AreClosed}
 use Rattle.spi_honest.proofs.Held.{IsWithinSome, index_within}
+use Rattle.spi_term.specs.Substitution.{or_unit}
 
 mutual
   pub message_valued : (k : ℕ) (xs : Names) (m : t.Msg) → message_in k xs m ≡ valued (λ w. name_meant k (length xs) (number_of xs w)) m

@@ -1,7 +1,7 @@
 -- The shared names are made, and the roles are taken apart.
 use Rattle.std.proofs.Common.{◌≡◌, ℕ, zero, suc, ◌+◌, ◌<◌, ◌≤◌, List, [], ◌∷◌, ◌++◌, length, slice_set, slice_get, refl, sym, ap, ◌∙◌, subst, arith, Option, None, append_assoc, length-append, option_to_list}
 use Rattle.spi_tree.specs.declared.tree.SWord.{SWord}
-use Rattle.spi_heading.specs.Headings.{Shared}
+use Rattle.spi_heading.specs.Headings.{Shared, with_shared}
 use Rattle.spi_narrate.specs.Narrations as n
 use Rattle.spi_term.specs.Lists.{At, at_first, at_later}
 use Rattle.spi_term.proofs.Lists.{at_get}
@@ -14,7 +14,7 @@ use Rattle.spi_scope.specs.Scope.{Names}
 use Rattle.spi_scope.specs.StandsFor.{Meant}
 use Rattle.spi_weave.specs.Woven.{role_process, roles_together, sharing}
 use Rattle.spi_honest.specs.Reading.{word_in, names_numbered}
-use Rattle.spi_honest.specs.Narrated.{with_message, free_of, with_shared, narrated_begin}
+use Rattle.spi_honest.specs.Narrated.{with_message, free_of, narrated_begin}
 use Rattle.spi_honest.specs.Schedule.{role_steps}
 use Rattle.spi_honest.specs.Holds.{Holds}
 use Rattle.spi_honest.specs.Honest.{Replays, opening}

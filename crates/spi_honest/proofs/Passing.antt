@@ -14,7 +14,7 @@ use Rattle.spi_replay.specs.Stepping.{Pooled, IsTaken, largest, bound_by}
 use Rattle.spi_replay.specs.Ready.{PutsOut, puts_out, TakesIn, takes_once as takes_in_once}
 use Rattle.spi_scope.specs.Scope.{Word, Names, number_of}
 use Rattle.spi_scope.specs.StandsFor.{Meant}
-use Rattle.spi_honest.specs.Reading.{Map, at_word, or_unit, word_in, value_in_map}
+use Rattle.spi_honest.specs.Reading.{Map, at_word, word_in, value_in_map}
 use Rattle.spi_honest.specs.Narrated.{with_message, giving, Told, IsFreeWord, TellsLine, tells_pass, shown_by_event, free_of}
 use Rattle.spi_honest.specs.Schedule.{moved, line_steps}
 use Rattle.spi_honest.specs.Roles.{IsRole}
@@ -23,6 +23,7 @@ use Rattle.spi_honest.specs.Progress.{Progress}
 use Rattle.spi_honest.proofs.Steps.{at_places, mid, parted, parts_takes, parts_bound, parts_stand, parts_out, parts_none, parts_length, receives, talk_takes, talk_bound, talk_stands, talk_length, received_now}
 use Rattle.spi_honest.proofs.Alone.{valued_closed}
 use Rattle.spi_honest.proofs.Telling.{narrates_more, replays_more}
+use Rattle.spi_term.specs.Substitution.{or_unit}
 
 -- the free name at the word after `on`
 free_word : (o : Option Message) (i : ℕ) → or_unit o ≡ name i → o ≡ Some (name i)

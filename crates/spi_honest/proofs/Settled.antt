@@ -14,7 +14,7 @@ use Rattle.spi_scope.specs.Points.{all_types}
 use Rattle.spi_scope.specs.StandsFor.{Meant, StandsFor}
 use Rattle.spi_weave.specs.Woven.{role_process, roles_beside, roles_together, sharing, woven}
 use Rattle.spi_honest.specs.Reading.{word_in, names_numbered}
-use Rattle.spi_honest.specs.Narrated.{narrates_none, free_of, with_shared, narrated_begin}
+use Rattle.spi_honest.specs.Narrated.{narrates_none, free_of, narrated_begin}
 use Rattle.spi_honest.specs.Schedule.{line_steps, role_steps, places_from, places_of, others}
 use Rattle.spi_honest.specs.Holds.{Holds}
 use Rattle.spi_honest.specs.Roles.{AreRolesDistinct, IsTellable}
@@ -24,6 +24,7 @@ use Rattle.spi_honest.specs.Progress.{Progress, place_number, beside_stop, steps
 use Rattle.spi_honest.proofs.Meant.{holds_meaning, names_closed}
 use Rattle.spi_honest.proofs.Standing.{chosen, not_chosen}
 use Rattle.spi_honest.proofs.Opened.{place_at, each_length, each_more}
+use Rattle.spi_heading.specs.Headings.{with_shared}
 
 -- where an element stands
 pub in_at : {A : Type 0} {x : A} {xs : List A} → In x xs → (j : ℕ) × At xs j x

@@ -39,19 +39,25 @@ Holds (t.inp s m w a p) bs f r = (u : Ty) × (x : Process) × (r ≡ recv (value
     × Holds p (w.word ∷ bs) f x
 Holds (t.repeat s m w a p) bs f r = (u : Ty) × (x : Process) × (r ≡ serve (valued (under_names bs f) m) u x)
     × Holds p (w.word ∷ bs) f x
-Holds (t.split s m w a y c p) bs f r = (u v : Ty) × (x : Process) × (r ≡ split (valued (under_names bs f) m) u v x)
+Holds (t.split s m w a y c p) bs f r =
+    (u v : Ty) × (x : Process) × (r ≡ split (valued (under_names bs f) m) u v x)
     × Holds p (y.word ∷ w.word ∷ bs) f x
 Holds (t.match s m w a n y c p) bs f r = (u v : Ty) × (x : Process)
-    × (r ≡ select (valued (under_names bs f) m) u (valued (under_names bs f) n) v x) × Holds p (y.word ∷ bs) f x
+    × (r ≡ select (valued (under_names bs f) m) u (valued (under_names bs f) n) v x)
+    × Holds p (y.word ∷ bs) f x
 Holds (t.case s m w a p y c q) bs f r = (u v : Ty) × (x z : Process)
-    × (r ≡ branch (valued (under_names bs f) m) u x v z) × Holds p (w.word ∷ bs) f x × Holds q (y.word ∷ bs) f z
+    × (r ≡ branch (valued (under_names bs f) m) u x v z) × Holds p (w.word ∷ bs) f x
+    × Holds q (y.word ∷ bs) f z
 Holds (t.decrypt s m w a n p) bs f r = (u : Ty) × (x : Process)
-    × (r ≡ decrypt (valued (under_names bs f) m) u (valued (under_names bs f) n) x) × Holds p (w.word ∷ bs) f x
-Holds (t.check s m n p) bs f r = (x : Process) × (r ≡ check (valued (under_names bs f) m) (valued (under_names bs f) n) x)
+    × (r ≡ decrypt (valued (under_names bs f) m) u (valued (under_names bs f) n) x)
+    × Holds p (w.word ∷ bs) f x
+Holds (t.check s m n p) bs f r =
+    (x : Process) × (r ≡ check (valued (under_names bs f) m) (valued (under_names bs f) n) x)
     × Holds p bs f x
 Holds (t.begin s m p) bs f r = (x : Process) × (r ≡ begin (valued (under_names bs f) m) x) × Holds p bs f x
 Holds (t.end s m p) bs f r = (x : Process) × (r ≡ end (valued (under_names bs f) m) x) × Holds p bs f x
-Holds (t.end_many s m p) bs f r = (x : Process) × (r ≡ end_many (valued (under_names bs f) m) x) × Holds p bs f x
+Holds (t.end_many s m p) bs f r =
+    (x : Process) × (r ≡ end_many (valued (under_names bs f) m) x) × Holds p bs f x
 Holds (t.cast s m w a p) bs f r = (u : Ty) × (x : Process) × (r ≡ cast (valued (under_names bs f) m) u x)
     × Holds p (w.word ∷ bs) f x
 Holds (t.new s w a p) bs f r = (u : Ty) × (x : Process) × (r ≡ fresh u x) × Holds p (w.word ∷ bs) f x

@@ -4,7 +4,7 @@ use Rattle.std.specs.Str.{bytes_eq}
 use Rattle.spi_text.specs.declared.lines.Span.{Span}
 use Rattle.spi_tree.specs.declared.tree.SWord.{SWord}
 use Rattle.spi_tree.specs.Trees.{Msg, Ty}
-use Rattle.spi_heading.specs.Headings.{Shared}
+use Rattle.spi_heading.specs.Headings.{with_shared}
 use Rattle.spi_narrate.specs.Narrations as n
 use Rattle.spi_term.specs.Term.{Message, name, pair, enc}
 use Rattle.spi_run.specs.Reduction.{Event, begun, ended, ended_many}
@@ -20,18 +20,23 @@ with_message x m = record { word = x.word; message = m }
 -- names are used then. This is the table of reduction, form by form.
 pub data Does (k : ℕ) (g : Map) : n.Prefix → Map → Option Event → ℕ → Type 0 where
   does_split : {s : Span} {m : Msg} {x y : SWord} {t u : Ty} {a b : Message}
-      → value_in_map g m ≡ pair a b → Does k g (n.split s m x t y u) (with_message y b ∷ with_message x a ∷ []) None k
+      → value_in_map g m ≡ pair a b
+      → Does k g (n.split s m x t y u) (with_message y b ∷ with_message x a ∷ []) None k
   does_match : {s : Span} {m l : Msg} {x y : SWord} {t u : Ty} {a b : Message}
-      → value_in_map g m ≡ pair a b → a ≡ value_in_map g l → Does k g (n.match s m x t l y u) (with_message y b ∷ []) None k
+      → value_in_map g m ≡ pair a b → a ≡ value_in_map g l
+      → Does k g (n.match s m x t l y u) (with_message y b ∷ []) None k
   does_decrypt : {s : Span} {m l : Msg} {x : SWord} {t : Ty} {a b : Message}
-      → value_in_map g m ≡ enc a b → b ≡ value_in_map g l → Does k g (n.decrypt s m x t l) (with_message x a ∷ []) None k
-  does_check : {s : Span} {m l : Msg} → value_in_map g m ≡ value_in_map g l → Does k g (n.check s m l) [] None k
+      → value_in_map g m ≡ enc a b → b ≡ value_in_map g l
+      → Does k g (n.decrypt s m x t l) (with_message x a ∷ []) None k
+  does_check : {s : Span} {m l : Msg} → value_in_map g m ≡ value_in_map g l
+      → Does k g (n.check s m l) [] None k
   does_begin : {s : Span} {m : Msg} → Does k g (n.begin s m) [] (Some (begun (value_in_map g m))) k
   does_end : {s : Span} {m : Msg} → Does k g (n.end s m) [] (Some (ended (value_in_map g m))) k
   does_end_many : {s : Span} {m : Msg} → Does k g (n.end_many s m) [] (Some (ended_many (value_in_map g m))) k
   does_cast : {s : Span} {m : Msg} {x : SWord} {t : Ty}
       → Does k g (n.cast s m x t) (with_message x (value_in_map g m) ∷ []) None k
-  does_new : {s : Span} {x : SWord} {t : Ty} → Does k g (n.new s x t) (with_message x (name k) ∷ []) None (suc k)
+  does_new : {s : Span} {x : SWord} {t : Ty}
+      → Does k g (n.new s x t) (with_message x (name k) ∷ []) None (suc k)
 
 -- how many names are used, and what each role has
 pub record Told : Type 0 where
@@ -92,10 +97,7 @@ pub record NarratesSmall (free : Names) (o : Told) (ls : List n.Line) (es : List
 abbrev pub free_of : n.Narration → Names
 free_of x = all_names [] x.decls
 
-abbrev pub with_shared : Names → List Shared → Names
-with_shared xs [] = xs
-with_shared xs (s ∷ ss) = with_shared (s.name.word ∷ xs) ss
-
 -- at the start each role has the free names and then the shared names, numbered in order
 abbrev pub narrated_begin : n.Narration → Told
-narrated_begin x = let xs = with_shared (free_of x) x.shared in record { names = length xs; has = λ r. names_numbered xs }
+narrated_begin x =
+    let xs = with_shared (free_of x) x.shared in record { names = length xs; has = λ r. names_numbered xs }

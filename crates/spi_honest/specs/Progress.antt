@@ -1,7 +1,7 @@
 -- How far a narration was told. No public clause names it.
 use Rattle.std.specs.Prelude.{◌≡◌, ℕ, zero, suc, ◌+◌, ◌≤◌, List, [], ◌∷◌, ◌++◌, length, Some, slice_get, ◌<◌}
 use Rattle.spi_tree.specs.declared.tree.SWord.{SWord}
-use Rattle.spi_heading.specs.Headings.{Shared}
+use Rattle.spi_heading.specs.Headings.{Shared, with_shared}
 use Rattle.spi_narrate.specs.Narrations as n
 use Rattle.spi_term.specs.Term.{Process, stop}
 use Rattle.spi_weave.specs.Woven.{role_process, roles_beside, roles_together, sharing}
@@ -9,7 +9,7 @@ use Rattle.spi_run.specs.Reduction.{Step, Event}
 use Rattle.spi_replay.specs.Stepping.{Pooled}
 use Rattle.spi_scope.specs.Scope.{Word}
 use Rattle.spi_scope.specs.StandsFor.{Meant}
-use Rattle.spi_honest.specs.Narrated.{Told, NarratesSmall, free_of, with_shared, narrated_begin}
+use Rattle.spi_honest.specs.Narrated.{Told, NarratesSmall, free_of, narrated_begin}
 use Rattle.spi_honest.specs.Schedule.{line_steps, shared_steps, role_steps, places_of, others, honest_steps}
 use Rattle.spi_honest.specs.Honest.{Replays, opening}
 use Rattle.spi_honest.specs.Reading.{word_in, names_numbered}

@@ -5,6 +5,7 @@ use Rattle.spi_tree.specs.Trees as t
 use Rattle.spi_term.specs.Term.{Message, name, unit, in_left, in_right, enc, hash}
 use Rattle.spi_scope.specs.Scope.{Word, Names}
 use Rattle.spi_scope.specs.Meaning.{nested}
+use Rattle.spi_term.specs.Substitution.{or_unit}
 
 -- a message at a spelling
 pub record GivenMessage : Type 0 where
@@ -21,10 +22,6 @@ at_word [] w = None
 at_word (x ∷ g) w = if bytes_eq x.word w then Some x.message else at_word g w
 
 -- no word of a narration whose woven file resolves is without a message
-abbrev pub or_unit : Option Message → Message
-or_unit None = unit
-or_unit (Some m) = m
-
 abbrev pub word_in : Map → Word → Message
 word_in g w = or_unit (at_word g w)
 

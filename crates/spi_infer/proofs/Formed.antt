@@ -14,7 +14,7 @@ use Rattle.spi_intern.specs.declared.atoms.AtomId.TheVariants as A
 use Rattle.spi_intern.specs.Atoms.{says_end, says_check, says_many}
 use Rattle.spi_intern.specs.Meaning.{Means}
 use Rattle.spi_count.specs.Counts.{count_of, IsNothing}
-use Rattle.spi_count.specs.Sums.{name_bound, message_of, part, both_counts, StandsForEffect}
+use Rattle.spi_count.specs.Sums.{name_bound, part, both_counts, StandsForEffect}
 use Rattle.spi_count.specs.declared.sum.AtomKind.{AtomKind}
 use Rattle.spi_count.specs.declared.sum.AtomKind.TheVariants as K
 use Rattle.spi_count.specs.declared.sum.Sum.{Sum}
@@ -30,6 +30,7 @@ use Rattle.spi_count.specs.Adding.{SumOf, TakesAtom, AddsAtom}
 use Rattle.spi_infer.specs.Accounts.{AfterOne, AfterTwo, AfterServe, AfterMake, AfterCheck, AfterForm, OwnCast, OwnBegin, OwnEnd, OwnMany, BothCase, BothForm}
 use Rattle.spi_count.proofs.Summed.{numbers}
 use Rattle.spi_count.proofs.Below.{in_minus, below_more}
+use Rattle.spi_intern.specs.Parts.{message_of}
 
 -- counts for an effect that stands where a test says so
 pub kept_unless : (At : ℕ → Message → Type 0) (sum : Sum) (b : Bool) (es : Effect) → b ≡ false → StandsForEffect At sum es → CountsFor At (Some sum) (unless_blocked b es)

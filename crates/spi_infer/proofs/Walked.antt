@@ -7,7 +7,7 @@ use Rattle.spi_term.specs.Term.{Message, Effect, Prefix, Checks, Casts, Process,
 use Rattle.spi_term.specs.Names.{ProcessOver}
 use Rattle.spi_term.specs.Spelling.{Shape, leaf_at, prefix_at, fork_at, flat, numbered, spelled}
 use Rattle.spi_term.specs.Arena.{InScope}
-use Rattle.spi_term.proofs.Numbers.{numbered_in_scope}
+use Rattle.spi_term.proofs.Numbers.{numbered_in_scope, length_spelled}
 use Rattle.spi_rules.specs.Environment.{Env}
 use Rattle.spi_intern.specs.declared.store.Store.{Store}
 use Rattle.spi_intern.specs.declared.messages.MsgId.{MsgId}
@@ -114,6 +114,16 @@ noted_at At _ _ _ (noted_next {n = n} {ss = ss} {ns = ns} {os = os} h t) (suc i)
 pub noted_length : {s : Store} {At : ℕ → Message → Type 0} {ss : List Shape} {ns : List Note} {os : List OwnNote} → AreFormsNoted s At ss ns os → length os ≡ length ss
 noted_length noted_none = refl
 noted_length (noted_next h t) = ap suc (noted_length t)
+
+-- a loop over the nodes from the last on, and what is kept of each
+pub nodes_within_count : (k : ℕ) (p : Process) {n : ℕ} → n ≡ process_size p → length (spelled k p) ≤ n
+nodes_within_count k p e = omega (arith, length_spelled k p, e)
+
+pub notes_for_each : {s : Store} {noted : Noted} {k : ℕ} {p : Process} {env : Env} {n : ℕ} → IsNoted s noted k p env → n ≡ process_size p → length noted.notes.items ≡ n
+notes_for_each {k = k} {p = p} h e = omega (arith, noted_length h.each, length_spelled k p, e)
+
+pub at_from : {from id : ℕ} → from ≤ id → id ≤ from → id ≡ from
+at_from l g = omega (arith, l, g)
 
 -- numbers that fit are of the store
 check_given : (s : Store) (own : Own) (id : MsgId) (t : Option TyId) (paid : Option Effect) → own ≡ Checked id t → PaidFits s t paid → CheckGiven s own

@@ -7,13 +7,14 @@ use Rattle.spi_intern.specs.declared.store.Store.{Store}
 use Rattle.spi_intern.specs.declared.messages.MsgId.{MsgId}
 use Rattle.spi_intern.specs.declared.types.TyId.{TyId}
 use Rattle.spi_intern.specs.Meaning.{Means}
-use Rattle.spi_count.specs.Sums.{message_of, StandsForEffect}
+use Rattle.spi_count.specs.Sums.{StandsForEffect}
 use Rattle.spi_count.specs.declared.sum.Sum.{Sum}
 use Rattle.spi_infer.specs.declared.own.Own.{Own}
 use Rattle.spi_infer.specs.declared.own.Own.TheVariants.{Label, Checked, Cast, Made}
 use Rattle.spi_infer.specs.declared.own.OwnNote.{OwnNote}
 use Rattle.spi_infer.specs.Passes.{Note}
 use Rattle.spi_message.specs.Forms.{cast_effect_of}
+use Rattle.spi_intern.specs.Parts.{message_of}
 
 -- the type of a nonce, where a check takes its effect off
 abbrev pub PaidFits : Store → Option TyId → Option Effect → Type 0

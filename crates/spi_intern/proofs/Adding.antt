@@ -38,13 +38,13 @@ has_ty_kept k h = record { place = h.place; means = means_keeps k h.means }
 pub types_none : {s r : Store} → r.types ≡ s.types → AddsTypes s r (λ u. ⊥)
 types_none e = record { all = λ u h. absurd h; only = λ i h. inl (subst (λ zs. i < length zs) e h) }
 
-types_more : {s q r : Store} {T U : Ty → Type 0} → AddsTypes s q T → Keeps q r → AddsTypes q r U → AddsTypes s r (λ u. T u ⊎ U u)
+pub types_more : {s q r : Store} {T U : Ty → Type 0} → AddsTypes s q T → Keeps q r → AddsTypes q r U → AddsTypes s r (λ u. T u ⊎ U u)
 types_more f k g = record {
   all = λ u h. ⊎_elim (λ t. has_ty_kept k (f.all u t)) (λ w. g.all u w) h;
   only = λ i h. ⊎_elim (λ b. ⊎_elim inl (λ w. inr (w.0, inl w.1, means_keeps k w.2)) (f.only i b)) (λ w. inr (w.0, inr w.1, w.2)) (g.only i h);
 }
 
-types_as : {s r : Store} {T U : Ty → Type 0} → ((u : Ty) → T u → U u) → ((u : Ty) → U u → T u) → AddsTypes s r T → AddsTypes s r U
+pub types_as : {s r : Store} {T U : Ty → Type 0} → ((u : Ty) → T u → U u) → ((u : Ty) → U u → T u) → AddsTypes s r T → AddsTypes s r U
 types_as p q f = record { all = λ u n. f.all u (q u n); only = λ i h. ⊎_elim inl (λ w. inr (w.0, p w.0 w.1, w.2)) (f.only i h) }
 
 -- one type is put
@@ -118,53 +118,49 @@ adds_unit {s} {r} e h = record { messages = adds_as (λ x p. absurd p) none (add
 rest_of : {ks bs cs : List Message} {M : Message → Type 0} → AddsMessages ks bs M → cs ≡ bs → AddsMessages ks cs M
 rest_of {ks} {M = M} f e = subst (λ zs. AddsMessages ks zs M) (sym e) f
 
-pub adds_pair : {s p q r : Store} {t u : Ty} → Adds s p (a_type t) → Keeps p q → Adds p q (a_type u) → Keeps q r → r.messages ≡ q.messages → AddsTypes q r (λ v. v ≡ pair_ty t u) → Adds s r (a_type (pair_ty t u))
-adds_pair {t = t} {u = u} f k g l e h = record {
-  messages = rest_of (adds_as to from (adds_more f.messages k.messages g.messages)) e;
-  types = types_as up down (types_more (types_more f.types k g.types) l h);
+-- a type over two others
+data IsOverTwo (t u : Ty) : Ty → Type 0 where
+  pair_over_two : IsOverTwo t u (pair_ty t u)
+  sum_over_two : IsOverTwo t u (sum_ty t u)
+
+adds_over_two : {s p q r : Store} {t u v : Ty} → IsOverTwo t u v → Adds s p (a_type t) → Keeps p q → Adds p q (a_type u) → Keeps q r → r.messages ≡ q.messages → AddsTypes q r (λ w. w ≡ v) → Adds s r (a_type v)
+adds_over_two {t = t} {u = u} o f k g l e h = record {
+  messages = rest_of (adds_as (to o) (from o) (adds_more f.messages k.messages g.messages)) e;
+  types = types_as (up o) (down o) (types_more (types_more f.types k g.types) l h);
 }
   where
-    to : (x : Message) → InTy x t ⊎ InTy x u → InTy x (pair_ty t u)
-    to x (inl a) = in_pair_first a
-    to x (inr b) = in_pair_second b
+    to : {z : Ty} → IsOverTwo t u z → (x : Message) → InTy x t ⊎ InTy x u → InTy x z
+    to pair_over_two x (inl a) = in_pair_first a
+    to pair_over_two x (inr b) = in_pair_second b
+    to sum_over_two x (inl a) = in_sum_left a
+    to sum_over_two x (inr b) = in_sum_right b
 
-    from : (x : Message) → InTy x (pair_ty t u) → InTy x t ⊎ InTy x u
-    from x (in_pair_first a) = inl a
-    from x (in_pair_second b) = inr b
+    from : {z : Ty} → IsOverTwo t u z → (x : Message) → InTy x z → InTy x t ⊎ InTy x u
+    from pair_over_two x (in_pair_first a) = inl a
+    from pair_over_two x (in_pair_second b) = inr b
+    from sum_over_two x (in_sum_left a) = inl a
+    from sum_over_two x (in_sum_right b) = inr b
 
-    up : (v : Ty) → (TyPartOf v t ⊎ TyPartOf v u) ⊎ (v ≡ pair_ty t u) → TyPartOf v (pair_ty t u)
-    up v (inl (inl a)) = of_pair_first a
-    up v (inl (inr b)) = of_pair_second b
-    up v (inr w) = subst (λ z. TyPartOf z (pair_ty t u)) (sym w) whole_ty
+    up : {z : Ty} → IsOverTwo t u z → (w : Ty) → (TyPartOf w t ⊎ TyPartOf w u) ⊎ (w ≡ z) → TyPartOf w z
+    up pair_over_two w (inl (inl a)) = of_pair_first a
+    up pair_over_two w (inl (inr b)) = of_pair_second b
+    up sum_over_two w (inl (inl a)) = of_sum_left a
+    up sum_over_two w (inl (inr b)) = of_sum_right b
+    up {z = z} _ w (inr y) = subst (λ x. TyPartOf x z) (sym y) whole_ty
 
-    down : (v : Ty) → TyPartOf v (pair_ty t u) → (TyPartOf v t ⊎ TyPartOf v u) ⊎ (v ≡ pair_ty t u)
-    down v whole_ty = inr refl
-    down v (of_pair_first a) = inl (inl a)
-    down v (of_pair_second b) = inl (inr b)
+    down : {z : Ty} → IsOverTwo t u z → (w : Ty) → TyPartOf w z → (TyPartOf w t ⊎ TyPartOf w u) ⊎ (w ≡ z)
+    down pair_over_two w whole_ty = inr refl
+    down pair_over_two w (of_pair_first a) = inl (inl a)
+    down pair_over_two w (of_pair_second b) = inl (inr b)
+    down sum_over_two w whole_ty = inr refl
+    down sum_over_two w (of_sum_left a) = inl (inl a)
+    down sum_over_two w (of_sum_right b) = inl (inr b)
+
+pub adds_pair : {s p q r : Store} {t u : Ty} → Adds s p (a_type t) → Keeps p q → Adds p q (a_type u) → Keeps q r → r.messages ≡ q.messages → AddsTypes q r (λ v. v ≡ pair_ty t u) → Adds s r (a_type (pair_ty t u))
+adds_pair f k g l e h = adds_over_two pair_over_two f k g l e h
 
 pub adds_sum : {s p q r : Store} {t u : Ty} → Adds s p (a_type t) → Keeps p q → Adds p q (a_type u) → Keeps q r → r.messages ≡ q.messages → AddsTypes q r (λ v. v ≡ sum_ty t u) → Adds s r (a_type (sum_ty t u))
-adds_sum {t = t} {u = u} f k g l e h = record {
-  messages = rest_of (adds_as to from (adds_more f.messages k.messages g.messages)) e;
-  types = types_as up down (types_more (types_more f.types k g.types) l h);
-}
-  where
-    to : (x : Message) → InTy x t ⊎ InTy x u → InTy x (sum_ty t u)
-    to x (inl a) = in_sum_left a
-    to x (inr b) = in_sum_right b
-
-    from : (x : Message) → InTy x (sum_ty t u) → InTy x t ⊎ InTy x u
-    from x (in_sum_left a) = inl a
-    from x (in_sum_right b) = inr b
-
-    up : (v : Ty) → (TyPartOf v t ⊎ TyPartOf v u) ⊎ (v ≡ sum_ty t u) → TyPartOf v (sum_ty t u)
-    up v (inl (inl a)) = of_sum_left a
-    up v (inl (inr b)) = of_sum_right b
-    up v (inr w) = subst (λ z. TyPartOf z (sum_ty t u)) (sym w) whole_ty
-
-    down : (v : Ty) → TyPartOf v (sum_ty t u) → (TyPartOf v t ⊎ TyPartOf v u) ⊎ (v ≡ sum_ty t u)
-    down v whole_ty = inr refl
-    down v (of_sum_left a) = inl (inl a)
-    down v (of_sum_right b) = inl (inr b)
+adds_sum f k g l e h = adds_over_two sum_over_two f k g l e h
 
 pub adds_key : {s q r : Store} {t : Ty} → Adds s q (a_type t) → Keeps q r → r.messages ≡ q.messages → AddsTypes q r (λ v. v ≡ key t) → Adds s r (a_type (key t))
 adds_key {t = t} f l e h = record {

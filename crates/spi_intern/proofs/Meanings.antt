@@ -16,7 +16,7 @@ use Rattle.spi_intern.specs.Meaning.{KindMeans, means_un, means_unit, means_pair
 use Rattle.spi_intern.proofs.Tables.{keeps_same, keeps_more, tells_map, tells_push}
 use Rattle.spi_intern.proofs.TyLaws.{says_said, says_it}
 
-atom_keeps : {ms ns : List Message} → KeepsAll ms ns → (i : AtomId) (a : Atom) → SaysAtom ms i a → SaysAtom ns i a
+pub atom_keeps : {ms ns : List Message} → KeepsAll ms ns → (i : AtomId) (a : Atom) → SaysAtom ms i a → SaysAtom ns i a
 atom_keeps k i a (says_end e) = says_end (k.at _ _ e)
 atom_keeps k i a (says_check e) = says_check (k.at _ _ e)
 atom_keeps k i a (says_many e) = says_many (k.at _ _ e)

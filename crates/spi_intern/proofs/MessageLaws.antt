@@ -3,13 +3,14 @@ use Rattle.std.proofs.Common.{◌≡◌, Bool, true, false, ◌&&◌, List, [], 
 use Rattle.std.proofs.lemmas.Bool.{eqb-true, eq-eqb}
 use Rattle.spi_term.specs.Term.{Message, pair, in_left, in_right, enc, hash, same_message, message_discrete}
 use Rattle.spi_intern.specs.Table.{KeepsAll, AllDiffer, IsTable, tells_none}
-use Rattle.spi_intern.specs.Messages.{Says, says_bound, says_name, says_unit, says_pair, says_left, says_right, says_enc, says_hash, said, or_unit}
+use Rattle.spi_intern.specs.Messages.{Says, says_bound, says_name, says_unit, says_pair, says_left, says_right, says_enc, says_hash, said}
 use Rattle.spi_intern.specs.declared.messages.MsgId.{MsgId}
 use Rattle.spi_intern.specs.declared.messages.MsgPart.{MsgPart}
 use Rattle.spi_intern.specs.declared.messages.MsgPart.TheVariants.{Bound, Name, Unit as NoParts, Pair, Inl, Inr, Enc, Hash}
 use Rattle.spi_intern.specs.contracts.messages.MsgPartPartialEq.TheImpl.{eq-value}
 use Rattle.spi_intern.specs.contracts.messages.MsgIdPartialEq.TheImpl.{eq-value as eq_of_ids}
 use Rattle.spi_intern.proofs.Tables.{Laws}
+use Rattle.spi_term.specs.Substitution.{or_unit}
 
 abbrev pub id_eq : MsgId → MsgId → Bool
 id_eq = eq_of_ids.it

@@ -5,6 +5,7 @@ use Rattle.spi_intern.specs.Table.{with_value}
 use Rattle.spi_intern.specs.declared.messages.MsgId.{MsgId}
 use Rattle.spi_intern.specs.declared.messages.MsgPart.{MsgPart}
 use Rattle.spi_intern.specs.declared.messages.MsgPart.TheVariants.{Bound, Name, Unit as NoParts, Pair, Inl, Inr, Enc, Hash}
+use Rattle.spi_term.specs.Substitution.{or_unit}
 
 -- the message with this outermost constructor, and the numbers of its parts
 pub data Says (ms : List Message) : MsgPart → Message → Type 0 where
@@ -18,10 +19,6 @@ pub data Says (ms : List Message) : MsgPart → Message → Type 0 where
   says_enc : {a b : MsgId} {m n : Message} → slice_get ms a.place ≡ Some m → slice_get ms b.place ≡ Some n
       → Says ms (Enc a b) (enc m n)
   says_hash : {a : MsgId} {m : Message} → slice_get ms a.place ≡ Some m → Says ms (Hash a) (hash m)
-
-abbrev pub or_unit : Option Message → Message
-or_unit None = unit
-or_unit (Some m) = m
 
 -- the message with this number, where there is one
 abbrev pub message_at : List Message → MsgId → Message

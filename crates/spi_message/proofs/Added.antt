@@ -1,5 +1,5 @@
 -- What filling the indices of messages and types adds to a store.
-use Rattle.std.proofs.Common.{◌≡◌, ℕ, suc, ◌<◌, ◌≤◌, List, [], ◌∷◌, ◌++◌, map, Some, None, slice_get, length, refl, sym, ap, subst, ◌∙◌, ◌⊎◌, inl, inr, ⊎_elim, Result, Ok, Err, OnOk}
+use Rattle.std.proofs.Common.{◌≡◌, ℕ, suc, ◌<◌, ◌≤◌, List, [], ◌∷◌, ◌++◌, map, Some, None, length, refl, sym, ap, subst, ◌∙◌, ◌⊎◌, inl, inr, ⊎_elim, Result, Ok, Err, OnOk}
 use Rattle.std.specs.Prelude.{option_map}
 use Rattle.spi_term.specs.Term.{Message, bound, name, unit, pair, in_left, in_right, enc, hash, Atom, Effect, Ty, un, unit_ty, pair_ty, sum_ty, key, nonce}
 use Rattle.spi_term.specs.Counts.{SameEffect}
@@ -9,7 +9,7 @@ use Rattle.spi_term.specs.Substitution.{atom_map, effect_map, ty_map}
 use Rattle.spi_term.proofs.Counting.{same_sym, in_tally, tally_in, count_tally}
 use Rattle.spi_effect.proofs.Laws.{same_map}
 use Rattle.spi_intern.specs.Table.{KeepsAll, TellsAll}
-use Rattle.spi_intern.specs.Messages.{Says, says_pair, says_left, says_right, says_enc, says_hash, message_at}
+use Rattle.spi_intern.specs.Messages.{Says, message_at}
 use Rattle.spi_intern.specs.Atoms.{SaysAtom}
 use Rattle.spi_intern.specs.Meaning.{Means, Keeps}
 use Rattle.spi_intern.specs.Parts.{PartOf, whole, of_first, of_second, of_left, of_right, of_body, of_key, of_hash, message_of, InEffect, in_first, in_later, InTy, in_pair_first, in_pair_second, in_sum_left, in_sum_right, in_key, in_nonce, TyPartOf, whole_ty, of_pair_first, of_pair_second, of_sum_left, of_sum_right, of_payload}
@@ -23,12 +23,13 @@ use Rattle.spi_intern.specs.declared.atoms.AtomId.TheVariants.{End, Check, Many}
 use Rattle.spi_intern.specs.declared.store.Store.{Store}
 use Rattle.spi_intern.proofs.Grown.{has_kept}
 use Rattle.spi_intern.proofs.Meanings.{means_keeps}
-use Rattle.spi_intern.proofs.Adding.{adds_none, adds_more, adds_as, types_none, adds_atom, adds_no_atom}
+use Rattle.spi_intern.proofs.Adding.{adds_none, adds_more, adds_as, types_none, types_more, types_as, adds_atom, adds_no_atom}
+use Rattle.spi_intern.proofs.Sized.{TwoOf, OneOf, SaysTwo, SaysOne, pair_is_two, enc_is_two, left_is_one, right_is_one, hash_is_one, at_message, message_there}
 use Rattle.spi_message.specs.Filling.{value_of, or_bound, fill, values_of, atom_at, message_in, AreIdsBelow, IsDepth, FillsMessage, FillsAtoms, FillsTy}
 use Rattle.spi_message.specs.Giving.{HasParts}
 use Rattle.spi_message.specs.Added.{AllHaveParts, MessageIsAdded, AtomsAreAdded, TypeIsAdded}
-use Rattle.spi_message.proofs.Fills.{TwoOf, OneOf, at_message, message_there, message_keeps, values_keep, two_values, values_at, value_mapped, value_in, fills_value}
-use Rattle.spi_message.proofs.FillsTypes.{TwoTys, OneTy, NonceTy, means_as}
+use Rattle.spi_message.proofs.Fills.{message_keeps, values_keep, two_values, values_at, value_mapped, value_in, fills_value}
+use Rattle.spi_message.proofs.FillsTypes.{TwoTys, OneTy, NonceTy, means_as, effect_push}
 
 -- ---- what has numbers keeps them
 
@@ -37,15 +38,6 @@ parts_keep k h = record { each = λ x p. has_kept k (h.each x p) }
 
 pub all_parts_keep : {ms ns : List Message} {vs : List MsgId} → KeepsAll ms ns → AreIdsBelow vs (length ms) → AllHaveParts ms (values_of ms vs) → AllHaveParts ns (values_of ns vs)
 all_parts_keep {ms} {ns} {vs} k b h = subst (AllHaveParts ns) (sym (values_keep vs k b)) record { at = λ i v e. parts_keep k (h.at i v e) }
-
-types_more : {s q r : Store} {T U : Ty → Type 0} → AddsTypes s q T → Keeps q r → AddsTypes q r U → AddsTypes s r (λ u. T u ⊎ U u)
-types_more f k g = record {
-  all = λ u h. ⊎_elim (λ t. let w = f.all u t in record { place = w.place; means = means_keeps k w.means }) (λ w. g.all u w) h;
-  only = λ i h. ⊎_elim (λ b. ⊎_elim inl (λ w. inr (w.0, inl w.1, means_keeps k w.2)) (f.only i b)) (λ w. inr (w.0, inr w.1, w.2)) (g.only i h);
-}
-
-types_as : {s r : Store} {T U : Ty → Type 0} → ((u : Ty) → T u → U u) → ((u : Ty) → U u → T u) → AddsTypes s r T → AddsTypes s r U
-types_as p q f = record { all = λ u n. f.all u (q u n); only = λ i h. ⊎_elim inl (λ w. inr (w.0, p w.0 w.1, w.2)) (f.only i h) }
 
 no_types : {s q r : Store} → AddsTypes s q (λ u. ⊥) → Keeps q r → AddsTypes q r (λ u. ⊥) → AddsTypes s r (λ u. ⊥)
 no_types f k g = types_as (λ u h. ⊎_elim (λ x. x) (λ x. x) h) (λ u h. absurd h) (types_more f k g)
@@ -83,29 +75,29 @@ pub record Joins (f : Message → Message → Message) (part : MsgId → MsgId �
   pub split : (x a b : Message) → PartOf x (f a b) → (PartOf x a ⊎ PartOf x b) ⊎ (x ≡ f a b)
   pub first : (x a b : Message) → PartOf x a → PartOf x (f a b)
   pub second : (x a b : Message) → PartOf x b → PartOf x (f a b)
-  pub says : (ms : List Message) (x y : MsgId) (m n : Message) → slice_get ms x.place ≡ Some m → slice_get ms y.place ≡ Some n → Says ms (part x y) (f m n)
+  pub put : SaysTwo f part
   pub fills : (vs : List Message) (d : ℕ) (a b : Message) → fill vs d (f a b) ≡ f (fill vs d a) (fill vs d b)
 
 pub record Wraps (f : Message → Message) (part : MsgId → MsgPart) : Type 0 where
   pub split : (x a : Message) → PartOf x (f a) → PartOf x a ⊎ (x ≡ f a)
   pub inner : (x a : Message) → PartOf x a → PartOf x (f a)
-  pub says : (ms : List Message) (x : MsgId) (m : Message) → slice_get ms x.place ≡ Some m → Says ms (part x) (f m)
+  pub put : SaysOne f part
   pub fills : (vs : List Message) (d : ℕ) (a : Message) → fill vs d (f a) ≡ f (fill vs d a)
 
 pub pair_joins : Joins pair Pair
-pair_joins = record { split = λ x a b p. message_parts p; first = λ x a b p. of_first p; second = λ x a b p. of_second p; says = λ ms x y m n p q. says_pair p q; fills = λ vs d a b. refl }
+pair_joins = record { split = λ x a b p. message_parts p; first = λ x a b p. of_first p; second = λ x a b p. of_second p; put = pair_is_two; fills = λ vs d a b. refl }
 
 pub enc_joins : Joins enc Enc
-enc_joins = record { split = λ x a b p. message_parts p; first = λ x a b p. of_body p; second = λ x a b p. of_key p; says = λ ms x y m n p q. says_enc p q; fills = λ vs d a b. refl }
+enc_joins = record { split = λ x a b p. message_parts p; first = λ x a b p. of_body p; second = λ x a b p. of_key p; put = enc_is_two; fills = λ vs d a b. refl }
 
 pub left_wraps : Wraps in_left Inl
-left_wraps = record { split = λ x a p. message_parts p; inner = λ x a p. of_left p; says = λ ms x m p. says_left p; fills = λ vs d a. refl }
+left_wraps = record { split = λ x a p. message_parts p; inner = λ x a p. of_left p; put = left_is_one; fills = λ vs d a. refl }
 
 pub right_wraps : Wraps in_right Inr
-right_wraps = record { split = λ x a p. message_parts p; inner = λ x a p. of_right p; says = λ ms x m p. says_right p; fills = λ vs d a. refl }
+right_wraps = record { split = λ x a p. message_parts p; inner = λ x a p. of_right p; put = right_is_one; fills = λ vs d a. refl }
 
 pub hash_wraps : Wraps hash Hash
-hash_wraps = record { split = λ x a p. message_parts p; inner = λ x a p. of_hash p; says = λ ms x m p. says_hash p; fills = λ vs d a. refl }
+hash_wraps = record { split = λ x a p. message_parts p; inner = λ x a p. of_hash p; put = hash_is_one; fills = λ vs d a. refl }
 
 adds_two : {s p q r : Store} {a b : Message} (f : Message → Message → Message) {part : MsgId → MsgId → MsgPart} → Joins f part → Adds s p (a_message a) → Keeps p q → Adds p q (a_message b) → Keeps q r → Adds q r (over_messages (f a b)) → Adds s r (a_message (f a b))
 adds_two {a = a} {b = b} f j g k h l o = record {
@@ -137,13 +129,13 @@ pub added_two : {E : Type 0} {s p q : Store} (r : Store) {c : Message → Messag
 added_two {s = s} r {c = c} {vs = vs} {x = x} {y = y} i t k v f fa l g ga w (Ok id) h = record {
   at = λ d e b.
       let z = two_values k.messages v t.second f l.messages g d e in
-      subst (λ n. Adds s r (a_message n)) (sym (ap (fill (values_of s.messages vs) d) t.is ∙ i.fills _ d _ _)) (adds_two c i (fa.at d e b) l (later_added k v t.second ga d e b) w (h _ (i.says _ x y _ _ z.0 z.1)));
+      subst (λ n. Adds s r (a_message n)) (sym (i.fills _ d _ _) ∙ ap (fill (values_of s.messages vs) d) t.is) (adds_two c i (fa.at d e b) l (later_added k v t.second ga d e b) w (h _ (i.put.says _ x y _ _ z.0 z.1)));
 }
 added_two r i t k v f fa l g ga w (Err e) h = tt
 
 pub added_one : {E : Type 0} {s p : Store} (r : Store) {c : Message → Message} {part : MsgId → MsgPart} {vs : List MsgId} {depth : ℕ} {m a x : MsgId} → Wraps c part → OneOf s.messages m a c → FillsMessage s.messages p.messages vs depth a x → MessageIsAdded s p vs depth a → Keeps p r → (o : Result MsgId E) → OnOk o ((n : Message) → Says p.messages (part x) n → Adds p r (over_messages n)) → OnOk o (MessageIsAdded s r vs depth m)
 added_one {s = s} r {c = c} {vs = vs} {x = x} i t f fa w (Ok id) h = record {
-  at = λ d e b. subst (λ n. Adds s r (a_message n)) (sym (ap (fill (values_of s.messages vs) d) t.is ∙ i.fills _ d _)) (adds_one c i (fa.at d e b) w (h _ (i.says _ x _ (f.at d e))));
+  at = λ d e b. subst (λ n. Adds s r (a_message n)) (sym (i.fills _ d _) ∙ ap (fill (values_of s.messages vs) d) t.is) (adds_one c i (fa.at d e b) w (h _ (i.put.says _ x _ (f.at d e))));
 }
 added_one r i t f fa w (Err e) h = tt
 
@@ -188,17 +180,13 @@ message_of_atom f ms (End m) = refl
 message_of_atom f ms (Check m) = refl
 message_of_atom f ms (Many m) = refl
 
-effect_push : (f : Message → Message) (g : AtomId → Atom) (xs : List AtomId) (x : AtomId) → effect_map f (map g xs) ++ atom_map f (g x) ∷ [] ≡ effect_map f (map g (xs ++ x ∷ []))
-effect_push f g [] x = refl
-effect_push f g (y ∷ xs) x = ap (λ zs. atom_map f (g y) ∷ zs) (effect_push f g xs x)
-
 pub next_atom_added : {s p q : Store} {vs : List MsgId} {depth : ℕ} {xs ys : List AtomId} (a : AtomId) → Keeps s p → AreIdsBelow vs (length s.messages) → (message_in a).place < length s.messages → AtomsAreAdded s p vs depth xs → Keeps p q → MessageIsAdded p q vs depth (message_in a) → ys ≡ xs ++ a ∷ [] → AtomsAreAdded s q vs depth ys
 next_atom_added {s} {p} {q} {vs} {depth} {xs} {ys} a k v w f l g e = subst (AtomsAreAdded s q vs depth) (sym e) record {
   messages = λ d i h.
       let fs = fill (values_of s.messages vs) d in
       let n = later_added k v w g d i h in
       let m = subst (λ x. AddsMessages p.messages q.messages (λ y. PartOf y x)) (sym (message_of_atom fs s.messages a)) n.messages in
-      subst (λ es. AddsMessages s.messages q.messages (λ x. InEffect x es)) (effect_push fs (atom_at s.messages) xs a) (adds_atom (effect_map fs (map (atom_at s.messages) xs)) (atom_map fs (atom_at s.messages a)) (f.messages d i h) l.messages m);
+      subst (λ es. AddsMessages s.messages q.messages (λ x. InEffect x es)) (sym (effect_push fs (atom_at s.messages) xs a)) (adds_atom (effect_map fs (map (atom_at s.messages) xs)) (atom_map fs (atom_at s.messages a)) (f.messages d i h) l.messages m);
   types = λ d i h. no_types (f.types d i h) l (later_added k v w g d i h).types;
 }
 

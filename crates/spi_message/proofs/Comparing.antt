@@ -15,7 +15,7 @@ use Rattle.spi_intern.proofs.Lists.{get_push}
 use Rattle.spi_intern.proofs.Meanings.{means_keeps}
 use Rattle.spi_message.specs.Judging.{StandFor}
 use Rattle.spi_message.specs.Filling.{fill, filled, AllStay, values_of, AreIdsBelow}
-use Rattle.spi_message.specs.Asking.{IsTyped, IsPayload}
+use Rattle.spi_message.specs.Asking.{IsTyped, IsPayload, AreSides, sides_of_un, sides_of_sum, AreSidesOf}
 use Rattle.spi_message.specs.Tests.{type_of_key}
 use Rattle.spi_message.specs.Giving.{HasParts, GivesOnly, Opening, itself, of_first as opens_first, of_second as opens_second, of_left as opens_left, of_right as opens_right, Compared, with_un, with_type, with_payload}
 use Rattle.spi_message.specs.Added.{AllHaveParts, TypeIsAdded, TypingGives, LabelGives}
@@ -130,18 +130,19 @@ part_label p h = record { at = λ e st hn. gives_as (λ g. compared_part p) (h.a
 pub label_typing : {s r : Store} {env : List TyId} {n : Message} {t : TyId} {vs : List MsgId} → LabelGives s r env n → TypingGives s r env n t vs
 label_typing h = record { at = λ e u st m stay hp hn. gives_as (λ g. compared_label) (h.at e st hn) }
 
-pub left_typing : {s r : Store} {env : List TyId} {a n : Message} {t x y : TyId} {vs : List MsgId} → TwoTys s t x y sum_ty → PartOf a n → TypingGives s r env a x vs → TypingGives s r env n t vs
-left_typing {s} {r} {n = n} {vs = vs} w p h = record {
-  at = λ e u st m stay hp hn.
-      let z = w.at u m in
-      subst (λ v. GivesOnly (Compared e n (filled (values_of s.messages vs) v)) s r) (sym z.2) (gives_as (λ g q. compared_left (compared_part p q)) (h.at e z.0 st z.3 stay hp (parts_of_part p hn)));
+-- a side of a sum
+compared_sides : {e : Env} {n : Message} {u v w : Ty} {g : Given} (us : List Message) → AreSides u v w → (Compared e n (filled us v) g → Compared e n (filled us u) g) × (Compared e n (filled us w) g → Compared e n (filled us u) g)
+compared_sides us sides_of_un = ((λ h. h), (λ h. h))
+compared_sides us sides_of_sum = (compared_left, compared_right)
+
+pub left_side_typing : {s r : Store} {env : List TyId} {a n : Message} {t x y : TyId} {vs : List MsgId} → AreSidesOf s t x y → PartOf a n → TypingGives s r env a x vs → TypingGives s r env n t vs
+left_side_typing {s} {vs = vs} w p h = record {
+  at = λ e u st m stay hp hn. let z = w.at u m in gives_as (λ g q. (compared_sides (values_of s.messages vs) z.2).0 (compared_part p q)) (h.at e z.0 st z.3 stay hp (parts_of_part p hn));
 }
 
-pub right_typing : {s r : Store} {env : List TyId} {a n : Message} {t x y : TyId} {vs : List MsgId} → TwoTys s t x y sum_ty → PartOf a n → TypingGives s r env a y vs → TypingGives s r env n t vs
-right_typing {s} {r} {n = n} {vs = vs} w p h = record {
-  at = λ e u st m stay hp hn.
-      let z = w.at u m in
-      subst (λ v. GivesOnly (Compared e n (filled (values_of s.messages vs) v)) s r) (sym z.2) (gives_as (λ g q. compared_right (compared_part p q)) (h.at e z.1 st z.4 stay hp (parts_of_part p hn)));
+pub right_side_typing : {s r : Store} {env : List TyId} {a n : Message} {t x y : TyId} {vs : List MsgId} → AreSidesOf s t x y → PartOf a n → TypingGives s r env a y vs → TypingGives s r env n t vs
+right_side_typing {s} {vs = vs} w p h = record {
+  at = λ e u st m stay hp hn. let z = w.at u m in gives_as (λ g q. (compared_sides (values_of s.messages vs) z.2).1 (compared_part p q)) (h.at e z.1 st z.4 stay hp (parts_of_part p hn));
 }
 
 pub first_typing : {s r : Store} {env : List TyId} {a n : Message} {t x y : TyId} {vs : List MsgId} → TwoTys s t x y pair_ty → PartOf a n → TypingGives s r env a x vs → TypingGives s r env n t vs

@@ -16,13 +16,14 @@ use Rattle.spi_intern.specs.declared.atoms.AtomId.{AtomId}
 use Rattle.spi_intern.specs.declared.store.Store.{Store}
 use Rattle.spi_intern.proofs.Meanings.{means_keeps}
 use Rattle.spi_intern.proofs.Adding.{adds_as}
+use Rattle.spi_intern.proofs.Sized.{at_message}
 use Rattle.spi_message.specs.declared.answers.Asked.{Asked}
 use Rattle.spi_message.specs.declared.answers.Asked.TheVariants.{Typed, Labelled, Good}
 use Rattle.spi_message.specs.Judging.{StandFor}
 use Rattle.spi_message.specs.Filling.{fill, filled, AllStay, values_of, atom_at, message_in, AreIdsBelow, FillsMessage, FillsTy}
 use Rattle.spi_message.specs.Giving.{HasParts, GivesOnly, Compared, with_un, Tested, the_message, its_typing, Examined, the_name, its_type, in_first, in_second, in_left, in_right, in_payload, of_atom}
 use Rattle.spi_message.specs.Added.{AllHaveParts, MessageIsAdded, TypeIsAdded, TypingGives, LabelGives, AtomGives, AtomsGive, GoodGives, AnswerGives}
-use Rattle.spi_message.proofs.Fills.{at_message, message_keeps, values_keep, all_below_keeps}
+use Rattle.spi_message.proofs.Fills.{message_keeps, values_keep, all_below_keeps}
 use Rattle.spi_message.proofs.FillsTypes.{TwoTys, OneTy, NonceTy}
 use Rattle.spi_message.proofs.Added.{parts_keep, all_parts_keep, message_of_atom, atom_same_in}
 use Rattle.spi_message.proofs.Standing.{stand_keeps, stand_push, stand_length}

@@ -22,15 +22,11 @@ use Rattle.spi_intern.specs.declared.store.Store.{Store}
 use Rattle.spi_intern.specs.declared.store.TyPart.TheVariants as Part
 use Rattle.spi_intern.proofs.Lists.{get_below}
 use Rattle.spi_intern.proofs.Tables.{tells_map, tells_push}
-use Rattle.spi_intern.proofs.Meanings.{means_keeps}
+use Rattle.spi_intern.proofs.Meanings.{atom_keeps, means_keeps}
+use Rattle.spi_intern.proofs.Sized.{at_message}
 use Rattle.spi_message.specs.Filling.{fill, values_of, atom_at, message_in, AreIdsBelow, AtomsAreBelow, IsDepth, FillsMessage, FillsAtom, FillsAtoms, FillsTy, kind_size, ty_size}
-use Rattle.spi_message.proofs.Fills.{at_message, message_keeps, below_keeps, values_keep}
+use Rattle.spi_message.proofs.Fills.{message_keeps, below_keeps, values_keep}
 use denote.Ref.{Bor}
-
-atom_keeps : {ms ns : List Message} → KeepsAll ms ns → (i : AtomId) (a : Atom) → SaysAtom ms i a → SaysAtom ns i a
-atom_keeps k i a (says_end e) = says_end (k.at _ _ e)
-atom_keeps k i a (says_check e) = says_check (k.at _ _ e)
-atom_keeps k i a (says_many e) = says_many (k.at _ _ e)
 
 -- one atom
 pub message_fills : {ms ns : List Message} {vs : List MsgId} {depth : ℕ} {a b : AtomId} {m r : MsgId} → m ≡ message_in a → a ≡ b → FillsMessage ms ns vs depth m r → FillsMessage ms ns vs depth (message_in b) r
@@ -49,7 +45,7 @@ fills_many {ms} {ns} {vs} {r = r} e f = record { at = λ d h. subst (λ x. SaysA
 pub atoms_none : {ms ns : List Message} {vs : List MsgId} {depth : ℕ} {rs : List AtomId} → rs ≡ [] → FillsAtoms ms ns vs depth [] rs
 atoms_none {ns = ns} e = record { at = λ d h. subst (λ zs. TellsAll (SaysAtom ns) zs []) (sym e) tells_none }
 
-effect_push : (f : Message → Message) (g : AtomId → Atom) (xs : List AtomId) (x : AtomId) → effect_map f (map g (xs ++ x ∷ [])) ≡ effect_map f (map g xs) ++ atom_map f (g x) ∷ []
+pub effect_push : (f : Message → Message) (g : AtomId → Atom) (xs : List AtomId) (x : AtomId) → effect_map f (map g (xs ++ x ∷ [])) ≡ effect_map f (map g xs) ++ atom_map f (g x) ∷ []
 effect_push f g [] x = refl
 effect_push f g (y ∷ xs) x = ap (λ zs. atom_map f (g y) ∷ zs) (effect_push f g xs x)
 

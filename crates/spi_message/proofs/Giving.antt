@@ -15,11 +15,11 @@ use Rattle.spi_intern.proofs.Lists.{some_one}
 use Rattle.spi_intern.proofs.Meanings.{terms_same, terms_more}
 use Rattle.spi_intern.proofs.Grown.{has_kept}
 use Rattle.spi_intern.proofs.Counted.{counted, counted_at_least}
+use Rattle.spi_intern.proofs.Sized.{at_message}
 use Rattle.spi_message.specs.Filling.{values_of}
 use Rattle.spi_message.specs.Judging.{Numbered}
 use Rattle.spi_message.specs.Giving.{HasParts, GrowsBy, grows_none, grows_next, GivesOnly, Compared, with_un, with_type, with_payload, Tested, the_message, its_typing, Examined, the_name, its_type, in_first as from_first, in_second, in_left, in_right, in_payload, of_atom, IsWholeGiven, whole_message, whole_type, AreWhole, HasGiven, HasGivenAtLeast}
 use Rattle.spi_message.specs.Added.{TypeIsAdded}
-use Rattle.spi_message.proofs.Fills.{at_message}
 use Rattle.spi_message.proofs.Typings.{filled_one}
 
 -- ---- several calls

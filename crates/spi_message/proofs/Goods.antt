@@ -20,12 +20,13 @@ use Rattle.spi_intern.specs.declared.atoms.AtomId.TheVariants.{End, Check, Many}
 use Rattle.spi_intern.specs.declared.store.Store.{Store}
 use Rattle.spi_intern.proofs.Lists.{truths, get_below}
 use Rattle.spi_intern.proofs.Meanings.{means_keeps}
+use Rattle.spi_intern.proofs.Sized.{at_message}
 use Rattle.spi_message.specs.Judging.{StandFor}
 use Rattle.spi_message.specs.Filling.{fill, filled, AllStay, values_of, atom_at, message_in, AreIdsBelow, AtomsAreBelow, FillsMessage, FillsTy, kind_size}
 use Rattle.spi_message.specs.Asking.{IsEnvironment, IsTyped, IsLabelled, IsGoodAtom, IsAskedAtoms, AreGood, IsAskedGood, IsGood}
 use Rattle.spi_message.specs.Tests.{typed, labelled, good_atom, good_effect, good}
 use Rattle.spi_message.proofs.Deciding.{good_effect_true, good_effect_from, good-pair, good_of_sum}
-use Rattle.spi_message.proofs.Fills.{at_message, message_keeps, below_keeps, values_keep, all_below_keeps}
+use Rattle.spi_message.proofs.Fills.{message_keeps, below_keeps, values_keep, all_below_keeps}
 use Rattle.spi_message.proofs.FillsTypes.{TwoTys, OneTy, NonceTy, given_keeps, size_of_kept, atom_at_keeps}
 use Rattle.spi_message.proofs.Standing.{stand_keeps, stand_push, environment_keeps, stand_length}
 use Rattle.spi_message.proofs.Typings.{put_filled, none_stay, stay_push}
@@ -147,25 +148,23 @@ sum_good {s = s} {vs = vs} t h q k v p j (Ok b) g = record {
 }
 sum_good t h q k v p j (Err x) g = tt
 
-pub sum_bad : {s : Store} {env : List TyId} {t x y : TyId} {vs : List MsgId} {c : Bool} → TwoTys s t x y sum_ty → IsGood s env x vs c → c ≡ false → IsGood s env t vs false
-sum_bad {s} {vs = vs} t h q = record {
+-- a type of two parts, of which the first isn't good
+two_bad : {s : Store} {env : List TyId} {t x y : TyId} {vs : List MsgId} {c : Bool} {f : Ty → Ty → Ty} → ((e : Env) (us : List Message) (v w : Ty) → (r : Bool) × (good e (filled us (f v w)) ≡ (good e (filled us v) && r))) → TwoTys s t x y f → IsGood s env x vs c → c ≡ false → IsGood s env t vs false
+two_bad {s} {vs = vs} g t h q = record {
   at = λ e u st m w.
       let us = values_of s.messages vs in
       let z = t.at u m in
-      let f : good e (filled us z.0) ≡ false = sym (h.at e z.0 st z.3 w) ∙ q in
-      ap (λ d. d && good e (filled us z.1)) (sym f) ∙ sym (good_of_sum e (filled us z.0) (filled us z.1)) ∙ ap (λ x. good e (filled us x)) (sym z.2);
+      let r = g e us z.0 z.1 in
+      let p : good e (filled us z.0) ≡ false = sym (h.at e z.0 st z.3 w) ∙ q in
+      ap (λ d. d && r.0) (sym p) ∙ sym r.1 ∙ ap (λ x. good e (filled us x)) (sym z.2);
 }
 
+pub sum_bad : {s : Store} {env : List TyId} {t x y : TyId} {vs : List MsgId} {c : Bool} → TwoTys s t x y sum_ty → IsGood s env x vs c → c ≡ false → IsGood s env t vs false
+sum_bad t h q = two_bad (λ e us v w. (good e (filled us w), good_of_sum e (filled us v) (filled us w))) t h q
+
 pub pair_bad : {s : Store} {env : List TyId} {t x y : TyId} {vs : List MsgId} {c : Bool} → TwoTys s t x y pair_ty → IsGood s env x vs c → c ≡ false → IsGood s env t vs false
-pair_bad {s} {vs = vs} t h q = record {
-  at = λ e u st m w.
-      let us = values_of s.messages vs in
-      let z = t.at u m in
-      let v1 = filled us z.0 in
-      let v2 = ty_map (fill us) 1 z.1 in
-      let f : good e v1 ≡ false = sym (h.at e z.0 st z.3 w) ∙ q in
-      ap (λ d. d && good (e ++ v1 ∷ []) (ty_put (name (length e)) v2)) (sym f) ∙ sym (good-pair e v1 v2) ∙ ap (λ x. good e (filled us x)) (sym z.2);
-}
+pair_bad t h q =
+    two_bad (λ e us v w. let under = ty_map (fill us) 1 w in (good (e ++ filled us v ∷ []) (ty_put (name (length e)) under), good-pair e (filled us v) under)) t h q
 
 name_stays : (x : ℕ) (n : Message) (d : ℕ) → put n d (name x) ≡ name x
 name_stays x n d = refl

@@ -16,12 +16,13 @@ use Rattle.spi_intern.proofs.Meanings.{means_keeps}
 use Rattle.spi_intern.specs.declared.messages.MsgId.{MsgId}
 use Rattle.spi_intern.specs.declared.types.TyId.{TyId}
 use Rattle.spi_intern.specs.declared.store.Store.{Store}
+use Rattle.spi_intern.proofs.Sized.{at_message}
 use Rattle.spi_message.specs.Judging.{Numbered, StandFor, stand_none, Stands, IsGivenSmall, IsKept, IsJudge}
 use Rattle.spi_message.specs.Filling.{FillsTy, AreIdsBelow, ty_size}
 use Rattle.spi_message.specs.Asking.{IsEnvironment, IsTyped, IsLabelled, IsGood, IsAskedGood}
 use Rattle.spi_message.specs.Tests.{typed, labelled, good}
 use Rattle.spi_message.proofs.Deciding.{typed_true, typed_from, labelled_true, labelled_from, good_true, good_from}
-use Rattle.spi_message.proofs.Fills.{at_message, none_below}
+use Rattle.spi_message.proofs.Fills.{none_below}
 use Rattle.spi_message.proofs.FillsTypes.{means_size}
 use Rattle.spi_message.proofs.Standing.{stand_keeps, stand_push, stand_front, stand_length}
 use Rattle.spi_message.proofs.Typings.{filled_none, filled_one, none_stay}

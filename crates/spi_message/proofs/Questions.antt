@@ -21,13 +21,14 @@ use Rattle.spi_intern.specs.declared.store.TyPart.{TyPart}
 use Rattle.spi_intern.specs.declared.store.TyPart.TheVariants.{Un, Unit as NoParts, Pair, Sum, Key}
 use Rattle.spi_intern.proofs.Lists.{truths}
 use Rattle.spi_intern.proofs.Meanings.{means_keeps}
+use Rattle.spi_intern.proofs.Sized.{Tells, message_there}
 use Rattle.spi_intern.proofs.Telling.{types_tell}
 use Rattle.spi_message.specs.Judging.{StandFor}
 use Rattle.spi_message.specs.Filling.{fill, filled, AllStay, values_of, AreIdsBelow, FillsTy}
-use Rattle.spi_message.specs.Asking.{IsEnvironment, IsAsked, IsTyped, IsLabelled, IsKeyFor, IsNoKey, IsPayload, IsNoPayload}
+use Rattle.spi_message.specs.Asking.{IsEnvironment, IsAsked, IsTyped, IsLabelled, AreSides, sides_of_un, sides_of_sum, AreSidesOf, HasNoSides, IsKeyFor, IsNoKey, IsPayload, IsNoPayload}
 use Rattle.spi_message.specs.Tests.{is_un, is_unit, as_name, as_pair, as_left, as_right, key_in, type_of_key, by_key, typed, labelled}
 use Rattle.spi_message.proofs.Deciding.{and_false, key_alone}
-use Rattle.spi_message.proofs.Fills.{message_keeps, below_keeps, values_keep, all_below_keeps, message_there, none_below, Tells}
+use Rattle.spi_message.proofs.Fills.{message_keeps, below_keeps, values_keep, all_below_keeps, none_below}
 use Rattle.spi_message.proofs.FillsTypes.{TwoTys, OneTy, given_keeps}
 use Rattle.spi_message.proofs.Standing.{stand_keeps, stand_at, stand_none_at, environment_keeps, stand_length}
 use Rattle.spi_message.proofs.Typings.{typed_stays, put_filled, filled_none, none_stay, stay_push}
@@ -172,44 +173,58 @@ not_as_pair f g a vs says_un h k = absurd (h refl)
 not_as_pair f g a vs (says_pair_ty {a = x} {b = y} m n) h k = absurd (k x y refl)
 not_as_pair f g a vs _ h k = refl
 
-not_as_side : {s : Store} {p : TyPart} {u : Ty} (f : Ty → Bool) (vs : List Message) → SaysTy s p u → (p ≡ Un → ⊥) → ((x y : TyId) → p ≡ Sum x y → ⊥) → (false ≡ as_left f (filled vs u)) × (false ≡ as_right f (filled vs u))
-not_as_side f vs says_un h k = absurd (h refl)
-not_as_side f vs (says_sum {a = x} {b = y} m n) h k = absurd (k x y refl)
-not_as_side f vs _ h k = (refl, refl)
-
 pub pair_untyped : {s : Store} {env : List TyId} {a b : Message} {t : TyId} {vs : List MsgId} {p : TyPart} → ((u : Ty) → Means s t.place u → SaysTy s p u) → (p ≡ Un → ⊥) → ((x y : TyId) → p ≡ Pair x y → ⊥) → IsTyped s env (pair a b) t vs false
 pair_untyped {s} {a = a} {b = b} {vs = vs} f h k = record { at = λ e u st m w. not_as_pair (typed a e) (typed b e) a (values_of s.messages vs) (f u m) h k }
 
-pub left_untyped : {s : Store} {env : List TyId} {a : Message} {t : TyId} {vs : List MsgId} {p : TyPart} → ((u : Ty) → Means s t.place u → SaysTy s p u) → (p ≡ Un → ⊥) → ((x y : TyId) → p ≡ Sum x y → ⊥) → IsTyped s env (in_left a) t vs false
-left_untyped {s} {a = a} {vs = vs} f h k = record { at = λ e u st m w. (not_as_side (typed a e) (values_of s.messages vs) (f u m) h k).0 }
+-- the sides of a sum
+pub un_sides : {s : Store} {t : TyId} → ((u : Ty) → Means s t.place u → u ≡ un) → AreSidesOf s t t t
+un_sides f = record { at = λ u m. (u, u, subst (λ x. AreSides x x x) (sym (f u m)) sides_of_un, m, m) }
 
-pub right_untyped : {s : Store} {env : List TyId} {a : Message} {t : TyId} {vs : List MsgId} {p : TyPart} → ((u : Ty) → Means s t.place u → SaysTy s p u) → (p ≡ Un → ⊥) → ((x y : TyId) → p ≡ Sum x y → ⊥) → IsTyped s env (in_right a) t vs false
-right_untyped {s} {a = a} {vs = vs} f h k = record { at = λ e u st m w. (not_as_side (typed a e) (values_of s.messages vs) (f u m) h k).1 }
+pub sum_sides : {s : Store} {t x y : TyId} → TwoTys s t x y sum_ty → AreSidesOf s t x y
+sum_sides w = record { at = λ u m. let z = w.at u m in (z.0, z.1, subst (λ x. AreSides x z.0 z.1) (sym z.2) sides_of_sum, z.3, z.4) }
 
--- one part
-pub left_un : {E : Type 0} {s : Store} (env : List TyId) (a : Message) {t : TyId} (vs : List MsgId) → ((u : Ty) → Means s t.place u → u ≡ un) → (r : Result Bool E) → IfOk r (IsTyped s env a t vs) → IfOk r (IsTyped s env (in_left a) t vs)
-left_un {s = s} env a vs f (Ok b) h = record {
-  at = λ e u st m w. h.at e u st m w ∙ ap (λ v. typed a e (filled (values_of s.messages vs) v)) (f u m) ∙ ap (λ v. typed (in_left a) e (filled (values_of s.messages vs) v)) (sym (f u m));
+no_sides_says : {s : Store} {p : TyPart} {u v w : Ty} → AreSides u v w → SaysTy s p u → (p ≡ Un → ⊥) → ((x y : TyId) → p ≡ Sum x y → ⊥) → ⊥
+no_sides_says sides_of_un says_un h k = h refl
+no_sides_says sides_of_sum (says_sum {a = x} {b = y} m n) h k = k x y refl
+
+pub no_sides : {s : Store} {t : TyId} {p : TyPart} → ((u : Ty) → Means s t.place u → SaysTy s p u) → (p ≡ Un → ⊥) → ((x y : TyId) → p ≡ Sum x y → ⊥) → HasNoSides s t
+no_sides f h k = record { none = λ u v w m e. no_sides_says e (f u m) h k }
+
+pub side_given : {s : Store} {t x y : TyId} → AreSidesOf s t x y → IsGiven s t.place → IsGiven s x.place × IsGiven s y.place
+side_given w g = let z = w.at g.type g.means in (record { type = z.0; means = z.3 }, record { type = z.1; means = z.4 })
+
+as_sides : {u v w : Ty} (f : Ty → Bool) (vs : List Message) → AreSides u v w → (f (filled vs v) ≡ as_left f (filled vs u)) × (f (filled vs w) ≡ as_right f (filled vs u))
+as_sides f vs sides_of_un = (refl, refl)
+as_sides f vs sides_of_sum = (refl, refl)
+
+not_as_side : (u : Ty) → ((v w : Ty) → AreSides u v w → ⊥) → (f : Ty → Bool) (vs : List Message) → (false ≡ as_left f (filled vs u)) × (false ≡ as_right f (filled vs u))
+not_as_side un h f vs = absurd (h un un sides_of_un)
+not_as_side (sum_ty v w) h f vs = absurd (h v w sides_of_sum)
+not_as_side _ h f vs = (refl, refl)
+
+pub left_side_typed : {E : Type 0} {s : Store} (env : List TyId) {n a : Message} {t x y : TyId} (vs : List MsgId) → n ≡ in_left a → AreSidesOf s t x y → (r : Result Bool E) → IfOk r (IsTyped s env a x vs) → IfOk r (IsTyped s env n t vs)
+left_side_typed {s = s} env {a = a} vs q g (Ok b) h = record {
+  at = λ e u st m w.
+      let us = values_of s.messages vs in
+      let z = g.at u m in
+      h.at e z.0 st z.3 w ∙ (as_sides (typed a e) us z.2).0 ∙ sym (ap (λ n. typed n e (filled us u)) q);
 }
-left_un env a vs f (Err x) h = tt
+left_side_typed env vs q g (Err x) h = tt
 
-pub right_un : {E : Type 0} {s : Store} (env : List TyId) (a : Message) {t : TyId} (vs : List MsgId) → ((u : Ty) → Means s t.place u → u ≡ un) → (r : Result Bool E) → IfOk r (IsTyped s env a t vs) → IfOk r (IsTyped s env (in_right a) t vs)
-right_un {s = s} env a vs f (Ok b) h = record {
-  at = λ e u st m w. h.at e u st m w ∙ ap (λ v. typed a e (filled (values_of s.messages vs) v)) (f u m) ∙ ap (λ v. typed (in_right a) e (filled (values_of s.messages vs) v)) (sym (f u m));
+pub right_side_typed : {E : Type 0} {s : Store} (env : List TyId) {n a : Message} {t x y : TyId} (vs : List MsgId) → n ≡ in_right a → AreSidesOf s t x y → (r : Result Bool E) → IfOk r (IsTyped s env a y vs) → IfOk r (IsTyped s env n t vs)
+right_side_typed {s = s} env {a = a} vs q g (Ok b) h = record {
+  at = λ e u st m w.
+      let us = values_of s.messages vs in
+      let z = g.at u m in
+      h.at e z.1 st z.4 w ∙ (as_sides (typed a e) us z.2).1 ∙ sym (ap (λ n. typed n e (filled us u)) q);
 }
-right_un env a vs f (Err x) h = tt
+right_side_typed env vs q g (Err x) h = tt
 
-pub left_sum : {E : Type 0} {s : Store} (env : List TyId) (a : Message) {t x y : TyId} (vs : List MsgId) → TwoTys s t x y sum_ty → (r : Result Bool E) → IfOk r (IsTyped s env a x vs) → IfOk r (IsTyped s env (in_left a) t vs)
-left_sum {s = s} env a vs t (Ok b) h = record {
-  at = λ e u st m w. let z = t.at u m in h.at e z.0 st z.3 w ∙ ap (λ v. typed (in_left a) e (filled (values_of s.messages vs) v)) (sym z.2);
-}
-left_sum env a vs t (Err x) h = tt
+pub left_side_untyped : {s : Store} {env : List TyId} {n a : Message} {t : TyId} {vs : List MsgId} → n ≡ in_left a → HasNoSides s t → IsTyped s env n t vs false
+left_side_untyped {s} {a = a} {vs = vs} q g = record { at = λ e u st m w. (not_as_side u (λ v x. g.none u v x m) (typed a e) (values_of s.messages vs)).0 ∙ sym (ap (λ n. typed n e (filled (values_of s.messages vs) u)) q) }
 
-pub right_sum : {E : Type 0} {s : Store} (env : List TyId) (a : Message) {t x y : TyId} (vs : List MsgId) → TwoTys s t x y sum_ty → (r : Result Bool E) → IfOk r (IsTyped s env a y vs) → IfOk r (IsTyped s env (in_right a) t vs)
-right_sum {s = s} env a vs t (Ok b) h = record {
-  at = λ e u st m w. let z = t.at u m in h.at e z.1 st z.4 w ∙ ap (λ v. typed (in_right a) e (filled (values_of s.messages vs) v)) (sym z.2);
-}
-right_sum env a vs t (Err x) h = tt
+pub right_side_untyped : {s : Store} {env : List TyId} {n a : Message} {t : TyId} {vs : List MsgId} → n ≡ in_right a → HasNoSides s t → IsTyped s env n t vs false
+right_side_untyped {s} {a = a} {vs = vs} q g = record { at = λ e u st m w. (not_as_side u (λ v x. g.none u v x m) (typed a e) (values_of s.messages vs)).1 ∙ sym (ap (λ n. typed n e (filled (values_of s.messages vs) u)) q) }
 
 -- an answer over a store that has grown
 pub later_typed : {s r : Store} {env : List TyId} {b : MsgId} {t : TyId} {vs ws : List MsgId} {c : Bool} → Keeps s r → b.place < length s.messages → AreIdsBelow vs (length s.messages) → ws ≡ vs → IsTyped r env (message_at r.messages b) t ws c → IsTyped s env (message_at s.messages b) t vs c

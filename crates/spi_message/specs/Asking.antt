@@ -1,6 +1,6 @@
 -- Questions over shared terms: what is asked for, and what is answered of each environment that the numbers stand for.
 use Rattle.std.specs.Prelude.{◌≡◌, ◌+◌, ◌<◌, ◌^◌, Bool, List, map, length, Some, None}
-use Rattle.spi_term.specs.Term.{Message, Ty, key}
+use Rattle.spi_term.specs.Term.{Message, Ty, un, sum_ty, key}
 use Rattle.spi_term.specs.Substitution.{atom_map, effect_map}
 use Rattle.spi_rules.specs.Environment.{Env}
 use Rattle.spi_intern.specs.declared.messages.MsgId.{MsgId}
@@ -34,6 +34,19 @@ pub record IsTyped (s : Store) (env : List TyId) (n : Message) (t : TyId) (vs : 
 -- the message is a label
 pub record IsLabelled (s : Store) (env : List TyId) (n : Message) (b : Bool) : Type 0 where
   pub at : (e : Env) → StandFor s env e → b ≡ labelled n e
+
+-- the types that the two sides of a sum are asked for, where it is asked for a type: those of a sum type, and Un for Un
+pub data AreSides : Ty → Ty → Ty → Type 0 where
+  sides_of_un : AreSides un un un
+  sides_of_sum : {v w : Ty} → AreSides (sum_ty v w) v w
+
+-- their numbers
+pub record AreSidesOf (s : Store) (t left right : TyId) : Type 0 where
+  pub at : (u : Ty) → Means s t.place u
+      → (v w : Ty) × AreSides u v w × Means s left.place v × Means s right.place w
+
+pub record HasNoSides (s : Store) (t : TyId) : Type 0 where
+  pub none : (u v w : Ty) → Means s t.place u → AreSides u v w → ⊥
 
 -- the number of T, where the type is Key(T)
 pub record IsKeyFor (s : Store) (t p : TyId) : Type 0 where

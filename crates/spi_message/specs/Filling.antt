@@ -1,7 +1,7 @@
 -- Messages for several binders at once: the machine by which a type under binders is read without being opened.
 use Rattle.std.specs.Prelude.{◌≡◌, ℕ, suc, ◌+◌, ◌-◌, ◌<◌, ◌^◌, min, nat_lt, if◌then◌else◌, List, map, length, Option, Some, None, slice_get}
-use Rattle.spi_term.specs.Term.{Message, bound, name, unit, pair, in_left, in_right, enc, hash, Atom, ends, checks, many, Ty, un, unit_ty, pair_ty, sum_ty, key, nonce}
-use Rattle.spi_term.specs.Substitution.{put, atom_map, effect_map, ty_map}
+use Rattle.spi_term.specs.Term.{Message, bound, name, unit, pair, Atom, ends, checks, many, Ty, un, unit_ty, pair_ty, sum_ty, key, nonce}
+use Rattle.spi_term.specs.Substitution.{message_map, put, atom_map, effect_map, ty_map}
 use Rattle.spi_intern.specs.declared.messages.MsgId.{MsgId}
 use Rattle.spi_intern.specs.declared.types.TyId.{TyId}
 use Rattle.spi_intern.specs.declared.atoms.AtomId.{AtomId}
@@ -28,14 +28,7 @@ or_bound i (Some m) = m
 
 -- the values for the indices of a message that lead past d inner binders
 abbrev pub fill : List Message → ℕ → Message → Message
-fill vs d (bound i) = or_bound i (value_of vs d i)
-fill vs d (name x) = name x
-fill vs d unit = unit
-fill vs d (pair a b) = pair (fill vs d a) (fill vs d b)
-fill vs d (in_left a) = in_left (fill vs d a)
-fill vs d (in_right a) = in_right (fill vs d a)
-fill vs d (enc a b) = enc (fill vs d a) (fill vs d b)
-fill vs d (hash a) = hash (fill vs d a)
+fill vs d m = message_map (λ i. or_bound i (value_of vs d i)) name m
 
 abbrev pub filled : List Message → Ty → Ty
 filled vs t = ty_map (fill vs) 0 t

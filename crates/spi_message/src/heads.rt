@@ -4,7 +4,7 @@ ghost use Rattle.std.specs.Prelude.{◌≡◌, IfSome, IfNone, Some};
 ghost use Rattle.spi_term.specs.Term.{Ty as TypeTerm};
 ghost use Rattle.spi_intern.specs.Given.{IsGiven};
 ghost use Rattle.spi_intern.specs.Meaning.{Means};
-ghost use Rattle.spi_message.specs.Asking.{IsKeyFor, IsNoKey};
+ghost use Rattle.spi_message.specs.Asking.{IsKeyFor, IsNoKey, AreSidesOf, HasNoSides};
 ghost use Rattle.spi_message.specs.Forms.{is_nonce};
 ghost use Rattle.spi_message.specs.Tests.{is_un, is_unit, nonce_in};
 
@@ -52,6 +52,19 @@ pub fn payload_of(store: &Store, t: TyId) -> Option<TyId>
 {
     match store.ty_part(t) {
         TyPart::Key(payload) => Some(payload),
+        _ => None,
+    }
+}
+
+/// The types that the two sides of a sum are asked for, where it is asked for this type.
+pub fn sides_of(store: &Store, t: TyId) -> Option<(TyId, TyId)>
+    requires { IsGiven store.now t.place }
+    ensures some { IfSome result (λ sides. AreSidesOf store.now t sides.0 sides.1) }
+    ensures none { IfNone result (HasNoSides store.now t) }
+{
+    match store.ty_part(t) {
+        TyPart::Un => Some((t, t)),
+        TyPart::Sum(left, right) => Some((left, right)),
         _ => None,
     }
 }

@@ -12,6 +12,8 @@ ghost use Rattle.spi_intern.specs.Given.{IsGiven};
 ghost use Rattle.spi_intern.specs.Meaning.{Means, Keeps};
 ghost use Rattle.spi_intern.specs.Growing.{Adds, a_message, a_type};
 ghost use Rattle.spi_message.specs.Giving.{HasParts, GivesOnly, Compared, Examined, HasGiven};
+ghost use Rattle.spi_message.specs.Answered.{TellsTest, CanAsk};
+ghost use Rattle.spi_message.specs.Added.{AnswerGives};
 
 use crate::NoMemory;
 use crate::answering::answered;
@@ -151,6 +153,22 @@ impl Judge {
         filled_type(alloc, &mut self.store, &[m], 0, t)
     }
 
+    // The answer that is kept, or else what the rules say, which is kept from then on.
+    fn answer_in_scope(&mut self, alloc: Global, asked: Asked) -> Result<bool, NoMemory>
+        requires { CanAsk self.old.store (length self.old.types) asked }
+        ensures answer { IfOk result (TellsTest self.old.store self.old.types asked) }
+        ensures adds { OnOk result (AnswerGives self.old.store self.new.store self.old.types asked) }
+        ensures kept { IsKept self.old self.new }
+    {
+        answered(
+            alloc,
+            &mut self.store,
+            &mut self.types,
+            &mut self.answers,
+            asked,
+        )
+    }
+
     /// Whether the message has the type. Only types that a name of the message was compared with are new.
     pub fn has_type(&mut self, alloc: Global, m: MsgId, t: TyId) -> Result<bool, NoMemory>
         requires message { m.place < length self.old.store.messages }
@@ -166,13 +184,7 @@ impl Judge {
             → GivesOnly (Compared env n u) self.old.store self.new.store) }
         ensures kept { IsKept self.old self.new }
     {
-        answered(
-            alloc,
-            &mut self.store,
-            &mut self.types,
-            &mut self.answers,
-            Asked::Typed(m, t),
-        )
+        self.answer_in_scope(alloc, Asked::Typed(m, t))
     }
 
     /// Whether the message is a label. Only types that a name of the message was compared with are new.
@@ -187,13 +199,7 @@ impl Judge {
             → GivesOnly (Compared env n Term.un) self.old.store self.new.store) }
         ensures kept { IsKept self.old self.new }
     {
-        answered(
-            alloc,
-            &mut self.store,
-            &mut self.types,
-            &mut self.answers,
-            Asked::Labelled(m),
-        )
+        self.answer_in_scope(alloc, Asked::Labelled(m))
     }
 
     /// Whether the type is good. The length of the environment and the nodes of the type are at most 4,294,967,295
@@ -209,13 +215,7 @@ impl Judge {
             → GivesOnly (Examined env u) self.old.store self.new.store) }
         ensures kept { IsKept self.old self.new }
     {
-        answered(
-            alloc,
-            &mut self.store,
-            &mut self.types,
-            &mut self.answers,
-            Asked::Good(t),
-        )
+        self.answer_in_scope(alloc, Asked::Good(t))
     }
 
     /// What holds of every judge: it stands for an environment, in which the names from the start are the first.

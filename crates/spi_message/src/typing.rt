@@ -2,7 +2,7 @@
 // them, so that no type is opened but where it is compared.
 
 ghost use Rattle.std.specs.Prelude.{◌≡◌, ◌<◌, IfOk, OnOk, IfSome, IfNone, length};
-ghost use Rattle.spi_term.specs.Term.{name, pair, in_left, in_right, enc};
+ghost use Rattle.spi_term.specs.Term.{name, pair, enc};
 ghost use Rattle.spi_intern.specs.Messages.{message_at};
 ghost use Rattle.spi_intern.specs.Meaning.{Keeps};
 ghost use Rattle.spi_message.specs.Filling.{AreIdsBelow};
@@ -11,7 +11,7 @@ ghost use Rattle.spi_message.specs.Asking.{IsEnvironment, IsAsked, IsTyped, IsLa
 
 use crate::NoMemory;
 use crate::filling::filled_type;
-use crate::heads::{is_un_type, is_unit_type, payload_of};
+use crate::heads::{is_un_type, is_unit_type, payload_of, sides_of};
 use spi_intern::{MsgId, MsgPart, Store, TyId, TyPart};
 use spi_term::Ty;
 use std::alloc::Global;
@@ -80,8 +80,14 @@ pub fn has_type(
         MsgPart::Name(x) => name_has_type(alloc, store, env, x, t, values),
         MsgPart::Unit => Ok(is_unit_type(store, t)),
         MsgPart::Pair(a, b) => pair_has_type(alloc, store, env, a, b, t, values),
-        MsgPart::Inl(a) => left_has_type(alloc, store, env, a, t, values),
-        MsgPart::Inr(a) => right_has_type(alloc, store, env, a, t, values),
+        MsgPart::Inl(a) => match sides_of(store, t) {
+            Some((left, _)) => has_type(alloc, store, env, a, left, values),
+            None => Ok(false),
+        },
+        MsgPart::Inr(a) => match sides_of(store, t) {
+            Some((_, right)) => has_type(alloc, store, env, a, right, values),
+            None => Ok(false),
+        },
         MsgPart::Enc(a, b) => {
             if is_un_type(store, t) {
                 is_sealed(alloc, store, env, a, b)
@@ -139,58 +145,6 @@ fn pair_has_type(
             values.truncate(count);
             Ok(answer)
         }
-        _ => Ok(false),
-    }
-}
-
-#[cycle(typing)]
-fn left_has_type(
-    alloc: Global,
-    store: &mut Store,
-    env: &[TyId],
-    a: MsgId,
-    t: TyId,
-    values: &mut Vec<MsgId>,
-) -> Result<bool, NoMemory>
-    requires part { a.place < length store.old.messages }
-    requires asked { IsAsked store.old env.now t values.old.items }
-    ensures answer { IfOk result
-        (IsTyped store.old env.now (in_left (message_at store.old.messages a)) t values.old.items) }
-    ensures adds { OnOk result
-        (TypingGives store.old store.new env.now (in_left (message_at store.old.messages a)) t
-        values.old.items) }
-    ensures kept { Keeps store.old store.new }
-    ensures values { OnOk result (values.new.items ≡ values.old.items) }
-{
-    match store.ty_part(t) {
-        TyPart::Un => has_type(alloc, store, env, a, t, values),
-        TyPart::Sum(left, _) => has_type(alloc, store, env, a, left, values),
-        _ => Ok(false),
-    }
-}
-
-#[cycle(typing)]
-fn right_has_type(
-    alloc: Global,
-    store: &mut Store,
-    env: &[TyId],
-    a: MsgId,
-    t: TyId,
-    values: &mut Vec<MsgId>,
-) -> Result<bool, NoMemory>
-    requires part { a.place < length store.old.messages }
-    requires asked { IsAsked store.old env.now t values.old.items }
-    ensures answer { IfOk result
-        (IsTyped store.old env.now (in_right (message_at store.old.messages a)) t values.old.items) }
-    ensures adds { OnOk result
-        (TypingGives store.old store.new env.now (in_right (message_at store.old.messages a)) t
-        values.old.items) }
-    ensures kept { Keeps store.old store.new }
-    ensures values { OnOk result (values.new.items ≡ values.old.items) }
-{
-    match store.ty_part(t) {
-        TyPart::Un => has_type(alloc, store, env, a, t, values),
-        TyPart::Sum(_, right) => has_type(alloc, store, env, a, right, values),
         _ => Ok(false),
     }
 }

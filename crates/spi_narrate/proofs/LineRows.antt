@@ -23,7 +23,8 @@ use Rattle.spi_parts.proofs.Alone.{kinds_in_append}
 use Rattle.spi_parts.proofs.Bridge.{OfPieces, of_piece}
 use Rattle.spi_heading.specs.Spans.{start_of_token, end_before}
 use Rattle.spi_heading.specs.Taking.{IsThere, TakesOneToken, TakesWord}
-use Rattle.spi_heading.proofs.Standing.{AreTokensOf, IsSolid, stands_both}
+use Rattle.spi_heading.specs.Repeated.{IsSolid}
+use Rattle.spi_heading.proofs.Standing.{AreTokensOf, stands_both}
 use Rattle.spi_heading.proofs.Failing.{FailsAt, IsToldBy, told_fail, same_fail, first_fail, second_fail, fails_to}
 use Rattle.spi_heading.proofs.Symbols.{cells_append, HeadingSym, token, name, message, opening, closing, the_mark, the_word, to, on, as_}
 use Rattle.spi_heading.proofs.Rows.{Values, Row, row_good, row_pieces, row_into, row_from, row_behind, row_read, RowAt, RowFails, row_end, row_more, opened, closed, fits_at, stands_read}

@@ -22,7 +22,8 @@ use Rattle.spi_parts.proofs.Placed.{types_answer, messages_answer, declarations_
 use Rattle.spi_heading.specs.Headings as h
 use Rattle.spi_heading.specs.Each.{each_pieces}
 use Rattle.spi_heading.specs.Grammar.{shared_pieces, IsShared}
-use Rattle.spi_heading.proofs.Standing.{AreTokensOf, IsSolid, msg_solid, ty_solid, decl_solid}
+use Rattle.spi_heading.specs.Repeated.{IsSolid}
+use Rattle.spi_heading.proofs.Standing.{AreTokensOf, msg_solid, ty_solid, decl_solid}
 use Rattle.spi_heading.proofs.Symbols.{HeadingSym, token, name, message, ty, braced, opening, closing, Value, item_pieces, IsItem, item_behind}
 use Rattle.spi_heading.proofs.Rows.{Values, row_pieces, AreItems, fits_at}
 use Rattle.spi_heading.proofs.Calls.{part_at}

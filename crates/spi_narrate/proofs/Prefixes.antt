@@ -21,7 +21,8 @@ use Rattle.spi_heading.specs.Taking.{IsThere}
 use Rattle.spi_heading.proofs.Failing.{IsToldBy, fails_to}
 use Rattle.spi_heading.proofs.Symbols.{HeadingSym, token, name, message, ty, closing, the_mark, the_reserved}
 use Rattle.spi_heading.proofs.Rows.{Values, Row, row_pieces, row_into, row_behind, RowAt}
-use Rattle.spi_heading.proofs.Standing.{AreTokensOf, IsSolid}
+use Rattle.spi_heading.specs.Repeated.{IsSolid}
+use Rattle.spi_heading.proofs.Standing.{AreTokensOf}
 use Rattle.spi_heading.proofs.Calls.{part_stands, there_within}
 use Rattle.spi_heading.proofs.Reached.{ended, then_message, then_closing}
 use Rattle.spi_heading.proofs.Nodes.{node_row, node_starts, node_told, begun_node, node_reads}

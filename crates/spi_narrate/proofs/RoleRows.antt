@@ -1,5 +1,5 @@
 -- Roles: the first, and the further ones behind commas.
-use Rattle.std.proofs.Common.{◌≡◌, ℕ, ◌+◌, Bool, false, List, [], ◌∷◌, ◌++◌, drop, Result, Ok, Err, refl, sym, ap, subst, ◌∙◌, codes}
+use Rattle.std.proofs.Common.{◌≡◌, ℕ, ◌+◌, Bool, false, List, [], ◌∷◌, ◌++◌, drop, map, Result, Ok, Err, refl, sym, ap, subst, ◌∙◌, codes}
 use Rattle.std.specs.List.{AllByRecursion}
 use Rattle.std.specs.Result.{IsErrAnd}
 use Rattle.spi_lex.specs.declared.token.Kind.{Kind}
@@ -20,15 +20,19 @@ use Rattle.spi_grammar.proofs.Good.{IsSome, Differ, good_many}
 use Rattle.spi_parts.proofs.Alone.{kinds_in_append}
 use Rattle.spi_parts.proofs.Bridge.{OfPieces}
 use Rattle.spi_heading.specs.Taking.{IsThere, TakesOneToken, TakesWord}
-use Rattle.spi_heading.specs.Each.{each_pieces, IsWhole}
-use Rattle.spi_heading.proofs.Standing.{AreTokensOf, IsSolid, stands_both}
+use Rattle.spi_heading.specs.Each.{each_pieces, IsWhole, EachAt}
+use Rattle.spi_heading.specs.Repeated.{IsSolid, ReadsRepeated}
+use Rattle.spi_heading.proofs.Standing.{AreTokensOf, stands_both}
 use Rattle.spi_heading.proofs.Failing.{FailsAt, same_fail, first_fail, second_fail, fails_to}
 use Rattle.spi_heading.proofs.Symbols.{cells_append, HeadingSym, token, name, the_mark, the_word, roles}
 use Rattle.spi_heading.proofs.Versions.{Cells}
 use Rattle.spi_heading.proofs.Rows.{Row, row_good, row_pieces, row_into, row_from, row_read, RowAt, RowFails, row_end, row_more, fits_at}
 use Rattle.spi_heading.proofs.Calls.{part_at, took, took_word}
+use Rattle.spi_heading.proofs.RowParts.{AreRows, rows_same, part_fails, part_reads}
+use Rattle.spi_heading.proofs.Reached.{begun, ended, then_token, then_word, no_word}
 use Rattle.spi_heading.proofs.Each.{Along, along_rest, each_behind, one_read}
 use Rattle.spi_heading.proofs.Manys.{part_fail, more_fail, last_fail, both_fit, many_from, many_into}
+use Rattle.spi_narrate.specs.Views.{further_kind}
 use Rattle.spi_narrate.specs.Grammar.{comma_pieces, roles_pieces, IsAnyWord, HasRole, whole_roles, AreWholeRoles}
 
 abbrev pub roles_head : List HeadingSym
@@ -45,6 +49,18 @@ comma_behind w r = refl
 
 pub comma_solid : (w : SWord) (r : List Piece) → IsSolid (comma_pieces w r)
 comma_solid w r = tt
+
+pub comma_are : (v : Bool) → AreRows v (λ w. comma_pieces w []) (IsWhole v comma_pieces IsAnyWord) comma_row (λ w. (tt, (w, tt)))
+comma_are v = record {
+  part = λ xs. xs.1.0;
+  values_of = λ xs. refl;
+  formed = λ xs are fit. (tt, fit);
+  are = λ w is. (tt, (tt, tt));
+  fit = λ w is. is.1;
+  pieces_of = λ w. refl;
+  known = λ w are fit. (tt, fit);
+  solid = λ w. tt;
+}
 
 pub roles_are : (w : SWord) (ws : List SWord) → whole_roles (w ∷ ws) ≡ row_pieces roles_head (tt, (w, tt)) [] ++ (each_pieces comma_pieces ws [] ++ row_pieces semicolon_row (tt, tt) [])
 roles_are w ws = ap (λ (l : List Piece). cell (K.Word (codes "roles")) false ∷ opens w.span.from ∷ cell (K.Word w.word) false ∷ closes w.span.to ∷ l) (each_behind comma_pieces comma_behind ws (a_mark mark.Semicolon []))
@@ -65,13 +81,7 @@ module _ (v : Bool) where
   -- ---- words behind commas
 
   comma_same : IsSame (Row v comma_row) Commas
-  comma_same = record { there = there; back = back }
-    where
-      there : (cs : Cells) → Row v comma_row cs → Commas cs
-      there cs r = let f = row_from v comma_row cs r in record { part = f.values.1.0; is = (tt, f.fit); shows = f.shows }
-
-      back : (cs : Cells) → Commas cs → Row v comma_row cs
-      back cs p = subst (Row v comma_row) p.shows (row_into v comma_row (tt, (p.part, tt)) (tt, (tt, tt)) p.is.1)
+  comma_same = rows_same (comma_are v)
 
   pub commas_good : IsGoodKind Commas
   commas_good = record {
@@ -163,9 +173,6 @@ module _ (v : Bool) where
       (row_more v ts j k k name [] w tt (took_word v ts j (w, k) g) (row_end v ts k))
 
   module _ (ts : List Token) (fit : AreWordsFit v (kinds_of ts)) where
-    pub comma_fails : (i : ℕ) (f : ParseFault) → RowFails v ts i comma_row f → FailsAt Commas ts i f
-    comma_fails i f h = same_fail (Row v comma_row) Commas ts comma_same i f h.by
-
     comma_starts : (a : Cells) × Commas a × (x : List Kind) × (kinds a ≡ K.Mark mark.Comma ∷ x)
     comma_starts = go commas_good.live.0 commas_good.live.1 (kinds commas_good.live.0) refl
       where
@@ -226,3 +233,16 @@ roles_first v a p = go p.part p.is.0 p.shows
     go : (ws : List SWord) → HasRole ws → cells (whole_roles ws) ≡ a → (x : List Kind) × (kinds a ≡ K.Word (codes "roles") ∷ x)
     go [] h e = absurd (let f : [] ≡ h.0 ∷ h.1 = h.2 in cc)
     go (w ∷ ws) h e = (_, ap kinds (sym e))
+
+-- ---- reading the further roles
+
+pub further_reads : (v : Bool) (ts : List Token) (i j : ℕ) → AreWordsFit v (kinds_of ts) → TakesOneToken (K.Mark mark.Comma) (Ok j) ts i → (r : Result (SWord × ℕ) ParseFault) → TakesWord r ts j → ReadsRepeated further_kind v r ts i
+further_reads v ts i j fit h (Ok r) t = part_reads (comma_are v) ts i fit r.0 r.1 (ended (then_word (then_token (begun v ts i comma_row fit) j h) r.0 r.1 t))
+further_reads v ts i j fit h (Err f) t = part_fails (comma_are v) ts i (λ (w : SWord). w) f (Err f) refl (no_word (then_token (begun v ts i comma_row fit) j h) f t)
+
+map_same : (ws : List SWord) → map (λ (w : SWord). w) ws ≡ ws
+map_same [] = refl
+map_same (w ∷ ws) = ap (λ (l : List SWord). w ∷ l) (map_same ws)
+
+pub further_are : (ws : List SWord) (ts : List Token) (i j : ℕ) → EachAt comma_pieces IsAnyWord (map (λ (w : SWord). w) ws) ts i j → EachAt comma_pieces IsAnyWord ws ts i j
+further_are ws ts i j h = subst (λ (l : List SWord). EachAt comma_pieces IsAnyWord l ts i j) (map_same ws) h

@@ -15,6 +15,7 @@ use Rattle.spi_parts.proofs.Behind.{decl_behind}
 use Rattle.spi_parts.proofs.Bridge.{of_piece}
 use Rattle.spi_heading.specs.Headings as h
 use Rattle.spi_heading.specs.Spans.{span_over}
+use Rattle.spi_heading.specs.Reading.{HeadingAt}
 use Rattle.spi_heading.specs.Taking.{ReadsVersion}
 use Rattle.spi_heading.specs.Each.{each_pieces, ReadsEach, FailsWhole}
 use Rattle.spi_heading.specs.Grammar.{shared_pieces, IsShared}
@@ -31,8 +32,9 @@ use Rattle.spi_narrate.specs.Reads.{IsNarrationSpelled, ParsesNarration}
 use Rattle.spi_heading.proofs.Lasts.{last_answer}
 use Rattle.spi_narrate.proofs.LineRows.{lines_good, line_behind, line_solids}
 use Rattle.spi_narrate.proofs.RoleRows.{Roles, roles_good}
+use Rattle.spi_heading.proofs.Fronts.{heading_decls, heading_shared}
 use Rattle.spi_heading.proofs.Versions.{version_row_at, version_fits, version_known}
-use Rattle.spi_narrate.proofs.Whole.{narration_body, body_are, LinesOn, RolesOn, Narrations, lines_some, lines_live, version_are}
+use Rattle.spi_narrate.proofs.Whole.{narration_body, body_are, LinesOn, RolesOn, Narrations, narrations_headed, lines_some, lines_live, version_are}
 
 -- ---- what stands behind the shared names
 
@@ -89,29 +91,29 @@ module _ (ts : List Token) (some : 0 < length ts) (s : Span) (spans : s ≡ span
             (subst (λ (n : ℕ). AreTokensOf ts n (narration_body ds ss ws ls ++ closes s.to ∷ []) (length ts)) h.1 body),
       )
 
-  pub narration_read : (fit : AreWordsFit (is_version_2 (kinds_of ts)) (kinds_of ts)) (r : ℕ × ℕ) (vr : ReadsVersion (Ok r) ts) (ds : List t.Declared) (ss : List h.Shared) (w : SWord) (ws : List SWord) (ls : List n.Line) (j k l : ℕ)
-      → Along decl_pieces decl_behind (IsDeclared (r.0 == 2)) ts r.1 ds j → Along shared_pieces shared_behind (IsShared (r.0 == 2)) ts j ss k → AreTokensOf ts k (whole_roles (w ∷ ws)) l → Along line_pieces line_behind (IsLine (r.0 == 2)) ts l ls (length ts)
-      → IsNarrationSpelled (record { span = s; version = r.0; decls = ds; shared = ss; roles = w ∷ ws; lines = ls }) ts
-  narration_read fit r vr ds ss w ws ls j k l a b c d = (
+  pub narration_read : AreWordsFit (is_version_2 (kinds_of ts)) (kinds_of ts) → (v : ℕ) (ds : List t.Declared) (ss : List h.Shared) (w : SWord) (ws : List SWord) (ls : List n.Line) (k l : ℕ) → HeadingAt v ds ss ts k → AreTokensOf ts k (whole_roles (w ∷ ws)) l
+      → Along line_pieces line_behind (IsLine (v == 2)) ts l ls (length ts) → IsNarrationSpelled (record { span = s; version = v; decls = ds; shared = ss; roles = w ∷ ws; lines = ls }) ts
+  narration_read fit v ds ss w ws ls k l a c d = (
     record {
-      version = version_known ts r vr;
-      decls = a.are;
-      shared = b.are;
+      version = version_known ts (v, a.front.start) a.front.front.read;
+      decls = a.front.decls.0.are;
+      shared = a.shared.0.are;
       roles = (w, ws, refl);
       lines = d.are;
-      words = fits_at (r.0 == 2) ts (whole_narration x) 0 (length ts) (version_fits ts fit r vr) stands;
+      words = fits_at (v == 2) ts (whole_narration x) 0 (length ts) fit_in stands;
     },
     spell x stands,
   )
     where
       x : n.Narration
-      x = record { span = s; version = r.0; decls = ds; shared = ss; roles = w ∷ ws; lines = ls }
+      x = record { span = s; version = v; decls = ds; shared = ss; roles = w ∷ ws; lines = ls }
 
-      body : AreTokensOf ts r.1 (narration_body ds ss (w ∷ ws) ls ++ closes s.to ∷ []) (length ts)
-      body = closes_at (narration_body ds ss (w ∷ ws) ls) r.1 (body_stands (r.0 == 2) ts (version_fits ts fit r vr) ds ss (w ∷ ws) ls r.1 j k l (length ts) a b c d)
+      fit_in : AreWordsFit (v == 2) (kinds_of ts)
+      fit_in = version_fits ts fit (v, a.front.start) a.front.front.read
 
       stands : AreTokensOf ts 0 (whole_narration x) (length ts)
-      stands = whole_stands ds ss (w ∷ ws) ls r vr body
+      stands = whole_stands ds ss (w ∷ ws) ls (v, a.front.start) a.front.front.read
+          (closes_at (narration_body ds ss (w ∷ ws) ls) a.front.start (body_stands (v == 2) ts fit_in ds ss (w ∷ ws) ls a.front.start a.start k l (length ts) (heading_decls narrations_headed ts fit v ds ss k a) (heading_shared narrations_headed ts fit v ds ss k a) c d))
 
 -- ---- the answers of the call
 

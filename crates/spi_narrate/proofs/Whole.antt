@@ -8,7 +8,6 @@ use Rattle.spi_tree.specs.declared.tree.SWord.{SWord}
 use Rattle.spi_tree.specs.Trees as t
 use Rattle.spi_tree.specs.Pieces.{Piece, opens, closes, cells, kinds_in, decl_pieces}
 use Rattle.spi_tree.specs.Formed.{AreWordsFit, IsDeclared}
-use Rattle.spi_parse.specs.Bare.{nowhere}
 use Rattle.spi_parse.proofs.Words.{fits_front, fits_drop}
 use Rattle.spi_grammar.specs.Exactly.{kinds, IsLive, Then, Either, Many, Nothing}
 use Rattle.spi_grammar.proofs.Cuts.{kinds_append}
@@ -32,6 +31,7 @@ use Rattle.spi_narrate.specs.Narrations as n
 use Rattle.spi_narrate.specs.Grammar.{line_pieces, IsLine, roles_pieces, whole_roles, HasRole, whole_narration, IsNarration}
 use Rattle.spi_narrate.proofs.LineRows.{Lines, line_behind, line_first}
 use Rattle.spi_narrate.proofs.RoleRows.{Roles, roles_good, roles_first, roles_behind}
+use Rattle.spi_tree.specs.Trees.{nowhere}
 
 -- what stands behind the version
 abbrev pub narration_body : List t.Declared → List h.Shared → List SWord → List n.Line → List Piece

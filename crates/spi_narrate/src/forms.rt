@@ -4,36 +4,28 @@ ghost use Rattle.std.specs.Prelude.{◌≡◌, ◌≤◌, ◌⊎◌, ◌==◌, [
 ghost use Rattle.spi_lex.specs.declared.token.Kind.TheVariants as kinds;
 ghost use Rattle.spi_lex.specs.declared.token.Mark.TheVariants as marks;
 ghost use Rattle.spi_lex.specs.declared.token.Reserved.TheVariants as word;
-ghost use Rattle.spi_lex.specs.Lexing.{kinds_of};
 ghost use Rattle.spi_tree.specs.Formed.{AreWordsFit, IsMsg, IsTy};
 ghost use Rattle.spi_tree.specs.Pieces.{a_mark, a_reserved, msg_pieces, named_pieces, kinds_in};
 ghost use Rattle.spi_tree.specs.Trees.{Msg};
 ghost use Rattle.spi_tree.specs.Views.{msg_of};
 ghost use Rattle.spi_parse.specs.Exact.{Reads};
 ghost use Rattle.spi_heading.specs.Headings as headings;
-ghost use Rattle.spi_heading.specs.Taking.{IsThere};
+ghost use Rattle.spi_heading.specs.Taking.{IsTextOf, IsThere};
 ghost use Rattle.spi_heading.specs.Views.{named_of};
 ghost use Rattle.spi_narrate.specs.Grammar.{whole_prefix, IsWholePrefix};
 ghost use Rattle.spi_narrate.specs.Views.{prefix_of};
 ghost use Rattle.spi_narrate.specs.Words.{IsReservedAt};
 
 use crate::tree::Prefix;
-use spi_heading::{Named, named_at, span_between, take_mark, take_reserved};
+use spi_heading::{Named, ReadPart, named_at, span_between, take_mark, take_reserved};
 use spi_lex::{Kind, Mark, Reserved, Token};
 use spi_parse::{ParseFault, message_at};
 use spi_tree::SMsg;
 use std::alloc::Global;
 
 /// `M is`, from the token of number `at` on.
-fn whole_at(
-    alloc: Global,
-    tokens: &[Token],
-    at: u32,
-    version: u32,
-) -> Result<(SMsg, u32), ParseFault>
-    requires size { length tokens.now ≤ 16_777_216 }
-    requires known { (version ≡ 1) ⊎ (version ≡ 2) }
-    requires words { AreWordsFit (version == 2) (kinds_of tokens.now) }
+fn whole_at(alloc: Global, tokens: &[Token], at: u32, version: u32) -> ReadPart<SMsg>
+    requires text { IsTextOf version tokens.now }
     requires start { at ≤ length tokens.now }
     ensures read { let pieces = λ (x : Msg). msg_pieces 1 x (a_reserved word.Is []) in
         Reads msg_of pieces
@@ -53,10 +45,8 @@ fn bound_at(
     at: u32,
     mark: Mark,
     version: u32,
-) -> Result<((SMsg, Named), u32), ParseFault>
-    requires size { length tokens.now ≤ 16_777_216 }
-    requires known { (version ≡ 1) ⊎ (version ≡ 2) }
-    requires words { AreWordsFit (version == 2) (kinds_of tokens.now) }
+) -> ReadPart<(SMsg, Named)>
+    requires text { IsTextOf version tokens.now }
     requires start { at ≤ length tokens.now }
     ensures read { let pieces = λ (x : Msg × headings.Named). msg_pieces 1 x.0
         (a_reserved word.Is (a_mark mark (named_pieces x.1.name x.1.ty []))) in
@@ -73,16 +63,8 @@ fn bound_at(
 }
 
 /// `(x: T)`, or with another mark before the name, from the token of number `at` on.
-fn closed_at(
-    alloc: Global,
-    tokens: &[Token],
-    at: u32,
-    mark: Mark,
-    version: u32,
-) -> Result<(Named, u32), ParseFault>
-    requires size { length tokens.now ≤ 16_777_216 }
-    requires known { (version ≡ 1) ⊎ (version ≡ 2) }
-    requires words { AreWordsFit (version == 2) (kinds_of tokens.now) }
+fn closed_at(alloc: Global, tokens: &[Token], at: u32, mark: Mark, version: u32) -> ReadPart<Named>
+    requires text { IsTextOf version tokens.now }
     requires start { at ≤ length tokens.now }
     ensures read { let pieces = λ (x : headings.Named).
         a_mark mark (named_pieces x.name x.ty (a_mark marks.ParenClose [])) in
@@ -98,15 +80,8 @@ fn closed_at(
 }
 
 /// `split M is (x: T, y: U)`, where the token of number `at` is its first.
-fn split_at(
-    alloc: Global,
-    tokens: &[Token],
-    at: u32,
-    version: u32,
-) -> Result<(Prefix, u32), ParseFault>
-    requires size { length tokens.now ≤ 16_777_216 }
-    requires known { (version ≡ 1) ⊎ (version ≡ 2) }
-    requires words { AreWordsFit (version == 2) (kinds_of tokens.now) }
+fn split_at(alloc: Global, tokens: &[Token], at: u32, version: u32) -> ReadPart<Prefix>
+    requires text { IsTextOf version tokens.now }
     requires first { IsThere tokens.now at (kinds.Reserved word.Split) }
     ensures { Reads prefix_of whole_prefix (IsWholePrefix (version == 2)) result tokens.now at }
 {
@@ -117,10 +92,8 @@ fn split_at(
     Ok((
         Prefix::Split {
             whole,
-            left: left.name,
-            left_ty: left.ty,
-            right: right.name,
-            right_ty: right.ty,
+            left,
+            right,
             span,
         },
         next,
@@ -128,15 +101,8 @@ fn split_at(
 }
 
 /// `match M is (x: T = N, y: U)`, where the token of number `at` is its first.
-fn match_at(
-    alloc: Global,
-    tokens: &[Token],
-    at: u32,
-    version: u32,
-) -> Result<(Prefix, u32), ParseFault>
-    requires size { length tokens.now ≤ 16_777_216 }
-    requires known { (version ≡ 1) ⊎ (version ≡ 2) }
-    requires words { AreWordsFit (version == 2) (kinds_of tokens.now) }
+fn match_at(alloc: Global, tokens: &[Token], at: u32, version: u32) -> ReadPart<Prefix>
+    requires text { IsTextOf version tokens.now }
     requires first { IsThere tokens.now at (kinds.Reserved word.Match) }
     ensures { Reads prefix_of whole_prefix (IsWholePrefix (version == 2)) result tokens.now at }
 {
@@ -149,11 +115,9 @@ fn match_at(
     Ok((
         Prefix::Match {
             whole,
-            left: left.name,
-            left_ty: left.ty,
+            left,
             equal,
-            right: right.name,
-            right_ty: right.ty,
+            right,
             span,
         },
         next,
@@ -161,28 +125,20 @@ fn match_at(
 }
 
 /// `decrypt M is {x: T}N`, where the token of number `at` is its first.
-fn decrypt_at(
-    alloc: Global,
-    tokens: &[Token],
-    at: u32,
-    version: u32,
-) -> Result<(Prefix, u32), ParseFault>
-    requires size { length tokens.now ≤ 16_777_216 }
-    requires known { (version ≡ 1) ⊎ (version ≡ 2) }
-    requires words { AreWordsFit (version == 2) (kinds_of tokens.now) }
+fn decrypt_at(alloc: Global, tokens: &[Token], at: u32, version: u32) -> ReadPart<Prefix>
+    requires text { IsTextOf version tokens.now }
     requires first { IsThere tokens.now at (kinds.Reserved word.Decrypt) }
     ensures { Reads prefix_of whole_prefix (IsWholePrefix (version == 2)) result tokens.now at }
 {
-    let (bound, close) = bound_at(alloc, tokens, at + 1, Mark::BraceOpen, version)?;
+    let (opened, close) = bound_at(alloc, tokens, at + 1, Mark::BraceOpen, version)?;
     let key_at = take_mark(tokens, close, Mark::BraceClose)?;
     let (key, next) = message_at(alloc, tokens, key_at, version)?;
-    let (whole, named) = bound;
+    let (whole, bound) = opened;
     let span = span_between(tokens, at, next);
     Ok((
         Prefix::Decrypt {
             whole,
-            name: named.name,
-            ty: named.ty,
+            bound,
             key,
             span,
         },
@@ -191,15 +147,8 @@ fn decrypt_at(
 }
 
 /// `check M is N`, where the token of number `at` is its first.
-fn check_at(
-    alloc: Global,
-    tokens: &[Token],
-    at: u32,
-    version: u32,
-) -> Result<(Prefix, u32), ParseFault>
-    requires size { length tokens.now ≤ 16_777_216 }
-    requires known { (version ≡ 1) ⊎ (version ≡ 2) }
-    requires words { AreWordsFit (version == 2) (kinds_of tokens.now) }
+fn check_at(alloc: Global, tokens: &[Token], at: u32, version: u32) -> ReadPart<Prefix>
+    requires text { IsTextOf version tokens.now }
     requires first { IsThere tokens.now at (kinds.Reserved word.Check) }
     ensures { Reads prefix_of whole_prefix (IsWholePrefix (version == 2)) result tokens.now at }
 {
@@ -216,10 +165,8 @@ fn label_at(
     at: u32,
     form: Reserved,
     version: u32,
-) -> Result<(Prefix, u32), ParseFault>
-    requires size { length tokens.now ≤ 16_777_216 }
-    requires known { (version ≡ 1) ⊎ (version ≡ 2) }
-    requires words { AreWordsFit (version == 2) (kinds_of tokens.now) }
+) -> ReadPart<Prefix>
+    requires text { IsTextOf version tokens.now }
     requires first { IsThere tokens.now at (kinds.Reserved form) }
     requires form { (form ≡ word.Begin) ⊎ ((form ≡ word.End)
         ⊎ ((form ≡ word.EndMany) × ((version == 2) ≡ true))) }
@@ -235,55 +182,26 @@ fn label_at(
 }
 
 /// `cast M is (x: T)`, where the token of number `at` is its first.
-fn cast_at(
-    alloc: Global,
-    tokens: &[Token],
-    at: u32,
-    version: u32,
-) -> Result<(Prefix, u32), ParseFault>
-    requires size { length tokens.now ≤ 16_777_216 }
-    requires known { (version ≡ 1) ⊎ (version ≡ 2) }
-    requires words { AreWordsFit (version == 2) (kinds_of tokens.now) }
+fn cast_at(alloc: Global, tokens: &[Token], at: u32, version: u32) -> ReadPart<Prefix>
+    requires text { IsTextOf version tokens.now }
     requires first { IsThere tokens.now at (kinds.Reserved word.Cast) }
     ensures { Reads prefix_of whole_prefix (IsWholePrefix (version == 2)) result tokens.now at }
 {
     let (whole, open) = whole_at(alloc, tokens, at + 1, version)?;
-    let (named, next) = closed_at(alloc, tokens, open, Mark::ParenOpen, version)?;
+    let (bound, next) = closed_at(alloc, tokens, open, Mark::ParenOpen, version)?;
     let span = span_between(tokens, at, next);
-    Ok((
-        Prefix::Cast {
-            whole,
-            name: named.name,
-            ty: named.ty,
-            span,
-        },
-        next,
-    ))
+    Ok((Prefix::Cast { whole, bound, span }, next))
 }
 
 /// `new (x: T)`, where the token of number `at` is its first.
-fn new_at(
-    alloc: Global,
-    tokens: &[Token],
-    at: u32,
-    version: u32,
-) -> Result<(Prefix, u32), ParseFault>
-    requires size { length tokens.now ≤ 16_777_216 }
-    requires known { (version ≡ 1) ⊎ (version ≡ 2) }
-    requires words { AreWordsFit (version == 2) (kinds_of tokens.now) }
+fn new_at(alloc: Global, tokens: &[Token], at: u32, version: u32) -> ReadPart<Prefix>
+    requires text { IsTextOf version tokens.now }
     requires first { IsThere tokens.now at (kinds.Reserved word.New) }
     ensures { Reads prefix_of whole_prefix (IsWholePrefix (version == 2)) result tokens.now at }
 {
-    let (named, next) = closed_at(alloc, tokens, at + 1, Mark::ParenOpen, version)?;
+    let (bound, next) = closed_at(alloc, tokens, at + 1, Mark::ParenOpen, version)?;
     let span = span_between(tokens, at, next);
-    Ok((
-        Prefix::New {
-            name: named.name,
-            ty: named.ty,
-            span,
-        },
-        next,
-    ))
+    Ok((Prefix::New { bound, span }, next))
 }
 
 /// The reserved word at the token of this number, where one stands there.
@@ -301,15 +219,8 @@ fn reserved_word(tokens: &[Token], at: u32) -> Option<Reserved>
 
 /// The part of a process form that the tokens from number `at` on begin with, in a text of the version, and the number of the
 /// token behind it. Where they begin with none that is within the nesting limits, the faults are as `message_at` has them.
-pub fn prefix_at(
-    alloc: Global,
-    tokens: &[Token],
-    at: u32,
-    version: u32,
-) -> Result<(Prefix, u32), ParseFault>
-    requires size { length tokens.now ≤ 16_777_216 }
-    requires known { (version ≡ 1) ⊎ (version ≡ 2) }
-    requires words { AreWordsFit (version == 2) (kinds_of tokens.now) }
+pub fn prefix_at(alloc: Global, tokens: &[Token], at: u32, version: u32) -> ReadPart<Prefix>
+    requires text { IsTextOf version tokens.now }
     ensures { Reads prefix_of whole_prefix (IsWholePrefix (version == 2)) result tokens.now at }
 {
     let Some(word) = reserved_word(tokens, at) else {

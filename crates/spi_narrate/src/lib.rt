@@ -13,7 +13,6 @@ mod tree;
 pub use fault::NarrateFault;
 pub use faultless::read_narration;
 pub use laws::{one_first_fault, one_narration};
-pub use lines::{line_at, lines_at};
 pub use reading::parse_narration;
 pub use roles::roles_at;
 pub use tree::{Line, Narration, Prefix};

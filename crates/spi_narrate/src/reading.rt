@@ -1,15 +1,15 @@
 //! Whole narrations.
 
-ghost use Rattle.std.specs.Prelude.{◌≡◌, ◌≤◌, length};
+ghost use Rattle.std.specs.Prelude.{◌≤◌, length};
 ghost use Rattle.spi_lex.specs.Lexing.{kinds_of, is_version_2};
 ghost use Rattle.spi_tree.specs.Formed.{AreWordsFit};
 ghost use Rattle.spi_narrate.specs.Reads.{ParsesNarration};
 ghost use Rattle.spi_narrate.specs.Views.{narration_of};
 
-use crate::lines::lines_at;
+use crate::lines::Lines;
 use crate::roles::roles_at;
 use crate::tree::Narration;
-use spi_heading::{declarations_at, shared_names_at, span_between, version_of};
+use spi_heading::{heading_at, parts_at, span_between};
 use spi_lex::Token;
 use spi_parse::ParseFault;
 use std::alloc::Global;
@@ -25,17 +25,15 @@ pub fn parse_narration(alloc: Global, tokens: &[Token]) -> Result<Narration, Par
     requires words { AreWordsFit (is_version_2 (kinds_of tokens.now)) (kinds_of tokens.now) }
     ensures { ParsesNarration narration_of result tokens.now }
 {
-    let (version, start) = version_of(tokens)?;
-    let (decls, shared_start) = declarations_at(alloc, tokens, start, version)?;
-    let (shared, roles_start) = shared_names_at(alloc, tokens, shared_start, version)?;
-    let (roles, lines_start) = roles_at(alloc, tokens, roles_start, version)?;
-    let (lines, end) = lines_at(alloc, tokens, lines_start, version)?;
+    let (heading, roles_start) = heading_at(alloc, tokens)?;
+    let (roles, lines_start) = roles_at(alloc, tokens, roles_start, heading.version)?;
+    let (lines, end) = parts_at::<Lines>(alloc, tokens, lines_start, heading.version)?;
     let (first, more) = roles;
     let span = span_between(tokens, 0, end);
     Ok(Narration {
-        version,
-        decls,
-        shared,
+        version: heading.version,
+        decls: heading.decls,
+        shared: heading.shared,
         first,
         more,
         lines,

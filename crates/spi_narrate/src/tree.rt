@@ -1,8 +1,8 @@
 //! The trees of narrations.
 
-use spi_heading::Shared;
+use spi_heading::{Named, Shared};
 use spi_text::Span;
-use spi_tree::{Decl, SMsg, STy, SWord};
+use spi_tree::{Decl, SMsg, SWord};
 
 /// A narration: `["version" 2 ";"]? {Decl}* {Shared}* "roles" A, B, ..; {Line}*`. The first role stands apart, since there is one.
 #[derive(Drop)]
@@ -60,27 +60,22 @@ pub enum Prefix {
     /// `split M is (x: T, y: U)`
     Split {
         whole: SMsg,
-        left: SWord,
-        left_ty: STy,
-        right: SWord,
-        right_ty: STy,
+        left: Named,
+        right: Named,
         span: Span,
     },
     /// `match M is (x: T = N, y: U)`
     Match {
         whole: SMsg,
-        left: SWord,
-        left_ty: STy,
+        left: Named,
         equal: SMsg,
-        right: SWord,
-        right_ty: STy,
+        right: Named,
         span: Span,
     },
     /// `decrypt M is {x: T}N`
     Decrypt {
         whole: SMsg,
-        name: SWord,
-        ty: STy,
+        bound: Named,
         key: SMsg,
         span: Span,
     },
@@ -108,14 +103,12 @@ pub enum Prefix {
     /// `cast M is (x: T)`
     Cast {
         whole: SMsg,
-        name: SWord,
-        ty: STy,
+        bound: Named,
         span: Span,
     },
     /// `new (x: T)`
     New {
-        name: SWord,
-        ty: STy,
+        bound: Named,
         span: Span,
     },
 }
@@ -126,24 +119,19 @@ impl Drop for Prefix {
             Prefix::Split {
                 whole: _,
                 left: _,
-                left_ty: _,
                 right: _,
-                right_ty: _,
                 span: _,
             } => {}
             Prefix::Match {
                 whole: _,
                 left: _,
-                left_ty: _,
                 equal: _,
                 right: _,
-                right_ty: _,
                 span: _,
             } => {}
             Prefix::Decrypt {
                 whole: _,
-                name: _,
-                ty: _,
+                bound: _,
                 key: _,
                 span: _,
             } => {}
@@ -157,15 +145,10 @@ impl Drop for Prefix {
             Prefix::EndMany { label: _, span: _ } => {}
             Prefix::Cast {
                 whole: _,
-                name: _,
-                ty: _,
+                bound: _,
                 span: _,
             } => {}
-            Prefix::New {
-                name: _,
-                ty: _,
-                span: _,
-            } => {}
+            Prefix::New { bound: _, span: _ } => {}
         }
     }
 }

@@ -5,11 +5,10 @@ use Rattle.spi_infer.specs.Passes.{Note, note_of}
 use Rattle.spi_message.proofs.Opened.{numbered_prefix, numbered_fork, numbered_leaf, size_enter}
 use Rattle.spi_message.specs.Forms.{enter, more, on_first, on_rest}
 use Rattle.spi_origin.specs.Gathering.{Aim, all_blocking, all_origins, keeps, picks, with_node, picked}
-use Rattle.spi_origin.specs.Listing.{AreAscending}
 use Rattle.spi_rules.specs.Environment.{Env}
 use Rattle.spi_term.proofs.Lists.{in_append, in_cases}
 use Rattle.spi_term.proofs.Numbers.{size_numbered}
-use Rattle.spi_term.specs.Lists.{In, in_first, in_later}
+use Rattle.spi_term.specs.Lists.{In, in_first, in_later, AreAscending}
 use Rattle.spi_term.specs.Spelling.{leaf_at, prefix_at, fork_at, numbered}
 use Rattle.spi_term.specs.Term.{Effect, Leaf, Prefix, Fork, Process, leaf, prefix, fork, binds, fork_binds, process_size}
 

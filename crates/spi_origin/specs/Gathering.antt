@@ -2,7 +2,7 @@
 -- a place on.
 use Rattle.std.specs.Prelude.{◌≡◌, ℕ, suc, ◌+◌, ◌&&◌, Bool, true, false, List, [], ◌∷◌, ◌++◌, length, reverse, Option, Some, None, is_some, nat_lt, ⊤}
 use Rattle.spi_count.specs.Keeping.{with_keys}
-use Rattle.spi_count.specs.Sums.{name_bound, key_of, message_of}
+use Rattle.spi_count.specs.Sums.{name_bound, key_of}
 use Rattle.spi_count.specs.declared.keys.Keys.{Keys}
 use Rattle.spi_infer.specs.Forms.{effect_of}
 use Rattle.spi_infer.specs.Passes.{Note, note_of, act, is_stuck, run_notes}
@@ -15,6 +15,7 @@ use Rattle.spi_term.specs.Counts.{count}
 use Rattle.spi_term.specs.Spelling.{Shape, leaf_at, prefix_at, fork_at}
 use Rattle.spi_term.specs.Term.{Atom, ends, checks, many, same_atom, Effect, Prefix, Recvs, Serves, Splits, Selects, Decrypts, Checks, Begins, Ends, EndManys, Casts, Freshes, Process, leaf, prefix, fork, process_size}
 use Rattle.spi_term.specs.View.{atom}
+use Rattle.spi_intern.specs.Parts.{message_of}
 
 -- which nodes are gathered: those that block, or the origins of an atom
 pub data Aim : Type 0 where

@@ -1,11 +1,6 @@
 -- Lists of all numbers of a kind.
-use Rattle.std.specs.Prelude.{◌<◌, ◌↔◌, ℕ, List, [], ◌∷◌, ⊤}
-use Rattle.spi_term.specs.Lists.{In}
-
--- each number is below those behind it
-abbrev pub AreAscending : List ℕ → Type 0
-AreAscending [] = ⊤
-AreAscending (i ∷ is) = ((j : ℕ) → In j is → i < j) × AreAscending is
+use Rattle.std.specs.Prelude.{◌↔◌, ℕ, List}
+use Rattle.spi_term.specs.Lists.{In, AreAscending}
 
 -- the list has each number that is so, and no other, the least first
 pub record AreAll (IsSo : ℕ → Type 0) (is : List ℕ) : Type 0 where

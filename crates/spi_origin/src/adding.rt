@@ -2,7 +2,7 @@
 
 ghost use Rattle.std.specs.Prelude.{◌≡◌, ◌<◌, ℕ, Option, IsTrue, ◌↔◌, is_some};
 ghost use Rattle.spi_count.specs.Keeping.{with_keys, IsKeyed};
-ghost use Rattle.spi_count.specs.Sums.{kind_of_atom, message_of, name_bound, key_of};
+ghost use Rattle.spi_count.specs.Sums.{kind_of_atom, name_bound, key_of};
 ghost use Rattle.spi_count.specs.declared.keys.Keys as Declared;
 ghost use Rattle.spi_infer.specs.Own.{IsOwnOf, CountsFor};
 ghost use Rattle.spi_intern.specs.declared.messages.MsgId as Ids;
@@ -14,6 +14,7 @@ ghost use Rattle.spi_term.specs.Counts.{count};
 ghost use Rattle.spi_term.specs.Term as Term;
 ghost use Rattle.spi_term.specs.Term.{same_atom, ends, checks, many};
 ghost use Rattle.spi_term.specs.View.{message, atom, ty as type_of, shape_of};
+ghost use Rattle.spi_intern.specs.Parts.{message_of};
 
 use spi_count::{AtomKind, Sum};
 use spi_infer::Own;

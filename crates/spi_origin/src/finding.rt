@@ -2,7 +2,7 @@
 
 ghost use Rattle.std.specs.Prelude.{◌≡◌, ◌<◌, ℕ, IfOk, OnOk};
 ghost use Rattle.spi_count.specs.Keeping.{with_keys, AreKept, GrowsTo};
-ghost use Rattle.spi_count.specs.Sums.{message_of, name_bound, key_of};
+ghost use Rattle.spi_count.specs.Sums.{name_bound, key_of};
 ghost use Rattle.spi_infer.specs.Accounts.{IsNoted};
 ghost use Rattle.spi_message.specs.Judging.{IsKept};
 ghost use Rattle.spi_origin.specs.Listing.{AreAll};
@@ -11,6 +11,7 @@ ghost use Rattle.spi_rules.specs.Blocking.{Blocks};
 ghost use Rattle.spi_rules.specs.Environment.{untrusted};
 ghost use Rattle.spi_term.specs.Term.{process_size};
 ghost use Rattle.spi_term.specs.View.{message, atom as atom_of};
+ghost use Rattle.spi_intern.specs.Parts.{message_of};
 
 use crate::NoMemory;
 use crate::gathering::{Aim, gathered_from};

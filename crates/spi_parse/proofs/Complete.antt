@@ -12,13 +12,14 @@ use Rattle.spi_tree.specs.Trees as t
 use Rattle.spi_tree.specs.Pieces.{Piece, opens, cell, closes, a_mark, a_reserved, a_number, a_word, ends, message_limit, process_limit, derivation_limit, msg_pieces, msgs_pieces, atom_pieces, atoms_pieces, effect_pieces, ty_pieces, fields_pieces, last_pieces, named_pieces, binder_pieces, in_seq, at_level, proc_pieces, words_pieces, decl_pieces, decls_pieces, steps_pieces, deriv_pieces, opponent_pieces, schedule_pieces, derivation_pieces, file_pieces}
 use Rattle.spi_tree.specs.Formed.{IsMsg, AreMsgs, IsAtom, AreAtoms, IsTy, AreFields, IsLast, IsProc, IsDeclared, AreDeclared, IsFormedOpponent}
 use Rattle.spi_parse.specs.Rules.{arity_of, writes_effect}
-use Rattle.spi_parse.specs.Bare.{nowhere, bare_word, bare_msg, bare_msgs, bare_atom, bare_ty, bare_fields, bare_last, bare_proc, bare_decl, bare_step, bare_deriv, bare_opponent, bare_schedule, bare_derivation, bare_file}
+use Rattle.spi_parse.specs.Bare.{bare_word, bare_msg, bare_msgs, bare_atom, bare_ty, bare_fields, bare_last, bare_proc, bare_decl, bare_step, bare_deriv, bare_opponent, bare_schedule, bare_derivation, bare_file}
 use Rattle.spi_parse.specs.Tokens.{Tok, State}
 use Rattle.spi_parse.specs.Table.{Body, Sym, the_mark, the_reserved, the_word, the_number, the_two, msg, msgs, atom, atoms, effect, ty, fields, fields_more, named, binder, split_head, match_head, case_head, decrypt_head, check_head, cast_head, sproc, seq, out_tail, par_tail, words, free_rest, abbr_rest, decl, decls, act_rest, talk_rest, steps, deriv, opponent_tail, schedule_tail, derivation_tail, body, file, Trees, over, par_of, file_from, rule_move, delta_paren, delta_bracket, delta_ty_paren}
 use Rattle.spi_parse.specs.Reading.{◌>>=◌, Out, Mode, told, any, pass, may_pass, may_lead, read_all, go_on, behind_move, reads_step, read}
 use Rattle.spi_parse.proofs.Readers.{at, read_is_step}
 use Rattle.spi_parse.proofs.Spell.{IsBody, body_pieces, IsRuled, IsRuledFile, IsRuledDerivation}
 use Rattle.spi_parse.proofs.RuleLaws.{arity_most, sub_arity}
+use Rattle.spi_tree.specs.Trees.{nowhere}
 
 -- the tokens of pieces, all at one place, with these flags
 abbrev pub flat_pieces : (Bool → Bool) → List Piece → List Tok

@@ -8,7 +8,6 @@ use Rattle.spi_parse.specs.declared.fault.Fault.TheVariants.{Syntax, TooDeep}
 use Rattle.spi_parse.specs.Tokens.{Tok, State}
 use Rattle.spi_parse.specs.Table.{Sym, Tree}
 use Rattle.spi_parse.specs.Reading.{Out, limited, told, read}
-use Rattle.spi_parse.specs.Bare.{nowhere}
 use Rattle.spi_parse.specs.Exact.{IsWithin, ItemBegins, NoItemGoesOn, ItemStops, ItemEnds, PiecesStartDeep, NoDeepBefore, IsSyntaxAt, IsDeepAt, IsNoPart}
 use Rattle.spi_parse.proofs.Readers.{at}
 use Rattle.spi_parse.proofs.Spell.{spell, Formed}
@@ -19,6 +18,7 @@ use Rattle.spi_parse.proofs.FlagLaws.{table_flags}
 use Rattle.spi_parse.proofs.Viable.{AreSpare, is_viable}
 use Rattle.spi_parse.proofs.Complete.{flat_pieces}
 use Rattle.spi_parse.proofs.Local.{NoFlag, SharedTokens, CleanBefore, ReadsAlike, follows, beyond_shared, left_of, read_within_left}
+use Rattle.spi_tree.specs.Trees.{nowhere}
 
 -- ---- lists
 

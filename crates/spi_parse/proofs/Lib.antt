@@ -9,7 +9,6 @@ pub mod TableLaws
 pub mod LiveLaws
 pub mod FlagLaws
 pub mod RuleLaws
-pub mod ShapeLaws
 pub mod DerivLaws
 pub mod Complete
 pub mod ExactLaws

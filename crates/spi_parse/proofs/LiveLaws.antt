@@ -11,11 +11,11 @@ use Rattle.spi_tree.specs.Pieces.{Piece, cell, cells}
 use Rattle.spi_tree.specs.Formed.{IsWordFit}
 use Rattle.spi_parse.specs.Rules.{arity_of, writes_effect}
 use Rattle.spi_parse.specs.Table.{last, Sym, the_mark, the_reserved, the_word, the_number, the_two, msg, msgs_item, msgs, atom, atoms_item, atoms, effect, ty, fields_item, fields_rest, fields, fields_more, named, binder, split_head, match_head, case_head, decrypt_head, check_head, cast_head, sproc, seq, out_tail, par_tail, words_item, words, free_rest, abbr_rest, decl, decls_item, decls, act_rest, talk_rest, steps_item, steps, deriv, opponent_tail, schedule_tail, derivation_tail, body, file, Tree, Build, eat, skip, fail, deep_here, delta, file_from, is_mark, is_reserved, is_act, is_talk, is_version_word, rule_move, delta_paren, delta_bracket, delta_ty_paren, delta_ty_word, delta_item_word, delta_fields_word}
-use Rattle.spi_parse.specs.Bare.{nowhere}
 use Rattle.spi_parse.proofs.Spell.{spell, Formed}
 use Rattle.spi_parse.proofs.Sound.{FrontOfMove}
 use Rattle.spi_parse.proofs.Viable.{Live, AreSpare, TableLive}
 use Rattle.spi_lex.proofs.Writing.{letters_identifier}
+use Rattle.spi_tree.specs.Trees.{nowhere}
 
 -- a move by a test is live where it looks no further
 eats_live : (a : Sym) (l : List Sym) (b : Build a l) (c deep : Bool) (ss : List Span) (from : ℕ) (fr : FrontOfMove) (k : Kind) (s : Span) → Live {a = a} {ate = false} (cond c (eat l b) fail) deep ss from fr k s

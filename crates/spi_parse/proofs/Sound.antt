@@ -52,9 +52,6 @@ lays_open e ps t ts = record { pre = []; split = refl; cells_are = refl; lies = 
 pub lays_cell : (e : ℕ) (deep : Bool) (ps : List Piece) (t : Tok) (ts : List Tok) → deep ≡ false → Lays e (cell t.kind deep ∷ ps) (t ∷ ts) t.span.to ps ts
 lays_cell e deep ps t ts d = record { pre = t ∷ []; split = refl; cells_are = ap (λ (b : Bool). (t.kind, b) ∷ cells ps) d; lies = λ left h. (refl, d, h) }
 
-pub lays_close : (e : ℕ) (ps : List Piece) (ts : List Tok) → Lays e (closes e ∷ ps) ts e ps ts
-lays_close e ps ts = record { pre = []; split = refl; cells_are = refl; lies = λ left h. (refl, h) }
-
 abbrev pub FrontOfMove : Type 0
 FrontOfMove = List Piece → List Piece
 

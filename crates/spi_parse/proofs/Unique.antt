@@ -7,10 +7,11 @@ use Rattle.spi_parse.specs.Tokens.{Tok, State}
 use Rattle.spi_parse.specs.Table.{Sym, Tree, file}
 use Rattle.spi_parse.specs.Reading.{any, read}
 use Rattle.spi_parse.specs.Formed.{IsFile, whole_file}
-use Rattle.spi_parse.specs.Bare.{nowhere, bare_file}
+use Rattle.spi_parse.specs.Bare.{bare_file}
 use Rattle.spi_parse.proofs.Readers.{at, ok_is}
 use Rattle.spi_parse.proofs.Complete.{flat_pieces, any_fits, file_c}
 use Rattle.spi_parse.proofs.Words.{file_ruled}
+use Rattle.spi_tree.specs.Trees.{nowhere}
 
 -- tokens of these kinds, at one place and at no limit
 abbrev pub all_false : List Kind → List Tok

@@ -3,9 +3,7 @@ use Rattle.std.specs.Prelude.{List, map, Option, Some, None}
 use Rattle.spi_text.specs.declared.lines.Span.{Span}
 use Rattle.spi_tree.specs.declared.tree.SWord.{SWord}
 use Rattle.spi_tree.specs.Trees as t
-
-abbrev pub nowhere : Span
-nowhere = record { from = 0; to = 0 }
+use Rattle.spi_tree.specs.Trees.{nowhere}
 
 abbrev pub bare_word : SWord → SWord
 bare_word w = record { word = w.word; span = nowhere }

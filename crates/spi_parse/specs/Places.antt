@@ -1,12 +1,14 @@
 -- What a cursor is as a state, and what stands between the table and the code.
-use Rattle.std.specs.Prelude.{Bool, ℕ, ◌+◌, List, [], ◌∷◌, map, Option, Some, None, Ok, Err}
+use Rattle.std.specs.Prelude.{Bool, ℕ, ◌+◌, List, [], ◌∷◌, map, Result, Ok, Err}
+use Rattle.std.specs.Global.{Box}
 use Rattle.spi_text.specs.declared.lines.Span.{Span}
 use Rattle.spi_lex.specs.declared.token.Kind.TheVariants as K
 use Rattle.spi_lex.specs.declared.token.Reserved.TheVariants as word
 use Rattle.spi_lex.specs.declared.token.Mark.TheVariants as mark
-use Rattle.spi_tree.specs.declared.tree.SProc.{SProc}
+use Rattle.spi_tree.specs.declared.tree.STy.{STy}
+use Rattle.spi_tree.specs.declared.tree.SWord.{SWord}
 use Rattle.spi_tree.specs.Trees as t
-use Rattle.spi_tree.specs.Views.{field_of, last_of, proc_of}
+use Rattle.spi_tree.specs.Views.{ty_of, field_of, last_of}
 use Rattle.spi_parse.specs.declared.cursor.Cursor.{Cursor}
 use Rattle.spi_parse.specs.declared.types.FieldOrLast.{FieldOrLast}
 use Rattle.spi_parse.specs.declared.types.FieldOrLast.TheVariants as items
@@ -16,20 +18,33 @@ use Rattle.spi_parse.specs.declared.forms.Open.TheVariants as opens
 use Rattle.spi_parse.specs.declared.forms.Event.TheVariants as events
 use Rattle.spi_parse.specs.declared.forms.Plain.TheVariants as plains
 use Rattle.spi_parse.specs.declared.fault.Fault.TheVariants.{Syntax}
+use Rattle.spi_parse.specs.declared.fault.Stop.{Stop}
 use Rattle.spi_parse.specs.Tokens.{State, tok}
 use Rattle.spi_parse.specs.Table.{ListItem, one, last, Sym, the_mark, msg, msgs, atom, atoms, effect, ty, seq, Tree, Build, TableMove, eat, stay, over, delta, delta_ty_word, form_move}
-use Rattle.spi_parse.specs.Reading.{◌>>=◌, Out, read, limited, read_all}
+use Rattle.spi_parse.specs.Reading.{◌>>=◌, Gives, Out, read, limited, read_all}
 
 abbrev pub state_of : Cursor → State
 state_of c = record { end = c.end; rest = map tok c.rest.now }
 
+-- what a function returned is what reading gives, unless memory ran out: a part by its view, with the place behind it
+abbrev pub GivesPart : {X Y : Type 0} → (X → Y) → Result (X × Cursor) Stop → Out Y → Type 0
+GivesPart view result answer = Gives (λ x. (view x.0, state_of x.1)) result answer
+
+-- the same of a part in a box
+abbrev pub GivesBox : {X Y : Type 0} → (X → Y) → Result (Box X × Cursor) Stop → Out Y → Type 0
+GivesBox view result answer = Gives (λ x. (view x.0.value, state_of x.1)) result answer
+
+-- the same of a name with its type
+abbrev pub GivesName : Result (SWord × STy × Cursor) Stop → Out (SWord × t.Ty) → Type 0
+GivesName result answer = Gives (λ x. ((x.0, ty_of x.1), state_of x.2)) result answer
+
+-- the same of the place alone
+abbrev pub GivesPlace : Result Cursor Stop → Out (Unit {0}) → Type 0
+GivesPlace result answer = Gives (λ x. (tt, state_of x)) result answer
+
 abbrev pub field_item : FieldOrLast → ListItem t.Field t.Last
 field_item (items.Field f) = one (field_of f)
 field_item (items.Last l) = last (last_of l)
-
-abbrev pub proc_option : Option SProc → Option t.Proc
-proc_option None = None
-proc_option (Some p) = Some (proc_of p)
 
 -- the parts behind tokens that were eaten
 abbrev pub parts : (a : Sym) (l : List Sym) → Build a l → List Span → State → Out (Tree a)

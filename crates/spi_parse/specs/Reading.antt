@@ -99,7 +99,8 @@ go_on m rd (may_look may f) deep ss s =
     (go_on m rd (f t'.kind) false (ss ++ t.span ∷ []) s')) (Err (Syntax 0)))) (Err (Syntax 0))
 
 -- what a look leads to
-abbrev pub behind_move : {a : Sym} → Mode → Reader → (Kind → TableMove a true) → List Span → State → Out (Tree a)
+abbrev pub behind_move : {a : Sym} → Mode → Reader → (Kind → TableMove a true) → List Span → State
+    → Out (Tree a)
 behind_move m rd f ss s = with_next s (λ t _. go_on m rd (f t.kind) false ss s) (Err (Syntax 0))
 
 abbrev pub or_end : {X : Type 0} → Option X → State → Out X
@@ -108,7 +109,8 @@ or_end (Some x) s = Ok (x, s)
 
 -- reading one symbol, where its parts are read by rd
 abbrev pub reads_step : Mode → Reader → Reader
-reads_step m rd a s = with_next s (λ t _. go_on m rd (delta a t.kind) (deep_here a) [] s) (or_end (at_end a) s)
+reads_step m rd a s =
+    with_next s (λ t _. go_on m rd (delta a t.kind) (deep_here a) [] s) (or_end (at_end a) s)
 
 unfoldable pub read_within : Mode → ℕ → Reader
 read_within m zero a s = Err (Syntax (length s.rest))

@@ -1,14 +1,15 @@
 //! A place between tokens.
 
-ghost use Rattle.std.specs.Prelude.{◌≡◌, ◌≤◌, ◌<◌, [], ◌∷◌, MatchResult, IfOk};
+ghost use Rattle.std.specs.Prelude.{◌≡◌, ◌≤◌, ◌<◌, [], ◌∷◌, true, false, MatchResult, IfOk};
 ghost use Rattle.spi_parse.specs.declared.fault.Stop.TheVariants as stops;
 ghost use Rattle.spi_parse.specs.declared.fault.Fault.TheVariants.{Syntax, TooDeep};
-ghost use Rattle.spi_parse.specs.Table.{over};
+ghost use Rattle.spi_parse.specs.Table.{over, word_at};
 
 use crate::NoMemory;
 use crate::fault::{Fault, Stop};
 use spi_lex::Token;
 use spi_text::{Span, Text};
+use spi_tree::SWord;
 use std::alloc::Global;
 
 /// The tokens that are left, and where the token before them ends.
@@ -45,11 +46,30 @@ pub fn fits(nesting: u32, limit: u32, left: usize) -> Result<(), Stop>
     Ok(())
 }
 
+/// Stops where the next token isn't allowed, and so many tokens are left.
+pub fn accept(allowed: bool, left: usize) -> Result<(), Stop>
+    ensures { MatchResult result (λ _. allowed ≡ true)
+        (λ e. (allowed ≡ false) × (e ≡ stops.Fault (Syntax left))) }
+{
+    if !allowed {
+        return Err(syntax(left));
+    }
+    Ok(())
+}
+
 /// The same word.
 pub fn copy_word(alloc: Global, word: &Text) -> Result<Text, NoMemory>
     ensures { IfOk result (λ text. text ≡ word.now) }
 {
     Text::of(alloc, word.as_str())
+}
+
+/// The same word, with where it stands.
+pub fn placed_word(alloc: Global, word: &Text, span: Span) -> Result<SWord, NoMemory>
+    ensures { IfOk result (λ name. name ≡ word_at word.now span) }
+{
+    let word = copy_word(alloc, word)?;
+    Ok(SWord { word, span })
 }
 
 /// The next token, with the place behind it.

@@ -4,7 +4,7 @@ ghost use Rattle.std.specs.Prelude.{◌≡◌, [], ◌∷◌, map};
 ghost use Rattle.spi_lex.specs.declared.token.Mark.TheVariants.{Equals, Semicolon};
 ghost use Rattle.spi_tree.specs.Trees.{free};
 ghost use Rattle.spi_tree.specs.Views.{ty_of, decl_of};
-ghost use Rattle.spi_parse.specs.Places.{state_of};
+ghost use Rattle.spi_parse.specs.Places.{state_of, GivesPart};
 ghost use Rattle.spi_parse.specs.Table.{the_mark, ty, words, words_item, free_rest, abbr_rest, decl, decls, decls_item, over};
 ghost use Rattle.spi_parse.specs.Reading.{Gives, read, read_all, limited, item_of};
 
@@ -18,8 +18,7 @@ use spi_tree::{Decl, STy, SWord};
 use std::alloc::Global;
 
 fn next_word(alloc: Global, at: Cursor<'_>) -> Read<'_, Option<SWord>>
-    ensures { Gives (λ x. (item_of (λ w. w) tt x.0, state_of x.1)) result
-        (read limited words_item (state_of at.entry)) }
+    ensures { GivesPart (item_of (λ w. w) tt) result (read limited words_item (state_of at.entry)) }
 {
     let (first, next) = next_token(at)?;
     match first.kind {
@@ -33,8 +32,7 @@ fn next_word(alloc: Global, at: Cursor<'_>) -> Read<'_, Option<SWord>>
 }
 
 fn more_words(alloc: Global, start: Cursor<'_>) -> Read<'_, Vec<SWord>>
-    ensures { Gives (λ x. ((x.0.items, tt), state_of x.1)) result
-        (read limited words (state_of start.entry)) }
+    ensures { GivesPart (λ v. (v.items, tt)) result (read limited words (state_of start.entry)) }
 {
     let mut more = Vec::new(alloc);
     let mut at = start;
@@ -76,7 +74,7 @@ fn abbreviation(
 
 /// The type behind the name of an abbreviation, with the marks round it.
 fn abbreviated(alloc: Global, at: Cursor<'_>, later: bool) -> Read<'_, STy>
-    ensures { Gives (λ x. ((tt, (ty_of x.0, (tt, tt))), state_of x.1)) result
+    ensures { GivesPart (λ a. (tt, (ty_of a, (tt, tt)))) result
         (read_all (read limited) (the_mark Equals ∷ ty later 1 ∷ the_mark Semicolon ∷ [])
         (state_of at.entry)) }
 {
@@ -100,8 +98,7 @@ fn declared_free(first: Span, name: SWord, more: Vec<SWord>, at: Cursor<'_>) -> 
 
 /// A declaration.
 pub fn declaration(alloc: Global, at: Cursor<'_>, later: bool) -> Read<'_, Decl>
-    ensures { Gives (λ x. (decl_of x.0, state_of x.1)) result
-        (read limited (decl later) (state_of at.entry)) }
+    ensures { GivesPart decl_of result (read limited (decl later) (state_of at.entry)) }
 {
     let (first, next) = next_token(at)?;
     match first.kind {
@@ -120,8 +117,7 @@ pub fn declaration(alloc: Global, at: Cursor<'_>, later: bool) -> Read<'_, Decl>
 }
 
 fn next_declaration(alloc: Global, at: Cursor<'_>, later: bool) -> Read<'_, Option<Decl>>
-    ensures { Gives (λ x. (item_of decl_of tt x.0, state_of x.1)) result
-        (read limited (decls_item later) (state_of at.entry)) }
+    ensures { GivesPart (item_of decl_of tt) result (read limited (decls_item later) (state_of at.entry)) }
 {
     let (first, next) = next_token(at)?;
     match first.kind {
@@ -142,7 +138,7 @@ fn next_declaration(alloc: Global, at: Cursor<'_>, later: bool) -> Read<'_, Opti
 
 /// The declarations, with the word `process`.
 pub fn all_declarations(alloc: Global, start: Cursor<'_>, later: bool) -> Read<'_, Vec<Decl>>
-    ensures { Gives (λ x. ((map decl_of x.0.items, tt), state_of x.1)) result
+    ensures { GivesPart (λ v. (map decl_of v.items, tt)) result
         (read limited (decls later) (state_of start.entry)) }
 {
     let mut more = Vec::new(alloc);

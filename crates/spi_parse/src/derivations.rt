@@ -4,13 +4,13 @@ ghost use Rattle.std.specs.Prelude.{◌≡◌, ◌+◌, ◌≤◌, None, [], ◌
 ghost use Rattle.spi_tree.specs.Trees.{derivs_of_list};
 ghost use Rattle.spi_tree.specs.Trees as trees;
 ghost use Rattle.spi_tree.specs.Views.{deriv_of, tree_effect};
-ghost use Rattle.spi_parse.specs.Places.{state_of};
+ghost use Rattle.spi_parse.specs.Places.{state_of, GivesPart, GivesBox};
 ghost use Rattle.spi_parse.specs.Ends.{done};
 ghost use Rattle.spi_parse.specs.Wholes.{one_form, two_form, three_form, sub_form};
 ghost use Rattle.spi_parse.specs.Rules.{arity_of, writes_effect, is_late};
 ghost use Rattle.spi_parse.specs.Shapes.{is_sub, by_arity, IsTreeShape};
 ghost use Rattle.spi_parse.specs.Table.{deriv, over};
-ghost use Rattle.spi_parse.specs.Reading.{Gives, read, reads_step, limited};
+ghost use Rattle.spi_parse.specs.Reading.{read, reads_step, limited};
 
 use crate::NoMemory;
 use crate::cursor::{Cursor, DERIVATION_LIMIT, Read, copy_word, fits, span_from, syntax};
@@ -115,8 +115,7 @@ fn leaf(alloc: Global, rule: SWord, span: Span) -> Result<Box<SDeriv>, NoMemory>
 /// A use of a rule, of a nesting.
 pub fn derivation(alloc: Global, at: Cursor<'_>, later: bool, nesting: u32) -> Read<'_, SDeriv>
     requires { nesting ≤ 1001 }
-    ensures { Gives (λ x. (deriv_of x.0, state_of x.1)) result
-        (read limited (deriv later nesting) (state_of at.entry)) }
+    ensures { GivesPart deriv_of result (read limited (deriv later nesting) (state_of at.entry)) }
 {
     let (tree, at) = boxed_derivation(alloc, at, later, nesting)?;
     Ok((Box::into_inner(tree), at))
@@ -128,8 +127,7 @@ pub fn derivation(alloc: Global, at: Cursor<'_>, later: bool, nesting: u32) -> R
 #[cycle(derivations)]
 fn boxed_derivation(alloc: Global, at: Cursor<'_>, later: bool, nesting: u32) -> Part<'_>
     requires { nesting ≤ 1001 }
-    ensures { Gives (λ x. (deriv_of x.0.value, state_of x.1)) result
-        (read limited (deriv later nesting) (state_of at.entry)) }
+    ensures { GivesBox deriv_of result (read limited (deriv later nesting) (state_of at.entry)) }
 {
     derivation_step(alloc, at, later, nesting)
 }
@@ -137,7 +135,7 @@ fn boxed_derivation(alloc: Global, at: Cursor<'_>, later: bool, nesting: u32) ->
 #[cycle(derivations)]
 fn derivation_step(alloc: Global, at: Cursor<'_>, later: bool, nesting: u32) -> Part<'_>
     requires { nesting ≤ 1001 }
-    ensures { Gives (λ x. (deriv_of x.0.value, state_of x.1)) result
+    ensures { GivesBox deriv_of result
         (reads_step limited (read limited) (deriv later nesting) (state_of at.entry)) }
 {
     let [first, rest @ ..] = at.rest else {
@@ -184,7 +182,7 @@ fn derivation_step(alloc: Global, at: Cursor<'_>, later: bool, nesting: u32) -> 
 #[cycle(derivations)]
 fn read_one(alloc: Global, name: SWord, at: Cursor<'_>, later: bool, nesting: u32) -> Part<'_>
     requires { nesting ≤ 1000 }
-    ensures { Gives (λ x. (deriv_of x.0.value, state_of x.1)) result
+    ensures { GivesBox deriv_of result
         (one_form later nesting name.word (name.span ∷ []) (state_of at.entry)) }
 {
     let (first, at) = boxed_derivation(alloc, at, later, nesting + 1)?;
@@ -194,7 +192,7 @@ fn read_one(alloc: Global, name: SWord, at: Cursor<'_>, later: bool, nesting: u3
 #[cycle(derivations)]
 fn read_two(alloc: Global, name: SWord, at: Cursor<'_>, later: bool, nesting: u32) -> Part<'_>
     requires { nesting ≤ 1000 }
-    ensures { Gives (λ x. (deriv_of x.0.value, state_of x.1)) result
+    ensures { GivesBox deriv_of result
         (two_form later nesting name.word (name.span ∷ []) (state_of at.entry)) }
 {
     let (first, at) = boxed_derivation(alloc, at, later, nesting + 1)?;
@@ -205,7 +203,7 @@ fn read_two(alloc: Global, name: SWord, at: Cursor<'_>, later: bool, nesting: u3
 #[cycle(derivations)]
 fn read_three(alloc: Global, name: SWord, at: Cursor<'_>, later: bool, nesting: u32) -> Part<'_>
     requires { nesting ≤ 1000 }
-    ensures { Gives (λ x. (deriv_of x.0.value, state_of x.1)) result
+    ensures { GivesBox deriv_of result
         (three_form later nesting name.word (name.span ∷ []) (state_of at.entry)) }
 {
     let (first, at) = boxed_derivation(alloc, at, later, nesting + 1)?;
@@ -217,7 +215,7 @@ fn read_three(alloc: Global, name: SWord, at: Cursor<'_>, later: bool, nesting: 
 #[cycle(derivations)]
 fn read_sub(alloc: Global, name: SWord, at: Cursor<'_>, later: bool, nesting: u32) -> Part<'_>
     requires { nesting ≤ 1000 }
-    ensures { Gives (λ x. (deriv_of x.0.value, state_of x.1)) result
+    ensures { GivesBox deriv_of result
         (sub_form later nesting name.word (name.span ∷ []) (state_of at.entry)) }
 {
     let atoms = Node {
@@ -238,7 +236,7 @@ fn end_one(
     first: Box<SDeriv>,
     at: Cursor<'_>,
 ) -> Part<'_>
-    ensures { Gives (λ x. (deriv_of x.0.value, state_of x.1)) result
+    ensures { GivesBox deriv_of result
         (done (trees.rule (over (rule.span ∷ []) at.entry.end) rule (tree_effect effect)
         (derivs_of_list (deriv_of first.value ∷ []))) (state_of at.entry)) }
 {
@@ -257,7 +255,7 @@ fn end_two(
     second: Box<SDeriv>,
     at: Cursor<'_>,
 ) -> Part<'_>
-    ensures { Gives (λ x. (deriv_of x.0.value, state_of x.1)) result
+    ensures { GivesBox deriv_of result
         (done (trees.rule (over (rule.span ∷ []) at.entry.end) rule None
         (derivs_of_list (deriv_of first.value ∷ deriv_of second.value ∷ []))) (state_of at.entry)) }
 {
@@ -277,7 +275,7 @@ fn end_three(
     third: Box<SDeriv>,
     at: Cursor<'_>,
 ) -> Part<'_>
-    ensures { Gives (λ x. (deriv_of x.0.value, state_of x.1)) result
+    ensures { GivesBox deriv_of result
         (done (trees.rule (over (rule.span ∷ []) at.entry.end) rule None
         (derivs_of_list (deriv_of first.value ∷ deriv_of second.value ∷ deriv_of third.value ∷ [])))
         (state_of at.entry)) }

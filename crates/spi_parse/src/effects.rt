@@ -2,12 +2,12 @@
 
 ghost use Rattle.std.specs.Prelude.{◌≡◌, ◌+◌, ◌≤◌, [], ◌∷◌, map, IfOk};
 ghost use Rattle.spi_tree.specs.Views.{atom_of};
-ghost use Rattle.spi_parse.specs.Places.{state_of, effect_form};
+ghost use Rattle.spi_parse.specs.Places.{state_of, effect_form, GivesPart};
 ghost use Rattle.spi_parse.specs.Table.{atom, atoms, atoms_item, effect, delta_bracket};
-ghost use Rattle.spi_parse.specs.Reading.{Gives, read, limited, behind_move, item_of};
+ghost use Rattle.spi_parse.specs.Reading.{read, limited, behind_move, item_of};
 
 use crate::NoMemory;
-use crate::cursor::{Cursor, MESSAGE_LIMIT, Read, fits, next_token, span_from, syntax};
+use crate::cursor::{Cursor, MESSAGE_LIMIT, Read, accept, fits, next_token, span_from, syntax};
 use crate::messages::{Node, message_of};
 use spi_lex::{Kind, Mark, Reserved};
 use spi_text::Span;
@@ -16,7 +16,7 @@ use std::alloc::Global;
 
 fn atom(alloc: Global, at: Cursor<'_>, node: Node) -> Read<'_, SAtom>
     requires { node.nesting ≤ 1001 }
-    ensures { Gives (λ x. (atom_of x.0, state_of x.1)) result
+    ensures { GivesPart atom_of result
         (read limited (atom node.later node.numbered node.nesting) (state_of at.entry)) }
 {
     let (first, next) = next_token(at)?;
@@ -38,9 +38,7 @@ fn atom(alloc: Global, at: Cursor<'_>, node: Node) -> Read<'_, SAtom>
             Ok((SAtom::Check { nonce, span }, at))
         }
         Kind::Reserved(Reserved::Many) => {
-            if !node.later {
-                return Err(syntax(at.rest.len()));
-            }
+            accept(node.later, at.rest.len())?;
             fits(node.nesting, MESSAGE_LIMIT, at.rest.len())?;
             let (label, at) = message_of(alloc, next, inner)?;
             let span = span_from(first.span, at);
@@ -52,7 +50,7 @@ fn atom(alloc: Global, at: Cursor<'_>, node: Node) -> Read<'_, SAtom>
 
 fn next_atom(alloc: Global, at: Cursor<'_>, node: Node) -> Read<'_, Option<SAtom>>
     requires { node.nesting ≤ 1001 }
-    ensures { Gives (λ x. (item_of atom_of tt x.0, state_of x.1)) result
+    ensures { GivesPart (item_of atom_of tt) result
         (read limited (atoms_item node.later node.numbered node.nesting) (state_of at.entry)) }
 {
     let (first, next) = next_token(at)?;
@@ -68,7 +66,7 @@ fn next_atom(alloc: Global, at: Cursor<'_>, node: Node) -> Read<'_, Option<SAtom
 
 fn more_atoms(alloc: Global, start: Cursor<'_>, node: Node) -> Read<'_, Vec<SAtom>>
     requires { node.nesting ≤ 1001 }
-    ensures { Gives (λ x. ((map atom_of x.0.items, tt), state_of x.1)) result
+    ensures { GivesPart (λ v. (map atom_of v.items, tt)) result
         (read limited (atoms node.later node.numbered node.nesting) (state_of start.entry)) }
 {
     let mut more = Vec::new(alloc);
@@ -86,7 +84,7 @@ fn more_atoms(alloc: Global, start: Cursor<'_>, node: Node) -> Read<'_, Vec<SAto
 /// An effect whose atoms have this nesting, or 0 where they have none.
 pub fn effect(alloc: Global, at: Cursor<'_>, node: Node) -> Read<'_, Vec<SAtom>>
     requires { node.nesting ≤ 1001 }
-    ensures { Gives (λ x. (map atom_of x.0.items, state_of x.1)) result
+    ensures { GivesPart (λ v. map atom_of v.items) result
         (read limited (effect node.later node.numbered node.nesting) (state_of at.entry)) }
 {
     let (first, next) = next_token(at)?;
@@ -103,7 +101,7 @@ fn effect_in_brackets(
     node: Node,
 ) -> Read<'_, Vec<SAtom>>
     requires { node.nesting ≤ 1001 }
-    ensures { Gives (λ x. (map atom_of x.0.items, state_of x.1)) result
+    ensures { GivesPart (λ v. map atom_of v.items) result
         (behind_move limited (read limited) (delta_bracket node.later node.numbered node.nesting) (_first ∷ [])
         (state_of at.entry)) }
 {
@@ -116,7 +114,7 @@ fn effect_in_brackets(
 
 fn some_atoms(alloc: Global, at: Cursor<'_>, node: Node) -> Read<'_, Vec<SAtom>>
     requires { node.nesting ≤ 1001 }
-    ensures { Gives (λ x. (map atom_of x.0.items, state_of x.1)) result
+    ensures { GivesPart (λ v. map atom_of v.items) result
         (effect_form node.later node.numbered node.nesting [] (state_of at.entry)) }
 {
     let (first, at) = atom(alloc, at, node)?;

@@ -2,10 +2,10 @@
 
 ghost use Rattle.std.specs.Prelude.{◌≡◌, [], ◌∷◌};
 ghost use Rattle.spi_tree.specs.Views.{opponent_of, schedule_of, derivation_of, file_of};
-ghost use Rattle.spi_parse.specs.Places.{state_of};
+ghost use Rattle.spi_parse.specs.Places.{state_of, GivesPart};
 ghost use Rattle.spi_parse.specs.Wholes.{body_of, first_form, later_form};
 ghost use Rattle.spi_parse.specs.Table.{opponent_tail, schedule_tail, derivation_tail, body, file, file_from};
-ghost use Rattle.spi_parse.specs.Reading.{Gives, read, limited};
+ghost use Rattle.spi_parse.specs.Reading.{read, limited};
 
 use crate::cursor::{Cursor, Read, next_token, span_from, syntax};
 use crate::declarations::all_declarations;
@@ -29,8 +29,7 @@ pub struct FileParts {
 }
 
 fn opponent(alloc: Global, at: Cursor<'_>, later: bool) -> Read<'_, Option<SProc>>
-    ensures { Gives (λ x. (opponent_of x.0, state_of x.1)) result
-        (read limited (opponent_tail later) (state_of at.entry)) }
+    ensures { GivesPart opponent_of result (read limited (opponent_tail later) (state_of at.entry)) }
 {
     let Ok((first, next)) = next_token(at) else {
         return Ok((None, at));
@@ -45,8 +44,7 @@ fn opponent(alloc: Global, at: Cursor<'_>, later: bool) -> Read<'_, Option<SProc
 }
 
 fn schedule(alloc: Global, at: Cursor<'_>) -> Read<'_, Option<Vec<SStep>>>
-    ensures { Gives (λ x. (schedule_of x.0, state_of x.1)) result
-        (read limited schedule_tail (state_of at.entry)) }
+    ensures { GivesPart schedule_of result (read limited schedule_tail (state_of at.entry)) }
 {
     let Ok((first, next)) = next_token(at) else {
         return Ok((None, at));
@@ -61,8 +59,7 @@ fn schedule(alloc: Global, at: Cursor<'_>) -> Read<'_, Option<Vec<SStep>>>
 }
 
 fn derivation_part(alloc: Global, at: Cursor<'_>, later: bool) -> Read<'_, Option<SDeriv>>
-    ensures { Gives (λ x. (derivation_of x.0, state_of x.1)) result
-        (read limited (derivation_tail later) (state_of at.entry)) }
+    ensures { GivesPart derivation_of result (read limited (derivation_tail later) (state_of at.entry)) }
 {
     let Ok((first, next)) = next_token(at) else {
         return Ok((None, at));
@@ -77,8 +74,7 @@ fn derivation_part(alloc: Global, at: Cursor<'_>, later: bool) -> Read<'_, Optio
 }
 
 fn file_parts(alloc: Global, at: Cursor<'_>, later: bool) -> Read<'_, FileParts>
-    ensures { Gives (λ x. (body_of x.0, state_of x.1)) result
-        (read limited (body later) (state_of at.entry)) }
+    ensures { GivesPart body_of result (read limited (body later) (state_of at.entry)) }
 {
     next_token(at)?;
     let (decls, at) = all_declarations(alloc, at, later)?;
@@ -112,7 +108,7 @@ fn make_tree(version: u32, parts: FileParts, span: Span) -> Tree
 
 /// A file.
 pub fn read_file(alloc: Global, at: Cursor<'_>) -> Read<'_, Tree>
-    ensures { Gives (λ x. (file_of x.0, state_of x.1)) result (read limited file (state_of at.entry)) }
+    ensures { GivesPart file_of result (read limited file (state_of at.entry)) }
 {
     let (first, next) = next_token(at)?;
     match &first.kind {
@@ -127,7 +123,7 @@ pub fn read_file(alloc: Global, at: Cursor<'_>) -> Read<'_, Tree>
 }
 
 fn later_file(alloc: Global, first: Span, at: Cursor<'_>) -> Read<'_, Tree>
-    ensures { Gives (λ x. (file_of x.0, state_of x.1)) result (later_form (first ∷ []) (state_of at.entry)) }
+    ensures { GivesPart file_of result (later_form (first ∷ []) (state_of at.entry)) }
 {
     let at = take_two(at)?;
     let at = take_mark(at, Mark::Semicolon)?;
@@ -137,7 +133,7 @@ fn later_file(alloc: Global, first: Span, at: Cursor<'_>) -> Read<'_, Tree>
 }
 
 fn first_file(alloc: Global, first: Span, at: Cursor<'_>) -> Read<'_, Tree>
-    ensures { Gives (λ x. (file_of x.0, state_of x.1)) result (first_form (first ∷ []) (state_of at.entry)) }
+    ensures { GivesPart file_of result (first_form (first ∷ []) (state_of at.entry)) }
 {
     let (parts, at) = file_parts(alloc, at, false)?;
     let span = span_from(first, at);

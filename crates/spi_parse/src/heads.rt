@@ -3,7 +3,7 @@
 ghost use Rattle.std.specs.Prelude.{◌≡◌, [], ◌∷◌};
 ghost use Rattle.spi_lex.specs.declared.token.Mark.TheVariants.{Comma, ParenClose, Semicolon};
 ghost use Rattle.spi_tree.specs.Views.{msg_of, ty_of};
-ghost use Rattle.spi_parse.specs.Places.{state_of};
+ghost use Rattle.spi_parse.specs.Places.{state_of, GivesPart, GivesName};
 ghost use Rattle.spi_parse.specs.Table.{the_mark, named, binder, split_head, match_head, case_head, decrypt_head, check_head, cast_head};
 ghost use Rattle.spi_parse.specs.Reading.{Gives, read, read_all, limited};
 
@@ -21,8 +21,7 @@ type TypedName<'t> = Result<(SWord, STy, Cursor<'t>), Stop>;
 
 /// A name with its type.
 fn named(alloc: Global, at: Cursor<'_>, later: bool) -> TypedName<'_>
-    ensures { Gives (λ x. ((x.0, ty_of x.1), state_of x.2)) result
-        (read limited (named later) (state_of at.entry)) }
+    ensures { GivesName result (read limited (named later) (state_of at.entry)) }
 {
     next_token(at)?;
     let (name, at) = take_word(alloc, at)?;
@@ -43,8 +42,7 @@ fn take_closing(at: Cursor<'_>) -> Result<Cursor<'_>, Stop>
 
 /// A name with its type in parentheses, and the semicolon.
 pub fn binder(alloc: Global, at: Cursor<'_>, later: bool) -> TypedName<'_>
-    ensures { Gives (λ x. ((x.0, ty_of x.1), state_of x.2)) result
-        (read limited (binder later) (state_of at.entry)) }
+    ensures { GivesName result (read limited (binder later) (state_of at.entry)) }
 {
     let (first, next) = next_token(at)?;
     match first.kind {
@@ -115,8 +113,7 @@ pub fn match_head(
 
 /// The name of a side of a case, from `is` on.
 pub fn case_head(alloc: Global, at: Cursor<'_>, later: bool, side: Reserved) -> TypedName<'_>
-    ensures { Gives (λ x. ((x.0, ty_of x.1), state_of x.2)) result
-        (read limited (case_head later side) (state_of at.entry)) }
+    ensures { GivesName result (read limited (case_head later side) (state_of at.entry)) }
 {
     let (first, next) = next_token(at)?;
     match first.kind {
@@ -153,8 +150,7 @@ pub fn decrypt_head(
 
 /// The nonce of a check, from `is` on.
 pub fn check_head(alloc: Global, at: Cursor<'_>, later: bool) -> Read<'_, SMsg>
-    ensures { Gives (λ x. (msg_of x.0, state_of x.1)) result
-        (read limited (check_head later) (state_of at.entry)) }
+    ensures { GivesPart msg_of result (read limited (check_head later) (state_of at.entry)) }
 {
     let (first, next) = next_token(at)?;
     match first.kind {
@@ -169,8 +165,7 @@ pub fn check_head(alloc: Global, at: Cursor<'_>, later: bool) -> Read<'_, SMsg>
 
 /// The name of a cast, from `is` on.
 pub fn cast_head(alloc: Global, at: Cursor<'_>, later: bool) -> TypedName<'_>
-    ensures { Gives (λ x. ((x.0, ty_of x.1), state_of x.2)) result
-        (read limited (cast_head later) (state_of at.entry)) }
+    ensures { GivesName result (read limited (cast_head later) (state_of at.entry)) }
 {
     let (first, next) = next_token(at)?;
     match first.kind {

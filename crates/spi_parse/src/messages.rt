@@ -3,16 +3,18 @@
 ghost use Rattle.std.specs.Prelude.{◌≡◌, false, ◌+◌, ◌≤◌, [], ◌∷◌, map};
 ghost use Rattle.spi_tree.specs.Trees.{name, tuple, msgs_of_list};
 ghost use Rattle.spi_tree.specs.Views.{msg_of};
-ghost use Rattle.spi_parse.specs.Places.{state_of, tuple_form, enc_form, inl_form, inr_form, hash_form};
+ghost use Rattle.spi_parse.specs.Places.{state_of, tuple_form, enc_form, inl_form, inr_form, hash_form, GivesPart, GivesBox};
 ghost use Rattle.spi_parse.specs.Ends.{done, numeral_form};
 ghost use Rattle.spi_parse.specs.Table.{msg, msgs, msgs_item, delta_paren, word_at, over};
-ghost use Rattle.spi_parse.specs.Reading.{Gives, read, reads_step, limited, behind_move, item_of};
+ghost use Rattle.spi_parse.specs.Reading.{read, reads_step, limited, behind_move, item_of};
 
-use crate::cursor::{Cursor, MESSAGE_LIMIT, Read, copy_word, fits, next_token, span_from, syntax};
+use crate::cursor::{
+    Cursor, MESSAGE_LIMIT, Read, accept, fits, next_token, placed_word, span_from, syntax,
+};
 use crate::reading::{take_mark, take_number};
 use spi_lex::{Kind, Mark, Reserved};
 use spi_text::{Span, Text};
-use spi_tree::{SMsg, SWord};
+use spi_tree::SMsg;
 use std::alloc::Global;
 
 /// A message in a box, with the place behind it.
@@ -41,8 +43,7 @@ pub struct Node {
 
 /// An outermost message with names.
 pub fn message(alloc: Global, at: Cursor<'_>, later: bool) -> Read<'_, SMsg>
-    ensures { Gives (λ x. (msg_of x.0, state_of x.1)) result
-        (read limited (msg later false 1) (state_of at.entry)) }
+    ensures { GivesPart msg_of result (read limited (msg later false 1) (state_of at.entry)) }
 {
     let node = Node {
         later,
@@ -55,7 +56,7 @@ pub fn message(alloc: Global, at: Cursor<'_>, later: bool) -> Read<'_, SMsg>
 /// A message that stands so.
 pub fn message_of(alloc: Global, at: Cursor<'_>, node: Node) -> Read<'_, SMsg>
     requires { node.nesting ≤ 1001 }
-    ensures { Gives (λ x. (msg_of x.0, state_of x.1)) result
+    ensures { GivesPart msg_of result
         (read limited (msg node.later node.numbered node.nesting) (state_of at.entry)) }
 {
     let (tree, at) = boxed_message(alloc, at, node)?;
@@ -66,7 +67,7 @@ pub fn message_of(alloc: Global, at: Cursor<'_>, node: Node) -> Read<'_, SMsg>
 ///
 /// What reads a part of a message holds it as a box while it reads the next part, so that deep messages fit the stack.
 fn boxed(alloc: Global, tree: SMsg, at: Cursor<'_>) -> Part<'_>
-    ensures { Gives (λ x. (msg_of x.0.value, state_of x.1)) result (done (msg_of tree) (state_of at.entry)) }
+    ensures { GivesBox msg_of result (done (msg_of tree) (state_of at.entry)) }
 {
     Ok((Box::new(alloc, tree)?, at))
 }
@@ -74,7 +75,7 @@ fn boxed(alloc: Global, tree: SMsg, at: Cursor<'_>) -> Part<'_>
 #[cycle(messages)]
 fn boxed_message(alloc: Global, at: Cursor<'_>, node: Node) -> Part<'_>
     requires { node.nesting ≤ 1001 }
-    ensures { Gives (λ x. (msg_of x.0.value, state_of x.1)) result
+    ensures { GivesBox msg_of result
         (read limited (msg node.later node.numbered node.nesting) (state_of at.entry)) }
 {
     message_step(alloc, at, node)
@@ -83,15 +84,13 @@ fn boxed_message(alloc: Global, at: Cursor<'_>, node: Node) -> Part<'_>
 #[cycle(messages)]
 fn message_step(alloc: Global, at: Cursor<'_>, node: Node) -> Part<'_>
     requires { node.nesting ≤ 1001 }
-    ensures { Gives (λ x. (msg_of x.0.value, state_of x.1)) result
+    ensures { GivesBox msg_of result
         (reads_step limited (read limited) (msg node.later node.numbered node.nesting) (state_of at.entry)) }
 {
     let (first, next) = next_token(at)?;
     match &first.kind {
         Kind::Word(word) => {
-            if node.numbered {
-                return Err(syntax(at.rest.len()));
-            }
+            accept(!node.numbered, at.rest.len())?;
             fits(node.nesting, MESSAGE_LIMIT, at.rest.len())?;
             read_name(alloc, word, first.span, next)
         }
@@ -104,9 +103,7 @@ fn message_step(alloc: Global, at: Cursor<'_>, node: Node) -> Part<'_>
             read_enc(alloc, first.span, next, node)
         }
         Kind::Mark(Mark::NumberSign) => {
-            if !node.numbered {
-                return Err(syntax(at.rest.len()));
-            }
+            accept(node.numbered, at.rest.len())?;
             fits(node.nesting, MESSAGE_LIMIT, at.rest.len())?;
             read_numeral(alloc, first.span, next, node)
         }
@@ -119,9 +116,7 @@ fn message_step(alloc: Global, at: Cursor<'_>, node: Node) -> Part<'_>
             read_inr(alloc, first.span, next, node)
         }
         Kind::Reserved(Reserved::Hash) => {
-            if !node.later {
-                return Err(syntax(at.rest.len()));
-            }
+            accept(node.later, at.rest.len())?;
             fits(node.nesting, MESSAGE_LIMIT, at.rest.len())?;
             read_hash(alloc, first.span, next, node)
         }
@@ -130,18 +125,14 @@ fn message_step(alloc: Global, at: Cursor<'_>, node: Node) -> Part<'_>
 }
 
 fn read_name<'t>(alloc: Global, word: &Text, span: Span, at: Cursor<'t>) -> Part<'t>
-    ensures { Gives (λ x. (msg_of x.0.value, state_of x.1)) result
-        (done (name span (word_at word.now span)) (state_of at.entry)) }
+    ensures { GivesBox msg_of result (done (name span (word_at word.now span)) (state_of at.entry)) }
 {
-    let name = SWord {
-        word: copy_word(alloc, word)?,
-        span,
-    };
-    Ok((Box::new(alloc, SMsg::Name { name, span })?, at))
+    let name = placed_word(alloc, word, span)?;
+    boxed(alloc, SMsg::Name { name, span }, at)
 }
 
 fn read_numeral(alloc: Global, first: Span, at: Cursor<'_>, node: Node) -> Part<'_>
-    ensures { Gives (λ x. (msg_of x.0.value, state_of x.1)) result
+    ensures { GivesBox msg_of result
         (numeral_form node.later node.numbered node.nesting (first ∷ []) (state_of at.entry)) }
 {
     let (number, at) = take_number(at)?;
@@ -152,7 +143,7 @@ fn read_numeral(alloc: Global, first: Span, at: Cursor<'_>, node: Node) -> Part<
 #[cycle(messages)]
 fn read_enc(alloc: Global, first: Span, at: Cursor<'_>, node: Node) -> Part<'_>
     requires { node.nesting ≤ 1000 }
-    ensures { Gives (λ x. (msg_of x.0.value, state_of x.1)) result
+    ensures { GivesBox msg_of result
         (enc_form node.later node.numbered node.nesting (first ∷ []) (state_of at.entry)) }
 {
     let inner = Node {
@@ -169,7 +160,7 @@ fn read_enc(alloc: Global, first: Span, at: Cursor<'_>, node: Node) -> Part<'_>
 #[cycle(messages)]
 fn read_inl(alloc: Global, first: Span, at: Cursor<'_>, node: Node) -> Part<'_>
     requires { node.nesting ≤ 1000 }
-    ensures { Gives (λ x. (msg_of x.0.value, state_of x.1)) result
+    ensures { GivesBox msg_of result
         (inl_form node.later node.numbered node.nesting (first ∷ []) (state_of at.entry)) }
 {
     let inner = Node {
@@ -184,7 +175,7 @@ fn read_inl(alloc: Global, first: Span, at: Cursor<'_>, node: Node) -> Part<'_>
 #[cycle(messages)]
 fn read_inr(alloc: Global, first: Span, at: Cursor<'_>, node: Node) -> Part<'_>
     requires { node.nesting ≤ 1000 }
-    ensures { Gives (λ x. (msg_of x.0.value, state_of x.1)) result
+    ensures { GivesBox msg_of result
         (inr_form node.later node.numbered node.nesting (first ∷ []) (state_of at.entry)) }
 {
     let inner = Node {
@@ -199,7 +190,7 @@ fn read_inr(alloc: Global, first: Span, at: Cursor<'_>, node: Node) -> Part<'_>
 #[cycle(messages)]
 fn read_hash(alloc: Global, first: Span, at: Cursor<'_>, node: Node) -> Part<'_>
     requires { node.nesting ≤ 1000 }
-    ensures { Gives (λ x. (msg_of x.0.value, state_of x.1)) result
+    ensures { GivesBox msg_of result
         (hash_form node.later node.numbered node.nesting (first ∷ []) (state_of at.entry)) }
 {
     let inner = Node {
@@ -216,7 +207,7 @@ fn read_hash(alloc: Global, first: Span, at: Cursor<'_>, node: Node) -> Part<'_>
 #[cycle(messages)]
 fn message_in_parens(alloc: Global, first: Span, at: Cursor<'_>, node: Node) -> Part<'_>
     requires { node.nesting ≤ 1000 }
-    ensures { Gives (λ x. (msg_of x.0.value, state_of x.1)) result
+    ensures { GivesBox msg_of result
         (behind_move limited (read limited) (delta_paren node.later node.numbered node.nesting) (first ∷ [])
         (state_of at.entry)) }
 {
@@ -233,7 +224,7 @@ fn message_in_parens(alloc: Global, first: Span, at: Cursor<'_>, node: Node) -> 
 #[cycle(messages)]
 fn read_tuple(alloc: Global, opening: Span, at: Cursor<'_>, node: Node) -> Part<'_>
     requires { node.nesting ≤ 1000 }
-    ensures { Gives (λ x. (msg_of x.0.value, state_of x.1)) result
+    ensures { GivesBox msg_of result
         (tuple_form node.later node.numbered node.nesting (opening ∷ []) (state_of at.entry)) }
 {
     let inner = Node {
@@ -256,19 +247,18 @@ fn end_tuple(
     more: Vec<SMsg>,
     at: Cursor<'_>,
 ) -> Part<'_>
-    ensures { Gives (λ x. (msg_of x.0.value, state_of x.1)) result
+    ensures { GivesBox msg_of result
         (done (tuple (over (opening ∷ []) at.entry.end) (msg_of first.value) (msg_of second.value)
         (msgs_of_list (map msg_of more.items))) (state_of at.entry)) }
 {
     let span = span_from(opening, at);
-    let tuple = make_tuple(first, second, more, span);
-    Ok((Box::new(alloc, tuple)?, at))
+    boxed(alloc, make_tuple(first, second, more, span), at)
 }
 
 #[cycle(messages)]
 fn more_messages(alloc: Global, start: Cursor<'_>, node: Node) -> Read<'_, Vec<SMsg>>
     requires { node.nesting ≤ 1001 }
-    ensures { Gives (λ x. ((map msg_of x.0.items, tt), state_of x.1)) result
+    ensures { GivesPart (λ v. (map msg_of v.items, tt)) result
         (read limited (msgs node.later node.numbered node.nesting) (state_of start.entry)) }
 {
     let mut more = Vec::new(alloc);
@@ -286,7 +276,7 @@ fn more_messages(alloc: Global, start: Cursor<'_>, node: Node) -> Read<'_, Vec<S
 #[cycle(messages)]
 fn next_message(alloc: Global, at: Cursor<'_>, node: Node) -> Read<'_, Option<Box<SMsg>>>
     requires { node.nesting ≤ 1001 }
-    ensures { Gives (λ x. (item_of (λ b. msg_of b.value) tt x.0, state_of x.1)) result
+    ensures { GivesPart (item_of (λ b. msg_of b.value) tt) result
         (read limited (msgs_item node.later node.numbered node.nesting) (state_of at.entry)) }
 {
     let (first, next) = next_token(at)?;

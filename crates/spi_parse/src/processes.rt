@@ -1,16 +1,18 @@
 //! Processes.
 
-ghost use Rattle.std.specs.Prelude.{◌≡◌, ◌+◌, ◌≤◌, [], ◌∷◌};
+ghost use Rattle.std.specs.Prelude.{◌≡◌, false, ◌+◌, ◌≤◌, [], ◌∷◌};
+ghost use Rattle.spi_lex.specs.declared.token.Mark.TheVariants.{Semicolon};
 ghost use Rattle.spi_tree.specs.Trees.{stop};
-ghost use Rattle.spi_tree.specs.Views.{msg_of, proc_of};
-ghost use Rattle.spi_parse.specs.Places.{state_of, out_form, inp_form, repeat_form, split_form, match_form, case_form, decrypt_form, check_form, begin_form, end_form, end_many_form, cast_form, new_form, group_form};
+ghost use Rattle.spi_tree.specs.Views.{msg_of, ty_of, proc_of};
+ghost use Rattle.spi_parse.specs.Places.{state_of, out_form, inp_form, repeat_form, split_form, match_form, case_form, decrypt_form, check_form, begin_form, end_form, end_many_form, cast_form, new_form, group_form, GivesPart, GivesBox};
 ghost use Rattle.spi_parse.specs.Ends.{done, boxed_option};
 ghost use Rattle.spi_parse.specs.FormMoves.{by_form};
 ghost use Rattle.spi_parse.specs.declared.forms.Form.TheVariants as forms;
-ghost use Rattle.spi_parse.specs.Table.{sproc, seq, out_tail, par_tail, out_of, over};
-ghost use Rattle.spi_parse.specs.Reading.{Gives, read, limited};
+ghost use Rattle.spi_parse.specs.Table.{the_mark, msg, binder, sproc, seq, out_tail, par_tail, out_of, over};
+ghost use Rattle.spi_parse.specs.Reading.{Gives, read, read_all, limited};
 
 use crate::cursor::{Cursor, PROCESS_LIMIT, Read, fits, next_token, span_from, syntax};
+use crate::fault::Stop;
 use crate::forms::{Event, Form, Open, Plain, Talk, form_of};
 use crate::heads::{
     binder, case_head, cast_head, check_head, decrypt_head, match_head, split_head,
@@ -19,7 +21,7 @@ use crate::messages::message;
 use crate::reading::{take_mark, take_reserved};
 use spi_lex::{Kind, Mark, Reserved};
 use spi_text::Span;
-use spi_tree::{SMsg, SProc};
+use spi_tree::{SMsg, SProc, STy, SWord};
 use std::alloc::Global;
 
 /// A process in a box, with the place behind it.
@@ -28,8 +30,7 @@ type Part<'t> = Read<'t, Box<SProc>>;
 /// A process of a level.
 pub fn process(alloc: Global, at: Cursor<'_>, later: bool, level: u32) -> Read<'_, SProc>
     requires { level ≤ 500 }
-    ensures { Gives (λ x. (proc_of x.0, state_of x.1)) result
-        (read limited (sproc later level) (state_of at.entry)) }
+    ensures { GivesPart proc_of result (read limited (sproc later level) (state_of at.entry)) }
 {
     let (tree, at) = parallel(alloc, at, later, level)?;
     Ok((Box::into_inner(tree), at))
@@ -37,8 +38,7 @@ pub fn process(alloc: Global, at: Cursor<'_>, later: bool, level: u32) -> Read<'
 
 /// The process as a box, with the place behind it.
 fn boxed(alloc: Global, tree: SProc, at: Cursor<'_>) -> Part<'_>
-    ensures { Gives (λ x. (proc_of x.0.value, state_of x.1)) result
-        (done (proc_of tree) (state_of at.entry)) }
+    ensures { GivesBox proc_of result (done (proc_of tree) (state_of at.entry)) }
 {
     Ok((Box::new(alloc, tree)?, at))
 }
@@ -46,8 +46,7 @@ fn boxed(alloc: Global, tree: SProc, at: Cursor<'_>) -> Part<'_>
 #[cycle(processes)]
 fn parallel(alloc: Global, at: Cursor<'_>, later: bool, level: u32) -> Part<'_>
     requires { level ≤ 500 }
-    ensures { Gives (λ x. (proc_of x.0.value, state_of x.1)) result
-        (read limited (sproc later level) (state_of at.entry)) }
+    ensures { GivesBox proc_of result (read limited (sproc later level) (state_of at.entry)) }
 {
     let (token, _) = next_token(at)?;
     let (first, at) = sequence(alloc, at, later, level + 1)?;
@@ -64,8 +63,7 @@ fn parallel(alloc: Global, at: Cursor<'_>, later: bool, level: u32) -> Part<'_>
 #[cycle(processes)]
 fn sequence(alloc: Global, at: Cursor<'_>, later: bool, nesting: u32) -> Part<'_>
     requires { nesting ≤ 501 }
-    ensures { Gives (λ x. (proc_of x.0.value, state_of x.1)) result
-        (read limited (seq later nesting) (state_of at.entry)) }
+    ensures { GivesBox proc_of result (read limited (seq later nesting) (state_of at.entry)) }
 {
     let [first, ..] = at.rest else {
         return Err(syntax(0));
@@ -77,8 +75,7 @@ fn sequence(alloc: Global, at: Cursor<'_>, later: bool, nesting: u32) -> Part<'_
 #[cycle(processes)]
 fn read_form(alloc: Global, form: Form, at: Cursor<'_>, later: bool, nesting: u32) -> Part<'_>
     requires { nesting ≤ 501 }
-    ensures { Gives (λ x. (proc_of x.0.value, state_of x.1)) result
-        (by_form later nesting form (state_of at.entry)) }
+    ensures { GivesBox proc_of result (by_form later nesting form (state_of at.entry)) }
 {
     match form {
         Form::Talk(form) => read_talk(alloc, form, at, later, nesting),
@@ -95,8 +92,7 @@ fn read_form(alloc: Global, form: Form, at: Cursor<'_>, later: bool, nesting: u3
 #[cycle(processes)]
 fn read_talk(alloc: Global, form: Talk, at: Cursor<'_>, later: bool, nesting: u32) -> Part<'_>
     requires { nesting ≤ 501 }
-    ensures { Gives (λ x. (proc_of x.0.value, state_of x.1)) result
-        (by_form later nesting (forms.Talk form) (state_of at.entry)) }
+    ensures { GivesBox proc_of result (by_form later nesting (forms.Talk form) (state_of at.entry)) }
 {
     let (first, next) = next_token(at)?;
     fits(nesting, PROCESS_LIMIT, at.rest.len())?;
@@ -110,8 +106,7 @@ fn read_talk(alloc: Global, form: Talk, at: Cursor<'_>, later: bool, nesting: u3
 #[cycle(processes)]
 fn read_open(alloc: Global, form: Open, at: Cursor<'_>, later: bool, nesting: u32) -> Part<'_>
     requires { nesting ≤ 501 }
-    ensures { Gives (λ x. (proc_of x.0.value, state_of x.1)) result
-        (by_form later nesting (forms.Open form) (state_of at.entry)) }
+    ensures { GivesBox proc_of result (by_form later nesting (forms.Open form) (state_of at.entry)) }
 {
     let (first, next) = next_token(at)?;
     fits(nesting, PROCESS_LIMIT, at.rest.len())?;
@@ -126,8 +121,7 @@ fn read_open(alloc: Global, form: Open, at: Cursor<'_>, later: bool, nesting: u3
 #[cycle(processes)]
 fn read_event(alloc: Global, form: Event, at: Cursor<'_>, later: bool, nesting: u32) -> Part<'_>
     requires { nesting ≤ 501 }
-    ensures { Gives (λ x. (proc_of x.0.value, state_of x.1)) result
-        (by_form later nesting (forms.Event form) (state_of at.entry)) }
+    ensures { GivesBox proc_of result (by_form later nesting (forms.Event form) (state_of at.entry)) }
 {
     let (first, next) = next_token(at)?;
     fits(nesting, PROCESS_LIMIT, at.rest.len())?;
@@ -142,8 +136,7 @@ fn read_event(alloc: Global, form: Event, at: Cursor<'_>, later: bool, nesting: 
 #[cycle(processes)]
 fn read_plain(alloc: Global, form: Plain, at: Cursor<'_>, later: bool, nesting: u32) -> Part<'_>
     requires { nesting ≤ 501 }
-    ensures { Gives (λ x. (proc_of x.0.value, state_of x.1)) result
-        (by_form later nesting (forms.Plain form) (state_of at.entry)) }
+    ensures { GivesBox proc_of result (by_form later nesting (forms.Plain form) (state_of at.entry)) }
 {
     let (first, next) = next_token(at)?;
     fits(nesting, PROCESS_LIMIT, at.rest.len())?;
@@ -158,8 +151,7 @@ fn read_plain(alloc: Global, form: Plain, at: Cursor<'_>, later: bool, nesting: 
 #[cycle(processes)]
 fn read_out(alloc: Global, first: Span, at: Cursor<'_>, later: bool, nesting: u32) -> Part<'_>
     requires { nesting ≤ 500 }
-    ensures { Gives (λ x. (proc_of x.0.value, state_of x.1)) result
-        (out_form later nesting (first ∷ []) (state_of at.entry)) }
+    ensures { GivesBox proc_of result (out_form later nesting (first ∷ []) (state_of at.entry)) }
 {
     let (channel, at) = message(alloc, at, later)?;
     let (datum, at) = message(alloc, at, later)?;
@@ -176,13 +168,12 @@ fn end_out(
     then: Option<Box<SProc>>,
     at: Cursor<'_>,
 ) -> Part<'_>
-    ensures { Gives (λ x. (proc_of x.0.value, state_of x.1)) result
+    ensures { GivesBox proc_of result
         (done (out_of (over (first ∷ []) at.entry.end) (msg_of channel) (msg_of datum) (boxed_option then))
         (state_of at.entry)) }
 {
     let span = span_from(first, at);
-    let tree = make_out(channel, datum, then, span);
-    Ok((Box::new(alloc, tree)?, at))
+    boxed(alloc, make_out(channel, datum, then, span), at)
 }
 
 fn make_out(channel: SMsg, datum: SMsg, then: Option<Box<SProc>>, span: Span) -> SProc
@@ -203,15 +194,31 @@ fn make_out(channel: SMsg, datum: SMsg, then: Option<Box<SProc>>, span: Span) ->
     }
 }
 
+/// The channel, the name and the process of a form that receives.
 #[cycle(processes)]
-fn read_inp(alloc: Global, first: Span, at: Cursor<'_>, later: bool, nesting: u32) -> Part<'_>
+fn read_receiving(
+    alloc: Global,
+    at: Cursor<'_>,
+    later: bool,
+    nesting: u32,
+) -> Result<(SMsg, SWord, STy, Box<SProc>, Cursor<'_>), Stop>
     requires { nesting ≤ 500 }
-    ensures { Gives (λ x. (proc_of x.0.value, state_of x.1)) result
-        (inp_form later nesting (first ∷ []) (state_of at.entry)) }
+    ensures { Gives (λ x. ((msg_of x.0, ((x.1, ty_of x.2), (proc_of x.3.value, tt))), state_of x.4)) result
+        (read_all (read limited) (msg later false 1 ∷ binder later ∷ seq later (nesting + 1) ∷ [])
+        (state_of at.entry)) }
 {
     let (channel, at) = message(alloc, at, later)?;
     let (name, ty, at) = binder(alloc, at, later)?;
     let (then, at) = sequence(alloc, at, later, nesting + 1)?;
+    Ok((channel, name, ty, then, at))
+}
+
+#[cycle(processes)]
+fn read_inp(alloc: Global, first: Span, at: Cursor<'_>, later: bool, nesting: u32) -> Part<'_>
+    requires { nesting ≤ 500 }
+    ensures { GivesBox proc_of result (inp_form later nesting (first ∷ []) (state_of at.entry)) }
+{
+    let (channel, name, ty, then, at) = read_receiving(alloc, at, later, nesting)?;
     let span = span_from(first, at);
     boxed(
         alloc,
@@ -229,13 +236,10 @@ fn read_inp(alloc: Global, first: Span, at: Cursor<'_>, later: bool, nesting: u3
 #[cycle(processes)]
 fn read_repeat(alloc: Global, first: Span, at: Cursor<'_>, later: bool, nesting: u32) -> Part<'_>
     requires { nesting ≤ 500 }
-    ensures { Gives (λ x. (proc_of x.0.value, state_of x.1)) result
-        (repeat_form later nesting (first ∷ []) (state_of at.entry)) }
+    ensures { GivesBox proc_of result (repeat_form later nesting (first ∷ []) (state_of at.entry)) }
 {
     let at = take_reserved(at, Reserved::Inp)?;
-    let (channel, at) = message(alloc, at, later)?;
-    let (name, ty, at) = binder(alloc, at, later)?;
-    let (then, at) = sequence(alloc, at, later, nesting + 1)?;
+    let (channel, name, ty, then, at) = read_receiving(alloc, at, later, nesting)?;
     let span = span_from(first, at);
     boxed(
         alloc,
@@ -253,8 +257,7 @@ fn read_repeat(alloc: Global, first: Span, at: Cursor<'_>, later: bool, nesting:
 #[cycle(processes)]
 fn read_split(alloc: Global, first: Span, at: Cursor<'_>, later: bool, nesting: u32) -> Part<'_>
     requires { nesting ≤ 500 }
-    ensures { Gives (λ x. (proc_of x.0.value, state_of x.1)) result
-        (split_form later nesting (first ∷ []) (state_of at.entry)) }
+    ensures { GivesBox proc_of result (split_form later nesting (first ∷ []) (state_of at.entry)) }
 {
     let (whole, at) = message(alloc, at, later)?;
     let (left, left_ty, right, right_ty, at) = split_head(alloc, at, later)?;
@@ -278,8 +281,7 @@ fn read_split(alloc: Global, first: Span, at: Cursor<'_>, later: bool, nesting: 
 #[cycle(processes)]
 fn read_match(alloc: Global, first: Span, at: Cursor<'_>, later: bool, nesting: u32) -> Part<'_>
     requires { nesting ≤ 500 }
-    ensures { Gives (λ x. (proc_of x.0.value, state_of x.1)) result
-        (match_form later nesting (first ∷ []) (state_of at.entry)) }
+    ensures { GivesBox proc_of result (match_form later nesting (first ∷ []) (state_of at.entry)) }
 {
     let (whole, at) = message(alloc, at, later)?;
     let (left, left_ty, equal, right, right_ty, at) = match_head(alloc, at, later)?;
@@ -304,8 +306,7 @@ fn read_match(alloc: Global, first: Span, at: Cursor<'_>, later: bool, nesting: 
 #[cycle(processes)]
 fn read_case(alloc: Global, first: Span, at: Cursor<'_>, later: bool, nesting: u32) -> Part<'_>
     requires { nesting ≤ 500 }
-    ensures { Gives (λ x. (proc_of x.0.value, state_of x.1)) result
-        (case_form later nesting (first ∷ []) (state_of at.entry)) }
+    ensures { GivesBox proc_of result (case_form later nesting (first ∷ []) (state_of at.entry)) }
 {
     let (whole, at) = message(alloc, at, later)?;
     let (left, left_ty, at) = case_head(alloc, at, later, Reserved::Inl)?;
@@ -332,8 +333,7 @@ fn read_case(alloc: Global, first: Span, at: Cursor<'_>, later: bool, nesting: u
 #[cycle(processes)]
 fn read_decrypt(alloc: Global, first: Span, at: Cursor<'_>, later: bool, nesting: u32) -> Part<'_>
     requires { nesting ≤ 500 }
-    ensures { Gives (λ x. (proc_of x.0.value, state_of x.1)) result
-        (decrypt_form later nesting (first ∷ []) (state_of at.entry)) }
+    ensures { GivesBox proc_of result (decrypt_form later nesting (first ∷ []) (state_of at.entry)) }
 {
     let (whole, at) = message(alloc, at, later)?;
     let (name, ty, key, at) = decrypt_head(alloc, at, later)?;
@@ -356,8 +356,7 @@ fn read_decrypt(alloc: Global, first: Span, at: Cursor<'_>, later: bool, nesting
 #[cycle(processes)]
 fn read_check(alloc: Global, first: Span, at: Cursor<'_>, later: bool, nesting: u32) -> Part<'_>
     requires { nesting ≤ 500 }
-    ensures { Gives (λ x. (proc_of x.0.value, state_of x.1)) result
-        (check_form later nesting (first ∷ []) (state_of at.entry)) }
+    ensures { GivesBox proc_of result (check_form later nesting (first ∷ []) (state_of at.entry)) }
 {
     let (whole, at) = message(alloc, at, later)?;
     let (nonce, at) = check_head(alloc, at, later)?;
@@ -375,15 +374,31 @@ fn read_check(alloc: Global, first: Span, at: Cursor<'_>, later: bool, nesting: 
     )
 }
 
+/// The label of an event, and the process behind it.
 #[cycle(processes)]
-fn read_begin(alloc: Global, first: Span, at: Cursor<'_>, later: bool, nesting: u32) -> Part<'_>
+fn read_label(
+    alloc: Global,
+    at: Cursor<'_>,
+    later: bool,
+    nesting: u32,
+) -> Result<(SMsg, Box<SProc>, Cursor<'_>), Stop>
     requires { nesting ≤ 500 }
-    ensures { Gives (λ x. (proc_of x.0.value, state_of x.1)) result
-        (begin_form later nesting (first ∷ []) (state_of at.entry)) }
+    ensures { Gives (λ x. ((msg_of x.0, (tt, (proc_of x.1.value, tt))), state_of x.2)) result
+        (read_all (read limited) (msg later false 1 ∷ the_mark Semicolon ∷ seq later (nesting + 1) ∷ [])
+        (state_of at.entry)) }
 {
     let (label, at) = message(alloc, at, later)?;
     let at = take_mark(at, Mark::Semicolon)?;
     let (then, at) = sequence(alloc, at, later, nesting + 1)?;
+    Ok((label, then, at))
+}
+
+#[cycle(processes)]
+fn read_begin(alloc: Global, first: Span, at: Cursor<'_>, later: bool, nesting: u32) -> Part<'_>
+    requires { nesting ≤ 500 }
+    ensures { GivesBox proc_of result (begin_form later nesting (first ∷ []) (state_of at.entry)) }
+{
+    let (label, then, at) = read_label(alloc, at, later, nesting)?;
     let span = span_from(first, at);
     boxed(alloc, SProc::Begin { label, then, span }, at)
 }
@@ -391,12 +406,9 @@ fn read_begin(alloc: Global, first: Span, at: Cursor<'_>, later: bool, nesting: 
 #[cycle(processes)]
 fn read_end(alloc: Global, first: Span, at: Cursor<'_>, later: bool, nesting: u32) -> Part<'_>
     requires { nesting ≤ 500 }
-    ensures { Gives (λ x. (proc_of x.0.value, state_of x.1)) result
-        (end_form later nesting (first ∷ []) (state_of at.entry)) }
+    ensures { GivesBox proc_of result (end_form later nesting (first ∷ []) (state_of at.entry)) }
 {
-    let (label, at) = message(alloc, at, later)?;
-    let at = take_mark(at, Mark::Semicolon)?;
-    let (then, at) = sequence(alloc, at, later, nesting + 1)?;
+    let (label, then, at) = read_label(alloc, at, later, nesting)?;
     let span = span_from(first, at);
     boxed(alloc, SProc::End { label, then, span }, at)
 }
@@ -404,12 +416,9 @@ fn read_end(alloc: Global, first: Span, at: Cursor<'_>, later: bool, nesting: u3
 #[cycle(processes)]
 fn read_end_many(alloc: Global, first: Span, at: Cursor<'_>, later: bool, nesting: u32) -> Part<'_>
     requires { nesting ≤ 500 }
-    ensures { Gives (λ x. (proc_of x.0.value, state_of x.1)) result
-        (end_many_form later nesting (first ∷ []) (state_of at.entry)) }
+    ensures { GivesBox proc_of result (end_many_form later nesting (first ∷ []) (state_of at.entry)) }
 {
-    let (label, at) = message(alloc, at, later)?;
-    let at = take_mark(at, Mark::Semicolon)?;
-    let (then, at) = sequence(alloc, at, later, nesting + 1)?;
+    let (label, then, at) = read_label(alloc, at, later, nesting)?;
     let span = span_from(first, at);
     boxed(alloc, SProc::EndMany { label, then, span }, at)
 }
@@ -417,8 +426,7 @@ fn read_end_many(alloc: Global, first: Span, at: Cursor<'_>, later: bool, nestin
 #[cycle(processes)]
 fn read_cast(alloc: Global, first: Span, at: Cursor<'_>, later: bool, nesting: u32) -> Part<'_>
     requires { nesting ≤ 500 }
-    ensures { Gives (λ x. (proc_of x.0.value, state_of x.1)) result
-        (cast_form later nesting (first ∷ []) (state_of at.entry)) }
+    ensures { GivesBox proc_of result (cast_form later nesting (first ∷ []) (state_of at.entry)) }
 {
     let (whole, at) = message(alloc, at, later)?;
     let (name, ty, at) = cast_head(alloc, at, later)?;
@@ -440,8 +448,7 @@ fn read_cast(alloc: Global, first: Span, at: Cursor<'_>, later: bool, nesting: u
 #[cycle(processes)]
 fn read_new(alloc: Global, first: Span, at: Cursor<'_>, later: bool, nesting: u32) -> Part<'_>
     requires { nesting ≤ 500 }
-    ensures { Gives (λ x. (proc_of x.0.value, state_of x.1)) result
-        (new_form later nesting (first ∷ []) (state_of at.entry)) }
+    ensures { GivesBox proc_of result (new_form later nesting (first ∷ []) (state_of at.entry)) }
 {
     let (name, ty, at) = binder(alloc, at, later)?;
     let (then, at) = sequence(alloc, at, later, nesting + 1)?;
@@ -459,7 +466,7 @@ fn read_new(alloc: Global, first: Span, at: Cursor<'_>, later: bool, nesting: u3
 }
 
 fn read_stop(alloc: Global, span: Span, at: Cursor<'_>) -> Part<'_>
-    ensures { Gives (λ x. (proc_of x.0.value, state_of x.1)) result (done (stop span) (state_of at.entry)) }
+    ensures { GivesBox proc_of result (done (stop span) (state_of at.entry)) }
 {
     boxed(alloc, SProc::Stop { span }, at)
 }
@@ -467,8 +474,7 @@ fn read_stop(alloc: Global, span: Span, at: Cursor<'_>) -> Part<'_>
 #[cycle(processes)]
 fn read_group(alloc: Global, start: Span, at: Cursor<'_>, later: bool, nesting: u32) -> Part<'_>
     requires { nesting ≤ 500 }
-    ensures { Gives (λ x. (proc_of x.0.value, state_of x.1)) result
-        (group_form later nesting (start ∷ []) (state_of at.entry)) }
+    ensures { GivesBox proc_of result (group_form later nesting (start ∷ []) (state_of at.entry)) }
 {
     let (first, at) = sequence(alloc, at, later, nesting + 1)?;
     let at = take_mark(at, Mark::Bar)?;
@@ -486,8 +492,7 @@ fn out_rest(
     nesting: u32,
 ) -> Read<'_, Option<Box<SProc>>>
     requires { nesting ≤ 500 }
-    ensures { Gives (λ x. (boxed_option x.0, state_of x.1)) result
-        (read limited (out_tail later nesting) (state_of at.entry)) }
+    ensures { GivesPart boxed_option result (read limited (out_tail later nesting) (state_of at.entry)) }
 {
     let Ok((first, next)) = next_token(at) else {
         return Ok((None, at));
@@ -504,8 +509,7 @@ fn out_rest(
 #[cycle(processes)]
 fn par_rest(alloc: Global, at: Cursor<'_>, later: bool, level: u32) -> Read<'_, Option<Box<SProc>>>
     requires { level ≤ 499 }
-    ensures { Gives (λ x. (boxed_option x.0, state_of x.1)) result
-        (read limited (par_tail later level) (state_of at.entry)) }
+    ensures { GivesPart boxed_option result (read limited (par_tail later level) (state_of at.entry)) }
 {
     let Ok((first, next)) = next_token(at) else {
         return Ok((None, at));

@@ -1,11 +1,11 @@
 //! Single tokens.
 
 ghost use Rattle.std.specs.Prelude.{◌≡◌};
-ghost use Rattle.spi_parse.specs.Places.{state_of};
+ghost use Rattle.spi_parse.specs.Places.{state_of, GivesPart, GivesPlace};
 ghost use Rattle.spi_parse.specs.Table.{the_mark, the_reserved, the_word, the_number, the_two, is_mark, is_reserved};
-ghost use Rattle.spi_parse.specs.Reading.{Gives, read, limited};
+ghost use Rattle.spi_parse.specs.Reading.{read, limited};
 
-use crate::cursor::{Cursor, Read, copy_word, next_token, syntax};
+use crate::cursor::{Cursor, Read, accept, next_token, placed_word, syntax};
 use crate::fault::Stop;
 use spi_lex::{Kind, Mark, Reserved};
 use spi_tree::SWord;
@@ -31,37 +31,30 @@ fn is_the_word(word: Reserved, kind: &Kind) -> bool
 
 /// Takes the mark.
 pub fn take_mark(at: Cursor<'_>, mark: Mark) -> Result<Cursor<'_>, Stop>
-    ensures { Gives (λ x. (tt, state_of x)) result (read limited (the_mark mark) (state_of at.entry)) }
+    ensures { GivesPlace result (read limited (the_mark mark) (state_of at.entry)) }
 {
     let (first, next) = next_token(at)?;
-    if !is_the_mark(mark, &first.kind) {
-        return Err(syntax(at.rest.len()));
-    }
+    accept(is_the_mark(mark, &first.kind), at.rest.len())?;
     Ok(next)
 }
 
 /// Takes the reserved word.
 pub fn take_reserved(at: Cursor<'_>, word: Reserved) -> Result<Cursor<'_>, Stop>
-    ensures { Gives (λ x. (tt, state_of x)) result (read limited (the_reserved word) (state_of at.entry)) }
+    ensures { GivesPlace result (read limited (the_reserved word) (state_of at.entry)) }
 {
     let (first, next) = next_token(at)?;
-    if !is_the_word(word, &first.kind) {
-        return Err(syntax(at.rest.len()));
-    }
+    accept(is_the_word(word, &first.kind), at.rest.len())?;
     Ok(next)
 }
 
 /// Takes a word.
 pub fn take_word(alloc: Global, at: Cursor<'_>) -> Read<'_, SWord>
-    ensures { Gives (λ x. (x.0, state_of x.1)) result (read limited the_word (state_of at.entry)) }
+    ensures { GivesPart (λ part. part) result (read limited the_word (state_of at.entry)) }
 {
     let (first, next) = next_token(at)?;
     match &first.kind {
         Kind::Word(word) => {
-            let word = SWord {
-                word: copy_word(alloc, word)?,
-                span: first.span,
-            };
+            let word = placed_word(alloc, word, first.span)?;
             Ok((word, next))
         }
         _ => Err(syntax(at.rest.len())),
@@ -70,7 +63,7 @@ pub fn take_word(alloc: Global, at: Cursor<'_>) -> Read<'_, SWord>
 
 /// Takes a number.
 pub fn take_number(at: Cursor<'_>) -> Read<'_, u32>
-    ensures { Gives (λ x. (x.0, state_of x.1)) result (read limited the_number (state_of at.entry)) }
+    ensures { GivesPart (λ part. part) result (read limited the_number (state_of at.entry)) }
 {
     let (first, next) = next_token(at)?;
     match first.kind {
@@ -81,16 +74,13 @@ pub fn take_number(at: Cursor<'_>) -> Read<'_, u32>
 
 /// Takes the number 2.
 pub fn take_two(at: Cursor<'_>) -> Result<Cursor<'_>, Stop>
-    ensures { Gives (λ x. (tt, state_of x)) result (read limited the_two (state_of at.entry)) }
+    ensures { GivesPlace result (read limited the_two (state_of at.entry)) }
 {
     let (first, next) = next_token(at)?;
     match first.kind {
         Kind::Number(number) => {
-            if number == 2 {
-                Ok(next)
-            } else {
-                Err(syntax(at.rest.len()))
-            }
+            accept(number == 2, at.rest.len())?;
+            Ok(next)
         }
         _ => Err(syntax(at.rest.len())),
     }

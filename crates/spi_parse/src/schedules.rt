@@ -2,7 +2,7 @@
 
 ghost use Rattle.std.specs.Prelude.{◌≡◌, map};
 ghost use Rattle.spi_tree.specs.Views.{step_of};
-ghost use Rattle.spi_parse.specs.Places.{state_of};
+ghost use Rattle.spi_parse.specs.Places.{state_of, GivesPart};
 ghost use Rattle.spi_parse.specs.Table.{act_rest, talk_rest, steps, steps_item};
 ghost use Rattle.spi_parse.specs.Reading.{Gives, read, limited, item_of};
 
@@ -34,8 +34,7 @@ fn talk(at: Cursor<'_>) -> Result<(u32, u32, Cursor<'_>), Stop>
 }
 
 fn next_step(at: Cursor<'_>) -> Read<'_, Option<SStep>>
-    ensures { Gives (λ x. (item_of step_of tt x.0, state_of x.1)) result
-        (read limited steps_item (state_of at.entry)) }
+    ensures { GivesPart (item_of step_of tt) result (read limited steps_item (state_of at.entry)) }
 {
     let Ok((first, next)) = next_token(at) else {
         return Ok((None, at));
@@ -60,8 +59,7 @@ fn next_step(at: Cursor<'_>) -> Read<'_, Option<SStep>>
 
 /// The steps of a schedule.
 pub fn all_steps(alloc: Global, start: Cursor<'_>) -> Read<'_, Vec<SStep>>
-    ensures { Gives (λ x. ((map step_of x.0.items, tt), state_of x.1)) result
-        (read limited steps (state_of start.entry)) }
+    ensures { GivesPart (λ v. (map step_of v.items, tt)) result (read limited steps (state_of start.entry)) }
 {
     let mut more = Vec::new(alloc);
     let mut at = start;

@@ -3,13 +3,15 @@
 ghost use Rattle.std.specs.Prelude.{◌≡◌, ◌+◌, ◌≤◌, [], ◌∷◌, map, if◌then◌else◌, IfOk};
 ghost use Rattle.spi_tree.specs.Trees.{tuple_ty, fields_of_list, abbr, bare, named};
 ghost use Rattle.spi_tree.specs.Views.{ty_of, field_of, last_of};
-ghost use Rattle.spi_parse.specs.Places.{state_of, field_item, sum_form, key_form, nonce_form, tuple_ty_form, sum_word_form};
+ghost use Rattle.spi_parse.specs.Places.{state_of, field_item, sum_form, key_form, nonce_form, tuple_ty_form, sum_word_form, GivesPart, GivesBox};
 ghost use Rattle.spi_parse.specs.Ends.{done, sum_end};
 ghost use Rattle.spi_parse.specs.Table.{one, last, ty, fields, fields_item, fields_rest, delta_ty_paren, delta_ty_word, delta_item_word, word_at, over};
 ghost use Rattle.spi_parse.specs.Reading.{Gives, read, reads_step, limited, behind_move};
 
 use crate::NoMemory;
-use crate::cursor::{Cursor, MESSAGE_LIMIT, Read, copy_word, fits, next_token, span_from, syntax};
+use crate::cursor::{
+    Cursor, MESSAGE_LIMIT, Read, fits, next_token, placed_word, span_from, syntax,
+};
 use crate::effects::effect;
 use crate::fault::Stop;
 use crate::messages::Node;
@@ -21,6 +23,9 @@ use std::alloc::Global;
 
 /// A type in a box, with the place behind it.
 type Part<'t> = Read<'t, Box<STy>>;
+
+/// What stands behind a comma of a tuple type, in a box, with the place behind it.
+type Item<'t> = Read<'t, Box<FieldOrLast>>;
 
 /// What stands behind a comma of a tuple type.
 #[derive(Drop)]
@@ -53,7 +58,7 @@ fn make_tuple_type(
 ///
 /// What reads a part of a type holds it as a box while it reads the next part, so that deep types fit the stack.
 fn boxed(alloc: Global, tree: STy, at: Cursor<'_>) -> Part<'_>
-    ensures { Gives (λ x. (ty_of x.0.value, state_of x.1)) result (done (ty_of tree) (state_of at.entry)) }
+    ensures { GivesBox ty_of result (done (ty_of tree) (state_of at.entry)) }
 {
     Ok((Box::new(alloc, tree)?, at))
 }
@@ -67,8 +72,7 @@ fn boxed_last(alloc: Global, last: Last) -> Result<Box<Last>, NoMemory>
 /// A type of a nesting.
 pub fn read_type(alloc: Global, at: Cursor<'_>, later: bool, nesting: u32) -> Read<'_, STy>
     requires { nesting ≤ 1001 }
-    ensures { Gives (λ x. (ty_of x.0, state_of x.1)) result
-        (read limited (ty later nesting) (state_of at.entry)) }
+    ensures { GivesPart ty_of result (read limited (ty later nesting) (state_of at.entry)) }
 {
     let (tree, at) = boxed_type(alloc, at, later, nesting)?;
     Ok((Box::into_inner(tree), at))
@@ -77,8 +81,7 @@ pub fn read_type(alloc: Global, at: Cursor<'_>, later: bool, nesting: u32) -> Re
 #[cycle(types)]
 fn boxed_type(alloc: Global, at: Cursor<'_>, later: bool, nesting: u32) -> Part<'_>
     requires { nesting ≤ 1001 }
-    ensures { Gives (λ x. (ty_of x.0.value, state_of x.1)) result
-        (read limited (ty later nesting) (state_of at.entry)) }
+    ensures { GivesBox ty_of result (read limited (ty later nesting) (state_of at.entry)) }
 {
     type_step(alloc, at, later, nesting)
 }
@@ -86,8 +89,7 @@ fn boxed_type(alloc: Global, at: Cursor<'_>, later: bool, nesting: u32) -> Part<
 #[cycle(types)]
 fn type_step(alloc: Global, at: Cursor<'_>, later: bool, nesting: u32) -> Part<'_>
     requires { nesting ≤ 1001 }
-    ensures { Gives (λ x. (ty_of x.0.value, state_of x.1)) result
-        (reads_step limited (read limited) (ty later nesting) (state_of at.entry)) }
+    ensures { GivesBox ty_of result (reads_step limited (read limited) (ty later nesting) (state_of at.entry)) }
 {
     let (first, next) = next_token(at)?;
     match &first.kind {
@@ -116,20 +118,15 @@ fn type_step(alloc: Global, at: Cursor<'_>, later: bool, nesting: u32) -> Part<'
 }
 
 fn read_abbreviation<'t>(alloc: Global, word: &Text, span: Span, at: Cursor<'t>) -> Part<'t>
-    ensures { Gives (λ x. (ty_of x.0.value, state_of x.1)) result
-        (done (abbr span (word_at word.now span)) (state_of at.entry)) }
+    ensures { GivesBox ty_of result (done (abbr span (word_at word.now span)) (state_of at.entry)) }
 {
-    let name = SWord {
-        word: copy_word(alloc, word)?,
-        span,
-    };
-    Ok((Box::new(alloc, STy::Abbr { name, span })?, at))
+    let name = placed_word(alloc, word, span)?;
+    boxed(alloc, STy::Abbr { name, span }, at)
 }
 
 fn read_nonce(alloc: Global, first: Span, at: Cursor<'_>, later: bool, nesting: u32) -> Part<'_>
     requires { nesting ≤ 1000 }
-    ensures { Gives (λ x. (ty_of x.0.value, state_of x.1)) result
-        (nonce_form later nesting (first ∷ []) (state_of at.entry)) }
+    ensures { GivesBox ty_of result (nonce_form later nesting (first ∷ []) (state_of at.entry)) }
 {
     let atoms = Node {
         later,
@@ -144,8 +141,7 @@ fn read_nonce(alloc: Global, first: Span, at: Cursor<'_>, later: bool, nesting: 
 #[cycle(types)]
 fn read_key(alloc: Global, first: Span, at: Cursor<'_>, later: bool, nesting: u32) -> Part<'_>
     requires { nesting ≤ 1000 }
-    ensures { Gives (λ x. (ty_of x.0.value, state_of x.1)) result
-        (key_form later nesting (first ∷ []) (state_of at.entry)) }
+    ensures { GivesBox ty_of result (key_form later nesting (first ∷ []) (state_of at.entry)) }
 {
     let at = take_mark(at, Mark::ParenOpen)?;
     let (part, at) = boxed_type(alloc, at, later, nesting + 1)?;
@@ -157,7 +153,7 @@ fn read_key(alloc: Global, first: Span, at: Cursor<'_>, later: bool, nesting: u3
 #[cycle(types)]
 fn type_in_parens(alloc: Global, first: Span, at: Cursor<'_>, later: bool, nesting: u32) -> Part<'_>
     requires { nesting ≤ 1000 }
-    ensures { Gives (λ x. (ty_of x.0.value, state_of x.1)) result
+    ensures { GivesBox ty_of result
         (behind_move limited (read limited) (delta_ty_paren later nesting) (first ∷ []) (state_of at.entry)) }
 {
     let (second, next) = next_token(at)?;
@@ -177,8 +173,7 @@ fn type_in_parens(alloc: Global, first: Span, at: Cursor<'_>, later: bool, nesti
 #[cycle(types)]
 fn read_sum(alloc: Global, first: Span, at: Cursor<'_>, later: bool, nesting: u32) -> Part<'_>
     requires { nesting ≤ 1000 }
-    ensures { Gives (λ x. (ty_of x.0.value, state_of x.1)) result
-        (sum_form later nesting (first ∷ []) (state_of at.entry)) }
+    ensures { GivesBox ty_of result (sum_form later nesting (first ∷ []) (state_of at.entry)) }
 {
     let (left, at) = boxed_type(alloc, at, later, nesting + 1)?;
     let at = take_mark(at, Mark::Plus)?;
@@ -188,7 +183,7 @@ fn read_sum(alloc: Global, first: Span, at: Cursor<'_>, later: bool, nesting: u3
 
 /// The sum of two types, where its parenthesis closes.
 fn end_sum(alloc: Global, first: Span, left: Box<STy>, right: Box<STy>, at: Cursor<'_>) -> Part<'_>
-    ensures { Gives (λ x. (ty_of x.0.value, state_of x.1)) result
+    ensures { GivesBox ty_of result
         (sum_end (first ∷ []) (ty_of left.value) (ty_of right.value) (state_of at.entry)) }
 {
     let at = take_mark(at, Mark::ParenClose)?;
@@ -207,7 +202,7 @@ fn type_behind_word<'t>(
     nesting: u32,
 ) -> Part<'t>
     requires { nesting ≤ 999 }
-    ensures { Gives (λ x. (ty_of x.0.value, state_of x.1)) result
+    ensures { GivesBox ty_of result
         (behind_move limited (read limited) (delta_ty_word later nesting word.now) (first ∷ place ∷ [])
         (state_of at.entry)) }
 {
@@ -230,7 +225,7 @@ fn read_tuple_type<'t>(
     nesting: u32,
 ) -> Part<'t>
     requires { nesting ≤ 999 }
-    ensures { Gives (λ x. (ty_of x.0.value, state_of x.1)) result
+    ensures { GivesBox ty_of result
         (tuple_ty_form later nesting word.now (first ∷ place ∷ []) (state_of at.entry)) }
 {
     let (part, at) = boxed_type(alloc, at, later, nesting + 1)?;
@@ -250,17 +245,13 @@ fn end_tuple_type<'t>(
     last: Box<Last>,
     at: Cursor<'t>,
 ) -> Part<'t>
-    ensures { Gives (λ x. (ty_of x.0.value, state_of x.1)) result
+    ensures { GivesBox ty_of result
         (done (tuple_ty (over (first ∷ []) at.entry.end) (word_at word.now place) (ty_of part.value)
         (fields_of_list (map field_of more.items)) (last_of last.value)) (state_of at.entry)) }
 {
-    let name = SWord {
-        word: copy_word(alloc, word)?,
-        span: place,
-    };
+    let name = placed_word(alloc, word, place)?;
     let span = span_from(first, at);
-    let tuple = make_tuple_type(name, part, more, last, span);
-    Ok((Box::new(alloc, tuple)?, at))
+    boxed(alloc, make_tuple_type(name, part, more, last, span), at)
 }
 
 #[cycle(types)]
@@ -274,7 +265,7 @@ fn read_sum_of_word<'t>(
     nesting: u32,
 ) -> Part<'t>
     requires { nesting ≤ 999 }
-    ensures { Gives (λ x. (ty_of x.0.value, state_of x.1)) result
+    ensures { GivesBox ty_of result
         (sum_word_form later nesting word.now (first ∷ place ∷ []) (state_of at.entry)) }
 {
     let (right, at) = boxed_type(alloc, at, later, nesting + 1)?;
@@ -290,17 +281,14 @@ fn end_sum_of_word<'t>(
     right: Box<STy>,
     at: Cursor<'t>,
 ) -> Part<'t>
-    ensures { Gives (λ x. (ty_of x.0.value, state_of x.1)) result
+    ensures { GivesBox ty_of result
         (sum_end (first ∷ []) (abbr place (word_at word.now place)) (ty_of right.value) (state_of at.entry)) }
 {
     let at = take_mark(at, Mark::ParenClose)?;
-    let name = SWord {
-        word: copy_word(alloc, word)?,
-        span: place,
-    };
+    let name = placed_word(alloc, word, place)?;
     let left = Box::new(alloc, STy::Abbr { name, span: place })?;
     let span = span_from(first, at);
-    Ok((Box::new(alloc, STy::Sum { left, right, span })?, at))
+    boxed(alloc, STy::Sum { left, right, span }, at)
 }
 
 #[cycle(types)]
@@ -327,18 +315,16 @@ fn read_fields(
 }
 
 /// A last part without a name, with the place behind it.
-fn bare_last(alloc: Global, ty: Box<STy>, at: Cursor<'_>) -> Read<'_, Box<FieldOrLast>>
-    ensures { Gives (λ x. (field_item x.0.value, state_of x.1)) result
-        (done (last (bare (ty_of ty.value))) (state_of at.entry)) }
+fn bare_last(alloc: Global, ty: Box<STy>, at: Cursor<'_>) -> Item<'_>
+    ensures { GivesBox field_item result (done (last (bare (ty_of ty.value))) (state_of at.entry)) }
 {
     let last = Last::Bare(Box::into_inner(ty));
     Ok((Box::new(alloc, FieldOrLast::Last(last))?, at))
 }
 
 /// A last part that is the name of a declared type, with the place behind it.
-fn abbreviated_last(alloc: Global, name: SWord, at: Cursor<'_>) -> Read<'_, Box<FieldOrLast>>
-    ensures { Gives (λ x. (field_item x.0.value, state_of x.1)) result
-        (done (last (bare (abbr name.span name))) (state_of at.entry)) }
+fn abbreviated_last(alloc: Global, name: SWord, at: Cursor<'_>) -> Item<'_>
+    ensures { GivesBox field_item result (done (last (bare (abbr name.span name))) (state_of at.entry)) }
 {
     let span = name.span;
     let last = Last::Bare(STy::Abbr { name, span });
@@ -346,14 +332,8 @@ fn abbreviated_last(alloc: Global, name: SWord, at: Cursor<'_>) -> Read<'_, Box<
 }
 
 /// A part with a name, the last one where the tuple ends behind it, with the place behind it.
-fn named_part(
-    alloc: Global,
-    name: SWord,
-    ty: Box<STy>,
-    ends: bool,
-    at: Cursor<'_>,
-) -> Read<'_, Box<FieldOrLast>>
-    ensures { Gives (λ x. (field_item x.0.value, state_of x.1)) result
+fn named_part(alloc: Global, name: SWord, ty: Box<STy>, ends: bool, at: Cursor<'_>) -> Item<'_>
+    ensures { GivesBox field_item result
         (done (if ends then last (named name (ty_of ty.value)) else one
         (record { name = name; ty = ty_of ty.value })) (state_of at.entry)) }
 {
@@ -367,38 +347,24 @@ fn named_part(
 }
 
 #[cycle(types)]
-fn next_field(
-    alloc: Global,
-    at: Cursor<'_>,
-    later: bool,
-    nesting: u32,
-) -> Read<'_, Box<FieldOrLast>>
+fn next_field(alloc: Global, at: Cursor<'_>, later: bool, nesting: u32) -> Item<'_>
     requires { nesting ≤ 1001 }
-    ensures { Gives (λ x. (field_item x.0.value, state_of x.1)) result
-        (read limited (fields_item later nesting) (state_of at.entry)) }
+    ensures { GivesBox field_item result (read limited (fields_item later nesting) (state_of at.entry)) }
 {
     next_field_step(alloc, at, later, nesting)
 }
 
 #[cycle(types)]
-fn next_field_step(
-    alloc: Global,
-    at: Cursor<'_>,
-    later: bool,
-    nesting: u32,
-) -> Read<'_, Box<FieldOrLast>>
+fn next_field_step(alloc: Global, at: Cursor<'_>, later: bool, nesting: u32) -> Item<'_>
     requires { nesting ≤ 1001 }
-    ensures { Gives (λ x. (field_item x.0.value, state_of x.1)) result
+    ensures { GivesBox field_item result
         (reads_step limited (read limited) (fields_item later nesting) (state_of at.entry)) }
 {
     let (first, next) = next_token(at)?;
     match &first.kind {
         Kind::Word(word) => {
             fits(nesting, MESSAGE_LIMIT, at.rest.len())?;
-            let name = SWord {
-                word: copy_word(alloc, word)?,
-                span: first.span,
-            };
+            let name = placed_word(alloc, word, first.span)?;
             field_behind_word(alloc, name, next, later, nesting)
         }
         _ => {
@@ -416,9 +382,9 @@ fn field_behind_word(
     at: Cursor<'_>,
     later: bool,
     nesting: u32,
-) -> Read<'_, Box<FieldOrLast>>
+) -> Item<'_>
     requires { nesting ≤ 1000 }
-    ensures { Gives (λ x. (field_item x.0.value, state_of x.1)) result
+    ensures { GivesBox field_item result
         (behind_move limited (read limited) (delta_item_word later nesting name.word) (name.span ∷ [])
         (state_of at.entry)) }
 {
@@ -435,7 +401,7 @@ fn field_behind_word(
 }
 
 fn field_rest(at: Cursor<'_>) -> Read<'_, bool>
-    ensures { Gives (λ x. (x.0, state_of x.1)) result (read limited fields_rest (state_of at.entry)) }
+    ensures { GivesPart (λ part. part) result (read limited fields_rest (state_of at.entry)) }
 {
     let (first, next) = next_token(at)?;
     match first.kind {

@@ -7,7 +7,7 @@ use Rattle.spi_tree.specs.Formed.{AreWordsFit}
 use Rattle.spi_parse.specs.Tokens.{Tok, State}
 use Rattle.spi_parse.specs.Table.{Sym, Tree, msg, ty, decl}
 use Rattle.spi_parse.specs.Reading.{Out, limited, any, told, read}
-use Rattle.spi_parse.specs.Bare.{nowhere, bare_msg, bare_ty, bare_decl}
+use Rattle.spi_parse.specs.Bare.{bare_msg, bare_ty, bare_decl}
 use Rattle.spi_parse.specs.Formed.{whole_decl, whole_type, whole_message, IsWholeDecl, IsWholeType, IsWholeMessage}
 use Rattle.spi_parse.specs.Exact as exact
 use Rattle.spi_parse.proofs.Readers.{at, ok_is}
@@ -21,6 +21,7 @@ use Rattle.spi_grammar.specs.Exactly.{kinds, IsWithinLimits, StartsDeep, IsPrefi
 use Rattle.spi_parts.specs.Determined.{IsCutOnce, BeginsNoOther, AgreesOnDepth}
 use Rattle.spi_parts.proofs.Bridge.{kinds_cells, within_cells, deep_to, OfPieces, of_piece}
 use Rattle.spi_parts.proofs.Behind.{msg_behind, ty_behind, decl_behind}
+use Rattle.spi_tree.specs.Trees.{nowhere}
 
 kinds_of_false : (ks : List Kind) → e.kinds_read (all_false ks) ≡ ks
 kinds_of_false [] = refl

@@ -8,7 +8,7 @@ use Rattle.spi_tree.specs.Pieces.{Piece, cells, kinds_in, proc_pieces, at_level,
 use Rattle.spi_tree.specs.Formed.{AreWordsFit}
 use Rattle.spi_parse.specs.Table.{sproc}
 use Rattle.spi_parse.specs.Reading.{any, told, read}
-use Rattle.spi_parse.specs.Bare.{nowhere, bare_proc}
+use Rattle.spi_parse.specs.Bare.{bare_proc}
 use Rattle.spi_parse.specs.Formed.{whole_process, IsWholeProcess}
 use Rattle.spi_parse.proofs.Readers.{at, read_is_step}
 use Rattle.spi_parse.proofs.Complete.{flat_pieces, any_fits, told_fits, proc_c, OutEnds, ParEnds, out_ends_nil, par_ends_nil}
@@ -23,6 +23,7 @@ use Rattle.spi_parts.proofs.Bridge.{kinds_cells, OfPieces, of_piece}
 use Rattle.spi_parts.proofs.Behind.{proc_behind}
 use Rattle.spi_parse.proofs.Unique.{same_bare}
 use Rattle.spi_parts.proofs.Alone.{even_by, agree_by, one_split_at, as_pieces}
+use Rattle.spi_tree.specs.Trees.{nowhere}
 
 abbrev pub IsBraceClose : Kind → Type 0
 IsBraceClose k = k ≡ K.Mark mark.BraceClose

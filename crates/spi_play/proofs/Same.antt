@@ -1,20 +1,18 @@
 -- Plays are the same where those that may be asked tell their ways.
 use Rattle.std.proofs.Common.{◌≡◌, ℕ, ◌<◌, List, [], ◌∷◌, ◌++◌, Option, Some, None, get_or, map, length, slice_set, slice_get, zero, suc, take, drop, refl, ap, sym, ◌∙◌, subst, inl, inr, arith}
-use Rattle.std.specs.Prelude.{All, IfSome, IsSome, Result, Ok, Err, IfOk}
+use Rattle.std.specs.Prelude.{All, IfSome, IsSome}
 use Rattle.std.specs.Option.{option_to_list, option_map}
 use Rattle.std.proofs.lemmas.Option.{slice_get_cases, slice_get-map, get_or_from_slice_get}
 use Rattle.std.proofs.lemmas.List.Elements.{All-set, All-append, All-take, All-drop}
 use Rattle.std.proofs.lemmas.List.{length-map, get_or-map}
-use Rattle.spi_run.specs.Reduction.{Configuration, Step, Event}
+use Rattle.spi_run.specs.Reduction.{Configuration, Step}
 use Rattle.spi_replay.specs.Stepping.{Pooled, IsTaken}
 use Rattle.spi_play.specs.declared.player.Pick.{Pick}
 use Rattle.spi_play.specs.declared.player.Pick.TheVariants.{Take, Leave}
 use Rattle.spi_play.specs.declared.plays.Ended.{Ended}
-use Rattle.spi_play.specs.declared.plays.Played.{Played}
-use Rattle.spi_play.specs.declared.plays.PlayFault.{PlayFault}
 use Rattle.spi_play.specs.Way.{Way, Seen, Script, First, Turn, FollowsWay}
 use Rattle.spi_play.specs.Play.{Seat, PlayState, Course, TurnOf, Picks, DoesReady, DoesTurn, TakesTurn, Plays, PlayGoesOn, EndsBy, most_reached, no_players, none_ready, seats_from, start, after_take, after_leave}
-use Rattle.spi_play.specs.Outcome.{course, EndsAt, AskedTell, OnlyPlay}
+use Rattle.spi_play.specs.Outcome.{EndsAt, AskedTell, OnlyPlay}
 use Rattle.spi_play.proofs.Standing.{seats_seen}
 use Rattle.spi_replay.proofs.Taken.{taken_once}
 use Rattle.spi_play.proofs.Steps.{counts_once, kth_once}
@@ -163,7 +161,7 @@ ended_once (most_reached h) goes = goes.more h
 ended_once (no_players m h) goes = let e : None ≡ Some _ = sym h ∙ goes.at in absurd (cc)
 ended_once (none_ready m h counts) goes = let e = counts_once counts goes.counts in let some = goes.some in omega (arith, e, some)
 
-abbrev HasEnded : ℕ → PlayState → Ended → Type 0
+abbrev pub HasEnded : ℕ → PlayState → Ended → Type 0
 HasEnded most s e = EndsBy s.course.pool.configuration s.next (length s.course.steps) most e
 
 -- two plays from one state that have both ended are one
@@ -201,7 +199,7 @@ asked_tell (Some place) pool players tell = λ i seat asks there.
     subst P here tell
 
 -- a play where those that may be asked tell their ways is the only one
-only_play : (only : Option ℕ) (most : ℕ) (pool : Pooled) (players last : List Seen) (done : Course) (ended : Ended) → AskedTell only players → EndsAt only most (start pool players only) done last ended → OnlyPlay only most (start pool players only) done.steps
+pub only_play : (only : Option ℕ) (most : ℕ) (pool : Pooled) (players last : List Seen) (done : Course) (ended : Ended) → AskedTell only players → EndsAt only most (start pool players only) done last ended → OnlyPlay only most (start pool players only) done.steps
 only_play only most pool players last done ended tell ends turns state other plays end =
     let stands = ends.stands in
     let here : PlayState = record { course = done; seats = stands.seats; next = ends.next } in
@@ -211,7 +209,3 @@ only_play only most pool players last done ended tell ends turns state other pla
 pub one_end : (only : Option ℕ) (most : ℕ) (pool : Pooled) (players last others : List Seen) (done other : Course) (ended ending : Ended) → AskedTell only players → EndsAt only most (start pool players only) done last ended → EndsAt only most (start pool players only) other others ending → other.steps ≡ done.steps
 one_end only most pool players last others done other ended ending tell first second =
     only_play only most pool players last done ended tell first second.stands.turns (record { course = other; seats = second.stands.seats; next = second.next }) ending second.stands.plays second.end
-
-pub only_played : (result : Result Played PlayFault) (only : Option ℕ) (most : ℕ) (pool new : Pooled) (players last : List Seen) → IfOk result (λ played. EndsAt only most (start pool players only) (course new played.steps.items played.events.items) last played.ended) → IfOk result (λ played. AskedTell only players → OnlyPlay only most (start pool players only) (course new played.steps.items played.events.items).steps)
-only_played (Ok played) only most pool new players last ends = λ tell. only_play only most pool players last (course new played.steps.items played.events.items) played.ended tell ends
-only_played (Err fault) only most pool new players last ends = tt

@@ -97,7 +97,7 @@ pub record AsksSeat (seats : List Seat) (place : ℕ) (turn : TurnOf) (after : L
   pub was : slice_get seats place ≡ Some seat
   pub who : turn.who ≡ seat.who
   pub picks : Picks seat.seen turn.ready turn.pick new
-  pub others : after ≡ slice_set seats place (record { who = seat.who; seen = new })
+  pub others : after ≡ slice_set seats place (record seat { seen = new })
 
 -- the ready step with this number is done
 pub record DoesReady (old : Course) (k : ℕ) (new : Course) : Type 0 where
@@ -110,14 +110,16 @@ pub record DoesReady (old : Course) (k : ℕ) (new : Course) : Type 0 where
 
 -- What an answer of the player at this place does: to what was done, to the list of players, in whatever form they are
 -- seen, and to the cursor.
-abbrev pub DoesTurn : {A : Type 0} → Option ℕ → ℕ → Pick → Course → Course → List A → List A → Option ℕ → Type 0
+abbrev pub DoesTurn : {A : Type 0} → Option ℕ → ℕ → Pick → Course → Course → List A → List A → Option ℕ
+    → Type 0
 DoesTurn only place (Take k) old new players after next = DoesReady old k new × (after ≡ players)
     × (next ≡ after_take only place (length after))
 DoesTurn only place Leave old new players after next = (new ≡ old) × (after ≡ remove players place)
     × (next ≡ after_leave only place (length after))
 
 -- a turn of a play
-pub record TakesTurn (only : Option ℕ) (most : ℕ) (old : PlayState) (turn : TurnOf) (new : PlayState) : Type 0 where
+pub record TakesTurn (only : Option ℕ) (most : ℕ) (old : PlayState) (turn : TurnOf) (new : PlayState)
+    : Type 0 where
   pub place : ℕ
   pub seats : List Seat
   pub goes_on : PlayGoesOn old.course.pool.configuration old.next (length old.course.steps) most place

@@ -86,27 +86,6 @@ pub fn play<'p>(
         (start pool.old (seen_of (λ b. times b) (λ b. way b) players.old.items) only)
         pool.new (seen_of (λ b. times b) (λ b. way b) players.new.items) fault) }
 {
-    play_out(alloc, pool, players, only, most)
-}
-
-// Plays until it ends.
-fn play_out<'p>(
-    alloc: Global,
-    pool: &mut Pool<'p>,
-    players: &mut Vec<Box<dyn Player>>,
-    only: Option<usize>,
-    most: u32,
-) -> Result<Played, PlayFault>
-    requires only { ForSome only (λ place. place < vec_len players.old) }
-    requires names { pool.old.configuration.names ≤ 2 ^ 32 - 1 - most }
-    ensures played { IfOk result (λ played. EndsAt only most
-        (start pool.old (seen_of (λ b. times b) (λ b. way b) players.old.items) only)
-        (course pool.new played.steps.items played.events.items)
-        (seen_of (λ b. times b) (λ b. way b) players.new.items) played.ended) }
-    ensures refused { IfErr result (λ fault. RefusedAt only most
-        (start pool.old (seen_of (λ b. times b) (λ b. way b) players.old.items) only)
-        pool.new (seen_of (λ b. times b) (λ b. way b) players.new.items) fault) }
-{
     let mut steps = Vec::new(alloc);
     let mut events = Vec::new(alloc);
     let mut next = place_at_first(only, players.len());

@@ -5,7 +5,7 @@ use Rattle.spi_term.specs.Term.{Message}
 use Rattle.spi_term.specs.Spelling.{Spelling}
 use Rattle.spi_intern.specs.Table.{KeepsAll}
 use Rattle.spi_intern.specs.declared.messages.MsgId.{MsgId}
-use Rattle.spi_intern.proofs.Tables.{keeps_append}
+use Rattle.spi_intern.proofs.Tables.{keeps_append, keeps_same}
 use Rattle.spi_replay.specs.declared.names.Link.{Link}
 use Rattle.spi_replay.specs.declared.places.Place.{Place}
 use Rattle.spi_replay.specs.Holding.{Chain, a_link}
@@ -27,7 +27,7 @@ a_name id last = record { value = id; before = last }
 chain_pushed : {ms : List Message} {ls ls' : List Link} {last n : ℕ} (id : MsgId) {m : Message} {vs : List Message} → ls' ≡ ls ++ a_name id last ∷ [] → n ≡ length ls → Numbers ms id m → Chain ms ls last vs → Chain ms ls' n (m ∷ vs)
 chain_pushed {ms} {ls} {ls'} {last} {n} id {m} {vs} e f a c =
     let l : Link = a_name id last in
-    subst (λ (q : List Link). Chain ms q n (m ∷ vs)) (sym e) (a_link (ap (slice_get (ls ++ l ∷ [])) f ∙ get_last ls l) a (chain_kept (record { at = λ i x q. q }) (keeps_append ls (l ∷ [])) c))
+    subst (λ (q : List Link). Chain ms q n (m ∷ vs)) (sym e) (a_link (ap (slice_get (ls ++ l ∷ [])) f ∙ get_last ls l) a (chain_kept (keeps_same refl) (keeps_append ls (l ∷ [])) c))
 
 pub binds_enter : {ms : List Message} {ls ls' : List Link} {sp : Spelling} {node last n : ℕ} (id : MsgId) {m : Message} {vs : List Message} → ls' ≡ ls ++ a_name id last ∷ [] → n ≡ length ls → Numbers ms id m → Binds ms ls sp node last vs (m ∷ []) → Enters ms ls' sp node n (m ∷ vs)
 binds_enter id e f a b = record { over = b.over; linked = chain_pushed id e f a b.linked; closed = b.closed; shape = b.shape; there = b.there; scope = b.scope }

@@ -3,6 +3,7 @@ use Rattle.std.proofs.Common.{◌≡◌, ℕ, zero, suc, ◌+◌, ◌-◌, ◌<�
 use Rattle.std.proofs.lemmas.Result.{IfOk-weaker}
 use Rattle.spi_term.specs.Term.{Message, name}
 use Rattle.spi_term.specs.Substitution.{replace}
+use Rattle.spi_term.specs.Spelling.{Spelling}
 use Rattle.spi_intern.specs.Table.{KeepsAll}
 use Rattle.spi_intern.specs.Messages.{Says, says_name}
 use Rattle.spi_intern.specs.Given.{IsOverGiven}
@@ -13,7 +14,9 @@ use Rattle.spi_replay.specs.declared.names.Link.{Link}
 use Rattle.spi_replay.specs.declared.names.Scope.{Scope}
 use Rattle.spi_replay.specs.Holding.{value, message_with, linked, chain, Chain, no_link, a_link}
 use Rattle.spi_replay.specs.Moves.{Numbers}
-use Rattle.spi_replay.specs.Standing.{HasLink, IsValueAt, InScopeOf, HasNames, IsInstance}
+use Rattle.spi_replay.specs.Standing.{HasLink, IsValueAt, InScopeOf, HasNames, IsInstance, Enters, Binds}
+use Rattle.spi_intern.proofs.Lists.{get_below}
+use Rattle.spi_intern.proofs.Tables.{keeps_same}
 use Rattle.spi_replay.proofs.Opening.{value_here, value_other}
 
 pub chain_is : {ms : List Message} {ls : List Link} {i : ℕ} {vs : List Message} → Chain ms ls i vs → chain ms ls (length vs) i ≡ vs
@@ -24,6 +27,13 @@ chain_is {ms} {ls} (a_link {l = l} {m = m} {vs = vs} g a c) =
 pub chain_kept : {ms ns : List Message} {ls ks : List Link} {i : ℕ} {vs : List Message} → KeepsAll ms ns → KeepsAll ls ks → Chain ms ls i vs → Chain ns ks i vs
 chain_kept k h no_link = no_link
 chain_kept k h (a_link {i = i} {l = l} {m = m} g a c) = a_link (h.at i l g) (k.at l.value.place m a) (chain_kept k h c)
+
+-- a node that can be entered, and one whose form binds names
+abbrev pub enters_kept : {ms ns : List Message} {ls ks : List Link} {sp : Spelling} {node last : ℕ} {vs : List Message} → KeepsAll ms ns → KeepsAll ls ks → Enters ms ls sp node last vs → Enters ns ks sp node last vs
+enters_kept k l e = record { over = e.over; linked = chain_kept k l e.linked; closed = e.closed; shape = e.shape; there = e.there; scope = e.scope }
+
+pub binds_kept : {ms ns : List Message} {ls ks : List Link} {sp : Spelling} {node last : ℕ} {vs more : List Message} → KeepsAll ms ns → KeepsAll ls ks → Binds ms ls sp node last vs more → Binds ns ks sp node last vs more
+binds_kept k l e = record { over = e.over; linked = chain_kept k l e.linked; closed = e.closed; shape = e.shape; there = e.there; scope = e.scope }
 
 -- the link before one
 pub record BoundBefore (ms : List Message) (ls : List Link) (i : ℕ) (vs : List Message) : Type 0 where
@@ -44,13 +54,8 @@ get_link [] i l d e = absurd cc
 get_link (x ∷ ls) zero l d e = let g : x ≡ l = cc in g
 get_link (x ∷ ls) (suc i) l d e = get_link ls i l d e
 
-pub below_link : (ls : List Link) (i : ℕ) (l : Link) → slice_get ls i ≡ Some l → i < length ls
-below_link [] i l e = absurd cc
-below_link (x ∷ ls) zero l e = omega arith
-below_link (x ∷ ls) (suc i) l e = omega (arith, below_link ls i l e)
-
 pub has_within : {ls : List Link} {last steps : ℕ} → HasLink ls last steps → last < length ls
-has_within {ls} {last} h = let b = before h.linked (omega (arith, h.within)) in below_link ls last b.link b.there
+has_within {ls} {last} h = let b = before h.linked (omega (arith, h.within)) in get_below ls last b.link b.there
 
 pub has_before : {ls : List Link} {last steps : ℕ} (d : Link) → HasLink ls last steps → 0 < steps → HasLink ls (get_or ls last d).before (steps - 1)
 has_before {ls} {last} {steps} d h p =
@@ -103,7 +108,7 @@ value_low k (m ∷ vs) x h = let n : x ≡ k + length vs → ⊥ = λ f. omega a
 
 -- instances
 pub stand_kept : {ms ns : List Message} {ls : List Link} {sc : Scope} {vs : List Message} → KeepsAll ms ns → InScopeOf ms ls sc vs → InScopeOf ns ls sc vs
-stand_kept k h = record { linked = chain_kept k (record { at = λ i l e. e }) h.linked; bound = h.bound }
+stand_kept k h = record { linked = chain_kept k (keeps_same refl) h.linked; bound = h.bound }
 
 pub names_kept : {ms ns : List Message} {ls : List Link} {sc : Scope} → KeepsAll ms ns → HasNames ms ls sc → HasNames ns ls sc
 names_kept k h = record { values = h.values; stand = stand_kept k h.stand }

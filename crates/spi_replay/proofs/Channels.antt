@@ -1,7 +1,7 @@
 -- The places that wait on a channel.
 use Rattle.std.proofs.Common.{◌≡◌, ℕ, zero, suc, ◌+◌, ◌<◌, ◌≤◌, Bool, true, false, List, [], ◌∷◌, map, length, Option, Some, None, slice_get, refl, sym, ap, ◌∙◌, subst, arith, true≢false, ⊎_elim, ◌⊎◌, inl, inr}
 use Rattle.std.specs.Prelude.{if◌then◌else◌}
-use Rattle.spi_term.specs.Lists.{At, In}
+use Rattle.spi_term.specs.Lists.{At, In, AreAscending}
 use Rattle.spi_term.proofs.Lists.{get_at, at_get}
 use Rattle.spi_term.specs.Term.{Message, same_message, Process, send, recv, serve}
 use Rattle.spi_intern.specs.Table.{AllDiffer}
@@ -19,7 +19,7 @@ use Rattle.spi_replay.specs.Standing.{IsPlace}
 use Rattle.spi_replay.specs.Pools.{pooled, IsState}
 use Rattle.spi_replay.specs.Indexed.{out_channel, in_channel, is_on, places_on, waits_of}
 use Rattle.spi_replay.specs.Listing.{puts_on, takes_on, is_channel}
-use Rattle.spi_replay.specs.Ready.{PutsOut, puts_out, TakesIn, takes_once, takes_again, AreAscending, AreReadyPlaces}
+use Rattle.spi_replay.specs.Ready.{PutsOut, puts_out, TakesIn, takes_once, takes_again, AreReadyPlaces}
 use Rattle.spi_intern.proofs.Sized.{at_message, message_there}
 use Rattle.spi_replay.proofs.Chosen.{chosen, InChosen, in_chosen, chosen_in}
 use Rattle.spi_replay.proofs.Awaiting.{Channel, no_channel, a_channel}

@@ -21,7 +21,7 @@ use Rattle.spi_replay.specs.Moves.{event_of, Move, stays, puts, takes, takes_aga
 use Rattle.spi_replay.specs.Standing.{Enters, IsPlace, Binds, StandsAt}
 use Rattle.spi_replay.proofs.Subtrees.{FollowsNode, node_at}
 use Rattle.spi_replay.proofs.Forms.{IsQuiet, IsStill, LeadsByOne, MovesByForm, moves_stays, moves_puts, moves_takes, moves_takes_again, moves_one, moves_two, moves_on, moves_shows, moves_makes, moves_forks, node_moves, done_moves}
-use Rattle.spi_replay.proofs.Chains.{chain_is, chain_kept}
+use Rattle.spi_replay.proofs.Chains.{chain_is, enters_kept}
 use Rattle.spi_replay.proofs.Awaiting.{waits_kept}
 
 abbrev pub shapes_in : Place → List Shape
@@ -60,7 +60,7 @@ acting {ms} {ls} p h =
 pub place_kept : {ms ns : List Message} {ls ks : List Link} {p : Place} → KeepsAll ms ns → KeepsAll ls ks → IsPlace ms ls p → IsPlace ns ks p
 place_kept k l h = record {
   values = h.values;
-  enters = record { over = h.enters.over; linked = chain_kept k l h.enters.linked; closed = h.enters.closed; shape = h.enters.shape; there = h.enters.there; scope = h.enters.scope };
+  enters = enters_kept k l h.enters;
   bound = h.bound;
   waits = waits_kept k h.waits;
 }

@@ -6,7 +6,8 @@ use Rattle.spi_term.specs.Substitution.{ty_map, process_put, replace}
 use Rattle.spi_term.specs.Names.{MessageOver, OfLeaf, OfPrefix, OfFork}
 use Rattle.spi_term.specs.Spelling.{Shape, leaf_at, prefix_at, fork_at}
 use Rattle.spi_term.specs.Arena.{scope_of}
-use Rattle.spi_intern.proofs.MessageLaws.{same_true, same_self}
+use Rattle.spi_intern.proofs.MessageLaws.{same_true}
+use Rattle.spi_replay.proofs.Same.{same_of}
 use Rattle.spi_run.specs.Reduction.{Event, Acts, acts_split, acts_select, acts_inl, acts_inr, acts_decrypt, acts_check, acts_begin, acts_end, acts_end_many, acts_cast, acts_fresh, acts_par}
 use Rattle.spi_replay.specs.Stepping.{bound_here}
 use Rattle.spi_replay.specs.Holding.{value, held_message, held, subtree, held_at, IsClosed, AllClosed}
@@ -49,9 +50,6 @@ pub data MovesByForm (k : ℕ) (ss : List Shape) (vs : List Message) (p : Proces
   moves_shows : {e : Kind} {a : Message} {i : ℕ} → IsQuiet p → ((n : ℕ) → LeadsByOne n p (Some (event_of e a)) n (held_at k vs ss i) [] (a ∷ [])) → FollowsNode ss i (k + length vs) → MovesByForm k ss vs p (shows e a i)
   moves_makes : {i : ℕ} → IsQuiet p → ((n : ℕ) → LeadsByOne n p None (suc n) (held_at k (name n ∷ vs) ss i) [] (name n ∷ [])) → ((n : ℕ) → FollowsNode ss i (k + length (name n ∷ vs))) → MovesByForm k ss vs p (makes i)
   moves_forks : {i j : ℕ} → IsQuiet p → ((n : ℕ) → LeadsByOne n p None n (held_at k vs ss i) (held_at k vs ss j ∷ []) []) → FollowsNode ss i (k + length vs) → FollowsNode ss j (k + length vs) → MovesByForm k ss vs p (forks i j)
-
-same_of : {a b : Message} → a ≡ b → same_message a b ≡ true
-same_of {a} {b} e = ap (same_message a) (sym e) ∙ same_self a
 
 not_same : {a b : Message} → same_message a b ≡ false → a ≡ b → ⊥
 not_same f e = true≢false (sym (same_of e) ∙ f)

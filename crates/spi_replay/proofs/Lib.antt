@@ -17,7 +17,7 @@ pub mod Same
 pub mod Channels
 pub mod Indexing
 pub mod Started
-pub mod Lone
+pub mod WaitsBy
 pub mod States
 pub mod Smaller
 pub mod Handed

@@ -3,8 +3,9 @@ use Rattle.std.proofs.Common.{◌≡◌, ℕ, zero, suc, ◌+◌, ◌<◌, ◌�
 use Rattle.std.specs.Prelude.{if◌then◌else◌}
 use Rattle.spi_term.specs.Lists.{In, in_first, in_later}
 use Rattle.spi_term.proofs.Lists.{get_at, at_get, in_cases, in_append}
-use Rattle.spi_term.specs.Term.{Message, pair, in_left, in_right, enc, same_message, Process, send, recv, serve, split, select, branch, decrypt, check, begin, end, end_many, cast, fresh, par}
-use Rattle.spi_intern.proofs.MessageLaws.{same_true, same_self}
+use Rattle.spi_term.specs.Term.{Message, pair, in_left, in_right, enc, Process, send, recv, serve, split, select, branch, decrypt, check, begin, end, end_many, cast, fresh, par}
+use Rattle.spi_intern.proofs.MessageLaws.{same_true}
+use Rattle.spi_replay.proofs.Same.{same_of}
 use Rattle.spi_run.specs.Reduction.{Configuration, Step, act, talk, Event, Acts, acts_split, acts_select, acts_inl, acts_inr, acts_decrypt, acts_check, acts_begin, acts_end, acts_end_many, acts_cast, acts_fresh, acts_par, Talks, talks_once, talks_again, Takes, takes_act, takes_talk}
 use Rattle.spi_replay.specs.Ready.{IsReady, first_place, Before, before_place, before_input, AreOrdered, AreReady}
 use Rattle.spi_replay.proofs.Chosen.{chosen, InChosen, in_chosen, chosen_in}
@@ -47,9 +48,6 @@ pub one_order : (c : Configuration) (ss ts : List Step) → AreReady c ss → Ar
 one_order c ss ts a b = one_list ss ts a.ordered b.ordered (λ s i. (b.ready s).1 ((a.ready s).0 i)) (λ s i. (a.ready s).1 ((b.ready s).0 i))
 
 -- acts by the test
-same_of : {a b : Message} → a ≡ b → same_message a b ≡ true
-same_of {a} {b} e = ap (same_message a) (sym e) ∙ same_self a
-
 pub acts_true : {n n' : ℕ} {p q : Process} {e : Option Event} {more : List Process} → Acts n p e n' q more → acts_now p ≡ true
 acts_true acts_split = refl
 acts_true (acts_select e) = same_of e

@@ -11,7 +11,7 @@ use Rattle.spi_intern.proofs.Lists.{truths}
 use Rattle.spi_intern.proofs.MessageLaws.{both, both_are, part_eq, part_true, part_self, same_true, same_self}
 use Rattle.spi_intern.proofs.Sized.{TwoOf, OneOf, Tells, message_there, bound_of, name_of, unit_of}
 
-same_of : {a b : Message} → a ≡ b → same_message a b ≡ true
+pub same_of : {a b : Message} → a ≡ b → same_message a b ≡ true
 same_of {a} {b} e = ap (same_message a) (sym e) ∙ same_self a
 
 -- two messages of one form are equal where their parts are

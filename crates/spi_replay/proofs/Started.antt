@@ -1,23 +1,16 @@
 -- A pool's state when it starts.
 use Rattle.std.proofs.Common.{◌≡◌, ℕ, ◌-◌, ◌^◌, ◌<◌, ◌≤◌, List, [], ◌∷◌, ◌++◌, length, sym, ap, ◌∙◌, subst, arith}
-use Rattle.std.specs.Prelude.{Result, Ok, Err, OnOk}
 use Rattle.spi_term.specs.Names.{ProcessOver}
 use Rattle.spi_term.specs.Spelling.{Spelling}
-use Rattle.spi_intern.specs.Table.{KeepsAll}
+use Rattle.spi_intern.proofs.Tables.{keeps_same}
 use Rattle.spi_run.specs.Safety.{beside}
-use Rattle.spi_replay.specs.declared.names.Link.{Link}
 use Rattle.spi_replay.specs.declared.places.Place.{Place}
 use Rattle.spi_replay.specs.declared.running.State.{State}
 use Rattle.spi_replay.specs.Standing.{StandsAt, ArePlaces}
 use Rattle.spi_replay.specs.Pools.{pooled, IsState}
 use Rattle.spi_replay.specs.Started.{HasFirstPlace}
 use Rattle.spi_replay.proofs.Does.{stands_kept}
-use Rattle.spi_replay.proofs.Takings.{same_links}
 use Rattle.spi_replay.proofs.Stepped.{start_pool, two_places}
-
-pub on_ok : {T E : Type 0} (r : Result T E) {P Q : Type 0} → (P → Q) → OnOk r P → OnOk r Q
-on_ok (Ok x) f h = f h
-on_ok (Err e) f h = tt
 
 -- two places were added, at the first nodes of a and b
 module _ {s t u : State} (a b : Spelling) (g : HasFirstPlace a s t) (h : HasFirstPlace b t u) (empty : s.index.places.items ≡ []) where
@@ -25,7 +18,7 @@ module _ {s t u : State} (a b : Spelling) (g : HasFirstPlace a s t) (h : HasFirs
   both = h.added ∙ ap (λ (xs : List Place). xs ++ h.first ∷ []) (g.added ∙ ap (λ (xs : List Place). xs ++ g.first ∷ []) empty)
 
   stands : StandsAt u.store.messages u.links.items a 0 [] g.first
-  stands = stands_kept h.kept (subst (λ (ls : List Link). KeepsAll t.links.items ls) (sym h.links) same_links) g.stands
+  stands = stands_kept h.kept (keeps_same (sym h.links)) g.stands
 
   pub started : (most : ℕ) → s.names ≡ a.names → s.most ≡ most → ProcessOver a.names a.process → ProcessOver b.names b.process → pooled u ≡ record { configuration = beside a.names a.process b.process; most = most }
   started most e f o p =

@@ -17,7 +17,7 @@ use Rattle.spi_replay.specs.Stepping.{message_most, event_in, IsTaken}
 use Rattle.spi_replay.specs.Standing.{ArePlaces, CanBind, HasBound, StandsAt}
 use Rattle.spi_replay.specs.Pools.{pooled, pool_of, IsState, MayAct, MayTalk, TakenBy}
 use Rattle.spi_replay.proofs.Does.{Meets, meets_of, place_kept}
-use Rattle.spi_replay.proofs.Stepped.{pool_kept, places_kept, moved_places, settled_places, act_taken_as, talk_taken_as}
+use Rattle.spi_replay.proofs.Stepped.{pool_kept, places_kept, moved_places, settled_places, act_taken, talk_taken, taken_to}
 
 -- stores and links have grown, and the places are the same
 pub pool_stays : {ms ns : List Message} {ls ks : List Link} {ps qs : List Place} (n most : ℕ) → KeepsAll ms ns → KeepsAll ls ks → ArePlaces ms ls ps → qs ≡ ps → pool_of ns ks qs n most ≡ pool_of ms ls ps n most
@@ -47,8 +47,8 @@ module _ (s : State) (i : ℕ) (is : IsState s) (may : MayAct s i) {p : Place} (
   acts_here = subst (λ (q : Place). wait_acts q.wait ≡ true) same may.acts
 
   pub act_done : {ns : List Message} {ks : List Link} {qs : List Place} (x : Taken) → KeepsAll s.store.messages ns → KeepsAll s.links.items ks → TakenBy s.store.messages s.links.items ns ks s.names p x → qs ≡ places_moved s.index.places.items i x.now x.more → IsTaken (pooled s) (act i) (event_in x.event) (pool_of ns ks qs x.names s.most)
-  act_done x k l b g =
-      act_taken_as s.names s.most i p x k l is.places at acts_here (subst (λ (q : Place). wait_largest s.store.messages q.wait ≤ message_most) same may.small) (subst (λ (q : Place). length s.index.places.items + wait_appends q.wait ≤ s.most) same may.few) b g
+  act_done {ns} {ks} x k l b g =
+      taken_to ns ks x.names s.most g (act_taken s.names s.most i p x k l is.places at acts_here (subst (λ (q : Place). wait_largest s.store.messages q.wait ≤ message_most) same may.small) (subst (λ (q : Place). length s.index.places.items + wait_appends q.wait ≤ s.most) same may.few) b)
 
   pub state_acted : (t : State) (x : Taken) → KeepsAll s.store.messages t.store.messages → KeepsAll s.links.items t.links.items → TakenBy s.store.messages s.links.items t.store.messages t.links.items s.names p x → t.index.places.items ≡ places_moved s.index.places.items i x.now x.more → t.most ≡ s.most → IsState t
   state_acted t x k l b g m =
@@ -70,7 +70,7 @@ module _ (s : State) (i j : ℕ) (m : Meeting) (is : IsState s) (may : MayTalk s
     stands = b.at meets.values meets.datum meets.number meets.binds
 
     pub talk_done : IsTaken (pooled s) (talk i j) None (pool_of ns ks qs s.names s.most)
-    talk_done = talk_taken_as s.names s.most i j may.out_there at is.places m meeting now k l stands may.small may.few (g may.out may.out_there)
+    talk_done = taken_to ns ks s.names s.most (g may.out may.out_there) (talk_taken s.store.messages s.links.items s.index.places.items s.names s.most i j may.out_there at is.places m meeting now k l stands.process may.small may.few)
 
     places_met : ArePlaces ns ks qs
     places_met =

@@ -1,4 +1,6 @@
 -- What a pool's state does is a step of its configuration.
+use Rattle.std.specs.Option.{option_map}
+use Rattle.std.proofs.lemmas.Option.{slice_get-map, slice_get-get_or}
 use Rattle.std.proofs.Common.{◌≡◌, ℕ, zero, suc, ◌+◌, ◌<◌, ◌≤◌, Bool, true, false, List, [], ◌∷◌, ◌++◌, length, map, Option, Some, None, slice_get, slice_set, get_or, refl, sym, ap, ◌∙◌, subst, arith, ⊎_elim, ◌⊎◌, inl, inr, append-nil, length-append}
 use Rattle.std.specs.Prelude.{if◌then◌else◌, Result, Ok, Err, OnErr}
 use Rattle.std.proofs.lemmas.List.{map-append, map-set, length-map, length-set}
@@ -10,11 +12,11 @@ use Rattle.spi_term.specs.Spelling.{Spelling, spelled, stopped}
 use Rattle.spi_intern.specs.Table.{KeepsAll, AllDiffer}
 use Rattle.spi_intern.specs.Messages.{message_at}
 use Rattle.spi_intern.proofs.Lists.{get_below, some_one}
-use Rattle.spi_run.specs.Reduction.{Configuration, act, talk, Event, Acts, Talks, Takes, takes_act, takes_talk}
+use Rattle.spi_run.specs.Reduction.{Configuration, Step, act, talk, Event, Acts, Talks, Takes, takes_act, takes_talk}
 use Rattle.spi_run.specs.Safety.{beside}
 use Rattle.spi_run.proofs.Once.{takes_once}
 use Rattle.spi_replay.specs.Ready.{IsReady}
-use Rattle.spi_replay.specs.Stepping.{FirstOutside, outside_here, outside_later, bound_here, by_place, handed_over, bound_by, largest, message_most, RefusesPoolStep, no_place, not_ready, too_large, too_many, event_in, IsTaken}
+use Rattle.spi_replay.specs.Stepping.{Pooled, FirstOutside, outside_here, outside_later, bound_here, by_place, handed_over, bound_by, largest, message_most, RefusesPoolStep, no_place, not_ready, too_large, too_many, event_in, IsTaken}
 use Rattle.spi_replay.specs.declared.fault.StepFault.TheVariants.{NoPlace, NotReady, RunMessageTooLarge, TooManyPlaces}
 use Rattle.spi_replay.specs.declared.names.Link.{Link}
 use Rattle.spi_replay.specs.declared.places.Place.{Place}
@@ -32,6 +34,7 @@ use Rattle.spi_replay.proofs.Opening.{held_first}
 use Rattle.spi_replay.proofs.Subtrees.{root_tree, root_follows}
 use Rattle.spi_intern.proofs.Sized.{at_message}
 use Rattle.spi_replay.proofs.Awaiting.{waits_tell}
+use Rattle.spi_replay.proofs.Taken.{one_outside, none_outside}
 use Rattle.spi_replay.proofs.Does.{acting, place_kept, process_kept, still_of, MoveOutcome, outcome_of, Meets, meets_of, no_meeting}
 
 -- lists
@@ -40,9 +43,7 @@ map_same f g [] h = refl
 map_same f g (x ∷ xs) h = λ i. h 0 x refl i ∷ map_same f g xs (λ j y e. h (suc j) y e) i
 
 pub get_map : {A B : Type 0} (f : A → B) (xs : List A) (i : ℕ) {x : A} → slice_get xs i ≡ Some x → slice_get (map f xs) i ≡ Some (f x)
-get_map f [] i e = absurd cc
-get_map f (y ∷ xs) zero {x} e = let g : y ≡ x = cc in ap (λ z. Some (f z)) g
-get_map f (y ∷ xs) (suc i) e = get_map f xs i e
+get_map f xs i e = slice_get-map f xs i ∙ ap (option_map f) e
 
 get_set : {A : Type 0} (xs : List A) (i j : ℕ) (x y : A) → slice_get (slice_set xs i x) j ≡ Some y → (x ≡ y) ⊎ (slice_get xs j ≡ Some y)
 get_set [] i j x y e = absurd cc
@@ -114,11 +115,7 @@ module _ (ms : List Message) (ls : List Link) (ps : List Place) (n most i : ℕ)
   inside = omega (arith, length-map ps (place_process ms ls), get_below ps i p at)
 
   outside_no : (k : ℕ) → FirstOutside (length (processes ms ls ps)) (i ∷ []) k → ⊥
-  outside_no k o = none inside o
-    where
-      none : {m j k : ℕ} → j < m → FirstOutside m (j ∷ []) k → ⊥
-      none h (outside_here g) = omega arith
-      none h (outside_later g o) = elim o [ ]
+  outside_no k o = one_outside inside o
 
   outcome_at : (h : IsPlace ms ls p) → wait_acts p.wait ≡ true → MoveOutcome n (place_process ms ls p) (acting p h).move
   outcome_at h e = let a = acting p h in outcome_of n (sym (waits_tell a.waits).acts ∙ e) a.moves
@@ -194,25 +191,18 @@ act_taken {ms} {ns} {ls} {ks} {ps} n most i p t k l h at e s f b =
       most = refl;
     }
 
-pub act_taken_as : {ms ns : List Message} {ls ks : List Link} {ps qs : List Place} (n most i : ℕ) (p : Place) (t : Taken) → KeepsAll ms ns → KeepsAll ls ks → ArePlaces ms ls ps → slice_get ps i ≡ Some p → wait_acts p.wait ≡ true → wait_largest ms p.wait ≤ message_most → length ps + wait_appends p.wait ≤ most → TakenBy ms ls ns ks n p t → qs ≡ places_moved ps i t.now t.more → IsTaken (pool_of ms ls ps n most) (act i) (event_in t.event) (pool_of ns ks qs t.names most)
-act_taken_as {ms} {ns} {ls} {ks} {ps} n most i p t k l h at e s f b g =
-    subst (λ xs. IsTaken (pool_of ms ls ps n most) (act i) (event_in t.event) (pool_of ns ks xs t.names most)) (sym g) (act_taken n most i p t k l h at e s f b)
+-- the same, where the places are these
+pub taken_to : {p : Pooled} {s : Step} {e : Option Event} (ns : List Message) (ks : List Link) {qs rs : List Place} (n most : ℕ) → qs ≡ rs → IsTaken p s e (pool_of ns ks rs n most) → IsTaken p s e (pool_of ns ks qs n most)
+taken_to {p} {s} {e} ns ks n most g t = subst (λ (xs : List Place). IsTaken p s e (pool_of ns ks xs n most)) (sym g) t
 
 -- what is read at a place
 pub got : {A : Type 0} (xs : List A) (i : ℕ) (x : A) → i < length xs → x ≡ get_or xs i x → slice_get xs i ≡ Some x
-got [] i x h e = absurd (omega arith)
-got (y ∷ xs) zero x h e = ap Some (sym e)
-got (y ∷ xs) (suc i) x h e = got xs i x (omega arith) e
+got xs i x h e = slice_get-get_or xs i x h ∙ ap Some (sym e)
 
 -- a meeting
 met_self : (w : Wait) (m : Meeting) → met_by w w ≡ Some m → ⊥
 met_self (W.Puts i d) m e = cc
 met_self w m e = cc
-
-two_inside : {n i j k : ℕ} → i < n → j < n → FirstOutside n (i ∷ (j ∷ [])) k → ⊥
-two_inside h g (outside_here l) = omega arith
-two_inside h g (outside_later l (outside_here l')) = omega arith
-two_inside h g (outside_later l (outside_later l' o)) = elim o [ ]
 
 pub refuse_out : (ms : List Message) (ls : List Link) (ps : List Place) (n most i j : ℕ) → length ps ≤ i → RefusesPoolStep (configuration_of ms ls ps n) most (talk i j) (NoPlace i)
 refuse_out ms ls ps n most i j h = no_place (outside_here (omega (arith, length-map ps (place_process ms ls))))
@@ -223,7 +213,7 @@ refuse_inp ms ls ps n most i j g h =
 
 module _ (ms : List Message) (ls : List Link) (ps : List Place) (n most i j : ℕ) {p q : Place} (at : slice_get ps i ≡ Some p) (at' : slice_get ps j ≡ Some q) (h : ArePlaces ms ls ps) where
   pub refuse_apart : AllDiffer ms → met_by p.wait q.wait ≡ None → RefusesPoolStep (configuration_of ms ls ps n) most (talk i j) (NotReady i)
-  refuse_apart d e = not_ready (λ k o. two_inside (inside ms ls ps n most i at) (inside ms ls ps n most j at') o) (λ r. none r.2)
+  refuse_apart d e = not_ready (λ k o. none_outside (inside ms ls ps n most i at) (inside ms ls ps n most j at') o) (λ r. none r.2)
     where
       apart : {x y r : Process} {more : List Process} → x ≡ place_process ms ls p → y ≡ place_process ms ls q → Talks x y r more → ⊥
       apart {y = y} {r = r} {more = more} f g t = no_meeting p q d (h.each i p at) (h.each j q at') e r more (subst (λ b. Talks (place_process ms ls p) b r more) g (subst (λ a. Talks a y r more) f t))
@@ -346,10 +336,6 @@ pub start_pool : {ms : List Message} {ls : List Link} {ps : List Place} (a b : S
 start_pool {ms} {ls} {ps} a b p q n k most e f g h h' s r =
     let x : processes ms ls ps ≡ a.process ∷ (b.process ∷ []) = ap (processes ms ls) e ∙ (λ i. (s.process ∙ root_held a.names a.process h) i ∷ ((r.process ∙ root_held b.names b.process h') i ∷ [])) in
     λ i. record { configuration = record { names = sym g i; places = x i }; most = most }
-
-pub talk_taken_as : {ms ns : List Message} {ls ks : List Link} {ps qs : List Place} (n most i j : ℕ) {p q : Place} (at : slice_get ps i ≡ Some p) (at' : slice_get ps j ≡ Some q) (h : ArePlaces ms ls ps) (m : Meeting) (e : met_by p.wait q.wait ≡ Some m) (now : Place) → KeepsAll ms ns → KeepsAll ls ks → StandsAt ns ks q.source.now m.body ((meets_of p q m (h.each i p at) (h.each j q at') e).datum ∷ (meets_of p q m (h.each i p at) (h.each j q at') e).values) now → stopped (message_size (message_at ms m.datum)) ≤ message_most → length ps + again_appends m.again ≤ most → qs ≡ places_settled ps i p j now m.again → IsTaken (pool_of ms ls ps n most) (talk i j) None (pool_of ns ks qs n most)
-talk_taken_as {ms} {ns} {ls} {ks} {ps} {qs} n most i j at at' h m e now k l s small few g =
-    subst (λ xs. IsTaken (pool_of ms ls ps n most) (talk i j) None (pool_of ns ks xs n most)) (sym g) (talk_taken ms ls ps n most i j at at' h m e now k l s.process small few)
 
 pub on_err : {T E : Type 0} (r : Result T E) {P : Type 0} → P → OnErr r P
 on_err (Ok x) h = tt

@@ -1,8 +1,10 @@
 -- Steps that are taken: each has one outcome, isn't refused, and uses one name more at most.
 use Rattle.std.proofs.Common.{◌≡◌, ℕ, ◌+◌, ◌<◌, ◌≤◌, List, [], ◌∷◌, ◌++◌, length, Option, Some, None, ap, ◌∙◌, sym, arith}
 use Rattle.std.specs.Option.{option_to_list}
+use Rattle.std.proofs.lemmas.Option.{slice_get_within}
 use Rattle.spi_term.specs.Term.{Process}
-use Rattle.spi_term.specs.Lists.{At, at_first, at_later}
+use Rattle.spi_term.specs.Lists.{At}
+use Rattle.spi_term.proofs.Lists.{at_get}
 use Rattle.spi_run.specs.Reduction.{Configuration, Step, Event, Acts, acts_split, acts_select, acts_inl, acts_inr, acts_decrypt, acts_check, acts_begin, acts_end, acts_end_many, acts_cast, acts_fresh, acts_par, Takes, takes_act, takes_talk, Runs, runs_silent, runs_event}
 use Rattle.spi_run.proofs.Once.{takes_once}
 use Rattle.spi_replay.specs.declared.fault.StepFault.{StepFault}
@@ -19,14 +21,13 @@ taken_once {m = m} {n = n} a b =
 
 -- the places that it names are in the pool
 at_within : {A : Type 0} {xs : List A} {i : ℕ} {x : A} → At xs i x → i < length xs
-at_within at_first = omega arith
-at_within (at_later a) = let h = at_within a in omega (arith, h)
+at_within a = slice_get_within _ _ _ (at_get a)
 
-one_outside : {n i k : ℕ} → i < n → FirstOutside n (i ∷ []) k → ⊥
+pub one_outside : {n i k : ℕ} → i < n → FirstOutside n (i ∷ []) k → ⊥
 one_outside h (outside_here m) = omega (arith, h, m)
 one_outside h (outside_later m o) = elim o [ ]
 
-none_outside : {n i j k : ℕ} → i < n → j < n → FirstOutside n (i ∷ j ∷ []) k → ⊥
+pub none_outside : {n i j k : ℕ} → i < n → j < n → FirstOutside n (i ∷ j ∷ []) k → ⊥
 none_outside h l (outside_here m) = omega (arith, h, m)
 none_outside h l (outside_later m o) = one_outside l o
 

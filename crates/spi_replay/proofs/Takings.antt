@@ -2,38 +2,28 @@
 use Rattle.std.proofs.Common.{◌≡◌, ℕ, List, [], ◌∷◌, map, Option, Some, None, sym, ◌∙◌, subst}
 use Rattle.spi_term.specs.Term.{Message, Process}
 use Rattle.spi_term.specs.Spelling.{Spelling, spelled}
-use Rattle.spi_intern.specs.Table.{KeepsAll}
 use Rattle.spi_run.specs.Reduction.{Event, Acts}
+use Rattle.spi_run.specs.declared.step.Event as declared
 use Rattle.spi_replay.specs.Stepping.{event_in}
 use Rattle.spi_replay.specs.declared.names.Link.{Link}
 use Rattle.spi_replay.specs.declared.places.Place.{Place}
 use Rattle.spi_replay.specs.declared.acting.Taken.{Taken}
 use Rattle.spi_replay.specs.Holding.{held_at, place_process}
-use Rattle.spi_replay.specs.Standing.{Enters, Binds, IsPlace, StandsAt}
+use Rattle.spi_replay.specs.Standing.{IsPlace, StandsAt}
 use Rattle.spi_replay.specs.Indexed.{place_listed}
 use Rattle.spi_replay.specs.Pools.{TakenBy}
 use Rattle.spi_replay.proofs.Forms.{LeadsByOne}
-use Rattle.spi_replay.proofs.Chains.{chain_kept}
-
-pub same_links : {ls : List Link} → KeepsAll ls ls
-same_links = record { at = λ i l e. e }
-
-pub enters_kept : {ms ns : List Message} {ls ks : List Link} {sp : Spelling} {node last : ℕ} {vs : List Message} → KeepsAll ms ns → KeepsAll ls ks → Enters ms ls sp node last vs → Enters ns ks sp node last vs
-enters_kept k l e = record { over = e.over; linked = chain_kept k l e.linked; closed = e.closed; shape = e.shape; there = e.there; scope = e.scope }
-
-pub binds_kept : {ms ns : List Message} {ls ks : List Link} {sp : Spelling} {node last : ℕ} {vs more : List Message} → KeepsAll ms ns → KeepsAll ls ks → Binds ms ls sp node last vs more → Binds ns ks sp node last vs more
-binds_kept k l e = record { over = e.over; linked = chain_kept k l e.linked; closed = e.closed; shape = e.shape; there = e.there; scope = e.scope }
 
 no_more : {A : Type 0} {x : A} {P : Type 0} → None ≡ Some x → P
 no_more e = absurd cc
 
 -- an act that appends nothing
-pub taken_alone : (old new : List Message) (ls ls' : List Link) (n : ℕ) (p : Place) (t : Taken) (sp : Spelling) (node : ℕ) (vs bs : List Message) → t.more ≡ None → StandsAt new ls' sp node vs t.now → LeadsByOne n (place_process old ls p) (event_in t.event) t.names (held_at sp.names vs (spelled sp.names sp.process) node) [] bs → TakenBy old ls new ls' n p t
-taken_alone old new ls ls' n p t sp node vs bs e s l = record {
-  acts = subst (λ o. Acts n (place_process old ls p) (event_in t.event) t.names (place_process new ls' t.now) (map (place_process new ls') (place_listed o))) (sym e) (subst (λ q. Acts n (place_process old ls p) (event_in t.event) t.names q []) (sym s.process) l.acts);
+pub taken_alone : (old new : List Message) (ls ls' : List Link) (n : ℕ) (p : Place) (t : Taken) (sp : Spelling) (node : ℕ) (vs bs : List Message) (now : Place) (e : Option declared.Event) (m : ℕ) → t ≡ record { now = now; more = None; event = e; names = m } → StandsAt new ls' sp node vs now → LeadsByOne n (place_process old ls p) (event_in e) m (held_at sp.names vs (spelled sp.names sp.process) node) [] bs → TakenBy old ls new ls' n p t
+taken_alone old new ls ls' n p t sp node vs bs now e m is s l = subst (TakenBy old ls new ls' n p) (sym is) (record {
+  acts = subst (λ q. Acts n (place_process old ls p) (event_in e) m q []) (sym s.process) l.acts;
   now = s.is;
-  more = λ q f. no_more (sym e ∙ f);
-}
+  more = λ q f. no_more f;
+})
 
 -- an act that appends a place
 pub taken_both : (old new : List Message) (ls ls' : List Link) (n : ℕ) (p : Place) (t : Taken) (other : Place) (sp : Spelling) (i j : ℕ) (vs bs : List Message) → t.more ≡ Some other → StandsAt new ls' sp i vs t.now → StandsAt new ls' sp j vs other → LeadsByOne n (place_process old ls p) (event_in t.event) t.names (held_at sp.names vs (spelled sp.names sp.process) i) (held_at sp.names vs (spelled sp.names sp.process) j ∷ []) bs → TakenBy old ls new ls' n p t

@@ -1,10 +1,8 @@
 -- What forms wait for by numbers is what they wait for by messages.
-use Rattle.std.proofs.Common.{◌≡◌, ℕ, ◌+◌, ◌-◌, ◌<◌, ◌≤◌, Bool, true, false, List, length, Some, slice_get, refl, sym, ap, ◌∙◌, subst, arith, true≢false, Result, IfOk, ⊎_elim, eq-eqb}
+use Rattle.std.proofs.Common.{◌≡◌, ℕ, ◌+◌, ◌-◌, ◌<◌, ◌≤◌, Bool, true, false, List, length, Some, slice_get, refl, sym, ap, ◌∙◌, subst, arith, true≢false, ⊎_elim, eq-eqb}
 use Rattle.std.specs.Prelude.{if◌then◌else◌, ◌==◌}
 use Rattle.std.proofs.lemmas.Bool.{cases_eq, ne_eqb}
-use Rattle.std.proofs.lemmas.Result.{IfOk-weaker}
 use Rattle.spi_term.specs.Term.{Message, same_message, process_size, stop}
-use Rattle.spi_term.specs.Substitution.{replace}
 use Rattle.spi_term.specs.Spelling.{Shape, Spelling, spelled}
 use Rattle.spi_term.specs.Arena.{scope_of}
 use Rattle.spi_term.proofs.Numbers.{length_spelled}
@@ -14,6 +12,7 @@ use Rattle.spi_intern.specs.declared.messages.MsgId.{MsgId}
 use Rattle.spi_intern.specs.declared.messages.MsgPart.{MsgPart}
 use Rattle.spi_intern.proofs.MessageLaws.{same_true, same_self}
 use Rattle.spi_intern.proofs.Lists.{get_below, some_one}
+use Rattle.spi_intern.proofs.Tables.{keeps_same}
 use Rattle.spi_replay.specs.declared.names.Link.{Link}
 use Rattle.spi_replay.specs.declared.names.Scope.{Scope}
 use Rattle.spi_replay.specs.declared.places.Place.{Place}
@@ -21,10 +20,10 @@ use Rattle.spi_replay.specs.declared.waits.Wait.{Wait}
 use Rattle.spi_replay.specs.declared.waits.Wait.TheVariants as W
 use Rattle.spi_replay.specs.Holding.{value, chain, held_at}
 use Rattle.spi_replay.specs.Waiting.{split_wait, select_wait, decrypt_wait, branch_wait, check_wait}
-use Rattle.spi_replay.specs.Moves.{Move, stays, puts, split_move, select_move, decrypt_move, branch_move, check_move, move_of, Numbers, Waits, w_stays, w_puts, w_binds_one, w_binds_two, w_goes_on}
-use Rattle.spi_replay.specs.Standing.{InScopeOf, HasNames, IsInstance, WaitsFor, AreBelow, Enters, CanEnter, StandsAt, HasEntered}
+use Rattle.spi_replay.specs.Moves.{Move, stays, split_move, select_move, decrypt_move, branch_move, check_move, move_of, Numbers, Waits, w_stays, w_binds_one, w_binds_two, w_goes_on}
+use Rattle.spi_replay.specs.Standing.{HasNames, IsInstance, WaitsFor, AreBelow, Enters, CanEnter, StandsAt, HasEntered}
 use Rattle.spi_replay.proofs.Subtrees.{IsNode, node_leaf, node_prefix, node_fork, node_at}
-use Rattle.spi_replay.proofs.Chains.{chain_is, chain_kept, stand_kept}
+use Rattle.spi_replay.proofs.Chains.{chain_is, chain_kept, enters_kept, stand_kept}
 
 -- equal numbers are those of equal messages
 pub same_by : {ms : List Message} (i j : MsgId) {m n : Message} → AllDiffer ms → Numbers ms i m → Numbers ms j n → (i.place == j.place) ≡ same_message m n
@@ -58,7 +57,7 @@ split_waits i (says_right a) = w_stays
 split_waits i (says_enc a b) = w_stays
 split_waits i (says_hash a) = w_stays
 
-select_waits : {ms : List Message} {p : MsgPart} {m : Message} (j : MsgId) {n : Message} (i : ℕ) → AllDiffer ms → Numbers ms j n → Says ms p m → Waits ms (select_wait p j i) (select_move m n i)
+pub select_waits : {ms : List Message} {p : MsgPart} {m : Message} (j : MsgId) {n : Message} (i : ℕ) → AllDiffer ms → Numbers ms j n → Says ms p m → Waits ms (select_wait p j i) (select_move m n i)
 select_waits j i d h says_bound = w_stays
 select_waits j i d h says_name = w_stays
 select_waits j i d h says_unit = w_stays
@@ -68,7 +67,7 @@ select_waits j i d h (says_right a) = w_stays
 select_waits j i d h (says_enc a b) = w_stays
 select_waits j i d h (says_hash a) = w_stays
 
-decrypt_waits : {ms : List Message} {p : MsgPart} {m : Message} (j : MsgId) {n : Message} (i : ℕ) → AllDiffer ms → Numbers ms j n → Says ms p m → Waits ms (decrypt_wait p j i) (decrypt_move m n i)
+pub decrypt_waits : {ms : List Message} {p : MsgPart} {m : Message} (j : MsgId) {n : Message} (i : ℕ) → AllDiffer ms → Numbers ms j n → Says ms p m → Waits ms (decrypt_wait p j i) (decrypt_move m n i)
 decrypt_waits j i d h says_bound = w_stays
 decrypt_waits j i d h says_name = w_stays
 decrypt_waits j i d h says_unit = w_stays
@@ -88,6 +87,9 @@ branch_waits i j (says_right a) = w_binds_one a
 branch_waits i j (says_enc a b) = w_stays
 branch_waits i j (says_hash a) = w_stays
 
+pub check_waits : {ms : List Message} (j k : MsgId) {m n : Message} (i : ℕ) → AllDiffer ms → Numbers ms j m → Numbers ms k n → Waits ms (check_wait j k i) (check_move m n i)
+check_waits j k {m} {n} i d a b = if_waits (j.place == k.place) (same_message m n) (same_by j k d a b) w_goes_on
+
 -- a number that a call gave
 pub given_below : {old new : List Message} {ls : List Link} {sc : Scope} {m : Message} {id : MsgId} → HasNames old ls sc → IsInstance old new ls sc m id → id.place < length new
 given_below {new = new} {id = id} h x = get_below new id.place _ (x.at h.values h.stand)
@@ -97,32 +99,6 @@ instance_later {id = id} k x = record { at = λ vs h. k.at id.place _ (x.at vs h
 
 pub instance_before : {old mid new : List Message} {ls : List Link} {sc : Scope} {m : Message} {id : MsgId} → KeepsAll old mid → IsInstance mid new ls sc m id → IsInstance old new ls sc m id
 instance_before k x = record { at = λ vs h. x.at vs (stand_kept k h) }
-
-pub puts_for : {old new : List Message} {ls : List Link} {sc : Scope} {a b : Message} {i j : MsgId} → IsInstance old new ls sc a i → IsInstance old new ls sc b j → WaitsFor old new ls sc (λ f. puts (replace f a) (replace f b)) (W.Puts i j)
-puts_for x y = record { at = λ vs h. w_puts (x.at vs h) (y.at vs h) }
-
-pub split_for : {old new : List Message} {ls : List Link} {sc : Scope} {m : Message} {id : MsgId} (p : MsgPart) (i : ℕ) (w : Wait) → IsInstance old new ls sc m id → ((n : Message) → Numbers new id n → Says new p n) → w ≡ split_wait p i → WaitsFor old new ls sc (λ f. split_move (replace f m) i) w
-split_for {new = new} {sc = sc} {m = m} p i w x s e = record { at = λ vs h. subst (λ v. Waits new v (split_move (replace (value sc.free vs) m) i)) (sym e) (split_waits i (s _ (x.at vs h))) }
-
-pub branch_for : {old new : List Message} {ls : List Link} {sc : Scope} {m : Message} {id : MsgId} (p : MsgPart) (i j : ℕ) (w : Wait) → IsInstance old new ls sc m id → ((n : Message) → Numbers new id n → Says new p n) → w ≡ branch_wait p i j → WaitsFor old new ls sc (λ f. branch_move (replace f m) i j) w
-branch_for {new = new} {sc = sc} {m = m} p i j w x s e = record { at = λ vs h. subst (λ v. Waits new v (branch_move (replace (value sc.free vs) m) i j)) (sym e) (branch_waits i j (s _ (x.at vs h))) }
-
-pub select_for : {old new : List Message} {ls : List Link} {sc : Scope} {m n : Message} {id j : MsgId} (p : MsgPart) (i : ℕ) (w : Wait) → AllDiffer new → IsInstance old new ls sc m id → IsInstance old new ls sc n j → ((n : Message) → Numbers new id n → Says new p n) → w ≡ select_wait p j i → WaitsFor old new ls sc (λ f. select_move (replace f m) (replace f n) i) w
-select_for {new = new} {sc = sc} {m = m} {n = n} {id = id} {j = j} p i w d x y s e = record { at = λ vs h. subst (λ v. Waits new v (select_move (replace (value sc.free vs) m) (replace (value sc.free vs) n) i)) (sym e) (select_waits j i d (y.at vs h) (s _ (x.at vs h))) }
-
-pub decrypt_for : {old new : List Message} {ls : List Link} {sc : Scope} {m n : Message} {id j : MsgId} (p : MsgPart) (i : ℕ) (w : Wait) → AllDiffer new → IsInstance old new ls sc m id → IsInstance old new ls sc n j → ((n : Message) → Numbers new id n → Says new p n) → w ≡ decrypt_wait p j i → WaitsFor old new ls sc (λ f. decrypt_move (replace f m) (replace f n) i) w
-decrypt_for {new = new} {sc = sc} {m = m} {n = n} {id = id} {j = j} p i w d x y s e = record { at = λ vs h. subst (λ v. Waits new v (decrypt_move (replace (value sc.free vs) m) (replace (value sc.free vs) n) i)) (sym e) (decrypt_waits j i d (y.at vs h) (s _ (x.at vs h))) }
-
-pub check_for : {old new : List Message} {ls : List Link} {sc : Scope} {m n : Message} {id j : MsgId} (i : ℕ) (w : Wait) → AllDiffer new → IsInstance old new ls sc m id → IsInstance old new ls sc n j → w ≡ check_wait id j i → WaitsFor old new ls sc (λ f. check_move (replace f m) (replace f n) i) w
-check_for {new = new} {sc = sc} {m = m} {n = n} {id = id} {j = j} i w d x y e = record { at = λ vs h. subst (λ v. Waits new v (check_move (replace (value sc.free vs) m) (replace (value sc.free vs) n) i)) (sym e) (if_waits (id.place == j.place) (same_message (replace (value sc.free vs) m) (replace (value sc.free vs) n)) (same_by id j d (x.at vs h) (y.at vs h)) w_goes_on) }
-
--- a form that is another one
-pub waits_as : {E : Type 0} (old new : List Message) (ls : List Link) (sc : Scope) (x y : Shape) → x ≡ y → (f : (ℕ → Message) → Move) → ((g : ℕ → Message) → f g ≡ move_of g y) → (r : Result Wait E) → IfOk r (WaitsFor old new ls sc f) → IfOk r (WaitsFor old new ls sc (λ g. move_of g x))
-waits_as old new ls sc x y e f h r o =
-    IfOk-weaker r (WaitsFor old new ls sc f) (WaitsFor old new ls sc (λ g. move_of g x)) (λ w q. record { at = λ vs s. subst (Waits new w) (h (value sc.free vs) ∙ sym (ap (move_of (value sc.free vs)) e)) (q.at vs s) }) o
-
-pub wait_as : {old new : List Message} {ls : List Link} {sc : Scope} (x y : Shape) (w : Wait) → x ≡ y → ((vs : List Message) → InScopeOf old ls sc vs → Waits new w (move_of (value sc.free vs) y)) → WaitsFor old new ls sc (λ g. move_of g x) w
-wait_as {new = new} {sc = sc} x y w e h = record { at = λ vs s. subst (Waits new w) (sym (ap (move_of (value sc.free vs)) e)) (h vs s) }
 
 -- entering a node
 below_of : {ss : List Shape} {i : ℕ} {x : Shape} → IsNode ss i x → AreBelow (scope_of x) x
@@ -165,13 +141,13 @@ has_entered {old} {new} {ls} {s} {x} p free f r k b d w = record { at = at }
     at : (vs : List Message) → Enters old ls p.source.now p.node p.last vs → StandsAt new ls p.source.now p.node vs p
     at vs e =
         let n = p.source.now.names in
-        let c = chain_kept k (record { at = λ i l q. q }) e.linked in
+        let c = chain_kept k (keeps_same refl) e.linked in
         let many : length vs ≡ p.bound = omega (arith, b, scope_is r e) in
         let m : move_of (value n vs) x ≡ (if p.done then stays else move_of (value n vs) e.shape) = ap (move_of (value n vs)) (shape_is r e) ∙ ap (λ z. if z then stays else move_of (value n vs) e.shape) (sym d) in
         record {
           is = record {
             values = vs;
-            enters = record { over = e.over; linked = c; closed = e.closed; shape = e.shape; there = e.there; scope = e.scope };
+            enters = enters_kept k (keeps_same refl) e;
             bound = many;
             waits = subst (Waits new p.wait) (ap (λ q. move_of (value q vs) x) f ∙ m) (w.at vs (record { linked = e.linked; bound = omega (arith, scope_is r e) }));
           };

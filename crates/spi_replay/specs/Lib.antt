@@ -10,4 +10,4 @@ pub mod Listing
 pub mod Indexed
 pub mod Tables
 pub mod Started
-pub mod Lone
+pub mod Operands

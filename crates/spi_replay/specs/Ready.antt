@@ -1,6 +1,6 @@
 -- The ready steps of a configuration, in their order.
 use Rattle.std.specs.Prelude.{◌↔◌, ℕ, ◌+◌, ◌<◌, ◌==◌, if◌then◌else◌, List, [], ◌∷◌, Option, ⊤}
-use Rattle.spi_term.specs.Lists.{At, In}
+use Rattle.spi_term.specs.Lists.{At, In, AreAscending}
 use Rattle.spi_term.specs.Term.{Message, Ty, Process, send, recv, serve}
 use Rattle.spi_run.specs.Reduction.{Configuration, Step, act, talk, Event, Takes}
 
@@ -44,11 +44,6 @@ pub data PutsOut (m : Message) : Process → Type 0 where
 pub data TakesIn (m : Message) : Process → Type 0 where
   takes_once : {t : Ty} {p : Process} → TakesIn m (recv m t p)
   takes_again : {t : Ty} {p : Process} → TakesIn m (serve m t p)
-
--- ascending numbers
-abbrev pub AreAscending : List ℕ → Type 0
-AreAscending [] = ⊤
-AreAscending (i ∷ is) = ((j : ℕ) → In j is → i < j) × AreAscending is
 
 -- the places whose processes are such, ascending
 pub record AreReadyPlaces (P : Process → Type 0) (ps : List Process) (is : List ℕ) : Type 0 where

@@ -6,7 +6,6 @@ use Rattle.spi_term.specs.Names.{MessageOver, OfLeaf, OfPrefix, OfFork, ProcessO
 use Rattle.spi_term.specs.Spelling.{Shape, leaf_at, prefix_at, fork_at, Spelling, spelled}
 use Rattle.spi_term.specs.Arena.{scope_of}
 use Rattle.spi_intern.specs.declared.messages.MsgId.{MsgId}
-use Rattle.spi_intern.specs.Table.{KeepsAll}
 use Rattle.spi_replay.specs.declared.names.Link.{Link}
 use Rattle.spi_replay.specs.declared.names.Scope.{Scope}
 use Rattle.spi_replay.specs.declared.places.Place.{Place}
@@ -88,12 +87,6 @@ pub record ArePlaces (ms : List Message) (ls : List Link) (ps : List Place) : Ty
 
 abbrev pub processes : List Message → List Link → List Place → List Process
 processes ms ls ps = map (place_process ms ls) ps
-
--- stores and links grow at their ends
-pub record GrowAtEnds (ms : List Message) (ls : List Link) (ms' : List Message) (ls' : List Link) : Type 0
-  where
-    pub messages : KeepsAll ms ms'
-    pub links : KeepsAll ls ls'
 
 -- a node of a process, with more messages for the names that its form binds
 pub record Binds (ms : List Message) (ls : List Link) (sp : Spelling) (node last : ℕ)

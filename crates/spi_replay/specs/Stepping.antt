@@ -1,8 +1,9 @@
 -- What a step of a pool is refused for.
 use Rattle.std.specs.Prelude.{◌≡◌, ℕ, ◌<◌, ◌≤◌, max, List, [], ◌∷◌, length, Option, Some, None, slice_get}
-use Rattle.spi_term.specs.Term.{Message, name, pair, in_left, in_right, enc, Process, send, split, select, branch, decrypt, begin, end, end_many, cast, fresh, message_size}
+use Rattle.spi_term.specs.Term.{Message, name, pair, in_left, in_right, enc, Process, leaf, recv, serve, split, select, decrypt, check, begin, end, end_many, cast, fresh, branch, par, message_size}
 use Rattle.spi_term.specs.Spelling.{stopped}
 use Rattle.spi_run.specs.Reduction.{Configuration, Step, act, talk, Event, Takes}
+use Rattle.spi_run.specs.Knowledge.{datum}
 use Rattle.spi_run.specs.View.{event}
 use Rattle.spi_run.specs.declared.step.Event as declared
 use Rattle.spi_replay.specs.declared.fault.StepFault.{StepFault}
@@ -24,24 +25,45 @@ pub data FirstOutside (n : ℕ) : List ℕ → ℕ → Type 0 where
   outside_here : {i : ℕ} {is : List ℕ} → n ≤ i → FirstOutside n (i ∷ is) i
   outside_later : {i k : ℕ} {is : List ℕ} → i < n → FirstOutside n is k → FirstOutside n (i ∷ is) k
 
+-- what taking a message apart binds, by the form that does: both parts of a pair, the second, the one of a sum, or the body of a
+-- ciphertext
+abbrev pub split_parts : Message → List Message
+split_parts (pair a b) = a ∷ b ∷ []
+split_parts m = []
+
+abbrev pub matched_part : Message → List Message
+matched_part (pair a b) = b ∷ []
+matched_part m = []
+
+abbrev pub side_part : Message → List Message
+side_part (in_left a) = a ∷ []
+side_part (in_right a) = a ∷ []
+side_part m = []
+
+abbrev pub decrypted_part : Message → List Message
+decrypted_part (enc a k) = a ∷ []
+decrypted_part m = []
+
 -- The messages that a ready step binds to a name or puts in its event, where n names are used. Of a `match` that is the
 -- second part alone: the first is bound to no name of the process.
 abbrev pub bound_here : ℕ → Process → List Message
-bound_here n (split (pair a b) t u p) = a ∷ b ∷ []
-bound_here n (select (pair a b) t c u p) = b ∷ []
-bound_here n (branch (in_left a) t p u q) = a ∷ []
-bound_here n (branch (in_right a) t p u q) = a ∷ []
-bound_here n (decrypt (enc a k) t j p) = a ∷ []
-bound_here n (begin a p) = a ∷ []
-bound_here n (end a p) = a ∷ []
-bound_here n (end_many a p) = a ∷ []
-bound_here n (cast a t p) = a ∷ []
+bound_here n (leaf l) = []
+bound_here n (recv m t p) = []
+bound_here n (serve m t p) = []
+bound_here n (split m t u p) = split_parts m
+bound_here n (select m t c u p) = matched_part m
+bound_here n (decrypt m t k p) = decrypted_part m
+bound_here n (check m c p) = []
+bound_here n (begin m p) = m ∷ []
+bound_here n (end m p) = m ∷ []
+bound_here n (end_many m p) = m ∷ []
+bound_here n (cast m t p) = m ∷ []
 bound_here n (fresh t p) = name n ∷ []
-bound_here n p = []
+bound_here n (branch m t p u q) = side_part m
+bound_here n (par p q) = []
 
 abbrev pub handed_over : Process → List Message
-handed_over (send a b) = b ∷ []
-handed_over p = []
+handed_over p = datum (Some p)
 
 abbrev pub by_place : (Process → List Message) → Option Process → List Message
 by_place f None = []
@@ -59,6 +81,10 @@ largest (m ∷ ms) = max (message_size m) (largest ms)
 -- the greatest number of nodes of such a message
 abbrev pub message_most : ℕ
 message_most = 1000
+
+-- how many places there are at most
+abbrev pub places_most : ℕ
+places_most = 5000
 
 -- why a step is refused, in this order
 pub data RefusesPoolStep (c : Configuration) (most : ℕ) (s : Step) : StepFault → Type 0 where

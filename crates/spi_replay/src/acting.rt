@@ -1,6 +1,6 @@
 // Acts: what a place and its names are afterwards.
 
-ghost use Rattle.std.specs.Prelude.{◌≡◌, ◌+◌, ◌-◌, ◌^◌, ◌<◌, IfOk, true};
+ghost use Rattle.std.specs.Prelude.{◌≡◌, ◌+◌, ◌-◌, ◌^◌, ◌<◌, IfOk, None, true};
 ghost use Rattle.spi_term.specs.View.{message};
 ghost use Rattle.spi_intern.specs.Meaning.{Keeps};
 ghost use Rattle.spi_intern.specs.Table.{KeepsAll};
@@ -26,6 +26,18 @@ pub struct Taken<'p> {
     pub more: Option<Place<'p>>,
     pub event: Option<Event>,
     pub names: u32,
+}
+
+// An act that appends nothing.
+fn act_alone<'p>(now: Place<'p>, shown: Option<Event>, names: u32) -> Taken<'p>
+    ensures { result ≡ record { now = now.entry; more = None; event = shown; names = names } }
+{
+    Taken {
+        now,
+        more: None,
+        event: shown,
+        names,
+    }
 }
 
 fn event_with(kind: Kind, label: Msg) -> Event
@@ -54,12 +66,7 @@ fn take_one<'p>(
     ensures links { KeepsAll links.old.items links.new.items }
 {
     let now = entered_with(store, links, place.source, body, place.last, value)?;
-    Ok(Taken {
-        now,
-        more: None,
-        event: None,
-        names,
-    })
+    Ok(act_alone(now, None, names))
 }
 
 fn take_two<'p>(
@@ -79,12 +86,7 @@ fn take_two<'p>(
     ensures links { KeepsAll links.old.items links.new.items }
 {
     let now = entered_with_two(store, links, place.source, body, place.last, first, second)?;
-    Ok(Taken {
-        now,
-        more: None,
-        event: None,
-        names,
-    })
+    Ok(act_alone(now, None, names))
 }
 
 fn take_on<'p>(
@@ -101,12 +103,7 @@ fn take_on<'p>(
     ensures kept { Keeps store.old store.new }
 {
     let now = entered(store, links, place.source, body, place.last)?;
-    Ok(Taken {
-        now,
-        more: None,
-        event: None,
-        names,
-    })
+    Ok(act_alone(now, None, names))
 }
 
 fn take_showing<'p>(
@@ -127,12 +124,7 @@ fn take_showing<'p>(
 {
     let shown = message_of(alloc, store, label)?;
     let now = entered(store, links, place.source, body, place.last)?;
-    Ok(Taken {
-        now,
-        more: None,
-        event: Some(event_with(kind, shown)),
-        names,
-    })
+    Ok(act_alone(now, Some(event_with(kind, shown)), names))
 }
 
 fn take_making<'p>(
@@ -152,12 +144,7 @@ fn take_making<'p>(
 {
     let fresh = store.message_over(MsgPart::Name(names))?;
     let now = entered_with(store, links, place.source, body, place.last, fresh)?;
-    Ok(Taken {
-        now,
-        more: None,
-        event: None,
-        names: names + 1,
-    })
+    Ok(act_alone(now, None, names + 1))
 }
 
 fn take_forking<'p>(

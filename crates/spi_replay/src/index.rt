@@ -17,6 +17,7 @@ use std::alloc::Global;
 
 /// The places of a pool in their order, and for each channel that a place waits on, by the number of its message, the
 /// ascending places that put out on it and those that take in on it. That these lists are so is a fact of the type.
+#[derive(Drop)]
 pub struct Index<'p> {
     alloc: Global,
     places: Vec<Place<'p>>,
@@ -24,17 +25,6 @@ pub struct Index<'p> {
     ins: IndexMap<usize, Vec<u32>>,
     ghost outs_are: { HasPlaces out_channel (get nat_eq outs) places.items },
     ghost ins_are: { HasPlaces in_channel (get nat_eq ins) places.items },
-}
-
-impl Drop for Index<'_> {
-    fn drop(self) {
-        let Self {
-            alloc,
-            places,
-            outs,
-            ins,
-        } = self;
-    }
 }
 
 impl<'p> Index<'p> {

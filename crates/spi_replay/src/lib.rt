@@ -8,6 +8,7 @@ pub mod index;
 mod laws;
 mod listing;
 mod names;
+mod operands;
 mod places;
 mod pool;
 mod reading;

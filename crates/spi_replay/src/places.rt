@@ -1,20 +1,19 @@
 // Places.
 
-ghost use Rattle.std.specs.Prelude.{◌≡◌, ◌+◌, IfOk};
+ghost use Rattle.std.specs.Prelude.{◌+◌, IfOk};
 ghost use Rattle.spi_term.specs.Names.{MessageOver};
-ghost use Rattle.spi_term.specs.Substitution.{replace};
 ghost use Rattle.spi_term.specs.View.{message, shape_of};
 ghost use Rattle.spi_intern.specs.Meaning.{Keeps};
 ghost use Rattle.spi_replay.specs.Moves.{move_of};
-ghost use Rattle.spi_replay.specs.Lone.{lone_move};
 ghost use Rattle.spi_intern.specs.Table.{KeepsAll, AllDiffer};
 ghost use Rattle.spi_replay.specs.Standing.{HasNames, IsInstance, WaitsFor, AreBelow, CanEnter, HasEntered, CanBind, HasBound, CanBindTwo, HasBoundTwo};
 
 use crate::NoMemory;
 use crate::names::{Link, Scope, bind, instance};
-use crate::waits::{Kind, Lone, Wait, check_wait, decrypt_wait, lone_wait, select_wait};
+use crate::operands::{Operands, joint_wait, lone_wait, operands_of};
+use crate::waits::Wait;
 use spi_intern::{MsgId, Store};
-use spi_term::{Form, Msg, Node, Process};
+use spi_term::{Msg, Node, Process};
 
 /// A place: a node of a process, the link of the name bound last above it, and what it waits for. A place that is done
 /// holds `stop`.
@@ -53,24 +52,6 @@ fn instances(
     Ok((id, other))
 }
 
-fn wait_alone(
-    store: &mut Store,
-    links: &[Link],
-    scope: Scope,
-    m: &Msg,
-    lone: Lone,
-) -> Result<Wait, NoMemory>
-    requires over { MessageOver (scope.free + scope.bound) 0 (message m.now) }
-    requires names { HasNames store.old.messages links.now scope }
-    ensures at { IfOk result
-        (λ w. WaitsFor store.old.messages store.new.messages links.now scope
-        (λ f. lone_move lone (replace f (message m.now))) w) }
-    ensures kept { Keeps store.old store.new }
-{
-    let id = instance(store, links, scope, m)?;
-    Ok(lone_wait(lone, id, store.part(id)))
-}
-
 // What a node waits for, with messages for the names in scope.
 fn wait_at(store: &mut Store, links: &[Link], scope: Scope, node: &Node) -> Result<Wait, NoMemory>
     requires below { AreBelow (scope.free + scope.bound) (shape_of node.now) }
@@ -80,97 +61,18 @@ fn wait_at(store: &mut Store, links: &[Link], scope: Scope, node: &Node) -> Resu
         (λ f. move_of f (shape_of node.now)) w) }
     ensures kept { Keeps store.old store.new }
 {
-    match &node.form {
-        Form::Send { channel, datum } => {
-            let (on, what) = instances(store, links, scope, channel, datum)?;
-            Ok(Wait::Puts(on, what))
+    match operands_of(node) {
+        Operands::Stays => Ok(Wait::Stays),
+        Operands::Freshes(body) => Ok(Wait::Freshes(body)),
+        Operands::Forks(first, rest) => Ok(Wait::Forks(first, rest)),
+        Operands::One(m, lone) => {
+            let id = instance(store, links, scope, m)?;
+            Ok(lone_wait(lone, id, store.part(id)))
         }
-        Form::Recv { channel, body, .. } => wait_alone(
-            store,
-            links,
-            scope,
-            channel,
-            Lone::Takes(*body),
-        ),
-        Form::Serve { channel, body, .. } => wait_alone(
-            store,
-            links,
-            scope,
-            channel,
-            Lone::TakesAgain(*body),
-        ),
-        Form::Split { whole, body, .. } => wait_alone(
-            store,
-            links,
-            scope,
-            whole,
-            Lone::Splits(*body),
-        ),
-        Form::Select {
-            whole,
-            equal,
-            body,
-            ..
-        } => {
-            let (id, other) = instances(store, links, scope, whole, equal)?;
-            Ok(select_wait(store.part(id), other, *body))
+        Operands::Two(m, other, joint) => {
+            let (id, second) = instances(store, links, scope, m, other)?;
+            Ok(joint_wait(joint, id, store.part(id), second))
         }
-        Form::Branch {
-            whole,
-            on_left,
-            on_right,
-            ..
-        } => wait_alone(
-            store,
-            links,
-            scope,
-            whole,
-            Lone::Branches(*on_left, *on_right),
-        ),
-        Form::Decrypt {
-            whole,
-            key,
-            body,
-            ..
-        } => {
-            let (id, by) = instances(store, links, scope, whole, key)?;
-            Ok(decrypt_wait(store.part(id), by, *body))
-        }
-        Form::Check { whole, nonce, body } => {
-            let (id, same) = instances(store, links, scope, whole, nonce)?;
-            Ok(check_wait(id, same, *body))
-        }
-        Form::Begin { label, body } => wait_alone(
-            store,
-            links,
-            scope,
-            label,
-            Lone::Shows(Kind::Begin, *body),
-        ),
-        Form::End { label, body } => wait_alone(
-            store,
-            links,
-            scope,
-            label,
-            Lone::Shows(Kind::End, *body),
-        ),
-        Form::EndMany { label, body } => wait_alone(
-            store,
-            links,
-            scope,
-            label,
-            Lone::Shows(Kind::EndMany, *body),
-        ),
-        Form::Cast { whole, body, .. } => wait_alone(
-            store,
-            links,
-            scope,
-            whole,
-            Lone::BindsOne(*body),
-        ),
-        Form::Fresh { body, .. } => Ok(Wait::Freshes(*body)),
-        Form::Par { first, rest } => Ok(Wait::Forks(*first, *rest)),
-        Form::Stop => Ok(Wait::Stays),
     }
 }
 

@@ -13,7 +13,7 @@ use crate::NoMemory;
 use crate::fault::StepFault;
 use crate::handing::handed;
 use crate::listing::{ins_on, kth, outs_on, ready, ready_at};
-use crate::running::{State, start, step_act, step_talk};
+use crate::running::{State, push_first, step_act, step_talk};
 use spi_run::{Event, Step};
 use spi_term::{Msg, Process};
 use std::alloc::Global;
@@ -59,7 +59,9 @@ impl<'p> Pool<'p> {
             (λ p. p.configuration ≡ beside process.now.names process.now.process opponent.now.process) }
         ensures most { IfOk result (λ p. p.most ≡ most_places) }
     {
-        let state = start(alloc, process, opponent, most_places)?;
+        let mut state = State::new(alloc, process.names(), most_places);
+        push_first(&mut state, process)?;
+        push_first(&mut state, opponent)?;
         Ok(Pool { state })
     }
 

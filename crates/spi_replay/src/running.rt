@@ -1,9 +1,8 @@
 // Steps of a pool's state.
 
-ghost use Rattle.std.specs.Prelude.{◌≡◌, ◌+◌, ◌-◌, ◌^◌, ◌<◌, ◌≤◌, ◌⊎◌, None, IfOk, IfErr, OnOk, OnErr, Some, length, slice_get};
+ghost use Rattle.std.specs.Prelude.{◌≡◌, ◌+◌, ◌-◌, ◌^◌, ◌<◌, ◌⊎◌, None, IfOk, IfErr, OnOk, OnErr, Some, [], length};
 ghost use Rattle.spi_term.specs.Names.{ProcessOver};
 ghost use Rattle.spi_run.specs.Reduction.{act, talk};
-ghost use Rattle.spi_run.specs.Safety.{beside};
 ghost use Rattle.spi_replay.specs.Stepping.{RefusesPoolStep, IsTaken, event_in};
 ghost use Rattle.spi_replay.specs.Started.{HasFirstPlace};
 ghost use Rattle.spi_replay.specs.Pools.{pooled, IsState, MayAct, MayTalk, again_appends};
@@ -15,7 +14,7 @@ use crate::index::Index;
 use crate::names::Link;
 use crate::places::{entered, entered_with};
 use crate::reading::{largest_of, nodes_of};
-use crate::waits::{Meeting, Wait, appended_by, is_act, meeting_of};
+use crate::waits::{Meeting, appended_by, is_act, meeting_of};
 use spi_intern::Store;
 use spi_run::Event;
 use spi_term::Process;
@@ -47,8 +46,26 @@ impl Drop for State<'_> {
     }
 }
 
-// One place more, which stands at the first node of a process.
-fn push_first<'p>(state: &mut State<'p>, source: &'p Process) -> Result<(), NoMemory>
+impl<'p> State<'p> {
+    /// No places.
+    pub fn new(alloc: Global, names: u32, most: u32) -> State<'p>
+        ensures places { result.index.places.items ≡ [] }
+        ensures names { result.names ≡ names }
+        ensures most { result.most ≡ most }
+    {
+        State {
+            alloc,
+            names,
+            most,
+            store: Store::new(alloc),
+            links: Vec::new(alloc),
+            index: Index::new(alloc),
+        }
+    }
+}
+
+/// One place more, which stands at the first node of a process.
+pub fn push_first<'p>(state: &mut State<'p>, source: &'p Process) -> Result<(), NoMemory>
     requires { length state.old.index.places.items < 2 ^ 32 - 1 }
     ensures over { ProcessOver source.now.names source.now.process }
     ensures pushed { OnOk result (HasFirstPlace source.now state.old state.new) }
@@ -57,37 +74,6 @@ fn push_first<'p>(state: &mut State<'p>, source: &'p Process) -> Result<(), NoMe
     let _ = source.len();
     let first = entered(&mut state.store, &state.links, source, 0, 0)?;
     state.index.push(first)
-}
-
-/// The process at place 0 and the opponent at place 1.
-pub fn start<'p>(
-    alloc: Global,
-    process: &'p Process,
-    opponent: &'p Process,
-    most: u32,
-) -> Result<State<'p>, NoMemory>
-    requires names { process.now.names ≡ opponent.now.names }
-    requires places { 2 ≤ most }
-    requires most { most < 2 ^ 32 - 1 }
-    ensures beside { IfOk result
-        (λ s. pooled s
-        ≡ record {
-          configuration = beside process.now.names process.now.process opponent.now.process;
-          most = most;
-        }) }
-    ensures is { IfOk result IsState }
-{
-    let mut state = State {
-        alloc,
-        names: process.names(),
-        most,
-        store: Store::new(alloc),
-        links: Vec::new(alloc),
-        index: Index::new(alloc),
-    };
-    push_first(&mut state, process)?;
-    push_first(&mut state, opponent)?;
-    Ok(state)
 }
 
 // Whether the place acts alone, within the limits.

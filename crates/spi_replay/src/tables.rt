@@ -27,15 +27,10 @@ pub struct Change {
 }
 
 /// The new lists of the channels that a change touches.
+#[derive(Drop)]
 pub struct Lists {
     pub from: Vec<u32>,
     pub to: Vec<u32>,
-}
-
-impl Drop for Lists {
-    fn drop(self) {
-        let Self { from, to } = self;
-    }
 }
 
 impl Lists {
@@ -55,15 +50,10 @@ impl Lists {
 }
 
 /// The new lists of the channels that two changes touch.
+#[derive(Drop)]
 pub struct Relisted {
     pub first: Lists,
     pub second: Lists,
-}
-
-impl Drop for Relisted {
-    fn drop(self) {
-        let Self { first, second } = self;
-    }
 }
 
 impl Relisted {
@@ -248,11 +238,11 @@ pub fn turn_both(
     requires outs { AllRise (get nat_eq outs.old) }
     requires ins { AllRise (get nat_eq ins.old) }
     ensures outs { OnOk result
-        (HasChanged (table_change out_channel_of first) (table_change out_channel_of second) (get nat_eq outs.old)
-        (get nat_eq outs.new)) }
+        (HasChanged (table_change out_channel_of first) (table_change out_channel_of second)
+        (get nat_eq outs.old) (get nat_eq outs.new)) }
     ensures ins { OnOk result
-        (HasChanged (table_change in_channel_of first) (table_change in_channel_of second) (get nat_eq ins.old)
-        (get nat_eq ins.new)) }
+        (HasChanged (table_change in_channel_of first) (table_change in_channel_of second)
+        (get nat_eq ins.old) (get nat_eq ins.new)) }
     ensures same_outs { OnErr result (IsUnchanged outs.old outs.new) }
     ensures same_ins { OnErr result (IsUnchanged ins.old ins.new) }
 {

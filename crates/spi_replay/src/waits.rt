@@ -1,7 +1,6 @@
 // What a place waits for.
 
 ghost use Rattle.std.specs.Prelude.{◌≡◌, ◌==◌, if◌then◌else◌};
-ghost use Rattle.spi_replay.specs.Lone.{lone_wait as lone_wait_of};
 ghost use Rattle.spi_replay.specs.Waiting.{split_wait as split_wait_of, select_wait as select_wait_of, decrypt_wait as decrypt_wait_of, branch_wait as branch_wait_of, check_wait as check_wait_of, wait_acts, wait_appends, met_if, met_by};
 
 use spi_intern::{MsgId, MsgPart};
@@ -37,37 +36,6 @@ pub enum Wait {
     Freshes(u32),
     /// Acts, and becomes two places.
     Forks(u32, u32),
-}
-
-/// What a form that looks at one message does with it, by the nodes that follow.
-#[derive(Clone, Copy)]
-pub enum Lone {
-    /// Takes in on it.
-    Takes(u32),
-    /// Takes in on it, and stays.
-    TakesAgain(u32),
-    /// Binds it to a name.
-    BindsOne(u32),
-    /// Shows an event with it as its label.
-    Shows(Kind, u32),
-    /// Splits it.
-    Splits(u32),
-    /// Goes on by its side.
-    Branches(u32, u32),
-}
-
-/// What a form that looks at one message waits for, by the message's number and its parts.
-pub fn lone_wait(lone: Lone, id: MsgId, whole: MsgPart) -> Wait
-    ensures { result ≡ lone_wait_of lone id whole }
-{
-    match lone {
-        Lone::Takes(body) => Wait::Takes(id, body),
-        Lone::TakesAgain(body) => Wait::TakesAgain(id, body),
-        Lone::BindsOne(body) => Wait::BindsOne(id, body),
-        Lone::Shows(kind, body) => Wait::Shows(kind, id, body),
-        Lone::Splits(body) => split_wait(whole, body),
-        Lone::Branches(on_left, on_right) => branch_wait(whole, on_left, on_right),
-    }
 }
 
 // What is waited for where the two messages are one.

@@ -1,15 +1,12 @@
 // The lines of a replay.
 ghost use Rattle.std.specs.Prelude.{◌≡◌, ◌+◌, ◌^◌, ◌<◌, ◌++◌, length, map, IfOk, IfSome, OnOk};
-ghost use Rattle.spi_term.specs.View.{message};
 ghost use Rattle.spi_run.specs.View.{event};
-ghost use Rattle.spi_show.specs.Report.{message_text};
 ghost use Rattle.spi_report.specs.Events.{from_text, event_text, event_line, is_unpaid as is_unpaid_by, first_unpaid as first_unpaid_of, last_text, events_text};
 
 use crate::NoMemory;
 use spi_run::Event;
 use spi_scope::File;
-use spi_show::show_message;
-use spi_term::Msg;
+use spi_show::put_reported;
 use spi_text::Text;
 use spi_trace::Pairing;
 use std::alloc::Global;
@@ -27,21 +24,6 @@ fn put_from(alloc: Global, out: &mut Vec<u8>, begin: Option<u32>) -> Result<(), 
     }
 }
 
-// Appends a word and a label.
-fn put_label(
-    alloc: Global,
-    out: &mut Vec<u8>,
-    word: &[u8],
-    names: &[Text],
-    label: &Msg,
-) -> Result<(), NoMemory>
-    ensures { OnOk result
-        (out.new.items ≡ out.old.items ++ (word.now ++ message_text names.now (message label.now))) }
-{
-    out.extend_from_slice(word)?;
-    out.extend_from_slice(&show_message(alloc, names, label)?)
-}
-
 // Appends an event.
 fn put_event(
     alloc: Global,
@@ -53,13 +35,13 @@ fn put_event(
     ensures { OnOk result (out.new.items ≡ out.old.items ++ event_text names.now (event e.now) begin) }
 {
     match e {
-        Event::Begin(label) => put_label(alloc, out, b" begin ", names, label),
+        Event::Begin(label) => put_reported(alloc, out, names, b" begin ", label),
         Event::End(label) => {
-            put_label(alloc, out, b" end ", names, label)?;
+            put_reported(alloc, out, names, b" end ", label)?;
             put_from(alloc, out, begin)
         }
         Event::EndMany(label) => {
-            put_label(alloc, out, b" endmany ", names, label)?;
+            put_reported(alloc, out, names, b" endmany ", label)?;
             put_from(alloc, out, begin)
         }
     }

@@ -38,6 +38,11 @@ fork_nodes f old one two three four p q k kp kq at first rest here behind x e1 e
     ∙ ap (λ c. old ++ fork_at k f (suc i) (suc i + process_size p) ∷ (flat (suc i) c p ++ flat (suc i + process_size p) kq q)) ep
     ∙ ap (λ c. old ++ fork_at k f (suc i) (suc i + process_size p) ∷ (flat (suc i) j p ++ flat (suc i + process_size p) c q)) eq
 
+-- what is kept of each node grows in the same way: by what stands for x, then by the first process, then by the second
+pub fork_kept : {A : Type 0} (old one two three : List A) (x : A) (a b : List A) → one ≡ old ++ x ∷ [] → two ≡ one ++ a → three ≡ two ++ b → three ≡ old ++ x ∷ (a ++ b)
+fork_kept old one two three x a b e f g =
+    g ∙ ap (λ l. l ++ b) (f ∙ ap (λ l. l ++ a) e) ∙ append_assoc (old ++ x ∷ []) a b ∙ append_assoc old (x ∷ []) (a ++ b)
+
 -- the nodes' shapes, and that each node's parts are small
 pub shapes_are : (ns : List Node) → shapes_of ns ≡ map shape_of ns
 shapes_are [] = refl

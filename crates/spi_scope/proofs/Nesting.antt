@@ -5,7 +5,7 @@ use Rattle.spi_term.specs.Term.{Message, pair, Ty, pair_ty}
 use Rattle.spi_term.specs.View.{message, ty}
 use Rattle.spi_term.specs.declared.term.Msg.{Msg}
 use Rattle.spi_term.specs.declared.term.Ty as declared
-use Rattle.std.specs.Prelude.{slice_set, Some, None, Ok, Err}
+use Rattle.std.specs.Prelude.{slice_set, Option, Some, None, Ok, Err}
 use Rattle.std.specs.Str.{bytes_eq}
 use Rattle.std.specs.Map.{lookup}
 use Rattle.std.specs.Option.{option_map}
@@ -60,6 +60,10 @@ type_is_found (e ∷ es) w = by (bytes_eq w e.0.now) (type_is_found es w)
     by : (b : Bool) → type_of (map abbreviation es) w ≡ option_map (λ a. ty a.ty) (lookup (λ k. bytes_eq w k.now) es) → cond b (Some (ty e.1.ty)) (type_of (map abbreviation es) w) ≡ option_map (λ a. ty a.ty) (cond b (Some e.1) (lookup (λ k. bytes_eq w k.now) es))
     by true h = refl
     by false h = h
+
+-- what a table has at a spelling is what stands there at the word that is spelled so
+pub looked_up : (es : List (Bor (List ℕ) × Abbr)) (x w : Word) (o : Option Abbr) → x ≡ w → o ≡ lookup (λ k. bytes_eq x k.now) es → type_of (map abbreviation es) w ≡ option_map (λ a. ty a.ty) o
+looked_up es x w o e h = ap (type_of (map abbreviation es)) (sym e) ∙ type_is_found es x ∙ ap (option_map (λ (a : Abbr). ty a.ty)) (sym h)
 
 pub unknown_type : (ts : Abbreviations) (w : SWord) (c : ℕ) → type_of ts w.word ≡ None → run (one (uses_type ts w)) c ≡ Err (UnknownType w.span w.word)
 unknown_type ts w c e = rw e refl

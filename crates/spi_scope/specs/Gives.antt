@@ -30,11 +30,6 @@ abbrev pub GivesMeant : {X Y : Type 0} → (X → Y) → Result X ScopeFault →
 GivesMeant view (Ok x) ran c meant = (ran ≡ Ok c) × (view x ≡ meant)
 GivesMeant view (Err e) ran c meant = FailsWith e ran
 
--- the same of a function that returns nothing
-abbrev pub Goes : Result (Unit {0}) ScopeFault → Ran → ℕ → Type 0
-Goes (Ok x) ran c = ran ≡ Ok c
-Goes (Err e) ran c = FailsWith e ran
-
 -- the same of a term with its nodes counted on: the term is left out where there are more than 1,000
 abbrev pub CountsOn : {X Y : Type 0} → (X → Y) → (Y → ℕ) → Result (X × ℕ) ScopeFault → Ran → ℕ → ℕ → Y
     → Type 0

@@ -1,4 +1,4 @@
--- Where the points lead to, said of a function that returns several things.
+-- Where the points lead to, whatever a function returns besides.
 use Rattle.std.specs.Prelude.{◌≡◌, ℕ, Result, Ok, Err}
 use Rattle.spi_scope.specs.declared.fault.ScopeFault.{ScopeFault}
 use Rattle.spi_scope.specs.Gives.{Ran, FailsWith}

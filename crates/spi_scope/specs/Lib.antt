@@ -9,6 +9,7 @@ pub mod StandsFor
 pub mod Gives
 pub mod Leads
 pub mod State
+pub mod Forms
 pub mod Over
 pub mod Table
 pub mod Chains

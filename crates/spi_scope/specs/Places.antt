@@ -1,11 +1,9 @@
 -- The place with a number.
 use Rattle.std.specs.Prelude.{ℕ, List, Option, Some, None, slice_get}
 use Rattle.spi_text.specs.declared.lines.Span.{Span}
+use Rattle.spi_tree.specs.Trees.{nowhere}
 
 -- the place with this number, and the empty one at 0 where there isn't one
-abbrev pub nowhere : Span
-nowhere = record { from = 0; to = 0 }
-
 abbrev pub or_nowhere : Option Span → Span
 or_nowhere None = nowhere
 or_nowhere (Some s) = s

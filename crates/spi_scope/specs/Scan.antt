@@ -64,8 +64,8 @@ abbrev mutual
   message_scan xs (t.name s w) = scan_word w ▸ here (uses_name xs w)
   message_scan xs (t.unit s) = scan_mark mark.ParenOpen ▸ scan_mark mark.ParenClose
   message_scan xs (t.tuple s a b ms) =
-      scan_mark mark.ParenOpen ▸ message_scan xs a ▸ scan_mark mark.Comma ▸ message_scan xs b ▸ messages_scan xs ms
-      ▸ scan_mark mark.ParenClose
+      scan_mark mark.ParenOpen ▸ message_scan xs a ▸ scan_mark mark.Comma ▸ message_scan xs b
+      ▸ messages_scan xs ms ▸ scan_mark mark.ParenClose
   message_scan xs (t.inl s a) = scan_reserved word.Inl ▸ message_scan xs a
   message_scan xs (t.inr s a) = scan_reserved word.Inr ▸ message_scan xs a
   message_scan xs (t.enc s a b) =
@@ -106,12 +106,12 @@ abbrev mutual
   type_scan ts xs (t.un s) = scan_reserved word.Un
   type_scan ts xs (t.unit_ty s) = scan_mark mark.ParenOpen ▸ scan_mark mark.ParenClose
   type_scan ts xs (t.tuple_ty s w a fs l) =
-      scan_mark mark.ParenOpen ▸ scan_word w ▸ scan_mark mark.Colon ▸ type_scan ts xs a ▸ scan_mark mark.Comma ▸
-      fields_scan ts (w.word ∷ xs) fs
-      ▸ last_scan ts (behind (w.word ∷ xs) fs) l ▸ scan_mark mark.ParenClose
+      scan_mark mark.ParenOpen ▸ scan_word w ▸ scan_mark mark.Colon ▸ type_scan ts xs a
+      ▸ scan_mark mark.Comma ▸ fields_scan ts (w.word ∷ xs) fs ▸ last_scan ts (behind (w.word ∷ xs) fs) l
+      ▸ scan_mark mark.ParenClose
   type_scan ts xs (t.sum s a b) =
-      scan_mark mark.ParenOpen ▸ type_scan ts xs a ▸ scan_mark mark.Plus ▸ type_scan ts xs b ▸ scan_mark
-      mark.ParenClose
+      scan_mark mark.ParenOpen ▸ type_scan ts xs a ▸ scan_mark mark.Plus ▸ type_scan ts xs b
+      ▸ scan_mark mark.ParenClose
   type_scan ts xs (t.key s a) =
       scan_reserved word.Key ▸ scan_mark mark.ParenOpen ▸ type_scan ts xs a ▸ scan_mark mark.ParenClose
   type_scan ts xs (t.nonce s es) = scan_reserved word.Nonce ▸ effect_scan xs es
@@ -120,7 +120,8 @@ abbrev mutual
   pub fields_scan : Abbreviations → Names → t.Fields → Scan
   fields_scan ts xs t.no_fields = []
   fields_scan ts xs (t.more_fields w a fs) =
-      scan_word w ▸ scan_mark mark.Colon ▸ type_scan ts xs a ▸ scan_mark mark.Comma ▸ fields_scan ts (w.word ∷ xs) fs
+      scan_word w ▸ scan_mark mark.Colon ▸ type_scan ts xs a ▸ scan_mark mark.Comma
+      ▸ fields_scan ts (w.word ∷ xs) fs
 
   pub last_scan : Abbreviations → Names → t.Last → Scan
   last_scan ts xs (t.bare a) = type_scan ts xs a
@@ -154,33 +155,33 @@ abbrev pub process_scan : Abbreviations → Names → t.Proc → Scan
 process_scan ts xs (t.par s p q) = process_scan ts xs p ▸ composition s mark.Bar ▸ process_scan ts xs q
 process_scan ts xs (t.out s m n) = scan_form s word.Out ▸ part_scan xs m ▸ part_scan xs n
 process_scan ts xs (t.out_then s m n p) =
-    scan_form s word.Out ▸ part_scan xs m ▸ part_scan xs n ▸ composition s mark.Semicolon ▸ process_scan ts xs p
+    scan_form s word.Out ▸ part_scan xs m ▸ part_scan xs n ▸ composition s mark.Semicolon
+    ▸ process_scan ts xs p
 process_scan ts xs (t.inp s m x a p) =
     scan_form s word.Inp ▸ part_scan xs m ▸ binder_scan ts xs x a ▸ process_scan ts (x.word ∷ xs) p
 process_scan ts xs (t.repeat s m x a p) =
-    scan_form s word.Repeat ▸ scan_reserved word.Inp ▸ part_scan xs m ▸ binder_scan ts xs x a ▸ process_scan ts
-    (x.word ∷ xs) p
+    scan_form s word.Repeat ▸ scan_reserved word.Inp ▸ part_scan xs m ▸ binder_scan ts xs x a
+    ▸ process_scan ts (x.word ∷ xs) p
 process_scan ts xs (t.split s m x a y c p) =
-    scan_form s word.Split ▸ part_scan xs m ▸ scan_reserved word.Is ▸ scan_mark mark.ParenOpen ▸ named_scan ts xs x a ▸
-    scan_mark mark.Comma
-    ▸ named_scan ts (x.word ∷ xs) y c ▸ scan_mark mark.ParenClose ▸ scan_mark mark.Semicolon ▸ process_scan ts
-    (y.word ∷ x.word ∷ xs) p
+    scan_form s word.Split ▸ part_scan xs m ▸ scan_reserved word.Is ▸ scan_mark mark.ParenOpen
+    ▸ named_scan ts xs x a ▸ scan_mark mark.Comma ▸ named_scan ts (x.word ∷ xs) y c
+    ▸ scan_mark mark.ParenClose ▸ scan_mark mark.Semicolon ▸ process_scan ts (y.word ∷ x.word ∷ xs) p
 process_scan ts xs (t.match s m x a n y c p) =
-    scan_form s word.Match ▸ part_scan xs m ▸ scan_reserved word.Is ▸ scan_mark mark.ParenOpen ▸ named_scan ts xs x a ▸
-    scan_mark mark.Equals ▸ part_scan xs n
-    ▸ scan_mark mark.Comma ▸ named_scan ts (x.word ∷ xs) y c ▸ scan_mark mark.ParenClose ▸ scan_mark mark.Semicolon ▸
-    process_scan ts (y.word ∷ xs) p
+    scan_form s word.Match ▸ part_scan xs m ▸ scan_reserved word.Is ▸ scan_mark mark.ParenOpen
+    ▸ named_scan ts xs x a ▸ scan_mark mark.Equals ▸ part_scan xs n ▸ scan_mark mark.Comma
+    ▸ named_scan ts (x.word ∷ xs) y c ▸ scan_mark mark.ParenClose ▸ scan_mark mark.Semicolon
+    ▸ process_scan ts (y.word ∷ xs) p
 process_scan ts xs (t.case s m x a p y c q) =
-    scan_form s word.Case ▸ part_scan xs m ▸ scan_reserved word.Is ▸ scan_reserved word.Inl ▸ binder_scan ts xs x a ▸
-    process_scan ts (x.word ∷ xs) p
-    ▸ scan_reserved word.Is ▸ scan_reserved word.Inr ▸ binder_scan ts xs y c ▸ process_scan ts (y.word ∷ xs) q
+    scan_form s word.Case ▸ part_scan xs m ▸ scan_reserved word.Is ▸ scan_reserved word.Inl
+    ▸ binder_scan ts xs x a ▸ process_scan ts (x.word ∷ xs) p ▸ scan_reserved word.Is
+    ▸ scan_reserved word.Inr ▸ binder_scan ts xs y c ▸ process_scan ts (y.word ∷ xs) q
 process_scan ts xs (t.decrypt s m x a n p) =
-    scan_form s word.Decrypt ▸ part_scan xs m ▸ scan_reserved word.Is ▸ scan_mark mark.BraceOpen ▸ named_scan ts xs x a ▸
-    scan_mark mark.BraceClose ▸ part_scan xs n
-    ▸ scan_mark mark.Semicolon ▸ process_scan ts (x.word ∷ xs) p
+    scan_form s word.Decrypt ▸ part_scan xs m ▸ scan_reserved word.Is ▸ scan_mark mark.BraceOpen
+    ▸ named_scan ts xs x a ▸ scan_mark mark.BraceClose ▸ part_scan xs n ▸ scan_mark mark.Semicolon
+    ▸ process_scan ts (x.word ∷ xs) p
 process_scan ts xs (t.check s m n p) =
-    scan_form s word.Check ▸ part_scan xs m ▸ scan_reserved word.Is ▸ part_scan xs n ▸ scan_mark mark.Semicolon ▸
-    process_scan ts xs p
+    scan_form s word.Check ▸ part_scan xs m ▸ scan_reserved word.Is ▸ part_scan xs n
+    ▸ scan_mark mark.Semicolon ▸ process_scan ts xs p
 process_scan ts xs (t.begin s m p) =
     scan_form s word.Begin ▸ part_scan xs m ▸ scan_mark mark.Semicolon ▸ process_scan ts xs p
 process_scan ts xs (t.end s m p) =
@@ -188,13 +189,14 @@ process_scan ts xs (t.end s m p) =
 process_scan ts xs (t.end_many s m p) =
     scan_form s word.EndMany ▸ part_scan xs m ▸ scan_mark mark.Semicolon ▸ process_scan ts xs p
 process_scan ts xs (t.cast s m x a p) =
-    scan_form s word.Cast ▸ part_scan xs m ▸ scan_reserved word.Is ▸ binder_scan ts xs x a ▸ process_scan ts
-    (x.word ∷ xs) p
-process_scan ts xs (t.new s x a p) = scan_form s word.New ▸ binder_scan ts xs x a ▸ process_scan ts (x.word ∷ xs) p
+    scan_form s word.Cast ▸ part_scan xs m ▸ scan_reserved word.Is ▸ binder_scan ts xs x a
+    ▸ process_scan ts (x.word ∷ xs) p
+process_scan ts xs (t.new s x a p) =
+    scan_form s word.New ▸ binder_scan ts xs x a ▸ process_scan ts (x.word ∷ xs) p
 process_scan ts xs (t.stop s) = scan_form s word.Stop
 process_scan ts xs (t.group s p q) =
-    scan_mark mark.ParenOpen ▸ process_scan ts xs p ▸ composition s mark.Bar ▸ process_scan ts xs q ▸ scan_mark
-    mark.ParenClose
+    scan_mark mark.ParenOpen ▸ process_scan ts xs p ▸ composition s mark.Bar ▸ process_scan ts xs q
+    ▸ scan_mark mark.ParenClose
 
 -- the identifier of a free name: was it declared before? It adds 1
 abbrev pub free_scan : Names → SWord → Scan
@@ -209,8 +211,8 @@ abbrev pub decl_scan : Abbreviations → Names → t.Declared → Scan
 decl_scan ts xs (t.free s w ws) =
     scan_reserved word.Free ▸ free_scan xs w ▸ frees_scan (w.word ∷ xs) ws ▸ scan_mark mark.Semicolon
 decl_scan ts xs (t.abbreviated s w a) =
-    scan_reserved word.TypeWord ▸ scan_word w ▸ here (declares_type ts w) ▸ scan_mark mark.Equals ▸ whole_type_scan ts
-    xs a ▸ scan_mark mark.Semicolon
+    scan_reserved word.TypeWord ▸ scan_word w ▸ here (declares_type ts w) ▸ scan_mark mark.Equals
+    ▸ whole_type_scan ts xs a ▸ scan_mark mark.Semicolon
 
 abbrev pub decls_scan : Abbreviations → Names → List t.Declared → Scan
 decls_scan ts xs [] = []
@@ -219,10 +221,11 @@ decls_scan ts xs (d ∷ ds) = decl_scan ts xs d ▸ decls_scan (types_behind ts 
 -- the first token of the step with the number i, of n steps: are there too many?
 abbrev pub step_scan : ℕ → ℕ → t.Step → Scan
 step_scan i n (t.act s k) =
-    scan_token (kinds.Word (codes "act")) ▸ here (starts_step i n s) ▸ scan_number k ▸ scan_mark mark.Semicolon
+    scan_token (kinds.Word (codes "act")) ▸ here (starts_step i n s) ▸ scan_number k
+    ▸ scan_mark mark.Semicolon
 step_scan i n (t.talk s k l) =
-    scan_token (kinds.Word (codes "talk")) ▸ here (starts_step i n s) ▸ scan_number k ▸ scan_number l ▸ scan_mark
-    mark.Semicolon
+    scan_token (kinds.Word (codes "talk")) ▸ here (starts_step i n s) ▸ scan_number k ▸ scan_number l
+    ▸ scan_mark mark.Semicolon
 
 abbrev pub steps_scan : ℕ → ℕ → List t.Step → Scan
 steps_scan i n [] = []
@@ -231,8 +234,8 @@ steps_scan i n (x ∷ xs) = step_scan i n x ▸ steps_scan (i + 1) n xs
 -- a message of a derivation: at its last token, is it too large? It isn't counted
 abbrev pub numbered_scan : t.Msg → Scan
 numbered_scan m =
-    map token (kinds_in (msg_pieces 1 m [])) ▸ here
-    (ends_message (message_size (numbered_message m)) (msg_span m))
+    map token (kinds_in (msg_pieces 1 m []))
+    ▸ here (ends_message (message_size (numbered_message m)) (msg_span m))
 
 abbrev pub numbered_atom_scan : t.Atom → Scan
 numbered_atom_scan (t.ends s m) = scan_reserved word.End ▸ numbered_scan m
@@ -247,7 +250,8 @@ abbrev pub written_scan : Option (List t.Atom) → Scan
 written_scan None = []
 written_scan (Some []) = scan_mark mark.BracketOpen ▸ scan_mark mark.BracketClose
 written_scan (Some (e ∷ es)) =
-    scan_mark mark.BracketOpen ▸ numbered_atom_scan e ▸ numbered_atoms_scan es ▸ scan_mark mark.BracketClose
+    scan_mark mark.BracketOpen ▸ numbered_atom_scan e ▸ numbered_atoms_scan es
+    ▸ scan_mark mark.BracketClose
 
 abbrev mutual
   pub deriv_scan : t.Deriv → Scan
@@ -260,7 +264,9 @@ abbrev mutual
 -- the parts of a file, each present or absent
 abbrev pub version_scan : ℕ → Scan
 version_scan v =
-    if v == 2 then scan_token (kinds.Word (codes "version")) ▸ scan_number 2 ▸ scan_mark mark.Semicolon else []
+    if v == 2
+    then scan_token (kinds.Word (codes "version")) ▸ scan_number 2 ▸ scan_mark mark.Semicolon
+    else []
 
 abbrev pub opponent_scan : Abbreviations → Names → Option t.Proc → Scan
 opponent_scan ts xs None = []
@@ -276,10 +282,10 @@ derivation_scan (Some d) = scan_reserved word.Derivation ▸ deriv_scan d
 
 abbrev pub body_scan : Abbreviations → Names → t.File → Scan
 body_scan ts xs f =
-    scan_reserved word.Process ▸ process_scan ts xs f.process ▸ opponent_scan ts xs f.opponent ▸ schedule_scan
-    f.schedule ▸ derivation_scan f.derivation
+    scan_reserved word.Process ▸ process_scan ts xs f.process ▸ opponent_scan ts xs f.opponent
+    ▸ schedule_scan f.schedule ▸ derivation_scan f.derivation
 
 abbrev pub file_scan : t.File → Scan
 file_scan f =
-    version_scan f.version ▸ decls_scan [] [] f.decls ▸ body_scan (all_types [] [] f.decls)
-    (all_names [] f.decls) f
+    version_scan f.version ▸ decls_scan [] [] f.decls
+    ▸ body_scan (all_types [] [] f.decls) (all_names [] f.decls) f

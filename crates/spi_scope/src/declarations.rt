@@ -4,7 +4,8 @@ ghost use Rattle.std.specs.Prelude.{◌≡◌, ◌≤◌, [], ◌∷◌, ◌++�
 ghost use Rattle.spi_tree.specs.Views.{ty_of, decl_of};
 ghost use Rattle.spi_scope.specs.Meaning.{type_in};
 ghost use Rattle.spi_scope.specs.Points.{one, ◌⨾◌, declares_type, whole_type, free_point, free_points, with_free, decl_points, names_behind, types_behind, decls_points, all_names, all_types};
-ghost use Rattle.spi_scope.specs.Gives.{Goes, run};
+ghost use Rattle.spi_scope.specs.Gives.{run};
+ghost use Rattle.spi_scope.specs.Leads.{LeadsTo};
 ghost use Rattle.spi_scope.specs.State.{abbreviations};
 
 use crate::fault::ScopeFault;
@@ -17,7 +18,7 @@ use std::alloc::Global;
 /// One more free name.
 fn declare_name<'t>(alloc: Global, scope: &mut Scope<'t>, word: &'t SWord) -> Result<(), ScopeFault>
     requires few { scope.old.count ≤ 100000 }
-    ensures gives { Goes result (run (free_point scope.old.held.names word.entry.now) scope.old.count)
+    ensures gives { LeadsTo result (run (free_point scope.old.held.names word.entry.now) scope.old.count)
         scope.new.count }
     ensures names { OnOk result (scope.new.held.names ≡ word.entry.now.word ∷ scope.old.held.names) }
     ensures noted { OnOk result (scope.new.held.noted ≡ scope.old.held.noted) }
@@ -43,7 +44,7 @@ fn declare_more<'t>(
     more: &'t [SWord],
 ) -> Result<(), ScopeFault>
     requires few { scope.old.count ≤ 100000 }
-    ensures gives { Goes result (run (free_points scope.old.held.names more.entry.now) scope.old.count)
+    ensures gives { LeadsTo result (run (free_points scope.old.held.names more.entry.now) scope.old.count)
         scope.new.count }
     ensures names { OnOk result (scope.new.held.names ≡ with_free scope.old.held.names more.entry.now) }
     ensures noted { OnOk result (scope.new.held.noted ≡ scope.old.held.noted) }
@@ -64,7 +65,7 @@ fn declare_type<'t>(
     ty: &'t STy,
 ) -> Result<(), ScopeFault>
     requires few { scope.old.count ≤ 100000 }
-    ensures gives { Goes result
+    ensures gives { LeadsTo result
         (run (one (declares_type (abbreviations scope.old.types) word.entry.now)
         ⨾ whole_type (abbreviations scope.old.types) scope.old.held.names (ty_of ty.entry.now))
         scope.old.count) scope.new.count }
@@ -97,7 +98,7 @@ fn declare_type<'t>(
 /// One more declaration.
 fn declare<'t>(alloc: Global, scope: &mut Scope<'t>, decl: &'t Decl) -> Result<(), ScopeFault>
     requires few { scope.old.count ≤ 100000 }
-    ensures gives { Goes result
+    ensures gives { LeadsTo result
         (run (decl_points (abbreviations scope.old.types) scope.old.held.names (decl_of decl.entry.now))
         scope.old.count) scope.new.count }
     ensures names { OnOk result
@@ -124,7 +125,7 @@ pub fn declare_all<'t>(
     decls: &'t [Decl],
 ) -> Result<(), ScopeFault>
     requires few { scope.old.count ≤ 100000 }
-    ensures gives { Goes result
+    ensures gives { LeadsTo result
         (run (decls_points (abbreviations scope.old.types) scope.old.held.names (map decl_of decls.entry.now))
         scope.old.count) scope.new.count }
     ensures names { OnOk result

@@ -9,7 +9,7 @@ ghost use Rattle.spi_term.specs.View.{message, atom};
 ghost use Rattle.spi_rules.specs.Deriv.{effect_written, rule_use};
 ghost use Rattle.spi_scope.specs.Parts.{numbered_message, numbered_messages, numbered_atom, numbered_effect, rule_named, uses_in, all_uses_in, use_places, all_use_places};
 ghost use Rattle.spi_scope.specs.Points.{msg_span, numbered_points, numbered_atom_points, numbered_atoms_points, written_points, deriv_points, derivs_points};
-ghost use Rattle.spi_scope.specs.Gives.{GivesMeant, Goes, run};
+ghost use Rattle.spi_scope.specs.Gives.{GivesMeant, run};
 ghost use Rattle.spi_scope.specs.Leads.{LeadsTo};
 ghost use Rattle.spi_scope.specs.State.{row_nodes};
 
@@ -177,7 +177,7 @@ pub fn read_derivation(
     uses: &mut Uses,
     d: &SDeriv,
 ) -> Result<(), ScopeFault>
-    ensures gives { Goes result (run (deriv_points (deriv_of d.now)) count) count }
+    ensures gives { LeadsTo result (run (deriv_points (deriv_of d.now)) count) count }
     ensures uses { OnOk result
         (map rule_use uses.new.uses.items ≡ map rule_use uses.old.uses.items ++ uses_in (deriv_of d.now)) }
     ensures places { OnOk result
@@ -198,7 +198,7 @@ fn read_premises(
     uses: &mut Uses,
     ds: &[SDeriv],
 ) -> Result<(), ScopeFault>
-    ensures gives { Goes result (run (derivs_points (derivs_of_list (map deriv_of ds.now))) count) count }
+    ensures gives { LeadsTo result (run (derivs_points (derivs_of_list (map deriv_of ds.now))) count) count }
     ensures uses { OnOk result
         (map rule_use uses.new.uses.items ≡ map rule_use uses.old.uses.items
         ++ all_uses_in (derivs_of_list (map deriv_of ds.now))) }

@@ -1,15 +1,13 @@
 //! Forms with one process behind them: what stands before it, and their node.
 
-ghost use Rattle.std.specs.Prelude.{◌≡◌, suc, ◌+◌, ◌≤◌, [], ◌∷◌, ◌++◌, map, length, OnOk};
+ghost use Rattle.std.specs.Prelude.{◌≤◌, OnOk};
 ghost use Rattle.spi_tree.specs.Views.{msg_of, ty_of};
 ghost use Rattle.spi_term.specs.Term.{Recvs, Serves, Splits, Selects, Decrypts, Checks, Begins, Ends, EndManys, Casts, Freshes};
-ghost use Rattle.spi_term.specs.Spelling.{prefix_at};
-ghost use Rattle.spi_term.specs.View.{shape_of};
-ghost use Rattle.spi_scope.specs.Meaning.{message_in, type_in};
 ghost use Rattle.spi_scope.specs.Points.{message_head, messages_head, typed_head, new_head, tested_head, split_head, match_head};
 ghost use Rattle.spi_scope.specs.Gives.{run};
 ghost use Rattle.spi_scope.specs.Leads.{LeadsTo};
 ghost use Rattle.spi_scope.specs.State.{abbreviations};
+ghost use Rattle.spi_scope.specs.Forms.{AddsForm, message_here, type_here, type_under};
 
 use crate::arena::{Arena, here, push};
 use crate::fault::ScopeFault;
@@ -36,18 +34,9 @@ pub fn receive<'t>(
     ensures gives { LeadsTo result
         (run (typed_head (abbreviations scope.old.types) scope.old.held.names span (msg_of channel.now)
         (ty_of ty.entry.now)) scope.old.count) scope.new.count }
-    ensures nodes { OnOk result
-        (map shape_of arena.new.nodes.items ≡ map shape_of arena.old.nodes.items
-        ++ prefix_at (length scope.old.held.names)
-        (Recvs (message_in (length scope.old.held.names) scope.old.held.names (msg_of channel.now))
-        (type_in (length scope.old.held.names) (abbreviations scope.old.types) scope.old.held.names
-        (ty_of ty.entry.now))) (suc (length arena.old.nodes.items)) ∷ []) }
-    ensures len { OnOk result (length arena.new.nodes.items ≡ length arena.old.nodes.items + 1) }
-    ensures places { OnOk result (arena.new.places.items ≡ arena.old.places.items ++ span ∷ []) }
-    ensures noted { OnOk result (scope.new.held.noted ≡ scope.old.held.noted ++ scope.old.held.names ∷ []) }
-    ensures kept { OnOk result
-        ((scope.new.held.names ≡ scope.old.held.names) × (scope.new.types ≡ scope.old.types)
-        × (scope.new.count ≤ 100000)) }
+    ensures adds { OnOk result
+        (AddsForm scope.old scope.new arena.old arena.new span
+        (Recvs (message_here scope.old (msg_of channel.now)) (type_here scope.old (ty_of ty.entry.now)))) }
 {
     let base = scope.held.len();
     let body = here(arena)? + 1;
@@ -68,18 +57,10 @@ pub fn serve<'t>(
     ensures gives { LeadsTo result
         (run (typed_head (abbreviations scope.old.types) scope.old.held.names span (msg_of channel.now)
         (ty_of ty.entry.now)) scope.old.count) scope.new.count }
-    ensures nodes { OnOk result
-        (map shape_of arena.new.nodes.items ≡ map shape_of arena.old.nodes.items
-        ++ prefix_at (length scope.old.held.names)
-        (Serves (message_in (length scope.old.held.names) scope.old.held.names (msg_of channel.now))
-        (type_in (length scope.old.held.names) (abbreviations scope.old.types) scope.old.held.names
-        (ty_of ty.entry.now))) (suc (length arena.old.nodes.items)) ∷ []) }
-    ensures len { OnOk result (length arena.new.nodes.items ≡ length arena.old.nodes.items + 1) }
-    ensures places { OnOk result (arena.new.places.items ≡ arena.old.places.items ++ span ∷ []) }
-    ensures noted { OnOk result (scope.new.held.noted ≡ scope.old.held.noted ++ scope.old.held.names ∷ []) }
-    ensures kept { OnOk result
-        ((scope.new.held.names ≡ scope.old.held.names) × (scope.new.types ≡ scope.old.types)
-        × (scope.new.count ≤ 100000)) }
+    ensures adds { OnOk result
+        (AddsForm scope.old scope.new arena.old arena.new span
+        (Serves (message_here scope.old (msg_of channel.now))
+        (type_here scope.old (ty_of ty.entry.now)))) }
 {
     let base = scope.held.len();
     let body = here(arena)? + 1;
@@ -103,21 +84,10 @@ pub fn split<'t>(
     ensures gives { LeadsTo result
         (run (split_head (abbreviations scope.old.types) scope.old.held.names span (msg_of whole.now)
         name.entry.now (ty_of left.entry.now) (ty_of right.entry.now)) scope.old.count) scope.new.count }
-    ensures nodes { OnOk result
-        (map shape_of arena.new.nodes.items ≡ map shape_of arena.old.nodes.items
-        ++ prefix_at (length scope.old.held.names)
-        (Splits (message_in (length scope.old.held.names) scope.old.held.names (msg_of whole.now))
-        (type_in (length scope.old.held.names) (abbreviations scope.old.types) scope.old.held.names
-        (ty_of left.entry.now))
-        (type_in (length scope.old.held.names) (abbreviations scope.old.types)
-        (name.entry.now.word ∷ scope.old.held.names) (ty_of right.entry.now)))
-        (suc (length arena.old.nodes.items)) ∷ []) }
-    ensures len { OnOk result (length arena.new.nodes.items ≡ length arena.old.nodes.items + 1) }
-    ensures places { OnOk result (arena.new.places.items ≡ arena.old.places.items ++ span ∷ []) }
-    ensures noted { OnOk result (scope.new.held.noted ≡ scope.old.held.noted ++ scope.old.held.names ∷ []) }
-    ensures kept { OnOk result
-        ((scope.new.held.names ≡ scope.old.held.names) × (scope.new.types ≡ scope.old.types)
-        × (scope.new.count ≤ 100000)) }
+    ensures adds { OnOk result
+        (AddsForm scope.old scope.new arena.old arena.new span
+        (Splits (message_here scope.old (msg_of whole.now)) (type_here scope.old (ty_of left.entry.now))
+        (type_under scope.old name.entry.now.word (ty_of right.entry.now)))) }
 {
     let base = scope.held.len();
     let body = here(arena)? + 1;
@@ -157,22 +127,11 @@ pub fn select<'t>(
         (run (match_head (abbreviations scope.old.types) scope.old.held.names span (msg_of whole.now)
         name.entry.now (ty_of left.entry.now) (msg_of equal.now) (ty_of right.entry.now)) scope.old.count)
         scope.new.count }
-    ensures nodes { OnOk result
-        (map shape_of arena.new.nodes.items ≡ map shape_of arena.old.nodes.items
-        ++ prefix_at (length scope.old.held.names)
-        (Selects (message_in (length scope.old.held.names) scope.old.held.names (msg_of whole.now))
-        (type_in (length scope.old.held.names) (abbreviations scope.old.types) scope.old.held.names
-        (ty_of left.entry.now))
-        (message_in (length scope.old.held.names) scope.old.held.names (msg_of equal.now))
-        (type_in (length scope.old.held.names) (abbreviations scope.old.types)
-        (name.entry.now.word ∷ scope.old.held.names) (ty_of right.entry.now)))
-        (suc (length arena.old.nodes.items)) ∷ []) }
-    ensures len { OnOk result (length arena.new.nodes.items ≡ length arena.old.nodes.items + 1) }
-    ensures places { OnOk result (arena.new.places.items ≡ arena.old.places.items ++ span ∷ []) }
-    ensures noted { OnOk result (scope.new.held.noted ≡ scope.old.held.noted ++ scope.old.held.names ∷ []) }
-    ensures kept { OnOk result
-        ((scope.new.held.names ≡ scope.old.held.names) × (scope.new.types ≡ scope.old.types)
-        × (scope.new.count ≤ 100000)) }
+    ensures adds { OnOk result
+        (AddsForm scope.old scope.new arena.old arena.new span
+        (Selects (message_here scope.old (msg_of whole.now))
+        (type_here scope.old (ty_of left.entry.now)) (message_here scope.old (msg_of equal.now))
+        (type_under scope.old name.entry.now.word (ty_of right.entry.now)))) }
 {
     let base = scope.held.len();
     let body = here(arena)? + 1;
@@ -207,20 +166,10 @@ pub fn decrypt<'t>(
     ensures gives { LeadsTo result
         (run (tested_head (abbreviations scope.old.types) scope.old.held.names span (msg_of whole.now)
         (ty_of ty.entry.now) (msg_of key.now)) scope.old.count) scope.new.count }
-    ensures nodes { OnOk result
-        (map shape_of arena.new.nodes.items ≡ map shape_of arena.old.nodes.items
-        ++ prefix_at (length scope.old.held.names)
-        (Decrypts (message_in (length scope.old.held.names) scope.old.held.names (msg_of whole.now))
-        (type_in (length scope.old.held.names) (abbreviations scope.old.types) scope.old.held.names
-        (ty_of ty.entry.now))
-        (message_in (length scope.old.held.names) scope.old.held.names (msg_of key.now)))
-        (suc (length arena.old.nodes.items)) ∷ []) }
-    ensures len { OnOk result (length arena.new.nodes.items ≡ length arena.old.nodes.items + 1) }
-    ensures places { OnOk result (arena.new.places.items ≡ arena.old.places.items ++ span ∷ []) }
-    ensures noted { OnOk result (scope.new.held.noted ≡ scope.old.held.noted ++ scope.old.held.names ∷ []) }
-    ensures kept { OnOk result
-        ((scope.new.held.names ≡ scope.old.held.names) × (scope.new.types ≡ scope.old.types)
-        × (scope.new.count ≤ 100000)) }
+    ensures adds { OnOk result
+        (AddsForm scope.old scope.new arena.old arena.new span
+        (Decrypts (message_here scope.old (msg_of whole.now)) (type_here scope.old (ty_of ty.entry.now))
+        (message_here scope.old (msg_of key.now)))) }
 {
     let base = scope.held.len();
     let body = here(arena)? + 1;
@@ -252,18 +201,9 @@ pub fn check(
     ensures gives { LeadsTo result
         (run (messages_head scope.old.held.names span (msg_of whole.now) (msg_of nonce.now)) scope.old.count)
         scope.new.count }
-    ensures nodes { OnOk result
-        (map shape_of arena.new.nodes.items ≡ map shape_of arena.old.nodes.items
-        ++ prefix_at (length scope.old.held.names)
-        (Checks (message_in (length scope.old.held.names) scope.old.held.names (msg_of whole.now))
-        (message_in (length scope.old.held.names) scope.old.held.names (msg_of nonce.now)))
-        (suc (length arena.old.nodes.items)) ∷ []) }
-    ensures len { OnOk result (length arena.new.nodes.items ≡ length arena.old.nodes.items + 1) }
-    ensures places { OnOk result (arena.new.places.items ≡ arena.old.places.items ++ span ∷ []) }
-    ensures noted { OnOk result (scope.new.held.noted ≡ scope.old.held.noted ++ scope.old.held.names ∷ []) }
-    ensures kept { OnOk result
-        ((scope.new.held.names ≡ scope.old.held.names) × (scope.new.types ≡ scope.old.types)
-        × (scope.new.count ≤ 100000)) }
+    ensures adds { OnOk result
+        (AddsForm scope.old scope.new arena.old arena.new span
+        (Checks (message_here scope.old (msg_of whole.now)) (message_here scope.old (msg_of nonce.now)))) }
 {
     let base = scope.held.len();
     let body = here(arena)? + 1;
@@ -282,17 +222,9 @@ pub fn begin(
     requires few { scope.old.count ≤ 100000 }
     ensures gives { LeadsTo result
         (run (message_head scope.old.held.names span (msg_of label.now)) scope.old.count) scope.new.count }
-    ensures nodes { OnOk result
-        (map shape_of arena.new.nodes.items ≡ map shape_of arena.old.nodes.items
-        ++ prefix_at (length scope.old.held.names)
-        (Begins (message_in (length scope.old.held.names) scope.old.held.names (msg_of label.now)))
-        (suc (length arena.old.nodes.items)) ∷ []) }
-    ensures len { OnOk result (length arena.new.nodes.items ≡ length arena.old.nodes.items + 1) }
-    ensures places { OnOk result (arena.new.places.items ≡ arena.old.places.items ++ span ∷ []) }
-    ensures noted { OnOk result (scope.new.held.noted ≡ scope.old.held.noted ++ scope.old.held.names ∷ []) }
-    ensures kept { OnOk result
-        ((scope.new.held.names ≡ scope.old.held.names) × (scope.new.types ≡ scope.old.types)
-        × (scope.new.count ≤ 100000)) }
+    ensures adds { OnOk result
+        (AddsForm scope.old scope.new arena.old arena.new span
+        (Begins (message_here scope.old (msg_of label.now)))) }
 {
     let base = scope.held.len();
     let body = here(arena)? + 1;
@@ -311,17 +243,9 @@ pub fn end(
     requires few { scope.old.count ≤ 100000 }
     ensures gives { LeadsTo result
         (run (message_head scope.old.held.names span (msg_of label.now)) scope.old.count) scope.new.count }
-    ensures nodes { OnOk result
-        (map shape_of arena.new.nodes.items ≡ map shape_of arena.old.nodes.items
-        ++ prefix_at (length scope.old.held.names)
-        (Ends (message_in (length scope.old.held.names) scope.old.held.names (msg_of label.now)))
-        (suc (length arena.old.nodes.items)) ∷ []) }
-    ensures len { OnOk result (length arena.new.nodes.items ≡ length arena.old.nodes.items + 1) }
-    ensures places { OnOk result (arena.new.places.items ≡ arena.old.places.items ++ span ∷ []) }
-    ensures noted { OnOk result (scope.new.held.noted ≡ scope.old.held.noted ++ scope.old.held.names ∷ []) }
-    ensures kept { OnOk result
-        ((scope.new.held.names ≡ scope.old.held.names) × (scope.new.types ≡ scope.old.types)
-        × (scope.new.count ≤ 100000)) }
+    ensures adds { OnOk result
+        (AddsForm scope.old scope.new arena.old arena.new span
+        (Ends (message_here scope.old (msg_of label.now)))) }
 {
     let base = scope.held.len();
     let body = here(arena)? + 1;
@@ -340,17 +264,9 @@ pub fn end_many(
     requires few { scope.old.count ≤ 100000 }
     ensures gives { LeadsTo result
         (run (message_head scope.old.held.names span (msg_of label.now)) scope.old.count) scope.new.count }
-    ensures nodes { OnOk result
-        (map shape_of arena.new.nodes.items ≡ map shape_of arena.old.nodes.items
-        ++ prefix_at (length scope.old.held.names)
-        (EndManys (message_in (length scope.old.held.names) scope.old.held.names (msg_of label.now)))
-        (suc (length arena.old.nodes.items)) ∷ []) }
-    ensures len { OnOk result (length arena.new.nodes.items ≡ length arena.old.nodes.items + 1) }
-    ensures places { OnOk result (arena.new.places.items ≡ arena.old.places.items ++ span ∷ []) }
-    ensures noted { OnOk result (scope.new.held.noted ≡ scope.old.held.noted ++ scope.old.held.names ∷ []) }
-    ensures kept { OnOk result
-        ((scope.new.held.names ≡ scope.old.held.names) × (scope.new.types ≡ scope.old.types)
-        × (scope.new.count ≤ 100000)) }
+    ensures adds { OnOk result
+        (AddsForm scope.old scope.new arena.old arena.new span
+        (EndManys (message_here scope.old (msg_of label.now)))) }
 {
     let base = scope.held.len();
     let body = here(arena)? + 1;
@@ -371,18 +287,9 @@ pub fn cast<'t>(
     ensures gives { LeadsTo result
         (run (typed_head (abbreviations scope.old.types) scope.old.held.names span (msg_of whole.now)
         (ty_of ty.entry.now)) scope.old.count) scope.new.count }
-    ensures nodes { OnOk result
-        (map shape_of arena.new.nodes.items ≡ map shape_of arena.old.nodes.items
-        ++ prefix_at (length scope.old.held.names)
-        (Casts (message_in (length scope.old.held.names) scope.old.held.names (msg_of whole.now))
-        (type_in (length scope.old.held.names) (abbreviations scope.old.types) scope.old.held.names
-        (ty_of ty.entry.now))) (suc (length arena.old.nodes.items)) ∷ []) }
-    ensures len { OnOk result (length arena.new.nodes.items ≡ length arena.old.nodes.items + 1) }
-    ensures places { OnOk result (arena.new.places.items ≡ arena.old.places.items ++ span ∷ []) }
-    ensures noted { OnOk result (scope.new.held.noted ≡ scope.old.held.noted ++ scope.old.held.names ∷ []) }
-    ensures kept { OnOk result
-        ((scope.new.held.names ≡ scope.old.held.names) × (scope.new.types ≡ scope.old.types)
-        × (scope.new.count ≤ 100000)) }
+    ensures adds { OnOk result
+        (AddsForm scope.old scope.new arena.old arena.new span
+        (Casts (message_here scope.old (msg_of whole.now)) (type_here scope.old (ty_of ty.entry.now)))) }
 {
     let base = scope.held.len();
     let body = here(arena)? + 1;
@@ -403,17 +310,9 @@ pub fn fresh<'t>(
     ensures gives { LeadsTo result
         (run (new_head (abbreviations scope.old.types) scope.old.held.names span (ty_of ty.entry.now))
         scope.old.count) scope.new.count }
-    ensures nodes { OnOk result
-        (map shape_of arena.new.nodes.items ≡ map shape_of arena.old.nodes.items
-        ++ prefix_at (length scope.old.held.names)
-        (Freshes (type_in (length scope.old.held.names) (abbreviations scope.old.types) scope.old.held.names
-        (ty_of ty.entry.now))) (suc (length arena.old.nodes.items)) ∷ []) }
-    ensures len { OnOk result (length arena.new.nodes.items ≡ length arena.old.nodes.items + 1) }
-    ensures places { OnOk result (arena.new.places.items ≡ arena.old.places.items ++ span ∷ []) }
-    ensures noted { OnOk result (scope.new.held.noted ≡ scope.old.held.noted ++ scope.old.held.names ∷ []) }
-    ensures kept { OnOk result
-        ((scope.new.held.names ≡ scope.old.held.names) × (scope.new.types ≡ scope.old.types)
-        × (scope.new.count ≤ 100000)) }
+    ensures adds { OnOk result
+        (AddsForm scope.old scope.new arena.old arena.new span
+        (Freshes (type_here scope.old (ty_of ty.entry.now)))) }
 {
     let base = scope.held.len();
     let body = here(arena)? + 1;

@@ -6,9 +6,10 @@ ghost use Rattle.spi_term.specs.Spelling.{ty_nodes};
 ghost use Rattle.spi_term.specs.View.{message, ty};
 ghost use Rattle.spi_scope.specs.Meaning.{message_in, type_in};
 ghost use Rattle.spi_scope.specs.Points.{one, adds, part, ty_span, type_nodes, bounded_type, whole_type, message_head, messages_head, typed_head, tested_head};
-ghost use Rattle.spi_scope.specs.Gives.{GivesMeant, Goes, run};
+ghost use Rattle.spi_scope.specs.Gives.{GivesMeant, run};
 ghost use Rattle.spi_scope.specs.Leads.{LeadsTo};
 ghost use Rattle.spi_scope.specs.State.{abbreviations};
+ghost use Rattle.spi_scope.specs.Forms.{KeepsScope};
 
 use crate::fault::ScopeFault;
 use crate::scope::Scope;
@@ -22,10 +23,8 @@ use std::alloc::Global;
 pub fn add(scope: &mut Scope, nodes: u64, span: Span) -> Result<(), ScopeFault>
     requires few { scope.old.count ≤ 100000 }
     requires some { nodes ≤ 1000 }
-    ensures gives { Goes result (run (one (adds nodes span)) scope.old.count) scope.new.count }
-    ensures held { OnOk result (scope.new.held ≡ scope.old.held) }
-    ensures types { OnOk result (scope.new.types ≡ scope.old.types) }
-    ensures few { OnOk result (scope.new.count ≤ 100000) }
+    ensures gives { LeadsTo result (run (one (adds nodes span)) scope.old.count) scope.new.count }
+    ensures kept { OnOk result (KeepsScope scope.old scope.new) }
 {
     let count = scope.count + nodes;
     if count > 100_000 {
@@ -41,9 +40,7 @@ pub fn read_part(alloc: Global, scope: &mut Scope, base: u32, m: &SMsg) -> Resul
     requires few { scope.old.count ≤ 100000 }
     ensures gives { GivesMeant message result (run (part scope.old.held.names (msg_of m.now)) scope.old.count)
         scope.new.count (message_in base scope.old.held.names (msg_of m.now)) }
-    ensures held { OnOk result (scope.new.held ≡ scope.old.held) }
-    ensures types { OnOk result (scope.new.types ≡ scope.old.types) }
-    ensures few { OnOk result (scope.new.count ≤ 100000) }
+    ensures kept { OnOk result (KeepsScope scope.old scope.new) }
 {
     let span = message_place(m);
     let (read, count) = read_whole(alloc, scope, base, m, span)?;
@@ -105,9 +102,7 @@ pub fn read_annotation<'t>(
         scope.old.count) scope.new.count
         (type_in base (abbreviations scope.old.types) scope.old.held.names (ty_of t.entry.now)) }
     ensures nodes { IfOk result (λ x. x.1 ≡ ty_nodes (ty x.0)) }
-    ensures held { OnOk result (scope.new.held ≡ scope.old.held) }
-    ensures types { OnOk result (scope.new.types ≡ scope.old.types) }
-    ensures few { OnOk result (scope.new.count ≤ 100000) }
+    ensures kept { OnOk result (KeepsScope scope.old scope.new) }
 {
     let span = type_place(t);
     let (read, count) = read_bounded(alloc, scope, base, t, span)?;
@@ -128,9 +123,7 @@ pub fn read_message_head(
     ensures gives { GivesMeant message result
         (run (message_head scope.old.held.names span (msg_of m.now)) scope.old.count) scope.new.count
         (message_in base scope.old.held.names (msg_of m.now)) }
-    ensures held { OnOk result (scope.new.held ≡ scope.old.held) }
-    ensures types { OnOk result (scope.new.types ≡ scope.old.types) }
-    ensures few { OnOk result (scope.new.count ≤ 100000) }
+    ensures kept { OnOk result (KeepsScope scope.old scope.new) }
 {
     add(scope, 1, span)?;
     read_part(alloc, scope, base, m)
@@ -153,9 +146,7 @@ pub fn read_messages_head(
     ensures read { IfOk result
         (λ x. (message x.0 ≡ message_in base scope.old.held.names (msg_of m.now))
         × (message x.1 ≡ message_in base scope.old.held.names (msg_of n.now))) }
-    ensures held { OnOk result (scope.new.held ≡ scope.old.held) }
-    ensures types { OnOk result (scope.new.types ≡ scope.old.types) }
-    ensures few { OnOk result (scope.new.count ≤ 100000) }
+    ensures kept { OnOk result (KeepsScope scope.old scope.new) }
 {
     add(scope, 1, span)?;
     let first = read_part(alloc, scope, base, m)?;
@@ -180,9 +171,7 @@ pub fn read_typed_head<'t>(
     ensures read { IfOk result
         (λ x. (message x.0 ≡ message_in base scope.old.held.names (msg_of m.now))
         × (ty x.1 ≡ type_in base (abbreviations scope.old.types) scope.old.held.names (ty_of a.entry.now))) }
-    ensures held { OnOk result (scope.new.held ≡ scope.old.held) }
-    ensures types { OnOk result (scope.new.types ≡ scope.old.types) }
-    ensures few { OnOk result (scope.new.count ≤ 100000) }
+    ensures kept { OnOk result (KeepsScope scope.old scope.new) }
 {
     add(scope, 1, span)?;
     let first = read_part(alloc, scope, base, m)?;
@@ -209,9 +198,7 @@ pub fn read_tested_head<'t>(
         (λ x. (message x.0 ≡ message_in base scope.old.held.names (msg_of m.now))
         × (ty x.1 ≡ type_in base (abbreviations scope.old.types) scope.old.held.names (ty_of a.entry.now))
         × (message x.2 ≡ message_in base scope.old.held.names (msg_of n.now))) }
-    ensures held { OnOk result (scope.new.held ≡ scope.old.held) }
-    ensures types { OnOk result (scope.new.types ≡ scope.old.types) }
-    ensures few { OnOk result (scope.new.count ≤ 100000) }
+    ensures kept { OnOk result (KeepsScope scope.old scope.new) }
 {
     add(scope, 1, span)?;
     let whole = read_part(alloc, scope, base, m)?;
@@ -234,9 +221,7 @@ pub fn read_under<'t>(
         (ty_of a.entry.now)) scope.old.count) scope.new.count
         (type_in base (abbreviations scope.old.types) (name.entry.now.word ∷ scope.old.held.names)
         (ty_of a.entry.now)) }
-    ensures held { OnOk result (scope.new.held ≡ scope.old.held) }
-    ensures types { OnOk result (scope.new.types ≡ scope.old.types) }
-    ensures few { OnOk result (scope.new.count ≤ 100000) }
+    ensures kept { OnOk result (KeepsScope scope.old scope.new) }
 {
     scope.held.bind(name.word.as_str())?;
     let (ty, _) = read_annotation(alloc, scope, base, a)?;

@@ -129,15 +129,9 @@ pub fn read_message(
             ..
         } => {
             let (first, total) = read_message(alloc, scope, base, spent, first)?;
-            let (second, total) = read_message(
-                alloc,
-                scope,
-                base,
-                total.saturating_add(1),
-                second,
-            )?;
+            let (next, total) = read_message(alloc, scope, base, total.saturating_add(1), second)?;
             let (more, total) = read_messages(alloc, scope, base, total, more)?;
-            let whole = nest(alloc, total, first, second, more)?;
+            let whole = nest(alloc, total, first, next, more)?;
             Ok((whole, total))
         }
         SMsg::Inl { part, .. } => {

@@ -1,15 +1,10 @@
 //! Processes.
 
-ghost use Rattle.std.specs.Prelude.{◌≡◌, suc, ◌+◌, ◌≤◌, ◌∷◌, ◌++◌, map, length, OnOk};
+ghost use Rattle.std.specs.Prelude.{◌≡◌, ◌≤◌, ◌∷◌, OnOk};
 ghost use Rattle.spi_tree.specs.Trees.{par, out_then, case};
 ghost use Rattle.spi_tree.specs.Views.{msg_of, ty_of, proc_of};
-ghost use Rattle.spi_term.specs.Spelling.{flat};
-ghost use Rattle.spi_term.specs.View.{shape_of};
-ghost use Rattle.spi_scope.specs.Meaning.{process_in};
-ghost use Rattle.spi_scope.specs.Marks.{places, scopes};
-ghost use Rattle.spi_scope.specs.Points.{process_points};
-ghost use Rattle.spi_scope.specs.Gives.{Goes, run};
-ghost use Rattle.spi_scope.specs.State.{abbreviations};
+ghost use Rattle.spi_scope.specs.Leads.{LeadsTo};
+ghost use Rattle.spi_scope.specs.Forms.{process_run, AddsProcess, form_kind, messages_form, typed_form, opening_form, pair_form};
 
 use crate::arena::{Arena, close, here, push};
 use crate::fault::ScopeFault;
@@ -32,32 +27,69 @@ pub fn read_process<'t>(
     p: &'t SProc,
 ) -> Result<(), ScopeFault>
     requires few { scope.old.count ≤ 100000 }
-    ensures gives { Goes result
-        (run (process_points (abbreviations scope.old.types) scope.old.held.names (proc_of p.entry.now))
-        scope.old.count) scope.new.count }
-    ensures nodes { OnOk result
-        (map shape_of arena.new.nodes.items ≡ map shape_of arena.old.nodes.items
-        ++ flat (length arena.old.nodes.items) (length scope.old.held.names)
-        (process_in (λ s. s) (abbreviations scope.old.types) scope.old.held.names (proc_of p.entry.now))) }
-    ensures places { OnOk result
-        (arena.new.places.items ≡ arena.old.places.items ++ places (proc_of p.entry.now)) }
-    ensures noted { OnOk result
-        (scope.new.held.noted ≡ scope.old.held.noted ++ scopes scope.old.held.names (proc_of p.entry.now)) }
-    ensures kept { OnOk result
-        ((scope.new.held.names ≡ scope.old.held.names) × (scope.new.types ≡ scope.old.types)
-        × (scope.new.count ≤ 100000)) }
+    ensures gives { LeadsTo result (process_run scope.old scope.old.held.names (proc_of p.entry.now))
+        scope.new.count }
+    ensures adds { OnOk result
+        (AddsProcess scope.old scope.new arena.old arena.new scope.old.held.names (proc_of p.entry.now)) }
 {
-    let base = scope.held.len();
     match p {
         SProc::Stop { span } => {
+            let base = scope.held.len();
             add(scope, 1, *span)?;
             push(scope, arena, base, Form::Stop, *span)
         }
+        SProc::Out { .. } => read_messages_form(alloc, scope, arena, p),
+        SProc::OutThen { .. } => read_messages_form(alloc, scope, arena, p),
+        SProc::Check { .. } => read_messages_form(alloc, scope, arena, p),
+        SProc::Begin { .. } => read_messages_form(alloc, scope, arena, p),
+        SProc::End { .. } => read_messages_form(alloc, scope, arena, p),
+        SProc::EndMany { .. } => read_messages_form(alloc, scope, arena, p),
+        SProc::Inp { .. } => read_typed_form(alloc, scope, arena, p),
+        SProc::Repeat { .. } => read_typed_form(alloc, scope, arena, p),
+        SProc::Cast { .. } => read_typed_form(alloc, scope, arena, p),
+        SProc::Decrypt { .. } => read_opening_form(alloc, scope, arena, p),
+        SProc::New { .. } => read_opening_form(alloc, scope, arena, p),
+        SProc::Split { .. } => read_pair_form(alloc, scope, arena, p),
+        SProc::Match { .. } => read_pair_form(alloc, scope, arena, p),
+        SProc::Case {
+            whole,
+            left,
+            left_ty,
+            on_left: first,
+            right: other,
+            right_ty,
+            on_right: second,
+            span,
+        } => branch(
+            alloc, scope, arena, whole, left, left_ty, first, other, right_ty, second, *span,
+        ),
+        SProc::Par { first, rest, span } => compose(alloc, scope, arena, first, rest, *span),
+        SProc::Group { first, rest, span } => compose(alloc, scope, arena, first, rest, *span),
+    }
+}
+
+/// A form with messages alone before what comes behind it.
+#[cycle(processes)]
+fn read_messages_form<'t>(
+    alloc: Global,
+    scope: &mut Scope<'t>,
+    arena: &mut Arena,
+    p: &'t SProc,
+) -> Result<(), ScopeFault>
+    requires few { scope.old.count ≤ 100000 }
+    requires is { form_kind (proc_of p.now) ≡ messages_form }
+    ensures gives { LeadsTo result (process_run scope.old scope.old.held.names (proc_of p.entry.now))
+        scope.new.count }
+    ensures adds { OnOk result
+        (AddsProcess scope.old scope.new arena.old arena.new scope.old.held.names (proc_of p.entry.now)) }
+{
+    match p {
         SProc::Out {
             channel,
             datum,
             span,
         } => {
+            let base = scope.held.len();
             let (channel, datum) = read_messages_head(alloc, scope, base, *span, channel, datum)?;
             push(scope, arena, base, Form::Send { channel, datum }, *span)
         }
@@ -67,6 +99,47 @@ pub fn read_process<'t>(
             then,
             span,
         } => send_then(alloc, scope, arena, channel, datum, then, *span),
+        SProc::Check {
+            whole,
+            nonce,
+            then,
+            span,
+        } => {
+            check(alloc, scope, arena, *span, whole, nonce)?;
+            read_process(alloc, scope, arena, then)
+        }
+        SProc::Begin { label, then, span } => {
+            begin(alloc, scope, arena, *span, label)?;
+            read_process(alloc, scope, arena, then)
+        }
+        SProc::End { label, then, span } => {
+            end(alloc, scope, arena, *span, label)?;
+            read_process(alloc, scope, arena, then)
+        }
+        SProc::EndMany { label, then, span } => {
+            end_many(alloc, scope, arena, *span, label)?;
+            read_process(alloc, scope, arena, then)
+        }
+        _ => unreachable!(),
+    }
+}
+
+/// A form with a message and the type of a name that the process behind it sees.
+#[cycle(processes)]
+fn read_typed_form<'t>(
+    alloc: Global,
+    scope: &mut Scope<'t>,
+    arena: &mut Arena,
+    p: &'t SProc,
+) -> Result<(), ScopeFault>
+    requires few { scope.old.count ≤ 100000 }
+    requires is { form_kind (proc_of p.now) ≡ typed_form }
+    ensures gives { LeadsTo result (process_run scope.old scope.old.held.names (proc_of p.entry.now))
+        scope.new.count }
+    ensures adds { OnOk result
+        (AddsProcess scope.old scope.new arena.old arena.new scope.old.held.names (proc_of p.entry.now)) }
+{
+    match p {
         SProc::Inp {
             channel,
             name,
@@ -87,6 +160,76 @@ pub fn read_process<'t>(
             serve(alloc, scope, arena, *span, channel, ty)?;
             read_under(alloc, scope, arena, name, then)
         }
+        SProc::Cast {
+            whole,
+            name,
+            ty,
+            then,
+            span,
+        } => {
+            cast(alloc, scope, arena, *span, whole, ty)?;
+            read_under(alloc, scope, arena, name, then)
+        }
+        _ => unreachable!(),
+    }
+}
+
+/// A form that opens a message, or a new name.
+#[cycle(processes)]
+fn read_opening_form<'t>(
+    alloc: Global,
+    scope: &mut Scope<'t>,
+    arena: &mut Arena,
+    p: &'t SProc,
+) -> Result<(), ScopeFault>
+    requires few { scope.old.count ≤ 100000 }
+    requires is { form_kind (proc_of p.now) ≡ opening_form }
+    ensures gives { LeadsTo result (process_run scope.old scope.old.held.names (proc_of p.entry.now))
+        scope.new.count }
+    ensures adds { OnOk result
+        (AddsProcess scope.old scope.new arena.old arena.new scope.old.held.names (proc_of p.entry.now)) }
+{
+    match p {
+        SProc::Decrypt {
+            whole,
+            name,
+            ty,
+            key,
+            then,
+            span,
+        } => {
+            decrypt(alloc, scope, arena, *span, whole, ty, key)?;
+            read_under(alloc, scope, arena, name, then)
+        }
+        SProc::New {
+            name,
+            ty,
+            then,
+            span,
+        } => {
+            fresh(alloc, scope, arena, *span, ty)?;
+            read_under(alloc, scope, arena, name, then)
+        }
+        _ => unreachable!(),
+    }
+}
+
+/// A form that takes a pair apart.
+#[cycle(processes)]
+fn read_pair_form<'t>(
+    alloc: Global,
+    scope: &mut Scope<'t>,
+    arena: &mut Arena,
+    p: &'t SProc,
+) -> Result<(), ScopeFault>
+    requires few { scope.old.count ≤ 100000 }
+    requires is { form_kind (proc_of p.now) ≡ pair_form }
+    ensures gives { LeadsTo result (process_run scope.old scope.old.held.names (proc_of p.entry.now))
+        scope.new.count }
+    ensures adds { OnOk result
+        (AddsProcess scope.old scope.new arena.old arena.new scope.old.held.names (proc_of p.entry.now)) }
+{
+    match p {
         SProc::Split {
             whole,
             left,
@@ -117,71 +260,7 @@ pub fn read_process<'t>(
             )?;
             read_under(alloc, scope, arena, right, then)
         }
-        SProc::Case {
-            whole,
-            left,
-            left_ty,
-            on_left: first,
-            right: other,
-            right_ty,
-            on_right: second,
-            span,
-        } => branch(
-            alloc, scope, arena, whole, left, left_ty, first, other, right_ty, second, *span,
-        ),
-        SProc::Decrypt {
-            whole,
-            name,
-            ty,
-            key,
-            then,
-            span,
-        } => {
-            decrypt(alloc, scope, arena, *span, whole, ty, key)?;
-            read_under(alloc, scope, arena, name, then)
-        }
-        SProc::Check {
-            whole,
-            nonce,
-            then,
-            span,
-        } => {
-            check(alloc, scope, arena, *span, whole, nonce)?;
-            read_process(alloc, scope, arena, then)
-        }
-        SProc::Begin { label, then, span } => {
-            begin(alloc, scope, arena, *span, label)?;
-            read_process(alloc, scope, arena, then)
-        }
-        SProc::End { label, then, span } => {
-            end(alloc, scope, arena, *span, label)?;
-            read_process(alloc, scope, arena, then)
-        }
-        SProc::EndMany { label, then, span } => {
-            end_many(alloc, scope, arena, *span, label)?;
-            read_process(alloc, scope, arena, then)
-        }
-        SProc::Cast {
-            whole,
-            name,
-            ty,
-            then,
-            span,
-        } => {
-            cast(alloc, scope, arena, *span, whole, ty)?;
-            read_under(alloc, scope, arena, name, then)
-        }
-        SProc::New {
-            name,
-            ty,
-            then,
-            span,
-        } => {
-            fresh(alloc, scope, arena, *span, ty)?;
-            read_under(alloc, scope, arena, name, then)
-        }
-        SProc::Par { first, rest, span } => compose(alloc, scope, arena, first, rest, *span),
-        SProc::Group { first, rest, span } => compose(alloc, scope, arena, first, rest, *span),
+        _ => unreachable!(),
     }
 }
 
@@ -195,22 +274,12 @@ fn read_under<'t>(
     p: &'t SProc,
 ) -> Result<(), ScopeFault>
     requires few { scope.old.count ≤ 100000 }
-    ensures gives { Goes result
-        (run (process_points (abbreviations scope.old.types) (name.entry.now.word ∷ scope.old.held.names)
-        (proc_of p.entry.now)) scope.old.count) scope.new.count }
-    ensures nodes { OnOk result
-        (map shape_of arena.new.nodes.items ≡ map shape_of arena.old.nodes.items
-        ++ flat (length arena.old.nodes.items) (suc (length scope.old.held.names))
-        (process_in (λ s. s) (abbreviations scope.old.types) (name.entry.now.word ∷ scope.old.held.names)
-        (proc_of p.entry.now))) }
-    ensures places { OnOk result
-        (arena.new.places.items ≡ arena.old.places.items ++ places (proc_of p.entry.now)) }
-    ensures noted { OnOk result
-        (scope.new.held.noted ≡ scope.old.held.noted
-        ++ scopes (name.entry.now.word ∷ scope.old.held.names) (proc_of p.entry.now)) }
-    ensures kept { OnOk result
-        ((scope.new.held.names ≡ scope.old.held.names) × (scope.new.types ≡ scope.old.types)
-        × (scope.new.count ≤ 100000)) }
+    ensures gives { LeadsTo result
+        (process_run scope.old (name.entry.now.word ∷ scope.old.held.names)
+        (proc_of p.entry.now)) scope.new.count }
+    ensures adds { OnOk result
+        (AddsProcess scope.old scope.new arena.old arena.new (name.entry.now.word ∷ scope.old.held.names)
+        (proc_of p.entry.now)) }
 {
     scope.held.bind(name.word.as_str())?;
     read_process(alloc, scope, arena, p)?;
@@ -230,26 +299,13 @@ fn send_then<'t>(
     span: Span,
 ) -> Result<(), ScopeFault>
     requires few { scope.old.count ≤ 100000 }
-    ensures gives { Goes result
-        (run (process_points (abbreviations scope.old.types) scope.old.held.names
+    ensures gives { LeadsTo result
+        (process_run scope.old scope.old.held.names
         (out_then span (msg_of channel.entry.now) (msg_of datum.entry.now) (proc_of then.entry.now)))
-        scope.old.count) scope.new.count }
-    ensures nodes { OnOk result
-        (map shape_of arena.new.nodes.items ≡ map shape_of arena.old.nodes.items
-        ++ flat (length arena.old.nodes.items) (length scope.old.held.names)
-        (process_in (λ s. s) (abbreviations scope.old.types) scope.old.held.names
-        (out_then span (msg_of channel.entry.now) (msg_of datum.entry.now) (proc_of then.entry.now)))) }
-    ensures places { OnOk result
-        (arena.new.places.items ≡ arena.old.places.items
-        ++ places (out_then span (msg_of channel.entry.now) (msg_of datum.entry.now)
-        (proc_of then.entry.now))) }
-    ensures noted { OnOk result
-        (scope.new.held.noted ≡ scope.old.held.noted
-        ++ scopes scope.old.held.names
+        scope.new.count }
+    ensures adds { OnOk result
+        (AddsProcess scope.old scope.new arena.old arena.new scope.old.held.names
         (out_then span (msg_of channel.entry.now) (msg_of datum.entry.now) (proc_of then.entry.now))) }
-    ensures kept { OnOk result
-        ((scope.new.held.names ≡ scope.old.held.names) × (scope.new.types ≡ scope.old.types)
-        × (scope.new.count ≤ 100000)) }
 {
     let base = scope.held.len();
     let at = here(arena)?;
@@ -277,29 +333,14 @@ fn branch<'t>(
     span: Span,
 ) -> Result<(), ScopeFault>
     requires few { scope.old.count ≤ 100000 }
-    ensures gives { Goes result
-        (run (process_points (abbreviations scope.old.types) scope.old.held.names
+    ensures gives { LeadsTo result
+        (process_run scope.old scope.old.held.names
         (case span (msg_of whole.entry.now) left.entry.now (ty_of left_ty.entry.now) (proc_of first.entry.now)
-        other.entry.now (ty_of right_ty.entry.now) (proc_of second.entry.now))) scope.old.count)
-        scope.new.count }
-    ensures nodes { OnOk result
-        (map shape_of arena.new.nodes.items ≡ map shape_of arena.old.nodes.items
-        ++ flat (length arena.old.nodes.items) (length scope.old.held.names)
-        (process_in (λ s. s) (abbreviations scope.old.types) scope.old.held.names
-        (case span (msg_of whole.entry.now) left.entry.now (ty_of left_ty.entry.now) (proc_of first.entry.now)
-        other.entry.now (ty_of right_ty.entry.now) (proc_of second.entry.now)))) }
-    ensures places { OnOk result
-        (arena.new.places.items ≡ arena.old.places.items
-        ++ places (case span (msg_of whole.entry.now) left.entry.now (ty_of left_ty.entry.now)
-        (proc_of first.entry.now) other.entry.now (ty_of right_ty.entry.now) (proc_of second.entry.now))) }
-    ensures noted { OnOk result
-        (scope.new.held.noted ≡ scope.old.held.noted
-        ++ scopes scope.old.held.names
+        other.entry.now (ty_of right_ty.entry.now) (proc_of second.entry.now))) scope.new.count }
+    ensures adds { OnOk result
+        (AddsProcess scope.old scope.new arena.old arena.new scope.old.held.names
         (case span (msg_of whole.entry.now) left.entry.now (ty_of left_ty.entry.now) (proc_of first.entry.now)
         other.entry.now (ty_of right_ty.entry.now) (proc_of second.entry.now))) }
-    ensures kept { OnOk result
-        ((scope.new.held.names ≡ scope.old.held.names) × (scope.new.types ≡ scope.old.types)
-        × (scope.new.count ≤ 100000)) }
 {
     let base = scope.held.len();
     let at = here(arena)?;
@@ -335,23 +376,12 @@ fn compose<'t>(
     span: Span,
 ) -> Result<(), ScopeFault>
     requires few { scope.old.count ≤ 100000 }
-    ensures gives { Goes result
-        (run (process_points (abbreviations scope.old.types) scope.old.held.names
-        (par span (proc_of first.entry.now) (proc_of rest.entry.now))) scope.old.count) scope.new.count }
-    ensures nodes { OnOk result
-        (map shape_of arena.new.nodes.items ≡ map shape_of arena.old.nodes.items
-        ++ flat (length arena.old.nodes.items) (length scope.old.held.names)
-        (process_in (λ s. s) (abbreviations scope.old.types) scope.old.held.names
-        (par span (proc_of first.entry.now) (proc_of rest.entry.now)))) }
-    ensures places { OnOk result
-        (arena.new.places.items ≡ arena.old.places.items
-        ++ places (par span (proc_of first.entry.now) (proc_of rest.entry.now))) }
-    ensures noted { OnOk result
-        (scope.new.held.noted ≡ scope.old.held.noted
-        ++ scopes scope.old.held.names (par span (proc_of first.entry.now) (proc_of rest.entry.now))) }
-    ensures kept { OnOk result
-        ((scope.new.held.names ≡ scope.old.held.names) × (scope.new.types ≡ scope.old.types)
-        × (scope.new.count ≤ 100000)) }
+    ensures gives { LeadsTo result
+        (process_run scope.old scope.old.held.names
+        (par span (proc_of first.entry.now) (proc_of rest.entry.now))) scope.new.count }
+    ensures adds { OnOk result
+        (AddsProcess scope.old scope.new arena.old arena.new scope.old.held.names
+        (par span (proc_of first.entry.now) (proc_of rest.entry.now))) }
 {
     let base = scope.held.len();
     let at = here(arena)?;

@@ -5,7 +5,7 @@ ghost use Rattle.spi_rules.specs.Deriv.{rule_use, rule_uses, effect_written};
 ghost use Rattle.spi_show.specs.Derivations.{taken_text, use_text, uses_text, derivation_text};
 
 use crate::NoMemory;
-use crate::spell::Spell;
+use crate::spell::{NameSpelling, Spell};
 use crate::terms::put_effect;
 use spi_rules::{Deriv, RuleUse};
 use spi_term::Effect;
@@ -19,8 +19,9 @@ fn put_taken(alloc: Global, taken: &Option<Effect>, out: &mut Vec<u8>) -> Result
         None => Ok(()),
         Some(e) => {
             out.extend_from_slice(b" ")?;
-            let spell = Spell::Numbered;
-            put_effect(alloc, &spell, 0, e, out)
+            let names = NameSpelling::Numbered;
+            let spell = Spell { alloc, names };
+            put_effect(&spell, 0, e, out)
         }
     }
 }

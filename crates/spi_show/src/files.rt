@@ -9,7 +9,7 @@ use crate::NoMemory;
 use crate::derivations::show_derivation;
 use crate::processes::put_process;
 use crate::shift::shift;
-use crate::spell::{Shift, Spell};
+use crate::spell::{NameSpelling, Shift, Spell};
 use crate::steps::show_steps;
 use spi_rules::Deriv;
 use spi_run::Step;
@@ -54,20 +54,14 @@ fn put_free(names: &[Text], out: &mut Vec<u8>) -> Result<(), NoMemory>
 }
 
 // A process on one line.
-fn put_line(
-    alloc: Global,
-    spell: &Spell,
-    process: &Process,
-    out: &mut Vec<u8>,
-) -> Result<(), NoMemory>
+fn put_line(spell: &Spell, process: &Process, out: &mut Vec<u8>) -> Result<(), NoMemory>
     ensures { OnOk result (out.new.items ≡ out.old.items ++ spelling_line (spelling spell.now) process.now) }
 {
-    put_process(alloc, spell, process, out)?;
+    put_process(spell, process, out)?;
     out.extend_from_slice(b"\n")
 }
 
 fn put_opponent(
-    alloc: Global,
     spell: &Spell,
     opponent: &Option<Process>,
     out: &mut Vec<u8>,
@@ -78,7 +72,7 @@ fn put_opponent(
         None => Ok(()),
         Some(process) => {
             out.extend_from_slice(b"opponent ")?;
-            put_line(alloc, spell, process, out)
+            put_line(spell, process, out)
         }
     }
 }
@@ -119,13 +113,14 @@ fn put_derivation(
 fn text_of(alloc: Global, by: Shift, file: &File) -> Result<Vec<u8>, NoMemory>
     ensures { IfOk result (λ v. v.items ≡ file_text by (meant file.now)) }
 {
-    let spell = Spell::Named(file.names.as_slice(), by);
+    let names = NameSpelling::Named(file.names.as_slice(), by);
+    let spell = Spell { alloc, names };
     let mut out = Vec::new(alloc);
     put_version(file.version, &mut out)?;
     put_free(&file.names, &mut out)?;
     out.extend_from_slice(b"process ")?;
-    put_line(alloc, &spell, &file.process, &mut out)?;
-    put_opponent(alloc, &spell, &file.opponent, &mut out)?;
+    put_line(&spell, &file.process, &mut out)?;
+    put_opponent(&spell, &file.opponent, &mut out)?;
     put_schedule(alloc, &file.schedule, &mut out)?;
     put_derivation(alloc, &file.derivation, &mut out)?;
     Ok(out)

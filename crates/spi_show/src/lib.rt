@@ -14,7 +14,7 @@ mod terms;
 
 pub use derivations::show_derivation;
 pub use files::show_file;
-pub use report::{show_atom, show_message};
+pub use report::{put_reported, show_atom, show_message};
 pub use shift::least_behind;
 use std::alloc::AllocError;
 pub use steps::show_steps;

@@ -1,48 +1,48 @@
 // The text of a node up to the first process in it.
 
 ghost use Rattle.std.specs.Prelude.{◌≡◌, suc, ◌+◌, ◌<◌, ◌≤◌, ◌^◌, ◌++◌, codes, OnOk};
-ghost use Rattle.spi_term.specs.Term.{Sends, Splits, Selects, Decrypts, Checks, Freshes};
+ghost use Rattle.spi_term.specs.Term.{Splits, Selects, Decrypts, Checks, Freshes};
 ghost use Rattle.spi_term.specs.Spelling.{ty_nodes, HasSmallParts};
 ghost use Rattle.spi_term.specs.View.{message, ty as type_of, shape_of};
 ghost use Rattle.spi_show.specs.Spells.{spelling};
 ghost use Rattle.spi_show.specs.Terms.{message_text, type_text, typed_text};
-ghost use Rattle.spi_show.specs.Processes.{leaf_text, prefix_text};
+ghost use Rattle.spi_show.specs.Processes.{prefix_text};
 ghost use Rattle.spi_show.specs.Pieces.{standing, open_text, head_text};
 
 use crate::NoMemory;
 use crate::pieces::Place;
 use crate::spell::{Spell, put_name};
-use crate::terms::{put_message, put_type, put_typed};
+use crate::terms::{put_message, put_type, put_typed, put_worded};
 use spi_term::{Form, Msg, Node, Ty};
-use std::alloc::Global;
 
-fn put_out(
-    alloc: Global,
+// A word, a message, what stands between, and another message.
+fn put_paired(
     spell: &Spell,
     n: u32,
-    channel: &Msg,
-    datum: &Msg,
+    word: &[u8],
+    m: &Msg,
+    between: &[u8],
+    other: &Msg,
     out: &mut Vec<u8>,
 ) -> Result<(), NoMemory>
     ensures { OnOk result
         (out.new.items ≡ out.old.items
-        ++ leaf_text (spelling spell.now) n (Sends (message channel.now) (message datum.now))) }
+        ++ (word.now ++ (message_text (spelling spell.now) n (message m.now)
+        ++ (between.now ++ message_text (spelling spell.now) n (message other.now))))) }
 {
-    out.extend_from_slice(b"out ")?;
-    put_message(alloc, spell, n, channel, out)?;
-    out.extend_from_slice(b" ")?;
-    put_message(alloc, spell, n, datum, out)
+    put_worded(spell, n, word, m, out)?;
+    put_worded(spell, n, between, other, out)
 }
 
-// A form that binds one name: its word, its message, and what opens before the name.
+// A word, a message, what opens before a name, the name with its type, and what stands behind that.
 fn put_binder(
-    alloc: Global,
     spell: &Spell,
     n: u32,
     word: &[u8],
     m: &Msg,
     open: &[u8],
     t: &Ty,
+    close: &[u8],
     out: &mut Vec<u8>,
 ) -> Result<(), NoMemory>
     requires { n + ty_nodes (type_of t.now) < 2 ^ 32 }
@@ -50,17 +50,15 @@ fn put_binder(
         (out.new.items ≡ out.old.items
         ++ (word.now ++ (message_text (spelling spell.now) n (message m.now)
         ++ (open.now ++ (typed_text (spelling spell.now) n (type_text (spelling spell.now) n (type_of t.now))
-        ++ codes "); "))))) }
+        ++ close.now))))) }
 {
-    out.extend_from_slice(word)?;
-    put_message(alloc, spell, n, m, out)?;
+    put_worded(spell, n, word, m, out)?;
     out.extend_from_slice(open)?;
-    put_typed(alloc, spell, n, t, out)?;
-    out.extend_from_slice(b"); ")
+    put_typed(spell, n, t, out)?;
+    out.extend_from_slice(close)
 }
 
 fn put_split(
-    alloc: Global,
     spell: &Spell,
     n: u32,
     m: &Msg,
@@ -75,37 +73,26 @@ fn put_split(
         ++ prefix_text (spelling spell.now) n
         (Splits (message m.now) (type_of first.now) (type_of second.now))) }
 {
-    out.extend_from_slice(b"split ")?;
-    put_message(alloc, spell, n, m, out)?;
-    out.extend_from_slice(b" is (")?;
-    put_typed(alloc, spell, n, first, out)?;
-    out.extend_from_slice(b", ")?;
-    put_typed(alloc, spell, n + 1, second, out)?;
+    put_binder(spell, n, b"split ", m, b" is (", first, b", ", out)?;
+    put_typed(spell, n + 1, second, out)?;
     out.extend_from_slice(b"); ")
 }
 
 // The second name of a `match`, whose type is under the first.
-fn put_second(
-    alloc: Global,
-    spell: &Spell,
-    n: u32,
-    second: &Ty,
-    out: &mut Vec<u8>,
-) -> Result<(), NoMemory>
+fn put_second(spell: &Spell, n: u32, second: &Ty, out: &mut Vec<u8>) -> Result<(), NoMemory>
     requires { n + 1 + ty_nodes (type_of second.now) < 2 ^ 32 }
     ensures { OnOk result
         (out.new.items ≡ out.old.items
         ++ (typed_text (spelling spell.now) n (type_text (spelling spell.now) (suc n) (type_of second.now))
         ++ codes "); ")) }
 {
-    put_name(alloc, spell, n, out)?;
+    put_name(spell, n, out)?;
     out.extend_from_slice(b": ")?;
-    put_type(alloc, spell, n + 1, second, out)?;
+    put_type(spell, n + 1, second, out)?;
     out.extend_from_slice(b"); ")
 }
 
 fn put_match(
-    alloc: Global,
     spell: &Spell,
     n: u32,
     m: &Msg,
@@ -121,18 +108,13 @@ fn put_match(
         ++ prefix_text (spelling spell.now) n
         (Selects (message m.now) (type_of first.now) (message equal.now) (type_of second.now))) }
 {
-    out.extend_from_slice(b"match ")?;
-    put_message(alloc, spell, n, m, out)?;
-    out.extend_from_slice(b" is (")?;
-    put_typed(alloc, spell, n, first, out)?;
-    out.extend_from_slice(b" = ")?;
-    put_message(alloc, spell, n, equal, out)?;
+    put_binder(spell, n, b"match ", m, b" is (", first, b" = ", out)?;
+    put_message(spell, n, equal, out)?;
     out.extend_from_slice(b", ")?;
-    put_second(alloc, spell, n, second, out)
+    put_second(spell, n, second, out)
 }
 
 fn put_decrypt(
-    alloc: Global,
     spell: &Spell,
     n: u32,
     m: &Msg,
@@ -145,37 +127,22 @@ fn put_decrypt(
         (out.new.items ≡ out.old.items
         ++ prefix_text (spelling spell.now) n (Decrypts (message m.now) (type_of t.now) (message key.now))) }
 {
-    out.extend_from_slice(b"decrypt ")?;
-    put_message(alloc, spell, n, m, out)?;
-    out.extend_from_slice(b" is {")?;
-    put_typed(alloc, spell, n, t, out)?;
-    out.extend_from_slice(b"}")?;
-    put_message(alloc, spell, n, key, out)?;
+    put_binder(spell, n, b"decrypt ", m, b" is {", t, b"}", out)?;
+    put_message(spell, n, key, out)?;
     out.extend_from_slice(b"; ")
 }
 
-fn put_check(
-    alloc: Global,
-    spell: &Spell,
-    n: u32,
-    m: &Msg,
-    nonce: &Msg,
-    out: &mut Vec<u8>,
-) -> Result<(), NoMemory>
+fn put_check(spell: &Spell, n: u32, m: &Msg, nonce: &Msg, out: &mut Vec<u8>) -> Result<(), NoMemory>
     ensures { OnOk result
         (out.new.items ≡ out.old.items
         ++ prefix_text (spelling spell.now) n (Checks (message m.now) (message nonce.now))) }
 {
-    out.extend_from_slice(b"check ")?;
-    put_message(alloc, spell, n, m, out)?;
-    out.extend_from_slice(b" is ")?;
-    put_message(alloc, spell, n, nonce, out)?;
+    put_paired(spell, n, b"check ", m, b" is ", nonce, out)?;
     out.extend_from_slice(b"; ")
 }
 
 // A form with a label: its word, and the label.
 fn put_label(
-    alloc: Global,
     spell: &Spell,
     n: u32,
     word: &[u8],
@@ -186,18 +153,17 @@ fn put_label(
         (out.new.items ≡ out.old.items
         ++ (word.now ++ (message_text (spelling spell.now) n (message label.now) ++ codes "; "))) }
 {
-    out.extend_from_slice(word)?;
-    put_message(alloc, spell, n, label, out)?;
+    put_worded(spell, n, word, label, out)?;
     out.extend_from_slice(b"; ")
 }
 
-fn put_new(alloc: Global, spell: &Spell, n: u32, t: &Ty, out: &mut Vec<u8>) -> Result<(), NoMemory>
+fn put_new(spell: &Spell, n: u32, t: &Ty, out: &mut Vec<u8>) -> Result<(), NoMemory>
     requires { n + ty_nodes (type_of t.now) < 2 ^ 32 }
     ensures { OnOk result
         (out.new.items ≡ out.old.items ++ prefix_text (spelling spell.now) n (Freshes (type_of t.now))) }
 {
     out.extend_from_slice(b"new (")?;
-    put_typed(alloc, spell, n, t, out)?;
+    put_typed(spell, n, t, out)?;
     out.extend_from_slice(b"); ")
 }
 
@@ -219,7 +185,6 @@ fn put_open(at: Place, output: bool, out: &mut Vec<u8>) -> Result<(), NoMemory>
 
 /// Appends the text of a node up to the first process in it. In a parallel composition that process is an output or isn't.
 pub fn put_head(
-    alloc: Global,
     spell: &Spell,
     node: &Node,
     at: Place,
@@ -234,40 +199,38 @@ pub fn put_head(
 {
     let n = node.scope;
     match &node.form {
-        Form::Send { channel, datum } => put_out(alloc, spell, n, channel, datum, out),
-        Form::Recv { channel, ty, .. } => {
-            put_binder(alloc, spell, n, b"inp ", channel, b" (", ty, out)
-        }
+        Form::Send { channel, datum } => put_paired(spell, n, b"out ", channel, b" ", datum, out),
+        Form::Recv { channel, ty, .. } => put_binder(
+            spell, n, b"inp ", channel, b" (", ty, b"); ", out,
+        ),
         Form::Serve { channel, ty, .. } => {
-            put_binder(alloc, spell, n, b"repeat inp ", channel, b" (", ty, out)
+            put_binder(spell, n, b"repeat inp ", channel, b" (", ty, b"); ", out)
         }
         Form::Split {
             whole,
             first,
             second,
             ..
-        } => put_split(alloc, spell, n, whole, first, second, out),
+        } => put_split(spell, n, whole, first, second, out),
         Form::Select {
             whole,
             first,
             equal,
             second,
             ..
-        } => put_match(alloc, spell, n, whole, first, equal, second, out),
+        } => put_match(spell, n, whole, first, equal, second, out),
         Form::Branch { whole, left, .. } => {
-            put_binder(alloc, spell, n, b"case ", whole, b" is inl (", left, out)
+            put_binder(spell, n, b"case ", whole, b" is inl (", left, b"); ", out)
         }
-        Form::Decrypt { whole, ty, key, .. } => {
-            put_decrypt(alloc, spell, n, whole, ty, key, out)
-        }
-        Form::Check { whole, nonce, .. } => put_check(alloc, spell, n, whole, nonce, out),
-        Form::Begin { label, .. } => put_label(alloc, spell, n, b"begin ", label, out),
-        Form::End { label, .. } => put_label(alloc, spell, n, b"end ", label, out),
-        Form::EndMany { label, .. } => put_label(alloc, spell, n, b"endmany ", label, out),
-        Form::Cast { whole, ty, .. } => {
-            put_binder(alloc, spell, n, b"cast ", whole, b" is (", ty, out)
-        }
-        Form::Fresh { ty, .. } => put_new(alloc, spell, n, ty, out),
+        Form::Decrypt { whole, ty, key, .. } => put_decrypt(spell, n, whole, ty, key, out),
+        Form::Check { whole, nonce, .. } => put_check(spell, n, whole, nonce, out),
+        Form::Begin { label, .. } => put_label(spell, n, b"begin ", label, out),
+        Form::End { label, .. } => put_label(spell, n, b"end ", label, out),
+        Form::EndMany { label, .. } => put_label(spell, n, b"endmany ", label, out),
+        Form::Cast { whole, ty, .. } => put_binder(
+            spell, n, b"cast ", whole, b" is (", ty, b"); ", out,
+        ),
+        Form::Fresh { ty, .. } => put_new(spell, n, ty, out),
         Form::Par { .. } => put_open(at, output, out),
         Form::Stop => out.extend_from_slice(b"stop"),
     }

@@ -13,7 +13,6 @@ use crate::NoMemory;
 use crate::spell::Spell;
 use crate::terms::put_typed;
 use spi_term::Ty;
-use std::alloc::Global;
 
 /// Where a process stands: in the place of a part or behind a bar, or as the sequel of a form.
 #[derive(Clone, Copy)]
@@ -79,22 +78,21 @@ pub fn push_parts(at: Place, output: bool, pending: &mut Vec<Piece>) -> Result<(
 }
 
 // What stands between the processes of a `case`.
-fn between(alloc: Global, spell: &Spell, n: u32, right: &Ty) -> Result<Vec<u8>, NoMemory>
+fn between(spell: &Spell, n: u32, right: &Ty) -> Result<Vec<u8>, NoMemory>
     requires { n + ty_nodes (type_of right.now) < 2 ^ 32 }
     ensures { IfOk result
         (λ v. v.items
         ≡ right_text (spelling spell.now) n (type_text (spelling spell.now) n (type_of right.now))) }
 {
-    let mut out = Vec::new(alloc);
+    let mut out = Vec::new(spell.alloc);
     out.extend_from_slice(b" is inr (")?;
-    put_typed(alloc, spell, n, right, &mut out)?;
+    put_typed(spell, n, right, &mut out)?;
     out.extend_from_slice(b"); ")?;
     Ok(out)
 }
 
 /// The processes in a `case` are to be written.
 pub fn push_sides(
-    alloc: Global,
     spell: &Spell,
     n: u32,
     right: &Ty,
@@ -106,7 +104,7 @@ pub fn push_sides(
         ∷ (words (right_text (spelling spell.now) n (type_text (spelling spell.now) n (type_of right.now)))
         ∷ (process sequel ∷ tops pending.old.items))) }
 {
-    let words = between(alloc, spell, n, right)?;
+    let words = between(spell, n, right)?;
     push_three(
         Piece::Process(Place::Sequel),
         Piece::Words(words),

@@ -13,28 +13,11 @@ use crate::nodes::put_head;
 use crate::pieces::{Piece, Place, push_parts, push_sequel, push_sides};
 use crate::spell::Spell;
 use spi_term::{Form, Node, Process};
-use std::alloc::Global;
 
 fn is_output(node: &Node) -> bool
     ensures { result ≡ is_output_at (shape_of node.now) }
 {
-    match &node.form {
-        Form::Send { .. } => true,
-        Form::Recv { .. } => false,
-        Form::Serve { .. } => false,
-        Form::Split { .. } => false,
-        Form::Select { .. } => false,
-        Form::Branch { .. } => false,
-        Form::Decrypt { .. } => false,
-        Form::Check { .. } => false,
-        Form::Begin { .. } => false,
-        Form::End { .. } => false,
-        Form::EndMany { .. } => false,
-        Form::Cast { .. } => false,
-        Form::Fresh { .. } => false,
-        Form::Par { .. } => false,
-        Form::Stop => false,
-    }
+    matches!(&node.form, Form::Send { .. })
 }
 
 // There is a node with this number, and it is an output.
@@ -51,7 +34,6 @@ fn output_at(process: &Process, nodes: u32, id: u32) -> bool
 
 // The processes in a node are to be written.
 fn put_off(
-    alloc: Global,
     spell: &Spell,
     node: &Node,
     at: Place,
@@ -65,27 +47,25 @@ fn put_off(
         ++ tops pending.old.items) }
 {
     match &node.form {
-        Form::Send { .. } => Ok(()),
-        Form::Recv { .. } => push_sequel(pending),
-        Form::Serve { .. } => push_sequel(pending),
-        Form::Split { .. } => push_sequel(pending),
-        Form::Select { .. } => push_sequel(pending),
-        Form::Branch { right, .. } => push_sides(alloc, spell, node.scope, right, pending),
-        Form::Decrypt { .. } => push_sequel(pending),
-        Form::Check { .. } => push_sequel(pending),
-        Form::Begin { .. } => push_sequel(pending),
-        Form::End { .. } => push_sequel(pending),
-        Form::EndMany { .. } => push_sequel(pending),
-        Form::Cast { .. } => push_sequel(pending),
-        Form::Fresh { .. } => push_sequel(pending),
+        Form::Send { .. } | Form::Stop => Ok(()),
+        Form::Recv { .. }
+        | Form::Serve { .. }
+        | Form::Split { .. }
+        | Form::Select { .. }
+        | Form::Decrypt { .. }
+        | Form::Check { .. }
+        | Form::Begin { .. }
+        | Form::End { .. }
+        | Form::EndMany { .. }
+        | Form::Cast { .. }
+        | Form::Fresh { .. } => push_sequel(pending),
+        Form::Branch { right, .. } => push_sides(spell, node.scope, right, pending),
         Form::Par { .. } => push_parts(at, output, pending),
-        Form::Stop => Ok(()),
     }
 }
 
 // The process at the next node is written up to the first process in it. It gives the node after that.
 fn put_node(
-    alloc: Global,
     spell: &Spell,
     process: &Process,
     nodes: u32,
@@ -105,14 +85,13 @@ fn put_node(
     }
     let output = output_at(process, nodes, id + 1);
     let node = process.node(id);
-    put_head(alloc, spell, node, at, output, out)?;
-    put_off(alloc, spell, node, at, output, pending)?;
+    put_head(spell, node, at, output, out)?;
+    put_off(spell, node, at, output, pending)?;
     Ok(id + 1)
 }
 
 // A piece is written. It gives the next node.
 fn put_piece(
-    alloc: Global,
     spell: &Spell,
     process: &Process,
     nodes: u32,
@@ -132,14 +111,13 @@ fn put_piece(
         Piece::Semicolon => out.extend_from_slice(b"; ")?,
         Piece::Close => out.extend_from_slice(b")")?,
         Piece::Words(words) => out.extend_from_slice(words.as_slice())?,
-        Piece::Process(at) => return put_node(alloc, spell, process, nodes, id, at, pending, out),
+        Piece::Process(at) => return put_node(spell, process, nodes, id, at, pending, out),
     }
     Ok(id)
 }
 
 // The process in which bound names are numbers, as its nodes have them.
 fn put_nodes(
-    alloc: Global,
     spell: &Spell,
     process: &Process,
     nodes: u32,
@@ -152,26 +130,21 @@ fn put_nodes(
         ++ process_text (spelling spell.now) alone process.now.names
         (numbered [] process.now.names process.now.process)) }
 {
-    let mut pending = Vec::new(alloc);
+    let mut pending = Vec::new(spell.alloc);
     pending.push(Piece::Process(Place::Alone))?;
     let mut id = 0;
     while let Some(x) = pending.pop() {
-        id = put_piece(alloc, spell, process, nodes, id, x, &mut pending, out)?;
+        id = put_piece(spell, process, nodes, id, x, &mut pending, out)?;
     }
     Ok(())
 }
 
 /// Appends the canonical text of a process. It goes over the nodes once.
-pub fn put_process(
-    alloc: Global,
-    spell: &Spell,
-    process: &Process,
-    out: &mut Vec<u8>,
-) -> Result<(), NoMemory>
+pub fn put_process(spell: &Spell, process: &Process, out: &mut Vec<u8>) -> Result<(), NoMemory>
     ensures { OnOk result
         (out.new.items ≡ out.old.items
         ++ process_text (spelling spell.now) alone process.now.names process.now.process) }
 {
     let nodes = process.len();
-    put_nodes(alloc, spell, process, nodes, out)
+    put_nodes(spell, process, nodes, out)
 }

@@ -18,7 +18,24 @@ fn put_name(alloc: Global, out: &mut Vec<u8>, names: &[Text], x: u32) -> Result<
     }
 }
 
+/// Appends a word and the report form of a message.
+#[cycle(reported)]
+pub fn put_reported(
+    alloc: Global,
+    out: &mut Vec<u8>,
+    names: &[Text],
+    word: &[u8],
+    m: &Msg,
+) -> Result<(), NoMemory>
+    ensures { OnOk result
+        (out.new.items ≡ out.old.items ++ (word.now ++ message_text names.now (message m.now))) }
+{
+    out.extend_from_slice(word)?;
+    put_message(alloc, out, names, m)
+}
+
 // Appends a message.
+#[cycle(reported)]
 fn put_message(alloc: Global, out: &mut Vec<u8>, names: &[Text], m: &Msg) -> Result<(), NoMemory>
     ensures { OnOk result (out.new.items ≡ out.old.items ++ message_text names.now (message m.now)) }
 {
@@ -33,14 +50,8 @@ fn put_message(alloc: Global, out: &mut Vec<u8>, names: &[Text], m: &Msg) -> Res
             put_message(alloc, out, names, second)?;
             out.extend_from_slice(b")")
         }
-        Msg::Inl(part) => {
-            out.extend_from_slice(b"inl ")?;
-            put_message(alloc, out, names, part)
-        }
-        Msg::Inr(part) => {
-            out.extend_from_slice(b"inr ")?;
-            put_message(alloc, out, names, part)
-        }
+        Msg::Inl(part) => put_reported(alloc, out, names, b"inl ", part),
+        Msg::Inr(part) => put_reported(alloc, out, names, b"inr ", part),
         Msg::Enc(body, key) => {
             out.extend_from_slice(b"{")?;
             put_message(alloc, out, names, body)?;
@@ -72,18 +83,9 @@ pub fn show_atom(alloc: Global, names: &[Text], a: &Atom) -> Result<Vec<u8>, NoM
 {
     let mut out = Vec::new(alloc);
     match a {
-        Atom::End(m) => {
-            out.extend_from_slice(b"end ")?;
-            put_message(alloc, &mut out, names, m)?;
-        }
-        Atom::Check(m) => {
-            out.extend_from_slice(b"check ")?;
-            put_message(alloc, &mut out, names, m)?;
-        }
-        Atom::Many(m) => {
-            out.extend_from_slice(b"many ")?;
-            put_message(alloc, &mut out, names, m)?;
-        }
+        Atom::End(m) => put_reported(alloc, &mut out, names, b"end ", m)?,
+        Atom::Check(m) => put_reported(alloc, &mut out, names, b"check ", m)?,
+        Atom::Many(m) => put_reported(alloc, &mut out, names, b"many ", m)?,
     }
     Ok(out)
 }

@@ -47,18 +47,26 @@ impl Shift {
 /// How names are spelled: each by `#` and its number, or the free ones as they are given and each other by `v` and its
 /// number, moved up.
 #[derive(Drop)]
-pub enum Spell<'a> {
+pub enum NameSpelling<'a> {
     Numbered,
     Named(&'a [Text], Shift),
 }
 
+/// How the names of a text are spelled, and where what is written stands in memory.
+#[derive(Drop)]
+pub struct Spell<'a> {
+    pub alloc: Global,
+    pub names: NameSpelling<'a>,
+}
+
 /// Appends the name with this number.
-pub fn put_name(alloc: Global, spell: &Spell, x: u32, out: &mut Vec<u8>) -> Result<(), NoMemory>
+pub fn put_name(spell: &Spell, x: u32, out: &mut Vec<u8>) -> Result<(), NoMemory>
     ensures { OnOk result (out.new.items ≡ out.old.items ++ spelling spell.now x) }
 {
-    match spell {
-        Spell::Numbered => out.extend_from_slice(format!(in alloc; "#{x}")?.as_bytes()),
-        Spell::Named(free, shift) => match free.get(x as usize) {
+    let alloc = spell.alloc;
+    match &spell.names {
+        NameSpelling::Numbered => out.extend_from_slice(format!(in alloc; "#{x}")?.as_bytes()),
+        NameSpelling::Named(free, shift) => match free.get(x as usize) {
             Some(word) => out.extend_from_slice(word.as_str().as_bytes()),
             None => {
                 let number = shift.moved(x);

@@ -9,31 +9,34 @@ ghost use Rattle.spi_show.specs.Terms.{message_text, tuple_text, atom_text, more
 use crate::NoMemory;
 use crate::spell::{Spell, put_name};
 use spi_term::{Atom, Effect, Msg, Ty};
-use std::alloc::Global;
 
 // The name that the index i stands for, where n names are in scope.
-fn put_bound(
-    alloc: Global,
-    spell: &Spell,
-    n: u32,
-    i: u32,
-    out: &mut Vec<u8>,
-) -> Result<(), NoMemory>
+fn put_bound(spell: &Spell, n: u32, i: u32, out: &mut Vec<u8>) -> Result<(), NoMemory>
     ensures { OnOk result (out.new.items ≡ out.old.items ++ spelling spell.now (n - suc i)) }
 {
     let x = n.saturating_sub(i).saturating_sub(1);
-    put_name(alloc, spell, x, out)
+    put_name(spell, x, out)
+}
+
+/// Appends a word and a message.
+#[cycle(text)]
+pub fn put_worded(
+    spell: &Spell,
+    n: u32,
+    word: &[u8],
+    m: &Msg,
+    out: &mut Vec<u8>,
+) -> Result<(), NoMemory>
+    ensures { OnOk result
+        (out.new.items ≡ out.old.items
+        ++ (word.now ++ message_text (spelling spell.now) n (message m.now))) }
+{
+    out.extend_from_slice(word)?;
+    put_message(spell, n, m, out)
 }
 
 #[cycle(text)]
-fn put_enc(
-    alloc: Global,
-    spell: &Spell,
-    n: u32,
-    body: &Msg,
-    key: &Msg,
-    out: &mut Vec<u8>,
-) -> Result<(), NoMemory>
+fn put_enc(spell: &Spell, n: u32, body: &Msg, key: &Msg, out: &mut Vec<u8>) -> Result<(), NoMemory>
     ensures { OnOk result
         (out.new.items ≡ out.old.items
         ++ (codes "{"
@@ -41,46 +44,34 @@ fn put_enc(
         ++ (codes "}" ++ message_text (spelling spell.now) n (message key.now))))) }
 {
     out.extend_from_slice(b"{")?;
-    put_message(alloc, spell, n, body, out)?;
+    put_message(spell, n, body, out)?;
     out.extend_from_slice(b"}")?;
-    put_message(alloc, spell, n, key, out)
+    put_message(spell, n, key, out)
 }
 
 /// Appends a message, where n names are in scope.
 #[cycle(text)]
-pub fn put_message(
-    alloc: Global,
-    spell: &Spell,
-    n: u32,
-    m: &Msg,
-    out: &mut Vec<u8>,
-) -> Result<(), NoMemory>
+pub fn put_message(spell: &Spell, n: u32, m: &Msg, out: &mut Vec<u8>) -> Result<(), NoMemory>
     ensures { OnOk result
         (out.new.items ≡ out.old.items ++ message_text (spelling spell.now) n (message m.now)) }
 {
     match m {
-        Msg::Bound(i) => put_bound(alloc, spell, n, *i, out),
-        Msg::Name(x) => put_name(alloc, spell, *x, out),
+        Msg::Bound(i) => put_bound(spell, n, *i, out),
+        Msg::Name(x) => put_name(spell, *x, out),
         Msg::Unit => out.extend_from_slice(b"()"),
         Msg::Pair(first, second) => {
             out.extend_from_slice(b"(")?;
-            put_message(alloc, spell, n, first, out)?;
+            put_message(spell, n, first, out)?;
             out.extend_from_slice(b", ")?;
-            put_tuple(alloc, spell, n, second, out)?;
+            put_tuple(spell, n, second, out)?;
             out.extend_from_slice(b")")
         }
-        Msg::Inl(part) => {
-            out.extend_from_slice(b"inl ")?;
-            put_message(alloc, spell, n, part, out)
-        }
-        Msg::Inr(part) => {
-            out.extend_from_slice(b"inr ")?;
-            put_message(alloc, spell, n, part, out)
-        }
-        Msg::Enc(body, key) => put_enc(alloc, spell, n, body, key, out),
+        Msg::Inl(part) => put_worded(spell, n, b"inl ", part, out),
+        Msg::Inr(part) => put_worded(spell, n, b"inr ", part, out),
+        Msg::Enc(body, key) => put_enc(spell, n, body, key, out),
         Msg::Hash(part) => {
             out.extend_from_slice(b"hash(")?;
-            put_message(alloc, spell, n, part, out)?;
+            put_message(spell, n, part, out)?;
             out.extend_from_slice(b")")
         }
     }
@@ -88,93 +79,44 @@ pub fn put_message(
 
 // The parts of a tuple behind its first.
 #[cycle(text)]
-fn put_tuple(
-    alloc: Global,
-    spell: &Spell,
-    n: u32,
-    m: &Msg,
-    out: &mut Vec<u8>,
-) -> Result<(), NoMemory>
+fn put_tuple(spell: &Spell, n: u32, m: &Msg, out: &mut Vec<u8>) -> Result<(), NoMemory>
     ensures { OnOk result
         (out.new.items ≡ out.old.items ++ tuple_text (spelling spell.now) n (message m.now)) }
 {
     match m {
         Msg::Pair(first, second) => {
-            put_message(alloc, spell, n, first, out)?;
+            put_message(spell, n, first, out)?;
             out.extend_from_slice(b", ")?;
-            put_tuple(alloc, spell, n, second, out)
+            put_tuple(spell, n, second, out)
         }
-        Msg::Bound(i) => put_bound(alloc, spell, n, *i, out),
-        Msg::Name(x) => put_name(alloc, spell, *x, out),
-        Msg::Unit => out.extend_from_slice(b"()"),
-        Msg::Inl(part) => {
-            out.extend_from_slice(b"inl ")?;
-            put_message(alloc, spell, n, part, out)
-        }
-        Msg::Inr(part) => {
-            out.extend_from_slice(b"inr ")?;
-            put_message(alloc, spell, n, part, out)
-        }
-        Msg::Enc(body, key) => put_enc(alloc, spell, n, body, key, out),
-        Msg::Hash(part) => {
-            out.extend_from_slice(b"hash(")?;
-            put_message(alloc, spell, n, part, out)?;
-            out.extend_from_slice(b")")
-        }
+        _ => put_message(spell, n, m, out),
     }
 }
 
-fn put_atom(
-    alloc: Global,
-    spell: &Spell,
-    n: u32,
-    a: &Atom,
-    out: &mut Vec<u8>,
-) -> Result<(), NoMemory>
+fn put_atom(spell: &Spell, n: u32, a: &Atom, out: &mut Vec<u8>) -> Result<(), NoMemory>
     ensures { OnOk result (out.new.items ≡ out.old.items ++ atom_text (spelling spell.now) n (atom a.now)) }
 {
     match a {
-        Atom::End(m) => {
-            out.extend_from_slice(b"end ")?;
-            put_message(alloc, spell, n, m, out)
-        }
-        Atom::Check(m) => {
-            out.extend_from_slice(b"check ")?;
-            put_message(alloc, spell, n, m, out)
-        }
-        Atom::Many(m) => {
-            out.extend_from_slice(b"many ")?;
-            put_message(alloc, spell, n, m, out)
-        }
+        Atom::End(m) => put_worded(spell, n, b"end ", m, out),
+        Atom::Check(m) => put_worded(spell, n, b"check ", m, out),
+        Atom::Many(m) => put_worded(spell, n, b"many ", m, out),
     }
 }
 
 // The further atoms of an effect, each behind a comma.
-fn put_more(
-    alloc: Global,
-    spell: &Spell,
-    n: u32,
-    atoms: &[Atom],
-    out: &mut Vec<u8>,
-) -> Result<(), NoMemory>
+fn put_more(spell: &Spell, n: u32, atoms: &[Atom], out: &mut Vec<u8>) -> Result<(), NoMemory>
     ensures { OnOk result
         (out.new.items ≡ out.old.items ++ more_text (spelling spell.now) n (map atom atoms.now)) }
 {
     for a in atoms {
         out.extend_from_slice(b", ")?;
-        put_atom(alloc, spell, n, a, out)?;
+        put_atom(spell, n, a, out)?;
     }
     Ok(())
 }
 
 /// Appends an effect, where n names are in scope.
-pub fn put_effect(
-    alloc: Global,
-    spell: &Spell,
-    n: u32,
-    e: &Effect,
-    out: &mut Vec<u8>,
-) -> Result<(), NoMemory>
+pub fn put_effect(spell: &Spell, n: u32, e: &Effect, out: &mut Vec<u8>) -> Result<(), NoMemory>
     ensures { OnOk result
         (out.new.items ≡ out.old.items ++ effect_text (spelling spell.now) n (effect e.now)) }
 {
@@ -182,8 +124,8 @@ pub fn put_effect(
         [] => out.extend_from_slice(b"[]"),
         [first, rest @ ..] => {
             out.extend_from_slice(b"[")?;
-            put_atom(alloc, spell, n, first, out)?;
-            put_more(alloc, spell, n, rest, out)?;
+            put_atom(spell, n, first, out)?;
+            put_more(spell, n, rest, out)?;
             out.extend_from_slice(b"]")
         }
     }
@@ -191,32 +133,19 @@ pub fn put_effect(
 
 /// Appends a name with its type, where n names are in scope, and that is its number.
 #[cycle(types)]
-pub fn put_typed(
-    alloc: Global,
-    spell: &Spell,
-    n: u32,
-    t: &Ty,
-    out: &mut Vec<u8>,
-) -> Result<(), NoMemory>
+pub fn put_typed(spell: &Spell, n: u32, t: &Ty, out: &mut Vec<u8>) -> Result<(), NoMemory>
     requires { n + ty_nodes (type_of t.now) < 2 ^ 32 }
     ensures { OnOk result
         (out.new.items ≡ out.old.items
         ++ typed_text (spelling spell.now) n (type_text (spelling spell.now) n (type_of t.now))) }
 {
-    put_name(alloc, spell, n, out)?;
+    put_name(spell, n, out)?;
     out.extend_from_slice(b": ")?;
-    put_type(alloc, spell, n, t, out)
+    put_type(spell, n, t, out)
 }
 
 #[cycle(types)]
-fn put_sum(
-    alloc: Global,
-    spell: &Spell,
-    n: u32,
-    left: &Ty,
-    right: &Ty,
-    out: &mut Vec<u8>,
-) -> Result<(), NoMemory>
+fn put_sum(spell: &Spell, n: u32, left: &Ty, right: &Ty, out: &mut Vec<u8>) -> Result<(), NoMemory>
     requires { n + (ty_nodes (type_of left.now) + ty_nodes (type_of right.now)) < 2 ^ 32 }
     ensures { OnOk result
         (out.new.items ≡ out.old.items
@@ -225,54 +154,36 @@ fn put_sum(
         ++ (codes " + " ++ (type_text (spelling spell.now) n (type_of right.now) ++ codes ")"))))) }
 {
     out.extend_from_slice(b"(")?;
-    put_type(alloc, spell, n, left, out)?;
+    put_type(spell, n, left, out)?;
     out.extend_from_slice(b" + ")?;
-    put_type(alloc, spell, n, right, out)?;
+    put_type(spell, n, right, out)?;
     out.extend_from_slice(b")")
 }
 
 #[cycle(types)]
-fn put_key(
-    alloc: Global,
-    spell: &Spell,
-    n: u32,
-    payload: &Ty,
-    out: &mut Vec<u8>,
-) -> Result<(), NoMemory>
+fn put_key(spell: &Spell, n: u32, payload: &Ty, out: &mut Vec<u8>) -> Result<(), NoMemory>
     requires { n + ty_nodes (type_of payload.now) < 2 ^ 32 }
     ensures { OnOk result
         (out.new.items ≡ out.old.items
         ++ (codes "Key(" ++ (type_text (spelling spell.now) n (type_of payload.now) ++ codes ")"))) }
 {
     out.extend_from_slice(b"Key(")?;
-    put_type(alloc, spell, n, payload, out)?;
+    put_type(spell, n, payload, out)?;
     out.extend_from_slice(b")")
 }
 
-fn put_nonce(
-    alloc: Global,
-    spell: &Spell,
-    n: u32,
-    e: &Effect,
-    out: &mut Vec<u8>,
-) -> Result<(), NoMemory>
+fn put_nonce(spell: &Spell, n: u32, e: &Effect, out: &mut Vec<u8>) -> Result<(), NoMemory>
     ensures { OnOk result
         (out.new.items ≡ out.old.items
         ++ (codes "Nonce " ++ effect_text (spelling spell.now) n (effect e.now))) }
 {
     out.extend_from_slice(b"Nonce ")?;
-    put_effect(alloc, spell, n, e, out)
+    put_effect(spell, n, e, out)
 }
 
 /// Appends a type, where n names are in scope.
 #[cycle(types)]
-pub fn put_type(
-    alloc: Global,
-    spell: &Spell,
-    n: u32,
-    t: &Ty,
-    out: &mut Vec<u8>,
-) -> Result<(), NoMemory>
+pub fn put_type(spell: &Spell, n: u32, t: &Ty, out: &mut Vec<u8>) -> Result<(), NoMemory>
     requires { n + ty_nodes (type_of t.now) < 2 ^ 32 }
     ensures { OnOk result
         (out.new.items ≡ out.old.items ++ type_text (spelling spell.now) n (type_of t.now)) }
@@ -282,40 +193,30 @@ pub fn put_type(
         Ty::Unit => out.extend_from_slice(b"()"),
         Ty::Pair(first, second) => {
             out.extend_from_slice(b"(")?;
-            put_typed(alloc, spell, n, first, out)?;
+            put_typed(spell, n, first, out)?;
             out.extend_from_slice(b", ")?;
-            put_tuple_type(alloc, spell, n + 1, second, out)?;
+            put_tuple_type(spell, n + 1, second, out)?;
             out.extend_from_slice(b")")
         }
-        Ty::Sum(left, right) => put_sum(alloc, spell, n, left, right, out),
-        Ty::Key(payload) => put_key(alloc, spell, n, payload, out),
-        Ty::Nonce(e) => put_nonce(alloc, spell, n, e, out),
+        Ty::Sum(left, right) => put_sum(spell, n, left, right, out),
+        Ty::Key(payload) => put_key(spell, n, payload, out),
+        Ty::Nonce(e) => put_nonce(spell, n, e, out),
     }
 }
 
 // The parts of a tuple type behind its first, the last without a name.
 #[cycle(types)]
-fn put_tuple_type(
-    alloc: Global,
-    spell: &Spell,
-    n: u32,
-    t: &Ty,
-    out: &mut Vec<u8>,
-) -> Result<(), NoMemory>
+fn put_tuple_type(spell: &Spell, n: u32, t: &Ty, out: &mut Vec<u8>) -> Result<(), NoMemory>
     requires { n + ty_nodes (type_of t.now) < 2 ^ 32 }
     ensures { OnOk result
         (out.new.items ≡ out.old.items ++ tuple_type_text (spelling spell.now) n (type_of t.now)) }
 {
     match t {
-        Ty::Un => out.extend_from_slice(b"Un"),
-        Ty::Unit => out.extend_from_slice(b"()"),
         Ty::Pair(first, second) => {
-            put_typed(alloc, spell, n, first, out)?;
+            put_typed(spell, n, first, out)?;
             out.extend_from_slice(b", ")?;
-            put_tuple_type(alloc, spell, n + 1, second, out)
+            put_tuple_type(spell, n + 1, second, out)
         }
-        Ty::Sum(left, right) => put_sum(alloc, spell, n, left, right, out),
-        Ty::Key(payload) => put_key(alloc, spell, n, payload, out),
-        Ty::Nonce(e) => put_nonce(alloc, spell, n, e, out),
+        _ => put_type(spell, n, t, out),
     }
 }

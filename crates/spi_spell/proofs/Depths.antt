@@ -8,7 +8,6 @@ use Rattle.spi_tree.specs.Trees as t
 use Rattle.spi_tree.specs.Pieces.{Piece, opens, cell, closes, a_mark, a_number, a_token, Place, in_seq, at_level, nesting_of, below, message_limit, process_limit, msg_pieces, msgs_pieces, atom_pieces, atoms_pieces, effect_pieces, ty_pieces, fields_pieces, last_pieces, named_pieces, binder_pieces, proc_pieces, words_pieces, decls_pieces, step_pieces, steps_pieces, written_pieces, deriv_pieces, derivs_pieces, version_pieces, opponent_pieces, schedule_pieces, derivation_pieces}
 use Rattle.spi_parse.specs.Exact.{IsWithin}
 use Rattle.spi_parse.specs.Formed.{whole_file}
-use Rattle.spi_parse.specs.Bare.{nowhere}
 use Rattle.spi_term.specs.Term.{Message, bound, name, unit, pair, in_left, in_right, enc, hash, Atom, ends, checks, many, Effect, Ty, un, unit_ty, pair_ty, sum_ty, key, nonce, Leaf, Sends, Stops, Prefix, Recvs, Serves, Splits, Selects, Decrypts, Checks, Begins, Ends, EndManys, Casts, Freshes, Branches, Pars, Process, leaf, prefix, fork, binds, message_size}
 use Rattle.spi_term.specs.Spelling.{Spelling, atom_nodes, effect_nodes, ty_nodes}
 use Rattle.spi_run.specs.Reduction.{Step, act, talk}
@@ -23,6 +22,7 @@ use Rattle.spi_gen.specs.Handshake.{word}
 use Rattle.spi_spell.proofs.Shallow.{ArePointsSmall, small}
 use Rattle.spi_spell.proofs.Printed.{twice, spelled_name, numbered_name, message_tree, second_tree, rest_trees, atom_tree, atom_trees, type_tree, field_trees, last_tree, leaf_tree, prefix_tree, process_tree, free_trees, part_tree, opponent_tree, step_tree, schedule_tree, written_tree, deriv_tree, deriv_trees, derivation_tree, file_tree}
 use Rattle.spi_spell.proofs.Printable.{MessageFits, TyFits, LeafFits, PrefixFits, ForkFits, ProcessFits, Nests, IsPrintablePart, IsOpponentPart, is_later_file, IsPrintable}
+use Rattle.spi_tree.specs.Trees.{nowhere}
 
 -- the first token of a message, a type or an atom, and of a process
 shallow : (k : ℕ) → k ≤ 1000 → nat_lt message_limit k ≡ false

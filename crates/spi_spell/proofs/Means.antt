@@ -3,7 +3,6 @@
 use Rattle.std.proofs.Common.{◌≡◌, ℕ, suc, ◌+◌, ◌-◌, ◌<◌, ◌≤◌, if◌then◌else◌, List, [], ◌∷◌, length, refl, ◌∙◌, ap, subst, arith, add-zero, add-one}
 use Rattle.std.proofs.lemmas.Bool.{lt-ltb, le-ltb}
 use Rattle.spi_tree.specs.Trees as t
-use Rattle.spi_parse.specs.Bare.{nowhere}
 use Rattle.spi_term.specs.Term.{Message, bound, name, unit, pair, in_left, in_right, enc, hash, Atom, ends, checks, many, Effect, Ty, un, unit_ty, pair_ty, sum_ty, key, nonce, Leaf, Sends, Stops, Prefix, Recvs, Serves, Splits, Selects, Decrypts, Checks, Begins, Ends, EndManys, Casts, Freshes, Branches, Pars, Process, leaf, prefix, fork, binds}
 use Rattle.spi_term.specs.Names.{MessageOver, OfAtom, OfEffect, OfTy, OfLeaf, OfPrefix, OfProcess}
 use Rattle.spi_term.specs.Spelling.{ty_nodes}
@@ -14,6 +13,7 @@ use Rattle.spi_spell.proofs.Printed.{spelled_name, message_tree, second_tree, re
 use Rattle.spi_spell.proofs.Printable.{prefix_nodes, process_nodes}
 use Rattle.spi_spell.proofs.Counts.{binds_few}
 use Rattle.spi_spell.proofs.Scopes.{in_scope, scope_length, NamesAreApart, found}
+use Rattle.spi_tree.specs.Trees.{nowhere}
 
 module _ (most : ℕ) (spell : ℕ → List ℕ) (apart : NamesAreApart most spell) (k : ℕ) where
   -- ---- messages and effects, where n names are in scope, d of them bound

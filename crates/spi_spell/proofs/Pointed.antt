@@ -1,7 +1,6 @@
 -- Nothing is wrong at the points of a canonical text's tree, and what they add to the count.
 use Rattle.std.proofs.Common.{◌≡◌, ℕ, suc, ◌+◌, ◌-◌, ◌≤◌, Bool, if◌then◌else◌, List, [], ◌∷◌, is_some, refl, sym, ◌∙◌, ap, subst, arith, add-zero, add-one}
 use Rattle.spi_tree.specs.Trees as t
-use Rattle.spi_parse.specs.Bare.{nowhere}
 use Rattle.spi_term.specs.Term.{Message, bound, name, unit, pair, in_left, in_right, enc, hash, Atom, ends, checks, many, Effect, Ty, un, unit_ty, pair_ty, sum_ty, key, nonce, Leaf, Sends, Stops, Prefix, Recvs, Serves, Splits, Selects, Decrypts, Checks, Begins, Ends, EndManys, Casts, Freshes, Branches, Pars, Process, leaf, prefix, fork, binds, message_size}
 use Rattle.spi_term.specs.Names.{MessageOver, OfAtom, OfEffect, OfTy, OfLeaf, OfPrefix, OfProcess}
 use Rattle.spi_term.specs.Spelling.{ty_nodes}
@@ -17,6 +16,7 @@ use Rattle.spi_spell.proofs.Scopes.{in_scope, NamesAreApart, found}
 use Rattle.spi_spell.proofs.Means.{message_means, type_means}
 use Rattle.spi_spell.proofs.Counts.{binds_few}
 use Rattle.spi_spell.proofs.Clear.{regrouped, AddsPoints, next, in_all, no_point, counted, message_adds, type_adds, message_head_adds, messages_head_adds, typed_head_adds, tested_head_adds, split_head_adds, match_head_adds, new_head_adds}
+use Rattle.spi_tree.specs.Trees.{nowhere}
 
 module _ (most : ℕ) (spell : ℕ → List ℕ) (apart : NamesAreApart most spell) (k : ℕ) where
   -- ---- messages and effects, where n names are in scope, d of them bound

@@ -7,11 +7,11 @@ use Rattle.spi_term.specs.Term.{Message, bound, name, unit, pair, in_left, in_ri
 use Rattle.spi_term.specs.Spelling.{Spelling}
 use Rattle.spi_gen.specs.Handshake.{word}
 use Rattle.spi_run.specs.Reduction.{Step, act, talk}
-use Rattle.spi_parse.specs.Bare.{nowhere}
 use Rattle.spi_scope.specs.Parts.{numbered_effect}
 use Rattle.spi_scope.specs.StandsFor.{Meant}
 use Rattle.spi_show.specs.Spelled.{name_text}
 use Rattle.spi_show.specs.Processes.{Standing, alone, sequel, is_output}
+use Rattle.spi_tree.specs.Trees.{nowhere}
 
 abbrev pub spelled_name : (ℕ → List ℕ) → ℕ → t.Msg
 spelled_name spell i = t.name nowhere (word (spell i))

@@ -11,7 +11,6 @@ use Rattle.spi_term.specs.Term.{Message, Ty, Leaf, Sends, Stops, Prefix, Recvs, 
 use Rattle.spi_term.specs.Names.{MessageOver, OfTy, OfLeaf, OfPrefix, OfProcess}
 use Rattle.spi_term.specs.Spelling.{ty_nodes}
 use Rattle.spi_gen.specs.Handshake.{word}
-use Rattle.spi_parse.specs.Bare.{nowhere}
 use Rattle.spi_show.specs.Terms.{message_text, typed_text, type_text}
 use Rattle.spi_show.specs.Processes.{leaf_text, prefix_text, left_text, right_text, Standing, alone, sequel, is_output, process_text}
 use Rattle.spi_spell.proofs.Printed.{spelled_name, message_tree, type_tree, leaf_tree, prefix_tree, then_tree, process_tree}
@@ -23,6 +22,7 @@ use Rattle.spi_spell.proofs.Prints.{Prints}
 use Rattle.spi_spell.proofs.PrintsTerms.{PrintsInScope}
 use Rattle.spi_spell.proofs.PrintsTypes as types
 use Rattle.spi_spell.proofs.PrintsTypes.{inner}
+use Rattle.spi_tree.specs.Trees.{nowhere}
 
 behind : {top k d n : ℕ} (b : ℕ) → PrintsInScope top k d n → n + b ≤ top → PrintsInScope top k (d + b) (n + b)
 behind b s few = (let low = s.bound in record { free = s.free; bound = omega arith; all = few })

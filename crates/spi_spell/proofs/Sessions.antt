@@ -14,10 +14,11 @@ use Rattle.spi_lex.proofs.Writing.{reads_back}
 use Rattle.spi_tree.specs.Trees as t
 use Rattle.spi_tree.specs.Pieces.{Piece, closes, Place, in_seq, at_level, below, beside_place, proc_pieces, decls_pieces, a_reserved, kinds_in, tokens_of}
 use Rattle.spi_tree.specs.Formed.{IsMsg, IsProc, IsFormed, AreWordsFit}
-use Rattle.spi_gen.specs.Handshake.{nowhere, label, handshake, answering, checking, asking, declarations}
+use Rattle.spi_gen.specs.Handshake.{label, handshake, answering, checking, asking, declarations}
 use Rattle.spi_gen.specs.Sessions.{AreBeside, one_session, two_halves, AreGrouped, alone, in_parentheses, IsSessions}
 use Rattle.spi_spell.specs.Generated.{handshake_text}
 use Rattle.spi_spell.proofs.Scanned.{writes, words_fit}
+use Rattle.spi_tree.specs.Trees.{nowhere}
 
 -- ---- its processes are formed
 

@@ -6,24 +6,10 @@ use Rattle.spi_scope.specs.StandsFor.{Meant}
 pub use Rattle.spi_show.specs.Steps.{step_text, steps_text, schedule_text}
 
 abbrev pub with_derivation : Meant → List RuleUse → Meant
-with_derivation f d = record {
-  version = f.version;
-  names = f.names;
-  process = f.process;
-  opponent = f.opponent;
-  schedule = f.schedule;
-  derivation = Some d;
-}
+with_derivation f d = record f { derivation = Some d }
 
 abbrev pub with_schedule : Meant → List Step → Meant
-with_schedule f steps = record {
-  version = f.version;
-  names = f.names;
-  process = f.process;
-  opponent = f.opponent;
-  schedule = Some steps;
-  derivation = f.derivation;
-}
+with_schedule f steps = record f { schedule = Some steps }
 
 -- bytes, and behind one line feed a text
 abbrev pub joined_texts : List ℕ → List ℕ → List ℕ

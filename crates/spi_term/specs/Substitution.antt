@@ -48,16 +48,20 @@ process_map f k (prefix b p) = prefix (prefix_map f k b) (process_map f (k + bin
 process_map f k (fork b p q) =
     fork (fork_map f k b) (process_map f (k + fork_binds b) p) (process_map f (k + fork_binds b) q)
 
+-- f i for each bound name i of a message, and g x for each free name x
+abbrev pub message_map : (f g : ℕ → Message) → Message → Message
+message_map f g (bound i) = f i
+message_map f g (name x) = g x
+message_map f g unit = unit
+message_map f g (pair a b) = pair (message_map f g a) (message_map f g b)
+message_map f g (in_left a) = in_left (message_map f g a)
+message_map f g (in_right a) = in_right (message_map f g a)
+message_map f g (enc a b) = enc (message_map f g a) (message_map f g b)
+message_map f g (hash a) = hash (message_map f g a)
+
 -- n for the bound name k
 abbrev pub put : Message → ℕ → Message → Message
-put n k (bound i) = if i == k then n else bound i
-put n k (name x) = name x
-put n k unit = unit
-put n k (pair a b) = pair (put n k a) (put n k b)
-put n k (in_left a) = in_left (put n k a)
-put n k (in_right a) = in_right (put n k a)
-put n k (enc a b) = enc (put n k a) (put n k b)
-put n k (hash a) = hash (put n k a)
+put n k m = message_map (λ i. if i == k then n else bound i) name m
 
 -- n for the outermost binder of a type, and of a process
 abbrev pub ty_put : Message → Ty → Ty
@@ -72,14 +76,7 @@ process_put_two m n p = process_map (put n) 0 (process_map (put m) 1 p)
 
 -- s x for each free name x, all at once
 abbrev pub replace : (ℕ → Message) → Message → Message
-replace s (bound i) = bound i
-replace s (name x) = s x
-replace s unit = unit
-replace s (pair a b) = pair (replace s a) (replace s b)
-replace s (in_left a) = in_left (replace s a)
-replace s (in_right a) = in_right (replace s a)
-replace s (enc a b) = enc (replace s a) (replace s b)
-replace s (hash a) = hash (replace s a)
+replace s m = message_map bound s m
 
 abbrev pub effect_replace : (ℕ → Message) → Effect → Effect
 effect_replace s es = effect_map (replace s) es
@@ -94,6 +91,11 @@ process_replace s p = process_map (λ d. replace s) 0 p
 abbrev pub or_name : ℕ → Option Message → Message
 or_name x None = name x
 or_name x (Some m) = m
+
+-- the message, where there is one
+abbrev pub or_unit : Option Message → Message
+or_unit None = unit
+or_unit (Some m) = m
 
 abbrev pub value_for : ℕ → List Message → ℕ → Message
 value_for from values x = if nat_lt x from then name x else or_name x (slice_get values (x - from))

@@ -1,7 +1,9 @@
 -- The begins of each label as the events go by.
 use Rattle.std.proofs.Common.{◌≡◌, ◌≢◌, refl, sym, ◌∙◌, ap, subst, subst₂, ℕ, zero, suc, ◌+◌, ◌<◌, ◌≤◌, ⊎_elim, List, [], ◌∷◌, ◌++◌, length, map, get_or, take, drop, replicate, Option, Some, None, slice_get, slice_set, add-one, arith}
 use Rattle.std.proofs.lemmas.Bool.{cases_eq}
-use Rattle.std.proofs.lemmas.List.{append-nil}
+use Rattle.std.proofs.lemmas.List.{append-nil, length-take-le}
+use Rattle.std.proofs.lemmas.Option.{get_or_from_slice_get, slice_get-get_or}
+use Rattle.std.proofs.Math.ListN.{drop_of_length-le}
 use Rattle.spi_term.specs.Lists.{At, at_first, at_later}
 use Rattle.spi_term.specs.Term.{Message}
 use Rattle.spi_term.proofs.Lists.{at_get, get_at, at_unique}
@@ -10,13 +12,13 @@ use Rattle.spi_intern.proofs.Lists.{some_one, get_below, below_get}
 use Rattle.spi_run.specs.Reduction.{Event, begun, ended, ended_many}
 use Rattle.spi_trace.specs.Labels.{label_of, AreNumbered}
 use Rattle.spi_trace.specs.Pairing.{Pairs, pairs_none, pairs_begin, pairs_end, pairs_unpaid, pairs_end_many, pairs_unpaid_many, IsPairing}
-use Rattle.std.proofs.Math.Seq.{take-append_seam}
+use Rattle.std.proofs.Math.Seq.{take-append_seam, take-suc, drop-cons}
 use Rattle.spi_run.specs.View.{event}
 use Rattle.spi_run.specs.declared.step.Event as Declared
 use Rattle.spi_trace.specs.declared.queue.Begins.{Begins}
 use Rattle.spi_trace.specs.Queue.{Queue, no_begins, with_begin, next, one_taken, payer_in, queue_after, IsPaidFrom}
 use Rattle.spi_trace.proofs.Prefixes.{length_events}
-use Rattle.spi_trace.proofs.Seen.{and_then}
+use Rattle.spi_trace.proofs.Seen.{and_then, at_within}
 use Rattle.spi_trace.proofs.Kept.{Kept, kept_none, kept_earliest, kept_spent, kept_begin, kept_other, kept_take, kept_take_other}
 
 -- the queue has the begins of the label
@@ -140,19 +142,13 @@ set_elsewhere (r ∷ qs) (suc n) zero x d = refl
 set_elsewhere (r ∷ qs) (suc n) (suc k) x d = set_elsewhere qs n k x (λ e. d (ap suc e))
 
 take_at : (es : List Event) (i : ℕ) (e : Event) → At es i e → take (suc i) es ≡ take i es ++ e ∷ []
-take_at [] i e a = elim a [ ]
-take_at (x ∷ es) zero e at_first = refl
-take_at (x ∷ es) (suc i) e (at_later a) = ap (λ xs. x ∷ xs) (take_at es i e a)
+take_at es i e a = take-suc es i e (at_within a) ∙ ap (λ x. take i es ++ x ∷ []) (get_or_from_slice_get es i e e (at_get a))
 
 drop_at : (es : List Event) (i : ℕ) (e : Event) → At es i e → drop i es ≡ e ∷ drop (suc i) es
-drop_at [] i e a = elim a [ ]
-drop_at (x ∷ es) zero e at_first = refl
-drop_at (x ∷ es) (suc i) e (at_later a) = drop_at es i e a
+drop_at es i e a = drop-cons es i e (at_within a) ∙ ap (λ x. x ∷ drop (suc i) es) (get_or_from_slice_get es i e e (at_get a))
 
 length_take : (es : List Event) (i : ℕ) (e : Event) → At es i e → length (take i es) ≡ i
-length_take [] i e a = elim a [ ]
-length_take (x ∷ es) zero e at_first = refl
-length_take (x ∷ es) (suc i) e (at_later a) = ap suc (length_take es i e a)
+length_take es i e a = let h = at_within a in length-take-le i es (omega arith)
 
 -- one more event
 run_suc : (es : List Event) (ns : List ℕ) (bound i n : ℕ) (e : Event) (q : Queue) (qs : List Queue) (from : List (Option ℕ)) → AreNumbered es ns bound → At es i e → At ns i n → slice_get qs n ≡ Some q → Running es ns i qs from → Running es ns (suc i) (slice_set qs n (queue_after e i q)) (from ++ payer_in e q ∷ [])
@@ -176,23 +172,12 @@ run_suc es ns bound i n e q qs from r a b g h =
           subst (λ os. Pairs [] [] es os) (sym (and_then from (payer_in e q) is)) (h.joined (payer_in e q ∷ is) v);
     }
 
-all_taken : (es : List Event) (n : ℕ) → length es ≤ n → drop n es ≡ []
-all_taken [] zero l = refl
-all_taken [] (suc n) l = refl
-all_taken (e ∷ es) zero l = absurd (omega arith)
-all_taken (e ∷ es) (suc n) l = all_taken es n (omega arith)
-
 pub run_all : (es : List Event) (ns : List ℕ) (i : ℕ) (qs : List Queue) (from : List (Option ℕ)) → length es ≤ i → Running es ns i qs from → IsPairing es from
 run_all es ns i qs from l h =
     subst (λ os. Pairs [] [] es os) (append-nil from)
-    (h.joined [] (subst (λ xs. Pairs (take i es) h.taken xs []) (sym (all_taken es i l)) pairs_none))
+    (h.joined [] (subst (λ xs. Pairs (take i es) h.taken xs []) (sym (drop_of_length-le es l)) pairs_none))
 
 -- a step of the loop
-at_label : (xs : List ℕ) (i d : ℕ) → i < length xs → At xs i (get_or xs i d)
-at_label [] i d l = absurd (omega arith)
-at_label (x ∷ xs) zero d l = at_first
-at_label (x ∷ xs) (suc i) d l = at_later (at_label xs i d (omega arith))
-
 at_event : (es : List Declared.Event) (i : ℕ) (x : Declared.Event) → i < length es → x ≡ get_or es i x → At (map event es) i (event x)
 at_event [] i x l e = absurd (omega arith)
 at_event (y ∷ es) zero x l e = subst (λ z. At (event z ∷ map event es) zero (event x)) e at_first
@@ -202,7 +187,7 @@ pub as_many_numbers : (es : List Declared.Event) (ns : List ℕ) (bound : ℕ) �
 as_many_numbers es ns bound r = tells_length r.each ∙ length_events es
 
 number_at : (es : List Declared.Event) (ns : List ℕ) (bound i n : ℕ) → AreNumbered (map event es) ns bound → i < length es → n ≡ get_or ns i n → At ns i n
-number_at es ns bound i n r l f = let h = as_many_numbers es ns bound r in subst (λ x. At ns i x) (sym f) (at_label ns i n (omega arith))
+number_at es ns bound i n r l f = let h = as_many_numbers es ns bound r in subst (λ x. At ns i x) (sym f) (get_at ns i (slice_get-get_or ns i n (omega arith)))
 
 pub number_below : (es : List Declared.Event) (ns : List ℕ) (bound i n : ℕ) → AreNumbered (map event es) ns bound → i < length es → n ≡ get_or ns i n → n < bound
 number_below es ns bound i n r l f = number_within (map event es) ns bound r i n (number_at es ns bound i n r l f)

@@ -14,14 +14,14 @@ abbrev pub no_begins : Queue
 no_begins = record { places = []; taken = 0 }
 
 abbrev pub with_begin : Queue → ℕ → Queue
-with_begin q i = record { places = q.places ++ i ∷ []; taken = q.taken }
+with_begin q i = record q { places = q.places ++ i ∷ [] }
 
 abbrev pub next : Queue → Option ℕ
 next q = slice_get q.places q.taken
 
 abbrev pub one_taken : Option ℕ → Queue → Queue
 one_taken None q = q
-one_taken (Some i) q = record { places = q.places; taken = q.taken + 1 }
+one_taken (Some i) q = record q { taken = q.taken + 1 }
 
 -- what pays for an event of the label, and the begins after the event, which has this place
 abbrev pub payer_in : Event → Queue → Option ℕ

@@ -1,7 +1,6 @@
 // Whether events are paid.
 
-ghost use Rattle.std.specs.Prelude.{◌≡◌, ◌↔◌, ◌<◌, ◌≤◌, ◌^◌, IsTrue, [], ◌∷◌, length, map};
-ghost use Rattle.spi_term.specs.Lists.{In};
+ghost use Rattle.std.specs.Prelude.{◌≡◌, ◌↔◌, ◌<◌, ◌^◌, IsTrue, [], ◌∷◌, length, map};
 ghost use Rattle.spi_term.specs.View.{message};
 ghost use Rattle.spi_run.specs.Reduction.{begun};
 ghost use Rattle.spi_run.specs.Safety.{begins_of, ends_of, Paid, PaidMany};

@@ -24,17 +24,6 @@ pub joined_plain : {X : Type 0} (f : X → List Kind) (xs : List X) (i : ℕ) (d
     → joined f (take (i + 1) xs) ≡ joined f (take i xs) ++ f (get_or xs i d)
 joined_plain f xs i d h = rw add-one (plain_suc f xs i d h)
 
--- the heads of the forms that bind two names
-pub split_chain : (o0 o1 o2 o3 o4 key m is paren w colon b comma x c close semi : List Kind)
-    → o1 ≡ o0 ++ key → o2 ≡ o1 ++ m → o3 ≡ o2 ++ (is ++ paren ++ (w ++ colon ++ b)) → o4 ≡ o3 ++ (comma ++ (x ++ colon ++ c) ++ close ++ semi)
-    → o4 ≡ o0 ++ (key ++ m ++ is ++ paren ++ w ++ colon ++ b ++ comma ++ x ++ colon ++ c ++ close ++ semi)
-split_chain o0 o1 o2 o3 o4 key m is paren w colon b comma x c close semi h1 h2 h3 h4 = rw (h4, h3, h2, h1) (simp append_assoc refl)
-
-pub match_chain : (o0 o1 o2 o3 o4 o5 o6 key m is paren w colon b equals n comma x c close semi : List Kind)
-    → o1 ≡ o0 ++ key → o2 ≡ o1 ++ m → o3 ≡ o2 ++ (is ++ paren ++ (w ++ colon ++ b)) → o4 ≡ o3 ++ equals → o5 ≡ o4 ++ n → o6 ≡ o5 ++ (comma ++ (x ++ colon ++ c) ++ close ++ semi)
-    → o6 ≡ o0 ++ (key ++ m ++ is ++ paren ++ w ++ colon ++ b ++ equals ++ n ++ comma ++ x ++ colon ++ c ++ close ++ semi)
-match_chain o0 o1 o2 o3 o4 o5 o6 key m is paren w colon b equals n comma x c close semi h1 h2 h3 h4 h5 h6 = rw (h6, h5, h4, h3, h2, h1) (simp append_assoc refl)
-
 -- the parts of a file
 pub file_chain : (o0 o1 o2 o3 o4 o5 o6 o7 a b c d e f g : List Kind) → o0 ≡ [] → o1 ≡ o0 ++ a → o2 ≡ o1 ++ b → o3 ≡ o2 ++ c → o4 ≡ o3 ++ d → o5 ≡ o4 ++ e → o6 ≡ o5 ++ f → o7 ≡ o6 ++ g
     → o7 ≡ a ++ b ++ c ++ d ++ e ++ f ++ g

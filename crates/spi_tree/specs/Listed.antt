@@ -22,6 +22,14 @@ number_list n = kinds.Number n ∷ []
 abbrev pub word_list : SWord → List Kind
 word_list w = kinds.Word w.word ∷ []
 
+-- two parentheses with nothing between
+abbrev pub parens_list : List Kind
+parens_list = mark_list mark.ParenOpen ++ mark_list mark.ParenClose
+
+-- a name by its number
+abbrev pub numbered_list : ℕ → List Kind
+numbered_list n = mark_list mark.NumberSign ++ number_list n
+
 -- a word that the grammar asks for by its spelling
 abbrev pub literal_list : List ℕ → List Kind
 literal_list name = kinds.Word name ∷ []
@@ -34,7 +42,7 @@ joined f (x ∷ xs) = f x ++ joined f xs
 abbrev mutual
   pub msg_list : t.Msg → List Kind
   msg_list (t.name s w) = word_list w
-  msg_list (t.unit s) = mark_list mark.ParenOpen ++ mark_list mark.ParenClose
+  msg_list (t.unit s) = parens_list
   msg_list (t.tuple s a b ms) =
       mark_list mark.ParenOpen ++ msg_list a ++ mark_list mark.Comma ++ msg_list b ++ msgs_list ms
       ++ mark_list mark.ParenClose
@@ -43,7 +51,7 @@ abbrev mutual
   msg_list (t.enc s a b) = mark_list mark.BraceOpen ++ msg_list a ++ mark_list mark.BraceClose ++ msg_list b
   msg_list (t.hash s a) =
       reserved_list word.Hash ++ mark_list mark.ParenOpen ++ msg_list a ++ mark_list mark.ParenClose
-  msg_list (t.num s i) = mark_list mark.NumberSign ++ number_list i
+  msg_list (t.num s i) = numbered_list i
 
   pub msgs_list : t.Msgs → List Kind
   msgs_list t.no_msgs = []
@@ -73,7 +81,7 @@ effect_list (e ∷ es) =
 abbrev mutual
   pub ty_list : t.Ty → List Kind
   ty_list (t.un s) = reserved_list word.Un
-  ty_list (t.unit_ty s) = mark_list mark.ParenOpen ++ mark_list mark.ParenClose
+  ty_list (t.unit_ty s) = parens_list
   ty_list (t.tuple_ty s w a fs l) =
       mark_list mark.ParenOpen ++ word_list w ++ mark_list mark.Colon ++ ty_list a ++ mark_list mark.Comma
       ++ fields_list fs ++ last_list l ++ mark_list mark.ParenClose
@@ -115,19 +123,12 @@ second_list x b =
 abbrev pub first_list : SWord → t.Ty → List Kind
 first_list w a = reserved_list word.Is ++ mark_list mark.ParenOpen ++ named_list w a
 
--- the heads of the forms that bind two names
-abbrev pub split_list : t.Msg → SWord → t.Ty → SWord → t.Ty → List Kind
-split_list m w b x c =
-    reserved_list word.Split ++ msg_list m ++ reserved_list word.Is ++ mark_list mark.ParenOpen ++ word_list w
-    ++ mark_list mark.Colon ++ ty_list b ++ mark_list mark.Comma ++ word_list x ++ mark_list mark.Colon
-    ++ ty_list c ++ mark_list mark.ParenClose ++ mark_list mark.Semicolon
+-- two names with their types, and those of a pair whose first part is a given message
+abbrev pub both_list : SWord → t.Ty → SWord → t.Ty → List Kind
+both_list w b x c = first_list w b ++ second_list x c
 
-abbrev pub match_list : t.Msg → SWord → t.Ty → t.Msg → SWord → t.Ty → List Kind
-match_list m w b n x c =
-    reserved_list word.Match ++ msg_list m ++ reserved_list word.Is ++ mark_list mark.ParenOpen ++ word_list w
-    ++ mark_list mark.Colon ++ ty_list b ++ mark_list mark.Equals ++ msg_list n ++ mark_list mark.Comma
-    ++ word_list x ++ mark_list mark.Colon ++ ty_list c ++ mark_list mark.ParenClose
-    ++ mark_list mark.Semicolon
+abbrev pub matched_list : SWord → t.Ty → t.Msg → SWord → t.Ty → List Kind
+matched_list w b n x c = first_list w b ++ mark_list mark.Equals ++ msg_list n ++ second_list x c
 
 abbrev pub side_list : Reserved → SWord → t.Ty → List Kind
 side_list side w a = reserved_list word.Is ++ reserved_list side ++ binder_list w a
@@ -138,47 +139,79 @@ open_list w a n =
     reserved_list word.Is ++ mark_list mark.BraceOpen ++ named_list w a ++ mark_list mark.BraceClose
     ++ msg_list n ++ mark_list mark.Semicolon
 
+-- a word and the message that it is about
+abbrev pub about_list : Reserved → t.Msg → List Kind
+about_list w m = reserved_list w ++ msg_list m
+
+-- a message and the semicolon
+abbrev pub ended_list : t.Msg → List Kind
+ended_list m = msg_list m ++ mark_list mark.Semicolon
+
+-- what a process begins with: a word, and the message that it is about
+abbrev pub opening_list : t.Proc → List Kind
+opening_list (t.par s p q) = []
+opening_list (t.out s m n) = about_list word.Out m
+opening_list (t.out_then s m n p) = about_list word.Out m
+opening_list (t.inp s m w b p) = about_list word.Inp m
+opening_list (t.repeat s m w b p) = reserved_list word.Repeat ++ about_list word.Inp m
+opening_list (t.split s m w b x c p) = about_list word.Split m
+opening_list (t.match s m w b n x c p) = about_list word.Match m
+opening_list (t.case s m w b p x c q) = about_list word.Case m
+opening_list (t.decrypt s m w b n p) = about_list word.Decrypt m
+opening_list (t.check s m n p) = about_list word.Check m
+opening_list (t.begin s m p) = about_list word.Begin m
+opening_list (t.end s m p) = about_list word.End m
+opening_list (t.end_many s m p) = about_list word.EndMany m
+opening_list (t.cast s m w b p) = about_list word.Cast m
+opening_list (t.new s w b p) = reserved_list word.New
+opening_list (t.stop s) = reserved_list word.Stop
+opening_list (t.group s p q) = mark_list mark.ParenOpen
+
+-- what stands behind that, up to the first process
+abbrev pub binding_list : t.Proc → List Kind
+binding_list (t.par s p q) = []
+binding_list (t.out s m n) = msg_list n
+binding_list (t.out_then s m n p) = ended_list n
+binding_list (t.inp s m w b p) = binder_list w b
+binding_list (t.repeat s m w b p) = binder_list w b
+binding_list (t.split s m w b x c p) = both_list w b x c
+binding_list (t.match s m w b n x c p) = matched_list w b n x c
+binding_list (t.case s m w b p x c q) = side_list word.Inl w b
+binding_list (t.decrypt s m w b n p) = open_list w b n
+binding_list (t.check s m n p) = reserved_list word.Is ++ ended_list n
+binding_list (t.begin s m p) = mark_list mark.Semicolon
+binding_list (t.end s m p) = mark_list mark.Semicolon
+binding_list (t.end_many s m p) = mark_list mark.Semicolon
+binding_list (t.cast s m w b p) = reserved_list word.Is ++ binder_list w b
+binding_list (t.new s w b p) = binder_list w b
+binding_list (t.stop s) = []
+binding_list (t.group s p q) = []
+
+-- what stands in front of the first process within a process
+abbrev pub leading_list : t.Proc → List Kind
+leading_list p = opening_list p ++ binding_list p
+
 abbrev pub proc_list : t.Proc → List Kind
 proc_list (t.par s p q) = proc_list p ++ mark_list mark.Bar ++ proc_list q
-proc_list (t.out s m n) = reserved_list word.Out ++ msg_list m ++ msg_list n
-proc_list (t.out_then s m n p) =
-    reserved_list word.Out ++ msg_list m ++ msg_list n ++ mark_list mark.Semicolon ++ proc_list p
-proc_list (t.inp s m w b p) =
-    reserved_list word.Inp ++ msg_list m ++ mark_list mark.ParenOpen ++ word_list w ++ mark_list mark.Colon
-    ++ ty_list b ++ mark_list mark.ParenClose ++ mark_list mark.Semicolon ++ proc_list p
-proc_list (t.repeat s m w b p) =
-    reserved_list word.Repeat ++ reserved_list word.Inp ++ msg_list m ++ mark_list mark.ParenOpen
-    ++ word_list w ++ mark_list mark.Colon ++ ty_list b ++ mark_list mark.ParenClose
-    ++ mark_list mark.Semicolon ++ proc_list p
-proc_list (t.split s m w b x c p) = split_list m w b x c ++ proc_list p
-proc_list (t.match s m w b n x c p) = match_list m w b n x c ++ proc_list p
+proc_list (t.out s m n) = leading_list (t.out s m n)
+proc_list (t.out_then s m n p) = leading_list (t.out_then s m n p) ++ proc_list p
+proc_list (t.inp s m w b p) = leading_list (t.inp s m w b p) ++ proc_list p
+proc_list (t.repeat s m w b p) = leading_list (t.repeat s m w b p) ++ proc_list p
+proc_list (t.split s m w b x c p) = leading_list (t.split s m w b x c p) ++ proc_list p
+proc_list (t.match s m w b n x c p) = leading_list (t.match s m w b n x c p) ++ proc_list p
 proc_list (t.case s m w b p x c q) =
-    reserved_list word.Case ++ msg_list m ++ reserved_list word.Is ++ reserved_list word.Inl
-    ++ mark_list mark.ParenOpen ++ word_list w ++ mark_list mark.Colon ++ ty_list b
-    ++ mark_list mark.ParenClose ++ mark_list mark.Semicolon ++ proc_list p ++ reserved_list word.Is
-    ++ reserved_list word.Inr ++ mark_list mark.ParenOpen ++ word_list x ++ mark_list mark.Colon ++ ty_list c
-    ++ mark_list mark.ParenClose ++ mark_list mark.Semicolon ++ proc_list q
-proc_list (t.decrypt s m w b n p) =
-    reserved_list word.Decrypt ++ msg_list m ++ reserved_list word.Is ++ mark_list mark.BraceOpen
-    ++ word_list w ++ mark_list mark.Colon ++ ty_list b ++ mark_list mark.BraceClose ++ msg_list n
-    ++ mark_list mark.Semicolon ++ proc_list p
-proc_list (t.check s m n p) =
-    reserved_list word.Check ++ msg_list m ++ reserved_list word.Is ++ msg_list n ++ mark_list mark.Semicolon
-    ++ proc_list p
-proc_list (t.begin s m p) = reserved_list word.Begin ++ msg_list m ++ mark_list mark.Semicolon ++ proc_list p
-proc_list (t.end s m p) = reserved_list word.End ++ msg_list m ++ mark_list mark.Semicolon ++ proc_list p
-proc_list (t.end_many s m p) =
-    reserved_list word.EndMany ++ msg_list m ++ mark_list mark.Semicolon ++ proc_list p
-proc_list (t.cast s m w b p) =
-    reserved_list word.Cast ++ msg_list m ++ reserved_list word.Is ++ mark_list mark.ParenOpen ++ word_list w
-    ++ mark_list mark.Colon ++ ty_list b ++ mark_list mark.ParenClose ++ mark_list mark.Semicolon
-    ++ proc_list p
-proc_list (t.new s w b p) =
-    reserved_list word.New ++ mark_list mark.ParenOpen ++ word_list w ++ mark_list mark.Colon ++ ty_list b
-    ++ mark_list mark.ParenClose ++ mark_list mark.Semicolon ++ proc_list p
-proc_list (t.stop s) = reserved_list word.Stop
+    leading_list (t.case s m w b p x c q) ++ proc_list p ++ side_list word.Inr x c ++ proc_list q
+proc_list (t.decrypt s m w b n p) = leading_list (t.decrypt s m w b n p) ++ proc_list p
+proc_list (t.check s m n p) = leading_list (t.check s m n p) ++ proc_list p
+proc_list (t.begin s m p) = leading_list (t.begin s m p) ++ proc_list p
+proc_list (t.end s m p) = leading_list (t.end s m p) ++ proc_list p
+proc_list (t.end_many s m p) = leading_list (t.end_many s m p) ++ proc_list p
+proc_list (t.cast s m w b p) = leading_list (t.cast s m w b p) ++ proc_list p
+proc_list (t.new s w b p) = leading_list (t.new s w b p) ++ proc_list p
+proc_list (t.stop s) = leading_list (t.stop s)
 proc_list (t.group s p q) =
-    mark_list mark.ParenOpen ++ proc_list p ++ mark_list mark.Bar ++ proc_list q ++ mark_list mark.ParenClose
+    leading_list (t.group s p q) ++ proc_list p ++ mark_list mark.Bar ++ proc_list q
+    ++ mark_list mark.ParenClose
 
 abbrev pub more_word_list : SWord → List Kind
 more_word_list w = mark_list mark.Comma ++ word_list w

@@ -135,6 +135,14 @@ abbrev pub binder_pieces : SWord → t.Ty → List Piece → List Piece
 binder_pieces w a r =
     a_mark mark.ParenOpen (named_pieces w a (a_mark mark.ParenClose (a_mark mark.Semicolon r)))
 
+-- the first of two names with its type, and the second with the rest of the head
+abbrev pub first_name_pieces : SWord → t.Ty → List Piece → List Piece
+first_name_pieces w a r = a_reserved word.Is (a_mark mark.ParenOpen (named_pieces w a r))
+
+abbrev pub second_name_pieces : SWord → t.Ty → List Piece → List Piece
+second_name_pieces w a r =
+    a_mark mark.Comma (named_pieces w a (a_mark mark.ParenClose (a_mark mark.Semicolon r)))
+
 -- where a process stands: in the place of a `Seq` of a nesting, or of an `SProc` of a level
 pub data Place : Type 0 where
   in_seq : ℕ → Place
@@ -175,24 +183,13 @@ proc_pieces a (t.repeat s m w b p) r =
     (a_reserved word.Inp (msg_pieces 1 m (binder_pieces w b (proc_pieces (below a) p (ends s r)))))
 proc_pieces a (t.split s m w b x c p) r =
     proc_begins a s (kinds.Reserved word.Split)
-    (msg_pieces 1 m
-    (a_reserved word.Is
-    (a_mark mark.ParenOpen
-    (named_pieces w b
-    (a_mark mark.Comma
-    (named_pieces x c
-    (a_mark mark.ParenClose (a_mark mark.Semicolon (proc_pieces (below a) p (ends s r))))))))))
+    (msg_pieces 1 m (first_name_pieces w b (second_name_pieces x c (proc_pieces (below a) p (ends s r)))))
 proc_pieces a (t.match s m w b n x c p) r =
     proc_begins a s (kinds.Reserved word.Match)
     (msg_pieces 1 m
-    (a_reserved word.Is
-    (a_mark mark.ParenOpen
-    (named_pieces w b
+    (first_name_pieces w b
     (a_mark mark.Equals
-    (msg_pieces 1 n
-    (a_mark mark.Comma
-    (named_pieces x c
-    (a_mark mark.ParenClose (a_mark mark.Semicolon (proc_pieces (below a) p (ends s r))))))))))))
+    (msg_pieces 1 n (second_name_pieces x c (proc_pieces (below a) p (ends s r)))))))
 proc_pieces a (t.case s m w b p x c q) r =
     proc_begins a s (kinds.Reserved word.Case)
     (msg_pieces 1 m

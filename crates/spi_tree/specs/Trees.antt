@@ -101,3 +101,7 @@ fields_of_list (f ∷ fs) = more_fields f.name f.ty (fields_of_list fs)
 abbrev pub derivs_of_list : List Deriv → Derivs
 derivs_of_list [] = no_derivs
 derivs_of_list (d ∷ ds) = more_derivs d (derivs_of_list ds)
+
+-- the span of what stands in no file
+abbrev pub nowhere : Span
+nowhere = record { from = 0; to = 0 }

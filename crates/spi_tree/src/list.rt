@@ -1,7 +1,7 @@
 //! Tokens put behind others.
 
 ghost use Rattle.std.specs.Prelude.{◌≡◌, ◌++◌, OnOk};
-ghost use Rattle.spi_tree.specs.Listed.{mark_list, reserved_list, number_list, word_list, literal_list};
+ghost use Rattle.spi_tree.specs.Listed.{mark_list, reserved_list, number_list, parens_list, numbered_list, word_list, literal_list};
 
 use crate::{NoMemory, SWord};
 use spi_lex::{Kind, Mark, Reserved};
@@ -30,6 +30,22 @@ pub fn put_number(out: &mut Vec<Kind>, number: u32) -> Result<(), NoMemory>
 {
     out.push(Kind::Number(number))?;
     Ok(())
+}
+
+/// Puts two parentheses with nothing between.
+pub fn put_parens(out: &mut Vec<Kind>) -> Result<(), NoMemory>
+    ensures { OnOk result (out.new.items ≡ out.old.items ++ parens_list) }
+{
+    put_mark(out, Mark::ParenOpen)?;
+    put_mark(out, Mark::ParenClose)
+}
+
+/// Puts a name by its number.
+pub fn put_numbered(out: &mut Vec<Kind>, number: u32) -> Result<(), NoMemory>
+    ensures { OnOk result (out.new.items ≡ out.old.items ++ numbered_list number) }
+{
+    put_mark(out, Mark::NumberSign)?;
+    put_number(out, number)
 }
 
 /// Puts a word that the grammar asks for by its spelling.

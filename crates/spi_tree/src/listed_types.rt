@@ -4,7 +4,7 @@ ghost use Rattle.std.specs.Prelude.{◌≡◌, ◌++◌, map, OnOk};
 ghost use Rattle.spi_tree.specs.Views.{msg_of, atom_of, ty_of, last_of, field_of};
 ghost use Rattle.spi_tree.specs.Listed.{joined, msg_list, more_list, atom_list, more_atom_list, effect_list, ty_list, field_list, last_list, named_list};
 
-use crate::list::{put_mark, put_number, put_reserved, put_word};
+use crate::list::{put_mark, put_numbered, put_parens, put_reserved, put_word};
 use crate::{Last, NoMemory, SAtom, SField, SMsg, STy, SWord};
 use spi_lex::{Kind, Mark, Reserved};
 use std::alloc::Global;
@@ -16,10 +16,7 @@ pub fn put_message(alloc: Global, out: &mut Vec<Kind>, message: &SMsg) -> Result
 {
     match message {
         SMsg::Name { name, .. } => put_word(alloc, out, name),
-        SMsg::Unit { .. } => {
-            put_mark(out, Mark::ParenOpen)?;
-            put_mark(out, Mark::ParenClose)
-        }
+        SMsg::Unit { .. } => put_parens(out),
         SMsg::Tuple {
             first,
             second,
@@ -54,10 +51,7 @@ pub fn put_message(alloc: Global, out: &mut Vec<Kind>, message: &SMsg) -> Result
             put_message(alloc, out, part)?;
             put_mark(out, Mark::ParenClose)
         }
-        SMsg::Num { number, .. } => {
-            put_mark(out, Mark::NumberSign)?;
-            put_number(out, *number)
-        }
+        SMsg::Num { number, .. } => put_numbered(out, *number),
     }
 }
 
@@ -122,10 +116,7 @@ pub fn put_type(alloc: Global, out: &mut Vec<Kind>, ty: &STy) -> Result<(), NoMe
 {
     match ty {
         STy::Un { .. } => put_reserved(out, Reserved::Un),
-        STy::Unit { .. } => {
-            put_mark(out, Mark::ParenOpen)?;
-            put_mark(out, Mark::ParenClose)
-        }
+        STy::Unit { .. } => put_parens(out),
         STy::Tuple {
             name,
             first,

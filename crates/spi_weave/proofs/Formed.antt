@@ -21,15 +21,7 @@ use Rattle.spi_heading.specs.Grammar.{shared_word, shared_pieces}
 use Rattle.spi_narrate.specs.Narrations as n
 use Rattle.spi_narrate.specs.Grammar.{line_pieces, roles_pieces, HasRole, whole_narration, IsNarration, is_later_narration}
 use Rattle.spi_weave.specs.Woven.{roles_together, sharing, woven}
-use Rattle.spi_weave.proofs.Forming.{IsFine, IsFineAt, known_stop, fits_sharing, fits_together, behind_shared, behind_decl, decl_then}
-
-known_process : (later : Bool) → IsKind (words_of later) (kinds.Reserved word.Process)
-known_process true = refl
-known_process false = refl
-
-known_opponent : (later : Bool) → IsKind (words_of later) (kinds.Reserved word.Opponent)
-known_opponent true = refl
-known_opponent false = refl
+use Rattle.spi_weave.proofs.Forming.{IsFine, IsFineAt, known_in_both, fits_sharing, fits_together, behind_shared, behind_decl, decl_then}
 
 -- ---- fine tokens, and what they are
 
@@ -176,7 +168,7 @@ fine_file : (x : n.Narration) → IsFine (is_later_narration x) (narrated_body x
     → IsFine (is_later_narration x) (decls_pieces x.decls (a_reserved word.Process (proc_pieces (at_level 0) (woven x).process (tail x))))
 fine_file x fine process =
     decls_then (is_later_narration x) x.decls _ _
-    (known_process (is_later_narration x), refl, process.1 (tail x) (known_opponent (is_later_narration x), refl, (known_stop (is_later_narration x), refl, tt))) fine
+    (known_in_both word.Process refl refl (is_later_narration x), refl, process.1 (tail x) (known_in_both word.Opponent refl refl (is_later_narration x), refl, (known_in_both word.Stop refl refl (is_later_narration x), refl, tt))) fine
 
 pub woven_formed : (x : n.Narration) → IsNarration x → IsWithin (whole_narration x) → AreKinds (kinds_in (whole_narration x)) → length x.shared ≤ 16 → length x.roles ≤ 8 → length x.lines ≤ 200
     → IsFile (woven x) × IsWithin (whole_file (woven x)) × AreKinds (tokens_of (woven x))

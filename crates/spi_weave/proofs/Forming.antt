@@ -6,6 +6,7 @@ use Rattle.std.proofs.lemmas.Bool.{le-ltb}
 use Rattle.spi_text.specs.declared.lines.Span.{Span}
 use Rattle.spi_lex.specs.declared.token.Kind.{Kind}
 use Rattle.spi_lex.specs.declared.token.Kind.TheVariants as kinds
+use Rattle.spi_lex.specs.declared.token.Reserved.{Reserved}
 use Rattle.spi_lex.specs.declared.token.Reserved.TheVariants as word
 use Rattle.spi_lex.specs.declared.token.Mark.TheVariants as mark
 use Rattle.spi_lex.specs.Words.{words_of}
@@ -75,25 +76,9 @@ IsFine later (cell k deep ∷ ps) = IsKind (words_of later) k × (deep ≡ false
 IsFine later (closes to ∷ ps) = IsFine later ps
 
 -- what both versions reserve
-known_out : (later : Bool) → IsKind (words_of later) (kinds.Reserved word.Out)
-known_out true = refl
-known_out false = refl
-
-known_inp : (later : Bool) → IsKind (words_of later) (kinds.Reserved word.Inp)
-known_inp true = refl
-known_inp false = refl
-
-known_un : (later : Bool) → IsKind (words_of later) (kinds.Reserved word.Un)
-known_un true = refl
-known_un false = refl
-
-known_new : (later : Bool) → IsKind (words_of later) (kinds.Reserved word.New)
-known_new true = refl
-known_new false = refl
-
-pub known_stop : (later : Bool) → IsKind (words_of later) (kinds.Reserved word.Stop)
-known_stop true = refl
-known_stop false = refl
+pub known_in_both : (w : Reserved) → IsKind (words_of true) (kinds.Reserved w) → IsKind (words_of false) (kinds.Reserved w) → (later : Bool) → IsKind (words_of later) (kinds.Reserved w)
+known_in_both w second first true = second
+known_in_both w second first false = first
 
 module _ (later : Bool) where
   fine_left : (ps qs : List Piece) → IsFine later (ps ++ qs) → IsFine later ps
@@ -207,11 +192,11 @@ module _ (later : Bool) where
   -- the parts of a message that is passed
   with_sent : (a : Place) (s : Span) (c : SWord) (m : t.Msg) (p : t.Proc) (r0 : List Piece) → nesting_of a ≤ 500 → IsKind (words_of later) (kinds.Word c.word) → IsMsg later false m → IsFine later (msg_pieces 1 m r0) → IsFineAt (below a) p → IsFineAt a (t.out_then s (name_spelled c) m p)
   with_sent a s c m p r0 u k i h g =
-      ((refl, i, g.0), λ r e. (known_out later, shallow (nesting_of a) u, (k, refl, msg_then m r0 (a_mark mark.Semicolon (proc_pieces (below a) p (ends s r))) (λ z. tail_fine a s p r g e) h)))
+      ((refl, i, g.0), λ r e. (known_in_both word.Out refl refl later, shallow (nesting_of a) u, (k, refl, msg_then m r0 (a_mark mark.Semicolon (proc_pieces (below a) p (ends s r))) (λ z. tail_fine a s p r g e) h)))
 
   with_received : (a : Place) (s : Span) (c x : SWord) (p : t.Proc) → nesting_of a ≤ 500 → IsKind (words_of later) (kinds.Word c.word) → IsKind (words_of later) (kinds.Word x.word) → IsFineAt (below a) p → IsFineAt a (t.inp s (name_spelled c) x (t.un x.span) p)
   with_received a s c x p u k l g =
-      ((refl, tt, g.0), λ r e. (known_inp later, shallow (nesting_of a) u, (k, refl, (tt, refl, (l, refl, (tt, refl, (known_un later, refl, (tt, refl, (tt, refl, g.1 (ends s r) e)))))))))
+      ((refl, tt, g.0), λ r e. (known_in_both word.Inp refl refl later, shallow (nesting_of a) u, (k, refl, (tt, refl, (l, refl, (tt, refl, (known_in_both word.Un refl refl later, refl, (tt, refl, (tt, refl, g.1 (ends s r) e)))))))))
 
   -- a process that fits wherever so many levels are left
   abbrev pub FitsLevels : ℕ → t.Proc → Type 0
@@ -237,7 +222,7 @@ module _ (later : Bool) where
       (fits_received (is_word to w) s c x p k h.2.2.2.2.0 behind.2.0 g)
 
   fits_role : (w : SWord) (ls : List n.Line) (r0 : List Piece) → AllByRecursion (IsLine later) ls → IsFine later (each_pieces line_pieces ls r0) → FitsLevels (2 * length ls) (role_process w ls)
-  fits_role w [] r0 i h a u = (tt, λ r e. (known_stop later, shallow (nesting_of a) (omega (arith, u)), e))
+  fits_role w [] r0 i h a u = (tt, λ r e. (known_in_both word.Stop refl refl later, shallow (nesting_of a) (omega (arith, u)), e))
   fits_role w (l ∷ ls) r0 i h a u =
       fits_part w l (role_process w ls) (2 * length ls) (each_pieces line_pieces ls r0) i.0 h
       (fits_role w ls r0 i.1 (behind_line l (each_pieces line_pieces ls r0) h)) a (omega (arith, u))
@@ -252,7 +237,7 @@ module _ (later : Bool) where
         ((one.0, more.0), λ r e. one.1 _ (tt, refl, more.1 _ e))
 
     pub fits_together : (ws : List SWord) → FitsLevels (length ws + (2 + 2 * length ls)) (roles_together ls ws)
-    fits_together [] a u = (tt, λ r e. (known_stop later, shallow (nesting_of a) (omega (arith, u)), e))
+    fits_together [] a u = (tt, λ r e. (known_in_both word.Stop refl refl later, shallow (nesting_of a) (omega (arith, u)), e))
     fits_together (w ∷ []) a u = fits_role w ls r0 are fine a (omega (arith, u))
     fits_together (w ∷ q ∷ ws) a u =
         let one = fits_role w ls r0 are fine (below a) (omega (arith, u)) in
@@ -269,4 +254,4 @@ module _ (later : Bool) where
   fits_sharing [] p k r0 i h g a u = g a (omega (arith, u))
   fits_sharing (x ∷ xs) p k r0 i h g a u =
       let more = fits_sharing xs p k r0 i.1 (behind_shared x _ h) g (below a) (omega (arith, u)) in
-      ((i.0, more.0), λ r e. (known_new later, shallow (nesting_of a) (omega (arith, u)), (tt, refl, named_then x.name x.ty (a_mark mark.Semicolon (ends x.span (each_pieces shared_pieces xs r0))) (a_mark mark.ParenClose (a_mark mark.Semicolon (proc_pieces (below a) (sharing xs p) (ends x.span r)))) (λ z. closed_fine a x.span (sharing xs p) r more e) h.2)))
+      ((i.0, more.0), λ r e. (known_in_both word.New refl refl later, shallow (nesting_of a) (omega (arith, u)), (tt, refl, named_then x.name x.ty (a_mark mark.Semicolon (ends x.span (each_pieces shared_pieces xs r0))) (a_mark mark.ParenClose (a_mark mark.Semicolon (proc_pieces (below a) (sharing xs p) (ends x.span r)))) (λ z. closed_fine a x.span (sharing xs p) r more e) h.2)))

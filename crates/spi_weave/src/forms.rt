@@ -8,200 +8,168 @@ ghost use Rattle.spi_weave.specs.Woven.{prefixed, name_spelled, sent, received};
 
 use crate::NoMemory;
 use crate::copies::{message, ty, word};
+use spi_heading::Named;
 use spi_narrate::Prefix;
 use spi_text::Span;
 use spi_tree::{SMsg, SProc, STy, SWord};
 use std::alloc::Global;
 
-fn split(
+/// A process, or memory ran out.
+type Made = Result<SProc, NoMemory>;
+
+/// A form that is to be made: the process that follows it, and where it stands.
+#[derive(Drop)]
+pub struct Form {
     alloc: Global,
-    whole: &SMsg,
-    left: (&SWord, &STy),
-    right: (&SWord, &STy),
-    then: SProc,
+    then: Box<SProc>,
     span: Span,
-) -> Result<SProc, NoMemory>
-    ensures { IfOk result
-        (λ p. proc_of p
-        ≡ t.split span (msg_of whole.now) left.entry.0.now (ty_of left.entry.1.now) right.entry.0.now
-        (ty_of right.entry.1.now) (proc_of then)) }
-{
-    let then = Box::new(alloc, then)?;
-    Ok(SProc::Split {
-        whole: message(alloc, whole)?,
-        left: word(alloc, left.0)?,
-        left_ty: ty(alloc, left.1)?,
-        right: word(alloc, right.0)?,
-        right_ty: ty(alloc, right.1)?,
-        then,
-        span,
-    })
 }
 
-fn select(
-    alloc: Global,
-    whole: &SMsg,
-    left: (&SWord, &STy),
-    equal: &SMsg,
-    right: (&SWord, &STy),
-    then: SProc,
-    span: Span,
-) -> Result<SProc, NoMemory>
-    ensures { IfOk result
-        (λ p. proc_of p
-        ≡ t.match span (msg_of whole.now) left.entry.0.now (ty_of left.entry.1.now) (msg_of equal.now)
-        right.entry.0.now (ty_of right.entry.1.now) (proc_of then)) }
-{
-    let then = Box::new(alloc, then)?;
-    Ok(SProc::Match {
-        whole: message(alloc, whole)?,
-        left: word(alloc, left.0)?,
-        left_ty: ty(alloc, left.1)?,
-        equal: message(alloc, equal)?,
-        right: word(alloc, right.0)?,
-        right_ty: ty(alloc, right.1)?,
-        then,
-        span,
-    })
-}
+impl Form {
+    /// A form at `span`, before the process that follows.
+    pub fn before(alloc: Global, then: SProc, span: Span) -> Result<Form, NoMemory>
+        ensures { IfOk result (λ form. (form.then.value ≡ then) × (form.span ≡ span)) }
+    {
+        let then = Box::new(alloc, then)?;
+        Ok(Form { alloc, then, span })
+    }
 
-fn decrypt(
-    alloc: Global,
-    whole: &SMsg,
-    name: (&SWord, &STy),
-    key: &SMsg,
-    then: SProc,
-    span: Span,
-) -> Result<SProc, NoMemory>
-    ensures { IfOk result
-        (λ p. proc_of p
-        ≡ t.decrypt span (msg_of whole.now) name.entry.0.now (ty_of name.entry.1.now) (msg_of key.now)
-        (proc_of then)) }
-{
-    let then = Box::new(alloc, then)?;
-    Ok(SProc::Decrypt {
-        whole: message(alloc, whole)?,
-        name: word(alloc, name.0)?,
-        ty: ty(alloc, name.1)?,
-        key: message(alloc, key)?,
-        then,
-        span,
-    })
-}
+    fn split(self, whole: &SMsg, left: &Named, right: &Named) -> Made
+        ensures { IfOk result
+            (λ p. proc_of p
+            ≡ t.split self.span (msg_of whole.now) left.now.name (ty_of left.now.ty) right.now.name
+            (ty_of right.now.ty) (proc_of self.then.value)) }
+    {
+        Ok(SProc::Split {
+            whole: message(self.alloc, whole)?,
+            left: word(self.alloc, &left.name)?,
+            left_ty: ty(self.alloc, &left.ty)?,
+            right: word(self.alloc, &right.name)?,
+            right_ty: ty(self.alloc, &right.ty)?,
+            then: self.then,
+            span: self.span,
+        })
+    }
 
-fn cast(
-    alloc: Global,
-    whole: &SMsg,
-    name: &SWord,
-    a: &STy,
-    then: SProc,
-    span: Span,
-) -> Result<SProc, NoMemory>
-    ensures { IfOk result
-        (λ p. proc_of p ≡ t.cast span (msg_of whole.now) name.now (ty_of a.now) (proc_of then)) }
-{
-    let then = Box::new(alloc, then)?;
-    Ok(SProc::Cast {
-        whole: message(alloc, whole)?,
-        name: word(alloc, name)?,
-        ty: ty(alloc, a)?,
-        then,
-        span,
-    })
-}
+    fn select(self, whole: &SMsg, left: &Named, equal: &SMsg, right: &Named) -> Made
+        ensures { IfOk result
+            (λ p. proc_of p
+            ≡ t.match self.span (msg_of whole.now) left.now.name (ty_of left.now.ty) (msg_of equal.now)
+            right.now.name (ty_of right.now.ty) (proc_of self.then.value)) }
+    {
+        Ok(SProc::Match {
+            whole: message(self.alloc, whole)?,
+            left: word(self.alloc, &left.name)?,
+            left_ty: ty(self.alloc, &left.ty)?,
+            equal: message(self.alloc, equal)?,
+            right: word(self.alloc, &right.name)?,
+            right_ty: ty(self.alloc, &right.ty)?,
+            then: self.then,
+            span: self.span,
+        })
+    }
 
-/// `new (x: T); P`
-pub fn new(alloc: Global, name: &SWord, a: &STy, then: SProc, span: Span) -> Result<SProc, NoMemory>
-    ensures { IfOk result (λ p. proc_of p ≡ t.new span name.now (ty_of a.now) (proc_of then)) }
-{
-    let then = Box::new(alloc, then)?;
-    Ok(SProc::New {
-        name: word(alloc, name)?,
-        ty: ty(alloc, a)?,
-        then,
-        span,
-    })
-}
+    fn decrypt(self, whole: &SMsg, bound: &Named, key: &SMsg) -> Made
+        ensures { IfOk result
+            (λ p. proc_of p
+            ≡ t.decrypt self.span (msg_of whole.now) bound.now.name (ty_of bound.now.ty) (msg_of key.now)
+            (proc_of self.then.value)) }
+    {
+        Ok(SProc::Decrypt {
+            whole: message(self.alloc, whole)?,
+            name: word(self.alloc, &bound.name)?,
+            ty: ty(self.alloc, &bound.ty)?,
+            key: message(self.alloc, key)?,
+            then: self.then,
+            span: self.span,
+        })
+    }
 
-fn check(
-    alloc: Global,
-    whole: &SMsg,
-    nonce: &SMsg,
-    then: SProc,
-    span: Span,
-) -> Result<SProc, NoMemory>
-    ensures { IfOk result
-        (λ p. proc_of p ≡ t.check span (msg_of whole.now) (msg_of nonce.now) (proc_of then)) }
-{
-    let then = Box::new(alloc, then)?;
-    Ok(SProc::Check {
-        whole: message(alloc, whole)?,
-        nonce: message(alloc, nonce)?,
-        then,
-        span,
-    })
+    fn check(self, whole: &SMsg, nonce: &SMsg) -> Made
+        ensures { IfOk result
+            (λ p. proc_of p
+            ≡ t.check self.span (msg_of whole.now) (msg_of nonce.now) (proc_of self.then.value)) }
+    {
+        Ok(SProc::Check {
+            whole: message(self.alloc, whole)?,
+            nonce: message(self.alloc, nonce)?,
+            then: self.then,
+            span: self.span,
+        })
+    }
+
+    fn cast(self, whole: &SMsg, bound: &Named) -> Made
+        ensures { IfOk result
+            (λ p. proc_of p
+            ≡ t.cast self.span (msg_of whole.now) bound.now.name (ty_of bound.now.ty)
+            (proc_of self.then.value)) }
+    {
+        Ok(SProc::Cast {
+            whole: message(self.alloc, whole)?,
+            name: word(self.alloc, &bound.name)?,
+            ty: ty(self.alloc, &bound.ty)?,
+            then: self.then,
+            span: self.span,
+        })
+    }
+
+    /// `new (x: T); P`
+    pub fn new(self, name: &SWord, a: &STy) -> Made
+        ensures { IfOk result
+            (λ p. proc_of p ≡ t.new self.span name.now (ty_of a.now) (proc_of self.then.value)) }
+    {
+        Ok(SProc::New {
+            name: word(self.alloc, name)?,
+            ty: ty(self.alloc, a)?,
+            then: self.then,
+            span: self.span,
+        })
+    }
 }
 
 /// The form that a line at `span` makes of a prefix, before the process that follows.
 pub fn prefixed(alloc: Global, span: Span, prefix: &Prefix, then: SProc) -> Result<SProc, NoMemory>
     ensures { IfOk result (λ p. proc_of p ≡ prefixed span (prefix_of prefix.now) (proc_of then)) }
 {
+    let form = Form::before(alloc, then, span)?;
     match prefix {
         Prefix::Split {
             whole,
             left,
-            left_ty,
             right,
-            right_ty,
             ..
-        } => split(alloc, whole, (left, left_ty), (right, right_ty), then, span),
+        } => form.split(whole, left, right),
         Prefix::Match {
             whole,
             left,
-            left_ty,
             equal,
             right,
-            right_ty,
             ..
-        } => select(
-            alloc,
-            whole,
-            (left, left_ty),
-            equal,
-            (right, right_ty),
-            then,
-            span,
-        ),
+        } => form.select(whole, left, equal, right),
         Prefix::Decrypt {
             whole,
-            name,
-            ty,
+            bound,
             key,
             ..
-        } => decrypt(alloc, whole, (name, ty), key, then, span),
-        Prefix::Check { whole, nonce, .. } => check(alloc, whole, nonce, then, span),
+        } => form.decrypt(whole, bound, key),
+        Prefix::Check { whole, nonce, .. } => form.check(whole, nonce),
         Prefix::Begin { label, .. } => Ok(SProc::Begin {
             label: message(alloc, label)?,
-            then: Box::new(alloc, then)?,
+            then: form.then,
             span,
         }),
         Prefix::End { label, .. } => Ok(SProc::End {
             label: message(alloc, label)?,
-            then: Box::new(alloc, then)?,
+            then: form.then,
             span,
         }),
         Prefix::EndMany { label, .. } => Ok(SProc::EndMany {
             label: message(alloc, label)?,
-            then: Box::new(alloc, then)?,
+            then: form.then,
             span,
         }),
-        Prefix::Cast {
-            whole,
-            name,
-            ty,
-            ..
-        } => cast(alloc, whole, name, ty, then, span),
-        Prefix::New { name, ty, .. } => new(alloc, name, ty, then, span),
+        Prefix::Cast { whole, bound, .. } => form.cast(whole, bound),
+        Prefix::New { bound, .. } => form.new(&bound.name, &bound.ty),
     }
 }
 

@@ -7,7 +7,7 @@ ghost use Rattle.spi_heading.specs.Views.{shared_of};
 ghost use Rattle.spi_weave.specs.Woven.{is_word, role_part, role_process, roles_beside, roles_together, sharing, last_span};
 
 use crate::NoMemory;
-use crate::forms::{new, prefixed, received, sent};
+use crate::forms::{Form, prefixed, received, sent};
 use spi_heading::Shared;
 use spi_narrate::Line;
 use spi_text::Span;
@@ -77,7 +77,7 @@ pub fn sharing(alloc: Global, shared: &[Shared], then: SProc) -> Result<SProc, N
     let mut process = then;
     for at in (0..shared.len()).rev() {
         let Shared { name, ty, span } = &shared[at];
-        process = new(alloc, name, ty, process, *span)?;
+        process = Form::before(alloc, process, *span)?.new(name, ty)?;
     }
     Ok(process)
 }

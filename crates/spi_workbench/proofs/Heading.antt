@@ -7,7 +7,7 @@ use Rattle.spi_tree.specs.declared.tree.SProc.{SProc}
 use Rattle.spi_tree.specs.declared.tree.Tree.{Tree}
 use Rattle.spi_tree.specs.Trees as t
 use Rattle.spi_tree.specs.Views.{proc_of, file_of}
-use Rattle.spi_heading.specs.Headings.{Shared}
+use Rattle.spi_heading.specs.Headings.{Shared, with_shared}
 use Rattle.spi_term.specs.Spelling.{Spelling}
 use Rattle.spi_scope.specs.declared.fault.ScopeFault.TheVariants.{FileTooLarge}
 use Rattle.spi_scope.specs.Scope.{Names, Abbreviations}
@@ -18,7 +18,7 @@ use Rattle.spi_scope.specs.StandsFor.{StandsFor, Meant}
 use Rattle.spi_scope.proofs.Counting.{weight, names_weigh}
 use Rattle.spi_scope.proofs.Indexing.{all_over}
 use Rattle.spi_edits.specs.Edits.{Bench}
-use Rattle.spi_workbench.specs.Reading.{behind_shared, file_with, free_names, abbreviations_of, with_shared, part_meant}
+use Rattle.spi_workbench.specs.Reading.{behind_shared, file_with, free_names, abbreviations_of, part_meant}
 use Rattle.spi_workbench.specs.Counting.{all_added, shared_points, heading_nodes, part_nodes}
 use Rattle.spi_workbench.specs.Behind.{StandsBehind}
 use Rattle.spi_workbench.specs.Work.{IsHeaded}

@@ -3,7 +3,7 @@ use Rattle.std.proofs.Common.{◌≡◌, ℕ, suc, ◌+◌, ◌-◌, ◌≤◌, 
 use Rattle.std.proofs.lemmas.List.{map-append}
 use Rattle.std.proofs.Math.Seq.{drop-append_seam, take-append_seam}
 use Rattle.spi_tree.specs.Trees as t
-use Rattle.spi_heading.specs.Headings.{Shared}
+use Rattle.spi_heading.specs.Headings.{Shared, with_shared}
 use Rattle.spi_term.specs.Term.{Ty, Freshes, Process, leaf, prefix, fork, binds, fork_binds, process_size}
 use Rattle.spi_term.specs.Spelling.{Shape, prefix_at, fork_at, flat, spelled, Spelling}
 use Rattle.spi_term.proofs.Terms.{over_more_ty}
@@ -13,7 +13,7 @@ use Rattle.spi_scope.specs.Meaning.{process_in, process_over}
 use Rattle.spi_scope.specs.Over.{AreAbbreviationsOver}
 use Rattle.spi_scope.specs.StandsFor.{over_free}
 use Rattle.spi_scope.proofs.Indexing.{nodes_spell}
-use Rattle.spi_workbench.specs.Reading.{behind_shared, with_shared, types_in}
+use Rattle.spi_workbench.specs.Reading.{behind_shared, types_in}
 use Rattle.spi_workbench.specs.Behind.{earlier, StandsBehind, type_made}
 
 -- the nodes of a process that stand n places earlier

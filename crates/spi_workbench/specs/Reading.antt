@@ -3,7 +3,7 @@ use Rattle.std.specs.Prelude.{ℕ, List, [], ◌∷◌, length, None}
 use Rattle.spi_tree.specs.Trees as t
 use Rattle.spi_term.specs.Term.{Ty}
 use Rattle.spi_term.specs.Spelling.{Spelling}
-use Rattle.spi_heading.specs.Headings.{Shared}
+use Rattle.spi_heading.specs.Headings.{Shared, with_shared}
 use Rattle.spi_scope.specs.Scope.{Names, Abbreviations}
 use Rattle.spi_scope.specs.Meaning.{type_in}
 use Rattle.spi_scope.specs.Points.{all_names, all_types}
@@ -38,11 +38,6 @@ free_names b = all_names [] b.decls
 
 abbrev pub abbreviations_of : Bench → Abbreviations
 abbreviations_of b = all_types [] [] b.decls
-
--- the names in scope behind shared names, each of which hides an earlier one of its spelling
-abbrev pub with_shared : Names → List Shared → Names
-with_shared xs [] = xs
-with_shared xs (s ∷ ss) = with_shared (s.name.word ∷ xs) ss
 
 -- the names in scope in a part
 abbrev pub part_names : Bench → Names

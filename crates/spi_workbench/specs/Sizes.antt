@@ -62,26 +62,44 @@ abbrev mutual
   last_size z (t.bare a) = ty_size z a
   last_size z (t.named w a) = ty_size z a
 
+-- a form without the processes behind it
+abbrev pub form_size : (Word → ℕ) → t.Proc → ℕ
+form_size z (t.par s p q) = 1
+form_size z (t.out s m n) = 1 + (msg_size m + msg_size n)
+form_size z (t.out_then s m n p) = 1 + (1 + (msg_size m + msg_size n))
+form_size z (t.inp s m x a p) = 1 + (msg_size m + ty_size z a)
+form_size z (t.repeat s m x a p) = 1 + (msg_size m + ty_size z a)
+form_size z (t.split s m x a y c p) = 1 + (msg_size m + ty_size z a) + ty_size z c
+form_size z (t.match s m x a n y c p) = 1 + (msg_size m + ty_size z a) + (msg_size n + ty_size z c)
+form_size z (t.case s m x a p y c q) = 1 + (msg_size m + ty_size z a) + ty_size z c
+form_size z (t.decrypt s m x a n p) = 1 + (msg_size m + ty_size z a) + msg_size n
+form_size z (t.check s m n p) = 1 + (msg_size m + msg_size n)
+form_size z (t.begin s m p) = 1 + msg_size m
+form_size z (t.end s m p) = 1 + msg_size m
+form_size z (t.end_many s m p) = 1 + msg_size m
+form_size z (t.cast s m x a p) = 1 + (msg_size m + ty_size z a)
+form_size z (t.new s x a p) = 1 + ty_size z a
+form_size z (t.stop s) = 1
+form_size z (t.group s p q) = 1
+
 abbrev pub proc_size : (Word → ℕ) → t.Proc → ℕ
-proc_size z (t.par s p q) = 1 + (proc_size z p + proc_size z q)
-proc_size z (t.out s m n) = 1 + (msg_size m + msg_size n)
-proc_size z (t.out_then s m n p) = 1 + (msg_size m + msg_size n) + (1 + proc_size z p)
-proc_size z (t.inp s m x a p) = 1 + (msg_size m + ty_size z a) + proc_size z p
-proc_size z (t.repeat s m x a p) = 1 + (msg_size m + ty_size z a) + proc_size z p
-proc_size z (t.split s m x a y c p) = 1 + (msg_size m + ty_size z a) + (ty_size z c + proc_size z p)
-proc_size z (t.match s m x a n y c p) =
-    1 + (msg_size m + ty_size z a) + (msg_size n + ty_size z c) + proc_size z p
-proc_size z (t.case s m x a p y c q) =
-    1 + (msg_size m + ty_size z a) + (proc_size z p + (ty_size z c + proc_size z q))
-proc_size z (t.decrypt s m x a n p) = 1 + (msg_size m + ty_size z a) + (msg_size n + proc_size z p)
-proc_size z (t.check s m n p) = 1 + (msg_size m + msg_size n) + proc_size z p
-proc_size z (t.begin s m p) = 1 + msg_size m + proc_size z p
-proc_size z (t.end s m p) = 1 + msg_size m + proc_size z p
-proc_size z (t.end_many s m p) = 1 + msg_size m + proc_size z p
-proc_size z (t.cast s m x a p) = 1 + (msg_size m + ty_size z a) + proc_size z p
-proc_size z (t.new s x a p) = 1 + ty_size z a + proc_size z p
-proc_size z (t.stop s) = 1
-proc_size z (t.group s p q) = 1 + (proc_size z p + proc_size z q)
+proc_size z (t.par s p q) = form_size z (t.par s p q) + proc_size z p + proc_size z q
+proc_size z (t.out s m n) = form_size z (t.out s m n)
+proc_size z (t.out_then s m n p) = form_size z (t.out_then s m n p) + proc_size z p
+proc_size z (t.inp s m x a p) = form_size z (t.inp s m x a p) + proc_size z p
+proc_size z (t.repeat s m x a p) = form_size z (t.repeat s m x a p) + proc_size z p
+proc_size z (t.split s m x a y c p) = form_size z (t.split s m x a y c p) + proc_size z p
+proc_size z (t.match s m x a n y c p) = form_size z (t.match s m x a n y c p) + proc_size z p
+proc_size z (t.case s m x a p y c q) = form_size z (t.case s m x a p y c q) + proc_size z p + proc_size z q
+proc_size z (t.decrypt s m x a n p) = form_size z (t.decrypt s m x a n p) + proc_size z p
+proc_size z (t.check s m n p) = form_size z (t.check s m n p) + proc_size z p
+proc_size z (t.begin s m p) = form_size z (t.begin s m p) + proc_size z p
+proc_size z (t.end s m p) = form_size z (t.end s m p) + proc_size z p
+proc_size z (t.end_many s m p) = form_size z (t.end_many s m p) + proc_size z p
+proc_size z (t.cast s m x a p) = form_size z (t.cast s m x a p) + proc_size z p
+proc_size z (t.new s x a p) = form_size z (t.new s x a p) + proc_size z p
+proc_size z (t.stop s) = form_size z (t.stop s)
+proc_size z (t.group s p q) = form_size z (t.group s p q) + proc_size z p + proc_size z q
 
 abbrev pub shared_size : (Word → ℕ) → List Shared → ℕ
 shared_size z [] = 0

@@ -3,35 +3,19 @@
 ghost use Rattle.std.specs.Prelude.{◌≡◌, ◌+◌, ◌≤◌, map, take, IfOk};
 ghost use Rattle.spi_term.specs.Term.{process_size};
 ghost use Rattle.spi_term.specs.Spelling.{Spelling, spelled};
-ghost use Rattle.spi_term.specs.View.{ty as type_value, shape_of};
-ghost use Rattle.spi_workbench.specs.Behind.{earlier, StandsBehind, type_made};
+ghost use Rattle.spi_term.specs.View.{ty as type_value, shape_of_form, shape_of};
+ghost use Rattle.spi_workbench.specs.Behind.{opening_form, plain_form, kind_of_form, earlier, IsEarlier, StandsBehind, type_made};
 
 use crate::NoMemory;
 use spi_term::{Form, Node, Process, Ty};
 use std::alloc::Global;
 
-/// A form with one process that receives: its parts, and its process so many places earlier.
-fn form_earlier(alloc: Global, form: &Form, n: u32) -> Result<Form, NoMemory>
-    ensures { IfOk result
-        (λ f. (k : Rattle.std.specs.Prelude.ℕ)
-        → Rattle.spi_term.specs.View.shape_of_form k f
-        ≡ earlier n (Rattle.spi_term.specs.View.shape_of_form k form.now)) }
+/// A form that takes a message apart: its parts, and its process so many places earlier.
+fn opening_earlier(alloc: Global, form: &Form, n: u32) -> Result<Form, NoMemory>
+    requires { kind_of_form (shape_of_form 0 form.now) ≡ opening_form }
+    ensures { IfOk result (λ f. IsEarlier n form.now f) }
 {
     Ok(match form {
-        Form::Send { channel, datum } => Form::Send {
-            channel: channel.copy(alloc)?,
-            datum: datum.copy(alloc)?,
-        },
-        Form::Recv { channel, ty, body } => Form::Recv {
-            channel: channel.copy(alloc)?,
-            ty: ty.copy(alloc)?,
-            body: body.saturating_sub(n),
-        },
-        Form::Serve { channel, ty, body } => Form::Serve {
-            channel: channel.copy(alloc)?,
-            ty: ty.copy(alloc)?,
-            body: body.saturating_sub(n),
-        },
         Form::Split {
             whole,
             first,
@@ -56,19 +40,6 @@ fn form_earlier(alloc: Global, form: &Form, n: u32) -> Result<Form, NoMemory>
             second: second.copy(alloc)?,
             body: body.saturating_sub(n),
         },
-        Form::Branch {
-            whole,
-            left,
-            on_left,
-            right,
-            on_right,
-        } => Form::Branch {
-            whole: whole.copy(alloc)?,
-            left: left.copy(alloc)?,
-            on_left: on_left.saturating_sub(n),
-            right: right.copy(alloc)?,
-            on_right: on_right.saturating_sub(n),
-        },
         Form::Decrypt {
             whole,
             ty,
@@ -78,6 +49,26 @@ fn form_earlier(alloc: Global, form: &Form, n: u32) -> Result<Form, NoMemory>
             whole: whole.copy(alloc)?,
             ty: ty.copy(alloc)?,
             key: key.copy(alloc)?,
+            body: body.saturating_sub(n),
+        },
+        _ => unreachable!(),
+    })
+}
+
+/// Another form with one process: its parts, and its process so many places earlier.
+fn plain_earlier(alloc: Global, form: &Form, n: u32) -> Result<Form, NoMemory>
+    requires { kind_of_form (shape_of_form 0 form.now) ≡ plain_form }
+    ensures { IfOk result (λ f. IsEarlier n form.now f) }
+{
+    Ok(match form {
+        Form::Recv { channel, ty, body } => Form::Recv {
+            channel: channel.copy(alloc)?,
+            ty: ty.copy(alloc)?,
+            body: body.saturating_sub(n),
+        },
+        Form::Serve { channel, ty, body } => Form::Serve {
+            channel: channel.copy(alloc)?,
+            ty: ty.copy(alloc)?,
             body: body.saturating_sub(n),
         },
         Form::Check { whole, nonce, body } => Form::Check {
@@ -106,11 +97,48 @@ fn form_earlier(alloc: Global, form: &Form, n: u32) -> Result<Form, NoMemory>
             ty: ty.copy(alloc)?,
             body: body.saturating_sub(n),
         },
+        _ => unreachable!(),
+    })
+}
+
+/// A form: its parts, and its processes so many places earlier.
+fn form_earlier(alloc: Global, form: &Form, n: u32) -> Result<Form, NoMemory>
+    ensures { IfOk result (λ f. IsEarlier n form.now f) }
+{
+    Ok(match form {
+        Form::Send { channel, datum } => Form::Send {
+            channel: channel.copy(alloc)?,
+            datum: datum.copy(alloc)?,
+        },
+        Form::Branch {
+            whole,
+            left,
+            on_left,
+            right,
+            on_right,
+        } => Form::Branch {
+            whole: whole.copy(alloc)?,
+            left: left.copy(alloc)?,
+            on_left: on_left.saturating_sub(n),
+            right: right.copy(alloc)?,
+            on_right: on_right.saturating_sub(n),
+        },
         Form::Par { first, rest } => Form::Par {
             first: first.saturating_sub(n),
             rest: rest.saturating_sub(n),
         },
         Form::Stop => Form::Stop,
+        Form::Split { .. } | Form::Select { .. } | Form::Decrypt { .. } => {
+            opening_earlier(alloc, form, n)?
+        }
+        Form::Recv { .. }
+        | Form::Serve { .. }
+        | Form::Check { .. }
+        | Form::Begin { .. }
+        | Form::End { .. }
+        | Form::EndMany { .. }
+        | Form::Cast { .. }
+        | Form::Fresh { .. } => plain_earlier(alloc, form, n)?,
     })
 }
 

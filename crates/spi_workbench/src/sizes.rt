@@ -4,7 +4,7 @@ ghost use Rattle.std.specs.Prelude.{◌≡◌, ◌+◌, map};
 ghost use Rattle.spi_tree.specs.Trees.{msgs_of_list, fields_of_list};
 ghost use Rattle.spi_tree.specs.Views.{msg_of, atom_of, ty_of, field_of, last_of, proc_of};
 ghost use Rattle.spi_term.specs.Spelling.{stopped};
-ghost use Rattle.spi_workbench.specs.Sizes.{nodes_in_words, msg_size, msgs_size, atom_size, atoms_size, ty_size, fields_size, last_size, proc_size};
+ghost use Rattle.spi_workbench.specs.Sizes.{nodes_in_words, msg_size, msgs_size, atom_size, atoms_size, ty_size, fields_size, last_size, form_size, proc_size};
 
 use indexmap::IndexMap;
 use spi_tree::{Last, SAtom, SField, SMsg, SProc, STy, SWord};
@@ -138,119 +138,97 @@ fn last_nodes(sizes: &Sizes, end: &Last) -> u64
     }
 }
 
-/// A form with one message and one annotation.
+/// Two messages under one node.
+fn paired_nodes(m: &SMsg, n: &SMsg) -> u64
+    ensures { result ≡ stopped (1 + (msg_size (msg_of m.now) + msg_size (msg_of n.now))) }
+{
+    one_over(message_nodes(m), message_nodes(n))
+}
+
+/// A message and an annotation under one node.
 fn typed_nodes(sizes: &Sizes, m: &SMsg, t: &STy) -> u64
     ensures { result ≡ stopped (1 + (msg_size (msg_of m.now) + ty_size (nodes_in_words sizes.now) (ty_of t.now))) }
 {
     one_over(message_nodes(m), type_nodes(sizes, t))
 }
 
-/// How many nodes the process has, with the abbreviations expanded. The count stops at the greatest `u64`.
-pub fn process_nodes(sizes: &Sizes, p: &SProc) -> u64
-    ensures { result ≡ stopped (proc_size (nodes_in_words sizes.now) (proc_of p.now)) }
+/// The nodes of a form without the processes behind it: its own, and those of its messages and its annotations.
+fn form_nodes(sizes: &Sizes, p: &SProc) -> u64
+    ensures { result ≡ stopped (form_size (nodes_in_words sizes.now) (proc_of p.now)) }
 {
     match p {
-        SProc::Par { first, rest, .. } => {
-            one_over(process_nodes(sizes, first), process_nodes(sizes, rest))
+        SProc::Par { .. } | SProc::Group { .. } | SProc::Stop { .. } => 1,
+        SProc::Out { channel, datum, .. } => paired_nodes(channel, datum),
+        SProc::OutThen { channel, datum, .. } => one_more(paired_nodes(channel, datum)),
+        SProc::Inp { channel, ty, .. } | SProc::Repeat { channel, ty, .. } => {
+            typed_nodes(sizes, channel, ty)
         }
-        SProc::Out { channel, datum, .. } => {
-            one_over(message_nodes(channel), message_nodes(datum))
-        }
-        SProc::OutThen {
-            channel,
-            datum,
-            then,
-            ..
-        } => {
-            let head = one_over(message_nodes(channel), message_nodes(datum));
-            head.saturating_add(one_more(process_nodes(sizes, then)))
-        }
-        SProc::Inp {
-            channel,
-            ty,
-            then,
-            ..
-        } => typed_nodes(sizes, channel, ty).saturating_add(process_nodes(sizes, then)),
-        SProc::Repeat {
-            channel,
-            ty,
-            then,
-            ..
-        } => typed_nodes(sizes, channel, ty).saturating_add(process_nodes(sizes, then)),
         SProc::Split {
             whole,
             left_ty,
             right_ty,
-            then,
             ..
-        } => {
-            let rest = type_nodes(sizes, right_ty).saturating_add(process_nodes(sizes, then));
-            typed_nodes(sizes, whole, left_ty).saturating_add(rest)
         }
+        | SProc::Case {
+            whole,
+            left_ty,
+            right_ty,
+            ..
+        } => typed_nodes(sizes, whole, left_ty).saturating_add(type_nodes(sizes, right_ty)),
         SProc::Match {
             whole,
             left_ty,
             equal,
             right_ty,
-            then,
             ..
         } => {
             let second = message_nodes(equal).saturating_add(type_nodes(sizes, right_ty));
-            let head = typed_nodes(sizes, whole, left_ty).saturating_add(second);
-            head.saturating_add(process_nodes(sizes, then))
+            typed_nodes(sizes, whole, left_ty).saturating_add(second)
+        }
+        SProc::Decrypt { whole, ty, key, .. } => {
+            typed_nodes(sizes, whole, ty).saturating_add(message_nodes(key))
+        }
+        SProc::Check { whole, nonce, .. } => paired_nodes(whole, nonce),
+        SProc::Begin { label, .. } | SProc::End { label, .. } | SProc::EndMany { label, .. } => {
+            one_more(message_nodes(label))
+        }
+        SProc::Cast { whole, ty, .. } => typed_nodes(sizes, whole, ty),
+        SProc::New { ty, .. } => one_more(type_nodes(sizes, ty)),
+    }
+}
+
+/// How many nodes the process has, with the abbreviations expanded. The count stops at the greatest `u64`.
+pub fn process_nodes(sizes: &Sizes, p: &SProc) -> u64
+    ensures { result ≡ stopped (proc_size (nodes_in_words sizes.now) (proc_of p.now)) }
+{
+    let form = form_nodes(sizes, p);
+    match p {
+        SProc::Out { .. } | SProc::Stop { .. } => form,
+        SProc::Par { first, rest, .. } | SProc::Group { first, rest, .. } => {
+            let rest = process_nodes(sizes, rest);
+            form.saturating_add(process_nodes(sizes, first))
+                .saturating_add(rest)
         }
         SProc::Case {
-            whole,
-            left_ty,
             on_left,
-            right_ty,
             on_right,
             ..
         } => {
-            let right = type_nodes(sizes, right_ty).saturating_add(process_nodes(sizes, on_right));
-            let both = process_nodes(sizes, on_left).saturating_add(right);
-            typed_nodes(sizes, whole, left_ty).saturating_add(both)
+            let rest = process_nodes(sizes, on_right);
+            form.saturating_add(process_nodes(sizes, on_left))
+                .saturating_add(rest)
         }
-        SProc::Decrypt {
-            whole,
-            ty,
-            key,
-            then,
-            ..
-        } => {
-            let rest = message_nodes(key).saturating_add(process_nodes(sizes, then));
-            typed_nodes(sizes, whole, ty).saturating_add(rest)
-        }
-        SProc::Check {
-            whole,
-            nonce,
-            then,
-            ..
-        } => {
-            let head = one_over(message_nodes(whole), message_nodes(nonce));
-            head.saturating_add(process_nodes(sizes, then))
-        }
-        SProc::Begin { label, then, .. } => {
-            one_more(message_nodes(label)).saturating_add(process_nodes(sizes, then))
-        }
-        SProc::End { label, then, .. } => {
-            one_more(message_nodes(label)).saturating_add(process_nodes(sizes, then))
-        }
-        SProc::EndMany { label, then, .. } => {
-            one_more(message_nodes(label)).saturating_add(process_nodes(sizes, then))
-        }
-        SProc::Cast {
-            whole,
-            ty,
-            then,
-            ..
-        } => typed_nodes(sizes, whole, ty).saturating_add(process_nodes(sizes, then)),
-        SProc::New { ty, then, .. } => {
-            one_more(type_nodes(sizes, ty)).saturating_add(process_nodes(sizes, then))
-        }
-        SProc::Stop { .. } => 1,
-        SProc::Group { first, rest, .. } => {
-            one_over(process_nodes(sizes, first), process_nodes(sizes, rest))
-        }
+        SProc::OutThen { then, .. }
+        | SProc::Inp { then, .. }
+        | SProc::Repeat { then, .. }
+        | SProc::Split { then, .. }
+        | SProc::Match { then, .. }
+        | SProc::Decrypt { then, .. }
+        | SProc::Check { then, .. }
+        | SProc::Begin { then, .. }
+        | SProc::End { then, .. }
+        | SProc::EndMany { then, .. }
+        | SProc::Cast { then, .. }
+        | SProc::New { then, .. } => form.saturating_add(process_nodes(sizes, then)),
     }
 }

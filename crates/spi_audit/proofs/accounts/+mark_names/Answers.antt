@@ -5,44 +5,29 @@ use Rattle.std.specs.Prelude.{slice_get}
 use Rattle.spi_term.specs.Term.{Message}
 use Rattle.spi_count.specs.Counts.{count_of, Sets}
 use Rattle.spi_audit.specs.Accounts.{Marks}
-use Rattle.spi_intern.specs.Messages.{message_at}
-use Rattle.spi_count.proofs.Read.{there, pair_first, pair_second, enc_first, enc_second, left_part, right_part, hash_part}
+use Rattle.spi_intern.proofs.Sized.{pair_of, enc_of, left_of, right_of, hash_of}
 use Rattle.spi_audit.proofs.accounts.+mark_names.Goals as goal
 
 pub mark_names-requires : goal.mark_names-requires
-mark_names-requires t c =
-    let p = pair_first c.args.store.now.messages c.in-Pair.a c.in-Pair.b (message_at c.args.store.now.messages c.args.id) (c.in-Pair.ensures (message_at c.args.store.now.messages c.args.id) (there c.args.store.now.messages c.args.id.place c.requires)) in
-    (omega (arith, p.0, c.decreases), p.1)
+mark_names-requires t c = let w = pair_of _ _ c.in-Pair.ensures c.requires in (omega (arith, w.size, c.decreases), w.first)
 
 pub mark_names-requires-in-Pair : goal.mark_names-requires-in-Pair
-mark_names-requires-in-Pair t c =
-    let p = pair_second c.args.store.now.messages c.in-Pair.a c.in-Pair.b (message_at c.args.store.now.messages c.args.id) (c.in-Pair.ensures (message_at c.args.store.now.messages c.args.id) (there c.args.store.now.messages c.args.id.place c.requires)) in
-    (omega (arith, p.0, c.decreases), p.1)
+mark_names-requires-in-Pair t c = let w = pair_of _ _ c.in-Pair.ensures c.requires in (omega (arith, w.size, c.decreases), w.second)
 
 pub mark_names-requires-in-Inl : goal.mark_names-requires-in-Inl
-mark_names-requires-in-Inl t c =
-    let p = left_part c.args.store.now.messages c.in-Inl.a (message_at c.args.store.now.messages c.args.id) (c.in-Inl.ensures (message_at c.args.store.now.messages c.args.id) (there c.args.store.now.messages c.args.id.place c.requires)) in
-    (omega (arith, p.0, c.decreases), p.1)
+mark_names-requires-in-Inl t c = let w = left_of _ _ c.in-Inl.ensures c.requires in (omega (arith, w.size, c.decreases), w.part)
 
 pub mark_names-requires-in-Inr : goal.mark_names-requires-in-Inr
-mark_names-requires-in-Inr t c =
-    let p = right_part c.args.store.now.messages c.in-Inr.a (message_at c.args.store.now.messages c.args.id) (c.in-Inr.ensures (message_at c.args.store.now.messages c.args.id) (there c.args.store.now.messages c.args.id.place c.requires)) in
-    (omega (arith, p.0, c.decreases), p.1)
+mark_names-requires-in-Inr t c = let w = right_of _ _ c.in-Inr.ensures c.requires in (omega (arith, w.size, c.decreases), w.part)
 
 pub mark_names-requires-in-Enc : goal.mark_names-requires-in-Enc
-mark_names-requires-in-Enc t c =
-    let p = enc_first c.args.store.now.messages c.in-Enc.a c.in-Enc.b (message_at c.args.store.now.messages c.args.id) (c.in-Enc.ensures (message_at c.args.store.now.messages c.args.id) (there c.args.store.now.messages c.args.id.place c.requires)) in
-    (omega (arith, p.0, c.decreases), p.1)
+mark_names-requires-in-Enc t c = let w = enc_of _ _ c.in-Enc.ensures c.requires in (omega (arith, w.size, c.decreases), w.first)
 
 pub mark_names-requires-in-Enc-2 : goal.mark_names-requires-in-Enc-2
-mark_names-requires-in-Enc-2 t c =
-    let p = enc_second c.args.store.now.messages c.in-Enc.a c.in-Enc.b (message_at c.args.store.now.messages c.args.id) (c.in-Enc.ensures (message_at c.args.store.now.messages c.args.id) (there c.args.store.now.messages c.args.id.place c.requires)) in
-    (omega (arith, p.0, c.decreases), p.1)
+mark_names-requires-in-Enc-2 t c = let w = enc_of _ _ c.in-Enc.ensures c.requires in (omega (arith, w.size, c.decreases), w.second)
 
 pub mark_names-requires-in-Hash : goal.mark_names-requires-in-Hash
-mark_names-requires-in-Hash t c =
-    let p = hash_part c.args.store.now.messages c.in-Hash.a (message_at c.args.store.now.messages c.args.id) (c.in-Hash.ensures (message_at c.args.store.now.messages c.args.id) (there c.args.store.now.messages c.args.id.place c.requires)) in
-    (omega (arith, p.0, c.decreases), p.1)
+mark_names-requires-in-Hash t c = let w = hash_of _ _ c.in-Hash.ensures c.requires in (omega (arith, w.size, c.decreases), w.part)
 
 pub returns-in-Bound : goal.returns-in-Bound
 returns-in-Bound t c m e = marks_bound c.args.loose.now.counts (c.in-Bound.ensures m e)

@@ -1,24 +1,14 @@
-use Rattle.std.proofs.Common.{◌≡◌, ℕ, ◌+◌, ◌-◌, ◌≤◌, length, sym, ◌∙◌, arith}
+use Rattle.std.proofs.Common.{◌-◌, sym, ◌∙◌, arith}
 use Rattle.spi_term.specs.Spelling.{spelled}
 use Rattle.spi_term.specs.View.{shape_of}
-use Rattle.spi_term.proofs.Numbers.{small_node, length_spelled}
-use Rattle.spi_infer.proofs.Walked.{noted_length, note_given, tops_after, stuck_at, stuck_here, stuck_later, starts, starts_stuck}
+use Rattle.spi_term.proofs.Numbers.{small_node}
+use Rattle.spi_infer.proofs.Walked.{nodes_within_count, notes_for_each, at_from, note_given, tops_after, stuck_at, stuck_here, stuck_later, starts, starts_stuck}
 use Rattle.spi_infer.proofs.Ending.{ends_with, ends_stuck, ends_not_empty}
 use Rattle.spi_infer.proofs.accounts.account.Goals as goal
-use Rattle.spi_infer.proofs.accounts.account.Goals.{After-len-id}
-
-at_from : {from id : ℕ} → from ≤ id → id ≤ from → id ≡ from
-at_from l g = omega (arith, l, g)
-
-nodes_within : (c : After-len-id) → length (spelled c.args.process.now.names c.args.process.now.process) ≤ c.len-id.result
-nodes_within c = omega (arith, length_spelled c.args.process.now.names c.args.process.now.process, c.len-id.ensures.nodes)
-
-notes_long : (c : After-len-id) → length c.args.noted.now.notes.items ≡ c.len-id.result
-notes_long c = omega (arith, noted_length c.requires.noted.1.each, length_spelled c.args.process.now.names c.args.process.now.process, c.len-id.ensures.nodes)
 
 pub loop-id-init : goal.loop-id-init
 loop-id-init c =
-    let w = nodes_within (goal.at.loop-id-init c).After-len-id in
+    let w = nodes_within_count c.args.process.now.names c.args.process.now.process c.len-id.ensures.nodes in
     record {
       within = omega (arith, c.requires.from, c.len-id.ensures.nodes);
       stack_is = λ env h. starts c.args.store.now c.args.noted.now.keys (spelled c.args.process.now.names c.args.process.now.process) _ c.len-id.result c.new-stack.result.items w c.new-stack.ensures.items;
@@ -27,7 +17,7 @@ loop-id-init c =
 
 pub index-note-requires : goal.index-note-requires
 index-note-requires c =
-    omega (arith, notes_long (goal.at.index-note-requires c).After-len-id, c.args.noted.now.notes.ok.0, c.loop-id-test.true, c.loop-id.auto.id)
+    omega (arith, notes_for_each c.requires.noted.1 c.len-id.ensures.nodes, c.args.noted.now.notes.ok.0, c.loop-id-test.true, c.loop-id.auto.id)
 
 pub act_on-requires-clause-scope : goal.act_on-requires-clause-scope
 act_on-requires-clause-scope c =

@@ -12,11 +12,5 @@ decreases-is_label l = message_size (message_at l.store.now.messages l.m) + mess
 abbrev pub decreases-is_sealed : goal.decreases-is_sealed
 decreases-is_sealed l = suc (message_size (message_at l.store.now.messages l.body) + message_size (message_at l.store.now.messages l.body) + (message_size (message_at l.store.now.messages l.key) + message_size (message_at l.store.now.messages l.key)))
 
-abbrev pub decreases-left_has_type : goal.decreases-left_has_type
-decreases-left_has_type l = suc (message_size (message_at l.store.now.messages l.a) + message_size (message_at l.store.now.messages l.a))
-
 abbrev pub decreases-pair_has_type : goal.decreases-pair_has_type
 decreases-pair_has_type l = suc (message_size (message_at l.store.now.messages l.a) + message_size (message_at l.store.now.messages l.a) + (message_size (message_at l.store.now.messages l.b) + message_size (message_at l.store.now.messages l.b)))
-
-abbrev pub decreases-right_has_type : goal.decreases-right_has_type
-decreases-right_has_type l = suc (message_size (message_at l.store.now.messages l.a) + message_size (message_at l.store.now.messages l.a))

@@ -17,15 +17,15 @@ use Rattle.spi_narrate.proofs.FormParts.{closed_are}
 use Rattle.spi_narrate.proofs.Prefixes.{new_told, new_row, new_rest, prefix_reads}
 use Rattle.spi_narrate.proofs.forms.new_at.Goals as goal
 
-pub returns-in_err-named : goal.returns-in_err-named
-returns-in_err-named c =
-    node_fails (c.args.version == 2) whole_prefix (IsPrefix (c.args.version == 2)) prefix_of (K.Reserved word.New) new_row (new_told (c.args.version == 2)) c.args.tokens.now c.args.at c.requires.first c.in_err-named.field-0.0 c.from_residual.result c.from_residual.ensures.1
-    (no_part (closing ∷ []) (closed_are (c.args.version == 2) mark.ParenOpen) (begun_node (c.args.version == 2) c.args.tokens.now c.args.at c.requires.words (the_reserved word.New) new_rest c.requires.first) named_of c.in_err-named.field-0.0 c.in_err-named.ensures.read)
+pub returns-in_err-bound : goal.returns-in_err-bound
+returns-in_err-bound c =
+    node_fails (c.args.version == 2) whole_prefix (IsPrefix (c.args.version == 2)) prefix_of (K.Reserved word.New) new_row (new_told (c.args.version == 2)) c.args.tokens.now c.args.at c.requires.first c.in_err-bound.field-0.0 c.from_residual.result c.from_residual.ensures.1
+    (no_part (closing ∷ []) (closed_are (c.args.version == 2) mark.ParenOpen) (begun_node (c.args.version == 2) c.args.tokens.now c.args.at c.requires.text.words (the_reserved word.New) new_rest c.requires.first) named_of c.in_err-bound.field-0.0 c.in_err-bound.ensures.read)
 
 pub returns : goal.returns
 returns c =
-    let named = then_part (closing ∷ []) (closed_are (c.args.version == 2) mark.ParenOpen) (begun_node (c.args.version == 2) c.args.tokens.now c.args.at c.requires.words (the_reserved word.New) new_rest c.requires.first) (named_of c.in_ok-named.named) c.in_ok-named.next (there_within c.args.tokens.now c.args.at (K.Reserved word.New) c.requires.first) c.in_ok-named.ensures.read in
-    prefix_reads (c.args.version == 2) c.args.tokens.now c.args.at c.requires.words (λ (s : Span). n.new s c.in_ok-named.named.name (ty_of c.in_ok-named.named.ty)) c.span_between-span.result c.in_ok-named.next c.span_between-span.ensures c.in_ok-named.ensures.read.2.part.0 new_row _ refl
+    let named = then_part (closing ∷ []) (closed_are (c.args.version == 2) mark.ParenOpen) (begun_node (c.args.version == 2) c.args.tokens.now c.args.at c.requires.text.words (the_reserved word.New) new_rest c.requires.first) (named_of c.in_ok-bound.bound) c.in_ok-bound.next (there_within c.args.tokens.now c.args.at (K.Reserved word.New) c.requires.first) c.in_ok-bound.ensures.read in
+    prefix_reads (c.args.version == 2) c.args.tokens.now c.args.at c.requires.text.words (λ (s : Span). n.new s c.in_ok-bound.bound.name (ty_of c.in_ok-bound.bound.ty)) c.span_between-span.result c.in_ok-bound.next c.span_between-span.ensures c.in_ok-bound.ensures.read.2.part.0 new_row _ refl
     (ended (then_closing named))
 
 pub closed_at-requires-clause-start : goal.closed_at-requires-clause-start

@@ -18,7 +18,7 @@ use Rattle.spi_narrate.proofs.lines.local_at.Goals as goal
 pub returns-in_err-prefix : goal.returns-in_err-prefix
 returns-in_err-prefix c =
     line_answer (c.args.version == 2) c.args.tokens.now line_of c.args.at c.in_err-prefix.field-0.0 c.from_residual.result c.from_residual.ensures.1
-    (prefix_fails (c.args.version == 2) c.args.tokens.now c.args.at c.requires.words c.args.colon (start_of_token c.args.tokens.now c.args.at) c.args.role (head_at (c.args.version == 2) c.args.tokens.now c.args.at c.args.colon c.args.role c.requires.first) (c.args.colon + 1) c.requires.colon (colon_at (c.args.version == 2) c.args.tokens.now c.args.colon c.requires.colon)
+    (prefix_fails (c.args.version == 2) c.args.tokens.now c.args.at c.requires.text.words c.args.colon (start_of_token c.args.tokens.now c.args.at) c.args.role (head_at (c.args.version == 2) c.args.tokens.now c.args.at c.args.colon c.args.role c.requires.first) (c.args.colon + 1) c.requires.colon (colon_at (c.args.version == 2) c.args.tokens.now c.args.colon c.requires.colon)
     c.in_err-prefix.field-0.0 (fails_from prefix_of whole_prefix (IsWholePrefix (c.args.version == 2)) c.args.tokens.now (c.args.colon + 1) c.in_err-prefix.field-0.0 c.in_err-prefix.ensures))
 
 pub returns-in_err-next : goal.returns-in_err-next
@@ -26,7 +26,7 @@ returns-in_err-next c =
     let x = prefix_of c.in_ok-prefix.prefix in
     let end = c.in_ok-prefix.end in
     line_answer (c.args.version == 2) c.args.tokens.now line_of c.args.at c.in_err-next.field-0.0 c.from_residual-in_err-next.result c.from_residual-in_err-next.ensures.1
-    (end_fails (c.args.version == 2) c.args.tokens.now c.args.at c.requires.words c.args.colon (start_of_token c.args.tokens.now c.args.at) c.args.role (head_at (c.args.version == 2) c.args.tokens.now c.args.at c.args.colon c.args.role c.requires.first) (c.args.colon + 1) c.requires.colon (colon_at (c.args.version == 2) c.args.tokens.now c.args.colon c.requires.colon)
+    (end_fails (c.args.version == 2) c.args.tokens.now c.args.at c.requires.text.words c.args.colon (start_of_token c.args.tokens.now c.args.at) c.args.role (head_at (c.args.version == 2) c.args.tokens.now c.args.at c.args.colon c.args.role c.requires.first) (c.args.colon + 1) c.requires.colon (colon_at (c.args.version == 2) c.args.tokens.now c.args.colon c.requires.colon)
     end x c.in_ok-prefix.ensures.2.part.0 (prefix_stands (c.args.version == 2) c.args.tokens.now (c.args.colon + 1) x end (there_within c.args.tokens.now c.args.colon (K.Mark mark.Colon) c.requires.colon) c.in_ok-prefix.ensures)
     c.in_err-next.field-0.0 (fails_first (c.args.version == 2) c.args.tokens.now end (token (the_mark mark.Semicolon)) _ c.in_err-next.field-0.0 (untaken (c.args.version == 2) c.args.tokens.now end (the_mark mark.Semicolon) c.in_err-next.field-0.0 c.in_err-next.ensures.taken)))
 
@@ -37,6 +37,6 @@ returns c =
     let x = prefix_of c.in_ok-prefix.prefix in
     let next = c.in_ok-next.next in
     subst (λ (s : Span). (k : ℕ) × (next ≡ c.args.at + k) × exact.IsPartAt whole_line (IsWholeLine v) (n.local s c.args.role x) (drop c.args.at ts) k) (sym c.span_between-span.ensures)
-    (local_reads v ts c.args.at c.requires.words c.args.colon (start_of_token ts c.args.at) c.args.role (head_at v ts c.args.at c.args.colon c.args.role c.requires.first) (c.args.colon + 1) c.requires.colon (colon_at v ts c.args.colon c.requires.colon)
+    (local_reads v ts c.args.at c.requires.text.words c.args.colon (start_of_token ts c.args.at) c.args.role (head_at v ts c.args.at c.args.colon c.args.role c.requires.first) (c.args.colon + 1) c.requires.colon (colon_at v ts c.args.colon c.requires.colon)
     c.in_ok-prefix.end x c.in_ok-prefix.ensures.2.part.0 (prefix_stands v ts (c.args.colon + 1) x c.in_ok-prefix.end (there_within ts c.args.colon (K.Mark mark.Colon) c.requires.colon) c.in_ok-prefix.ensures)
     next (end_before ts next) (tail_at v ts c.in_ok-prefix.end next c.in_ok-next.ensures.taken))

@@ -9,8 +9,8 @@ returns-in_err-fits-in-Reserved-End c = rw read_is_step (grind (arith, common_st
 pub returns-in_err-fits-in-Reserved-Check : goal.returns-in_err-fits-in-Reserved-Check
 returns-in_err-fits-in-Reserved-Check c = rw read_is_step (grind (arith, common_steps))
 
-pub returns-then-not-node : goal.returns-then-not-node
-returns-then-not-node c = rw read_is_step (grind (arith, common_steps))
+pub returns-in_err-accept-in-Reserved-Many : goal.returns-in_err-accept-in-Reserved-Many
+returns-in_err-accept-in-Reserved-Many c = rw read_is_step (grind (arith, common_steps))
 
 pub returns-in_err-fits-in-Reserved-Many : goal.returns-in_err-fits-in-Reserved-Many
 returns-in_err-fits-in-Reserved-Many c = rw read_is_step (grind (arith, common_steps))

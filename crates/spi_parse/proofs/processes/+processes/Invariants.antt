@@ -16,6 +16,12 @@ decreases-out_rest l = 20 * (501 - l.nesting) + 1
 abbrev pub decreases-read_out : goal.decreases-read_out
 decreases-read_out l = 20 * (501 - l.nesting) + 7
 
+abbrev pub decreases-read_receiving : goal.decreases-read_receiving
+decreases-read_receiving l = 20 * (501 - l.nesting) + 6
+
+abbrev pub decreases-read_label : goal.decreases-read_label
+decreases-read_label l = 20 * (501 - l.nesting) + 6
+
 abbrev pub decreases-read_inp : goal.decreases-read_inp
 decreases-read_inp l = 20 * (501 - l.nesting) + 7
 

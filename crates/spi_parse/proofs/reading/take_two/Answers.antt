@@ -6,5 +6,5 @@ use Rattle.spi_parse.proofs.reading.take_two.Goals as goal
 pub returns-in_default : goal.returns-in_default
 returns-in_default c = rw read_is_step (grind (arith, common_steps))
 
-pub returns-else-number-eq2 : goal.returns-else-number-eq2
-returns-else-number-eq2 c = rw read_is_step (grind (arith, common_steps))
+pub returns-in_err-accept-in-Number : goal.returns-in_err-accept-in-Number
+returns-in_err-accept-in-Number c = rw read_is_step (grind (arith, common_steps))

@@ -1,4 +1,3 @@
-use Rattle.std.proofs.Common.{refl}
 use Rattle.spi_replay.proofs.acting.take_on.Goals as goal
 use Rattle.spi_replay.proofs.Does.{acts_on}
 use Rattle.spi_replay.proofs.Takings.{taken_alone}
@@ -9,4 +8,4 @@ entered-requires c = let a = acts_on c.args.place.now c.requires.is c.requires.w
 pub returns-clause-taken : goal.returns-clause-taken
 returns-clause-taken c =
     let a = acts_on c.args.place.now c.requires.is c.requires.waits in
-    taken_alone c.args.store.now.messages c.entered.new.store.messages c.args.links.now c.args.links.now c.args.names c.args.place.now _ c.args.place.now.source.now c.args.body _ _ refl (c.in_ok-now.ensures.at.at a.values a.enters) (a.leads c.args.names)
+    taken_alone c.args.store.now.messages c.entered.new.store.messages c.args.links.now c.args.links.now c.args.names c.args.place.now _ c.args.place.now.source.now c.args.body _ _ _ _ _ c.act_alone.ensures (c.in_ok-now.ensures.at.at a.values a.enters) (a.leads c.args.names)

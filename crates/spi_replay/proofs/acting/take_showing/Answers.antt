@@ -1,4 +1,4 @@
-use Rattle.std.proofs.Common.{refl, ap, sym, ◌∙◌}
+use Rattle.std.proofs.Common.{ap, sym, ◌∙◌}
 use Rattle.spi_replay.proofs.acting.take_showing.Goals as goal
 use Rattle.spi_intern.proofs.Lists.{get_below}
 use Rattle.spi_replay.specs.Moves.{event_of}
@@ -16,4 +16,4 @@ pub returns-clause-taken : goal.returns-clause-taken
 returns-clause-taken c =
     let a = acts_showing c.args.place.now c.requires.is c.requires.waits in
     let e = ap (event_of c.args.kind) (sym (c.in_ok-shown.ensures ∙ at_message c.args.store.now.messages c.args.label a.number)) ∙ sym c.event_with.ensures in
-    taken_alone c.args.store.now.messages c.entered.new.store.messages c.args.links.now c.args.links.now c.args.names c.args.place.now _ c.args.place.now.source.now c.args.body _ _ refl (c.in_ok-now.ensures.at.at a.values a.enters) (leads_event e (a.leads c.args.names))
+    taken_alone c.args.store.now.messages c.entered.new.store.messages c.args.links.now c.args.links.now c.args.names c.args.place.now _ c.args.place.now.source.now c.args.body _ _ _ _ _ c.act_alone.ensures (c.in_ok-now.ensures.at.at a.values a.enters) (leads_event e (a.leads c.args.names))

@@ -1,6 +1,5 @@
 use Rattle.std.proofs.Common.{refl, ap, arith, rules}
 use Rattle.spi_term.specs.Term as Term
-use Rattle.spi_term.specs.Term.{message_size}
 use Rattle.spi_term.specs.View.{message}
 use Rattle.spi_intern.specs.Messages.{says_unit, says_pair, says_left, says_right, says_enc, says_hash}
 use Rattle.spi_intern.specs.declared.messages.MsgPart.TheVariants as P

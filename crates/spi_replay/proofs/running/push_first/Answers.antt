@@ -2,7 +2,7 @@ use Rattle.std.proofs.Common.{◌≡◌, ℕ, List, [], ◌∷◌, ◌++◌, ref
 use Rattle.spi_replay.specs.declared.names.Link.{Link}
 use Rattle.spi_replay.specs.Standing.{StandsAt}
 use Rattle.spi_replay.proofs.Stepped.{root_can, root_enters}
-use Rattle.spi_replay.proofs.Started.{on_ok}
+use Rattle.std.proofs.lemmas.Result.{on_ok_weaker}
 use Rattle.spi_replay.proofs.running.push_first.Goals as goal
 
 pub entered-requires : goal.entered-requires
@@ -13,4 +13,4 @@ returns-clause-pushed c =
     let p = c.in_ok-first.first in
     let a = c.args.source.now in
     let s = subst (λ (ls : List Link). StandsAt c.entered.new.store.messages ls a 0 [] p) c.deref.ensures.value (c.in_ok-first.ensures.at.at [] (root_enters a c.len.ensures.over)) in
-    on_ok c.push.result {P = c.push.new.self.places.items ≡ c.args.state.now.index.places.items ++ p ∷ []} (λ e. record { first = p; stands = s; added = e; kept = c.entered.ensures.kept.messages; links = refl {A = List Link}; names = refl {A = ℕ}; most = refl {A = ℕ} }) c.push.ensures.pushed
+    on_ok_weaker {P = c.push.new.self.places.items ≡ c.args.state.now.index.places.items ++ p ∷ []} c.push.result (λ e. record { first = p; stands = s; added = e; kept = c.entered.ensures.kept.messages; links = refl {A = List Link}; names = refl {A = ℕ}; most = refl {A = ℕ} }) c.push.ensures.pushed

@@ -12,21 +12,8 @@ use Rattle.spi_scope.specs.State.{row_nodes}
 use Rattle.spi_scope.proofs.Numbered.{tuple_total, tuple_read}
 use Rattle.spi_scope.proofs.derivations.+numbered.Goals as goal
 
-pub read_numbered-returns-in_ok-whole-in-Tuple-clause-counted : goal.read_numbered-returns-in_ok-whole-in-Tuple-clause-counted
-read_numbered-returns-in_ok-whole-in-Tuple-clause-counted t c =
-    let w = c.in-Tuple in
-    let e : c.args.m.now ≡ Tuple w.first w.second w.more w.span = w.is in
-    let f = c.in_ok-first-in-Tuple in
-    let g = c.in_ok-second-in-Tuple in
-    let h = c.in_ok-more-in-Tuple in
-    let e1 = subst (λ (x : SMsg). f.total ≡ stopped (c.args.spent + message_size (numbered_message (msg_of x)))) c.deref.ensures f.ensures.counted in
-    let e2 = subst (λ (x : SMsg). g.total ≡ stopped (c.saturating_add-in-Tuple.result + message_size (numbered_message (msg_of x)))) c.deref-in-Tuple.ensures g.ensures.counted in
-    let e3 = subst (λ (x : List SMsg). h.total ≡ stopped (g.total + row_nodes (numbered_messages (msgs_of_list (map msg_of x))))) c.deref-in-Tuple-2.ensures.value h.ensures.counted in
-    rw (ap msg_of e ∙ tuple_is w.first w.second w.more w.span)
-    (tuple_total c.args.spent c.saturating_add-in-Tuple.result f.total g.total h.total w.span (msg_of w.first.value) (msg_of w.second.value) (msgs_of_list (map msg_of w.more.items)) e1 c.saturating_add-in-Tuple.ensures e2 e3)
-
-pub read_numbered-returns-in_ok-whole-in-Tuple-clause-read : goal.read_numbered-returns-in_ok-whole-in-Tuple-clause-read
-read_numbered-returns-in_ok-whole-in-Tuple-clause-read t c =
+pub read_numbered-returns-in_ok-whole-in-Tuple : goal.read_numbered-returns-in_ok-whole-in-Tuple
+read_numbered-returns-in_ok-whole-in-Tuple t c =
     let w = c.in-Tuple in
     let e : c.args.m.now ≡ Tuple w.first w.second w.more w.span = w.is in
     let f = c.in_ok-first-in-Tuple in
@@ -38,6 +25,10 @@ read_numbered-returns-in_ok-whole-in-Tuple-clause-read t c =
     let r1 = subst (λ (x : SMsg). f.total ≤ 1000 → message f.first ≡ numbered_message (msg_of x)) c.deref.ensures f.ensures.read in
     let r2 = subst (λ (x : SMsg). g.total ≤ 1000 → message g.second ≡ numbered_message (msg_of x)) c.deref-in-Tuple.ensures g.ensures.read in
     let r3 = subst (λ (x : List SMsg). h.total ≤ 1000 → map message h.more.items ≡ numbered_messages (msgs_of_list (map msg_of x))) c.deref-in-Tuple-2.ensures.value h.ensures.read in
-    rw (ap msg_of e ∙ tuple_is w.first w.second w.more w.span)
-    (tuple_read c.args.spent c.saturating_add-in-Tuple.result f.total g.total h.total w.span (msg_of w.first.value) (msg_of w.second.value) (msgs_of_list (map msg_of w.more.items)) e1 c.saturating_add-in-Tuple.ensures e2 e3
-    (message f.first) (message g.second) (map message h.more.items) (message c.in_ok-whole-in-Tuple.whole) r1 r2 r3 c.in_ok-whole-in-Tuple.ensures)
+    record {
+      counted = rw (ap msg_of e ∙ tuple_is w.first w.second w.more w.span)
+          (tuple_total c.args.spent c.saturating_add-in-Tuple.result f.total g.total h.total w.span (msg_of w.first.value) (msg_of w.second.value) (msgs_of_list (map msg_of w.more.items)) e1 c.saturating_add-in-Tuple.ensures e2 e3);
+      read = rw (ap msg_of e ∙ tuple_is w.first w.second w.more w.span)
+          (tuple_read c.args.spent c.saturating_add-in-Tuple.result f.total g.total h.total w.span (msg_of w.first.value) (msg_of w.second.value) (msgs_of_list (map msg_of w.more.items)) e1 c.saturating_add-in-Tuple.ensures e2 e3
+          (message f.first) (message g.second) (map message h.more.items) (message c.in_ok-whole-in-Tuple.whole) r1 r2 r3 c.in_ok-whole-in-Tuple.ensures);
+    }

@@ -7,7 +7,10 @@ abbrev pub decreases-put_message : goal.decreases-put_message
 decreases-put_message l = 2 * message_size (message l.m.now)
 
 abbrev pub decreases-put_tuple : goal.decreases-put_tuple
-decreases-put_tuple l = 2 * message_size (message l.m.now)
+decreases-put_tuple l = 2 * message_size (message l.m.now) + 1
+
+abbrev pub decreases-put_worded : goal.decreases-put_worded
+decreases-put_worded l = 2 * message_size (message l.m.now) + 1
 
 abbrev pub decreases-put_enc : goal.decreases-put_enc
 decreases-put_enc l = 2 * (message_size (message l.body.now) + message_size (message l.key.now)) + 1

@@ -7,7 +7,7 @@ abbrev pub decreases-put_type : goal.decreases-put_type
 decreases-put_type l = 2 * ty_nodes (type_of l.t.now)
 
 abbrev pub decreases-put_tuple_type : goal.decreases-put_tuple_type
-decreases-put_tuple_type l = 2 * ty_nodes (type_of l.t.now)
+decreases-put_tuple_type l = 2 * ty_nodes (type_of l.t.now) + 1
 
 abbrev pub decreases-put_typed : goal.decreases-put_typed
 decreases-put_typed l = 2 * ty_nodes (type_of l.t.now) + 1

@@ -1,7 +1,8 @@
 use Rattle.std.proofs.Common.{sym, ap, ◌∙◌, subst, Some}
 use Rattle.std.specs.Prelude.{slice_set}
+use Rattle.std.proofs.lemmas.Option.{slice_get-get_or}
 use Rattle.spi_bench.specs.Sums.{AreSums}
-use Rattle.spi_bench.proofs.Totals.{get_within, slot_within, sums_taken}
+use Rattle.spi_bench.proofs.Totals.{slot_within, sums_taken}
 use Rattle.spi_bench.proofs.table.Table.clear.Goals as goal
 
 pub take-requires : goal.take-requires
@@ -15,7 +16,7 @@ invariant_of-self c =
 
 pub returns-clause-before : goal.returns-clause-before
 returns-clause-before c =
-    get_within c.args.self.now.slots.items c.args.at c.index_mut.result.now c.requires ∙ ap Some (sym (c.replace-before.ensures.value ∙ c.index_mut.ensures.value))
+    slice_get-get_or c.args.self.now.slots.items c.args.at c.index_mut.result.now c.requires ∙ ap Some (sym (c.replace-before.ensures.value ∙ c.index_mut.ensures.value))
 
 pub returns-clause-after : goal.returns-clause-after
 returns-clause-after c = ap (slice_set c.args.self.now.slots.items c.args.at) c.replace-before.ensures.after

@@ -1,0 +1,79 @@
+//! The version, the declarations and the shared names that a text begins with.
+
+ghost use Rattle.std.specs.Prelude.{◌≤◌, length, IfOk};
+ghost use Rattle.spi_lex.specs.Lexing.{kinds_of, is_version_2};
+ghost use Rattle.spi_tree.specs.Formed.{AreWordsFit};
+ghost use Rattle.spi_heading.specs.Reading.{ReadsHeading};
+ghost use Rattle.spi_heading.specs.Repeated.{declared_kind, shared_kind};
+ghost use Rattle.spi_heading.specs.Taking.{IsTextOf};
+
+use crate::repeated::{RepeatedPart, parts_at};
+use crate::shared::{Shared, shared_at};
+use crate::tokens::{ReadPart, reserved_at, spelled_at, version_of};
+use spi_lex::{Reserved, Token};
+use spi_parse::decl_at;
+use spi_tree::Decl;
+use std::alloc::Global;
+
+/// Declarations, as repeated parts.
+struct Declarations;
+
+impl RepeatedPart for Declarations {
+    type Read = Decl;
+
+    ghost kind = { declared_kind };
+
+    fn begins_at(tokens: &[Token], at: u32) -> bool {
+        reserved_at(tokens, at, Reserved::Free) || reserved_at(tokens, at, Reserved::TypeWord)
+    }
+
+    fn part_at(alloc: Global, tokens: &[Token], at: u32, version: u32) -> ReadPart<Decl> {
+        decl_at(alloc, tokens, at, version)
+    }
+}
+
+/// Shared names, as repeated parts.
+struct SharedNames;
+
+impl RepeatedPart for SharedNames {
+    type Read = Shared;
+
+    ghost kind = { shared_kind };
+
+    fn begins_at(tokens: &[Token], at: u32) -> bool {
+        spelled_at(tokens, at, "shared")
+    }
+
+    fn part_at(alloc: Global, tokens: &[Token], at: u32, version: u32) -> ReadPart<Shared> {
+        shared_at(alloc, tokens, at, version)
+    }
+}
+
+/// What a narration or a bench begins with.
+#[derive(Drop)]
+pub struct Heading {
+    /// 1, or 2 where the text begins with `version 2;`
+    pub version: u32,
+    pub decls: Vec<Decl>,
+    pub shared: Vec<Shared>,
+}
+
+/// The heading that the tokens begin with, and the number of the token behind it. A token with which neither a declaration nor
+/// a shared name begins ends it. The fault is that of the first part that isn't read.
+pub fn heading_at(alloc: Global, tokens: &[Token]) -> ReadPart<Heading>
+    requires size { length tokens.now ≤ 16_777_216 }
+    requires words { AreWordsFit (is_version_2 (kinds_of tokens.now)) (kinds_of tokens.now) }
+    ensures read { ReadsHeading result tokens.now }
+    ensures text { IfOk result (λ r. IsTextOf r.0.version tokens.now) }
+    ensures within { IfOk result (λ r. r.1 ≤ length tokens.now) }
+{
+    let (version, start) = version_of(tokens)?;
+    let (decls, shared_start) = parts_at::<Declarations>(alloc, tokens, start, version)?;
+    let (shared, next) = parts_at::<SharedNames>(alloc, tokens, shared_start, version)?;
+    let heading = Heading {
+        version,
+        decls,
+        shared,
+    };
+    Ok((heading, next))
+}
