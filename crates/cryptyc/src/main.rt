@@ -3,26 +3,8 @@
 #![tactic(auto)]
 
 use spi_commands::{FirstReady, InTurn, Player, Seeded, Status, run};
-use spi_io::{StdSink, StdSource};
-use std::alloc::AllocError;
+use spi_io::{StdSink, StdSource, words};
 use std::process::ExitCode;
-use std::rt::Env;
-use std::{env, io};
-
-/// The words of the command line without the program's name. Where one isn't UTF-8 there are none.
-fn words(rt: &(impl Env + AllocGlobal)) -> Result<Vec<String>, AllocError> {
-    let mut words = Vec::new(rt.alloc());
-    match env::args(rt) {
-        Ok(args) => {
-            for word in args.skip(1) {
-                words.push(word)?;
-            }
-        }
-        Err(e) if e.kind() == io::ErrorKind::OutOfMemory => return Err(AllocError),
-        Err(_) => {}
-    }
-    Ok(words)
-}
 
 /// Runs over standard input and output, and ends with the code of the status.
 fn main(rt: HostRuntime) -> ExitCode {

@@ -7,12 +7,11 @@ mod asked;
 use asked::{Asked, Color, Explain, Trace, asked_of};
 use spi_advice::{Style, advise, traced};
 use spi_commands::Status;
-use spi_io::{StdSink, StdSource, put_all, take_all};
-use std::alloc::{AllocError, Global};
+use spi_io::{StdSink, put_all, words};
+use std::alloc::Global;
 use std::io::{IsTerminal, Read};
 use std::process::ExitCode;
-use std::rt::Env;
-use std::{env, fs, io};
+use std::{fs, io};
 
 /// How many bytes are read at most: one more than a file may have.
 const MOST: u64 = 16_777_217;
@@ -48,21 +47,6 @@ const VERSION: &[u8] = b"cryptyc_explain 1\n";
 
 /// The status where the named file can't be read. The statuses of `check` and `replay` are below 70.
 const UNREADABLE: u8 = 74;
-
-/// The words of the command line without the program's name. Where one isn't UTF-8 there are none.
-fn words(rt: &(impl Env + AllocGlobal)) -> Result<Vec<String>, AllocError> {
-    let mut words = Vec::new(rt.alloc());
-    match env::args(rt) {
-        Ok(args) => {
-            for word in args.skip(1) {
-                words.push(word)?;
-            }
-        }
-        Err(e) if e.kind() == io::ErrorKind::OutOfMemory => return Err(AllocError),
-        Err(_) => {}
-    }
-    Ok(words)
-}
 
 /// Why there are no bytes.
 enum Missing {

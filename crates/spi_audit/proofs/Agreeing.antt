@@ -1,14 +1,14 @@
 -- Judgements of the same uses agree: on the effects up to equal counts, on where a use doesn't fit, and on which doesn't pay.
 use Rattle.std.proofs.Common.{◌≡◌, refl, sym, ap, ◌∙◌, subst, ℕ, zero, suc, ◌+◌, List, [], ◌∷◌, ◌++◌, length, arith}
-use Rattle.spi_term.specs.Term.{Message, Effect, nonce}
-use Rattle.spi_term.specs.Counts.{count, cut, SameEffect}
+use Rattle.spi_term.specs.Term.{Message, Effect}
+use Rattle.spi_term.specs.Counts.{SameEffect}
 use Rattle.spi_term.specs.Names.{Avoids, EffectAvoids}
-use Rattle.spi_term.proofs.Lists.{at_unique}
-use Rattle.spi_effect.specs.Effect.{IsSum, IsDifference, IsGreater}
-use Rattle.spi_effect.proofs.Laws.{same_refl, same_sym, same_within, within_trans, OfEffect_within, AllMany_within}
+use Rattle.spi_effect.specs.Effect.{IsDifference}
+use Rattle.spi_effect.proofs.Laws.{same_refl, same_sym, same_within, within_trans, OfEffect_within, AllMany_within, sum_one, difference_one, greater_one}
 use Rattle.spi_rules.specs.Environment.{Env}
-use Rattle.spi_rules.specs.Processes.{IsNonce, nonce_name, nonce_cast}
+use Rattle.spi_rules.specs.Processes.{IsNonce}
 use Rattle.spi_rules.specs.Derivations.{RuleUse}
+use Rattle.spi_rules.proofs.Determined.{nonce_one}
 use Rattle.spi_audit.specs.Fits.{Subject, Fits}
 use Rattle.spi_audit.specs.Paying.{GivesEffects, gives_message, gives_stop, gives_out, gives_in, gives_repeat, gives_split, gives_split_un, gives_match, gives_match_un, gives_case, gives_case_un, gives_decrypt, gives_decrypt_un, gives_check, gives_check_un, gives_begin, gives_end, gives_end_many, gives_cast, gives_cast_un, gives_new, gives_par, gives_sub, PaysByUse, pays_message, pays_stop, pays_out, pays_in, pays_repeat, pays_split, pays_split_un, pays_match, pays_match_un, pays_case, pays_case_un, pays_decrypt, pays_decrypt_un, pays_check, pays_check_un, pays_begin, pays_end, pays_end_many, pays_cast, pays_cast_un, pays_new, pays_par, pays_sub}
 use Rattle.spi_audit.specs.Audit.{MisfitAt, misfit_here, misfit_later, Judged, judged_none, judged_use, AllPay, FirstUnpaid}
@@ -36,20 +36,6 @@ all_sym same_none = same_none
 all_sym (same_next h a) = same_next (same_sym h) (all_sym a)
 
 -- equal counts from equal counts
-pub nonce_one : {env : Env} {m : Message} {fs gs : Effect} → IsNonce [] env m fs → IsNonce [] env m gs → fs ≡ gs
-nonce_one (nonce_name {fs = fs} a) (nonce_name {fs = gs} b) = let e : nonce fs ≡ nonce gs = at_unique a b in cc
-nonce_one (nonce_name a) (nonce_cast i) = elim i [ ]
-nonce_one (nonce_cast i) b = elim i [ ]
-
-sum_one : {rs rs' es es' fs fs' : Effect} → IsSum rs es fs → IsSum rs' es' fs' → SameEffect es es' → SameEffect fs fs' → SameEffect rs rs'
-sum_one {es = es} {es' = es'} {fs = fs} {fs' = fs'} s s' e f = record { at = λ a. s.at a ∙ (ap (λ (n : ℕ). cut a (n + count a fs)) (e.at a) ∙ (ap (λ (n : ℕ). cut a (count a es' + n)) (f.at a) ∙ sym (s'.at a))) }
-
-difference_one : {rs rs' es es' fs fs' : Effect} → IsDifference rs es fs → IsDifference rs' es' fs' → SameEffect es es' → SameEffect fs fs' → SameEffect rs rs'
-difference_one s s' e f = record { at = λ a. omega (arith, s.at a, s'.at a, e.at a, f.at a) }
-
-greater_one : {rs rs' es es' fs fs' : Effect} → IsGreater rs es fs → IsGreater rs' es' fs' → SameEffect es es' → SameEffect fs fs' → SameEffect rs rs'
-greater_one s s' e f = record { at = λ a. omega (arith, s.at a, s'.at a, e.at a, f.at a) }
-
 difference_same : {rs es es' fs : Effect} → IsDifference rs es fs → SameEffect es es' → IsDifference rs es' fs
 difference_same s e = record { at = λ a. omega (arith, s.at a, e.at a) }
 

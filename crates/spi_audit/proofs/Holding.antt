@@ -217,11 +217,11 @@ module _ {s : Store} {keys : Keys} where
       (λ a p. let y = (greater_is es fs).at a in omega (arith, y, p))
       (λ a p. let y = (greater_is es fs).at a in omega (arith, y, p))
 
-  -- the same atoms are loose by another test
-  pub held_other : {L M : Atom → Bool} {sum : Sum} {names : BTreeMap ℕ ℕ} {b : Bool} {es : Effect} → HeldBy s keys L sum names b es → ((a : Atom) → 0 < count a es → L a ≡ M a) → HeldBy s keys M sum names b es
-  held_other {L} {M} {es = es} h e = record {
+  -- the same atoms are loose by another test, and the same are counted by another sum
+  pub held_other : {L M : Atom → Bool} {sum new : Sum} {names : BTreeMap ℕ ℕ} {b : Bool} {es : Effect} (h : HeldBy s keys L sum names b es) → SumOf s keys new h.inner → ((a : Atom) → 0 < count a es → L a ≡ M a) → HeldBy s keys M new names b es
+  held_other {L} {M} {es = es} h stands e = record {
     inner = h.inner;
-    stands = h.stands;
+    stands = stands;
     inside = λ a m. ⊎_elim (λ z. none a z (cases_Bool (L a))) (λ p. h.inside a (e a p ∙ m)) (zero_or (count a es));
     outside = λ a m. ⊎_elim (λ z. gone a z (cases_Bool (L a))) (λ p. h.outside a (e a p ∙ m)) (zero_or (count a es));
     named = λ a y m p f. h.named a y (e a p ∙ m) p f;
@@ -255,7 +255,7 @@ module _ {s : Store} {keys : Keys} where
         unreached_below (with_keys s keys) (numbers kd) h.stands k u a (count_in a h.inner (positive (sym f) p))
 
     pub cut_clean : ((kind : AtomKind) (q : ℕ) → 0 < count_of (part kind sum) q → q < (k + 1) * 4294967296) → HeldBy s keys (outer k) sum names b es × ((a : Atom) → 0 < count a es → name_bound (message_of a) ≤ n → name_bound (message_of a) ≤ k)
-    cut_clean u = (held_other h same, stays u)
+    cut_clean u = (held_other h h.stands same, stays u)
       where
         same : (a : Atom) → 0 < count a es → outer n a ≡ outer k a
         same a p = ⊎_elim

@@ -1,14 +1,14 @@
 -- Atoms that become loose, and names that leave.
-use Rattle.std.proofs.Common.{◌≡◌, ◌≢◌, refl, sym, ap, ◌∙◌, subst, ℕ, zero, suc, ◌+◌, ◌-◌, ◌*◌, ◌<◌, ◌≤◌, Bool, true, false, not, ◌&&◌, ◌||◌, true≢false, [], ◌∷◌, ◌⊎◌, inl, inr, ⊎_elim, arith, ◌↔◌, IsTrue}
+use Rattle.std.proofs.Common.{◌≡◌, ◌≢◌, refl, sym, ap, ◌∙◌, subst, ℕ, zero, suc, ◌+◌, ◌-◌, ◌*◌, ◌<◌, ◌≤◌, Bool, true, false, not, ◌&&◌, ◌||◌, true≢false, ◌⊎◌, inl, inr, ⊎_elim, arith, ◌↔◌, IsTrue}
 use Rattle.std.specs.Prelude.{if◌then◌else◌, nat_eq}
 use Rattle.std.specs.BTreeMap.{BTreeMap}
 use Rattle.std.proofs.lemmas.Bool.{eqb-true, or_left, or_right, cases_Bool, or_cases}
 use Rattle.spi_term.specs.Term.{Message, Atom, ends, checks, many, same_atom, Effect}
-use Rattle.spi_term.specs.Counts.{tally, cut, count}
-use Rattle.spi_term.proofs.Counting.{same_atom_refl, same_atom_true, same_other}
+use Rattle.spi_term.specs.Counts.{cut, count}
+use Rattle.spi_term.proofs.Counting.{same_atom_refl, same_atom_true}
 use Rattle.spi_effect.specs.Effect.{IsMany}
 use Rattle.spi_effect.specs.Made.{are_many, every_out, is_free, is_free_at, mentions}
-use Rattle.spi_effect.proofs.Made.{are_many_sound, are_many_complete, or_false, both_false, and_true, both_true}
+use Rattle.spi_effect.proofs.Made.{tally_every_other, tally_every_same, are_many_sound, are_many_complete, or_false, both_false, and_true, both_true}
 use Rattle.spi_effect.proofs.Laws.{AllMany_in, AllMany_of}
 use Rattle.spi_intern.specs.declared.store.Store.{Store}
 use Rattle.spi_intern.proofs.Lists.{truths}
@@ -28,22 +28,6 @@ use Rattle.spi_audit.proofs.Holding.{zero_or, in_count, count_in, inner_in, held
 use Rattle.spi_intern.specs.Parts.{message_of}
 
 -- an effect with each of an atom out
-tally_every_other : (c a : Atom) (es : Effect) → c ≢ a → tally c (every_out a es) ≡ tally c es
-tally_every_other c a [] d = refl
-tally_every_other c a (b ∷ es) d = go (same_atom a b) refl (tally_every_other c a es d)
-  where
-    go : (t : Bool) → same_atom a b ≡ t → tally c (every_out a es) ≡ tally c es → tally c (if t then every_out a es else (b ∷ every_out a es)) ≡ (if same_atom c b then 1 else 0) + tally c es
-    go true e ih = let f = same_other c b (λ g. d (g ∙ sym (same_atom_true a b e))) in rw (f, ih) (omega arith)
-    go false e ih = rw ih refl
-
-tally_every_same : (a : Atom) (es : Effect) → tally a (every_out a es) ≡ 0
-tally_every_same a [] = refl
-tally_every_same a (b ∷ es) = go (same_atom a b) refl (tally_every_same a es)
-  where
-    go : (t : Bool) → same_atom a b ≡ t → tally a (every_out a es) ≡ 0 → tally a (if t then every_out a es else (b ∷ every_out a es)) ≡ 0
-    go true e ih = ih
-    go false e ih = rw (e, ih)
-
 count_every : (c a : Atom) (es : Effect) → count c (every_out a es) ≡ (if same_atom c a then 0 else count c es)
 count_every c a es = go (same_atom c a) refl
   where
@@ -77,7 +61,7 @@ one_or_next n k h l = go (n - (k + 1)) refl
     go (suc d) e = inr (omega (arith, e, h, l))
 
 -- counts that are the same
-pub stands_parts : (s : Store) (keys : Keys) {old new : Sum} {es : Effect} → ((kind : AtomKind) → part kind new ≡ part kind old) → SumOf s keys old es → SumOf s keys new es
+stands_parts : (s : Store) (keys : Keys) {old new : Sum} {es : Effect} → ((kind : AtomKind) → part kind new ≡ part kind old) → SumOf s keys old es → SumOf s keys new es
 stands_parts s keys {old} {new} e h = record {
   counted = λ a i g. ap (λ m. count_of m (key_of (name_bound (message_of a)) i)) (e (kind_of_atom a)) ∙ h.counted a i g;
   known = h.known;
@@ -172,18 +156,7 @@ module _ {s : Store} {keys : Keys} where
 
   pub loosened_end : IsKeyed s keys → (k n : ℕ) → k ≤ n → {old new : Sum} {names : BTreeMap ℕ ℕ} {b : Bool} {es : Effect} → Loosened s keys k (outer n) old names b es
       → ((kind : AtomKind) → part kind new ≡ part kind old) → ((kind : AtomKind) (q : ℕ) → 0 < count_of (part kind old) q → q < (k + 1) * 4294967296) → HeldBy s keys (outer k) new names b es
-  loosened_end kd k n le {old} {new} {names} {b} {es} w e u =
-      let h = held_other w.held same in
-      record {
-        inner = h.inner;
-        stands = stands_parts s keys e h.stands;
-        inside = h.inside;
-        outside = h.outside;
-        named = h.named;
-        names_of = h.names_of;
-        lasts = h.lasts;
-        once = h.once;
-      }
+  loosened_end kd k n le {es = es} w e u = held_other w.held (stands_parts s keys e w.held.stands) same
     where
       same : (a : Atom) → 0 < count a es → w.loose a ≡ outer k a
       same a p = ⊎_elim

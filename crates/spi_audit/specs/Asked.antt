@@ -135,7 +135,8 @@ pub record AnswersNode (old new : Numbered) (u : RuleUse) (x : Shape) (r : Optio
 abbrev pub TakesUntrusted : Numbered → Numbered → Message → Ty → ℕ → Option Premises → Type 0
 TakesUntrusted old new m t body None = is_un t ≡ false
 TakesUntrusted old new m t body (Some p) =
-    (a b : Asked) × (p ≡ TwoPremises a b) × IsTypeAsked new.store a m un × BeginsWalk old new body (λ e. t ∷ []) b
+    (a b : Asked) × (p ≡ TwoPremises a b) × IsTypeAsked new.store a m un
+    × BeginsWalk old new body (λ e. t ∷ []) b
     × (is_un t ≡ true)
 
 -- a process behind a label
@@ -147,7 +148,8 @@ TakesLabel old new m body (Some p) =
 
 -- these premises where the type with this number is Un, and none where it isn't
 abbrev pub IsWhereUn : Store → TyId → Premises → Option Premises → Type 0
-IsWhereUn s t ps r = (b : Bool) × ((u : Ty) → Means s t.place u → b ≡ is_un u) × (r ≡ (if b then Some ps else None))
+IsWhereUn s t ps r =
+    (b : Bool) × ((u : Ty) → Means s t.place u → b ≡ is_un u) × (r ≡ (if b then Some ps else None))
 
 -- the parts of a type by its number
 pub record IsPairOf (s : Store) (t a b : TyId) : Type 0 where
@@ -176,5 +178,6 @@ pub record IsNoKeyAt (j : Numbered) (m : Message) : Type 0 where
 abbrev pub TakesGood : Numbered → Numbered → Message → Ty → ℕ → Option Premises → Type 0
 TakesGood old new m t body None = (e : Env) → Stands old e → GoodTy [] e t → ⊥
 TakesGood old new m t body (Some p) =
-    (a b : Asked) × (p ≡ TwoPremises a b) × IsTypeAsked new.store a m un × BeginsWalk old new body (λ e. t ∷ []) b
+    (a b : Asked) × (p ≡ TwoPremises a b) × IsTypeAsked new.store a m un
+    × BeginsWalk old new body (λ e. t ∷ []) b
     × ((e : Env) → Stands old e → GoodTy [] e t)

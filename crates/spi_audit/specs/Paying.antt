@@ -49,7 +49,8 @@ pub data GivesEffects : RuleUse → Subject → List Effect → Effect → Type 
   gives_end : {env : Env} {m : Message} {p : Process} {es rs : Effect}
       → IsSum rs es (ends m ∷ []) → GivesEffects (plain ProcEnd) (of_process env (end m p)) (es ∷ []) rs
   gives_end_many : {env : Env} {m : Message} {p : Process} {es rs : Effect}
-      → IsSum rs es (many m ∷ []) → GivesEffects (plain ProcEndMany) (of_process env (end_many m p)) (es ∷ []) rs
+      → IsSum rs es (many m ∷ [])
+      → GivesEffects (plain ProcEndMany) (of_process env (end_many m p)) (es ∷ []) rs
   gives_cast : {env : Env} {m : Message} {p : Process} {a es fs rs : Effect}
       → IsSum rs es fs → GivesEffects (plain ProcCast) (of_process env (cast m (nonce fs) p)) (a ∷ es ∷ []) rs
   gives_cast_un : {env : Env} {p : Process} {a es : Effect}
@@ -59,7 +60,8 @@ pub data GivesEffects : RuleUse → Subject → List Effect → Effect → Type 
       → GivesEffects (plain ProcNew) (of_process env p) (es ∷ []) rs
   gives_par : {env : Env} {p : Process} {es fs rs : Effect}
       → IsSum rs es fs → GivesEffects (plain ProcPar) (of_process env p) (es ∷ fs ∷ []) rs
-  gives_sub : {env : Env} {p : Process} {es fs : Effect} → GivesEffects (subsumed fs) (of_process env p) (es ∷ []) fs
+  gives_sub : {env : Env} {p : Process} {es fs : Effect}
+      → GivesEffects (subsumed fs) (of_process env p) (es ∷ []) fs
 
 -- A use of a rule pays where its premises have these effects. The rules of messages and those in the last rows ask nothing
 -- of effects.
@@ -67,7 +69,8 @@ pub data PaysByUse : RuleUse → Subject → List Effect → Type 0 where
   pays_in : {env : Env} {p : Process} {a es : Effect}
       → EffectAvoids (length env) es → PaysByUse (plain ProcIn) (of_process env p) (a ∷ es ∷ [])
   pays_repeat : {env : Env} {p : Process} {a es : Effect}
-      → AllMany es → EffectAvoids (length env) es → PaysByUse (plain ProcRepeat) (of_process env p) (a ∷ es ∷ [])
+      → AllMany es → EffectAvoids (length env) es
+      → PaysByUse (plain ProcRepeat) (of_process env p) (a ∷ es ∷ [])
   pays_split : {env : Env} {p : Process} {a es : Effect}
       → EffectAvoids (length env) es → EffectAvoids (suc (length env)) es
       → PaysByUse (plain ProcSplit) (of_process env p) (a ∷ es ∷ [])
@@ -101,10 +104,12 @@ pub data PaysByUse : RuleUse → Subject → List Effect → Type 0 where
       → PaysByUse u (of_message env m t) es
   pays_stop : {env : Env} {p : Process} {es : List Effect} → PaysByUse (plain ProcStop) (of_process env p) es
   pays_out : {env : Env} {p : Process} {es : List Effect} → PaysByUse (plain ProcOut) (of_process env p) es
-  pays_check : {env : Env} {p : Process} {es : List Effect} → PaysByUse (plain ProcCheck) (of_process env p) es
+  pays_check : {env : Env} {p : Process} {es : List Effect}
+      → PaysByUse (plain ProcCheck) (of_process env p) es
   pays_check_un : {env : Env} {p : Process} {es : List Effect}
       → PaysByUse (plain ProcCheckUn) (of_process env p) es
-  pays_begin : {env : Env} {p : Process} {es : List Effect} → PaysByUse (plain ProcBegin) (of_process env p) es
+  pays_begin : {env : Env} {p : Process} {es : List Effect}
+      → PaysByUse (plain ProcBegin) (of_process env p) es
   pays_end : {env : Env} {p : Process} {es : List Effect} → PaysByUse (plain ProcEnd) (of_process env p) es
   pays_end_many : {env : Env} {p : Process} {es : List Effect}
       → PaysByUse (plain ProcEndMany) (of_process env p) es

@@ -16,5 +16,6 @@ IsLeftOver es (Unpaid f) = SameEffect es (View.effect f) × (SameEffect (View.ef
 abbrev pub IsSettled : List Change → Audited → Type 0
 IsSettled cs Proved = (first_unpaid_change 0 cs ≡ None) × (top_effect (run_changes cs) ≡ [])
 IsSettled cs (WrongStep i) = first_unpaid_change 0 cs ≡ Some i
-IsSettled cs (Unpaid f) = (first_unpaid_change 0 cs ≡ None) × SameEffect (top_effect (run_changes cs)) (View.effect f)
+IsSettled cs (Unpaid f) =
+    (first_unpaid_change 0 cs ≡ None) × SameEffect (top_effect (run_changes cs)) (View.effect f)
     × (SameEffect (View.effect f) [] → ⊥)

@@ -154,30 +154,6 @@ fn node_use(
     }
 }
 
-fn process_use(
-    alloc: Global,
-    judge: &mut Judge,
-    keys: &mut Keys,
-    process: &Process,
-    u: &RuleUse,
-    id: u32,
-) -> Result<Option<Fit>, NoMemory>
-    requires keys { AreKept judge.old.store keys.old }
-    requires node { id < process_size process.now.process }
-    requires placed { IsPlaced judge.old (spelled process.now.names process.now.process) id }
-    requires usage { IsUse (rule_use u.now) }
-    ensures answer { IfOk result
-        (FitsNode judge.old judge.new keys.new (spelled process.now.names process.now.process)
-        (rule_use u.now) id) }
-    ensures grows { OnOk result (GrowsTo judge.old.store keys.old judge.new.store keys.new) }
-    ensures kept { IsKept judge.old judge.new }
-{
-    match &u.taken {
-        Some(e) => sub_use(alloc, judge, keys, e, id),
-        None => node_use(alloc, judge, keys, process, u.rule, id),
-    }
-}
-
 // Holds a use against what is asked next.
 fn held_against(
     alloc: Global,
@@ -201,7 +177,10 @@ fn held_against(
         Asked::Message(m, t) => message_use(alloc, judge, u, m, t),
         Asked::Process(id, scope, names) => {
             settle(judge, scope, names)?;
-            process_use(alloc, judge, keys, process, u, id)
+            match &u.taken {
+                Some(e) => sub_use(alloc, judge, keys, e, id),
+                None => node_use(alloc, judge, keys, process, u.rule, id),
+            }
         }
     }
 }

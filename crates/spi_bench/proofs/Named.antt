@@ -1,9 +1,10 @@
 -- A name as the index of a binder, and back.
 use Rattle.std.proofs.Common.{◌≡◌, refl, sym, subst, ℕ, suc, ◌+◌, ◌<◌, ◌≢◌, Bool, true, false, [], ◌∷◌, if◌then◌else◌, ◌==◌, arith, ap, ne_eqb, eq-eqb}
 use Rattle.std.proofs.lemmas.Bool.{eqb-false, eqb-true}
-use Rattle.spi_term.specs.Term.{Message, bound, name, unit, pair, in_left, in_right, enc, hash, ends, checks, many, Effect, Ty, un, unit_ty, pair_ty, sum_ty, key, nonce, Process, Leaf, Sends, Stops, Prefix, Recvs, Serves, Splits, Selects, Decrypts, Checks, Begins, Ends, EndManys, Casts, Freshes, Fork, Branches, Pars, leaf, prefix, fork, binds, fork_binds}
+use Rattle.spi_term.specs.Term.{Message, bound, name, ends, checks, many, Effect, Ty, un, unit_ty, pair_ty, sum_ty, key, nonce, Process, Leaf, Sends, Stops, Prefix, Recvs, Serves, Splits, Selects, Decrypts, Checks, Begins, Ends, EndManys, Casts, Freshes, Fork, Branches, Pars, leaf, prefix, fork, binds, fork_binds}
 use Rattle.spi_term.specs.Substitution.{effect_map, ty_map, process_map, leaf_map, prefix_map, fork_map, put}
 use Rattle.spi_term.specs.Names.{OfLeaf, OfPrefix, OfFork, MessageOver, OfEffect, OfTy, OfProcess}
+use Rattle.spi_term.proofs.Mapped.{over_mapped, mapped_back}
 use Rattle.spi_term.proofs.Terms.{binds_map, fork_binds_map}
 use Rattle.spi_bench.specs.Whole.{indexed_message}
 
@@ -54,15 +55,12 @@ back_name : (k d x : ℕ) (t : Bool) → (x == k) ≡ t → put (name k) d (if t
 back_name k d x true e = let f : x ≡ k = eqb-true x k e in rw (eq-eqb d d refl) (ap (λ n. name n) (sym f))
 back_name k d x false e = refl
 
+put_inner : (k d i : ℕ) → i < d → put (name k) d (bound i) ≡ bound i
+put_inner k d i l = let ne : i ≢ d = omega arith in rw (ne_eqb i d ne)
+
 back : (n k d : ℕ) (m : Message) → MessageOver n d m → put (name k) d (indexed_message k d m) ≡ m
-back n k d (bound i) h = let ne : i ≢ d = omega arith in rw (ne_eqb i d ne)
-back n k d (name x) h = back_name k d x (x == k) refl
-back n k d unit h = refl
-back n k d (pair a b) h = rw (back n k d a h.0, back n k d b h.1)
-back n k d (in_left a) h = rw (back n k d a h)
-back n k d (in_right a) h = rw (back n k d a h)
-back n k d (enc a b) h = rw (back n k d a h.0, back n k d b h.1)
-back n k d (hash a) h = rw (back n k d a h)
+back n k d m h =
+    mapped_back (λ i. if i == d then name k else bound i) name bound (λ x. if x == k then bound d else name x) n d (λ i l. put_inner k d i l) (λ x l. back_name k d x (x == k) refl) m h
 
 pub opened_back : (n k : ℕ) (p : Process) → OfProcess (MessageOver n) 0 p → process_map (put (name k)) 0 (process_map (indexed_message k) 0 p) ≡ p
 opened_back n k p h = undone (MessageOver n) (indexed_message k) (λ d. put (name k) d) (back n k) 0 p h
@@ -76,14 +74,8 @@ over_name k d x true e h = zero_less d
 over_name k d x false e h = let f : x ≢ k = eqb-false x k e in omega arith
 
 over_indexed : (k d : ℕ) (m : Message) → MessageOver (suc k) d m → MessageOver k (suc d) (indexed_message k d m)
-over_indexed k d (bound i) h = omega arith
-over_indexed k d (name x) h = over_name k d x (x == k) refl h
-over_indexed k d unit h = tt
-over_indexed k d (pair a b) h = (over_indexed k d a h.0, over_indexed k d b h.1)
-over_indexed k d (in_left a) h = over_indexed k d a h
-over_indexed k d (in_right a) h = over_indexed k d a h
-over_indexed k d (enc a b) h = (over_indexed k d a h.0, over_indexed k d b h.1)
-over_indexed k d (hash a) h = over_indexed k d a h
+over_indexed k d m h =
+    over_mapped bound (λ x. if x == k then bound d else name x) (suc k) d k (suc d) (λ i l. omega arith) (λ x l. over_name k d x (x == k) refl l) m h
 
 over_effect : (k d : ℕ) (es : Effect) → OfEffect (MessageOver (suc k) d) es → OfEffect (MessageOver k (suc d)) (effect_map (indexed_message k d) es)
 over_effect k d [] h = tt

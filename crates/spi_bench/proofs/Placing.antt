@@ -13,7 +13,7 @@ use Rattle.spi_bench.specs.Parts.{Part, part_named, with_part, without}
 use Rattle.std.proofs.lemmas.List.{length-set, get_or-set_same, set-get_or, set_at, nil_from_length}
 use Rattle.std.proofs.lemmas.Option.{slice_get_within, slice_get-get_or, get_or_from_slice_get}
 use Rattle.spi_term.specs.declared.term.Effect as D
-use Rattle.spi_bench.specs.Slots.{SetsPart, sets_part, sets_none, SetsLast, sets_last, IsPadded, PutsPart, Drops, Stays}
+use Rattle.spi_bench.specs.Slots.{SetsPart, sets_part, sets_none, IsPadded, PutsPart, Drops, Stays}
 use Rattle.spi_bench.specs.Slots.{part_of, slot_parts, SlotStandsAt, AreNamed, IsPartOver, IsInferred, AreInferred}
 use Rattle.spi_bench.specs.declared.slot.Slot.{Slot}
 
@@ -293,8 +293,9 @@ puts_there n p least i _ old new at h e (sets_none g) =
     let (u, v, z) = (h n i).0 e in
     none_some u (slice_get old i) g v
 
-pub puts_last : (n : List ℕ) (p : Spelling) (least : Option D.Effect) (old new : List (Option Slot)) (at to : SlotAt) → AreNamed old at → at n ≡ None → SetsLast n p least old new → to n ≡ Some (length old) → ((m : List ℕ) → n ≢ m → to m ≡ at m) → PutsPart n p least None old new to
-puts_last n p least old new at to h e (sets_last {t} f q m w) here others =
+pub puts_last : (n : List ℕ) (p : Spelling) (least : Option D.Effect) (t : Slot) (old new : List (Option Slot)) (at to : SlotAt) → AreNamed old at → at n ≡ None → t.name ≡ n → t.part ≡ p → t.least ≡ least
+    → new ≡ slice_set (old ++ None ∷ []) (length old) (Some t) → to n ≡ Some (length old) → ((m : List ℕ) → n ≢ m → to m ≡ at m) → PutsPart n p least None old new to
+puts_last n p least t old new at to h e f q m w here others =
     let o = no_name n old at h e in
     let l : length old < length (old ++ None ∷ []) = let a = length-append old (None ∷ []) in omega arith in
     let padded = old ++ None ∷ [] in

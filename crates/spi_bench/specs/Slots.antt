@@ -66,13 +66,6 @@ pub data SetsPart (i : ℕ) (p : Spelling) (least : Option Declared.Effect) : Op
       → new ≡ slice_set old i (Some t) → SetsPart i p least (Some s.part) old new
   sets_none : {old new : List (Option Slot)} → slice_get old i ≡ Some None → SetsPart i p least None old new
 
--- a slot comes last, with the part under the name
-pub data SetsLast (n : List ℕ) (p : Spelling) (least : Option Declared.Effect)
-    (old new : List (Option Slot)) : Type 0 where
-  sets_last : {t : Slot} → t.name ≡ n → t.part ≡ p → t.least ≡ least
-      → new ≡ slice_set (old ++ None ∷ []) (length old) (Some t)
-      → SetsLast n p least old new
-
 -- a put: the parts, the part that was there, the places of the names, and what is inferred
 pub record PutsPart (n : List ℕ) (p : Spelling) (least : Option Declared.Effect) (r : Option Spelling)
     (old new : List (Option Slot)) (to : List ℕ → Option ℕ) : Type 0 where
@@ -98,7 +91,8 @@ pub record Stays (old new : List (Option Slot)) (to : List ℕ → Option ℕ) :
 
 -- what holds of a bench: its judge stands for the types of the names, `fine` says whether the shared types are in order,
 -- the counts are over the same names, each name is found where its slot stands, and each slot has its least effect
-pub record IsJudgedBench (j : Numbered) (free : ℕ) (ts : List Ty) (fine : Bool) (k n : ℕ) (ss : List (Option Slot))
+pub record IsJudgedBench (j : Numbered) (free : ℕ) (ts : List Ty) (fine : Bool) (k n : ℕ)
+    (ss : List (Option Slot))
     (at : List ℕ → Option ℕ) : Type 0 where
   pub stands : Stands j (slot_names free ts)
   pub shared : (fine ≡ true) ↔ AreShared (untrusted free) ts

@@ -21,6 +21,7 @@ use std::sync::ledger::Ledger;
 
 /// Parts of a protocol by name over shared names, with what the verdict of their whole needs: how often their least effects
 /// have a `check` of each shared name, how many other atoms they have, and how many parts have none.
+#[derive(Drop)]
 pub struct Bench {
     alloc: Global,
     judge: Judge,
@@ -29,20 +30,6 @@ pub struct Bench {
     fine: bool,
     table: Table,
     places: IndexMap<Text, usize>,
-}
-
-impl Drop for Bench {
-    fn drop(self) {
-        let Bench {
-            alloc: _,
-            judge: _,
-            free: _,
-            shared: _,
-            fine: _,
-            table: _,
-            places: _,
-        } = self;
-    }
 }
 
 impl Model for Bench {
@@ -60,7 +47,8 @@ impl Model for Bench {
 
     ghost coded = { Prim.hlevel (codes, coded_spelling, coded_types) };
 
-    ghost view = { λ b. record { free = b.free; shared = map ty b.shared.items; parts = slot_parts b.table.slots.items } };
+    ghost view = { λ b.
+        record { free = b.free; shared = map ty b.shared.items; parts = slot_parts b.table.slots.items } };
 
     ghost invariant = { λ b. IsJudgedBench b.judge b.free (map ty b.shared.items) b.fine b.table.sums.free
         (shared_in b.table.sums) b.table.slots.items (get bytes_eq b.places) };

@@ -3,7 +3,7 @@ ghost use Rattle.std.specs.Prelude.{◌≡◌, ◌↔◌, ◌+◌, ◌<◌, ◌�
 ghost use Rattle.std.specs.Str.{bytes_eq};
 ghost use Rattle.indexmap.specs.IndexMap.{get, IsUnchanged, Updates};
 ghost use Rattle.spi_term.specs.Term.{process_size};
-ghost use Rattle.spi_bench.specs.Slots.{AreNamed, IsPadded, SetsPart, SetsLast, PutsPart, Drops, Stays};
+ghost use Rattle.spi_bench.specs.Slots.{AreNamed, IsPadded, SetsPart, PutsPart, Drops, Stays};
 ghost use Rattle.spi_bench.specs.Sums.{of_least, total_in, shared_in};
 ghost use Rattle.spi_bench.specs.Sums as S;
 
@@ -61,36 +61,6 @@ fn put_there(table: &mut Table, at: usize, part: Process, least: Option<Effect>)
     }
 }
 
-// A part under a name that is new. Without memory the part is given back.
-fn put_new(
-    alloc: Global,
-    table: &mut Table,
-    places: &mut IndexMap<Text, usize>,
-    name: &Text,
-    part: Process,
-    least: Option<Effect>,
-) -> Result<(), Process>
-    requires nodes { total_in table.old.sums S.nodes table.old.slots.items + process_size part.process
-        < 2 ^ 64 }
-    requires atoms { total_in table.old.sums S.atoms table.old.slots.items + of_least length least < 2 ^ 64 }
-    ensures set { OnOk result (SetsLast name.now part least table.old.slots.items table.new.slots.items) }
-    ensures placed { OnOk result
-        (Updates bytes_eq places.old places.new name.now (Some (length table.old.slots.items))) }
-    ensures padded { OnErr result (IsPadded table.old.slots.items table.new.slots.items) }
-    ensures unchanged { OnErr result (IsUnchanged places.old places.new) }
-    ensures part { IfErr result (λ p. p ≡ part) }
-    ensures free { table.new.sums.free ≡ table.old.sums.free }
-    ensures shared { shared_in table.new.sums ≡ shared_in table.old.sums }
-{
-    match new_place(alloc, table, places, name) {
-        Ok((name, at)) => {
-            let _ = table.set(at, Some(Slot { name, part, least }));
-            Ok(())
-        }
-        Err(_) => Err(part),
-    }
-}
-
 /// A part under a name: another one in its place where the name is there, and else the last one. It gives back the part
 /// that was there. Without memory the new part is given back.
 pub fn put_fitting(
@@ -117,9 +87,12 @@ pub fn put_fitting(
     }
     match places.get(name).copied() {
         Some(at) => Ok(put_there(table, at, part, least)),
-        None => match put_new(alloc, table, places, name, part, least) {
-            Ok(()) => Ok(None),
-            Err(part) => Err(part),
+        None => match new_place(alloc, table, places, name) {
+            Ok((name, at)) => {
+                let _ = table.set(at, Some(Slot { name, part, least }));
+                Ok(None)
+            }
+            Err(_) => Err(part),
         },
     }
 }

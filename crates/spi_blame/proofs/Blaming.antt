@@ -23,6 +23,17 @@ key_named {env} {x} {t} a = record { number = x; payload = t; is = refl; has = a
 payload_one : {env : Env} {x : ℕ} {t u : Ty} → At env x (key t) → At env x (key u) → t ≡ u
 payload_one {t = t} {u = u} a b = let e : key t ≡ key u = at_unique a b in cc
 
+-- of a ciphertext the same is asked where it is to be a label and where it is to be Un
+as_un : {env : Env} {m n : Message} {qs : List Question} → Asks env (labelled (enc m n)) qs → Asks env (typed (enc m n) un) qs
+as_un (asks_label_key a) = asks_key a
+as_un (asks_label_enc n) = asks_enc n
+
+sealed_one : {env : Env} {m n : Message} {qs rs : List Question} → Asks env (typed (enc m n) un) qs → Asks env (typed (enc m n) un) rs → qs ≡ rs
+sealed_one (asks_key {m} {x} a) (asks_key b) = ap (λ v. typed (name x) (key v) ∷ typed m v ∷ []) (payload_one a b)
+sealed_one (asks_key a) (asks_enc n) = absurd (n (key_named a))
+sealed_one (asks_enc n) (asks_key a) = absurd (n (key_named a))
+sealed_one (asks_enc n) (asks_enc k) = refl
+
 -- a question comes down to one list
 pub asks_one : {env : Env} {q : Question} {qs rs : List Question} → Asks env q qs → Asks env q rs → qs ≡ rs
 asks_one (asks_name a s) (asks_name b z) = refl
@@ -34,20 +45,16 @@ asks_one asks_left asks_left = refl
 asks_one asks_left_un asks_left_un = refl
 asks_one asks_right asks_right = refl
 asks_one asks_right_un asks_right_un = refl
-asks_one (asks_key {m} {x} a) (asks_key b) = ap (λ v. typed (name x) (key v) ∷ typed m v ∷ []) (payload_one a b)
-asks_one (asks_key a) (asks_enc n) = absurd (n (key_named a))
-asks_one (asks_enc n) (asks_key a) = absurd (n (key_named a))
-asks_one (asks_enc n) (asks_enc k) = refl
+asks_one (asks_key a) h = sealed_one (asks_key a) h
+asks_one (asks_enc n) h = sealed_one (asks_enc n) h
 asks_one asks_hash asks_hash = refl
 asks_one (asks_label_name a) (asks_label_name b) = refl
 asks_one asks_label_unit asks_label_unit = refl
 asks_one asks_label_pair asks_label_pair = refl
 asks_one asks_label_left asks_label_left = refl
 asks_one asks_label_right asks_label_right = refl
-asks_one (asks_label_key {m} {x} a) (asks_label_key b) = ap (λ v. typed (name x) (key v) ∷ typed m v ∷ []) (payload_one a b)
-asks_one (asks_label_key a) (asks_label_enc n) = absurd (n (key_named a))
-asks_one (asks_label_enc n) (asks_label_key a) = absurd (n (key_named a))
-asks_one (asks_label_enc n) (asks_label_enc k) = refl
+asks_one (asks_label_key a) h = sealed_one (asks_key a) (as_un h)
+asks_one (asks_label_enc n) h = sealed_one (asks_enc n) (as_un h)
 asks_one asks_label_hash asks_label_hash = refl
 
 pub each_none : (env : Env) → EachHolds env []

@@ -20,7 +20,7 @@ opponent_later : (k : ℕ) (o : Option Spelling) → IsOpponentPart false k o �
 opponent_later k None h = tt
 opponent_later k (Some p) h = part_later k p h
 
-derivation_of : (f g : Meant) (d : Option t.Deriv) → g.derivation ≡ f.derivation → IsDerivationOf false f d → IsDerivationOf true g d
+derivation_of : (f g : Meant) (d : Option t.Deriv) → g.derivation ≡ f.derivation → IsDerivationOf false f.derivation d → IsDerivationOf true g.derivation d
 derivation_of f g d e h = record {
   uses = e ∙ h.uses;
   formed = derivation_later d h.formed;
@@ -48,7 +48,7 @@ from_first f g d h one v r =
       opponent = opponent_of new n v.opponent (opponent_later (length f.names) f.opponent opponent);
       few = omega (arith, n, p, o, h.few);
       schedule = subst AreSteps (sym v.schedule) h.schedule;
-      derivation = subst (λ (l : Bool). IsDerivationOf l g d) (sym new) (derivation_of f g d v.derivation (subst (λ (l : Bool). IsDerivationOf l f d) old h.derivation));
+      derivation = subst (λ (l : Bool). IsDerivationOf l g.derivation d) (sym new) (derivation_of f g d v.derivation (subst (λ (l : Bool). IsDerivationOf l f.derivation d) old h.derivation));
     }
 
 pub upgraded_printable : (f : Meant) (d : Option t.Deriv) → IsPrintable f d → (g : Meant) → IsUpgrade f g → IsPrintable g d

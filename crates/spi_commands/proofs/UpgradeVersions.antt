@@ -112,18 +112,6 @@ later_written : (es : Option (List t.Atom)) → IsWritten false es → IsWritten
 later_written None h = tt
 later_written (Some es) h = later_atoms true es h
 
-mutual
-  later_deriv : (d : t.Deriv) → IsDeriv false d → IsDeriv true d
-  later_deriv (t.rule s w es ds) h = (later_written es h.0, later_derivs ds h.1)
-
-  later_derivs : (ds : t.Derivs) → AreDerivs false ds → AreDerivs true ds
-  later_derivs t.no_derivs h = tt
-  later_derivs (t.more_derivs d ds) h = (later_deriv d h.0, later_derivs ds h.1)
-
-pub derivation_later : (d : Option t.Deriv) → IsDerivation false d → IsDerivation true d
-derivation_later None h = tt
-derivation_later (Some d) h = later_deriv d h
-
 -- a rule of version 1 has the same arity in version 2
 named_on : (rs more : List Rule) (w : List ℕ) (k : ℕ) → arity_by (named rs w) ≡ Some k → arity_by (named (rs ++ more) w) ≡ Some k
 named_on [] more w k e = absurd cc
@@ -134,16 +122,25 @@ named_on (r ∷ rs) more w k e = by (bytes_eq (rule_spelled r) w) e (named_on rs
     by false h f = f h
 
 mutual
-  later_rules_of : (d : t.Deriv) → HasRules false d → HasRules true d
-  later_rules_of (t.rule s w es ds) h = (named_on first_rules later_rules w.word _ h.0, h.1, later_all_rules ds h.2)
+  later_deriv : (d : t.Deriv) → (IsDeriv false d → IsDeriv true d) × (HasRules false d → HasRules true d)
+  later_deriv (t.rule s w es ds) =
+      let (f, g) = later_derivs ds in
+      (λ h. (later_written es h.0, f h.1), λ h. (named_on first_rules later_rules w.word _ h.0, h.1, g h.2))
 
-  later_all_rules : (ds : t.Derivs) → HaveRules false ds → HaveRules true ds
-  later_all_rules t.no_derivs h = tt
-  later_all_rules (t.more_derivs d ds) h = (later_rules_of d h.0, later_all_rules ds h.1)
+  later_derivs : (ds : t.Derivs) → (AreDerivs false ds → AreDerivs true ds) × (HaveRules false ds → HaveRules true ds)
+  later_derivs t.no_derivs = (λ h. tt, λ h. tt)
+  later_derivs (t.more_derivs d ds) =
+      let (f, g) = later_deriv d in
+      let (fs, gs) = later_derivs ds in
+      (λ h. (f h.0, fs h.1), λ h. (g h.0, gs h.1))
+
+pub derivation_later : (d : Option t.Deriv) → IsDerivation false d → IsDerivation true d
+derivation_later None h = tt
+derivation_later (Some d) h = (later_deriv d).0 h
 
 pub rules_later : (d : Option t.Deriv) → IsFormedDerived false d → IsFormedDerived true d
 rules_later None h = tt
-rules_later (Some d) h = later_rules_of d h
+rules_later (Some d) h = (later_deriv d).1 h
 
 -- ---- tokens
 

@@ -1,6 +1,5 @@
 -- What clap makes of the words behind `play`.
-use Rattle.std.proofs.Common.{◌≡◌, ◌∙◌, ℕ, Bool, true, false, true≢false, cond, ◌||◌, refl, sym, ap, ap₂, subst, List, [], ◌∷◌, ◌++◌, take, drop, Option, Some, None, inl, inr, ◌⊎◌}
-use Rattle.std.proofs.Common.{take-append-drop}
+use Rattle.std.proofs.Common.{◌≡◌, ◌∙◌, ℕ, Bool, true, false, true≢false, cond, ◌||◌, refl, sym, ap, ap₂, subst, List, [], ◌∷◌, ◌++◌, take, drop, Option, Some, None, inl, inr, ◌⊎◌, take-append-drop}
 use Rattle.std.specs.Prelude.{codes}
 use Rattle.std.specs.List.{fold}
 use Rattle.std.specs.Str.{bytes_eq}

@@ -1,11 +1,8 @@
 -- What `bench` answers and promises.
-use Rattle.std.specs.Prelude.{◌≡◌, ◌↔◌, ℕ, suc, ◌≤◌, Bool, if◌then◌else◌, IsTrue, Ok, Some}
-use Rattle.std.specs.Prelude.{List, [], ◌∷◌, ◌++◌, length, map, codes}
+use Rattle.std.specs.Prelude.{◌≡◌, ◌↔◌, ℕ, suc, Bool, if◌then◌else◌, IsTrue, Some, List, [], ◌∷◌, ◌++◌, length, map, codes}
 use Rattle.std.specs.Fmt.{decimal}
 use Rattle.std.specs.declared.option.Option.{Option}
 use Rattle.std.specs.Io.KnownBytes.{Appends}
-use Rattle.spi_lex.specs.declared.token.Token.{Token}
-use Rattle.spi_lex.specs.Lexing.{Lexes}
 use Rattle.spi_scope.specs.StandsFor.{Meant}
 use Rattle.spi_scope.specs.FaultPlaces.{span_from}
 use Rattle.spi_bench.specs.Parts.{Benched, IsYes}
@@ -16,12 +13,11 @@ use Rattle.spi_edits.specs.Reads.{IsBenchSpelled}
 use Rattle.spi_workbench.specs.Reading.{bench_after}
 use Rattle.spi_workbench.specs.Answers.{BenchStands, RefusesEdits, AreVerdicts}
 use Rattle.spi_workbench.specs.declared.answer.Refusal.{Refusal}
-use Rattle.spi_workbench.specs.declared.answer.Refusal.TheVariants.{TooManyShared, Scope, TooManyEdits}
-use Rattle.spi_workbench.specs.declared.answer.Refusal.TheVariants.{UnknownPart, BenchTooLarge}
+use Rattle.spi_workbench.specs.declared.answer.Refusal.TheVariants.{TooManyShared, Scope, TooManyEdits, UnknownPart, BenchTooLarge}
 use Rattle.spi_workbench.specs.declared.answer.Verdicts.{Verdicts}
 use Rattle.spi_commands.specs.declared.status.Status.{Status}
 use Rattle.spi_commands.specs.declared.status.Status.TheVariants.{Yes, No, Refused}
-use Rattle.spi_commands.specs.Spelled.{limit, SpellsFile, SpellsDerivable, SpellsUnderivable}
+use Rattle.spi_commands.specs.Spelled.{AreBytesOf, SpellsFile, SpellsDerivable, SpellsUnderivable}
 use Rattle.spi_commands.specs.Answers.{Answers, never}
 use Rattle.spi_commands.specs.Refusals.{layered, IsLineOf, IsUnlexed, IsUnparsed, scope_number, scope_shown}
 
@@ -29,11 +25,8 @@ use Rattle.spi_commands.specs.Refusals.{layered, IsLineOf, IsUnlexed, IsUnparsed
 
 -- The bytes are those of a formed bench: its tokens, each node and word with its place, and no node above a
 -- nesting limit.
-pub record IsBenchOf (bytes : List ℕ) (b : Bench) : Type 0 where
-  pub within : length bytes ≤ limit
-  pub tokens : List Token
-  pub lexed : Lexes bytes (Ok tokens)
-  pub spelled : IsBenchSpelled b tokens
+abbrev pub IsBenchOf : List ℕ → Bench → Type 0
+IsBenchOf = AreBytesOf IsBenchSpelled
 
 -- and nothing of it is refused
 abbrev pub SpellsBench : List ℕ → Bench → Type 0

@@ -38,7 +38,8 @@ certificate_line names k line =
 -- a line for each, from number k on
 abbrev pub certificate_lines : List (List ℕ) → ℕ → List CertLine → List ℕ
 certificate_lines names k [] = []
-certificate_lines names k (line ∷ lines) = certificate_line names k line ++ certificate_lines names (suc k) lines
+certificate_lines names k (line ∷ lines) =
+    certificate_line names k line ++ certificate_lines names (suc k) lines
 
 -- the text of a name that is known, and its certificate; and that of one that isn't
 abbrev pub known_text : List (List ℕ) → ℕ → List CertLine → List ℕ

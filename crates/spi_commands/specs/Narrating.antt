@@ -1,11 +1,9 @@
 -- What `narrate` answers and promises.
-use Rattle.std.specs.Prelude.{◌≡◌, ◌↔◌, ◌⊎◌, ℕ, ◌≤◌, List, [], length, Ok, Some}
+use Rattle.std.specs.Prelude.{◌≡◌, ◌↔◌, ◌⊎◌, ℕ, List, [], Some}
 use Rattle.std.specs.declared.option.Option.{Option}
 use Rattle.std.specs.Fmt.{decimal}
 use Rattle.std.specs.Io.KnownBytes.{Appends}
 use Rattle.spi_text.specs.declared.lines.Span.{Span}
-use Rattle.spi_lex.specs.declared.token.Token.{Token}
-use Rattle.spi_lex.specs.Lexing.{Lexes}
 use Rattle.spi_term.specs.Lists.{At}
 use Rattle.spi_term.specs.Term.{Process, stop}
 use Rattle.spi_run.specs.Reduction.{Event}
@@ -22,7 +20,7 @@ use Rattle.spi_narrator.specs.declared.answer.Refusal.TheVariants.{NotFree, Scop
 use Rattle.spi_narrator.specs.Answers.{IsTold, RefusesNarration as RefusesTelling}
 use Rattle.spi_commands.specs.declared.status.Status.{Status}
 use Rattle.spi_commands.specs.declared.status.Status.TheVariants.{Yes, Refused}
-use Rattle.spi_commands.specs.Spelled.{limit, SpellsFile}
+use Rattle.spi_commands.specs.Spelled.{AreBytesOf, SpellsFile}
 use Rattle.spi_commands.specs.Answers.{Answers, never}
 use Rattle.spi_commands.specs.Refusals.{layered, IsLineOf, IsUnlexed, IsUnparsed, scope_number, scope_shown}
 use Rattle.spi_commands.specs.Canonical.{IsPrint, IsLong, HasLongPrint}
@@ -31,11 +29,8 @@ use Rattle.spi_commands.specs.Replaying.{ReplaysTo, IsReplayText}
 
 -- The bytes are those of a formed narration: its tokens, each node and word with its place, and no node above a
 -- nesting limit.
-pub record IsNarrationOf (bytes : List ℕ) (x : Narration) : Type 0 where
-  pub within : length bytes ≤ limit
-  pub tokens : List Token
-  pub lexed : Lexes bytes (Ok tokens)
-  pub spelled : IsNarrationSpelled x tokens
+abbrev pub IsNarrationOf : List ℕ → Narration → Type 0
+IsNarrationOf = AreBytesOf IsNarrationSpelled
 
 -- and nothing is wrong in it behind the grammar
 abbrev pub SpellsNarration : List ℕ → Narration → Type 0

@@ -14,10 +14,13 @@ use Rattle.spi_scope.specs.declared.fault.ScopeFault.{ScopeFault}
 use Rattle.spi_scope.specs.declared.fault.ScopeFault.TheVariants.{UnknownName, UnknownType, NameTwice, TypeTwice, MessageTooLarge, TypeTooLarge, FileTooLarge, ScheduleTooLong, NoMemory as OutOfMemory}
 use Rattle.spi_scope.specs.First.{HasFirst}
 use Rattle.spi_scope.specs.FaultPlaces.{span_from}
+pub use Rattle.spi_scope.specs.Standing.{scope_number}
 use Rattle.spi_report.specs.declared.refusal.Refusal.{Refusal}
 use Rattle.spi_report.specs.Refused.{refused_text}
 use Rattle.spi_spell.specs.Joined.{joined_texts}
+use Rattle.spi_commands.specs.declared.answer.Answer.{Answer}
 use Rattle.spi_commands.specs.declared.status.Status.{Status}
+use Rattle.spi_commands.specs.declared.status.Status.TheVariants.{Refused}
 use Rattle.spi_commands.specs.Answers.{Answers, never}
 use Rattle.spi_commands.specs.Spelled.{limit, IsTreeOf}
 
@@ -30,6 +33,10 @@ layered first later number offset shown = first number offset shown ⊎ later nu
 abbrev pub IsLineOf : List ℕ → (ℕ → Option ℕ → List ℕ → Type 0) → List ℕ → Type 0
 IsLineOf bytes causes output = (r : Refusal) × causes r.number r.offset r.shown.items
     × (output ≡ refused_text bytes r)
+
+-- the answer refuses the bytes for one of these causes
+abbrev pub IsRefusedFor : List ℕ → (ℕ → Option ℕ → List ℕ → Type 0) → Answer → Type 0
+IsRefusedFor bytes causes answer = (answer.status ≡ Refused) × IsLineOf bytes causes answer.output.items
 
 -- the one cause that has this number, stands there and shows this
 abbrev pub IsCause : ℕ → Option ℕ → List ℕ → ℕ → Option ℕ → List ℕ → Type 0
@@ -68,18 +75,7 @@ pub data IsUnparsed {X : Type 0} (pieces : X → List Piece) (IsFormed : X → T
 
 -- ---- scopes
 
--- the number of a fault of scopes, and what it shows
-abbrev pub scope_number : ScopeFault → ℕ
-scope_number (UnknownName s w) = 30
-scope_number (UnknownType s w) = 31
-scope_number (NameTwice s w) = 32
-scope_number (TypeTwice s w) = 33
-scope_number (MessageTooLarge s n) = 34
-scope_number (TypeTooLarge s n) = 35
-scope_number (FileTooLarge s n) = 36
-scope_number (ScheduleTooLong s n) = 37
-scope_number OutOfMemory = 0
-
+-- what a fault of scopes shows
 abbrev pub scope_shown : ScopeFault → List ℕ
 scope_shown (UnknownName s w) = w
 scope_shown (UnknownType s w) = w

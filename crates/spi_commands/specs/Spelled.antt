@@ -1,10 +1,19 @@
--- The file that bytes spell, and what holds of its process and of its derivation.
-use Rattle.std.specs.Prelude.{◌≡◌, ℕ, List, [], Some, None}
+-- What bytes spell: a text of some kind, or a file, and what holds of its process and of its derivation.
+use Rattle.std.specs.Prelude.{◌≡◌, ◌≤◌, ℕ, List, [], length, Ok, Some, None}
+use Rattle.spi_lex.specs.declared.token.Token.{Token}
+use Rattle.spi_lex.specs.Lexing.{Lexes}
 use Rattle.spi_scope.specs.StandsFor.{Meant}
 use Rattle.spi_rules.specs.Environment.{untrusted}
 use Rattle.spi_rules.specs.Derivations.{RuleUse, Derivable, Proves}
 use Rattle.spi_run.specs.Safety.{RobustlySafe, RobustlySafeMany}
 pub use Rattle.spi_spell.specs.Spelled.{limit, IsTreeOf, SpellsFile}
+
+-- The bytes are no more than a file may have, and their tokens spell this text, of whatever kind.
+pub record AreBytesOf {X : Type 0} (IsSpelled : X → List Token → Type 0) (bytes : List ℕ) (x : X) : Type 0 where
+  pub within : length bytes ≤ limit
+  pub tokens : List Token
+  pub lexed : Lexes bytes (Ok tokens)
+  pub spelled : IsSpelled x tokens
 
 -- the file's process has a typing derivation of empty effect, where its free names are untrusted
 abbrev pub IsDerivable : Meant → Type 0

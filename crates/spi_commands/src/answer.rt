@@ -4,7 +4,7 @@ ghost use Rattle.std.specs.Fmt.{decimal};
 ghost use Rattle.spi_text.specs.Place.{IsSized};
 ghost use Rattle.spi_report.specs.Names.{name_of};
 ghost use Rattle.spi_report.specs.Refused.{refused_text};
-ghost use Rattle.spi_commands.specs.Refusals.{FitsBehind, IsCause, IsLineOf, IsMissing, IsTooMuch};
+ghost use Rattle.spi_commands.specs.Refusals.{FitsBehind, IsCause, IsRefusedFor, IsMissing, IsTooMuch};
 ghost use Rattle.spi_commands.specs.declared.answer.Stop.TheVariants.{NoMemory};
 
 use crate::status::Status;
@@ -88,9 +88,7 @@ pub fn refusal_line(alloc: Global, bytes: &[u8], r: &Refusal) -> Result<Vec<u8>,
 pub fn placeless(alloc: Global, bytes: &[u8], number: u32, shown: String) -> Result<Answer, Stop>
     requires sized { length bytes.now ≤ 16_777_216 }
     requires named { IsSome (name_of number) }
-    ensures ok { IfOk result
-        (λ answer. (answer.status ≡ Status.Refused)
-        × IsLineOf bytes.now (IsCause number None (string_bytes shown)) answer.output.items) }
+    ensures ok { IfOk result (IsRefusedFor bytes.now (IsCause number None (string_bytes shown))) }
     ensures err { OnErr result (result ≡ Err Stop.NoMemory) }
 {
     let r = Refusal {
@@ -105,9 +103,7 @@ pub fn placeless(alloc: Global, bytes: &[u8], number: u32, shown: String) -> Res
 pub fn refused_count(alloc: Global, bytes: &[u8], number: u32, count: u64) -> Result<Answer, Stop>
     requires sized { length bytes.now ≤ 16_777_216 }
     requires named { IsSome (name_of number) }
-    ensures ok { IfOk result
-        (λ answer. (answer.status ≡ Status.Refused)
-        × IsLineOf bytes.now (IsCause number None (decimal count)) answer.output.items) }
+    ensures ok { IfOk result (IsRefusedFor bytes.now (IsCause number None (decimal count))) }
     ensures err { OnErr result (result ≡ Err Stop.NoMemory) }
 {
     let shown = format!(in alloc; "{count}")?;
@@ -118,9 +114,7 @@ pub fn refused_count(alloc: Global, bytes: &[u8], number: u32, count: u64) -> Re
 pub fn too_much(alloc: Global, bytes: &[u8], count: u64) -> Result<Answer, Stop>
     requires sized { length bytes.now ≤ 16_777_216 }
     requires much { 16_777_216 < count }
-    ensures ok { IfOk result
-        (λ answer. (answer.status ≡ Status.Refused)
-        × IsLineOf bytes.now (IsTooMuch count) answer.output.items) }
+    ensures ok { IfOk result (IsRefusedFor bytes.now (IsTooMuch count)) }
     ensures err { OnErr result (result ≡ Err Stop.NoMemory) }
 {
     refused_count(alloc, bytes, 80, count)
@@ -147,9 +141,7 @@ pub fn within_limit(alloc: Global, bytes: &[u8], output: Vec<u8>) -> Result<Answ
 /// The refusal of a file that lacks a part.
 pub fn missing(alloc: Global, bytes: &[u8], part: &[u8]) -> Result<Answer, Stop>
     requires { length bytes.now ≤ 16_777_216 }
-    ensures ok { IfOk result
-        (λ answer. (answer.status ≡ Status.Refused)
-        × IsLineOf bytes.now (IsMissing part.now) answer.output.items) }
+    ensures ok { IfOk result (IsRefusedFor bytes.now (IsMissing part.now)) }
     ensures err { OnErr result (result ≡ Err Stop.NoMemory) }
 {
     let shown = part.to_vec(alloc)?;

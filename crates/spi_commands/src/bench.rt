@@ -1,21 +1,18 @@
 // The command `bench`.
-ghost use Rattle.std.specs.Prelude.{◌≡◌, ◌+◌, ◌<◌, ◌≤◌, ◌^◌, ◌++◌, length};
-ghost use Rattle.std.specs.Prelude.{IfOk, IfErr, OnOk, OnErr, Ok, Err};
+ghost use Rattle.std.specs.Prelude.{◌≡◌, ◌+◌, ◌<◌, ◌≤◌, ◌^◌, ◌++◌, length, IfOk, IfErr, OnOk, OnErr, Ok, Err};
 ghost use Rattle.spi_lex.specs.Lexing.{Lexes, kinds_of};
 ghost use Rattle.spi_lex.specs.Writing.{AreKinds};
 ghost use Rattle.spi_edits.specs.Edits.{Bench};
 ghost use Rattle.spi_edits.specs.Views.{bench_of};
 ghost use Rattle.spi_workbench.specs.Answers.{IsJudged};
 ghost use Rattle.spi_commands.specs.Reading.{HasTokens, IsUnreadBy, TellsRefusal};
-ghost use Rattle.spi_commands.specs.Benching.{IsBenchOf, AreVerdictsTold, IsUnjudged, RefusesBench, BenchesTo};
-ghost use Rattle.spi_commands.specs.Benching.{bench_number, bench_place, bench_shown};
-ghost use Rattle.spi_commands.specs.Benching.{verdict_text, verdicts_text};
+ghost use Rattle.spi_commands.specs.Benching.{IsBenchOf, AreVerdictsTold, IsUnjudged, RefusesBench, BenchesTo, bench_number, bench_place, bench_shown, verdict_text, verdicts_text};
 
 use crate::NoMemory;
 use crate::answer::{Answer, Stop};
-use crate::reading::{Unread, out_of_scope, refused_for, shown_count, shown_word, start};
+use crate::causes::{out_of_scope, refused_for, shown_count, shown_word, unparsed};
+use crate::reading::Unread;
 use crate::status::Status;
-use crate::text::unspelled;
 use spi_edits::{BenchText, read_bench};
 use spi_lex::Token;
 use spi_parse::ParseFault;
@@ -48,12 +45,8 @@ fn verdicts_of(alloc: Global, bytes: &[u8], tokens: &[Token]) -> Result<Verdicts
 {
     match read_bench(alloc, tokens) {
         Ok(text) => judged(alloc, text, bytes.len() as u32),
-        Err(ParseFault::Syntax { token }) => Err(unspelled(alloc, 20, start(bytes, tokens, token))),
-        Err(ParseFault::TooDeep { token }) => Err(unspelled(
-            alloc,
-            21,
-            start(bytes, tokens, token),
-        )),
+        Err(ParseFault::Syntax { token }) => Err(unparsed(alloc, 20, bytes, tokens, token)),
+        Err(ParseFault::TooDeep { token }) => Err(unparsed(alloc, 21, bytes, tokens, token)),
         Err(ParseFault::NoMemory) => Err(Unread::NoMemory),
     }
 }

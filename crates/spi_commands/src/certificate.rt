@@ -1,6 +1,6 @@
 // The text of a certificate of knowledge.
 ghost use Rattle.std.specs.Prelude.{◌≡◌, ◌+◌, ◌<◌, ◌^◌, ◌++◌, IfOk, OnOk};
-ghost use Rattle.spi_commands.specs.Certificate.{by_text, known_text, certificate_line, certificate_lines, of_one, of_two, unknown_text};
+ghost use Rattle.spi_commands.specs.Certificate.{by_text, known_text, certificate_line, of_one, of_two, unknown_text};
 
 use crate::NoMemory;
 use spi_know::{By, Cert, CertLine};

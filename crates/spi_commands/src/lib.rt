@@ -6,6 +6,7 @@ mod answering;
 mod asked;
 mod bench;
 mod canonical;
+mod causes;
 mod certificate;
 mod derive;
 mod knows;

@@ -20,8 +20,8 @@ ghost use Rattle.spi_commands.specs.Spelled.{SpellsFile};
 
 use crate::answer::{Answer, Stop};
 use crate::canonical::shown;
-use crate::reading::{Unread, out_of_scope, refused_for, shown_count, shown_word, start};
-use crate::text::unspelled;
+use crate::causes::{out_of_scope, refused_for, shown_count, shown_word, unparsed, unspelled};
+use crate::reading::Unread;
 use spi_honest::faultless_is_tellable;
 use spi_lex::{Token, one_answer};
 use spi_narrate::{NarrateFault, Narration, one_first_fault, one_narration, read_narration};
@@ -50,8 +50,8 @@ fn unnarrated(alloc: Global, bytes: &[u8], tokens: &[Token], fault: &NarrateFaul
     ensures { IsUnreadBy (RefusesNarrate bytes.now) result }
 {
     match fault {
-        NarrateFault::Syntax { token } => unspelled(alloc, 20, start(bytes, tokens, *token)),
-        NarrateFault::TooDeep { token } => unspelled(alloc, 21, start(bytes, tokens, *token)),
+        NarrateFault::Syntax { token } => unparsed(alloc, 20, bytes, tokens, *token),
+        NarrateFault::TooDeep { token } => unparsed(alloc, 21, bytes, tokens, *token),
         NarrateFault::UnknownRole { span, word } => shown_word(alloc, 100, *span, word),
         NarrateFault::RoleTwice { span, word } => shown_word(alloc, 101, *span, word),
         NarrateFault::NarrationTooLarge { span, count } => shown_count(alloc, 103, *span, *count),

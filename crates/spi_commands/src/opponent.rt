@@ -4,11 +4,10 @@ ghost use Rattle.spi_term.specs.Spelling.{Spelling, spelled};
 ghost use Rattle.spi_opponent.specs.Allowed.{IsFirstOffence};
 ghost use Rattle.spi_scope.specs.Files.{meant};
 ghost use Rattle.spi_commands.specs.Beside.{HasOffence};
-ghost use Rattle.spi_commands.specs.Refusals.{IsLineOf};
+ghost use Rattle.spi_commands.specs.Refusals.{IsRefusedFor};
 ghost use Rattle.spi_commands.specs.Reading.{IsRead};
 
 use crate::answer::{Answer, Stop, refusal};
-use crate::status::Status;
 use spi_report::Refusal;
 use spi_scope::File;
 use std::alloc::Global;
@@ -19,9 +18,7 @@ pub fn not_opponent(alloc: Global, bytes: &[u8], file: &File, node: u32) -> Resu
     requires read { IsRead bytes.now file.now }
     requires first { (o : Spelling) × ((meant file.now).opponent ≡ Some o)
         × IsFirstOffence (spelled o.names o.process) node }
-    ensures ok { IfOk result
-        (λ answer. (answer.status ≡ Status.Refused)
-        × IsLineOf bytes.now (HasOffence bytes.now) answer.output.items) }
+    ensures ok { IfOk result (IsRefusedFor bytes.now (HasOffence bytes.now)) }
     ensures err { OnErr result (result ≡ Err Stop.NoMemory) }
 {
     let offset = file.opponent_place(node).from;

@@ -9,12 +9,11 @@ ghost use Rattle.spi_commands.specs.Answering.{IsAnsweredBy};
 ghost use Rattle.spi_commands.specs.Asked.{AreNumbersKnown};
 ghost use Rattle.spi_commands.specs.Playing.{ListsTo, PlaysTo, LeavesPlayers, IsPlayFault};
 ghost use Rattle.spi_commands.specs.Reading.{IsRead};
-ghost use Rattle.spi_commands.specs.Refusals.{IsLineOf};
+ghost use Rattle.spi_commands.specs.Refusals.{IsRefusedFor};
 
 use crate::answer::{Answer, Stop, missing, placeless, within_limit};
 use crate::asked::Command;
 use crate::opponent::not_opponent;
-use crate::status::Status;
 use spi_opponent::is_opponent;
 use spi_play::{PlayFault, Player, play};
 use spi_replay::Pool;
@@ -98,9 +97,7 @@ fn listed(alloc: Global, bytes: &[u8], steps: &[Step]) -> Result<Answer, Stop>
 /// The refusal of a play.
 fn refused(alloc: Global, bytes: &[u8], fault: &PlayFault) -> Result<Answer, Stop>
     requires { length bytes.now ≤ 16_777_216 }
-    ensures ok { IfOk result
-        (λ answer. (answer.status ≡ Status.Refused)
-        × IsLineOf bytes.now (IsPlayFault fault.now) answer.output.items) }
+    ensures ok { IfOk result (IsRefusedFor bytes.now (IsPlayFault fault.now)) }
     ensures err { OnErr result (result ≡ Err Stop.NoMemory) }
 {
     match fault {

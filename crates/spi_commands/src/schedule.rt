@@ -1,5 +1,5 @@
 // The replay of a file's schedule beside its opponent.
-ghost use Rattle.std.specs.Prelude.{◌≡◌, ◌≢◌, ◌⊎◌, ◌+◌, ◌-◌, ◌<◌, ◌^◌, ◌≤◌, ◌++◌, ℕ, List, Bool, true, length, map, option_to_list, Option, IfOk, IfErr, IfSome, MatchOption, OnOk, OnErr, Err, Some};
+ghost use Rattle.std.specs.Prelude.{◌≡◌, ◌≢◌, ◌⊎◌, ◌+◌, ◌-◌, ◌<◌, ◌^◌, ◌≤◌, ◌++◌, List, true, length, map, option_to_list, Option, IfOk, IfErr, IfSome, OnOk, OnErr, Err, Some};
 ghost use Rattle.std.specs.Fmt.{decimal};
 ghost use Rattle.spi_term.specs.Term.{Message, message_size};
 ghost use Rattle.spi_term.specs.View.{message};
@@ -12,7 +12,7 @@ ghost use Rattle.spi_replay.specs.Stepping.{Pooled, RefusesPoolStep, IsTaken, ev
 ghost use Rattle.spi_scope.specs.Places.{place_in};
 ghost use Rattle.spi_scope.specs.Files.{meant};
 ghost use Rattle.spi_commands.specs.Reading.{IsRead};
-ghost use Rattle.spi_commands.specs.Refusals.{IsLineOf, IsCause};
+ghost use Rattle.spi_commands.specs.Refusals.{IsCause};
 ghost use Rattle.spi_commands.specs.Replays.{ReplaysWithTalks, IsRefusedAt, step_number, step_shown};
 ghost use Rattle.spi_commands.specs.Ran.{AreTalks, IsDatum, IsRan, IsRefused, messages_said};
 

@@ -1,5 +1,5 @@
 // How a call of `run` ends.
-ghost use Rattle.std.specs.Prelude.{◌≡◌, ◌≤◌};
+ghost use Rattle.std.specs.Prelude.{◌≡◌};
 
 /// How a call of `run` ended.
 #[derive(Clone, Copy, Debug, PartialEq, Eq)]

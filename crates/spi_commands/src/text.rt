@@ -1,18 +1,16 @@
 // The text of an input: the bytes that a source has left, and their tokens.
-ghost use Rattle.std.specs.Prelude.{◌≡◌, ◌+◌, ◌<◌, ◌≤◌, ◌⊎◌, ℕ, List, [], length, IfOk, IfErr, IfSome, OnOk, OnErr, IsErrOf, Ok, Err};
-ghost use Rattle.std.specs.Fmt.{decimal};
+ghost use Rattle.std.specs.Prelude.{◌≡◌, ◌+◌, ◌<◌, ◌≤◌, ℕ, List, length, IfOk, IfSome, OnOk, OnErr, IsErrOf, Err};
 ghost use Rattle.spi_io.specs.Causes.{Rose, TakesUpTo};
-ghost use Rattle.spi_lex.specs.Lexing.{Lexes, kinds_of};
-ghost use Rattle.spi_lex.specs.Writing.{AreKinds, AreSpans, spans_of};
 ghost use Rattle.spi_commands.specs.Spelled.{limit};
 ghost use Rattle.spi_commands.specs.Refusals.{IsLineOf, IsUnlexed};
-ghost use Rattle.spi_commands.specs.Reading.{IsText, GivesText, IsUnreadBy, TellsRefusal};
+ghost use Rattle.spi_commands.specs.Reading.{IsText, GivesText};
 ghost use Rattle.spi_commands.specs.Run.{TakesInput};
 
 use crate::answer::{Stop, refusal_line};
+use crate::causes::unlexed;
 use crate::reading::Unread;
 use spi_io::{Source, Taken, take_all};
-use spi_lex::{LexFault, Token, lex};
+use spi_lex::{Token, lex};
 use spi_report::Refusal;
 use std::alloc::{AllocError, Global};
 
@@ -97,30 +95,4 @@ fn lexical_line(alloc: Global, bytes: &[u8], r: &Refusal) -> Result<Vec<u8>, Sto
     ensures err { OnErr result (result ≡ Err Stop.NoMemory) }
 {
     Ok(refusal_line(alloc, bytes, r)?)
-}
-
-/// The refusal of a lexical fault.
-pub fn unlexed(alloc: Global, bytes: &[u8], fault: LexFault) -> Unread
-    requires within { length bytes.now ≤ 16_777_216 }
-    requires fault { (fault ≡ LexFault.NoMemory) ⊎ Lexes bytes.now (Err fault) }
-    ensures { IsUnreadBy (IsUnlexed bytes.now) result }
-{
-    match fault {
-        LexFault::NotUtf8 { at } => unspelled(alloc, 10, at),
-        LexFault::BadChar { at } => unspelled(alloc, 11, at),
-        LexFault::BadNumber { at } => unspelled(alloc, 12, at),
-        LexFault::NameTooLong { at } => unspelled(alloc, 13, at),
-        LexFault::NoMemory => Unread::NoMemory,
-    }
-}
-
-/// A refusal that shows nothing.
-pub fn unspelled(alloc: Global, number: u32, offset: u32) -> Unread
-    ensures { TellsRefusal number offset [] result }
-{
-    Unread::Refused(Refusal {
-        number,
-        offset: Some(offset),
-        shown: Vec::new(alloc),
-    })
 }

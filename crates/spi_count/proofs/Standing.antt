@@ -6,12 +6,13 @@ use Rattle.spi_term.specs.Term.{Message, bound, name, unit, pair, in_left, in_ri
 use Rattle.spi_term.specs.Lists.{In, in_first, in_later}
 use Rattle.spi_term.specs.Counts.{tally, cut, count}
 use Rattle.spi_term.proofs.Counting.{cut_cases, tally_append, same_atom_refl, same_atom_true, in_tally, tally_in, count_tally}
-use Rattle.spi_effect.specs.Effect.{IsMany, AllMany}
+use Rattle.spi_effect.specs.Effect.{IsMany}
 use Rattle.spi_effect.specs.Made.{are_many, minus, greater, is_free, is_free_at, mentions}
 use Rattle.spi_effect.proofs.Laws.{AllMany_in, AllMany_of}
 use Rattle.spi_effect.proofs.Made.{minus_difference, greater_is, are_many_sound, are_many_complete, both_false}
 use Rattle.spi_count.specs.Counts.{count_of, IsNothing}
 use Rattle.spi_count.specs.Sums.{name_bound, key_of, kind_of_atom, part, one_more, both_counts, Puts, StandsForEffect, AreNumbers, Below}
+use Rattle.spi_count.specs.Adding.{atom_of_kind}
 use Rattle.spi_count.specs.declared.sum.AtomKind.{AtomKind}
 use Rattle.spi_count.specs.declared.sum.AtomKind.TheVariants.{End, Check, Many}
 use Rattle.spi_count.specs.declared.sum.Sum.{Sum}
@@ -279,52 +280,37 @@ module _ (At : ℕ → Message → Type 0) (numbers : AreNumbers At) where
   pub stands_many : {s : Sum} {es : Effect} → StandsForEffect At s es → IsNothing (part End s) → IsNothing (part Check s) → are_many es ≡ true
   stands_many {es = es} h e c = are_many_complete es (AllMany_of es (nothing_once h e c))
 
-  pub many_stands : {s : Sum} {es : Effect} → StandsForEffect At s es → are_many es ≡ true → IsNothing (part End s) × IsNothing (part Check s)
-  many_stands {s} {es} h m = ((λ k. zero_of _ (λ p. ends_none k p)), (λ k. zero_of _ (λ p. checks_none k p)))
-    where
-      all : AllMany es
-      all = are_many_sound es m
-
-      ends_none : (k : ℕ) → 0 < count_of (part End s) k → ⊥
-      ends_none k p =
-          let (i, n, g, e) = h.kept End k p in
-          let c = h.counted (ends n) i g in
-          let q : 0 < count (ends n) es = subst (λ x. 0 < x) (ap (count_of (part End s)) e ∙ c) p in
-          AllMany_in (count_in (ends n) es q) all
-
-      checks_none : (k : ℕ) → 0 < count_of (part Check s) k → ⊥
-      checks_none k p =
-          let (i, n, g, e) = h.kept Check k p in
-          let c = h.counted (checks n) i g in
-          let q : 0 < count (checks n) es = subst (λ x. 0 < x) (ap (count_of (part Check s)) e ∙ c) p in
-          AllMany_in (count_in (checks n) es q) all
-
-  -- an atom of each count that is kept
-  abbrev atom_of : AtomKind → Message → Atom
-  atom_of End m = ends m
-  atom_of Check m = checks m
-  atom_of Many m = many m
-
-  kind_back : (kind : AtomKind) (m : Message) → kind_of_atom (atom_of kind m) ≡ kind
+  kind_back : (kind : AtomKind) (m : Message) → kind_of_atom (atom_of_kind kind m) ≡ kind
   kind_back End m = refl
   kind_back Check m = refl
   kind_back Many m = refl
 
-  message_back : (kind : AtomKind) (m : Message) → message_of (atom_of kind m) ≡ m
+  message_back : (kind : AtomKind) (m : Message) → message_of (atom_of_kind kind m) ≡ m
   message_back End m = refl
   message_back Check m = refl
   message_back Many m = refl
 
-  pub kept_in : {s : Sum} {es : Effect} → StandsForEffect At s es → (kind : AtomKind) (k : ℕ) → 0 < count_of (part kind s) k
-      → (a : Atom) × In a es × ((i : ℕ) × At i (message_of a) × (k ≡ key_of (name_bound (message_of a)) i))
-  kept_in {s} {es} h kind k p =
+  -- an atom of each count that is kept
+  kept_atom : {s : Sum} {es : Effect} → StandsForEffect At s es → (kind : AtomKind) (k : ℕ) → 0 < count_of (part kind s) k
+      → (m : Message) × In (atom_of_kind kind m) es × ((i : ℕ) × At i (message_of (atom_of_kind kind m)) × (k ≡ key_of (name_bound (message_of (atom_of_kind kind m))) i))
+  kept_atom {s} {es} h kind k p =
       let (i, m, g, e) = h.kept kind k p in
-      let a = atom_of kind m in
+      let a = atom_of_kind kind m in
       let mb = message_back kind m in
       let g' = subst (At i) (sym mb) g in let c = h.counted a i g' in
       let e' : k ≡ key_of (name_bound (message_of a)) i = e ∙ ap (λ m. key_of (name_bound m) i) (sym mb) in
       let q : 0 < count a es = subst (λ x. 0 < x) (ap (λ d. count_of (part d s) k) (sym (kind_back kind m)) ∙ ap (count_of (part (kind_of_atom a) s)) e' ∙ c) p in
-      (a, count_in a es q, (i, g', e'))
+      (m, count_in a es q, (i, g', e'))
+
+  pub kept_in : {s : Sum} {es : Effect} → StandsForEffect At s es → (kind : AtomKind) (k : ℕ) → 0 < count_of (part kind s) k
+      → (a : Atom) × In a es × ((i : ℕ) × At i (message_of a) × (k ≡ key_of (name_bound (message_of a)) i))
+  kept_in h kind k p = let (m, i, at) = kept_atom h kind k p in (atom_of_kind kind m, i, at)
+
+  pub many_stands : {s : Sum} {es : Effect} → StandsForEffect At s es → are_many es ≡ true → IsNothing (part End s) × IsNothing (part Check s)
+  many_stands {s} {es} h m = (none_of End (λ n f. f), none_of Check (λ n f. f))
+    where
+      none_of : (kind : AtomKind) → ((n : Message) → IsMany (atom_of_kind kind n) → ⊥) → IsNothing (part kind s)
+      none_of kind once = λ k. zero_of _ (λ p. let (n, i, at) = kept_atom h kind k p in once n (AllMany_in i (are_many_sound es m)))
 
 -- names and the least number above them
 bound_free : (x : ℕ) (m : Message) → name_bound m ≤ x → is_free x m ≡ false

@@ -21,20 +21,11 @@ pub enum AtomKind {
 /// An effect by its counts: how often each message stands in its `end` and `check` atoms, and which messages
 /// stand in its `many` atoms. A message is given by a key, which is 2 ^ 32 times the least number above its names, and a
 /// number of its own below 2 ^ 32.
+#[derive(Drop)]
 pub struct Sum {
     ends: Counts,
     checks: Counts,
     lasting: Counts,
-}
-
-impl Drop for Sum {
-    fn drop(self) {
-        let Sum {
-            ends: _,
-            checks: _,
-            lasting: _,
-        } = self;
-    }
 }
 
 impl Sum {

@@ -1,5 +1,5 @@
 -- The files whose schedules can be told, and what is told of them.
-use Rattle.std.specs.Prelude.{◌≡◌, ℕ, ◌+◌, ◌-◌, ◌^◌, ◌<◌, List, length, Some, None, ⊤}
+use Rattle.std.specs.Prelude.{◌≡◌, ◌+◌, ◌-◌, ◌^◌, ◌<◌, List, length, Some, None, ⊤}
 use Rattle.spi_term.specs.Spelling.{Spelling, spelled}
 use Rattle.spi_run.specs.Opponent.{IsOpponent}
 use Rattle.spi_run.specs.Safety.{beside}

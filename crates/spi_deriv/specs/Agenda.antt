@@ -44,7 +44,8 @@ node_uses e (prefix_at k s b) = prefix_uses e s
 node_uses e (fork_at k f a r) = fork_uses e f
 
 -- the last on the stack is bound on top of the names that are in scope outside
-pub record IsAgendaSettled (scope : ℕ) (b : List Term.Ty) (rest : List (List Term.Ty)) (old new : List Term.Ty)
+pub record IsAgendaSettled (scope : ℕ) (b : List Term.Ty) (rest : List (List Term.Ty))
+    (old new : List Term.Ty)
     (after : List (List Term.Ty)) : Type 0 where
   pub types : new ≡ take (scope - length b) old ++ b
   pub left : after ≡ rest

@@ -70,7 +70,8 @@ pub fn settle<'a>(
 }
 
 fn push_binding<'a>(binding: Binding<'a>, pending: &mut Vec<Binding<'a>>) -> Result<(), NoMemory>
-    ensures { OnOk result (top_types pending.new.items ≡ bound_types binding.entry ∷ top_types pending.old.items) }
+    ensures { OnOk result
+        (top_types pending.new.items ≡ bound_types binding.entry ∷ top_types pending.old.items) }
 {
     pending.push(binding)?;
     Ok(())
@@ -91,7 +92,8 @@ fn push_bindings<'a>(
 
 /// The processes in a form are to be done, the first of them first.
 pub fn put_off<'a>(node: &'a Node, pending: &mut Vec<Binding<'a>>) -> Result<(), NoMemory>
-    ensures { OnOk result (top_types pending.new.items ≡ next_types (shape_of node.now) ++ top_types pending.old.items) }
+    ensures { OnOk result
+        (top_types pending.new.items ≡ next_types (shape_of node.now) ++ top_types pending.old.items) }
 {
     match &node.form {
         Form::Send { .. } | Form::Stop => Ok(()),

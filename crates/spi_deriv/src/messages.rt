@@ -1,11 +1,11 @@
 // The rule uses of a message's typing, by the type that is wanted. They are pushed at the end of a list.
 
-ghost use Rattle.std.specs.Prelude.{◌≡◌, [], Some, None, OnOk};
+ghost use Rattle.std.specs.Prelude.{[], OnOk};
 ghost use Rattle.spi_term.specs.Term.{enc, un, pair_ty, sum_ty};
 ghost use Rattle.spi_term.specs.View.{message, ty as type_of};
 ghost use Rattle.spi_rules.specs.Derivations.{uses};
 ghost use Rattle.spi_deriv.specs.Agenda.{types_of, PushesUses};
-ghost use Rattle.spi_deriv.specs.Uses.{two_uses, unit_uses, pair_uses, left_uses, right_uses, enc_uses, message_uses};
+ghost use Rattle.spi_deriv.specs.Uses.{two_uses, unit_uses, pair_uses, left_uses, right_uses, message_uses};
 
 use crate::NoMemory;
 use crate::seeing::payload;

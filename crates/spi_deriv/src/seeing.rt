@@ -25,7 +25,8 @@ fn type_at<'a>(types: &[&'a Ty], x: u32) -> Option<&'a Ty>
 
 /// The T of a name of type Key(T).
 pub fn payload<'a>(types: &[&'a Ty], key: &Msg) -> Option<&'a Ty>
-    ensures some { IfSome result (λ t. type_of_key (types_of types.now) (message key.now) ≡ Some (type_of t.now)) }
+    ensures some { IfSome result
+        (λ t. type_of_key (types_of types.now) (message key.now) ≡ Some (type_of t.now)) }
     ensures none { IfNone result (type_of_key (types_of types.now) (message key.now) ≡ None) }
 {
     match key {

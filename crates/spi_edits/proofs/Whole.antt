@@ -20,7 +20,7 @@ use Rattle.spi_heading.proofs.Symbols.{cells_append}
 use Rattle.spi_heading.proofs.Rows.{row_pieces, row_into, row_from}
 use Rattle.spi_heading.proofs.Each.{each_behind}
 use Rattle.spi_heading.proofs.Names.{shared_behind}
-use Rattle.spi_heading.proofs.Manys.{both_fit, both_cells, many_from, each_into, each_shows, last_into, last_shows}
+use Rattle.spi_heading.proofs.Manys.{FromMany, both_fit, both_cells, many_from, each_into, each_shows, last_into, last_shows}
 use Rattle.spi_heading.proofs.Versions.{version_row, Cells, InLaterVersion}
 use Rattle.spi_heading.proofs.Fronts.{BeginsFront, NeverFront, SharedFront, Front, IsFrontOf}
 use Rattle.spi_heading.proofs.Lasts.{nothing_begins}
@@ -60,14 +60,11 @@ module _ (v : Bool) where
   -- ---- bodies by their parts
 
   pub record FromBody (cs : Cells) : Type 0 where
-    pub decls : List t.Declared
-    pub shared : List h.Shared
-    pub edits : List Edit
-    pub decls_are : AllByRecursion (IsDeclared v) decls
-    pub shared_are : AllByRecursion (IsShared v) shared
-    pub edits_are : AllByRecursion (IsEdit v) edits
-    pub fit : AreWordsFit v (kinds_in (bench_body decls shared edits))
-    pub shows : cells (bench_body decls shared edits) ≡ cs
+    pub decls : FromMany decl_pieces decl_behind v (IsDeclared v) (SharedFront v EditsOn) cs
+    pub shared : FromMany shared_pieces shared_behind v (IsShared v) EditsOn decls.rest
+    pub edits : FromMany edit_pieces edit_behind v (IsEdit v) Nothing shared.rest
+    pub fit : AreWordsFit v (kinds_in (bench_body decls.parts shared.parts edits.parts))
+    pub shows : cells (bench_body decls.parts shared.parts edits.parts) ≡ cs
 
   pub body_from : (cs : Cells) → Front v EditsOn cs → FromBody cs
   body_from cs b =
@@ -77,12 +74,9 @@ module _ (v : Bool) where
       let edits = each_pieces edit_pieces e.parts [] in
       let behind = each_pieces shared_pieces s.parts [] ++ edits in
       record {
-        decls = d.parts;
-        shared = s.parts;
-        edits = e.parts;
-        decls_are = d.are;
-        shared_are = s.are;
-        edits_are = e.are;
+        decls = d;
+        shared = s;
+        edits = e;
         fit = both_fit v (each_pieces decl_pieces d.parts []) behind d.fit (both_fit v (each_pieces shared_pieces s.parts []) edits s.fit e.fit);
         shows =
             each_shows decl_pieces decl_behind v (IsDeclared v) (SharedFront v EditsOn) cs d behind
@@ -125,16 +119,16 @@ placed_kinds : (s : Span) (ps : List Piece) → kinds_in (placed s ps) ≡ kinds
 placed_kinds s [] = refl
 placed_kinds s (p ∷ ps) = kinds_in_append (p ∷ ps) (closes s.to ∷ []) ∙ append-nil (kinds_in (p ∷ ps))
 
-formed_body : (v : ℕ) (cs : Cells) (b : FromBody (v == 2) cs) → (v ≡ 1) ⊎ (v ≡ 2) → AreWordsFit (v == 2) (kinds_in (whole_bench (bench_of_version v nowhere b.decls b.shared b.edits))) → IsBench (bench_of_version v nowhere b.decls b.shared b.edits)
-formed_body v cs b known words = record { version = known; decls = b.decls_are; shared = b.shared_are; edits = b.edits_are; words = words; place = λ e. refl }
+formed_body : (v : ℕ) (cs : Cells) (b : FromBody (v == 2) cs) → (v ≡ 1) ⊎ (v ≡ 2) → AreWordsFit (v == 2) (kinds_in (whole_bench (bench_of_version v nowhere b.decls.parts b.shared.parts b.edits.parts))) → IsBench (bench_of_version v nowhere b.decls.parts b.shared.parts b.edits.parts)
+formed_body v cs b known words = record { version = known; decls = b.decls.are; shared = b.shared.are; edits = b.edits.are; words = words; place = λ e. refl }
 
 there : (cs : Cells) → Either (InLaterVersion BenchFronts) (BenchFronts false) cs → Benches cs
 there cs (inl k) =
     let b = body_from true k.right k.two in
     let r = row_from true version_row k.left k.one in
-    let x = bench_of_version 2 nowhere b.decls b.shared b.edits in
-    let body = bench_body b.decls b.shared b.edits in
-    let are = later_pieces nowhere b.decls b.shared b.edits in
+    let x = bench_of_version 2 nowhere b.decls.parts b.shared.parts b.edits.parts in
+    let body = bench_body b.decls.parts b.shared.parts b.edits.parts in
+    let are = later_pieces nowhere b.decls.parts b.shared.parts b.edits.parts in
     record {
       part = x;
       is = formed_body 2 k.right b (inr refl) (subst (AreWordsFit true) (sym (placed_kinds nowhere (bench_pieces x) ∙ ap kinds_in are)) (both_fit true bench_version_are body r.fit b.fit));
@@ -142,8 +136,8 @@ there cs (inl k) =
     }
 there cs (inr k) =
     let b = body_from false cs k in
-    let x = bench_of_version 1 nowhere b.decls b.shared b.edits in
-    let are = first_pieces nowhere b.decls b.shared b.edits in
+    let x = bench_of_version 1 nowhere b.decls.parts b.shared.parts b.edits.parts in
+    let are = first_pieces nowhere b.decls.parts b.shared.parts b.edits.parts in
     record {
       part = x;
       is = formed_body 1 cs b (inl refl) (subst (AreWordsFit false) (sym (placed_kinds nowhere (bench_pieces x) ∙ ap kinds_in are)) b.fit);

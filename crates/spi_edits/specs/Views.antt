@@ -16,7 +16,13 @@ edit_of (edits.Drop w s) = e.drops s w
 -- edits stand up to the end
 abbrev pub edit_kind : RepeatedKind Edit
 edit_kind =
-    record { Part = e.Edit; view = edit_of; pieces = edit_pieces; Is = IsEdit; Begins = λ ts i. i < length ts }
+    record {
+      Part = e.Edit;
+      view = edit_of;
+      pieces = edit_pieces;
+      Is = IsEdit;
+      Begins = λ ts i. i < length ts;
+    }
 
 abbrev pub bench_of : BenchText → e.Bench
 bench_of b = record {

@@ -1,20 +1,19 @@
 // What is to blame in the messages of a node.
 
-ghost use Rattle.std.specs.Prelude.{◌≡◌, ◌<◌, ℕ, IfOk, OnOk, List, [], ◌∷◌, ◌++◌};
+ghost use Rattle.std.specs.Prelude.{◌<◌, IfOk, OnOk, List, [], ◌∷◌, ◌++◌};
 ghost use Rattle.spi_blame.specs.Blaming.{Question, typed, labelled};
-ghost use Rattle.spi_blame.specs.Told.{question_of, TellsBlame};
 ghost use Rattle.spi_explain.specs.Premises.{premises, premises_at, AreAnswered};
 ghost use Rattle.spi_rules.specs.Blocking.{NodeOf};
 ghost use Rattle.spi_rules.specs.Environment as Rules;
 ghost use Rattle.spi_rules.specs.Environment.{untrusted};
 ghost use Rattle.spi_term.specs.Term as Term;
-ghost use Rattle.spi_term.specs.Term.{process_size, un, pair_ty, key};
+ghost use Rattle.spi_term.specs.Term.{process_size, un};
 ghost use Rattle.spi_term.specs.View.{message, ty as type_of, shape_of};
 
 use crate::NoMemory;
 use spi_blame::{Blame, lacking, lacking_label};
 use spi_infer::reached;
-use spi_message::{boxed, pair_type, sum_type};
+use spi_message::{key_type, pair_type, sum_type};
 use spi_rules::Env;
 use spi_term::{Form, Msg, Node, Process, Ty};
 use std::alloc::Global;
@@ -64,13 +63,6 @@ fn ask_label(alloc: Global, env: &Env, m: &Msg, answers: &mut Vec<Answer>) -> Re
     Ok(())
 }
 
-fn key_type(alloc: Global, t: &Ty) -> Result<Ty, NoMemory>
-    ensures { IfOk result (λ r. type_of r ≡ key (type_of t.now)) }
-{
-    let payload = boxed(alloc, t.copy(alloc))?;
-    Ok(Ty::Key(payload))
-}
-
 fn send_answers(alloc: Global, env: &Env, m: &Msg, n: &Msg) -> Result<Vec<Answer>, NoMemory>
     ensures { IfOk result (λ v. AreAnswered env.now
         (typed (message m.now) un ∷ typed (message n.now) un ∷ []) v.items) }
@@ -112,17 +104,15 @@ fn select_answers(
     alloc: Global,
     env: &Env,
     m: &Msg,
-    t: &Ty,
+    whole: Ty,
     n: &Msg,
-    u: &Ty,
+    t: &Ty,
 ) -> Result<Vec<Answer>, NoMemory>
     ensures { IfOk result (λ v. AreAnswered env.now
-        (typed (message m.now) (pair_ty (type_of t.now) (type_of u.now))
-        ∷ typed (message n.now) (type_of t.now)
+        (typed (message m.now) (type_of whole) ∷ typed (message n.now) (type_of t.now)
         ∷ typed (message m.now) un ∷ typed (message n.now) un ∷ []) v.items) }
 {
     let mut answers = Vec::new(alloc);
-    let whole = pair_type(alloc, t, u)?;
     ask_type(alloc, env, m, whole, &mut answers)?;
     let first = t.copy(alloc)?;
     ask_type(alloc, env, n, first, &mut answers)?;
@@ -155,8 +145,9 @@ fn answers_at(alloc: Global, env: &Env, node: &Node) -> Result<Vec<Answer>, NoMe
 {
     match &node.form {
         Form::Send { channel, datum } => send_answers(alloc, env, channel, datum),
-        Form::Recv { channel, .. } => untrusted_answers(alloc, env, channel),
-        Form::Serve { channel, .. } => untrusted_answers(alloc, env, channel),
+        Form::Recv { channel, .. } | Form::Serve { channel, .. } => {
+            untrusted_answers(alloc, env, channel)
+        }
         Form::Split {
             whole,
             first,
@@ -169,7 +160,10 @@ fn answers_at(alloc: Global, env: &Env, node: &Node) -> Result<Vec<Answer>, NoMe
             equal,
             second,
             ..
-        } => select_answers(alloc, env, whole, first, equal, second),
+        } => {
+            let pair = pair_type(alloc, first, second)?;
+            select_answers(alloc, env, whole, pair, equal, first)
+        }
         Form::Branch {
             whole,
             left,
@@ -180,9 +174,9 @@ fn answers_at(alloc: Global, env: &Env, node: &Node) -> Result<Vec<Answer>, NoMe
             decrypt_answers(alloc, env, whole, key, key_type(alloc, ty)?)
         }
         Form::Check { whole, nonce, .. } => send_answers(alloc, env, whole, nonce),
-        Form::Begin { label, .. } => label_answers(alloc, env, label),
-        Form::End { label, .. } => label_answers(alloc, env, label),
-        Form::EndMany { label, .. } => label_answers(alloc, env, label),
+        Form::Begin { label, .. } | Form::End { label, .. } | Form::EndMany { label, .. } => {
+            label_answers(alloc, env, label)
+        }
         Form::Cast { whole, .. } => untrusted_answers(alloc, env, whole),
         Form::Fresh { .. } => Ok(Vec::new(alloc)),
         Form::Par { .. } => Ok(Vec::new(alloc)),

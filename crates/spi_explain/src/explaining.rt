@@ -3,7 +3,6 @@
 ghost use Rattle.std.specs.Prelude.{◌≡◌, ◌≤◌, ℕ, length, reverse, IfOk};
 ghost use Rattle.spi_explain.specs.Findings.{finding_line, AreOrigins};
 ghost use Rattle.spi_fault.specs.Faults.{Explains};
-ghost use Rattle.spi_infer.specs.Inferring.{AnswersOver};
 ghost use Rattle.spi_origin.specs.Listing.{AreAll};
 ghost use Rattle.spi_origin.specs.Origins.{IsOriginIn};
 ghost use Rattle.spi_rules.specs.Blocking.{Blocks};

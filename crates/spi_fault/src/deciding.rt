@@ -1,5 +1,5 @@
 // Whether a check passes.
-ghost use Rattle.std.specs.Prelude.{ℕ, List, None, ◌≡◌, ◌⊎◌, ◌+◌, ◌^◌, ◌<◌, ◌≤◌, ◌↔◌, [], ◌∷◌, length, reverse, Some, IfOk, IsTrue};
+ghost use Rattle.std.specs.Prelude.{ℕ, List, None, ◌≡◌, ◌⊎◌, ◌+◌, ◌^◌, ◌<◌, ◌≤◌, ◌↔◌, [], ◌∷◌, length, reverse, IfOk, IsTrue};
 ghost use Rattle.spi_term.specs.Term as Term;
 ghost use Rattle.spi_term.specs.Term.{un, key, name};
 ghost use Rattle.spi_term.specs.View.{message, ty as type_of, effect as effect_of};

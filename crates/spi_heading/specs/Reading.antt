@@ -35,11 +35,13 @@ pub record HeadingAt (version : ℕ) (ds : List Declared) (ss : List Shared) (ts
 -- the fault is that of the version, of a declaration behind it, or of a shared name behind the declarations
 pub data FailsHeading (f : ParseFault) (ts : List Token) : Type 0 where
   no_version : ReadsVersion (Err f) ts → FailsHeading f ts
-  no_declared : (version i : ℕ) → VersionAt version ts i → ReadsParts declared_kind (version == 2) (Err f) ts i
+  no_declared : (version i : ℕ) → VersionAt version ts i
+      → ReadsParts declared_kind (version == 2) (Err f) ts i
       → FailsHeading f ts
   no_shared : (version : ℕ) (ds : List Declared) (j : ℕ) → DeclaredAt version ds ts j
       → ReadsParts shared_kind (version == 2) (Err f) ts j → FailsHeading f ts
 
 abbrev pub ReadsHeading : Result (Heading × ℕ) ParseFault → List Token → Type 0
-ReadsHeading (Ok r) ts = HeadingAt r.0.version (map decl_of r.0.decls.items) (map shared_of r.0.shared.items) ts r.1
+ReadsHeading (Ok r) ts =
+    HeadingAt r.0.version (map decl_of r.0.decls.items) (map shared_of r.0.shared.items) ts r.1
 ReadsHeading (Err f) ts = FailsHeading f ts

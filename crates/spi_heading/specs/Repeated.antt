@@ -37,12 +37,14 @@ pub record IsSolidKind {A : Type 0} (kind : RepeatedKind A) : Type 0 where
   pub solid : (x : kind.Part) (r : List Piece) → IsSolid (kind.pieces x r)
 
 -- one part, or the fault
-abbrev pub ReadsRepeated : {A : Type 0} → RepeatedKind A → Bool → Result (A × ℕ) ParseFault → List Token → ℕ → Type 0
+abbrev pub ReadsRepeated : {A : Type 0} → RepeatedKind A → Bool → Result (A × ℕ) ParseFault → List Token → ℕ
+    → Type 0
 ReadsRepeated kind later r ts i =
     Reads kind.view (λ x. kind.pieces x []) (IsWhole later kind.pieces (kind.Is later)) r ts i
 
 -- all parts up to a token with which none begins, or the fault
-abbrev pub ReadsParts : {A : Type 0} → RepeatedKind A → Bool → Result (Vec A × ℕ) ParseFault → List Token → ℕ → Type 0
+abbrev pub ReadsParts : {A : Type 0} → RepeatedKind A → Bool → Result (Vec A × ℕ) ParseFault → List Token → ℕ
+    → Type 0
 ReadsParts {A = A} kind later r ts i =
     ReadsEach (λ (v : Vec A). map kind.view v.items) kind.pieces later (kind.Is later) kind.Begins r ts i
 

@@ -21,20 +21,11 @@ pub struct Named {
 }
 
 /// A name with its type that all parts share: `shared x: T;`
+#[derive(Drop)]
 pub struct Shared {
     pub name: SWord,
     pub ty: STy,
     pub span: Span,
-}
-
-impl Drop for Shared {
-    fn drop(self) {
-        let Shared {
-            name: _,
-            ty: _,
-            span: _,
-        } = self;
-    }
 }
 
 /// The name with its type that the tokens from number `at` on begin with, in a text of the version, and the number of the

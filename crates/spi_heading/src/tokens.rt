@@ -1,7 +1,8 @@
 //! Single tokens, by their number.
 
-ghost use Rattle.std.specs.Prelude.{◌≡◌, ◌≤◌, ◌<◌, ◌↔◌, IsTrue, length, IfOk};
+ghost use Rattle.std.specs.Prelude.{◌≡◌, ◌+◌, ◌≤◌, ◌<◌, ◌↔◌, IsTrue, if◌then◌else◌, length, IfOk, Ok, Err};
 ghost use Rattle.spi_lex.specs.declared.token.Kind.TheVariants as kinds;
+ghost use Rattle.spi_parse.specs.declared.fault.ParseFault.TheVariants as faults;
 ghost use Rattle.spi_heading.specs.Spans.{span_over};
 ghost use Rattle.spi_heading.specs.Taking.{IsThere, TakesOneToken, TakesWord, ReadsVersion};
 
@@ -71,17 +72,25 @@ pub fn spelled_at(tokens: &[Token], at: u32, spelling: &str) -> bool
     }
 }
 
+// The number behind this one where the token that is asked for was found there.
+fn behind(found: bool, at: u32) -> Result<u32, ParseFault>
+    requires { IsTrue found → at < 16_777_216 }
+    ensures { result ≡ (if found then Ok (at + 1) else Err (faults.Syntax at)) }
+{
+    if found {
+        Ok(at + 1)
+    } else {
+        Err(ParseFault::Syntax { token: at })
+    }
+}
+
 /// Takes the mark, and gives the number of the token behind it. Where another token stands there, or none, that is `Syntax`.
 pub fn take_mark(tokens: &[Token], at: u32, mark: Mark) -> Result<u32, ParseFault>
     requires size { length tokens.now ≤ 16_777_216 }
     ensures taken { TakesOneToken (kinds.Mark mark) result tokens.now at }
     ensures within { IfOk result (λ next. next ≤ length tokens.now) }
 {
-    if mark_at(tokens, at, mark) {
-        Ok(at + 1)
-    } else {
-        Err(ParseFault::Syntax { token: at })
-    }
+    behind(mark_at(tokens, at, mark), at)
 }
 
 /// Takes the reserved word, and gives the number of the token behind it. Where another token stands there, or none, that is
@@ -91,11 +100,7 @@ pub fn take_reserved(tokens: &[Token], at: u32, word: Reserved) -> Result<u32, P
     ensures taken { TakesOneToken (kinds.Reserved word) result tokens.now at }
     ensures within { IfOk result (λ next. next ≤ length tokens.now) }
 {
-    if reserved_at(tokens, at, word) {
-        Ok(at + 1)
-    } else {
-        Err(ParseFault::Syntax { token: at })
-    }
+    behind(reserved_at(tokens, at, word), at)
 }
 
 /// Takes the word of this spelling, which isn't reserved, and gives the number of the token behind it. Where another token
@@ -105,11 +110,7 @@ pub fn take_spelled(tokens: &[Token], at: u32, spelling: &str) -> Result<u32, Pa
     ensures taken { TakesOneToken (kinds.Word spelling.now) result tokens.now at }
     ensures within { IfOk result (λ next. next ≤ length tokens.now) }
 {
-    if spelled_at(tokens, at, spelling) {
-        Ok(at + 1)
-    } else {
-        Err(ParseFault::Syntax { token: at })
-    }
+    behind(spelled_at(tokens, at, spelling), at)
 }
 
 fn is_two(kind: &Kind) -> bool
@@ -135,11 +136,7 @@ fn take_two(tokens: &[Token], at: u32) -> Result<u32, ParseFault>
     ensures taken { TakesOneToken (kinds.Number 2) result tokens.now at }
     ensures within { IfOk result (λ next. next ≤ length tokens.now) }
 {
-    if two_at(tokens, at) {
-        Ok(at + 1)
-    } else {
-        Err(ParseFault::Syntax { token: at })
-    }
+    behind(two_at(tokens, at), at)
 }
 
 /// The version that the tokens begin with, and the number of the token behind it: 2 and 3 where they begin with the word

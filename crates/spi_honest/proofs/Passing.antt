@@ -7,7 +7,7 @@ use Rattle.spi_tree.specs.Trees as t
 use Rattle.spi_narrate.specs.Narrations as n
 use Rattle.spi_term.specs.Lists.{At, In}
 use Rattle.spi_term.proofs.Lists.{at_unique}
-use Rattle.spi_term.specs.Term.{Message, name, unit, Ty, Process, send, recv}
+use Rattle.spi_term.specs.Term.{Message, name, Ty, Process, send, recv}
 use Rattle.spi_run.specs.Reduction.{Configuration, Step, act, talk, Event, Takes}
 use Rattle.spi_run.proofs.Once.{takes_once}
 use Rattle.spi_replay.specs.Stepping.{Pooled, IsTaken, largest, bound_by}

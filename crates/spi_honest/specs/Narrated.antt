@@ -61,8 +61,12 @@ pub data TellsLine (free : Names) (o : Told) : n.Line → Map → Option Event �
       → TellsLine free o (n.local s r f) more e (record { names = k; has = giving r.word more o.has })
   tells_pass : {s : Span} {from to c x : SWord} {m : Msg}
       → IsFreeWord free (o.has from.word) c.word → IsFreeWord free (o.has to.word) c.word
-      → TellsLine free o (n.pass s from to c m x) (with_message x (value_in_map (o.has from.word) m) ∷ []) None
-      (record { names = o.names; has = giving to.word (with_message x (value_in_map (o.has from.word) m) ∷ []) o.has })
+      → TellsLine free o (n.pass s from to c m x)
+      (with_message x (value_in_map (o.has from.word) m) ∷ []) None
+      (record {
+        names = o.names;
+        has = giving to.word (with_message x (value_in_map (o.has from.word) m) ∷ []) o.has;
+      })
 
 -- lines in order, with their events
 pub data Narrates (free : Names) : Told → List n.Line → List Event → Told → Type 0 where

@@ -164,26 +164,6 @@ fn write(
     Ok(lines)
 }
 
-// The places that a place needs, marked.
-fn needed(
-    alloc: Global,
-    rules: &[Rule],
-    closure: &Closure,
-    place: usize,
-) -> Result<Vec<bool>, NoMemory>
-    requires within { place < length closure.now.order.items }
-    requires order { (start : List ℕ)
-        × IsOrder rules.now start closure.now.order.items closure.now.places.items }
-    ensures spread { IfOk result
-        (λ marks. IsSpread rules.now closure.now.order.items closure.now.places.items place 0 marks.items) }
-    ensures count { IfOk result (λ marks. length marks.items ≡ place + 1) }
-{
-    let mut marks = vec![in alloc; false; place + 1]?;
-    marks[place] = true;
-    spread_all(rules, closure, &mut marks);
-    Ok(marks)
-}
-
 /// Lines that lead to the number at a place of an order: each holds by earlier ones, the last has the number, and each
 /// other one is named by a later one. The time is linear in the place. Its only error is NoMemory.
 pub fn trace(
@@ -202,7 +182,9 @@ pub fn trace(
         → ProvesTarget rules.now start lines.items target) }
     ensures few { IfOk result (λ lines. length lines.items ≤ place + 1) }
 {
-    let marks = needed(alloc, rules, closure, place)?;
+    let mut marks = vec![in alloc; false; place + 1]?;
+    marks[place] = true;
+    spread_all(rules, closure, &mut marks);
     let lines = write(alloc, rules, closure, &marks)?;
     Ok(lines)
 }

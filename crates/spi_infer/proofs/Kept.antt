@@ -1,6 +1,6 @@
 -- What is kept of the nodes stays as the store and the keys grow.
 use Rattle.std.proofs.Common.{◌≡◌, ℕ, List, [], ◌∷◌, ◌++◌, Option, Some, None, refl, sym, subst, Result, Ok, Err, IfOk}
-use Rattle.std.specs.Prelude.{IfSome, IfNone, ⊤}
+use Rattle.std.specs.Prelude.{IfSome, IfNone, slice_get, ⊤}
 use Rattle.spi_term.specs.declared.term.Msg.{Msg}
 use Rattle.spi_term.specs.declared.term.Effect as D
 use Rattle.spi_term.specs.declared.term.Ty.{Ty}
@@ -13,12 +13,14 @@ use Rattle.spi_term.specs.Spelling.{Shape, leaf_at, prefix_at, fork_at}
 use Rattle.spi_rules.specs.Environment.{Env}
 use Rattle.spi_intern.specs.Meaning.{Means, Keeps}
 use Rattle.spi_intern.specs.declared.store.Store.{Store}
+use Rattle.spi_intern.specs.declared.messages.MsgId.{MsgId}
 use Rattle.spi_intern.specs.declared.types.TyId.{TyId}
 use Rattle.spi_intern.proofs.Meanings.{means_keeps}
 use Rattle.spi_message.specs.Judging.{Numbered, Stands}
 use Rattle.spi_message.specs.Tests.{nonce_of}
 use Rattle.spi_count.specs.declared.keys.Keys.{Keys}
 use Rattle.spi_infer.specs.declared.own.Own.{Own}
+use Rattle.spi_infer.specs.declared.own.Own.TheVariants.{Label}
 use Rattle.spi_infer.specs.declared.own.OwnNote.{OwnNote}
 use Rattle.spi_message.specs.Forms.{cast_effect_of}
 use Rattle.spi_infer.specs.Own.{PaidFits, FormFits, IsOwnOf, FormNotedAs, AreFormsNoted, noted_none, noted_next}
@@ -117,3 +119,7 @@ quiet_fits j k ks x own h = record { at = λ e s. quiet_shape k.store (with_keys
 pub fits_at : {E : Type 0} (j k : Numbered) (ks : Keys) (x : Shape) {y : Shape} → x ≡ y → (r : Result Own E) {P : Own → Type 0} → IfOk r P → ((own : Own) → P own → (e : Env) → Stands j e → IsOwnOf k.store (with_keys k.store ks) y (note_of e y).paid own) → IfOk r (FitsIn j k ks x)
 fits_at j k ks x {y = y} q (Ok own) h f = subst (λ x. FitsIn j k ks x own) (sym q) (record { at = f own h })
 fits_at j k ks x q (Err e) h f = tt
+
+-- the label of a begin
+pub begin_fits : (j k : Numbered) (ks : Keys) (x : Shape) {n b : ℕ} {m : Message} (id : MsgId) → x ≡ prefix_at n (Begins m) b → slice_get k.store.messages id.place ≡ Some m → FitsIn j k ks x (Label id)
+begin_fits j k ks x id q h = subst (λ x. FitsIn j k ks x (Label id)) (sym q) (record { at = λ e s. (id, refl, h) })

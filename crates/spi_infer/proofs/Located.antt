@@ -33,6 +33,10 @@ drop_right [] ys i j h = let e : j ≡ i = omega (arith, h) in ap (λ n. drop n 
 drop_right (x ∷ xs) ys i zero h = absurd (omega (arith, h))
 drop_right (x ∷ xs) ys i (suc j) h = drop_right xs ys i j (omega (arith, h))
 
+-- a process in a form that binds b names of the types g, with its own names by their numbers
+abbrev inside : Env → Env → ℕ → Process → Process
+inside e g b p = numbered [] (length (e ++ g)) (enter b (length e) p)
+
 -- the nodes of a process, from place `at` on, and its notes, from node i on begin with those of the process of node i
 pub record StandsAtNode (at : ℕ) (e : Env) (p : Process) (i : ℕ) (e' : Env) (q : Process) : Type 0 where
   pub rest : List Shape
@@ -53,7 +57,7 @@ located {e = e} {p = p} at reach_root =
 located {e = e} {e' = e'} {q = q} at (reach_prefix {s = s} {p = p} {i = i} r) =
     let k = length e in
     let inner = e ++ more e s in
-    let a = numbered [] (length inner) (enter (binds s) k p) in
+    let a = inside e (more e s) (binds s) p in
     let n : k + binds s ≡ length inner = omega (arith, length-append e (more e s), length_more e s) in
     let z : suc at + i ≡ at + suc i = omega arith in
     let w = located (suc at) r in
@@ -68,16 +72,15 @@ located {e = e} {e' = e'} {q = q} at (reach_prefix {s = s} {p = p} {i = i} r) =
       seen = ap (λ t. drop (suc i) (notes t e)) (numbered_prefix e s p) ∙ w.seen;
     }
 located {e = e} {e' = e'} {q = p'} at (reach_first {f = f} {p = p} {q = q} {i = i} r) =
-    let k = length e in
-    let m = k + fork_binds f in
+    let m = length e + fork_binds f in
     let e1 = e ++ on_first f in
     let e2 = e ++ on_rest f in
-    let a = numbered [] (length e1) (enter (fork_binds f) k p) in
-    let b = numbered [] (length e2) (enter (fork_binds f) k q) in
+    let a = inside e (on_first f) (fork_binds f) p in
+    let b = inside e (on_rest f) (fork_binds f) q in
     let fq = flat (suc at + process_size a) m b in
     let tree = numbered [] (length e') p' in
     let n : m ≡ length e1 = omega (arith, length-append e (on_first f), length_first f) in
-    let size = size_numbered (enter (fork_binds f) k p) [] (length e1) in
+    let size = size_numbered (enter (fork_binds f) (length e) p) [] (length e1) in
     let l : i ≤ length (flat (suc at) m a) = omega (arith, reach_within r, size, length_flat a (suc at) m) in
     let l' : i ≤ length (notes a e1) = omega (arith, reach_within r, size, length_notes a e1) in
     let z : suc at + i ≡ at + suc i = omega arith in
@@ -86,7 +89,7 @@ located {e = e} {e' = e'} {q = p'} at (reach_first {f = f} {p = p} {q = q} {i = 
       rest = w.rest ++ fq;
       behind = w.behind ++ notes b e2;
       shapes =
-          ap (λ t. drop (suc i) (flat at k t)) (numbered_fork e f p q)
+          ap (λ t. drop (suc i) (flat at (length e) t)) (numbered_fork e f p q)
           ∙ drop_left (flat (suc at) m a) fq i l
           ∙ ap (λ m. drop i (flat (suc at) m a) ++ fq) n
           ∙ ap (λ l. l ++ fq) w.shapes
@@ -99,25 +102,24 @@ located {e = e} {e' = e'} {q = p'} at (reach_first {f = f} {p = p} {q = q} {i = 
           ∙ append_assoc (notes tree e') w.behind (notes b e2);
     }
 located {e = e} {e' = e'} {q = p'} at (reach_rest {f = f} {p = p} {q = q} {i = i} {j = j} r g) =
-    let k = length e in
-    let m = k + fork_binds f in
+    let m = length e + fork_binds f in
     let e1 = e ++ on_first f in
     let e2 = e ++ on_rest f in
-    let a = numbered [] (length e1) (enter (fork_binds f) k p) in
-    let b = numbered [] (length e2) (enter (fork_binds f) k q) in
+    let a = inside e (on_first f) (fork_binds f) p in
+    let b = inside e (on_rest f) (fork_binds f) q in
     let from = suc at + process_size a in
     let tree = numbered [] (length e') p' in
     let n : m ≡ length e2 = omega (arith, length-append e (on_rest f), length_rest f) in
-    let size = size_numbered (enter (fork_binds f) k p) [] (length e1) in
-    let l : j ≡ length (flat (suc at) m a) + i = omega (arith, g, size, size_enter (fork_binds f) k p, length_flat a (suc at) m) in
-    let l' : j ≡ length (notes a e1) + i = omega (arith, g, size, size_enter (fork_binds f) k p, length_notes a e1) in
-    let z : from + i ≡ at + suc j = omega (arith, g, size, size_enter (fork_binds f) k p) in
+    let size = size_numbered (enter (fork_binds f) (length e) p) [] (length e1) in
+    let l : j ≡ length (flat (suc at) m a) + i = omega (arith, g, size, size_enter (fork_binds f) (length e) p, length_flat a (suc at) m) in
+    let l' : j ≡ length (notes a e1) + i = omega (arith, g, size, size_enter (fork_binds f) (length e) p, length_notes a e1) in
+    let z : from + i ≡ at + suc j = omega (arith, g, size, size_enter (fork_binds f) (length e) p) in
     let w = located from r in
     record {
       rest = w.rest;
       behind = w.behind;
       shapes =
-          ap (λ t. drop (suc j) (flat at k t)) (numbered_fork e f p q)
+          ap (λ t. drop (suc j) (flat at (length e) t)) (numbered_fork e f p q)
           ∙ drop_right (flat (suc at) m a) (flat from m b) i j l
           ∙ ap (λ m. drop i (flat from m b)) n
           ∙ w.shapes

@@ -26,7 +26,7 @@ use Rattle.spi_infer.specs.Forms.{effect_of}
 use Rattle.spi_infer.specs.Passes.{Note, scan, run_notes, act, is_stuck, first_stuck}
 use Rattle.spi_infer.specs.Accounts.{BelowIn, MayBelowIn, TopBelowIn, BothBelowIn, Behind, CheckGiven, CastGiven, OwnGiven, NoteGiven, Tops, IsBeforeNode, IsNoted}
 use Rattle.spi_message.proofs.Opened.{length_more, length_first, length_rest}
-use Rattle.spi_infer.proofs.Passes.{notes, run_flat}
+use Rattle.spi_infer.proofs.Passes.{notes, inside_names, run_two, run_flat}
 use Rattle.spi_infer.proofs.Below.{below_effect}
 use Rattle.spi_infer.proofs.Located.{scan_is}
 
@@ -52,19 +52,15 @@ behind_flat (fork f p q) e i k ss bs n o h =
     let m = k + fork_binds f in
     let e1 = e ++ on_first f in
     let e2 = e ++ on_rest f in
-    let n1 : m ≡ length e1 = omega (arith, n, length-append e (on_first f), length_first f) in
-    let n2 : m ≡ length e2 = omega (arith, n, length-append e (on_rest f), length_rest f) in
+    let n1 = inside_names e (on_first f) n (length_first f) in
+    let n2 = inside_names e (on_rest f) n (length_rest f) in
     let r = suc i + process_size p in
     let fp = flat (suc i) m p in
     let fq = flat r m q in
     let x = fork_at k f (suc i) r in
     let first = may_below x (effect_of p e1) (λ es g. below_effect p e1 m es n1 o.1.0 g) in
     let second = may_below x (effect_of q e2) (λ es g. below_effect q e2 m es n2 o.1.1 g) in
-    let is : run_notes ((fp ++ fq) ++ ss) ((notes p e1 ++ notes q e2) ++ bs) ≡ effect_of p e1 ∷ (effect_of q e2 ∷ run_notes ss bs)
-    = ap (λ l. run_notes l ((notes p e1 ++ notes q e2) ++ bs)) (append_assoc fp fq ss)
-    ∙ ap (λ l. run_notes (fp ++ (fq ++ ss)) l) (append_assoc (notes p e1) (notes q e2) bs)
-    ∙ run_flat p e1 (suc i) m (fq ++ ss) (notes q e2 ++ bs) n1
-    ∙ ap (λ l. effect_of p e1 ∷ l) (run_flat q e2 r m ss bs n2) in
+    let is = run_two fp fq ss (notes p e1) (notes q e2) bs (run_flat p e1 (suc i) m (fq ++ ss) (notes q e2 ++ bs) n1) (run_flat q e2 r m ss bs n2) in
     let rest = behind_flat p e1 (suc i) m (fq ++ ss) (notes q e2 ++ bs) n1 o.1.0 (behind_flat q e2 r m ss bs n2 o.1.1 h) in (
       subst (BothBelowIn x) (sym is) (first, second),
       subst (λ l. AllBehind l ((notes p e1 ++ notes q e2) ++ bs)) (sym (append_assoc fp fq ss)) (subst (AllBehind (fp ++ (fq ++ ss))) (sym (append_assoc (notes p e1) (notes q e2) bs)) rest),
@@ -116,8 +112,8 @@ noted_length noted_none = refl
 noted_length (noted_next h t) = ap suc (noted_length t)
 
 -- a loop over the nodes from the last on, and what is kept of each
-pub nodes_within_count : (k : ℕ) (p : Process) {n : ℕ} → n ≡ process_size p → length (spelled k p) ≤ n
-nodes_within_count k p e = omega (arith, length_spelled k p, e)
+pub none_from : (k : ℕ) (p : Process) {n : ℕ} → n ≡ process_size p → drop n (spelled k p) ≡ []
+none_from k p {n = n} e = drop_all n (spelled k p) (omega (arith, length_spelled k p, e))
 
 pub notes_for_each : {s : Store} {noted : Noted} {k : ℕ} {p : Process} {env : Env} {n : ℕ} → IsNoted s noted k p env → n ≡ process_size p → length noted.notes.items ≡ n
 notes_for_each {k = k} {p = p} h e = omega (arith, noted_length h.each, length_spelled k p, e)
@@ -213,9 +209,9 @@ module _ (s : Store) (noted : Noted) (k : ℕ) (p : Process) (env : Env) (h : Is
         w ∙ ap (λ n. first_stuck n (drop id ss) (drop id ns)) n ∙ sym (stuck_is ∙ ap (λ b. if b then Some i else first_stuck (suc i) (drop id ss) (drop id ns)) (sym f ∙ e))
 
 -- where the pass begins and ends
-pub starts : (s : Store) (keys : Keys) (ss : List Shape) (bs : List Note) (n : ℕ) (os : List (Option Sum)) → length ss ≤ n → os ≡ [] → Tops s keys os (run_notes (drop n ss) bs)
-starts s keys ss bs n os l e =
-    subst (λ os. Tops s keys os (run_notes (drop n ss) bs)) (sym e) (ap (λ l. run_notes l bs) (drop_all n ss l))
+pub starts : (s : Store) (keys : Keys) (k : ℕ) (p : Process) (bs : List Note) (n : ℕ) (os : List (Option Sum)) → n ≡ process_size p → os ≡ [] → Tops s keys os (run_notes (drop n (spelled k p)) bs)
+starts s keys k p bs n os l e =
+    subst (λ os. Tops s keys os (run_notes (drop n (spelled k p)) bs)) (sym e) (ap (λ l. run_notes l bs) (none_from k p l))
 
-pub starts_stuck : (ss : List Shape) (bs : List Note) (n : ℕ) → length ss ≤ n → None ≡ first_stuck n (drop n ss) bs
-starts_stuck ss bs n l = sym (ap (λ l. first_stuck n l bs) (drop_all n ss l))
+pub starts_stuck : (k : ℕ) (p : Process) (bs : List Note) (n : ℕ) → n ≡ process_size p → None ≡ first_stuck n (drop n (spelled k p)) bs
+starts_stuck k p bs n l = sym (ap (λ l. first_stuck n l bs) (none_from k p l))

@@ -377,8 +377,9 @@ pub fn is_form_ok(alloc: Global, judge: &mut Judge, node: &Node) -> Result<bool,
 {
     match &node.form {
         Form::Send { channel, datum } => are_untrusted(alloc, judge, channel, datum),
-        Form::Recv { channel, ty, .. } => is_untrusted_over(alloc, judge, channel, ty),
-        Form::Serve { channel, ty, .. } => is_untrusted_over(alloc, judge, channel, ty),
+        Form::Recv { channel, ty, .. } | Form::Serve { channel, ty, .. } => {
+            is_untrusted_over(alloc, judge, channel, ty)
+        }
         Form::Split {
             whole,
             first,
@@ -400,12 +401,11 @@ pub fn is_form_ok(alloc: Global, judge: &mut Judge, node: &Node) -> Result<bool,
         } => is_branch_ok(alloc, judge, whole, left, right),
         Form::Decrypt { whole, ty, key, .. } => is_decrypt_ok(alloc, judge, whole, ty, key),
         Form::Check { whole, nonce, .. } => is_check_ok(alloc, judge, whole, nonce),
-        Form::Begin { label, .. } => is_labelled(alloc, judge, label),
-        Form::End { label, .. } => is_labelled(alloc, judge, label),
-        Form::EndMany { label, .. } => is_labelled(alloc, judge, label),
+        Form::Begin { label, .. } | Form::End { label, .. } | Form::EndMany { label, .. } => {
+            is_labelled(alloc, judge, label)
+        }
         Form::Cast { whole, ty, .. } => is_cast_ok(alloc, judge, whole, ty),
         Form::Fresh { ty, .. } => is_fresh_ok(alloc, judge, ty),
-        Form::Par { .. } => Ok(true),
-        Form::Stop => Ok(true),
+        Form::Par { .. } | Form::Stop => Ok(true),
     }
 }

@@ -1,10 +1,11 @@
 // Both passes, and what they come to.
 ghost use Rattle.std.specs.Prelude.{◌≡◌, ◌+◌, ◌<◌, ◌≤◌, [], drop, length, Option, IfOk, OnOk, OnErr};
 ghost use Rattle.spi_term.specs.Term.{Effect as EffectTerm, Process as ProcessTerm, process_size};
+ghost use Rattle.spi_term.specs.Names.{ProcessOver};
 ghost use Rattle.spi_term.specs.Spelling.{spelled};
 ghost use Rattle.spi_rules.specs.Environment.{Env};
 ghost use Rattle.spi_rules.specs.Blocking.{NodeOf};
-ghost use Rattle.spi_message.specs.Judging.{IsKept, Stands};
+ghost use Rattle.spi_message.specs.Judging.{IsJudge, IsKept, Stands};
 ghost use Rattle.spi_count.specs.Keeping.{with_keys, IsKeyed};
 ghost use Rattle.spi_infer.specs.Own.{CountsFor};
 ghost use Rattle.spi_infer.specs.Passes.{scan, first_stuck};
@@ -59,6 +60,8 @@ fn least_from<L: Ledger>(
         (λ r. (env : Env) → Stands judge.old env
         → r.1 ≡ first_stuck node (drop node (spelled process.now.names process.now.process))
         (drop node (scan 0 env [] (spelled process.now.names process.now.process)))) }
+    ensures judge { IsJudge judge.old.store judge.old.free judge.old.types }
+    ensures over { ProcessOver process.now.names process.now.process }
     ensures kept { IsKept judge.old judge.new }
     ensures counted { OnOk result (steps.new ≡ steps.old + process_size process.now.process) }
     ensures fewer { OnErr result
@@ -91,8 +94,6 @@ pub fn infer_in<L: Ledger>(
     ensures fewer { OnErr result
         ((steps.old ≤ steps.new) × (steps.new ≤ steps.old + process_size process.now.process)) }
 {
-    judge.stands_for_one();
-    let _ = process.len();
     let (effect, stuck) = least_from(alloc, judge, process, 0, steps)?;
     match effect {
         Some(effect) => Ok(Inferred::Least(effect)),
@@ -103,8 +104,9 @@ pub fn infer_in<L: Ledger>(
     }
 }
 
-// The same where the free names are untrusted, with a counter of its own.
-fn infer_over<L: Ledger>(
+/// What `infer` answers, with its steps counted in a book of its own on the ledger that the blank is of. The blank has at
+/// least one part.
+pub fn infer_over<L: Ledger>(
     alloc: Global,
     process: &Process,
     blank: Blank,

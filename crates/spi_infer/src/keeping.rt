@@ -59,18 +59,6 @@ fn end_own(judge: &mut Judge, keys: &mut Keys, m: &Msg) -> Result<Own, NoMemory>
     Ok(Own::Label(id))
 }
 
-// What a `begin` takes off.
-fn begin_own(judge: &mut Judge, keys: &mut Keys, m: &Msg) -> Result<Own, NoMemory>
-    requires { AreKept judge.old.store keys.old }
-    ensures fits { IfOk result
-        (FormFits judge.new.store (with_keys judge.new.store keys.new) 0 (Term.Begins (message m.now)) None) }
-    ensures grows { OnOk result (GrowsTo judge.old.store keys.old judge.new.store keys.new) }
-    ensures kept { IsKept judge.old judge.new }
-{
-    let id = judge.message(m)?;
-    Ok(Own::Label(id))
-}
-
 // What a new name takes off, by its number.
 fn fresh_own(judge: &mut Judge, keys: &mut Keys, scope: u32) -> Result<Own, NoMemory>
     requires { AreKept judge.old.store keys.old }
@@ -111,7 +99,10 @@ fn own_of(alloc: Global, judge: &mut Judge, keys: &mut Keys, node: &Node) -> Res
 {
     match &node.form {
         Form::Check { whole, nonce, .. } => check_own(judge, keys, whole, nonce),
-        Form::Begin { label, .. } => begin_own(judge, keys, label),
+        Form::Begin { label, .. } => {
+            let id = judge.message(label)?;
+            Ok(Own::Label(id))
+        }
         Form::End { label, .. } => end_own(judge, keys, label),
         Form::EndMany { label, .. } => end_own(judge, keys, label),
         Form::Cast { ty, .. } => cast_own(alloc, judge, keys, ty),

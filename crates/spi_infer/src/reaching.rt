@@ -3,7 +3,7 @@ ghost use Rattle.std.specs.Prelude.{◌≡◌, ℕ, ◌+◌, ◌≤◌, ◌<◌,
 ghost use Rattle.spi_term.specs.Term as Term;
 ghost use Rattle.spi_term.specs.Term.{name, process_size};
 ghost use Rattle.spi_term.specs.Substitution.{ty_put};
-ghost use Rattle.spi_term.specs.View.{message, ty as type_of, shape_of};
+ghost use Rattle.spi_term.specs.View.{ty as type_of, shape_of};
 ghost use Rattle.spi_rules.specs.Environment as Rules;
 ghost use Rattle.spi_rules.specs.Blocking.{NodeOf};
 ghost use Rattle.spi_infer.specs.Inferring.{IsReached};
@@ -15,30 +15,12 @@ use spi_term::{Form, Msg, Node, Process, Ty, opened};
 use std::alloc::Global;
 
 // One more name of this type, in a process that begins at `body`.
-fn enter(alloc: Global, t: &Ty, body: u32, env: &mut Env) -> Result<u32, NoMemory>
+fn enter(t: Ty, body: u32, env: &mut Env) -> Result<u32, NoMemory>
     requires { length env.old ≤ 400000 }
     ensures next { IfOk result (λ next. next ≡ body) }
-    ensures env { OnOk result (env.new ≡ env.old ++ type_of t.now ∷ []) }
+    ensures env { OnOk result (env.new ≡ env.old ++ type_of t ∷ []) }
 {
-    let copy = t.copy(alloc)?;
-    env.push(copy)?;
-    Ok(body)
-}
-
-// One more name, of a type that stands under a binder, for which this message stands.
-fn enter_opened(
-    alloc: Global,
-    t: &Ty,
-    value: &Msg,
-    body: u32,
-    env: &mut Env,
-) -> Result<u32, NoMemory>
-    requires { length env.old ≤ 400000 }
-    ensures next { IfOk result (λ next. next ≡ body) }
-    ensures env { OnOk result (env.new ≡ env.old ++ ty_put (message value.now) (type_of t.now) ∷ []) }
-{
-    let filled = opened(alloc, t, value)?;
-    env.push(filled)?;
+    env.push(t)?;
     Ok(body)
 }
 
@@ -57,8 +39,8 @@ fn enter_split(
         ∷ (ty_put (name (length env.old)) (type_of second.now) ∷ [])) }
 {
     let name = Msg::Name(env.len());
-    let _ = enter(alloc, first, body, env)?;
-    enter_opened(alloc, second, &name, body, env)
+    let _ = enter(first.copy(alloc)?, body, env)?;
+    enter(opened(alloc, second, &name)?, body, env)
 }
 
 // The side of a case that has the node `target`.
@@ -78,9 +60,9 @@ fn enter_side(
         (λ next. on_right ≤ target → (next ≡ on_right) × (env.new ≡ env.old ++ type_of right.now ∷ [])) }
 {
     if target < on_right {
-        enter(alloc, left, on_left, env)
+        enter(left.copy(alloc)?, on_left, env)
     } else {
-        enter(alloc, right, on_right, env)
+        enter(right.copy(alloc)?, on_right, env)
     }
 }
 
@@ -91,8 +73,8 @@ fn descend(alloc: Global, node: &Node, target: u32, env: &mut Env) -> Result<u32
     ensures { IfOk result (λ next. Descends (shape_of node.now) target env.old next env.new) }
 {
     match &node.form {
-        Form::Recv { ty, body, .. } => enter(alloc, ty, *body, env),
-        Form::Serve { ty, body, .. } => enter(alloc, ty, *body, env),
+        Form::Recv { ty, body, .. } => enter(ty.copy(alloc)?, *body, env),
+        Form::Serve { ty, body, .. } => enter(ty.copy(alloc)?, *body, env),
         Form::Split {
             first,
             second,
@@ -104,7 +86,7 @@ fn descend(alloc: Global, node: &Node, target: u32, env: &mut Env) -> Result<u32
             second,
             body,
             ..
-        } => enter_opened(alloc, second, equal, *body, env),
+        } => enter(opened(alloc, second, equal)?, *body, env),
         Form::Branch {
             left,
             on_left,
@@ -112,13 +94,13 @@ fn descend(alloc: Global, node: &Node, target: u32, env: &mut Env) -> Result<u32
             on_right,
             ..
         } => enter_side(alloc, left, *on_left, right, *on_right, target, env),
-        Form::Decrypt { ty, body, .. } => enter(alloc, ty, *body, env),
+        Form::Decrypt { ty, body, .. } => enter(ty.copy(alloc)?, *body, env),
         Form::Check { body, .. } => Ok(*body),
         Form::Begin { body, .. } => Ok(*body),
         Form::End { body, .. } => Ok(*body),
         Form::EndMany { body, .. } => Ok(*body),
-        Form::Cast { ty, body, .. } => enter(alloc, ty, *body, env),
-        Form::Fresh { ty, body } => enter(alloc, ty, *body, env),
+        Form::Cast { ty, body, .. } => enter(ty.copy(alloc)?, *body, env),
+        Form::Fresh { ty, body } => enter(ty.copy(alloc)?, *body, env),
         Form::Par { first, rest } if target < *rest => Ok(*first),
         Form::Par { rest, .. } => Ok(*rest),
         Form::Send { .. } => Ok(target),

@@ -5,19 +5,15 @@ use Rattle.std.specs.List.{list_any}
 use Rattle.spi_term.specs.Term.{Message, Atom, Effect, Ty, un, unit_ty, pair_ty, sum_ty, key, nonce}
 use Rattle.spi_intern.specs.Table.{KeepsAll, with_value}
 use Rattle.spi_intern.specs.Kinds.{Kind, same_kind}
-use Rattle.spi_intern.specs.Typed.{SaysKind, says_un, says_unit, says_pair, says_sum, says_key, says_nonce, said_kind}
-use Rattle.spi_intern.specs.Atoms.{IdsMean}
-use Rattle.spi_intern.specs.declared.types.TyId.{TyId}
+use Rattle.spi_intern.specs.Typed.{said_kind}
 use Rattle.spi_intern.specs.declared.types.TyNode.{TyNode}
-use Rattle.spi_intern.specs.declared.types.TyNode.TheVariants.{Un, Unit as NoParts, Pair, Sum, Key, Nonce}
-use Rattle.spi_intern.specs.declared.atoms.AtomId.{AtomId}
 use Rattle.spi_intern.specs.declared.store.Store.{Store}
-use Rattle.spi_intern.specs.Meaning.{KindMeans, means_un, means_unit, means_pair, means_sum, means_key, means_nonce, Means, Keeps}
+use Rattle.spi_intern.specs.Meaning.{KindMeans, Means, Keeps}
 use Rattle.spi_intern.specs.Parts.{PartOf, message_of, InEffect, in_first, in_later, InTy, in_pair_first, in_pair_second, in_sum_left, in_sum_right, in_key, in_nonce, TyPartOf, whole_ty, of_pair_first, of_pair_second, of_sum_left, of_sum_right, of_payload}
 use Rattle.spi_intern.specs.Growing.{Has, HasTy, AddsMessages, AddsTypes, Adds, a_message, a_type}
 use Rattle.spi_intern.proofs.Lists.{below_get, get_below, get_push}
 use Rattle.spi_intern.proofs.Grown.{has_kept, interned_adds}
-use Rattle.spi_intern.proofs.Meanings.{means_keeps, kind_keeps}
+use Rattle.spi_intern.proofs.Meanings.{NodeMeans, means_keeps, kind_keeps}
 use Rattle.spi_intern.proofs.TyLaws.{says_said}
 
 pub adds_none : {ms ns : List Message} → ns ≡ ms → AddsMessages ms ns (λ x. ⊥)
@@ -66,53 +62,39 @@ types_put {s} {r} i {k} {t} e at m = record { all = all; only = only }
         let w = below_get r.types j h in
         ⊎_elim inl (λ f. inr (t, refl, mean j (w.1 ∙ ap Some f))) (by (list_any (same_kind k) s.types) j w.0 (ap (λ zs. slice_get zs j) (sym e) ∙ w.1))
 
--- a type whose outermost constructor is put
-put_adds : {s r : Store} (i : ℕ) {n : TyNode} {k : Kind} {t : Ty} → Keeps s r → SaysKind s.types n k → KindMeans s.messages s.effects k t → slice_get r.types i ≡ Some (said_kind s.types n) → r.types ≡ with_value same_kind s.types (said_kind s.types n) → AddsTypes s r (λ u. u ≡ t)
-put_adds {s} {r} i {n} {k} {t} l says m at e =
-    let w : said_kind s.types n ≡ k = says_said s.types n k says in
-    types_put i (e ∙ ap (with_value same_kind s.types) w) (at ∙ ap Some w) (kind_keeps l.messages l.effects m)
-
-pub put_un : {s r : Store} (i : ℕ) → Keeps s r → slice_get r.types i ≡ Some (said_kind s.types Un) → r.types ≡ with_value same_kind s.types (said_kind s.types Un) → AddsTypes s r (λ u. u ≡ un)
-put_un i l at e = put_adds i l says_un means_un at e
-
-pub put_unit : {s r : Store} (i : ℕ) → Keeps s r → slice_get r.types i ≡ Some (said_kind s.types NoParts) → r.types ≡ with_value same_kind s.types (said_kind s.types NoParts) → AddsTypes s r (λ u. u ≡ unit_ty)
-put_unit i l at e = put_adds i l says_unit means_unit at e
-
-pub put_pair : {s r : Store} (i : ℕ) {a b : TyId} {t u : Ty} → Keeps s r → Means s a.place t → Means s b.place u → slice_get r.types i ≡ Some (said_kind s.types (Pair a b)) → r.types ≡ with_value same_kind s.types (said_kind s.types (Pair a b)) → AddsTypes s r (λ v. v ≡ pair_ty t u)
-put_pair i l h g at e = put_adds i l (says_pair h.at g.at) (means_pair h.means g.means) at e
-
-pub put_sum : {s r : Store} (i : ℕ) {a b : TyId} {t u : Ty} → Keeps s r → Means s a.place t → Means s b.place u → slice_get r.types i ≡ Some (said_kind s.types (Sum a b)) → r.types ≡ with_value same_kind s.types (said_kind s.types (Sum a b)) → AddsTypes s r (λ v. v ≡ sum_ty t u)
-put_sum i l h g at e = put_adds i l (says_sum h.at g.at) (means_sum h.means g.means) at e
-
-pub put_key : {s r : Store} (i : ℕ) {a : TyId} {t : Ty} → Keeps s r → Means s a.place t → slice_get r.types i ≡ Some (said_kind s.types (Key a)) → r.types ≡ with_value same_kind s.types (said_kind s.types (Key a)) → AddsTypes s r (λ v. v ≡ key t)
-put_key i l h at e = put_adds i l (says_key h.at) (means_key h.means) at e
-
-pub put_nonce : {s r : Store} (i : ℕ) {x : ℕ} {ids : List AtomId} {es : Effect} → Keeps s r → slice_get s.effects x ≡ Some ids → IdsMean s.messages ids es → slice_get r.types i ≡ Some (said_kind s.types (Nonce x)) → r.types ≡ with_value same_kind s.types (said_kind s.types (Nonce x)) → AddsTypes s r (λ v. v ≡ nonce es)
-put_nonce i l h g at e = put_adds i l says_nonce (means_nonce h g) at e
+-- a type whose node is put
+pub put_node : {s r : Store} (i : ℕ) {n : TyNode} {t : Ty} → Keeps s r → NodeMeans s n t → slice_get r.types i ≡ Some (said_kind s.types n) → r.types ≡ with_value same_kind s.types (said_kind s.types n) → AddsTypes s r (λ u. u ≡ t)
+put_node {s} i {n} l h at e =
+    let w : said_kind s.types n ≡ h.kind = says_said s.types n h.kind h.says in
+    types_put i (e ∙ ap (with_value same_kind s.types) w) (at ∙ ap Some w) (kind_keeps l.messages l.effects h.means)
 
 -- a message is interned
 pub message_adds : {A E : Type 0} (s r : Store) (m : Message) → r.types ≡ s.types → (o : Result A E) → OnOk o (r.messages ≡ interned s.messages m) → OnOk o (Adds s r (a_message m))
 message_adds s r m e (Ok x) h = record { messages = interned_adds s.messages r.messages m h; types = types_none e }
 message_adds s r m e (Err x) h = tt
 
+-- a type without parts
+data IsLeaf : Ty → Type 0 where
+  un_leaf : IsLeaf un
+  unit_leaf : IsLeaf unit_ty
+
+adds_leaf : {s r : Store} {t : Ty} → IsLeaf t → r.messages ≡ s.messages → AddsTypes s r (λ u. u ≡ t) → Adds s r (a_type t)
+adds_leaf {t = t} l e h = record { messages = adds_as (λ x p. absurd p) (none l) (adds_none e); types = types_as (λ u f. subst (λ v. TyPartOf v t) (sym f) whole_ty) (part l) h }
+  where
+    none : {z : Ty} → IsLeaf z → (x : Message) → InTy x z → ⊥
+    none un_leaf x i = elim i [ ]
+    none unit_leaf x i = elim i [ ]
+
+    part : {z : Ty} → IsLeaf z → (u : Ty) → TyPartOf u z → u ≡ z
+    part un_leaf u whole_ty = refl
+    part unit_leaf u whole_ty = refl
+
 -- each constructor of a type
 pub adds_un : {s r : Store} → r.messages ≡ s.messages → AddsTypes s r (λ u. u ≡ un) → Adds s r (a_type un)
-adds_un {s} {r} e h = record { messages = adds_as (λ x p. absurd p) none (adds_none e); types = types_as (λ u f. subst (λ v. TyPartOf v un) (sym f) whole_ty) part h }
-  where
-    none : (x : Message) → InTy x un → ⊥
-    none x h = elim h [ ]
-
-    part : (u : Ty) → TyPartOf u un → u ≡ un
-    part u whole_ty = refl
+adds_un e h = adds_leaf un_leaf e h
 
 pub adds_unit : {s r : Store} → r.messages ≡ s.messages → AddsTypes s r (λ u. u ≡ unit_ty) → Adds s r (a_type unit_ty)
-adds_unit {s} {r} e h = record { messages = adds_as (λ x p. absurd p) none (adds_none e); types = types_as (λ u f. subst (λ v. TyPartOf v unit_ty) (sym f) whole_ty) part h }
-  where
-    none : (x : Message) → InTy x unit_ty → ⊥
-    none x h = elim h [ ]
-
-    part : (u : Ty) → TyPartOf u unit_ty → u ≡ unit_ty
-    part u whole_ty = refl
+adds_unit e h = adds_leaf unit_leaf e h
 
 -- the messages stay where a type is put on top
 rest_of : {ks bs cs : List Message} {M : Message → Type 0} → AddsMessages ks bs M → cs ≡ bs → AddsMessages ks cs M

@@ -4,6 +4,7 @@ use Rattle.std.proofs.lemmas.List.{take_more}
 use Rattle.spi_term.specs.Term as Term
 use Rattle.spi_term.specs.Term.{Message, Atom, Ty, unit_ty, pair_ty, sum_ty}
 use Rattle.spi_intern.specs.Table.{KeepsAll, TellsAll, tells_none}
+use Rattle.spi_intern.specs.Kinds as Kinds
 use Rattle.spi_intern.specs.Kinds.{Kind}
 use Rattle.spi_intern.specs.Typed.{SaysKind, says_un, says_unit, says_pair, says_sum, says_key, says_nonce, said_kind}
 use Rattle.spi_intern.specs.declared.types.TyId.{TyId}
@@ -41,36 +42,36 @@ terms_same s = record { messages = keeps_same refl; effects = keeps_same refl; t
 pub terms_more : {s r q : Store} → Keeps s r → Keeps r q → Keeps s q
 terms_more k l = record { messages = keeps_more k.messages l.messages; effects = keeps_more k.effects l.effects; types = keeps_more k.types l.types }
 
--- a type whose outermost constructor was put
-made : {s r : Store} {i : ℕ} {n : TyNode} {k : Kind} {t : Ty} → Keeps s r → SaysKind s.types n k → KindMeans s.messages s.effects k t → slice_get r.types i ≡ Some (said_kind s.types n) → Means r i t
-made {s} {r} {i} {n} {k} f says h at = record { kind = k; at = at ∙ ap Some (says_said s.types n k says); means = kind_keeps f.messages f.effects h }
+-- a node of a type, and the type that it means
+pub record NodeMeans (s : Store) (n : TyNode) (t : Ty) : Type 0 where
+  pub kind : Kind
+  pub says : SaysKind s.types n kind
+  pub means : KindMeans s.messages s.effects kind t
 
-pub made_un : {s r : Store} {i : ℕ} → Keeps s r → slice_get r.types i ≡ Some (said_kind s.types Un) → Means r i Term.un
-made_un f at = made f says_un means_un at
+pub un_node : {s : Store} → NodeMeans s Un Term.un
+un_node = record { kind = Kinds.un; says = says_un; means = means_un }
 
-pub made_unit : {s r : Store} {i : ℕ} → Keeps s r → slice_get r.types i ≡ Some (said_kind s.types NoParts) → Means r i unit_ty
-made_unit f at = made f says_unit means_unit at
+pub unit_node : {s : Store} → NodeMeans s NoParts unit_ty
+unit_node = record { kind = Kinds.unit; says = says_unit; means = means_unit }
 
-pub made_pair : {s r : Store} {i : ℕ} {a b : TyId} {t u : Ty} → Keeps s r → Means s a.place t → Means s b.place u → slice_get r.types i ≡ Some (said_kind s.types (Pair a b)) → Means r i (pair_ty t u)
-made_pair f h g at = made f (says_pair h.at g.at) (means_pair h.means g.means) at
+pub pair_node : {s : Store} {a b : TyId} {t u : Ty} → Means s a.place t → Means s b.place u → NodeMeans s (Pair a b) (pair_ty t u)
+pair_node h g = record { kind = Kinds.pair h.kind g.kind; says = says_pair h.at g.at; means = means_pair h.means g.means }
 
-pub made_sum : {s r : Store} {i : ℕ} {a b : TyId} {t u : Ty} → Keeps s r → Means s a.place t → Means s b.place u → slice_get r.types i ≡ Some (said_kind s.types (Sum a b)) → Means r i (sum_ty t u)
-made_sum f h g at = made f (says_sum h.at g.at) (means_sum h.means g.means) at
+pub sum_node : {s : Store} {a b : TyId} {t u : Ty} → Means s a.place t → Means s b.place u → NodeMeans s (Sum a b) (sum_ty t u)
+sum_node h g = record { kind = Kinds.sum h.kind g.kind; says = says_sum h.at g.at; means = means_sum h.means g.means }
 
-pub made_key : {s r : Store} {i : ℕ} {a : TyId} {t : Ty} → Keeps s r → Means s a.place t → slice_get r.types i ≡ Some (said_kind s.types (Key a)) → Means r i (Term.key t)
-made_key f h at = made f (says_key h.at) (means_key h.means) at
+pub key_node : {s : Store} {a : TyId} {t : Ty} → Means s a.place t → NodeMeans s (Key a) (Term.key t)
+key_node h = record { kind = Kinds.key h.kind; says = says_key h.at; means = means_key h.means }
 
-pub made_nonce : {s r : Store} {i e : ℕ} {ids : List AtomId} {es : List Atom} → Keeps s r → slice_get s.effects e ≡ Some ids → IdsMean s.messages ids es → slice_get r.types i ≡ Some (said_kind s.types (Nonce e)) → Means r i (Term.nonce es)
-made_nonce f h g at = made f says_nonce (means_nonce h g) at
+pub nonce_node : {s : Store} {e : ℕ} {ids : List AtomId} {es : List Atom} → slice_get s.effects e ≡ Some ids → IdsMean s.messages ids es → NodeMeans s (Nonce e) (Term.nonce es)
+nonce_node {e = e} h g = record { kind = Kinds.nonce e; says = says_nonce; means = means_nonce h g }
 
-pub pair_says : {s : Store} {a b : TyId} {t u : Ty} → Means s a.place t → Means s b.place u → SaysKind s.types (Pair a b) (said_kind s.types (Pair a b))
-pair_says h g = says_it (says_pair h.at g.at)
+pub node_says : {s : Store} {n : TyNode} {t : Ty} → NodeMeans s n t → SaysKind s.types n (said_kind s.types n)
+node_says h = says_it h.says
 
-pub sum_says : {s : Store} {a b : TyId} {t u : Ty} → Means s a.place t → Means s b.place u → SaysKind s.types (Sum a b) (said_kind s.types (Sum a b))
-sum_says h g = says_it (says_sum h.at g.at)
-
-pub key_says : {s : Store} {a : TyId} {t : Ty} → Means s a.place t → SaysKind s.types (Key a) (said_kind s.types (Key a))
-key_says h = says_it (says_key h.at)
+-- a type whose node was put
+pub made : {s r : Store} {i : ℕ} {n : TyNode} {t : Ty} → Keeps s r → NodeMeans s n t → slice_get r.types i ≡ Some (said_kind s.types n) → Means r i t
+made {s} {n = n} f h at = record { kind = h.kind; at = at ∙ ap Some (says_said s.types n h.kind h.says); means = kind_keeps f.messages f.effects h.means }
 
 map_push : {A B : Type 0} (f : A → B) (xs : List A) (x : A) → map f (xs ++ x ∷ []) ≡ map f xs ++ f x ∷ []
 map_push f [] x = refl

@@ -18,7 +18,8 @@ use Rattle.spi_intern.specs.declared.store.Store.{Store}
 use Rattle.spi_intern.proofs.Lists.{get_push}
 use Rattle.spi_intern.proofs.MessageLaws.{says_said}
 use Rattle.spi_intern.proofs.Counting.{cut_means}
-use Rattle.spi_intern.proofs.Adding.{adds_none, types_none, put_pair, put_sum, put_key, put_nonce}
+use Rattle.spi_intern.proofs.Meanings.{pair_node, sum_node, key_node, nonce_node}
+use Rattle.spi_intern.proofs.Adding.{adds_none, types_none, put_node}
 
 -- one message is put
 this_added : (ms ns : List Message) (i : ℕ) (m : Message) → ns ≡ message_added ms m → slice_get ns i ≡ Some m → AddsMessages ms ns (λ x. x ≡ m)
@@ -42,19 +43,19 @@ message_over_adds s r p e (Err x) at grows = tt
 pub pair_over_adds : {E : Type 0} (s r : Store) (a b : TyId) → Keeps s r → r.messages ≡ s.messages → (o : Result TyId E)
     → IfOk o (λ id. slice_get r.types id.place ≡ Some (said_kind s.types (Pair a b))) → OnOk o (r.types ≡ with_value same_kind s.types (said_kind s.types (Pair a b)))
     → OnOk o ((t u : Ty) → Means s a.place t → Means s b.place u → Adds s r (over_types (pair_ty t u)))
-pair_over_adds s r a b k e (Ok id) at grows = λ t u h g. record { messages = adds_none e; types = put_pair id.place k h g at grows }
+pair_over_adds s r a b k e (Ok id) at grows = λ t u h g. record { messages = adds_none e; types = put_node id.place k (pair_node h g) at grows }
 pair_over_adds s r a b k e (Err x) at grows = tt
 
 pub sum_over_adds : {E : Type 0} (s r : Store) (a b : TyId) → Keeps s r → r.messages ≡ s.messages → (o : Result TyId E)
     → IfOk o (λ id. slice_get r.types id.place ≡ Some (said_kind s.types (Sum a b))) → OnOk o (r.types ≡ with_value same_kind s.types (said_kind s.types (Sum a b)))
     → OnOk o ((t u : Ty) → Means s a.place t → Means s b.place u → Adds s r (over_types (sum_ty t u)))
-sum_over_adds s r a b k e (Ok id) at grows = λ t u h g. record { messages = adds_none e; types = put_sum id.place k h g at grows }
+sum_over_adds s r a b k e (Ok id) at grows = λ t u h g. record { messages = adds_none e; types = put_node id.place k (sum_node h g) at grows }
 sum_over_adds s r a b k e (Err x) at grows = tt
 
 pub key_over_adds : {E : Type 0} (s r : Store) (a : TyId) → Keeps s r → r.messages ≡ s.messages → (o : Result TyId E)
     → IfOk o (λ id. slice_get r.types id.place ≡ Some (said_kind s.types (Key a))) → OnOk o (r.types ≡ with_value same_kind s.types (said_kind s.types (Key a)))
     → OnOk o ((t : Ty) → Means s a.place t → Adds s r (over_types (key t)))
-key_over_adds s r a k e (Ok id) at grows = λ t h. record { messages = adds_none e; types = put_key id.place k h at grows }
+key_over_adds s r a k e (Ok id) at grows = λ t h. record { messages = adds_none e; types = put_node id.place k (key_node h) at grows }
 key_over_adds s r a k e (Err x) at grows = tt
 
 -- the effect gets a number first, which makes p of s
@@ -64,7 +65,7 @@ pub nonce_over_adds : {E : Type 0} (s p r : Store) (ids js : List AtomId) (place
     → OnOk o ((es : Effect) → TellsAll (SaysAtom s.messages) ids es → Adds s r (over_types (nonce es)))
 nonce_over_adds s p r ids js place d c o same_messages same_types f k e (Ok id) at grows = λ es t.
     let means : IdsMean p.messages js es = subst (λ ms. IdsMean ms js es) (sym same_messages) (cut_means d t c o) in
-    let a = put_nonce id.place k f means at grows in
+    let a = put_node id.place k (nonce_node f means) at grows in
     record {
       messages = adds_none (e ∙ same_messages);
       types = record { all = a.all; only = λ i h. ⊎_elim (λ l. inl (subst (λ zs. i < length zs) same_types l)) inr (a.only i h) };

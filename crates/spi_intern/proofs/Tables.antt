@@ -63,6 +63,13 @@ pub record PutsNode {P M : Type 0} (Says : List M → P → M → Type 0) (said 
   pub says : Says ms p (said ms p)
   pub keys : qs ≡ insert_key eq ps p
 
+-- what is known then: the nodes after, and the values before
+pub record IsPut {P M : Type 0} (Says : List M → P → M → Type 0) (said : List M → P → M) (same : M → M → Bool) (eq : P → P → Bool) (qs : List P) (ms : List M) (p : P) : Type 0 where
+  pub grows : told_each said qs ≡ with_value same ms (said ms p)
+  pub table : IsTable Says qs (told_each said qs)
+  pub kept : KeepsAll ms (told_each said qs)
+  pub at : (i : ℕ) → (q : P) × (slice_get qs i ≡ Some q) × (eq p q ≡ true) → slice_get (told_each said qs) i ≡ Some (said ms p)
+
 module _ {P M : Type 0} (Says : List M → P → M → Type 0) (said : List M → P → M) (same : M → M → Bool) (eq : P → P → Bool) (laws : Laws Says said same eq) where
   distinct_push : (ms : List M) (m : M) → AllDiffer ms → list_any (same m) ms ≡ false → AllDiffer (ms ++ m ∷ [])
   distinct_push ms m d e = record { one = λ i j n a b. ⊎_elim (λ f. ⊎_elim (λ g. d.one i j n f g) (λ g. absurd (away i n f g.1)) (get_push ms m j n b)) (λ f. ⊎_elim (λ g. absurd (away j n g f.1)) (λ g. f.0 ∙ sym g.0) (get_push ms m j n b)) (get_push ms m i n a) }
@@ -116,18 +123,18 @@ module _ {P M : Type 0} (Says : List M → P → M → Type 0) (said : List M �
   says_here : (ps qs : List P) (ms : List M) (p : P) → PutsNode Says said eq ps qs ms p → Says (told_each said ps) p (said (told_each said ps) p)
   says_here ps qs ms p h = subst (λ xs. Says xs p (said xs p)) (sym h.view) h.says
 
-  pub put_grows : (ps qs : List P) (ms : List M) (p : P) → PutsNode Says said eq ps qs ms p → told_each said qs ≡ with_value same ms (said ms p)
+  put_grows : (ps qs : List P) (ms : List M) (p : P) → PutsNode Says said eq ps qs ms p → told_each said qs ≡ with_value same ms (said ms p)
   put_grows ps qs ms p h =
       ap (told_each said) h.keys ∙ told_insert ps p h.table (says_here ps qs ms p h) ∙ ap (λ xs. with_value same xs (said xs p)) h.view
 
-  pub put_table : (ps qs : List P) (ms : List M) (p : P) → PutsNode Says said eq ps qs ms p → IsTable Says qs (told_each said qs)
+  put_table : (ps qs : List P) (ms : List M) (p : P) → PutsNode Says said eq ps qs ms p → IsTable Says qs (told_each said qs)
   put_table ps qs ms p h =
       subst (λ xs. IsTable Says xs (told_each said xs)) (sym h.keys) (table_insert ps p h.table (says_here ps qs ms p h))
 
-  pub put_keeps : (ps qs : List P) (ms : List M) (p : P) → PutsNode Says said eq ps qs ms p → KeepsAll ms (told_each said qs)
+  put_keeps : (ps qs : List P) (ms : List M) (p : P) → PutsNode Says said eq ps qs ms p → KeepsAll ms (told_each said qs)
   put_keeps ps qs ms p h = subst (KeepsAll ms) (sym (put_grows ps qs ms p h)) (keeps_with same ms (said ms p))
 
-  pub put_at : (ps qs : List P) (ms : List M) (p : P) → PutsNode Says said eq ps qs ms p → (i : ℕ) (q : P) → slice_get qs i ≡ Some q → eq p q ≡ true → slice_get (told_each said qs) i ≡ Some (said ms p)
+  put_at : (ps qs : List P) (ms : List M) (p : P) → PutsNode Says said eq ps qs ms p → (i : ℕ) (q : P) → slice_get qs i ≡ Some q → eq p q ≡ true → slice_get (told_each said qs) i ≡ Some (said ms p)
   put_at ps qs ms p h i q at e =
       let w = tells_at (put_table ps qs ms p h).tells i q at in
       let s : Says (told_each said qs) q (said ms p) = laws.respects _ p q _ e (laws.kept _ _ _ _ (put_keeps ps qs ms p h) h.says) in
@@ -150,3 +157,11 @@ module _ {P M : Type 0} (Says : List M → P → M → Type 0) (said : List M �
       let w = says_there ps ms v h i None n e at in
       let f : None ≡ Some w.0 = w.1 in
       cc
+
+pub is_put : {P M : Type 0} {Says : List M → P → M → Type 0} {said : List M → P → M} {same : M → M → Bool} {eq : P → P → Bool} → Laws Says said same eq → (ps qs : List P) (ms : List M) (p : P) → PutsNode Says said eq ps qs ms p → IsPut Says said same eq qs ms p
+is_put {Says = Says} {said = said} {same = same} {eq = eq} laws ps qs ms p h = record {
+  grows = put_grows Says said same eq laws ps qs ms p h;
+  table = put_table Says said same eq laws ps qs ms p h;
+  kept = put_keeps Says said same eq laws ps qs ms p h;
+  at = λ i s. put_at Says said same eq laws ps qs ms p h i s.0 s.1 s.2;
+}

@@ -27,20 +27,11 @@ use std::alloc::Global;
 
 /// Messages and types, each with its number: equal messages have equal numbers, and so have types that are equal
 /// up to equal counts of atoms within each Nonce. Whatever a call answers, each number means what it meant.
+#[derive(Drop)]
 pub struct Store {
     messages: Messages,
     effects: Effects,
     types: Types,
-}
-
-impl Drop for Store {
-    fn drop(self) {
-        let Store {
-            messages: _,
-            effects: _,
-            types: _,
-        } = self;
-    }
 }
 
 /// The outermost constructor of a type, with the numbers of its parts.

@@ -14,5 +14,6 @@ Decides sent m Unknown = Knows sent m → ⊥
 -- the same of the message with a number, where the start has the numbers of so many messages sent
 abbrev pub DecidesNumber : List Message → List ℕ → ℕ → ℕ → Knowledge → Type 0
 DecidesNumber ms start sent target k =
-    (from : List Message) (m : Message) → StartsWith ms from start → length from ≡ sent → HasNumber ms target m
+    (from : List Message) (m : Message) → StartsWith ms from start → length from ≡ sent
+    → HasNumber ms target m
     → Decides from m k

@@ -121,7 +121,8 @@ fn opens(lines: &[CertLine], i: u32, j: u32, m: &Msg) -> bool
 
 fn follows(sent: &[Msg], before: &[CertLine], line: &CertLine) -> bool
     ensures { IsTrue result
-        ↔ Follows (map message sent.now) (map message_said before.now) line.now.by (message line.now.message) }
+        ↔ Follows (map message sent.now) (map message_said before.now) line.now.by
+        (message line.now.message) }
 {
     let m = &line.message;
     match line.by {

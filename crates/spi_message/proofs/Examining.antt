@@ -142,8 +142,8 @@ name_added x a = record { messages = adds_as (λ y e. subst (λ z. PartOf z (nam
 
 -- The first type is good, the store has grown by what was asked, by the name and by the first type, and then the
 -- second type is asked for with one more name and one more value.
-pub pair_examined : {s p q r o : Store} {env ns : List TyId} {t x y i : TyId} (m : MsgId) {vs ws : List MsgId} → TwoTys s t x y pair_ty → GoodGives s p env x vs → Keeps s p → AreIdsBelow vs (length s.messages) → Keeps p q → slice_get q.messages m.place ≡ Some (name (length env)) → Adds p q (over_messages (name (length env))) → Keeps q r → FillsTy q r vs 0 x i → TypeIsAdded q r vs 0 x → ns ≡ env ++ i ∷ [] → ws ≡ vs ++ m ∷ [] → GoodGives r o ns y ws → GoodGives s o env t vs
-pair_examined {s} {p} {q} {r} {o} {env} {ns} {x = x} {y = y} {i = i} m {vs} {ws} t h k v l at an j f fa a b g = record {
+pub pair_examined : {s p q r o : Store} {env ns : List TyId} {t x y i : TyId} (m : MsgId) {vs ws : List MsgId} {c : ℕ} → TwoTys s t x y pair_ty → GoodGives s p env x vs → Keeps s p → AreIdsBelow vs (length s.messages) → Keeps p q → slice_get q.messages m.place ≡ Some (name c) → c ≡ length env → Adds p q (over_messages (name c)) → Keeps q r → FillsTy q r vs 0 x i → TypeIsAdded q r vs 0 x → ns ≡ env ++ i ∷ [] → ws ≡ vs ++ m ∷ [] → GoodGives r o ns y ws → GoodGives s o env t vs
+pair_examined {s} {p} {q} {r} {o} {env} {ns} {x = x} {y = y} {i = i} m {vs} {ws} {c} t h k v l at counted an j f fa a b g = record {
   at = λ e u st mu stay hp.
       let us = values_of s.messages vs in
       let z = t.at u mu in
@@ -158,11 +158,11 @@ pair_examined {s} {p} {q} {r} {o} {env} {ns} {x = x} {y = y} {i = i} m {vs} {ws}
       let mq = means_keeps l (means_keeps k z.3) in
       let means_o : Means r i.place v1 = subst (λ ns. Means r i.place (filled ns z.0)) us_q (f.at 0 z.0 (omega arith) mq) in
       let stands : StandFor r (env ++ i ∷ []) (e ++ v1 ∷ []) = stand_push (stand_keeps j (stand_keeps l (stand_keeps k st))) means_o in
-      let long : length env ≡ length e = stand_length st in
+      let long : c ≡ length e = counted ∙ stand_length st in
       let named : message_at r.messages m ≡ name (length e) = at_message r.messages m (j.messages.at _ _ at) ∙ ap name long in
       let vals : values_of r.messages ws ≡ us ++ name (length e) ∷ [] = ap (values_of r.messages) b ∙ values_push r.messages vs m ∙ (λ c. us_r c ++ named c ∷ []) in
       let stays : AllStay (us ++ name (length e) ∷ []) = stay_push us (name (length e)) stay (name_stays (length e)) in
-      let gave_name : Adds p q (a_message (name (length e))) = subst (λ c. Adds p q (a_message (name c))) long (name_added (length env) an) in
+      let gave_name : Adds p q (a_message (name (length e))) = subst (λ c. Adds p q (a_message (name c))) long (name_added c an) in
       let hn : HasParts r.messages (name (length e)) = parts_keep j.messages record { each = λ y c. gave_name.messages.all y c } in
       let gave_type : Adds q r (a_type v1) = subst (λ ns. Adds q r (a_type (filled ns z.0))) us_q (fa.at 0 z.0 (omega arith) mq hq) in
       let rest = g.at (e ++ v1 ∷ []) z.1 (subst (λ is. StandFor r is (e ++ v1 ∷ [])) (sym a) stands) (means_keeps j (means_keeps l (means_keeps k z.4))) (subst AllStay (sym vals) stays) (subst (AllHaveParts r.messages) (sym vals) (parts_push hr hn)) in

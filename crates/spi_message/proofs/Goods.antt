@@ -171,8 +171,8 @@ name_stays x n d = refl
 
 -- The first type is good, the store has grown by what was asked, by the name and by the first type, and then the
 -- second type is asked for with one more name and one more value.
-pub pair_good : {E : Type 0} {s p q r : Store} {env ns : List TyId} {t x y o : TyId} (m : MsgId) {vs ws : List MsgId} {c : Bool} → TwoTys s t x y pair_ty → IsGood s env x vs c → c ≡ true → Keeps s p → AreIdsBelow vs (length s.messages) → Keeps p q → slice_get q.messages m.place ≡ Some (name (length env)) → Keeps q r → FillsTy q r vs 0 x o → ns ≡ env ++ o ∷ [] → ws ≡ vs ++ m ∷ [] → (z : Result Bool E) → IfOk z (IsGood r ns y ws) → IfOk z (IsGood s env t vs)
-pair_good {s = s} {p = p} {q = q} {r = r} {env = env} {ns = ns} {x = x} {y = y} {o = o} m {vs = vs} {ws = ws} t h w k v l at j f a b (Ok d) g = record {
+pub pair_good : {E : Type 0} {s p q r : Store} {env ns : List TyId} {t x y o : TyId} (m : MsgId) {vs ws : List MsgId} {c : Bool} {k : ℕ} → TwoTys s t x y pair_ty → IsGood s env x vs c → c ≡ true → Keeps s p → AreIdsBelow vs (length s.messages) → Keeps p q → slice_get q.messages m.place ≡ Some (name k) → k ≡ length env → Keeps q r → FillsTy q r vs 0 x o → ns ≡ env ++ o ∷ [] → ws ≡ vs ++ m ∷ [] → (z : Result Bool E) → IfOk z (IsGood r ns y ws) → IfOk z (IsGood s env t vs)
+pair_good {s = s} {p = p} {q = q} {r = r} {env = env} {ns = ns} {x = x} {y = y} {o = o} m {vs = vs} {ws = ws} t h w k v l at counted j f a b (Ok d) g = record {
   at = λ e u st mu stay.
       let us = values_of s.messages vs in
       let z = t.at u mu in
@@ -184,7 +184,7 @@ pair_good {s = s} {p = p} {q = q} {r = r} {env = env} {ns = ns} {x = x} {y = y} 
       let us_r : values_of r.messages vs ≡ us = values_keep vs j.messages below_q ∙ us_q in
       let means_o : Means r o.place v1 = subst (λ ns. Means r o.place (filled ns z.0)) us_q (f.at 0 z.0 (omega arith) (means_keeps l (means_keeps k z.3))) in
       let stands : StandFor r (env ++ o ∷ []) (e ++ v1 ∷ []) = stand_push (stand_keeps j (stand_keeps l (stand_keeps k st))) means_o in
-      let named : message_at r.messages m ≡ name (length e) = at_message r.messages m (j.messages.at _ _ at) ∙ ap name (stand_length st) in
+      let named : message_at r.messages m ≡ name (length e) = at_message r.messages m (j.messages.at _ _ at) ∙ ap name (counted ∙ stand_length st) in
       let vals : values_of r.messages ws ≡ us ++ name (length e) ∷ [] = ap (values_of r.messages) b ∙ values_push r.messages vs m ∙ (λ i. us_r i ++ named i ∷ []) in
       let stays : AllStay (us ++ name (length e) ∷ []) = stay_push us (name (length e)) stay (name_stays (length e)) in
       g.at (e ++ v1 ∷ []) z.1 (subst (λ is. StandFor r is (e ++ v1 ∷ [])) (sym a) stands) (means_keeps j (means_keeps l (means_keeps k z.4))) (subst AllStay (sym vals) stays)
@@ -194,7 +194,7 @@ pair_good {s = s} {p = p} {q = q} {r = r} {env = env} {ns = ns} {x = x} {y = y} 
       ∙ sym (good-pair e v1 v2)
       ∙ ap (λ x. good e (filled us x)) (sym z.2);
 }
-pair_good m t h w k v l at j f a b (Err x) g = tt
+pair_good m t h w k v l at counted j f a b (Err x) g = tt
 
 -- what is asked for
 pub asked_good_part : {s : Store} {env : List TyId} {t x : TyId} {vs : List MsgId} → IsAskedGood s env t vs → IsGiven s x.place → kind_size (kind_at s.types x) ≤ kind_size (kind_at s.types t) → IsAskedGood s env x vs

@@ -9,6 +9,7 @@ use Rattle.spi_term.proofs.Terms.{binds_map, fork_binds_map}
 use Rattle.spi_term.proofs.Maps.{fixed_leaf, fixed_prefix, fixed_fork, each_leaf, each_prefix, each_fork, joined_leaf, joined_prefix, joined_fork}
 use Rattle.spi_rules.specs.Environment.{Env}
 use Rattle.spi_message.specs.Forms.{enter, more, on_first, on_rest}
+use Rattle.spi_message.proofs.Typings.{stays_mapped}
 
 if_yes : {A : Type 0} {b : Bool} (x y : A) → b ≡ true → (if b then x else y) ≡ x
 if_yes x y e = rw e
@@ -22,14 +23,7 @@ if_both false x = refl
 
 -- no numbers
 name_none_message : (d : ℕ) (m : Message) → name_message [] d m ≡ m
-name_none_message d (bound i) = if_both (nat_lt i d) (bound i)
-name_none_message d (name x) = refl
-name_none_message d unit = refl
-name_none_message d (pair a b) = λ i. pair (name_none_message d a i) (name_none_message d b i)
-name_none_message d (in_left m) = ap in_left (name_none_message d m)
-name_none_message d (in_right m) = ap in_right (name_none_message d m)
-name_none_message d (enc a b) = λ i. enc (name_none_message d a i) (name_none_message d b i)
-name_none_message d (hash m) = ap hash (name_none_message d m)
+name_none_message d m = stays_mapped (λ i. if nat_lt i d then bound i else name_or_index i (slice_get [] (i - d))) (λ i. if_both (nat_lt i d) (bound i)) m
 
 pub name_none_leaf : (l : Leaf) → leaf_map (name_message []) 0 l ≡ l
 name_none_leaf l = fixed_leaf (name_message []) name_none_message 0 l

@@ -202,23 +202,21 @@ not_as_side un h f vs = absurd (h un un sides_of_un)
 not_as_side (sum_ty v w) h f vs = absurd (h v w sides_of_sum)
 not_as_side _ h f vs = (refl, refl)
 
-pub left_side_typed : {E : Type 0} {s : Store} (env : List TyId) {n a : Message} {t x y : TyId} (vs : List MsgId) → n ≡ in_left a → AreSidesOf s t x y → (r : Result Bool E) → IfOk r (IsTyped s env a x vs) → IfOk r (IsTyped s env n t vs)
-left_side_typed {s = s} env {a = a} vs q g (Ok b) h = record {
+-- a message over another, whose type is a side of its own
+side_typed : {E : Type 0} {s : Store} (env : List TyId) (n a : Message) {t x : TyId} (vs : List MsgId) (side : (Ty → Bool) → Ty → Bool) → ((e : Env) (u : Ty) → typed n e u ≡ side (typed a e) u) → ((u : Ty) → Means s t.place u → (v : Ty) × Means s x.place v × ((f : Ty → Bool) (us : List Message) → f (filled us v) ≡ side f (filled us u))) → (r : Result Bool E) → IfOk r (IsTyped s env a x vs) → IfOk r (IsTyped s env n t vs)
+side_typed {s = s} env n a vs side q g (Ok b) h = record {
   at = λ e u st m w.
       let us = values_of s.messages vs in
-      let z = g.at u m in
-      h.at e z.0 st z.3 w ∙ (as_sides (typed a e) us z.2).0 ∙ sym (ap (λ n. typed n e (filled us u)) q);
+      let z = g u m in
+      h.at e z.0 st z.1 w ∙ z.2 (typed a e) us ∙ sym (q e (filled us u));
 }
-left_side_typed env vs q g (Err x) h = tt
+side_typed env n a vs side q g (Err x) h = tt
+
+pub left_side_typed : {E : Type 0} {s : Store} (env : List TyId) {n a : Message} {t x y : TyId} (vs : List MsgId) → n ≡ in_left a → AreSidesOf s t x y → (r : Result Bool E) → IfOk r (IsTyped s env a x vs) → IfOk r (IsTyped s env n t vs)
+left_side_typed env {n = n} {a = a} vs q g r h = side_typed env n a vs as_left (λ e u. ap (λ m. typed m e u) q) (λ u m. let z = g.at u m in (z.0, z.3, λ f us. (as_sides f us z.2).0)) r h
 
 pub right_side_typed : {E : Type 0} {s : Store} (env : List TyId) {n a : Message} {t x y : TyId} (vs : List MsgId) → n ≡ in_right a → AreSidesOf s t x y → (r : Result Bool E) → IfOk r (IsTyped s env a y vs) → IfOk r (IsTyped s env n t vs)
-right_side_typed {s = s} env {a = a} vs q g (Ok b) h = record {
-  at = λ e u st m w.
-      let us = values_of s.messages vs in
-      let z = g.at u m in
-      h.at e z.1 st z.4 w ∙ (as_sides (typed a e) us z.2).1 ∙ sym (ap (λ n. typed n e (filled us u)) q);
-}
-right_side_typed env vs q g (Err x) h = tt
+right_side_typed env {n = n} {a = a} vs q g r h = side_typed env n a vs as_right (λ e u. ap (λ m. typed m e u) q) (λ u m. let z = g.at u m in (z.1, z.4, λ f us. (as_sides f us z.2).1)) r h
 
 pub left_side_untyped : {s : Store} {env : List TyId} {n a : Message} {t : TyId} {vs : List MsgId} → n ≡ in_left a → HasNoSides s t → IsTyped s env n t vs false
 left_side_untyped {s} {a = a} {vs = vs} q g = record { at = λ e u st m w. (not_as_side u (λ v x. g.none u v x m) (typed a e) (values_of s.messages vs)).0 ∙ sym (ap (λ n. typed n e (filled (values_of s.messages vs) u)) q) }

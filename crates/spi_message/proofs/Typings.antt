@@ -3,7 +3,7 @@ use Rattle.std.proofs.Common.{◌≡◌, ℕ, zero, suc, ◌-◌, ◌<◌, ◌�
 use Rattle.std.specs.Prelude.{slice_get, nat_lt, if◌then◌else◌, ⊤}
 use Rattle.std.proofs.lemmas.Bool.{lt-ltb, le-ltb, eq-eqb, ne_eqb, ltb-true, ltb-false}
 use Rattle.spi_term.specs.Term.{Message, bound, name, unit, pair, in_left, in_right, enc, hash, Effect, Ty}
-use Rattle.spi_term.specs.Substitution.{put, ty_map, ty_put}
+use Rattle.spi_term.specs.Substitution.{message_map, put, ty_map, ty_put}
 use Rattle.spi_term.specs.Names.{MessageOver}
 use Rattle.spi_term.specs.Lists.{In}
 use Rattle.spi_term.proofs.Terms.{put_closed}
@@ -118,20 +118,24 @@ pub put_filled : (vs : List Message) → AllStay vs → (a : Message) (t : Ty) �
 put_filled vs s a t =
     joined_ty (put a) (fill vs) (fill (vs ++ a ∷ [])) (λ d m. ⊤) 1 0 (λ d c e p q m u. let z : c ≡ suc d = omega arith in subst (λ k. put a d (fill vs k m) ≡ fill (vs ++ a ∷ []) d m) (sym z) (put_fill vs s a d m)) 0 1 0 refl refl t (each_ty (λ d m. ⊤) (λ d m. tt) 0 t)
 
+-- a message in which each index stays
+pub stays_mapped : (f : ℕ → Message) → ((i : ℕ) → f i ≡ bound i) → (m : Message) → message_map f name m ≡ m
+stays_mapped f h (bound i) = h i
+stays_mapped f h (name x) = refl
+stays_mapped f h unit = refl
+stays_mapped f h (pair m n) = λ i. pair (stays_mapped f h m i) (stays_mapped f h n i)
+stays_mapped f h (in_left m) = ap in_left (stays_mapped f h m)
+stays_mapped f h (in_right m) = ap in_right (stays_mapped f h m)
+stays_mapped f h (enc m n) = λ i. enc (stays_mapped f h m i) (stays_mapped f h n i)
+stays_mapped f h (hash m) = ap hash (stays_mapped f h m)
+
 -- without values nothing changes, and one value is put for the one binder
 fill_none : (d : ℕ) (m : Message) → fill [] d m ≡ m
-fill_none d (bound i) = by (nat_lt i d)
+fill_none d m = stays_mapped (λ i. or_bound i (value_of [] d i)) (λ i. by i (nat_lt i d)) m
   where
-    by : (b : Bool) → or_bound i (if b then None else last_but (i - d) []) ≡ bound i
-    by true = refl
-    by false = ap (or_bound i) (last_beyond {A = Message} (i - d) [] (omega arith))
-fill_none d (name x) = refl
-fill_none d unit = refl
-fill_none d (pair m n) = λ i. pair (fill_none d m i) (fill_none d n i)
-fill_none d (in_left m) = ap in_left (fill_none d m)
-fill_none d (in_right m) = ap in_right (fill_none d m)
-fill_none d (enc m n) = λ i. enc (fill_none d m i) (fill_none d n i)
-fill_none d (hash m) = ap hash (fill_none d m)
+    by : (i : ℕ) (b : Bool) → or_bound i (if b then None else last_but (i - d) []) ≡ bound i
+    by i true = refl
+    by i false = ap (or_bound i) (last_beyond {A = Message} (i - d) [] (omega arith))
 
 pub filled_none : (t : Ty) → filled [] t ≡ t
 filled_none t = fixed_ty (fill []) fill_none 0 t

@@ -110,7 +110,8 @@ fn pair_has_type(
     t: &Ty,
 ) -> Result<bool, NoMemory>
     ensures { IfOk result
-        (λ x. x ≡ typed (pair (message a.now) (message b.now)) (scope_of_types env.now inner.now) (ty t.now)) }
+        (λ x. x ≡ typed (pair (message a.now) (message b.now))
+        (scope_of_types env.now inner.now) (ty t.now)) }
 {
     match t {
         Ty::Un => {

@@ -1,5 +1,6 @@
 -- The forms of what a role does by itself, as rows, each told by its first token.
 use Rattle.std.proofs.Common.{◌≡◌, ℕ, ◌+◌, ◌≤◌, Bool, true, List, [], ◌∷◌, ◌++◌, length, drop, Option, Some, Err, refl, sym, ap, subst, ◌∙◌, ◌⊎◌, inl, inr}
+use Rattle.std.proofs.lemmas.Bool.{cases_eq}
 use Rattle.spi_lex.specs.declared.token.Kind.{Kind}
 use Rattle.spi_lex.specs.declared.token.Kind.TheVariants as K
 use Rattle.spi_lex.specs.declared.token.Mark.TheVariants as mark
@@ -14,6 +15,8 @@ use Rattle.spi_tree.specs.Pieces.{Piece, cells}
 use Rattle.spi_tree.specs.Formed.{AreWordsFit}
 use Rattle.spi_parse.specs.Formed.{whole_message, IsWholeMessage}
 use Rattle.spi_parse.specs.Exact as exact
+use Rattle.spi_parse.specs.Table.{reserved_number}
+use Rattle.spi_parse.proofs.Numbers.{same_reserved}
 use Rattle.spi_grammar.specs.Exactly.{kinds, IsGoodKind}
 use Rattle.spi_parts.proofs.Bridge.{OfPieces}
 use Rattle.spi_heading.specs.Spans.{start_of_token, end_before, span_over}
@@ -79,113 +82,112 @@ new_rest = token (the_mark mark.ParenOpen) ∷ name ∷ token (the_mark mark.Col
 abbrev pub new_row : List HeadingSym
 new_row = form_row word.New new_rest
 
+-- the word that a form begins with
+abbrev pub first_word : n.Prefix → Reserved
+first_word (n.split s m x a y b) = word.Split
+first_word (n.match s m x a k y b) = word.Match
+first_word (n.decrypt s m x a k) = word.Decrypt
+first_word (n.check s m k) = word.Check
+first_word (n.begin s m) = word.Begin
+first_word (n.end s m) = word.End
+first_word (n.end_many s m) = word.EndMany
+first_word (n.cast s m x a) = word.Cast
+first_word (n.new s x a) = word.New
+
+first_token : (x : n.Prefix) → (r : List Kind) × (kinds (cells (whole_prefix x)) ≡ K.Reserved (first_word x) ∷ r)
+first_token (n.split s m x a y b) = (_, refl)
+first_token (n.match s m x a k y b) = (_, refl)
+first_token (n.decrypt s m x a k) = (_, refl)
+first_token (n.check s m k) = (_, refl)
+first_token (n.begin s m) = (_, refl)
+first_token (n.end s m) = (_, refl)
+first_token (n.end_many s m) = (_, refl)
+first_token (n.cast s m x a) = (_, refl)
+first_token (n.new s x a) = (_, refl)
+
+-- what a form has behind that word
+abbrev rest_of : Reserved → List HeadingSym
+rest_of word.Split = split_rest
+rest_of word.Match = match_rest
+rest_of word.Decrypt = decrypt_rest
+rest_of word.Check = check_rest
+rest_of word.Begin = label_rest
+rest_of word.End = label_rest
+rest_of word.EndMany = label_rest
+rest_of word.Cast = cast_rest
+rest_of word.New = new_rest
+rest_of _ = []
+
+-- words are the same or not
+either_word : (w u : Reserved) → (w ≡ u) ⊎ (w ≡ u → ⊥)
+either_word w u = go (cases_eq (reserved_number w) (reserved_number u))
+  where
+    go : (reserved_number w ≡ reserved_number u) ⊎ (reserved_number w ≡ reserved_number u → ⊥) → (w ≡ u) ⊎ (w ≡ u → ⊥)
+    go (inl e) = inl (same_reserved w u e)
+    go (inr other) = inr (λ e. other (ap reserved_number e))
+
 module _ (v : Bool) where
   abbrev pub Prefixes : List (Kind × Bool) → Type 0
   Prefixes = OfPieces whole_prefix (IsWholePrefix v)
 
-  split_is : (s : Span) (m : t.Msg) (x : SWord) (a : t.Ty) (y : SWord) (b : t.Ty) → IsWholePrefix v (n.split s m x a y b) → Row v split_row (cells (whole_prefix (n.split s m x a y b)))
-  split_is s m x a y b is = row_into v split_row (s.from, (tt, (m, (tt, (tt, (x, (tt, (a, (tt, (y, (tt, (b, (tt, (s.to, tt)))))))))))))) (tt, (tt, (is.0.0, (tt, (tt, (tt, (tt, (is.0.1, (tt, (tt, (tt, (is.0.2, (tt, (tt, tt)))))))))))))) is.1
+  prefix_row : (x : n.Prefix) → IsWholePrefix v x → Row v (form_row (first_word x) (rest_of (first_word x))) (cells (whole_prefix x))
+  prefix_row (n.split s m x a y b) is = row_into v split_row (s.from, (tt, (m, (tt, (tt, (x, (tt, (a, (tt, (y, (tt, (b, (tt, (s.to, tt)))))))))))))) (tt, (tt, (is.0.0, (tt, (tt, (tt, (tt, (is.0.1, (tt, (tt, (tt, (is.0.2, (tt, (tt, tt)))))))))))))) is.1
+  prefix_row (n.match s m x a k y b) is = row_into v match_row (s.from, (tt, (m, (tt, (tt, (x, (tt, (a, (tt, (k, (tt, (y, (tt, (b, (tt, (s.to, tt)))))))))))))))) (tt, (tt, (is.0.0, (tt, (tt, (tt, (tt, (is.0.1, (tt, (is.0.2, (tt, (tt, (tt, (is.0.3, (tt, (tt, tt)))))))))))))))) is.1
+  prefix_row (n.decrypt s m x a k) is = row_into v decrypt_row (s.from, (tt, (m, (tt, (tt, (x, (tt, (a, (tt, (k, (s.to, tt))))))))))) (tt, (tt, (is.0.0, (tt, (tt, (tt, (tt, (is.0.1, (tt, (is.0.2, (tt, tt))))))))))) is.1
+  prefix_row (n.check s m k) is = row_into v check_row (s.from, (tt, (m, (tt, (k, (s.to, tt)))))) (tt, (tt, (is.0.0, (tt, (is.0.1, (tt, tt)))))) is.1
+  prefix_row (n.begin s m) is = row_into v (label_row word.Begin) (s.from, (tt, (m, (s.to, tt)))) (tt, (tt, (is.0, (tt, tt)))) is.1
+  prefix_row (n.end s m) is = row_into v (label_row word.End) (s.from, (tt, (m, (s.to, tt)))) (tt, (tt, (is.0, (tt, tt)))) is.1
+  prefix_row (n.end_many s m) is = row_into v (label_row word.EndMany) (s.from, (tt, (m, (s.to, tt)))) (tt, (tt, (is.0.1, (tt, tt)))) is.1
+  prefix_row (n.cast s m x a) is = row_into v cast_row (s.from, (tt, (m, (tt, (tt, (x, (tt, (a, (tt, (s.to, tt)))))))))) (tt, (tt, (is.0.0, (tt, (tt, (tt, (tt, (is.0.1, (tt, (tt, tt)))))))))) is.1
+  prefix_row (n.new s x a) is = row_into v new_row (s.from, (tt, (tt, (x, (tt, (a, (tt, (s.to, tt)))))))) (tt, (tt, (tt, (tt, (tt, (is.0, (tt, (tt, tt)))))))) is.1
+
+  row_or_not : (w : Reserved) (x : n.Prefix) → IsWholePrefix v x → Row v (form_row w (rest_of w)) (cells (whole_prefix x)) ⊎ ((y : List Kind) → kinds (cells (whole_prefix x)) ≡ K.Reserved w ∷ y → ⊥)
+  row_or_not w x is = go (either_word (first_word x) w)
+    where
+      go : (first_word x ≡ w) ⊎ (first_word x ≡ w → ⊥) → Row v (form_row w (rest_of w)) (cells (whole_prefix x)) ⊎ ((y : List Kind) → kinds (cells (whole_prefix x)) ≡ K.Reserved w ∷ y → ⊥)
+      go (inl e) = inl (subst (λ (u : Reserved). Row v (form_row u (rest_of u)) (cells (whole_prefix x))) e (prefix_row x is))
+      go (inr other) = inr (λ y g. let f = first_token x in let h : K.Reserved (first_word x) ∷ f.0 ≡ K.Reserved w ∷ y = sym f.1 ∙ g in other cc)
 
   pub split_told : IsToldBy (K.Reserved word.Split) (Row v split_row) Prefixes
-  split_told = node_told v whole_prefix (IsWholePrefix v) (the_reserved word.Split) split_rest (λ x. n.split (record { from = x.0; to = x.1.1.1.1.1.1.1.1.1.1.1.1.1.0 }) x.1.1.0 x.1.1.1.1.1.0 x.1.1.1.1.1.1.1.0 x.1.1.1.1.1.1.1.1.1.0 x.1.1.1.1.1.1.1.1.1.1.1.0) (λ x are fit. ((are.1.1.0, are.1.1.1.1.1.1.1.0, are.1.1.1.1.1.1.1.1.1.1.1.0), fit)) (λ x. refl) either
-    where
-      either : (x : n.Prefix) → IsWholePrefix v x → Row v split_row (cells (whole_prefix x)) ⊎ ((y : List Kind) → kinds (cells (whole_prefix x)) ≡ K.Reserved word.Split ∷ y → ⊥)
-      either (n.split s m x a y b) is = inl (split_is s m x a y b is)
-      either x is = inr (λ y g. cc)
-
-  match_is : (s : Span) (m : t.Msg) (x : SWord) (a : t.Ty) (k : t.Msg) (y : SWord) (b : t.Ty) → IsWholePrefix v (n.match s m x a k y b) → Row v match_row (cells (whole_prefix (n.match s m x a k y b)))
-  match_is s m x a k y b is = row_into v match_row (s.from, (tt, (m, (tt, (tt, (x, (tt, (a, (tt, (k, (tt, (y, (tt, (b, (tt, (s.to, tt)))))))))))))))) (tt, (tt, (is.0.0, (tt, (tt, (tt, (tt, (is.0.1, (tt, (is.0.2, (tt, (tt, (tt, (is.0.3, (tt, (tt, tt)))))))))))))))) is.1
+  split_told = node_told v whole_prefix (IsWholePrefix v) (the_reserved word.Split) split_rest (λ x. n.split (record { from = x.0; to = x.1.1.1.1.1.1.1.1.1.1.1.1.1.0 }) x.1.1.0 x.1.1.1.1.1.0 x.1.1.1.1.1.1.1.0 x.1.1.1.1.1.1.1.1.1.0 x.1.1.1.1.1.1.1.1.1.1.1.0) (λ x are fit. ((are.1.1.0, are.1.1.1.1.1.1.1.0, are.1.1.1.1.1.1.1.1.1.1.1.0), fit)) (λ x. refl) (row_or_not word.Split)
 
   pub match_told : IsToldBy (K.Reserved word.Match) (Row v match_row) Prefixes
-  match_told = node_told v whole_prefix (IsWholePrefix v) (the_reserved word.Match) match_rest (λ x. n.match (record { from = x.0; to = x.1.1.1.1.1.1.1.1.1.1.1.1.1.1.1.0 }) x.1.1.0 x.1.1.1.1.1.0 x.1.1.1.1.1.1.1.0 x.1.1.1.1.1.1.1.1.1.0 x.1.1.1.1.1.1.1.1.1.1.1.0 x.1.1.1.1.1.1.1.1.1.1.1.1.1.0) (λ x are fit. ((are.1.1.0, are.1.1.1.1.1.1.1.0, are.1.1.1.1.1.1.1.1.1.0, are.1.1.1.1.1.1.1.1.1.1.1.1.1.0), fit)) (λ x. refl) either
-    where
-      either : (x : n.Prefix) → IsWholePrefix v x → Row v match_row (cells (whole_prefix x)) ⊎ ((y : List Kind) → kinds (cells (whole_prefix x)) ≡ K.Reserved word.Match ∷ y → ⊥)
-      either (n.match s m x a k y b) is = inl (match_is s m x a k y b is)
-      either x is = inr (λ y g. cc)
-
-  decrypt_is : (s : Span) (m : t.Msg) (x : SWord) (a : t.Ty) (k : t.Msg) → IsWholePrefix v (n.decrypt s m x a k) → Row v decrypt_row (cells (whole_prefix (n.decrypt s m x a k)))
-  decrypt_is s m x a k is = row_into v decrypt_row (s.from, (tt, (m, (tt, (tt, (x, (tt, (a, (tt, (k, (s.to, tt))))))))))) (tt, (tt, (is.0.0, (tt, (tt, (tt, (tt, (is.0.1, (tt, (is.0.2, (tt, tt))))))))))) is.1
+  match_told = node_told v whole_prefix (IsWholePrefix v) (the_reserved word.Match) match_rest (λ x. n.match (record { from = x.0; to = x.1.1.1.1.1.1.1.1.1.1.1.1.1.1.1.0 }) x.1.1.0 x.1.1.1.1.1.0 x.1.1.1.1.1.1.1.0 x.1.1.1.1.1.1.1.1.1.0 x.1.1.1.1.1.1.1.1.1.1.1.0 x.1.1.1.1.1.1.1.1.1.1.1.1.1.0) (λ x are fit. ((are.1.1.0, are.1.1.1.1.1.1.1.0, are.1.1.1.1.1.1.1.1.1.0, are.1.1.1.1.1.1.1.1.1.1.1.1.1.0), fit)) (λ x. refl) (row_or_not word.Match)
 
   pub decrypt_told : IsToldBy (K.Reserved word.Decrypt) (Row v decrypt_row) Prefixes
-  decrypt_told = node_told v whole_prefix (IsWholePrefix v) (the_reserved word.Decrypt) decrypt_rest (λ x. n.decrypt (record { from = x.0; to = x.1.1.1.1.1.1.1.1.1.1.0 }) x.1.1.0 x.1.1.1.1.1.0 x.1.1.1.1.1.1.1.0 x.1.1.1.1.1.1.1.1.1.0) (λ x are fit. ((are.1.1.0, are.1.1.1.1.1.1.1.0, are.1.1.1.1.1.1.1.1.1.0), fit)) (λ x. refl) either
-    where
-      either : (x : n.Prefix) → IsWholePrefix v x → Row v decrypt_row (cells (whole_prefix x)) ⊎ ((y : List Kind) → kinds (cells (whole_prefix x)) ≡ K.Reserved word.Decrypt ∷ y → ⊥)
-      either (n.decrypt s m x a k) is = inl (decrypt_is s m x a k is)
-      either x is = inr (λ y g. cc)
-
-  check_is : (s : Span) (m : t.Msg) (k : t.Msg) → IsWholePrefix v (n.check s m k) → Row v check_row (cells (whole_prefix (n.check s m k)))
-  check_is s m k is = row_into v check_row (s.from, (tt, (m, (tt, (k, (s.to, tt)))))) (tt, (tt, (is.0.0, (tt, (is.0.1, (tt, tt)))))) is.1
+  decrypt_told = node_told v whole_prefix (IsWholePrefix v) (the_reserved word.Decrypt) decrypt_rest (λ x. n.decrypt (record { from = x.0; to = x.1.1.1.1.1.1.1.1.1.1.0 }) x.1.1.0 x.1.1.1.1.1.0 x.1.1.1.1.1.1.1.0 x.1.1.1.1.1.1.1.1.1.0) (λ x are fit. ((are.1.1.0, are.1.1.1.1.1.1.1.0, are.1.1.1.1.1.1.1.1.1.0), fit)) (λ x. refl) (row_or_not word.Decrypt)
 
   pub check_told : IsToldBy (K.Reserved word.Check) (Row v check_row) Prefixes
-  check_told = node_told v whole_prefix (IsWholePrefix v) (the_reserved word.Check) check_rest (λ x. n.check (record { from = x.0; to = x.1.1.1.1.1.0 }) x.1.1.0 x.1.1.1.1.0) (λ x are fit. ((are.1.1.0, are.1.1.1.1.0), fit)) (λ x. refl) either
-    where
-      either : (x : n.Prefix) → IsWholePrefix v x → Row v check_row (cells (whole_prefix x)) ⊎ ((y : List Kind) → kinds (cells (whole_prefix x)) ≡ K.Reserved word.Check ∷ y → ⊥)
-      either (n.check s m k) is = inl (check_is s m k is)
-      either x is = inr (λ y g. cc)
-
-  begin_is : (s : Span) (m : t.Msg) → IsWholePrefix v (n.begin s m) → Row v (label_row word.Begin) (cells (whole_prefix (n.begin s m)))
-  begin_is s m is = row_into v (label_row word.Begin) (s.from, (tt, (m, (s.to, tt)))) (tt, (tt, (is.0, (tt, tt)))) is.1
+  check_told = node_told v whole_prefix (IsWholePrefix v) (the_reserved word.Check) check_rest (λ x. n.check (record { from = x.0; to = x.1.1.1.1.1.0 }) x.1.1.0 x.1.1.1.1.0) (λ x are fit. ((are.1.1.0, are.1.1.1.1.0), fit)) (λ x. refl) (row_or_not word.Check)
 
   pub begin_told : IsToldBy (K.Reserved word.Begin) (Row v (label_row word.Begin)) Prefixes
-  begin_told = node_told v whole_prefix (IsWholePrefix v) (the_reserved word.Begin) label_rest (λ x. n.begin (record { from = x.0; to = x.1.1.1.0 }) x.1.1.0) (λ x are fit. (are.1.1.0, fit)) (λ x. refl) either
-    where
-      either : (x : n.Prefix) → IsWholePrefix v x → Row v (label_row word.Begin) (cells (whole_prefix x)) ⊎ ((y : List Kind) → kinds (cells (whole_prefix x)) ≡ K.Reserved word.Begin ∷ y → ⊥)
-      either (n.begin s m) is = inl (begin_is s m is)
-      either x is = inr (λ y g. cc)
-
-  end_is : (s : Span) (m : t.Msg) → IsWholePrefix v (n.end s m) → Row v (label_row word.End) (cells (whole_prefix (n.end s m)))
-  end_is s m is = row_into v (label_row word.End) (s.from, (tt, (m, (s.to, tt)))) (tt, (tt, (is.0, (tt, tt)))) is.1
+  begin_told = node_told v whole_prefix (IsWholePrefix v) (the_reserved word.Begin) label_rest (λ x. n.begin (record { from = x.0; to = x.1.1.1.0 }) x.1.1.0) (λ x are fit. (are.1.1.0, fit)) (λ x. refl) (row_or_not word.Begin)
 
   pub end_told : IsToldBy (K.Reserved word.End) (Row v (label_row word.End)) Prefixes
-  end_told = node_told v whole_prefix (IsWholePrefix v) (the_reserved word.End) label_rest (λ x. n.end (record { from = x.0; to = x.1.1.1.0 }) x.1.1.0) (λ x are fit. (are.1.1.0, fit)) (λ x. refl) either
-    where
-      either : (x : n.Prefix) → IsWholePrefix v x → Row v (label_row word.End) (cells (whole_prefix x)) ⊎ ((y : List Kind) → kinds (cells (whole_prefix x)) ≡ K.Reserved word.End ∷ y → ⊥)
-      either (n.end s m) is = inl (end_is s m is)
-      either x is = inr (λ y g. cc)
-
-  end_many_is : (s : Span) (m : t.Msg) → IsWholePrefix v (n.end_many s m) → Row v (label_row word.EndMany) (cells (whole_prefix (n.end_many s m)))
-  end_many_is s m is = row_into v (label_row word.EndMany) (s.from, (tt, (m, (s.to, tt)))) (tt, (tt, (is.0.1, (tt, tt)))) is.1
+  end_told = node_told v whole_prefix (IsWholePrefix v) (the_reserved word.End) label_rest (λ x. n.end (record { from = x.0; to = x.1.1.1.0 }) x.1.1.0) (λ x are fit. (are.1.1.0, fit)) (λ x. refl) (row_or_not word.End)
 
   pub end_many_told : v ≡ true → IsToldBy (K.Reserved word.EndMany) (Row v (label_row word.EndMany)) Prefixes
-  end_many_told later = node_told v whole_prefix (IsWholePrefix v) (the_reserved word.EndMany) label_rest (λ x. n.end_many (record { from = x.0; to = x.1.1.1.0 }) x.1.1.0) (λ x are fit. ((later, are.1.1.0), fit)) (λ x. refl) either
-    where
-      either : (x : n.Prefix) → IsWholePrefix v x → Row v (label_row word.EndMany) (cells (whole_prefix x)) ⊎ ((y : List Kind) → kinds (cells (whole_prefix x)) ≡ K.Reserved word.EndMany ∷ y → ⊥)
-      either (n.end_many s m) is = inl (end_many_is s m is)
-      either x is = inr (λ y g. cc)
-
-  cast_is : (s : Span) (m : t.Msg) (x : SWord) (a : t.Ty) → IsWholePrefix v (n.cast s m x a) → Row v cast_row (cells (whole_prefix (n.cast s m x a)))
-  cast_is s m x a is = row_into v cast_row (s.from, (tt, (m, (tt, (tt, (x, (tt, (a, (tt, (s.to, tt)))))))))) (tt, (tt, (is.0.0, (tt, (tt, (tt, (tt, (is.0.1, (tt, (tt, tt)))))))))) is.1
+  end_many_told later = node_told v whole_prefix (IsWholePrefix v) (the_reserved word.EndMany) label_rest (λ x. n.end_many (record { from = x.0; to = x.1.1.1.0 }) x.1.1.0) (λ x are fit. ((later, are.1.1.0), fit)) (λ x. refl) (row_or_not word.EndMany)
 
   pub cast_told : IsToldBy (K.Reserved word.Cast) (Row v cast_row) Prefixes
-  cast_told = node_told v whole_prefix (IsWholePrefix v) (the_reserved word.Cast) cast_rest (λ x. n.cast (record { from = x.0; to = x.1.1.1.1.1.1.1.1.1.0 }) x.1.1.0 x.1.1.1.1.1.0 x.1.1.1.1.1.1.1.0) (λ x are fit. ((are.1.1.0, are.1.1.1.1.1.1.1.0), fit)) (λ x. refl) either
-    where
-      either : (x : n.Prefix) → IsWholePrefix v x → Row v cast_row (cells (whole_prefix x)) ⊎ ((y : List Kind) → kinds (cells (whole_prefix x)) ≡ K.Reserved word.Cast ∷ y → ⊥)
-      either (n.cast s m x a) is = inl (cast_is s m x a is)
-      either x is = inr (λ y g. cc)
-
-  new_is : (s : Span) (x : SWord) (a : t.Ty) → IsWholePrefix v (n.new s x a) → Row v new_row (cells (whole_prefix (n.new s x a)))
-  new_is s x a is = row_into v new_row (s.from, (tt, (tt, (x, (tt, (a, (tt, (s.to, tt)))))))) (tt, (tt, (tt, (tt, (tt, (is.0, (tt, (tt, tt)))))))) is.1
+  cast_told = node_told v whole_prefix (IsWholePrefix v) (the_reserved word.Cast) cast_rest (λ x. n.cast (record { from = x.0; to = x.1.1.1.1.1.1.1.1.1.0 }) x.1.1.0 x.1.1.1.1.1.0 x.1.1.1.1.1.1.1.0) (λ x are fit. ((are.1.1.0, are.1.1.1.1.1.1.1.0), fit)) (λ x. refl) (row_or_not word.Cast)
 
   pub new_told : IsToldBy (K.Reserved word.New) (Row v new_row) Prefixes
-  new_told = node_told v whole_prefix (IsWholePrefix v) (the_reserved word.New) new_rest (λ x. n.new (record { from = x.0; to = x.1.1.1.1.1.1.1.0 }) x.1.1.1.0 x.1.1.1.1.1.0) (λ x are fit. (are.1.1.1.1.1.0, fit)) (λ x. refl) either
-    where
-      either : (x : n.Prefix) → IsWholePrefix v x → Row v new_row (cells (whole_prefix x)) ⊎ ((y : List Kind) → kinds (cells (whole_prefix x)) ≡ K.Reserved word.New ∷ y → ⊥)
-      either (n.new s x a) is = inl (new_is s x a is)
-      either x is = inr (λ y g. cc)
+  new_told = node_told v whole_prefix (IsWholePrefix v) (the_reserved word.New) new_rest (λ x. n.new (record { from = x.0; to = x.1.1.1.1.1.1.1.0 }) x.1.1.1.0 x.1.1.1.1.1.0) (λ x are fit. (are.1.1.1.1.1.0, fit)) (λ x. refl) (row_or_not word.New)
 
   pub prefix_form : (a : List (Kind × Bool)) → Prefixes a → FormOf v Prefixes a
   prefix_form a p = go p.part p.is p.shows
     where
       go : (x : n.Prefix) → IsWholePrefix v x → cells (whole_prefix x) ≡ a → FormOf v Prefixes a
-      go (n.split s m x a y b) is e = record { first = K.Reserved word.Split; row = split_row; told = split_told; is = subst (Row v split_row) e (split_is s m x a y b is); begins = (_, ap kinds (sym e)) }
-      go (n.match s m x a k y b) is e = record { first = K.Reserved word.Match; row = match_row; told = match_told; is = subst (Row v match_row) e (match_is s m x a k y b is); begins = (_, ap kinds (sym e)) }
-      go (n.decrypt s m x a k) is e = record { first = K.Reserved word.Decrypt; row = decrypt_row; told = decrypt_told; is = subst (Row v decrypt_row) e (decrypt_is s m x a k is); begins = (_, ap kinds (sym e)) }
-      go (n.check s m k) is e = record { first = K.Reserved word.Check; row = check_row; told = check_told; is = subst (Row v check_row) e (check_is s m k is); begins = (_, ap kinds (sym e)) }
-      go (n.begin s m) is e = record { first = K.Reserved word.Begin; row = (label_row word.Begin); told = begin_told; is = subst (Row v (label_row word.Begin)) e (begin_is s m is); begins = (_, ap kinds (sym e)) }
-      go (n.end s m) is e = record { first = K.Reserved word.End; row = (label_row word.End); told = end_told; is = subst (Row v (label_row word.End)) e (end_is s m is); begins = (_, ap kinds (sym e)) }
-      go (n.end_many s m) is e = record { first = K.Reserved word.EndMany; row = (label_row word.EndMany); told = end_many_told is.0.0; is = subst (Row v (label_row word.EndMany)) e (end_many_is s m is); begins = (_, ap kinds (sym e)) }
-      go (n.cast s m x a) is e = record { first = K.Reserved word.Cast; row = cast_row; told = cast_told; is = subst (Row v cast_row) e (cast_is s m x a is); begins = (_, ap kinds (sym e)) }
-      go (n.new s x a) is e = record { first = K.Reserved word.New; row = new_row; told = new_told; is = subst (Row v new_row) e (new_is s x a is); begins = (_, ap kinds (sym e)) }
+      go (n.split s m x a y b) is e = record { first = K.Reserved word.Split; row = split_row; told = split_told; is = subst (Row v split_row) e (prefix_row (n.split s m x a y b) is); begins = (_, ap kinds (sym e)) }
+      go (n.match s m x a k y b) is e = record { first = K.Reserved word.Match; row = match_row; told = match_told; is = subst (Row v match_row) e (prefix_row (n.match s m x a k y b) is); begins = (_, ap kinds (sym e)) }
+      go (n.decrypt s m x a k) is e = record { first = K.Reserved word.Decrypt; row = decrypt_row; told = decrypt_told; is = subst (Row v decrypt_row) e (prefix_row (n.decrypt s m x a k) is); begins = (_, ap kinds (sym e)) }
+      go (n.check s m k) is e = record { first = K.Reserved word.Check; row = check_row; told = check_told; is = subst (Row v check_row) e (prefix_row (n.check s m k) is); begins = (_, ap kinds (sym e)) }
+      go (n.begin s m) is e = record { first = K.Reserved word.Begin; row = (label_row word.Begin); told = begin_told; is = subst (Row v (label_row word.Begin)) e (prefix_row (n.begin s m) is); begins = (_, ap kinds (sym e)) }
+      go (n.end s m) is e = record { first = K.Reserved word.End; row = (label_row word.End); told = end_told; is = subst (Row v (label_row word.End)) e (prefix_row (n.end s m) is); begins = (_, ap kinds (sym e)) }
+      go (n.end_many s m) is e = record { first = K.Reserved word.EndMany; row = (label_row word.EndMany); told = end_many_told is.0.0; is = subst (Row v (label_row word.EndMany)) e (prefix_row (n.end_many s m) is); begins = (_, ap kinds (sym e)) }
+      go (n.cast s m x a) is e = record { first = K.Reserved word.Cast; row = cast_row; told = cast_told; is = subst (Row v cast_row) e (prefix_row (n.cast s m x a) is); begins = (_, ap kinds (sym e)) }
+      go (n.new s x a) is e = record { first = K.Reserved word.New; row = new_row; told = new_told; is = subst (Row v new_row) e (prefix_row (n.new s x a) is); begins = (_, ap kinds (sym e)) }
 
   pub prefixes_good : IsGoodKind Prefixes
   prefixes_good = forms_good v Prefixes prefix_form (let r = node_starts v (the_reserved word.Begin) label_rest in (r.0, begin_told.into r.0 r.1))
@@ -245,28 +247,6 @@ pub prefix_stands : (v : Bool) (ts : List Token) (i : ℕ) (x : n.Prefix) (j : �
 prefix_stands v ts i x j w r = subst (λ (k : ℕ). AreTokensOf ts i (whole_prefix x) k) (sym r.1) (part_stands whole_prefix (IsWholePrefix v) x ts i r.0 w (prefix_solid v x []) r.2)
 
 -- ---- where none begins
-
-abbrev pub first_word : n.Prefix → Reserved
-first_word (n.split s m x a y b) = word.Split
-first_word (n.match s m x a k y b) = word.Match
-first_word (n.decrypt s m x a k) = word.Decrypt
-first_word (n.check s m k) = word.Check
-first_word (n.begin s m) = word.Begin
-first_word (n.end s m) = word.End
-first_word (n.end_many s m) = word.EndMany
-first_word (n.cast s m x a) = word.Cast
-first_word (n.new s x a) = word.New
-
-first_token : (x : n.Prefix) → (r : List Kind) × (kinds (cells (whole_prefix x)) ≡ K.Reserved (first_word x) ∷ r)
-first_token (n.split s m x a y b) = (_, refl)
-first_token (n.match s m x a k y b) = (_, refl)
-first_token (n.decrypt s m x a k) = (_, refl)
-first_token (n.check s m k) = (_, refl)
-first_token (n.begin s m) = (_, refl)
-first_token (n.end s m) = (_, refl)
-first_token (n.end_many s m) = (_, refl)
-first_token (n.cast s m x a) = (_, refl)
-first_token (n.new s x a) = (_, refl)
 
 module _ (v : Bool) (ts : List Token) (i : ℕ) where
   pub prefixes_some : IsSome (Prefixes v)

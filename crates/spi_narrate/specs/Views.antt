@@ -33,7 +33,13 @@ line_of (line.Pass from to channel m x s) = n.pass s from to channel (msg_of m) 
 -- lines stand up to the end
 abbrev pub line_kind : RepeatedKind Line
 line_kind =
-    record { Part = n.Line; view = line_of; pieces = line_pieces; Is = IsLine; Begins = λ ts i. i < length ts }
+    record {
+      Part = n.Line;
+      view = line_of;
+      pieces = line_pieces;
+      Is = IsLine;
+      Begins = λ ts i. i < length ts;
+    }
 
 -- the roles behind the first stand behind commas
 abbrev pub further_kind : RepeatedKind SWord

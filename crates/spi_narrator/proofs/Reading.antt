@@ -140,14 +140,7 @@ scheduled f steps d is few low = record {
   opponent = is.opponent;
   few = is.few;
   schedule = (few, low);
-  derivation = record {
-    uses = is.derivation.uses;
-    formed = is.derivation.formed;
-    rules = is.derivation.rules;
-    within = is.derivation.within;
-    kinds = is.derivation.kinds;
-    small = is.derivation.small;
-  };
+  derivation = is.derivation;
 }
 
 abbrev pub NarrationReadsBack : Type 0

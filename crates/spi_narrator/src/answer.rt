@@ -27,17 +27,9 @@ impl Drop for Refusal {
 }
 
 /// What a narration answers.
+#[derive(Drop)]
 pub enum Answer {
     /// The file that it is woven into, with the honest schedule.
     Told(File),
     Refused(Refusal),
-}
-
-impl Drop for Answer {
-    fn drop(self) {
-        match self {
-            Answer::Told(_) => {}
-            Answer::Refused(_) => {}
-        }
-    }
 }

@@ -1,8 +1,7 @@
 -- One node of the backward pass.
-use Rattle.std.proofs.Common.{◌≡◌, refl, sym, ap, ◌∙◌, subst, ℕ, suc, ◌+◌, ◌≤◌, Bool, true, false, List, [], ◌∷◌, length, reverse, drop, get_or, Option, Some, arith}
-use Rattle.std.proofs.lemmas.List.{drop_all}
+use Rattle.std.proofs.Common.{◌≡◌, refl, sym, ap, ◌∙◌, subst, ℕ, suc, ◌+◌, Bool, true, false, List, [], ◌∷◌, reverse, drop, get_or, Option, Some, arith}
 use Rattle.std.specs.Prelude.{slice_get}
-use Rattle.spi_infer.proofs.Walked.{note_here, at_node, at_note}
+use Rattle.spi_infer.proofs.Walked.{none_from, note_here, at_node, at_note}
 use Rattle.spi_infer.specs.Accounts.{IsNoted}
 use Rattle.spi_infer.specs.Passes.{Note, act, run_notes, scan}
 use Rattle.spi_infer.specs.declared.own.Noted.{Noted}
@@ -13,7 +12,7 @@ use Rattle.spi_origin.specs.Gathering.{Aim, keeps, picks, with_node, at_top, joi
 use Rattle.spi_rules.specs.Environment.{Env}
 use Rattle.spi_term.specs.Names.{ProcessOver}
 use Rattle.spi_term.specs.Spelling.{Shape, spelled}
-use Rattle.spi_term.specs.Term.{Effect, Process}
+use Rattle.spi_term.specs.Term.{Effect, Process, process_size}
 
 with_same : (kept picked a b : Bool) (i : ℕ) (ls : List (List ℕ)) → kept ≡ a → (kept ≡ true → picked ≡ b) → at_top (with_node kept picked i) ls ≡ at_top (with_node a b i) ls
 with_same true picked a b i ls e f =
@@ -21,9 +20,9 @@ with_same true picked a b i ls e f =
 with_same false picked a b i [] e f = refl
 with_same false picked a b i (l ∷ ls) e f = ap (λ k. with_node k b i l ∷ ls) e
 
-pub starts_marked : (w : Aim) (ss : List Shape) (ns : List Note) (n : ℕ) (marks found : List ℕ) → length ss ≤ n → marks ≡ [] → found ≡ [] → MarkedStacks marks found (gather w n (drop n ss) ns)
-starts_marked w ss ns n marks found l e f =
-    subst (λ ls. MarkedStacks marks found ls) (sym (ap (λ ss. gather w n ss ns) (drop_all n ss l))) (subst (λ ms. AreMarked ms (reverse found) []) (sym (ap reverse e)) marked_none)
+pub starts_marked : (w : Aim) (k : ℕ) (p : Process) (ns : List Note) (n : ℕ) (marks found : List ℕ) → n ≡ process_size p → marks ≡ [] → found ≡ [] → MarkedStacks marks found (gather w n (drop n (spelled k p)) ns)
+starts_marked w k p ns n marks found l e f =
+    subst (λ ls. MarkedStacks marks found ls) (sym (ap (λ ss. gather w n ss ns) (none_from k p l))) (subst (λ ms. AreMarked ms (reverse found) []) (sym (ap reverse e)) marked_none)
 
 module _ (s : Store) (noted : Noted) (k : ℕ) (p : Process) (env : Env) (h : IsNoted s noted k p env) (i : ℕ) (x : Shape) (g : slice_get (spelled k p) i ≡ Some x) (o : OwnNote) (ix : o ≡ get_or noted.notes.items i o) (once : NoneTwice s) (over : ProcessOver k p) (id : ℕ) (z : id ≡ i + 1) (w : Aim) where
   abbrev ss : List Shape

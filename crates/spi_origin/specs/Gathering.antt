@@ -99,7 +99,8 @@ abbrev pub gather : Aim → ℕ → List Shape → List Note → List (List ℕ)
 gather w i [] ns = []
 gather w i (x ∷ ss) [] = []
 gather w i (x ∷ ss) (n ∷ ns) =
-    gathered x (keeps w (top_sum (act x n (run_notes ss ns)))) (picks w x n (run_notes ss ns)) i (gather w (suc i) ss ns)
+    gathered x (keeps w (top_sum (act x n (run_notes ss ns)))) (picks w x n (run_notes ss ns)) i
+    (gather w (suc i) ss ns)
 
 -- The lists one after another, and how long what stands behind each is. Below the last list there may be more
 pub data AreMarked : List ℕ → List ℕ → List (List ℕ) → Type 0 where

@@ -1,5 +1,5 @@
 -- What is spelled is read: by the flags of its tokens, or without limits.
-use Rattle.std.proofs.Common.{◌≡◌, ℕ, zero, suc, ◌+◌, ◌==◌, Bool, true, false, List, [], ◌∷◌, map, Option, Some, None, Ok, refl, sym, ap, subst, ◌∙◌, ◌⊎◌, inl, inr, arith}
+use Rattle.std.proofs.Common.{◌≡◌, ℕ, zero, suc, ◌+◌, ◌==◌, Bool, true, false, List, [], ◌∷◌, map, Option, Some, None, IfSome, Ok, refl, sym, ap, subst, ◌∙◌, ◌⊎◌, inl, inr, arith}
 use Rattle.std.specs.Prelude.{nat_lt}
 use Rattle.spi_text.specs.declared.lines.Span.{Span}
 use Rattle.spi_lex.specs.declared.token.Kind.TheVariants as K
@@ -17,7 +17,7 @@ use Rattle.spi_parse.specs.Tokens.{Tok, State}
 use Rattle.spi_parse.specs.Table.{Body, Sym, the_mark, the_reserved, the_word, the_number, the_two, msg, msgs, atom, atoms, effect, ty, fields, fields_more, named, binder, split_head, match_head, case_head, decrypt_head, check_head, cast_head, sproc, seq, out_tail, par_tail, words, free_rest, abbr_rest, decl, decls, act_rest, talk_rest, steps, deriv, opponent_tail, schedule_tail, derivation_tail, body, file, Trees, over, par_of, file_from, rule_move, delta_paren, delta_bracket, delta_ty_paren}
 use Rattle.spi_parse.specs.Reading.{◌>>=◌, Out, Mode, told, any, pass, may_pass, may_lead, read_all, go_on, behind_move, reads_step, read}
 use Rattle.spi_parse.proofs.Readers.{at, read_is_step}
-use Rattle.spi_parse.proofs.Spell.{IsBody, body_pieces, IsRuled, IsRuledFile, IsRuledDerivation}
+use Rattle.spi_parse.proofs.Spell.{IsBody, body_in, body_pieces, IsRuled, IsRuledFile}
 use Rattle.spi_parse.proofs.RuleLaws.{arity_most, sub_arity}
 use Rattle.spi_tree.specs.Trees.{nowhere}
 
@@ -531,7 +531,7 @@ module _ (m : Mode) (φ : Bool → Bool) (fits : FitsMode m φ) where
 
   -- ---- files
 
-  derivation_c : (d : Option t.Deriv) (v : Bool) (to : ℕ) → IsRuledDerivation v d → read m (derivation_tail v) (flat_at (derivation_pieces d (closes to ∷ []))) ≡ Ok (bare_derivation d, at 0 [])
+  derivation_c : (d : Option t.Deriv) (v : Bool) (to : ℕ) → IfSome d (IsRuled v) → read m (derivation_tail v) (flat_at (derivation_pieces d (closes to ∷ []))) ≡ Ok (bare_derivation d, at 0 [])
   derivation_c None v to h = rw read_is_step refl
   derivation_c (Some d) v to h = rw (read_is_step, pass_same false, deriv_c d v 1 (closes to ∷ []) h) refl
 
@@ -624,7 +624,7 @@ module _ (m : Mode) (φ : Bool → Bool) (fits : FitsMode m φ) where
   by_version v s b (inr e) h = (subst (λ (i : ℕ). IsBody (i == 2) b → FileRead (file_from i s b)) (sym e) (later_version s b)) h
 
   pub file_c : (f : t.File) → IsRuledFile f → FileRead f
-  file_c f h = by_version f.version f.span (record { decls = f.decls; process = f.process; opponent = f.opponent; schedule = f.schedule; derivation = f.derivation }) h.version (h.decls, h.process, h.opponent, h.derivation)
+  file_c f h = by_version f.version f.span (body_in f) h.version h.body
 
 -- the two modes
 pub told_fits : FitsMode told (λ d. d)

@@ -187,7 +187,7 @@ some_formed (decrypt_head v) = (tt, tt)
 some_formed (deriv true n) = (refl, refl, tt, tt)
 some_formed (deriv false n) = (refl, refl, tt, tt)
 some_formed (body v) = (tt, tt, tt, tt)
-some_formed file = record { version = inl refl; decls = tt; process = tt; opponent = tt; derivation = tt }
+some_formed file = record { version = inl refl; body = (tt, tt, tt, tt) }
 some_formed _ = tt
 
 some_spare : (a : Sym) (q : List Piece) → AreSpare (cells q) → AreSpare (cells (spell a (some_tree a) q))

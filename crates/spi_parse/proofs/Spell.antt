@@ -1,5 +1,5 @@
 -- The pieces of each symbol's trees, and which of those trees are formed.
-use Rattle.std.proofs.Common.{◌≡◌, ◌⊎◌, ℕ, ◌+◌, Bool, true, false, List, [], ◌∷◌, Option, Some, None}
+use Rattle.std.proofs.Common.{◌≡◌, ◌⊎◌, ℕ, ◌+◌, Bool, true, false, List, [], ◌∷◌, Option, Some, None, IfSome}
 use Rattle.spi_lex.specs.declared.token.Reserved.TheVariants as word
 use Rattle.spi_lex.specs.declared.token.Mark.TheVariants as mark
 use Rattle.spi_tree.specs.declared.tree.SWord.{SWord}
@@ -117,21 +117,8 @@ abbrev mutual
   AreRuled later t.no_derivs = Unit {0}
   AreRuled later (t.more_derivs d ds) = IsRuled later d × AreRuled later ds
 
-abbrev pub IsRuledDerivation : Bool → Option t.Deriv → Type 0
-IsRuledDerivation later None = Unit {0}
-IsRuledDerivation later (Some d) = IsRuled later d
-
--- a formed file, but for its words
-pub record IsRuledFile (f : t.File) : Type 0 where
-  pub version : (f.version ≡ 1) ⊎ (f.version ≡ 2)
-  pub decls : AreDeclared (is_later f) f.decls
-  pub process : IsProc (is_later f) (at_level 0) f.process
-  pub opponent : IsFormedOpponent (is_later f) f.opponent
-  pub derivation : IsRuledDerivation (is_later f) f.derivation
-
 abbrev pub IsRest : Bool → Place → Option t.Proc → Type 0
-IsRest v a None = Unit {0}
-IsRest v a (Some p) = IsProc v a p
+IsRest v a o = IfSome o (IsProc v a)
 
 abbrev pub IsMsgItem : Bool → Bool → ListItem t.Msg (Unit {0}) → Type 0
 IsMsgItem v d (one m) = IsMsg v d m
@@ -149,15 +136,22 @@ abbrev pub AreParts : Bool → List t.Field × t.Last → Type 0
 AreParts v x = AreFields v (t.fields_of_list x.0) × IsLast v x.1
 
 abbrev pub AreMoreParts : Bool → Option (List t.Field × t.Last) → Type 0
-AreMoreParts v None = Unit {0}
-AreMoreParts v (Some x) = AreParts v x
+AreMoreParts v o = IfSome o (AreParts v)
 
 abbrev pub IsDeclItem : Bool → ListItem t.Declared (Unit {0}) → Type 0
 IsDeclItem v (one d) = IsDeclared v d
 IsDeclItem v (last e) = Unit {0}
 
 abbrev pub IsBody : Bool → Body → Type 0
-IsBody v b = AreDeclared v b.decls × IsProc v (at_level 0) b.process × IsFormedOpponent v b.opponent × IsRuledDerivation v b.derivation
+IsBody v b = AreDeclared v b.decls × IsProc v (at_level 0) b.process × IsFormedOpponent v b.opponent × IfSome b.derivation (IsRuled v)
+
+abbrev pub body_in : t.File → Body
+body_in f = record { decls = f.decls; process = f.process; opponent = f.opponent; schedule = f.schedule; derivation = f.derivation }
+
+-- a formed file, but for its words
+pub record IsRuledFile (f : t.File) : Type 0 where
+  pub version : (f.version ≡ 1) ⊎ (f.version ≡ 2)
+  pub body : IsBody (is_later f) (body_in f)
 
 abbrev pub Formed : (a : Sym) → Tree a → Type 0
 Formed (msg v d n) x = IsMsg v d x
@@ -189,7 +183,7 @@ Formed (decls_item v) x = IsDeclItem v x
 Formed (decls v) x = AreDeclared v x.0
 Formed (deriv v n) x = IsRuled v x
 Formed (opponent_tail v) x = IsFormedOpponent v x
-Formed (derivation_tail v) x = IsRuledDerivation v x
+Formed (derivation_tail v) x = IfSome x (IsRuled v)
 Formed (body v) x = IsBody v x
 Formed file x = IsRuledFile x
 Formed _ x = Unit {0}

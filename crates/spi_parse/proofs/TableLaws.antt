@@ -132,7 +132,7 @@ file_case : (w : List ℕ) (s : Span) (b : Bool) → is_version_word w ≡ b
     → MoveOk {a = file} {ate = false} (cond b (eat (the_two ∷ the_mark mark.Semicolon ∷ body true ∷ []) (λ ss to xs. file_from 2 (over ss to) xs.1.1.0)) fail) false [] s.from (λ q. q) (K.Word w) s
 file_case w s false e = tt
 file_case w s true e = let same = bytes_eq-true w (codes "version") e in
-    (0, λ to xs h. (record { version = inr refl; decls = h.1.1.0.0; process = h.1.1.0.1; opponent = h.1.1.0.2; derivation = h.1.1.0.3 }, (1, 1, λ r. ap (λ (z : List ℕ). opens s.from ∷ cell (K.Word z) false ∷ spell the_two tt (spell (the_mark mark.Semicolon) tt (spell (body true) xs.1.1.0 (closes to ∷ r)))) (sym same))))
+    (0, λ to xs h. (record { version = inr refl; body = h.1.1.0 }, (1, 1, λ r. ap (λ (z : List ℕ). opens s.from ∷ cell (K.Word z) false ∷ spell the_two tt (spell (the_mark mark.Semicolon) tt (spell (body true) xs.1.1.0 (closes to ∷ r)))) (sym same))))
 
 moves_ok : (a : Sym) (k : Kind) (s : Span) → MoveOk (delta a k) (deep_here a) [] s.from (λ q. q) k s
 moves_ok (the_mark m) (K.Mark found) s = mark_case m found s (eqb (mark_number found) (mark_number m)) refl
@@ -229,7 +229,7 @@ moves_ok (derivation_tail v) (K.Reserved word.Derivation) s = (0, λ to xs h. (h
 moves_ok (derivation_tail v) _ s = (tt, λ r. refl)
 moves_ok (body v) k s = λ to xs h. ((h.0, h.1.0, h.1.1.0, h.1.1.1.1.0), (0, 0, λ r. refl))
 moves_ok file (K.Word w) s = file_case w s (is_version_word w) refl
-moves_ok file _ s = λ to xs h. (record { version = inl refl; decls = h.0.0; process = h.0.1; opponent = h.0.2; derivation = h.0.3 }, (1, 1, λ r. refl))
+moves_ok file _ s = λ to xs h. (record { version = inl refl; body = h.0 }, (1, 1, λ r. refl))
 moves_ok _ _ s = tt
 
 ends_ok : (a : Sym) (x : Tree a) → at_end a ≡ Some x → Formed a x × ((r : List Piece) → spell a x r ≡ r)

@@ -1,5 +1,5 @@
 -- Words that fit.
-use Rattle.std.proofs.Common.{◌≡◌, ℕ, ◌==◌, Bool, true, false, cond, List, [], ◌∷◌, ◌++◌, codes, Option, Some, None, refl, sym, ap, subst, ◌∙◌, ◌⊎◌, inl, inr}
+use Rattle.std.proofs.Common.{◌≡◌, ℕ, ◌==◌, Bool, true, false, cond, List, [], ◌∷◌, ◌++◌, codes, Option, Some, None, IfSome, refl, sym, ap, subst, ◌∙◌, ◌⊎◌, inl, inr}
 use Rattle.std.specs.Str.{bytes_eq}
 use Rattle.spi_lex.specs.declared.token.Kind.{Kind}
 use Rattle.spi_lex.specs.declared.token.Kind.TheVariants as K
@@ -122,26 +122,26 @@ mutual
   formed_rules v t.no_derivs h k = tt
   formed_rules v (t.more_derivs d ds) h k = (formed_ruled v d h.0 k.0, formed_rules v ds h.1 k.1)
 
-derived : (v : Bool) (d : Option t.Deriv) → s.IsRuledDerivation v d → IsDerivation v d × IsFormedDerived v d
+derived : (v : Bool) (d : Option t.Deriv) → IfSome d (s.IsRuled v) → IsDerivation v d × IsFormedDerived v d
 derived v None h = (tt, tt)
 derived v (Some d) h = ruled_formed v d h
 
-underived : (v : Bool) (d : Option t.Deriv) → IsDerivation v d → IsFormedDerived v d → s.IsRuledDerivation v d
+underived : (v : Bool) (d : Option t.Deriv) → IsDerivation v d → IsFormedDerived v d → IfSome d (s.IsRuled v)
 underived v None h k = tt
 underived v (Some d) h k = formed_ruled v d h k
 
 pub file_ruled : (f : t.File) → IsFile f → s.IsRuledFile f
-file_ruled f h = record { version = h.formed.version; decls = h.formed.decls; process = h.formed.process; opponent = h.formed.opponent; derivation = underived (is_later f) f.derivation h.formed.derivation h.rules }
+file_ruled f h = record { version = h.formed.version; body = (h.formed.decls, h.formed.process, h.formed.opponent, underived (is_later f) f.derivation h.formed.derivation h.rules) }
 
 pub file_made : (ks : List Kind) → AreWordsFit (is_version_2 ks) ks → (f : t.File) → s.IsRuledFile f → (pre rest : List Kind) (c : List (Kind × Bool)) → ks ≡ pre ++ rest → kinds_in (file_pieces f []) ≡ pre ++ firsts c → AreSpare c → IsFile f
 file_made ks fit f h pre rest c split is spare =
-    let d = derived (is_later f) f.derivation h.derivation in
+    let d = derived (is_later f) f.derivation h.body.3 in
     record {
       formed = record {
         version = h.version;
-        decls = h.decls;
-        process = h.process;
-        opponent = h.opponent;
+        decls = h.body.0;
+        process = h.body.1;
+        opponent = h.body.2;
         derivation = d.0;
         words = subst (AreWordsFit (is_later f)) (sym is) (fits_append (is_later f) pre (firsts c) (front_fits f f.version h.version ks pre rest (firsts c) is split fit) (spare_fits (is_later f) c spare));
       };

@@ -1,5 +1,6 @@
 -- Trees up to spans: each span is put at one place.
-use Rattle.std.specs.Prelude.{List, map, Option, Some, None}
+use Rattle.std.specs.Prelude.{List, map, Option}
+use Rattle.std.specs.Option.{option_map}
 use Rattle.spi_text.specs.declared.lines.Span.{Span}
 use Rattle.spi_tree.specs.declared.tree.SWord.{SWord}
 use Rattle.spi_tree.specs.Trees as t
@@ -81,8 +82,7 @@ bare_step (t.act s i) = t.act nowhere i
 bare_step (t.talk s i j) = t.talk nowhere i j
 
 abbrev pub bare_written : Option (List t.Atom) → Option (List t.Atom)
-bare_written None = None
-bare_written (Some es) = Some (map bare_atom es)
+bare_written = option_map (map bare_atom)
 
 abbrev mutual
   pub bare_deriv : t.Deriv → t.Deriv
@@ -93,16 +93,13 @@ abbrev mutual
   bare_derivs (t.more_derivs d ds) = t.more_derivs (bare_deriv d) (bare_derivs ds)
 
 abbrev pub bare_opponent : Option t.Proc → Option t.Proc
-bare_opponent None = None
-bare_opponent (Some p) = Some (bare_proc p)
+bare_opponent = option_map bare_proc
 
 abbrev pub bare_schedule : Option (List t.Step) → Option (List t.Step)
-bare_schedule None = None
-bare_schedule (Some xs) = Some (map bare_step xs)
+bare_schedule = option_map (map bare_step)
 
 abbrev pub bare_derivation : Option t.Deriv → Option t.Deriv
-bare_derivation None = None
-bare_derivation (Some d) = Some (bare_deriv d)
+bare_derivation = option_map bare_deriv
 
 abbrev pub bare_file : t.File → t.File
 bare_file f = record {

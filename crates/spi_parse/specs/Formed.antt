@@ -1,5 +1,5 @@
 -- Which trees are formed, with the rules of their derivations, and which parts of trees are.
-use Rattle.std.specs.Prelude.{◌≡◌, ℕ, suc, Bool, true, false, List, [], Option, Some, None}
+use Rattle.std.specs.Prelude.{◌≡◌, ℕ, suc, Bool, true, false, List, [], Option, Some, None, IfSome}
 use Rattle.spi_tree.specs.Trees as t
 use Rattle.spi_tree.specs.Pieces.{Piece, at_level, kinds_in, msg_pieces, ty_pieces, decl_pieces, proc_pieces, file_pieces}
 use Rattle.spi_tree.specs.Formed.{AreWordsFit, IsMsg, IsTy, IsDeclared, IsProc, IsFormed, is_later}
@@ -24,8 +24,7 @@ abbrev mutual
   HaveRules later (t.more_derivs d ds) = HasRules later d × HaveRules later ds
 
 abbrev pub IsFormedDerived : Bool → Option t.Deriv → Type 0
-IsFormedDerived later None = Unit {0}
-IsFormedDerived later (Some d) = HasRules later d
+IsFormedDerived later o = IfSome o (HasRules later)
 
 -- a formed file
 pub record IsFile (f : t.File) : Type 0 where

@@ -4,7 +4,7 @@ ghost use Rattle.std.specs.Prelude.{◌≡◌, ◌+◌, ◌≤◌, None, [], ◌
 ghost use Rattle.spi_tree.specs.Trees.{derivs_of_list};
 ghost use Rattle.spi_tree.specs.Trees as trees;
 ghost use Rattle.spi_tree.specs.Views.{deriv_of, tree_effect};
-ghost use Rattle.spi_parse.specs.Places.{state_of, GivesPart, GivesBox};
+ghost use Rattle.spi_parse.specs.Places.{state_of, GivesBox};
 ghost use Rattle.spi_parse.specs.Ends.{done};
 ghost use Rattle.spi_parse.specs.Wholes.{one_form, two_form, three_form, sub_form};
 ghost use Rattle.spi_parse.specs.Rules.{arity_of, writes_effect, is_late};
@@ -112,20 +112,11 @@ fn leaf(alloc: Global, rule: SWord, span: Span) -> Result<Box<SDeriv>, NoMemory>
     Ok(Box::new(alloc, tree)?)
 }
 
-/// A use of a rule, of a nesting.
-pub fn derivation(alloc: Global, at: Cursor<'_>, later: bool, nesting: u32) -> Read<'_, SDeriv>
-    requires { nesting ≤ 1001 }
-    ensures { GivesPart deriv_of result (read limited (deriv later nesting) (state_of at.entry)) }
-{
-    let (tree, at) = boxed_derivation(alloc, at, later, nesting)?;
-    Ok((Box::into_inner(tree), at))
-}
-
-/// A use of a rule as a box.
+/// A use of a rule, of a nesting, as a box.
 ///
 /// What reads a premise holds it as a box while it reads the next, so that deep derivations fit the stack.
 #[cycle(derivations)]
-fn boxed_derivation(alloc: Global, at: Cursor<'_>, later: bool, nesting: u32) -> Part<'_>
+pub fn boxed_derivation(alloc: Global, at: Cursor<'_>, later: bool, nesting: u32) -> Part<'_>
     requires { nesting ≤ 1001 }
     ensures { GivesBox deriv_of result (read limited (deriv later nesting) (state_of at.entry)) }
 {

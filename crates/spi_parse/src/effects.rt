@@ -102,7 +102,8 @@ fn effect_in_brackets(
 ) -> Read<'_, Vec<SAtom>>
     requires { node.nesting ≤ 1001 }
     ensures { GivesPart (λ v. map atom_of v.items) result
-        (behind_move limited (read limited) (delta_bracket node.later node.numbered node.nesting) (_first ∷ [])
+        (behind_move limited (read limited)
+        (delta_bracket node.later node.numbered node.nesting) (_first ∷ [])
         (state_of at.entry)) }
 {
     let (second, next) = next_token(at)?;

@@ -1,6 +1,7 @@
 //! The tree of a file's tokens, or the exact fault.
 #![tactic(auto, using(crate::proofs::Readers::read_is_step))]
 
+mod boxes;
 mod cursor;
 mod declarations;
 mod derivations;

@@ -1,13 +1,14 @@
 //! Messages.
 
 ghost use Rattle.std.specs.Prelude.{◌≡◌, false, ◌+◌, ◌≤◌, [], ◌∷◌, map};
-ghost use Rattle.spi_tree.specs.Trees.{name, tuple, msgs_of_list};
+ghost use Rattle.spi_tree.specs.Trees.{Msg, name, tuple, msgs_of_list};
 ghost use Rattle.spi_tree.specs.Views.{msg_of};
 ghost use Rattle.spi_parse.specs.Places.{state_of, tuple_form, enc_form, inl_form, inr_form, hash_form, GivesPart, GivesBox};
 ghost use Rattle.spi_parse.specs.Ends.{done, numeral_form};
 ghost use Rattle.spi_parse.specs.Table.{msg, msgs, msgs_item, delta_paren, word_at, over};
 ghost use Rattle.spi_parse.specs.Reading.{read, reads_step, limited, behind_move, item_of};
 
+use crate::boxes::{TreePart, boxed};
 use crate::cursor::{
     Cursor, MESSAGE_LIMIT, Read, accept, fits, next_token, placed_word, span_from, syntax,
 };
@@ -19,6 +20,12 @@ use std::alloc::Global;
 
 /// A message in a box, with the place behind it.
 type Part<'t> = Read<'t, Box<SMsg>>;
+
+impl TreePart for SMsg {
+    ghost Tree = { Msg };
+
+    ghost view = { msg_of };
+}
 
 fn make_tuple(first: Box<SMsg>, second: Box<SMsg>, more: Vec<SMsg>, span: Span) -> SMsg
     ensures { msg_of result
@@ -61,15 +68,6 @@ pub fn message_of(alloc: Global, at: Cursor<'_>, node: Node) -> Read<'_, SMsg>
 {
     let (tree, at) = boxed_message(alloc, at, node)?;
     Ok((Box::into_inner(tree), at))
-}
-
-/// The message as a box, with the place behind it.
-///
-/// What reads a part of a message holds it as a box while it reads the next part, so that deep messages fit the stack.
-fn boxed(alloc: Global, tree: SMsg, at: Cursor<'_>) -> Part<'_>
-    ensures { GivesBox msg_of result (done (msg_of tree) (state_of at.entry)) }
-{
-    Ok((Box::new(alloc, tree)?, at))
 }
 
 #[cycle(messages)]

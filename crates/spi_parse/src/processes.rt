@@ -2,7 +2,7 @@
 
 ghost use Rattle.std.specs.Prelude.{◌≡◌, false, ◌+◌, ◌≤◌, [], ◌∷◌};
 ghost use Rattle.spi_lex.specs.declared.token.Mark.TheVariants.{Semicolon};
-ghost use Rattle.spi_tree.specs.Trees.{stop};
+ghost use Rattle.spi_tree.specs.Trees.{Proc, stop};
 ghost use Rattle.spi_tree.specs.Views.{msg_of, ty_of, proc_of};
 ghost use Rattle.spi_parse.specs.Places.{state_of, out_form, inp_form, repeat_form, split_form, match_form, case_form, decrypt_form, check_form, begin_form, end_form, end_many_form, cast_form, new_form, group_form, GivesPart, GivesBox};
 ghost use Rattle.spi_parse.specs.Ends.{done, boxed_option};
@@ -11,6 +11,7 @@ ghost use Rattle.spi_parse.specs.declared.forms.Form.TheVariants as forms;
 ghost use Rattle.spi_parse.specs.Table.{the_mark, msg, binder, sproc, seq, out_tail, par_tail, out_of, over};
 ghost use Rattle.spi_parse.specs.Reading.{Gives, read, read_all, limited};
 
+use crate::boxes::{TreePart, boxed};
 use crate::cursor::{Cursor, PROCESS_LIMIT, Read, fits, next_token, span_from, syntax};
 use crate::fault::Stop;
 use crate::forms::{Event, Form, Open, Plain, Talk, form_of};
@@ -27,6 +28,12 @@ use std::alloc::Global;
 /// A process in a box, with the place behind it.
 type Part<'t> = Read<'t, Box<SProc>>;
 
+impl TreePart for SProc {
+    ghost Tree = { Proc };
+
+    ghost view = { proc_of };
+}
+
 /// A process of a level.
 pub fn process(alloc: Global, at: Cursor<'_>, later: bool, level: u32) -> Read<'_, SProc>
     requires { level ≤ 500 }
@@ -34,13 +41,6 @@ pub fn process(alloc: Global, at: Cursor<'_>, later: bool, level: u32) -> Read<'
 {
     let (tree, at) = parallel(alloc, at, later, level)?;
     Ok((Box::into_inner(tree), at))
-}
-
-/// The process as a box, with the place behind it.
-fn boxed(alloc: Global, tree: SProc, at: Cursor<'_>) -> Part<'_>
-    ensures { GivesBox proc_of result (done (proc_of tree) (state_of at.entry)) }
-{
-    Ok((Box::new(alloc, tree)?, at))
 }
 
 #[cycle(processes)]

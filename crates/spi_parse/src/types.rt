@@ -1,7 +1,7 @@
 //! Types.
 
 ghost use Rattle.std.specs.Prelude.{◌≡◌, ◌+◌, ◌≤◌, [], ◌∷◌, map, if◌then◌else◌, IfOk};
-ghost use Rattle.spi_tree.specs.Trees.{tuple_ty, fields_of_list, abbr, bare, named};
+ghost use Rattle.spi_tree.specs.Trees.{Ty, tuple_ty, fields_of_list, abbr, bare, named};
 ghost use Rattle.spi_tree.specs.Views.{ty_of, field_of, last_of};
 ghost use Rattle.spi_parse.specs.Places.{state_of, field_item, sum_form, key_form, nonce_form, tuple_ty_form, sum_word_form, GivesPart, GivesBox};
 ghost use Rattle.spi_parse.specs.Ends.{done, sum_end};
@@ -9,6 +9,7 @@ ghost use Rattle.spi_parse.specs.Table.{one, last, ty, fields, fields_item, fiel
 ghost use Rattle.spi_parse.specs.Reading.{Gives, read, reads_step, limited, behind_move};
 
 use crate::NoMemory;
+use crate::boxes::{TreePart, boxed};
 use crate::cursor::{
     Cursor, MESSAGE_LIMIT, Read, fits, next_token, placed_word, span_from, syntax,
 };
@@ -23,6 +24,12 @@ use std::alloc::Global;
 
 /// A type in a box, with the place behind it.
 type Part<'t> = Read<'t, Box<STy>>;
+
+impl TreePart for STy {
+    ghost Tree = { Ty };
+
+    ghost view = { ty_of };
+}
 
 /// What stands behind a comma of a tuple type, in a box, with the place behind it.
 type Item<'t> = Read<'t, Box<FieldOrLast>>;
@@ -54,15 +61,6 @@ fn make_tuple_type(
     }
 }
 
-/// The type as a box, with the place behind it.
-///
-/// What reads a part of a type holds it as a box while it reads the next part, so that deep types fit the stack.
-fn boxed(alloc: Global, tree: STy, at: Cursor<'_>) -> Part<'_>
-    ensures { GivesBox ty_of result (done (ty_of tree) (state_of at.entry)) }
-{
-    Ok((Box::new(alloc, tree)?, at))
-}
-
 fn boxed_last(alloc: Global, last: Last) -> Result<Box<Last>, NoMemory>
     ensures { IfOk result (λ b. b.value ≡ last) }
 {
@@ -89,7 +87,8 @@ fn boxed_type(alloc: Global, at: Cursor<'_>, later: bool, nesting: u32) -> Part<
 #[cycle(types)]
 fn type_step(alloc: Global, at: Cursor<'_>, later: bool, nesting: u32) -> Part<'_>
     requires { nesting ≤ 1001 }
-    ensures { GivesBox ty_of result (reads_step limited (read limited) (ty later nesting) (state_of at.entry)) }
+    ensures { GivesBox ty_of result
+        (reads_step limited (read limited) (ty later nesting) (state_of at.entry)) }
 {
     let (first, next) = next_token(at)?;
     match &first.kind {

@@ -18,7 +18,9 @@ use Rattle.spi_replay.specs.Holding.{place_process}
 use Rattle.spi_replay.specs.Standing.{IsPlace}
 use Rattle.spi_replay.specs.Pools.{pooled, IsState}
 use Rattle.spi_replay.specs.Indexed.{out_channel, in_channel, is_on, places_on, waits_of}
-use Rattle.spi_replay.specs.Listing.{puts_on, takes_on, is_channel}
+use Rattle.spi_replay.specs.declared.listing.Side.{Side}
+use Rattle.spi_replay.specs.declared.listing.Side.TheVariants as S
+use Rattle.spi_replay.specs.Listing.{puts_on, takes_on, is_channel, WaitsOn}
 use Rattle.spi_replay.specs.Ready.{PutsOut, puts_out, TakesIn, takes_once, takes_again, AreReadyPlaces}
 use Rattle.spi_intern.proofs.Sized.{at_message, message_there}
 use Rattle.spi_replay.proofs.Chosen.{chosen, InChosen, in_chosen, chosen_in}
@@ -203,8 +205,6 @@ no_place P qs f = record { each = λ i. ((λ h. absurd (none h)), (λ k. absurd 
     none : {i : ℕ} → In i [] → ⊥
     none h = elim h [ ]
 
-pub no_outs : (m : Message) (qs : List Process) → ((i : ℕ) (q : Process) → slice_get qs i ≡ Some q → PutsOut m q ⊎ TakesIn m q → ⊥) → AreReadyPlaces (PutsOut m) qs []
-no_outs m qs f = no_place (PutsOut m) qs (λ i q e p. f i q e (inl p))
-
-pub no_ins : (m : Message) (qs : List Process) → ((i : ℕ) (q : Process) → slice_get qs i ≡ Some q → PutsOut m q ⊎ TakesIn m q → ⊥) → AreReadyPlaces (TakesIn m) qs []
-no_ins m qs f = no_place (TakesIn m) qs (λ i q e p. f i q e (inr p))
+pub none_waiting : (side : Side) (m : Message) (qs : List Process) → ((i : ℕ) (q : Process) → slice_get qs i ≡ Some q → PutsOut m q ⊎ TakesIn m q → ⊥) → AreReadyPlaces (WaitsOn side m) qs []
+none_waiting S.Out m qs f = no_place (PutsOut m) qs (λ i q e p. f i q e (inl p))
+none_waiting S.In m qs f = no_place (TakesIn m) qs (λ i q e p. f i q e (inr p))

@@ -8,7 +8,8 @@ use Rattle.spi_term.specs.Names.{MessageOver, OfEffect, OfTy, OfLeaf, OfPrefix, 
 use Rattle.spi_term.specs.Spelling.{index_message, indexed, numbered, flat}
 use Rattle.spi_term.specs.Arena.{InScope}
 use Rattle.spi_term.proofs.Terms.{binds_map, fork_binds_map}
-use Rattle.spi_term.proofs.Numbers.{index_low, index_high, numbered_in_scope, over_indexed, number_index}
+use Rattle.spi_term.proofs.Mapped.{mapped_to_itself}
+use Rattle.spi_term.proofs.Numbers.{index_low, index_high, index_kept, numbered_in_scope, over_indexed, number_index}
 use Rattle.spi_term.proofs.Unique.{spelled_one}
 use Rattle.spi_replay.specs.Holding.{value, held_message, held, IsClosed, AllClosed}
 
@@ -89,18 +90,8 @@ closed_value k (m ∷ ms) h x =
     ⊎_elim (λ e. subst IsClosed (sym (ap (value k (m ∷ ms)) e ∙ value_here k m ms)) h.0) (λ n. subst IsClosed (sym (value_other k m ms x n)) (closed_value k ms h.1 x)) (cases_eq x (k + length ms))
 
 -- a message at a node, whose names are all in scope
-index_here : (s d : ℕ) (m : Message) → MessageOver s 0 m → index_message s s d m ≡ m
-index_here s d (bound i) h = refl
-index_here s d (name x) h = index_low s s d x h
-index_here s d unit h = refl
-index_here s d (pair m n) h = rw (index_here s d m h.0, index_here s d n h.1)
-index_here s d (in_left m) h = rw (index_here s d m h)
-index_here s d (in_right m) h = rw (index_here s d m h)
-index_here s d (enc m n) h = rw (index_here s d m h.0, index_here s d n h.1)
-index_here s d (hash m) h = rw (index_here s d m h)
-
 pub held_here : (f : ℕ → Message) (s : ℕ) (m : Message) → MessageOver s 0 m → held_message f s s 0 m ≡ replace f m
-held_here f s m h = ap (replace f) (index_here s 0 m h)
+held_here f s m h = ap (replace f) (index_kept s s 0 0 m h)
 
 -- the message a for the name s
 module _ (f g : ℕ → Message) (s : ℕ) (a : Message) (closed : (x : ℕ) → IsClosed (f x)) (low : (x : ℕ) → x < s → g x ≡ f x) (here : g s ≡ a) where
@@ -172,18 +163,8 @@ module _ (k : ℕ) (ms : List Message) (closed : AllClosed ms) where
       ap (process_map (put b) 0) first ∙ put_one k (a ∷ ms) (ca, closed) b q (subst (λ n. InScope n q) e' h)
 
 -- a process with no name bound yet
-replace_name : (m : Message) → replace name m ≡ m
-replace_name (bound i) = refl
-replace_name (name x) = refl
-replace_name unit = refl
-replace_name (pair m n) = rw (replace_name m, replace_name n)
-replace_name (in_left m) = rw (replace_name m)
-replace_name (in_right m) = rw (replace_name m)
-replace_name (enc m n) = rw (replace_name m, replace_name n)
-replace_name (hash m) = rw (replace_name m)
-
 held_index : (k s : ℕ) → held_message name k s ≡ index_message k s
-held_index k s = λ i d m. replace_name (index_message k s d m) i
+held_index k s = λ i d m. mapped_to_itself (index_message k s d m) i
 
 held_indexed : (k s : ℕ) (q : Process) → held name k s q ≡ indexed k s q
 held_indexed k s (leaf l) = ap (λ g. leaf (leaf_map g 0 l)) (held_index k s)

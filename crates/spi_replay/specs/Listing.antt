@@ -2,6 +2,9 @@
 use Rattle.std.specs.Prelude.{ℕ, suc, Bool, true, false, if◌then◌else◌, List, [], ◌∷◌, ◌++◌, take, Option, Some, None, slice_get}
 use Rattle.spi_term.specs.Term.{Message, pair, in_left, in_right, enc, same_message, Process, send, recv, serve, split, select, branch, decrypt, check, begin, end, end_many, cast, fresh, par}
 use Rattle.spi_run.specs.Reduction.{Configuration, Step, act, talk}
+use Rattle.spi_replay.specs.declared.listing.Side.{Side}
+use Rattle.spi_replay.specs.declared.listing.Side.TheVariants.{Out, In}
+use Rattle.spi_replay.specs.Ready.{PutsOut, TakesIn}
 
 -- the process acts alone
 abbrev pub acts_now : Process → Bool
@@ -64,3 +67,8 @@ steps_begun c i = steps_by c.places i (slice_get c.places i)
 
 unfoldable pub steps_before : Configuration → ℕ → List Step
 steps_before c i = steps_from c.places 0 (take i c.places)
+
+-- the process waits on the channel on one side
+abbrev pub WaitsOn : Side → Message → Process → Type 0
+WaitsOn Out = PutsOut
+WaitsOn In = TakesIn

@@ -1,6 +1,6 @@
 -- What a step of a pool is refused for.
 use Rattle.std.specs.Prelude.{◌≡◌, ℕ, ◌<◌, ◌≤◌, max, List, [], ◌∷◌, length, Option, Some, None, slice_get}
-use Rattle.spi_term.specs.Term.{Message, name, pair, in_left, in_right, enc, Process, leaf, recv, serve, split, select, decrypt, check, begin, end, end_many, cast, fresh, branch, par, message_size}
+use Rattle.spi_term.specs.Term.{Message, bound, name, unit, pair, in_left, in_right, enc, hash, Process, leaf, recv, serve, split, select, decrypt, check, begin, end, end_many, cast, fresh, branch, par, message_size}
 use Rattle.spi_term.specs.Spelling.{stopped}
 use Rattle.spi_run.specs.Reduction.{Configuration, Step, act, talk, Event, Takes}
 use Rattle.spi_run.specs.Knowledge.{datum}
@@ -25,24 +25,30 @@ pub data FirstOutside (n : ℕ) : List ℕ → ℕ → Type 0 where
   outside_here : {i : ℕ} {is : List ℕ} → n ≤ i → FirstOutside n (i ∷ is) i
   outside_later : {i k : ℕ} {is : List ℕ} → i < n → FirstOutside n is k → FirstOutside n (i ∷ is) k
 
--- what taking a message apart binds, by the form that does: both parts of a pair, the second, the one of a sum, or the body of a
--- ciphertext
+-- what is bound where a message is taken apart, by what is bound of a pair, of the one side of a sum and of a ciphertext
+abbrev pub bound_apart : (Message → Message → List Message) → (Message → List Message)
+    → (Message → Message → List Message) → Message → List Message
+bound_apart of_pair of_side of_enc (bound i) = []
+bound_apart of_pair of_side of_enc (name x) = []
+bound_apart of_pair of_side of_enc unit = []
+bound_apart of_pair of_side of_enc (pair a b) = of_pair a b
+bound_apart of_pair of_side of_enc (in_left a) = of_side a
+bound_apart of_pair of_side of_enc (in_right a) = of_side a
+bound_apart of_pair of_side of_enc (enc a k) = of_enc a k
+bound_apart of_pair of_side of_enc (hash a) = []
+
+-- a split binds both parts of a pair, a match the second, a case the one of a sum, and a decryption a ciphertext's body
 abbrev pub split_parts : Message → List Message
-split_parts (pair a b) = a ∷ b ∷ []
-split_parts m = []
+split_parts m = bound_apart (λ a b. a ∷ b ∷ []) (λ a. []) (λ a k. []) m
 
 abbrev pub matched_part : Message → List Message
-matched_part (pair a b) = b ∷ []
-matched_part m = []
+matched_part m = bound_apart (λ a b. b ∷ []) (λ a. []) (λ a k. []) m
 
 abbrev pub side_part : Message → List Message
-side_part (in_left a) = a ∷ []
-side_part (in_right a) = a ∷ []
-side_part m = []
+side_part m = bound_apart (λ a b. []) (λ a. a ∷ []) (λ a k. []) m
 
 abbrev pub decrypted_part : Message → List Message
-decrypted_part (enc a k) = a ∷ []
-decrypted_part m = []
+decrypted_part m = bound_apart (λ a b. []) (λ a. []) (λ a k. a ∷ []) m
 
 -- The messages that a ready step binds to a name or puts in its event, where n names are used. Of a `match` that is the
 -- second part alone: the first is bound to no name of the process.

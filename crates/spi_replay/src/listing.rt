@@ -8,7 +8,7 @@ ghost use Rattle.spi_run.specs.Reduction.{Step as StepTerm};
 ghost use Rattle.spi_run.specs.View.{step as step_of};
 ghost use Rattle.spi_replay.specs.Ready.{AreReady, count_at, AreReadyPlaces, PutsOut, TakesIn};
 ghost use Rattle.spi_replay.specs.Indexed.{out_channel, in_channel};
-ghost use Rattle.spi_replay.specs.Listing.{steps_begun};
+ghost use Rattle.spi_replay.specs.Listing.{steps_begun, WaitsOn};
 ghost use Rattle.spi_replay.specs.Pools.{pooled, IsState};
 
 use crate::running::State;
@@ -163,30 +163,28 @@ fn waited_on(state: &State<'_>, channel: &Msg) -> Option<MsgId>
     None
 }
 
-/// The ascending places that put out on a channel.
-pub fn outs_on<'s>(state: &'s State<'_>, channel: &Msg) -> &'s [u32]
-    requires { IsState state.now }
-    ensures { AreReadyPlaces (PutsOut (message channel.now)) (pooled state.now).configuration.places
-        result.now }
-{
-    // The count is asked for what its answer says: no message has two numbers.
-    let _ = state.store.distinct();
-    match waited_on(state, channel) {
-        Some(id) => state.index.outs(id),
-        None => &[],
-    }
+/// The two ways to wait on a channel.
+#[derive(Clone, Copy)]
+pub enum Side {
+    /// To put out on it.
+    Out,
+    /// To take in on it, once or again and again.
+    In,
 }
 
-/// The ascending places that take in on a channel.
-pub fn ins_on<'s>(state: &'s State<'_>, channel: &Msg) -> &'s [u32]
+/// The ascending places that wait on a channel on this side.
+pub fn waiting_on<'s>(state: &'s State<'_>, channel: &Msg, side: Side) -> &'s [u32]
     requires { IsState state.now }
-    ensures { AreReadyPlaces (TakesIn (message channel.now)) (pooled state.now).configuration.places
+    ensures { AreReadyPlaces (WaitsOn side (message channel.now)) (pooled state.now).configuration.places
         result.now }
 {
     // The count is asked for what its answer says: no message has two numbers.
     let _ = state.store.distinct();
     match waited_on(state, channel) {
-        Some(id) => state.index.ins(id),
+        Some(id) => match side {
+            Side::Out => state.index.outs(id),
+            Side::In => state.index.ins(id),
+        },
         None => &[],
     }
 }

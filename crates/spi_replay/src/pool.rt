@@ -12,7 +12,7 @@ ghost use Rattle.spi_replay.specs.Stepping.{RefusesPoolStep, IsTaken, event_in};
 use crate::NoMemory;
 use crate::fault::StepFault;
 use crate::handing::handed;
-use crate::listing::{ins_on, kth, outs_on, ready, ready_at};
+use crate::listing::{Side, kth, ready, ready_at, waiting_on};
 use crate::running::{State, push_first, step_act, step_talk};
 use spi_run::{Event, Step};
 use spi_term::{Msg, Process};
@@ -142,13 +142,13 @@ impl<'p> Pool<'p> {
     pub fn outs_on(&self, channel: &Msg) -> &[u32]
         ensures { AreReadyPlaces (PutsOut (message channel.now)) self.now.configuration.places result.now }
     {
-        outs_on(&self.state, channel)
+        waiting_on(&self.state, channel, Side::Out)
     }
 
     /// The ascending places that hold an input or a replicated input on this channel.
     pub fn ins_on(&self, channel: &Msg) -> &[u32]
         ensures { AreReadyPlaces (TakesIn (message channel.now)) self.now.configuration.places result.now }
     {
-        ins_on(&self.state, channel)
+        waiting_on(&self.state, channel, Side::In)
     }
 }

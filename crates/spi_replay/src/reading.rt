@@ -22,14 +22,11 @@ pub fn nodes_of(store: &Store, id: MsgId) -> u64
     ensures { result ≡ stopped (message_size (message_at store.now.messages id)) }
 {
     match store.part(id) {
-        MsgPart::Bound(_) => 1,
-        MsgPart::Name(_) => 1,
-        MsgPart::Unit => 1,
-        MsgPart::Pair(a, b) => one_more(nodes_of(store, a).saturating_add(nodes_of(store, b))),
-        MsgPart::Inl(a) => one_more(nodes_of(store, a)),
-        MsgPart::Inr(a) => one_more(nodes_of(store, a)),
-        MsgPart::Enc(a, b) => one_more(nodes_of(store, a).saturating_add(nodes_of(store, b))),
-        MsgPart::Hash(a) => one_more(nodes_of(store, a)),
+        MsgPart::Bound(_) | MsgPart::Name(_) | MsgPart::Unit => 1,
+        MsgPart::Pair(a, b) | MsgPart::Enc(a, b) => one_more(nodes_of(store, a).saturating_add(
+            nodes_of(store, b),
+        )),
+        MsgPart::Inl(a) | MsgPart::Inr(a) | MsgPart::Hash(a) => one_more(nodes_of(store, a)),
     }
 }
 

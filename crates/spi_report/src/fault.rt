@@ -4,7 +4,6 @@ ghost use Rattle.std.specs.Fmt.{decimal};
 ghost use Rattle.spi_scope.specs.Chains.{chain_at};
 ghost use Rattle.spi_scope.specs.Places.{place_in};
 ghost use Rattle.spi_fault.specs.Faults.{thing, told};
-ghost use Rattle.spi_report.specs.Refused.{place_text};
 ghost use Rattle.spi_report.specs.Fault.{reason_number, reason_text, thing_text, fault_text};
 
 use crate::NoMemory;

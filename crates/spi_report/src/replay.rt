@@ -1,5 +1,6 @@
 // The lines of a replay.
 ghost use Rattle.std.specs.Prelude.{◌≡◌, ◌+◌, ◌^◌, ◌<◌, ◌++◌, length, map, IfOk, IfSome, OnOk};
+ghost use Rattle.std.specs.Fmt.{decimal};
 ghost use Rattle.spi_run.specs.View.{event};
 ghost use Rattle.spi_report.specs.Events.{from_text, event_text, event_line, is_unpaid as is_unpaid_by, first_unpaid as first_unpaid_of, last_text, events_text};
 
@@ -11,6 +12,15 @@ use spi_text::Text;
 use spi_trace::Pairing;
 use std::alloc::Global;
 
+// Appends the number of an event, counted from 1, by its number from 0 on.
+fn put_number(alloc: Global, out: &mut Vec<u8>, k: u64) -> Result<(), NoMemory>
+    requires { k + 1 < 2 ^ 64 }
+    ensures { OnOk result (out.new.items ≡ out.old.items ++ decimal (k + 1)) }
+{
+    let number = k + 1;
+    out.extend_from_slice(format!(in alloc; "{number}")?.as_bytes())
+}
+
 // Appends the begin that pays for an end.
 fn put_from(alloc: Global, out: &mut Vec<u8>, begin: Option<u32>) -> Result<(), NoMemory>
     ensures { OnOk result (out.new.items ≡ out.old.items ++ from_text begin) }
@@ -18,8 +28,8 @@ fn put_from(alloc: Global, out: &mut Vec<u8>, begin: Option<u32>) -> Result<(), 
     match begin {
         None => out.extend_from_slice(b" unpaid"),
         Some(i) => {
-            let number = i as u64 + 1;
-            out.extend_from_slice(format!(in alloc; " from {number}")?.as_bytes())
+            out.extend_from_slice(b" from ")?;
+            put_number(alloc, out, i as u64)
         }
     }
 }
@@ -59,8 +69,7 @@ fn put_line(
     requires { k + 1 < 2 ^ 64 }
     ensures { OnOk result (out.new.items ≡ out.old.items ++ event_line names.now k (event e.now) begin) }
 {
-    let number = k as u64 + 1;
-    out.extend_from_slice(format!(in alloc; "{number}")?.as_bytes())?;
+    put_number(alloc, out, k as u64)?;
     put_event(alloc, out, names, e, begin)?;
     out.extend_from_slice(b"\n")
 }
@@ -99,8 +108,9 @@ fn put_last(alloc: Global, out: &mut Vec<u8>, unpaid: Option<usize>) -> Result<(
     match unpaid {
         None => out.extend_from_slice(b"paid\n"),
         Some(k) => {
-            let number = k as u64 + 1;
-            out.extend_from_slice(format!(in alloc; "unpaid at {number}\n")?.as_bytes())
+            out.extend_from_slice(b"unpaid at ")?;
+            put_number(alloc, out, k as u64)?;
+            out.extend_from_slice(b"\n")
         }
     }
 }

@@ -2,8 +2,8 @@
 use Rattle.std.proofs.Common.{◌≡◌, ℕ, ◌+◌, List, [], ◌∷◌, ◌++◌, Some, subst, sym, ap, ◌∙◌, refl, arith}
 use Rattle.spi_term.proofs.Lists.{at_unique}
 use Rattle.spi_term.specs.Term.{Message, Effect, Ty, nonce, Process}
-use Rattle.spi_term.specs.Counts.{count, cut, SameEffect}
-use Rattle.spi_effect.specs.Effect.{IsSum, IsDifference, IsGreater}
+use Rattle.spi_term.specs.Counts.{SameEffect}
+use Rattle.spi_effect.proofs.Laws.{same_refl, sum_one, difference_one, greater_one}
 use Rattle.spi_rules.specs.declared.rule.Rule.{Rule}
 use Rattle.spi_rules.specs.declared.rule.Rule.TheVariants.{MsgName, MsgUnit, MsgUnitUn, MsgPair, MsgPairUn, MsgInl, MsgInlUn, MsgInr, MsgInrUn, MsgEnc, MsgEncUn, MsgHash, ProcStop, ProcOut, ProcIn, ProcRepeat, ProcSplit, ProcSplitUn, ProcMatch, ProcMatchUn, ProcCase, ProcCaseUn, ProcDecrypt, ProcDecryptUn, ProcCheck, ProcCheckUn, ProcBegin, ProcEnd, ProcEndMany, ProcCast, ProcCastUn, ProcNew, ProcPar, ProcSub}
 use Rattle.spi_rules.specs.Environment.{Env}
@@ -77,105 +77,41 @@ abbrev first_rule : List RuleUse → Rule
 first_rule [] = MsgUnit
 first_rule (u ∷ us) = u.rule
 
-nonce_one : {env : Env} {m : Message} {fs gs : Effect} → IsNonce [] env m fs → IsNonce [] env m gs → fs ≡ gs
+pub nonce_one : {env : Env} {m : Message} {fs gs : Effect} → IsNonce [] env m fs → IsNonce [] env m gs → fs ≡ gs
 nonce_one (nonce_name {fs = fs} a) (nonce_name {fs = gs} b) = let e : nonce fs ≡ nonce gs = at_unique a b in cc
 nonce_one (nonce_name a) (nonce_cast i) = elim i [ ]
 nonce_one (nonce_cast i) b = elim i [ ]
-
--- each operation gives equal counts from equal counts
-sum_one : {rs rs' es es' fs fs' : Effect} → IsSum rs es fs → IsSum rs' es' fs' → SameEffect es es' → SameEffect fs fs' → SameEffect rs rs'
-sum_one {es = es} {es' = es'} {fs = fs} {fs' = fs'} s s' e f = record { at = λ a. s.at a ∙ (ap (λ (n : ℕ). cut a (n + count a fs)) (e.at a) ∙ (ap (λ (n : ℕ). cut a (count a es' + n)) (f.at a) ∙ sym (s'.at a))) }
-
-difference_one : {rs rs' es es' fs fs' : Effect} → IsDifference rs es fs → IsDifference rs' es' fs' → SameEffect es es' → SameEffect fs fs' → SameEffect rs rs'
-difference_one s s' e f = record { at = λ a. omega (arith, s.at a, s'.at a, e.at a, f.at a) }
-
-greater_one : {rs rs' es es' fs fs' : Effect} → IsGreater rs es fs → IsGreater rs' es' fs' → SameEffect es es' → SameEffect fs fs' → SameEffect rs rs'
-greater_one s s' e f = record { at = λ a. omega (arith, s.at a, s'.at a, e.at a, f.at a) }
-
-same_self : (es : Effect) → SameEffect es es
-same_self es = record { at = λ a. refl }
 
 behind_type : {env : Env} {m : Message} {t u : Ty} (h : HasType [] env m t) (k : HasType [] env m u) {cs ds : List RuleUse} → type_uses h ++ cs ≡ type_uses k ++ ds → cs ≡ ds
 behind_type h k {cs} {ds} e = (split_front (type_uses h) (type_uses k) cs ds (type_tree h) (type_tree k) e).1
 
 pub same_effect : {env : Env} {p : Process} {es fs : Effect} (d : HasEffect [] env p es) (e : HasEffect [] env p fs) → effect_uses d ≡ effect_uses e → SameEffect es fs
-same_effect proc_stop proc_stop q = same_self []
-same_effect proc_stop (proc_sub b0 b1 b2) q = let e : ProcStop ≡ ProcSub = ap first_rule q in absurd (cc)
-same_effect (proc_sub b0 b1 b2) proc_stop q = let e : ProcSub ≡ ProcStop = ap first_rule q in absurd (cc)
-same_effect (proc_out a0 a1) (proc_out b0 b1) q = same_self []
-same_effect (proc_out a0 a1) (proc_sub b0 b1 b2) q = let e : ProcOut ≡ ProcSub = ap first_rule q in absurd (cc)
-same_effect (proc_sub b0 b1 b2) (proc_out a0 a1) q = let e : ProcSub ≡ ProcOut = ap first_rule q in absurd (cc)
+same_effect proc_stop proc_stop q = same_refl []
+same_effect (proc_out a0 a1) (proc_out b0 b1) q = same_refl []
 same_effect (proc_in a0 a1 a2) (proc_in b0 b1 b2) q = same_effect a1 b1 (behind_type a0 b0 (tail_of q))
-same_effect (proc_in a0 a1 a2) (proc_sub b0 b1 b2) q = let e : ProcIn ≡ ProcSub = ap first_rule q in absurd (cc)
-same_effect (proc_sub b0 b1 b2) (proc_in a0 a1 a2) q = let e : ProcSub ≡ ProcIn = ap first_rule q in absurd (cc)
 same_effect (proc_repeat a0 a1 a2 a3) (proc_repeat b0 b1 b2 b3) q = same_effect a1 b1 (behind_type a0 b0 (tail_of q))
-same_effect (proc_repeat a0 a1 a2 a3) (proc_sub b0 b1 b2) q = let e : ProcRepeat ≡ ProcSub = ap first_rule q in absurd (cc)
-same_effect (proc_sub b0 b1 b2) (proc_repeat a0 a1 a2 a3) q = let e : ProcSub ≡ ProcRepeat = ap first_rule q in absurd (cc)
 same_effect (proc_split a0 a1 a2 a3 a4) (proc_split b0 b1 b2 b3 b4) q = same_effect a1 b1 (behind_type a0 b0 (tail_of q))
-same_effect (proc_split a0 a1 a2 a3 a4) (proc_split_un b0 b1 b2 b3) q = let e : ProcSplit ≡ ProcSplitUn = ap first_rule q in absurd (cc)
-same_effect (proc_split a0 a1 a2 a3 a4) (proc_sub b0 b1 b2) q = let e : ProcSplit ≡ ProcSub = ap first_rule q in absurd (cc)
-same_effect (proc_sub b0 b1 b2) (proc_split a0 a1 a2 a3 a4) q = let e : ProcSub ≡ ProcSplit = ap first_rule q in absurd (cc)
 same_effect (proc_split_un a0 a1 a2 a3) (proc_split_un b0 b1 b2 b3) q = same_effect a1 b1 (behind_type a0 b0 (tail_of q))
-same_effect (proc_split_un a0 a1 a2 a3) (proc_split b0 b1 b2 b3 b4) q = let e : ProcSplitUn ≡ ProcSplit = ap first_rule q in absurd (cc)
-same_effect (proc_split_un a0 a1 a2 a3) (proc_sub b0 b1 b2) q = let e : ProcSplitUn ≡ ProcSub = ap first_rule q in absurd (cc)
-same_effect (proc_sub b0 b1 b2) (proc_split_un a0 a1 a2 a3) q = let e : ProcSub ≡ ProcSplitUn = ap first_rule q in absurd (cc)
 same_effect (proc_match a0 a1 a2 a3 a4) (proc_match b0 b1 b2 b3 b4) q = same_effect a2 b2 (behind_type a1 b1 (behind_type a0 b0 (tail_of q)))
-same_effect (proc_match a0 a1 a2 a3 a4) (proc_match_un b0 b1 b2 b3) q = let e : ProcMatch ≡ ProcMatchUn = ap first_rule q in absurd (cc)
-same_effect (proc_match a0 a1 a2 a3 a4) (proc_sub b0 b1 b2) q = let e : ProcMatch ≡ ProcSub = ap first_rule q in absurd (cc)
-same_effect (proc_sub b0 b1 b2) (proc_match a0 a1 a2 a3 a4) q = let e : ProcSub ≡ ProcMatch = ap first_rule q in absurd (cc)
 same_effect (proc_match_un a0 a1 a2 a3) (proc_match_un b0 b1 b2 b3) q = same_effect a2 b2 (behind_type a1 b1 (behind_type a0 b0 (tail_of q)))
-same_effect (proc_match_un a0 a1 a2 a3) (proc_match b0 b1 b2 b3 b4) q = let e : ProcMatchUn ≡ ProcMatch = ap first_rule q in absurd (cc)
-same_effect (proc_match_un a0 a1 a2 a3) (proc_sub b0 b1 b2) q = let e : ProcMatchUn ≡ ProcSub = ap first_rule q in absurd (cc)
-same_effect (proc_sub b0 b1 b2) (proc_match_un a0 a1 a2 a3) q = let e : ProcSub ≡ ProcMatchUn = ap first_rule q in absurd (cc)
 same_effect (proc_case a0 a1 a2 a3 a4 a5 a6 a7) (proc_case b0 b1 b2 b3 b4 b5 b6 b7) q =
     let s = split_front (effect_uses a1) (effect_uses b1) (effect_uses a2) (effect_uses b2) (effect_tree a1) (effect_tree b1) (behind_type a0 b0 (tail_of q)) in
     greater_one a7 b7 (same_effect a1 b1 s.0) (same_effect a2 b2 s.1)
-same_effect (proc_case a0 a1 a2 a3 a4 a5 a6 a7) (proc_case_un b0 b1 b2 b3 b4 b5) q = let e : ProcCase ≡ ProcCaseUn = ap first_rule q in absurd (cc)
-same_effect (proc_case a0 a1 a2 a3 a4 a5 a6 a7) (proc_sub b0 b1 b2) q = let e : ProcCase ≡ ProcSub = ap first_rule q in absurd (cc)
-same_effect (proc_sub b0 b1 b2) (proc_case a0 a1 a2 a3 a4 a5 a6 a7) q = let e : ProcSub ≡ ProcCase = ap first_rule q in absurd (cc)
 same_effect (proc_case_un a0 a1 a2 a3 a4 a5) (proc_case_un b0 b1 b2 b3 b4 b5) q =
     let s = split_front (effect_uses a1) (effect_uses b1) (effect_uses a2) (effect_uses b2) (effect_tree a1) (effect_tree b1) (behind_type a0 b0 (tail_of q)) in
     greater_one a5 b5 (same_effect a1 b1 s.0) (same_effect a2 b2 s.1)
-same_effect (proc_case_un a0 a1 a2 a3 a4 a5) (proc_case b0 b1 b2 b3 b4 b5 b6 b7) q = let e : ProcCaseUn ≡ ProcCase = ap first_rule q in absurd (cc)
-same_effect (proc_case_un a0 a1 a2 a3 a4 a5) (proc_sub b0 b1 b2) q = let e : ProcCaseUn ≡ ProcSub = ap first_rule q in absurd (cc)
-same_effect (proc_sub b0 b1 b2) (proc_case_un a0 a1 a2 a3 a4 a5) q = let e : ProcSub ≡ ProcCaseUn = ap first_rule q in absurd (cc)
 same_effect (proc_decrypt a0 a1 a2 a3 a4) (proc_decrypt b0 b1 b2 b3 b4) q = same_effect a2 b2 (behind_type a1 b1 (behind_type a0 b0 (tail_of q)))
-same_effect (proc_decrypt a0 a1 a2 a3 a4) (proc_decrypt_un b0 b1 b2 b3) q = let e : ProcDecrypt ≡ ProcDecryptUn = ap first_rule q in absurd (cc)
-same_effect (proc_decrypt a0 a1 a2 a3 a4) (proc_sub b0 b1 b2) q = let e : ProcDecrypt ≡ ProcSub = ap first_rule q in absurd (cc)
-same_effect (proc_sub b0 b1 b2) (proc_decrypt a0 a1 a2 a3 a4) q = let e : ProcSub ≡ ProcDecrypt = ap first_rule q in absurd (cc)
 same_effect (proc_decrypt_un a0 a1 a2 a3) (proc_decrypt_un b0 b1 b2 b3) q = same_effect a2 b2 (behind_type a1 b1 (behind_type a0 b0 (tail_of q)))
-same_effect (proc_decrypt_un a0 a1 a2 a3) (proc_decrypt b0 b1 b2 b3 b4) q = let e : ProcDecryptUn ≡ ProcDecrypt = ap first_rule q in absurd (cc)
-same_effect (proc_decrypt_un a0 a1 a2 a3) (proc_sub b0 b1 b2) q = let e : ProcDecryptUn ≡ ProcSub = ap first_rule q in absurd (cc)
-same_effect (proc_sub b0 b1 b2) (proc_decrypt_un a0 a1 a2 a3) q = let e : ProcSub ≡ ProcDecryptUn = ap first_rule q in absurd (cc)
-same_effect (proc_check {fs = gs} a0 a1 a2 a3 a4) (proc_check b0 b1 b2 b3 b4) q = sum_one a4 b4 (difference_one a3 b3 (same_effect a1 b1 (behind_type a0 b0 (tail_of q))) (subst (λ hs. SameEffect gs hs) (nonce_one a2 b2) (same_self gs))) (same_self _)
-same_effect (proc_check a0 a1 a2 a3 a4) (proc_check_un b0 b1 b2) q = let e : ProcCheck ≡ ProcCheckUn = ap first_rule q in absurd (cc)
-same_effect (proc_check a0 a1 a2 a3 a4) (proc_sub b0 b1 b2) q = let e : ProcCheck ≡ ProcSub = ap first_rule q in absurd (cc)
-same_effect (proc_sub b0 b1 b2) (proc_check a0 a1 a2 a3 a4) q = let e : ProcSub ≡ ProcCheck = ap first_rule q in absurd (cc)
+same_effect (proc_check {fs = gs} a0 a1 a2 a3 a4) (proc_check b0 b1 b2 b3 b4) q = sum_one a4 b4 (difference_one a3 b3 (same_effect a1 b1 (behind_type a0 b0 (tail_of q))) (subst (λ hs. SameEffect gs hs) (nonce_one a2 b2) (same_refl gs))) (same_refl _)
 same_effect (proc_check_un a0 a1 a2) (proc_check_un b0 b1 b2) q = same_effect a2 b2 (behind_type a1 b1 (behind_type a0 b0 (tail_of q)))
-same_effect (proc_check_un a0 a1 a2) (proc_check b0 b1 b2 b3 b4) q = let e : ProcCheckUn ≡ ProcCheck = ap first_rule q in absurd (cc)
-same_effect (proc_check_un a0 a1 a2) (proc_sub b0 b1 b2) q = let e : ProcCheckUn ≡ ProcSub = ap first_rule q in absurd (cc)
-same_effect (proc_sub b0 b1 b2) (proc_check_un a0 a1 a2) q = let e : ProcSub ≡ ProcCheckUn = ap first_rule q in absurd (cc)
-same_effect (proc_begin a0 a1 a2) (proc_begin b0 b1 b2) q = difference_one a2 b2 (same_effect a0 b0 (tail_of q)) (same_self _)
-same_effect (proc_begin a0 a1 a2) (proc_sub b0 b1 b2) q = let e : ProcBegin ≡ ProcSub = ap first_rule q in absurd (cc)
-same_effect (proc_sub b0 b1 b2) (proc_begin a0 a1 a2) q = let e : ProcSub ≡ ProcBegin = ap first_rule q in absurd (cc)
-same_effect (proc_end a0 a1 a2) (proc_end b0 b1 b2) q = sum_one a2 b2 (same_effect a0 b0 (tail_of q)) (same_self _)
-same_effect (proc_end a0 a1 a2) (proc_sub b0 b1 b2) q = let e : ProcEnd ≡ ProcSub = ap first_rule q in absurd (cc)
-same_effect (proc_sub b0 b1 b2) (proc_end a0 a1 a2) q = let e : ProcSub ≡ ProcEnd = ap first_rule q in absurd (cc)
-same_effect (proc_end_many a0 a1 a2) (proc_end_many b0 b1 b2) q = sum_one a2 b2 (same_effect a0 b0 (tail_of q)) (same_self _)
-same_effect (proc_end_many a0 a1 a2) (proc_sub b0 b1 b2) q = let e : ProcEndMany ≡ ProcSub = ap first_rule q in absurd (cc)
-same_effect (proc_sub b0 b1 b2) (proc_end_many a0 a1 a2) q = let e : ProcSub ≡ ProcEndMany = ap first_rule q in absurd (cc)
-same_effect (proc_cast a0 a1 a2 a3 a4) (proc_cast b0 b1 b2 b3 b4) q = sum_one a4 b4 (same_effect a1 b1 (behind_type a0 b0 (tail_of q))) (same_self _)
-same_effect (proc_cast a0 a1 a2 a3 a4) (proc_sub b0 b1 b2) q = let e : ProcCast ≡ ProcSub = ap first_rule q in absurd (cc)
-same_effect (proc_sub b0 b1 b2) (proc_cast a0 a1 a2 a3 a4) q = let e : ProcSub ≡ ProcCast = ap first_rule q in absurd (cc)
+same_effect (proc_begin a0 a1 a2) (proc_begin b0 b1 b2) q = difference_one a2 b2 (same_effect a0 b0 (tail_of q)) (same_refl _)
+same_effect (proc_end a0 a1 a2) (proc_end b0 b1 b2) q = sum_one a2 b2 (same_effect a0 b0 (tail_of q)) (same_refl _)
+same_effect (proc_end_many a0 a1 a2) (proc_end_many b0 b1 b2) q = sum_one a2 b2 (same_effect a0 b0 (tail_of q)) (same_refl _)
+same_effect (proc_cast a0 a1 a2 a3 a4) (proc_cast b0 b1 b2 b3 b4) q = sum_one a4 b4 (same_effect a1 b1 (behind_type a0 b0 (tail_of q))) (same_refl _)
 same_effect (proc_cast_un a0 a1 a2) (proc_cast_un b0 b1 b2) q = same_effect a1 b1 (behind_type a0 b0 (tail_of q))
-same_effect (proc_cast_un a0 a1 a2) (proc_sub b0 b1 b2) q = let e : ProcCastUn ≡ ProcSub = ap first_rule q in absurd (cc)
-same_effect (proc_sub b0 b1 b2) (proc_cast_un a0 a1 a2) q = let e : ProcSub ≡ ProcCastUn = ap first_rule q in absurd (cc)
-same_effect (proc_new a0 a1 a2 a3 a4) (proc_new b0 b1 b2 b3 b4) q = difference_one a3 b3 (same_effect a0 b0 (tail_of q)) (same_self _)
-same_effect (proc_new a0 a1 a2 a3 a4) (proc_sub b0 b1 b2) q = let e : ProcNew ≡ ProcSub = ap first_rule q in absurd (cc)
-same_effect (proc_sub b0 b1 b2) (proc_new a0 a1 a2 a3 a4) q = let e : ProcSub ≡ ProcNew = ap first_rule q in absurd (cc)
+same_effect (proc_new a0 a1 a2 a3 a4) (proc_new b0 b1 b2 b3 b4) q = difference_one a3 b3 (same_effect a0 b0 (tail_of q)) (same_refl _)
 same_effect (proc_par a0 a1 a2) (proc_par b0 b1 b2) q =
     let s = split_front (effect_uses a0) (effect_uses b0) (effect_uses a1) (effect_uses b1) (effect_tree a0) (effect_tree b0) (tail_of q) in
     sum_one a2 b2 (same_effect a0 b0 s.0) (same_effect a1 b1 s.1)
-same_effect (proc_par a0 a1 a2) (proc_sub b0 b1 b2) q = let e : ProcPar ≡ ProcSub = ap first_rule q in absurd (cc)
-same_effect (proc_sub b0 b1 b2) (proc_par a0 a1 a2) q = let e : ProcSub ≡ ProcPar = ap first_rule q in absurd (cc)
-same_effect (proc_sub {fs = fs} a0 a1 a2) (proc_sub {fs = gs} b0 b1 b2) q = let e = head_of q in let t : Some fs ≡ Some gs = ap (λ u. u.taken) e in let s : fs ≡ gs = cc in subst (λ gs. SameEffect fs gs) s (same_self fs)
+same_effect (proc_sub {fs = fs} a0 a1 a2) (proc_sub {fs = gs} b0 b1 b2) q = let e = head_of q in let t : Some fs ≡ Some gs = ap (λ u. u.taken) e in let s : fs ≡ gs = cc in subst (λ gs. SameEffect fs gs) s (same_refl fs)
+same_effect _ _ q = let e = ap first_rule q in absurd (cc)

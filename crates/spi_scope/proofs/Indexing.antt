@@ -9,7 +9,7 @@ use Rattle.spi_term.specs.Substitution.{effect_map, ty_map, leaf_map}
 use Rattle.spi_term.specs.Names.{MessageOver, OfAtom, OfEffect, OfTy, TyOver, ProcessOver}
 use Rattle.spi_term.specs.Spelling.{index_message, indexed, flat, numbered, SpellsProcess}
 use Rattle.spi_term.specs.Arena.{InScope}
-use Rattle.spi_term.proofs.Numbers.{number_index, over_indexed}
+use Rattle.spi_term.proofs.Numbers.{index_low, index_high, index_kept, number_index, over_indexed}
 use Rattle.spi_term.proofs.Terms.{over_more_ty, loose_ty}
 use Rattle.spi_scope.specs.Scope.{Word, Names, number_of, Abbreviation, Abbreviations, type_of}
 use Rattle.spi_scope.specs.Meaning.{name_meant, nested, message_in, messages_in, atom_in, effect_in, known, nested_types, behind, type_in, fields_in, last_in, process_in, process_over}
@@ -160,12 +160,6 @@ all_over ts xs (t.abbreviated _ w a ∷ ds) o =
     all_over (ts ++ record { word = w.word; stands_for = type_in (length xs) ts xs a } ∷ []) xs ds (over_push (length xs) ts (record { word = w.word; stands_for = type_in (length xs) ts xs a }) o (over_type (length xs) ts o (length xs) l 0 xs z a))
 
 -- names below k as they are, and the others by the index of their binder
-index_low : (k s d x : ℕ) → x < k → index_message k s d (name x) ≡ name x
-index_low k s d x h = if_yes (name x) (bound (d + (s - suc x))) (lt-ltb x k h)
-
-index_high : (k s d x : ℕ) → k ≤ x → index_message k s d (name x) ≡ bound (d + (s - suc x))
-index_high k s d x h = if_no (name x) (bound (d + (s - suc x))) (le-ltb x k h)
-
 module _ (k s : ℕ) (few : k ≤ s) where
   index_name : (d x : ℕ) → x < s + d → index_message k s d (name_meant s (s + d) (Some x)) ≡ name_meant k (s + d) (Some x)
   index_name d x h = ⊎_elim low high (cases_lt x s)
@@ -221,21 +215,11 @@ module _ (k s : ℕ) (few : k ≤ s) where
   index_effect d xs e (t.many _ m ∷ es) = ap (λ r. many r ∷ effect_map (index_message k s d) (effect_in s xs es)) (index_in d xs e m) ∙ ap (λ r. many (message_in k xs m) ∷ r) (index_effect d xs e es)
 
   -- a type over k names stays as it is
-  still_message : (d j : ℕ) (m : Message) → MessageOver k j m → index_message k s d m ≡ m
-  still_message d j (bound i) h = refl
-  still_message d j (name x) h = index_low k s d x h
-  still_message d j unit h = refl
-  still_message d j (pair a b) h = rw (still_message d j a h.0, still_message d j b h.1)
-  still_message d j (in_left a) h = rw (still_message d j a h)
-  still_message d j (in_right a) h = rw (still_message d j a h)
-  still_message d j (enc a b) h = rw (still_message d j a h.0, still_message d j b h.1)
-  still_message d j (hash a) h = rw (still_message d j a h)
-
   still_effect : (d j : ℕ) (es : Effect) → OfEffect (MessageOver k j) es → effect_map (index_message k s d) es ≡ es
   still_effect d j [] h = refl
-  still_effect d j (ends m ∷ es) h = rw (still_message d j m h.0, still_effect d j es h.1)
-  still_effect d j (checks m ∷ es) h = rw (still_message d j m h.0, still_effect d j es h.1)
-  still_effect d j (many m ∷ es) h = rw (still_message d j m h.0, still_effect d j es h.1)
+  still_effect d j (ends m ∷ es) h = rw (index_kept k s d j m h.0, still_effect d j es h.1)
+  still_effect d j (checks m ∷ es) h = rw (index_kept k s d j m h.0, still_effect d j es h.1)
+  still_effect d j (many m ∷ es) h = rw (index_kept k s d j m h.0, still_effect d j es h.1)
 
   still_ty : (d j : ℕ) (a : Ty) → OfTy (MessageOver k) j a → ty_map (index_message k s) d a ≡ a
   still_ty d j un h = refl

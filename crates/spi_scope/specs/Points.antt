@@ -26,17 +26,29 @@ pub data Point : Type 0 where
   -- the first token of the step with this number, counted from 1, of so many steps
   starts_step : (number all : ℕ) → Span → Point
 
+-- what is told where something is wrong at a point, before which the running count is c
+abbrev pub fault_told : ℕ → Point → ScopeFault
+fault_told c (uses_name xs w) = UnknownName w.span w.word
+fault_told c (uses_type ts w) = UnknownType w.span w.word
+fault_told c (declares_name xs w) = NameTwice w.span w.word
+fault_told c (declares_type ts w) = TypeTwice w.span w.word
+fault_told c (ends_message n s) = MessageTooLarge s (stopped n)
+fault_told c (ends_type n s) = TypeTooLarge s (stopped n)
+fault_told c (adds n s) = FileTooLarge s (c + n)
+fault_told c (starts_step i n s) = ScheduleTooLong s (stopped n)
+
 -- what is wrong at a point, before which the running count is c
 abbrev pub fault_at : ℕ → Point → Option ScopeFault
-fault_at c (uses_name xs w) = if is_some (number_of xs w.word) then None else Some (UnknownName w.span w.word)
-fault_at c (uses_type ts w) = if is_some (type_of ts w.word) then None else Some (UnknownType w.span w.word)
+fault_at c (uses_name xs w) = if is_some (number_of xs w.word) then None else Some (fault_told c (uses_name xs w))
+fault_at c (uses_type ts w) = if is_some (type_of ts w.word) then None else Some (fault_told c (uses_type ts w))
 fault_at c (declares_name xs w) =
-    if is_some (number_of xs w.word) then Some (NameTwice w.span w.word) else None
-fault_at c (declares_type ts w) = if is_some (type_of ts w.word) then Some (TypeTwice w.span w.word) else None
-fault_at c (ends_message n s) = if nat_lt 200 n then Some (MessageTooLarge s (stopped n)) else None
-fault_at c (ends_type n s) = if nat_lt 1000 n then Some (TypeTooLarge s (stopped n)) else None
-fault_at c (adds n s) = if nat_lt 100000 (c + n) then Some (FileTooLarge s (c + n)) else None
-fault_at c (starts_step i n s) = if nat_lt 10000 i then Some (ScheduleTooLong s (stopped n)) else None
+    if is_some (number_of xs w.word) then Some (fault_told c (declares_name xs w)) else None
+fault_at c (declares_type ts w) =
+    if is_some (type_of ts w.word) then Some (fault_told c (declares_type ts w)) else None
+fault_at c (ends_message n s) = if nat_lt 200 n then Some (fault_told c (ends_message n s)) else None
+fault_at c (ends_type n s) = if nat_lt 1000 n then Some (fault_told c (ends_type n s)) else None
+fault_at c (adds n s) = if nat_lt 100000 (c + n) then Some (fault_told c (adds n s)) else None
+fault_at c (starts_step i n s) = if nat_lt 10000 i then Some (fault_told c (starts_step i n s)) else None
 
 -- what a point adds to the running count
 abbrev pub added : Point → ℕ

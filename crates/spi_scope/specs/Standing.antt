@@ -1,18 +1,25 @@
 -- How points stand at tokens.
 use Rattle.std.specs.Prelude.{ℕ, ◌<◌, [], ◌∷◌, ⊤}
-use Rattle.spi_scope.specs.Points.{Point, uses_name, uses_type, declares_name, declares_type, ends_message, ends_type, adds, starts_step}
+use Rattle.spi_scope.specs.declared.fault.ScopeFault.{ScopeFault}
+use Rattle.spi_scope.specs.declared.fault.ScopeFault.TheVariants.{UnknownName, UnknownType, NameTwice, TypeTwice, MessageTooLarge, TypeTooLarge, FileTooLarge, ScheduleTooLong, NoMemory}
+use Rattle.spi_scope.specs.Points.{Point, fault_told}
 use Rattle.spi_scope.specs.Scan.{token, point, Scan}
+
+-- the number of a fault. Want of memory has none here
+abbrev pub scope_number : ScopeFault → ℕ
+scope_number (UnknownName s w) = 30
+scope_number (UnknownType s w) = 31
+scope_number (NameTwice s w) = 32
+scope_number (TypeTwice s w) = 33
+scope_number (MessageTooLarge s n) = 34
+scope_number (TypeTooLarge s n) = 35
+scope_number (FileTooLarge s n) = 36
+scope_number (ScheduleTooLong s n) = 37
+scope_number NoMemory = 0
 
 -- the number of what could be wrong at a point
 abbrev pub number_at : Point → ℕ
-number_at (uses_name xs w) = 30
-number_at (uses_type ts w) = 31
-number_at (declares_name xs w) = 32
-number_at (declares_type ts w) = 33
-number_at (ends_message n s) = 34
-number_at (ends_type n s) = 35
-number_at (adds n s) = 36
-number_at (starts_step i n s) = 37
+number_at p = scope_number (fault_told 0 p)
 
 -- the numbers grow from one token to the next. The point before has the number n, or n is 0 right behind a token
 abbrev pub Grow : ℕ → Scan → Type 0

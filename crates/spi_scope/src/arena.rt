@@ -39,7 +39,8 @@ pub fn push(
     place: Span,
 ) -> Result<(), ScopeFault>
     ensures nodes { OnOk result
-        (map shape_of arena.new.nodes.items ≡ map shape_of arena.old.nodes.items ++ shape_of_form base form ∷ []) }
+        (map shape_of arena.new.nodes.items
+        ≡ map shape_of arena.old.nodes.items ++ shape_of_form base form ∷ []) }
     ensures len { OnOk result (length arena.new.nodes.items ≡ length arena.old.nodes.items + 1) }
     ensures places { OnOk result (arena.new.places.items ≡ arena.old.places.items ++ place ∷ []) }
     ensures names { OnOk result (scope.new.held.names ≡ scope.old.held.names) }

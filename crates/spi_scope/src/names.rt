@@ -80,20 +80,11 @@ fn leave<'t>(innermost: &mut IndexMap<&'t str, u32>, hidden: &mut Vec<Held<'t>>)
 
 /// The names in scope. A contract sees their spellings, the innermost first, and those that were in scope at each
 /// node that was noted.
+#[derive(Drop)]
 pub struct Names<'t> {
     innermost: IndexMap<&'t str, u32>,
     hidden: Vec<Held<'t>>,
     trail: Trail<'t>,
-}
-
-impl Drop for Names<'_> {
-    fn drop(self) {
-        let Names {
-            innermost: _,
-            hidden: _,
-            trail: _,
-        } = self;
-    }
 }
 
 impl<'t> Model for Names<'t> {
@@ -106,7 +97,8 @@ impl<'t> Model for Names<'t> {
 
     ghost view = { λ s. record { names = spellings (reverse s.hidden.items); noted = s.trail.noted } };
 
-    ghost invariant = { λ s. KeepsTable s.innermost s.hidden.items × Begin s.trail.chains (reverse s.hidden.items) };
+    ghost invariant = { λ s.
+        KeepsTable s.innermost s.hidden.items × Begin s.trail.chains (reverse s.hidden.items) };
 }
 
 impl<'t> Names<'t> {

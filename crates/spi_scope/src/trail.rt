@@ -42,9 +42,11 @@ impl<'t> Model for Trail<'t> {
 
     ghost coded = { coded_chained };
 
-    ghost view = { λ s. let cs = chains (map link s.links.items) in record { chains = cs; noted = all_at cs s.noted.items } };
+    ghost view = { λ s. let cs = chains (map link s.links.items) in
+        record { chains = cs; noted = all_at cs s.noted.items } };
 
-    ghost invariant = { λ s. LeadBack 1 (map link s.links.items) × AreNumbersBelow (length s.links.items + 1) s.noted.items
+    ghost invariant = { λ s. LeadBack 1 (map link s.links.items)
+        × AreNumbersBelow (length s.links.items + 1) s.noted.items
         × (length s.links.items < 2 ^ 32) };
 }
 

@@ -1,7 +1,7 @@
 // The text of a node up to the first process in it.
 
-ghost use Rattle.std.specs.Prelude.{◌≡◌, suc, ◌+◌, ◌<◌, ◌≤◌, ◌^◌, ◌++◌, codes, OnOk};
-ghost use Rattle.spi_term.specs.Term.{Splits, Selects, Decrypts, Checks, Freshes};
+ghost use Rattle.std.specs.Prelude.{◌≡◌, ◌+◌, ◌<◌, ◌≤◌, ◌^◌, ◌++◌, codes, OnOk};
+ghost use Rattle.spi_term.specs.Term.{Selects, Decrypts, Checks, Freshes};
 ghost use Rattle.spi_term.specs.Spelling.{ty_nodes, HasSmallParts};
 ghost use Rattle.spi_term.specs.View.{message, ty as type_of, shape_of};
 ghost use Rattle.spi_show.specs.Spells.{spelling};
@@ -30,8 +30,8 @@ fn put_paired(
         ++ (word.now ++ (message_text (spelling spell.now) n (message m.now)
         ++ (between.now ++ message_text (spelling spell.now) n (message other.now))))) }
 {
-    put_worded(spell, n, word, m, out)?;
-    put_worded(spell, n, between, other, out)
+    put_worded(spell, n, word, m, between, out)?;
+    put_message(spell, n, other, out)
 }
 
 // A word, a message, what opens before a name, the name with its type, and what stands behind that.
@@ -52,43 +52,22 @@ fn put_binder(
         ++ (open.now ++ (typed_text (spelling spell.now) n (type_text (spelling spell.now) n (type_of t.now))
         ++ close.now))))) }
 {
-    put_worded(spell, n, word, m, out)?;
-    out.extend_from_slice(open)?;
+    put_worded(spell, n, word, m, open, out)?;
     put_typed(spell, n, t, out)?;
     out.extend_from_slice(close)
 }
 
-fn put_split(
-    spell: &Spell,
-    n: u32,
-    m: &Msg,
-    first: &Ty,
-    second: &Ty,
-    out: &mut Vec<u8>,
-) -> Result<(), NoMemory>
-    requires first { n + ty_nodes (type_of first.now) < 2 ^ 32 }
-    requires second { n + 1 + ty_nodes (type_of second.now) < 2 ^ 32 }
+// The second name of a form, which is the number x, with its type, where n names are in scope.
+fn put_second(spell: &Spell, x: u32, n: u32, second: &Ty, out: &mut Vec<u8>) -> Result<(), NoMemory>
+    requires { n + ty_nodes (type_of second.now) < 2 ^ 32 }
     ensures { OnOk result
         (out.new.items ≡ out.old.items
-        ++ prefix_text (spelling spell.now) n
-        (Splits (message m.now) (type_of first.now) (type_of second.now))) }
-{
-    put_binder(spell, n, b"split ", m, b" is (", first, b", ", out)?;
-    put_typed(spell, n + 1, second, out)?;
-    out.extend_from_slice(b"); ")
-}
-
-// The second name of a `match`, whose type is under the first.
-fn put_second(spell: &Spell, n: u32, second: &Ty, out: &mut Vec<u8>) -> Result<(), NoMemory>
-    requires { n + 1 + ty_nodes (type_of second.now) < 2 ^ 32 }
-    ensures { OnOk result
-        (out.new.items ≡ out.old.items
-        ++ (typed_text (spelling spell.now) n (type_text (spelling spell.now) (suc n) (type_of second.now))
+        ++ (typed_text (spelling spell.now) x (type_text (spelling spell.now) n (type_of second.now))
         ++ codes "); ")) }
 {
-    put_name(spell, n, out)?;
+    put_name(spell, x, out)?;
     out.extend_from_slice(b": ")?;
-    put_type(spell, n + 1, second, out)?;
+    put_type(spell, n, second, out)?;
     out.extend_from_slice(b"); ")
 }
 
@@ -109,9 +88,8 @@ fn put_match(
         (Selects (message m.now) (type_of first.now) (message equal.now) (type_of second.now))) }
 {
     put_binder(spell, n, b"match ", m, b" is (", first, b" = ", out)?;
-    put_message(spell, n, equal, out)?;
-    out.extend_from_slice(b", ")?;
-    put_second(spell, n, second, out)
+    put_worded(spell, n, b"", equal, b", ", out)?;
+    put_second(spell, n, n + 1, second, out)
 }
 
 fn put_decrypt(
@@ -128,8 +106,7 @@ fn put_decrypt(
         ++ prefix_text (spelling spell.now) n (Decrypts (message m.now) (type_of t.now) (message key.now))) }
 {
     put_binder(spell, n, b"decrypt ", m, b" is {", t, b"}", out)?;
-    put_message(spell, n, key, out)?;
-    out.extend_from_slice(b"; ")
+    put_worded(spell, n, b"", key, b"; ", out)
 }
 
 fn put_check(spell: &Spell, n: u32, m: &Msg, nonce: &Msg, out: &mut Vec<u8>) -> Result<(), NoMemory>
@@ -138,22 +115,6 @@ fn put_check(spell: &Spell, n: u32, m: &Msg, nonce: &Msg, out: &mut Vec<u8>) -> 
         ++ prefix_text (spelling spell.now) n (Checks (message m.now) (message nonce.now))) }
 {
     put_paired(spell, n, b"check ", m, b" is ", nonce, out)?;
-    out.extend_from_slice(b"; ")
-}
-
-// A form with a label: its word, and the label.
-fn put_label(
-    spell: &Spell,
-    n: u32,
-    word: &[u8],
-    label: &Msg,
-    out: &mut Vec<u8>,
-) -> Result<(), NoMemory>
-    ensures { OnOk result
-        (out.new.items ≡ out.old.items
-        ++ (word.now ++ (message_text (spelling spell.now) n (message label.now) ++ codes "; "))) }
-{
-    put_worded(spell, n, word, label, out)?;
     out.extend_from_slice(b"; ")
 }
 
@@ -211,7 +172,10 @@ pub fn put_head(
             first,
             second,
             ..
-        } => put_split(spell, n, whole, first, second, out),
+        } => {
+            put_binder(spell, n, b"split ", whole, b" is (", first, b", ", out)?;
+            put_second(spell, n + 1, n + 1, second, out)
+        }
         Form::Select {
             whole,
             first,
@@ -224,9 +188,9 @@ pub fn put_head(
         }
         Form::Decrypt { whole, ty, key, .. } => put_decrypt(spell, n, whole, ty, key, out),
         Form::Check { whole, nonce, .. } => put_check(spell, n, whole, nonce, out),
-        Form::Begin { label, .. } => put_label(spell, n, b"begin ", label, out),
-        Form::End { label, .. } => put_label(spell, n, b"end ", label, out),
-        Form::EndMany { label, .. } => put_label(spell, n, b"endmany ", label, out),
+        Form::Begin { label, .. } => put_worded(spell, n, b"begin ", label, b"; ", out),
+        Form::End { label, .. } => put_worded(spell, n, b"end ", label, b"; ", out),
+        Form::EndMany { label, .. } => put_worded(spell, n, b"endmany ", label, b"; ", out),
         Form::Cast { whole, ty, .. } => put_binder(
             spell, n, b"cast ", whole, b" is (", ty, b"); ", out,
         ),

@@ -5,9 +5,8 @@ ghost use Rattle.spi_term.specs.Spelling.{ty_nodes};
 ghost use Rattle.spi_term.specs.View.{ty as type_of};
 ghost use Rattle.spi_show.specs.Spells.{spelling};
 ghost use Rattle.spi_show.specs.Terms.{type_text};
-ghost use Rattle.spi_show.specs.Processes.{right_text};
+ghost use Rattle.spi_show.specs.Processes.{right_text, sequel};
 ghost use Rattle.spi_show.specs.Pieces.{standing, piece, tops, parts_shown, process, words};
-ghost use Rattle.spi_show.specs.Processes.{sequel};
 
 use crate::NoMemory;
 use crate::spell::Spell;
@@ -56,7 +55,8 @@ fn push_three(x: Piece, y: Piece, z: Piece, pending: &mut Vec<Piece>) -> Result<
 
 /// The processes in a parallel composition are to be written, of which the first is an output or isn't.
 pub fn push_parts(at: Place, output: bool, pending: &mut Vec<Piece>) -> Result<(), NoMemory>
-    ensures { OnOk result (tops pending.new.items ≡ parts_shown (standing at) output ++ tops pending.old.items) }
+    ensures { OnOk result
+        (tops pending.new.items ≡ parts_shown (standing at) output ++ tops pending.old.items) }
 {
     let first = Piece::Process(Place::Sequel);
     match at {

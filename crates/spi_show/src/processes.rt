@@ -6,7 +6,7 @@ ghost use Rattle.spi_term.specs.Spelling.{numbered, spelled, HasSmallParts, IsSm
 ghost use Rattle.spi_term.specs.View.{shape_of};
 ghost use Rattle.spi_show.specs.Spells.{spelling};
 ghost use Rattle.spi_show.specs.Processes.{alone, process_text};
-ghost use Rattle.spi_show.specs.Pieces.{standing, piece, tops, is_output_at, output_in, pieces_at, process as inner, IsPut};
+ghost use Rattle.spi_show.specs.Pieces.{standing, piece, tops, is_output_at, output_in, pieces_at, IsPut};
 
 use crate::NoMemory;
 use crate::nodes::put_head;
@@ -64,33 +64,7 @@ fn put_off(
     }
 }
 
-// The process at the next node is written up to the first process in it. It gives the node after that.
-fn put_node(
-    spell: &Spell,
-    process: &Process,
-    nodes: u32,
-    id: u32,
-    at: Place,
-    pending: &mut Vec<Piece>,
-    out: &mut Vec<u8>,
-) -> Result<u32, NoMemory>
-    requires nodes { nodes ≡ process_size process.now.process }
-    requires small { IsSmall process.now.names process.now.process }
-    ensures { IfOk result
-        (λ next. IsPut (spelling spell.now) (spelled process.now.names process.now.process) id next
-        (inner (standing at)) out.old.items out.new.items (tops pending.old.items) (tops pending.new.items)) }
-{
-    if id >= nodes {
-        return Ok(id);
-    }
-    let output = output_at(process, nodes, id + 1);
-    let node = process.node(id);
-    put_head(spell, node, at, output, out)?;
-    put_off(spell, node, at, output, pending)?;
-    Ok(id + 1)
-}
-
-// A piece is written. It gives the next node.
+// A piece is written: of a process the next node, up to the first process in it. It gives the next node then.
 fn put_piece(
     spell: &Spell,
     process: &Process,
@@ -111,7 +85,15 @@ fn put_piece(
         Piece::Semicolon => out.extend_from_slice(b"; ")?,
         Piece::Close => out.extend_from_slice(b")")?,
         Piece::Words(words) => out.extend_from_slice(words.as_slice())?,
-        Piece::Process(at) => return put_node(spell, process, nodes, id, at, pending, out),
+        Piece::Process(at) => {
+            if id < nodes {
+                let output = output_at(process, nodes, id + 1);
+                let node = process.node(id);
+                put_head(spell, node, at, output, out)?;
+                put_off(spell, node, at, output, pending)?;
+                return Ok(id + 1);
+            }
+        }
     }
     Ok(id)
 }

@@ -1,6 +1,6 @@
 // The numbers that names have behind a prefix, and the number that bound names are moved up by.
 
-ghost use Rattle.std.specs.Prelude.{◌≡◌, ◌≢◌, List, ℕ, ◌++◌, ◌<◌, ◌^◌, length, codes, MatchOption, IfOk, OnOk};
+ghost use Rattle.std.specs.Prelude.{◌≡◌, ◌≢◌, List, ℕ, ◌++◌, length, MatchOption, IfOk, OnOk};
 ghost use Rattle.std.specs.Fmt.{decimal};
 ghost use Rattle.std.specs.List.Sorted.{IsNonDecreasing};
 ghost use Rattle.spi_show.specs.Spelled.{IsShift, IsLeastBehind};

@@ -18,21 +18,23 @@ fn put_bound(spell: &Spell, n: u32, i: u32, out: &mut Vec<u8>) -> Result<(), NoM
     put_name(spell, x, out)
 }
 
-/// Appends a word and a message.
+/// Appends a word, a message, and what closes it.
 #[cycle(text)]
 pub fn put_worded(
     spell: &Spell,
     n: u32,
     word: &[u8],
     m: &Msg,
+    close: &[u8],
     out: &mut Vec<u8>,
 ) -> Result<(), NoMemory>
     ensures { OnOk result
         (out.new.items ≡ out.old.items
-        ++ (word.now ++ message_text (spelling spell.now) n (message m.now))) }
+        ++ (word.now ++ (message_text (spelling spell.now) n (message m.now) ++ close.now))) }
 {
     out.extend_from_slice(word)?;
-    put_message(spell, n, m, out)
+    put_message(spell, n, m, out)?;
+    out.extend_from_slice(close)
 }
 
 #[cycle(text)]
@@ -61,35 +63,35 @@ pub fn put_message(spell: &Spell, n: u32, m: &Msg, out: &mut Vec<u8>) -> Result<
         Msg::Unit => out.extend_from_slice(b"()"),
         Msg::Pair(first, second) => {
             out.extend_from_slice(b"(")?;
-            put_message(spell, n, first, out)?;
-            out.extend_from_slice(b", ")?;
-            put_tuple(spell, n, second, out)?;
+            put_tuple(spell, n, first, second, out)?;
             out.extend_from_slice(b")")
         }
-        Msg::Inl(part) => put_worded(spell, n, b"inl ", part, out),
-        Msg::Inr(part) => put_worded(spell, n, b"inr ", part, out),
+        Msg::Inl(part) => put_worded(spell, n, b"inl ", part, b"", out),
+        Msg::Inr(part) => put_worded(spell, n, b"inr ", part, b"", out),
         Msg::Enc(body, key) => put_enc(spell, n, body, key, out),
-        Msg::Hash(part) => {
-            out.extend_from_slice(b"hash(")?;
-            put_message(spell, n, part, out)?;
-            out.extend_from_slice(b")")
-        }
+        Msg::Hash(part) => put_worded(spell, n, b"hash(", part, b")", out),
     }
 }
 
-// The parts of a tuple behind its first.
+// The parts of a tuple: its first, and those behind it.
 #[cycle(text)]
-fn put_tuple(spell: &Spell, n: u32, m: &Msg, out: &mut Vec<u8>) -> Result<(), NoMemory>
+fn put_tuple(
+    spell: &Spell,
+    n: u32,
+    first: &Msg,
+    rest: &Msg,
+    out: &mut Vec<u8>,
+) -> Result<(), NoMemory>
     ensures { OnOk result
-        (out.new.items ≡ out.old.items ++ tuple_text (spelling spell.now) n (message m.now)) }
+        (out.new.items ≡ out.old.items
+        ++ (message_text (spelling spell.now) n (message first.now)
+        ++ (codes ", " ++ tuple_text (spelling spell.now) n (message rest.now)))) }
 {
-    match m {
-        Msg::Pair(first, second) => {
-            put_message(spell, n, first, out)?;
-            out.extend_from_slice(b", ")?;
-            put_tuple(spell, n, second, out)
-        }
-        _ => put_message(spell, n, m, out),
+    put_message(spell, n, first, out)?;
+    out.extend_from_slice(b", ")?;
+    match rest {
+        Msg::Pair(second, more) => put_tuple(spell, n, second, more, out),
+        _ => put_message(spell, n, rest, out),
     }
 }
 
@@ -97,9 +99,9 @@ fn put_atom(spell: &Spell, n: u32, a: &Atom, out: &mut Vec<u8>) -> Result<(), No
     ensures { OnOk result (out.new.items ≡ out.old.items ++ atom_text (spelling spell.now) n (atom a.now)) }
 {
     match a {
-        Atom::End(m) => put_worded(spell, n, b"end ", m, out),
-        Atom::Check(m) => put_worded(spell, n, b"check ", m, out),
-        Atom::Many(m) => put_worded(spell, n, b"many ", m, out),
+        Atom::End(m) => put_worded(spell, n, b"end ", m, b"", out),
+        Atom::Check(m) => put_worded(spell, n, b"check ", m, b"", out),
+        Atom::Many(m) => put_worded(spell, n, b"many ", m, b"", out),
     }
 }
 

@@ -22,21 +22,35 @@ each_bared f bare same (x ∷ xs) = λ i. same x i ∷ each_bared f bare same xs
 
 -- ---- messages, types and processes
 
+-- what a message means, what it means in a derivation, and where it stands
 module _ (k : ℕ) (xs : Names) where
   mutual
-    pub message_bared : (m : t.Msg) → message_in k xs (bare_msg m) ≡ message_in k xs m
-    message_bared (t.name s w) = refl
-    message_bared (t.unit s) = refl
-    message_bared (t.tuple s a b ms) = rw (message_bared a, message_bared b, messages_bared ms) refl
-    message_bared (t.inl s a) = rw (message_bared a) refl
-    message_bared (t.inr s a) = rw (message_bared a) refl
-    message_bared (t.enc s a b) = rw (message_bared a, message_bared b) refl
-    message_bared (t.hash s a) = rw (message_bared a) refl
-    message_bared (t.num s i) = refl
+    same_message : (m : t.Msg) → (message_in k xs (bare_msg m) ≡ message_in k xs m) × (numbered_message (bare_msg m) ≡ numbered_message m) × (msg_span (bare_msg m) ≡ nowhere)
+    same_message (t.name s w) = (refl, refl, refl)
+    same_message (t.unit s) = (refl, refl, refl)
+    same_message (t.tuple s a b ms) =
+        let (a0, a1, a2) = same_message a in
+        let (b0, b1, b2) = same_message b in
+        let (m0, m1) = same_messages ms in
+        (rw (a0, b0, m0) refl, rw (a1, b1, m1) refl, refl)
+    same_message (t.inl s a) = let (a0, a1, a2) = same_message a in (rw a0 refl, rw a1 refl, refl)
+    same_message (t.inr s a) = let (a0, a1, a2) = same_message a in (rw a0 refl, rw a1 refl, refl)
+    same_message (t.enc s a b) =
+        let (a0, a1, a2) = same_message a in
+        let (b0, b1, b2) = same_message b in
+        (rw (a0, b0) refl, rw (a1, b1) refl, refl)
+    same_message (t.hash s a) = let (a0, a1, a2) = same_message a in (rw a0 refl, rw a1 refl, refl)
+    same_message (t.num s i) = (refl, refl, refl)
 
-    messages_bared : (ms : t.Msgs) → messages_in k xs (bare_msgs ms) ≡ messages_in k xs ms
-    messages_bared t.no_msgs = refl
-    messages_bared (t.more_msgs m ms) = rw (message_bared m, messages_bared ms) refl
+    same_messages : (ms : t.Msgs) → (messages_in k xs (bare_msgs ms) ≡ messages_in k xs ms) × (numbered_messages (bare_msgs ms) ≡ numbered_messages ms)
+    same_messages t.no_msgs = (refl, refl)
+    same_messages (t.more_msgs m ms) =
+        let (a0, a1, a2) = same_message m in
+        let (m0, m1) = same_messages ms in
+        (rw (a0, m0) refl, rw (a1, m1) refl)
+
+  pub message_bared : (m : t.Msg) → message_in k xs (bare_msg m) ≡ message_in k xs m
+  message_bared m = (same_message m).0
 
   atom_bared : (e : t.Atom) → atom_in k xs (bare_atom e) ≡ atom_in k xs e
   atom_bared (t.ends s m) = rw (message_bared m) refl
@@ -50,25 +64,29 @@ behind_bared : (xs : Names) (fs : t.Fields) → behind xs (bare_fields fs) ≡ b
 behind_bared xs t.no_fields = refl
 behind_bared xs (t.more_fields w a fs) = behind_bared (w.word ∷ xs) fs
 
+-- what a type means, and where it stands
 module _ (k : ℕ) (ts : Abbreviations) where
   mutual
-    pub type_bared : (xs : Names) (a : t.Ty) → type_in k ts xs (bare_ty a) ≡ type_in k ts xs a
-    type_bared xs (t.un s) = refl
-    type_bared xs (t.unit_ty s) = refl
-    type_bared xs (t.tuple_ty s w a fs l) =
-        rw (type_bared xs a, fields_bared (w.word ∷ xs) fs, behind_bared (w.word ∷ xs) fs, last_bared (behind (w.word ∷ xs) fs) l) refl
-    type_bared xs (t.sum s a b) = rw (type_bared xs a, type_bared xs b) refl
-    type_bared xs (t.key s a) = rw (type_bared xs a) refl
-    type_bared xs (t.nonce s es) = rw (effect_bared k xs es) refl
-    type_bared xs (t.abbr s w) = refl
+    same_type : (xs : Names) (a : t.Ty) → (type_in k ts xs (bare_ty a) ≡ type_in k ts xs a) × (ty_span (bare_ty a) ≡ nowhere)
+    same_type xs (t.un s) = (refl, refl)
+    same_type xs (t.unit_ty s) = (refl, refl)
+    same_type xs (t.tuple_ty s w a fs l) =
+        (rw ((same_type xs a).0, fields_bared (w.word ∷ xs) fs, behind_bared (w.word ∷ xs) fs, last_bared (behind (w.word ∷ xs) fs) l) refl, refl)
+    same_type xs (t.sum s a b) = (rw ((same_type xs a).0, (same_type xs b).0) refl, refl)
+    same_type xs (t.key s a) = (rw ((same_type xs a).0) refl, refl)
+    same_type xs (t.nonce s es) = (rw (effect_bared k xs es) refl, refl)
+    same_type xs (t.abbr s w) = (refl, refl)
 
     fields_bared : (xs : Names) (fs : t.Fields) → fields_in k ts xs (bare_fields fs) ≡ fields_in k ts xs fs
     fields_bared xs t.no_fields = refl
-    fields_bared xs (t.more_fields w a fs) = rw (type_bared xs a, fields_bared (w.word ∷ xs) fs) refl
+    fields_bared xs (t.more_fields w a fs) = rw ((same_type xs a).0, fields_bared (w.word ∷ xs) fs) refl
 
     last_bared : (xs : Names) (l : t.Last) → last_in k ts xs (bare_last l) ≡ last_in k ts xs l
-    last_bared xs (t.bare a) = type_bared xs a
-    last_bared xs (t.named w a) = type_bared xs a
+    last_bared xs (t.bare a) = (same_type xs a).0
+    last_bared xs (t.named w a) = (same_type xs a).0
+
+  pub type_bared : (xs : Names) (a : t.Ty) → type_in k ts xs (bare_ty a) ≡ type_in k ts xs a
+  type_bared xs a = (same_type xs a).0
 
 module _ (b : ℕ → ℕ) (ts : Abbreviations) where
   abbrev low : Names → ℕ
@@ -142,20 +160,8 @@ schedule_bared : (o : Option (List t.Step)) → schedule_in (bare_schedule o) �
 schedule_bared None = refl
 schedule_bared (Some xs) = rw (steps_bared xs) refl
 
-mutual
-  pub numbered_bared : (m : t.Msg) → numbered_message (bare_msg m) ≡ numbered_message m
-  numbered_bared (t.name s w) = refl
-  numbered_bared (t.unit s) = refl
-  numbered_bared (t.tuple s a b ms) = rw (numbered_bared a, numbered_bared b, all_numbered_bared ms) refl
-  numbered_bared (t.inl s a) = rw (numbered_bared a) refl
-  numbered_bared (t.inr s a) = rw (numbered_bared a) refl
-  numbered_bared (t.enc s a b) = rw (numbered_bared a, numbered_bared b) refl
-  numbered_bared (t.hash s a) = rw (numbered_bared a) refl
-  numbered_bared (t.num s i) = refl
-
-  all_numbered_bared : (ms : t.Msgs) → numbered_messages (bare_msgs ms) ≡ numbered_messages ms
-  all_numbered_bared t.no_msgs = refl
-  all_numbered_bared (t.more_msgs m ms) = rw (numbered_bared m, all_numbered_bared ms) refl
+pub numbered_bared : (m : t.Msg) → numbered_message (bare_msg m) ≡ numbered_message m
+numbered_bared m = (same_message 0 [] m).1
 
 numbered_atom_bared : (e : t.Atom) → numbered_atom (bare_atom e) ≡ numbered_atom e
 numbered_atom_bared (t.ends s m) = rw (numbered_bared m) refl
@@ -227,13 +233,7 @@ point_bared c (starts_step i n s) = when_none (nat_lt 10000 i) _ _
 
 added_bared : (p : Point) → added (bare_point p) ≡ added p
 added_bared (uses_name xs w) = refl
-added_bared (uses_type ts w) = refl
-added_bared (declares_name xs w) = refl
-added_bared (declares_type ts w) = refl
-added_bared (ends_message n s) = refl
-added_bared (ends_type n s) = refl
-added_bared (adds n s) = refl
-added_bared (starts_step i n s) = refl
+added_bared _ = refl
 
 clean_bared : (c : ℕ) (ps : List Point) → Clean c ps → Clean c (map bare_point ps)
 clean_bared c [] h = tt
@@ -246,23 +246,7 @@ clean_back c (p ∷ ps) h = ((point_bared c p).1 h.0, clean_back (c + added p) p
 -- ---- the points of a tree
 
 msg_span_bared : (m : t.Msg) → msg_span (bare_msg m) ≡ nowhere
-msg_span_bared (t.name s w) = refl
-msg_span_bared (t.unit s) = refl
-msg_span_bared (t.tuple s a b ms) = refl
-msg_span_bared (t.inl s a) = refl
-msg_span_bared (t.inr s a) = refl
-msg_span_bared (t.enc s a b) = refl
-msg_span_bared (t.hash s a) = refl
-msg_span_bared (t.num s i) = refl
-
-ty_span_bared : (a : t.Ty) → ty_span (bare_ty a) ≡ nowhere
-ty_span_bared (t.un s) = refl
-ty_span_bared (t.unit_ty s) = refl
-ty_span_bared (t.tuple_ty s w a fs l) = refl
-ty_span_bared (t.sum s a b) = refl
-ty_span_bared (t.key s a) = refl
-ty_span_bared (t.nonce s es) = refl
-ty_span_bared (t.abbr s w) = refl
+msg_span_bared m = (same_message 0 [] m).2
 
 module _ (xs : Names) where
   mutual
@@ -314,7 +298,7 @@ module _ (ts : Abbreviations) where
 
   whole_type_bared : (xs : Names) (a : t.Ty) → whole_type ts xs (bare_ty a) ≡ bare_points (whole_type ts xs a)
   unfolding whole_type
-  whole_type_bared xs a = rw (type_points_bared xs a, type_bared 0 ts xs a, ty_span_bared a) refl
+  whole_type_bared xs a = rw (type_points_bared xs a, type_bared 0 ts xs a, (same_type 0 ts xs a).1) refl
 
 part_bared : (xs : Names) (m : t.Msg) → part xs (bare_msg m) ≡ bare_points (part xs m)
 unfolding part

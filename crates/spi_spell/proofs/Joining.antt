@@ -128,7 +128,7 @@ module _ (bytes : List ℕ) (file : Meant) (tree : t.File) (is : IsTreeOf bytes 
       let old = to_end tree is.tokens tree_none is.spelled in
       let spelled : Spells [] 0 (whole_file f) (is.tokens ++ b.more) = (derivation_on b.more tree _ _ (closed_on b.more tree.span.to (a_reserved word.Derivation (deriv_pieces 1 y.read (closes y.rest.end ∷ []))) x.spells)).on 0 is.tokens old in
       let before = file_ruled tree is.formed in
-      let ruled : IsRuledFile f = record { version = before.version; decls = before.decls; process = before.process; opponent = before.opponent; derivation = y.is.0 } in
+      let ruled : IsRuledFile f = record { version = before.version; body = (before.body.0, before.body.1, before.body.2, y.is.0) } in
       let last : in_order (derivation_points tree.derivation) ≡ in_order (deriv_points y.read) = ap (λ (o : Option t.Deriv). in_order (derivation_points o)) tree_none ∙ sym y.is.1 in
       let clean : IsClean f = subst (λ (l : List Point). Clean 0 (points_with tree (in_order (schedule_points tree.schedule) ++ l))) last stands.clean in (
         f,
@@ -170,7 +170,7 @@ module _ (bytes : List ℕ) (file : Meant) (tree : t.File) (is : IsTreeOf bytes 
       subst (λ (o : Option (List t.Step)). Spells [] 0 (opens tree.span.from ∷ to_schedule tree (schedule_pieces o (closes tree.span.to ∷ []))) is.tokens) bare no_end in
       let spelled : Spells [] 0 (whole_file f) (is.tokens ++ b.more) = (schedule_on b.more tree _ _ (closed_on b.more tree.span.to (a_reserved word.Schedule (steps_pieces y.read (closes y.rest.end ∷ []))) x.spells)).on 0 is.tokens old in
       let before = file_ruled tree is.formed in
-      let ruled : IsRuledFile f = record { version = before.version; decls = before.decls; process = before.process; opponent = before.opponent; derivation = tt } in
+      let ruled : IsRuledFile f = record { version = before.version; body = (before.body.0, before.body.1, before.body.2, tt) } in
       let number = y.is in
       let new : (d : ℕ) → Clean d (in_order (schedule_points tree.schedule) ++ in_order (derivation_points tree.derivation)) → Clean d (in_order (steps_points 1 (length y.read) y.read) ++ []) =
       λ d h. subst (Clean d) (sym (append-nil (in_order (steps_points 1 (length y.read) y.read)))) (steps_clean 1 (length y.read) d y.read (omega arith)) in

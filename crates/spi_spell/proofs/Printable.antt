@@ -14,6 +14,7 @@ use Rattle.spi_term.specs.Term.{Message, bound, name, unit, pair, in_left, in_ri
 use Rattle.spi_term.specs.Names.{ProcessOver}
 use Rattle.spi_term.specs.Spelling.{Spelling, ty_nodes}
 use Rattle.spi_run.specs.Reduction.{Step}
+use Rattle.spi_rules.specs.Derivations.{RuleUse}
 use Rattle.spi_scope.specs.Points.{in_order, derivation_points}
 use Rattle.spi_scope.specs.First.{Clean}
 use Rattle.spi_scope.specs.StandsFor.{Meant, derivation_in}
@@ -146,9 +147,9 @@ abbrev pub AreSteps : Option (List Step) → Type 0
 AreSteps None = ⊤
 AreSteps (Some steps) = (length steps ≤ 10000) × AllByRecursion HasLowPlaces steps
 
--- a derivation in a tree, whose messages are small and whose tokens are those of the version
-pub record IsDerivationOf (later : Bool) (f : Meant) (d : Option t.Deriv) : Type 0 where
-  pub uses : f.derivation ≡ derivation_in d
+-- the uses of a derivation in a tree, whose messages are small and whose tokens are those of the version
+pub record IsDerivationOf (later : Bool) (us : Option (List RuleUse)) (d : Option t.Deriv) : Type 0 where
+  pub uses : us ≡ derivation_in d
   pub formed : IsDerivation later d
   pub rules : IsFormedDerived later d
   pub within : IsWithin (derivation_pieces d [])
@@ -167,4 +168,4 @@ pub record IsPrintable (f : Meant) (d : Option t.Deriv) : Type 0 where
   pub opponent : IsOpponentPart (is_later_file f) (length f.names) f.opponent
   pub few : length f.names + (process_nodes f.process.process + opponent_nodes f.opponent) ≤ 100000
   pub schedule : AreSteps f.schedule
-  pub derivation : IsDerivationOf (is_later_file f) f d
+  pub derivation : IsDerivationOf (is_later_file f) f.derivation d

@@ -1,6 +1,7 @@
 -- The tree of a canonical text, without spans: the tree that is read from it. A name with number i is spelled `spell i`, and
 -- n names are in scope.
-use Rattle.std.proofs.Common.{ℕ, suc, ◌+◌, ◌-◌, if◌then◌else◌, List, [], ◌∷◌, map, Option, Some, None}
+use Rattle.std.proofs.Common.{ℕ, suc, ◌+◌, ◌-◌, if◌then◌else◌, List, [], ◌∷◌, map, Option}
+use Rattle.std.specs.Option.{option_map}
 use Rattle.spi_tree.specs.declared.tree.SWord.{SWord}
 use Rattle.spi_tree.specs.Trees as t
 use Rattle.spi_term.specs.Term.{Message, bound, name, unit, pair, in_left, in_right, enc, hash, Atom, ends, checks, many, Effect, Ty, un, unit_ty, pair_ty, sum_ty, key, nonce, Leaf, Sends, Stops, Prefix, Recvs, Serves, Splits, Selects, Decrypts, Checks, Begins, Ends, EndManys, Casts, Freshes, Branches, Pars, Process, leaf, prefix, fork, binds}
@@ -160,20 +161,17 @@ abbrev pub part_tree : (ℕ → List ℕ) → Spelling → t.Proc
 part_tree spell p = process_tree spell alone p.names p.process
 
 abbrev pub opponent_tree : (ℕ → List ℕ) → Option Spelling → Option t.Proc
-opponent_tree spell None = None
-opponent_tree spell (Some p) = Some (part_tree spell p)
+opponent_tree spell o = option_map (part_tree spell) o
 
 abbrev pub step_tree : Step → t.Step
 step_tree (act i) = t.act nowhere i
 step_tree (talk i j) = t.talk nowhere i j
 
 abbrev pub schedule_tree : Option (List Step) → Option (List t.Step)
-schedule_tree None = None
-schedule_tree (Some steps) = Some (map step_tree steps)
+schedule_tree o = option_map (map step_tree) o
 
 abbrev pub written_tree : Option Effect → Option (List t.Atom)
-written_tree None = None
-written_tree (Some es) = Some (atom_trees numbered_name 0 es)
+written_tree o = option_map (atom_trees numbered_name 0) o
 
 -- a derivation's tree, with the effects as they are written
 abbrev mutual
@@ -185,8 +183,7 @@ abbrev mutual
   deriv_trees (t.more_derivs d ds) = t.more_derivs (deriv_tree d) (deriv_trees ds)
 
 abbrev pub derivation_tree : Option t.Deriv → Option t.Deriv
-derivation_tree None = None
-derivation_tree (Some d) = Some (deriv_tree d)
+derivation_tree o = option_map deriv_tree o
 
 -- the tree of a file, whose derivation has this tree
 abbrev pub file_tree : ℕ → Meant → Option t.Deriv → t.File

@@ -72,21 +72,20 @@ same_ty_refl (sum_ty t u) = same_sum (same_ty_refl t) (same_ty_refl u)
 same_ty_refl (key t) = same_key (same_ty_refl t)
 same_ty_refl (nonce es) = same_nonce (same_refl es)
 
+-- two types that are both the same as a third
+same_ty_both : {t u v : Ty} → SameTy t u → SameTy t v → SameTy u v
+same_ty_both same_un same_un = same_un
+same_ty_both same_unit same_unit = same_unit
+same_ty_both (same_pair h j) (same_pair h' j') = same_pair (same_ty_both h h') (same_ty_both j j')
+same_ty_both (same_sum h j) (same_sum h' j') = same_sum (same_ty_both h h') (same_ty_both j j')
+same_ty_both (same_key h) (same_key h') = same_key (same_ty_both h h')
+same_ty_both (same_nonce h) (same_nonce h') = same_nonce (same_trans (same_sym h) h')
+
 pub same_ty_sym : {t u : Ty} → SameTy t u → SameTy u t
-same_ty_sym same_un = same_un
-same_ty_sym same_unit = same_unit
-same_ty_sym (same_pair h j) = same_pair (same_ty_sym h) (same_ty_sym j)
-same_ty_sym (same_sum h j) = same_sum (same_ty_sym h) (same_ty_sym j)
-same_ty_sym (same_key h) = same_key (same_ty_sym h)
-same_ty_sym (same_nonce h) = same_nonce (same_sym h)
+same_ty_sym {t} h = same_ty_both h (same_ty_refl t)
 
 pub same_ty_trans : {t u v : Ty} → SameTy t u → SameTy u v → SameTy t v
-same_ty_trans same_un same_un = same_un
-same_ty_trans same_unit same_unit = same_unit
-same_ty_trans (same_pair h j) (same_pair h' j') = same_pair (same_ty_trans h h') (same_ty_trans j j')
-same_ty_trans (same_sum h j) (same_sum h' j') = same_sum (same_ty_trans h h') (same_ty_trans j j')
-same_ty_trans (same_key h) (same_key h') = same_key (same_ty_trans h h')
-same_ty_trans (same_nonce h) (same_nonce h') = same_nonce (same_trans h h')
+same_ty_trans h k = same_ty_both (same_ty_sym h) k
 
 pub same_other : (c a : Atom) → c ≢ a → same_atom c a ≡ false
 same_other c a d = go (atom_discrete c a)

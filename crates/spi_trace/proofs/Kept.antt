@@ -3,10 +3,10 @@ use Rattle.std.proofs.Common.{◌≡◌, sym, subst, ℕ, suc, ◌<◌, ◌≤�
 use Rattle.std.proofs.lemmas.Bool.{cases_lt}
 use Rattle.spi_term.specs.Lists.{At, In, in_first, in_later}
 use Rattle.spi_term.specs.Term.{Message}
-use Rattle.spi_term.proofs.Lists.{at_unique, in_cases}
+use Rattle.spi_term.proofs.Lists.{at_more, at_last, at_unique, in_cases}
 use Rattle.spi_run.specs.Reduction.{Event, begun}
 use Rattle.spi_trace.specs.Pairing.{IsFree, IsEarliest}
-use Rattle.spi_trace.proofs.Seen.{at_append, at_end, at_snoc, at_within, within_at, in_at, in_before, in_end, length_more}
+use Rattle.spi_trace.proofs.Seen.{at_snoc, at_within, within_at, in_at, in_before, in_end, length_more}
 use Rattle.spi_trace.proofs.Pairs.{earliest_one}
 
 -- the begins of m stand at these places, and of them the first `used` are taken
@@ -63,7 +63,7 @@ module _ {seen : List Event} {taken : List ℕ} {m : Message} {places : List ℕ
       let e = length_more seen (begun m) in
       let f = length_more places (length seen) in
       record {
-        begins = λ r i a. ⊎_elim (λ b. at_append (begun m ∷ []) (k.begins r i b)) (λ h. subst (λ x. At (seen ++ begun m ∷ []) x (begun m)) (sym h.1) (at_end seen (begun m))) (at_snoc places a);
+        begins = λ r i a. ⊎_elim (λ b. at_more (begun m ∷ []) (k.begins r i b)) (λ h. subst (λ x. At (seen ++ begun m ∷ []) x (begun m)) (sym h.1) (at_last seen (begun m))) (at_snoc places a);
         all = λ i a. ⊎_elim (λ b. in_before _ (k.all i b)) (λ h. subst (λ x. In x (places ++ length seen ∷ [])) (sym h.0) (in_end places (length seen))) (at_snoc seen a);
         order = λ r s i j l a b. ⊎_elim
             (λ x. ⊎_elim (λ y. k.order r s i j l x y) (λ h. let w = at_within (k.begins r i x) in omega (arith, h.1)) (at_snoc places b))
@@ -79,7 +79,7 @@ module _ {seen : List Event} {taken : List ℕ} {m : Message} {places : List ℕ
   kept_other e d =
       let l = length_more seen e in
       record {
-        begins = λ r i a. at_append (e ∷ []) (k.begins r i a);
+        begins = λ r i a. at_more (e ∷ []) (k.begins r i a);
         all = λ i a. ⊎_elim (λ b. k.all i b) (λ h. absurd (d (sym h.1))) (at_snoc seen a);
         order = k.order;
         gone = k.gone;

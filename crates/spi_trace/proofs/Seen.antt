@@ -2,14 +2,6 @@
 use Rattle.std.proofs.Common.{◌≡◌, refl, ap, ℕ, zero, suc, ◌<◌, ◌⊎◌, inl, inr, ⊎_elim, List, [], ◌∷◌, ◌++◌, length, arith}
 use Rattle.spi_term.specs.Lists.{At, at_first, at_later, In, in_first, in_later}
 
-pub at_append : {A : Type 0} {xs : List A} {i : ℕ} {x : A} (ys : List A) → At xs i x → At (xs ++ ys) i x
-at_append ys at_first = at_first
-at_append ys (at_later a) = at_later (at_append ys a)
-
-pub at_end : {A : Type 0} (xs : List A) (x : A) → At (xs ++ x ∷ []) (length xs) x
-at_end [] x = at_first
-at_end (y ∷ xs) x = at_later (at_end xs x)
-
 -- an element of a list with one more is one of the list, or that one
 pub at_snoc : {A : Type 0} (xs : List A) {y x : A} {i : ℕ} → At (xs ++ y ∷ []) i x → At xs i x ⊎ ((i ≡ length xs) × (x ≡ y))
 at_snoc [] at_first = inr (refl, refl)

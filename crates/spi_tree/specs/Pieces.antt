@@ -226,7 +226,8 @@ proc_pieces a (t.new s w b p) r =
 proc_pieces a (t.stop s) r = proc_begins a s (kinds.Reserved word.Stop) (ends s r)
 proc_pieces a (t.group s p q) r =
     proc_begins a s (kinds.Mark mark.ParenOpen)
-    (proc_pieces (below a) p (a_mark mark.Bar (proc_pieces (beside_place a) q (a_mark mark.ParenClose (ends s r)))))
+    (proc_pieces (below a) p (a_mark mark.Bar
+    (proc_pieces (beside_place a) q (a_mark mark.ParenClose (ends s r)))))
 
 abbrev pub words_pieces : List SWord → List Piece → List Piece
 words_pieces [] r = r

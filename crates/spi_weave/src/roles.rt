@@ -1,6 +1,6 @@
 //! The processes of roles.
 
-ghost use Rattle.std.specs.Prelude.{◌≡◌, ◌∷◌, map, IfOk};
+ghost use Rattle.std.specs.Prelude.{◌≡◌, ◌∷◌, if◌then◌else◌, map, IfOk};
 ghost use Rattle.spi_tree.specs.Views.{proc_of};
 ghost use Rattle.spi_narrate.specs.Views.{line_of};
 ghost use Rattle.spi_heading.specs.Views.{shared_of};
@@ -22,8 +22,8 @@ fn is_word(v: &SWord, w: &SWord) -> bool
 }
 
 // What a role does in a line, before the process that follows.
-fn role_part(alloc: Global, role: &SWord, line: &Line, then: SProc) -> Result<SProc, NoMemory>
-    ensures { IfOk result (λ p. proc_of p ≡ role_part role.now (line_of line.now) (proc_of then)) }
+fn role_part(alloc: Global, role: &SWord, line: &Line, after: SProc) -> Result<SProc, NoMemory>
+    ensures { IfOk result (λ p. proc_of p ≡ role_part role.now (line_of line.now) (proc_of after)) }
 {
     match line {
         Line::Local {
@@ -32,9 +32,9 @@ fn role_part(alloc: Global, role: &SWord, line: &Line, then: SProc) -> Result<SP
             span,
         } => {
             if is_word(who, role) {
-                prefixed(alloc, *span, prefix, then)
+                prefixed(alloc, *span, prefix, after)
             } else {
-                Ok(then)
+                Ok(after)
             }
         }
         Line::Pass {
@@ -45,15 +45,15 @@ fn role_part(alloc: Global, role: &SWord, line: &Line, then: SProc) -> Result<SP
             name,
             span,
         } => {
-            let then = if is_word(to, role) {
-                received(alloc, *span, channel, name, then)?
+            let after = if is_word(to, role) {
+                received(alloc, *span, channel, name, after)?
             } else {
-                then
+                after
             };
             if is_word(from, role) {
-                sent(alloc, *span, channel, datum, then)
+                sent(alloc, *span, channel, datum, after)
             } else {
-                Ok(then)
+                Ok(after)
             }
         }
     }
@@ -71,10 +71,10 @@ fn role_process(alloc: Global, role: &SWord, lines: &[Line]) -> Result<SProc, No
 }
 
 /// A `new` for each shared name, before the process that follows.
-pub fn sharing(alloc: Global, shared: &[Shared], then: SProc) -> Result<SProc, NoMemory>
-    ensures { IfOk result (λ p. proc_of p ≡ sharing (map shared_of shared.now) (proc_of then)) }
+pub fn sharing(alloc: Global, shared: &[Shared], after: SProc) -> Result<SProc, NoMemory>
+    ensures { IfOk result (λ p. proc_of p ≡ sharing (map shared_of shared.now) (proc_of after)) }
 {
-    let mut process = then;
+    let mut process = after;
     for at in (0..shared.len()).rev() {
         let Shared { name, ty, span } = &shared[at];
         process = Form::before(alloc, process, *span)?.new(name, ty)?;
@@ -82,49 +82,37 @@ pub fn sharing(alloc: Global, shared: &[Shared], then: SProc) -> Result<SProc, N
     Ok(process)
 }
 
-// One role and more, beside one another.
-fn roles_beside(
+/// One role and more, beside one another, `whole` in the place of a `Seq`.
+pub fn roles_beside(
     alloc: Global,
     lines: &[Line],
     first: &SWord,
     more: &[SWord],
+    whole: bool,
 ) -> Result<SProc, NoMemory>
-    ensures { IfOk result (λ p. proc_of p ≡ roles_beside (map line_of lines.now) first.now more.now) }
+    ensures { IfOk result
+        (λ p. proc_of p
+        ≡ (if whole then roles_together (map line_of lines.now) (first.now ∷ more.now)
+        else roles_beside (map line_of lines.now) first.now more.now)) }
 {
-    match more.split_first() {
-        None => role_process(alloc, first, lines),
-        Some((next, rest)) => {
-            let after = Box::new(alloc, roles_beside(alloc, lines, next, rest)?)?;
-            let process = role_process(alloc, first, lines)?;
-            Ok(SProc::Par {
-                first: Box::new(alloc, process)?,
-                rest: after,
-                span: first.span,
-            })
-        }
-    }
-}
-
-/// The roles beside one another, in the place of a `Seq`.
-pub fn roles_together(
-    alloc: Global,
-    lines: &[Line],
-    first: &SWord,
-    more: &[SWord],
-) -> Result<SProc, NoMemory>
-    ensures { IfOk result (λ p. proc_of p ≡ roles_together (map line_of lines.now) (first.now ∷ more.now)) }
-{
-    match more.split_first() {
-        None => role_process(alloc, first, lines),
-        Some((next, rest)) => {
-            let after = Box::new(alloc, roles_beside(alloc, lines, next, rest)?)?;
-            let process = role_process(alloc, first, lines)?;
-            Ok(SProc::Group {
-                first: Box::new(alloc, process)?,
-                rest: after,
-                span: first.span,
-            })
-        }
+    let Some((next, others)) = more.split_first() else {
+        return role_process(alloc, first, lines);
+    };
+    let rest = Box::new(alloc, roles_beside(alloc, lines, next, others, false)?)?;
+    let process = Box::new(alloc, role_process(alloc, first, lines)?)?;
+    let span = first.span;
+    if whole {
+        Ok(SProc::Group {
+            first: process,
+            rest,
+            span,
+        })
+    } else {
+        Ok(SProc::Par {
+            first: process,
+            rest,
+            span,
+        })
     }
 }
 

@@ -7,7 +7,7 @@ ghost use Rattle.spi_weave.specs.Woven.{woven};
 
 use crate::NoMemory;
 use crate::copies::declarations;
-use crate::roles::{last_span, roles_together, sharing};
+use crate::roles::{last_span, roles_beside, sharing};
 use spi_narrate::Narration;
 use spi_tree::{SProc, Tree};
 use std::alloc::Global;
@@ -17,7 +17,7 @@ use std::alloc::Global;
 pub fn weave(alloc: Global, n: &Narration) -> Result<Tree, NoMemory>
     ensures { IfOk result (λ tree. file_of tree ≡ woven (narration_of n.now)) }
 {
-    let roles = roles_together(alloc, &n.lines, &n.first, &n.more)?;
+    let roles = roles_beside(alloc, &n.lines, &n.first, &n.more, true)?;
     let process = sharing(alloc, &n.shared, roles)?;
     Ok(Tree {
         version: n.version,

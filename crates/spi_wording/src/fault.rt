@@ -9,7 +9,7 @@ use crate::paid::{help_atom, note_origins};
 use crate::terms::{Names, quote_atom, quote_message, quote_name};
 use spi_explain::{Answer, blames};
 use spi_fault::{Fault, Reason, Shown};
-use spi_term::{Atom, Form, Msg, Ty, free_in};
+use spi_term::{Atom, Form, Msg, free_in};
 use spi_text::Span;
 
 /// The word that a form begins with.

@@ -15,8 +15,7 @@ use Rattle.spi_scope.specs.Meaning.{name_meant, message_in, messages_in, atom_in
 use Rattle.spi_scope.specs.Points.{message_points, messages_points, atom_points, atoms_points, type_points, fields_points, last_points, msg_nodes, type_nodes, whole_type, part, message_head, messages_head, typed_head, new_head, tested_head, split_head, match_head, process_points, free_points}
 use Rattle.spi_scope.specs.State.{row_nodes, type_row_nodes}
 use Rattle.spi_scope.proofs.Tuples.{nested_nodes, nested_types_nodes}
-use Rattle.spi_edits.specs.Edits.{Edit as Written}
-use Rattle.spi_edits.specs.Edits.{puts, drops, Bench}
+use Rattle.spi_edits.specs.Edits.{Edit as Written, puts, drops, Bench}
 use Rattle.spi_edits.specs.Views.{edit_of}
 use Rattle.spi_edits.specs.declared.text.Edit.{Edit}
 use Rattle.spi_workbench.specs.Reading.{abbreviations_of, part_names}

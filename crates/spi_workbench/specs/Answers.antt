@@ -1,6 +1,5 @@
 -- What a bench answers: the first refusal, or a verdict for each edit.
-use Rattle.std.specs.Prelude.{◌≡◌, ◌↔◌, ℕ, ◌<◌, ◌≤◌, Some, None, IsSome, Bool, IsTrue, ⊤}
-use Rattle.std.specs.Prelude.{List, [], ◌∷◌, ◌++◌, length, slice_get}
+use Rattle.std.specs.Prelude.{◌≡◌, ◌↔◌, ℕ, ◌<◌, ◌≤◌, Some, None, IsSome, Bool, IsTrue, ⊤, List, [], ◌∷◌, ◌++◌, length, slice_get}
 use Rattle.spi_text.specs.declared.lines.Span.{Span}
 use Rattle.spi_tree.specs.declared.tree.SWord.{SWord}
 use Rattle.spi_tree.specs.Trees as t
@@ -12,8 +11,7 @@ use Rattle.spi_edits.specs.Edits.{Edit, puts, drops, Bench}
 use Rattle.spi_workbench.specs.Reading.{file_with, heading_file, parts_after, bench_after}
 use Rattle.spi_workbench.specs.Counting.{bench_nodes}
 use Rattle.spi_workbench.specs.declared.answer.Refusal.{Refusal}
-use Rattle.spi_workbench.specs.declared.answer.Refusal.TheVariants.{TooManyShared, Scope, TooManyEdits}
-use Rattle.spi_workbench.specs.declared.answer.Refusal.TheVariants.{UnknownPart, BenchTooLarge}
+use Rattle.spi_workbench.specs.declared.answer.Refusal.TheVariants.{TooManyShared, Scope, TooManyEdits, UnknownPart, BenchTooLarge}
 use Rattle.spi_workbench.specs.declared.answer.Verdicts.{Verdicts}
 use Rattle.spi_workbench.specs.declared.answer.Answer.{Answer}
 use Rattle.spi_workbench.specs.declared.answer.Answer.TheVariants.{Judged, Refused}

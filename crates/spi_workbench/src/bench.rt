@@ -1,6 +1,6 @@
 //! A bench before any edit, and its edits up to the first that is refused.
 
-ghost use Rattle.std.specs.Prelude.{◌≡◌, ◌<◌, ◌≤◌, ℕ, [], length, map, IfOk, IfErr};
+ghost use Rattle.std.specs.Prelude.{◌≡◌, ◌<◌, ◌≤◌, ℕ, [], length, IfOk, IfErr};
 ghost use Rattle.spi_tree.specs.Trees as t;
 ghost use Rattle.spi_tree.specs.Views.{file_of};
 ghost use Rattle.spi_scope.specs.StandsFor.{StandsFor};

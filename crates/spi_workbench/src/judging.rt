@@ -1,6 +1,6 @@
 //! An edit after another.
 
-ghost use Rattle.std.specs.Prelude.{◌≡◌, ◌≤◌, ◌+◌, List, length, map, IfOk, IfErr, OnOk};
+ghost use Rattle.std.specs.Prelude.{◌≡◌, List, map, IfOk, IfErr, OnOk};
 ghost use Rattle.spi_text.specs.declared.lines.Span.{Span as Place};
 ghost use Rattle.spi_tree.specs.Trees as t;
 ghost use Rattle.spi_tree.specs.Views.{proc_of, file_of};

@@ -31,8 +31,7 @@ pub fn message_nodes(m: &SMsg) -> u64
     ensures { result ≡ stopped (msg_size (msg_of m.now)) }
 {
     match m {
-        SMsg::Name { .. } => 1,
-        SMsg::Unit { .. } => 1,
+        SMsg::Name { .. } | SMsg::Unit { .. } | SMsg::Num { .. } => 1,
         SMsg::Tuple {
             first,
             second,
@@ -46,7 +45,6 @@ pub fn message_nodes(m: &SMsg) -> u64
         SMsg::Inr { part, .. } => one_more(message_nodes(part)),
         SMsg::Enc { body, key, .. } => one_over(message_nodes(body), message_nodes(key)),
         SMsg::Hash { part, .. } => one_more(message_nodes(part)),
-        SMsg::Num { .. } => 1,
     }
 }
 
@@ -98,8 +96,7 @@ pub fn type_nodes(sizes: &Sizes, t: &STy) -> u64
     ensures { result ≡ stopped (ty_size (nodes_in_words sizes.now) (ty_of t.now)) }
 {
     match t {
-        STy::Un { .. } => 1,
-        STy::Unit { .. } => 1,
+        STy::Un { .. } | STy::Unit { .. } => 1,
         STy::Tuple {
             first,
             more,
@@ -119,7 +116,8 @@ pub fn type_nodes(sizes: &Sizes, t: &STy) -> u64
 /// Components of a tuple type, with a pair for each.
 #[cycle(types)]
 fn fields_nodes(sizes: &Sizes, fs: &[SField]) -> u64
-    ensures { result ≡ stopped (fields_size (nodes_in_words sizes.now) (fields_of_list (map field_of fs.now))) }
+    ensures { result
+        ≡ stopped (fields_size (nodes_in_words sizes.now) (fields_of_list (map field_of fs.now))) }
 {
     let mut total: u64 = 0;
     for f in fs {
@@ -147,7 +145,8 @@ fn paired_nodes(m: &SMsg, n: &SMsg) -> u64
 
 /// A message and an annotation under one node.
 fn typed_nodes(sizes: &Sizes, m: &SMsg, t: &STy) -> u64
-    ensures { result ≡ stopped (1 + (msg_size (msg_of m.now) + ty_size (nodes_in_words sizes.now) (ty_of t.now))) }
+    ensures { result
+        ≡ stopped (1 + (msg_size (msg_of m.now) + ty_size (nodes_in_words sizes.now) (ty_of t.now))) }
 {
     one_over(message_nodes(m), type_nodes(sizes, t))
 }

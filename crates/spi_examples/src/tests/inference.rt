@@ -1,15 +1,12 @@
 // Inference by example.
 
-ghost use Rattle.std.specs.Prelude.{◌≡◌, ◌<◌};
-
 use super::samples::{BEGINS, MISSING, NoMemory, Question, each};
-use spi_infer::{Inferred, Steps, effect_at, infer, infer_in, reached};
-use spi_message::Judge;
+use spi_infer::{Inferred, effect_at, infer, infer_over, reached};
 use spi_scope::File;
-use spi_term::{Effect, Process};
+use spi_term::Effect;
 use std::alloc::Global;
 use std::marker::Brand;
-use std::sync::ledger::{Blank, Ledger};
+use std::sync::ledger::Blank;
 
 /// What is asked of a process, and at its node 1.
 #[derive(Clone, Copy)]
@@ -28,22 +25,6 @@ fn number_of(inferred: &Inferred) -> u64 {
     }
 }
 
-fn infer_counted<L: Ledger>(
-    alloc: Global,
-    process: &Process,
-    blank: Blank,
-) -> Result<Inferred, NoMemory>
-    requires name { blank.name ≡ L.name }
-    requires parts { blank.parts ≡ L.parts }
-    requires some { 0 < blank.parts }
-{
-    let _ = process.len();
-    let mut steps = Steps::<L>::new(blank);
-    steps.tick();
-    let mut judge = Judge::new(alloc, process.names())?;
-    infer_in(alloc, &mut judge, process, &mut steps)
-}
-
 fn atoms_in(effect: Option<Effect>) -> u64 {
     match effect {
         Some(effect) => effect.atoms.len() as u64,
@@ -60,7 +41,7 @@ impl Question for OfProcesses {
         match self {
             OfProcesses::Inferred => Ok(number_of(&infer(alloc, process)?)),
             OfProcesses::Counted => {
-                let inferred = infer_counted::<Brand>(alloc, process, Blank::new(1))?;
+                let inferred = infer_over::<Brand>(alloc, process, Blank::new(1))?;
                 Ok(number_of(&inferred))
             }
             OfProcesses::Reached => Ok(reached(alloc, process, 1)?.len() as u64),

@@ -6,7 +6,7 @@ use super::samples::{
 use spi_scope::File;
 use spi_show::show_message;
 use spi_term::{
-    Form, Msg, Node, Process, Ty, free_in, free_in_type, is_same_type, nodes, opened, put_in,
+    Form, Node, Process, Ty, free_in, free_in_type, is_same_type, nodes, opened, put_in,
     same_message, same_type, type_nodes,
 };
 use std::alloc::Global;

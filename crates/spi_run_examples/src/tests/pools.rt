@@ -1,7 +1,5 @@
 // Pools by example.
 
-ghost use Rattle.std.specs.Prelude.{◌≡◌};
-
 use super::processes::{begins_twice, makes_a_name, repeats, stops};
 use spi_replay::{Pool, StepFault};
 use spi_run::Step;

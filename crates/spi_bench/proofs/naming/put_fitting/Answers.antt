@@ -1,6 +1,7 @@
-use Rattle.std.proofs.Common.{◌≡◌, Some, None}
+use Rattle.std.proofs.Common.{◌≡◌, [], ◌∷◌, ◌++◌, refl, ap, ◌∙◌, Some, None, slice_set}
 use Rattle.std.specs.Str.{bytes_eq}
 use Rattle.indexmap.specs.IndexMap.{get}
+use Rattle.spi_bench.specs.declared.slot.Slot.{Slot}
 use Rattle.spi_bench.proofs.Placing.{stands_within, puts_there, puts_last, stays_padded, other_text, lookup_same}
 use Rattle.spi_bench.proofs.naming.put_fitting.Goals as goal
 
@@ -17,8 +18,11 @@ returns-in-Some-clause-ok c =
 pub returns-in-Ok-clause-ok : goal.returns-in-Ok-clause-ok
 returns-in-Ok-clause-ok c =
     let e : get bytes_eq c.args.places.now c.args.name.now ≡ None = cc (c.get.ensures.value, c.copied.ensures, c.in-None.is) in
-    puts_last c.args.name.now c.args.part c.args.least c.args.table.now.slots.items c.put_new.new.table.slots.items (get bytes_eq c.args.places.now) (get bytes_eq c.put_new.new.places) c.requires.places e c.in-Ok.ensures.set c.in-Ok.ensures.placed.1 (λ m d. c.in-Ok.ensures.placed.2 m (other_text c.args.name.now m d))
+    let old = c.args.table.now.slots.items in
+    let t : Slot = record { name = c.in-Ok.name; part = c.args.part; least = c.args.least } in
+    let last = c.set.ensures.after ∙ ap (λ l. slice_set l c.in-Ok.at (Some t)) c.in-Ok.ensures.slots ∙ ap (λ i. slice_set (old ++ None ∷ []) i (Some t)) c.in-Ok.ensures.at in
+    puts_last c.args.name.now c.args.part c.args.least t old c.set.new.self.slots.items (get bytes_eq c.args.places.now) (get bytes_eq c.new_place.new.places) c.requires.places e c.in-Ok.ensures.name refl refl last c.in-Ok.ensures.placed.1 (λ m d. c.in-Ok.ensures.placed.2 m (other_text c.args.name.now m d))
 
 pub returns-in-Err-clause-err : goal.returns-in-Err-clause-err
 returns-in-Err-clause-err c =
-    stays_padded c.args.table.now.slots.items c.put_new.new.table.slots.items (get bytes_eq c.args.places.now) (get bytes_eq c.put_new.new.places) c.requires.places (lookup_same c.args.places.now c.put_new.new.places c.in-Err.ensures.unchanged) c.in-Err.ensures.padded
+    stays_padded c.args.table.now.slots.items c.new_place.new.table.slots.items (get bytes_eq c.args.places.now) (get bytes_eq c.new_place.new.places) c.requires.places (lookup_same c.args.places.now c.new_place.new.places c.in-Err.ensures.unchanged) c.new_place.ensures.padded

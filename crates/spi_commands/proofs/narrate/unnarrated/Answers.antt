@@ -8,13 +8,13 @@ use Rattle.spi_commands.proofs.narrate.unnarrated.Goals as goal
 
 pub returns-in-Syntax : goal.returns-in-Syntax
 returns-in-Syntax c =
-    unread_as (RefusesNarrate c.args.bytes.now) 20 _ [] c.unspelled.result (inr (inl (syntax c.requires.within c.requires.lexed (rw c.in-Syntax.is at c.requires.fails))))
-    (rw c.start.ensures at c.unspelled.ensures)
+    unread_as (RefusesNarrate c.args.bytes.now) 20 _ [] c.unparsed.result (inr (inl (syntax c.requires.within c.requires.lexed (rw c.in-Syntax.is at c.requires.fails))))
+    c.unparsed.ensures
 
 pub returns-in-TooDeep : goal.returns-in-TooDeep
 returns-in-TooDeep c =
-    unread_as (RefusesNarrate c.args.bytes.now) 21 _ [] c.unspelled-in-TooDeep.result (inr (inl (too_deep c.requires.within c.requires.lexed (rw c.in-TooDeep.is at c.requires.fails))))
-    (rw c.start-in-TooDeep.ensures at c.unspelled-in-TooDeep.ensures)
+    unread_as (RefusesNarrate c.args.bytes.now) 21 _ [] c.unparsed-in-TooDeep.result (inr (inl (too_deep c.requires.within c.requires.lexed (rw c.in-TooDeep.is at c.requires.fails))))
+    c.unparsed-in-TooDeep.ensures
 
 pub returns-in-UnknownRole : goal.returns-in-UnknownRole
 returns-in-UnknownRole c =

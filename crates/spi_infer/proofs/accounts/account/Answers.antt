@@ -1,19 +1,16 @@
 use Rattle.std.proofs.Common.{◌-◌, sym, ◌∙◌, arith}
-use Rattle.spi_term.specs.Spelling.{spelled}
 use Rattle.spi_term.specs.View.{shape_of}
 use Rattle.spi_term.proofs.Numbers.{small_node}
-use Rattle.spi_infer.proofs.Walked.{nodes_within_count, notes_for_each, at_from, note_given, tops_after, stuck_at, stuck_here, stuck_later, starts, starts_stuck}
+use Rattle.spi_infer.proofs.Walked.{notes_for_each, at_from, note_given, tops_after, stuck_at, stuck_here, stuck_later, starts, starts_stuck}
 use Rattle.spi_infer.proofs.Ending.{ends_with, ends_stuck, ends_not_empty}
 use Rattle.spi_infer.proofs.accounts.account.Goals as goal
 
 pub loop-id-init : goal.loop-id-init
-loop-id-init c =
-    let w = nodes_within_count c.args.process.now.names c.args.process.now.process c.len-id.ensures.nodes in
-    record {
-      within = omega (arith, c.requires.from, c.len-id.ensures.nodes);
-      stack_is = λ env h. starts c.args.store.now c.args.noted.now.keys (spelled c.args.process.now.names c.args.process.now.process) _ c.len-id.result c.new-stack.result.items w c.new-stack.ensures.items;
-      stuck_is = λ env h. starts_stuck (spelled c.args.process.now.names c.args.process.now.process) _ c.len-id.result w;
-    }
+loop-id-init c = record {
+  within = omega (arith, c.requires.from, c.len-id.ensures.nodes);
+  stack_is = λ env h. starts c.args.store.now c.args.noted.now.keys c.args.process.now.names c.args.process.now.process _ c.len-id.result c.new-stack.result.items c.len-id.ensures.nodes c.new-stack.ensures.items;
+  stuck_is = λ env h. starts_stuck c.args.process.now.names c.args.process.now.process _ c.len-id.result c.len-id.ensures.nodes;
+}
 
 pub index-note-requires : goal.index-note-requires
 index-note-requires c =

@@ -28,12 +28,12 @@ returns-in-Some-stuck-clause-answer g c env h =
     let p = c.args.process.now in
     let a = (goal.at.returns-in-Some-stuck-clause-answer g c).In_ok-effect in
     let none = subst (IsLeast env p.process) c.in-None.is (least_is g a env h) in
-    (none, blocks_first p.names p.process env (names_are g a env h) c.len.ensures.over none c.in_ok-effect.stuck (c.in_ok-effect.ensures.stuck env h) c.in-Some-stuck.id c.in-Some-stuck.is)
+    (none, blocks_first p.names p.process env (names_are g a env h) c.in_ok-effect.ensures.over none c.in_ok-effect.stuck (c.in_ok-effect.ensures.stuck env h) c.in-Some-stuck.id c.in-Some-stuck.is)
 
 pub unreachable-requires : goal.unreachable-requires
 unreachable-requires g c =
     let p = c.args.process.now in
-    let j = c.stands_for_one.ensures in
+    let j = c.in_ok-effect.ensures.judge in
     let a = (goal.at.unreachable-requires g c).In_ok-effect in
     let none = subst (IsLeast j.env p.process) c.in-None.is (least_is g a j.env j.stands) in
-    block_found p.names p.process j.env (names_are g a j.env j.stands) c.len.ensures.over none c.in_ok-effect.stuck (c.in_ok-effect.ensures.stuck j.env j.stands) c.in-None-stuck.is
+    block_found p.names p.process j.env (names_are g a j.env j.stands) c.in_ok-effect.ensures.over none c.in_ok-effect.stuck (c.in_ok-effect.ensures.stuck j.env j.stands) c.in-None-stuck.is

@@ -1,15 +1,19 @@
 use Rattle.std.proofs.Common.{ap}
 use Rattle.spi_term.specs.View.{shape_of, shape_of_form}
-use Rattle.spi_infer.proofs.Kept.{fits_at, quiet_fits, quiet_rest}
+use Rattle.spi_count.proofs.Kept.{grows_store}
+use Rattle.spi_infer.proofs.Kept.{begin_fits, fits_at, quiet_fits, quiet_rest}
 use Rattle.spi_infer.proofs.keeping.own_of.Goals as goal
 
 pub returns-in-Check-clause-fits : goal.returns-in-Check-clause-fits
 returns-in-Check-clause-fits c =
     fits_at c.args.judge.now c.check_own.new.judge c.check_own.new.keys (shape_of c.args.node.now) (ap (shape_of_form c.args.node.now.scope) c.in-Check.is) c.check_own.result c.check_own.ensures.fits (λ own f e s. f e s)
 
-pub returns-in-Begin-clause-fits : goal.returns-in-Begin-clause-fits
-returns-in-Begin-clause-fits c =
-    fits_at c.args.judge.now c.begin_own.new.judge c.begin_own.new.keys (shape_of c.args.node.now) (ap (shape_of_form c.args.node.now.scope) c.in-Begin.is) c.begin_own.result c.begin_own.ensures.fits (λ own f e s. f)
+pub returns-in_ok-id-in-Begin-clause-fits : goal.returns-in_ok-id-in-Begin-clause-fits
+returns-in_ok-id-in-Begin-clause-fits c =
+    begin_fits _ _ _ _ c.in_ok-id-in-Begin.id (ap (shape_of_form c.args.node.now.scope) c.in-Begin.is) c.in_ok-id-in-Begin.ensures.at
+
+pub returns-in_ok-id-in-Begin-clause-grows : goal.returns-in_ok-id-in-Begin-clause-grows
+returns-in_ok-id-in-Begin-clause-grows c = grows_store c.in_ok-id-in-Begin.ensures.kept.store c.requires.keys
 
 pub returns-in-End-clause-fits : goal.returns-in-End-clause-fits
 returns-in-End-clause-fits c =

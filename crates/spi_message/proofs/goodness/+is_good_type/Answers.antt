@@ -1,8 +1,6 @@
-use Rattle.std.proofs.Common.{◌≡◌, arith, ap, sym, subst, ◌∙◌, ◌++◌, ◌∷◌, [], Some, length}
-use Rattle.spi_term.specs.Term.{name}
+use Rattle.std.proofs.Common.{arith, ap, sym, subst, ◌∙◌, ◌++◌, ◌∷◌, [], length}
 use Rattle.spi_message.specs.Filling.{AreIdsBelow, FillsTy}
 use Rattle.spi_intern.specs.Messages.{says_name}
-use Rattle.spi_intern.specs.Growing.{Adds, over_messages}
 use Rattle.spi_message.specs.Added.{TypeIsAdded}
 use Rattle.spi_intern.proofs.Meanings.{terms_more}
 use Rattle.spi_message.proofs.Fills.{all_below_keeps}
@@ -47,9 +45,8 @@ returns-in_ok-push-in-Pair-2-clause-answer t c =
     let a = c.in_ok-is_good_type-in-Pair.ensures in
     let n = c.in_ok-name-in-Pair.ensures in
     let o = c.in_ok-outer-in-Pair.ensures in
-    let count : c.len-count.result ≡ length c.args.env.now.items = c.len-count.ensures ∙ c.is_good_type.new.env.ok.0 ∙ ap length a.names in
     let fills = subst (λ us. FillsTy c.message_over.new.self c.filled_type.new.store us 0 c.in-Pair.first c.in_ok-outer-in-Pair.outer) (c.deref.ensures.value ∙ a.values) o.at in
-    pair_good c.in_ok-name-in-Pair.name (pair_ty_of c.in-Pair.ensures c.requires.given) a.answer c.if-not-branch.false a.kept c.requires.values n.kept (n.at _ says_name ∙ ap (λ x. Some (name x)) count) o.kept fills (c.in_ok-push-in-Pair-2.ensures.items ∙ ap (λ is. is ++ c.in_ok-outer-in-Pair.outer ∷ []) a.names) (c.in_ok-push-in-Pair.ensures.items ∙ ap (λ us. us ++ c.in_ok-name-in-Pair.name ∷ []) a.values) c.is_good_type-answer.result c.is_good_type-answer.ensures.answer
+    pair_good c.in_ok-name-in-Pair.name (pair_ty_of c.in-Pair.ensures c.requires.given) a.answer c.if-not-branch.false a.kept c.requires.values n.kept (n.at _ says_name) (c.len-count.ensures ∙ c.is_good_type.new.env.ok.0 ∙ ap length a.names) o.kept fills (c.in_ok-push-in-Pair-2.ensures.items ∙ ap (λ is. is ++ c.in_ok-outer-in-Pair.outer ∷ []) a.names) (c.in_ok-push-in-Pair.ensures.items ∙ ap (λ us. us ++ c.in_ok-name-in-Pair.name ∷ []) a.values) c.is_good_type-answer.result c.is_good_type-answer.ensures.answer
 
 pub is_good_type-requires-in-Sum : goal.is_good_type-requires-in-Sum
 is_good_type-requires-in-Sum t c =
@@ -118,9 +115,7 @@ returns-in_ok-push-in-Pair-2-clause-adds t c =
     let a = c.in_ok-is_good_type-in-Pair.ensures in
     let n = c.in_ok-name-in-Pair.ensures in
     let o = c.in_ok-outer-in-Pair.ensures in
-    let count : c.len-count.result ≡ length c.args.env.now.items = c.len-count.ensures ∙ c.is_good_type.new.env.ok.0 ∙ ap length a.names in
     let values = c.deref.ensures.value ∙ a.values in
     let fills = subst (λ us. FillsTy c.message_over.new.self c.filled_type.new.store us 0 c.in-Pair.first c.in_ok-outer-in-Pair.outer) values o.at in
     let added = subst (λ us. TypeIsAdded c.message_over.new.self c.filled_type.new.store us 0 c.in-Pair.first) values o.adds in
-    let named = subst (λ x. Adds c.is_good_type.new.store c.message_over.new.self (over_messages (name x))) count (n.adds _ says_name) in
-    on_ok c.is_good_type-answer.result (pair_examined c.in_ok-name-in-Pair.name (pair_ty_of c.in-Pair.ensures c.requires.given) a.adds a.kept c.requires.values n.kept (n.at _ says_name ∙ ap (λ x. Some (name x)) count) named o.kept fills added (c.in_ok-push-in-Pair-2.ensures.items ∙ ap (λ is. is ++ c.in_ok-outer-in-Pair.outer ∷ []) a.names) (c.in_ok-push-in-Pair.ensures.items ∙ ap (λ us. us ++ c.in_ok-name-in-Pair.name ∷ []) a.values)) c.is_good_type-answer.ensures.adds
+    on_ok c.is_good_type-answer.result (pair_examined c.in_ok-name-in-Pair.name (pair_ty_of c.in-Pair.ensures c.requires.given) a.adds a.kept c.requires.values n.kept (n.at _ says_name) (c.len-count.ensures ∙ c.is_good_type.new.env.ok.0 ∙ ap length a.names) (n.adds _ says_name) o.kept fills added (c.in_ok-push-in-Pair-2.ensures.items ∙ ap (λ is. is ++ c.in_ok-outer-in-Pair.outer ∷ []) a.names) (c.in_ok-push-in-Pair.ensures.items ∙ ap (λ us. us ++ c.in_ok-name-in-Pair.name ∷ []) a.values)) c.is_good_type-answer.ensures.adds

@@ -1,9 +1,9 @@
-use Rattle.std.proofs.Common.{arith, sym, ap, subst, IfOk, OnOk, List, ◌∙◌, ◌++◌, ◌∷◌, []}
+use Rattle.std.proofs.Common.{arith, refl, sym, ap, subst, IfOk, OnOk, List, ◌∙◌, ◌++◌, ◌∷◌, []}
 use Rattle.spi_intern.specs.declared.messages.MsgId.{MsgId}
 use Rattle.spi_term.specs.Term.{Message, name}
 use Rattle.spi_intern.specs.Messages.{message_at}
 use Rattle.spi_intern.specs.Parts.{PartOf, whole, of_first, of_left, of_right, of_hash}
-use Rattle.spi_intern.proofs.Meanings.{means_keeps, terms_more}
+use Rattle.spi_intern.proofs.Meanings.{means_keeps, terms_same, terms_more}
 use Rattle.spi_message.specs.Asking.{IsTyped}
 use Rattle.spi_message.specs.Tests.{labelled}
 use Rattle.spi_intern.proofs.Sized.{pair_of, enc_of, left_of, right_of, hash_of, bound_of, name_of, unit_of}
@@ -30,14 +30,14 @@ has_type-is_sealed-requires t c = let w = enc_of _ _ c.in-Enc.ensures c.requires
 pub has_type-is_label-requires : goal.has_type-is_label-requires
 has_type-is_label-requires t c = let w = hash_of _ _ c.in-Hash.ensures c.requires.message in (omega (arith, w.size, c.decreases), (w.part, c.requires.asked.names))
 
-pub has_type-returns-in-Bound-clause-answer : goal.has_type-returns-in-Bound-clause-answer
-has_type-returns-in-Bound-clause-answer t c = bound_untyped (sym (bound_of _ _ c.in-Bound.ensures c.requires.message))
+pub has_type-returns-in-Bound : goal.has_type-returns-in-Bound
+has_type-returns-in-Bound t c = record { answer = bound_untyped (sym (bound_of _ _ c.in-Bound.ensures c.requires.message)); adds = no_typing; kept = terms_same _; values = refl }
 
 pub has_type-returns-in-Name-clause-answer : goal.has_type-returns-in-Name-clause-answer
 has_type-returns-in-Name-clause-answer t c = typed_as _ _ _ _ (name_of _ _ c.in-Name.ensures c.requires.message) c.name_has_type.result (subst (λ us. IfOk c.name_has_type.result (IsTyped c.args.store.now c.args.env.now (name c.in-Name.x) c.args.t us)) c.deref.ensures.value c.name_has_type.ensures.answer)
 
-pub has_type-returns-in-Unit-clause-answer : goal.has_type-returns-in-Unit-clause-answer
-has_type-returns-in-Unit-clause-answer t c = unit_typed (sym (unit_of _ _ c.in-Unit.ensures c.requires.message)) c.is_unit_type.result c.is_unit_type.ensures
+pub has_type-returns-in-Unit : goal.has_type-returns-in-Unit
+has_type-returns-in-Unit t c = record { answer = unit_typed (sym (unit_of _ _ c.in-Unit.ensures c.requires.message)) c.is_unit_type.result c.is_unit_type.ensures; adds = no_typing; kept = terms_same _; values = refl }
 
 pub has_type-returns-in-Pair-clause-answer : goal.has_type-returns-in-Pair-clause-answer
 has_type-returns-in-Pair-clause-answer t c = typed_as _ _ _ _ ((pair_of _ _ c.in-Pair.ensures c.requires.message).is) c.pair_has_type.result c.pair_has_type.ensures.answer
@@ -78,32 +78,32 @@ is_label-is_label-requires-then-branch t c =
 pub is_label-is_label-requires-in-Inl : goal.is_label-is_label-requires-in-Inl
 is_label-is_label-requires-in-Inl t c = let w = left_of _ _ c.in-Inl.ensures c.requires.message in (omega (arith, w.size, c.decreases), (w.part, c.requires.names))
 
-pub is_label-returns-in-Inl-clause-answer : goal.is_label-returns-in-Inl-clause-answer
-is_label-returns-in-Inl-clause-answer t c = let q = (left_of _ _ c.in-Inl.ensures c.requires.message).is in part_labelled _ _ (message_at c.args.store.now.messages c.args.m) (message_at c.args.store.now.messages c.in-Inl.a) (λ e. ap (λ n. labelled n e) (sym q)) c.is_label-in-Inl.result c.is_label-in-Inl.ensures.answer
+pub is_label-returns-in-Inl : goal.is_label-returns-in-Inl
+is_label-returns-in-Inl t c = let q = (left_of _ _ c.in-Inl.ensures c.requires.message).is in record { answer = part_labelled _ _ (message_at c.args.store.now.messages c.args.m) (message_at c.args.store.now.messages c.in-Inl.a) (λ e. ap (λ n. labelled n e) (sym q)) c.is_label-in-Inl.result c.is_label-in-Inl.ensures.answer; adds = on_ok c.is_label-in-Inl.result (part_label (subst (PartOf _) q (of_left whole))) c.is_label-in-Inl.ensures.adds; kept = c.is_label-in-Inl.ensures.kept }
 
 pub is_label-is_label-requires-in-Inr : goal.is_label-is_label-requires-in-Inr
 is_label-is_label-requires-in-Inr t c = let w = right_of _ _ c.in-Inr.ensures c.requires.message in (omega (arith, w.size, c.decreases), (w.part, c.requires.names))
 
-pub is_label-returns-in-Inr-clause-answer : goal.is_label-returns-in-Inr-clause-answer
-is_label-returns-in-Inr-clause-answer t c = let q = (right_of _ _ c.in-Inr.ensures c.requires.message).is in part_labelled _ _ (message_at c.args.store.now.messages c.args.m) (message_at c.args.store.now.messages c.in-Inr.a) (λ e. ap (λ n. labelled n e) (sym q)) c.is_label-in-Inr.result c.is_label-in-Inr.ensures.answer
+pub is_label-returns-in-Inr : goal.is_label-returns-in-Inr
+is_label-returns-in-Inr t c = let q = (right_of _ _ c.in-Inr.ensures c.requires.message).is in record { answer = part_labelled _ _ (message_at c.args.store.now.messages c.args.m) (message_at c.args.store.now.messages c.in-Inr.a) (λ e. ap (λ n. labelled n e) (sym q)) c.is_label-in-Inr.result c.is_label-in-Inr.ensures.answer; adds = on_ok c.is_label-in-Inr.result (part_label (subst (PartOf _) q (of_right whole))) c.is_label-in-Inr.ensures.adds; kept = c.is_label-in-Inr.ensures.kept }
 
 pub is_label-is_label-requires-in-Hash : goal.is_label-is_label-requires-in-Hash
 is_label-is_label-requires-in-Hash t c = let w = hash_of _ _ c.in-Hash.ensures c.requires.message in (omega (arith, w.size, c.decreases), (w.part, c.requires.names))
 
-pub is_label-returns-in-Hash-clause-answer : goal.is_label-returns-in-Hash-clause-answer
-is_label-returns-in-Hash-clause-answer t c = let q = (hash_of _ _ c.in-Hash.ensures c.requires.message).is in part_labelled _ _ (message_at c.args.store.now.messages c.args.m) (message_at c.args.store.now.messages c.in-Hash.a) (λ e. ap (λ n. labelled n e) (sym q)) c.is_label-in-Hash.result c.is_label-in-Hash.ensures.answer
+pub is_label-returns-in-Hash : goal.is_label-returns-in-Hash
+is_label-returns-in-Hash t c = let q = (hash_of _ _ c.in-Hash.ensures c.requires.message).is in record { answer = part_labelled _ _ (message_at c.args.store.now.messages c.args.m) (message_at c.args.store.now.messages c.in-Hash.a) (λ e. ap (λ n. labelled n e) (sym q)) c.is_label-in-Hash.result c.is_label-in-Hash.ensures.answer; adds = on_ok c.is_label-in-Hash.result (part_label (subst (PartOf _) q (of_hash whole))) c.is_label-in-Hash.ensures.adds; kept = c.is_label-in-Hash.ensures.kept }
 
 pub is_label-is_sealed-requires : goal.is_label-is_sealed-requires
 is_label-is_sealed-requires t c = let w = enc_of _ _ c.in-Enc.ensures c.requires.message in (omega (arith, w.size, c.decreases), (w.first, (w.second, c.requires.names)))
 
-pub is_label-returns-in-Bound-clause-answer : goal.is_label-returns-in-Bound-clause-answer
-is_label-returns-in-Bound-clause-answer t c = bound_unlabelled (sym (bound_of _ _ c.in-Bound.ensures c.requires.message))
+pub is_label-returns-in-Bound : goal.is_label-returns-in-Bound
+is_label-returns-in-Bound t c = record { answer = bound_unlabelled (sym (bound_of _ _ c.in-Bound.ensures c.requires.message)); adds = no_label; kept = terms_same _ }
 
-pub is_label-returns-in-Name-clause-answer : goal.is_label-returns-in-Name-clause-answer
-is_label-returns-in-Name-clause-answer t c = name_labelled (sym (name_of _ _ c.in-Name.ensures c.requires.message))
+pub is_label-returns-in-Name : goal.is_label-returns-in-Name
+is_label-returns-in-Name t c = record { answer = name_labelled (sym (name_of _ _ c.in-Name.ensures c.requires.message)); adds = no_label; kept = terms_same _ }
 
-pub is_label-returns-in-Unit-clause-answer : goal.is_label-returns-in-Unit-clause-answer
-is_label-returns-in-Unit-clause-answer t c = unit_labelled (sym (unit_of _ _ c.in-Unit.ensures c.requires.message))
+pub is_label-returns-in-Unit : goal.is_label-returns-in-Unit
+is_label-returns-in-Unit t c = record { answer = unit_labelled (sym (unit_of _ _ c.in-Unit.ensures c.requires.message)); adds = no_label; kept = terms_same _ }
 
 pub is_label-returns-then-branch-clause-answer : goal.is_label-returns-then-branch-clause-answer
 is_label-returns-then-branch-clause-answer t c =
@@ -174,12 +174,6 @@ pair_has_type-returns-in_ok-answer-in-Pair-clause-answer t c =
 pub pair_has_type-returns-in_default-clause-answer : goal.pair_has_type-returns-in_default-clause-answer
 pair_has_type-returns-in_default-clause-answer t c = pair_untyped c.ty_part.ensures c.in_default.not-Un c.in_default.not-Pair
 
-pub has_type-returns-in-Bound-clause-adds : goal.has_type-returns-in-Bound-clause-adds
-has_type-returns-in-Bound-clause-adds t c = no_typing
-
-pub has_type-returns-in-Unit-clause-adds : goal.has_type-returns-in-Unit-clause-adds
-has_type-returns-in-Unit-clause-adds t c = no_typing
-
 pub has_type-returns-in-Name-clause-adds : goal.has_type-returns-in-Name-clause-adds
 has_type-returns-in-Name-clause-adds t c =
     let e = name_of _ _ c.in-Name.ensures c.requires.message in
@@ -217,30 +211,6 @@ has_type-returns-then-is_un_type-2-clause-adds t c =
 
 pub has_type-returns-else-is_un_type-2-clause-adds : goal.has_type-returns-else-is_un_type-2-clause-adds
 has_type-returns-else-is_un_type-2-clause-adds t c = no_typing
-
-pub is_label-returns-in-Bound-clause-adds : goal.is_label-returns-in-Bound-clause-adds
-is_label-returns-in-Bound-clause-adds t c = no_label
-
-pub is_label-returns-in-Name-clause-adds : goal.is_label-returns-in-Name-clause-adds
-is_label-returns-in-Name-clause-adds t c = no_label
-
-pub is_label-returns-in-Unit-clause-adds : goal.is_label-returns-in-Unit-clause-adds
-is_label-returns-in-Unit-clause-adds t c = no_label
-
-pub is_label-returns-in-Inl-clause-adds : goal.is_label-returns-in-Inl-clause-adds
-is_label-returns-in-Inl-clause-adds t c =
-    let e = (left_of _ _ c.in-Inl.ensures c.requires.message).is in
-    on_ok c.is_label-in-Inl.result (part_label (subst (PartOf _) e (of_left whole))) c.is_label-in-Inl.ensures.adds
-
-pub is_label-returns-in-Inr-clause-adds : goal.is_label-returns-in-Inr-clause-adds
-is_label-returns-in-Inr-clause-adds t c =
-    let e = (right_of _ _ c.in-Inr.ensures c.requires.message).is in
-    on_ok c.is_label-in-Inr.result (part_label (subst (PartOf _) e (of_right whole))) c.is_label-in-Inr.ensures.adds
-
-pub is_label-returns-in-Hash-clause-adds : goal.is_label-returns-in-Hash-clause-adds
-is_label-returns-in-Hash-clause-adds t c =
-    let e = (hash_of _ _ c.in-Hash.ensures c.requires.message).is in
-    on_ok c.is_label-in-Hash.result (part_label (subst (PartOf _) e (of_hash whole))) c.is_label-in-Hash.ensures.adds
 
 pub is_label-returns-in-Enc-clause-adds : goal.is_label-returns-in-Enc-clause-adds
 is_label-returns-in-Enc-clause-adds t c =

@@ -5,20 +5,18 @@ use Rattle.spi_term.proofs.Numbers.{small_node}
 use Rattle.spi_rules.specs.Environment.{Env}
 use Rattle.spi_infer.specs.Accounts.{IsNoted, Tops}
 use Rattle.spi_infer.specs.Passes.{act, run_notes, scan}
-use Rattle.spi_infer.proofs.Walked.{nodes_within_count, notes_for_each, at_from, note_here, note_given, before, acted, starts}
+use Rattle.spi_infer.proofs.Walked.{notes_for_each, at_from, note_here, note_given, before, acted, starts}
 use Rattle.spi_origin.specs.Gathering.{aim_of, at_top, with_node, joined_lists, gather, MarkedStacks}
 use Rattle.spi_origin.proofs.Gathered.{gathers_to}
 use Rattle.spi_origin.proofs.Stepping.{stepped, starts_marked}
 use Rattle.spi_origin.proofs.gathering.gathered_from.Goals as goal
 
 pub loop-id-init : goal.loop-id-init
-loop-id-init c =
-    let w = nodes_within_count c.args.process.now.names c.args.process.now.process c.len-id.ensures.nodes in
-    record {
-      within = omega (arith, c.requires.from, c.len-id.ensures.nodes);
-      stack_is = λ env h. starts c.args.store.now c.args.noted.now.keys (spelled c.args.process.now.names c.args.process.now.process) _ c.len-id.result c.new-stack.result.items w c.new-stack.ensures.items;
-      found_is = λ env h. starts_marked (aim_of c.args.aim.now) (spelled c.args.process.now.names c.args.process.now.process) _ c.len-id.result c.new-marks.result.items c.new-found.result.items w c.new-marks.ensures.items c.new-found.ensures.items;
-    }
+loop-id-init c = record {
+  within = omega (arith, c.requires.from, c.len-id.ensures.nodes);
+  stack_is = λ env h. starts c.args.store.now c.args.noted.now.keys c.args.process.now.names c.args.process.now.process _ c.len-id.result c.new-stack.result.items c.len-id.ensures.nodes c.new-stack.ensures.items;
+  found_is = λ env h. starts_marked (aim_of c.args.aim.now) c.args.process.now.names c.args.process.now.process _ c.len-id.result c.new-marks.result.items c.new-found.result.items c.len-id.ensures.nodes c.new-marks.ensures.items c.new-found.ensures.items;
+}
 
 pub index-note-requires : goal.index-note-requires
 index-note-requires c =

@@ -7,7 +7,7 @@ abbrev pub decreases-put_message : goal.decreases-put_message
 decreases-put_message l = 2 * message_size (message l.m.now)
 
 abbrev pub decreases-put_tuple : goal.decreases-put_tuple
-decreases-put_tuple l = 2 * message_size (message l.m.now) + 1
+decreases-put_tuple l = 2 * (message_size (message l.first.now) + message_size (message l.rest.now)) + 1
 
 abbrev pub decreases-put_worded : goal.decreases-put_worded
 decreases-put_worded l = 2 * message_size (message l.m.now) + 1

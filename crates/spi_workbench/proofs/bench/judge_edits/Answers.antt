@@ -1,4 +1,4 @@
-use Rattle.std.proofs.Common.{◌≡◌, ℕ, ◌≤◌, length, map, ap, subst, refl, sym, ◌∙◌, Some, slice_get, IfOk, IfErr, arith, []}
+use Rattle.std.proofs.Common.{◌≡◌, ◌≤◌, length, subst, refl, Some, slice_get, IfOk, arith, []}
 use Rattle.std.proofs.lemmas.List.{length-map}
 use Rattle.spi_heading.specs.Views.{shared_of}
 use Rattle.spi_scope.specs.First.{IsClean}

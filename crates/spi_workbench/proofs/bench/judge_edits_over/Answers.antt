@@ -1,9 +1,8 @@
-use Rattle.std.proofs.Common.{◌≡◌, ℕ, ◌≤◌, List, length, map, arith, subst, sym, ap, ◌∙◌, IfOk, IfErr}
-use Rattle.spi_edits.specs.declared.text.Edit.{Edit as Declared}
+use Rattle.std.proofs.Common.{◌≡◌, length, map, arith, subst, sym, IfOk, IfErr}
 use Rattle.spi_edits.specs.Edits.{Bench}
 use Rattle.spi_edits.specs.Views.{edit_of}
 use Rattle.spi_workbench.specs.Answers.{edit_span, RefusesEdits}
-use Rattle.spi_workbench.specs.Work.{StartsEdits, WorkStarts, StoodEdits, StoppedEdits}
+use Rattle.spi_workbench.specs.Work.{WorkStarts, StoodEdits, StoppedEdits}
 use Rattle.spi_workbench.specs.declared.answer.Refusal.TheVariants.{TooManyEdits}
 use Rattle.spi_workbench.proofs.Answering.{too_many, all_stood, one_stopped, starts_there, stood_there, stopped_there}
 use Rattle.spi_workbench.proofs.bench.judge_edits_over.Goals as goal

@@ -1,4 +1,4 @@
-use Rattle.std.proofs.Common.{◌≡◌, sym, ap, ◌∙◌, subst}
+use Rattle.std.proofs.Common.{sym, ◌∙◌, subst}
 use Rattle.spi_workbench.proofs.Stepping.{none_from, some_there, none_there, drop_next}
 use Rattle.spi_workbench.specs.Answers.{IsEditRefused}
 use Rattle.spi_workbench.specs.declared.answer.Refusal.TheVariants.{UnknownPart}

@@ -2,7 +2,6 @@ use Rattle.std.proofs.Common.{◌≡◌, map, take, drop}
 use Rattle.spi_edits.specs.Edits.{Bench}
 use Rattle.spi_edits.specs.Views.{edit_of}
 use Rattle.spi_workbench.specs.Work.{WorkStarts, StoodEdits}
-use Rattle.spi_workbench.proofs.judging.judge_all.Given.{Over}
 use Rattle.spi_workbench.proofs.judging.judge_all.Given as goal
 
 abbrev pub invariant-loop-i : goal.invariant-loop-i

@@ -1,4 +1,4 @@
-use Rattle.std.proofs.Common.{◌≤◌, length, ap, arith}
+use Rattle.std.proofs.Common.{length, ap, arith}
 use Rattle.spi_parse.proofs.Lexed.{kinds_fit}
 use Rattle.spi_parse.proofs.Counted.{few_tokens}
 use Rattle.spi_examples.proofs.tests.parts.parsed.Goals as goal

@@ -16,24 +16,14 @@ put-requires-in-Unit t c = says_unit
 pub put-requires-in-Pair : goal.put-requires-in-Pair
 put-requires-in-Pair t c = says_it (says_pair (c.in_ok-second-in-Pair.ensures.kept.at _ _ c.in_ok-first-in-Pair.ensures.at) c.in_ok-second-in-Pair.ensures.at)
 
-pub returns-in_ok-second-in-Pair-clause-grows : goal.returns-in_ok-second-in-Pair-clause-grows
-returns-in_ok-second-in-Pair-clause-grows t c =
-    let f = c.in_ok-second-in-Pair.ensures.kept.at _ _ c.in_ok-first-in-Pair.ensures.at in
-    grind (arith, f)
-
-pub returns-in_ok-second-in-Pair-clause-kept : goal.returns-in_ok-second-in-Pair-clause-kept
-returns-in_ok-second-in-Pair-clause-kept t c = keeps_more c.in_ok-first-in-Pair.ensures.kept (keeps_more c.in_ok-second-in-Pair.ensures.kept c.put-in-Pair.ensures.kept)
+pub returns-in_ok-second-in-Pair : goal.returns-in_ok-second-in-Pair
+returns-in_ok-second-in-Pair t c = let f = c.in_ok-second-in-Pair.ensures.kept.at _ _ c.in_ok-first-in-Pair.ensures.at in record { grows = grind (arith, f); at = grind (arith, f); kept = keeps_more c.in_ok-first-in-Pair.ensures.kept (keeps_more c.in_ok-second-in-Pair.ensures.kept c.put-in-Pair.ensures.kept); distinct = c.put-in-Pair.ensures.distinct }
 
 pub put-requires-in-Enc : goal.put-requires-in-Enc
 put-requires-in-Enc t c = says_it (says_enc (c.in_ok-key-in-Enc.ensures.kept.at _ _ c.in_ok-body-in-Enc.ensures.at) c.in_ok-key-in-Enc.ensures.at)
 
-pub returns-in_ok-key-in-Enc-clause-grows : goal.returns-in_ok-key-in-Enc-clause-grows
-returns-in_ok-key-in-Enc-clause-grows t c =
-    let f = c.in_ok-key-in-Enc.ensures.kept.at _ _ c.in_ok-body-in-Enc.ensures.at in
-    grind (arith, f)
-
-pub returns-in_ok-key-in-Enc-clause-kept : goal.returns-in_ok-key-in-Enc-clause-kept
-returns-in_ok-key-in-Enc-clause-kept t c = keeps_more c.in_ok-body-in-Enc.ensures.kept (keeps_more c.in_ok-key-in-Enc.ensures.kept c.put-in-Enc.ensures.kept)
+pub returns-in_ok-key-in-Enc : goal.returns-in_ok-key-in-Enc
+returns-in_ok-key-in-Enc t c = let f = c.in_ok-key-in-Enc.ensures.kept.at _ _ c.in_ok-body-in-Enc.ensures.at in record { grows = grind (arith, f); at = grind (arith, f); kept = keeps_more c.in_ok-body-in-Enc.ensures.kept (keeps_more c.in_ok-key-in-Enc.ensures.kept c.put-in-Enc.ensures.kept); distinct = c.put-in-Enc.ensures.distinct }
 
 pub put-requires-in-Inl : goal.put-requires-in-Inl
 put-requires-in-Inl t c = says_it (says_left c.in_ok-part-in-Inl.ensures.at)

@@ -1,4 +1,4 @@
 use Rattle.spi_examples.proofs.tests.inference.OfProcessesQuestion.answer.Given as goal
 
-abbrev pub ghosts-infer_counted : goal.ghosts-infer_counted
-ghosts-infer_counted a = record { name = a.blank.name; parts = a.blank.parts }
+abbrev pub ghosts-infer_over : goal.ghosts-infer_over
+ghosts-infer_over a = record { name = a.blank.name; parts = a.blank.parts }

@@ -2,7 +2,7 @@ use Rattle.std.proofs.Common.{refl}
 use Rattle.spi_commands.specs.declared.reading.Unread.TheVariants.{Refused}
 use Rattle.spi_commands.specs.Reading.{IsCauseOf}
 use Rattle.spi_commands.proofs.AnswerLines.{line_if}
-use Rattle.spi_commands.proofs.reading.refused_for.Goals as goal
+use Rattle.spi_commands.proofs.causes.refused_for.Goals as goal
 
 pub returns-in-Refused-clause-ok : goal.returns-in-Refused-clause-ok
 returns-in-Refused-clause-ok c =

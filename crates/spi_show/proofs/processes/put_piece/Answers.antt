@@ -4,10 +4,10 @@ use Rattle.spi_term.proofs.Numbers.{small_node}
 use Rattle.spi_term.proofs.Places.{scope_of_shape}
 use Rattle.spi_show.specs.Pieces.{standing}
 use Rattle.spi_show.proofs.Passing.{no_node_past, none_put}
-use Rattle.spi_show.proofs.processes.put_node.Goals as goal
+use Rattle.spi_show.proofs.processes.put_piece.Goals as goal
 
-pub returns-then-id-nodes : goal.returns-then-id-nodes
-returns-then-id-nodes c = none_put (standing c.args.at) (no_node_past c.args.process.now.names c.args.process.now.process c.args.id (omega (arith, c.if-id-nodes.true, c.requires.nodes)))
+pub returns-else-id-nodes : goal.returns-else-id-nodes
+returns-else-id-nodes c = rw c.in-Process.is (none_put (standing c.in-Process.at) (no_node_past c.args.process.now.names c.args.process.now.process c.args.id (omega (arith, c.if-id-nodes.false, c.requires.nodes))))
 
 pub put_head-requires-clause-small : goal.put_head-requires-clause-small
 put_head-requires-clause-small c = (small_node c.args.process.now.names c.args.process.now.process c.args.id (shape_of c.node-node.result.now) c.requires.small c.node-node.ensures).0

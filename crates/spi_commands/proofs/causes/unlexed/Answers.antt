@@ -1,7 +1,7 @@
 use Rattle.std.proofs.Common.{[]}
 use Rattle.spi_commands.specs.Refusals.{IsUnlexed, not_utf8, bad_char, bad_number, name_too_long}
 use Rattle.spi_commands.proofs.FileRefusals.{lexed_fault, unread_as}
-use Rattle.spi_commands.proofs.text.unlexed.Goals as goal
+use Rattle.spi_commands.proofs.causes.unlexed.Goals as goal
 
 pub returns-in-NotUtf8 : goal.returns-in-NotUtf8
 returns-in-NotUtf8 c = unread_as (IsUnlexed c.args.bytes.now) 10 _ [] c.unspelled.result (not_utf8 c.requires.within (lexed_fault _ _ _ c.in-NotUtf8.is (λ e. cc) c.requires.fault)) c.unspelled.ensures

@@ -1,0 +1,25 @@
+//! Parts of trees in boxes.
+
+ghost use Rattle.spi_parse.specs.Places.{state_of, GivesBox};
+ghost use Rattle.spi_parse.specs.Ends.{done};
+
+use crate::cursor::{Cursor, Read};
+use std::alloc::Global;
+
+/// A part of a tree.
+pub trait TreePart: Drop {
+    /// What it is without where it lies in memory.
+    ghost Tree: { Type 0 };
+
+    /// A contract sees it as this.
+    ghost view: { Self → Tree };
+}
+
+/// The part as a box, with the place behind it.
+///
+/// What reads a part of a tree holds it as a box while it reads the next part, so that deep trees fit the stack.
+pub fn boxed<T: TreePart>(alloc: Global, tree: T, at: Cursor<'_>) -> Read<'_, Box<T>>
+    ensures { GivesBox T.view result (done (T.view tree) (state_of at.entry)) }
+{
+    Ok((Box::new(alloc, tree)?, at))
+}
